@@ -7,15 +7,19 @@ pub mod Doing
 pub mod EntryAnswers
 pub mod GoodCopies
 pub mod HashLemmas
+pub mod HeldJobs
+pub mod HeldLines
 pub mod ListAnswers
 pub mod ListedBuckets
 pub mod LossAnswers
 pub mod NeededBytes
 pub mod Numbers
+pub mod Ordering
 pub mod PageAnswers
 pub mod PagesAnswers
 pub mod PathReading
 pub mod ReadFiles
+pub mod Readings
 pub mod RestAnswers
 pub mod RootEntries
 pub mod ShownTexts
@@ -23,3 +27,4 @@ pub mod SizesAnswers
 pub mod SnapshotCopies
 pub mod SoundRecovery
 pub mod StatsAnswers
+pub mod Telling

@@ -2,13 +2,17 @@ pub mod Answers
 pub mod CommandLine
 pub mod CopyEnds
 pub mod CopyKinds
+pub mod Deeds
 pub mod Failures
 pub mod GoodCopies
 pub mod Hashes
 pub mod LineWords
 pub mod MetaChoices
 pub mod Needs
+pub mod Orders
 pub mod PathWords
 pub mod PlainWords
+pub mod Runs
 pub mod SnapshotAnswers
+pub mod Sources
 pub mod Syntaxes

@@ -22,14 +22,18 @@ mod meta_choice;
 mod open_bucket;
 mod open_read;
 mod open_recovery;
+mod outside;
 mod page_command;
 mod page_size;
 mod pages_command;
 mod parts;
 mod path_words;
 mod refusal;
+pub mod run_laws;
 mod runs;
+mod source;
 mod stats_command;
+mod whole_run;
 mod words;
 
 pub use copy_kind::CopyKind;
@@ -39,7 +43,10 @@ pub use job::{
     StatsJob,
 };
 pub use meta_choice::{AssumedMeta, MetaChoice};
+pub use outside::Outside;
 pub use page_size::PageSize;
 pub use refusal::Refusal;
 pub use runs::{Status, run};
+pub use source::{CreateFault, EndFault, OpenFault, OutputFault, ReadFault, Source, Stamp};
+pub use whole_run::{refuse, run_program};
 pub use words::read_words;

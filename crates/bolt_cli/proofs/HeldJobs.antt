@@ -1,0 +1,78 @@
+-- What a job does, whatever its standard output and its target are.
+use Rattle.std.proofs.Common.{◌≡◌, ◌<◌, ◌∙◌, ap, inl, inr, ℕ, List, [], Option, None, Some, Bool, true, false, length, refl, subst, sym}
+use Rattle.bolt_format.specs.declared.meta.Slot.{Slot}
+use Rattle.bolt_layout.specs.Copies.{layout_of_listing}
+use Rattle.bolt_layout.specs.declared.layout.Layout.{Layout}
+use Rattle.bolt_tree.specs.Listing.{Member}
+use Rattle.bolt_cli.specs.Answers.{Answer, Does, DoesJob, Ending, MakesCopy, WritesCopy, copy_page_size, copy_report, done, lengths_line}
+use Rattle.bolt_cli.specs.PlainWords.{target_name}
+use Rattle.bolt_cli.specs.Runs.{held_failures, held_of, held_text}
+use Rattle.bolt_cli.specs.declared.page_size.PageSize.{PageSize}
+use Rattle.bolt_cli.specs.SnapshotAnswers.{hash_differs}
+use Rattle.bolt_cli.specs.declared.job.Job.{Job}
+use Rattle.bolt_cli.specs.declared.job.Job.TheVariants as job
+
+module _ {O T : Type 0} (out_taken : O → Option (List ℕ)) (out_failed : O → ℕ) (out_old out_new : O)
+    (target_taken : T → Option (List ℕ)) (target_failed : T → ℕ) (target_old target_new : T) where
+  -- a job without an OUT does the same, whatever its target is
+  pub shown : (file : List ℕ) (j : Job) (ending : Ending) → target_name j ≡ None
+      → DoesJob out_taken out_failed out_old out_new target_taken target_failed target_old target_new file j ending
+      → DoesJob {T = Unit {0}} out_taken out_failed out_old out_new (λ _. None) (λ _. 0) tt tt file j ending
+  shown file (job.Info j) ending none (answer, is, does, same) = (answer, is, does, refl)
+  shown file (job.Page j) ending none (answer, is, does, same) = (answer, is, does, refl)
+  shown file (job.Pages j) ending none (answer, is, does, same) = (answer, is, does, refl)
+  shown file (job.Check j) ending none (answer, is, does, same) = (answer, is, does, refl)
+  shown file (job.Buckets j) ending none (answer, is, does, same) = (answer, is, does, refl)
+  shown file (job.Stats j) ending none (answer, is, does, same) = (answer, is, does, refl)
+  shown file (job.Keys j) ending none (answer, is, does, same) = (answer, is, does, refl)
+  shown file (job.Get j) ending none (answer, is, does, same) = (answer, is, does, refl)
+  shown file (job.List j) ending none (answer, is, does, same) = (answer, is, does, refl)
+  shown file (job.Compact j) ending none does = absurd (cc)
+
+-- a job does the same on a sink that is seen as what it holds
+module _ {O T : Type 0} (out_taken : O → Option (List ℕ)) (out_failed : O → ℕ) (out_old out_new : O)
+    (target_taken : T → Option (List ℕ)) (target_failed : T → ℕ) (target_old target_new : T) (text : List ℕ) (failures : ℕ)
+    (was_empty : out_taken out_old ≡ Some []) (was_sound : out_failed out_old ≡ 0)
+    (holds : out_taken out_new ≡ Some text) (fails : out_failed out_new ≡ failures) where
+  does_held : (answer : Answer) (ending : Ending) → Does out_taken out_failed out_old out_new answer ending → Does held_text held_failures (held_of [] 0) (held_of text failures) answer ending
+  does_held answer ending (inl (put, same, is)) = inl (rw holds at (rw was_empty at put), sym fails ∙ same ∙ was_sound, is)
+  does_held answer ending (inr (less, part, is)) = inr (
+    subst (λ n. 0 < n) fails less,
+    record { front = part.front; rest = part.rest; parts = part.parts; taken = rw holds at (rw was_empty at part.taken) },
+    is,
+  )
+
+  untouched : out_new ≡ out_old → held_of text failures ≡ held_of [] 0
+  untouched same =
+      let empty : text ≡ [] = (let both : Some text ≡ Some [] = sym holds ∙ ap out_taken same ∙ was_empty in cc) in
+      let sound : failures ≡ 0 = sym fails ∙ ap out_failed same ∙ was_sound in
+      ap (λ t. held_of t failures) empty ∙ ap (held_of []) sound
+
+  written : (snapshot : Bool) (listing : List Member) (layout : List ℕ) (answer : ℕ → Answer) (ending : Ending)
+      → WritesCopy out_taken out_failed out_old out_new target_taken target_failed target_old target_new snapshot listing layout answer ending
+      → WritesCopy held_text held_failures (held_of [] 0) (held_of text failures) target_taken target_failed target_old target_new snapshot listing layout answer ending
+  written snapshot listing layout answer ending (inl (small, good, put, sound, does)) = inl (small, good, put, sound, does_held _ ending does)
+  written snapshot listing layout answer ending (inr (failure, stops, same, is)) = inr (failure, stops, untouched same, is)
+
+  copied : (file : List ℕ) (slot : Option Slot) (size : Option PageSize) (which : Layout) (snapshot recover : Bool) (ending : Ending)
+      → MakesCopy out_taken out_failed out_old out_new target_taken target_failed target_old target_new file slot size which snapshot recover ending
+      → MakesCopy held_text held_failures (held_of [] 0) (held_of text failures) target_taken target_failed target_old target_new file slot size which snapshot recover ending
+  copied file slot size which snapshot false ending (inl (meta, listing, read, hash, lists, writes)) = inl (meta, listing, read, hash, lists, written snapshot listing (layout_of_listing which (copy_page_size size meta) listing meta.root_sequence) (λ copy. done (lengths_line (length file) copy)) ending writes)
+  copied file slot size which snapshot false ending (inr (inl (meta, read, differs, out, target, is))) = inr (inl (meta, read, differs, untouched out, target, is))
+  copied file slot size which snapshot false ending (inr (inr (fault, failure, refused, of, out, target, is))) = inr (inr (fault, failure, refused, of, untouched out, target, is))
+  copied file slot size which snapshot true ending (inl (meta, listing, losses, under, recovered, are, writes)) = inl (meta, listing, losses, under, recovered, are, written snapshot listing (layout_of_listing which (copy_page_size size meta) listing meta.root_sequence) (λ copy. copy_report (hash_differs snapshot file) losses (length file) copy) ending writes)
+  copied file slot size which snapshot true ending (inr (fault, failure, refused, of, out, target, is)) = inr (fault, failure, refused, of, untouched out, target, is)
+
+  pub held_job : (file : List ℕ) (j : Job) (ending : Ending)
+      → DoesJob out_taken out_failed out_old out_new target_taken target_failed target_old target_new file j ending
+      → DoesJob held_text held_failures (held_of [] 0) (held_of text failures) target_taken target_failed target_old target_new file j ending
+  held_job file (job.Info j) ending (answer, is, does, same) = (answer, is, does_held answer ending does, same)
+  held_job file (job.Page j) ending (answer, is, does, same) = (answer, is, does_held answer ending does, same)
+  held_job file (job.Pages j) ending (answer, is, does, same) = (answer, is, does_held answer ending does, same)
+  held_job file (job.Check j) ending (answer, is, does, same) = (answer, is, does_held answer ending does, same)
+  held_job file (job.Buckets j) ending (answer, is, does, same) = (answer, is, does_held answer ending does, same)
+  held_job file (job.Stats j) ending (answer, is, does, same) = (answer, is, does_held answer ending does, same)
+  held_job file (job.Keys j) ending (answer, is, does, same) = (answer, is, does_held answer ending does, same)
+  held_job file (job.Get j) ending (answer, is, does, same) = (answer, is, does_held answer ending does, same)
+  held_job file (job.List j) ending (answer, is, does, same) = (answer, is, does_held answer ending does, same)
+  held_job file (job.Compact j) ending does = copied file j.slot j.page_size _ _ j.recover ending does

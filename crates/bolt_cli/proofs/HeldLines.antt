@@ -1,0 +1,47 @@
+-- The line that is held for standard error once a job has ended.
+use Rattle.std.proofs.Common.{◌≡◌, ◌≢◌, ◌<◌, ◌⊎◌, ◌∙◌, inl, inr, arith, ℕ, zero, suc, List, [], ◌∷◌, Option, Some, Result, Ok, Err, OnOk, OnErr}
+use Rattle.std.specs.Io.KnownBytes.{Appends}
+use Rattle.bolt_format.specs.Sinks.{AppendsPrefix}
+use Rattle.bolt_cli.specs.Answers.{Ending, error_text, status_of}
+use Rattle.bolt_cli.specs.Deeds.{Deed, Said}
+use Rattle.bolt_cli.specs.Failures.{failure_line}
+use Rattle.bolt_cli.specs.Runs.{Fails, IsHeldLine, IsReported, Prints, PrintsHeld}
+use Rattle.bolt_cli.specs.declared.failure.Failure.TheVariants.{Memory}
+
+-- what a fresh sink accepted of the line of an ending, or the line of memory if it failed
+pub held_line : {was now : Option (List ℕ)} {failed fails : ℕ} (ending : Ending) (line : List ℕ)
+    → was ≡ Some [] → failed ≡ 0 → (Appends was now (error_text ending) × (fails ≡ failed)) ⊎ ((0 < fails) × AppendsPrefix was now (error_text ending))
+    → (fails ≡ 0 → now ≡ Some line) → (0 < fails → line ≡ failure_line Memory) → IsHeldLine ending line
+held_line ending line empty sound (inl (put, same)) whole short = inl (rw (whole (same ∙ sound)) at (rw empty at put))
+held_line ending line empty sound (inr (less, part)) whole short = inr (short less)
+
+-- no line is held, so the job has its status
+pub Reported-nothing : (T O : Type 0) (ending : Ending) (code : ℕ) → IsHeldLine ending [] → code ≡ status_of ending → IsReported {T = T} {O = O} ending [] code
+Reported-nothing T O (Ok status) code held is = is
+Reported-nothing T O (Err failure) code (inl none) is = absurd (cc)
+Reported-nothing T O (Err failure) code (inr none) is = absurd (cc)
+
+-- the line that is held is reported
+pub Reported-line : {T O : Type 0} (ending : Ending) (line : List ℕ) (deeds : List (Deed T O)) (code : ℕ)
+    → IsHeldLine ending line → line ≢ [] → Fails line deeds code → IsReported ending deeds code
+Reported-line (Ok status) line (Said text ∷ []) code (inl none) some fails = absurd (some none)
+Reported-line (Ok status) line (Said text ∷ []) code (inr memory) some (is, failed) = (is ∙ memory, failed)
+Reported-line (Err failure) line (Said text ∷ []) code held some (is, failed) = (rw is held, failed)
+Reported-line ending line deeds code held some fails = absurd fails.0
+
+-- what was held is printed, if it was held without a failure
+module _ {T O : Type 0} (output_taken : O → Option (List ℕ)) (output_failed : O → ℕ) where
+  pub PrintsHeld-none : (failures : ℕ) (text : List ℕ) (ending : Ending) (deeds : List (Deed T O)) (code : ℕ)
+      → 0 < failures → Fails (failure_line Memory) deeds code → PrintsHeld output_taken output_failed failures text ending deeds code
+  PrintsHeld-none zero text ending deeds code less fails = absurd (omega (arith, less))
+  PrintsHeld-none (suc more) text ending deeds code less fails = fails
+
+  pub PrintsHeld-all : (failures : ℕ) (text : List ℕ) (ending : Ending) (deeds : List (Deed T O)) (code : ℕ)
+      → failures ≡ 0 → Prints output_taken output_failed text ending deeds code → PrintsHeld output_taken output_failed failures text ending deeds code
+  PrintsHeld-all zero text ending deeds code none prints = prints
+  PrintsHeld-all (suc more) text ending deeds code none prints = absurd (omega (arith, none))
+
+-- a sink that hasn't failed has taken what was put
+pub put_whole : {T E : Type 0} {A : Type 0} (result : Result T E) (failed : ℕ) → OnOk result A → OnErr result (0 < failed) → failed ≡ 0 → A
+put_whole (Ok done) failed whole short sound = whole
+put_whole (Err fault) failed whole short sound = absurd (omega (arith, short, sound))

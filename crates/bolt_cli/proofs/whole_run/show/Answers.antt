@@ -1,0 +1,15 @@
+use Rattle.bolt_format.specs.contracts.mem_sink.MemSinkSink.TheImpl as mem
+use Rattle.bolt_cli.proofs.HeldJobs.{shown}
+use Rattle.bolt_cli.proofs.HeldLines.{held_line}
+use Rattle.bolt_cli.proofs.Telling.{Does-after}
+use Rattle.bolt_cli.proofs.whole_run.show.Goals as goal
+
+pub returns-in-Ok : goal.returns-in-Ok
+returns-in-Ok g c =
+    let (ending, does, code, accepts) = c.run-status.ensures in
+    let held = held_line ending _ c.new-err.ensures.taken c.new-err.ensures.sound accepts c.line_of.ensures.sound c.line_of.ensures.failed in
+    Does-after _ c.in-Ok.ensures.done (c.close.ensures ending held code)
+    (λ deeds closes. (c.in-Ok.ensures.empty, c.run-status.new.out, ending, shown g.O.Output.Sink.taken g.O.Output.Sink.failed _ _ mem.ghosts.taken mem.ghosts.failed _ _ _ _ ending c.requires does, closes))
+
+pub returns-in-Err : goal.returns-in-Err
+returns-in-Err g c = Does-after _ c.in-Err.ensures.done c.fail.ensures (λ deeds fails. fails)

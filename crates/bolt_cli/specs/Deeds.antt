@@ -1,0 +1,39 @@
+-- What the program does to what lies outside of it: the files and the streams.
+use Rattle.std.specs.Prelude.{ℕ, List, [], ◌∷◌, ◌++◌, Bool, Result}
+use Rattle.bolt_cli.specs.declared.source.Source.{Source}
+use Rattle.bolt_cli.specs.declared.source.ReadFault.{ReadFault}
+use Rattle.bolt_cli.specs.declared.source.CreateFault.{CreateFault}
+use Rattle.bolt_cli.specs.declared.source.EndFault.{EndFault}
+use Rattle.bolt_cli.specs.declared.source.OpenFault.{OpenFault}
+use Rattle.bolt_cli.specs.declared.source.OutputFault.{OutputFault}
+
+-- A deed is what is asked for, and the answer. OUT is a T, and standard output an O, each in its state at that time.
+pub data Deed (T O : Type 0) : Type 0 where
+  -- FILE is read, whole or its metas alone
+  Read : (name : List ℕ) (metas_alone : Bool) → Result Source ReadFault → Deed T O
+  -- OUT is made with these permission bits, and lent
+  Made : (name : List ℕ) (permissions : ℕ) → Result T CreateFault → Deed T O
+  -- OUT comes back, and is ended
+  Ended : T → Result (Unit {0}) EndFault → Deed T O
+  -- standard output is lent: before this nothing can be printed
+  Opened : Result O OpenFault → Deed T O
+  -- it comes back, and what is gathered is printed
+  Closed : O → Result (Unit {0}) OutputFault → Deed T O
+  -- a text goes to standard error
+  Said : (text : List ℕ) → Deed T O
+
+-- whatever the deeds were before, these were added
+abbrev pub Adds : {D : Type 0} → (List D → Type 0) → (List D → Type 0) → List D → Type 0
+Adds Before After deeds = (earlier : List _) → Before earlier → After (earlier ++ deeds)
+
+-- some deeds of this kind were added, and no others
+pub record Does {D : Type 0} (Before After : List D → Type 0) (Are : List D → Type 0) : Type 0 where
+  pub deeds : List D
+  pub added : Adds Before After deeds
+  pub are : Are deeds
+
+-- pieces of a text, one after another
+abbrev pub joined : List (List ℕ) → List ℕ
+joined [] = []
+joined (piece ∷ []) = piece
+joined (piece ∷ pieces) = piece ++ joined pieces

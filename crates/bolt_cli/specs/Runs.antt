@@ -1,0 +1,177 @@
+-- Which deeds the program does, in which order, and its status after them: docs/COMMANDS.md, "What a run writes".
+use Rattle.std.specs.Prelude.{◌≡◌, ◌⊎◌, ℕ, zero, suc, List, [], ◌∷◌, ◌++◌, Bool, true, false, Option, Some, None, Result, Ok, Err, codes, string_bytes, if◌then◌else◌}
+use Rattle.std.specs.Io.KnownBytes.{Appends, IsAtEnd}
+use Rattle.bolt_format.specs.Sinks.{AppendsPrefix}
+use Rattle.bolt_cli.specs.Answers.{DoesJob, Ending, error_text}
+use Rattle.bolt_cli.specs.CommandLine.{Asks, IsRefusedBy, asked_by, program}
+use Rattle.bolt_cli.specs.Deeds.{Deed, Read, Made, Ended, Opened, Closed, Said}
+use Rattle.bolt_cli.specs.Failures.{failure_line}
+use Rattle.bolt_cli.specs.LineWords.{Text}
+use Rattle.bolt_cli.specs.Needs.{needs_metas_alone}
+use Rattle.bolt_cli.specs.PlainWords.{file_name, target_name}
+use Rattle.bolt_cli.specs.Sources.{is_changed}
+use Rattle.bolt_cli.specs.declared.failure.Failure.TheVariants.{Memory, Write}
+use Rattle.bolt_cli.specs.declared.job.Job.{Job}
+use Rattle.bolt_cli.specs.declared.refusal.Refusal.{Refusal}
+use Rattle.bolt_cli.specs.declared.refusal.Refusal.TheVariants as refusal
+use Rattle.bolt_cli.specs.declared.source.CreateFault.{CreateFault}
+use Rattle.bolt_cli.specs.declared.source.CreateFault.TheVariants as create
+use Rattle.bolt_cli.specs.declared.source.EndFault.{EndFault}
+use Rattle.bolt_cli.specs.declared.source.OutputFault.{OutputFault}
+use Rattle.bolt_cli.specs.declared.source.OutputFault.TheVariants.{ReaderLeft, Failed}
+use Rattle.bolt_cli.specs.declared.source.Source.{Source}
+use Rattle.clap.specs.Words.{fault_of}
+
+-- ---- lines for standard error
+
+abbrev pub error_line : Text → List ℕ
+error_line text = codes "error: " ++ (text ++ codes "\n")
+
+abbrev pub unmade_line : Text → CreateFault → List ℕ
+unmade_line name create.Exists = error_line (codes "output exists")
+unmade_line name create.Refused = codes "error: cannot make " ++ (name ++ codes "\n")
+unmade_line name create.Memory = failure_line Memory
+
+abbrev pub unread_line : Text → List ℕ
+unread_line name = codes "error: cannot read " ++ (name ++ codes "\n")
+
+-- the line that an ending asks for, or that of memory, if there was none for the line
+abbrev pub IsLineOf : Ending → List ℕ → Type 0
+IsLineOf (Ok status) line = line ≡ failure_line Memory
+IsLineOf (Err failure) line = (line ≡ failure_line failure) ⊎ (line ≡ failure_line Memory)
+
+-- what is held for standard error once a job has ended so
+abbrev pub IsHeldLine : Ending → List ℕ → Type 0
+IsHeldLine ending line = (line ≡ error_text ending) ⊎ (line ≡ failure_line Memory)
+
+-- the line if OUT isn't on the disk: that of the failure before or, if there was none, of a failed write
+abbrev pub IsUnendedLine : Ending → List ℕ → Type 0
+IsUnendedLine (Ok status) line = (line ≡ failure_line Write) ⊎ (line ≡ failure_line Memory)
+IsUnendedLine (Err failure) line = IsLineOf (Err failure) line
+
+-- what a sink in memory holds, and how often it failed
+pub record Held : Type 0 where
+  pub text : List ℕ
+  pub failures : ℕ
+
+abbrev pub held_of : List ℕ → ℕ → Held
+held_of text failures = record { text = text; failures = failures }
+
+abbrev pub held_text : Held → Option (List ℕ)
+held_text held = Some held.text
+
+abbrev pub held_failures : Held → ℕ
+held_failures held = held.failures
+
+-- FILE is read again if it was changed; its metas are taken as they are
+abbrev pub is_again : Job → Source → Bool
+is_again job source = if needs_metas_alone job then false else is_changed source
+
+abbrev pub Choose : Bool → Type 0 → Type 0 → Type 0
+Choose true A B = A
+Choose false A B = B
+
+-- ---- the deeds and the status, from the last stage to the first
+
+module _ {O : Type 0} (output_taken : O → Option (List ℕ)) (output_failed : O → ℕ) where
+  -- a text was put on standard output: all of it, unless that failed
+  abbrev pub Takes : List ℕ → O → O → Type 0
+  Takes text before after =
+      (output_failed after ≡ 0 → Appends (output_taken before) (output_taken after) text) × AppendsPrefix (output_taken before) (output_taken after) text
+
+  -- a job without an OUT, on standard output from one state to another
+  abbrev pub ShowsJob : O → O → List ℕ → Job → Ending → Type 0
+  ShowsJob before after file job ending = DoesJob {T = Unit {0}} output_taken output_failed before after (λ _. None) (λ _. 0) tt tt file job ending
+
+module _ {T O : Type 0} where
+  -- this text goes to standard error, and nothing comes after it
+  abbrev pub Ends : List ℕ → List (Deed T O) → Type 0
+  Ends line (Said text ∷ []) = text ≡ line
+  Ends line deeds = ⊥
+
+  abbrev pub Fails : List ℕ → List (Deed T O) → ℕ → Type 0
+  Fails line deeds code = Ends line deeds × (code ≡ 1)
+
+  -- a job that ended so is over: with its line, if it has one
+  abbrev pub IsReported : Ending → List (Deed T O) → ℕ → Type 0
+  IsReported (Ok status) [] code = code ≡ status
+  IsReported ending (Said line ∷ []) code = IsLineOf ending line × (code ≡ 1)
+  IsReported ending deeds code = ⊥
+
+  -- if the reader of standard output has left, nothing more is said
+  abbrev pub IsUnprinted : OutputFault → List (Deed T O) → ℕ → Type 0
+  IsUnprinted ReaderLeft deeds code = (deeds ≡ []) × (code ≡ 1)
+  IsUnprinted Failed deeds code = Fails (failure_line Write) deeds code
+
+module _ {T O : Type 0} (output_taken : O → Option (List ℕ)) (output_failed : O → ℕ) where
+  -- standard output comes back in this state
+  abbrev pub Closes : O → Ending → List (Deed T O) → ℕ → Type 0
+  Closes after ending (Closed output (Ok done) ∷ deeds) code = (output ≡ after) × (output_failed output ≡ 0) × IsReported ending deeds code
+  Closes after ending (Closed output (Err fault) ∷ deeds) code = (output ≡ after) × IsUnprinted fault deeds code
+  Closes after ending deeds code = ⊥
+
+  -- standard output is opened, takes the text, and is closed
+  abbrev pub Prints : List ℕ → Ending → List (Deed T O) → ℕ → Type 0
+  Prints text ending (Opened (Ok before) ∷ deeds) code = IsAtEnd (output_taken before) × (after : O) × Takes output_taken output_failed text before after × Closes after ending deeds code
+  Prints text ending (Opened (Err fault) ∷ deeds) code = Fails (failure_line Memory) deeds code
+  Prints text ending deeds code = ⊥
+
+  -- standard output is opened, the job is done on it, and it is closed
+  abbrev pub Shows : List ℕ → Job → List (Deed T O) → ℕ → Type 0
+  Shows file job (Opened (Ok before) ∷ deeds) code =
+      IsAtEnd (output_taken before) × (after : O) × (ending : Ending) × ShowsJob output_taken output_failed before after file job ending × Closes after ending deeds code
+  Shows file job (Opened (Err fault) ∷ deeds) code = Fails (failure_line Memory) deeds code
+  Shows file job deeds code = ⊥
+
+  -- if OUT is on the disk, what was held is printed, provided there was memory for it; otherwise none of it is
+  abbrev pub PrintsHeld : (failures : ℕ) → List ℕ → Ending → List (Deed T O) → ℕ → Type 0
+  PrintsHeld zero text ending deeds code = Prints text ending deeds code
+  PrintsHeld (suc more) text ending deeds code = Fails (failure_line Memory) deeds code
+
+  abbrev pub IsEnded : Result (Unit {0}) EndFault → Held → Ending → List (Deed T O) → ℕ → Type 0
+  IsEnded (Ok done) held ending deeds code = PrintsHeld held.failures held.text ending deeds code
+  IsEnded (Err fault) held ending deeds code = (line : List ℕ) × IsUnendedLine ending line × Fails line deeds code
+
+module _ {T O : Type 0} (target_taken : T → Option (List ℕ)) (target_failed : T → ℕ) (output_taken : O → Option (List ℕ)) (output_failed : O → ℕ) where
+  -- the job is done on OUT, while what it prints is held, and then OUT is ended
+  abbrev pub Copies : T → List ℕ → Job → List (Deed T O) → ℕ → Type 0
+  Copies before file job (Ended after result ∷ deeds) code =
+      (held : Held) × (ending : Ending) × DoesJob held_text held_failures (held_of [] 0) held target_taken target_failed before after file job ending × IsEnded output_taken output_failed result held ending deeds code
+  Copies before file job deeds code = ⊥
+
+  -- OUT is made, with FILE's permission bits, and the job is done on it
+  abbrev pub Makes : Text → Source → Job → List (Deed T O) → ℕ → Type 0
+  Makes out source job (Made name permissions (Ok target) ∷ deeds) code =
+      (name ≡ out) × (permissions ≡ source.permissions) × IsAtEnd (target_taken target) × Copies target source.bytes.items job deeds code
+  Makes out source job (Made name permissions (Err fault) ∷ deeds) code =
+      (name ≡ out) × (permissions ≡ source.permissions) × Fails (unmade_line out fault) deeds code
+  Makes out source job deeds code = ⊥
+
+  -- the job is done: with an OUT, if it has one
+  abbrev pub Goes : Option Text → Source → Job → List (Deed T O) → ℕ → Type 0
+  Goes (Some out) source job deeds code = Makes out source job deeds code
+  Goes None source job deeds code = Shows output_taken output_failed source.bytes.items job deeds code
+
+  -- FILE is read, at most so many times: again if it was changed meanwhile
+  abbrev pub Reads : (left : ℕ) → Job → List (Deed T O) → ℕ → Type 0
+  Reads zero job deeds code = Fails (error_line (codes "file changed while it was read")) deeds code
+  Reads (suc left) job (Read name metas_alone (Ok source) ∷ deeds) code =
+      (name ≡ file_name job) × (metas_alone ≡ needs_metas_alone job)
+      × Choose (is_again job source) (Reads left job deeds code) (Goes (target_name job) source job deeds code)
+  Reads (suc left) job (Read name metas_alone (Err fault) ∷ deeds) code =
+      (name ≡ file_name job) × (metas_alone ≡ needs_metas_alone job) × Fails (unread_line (file_name job)) deeds code
+  Reads (suc left) job deeds code = ⊥
+
+  -- words are refused: nothing is read or made
+  abbrev pub Refuses : Refusal → List (Deed T O) → ℕ → Type 0
+  Refuses refusal.Memory deeds code = Fails (failure_line Memory) deeds code
+  Refuses (refusal.Help text) deeds code = Prints output_taken output_failed (string_bytes text) (Ok 0) deeds code
+  Refuses (refusal.Version text) deeds code = Prints output_taken output_failed (string_bytes text) (Ok 0) deeds code
+  Refuses (refusal.Usage text) deeds code = Ends (string_bytes text) deeds × (code ≡ 2)
+  Refuses (refusal.Word why) deeds code = Ends (error_line why.now) deeds × (code ≡ 2)
+
+  -- the words ask for a job, which is done on FILE, or they are refused
+  abbrev pub IsRun : List Text → List (Deed T O) → ℕ → Type 0
+  IsRun words deeds code =
+      ((job : Job) × Asks words job × Reads 3 job deeds code)
+      ⊎ ((refusal : Refusal) × IsRefusedBy (fault_of program words) (asked_by words) refusal × Refuses refusal deeds code)

@@ -1,0 +1,225 @@
+//! A whole run of the program: from its words to its status.
+ghost use Rattle.std.specs.Prelude.{◌≡◌, ◌<◌, ℕ, List, None, Some, map, string_bytes};
+ghost use Rattle.bolt_cli.specs.Answers.{Ending, status_of};
+ghost use Rattle.bolt_cli.specs.Deeds.{Does, joined};
+ghost use Rattle.bolt_cli.specs.Failures.{failure_line};
+ghost use Rattle.bolt_cli.specs.PlainWords.{target_name};
+ghost use Rattle.bolt_cli.specs.Runs.{Closes, Copies, Fails, Goes, IsHeldLine, IsRun, IsUnendedLine, Makes, Prints, Reads, Refuses, Shows, is_again, unmade_line};
+ghost use Rattle.bolt_cli.specs.declared.failure.Failure.TheVariants.{Memory};
+
+use crate::job::Job;
+use crate::outside::Outside;
+use crate::refusal::Refusal;
+use crate::runs::run;
+use crate::source::{CreateFault, OutputFault, Source};
+use crate::words::read_words;
+use bolt_format::{MemSink, Sink};
+use std::alloc::Global;
+
+/// The status of a command line that was refused.
+const REFUSED: u8 = 2;
+/// The status of a job that failed.
+const FAILED: u8 = 1;
+/// How often FILE is read if it is changed each time.
+const READINGS: u32 = 3;
+
+const NO_MEMORY: &[u8] = b"error: out of memory\n";
+
+const UNWRITTEN: &[u8] = b"error: write failed\n";
+
+/// Reads the words, of which the first is the program's name, does what they ask for, and returns the
+/// status (docs/COMMANDS.md).
+pub fn run_program<O: Outside>(outside: &mut O, alloc: Global, words: Vec<String>) -> u8
+    ensures { let texts = map string_bytes words.items in Does (O.done outside.old) (O.done outside.new)
+        (λ deeds. IsRun O.Target.taken O.Target.failed O.Output.taken O.Output.failed texts deeds result) }
+{
+    match read_words(alloc, words) {
+        Ok(job) => read_file(outside, alloc, &job, READINGS),
+        Err(refusal) => refuse(outside, &refusal),
+    }
+}
+
+/// Prints why the words are no job, and returns the status.
+pub fn refuse<O: Outside>(outside: &mut O, refusal: &Refusal) -> u8
+    ensures { Does (O.done outside.old) (O.done outside.new)
+        (λ deeds. Refuses O.Target.taken O.Target.failed O.Output.taken O.Output.failed refusal.now deeds result) }
+{
+    match refusal {
+        Refusal::Memory => fail(outside, &[NO_MEMORY]),
+        Refusal::Help(text) | Refusal::Version(text) => print(outside, text.as_bytes(), b"", 0),
+        Refusal::Usage(text) => {
+            outside.say(&[text.as_bytes()]);
+            REFUSED
+        }
+        Refusal::Word(text) => {
+            outside.say(&[b"error: ", text.as_bytes(), b"\n"]);
+            REFUSED
+        }
+    }
+}
+
+/// Reads FILE, at most so many times: again if it was changed meanwhile, so that what is judged is one
+/// state of it. Then does the job.
+fn read_file<O: Outside>(outside: &mut O, alloc: Global, job: &Job, left: u32) -> u8
+    ensures { Does (O.done outside.old) (O.done outside.new)
+        (λ deeds. Reads O.Target.taken O.Target.failed O.Output.taken O.Output.failed left job.now deeds result) }
+{
+    if left == 0 {
+        return fail(outside, &[b"error: file changed while it was read\n"]);
+    }
+    match outside.read(job.file(), job.needs_metas_alone()) {
+        Ok(source) => {
+            if is_again(job, &source) {
+                return read_file(outside, alloc, job, left - 1);
+            }
+            do_job(outside, alloc, job, &source)
+        }
+        Err(_) => fail(
+            outside,
+            &[b"error: cannot read ", job.file().as_bytes(), b"\n"],
+        ),
+    }
+}
+
+/// Whether FILE is to be read again. Metas have checksums, so they are taken as they are.
+fn is_again(job: &Job, source: &Source) -> bool
+    ensures { result ≡ is_again job.now source.now }
+{
+    !job.needs_metas_alone() && source.is_changed()
+}
+
+/// Does a job on what was read.
+fn do_job<O: Outside>(outside: &mut O, alloc: Global, job: &Job, source: &Source) -> u8
+    ensures { Does (O.done outside.old) (O.done outside.new)
+        (λ deeds. Goes O.Target.taken O.Target.failed O.Output.taken O.Output.failed (target_name job.now) source.now job.now deeds result) }
+{
+    match job.target() {
+        Some(name) => make(outside, alloc, job, source, name),
+        None => show(outside, alloc, job, source.bytes.as_slice()),
+    }
+}
+
+/// Makes OUT with the permission bits of FILE, and does the job on it. The bits are set as it is made,
+/// so at no time can anybody open OUT who can't read FILE.
+fn make<O: Outside>(outside: &mut O, alloc: Global, job: &Job, source: &Source, name: &str) -> u8
+    ensures { Does (O.done outside.old) (O.done outside.new)
+        (λ deeds. Makes O.Target.taken O.Target.failed O.Output.taken O.Output.failed name.now source.now job.now deeds result) }
+{
+    match outside.create(name, source.permissions) {
+        Ok(target) => copy(outside, alloc, job, source.bytes.as_slice(), target),
+        Err(fault) => report_unmade(outside, fault, name),
+    }
+}
+
+fn report_unmade<O: Outside>(outside: &mut O, fault: CreateFault, name: &str) -> u8
+    ensures { Does (O.done outside.old) (O.done outside.new)
+        (λ deeds. Fails (unmade_line name.now fault) deeds result) }
+{
+    match fault {
+        CreateFault::Exists => fail(outside, &[b"error: output exists\n"]),
+        CreateFault::Refused => fail(outside, &[b"error: cannot make ", name.as_bytes(), b"\n"]),
+        CreateFault::Memory => fail(outside, &[NO_MEMORY]),
+    }
+}
+
+/// Does a job on OUT. What it prints is held in memory, however long it is, until OUT is on the disk.
+fn copy<O: Outside>(
+    outside: &mut O,
+    alloc: Global,
+    job: &Job,
+    file: &[u8],
+    mut target: O::Target,
+) -> u8
+    ensures { Does (O.done outside.old) (O.done outside.new)
+        (λ deeds. Copies O.Target.taken O.Target.failed O.Output.taken O.Output.failed target file.now job.now deeds result) }
+{
+    let mut out = MemSink::new(alloc);
+    let mut err = MemSink::new(alloc);
+    let status = run(alloc, job, file, &mut out, &mut err, &mut target);
+    let text = out.bytes();
+    let line = line_of(&err);
+    let failures = out.failures();
+    match outside.end(target) {
+        Ok(()) if failures > 0 => fail(outside, &[NO_MEMORY]),
+        Ok(()) => print(outside, text, line, status.code),
+        Err(_) => report_unended(outside, line),
+    }
+}
+
+/// The line that is held, or that of memory, if there was none for it.
+fn line_of(err: &MemSink) -> &[u8]
+    ensures sound { ⟦<MemSink as Sink>⟧.failed err.now ≡ 0 → ⟦<MemSink as Sink>⟧.taken err.now ≡ Some result.now }
+    ensures failed { 0 < ⟦<MemSink as Sink>⟧.failed err.now → result.now ≡ failure_line Memory }
+{
+    if err.failures() > 0 {
+        NO_MEMORY
+    } else {
+        err.bytes()
+    }
+}
+
+/// Reports that OUT isn't on the disk, unless there is a line of a failure before that.
+fn report_unended<O: Outside>(outside: &mut O, line: &[u8]) -> u8
+    ensures { (ending : Ending) → IsHeldLine ending line.now → Does (O.done outside.old) (O.done outside.new)
+        (λ deeds. (said : List ℕ) × IsUnendedLine ending said × Fails said deeds result) }
+{
+    if line.is_empty() {
+        fail(outside, &[UNWRITTEN])
+    } else {
+        fail(outside, &[line])
+    }
+}
+
+/// Opens standard output, and does a job without an OUT, which is printed as it comes.
+fn show<O: Outside>(outside: &mut O, alloc: Global, job: &Job, file: &[u8]) -> u8
+    requires { target_name job.now ≡ None }
+    ensures { Does (O.done outside.old) (O.done outside.new)
+        (λ deeds. Shows O.Output.taken O.Output.failed file.now job.now deeds result) }
+{
+    match outside.open() {
+        Ok(mut output) => {
+            let mut err = MemSink::new(alloc);
+            let mut target = MemSink::new(alloc);
+            let status = run(alloc, job, file, &mut output, &mut err, &mut target);
+            close(outside, output, line_of(&err), status.code)
+        }
+        Err(_) => fail(outside, &[NO_MEMORY]),
+    }
+}
+
+/// Prints a text, and then the line of a failure, if it isn't empty.
+fn print<O: Outside>(outside: &mut O, text: &[u8], line: &[u8], code: u8) -> u8
+    ensures { (ending : Ending) → IsHeldLine ending line.now → code ≡ status_of ending → Does (O.done outside.old) (O.done outside.new)
+        (λ deeds. Prints O.Output.taken O.Output.failed text.now ending deeds result) }
+{
+    match outside.open() {
+        Ok(mut output) => {
+            let _ = output.put(text);
+            close(outside, output, line, code)
+        }
+        Err(_) => fail(outside, &[NO_MEMORY]),
+    }
+}
+
+/// Closes standard output. Then prints the line of a failure, if it isn't empty. If the reader of
+/// standard output has left, nothing is printed: it wanted no more.
+fn close<O: Outside>(outside: &mut O, output: O::Output, line: &[u8], code: u8) -> u8
+    ensures { (ending : Ending) → IsHeldLine ending line.now → code ≡ status_of ending → Does (O.done outside.old) (O.done outside.new)
+        (λ deeds. Closes O.Output.taken O.Output.failed output ending deeds result) }
+{
+    match outside.close(output) {
+        Ok(()) if line.is_empty() => code,
+        Ok(()) => fail(outside, &[line]),
+        Err(OutputFault::ReaderLeft) => FAILED,
+        Err(OutputFault::Failed) => fail(outside, &[UNWRITTEN]),
+    }
+}
+
+/// Prints the line of a fault, and returns the status.
+fn fail<O: Outside>(outside: &mut O, pieces: &[&[u8]]) -> u8
+    ensures { Does (O.done outside.old) (O.done outside.new)
+        (λ deeds. Fails (joined (map (λ piece. piece.now) pieces.now)) deeds result) }
+{
+    outside.say(pieces);
+    FAILED
+}

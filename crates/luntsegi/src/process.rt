@@ -1,0 +1,160 @@
+//! The files and the streams of the process.
+ghost use Rattle.std.specs.Prelude.{⊤};
+
+use bolt_cli::{CreateFault, EndFault, OpenFault, OutputFault, Outside, ReadFault, Source, Stamp};
+use bolt_format::{META_LEN, Sink, WriteSink, metas_end};
+use std::fs::{File, Metadata, OpenOptions};
+use std::io::{self, BufWriter, Read, Stdout, Write};
+use std::os::unix::fs::{MetadataExt, OpenOptionsExt};
+
+/// The number of bytes of output that are gathered before they are written.
+const GATHERED: usize = 1 << 16;
+/// The number of bytes of a copy that are gathered before they are written.
+const COPIED: usize = 1 << 20;
+/// The bits of a file's mode that say who may read, write and execute it.
+const PERMISSIONS: u32 = 0o777;
+
+/// The files and the streams of the process. It tells nothing of its deeds.
+#[derive(Drop)]
+pub struct Process<'a> {
+    rt: &'a HostRuntime,
+}
+
+impl<'a> Process<'a> {
+    pub fn new(rt: &'a HostRuntime) -> Self {
+        Process { rt }
+    }
+
+    fn read_source(&self, name: &str, metas_alone: bool) -> io::Result<Source> {
+        let mut file = File::open(self.rt, name)?;
+        let before = file.metadata()?;
+        let mut bytes = Vec::new(self.rt.alloc());
+        if metas_alone {
+            read_metas(&mut file, &mut bytes)?;
+        } else {
+            file.read_to_end(&mut bytes)?;
+        }
+        Ok(Source {
+            bytes,
+            permissions: before.mode() & PERMISSIONS,
+            is_regular: before.is_file(),
+            before: stamp_of(&before),
+            after: stamp_of(&file.metadata()?),
+        })
+    }
+}
+
+/// Reads the first bytes of a file, up to the end of its metas.
+fn read_metas(file: &mut File, bytes: &mut Vec<u8>) -> io::Result<()> {
+    let mut first = file.take(META_LEN as u64);
+    first.read_to_end(bytes)?;
+    first.set_limit(metas_end(bytes.as_slice()).saturating_sub(META_LEN as u64));
+    first.read_to_end(bytes)?;
+    Ok(())
+}
+
+fn stamp_of(metadata: &Metadata) -> Stamp {
+    Stamp {
+        length: metadata.len(),
+        seconds: metadata.mtime(),
+        nanoseconds: metadata.mtime_nsec(),
+    }
+}
+
+/// Standard output. It notes when its reader has left.
+#[derive(Drop)]
+pub struct Printer {
+    stdout: Stdout,
+    reader_left: bool,
+}
+
+impl Write for Printer {
+    fn write(&mut self, bytes: &[u8]) -> io::Result<usize> {
+        let written = self.stdout.write(bytes);
+        if let Err(error) = &written {
+            if error.kind() == io::ErrorKind::BrokenPipe {
+                self.reader_left = true;
+            }
+        }
+        written
+    }
+
+    fn flush(&mut self) -> io::Result<()> {
+        self.stdout.flush()
+    }
+}
+
+impl Outside for Process<'_> {
+    type Target = WriteSink<BufWriter<File>>;
+
+    type Output = WriteSink<BufWriter<Printer>>;
+
+    ghost done = { λ _ _. ⊤ };
+
+    fn read(&mut self, name: &str, metas_alone: bool) -> Result<Source, ReadFault> {
+        self.read_source(name, metas_alone).map_err(|_| ReadFault)
+    }
+
+    fn create(
+        &mut self,
+        name: &str,
+        permissions: u32,
+    ) -> Result<WriteSink<BufWriter<File>>, CreateFault> {
+        let made = OpenOptions::new()
+            .write(true)
+            .create_new(true)
+            .mode(permissions)
+            .open(self.rt, name);
+        let made = match made {
+            Ok(made) => made,
+            Err(error) if error.kind() == io::ErrorKind::AlreadyExists => return Err(
+                CreateFault::Exists,
+            ),
+            Err(_) => return Err(CreateFault::Refused),
+        };
+        match BufWriter::with_capacity(self.rt.alloc(), COPIED, made) {
+            Ok(target) => Ok(WriteSink::new(target)),
+            Err(_) => Err(CreateFault::Memory),
+        }
+    }
+
+    fn end(&mut self, target: WriteSink<BufWriter<File>>) -> Result<(), EndFault> {
+        let Ok(file) = target.into_inner().into_inner() else {
+            return Err(EndFault);
+        };
+        file.sync_all().map_err(|_| EndFault)
+    }
+
+    fn open(&mut self) -> Result<WriteSink<BufWriter<Printer>>, OpenFault> {
+        let printer = Printer {
+            stdout: self.rt.stdout(),
+            reader_left: false,
+        };
+        match BufWriter::with_capacity(self.rt.alloc(), GATHERED, printer) {
+            Ok(output) => Ok(WriteSink::new(output)),
+            Err(_) => Err(OpenFault),
+        }
+    }
+
+    fn close(&mut self, output: WriteSink<BufWriter<Printer>>) -> Result<(), OutputFault> {
+        let has_failed = output.failures() > 0;
+        let mut gathered = output.into_inner();
+        let is_printed = !has_failed && gathered.flush().is_ok();
+        // Dropping it would write what is still gathered.
+        let (printer, _unwritten) = gathered.into_parts();
+        if is_printed {
+            Ok(())
+        } else if printer.reader_left {
+            Err(OutputFault::ReaderLeft)
+        } else {
+            Err(OutputFault::Failed)
+        }
+    }
+
+    fn say(&mut self, pieces: &[&[u8]]) {
+        let mut stderr = self.rt.stderr();
+        for piece in pieces {
+            let _ = stderr.write_all(piece);
+        }
+    }
+}
