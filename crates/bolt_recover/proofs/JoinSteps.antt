@@ -24,8 +24,8 @@ use Rattle.bolt_recover.specs.Places.{leaves_of}
 use Rattle.bolt_recover.specs.Recovered.{ForRecovered, IsRecovered}
 use Rattle.bolt_recover.specs.ShownFound.{IsFoundView}
 use Rattle.bolt_recover.specs.Private.FoundLeft.{below_bucket, bucket_members, pages_of}
-use Rattle.bolt_recover.specs.Private.Joining.{AreJoinable, IsHeldWell, first_cmp, held_members, left_at, put_members, recovered_in}
-use Rattle.bolt_recover.specs.Private.KeptMembers.{kept_file, kept_left, kept_meta}
+use Rattle.bolt_recover.specs.Private.Joining.{AreJoinable, IsHeldWell, first_cmp, held_members, left_at, path_at, put_members, recovered_in}
+use Rattle.bolt_recover.specs.Private.KeptMembers.{kept_file, kept_left, kept_meta, kept_path}
 use Rattle.bolt_recover.specs.declared.found.Found.{Found}
 use Rattle.bolt_recover.specs.declared.found_members.FoundMembers.{FoundMembers}
 use Rattle.bolt_recover.specs.declared.joined.Stage.{Stage}
@@ -65,7 +65,7 @@ looked_all listing old none looked m has =
     elim (looked m has) [ inl stays ↦ stays | inr left ↦ absurd (contains_none m (subst (λ (ms : List Member). Contains ms m) none left)) ]
 
 -- the bucket with what it holds
-abbrev put_of : Tree → List Member
+abbrev pub put_of : Tree → List Member
 put_of inside = (lost_and_found ∷ [], Bucket 0) ∷ listing_below (lost_and_found ∷ []) inside
 
 -- what an earlier bucket holds comes before it
@@ -103,7 +103,7 @@ put_tree inside end = refl
 put_tree inside (with_value key value after) = by_value inside key value after (key_lt key lost_and_found) refl (put_tree inside after)
 put_tree inside (with_bucket key sequence own after) = by_bucket inside key sequence own after (key_lt key lost_and_found) refl (put_tree inside after)
 
-put_recovered : (found : List (ℕ × List LeafElement)) (recovered : List Member) → (tree : Tree) × (recovered ≡ listing_of tree)
+pub put_recovered : (found : List (ℕ × List LeafElement)) (recovered : List Member) → (tree : Tree) × (recovered ≡ listing_of tree)
     → put_members (put_of (found_tree found)) recovered ≡ listing_of (put_bucket lost_and_found (found_tree found) (tree_of recovered))
 put_recovered found recovered (tree, of) =
     ap (put_members (put_of (found_tree found))) of
@@ -148,6 +148,10 @@ module _ (stage : Stage) (kept : Kept) where
   pub begun_well : (found : List Found) (held : Option CodeItem) → Begins found → IsHeldWell stage kept held
   begun_well [] held (none, some) = subst (λ (s : Stage). IsHeldWell s kept held) (sym (none refl)) tt
   begun_well (f ∷ found) held (none, some) = subst (λ (s : Stage). IsHeldWell s kept held) (sym (some (some_found f found))) tt
+
+  pub begun_path : (found : List Found) (bucket : FoundMembers) → Begins found → path_at stage kept bucket ≡ kept_path kept
+  begun_path [] bucket (none, some) = rw (none refl) refl
+  begun_path (f ∷ found) bucket (none, some) = rw (some (some_found f found)) refl
 
   all_at : (file : List ℕ) (meta : Meta) (found : List Found) (bucket : FoundMembers) (held : Option CodeItem) (listing recovered : List Member) → Begins found → IsParted file meta found listing recovered
       → kept_left kept recovered ≡ recovered → left_at stage kept found bucket held recovered ≡ listing

@@ -7,13 +7,16 @@ mod FoundExists
 mod FoundLemmas
 mod HeldMembers
 mod JoinSteps
+mod JoinedContents
 mod JoinedLemmas
+mod JoinedOrder
 mod Leading
 pub mod LeftMembers
 mod LostWays
 mod NoLeaves
 mod NothingLost
 mod OneRecovered
+mod PageNames
 mod PlaceFacts
 mod PlaceKeys
 mod Recovering
@@ -29,3 +32,4 @@ mod SoundListing
 mod SoundSurveys
 mod StepLemmas
 mod SurveyIsOne
+mod TreeOrder

@@ -1,10 +1,11 @@
 -- The recovered listing, joined with what is found: docs/RECOVERY.md, "The joined listing".
-use Rattle.std.specs.Prelude.{◌≡◌, ◌==◌, ◌&&◌, ℕ, Bool, true, false, List, [], ◌∷◌, Contains, None, codes, if◌then◌else◌, is_none, map, not}
+use Rattle.std.specs.Prelude.{◌≡◌, ◌==◌, ◌&&◌, ◌⊎◌, ℕ, Bool, true, false, IsTrue, List, [], ◌∷◌, ◌++◌, Contains, None, codes, if◌then◌else◌, is_none, map, not}
 use Rattle.std.specs.Ordering.{is_eq}
 use Rattle.bolt_format.specs.Elements.{LeafElement, head_root, head_sequence, inline_elements}
 use Rattle.bolt_format.specs.Pages.{page_at}
 use Rattle.bolt_format.specs.declared.meta.Meta.{Meta}
 use Rattle.bolt_check.specs.Keys.{Key, key_cmp, key_lt, keys_order_fault}
+use Rattle.bolt_tree.specs.Entries.{Bucket, item_of}
 use Rattle.bolt_tree.specs.Listing.{Member}
 use Rattle.bolt_tree.specs.Paths.{Path}
 use Rattle.bolt_tree.specs.Tree.{Tree, end, listing_of, tree_of, with_bucket, with_value}
@@ -68,3 +69,18 @@ HasBucketKey listing = (m : Member) × (Contains listing m × (is_found_path m.0
 -- It has none.
 abbrev pub LacksBucketKey : List Member → Type 0
 LacksBucketKey listing = (m : Member) → Contains listing m → not (is_found_path m.0) ≡ true
+
+-- an element under a path
+abbrev pub IsElement : List LeafElement → Path → Member → Type 0
+IsElement elements path m = (e : LeafElement) × (Contains elements e × (m ≡ (path ++ e.key ∷ [], item_of e)))
+
+-- an element of an inline bucket among these
+abbrev pub IsInner : List LeafElement → Path → Member → Type 0
+IsInner elements path m =
+    (e : LeafElement) × (Contains elements e × IsTrue e.is_bucket × (head_root e.value ≡ 0) × IsElement (inline_elements e.value) (path ++ e.key ∷ []) m)
+
+-- What is in that bucket: a bucket for each found page, with its elements, and the elements of the inline buckets among them.
+abbrev pub IsFoundMember : List ℕ → Meta → List ℕ → Member → Type 0
+IsFoundMember file meta found m =
+    (n : ℕ) × (Contains found n × ((m ≡ (lost_and_found ∷ page_key n ∷ [], Bucket 0)) ⊎ (IsElement (leaves_of (page_at file meta n)) (lost_and_found ∷ page_key n ∷ []) m
+    ⊎ IsInner (leaves_of (page_at file meta n)) (lost_and_found ∷ page_key n ∷ []) m)))

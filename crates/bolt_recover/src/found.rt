@@ -13,7 +13,7 @@ pub struct Found<'a> {
     pub name: [u8; 16],
     /// The page. It has an element.
     pub page: TreePage<'a>,
-    ghost named: { name ≡ page_key number },
+    pub ghost named: { name ≡ page_key number },
 }
 
 /// The last sixteen decimal digits of a number.

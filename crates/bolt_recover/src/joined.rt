@@ -12,9 +12,9 @@ ghost use Rattle.bolt_tree.specs.Walks.{GivesNext};
 ghost use Rattle.bolt_recover.specs.Found.{AreFound, numbers_of};
 ghost use Rattle.bolt_recover.specs.Joined.{HasBucketKey, IsJoined, LacksBucketKey};
 ghost use Rattle.bolt_recover.specs.Private.Joining.{AreJoinable, IsHeldWell, TellsBucketKey, first_cmp};
-ghost use Rattle.bolt_recover.specs.Private.KeptMembers.{kept_file, kept_left, kept_meta};
+ghost use Rattle.bolt_recover.specs.Private.KeptMembers.{kept_file, kept_left, kept_meta, kept_path};
 ghost use Rattle.bolt_recover.specs.Recovered.{ForRecovered};
-ghost use Rattle.bolt_recover.specs.Recoveries.{recovery_file, recovery_left, recovery_meta};
+ghost use Rattle.bolt_recover.specs.Recoveries.{recovery_file, recovery_left, recovery_meta, recovery_path};
 ghost use Rattle.bolt_recover.specs.Refusals.{LosesRoot};
 ghost use Rattle.bolt_recover.specs.ShownFound.{IsFoundView};
 ghost use Rattle.bolt_recover.specs.ShownLosses.{loss_view};
@@ -129,11 +129,13 @@ impl<'a> Joined<'a> {
     /// if memory runs out.
     pub fn new(mut recovery: Recovery<'a>, found: &'a [Found<'a>]) -> Result<Joined<'a>, JoinFault>
         requires fresh { ForRecovered (recovery_file recovery) (recovery_meta recovery) (λ listing. recovery_left recovery listing ≡ listing) }
+        requires begun { recovery_path recovery ≡ [] }
         requires found { AreFound (recovery_file recovery) (recovery_meta recovery) (numbers_of found.now) }
         requires views { All (IsFoundView (recovery_file recovery) (recovery_meta recovery)) found.now }
         ensures file { IfOk result (λ joined. joined_file joined ≡ recovery_file recovery.entry) }
         ensures meta { IfOk result (λ joined. joined_meta joined ≡ recovery_meta recovery.entry) }
         ensures all { IfOk result (λ joined. ForJoined (recovery_file recovery.entry) (recovery_meta recovery.entry) (λ listing. joined_left joined listing ≡ listing)) }
+        ensures path { IfOk result (λ joined. joined_path joined ≡ []) }
         ensures apart { OnOk result (found.now ≢ [] → ForRecovered (recovery_file recovery.entry) (recovery_meta recovery.entry) LacksBucketKey) }
         ensures refused { IfErr result (λ fault. fault ≡ faults.Exists → (found.now ≢ []) × ForRecovered (recovery_file recovery.entry) (recovery_meta recovery.entry) HasBucketKey) }
     {
@@ -156,6 +158,7 @@ impl<'a> Joined<'a> {
         ensures file { joined_file result ≡ file.now }
         ensures meta { joined_meta result ≡ meta }
         ensures all { ForJoined file.now meta (λ listing. joined_left result listing ≡ listing) }
+        ensures path { joined_path result ≡ [] }
     {
         Joined::of(Kept::Nothing(LostRoot { file, meta }), found)
     }
@@ -164,9 +167,11 @@ impl<'a> Joined<'a> {
     fn of(kept: Kept<'a>, found: &'a [Found<'a>]) -> Joined<'a>
         requires pages { AreJoinable (kept_file kept) (kept_meta kept) found.now }
         requires fresh { ForRecovered (kept_file kept) (kept_meta kept) (λ listing. kept_left kept listing ≡ listing) }
+        requires path { kept_path kept ≡ [] }
         ensures file { joined_file result ≡ kept_file kept.entry }
         ensures meta { joined_meta result ≡ kept_meta kept.entry }
         ensures all { ForJoined (kept_file kept.entry) (kept_meta kept.entry) (λ listing. joined_left result listing ≡ listing) }
+        ensures path { joined_path result ≡ [] }
     {
         Joined {
             kept,

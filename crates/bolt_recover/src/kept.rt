@@ -2,6 +2,7 @@
 ghost use Rattle.std.specs.Borrow.{Bor};
 ghost use Rattle.std.specs.Prelude.{◌≡◌, ◌<◌, IfOk, IfSome, List, OnErr, OnOk, map};
 ghost use Rattle.std.specs.Option.{IfNone, option_map};
+ghost use Rattle.bolt_format.specs.Bytes.{IsBytes};
 ghost use Rattle.bolt_check.specs.declared.finding.Finding.{Finding};
 ghost use Rattle.bolt_tree.specs.Paths.{path_of};
 ghost use Rattle.bolt_tree.specs.ShownEntries.{item_view};
@@ -22,6 +23,7 @@ use bolt_tree::Item;
 pub(crate) struct LostRoot<'a> {
     pub file: &'a [u8],
     pub meta: Meta,
+    ghost bytes: { IsBytes file.now },
     ghost lost: { ∥ ((x : Finding) × LosesRoot file.now meta x) ∥₁ },
 }
 

@@ -1,6 +1,6 @@
 //! What the definitions of recovery imply.
 ghost use Rattle.std.specs.List.{Contains, count_by};
-ghost use Rattle.std.specs.Prelude.{◌≡◌, ◌<◌, ◌⊎◌, ℕ, [], true, List, None, Some, filter, is_some, length, not};
+ghost use Rattle.std.specs.Prelude.{◌≡◌, ◌≢◌, ◌<◌, ◌⊎◌, ◌*◌, ◌^◌, ◌∷◌, ℕ, [], true, List, None, Some, filter, is_some, length, not};
 ghost use Rattle.bolt_format.specs.Bytes.{IsBytes};
 ghost use Rattle.bolt_format.specs.declared.meta.Meta.{Meta};
 ghost use Rattle.bolt_check.specs.LoneLeaves.{IsListedFree, IsLoneLeaf};
@@ -8,12 +8,14 @@ ghost use Rattle.bolt_check.specs.Nodes.{node_at};
 ghost use Rattle.bolt_check.specs.Sound.{HasSoundTrees, IsFirstFinding};
 ghost use Rattle.bolt_check.specs.Ways.{At_page, Before, SpanAt, root_spot};
 ghost use Rattle.bolt_check.specs.declared.finding.Finding.{Finding};
-ghost use Rattle.bolt_tree.specs.Entries.{IsEntry, Item, Root_page};
-ghost use Rattle.bolt_tree.specs.Listing.{IsListing, Member};
+ghost use Rattle.bolt_tree.specs.Entries.{Bucket, IsEntry, Item, Root_page};
+ghost use Rattle.bolt_tree.specs.Listing.{IsListing, Member, member_cmp};
+ghost use Rattle.bolt_tree.specs.Order.{Rises};
 ghost use Rattle.bolt_tree.specs.Paths.{Holds, Path};
 ghost use Rattle.bolt_tree.specs.Tree.{Tree, listing_of};
 ghost use Rattle.bolt_recover.specs.Found.{AreFound, IsFoundPage};
-ghost use Rattle.bolt_recover.specs.Joined.{IsJoined, is_found_path};
+ghost use Rattle.bolt_recover.specs.Joined.{IsFoundMember, IsJoined, LacksBucketKey, is_found_path, lost_and_found};
+ghost use Rattle.bolt_recover.specs.JoinedMembers.{joined_file};
 ghost use Rattle.bolt_recover.specs.KeptPages.{IsKeptPage};
 ghost use Rattle.bolt_recover.specs.Losses.{AreLosses, LossView, loss_of, losses_of};
 ghost use Rattle.bolt_recover.specs.PageWays.{ArePageWays};
@@ -22,6 +24,7 @@ ghost use Rattle.bolt_recover.specs.Recovered.{IsRecovered, IsRecoveredMember};
 ghost use Rattle.bolt_recover.specs.Recoveries.{recovery_file};
 ghost use Rattle.bolt_recover.specs.Surveys.{Has, IsSurvey, Visit, lost};
 
+use crate::joined::Joined;
 use crate::recovery::Recovery;
 
 /// A file has at most one survey.
@@ -163,4 +166,23 @@ pub fn joined_listing_is_of_a_tree()
 pub fn joined_listing_keeps_what_is_recovered()
     ensures { (file : List ℕ) (meta : Meta) (listing recovered : List Member) → IsJoined file meta listing → IsRecovered file meta recovered
         → ((m : Member) → Contains recovered m → not (is_found_path m.0) ≡ true) → filter (λ (m : Member). not (is_found_path m.0)) listing ≡ recovered }
+{}
+
+/// A joined listing is in the order of paths, if it is that of a file of which no page number has more
+/// than sixteen digits, and there is room for the bucket of what is found.
+pub fn joined_listing_rises()
+    ensures { (file : List ℕ) (meta : Meta) (listing : List Member) → IsJoined file meta listing → length file < 10 ^ 16 * meta.page_size
+        → ((recovered : List Member) (found : List ℕ) → IsRecovered file meta recovered → AreFound file meta found → found ≢ [] → LacksBucketKey recovered) → Rises member_cmp listing }
+{}
+
+/// Each member of a joined listing is recovered, or it is the bucket of what is found, or in it: the
+/// bucket of a found page, an element of the page, or one of an inline bucket on the page.
+pub fn joined_members_are_recovered_or_found()
+    ensures { (file : List ℕ) (meta : Meta) (listing recovered : List Member) (found : List ℕ) (m : Member) → IsJoined file meta listing → IsRecovered file meta recovered → AreFound file meta found
+        → Contains listing m → Contains recovered m ⊎ ((m ≡ (lost_and_found ∷ [], Bucket 0)) ⊎ IsFoundMember file meta found m) }
+{}
+
+/// The file of the members of a joined listing is bytes.
+pub fn the_file_of_joined_members_is_bytes(joined: &Joined<'_>)
+    ensures { IsBytes (joined_file joined.now) }
 {}

@@ -1,0 +1,130 @@
+-- The members of a joined listing are recovered or found.
+use Rattle.std.proofs.Common.{◌≡◌, ◌∙◌, ◌⊎◌, inl, inr, ℕ, Bool, true, false, IsTrue, is_none, List, [], ◌∷◌, ◌++◌, None, map, ◌==◌, if◌then◌else◌, refl, sym, ap, subst}
+use Rattle.std.specs.List.{Contains}
+use Rattle.std.specs.Ordering.{is_lt}
+use Rattle.std.proofs.lemmas.Bool.{eqb-true}
+use Rattle.std.proofs.lemmas.List.Elements.{Contains-append_cases}
+use Rattle.bolt_format.specs.Elements.{LeafElement, head_root, head_sequence, inline_elements}
+use Rattle.bolt_format.specs.Pages.{page_at}
+use Rattle.bolt_format.specs.declared.meta.Meta.{Meta}
+use Rattle.bolt_check.specs.Keys.{keys_order_fault}
+use Rattle.bolt_tree.specs.Entries.{Bucket, Value, item_of}
+use Rattle.bolt_tree.specs.Listing.{Member}
+use Rattle.bolt_tree.specs.Paths.{Path}
+use Rattle.bolt_tree.specs.Tree.{Tree, end, listing_below, with_bucket, with_value}
+use Rattle.bolt_tree.proofs.Lists.{contains_cases, contains_head, contains_none, contains_tail}
+use Rattle.bolt_recover.specs.Found.{AreFound}
+use Rattle.bolt_recover.specs.Joined.{IsElement, IsFoundMember, IsInner, IsJoined, found_tree, inside_of, joined_listing, lost_and_found, tree_with}
+use Rattle.bolt_recover.specs.PageKeys.{page_key}
+use Rattle.bolt_recover.specs.Places.{leaves_of}
+use Rattle.bolt_recover.specs.Private.Joining.{first_cmp, put_members}
+use Rattle.bolt_recover.specs.Recovered.{IsRecovered}
+use Rattle.bolt_recover.proofs.FoundAll.{one_found}
+use Rattle.bolt_recover.proofs.JoinSteps.{put_of, put_recovered}
+use Rattle.bolt_recover.proofs.JoinedLemmas.{tree_recovered, with_elements}
+use Rattle.bolt_recover.proofs.OneRecovered.{one_recovered}
+
+-- what is put, or what was there
+put_by : (put : List Member) (x : Member) (listing : List Member) (m : Member) (b : Bool) → is_lt (first_cmp x.0) ≡ b → (Contains (put_members put listing) m → Contains put m ⊎ Contains listing m)
+    → Contains (put_members put (x ∷ listing)) m → Contains put m ⊎ Contains (x ∷ listing) m
+put_by put x listing m true less further has = elim (contains_cases x m (put_members put listing) (rw less at has)) [
+  | inl same ↦ inr (subst (λ (y : Member). Contains (x ∷ listing) y) same (contains_head x listing))
+  | inr more ↦ elim (further more) [ inl own ↦ inl own | inr later ↦ inr (contains_tail x m listing later) ]
+]
+put_by put x listing m false over further has = Contains-append_cases put (x ∷ listing) m (rw over at has)
+
+put_or_there : (put listing : List Member) (m : Member) → Contains (put_members put listing) m → Contains put m ⊎ Contains listing m
+put_or_there put [] m has = Contains-append_cases put [] m has
+put_or_there put (x ∷ listing) m has = put_by put x listing m (is_lt (first_cmp x.0)) refl (put_or_there put listing m) has
+
+-- an element, what it holds, or a later one
+abbrev IsHere : (inside : LeafElement → Tree) → Path → LeafElement → Member → Type 0
+IsHere inside path e m = (m ≡ (path ++ e.key ∷ [], item_of e)) ⊎ (IsTrue e.is_bucket × Contains (listing_below (path ++ e.key ∷ []) (inside e)) m)
+
+here_by : (inside : LeafElement → Tree) (path : Path) (e : LeafElement) (elements : List LeafElement) (m : Member) (b : Bool) → e.is_bucket ≡ b → Contains (listing_below path (tree_with inside (e ∷ elements))) m
+    → IsHere inside path e m ⊎ Contains (listing_below path (tree_with inside elements)) m
+here_by inside path e elements m true is has =
+    let item : item_of e ≡ Bucket (head_sequence e.value) = ap (λ (b : Bool). if b then Bucket (head_sequence e.value) else Value e.value) is in
+    let tree : tree_with inside (e ∷ elements) ≡ with_bucket e.key (head_sequence e.value) (inside e) (tree_with inside elements) =
+    ap (λ (b : Bool). if b then with_bucket e.key (head_sequence e.value) (inside e) (tree_with inside elements) else with_value e.key e.value (tree_with inside elements)) is in
+    let deep : List Member = listing_below (path ++ e.key ∷ []) (inside e) in
+    let behind : List Member = listing_below path (tree_with inside elements) in
+    let first : Member = (path ++ e.key ∷ [], Bucket (head_sequence e.value)) in
+    elim (contains_cases first m (deep ++ behind) (subst (λ (t : Tree). Contains (listing_below path t) m) tree has)) [
+      | inl same ↦ inl (inl (sym same ∙ ap (λ (i : _). (path ++ e.key ∷ [], i)) (sym item)))
+      | inr more ↦ elim (Contains-append_cases deep behind m more) [ inl inner ↦ inl (inr (is, inner)) | inr later ↦ inr later ]
+    ]
+here_by inside path e elements m false is has =
+    let item : item_of e ≡ Value e.value = ap (λ (b : Bool). if b then Bucket (head_sequence e.value) else Value e.value) is in
+    let tree : tree_with inside (e ∷ elements) ≡ with_value e.key e.value (tree_with inside elements) =
+    ap (λ (b : Bool). if b then with_bucket e.key (head_sequence e.value) (inside e) (tree_with inside elements) else with_value e.key e.value (tree_with inside elements)) is in
+    let first : Member = (path ++ e.key ∷ [], Value e.value) in
+    elim (contains_cases first m (listing_below path (tree_with inside elements)) (subst (λ (t : Tree). Contains (listing_below path t) m) tree has)) [
+      | inl same ↦ inl (inl (sym same ∙ ap (λ (i : _). (path ++ e.key ∷ [], i)) (sym item)))
+      | inr later ↦ inr later
+    ]
+
+element_of : (inside : LeafElement → Tree) (path : Path) (elements : List LeafElement) (m : Member) → Contains (listing_below path (tree_with inside elements)) m
+    → (e : LeafElement) × (Contains elements e × IsHere inside path e m)
+element_of inside path [] m has = absurd (contains_none m has)
+element_of inside path (e ∷ elements) m has = elim (here_by inside path e elements m e.is_bucket refl has) [
+  | inl here ↦ (e, (contains_head e elements, here))
+  | inr later ↦ let (x, (there, here)) = element_of inside path elements m later in (x, (contains_tail e x elements there, here))
+]
+
+-- what an element on a page holds
+inside_by : (path : Path) (e : LeafElement) (m : Member) (a b : Bool) → (head_root e.value == 0) ≡ a → is_none (keys_order_fault None None None (map (λ (x : LeafElement). x.key) (inline_elements e.value))) ≡ b
+    → Contains (listing_below path (inside_of e)) m → (head_root e.value ≡ 0) × IsElement (inline_elements e.value) path m
+inside_by path e m true true root rise has =
+    let (i, (there, here)) = element_of (λ x. end) path (inline_elements e.value) m (rw (root, rise) at has) in
+    (eqb-true (head_root e.value) 0 root, (i, (there, elim here [ inl same ↦ same | inr nothing ↦ absurd (contains_none m nothing.1) ])))
+inside_by path e m true false root rise has = absurd (contains_none m (rw (root, rise) at has))
+inside_by path e m false b root rise has = absurd (contains_none m (rw root at has))
+
+on_page : (path : Path) (elements : List LeafElement) (m : Member) → Contains (listing_below path (tree_with inside_of elements)) m → IsElement elements path m ⊎ IsInner elements path m
+on_page path elements m has =
+    let (e, (there, here)) = element_of inside_of path elements m has in
+    elim here [
+      | inl same ↦ inl (e, (there, same))
+      | inr inner ↦
+          let (root, own) = inside_by (path ++ e.key ∷ []) e m (head_root e.value == 0) (is_none (keys_order_fault None None None (map (λ (x : LeafElement). x.key) (inline_elements e.value)))) refl refl inner.1 in
+          inr (e, (there, inner.0, root, own))
+    ]
+
+module _ (file : List ℕ) (meta : Meta) where
+  in_bucket : (found : List ℕ) (m : Member) → Contains (listing_below (lost_and_found ∷ []) (found_tree (with_elements file meta found))) m → IsFoundMember file meta found m
+  in_bucket [] m has = absurd (contains_none m has)
+  in_bucket (n ∷ found) m has =
+      let path : Path = lost_and_found ∷ page_key n ∷ [] in
+      let own : List Member = listing_below path (tree_with inside_of (leaves_of (page_at file meta n))) in
+      let behind : List Member = listing_below (lost_and_found ∷ []) (found_tree (with_elements file meta found)) in
+      elim (contains_cases (path, Bucket 0) m (own ++ behind) has) [
+        | inl same ↦ (n, (contains_head n found, inl (sym same)))
+        | inr more ↦ elim (Contains-append_cases own behind m more) [
+          | inl page ↦ (n, (contains_head n found, inr (on_page path (leaves_of (page_at file meta n)) m page)))
+          | inr later ↦ let (x, (there, is)) = in_bucket found m later in (x, (contains_tail n x found there, is))
+        ]
+      ]
+
+  contents : (recovered : List Member) (found : List ℕ) (m : Member) → IsRecovered file meta recovered → Contains (joined_listing recovered (with_elements file meta found)) m
+      → Contains recovered m ⊎ ((m ≡ (lost_and_found ∷ [], Bucket 0)) ⊎ IsFoundMember file meta found m)
+  contents recovered [] m is has = inl has
+  contents recovered (n ∷ found) m is has =
+      let pages = with_elements file meta (n ∷ found) in
+      let put = subst (λ (ms : List Member). Contains ms m) (sym (put_recovered pages recovered (tree_recovered file meta recovered is))) has in
+      elim (put_or_there (put_of (found_tree pages)) recovered m put) [
+        | inl own ↦ elim (contains_cases (lost_and_found ∷ [], Bucket 0) m (listing_below (lost_and_found ∷ []) (found_tree pages)) own) [
+          | inl same ↦ inr (inl (sym same))
+          | inr below ↦ inr (inr (in_bucket (n ∷ found) m below))
+        ]
+        | inr there ↦ inl there
+      ]
+
+  pub joined_contents : (listing recovered : List Member) (found : List ℕ) (m : Member) → IsJoined file meta listing → IsRecovered file meta recovered → AreFound file meta found → Contains listing m
+      → Contains recovered m ⊎ ((m ≡ (lost_and_found ∷ [], Bucket 0)) ⊎ IsFoundMember file meta found m)
+  joined_contents listing recovered found m is back are has =
+      contents recovered found m back
+      (subst (λ (ms : List Member). Contains ms m)
+      (is.joined
+      ∙ ap (λ (ms : List Member). joined_listing ms (with_elements file meta is.found)) (one_recovered file meta is.recovered recovered is.recovers back)
+      ∙ ap (λ (ns : List ℕ). joined_listing recovered (with_elements file meta ns)) (one_found file meta is.found found is.are_found are)) has)

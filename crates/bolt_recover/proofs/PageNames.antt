@@ -1,0 +1,46 @@
+-- The names of found pages rise with their numbers.
+use Rattle.std.proofs.Common.{◌≡◌, ◌∙◌, inl, inr, ℕ, zero, suc, ◌<◌, ◌+◌, ◌/◌, ◌%◌, ◌^◌, [], ◌∷◌, ◌++◌, length, refl, sym, arith}
+use Rattle.std.specs.Cmp.{nat_cmp_is}
+use Rattle.std.specs.Ordering.{nat_cmp, ordering_then}
+use Rattle.std.specs.declared.cmp.Ordering.{Ordering}
+use Rattle.std.specs.declared.cmp.Ordering.TheVariants.{Less, Equal, Greater}
+use Rattle.std.proofs.lemmas.Bool.{cases_lt}
+use Rattle.std.proofs.lemmas.Cmp.{nat_cmp_total, tied_itself}
+use Rattle.std.proofs.lemmas.List.{length-append}
+use Rattle.bolt_check.specs.Keys.{Key, key_cmp}
+use Rattle.bolt_recover.specs.PageKeys.{last_digits}
+
+then_less : (o r : Ordering) (after : Ordering) → ordering_then o r ≡ Less → (r ≡ Less → after ≡ Less) → ordering_then o after ≡ Less
+then_less Less r after less further = refl
+then_less Equal r after less further = further less
+then_less Greater r after less further = absurd (let f : Greater ≡ Less = less in cc)
+
+-- texts of the same length, and more after them
+less_more : (xs ys a b : Key) → length xs ≡ length ys → key_cmp xs ys ≡ Less → key_cmp (xs ++ a) (ys ++ b) ≡ Less
+less_more [] [] a b same less = absurd (let f : Equal ≡ Less = less in cc)
+less_more [] (y ∷ ys) a b same less = absurd (let f : 0 ≡ suc (length ys) = same in omega (arith, f))
+less_more (x ∷ xs) [] a b same less = absurd (let f : suc (length xs) ≡ 0 = same in omega (arith, f))
+less_more (x ∷ xs) (y ∷ ys) a b same less =
+    then_less (nat_cmp x y) (key_cmp xs ys) (key_cmp (xs ++ a) (ys ++ b)) less (λ rest. less_more xs ys a b (let f : suc (length xs) ≡ suc (length ys) = same in omega (arith, f)) rest)
+
+same_more : (xs a b : Key) → key_cmp (xs ++ a) (xs ++ b) ≡ key_cmp a b
+same_more [] a b = refl
+same_more (x ∷ xs) a b = rw (tied_itself nat_cmp_total x) (same_more xs a b)
+
+digits_long : (count n : ℕ) → length (last_digits count n) ≡ count
+digits_long zero n = refl
+digits_long (suc count) n = length-append (last_digits count (n / 10)) ((48 + n % 10) ∷ []) ∙ (let long = digits_long count (n / 10) in omega (arith, long))
+
+one_digit : (a b : ℕ) → a < b → key_cmp ((48 + a) ∷ []) ((48 + b) ∷ []) ≡ Less
+one_digit a b less = let cmp : nat_cmp (48 + a) (48 + b) ≡ Less = sym (nat_cmp_is (48 + a) (48 + b) Less (omega (arith, less))) in rw cmp refl
+
+pub digits_rise : (count n m : ℕ) → n < m → m < 10 ^ count → key_cmp (last_digits count n) (last_digits count m) ≡ Less
+digits_rise zero n m less within = absurd (omega (arith, less, within))
+digits_rise (suc count) n m less within = elim (cases_lt (n / 10) (m / 10)) [
+  | inl lt ↦
+      less_more (last_digits count (n / 10)) (last_digits count (m / 10)) ((48 + n % 10) ∷ []) ((48 + m % 10) ∷ []) (digits_long count (n / 10) ∙ sym (digits_long count (m / 10)))
+      (digits_rise count (n / 10) (m / 10) lt (omega (arith, within)))
+  | inr ge ↦
+      let same : n / 10 ≡ m / 10 = omega (arith, less, ge) in
+      rw same (same_more (last_digits count (m / 10)) ((48 + n % 10) ∷ []) ((48 + m % 10) ∷ []) ∙ one_digit (n % 10) (m % 10) (omega (arith, less, same)))
+]
