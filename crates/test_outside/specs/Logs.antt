@@ -1,0 +1,50 @@
+-- The deeds that a log in memory holds.
+use Rattle.std.specs.Prelude.{◌≡◌, ◌⊎◌, ℕ, List, [], map, Bool, true, false, Option, Some, None, Ok, Err, IsTrue}
+use Rattle.bolt_cli.specs.Deeds.{Deed}
+use Rattle.bolt_cli.specs.Deeds as deeds
+use Rattle.bolt_cli.specs.Sources.{is_changed}
+use Rattle.bolt_cli.specs.declared.source.OutputFault.TheVariants.{ReaderLeft, Failed}
+use Rattle.test_outside.specs.declared.log.Kind.{Kind}
+use Rattle.test_outside.specs.declared.log.Kind.TheVariants as kind
+use Rattle.test_outside.specs.declared.log.Record.{Record}
+use Rattle.test_outside.specs.declared.log.Log.{Log}
+
+-- what a log keeps of a deed
+pub record Look : Type 0 where
+  pub kind : Kind
+  pub name : List ℕ
+  pub bytes : List ℕ
+  pub permissions : ℕ
+
+abbrev pub look_of : Kind → List ℕ → List ℕ → ℕ → Look
+look_of k name bytes permissions = record { kind = k; name = name; bytes = bytes; permissions = permissions }
+
+abbrev bytes_in : Option (List ℕ) → List ℕ
+bytes_in (Some bytes) = bytes
+bytes_in None = []
+
+abbrev pub read_kind : (metas_alone changes : Bool) → Kind
+read_kind true changes = kind.ReadMetas
+read_kind false true = kind.ReadChanged
+read_kind false false = kind.Read
+
+abbrev pub look : {S : Type 0} → (taken : S → Option (List ℕ)) → Deed S S → Look
+look taken (deeds.Read name metas_alone (Ok source)) = look_of (read_kind metas_alone (is_changed source)) name source.bytes.items source.permissions
+look taken (deeds.Read name metas_alone (Err fault)) = look_of kind.Unread name [] 0
+look taken (deeds.Made name permissions (Ok target)) = look_of kind.Made name [] permissions
+look taken (deeds.Made name permissions (Err fault)) = look_of kind.Unmade name [] permissions
+look taken (deeds.Ended target (Ok done)) = look_of kind.Ended [] (bytes_in (taken target)) 0
+look taken (deeds.Ended target (Err fault)) = look_of kind.Unended [] (bytes_in (taken target)) 0
+look taken (deeds.Opened (Ok output)) = look_of kind.Opened [] [] 0
+look taken (deeds.Opened (Err fault)) = look_of kind.Unopened [] [] 0
+look taken (deeds.Closed output (Ok done)) = look_of kind.Printed [] (bytes_in (taken output)) 0
+look taken (deeds.Closed output (Err ReaderLeft)) = look_of kind.Left [] (bytes_in (taken output)) 0
+look taken (deeds.Closed output (Err Failed)) = look_of kind.Unprinted [] (bytes_in (taken output)) 0
+look taken (deeds.Said text) = look_of kind.Said [] text 0
+
+abbrev pub look_at : Record → Look
+look_at record_ = look_of record_.kind record_.name.items record_.bytes.items record_.permissions
+
+-- either the log has lost a deed, or these are all
+abbrev pub Holds : {S : Type 0} → (taken : S → Option (List ℕ)) → Log → List (Deed S S) → Type 0
+Holds taken log all = IsTrue log.has_lost ⊎ (map look_at log.records.items ≡ map (look taken) all)
