@@ -1,0 +1,4 @@
+pub mod CutLemmas
+pub mod DecimalNumbers
+pub mod LineLemmas
+pub mod WordLemmas
