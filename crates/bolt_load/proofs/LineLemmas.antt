@@ -26,7 +26,7 @@ cut_line text line after cut = record {
       ∙ lines_cut (line ++ 10 ∷ other) line other (record { whole = refl; first = cut.first });
 }
 
-no_lines : lines_of [] ≡ []
+pub no_lines : lines_of [] ≡ []
 unfolding lines_of
 no_lines = refl
 

@@ -11,3 +11,7 @@ members_left members = members.text_left.now
 
 unfoldable pub members_path : LineMembers → Path
 members_path members = path_of members.path.items
+
+-- the path of the member before that
+unfoldable pub members_before : LineMembers → Path
+members_before members = path_of members.path_before.items

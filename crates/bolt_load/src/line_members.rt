@@ -1,4 +1,14 @@
 //! The members that the lines of a text tell.
+ghost use Rattle.std.specs.Option.{option_map};
+ghost use Rattle.std.specs.Prelude.{◌≡◌, ◌<◌, ◌++◌, [], IfOk, IfNone, IfSome, IsSomeAnd, OnErr, Some, length};
+ghost use Rattle.bolt_tree.specs.Paths.{Path, path_of};
+ghost use Rattle.bolt_tree.specs.ShownEntries.{item_view};
+ghost use Rattle.bolt_tree.specs.Walks.{GivesNext};
+ghost use Rattle.bolt_load.specs.HexPaths.{hex_path_in};
+ghost use Rattle.bolt_load.specs.LineMembers.{text_members};
+ghost use Rattle.bolt_load.specs.Lines.{lines_of};
+ghost use Rattle.bolt_load.specs.Private.Decoding.{AreDecoded, BeginsWith, GivesLine, item_bytes, path_bytes};
+ghost use Rattle.bolt_load.specs.Private.LineWords.{word_item};
 
 use crate::cuts::{cut_at, first_line};
 use crate::line_words::{ItemWord, words_of};
@@ -17,11 +27,21 @@ pub struct LineMembers<'a> {
     path: Vec<&'a [u8]>,
     /// The path before that one.
     path_before: Vec<&'a [u8]>,
+    ghost whole: { ∥ AreDecoded (lines_of text.now) bytes.now ∥₁ },
+    ghost ahead: { ∥ AreDecoded (lines_of text_left.now) bytes_left.now ∥₁ },
 }
 
+#[tactic(auto, unfolding(crate::specs::ShownMembers::members_before, crate::specs::ShownMembers::members_left, crate::specs::ShownMembers::members_path, crate::specs::ShownMembers::members_text))]
 impl<'a> LineMembers<'a> {
+    ghost use Rattle.bolt_load.specs.ShownMembers.{members_before, members_left, members_path, members_text};
+
     /// The members of these lines, whose bytes these are.
-    pub(crate) fn new(alloc: Global, text: &'a [u8], bytes: &'a [u8]) -> LineMembers<'a> {
+    pub(crate) fn new(alloc: Global, text: &'a [u8], bytes: &'a [u8]) -> LineMembers<'a>
+        requires { AreDecoded (lines_of text.now) bytes.now }
+        ensures text { members_text result ≡ text.now }
+        ensures left { members_left result ≡ text.now }
+        ensures path { members_path result ≡ [] }
+    {
         LineMembers {
             text,
             bytes,
@@ -33,11 +53,21 @@ impl<'a> LineMembers<'a> {
     }
 
     /// The path of the member before the last one that was returned.
-    pub(crate) fn path_before(&self) -> &[&'a [u8]] {
+    pub(crate) fn path_before(&self) -> &[&'a [u8]]
+        ensures { path_of result.now ≡ members_before self.now }
+    {
         self.path_before.as_slice()
     }
 
-    pub(crate) fn advance(&mut self) -> Result<Option<Item<'a>>, NoMemory> {
+    /// Returns the member of the next line.
+    pub(crate) fn advance(&mut self) -> Result<Option<Item<'a>>, NoMemory>
+        ensures text { members_text self.new ≡ members_text self.old }
+        ensures given { IfOk result (λ given. GivesNext (text_members (members_left self.old)) (text_members (members_left self.new)) (members_path self.new) (option_map item_view given)) }
+        ensures lines { IfOk result (λ given. GivesLine (members_left self.old) (members_left self.new) (option_map item_view given) (members_path self.new)) }
+        ensures before { IfOk result (λ given. IfSome given (λ _. members_before self.new ≡ members_path self.old)) }
+        ensures same { OnErr result (members_left self.new ≡ members_left self.old) }
+        ensures same_path { OnErr result (members_path self.new ≡ members_path self.old) }
+    {
         let Some((line, text_left)) = first_line(self.text_left) else {
             self.path.clear();
             return Ok(None);
@@ -54,7 +84,10 @@ impl<'a> LineMembers<'a> {
         Ok(Some(item))
     }
 
-    fn restart(&mut self) {
+    fn restart(&mut self)
+        ensures text { members_text self.new ≡ members_text self.old }
+        ensures left { members_left self.new ≡ members_text self.old }
+    {
         self.text_left = self.text;
         self.bytes_left = self.bytes;
         self.path.clear();
@@ -66,7 +99,10 @@ fn push_parts<'a>(
     word: &[u8],
     bytes: &'a [u8],
     path: &mut Vec<&'a [u8]>,
-) -> Result<&'a [u8], AllocError> {
+) -> Result<&'a [u8], AllocError>
+    requires { IsSomeAnd (hex_path_in word.now) (λ told. BeginsWith (path_bytes told) bytes.now) }
+    ensures { IfOk result (λ rest. (told : Path) → hex_path_in word.now ≡ Some told → (path_of path.new.items ≡ path_of path.old.items ++ told) × (bytes.now ≡ path_bytes told ++ rest.now)) }
+{
     let mut word_left = word;
     let mut bytes_left = bytes;
     while let Some((part, after)) = cut_at(b'/', word_left) {
@@ -81,7 +117,11 @@ fn push_parts<'a>(
 }
 
 /// What a word tells, whose bytes come first, and the bytes after them.
-fn item_of<'a>(word: &ItemWord<'_>, bytes: &'a [u8]) -> (Item<'a>, &'a [u8]) {
+fn item_of<'a>(word: &ItemWord<'_>, bytes: &'a [u8]) -> (Item<'a>, &'a [u8])
+    requires { IsSomeAnd (word_item word.now) (λ told. BeginsWith (item_bytes told) bytes.now) }
+    ensures item { Some (item_view result.0) ≡ word_item word.now }
+    ensures rest { bytes.now ≡ item_bytes (item_view result.0) ++ result.1.now }
+{
     match word {
         ItemWord::Digits(digits) => {
             let (value, rest) = bytes.split_at(digits.len() / 2);
@@ -96,10 +136,8 @@ fn item_of<'a>(word: &ItemWord<'_>, bytes: &'a [u8]) -> (Item<'a>, &'a [u8]) {
     }
 }
 
+#[tactic(auto, unfolding(crate::specs::ShownMembers::members_before, crate::specs::ShownMembers::members_left, crate::specs::ShownMembers::members_path, crate::specs::ShownMembers::members_text))]
 impl<'a> Members<'a> for LineMembers<'a> {
-    ghost use Rattle.std.specs.Prelude.{◌≡◌, length};
-    ghost use Rattle.bolt_tree.specs.Paths.{path_of};
-    ghost use Rattle.bolt_load.specs.LineMembers.{text_members};
     ghost use Rattle.bolt_load.specs.ShownMembers.{members_left, members_path, members_text};
 
     ghost lists = { λ members listing. listing ≡ text_members (members_text members) };

@@ -1,5 +1,5 @@
 -- The bytes that a text has in hexadecimal, one line after another.
-use Rattle.std.specs.Prelude.{◌≡◌, ℕ, List, [], ◌∷◌, ◌++◌, All, IsSome, Option, Some, flat_map}
+use Rattle.std.specs.Prelude.{◌≡◌, ◌<◌, ℕ, List, [], ◌∷◌, ◌++◌, All, IsSome, Option, Some, None, length, flat_map}
 use Rattle.bolt_tree.specs.Entries.{Bucket, Item, Value}
 use Rattle.bolt_tree.specs.Listing.{Member}
 use Rattle.bolt_tree.specs.Paths.{Path}
@@ -29,6 +29,16 @@ pub record AreDecoded (lines : List Text) (bytes : List ℕ) : Type 0 where
   pub tell : All (λ line. IsSome (line_member line)) lines
   pub after : List ℕ
   pub begin : bytes ≡ flat_map member_bytes (members_in lines) ++ after
+
+-- a front of the bytes
+pub record BeginsWith (front bytes : List ℕ) : Type 0 where
+  pub after : List ℕ
+  pub whole : bytes ≡ front ++ after
+
+-- The first line that was left told the member at the path, and the lines after it are left; or no line was left.
+abbrev pub GivesLine : (old new : Text) → Option Item → Path → Type 0
+GivesLine old new None path = lines_of old ≡ []
+GivesLine old new (Some item) path = (line : Text) × (lines_of old ≡ line ∷ lines_of new) × (line_member line ≡ Some (path, item)) × (length new < length old)
 
 -- After the lines of the one text, the other goes on with a line that is wrong in itself.
 pub record StopsAt (text decoded : Text) (fault : LineFault) : Type 0 where
