@@ -43,6 +43,9 @@ tells line shaped = let found = shaped_member line shaped in subst IsSome (sym f
 pub all_tell : (lines : List Text) → All IsShaped lines → All (λ line. IsSome (line_member line)) lines
 all_tell lines shaped = λ k d below. tells _ (shaped k d below)
 
+begins_with : (front after bytes : List ℕ) → bytes ≡ front ++ after → take (length front) bytes ≡ front
+begins_with front after bytes is = ap (take (length front)) is ∙ take-append_seam front after
+
 -- ---- the lines so far
 
 -- the lines before the rest of a text are right in themselves, and these are their bytes
@@ -115,8 +118,7 @@ module _ (text rest : Text) (bytes new : List ℕ) (so_far : HasDecoded text res
       pub front_decoded : {found : Option (List ℕ)} → Adds found bytes new → AreDecoded (lines_of decoded) new
       front_decoded adds = subst (λ (lines : List Text). AreDecoded lines new) (sym decoded_lines) (record {
           tell = all_tell so_far.front so_far.shaped;
-          after = adds.more;
-          begin = adds.added ∙ ap (λ bytes. bytes ++ adds.more) so_far.bytes_are
+          begin = begins_with (flat_map member_bytes (members_in so_far.front)) adds.more new (adds.added ∙ ap (λ bytes. bytes ++ adds.more) so_far.bytes_are)
         })
 
       pub front_shaped : All IsShaped (lines_of decoded)
@@ -138,8 +140,7 @@ module _ (text rest : Text) (bytes new : List ℕ) (so_far : HasDecoded text res
     pub all_decoded : AreDecoded (lines_of text) bytes
     all_decoded = subst (λ (lines : List Text). AreDecoded lines bytes) (sym all_lines) (record {
         tell = all_tell so_far.front so_far.shaped;
-        after = [];
-        begin = so_far.bytes_are ∙ sym (append-nil (flat_map member_bytes (members_in so_far.front)))
+        begin = begins_with (flat_map member_bytes (members_in so_far.front)) [] bytes (so_far.bytes_are ∙ sym (append-nil (flat_map member_bytes (members_in so_far.front))))
       })
 
     pub all_shaped : All IsShaped (lines_of text)

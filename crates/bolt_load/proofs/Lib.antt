@@ -3,5 +3,7 @@ pub mod DecimalNumbers
 pub mod DecodedLines
 pub mod LineLemmas
 pub mod MemberLemmas
+pub mod NextLines
 pub mod PathLemmas
+pub mod PushedParts
 pub mod WordLemmas

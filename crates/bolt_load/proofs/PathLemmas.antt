@@ -30,7 +30,7 @@ digits_are digits bytes is = (decode_of-ok digits bytes (ok_is (decode_of digits
 abbrev pub put_before : Path → Option Path → Option Path
 put_before front found = option_map (λ path. front ++ path) found
 
-abbrev with_part : Option Key → Option Path → Option Path
+abbrev pub with_part : Option Key → Option Path → Option Path
 with_part part rest = option_and_then (λ part. option_map (λ parts. part ∷ parts) rest) part
 
 pub first_part : (word part after : Text) → IsCut 47 word part after → hex_path_in word ≡ with_part (part_in part) (hex_path_in after)
@@ -148,7 +148,7 @@ some_else : {A : Type 0} (b : Bool) (x : Option A) (a : A) → (if b then None e
 some_else true x a is = absurd (let f : None ≡ Some a = is in cc)
 some_else false x a is = is
 
-part_is : (word : Text) (key : Key) → part_in word ≡ Some key → hex_bytes_in word ≡ Some key
+pub part_is : (word : Text) (key : Key) → part_in word ≡ Some key → hex_bytes_in word ≡ Some key
 part_is word key is = some_else (length word == 0) (hex_bytes_in word) key is
 
 -- half as many bytes as digits
@@ -158,7 +158,7 @@ halved digits bytes is = let twice = digits_are digits bytes is in omega (arith,
 pub long_part : (word : Text) (key : Key) → part_in word ≡ Some key → nat_lt 0x40000000 (length word / 2) ≡ is_long_key key
 long_part word key is = ap (nat_lt 0x40000000) (halved word key (part_is word key is))
 
-with_some : (found : Option Key) (rest : Option Path) (path : Path) → with_part found rest ≡ Some path → (key : Key) × (path' : Path) × (found ≡ Some key) × (rest ≡ Some path') × (path ≡ key ∷ path')
+pub with_some : (found : Option Key) (rest : Option Path) (path : Path) → with_part found rest ≡ Some path → (key : Key) × (path' : Path) × (found ≡ Some key) × (rest ≡ Some path') × (path ≡ key ∷ path')
 with_some None rest path is = absurd (let f : None ≡ Some path = is in cc)
 with_some (Some key) None path is = absurd (let f : None ≡ Some path = is in cc)
 with_some (Some key) (Some path') path is = (key, path', refl, refl, (let f : Some (key ∷ path') ≡ Some path = is in cc))

@@ -27,8 +27,8 @@ pub struct LineMembers<'a> {
     path: Vec<&'a [u8]>,
     /// The path before that one.
     path_before: Vec<&'a [u8]>,
-    ghost whole: { ∥ AreDecoded (lines_of text.now) bytes.now ∥₁ },
-    ghost ahead: { ∥ AreDecoded (lines_of text_left.now) bytes_left.now ∥₁ },
+    ghost whole: { AreDecoded (lines_of text.now) bytes.now },
+    ghost ahead: { AreDecoded (lines_of text_left.now) bytes_left.now },
 }
 
 #[tactic(auto, unfolding(crate::specs::ShownMembers::members_before, crate::specs::ShownMembers::members_left, crate::specs::ShownMembers::members_path, crate::specs::ShownMembers::members_text))]

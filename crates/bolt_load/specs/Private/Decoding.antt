@@ -1,5 +1,5 @@
 -- The bytes that a text has in hexadecimal, one line after another.
-use Rattle.std.specs.Prelude.{◌≡◌, ◌<◌, ℕ, List, [], ◌∷◌, ◌++◌, All, IsSome, Option, Some, None, length, flat_map}
+use Rattle.std.specs.Prelude.{◌≡◌, ◌<◌, ℕ, List, [], ◌∷◌, ◌++◌, All, IsSome, Option, Some, None, length, take, flat_map}
 use Rattle.bolt_tree.specs.Entries.{Bucket, Item, Value}
 use Rattle.bolt_tree.specs.Listing.{Member}
 use Rattle.bolt_tree.specs.Paths.{Path}
@@ -18,6 +18,9 @@ item_bytes (Bucket sequence) = []
 abbrev pub member_bytes : Member → List ℕ
 member_bytes member = path_bytes member.0 ++ item_bytes member.1
 
+abbrev pub listing_bytes : List Member → List ℕ
+listing_bytes listing = flat_map member_bytes listing
+
 -- Bytes were added at the end: these, if there are such.
 pub record Adds (found : Option (List ℕ)) (old new : List ℕ) : Type 0 where
   pub more : List ℕ
@@ -27,8 +30,7 @@ pub record Adds (found : Option (List ℕ)) (old new : List ℕ) : Type 0 where
 -- each of these lines tells a member, and the bytes begin with those of all of them
 pub record AreDecoded (lines : List Text) (bytes : List ℕ) : Type 0 where
   pub tell : All (λ line. IsSome (line_member line)) lines
-  pub after : List ℕ
-  pub begin : bytes ≡ flat_map member_bytes (members_in lines) ++ after
+  pub begin : take (length (listing_bytes (members_in lines))) bytes ≡ listing_bytes (members_in lines)
 
 -- a front of the bytes
 pub record BeginsWith (front bytes : List ℕ) : Type 0 where
