@@ -20,10 +20,10 @@ told_by : (found : Option Member) → IsSome found → (member : Member) × (fou
 told_by None some = absurd (let f : false ≡ true = some in cc)
 told_by (Some member) some = (member, refl)
 
-first_of : (P : Text → Type 0) (line : Text) (lines : List Text) → All P (line ∷ lines) → P line
+pub first_of : (P : Text → Type 0) (line : Text) (lines : List Text) → All P (line ∷ lines) → P line
 first_of P line lines all = all 0 line (omega arith)
 
-others_of : (P : Text → Type 0) (line : Text) (lines : List Text) → All P (line ∷ lines) → All P lines
+pub others_of : (P : Text → Type 0) (line : Text) (lines : List Text) → All P (line ∷ lines) → All P lines
 others_of P line lines all = λ k d below. all (suc k) d (omega (arith, below))
 
 module _ (line : Text) (lines : List Text) (member : Member) (is : line_member line ≡ Some member) where
@@ -33,7 +33,7 @@ module _ (line : Text) (lines : List Text) (member : Member) (is : line_member l
 some_is : {A : Type 0} (a b : A) → Some a ≡ Some b → a ≡ b
 some_is a b is = cc
 
-parts_of : (path : Option Path) (item : Option Item) (member : Member) → member_of path item ≡ Some member → (path ≡ Some member.0) × (item ≡ Some member.1)
+pub parts_of : (path : Option Path) (item : Option Item) (member : Member) → member_of path item ≡ Some member → (path ≡ Some member.0) × (item ≡ Some member.1)
 parts_of None item member is = absurd (let f : None ≡ Some member = is in cc)
 parts_of (Some path) None member is = absurd (let f : None ≡ Some member = is in cc)
 parts_of (Some path) (Some item) member is = let same = some_is (path, item) member is in (ap (λ (m : Member). Some m.0) same, ap (λ (m : Member). Some m.1) same)

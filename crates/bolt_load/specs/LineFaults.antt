@@ -11,6 +11,8 @@ use Rattle.bolt_tree.specs.Paths.{Path, path_cmp}
 use Rattle.bolt_load.specs.LineMembers.{line_member, members_in}
 use Rattle.bolt_load.specs.Lines.{Text, lines_of}
 use Rattle.bolt_load.specs.declared.fault.LineFault.{LineFault}
+use Rattle.bolt_load.specs.declared.fault.LoadFault.{LoadFault}
+use Rattle.bolt_load.specs.declared.fault.LoadFault.TheVariants.{Line, Memory}
 use Rattle.bolt_load.specs.declared.fault.LineFault.TheVariants.{KeyTooLong, NoBucketAbove, NotALine, PathNotRising, ValueTooLong}
 
 -- more bytes than a key can have, or a value
@@ -65,3 +67,8 @@ pub record IsFirstFault (text : Text) (number : ℕ) (fault : LineFault) : Type 
   pub number_is : number ≡ length front + 1
   pub right : RightAfter [] front
   pub fault_is : line_fault (members_in front) line ≡ Some fault
+
+-- Why a text isn't read. Nothing is said of memory.
+abbrev pub IsLoadFault : Text → LoadFault → Type 0
+IsLoadFault text Memory = Unit {0}
+IsLoadFault text (Line number fault) = IsFirstFault text number fault

@@ -10,7 +10,7 @@ mod ListWrites
 mod PageFaults
 mod PageMapLemmas
 mod PageTableLemmas
-mod PartTests
+pub mod PartTests
 mod Pieces
 mod PrefixLemmas
 mod PrefixSteps
