@@ -98,7 +98,7 @@ module _ (text rest : Text) (bytes new : List ℕ) (so_far : HasDecoded text res
               adds.added
               ∙ ap (λ bytes. bytes ++ adds.more) so_far.bytes_are
               ∙ ap (λ more. flat_map member_bytes (members_in so_far.front) ++ more) more
-              ∙ sym (ap (flat_map member_bytes) (members_push so_far.front line found.0 found.1) ∙ bytes_push (members_in so_far.front) found.0)
+              ∙ sym (ap (flat_map member_bytes) (members_push so_far.front line found.0 found.1) ∙ bytes_push (members_in so_far.front) found.0);
         }
 
     head_lines : lines_of so_far.head ≡ so_far.front
@@ -117,9 +117,9 @@ module _ (text rest : Text) (bytes new : List ℕ) (so_far : HasDecoded text res
 
       pub front_decoded : {found : Option (List ℕ)} → Adds found bytes new → AreDecoded (lines_of decoded) new
       front_decoded adds = subst (λ (lines : List Text). AreDecoded lines new) (sym decoded_lines) (record {
-          tell = all_tell so_far.front so_far.shaped;
-          begin = begins_with (flat_map member_bytes (members_in so_far.front)) adds.more new (adds.added ∙ ap (λ bytes. bytes ++ adds.more) so_far.bytes_are)
-        })
+        tell = all_tell so_far.front so_far.shaped;
+        begin = begins_with (flat_map member_bytes (members_in so_far.front)) adds.more new (adds.added ∙ ap (λ bytes. bytes ++ adds.more) so_far.bytes_are);
+      })
 
       pub front_shaped : All IsShaped (lines_of decoded)
       front_shaped = subst (All IsShaped) (sym decoded_lines) so_far.shaped
@@ -127,11 +127,11 @@ module _ (text rest : Text) (bytes new : List ℕ) (so_far : HasDecoded text res
       pub stops : (fault : Option LineFault) → fault ≡ shape_fault line → IfSome fault (StopsAt text decoded)
       stops None shape = tt
       stops (Some fault) shape = record {
-          line = line;
-          rest = lines_of after;
-          lines = so_far.lines ∙ ap (λ lines. so_far.front ++ lines) first.lines ∙ ap (λ front. front ++ line ∷ lines_of after) (sym decoded_lines);
-          fault_is = sym shape
-        }
+        line = line;
+        rest = lines_of after;
+        lines = so_far.lines ∙ ap (λ lines. so_far.front ++ lines) first.lines ∙ ap (λ front. front ++ line ∷ lines_of after) (sym decoded_lines);
+        fault_is = sym shape;
+      }
 
   module _ (none : rest ≡ []) where
     all_lines : lines_of text ≡ so_far.front
@@ -139,9 +139,9 @@ module _ (text rest : Text) (bytes new : List ℕ) (so_far : HasDecoded text res
 
     pub all_decoded : AreDecoded (lines_of text) bytes
     all_decoded = subst (λ (lines : List Text). AreDecoded lines bytes) (sym all_lines) (record {
-        tell = all_tell so_far.front so_far.shaped;
-        begin = begins_with (flat_map member_bytes (members_in so_far.front)) [] bytes (so_far.bytes_are ∙ sym (append-nil (flat_map member_bytes (members_in so_far.front))))
-      })
+      tell = all_tell so_far.front so_far.shaped;
+      begin = begins_with (flat_map member_bytes (members_in so_far.front)) [] bytes (so_far.bytes_are ∙ sym (append-nil (flat_map member_bytes (members_in so_far.front))));
+    })
 
     pub all_shaped : All IsShaped (lines_of text)
     all_shaped = subst (All IsShaped) (sym all_lines) so_far.shaped

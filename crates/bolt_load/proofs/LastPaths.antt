@@ -146,7 +146,7 @@ module _ (before : List Member) (last : Path) (bucket : Bool) (is : IsLast befor
     key : Key
     key = (split_last path some).0
 
-    path_open : path_cmp last path ≡ Less → has_bucket (path_above path) before ≡ is_open last bucket (path_above path)
+    pub path_open : path_cmp last path ≡ Less → has_bucket (path_above path) before ≡ is_open last bucket (path_above path)
     path_open less = open_same (path_above path) (split_last path some).0 (sym (ap (path_cmp last) (split_last path some).1) ∙ less)
 
     pub place_same : (item : Item) → place_fault before (path, item) ≡ fault_after last bucket path
@@ -167,15 +167,15 @@ has_more path before more has = elim (or_cases (length path == 0) (list_any (is_
   | inl root ↦ or_left (length path == 0) (list_any (is_bucket_at path) (before ++ more)) root
   | inr any ↦
       or_right (length path == 0) (list_any (is_bucket_at path) (before ++ more))
-        (list_any-append (is_bucket_at path) before more ∙ or_left (list_any (is_bucket_at path) before) (list_any (is_bucket_at path) more) any)
+      (list_any-append (is_bucket_at path) before more ∙ or_left (list_any (is_bucket_at path) before) (list_any (is_bucket_at path) more) any)
 ]
 
 has_new : (path : Path) (item : Item) (before : List Member) → is_bucket item ≡ true → has_bucket path (before ++ (path, item) ∷ []) ≡ true
 has_new path item before kind =
     let here : is_bucket_at path (path, item) ≡ true = ap (λ b. b && is_bucket item) (path_itself path) ∙ kind in
     or_right (length path == 0) (list_any (is_bucket_at path) (before ++ (path, item) ∷ []))
-      (list_any-append (is_bucket_at path) before ((path, item) ∷ [])
-        ∙ or_right (list_any (is_bucket_at path) before) (list_any (is_bucket_at path) ((path, item) ∷ [])) (or_left (is_bucket_at path (path, item)) false here))
+    (list_any-append (is_bucket_at path) before ((path, item) ∷ [])
+    ∙ or_right (list_any (is_bucket_at path) before) (list_any (is_bucket_at path) ((path, item) ∷ [])) (or_left (is_bucket_at path (path, item)) false here))
 
 last_of : (before : List Member) (member : Member) → slice_get (before ++ member ∷ []) (length (before ++ member ∷ []) - 1) ≡ Some member
 last_of before member =
@@ -228,8 +228,8 @@ module _ (before : List Member) (last : Path) (bucket : Bool) (is : IsLast befor
 
   pub next_last : IsLast (before ++ (path, item) ∷ []) path (is_bucket item)
   next_last = record {
-      most = now_most;
-      opens = now_opens;
-      above = λ next some. ap (λ (found : Option Member). option_map_or (λ (last : Member). is_lt (path_cmp last.0 next)) found true) (last_of before (path, item));
-      root = now_root
-    }
+    most = now_most;
+    opens = now_opens;
+    above = λ next some. ap (λ (found : Option Member). option_map_or (λ (last : Member). is_lt (path_cmp last.0 next)) found true) (last_of before (path, item));
+    root = now_root;
+  }

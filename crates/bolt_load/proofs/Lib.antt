@@ -9,4 +9,5 @@ pub mod OpenTests
 pub mod PathLemmas
 pub mod PlacedLines
 pub mod PushedParts
+pub mod ReadTexts
 pub mod WordLemmas

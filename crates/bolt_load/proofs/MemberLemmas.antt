@@ -64,23 +64,23 @@ both_added old middle new first second is more = more ∙ ap (λ bytes. bytes ++
 pub member_added : (path : Option Path) (item : Option Item) (old middle new : List ℕ) → Adds (option_map path_bytes path) old middle → Adds (option_map item_bytes item) middle new
     → Adds (option_map member_bytes (member_of path item)) old new
 member_added None item old middle new first second = record {
-    more = first.more ++ second.more;
-    added = both_added old middle new first.more second.more first.added second.added;
-    are = λ bytes is. absurd (let f : None ≡ Some bytes = is in cc)
-  }
+  more = first.more ++ second.more;
+  added = both_added old middle new first.more second.more first.added second.added;
+  are = λ bytes is. absurd (let f : None ≡ Some bytes = is in cc);
+}
 member_added (Some path) None old middle new first second = record {
-    more = first.more ++ second.more;
-    added = both_added old middle new first.more second.more first.added second.added;
-    are = λ bytes is. absurd (let f : None ≡ Some bytes = is in cc)
-  }
+  more = first.more ++ second.more;
+  added = both_added old middle new first.more second.more first.added second.added;
+  are = λ bytes is. absurd (let f : None ≡ Some bytes = is in cc);
+}
 member_added (Some path) (Some item) old middle new first second = record {
-    more = first.more ++ second.more;
-    added = both_added old middle new first.more second.more first.added second.added;
-    are = λ bytes is.
-        let f : Some (path_bytes path ++ item_bytes item) ≡ Some bytes = is in
-        let one = first.are (path_bytes path) refl in
-        let other = second.are (item_bytes item) refl in cc
-  }
+  more = first.more ++ second.more;
+  added = both_added old middle new first.more second.more first.added second.added;
+  are = λ bytes is.
+      let f : Some (path_bytes path ++ item_bytes item) ≡ Some bytes = is in
+      let one = first.are (path_bytes path) refl in
+      let other = second.are (item_bytes item) refl in cc;
+}
 
 -- ---- what is wrong with a line
 

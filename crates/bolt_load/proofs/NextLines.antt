@@ -87,9 +87,9 @@ module _ (text line after : Text) (bytes : List ℕ) (first : IsFirstLine text l
         pub rest_decoded : AreDecoded (lines_of after) rest
         unfolding later
         rest_decoded = record {
-            tell = others_of (λ line. IsSome (line_member line)) line (lines_of after) all_tell;
-            begin = ap (take (length (listing_bytes (text_members after)))) rest_same ∙ take-append_seam (listing_bytes (text_members after)) (drop (length (listing_bytes (text_members text))) bytes)
-          }
+          tell = others_of (λ line. IsSome (line_member line)) line (lines_of after) all_tell;
+          begin = ap (take (length (listing_bytes (text_members after)))) rest_same ∙ take-append_seam (listing_bytes (text_members after)) (drop (length (listing_bytes (text_members text))) bytes);
+        }
 
         member_same : told.0 ≡ (newer, given)
         member_same = ap₂ (λ path item. (path, item)) (sym (pushed told.0.0 both.0).0) item_same

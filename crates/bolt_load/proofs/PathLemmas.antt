@@ -100,15 +100,15 @@ module _ (word rest : Text) (old bytes new : List ℕ) (so_far : AddsParts word 
       record {
         front = so_far.front ++ found.0 ∷ [];
         parts = next_part word rest so_far.front so_far.parts part after found.0 cut found.1;
-        added = more_added adds.more adds.added ∙ ap (λ bytes. old ++ bytes) (ap (λ more. path_bytes so_far.front ++ more) (adds.are found.0 found.1) ∙ sym (path_bytes_push so_far.front found.0))
+        added = more_added adds.more adds.added ∙ ap (λ bytes. old ++ bytes) (ap (λ more. path_bytes so_far.front ++ more) (adds.are found.0 found.1) ∙ sym (path_bytes_push so_far.front found.0));
       }
 
   pub path_refused : (found : Option Key) → hex_path_in word ≡ None → Adds found bytes new → Adds (option_map path_bytes (hex_path_in word)) old new
   path_refused found none adds = record {
-      more = path_bytes so_far.front ++ adds.more;
-      added = more_added adds.more adds.added;
-      are = λ all is. absurd (let f : option_map path_bytes None ≡ Some all = sym (ap (option_map path_bytes) none) ∙ is in cc)
-    }
+    more = path_bytes so_far.front ++ adds.more;
+    added = more_added adds.more adds.added;
+    are = λ all is. absurd (let f : option_map path_bytes None ≡ Some all = sym (ap (option_map path_bytes) none) ∙ is in cc);
+  }
 
   pub path_added : IsWithout 47 rest → Adds (part_in rest) bytes new → Adds (option_map path_bytes (hex_path_in word)) old new
   path_added without adds = at (part_in rest) refl
@@ -122,7 +122,7 @@ module _ (word rest : Text) (old bytes new : List ℕ) (so_far : AddsParts word 
             added = more_added adds.more adds.added;
             are = λ all is.
                 let same : Some (path_bytes (so_far.front ++ key ∷ [])) ≡ Some all = sym (ap (option_map path_bytes) whole) ∙ is in
-                let last = ap (λ more. path_bytes so_far.front ++ more) (adds.are key found) ∙ sym (path_bytes_push so_far.front key) in cc
+                let last = ap (λ more. path_bytes so_far.front ++ more) (adds.are key found) ∙ sym (path_bytes_push so_far.front key) in cc;
           }
 
   pub path_good : IsWithout 47 rest → is_some (part_in rest) ≡ is_some (option_map path_bytes (hex_path_in word))

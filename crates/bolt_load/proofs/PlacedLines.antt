@@ -1,16 +1,17 @@
 -- The places of lines are tested one after another.
-use Rattle.std.proofs.Common.{◌≡◌, ◌∙◌, ◌<◌, ◌≤◌, ◌+◌, ◌==◌, ℕ, Bool, true, false, List, [], ◌∷◌, ◌++◌, Option, Some, None, length, refl, sym, ap, subst, arith, append_assoc, append-nil, length-append}
+use Rattle.std.proofs.Common.{◌≡◌, ◌∙◌, ◌<◌, ◌≤◌, ◌+◌, ◌==◌, ℕ, Bool, true, false, List, [], ◌∷◌, ◌++◌, Option, Some, None, length, Bor, refl, sym, ap, ap₂, subst, arith, append_assoc, append-nil, length-append}
 use Rattle.std.specs.List.{All, slice_split}
 use Rattle.std.specs.Option.{option_map_or, option_or}
 use Rattle.std.specs.Ordering.{is_lt}
 use Rattle.std.specs.Prelude.{option_and_then, option_map}
 use Rattle.std.specs.declared.cmp.Ordering.TheVariants.{Less}
+use Rattle.std.proofs.lemmas.List.{length-map}
 use Rattle.std.proofs.lemmas.List.Elements.{filter_map-append}
 use Rattle.bolt_check.specs.Keys.{Key}
 use Rattle.bolt_tree.specs.Entries.{Item}
 use Rattle.bolt_tree.specs.Listing.{Member}
 use Rattle.bolt_tree.specs.ListingParts.{has_bucket, is_bucket}
-use Rattle.bolt_tree.specs.Paths.{Path, path_cmp}
+use Rattle.bolt_tree.specs.Paths.{Path, path_cmp, path_of}
 use Rattle.bolt_tree.proofs.PathOrder.{less_lt}
 use Rattle.bolt_load.specs.HexPaths.{hex_path_in, part_in, parts_in}
 use Rattle.bolt_load.specs.LineFaults.{IsFirstFault, RightAfter, line_fault, path_above, place_fault, shape_fault}
@@ -61,9 +62,11 @@ fault_is_of_place before line member shaped is =
 
 right_push : (before : List Member) (front : List Text) (line : Text) → RightAfter before front → line_fault (before ++ members_in front) line ≡ None → RightAfter before (front ++ line ∷ [])
 right_push before [] line right good = (sym (ap (λ before. line_fault before line) (append-nil before)) ∙ good, tt)
-right_push before (first ∷ front) line right good =
-    (right.0, right_push (before ++ members_in (first ∷ [])) front line right.1
-      (ap (λ before. line_fault before line) (append_assoc before (members_in (first ∷ [])) (members_in front) ∙ ap (λ more. before ++ more) (sym (filter_map-append line_member (first ∷ []) front))) ∙ good))
+right_push before (first ∷ front) line right good = (
+  right.0,
+  right_push (before ++ members_in (first ∷ [])) front line right.1
+      (ap (λ before. line_fault before line) (append_assoc before (members_in (first ∷ [])) (members_in front) ∙ ap (λ more. before ++ more) (sym (filter_map-append line_member (first ∷ []) front))) ∙ good),
+)
 
 -- ---- the lines so far
 
@@ -117,19 +120,19 @@ module _ (text left : Text) (last : Path) (bucket : Bool) (number : ℕ) (so_far
           shaped = others_of IsShaped given.0 (lines_of after) (subst (All IsShaped) given.1 so_far.shaped);
           right = right_push [] so_far.front given.0 so_far.right (fault_here ∙ none);
           last_is = subst (λ (members : List Member). IsLast members path (is_bucket item)) (sym (members_push so_far.front given.0 (path, item) given.2))
-            (next_last (members_in so_far.front) last bucket so_far.last_is path item path_some less (path_open (members_in so_far.front) last bucket so_far.last_is path path_some less ∙ both.1))
+              (next_last (members_in so_far.front) last bucket so_far.last_is path item path_some less (path_open (members_in so_far.front) last bucket so_far.last_is path path_some less ∙ both.1));
         }
 
     pub line_refused : (fault : LineFault) → Some fault ≡ fault_after last bucket path → IsFirstFault text (number + 1) fault
     line_refused fault is = record {
-        front = so_far.front;
-        line = given.0;
-        rest = lines_of after;
-        lines = lines_here;
-        number_is = ap (λ n. n + 1) so_far.number_is;
-        right = so_far.right;
-        fault_is = fault_here ∙ sym is
-      }
+      front = so_far.front;
+      line = given.0;
+      rest = lines_of after;
+      lines = lines_here;
+      number_is = ap (λ n. n + 1) so_far.number_is;
+      right = so_far.right;
+      fault_is = fault_here ∙ sym is;
+    }
 
   module _ (none : lines_of left ≡ []) where
     all_lines : lines_of text ≡ so_far.front
@@ -140,3 +143,16 @@ module _ (text left : Text) (last : Path) (bucket : Bool) (number : ℕ) (so_far
 
     pub all_right : RightAfter [] (lines_of text)
     all_right = subst (RightAfter []) (sym all_lines) so_far.right
+
+-- ---- as the code holds paths
+
+pub begun : (text left : Text) (path : Path) → All IsShaped (lines_of text) → left ≡ text → path ≡ [] → HasPlaced text left path true 0
+begun text left path shaped left_is path_is =
+    subst (λ (left : Text). HasPlaced text left path true 0) (sym left_is) (subst (λ (path : Path). HasPlaced text text path true 0) (sym path_is) (none_placed text shaped))
+
+pub fault_of_slices : (last path : Path) (bucket : Bool) (last_parts path_parts : List (Bor (List ℕ))) (result : Option LineFault) → result ≡ fault_after (path_of last_parts) bucket (path_of path_parts)
+    → path_of last_parts ≡ last → path_of path_parts ≡ path → result ≡ fault_after last bucket path
+fault_of_slices last path bucket last_parts path_parts result is last_is path_is = is ∙ ap₂ (λ last path. fault_after last bucket path) last_is path_is
+
+pub slices_some : (path : Path) (parts : List (Bor (List ℕ))) → path_of parts ≡ path → 0 < length path → 0 < length parts
+slices_some path parts is some = let many = length-map parts (λ (part : Bor (List ℕ)). part.now) in let l = ap length is in omega (arith, many, l, some)

@@ -58,8 +58,15 @@ none_pushed word bytes old told = at (hex_path_in word) refl told
     at : (found : Option Path) → hex_path_in word ≡ found → IsSomeAnd found (λ told. BeginsWith (path_bytes told) bytes) → PushesParts word word bytes bytes old old
     at None is told = absurd told
     at (Some path) is told = record {
-        front = []; left = path; after = told.after; told = is; left_told = is; pushed = sym (append-nil old); whole = refl; next = told.whole
-      }
+      front = [];
+      left = path;
+      after = told.after;
+      told = is;
+      left_told = is;
+      pushed = sym (append-nil old);
+      whole = refl;
+      next = told.whole;
+    }
 
 module _ (word rest : Text) (bytes bytes_left : List ℕ) (old new : Path) (so_far : PushesParts word rest bytes bytes_left old new) where
   module _ (part : Text) (key : Key) (path : Path) (part_told : part_in part ≡ Some key) (left_is : so_far.left ≡ key ∷ path) where
@@ -99,15 +106,15 @@ module _ (word rest : Text) (bytes bytes_left : List ℕ) (old new : Path) (so_f
     pub part_pushed : (slice rest_bytes : List ℕ) (newer : Path) → slice ≡ take (length part / 2) bytes_left → rest_bytes ≡ drop (length part / 2) bytes_left
         → newer ≡ new ++ slice ∷ [] → PushesParts word after bytes rest_bytes old newer
     part_pushed slice rest_bytes newer slice_is rest_is more = record {
-        front = so_far.front ++ found.0 ∷ [];
-        left = found.1;
-        after = so_far.after;
-        told = now_told part found.0 found.1 found.2 found.4 slice rest_bytes newer slice_is rest_is more;
-        left_told = found.3;
-        pushed = now_pushed part found.0 found.1 found.2 found.4 slice rest_bytes newer slice_is rest_is more;
-        whole = now_whole part found.0 found.1 found.2 found.4 slice rest_bytes newer slice_is rest_is more;
-        next = now_next part found.0 found.1 found.2 found.4 slice rest_bytes newer slice_is rest_is more
-      }
+      front = so_far.front ++ found.0 ∷ [];
+      left = found.1;
+      after = so_far.after;
+      told = now_told part found.0 found.1 found.2 found.4 slice rest_bytes newer slice_is rest_is more;
+      left_told = found.3;
+      pushed = now_pushed part found.0 found.1 found.2 found.4 slice rest_bytes newer slice_is rest_is more;
+      whole = now_whole part found.0 found.1 found.2 found.4 slice rest_bytes newer slice_is rest_is more;
+      next = now_next part found.0 found.1 found.2 found.4 slice rest_bytes newer slice_is rest_is more;
+    }
 
   module _ (without : IsWithout 47 rest) where
     last : (key : Key) × (path : Path) × (part_in rest ≡ Some key) × (Some [] ≡ Some path) × (so_far.left ≡ key ∷ path)
@@ -124,8 +131,7 @@ module _ (word rest : Text) (bytes bytes_left : List ℕ) (old new : Path) (so_f
     all_pushed slice rest_bytes newer slice_is rest_is more told is =
         let all = now_told rest last.0 [] last.2 last_is slice rest_bytes newer slice_is rest_is more ∙ ap Some (append-nil (so_far.front ++ last.0 ∷ [])) in
         let f : Some (so_far.front ++ last.0 ∷ []) ≡ Some told = sym all ∙ is in
-        let same : so_far.front ++ last.0 ∷ [] ≡ told = cc in
-        (
+        let same : so_far.front ++ last.0 ∷ [] ≡ told = cc in (
           now_pushed rest last.0 [] last.2 last_is slice rest_bytes newer slice_is rest_is more ∙ ap (λ told. old ++ told) same,
           now_whole rest last.0 [] last.2 last_is slice rest_bytes newer slice_is rest_is more ∙ ap (λ told. path_bytes told ++ rest_bytes) same,
         )

@@ -1,7 +1,7 @@
 //! Tests the order of lines, and that each stands below the line of its bucket.
 ghost use Rattle.std.specs.List.{All};
 ghost use Rattle.std.specs.Ordering.{is_lt};
-ghost use Rattle.std.specs.Prelude.{◌≡◌, ◌<◌, [], IfErr, IfOk, OnOk, None, length};
+ghost use Rattle.std.specs.Prelude.{◌≡◌, ◌<◌, ◌≤◌, [], IfErr, IfOk, OnOk, None, length};
 ghost use Rattle.bolt_tree.specs.ListingParts.{begins_with};
 ghost use Rattle.bolt_tree.specs.Paths.{path_cmp, path_of};
 ghost use Rattle.bolt_load.specs.LineFaults as faults;
@@ -65,6 +65,7 @@ pub(crate) fn test_places(alloc: Global, text: &[u8], bytes: &[u8]) -> Result<u6
     requires decoded { AreDecoded (lines_of text.now) bytes.now }
     requires shaped { All (λ line. shape_fault line ≡ None) (lines_of text.now) }
     ensures lines { IfOk result (λ lines. lines ≡ length (lines_of text.now)) }
+    ensures few { IfOk result (λ lines. lines ≤ length text.now) }
     ensures right { OnOk result (RightAfter [] (lines_of text.now)) }
     ensures fault { IfErr result (IsLoadFault text.now) }
 {

@@ -26,7 +26,7 @@ pub loop-line-preserved : goal.loop-line-preserved
 loop-line-preserved c =
     let none = is_none c.in_ok-fault.fault (sym c.is_some.ensures ∙ c.if-is_some.false) in
     line_decoded c.args.text.now c.loop-line.rest.now c.loop-line.bytes.items c.add_line.new.bytes.items c.loop-line.invariant c.in-Some.line.now c.in-Some.after.now c.in-Some.ensures
-      (sym none ∙ c.in_ok-fault.ensures.fault) c.in_ok-fault.ensures.added
+    (sym none ∙ c.in_ok-fault.ensures.fault) c.in_ok-fault.ensures.added
 
 pub returns-clause-decoded : goal.returns-clause-decoded
 returns-clause-decoded c = all_decoded c.args.text.now c.loop-line.rest.now c.loop-line.bytes.items [] c.loop-line.invariant c.in_default.ensures

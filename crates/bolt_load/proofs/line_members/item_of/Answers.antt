@@ -13,4 +13,4 @@ split_at-requires c = value_fits c.in-Digits.digits.now c.args.bytes.now (subst 
 pub returns-in-Digits-clause-item : goal.returns-in-Digits-clause-item
 returns-in-Digits-clause-item c =
     value_is c.in-Digits.digits.now c.args.bytes.now (subst (λ (word : ItemWord). IsSomeAnd (word_item word) (λ told. BeginsWith (item_bytes told) c.args.bytes.now)) c.in-Digits.is c.requires)
-      c.split_at.result.0.now c.split_at.ensures.front ∙ sym (ap word_item c.in-Digits.is)
+    c.split_at.result.0.now c.split_at.ensures.front ∙ sym (ap word_item c.in-Digits.is)

@@ -23,42 +23,42 @@ unreachable-requires c = no_words c.args.self.now.text_left.now c.in-Some.line.n
 
 pub push_parts-requires : goal.push_parts-requires
 push_parts-requires c = path_begins c.args.self.now.text_left.now c.in-Some.line.now c.in-Some.text_left.now c.args.self.now.bytes_left.now c.in-Some.ensures c.args.self.now.ahead
-      (hex_path_in c.in-Some-words_of.words.path.now) (word_item c.in-Some-words_of.words.item) c.in-Some-words_of.ensures
+    (hex_path_in c.in-Some-words_of.words.path.now) (word_item c.in-Some-words_of.words.item) c.in-Some-words_of.ensures
 
 pub item_of-requires : goal.item_of-requires
 item_of-requires c = item_begins c.args.self.now.text_left.now c.in-Some.line.now c.in-Some.text_left.now c.args.self.now.bytes_left.now c.in-Some.ensures c.args.self.now.ahead
-      (hex_path_in c.in-Some-words_of.words.path.now) (word_item c.in-Some-words_of.words.item) c.in-Some-words_of.ensures
-      (path_of c.push_parts.new.path.items) c.in_ok-bytes_left.bytes_left.now
-      (pushed_onto_none (hex_path_in c.in-Some-words_of.words.path.now) (path_of c.clear-2.new.self.items) (path_of c.push_parts.new.path.items) c.args.self.now.bytes_left.now c.in_ok-bytes_left.bytes_left.now
-        (ap path_of c.clear-2.ensures.items) c.in_ok-bytes_left.ensures)
+    (hex_path_in c.in-Some-words_of.words.path.now) (word_item c.in-Some-words_of.words.item) c.in-Some-words_of.ensures
+    (path_of c.push_parts.new.path.items) c.in_ok-bytes_left.bytes_left.now
+    (pushed_onto_none (hex_path_in c.in-Some-words_of.words.path.now) (path_of c.clear-2.new.self.items) (path_of c.push_parts.new.path.items) c.args.self.now.bytes_left.now c.in_ok-bytes_left.bytes_left.now
+    (ap path_of c.clear-2.ensures.items) c.in_ok-bytes_left.ensures)
 
 pub invariant_of-self-2 : goal.invariant_of-self-2
 invariant_of-self-2 c = record {
-    whole = c.args.self.now.whole;
-    ahead = rest_decoded c.args.self.now.text_left.now c.in-Some.line.now c.in-Some.text_left.now c.args.self.now.bytes_left.now c.in-Some.ensures c.args.self.now.ahead
+  whole = c.args.self.now.whole;
+  ahead = rest_decoded c.args.self.now.text_left.now c.in-Some.line.now c.in-Some.text_left.now c.args.self.now.bytes_left.now c.in-Some.ensures c.args.self.now.ahead
       (hex_path_in c.in-Some-words_of.words.path.now) (word_item c.in-Some-words_of.words.item) c.in-Some-words_of.ensures
       (path_of c.push_parts.new.path.items) c.in_ok-bytes_left.bytes_left.now
       (pushed_onto_none (hex_path_in c.in-Some-words_of.words.path.now) (path_of c.clear-2.new.self.items) (path_of c.push_parts.new.path.items) c.args.self.now.bytes_left.now c.in_ok-bytes_left.bytes_left.now
-        (ap path_of c.clear-2.ensures.items) c.in_ok-bytes_left.ensures)
-      (item_view c.item_of.result.0) c.item_of.result.1.now c.item_of.ensures.item c.item_of.ensures.rest
-  }
+      (ap path_of c.clear-2.ensures.items) c.in_ok-bytes_left.ensures)
+      (item_view c.item_of.result.0) c.item_of.result.1.now c.item_of.ensures.item c.item_of.ensures.rest;
+}
 
 pub returns-clause-given : goal.returns-clause-given
 unfolding members_left members_path
 returns-clause-given c = gives_next c.args.self.now.text_left.now c.in-Some.line.now c.in-Some.text_left.now c.args.self.now.bytes_left.now c.in-Some.ensures c.args.self.now.ahead
-      (hex_path_in c.in-Some-words_of.words.path.now) (word_item c.in-Some-words_of.words.item) c.in-Some-words_of.ensures
-      (path_of c.push_parts.new.path.items) c.in_ok-bytes_left.bytes_left.now
-      (pushed_onto_none (hex_path_in c.in-Some-words_of.words.path.now) (path_of c.clear-2.new.self.items) (path_of c.push_parts.new.path.items) c.args.self.now.bytes_left.now c.in_ok-bytes_left.bytes_left.now
-        (ap path_of c.clear-2.ensures.items) c.in_ok-bytes_left.ensures)
-      (item_view c.item_of.result.0) c.item_of.result.1.now c.item_of.ensures.item c.item_of.ensures.rest
+    (hex_path_in c.in-Some-words_of.words.path.now) (word_item c.in-Some-words_of.words.item) c.in-Some-words_of.ensures
+    (path_of c.push_parts.new.path.items) c.in_ok-bytes_left.bytes_left.now
+    (pushed_onto_none (hex_path_in c.in-Some-words_of.words.path.now) (path_of c.clear-2.new.self.items) (path_of c.push_parts.new.path.items) c.args.self.now.bytes_left.now c.in_ok-bytes_left.bytes_left.now
+    (ap path_of c.clear-2.ensures.items) c.in_ok-bytes_left.ensures)
+    (item_view c.item_of.result.0) c.item_of.result.1.now c.item_of.ensures.item c.item_of.ensures.rest
     ∙ ap (λ path. (path_of path.items, item_view c.item_of.result.0) ∷ text_members c.in-Some.text_left.now) (sym c.swap.ensures.x_after)
 
 pub returns-clause-lines : goal.returns-clause-lines
 unfolding members_left members_path
 returns-clause-lines c =
     subst (λ (path : Path). GivesLine c.args.self.now.text_left.now c.in-Some.text_left.now (Some (item_view c.item_of.result.0)) path) (ap (λ path. path_of path.items) (sym c.swap.ensures.x_after)) (gives_line c.args.self.now.text_left.now c.in-Some.line.now c.in-Some.text_left.now c.args.self.now.bytes_left.now c.in-Some.ensures c.args.self.now.ahead
-      (hex_path_in c.in-Some-words_of.words.path.now) (word_item c.in-Some-words_of.words.item) c.in-Some-words_of.ensures
-      (path_of c.push_parts.new.path.items) c.in_ok-bytes_left.bytes_left.now
-      (pushed_onto_none (hex_path_in c.in-Some-words_of.words.path.now) (path_of c.clear-2.new.self.items) (path_of c.push_parts.new.path.items) c.args.self.now.bytes_left.now c.in_ok-bytes_left.bytes_left.now
-        (ap path_of c.clear-2.ensures.items) c.in_ok-bytes_left.ensures)
-      (item_view c.item_of.result.0) c.item_of.result.1.now c.item_of.ensures.item c.item_of.ensures.rest)
+    (hex_path_in c.in-Some-words_of.words.path.now) (word_item c.in-Some-words_of.words.item) c.in-Some-words_of.ensures
+    (path_of c.push_parts.new.path.items) c.in_ok-bytes_left.bytes_left.now
+    (pushed_onto_none (hex_path_in c.in-Some-words_of.words.path.now) (path_of c.clear-2.new.self.items) (path_of c.push_parts.new.path.items) c.args.self.now.bytes_left.now c.in_ok-bytes_left.bytes_left.now
+    (ap path_of c.clear-2.ensures.items) c.in_ok-bytes_left.ensures)
+    (item_view c.item_of.result.0) c.item_of.result.1.now c.item_of.ensures.item c.item_of.ensures.rest)
