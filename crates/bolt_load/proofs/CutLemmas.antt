@@ -1,11 +1,10 @@
 -- A text is cut at a byte as `slice_split` cuts it.
-use Rattle.std.proofs.Common.{◌≡◌, ◌∙◌, ◌==◌, ◌<◌, ℕ, List, [], ◌∷◌, ◌++◌, true, false, length, refl, sym, ap, arith, append_assoc, length-append}
+use Rattle.std.proofs.Common.{◌≡◌, ◌∙◌, ◌==◌, ◌<◌, ℕ, [], ◌∷◌, true, length, ap, arith, length-append}
 use Rattle.std.specs.List.{slice_split}
-use Rattle.std.specs.Prelude.{count_by}
 use Rattle.std.proofs.lemmas.List.Splits.{length-slice_split, slice_split_at, slice_split_none}
 use Rattle.std.proofs.lemmas.Bool.Decides.{nat_tests}
-use Rattle.bolt_load.specs.Lines.{Text, lines_of, without_empty_end}
-use Rattle.bolt_load.specs.Private.Cuts.{IsCut, IsFirstLine, IsWithout}
+use Rattle.bolt_load.specs.Lines.{Text}
+use Rattle.bolt_load.specs.Private.Cuts.{IsCut, IsWithout}
 
 itself : (n : ℕ) → (n == n) ≡ true
 itself n = grind (arith, nat_tests)

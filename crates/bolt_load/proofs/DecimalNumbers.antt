@@ -1,8 +1,6 @@
 -- What `parse` makes of a word that is to be a number.
-use Rattle.std.proofs.Common.{◌≡◌, ◌∙◌, ◌<◌, ◌^◌, ◌&&◌, ◌==◌, Bool, ℕ, List, [], ◌∷◌, Option, Some, None, Result, Ok, Err, true, false, codes, length, get_or, inl, inr, refl, sym, ap, ap₂, rules, arith, subst}
-use Rattle.std.specs.Fmt.{decimal}
-use Rattle.std.specs.List.{list_all, list_any}
-use Rattle.std.specs.Prelude.{IsUtf8, ◌≢◌, option_copied, slice_get, zero, suc, MatchResult, IfNone, IfSome, MatchOption, nat_lt, if◌then◌else◌}
+use Rattle.std.proofs.Common.{◌≡◌, ◌<◌, ◌^◌, ◌&&◌, ◌==◌, ℕ, [], ◌∷◌, Option, Some, None, Result, Ok, Err, true, false, length, get_or, refl, sym, ap, rules, arith, subst}
+use Rattle.std.specs.Prelude.{IsUtf8, ◌≢◌, option_copied, slice_get, zero, suc, MatchResult, nat_lt}
 use Rattle.std.specs.Borrow.{Bor}
 use Rattle.std.specs.Option.{option_eq}
 use Rattle.std.specs.Result.{result_ok}
@@ -11,9 +9,8 @@ use Rattle.std.specs.Str.{IsAscii}
 use Rattle.std.specs.Char.{is_ascii_digit}
 use Rattle.std.specs.Str.{all_ascii_digits}
 use Rattle.std.specs.Str.Parse.{ParsesUnsigned}
-use Rattle.std.proofs.lemmas.Bool.{cases_Bool, eqb-true, or_cases, and_left, and_parts, and_right, false_from_ne_true, ltb-true}
+use Rattle.std.proofs.lemmas.Bool.{and_left, and_parts, and_right, false_from_ne_true, ltb-true}
 use Rattle.std.proofs.lemmas.Bool.Decides.{nat_tests}
-use Rattle.std.proofs.lemmas.Fmt.{decimal_nonempty, digits_decimal, digits_value-decimal}
 use Rattle.std.proofs.lemmas.Str.Parse.{IsNumeralModel, numerals_by_weight, parse_plain}
 use Rattle.bolt_load.specs.Lines.{Text}
 use Rattle.bolt_load.specs.LineMembers.{decimal_value, is_number, number_in}

@@ -1,6 +1,6 @@
 -- The lines of a text are decoded one after another.
 use Rattle.std.proofs.Common.{◌≡◌, ◌∙◌, ◌<◌, ◌≤◌, ◌-◌, ℕ, List, [], ◌∷◌, ◌++◌, Option, Some, None, length, get_or, take, refl, sym, ap, subst, arith, append_assoc, append-nil, length-append}
-use Rattle.std.specs.List.{All, filter_map}
+use Rattle.std.specs.List.{All}
 use Rattle.std.specs.Prelude.{zero, suc, IfSome, IsSome, flat_map, option_map}
 use Rattle.std.proofs.lemmas.Grind.{flat_map-append}
 use Rattle.std.proofs.lemmas.List.Elements.{All-append, filter_map-append}

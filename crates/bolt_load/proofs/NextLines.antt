@@ -1,7 +1,7 @@
 -- The next line tells the member whose bytes come next.
-use Rattle.std.proofs.Common.{◌≡◌, ◌∙◌, ◌<◌, ℕ, List, [], ◌∷◌, ◌++◌, Option, Some, None, length, drop, take, refl, sym, ap, ap₂, subst, arith, append_assoc}
+use Rattle.std.proofs.Common.{◌≡◌, ◌∙◌, ℕ, List, [], ◌∷◌, ◌++◌, Option, Some, None, length, drop, take, refl, sym, ap, ap₂, subst, arith, append_assoc}
 use Rattle.std.specs.List.{All}
-use Rattle.std.specs.Prelude.{true, false, zero, suc, IsSome, IsSomeAnd, flat_map, is_some}
+use Rattle.std.specs.Prelude.{true, false, suc, IsSome, IsSomeAnd}
 use Rattle.std.proofs.Math.Seq.{drop-append_seam, take-append_seam}
 use Rattle.std.proofs.lemmas.List.{take-append-drop}
 use Rattle.bolt_tree.specs.Entries.{Item}

@@ -1,7 +1,7 @@
 -- A path in hexadecimal is read part by part.
 use Rattle.std.proofs.Common.{◌≡◌, ◌∙◌, ◌==◌, ◌<◌, ◌≤◌, ◌*◌, ℕ, Bool, true, false, List, [], ◌∷◌, ◌++◌, Option, Some, None, length, refl, sym, ap, arith, append_assoc, append-nil}
-use Rattle.std.specs.List.{list_any, slice_split}
-use Rattle.std.specs.Prelude.{◌/◌, if◌then◌else◌, ◌||◌, Result, Ok, Err, nat_lt, flat_map, is_some, option_and_then, option_map}
+use Rattle.std.specs.List.{list_any}
+use Rattle.std.specs.Prelude.{◌/◌, if◌then◌else◌, ◌||◌, Result, Ok, Err, nat_lt, is_some, option_and_then, option_map}
 use Rattle.std.specs.Result.{result_ok}
 use Rattle.std.proofs.Math.Bool.{or-false}
 use Rattle.hex.specs.Hex.{decode_of}

@@ -1,9 +1,9 @@
 -- The parts of a path are found again in the bytes that were decoded.
-use Rattle.std.proofs.Common.{◌≡◌, ◌∙◌, ◌≤◌, ◌+◌, ℕ, List, [], ◌∷◌, ◌++◌, Option, Some, None, length, take, drop, refl, sym, ap, arith, append_assoc, append-nil, length-append}
+use Rattle.std.proofs.Common.{◌≡◌, ◌∙◌, ◌≤◌, ℕ, List, [], ◌∷◌, ◌++◌, Option, Some, None, length, take, drop, refl, sym, ap, arith, append_assoc, append-nil, length-append}
 use Rattle.std.specs.Prelude.{◌/◌, IsSomeAnd, option_map}
 use Rattle.std.proofs.Math.Seq.{drop-append_seam, take-append_seam}
 use Rattle.bolt_check.specs.Keys.{Key}
-use Rattle.bolt_tree.specs.Entries.{Item, Value}
+use Rattle.bolt_tree.specs.Entries.{Value}
 use Rattle.bolt_tree.specs.Paths.{Path}
 use Rattle.bolt_load.specs.HexPaths.{hex_bytes_in, hex_path_in, part_in}
 use Rattle.bolt_load.specs.Lines.{Text}

@@ -1,8 +1,8 @@
 -- What holds of the lines that were decoded holds of the text.
-use Rattle.std.proofs.Common.{◌≡◌, ◌∙◌, ◌+◌, ℕ, List, [], ◌∷◌, ◌++◌, Option, Some, None, length, sym, ap, append_assoc, append-nil}
+use Rattle.std.proofs.Common.{◌≡◌, ◌∙◌, ◌+◌, ℕ, List, [], ◌∷◌, ◌++◌, Option, Some, None, length, subst, sym, ap, append_assoc, append-nil}
 use Rattle.std.specs.Option.{IfNone, option_or}
-use Rattle.std.specs.Prelude.{IfSome, option_and_then}
-use Rattle.bolt_load.specs.LineFaults.{IsFirstFault, IsLoadFault, RightAfter, place_fault, shape_fault}
+use Rattle.std.specs.Prelude.{IfErr, IfSome, IsErrAnd, Result, Err, Ok, option_and_then}
+use Rattle.bolt_load.specs.LineFaults.{IsFirstFault, IsLoadFault, RightAfter, place_fault}
 use Rattle.bolt_load.specs.LineMembers.{line_member, members_in}
 use Rattle.bolt_load.specs.Lines.{Text, lines_of}
 use Rattle.bolt_load.specs.Private.Decoding.{StopsAt}
@@ -39,3 +39,7 @@ module _ (text decoded : Text) where
     right = right;
     fault_is = ap (λ (shape : Option LineFault). option_or shape (option_and_then (place_fault (members_in (lines_of decoded))) (line_member stops.line))) stops.fault_is;
   }
+
+pub reported : {T : Type 0} (result : Result T LoadFault) (fault : LoadFault) (P : LoadFault → Type 0) → IsErrAnd result (λ said. said ≡ fault) → P fault → IfErr result P
+reported (Ok value) fault P is holds = tt
+reported (Err said) fault P is holds = subst P (sym is) holds

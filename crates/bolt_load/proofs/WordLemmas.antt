@@ -1,5 +1,5 @@
 -- A line of three words tells the member of these words, and no other line tells one.
-use Rattle.std.proofs.Common.{◌≡◌, ◌∙◌, ◌==◌, ◌<◌, ℕ, List, [], ◌∷◌, Option, Some, None, true, false, length, refl, sym, ap, arith}
+use Rattle.std.proofs.Common.{◌≡◌, ◌∙◌, ◌==◌, ◌<◌, List, [], ◌∷◌, Option, Some, None, true, false, length, refl, ap, arith}
 use Rattle.std.specs.List.{slice_split}
 use Rattle.std.specs.Borrow.{Bor}
 use Rattle.std.specs.Prelude.{MatchOption, is_some, option_and_then, option_map}

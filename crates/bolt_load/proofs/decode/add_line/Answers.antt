@@ -1,5 +1,5 @@
 -- What is wrong with a line, by its words.
-use Rattle.std.proofs.Common.{◌≡◌, ◌∙◌, sym, ap}
+use Rattle.std.proofs.Common.{◌∙◌, sym}
 use Rattle.bolt_load.specs.HexPaths.{hex_path_in}
 use Rattle.bolt_load.specs.Private.LineWords.{word_item}
 use Rattle.bolt_load.proofs.MemberLemmas.{shape_is_right, value_is_long}

@@ -1,5 +1,5 @@
 -- A value has half as many bytes as digits.
-use Rattle.std.proofs.Common.{◌≡◌, ◌∙◌, sym, ap, subst}
+use Rattle.std.proofs.Common.{◌∙◌, sym, ap, subst}
 use Rattle.std.specs.Option.{IsSomeAnd}
 use Rattle.bolt_load.specs.Private.Decoding.{BeginsWith, item_bytes}
 use Rattle.bolt_load.specs.Private.LineWords.{word_item}

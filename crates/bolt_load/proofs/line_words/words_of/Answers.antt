@@ -1,5 +1,5 @@
 -- The words lie between the spaces.
-use Rattle.std.proofs.Common.{◌≡◌, ◌∙◌, sym, ap}
+use Rattle.std.proofs.Common.{◌∙◌, sym, ap}
 use Rattle.std.specs.Prelude.{option_and_then}
 use Rattle.bolt_load.specs.Private.LineWords.{word_item, words_member}
 use Rattle.bolt_load.proofs.WordLemmas.{more_words, no_item, one_word, two_words, words_item}

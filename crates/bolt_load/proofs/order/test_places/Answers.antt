@@ -5,7 +5,7 @@ use Rattle.bolt_tree.specs.ListingParts.{is_bucket}
 use Rattle.bolt_tree.specs.ShownEntries.{item_view}
 use Rattle.bolt_load.specs.Private.Decoding.{GivesLine}
 use Rattle.bolt_load.specs.ShownMembers.{members_before, members_left, members_path}
-use Rattle.bolt_load.proofs.PlacedLines.{HasPlaced, all_counted, all_right, begun, fault_of_slices, line_placed, line_refused, path_some, slices_some}
+use Rattle.bolt_load.proofs.PlacedLines.{HasPlaced, begun, fault_of_slices, line_placed, line_refused, path_some, slices_some}
 use Rattle.bolt_load.proofs.order.test_places.Goals as goal
 
 pub loop-members-init : goal.loop-members-init

@@ -1,5 +1,5 @@
 -- The member of the next line, whose bytes come next.
-use Rattle.std.proofs.Common.{◌≡◌, ◌∙◌, ◌∷◌, Some, sym, ap, subst}
+use Rattle.std.proofs.Common.{◌∙◌, ◌∷◌, Some, sym, ap, subst}
 use Rattle.bolt_tree.specs.Paths.{Path, path_of}
 use Rattle.bolt_tree.specs.ShownEntries.{item_view}
 use Rattle.bolt_load.specs.HexPaths.{hex_path_in}
