@@ -11,6 +11,7 @@ of these other lines is the verb:
 | verb | what |
 |---|---|
 | `file` | describes the file of the next test cases (draft.py) |
+| `text` | gives the lines of the next file, which is a text, as those of a result (wanted.py) |
 | `swap` | exchanges it for the one that is kept |
 | `cut` | ends it at a length |
 | `$` | a command line and its result (wanted.py) |
@@ -122,6 +123,9 @@ class Bench:
             case "file":
                 self.described = head
                 self.file = make("\n".join(lines))
+            case "text":
+                self.described = head
+                self.file = Wanted(lines).out
             case "cut":
                 self.file = self.file[: int(words)]
             case "swap":

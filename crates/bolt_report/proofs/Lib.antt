@@ -12,7 +12,7 @@ mod ListTexts
 mod PageFaults
 mod PageMapLemmas
 mod PageTableLemmas
-mod PartTests
+pub mod PartTests
 mod PrefixLemmas
 mod PrefixSteps
 mod ReadDepths

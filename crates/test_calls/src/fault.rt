@@ -3,6 +3,7 @@
 use bolt_bulk::{BulkFault, PlanFault};
 use bolt_check::{CheckFault, NoMemory};
 use bolt_format::SinkFault;
+use bolt_load::{LineFault, LoadFault};
 use bolt_recover::JoinFault;
 use bolt_report::ReportFault;
 use hex::FromHexError;
@@ -19,6 +20,8 @@ pub enum Fault {
     Unwritten,
     /// What must not happen, and at which byte, call or length.
     Wrong(&'static str, usize),
+    /// A line that isn't right in the text of a listing.
+    Line(u64, LineFault),
     /// A request for memory was refused, and what went on after it.
     Refused(&'static str),
 }
@@ -30,6 +33,7 @@ impl fmt::Display for Fault {
             Fault::Unread => write!(f, "can't be read"),
             Fault::Unwritten => write!(f, "can't be written"),
             Fault::Wrong(what, at) => write!(f, "wrong at {at}: {what}"),
+            Fault::Line(line, fault) => write!(f, "line {line}: {fault}"),
             Fault::Refused(what) => write!(f, "refused: {what}"),
         }
     }
@@ -85,6 +89,15 @@ impl From<BulkFault> for Fault {
         match fault {
             BulkFault::Memory => Fault::Memory,
             _ => Fault::Unwritten,
+        }
+    }
+}
+
+impl From<LoadFault> for Fault {
+    fn from(fault: LoadFault) -> Fault {
+        match fault {
+            LoadFault::Memory => Fault::Memory,
+            LoadFault::Line { line, fault } => Fault::Line(line, fault),
         }
     }
 }

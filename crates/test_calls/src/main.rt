@@ -14,6 +14,7 @@
 //! | `recovered`, `recovered META` | the line of each member that is recovered, and of each loss |
 //! | `found`, `found META` | the number of each page that is found, and its keys |
 //! | `joined`, `joined META` | the line of each member of the joined listing |
+//! | `loaded` | the line of each member that the file tells, which is the text of a listing |
 //! | `plan LAYOUT SIZE` | the root page and the high-water mark of a copy |
 //! | `copy LAYOUT SIZE` | the bytes of a copy, those that were accepted, and the items held at one time |
 //! | `roles` | the role of each page |
@@ -126,6 +127,7 @@ fn result_of(alloc: Global, verb: &str, file: &[u8], words: &[String]) -> Result
         "recovered" => recoveries::recovered(alloc, file, words),
         "found" => recoveries::found(alloc, file, words),
         "joined" => recoveries::joined(alloc, file, words),
+        "loaded" => walks::loaded(alloc, file),
         "plan" => copies::planned(alloc, file, words),
         "copy" => copies::copied(alloc, file, words),
         "roles" => roles::roles_of(alloc, file),

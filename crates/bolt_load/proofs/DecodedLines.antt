@@ -1,0 +1,147 @@
+-- The lines of a text are decoded one after another.
+use Rattle.std.proofs.Common.{◌≡◌, ◌∙◌, ◌<◌, ◌≤◌, ◌-◌, ℕ, List, [], ◌∷◌, ◌++◌, Option, Some, None, length, get_or, take, refl, sym, ap, subst, arith, append_assoc, append-nil, length-append}
+use Rattle.std.specs.List.{All}
+use Rattle.std.specs.Prelude.{zero, suc, IfSome, IsSome, flat_map, option_map}
+use Rattle.std.proofs.lemmas.Grind.{flat_map-append}
+use Rattle.std.proofs.lemmas.List.Elements.{All-append, filter_map-append}
+use Rattle.std.proofs.Math.Seq.{take-append_seam}
+use Rattle.bolt_tree.specs.Listing.{Member}
+use Rattle.bolt_load.specs.LineFaults.{length_fault, shape_fault}
+use Rattle.bolt_load.specs.LineMembers.{line_member, members_in}
+use Rattle.bolt_load.specs.Lines.{Text, lines_of}
+use Rattle.bolt_load.specs.Private.Cuts.{IsFirstLine}
+use Rattle.bolt_load.specs.Private.Decoding.{Adds, AreDecoded, StopsAt, member_bytes}
+use Rattle.bolt_load.specs.declared.fault.LineFault.{LineFault}
+use Rattle.bolt_load.specs.declared.fault.LineFault.TheVariants.{NotALine}
+use Rattle.std.specs.Option.{option_map_or}
+use Rattle.bolt_load.proofs.LineLemmas.{no_lines}
+
+-- ---- lines that are right in themselves
+
+abbrev pub IsShaped : Text → Type 0
+IsShaped line = shape_fault line ≡ None
+
+pub shaped_member : (line : Text) → IsShaped line → (member : Member) × (line_member line ≡ Some member)
+shaped_member line shaped = at (line_member line) refl
+  where
+    at : (found : Option Member) → line_member line ≡ found → (member : Member) × (line_member line ≡ Some member)
+    at None is = absurd (let f : Some NotALine ≡ None = sym (ap (λ found. option_map_or length_fault found (Some NotALine)) is) ∙ shaped in cc)
+    at (Some member) is = (member, is)
+
+pub member_alone : (line : Text) (member : Member) → line_member line ≡ Some member → members_in (line ∷ []) ≡ member ∷ []
+member_alone line member is = rw is refl
+
+pub members_push : (front : List Text) (line : Text) (member : Member) → line_member line ≡ Some member → members_in (front ++ line ∷ []) ≡ members_in front ++ member ∷ []
+members_push front line member is = filter_map-append line_member front (line ∷ []) ∙ ap (λ more. members_in front ++ more) (member_alone line member is)
+
+bytes_push : (listing : List Member) (member : Member) → flat_map member_bytes (listing ++ member ∷ []) ≡ flat_map member_bytes listing ++ member_bytes member
+bytes_push listing member = flat_map-append member_bytes listing (member ∷ []) ∙ ap (λ more. flat_map member_bytes listing ++ more) (append-nil (member_bytes member))
+
+tells : (line : Text) → IsShaped line → IsSome (line_member line)
+tells line shaped = let found = shaped_member line shaped in subst IsSome (sym found.1) refl
+
+pub all_tell : (lines : List Text) → All IsShaped lines → All (λ line. IsSome (line_member line)) lines
+all_tell lines shaped = λ k d below. tells _ (shaped k d below)
+
+begins_with : (front after bytes : List ℕ) → bytes ≡ front ++ after → take (length front) bytes ≡ front
+begins_with front after bytes is = ap (take (length front)) is ∙ take-append_seam front after
+
+-- ---- the lines so far
+
+-- the lines before the rest of a text are right in themselves, and these are their bytes
+pub record HasDecoded (text rest : Text) (bytes : List ℕ) : Type 0 where
+  pub front : List Text
+  pub head : Text
+  pub whole : text ≡ head ++ rest
+  pub lines : lines_of text ≡ front ++ lines_of rest
+  pub others : (rest ≡ [] → ⊥) → (other : Text) → lines_of (head ++ other) ≡ front ++ lines_of other
+  pub shaped : All IsShaped front
+  pub bytes_are : bytes ≡ flat_map member_bytes (members_in front)
+
+none_shaped : All IsShaped []
+none_shaped = λ k d below. absurd (omega (arith, below))
+
+one_shaped : (line : Text) → IsShaped line → All IsShaped (line ∷ [])
+one_shaped line shaped = λ k d below. at k d below
+  where
+    at : (k : ℕ) (d : Text) → k < 1 → IsShaped (get_or (line ∷ []) k d)
+    at zero d below = shaped
+    at (suc k) d below = absurd (omega (arith, below))
+
+pub none_decoded : (text : Text) → HasDecoded text text []
+none_decoded text = record { front = []; head = []; whole = refl; lines = refl; others = λ some other. refl; shaped = none_shaped; bytes_are = refl }
+
+pub not_nil : (text line after : Text) → IsFirstLine text line after → text ≡ [] → ⊥
+not_nil text line after first none = let below = first.shorter in let same = ap length none in omega (arith, below, same)
+
+module _ (text rest : Text) (bytes new : List ℕ) (so_far : HasDecoded text rest bytes) where
+  pub rest_fits : length rest ≤ length text
+  rest_fits = let is = ap length so_far.whole ∙ length-append so_far.head rest in omega (arith, is)
+
+  module _ (line after : Text) (first : IsFirstLine rest line after) where
+    pub line_decoded : None ≡ shape_fault line → Adds (option_map member_bytes (line_member line)) bytes new → HasDecoded text after new
+    line_decoded shaped adds =
+        let found = shaped_member line (sym shaped) in
+        let more : adds.more ≡ member_bytes found.0 = adds.are (member_bytes found.0) (ap (option_map member_bytes) found.1) in
+        record {
+          front = so_far.front ++ line ∷ [];
+          head = so_far.head ++ first.front;
+          whole = so_far.whole ∙ ap (λ rest. so_far.head ++ rest) first.whole ∙ sym (append_assoc so_far.head first.front after);
+          lines = so_far.lines ∙ ap (λ lines. so_far.front ++ lines) first.lines ∙ sym (append_assoc so_far.front (line ∷ []) (lines_of after));
+          others = λ some other.
+              ap lines_of (append_assoc so_far.head first.front other)
+              ∙ so_far.others (not_nil rest line after first) (first.front ++ other)
+              ∙ ap (λ lines. so_far.front ++ lines) (first.others some other)
+              ∙ sym (append_assoc so_far.front (line ∷ []) (lines_of other));
+          shaped = All-append IsShaped so_far.front (line ∷ []) so_far.shaped (one_shaped line (sym shaped));
+          bytes_are =
+              adds.added
+              ∙ ap (λ bytes. bytes ++ adds.more) so_far.bytes_are
+              ∙ ap (λ more. flat_map member_bytes (members_in so_far.front) ++ more) more
+              ∙ sym (ap (flat_map member_bytes) (members_push so_far.front line found.0 found.1) ∙ bytes_push (members_in so_far.front) found.0);
+        }
+
+    head_lines : lines_of so_far.head ≡ so_far.front
+    head_lines =
+        ap lines_of (sym (append-nil so_far.head)) ∙ so_far.others (not_nil rest line after first) [] ∙ ap (λ lines. so_far.front ++ lines) no_lines ∙ append-nil so_far.front
+
+    pub head_is : take (length text - length rest) text ≡ so_far.head
+    head_is =
+        let is = ap length so_far.whole ∙ length-append so_far.head rest in
+        let many : length text - length rest ≡ length so_far.head = omega (arith, is) in
+        ap (λ n. take n text) many ∙ ap (take (length so_far.head)) so_far.whole ∙ take-append_seam so_far.head rest
+
+    module _ (decoded : Text) (is : decoded ≡ so_far.head) where
+      decoded_lines : lines_of decoded ≡ so_far.front
+      decoded_lines = ap lines_of is ∙ head_lines
+
+      pub front_decoded : {found : Option (List ℕ)} → Adds found bytes new → AreDecoded (lines_of decoded) new
+      front_decoded adds = subst (λ (lines : List Text). AreDecoded lines new) (sym decoded_lines) (record {
+        tell = all_tell so_far.front so_far.shaped;
+        begin = begins_with (flat_map member_bytes (members_in so_far.front)) adds.more new (adds.added ∙ ap (λ bytes. bytes ++ adds.more) so_far.bytes_are);
+      })
+
+      pub front_shaped : All IsShaped (lines_of decoded)
+      front_shaped = subst (All IsShaped) (sym decoded_lines) so_far.shaped
+
+      pub stops : (fault : Option LineFault) → fault ≡ shape_fault line → IfSome fault (StopsAt text decoded)
+      stops None shape = tt
+      stops (Some fault) shape = record {
+        line = line;
+        rest = lines_of after;
+        lines = so_far.lines ∙ ap (λ lines. so_far.front ++ lines) first.lines ∙ ap (λ front. front ++ line ∷ lines_of after) (sym decoded_lines);
+        fault_is = sym shape;
+      }
+
+  module _ (none : rest ≡ []) where
+    all_lines : lines_of text ≡ so_far.front
+    all_lines = so_far.lines ∙ ap (λ rest. so_far.front ++ lines_of rest) none ∙ ap (λ lines. so_far.front ++ lines) no_lines ∙ append-nil so_far.front
+
+    pub all_decoded : AreDecoded (lines_of text) bytes
+    all_decoded = subst (λ (lines : List Text). AreDecoded lines bytes) (sym all_lines) (record {
+      tell = all_tell so_far.front so_far.shaped;
+      begin = begins_with (flat_map member_bytes (members_in so_far.front)) [] bytes (so_far.bytes_are ∙ sym (append-nil (flat_map member_bytes (members_in so_far.front))));
+    })
+
+    pub all_shaped : All IsShaped (lines_of text)
+    all_shaped = subst (All IsShaped) (sym all_lines) so_far.shaped

@@ -1,0 +1,13 @@
+pub mod CutLemmas
+pub mod DecimalNumbers
+pub mod DecodedLines
+pub mod LastPaths
+pub mod LineLemmas
+pub mod MemberLemmas
+pub mod NextLines
+pub mod OpenTests
+pub mod PathLemmas
+pub mod PlacedLines
+pub mod PushedParts
+pub mod ReadTexts
+pub mod WordLemmas

@@ -1,0 +1,111 @@
+-- The next line tells the member whose bytes come next.
+use Rattle.std.proofs.Common.{◌≡◌, ◌∙◌, ℕ, List, [], ◌∷◌, ◌++◌, Option, Some, None, length, drop, take, refl, sym, ap, ap₂, subst, arith, append_assoc}
+use Rattle.std.specs.List.{All}
+use Rattle.std.specs.Prelude.{true, false, suc, IsSome, IsSomeAnd}
+use Rattle.std.proofs.Math.Seq.{drop-append_seam, take-append_seam}
+use Rattle.std.proofs.lemmas.List.{take-append-drop}
+use Rattle.bolt_tree.specs.Entries.{Item}
+use Rattle.bolt_tree.specs.Listing.{Member}
+use Rattle.bolt_tree.specs.Paths.{Path}
+use Rattle.bolt_load.specs.LineMembers.{line_member, members_in, text_members}
+use Rattle.bolt_load.specs.Lines.{Text, lines_of}
+use Rattle.bolt_load.specs.Private.Cuts.{IsFirstLine}
+use Rattle.bolt_load.specs.Private.Decoding.{AreDecoded, BeginsWith, GivesLine, item_bytes, listing_bytes, member_bytes, path_bytes}
+use Rattle.bolt_load.proofs.MemberLemmas.{member_of}
+
+cancelled : (front a b : List ℕ) → front ++ a ≡ front ++ b → a ≡ b
+cancelled front a b is = sym (drop-append_seam front a) ∙ ap (drop (length front)) is ∙ drop-append_seam front b
+
+told_by : (found : Option Member) → IsSome found → (member : Member) × (found ≡ Some member)
+told_by None some = absurd (let f : false ≡ true = some in cc)
+told_by (Some member) some = (member, refl)
+
+pub first_of : (P : Text → Type 0) (line : Text) (lines : List Text) → All P (line ∷ lines) → P line
+first_of P line lines all = all 0 line (omega arith)
+
+pub others_of : (P : Text → Type 0) (line : Text) (lines : List Text) → All P (line ∷ lines) → All P lines
+others_of P line lines all = λ k d below. all (suc k) d (omega (arith, below))
+
+module _ (line : Text) (lines : List Text) (member : Member) (is : line_member line ≡ Some member) where
+  pub members_first : members_in (line ∷ lines) ≡ member ∷ members_in lines
+  members_first = rw is refl
+
+some_is : {A : Type 0} (a b : A) → Some a ≡ Some b → a ≡ b
+some_is a b is = cc
+
+pub parts_of : (path : Option Path) (item : Option Item) (member : Member) → member_of path item ≡ Some member → (path ≡ Some member.0) × (item ≡ Some member.1)
+parts_of None item member is = absurd (let f : None ≡ Some member = is in cc)
+parts_of (Some path) None member is = absurd (let f : None ≡ Some member = is in cc)
+parts_of (Some path) (Some item) member is = let same = some_is (path, item) member is in (ap (λ (m : Member). Some m.0) same, ap (λ (m : Member). Some m.1) same)
+
+module _ (text line after : Text) (bytes : List ℕ) (first : IsFirstLine text line after) (decoded : AreDecoded (lines_of text) bytes) where
+  all_tell : All (λ line. IsSome (line_member line)) (line ∷ lines_of after)
+  all_tell = subst (λ (lines : List Text). All (λ line. IsSome (line_member line)) lines) first.lines decoded.tell
+
+  told : (member : Member) × (line_member line ≡ Some member)
+  told = told_by (line_member line) (first_of (λ line. IsSome (line_member line)) line (lines_of after) all_tell)
+
+  pub no_words : line_member line ≡ None → ⊥
+  no_words none = let f : None ≡ Some told.0 = sym none ∙ told.1 in absurd (cc)
+
+  members_are : text_members text ≡ told.0 ∷ text_members after
+  members_are = ap members_in first.lines ∙ members_first line (lines_of after) told.0 told.1
+
+  later : List ℕ
+  later = listing_bytes (text_members after) ++ drop (length (listing_bytes (text_members text))) bytes
+
+  bytes_are : bytes ≡ path_bytes told.0.0 ++ (item_bytes told.0.1 ++ later)
+  unfolding later
+  bytes_are =
+      let more = drop (length (listing_bytes (text_members text))) bytes in
+      sym (take-append-drop (length (listing_bytes (text_members text))) bytes)
+      ∙ ap (λ front. front ++ more) (decoded.begin ∙ ap listing_bytes members_are)
+      ∙ append_assoc (member_bytes told.0) (listing_bytes (text_members after)) more
+      ∙ append_assoc (path_bytes told.0.0) (item_bytes told.0.1) later
+
+  module _ (path : Option Path) (item : Option Item) (words : line_member line ≡ member_of path item) where
+    both : (path ≡ Some told.0.0) × (item ≡ Some told.0.1)
+    both = parts_of path item told.0 (sym words ∙ told.1)
+
+    pub path_begins : IsSomeAnd path (λ told. BeginsWith (path_bytes told) bytes)
+    path_begins = subst (λ (path : Option Path). IsSomeAnd path (λ told. BeginsWith (path_bytes told) bytes)) (sym both.0) (record { after = item_bytes told.0.1 ++ later; whole = bytes_are })
+
+    module _ (newer : Path) (bytes_left : List ℕ) (pushed : (told : Path) → path ≡ Some told → (newer ≡ told) × (bytes ≡ path_bytes told ++ bytes_left)) where
+      left_are : bytes_left ≡ item_bytes told.0.1 ++ later
+      left_are = cancelled (path_bytes told.0.0) bytes_left (item_bytes told.0.1 ++ later) (sym (pushed told.0.0 both.0).1 ∙ bytes_are)
+
+      pub item_begins : IsSomeAnd item (λ told. BeginsWith (item_bytes told) bytes_left)
+      item_begins = subst (λ (item : Option Item). IsSomeAnd item (λ told. BeginsWith (item_bytes told) bytes_left)) (sym both.1) (record { after = later; whole = left_are })
+
+      module _ (given : Item) (rest : List ℕ) (item_is : Some given ≡ item) (rest_is : bytes_left ≡ item_bytes given ++ rest) where
+        item_same : told.0.1 ≡ given
+        item_same = let f : Some given ≡ Some told.0.1 = item_is ∙ both.1 in cc
+
+        rest_same : rest ≡ later
+        rest_same = cancelled (item_bytes given) rest later (sym rest_is ∙ left_are ∙ ap (λ item. item_bytes item ++ later) item_same)
+
+        pub rest_decoded : AreDecoded (lines_of after) rest
+        unfolding later
+        rest_decoded = record {
+          tell = others_of (λ line. IsSome (line_member line)) line (lines_of after) all_tell;
+          begin = ap (take (length (listing_bytes (text_members after)))) rest_same ∙ take-append_seam (listing_bytes (text_members after)) (drop (length (listing_bytes (text_members text))) bytes);
+        }
+
+        member_same : told.0 ≡ (newer, given)
+        member_same = ap₂ (λ path item. (path, item)) (sym (pushed told.0.0 both.0).0) item_same
+
+        pub gives_next : text_members text ≡ (newer, given) ∷ text_members after
+        gives_next = members_are ∙ ap (λ member. member ∷ text_members after) member_same
+
+        pub gives_line : GivesLine text after (Some given) newer
+        gives_line = (line, first.lines, told.1 ∙ ap Some member_same, first.shorter)
+
+pub no_members : (text : Text) → text ≡ [] → lines_of text ≡ []
+unfolding lines_of
+no_members text none = ap lines_of none
+
+-- the parts were pushed onto an empty path
+pub pushed_onto_none : (path : Option Path) (cleared : Path) (newer : Path) (bytes bytes_left : List ℕ) → cleared ≡ []
+    → ((told : Path) → path ≡ Some told → (newer ≡ cleared ++ told) × (bytes ≡ path_bytes told ++ bytes_left))
+    → (told : Path) → path ≡ Some told → (newer ≡ told) × (bytes ≡ path_bytes told ++ bytes_left)
+pushed_onto_none path cleared newer bytes bytes_left none pushed told is = let both = pushed told is in (both.0 ∙ ap (λ cleared. cleared ++ told) none, both.1)

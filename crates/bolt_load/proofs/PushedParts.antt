@@ -1,0 +1,137 @@
+-- The parts of a path are found again in the bytes that were decoded.
+use Rattle.std.proofs.Common.{◌≡◌, ◌∙◌, ◌≤◌, ℕ, List, [], ◌∷◌, ◌++◌, Option, Some, None, length, take, drop, refl, sym, ap, arith, append_assoc, append-nil, length-append}
+use Rattle.std.specs.Prelude.{◌/◌, IsSomeAnd, option_map}
+use Rattle.std.proofs.Math.Seq.{drop-append_seam, take-append_seam}
+use Rattle.bolt_check.specs.Keys.{Key}
+use Rattle.bolt_tree.specs.Entries.{Value}
+use Rattle.bolt_tree.specs.Paths.{Path}
+use Rattle.bolt_load.specs.HexPaths.{hex_bytes_in, hex_path_in, part_in}
+use Rattle.bolt_load.specs.Lines.{Text}
+use Rattle.bolt_load.specs.Private.Cuts.{IsCut, IsWithout}
+use Rattle.bolt_load.specs.Private.Decoding.{BeginsWith, item_bytes, path_bytes}
+use Rattle.bolt_load.proofs.PathLemmas.{first_part, halved, last_part, part_is, path_bytes_push, with_some}
+
+module _ {A : Type 0} (front after whole : List A) (n : ℕ) (is : whole ≡ front ++ after) (many : n ≡ length front) where
+  pub front_fits : n ≤ length whole
+  front_fits = let l = ap length is ∙ length-append front after in omega (arith, l, many)
+
+  pub front_is : take n whole ≡ front
+  front_is = ap (λ n. take n whole) many ∙ ap (take (length front)) is ∙ take-append_seam front after
+
+  pub after_is : drop n whole ≡ after
+  after_is = ap (λ n. drop n whole) many ∙ ap (drop (length front)) is ∙ drop-append_seam front after
+
+-- ---- a value
+
+module _ (digits bytes : List ℕ) (told : IsSomeAnd (option_map Value (hex_bytes_in digits)) (λ item. BeginsWith (item_bytes item) bytes)) where
+  value_told : (value : List ℕ) × (hex_bytes_in digits ≡ Some value) × BeginsWith value bytes
+  value_told = at (hex_bytes_in digits) refl told
+    where
+      at : (found : Option (List ℕ)) → hex_bytes_in digits ≡ found → IsSomeAnd (option_map Value found) (λ item. BeginsWith (item_bytes item) bytes) → (value : List ℕ) × (hex_bytes_in digits ≡ Some value) × BeginsWith value bytes
+      at None is told = absurd told
+      at (Some value) is told = (value, is, told)
+
+  pub value_fits : length digits / 2 ≤ length bytes
+  value_fits = front_fits value_told.0 value_told.2.after bytes (length digits / 2) value_told.2.whole (halved digits value_told.0 value_told.1)
+
+  pub value_is : (value : List ℕ) → value ≡ take (length digits / 2) bytes → Some (Value value) ≡ option_map Value (hex_bytes_in digits)
+  value_is value is =
+      let same : value ≡ value_told.0 = is ∙ front_is value_told.0 value_told.2.after bytes (length digits / 2) value_told.2.whole (halved digits value_told.0 value_told.1) in
+      ap (λ value. Some (Value value)) same ∙ sym (ap (option_map Value) value_told.1)
+
+-- ---- the parts of a path
+
+-- The parts before the rest of a word were found; those of the rest come next in the bytes that are left.
+pub record PushesParts (word rest : Text) (bytes bytes_left : List ℕ) (old new : Path) : Type 0 where
+  pub front : Path
+  pub left : Path
+  pub after : List ℕ
+  pub told : hex_path_in word ≡ Some (front ++ left)
+  pub left_told : hex_path_in rest ≡ Some left
+  pub pushed : new ≡ old ++ front
+  pub whole : bytes ≡ path_bytes front ++ bytes_left
+  pub next : bytes_left ≡ path_bytes left ++ after
+
+pub none_pushed : (word : Text) (bytes : List ℕ) (old : Path) → IsSomeAnd (hex_path_in word) (λ told. BeginsWith (path_bytes told) bytes) → PushesParts word word bytes bytes old old
+none_pushed word bytes old told = at (hex_path_in word) refl told
+  where
+    at : (found : Option Path) → hex_path_in word ≡ found → IsSomeAnd found (λ told. BeginsWith (path_bytes told) bytes) → PushesParts word word bytes bytes old old
+    at None is told = absurd told
+    at (Some path) is told = record {
+      front = [];
+      left = path;
+      after = told.after;
+      told = is;
+      left_told = is;
+      pushed = sym (append-nil old);
+      whole = refl;
+      next = told.whole;
+    }
+
+module _ (word rest : Text) (bytes bytes_left : List ℕ) (old new : Path) (so_far : PushesParts word rest bytes bytes_left old new) where
+  module _ (part : Text) (key : Key) (path : Path) (part_told : part_in part ≡ Some key) (left_is : so_far.left ≡ key ∷ path) where
+    many : length part / 2 ≡ length key
+    many = halved part key (part_is part key part_told)
+
+    next_is : bytes_left ≡ key ++ (path_bytes path ++ so_far.after)
+    next_is = so_far.next ∙ ap (λ left. path_bytes left ++ so_far.after) left_is ∙ append_assoc key (path_bytes path) so_far.after
+
+    fits : length part / 2 ≤ length bytes_left
+    fits = front_fits key (path_bytes path ++ so_far.after) bytes_left (length part / 2) next_is many
+
+    module _ (slice rest_bytes : List ℕ) (newer : Path) (slice_is : slice ≡ take (length part / 2) bytes_left) (rest_is : rest_bytes ≡ drop (length part / 2) bytes_left) (more : newer ≡ new ++ slice ∷ []) where
+      now_told : hex_path_in word ≡ Some ((so_far.front ++ key ∷ []) ++ path)
+      now_told = so_far.told ∙ ap (λ left. Some (so_far.front ++ left)) left_is ∙ ap Some (sym (append_assoc so_far.front (key ∷ []) path))
+
+      now_pushed : newer ≡ old ++ (so_far.front ++ key ∷ [])
+      now_pushed =
+          let same : slice ≡ key = slice_is ∙ front_is key (path_bytes path ++ so_far.after) bytes_left (length part / 2) next_is many in
+          more ∙ ap (λ key. new ++ key ∷ []) same ∙ ap (λ new. new ++ key ∷ []) so_far.pushed ∙ append_assoc old so_far.front (key ∷ [])
+
+      now_next : rest_bytes ≡ path_bytes path ++ so_far.after
+      now_next = rest_is ∙ after_is key (path_bytes path ++ so_far.after) bytes_left (length part / 2) next_is many
+
+      now_whole : bytes ≡ path_bytes (so_far.front ++ key ∷ []) ++ rest_bytes
+      now_whole =
+          so_far.whole ∙ ap (λ left. path_bytes so_far.front ++ left) (next_is ∙ ap (λ tail. key ++ tail) (sym now_next))
+          ∙ sym (append_assoc (path_bytes so_far.front) key rest_bytes) ∙ sym (ap (λ front. front ++ rest_bytes) (path_bytes_push so_far.front key))
+
+  module _ (part after : Text) (cut : IsCut 47 rest part after) where
+    found : (key : Key) × (path : Path) × (part_in part ≡ Some key) × (hex_path_in after ≡ Some path) × (so_far.left ≡ key ∷ path)
+    found = with_some (part_in part) (hex_path_in after) so_far.left (sym (first_part rest part after cut) ∙ so_far.left_told)
+
+    pub part_fits : length part / 2 ≤ length bytes_left
+    part_fits = fits part found.0 found.1 found.2 found.4
+
+    pub part_pushed : (slice rest_bytes : List ℕ) (newer : Path) → slice ≡ take (length part / 2) bytes_left → rest_bytes ≡ drop (length part / 2) bytes_left
+        → newer ≡ new ++ slice ∷ [] → PushesParts word after bytes rest_bytes old newer
+    part_pushed slice rest_bytes newer slice_is rest_is more = record {
+      front = so_far.front ++ found.0 ∷ [];
+      left = found.1;
+      after = so_far.after;
+      told = now_told part found.0 found.1 found.2 found.4 slice rest_bytes newer slice_is rest_is more;
+      left_told = found.3;
+      pushed = now_pushed part found.0 found.1 found.2 found.4 slice rest_bytes newer slice_is rest_is more;
+      whole = now_whole part found.0 found.1 found.2 found.4 slice rest_bytes newer slice_is rest_is more;
+      next = now_next part found.0 found.1 found.2 found.4 slice rest_bytes newer slice_is rest_is more;
+    }
+
+  module _ (without : IsWithout 47 rest) where
+    last : (key : Key) × (path : Path) × (part_in rest ≡ Some key) × (Some [] ≡ Some path) × (so_far.left ≡ key ∷ path)
+    last = with_some (part_in rest) (Some []) so_far.left (sym (last_part rest without) ∙ so_far.left_told)
+
+    last_is : so_far.left ≡ last.0 ∷ []
+    last_is = let f : Some [] ≡ Some last.1 = last.3 in let none : [] ≡ last.1 = cc in last.4 ∙ ap (λ path. last.0 ∷ path) (sym none)
+
+    pub last_fits : length rest / 2 ≤ length bytes_left
+    last_fits = fits rest last.0 [] last.2 last_is
+
+    pub all_pushed : (slice rest_bytes : List ℕ) (newer : Path) → slice ≡ take (length rest / 2) bytes_left → rest_bytes ≡ drop (length rest / 2) bytes_left
+        → newer ≡ new ++ slice ∷ [] → (told : Path) → hex_path_in word ≡ Some told → (newer ≡ old ++ told) × (bytes ≡ path_bytes told ++ rest_bytes)
+    all_pushed slice rest_bytes newer slice_is rest_is more told is =
+        let all = now_told rest last.0 [] last.2 last_is slice rest_bytes newer slice_is rest_is more ∙ ap Some (append-nil (so_far.front ++ last.0 ∷ [])) in
+        let f : Some (so_far.front ++ last.0 ∷ []) ≡ Some told = sym all ∙ is in
+        let same : so_far.front ++ last.0 ∷ [] ≡ told = cc in (
+          now_pushed rest last.0 [] last.2 last_is slice rest_bytes newer slice_is rest_is more ∙ ap (λ told. old ++ told) same,
+          now_whole rest last.0 [] last.2 last_is slice rest_bytes newer slice_is rest_is more ∙ ap (λ told. path_bytes told ++ rest_bytes) same,
+        )

@@ -1,0 +1,35 @@
+-- The text up to a line that is wrong has the lines before it.
+use Rattle.std.proofs.Common.{◌∙◌, ℕ, List, [], sym, subst}
+use Rattle.bolt_load.proofs.DecodedLines.{HasDecoded, all_decoded, all_shaped, front_decoded, front_shaped, head_is, line_decoded, none_decoded, stops}
+use Rattle.bolt_load.proofs.PathLemmas.{is_none}
+use Rattle.bolt_load.proofs.decode.decode.Goals as goal
+
+pub loop-line-init : goal.loop-line-init
+loop-line-init c = subst (λ (bytes : List ℕ). HasDecoded c.args.text.now c.args.text.now bytes) (sym c.new-bytes.ensures.items) (none_decoded c.args.text.now)
+
+pub returns-then-is_some-clause-decoded : goal.returns-then-is_some-clause-decoded
+returns-then-is_some-clause-decoded c =
+    let is = head_is c.args.text.now c.loop-line.rest.now c.loop-line.bytes.items c.add_line.new.bytes.items c.loop-line.invariant c.in-Some.line.now c.in-Some.after.now c.in-Some.ensures in
+    front_decoded c.args.text.now c.loop-line.rest.now c.loop-line.bytes.items c.add_line.new.bytes.items c.loop-line.invariant c.in-Some.line.now c.in-Some.after.now c.in-Some.ensures _ is c.in_ok-fault.ensures.added
+
+pub returns-then-is_some-clause-shaped : goal.returns-then-is_some-clause-shaped
+returns-then-is_some-clause-shaped c =
+    let is = head_is c.args.text.now c.loop-line.rest.now c.loop-line.bytes.items c.add_line.new.bytes.items c.loop-line.invariant c.in-Some.line.now c.in-Some.after.now c.in-Some.ensures in
+    front_shaped c.args.text.now c.loop-line.rest.now c.loop-line.bytes.items c.add_line.new.bytes.items c.loop-line.invariant c.in-Some.line.now c.in-Some.after.now c.in-Some.ensures _ is
+
+pub returns-then-is_some-clause-stopped : goal.returns-then-is_some-clause-stopped
+returns-then-is_some-clause-stopped c =
+    let is = head_is c.args.text.now c.loop-line.rest.now c.loop-line.bytes.items c.add_line.new.bytes.items c.loop-line.invariant c.in-Some.line.now c.in-Some.after.now c.in-Some.ensures in
+    stops c.args.text.now c.loop-line.rest.now c.loop-line.bytes.items c.add_line.new.bytes.items c.loop-line.invariant c.in-Some.line.now c.in-Some.after.now c.in-Some.ensures _ is c.in_ok-fault.fault c.in_ok-fault.ensures.fault
+
+pub loop-line-preserved : goal.loop-line-preserved
+loop-line-preserved c =
+    let none = is_none c.in_ok-fault.fault (sym c.is_some.ensures ∙ c.if-is_some.false) in
+    line_decoded c.args.text.now c.loop-line.rest.now c.loop-line.bytes.items c.add_line.new.bytes.items c.loop-line.invariant c.in-Some.line.now c.in-Some.after.now c.in-Some.ensures
+    (sym none ∙ c.in_ok-fault.ensures.fault) c.in_ok-fault.ensures.added
+
+pub returns-clause-decoded : goal.returns-clause-decoded
+returns-clause-decoded c = all_decoded c.args.text.now c.loop-line.rest.now c.loop-line.bytes.items [] c.loop-line.invariant c.in_default.ensures
+
+pub returns-clause-shaped : goal.returns-clause-shaped
+returns-clause-shaped c = all_shaped c.args.text.now c.loop-line.rest.now c.loop-line.bytes.items [] c.loop-line.invariant c.in_default.ensures

@@ -1,0 +1,8 @@
+-- A value has half as many bytes as digits.
+use Rattle.std.proofs.Common.{◌∙◌, sym, ap}
+use Rattle.bolt_load.specs.Private.LineWords.{word_item}
+use Rattle.bolt_load.proofs.MemberLemmas.{long_value}
+use Rattle.bolt_load.proofs.decode.is_long_item.Goals as goal
+
+pub returns-in-Digits : goal.returns-in-Digits
+returns-in-Digits c = λ told is. long_value c.in-Digits.digits.now told (sym (ap word_item c.in-Digits.is) ∙ is)

@@ -1,0 +1,74 @@
+-- What is wrong with a line, and which texts are right: docs/LISTING.md, "A listing as text".
+use Rattle.std.specs.Prelude.{◌≡◌, ◌+◌, ◌-◌, ℕ, Bool, true, false, List, [], ◌∷◌, ◌++◌, Option, Some, None, length, nat_lt, not, option_and_then, slice_get, take, if◌then◌else◌}
+use Rattle.std.specs.List.{list_any}
+use Rattle.std.specs.Option.{option_map_or, option_or}
+use Rattle.std.specs.Ordering.{is_lt}
+use Rattle.bolt_check.specs.Keys.{Key}
+use Rattle.bolt_tree.specs.Entries.{Bucket, Item, Value}
+use Rattle.bolt_tree.specs.Listing.{Member}
+use Rattle.bolt_tree.specs.ListingParts.{has_bucket}
+use Rattle.bolt_tree.specs.Paths.{Path, path_cmp}
+use Rattle.bolt_load.specs.LineMembers.{line_member, members_in}
+use Rattle.bolt_load.specs.Lines.{Text, lines_of}
+use Rattle.bolt_load.specs.declared.fault.LineFault.{LineFault}
+use Rattle.bolt_load.specs.declared.fault.LoadFault.{LoadFault}
+use Rattle.bolt_load.specs.declared.fault.LoadFault.TheVariants.{Line, Memory}
+use Rattle.bolt_load.specs.declared.fault.LineFault.TheVariants.{KeyTooLong, NoBucketAbove, NotALine, PathNotRising, ValueTooLong}
+
+-- more bytes than a key can have, or a value
+abbrev pub is_long_key : Key → Bool
+is_long_key key = nat_lt 0x40000000 (length key)
+
+abbrev pub is_long_item : Item → Bool
+is_long_item (Value value) = nat_lt 0x7FFFFFFE (length value)
+is_long_item (Bucket sequence) = false
+
+abbrev pub length_fault : Member → Option LineFault
+length_fault member = if list_any is_long_key member.0 then Some KeyTooLong else if is_long_item member.1 then Some ValueTooLong else None
+
+-- a path above that of the last member before it
+abbrev pub is_above_last : List Member → Path → Bool
+is_above_last before path = option_map_or (λ (last : Member). is_lt (path_cmp last.0 path)) (slice_get before (length before - 1)) true
+
+-- the bucket that a path is in
+abbrev pub path_above : Path → Path
+path_above path = take (length path - 1) path
+
+-- the place of a member after those before it
+abbrev pub place_fault : List Member → Member → Option LineFault
+place_fault before member =
+    if not (is_above_last before member.0) then Some PathNotRising
+    else if not (has_bucket (path_above member.0) before) then Some NoBucketAbove
+    else None
+
+-- what is wrong with a line, wherever it stands
+abbrev pub shape_fault : Text → Option LineFault
+shape_fault line = option_map_or length_fault (line_member line) (Some NotALine)
+
+-- the first thing that is wrong with a line after these members
+abbrev pub line_fault : List Member → Text → Option LineFault
+line_fault before line = option_or (shape_fault line) (option_and_then (place_fault before) (line_member line))
+
+-- each line is right after those before it, which come after these members
+abbrev pub RightAfter : List Member → List Text → Type 0
+RightAfter before [] = Unit {0}
+RightAfter before (line ∷ lines) = (line_fault before line ≡ None) × RightAfter (before ++ members_in (line ∷ [])) lines
+
+-- all lines are right
+abbrev pub IsListingText : Text → Type 0
+IsListingText text = RightAfter [] (lines_of text)
+
+-- the first line that isn't right has this number, from 1, and this fault
+pub record IsFirstFault (text : Text) (number : ℕ) (fault : LineFault) : Type 0 where
+  pub front : List Text
+  pub line : Text
+  pub rest : List Text
+  pub lines : lines_of text ≡ front ++ line ∷ rest
+  pub number_is : number ≡ length front + 1
+  pub right : RightAfter [] front
+  pub fault_is : line_fault (members_in front) line ≡ Some fault
+
+-- Why a text isn't read. Nothing is said of memory.
+abbrev pub IsLoadFault : Text → LoadFault → Type 0
+IsLoadFault text Memory = Unit {0}
+IsLoadFault text (Line number fault) = IsFirstFault text number fault

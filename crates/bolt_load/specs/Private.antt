@@ -1,0 +1,4 @@
+pub mod Cuts
+pub mod Decoding
+pub mod LineWords
+pub mod OpenPaths

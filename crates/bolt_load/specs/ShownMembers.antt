@@ -1,0 +1,21 @@
+-- What the text of a listing shows, and what its members show: the text, the part of it that is left, and the path of the last member.
+use Rattle.bolt_tree.specs.Paths.{Path, path_of}
+use Rattle.bolt_load.specs.Lines.{Text}
+use Rattle.bolt_load.specs.declared.line_members.LineMembers.{LineMembers}
+use Rattle.bolt_load.specs.declared.listing_text.ListingText.{ListingText}
+
+unfoldable pub read_text : ListingText → Text
+read_text listing = listing.text.now
+
+unfoldable pub members_text : LineMembers → Text
+members_text members = members.text.now
+
+unfoldable pub members_left : LineMembers → Text
+members_left members = members.text_left.now
+
+unfoldable pub members_path : LineMembers → Path
+members_path members = path_of members.path.items
+
+-- the path of the member before that
+unfoldable pub members_before : LineMembers → Path
+members_before members = path_of members.path_before.items

@@ -1,0 +1,155 @@
+//! Decodes what a text has in hexadecimal.
+ghost use Rattle.std.specs.Prelude.{◌≡◌, ◌++◌, ◌∷◌, All, IfNone, IfOk, IfSome, OnOk, List, None, Some, is_some, option_map};
+ghost use Rattle.std.specs.List.{list_any};
+ghost use Rattle.bolt_tree.specs.Entries as entries;
+ghost use Rattle.bolt_tree.specs.Paths.{Path};
+ghost use Rattle.bolt_load.specs.HexPaths.{hex_bytes_in, hex_path_in, part_in};
+ghost use Rattle.bolt_load.specs.LineFaults.{is_long_key, shape_fault};
+ghost use Rattle.bolt_load.specs.LineFaults as faults;
+ghost use Rattle.bolt_load.specs.LineMembers.{line_member};
+ghost use Rattle.bolt_load.specs.Lines.{Text, lines_of};
+ghost use Rattle.bolt_load.specs.Private.Decoding.{Adds, AreDecoded, StopsAt, member_bytes, path_bytes};
+ghost use Rattle.bolt_load.specs.Private.LineWords.{word_item, words_member};
+
+use crate::cuts::{cut_at, first_line};
+use crate::fault::LineFault;
+use crate::line_words::{ItemWord, LineWords, words_of};
+use bolt_tree::NoMemory;
+use std::alloc::Global;
+
+/// The most bytes of a key, and of a value.
+const MAX_KEY: usize = 0x4000_0000;
+
+const MAX_VALUE: usize = 0x7FFF_FFFE;
+
+/// The lines of a text before the first that is no line of a listing or has a part that is too long,
+/// and bytes that begin with what these lines have in hexadecimal.
+#[derive(Drop)]
+pub(crate) struct Decoded<'a> {
+    pub text: &'a [u8],
+    pub bytes: Vec<u8>,
+    /// The fault of the line after these, if there is one.
+    pub fault: Option<LineFault>,
+}
+
+/// Adds the bytes of a word in hexadecimal. Returns whether it is one.
+fn add_bytes(digits: &[u8], bytes: &mut Vec<u8>) -> Result<bool, NoMemory>
+    ensures good { IfOk result (λ good. good ≡ is_some (hex_bytes_in digits.now)) }
+    ensures added { OnOk result (Adds (hex_bytes_in digits.now) bytes.old.items bytes.new.items) }
+{
+    if !digits.len().is_multiple_of(2) {
+        return Ok(false);
+    }
+    let start = bytes.len();
+    bytes.resize(start + digits.len() / 2, 0)?;
+    Ok(hex::decode_to_slice(digits, &mut bytes[start..]).is_ok())
+}
+
+/// Adds the bytes of a part of a path. Returns whether it is one.
+fn add_part(word: &[u8], bytes: &mut Vec<u8>) -> Result<bool, NoMemory>
+    ensures good { IfOk result (λ good. good ≡ is_some (part_in word.now)) }
+    ensures added { OnOk result (Adds (part_in word.now) bytes.old.items bytes.new.items) }
+{
+    if word.is_empty() {
+        return Ok(false);
+    }
+    add_bytes(word, bytes)
+}
+
+/// Adds the bytes of a path in hexadecimal. Returns whether it is one.
+fn add_path(word: &[u8], bytes: &mut Vec<u8>) -> Result<bool, NoMemory>
+    ensures good { IfOk result (λ good. good ≡ is_some (option_map path_bytes (hex_path_in word.now))) }
+    ensures added { OnOk result (Adds (option_map path_bytes (hex_path_in word.now)) bytes.old.items bytes.new.items) }
+{
+    let mut rest = word;
+    while let Some((part, after)) = cut_at(b'/', rest) {
+        if !add_part(part, bytes)? {
+            return Ok(false);
+        }
+        rest = after;
+    }
+    add_part(rest, bytes)
+}
+
+/// Adds the bytes of a line. Returns whether all of its hexadecimal is.
+fn add_words(words: &LineWords<'_>, bytes: &mut Vec<u8>) -> Result<bool, NoMemory>
+    ensures good { IfOk result (λ good. good ≡ is_some (option_map member_bytes (words_member words.now))) }
+    ensures added { OnOk result (Adds (option_map member_bytes (words_member words.now)) bytes.old.items bytes.new.items) }
+{
+    if !add_path(words.path, bytes)? {
+        return Ok(false);
+    }
+    match words.item {
+        ItemWord::Digits(digits) => add_bytes(digits, bytes),
+        ItemWord::Sequence(_) => Ok(true),
+    }
+}
+
+fn has_long_key(word: &[u8]) -> bool
+    ensures { (path : Path) → hex_path_in word.now ≡ Some path → result ≡ list_any is_long_key path }
+{
+    let mut rest = word;
+    while let Some((part, after)) = cut_at(b'/', rest) {
+        if part.len() / 2 > MAX_KEY {
+            return true;
+        }
+        rest = after;
+    }
+    rest.len() / 2 > MAX_KEY
+}
+
+fn is_long_item(item: &ItemWord<'_>) -> bool
+    ensures { (told : entries.Item) → word_item item.now ≡ Some told → result ≡ faults.is_long_item told }
+{
+    match item {
+        ItemWord::Digits(digits) => digits.len() / 2 > MAX_VALUE,
+        ItemWord::Sequence(_) => false,
+    }
+}
+
+/// Adds the bytes of a line. Returns what is wrong with it, but for its place among the others.
+fn add_line(line: &[u8], bytes: &mut Vec<u8>) -> Result<Option<LineFault>, NoMemory>
+    ensures fault { IfOk result (λ fault. fault ≡ shape_fault line.now) }
+    ensures added { OnOk result (Adds (option_map member_bytes (line_member line.now)) bytes.old.items bytes.new.items) }
+{
+    let Some(words) = words_of(line) else {
+        return Ok(Some(LineFault::NotALine));
+    };
+    if !add_words(&words, bytes)? {
+        return Ok(Some(LineFault::NotALine));
+    }
+    if has_long_key(words.path) {
+        return Ok(Some(LineFault::KeyTooLong));
+    }
+    if is_long_item(&words.item) {
+        return Ok(Some(LineFault::ValueTooLong));
+    }
+    Ok(None)
+}
+
+/// Decodes the lines of a text up to the first that is wrong in itself.
+pub(crate) fn decode(alloc: Global, text: &[u8]) -> Result<Decoded<'_>, NoMemory>
+    ensures decoded { IfOk result (λ decoded. AreDecoded (lines_of decoded.text.now) decoded.bytes.items) }
+    ensures shaped { IfOk result (λ decoded. All (λ line. shape_fault line ≡ None) (lines_of decoded.text.now)) }
+    ensures all { IfOk result (λ decoded. IfNone decoded.fault (decoded.text.now ≡ text.now)) }
+    ensures stopped { IfOk result (λ decoded. IfSome decoded.fault (StopsAt text.now decoded.text.now)) }
+{
+    let mut bytes = Vec::new(alloc);
+    let mut rest = text;
+    while let Some((line, after)) = first_line(rest) {
+        let fault = add_line(line, &mut bytes)?;
+        if fault.is_some() {
+            return Ok(Decoded {
+                text: &text[..text.len() - rest.len()],
+                bytes,
+                fault,
+            });
+        }
+        rest = after;
+    }
+    Ok(Decoded {
+        text,
+        bytes,
+        fault: None,
+    })
+}

@@ -1,0 +1,17 @@
+//! Reads the text of a listing back: each line of it is tested, and what the lines tell is returned
+//! member by member, as a walk over a file returns it (docs/LISTING.md, "A listing as text"). Only
+//! the bytes that the text has in hexadecimal are kept; nothing is kept for each line.
+#![tactic(auto)]
+
+mod cuts;
+mod decode;
+mod fault;
+mod line_members;
+mod line_words;
+mod listing_text;
+mod numbers;
+mod order;
+
+pub use fault::{LineFault, LoadFault};
+pub use line_members::LineMembers;
+pub use listing_text::ListingText;
