@@ -7,11 +7,12 @@ use Rattle.bolt_format.specs.declared.meta.Meta.{Meta}
 use Rattle.bolt_check.specs.Nodes.{Entry, Node, node_at}
 use Rattle.bolt_check.specs.Subtrees.{Enough, Has, kid_pages, weight}
 use Rattle.bolt_check.proofs.TourSums.{enough_kids, has_either, has_left, has_right, sum_append, weight_kids}
-use Rattle.bolt_report.specs.Figures.{Figure, bucket_figure, buckets, inline_buckets, inline_used, keys, branch_pages, branch_overflow, branch_allocated, branch_used, leaf_pages, leaf_overflow, leaf_allocated, leaf_used, figure}
+use Rattle.bolt_report.specs.Figures.{Figure, bucket_figure, figure}
 use Rattle.bolt_report.specs.Readings.{AreGood, inner_pages, inner_roots, numbers_of, pages_in_bucket, roots_in_bucket, roots_of, total_of}
 use Rattle.bolt_report.specs.declared.statistics.Stats.{Stats}
 use Rattle.bolt_report.specs.declared.bucket_stats.UnreadBucket.{UnreadBucket}
 use Rattle.bolt_report.specs.declared.bucket_stats.UnreadPage.{UnreadPage}
+use Rattle.bolt_report.proofs.FigureLemmas.{every}
 use Rattle.bolt_report.proofs.DepthSums.{page_has, root_has}
 
 -- the last page was taken
@@ -62,18 +63,7 @@ abbrev AllZero : Stats → Type 0
 AllZero s = (s.buckets ≡ 0) × ((s.inline_buckets ≡ 0) × ((s.inline_used ≡ 0) × ((s.keys ≡ 0) × ((s.depth ≡ 0) × ((s.branch_pages ≡ 0) × ((s.branch_overflow ≡ 0) × ((s.branch_allocated ≡ 0) × ((s.branch_used ≡ 0) × ((s.leaf_pages ≡ 0) × ((s.leaf_overflow ≡ 0) × ((s.leaf_allocated ≡ 0) × (s.leaf_used ≡ 0))))))))))))
 
 pub zero_figure : (f : Figure) (s : Stats) → AllZero s → figure f s ≡ 0
-zero_figure buckets s (a, (b, (c, (d, (e, (g, (h, (i, (j, (k, (l, (m, n)))))))))))) = a
-zero_figure inline_buckets s (a, (b, (c, (d, (e, (g, (h, (i, (j, (k, (l, (m, n)))))))))))) = b
-zero_figure inline_used s (a, (b, (c, (d, (e, (g, (h, (i, (j, (k, (l, (m, n)))))))))))) = c
-zero_figure keys s (a, (b, (c, (d, (e, (g, (h, (i, (j, (k, (l, (m, n)))))))))))) = d
-zero_figure branch_pages s (a, (b, (c, (d, (e, (g, (h, (i, (j, (k, (l, (m, n)))))))))))) = g
-zero_figure branch_overflow s (a, (b, (c, (d, (e, (g, (h, (i, (j, (k, (l, (m, n)))))))))))) = h
-zero_figure branch_allocated s (a, (b, (c, (d, (e, (g, (h, (i, (j, (k, (l, (m, n)))))))))))) = i
-zero_figure branch_used s (a, (b, (c, (d, (e, (g, (h, (i, (j, (k, (l, (m, n)))))))))))) = j
-zero_figure leaf_pages s (a, (b, (c, (d, (e, (g, (h, (i, (j, (k, (l, (m, n)))))))))))) = k
-zero_figure leaf_overflow s (a, (b, (c, (d, (e, (g, (h, (i, (j, (k, (l, (m, n)))))))))))) = l
-zero_figure leaf_allocated s (a, (b, (c, (d, (e, (g, (h, (i, (j, (k, (l, (m, n)))))))))))) = m
-zero_figure leaf_used s (a, (b, (c, (d, (e, (g, (h, (i, (j, (k, (l, (m, n)))))))))))) = n
+zero_figure f s (a, (b, (c, (d, (e, (g, (h, (i, (j, (k, (l, (m, n)))))))))))) = every (λ f. figure f s ≡ 0) a b c d g h i j k l m n f
 
 pub zero_depth : (s : Stats) → AllZero s → s.depth ≡ 0
 zero_depth s (a, (b, (c, (d, (e, rest))))) = e
@@ -107,34 +97,18 @@ module _ (before more : List UnreadBucket) (b : UnreadBucket) (roots rest : List
   moved_from m (inr h) = inr (subst (λ (l : List ℕ). Has m l) (sym popped_) (has_left m rest (root ∷ []) h))
 
 -- the depth is none of the figures that are summed
-pub deepened : (f : Figure) (s : Stats) (deep : ℕ) → figure f (record { buckets = s.buckets; inline_buckets = s.inline_buckets; inline_used = s.inline_used; keys = s.keys; depth = deep; branch_pages = s.branch_pages; branch_overflow = s.branch_overflow; branch_allocated = s.branch_allocated; branch_used = s.branch_used; leaf_pages = s.leaf_pages; leaf_overflow = s.leaf_overflow; leaf_allocated = s.leaf_allocated; leaf_used = s.leaf_used }) ≡ figure f s
-deepened buckets s deep = refl
-deepened inline_buckets s deep = refl
-deepened inline_used s deep = refl
-deepened keys s deep = refl
-deepened branch_pages s deep = refl
-deepened branch_overflow s deep = refl
-deepened branch_allocated s deep = refl
-deepened branch_used s deep = refl
-deepened leaf_pages s deep = refl
-deepened leaf_overflow s deep = refl
-deepened leaf_allocated s deep = refl
-deepened leaf_used s deep = refl
+abbrev at_depth : ℕ → Stats → Stats
+at_depth deep s = record { buckets = s.buckets; inline_buckets = s.inline_buckets; inline_used = s.inline_used; keys = s.keys; depth = deep; branch_pages = s.branch_pages; branch_overflow = s.branch_overflow; branch_allocated = s.branch_allocated; branch_used = s.branch_used; leaf_pages = s.leaf_pages; leaf_overflow = s.leaf_overflow; leaf_allocated = s.leaf_allocated; leaf_used = s.leaf_used }
+
+pub deepened : (f : Figure) (s : Stats) (deep : ℕ) → figure f (at_depth deep s) ≡ figure f s
+deepened f s deep = every (λ f. figure f (at_depth deep s) ≡ figure f s) refl refl refl refl refl refl refl refl refl refl refl refl f
 
 -- one bucket, of which nothing was read
-pub first_figure : (f : Figure) (s : Stats) → AllZero s → figure f (record { buckets = 1; inline_buckets = s.inline_buckets; inline_used = s.inline_used; keys = s.keys; depth = s.depth; branch_pages = s.branch_pages; branch_overflow = s.branch_overflow; branch_allocated = s.branch_allocated; branch_used = s.branch_used; leaf_pages = s.leaf_pages; leaf_overflow = s.leaf_overflow; leaf_allocated = s.leaf_allocated; leaf_used = s.leaf_used }) ≡ bucket_figure f
-first_figure buckets s (a, (b, (c, (d, (e, (g, (h, (i, (j, (k, (l, (m, n)))))))))))) = refl
-first_figure inline_buckets s (a, (b, (c, (d, (e, (g, (h, (i, (j, (k, (l, (m, n)))))))))))) = b
-first_figure inline_used s (a, (b, (c, (d, (e, (g, (h, (i, (j, (k, (l, (m, n)))))))))))) = c
-first_figure keys s (a, (b, (c, (d, (e, (g, (h, (i, (j, (k, (l, (m, n)))))))))))) = d
-first_figure branch_pages s (a, (b, (c, (d, (e, (g, (h, (i, (j, (k, (l, (m, n)))))))))))) = g
-first_figure branch_overflow s (a, (b, (c, (d, (e, (g, (h, (i, (j, (k, (l, (m, n)))))))))))) = h
-first_figure branch_allocated s (a, (b, (c, (d, (e, (g, (h, (i, (j, (k, (l, (m, n)))))))))))) = i
-first_figure branch_used s (a, (b, (c, (d, (e, (g, (h, (i, (j, (k, (l, (m, n)))))))))))) = j
-first_figure leaf_pages s (a, (b, (c, (d, (e, (g, (h, (i, (j, (k, (l, (m, n)))))))))))) = k
-first_figure leaf_overflow s (a, (b, (c, (d, (e, (g, (h, (i, (j, (k, (l, (m, n)))))))))))) = l
-first_figure leaf_allocated s (a, (b, (c, (d, (e, (g, (h, (i, (j, (k, (l, (m, n)))))))))))) = m
-first_figure leaf_used s (a, (b, (c, (d, (e, (g, (h, (i, (j, (k, (l, (m, n)))))))))))) = n
+abbrev one_bucket : Stats → Stats
+one_bucket s = record { buckets = 1; inline_buckets = s.inline_buckets; inline_used = s.inline_used; keys = s.keys; depth = s.depth; branch_pages = s.branch_pages; branch_overflow = s.branch_overflow; branch_allocated = s.branch_allocated; branch_used = s.branch_used; leaf_pages = s.leaf_pages; leaf_overflow = s.leaf_overflow; leaf_allocated = s.leaf_allocated; leaf_used = s.leaf_used }
+
+pub first_figure : (f : Figure) (s : Stats) → AllZero s → figure f (one_bucket s) ≡ bucket_figure f
+first_figure f s (a, (b, (c, (d, (e, (g, (h, (i, (j, (k, (l, (m, n)))))))))))) = every (λ f. figure f (one_bucket s) ≡ bucket_figure f) refl b c d g h i j k l m n f
 
 module _ (file : List ℕ) (meta : Meta) where
   pub unread_popped : (old new : List UnreadBucket) (b : UnreadBucket) → old ≡ new ++ b ∷ [] → roots_of old ≡ roots_of new ++ b.root ∷ []
@@ -151,15 +125,4 @@ module _ (file : List ℕ) (meta : Meta) where
       elim (from m h) [ inl i ↦ good m (subst (λ (l : List ℕ). Has m l) (sym e) (has_left m rest (n ∷ []) i)) | inr i ↦ other m i ]
 
 pub first_fits : (f : Figure) → bucket_figure f ≤ 1
-first_fits buckets = omega arith
-first_fits inline_buckets = omega arith
-first_fits inline_used = omega arith
-first_fits keys = omega arith
-first_fits branch_pages = omega arith
-first_fits branch_overflow = omega arith
-first_fits branch_allocated = omega arith
-first_fits branch_used = omega arith
-first_fits leaf_pages = omega arith
-first_fits leaf_overflow = omega arith
-first_fits leaf_allocated = omega arith
-first_fits leaf_used = omega arith
+first_fits f = let one : 1 ≤ 1 = omega arith in let none : 0 ≤ 1 = omega arith in every (λ f. bucket_figure f ≤ 1) one none none none none none none none none none none none f

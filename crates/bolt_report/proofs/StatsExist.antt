@@ -17,6 +17,7 @@ use Rattle.bolt_report.specs.Figures.{Figure, bucket_figure, buckets, inline_buc
 use Rattle.bolt_report.specs.Readings.{AreGood, own_figure, total_of}
 use Rattle.bolt_report.specs.StatsOf.{IsPagedStats, IsStatsOf, spot_figure, tour_figure}
 use Rattle.bolt_report.specs.declared.statistics.Stats.{Stats}
+use Rattle.bolt_report.proofs.FigureLemmas.{every}
 use Rattle.bolt_report.proofs.DepthExists.{AllFilled, depth_is}
 
 -- A page that a way leads to is its bucket's root page, or at depth 2 or more.
@@ -140,18 +141,7 @@ stats_from sums deep = record {
 
 figure_from : (sums : Figure → ℕ) (deep : ℕ) (f : Figure) → figure f (stats_from sums deep) ≡ sums f
 unfolding stats_from
-figure_from sums deep buckets = refl
-figure_from sums deep inline_buckets = refl
-figure_from sums deep inline_used = refl
-figure_from sums deep keys = refl
-figure_from sums deep branch_pages = refl
-figure_from sums deep branch_overflow = refl
-figure_from sums deep branch_allocated = refl
-figure_from sums deep branch_used = refl
-figure_from sums deep leaf_pages = refl
-figure_from sums deep leaf_overflow = refl
-figure_from sums deep leaf_allocated = refl
-figure_from sums deep leaf_used = refl
+figure_from sums deep f = every (λ f. figure f (stats_from sums deep) ≡ sums f) refl refl refl refl refl refl refl refl refl refl refl refl f
 
 depth_from_is : (sums : Figure → ℕ) (deep : ℕ) → (stats_from sums deep).depth ≡ deep
 unfolding stats_from
