@@ -3,7 +3,11 @@ use Rattle.std.proofs.Common.{◌∙◌, length}
 use Rattle.bolt_format.proofs.WriteLemmas.{Writes-same, Writes-stop, Writes-then}
 use Rattle.bolt_format.specs.Shown.{shown}
 use Rattle.bolt_report.specs.FoundLines.{bucket_count, found_head, found_keys, found_line}
+use Rattle.bolt_report.proofs.FoundLemmas.{some_elements}
 use Rattle.bolt_report.proofs.found_lines.put_found.Goals as goal
+
+pub put_keys-requires-clause-some : goal.put_keys-requires-clause-some
+put_keys-requires-clause-some g c = some_elements c.args.found.now.page.page c.requires.kind c.requires.some
 
 pub returns-in_err-put : goal.returns-in_err-put
 unfolding found_line
