@@ -1,5 +1,5 @@
 -- Every key begins with no bytes.
-use Rattle.std.proofs.Common.{List, [], subst, subst₂}
+use Rattle.std.proofs.Common.{ℕ, List, [], subst, subst₂}
 use Rattle.bolt_check.specs.declared.checked_file.Checked.{Checked}
 use Rattle.bolt_format.specs.Elements.{LeafElement}
 use Rattle.bolt_report.specs.KeyLines.{keys_text}
