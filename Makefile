@@ -90,7 +90,8 @@ SWEEP = python3 -B tools/refuse/sweep.py $(PROGRAM) $(REFUSE)
 PRINTING = info "page 5" pages check buckets stats list "keys users" "get settings theme" \
 	"pages --map" "check --etcd-snapshot" "buckets --sizes" "buckets index --sizes --form json" \
 	"keys index by-name --prefix user" "get settings theme -n" "get settings theme -n --form json" \
-	"list settings" "list --form json" "list --recover --form json"
+	"list settings" "list --form json" "list --recover --form json" "page 5 --assume-meta 4096:5" \
+	"get settings theme --assume-meta 4096:5"
 EACH_COMMAND = $(PRINTING) "get settings none" "info --help" "info more" "list --from x" "list none"
 
 # Commands that recover a damaged file.
@@ -107,7 +108,7 @@ failures: $(PROGRAM) $(REFUSE) $(LISTED_LONG) $(DAMAGED) $(MANY_LOST)
 	$(SWEEP) write 1 examples/app.db $(EACH_COMMAND)
 	$(SWEEP) write 1 $(LEAKED).db check list
 	$(SWEEP) write 10 examples/app.db "compact -o OUT" "compact -o OUT --etcd-snapshot"
-	$(SWEEP) write 1 $(DAMAGED) "check --all"
+	$(SWEEP) write 1 $(DAMAGED) "check --all" "check --lost-and-found"
 	$(SWEEP) write 200 $(DAMAGED) $(RECOVERIES)
 	$(SWEEP) read 1 examples/app.db info list "compact -o OUT"
 	$(SWEEP) sync 1 examples/app.db "compact -o OUT" "compact -o OUT --etcd-snapshot"
@@ -244,7 +245,7 @@ memory: $(PROGRAM) $(CALLS) $(REFUSE) $(NESTED) $(DEEP) $(DAMAGED)
 	$(SWEEP) memory 1 $(DEEP) info check buckets stats
 	REFUSED_CALL=memory REFUSED_NUMBER=200 LD_PRELOAD=$(REFUSE) $(PROGRAM) check $(DEEP) | grep -qx OK
 	$(SWEEP) memory 1500 $(DEEP) "compact -o OUT"
-	$(SWEEP) memory 1 $(DAMAGED) "check --all" $(RECOVERIES)
+	$(SWEEP) memory 1 $(DAMAGED) "check --all" "check --lost-and-found" $(RECOVERIES)
 	$(SWEEP) memory 1 $(NESTED) "check --all" "check --all --etcd-snapshot" "list b b --recover" \
 		$(RECOVERIES)
 	PYTHONPATH=tests:tools/format python3 -B tools/refuse/try_calls.py $(CALLS) $(REFUSE) tests/cases/call_again_and_between.cases

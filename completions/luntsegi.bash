@@ -6,7 +6,7 @@ _luntsegi_options() {
         info) echo --meta ;;
         page) echo --assume-meta ;;
         pages) echo --map ;;
-        check) echo --all --etcd-snapshot --meta --assume-meta ;;
+        check) echo --all --lost-and-found --etcd-snapshot --meta --assume-meta ;;
         buckets) echo --sizes --form --parts --meta --assume-meta ;;
         keys) echo --prefix --form --parts --meta --assume-meta ;;
         get) echo --no-newline -n --form --parts --meta --assume-meta ;;

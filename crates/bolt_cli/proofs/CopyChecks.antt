@@ -21,9 +21,12 @@ use Rattle.bolt_recover.specs.Losses.{AreLosses, LossView, loss_at, losses_of}
 use Rattle.bolt_recover.specs.Places.{Place, place_at}
 use Rattle.bolt_recover.specs.Refusals.{IsUnrecoverable, LosesRoot}
 use Rattle.bolt_recover.specs.Surveys.{Has, IsSurvey, Visit}
-use Rattle.bolt_cli.specs.Answers.{Answer, AnswersLosses, IsCheckAnswer, IsCheckAnswerAfter, IsFoundAnswer, all_refusal, check_refusal, done, found, losses_found, none_found, refused}
+use Rattle.bolt_report.specs.FoundLines.{FoundView}
+use Rattle.bolt_cli.specs.Answers.{Answer, AnswersFound, AnswersLosses, IsCheckAnswer, IsCheckAnswerAfter, IsFoundAnswer, IsLostAndFoundAnswer, all_lost_and_found, all_refusal, check_refusal, done, found, losses_found, lost_and_found, none_found, refused}
 use Rattle.bolt_cli.specs.GoodCopies.{IsGoodCopy, RefusesFile}
 use Rattle.bolt_cli.specs.SnapshotAnswers.{copy_of, hash_found}
+use Rattle.bolt_cli.specs.declared.extent.Extent.{Extent}
+use Rattle.bolt_cli.specs.declared.extent.Extent.TheVariants.{First, LostAndFound, Losses}
 use Rattle.bolt_cli.specs.declared.failure.Failure.TheVariants as failure
 use Rattle.bolt_cli.specs.declared.meta_choice.MetaChoice.TheVariants.{Active}
 
@@ -103,22 +106,37 @@ module _ (laws : Laws) where
     fine_losses [] none is = fine_found is
     fine_losses (loss ∷ losses) none is = absurd (cc)
 
-    fine_all : IsCheckAnswerAfter true hash file Active answer → IsFine answer
+    fine_all : IsCheckAnswerAfter Losses hash file Active answer → IsFine answer
     fine_all (inl (own, ((other, is), keeps), inl (losses, are, answers))) =
         let same = (laws.one file slot meta chosen other own is).1 in
         fine_losses losses (loses_nothing file own losses (subst (HasSoundTrees file) (sym same) sound.trees) are) answers
     fine_all (inl (own, under, inr said)) = inr said
     fine_all (inr (fault, is, said)) = inr (said ∙ ap (all_refusal hash) (recovers file slot meta chosen sound fault is))
 
-    fine : (all : Bool) → IsCheckAnswerAfter all hash file Active answer → IsFine answer
-    fine false is = fine_found is
-    fine true is = fine_all is
+    fine_with_found : (losses : List LossView) (found : List FoundView) → losses ≡ [] → AnswersFound hash file Active losses found answer → IsFine answer
+    fine_with_found [] found none is = fine_found is
+    fine_with_found (loss ∷ losses) found none is = absurd (cc)
 
-  pub passes : (all snapshot : Bool) (layout : List ℕ) (listing : List Member) (answer : Answer) → IsGoodCopy snapshot layout listing
-      → IsCheckAnswer all snapshot (copy_of snapshot layout) Active answer → (answer ≡ done (codes "OK\n")) ⊎ (answer ≡ refused failure.Memory)
-  passes all snapshot layout listing answer good is =
+    fine_lost_and_found : IsLostAndFoundAnswer hash file Active answer → IsFine answer
+    fine_lost_and_found (inl (own, (other, is), inl (keeps, losses, pages, are, found, answers))) =
+        let same = (laws.one file slot meta chosen other own is).1 in
+        fine_with_found losses pages (loses_nothing file own losses (subst (HasSoundTrees file) (sym same) sound.trees) are) answers
+    fine_lost_and_found (inl (own, (other, is), inr (inl (x, pages, loses, found, said)))) =
+        let same = (laws.one file slot meta chosen other own is).1 in
+        absurd (keeps_root file own x (subst (HasSoundTrees file) (sym same) sound.trees) loses)
+    fine_lost_and_found (inl (own, is, inr (inr said))) = inr said
+    fine_lost_and_found (inr (fault, (bad, none), said)) = absurd (none slot meta chosen.valid)
+
+    fine : (extent : Extent) → IsCheckAnswerAfter extent hash file Active answer → IsFine answer
+    fine First is = fine_found is
+    fine Losses is = fine_all is
+    fine LostAndFound is = fine_lost_and_found is
+
+  pub passes : (extent : Extent) (snapshot : Bool) (layout : List ℕ) (listing : List Member) (answer : Answer) → IsGoodCopy snapshot layout listing
+      → IsCheckAnswer extent snapshot (copy_of snapshot layout) Active answer → (answer ≡ done (codes "OK\n")) ⊎ (answer ≡ refused failure.Memory)
+  passes extent snapshot layout listing answer good is =
       let (slot, meta, chosen, sound, lists) = good.accepted in
-      fine (hash_found snapshot (copy_of snapshot layout)) (copy_of snapshot layout) slot meta answer (no_hash_fault snapshot (copy_of snapshot layout) good.hash) chosen sound all is
+      fine (hash_found snapshot (copy_of snapshot layout)) (copy_of snapshot layout) slot meta answer (no_hash_fault snapshot (copy_of snapshot layout) good.hash) chosen sound extent is
 
   -- ---- a file that `check` refuses, or whose hash is missing
 
@@ -148,15 +166,26 @@ module _ (laws : Laws) where
     fails_losses [] why is = fails_found why is
     fails_losses (loss ∷ losses) why is = ends_so answer (losses_found hash (loss ∷ losses)) is (λ same. cc)
 
-    fails_after : (all : Bool) → RefusesFile file ⊎ (hash ≡ Some HashMissing) → IsCheckAnswerAfter all hash file Active answer → answer.ending ≢ Ok 0
-    fails_after false why is = fails_found why is
-    fails_after true why (inl (meta, under, inl (losses, are, answers))) = fails_losses losses why answers
-    fails_after true why (inl (meta, under, inr said)) = ends_so answer (refused failure.Memory) said (λ same. cc)
-    fails_after true why (inr (fault, is, said)) = ends_so answer (all_refusal hash fault) said (not_all_ok hash fault)
+    fails_with_found : (losses : List LossView) (found : List FoundView) → RefusesFile file ⊎ (hash ≡ Some HashMissing) → AnswersFound hash file Active losses found answer → answer.ending ≢ Ok 0
+    fails_with_found [] found why is = fails_found why is
+    fails_with_found (loss ∷ losses) found why is = ends_so answer (lost_and_found hash (loss ∷ losses) found) is (λ same. cc)
 
-  pub fails : (all snapshot : Bool) (layout : List ℕ) (listing : List Member) (n : ℕ) (answer : Answer) → IsGoodCopy snapshot layout listing → n < length (copy_of snapshot layout)
-      → IsCheckAnswer all snapshot (take n (copy_of snapshot layout)) Active answer → answer.ending ≢ Ok 0
-  fails all snapshot layout listing n answer good less is =
+    fails_lost_and_found : RefusesFile file ⊎ (hash ≡ Some HashMissing) → IsLostAndFoundAnswer hash file Active answer → answer.ending ≢ Ok 0
+    fails_lost_and_found why (inl (meta, under, inl (keeps, losses, pages, are, found, answers))) = fails_with_found losses pages why answers
+    fails_lost_and_found why (inl (meta, under, inr (inl (x, pages, loses, found, said)))) = ends_so answer (all_lost_and_found hash x pages) said (λ same. cc)
+    fails_lost_and_found why (inl (meta, under, inr (inr said))) = ends_so answer (refused failure.Memory) said (λ same. cc)
+    fails_lost_and_found why (inr (fault, has, said)) = ends_so answer (check_refusal hash (check.Open fault)) said (not_ok hash (check.Open fault))
+
+    fails_after : (extent : Extent) → RefusesFile file ⊎ (hash ≡ Some HashMissing) → IsCheckAnswerAfter extent hash file Active answer → answer.ending ≢ Ok 0
+    fails_after First why is = fails_found why is
+    fails_after LostAndFound why is = fails_lost_and_found why is
+    fails_after Losses why (inl (meta, under, inl (losses, are, answers))) = fails_losses losses why answers
+    fails_after Losses why (inl (meta, under, inr said)) = ends_so answer (refused failure.Memory) said (λ same. cc)
+    fails_after Losses why (inr (fault, is, said)) = ends_so answer (all_refusal hash fault) said (not_all_ok hash fault)
+
+  pub fails : (extent : Extent) (snapshot : Bool) (layout : List ℕ) (listing : List Member) (n : ℕ) (answer : Answer) → IsGoodCopy snapshot layout listing → n < length (copy_of snapshot layout)
+      → IsCheckAnswer extent snapshot (take n (copy_of snapshot layout)) Active answer → answer.ending ≢ Ok 0
+  fails extent snapshot layout listing n answer good less is =
       let file = take n (copy_of snapshot layout) in
-      fails_after (hash_found snapshot file) file answer all
+      fails_after (hash_found snapshot file) file answer extent
       (elim (cases_lt n (length layout)) [ inl early ↦ inl (good.cut_layout n early) | inr late ↦ inr (good.cut_hash n late less) ]) is

@@ -5,6 +5,7 @@ pub mod CopyChecks
 pub mod CutTexts
 pub mod Doing
 pub mod EntryAnswers
+pub mod FoundAnswers
 pub mod GoodCopies
 pub mod HashLemmas
 pub mod HeldJobs

@@ -11,11 +11,11 @@ use Rattle.bolt_cli.specs.Answers.{Answer, AnswersLosses, IsFoundAnswer, IsLosse
 use Rattle.bolt_cli.specs.declared.meta_choice.MetaChoice.{MetaChoice}
 
 module _ (hash : Option SnapshotFault) (file : List ℕ) (choice : MetaChoice) (meta : Meta) where
-  lost : (losses : List LossView) × AreLosses file meta losses
+  pub lost : (losses : List LossView) × AreLosses file meta losses
   lost = has_losses file meta
 
   -- the losses that a recovery shows at its end
-  own_losses : (shown : List LossView) (losses : List Loss) → map loss_view losses ≡ shown → ForLosses file meta (λ all. shown ≡ all) → lost.0 ≡ map loss_view losses
+  pub own_losses : (shown : List LossView) (losses : List Loss) → map loss_view losses ≡ shown → ForLosses file meta (λ all. shown ≡ all) → lost.0 ≡ map loss_view losses
   own_losses shown losses seen all = sym (seen ∙ all lost.0 lost.1)
 
   pub lost_none : (shown : List LossView) (losses : List Loss) → map loss_view losses ≡ shown → ForLosses file meta (λ all. shown ≡ all) → losses ≡ []

@@ -1,5 +1,5 @@
 -- What the program answers to each command, and what its sinks accept: docs/COMMANDS.md, "What a run writes".
-use Rattle.std.specs.Prelude.{◌≡◌, ◌<◌, ◌≤◌, ◌-◌, ◌⊎◌, ℕ, List, [], ◌∷◌, ◌++◌, Bool, true, false, codes, decimal, length, take, Option, Some, None, Result, Ok, Err, if◌then◌else◌}
+use Rattle.std.specs.Prelude.{◌≡◌, ◌<◌, ◌≤◌, ◌-◌, ◌⊎◌, ℕ, List, [], ◌∷◌, ◌++◌, Bool, true, false, codes, decimal, length, map, take, Option, Some, None, Result, Ok, Err, if◌then◌else◌}
 use Rattle.std.specs.Io.KnownBytes.{Appends, Keeps}
 use Rattle.bolt_bulk.specs.Compacting.{too_many}
 use Rattle.bolt_layout.specs.Copies.{layout_of_listing}
@@ -11,15 +11,19 @@ use Rattle.bolt_check.specs.declared.finding.Finding.{Finding}
 use Rattle.bolt_check.specs.declared.role.Role.{Role}
 use Rattle.bolt_format.specs.Elements.{LeafElement}
 use Rattle.bolt_format.specs.Metas.{HasMetaFault, HasSlotFault, IsChosen, IsInSlot}
+use Rattle.bolt_format.specs.Pages.{page_at}
 use Rattle.bolt_format.specs.Sinks.{AppendsPrefix, AppendsProperPrefix}
 use Rattle.bolt_format.specs.declared.fault.PageFault.{PageFault}
 use Rattle.bolt_format.specs.declared.meta.Meta.{Meta}
 use Rattle.bolt_format.specs.declared.meta.MetaFault.{MetaFault}
 use Rattle.bolt_format.specs.declared.meta.Slot.{Slot}
+use Rattle.bolt_recover.specs.Found.{AreFound}
 use Rattle.bolt_recover.specs.Losses.{AreLosses, LossView}
+use Rattle.bolt_recover.specs.Places.{leaves_of}
 use Rattle.bolt_recover.specs.Recovered.{IsRecovered}
-use Rattle.bolt_recover.specs.Refusals.{IsRefusedRoot, IsSlotUnrecoverable, IsUnrecoverable, KeepsRoot}
+use Rattle.bolt_recover.specs.Refusals.{IsRefusedRoot, IsSlotUnrecoverable, IsUnrecoverable, KeepsRoot, LosesRoot}
 use Rattle.bolt_report.specs.FaultWords.{findings_text}
+use Rattle.bolt_report.specs.FoundLines.{FoundView, all_lost_and_found_text, lost_and_found_text}
 use Rattle.bolt_report.specs.Forms.{item_text, value_text}
 use Rattle.bolt_report.specs.Figures.{add_stats, stats_text}
 use Rattle.bolt_report.specs.KeyLines.{buckets_text, keys_text}
@@ -44,13 +48,14 @@ use Rattle.bolt_tree.specs.Paths.{Holds, Names, Path}
 use Rattle.bolt_cli.specs.CopyKinds.{is_snapshot, layout_for}
 use Rattle.bolt_cli.specs.Failures.{IsFailureOf, failure_line}
 use Rattle.bolt_cli.specs.GoodCopies.{IsGoodCopy}
-use Rattle.bolt_cli.specs.MetaChoices.{IsMetaOf, assumed_for}
+use Rattle.bolt_cli.specs.MetaChoices.{HasNoMetaOf, IsMetaOf, assumed_for}
 use Rattle.bolt_cli.specs.SnapshotAnswers.{copy_of, differing_line, errors_in, fault_lines, hash_differs, hash_found}
+use Rattle.bolt_cli.specs.declared.extent.Extent.{Extent}
+use Rattle.bolt_cli.specs.declared.extent.Extent.TheVariants.{First, LostAndFound, Losses}
 use Rattle.bolt_cli.specs.declared.failure.Failure.{Failure}
 use Rattle.bolt_cli.specs.declared.failure.Failure.TheVariants as failure
 use Rattle.bolt_cli.specs.declared.job.Job.{Job}
 use Rattle.bolt_cli.specs.declared.job.Job.TheVariants as job
-use Rattle.bolt_cli.specs.declared.meta_choice.AssumedMeta.{AssumedMeta}
 use Rattle.bolt_cli.specs.declared.meta_choice.MetaChoice.{MetaChoice}
 use Rattle.bolt_cli.specs.declared.meta_choice.MetaChoice.TheVariants.{Active, Assumed, InSlot}
 use Rattle.bolt_cli.specs.declared.page_size.PageSize.{PageSize}
@@ -93,20 +98,10 @@ IsInfoAnswer file wanted answer =
     ((slot : Slot) × (meta : Meta) × IsShownMeta file wanted slot meta × (answer ≡ done (info_text slot meta)))
     ⊎ ((fault : MetaFault) × HasNoMeta file wanted fault × (answer ≡ refused (failure.Metas fault)))
 
--- the meta that a page is read under: one that is assumed, or the active one
-abbrev pub IsOpenedUnder : List ℕ → Option AssumedMeta → Meta → Type 0
-IsOpenedUnder file None meta = (slot : Slot) × IsChosen file slot meta
-IsOpenedUnder file (Some assumed) meta = meta ≡ assumed_for file assumed
-
--- why there is none
-abbrev pub IsUnopenedUnder : List ℕ → Option AssumedMeta → MetaFault → Type 0
-IsUnopenedUnder file None fault = HasNoMeta file None fault
-IsUnopenedUnder file (Some assumed) fault = ⊥
-
-abbrev pub IsPageAnswer : List ℕ → Option AssumedMeta → ℕ → Answer → Type 0
-IsPageAnswer file assumed id answer =
-    ((meta : Meta) × IsOpenedUnder file assumed meta × (answer ≡ page_answer (page_text_fault file meta id) (page_text file meta id)))
-    ⊎ ((fault : MetaFault) × IsUnopenedUnder file assumed fault × (answer ≡ refused (failure.Metas fault)))
+abbrev pub IsPageAnswer : List ℕ → MetaChoice → ℕ → Answer → Type 0
+IsPageAnswer file choice id answer =
+    ((meta : Meta) × IsMetaOf file choice meta × (answer ≡ page_answer (page_text_fault file meta id) (page_text file meta id)))
+    ⊎ ((fault : MetaFault) × HasNoMetaOf file choice fault × (answer ≡ refused (failure.Metas fault)))
 
 -- ---- the other commands, which check the file
 
@@ -330,14 +325,52 @@ all_refusal hash (check.Open fault) = check_refusal hash (check.Open fault)
 all_refusal hash (check.Accounts findings) = check_refusal hash (check.Accounts findings)
 all_refusal hash check.Memory = check_refusal hash check.Memory
 
--- `check` and `check --all` of a file whose hash was looked at
-abbrev pub IsCheckAnswerAfter : (all : Bool) → Option SnapshotFault → List ℕ → MetaChoice → Answer → Type 0
-IsCheckAnswerAfter false hash file choice answer = IsFoundAnswer hash file choice answer
-IsCheckAnswerAfter true hash file choice answer = IsRecoveredAnswer file choice (IsLossesAnswer hash file choice) (λ fault answer. answer ≡ all_refusal hash fault) answer
+-- ---- the pages that are found though nothing leads to them
 
--- `check`, `check --all`, and either of a snapshot; `list` and `list --recover`
-abbrev pub IsCheckAnswer : (all snapshot : Bool) → List ℕ → MetaChoice → Answer → Type 0
-IsCheckAnswer all snapshot file choice answer = IsCheckAnswerAfter all (hash_found snapshot file) file choice answer
+abbrev pub found_page : List ℕ → Meta → ℕ → FoundView
+found_page file meta n = record { number = n; elements = leaves_of (page_at file meta n) }
+
+abbrev pub AreFoundPages : List ℕ → Meta → List FoundView → Type 0
+AreFoundPages file meta found = (numbers : List ℕ) × AreFound file meta numbers × (found ≡ map (found_page file meta) numbers)
+
+-- each loss and each of these pages; what is wrong with the hash of a snapshot comes first, and is an error too
+abbrev pub lost_and_found : Option SnapshotFault → List LossView → List FoundView → Answer
+lost_and_found hash losses found = record { out = fault_lines hash ++ lost_and_found_text (errors_in hash) losses found; ending = Ok 1 }
+
+abbrev pub all_lost_and_found : Option SnapshotFault → Finding → List FoundView → Answer
+all_lost_and_found hash finding found = record { out = fault_lines hash ++ all_lost_and_found_text (errors_in hash) finding found; ending = Ok 1 }
+
+-- if nothing is lost, what `check` writes
+abbrev pub AnswersFound : Option SnapshotFault → List ℕ → MetaChoice → List LossView → List FoundView → Answer → Type 0
+AnswersFound hash file choice [] found answer = IsFoundAnswer hash file choice answer
+AnswersFound hash file choice (loss ∷ losses) found answer = answer ≡ lost_and_found hash (loss ∷ losses) found
+
+-- of a file whose root page is lost; or nothing, if memory ran out
+abbrev pub IsRootlessAnswer : Option SnapshotFault → List ℕ → Meta → Answer → Type 0
+IsRootlessAnswer hash file meta answer =
+    ((x : Finding) × (found : List FoundView) × LosesRoot file meta x × AreFoundPages file meta found × (answer ≡ all_lost_and_found hash x found))
+    ⊎ (answer ≡ refused failure.Memory)
+
+-- of a file whose root page is kept, or lost
+abbrev pub IsFoundPagesAnswer : Option SnapshotFault → List ℕ → MetaChoice → Meta → Answer → Type 0
+IsFoundPagesAnswer hash file choice meta answer =
+    (KeepsRoot file meta × (losses : List LossView) × (found : List FoundView) × AreLosses file meta losses × AreFoundPages file meta found × AnswersFound hash file choice losses found answer)
+    ⊎ IsRootlessAnswer hash file meta answer
+
+abbrev pub IsLostAndFoundAnswer : Option SnapshotFault → List ℕ → MetaChoice → Answer → Type 0
+IsLostAndFoundAnswer hash file choice answer =
+    ((meta : Meta) × IsMetaOf file choice meta × IsFoundPagesAnswer hash file choice meta answer)
+    ⊎ ((fault : MetaFault) × HasNoMetaOf file choice fault × (answer ≡ check_refusal hash (check.Open fault)))
+
+-- `check`, `check --all` and `check --lost-and-found` of a file whose hash was looked at
+abbrev pub IsCheckAnswerAfter : Extent → Option SnapshotFault → List ℕ → MetaChoice → Answer → Type 0
+IsCheckAnswerAfter First hash file choice answer = IsFoundAnswer hash file choice answer
+IsCheckAnswerAfter LostAndFound hash file choice answer = IsLostAndFoundAnswer hash file choice answer
+IsCheckAnswerAfter Losses hash file choice answer = IsRecoveredAnswer file choice (IsLossesAnswer hash file choice) (λ fault answer. answer ≡ all_refusal hash fault) answer
+
+-- `check` to any extent, and of a snapshot; `list` and `list --recover`
+abbrev pub IsCheckAnswer : Extent → (snapshot : Bool) → List ℕ → MetaChoice → Answer → Type 0
+IsCheckAnswer extent snapshot file choice answer = IsCheckAnswerAfter extent (hash_found snapshot file) file choice answer
 
 abbrev pub IsListedAnswer : Bool → List ℕ → MetaChoice → ListForm → (path from : Path) → Answer → Type 0
 IsListedAnswer false file choice form path from answer = IsReadAnswer file choice (IsListAnswer file form path from) answer
@@ -433,9 +466,9 @@ module _ {O T : Type 0} (out_taken : O → Option (List ℕ)) (out_failed : O �
   -- what a job does, and how it ends
   abbrev pub DoesJob : List ℕ → Job → Ending → Type 0
   DoesJob file (job.Info j) = Prints (IsInfoAnswer file j.slot)
-  DoesJob file (job.Page j) = Prints (IsPageAnswer file j.assumed j.id)
+  DoesJob file (job.Page j) = Prints (IsPageAnswer file j.meta j.id)
   DoesJob file (job.Pages j) = Prints (IsCheckedAnswer file (IsPagesAnswer file j.map) IsFileRefusal)
-  DoesJob file (job.Check j) = Prints (IsCheckAnswer j.all j.snapshot file j.meta)
+  DoesJob file (job.Check j) = Prints (IsCheckAnswer j.extent j.snapshot file j.meta)
   DoesJob file (job.Buckets j) = Prints (IsReadAnswer file j.meta (IsBucketsAnswer file (path_in j.path.items) j.form j.sizes))
   DoesJob file (job.Stats j) = Prints (IsReadAnswer file j.meta (IsStatsAnswer file (path_in j.path.items)))
   DoesJob file (job.Keys j) = Prints (IsReadAnswer file j.meta (IsEntriesAnswer file (path_in j.path.items) j.form (λ entries. keys_text j.form (with_prefix j.prefix.items entries))))

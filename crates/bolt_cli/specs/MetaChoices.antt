@@ -1,8 +1,9 @@
 -- The meta that a file is read under: docs/COMMANDS.md, "A named meta" and "An assumed meta".
 use Rattle.std.specs.Prelude.{◌≡◌, ℕ, List, length}
 use Rattle.bolt_check.specs.Assumed.{assumed_meta}
-use Rattle.bolt_format.specs.Metas.{IsChosen, IsInSlot}
+use Rattle.bolt_format.specs.Metas.{HasMetaFault, HasSlotFault, IsChosen, IsInSlot}
 use Rattle.bolt_format.specs.declared.meta.Meta.{Meta}
+use Rattle.bolt_format.specs.declared.meta.MetaFault.{MetaFault}
 use Rattle.bolt_format.specs.declared.meta.Slot.{Slot}
 use Rattle.bolt_cli.specs.declared.meta_choice.AssumedMeta.{AssumedMeta}
 use Rattle.bolt_cli.specs.declared.meta_choice.MetaChoice.{MetaChoice}
@@ -17,3 +18,9 @@ abbrev pub IsMetaOf : List ℕ → MetaChoice → Meta → Type 0
 IsMetaOf file Active meta = (slot : Slot) × IsChosen file slot meta
 IsMetaOf file (InSlot slot) meta = IsInSlot file slot meta
 IsMetaOf file (Assumed assumed) meta = meta ≡ assumed_for file assumed
+
+-- why it has none
+abbrev pub HasNoMetaOf : List ℕ → MetaChoice → MetaFault → Type 0
+HasNoMetaOf file Active fault = HasMetaFault file 0 fault × ((slot : Slot) (meta : Meta) → IsInSlot file slot meta → ⊥)
+HasNoMetaOf file (InSlot slot) fault = HasSlotFault file slot fault × ((meta : Meta) → IsInSlot file slot meta → ⊥)
+HasNoMetaOf file (Assumed assumed) fault = ⊥

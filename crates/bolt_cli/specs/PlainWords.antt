@@ -15,9 +15,10 @@ use Rattle.bolt_cli.specs.LineWords.{Choice, Operand, Syntax, Text, both, long, 
 use Rattle.bolt_cli.specs.PathWords.{each_part, hex_path_by, part_of, parts_by, prefix_of, result_and_then}
 use Rattle.bolt_cli.specs.declared.copy_kind.CopyKind.{CopyKind}
 use Rattle.bolt_cli.specs.declared.copy_kind.CopyKind.TheVariants as kind
+use Rattle.bolt_cli.specs.declared.extent.Extent.{Extent}
+use Rattle.bolt_cli.specs.declared.extent.Extent.TheVariants as extent
 use Rattle.bolt_cli.specs.declared.job.Job.{Job}
 use Rattle.bolt_cli.specs.declared.job.Job.TheVariants as job
-use Rattle.bolt_cli.specs.declared.meta_choice.AssumedMeta.{AssumedMeta}
 use Rattle.bolt_cli.specs.declared.meta_choice.MetaChoice.{MetaChoice}
 use Rattle.bolt_cli.specs.declared.meta_choice.MetaChoice.TheVariants as choice
 use Rattle.bolt_cli.specs.declared.page_size.PageSize.{PageSize}
@@ -83,6 +84,9 @@ map_option = lone_option (codes "map")
 abbrev pub all_option : Choice
 all_option = lone_option (codes "all")
 
+abbrev pub lost_and_found_option : Choice
+lost_and_found_option = lone_option (codes "lost-and-found")
+
 abbrev pub recover_option : Choice
 recover_option = lone_option (codes "recover")
 
@@ -97,7 +101,7 @@ abbrev pub pages_line : Syntax
 pages_line = record { name = codes "pages"; operands = file_operand ∷ []; options = map_option ∷ [] }
 
 abbrev pub check_line : Syntax
-check_line = record { name = codes "check"; operands = file_operand ∷ []; options = all_option ∷ snapshot_option ∷ meta_option ∷ assumed_option ∷ [] }
+check_line = record { name = codes "check"; operands = file_operand ∷ []; options = all_option ∷ lost_and_found_option ∷ snapshot_option ∷ meta_option ∷ assumed_option ∷ [] }
 
 abbrev pub buckets_line : Syntax
 buckets_line = record { name = codes "buckets"; operands = file_operand ∷ part_operand false ∷ []; options = sizes_option ∷ form_option ∷ parts_option ∷ meta_option ∷ assumed_option ∷ [] }
@@ -119,23 +123,18 @@ compact_line = record { name = codes "compact"; operands = file_operand ∷ []; 
 
 -- ---- what a line asks for
 
--- an assumed meta, by its page size and root page
-pub record AskedAssumed : Type 0 where
-  pub page_size : ℕ
-  pub root : ℕ
-
--- the active meta, that of a slot, or an assumed one
+-- the active meta, that of a slot, or an assumed one by its page size and root page
 pub data AskedMeta : Type 0 where
   active : AskedMeta
   in_slot : Slot → AskedMeta
-  assumed : AskedAssumed → AskedMeta
+  assumed : (page_size root : ℕ) → AskedMeta
 
 -- a job by its texts, numbers and paths
 pub data Asked : Type 0 where
   info : Text → Option Slot → Asked
-  page : Text → Option AskedAssumed → ℕ → Asked
+  page : Text → AskedMeta → ℕ → Asked
   pages : Text → (map : Bool) → Asked
-  check : Text → AskedMeta → (all snapshot : Bool) → Asked
+  check : Text → AskedMeta → Extent → (snapshot : Bool) → Asked
   buckets : Text → AskedMeta → Path → Form → (sizes : Bool) → Asked
   keys : Text → AskedMeta → Path → (prefix : Key) → Form → Asked
   get : Text → AskedMeta → Path → Form → (no_newline : Bool) → Asked
@@ -152,19 +151,16 @@ abbrev pub size_in : Option PageSize → Option ℕ
 size_in size = option_map (λ (s : PageSize). s.bytes) size
 
 -- the meta that the code has
-abbrev pub assumed_in : AssumedMeta → AskedAssumed
-assumed_in meta = record { page_size = meta.page_size.bytes; root = meta.root }
-
 abbrev pub meta_in : MetaChoice → AskedMeta
 meta_in choice.Active = active
 meta_in (choice.InSlot slot) = in_slot slot
-meta_in (choice.Assumed meta) = assumed (assumed_in meta)
+meta_in (choice.Assumed meta) = assumed meta.page_size.bytes meta.root
 
 abbrev pub asked_of : Job → Asked
 asked_of (job.Info j) = info (string_bytes j.file) j.slot
-asked_of (job.Page j) = page (string_bytes j.file) (option_map assumed_in j.assumed) j.id
+asked_of (job.Page j) = page (string_bytes j.file) (meta_in j.meta) j.id
 asked_of (job.Pages j) = pages (string_bytes j.file) j.map
-asked_of (job.Check j) = check (string_bytes j.file) (meta_in j.meta) j.all j.snapshot
+asked_of (job.Check j) = check (string_bytes j.file) (meta_in j.meta) j.extent j.snapshot
 asked_of (job.Buckets j) = buckets (string_bytes j.file) (meta_in j.meta) (path_in j.path.items) j.form j.sizes
 asked_of (job.Keys j) = keys (string_bytes j.file) (meta_in j.meta) (path_in j.path.items) j.prefix.items j.form
 asked_of (job.Get j) = get (string_bytes j.file) (meta_in j.meta) (path_in j.path.items) j.form j.no_newline
@@ -220,6 +216,12 @@ copy_kind_by for_bbolt (Some word) = kind.EtcdSnapshot
 copy_kind_by (Some word) None = kind.ForBbolt
 copy_kind_by None None = kind.Plain
 
+-- how far a check goes, by the words of `--all` and `--lost-and-found` if they are given
+abbrev pub extent_by : (all lost_and_found : Option Text) → Extent
+extent_by all (Some word) = extent.LostAndFound
+extent_by (Some word) None = extent.Losses
+extent_by None None = extent.First
+
 -- whether an option without a value is given
 abbrev pub is_given : Option Text → Bool
 is_given (Some word) = true
@@ -265,22 +267,18 @@ slot_by None = Ok None
 abbrev bad_assumed : Text
 bad_assumed = codes "bad meta: use PAGE_SIZE:ROOT, and no --meta"
 
-abbrev pub assumed_when : Result (Option ℕ) Text → Option ℕ → Result AskedAssumed Text
-assumed_when (Ok (Some page_size)) (Some root) = Ok (record { page_size = page_size; root = root })
+abbrev pub assumed_when : Result (Option ℕ) Text → Option ℕ → Result AskedMeta Text
+assumed_when (Ok (Some page_size)) (Some root) = Ok (assumed page_size root)
 assumed_when _ _ = Err bad_assumed
 
-abbrev pub assumed_of : Text → Result AskedAssumed Text
+abbrev pub assumed_of : Text → Result AskedMeta Text
 assumed_of word = assumed_when (page_size_of (before_first (λ byte. byte == 58) word)) (number_of (after_first (λ byte. byte == 58) word))
-
-abbrev pub assumed_by : Option Text → Result (Option AskedAssumed) Text
-assumed_by (Some word) = result_and_then (λ meta. Ok (Some meta)) (assumed_of word)
-assumed_by None = Ok None
 
 -- the meta by the words of `--meta` and `--assume-meta`, of which only one may be given
 abbrev pub meta_asked : (named assumed : Option Text) → Result AskedMeta Text
 meta_asked None None = Ok active
 meta_asked (Some word) None = result_and_then (λ slot. Ok (in_slot slot)) (slot_of word)
-meta_asked None (Some word) = result_and_then (λ meta. Ok (assumed meta)) (assumed_of word)
+meta_asked None (Some word) = assumed_of word
 meta_asked (Some word) (Some other) = Err bad_assumed
 
 abbrev pub meta_by : Values → Result AskedMeta Text
@@ -292,13 +290,13 @@ asks_info values = result_and_then (λ file. result_and_then (λ slot. Ok (info 
 
 abbrev pub asks_page : Values → Result Asked Text
 asks_page values = result_and_then (λ file. result_and_then (λ meta. result_and_then (λ id. Ok (page file meta id))
-    (result_and_then page_id (text_by (codes "ID") values))) (assumed_by (first_of (values (codes "assume-meta"))))) (text_by (codes "FILE") values)
+    (result_and_then page_id (text_by (codes "ID") values))) (meta_by values)) (text_by (codes "FILE") values)
 
 abbrev pub asks_pages : Values → Result Asked Text
 asks_pages values = result_and_then (λ file. Ok (pages file (is_given (first_of (values (codes "map")))))) (text_by (codes "FILE") values)
 
 abbrev pub asks_check : Values → Result Asked Text
-asks_check values = result_and_then (λ file. result_and_then (λ meta. Ok (check file meta (is_given (first_of (values (codes "all")))) (is_given (first_of (values (codes "etcd-snapshot"))))))
+asks_check values = result_and_then (λ file. result_and_then (λ meta. Ok (check file meta (extent_by (first_of (values (codes "all"))) (first_of (values (codes "lost-and-found")))) (is_given (first_of (values (codes "etcd-snapshot"))))))
     (meta_by values)) (text_by (codes "FILE") values)
 
 -- a path by its words

@@ -8,8 +8,10 @@ ghost use Rattle.bolt_recover.specs.ShownLosses.{loss_view};
 ghost use Rattle.bolt_cli.specs.Answers.{Answer, Does, IsCheckAnswer, IsFoundAnswer, IsLossesAnswer, IsRecoveredAnswer, all_refusal, check_refusal, found, losses_found, none_found};
 ghost use Rattle.bolt_cli.specs.SnapshotAnswers.{errors_in, fault_lines, hash_found};
 
+use crate::extent::Extent;
 use crate::failure::Failure;
 use crate::job::CheckJob;
+use crate::lost_and_found::print_lost_and_found;
 use crate::meta_choice::MetaChoice;
 use crate::open_read::open_read;
 use crate::open_recovery::open_recovery;
@@ -22,21 +24,21 @@ use std::alloc::Global;
 use std::slice;
 
 /// Writes `OK` if the file is sound. Otherwise it writes what is wrong with the hash of a snapshot,
-/// and then the findings, or with `all` each loss.
+/// and then the findings, or each loss, or also each page that is found.
 pub(crate) fn print_check<O: Sink>(
     alloc: Global,
     file: &[u8],
     job: &CheckJob,
     out: &mut O,
 ) -> Result<u8, Failure>
-    ensures { (answer : Answer) × IsCheckAnswer job.now.all job.now.snapshot file.now job.now.meta answer
+    ensures { (answer : Answer) × IsCheckAnswer job.now.extent job.now.snapshot file.now job.now.meta answer
         × Does O.taken O.failed out.old out.new answer result }
 {
     let hash = hash_found(job.snapshot, file);
-    if job.all {
-        print_losses(alloc, file, job.meta, hash, out)
-    } else {
-        print_findings(alloc, file, job.meta, hash, out)
+    match job.extent {
+        Extent::First => print_findings(alloc, file, job.meta, hash, out),
+        Extent::Losses => print_losses(alloc, file, job.meta, hash, out),
+        Extent::LostAndFound => print_lost_and_found(alloc, file, job.meta, hash, out),
     }
 }
 
@@ -49,7 +51,7 @@ fn hash_found(snapshot: bool, file: &[u8]) -> Option<SnapshotFault>
 
 /// Writes `OK` if the file is sound, and otherwise the first finding of its trees or those of its
 /// accounts.
-fn print_findings<O: Sink>(
+pub(crate) fn print_findings<O: Sink>(
     alloc: Global,
     file: &[u8],
     choice: MetaChoice,
@@ -89,7 +91,7 @@ fn print_losses<O: Sink>(
 }
 
 /// Walks to the end of what is recovered, so that each loss is known.
-fn walk_to_end(recovery: &mut Recovery<'_>) -> Result<(), NoMemory>
+pub(crate) fn walk_to_end(recovery: &mut Recovery<'_>) -> Result<(), NoMemory>
     ensures file { recovery_file recovery.new ≡ recovery_file recovery.old }
     ensures meta { recovery_meta recovery.new ≡ recovery_meta recovery.old }
     ensures all { OnOk result (ForLosses (recovery_file recovery.old) (recovery_meta recovery.old) (λ losses. recovery_losses recovery.new ≡ losses)) }
@@ -142,7 +144,7 @@ fn put_refusal<O: Sink>(
 }
 
 /// Writes what is wrong with the hash of a file that has no valid meta. The failure says that.
-fn put_unread<O: Sink>(
+pub(crate) fn put_unread<O: Sink>(
     fault: MetaFault,
     hash: Option<SnapshotFault>,
     out: &mut O,
@@ -179,7 +181,10 @@ fn put_losses<O: Sink>(
 
 /// Writes the line of what is wrong with the hash of a snapshot, and returns how many errors that
 /// is.
-fn put_hash_fault<O: Sink>(hash: Option<SnapshotFault>, out: &mut O) -> Result<u64, SinkFault>
+pub(crate) fn put_hash_fault<O: Sink>(
+    hash: Option<SnapshotFault>,
+    out: &mut O,
+) -> Result<u64, SinkFault>
     ensures line { Wrote O.Sink out.old out.new (fault_lines hash) (ending result) }
     ensures errors { IfOk result (λ errors. errors ≡ errors_in hash) }
     ensures few { IfOk result (λ errors. errors ≤ 1) }

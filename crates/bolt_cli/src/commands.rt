@@ -222,6 +222,14 @@ const ALL: Choice = Choice {
     required: false,
 };
 
+const LOST_AND_FOUND: Choice = Choice {
+    name: "lost-and-found",
+    flag: Flag::Long("lost-and-found"),
+    value: None,
+    help: "As with --all, and name each intact leaf that nothing leads to, if something is lost",
+    required: false,
+};
+
 const RECOVER: Choice = Choice {
     name: "recover",
     flag: Flag::Long("recover"),
@@ -264,7 +272,7 @@ pub(crate) static SYNTAXES: [Syntax; 10] = [
         name: "check",
         about: "Check whether the file is sound; if it isn't, print what is wrong",
         operands: &[FILE],
-        options: &[ALL, CHECK_SNAPSHOT, META, ASSUME_META],
+        options: &[ALL, LOST_AND_FOUND, CHECK_SNAPSHOT, META, ASSUME_META],
         note: None,
     },
     Syntax {

@@ -1,7 +1,8 @@
 //! What a command line asks for.
 
 use crate::copy_kind::CopyKind;
-use crate::meta_choice::{AssumedMeta, MetaChoice};
+use crate::extent::Extent;
+use crate::meta_choice::MetaChoice;
 use crate::page_size::PageSize;
 use bolt_format::Slot;
 use bolt_report::{Form, ListForm};
@@ -32,8 +33,7 @@ pub struct InfoJob {
 #[derive(Debug, Drop)]
 pub struct PageJob {
     pub file: String,
-    /// The meta that the file is read under. Without one it is the active meta.
-    pub assumed: Option<AssumedMeta>,
+    pub meta: MetaChoice,
     pub id: u64,
 }
 
@@ -50,8 +50,7 @@ pub struct PagesJob {
 pub struct CheckJob {
     pub file: String,
     pub meta: MetaChoice,
-    /// Whether to find everything that is lost of the file.
-    pub all: bool,
+    pub extent: Extent,
     /// Whether to check first that the file ends with the SHA-256 of what is before it.
     pub snapshot: bool,
 }

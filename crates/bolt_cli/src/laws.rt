@@ -13,6 +13,7 @@ ghost use Rattle.bolt_cli.specs.GoodCopies.{HasGoodCopies, IsGoodCopy};
 ghost use Rattle.bolt_cli.specs.MetaChoices.{IsMetaOf};
 ghost use Rattle.bolt_cli.specs.Needs.{needs_metas_alone};
 ghost use Rattle.bolt_cli.specs.SnapshotAnswers.{copy_of, hash_differs};
+ghost use Rattle.bolt_cli.specs.declared.extent.Extent.{Extent};
 ghost use Rattle.bolt_cli.specs.declared.failure.Failure.TheVariants as failure;
 ghost use Rattle.bolt_cli.specs.declared.job.Job.{Job};
 ghost use Rattle.bolt_cli.specs.declared.meta_choice.MetaChoice.{MetaChoice};
@@ -52,13 +53,13 @@ pub fn whole_copies_are_good()
     hashed_blocks_are_a_snapshot();
 }
 
-/// Of a good copy `check` prints that it is sound, with or without `--all`, and with `--etcd-snapshot`
+/// Of a good copy `check` prints that it is sound, to any extent, and with `--etcd-snapshot`
 /// if it is a snapshot, unless memory runs out. For a proper prefix of it, the status isn't 0.
 pub fn good_copies_pass_the_check()
-    ensures whole { (all snapshot : Bool) (layout : List ℕ) (listing : List Member) (answer : Answer) → IsGoodCopy snapshot layout listing
-        → IsCheckAnswer all snapshot (copy_of snapshot layout) choice.Active answer → (answer ≡ done (codes "OK\n")) ⊎ (answer ≡ refused failure.Memory) }
-    ensures prefixes { (all snapshot : Bool) (layout : List ℕ) (listing : List Member) (n : ℕ) (answer : Answer) → IsGoodCopy snapshot layout listing
-        → n < length (copy_of snapshot layout) → IsCheckAnswer all snapshot (take n (copy_of snapshot layout)) choice.Active answer → answer.ending ≢ Ok 0 }
+    ensures whole { (extent : Extent) (snapshot : Bool) (layout : List ℕ) (listing : List Member) (answer : Answer) → IsGoodCopy snapshot layout listing
+        → IsCheckAnswer extent snapshot (copy_of snapshot layout) choice.Active answer → (answer ≡ done (codes "OK\n")) ⊎ (answer ≡ refused failure.Memory) }
+    ensures prefixes { (extent : Extent) (snapshot : Bool) (layout : List ℕ) (listing : List Member) (n : ℕ) (answer : Answer) → IsGoodCopy snapshot layout listing
+        → n < length (copy_of snapshot layout) → IsCheckAnswer extent snapshot (take n (copy_of snapshot layout)) choice.Active answer → answer.ending ≢ Ok 0 }
 {
     chosen_meta_is_one();
     sound_trees_have_no_finding();

@@ -9,6 +9,7 @@ mod compact_command;
 mod copies;
 mod copy_kind;
 mod decimals;
+mod extent;
 mod failure;
 mod get_command;
 mod good_copies;
@@ -18,6 +19,7 @@ mod job;
 mod keys_command;
 pub mod laws;
 mod list_command;
+mod lost_and_found;
 mod meta_choice;
 mod open_bucket;
 mod open_read;
@@ -37,6 +39,7 @@ mod whole_run;
 mod words;
 
 pub use copy_kind::CopyKind;
+pub use extent::Extent;
 pub use failure::Failure;
 pub use job::{
     BucketsJob, CheckJob, CompactJob, GetJob, InfoJob, Job, KeysJob, ListJob, PageJob, PagesJob,

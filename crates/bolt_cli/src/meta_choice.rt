@@ -1,11 +1,11 @@
 //! The meta that a file is read under.
-ghost use Rattle.std.specs.Prelude.{◌≡◌};
+ghost use Rattle.std.specs.Prelude.{◌≡◌, IfErr, IfOk};
 ghost use Rattle.bolt_format.specs.Metas.{IsPageSize};
-ghost use Rattle.bolt_cli.specs.MetaChoices.{assumed_for};
+ghost use Rattle.bolt_cli.specs.MetaChoices.{HasNoMetaOf, IsMetaOf, assumed_for};
 
 use crate::page_size::PageSize;
 use bolt_check::assumed_meta;
-use bolt_format::{Meta, Slot};
+use bolt_format::{Meta, MetaFault, Slot, choose, slot_meta};
 
 /// The meta that a file is read under.
 #[derive(Clone, Copy, Debug)]
@@ -24,6 +24,28 @@ pub struct AssumedMeta {
     pub page_size: PageSize,
     /// The number of the root page.
     pub root: u64,
+}
+
+impl MetaChoice {
+    /// The meta of a file that is chosen.
+    ///
+    /// # Errors
+    ///
+    /// The fault of byte 0 if no meta is valid, or that of the slot if it has no valid meta. There is
+    /// none if the meta is assumed.
+    pub fn find(self, file: &[u8]) -> Result<Meta, MetaFault>
+        ensures found { IfOk result (IsMetaOf file.now self) }
+        ensures none { IfErr result (HasNoMetaOf file.now self) }
+    {
+        match self {
+            MetaChoice::Active => {
+                let (_, meta) = choose(file)?;
+                Ok(meta)
+            }
+            MetaChoice::InSlot(slot) => slot_meta(file, slot),
+            MetaChoice::Assumed(assumed) => Ok(assumed.for_file(file)),
+        }
+    }
 }
 
 impl AssumedMeta {

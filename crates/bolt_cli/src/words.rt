@@ -2,10 +2,11 @@
 ghost use Rattle.std.specs.Prelude.{◌≡◌, Err, IfErr, IfOk, MatchOption, MatchResult, None, Ok, Some, codes, map, option_map, string_bytes};
 ghost use Rattle.clap.specs.Words.{fault_of, found_of, kind_of, rows_of, subcommand_rows_of};
 ghost use Rattle.bolt_cli.specs.CommandLine.{Asks, Gives, HasKindOf, IsRefusedBy, asked_by, asked_by_subcommand, program, values_in};
-ghost use Rattle.bolt_cli.specs.PlainWords.{asked, asked_of, asks_buckets, asks_check, asks_compact, asks_get, asks_info, asks_keys, asks_list, asks_page, asks_pages, asks_stats, assumed_by, assumed_in, assumed_of, first_of, form_by, form_of, copy_kind_by, list_form_by, meta_by, meta_in, number_of, page_id, page_size_by, page_size_of, path_by, path_in, prefix_by, size_in, slot_by, slot_of, text_by};
+ghost use Rattle.bolt_cli.specs.PlainWords.{asked, asked_of, asks_buckets, asks_check, asks_compact, asks_get, asks_info, asks_keys, asks_list, asks_page, asks_pages, asks_stats, assumed_of, extent_by, first_of, form_by, form_of, copy_kind_by, list_form_by, meta_by, meta_in, number_of, page_id, page_size_by, page_size_of, path_by, path_in, prefix_by, size_in, slot_by, slot_of, text_by};
 
 use crate::command_line;
 use crate::copy_kind::CopyKind;
+use crate::extent::Extent;
 use crate::job::{
     BucketsJob, CheckJob, CompactJob, GetJob, InfoJob, Job, KeysJob, ListJob, PageJob, PagesJob,
     StatsJob,
@@ -98,7 +99,7 @@ fn read_page(alloc: Global, matches: &ArgMatches<'_>) -> Result<Job, Refusal>
 {
     Ok(Job::Page(PageJob {
         file: read_text(alloc, matches, "FILE")?,
-        assumed: read_assumed(choice(matches, "assume-meta"))?,
+        meta: read_meta(matches)?,
         id: read_page_id(value(matches, "ID")?)?,
     }))
 }
@@ -118,7 +119,7 @@ fn read_check(alloc: Global, matches: &ArgMatches<'_>) -> Result<Job, Refusal>
     Ok(Job::Check(CheckJob {
         file: read_text(alloc, matches, "FILE")?,
         meta: read_meta(matches)?,
-        all: choice(matches, "all").is_some(),
+        extent: read_extent(choice(matches, "all"), choice(matches, "lost-and-found")),
         snapshot: choice(matches, "etcd-snapshot").is_some(),
     }))
 }
@@ -265,6 +266,18 @@ fn read_copy_kind(for_bbolt: Option<&str>, snapshot: Option<&str>) -> CopyKind
     }
 }
 
+/// How far a check goes, by the words of `--all` and `--lost-and-found` if they are given. The latter
+/// implies the former.
+fn read_extent(all: Option<&str>, lost_and_found: Option<&str>) -> Extent
+    ensures { result ≡ extent_by (option_map (λ text. text.now) all.entry) (option_map (λ text. text.now) lost_and_found.entry) }
+{
+    match (all, lost_and_found) {
+        (_, Some(_)) => Extent::LostAndFound,
+        (Some(_), None) => Extent::Losses,
+        (None, None) => Extent::First,
+    }
+}
+
 fn read_size(word: &str) -> Option<PageSize>
     ensures { MatchOption result (page_size_of word.now ≡ Err (codes "bad page size")) (λ size. page_size_of word.now ≡ Ok (Some size.bytes)) }
 {
@@ -290,7 +303,7 @@ fn read_meta(matches: &ArgMatches<'_>) -> Result<MetaChoice, Refusal>
     match (choice(matches, "meta"), choice(matches, "assume-meta")) {
         (None, None) => Ok(MetaChoice::Active),
         (Some(word), None) => Ok(MetaChoice::InSlot(slot_of(word)?)),
-        (None, Some(word)) => Ok(MetaChoice::Assumed(assumed_of(word)?)),
+        (None, Some(word)) => assumed_of(word),
         (Some(_), Some(_)) => Err(Refusal::Word(BAD_ASSUMED)),
     }
 }
@@ -314,24 +327,18 @@ fn slot_of(word: &str) -> Result<Slot, Refusal>
     }
 }
 
-fn read_assumed(word: Option<&str>) -> Result<Option<AssumedMeta>, Refusal>
-    ensures { Gives (option_map assumed_in) (assumed_by (option_map (λ text. text.now) word.entry)) result }
+fn assumed_of(word: &str) -> Result<MetaChoice, Refusal>
+    ensures { Gives meta_in (assumed_of word.now) result }
 {
-    match word {
-        Some(word) => Ok(Some(assumed_of(word)?)),
-        None => Ok(None),
+    match find_assumed(word) {
+        Some(assumed) => Ok(MetaChoice::Assumed(assumed)),
+        None => Err(Refusal::Word(BAD_ASSUMED)),
     }
-}
-
-fn assumed_of(word: &str) -> Result<AssumedMeta, Refusal>
-    ensures { Gives assumed_in (assumed_of word.now) result }
-{
-    find_assumed(word).ok_or(Refusal::Word(BAD_ASSUMED))
 }
 
 /// The page size before the first colon, and the root page after it.
 fn find_assumed(word: &str) -> Option<AssumedMeta>
-    ensures { MatchOption result (assumed_of word.now ≡ Err (codes "bad meta: use PAGE_SIZE:ROOT, and no --meta")) (λ assumed. assumed_of word.now ≡ Ok (assumed_in assumed)) }
+    ensures { MatchOption result (assumed_of word.now ≡ Err (codes "bad meta: use PAGE_SIZE:ROOT, and no --meta")) (λ assumed. assumed_of word.now ≡ Ok (meta_in (MetaChoice.Assumed assumed))) }
 {
     let (page_size, root) = word.split_once(':')?;
     Some(AssumedMeta {

@@ -1,11 +1,15 @@
 -- The buckets among the first elements of a leaf, and the lines of found pages.
-use Rattle.std.proofs.Common.{◌≡◌, ◌∙◌, ◌+◌, ◌++◌, ℕ, Bool, true, false, List, [], ◌∷◌, Some, ap, arith, flat_map, map, refl, slice_get, take}
+use Rattle.std.proofs.Common.{◌≡◌, ◌≢◌, ◌∙◌, ◌+◌, ◌<◌, ◌++◌, ℕ, Bool, true, false, List, [], ◌∷◌, Some, ap, arith, flat_map, length, map, refl, slice_get, subst, take}
 use Rattle.std.specs.Prelude.{cond}
 use Rattle.std.proofs.lemmas.List.Filters.{length-filter_more}
 use Rattle.std.proofs.lemmas.Option.{get_or_from_slice_get, slice_get_within}
 use Rattle.bolt_format.specs.Elements.{LeafElement}
+use Rattle.bolt_format.specs.Shown.{shown}
+use Rattle.bolt_format.specs.declared.good_page.Page.{Page}
+use Rattle.bolt_format.specs.declared.kind.Kind.TheVariants as kind
 use Rattle.bolt_recover.specs.declared.found.Found.{Found}
 use Rattle.bolt_report.specs.FoundLines.{bucket_count, found_line, found_text, found_view}
+use Rattle.bolt_report.proofs.ShownLemmas.{length-leaves}
 
 module _ (elements : List LeafElement) (i : ℕ) (e : LeafElement) (found : slice_get elements i ≡ Some e) where
   bucket_more : bucket_count (take (i + 1) elements) ≡ bucket_count (take i elements) + cond e.is_bucket 1 0
@@ -25,3 +29,10 @@ module _ (elements : List LeafElement) (i : ℕ) (e : LeafElement) (found : slic
 pub found_lines : (found : List Found) → flat_map (λ (f : Found). found_line (found_view f)) found ≡ found_text (map found_view found)
 found_lines [] = refl
 found_lines (f ∷ found) = ap (λ (more : List ℕ). found_line (found_view f) ++ more) (found_lines found)
+
+nonempty : {X : Type 0} (xs : List X) → xs ≢ [] → 0 < length xs
+nonempty [] some = absurd (some refl)
+nonempty (x ∷ xs) some = omega arith
+
+pub some_elements : (page : Page) → (shown page).kind ≡ kind.Leaf → (shown page).leaves ≢ [] → 0 < (shown page).count
+some_elements page is some = subst (λ (n : ℕ). 0 < n) (length-leaves page is) (nonempty (shown page).leaves some)

@@ -1,5 +1,5 @@
 -- The lines of found pages: docs/COMMANDS.md, "Lost and found".
-use Rattle.std.specs.Prelude.{◌≡◌, ◌+◌, ◌-◌, ◌<◌, ℕ, List, [], ◌++◌, codes, decimal, flat_map, length, option_map, slice_get, unwrap_or}
+use Rattle.std.specs.Prelude.{◌≡◌, ◌≢◌, ◌+◌, ◌-◌, ℕ, List, [], ◌++◌, codes, decimal, flat_map, length, option_map, slice_get, unwrap_or}
 use Rattle.std.specs.List.{filter}
 use Rattle.hex.specs.Hex.{encode_lower}
 use Rattle.bolt_format.specs.Elements.{LeafElement}
@@ -24,7 +24,7 @@ found_view found = record { number = found.number; elements = (shown found.page.
 -- it is a leaf of at least one element
 pub record IsFoundLeaf (found : Found) : Type 0 where
   pub kind : (shown found.page.page).kind ≡ kind.Leaf
-  pub some : 0 < (shown found.page.page).count
+  pub some : (shown found.page.page).leaves ≢ []
 
 -- the key of an element
 abbrev pub key_at : List LeafElement → ℕ → Key

@@ -20,7 +20,7 @@ returns-in_err-page_text g c =
     let file = c.args.file.now in
     let meta = c.in_ok-meta.meta in (
       page_answer (page_text_fault file meta c.args.job.now.id) (page_text file meta c.args.job.now.id),
-      inl (meta, c.in_ok-meta.ensures.opened, refl),
+      inl (meta, c.in_ok-meta.ensures.found, refl),
       Does-page_part ⊤ c.args.out.now c.page_text.new.sink (page_text_fault file meta c.args.job.now.id) (page_text file meta c.args.job.now.id) _ _
           c.in_err-page_text.ensures.written (c.in_err-page_text.ensures.memory) c.in_err-page_text.ensures.page c.in_err-page_text.ensures.untouched c.from_residual-in_err-page_text.ensures.1,
     )
@@ -30,7 +30,7 @@ returns g c =
     let file = c.args.file.now in
     let meta = c.in_ok-meta.meta in (
       page_answer (page_text_fault file meta c.args.job.now.id) (page_text file meta c.args.job.now.id),
-      inl (meta, c.in_ok-meta.ensures.opened, refl),
+      inl (meta, c.in_ok-meta.ensures.found, refl),
       Does-page_whole c.args.out.now c.page_text.new.sink (page_text_fault file meta c.args.job.now.id) (page_text file meta c.args.job.now.id) _
           c.in_ok-page_text.ensures.written c.in_ok-page_text.ensures.page,
     )
