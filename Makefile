@@ -75,7 +75,7 @@ manual: $(PROGRAM)
 	if command -v mandoc > /dev/null; then mandoc -Tlint docs/luntsegi.1; fi
 	python3 -B tools/usage/compare_manual.py $(PROGRAM) docs/luntsegi.1
 	python3 -B tools/usage/compare_completions.py $(PROGRAM)
-	python3 -B tools/usage/check_links.py README.md $(wildcard docs/*.md) docs/luntsegi.1 $(SOURCES)
+	python3 -B tools/usage/check_links.py README.md $(wildcard docs/*.md crates/*/README.md) docs/luntsegi.1 $(SOURCES)
 	python3 -B tools/usage/check_links.py tools/usage/broken_links.md | cmp - tools/usage/broken_links.found
 
 LISTED_LONG = out/listed_long.db
