@@ -1,4 +1,4 @@
--- How a call ends that may stop for reasons other than its sink: docs/PROMISES.md, "The layout of a compact copy".
+-- How a call ends that may stop for reasons other than its sink.
 use Rattle.std.specs.Prelude.{Result, Ok, Err}
 use Rattle.bolt_format.specs.Endings.{Ending, whole, broken, halted}
 use Rattle.bolt_bulk.specs.declared.fault.BulkFault.{BulkFault}

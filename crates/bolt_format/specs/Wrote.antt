@@ -1,4 +1,4 @@
--- What a call that writes a text leaves on its sink: docs/PROMISES.md, "What is printed".
+-- What a call that writes a text leaves on its sink.
 use Rattle.std.specs.Prelude.{◌≡◌, ◌<◌, ℕ, List}
 use Rattle.std.specs.Io.KnownBytes.{Appends}
 use Rattle.bolt_format.specs.Endings.{Ending, whole, cut, broken, halted}
