@@ -12,8 +12,8 @@ use Rattle.bolt_bulk.specs.Private.Stops.{stopped_by}
 use Rattle.bolt_bulk.proofs.FileLayouts.{some_bytes, too_large, within_limit}
 use Rattle.bolt_bulk.proofs.WalkLeft.{whole_again}
 use Rattle.bolt_format.proofs.PageSizes.{size_bounds}
-use Rattle.bolt_bulk.proofs.members_copy.put_members.Goals as goal
-use Rattle.bolt_bulk.proofs.members_copy.put_members.Goals.{After-setup_of-setup}
+use Rattle.bolt_bulk.proofs.members_copy.compact_members.Goals as goal
+use Rattle.bolt_bulk.proofs.members_copy.compact_members.Goals.{After-setup_of-setup}
 
 -- the limits are those of the layout, also at the setup's page size
 fit : (g : _) (c : After-setup_of-setup g) (listing : List Member) → g.M.Members.lists c.args.members.now listing
