@@ -7,7 +7,7 @@ use Rattle.bolt_tree.specs.Entries.{Bucket, Item, Value}
 use Rattle.bolt_tree.specs.Listing.{Member}
 use Rattle.bolt_tree.specs.Paths.{Path}
 use Rattle.bolt_bulk.specs.Private.Endings.{IsFitItem, IsFitMember, last_part}
-use Rattle.bolt_bulk.specs.Private.WholeListings.{IsAgain, IsWhole}
+use Rattle.bolt_bulk.specs.WholeListings.{IsAgain, IsWhole}
 use Rattle.bolt_bulk.proofs.FileLayouts.{listing_fits}
 
 fit_prop : (path : Path) (item : Item) → IsProp ((1 ≤ length path) × (length (last_part path) ≤ 1073741824) × IsFitItem item)

@@ -10,7 +10,7 @@ use Rattle.bolt_tree.specs.Walks.{left_of, walk_checked}
 use Rattle.bolt_tree.specs.WalksLeft.{the_listing}
 use Rattle.bolt_tree.specs.declared.walk.Walk.{Walk}
 use Rattle.bolt_layout.specs.Copies.{IsOfOneTree}
-use Rattle.bolt_bulk.specs.Private.WholeListings.{IsWhole}
+use Rattle.bolt_bulk.specs.WholeListings.{IsWhole}
 
 pub walk_whole : (checked : Checked) (walk : Walk) → walk_checked walk ≡ checked → ForListing checked (λ listing. left_of walk listing ≡ listing)
     → ForListing checked (λ listing. ∥ IsOfOneTree listing ∥₁) → IsWhole (λ (w : Walk) (listing : List Member). IsListing (bytes_of (walk_checked w)) (meta_of (walk_checked w)) listing) (λ (w : Walk) (listing : List Member). left_of w listing) walk

@@ -1,3 +1,4 @@
 pub mod BulkEndings
 pub mod Compacting
 pub mod Private
+pub mod WholeListings

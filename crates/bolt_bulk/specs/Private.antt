@@ -18,4 +18,3 @@ pub mod RunViews
 pub mod Stops
 pub mod TakenItems
 pub mod WaitingBuckets
-pub mod WholeListings

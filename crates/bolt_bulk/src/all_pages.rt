@@ -5,7 +5,7 @@ ghost use Rattle.bolt_tree.specs.Tree.{tree_of};
 ghost use Rattle.bolt_layout.specs.declared.layout.Layout.{Layout};
 ghost use Rattle.bolt_bulk.specs.Private.Endings.{Ends};
 ghost use Rattle.bolt_bulk.specs.Private.Passes.{FitLimits, limits_with};
-ghost use Rattle.bolt_bulk.specs.Private.WholeListings.{IsWhole};
+ghost use Rattle.bolt_bulk.specs.WholeListings.{IsWhole};
 
 use crate::fault::BulkFault;
 use crate::limits::Limits;

@@ -14,7 +14,7 @@ ghost use Rattle.bolt_layout.specs.declared.layout.Layout.TheVariants.{Plain};
 
 use crate::fault::{BulkFault, PlanFault};
 use crate::file_laws::{file_is_of_one_tree, recovered_is_of_one_tree};
-use crate::members_copy::{plan_members, put_members};
+use crate::members_copy::{compact_members, plan_members};
 use crate::outcome::{Done, Plan};
 use crate::shape::Shape;
 use bolt_check::Checked;
@@ -94,7 +94,7 @@ pub fn compact_as<S: Sink>(
         page_size,
         sequence: checked.meta().root_sequence,
     };
-    put_members(alloc, &mut Walk::new(alloc, checked), &shape, sink)
+    compact_members(alloc, &mut Walk::new(alloc, checked), &shape, sink)
 }
 
 /// Writes the compact copy of a file in the plain layout: `compact_as` for that layout.
@@ -149,5 +149,5 @@ pub fn compact_recovered<S: Sink>(
         page_size,
         sequence: recovery.meta().root_sequence,
     };
-    put_members(alloc, recovery, &shape, sink)
+    compact_members(alloc, recovery, &shape, sink)
 }

@@ -1,4 +1,4 @@
-//! The compact copy of a sound file, or of what a damaged one still holds: the calls that plan it,
+//! The compact copy of a sound file, of what a damaged one still holds, or of any members: the calls that plan it,
 //! and those that write it page by page. `bolt_layout` defines its layout.
 //!
 //! The copy is bulk loaded: its members come once, in order, and each page is filled and written
@@ -35,4 +35,6 @@ mod waiting_bucket;
 
 pub use copy::{compact, compact_as, compact_recovered, plan, plan_as};
 pub use fault::{BulkFault, PlanFault};
+pub use members_copy::compact_members;
 pub use outcome::{Done, Plan};
+pub use shape::Shape;

@@ -10,7 +10,7 @@ ghost use Rattle.bolt_layout.specs.Layout.{layout_held, layout_root};
 ghost use Rattle.bolt_layout.specs.declared.layout.Layout.{Layout};
 ghost use Rattle.bolt_layout.specs.declared.layout.Layout.TheVariants.{Balanced};
 ghost use Rattle.bolt_bulk.specs.Private.Passes.{FitLimits, limits_with};
-ghost use Rattle.bolt_bulk.specs.Private.WholeListings.{IsAgain, IsWhole};
+ghost use Rattle.bolt_bulk.specs.WholeListings.{IsAgain, IsWhole};
 ghost use Rattle.bolt_bulk.specs.declared.fault.PlanFault.TheVariants as planned;
 
 use crate::all_pages::put_pages;
@@ -146,8 +146,14 @@ pub(crate) fn plan_members<'a, M: Members<'a>>(
     plan_within(alloc, members, &limits, shape)
 }
 
-/// Writes the copy of all members. The last pass, which writes the pages, takes them away.
-pub(crate) fn put_members<'a, M: Members<'a>, S: Sink>(
+/// Writes the copy of all members of a listing that is of one tree: its one layout, written as
+/// `compact_as` writes that of a sound file. No member may have been taken before. They begin again
+/// after each pass but the last.
+///
+/// # Errors
+///
+/// Those of `compact_as`.
+pub fn compact_members<'a, M: Members<'a>, S: Sink>(
     alloc: Global,
     members: &mut M,
     shape: &Shape,

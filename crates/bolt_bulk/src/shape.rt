@@ -5,8 +5,10 @@ use bolt_layout::Layout;
 
 /// What a copy looks like, apart from its members.
 #[derive(Clone, Copy)]
-pub(crate) struct Shape {
+pub struct Shape {
+    /// Its layout.
     pub layout: Layout,
+    /// The size of its pages.
     pub page_size: u64,
     /// The sequence of the root bucket.
     pub sequence: u64,

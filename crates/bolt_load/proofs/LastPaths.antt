@@ -67,7 +67,7 @@ split_last path some =
     let found = one_only (drop n path) one in
     (found.0, sym (take-append-drop n path) ∙ ap (λ more. take n path ++ more) found.1)
 
-above_append : (front rest : Path) → 0 < length rest → path_above (front ++ rest) ≡ front ++ path_above rest
+pub above_append : (front rest : Path) → 0 < length rest → path_above (front ++ rest) ≡ front ++ path_above rest
 above_append front rest some =
     let l = length-append front rest in
     let n : length (front ++ rest) - 1 ≡ length front + (length rest - 1) = omega (arith, l, some) in

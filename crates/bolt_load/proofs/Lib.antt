@@ -1,6 +1,7 @@
 pub mod CutLemmas
 pub mod DecimalNumbers
 pub mod DecodedLines
+pub mod EdgeTrees
 pub mod LastPaths
 pub mod LineLemmas
 pub mod MemberLemmas
@@ -10,4 +11,5 @@ pub mod PathLemmas
 pub mod PlacedLines
 pub mod PushedParts
 pub mod ReadTexts
+pub mod TextTrees
 pub mod WordLemmas

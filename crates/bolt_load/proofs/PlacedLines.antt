@@ -81,7 +81,7 @@ pub record HasPlaced (text left : Text) (last : Path) (bucket : Bool) (number : 
 pub none_placed : (text : Text) → All IsShaped (lines_of text) → HasPlaced text text [] true 0
 none_placed text shaped = record { front = []; lines = refl; number_is = refl; fits = omega arith; shaped = shaped; right = tt; last_is = none_last }
 
-fault_parts : (above below : Bool) → fault_by above below ≡ None → (above ≡ true) × (below ≡ true)
+pub fault_parts : (above below : Bool) → fault_by above below ≡ None → (above ≡ true) × (below ≡ true)
 fault_parts true true none = (refl, refl)
 fault_parts true false none = absurd (cc)
 fault_parts false below none = absurd (cc)

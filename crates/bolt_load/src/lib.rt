@@ -6,6 +6,7 @@
 mod cuts;
 mod decode;
 mod fault;
+pub mod laws;
 mod line_members;
 mod line_words;
 mod listing_text;

@@ -2,8 +2,8 @@
 use Rattle.std.proofs.Common.{refl}
 use Rattle.bolt_bulk.proofs.copy.compact_recovered.Goals as goal
 
-pub put_members-requires : goal.put_members-requires
-put_members-requires g c κs = (
+pub compact_members-requires : goal.compact_members-requires
+compact_members-requires g c κs = (
   (refl, tt),
   record {
     some = c.recovered_is_of_one_tree.ensures.some;

@@ -1,0 +1,133 @@
+-- What the lines of a text tell is what one tree lists: each member is put at the end of its bucket.
+use Rattle.std.proofs.Common.{◌≡◌, ◌∙◌, inl, inr, ◌<◌, ◌==◌, ◌||◌, Bool, true, false, List, [], ◌∷◌, ◌++◌, Option, Some, None, drop, length, refl, sym, ap, ap₂, subst, arith, append_assoc, append-nil}
+use Rattle.std.specs.Option.{option_or}
+use Rattle.std.specs.Ordering.{is_lt}
+use Rattle.std.specs.Prelude.{nat_lt, option_and_then}
+use Rattle.std.specs.declared.cmp.Ordering.{Ordering}
+use Rattle.std.specs.declared.cmp.Ordering.TheVariants.{Less}
+use Rattle.std.proofs.lemmas.Bool.{and_parts}
+use Rattle.std.proofs.lemmas.Bool.Decides.{nat_tests}
+use Rattle.bolt_tree.specs.Entries.{Bucket, Item, Value}
+use Rattle.bolt_tree.specs.Listing.{Member, member_cmp}
+use Rattle.bolt_tree.specs.ListingParts.{begins_with, has_bucket, is_bucket}
+use Rattle.bolt_tree.specs.Order.{Rises}
+use Rattle.bolt_tree.specs.Paths.{Path, path_cmp}
+use Rattle.bolt_tree.specs.Tree.{Tree, end, listing_of}
+use Rattle.bolt_tree.proofs.ListLemmas.{Has, contains_from_has, has_from_contains, has_split}
+use Rattle.bolt_tree.proofs.Lists.{contains_none}
+use Rattle.bolt_tree.proofs.PartLemmas.{begins_of}
+use Rattle.bolt_tree.proofs.PathOrder.{less_lt, path_total}
+use Rattle.bolt_load.specs.LineFaults.{IsListingText, RightAfter, path_above, place_fault, shape_fault}
+use Rattle.bolt_load.specs.LineMembers.{line_member, members_in, text_members}
+use Rattle.bolt_load.specs.Lines.{Text, lines_of}
+use Rattle.bolt_load.specs.Private.OpenPaths.{is_open}
+use Rattle.bolt_load.specs.declared.fault.LineFault.{LineFault}
+use Rattle.bolt_load.proofs.DecodedLines.{member_alone, shaped_member}
+use Rattle.bolt_load.proofs.EdgeTrees.{OnEdge, front_on_edge, new_on_edge, put_last, put_lists}
+use Rattle.bolt_load.proofs.LastPaths.{IsLast, above_append, next_last, none_last, place_same, split_last}
+use Rattle.bolt_load.proofs.NextLines.{members_first}
+use Rattle.bolt_load.proofs.PlacedLines.{fault_parts, line_path_some}
+
+-- ---- lists that rise
+
+rises_push : {A : Type 0} (cmp : A → A → Ordering) (xs : List A) (x : A) → Rises cmp xs → ((y : A) → Has xs y → cmp y x ≡ Less) → Rises cmp (xs ++ x ∷ [])
+rises_push cmp [] x rises below = (λ y has. absurd (contains_none y has), tt)
+rises_push cmp (z ∷ xs) x rises below = (
+  λ y has. elim (has_split xs (x ∷ []) y (has_from_contains (xs ++ x ∷ []) y has)) [
+    | inl earlier ↦ rises.0 y (contains_from_has xs y earlier)
+    | inr (inl here) ↦ subst (λ w. cmp z w ≡ Less) here (below z (inl refl))
+    | inr (inr none) ↦ absurd none
+  ],
+  rises_push cmp xs x rises.1 (λ y has. below y (inr has)),
+)
+
+-- ---- the tree so far
+
+pub record HasGrown (before : List Member) (tree : Tree) (last : Path) (bucket : Bool) : Type 0 where
+  pub lists : listing_of tree ≡ before
+  pub edge : (above : Path) → is_open last bucket above ≡ true → OnEdge tree above
+  pub last_is : IsLast before last bucket
+  pub rises : Rises member_cmp before
+
+none_on_edge : (above : Path) → has_bucket above [] ≡ true → OnEdge end above
+none_on_edge [] has = tt
+none_on_edge (part ∷ above) has = absurd (let none : (length (part ∷ above) == 0 || false) ≡ false = grind (arith, nat_tests) in let f : true ≡ false = sym has ∙ none in cc)
+
+pub none_grown : HasGrown [] end [] true
+none_grown = record { lists = refl; edge = λ above goes. none_on_edge above (none_last.opens above goes); last_is = none_last; rises = tt }
+
+module _ (before : List Member) (tree : Tree) (last : Path) (bucket : Bool) (so_far : HasGrown before tree last bucket) (path : Path) (item : Item) (some : 0 < length path)
+    (less : path_cmp last path ≡ Less) (opens : is_open last bucket (path_above path) ≡ true) where
+  abbrev pub next_tree : Tree
+  next_tree = put_last tree (path_above path) (split_last path some).0 item
+
+  edge_above : OnEdge tree (path_above path)
+  edge_above = so_far.edge (path_above path) opens
+
+  now_lists : listing_of next_tree ≡ before ++ (path, item) ∷ []
+  now_lists =
+      put_lists tree [] (path_above path) (split_last path some).0 item edge_above
+      ∙ ap₂ (λ front path. front ++ (path, item) ∷ []) so_far.lists (sym (split_last path some).1)
+
+  new_edge : (item : Item) → is_bucket item ≡ true → OnEdge (put_last tree (path_above path) (split_last path some).0 item) path
+  new_edge (Value value) kind = absurd (let f : false ≡ true = kind in cc)
+  new_edge (Bucket sequence) kind =
+      subst (OnEdge (put_last tree (path_above path) (split_last path some).0 (Bucket sequence))) (sym (split_last path some).1) (new_on_edge tree (path_above path) (split_last path some).0 sequence edge_above)
+
+  now_edge : (above : Path) → is_open path (is_bucket item) above ≡ true → OnEdge next_tree above
+  now_edge above goes =
+      let parts = and_parts (begins_with above path) (nat_lt (length above) (length path) || is_bucket item) goes in
+      at (drop (length above) path) (begins_of above path parts.0) parts.1
+    where
+      at : (rest : Path) → path ≡ above ++ rest → (nat_lt (length above) (length path) || is_bucket item) ≡ true → OnEdge next_tree above
+      at [] split kind =
+          let same : path ≡ above = split ∙ append-nil above in
+          let l = ap length same in
+          let not_shorter : nat_lt (length above) (length path) ≡ false = grind (arith, nat_tests, l) in
+          subst (OnEdge next_tree) same (new_edge item (sym (ap (λ b. b || is_bucket item) not_shorter) ∙ kind))
+      at (part ∷ rest) split kind =
+          let same : path_above path ≡ above ++ path_above (part ∷ rest) = ap path_above split ∙ above_append above (part ∷ rest) (omega arith) in
+          subst (λ (front : Path). OnEdge (put_last tree front (split_last path some).0 item) above) (sym same)
+          (front_on_edge tree above (path_above (part ∷ rest)) (split_last path some).0 item (subst (OnEdge tree) same edge_above))
+
+  below : (member : Member) → Has before member → member_cmp member (path, item) ≡ Less
+  below member has = elim (so_far.last_is.most member has) [
+    | inl earlier ↦ path_total.trans member.0 last path earlier less
+    | inr (same, kind) ↦ ap (λ p. path_cmp p path) same ∙ less
+  ]
+
+  pub next_grown : HasGrown (before ++ (path, item) ∷ []) next_tree path (is_bucket item)
+  next_grown = record {
+    lists = now_lists;
+    edge = now_edge;
+    last_is = next_last before last bucket so_far.last_is path item some less (so_far.last_is.opens (path_above path) opens);
+    rises = rises_push member_cmp before (path, item) so_far.rises below;
+  }
+
+-- ---- all lines
+
+or_parts : (a b : Option LineFault) → option_or a b ≡ None → (a ≡ None) × (b ≡ None)
+or_parts None b none = (refl, none)
+or_parts (Some fault) b none = absurd (let f : Some fault ≡ None = none in cc)
+
+grows : (lines : List Text) (before : List Member) (tree : Tree) (last : Path) (bucket : Bool) → HasGrown before tree last bucket → RightAfter before lines
+    → (all : Tree) × (listing_of all ≡ before ++ members_in lines) × Rises member_cmp (before ++ members_in lines)
+grows [] before tree last bucket so_far right = (tree, so_far.lists ∙ sym (append-nil before), subst (Rises member_cmp) (sym (append-nil before)) so_far.rises)
+grows (line ∷ lines) before tree last bucket so_far right =
+    let parts = or_parts (shape_fault line) (option_and_then (place_fault before) (line_member line)) right.0 in
+    let told = shaped_member line parts.0 in
+    let path = told.0.0 in
+    let item = told.0.1 in
+    let place : place_fault before told.0 ≡ None = sym (ap (option_and_then (place_fault before)) told.1) ∙ parts.1 in
+    let some = line_path_some line path item told.1 in
+    let both = fault_parts (is_lt (path_cmp last path)) (is_open last bucket (path_above path)) (sym (place_same before last bucket so_far.last_is path some item) ∙ place) in
+    let less = less_lt (path_cmp last path) both.0 in
+    let next = next_grown before tree last bucket so_far path item some less both.1 in
+    let rest = grows lines (before ++ told.0 ∷ []) (next_tree before tree last bucket so_far path item some less both.1) path (is_bucket item) next
+    (subst (λ (more : List Member). RightAfter (before ++ more) lines) (member_alone line told.0 told.1) right.1) in
+    let same : (before ++ told.0 ∷ []) ++ members_in lines ≡ before ++ members_in (line ∷ lines) =
+    append_assoc before (told.0 ∷ []) (members_in lines) ∙ ap (λ more. before ++ more) (sym (members_first line lines told.0 told.1)) in
+    (rest.0, rest.1 ∙ same, subst (Rises member_cmp) same rest.2)
+
+pub text_tree : (text : Text) → IsListingText text → (tree : Tree) × (listing_of tree ≡ text_members text) × Rises member_cmp (text_members text)
+text_tree text right = grows (lines_of text) [] end [] true none_grown right
