@@ -10,7 +10,7 @@ use std::process::ExitCode;
 use std::{env, io};
 
 fn main(rt: HostRuntime) -> ExitCode {
-    let mut process = Process::new(&rt);
+    let mut process = Process { rt: &rt };
     let code = match read_args(&rt) {
         Ok(words) => run_program(&mut process, rt.alloc(), words),
         Err(refusal) => refuse(&mut process, &refusal),

@@ -17,14 +17,10 @@ const PERMISSIONS: u32 = 0o777;
 /// The files and the streams of the process. It tells nothing of its deeds.
 #[derive(Drop)]
 pub struct Process<'a> {
-    rt: &'a HostRuntime,
+    pub rt: &'a HostRuntime,
 }
 
-impl<'a> Process<'a> {
-    pub fn new(rt: &'a HostRuntime) -> Self {
-        Process { rt }
-    }
-
+impl Process<'_> {
     fn read_source(&self, name: &str, metas_alone: bool) -> io::Result<Source> {
         let mut file = File::open(self.rt, name)?;
         let before = file.metadata()?;

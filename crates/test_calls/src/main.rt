@@ -28,6 +28,7 @@
 //! | `changes FIRST LAST COMMAND ..` | the same if each byte of a range is changed to each other value |
 //! | `flips FIRST LAST COMMAND ..` | the first line if one bit of each byte is changed |
 //! | `fails COMMAND ..`, `halts COMMAND ..` | how many bytes, and how many calls, fail in turn |
+//! | `deeds fail COMMAND ..`, `deeds differ COMMAND ..` | what a command does to files and streams, if deeds go wrong from each one on |
 //! | `agree` | how many changed files were compared |
 //!
 //! META is the slot of a meta, or assumes one by its page size and its root page, as `4096:3`. If a
@@ -37,6 +38,7 @@
 mod agreements;
 mod copies;
 mod cursors;
+mod deeds;
 mod failures;
 mod fault;
 mod halting;
@@ -155,6 +157,7 @@ fn other_result_of(
         "flips" => sweeps::flips(alloc, file, words),
         "fails" => failures::fails(alloc, file, words),
         "halts" => failures::halts(alloc, file, words),
+        "deeds" => deeds::deeds_of(alloc, file, words),
         "agree" => agreements::compared(alloc, file),
         _ => Err(Fault::Unread),
     }

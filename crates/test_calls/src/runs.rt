@@ -5,14 +5,19 @@ use bolt_cli::{Job, read_words, run};
 use bolt_format::{MemSink, Sink};
 use std::alloc::Global;
 
-/// The job that these words ask for.
-pub fn job_of(alloc: Global, words: &[String]) -> Result<Job, Fault> {
+/// The words of a command line, after the program's name.
+pub fn line_of(alloc: Global, words: &[String]) -> Result<Vec<String>, Fault> {
     let mut line = Vec::new(alloc);
     line.push(String::from_str(alloc, "luntsegi")?)?;
     for word in words {
         line.push(word.clone()?)?;
     }
-    read_words(alloc, line).map_err(|_| Fault::Unread)
+    Ok(line)
+}
+
+/// The job that these words ask for.
+pub fn job_of(alloc: Global, words: &[String]) -> Result<Job, Fault> {
+    read_words(alloc, line_of(alloc, words)?).map_err(|_| Fault::Unread)
 }
 
 /// The names of the job's FILE and OUT, which may be `none`.
