@@ -34,15 +34,10 @@ abbrev pub bucket_count : List LeafElement → ℕ
 bucket_count elements = length (filter (λ (e : LeafElement). e.is_bucket) elements)
 
 -- the number of the page, how many entries it has and how many of them are buckets, and the keys of the first and of the last
-abbrev pub found_head : (number entries buckets : ℕ) → List ℕ
-found_head number entries buckets =
-    codes "page " ++ (decimal number ++ (codes ": nothing leads to it; found: " ++ (decimal entries ++ (codes " entries, " ++ (decimal buckets ++ codes " of them buckets, keys from ")))))
-
-abbrev pub found_keys : List LeafElement → List ℕ
-found_keys elements = encode_lower (key_at elements 0) ++ (codes " to " ++ line (encode_lower (key_at elements (length elements - 1))))
-
 unfoldable pub found_line : FoundView → List ℕ
-found_line found = found_head found.number (length found.elements) (bucket_count found.elements) ++ found_keys found.elements
+found_line found =
+    codes "page " ++ (decimal found.number ++ (codes ": nothing leads to it; found: " ++ (decimal (length found.elements) ++ (codes " entries, " ++ (decimal (bucket_count found.elements)
+    ++ (codes " of them buckets, keys from " ++ (encode_lower (key_at found.elements 0) ++ (codes " to " ++ line (encode_lower (key_at found.elements (length found.elements - 1)))))))))))
 
 abbrev pub found_text : List FoundView → List ℕ
 found_text found = flat_map found_line found

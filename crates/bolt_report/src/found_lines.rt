@@ -1,11 +1,11 @@
 //! The lines of pages that are found though nothing leads to them.
 ghost use Rattle.std.specs.List.{All};
-ghost use Rattle.std.specs.Prelude.{◌≡◌, ◌<◌, ◌≤◌, length, map};
+ghost use Rattle.std.specs.Prelude.{◌≡◌, ◌≤◌, map};
 ghost use Rattle.bolt_format.specs.Endings.{ending};
 ghost use Rattle.bolt_format.specs.Shown.{shown};
 ghost use Rattle.bolt_format.specs.Wrote.{Wrote};
 ghost use Rattle.bolt_recover.specs.ShownLosses.{loss_view};
-ghost use Rattle.bolt_report.specs.FoundLines.{IsFoundLeaf, all_lost_and_found_text, bucket_count, found_and_count, found_head, found_keys, found_line, found_text, found_view, lost_and_found_text};
+ghost use Rattle.bolt_report.specs.FoundLines.{IsFoundLeaf, all_lost_and_found_text, bucket_count, found_line, found_text, found_view, lost_and_found_text};
 
 use crate::fault_lines::{put_count, put_sentence};
 use crate::loss_lines::losses_text;
@@ -31,7 +31,8 @@ pub fn lost_and_found_text<S: Sink>(
     ensures { Wrote S.Sink sink.old sink.new (lost_and_found_text earlier (map loss_view losses.now) (map found_view found.now)) (ending result) }
 {
     losses_text(losses, sink)?;
-    put_found_and_count(found, earlier + losses.len() as u64, sink)
+    put_all_found(found, sink)?;
+    put_count(earlier + losses.len() as u64, sink)
 }
 
 /// Writes the line of a lost root page, with which everything is lost, the line of each found page,
@@ -52,20 +53,8 @@ pub fn all_lost_and_found_text<S: Sink>(
     ensures { Wrote S.Sink sink.old sink.new (all_lost_and_found_text earlier finding.now (map found_view found.now)) (ending result) }
 {
     put_sentence(finding, b"; lost: everything\n", sink)?;
-    put_found_and_count(found, earlier + 1, sink)
-}
-
-/// Writes the line of each found page, and then the line with the number of errors.
-fn put_found_and_count<S: Sink>(
-    found: &[Found<'_>],
-    errors: u64,
-    sink: &mut S,
-) -> Result<(), SinkFault>
-    requires { All IsFoundLeaf found.now }
-    ensures { Wrote S.Sink sink.old sink.new (found_and_count (map found_view found.now) errors) (ending result) }
-{
     put_all_found(found, sink)?;
-    put_count(errors, sink)
+    put_count(earlier + 1, sink)
 }
 
 fn put_all_found<S: Sink>(found: &[Found<'_>], sink: &mut S) -> Result<(), SinkFault>
@@ -78,32 +67,26 @@ fn put_all_found<S: Sink>(found: &[Found<'_>], sink: &mut S) -> Result<(), SinkF
     Ok(())
 }
 
-#[tactic(auto, using(bolt_format::proofs::WroteLemmas::wrote), unfolding(crate::specs::FoundLines::found_line))]
 fn put_found<S: Sink>(found: &Found<'_>, sink: &mut S) -> Result<(), SinkFault>
     requires { IsFoundLeaf found.now }
     ensures { Wrote S.Sink sink.old sink.new (found_line (found_view found.now)) (ending result) }
 {
-    put_head(found.number, &found.page.page, sink)?;
-    put_keys(&found.page.page, sink)
-}
-
-/// Writes the number of the page, and how many entries and buckets it has.
-fn put_head<S: Sink>(number: u64, page: &Page<'_>, sink: &mut S) -> Result<(), SinkFault>
-    requires { (shown page.now).kind ≡ Kind.Leaf }
-    ensures { Wrote S.Sink sink.old sink.new (found_head number (length (shown page.now).leaves) (bucket_count (shown page.now).leaves)) (ending result) }
-{
-    put_pieces(
-        &[
-            Piece::Bytes(b"page "),
-            Piece::Number(number),
-            Piece::Bytes(b": nothing leads to it; found: "),
-            Piece::Number(u64::from(page.count())),
-            Piece::Bytes(b" entries, "),
-            Piece::Number(u64::from(count_buckets(page))),
-            Piece::Bytes(b" of them buckets, keys from "),
-        ],
-        sink,
-    )
+    let page = &found.page.page;
+    let count = page.count();
+    let pieces = [
+        Piece::Bytes(b"page "),
+        Piece::Number(found.number),
+        Piece::Bytes(b": nothing leads to it; found: "),
+        Piece::Number(u64::from(count)),
+        Piece::Bytes(b" entries, "),
+        Piece::Number(u64::from(count_buckets(page))),
+        Piece::Bytes(b" of them buckets, keys from "),
+        Piece::Hex(page.leaf(0).key),
+        Piece::Bytes(b" to "),
+        Piece::Hex(page.leaf(count - 1).key),
+        Piece::Bytes(b"\n"),
+    ];
+    put_pieces(&pieces, sink)
 }
 
 fn count_buckets(page: &Page<'_>) -> u16
@@ -117,21 +100,4 @@ fn count_buckets(page: &Page<'_>) -> u16
         }
     }
     count
-}
-
-/// Writes the keys of the first element and of the last.
-fn put_keys<S: Sink>(page: &Page<'_>, sink: &mut S) -> Result<(), SinkFault>
-    requires kind { (shown page.now).kind ≡ Kind.Leaf }
-    requires some { 0 < (shown page.now).count }
-    ensures { Wrote S.Sink sink.old sink.new (found_keys (shown page.now).leaves) (ending result) }
-{
-    put_pieces(
-        &[
-            Piece::Hex(page.leaf(0).key),
-            Piece::Bytes(b" to "),
-            Piece::Hex(page.leaf(page.count() - 1).key),
-            Piece::Bytes(b"\n"),
-        ],
-        sink,
-    )
 }

@@ -1,5 +1,5 @@
 -- The lines one after another.
-use Rattle.std.proofs.Common.{◌∙◌, List, Some, ap, arith, sym, ℕ}
+use Rattle.std.proofs.Common.{arith, ◌∙◌, List, Some, ap, sym, ℕ}
 use Rattle.std.proofs.lemmas.Option.{slice_get-get_or}
 use Rattle.bolt_format.proofs.WroteLemmas.{Wrote-element, Wrote-element_return, Wrote-elements, Wrote-same}
 use Rattle.bolt_recover.specs.declared.found.Found.{Found}
