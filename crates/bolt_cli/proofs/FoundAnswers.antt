@@ -19,9 +19,9 @@ use Rattle.bolt_recover.specs.ShownLosses.{loss_view}
 use Rattle.bolt_recover.specs.declared.found.Found.{Found}
 use Rattle.bolt_recover.specs.declared.loss.Loss.{Loss}
 use Rattle.bolt_report.specs.FoundLines.{FoundView, IsFoundLeaf, found_view}
-use Rattle.bolt_snapshot.specs.declared.hash_check.SnapshotFault.{SnapshotFault}
 use Rattle.bolt_cli.specs.Answers.{Answer, AnswersFound, AreFoundPages, Does, Ending, IsFoundAnswer, IsFoundPagesAnswer, found_page, lost_and_found, refused}
 use Rattle.bolt_cli.specs.declared.failure.Failure.TheVariants as failure
+use Rattle.bolt_cli.specs.declared.file_faults.FileFaults.{FileFaults}
 use Rattle.bolt_cli.specs.declared.meta_choice.MetaChoice.{MetaChoice}
 use Rattle.bolt_cli.proofs.Doing.{Does-nothing}
 use Rattle.bolt_cli.proofs.LossAnswers.{lost, own_losses}
@@ -59,34 +59,34 @@ module _ (file : List ℕ) (meta : Meta) where
 
   -- ---- the answer
 
-  module _ (hash : Option SnapshotFault) (choice : MetaChoice) (keeps : KeepsRoot file meta) (shown : List LossView) (losses : List Loss) (seen : map loss_view losses ≡ shown)
+  module _ (faults : FileFaults) (choice : MetaChoice) (keeps : KeepsRoot file meta) (shown : List LossView) (losses : List Loss) (seen : map loss_view losses ≡ shown)
       (all : ForLosses file meta (λ ls. shown ≡ ls)) (found : List FoundView) (pages : AreFoundPages file meta found) where
-    own : (lost hash file choice meta).0 ≡ map loss_view losses
-    own = own_losses hash file choice meta shown losses seen all
+    own : (lost faults file choice meta).0 ≡ map loss_view losses
+    own = own_losses faults file choice meta shown losses seen all
 
-    answered : (answer : Answer) → AnswersFound hash file choice (map loss_view losses) found answer → IsFoundPagesAnswer hash file choice meta answer
+    answered : (answer : Answer) → AnswersFound faults file choice (map loss_view losses) found answer → IsFoundPagesAnswer faults file choice meta answer
     answered answer answers = inl (
       keeps,
-      (lost hash file choice meta).0,
+      (lost faults file choice meta).0,
       found,
-      (lost hash file choice meta).1,
+      (lost faults file choice meta).1,
       pages,
-      subst (λ (ls : List LossView). AnswersFound hash file choice ls found answer) (sym own) answers,
+      subst (λ (ls : List LossView). AnswersFound faults file choice ls found answer) (sym own) answers,
     )
 
-    pub found_none_lost : losses ≡ [] → (answer : Answer) → IsFoundAnswer hash file choice answer → IsFoundPagesAnswer hash file choice meta answer
+    pub found_none_lost : losses ≡ [] → (answer : Answer) → IsFoundAnswer faults file choice answer → IsFoundPagesAnswer faults file choice meta answer
     found_none_lost none answer is =
-        answered answer (subst (λ (ls : List LossView). AnswersFound hash file choice ls found answer) (sym (ap (map loss_view) none)) is)
+        answered answer (subst (λ (ls : List LossView). AnswersFound faults file choice ls found answer) (sym (ap (map loss_view) none)) is)
 
-    answers_some : (ls : List Loss) → ls ≢ [] → AnswersFound hash file choice (map loss_view ls) found (lost_and_found hash (map loss_view ls) found)
+    answers_some : (ls : List Loss) → ls ≢ [] → AnswersFound faults file choice (map loss_view ls) found (lost_and_found faults (map loss_view ls) found)
     answers_some [] some = absurd (some refl)
     answers_some (loss ∷ ls) some = refl
 
-    pub found_some_lost : losses ≢ [] → IsFoundPagesAnswer hash file choice meta (lost_and_found hash (map loss_view losses) found)
-    found_some_lost some = answered (lost_and_found hash (map loss_view losses) found) (answers_some losses some)
+    pub found_some_lost : losses ≢ [] → IsFoundPagesAnswer faults file choice meta (lost_and_found faults (map loss_view losses) found)
+    found_some_lost some = answered (lost_and_found faults (map loss_view losses) found) (answers_some losses some)
 
 -- memory ran out
-pub none_left : {S : Type 0} (taken : S → Option (List ℕ)) (failed : S → ℕ) (old : S) (file : List ℕ) (meta : Meta) (hash : Option SnapshotFault) (choice : MetaChoice) (ending : Ending)
+pub none_left : {S : Type 0} (taken : S → Option (List ℕ)) (failed : S → ℕ) (old : S) (file : List ℕ) (meta : Meta) (faults : FileFaults) (choice : MetaChoice) (ending : Ending)
     → IsErrAnd ending (λ said. said ≡ failure.Memory)
-    → (answer : Answer) × IsFoundPagesAnswer hash file choice meta answer × Does taken failed old old answer ending
-none_left taken failed old file meta hash choice ending is = (refused failure.Memory, inr (inr refl), Does-nothing taken failed old failure.Memory ending is)
+    → (answer : Answer) × IsFoundPagesAnswer faults file choice meta answer × Does taken failed old old answer ending
+none_left taken failed old file meta faults choice ending is = (refused failure.Memory, inr (inr refl), Does-nothing taken failed old failure.Memory ending is)

@@ -10,7 +10,7 @@ use Rattle.bolt_bulk.specs.Compacting.{too_many}
 use Rattle.bolt_check.specs.Findings.{finding}
 use Rattle.bolt_check.specs.Sound.{IsSound}
 use Rattle.bolt_check.specs.declared.fault.CheckFault.TheVariants as check
-use Rattle.bolt_format.specs.Metas.{IsChosen, IsPageSize, page_size_count, page_sizes}
+use Rattle.bolt_format.specs.Metas.{HasBothMetas, IsChosen, IsPageSize, page_size_count, page_sizes}
 use Rattle.bolt_format.specs.declared.fault.TheConstants.PageFault.{CUT}
 use Rattle.bolt_format.specs.declared.meta.Meta.{Meta}
 use Rattle.bolt_format.specs.declared.meta.MetaFault.TheVariants.{Cut}
@@ -58,6 +58,7 @@ pub record Laws : Type 0 where
       → length (layout_of which page_size tree sequence) ≡ layout_mark which page_size tree * page_size
   pub prefixes : (which : Layout) (page_size : ℕ) (tree : Tree) (sequence : ℕ) → IsAsked page_size tree sequence
       → length (layout_of which page_size tree sequence) < 2 ^ 63 → RefusesPrefixes (layout_of which page_size tree sequence) (layout_root which page_size tree)
+  pub metas_more : (file more : List ℕ) → HasBothMetas file → HasBothMetas (file ++ more)
   pub chosen_more : (file more : List ℕ) (slot : Slot) (meta : Meta) (accounts : Bool) → HasAllPages file meta → IsSound file meta accounts → IsChosen file slot meta
       → IsChosen (file ++ more) slot meta
   pub sound_more : (file more : List ℕ) (meta : Meta) (accounts : Bool) → HasAllPages file meta → IsSound file meta accounts → IsSound (file ++ more) meta accounts
@@ -95,6 +96,10 @@ module _ (laws : Laws) (listing : List Member) (sequence : ℕ) (one : IsOfOneTr
     laws.listing_more layout (sha256 layout) own_meta listing all_pages copy_sound.lists,
   )
 
+  both_metas : (snapshot : Bool) → HasBothMetas (copy_of snapshot layout)
+  both_metas false = copy_sound.metas
+  both_metas true = laws.metas_more layout (sha256 layout) copy_sound.metas
+
   has_hash : (snapshot : Bool) → IsTrue snapshot → IsSnapshot (copy_of snapshot layout)
   has_hash false asked = absurd (cc)
   has_hash true asked = laws.snapshot layout blocks
@@ -118,7 +123,7 @@ module _ (laws : Laws) (listing : List Member) (sequence : ℕ) (one : IsOfOneTr
       subst (λ k. hash_fault (take k (snapshot_of layout)) ≡ Some HashMissing) (omega (arith, from)) (laws.cut layout (n - length layout) blocks part)
 
   good : (snapshot : Bool) → IsGoodCopy snapshot layout listing
-  good snapshot = record { accepted = accepts snapshot; hash = has_hash snapshot; cut_layout = cut_layout snapshot; cut_hash = cut_hash snapshot }
+  good snapshot = record { accepted = accepts snapshot; metas = both_metas snapshot; hash = has_hash snapshot; cut_layout = cut_layout snapshot; cut_hash = cut_hash snapshot }
 
 pub good_copies : Laws → (listing : List Member) (sequence : ℕ) → IsOfOneTree listing → sequence < 2 ^ 64 → HasGoodCopies listing sequence
 good_copies laws listing sequence one fits which snapshot page_size size few = good laws listing sequence one fits which page_size size few snapshot

@@ -6,11 +6,11 @@ use Rattle.bolt_recover.specs.Recoveries.{ForLosses}
 use Rattle.bolt_recover.specs.ShownLosses.{loss_view}
 use Rattle.bolt_recover.specs.declared.loss.Loss.{Loss}
 use Rattle.bolt_recover.proofs.Existing.{has_losses}
-use Rattle.bolt_snapshot.specs.declared.hash_check.SnapshotFault.{SnapshotFault}
 use Rattle.bolt_cli.specs.Answers.{Answer, AnswersLosses, IsFoundAnswer, IsLossesAnswer, losses_found}
+use Rattle.bolt_cli.specs.declared.file_faults.FileFaults.{FileFaults}
 use Rattle.bolt_cli.specs.declared.meta_choice.MetaChoice.{MetaChoice}
 
-module _ (hash : Option SnapshotFault) (file : List ℕ) (choice : MetaChoice) (meta : Meta) where
+module _ (faults : FileFaults) (file : List ℕ) (choice : MetaChoice) (meta : Meta) where
   pub lost : (losses : List LossView) × AreLosses file meta losses
   lost = has_losses file meta
 
@@ -19,12 +19,12 @@ module _ (hash : Option SnapshotFault) (file : List ℕ) (choice : MetaChoice) (
   own_losses shown losses seen all = sym (seen ∙ all lost.0 lost.1)
 
   pub lost_none : (shown : List LossView) (losses : List Loss) → map loss_view losses ≡ shown → ForLosses file meta (λ all. shown ≡ all) → losses ≡ []
-      → (answer : Answer) → IsFoundAnswer hash file choice answer → IsLossesAnswer hash file choice meta answer
+      → (answer : Answer) → IsFoundAnswer faults file choice answer → IsLossesAnswer faults file choice meta answer
   lost_none shown losses seen all none answer found =
       let empty : lost.0 ≡ [] = own_losses shown losses seen all ∙ ap (map loss_view) none in
-      inl (lost.0, lost.1, subst (λ (ls : List LossView). AnswersLosses hash file choice ls answer) (sym empty) found)
+      inl (lost.0, lost.1, subst (λ (ls : List LossView). AnswersLosses faults file choice ls answer) (sym empty) found)
 
-  answers_some : (losses : List LossView) → losses ≢ [] → AnswersLosses hash file choice losses (losses_found hash losses)
+  answers_some : (losses : List LossView) → losses ≢ [] → AnswersLosses faults file choice losses (losses_found faults losses)
   answers_some [] some = absurd (some refl)
   answers_some (loss ∷ losses) some = refl
 
@@ -33,12 +33,12 @@ module _ (hash : Option SnapshotFault) (file : List ℕ) (choice : MetaChoice) (
   not_empty (loss ∷ losses) some = λ e. cc
 
   pub lost_some : (shown : List LossView) (losses : List Loss) → map loss_view losses ≡ shown → ForLosses file meta (λ all. shown ≡ all) → losses ≢ []
-      → IsLossesAnswer hash file choice meta (losses_found hash (map loss_view losses))
+      → IsLossesAnswer faults file choice meta (losses_found faults (map loss_view losses))
   lost_some shown losses seen all some =
       let own = own_losses shown losses seen all in
       inl (
         lost.0,
         lost.1,
-        subst (λ (ls : List LossView). AnswersLosses hash file choice ls (losses_found hash (map loss_view losses))) (sym own)
+        subst (λ (ls : List LossView). AnswersLosses faults file choice ls (losses_found faults (map loss_view losses))) (sym own)
             (answers_some (map loss_view losses) (not_empty losses some)),
       )

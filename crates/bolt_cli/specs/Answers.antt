@@ -40,20 +40,21 @@ use Rattle.bolt_report.specs.declared.statistics.Stats.{Stats}
 use Rattle.bolt_report.specs.declared.form.Form.{Form}
 use Rattle.bolt_report.specs.declared.form.Form.TheVariants.{Json}
 use Rattle.bolt_report.specs.declared.form.ListForm.{ListForm}
-use Rattle.bolt_snapshot.specs.declared.hash_check.SnapshotFault.{SnapshotFault}
 use Rattle.bolt_tree.specs.Entries.{AreEntries, IsEntry, Item, Root_page, Start, Value, start_of}
 use Rattle.bolt_tree.specs.Listing.{IsListing, Member, rest_from}
 use Rattle.bolt_tree.specs.ListingParts.{bucket_part, has_bucket}
 use Rattle.bolt_tree.specs.Paths.{Holds, Names, Path}
 use Rattle.bolt_cli.specs.CopyKinds.{is_snapshot, layout_for}
 use Rattle.bolt_cli.specs.Failures.{IsFailureOf, failure_line}
+use Rattle.bolt_cli.specs.FileFaults.{AreFileFaults, errors_in, fault_lines, is_fine}
 use Rattle.bolt_cli.specs.GoodCopies.{IsGoodCopy}
 use Rattle.bolt_cli.specs.MetaChoices.{HasNoMetaOf, IsMetaOf, assumed_for}
-use Rattle.bolt_cli.specs.SnapshotAnswers.{copy_of, differing_line, errors_in, fault_lines, hash_differs, hash_found}
+use Rattle.bolt_cli.specs.SnapshotAnswers.{copy_of, differing_line, hash_differs}
 use Rattle.bolt_cli.specs.declared.extent.Extent.{Extent}
 use Rattle.bolt_cli.specs.declared.extent.Extent.TheVariants.{First, LostAndFound, Losses}
 use Rattle.bolt_cli.specs.declared.failure.Failure.{Failure}
 use Rattle.bolt_cli.specs.declared.failure.Failure.TheVariants as failure
+use Rattle.bolt_cli.specs.declared.file_faults.FileFaults.{FileFaults}
 use Rattle.bolt_cli.specs.declared.job.Job.{Job}
 use Rattle.bolt_cli.specs.declared.job.Job.TheVariants as job
 use Rattle.bolt_cli.specs.declared.meta_choice.MetaChoice.{MetaChoice}
@@ -105,20 +106,19 @@ IsPageAnswer file choice id answer =
 
 -- ---- the other commands, which check the file
 
--- what was found goes to standard output; what is wrong with the hash of a snapshot comes first, and is an error too
-abbrev pub found : Option SnapshotFault → List Finding → Answer
-found hash findings = record { out = fault_lines hash ++ findings_text (errors_in hash) findings; ending = Ok 1 }
+-- what was found goes to standard output; what is wrong with the file apart from its pages comes first, and each of that is an error too
+abbrev pub found : FileFaults → List Finding → Answer
+found faults findings = record { out = fault_lines faults ++ findings_text (errors_in faults) findings; ending = Ok 1 }
 
 -- nothing else is wrong
-abbrev pub none_found : Option SnapshotFault → Answer
-none_found None = done (codes "OK\n")
-none_found (Some fault) = found (Some fault) []
+abbrev pub none_found : FileFaults → Answer
+none_found faults = if is_fine faults then done (codes "OK\n") else found faults []
 
-abbrev pub check_refusal : Option SnapshotFault → CheckFault → Answer
-check_refusal hash (check.Open fault) = record { out = fault_lines hash; ending = Err (failure.Metas fault) }
-check_refusal hash (check.Structure x) = found hash (x ∷ [])
-check_refusal hash (check.Accounts findings) = found hash findings.items
-check_refusal hash check.Memory = refused failure.Memory
+abbrev pub check_refusal : FileFaults → CheckFault → Answer
+check_refusal faults (check.Open fault) = record { out = fault_lines faults; ending = Err (failure.Metas fault) }
+check_refusal faults (check.Structure x) = found faults (x ∷ [])
+check_refusal faults (check.Accounts findings) = found faults findings.items
+check_refusal faults check.Memory = refused failure.Memory
 
 -- a path leads from the root bucket to this one; and what it holds
 abbrev pub LeadsTo : List ℕ → Meta → Path → Start → Type 0
@@ -275,10 +275,10 @@ IsReadAnswer file choice IsAccepted answer =
 
 -- ---- `check`
 
-abbrev pub IsFoundAnswer : Option SnapshotFault → List ℕ → MetaChoice → Answer → Type 0
-IsFoundAnswer hash file choice answer =
-    ((meta : Meta) × IsReadUnder file choice meta × (answer ≡ none_found hash))
-    ⊎ ((fault : CheckFault) × IsRefusedUnder file choice fault × (answer ≡ check_refusal hash fault))
+abbrev pub IsFoundAnswer : FileFaults → List ℕ → MetaChoice → Answer → Type 0
+IsFoundAnswer faults file choice answer =
+    ((meta : Meta) × IsReadUnder file choice meta × (answer ≡ none_found faults))
+    ⊎ ((fault : CheckFault) × IsRefusedUnder file choice fault × (answer ≡ check_refusal faults fault))
 
 -- ---- what is recovered of a damaged file
 
@@ -307,23 +307,23 @@ IsRecoveredList file form path from meta answer =
     (listing : List Member) × (losses : List LossView) × IsRecovered file meta listing × AreLosses file meta losses
     × IsEndedOrCut (part_text form path from listing) (part_ending path listing (lost_ending losses)) answer
 
--- each loss; what is wrong with the hash of a snapshot comes first, and is an error too
-abbrev pub losses_found : Option SnapshotFault → List LossView → Answer
-losses_found hash losses = record { out = fault_lines hash ++ counted_losses_text (errors_in hash) losses; ending = Ok 1 }
+-- each loss; what is wrong with the file apart from its pages comes first
+abbrev pub losses_found : FileFaults → List LossView → Answer
+losses_found faults losses = record { out = fault_lines faults ++ counted_losses_text (errors_in faults) losses; ending = Ok 1 }
 
 -- each loss; if nothing is lost, what `check` writes; or nothing, if memory ran out
-abbrev pub AnswersLosses : Option SnapshotFault → List ℕ → MetaChoice → List LossView → Answer → Type 0
-AnswersLosses hash file choice [] answer = IsFoundAnswer hash file choice answer
-AnswersLosses hash file choice (loss ∷ losses) answer = answer ≡ losses_found hash (loss ∷ losses)
+abbrev pub AnswersLosses : FileFaults → List ℕ → MetaChoice → List LossView → Answer → Type 0
+AnswersLosses faults file choice [] answer = IsFoundAnswer faults file choice answer
+AnswersLosses faults file choice (loss ∷ losses) answer = answer ≡ losses_found faults (loss ∷ losses)
 
-abbrev pub IsLossesAnswer : Option SnapshotFault → List ℕ → MetaChoice → Meta → Answer → Type 0
-IsLossesAnswer hash file choice meta answer = ((losses : List LossView) × AreLosses file meta losses × AnswersLosses hash file choice losses answer) ⊎ (answer ≡ refused failure.Memory)
+abbrev pub IsLossesAnswer : FileFaults → List ℕ → MetaChoice → Meta → Answer → Type 0
+IsLossesAnswer faults file choice meta answer = ((losses : List LossView) × AreLosses file meta losses × AnswersLosses faults file choice losses answer) ⊎ (answer ≡ refused failure.Memory)
 
-abbrev pub all_refusal : Option SnapshotFault → CheckFault → Answer
-all_refusal hash (check.Structure x) = record { out = fault_lines hash ++ all_lost_text (errors_in hash) x; ending = Ok 1 }
-all_refusal hash (check.Open fault) = check_refusal hash (check.Open fault)
-all_refusal hash (check.Accounts findings) = check_refusal hash (check.Accounts findings)
-all_refusal hash check.Memory = check_refusal hash check.Memory
+abbrev pub all_refusal : FileFaults → CheckFault → Answer
+all_refusal faults (check.Structure x) = record { out = fault_lines faults ++ all_lost_text (errors_in faults) x; ending = Ok 1 }
+all_refusal faults (check.Open fault) = check_refusal faults (check.Open fault)
+all_refusal faults (check.Accounts findings) = check_refusal faults (check.Accounts findings)
+all_refusal faults check.Memory = check_refusal faults check.Memory
 
 -- ---- the pages that are found though nothing leads to them
 
@@ -333,44 +333,45 @@ found_page file meta n = record { number = n; elements = leaves_of (page_at file
 abbrev pub AreFoundPages : List ℕ → Meta → List FoundView → Type 0
 AreFoundPages file meta found = (numbers : List ℕ) × AreFound file meta numbers × (found ≡ map (found_page file meta) numbers)
 
--- each loss and each of these pages; what is wrong with the hash of a snapshot comes first, and is an error too
-abbrev pub lost_and_found : Option SnapshotFault → List LossView → List FoundView → Answer
-lost_and_found hash losses found = record { out = fault_lines hash ++ lost_and_found_text (errors_in hash) losses found; ending = Ok 1 }
+-- each loss and each of these pages; what is wrong with the file apart from its pages comes first
+abbrev pub lost_and_found : FileFaults → List LossView → List FoundView → Answer
+lost_and_found faults losses found = record { out = fault_lines faults ++ lost_and_found_text (errors_in faults) losses found; ending = Ok 1 }
 
-abbrev pub all_lost_and_found : Option SnapshotFault → Finding → List FoundView → Answer
-all_lost_and_found hash finding found = record { out = fault_lines hash ++ all_lost_and_found_text (errors_in hash) finding found; ending = Ok 1 }
+abbrev pub all_lost_and_found : FileFaults → Finding → List FoundView → Answer
+all_lost_and_found faults finding found = record { out = fault_lines faults ++ all_lost_and_found_text (errors_in faults) finding found; ending = Ok 1 }
 
 -- if nothing is lost, what `check` writes
-abbrev pub AnswersFound : Option SnapshotFault → List ℕ → MetaChoice → List LossView → List FoundView → Answer → Type 0
-AnswersFound hash file choice [] found answer = IsFoundAnswer hash file choice answer
-AnswersFound hash file choice (loss ∷ losses) found answer = answer ≡ lost_and_found hash (loss ∷ losses) found
+abbrev pub AnswersFound : FileFaults → List ℕ → MetaChoice → List LossView → List FoundView → Answer → Type 0
+AnswersFound faults file choice [] found answer = IsFoundAnswer faults file choice answer
+AnswersFound faults file choice (loss ∷ losses) found answer = answer ≡ lost_and_found faults (loss ∷ losses) found
 
 -- of a file whose root page is lost; or nothing, if memory ran out
-abbrev pub IsRootlessAnswer : Option SnapshotFault → List ℕ → Meta → Answer → Type 0
-IsRootlessAnswer hash file meta answer =
-    ((x : Finding) × (found : List FoundView) × LosesRoot file meta x × AreFoundPages file meta found × (answer ≡ all_lost_and_found hash x found))
+abbrev pub IsRootlessAnswer : FileFaults → List ℕ → Meta → Answer → Type 0
+IsRootlessAnswer faults file meta answer =
+    ((x : Finding) × (found : List FoundView) × LosesRoot file meta x × AreFoundPages file meta found × (answer ≡ all_lost_and_found faults x found))
     ⊎ (answer ≡ refused failure.Memory)
 
 -- of a file whose root page is kept, or lost
-abbrev pub IsFoundPagesAnswer : Option SnapshotFault → List ℕ → MetaChoice → Meta → Answer → Type 0
-IsFoundPagesAnswer hash file choice meta answer =
-    (KeepsRoot file meta × (losses : List LossView) × (found : List FoundView) × AreLosses file meta losses × AreFoundPages file meta found × AnswersFound hash file choice losses found answer)
-    ⊎ IsRootlessAnswer hash file meta answer
+abbrev pub IsFoundPagesAnswer : FileFaults → List ℕ → MetaChoice → Meta → Answer → Type 0
+IsFoundPagesAnswer faults file choice meta answer =
+    (KeepsRoot file meta × (losses : List LossView) × (found : List FoundView) × AreLosses file meta losses × AreFoundPages file meta found × AnswersFound faults file choice losses found answer)
+    ⊎ IsRootlessAnswer faults file meta answer
 
-abbrev pub IsLostAndFoundAnswer : Option SnapshotFault → List ℕ → MetaChoice → Answer → Type 0
-IsLostAndFoundAnswer hash file choice answer =
-    ((meta : Meta) × IsMetaOf file choice meta × IsFoundPagesAnswer hash file choice meta answer)
-    ⊎ ((fault : MetaFault) × HasNoMetaOf file choice fault × (answer ≡ check_refusal hash (check.Open fault)))
+abbrev pub IsLostAndFoundAnswer : FileFaults → List ℕ → MetaChoice → Answer → Type 0
+IsLostAndFoundAnswer faults file choice answer =
+    ((meta : Meta) × IsMetaOf file choice meta × IsFoundPagesAnswer faults file choice meta answer)
+    ⊎ ((fault : MetaFault) × HasNoMetaOf file choice fault × (answer ≡ check_refusal faults (check.Open fault)))
 
--- `check`, `check --all` and `check --lost-and-found` of a file whose hash was looked at
-abbrev pub IsCheckAnswerAfter : Extent → Option SnapshotFault → List ℕ → MetaChoice → Answer → Type 0
-IsCheckAnswerAfter First hash file choice answer = IsFoundAnswer hash file choice answer
-IsCheckAnswerAfter LostAndFound hash file choice answer = IsLostAndFoundAnswer hash file choice answer
-IsCheckAnswerAfter Losses hash file choice answer = IsRecoveredAnswer file choice (IsLossesAnswer hash file choice) (λ fault answer. answer ≡ all_refusal hash fault) answer
+-- `check`, `check --all` and `check --lost-and-found` of a file of which is known what else is wrong with it
+abbrev pub IsCheckAnswerAfter : Extent → FileFaults → List ℕ → MetaChoice → Answer → Type 0
+IsCheckAnswerAfter First faults file choice answer = IsFoundAnswer faults file choice answer
+IsCheckAnswerAfter LostAndFound faults file choice answer = IsLostAndFoundAnswer faults file choice answer
+IsCheckAnswerAfter Losses faults file choice answer = IsRecoveredAnswer file choice (IsLossesAnswer faults file choice) (λ fault answer. answer ≡ all_refusal faults fault) answer
 
 -- `check` to any extent, and of a snapshot; `list` and `list --recover`
 abbrev pub IsCheckAnswer : Extent → (snapshot : Bool) → List ℕ → MetaChoice → Answer → Type 0
-IsCheckAnswer extent snapshot file choice answer = IsCheckAnswerAfter extent (hash_found snapshot file) file choice answer
+IsCheckAnswer extent snapshot file choice answer =
+    (faults : FileFaults) × AreFileFaults extent snapshot file choice faults × IsCheckAnswerAfter extent faults file choice answer
 
 abbrev pub IsListedAnswer : Bool → List ℕ → MetaChoice → ListForm → (path from : Path) → Answer → Type 0
 IsListedAnswer false file choice form path from answer = IsReadAnswer file choice (IsListAnswer file form path from) answer

@@ -4,7 +4,7 @@ use Rattle.bolt_bulk.specs.Compacting.{too_many}
 use Rattle.bolt_check.specs.Sound.{IsRefused, IsSound}
 use Rattle.bolt_check.specs.declared.fault.CheckFault.{CheckFault}
 use Rattle.bolt_check.specs.declared.fault.CheckFault.TheVariants as check
-use Rattle.bolt_format.specs.Metas.{IsChosen, IsPageSize}
+use Rattle.bolt_format.specs.Metas.{HasBothMetas, IsChosen, IsPageSize}
 use Rattle.bolt_format.specs.declared.meta.Meta.{Meta}
 use Rattle.bolt_format.specs.declared.meta.Slot.{Slot}
 use Rattle.bolt_layout.specs.Copies.{layout_of_listing}
@@ -25,6 +25,8 @@ RefusesFile file = (fault : CheckFault) × (fault ≢ check.Memory) × IsRefused
 pub record IsGoodCopy (snapshot : Bool) (layout : List ℕ) (listing : List Member) : Type 0 where
   -- `check` accepts the copy, hash and all, and it has this listing
   pub accepted : AcceptsListing (copy_of snapshot layout) listing
+  -- both of its metas are valid
+  pub metas : HasBothMetas (copy_of snapshot layout)
   -- if it is to be a snapshot, it is one
   pub hash : IsTrue snapshot → IsSnapshot (copy_of snapshot layout)
   -- if it is cut short in its layout, `check` refuses it

@@ -4,6 +4,7 @@ pub mod CopyEnds
 pub mod CopyKinds
 pub mod Deeds
 pub mod Failures
+pub mod FileFaults
 pub mod GoodCopies
 pub mod Hashes
 pub mod LineWords

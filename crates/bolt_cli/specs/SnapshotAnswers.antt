@@ -25,16 +25,6 @@ abbrev pub differing_line : Bool → List ℕ
 differing_line false = []
 differing_line true = snapshot_fault_text HashDiffers
 
--- its line, and nothing if nothing is wrong
-abbrev pub fault_lines : Option SnapshotFault → List ℕ
-fault_lines None = []
-fault_lines (Some fault) = snapshot_fault_text fault
-
--- how many errors that is
-abbrev pub errors_in : Option SnapshotFault → ℕ
-errors_in None = 0
-errors_in (Some fault) = 1
-
 -- a copy is a layout and, in a snapshot, its hash after it
 abbrev pub copy_of : (snapshot : Bool) → (layout : List ℕ) → List ℕ
 copy_of false layout = layout

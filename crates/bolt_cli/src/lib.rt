@@ -11,6 +11,7 @@ mod copy_kind;
 mod decimals;
 mod extent;
 mod failure;
+mod file_faults;
 mod get_command;
 mod good_copies;
 mod hashing;

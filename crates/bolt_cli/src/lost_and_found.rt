@@ -8,14 +8,14 @@ ghost use Rattle.bolt_recover.specs.ShownLosses.{loss_view};
 ghost use Rattle.bolt_report.specs.FoundLines.{IsFoundLeaf, found_view};
 ghost use Rattle.bolt_cli.specs.Answers.{Answer, Does, IsFoundPagesAnswer, IsLostAndFoundAnswer, IsRootlessAnswer, all_lost_and_found, lost_and_found};
 
-use crate::check_command::{print_findings, put_hash_fault, put_unread, walk_to_end};
+use crate::check_command::{print_findings, put_unread, walk_to_end};
 use crate::failure::Failure;
+use crate::file_faults::{FileFaults, put_file_faults};
 use crate::meta_choice::MetaChoice;
 use bolt_check::{CheckFault, Finding};
 use bolt_format::{Meta, Sink};
 use bolt_recover::{Found, Loss, Recovery, found_without_root};
 use bolt_report::{all_lost_and_found_text, lost_and_found_text};
-use bolt_snapshot::SnapshotFault;
 use std::alloc::Global;
 
 /// Writes each loss and each page that is found; if nothing is lost, `OK` or the findings.
@@ -23,15 +23,15 @@ pub(crate) fn print_lost_and_found<O: Sink>(
     alloc: Global,
     file: &[u8],
     choice: MetaChoice,
-    hash: Option<SnapshotFault>,
+    faults: FileFaults,
     out: &mut O,
 ) -> Result<u8, Failure>
-    ensures { (answer : Answer) × IsLostAndFoundAnswer hash file.now choice answer
+    ensures { (answer : Answer) × IsLostAndFoundAnswer faults file.now choice answer
         × Does O.taken O.failed out.old out.new answer result }
 {
     match choice.find(file) {
-        Ok(meta) => print_under(alloc, file, choice, meta, hash, out),
-        Err(fault) => put_unread(fault, hash, out),
+        Ok(meta) => print_under(alloc, file, choice, meta, faults, out),
+        Err(fault) => put_unread(fault, faults, out),
     }
 }
 
@@ -41,19 +41,19 @@ fn print_under<O: Sink>(
     file: &[u8],
     choice: MetaChoice,
     meta: Meta,
-    hash: Option<SnapshotFault>,
+    faults: FileFaults,
     out: &mut O,
 ) -> Result<u8, Failure>
     requires { 0 < meta.page_size }
-    ensures { (answer : Answer) × IsFoundPagesAnswer hash file.now choice meta answer
+    ensures { (answer : Answer) × IsFoundPagesAnswer faults file.now choice meta answer
         × Does O.taken O.failed out.old out.new answer result }
 {
     match Recovery::under(alloc, file, meta) {
         Ok(recovery) => {
             let found = recovery.found()?;
-            print_kept(alloc, file, choice, meta, found.as_slice(), hash, out)
+            print_kept(alloc, file, choice, meta, found.as_slice(), faults, out)
         }
-        Err(fault) => print_rootless(alloc, file, meta, &fault, hash, out),
+        Err(fault) => print_rootless(alloc, file, meta, &fault, faults, out),
     }
 }
 
@@ -63,19 +63,19 @@ fn print_rootless<O: Sink>(
     file: &[u8],
     meta: Meta,
     fault: &CheckFault,
-    hash: Option<SnapshotFault>,
+    faults: FileFaults,
     out: &mut O,
 ) -> Result<u8, Failure>
     requires size { 0 < meta.page_size }
     requires refused { IsRefusedRoot file.now meta fault.now }
-    ensures { (answer : Answer) × IsRootlessAnswer hash file.now meta answer
+    ensures { (answer : Answer) × IsRootlessAnswer faults file.now meta answer
         × Does O.taken O.failed out.old out.new answer result }
 {
     let CheckFault::Structure(finding) = fault else {
         return Err(Failure::Memory);
     };
     let found = found_without_root(alloc, file, meta)?;
-    put_all_lost(finding, found.as_slice(), hash, out)
+    put_all_lost(finding, found.as_slice(), faults, out)
 }
 
 /// Writes each loss of a file whose root page is kept, and these found pages. A second recovery tells
@@ -86,14 +86,14 @@ fn print_kept<O: Sink>(
     choice: MetaChoice,
     meta: Meta,
     found: &[Found<'_>],
-    hash: Option<SnapshotFault>,
+    faults: FileFaults,
     out: &mut O,
 ) -> Result<u8, Failure>
     requires size { 0 < meta.page_size }
     requires kept { KeepsRoot file.now meta }
     requires found { AreFound file.now meta (numbers_of found.now) }
     requires views { All (IsFoundView file.now meta) found.now }
-    ensures { (answer : Answer) × IsFoundPagesAnswer hash file.now choice meta answer
+    ensures { (answer : Answer) × IsFoundPagesAnswer faults file.now choice meta answer
         × Does O.taken O.failed out.old out.new answer result }
 {
     let Ok(mut recovery) = Recovery::under(alloc, file, meta) else {
@@ -102,21 +102,21 @@ fn print_kept<O: Sink>(
     walk_to_end(&mut recovery)?;
     let losses = recovery.losses();
     if losses.is_empty() {
-        return print_findings(alloc, file, choice, hash, out);
+        return print_findings(alloc, file, choice, faults, out);
     }
-    put_lost_and_found(losses, found, hash, out)
+    put_lost_and_found(losses, found, faults, out)
 }
 
 fn put_lost_and_found<O: Sink>(
     losses: &[Loss<'_>],
     found: &[Found<'_>],
-    hash: Option<SnapshotFault>,
+    faults: FileFaults,
     out: &mut O,
 ) -> Result<u8, Failure>
     requires { All IsFoundLeaf found.now }
-    ensures { Does O.taken O.failed out.old out.new (lost_and_found hash (map loss_view losses.now) (map found_view found.now)) result }
+    ensures { Does O.taken O.failed out.old out.new (lost_and_found faults (map loss_view losses.now) (map found_view found.now)) result }
 {
-    let earlier = put_hash_fault(hash, out)?;
+    let earlier = put_file_faults(faults, out)?;
     lost_and_found_text(losses, found, earlier, out)?;
     Ok(1)
 }
@@ -124,13 +124,13 @@ fn put_lost_and_found<O: Sink>(
 fn put_all_lost<O: Sink>(
     finding: &Finding,
     found: &[Found<'_>],
-    hash: Option<SnapshotFault>,
+    faults: FileFaults,
     out: &mut O,
 ) -> Result<u8, Failure>
     requires { All IsFoundLeaf found.now }
-    ensures { Does O.taken O.failed out.old out.new (all_lost_and_found hash finding.now (map found_view found.now)) result }
+    ensures { Does O.taken O.failed out.old out.new (all_lost_and_found faults finding.now (map found_view found.now)) result }
 {
-    let earlier = put_hash_fault(hash, out)?;
+    let earlier = put_file_faults(faults, out)?;
     all_lost_and_found_text(finding, found, earlier, out)?;
     Ok(1)
 }

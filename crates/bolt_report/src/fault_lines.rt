@@ -64,7 +64,7 @@ pub fn finding_text<S: Sink>(finding: &Finding, sink: &mut S) -> Result<(), Sink
 }
 
 /// Writes the line of each finding, and then the line with the number of errors, such as `2 errors
-/// found`. The line of `earlier` errors was written before: of one or of none.
+/// found`. The lines of `earlier` errors were written before, two at most.
 ///
 /// # Errors
 ///
@@ -74,7 +74,7 @@ pub fn findings_text<S: Sink>(
     earlier: u64,
     sink: &mut S,
 ) -> Result<(), SinkFault>
-    requires { earlier ≤ 1 }
+    requires { earlier ≤ 2 }
     ensures { Wrote S.Sink sink.old sink.new (findings_text earlier findings.now) (ending result) }
 {
     put_findings(findings, sink)?;
@@ -137,7 +137,7 @@ pub(crate) fn put_sentence<S: Sink>(
     }
 }
 
-fn meta_fault_line(fault: MetaFault) -> &'static [u8]
+pub(crate) fn meta_fault_line(fault: MetaFault) -> &'static [u8]
     ensures { result.now ≡ meta_fault_text fault }
 {
     match fault {

@@ -15,7 +15,7 @@ use bolt_format::{Kind, Page, Sink, SinkFault};
 use bolt_recover::{Found, Loss};
 
 /// Writes the line of each loss, the line of each found page, and then the line with the number of
-/// losses, as `2 errors found`. The line of `earlier` errors was written before: of one or of none.
+/// losses, as `2 errors found`. The lines of `earlier` errors were written before, two at most.
 ///
 /// # Errors
 ///
@@ -26,7 +26,7 @@ pub fn lost_and_found_text<S: Sink>(
     earlier: u64,
     sink: &mut S,
 ) -> Result<(), SinkFault>
-    requires few { earlier ≤ 1 }
+    requires few { earlier ≤ 2 }
     requires leaves { All IsFoundLeaf found.now }
     ensures { Wrote S.Sink sink.old sink.new (lost_and_found_text earlier (map loss_view losses.now) (map found_view found.now)) (ending result) }
 {
@@ -36,8 +36,8 @@ pub fn lost_and_found_text<S: Sink>(
 }
 
 /// Writes the line of a lost root page, with which everything is lost, the line of each found page,
-/// and then the line with the number of errors, as `1 errors found`. The line of `earlier` errors was
-/// written before: of one or of none.
+/// and then the line with the number of errors, as `1 errors found`. The lines of `earlier` errors
+/// were written before, two at most.
 ///
 /// # Errors
 ///
@@ -48,7 +48,7 @@ pub fn all_lost_and_found_text<S: Sink>(
     earlier: u64,
     sink: &mut S,
 ) -> Result<(), SinkFault>
-    requires few { earlier ≤ 1 }
+    requires few { earlier ≤ 2 }
     requires leaves { All IsFoundLeaf found.now }
     ensures { Wrote S.Sink sink.old sink.new (all_lost_and_found_text earlier finding.now (map found_view found.now)) (ending result) }
 {

@@ -44,7 +44,7 @@ pub use list_lines::list;
 pub use loss_lines::{all_lost_text, counted_losses_text, losses_text};
 pub use maps::page_map;
 pub use member_lines::MemberLines;
-pub use metas::info;
+pub use metas::{info, slot_fault_text};
 pub use page_lines::page_text;
 pub use page_table::{pages, pages_table};
 pub use part_lines::{list_part, list_recovered_part};

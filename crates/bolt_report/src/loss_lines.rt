@@ -29,7 +29,7 @@ pub fn losses_text<S: Sink>(losses: &[Loss<'_>], sink: &mut S) -> Result<(), Sin
 }
 
 /// Writes the line of each loss, and then the line with the number of errors, as `2 errors found`.
-/// The line of `earlier` errors was written before: of one or of none.
+/// The lines of `earlier` errors were written before, two at most.
 ///
 /// # Errors
 ///
@@ -39,7 +39,7 @@ pub fn counted_losses_text<S: Sink>(
     earlier: u64,
     sink: &mut S,
 ) -> Result<(), SinkFault>
-    requires { earlier ≤ 1 }
+    requires { earlier ≤ 2 }
     ensures { Wrote S.Sink sink.old sink.new (counted_losses_text earlier (map loss_view losses.now)) (ending result) }
 {
     losses_text(losses, sink)?;
@@ -47,8 +47,8 @@ pub fn counted_losses_text<S: Sink>(
 }
 
 /// Writes the line of a lost root page, with which everything is lost, and then the line with the
-/// number of errors, as `1 errors found`. The line of `earlier` errors was written before: of one or
-/// of none.
+/// number of errors, as `1 errors found`. The lines of `earlier` errors were written before, two at
+/// most.
 ///
 /// # Errors
 ///
@@ -58,7 +58,7 @@ pub fn all_lost_text<S: Sink>(
     earlier: u64,
     sink: &mut S,
 ) -> Result<(), SinkFault>
-    requires { earlier ≤ 1 }
+    requires { earlier ≤ 2 }
     ensures { Wrote S.Sink sink.old sink.new (all_lost_text earlier finding.now) (ending result) }
 {
     put_sentence(finding, b"; lost: everything\n", sink)?;

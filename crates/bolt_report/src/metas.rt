@@ -1,12 +1,13 @@
-//! A meta as a text.
+//! A meta as a text, and a slot without one.
 ghost use Rattle.std.specs.Prelude.{◌≡◌};
 ghost use Rattle.bolt_format.specs.Endings.{ending};
 ghost use Rattle.bolt_format.specs.Wrote.{Wrote};
-ghost use Rattle.bolt_report.specs.MetaLines.{freelist_text, info_text, slot_number};
+ghost use Rattle.bolt_report.specs.MetaLines.{freelist_text, info_text, slot_fault_text, slot_number};
 ghost use Rattle.bolt_report.specs.Pieces.{piece_text};
 
+use crate::fault_lines::meta_fault_line;
 use crate::pieces::{Piece, put_pieces};
-use bolt_format::{Meta, NO_FREELIST, Sink, SinkFault, Slot};
+use bolt_format::{Meta, MetaFault, NO_FREELIST, Sink, SinkFault, Slot};
 
 /// Writes the seven lines of a meta and its slot (docs/COMMANDS.md, "What is printed").
 ///
@@ -27,6 +28,25 @@ pub fn info<S: Sink>(slot: Slot, meta: &Meta, sink: &mut S) -> Result<(), SinkFa
             freelist_piece(meta.freelist),
             Piece::Bytes(b"\n"),
             Piece::Figure(b"high water", meta.high_water),
+        ],
+        sink,
+    )
+}
+
+/// Writes the line of a slot that holds no valid meta: its number and its fault.
+///
+/// # Errors
+///
+/// `SinkFault` if the sink failed. It has then accepted a prefix of the text.
+pub fn slot_fault_text<S: Sink>(slot: Slot, fault: MetaFault, sink: &mut S) -> Result<(), SinkFault>
+    ensures { Wrote S.Sink sink.old sink.new (slot_fault_text slot fault) (ending result) }
+{
+    put_pieces(
+        &[
+            Piece::Bytes(b"meta "),
+            Piece::Number(slot_number(slot)),
+            Piece::Bytes(b": "),
+            Piece::Bytes(meta_fault_line(fault)),
         ],
         sink,
     )

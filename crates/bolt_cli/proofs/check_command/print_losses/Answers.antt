@@ -21,14 +21,14 @@ returns-then-is_empty g c =
     let all = subst (λ (f : List ℕ). ForLosses f meta (λ all. recovery_losses c.walk_to_end.new.recovery ≡ all)) c.in-Ok.ensures.file c.in_ok-walk_to_end.ensures.all in
     let none : c.losses-losses.result.now ≡ [] = grind (arith, common_steps, c.is_empty.ensures, c.if-is_empty.true) in
     let (answer, found, does) = c.print_findings.ensures in
-    (answer, inl (meta, c.in-Ok.ensures.meta, lost_none c.args.hash c.args.file.now c.args.choice meta (recovery_losses c.walk_to_end.new.recovery) c.losses-losses.result.now c.losses-losses.ensures.losses all none answer found), does)
+    (answer, inl (meta, c.in-Ok.ensures.meta, lost_none c.args.faults c.args.file.now c.args.choice meta (recovery_losses c.walk_to_end.new.recovery) c.losses-losses.result.now c.losses-losses.ensures.losses all none answer found), does)
 
 pub returns : goal.returns
 returns g c =
     let meta = recovery_meta c.in-Ok.recovery in
     let all = subst (λ (f : List ℕ). ForLosses f meta (λ all. recovery_losses c.walk_to_end.new.recovery ≡ all)) c.in-Ok.ensures.file c.in_ok-walk_to_end.ensures.all in
     let some : c.losses-losses.result.now ≢ [] = (λ e. grind (arith, common_steps, c.is_empty.ensures, c.if-is_empty.false)) in (
-      losses_found c.args.hash (map loss_view c.losses-losses.result.now),
-      inl (meta, c.in-Ok.ensures.meta, lost_some c.args.hash c.args.file.now c.args.choice meta (recovery_losses c.walk_to_end.new.recovery) c.losses-losses.result.now c.losses-losses.ensures.losses all some),
+      losses_found c.args.faults (map loss_view c.losses-losses.result.now),
+      inl (meta, c.in-Ok.ensures.meta, lost_some c.args.faults c.args.file.now c.args.choice meta (recovery_losses c.walk_to_end.new.recovery) c.losses-losses.result.now c.losses-losses.ensures.losses all some),
       c.put_losses.ensures,
     )

@@ -1,23 +1,23 @@
--- The line of the hash, and then the text of the findings.
+-- What is wrong apart from the pages, and then the text of the findings.
 use Rattle.std.proofs.Common.{ap, ℕ}
 use Rattle.bolt_format.proofs.WroteLemmas.{Wrote-same, Wrote-stop, Wrote-then}
 use Rattle.bolt_report.specs.FaultWords.{findings_text}
 use Rattle.bolt_cli.specs.Answers.{found}
-use Rattle.bolt_cli.specs.SnapshotAnswers.{errors_in}
+use Rattle.bolt_cli.specs.FileFaults.{errors_in}
 use Rattle.bolt_cli.proofs.Doing.{Does-part, Does-whole}
 use Rattle.bolt_cli.proofs.check_command.put_findings.Goals as goal
 
 pub returns-in_err-earlier : goal.returns-in_err-earlier
 returns-in_err-earlier g c =
-    Does-part _ _ (found c.args.hash c.args.findings.now) _ (Wrote-stop (findings_text (errors_in c.args.hash) c.args.findings.now) c.in_err-earlier.ensures.line) c.from_residual.ensures.1
+    Does-part _ _ (found c.args.faults c.args.findings.now) _ (Wrote-stop (findings_text (errors_in c.args.faults) c.args.findings.now) c.in_err-earlier.ensures.lines) c.from_residual.ensures.1
 
 pub returns-in_err-findings_text : goal.returns-in_err-findings_text
 returns-in_err-findings_text g c =
-    Does-part _ _ (found c.args.hash c.args.findings.now) _
-    (Wrote-then c.in_ok-earlier.ensures.line (Wrote-same (ap (λ (n : ℕ). findings_text n c.args.findings.now) c.in_ok-earlier.ensures.errors) c.in_err-findings_text.ensures))
+    Does-part _ _ (found c.args.faults c.args.findings.now) _
+    (Wrote-then c.in_ok-earlier.ensures.lines (Wrote-same (ap (λ (n : ℕ). findings_text n c.args.findings.now) c.in_ok-earlier.ensures.errors) c.in_err-findings_text.ensures))
     c.from_residual-in_err-findings_text.ensures.1
 
 pub returns : goal.returns
 returns g c =
-    Does-whole _ _ (found c.args.hash c.args.findings.now)
-    (Wrote-then c.in_ok-earlier.ensures.line (Wrote-same (ap (λ (n : ℕ). findings_text n c.args.findings.now) c.in_ok-earlier.ensures.errors) c.in_ok-findings_text.ensures))
+    Does-whole _ _ (found c.args.faults c.args.findings.now)
+    (Wrote-then c.in_ok-earlier.ensures.lines (Wrote-same (ap (λ (n : ℕ). findings_text n c.args.findings.now) c.in_ok-earlier.ensures.errors) c.in_ok-findings_text.ensures))

@@ -35,7 +35,7 @@ returns g c =
     let are = subst (λ (fs : List Found). AreFound c.args.file.now c.args.meta (numbers_of fs)) same c.in_ok-found.ensures.found in
     let views = subst (λ (fs : List Found). All (IsFoundView c.args.file.now c.args.meta) fs) same c.in_ok-found.ensures.views in
     let loses = subst (λ (f : CheckFault). IsRefusedRoot c.args.file.now c.args.meta f) c.in-Structure.is c.requires.refused in (
-      all_lost_and_found c.args.hash c.in-Structure.finding (map found_view found),
+      all_lost_and_found c.args.faults c.in-Structure.finding (map found_view found),
       inl (c.in-Structure.finding, map found_view found, loses, are_pages c.args.file.now c.args.meta found are views, refl),
       c.put_all_lost.ensures,
     )

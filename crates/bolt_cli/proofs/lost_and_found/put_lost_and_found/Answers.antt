@@ -1,10 +1,10 @@
--- The line of the hash, and then the text of what is lost and found.
+-- What is wrong apart from the pages, and then the text of what is lost and found.
 use Rattle.std.proofs.Common.{ap, map, ℕ}
 use Rattle.bolt_format.proofs.WroteLemmas.{Wrote-same, Wrote-stop, Wrote-then}
 use Rattle.bolt_recover.specs.ShownLosses.{loss_view}
 use Rattle.bolt_report.specs.FoundLines.{found_view, lost_and_found_text}
 use Rattle.bolt_cli.specs.Answers.{lost_and_found}
-use Rattle.bolt_cli.specs.SnapshotAnswers.{errors_in}
+use Rattle.bolt_cli.specs.FileFaults.{errors_in}
 use Rattle.bolt_cli.proofs.Doing.{Does-part, Does-whole}
 use Rattle.bolt_cli.proofs.lost_and_found.put_lost_and_found.Goals as goal
 
@@ -12,19 +12,19 @@ pub returns-in_err-earlier : goal.returns-in_err-earlier
 returns-in_err-earlier g c =
     let losses = map loss_view c.args.losses.now in
     let found = map found_view c.args.found.now in
-    Does-part _ _ (lost_and_found c.args.hash losses found) _ (Wrote-stop (lost_and_found_text (errors_in c.args.hash) losses found) c.in_err-earlier.ensures.line) c.from_residual.ensures.1
+    Does-part _ _ (lost_and_found c.args.faults losses found) _ (Wrote-stop (lost_and_found_text (errors_in c.args.faults) losses found) c.in_err-earlier.ensures.lines) c.from_residual.ensures.1
 
 pub returns-in_err-lost_and_found_text : goal.returns-in_err-lost_and_found_text
 returns-in_err-lost_and_found_text g c =
     let losses = map loss_view c.args.losses.now in
     let found = map found_view c.args.found.now in
-    Does-part _ _ (lost_and_found c.args.hash losses found) _
-    (Wrote-then c.in_ok-earlier.ensures.line (Wrote-same (ap (λ (n : ℕ). lost_and_found_text n losses found) c.in_ok-earlier.ensures.errors) c.in_err-lost_and_found_text.ensures))
+    Does-part _ _ (lost_and_found c.args.faults losses found) _
+    (Wrote-then c.in_ok-earlier.ensures.lines (Wrote-same (ap (λ (n : ℕ). lost_and_found_text n losses found) c.in_ok-earlier.ensures.errors) c.in_err-lost_and_found_text.ensures))
     c.from_residual-in_err-lost_and_found_text.ensures.1
 
 pub returns : goal.returns
 returns g c =
     let losses = map loss_view c.args.losses.now in
     let found = map found_view c.args.found.now in
-    Does-whole _ _ (lost_and_found c.args.hash losses found)
-    (Wrote-then c.in_ok-earlier.ensures.line (Wrote-same (ap (λ (n : ℕ). lost_and_found_text n losses found) c.in_ok-earlier.ensures.errors) c.in_ok-lost_and_found_text.ensures))
+    Does-whole _ _ (lost_and_found c.args.faults losses found)
+    (Wrote-then c.in_ok-earlier.ensures.lines (Wrote-same (ap (λ (n : ℕ). lost_and_found_text n losses found) c.in_ok-earlier.ensures.errors) c.in_ok-lost_and_found_text.ensures))
