@@ -5,7 +5,8 @@ use crate::runs::Ran;
 use crate::sweeps::toggle;
 use bolt_check::check_slot;
 use bolt_cli::{
-    BucketsJob, CheckJob, CompactJob, CopyKind, Job, ListJob, PageJob, PagesJob, StatsJob,
+    BucketsJob, CheckJob, CompactJob, CopyKind, Extent, Job, ListJob, MetaChoice, PageJob,
+    PagesJob, StatsJob,
 };
 use bolt_format::choose;
 use bolt_report::{Form, ListForm};
@@ -16,11 +17,11 @@ fn unnamed(alloc: Global) -> String {
     String::new(alloc)
 }
 
-fn check_job(alloc: Global, all: bool) -> Job {
+fn check_job(alloc: Global, extent: Extent) -> Job {
     Job::Check(CheckJob {
         file: unnamed(alloc),
-        slot: None,
-        all,
+        meta: MetaChoice::Active,
+        extent,
         snapshot: false,
     })
 }
@@ -28,7 +29,7 @@ fn check_job(alloc: Global, all: bool) -> Job {
 fn list_job(alloc: Global, form: ListForm, recover: bool) -> Job {
     Job::List(ListJob {
         file: unnamed(alloc),
-        slot: None,
+        meta: MetaChoice::Active,
         form,
         path: Vec::new(alloc),
         from: Vec::new(alloc),
@@ -39,7 +40,7 @@ fn list_job(alloc: Global, form: ListForm, recover: bool) -> Job {
 fn copy_job(alloc: Global, kind: CopyKind, recover: bool) -> Job {
     Job::Compact(CompactJob {
         file: unnamed(alloc),
-        slot: None,
+        meta: MetaChoice::Active,
         target: unnamed(alloc),
         page_size: None,
         kind,
@@ -68,14 +69,15 @@ impl Jobs {
         for id in 0..5 {
             pages.push(Job::Page(PageJob {
                 file: unnamed(alloc),
+                meta: MetaChoice::Active,
                 id,
             }))?;
         }
         Ok(Jobs {
-            check: check_job(alloc, false),
+            check: check_job(alloc, Extent::First),
             list: list_job(alloc, ListForm::Hex, false),
             copy: copy_job(alloc, CopyKind::Plain, false),
-            check_all: check_job(alloc, true),
+            check_all: check_job(alloc, Extent::Losses),
             list_recovered: list_job(alloc, ListForm::Hex, true),
             copy_recovered: copy_job(alloc, CopyKind::ForBbolt, true),
             readers: readers(alloc)?,
@@ -94,7 +96,7 @@ fn readers(alloc: Global) -> Result<Vec<Job>, AllocError> {
     for sizes in [false, true] {
         jobs.push(Job::Buckets(BucketsJob {
             file: unnamed(alloc),
-            slot: None,
+            meta: MetaChoice::Active,
             path: Vec::new(alloc),
             form: Form::Printable,
             sizes,
@@ -102,7 +104,7 @@ fn readers(alloc: Global) -> Result<Vec<Job>, AllocError> {
     }
     jobs.push(Job::Stats(StatsJob {
         file: unnamed(alloc),
-        slot: None,
+        meta: MetaChoice::Active,
         path: Vec::new(alloc),
     }))?;
     jobs.push(list_job(alloc, ListForm::Json, false))?;
