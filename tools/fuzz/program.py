@@ -37,6 +37,7 @@ TEXTS = {
 LOSSES = rb"(?:%b)+" % LOSS
 FINDINGS = rb"(?:%b\n)+\d+ errors found\n" % FINDING
 META_FAULT = rb"file too short|invalid database|version mismatch|checksum error|page size refused"
+OTHER_META = rb"meta [01]: (?:%b)\n" % META_FAULT
 REFUSED = rb"file refused: " + FINDING
 
 # What each command reports of a file with a valid meta if it fails.
@@ -55,7 +56,7 @@ FAULTS = {
 # What is printed with status 1, on standard output and on standard error.
 FAILED = {
     "check": (FINDINGS, b""),
-    "check --all": (FINDINGS + rb"|%b\d+ errors found\n" % LOSSES, b""),
+    "check --all": (rb"(?:%b)?(?:%b|%b\d+ errors found\n)|%b\d+ errors found\n" % (OTHER_META, FINDINGS, LOSSES, OTHER_META), b""),
     "list --recover": (TEXTS["list"] + b"|" + TEXTS["list json"], rb"error: pages lost: \d+\n"),
     "compact --recover": (LOSSES + TEXTS["compact"], b""),
 }

@@ -175,10 +175,24 @@ def compare_under(file, words):
         compare_lost(file, words, finding)
 
 
-def compare_active(file, slot, checked):
-    """Without --meta the active meta is used. If nothing is lost, `check --all` is `check`."""
+def compare_all(file, slot, checked):
+    """`check --all` is `check` if nothing is lost, and otherwise what it is with --meta. What is wrong with the meta that
+    isn't in use comes first, and is counted."""
     under = file.run("check", "--all", "--meta", slot)
-    want(same(file.run("check", "--all"), checked if under.is_ok() else under), "check --all isn't that of its meta")
+    of_pages = checked if under.is_ok() else under
+    result, other = file.run("check", "--all"), file.run("info", "--meta", 1 - slot)
+    if other.is_ok():
+        want(same(result, of_pages), "check --all isn't that of its meta")
+        return
+    line = b"meta %d: " % (1 - slot) + other.err.removeprefix(b"error: ")
+    lines = [] if of_pages.is_ok() else of_pages.out.splitlines(keepends=True)[:-1]
+    wanted = line + b"".join(lines) + b"%d errors found\n" % (len(lines) + 1)
+    want((result.status, result.out, result.err) == (1, wanted, b""), "check --all, whose other meta is damaged:", result)
+
+
+def compare_active(file, slot, checked):
+    """Without --meta the active meta is used."""
+    compare_all(file, slot, checked)
     listed = file.run("list", "--recover")
     want(same(listed, file.run("list", "--recover", "--meta", slot)), "list --recover:", listed)
     copied, copy = recover_copy(file, [])

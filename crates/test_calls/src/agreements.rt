@@ -111,6 +111,15 @@ fn readers(alloc: Global) -> Result<Vec<Job>, AllocError> {
     Ok(jobs)
 }
 
+/// What `check --all` says of the pages: its text without the line of a damaged meta, and the number
+/// of such lines, which is counted among the errors.
+fn said_of_pages(all: &Ran) -> (&str, usize) {
+    match all.text().split_once('\n') {
+        Some((first, rest)) if first.starts_with("meta ") => (rest, 1),
+        _ => (all.text(), 0),
+    }
+}
+
 /// A file, and where it was changed.
 #[derive(Clone, Copy)]
 struct Place<'a> {
@@ -237,7 +246,11 @@ impl Place<'_> {
             "the number of losses",
         )?;
         if lost == 0 {
-            self.require(all.is_like(check), "check --all without losses")?;
+            let has_meta_line = all.code == 1 && said_of_pages(&all).1 == 1;
+            self.require(
+                has_meta_line || all.is_like(check),
+                "check --all without losses",
+            )?;
         }
         self.compare_losses(lost, [&copy, &list, &all])?;
         self.compare_copy(copy.target.bytes(), list.out.bytes())
@@ -251,7 +264,10 @@ impl Place<'_> {
             is_refused && list.is(1, b"", error),
             "what recovers nothing",
         )?;
-        let is_lost = all.text().ends_with("; lost: everything\n1 errors found\n");
+        let (text, others) = said_of_pages(all);
+        let errors = others.saturating_add(1);
+        let end = format!(in self.alloc; "; lost: everything\n{errors} errors found\n")?;
+        let is_lost = text.ends_with(end.as_str());
         let is_right = if check.err.bytes().is_empty() {
             is_lost
         } else {
@@ -271,8 +287,11 @@ impl Place<'_> {
             let is_right = losses.is_empty() && list.is(0, list.out.bytes(), b"");
             return self.require(is_right, "list --recover without losses");
         }
-        let found = format!(in self.alloc; "{losses}{lost} errors found\n")?;
-        self.require(all.is(1, found.as_bytes(), b""), "check --all with losses")?;
+        let (text, others) = said_of_pages(all);
+        let errors = lost.saturating_add(others);
+        let found = format!(in self.alloc; "{losses}{errors} errors found\n")?;
+        let is_found = all.code == 1 && text == found.as_str() && all.err.bytes().is_empty();
+        self.require(is_found, "check --all with losses")?;
         let error = format!(in self.alloc; "error: pages lost: {lost}\n")?;
         self.require(
             list.is(1, list.out.bytes(), error.as_bytes()),
