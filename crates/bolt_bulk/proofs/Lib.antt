@@ -31,4 +31,3 @@ mod RunEnds
 mod RunLemmas
 mod Tables
 mod WalkLeft
-mod WholeWalks

@@ -5,7 +5,7 @@ use Rattle.bolt_format.proofs.WroteLemmas.{Wrote-element, Wrote-element_return, 
 use Rattle.bolt_recover.specs.ShownLosses.{loss_view}
 use Rattle.bolt_recover.specs.declared.loss.Loss.{Loss}
 use Rattle.bolt_report.specs.LossLines.{loss_text, losses_text}
-use Rattle.bolt_report.proofs.loss_lines.losses_text.Goals as goal
+use Rattle.bolt_report.proofs.loss_lines.put_losses.Goals as goal
 
 abbrev text : Loss → List ℕ
 text loss = loss_text (loss_view loss)

@@ -4,7 +4,7 @@ use Rattle.bolt_format.specs.Wrote.{Wrote}
 use Rattle.bolt_recover.specs.ShownLosses.{loss_view}
 use Rattle.bolt_recover.specs.declared.loss.Loss.{Loss}
 use Rattle.bolt_report.specs.LossLines.{loss_text}
-use Rattle.bolt_report.proofs.loss_lines.losses_text.Given as goal
+use Rattle.bolt_report.proofs.loss_lines.put_losses.Given as goal
 
 -- the lines of the losses before this one were written
 abbrev pub invariant-loop-loss : goal.invariant-loop-loss
