@@ -10,9 +10,9 @@ ghost use Rattle.bolt_bulk.specs.WholeListings.{IsWholeJoined, IsWholeRecovery, 
 
 use bolt_layout::laws::{a_files_listing_is_of_one_tree, a_fit_listing_is_of_one_tree};
 use bolt_recover::laws::{
-    each_file_has_a_joined_listing, each_file_has_a_recovered_listing,
-    joined_listing_is_of_a_tree, joined_members_rise, recovered_listing_is_of_a_tree,
-    the_file_of_a_recovery_is_bytes, the_file_of_joined_members_is_bytes,
+    each_file_has_a_joined_listing, each_file_has_a_recovered_listing, joined_listing_is_of_a_tree,
+    joined_members_rise, recovered_listing_is_of_a_tree, the_file_of_a_recovery_is_bytes,
+    the_file_of_joined_members_is_bytes,
 };
 use bolt_recover::{Joined, Recovery};
 use bolt_tree::Walk;

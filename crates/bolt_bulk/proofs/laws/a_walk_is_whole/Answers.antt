@@ -15,5 +15,5 @@ returns c =
       all = c.requires;
       one = λ listing lists.
           ∥∥₁_map (checked_trees checked) (λ trees.
-          c.a_files_listing_is_of_one_tree.ensures (bytes_of checked) (meta_of checked) listing (rw (c.checked-checked.ensures, c.bytes.ensures) at c.are_bytes.ensures) trees lists);
+          c.a_files_listing_is_of_one_tree.ensures (bytes_of checked) (meta_of checked) listing (rw (c.bytes.ensures, c.checked-checked.ensures) at c.are_bytes.ensures) trees lists);
     }
