@@ -4,6 +4,7 @@ mod DepthSums
 mod FigureLemmas
 mod GatherLemmas
 mod HexLemmas
+mod HexStrings
 mod FoundLemmas
 mod JsonLemmas
 mod KeyTexts

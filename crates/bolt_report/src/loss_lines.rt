@@ -8,7 +8,7 @@ ghost use Rattle.bolt_report.specs.Lines.{line};
 ghost use Rattle.bolt_report.specs.LossLines.{all_lost_text, bounds_words, bucket_words, counted_losses_text, loss_text, losses_text};
 
 use crate::fault_lines::{put_count, put_sentence};
-use crate::pieces::{Piece, put_pieces};
+use crate::pieces::{PathForm, Piece, put_pieces};
 use crate::puts::put;
 use bolt_check::Finding;
 use bolt_format::{Sink, SinkFault};
@@ -81,7 +81,13 @@ fn put_bucket<S: Sink>(path: &[&[u8]], sink: &mut S) -> Result<(), SinkFault>
     if path.is_empty() {
         put(b"root bucket", sink)
     } else {
-        put_pieces(&[Piece::Bytes(b"bucket "), Piece::HexPath(path)], sink)
+        put_pieces(
+            &[
+                Piece::Bytes(b"bucket "),
+                Piece::HexPath(path, PathForm::Slashes),
+            ],
+            sink,
+        )
     }
 }
 
