@@ -65,7 +65,7 @@ capped_fits n = omega arith
 
 -- what is found in turn is found together
 all_found : {K U A : ℕ} {N : Option (List ℕ)} {keys used allocated : ℕ} {name : List ℕ} → K ≡ keys → U ≡ used → A ≡ allocated → N ≡ Some name
-    → option_map (λ (name : List ℕ). (K, U, A, name)) N ≡ Some (keys, used, allocated, name)
+    → option_map {U = ℕ × ℕ × ℕ × List ℕ} (λ (name : List ℕ). (K, U, A, name)) N ≡ Some (keys, used, allocated, name)
 all_found first second third last = rw (first, second, third, last) refl
 
 module _ (shown : List ℕ → Json) (read : Json → Option (List ℕ)) (reads : Reads shown read) where
@@ -117,7 +117,7 @@ module _ (shown : List ℕ → Json) (read : Json → Option (List ℕ)) (reads 
   size_back stats name fits h =
       let used = capped_fits (stats.branch_used + stats.leaf_used + stats.inline_used) in
       let allocated = capped_fits (stats.branch_allocated + stats.leaf_allocated + stats.inline_used) in
-      let numbers = (IsNumber-decimal stats.keys fits, IsNumber-decimal (bytes_used stats) used, IsNumber-decimal (bytes_allocated stats) allocated, reads.numbers name, tt) in
+      let numbers : HasNumbers (size_json stats (shown name)) = (IsNumber-decimal stats.keys fits, (IsNumber-decimal (bytes_used stats) used, (IsNumber-decimal (bytes_allocated stats) allocated, (reads.numbers name, tt)))) in
       ap (option_and_then (size_of read)) (document-print (size_json stats (shown name)) numbers (omega (arith, reads.shallow name)))
       ∙ all_found (numeral_back stats.keys fits) (numeral_back (bytes_used stats) used) (numeral_back (bytes_allocated stats) allocated) (reads.back name h)
 

@@ -2,6 +2,7 @@ mod BucketPartTexts
 mod DepthExists
 mod DepthSums
 mod FigureLemmas
+mod FigureTexts
 mod GatherLemmas
 mod HexLemmas
 mod HexStrings

@@ -24,6 +24,11 @@ abbrev pub number_json : Option ℕ → json.Json
 number_json (Some n) = number (decimal n)
 number_json None = null
 
+-- the text of that number
+abbrev pub number_text : Option ℕ → List ℕ
+number_text (Some n) = decimal n
+number_text None = codes "null"
+
 -- figures, and then other members of an object
 abbrev pub figures_then : List Named → Members → Members
 figures_then [] later = later

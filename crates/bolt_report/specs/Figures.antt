@@ -158,5 +158,5 @@ stats_figures stats =
     ∷ (codes "leaf allocated", Some stats.leaf_allocated)
     ∷ (codes "leaf used", Some stats.leaf_used) ∷ []
 
-abbrev pub stats_text : FigureForm → Stats → List ℕ
+unfoldable pub stats_text : FigureForm → Stats → List ℕ
 stats_text form stats = figures_text form (stats_figures stats)

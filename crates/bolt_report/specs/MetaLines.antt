@@ -31,5 +31,5 @@ info_figures slot meta =
     ∷ (codes "freelist", freelist_of meta.freelist)
     ∷ (codes "high water", Some meta.high_water) ∷ []
 
-abbrev pub info_text : FigureForm → Slot → Meta → List ℕ
+unfoldable pub info_text : FigureForm → Slot → Meta → List ℕ
 info_text form slot meta = figures_text form (info_figures slot meta)

@@ -3,7 +3,7 @@ ghost use Rattle.std.specs.Prelude.{◌≡◌, ◌⊎◌, IfErr, if◌then◌els
 ghost use Rattle.hex.specs.Hex.{encode_lower};
 ghost use Rattle.bolt_format.specs.Endings.{ending};
 ghost use Rattle.bolt_format.specs.Wrote.{Wrote};
-ghost use Rattle.bolt_report.specs.Forms.{is_printable, is_text, item_text, mixed_text, value_text};
+ghost use Rattle.bolt_report.specs.Forms.{digits_json, is_printable, is_text, item_text, json_text, mixed_text, value_text};
 ghost use Rattle.bolt_report.specs.ReportEndings.{report_ending};
 
 use crate::fault::ReportFault;
@@ -68,7 +68,7 @@ impl ItemWriter {
             Form::Text => put_or_hex(bytes, is_text(bytes), sink)?,
             Form::Mixed => put_mixed(bytes, sink)?,
             Form::Json => put(self.json.item(bytes)?, sink)?,
-            Form::JsonHex => put_pieces(&[Piece::HexString(bytes)], sink)?,
+            Form::JsonHex => put_hex_string(bytes, sink)?,
         }
         Ok(())
     }
@@ -94,6 +94,14 @@ fn put_mixed<S: Sink>(bytes: &[u8], sink: &mut S) -> Result<(), SinkFault>
     } else {
         put_pieces(&[Piece::Bytes(b"0x"), Piece::Hex(bytes)], sink)
     }
+}
+
+/// Writes a JSON string of bytes in hexadecimal.
+#[tactic(auto, unfolding(json::specs::Print::print_from))]
+fn put_hex_string<S: Sink>(bytes: &[u8], sink: &mut S) -> Result<(), SinkFault>
+    ensures { Wrote S.Sink sink.old sink.new (json_text (digits_json bytes.now)) (ending result) }
+{
+    put_pieces(&[Piece::HexString(bytes)], sink)
 }
 
 /// Whether each byte is a printable ASCII character.

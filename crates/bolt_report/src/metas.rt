@@ -2,8 +2,7 @@
 ghost use Rattle.std.specs.Prelude.{◌≡◌, codes};
 ghost use Rattle.bolt_format.specs.Endings.{ending};
 ghost use Rattle.bolt_format.specs.Wrote.{Wrote};
-ghost use Rattle.bolt_report.specs.FigureForms.{named_line, number_json};
-ghost use Rattle.bolt_report.specs.Forms.{json_text};
+ghost use Rattle.bolt_report.specs.FigureForms.{named_line, number_text};
 ghost use Rattle.bolt_report.specs.MetaLines.{freelist_of, info_text, slot_fault_text, slot_number};
 ghost use Rattle.bolt_report.specs.Pieces.{piece_text};
 
@@ -31,6 +30,7 @@ pub fn info<S: Sink>(
     }
 }
 
+#[tactic(auto, unfolding(crate::specs::MetaLines::info_text))]
 fn put_lines<S: Sink>(slot: Slot, meta: &Meta, sink: &mut S) -> Result<(), SinkFault>
     ensures { Wrote S.Sink sink.old sink.new (info_text FigureForm.Lines slot meta.now) (ending result) }
 {
@@ -115,7 +115,7 @@ fn freelist_line(id: u64) -> Piece<'static>
 
 /// The number of the freelist's page, or that there is none, as JSON.
 fn freelist_value(id: u64) -> Piece<'static>
-    ensures { piece_text result ≡ json_text (number_json (freelist_of id)) }
+    ensures { piece_text result ≡ number_text (freelist_of id) }
 {
     if id == NO_FREELIST {
         Piece::Bytes(b"null")

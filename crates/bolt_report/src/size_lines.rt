@@ -1,5 +1,5 @@
 //! The sizes of the buckets in a bucket as a text.
-ghost use Rattle.std.specs.Prelude.{◌≡◌, ◌∷◌, ◌⊎◌, [], IfErr, List, true};
+ghost use Rattle.std.specs.Prelude.{◌≡◌, ◌∷◌, ◌++◌, ◌⊎◌, [], IfErr, List, true};
 ghost use Rattle.bolt_format.specs.Elements.{LeafElement};
 ghost use Rattle.bolt_format.specs.Endings.{ending};
 ghost use Rattle.bolt_format.specs.Wrote.{Wrote};
@@ -9,7 +9,7 @@ ghost use Rattle.bolt_tree.specs.Buckets.{bucket_checked, bucket_start};
 ghost use Rattle.bolt_tree.specs.Entries.{entry_view};
 ghost use Rattle.bolt_tree.specs.EntriesLeft.{ForEntries};
 ghost use Rattle.bolt_tree.specs.ShownEntries.{shown_entry};
-ghost use Rattle.bolt_report.specs.Forms.{is_json, json_in, json_text};
+ghost use Rattle.bolt_report.specs.Forms.{is_json, json_in, json_text, value_text};
 ghost use Rattle.bolt_report.specs.Lines.{line};
 ghost use Rattle.bolt_report.specs.ReportEndings.{report_ending};
 ghost use Rattle.bolt_report.specs.SizeLines.{AreSized, Sized, bytes_allocated, bytes_used, size_columns, size_json, size_members, size_text, sizes_text};
@@ -94,9 +94,23 @@ fn put_size<S: Sink>(
     if items.form().is_json() {
         put_object(stats, name, items, sink)
     } else {
-        put_columns(stats, sink)?;
-        items.put_line(name, sink)
+        put_row(stats, name, items, sink)
     }
+}
+
+/// Writes the figures and the name with spaces between them.
+fn put_row<S: Sink>(
+    stats: &Stats,
+    name: &[u8],
+    items: &mut ItemWriter,
+    sink: &mut S,
+) -> Result<(), ReportFault>
+    ensures form { items.new.form ≡ items.old.form }
+    ensures written { Wrote S.Sink sink.old sink.new (size_columns stats.now ++ value_text items.old.form name.now) (report_ending result) }
+    ensures fault { IfErr result (λ fault. (fault ≡ ReportFault.Sink) ⊎ (fault ≡ ReportFault.NoMemory)) }
+{
+    put_columns(stats, sink)?;
+    items.put_line(name, sink)
 }
 
 /// Writes the figures and the name, which is JSON, as an object.

@@ -76,6 +76,7 @@ pub fn stats_text<S: Sink>(stats: &Stats, form: FigureForm, sink: &mut S) -> Res
     }
 }
 
+#[tactic(auto, unfolding(crate::specs::Figures::stats_text))]
 fn put_lines<S: Sink>(stats: &Stats, sink: &mut S) -> Result<(), SinkFault>
     ensures { Wrote S.Sink sink.old sink.new (stats_text FigureForm.Lines stats.now) (ending result) }
 {
