@@ -13,6 +13,7 @@ pub mod HeldLines
 pub mod ListAnswers
 pub mod ListedBuckets
 pub mod LossAnswers
+pub mod MixedParts
 pub mod NeededBytes
 pub mod Numbers
 pub mod Ordering

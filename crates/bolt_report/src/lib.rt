@@ -36,7 +36,7 @@ pub use fault::ReportFault;
 pub use fault_lines::{
     finding_text, findings_text, meta_fault_text, page_fault_text, snapshot_fault_text,
 };
-pub use form::{Form, ListForm};
+pub use form::{FigureForm, Form, ListForm};
 pub use found_lines::{counted_lost_text, lost_text};
 pub use key_lines::{buckets, keys};
 pub use key_prefixes::keys_with_prefix;

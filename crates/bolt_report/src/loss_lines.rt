@@ -8,7 +8,7 @@ ghost use Rattle.bolt_report.specs.Lines.{line};
 ghost use Rattle.bolt_report.specs.LossLines.{bounds_words, bucket_words, loss_text, losses_text, lost_count, lost_lines};
 
 use crate::fault_lines::put_sentence;
-use crate::pieces::{Piece, put_pieces};
+use crate::pieces::{PathForm, Piece, put_pieces};
 use crate::puts::put;
 use bolt_format::{Sink, SinkFault};
 use bolt_recover::{Loss, Lost};
@@ -58,7 +58,13 @@ fn put_bucket<S: Sink>(path: &[&[u8]], sink: &mut S) -> Result<(), SinkFault>
     if path.is_empty() {
         put(b"root bucket", sink)
     } else {
-        put_pieces(&[Piece::Bytes(b"bucket "), Piece::HexPath(path)], sink)
+        put_pieces(
+            &[
+                Piece::Bytes(b"bucket "),
+                Piece::HexPath(path, PathForm::Slashes),
+            ],
+            sink,
+        )
     }
 }
 
