@@ -5,12 +5,14 @@ use Rattle.bolt_bulk.specs.declared.fault.BulkFault.TheVariants as bulk
 use Rattle.bolt_check.specs.declared.fault.CheckFault.{CheckFault}
 use Rattle.bolt_check.specs.declared.fault.CheckFault.TheVariants as check
 use Rattle.bolt_check.specs.declared.finding.Finding.{Finding}
+use Rattle.bolt_recover.specs.declared.joined.JoinFault.{JoinFault}
+use Rattle.bolt_recover.specs.declared.joined.JoinFault.TheVariants as join
 use Rattle.bolt_report.specs.FaultWords.{finding_text, meta_fault_text, page_fault_text, snapshot_fault_text}
 use Rattle.bolt_report.specs.declared.fault.ReportFault.{ReportFault}
 use Rattle.bolt_report.specs.declared.fault.ReportFault.TheVariants as report
 use Rattle.bolt_snapshot.specs.declared.hash_check.SnapshotFault.TheVariants as snapshot
 use Rattle.bolt_cli.specs.declared.failure.Failure.{Failure}
-use Rattle.bolt_cli.specs.declared.failure.Failure.TheVariants.{Metas, File, Page, NoBucket, NoKey, Memory, TooLarge, Write, Lost, HashDiffers}
+use Rattle.bolt_cli.specs.declared.failure.Failure.TheVariants.{Exists, File, HashDiffers, Lost, Memory, Metas, NoBucket, NoKey, Page, TooLarge, Write}
 
 abbrev pub failure_text : Failure → List ℕ
 failure_text (Metas fault) = meta_fault_text fault
@@ -22,6 +24,7 @@ failure_text Memory = codes "out of memory\n"
 failure_text TooLarge = codes "layout too large\n"
 failure_text Write = codes "write failed\n"
 failure_text HashDiffers = snapshot_fault_text snapshot.HashDiffers
+failure_text Exists = codes "lost+found exists\n"
 failure_text (Lost count) = codes "pages lost: " ++ (decimal count ++ codes "\n")
 
 -- a failure is one line on standard error
@@ -39,6 +42,12 @@ abbrev pub copied : BulkFault → Failure
 copied bulk.Memory = Memory
 copied bulk.TooLarge = TooLarge
 copied bulk.Sink = Write
+
+-- the failure if there is no joined listing
+abbrev pub unjoined : JoinFault → Failure
+unjoined (join.Root x) = File x
+unjoined join.Exists = Exists
+unjoined join.Memory = Memory
 
 -- of the findings the first is reported
 abbrev pub IsOfFirst : List Finding → Failure → Type 0

@@ -19,6 +19,7 @@ ghost use Rattle.bolt_cli.specs.PathWords.{part_of};
 ghost use Rattle.bolt_cli.specs.declared.parts.Parts.TheVariants as Parts;
 ghost use Rattle.bolt_cli.specs.SnapshotAnswers.{copy_of, hash_differs};
 ghost use Rattle.bolt_cli.specs.declared.extent.Extent.{Extent};
+ghost use Rattle.bolt_cli.specs.declared.extent.Extent.TheVariants as extent;
 ghost use Rattle.bolt_cli.specs.declared.failure.Failure.TheVariants as failure;
 ghost use Rattle.bolt_cli.specs.declared.job.Job.{Job};
 ghost use Rattle.bolt_cli.specs.declared.meta_choice.MetaChoice.{MetaChoice};
@@ -84,12 +85,12 @@ pub fn recovering_sound_trees_reads_them<O: Sink, T: Sink>()
     ensures list { (file : List ℕ) (meta : Meta) → HasSoundTrees file meta
         → (wanted named : MetaChoice) → IsMetaOf file wanted meta → IsMetaOf file named meta → named ≢ choice.Active
         → (form : ListForm) (path from : Path) (answer : Answer)
-        → IsListedAnswer true file wanted form path from answer ↔ IsListedAnswer false file named form path from answer }
+        → IsListedAnswer extent.Losses file wanted form path from answer ↔ IsListedAnswer extent.First file named form path from answer }
     ensures compact { (file : List ℕ) (meta : Meta) → HasSoundTrees file meta
         → (wanted named : MetaChoice) → IsMetaOf file wanted meta → IsMetaOf file named meta → named ≢ choice.Active
         → (out_old out_new : O) (target_old target_new : T) (size : Option PageSize) (layout : Layout) (snapshot : Bool) (ending : Ending) → hash_differs snapshot file ≡ false
-        → MakesCopy O.taken O.failed out_old out_new T.taken T.failed target_old target_new file wanted size layout snapshot true ending
-        ↔ MakesCopy O.taken O.failed out_old out_new T.taken T.failed target_old target_new file named size layout snapshot false ending }
+        → MakesCopy O.taken O.failed out_old out_new T.taken T.failed target_old target_new file wanted size layout snapshot extent.Losses ending
+        ↔ MakesCopy O.taken O.failed out_old out_new T.taken T.failed target_old target_new file named size layout snapshot extent.First ending }
 {
     chosen_meta_is_one();
     slot_meta_is_one();
