@@ -3,23 +3,32 @@ use Rattle.std.proofs.Common.{◌≡◌, ◌≢◌, ◌∙◌, ℕ, Bool, true, 
 use Rattle.std.specs.List.{All}
 use Rattle.std.specs.Result.{IsErrAnd}
 use Rattle.std.proofs.lemmas.List.Elements.{All-head, All-tail}
-use Rattle.bolt_check.specs.Nodes.{leaf_entry}
+use Rattle.std.proofs.Math.Logic.{∥∥₁_elim}
+use Rattle.std.proofs.Props.{props}
+use Rattle.bolt_check.proofs.Judging.{passes_silent}
+use Rattle.bolt_check.specs.Findings.{IsMetaPage}
+use Rattle.bolt_check.specs.Nodes.{leaf_entry, node_at}
+use Rattle.bolt_check.specs.Ways.{At_page, root_spot}
 use Rattle.bolt_check.specs.ShownNodes.{entries_of, shown_node}
 use Rattle.bolt_check.specs.TreeKinds.{tree_kind}
 use Rattle.bolt_format.specs.Pages.{PageView}
 use Rattle.bolt_format.specs.Shown.{shown}
 use Rattle.bolt_format.specs.declared.meta.Meta.{Meta}
 use Rattle.bolt_recover.specs.Found.{AreFound, numbers_of}
-use Rattle.bolt_recover.specs.Losses.{LossView, parts}
+use Rattle.bolt_recover.specs.Joined.{IsJoined, LacksBucketKey}
+use Rattle.bolt_recover.specs.Losses.{LossView, LostView, everything, parts}
+use Rattle.bolt_recover.specs.Lost.{IsAllLost}
+use Rattle.bolt_recover.specs.Recovered.{ForRecovered}
+use Rattle.bolt_tree.specs.Listing.{Member}
 use Rattle.bolt_recover.specs.Places.{leaves_of}
 use Rattle.bolt_recover.specs.Recoveries.{ForLosses}
-use Rattle.bolt_recover.specs.Refusals.{KeepsRoot}
+use Rattle.bolt_recover.specs.Refusals.{KeepsRoot, LosesRoot}
 use Rattle.bolt_recover.specs.ShownFound.{IsFoundView}
 use Rattle.bolt_recover.specs.ShownLosses.{loss_view}
 use Rattle.bolt_recover.specs.declared.found.Found.{Found}
 use Rattle.bolt_recover.specs.declared.loss.Loss.{Loss}
 use Rattle.bolt_report.specs.FoundLines.{FoundView, IsFoundLeaf, found_view}
-use Rattle.bolt_cli.specs.Answers.{Answer, AnswersFound, AreFoundPages, Does, Ending, IsFoundAnswer, IsFoundPagesAnswer, found_page, lost_and_found, refused}
+use Rattle.bolt_cli.specs.Answers.{Answer, AnswersFound, AreFoundPages, Does, Ending, IsFoundAnswer, IsFoundPagesAnswer, IsSalvaged, found_page, lost_and_found, refused}
 use Rattle.bolt_cli.specs.declared.failure.Failure.TheVariants as failure
 use Rattle.bolt_cli.specs.declared.file_faults.FileFaults.{FileFaults}
 use Rattle.bolt_cli.specs.declared.meta_choice.MetaChoice.{MetaChoice}
@@ -90,3 +99,22 @@ pub none_left : {S : Type 0} (taken : S → Option (List ℕ)) (failed : S → �
     → IsErrAnd ending (λ said. said ≡ failure.Memory)
     → (answer : Answer) × IsFoundPagesAnswer faults file choice meta answer × Does taken failed old old answer ending
 none_left taken failed old file meta faults choice ending is = (refused failure.Memory, inr (inr refl), Does-nothing taken failed old failure.Memory ending is)
+
+-- ---- the joined listing
+
+-- the found pages of the code, and what it says is lost
+pub salvaged : (file : List ℕ) (meta : Meta) (listing : List Member) (lost : LostView) (found : List Found) → IsJoined file meta listing → IsAllLost file meta lost
+    → AreFound file meta (numbers_of found) → All (IsFoundView file meta) found → (found ≢ [] → ForRecovered file meta LacksBucketKey) → (found ≡ [] → KeepsRoot file meta)
+    → IsSalvaged file meta listing lost (map found_view found)
+salvaged file meta listing lost found joins loses are views apart keeps = record {
+  joins = joins;
+  loses = loses;
+  finds = are_pages file meta found are views;
+  apart = λ some. apart (λ none. some (ap (map found_view) none));
+  some = λ x is none. ∥∥₁_elim (subst (IsAllLost file meta) is loses) (hlevel props) (λ (lost : LosesRoot file meta x).
+      passes_silent (node_at file meta) IsMetaPage (At_page (root_spot meta.root)) x (keeps (none_found found none)) lost);
+}
+  where
+    none_found : (fs : List Found) → map found_view fs ≡ [] → fs ≡ []
+    none_found [] is = refl
+    none_found (f ∷ fs) is = absurd (cc)

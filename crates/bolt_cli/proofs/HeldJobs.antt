@@ -65,8 +65,10 @@ module _ {O T : Type 0} (out_taken : O → Option (List ℕ)) (out_failed : O �
   copied file choice size which snapshot First ending (inr (inr (fault, failure, refused, of, out, target, is))) = inr (inr (fault, failure, refused, of, untouched out, target, is))
   copied file choice size which snapshot Losses ending (inl (meta, listing, losses, under, recovered, are, writes)) = inl (meta, listing, losses, under, recovered, are, written snapshot listing (layout_of_listing which (copy_page_size size meta) listing meta.root_sequence) (λ copy. copy_report (hash_differs snapshot file) (parts losses) [] (length file) copy) ending writes)
   copied file choice size which snapshot Losses ending (inr (fault, failure, refused, of, out, target, is)) = inr (fault, failure, refused, of, untouched out, target, is)
-  copied file choice size which snapshot LostAndFound ending (inl (meta, listing, lost, found, is_meta, salvaged, writes)) = inl (meta, listing, lost, found, is_meta, salvaged, written snapshot listing (layout_of_listing which (copy_page_size size meta) listing meta.root_sequence) (λ copy. copy_report (hash_differs snapshot file) lost found (length file) copy) ending writes)
-  copied file choice size which snapshot LostAndFound ending (inr (failure, unjoined, out, target, is)) = inr (failure, unjoined, untouched out, target, is)
+  copied file choice size which snapshot LostAndFound ending (inl (meta, listing, lost, found, own, salvaged, (small, good, put, sound, does))) =
+      inl (meta, listing, lost, found, own, salvaged, (small, good, put, sound, does_held _ ending does))
+  copied file choice size which snapshot LostAndFound ending (inr (inl (meta, listing, own, joins, (failure, stops, same, is)))) = inr (inl (meta, listing, own, joins, (failure, stops, untouched same, is)))
+  copied file choice size which snapshot LostAndFound ending (inr (inr (why, unjoined, out, target, is))) = inr (inr (why, unjoined, untouched out, target, is))
 
   pub held_job : (file : List ℕ) (j : Job) (ending : Ending)
       → DoesJob out_taken out_failed out_old out_new target_taken target_failed target_old target_new file j ending

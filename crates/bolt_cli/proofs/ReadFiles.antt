@@ -1,8 +1,9 @@
 -- What is known of a file that is read, under whatever meta.
-use Rattle.std.proofs.Common.{◌≡◌, ℕ, List, Ok, Err, ap, inl, inr, refl, subst, sym}
+use Rattle.std.proofs.Common.{Option, Some, None, ◌≡◌, ◌<◌, arith, ℕ, List, Ok, Err, ap, inl, inr, refl, subst, sym}
 use Rattle.std.specs.Result.{IsErrAnd}
 use Rattle.bolt_check.specs.CheckedFiles.{bytes_of, meta_of}
 use Rattle.bolt_check.specs.declared.checked_file.Checked.{Checked}
+use Rattle.bolt_format.proofs.PageSizes.{size_bounds}
 use Rattle.bolt_format.specs.Metas.{IsInSlot, IsMeta, IsPageSize}
 use Rattle.bolt_format.specs.declared.meta.Slot.TheVariants.{One, Zero}
 use Rattle.bolt_check.specs.Sound.{HasSoundTrees}
@@ -10,10 +11,12 @@ use Rattle.bolt_format.specs.declared.meta.Meta.{Meta}
 use Rattle.bolt_format.specs.declared.meta.Slot.{Slot}
 use Rattle.bolt_check.specs.declared.fault.CheckFault.{CheckFault}
 use Rattle.bolt_check.specs.declared.fault.CheckFault.TheVariants as check
-use Rattle.bolt_cli.specs.Answers.{Answer, Ending, IsReadAnswer, IsReadUnder, IsRefusedUnder, IsUnrecoverableUnder}
+use Rattle.bolt_cli.specs.Answers.{Answer, Ending, IsReadAnswer, IsReadUnder, IsRefusedUnder, IsUnrecoverableUnder, copy_page_size}
+use Rattle.bolt_cli.specs.MetaChoices.{IsMetaOf}
 use Rattle.bolt_cli.specs.Failures.{HasFinding, IsFailureOf}
 use Rattle.bolt_cli.specs.declared.failure.Failure.{Failure}
 use Rattle.bolt_cli.specs.declared.meta_choice.MetaChoice.{MetaChoice}
+use Rattle.bolt_cli.specs.declared.page_size.PageSize.{PageSize}
 use Rattle.bolt_cli.specs.declared.meta_choice.MetaChoice.TheVariants.{Active, Assumed, InSlot}
 
 pub read_trees : (file : List ℕ) (choice : MetaChoice) (meta : Meta) → IsReadUnder file choice meta → HasSoundTrees file meta
@@ -43,6 +46,18 @@ pub read_page_size : (file : List ℕ) (choice : MetaChoice) (meta : Meta) → I
 read_page_size file Active meta (slot, chosen, sound) = slot_page_size file slot meta chosen.valid
 read_page_size file (InSlot slot) meta (is, trees) = slot_page_size file slot meta is
 read_page_size file (Assumed assumed) meta (same, trees) = subst (λ (m : Meta). IsPageSize m.page_size) (sym same) assumed.page_size.accepted
+
+pub choice_page_size : (file : List ℕ) (choice : MetaChoice) (meta : Meta) → IsMetaOf file choice meta → IsPageSize meta.page_size
+choice_page_size file Active meta (slot, chosen) = slot_page_size file slot meta chosen.valid
+choice_page_size file (InSlot slot) meta is = slot_page_size file slot meta is
+choice_page_size file (Assumed assumed) meta same = subst (λ (m : Meta). IsPageSize m.page_size) (sym same) assumed.page_size.accepted
+
+pub some_page_size : (file : List ℕ) (choice : MetaChoice) (meta : Meta) → IsMetaOf file choice meta → 0 < meta.page_size
+some_page_size file choice meta is = let (least, most) = size_bounds meta.page_size (choice_page_size file choice meta is) in omega (arith, least)
+
+pub copy_size : (size : Option PageSize) (meta : Meta) → IsPageSize meta.page_size → IsPageSize (copy_page_size size meta)
+copy_size (Some size) meta is = size.accepted
+copy_size None meta is = is
 
 -- ---- why the file is refused, or nothing of it is recovered
 

@@ -135,11 +135,13 @@ HoldsIn file meta path item = Holds (IsEntry file meta) (Root_page meta.root) pa
 abbrev pub parents_of : Path → Path
 parents_of path = take (length path - 1) path
 
+-- a prefix of the text, since memory ran out
+abbrev pub IsCut : List ℕ → Answer → Type 0
+IsCut text answer = (front rest : List ℕ) × (text ≡ front ++ rest) × (answer ≡ record { out = front; ending = Err failure.Memory })
+
 -- the whole text, and this ending; or a prefix of it, if memory ran out
 abbrev pub IsEndedOrCut : List ℕ → Ending → Answer → Type 0
-IsEndedOrCut text ending answer =
-    (answer ≡ record { out = text; ending = ending })
-    ⊎ ((front rest : List ℕ) × (text ≡ front ++ rest) × (answer ≡ record { out = front; ending = Err failure.Memory }))
+IsEndedOrCut text ending answer = (answer ≡ record { out = text; ending = ending }) ⊎ IsCut text answer
 
 abbrev pub IsWholeOrCut : List ℕ → Answer → Type 0
 IsWholeOrCut text answer = IsEndedOrCut text (Ok 0) answer
@@ -371,24 +373,25 @@ pub record IsSalvaged (file : List ℕ) (meta : Meta) (listing : List Member) (l
 
 -- why there is none
 abbrev pub IsUnjoined : List ℕ → Meta → Failure → Type 0
-IsUnjoined file meta failure =
-    (found : List ℕ) × (fault : JoinFault) × AreFound file meta found × IsJoinRefusal file meta found fault × (failure ≡ unjoined fault)
+IsUnjoined file meta why =
+    (found : List ℕ) × (fault : JoinFault) × AreFound file meta found × IsJoinRefusal file meta found fault × (why ≡ unjoined fault)
 
 abbrev pub IsUnjoinedUnder : List ℕ → MetaChoice → Failure → Type 0
-IsUnjoinedUnder file choice failure =
-    ((meta : Meta) × IsMetaOf file choice meta × IsUnjoined file meta failure)
-    ⊎ ((fault : MetaFault) × HasNoMetaOf file choice fault × (failure ≡ failure.Metas fault))
+IsUnjoinedUnder file choice why =
+    ((meta : Meta) × IsMetaOf file choice meta × IsUnjoined file meta why)
+    ⊎ ((fault : MetaFault) × HasNoMetaOf file choice fault × (why ≡ failure.Metas fault))
 
 -- all that is lost is reported too
 abbrev pub all_lost_ending : LostView → Ending
 all_lost_ending (everything x) = Err (failure.Lost 1)
 all_lost_ending (parts losses) = lost_ending losses
 
--- a part of the joined listing, or a prefix of it, if memory ran out; or why there is none
+-- a part of the joined listing; or a prefix of it, if memory ran out; or why there is none
 abbrev pub IsJoinedList : List ℕ → MetaChoice → ListForm → (path from : Path) → Answer → Type 0
 IsJoinedList file choice form path from answer =
     ((meta : Meta) × (listing : List Member) × (lost : LostView) × (found : List FoundView) × IsMetaOf file choice meta × IsSalvaged file meta listing lost found
-    × IsEndedOrCut (part_text form path from listing) (part_ending path listing (all_lost_ending lost)) answer)
+    × (answer ≡ record { out = part_text form path from listing; ending = part_ending path listing (all_lost_ending lost) }))
+    ⊎ ((meta : Meta) × (listing : List Member) × IsMetaOf file choice meta × IsJoined file meta listing × IsCut (part_text form path from listing) answer)
     ⊎ ((why : Failure) × IsUnjoinedUnder file choice why × (answer ≡ refused why))
 
 -- `check`, `check --all` and `check --lost-and-found` of a file of which is known what else is wrong with it
@@ -462,14 +465,21 @@ module _ {O T : Type 0} (out_taken : O → Option (List ℕ)) (out_failed : O �
 
   -- The target accepted the whole copy without a failure, which is the layout and, in a snapshot, its hash. The layout has fewer than 2^63
   -- bytes, and what the target accepted is a good copy of this listing. Then standard output is to accept the text of the answer to its
-  -- length. Or the target stopped short, standard output isn't touched, and the job ends with the failure.
-  abbrev pub WritesCopy : (snapshot : Bool) → (listing : List Member) → (layout : List ℕ) → (ℕ → Answer) → Ending → Type 0
-  WritesCopy snapshot listing layout answer ending =
+  -- length.
+  abbrev pub CopiesWhole : (snapshot : Bool) → (listing : List Member) → (layout : List ℕ) → (ℕ → Answer) → Ending → Type 0
+  CopiesWhole snapshot listing layout answer ending =
       let copy = copy_of snapshot layout in
-      ((length layout < too_many) × ∥ IsGoodCopy snapshot layout listing ∥₁
+      (length layout < too_many) × ∥ IsGoodCopy snapshot layout listing ∥₁
       × Appends (target_taken target_old) (target_taken target_new) copy × (target_failed target_new ≡ target_failed target_old)
-      × Does out_taken out_failed out_old out_new (answer (length copy)) ending)
-      ⊎ ((failure : Failure) × StopsShort target_taken target_failed target_old target_new layout copy failure × (out_new ≡ out_old) × (ending ≡ Err failure))
+      × Does out_taken out_failed out_old out_new (answer (length copy)) ending
+
+  -- the target stopped short, standard output isn't touched, and the job ends with the failure
+  abbrev pub CopiesInPart : (snapshot : Bool) → (layout : List ℕ) → Ending → Type 0
+  CopiesInPart snapshot layout ending =
+      (failure : Failure) × StopsShort target_taken target_failed target_old target_new layout (copy_of snapshot layout) failure × (out_new ≡ out_old) × (ending ≡ Err failure)
+
+  abbrev pub WritesCopy : (snapshot : Bool) → (listing : List Member) → (layout : List ℕ) → (ℕ → Answer) → Ending → Type 0
+  WritesCopy snapshot listing layout answer ending = CopiesWhole snapshot listing layout answer ending ⊎ CopiesInPart snapshot layout ending
 
   -- The target accepts the layout that is asked for of the file's listing, at the copy's page size, and for a snapshot then its hash: a good
   -- copy of that listing. Or the hash of the file differs, or the file is refused, and neither is touched.
@@ -494,8 +504,10 @@ module _ {O T : Type 0} (out_taken : O → Option (List ℕ)) (out_failed : O �
   abbrev pub Joins : List ℕ → MetaChoice → Option PageSize → Layout → (snapshot : Bool) → Ending → Type 0
   Joins file choice size which snapshot ending =
       ((meta : Meta) × (listing : List Member) × (lost : LostView) × (found : List FoundView) × IsMetaOf file choice meta × IsSalvaged file meta listing lost found
-      × WritesCopy snapshot listing (layout_of_listing which (copy_page_size size meta) listing meta.root_sequence) (λ copy. copy_report (hash_differs snapshot file) lost found (length file) copy) ending)
-      ⊎ ((failure : Failure) × IsUnjoinedUnder file choice failure × (out_new ≡ out_old) × (target_new ≡ target_old) × (ending ≡ Err failure))
+      × CopiesWhole snapshot listing (layout_of_listing which (copy_page_size size meta) listing meta.root_sequence) (λ copy. copy_report (hash_differs snapshot file) lost found (length file) copy) ending)
+      ⊎ ((meta : Meta) × (listing : List Member) × IsMetaOf file choice meta × IsJoined file meta listing
+      × CopiesInPart snapshot (layout_of_listing which (copy_page_size size meta) listing meta.root_sequence) ending)
+      ⊎ ((why : Failure) × IsUnjoinedUnder file choice why × (out_new ≡ out_old) × (target_new ≡ target_old) × (ending ≡ Err why))
 
   -- `compact` to any extent
   abbrev pub MakesCopy : List ℕ → MetaChoice → Option PageSize → Layout → (snapshot : Bool) → Extent → Ending → Type 0

@@ -8,27 +8,29 @@ ghost use Rattle.bolt_format.specs.Wrote.{Wrote};
 ghost use Rattle.bolt_recover.specs.ShownLosses.{lost_view};
 ghost use Rattle.bolt_report.specs.FoundLines.{IsFoundLeaf, found_view};
 ghost use Rattle.bolt_tree.specs.Listing.{Member};
-ghost use Rattle.bolt_cli.specs.Answers.{Compacts, Does, Joins, MakesCopy, Recovers, copy_report, copy_status, lengths_line};
+ghost use Rattle.bolt_cli.specs.Answers.{Compacts, Does, Joins, MakesCopy, Recovers, copy_page_size, copy_report, copy_status, lengths_line};
 ghost use Rattle.bolt_cli.specs.CopyEnds.{EndsCopy, asked_layout};
 ghost use Rattle.bolt_cli.specs.CopyKinds.{is_snapshot, layout_for};
 ghost use Rattle.bolt_cli.specs.GoodCopies.{IsGoodCopy};
 ghost use Rattle.bolt_cli.specs.SnapshotAnswers.{differing_line, hash_differs};
 
-use crate::copies::copy_members;
+use crate::copies::copy_all;
+use crate::copy_source::CopySource;
 use crate::decimals::put_number_and;
 use crate::extent::Extent;
 use crate::failure::Failure;
-use crate::good_copies::members_have_good_copies;
+use crate::good_copies::sources_have_good_copies;
 use crate::job::CompactJob;
 use crate::open_read::open_read;
 use crate::open_recovery::open_recovery;
 use bolt_bulk::laws::{a_recovery_is_whole, a_walk_is_whole, joined_members_are_whole};
 use bolt_bulk::{BulkFault, Shape};
 use bolt_format::{Meta, Sink, SinkFault};
+use bolt_recover::laws::{each_file_has_a_joined_listing, each_file_has_found_pages};
 use bolt_recover::{Found, Joined, Lost, found_pages};
 use bolt_report::{lost_text, snapshot_fault_text};
 use bolt_snapshot::{SnapshotFault, snapshot_fault};
-use bolt_tree::{Members, Walk};
+use bolt_tree::Walk;
 use std::alloc::Global;
 
 /// Writes the compact copy that is asked for to `target`, and then what is reported of it to `out`.
@@ -111,6 +113,8 @@ fn write_joined<O: Sink, T: Sink>(
 ) -> Result<u8, Failure>
     ensures { Joins O.taken O.failed out.old out.new T.taken T.failed target.old target.new file.now job.now.meta job.now.page_size (layout_for job.now.kind) (is_snapshot job.now.kind) result }
 {
+    each_file_has_found_pages();
+    each_file_has_a_joined_listing();
     let meta = job.meta.find(file)?;
     let found = found_pages(alloc, file, meta)?;
     let mut joined = Joined::new(alloc, file, meta, found.as_slice())?;
@@ -127,31 +131,41 @@ fn write_joined<O: Sink, T: Sink>(
 }
 
 /// Writes the copy that is asked for of all members of a file with this meta, and returns its length.
-fn copy_asked<'a, M: Members<'a>, T: Sink>(
+fn copy_asked<C: CopySource, T: Sink>(
     alloc: Global,
-    members: &mut M,
+    source: &mut C,
     job: &CompactJob,
     meta: &Meta,
     target: &mut T,
 ) -> Result<u64, BulkFault>
     requires size { IsPageSize meta.now.page_size }
-    requires whole { IsWhole M.lists M.left members.old }
-    ensures copied { (listing : List Member) → M.lists members.old listing
+    requires whole { IsWhole C.lists C.left source.old }
+    ensures copied { (listing : List Member) → C.lists source.old listing
         → EndsCopy T.taken T.failed target.old target.new (asked_layout job.now meta.now listing) (is_snapshot job.now.kind) result }
-    ensures good { OnOk result ((listing : List Member) → M.lists members.old listing → ∥ IsGoodCopy (is_snapshot job.now.kind) (asked_layout job.now meta.now listing) listing ∥₁) }
-    ensures end { OnOk result (M.ends_as members.old members.new) }
+    ensures good { OnOk result ((listing : List Member) → C.lists source.old listing → ∥ IsGoodCopy (is_snapshot job.now.kind) (asked_layout job.now meta.now listing) listing ∥₁) }
+    ensures end { OnOk result (C.ends_as source.old source.new) }
+{
+    let shape = shape_of(job, meta);
+    sources_have_good_copies(source, shape.sequence);
+    copy_all(alloc, source, &shape, job.kind.is_snapshot(), target)
+}
+
+/// What the copy of a file with this meta looks like.
+fn shape_of(job: &CompactJob, meta: &Meta) -> Shape
+    requires { IsPageSize meta.now.page_size }
+    ensures layout { result.layout ≡ layout_for job.now.kind }
+    ensures page_size { result.page_size ≡ copy_page_size job.now.page_size meta.now }
+    ensures sequence { result.sequence ≡ meta.now.root_sequence }
 {
     let page_size = match job.page_size {
         Some(size) => size.bytes,
         None => u64::from(meta.page_size),
     };
-    let shape = Shape {
+    Shape {
         layout: job.kind.layout(),
         page_size,
         sequence: meta.root_sequence,
-    };
-    members_have_good_copies(members, shape.sequence);
-    copy_members(alloc, members, &shape, job.kind.is_snapshot(), target)
+    }
 }
 
 /// Whether a snapshot is to be made of a file that is one by its length, but whose hash differs. Its
@@ -170,11 +184,11 @@ fn hash_differs(job: &CompactJob, file: &[u8]) -> bool
 
 /// What is reported of a copy.
 #[derive(Clone, Copy)]
-struct CopyReport<'a> {
+struct CopyReport<'l, 'f> {
     /// Whether the hash of the file differs.
     differs: bool,
-    lost: Lost<'a>,
-    found: &'a [Found<'a>],
+    lost: Lost<'l>,
+    found: &'f [Found<'f>],
     /// The length of the file.
     source: u64,
     /// The length of the copy.
@@ -182,7 +196,7 @@ struct CopyReport<'a> {
 }
 
 /// Writes what is reported of a copy, and returns the status.
-fn put_report<O: Sink>(report: &CopyReport<'_>, out: &mut O) -> Result<u8, Failure>
+fn put_report<O: Sink>(report: &CopyReport<'_, '_>, out: &mut O) -> Result<u8, Failure>
     requires { All IsFoundLeaf report.now.found.now }
     ensures { Does O.taken O.failed out.old out.new (copy_report report.now.differs (lost_view report.now.lost) (map found_view report.now.found.now) report.now.source report.now.copy) result }
 {

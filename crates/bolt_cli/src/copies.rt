@@ -7,38 +7,38 @@ ghost use Rattle.bolt_tree.specs.Listing.{Member};
 ghost use Rattle.bolt_cli.specs.CopyEnds.{EndsCopy};
 ghost use Rattle.bolt_cli.specs.Hashes.{HashesSince};
 
+use crate::copy_source::CopySource;
 use crate::hashing::{Hashing, Origin};
-use bolt_bulk::{BulkFault, Done, Shape, compact_members};
+use bolt_bulk::{BulkFault, Done, Shape};
 use bolt_format::Sink;
 use bolt_snapshot::HASH_LEN;
-use bolt_tree::Members;
 use sha2::{Digest, Sha256};
 use std::alloc::Global;
 use std::marker::{Brand, PhantomData};
 
-/// Writes the copy of all members, of which none may have been returned yet, and returns its length.
-/// In a snapshot the hash of the layout comes after it.
-pub(crate) fn copy_members<'a, M: Members<'a>, T: Sink>(
+/// Writes the copy of all members of a source, and returns its length. In a snapshot the hash of the
+/// layout comes after it.
+pub(crate) fn copy_all<C: CopySource, T: Sink>(
     alloc: Global,
-    members: &mut M,
+    source: &mut C,
     shape: &Shape,
     snapshot: bool,
     target: &mut T,
 ) -> Result<u64, BulkFault>
-    requires { IsWhole M.lists M.left members.old }
-    ensures copied { (listing : List Member) → M.lists members.old listing
+    requires { IsWhole C.lists C.left source.old }
+    ensures copied { (listing : List Member) → C.lists source.old listing
         → EndsCopy T.taken T.failed target.old target.new (layout_of_listing shape.now.layout shape.now.page_size listing shape.now.sequence) snapshot result }
-    ensures end { OnOk result (M.ends_as members.old members.new) }
+    ensures end { OnOk result (C.ends_as source.old source.new) }
 {
     if !snapshot {
-        let done = compact_members(alloc, members, shape, target)?;
+        let done = source.copy(alloc, shape, target)?;
         return Ok(done.bytes);
     }
     let Hashed {
         target,
         hash,
         result,
-    } = hash_members::<M, T, Brand>(alloc, members, shape, target);
+    } = hash_all::<Brand, T, C>(alloc, source, shape, target);
     put_hash(result, hash, target)
 }
 
@@ -50,19 +50,19 @@ struct Hashed<'a, T> {
     result: Result<Done, BulkFault>,
 }
 
-fn hash_members<'a, 'b, M: Members<'b>, T: Sink, K: Origin>(
+fn hash_all<'a, K: Origin, T: Sink, C: CopySource>(
     alloc: Global,
-    members: &mut M,
+    source: &mut C,
     shape: &Shape,
     target: &'a mut T,
 ) -> Hashed<'a, T>
-    requires whole { IsWhole M.lists M.left members.old }
+    requires whole { IsWhole C.lists C.left source.old }
     requires name { target.ghost_name ≡ K.name }
     requires start { T.taken target.old ≡ K.start }
     ensures same { result.target.ghost_name ≡ target.entry.ghost_name }
-    ensures copied { (listing : List Member) → M.lists members.old listing
+    ensures copied { (listing : List Member) → C.lists source.old listing
         → Copies T.taken T.failed target.old result.target.now (layout_of_listing shape.now.layout shape.now.page_size listing shape.now.sequence) result.result }
-    ensures end { OnOk result.result (M.ends_as members.old members.new) }
+    ensures end { OnOk result.result (C.ends_as source.old source.new) }
     ensures hashed { T.failed result.target.now ≡ 0 → ∥ HashesSince (T.taken target.old) (T.taken result.target.now) result.hash ∥₁ }
 {
     let mut hashing: Hashing<'a, T, K> = Hashing {
@@ -70,7 +70,7 @@ fn hash_members<'a, 'b, M: Members<'b>, T: Sink, K: Origin>(
         hash: Sha256::new(),
         of: PhantomData,
     };
-    let result = compact_members(alloc, members, shape, &mut hashing);
+    let result = source.copy(alloc, shape, &mut hashing);
     let Hashing {
         target,
         hash,

@@ -8,6 +8,7 @@ mod commands;
 mod compact_command;
 mod copies;
 mod copy_kind;
+mod copy_source;
 mod decimals;
 mod extent;
 mod failure;

@@ -20,7 +20,9 @@ use crate::open_read::open_read;
 use crate::open_recovery::open_recovery;
 use bolt_check::Checked;
 use bolt_format::Sink;
-use bolt_recover::laws::joined_members_rise;
+use bolt_recover::laws::{
+    each_file_has_a_joined_listing, each_file_has_found_pages, joined_members_rise,
+};
 use bolt_recover::{Joined, Lost, found_pages};
 use bolt_report::{ReportFault, list_members_part, list_part};
 use bolt_tree::Members;
@@ -85,6 +87,8 @@ fn print_joined<O: Sink>(
     ensures { (answer : Answer) × IsJoinedList file.now job.now.meta job.now.form (path_in job.now.path.items) (path_in job.now.from.items) answer
         × Does O.taken O.failed out.old out.new answer result }
 {
+    each_file_has_found_pages();
+    each_file_has_a_joined_listing();
     let meta = job.meta.find(file)?;
     let found = found_pages(alloc, file, meta)?;
     let mut joined = Joined::new(alloc, file, meta, found.as_slice())?;

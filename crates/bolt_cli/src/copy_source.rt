@@ -1,0 +1,94 @@
+//! What a copy is made of. `Members` has a lifetime, so a function that is generic over them can't be
+//! handed which borrow it hashes; this trait has none.
+ghost use Rattle.std.specs.Prelude.{◌≡◌, List, OnOk};
+ghost use Rattle.bolt_bulk.specs.Compacting.{Copies};
+ghost use Rattle.bolt_bulk.specs.WholeListings.{IsWhole};
+ghost use Rattle.bolt_check.specs.CheckedFiles.{bytes_of, meta_of};
+ghost use Rattle.bolt_layout.specs.Copies.{layout_of_listing};
+ghost use Rattle.bolt_recover.specs.Joined.{IsJoined};
+ghost use Rattle.bolt_recover.specs.JoinedMembers.{HasAllLost, joined_file, joined_left, joined_meta};
+ghost use Rattle.bolt_recover.specs.Recovered.{IsRecovered};
+ghost use Rattle.bolt_recover.specs.Recoveries.{ForLosses, recovery_file, recovery_left, recovery_losses, recovery_meta};
+ghost use Rattle.bolt_tree.specs.Listing.{IsListing, Member};
+ghost use Rattle.bolt_tree.specs.Walks.{left_of, walk_checked};
+
+use bolt_bulk::{BulkFault, Done, Shape, compact_members};
+use bolt_format::Sink;
+use bolt_recover::{Joined, Recovery};
+use bolt_tree::Walk;
+use std::alloc::Global;
+
+/// The members of a listing, of which a copy can be made.
+pub(crate) trait CopySource {
+    /// The listing whose members it returns.
+    ghost lists: { Self → List Member → Type 0 };
+
+    /// The part of the listing that is left.
+    ghost left: { Self → List Member → List Member };
+
+    /// Whether the second can be what the first is once nothing is left.
+    ghost ends_as: { Self → Self → Type 0 };
+
+    /// Writes the copy of all members, of which none may have been returned yet
+    /// (`bolt_bulk::compact_members`).
+    fn copy<S: Sink>(
+        &mut self,
+        alloc: Global,
+        shape: &Shape,
+        sink: &mut S,
+    ) -> Result<Done, BulkFault>
+        requires { IsWhole lists left self.old }
+        ensures copied { (listing : List Member) → lists self.old listing → Copies S.taken S.failed sink.old sink.new (layout_of_listing shape.now.layout shape.now.page_size listing shape.now.sequence) result }
+        ensures end { OnOk result (ends_as self.old self.new) };
+}
+
+impl CopySource for Walk<'_> {
+    ghost lists = { λ walk listing. IsListing (bytes_of (walk_checked walk)) (meta_of (walk_checked walk)) listing };
+
+    ghost left = { λ walk listing. left_of walk listing };
+
+    ghost ends_as = { λ walk end. Unit {0} };
+
+    fn copy<S: Sink>(
+        &mut self,
+        alloc: Global,
+        shape: &Shape,
+        sink: &mut S,
+    ) -> Result<Done, BulkFault> {
+        compact_members(alloc, self, shape, sink)
+    }
+}
+
+impl CopySource for Recovery<'_> {
+    ghost lists = { λ recovery listing. IsRecovered (recovery_file recovery) (recovery_meta recovery) listing };
+
+    ghost left = { λ recovery listing. recovery_left recovery listing };
+
+    ghost ends_as = { λ recovery end. ForLosses (recovery_file recovery) (recovery_meta recovery) (λ losses. recovery_losses end ≡ losses) };
+
+    fn copy<S: Sink>(
+        &mut self,
+        alloc: Global,
+        shape: &Shape,
+        sink: &mut S,
+    ) -> Result<Done, BulkFault> {
+        compact_members(alloc, self, shape, sink)
+    }
+}
+
+impl CopySource for Joined<'_> {
+    ghost lists = { λ joined listing. IsJoined (joined_file joined) (joined_meta joined) listing };
+
+    ghost left = { λ joined listing. joined_left joined listing };
+
+    ghost ends_as = { λ joined end. HasAllLost (joined_file joined) (joined_meta joined) end };
+
+    fn copy<S: Sink>(
+        &mut self,
+        alloc: Global,
+        shape: &Shape,
+        sink: &mut S,
+    ) -> Result<Done, BulkFault> {
+        compact_members(alloc, self, shape, sink)
+    }
+}
