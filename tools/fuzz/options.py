@@ -3,7 +3,7 @@
 import json
 
 from program import want
-from results import FORMS, entries_of, lines_in, words_of, word_of
+from results import FORMS, entries_of, figures_of, info_of, lines_in, words_of, word_of
 
 MOST_BUCKETS = 4
 GREATEST = 2**64 - 1
@@ -14,18 +14,18 @@ def bytes_in(item):
     return bytes.fromhex(item["hex"]) if isinstance(item, dict) else item.encode()
 
 
-def line_of(text):
-    """A line of the listing in hexadecimal, from its line of JSON."""
+def line_of(text, read=bytes_in):
+    """A line of the listing in hexadecimal, from its line of JSON, whose items are read so."""
     member = json.loads(text)
-    path = word_of(bytes_in(part) for part in member["path"])
+    path = word_of(read(part) for part in member["path"])
     if "bucket" in member:
         return f"{path} bucket {member['bucket']}\n"
-    return f"{path} = {bytes_in(member['value']).hex()}\n"
+    return f"{path} = {read(member['value']).hex()}\n"
 
 
-def lines_of_json(text):
+def lines_of_json(text, read=bytes_in):
     """The listing in hexadecimal that a listing as JSON stands for."""
-    return "".join(map(line_of, text.decode().splitlines())).encode()
+    return "".join(line_of(line, read) for line in text.decode().splitlines()).encode()
 
 
 def part_of(listing, bucket):
@@ -72,6 +72,8 @@ def compare_json(file, listing, entries):
     """The listing as JSON can be read back."""
     shown = file.text("list", "--form", "json")
     want(lines_of_json(shown) == listing, "list --form json isn't list")
+    shown = file.text("list", "--form", "json-hex")
+    want(lines_of_json(shown, bytes.fromhex) == listing, "list --form json-hex isn't list")
     for bucket in file.some(buckets_of(entries))[:1]:
         words = ["--form", "json", *words_of(file.draw, bucket)]
         want(lines_of_json(file.text("list", *words)) == part_of(listing, bucket), "list", *words)
@@ -116,6 +118,9 @@ def compare_sizes(file, entries):
         words = ["--sizes", "--form", "hex", "--parts", "hex", *(key.hex() for key in bucket)]
         shown = file.text("buckets", *words).decode().splitlines(keepends=True)
         want(len(shown) == len(inner), "buckets", *words, "has", len(shown), "lines")
+        objects = [json.loads(line) for line in file.text("buckets", *words[:2], "json-hex", *words[3:]).splitlines()]
+        lines = ["{keys} {used} {allocated} {name}\n".format(**size) for size in objects]
+        want(lines == shown, "buckets --sizes --form json-hex isn't buckets", *words)
         for number in file.draw.sample(range(len(inner)), min(MOST_BUCKETS, len(inner))):
             want(shown[number] == sizes_of(file, inner[number]), "buckets", *words, ":", shown[number])
 
@@ -132,8 +137,16 @@ def compare_alone(file, entries):
         want(form != "json" or bytes_in(json.loads(alone)) == entries[path], "get --form json", *words)
 
 
+def compare_figures(file):
+    """The figures of `info` and `stats` as JSON are those of their lines."""
+    for command, figures in (("info", info_of(file)), ("stats", figures_of(file))):
+        shown = json.loads(file.text(command, "--form", "json"))
+        want(shown == {name.replace(" ", "_"): number for name, number in figures.items()}, command, "--form json")
+
+
 def compare_options(file, listing, entries):
     """All of these on a sound file."""
+    compare_figures(file)
     compare_parts(file, listing, entries)
     compare_json(file, listing, entries)
     compare_prefixes(file, entries)

@@ -7,7 +7,7 @@ use Rattle.bolt_report.specs.declared.form.Form.{Form}
 use Rattle.bolt_report.specs.declared.statistics.Stats.{Stats}
 use Rattle.bolt_report.proofs.FigureTexts.{sized_item}
 use Rattle.bolt_report.proofs.ReportLemmas.{Wrote-fault, Wrote-passed, Wrote-sink}
-use Rattle.bolt_report.proofs.size_lines.put_object.Goals as goal
+use Rattle.bolt_report.proofs.size_objects.put_object.Goals as goal
 
 pub returns-in_err-put_members-clause-written : goal.returns-in_err-put_members-clause-written
 returns-in_err-put_members-clause-written g c =
