@@ -14,18 +14,25 @@ def bytes_in(item):
     return bytes.fromhex(item["hex"]) if isinstance(item, dict) else item.encode()
 
 
-def line_of(text, read=bytes_in):
-    """A line of the listing in hexadecimal, from its line of JSON, whose items are read so."""
+def line_of(text):
+    """A line of the listing in hexadecimal, from its line of JSON."""
     member = json.loads(text)
-    path = word_of(read(part) for part in member["path"])
+    path = word_of(bytes_in(part) for part in member["path"])
     if "bucket" in member:
         return f"{path} bucket {member['bucket']}\n"
-    return f"{path} = {read(member['value']).hex()}\n"
+    return f"{path} = {bytes_in(member['value']).hex()}\n"
 
 
-def lines_of_json(text, read=bytes_in):
+def lines_of_json(text):
     """The listing in hexadecimal that a listing as JSON stands for."""
-    return "".join(line_of(line, read) for line in text.decode().splitlines()).encode()
+    return "".join(map(line_of, text.decode().splitlines())).encode()
+
+
+def json_hex_line(path, item):
+    """The line of an entry as JSON in hexadecimal."""
+    parts = ",".join(f'"{key.hex()}"' for key in path)
+    end = f'"bucket":{item}' if isinstance(item, int) else f'"value":"{item.hex()}"'
+    return f'{{"path":[{parts}],{end}}}\n'
 
 
 def part_of(listing, bucket):
@@ -72,8 +79,8 @@ def compare_json(file, listing, entries):
     """The listing as JSON can be read back."""
     shown = file.text("list", "--form", "json")
     want(lines_of_json(shown) == listing, "list --form json isn't list")
-    shown = file.text("list", "--form", "json-hex")
-    want(lines_of_json(shown, bytes.fromhex) == listing, "list --form json-hex isn't list")
+    lines = "".join(json_hex_line(path, item) for path, item in entries.items())
+    want(file.text("list", "--form", "json-hex") == lines.encode(), "list --form json-hex isn't list")
     for bucket in file.some(buckets_of(entries))[:1]:
         words = ["--form", "json", *words_of(file.draw, bucket)]
         want(lines_of_json(file.text("list", *words)) == part_of(listing, bucket), "list", *words)
