@@ -1,14 +1,14 @@
 -- What is printed of an item in the form `mixed` is a word, which is read back as a part.
-use Rattle.std.proofs.Common.{◌≡◌, ◌∙◌, ◌++◌, ◌∷◌, ◌&&◌, ◌==◌, ◌<◌, ◌/◌, ◌%◌, [], ℕ, List, Bool, true, false, Ok, ap, arith, codes, drop, nat_le, not, refl, slice_index, suc, sym, take}
+use Rattle.std.proofs.Common.{◌≡◌, ◌∙◌, ◌++◌, ◌&&◌, ◌==◌, ℕ, List, Bool, true, false, Ok, ap, codes, drop, nat_le, not, refl, sym, take}
 use Rattle.std.specs.Prelude.{if◌then◌else◌}
 use Rattle.std.specs.Cmp.Lexicographic.{pointwise}
 use Rattle.std.specs.Str.{bytes_eq}
 use Rattle.std.proofs.lemmas.Bool.{and_parts, not-true}
-use Rattle.std.proofs.lemmas.List.Sums.{AllPass-from_list_all}
 use Rattle.std.proofs.lemmas.Slice.Eq.{bytes_eq-Decides}
 use Rattle.hex.proofs.HexLemmas.{decode_of-encode_lower}
-use Rattle.hex.specs.Hex.{IsBytes, encode_lower, encode_with, lower_digits}
+use Rattle.hex.specs.Hex.{IsBytes, encode_lower}
 use Rattle.bolt_report.specs.Forms.{is_marked, is_printable, mixed_text}
+use Rattle.bolt_report.proofs.HexStrings.{digits_pass}
 use Rattle.bolt_tree.proofs.Filters.{not_true}
 use Rattle.bolt_cli.specs.PathWords.{hex_bytes, mixed_bytes, or_bad_hex}
 
@@ -18,19 +18,6 @@ unmarked bytes none =
     not_true (bytes_eq (take 2 bytes) (codes "0x")) (λ marked.
     let same : take 2 bytes ≡ codes "0x" = (bytes_eq-Decides (take 2 bytes) (codes "0x")).0 marked in
     let both : true ≡ false = sym (ap (λ (front : List ℕ). pointwise (λ a b. a == b) (codes "0x") front) same) ∙ none in cc)
-
-abbrev is_plain : ℕ → Bool
-is_plain byte = nat_le 0x20 byte && nat_le byte 0x7E
-
-plain_digit : (k : ℕ) → k < 16 → is_plain (slice_index lower_digits k) ≡ true
-plain_digit k below = AllPass-from_list_all is_plain lower_digits refl k 0 below
-
-plain_digits : (bytes : List ℕ) → IsBytes bytes → is_printable (encode_lower bytes) ≡ true
-unfolding encode_with
-plain_digits [] are = refl
-plain_digits (byte ∷ rest) are =
-    let fits = are 0 in
-    rw (plain_digit (byte / 16) (omega (arith, fits)), plain_digit (byte % 16) (omega arith)) (plain_digits rest (λ i. are (suc i)))
 
 module _ (bytes : List ℕ) (are : IsBytes bytes) where
   by_test : (plain : Bool) → (is_printable bytes && not (is_marked bytes)) ≡ plain → mixed_bytes (if plain then bytes else codes "0x" ++ encode_lower bytes) ≡ Ok bytes
@@ -42,7 +29,7 @@ module _ (bytes : List ℕ) (are : IsBytes bytes) where
 
   word_by_test : (plain : Bool) → (is_printable bytes && not (is_marked bytes)) ≡ plain → is_printable (if plain then bytes else codes "0x" ++ encode_lower bytes) ≡ true
   word_by_test true e = (and_parts (is_printable bytes) _ e).0
-  word_by_test false e = plain_digits bytes are
+  word_by_test false e = digits_pass (λ byte. nat_le 0x20 byte && nat_le byte 0x7E) refl bytes are
 
   pub mixed_word : is_printable (mixed_text bytes) ≡ true
   mixed_word = word_by_test (is_printable bytes && not (is_marked bytes)) refl

@@ -26,13 +26,14 @@ use std::alloc::Global;
 
 /// Writes the sizes of those entries of a bucket that are buckets, a line for each, in byte order
 /// (docs/COMMANDS.md, "What is printed"): the number of keys, the bytes used, the bytes allocated,
-/// and its name in a form, or all of it as an object if the form is JSON. The figures are those of the bucket with all buckets in it. Inline
-/// buckets count as allocated what they use. A sum above 2^64 - 1 saturates there.
+/// and its name in a form, or all of it as an object if the form is JSON. The figures are those of
+/// the bucket with all buckets in it. Inline buckets count as allocated what they use. A sum above
+/// 2^64 - 1 saturates there.
 ///
 /// # Errors
 ///
 /// `Sink` if the sink failed; `NoMemory` if memory ran out for the figures of a bucket or for a
-/// name as JSON, and the sink had not failed. The sink has then accepted a prefix of the text. There
+/// name in the form `Json`, and the sink had not failed. The sink has then accepted a prefix of the text. There
 /// is no other error.
 pub fn sizes<S: Sink>(
     alloc: Global,
