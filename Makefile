@@ -90,7 +90,8 @@ SWEEP = python3 -B tools/refuse/sweep.py $(PROGRAM) $(REFUSE)
 PRINTING = info "page 5" pages check buckets stats list "keys users" "get settings theme" \
 	"pages --map" "check --etcd-snapshot" "buckets --sizes" "buckets index --sizes --form json" \
 	"keys index by-name --prefix user" "get settings theme -n" "get settings theme -n --form json" \
-	"list settings" "list --form json" "list --recover --form json" "page 5 --assume-meta 4096:5" \
+	"info --form json" "stats --form json" "keys users --form mixed" "buckets --sizes --form json-hex" \
+	"list settings" "list --form json" "list --form json-hex" "list --recover --form json" "page 5 --assume-meta 4096:5" \
 	"get settings theme --assume-meta 4096:5"
 EACH_COMMAND = $(PRINTING) "get settings none" "info --help" "info more" "list --from x" "list none"
 
@@ -237,7 +238,7 @@ NESTED = out/nested.db
 memory: $(PROGRAM) $(CALLS) $(REFUSE) $(NESTED) $(DEEP) $(DAMAGED)
 	$(SWEEP) memory 1 $(NESTED) info "page 3" pages check buckets stats list "list --from 62/62" \
 		"keys b b" "get b x" "compact -o OUT" "pages --map" "buckets --sizes" "buckets b b --sizes" \
-		"list --form json" "list b b" "list b b --form json --from 62/62/62" "keys b b --form json" \
+		"list --form json" "list --form json-hex" "list b b" "list b b --form json --from 62/62/62" "keys b b --form json" \
 		"compact -o OUT --etcd-snapshot"
 	$(SWEEP) memory 1 examples/app.db $(EACH_COMMAND) "compact -o OUT --page-size 1024" \
 		"compact -o OUT --etcd-snapshot"

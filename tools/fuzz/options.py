@@ -3,7 +3,7 @@
 import json
 
 from program import want
-from results import FORMS, entries_of, lines_in, words_of, word_of
+from results import FORMS, entries_of, figures_of, info_of, lines_in, words_of, word_of
 
 MOST_BUCKETS = 4
 GREATEST = 2**64 - 1
@@ -26,6 +26,13 @@ def line_of(text):
 def lines_of_json(text):
     """The listing in hexadecimal that a listing as JSON stands for."""
     return "".join(map(line_of, text.decode().splitlines())).encode()
+
+
+def json_hex_line(path, item):
+    """The line of an entry as JSON in hexadecimal."""
+    parts = ",".join(f'"{key.hex()}"' for key in path)
+    end = f'"bucket":{item}' if isinstance(item, int) else f'"value":"{item.hex()}"'
+    return f'{{"path":[{parts}],{end}}}\n'
 
 
 def part_of(listing, bucket):
@@ -72,6 +79,8 @@ def compare_json(file, listing, entries):
     """The listing as JSON can be read back."""
     shown = file.text("list", "--form", "json")
     want(lines_of_json(shown) == listing, "list --form json isn't list")
+    lines = "".join(json_hex_line(path, item) for path, item in entries.items())
+    want(file.text("list", "--form", "json-hex") == lines.encode(), "list --form json-hex isn't list")
     for bucket in file.some(buckets_of(entries))[:1]:
         words = ["--form", "json", *words_of(file.draw, bucket)]
         want(lines_of_json(file.text("list", *words)) == part_of(listing, bucket), "list", *words)
@@ -116,6 +125,9 @@ def compare_sizes(file, entries):
         words = ["--sizes", "--form", "hex", "--parts", "hex", *(key.hex() for key in bucket)]
         shown = file.text("buckets", *words).decode().splitlines(keepends=True)
         want(len(shown) == len(inner), "buckets", *words, "has", len(shown), "lines")
+        objects = [json.loads(line) for line in file.text("buckets", *words[:2], "json-hex", *words[3:]).splitlines()]
+        lines = ["{keys} {used} {allocated} {name}\n".format(**size) for size in objects]
+        want(lines == shown, "buckets --sizes --form json-hex isn't buckets", *words)
         for number in file.draw.sample(range(len(inner)), min(MOST_BUCKETS, len(inner))):
             want(shown[number] == sizes_of(file, inner[number]), "buckets", *words, ":", shown[number])
 
@@ -132,8 +144,16 @@ def compare_alone(file, entries):
         want(form != "json" or bytes_in(json.loads(alone)) == entries[path], "get --form json", *words)
 
 
+def compare_figures(file):
+    """The figures of `info` and `stats` as JSON are those of their lines."""
+    for command, figures in (("info", info_of(file)), ("stats", figures_of(file))):
+        shown = json.loads(file.text(command, "--form", "json"))
+        want(shown == {name.replace(" ", "_"): number for name, number in figures.items()}, command, "--form json")
+
+
 def compare_options(file, listing, entries):
     """All of these on a sound file."""
+    compare_figures(file)
     compare_parts(file, listing, entries)
     compare_json(file, listing, entries)
     compare_prefixes(file, entries)

@@ -31,8 +31,14 @@ TEXTS = {
     "check": rb"OK\n",
     "stats": b"".join(figure.encode() + rb" \d+\n" for figure in FIGURES),
     "list": rb"(?:%b)*" % ENTRY,
-    "list json": rb"(?:%b)*" % JSON_ENTRY,
     "compact": rb"\d+ -> \d+ bytes\n",
+}
+# And what it prints as JSON.
+JSON_TEXTS = {
+    "info": rb'\{"page_size":\d+,"meta":[01],"txid":\d+,"root":\d+,"sequence":\d+,'
+    rb'"freelist":(?:\d+|null),"high_water":\d+\}\n',
+    "stats": rb"\{%b\}\n" % b",".join(rb'"%b":\d+' % figure.replace(" ", "_").encode() for figure in FIGURES),
+    "list": rb"(?:%b)*" % JSON_ENTRY,
 }
 LOSSES = rb"(?:%b)+" % LOSS
 FINDINGS = rb"(?:%b\n)+\d+ errors found\n" % FINDING
@@ -57,7 +63,7 @@ FAULTS = {
 FAILED = {
     "check": (FINDINGS, b""),
     "check --all": (rb"(?:%b)?(?:%b|%b\d+ errors found\n)|%b\d+ errors found\n" % (OTHER_META, FINDINGS, LOSSES, OTHER_META), b""),
-    "list --recover": (TEXTS["list"] + b"|" + TEXTS["list json"], rb"error: pages lost: \d+\n"),
+    "list --recover": (TEXTS["list"] + b"|" + JSON_TEXTS["list"], rb"error: pages lost: \d+\n"),
     "compact --recover": (LOSSES + TEXTS["compact"], b""),
 }
 
@@ -127,8 +133,8 @@ def form_of(words):
 
 def text_form(words):
     """The form of what these words print if they succeed, or nothing if it is compared whole."""
-    is_json = words[0] == "list" and "json" in words
-    return TEXTS["list json"] if is_json else TEXTS.get(words[0])
+    is_json = words[0] in JSON_TEXTS and ("json" in words or "json-hex" in words)
+    return (JSON_TEXTS if is_json else TEXTS).get(words[0])
 
 
 def without_hash(words, result):

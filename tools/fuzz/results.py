@@ -7,10 +7,23 @@ from program import want
 PRINTABLE = range(0x20, 0x7F)
 MOST_PATHS = 8
 MOST_PAGES = 40
+
+
+def is_printable(data):
+    return all(byte in PRINTABLE for byte in data)
+
+
+def mixed(data):
+    """An item in the form that `--parts mixed` reads back."""
+    return data if is_printable(data) and not data.startswith(b"0x") else b"0x" + data.hex().encode()
+
+
 FORMS = {
     "bytes": lambda data: data,
     "hex": lambda data: data.hex().encode(),
-    "printable": lambda data: data if all(byte in PRINTABLE for byte in data) else data.hex().encode(),
+    "printable": lambda data: data if is_printable(data) else data.hex().encode(),
+    "mixed": mixed,
+    "json-hex": lambda data: b'"%b"' % data.hex().encode(),
 }
 
 
@@ -29,10 +42,12 @@ def word_of(path):
 
 
 def words_of(draw, path):
-    """The words for a path: in hexadecimal or, if possible, as text."""
-    is_text = all(byte in PRINTABLE for key in path for byte in key)
-    if is_text and draw.random() < 0.5:
+    """The words for a path: in hexadecimal, mixed or, if possible, as text."""
+    kind = draw.random()
+    if all(map(is_printable, path)) and kind < 0.4:
         return ["--", *(key.decode() for key in path)]
+    if kind < 0.7:
+        return ["--parts", "mixed", "--", *(mixed(key).decode() for key in path)]
     return ["--parts", "hex", *(key.hex() for key in path)]
 
 

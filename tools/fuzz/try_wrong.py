@@ -425,10 +425,47 @@ def change_sequence(words, result):
     result.out = re.sub(rb'"bucket":\d+', b'"bucket":5', result.out)
 
 
+@alters("list", "json-hex")
+def drop_hex_json(words, result):
+    """list --form json-hex drops its last line"""
+    result.out = b"".join(result.out.splitlines(keepends=True)[:-1])
+
+
+@alters("list", "json-hex")
+def show_object(words, result):
+    """list --form json-hex shows a value as an object"""
+    result.out = re.sub(rb'"value":("[0-9a-f]*")', rb'"value":{"hex":\1}', result.out)
+
+
 @alters("list", "--recover", "json", status=1)
 def drop_recovered_json(words, result):
     """list --recover --form json drops its last line of a damaged file"""
     result.out = b"".join(result.out.splitlines(keepends=True)[:-1])
+
+
+@alters("info", "json")
+def change_figure(words, result):
+    """info --form json shows another number"""
+    result.out = re.sub(rb'"root":\d+', b'"root":1', result.out)
+
+
+@alters("stats", "json")
+def swap_figures(words, result):
+    """stats --form json shows two numbers under each other's names"""
+    result.out = re.sub(rb'"keys":(\d+),"depth":(\d+)', rb'"keys":\2,"depth":\1', result.out)
+
+
+@alters("keys", "mixed")
+def drop_mark(words, result):
+    """keys --form mixed drops 0x"""
+    if words[words.index("--form") + 1] == "mixed":
+        result.out = result.out.replace(b"0x", b"")
+
+
+@alters("buckets", "--sizes", "json-hex")
+def change_object(words, result):
+    """buckets --sizes --form json-hex shows other bytes used"""
+    result.out = re.sub(rb'"used":\d+', b'"used":1', result.out)
 
 
 @alters("keys", "--prefix")
@@ -445,6 +482,8 @@ def add_key(words, result):
 
 def alters_size(column, name):
     def add_one(words, result):
+        if result.out.startswith(b"{"):
+            return
         lines = [line.split(b" ", 3) for line in result.out.splitlines()]
         for line in lines:
             line[column] = b"%d" % (int(line[column]) + 1)

@@ -1,5 +1,5 @@
--- What is printed of an item in the form `mixed` is read back as a part.
-use Rattle.std.proofs.Common.{◌≡◌, ◌∙◌, ◌++◌, ◌&&◌, ◌==◌, ℕ, List, Bool, true, false, Result, Ok, ap, codes, drop, not, refl, sym, take}
+-- What is printed of an item in the form `mixed` is a word, which is read back as a part.
+use Rattle.std.proofs.Common.{◌≡◌, ◌∙◌, ◌++◌, ◌&&◌, ◌==◌, ℕ, List, Bool, true, false, Ok, ap, codes, drop, nat_le, not, refl, sym, take}
 use Rattle.std.specs.Prelude.{if◌then◌else◌}
 use Rattle.std.specs.Cmp.Lexicographic.{pointwise}
 use Rattle.std.specs.Str.{bytes_eq}
@@ -8,6 +8,7 @@ use Rattle.std.proofs.lemmas.Slice.Eq.{bytes_eq-Decides}
 use Rattle.hex.proofs.HexLemmas.{decode_of-encode_lower}
 use Rattle.hex.specs.Hex.{IsBytes, encode_lower}
 use Rattle.bolt_report.specs.Forms.{is_marked, is_printable, mixed_text}
+use Rattle.bolt_report.proofs.HexStrings.{digits_pass}
 use Rattle.bolt_tree.proofs.Filters.{not_true}
 use Rattle.bolt_cli.specs.PathWords.{hex_bytes, mixed_bytes, or_bad_hex}
 
@@ -25,3 +26,10 @@ module _ (bytes : List ℕ) (are : IsBytes bytes) where
 
   pub mixed_back : mixed_bytes (mixed_text bytes) ≡ Ok bytes
   mixed_back = by_test (is_printable bytes && not (is_marked bytes)) refl
+
+  word_by_test : (plain : Bool) → (is_printable bytes && not (is_marked bytes)) ≡ plain → is_printable (if plain then bytes else codes "0x" ++ encode_lower bytes) ≡ true
+  word_by_test true e = (and_parts (is_printable bytes) _ e).0
+  word_by_test false e = digits_pass (λ byte. nat_le 0x20 byte && nat_le byte 0x7E) refl bytes are
+
+  pub mixed_word : is_printable (mixed_text bytes) ≡ true
+  mixed_word = word_by_test (is_printable bytes && not (is_marked bytes)) refl

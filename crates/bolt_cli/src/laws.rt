@@ -6,7 +6,7 @@ ghost use Rattle.bolt_format.specs.declared.meta.Meta.{Meta};
 ghost use Rattle.bolt_layout.specs.Copies.{IsOfOneTree};
 ghost use Rattle.bolt_layout.specs.declared.layout.Layout.{Layout};
 ghost use Rattle.hex.specs.Hex.{IsBytes};
-ghost use Rattle.bolt_report.specs.Forms.{item_text};
+ghost use Rattle.bolt_report.specs.Forms.{is_printable, item_text};
 ghost use Rattle.bolt_report.specs.declared.form.Form.TheVariants as Form;
 ghost use Rattle.bolt_report.specs.declared.form.ListForm.{ListForm};
 ghost use Rattle.bolt_tree.specs.Listing.{Member};
@@ -46,10 +46,11 @@ pub fn needed_bytes_are_enough<O: Sink, T: Sink>()
     metas_lie_in_a_prefix();
 }
 
-/// What `--form mixed` prints of a key or a value is, as a part under `--parts mixed`, that key or
-/// value.
+/// What `--form mixed` prints of a key or a value is printable ASCII and, as a part under
+/// `--parts mixed`, that key or value.
 pub fn mixed_items_read_back()
-    ensures { (bytes : List ℕ) → IsBytes bytes → part_of Parts.Mixed (item_text Form.Mixed bytes) ≡ Ok bytes }
+    ensures printable { (bytes : List ℕ) → IsBytes bytes → is_printable (item_text Form.Mixed bytes) ≡ true }
+    ensures same { (bytes : List ℕ) → IsBytes bytes → part_of Parts.Mixed (item_text Form.Mixed bytes) ≡ Ok bytes }
 {}
 
 /// The copies of a listing that is that of one tree are good: `check` accepts each, hash and all; it

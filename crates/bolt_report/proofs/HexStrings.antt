@@ -1,6 +1,7 @@
 -- Hexadecimal digits as JSON strings, which need no escapes.
-use Rattle.std.proofs.Common.{◌≡◌, ◌∙◌, ◌<◌, ℕ, ◌/◌, ◌%◌, suc, List, [], ◌∷◌, ◌++◌, Bool, true, false, ◌&&◌, ◌==◌, not, nat_le, arith, ap, refl, sym, slice_index, append_assoc, codes}
+use Rattle.std.proofs.Common.{◌≡◌, ◌∙◌, ℕ, ◌/◌, ◌%◌, suc, List, [], ◌∷◌, ◌++◌, Bool, true, false, ◌&&◌, ◌==◌, not, nat_le, arith, ap, refl, sym, append_assoc, codes}
 use Rattle.std.specs.Prelude.{decimal}
+use Rattle.std.specs.List.{list_all}
 use Rattle.std.proofs.lemmas.Bool.{and_parts, eqb-false, leb-true, not-true}
 use Rattle.std.proofs.lemmas.List.Sums.{AllPass-from_list_all}
 use Rattle.hex.specs.Hex.{IsBytes, encode_lower, encode_with, lower_digits}
@@ -16,27 +17,33 @@ use Rattle.bolt_report.specs.Lines.{line}
 use Rattle.bolt_report.specs.Pieces.{hex_string, path_text}
 use Rattle.bolt_report.specs.declared.pieces.PathForm.TheVariants.{Strings}
 
+-- what each digit passes, the digits of bytes do
+pub digits_pass : (test : ℕ → Bool) → list_all test lower_digits ≡ true → (bytes : List ℕ) → IsBytes bytes → list_all test (encode_lower bytes) ≡ true
+unfolding encode_with
+digits_pass test all [] are = refl
+digits_pass test all (byte ∷ rest) are =
+    let fits = are 0 in
+    let each = AllPass-from_list_all test lower_digits all in
+    rw (each (byte / 16) 0 (omega (arith, fits)), each (byte % 16) 0 (omega arith)) (digits_pass test all rest (λ i. are (suc i)))
+
+-- from 0 (48) on, but no backslash (92)
 abbrev is_plain : ℕ → Bool
 is_plain x = nat_le 48 x && not (x == 92)
 
-plain_by : (x : ℕ) → is_plain x ≡ true → escape_byte x ≡ x ∷ []
-plain_by x e =
+plain_byte : (x : ℕ) → is_plain x ≡ true → escape_byte x ≡ x ∷ []
+plain_byte x e =
     let (low, other) = and_parts (nat_le 48 x) (not (x == 92)) e in
     let least = leb-true 48 x low in
     escape_byte_plain x (λ quote. omega (arith, least, quote)) (eqb-false x 92 (not-true (x == 92) other)) (omega (arith, least))
 
-plain_digit : (k : ℕ) → k < 16 → escape_byte (slice_index lower_digits k) ≡ slice_index lower_digits k ∷ []
-plain_digit k below = plain_by (slice_index lower_digits k) (AllPass-from_list_all is_plain lower_digits refl k 0 below)
+plain_text : (text : List ℕ) → list_all is_plain text ≡ true → escape text ≡ text
+plain_text [] all = refl
+plain_text (x ∷ text) all =
+    let (first, rest) = and_parts (is_plain x) (list_all is_plain text) all in
+    λ i. plain_byte x first i ++ plain_text text rest i
 
 pub plain_digits : (bytes : List ℕ) → IsBytes bytes → escape (encode_lower bytes) ≡ encode_lower bytes
-unfolding encode_with
-plain_digits [] h = refl
-plain_digits (byte ∷ rest) h =
-    let fits = h 0 in
-    let high = plain_digit (byte / 16) (omega (arith, fits)) in
-    let low = plain_digit (byte % 16) (omega arith) in
-    let later = plain_digits rest (λ i. h (suc i)) in
-    λ i. high i ++ (low i ++ later i)
+plain_digits bytes are = plain_text (encode_lower bytes) (digits_pass is_plain refl bytes are)
 
 -- ---- the line of a member
 

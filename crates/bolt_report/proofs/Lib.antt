@@ -5,7 +5,7 @@ mod FigureLemmas
 mod FigureTexts
 mod GatherLemmas
 mod HexLemmas
-mod HexStrings
+pub mod HexStrings
 mod FoundLemmas
 mod JsonLemmas
 mod KeyTexts

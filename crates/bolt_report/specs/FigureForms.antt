@@ -24,7 +24,7 @@ abbrev pub number_json : Option ℕ → json.Json
 number_json (Some n) = number (decimal n)
 number_json None = null
 
--- the text of that number
+-- the text of the latter
 abbrev pub number_text : Option ℕ → List ℕ
 number_text (Some n) = decimal n
 number_text None = codes "null"

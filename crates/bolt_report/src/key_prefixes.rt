@@ -21,9 +21,9 @@ use std::alloc::Global;
 ///
 /// # Errors
 ///
-/// `Sink` if the sink failed; `NoMemory` if memory ran out for a JSON text, and the sink had not
-/// failed. The sink has then accepted a prefix of the text. There is no other error, and no other
-/// form needs memory.
+/// `Sink` if the sink failed; `NoMemory` if memory ran out for a text in the form `Json`, and the sink
+/// had not failed. The sink has then accepted a prefix of the text. There is no other error, and no
+/// other form needs memory.
 pub fn keys_with_prefix<S: Sink>(
     alloc: Global,
     cursor: &mut Cursor<'_>,

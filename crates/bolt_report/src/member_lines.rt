@@ -8,8 +8,9 @@ ghost use Rattle.bolt_tree.specs.ShownEntries.{item_view};
 
 use crate::fault::ReportFault;
 use crate::form::ListForm;
+use crate::json_hex_lines::put_hex_json;
 use crate::json_text::JsonText;
-use crate::list_lines::{put_hex_json, put_member};
+use crate::list_lines::put_member;
 use crate::puts::put;
 use bolt_format::Sink;
 use bolt_tree::Item;

@@ -41,7 +41,7 @@ fn put_lines<S: Sink>(slot: Slot, meta: &Meta, sink: &mut S) -> Result<(), SinkF
             Piece::Figure(b"txid", meta.txid),
             Piece::Figure(b"root", meta.root),
             Piece::Figure(b"sequence", meta.root_sequence),
-            freelist_line(meta.freelist),
+            freelist_line(freelist_of(meta.freelist)),
             Piece::Figure(b"high water", meta.high_water),
         ],
         sink,
@@ -64,7 +64,7 @@ fn put_json<S: Sink>(slot: Slot, meta: &Meta, sink: &mut S) -> Result<(), SinkFa
             Piece::Bytes(b",\"sequence\":"),
             Piece::Number(meta.root_sequence),
             Piece::Bytes(b",\"freelist\":"),
-            freelist_value(meta.freelist),
+            freelist_value(freelist_of(meta.freelist)),
             Piece::Bytes(b",\"high_water\":"),
             Piece::Number(meta.high_water),
             Piece::Bytes(b"}\n"),
@@ -101,25 +101,29 @@ fn slot_number(slot: Slot) -> u64
     }
 }
 
-/// The line of the freelist's page, or that there is none.
-#[tactic(auto, unfolding(crate::specs::Lines::figure_line))]
-fn freelist_line(id: u64) -> Piece<'static>
-    ensures { piece_text result ≡ named_line (codes "freelist") (freelist_of id) }
+/// The number of the freelist's page, if there is one.
+fn freelist_of(id: u64) -> Option<u64>
+    ensures { result ≡ freelist_of id }
 {
-    if id == NO_FREELIST {
-        Piece::Bytes(b"freelist none\n")
-    } else {
-        Piece::Figure(b"freelist", id)
+    if id == NO_FREELIST { None } else { Some(id) }
+}
+
+/// The line of the freelist.
+fn freelist_line(id: Option<u64>) -> Piece<'static>
+    ensures { piece_text result ≡ named_line (codes "freelist") id }
+{
+    match id {
+        Some(id) => Piece::Figure(b"freelist", id),
+        None => Piece::Bytes(b"freelist none\n"),
     }
 }
 
-/// The number of the freelist's page, or that there is none, as JSON.
-fn freelist_value(id: u64) -> Piece<'static>
-    ensures { piece_text result ≡ number_text (freelist_of id) }
+/// The freelist as JSON.
+fn freelist_value(id: Option<u64>) -> Piece<'static>
+    ensures { piece_text result ≡ number_text id }
 {
-    if id == NO_FREELIST {
-        Piece::Bytes(b"null")
-    } else {
-        Piece::Number(id)
+    match id {
+        Some(id) => Piece::Number(id),
+        None => Piece::Bytes(b"null"),
     }
 }

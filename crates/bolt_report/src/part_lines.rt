@@ -24,12 +24,13 @@ use std::alloc::Global;
 /// `from` (docs/LISTING.md, "The part below a path"): of every path if both are empty. The member
 /// at `below` comes first. If no path begins with `below`, the text is empty. It opens the pages on
 /// the way to the first line and reads on to the first path that doesn't begin with `below`. Only
-/// JSON lines need memory.
+/// lines in the form `Json` need memory.
 ///
 /// # Errors
 ///
-/// `Sink` if the sink failed; `NoMemory` if memory ran out for the walk or for a JSON line, and the
-/// sink had not failed. The sink has then accepted a prefix of the text. There is no other error.
+/// `Sink` if the sink failed; `NoMemory` if memory ran out for the walk or for a line in the form
+/// `Json`, and the sink had not failed. The sink has then accepted a prefix of the text. There is no
+/// other error.
 pub fn list_part<S: Sink>(
     alloc: Global,
     checked: Checked<'_>,

@@ -14,9 +14,9 @@ use std::alloc::Global;
 ///
 /// # Errors
 ///
-/// `Sink` if the sink failed; `NoMemory` if memory ran out for a JSON text, and the sink had not
-/// failed. The sink has then accepted a prefix of the text. There is no other error, and no other
-/// form needs memory.
+/// `Sink` if the sink failed; `NoMemory` if memory ran out for a text in the form `Json`, and the sink
+/// had not failed. The sink has then accepted a prefix of the text. There is no other error, and no
+/// other form needs memory.
 pub fn value<S: Sink>(
     alloc: Global,
     bytes: &[u8],

@@ -5,7 +5,7 @@ use Rattle.bolt_tree.specs.ShownEntries.{item_view}
 use Rattle.bolt_report.specs.Forms.{digits_json}
 use Rattle.bolt_report.specs.JsonLines.{json_line}
 use Rattle.bolt_report.proofs.HexStrings.{bucket_line, value_line}
-use Rattle.bolt_report.proofs.list_lines.put_hex_json.Goals as goal
+use Rattle.bolt_report.proofs.json_hex_lines.put_hex_json.Goals as goal
 
 pub returns-in-Value : goal.returns-in-Value
 returns-in-Value g c =

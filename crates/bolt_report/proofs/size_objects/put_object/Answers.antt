@@ -2,7 +2,7 @@ use Rattle.std.proofs.Common.{codes}
 use Rattle.bolt_format.proofs.WroteLemmas.{Wrote-same, Wrote-then}
 use Rattle.bolt_report.proofs.FigureTexts.{sized_item}
 use Rattle.bolt_report.proofs.ReportLemmas.{Wrote-fault, Wrote-passed, Wrote-sink}
-use Rattle.bolt_report.proofs.size_lines.put_object.Goals as goal
+use Rattle.bolt_report.proofs.size_objects.put_object.Goals as goal
 
 pub returns-in_err-put_members-clause-written : goal.returns-in_err-put_members-clause-written
 returns-in_err-put_members-clause-written g c =
