@@ -68,6 +68,9 @@ for_bbolt_option = lone_option (codes "for-bbolt")
 abbrev pub snapshot_option : Choice
 snapshot_option = lone_option (codes "etcd-snapshot")
 
+abbrev pub sequence_option : Choice
+sequence_option = valued_option (codes "sequence")
+
 abbrev pub sizes_option : Choice
 sizes_option = lone_option (codes "sizes")
 
@@ -121,6 +124,9 @@ list_line = record { name = codes "list"; operands = file_operand ∷ part_opera
 abbrev pub compact_line : Syntax
 compact_line = record { name = codes "compact"; operands = file_operand ∷ []; options = output_option ∷ page_size_option ∷ for_bbolt_option ∷ snapshot_option ∷ recover_option ∷ meta_option ∷ assumed_option ∷ [] }
 
+abbrev pub load_line : Syntax
+load_line = record { name = codes "load"; operands = file_operand ∷ []; options = output_option ∷ page_size_option ∷ for_bbolt_option ∷ snapshot_option ∷ sequence_option ∷ [] }
+
 -- ---- what a line asks for
 
 -- the active meta, that of a slot, or an assumed one by its page size and root page
@@ -141,6 +147,7 @@ pub data Asked : Type 0 where
   stats : Text → AskedMeta → Path → Asked
   list : Text → AskedMeta → ListForm → (path from : Path) → (recover : Bool) → Asked
   compact : (file : Text) → AskedMeta → (target : Text) → (page_size : Option ℕ) → CopyKind → (recover : Bool) → Asked
+  load : (file target : Text) → (sequence page_size : ℕ) → CopyKind → Asked
 
 -- the path that the code owns
 abbrev pub path_in : {Z : Type 0} → List (Vec ℕ Z) → Path
@@ -167,6 +174,7 @@ asked_of (job.Get j) = get (string_bytes j.file) (meta_in j.meta) (path_in j.pat
 asked_of (job.Stats j) = stats (string_bytes j.file) (meta_in j.meta) (path_in j.path.items)
 asked_of (job.List j) = list (string_bytes j.file) (meta_in j.meta) j.form (path_in j.path.items) (path_in j.from.items) j.recover
 asked_of (job.Compact j) = compact (string_bytes j.file) (meta_in j.meta) (string_bytes j.target) (size_in j.page_size) j.kind j.recover
+asked_of (job.Load j) = load (string_bytes j.file) (string_bytes j.target) j.sequence j.page_size.bytes j.kind
 
 -- the words that a line gives by each name
 abbrev pub Values : Type 0
@@ -209,6 +217,18 @@ page_size_of word = if is_page_size word then Ok (Some (decimal_value word)) els
 abbrev pub page_size_by : Option Text → Result (Option ℕ) Text
 page_size_by (Some word) = page_size_of word
 page_size_by None = Ok None
+
+-- the page size of a database that is made of a listing, and the sequence of its root bucket
+abbrev pub load_size_of : Text → Result ℕ Text
+load_size_of word = if is_page_size word then Ok (decimal_value word) else Err (codes "bad page size")
+
+abbrev pub load_size_by : Option Text → Result ℕ Text
+load_size_by (Some word) = load_size_of word
+load_size_by None = Ok 4096
+
+abbrev pub sequence_by : Option Text → Result ℕ Text
+sequence_by (Some word) = if is_number word then Ok (decimal_value word) else Err (codes "bad sequence")
+sequence_by None = Ok 0
 
 -- the kind of a copy, by the words of `--for-bbolt` and `--etcd-snapshot` if they are given; a snapshot is for bbolt too
 abbrev pub copy_kind_by : (for_bbolt snapshot : Option Text) → CopyKind
@@ -334,6 +354,11 @@ asks_compact values = result_and_then (λ file. result_and_then (λ meta. result
     Ok (compact file meta target size (copy_kind_by (first_of (values (codes "for-bbolt"))) (first_of (values (codes "etcd-snapshot")))) (is_given (first_of (values (codes "recover"))))))
     (page_size_by (first_of (values (codes "page-size"))))) (text_by (codes "output") values)) (meta_by values)) (text_by (codes "FILE") values)
 
+abbrev pub asks_load : Values → Result Asked Text
+asks_load values = result_and_then (λ file. result_and_then (λ target. result_and_then (λ sequence. result_and_then (λ size.
+    Ok (load file target sequence size (copy_kind_by (first_of (values (codes "for-bbolt"))) (first_of (values (codes "etcd-snapshot"))))))
+    (load_size_by (first_of (values (codes "page-size"))))) (sequence_by (first_of (values (codes "sequence"))))) (text_by (codes "output") values)) (text_by (codes "FILE") values)
+
 -- a command by its line, and what the words of that line ask for, or which of them can't be read and why
 pub record Command : Type 0 where
   pub syntax : Syntax
@@ -345,7 +370,7 @@ command syntax asks = record { syntax = syntax; asks = asks }
 abbrev pub commands : List Command
 commands =
     command info_line asks_info ∷ command page_line asks_page ∷ command pages_line asks_pages ∷ command check_line asks_check ∷ command buckets_line asks_buckets ∷ command keys_line asks_keys
-    ∷ command get_line asks_get ∷ command stats_line asks_stats ∷ command list_line asks_list ∷ command compact_line asks_compact ∷ []
+    ∷ command get_line asks_get ∷ command stats_line asks_stats ∷ command list_line asks_list ∷ command compact_line asks_compact ∷ command load_line asks_load ∷ []
 
 abbrev pub syntaxes : List Syntax
 syntaxes = map (λ (c : Command). c.syntax) commands
@@ -372,8 +397,10 @@ file_name (job.Get j) = string_bytes j.file
 file_name (job.Stats j) = string_bytes j.file
 file_name (job.List j) = string_bytes j.file
 file_name (job.Compact j) = string_bytes j.file
+file_name (job.Load j) = string_bytes j.file
 
 -- the OUT, if one is asked for
 abbrev pub target_name : Job → Option Text
 target_name (job.Compact j) = Some (string_bytes j.target)
+target_name (job.Load j) = Some (string_bytes j.target)
 target_name _ = None

@@ -54,6 +54,14 @@ const FILE: Operand = Operand {
     help: "The database file, which is never written to",
 };
 
+const LISTING: Operand = Operand {
+    name: "FILE",
+    shown: "FILE",
+    several: false,
+    required: true,
+    help: "The lines of a listing, as list prints them",
+};
+
 const ID: Operand = Operand {
     name: "ID",
     shown: "ID",
@@ -170,7 +178,7 @@ const OUTPUT: Choice = Choice {
     name: "output",
     flag: Flag::Short('o'),
     value: Some("OUT"),
-    help: "The file to write the copy to; it must not exist",
+    help: "The database file to write; it must not exist",
     required: true,
 };
 
@@ -182,11 +190,27 @@ const PAGE_SIZE: Choice = Choice {
     required: false,
 };
 
+const LOAD_PAGE_SIZE: Choice = Choice {
+    name: "page-size",
+    flag: Flag::Long("page-size"),
+    value: Some("N"),
+    help: "The database's page size in bytes, a power of two from 1024 to 33554432 [default: 4096]",
+    required: false,
+};
+
+const SEQUENCE: Choice = Choice {
+    name: "sequence",
+    flag: Flag::Long("sequence"),
+    value: Some("S"),
+    help: "The sequence of the root bucket, in decimal [default: 0]",
+    required: false,
+};
+
 const FOR_BBOLT: Choice = Choice {
     name: "for-bbolt",
     flag: Flag::Long("for-bbolt"),
     value: None,
-    help: "Give each branch page at least two children, so that bbolt can write to the copy",
+    help: "Give each branch page at least two children, so that bbolt can write to OUT",
     required: false,
 };
 
@@ -194,7 +218,7 @@ const COPY_SNAPSHOT: Choice = Choice {
     name: "etcd-snapshot",
     flag: Flag::Long("etcd-snapshot"),
     value: None,
-    help: "Write a snapshot that etcd restores: as with --for-bbolt, and then the SHA-256 of the copy",
+    help: "Write a snapshot that etcd restores: as with --for-bbolt, and then the SHA-256 of that",
     required: false,
 };
 
@@ -238,15 +262,15 @@ const RECOVER: Choice = Choice {
     required: false,
 };
 
-const COPY_NOTE: &str = "Use --for-bbolt if bbolt or etcd will write to the copy. bbolt assumes \
-    that each branch page has at least two children, and can panic when it deletes below one that \
-    has a single child. A plain copy may have such pages.";
+const COPY_NOTE: &str = "Use --for-bbolt if bbolt or etcd will write to OUT. bbolt assumes that \
+    each branch page has at least two children, and can panic when it deletes below one that has a \
+    single child. Without the option OUT may have such pages.";
 
 /// The version that `--version` prints.
 pub(crate) const VERSION: &str = "0.1.0";
 
 /// All commands, in the order of help.
-pub(crate) static SYNTAXES: [Syntax; 10] = [
+pub(crate) static SYNTAXES: [Syntax; 11] = [
     Syntax {
         name: "info",
         about: "Print the active meta: page size, transaction id, root, freelist, high-water mark",
@@ -323,6 +347,13 @@ pub(crate) static SYNTAXES: [Syntax; 10] = [
             META,
             ASSUME_META,
         ],
+        note: Some(COPY_NOTE),
+    },
+    Syntax {
+        name: "load",
+        about: "Write a database of a listing: what list printed, or lines that were edited",
+        operands: &[LISTING],
+        options: &[OUTPUT, LOAD_PAGE_SIZE, FOR_BBOLT, COPY_SNAPSHOT, SEQUENCE],
         note: Some(COPY_NOTE),
     },
 ];

@@ -113,7 +113,7 @@ fn hash_differs(job: &CompactJob, file: &[u8]) -> bool
 
 /// Writes that the hash differs, if it does, the line of each loss, and then the lengths of the file
 /// and of the copy. Returns the status.
-fn put_report<O: Sink>(
+pub(crate) fn put_report<O: Sink>(
     differs: bool,
     losses: &[Loss<'_>],
     source: u64,

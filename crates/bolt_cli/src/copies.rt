@@ -6,12 +6,13 @@ ghost use Rattle.bolt_cli.specs.CopyEnds.{EndsChecked, EndsCopy, EndsRecovered, 
 ghost use Rattle.bolt_cli.specs.Hashes.{HashesSince};
 
 use crate::hashing::{Hashing, Origin};
-use bolt_bulk::{BulkFault, Done, compact_as, compact_recovered};
+use bolt_bulk::{BulkFault, Done, Shape, compact_as, compact_members, compact_recovered};
 use bolt_check::Checked;
 use bolt_format::Sink;
 use bolt_layout::Layout;
 use bolt_recover::Recovery;
 use bolt_snapshot::HASH_LEN;
+use bolt_tree::Members;
 use sha2::{Digest, Sha256};
 use std::alloc::Global;
 use std::marker::{Brand, PhantomData};
@@ -159,4 +160,23 @@ fn put_hash<T: Sink>(
     let done = copied?;
     target.put(&hash.finalize())?;
     Ok(done.bytes.saturating_add(HASH_LEN))
+}
+
+/// Writes the copy of all members, and returns its length.
+pub(crate) fn copy_members<'m, M: Members<'m>, T: Sink>(
+    alloc: Global,
+    members: &mut M,
+    shape: &CopyShape,
+    sequence: u64,
+    target: &mut T,
+) -> Result<u64, BulkFault> {
+    let shape2 = Shape { layout: shape.layout, page_size: shape.page_size, sequence };
+    if !shape.snapshot {
+        let done = compact_members(alloc, members, &shape2, target)?;
+        return Ok(done.bytes);
+    }
+    let mut hashing: Hashing<'_, T, Brand> = Hashing { target, hash: Sha256::new(), of: PhantomData };
+    let result = compact_members(alloc, members, &shape2, &mut hashing);
+    let Hashing { target, hash, of: _ } = hashing;
+    put_hash(result, hash, target)
 }

@@ -8,8 +8,8 @@ use crate::command_line;
 use crate::copy_kind::CopyKind;
 use crate::extent::Extent;
 use crate::job::{
-    BucketsJob, CheckJob, CompactJob, GetJob, InfoJob, Job, KeysJob, ListJob, PageJob, PagesJob,
-    StatsJob,
+    BucketsJob, CheckJob, CompactJob, GetJob, InfoJob, Job, KeysJob, ListJob, LoadJob, PageJob,
+    PagesJob, StatsJob,
 };
 use crate::meta_choice::{AssumedMeta, MetaChoice};
 use crate::page_size::PageSize;
@@ -32,8 +32,8 @@ const BAD_ASSUMED: &str = "bad meta: use PAGE_SIZE:ROOT, and no --meta";
 /// - `Version` if `--version` or `-V` is in the place of a command.
 /// - `Usage` if the words are no line of a command for another reason.
 /// - `Word` if the words are a line of a command, but one of them can't be read: `bad form`,
-///   `bad parts` or `bad meta` with the words that are known, `bad page id`, `bad hex` or
-///   `bad page size`.
+///   `bad parts` or `bad meta` with the words that are known, `bad page id`, `bad hex`,
+///   `bad page size` or `bad sequence`.
 /// - `Memory` if memory runs out.
 pub fn read_words(alloc: Global, words: Vec<String>) -> Result<Job, Refusal>
     ensures job { IfOk result (Asks (map string_bytes words.items)) }
@@ -81,6 +81,7 @@ fn read_command(alloc: Global, name: &str, matches: &ArgMatches<'_>) -> Result<J
         "stats" => read_stats(alloc, matches),
         "list" => read_list(alloc, matches),
         "compact" => read_compact(alloc, matches),
+        "load" => read_load(alloc, matches),
         _ => Err(Refusal::Word("command missing")),
     }
 }
@@ -199,6 +200,21 @@ fn read_compact(alloc: Global, matches: &ArgMatches<'_>) -> Result<Job, Refusal>
     }))
 }
 
+fn read_load(alloc: Global, matches: &ArgMatches<'_>) -> Result<Job, Refusal>
+    ensures { Gives asked_of (asks_load (values_in (rows_of (found_of matches.now)))) result }
+{
+    Ok(Job::Load(LoadJob {
+        file: read_text(alloc, matches, "FILE")?,
+        target: read_text(alloc, matches, "output")?,
+        sequence: read_sequence(choice(matches, "sequence"))?,
+        page_size: read_load_size(choice(matches, "page-size"))?,
+        kind: read_copy_kind(
+            choice(matches, "for-bbolt"),
+            choice(matches, "etcd-snapshot"),
+        ),
+    }))
+}
+
 /// The path that the words of PART stand for.
 fn read_parts_of(alloc: Global, matches: &ArgMatches<'_>) -> Result<Vec<Vec<u8>>, Refusal>
     ensures { Gives (λ path. path_in path.items) (path_by (values_in (rows_of (found_of matches.now)))) result }
@@ -252,6 +268,26 @@ fn read_page_size(word: Option<&str>) -> Result<Option<PageSize>, Refusal>
     };
     let size = read_size(word).ok_or(Refusal::Word("bad page size"))?;
     Ok(Some(size))
+}
+
+/// The page size of a database that is made of a listing.
+fn read_load_size(word: Option<&str>) -> Result<PageSize, Refusal>
+    ensures { Gives (λ size. size.bytes) (load_size_by (option_map (λ text. text.now) word.entry)) result }
+{
+    match word {
+        Some(word) => read_size(word).ok_or(Refusal::Word("bad page size")),
+        None => Ok(PageSize::USUAL),
+    }
+}
+
+/// The sequence of the root bucket of such a database.
+fn read_sequence(word: Option<&str>) -> Result<u64, Refusal>
+    ensures { Gives (λ sequence. sequence) (sequence_by (option_map (λ text. text.now) word.entry)) result }
+{
+    match word {
+        Some(word) => read_number(word).ok_or(Refusal::Word("bad sequence")),
+        None => Ok(0),
+    }
 }
 
 /// The kind of a copy, by the words of `--for-bbolt` and `--etcd-snapshot` if they are given. A

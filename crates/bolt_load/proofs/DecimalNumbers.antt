@@ -13,7 +13,7 @@ use Rattle.std.proofs.lemmas.Bool.{and_left, and_parts, and_right, false_from_ne
 use Rattle.std.proofs.lemmas.Bool.Decides.{nat_tests}
 use Rattle.std.proofs.lemmas.Str.Parse.{IsNumeralModel, numerals_by_weight, parse_plain}
 use Rattle.bolt_load.specs.Lines.{Text}
-use Rattle.bolt_load.specs.LineMembers.{decimal_value, is_number, number_in}
+use Rattle.bolt_load.specs.Numbers.{decimal_value, is_number, number_in}
 
 pub decimal_numerals : IsNumeralModel (λ digits. all_ascii_digits digits ≡ true) decimal_value
 decimal_numerals = numerals_by_weight _ (search rules) decimal_value (search rules)
