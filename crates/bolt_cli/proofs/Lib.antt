@@ -14,9 +14,9 @@ pub mod ListAnswers
 pub mod ListedBuckets
 pub mod LossAnswers
 pub mod NeededBytes
-pub mod Numbers
 pub mod Ordering
 pub mod PageAnswers
+pub mod PageSizes
 pub mod PagesAnswers
 pub mod PathReading
 pub mod ReadFiles

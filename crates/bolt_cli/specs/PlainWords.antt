@@ -1,12 +1,13 @@
 -- What the words of a command line ask for: docs/COMMANDS.md, "Words".
-use Rattle.std.specs.Prelude.{◌==◌, ◌&&◌, ◌+◌, ◌-◌, ◌*◌, ◌^◌, ℕ, Bool, true, false, List, [], ◌∷◌, Option, Some, None, Result, Ok, Err, Vec, codes, length, map, nat_lt, option_map, string_bytes, if◌then◌else◌}
+use Rattle.std.specs.Prelude.{◌==◌, ◌&&◌, ℕ, Bool, true, false, List, [], ◌∷◌, Option, Some, None, Result, Ok, Err, Vec, codes, map, option_map, string_bytes, if◌then◌else◌}
 use Rattle.std.specs.List.{after_first, before_first, list_any}
-use Rattle.std.specs.Str.{all_ascii_digits, bytes_eq}
+use Rattle.std.specs.Str.{bytes_eq}
 use Rattle.bolt_check.specs.Keys.{Key}
 use Rattle.bolt_tree.specs.Paths.{Path}
 use Rattle.bolt_format.specs.Metas.{page_sizes}
 use Rattle.bolt_format.specs.declared.meta.Slot.{Slot}
 use Rattle.bolt_format.specs.declared.meta.Slot.TheVariants.{One, Zero}
+use Rattle.bolt_load.specs.Numbers.{decimal_value, is_number, number_in}
 use Rattle.bolt_report.specs.declared.form.Form.{Form}
 use Rattle.bolt_report.specs.declared.form.Form.TheVariants as form
 use Rattle.bolt_report.specs.declared.form.ListForm.{ListForm}
@@ -191,43 +192,32 @@ or_missing None = Err (codes "value missing")
 abbrev pub text_by : Text → Values → Result Text Text
 text_by name values = or_missing (first_of (values name))
 
--- the number that decimal digits stand for, of which '0' is 48: each has the weight of its place
-abbrev pub decimal_value : Text → ℕ
-decimal_value [] = 0
-decimal_value (digit ∷ rest) = (digit - 48) * 10 ^ length rest + decimal_value rest
-
--- digits alone, one or more, of a number below 2 ^ 64
-abbrev pub is_number : Text → Bool
-is_number word = nat_lt 0 (length word) && all_ascii_digits word && nat_lt (decimal_value word) (2 ^ 64)
-
-abbrev pub number_of : Text → Option ℕ
-number_of word = if is_number word then Some (decimal_value word) else None
+-- a number by its word, or what is wrong with it
+abbrev pub number_or : (why word : Text) → Result ℕ Text
+number_or why word = if is_number word then Ok (decimal_value word) else Err why
 
 abbrev pub page_id : Text → Result ℕ Text
-page_id word = if is_number word then Ok (decimal_value word) else Err (codes "bad page id")
+page_id word = number_or (codes "bad page id") word
 
 -- of these numbers some are page sizes
 abbrev pub is_page_size : Text → Bool
 is_page_size word = is_number word && list_any (λ size. size == decimal_value word) page_sizes
 
--- the page size of a copy by its word; without one it is that of the file
-abbrev pub page_size_of : Text → Result (Option ℕ) Text
-page_size_of word = if is_page_size word then Ok (Some (decimal_value word)) else Err (codes "bad page size")
+abbrev pub page_size_of : Text → Result ℕ Text
+page_size_of word = if is_page_size word then Ok (decimal_value word) else Err (codes "bad page size")
 
+-- the page size of a copy by its word; without one it is that of the file
 abbrev pub page_size_by : Option Text → Result (Option ℕ) Text
-page_size_by (Some word) = page_size_of word
+page_size_by (Some word) = result_and_then (λ size. Ok (Some size)) (page_size_of word)
 page_size_by None = Ok None
 
 -- the page size of a database that is made of a listing, and the sequence of its root bucket
-abbrev pub load_size_of : Text → Result ℕ Text
-load_size_of word = if is_page_size word then Ok (decimal_value word) else Err (codes "bad page size")
-
 abbrev pub load_size_by : Option Text → Result ℕ Text
-load_size_by (Some word) = load_size_of word
+load_size_by (Some word) = page_size_of word
 load_size_by None = Ok 4096
 
 abbrev pub sequence_by : Option Text → Result ℕ Text
-sequence_by (Some word) = if is_number word then Ok (decimal_value word) else Err (codes "bad sequence")
+sequence_by (Some word) = number_or (codes "bad sequence") word
 sequence_by None = Ok 0
 
 -- the kind of a copy, by the words of `--for-bbolt` and `--etcd-snapshot` if they are given; a snapshot is for bbolt too
@@ -287,12 +277,12 @@ slot_by None = Ok None
 abbrev bad_assumed : Text
 bad_assumed = codes "bad meta: use PAGE_SIZE:ROOT, and no --meta"
 
-abbrev pub assumed_when : Result (Option ℕ) Text → Option ℕ → Result AskedMeta Text
-assumed_when (Ok (Some page_size)) (Some root) = Ok (assumed page_size root)
+abbrev pub assumed_when : Result ℕ Text → Option ℕ → Result AskedMeta Text
+assumed_when (Ok page_size) (Some root) = Ok (assumed page_size root)
 assumed_when _ _ = Err bad_assumed
 
 abbrev pub assumed_of : Text → Result AskedMeta Text
-assumed_of word = assumed_when (page_size_of (before_first (λ byte. byte == 58) word)) (number_of (after_first (λ byte. byte == 58) word))
+assumed_of word = assumed_when (page_size_of (before_first (λ byte. byte == 58) word)) (number_in (after_first (λ byte. byte == 58) word))
 
 -- the meta by the words of `--meta` and `--assume-meta`, of which only one may be given
 abbrev pub meta_asked : (named assumed : Option Text) → Result AskedMeta Text

@@ -2,7 +2,7 @@
 ghost use Rattle.std.specs.Prelude.{◌≡◌, Err, IfErr, IfOk, MatchOption, MatchResult, None, Ok, Some, codes, map, option_map, string_bytes};
 ghost use Rattle.clap.specs.Words.{fault_of, found_of, kind_of, rows_of, subcommand_rows_of};
 ghost use Rattle.bolt_cli.specs.CommandLine.{Asks, Gives, HasKindOf, IsRefusedBy, asked_by, asked_by_subcommand, program, values_in};
-ghost use Rattle.bolt_cli.specs.PlainWords.{asked, asked_of, asks_buckets, asks_check, asks_compact, asks_get, asks_info, asks_keys, asks_list, asks_page, asks_pages, asks_stats, assumed_of, extent_by, first_of, form_by, form_of, copy_kind_by, list_form_by, meta_by, meta_in, number_of, page_id, page_size_by, page_size_of, path_by, path_in, prefix_by, size_in, slot_by, slot_of, text_by};
+ghost use Rattle.bolt_cli.specs.PlainWords.{asked, asked_of, asks_buckets, asks_check, asks_compact, asks_get, asks_info, asks_keys, asks_list, asks_load, asks_page, asks_pages, asks_stats, assumed_of, extent_by, first_of, form_by, form_of, copy_kind_by, list_form_by, load_size_by, meta_by, meta_in, number_or, page_id, page_size_by, page_size_of, path_by, path_in, prefix_by, sequence_by, size_in, slot_by, slot_of, text_by};
 
 use crate::command_line;
 use crate::copy_kind::CopyKind;
@@ -16,6 +16,7 @@ use crate::page_size::PageSize;
 use crate::path_words::{read_from, read_parts, read_path, read_prefix};
 use crate::refusal::Refusal;
 use bolt_format::Slot;
+use bolt_load::read_number;
 use bolt_report::{Form, ListForm};
 use clap::error::ErrorKind;
 use clap::{ArgMatches, Error};
@@ -257,7 +258,7 @@ fn choice<'a>(matches: &ArgMatches<'a>, id: &str) -> Option<&'a str>
 fn read_page_id(word: &str) -> Result<u64, Refusal>
     ensures { Gives (λ id. id) (page_id word.now) result }
 {
-    read_number(word).ok_or(Refusal::Word("bad page id"))
+    number_or("bad page id", word)
 }
 
 fn read_page_size(word: Option<&str>) -> Result<Option<PageSize>, Refusal>
@@ -285,7 +286,7 @@ fn read_sequence(word: Option<&str>) -> Result<u64, Refusal>
     ensures { Gives (λ sequence. sequence) (sequence_by (option_map (λ text. text.now) word.entry)) result }
 {
     match word {
-        Some(word) => read_number(word).ok_or(Refusal::Word("bad sequence")),
+        Some(word) => number_or("bad sequence", word),
         None => Ok(0),
     }
 }
@@ -315,20 +316,16 @@ fn read_extent(all: Option<&str>, lost_and_found: Option<&str>) -> Extent
 }
 
 fn read_size(word: &str) -> Option<PageSize>
-    ensures { MatchOption result (page_size_of word.now ≡ Err (codes "bad page size")) (λ size. page_size_of word.now ≡ Ok (Some size.bytes)) }
+    ensures { MatchOption result (page_size_of word.now ≡ Err (codes "bad page size")) (λ size. page_size_of word.now ≡ Ok size.bytes) }
 {
-    PageSize::new(read_number(word)?)
+    PageSize::new(read_number(word.as_bytes())?)
 }
 
-/// The number that these digits stand for.
-fn read_number(word: &str) -> Option<u64>
-    ensures { result ≡ number_of word.now }
+/// The number that these digits stand for, or a refusal with these words.
+fn number_or(why: &'static str, word: &str) -> Result<u64, Refusal>
+    ensures { Gives (λ number. number) (number_or why.now word.now) result }
 {
-    // `parse` would accept a plus before the digits.
-    if word.starts_with('+') {
-        return None;
-    }
-    word.parse().ok()
+    read_number(word.as_bytes()).ok_or(Refusal::Word(why))
 }
 
 /// The meta that is read under, by the words of `--meta` and `--assume-meta`. Only one of them may
@@ -379,7 +376,7 @@ fn find_assumed(word: &str) -> Option<AssumedMeta>
     let (page_size, root) = word.split_once(':')?;
     Some(AssumedMeta {
         page_size: read_size(page_size)?,
-        root: read_number(root)?,
+        root: read_number(root.as_bytes())?,
     })
 }
 

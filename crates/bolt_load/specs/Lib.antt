@@ -1,3 +1,4 @@
+pub mod ByteMembers
 pub mod FaultWords
 pub mod HexPaths
 pub mod LineFaults

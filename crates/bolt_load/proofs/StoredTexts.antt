@@ -1,0 +1,168 @@
+-- What a right text tells can be stored: its keys and its values have lengths that the format allows, and its sequences have 64 bits.
+use Rattle.std.proofs.Common.{◌≡◌, ◌∙◌, ◌==◌, ◌<◌, ◌≤◌, ◌^◌, ℕ, Bool, true, false, List, [], ◌∷◌, ◌++◌, Option, Some, None, length, inl, inr, refl, sym, ap, subst, arith}
+use Rattle.std.specs.List.{Contains, list_any, slice_split}
+use Rattle.std.specs.Option.{option_map_or, option_or}
+use Rattle.std.specs.Prelude.{if◌then◌else◌, nat_lt, option_and_then, option_map}
+use Rattle.std.specs.Str.{bytes_eq}
+use Rattle.std.specs.Prelude.{codes}
+use Rattle.std.proofs.lemmas.Bool.{and_parts, cases_Bool, eqb-false, ltb-false, ltb-true, or_parts}
+use Rattle.bolt_format.specs.ElementLengths.{IsKeyLength, IsValueLength}
+use Rattle.bolt_check.specs.Keys.{Key}
+use Rattle.bolt_tree.specs.Entries.{Bucket, Item, Value}
+use Rattle.bolt_tree.specs.Listing.{Member, member_cmp}
+use Rattle.bolt_tree.specs.Order.{Rises}
+use Rattle.bolt_tree.specs.Paths.{Path}
+use Rattle.bolt_tree.specs.Tree.{Tree, end, listing_below, listing_of, tree_of, with_bucket, with_value}
+use Rattle.bolt_tree.proofs.ListLemmas.{Has, has_left, has_right}
+use Rattle.bolt_layout.specs.Copies.{IsOfOneTree}
+use Rattle.bolt_layout.specs.Storable.{HasLengths, IsStorable}
+use Rattle.bolt_layout.proofs.FileTrees.{TreeIsOfItsListing, inside_rises, keys_rise}
+use Rattle.bolt_load.specs.HexPaths.{hex_bytes_in, hex_path_in, part_in, parts_in}
+use Rattle.bolt_load.specs.LineFaults.{IsListingText, RightAfter, is_long_item, is_long_key, length_fault, place_fault, shape_fault}
+use Rattle.bolt_load.specs.LineMembers.{item_in, line_member, member_in, members_in, text_members}
+use Rattle.bolt_load.specs.Lines.{Text, lines_of}
+use Rattle.bolt_load.specs.Numbers.{decimal_value, is_number, number_in}
+use Rattle.bolt_load.specs.declared.fault.LineFault.{LineFault}
+use Rattle.bolt_load.specs.declared.fault.LineFault.TheVariants.{KeyTooLong, ValueTooLong}
+use Rattle.bolt_load.proofs.DecimalNumbers.{number_is}
+use Rattle.bolt_load.proofs.DecodedLines.{shaped_member}
+use Rattle.bolt_load.proofs.NextLines.{members_first, parts_of}
+use Rattle.bolt_load.proofs.PathLemmas.{digits_are, part_is, with_some}
+use Rattle.bolt_load.proofs.TextTrees.{or_parts_none, text_tree}
+
+-- ---- a member that can be stored
+
+abbrev pub AreKeys : Path → Type 0
+AreKeys [] = Unit {0}
+AreKeys (key ∷ path) = IsKeyLength (length key) × AreKeys path
+
+abbrev pub FitsItem : Item → Type 0
+FitsItem (Value value) = IsValueLength (length value)
+FitsItem (Bucket sequence) = sequence < 2 ^ 64
+
+abbrev pub FitsMember : Member → Type 0
+FitsMember member = AreKeys member.0 × FitsItem member.1
+
+-- ---- the member of a line
+
+some_bytes : (word : Text) (key : Key) → part_in word ≡ Some key → 1 ≤ length key
+some_bytes word key is = elim (cases_Bool (length word == 0)) [
+  | inl none ↦ absurd (let f : None ≡ Some key = sym (ap (λ b. if b then None else hex_bytes_in word) none) ∙ is in cc)
+  | inr some ↦ let twice = digits_are word key (part_is word key is) in let more = eqb-false (length word) 0 some in omega (arith, twice, more)
+]
+
+not_long : (key : Key) → is_long_key key ≡ false → length key ≤ 0x40000000
+not_long key short = ltb-false 0x40000000 (length key) short
+
+parts_fit : (words : List Text) (path : Path) → parts_in words ≡ Some path → list_any is_long_key path ≡ false → AreKeys path
+parts_fit [] path is short = let none : [] ≡ path = (let f : Some [] ≡ Some path = is in cc) in subst AreKeys none tt
+parts_fit (word ∷ words) path is short =
+    let found = with_some (part_in word) (parts_in words) path is in
+    let both = or_parts (is_long_key found.0) (list_any is_long_key found.1) (sym (ap (list_any is_long_key) found.4) ∙ short) in
+    subst AreKeys (sym found.4) ((some_bytes word found.0 found.2, not_long found.0 both.0), parts_fit words found.1 found.3 both.1)
+
+path_fits : (word : Text) (path : Path) → hex_path_in word ≡ Some path → list_any is_long_key path ≡ false → AreKeys path
+unfolding hex_path_in
+path_fits word path is short = parts_fit (slice_split (λ byte. byte == 47) word) path is short
+
+value_fits : (found : Option (List ℕ)) (item : Item) → option_map Value found ≡ Some item → is_long_item item ≡ false → FitsItem item
+value_fits None item is short = absurd (let f : None ≡ Some item = is in cc)
+value_fits (Some value) item is short =
+    let same : Value value ≡ item = (let f : Some (Value value) ≡ Some item = is in cc) in
+    subst FitsItem same (ltb-false 0x7FFFFFFE (length value) (ap is_long_item same ∙ short))
+
+sequence_fits : (word : Text) (item : Item) → option_map Bucket (number_in word) ≡ Some item → FitsItem item
+sequence_fits word item is = at (number_in word) refl is
+  where
+    at : (found : Option ℕ) → number_in word ≡ found → option_map Bucket found ≡ Some item → FitsItem item
+    at None found is = absurd (let f : None ≡ Some item = is in cc)
+    at (Some n) found is = let same : Bucket n ≡ item = (let f : Some (Bucket n) ≡ Some item = is in cc) in subst FitsItem same (number_is word n found).2
+
+none_some : (item : Item) → None ≡ Some item → ⊥
+none_some item is = cc
+
+item_fits : (mark word : Text) (item : Item) → item_in mark word ≡ Some item → is_long_item item ≡ false → FitsItem item
+item_fits mark word item is short = elim (cases_Bool (bytes_eq mark (codes "="))) [
+  | inl yes ↦ value_fits (hex_bytes_in word) item (rw yes at is) short
+  | inr no ↦ elim (cases_Bool (bytes_eq mark (codes "bucket"))) [
+    | inl yes ↦ sequence_fits word item (rw (no, yes) at is)
+    | inr none ↦ absurd (none_some item (rw (no, none) at is))
+  ]
+]
+
+member_fits : (words : List Text) (member : Member) → member_in words ≡ Some member → list_any is_long_key member.0 ≡ false → is_long_item member.1 ≡ false → FitsMember member
+member_fits [] member is keys value = absurd (let f : None ≡ Some member = is in cc)
+member_fits (a ∷ []) member is keys value = absurd (let f : None ≡ Some member = is in cc)
+member_fits (a ∷ b ∷ []) member is keys value = absurd (let f : None ≡ Some member = is in cc)
+member_fits (a ∷ b ∷ c ∷ d ∷ more) member is keys value = absurd (let f : None ≡ Some member = is in cc)
+member_fits (word ∷ mark ∷ last ∷ []) member is keys value =
+    let both = parts_of (hex_path_in word) (item_in mark last) member is in (path_fits word member.0 both.0 keys, item_fits mark last member.1 both.1 value)
+
+no_long_part : (member : Member) → length_fault member ≡ None → (list_any is_long_key member.0 ≡ false) × (is_long_item member.1 ≡ false)
+no_long_part member none = elim (cases_Bool (list_any is_long_key member.0)) [
+  | inl long ↦ absurd (let f : Some KeyTooLong ≡ None = sym (ap (λ b. if b then Some KeyTooLong else if is_long_item member.1 then Some ValueTooLong else None) long) ∙ none in cc)
+  | inr keys ↦ elim (cases_Bool (is_long_item member.1)) [
+    | inl long ↦ absurd (let f : Some ValueTooLong ≡ None = sym (rw (keys, long) refl) ∙ none in cc)
+    | inr value ↦ (keys, value)
+  ]
+]
+
+line_fits : (line : Text) (member : Member) → shape_fault line ≡ None → line_member line ≡ Some member → FitsMember member
+unfolding line_member
+line_fits line member shaped is =
+    let short = no_long_part member (sym (ap (λ found. option_map_or length_fault found (Some LineFault.NotALine)) is) ∙ shaped) in
+    member_fits (slice_split (λ byte. byte == 32) line) member is short.0 short.1
+
+-- ---- the members of all lines
+
+lines_fit : (lines : List Text) (before : List Member) → RightAfter before lines → (member : Member) → Has (members_in lines) member → FitsMember member
+lines_fit [] before right member has = absurd has
+lines_fit (line ∷ lines) before right member has =
+    let shaped = (or_parts_none (shape_fault line) (option_and_then (place_fault before) (line_member line)) right.0).0 in
+    let told = shaped_member line shaped in
+    at told.0 (line_fits line told.0 shaped told.1) (subst (λ (ms : List Member). Has ms member) (members_first line lines told.0 told.1) has)
+  where
+    at : (first : Member) → FitsMember first → Has (first ∷ members_in lines) member → FitsMember member
+    at first fits (inl same) = subst FitsMember same fits
+    at first fits (inr later) = lines_fit lines (before ++ members_in (line ∷ [])) right.1 member later
+
+-- ---- the tree
+
+last_key : (front : Path) (key : Key) → AreKeys (front ++ key ∷ []) → IsKeyLength (length key)
+last_key [] key are = are.0
+last_key (part ∷ front) key are = last_key front key are.1
+
+abbrev Fit : List Member → Type 0
+Fit listing = (member : Member) → Has listing member → FitsMember member
+
+lengths_fit : (tree : Tree) (front : Path) → Fit (listing_below front tree) → HasLengths tree
+lengths_fit end front fit = tt
+lengths_fit (with_value key value after) front fit =
+    let first = fit (front ++ key ∷ [], Value value) (inl refl) in
+    ((last_key front key first.0), first.1, lengths_fit after front (λ member has. fit member (inr has)))
+lengths_fit (with_bucket key sequence inside after) front fit =
+    let first = fit (front ++ key ∷ [], Bucket sequence) (inl refl) in
+    let deep : List Member = listing_below (front ++ key ∷ []) inside in
+    let behind : List Member = listing_below front after in (
+      last_key front key first.0,
+      first.1,
+      lengths_fit inside (front ++ key ∷ []) (λ member has. fit member (inr (has_left deep behind member has))),
+      lengths_fit after front (λ member has. fit member (inr (has_right deep behind member has))),
+    )
+
+-- what the lines of a right text tell is of one tree
+pub text_of_one_tree : TreeIsOfItsListing → (text : Text) → IsListingText text → IsOfOneTree (text_members text)
+text_of_one_tree back text right =
+    let (tree, lists, rises) = text_tree text right in
+    let read : tree_of (text_members text) ≡ tree = ap tree_of (sym lists) ∙ back tree in
+    let risen = subst (Rises member_cmp) (sym lists) rises in
+    let storable : IsStorable tree = record {
+      lengths = lengths_fit tree [] (λ member has. lines_fit (lines_of text) [] right member (subst (λ (ms : List Member). Has ms member) lists has));
+      rising = keys_rise tree [] risen;
+      rising_inside = inside_rises tree [] risen;
+    } in
+    record {
+      storable = subst IsStorable (sym read) storable;
+      lists = ap listing_of read ∙ lists;
+      one = λ other e. sym (back other) ∙ ap tree_of e;
+    }
