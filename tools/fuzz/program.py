@@ -33,6 +33,7 @@ TEXTS = {
     "list": rb"(?:%b)*" % ENTRY,
     "list json": rb"(?:%b)*" % JSON_ENTRY,
     "compact": rb"\d+ -> \d+ bytes\n",
+    "load": rb"\d+ -> \d+ bytes\n",
 }
 LOSSES = rb"(?:%b)+" % LOSS
 FINDINGS = rb"(?:%b\n)+\d+ errors found\n" % FINDING
@@ -50,6 +51,7 @@ FAULTS = {
     "stats": REFUSED + rb"|bucket not found",
     "list": REFUSED + rb"|bucket not found",
     "compact": REFUSED,
+    "load": rb"line \d+: (?:not a line of a listing|path not rising|no bucket above)",
 }
 
 
