@@ -1,10 +1,11 @@
 -- What a file holds can be stored: the tree of a listing that rises, and whose members are held under their paths.
-use Rattle.std.proofs.Common.{◌≡◌, ◌∙◌, ℕ, ◌^◌, ◌<◌, ◌==◌, Bool, true, false, IsTrue, List, [], ◌∷◌, ◌++◌, length, drop, refl, sym, ap, subst, inl, inr, arith}
+use Rattle.std.proofs.Common.{◌≡◌, ◌∙◌, ℕ, ◌^◌, ◌<◌, ◌==◌, Bool, true, false, IsTrue, List, [], ◌∷◌, ◌++◌, length, drop, refl, sym, ap, subst, subst₂, inl, inr, arith}
 use Rattle.std.specs.List.{Contains}
 use Rattle.std.specs.Ordering.{ordering_then}
 use Rattle.std.specs.declared.cmp.Ordering.{Ordering}
 use Rattle.std.specs.declared.cmp.Ordering.TheVariants.{Less, Equal, Greater}
 use Rattle.std.proofs.lemmas.Bool.{cases_Bool, eqb-true}
+use Rattle.std.proofs.lemmas.List.{same_from_push}
 use Rattle.std.proofs.lemmas.List.Elements.{Contains-append_left, Contains-append_right}
 use Rattle.byteorder.specs.Numbers.{little_from-lt}
 use Rattle.bolt_format.specs.Bytes.{IsBytes, number_at}
@@ -15,7 +16,7 @@ use Rattle.bolt_format.proofs.ElementFacts.{drop_bytes, entry_fits, inline_fits,
 use Rattle.bolt_format.proofs.PageFacts.{bucket_value, flat_inline}
 use Rattle.bolt_check.specs.Keys.{Key, key_cmp}
 use Rattle.bolt_check.specs.Sound.{HasSoundTrees}
-use Rattle.bolt_tree.specs.Entries.{Bucket, Inline_page, IsEntry, Item, Root_page, Start, Value, item_of, start_of}
+use Rattle.bolt_tree.specs.Entries.{Bucket, Inline_page, IsEntry, Item, Root_page, ShowsEntry, Start, Value, item_of, start_of}
 use Rattle.bolt_tree.specs.Listing.{IsListing, Member, member_cmp}
 use Rattle.bolt_tree.specs.Order.{IsBelow, Rises}
 use Rattle.bolt_tree.specs.Paths.{Holds, Path, path_cmp}
@@ -23,7 +24,7 @@ use Rattle.bolt_tree.specs.Tree.{IsTreeOf, Tree, end, listing_below, listing_of,
 use Rattle.bolt_tree.proofs.Lists.{contains_cases, contains_head, contains_none, contains_tail}
 use Rattle.bolt_tree.proofs.PathOrder.{same_front}
 use Rattle.bolt_layout.specs.Copies.{IsOfOneTree}
-use Rattle.bolt_layout.specs.Storable.{HasLengths, IsHeldListing, IsStorable, RisesInside, keys_in}
+use Rattle.bolt_layout.specs.Storable.{HasLengths, IsFitItem, IsFitListing, IsFitMember, IsStorable, RisesInside, keys_in}
 use Rattle.bolt_layout.proofs.SoundCopies.{TreeLists}
 
 -- the sequence of a bucket's value has 64 bits
@@ -118,26 +119,39 @@ start_good value good = elim (cases_Bool (head_root value == 0)) [
   | inr f ↦ rw f tt
 ]
 
+-- what the format says of an entry
+pub record IsGoodEntry (e : LeafElement) : Type 0 where
+  lengths : HasFitLengths e
+  value : e.is_bucket ≡ true → IsBucketValue e.value
+  sequence : e.is_bucket ≡ true → IsBytes e.value
+
+not_both : (b : Bool) → b ≡ false → b ≡ true → ⊥
+not_both b e h = cc
+
+pub good_inner : (value : List ℕ) (e : LeafElement) → IsBucketValue value → head_root value ≡ 0 → Contains (inline_elements value) e → IsGoodEntry e
+good_inner value e good root within =
+    let flat = flat_inline value e good root within in
+    record { lengths = inline_fits value e good root within; value = λ b. absurd (not_both e.is_bucket flat b); sequence = λ b. absurd (not_both e.is_bucket flat b) }
+
+good_item : (e : LeafElement) (item : Item) → IsGoodEntry e → item_of e ≡ item → IsFitItem item
+good_item e (Value value) good is = subst (λ (j : List ℕ). IsValueLength (length j)) (value_is e value is) good.lengths.value
+good_item e (Bucket sequence) good is = let (b, q) = sequence_is e sequence is in subst (λ (s : ℕ). s < 2 ^ 64) q (sequence_fits e.value (good.sequence b))
+
+-- the format can hold its member
+pub good_fits : (path : Path) (e : LeafElement) → IsGoodEntry e → IsFitMember (path ++ e.key ∷ []) (item_of e)
+good_fits path e good = (λ own last same. subst (λ (j : Key). IsKeyLength (length j)) (same_from_push path own e.key last same).1 good.lengths.key, good_item e (item_of e) good refl)
+
 module _ (file : List ℕ) (meta : Meta) (bytes : IsBytes file) where
-  -- what the format says of an entry
-  record IsGoodEntry (e : LeafElement) : Type 0 where
-    lengths : HasFitLengths e
-    value : e.is_bucket ≡ true → IsBucketValue e.value
-    sequence : e.is_bucket ≡ true → IsBytes e.value
-
-  not_both : (b : Bool) → b ≡ false → b ≡ true → ⊥
-  not_both b e h = cc
-
-  good_entry : (bucket : Start) (e : LeafElement) → IsGoodStart bucket → IsEntry file meta bucket e → IsGoodEntry e
-  good_entry (Root_page root) e good (address, n, leading, (view, at, is, has)) = record {
+  pub good_shown : (n : ℕ) (e : LeafElement) → ShowsEntry file meta n e → IsGoodEntry e
+  good_shown n e (view, at, is, has) = record {
     lengths = entry_fits file meta n view e at is has;
     value = bucket_value file meta n view e at is has;
     sequence = λ b. value_bytes file meta n view e bytes at is has;
   }
-  good_entry (Inline_page elements) e (value, good, root, same) has =
-      let within = subst (λ (es : List LeafElement). Contains es e) (sym same) has in
-      let flat = flat_inline value e good root within in
-      record { lengths = inline_fits value e good root within; value = λ b. absurd (not_both e.is_bucket flat b); sequence = λ b. absurd (not_both e.is_bucket flat b) }
+
+  good_entry : (bucket : Start) (e : LeafElement) → IsGoodStart bucket → IsEntry file meta bucket e → IsGoodEntry e
+  good_entry (Root_page root) e good (address, n, leading, shows) = good_shown n e shows
+  good_entry (Inline_page elements) e (value, good, root, same) has = good_inner value e good root (subst (λ (es : List LeafElement). Contains es e) (sym same) has)
 
   -- what is held below a first key is held by the bucket of that key
   held_inside : (front : Path) (f key : Key) (item : Item) (from : Start) → Holds (IsEntry file meta) from (f ∷ (front ++ key ∷ [])) item
@@ -152,50 +166,55 @@ module _ (file : List ℕ) (meta : Meta) (bytes : IsBytes file) where
   last_good (f ∷ front) key item from good held =
       let (e, is, b, more) = held_inside front f key item from held in last_good front key item (start_of e.value) (start_good e.value ((good_entry from e good is).value b)) more
 
-  abbrev AreHeld : ℕ → List Member → Type 0
-  AreHeld root members = (path : Path) (item : Item) → Contains members (path, item) → Holds (IsEntry file meta) (Root_page root) path item
+  -- a path that holds something isn't empty
+  held_last : (path : Path) (item : Item) (from : Start) → Holds (IsEntry file meta) from path item → (front : Path) × (key : Key) × (path ≡ front ++ key ∷ [])
+  held_last [] item from held = absurd held
+  held_last (key ∷ []) item from held = ([], key, refl)
+  held_last (key ∷ next ∷ path) item from (e, is, k, b, more) = let (front, last, same) = held_last (next ∷ path) item (start_of e.value) more in (key ∷ front, last, ap (λ (p : Path). key ∷ p) same)
 
-  lengths_fit : (root : ℕ) (tree : Tree) (front : Path) → AreHeld root (listing_below front tree) → HasLengths tree
-  lengths_fit root end front held = tt
-  lengths_fit root (with_value key value after) front held =
-      let behind : List Member = listing_below front after in
-      let first : Member = (front ++ key ∷ [], Value value) in
-      let (e, good, k, item) = last_good front key (Value value) (Root_page root) tt (held (front ++ key ∷ []) (Value value) (contains_head first behind)) in (
-        subst (λ (j : Key). IsKeyLength (length j)) k good.lengths.key,
-        subst (λ (j : List ℕ). IsValueLength (length j)) (value_is e value item) good.lengths.value,
-        lengths_fit root after front (λ path i h. held path i (contains_tail first (path, i) behind h)),
-      )
-  lengths_fit root (with_bucket key sequence inside after) front held =
-      let deep : List Member = listing_below (front ++ key ∷ []) inside in
-      let behind : List Member = listing_below front after in
-      let first : Member = (front ++ key ∷ [], Bucket sequence) in
-      let (e, good, k, item) = last_good front key (Bucket sequence) (Root_page root) tt (held (front ++ key ∷ []) (Bucket sequence) (contains_head first (deep ++ behind))) in
-      let (b, q) = sequence_is e sequence item in (
-        subst (λ (j : Key). IsKeyLength (length j)) k good.lengths.key,
-        subst (λ (s : ℕ). s < 2 ^ 64) q (sequence_fits e.value (good.sequence b)),
-        lengths_fit root inside (front ++ key ∷ []) (λ path i h. held path i (contains_tail first (path, i) (deep ++ behind) (Contains-append_left deep behind (path, i) h))),
-        lengths_fit root after front (λ path i h. held path i (contains_tail first (path, i) (deep ++ behind) (Contains-append_right deep behind (path, i) h))),
-      )
+  pub held_fits : (root : ℕ) (path : Path) (item : Item) → Holds (IsEntry file meta) (Root_page root) path item → IsFitMember path item
+  held_fits root path item held =
+      let (front, key, same) = held_last path item (Root_page root) held in
+      let (e, good, k, of) = last_good front key item (Root_page root) tt (subst (λ (p : Path). Holds (IsEntry file meta) (Root_page root) p item) same held) in
+      subst₂ IsFitMember (ap (λ (j : Key). front ++ j ∷ []) k ∙ sym same) of (good_fits front e good)
 
-  held_storable : (root : ℕ) (tree : Tree) → Rises member_cmp (listing_of tree) → AreHeld root (listing_of tree) → IsStorable tree
-  held_storable root tree rises held = record {
-    lengths = lengths_fit root tree [] held;
-    rising = keys_rise tree [] rises;
-    rising_inside = inside_rises tree [] rises;
-  }
+abbrev AreFit : List Member → Type 0
+AreFit members = (path : Path) (item : Item) → Contains members (path, item) → IsFitMember path item
+
+lengths_fit : (tree : Tree) (front : Path) → AreFit (listing_below front tree) → HasLengths tree
+lengths_fit end front fit = tt
+lengths_fit (with_value key value after) front fit =
+    let behind : List Member = listing_below front after in
+    let first : Member = (front ++ key ∷ [], Value value) in
+    let (last, item) = fit (front ++ key ∷ []) (Value value) (contains_head first behind) in
+    (last front key refl, item, lengths_fit after front (λ path i h. fit path i (contains_tail first (path, i) behind h)))
+lengths_fit (with_bucket key sequence inside after) front fit =
+    let deep : List Member = listing_below (front ++ key ∷ []) inside in
+    let behind : List Member = listing_below front after in
+    let first : Member = (front ++ key ∷ [], Bucket sequence) in
+    let (last, item) = fit (front ++ key ∷ []) (Bucket sequence) (contains_head first (deep ++ behind)) in (
+      last front key refl,
+      item,
+      lengths_fit inside (front ++ key ∷ []) (λ path i h. fit path i (contains_tail first (path, i) (deep ++ behind) (Contains-append_left deep behind (path, i) h))),
+      lengths_fit after front (λ path i h. fit path i (contains_tail first (path, i) (deep ++ behind) (Contains-append_right deep behind (path, i) h))),
+    )
+
+fit_storable : (tree : Tree) → Rises member_cmp (listing_of tree) → AreFit (listing_of tree) → IsStorable tree
+fit_storable tree rises fit = record { lengths = lengths_fit tree [] fit; rising = keys_rise tree [] rises; rising_inside = inside_rises tree [] rises }
 
 pub tree_storable : TreeLists → (file : List ℕ) (meta : Meta) (tree : Tree) → IsBytes file → IsTreeOf (IsEntry file meta) (Root_page meta.root) tree → IsStorable tree
 tree_storable lists file meta tree bytes is =
-    let listed = lists file meta (Root_page meta.root) tree is in held_storable file meta bytes meta.root tree listed.rises (λ path item h. (listed.exact path item).0 h)
+    let listed = lists file meta (Root_page meta.root) tree is in
+    fit_storable tree listed.rises (λ path item h. held_fits file meta bytes meta.root path item ((listed.exact path item).0 h))
 
 -- that a tree is read off its listing, and what a listing is of
 abbrev pub TreeIsOfItsListing : Type 0
 TreeIsOfItsListing = (tree : Tree) → tree_of (listing_of tree) ≡ tree
 
-pub one_tree : TreeIsOfItsListing → (file : List ℕ) (meta : Meta) (listing : List Member) → IsBytes file → IsHeldListing file meta listing → IsOfOneTree listing
-one_tree back file meta listing bytes is =
+pub one_tree : TreeIsOfItsListing → (listing : List Member) → IsFitListing listing → IsOfOneTree listing
+one_tree back listing is =
     let read : tree_of listing ≡ is.tree = ap tree_of is.lists ∙ back is.tree in
-    let storable = held_storable file meta bytes meta.root is.tree (subst (Rises member_cmp) is.lists is.rises) (λ path item h. is.held path item (subst (λ (ms : List Member). Contains ms (path, item)) (sym is.lists) h)) in
+    let storable = fit_storable is.tree (subst (Rises member_cmp) is.lists is.rises) (λ path item h. is.fit path item (subst (λ (ms : List Member). Contains ms (path, item)) (sym is.lists) h)) in
     record {
       storable = subst IsStorable (sym read) storable;
       lists = ap listing_of read ∙ sym is.lists;
@@ -206,7 +225,8 @@ abbrev pub ListingIsOfATree : Type 0
 ListingIsOfATree = (file : List ℕ) (meta : Meta) (listing : List Member) → HasSoundTrees file meta → IsListing file meta listing
     → (tree : Tree) × IsTreeOf (IsEntry file meta) (Root_page meta.root) tree × (listing ≡ listing_of tree)
 
--- the listing of sound trees is held
-pub sound_held : ListingIsOfATree → (file : List ℕ) (meta : Meta) (listing : List Member) → HasSoundTrees file meta → IsListing file meta listing → IsHeldListing file meta listing
-sound_held of_a_tree file meta listing sound lists =
-    let (tree, is, same) = of_a_tree file meta listing sound lists in record { tree = tree; lists = same; rises = lists.rises; held = λ path item h. (lists.exact path item).0 h }
+-- the listing of sound trees fits
+pub sound_fits : ListingIsOfATree → (file : List ℕ) (meta : Meta) (listing : List Member) → IsBytes file → HasSoundTrees file meta → IsListing file meta listing → IsFitListing listing
+sound_fits of_a_tree file meta listing bytes sound lists =
+    let (tree, is, same) = of_a_tree file meta listing sound lists in
+    record { tree = tree; lists = same; rises = lists.rises; fit = λ path item h. held_fits file meta bytes meta.root path item ((lists.exact path item).0 h) }

@@ -1,12 +1,11 @@
 -- Trees that a file can hold: docs/LAYOUT.md, "Trees that can be stored".
-use Rattle.std.specs.Prelude.{◌≡◌, ◌<◌, ◌^◌, ℕ, List, [], ◌∷◌, Contains, length}
+use Rattle.std.specs.Prelude.{◌≡◌, ◌<◌, ◌^◌, List, [], ◌∷◌, ◌++◌, Contains, length}
 use Rattle.bolt_format.specs.ElementLengths.{IsKeyLength, IsValueLength}
-use Rattle.bolt_format.specs.declared.meta.Meta.{Meta}
 use Rattle.bolt_check.specs.Keys.{Key, key_cmp}
-use Rattle.bolt_tree.specs.Entries.{IsEntry, Item, Root_page}
+use Rattle.bolt_tree.specs.Entries.{Bucket, Item, Value}
 use Rattle.bolt_tree.specs.Listing.{Member, member_cmp}
 use Rattle.bolt_tree.specs.Order.{Rises}
-use Rattle.bolt_tree.specs.Paths.{Holds, Path}
+use Rattle.bolt_tree.specs.Paths.{Path}
 use Rattle.bolt_tree.specs.Tree.{Tree, end, listing_of, with_value, with_bucket}
 
 -- the keys of the outermost bucket
@@ -32,9 +31,18 @@ pub record IsStorable (tree : Tree) : Type 0 where
   pub rising : Rises key_cmp (keys_in tree)
   pub rising_inside : RisesInside tree
 
--- What a file holds, all of it or a part: what a tree lists, each member once, in the order of paths, and under the path that holds it.
-pub record IsHeldListing (file : List ℕ) (meta : Meta) (listing : List Member) : Type 0 where
+-- a value of a length that the format allows, or a sequence of 64 bits
+abbrev pub IsFitItem : Item → Type 0
+IsFitItem (Value value) = IsValueLength (length value)
+IsFitItem (Bucket sequence) = sequence < 2 ^ 64
+
+-- a member that the format can hold: its item fits, and so does the key that is the last part of its path
+abbrev pub IsFitMember : Path → Item → Type 0
+IsFitMember path item = ((front : Path) (key : Key) → path ≡ front ++ key ∷ [] → IsKeyLength (length key)) × IsFitItem item
+
+-- what a tree lists, each member once, in the order of paths, if the format can hold each member
+pub record IsFitListing (listing : List Member) : Type 0 where
   pub tree : Tree
   pub lists : listing ≡ listing_of tree
   pub rises : Rises member_cmp listing
-  pub held : (path : Path) (item : Item) → Contains listing (path, item) → Holds (IsEntry file meta) (Root_page meta.root) path item
+  pub fit : (path : Path) (item : Item) → Contains listing (path, item) → IsFitMember path item

@@ -6,8 +6,9 @@ ghost use Rattle.bolt_format.specs.Bytes.{IsBytes};
 ghost use Rattle.bolt_format.specs.Metas.{IsPageSize};
 ghost use Rattle.bolt_format.specs.declared.meta.Meta.{Meta};
 ghost use Rattle.bolt_check.specs.Sound.{HasSoundTrees};
-ghost use Rattle.bolt_tree.specs.Entries.{IsEntry, Root_page};
+ghost use Rattle.bolt_tree.specs.Entries.{IsEntry, Item, Root_page};
 ghost use Rattle.bolt_tree.specs.Listing.{IsListing, Member};
+ghost use Rattle.bolt_tree.specs.Paths.{Holds, Path};
 ghost use Rattle.bolt_tree.specs.Tree.{IsTreeOf, Tree, listing_of, tree_of};
 ghost use Rattle.bolt_layout.specs.Copies.{IsAsked, IsOfOneTree, IsSoundCopy, RefusesPrefixes, layout_of_listing};
 ghost use Rattle.bolt_layout.specs.Cut.{CutIsOne};
@@ -15,7 +16,7 @@ ghost use Rattle.bolt_layout.specs.Laid.{Laid};
 ghost use Rattle.bolt_layout.specs.Held.{most_held};
 ghost use Rattle.bolt_layout.specs.Layout.{HasTwoIfBranch, layout_held, layout_mark, layout_of, layout_pages, layout_root};
 ghost use Rattle.bolt_layout.specs.Levels.{IsOverflow, TopIsAbove, overflow_of};
-ghost use Rattle.bolt_layout.specs.Storable.{IsHeldListing, IsStorable};
+ghost use Rattle.bolt_layout.specs.Storable.{IsFitListing, IsFitMember, IsStorable};
 ghost use Rattle.bolt_layout.specs.declared.layout.Layout.{Layout};
 ghost use Rattle.bolt_layout.specs.declared.layout.Layout.TheVariants.{Balanced};
 
@@ -94,22 +95,27 @@ pub fn a_files_tree_can_be_stored()
     a_tree_lists_its_bucket();
 }
 
-/// A listing of what a file holds, or of a part of it, is that of one tree, which can be stored. So
-/// it has one layout at each page size.
-pub fn a_held_listing_is_of_one_tree()
-    ensures { (file : List ℕ) (meta : Meta) (listing : List Member) → IsBytes file
-        → IsHeldListing file meta listing → IsOfOneTree listing }
+/// The format can hold each member that a file holds.
+pub fn held_members_fit()
+    ensures { (file : List ℕ) (meta : Meta) (path : Path) (item : Item) → IsBytes file
+        → Holds (IsEntry file meta) (Root_page meta.root) path item → IsFitMember path item }
+{}
+
+/// A listing of members that the format can hold is that of one tree, which can be stored. So it has
+/// one layout at each page size.
+pub fn a_fit_listing_is_of_one_tree()
+    ensures { (listing : List Member) → IsFitListing listing → IsOfOneTree listing }
 {
     a_tree_is_of_its_listing();
 }
 
-/// The listing of a file with sound trees is such a listing.
+/// The listing of a file with sound trees is that of one tree, which can be stored.
 pub fn a_files_listing_is_of_one_tree()
     ensures { (file : List ℕ) (meta : Meta) (listing : List Member) → IsBytes file → HasSoundTrees file meta
         → IsListing file meta listing → IsOfOneTree listing }
 {
     listing_is_of_a_tree();
-    a_held_listing_is_of_one_tree();
+    a_fit_listing_is_of_one_tree();
 }
 
 /// The layout of such a listing is a sound file, and has the same listing, if it has fewer than 2^63

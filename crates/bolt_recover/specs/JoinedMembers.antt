@@ -1,12 +1,12 @@
 -- What the members of the joined listing show.
-use Rattle.std.specs.Prelude.{ℕ, List, Option}
+use Rattle.std.specs.Prelude.{ℕ, List}
 use Rattle.bolt_format.specs.declared.meta.Meta.{Meta}
 use Rattle.bolt_tree.specs.Listing.{Member}
 use Rattle.bolt_tree.specs.Paths.{Path}
 use Rattle.bolt_recover.specs.Joined.{IsJoined}
-use Rattle.bolt_recover.specs.Losses.{LossView}
+use Rattle.bolt_recover.specs.Lost.{IsAllLost, LostView}
 use Rattle.bolt_recover.specs.Private.Joining.{left_at, path_at, recovered_in, work_at}
-use Rattle.bolt_recover.specs.Private.KeptMembers.{AreAllLosses, kept_file, kept_losses, kept_meta}
+use Rattle.bolt_recover.specs.Private.KeptMembers.{kept_file, kept_lost, kept_meta}
 use Rattle.bolt_recover.specs.declared.joined.Joined.{Joined}
 
 unfoldable pub joined_file : Joined → List ℕ
@@ -27,13 +27,13 @@ joined_work joined = work_at joined.stage joined.kept joined.found.now joined.bu
 unfoldable pub joined_path : Joined → Path
 joined_path joined = path_at joined.stage joined.kept joined.bucket
 
--- the losses that its recovery has reported so far; there is none if the root page is lost
-unfoldable pub joined_losses : Joined → Option (List LossView)
-joined_losses joined = kept_losses joined.kept
+-- what is lost so far
+unfoldable pub joined_lost : Joined → LostView
+joined_lost joined = kept_lost joined.kept
 
--- if it has a recovery, that has reported all losses
-abbrev pub HasAllLosses : List ℕ → Meta → Joined → Type 0
-HasAllLosses file meta joined = AreAllLosses file meta (joined_losses joined)
+-- it has reported all that is lost
+abbrev pub HasAllLost : List ℕ → Meta → Joined → Type 0
+HasAllLost file meta joined = IsAllLost file meta (joined_lost joined)
 
 -- What is promised of the joined listing is promised for each; there is exactly one (`laws`).
 abbrev pub ForJoined : List ℕ → Meta → (List Member → Type 0) → Type 0

@@ -1,8 +1,10 @@
 pub mod Found
 pub mod Joined
+pub mod JoinRefusals
 pub mod JoinedMembers
 pub mod KeptPages
 pub mod Losses
+pub mod Lost
 pub mod PageKeys
 pub mod PageWays
 pub mod Places

@@ -1,33 +1,31 @@
 //! The members of the joined listing: those that are recovered and, in the bucket `lost+found`, what
 //! is found.
-ghost use Rattle.std.specs.Borrow.{Bor};
 ghost use Rattle.std.specs.List.{All};
 ghost use Rattle.std.specs.Option.{IfNone, option_map};
-ghost use Rattle.std.specs.Prelude.{◌≡◌, ◌≢◌, ◌<◌, ◌↔◌, [], List, None, IfErr, IfOk, IfSome, OnErr, OnOk, map};
-ghost use Rattle.bolt_check.specs.declared.finding.Finding.{Finding};
+ghost use Rattle.std.specs.Prelude.{◌≡◌, ◌≢◌, ◌<◌, ◌*◌, ◌^◌, ◌↔◌, [], List, None, IfErr, IfOk, IfSome, OnErr, OnOk, length};
 ghost use Rattle.bolt_tree.specs.Listing.{Member};
 ghost use Rattle.bolt_tree.specs.Paths.{path_of};
 ghost use Rattle.bolt_tree.specs.ShownEntries.{item_view};
 ghost use Rattle.bolt_tree.specs.Walks.{GivesNext};
 ghost use Rattle.bolt_recover.specs.Found.{AreFound, numbers_of};
-ghost use Rattle.bolt_recover.specs.Joined.{HasBucketKey, IsJoined, LacksBucketKey};
+ghost use Rattle.bolt_recover.specs.Joined.{IsJoined, LacksBucketKey};
+ghost use Rattle.bolt_recover.specs.JoinRefusals.{IsJoinRefusal};
 ghost use Rattle.bolt_recover.specs.Private.Joining.{AreJoinable, IsHeldWell, TellsBucketKey, first_cmp};
 ghost use Rattle.bolt_recover.specs.Private.KeptMembers.{kept_file, kept_left, kept_meta, kept_path};
 ghost use Rattle.bolt_recover.specs.Recovered.{ForRecovered};
 ghost use Rattle.bolt_recover.specs.Recoveries.{recovery_file, recovery_left, recovery_meta, recovery_path};
-ghost use Rattle.bolt_recover.specs.Refusals.{LosesRoot};
+ghost use Rattle.bolt_recover.specs.Refusals.{KeepsRoot};
 ghost use Rattle.bolt_recover.specs.ShownFound.{IsFoundView};
-ghost use Rattle.bolt_recover.specs.ShownLosses.{loss_view};
-ghost use Rattle.bolt_recover.specs.declared.loss.Loss.{Loss};
+ghost use Rattle.bolt_recover.specs.ShownLosses.{lost_view};
 ghost use Rattle.bolt_recover.specs.declared.joined.JoinFault.TheVariants as faults;
 ghost use Rattle.bolt_recover.specs.declared.joined.Stage.TheVariants as stages;
 
 use crate::found::Found;
 use crate::found_members::{FoundMembers, lost_and_found};
 use crate::kept::{Kept, LostRoot};
-use crate::loss::Loss;
+use crate::lost::Lost;
 use crate::recovery::Recovery;
-use bolt_check::NoMemory;
+use bolt_check::{CheckFault, Finding, NoMemory};
 use bolt_format::Meta;
 use bolt_tree::{Item, Members};
 use std::alloc::Global;
@@ -36,9 +34,11 @@ use std::cmp::Ordering;
 /// Why there is no joined listing.
 #[derive(Clone, Copy, Debug, PartialEq, Eq)]
 pub enum JoinFault {
+    /// The root page is lost, with this finding, and no page is found.
+    Root(Finding),
     /// A page is found, and the recovered root bucket has an entry `lost+found`.
     Exists,
-    /// Memory ran out.
+    /// Memory ran out. So it does for a file of more pages than numbers of sixteen digits can name.
     Memory,
 }
 
@@ -76,6 +76,9 @@ pub struct Joined<'a> {
     ghost pages: { ∥ AreJoinable (kept_file kept) (kept_meta kept) found.now ∥₁ },
     ghost waits: { ∥ IsHeldWell stage kept held ∥₁ },
 }
+
+/// Numbers of sixteen digits name so many pages.
+const NAMES: u64 = 10_000_000_000_000_000;
 
 /// How the first part of a path compares with the key of the bucket of what is found.
 fn compare_first(path: &[&[u8]]) -> Ordering
@@ -116,18 +119,52 @@ fn first_stage(found: &[Found<'_>]) -> Stage
     }
 }
 
-#[tactic(auto, unfolding(crate::specs::JoinedMembers::joined_file, crate::specs::JoinedMembers::joined_left, crate::specs::JoinedMembers::joined_losses, crate::specs::JoinedMembers::joined_meta, crate::specs::JoinedMembers::joined_path, crate::specs::JoinedMembers::joined_work))]
+#[tactic(auto, unfolding(crate::specs::JoinedMembers::joined_file, crate::specs::JoinedMembers::joined_left, crate::specs::JoinedMembers::joined_lost, crate::specs::JoinedMembers::joined_meta, crate::specs::JoinedMembers::joined_path, crate::specs::JoinedMembers::joined_work))]
 impl<'a> Joined<'a> {
-    ghost use Rattle.bolt_recover.specs.JoinedMembers.{ForJoined, HasAllLosses, joined_file, joined_left, joined_losses, joined_meta, joined_path, joined_work};
+    ghost use Rattle.bolt_recover.specs.JoinedMembers.{ForJoined, HasAllLost, joined_file, joined_left, joined_lost, joined_meta, joined_path, joined_work};
 
-    /// The members of the joined listing: those of a recovery that has returned nothing yet, and
-    /// those of the pages that are found in its file.
+    /// The members of the joined listing of a file under this meta, of which these are the found
+    /// pages (`found_pages`). A second recovery begins, which needs what the first one needed.
     ///
     /// # Errors
     ///
-    /// `Exists` if a page is found and the recovered root bucket has an entry `lost+found`; `Memory`
-    /// if memory runs out.
-    pub fn new(mut recovery: Recovery<'a>, found: &'a [Found<'a>]) -> Result<Joined<'a>, JoinFault>
+    /// `Root` if the root page is lost and no page is found; `Exists` if a page is found and the
+    /// recovered root bucket has an entry `lost+found`; `Memory` if memory runs out, or if the file
+    /// has more than 10^16 pages.
+    pub fn new(
+        alloc: Global,
+        file: &'a [u8],
+        meta: Meta,
+        found: &'a [Found<'a>],
+    ) -> Result<Joined<'a>, JoinFault>
+        requires size { 0 < meta.page_size }
+        requires found { AreFound file.now meta (numbers_of found.now) }
+        requires views { All (IsFoundView file.now meta) found.now }
+        ensures file { IfOk result (λ joined. joined_file joined ≡ file.now) }
+        ensures meta { IfOk result (λ joined. joined_meta joined ≡ meta) }
+        ensures all { IfOk result (λ joined. ForJoined file.now meta (λ listing. joined_left joined listing ≡ listing)) }
+        ensures path { IfOk result (λ joined. joined_path joined ≡ []) }
+        ensures apart { OnOk result (found.now ≢ [] → ForRecovered file.now meta LacksBucketKey) }
+        ensures some { OnOk result (found.now ≡ [] → KeepsRoot file.now meta) }
+        ensures refused { IfErr result (IsJoinRefusal file.now meta (numbers_of found.now)) }
+    {
+        if file.len() as u64 / u64::from(meta.page_size) >= NAMES {
+            return Err(JoinFault::Memory);
+        }
+        match Recovery::under(alloc, file, meta) {
+            Ok(recovery) => Joined::beside(recovery, found),
+            Err(CheckFault::Structure(finding)) if found.is_empty() => Err(JoinFault::Root(finding)),
+            Err(CheckFault::Structure(finding)) => {
+                Ok(Joined::of(Kept::Nothing(LostRoot { file, meta, finding }), found))
+            }
+            Err(_) => Err(JoinFault::Memory),
+        }
+    }
+
+    /// The members of a recovery that has returned nothing yet, and those of the pages that are found
+    /// in its file.
+    fn beside(mut recovery: Recovery<'a>, found: &'a [Found<'a>]) -> Result<Joined<'a>, JoinFault>
+        requires few { length (recovery_file recovery) < 10 ^ 16 * (recovery_meta recovery).page_size }
         requires fresh { ForRecovered (recovery_file recovery) (recovery_meta recovery) (λ listing. recovery_left recovery listing ≡ listing) }
         requires begun { recovery_path recovery ≡ [] }
         requires found { AreFound (recovery_file recovery) (recovery_meta recovery) (numbers_of found.now) }
@@ -137,7 +174,7 @@ impl<'a> Joined<'a> {
         ensures all { IfOk result (λ joined. ForJoined (recovery_file recovery.entry) (recovery_meta recovery.entry) (λ listing. joined_left joined listing ≡ listing)) }
         ensures path { IfOk result (λ joined. joined_path joined ≡ []) }
         ensures apart { OnOk result (found.now ≢ [] → ForRecovered (recovery_file recovery.entry) (recovery_meta recovery.entry) LacksBucketKey) }
-        ensures refused { IfErr result (λ fault. fault ≡ faults.Exists → (found.now ≢ []) × ForRecovered (recovery_file recovery.entry) (recovery_meta recovery.entry) HasBucketKey) }
+        ensures refused { IfErr result (IsJoinRefusal (recovery_file recovery.entry) (recovery_meta recovery.entry) (numbers_of found.now)) }
     {
         if found.is_empty() {
             return Ok(Joined::of(Kept::Recovery(recovery), found));
@@ -147,20 +184,6 @@ impl<'a> Joined<'a> {
         }
         recovery.restart()?;
         Ok(Joined::of(Kept::Recovery(recovery), found))
-    }
-
-    /// The members of the joined listing of a file whose root page is lost: those of the pages that
-    /// are found.
-    pub fn without_root(file: &'a [u8], meta: Meta, found: &'a [Found<'a>]) -> Joined<'a>
-        requires lost { (x : Finding) × LosesRoot file.now meta x }
-        requires found { AreFound file.now meta (numbers_of found.now) }
-        requires views { All (IsFoundView file.now meta) found.now }
-        ensures file { joined_file result ≡ file.now }
-        ensures meta { joined_meta result ≡ meta }
-        ensures all { ForJoined file.now meta (λ listing. joined_left result listing ≡ listing) }
-        ensures path { joined_path result ≡ [] }
-    {
-        Joined::of(Kept::Nothing(LostRoot { file, meta }), found)
     }
 
     /// The members of found pages and of what is recovered, of which nothing was returned yet.
@@ -182,12 +205,12 @@ impl<'a> Joined<'a> {
         }
     }
 
-    /// The losses so far, as `Recovery::losses` returns them. Once `next` has returned `None`, these
-    /// are all losses. `None` if the root page is lost, which is then the only loss.
-    pub fn losses(&self) -> Option<&[Loss<'a>]>
-        ensures { option_map (λ (losses : Bor (List Loss)). map loss_view losses.now) result ≡ joined_losses self.now }
+    /// What is lost so far: everything, or the losses as `Recovery::losses` returns them. Once `next`
+    /// has returned `None`, these are all losses.
+    pub fn lost(&self) -> Lost<'_>
+        ensures { lost_view result ≡ joined_lost self.now }
     {
-        self.kept.losses()
+        self.kept.lost()
     }
 
     /// Returns a recovered member before the bucket of what is found, or that bucket.
@@ -218,7 +241,7 @@ impl<'a> Joined<'a> {
         ensures meta { joined_meta self.new ≡ joined_meta self.old }
         ensures given { IfOk result (λ given. ForJoined (joined_file self.old) (joined_meta self.old) (λ listing. GivesNext (joined_left self.old listing) (joined_left self.new listing) (joined_path self.new) (option_map item_view given))) }
         ensures fewer { IfOk result (λ given. IfSome given (λ _. joined_work self.new < joined_work self.old)) }
-        ensures ended { IfOk result (λ given. IfNone given (HasAllLosses (joined_file self.old) (joined_meta self.old) self.new)) }
+        ensures ended { IfOk result (λ given. IfNone given (HasAllLost (joined_file self.old) (joined_meta self.old) self.new)) }
         ensures same { OnErr result (ForJoined (joined_file self.old) (joined_meta self.old) (λ listing. joined_left self.new listing ≡ joined_left self.old listing)) }
         ensures same_path { OnErr result (joined_path self.new ≡ joined_path self.old) }
     {
@@ -235,9 +258,9 @@ impl<'a> Joined<'a> {
     }
 }
 
-#[tactic(auto, unfolding(crate::specs::JoinedMembers::joined_file, crate::specs::JoinedMembers::joined_left, crate::specs::JoinedMembers::joined_losses, crate::specs::JoinedMembers::joined_meta, crate::specs::JoinedMembers::joined_path, crate::specs::JoinedMembers::joined_work))]
+#[tactic(auto, unfolding(crate::specs::JoinedMembers::joined_file, crate::specs::JoinedMembers::joined_left, crate::specs::JoinedMembers::joined_lost, crate::specs::JoinedMembers::joined_meta, crate::specs::JoinedMembers::joined_path, crate::specs::JoinedMembers::joined_work))]
 impl<'a> Members<'a> for Joined<'a> {
-    ghost use Rattle.bolt_recover.specs.JoinedMembers.{HasAllLosses, joined_file, joined_left, joined_losses, joined_meta, joined_path, joined_work};
+    ghost use Rattle.bolt_recover.specs.JoinedMembers.{HasAllLost, joined_file, joined_left, joined_lost, joined_meta, joined_path, joined_work};
 
     ghost lists = { λ joined listing. IsJoined (joined_file joined) (joined_meta joined) listing };
 
@@ -247,7 +270,7 @@ impl<'a> Members<'a> for Joined<'a> {
 
     ghost last_path = { λ joined. joined_path joined };
 
-    ghost ends_as = { λ joined end. HasAllLosses (joined_file joined) (joined_meta joined) end };
+    ghost ends_as = { λ joined end. HasAllLost (joined_file joined) (joined_meta joined) end };
 
     fn next(&mut self) -> Result<Option<Item<'a>>, NoMemory> {
         match self.stage {

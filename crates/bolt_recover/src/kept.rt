@@ -1,20 +1,18 @@
 //! What is recovered, also if the root page is lost.
-ghost use Rattle.std.specs.Borrow.{Bor};
-ghost use Rattle.std.specs.Prelude.{◌≡◌, ◌<◌, IfOk, IfSome, List, OnErr, OnOk, map};
+ghost use Rattle.std.specs.Prelude.{◌≡◌, ◌<◌, IfOk, IfSome, OnErr, OnOk};
 ghost use Rattle.std.specs.Option.{IfNone, option_map};
 ghost use Rattle.bolt_format.specs.Bytes.{IsBytes};
-ghost use Rattle.bolt_check.specs.declared.finding.Finding.{Finding};
 ghost use Rattle.bolt_tree.specs.Paths.{path_of};
 ghost use Rattle.bolt_tree.specs.ShownEntries.{item_view};
 ghost use Rattle.bolt_tree.specs.Walks.{GivesNext};
+ghost use Rattle.bolt_recover.specs.Lost.{IsAllLost};
 ghost use Rattle.bolt_recover.specs.Recovered.{ForRecovered};
 ghost use Rattle.bolt_recover.specs.Refusals.{LosesRoot};
-ghost use Rattle.bolt_recover.specs.ShownLosses.{loss_view};
-ghost use Rattle.bolt_recover.specs.declared.loss.Loss.{Loss};
+ghost use Rattle.bolt_recover.specs.ShownLosses.{lost_view};
 
-use crate::loss::Loss;
+use crate::lost::Lost;
 use crate::recovery::Recovery;
-use bolt_check::NoMemory;
+use bolt_check::{Finding, NoMemory};
 use bolt_format::Meta;
 use bolt_tree::Item;
 
@@ -23,8 +21,10 @@ use bolt_tree::Item;
 pub(crate) struct LostRoot<'a> {
     pub file: &'a [u8],
     pub meta: Meta,
+    /// Why it is lost.
+    pub finding: Finding,
     ghost bytes: { IsBytes file.now },
-    ghost lost: { ∥ ((x : Finding) × LosesRoot file.now meta x) ∥₁ },
+    ghost lost: { ∥ LosesRoot file.now meta finding ∥₁ },
 }
 
 /// The members that are recovered.
@@ -36,7 +36,7 @@ pub(crate) enum Kept<'a> {
 
 #[tactic(auto, unfolding(crate::specs::Recoveries::recovery_file, crate::specs::Recoveries::recovery_meta, crate::specs::Recoveries::recovery_losses))]
 impl<'a> Kept<'a> {
-    ghost use Rattle.bolt_recover.specs.Private.KeptMembers.{AreAllLosses, kept_file, kept_left, kept_losses, kept_meta, kept_path, kept_work};
+    ghost use Rattle.bolt_recover.specs.Private.KeptMembers.{kept_file, kept_left, kept_lost, kept_meta, kept_path, kept_work};
 
     /// Returns the first member that is left, or `None` if nothing is left.
     pub fn next(&mut self) -> Result<Option<Item<'a>>, NoMemory>
@@ -44,7 +44,7 @@ impl<'a> Kept<'a> {
         ensures meta { kept_meta self.new ≡ kept_meta self.old }
         ensures given { IfOk result (λ given. ForRecovered (kept_file self.old) (kept_meta self.old) (λ listing. GivesNext (kept_left self.old listing) (kept_left self.new listing) (kept_path self.new) (option_map item_view given))) }
         ensures fewer { IfOk result (λ given. IfSome given (λ _. kept_work self.new < kept_work self.old)) }
-        ensures ended { IfOk result (λ given. IfNone given (AreAllLosses (kept_file self.old) (kept_meta self.old) (kept_losses self.new))) }
+        ensures ended { IfOk result (λ given. IfNone given (IsAllLost (kept_file self.old) (kept_meta self.old) (kept_lost self.new))) }
         ensures same { OnErr result (ForRecovered (kept_file self.old) (kept_meta self.old) (λ listing. kept_left self.new listing ≡ kept_left self.old listing)) }
         ensures same_path { OnErr result (kept_path self.new ≡ kept_path self.old) }
     {
@@ -64,13 +64,13 @@ impl<'a> Kept<'a> {
         }
     }
 
-    /// The losses that are reported so far. `None` if the root page is lost.
-    pub fn losses(&self) -> Option<&[Loss<'a>]>
-        ensures { option_map (λ (losses : Bor (List Loss)). map loss_view losses.now) result ≡ kept_losses self.now }
+    /// What is lost so far.
+    pub fn lost(&self) -> Lost<'_>
+        ensures { lost_view result ≡ kept_lost self.now }
     {
         match self {
-            Kept::Recovery(recovery) => Some(recovery.losses()),
-            Kept::Nothing(_) => None,
+            Kept::Recovery(recovery) => Lost::Parts(recovery.losses()),
+            Kept::Nothing(root) => Lost::Everything(root.finding),
         }
     }
 

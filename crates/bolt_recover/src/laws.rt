@@ -15,7 +15,7 @@ ghost use Rattle.bolt_tree.specs.Paths.{Holds, Path};
 ghost use Rattle.bolt_tree.specs.Tree.{Tree, listing_of};
 ghost use Rattle.bolt_recover.specs.Found.{AreFound, IsFoundPage};
 ghost use Rattle.bolt_recover.specs.Joined.{IsFoundMember, IsJoined, LacksBucketKey, is_found_path, lost_and_found};
-ghost use Rattle.bolt_recover.specs.JoinedMembers.{joined_file};
+ghost use Rattle.bolt_recover.specs.JoinedMembers.{ForJoined, joined_file, joined_meta};
 ghost use Rattle.bolt_recover.specs.KeptPages.{IsKeptPage};
 ghost use Rattle.bolt_recover.specs.Losses.{AreLosses, LossView, loss_of, losses_of};
 ghost use Rattle.bolt_recover.specs.PageWays.{ArePageWays};
@@ -181,6 +181,13 @@ pub fn joined_members_are_recovered_or_found()
     ensures { (file : List ℕ) (meta : Meta) (listing recovered : List Member) (found : List ℕ) (m : Member) → IsJoined file meta listing → IsRecovered file meta recovered → AreFound file meta found
         → Contains listing m → Contains recovered m ⊎ ((m ≡ (lost_and_found ∷ [], Bucket 0)) ⊎ IsFoundMember file meta found m) }
 {}
+
+/// The members of a joined listing are in the order of paths.
+pub fn joined_members_rise(joined: &Joined<'_>)
+    ensures { ForJoined (joined_file joined.now) (joined_meta joined.now) (Rises member_cmp) }
+{
+    joined_listing_rises();
+}
 
 /// The file of the members of a joined listing is bytes.
 pub fn the_file_of_joined_members_is_bytes(joined: &Joined<'_>)

@@ -1,4 +1,4 @@
-//! Pages that are found though nothing leads to them.
+//! Intact leaves that nothing leads to.
 ghost use Rattle.std.specs.List.{All};
 ghost use Rattle.std.specs.Prelude.{◌≡◌, ◌↔◌, ◌<◌, ℕ, true, IfOk};
 ghost use Rattle.bolt_check.specs.Leftovers.{is_listed, is_taken, leftovers_file, leftovers_length, leftovers_meta};
@@ -13,13 +13,9 @@ use bolt_check::{Claims, Leftovers, NoMemory};
 use bolt_format::Meta;
 use std::alloc::Global;
 
-/// Finds the intact leaves of a file whose root page is lost, by rising number (docs/RECOVERY.md,
-/// "Found pages"). There is no recovery of it. It needs a table of pages, and room for what is found.
-///
-/// # Errors
-///
-/// `NoMemory` if memory runs out.
-pub fn found_without_root<'a>(
+/// Finds the intact leaves of a file whose root page is lost, by rising number. There is no recovery
+/// of it. It needs a table of pages, and room for what is found.
+pub(crate) fn found_without_root<'a>(
     alloc: Global,
     file: &'a [u8],
     meta: Meta,

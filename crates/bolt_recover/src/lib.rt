@@ -11,11 +11,12 @@ mod kept;
 pub mod laws;
 mod leaves;
 mod loss;
+mod lost;
 mod recovery;
 mod steps;
 
-pub use found::Found;
+pub use found::{Found, found_pages};
 pub use joined::{JoinFault, Joined};
-pub use leaves::found_without_root;
 pub use loss::Loss;
+pub use lost::Lost;
 pub use recovery::Recovery;

@@ -176,7 +176,7 @@ impl<'a> Recovery<'a> {
     /// # Errors
     ///
     /// `NoMemory` if memory runs out.
-    pub fn found(mut self) -> Result<Vec<Found<'a>>, NoMemory>
+    pub(crate) fn found(mut self) -> Result<Vec<Found<'a>>, NoMemory>
         ensures found { IfOk result (λ found. AreFound (recovery_file self.entry) (recovery_meta self.entry) (numbers_of found.items)) }
         ensures views { IfOk result (λ found. All (IsFoundView (recovery_file self.entry) (recovery_meta self.entry)) found.items) }
     {

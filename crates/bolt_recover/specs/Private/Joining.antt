@@ -1,5 +1,5 @@
 -- How far the members of the joined listing are returned.
-use Rattle.std.specs.Prelude.{◌≡◌, ◌≢◌, ◌+◌, ℕ, suc, Bool, true, false, List, [], ◌∷◌, ◌++◌, Option, Some, None, if◌then◌else◌, filter, length, not}
+use Rattle.std.specs.Prelude.{◌≡◌, ◌≢◌, ◌<◌, ◌*◌, ◌^◌, ◌+◌, ℕ, suc, Bool, true, false, List, [], ◌∷◌, ◌++◌, Option, Some, None, if◌then◌else◌, filter, length, not}
 use Rattle.std.specs.List.{All}
 use Rattle.std.specs.Ordering.{is_lt}
 use Rattle.std.specs.declared.cmp.Ordering.{Ordering}
@@ -61,8 +61,10 @@ abbrev pub TellsBucketKey : List Member → Bool → Type 0
 TellsBucketKey listing true = HasBucketKey listing
 TellsBucketKey listing false = LacksBucketKey listing
 
--- The found pages are those of the file and, if there is one, the recovered listing leaves room for their bucket.
+-- The found pages are those of the file, whose page numbers have sixteen digits at most. If there is one, the recovered listing leaves room for
+-- their bucket.
 pub record AreJoinable (file : List ℕ) (meta : Meta) (found : List Found) : Type 0 where
+  pub few : length file < 10 ^ 16 * meta.page_size
   pub are_found : AreFound file meta (numbers_of found)
   pub views : All (IsFoundView file meta) found
   pub apart : found ≢ [] → ForRecovered file meta LacksBucketKey

@@ -1,10 +1,10 @@
 -- What is recovered, also if the root page is lost.
-use Rattle.std.specs.Prelude.{◌≡◌, ℕ, List, [], Option, Some, None}
+use Rattle.std.specs.Prelude.{ℕ, List, []}
 use Rattle.bolt_format.specs.declared.meta.Meta.{Meta}
 use Rattle.bolt_tree.specs.Listing.{Member}
 use Rattle.bolt_tree.specs.Paths.{Path}
-use Rattle.bolt_recover.specs.Losses.{LossView}
-use Rattle.bolt_recover.specs.Recoveries.{ForLosses, recovery_file, recovery_left, recovery_losses, recovery_meta, recovery_path, recovery_work}
+use Rattle.bolt_recover.specs.Lost.{LostView, everything, parts}
+use Rattle.bolt_recover.specs.Recoveries.{recovery_file, recovery_left, recovery_losses, recovery_meta, recovery_path, recovery_work}
 use Rattle.bolt_recover.specs.declared.kept.Kept.{Kept}
 use Rattle.bolt_recover.specs.declared.kept.Kept.TheVariants.{Nothing, Recovery}
 
@@ -28,12 +28,7 @@ abbrev pub kept_path : Kept → Path
 kept_path (Recovery recovery) = recovery_path recovery
 kept_path (Nothing root) = []
 
--- the losses that are reported so far; none are if there is no recovery
-abbrev pub kept_losses : Kept → Option (List LossView)
-kept_losses (Recovery recovery) = Some (recovery_losses recovery)
-kept_losses (Nothing root) = None
-
--- these are all losses of the file
-abbrev pub AreAllLosses : List ℕ → Meta → Option (List LossView) → Type 0
-AreAllLosses file meta (Some reported) = ForLosses file meta (λ losses. reported ≡ losses)
-AreAllLosses file meta None = Unit {0}
+-- what is lost so far
+abbrev pub kept_lost : Kept → LostView
+kept_lost (Recovery recovery) = parts (recovery_losses recovery)
+kept_lost (Nothing root) = everything root.finding
