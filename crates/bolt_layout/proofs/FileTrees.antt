@@ -74,7 +74,7 @@ key_listed (with_bucket key sequence inside after) front k has =
 below_keys : (front : Path) (key : Key) (item : Item) (after : Tree) → IsBelow member_cmp (front ++ key ∷ [], item) (listing_below front after) → IsBelow key_cmp key (keys_in after)
 below_keys front key item after below k has = let (other, there) = key_listed after front k has in last_less front key k (below (front ++ k ∷ [], other) there)
 
-pub keys_rise : (tree : Tree) (front : Path) → Rises member_cmp (listing_below front tree) → Rises key_cmp (keys_in tree)
+keys_rise : (tree : Tree) (front : Path) → Rises member_cmp (listing_below front tree) → Rises key_cmp (keys_in tree)
 keys_rise end front r = tt
 keys_rise (with_value key value after) front r = (below_keys front key (Value value) after r.0, keys_rise after front r.1)
 keys_rise (with_bucket key sequence inside after) front r =
@@ -84,7 +84,7 @@ keys_rise (with_bucket key sequence inside after) front r =
       keys_rise after front (rises_right member_cmp deep behind r.1),
     )
 
-pub inside_rises : (tree : Tree) (front : Path) → Rises member_cmp (listing_below front tree) → RisesInside tree
+inside_rises : (tree : Tree) (front : Path) → Rises member_cmp (listing_below front tree) → RisesInside tree
 inside_rises end front r = tt
 inside_rises (with_value key value after) front r = inside_rises after front r.1
 inside_rises (with_bucket key sequence inside after) front r =

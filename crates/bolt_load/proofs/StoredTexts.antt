@@ -1,22 +1,18 @@
 -- What a right text tells can be stored: its keys and its values have lengths that the format allows, and its sequences have 64 bits.
 use Rattle.std.proofs.Common.{◌≡◌, ◌∙◌, ◌==◌, ◌<◌, ◌≤◌, ◌^◌, ℕ, Bool, true, false, List, [], ◌∷◌, ◌++◌, Option, Some, None, length, inl, inr, refl, sym, ap, subst, arith}
-use Rattle.std.specs.List.{Contains, list_any, slice_split}
+use Rattle.std.specs.List.{list_any, slice_split}
 use Rattle.std.specs.Option.{option_map_or, option_or}
 use Rattle.std.specs.Prelude.{if◌then◌else◌, nat_lt, option_and_then, option_map}
 use Rattle.std.specs.Str.{bytes_eq}
 use Rattle.std.specs.Prelude.{codes}
 use Rattle.std.proofs.lemmas.Bool.{and_parts, cases_Bool, eqb-false, ltb-false, ltb-true, or_parts}
-use Rattle.bolt_format.specs.ElementLengths.{IsKeyLength, IsValueLength}
+use Rattle.bolt_format.specs.ElementLengths.{IsKeyLength}
 use Rattle.bolt_check.specs.Keys.{Key}
 use Rattle.bolt_tree.specs.Entries.{Bucket, Item, Value}
-use Rattle.bolt_tree.specs.Listing.{Member, member_cmp}
-use Rattle.bolt_tree.specs.Order.{Rises}
+use Rattle.bolt_tree.specs.Listing.{Member}
 use Rattle.bolt_tree.specs.Paths.{Path}
-use Rattle.bolt_tree.specs.Tree.{Tree, end, listing_below, listing_of, tree_of, with_bucket, with_value}
-use Rattle.bolt_tree.proofs.ListLemmas.{Has, has_left, has_right}
-use Rattle.bolt_layout.specs.Copies.{IsOfOneTree}
-use Rattle.bolt_layout.specs.Storable.{HasLengths, IsStorable}
-use Rattle.bolt_layout.proofs.FileTrees.{TreeIsOfItsListing, inside_rises, keys_rise}
+use Rattle.bolt_tree.proofs.ListLemmas.{Has, has_from_contains}
+use Rattle.bolt_layout.specs.Storable.{IsFitItem, IsFitListing}
 use Rattle.bolt_load.specs.HexPaths.{hex_bytes_in, hex_path_in, part_in, parts_in}
 use Rattle.bolt_load.specs.LineFaults.{IsListingText, RightAfter, is_long_item, is_long_key, length_fault, place_fault, shape_fault}
 use Rattle.bolt_load.specs.LineMembers.{item_in, line_member, member_in, members_in, text_members}
@@ -36,12 +32,8 @@ abbrev pub AreKeys : Path → Type 0
 AreKeys [] = Unit {0}
 AreKeys (key ∷ path) = IsKeyLength (length key) × AreKeys path
 
-abbrev pub FitsItem : Item → Type 0
-FitsItem (Value value) = IsValueLength (length value)
-FitsItem (Bucket sequence) = sequence < 2 ^ 64
-
 abbrev pub FitsMember : Member → Type 0
-FitsMember member = AreKeys member.0 × FitsItem member.1
+FitsMember member = AreKeys member.0 × IsFitItem member.1
 
 -- ---- the member of a line
 
@@ -65,23 +57,23 @@ path_fits : (word : Text) (path : Path) → hex_path_in word ≡ Some path → l
 unfolding hex_path_in
 path_fits word path is short = parts_fit (slice_split (λ byte. byte == 47) word) path is short
 
-value_fits : (found : Option (List ℕ)) (item : Item) → option_map Value found ≡ Some item → is_long_item item ≡ false → FitsItem item
+value_fits : (found : Option (List ℕ)) (item : Item) → option_map Value found ≡ Some item → is_long_item item ≡ false → IsFitItem item
 value_fits None item is short = absurd (let f : None ≡ Some item = is in cc)
 value_fits (Some value) item is short =
     let same : Value value ≡ item = (let f : Some (Value value) ≡ Some item = is in cc) in
-    subst FitsItem same (ltb-false 0x7FFFFFFE (length value) (ap is_long_item same ∙ short))
+    subst IsFitItem same (ltb-false 0x7FFFFFFE (length value) (ap is_long_item same ∙ short))
 
-sequence_fits : (word : Text) (item : Item) → option_map Bucket (number_in word) ≡ Some item → FitsItem item
+sequence_fits : (word : Text) (item : Item) → option_map Bucket (number_in word) ≡ Some item → IsFitItem item
 sequence_fits word item is = at (number_in word) refl is
   where
-    at : (found : Option ℕ) → number_in word ≡ found → option_map Bucket found ≡ Some item → FitsItem item
+    at : (found : Option ℕ) → number_in word ≡ found → option_map Bucket found ≡ Some item → IsFitItem item
     at None found is = absurd (let f : None ≡ Some item = is in cc)
-    at (Some n) found is = let same : Bucket n ≡ item = (let f : Some (Bucket n) ≡ Some item = is in cc) in subst FitsItem same (number_is word n found).2
+    at (Some n) found is = let same : Bucket n ≡ item = (let f : Some (Bucket n) ≡ Some item = is in cc) in subst IsFitItem same (number_is word n found).2
 
 none_some : (item : Item) → None ≡ Some item → ⊥
 none_some item is = cc
 
-item_fits : (mark word : Text) (item : Item) → item_in mark word ≡ Some item → is_long_item item ≡ false → FitsItem item
+item_fits : (mark word : Text) (item : Item) → item_in mark word ≡ Some item → is_long_item item ≡ false → IsFitItem item
 item_fits mark word item is short = elim (cases_Bool (bytes_eq mark (codes "="))) [
   | inl yes ↦ value_fits (hex_bytes_in word) item (rw yes at is) short
   | inr no ↦ elim (cases_Bool (bytes_eq mark (codes "bucket"))) [
@@ -126,43 +118,21 @@ lines_fit (line ∷ lines) before right member has =
     at first fits (inl same) = subst FitsMember same fits
     at first fits (inr later) = lines_fit lines (before ++ members_in (line ∷ [])) right.1 member later
 
--- ---- the tree
+-- ---- the listing
 
 last_key : (front : Path) (key : Key) → AreKeys (front ++ key ∷ []) → IsKeyLength (length key)
 last_key [] key are = are.0
 last_key (part ∷ front) key are = last_key front key are.1
 
-abbrev Fit : List Member → Type 0
-Fit listing = (member : Member) → Has listing member → FitsMember member
-
-lengths_fit : (tree : Tree) (front : Path) → Fit (listing_below front tree) → HasLengths tree
-lengths_fit end front fit = tt
-lengths_fit (with_value key value after) front fit =
-    let first = fit (front ++ key ∷ [], Value value) (inl refl) in
-    ((last_key front key first.0), first.1, lengths_fit after front (λ member has. fit member (inr has)))
-lengths_fit (with_bucket key sequence inside after) front fit =
-    let first = fit (front ++ key ∷ [], Bucket sequence) (inl refl) in
-    let deep : List Member = listing_below (front ++ key ∷ []) inside in
-    let behind : List Member = listing_below front after in (
-      last_key front key first.0,
-      first.1,
-      lengths_fit inside (front ++ key ∷ []) (λ member has. fit member (inr (has_left deep behind member has))),
-      lengths_fit after front (λ member has. fit member (inr (has_right deep behind member has))),
-    )
-
--- what the lines of a right text tell is of one tree
-pub text_of_one_tree : TreeIsOfItsListing → (text : Text) → IsListingText text → IsOfOneTree (text_members text)
-text_of_one_tree back text right =
+-- what the lines of a right text tell is a listing that the format can hold
+pub text_fits : (text : Text) → IsListingText text → IsFitListing (text_members text)
+text_fits text right =
     let (tree, lists, rises) = text_tree text right in
-    let read : tree_of (text_members text) ≡ tree = ap tree_of (sym lists) ∙ back tree in
-    let risen = subst (Rises member_cmp) (sym lists) rises in
-    let storable : IsStorable tree = record {
-      lengths = lengths_fit tree [] (λ member has. lines_fit (lines_of text) [] right member (subst (λ (ms : List Member). Has ms member) lists has));
-      rising = keys_rise tree [] risen;
-      rising_inside = inside_rises tree [] risen;
-    } in
     record {
-      storable = subst IsStorable (sym read) storable;
-      lists = ap listing_of read ∙ lists;
-      one = λ other e. sym (back other) ∙ ap tree_of e;
+      tree = tree;
+      lists = sym lists;
+      rises = rises;
+      fit = λ path item has.
+          let fits = lines_fit (lines_of text) [] right (path, item) (has_from_contains (text_members text) (path, item) has) in
+          ((λ front key is. last_key front key (subst AreKeys is fits.0)), fits.1);
     }

@@ -29,7 +29,8 @@ use Rattle.bolt_load.specs.Numbers.{number_in}
 use Rattle.bolt_load.specs.Private.Cuts.{IsWithout}
 use Rattle.bolt_load.proofs.DecimalNumbers.{decimal_numerals, number_written}
 use Rattle.bolt_load.proofs.MemberLemmas.{member_of}
-use Rattle.bolt_load.proofs.StoredTexts.{AreKeys, FitsItem, FitsMember}
+use Rattle.bolt_layout.specs.Storable.{IsFitItem}
+use Rattle.bolt_load.proofs.StoredTexts.{AreKeys, FitsMember}
 
 -- ---- which bytes are in a line
 
@@ -183,7 +184,7 @@ short_parts (key ∷ path) keys =
     let short : is_long_key key ≡ false = grind (arith, nat_tests, keys.0.1) in
     ap₂ ◌||◌ short (short_parts path keys.1)
 
-short_item : (item : Item) → FitsItem item → is_long_item item ≡ false
+short_item : (item : Item) → IsFitItem item → is_long_item item ≡ false
 short_item (Value value) fits = short (length value) fits
   where
     short : (n : ℕ) → n ≤ 0x7FFFFFFE → nat_lt 0x7FFFFFFE n ≡ false

@@ -11,12 +11,16 @@ ghost use Rattle.bolt_load.specs.LineFaults.{IsListingText};
 ghost use Rattle.bolt_load.specs.LineMembers.{text_members};
 ghost use Rattle.bolt_load.specs.Lines.{Text};
 
+use bolt_layout::laws::a_fit_listing_is_of_one_tree;
+
 /// What a text without a fault tells is the listing of exactly one tree, which can be computed from
 /// it and can be stored; and its members rise.
 pub fn a_text_is_of_one_tree()
     ensures tree { (text : Text) → IsListingText text → IsOfOneTree (text_members text) }
     ensures rises { (text : Text) → IsListingText text → Rises member_cmp (text_members text) }
-{}
+{
+    a_fit_listing_is_of_one_tree();
+}
 
 /// A file's listing is of bytes.
 pub fn a_files_listing_is_of_bytes()
