@@ -12,6 +12,7 @@ pub mod HeldJobs
 pub mod HeldLines
 pub mod ListAnswers
 pub mod ListedBuckets
+pub mod ListedLoads
 pub mod LossAnswers
 pub mod NeededBytes
 pub mod Ordering

@@ -475,6 +475,12 @@ module _ {O T : Type 0} (out_taken : O → Option (List ℕ)) (out_failed : O �
       × WritesCopy snapshot (text_members file) (layout_of_listing which page_size (text_members file) sequence) (λ copy. done (lengths_line (length file) copy)) ending)
       ⊎ ((fault : LoadFault) × IsLoadFault file fault × (out_new ≡ out_old) × (target_new ≡ target_old) × (ending ≡ Err (unloaded fault)))
 
+  -- the same of the text of this listing, which has no line that isn't right
+  abbrev pub LoadsListing : List Member → List ℕ → (page_size sequence : ℕ) → Layout → (snapshot : Bool) → Ending → Type 0
+  LoadsListing listing file page_size sequence which snapshot ending =
+      WritesCopy snapshot listing (layout_of_listing which page_size listing sequence) (λ copy. done (lengths_line (length file) copy)) ending
+      ⊎ ((out_new ≡ out_old) × (target_new ≡ target_old) × (ending ≡ Err failure.Memory))
+
   -- what a job does, and how it ends
   abbrev pub DoesJob : List ℕ → Job → Ending → Type 0
   DoesJob file (job.Info j) = Prints (IsInfoAnswer file j.slot)

@@ -7,6 +7,7 @@ ghost use Rattle.bolt_cli.specs.CopyKinds.{is_snapshot, layout_for};
 use crate::compact_command::put_report;
 use crate::copies::{CopyShape, copy_members};
 use crate::failure::Failure;
+use crate::good_copies::text_has_good_copies;
 use crate::job::LoadJob;
 use bolt_format::Sink;
 use bolt_load::ListingText;
@@ -24,6 +25,7 @@ pub(crate) fn write_loaded<O: Sink, T: Sink>(
     ensures { Loads O.taken O.failed out.old out.new T.taken T.failed target.old target.new file.now job.now.page_size.bytes job.now.sequence (layout_for job.now.kind) (is_snapshot job.now.kind) result }
 {
     let listing = ListingText::read(alloc, file)?;
+    text_has_good_copies(job.sequence);
     let mut members = listing.members(alloc);
     let shape = CopyShape {
         layout: job.kind.layout(),

@@ -33,7 +33,7 @@ unfolding number_at
 sequence_fits value bytes = let h = little_from-lt 0 8 (drop 8 value) (drop_bytes value 8 bytes) in omega (arith, h)
 
 -- Keys rise where paths do.
-pub rises_left : {A : Type 0} (cmp : A → A → Ordering) (xs ys : List A) → Rises cmp (xs ++ ys) → Rises cmp xs
+rises_left : {A : Type 0} (cmp : A → A → Ordering) (xs ys : List A) → Rises cmp (xs ++ ys) → Rises cmp xs
 rises_left cmp [] ys r = tt
 rises_left cmp (x ∷ xs) ys r = (λ y h. r.0 y (Contains-append_left xs ys y h), rises_left cmp xs ys r.1)
 

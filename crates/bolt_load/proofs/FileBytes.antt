@@ -1,10 +1,9 @@
 -- What a file lists has bytes of the file in its keys and its values.
-use Rattle.std.proofs.Common.{◌≡◌, ◌<◌, ◌-◌, ◌^◌, ◌==◌, ℕ, Bool, true, false, List, [], ◌∷◌, length, sym, ap, refl, subst, drop, take, inl, inr, arith}
+use Rattle.std.proofs.Common.{◌≡◌, ◌<◌, ◌-◌, ◌==◌, ℕ, Bool, true, false, List, [], ◌∷◌, sym, refl, subst, drop, take, inl, inr, arith}
 use Rattle.std.specs.List.{Contains, slice_range}
 use Rattle.std.proofs.lemmas.Bool.{cases_Bool, cases_lt, eqb-true}
 use Rattle.std.proofs.lemmas.List.{get_or-take, get_or_past, length-take}
-use Rattle.byteorder.specs.Numbers.{little_from-lt}
-use Rattle.bolt_format.specs.Bytes.{IsBytes, number_at}
+use Rattle.bolt_format.specs.Bytes.{IsBytes}
 use Rattle.bolt_format.specs.Elements.{IsBucketValue, LeafElement, head_root, head_sequence, inline_bytes, inline_elements, leaf_element, leaf_end, leaf_key_start, leaf_value_start}
 use Rattle.bolt_format.specs.Pages.{span_bytes}
 use Rattle.bolt_format.specs.declared.meta.Meta.{Meta}
@@ -14,6 +13,7 @@ use Rattle.bolt_report.specs.JsonReadings.{ArePartsBytes, IsItemOfBytes}
 use Rattle.bolt_tree.specs.Entries.{Bucket, Inline_page, IsEntry, Item, Root_page, Start, Value, item_of, start_of}
 use Rattle.bolt_tree.specs.Listing.{IsListing, Member}
 use Rattle.bolt_tree.specs.Paths.{Holds, Path}
+use Rattle.bolt_layout.specs.Storable.{IsFitItem, IsFitMember}
 use Rattle.bolt_load.specs.ByteMembers.{AreOfBytes}
 
 range_bytes : (bytes : List ℕ) (a b : ℕ) → IsBytes bytes → IsBytes (slice_range bytes a b)
@@ -31,10 +31,6 @@ element_bytes bytes i are = record {
   key = range_bytes bytes (leaf_key_start bytes i) (leaf_value_start bytes i) are;
   value = range_bytes bytes (leaf_value_start bytes i) (leaf_end bytes i) are;
 }
-
-sequence_fits : (value : List ℕ) → IsBytes value → head_sequence value < 2 ^ 64
-unfolding number_at
-sequence_fits value are = let below = little_from-lt 0 8 (drop 8 value) (drop_bytes value 8 are) in omega (arith, below)
 
 -- a bucket begins at a root page, or in a good value of bytes
 abbrev IsOfBytes : Start → Type 0
@@ -68,18 +64,24 @@ module _ (file : List ℕ) (meta : Meta) (bytes : IsBytes file) where
         start = λ b. absurd (not_both e.is_bucket (flat_inline value e good root within) b);
       }
 
-  item_bytes : (e : LeafElement) (item : Item) → AreBytes e → item_of e ≡ item → IsItemOfBytes item
-  item_bytes e item are is = subst IsItemOfBytes is (elim (cases_Bool e.is_bucket) [ inl b ↦ rw b (sequence_fits e.value are.value) | inr v ↦ rw v are.value ])
+  item_bytes : (e : LeafElement) (item : Item) → AreBytes e → item_of e ≡ item → IsFitItem item → IsItemOfBytes item
+  item_bytes e (Value value) are is fits = elim (cases_Bool e.is_bucket) [
+    | inl b ↦ absurd (let f : Bucket (head_sequence e.value) ≡ Value value = (rw b at is) in cc)
+    | inr v ↦ let same : e.value ≡ value = (let f : Value e.value ≡ Value value = (rw v at is) in cc) in subst IsBytes same are.value
+  ]
+  item_bytes e (Bucket sequence) are is fits = fits
 
-  held_bytes : (path : Path) (item : Item) (from : Start) → IsOfBytes from → Holds (IsEntry file meta) from path item → ArePartsBytes path × IsItemOfBytes item
-  held_bytes [] item from start held = absurd held
-  held_bytes (key ∷ []) item from start (e, is, same, of) =
+  held_bytes : (path : Path) (item : Item) (from : Start) → IsOfBytes from → Holds (IsEntry file meta) from path item → IsFitItem item → ArePartsBytes path × IsItemOfBytes item
+  held_bytes [] item from start held fits = absurd held
+  held_bytes (key ∷ []) item from start (e, is, same, of) fits =
       let good = entry_good from e start is in
-      ((subst IsBytes same good.bytes_are.key, tt), item_bytes e item good.bytes_are of)
-  held_bytes (key ∷ next ∷ path) item from start (e, is, same, b, more) =
+      ((subst IsBytes same good.bytes_are.key, tt), item_bytes e item good.bytes_are of fits)
+  held_bytes (key ∷ next ∷ path) item from start (e, is, same, b, more) fits =
       let good = entry_good from e start is in
-      let later = held_bytes (next ∷ path) item (start_of e.value) (good.start b) more in
+      let later = held_bytes (next ∷ path) item (start_of e.value) (good.start b) more fits in
       ((subst IsBytes same good.bytes_are.key, later.0), later.1)
 
-  pub listing_of_bytes : (listing : List Member) → IsListing file meta listing → AreOfBytes listing
-  listing_of_bytes listing lists member has = held_bytes member.0 member.1 (Root_page meta.root) tt ((lists.exact member.0 member.1).0 has)
+  pub listing_of_bytes : ((path : Path) (item : Item) → Holds (IsEntry file meta) (Root_page meta.root) path item → IsFitMember path item)
+      → (listing : List Member) → IsListing file meta listing → AreOfBytes listing
+  listing_of_bytes fits listing lists member has =
+      let held = (lists.exact member.0 member.1).0 has in held_bytes member.0 member.1 (Root_page meta.root) tt held (fits member.0 member.1 held).1

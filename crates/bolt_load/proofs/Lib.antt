@@ -3,6 +3,7 @@ pub mod DecimalNumbers
 pub mod DecodedLines
 pub mod EdgeTrees
 pub mod FileBytes
+pub mod FirstFaults
 pub mod LastPaths
 pub mod LineLemmas
 pub mod ListingTexts

@@ -1,14 +1,13 @@
 -- The text of a listing that is of one tree is read back as that listing.
-use Rattle.std.proofs.Common.{◌≡◌, ◌∙◌, ◌<◌, ◌-◌, ℕ, Bool, true, List, [], ◌∷◌, ◌++◌, Option, Some, None, length, map, slice_get, take, inl, inr, refl, sym, ap, ap₂, subst, arith, append_assoc, append-nil, length-append}
-use Rattle.std.specs.List.{Contains, flat_map}
+use Rattle.std.proofs.Common.{◌≡◌, ◌∙◌, ◌<◌, ◌-◌, true, List, [], ◌∷◌, ◌++◌, Option, Some, None, length, map, slice_get, take, inl, inr, refl, sym, ap, ap₂, subst, arith, append_assoc, append-nil, length-append}
+use Rattle.std.specs.List.{Contains}
 use Rattle.std.specs.Option.{option_map_or}
 use Rattle.std.specs.Ordering.{is_lt}
-use Rattle.std.specs.declared.cmp.Ordering.{Ordering}
 use Rattle.std.specs.declared.cmp.Ordering.TheVariants.{Less}
 use Rattle.std.proofs.Math.Seq.{take-append_seam}
-use Rattle.std.proofs.lemmas.List.Elements.{filter_map-append}
+use Rattle.std.proofs.lemmas.List.Elements.{Contains-append_left, filter_map-append}
 use Rattle.bolt_report.specs.JsonReadings.{IsMemberOfBytes}
-use Rattle.bolt_report.specs.ListLines.{listing_text, member_line}
+use Rattle.bolt_report.specs.ListLines.{listing_text}
 use Rattle.bolt_check.specs.Keys.{Key}
 use Rattle.bolt_tree.specs.Entries.{Bucket, Item, Value}
 use Rattle.bolt_tree.specs.Listing.{Member, member_cmp}
@@ -19,7 +18,6 @@ use Rattle.bolt_tree.specs.Tree.{Tree, end, listing_below, listing_of, tree_of, 
 use Rattle.bolt_tree.proofs.ListLemmas.{Has, at_has, contains_from_has, has_left, has_right}
 use Rattle.bolt_layout.specs.Copies.{IsOfOneTree}
 use Rattle.bolt_layout.specs.Storable.{HasLengths}
-use Rattle.bolt_layout.proofs.FileTrees.{rises_left}
 use Rattle.bolt_load.specs.LineFaults.{IsListingText, RightAfter, is_above_last, line_fault, path_above, place_fault}
 use Rattle.bolt_load.specs.LineMembers.{line_member, members_in, text_members}
 use Rattle.bolt_load.specs.Lines.{Text, lines_of}
@@ -54,6 +52,10 @@ rises_after [] member after rises other has = absurd has
 rises_after (first ∷ before) member after rises other (inl same) =
     subst (λ (m : Member). path_cmp m.0 member.0 ≡ Less) same (rises.0 member (contains_from_has (before ++ member ∷ after) member (has_right before (member ∷ after) member (inl refl))))
 rises_after (first ∷ before) member after rises other (inr has) = rises_after before member after rises.1 other has
+
+rises_front : (xs ys : List Member) → Rises member_cmp (xs ++ ys) → Rises member_cmp xs
+rises_front [] ys rises = tt
+rises_front (x ∷ xs) ys rises = (λ y has. rises.0 y (Contains-append_left xs ys y has), rises_front xs ys rises.1)
 
 above_last : (before : List Member) (path : Path) → ((other : Member) → Has before other → path_cmp other.0 path ≡ Less) → is_above_last before path ≡ true
 above_last before path below = at (slice_get before (length before - 1)) refl
@@ -126,7 +128,7 @@ module _ (before : List Member) (front : Path) (key : Key) (item : Item) (rest :
 members_back : (front : Path) (tree : Tree) → IsPlain front tree → members_in (map member_words (listing_below front tree)) ≡ listing_below front tree
 members_back front end plain = refl
 members_back front (with_value key value after) plain =
-    let fits = (push_key front key plain.keys (plain.lengths.0, tt), plain.lengths.1) in
+    let fits : FitsMember (front ++ key ∷ [], Value value) = (push_key front key plain.keys (plain.lengths.0, tt), plain.lengths.1) in
     told_first [] front key (Value value) [] fits (plain.good (front ++ key ∷ [], Value value) (inl refl)) (listing_below front after)
     (members_back front after (record { keys = plain.keys; lengths = plain.lengths.2; good = later_good _ (listing_below front after) plain.good }))
 members_back front (with_bucket key sequence inside after) plain =
@@ -146,7 +148,7 @@ right_below before front end plain has rises = tt
 right_below before front (with_value key value after) plain has rises =
     let own : Member = (front ++ key ∷ [], Value value) in
     let behind : List Member = listing_below front after in
-    let fits = (push_key front key plain.keys (plain.lengths.0, tt), plain.lengths.1) in
+    let fits : FitsMember (front ++ key ∷ [], Value value) = (push_key front key plain.keys (plain.lengths.0, tt), plain.lengths.1) in
     let good = plain.good own (inl refl) in
     let alone = told_alone before front key (Value value) behind fits good in (
       first_right before front key (Value value) behind fits good rises has,
@@ -159,14 +161,14 @@ right_below before front (with_bucket key sequence inside after) plain has rises
     let deep : List Member = listing_below (front ++ key ∷ []) inside in
     let behind : List Member = listing_below front after in
     let keys = push_key front key plain.keys (plain.lengths.0, tt) in
-    let fits = (keys, plain.lengths.1) in
+    let fits : FitsMember (front ++ key ∷ [], Bucket sequence) = (keys, plain.lengths.1) in
     let good = plain.good own (inl refl) in
     let alone = told_alone before front key (Bucket sequence) (deep ++ behind) fits good in
     let plain_inside : IsPlain (front ++ key ∷ []) inside = record { keys = keys; lengths = plain.lengths.2; good = λ member has. plain.good member (inr (has_left deep behind member has)) } in
     let plain_after : IsPlain front after = record { keys = plain.keys; lengths = plain.lengths.3; good = λ member has. plain.good member (inr (has_right deep behind member has)) } in
     let now : List Member = before ++ own ∷ [] in
     let whole : Rises member_cmp (now ++ (deep ++ behind)) = subst (Rises member_cmp) (sym (append_assoc before (own ∷ []) (deep ++ behind))) rises in
-    let within : Rises member_cmp (now ++ deep) = rises_left member_cmp (now ++ deep) behind (subst (Rises member_cmp) (sym (append_assoc now deep behind)) whole) in
+    let within : Rises member_cmp (now ++ deep) = rises_front (now ++ deep) behind (subst (Rises member_cmp) (sym (append_assoc now deep behind)) whole) in
     let right_inside = right_below now (front ++ key ∷ []) inside plain_inside (has_new (front ++ key ∷ []) (Bucket sequence) before refl) within in
     let right_later = right_below (now ++ deep) front after plain_after (has_more front now deep (has_more front before (own ∷ []) has)) (subst (Rises member_cmp) (sym (append_assoc now deep behind)) whole) in (
       first_right before front key (Bucket sequence) (deep ++ behind) fits good rises has,

@@ -1,11 +1,11 @@
 -- What a right text tells can be stored: its keys and its values have lengths that the format allows, and its sequences have 64 bits.
-use Rattle.std.proofs.Common.{◌≡◌, ◌∙◌, ◌==◌, ◌<◌, ◌≤◌, ◌^◌, ℕ, Bool, true, false, List, [], ◌∷◌, ◌++◌, Option, Some, None, length, inl, inr, refl, sym, ap, subst, arith}
+use Rattle.std.proofs.Common.{◌≡◌, ◌∙◌, ◌==◌, ◌≤◌, ℕ, false, List, [], ◌∷◌, ◌++◌, Option, Some, None, length, inl, inr, refl, sym, ap, subst, arith}
 use Rattle.std.specs.List.{list_any, slice_split}
-use Rattle.std.specs.Option.{option_map_or, option_or}
-use Rattle.std.specs.Prelude.{if◌then◌else◌, nat_lt, option_and_then, option_map}
+use Rattle.std.specs.Option.{option_map_or}
+use Rattle.std.specs.Prelude.{if◌then◌else◌, option_and_then, option_map}
 use Rattle.std.specs.Str.{bytes_eq}
 use Rattle.std.specs.Prelude.{codes}
-use Rattle.std.proofs.lemmas.Bool.{and_parts, cases_Bool, eqb-false, ltb-false, ltb-true, or_parts}
+use Rattle.std.proofs.lemmas.Bool.{cases_Bool, eqb-false, ltb-false, or_parts}
 use Rattle.bolt_format.specs.ElementLengths.{IsKeyLength}
 use Rattle.bolt_check.specs.Keys.{Key}
 use Rattle.bolt_tree.specs.Entries.{Bucket, Item, Value}
@@ -17,7 +17,7 @@ use Rattle.bolt_load.specs.HexPaths.{hex_bytes_in, hex_path_in, part_in, parts_i
 use Rattle.bolt_load.specs.LineFaults.{IsListingText, RightAfter, is_long_item, is_long_key, length_fault, place_fault, shape_fault}
 use Rattle.bolt_load.specs.LineMembers.{item_in, line_member, member_in, members_in, text_members}
 use Rattle.bolt_load.specs.Lines.{Text, lines_of}
-use Rattle.bolt_load.specs.Numbers.{decimal_value, is_number, number_in}
+use Rattle.bolt_load.specs.Numbers.{number_in}
 use Rattle.bolt_load.specs.declared.fault.LineFault.{LineFault}
 use Rattle.bolt_load.specs.declared.fault.LineFault.TheVariants.{KeyTooLong, ValueTooLong}
 use Rattle.bolt_load.proofs.DecimalNumbers.{number_is}
@@ -75,10 +75,10 @@ none_some item is = cc
 
 item_fits : (mark word : Text) (item : Item) → item_in mark word ≡ Some item → is_long_item item ≡ false → IsFitItem item
 item_fits mark word item is short = elim (cases_Bool (bytes_eq mark (codes "="))) [
-  | inl yes ↦ value_fits (hex_bytes_in word) item (rw yes at is) short
-  | inr no ↦ elim (cases_Bool (bytes_eq mark (codes "bucket"))) [
-    | inl yes ↦ sequence_fits word item (rw (no, yes) at is)
-    | inr none ↦ absurd (none_some item (rw (no, none) at is))
+  | inl value ↦ value_fits (hex_bytes_in word) item (rw value at is) short
+  | inr other ↦ elim (cases_Bool (bytes_eq mark (codes "bucket"))) [
+    | inl bucket ↦ sequence_fits word item (rw (other, bucket) at is)
+    | inr none ↦ absurd (none_some item (rw (other, none) at is))
   ]
 ]
 
@@ -107,16 +107,17 @@ line_fits line member shaped is =
 
 -- ---- the members of all lines
 
+first_or_later : (first : Member) (later : List Member) (member : Member) → FitsMember first → (Has later member → FitsMember member) → Has (first ∷ later) member → FitsMember member
+first_or_later first later member fits others (inl same) = subst FitsMember same fits
+first_or_later first later member fits others (inr has) = others has
+
 lines_fit : (lines : List Text) (before : List Member) → RightAfter before lines → (member : Member) → Has (members_in lines) member → FitsMember member
 lines_fit [] before right member has = absurd has
 lines_fit (line ∷ lines) before right member has =
     let shaped = (or_parts_none (shape_fault line) (option_and_then (place_fault before) (line_member line)) right.0).0 in
     let told = shaped_member line shaped in
-    at told.0 (line_fits line told.0 shaped told.1) (subst (λ (ms : List Member). Has ms member) (members_first line lines told.0 told.1) has)
-  where
-    at : (first : Member) → FitsMember first → Has (first ∷ members_in lines) member → FitsMember member
-    at first fits (inl same) = subst FitsMember same fits
-    at first fits (inr later) = lines_fit lines (before ++ members_in (line ∷ [])) right.1 member later
+    first_or_later told.0 (members_in lines) member (line_fits line told.0 shaped told.1) (lines_fit lines (before ++ members_in (line ∷ [])) right.1 member)
+    (subst (λ (ms : List Member). Has ms member) (members_first line lines told.0 told.1) has)
 
 -- ---- the listing
 

@@ -1,8 +1,8 @@
 -- The line of a member is read back as that member.
-use Rattle.std.proofs.Common.{◌≡◌, ◌∙◌, ◌==◌, ◌<◌, ◌≤◌, ◌*◌, ◌^◌, ℕ, zero, suc, Bool, true, false, List, [], ◌∷◌, ◌++◌, Option, Some, None, codes, length, map, refl, sym, ap, ap₂, arith, append_assoc}
+use Rattle.std.proofs.Common.{◌≡◌, ◌∙◌, ◌==◌, ◌<◌, ◌≤◌, ◌^◌, ℕ, zero, suc, Bool, true, false, List, [], ◌∷◌, ◌++◌, Option, Some, None, codes, length, map, refl, sym, ap, ap₂, arith, append_assoc}
 use Rattle.std.specs.Char.{is_ascii_digit}
 use Rattle.std.specs.Fmt.{decimal}
-use Rattle.std.specs.List.{All, join_with_byte, list_all, list_any, slice_split}
+use Rattle.std.specs.List.{list_all, list_any, slice_split}
 use Rattle.std.specs.Prelude.{◌/◌, ◌%◌, ◌||◌, if◌then◌else◌, nat_lt, not, option_and_then, option_map, slice_index}
 use Rattle.std.specs.Result.{result_ok}
 use Rattle.std.specs.Str.{all_ascii_digits}
@@ -13,7 +13,7 @@ use Rattle.std.proofs.lemmas.List.Elements.{All-append, All-cons, All-nil}
 use Rattle.std.proofs.lemmas.List.Splits.{slice_split_at, slice_split_none}
 use Rattle.hex.specs.Hex.{IsBytes, encode_lower, encode_with, lower_digits}
 use Rattle.hex.proofs.HexLemmas.{decode_of-encode_lower, length-encode_with}
-use Rattle.bolt_report.specs.JsonReadings.{ArePartsBytes, IsItemOfBytes, IsMemberOfBytes}
+use Rattle.bolt_report.specs.JsonReadings.{ArePartsBytes, IsMemberOfBytes}
 use Rattle.bolt_report.specs.Lines.{line}
 use Rattle.bolt_report.specs.ListLines.{hex_path, item_end, member_line}
 use Rattle.bolt_report.specs.PageLines.{value_end}
@@ -22,7 +22,7 @@ use Rattle.bolt_tree.specs.Entries.{Bucket, Item, Value}
 use Rattle.bolt_tree.specs.Listing.{Member}
 use Rattle.bolt_tree.specs.Paths.{Path}
 use Rattle.bolt_load.specs.HexPaths.{hex_bytes_in, hex_path_in, part_in, parts_in}
-use Rattle.bolt_load.specs.LineFaults.{is_long_item, is_long_key, length_fault, shape_fault}
+use Rattle.bolt_load.specs.LineFaults.{is_long_item, is_long_key, shape_fault}
 use Rattle.bolt_load.specs.LineMembers.{line_member, member_in}
 use Rattle.bolt_load.specs.Lines.{Text}
 use Rattle.bolt_load.specs.Numbers.{number_in}

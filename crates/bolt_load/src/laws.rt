@@ -7,11 +7,12 @@ ghost use Rattle.bolt_report.specs.ListLines.{listing_text};
 ghost use Rattle.bolt_tree.specs.Listing.{IsListing, Member, member_cmp};
 ghost use Rattle.bolt_tree.specs.Order.{Rises};
 ghost use Rattle.bolt_load.specs.ByteMembers.{AreOfBytes};
-ghost use Rattle.bolt_load.specs.LineFaults.{IsListingText};
+ghost use Rattle.bolt_load.specs.LineFaults.{IsFirstFault, IsListingText};
 ghost use Rattle.bolt_load.specs.LineMembers.{text_members};
 ghost use Rattle.bolt_load.specs.Lines.{Text};
+ghost use Rattle.bolt_load.specs.declared.fault.LineFault.{LineFault};
 
-use bolt_layout::laws::a_fit_listing_is_of_one_tree;
+use bolt_layout::laws::{a_fit_listing_is_of_one_tree, held_members_fit};
 
 /// What a text without a fault tells is the listing of exactly one tree, which can be computed from
 /// it and can be stored; and its members rise.
@@ -22,10 +23,17 @@ pub fn a_text_is_of_one_tree()
     a_fit_listing_is_of_one_tree();
 }
 
+/// A text without a fault has no first fault.
+pub fn a_right_text_has_no_first_fault()
+    ensures { (text : Text) (number : ℕ) (fault : LineFault) → IsListingText text → ¬ IsFirstFault text number fault }
+{}
+
 /// A file's listing is of bytes.
 pub fn a_files_listing_is_of_bytes()
     ensures { (file : List ℕ) (meta : Meta) (listing : List Member) → IsBytes file → IsListing file meta listing → AreOfBytes listing }
-{}
+{
+    held_members_fit();
+}
 
 /// The text of a listing that is of one tree, its members rising and of bytes, has no fault, and tells
 /// that listing.
