@@ -195,7 +195,7 @@ LOST_LEAVES = out/lost_leaves.db
 # entries, 200,000 buckets in the root bucket, and 256 MB with values of 100 KB. Then times compact
 # copies of the first and the last of these, of 256 MB that are mostly free pages, and of 50,000 buckets
 # one within another; and what is recovered of the first, also with a thousand lost leaves. All have
-# pages of 4,096 bytes, as bbolt makes them on most machines. If Go and bbolt's source are there, bbolt's
+# pages of 4,096 bytes, as bbolt makes them on most machines. Listings of the first and of the third are loaded. If Go and bbolt's source are there, bbolt's
 # library does the same on the first two.
 bench: $(PROGRAM) $(LARGE) $(WIDE) $(LONG) $(SPARSE) $(VERY_DEEP) $(LOST_LEAVES)
 	python3 -B tools/bench/time_commands.py $(PROGRAM) $(LARGE) info check buckets pages stats list \
@@ -203,6 +203,7 @@ bench: $(PROGRAM) $(LARGE) $(WIDE) $(LONG) $(SPARSE) $(VERY_DEEP) $(LOST_LEAVES)
 	python3 -B tools/bench/time_commands.py $(PROGRAM) $(WIDE) info check buckets pages stats list
 	python3 -B tools/bench/time_commands.py $(PROGRAM) $(LONG) info check buckets pages stats list
 	python3 -B tools/bench/time_copies.py $(PROGRAM) $(LARGE) $(LONG) $(SPARSE) $(VERY_DEEP)
+	python3 -B tools/bench/time_loads.py $(PROGRAM) $(LARGE) $(LONG)
 	python3 -B tools/bench/time_recovery.py $(PROGRAM) $(LARGE) $(LOST_LEAVES) 1000
 	tools/bbolt/build.sh
 	if test -x $(BBOLT); then python3 -B tools/bench/compare_bbolt.py $(PROGRAM) $(BBOLT) $(LARGE) bucket-0 \
