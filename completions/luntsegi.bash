@@ -3,14 +3,14 @@
 # The options of a command, except those of help.
 _luntsegi_options() {
     case $1 in
-        info) echo --meta ;;
+        info) echo --form --meta ;;
         page) echo --assume-meta ;;
         pages) echo --map ;;
         check) echo --all --lost-and-found --etcd-snapshot --meta --assume-meta ;;
         buckets) echo --sizes --form --parts --meta --assume-meta ;;
         keys) echo --prefix --form --parts --meta --assume-meta ;;
         get) echo --no-newline -n --form --parts --meta --assume-meta ;;
-        stats) echo --parts --meta --assume-meta ;;
+        stats) echo --form --parts --meta --assume-meta ;;
         list) echo --from --form --parts --recover --meta --assume-meta ;;
         compact) echo -o --page-size --for-bbolt --etcd-snapshot --recover --meta --assume-meta ;;
         load) echo -o --page-size --for-bbolt --etcd-snapshot --sequence ;;
@@ -20,8 +20,9 @@ _luntsegi_options() {
 # The values of a command's option that has only a few. The value of -o is completed as a file name.
 _luntsegi_values() {
     case "$1 $2" in
-        "list --form") echo hex json ;;
-        *" --form") echo printable hex bytes text json ;;
+        "list --form") echo hex json json-hex ;;
+        "info --form" | "stats --form") echo lines json ;;
+        *" --form") echo printable hex bytes text mixed json json-hex ;;
         *" --parts") echo text hex mixed ;;
         *" --meta") echo 0 1 ;;
     esac

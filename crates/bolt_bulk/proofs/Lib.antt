@@ -12,6 +12,7 @@ mod HeldPasses
 mod HeldPuts
 mod HeldRuns
 mod HeldSteps
+mod JoinedFits
 mod KeptRuns
 mod LeafPuts
 mod LimitLemmas
@@ -31,4 +32,3 @@ mod RunEnds
 mod RunLemmas
 mod Tables
 mod WalkLeft
-mod WholeWalks

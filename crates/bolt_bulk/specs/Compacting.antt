@@ -8,8 +8,6 @@ use Rattle.bolt_check.specs.declared.checked_file.Checked.{Checked}
 use Rattle.bolt_tree.specs.Listing.{Member}
 use Rattle.bolt_tree.specs.Tree.{tree_of}
 use Rattle.bolt_layout.specs.Copies.{layout_of_listing}
-use Rattle.bolt_recover.specs.Recoveries.{recovery_meta}
-use Rattle.bolt_recover.specs.declared.recovery.Recovery.{Recovery}
 use Rattle.bolt_layout.specs.Layout.{layout_mark, layout_root}
 use Rattle.bolt_bulk.specs.declared.fault.BulkFault.{BulkFault}
 use Rattle.bolt_bulk.specs.declared.fault.BulkFault.TheVariants as bulk
@@ -22,10 +20,6 @@ use Rattle.bolt_layout.specs.declared.layout.Layout.{Layout}
 -- the layout that a copy of a checked file has
 abbrev pub layout_for : Layout → Checked → (page_size : ℕ) → List Member → List ℕ
 layout_for which checked page_size listing = layout_of_listing which page_size listing (meta_of checked).root_sequence
-
--- and a copy of what is recovered of a file
-abbrev pub layout_recovered : Layout → Recovery → (page_size : ℕ) → List Member → List ℕ
-layout_recovered which recovery page_size listing = layout_of_listing which page_size listing (recovery_meta recovery).root_sequence
 
 -- a layout has fewer bytes than this
 abbrev pub too_many : ℕ

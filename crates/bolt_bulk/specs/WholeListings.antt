@@ -1,7 +1,16 @@
 -- What a copy is made of: all members of a listing that has one layout.
 use Rattle.std.specs.Prelude.{◌≡◌, ◌↔◌, List}
-use Rattle.bolt_tree.specs.Listing.{Member}
+use Rattle.bolt_check.specs.CheckedFiles.{bytes_of, meta_of}
 use Rattle.bolt_layout.specs.Copies.{IsOfOneTree}
+use Rattle.bolt_recover.specs.Joined.{IsJoined}
+use Rattle.bolt_recover.specs.JoinedMembers.{joined_file, joined_left, joined_meta}
+use Rattle.bolt_recover.specs.Recovered.{IsRecovered}
+use Rattle.bolt_recover.specs.Recoveries.{recovery_file, recovery_left, recovery_meta}
+use Rattle.bolt_recover.specs.declared.joined.Joined.{Joined}
+use Rattle.bolt_recover.specs.declared.recovery.Recovery.{Recovery}
+use Rattle.bolt_tree.specs.Listing.{IsListing, Member}
+use Rattle.bolt_tree.specs.Walks.{left_of, walk_checked}
+use Rattle.bolt_tree.specs.declared.walk.Walk.{Walk}
 
 -- There is a listing; all its members are left, and it is that of one tree.
 pub record IsWhole {M : Type 0} (lists : M → List Member → Type 0) (left : M → List Member → List Member) (members : M) : Type 0 where
@@ -14,3 +23,15 @@ pub record IsAgain {M : Type 0} (lists : M → List Member → Type 0) (left : M
   pub listing : (listing : List Member) → lists new listing ↔ lists old listing
   pub all : (listing : List Member) → lists old listing → left new listing ≡ listing
   pub same_end : (end : M) → ends_as new end → ends_as old end
+
+-- all members of a sound file
+abbrev pub IsWholeWalk : Walk → Type 0
+IsWholeWalk walk = IsWhole (λ (w : Walk) (listing : List Member). IsListing (bytes_of (walk_checked w)) (meta_of (walk_checked w)) listing) (λ (w : Walk) (listing : List Member). left_of w listing) walk
+
+-- all that is recovered of a damaged one
+abbrev pub IsWholeRecovery : Recovery → Type 0
+IsWholeRecovery recovery = IsWhole (λ (r : Recovery) (listing : List Member). IsRecovered (recovery_file r) (recovery_meta r) listing) (λ (r : Recovery) (listing : List Member). recovery_left r listing) recovery
+
+-- and that with what is found of it
+abbrev pub IsWholeJoined : Joined → Type 0
+IsWholeJoined joined = IsWhole (λ (j : Joined) (listing : List Member). IsJoined (joined_file j) (joined_meta j) listing) (λ (j : Joined) (listing : List Member). joined_left j listing) joined

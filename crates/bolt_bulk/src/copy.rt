@@ -1,26 +1,23 @@
-//! The compact copy of a sound file, or of what a damaged one still holds.
+//! The compact copy of a sound file.
 ghost use Rattle.std.specs.Prelude.{◌≡◌, ◌<◌, ◌≤◌, IfOk, OnOk, length};
 ghost use Rattle.bolt_check.specs.CheckedFiles.{meta_of};
 ghost use Rattle.bolt_format.specs.Metas.{IsPageSize};
-ghost use Rattle.bolt_recover.specs.Recovered.{ForRecovered};
-ghost use Rattle.bolt_recover.specs.Recoveries.{ForLosses, recovery_file, recovery_left, recovery_losses, recovery_meta};
 ghost use Rattle.bolt_tree.specs.FileListings.{ForListing};
 ghost use Rattle.bolt_tree.specs.Tree.{tree_of};
-ghost use Rattle.bolt_bulk.specs.Compacting.{Copies, Plans, layout_for, layout_recovered, too_many};
+ghost use Rattle.bolt_bulk.specs.Compacting.{Copies, Plans, layout_for, too_many};
 ghost use Rattle.bolt_layout.specs.Copies.{IsSoundCopy, RefusesPrefixes};
 ghost use Rattle.bolt_layout.specs.Held.{most_held};
 ghost use Rattle.bolt_layout.specs.Layout.{layout_held, layout_root};
 ghost use Rattle.bolt_layout.specs.declared.layout.Layout.TheVariants.{Plain};
 
 use crate::fault::{BulkFault, PlanFault};
-use crate::file_laws::{file_is_of_one_tree, recovered_is_of_one_tree};
+use crate::laws::a_walk_is_whole;
 use crate::members_copy::{compact_members, plan_members};
 use crate::outcome::{Done, Plan};
 use crate::shape::Shape;
 use bolt_check::Checked;
 use bolt_format::Sink;
 use bolt_layout::Layout;
-use bolt_recover::Recovery;
 use bolt_tree::Walk;
 use std::alloc::Global;
 
@@ -41,13 +38,14 @@ pub fn plan_as(
     requires { IsPageSize page_size }
     ensures { ForListing checked.entry (λ listing. Plans layout page_size (meta_of checked.entry).root_sequence listing result) }
 {
-    file_is_of_one_tree(&checked);
     let shape = Shape {
         layout,
         page_size,
         sequence: checked.meta().root_sequence,
     };
-    plan_members(alloc, &mut Walk::new(alloc, checked), &shape)
+    let mut walk = Walk::new(alloc, checked);
+    a_walk_is_whole(&walk);
+    plan_members(alloc, &mut walk, &shape)
 }
 
 /// Returns where a copy in the plain layout will have its root page and its high-water mark:
@@ -88,13 +86,14 @@ pub fn compact_as<S: Sink>(
     ensures bounded { IfOk result (λ done. ForListing checked.entry (λ listing. done.held ≤ most_held page_size listing)) }
     ensures prefixes { ForListing checked.entry (λ listing. length (layout_for layout checked.entry page_size listing) < too_many → ∥ RefusesPrefixes (layout_for layout checked.entry page_size listing) (layout_root layout page_size (tree_of listing)) ∥₁) }
 {
-    file_is_of_one_tree(&checked);
     let shape = Shape {
         layout,
         page_size,
         sequence: checked.meta().root_sequence,
     };
-    compact_members(alloc, &mut Walk::new(alloc, checked), &shape, sink)
+    let mut walk = Walk::new(alloc, checked);
+    a_walk_is_whole(&walk);
+    compact_members(alloc, &mut walk, &shape, sink)
 }
 
 /// Writes the compact copy of a file in the plain layout: `compact_as` for that layout.
@@ -116,38 +115,4 @@ pub fn compact<S: Sink>(
     ensures prefixes { ForListing checked.entry (λ listing. length (layout_for Plain checked.entry page_size listing) < too_many → ∥ RefusesPrefixes (layout_for Plain checked.entry page_size listing) (layout_root Plain page_size (tree_of listing)) ∥₁) }
 {
     compact_as(alloc, checked, Layout::Plain, page_size, sink)
-}
-
-/// Writes the compact copy of what is recovered of a damaged file: the one layout of the recovered
-/// listing (docs/RECOVERY.md), written as `compact_as` writes that of a sound file. The recovery
-/// must not have returned anything yet. It begins again after each pass, in the same table. After
-/// `Ok` it has reported all losses.
-///
-/// # Errors
-///
-/// Those of `compact_as`.
-pub fn compact_recovered<S: Sink>(
-    alloc: Global,
-    recovery: &mut Recovery<'_>,
-    layout: Layout,
-    page_size: u64,
-    sink: &mut S,
-) -> Result<Done, BulkFault>
-    requires size { IsPageSize page_size }
-    requires fresh { ForRecovered (recovery_file recovery.old) (recovery_meta recovery.old) (λ listing. recovery_left recovery.old listing ≡ listing) }
-    ensures copied { ForRecovered (recovery_file recovery.old) (recovery_meta recovery.old) (λ listing. Copies S.taken S.failed sink.old sink.new (layout_recovered layout recovery.old page_size listing) result) }
-    ensures accepted { OnOk result (ForRecovered (recovery_file recovery.old) (recovery_meta recovery.old) (λ listing. ∥ IsSoundCopy layout page_size (tree_of listing) (recovery_meta recovery.old).root_sequence listing ∥₁)) }
-    ensures held { IfOk result (λ done. ForRecovered (recovery_file recovery.old) (recovery_meta recovery.old) (λ listing. done.held ≡ layout_held layout page_size (tree_of listing))) }
-    ensures bounded { IfOk result (λ done. ForRecovered (recovery_file recovery.old) (recovery_meta recovery.old) (λ listing. done.held ≤ most_held page_size listing)) }
-    ensures losses { OnOk result (ForLosses (recovery_file recovery.old) (recovery_meta recovery.old) (λ losses. recovery_losses recovery.new ≡ losses)) }
-    ensures prefixes { ForRecovered (recovery_file recovery.old) (recovery_meta recovery.old) (λ listing. length (layout_recovered layout recovery.old page_size listing) < too_many
-        → ∥ RefusesPrefixes (layout_recovered layout recovery.old page_size listing) (layout_root layout page_size (tree_of listing)) ∥₁) }
-{
-    recovered_is_of_one_tree(recovery);
-    let shape = Shape {
-        layout,
-        page_size,
-        sequence: recovery.meta().root_sequence,
-    };
-    compact_members(alloc, recovery, &shape, sink)
 }

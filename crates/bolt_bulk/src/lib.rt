@@ -17,6 +17,7 @@ mod file_laws;
 mod first_pages;
 mod headers;
 mod held;
+pub mod laws;
 mod leaf_page;
 mod leaf_run;
 mod limits;
@@ -33,7 +34,7 @@ mod shape;
 mod upper_runs;
 mod waiting_bucket;
 
-pub use copy::{compact, compact_as, compact_recovered, plan, plan_as};
+pub use copy::{compact, compact_as, plan, plan_as};
 pub use fault::{BulkFault, PlanFault};
 pub use members_copy::compact_members;
 pub use outcome::{Done, Plan};

@@ -14,6 +14,7 @@ pub mod ListAnswers
 pub mod ListedBuckets
 pub mod ListedLoads
 pub mod LossAnswers
+pub mod MixedParts
 pub mod NeededBytes
 pub mod Ordering
 pub mod PageAnswers

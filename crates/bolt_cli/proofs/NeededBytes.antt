@@ -4,6 +4,7 @@ use Rattle.bolt_format.specs.Metas.{HasMetaFault, HasSlotFault, IsChosen, IsInSl
 use Rattle.bolt_format.specs.declared.meta.Meta.{Meta}
 use Rattle.bolt_format.specs.declared.meta.MetaFault.{MetaFault}
 use Rattle.bolt_format.specs.declared.meta.Slot.{Slot}
+use Rattle.bolt_report.specs.declared.form.FigureForm.{FigureForm}
 use Rattle.bolt_cli.specs.Answers.{Answer, DoesJob, Ending, IsInfoAnswer}
 use Rattle.bolt_cli.specs.Needs.{needs_metas_alone}
 use Rattle.bolt_cli.specs.declared.job.Job.{Job}
@@ -16,11 +17,11 @@ pub record SameMetas (file other : List ℕ) : Type 0 where
   pub fault : (fault : MetaFault) → HasMetaFault file 0 fault ↔ HasMetaFault other 0 fault
   pub slot_fault : (slot : Slot) (fault : MetaFault) → HasSlotFault file slot fault ↔ HasSlotFault other slot fault
 
-answer_there : (file other : List ℕ) (wanted : Option Slot) (answer : Answer) → SameMetas file other → IsInfoAnswer file wanted answer → IsInfoAnswer other wanted answer
-answer_there file other None answer s (inl (slot, meta, chosen, is)) = inl (slot, meta, (s.chosen slot meta).0 chosen, is)
-answer_there file other (Some named) answer s (inl (slot, meta, (same, lies), is)) = inl (slot, meta, (same, (s.slot named meta).0 lies), is)
-answer_there file other None answer s (inr (fault, (has, none), is)) = inr (fault, ((s.fault fault).0 has, λ slot meta valid. none slot meta ((s.slot slot meta).1 valid)), is)
-answer_there file other (Some named) answer s (inr (fault, (has, none), is)) = inr (fault, ((s.slot_fault named fault).0 has, λ meta valid. none meta ((s.slot named meta).1 valid)), is)
+answer_there : (file other : List ℕ) (wanted : Option Slot) (form : FigureForm) (answer : Answer) → SameMetas file other → IsInfoAnswer file wanted form answer → IsInfoAnswer other wanted form answer
+answer_there file other None form answer s (inl (slot, meta, chosen, is)) = inl (slot, meta, (s.chosen slot meta).0 chosen, is)
+answer_there file other (Some named) form answer s (inl (slot, meta, (same, lies), is)) = inl (slot, meta, (same, (s.slot named meta).0 lies), is)
+answer_there file other None form answer s (inr (fault, (has, none), is)) = inr (fault, ((s.fault fault).0 has, λ slot meta valid. none slot meta ((s.slot slot meta).1 valid)), is)
+answer_there file other (Some named) form answer s (inr (fault, (has, none), is)) = inr (fault, ((s.slot_fault named fault).0 has, λ meta valid. none meta ((s.slot named meta).1 valid)), is)
 
 back : (file other : List ℕ) → SameMetas file other → SameMetas other file
 back file other s = record {
@@ -36,8 +37,8 @@ module _ {O T : Type 0} (out_taken : O → Option (List ℕ)) (out_failed : O �
       → DoesJob out_taken out_failed out_old out_new target_taken target_failed target_old target_new part j ending
       ↔ DoesJob out_taken out_failed out_old out_new target_taken target_failed target_old target_new file j ending
   enough (job.Info j) is out_old out_new target_old target_new ending = (
-    (λ h. (h.0, answer_there part file j.slot h.0 same h.1, h.2, h.3)),
-    (λ h. (h.0, answer_there file part j.slot h.0 (back part file same) h.1, h.2, h.3)),
+    (λ h. (h.0, answer_there part file j.slot j.form h.0 same h.1, h.2, h.3)),
+    (λ h. (h.0, answer_there file part j.slot j.form h.0 (back part file same) h.1, h.2, h.3)),
   )
   enough (job.Page j) is out_old out_new target_old target_new ending = absurd (cc)
   enough (job.Pages j) is out_old out_new target_old target_new ending = absurd (cc)

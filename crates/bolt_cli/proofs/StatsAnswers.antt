@@ -17,6 +17,7 @@ use Rattle.bolt_tree.proofs.Leaving.{the_entries}
 use Rattle.bolt_tree.proofs.Named.{entry_once}
 use Rattle.bolt_report.specs.Figures.{add_stats}
 use Rattle.bolt_report.specs.StatsOf.{IsStatsOf}
+use Rattle.bolt_report.specs.declared.form.FigureForm.{FigureForm}
 use Rattle.bolt_report.specs.declared.statistics.Stats.{Stats}
 use Rattle.bolt_tree.specs.Paths.{Path}
 use Rattle.bolt_check.specs.Sound.{HasSoundTrees}
@@ -116,8 +117,8 @@ bucket_stats (part ∷ path) checked bucket own some is named stats =
     (bucket_start bucket, ∥∥₁_elim named (hlevel props) (λ led. ∥∥₁_map its_stats (λ are. (led, are))))
 
 -- why there are none
-pub stats_missing : (checked : Checked) (path : Path) (reason : Failure)
+pub stats_missing : (checked : Checked) (path : Path) (form : FigureForm) (reason : Failure)
     → (reason ≡ failure.Memory) ⊎ ((reason ≡ failure.NoBucket) × ((bucket : Start) → LeadsTo (bytes_of checked) (meta_of checked) path bucket → ⊥))
-    → IsStatsAnswer (bytes_of checked) path (meta_of checked) (refused reason)
-stats_missing checked path reason (inl full) = inr (inr (ap refused full))
-stats_missing checked path reason (inr (is, nowhere)) = inr (inl (nowhere, ap refused is))
+    → IsStatsAnswer (bytes_of checked) path form (meta_of checked) (refused reason)
+stats_missing checked path form reason (inl full) = inr (inr (ap refused full))
+stats_missing checked path form reason (inr (is, nowhere)) = inr (inl (nowhere, ap refused is))

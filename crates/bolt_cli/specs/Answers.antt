@@ -40,6 +40,7 @@ use Rattle.bolt_report.specs.PageTexts.{page_text, page_text_fault}
 use Rattle.bolt_report.specs.SizeLines.{AreSized, Sized, sizes_text}
 use Rattle.bolt_report.specs.StatsOf.{IsStatsOf}
 use Rattle.bolt_report.specs.declared.statistics.Stats.{Stats}
+use Rattle.bolt_report.specs.declared.form.FigureForm.{FigureForm}
 use Rattle.bolt_report.specs.declared.form.Form.{Form}
 use Rattle.bolt_report.specs.declared.form.Form.TheVariants.{Json}
 use Rattle.bolt_report.specs.declared.form.ListForm.{ListForm}
@@ -97,9 +98,9 @@ abbrev pub HasNoMeta : List ℕ → Option Slot → MetaFault → Type 0
 HasNoMeta file None fault = HasMetaFault file 0 fault × ((slot : Slot) (meta : Meta) → IsInSlot file slot meta → ⊥)
 HasNoMeta file (Some slot) fault = HasSlotFault file slot fault × ((meta : Meta) → IsInSlot file slot meta → ⊥)
 
-abbrev pub IsInfoAnswer : List ℕ → Option Slot → Answer → Type 0
-IsInfoAnswer file wanted answer =
-    ((slot : Slot) × (meta : Meta) × IsShownMeta file wanted slot meta × (answer ≡ done (info_text slot meta)))
+abbrev pub IsInfoAnswer : List ℕ → Option Slot → FigureForm → Answer → Type 0
+IsInfoAnswer file wanted form answer =
+    ((slot : Slot) × (meta : Meta) × IsShownMeta file wanted slot meta × (answer ≡ done (info_text form slot meta)))
     ⊎ ((fault : MetaFault) × HasNoMeta file wanted fault × (answer ≡ refused (failure.Metas fault)))
 
 abbrev pub IsPageAnswer : List ℕ → MetaChoice → ℕ → Answer → Type 0
@@ -244,9 +245,9 @@ HasStats file [] meta stats =
 HasStats file (part ∷ path) meta stats = (bucket : Start) × ∥ LeadsTo file meta (part ∷ path) bucket × IsStatsOf file meta bucket stats ∥₁
 
 -- the figures; or the path leads to no bucket; or memory ran out before anything was written
-abbrev pub IsStatsAnswer : List ℕ → Path → Meta → Answer → Type 0
-IsStatsAnswer file path meta answer =
-    ((stats : Stats) × HasStats file path meta stats × (answer ≡ done (stats_text stats)))
+abbrev pub IsStatsAnswer : List ℕ → Path → FigureForm → Meta → Answer → Type 0
+IsStatsAnswer file path form meta answer =
+    ((stats : Stats) × HasStats file path meta stats × (answer ≡ done (stats_text form stats)))
     ⊎ (((bucket : Start) → LeadsTo file meta path bucket → ⊥) × (answer ≡ refused failure.NoBucket))
     ⊎ (answer ≡ refused failure.Memory)
 
@@ -483,12 +484,12 @@ module _ {O T : Type 0} (out_taken : O → Option (List ℕ)) (out_failed : O �
 
   -- what a job does, and how it ends
   abbrev pub DoesJob : List ℕ → Job → Ending → Type 0
-  DoesJob file (job.Info j) = Prints (IsInfoAnswer file j.slot)
+  DoesJob file (job.Info j) = Prints (IsInfoAnswer file j.slot j.form)
   DoesJob file (job.Page j) = Prints (IsPageAnswer file j.meta j.id)
   DoesJob file (job.Pages j) = Prints (IsCheckedAnswer file (IsPagesAnswer file j.map) IsFileRefusal)
   DoesJob file (job.Check j) = Prints (IsCheckAnswer j.extent j.snapshot file j.meta)
   DoesJob file (job.Buckets j) = Prints (IsReadAnswer file j.meta (IsBucketsAnswer file (path_in j.path.items) j.form j.sizes))
-  DoesJob file (job.Stats j) = Prints (IsReadAnswer file j.meta (IsStatsAnswer file (path_in j.path.items)))
+  DoesJob file (job.Stats j) = Prints (IsReadAnswer file j.meta (IsStatsAnswer file (path_in j.path.items) j.form))
   DoesJob file (job.Keys j) = Prints (IsReadAnswer file j.meta (IsEntriesAnswer file (path_in j.path.items) j.form (λ entries. keys_text j.form (with_prefix j.prefix.items entries))))
   DoesJob file (job.Get j) = Prints (IsReadAnswer file j.meta (IsGetAnswer file (path_in j.path.items) j.form j.no_newline))
   DoesJob file (job.List j) = Prints (IsListedAnswer j.recover file j.meta j.form (path_in j.path.items) (path_in j.from.items))

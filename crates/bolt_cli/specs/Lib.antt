@@ -5,6 +5,7 @@ pub mod CopyKinds
 pub mod Deeds
 pub mod Failures
 pub mod FileFaults
+pub mod FormWords
 pub mod GoodCopies
 pub mod Hashes
 pub mod LineWords

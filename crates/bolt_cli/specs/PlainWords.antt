@@ -8,10 +8,10 @@ use Rattle.bolt_format.specs.Metas.{page_sizes}
 use Rattle.bolt_format.specs.declared.meta.Slot.{Slot}
 use Rattle.bolt_format.specs.declared.meta.Slot.TheVariants.{One, Zero}
 use Rattle.bolt_load.specs.Numbers.{decimal_value, is_number, number_in}
+use Rattle.bolt_report.specs.declared.form.FigureForm.{FigureForm}
 use Rattle.bolt_report.specs.declared.form.Form.{Form}
-use Rattle.bolt_report.specs.declared.form.Form.TheVariants as form
 use Rattle.bolt_report.specs.declared.form.ListForm.{ListForm}
-use Rattle.bolt_report.specs.declared.form.ListForm.TheVariants as list_form
+use Rattle.bolt_cli.specs.FormWords.{figure_form_by, form_by, list_form_by}
 use Rattle.bolt_cli.specs.LineWords.{Choice, Operand, Syntax, Text, both, long, short}
 use Rattle.bolt_cli.specs.PathWords.{each_part, hex_path_by, part_of, parts_by, prefix_of, result_and_then}
 use Rattle.bolt_cli.specs.declared.copy_kind.CopyKind.{CopyKind}
@@ -96,7 +96,7 @@ recover_option = lone_option (codes "recover")
 
 -- the lines of the commands
 abbrev pub info_line : Syntax
-info_line = record { name = codes "info"; operands = file_operand ∷ []; options = meta_option ∷ [] }
+info_line = record { name = codes "info"; operands = file_operand ∷ []; options = form_option ∷ meta_option ∷ [] }
 
 abbrev pub page_line : Syntax
 page_line = record { name = codes "page"; operands = file_operand ∷ id_operand ∷ []; options = assumed_option ∷ [] }
@@ -117,7 +117,7 @@ abbrev pub get_line : Syntax
 get_line = record { name = codes "get"; operands = file_operand ∷ part_operand true ∷ []; options = no_newline_option ∷ form_option ∷ parts_option ∷ meta_option ∷ assumed_option ∷ [] }
 
 abbrev pub stats_line : Syntax
-stats_line = record { name = codes "stats"; operands = file_operand ∷ part_operand false ∷ []; options = parts_option ∷ meta_option ∷ assumed_option ∷ [] }
+stats_line = record { name = codes "stats"; operands = file_operand ∷ part_operand false ∷ []; options = form_option ∷ parts_option ∷ meta_option ∷ assumed_option ∷ [] }
 
 abbrev pub list_line : Syntax
 list_line = record { name = codes "list"; operands = file_operand ∷ part_operand false ∷ []; options = from_option ∷ form_option ∷ parts_option ∷ recover_option ∷ meta_option ∷ assumed_option ∷ [] }
@@ -138,14 +138,14 @@ pub data AskedMeta : Type 0 where
 
 -- a job by its texts, numbers and paths
 pub data Asked : Type 0 where
-  info : Text → Option Slot → Asked
+  info : Text → Option Slot → FigureForm → Asked
   page : Text → AskedMeta → ℕ → Asked
   pages : Text → (map : Bool) → Asked
   check : Text → AskedMeta → Extent → (snapshot : Bool) → Asked
   buckets : Text → AskedMeta → Path → Form → (sizes : Bool) → Asked
   keys : Text → AskedMeta → Path → (prefix : Key) → Form → Asked
   get : Text → AskedMeta → Path → Form → (no_newline : Bool) → Asked
-  stats : Text → AskedMeta → Path → Asked
+  stats : Text → AskedMeta → FigureForm → Path → Asked
   list : Text → AskedMeta → ListForm → (path from : Path) → (recover : Bool) → Asked
   compact : (file : Text) → AskedMeta → (target : Text) → (page_size : Option ℕ) → CopyKind → (recover : Bool) → Asked
   load : (file target : Text) → (sequence page_size : ℕ) → CopyKind → Asked
@@ -165,14 +165,14 @@ meta_in (choice.InSlot slot) = in_slot slot
 meta_in (choice.Assumed meta) = assumed meta.page_size.bytes meta.root
 
 abbrev pub asked_of : Job → Asked
-asked_of (job.Info j) = info (string_bytes j.file) j.slot
+asked_of (job.Info j) = info (string_bytes j.file) j.slot j.form
 asked_of (job.Page j) = page (string_bytes j.file) (meta_in j.meta) j.id
 asked_of (job.Pages j) = pages (string_bytes j.file) j.map
 asked_of (job.Check j) = check (string_bytes j.file) (meta_in j.meta) j.extent j.snapshot
 asked_of (job.Buckets j) = buckets (string_bytes j.file) (meta_in j.meta) (path_in j.path.items) j.form j.sizes
 asked_of (job.Keys j) = keys (string_bytes j.file) (meta_in j.meta) (path_in j.path.items) j.prefix.items j.form
 asked_of (job.Get j) = get (string_bytes j.file) (meta_in j.meta) (path_in j.path.items) j.form j.no_newline
-asked_of (job.Stats j) = stats (string_bytes j.file) (meta_in j.meta) (path_in j.path.items)
+asked_of (job.Stats j) = stats (string_bytes j.file) (meta_in j.meta) j.form (path_in j.path.items)
 asked_of (job.List j) = list (string_bytes j.file) (meta_in j.meta) j.form (path_in j.path.items) (path_in j.from.items) j.recover
 asked_of (job.Compact j) = compact (string_bytes j.file) (meta_in j.meta) (string_bytes j.target) (size_in j.page_size) j.kind j.recover
 asked_of (job.Load j) = load (string_bytes j.file) (string_bytes j.target) j.sequence j.page_size.bytes j.kind
@@ -237,31 +237,6 @@ abbrev pub is_given : Option Text → Bool
 is_given (Some word) = true
 is_given None = false
 
--- a form by its word; without one names are printable
-abbrev pub form_of : Text → Result Form Text
-form_of word =
-    if bytes_eq word (codes "printable") then Ok form.Printable
-    else if bytes_eq word (codes "hex") then Ok form.Hex
-    else if bytes_eq word (codes "bytes") then Ok form.Bytes
-    else if bytes_eq word (codes "text") then Ok form.Text
-    else if bytes_eq word (codes "json") then Ok form.Json
-    else Err (codes "bad form")
-
-abbrev pub form_by : Option Text → Result Form Text
-form_by (Some word) = form_of word
-form_by None = Ok form.Printable
-
--- the form of a listing by its word; without one it is in hexadecimal
-abbrev pub list_form_of : Text → Result ListForm Text
-list_form_of word =
-    if bytes_eq word (codes "hex") then Ok list_form.Hex
-    else if bytes_eq word (codes "json") then Ok list_form.Json
-    else Err (codes "bad form")
-
-abbrev pub list_form_by : Option Text → Result ListForm Text
-list_form_by (Some word) = list_form_of word
-list_form_by None = Ok list_form.Hex
-
 -- the slot of a meta by its word; without one it is that of the active meta
 abbrev pub slot_of : Text → Result Slot Text
 slot_of word =
@@ -295,8 +270,8 @@ abbrev pub meta_by : Values → Result AskedMeta Text
 meta_by values = meta_asked (first_of (values (codes "meta"))) (first_of (values (codes "assume-meta")))
 
 abbrev pub asks_info : Values → Result Asked Text
-asks_info values = result_and_then (λ file. result_and_then (λ slot. Ok (info file slot))
-    (slot_by (first_of (values (codes "meta"))))) (text_by (codes "FILE") values)
+asks_info values = result_and_then (λ file. result_and_then (λ slot. result_and_then (λ form. Ok (info file slot form))
+    (figure_form_by (first_of (values (codes "form"))))) (slot_by (first_of (values (codes "meta"))))) (text_by (codes "FILE") values)
 
 abbrev pub asks_page : Values → Result Asked Text
 asks_page values = result_and_then (λ file. result_and_then (λ meta. result_and_then (λ id. Ok (page file meta id))
@@ -331,8 +306,8 @@ abbrev pub asks_get : Values → Result Asked Text
 asks_get values = asks_at (λ file meta path form. Ok (get file meta path form (is_given (first_of (values (codes "no-newline")))))) values
 
 abbrev pub asks_stats : Values → Result Asked Text
-asks_stats values = result_and_then (λ file. result_and_then (λ meta. result_and_then (λ path. Ok (stats file meta path)) (path_by values))
-    (meta_by values)) (text_by (codes "FILE") values)
+asks_stats values = result_and_then (λ file. result_and_then (λ meta. result_and_then (λ form. result_and_then (λ path. Ok (stats file meta form path)) (path_by values))
+    (figure_form_by (first_of (values (codes "form"))))) (meta_by values)) (text_by (codes "FILE") values)
 
 abbrev pub asks_list : Values → Result Asked Text
 asks_list values = result_and_then (λ file. result_and_then (λ meta. result_and_then (λ form. result_and_then (λ path. result_and_then (λ from.

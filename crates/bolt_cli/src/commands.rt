@@ -98,7 +98,7 @@ const FORM: Choice = Choice {
     name: "form",
     flag: Flag::Long("form"),
     value: Some("F"),
-    help: "How to print names, keys and values: printable (as they are if plain ASCII, otherwise in hex), hex, bytes, text (as they are if UTF-8 without control characters, otherwise in hex) or json [default: printable]",
+    help: "How to print names, keys and values: printable (as they are if plain ASCII, otherwise in hex), hex, bytes, text (as they are if UTF-8 without control characters, otherwise in hex), mixed (as they are if plain ASCII, otherwise in hex after 0x, as --parts mixed reads them), json or json-hex (hex in JSON strings) [default: printable]",
     required: false,
 };
 
@@ -106,7 +106,15 @@ const LIST_FORM: Choice = Choice {
     name: "form",
     flag: Flag::Long("form"),
     value: Some("F"),
-    help: "How to print each line: hex, or json (an object for each line) [default: hex]",
+    help: "How to print each line: hex, json (an object for each line) or json-hex (with hex in its strings) [default: hex]",
+    required: false,
+};
+
+const FIGURE_FORM: Choice = Choice {
+    name: "form",
+    flag: Flag::Long("form"),
+    value: Some("F"),
+    help: "How to print the figures: lines, or json (an object) [default: lines]",
     required: false,
 };
 
@@ -114,7 +122,7 @@ const SIZES: Choice = Choice {
     name: "sizes",
     flag: Flag::Long("sizes"),
     value: None,
-    help: "Before each name, print the bucket's number of keys, its bytes used and its bytes allocated, with all buckets in it",
+    help: "Also print each bucket's number of keys, its bytes used and its bytes allocated, with all buckets in it: before the name, or as JSON in an object with it",
     required: false,
 };
 
@@ -275,7 +283,7 @@ pub(crate) static SYNTAXES: [Syntax; 11] = [
         name: "info",
         about: "Print the active meta: page size, transaction id, root, freelist, high-water mark",
         operands: &[FILE],
-        options: &[INFO_META],
+        options: &[FIGURE_FORM, INFO_META],
         note: None,
     },
     Syntax {
@@ -324,7 +332,7 @@ pub(crate) static SYNTAXES: [Syntax; 11] = [
         name: "stats",
         about: "Print figures of all buckets, or of one and all in it: their number, keys, depth and pages",
         operands: &[FILE, BUCKET_IN],
-        options: &[PARTS, META, ASSUME_META],
+        options: &[FIGURE_FORM, PARTS, META, ASSUME_META],
         note: None,
     },
     Syntax {

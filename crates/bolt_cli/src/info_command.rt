@@ -7,13 +7,13 @@ use crate::job::InfoJob;
 use bolt_format::{Meta, MetaFault, Sink, Slot, choose, slot_meta};
 use bolt_report::info;
 
-/// Writes the lines of the meta in a slot or, without one, of the active meta.
+/// Writes the figures of the meta in a slot or, without one, of the active meta.
 pub(crate) fn print_info<O: Sink>(file: &[u8], job: &InfoJob, out: &mut O) -> Result<u8, Failure>
-    ensures { (answer : Answer) × IsInfoAnswer file.now job.now.slot answer
+    ensures { (answer : Answer) × IsInfoAnswer file.now job.now.slot job.now.form answer
         × Does O.taken O.failed out.old out.new answer result }
 {
     let (slot, meta) = find_meta(file, job.slot)?;
-    info(slot, &meta, out)?;
+    info(slot, &meta, job.form, out)?;
     Ok(0)
 }
 

@@ -5,7 +5,7 @@ use crate::extent::Extent;
 use crate::meta_choice::MetaChoice;
 use crate::page_size::PageSize;
 use bolt_format::Slot;
-use bolt_report::{Form, ListForm};
+use bolt_report::{FigureForm, Form, ListForm};
 
 /// What the words of a command line ask for (docs/COMMANDS.md). Each command has a job of its own.
 #[derive(Debug, Drop)]
@@ -28,6 +28,7 @@ pub enum Job {
 pub struct InfoJob {
     pub file: String,
     pub slot: Option<Slot>,
+    pub form: FigureForm,
 }
 
 /// Print one page.
@@ -63,7 +64,7 @@ pub struct BucketsJob {
     pub meta: MetaChoice,
     pub form: Form,
     pub path: Vec<Vec<u8>>,
-    /// Whether to print the sizes of each before its name.
+    /// Whether to print the sizes of each with its name.
     pub sizes: bool,
 }
 
@@ -73,6 +74,7 @@ pub struct BucketsJob {
 pub struct StatsJob {
     pub file: String,
     pub meta: MetaChoice,
+    pub form: FigureForm,
     pub path: Vec<Vec<u8>>,
 }
 

@@ -6,6 +6,9 @@ ghost use Rattle.bolt_format.specs.Metas.{IsMetasEnd};
 ghost use Rattle.bolt_format.specs.declared.meta.Meta.{Meta};
 ghost use Rattle.bolt_layout.specs.Copies.{IsOfOneTree};
 ghost use Rattle.bolt_layout.specs.declared.layout.Layout.{Layout};
+ghost use Rattle.hex.specs.Hex.{IsBytes};
+ghost use Rattle.bolt_report.specs.Forms.{item_text};
+ghost use Rattle.bolt_report.specs.declared.form.Form.TheVariants as Form;
 ghost use Rattle.bolt_report.specs.declared.form.ListForm.{ListForm};
 ghost use Rattle.bolt_report.specs.declared.form.ListForm.TheVariants as form;
 ghost use Rattle.bolt_tree.specs.Listing.{IsListing, Member};
@@ -14,6 +17,8 @@ ghost use Rattle.bolt_cli.specs.Answers.{Answer, DoesJob, Ending, IsCheckAnswer,
 ghost use Rattle.bolt_cli.specs.GoodCopies.{HasGoodCopies, IsGoodCopy};
 ghost use Rattle.bolt_cli.specs.MetaChoices.{IsMetaOf};
 ghost use Rattle.bolt_cli.specs.Needs.{needs_metas_alone};
+ghost use Rattle.bolt_cli.specs.PathWords.{part_of};
+ghost use Rattle.bolt_cli.specs.declared.parts.Parts.TheVariants as Parts;
 ghost use Rattle.bolt_cli.specs.SnapshotAnswers.{copy_of, hash_differs};
 ghost use Rattle.bolt_cli.specs.declared.extent.Extent.{Extent};
 ghost use Rattle.bolt_cli.specs.declared.failure.Failure.TheVariants as failure;
@@ -48,6 +53,12 @@ pub fn needed_bytes_are_enough<O: Sink, T: Sink>()
 {
     metas_lie_in_a_prefix();
 }
+
+/// What `--form mixed` prints of a key or a value is, as a part under `--parts mixed`, that key or
+/// value.
+pub fn mixed_items_read_back()
+    ensures { (bytes : List ℕ) → IsBytes bytes → part_of Parts.Mixed (item_text Form.Mixed bytes) ≡ Ok bytes }
+{}
 
 /// The copies of a listing that is that of one tree are good: `check` accepts each, hash and all; it
 /// has the same listing; a snapshot has its hash; and each proper prefix is refused, or lacks a part

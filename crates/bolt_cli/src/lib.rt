@@ -12,6 +12,7 @@ mod decimals;
 mod extent;
 mod failure;
 mod file_faults;
+mod form_words;
 mod get_command;
 mod good_copies;
 mod hashing;

@@ -29,12 +29,12 @@ pub(crate) fn print_stats<O: Sink>(
     job: &StatsJob,
     out: &mut O,
 ) -> Result<u8, Failure>
-    ensures { (answer : Answer) × IsReadAnswer file.now job.now.meta (IsStatsAnswer file.now (path_in job.now.path.items)) answer
+    ensures { (answer : Answer) × IsReadAnswer file.now job.now.meta (IsStatsAnswer file.now (path_in job.now.path.items) job.now.form) answer
         × Does O.taken O.failed out.old out.new answer result }
 {
     let checked = open_read(alloc, file, job.meta)?;
     let stats = find_stats(alloc, checked, job.path.as_slice())?;
-    stats_text(&stats, out)?;
+    stats_text(&stats, job.form, out)?;
     Ok(0)
 }
 

@@ -2,11 +2,12 @@
 ghost use Rattle.std.specs.Prelude.{◌≡◌, Err, IfErr, IfOk, MatchOption, MatchResult, None, Ok, Some, codes, map, option_map, string_bytes};
 ghost use Rattle.clap.specs.Words.{fault_of, found_of, kind_of, rows_of, subcommand_rows_of};
 ghost use Rattle.bolt_cli.specs.CommandLine.{Asks, Gives, HasKindOf, IsRefusedBy, asked_by, asked_by_subcommand, program, values_in};
-ghost use Rattle.bolt_cli.specs.PlainWords.{asked, asked_of, asks_buckets, asks_check, asks_compact, asks_get, asks_info, asks_keys, asks_list, asks_load, asks_page, asks_pages, asks_stats, assumed_of, extent_by, first_of, form_by, form_of, copy_kind_by, list_form_by, load_size_by, meta_by, meta_in, number_or, page_id, page_size_by, page_size_of, path_by, path_in, prefix_by, sequence_by, size_in, slot_by, slot_of, text_by};
+ghost use Rattle.bolt_cli.specs.PlainWords.{asked, asked_of, asks_buckets, asks_check, asks_compact, asks_get, asks_info, asks_keys, asks_list, asks_load, asks_page, asks_pages, asks_stats, assumed_of, extent_by, first_of, copy_kind_by, load_size_by, meta_by, meta_in, number_or, page_id, page_size_by, page_size_of, path_by, path_in, prefix_by, sequence_by, size_in, slot_by, slot_of, text_by};
 
 use crate::command_line;
 use crate::copy_kind::CopyKind;
 use crate::extent::Extent;
+use crate::form_words::{read_figure_form, read_form, read_list_form};
 use crate::job::{
     BucketsJob, CheckJob, CompactJob, GetJob, InfoJob, Job, KeysJob, ListJob, LoadJob, PageJob,
     PagesJob, StatsJob,
@@ -17,7 +18,6 @@ use crate::path_words::{read_from, read_parts, read_path, read_prefix};
 use crate::refusal::Refusal;
 use bolt_format::Slot;
 use bolt_load::read_number;
-use bolt_report::{Form, ListForm};
 use clap::error::ErrorKind;
 use clap::{ArgMatches, Error};
 use std::alloc::{AllocError, Global};
@@ -93,6 +93,7 @@ fn read_info(alloc: Global, matches: &ArgMatches<'_>) -> Result<Job, Refusal>
     Ok(Job::Info(InfoJob {
         file: read_text(alloc, matches, "FILE")?,
         slot: read_slot(choice(matches, "meta"))?,
+        form: read_figure_form(choice(matches, "form"))?,
     }))
 }
 
@@ -181,6 +182,7 @@ fn read_stats(alloc: Global, matches: &ArgMatches<'_>) -> Result<Job, Refusal>
     Ok(Job::Stats(StatsJob {
         file: read_text(alloc, matches, "FILE")?,
         meta: read_meta(matches)?,
+        form: read_figure_form(choice(matches, "form"))?,
         path: read_parts_of(alloc, matches)?,
     }))
 }
@@ -378,27 +380,4 @@ fn find_assumed(word: &str) -> Option<AssumedMeta>
         page_size: read_size(page_size)?,
         root: read_number(root.as_bytes())?,
     })
-}
-
-fn read_form(word: Option<&str>) -> Result<Form, Refusal>
-    ensures { Gives (λ form. form) (form_by (option_map (λ text. text.now) word.entry)) result }
-{
-    match word {
-        None | Some("printable") => Ok(Form::Printable),
-        Some("hex") => Ok(Form::Hex),
-        Some("bytes") => Ok(Form::Bytes),
-        Some("text") => Ok(Form::Text),
-        Some("json") => Ok(Form::Json),
-        Some(_) => Err(Refusal::Word("bad form")),
-    }
-}
-
-fn read_list_form(word: Option<&str>) -> Result<ListForm, Refusal>
-    ensures { Gives (λ form. form) (list_form_by (option_map (λ text. text.now) word.entry)) result }
-{
-    match word {
-        None | Some("hex") => Ok(ListForm::Hex),
-        Some("json") => Ok(ListForm::Json),
-        Some(_) => Err(Refusal::Word("bad form")),
-    }
 }

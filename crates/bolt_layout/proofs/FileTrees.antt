@@ -121,9 +121,9 @@ start_good value good = elim (cases_Bool (head_root value == 0)) [
 
 -- what the format says of an entry
 pub record IsGoodEntry (e : LeafElement) : Type 0 where
-  lengths : HasFitLengths e
-  value : e.is_bucket ≡ true → IsBucketValue e.value
-  sequence : e.is_bucket ≡ true → IsBytes e.value
+  pub lengths : HasFitLengths e
+  pub value : e.is_bucket ≡ true → IsBucketValue e.value
+  pub sequence : e.is_bucket ≡ true → IsBytes e.value
 
 not_both : (b : Bool) → b ≡ false → b ≡ true → ⊥
 not_both b e h = cc

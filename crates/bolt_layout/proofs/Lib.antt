@@ -1,6 +1,6 @@
 mod Prefixes
 mod BranchPages
-mod FileTrees
+pub mod FileTrees
 mod FullPages
 mod HeldBounds
 mod Holding

@@ -5,9 +5,9 @@ mod FirstLoss
 mod FoundAll
 mod FoundExists
 mod FoundLemmas
-mod HeldMembers
+pub mod HeldMembers
 mod JoinSteps
-mod JoinedContents
+pub mod JoinedContents
 mod JoinedLemmas
 mod JoinedOrder
 mod Leading
@@ -16,7 +16,7 @@ mod LostWays
 mod NoLeaves
 mod NothingLost
 mod OneRecovered
-mod PageNames
+pub mod PageNames
 mod PlaceFacts
 mod PlaceKeys
 mod Recovering

@@ -27,7 +27,7 @@ same_more : (xs a b : Key) → key_cmp (xs ++ a) (xs ++ b) ≡ key_cmp a b
 same_more [] a b = refl
 same_more (x ∷ xs) a b = rw (tied_itself nat_cmp_total x) (same_more xs a b)
 
-digits_long : (count n : ℕ) → length (last_digits count n) ≡ count
+pub digits_long : (count n : ℕ) → length (last_digits count n) ≡ count
 digits_long zero n = refl
 digits_long (suc count) n = length-append (last_digits count (n / 10)) ((48 + n % 10) ∷ []) ∙ (let long = digits_long count (n / 10) in omega (arith, long))
 

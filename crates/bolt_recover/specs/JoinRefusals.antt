@@ -9,6 +9,6 @@ use Rattle.bolt_recover.specs.declared.joined.JoinFault.TheVariants.{Exists, Mem
 
 -- Why there is none of a file of which these pages are found. Nothing is said of memory.
 abbrev pub IsJoinRefusal : List ℕ → Meta → (found : List ℕ) → JoinFault → Type 0
-IsJoinRefusal file meta found (Root x) = (found ≡ []) × LosesRoot file meta x
+IsJoinRefusal file meta found (Root x) = (found ≡ []) × ∥ LosesRoot file meta x ∥₁
 IsJoinRefusal file meta found Exists = (found ≢ []) × ForRecovered file meta HasBucketKey
 IsJoinRefusal file meta found Memory = Unit {0}

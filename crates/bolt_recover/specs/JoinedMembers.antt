@@ -4,7 +4,8 @@ use Rattle.bolt_format.specs.declared.meta.Meta.{Meta}
 use Rattle.bolt_tree.specs.Listing.{Member}
 use Rattle.bolt_tree.specs.Paths.{Path}
 use Rattle.bolt_recover.specs.Joined.{IsJoined}
-use Rattle.bolt_recover.specs.Lost.{IsAllLost, LostView}
+use Rattle.bolt_recover.specs.Losses.{LostView}
+use Rattle.bolt_recover.specs.Lost.{IsAllLost}
 use Rattle.bolt_recover.specs.Private.Joining.{left_at, path_at, recovered_in, work_at}
 use Rattle.bolt_recover.specs.Private.KeptMembers.{kept_file, kept_lost, kept_meta}
 use Rattle.bolt_recover.specs.declared.joined.Joined.{Joined}

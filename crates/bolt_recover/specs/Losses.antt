@@ -39,3 +39,8 @@ losses_of file meta (v ∷ survey) = loss_at (place_at file meta v.way) v.found 
 -- the losses of a file under a meta
 abbrev pub AreLosses : List ℕ → Meta → List LossView → Type 0
 AreLosses file meta losses = (survey : List Visit) × IsSurvey file meta survey × (losses ≡ losses_of file meta survey)
+
+-- What is lost: everything, since the root page is lost with this finding; or what these losses say
+pub data LostView : Type 0 where
+  everything : Finding → LostView
+  parts : List LossView → LostView

@@ -1,17 +1,11 @@
 -- What is lost of a damaged file: docs/RECOVERY.md, "Losses".
 use Rattle.std.specs.Prelude.{◌≡◌, ℕ, List}
 use Rattle.bolt_format.specs.declared.meta.Meta.{Meta}
-use Rattle.bolt_check.specs.declared.finding.Finding.{Finding}
-use Rattle.bolt_recover.specs.Losses.{LossView}
+use Rattle.bolt_recover.specs.Losses.{LostView, everything, parts}
 use Rattle.bolt_recover.specs.Recoveries.{ForLosses}
 use Rattle.bolt_recover.specs.Refusals.{KeepsRoot, LosesRoot}
 
--- everything, since the root page is lost with this finding; or what these losses say
-pub data LostView : Type 0 where
-  everything : Finding → LostView
-  parts : List LossView → LostView
-
--- that is all that is lost of the file
+-- that is all that is lost of a file
 abbrev pub IsAllLost : List ℕ → Meta → LostView → Type 0
 IsAllLost file meta (everything x) = ∥ LosesRoot file meta x ∥₁
 IsAllLost file meta (parts reported) = ∥ KeepsRoot file meta ∥₁ × ForLosses file meta (λ losses. reported ≡ losses)

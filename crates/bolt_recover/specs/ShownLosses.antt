@@ -3,7 +3,7 @@ use Rattle.std.specs.Prelude.{map}
 use Rattle.bolt_check.specs.ShownSpots.{bound_of}
 use Rattle.bolt_tree.specs.Paths.{path_of}
 use Rattle.bolt_recover.specs.Losses.{LossView}
-use Rattle.bolt_recover.specs.Lost.{LostView, everything, parts}
+use Rattle.bolt_recover.specs.Losses.{LostView, everything, parts}
 use Rattle.bolt_recover.specs.declared.loss.Loss.{Loss}
 use Rattle.bolt_recover.specs.declared.lost.Lost.{Lost}
 use Rattle.bolt_recover.specs.declared.lost.Lost.TheVariants.{Everything, Parts}

@@ -153,9 +153,15 @@ impl<'a> Joined<'a> {
         }
         match Recovery::under(alloc, file, meta) {
             Ok(recovery) => Joined::beside(recovery, found),
-            Err(CheckFault::Structure(finding)) if found.is_empty() => Err(JoinFault::Root(finding)),
             Err(CheckFault::Structure(finding)) => {
-                Ok(Joined::of(Kept::Nothing(LostRoot { file, meta, finding }), found))
+                Joined::without(
+                    &LostRoot {
+                        file,
+                        meta,
+                        finding,
+                    },
+                    found,
+                )
             }
             Err(_) => Err(JoinFault::Memory),
         }
@@ -184,6 +190,25 @@ impl<'a> Joined<'a> {
         }
         recovery.restart()?;
         Ok(Joined::of(Kept::Recovery(recovery), found))
+    }
+
+    /// The members of the pages that are found of a file whose root page is lost.
+    fn without(root: &LostRoot<'a>, found: &'a [Found<'a>]) -> Result<Joined<'a>, JoinFault>
+        requires few { length root.now.file.now < 10 ^ 16 * root.now.meta.page_size }
+        requires found { AreFound root.now.file.now root.now.meta (numbers_of found.now) }
+        requires views { All (IsFoundView root.now.file.now root.now.meta) found.now }
+        ensures file { IfOk result (λ joined. joined_file joined ≡ root.now.file.now) }
+        ensures meta { IfOk result (λ joined. joined_meta joined ≡ root.now.meta) }
+        ensures all { IfOk result (λ joined. ForJoined root.now.file.now root.now.meta (λ listing. joined_left joined listing ≡ listing)) }
+        ensures path { IfOk result (λ joined. joined_path joined ≡ []) }
+        ensures apart { OnOk result (ForRecovered root.now.file.now root.now.meta LacksBucketKey) }
+        ensures some { OnOk result (found.now ≢ []) }
+        ensures refused { IfErr result (IsJoinRefusal root.now.file.now root.now.meta (numbers_of found.now)) }
+    {
+        if found.is_empty() {
+            return Err(JoinFault::Root(root.finding));
+        }
+        Ok(Joined::of(Kept::Nothing(*root), found))
     }
 
     /// The members of found pages and of what is recovered, of which nothing was returned yet.

@@ -13,10 +13,12 @@ mod leaves;
 mod loss;
 mod lost;
 mod recovery;
+mod search;
 mod steps;
 
-pub use found::{Found, found_pages};
+pub use found::Found;
 pub use joined::{JoinFault, Joined};
 pub use loss::Loss;
 pub use lost::Lost;
 pub use recovery::Recovery;
+pub use search::found_pages;

@@ -1,15 +1,14 @@
 -- One text after another, gathered.
 use Rattle.std.proofs.Common.{◌≡◌, ◌∙◌, ◌+◌, ◌<◌, ℕ, zero, suc, List, [], ◌∷◌, ◌++◌, Bor, Some, Result, add-one, ap, append_assoc, append-nil, arith, drop, flat_map, refl, replicate, slice_get, subst, sym, take}
 use Rattle.std.specs.Prelude.{IsErr}
-use Rattle.hex.specs.Hex.{encode_lower}
 use Rattle.bolt_format.specs.Endings.{Ending, whole, cut, broken, halted, ending}
 use Rattle.bolt_format.specs.Wrote.{Wrote}
 use Rattle.bolt_format.specs.declared.sink.Sink.{Ghosts}
 use Rattle.bolt_format.specs.declared.sink.SinkFault.{SinkFault}
 use Rattle.bolt_tree.specs.Paths.{path_of}
 use Rattle.bolt_report.specs.Gathers.{Gathers, Holds}
-use Rattle.bolt_report.specs.ListLines.{hex_path}
-use Rattle.bolt_report.specs.Pieces.{later_parts}
+use Rattle.bolt_report.specs.Pieces.{later_parts, part_text, path_text, separator}
+use Rattle.bolt_report.specs.declared.pieces.PathForm.{PathForm}
 use Rattle.bolt_format.proofs.ListLemmas.{flat_map-cut_at, flat_map-take_more}
 use Rattle.bolt_format.proofs.WroteLemmas.{Wrote-none, Wrote-return, Wrote-same, Wrote-stop, Wrote-then, broken_by}
 
@@ -94,10 +93,10 @@ module _ {S : Type 0} {sink : Ghosts S} where
   pub Wrote-all : {old mid new : S} {held holds text : List ℕ} {end : Ending} → held ≡ [] → Holds sink old mid held holds text → Wrote sink mid new holds end → Wrote sink old new text end
   Wrote-all {text} empty a b = Wrote-same (sym a.parts ∙ ap (λ h. h ++ text) empty) (Wrote-then a.wrote b)
 
--- a path in hexadecimal: its first part, and each later one after a slash
-pub hex_path-parts : (first : Bor (List ℕ)) (rest : List (Bor (List ℕ))) → encode_lower first.now ++ later_parts rest ≡ hex_path (path_of (first ∷ rest))
-hex_path-parts first [] = append-nil (encode_lower first.now)
-hex_path-parts first (next ∷ rest) = ap (λ (text : List ℕ). encode_lower first.now ++ (0x2F ∷ text)) (hex_path-parts next rest)
+-- a path: its first part, and each later one after a separator
+pub path_parts : (form : PathForm) (first : Bor (List ℕ)) (rest : List (Bor (List ℕ))) → part_text form first.now ++ later_parts form rest ≡ path_text form (path_of (first ∷ rest))
+path_parts form first [] = append-nil (part_text form first.now)
+path_parts form first (next ∷ rest) = ap (λ (text : List ℕ). part_text form first.now ++ (separator form ∷ text)) (path_parts form next rest)
 
 -- n equal elements, cut around element i
 pub replicate-cut : (n i x : ℕ) → i < n → (rest : List ℕ) × (replicate n x ≡ replicate i x ++ (x ∷ [] ++ rest))

@@ -1,79 +1,159 @@
--- A JSON line is read back.
-use Rattle.std.proofs.Common.{◌≡◌, ◌∙◌, ℕ, ◌≤◌, List, [], ◌∷◌, Bool, true, false, Some, arith, ap, codes, cond, option_and_then, option_map, refl}
+-- JSON lines are read back.
+use Rattle.std.proofs.Common.{◌≡◌, ◌∙◌, ◌+◌, ℕ, ◌<◌, ◌≤◌, ◌^◌, List, [], ◌∷◌, Bool, true, false, Option, Some, None, arith, ap, codes, cond, map, min, option_and_then, option_map, refl}
+use Rattle.std.specs.Prelude.{IfSome, decimal}
 use Rattle.std.specs.Result.{result_ok}
 use Rattle.std.specs.Str.{is_utf8}
+use Rattle.std.specs.Str.Parse.{digits_value}
 use Rattle.std.proofs.lemmas.Fmt.{decimal_is_IsNumeral}
 use Rattle.hex.proofs.HexLemmas.{decode_of-encode_lower}
 use Rattle.hex.specs.Hex.{IsBytes, encode_lower}
 use Rattle.json.proofs.Printed.Decimals.{IsNumber-decimal}
 use Rattle.json.proofs.Printed.Trees.{document-print}
-use Rattle.json.specs.Json.{Items, Json, array, document, member, no_members, object, string}
+use Rattle.json.specs.Json.{Items, Json, Members, array, document, member, no_members, object, string}
 use Rattle.json.specs.Tree.{HasNumbers, ItemsHaveNumbers, MembersHaveNumbers, depth, items_depth, members_depth}
 use Rattle.bolt_tree.specs.Entries.{Bucket, Item, Value}
 use Rattle.bolt_tree.specs.Listing.{Member}
 use Rattle.bolt_tree.specs.Paths.{Path}
-use Rattle.bolt_report.specs.Forms.{json_text}
+use Rattle.bolt_report.specs.FigureForms.{Named, figures_json, figures_then, json_name, number_json}
+use Rattle.bolt_report.specs.Figures.{capped}
+use Rattle.bolt_report.specs.Forms.{digits_json, item_json, json_text}
 use Rattle.bolt_report.specs.JsonLines.{end_json, member_json, parts_json}
-use Rattle.bolt_report.specs.JsonReadings.{ArePartsBytes, IsItemOfBytes, IsMemberOfBytes, end_of, item_of, member_of, parts_of}
+use Rattle.bolt_report.specs.JsonReadings.{ArePartsBytes, HaveWords, IsItemOfBytes, IsMemberOfBytes, count_of, digits_of, end_of, figures_in, figures_of, item_of, member_of, parts_of, size_of}
+use Rattle.bolt_report.specs.SizeLines.{bytes_allocated, bytes_used, size_json}
+use Rattle.bolt_report.specs.declared.statistics.Stats.{Stats}
 
--- an item, if it is UTF-8 and if it isn't
-shown : Bool → List ℕ → Json
-shown b bytes = cond b (string bytes) (object (member (codes "hex") (string (encode_lower bytes)) no_members))
+-- a key or a value as JSON, and what reads it
+pub record Reads (shown : List ℕ → Json) (read : Json → Option (List ℕ)) : Type 0 where
+  pub back : (bytes : List ℕ) → IsBytes bytes → read (shown bytes) ≡ Some bytes
+  pub numbers : (bytes : List ℕ) → HasNumbers (shown bytes)
+  pub shallow : (bytes : List ℕ) → depth (shown bytes) ≤ 1
 
-shown_reads : (b : Bool) (bytes : List ℕ) → IsBytes bytes → item_of (shown b bytes) ≡ Some bytes
-unfolding shown
-shown_reads true bytes h = refl
-shown_reads false bytes h = ap result_ok (decode_of-encode_lower bytes h)
+-- as a string of its digits; and as a string if it is UTF-8, and otherwise as an object
+digits_back : (bytes : List ℕ) → IsBytes bytes → digits_of (digits_json bytes) ≡ Some bytes
+digits_back bytes h = ap result_ok (decode_of-encode_lower bytes h)
 
-shown_numbers : (b : Bool) (bytes : List ℕ) → HasNumbers (shown b bytes)
-unfolding shown
-shown_numbers true bytes = tt
-shown_numbers false bytes = (tt, tt)
+pub digits_read : Reads digits_json digits_of
+digits_read = record { back = digits_back; numbers = λ bytes. tt; shallow = λ bytes. omega arith }
 
-shown_depth : (b : Bool) (bytes : List ℕ) → depth (shown b bytes) ≤ 1
-unfolding shown
-shown_depth true bytes = omega arith
-shown_depth false bytes = omega arith
+abbrev by_utf8 : Bool → List ℕ → Json
+by_utf8 b bytes = cond b (string bytes) (object (member (codes "hex") (string (encode_lower bytes)) no_members))
 
--- the parts of a path
-parts_read : (path : Path) → ArePartsBytes path → parts_of (parts_json path) ≡ Some path
-unfolding shown
-parts_read [] h = refl
-parts_read (part ∷ path) h =
-    ap (option_and_then (λ (first : List ℕ). option_map (λ (rest : Path). first ∷ rest) (parts_of (parts_json path)))) (shown_reads (is_utf8 part) part h.0)
-    ∙ ap (option_map (λ (rest : Path). part ∷ rest)) (parts_read path h.1)
+utf8_back : (b : Bool) (bytes : List ℕ) → IsBytes bytes → item_of (by_utf8 b bytes) ≡ Some bytes
+utf8_back true bytes h = refl
+utf8_back false bytes h = digits_back bytes h
 
-parts_numbers : (path : Path) → ItemsHaveNumbers (parts_json path)
-unfolding shown
-parts_numbers [] = tt
-parts_numbers (part ∷ path) = (shown_numbers (is_utf8 part) part, parts_numbers path)
+utf8_numbers : (b : Bool) (bytes : List ℕ) → HasNumbers (by_utf8 b bytes)
+utf8_numbers true bytes = tt
+utf8_numbers false bytes = (tt, tt)
 
-parts_depth : (path : Path) → items_depth (parts_json path) ≤ 1
-unfolding shown
-parts_depth [] = omega arith
-parts_depth (part ∷ path) = omega (arith, shown_depth (is_utf8 part) part, parts_depth path)
+utf8_depth : (b : Bool) (bytes : List ℕ) → depth (by_utf8 b bytes) ≤ 1
+utf8_depth true bytes = omega arith
+utf8_depth false bytes = omega arith
 
--- a value or a sequence
-end_reads : (path : Items) (last : Item) → IsItemOfBytes last → end_of (member (codes "path") (array path) (end_json last)) ≡ Some last
-unfolding shown
-end_reads path (Value value) h = ap (option_map Value) (shown_reads (is_utf8 value) value h)
-end_reads path (Bucket sequence) h = ap (λ n. Some (Bucket n)) (decimal_is_IsNumeral sequence h).1
+pub items_read : Reads item_json item_of
+items_read = record {
+  back = λ bytes. utf8_back (is_utf8 bytes) bytes;
+  numbers = λ bytes. utf8_numbers (is_utf8 bytes) bytes;
+  shallow = λ bytes. utf8_depth (is_utf8 bytes) bytes;
+}
 
-end_numbers : (last : Item) → IsItemOfBytes last → MembersHaveNumbers (end_json last)
-unfolding shown
-end_numbers (Value value) h = (shown_numbers (is_utf8 value) value, tt)
-end_numbers (Bucket sequence) h = (IsNumber-decimal sequence h, tt)
+numeral_back : (n : ℕ) → n < 2 ^ 64 → digits_value 10 (decimal n) ≡ n
+numeral_back n h = (decimal_is_IsNumeral n h).1
 
-end_depth : (last : Item) → members_depth (end_json last) ≤ 1
-unfolding shown
-end_depth (Value value) = omega (arith, shown_depth (is_utf8 value) value)
-end_depth (Bucket sequence) = omega arith
+capped_fits : (n : ℕ) → capped n < 2 ^ 64
+capped_fits n = omega arith
 
-pub line_document : (m : Member) → IsMemberOfBytes m → document (json_text (member_json m)) ≡ Some (member_json m)
-line_document m h = document-print (member_json m) (parts_numbers m.0, end_numbers m.1 h.1) (omega (arith, parts_depth m.0, end_depth m.1))
+-- what is found in turn is found together
+all_found : {K U A : ℕ} {N : Option (List ℕ)} {keys used allocated : ℕ} {name : List ℕ} → K ≡ keys → U ≡ used → A ≡ allocated → N ≡ Some name
+    → option_map {U = ℕ × ℕ × ℕ × List ℕ} (λ (name : List ℕ). (K, U, A, name)) N ≡ Some (keys, used, allocated, name)
+all_found first second third last = rw (first, second, third, last) refl
 
-pub line_member : (m : Member) → IsMemberOfBytes m → option_and_then member_of (document (json_text (member_json m))) ≡ Some m
-line_member m h =
-    ap (option_and_then member_of) (line_document m h)
-    ∙ ap (option_and_then (λ (path : Path). option_map (λ (last : Item). (path, last)) (end_of (member (codes "path") (array (parts_json m.0)) (end_json m.1))))) (parts_read m.0 h.0)
-    ∙ ap (option_map (λ (last : Item). (m.0, last))) (end_reads (parts_json m.0) m.1 h.1)
+module _ (shown : List ℕ → Json) (read : Json → Option (List ℕ)) (reads : Reads shown read) where
+  pub one_item : (bytes : List ℕ) → IsBytes bytes → option_and_then read (document (json_text (shown bytes))) ≡ Some bytes
+  one_item bytes h = ap (option_and_then read) (document-print (shown bytes) (reads.numbers bytes) (omega (arith, reads.shallow bytes))) ∙ reads.back bytes h
+
+  -- ---- the line of a member
+
+  parts_back : (path : Path) → ArePartsBytes path → parts_of read (parts_json shown path) ≡ Some path
+  parts_back [] h = refl
+  parts_back (part ∷ path) h =
+      ap (option_and_then (λ (first : List ℕ). option_map (λ (rest : Path). first ∷ rest) (parts_of read (parts_json shown path)))) (reads.back part h.0)
+      ∙ ap (option_map (λ (rest : Path). part ∷ rest)) (parts_back path h.1)
+
+  parts_numbers : (path : Path) → ItemsHaveNumbers (parts_json shown path)
+  parts_numbers [] = tt
+  parts_numbers (part ∷ path) = (reads.numbers part, parts_numbers path)
+
+  parts_depth : (path : Path) → items_depth (parts_json shown path) ≤ 1
+  parts_depth [] = omega arith
+  parts_depth (part ∷ path) = omega (arith, reads.shallow part, parts_depth path)
+
+  -- a value or a sequence
+  end_back : (path : Items) (last : Item) → IsItemOfBytes last → end_of read (member (codes "path") (array path) (end_json shown last)) ≡ Some last
+  end_back path (Value value) h = ap (option_map Value) (reads.back value h)
+  end_back path (Bucket sequence) h = ap (λ n. Some (Bucket n)) (numeral_back sequence h)
+
+  end_numbers : (last : Item) → IsItemOfBytes last → MembersHaveNumbers (end_json shown last)
+  end_numbers (Value value) h = (reads.numbers value, tt)
+  end_numbers (Bucket sequence) h = (IsNumber-decimal sequence h, tt)
+
+  end_depth : (last : Item) → members_depth (end_json shown last) ≤ 1
+  end_depth (Value value) = omega (arith, reads.shallow value)
+  end_depth (Bucket sequence) = omega arith
+
+  pub line_document : (m : Member) → IsMemberOfBytes m → document (json_text (member_json shown m)) ≡ Some (member_json shown m)
+  line_document m h = document-print (member_json shown m) (parts_numbers m.0, end_numbers m.1 h.1) (omega (arith, parts_depth m.0, end_depth m.1))
+
+  pub line_member : (m : Member) → IsMemberOfBytes m → option_and_then (member_of read) (document (json_text (member_json shown m))) ≡ Some m
+  line_member m h =
+      ap (option_and_then (member_of read)) (line_document m h)
+      ∙ ap (option_and_then (λ (path : Path). option_map (λ (last : Item). (path, last)) (end_of read (member (codes "path") (array (parts_json shown m.0)) (end_json shown m.1))))) (parts_back m.0 h.0)
+      ∙ ap (option_map (λ (last : Item). (m.0, last))) (end_back (parts_json shown m.0) m.1 h.1)
+
+  -- ---- the sizes of a bucket
+
+  pub size_back : (stats : Stats) (name : List ℕ) → stats.keys < 2 ^ 64 → IsBytes name
+      → option_and_then (size_of read) (document (json_text (size_json stats (shown name)))) ≡ Some (stats.keys, bytes_used stats, bytes_allocated stats, name)
+  size_back stats name fits h =
+      let used = capped_fits (stats.branch_used + stats.leaf_used + stats.inline_used) in
+      let allocated = capped_fits (stats.branch_allocated + stats.leaf_allocated + stats.inline_used) in
+      let numbers : HasNumbers (size_json stats (shown name)) = (IsNumber-decimal stats.keys fits, (IsNumber-decimal (bytes_used stats) used, (IsNumber-decimal (bytes_allocated stats) allocated, (reads.numbers name, tt)))) in
+      ap (option_and_then (size_of read)) (document-print (size_json stats (shown name)) numbers (omega (arith, reads.shallow name)))
+      ∙ all_found (numeral_back stats.keys fits) (numeral_back (bytes_used stats) used) (numeral_back (bytes_allocated stats) allocated) (reads.back name h)
+
+-- ---- figures
+
+named_back : (n : Option ℕ) → IfSome n (λ k. k < 2 ^ 64) → count_of (number_json n) ≡ Some n
+named_back None h = refl
+named_back (Some n) h = ap (λ k. Some (Some k)) (numeral_back n h)
+
+number_fine : (n : Option ℕ) → IfSome n (λ k. k < 2 ^ 64) → HasNumbers (number_json n)
+number_fine None h = tt
+number_fine (Some n) h = IsNumber-decimal n h
+
+number_flat : (n : Option ℕ) → depth (number_json n) ≤ 0
+number_flat None = omega arith
+number_flat (Some n) = omega arith
+
+figures_numbers : (figures : List Named) → HaveWords figures → MembersHaveNumbers (figures_then figures no_members)
+figures_numbers [] h = tt
+figures_numbers (figure ∷ figures) h = (number_fine figure.1 h.0, figures_numbers figures h.1)
+
+figures_flat : (figures : List Named) → members_depth (figures_then figures no_members) ≤ 0
+figures_flat [] = omega arith
+figures_flat (figure ∷ figures) = omega (arith, number_flat figure.1, figures_flat figures)
+
+shown_figures : List Named → List Named
+shown_figures figures = map (λ figure. (json_name figure.0, figure.1)) figures
+
+figures_back : (figures : List Named) → HaveWords figures → figures_in (figures_then figures no_members) ≡ Some (shown_figures figures)
+unfolding shown_figures
+figures_back [] h = refl
+figures_back (figure ∷ figures) h =
+    ap (option_and_then (λ (n : Option ℕ). option_map (λ (later : List Named). (json_name figure.0, n) ∷ later) (figures_in (figures_then figures no_members)))) (named_back figure.1 h.0)
+    ∙ ap (option_map (λ (later : List Named). (json_name figure.0, figure.1) ∷ later)) (figures_back figures h.1)
+
+pub figures_document : (figures : List Named) → HaveWords figures → option_and_then figures_of (document (json_text (figures_json figures))) ≡ Some (map (λ figure. (json_name figure.0, figure.1)) figures)
+unfolding shown_figures
+figures_document figures h =
+    ap (option_and_then figures_of) (document-print (figures_json figures) (figures_numbers figures h) (omega (arith, figures_flat figures))) ∙ figures_back figures h

@@ -2,8 +2,10 @@ mod BucketPartTexts
 mod DepthExists
 mod DepthSums
 mod FigureLemmas
+mod FigureTexts
 mod GatherLemmas
 mod HexLemmas
+mod HexStrings
 mod FoundLemmas
 mod JsonLemmas
 mod KeyTexts

@@ -20,8 +20,7 @@ use Rattle.bolt_tree.specs.declared.bucket.Bucket.{Bucket}
 use Rattle.bolt_tree.proofs.Leaving.{the_entries}
 use Rattle.bolt_tree.proofs.Lists.{contains_head, contains_tail}
 use Rattle.bolt_tree.proofs.Named.{entry_once}
-use Rattle.bolt_report.specs.Forms.{value_text}
-use Rattle.bolt_report.specs.SizeLines.{AreSized, Sized, size_columns, size_line, sizes_text}
+use Rattle.bolt_report.specs.SizeLines.{AreSized, Sized, size_line, size_text, sizes_text}
 use Rattle.bolt_report.specs.StatsOf.{IsStatsOf}
 use Rattle.bolt_report.specs.declared.statistics.Stats.{Stats}
 use Rattle.bolt_report.specs.declared.form.Form.{Form}
@@ -78,18 +77,18 @@ module _ (file : List ℕ) (meta : Meta) where
       one_stats file meta (start_of e.value) own s.stats known (subst (λ (x : LeafElement). IsStatsOf file meta (start_of x.value) s.stats) is stats)
 
   one_line : (form : Form) (e : LeafElement) (own : Stats) (sized : List Sized) → IsStatsOf file meta (start_of e.value) own
-      → map (λ (s : Sized). s.entry) sized ≡ e ∷ [] → AllByRecursion HasStats sized → size_columns own ++ value_text form e.key ≡ sizes_text form sized
+      → map (λ (s : Sized). s.entry) sized ≡ e ∷ [] → AllByRecursion HasStats sized → size_text form own e.key ≡ sizes_text form sized
   one_line form e own [] known same stats = absurd (let c : [] ≡ e ∷ [] = same in cc)
   one_line form e own (s ∷ t ∷ sized) known same stats =
       absurd (let c : s.entry ∷ t.entry ∷ map (λ (s : Sized). s.entry) sized ≡ e ∷ [] = same in cc)
   one_line form e own (s ∷ []) known same stats =
       let c : s.entry ∷ [] ≡ e ∷ [] = same in
       let head : s.entry ≡ e = cc in
-      ap (λ (x : Stats). size_columns x ++ value_text form e.key) (same_stats e own s head known stats.0)
-      ∙ ap (λ (x : LeafElement). size_columns s.stats ++ value_text form x.key) (sym head) ∙ sym (append-nil (size_line form s))
+      ap (λ (x : Stats). size_text form x e.key) (same_stats e own s head known stats.0)
+      ∙ ap (λ (x : LeafElement). size_text form s.stats x.key) (sym head) ∙ sym (append-nil (size_line form s))
 
   pub line_of : (form : Form) (e : LeafElement) (own : Stats) (sized : List Sized) → e.is_bucket ≡ true → IsStatsOf file meta (start_of e.value) own
-      → AreSized file meta (e ∷ []) sized → size_columns own ++ value_text form e.key ≡ sizes_text form sized
+      → AreSized file meta (e ∷ []) sized → size_text form own e.key ≡ sizes_text form sized
   line_of form e own sized is known are = one_line form e own sized known (are.buckets ∙ by_kind e [] true is) are.stats
 
 -- ---- the entry that a cursor shows
@@ -100,7 +99,7 @@ pub line_found : (bucket inner : Bucket) (form : Form) (key : Key) (own : Stats)
     → ∥ IsStatsOf (bytes_of (bucket_checked inner)) (meta_of (bucket_checked inner)) (bucket_start inner) own ∥₁
     → entries_of (bucket_checked bucket) (bucket_start bucket) e → key ≡ e.key
     → AreSized (bytes_of (bucket_checked bucket)) (meta_of (bucket_checked bucket)) (e ∷ []) sized
-    → size_columns own ++ value_text form key ≡ sizes_text form sized
+    → size_text form own key ≡ sizes_text form sized
 line_found bucket inner form key own e sized same found stats entry named sized_are =
     let file : List ℕ = bytes_of (bucket_checked bucket) in
     let meta : Meta = meta_of (bucket_checked bucket) in
@@ -109,7 +108,7 @@ line_found bucket inner form key own e sized same found stats entry named sized_
     ∥∥₁_elim known (hlevel props) (λ are. ∥∥₁_elim found (hlevel props) (λ (x, there, key_is, is_bucket, start, sequence). ∥∥₁_elim its_stats (hlevel props) (λ own_are.
     let one = entry_once (entries_of (bucket_checked bucket)) (bucket_start bucket) entries are x e there entry (key_is ∙ named) in
     let at = subst (λ (s : Start). IsStatsOf file meta s own) start own_are in
-    ap (λ (k : Key). size_columns own ++ value_text form k) named
+    ap (λ (k : Key). size_text form own k) named
     ∙ line_of file meta form e own sized (subst (λ (y : LeafElement). y.is_bucket ≡ true) one is_bucket)
     (subst (λ (y : LeafElement). IsStatsOf file meta (start_of y.value) own) one at) sized_are)))
 

@@ -11,7 +11,7 @@ use Rattle.bolt_report.specs.JsonLines.{parts_json}
 use Rattle.bolt_format.proofs.ListLemmas.{flat_map-take_more}
 use Rattle.bolt_report.proofs.Utf8Lemmas.{not_utf8}
 
-pub parts_tokens : (path : List (Bor (List ℕ))) → items_tokens (parts_json (path_of path)) ≡ flat_map (λ (part : Bor (List ℕ)). json_tokens (item_json part.now)) path ++ end_array ∷ []
+pub parts_tokens : (path : List (Bor (List ℕ))) → items_tokens (parts_json item_json (path_of path)) ≡ flat_map (λ (part : Bor (List ℕ)). json_tokens (item_json part.now)) path ++ end_array ∷ []
 parts_tokens [] = refl
 parts_tokens (part ∷ path) =
     ap (λ (ts : List Token). json_tokens (item_json part.now) ++ ts) (parts_tokens path)

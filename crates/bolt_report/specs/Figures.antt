@@ -1,11 +1,11 @@
 -- The figures of buckets: docs/COMMANDS.md, "What is printed".
 use Rattle.std.specs.Prelude.{◌==◌, ℕ, ◌+◌, ◌-◌, ◌*◌, ◌^◌, codes, min, max, List, [], ◌∷◌, length, sum_by, Option, Some, None, if◌then◌else◌}
-use Rattle.std.specs.List.{concat}
 use Rattle.bolt_format.specs.Elements.{BranchElement, LeafElement, head_root, inline_elements}
 use Rattle.bolt_format.specs.Pages.{PageView}
 use Rattle.bolt_format.specs.declared.kind.Kind.{Kind}
 use Rattle.bolt_format.specs.declared.kind.Kind.TheVariants as kind
-use Rattle.bolt_report.specs.Lines.{figure_line}
+use Rattle.bolt_report.specs.FigureForms.{Named, figures_text}
+use Rattle.bolt_report.specs.declared.form.FigureForm.{FigureForm}
 use Rattle.bolt_report.specs.declared.statistics.Stats.{Stats}
 
 -- which figure; depth is none of them, as it is no sum
@@ -141,19 +141,22 @@ abbrev pub page_figure : Figure → ℕ → Option PageView → ℕ
 page_figure f page_size None = 0
 page_figure f page_size (Some view) = kind_figure view.kind f page_size view
 
--- the thirteen lines
-abbrev pub stats_text : Stats → List ℕ
-stats_text stats = concat (
-    figure_line (codes "buckets") stats.buckets
-    ∷ figure_line (codes "inline buckets") stats.inline_buckets
-    ∷ figure_line (codes "inline used") stats.inline_used
-    ∷ figure_line (codes "keys") stats.keys
-    ∷ figure_line (codes "depth") stats.depth
-    ∷ figure_line (codes "branch pages") stats.branch_pages
-    ∷ figure_line (codes "branch overflow") stats.branch_overflow
-    ∷ figure_line (codes "branch allocated") stats.branch_allocated
-    ∷ figure_line (codes "branch used") stats.branch_used
-    ∷ figure_line (codes "leaf pages") stats.leaf_pages
-    ∷ figure_line (codes "leaf overflow") stats.leaf_overflow
-    ∷ figure_line (codes "leaf allocated") stats.leaf_allocated
-    ∷ figure_line (codes "leaf used") stats.leaf_used ∷ [])
+-- the thirteen figures
+abbrev pub stats_figures : Stats → List Named
+stats_figures stats =
+    (codes "buckets", Some stats.buckets)
+    ∷ (codes "inline buckets", Some stats.inline_buckets)
+    ∷ (codes "inline used", Some stats.inline_used)
+    ∷ (codes "keys", Some stats.keys)
+    ∷ (codes "depth", Some stats.depth)
+    ∷ (codes "branch pages", Some stats.branch_pages)
+    ∷ (codes "branch overflow", Some stats.branch_overflow)
+    ∷ (codes "branch allocated", Some stats.branch_allocated)
+    ∷ (codes "branch used", Some stats.branch_used)
+    ∷ (codes "leaf pages", Some stats.leaf_pages)
+    ∷ (codes "leaf overflow", Some stats.leaf_overflow)
+    ∷ (codes "leaf allocated", Some stats.leaf_allocated)
+    ∷ (codes "leaf used", Some stats.leaf_used) ∷ []
+
+unfoldable pub stats_text : FigureForm → Stats → List ℕ
+stats_text form stats = figures_text form (stats_figures stats)

@@ -1,4 +1,4 @@
--- The lines of found pages: docs/COMMANDS.md, "Lost and found".
+-- The lines of found pages, after those of losses: docs/COMMANDS.md, "Lost and found".
 use Rattle.std.specs.Prelude.{◌≡◌, ◌≢◌, ◌+◌, ◌-◌, ℕ, List, [], ◌++◌, codes, decimal, flat_map, length, option_map, slice_get, unwrap_or}
 use Rattle.std.specs.List.{filter}
 use Rattle.hex.specs.Hex.{encode_lower}
@@ -6,12 +6,11 @@ use Rattle.bolt_format.specs.Elements.{LeafElement}
 use Rattle.bolt_format.specs.Shown.{shown}
 use Rattle.bolt_format.specs.declared.kind.Kind.TheVariants as kind
 use Rattle.bolt_check.specs.Keys.{Key}
-use Rattle.bolt_check.specs.declared.finding.Finding.{Finding}
-use Rattle.bolt_recover.specs.Losses.{LossView}
+use Rattle.bolt_recover.specs.Losses.{LostView}
 use Rattle.bolt_recover.specs.declared.found.Found.{Found}
-use Rattle.bolt_report.specs.FaultWords.{count_line, finding_sentence}
+use Rattle.bolt_report.specs.FaultWords.{count_line}
 use Rattle.bolt_report.specs.Lines.{line}
-use Rattle.bolt_report.specs.LossLines.{losses_text}
+use Rattle.bolt_report.specs.LossLines.{lost_count, lost_lines}
 
 -- a leaf page by its number and its elements
 pub record FoundView : Type 0 where
@@ -42,14 +41,10 @@ found_line found =
 abbrev pub found_text : List FoundView → List ℕ
 found_text found = flat_map found_line found
 
--- and then how many errors there are
-abbrev pub found_and_count : List FoundView → (errors : ℕ) → List ℕ
-found_and_count found errors = found_text found ++ count_line errors
+-- the line of each loss, and then that of each found page
+abbrev pub lost_text : LostView → List FoundView → List ℕ
+lost_text lost found = lost_lines lost ++ found_text found
 
--- the line of each loss, the line of each found page, and how many losses there are with the errors before
-abbrev pub lost_and_found_text : (earlier : ℕ) → List LossView → List FoundView → List ℕ
-lost_and_found_text earlier losses found = losses_text losses ++ found_and_count found (earlier + length losses)
-
--- where the root page is lost, everything is
-abbrev pub all_lost_and_found_text : (earlier : ℕ) → Finding → List FoundView → List ℕ
-all_lost_and_found_text earlier finding found = (finding_sentence finding ++ codes "; lost: everything\n") ++ found_and_count found (earlier + 1)
+-- and then how many losses there are, with the errors before
+abbrev pub counted_lost_text : (earlier : ℕ) → LostView → List FoundView → List ℕ
+counted_lost_text earlier lost found = lost_lines lost ++ (found_text found ++ count_line (earlier + lost_count lost))

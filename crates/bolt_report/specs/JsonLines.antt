@@ -5,21 +5,23 @@ use Rattle.json.specs.Json.{Items, Json, Members, array, item, member, no_items,
 use Rattle.bolt_tree.specs.Entries.{Bucket, Item, Value}
 use Rattle.bolt_tree.specs.Listing.{Member}
 use Rattle.bolt_tree.specs.Paths.{Path}
-use Rattle.bolt_report.specs.Forms.{item_json, json_text}
+use Rattle.bolt_report.specs.Forms.{json_text}
 use Rattle.bolt_report.specs.Lines.{line}
 
--- the parts of a path
-abbrev pub parts_json : Path → Items
-parts_json [] = no_items
-parts_json (part ∷ path) = item (item_json part) (parts_json path)
+-- by the JSON value of a key or a value
+module _ (shown : List ℕ → Json) where
+  -- the parts of a path
+  abbrev pub parts_json : Path → Items
+  parts_json [] = no_items
+  parts_json (part ∷ path) = item (shown part) (parts_json path)
 
--- a value, or the sequence of a bucket
-abbrev pub end_json : Item → Members
-end_json (Value value) = member (codes "value") (item_json value) no_members
-end_json (Bucket sequence) = member (codes "bucket") (number (decimal sequence)) no_members
+  -- a value, or the sequence of a bucket
+  abbrev pub end_json : Item → Members
+  end_json (Value value) = member (codes "value") (shown value) no_members
+  end_json (Bucket sequence) = member (codes "bucket") (number (decimal sequence)) no_members
 
-abbrev pub member_json : Member → Json
-member_json m = object (member (codes "path") (array (parts_json m.0)) (end_json m.1))
+  abbrev pub member_json : Member → Json
+  member_json m = object (member (codes "path") (array (parts_json m.0)) (end_json m.1))
 
-unfoldable pub json_line : Member → List ℕ
-json_line m = line (json_text (member_json m))
+  unfoldable pub json_line : Member → List ℕ
+  json_line m = line (json_text (member_json m))

@@ -1,5 +1,5 @@
 -- What a reader of a JSON line finds in it: docs/COMMANDS.md, "What is printed".
-use Rattle.std.specs.Prelude.{ℕ, ◌<◌, ◌^◌, List, [], ◌∷◌, Option, Some, None, ⊤, codes, option_and_then, option_map, if◌then◌else◌}
+use Rattle.std.specs.Prelude.{ℕ, ◌<◌, ◌^◌, List, [], ◌∷◌, Option, Some, None, IfSome, ⊤, codes, option_and_then, option_map, if◌then◌else◌}
 use Rattle.std.specs.Result.{result_ok}
 use Rattle.std.specs.Str.{bytes_eq}
 use Rattle.std.specs.Str.Parse.{digits_value}
@@ -8,6 +8,7 @@ use Rattle.json.specs.Json.{Items, Json, Members, array, boolean, item, member, 
 use Rattle.bolt_tree.specs.Entries.{Bucket, Item, Value}
 use Rattle.bolt_tree.specs.Listing.{Member}
 use Rattle.bolt_tree.specs.Paths.{Path}
+use Rattle.bolt_report.specs.FigureForms.{Named}
 
 abbrev pub string_of : Json → Option (List ℕ)
 string_of null = None
@@ -16,6 +17,14 @@ string_of (number s) = None
 string_of (string s) = Some s
 string_of (array js) = None
 string_of (object ms) = None
+
+abbrev pub members_of : Json → Option Members
+members_of null = None
+members_of (boolean b) = None
+members_of (number s) = None
+members_of (string s) = None
+members_of (array js) = None
+members_of (object ms) = Some ms
 
 -- the member of an object that has a name
 abbrev pub named : List ℕ → Members → Option Json
@@ -26,7 +35,11 @@ named name (member k j ms) = if bytes_eq k name then Some j else named name ms
 abbrev pub bytes_of_digits : List ℕ → Option (List ℕ)
 bytes_of_digits digits = result_ok (decode_of digits)
 
--- a key or a value: a string, or an object whose `hex` has hexadecimal digits
+-- a key or a value: a string of hexadecimal digits;
+abbrev pub digits_of : Json → Option (List ℕ)
+digits_of json = option_and_then bytes_of_digits (string_of json)
+
+-- or a string, or an object whose `hex` has hexadecimal digits
 abbrev pub item_of : Json → Option (List ℕ)
 item_of null = None
 item_of (boolean b) = None
@@ -34,18 +47,6 @@ item_of (number s) = None
 item_of (string s) = Some s
 item_of (array js) = None
 item_of (object ms) = option_and_then bytes_of_digits (option_and_then string_of (named (codes "hex") ms))
-
-abbrev pub parts_of : Items → Option Path
-parts_of no_items = Some []
-parts_of (item j js) = option_and_then (λ part. option_map (λ path. part ∷ path) (parts_of js)) (item_of j)
-
-abbrev pub path_of_json : Json → Option Path
-path_of_json null = None
-path_of_json (boolean b) = None
-path_of_json (number s) = None
-path_of_json (string s) = None
-path_of_json (array js) = parts_of js
-path_of_json (object ms) = None
 
 abbrev pub number_of : Json → Option ℕ
 number_of null = None
@@ -55,25 +56,63 @@ number_of (string s) = None
 number_of (array js) = None
 number_of (object ms) = None
 
--- `value` is a value; without one, `bucket` is the sequence of a bucket
-abbrev pub end_by : (value bucket : Option Json) → Option Item
-end_by (Some value) bucket = option_map Value (item_of value)
-end_by None bucket = option_map Bucket (option_and_then number_of bucket)
+-- the number under a name
+abbrev pub figure_in : List ℕ → Members → Option ℕ
+figure_in name ms = option_and_then number_of (named name ms)
 
-abbrev pub end_of : Members → Option Item
-end_of ms = end_by (named (codes "value") ms) (named (codes "bucket") ms)
+-- by what reads a key or a value
+module _ (read : Json → Option (List ℕ)) where
+  abbrev pub parts_of : Items → Option Path
+  parts_of no_items = Some []
+  parts_of (item j js) = option_and_then (λ part. option_map (λ path. part ∷ path) (parts_of js)) (read j)
 
--- `path` is the path
-abbrev pub member_of_members : Members → Option Member
-member_of_members ms = option_and_then (λ path. option_map (λ last. (path, last)) (end_of ms)) (option_and_then path_of_json (named (codes "path") ms))
+  abbrev pub path_of_json : Json → Option Path
+  path_of_json null = None
+  path_of_json (boolean b) = None
+  path_of_json (number s) = None
+  path_of_json (string s) = None
+  path_of_json (array js) = parts_of js
+  path_of_json (object ms) = None
 
-abbrev pub member_of : Json → Option Member
-member_of null = None
-member_of (boolean b) = None
-member_of (number s) = None
-member_of (string s) = None
-member_of (array js) = None
-member_of (object ms) = member_of_members ms
+  -- `value` is a value; without one, `bucket` is the sequence of a bucket
+  abbrev pub end_by : (value bucket : Option Json) → Option Item
+  end_by (Some value) bucket = option_map Value (read value)
+  end_by None bucket = option_map Bucket (option_and_then number_of bucket)
+
+  abbrev pub end_of : Members → Option Item
+  end_of ms = end_by (named (codes "value") ms) (named (codes "bucket") ms)
+
+  -- `path` is the path
+  abbrev pub member_of_members : Members → Option Member
+  member_of_members ms = option_and_then (λ path. option_map (λ last. (path, last)) (end_of ms)) (option_and_then path_of_json (named (codes "path") ms))
+
+  abbrev pub member_of : Json → Option Member
+  member_of json = option_and_then member_of_members (members_of json)
+
+  -- the sizes of a bucket: its keys, its bytes used and allocated, and its name, each by its name
+  abbrev pub size_of_members : Members → Option (ℕ × ℕ × ℕ × List ℕ)
+  size_of_members ms =
+      option_and_then (λ keys. option_and_then (λ used. option_and_then (λ allocated. option_map (λ name. (keys, used, allocated, name))
+      (option_and_then read (named (codes "name") ms))) (figure_in (codes "allocated") ms)) (figure_in (codes "used") ms)) (figure_in (codes "keys") ms)
+
+  abbrev pub size_of : Json → Option (ℕ × ℕ × ℕ × List ℕ)
+  size_of json = option_and_then size_of_members (members_of json)
+
+-- figures by their names, in their order; `null` is no number
+abbrev pub count_of : Json → Option (Option ℕ)
+count_of null = Some None
+count_of (boolean b) = None
+count_of (number s) = Some (Some (digits_value 10 s))
+count_of (string s) = None
+count_of (array js) = None
+count_of (object ms) = None
+
+abbrev pub figures_in : Members → Option (List Named)
+figures_in no_members = Some []
+figures_in (member name j ms) = option_and_then (λ n. option_map (λ figures. (name, n) ∷ figures) (figures_in ms)) (count_of j)
+
+abbrev pub figures_of : Json → Option (List Named)
+figures_of json = option_and_then figures_in (members_of json)
 
 -- parts and values are bytes, and a sequence has 64 bits
 abbrev pub ArePartsBytes : Path → Type 0
@@ -86,3 +125,8 @@ IsItemOfBytes (Bucket sequence) = sequence < 2 ^ 64
 
 abbrev pub IsMemberOfBytes : Member → Type 0
 IsMemberOfBytes m = ArePartsBytes m.0 × IsItemOfBytes m.1
+
+-- each figure that has a number has one of 64 bits
+abbrev pub HaveWords : List Named → Type 0
+HaveWords [] = ⊤
+HaveWords (figure ∷ figures) = IfSome figure.1 (λ n. n < 2 ^ 64) × HaveWords figures

@@ -1,6 +1,7 @@
 pub mod Deepest
 pub mod Depths
 pub mod FaultWords
+pub mod FigureForms
 pub mod Figures
 pub mod Forms
 pub mod Gathers

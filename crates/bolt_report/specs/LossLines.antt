@@ -1,11 +1,11 @@
 -- The lines of losses: docs/COMMANDS.md, "What is printed".
-use Rattle.std.specs.Prelude.{◌+◌, ℕ, List, [], ◌∷◌, ◌++◌, Option, Some, None, codes, flat_map, length}
+use Rattle.std.specs.Prelude.{ℕ, List, [], ◌∷◌, ◌++◌, Option, Some, None, codes, flat_map, length}
 use Rattle.hex.specs.Hex.{encode_lower}
 use Rattle.bolt_check.specs.Keys.{Key}
-use Rattle.bolt_check.specs.declared.finding.Finding.{Finding}
 use Rattle.bolt_tree.specs.Paths.{Path}
 use Rattle.bolt_recover.specs.Losses.{LossView}
-use Rattle.bolt_report.specs.FaultWords.{count_line, finding_sentence}
+use Rattle.bolt_recover.specs.Losses.{LostView, everything, parts}
+use Rattle.bolt_report.specs.FaultWords.{finding_sentence}
 use Rattle.bolt_report.specs.Lines.{line}
 use Rattle.bolt_report.specs.ListLines.{hex_path}
 
@@ -31,10 +31,11 @@ loss_text loss = (finding_sentence loss.finding ++ codes "; lost: ") ++ (bucket_
 abbrev pub losses_text : List LossView → List ℕ
 losses_text losses = flat_map loss_text losses
 
--- and then how many errors there are with those before
-abbrev pub counted_losses_text : (earlier : ℕ) → List LossView → List ℕ
-counted_losses_text earlier losses = losses_text losses ++ count_line (earlier + length losses)
+-- if the root page is lost, everything is
+abbrev pub lost_lines : LostView → List ℕ
+lost_lines (everything x) = finding_sentence x ++ codes "; lost: everything\n"
+lost_lines (parts losses) = losses_text losses
 
--- where the root page is lost, everything is
-abbrev pub all_lost_text : (earlier : ℕ) → Finding → List ℕ
-all_lost_text earlier finding = (finding_sentence finding ++ codes "; lost: everything\n") ++ count_line (earlier + 1)
+abbrev pub lost_count : LostView → ℕ
+lost_count (everything x) = 1
+lost_count (parts losses) = length losses

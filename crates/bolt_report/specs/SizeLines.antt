@@ -1,11 +1,15 @@
 -- The sizes of the buckets in a bucket as a text: docs/COMMANDS.md, "What is printed".
-use Rattle.std.specs.Prelude.{◌≡◌, ℕ, ◌+◌, ◌++◌, List, codes, decimal, filter, flat_map, map}
+use Rattle.std.specs.Prelude.{◌≡◌, ℕ, ◌+◌, ◌++◌, List, [], ◌∷◌, Some, codes, decimal, filter, flat_map, map, if◌then◌else◌}
 use Rattle.std.specs.List.{AllByRecursion}
+use Rattle.json.specs.Json as json
+use Rattle.json.specs.Json.{member, no_members, object}
 use Rattle.bolt_format.specs.Elements.{LeafElement}
 use Rattle.bolt_format.specs.declared.meta.Meta.{Meta}
 use Rattle.bolt_tree.specs.Entries.{start_of}
 use Rattle.bolt_report.specs.Figures.{capped}
-use Rattle.bolt_report.specs.Forms.{value_text}
+use Rattle.bolt_report.specs.FigureForms.{figures_then}
+use Rattle.bolt_report.specs.Forms.{is_json, json_in, json_text, value_text}
+use Rattle.bolt_report.specs.Lines.{line}
 use Rattle.bolt_report.specs.StatsOf.{IsStatsOf}
 use Rattle.bolt_report.specs.declared.statistics.Stats.{Stats}
 use Rattle.bolt_report.specs.declared.form.Form.{Form}
@@ -21,14 +25,28 @@ bytes_allocated stats = capped (stats.branch_allocated + stats.leaf_allocated + 
 unfoldable pub size_columns : Stats → List ℕ
 size_columns stats = (decimal stats.keys ++ codes " ") ++ ((decimal (bytes_used stats) ++ codes " ") ++ (decimal (bytes_allocated stats) ++ codes " "))
 
+-- the beginning of an object with the same
+abbrev pub size_members : Stats → List ℕ
+size_members stats =
+    codes "{\"keys\":" ++ (decimal stats.keys ++ (codes ",\"used\":" ++ (decimal (bytes_used stats) ++ (codes ",\"allocated\":" ++ (decimal (bytes_allocated stats) ++ codes ",\"name\":")))))
+
+-- the same as an object, with the name as JSON
+abbrev pub size_json : Stats → json.Json → json.Json
+size_json stats name = object (figures_then
+    ((codes "keys", Some stats.keys) ∷ (codes "used", Some (bytes_used stats)) ∷ (codes "allocated", Some (bytes_allocated stats)) ∷ [])
+    (member (codes "name") name no_members))
+
+-- the line of a bucket with this name: the columns and then the name in a form, or an object
+abbrev pub size_text : Form → Stats → List ℕ → List ℕ
+size_text form stats name = if is_json form then line (json_text (size_json stats (json_in form name))) else size_columns stats ++ value_text form name
+
 -- a bucket's entry, with the figures of that bucket and all buckets in it
 pub record Sized : Type 0 where
   pub entry : LeafElement
   pub stats : Stats
 
--- its line: the columns, and the bucket's name in a form
 abbrev pub size_line : Form → Sized → List ℕ
-size_line form sized = size_columns sized.stats ++ value_text form sized.entry.key
+size_line form sized = size_text form sized.stats sized.entry.key
 
 abbrev pub sizes_text : Form → List Sized → List ℕ
 sizes_text form sized = flat_map (size_line form) sized

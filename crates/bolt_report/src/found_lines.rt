@@ -1,60 +1,56 @@
-//! The lines of pages that are found though nothing leads to them.
+//! The lines of what is lost, and of pages that are found though nothing leads to them.
 ghost use Rattle.std.specs.List.{All};
 ghost use Rattle.std.specs.Prelude.{◌≡◌, ◌≤◌, map};
 ghost use Rattle.bolt_format.specs.Endings.{ending};
 ghost use Rattle.bolt_format.specs.Shown.{shown};
 ghost use Rattle.bolt_format.specs.Wrote.{Wrote};
-ghost use Rattle.bolt_recover.specs.ShownLosses.{loss_view};
-ghost use Rattle.bolt_report.specs.FoundLines.{IsFoundLeaf, all_lost_and_found_text, bucket_count, found_line, found_text, found_view, lost_and_found_text};
+ghost use Rattle.bolt_recover.specs.ShownLosses.{lost_view};
+ghost use Rattle.bolt_report.specs.FoundLines.{IsFoundLeaf, bucket_count, counted_lost_text, found_line, found_text, found_view, lost_text};
 
-use crate::fault_lines::{put_count, put_sentence};
-use crate::loss_lines::losses_text;
+use crate::fault_lines::put_count;
+use crate::loss_lines::{count_of, put_lost};
 use crate::pieces::{Piece, put_pieces};
-use bolt_check::Finding;
 use bolt_format::{Kind, Page, Sink, SinkFault};
-use bolt_recover::{Found, Loss};
+use bolt_recover::{Found, Lost};
 
-/// Writes the line of each loss, the line of each found page, and then the line with the number of
-/// losses, as `2 errors found`. The lines of `earlier` errors were written before, two at most.
+/// Writes the line of each loss, or the one that says that everything is lost, and then the line of
+/// each found page.
 ///
 /// # Errors
 ///
 /// `SinkFault` if the sink failed. It has then accepted a prefix of the text.
-pub fn lost_and_found_text<S: Sink>(
-    losses: &[Loss<'_>],
+pub fn lost_text<S: Sink>(
+    lost: Lost<'_>,
     found: &[Found<'_>],
-    earlier: u64,
     sink: &mut S,
 ) -> Result<(), SinkFault>
-    requires few { earlier ≤ 2 }
-    requires leaves { All IsFoundLeaf found.now }
-    ensures { Wrote S.Sink sink.old sink.new (lost_and_found_text earlier (map loss_view losses.now) (map found_view found.now)) (ending result) }
+    requires { All IsFoundLeaf found.now }
+    ensures { Wrote S.Sink sink.old sink.new (lost_text (lost_view lost) (map found_view found.now)) (ending result) }
 {
-    losses_text(losses, sink)?;
-    put_all_found(found, sink)?;
-    put_count(earlier + losses.len() as u64, sink)
+    put_lost(lost, sink)?;
+    put_all_found(found, sink)
 }
 
-/// Writes the line of a lost root page, with which everything is lost, the line of each found page,
-/// and then the line with the number of errors, as `1 errors found`. The lines of `earlier` errors
-/// were written before, two at most.
+/// Writes what `lost_text` writes, and then the line with the number of errors, as `2 errors found`:
+/// one for each loss, and one if everything is lost. The lines of `earlier` errors were written before,
+/// two at most.
 ///
 /// # Errors
 ///
 /// `SinkFault` if the sink failed. It has then accepted a prefix of the text.
-pub fn all_lost_and_found_text<S: Sink>(
-    finding: &Finding,
+pub fn counted_lost_text<S: Sink>(
+    lost: Lost<'_>,
     found: &[Found<'_>],
     earlier: u64,
     sink: &mut S,
 ) -> Result<(), SinkFault>
     requires few { earlier ≤ 2 }
     requires leaves { All IsFoundLeaf found.now }
-    ensures { Wrote S.Sink sink.old sink.new (all_lost_and_found_text earlier finding.now (map found_view found.now)) (ending result) }
+    ensures { Wrote S.Sink sink.old sink.new (counted_lost_text earlier (lost_view lost) (map found_view found.now)) (ending result) }
 {
-    put_sentence(finding, b"; lost: everything\n", sink)?;
+    put_lost(lost, sink)?;
     put_all_found(found, sink)?;
-    put_count(earlier + 1, sink)
+    put_count(earlier + count_of(lost), sink)
 }
 
 fn put_all_found<S: Sink>(found: &[Found<'_>], sink: &mut S) -> Result<(), SinkFault>

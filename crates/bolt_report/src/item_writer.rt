@@ -3,19 +3,20 @@ ghost use Rattle.std.specs.Prelude.{◌≡◌, ◌⊎◌, IfErr, if◌then◌els
 ghost use Rattle.hex.specs.Hex.{encode_lower};
 ghost use Rattle.bolt_format.specs.Endings.{ending};
 ghost use Rattle.bolt_format.specs.Wrote.{Wrote};
-ghost use Rattle.bolt_report.specs.Forms.{is_printable, is_text, item_text, value_text};
+ghost use Rattle.bolt_report.specs.Forms.{digits_json, is_printable, is_text, item_text, json_text, mixed_text, value_text};
 ghost use Rattle.bolt_report.specs.ReportEndings.{report_ending};
 
 use crate::fault::ReportFault;
 use crate::form::Form;
 use crate::hexadecimal::put_hex;
 use crate::json_text::JsonText;
+use crate::pieces::{Piece, put_pieces};
 use crate::puts::put;
 use bolt_format::{Sink, SinkFault};
 use std::alloc::Global;
 use std::str;
 
-/// Writes keys and values in a form. Only JSON needs memory, which is kept from item to item.
+/// Writes keys and values in a form. Only `Json` needs memory, which is kept from item to item.
 #[derive(Drop)]
 pub(crate) struct ItemWriter {
     form: Form,
@@ -30,6 +31,13 @@ impl ItemWriter {
             form,
             json: JsonText::new(alloc),
         }
+    }
+
+    /// The form.
+    pub(crate) fn form(&self) -> Form
+        ensures { result ≡ self.now.form }
+    {
+        self.form
     }
 
     /// Writes a key or a value, and a line feed.
@@ -58,7 +66,9 @@ impl ItemWriter {
             Form::Hex => put_hex(bytes, sink)?,
             Form::Bytes => put(bytes, sink)?,
             Form::Text => put_or_hex(bytes, is_text(bytes), sink)?,
+            Form::Mixed => put_mixed(bytes, sink)?,
             Form::Json => put(self.json.item(bytes)?, sink)?,
+            Form::JsonHex => put_hex_string(bytes, sink)?,
         }
         Ok(())
     }
@@ -73,6 +83,25 @@ fn put_or_hex<S: Sink>(bytes: &[u8], as_it_is: bool, sink: &mut S) -> Result<(),
     } else {
         put_hex(bytes, sink)
     }
+}
+
+/// Writes bytes as they are, or in hexadecimal after `0x`.
+fn put_mixed<S: Sink>(bytes: &[u8], sink: &mut S) -> Result<(), SinkFault>
+    ensures { Wrote S.Sink sink.old sink.new (mixed_text bytes.now) (ending result) }
+{
+    if can_be_printed(bytes) && !bytes.starts_with(b"0x") {
+        put(bytes, sink)
+    } else {
+        put_pieces(&[Piece::Bytes(b"0x"), Piece::Hex(bytes)], sink)
+    }
+}
+
+/// Writes a JSON string of bytes in hexadecimal.
+#[tactic(auto, unfolding(json::specs::Print::print_from))]
+fn put_hex_string<S: Sink>(bytes: &[u8], sink: &mut S) -> Result<(), SinkFault>
+    ensures { Wrote S.Sink sink.old sink.new (json_text (digits_json bytes.now)) (ending result) }
+{
+    put_pieces(&[Piece::HexString(bytes)], sink)
 }
 
 /// Whether each byte is a printable ASCII character.

@@ -42,7 +42,7 @@ impl JsonText {
     /// The line of a member of a listing.
     #[tactic(auto, unfolding(crate::specs::JsonLines::json_line))]
     pub(crate) fn line(&mut self, path: &[&[u8]], item: &Item<'_>) -> Result<&[u8], NoMemory>
-        ensures { IfOk result (λ text. text.now ≡ json_line (path_of path.now, item_view item.now)) }
+        ensures { IfOk result (λ text. text.now ≡ json_line item_json (path_of path.now, item_view item.now)) }
     {
         let mut writer = self.writer();
         write_member(&mut writer, path, item, &mut self.digits)?;

@@ -59,7 +59,7 @@ pub(crate) fn write_member(
     digits: &mut Vec<u8>,
 ) -> Result<(), NoMemory>
     ensures before { writer.new.before ≡ writer.old.before }
-    ensures tokens { OnOk result (writer.new.tokens ≡ writer.old.tokens ++ json_tokens (member_json (path_of path.now, item_view item.now))) }
+    ensures tokens { OnOk result (writer.new.tokens ≡ writer.old.tokens ++ json_tokens (member_json item_json (path_of path.now, item_view item.now))) }
 {
     writer.begin_object()?;
     writer.key("path")?;
@@ -70,7 +70,7 @@ pub(crate) fn write_member(
 /// Writes the parts of a path as an array.
 fn write_path(writer: &mut Writer, path: &[&[u8]], digits: &mut Vec<u8>) -> Result<(), NoMemory>
     ensures before { writer.new.before ≡ writer.old.before }
-    ensures tokens { OnOk result (writer.new.tokens ≡ writer.old.tokens ++ json_tokens (array (parts_json (path_of path.now)))) }
+    ensures tokens { OnOk result (writer.new.tokens ≡ writer.old.tokens ++ json_tokens (array (parts_json item_json (path_of path.now)))) }
 {
     writer.begin_array()?;
     write_parts(writer, path, digits)?;
@@ -92,7 +92,7 @@ fn write_parts(writer: &mut Writer, path: &[&[u8]], digits: &mut Vec<u8>) -> Res
 /// Writes the value of a member, or the sequence of its bucket, and the end of the object.
 fn write_end(writer: &mut Writer, item: &Item<'_>, digits: &mut Vec<u8>) -> Result<(), NoMemory>
     ensures before { writer.new.before ≡ writer.old.before }
-    ensures tokens { OnOk result (writer.new.tokens ≡ writer.old.tokens ++ members_tokens (end_json (item_view item.now))) }
+    ensures tokens { OnOk result (writer.new.tokens ≡ writer.old.tokens ++ members_tokens (end_json item_json (item_view item.now))) }
 {
     match item {
         Item::Value(value) => {

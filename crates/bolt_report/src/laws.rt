@@ -1,15 +1,17 @@
 //! What the definitions of figures, of sizes and of the lines of a listing imply.
-ghost use Rattle.std.specs.Prelude.{◌≡◌, ℕ, List, Some, option_and_then};
+ghost use Rattle.std.specs.Prelude.{◌≡◌, ◌<◌, ◌^◌, ℕ, List, Some, map, option_and_then};
+ghost use Rattle.hex.specs.Hex.{IsBytes};
 ghost use Rattle.json.specs.Json.{document};
 ghost use Rattle.bolt_format.specs.Elements.{LeafElement};
 ghost use Rattle.bolt_format.specs.declared.meta.Meta.{Meta};
 ghost use Rattle.bolt_check.specs.Sound.{HasSoundTrees};
-ghost use Rattle.bolt_report.specs.Forms.{json_text};
+ghost use Rattle.bolt_report.specs.FigureForms.{Named, figures_json, json_name};
+ghost use Rattle.bolt_report.specs.Forms.{digits_json, item_json, json_text};
 ghost use Rattle.bolt_report.specs.JsonLines.{member_json};
-ghost use Rattle.bolt_report.specs.JsonReadings.{IsMemberOfBytes, member_of};
+ghost use Rattle.bolt_report.specs.JsonReadings.{HaveWords, IsMemberOfBytes, digits_of, figures_of, item_of, member_of, size_of};
 ghost use Rattle.bolt_report.specs.ListForms.{listing_lines};
 ghost use Rattle.bolt_report.specs.ListLines.{listing_text};
-ghost use Rattle.bolt_report.specs.SizeLines.{AreSized, Sized};
+ghost use Rattle.bolt_report.specs.SizeLines.{AreSized, Sized, bytes_allocated, bytes_used, size_json};
 ghost use Rattle.bolt_report.specs.StatsOf.{IsStatsOf};
 ghost use Rattle.bolt_report.specs.declared.statistics.Stats.{Stats};
 ghost use Rattle.bolt_report.specs.declared.form.ListForm.TheVariants as ListForm;
@@ -39,10 +41,34 @@ pub fn sizes_exist()
 
 /// A JSON line without its line feed is a JSON document: an object with the path, and the value or
 /// the sequence. A reader that looks up its members by their names finds all of it again, whatever its
-/// bytes are.
+/// bytes are, in either of the forms that are JSON.
 pub fn json_lines_read_back()
-    ensures document { (m : Member) → IsMemberOfBytes m → document (json_text (member_json m)) ≡ Some (member_json m) }
-    ensures member { (m : Member) → IsMemberOfBytes m → option_and_then member_of (document (json_text (member_json m))) ≡ Some m }
+    ensures document { (m : Member) → IsMemberOfBytes m → document (json_text (member_json item_json m)) ≡ Some (member_json item_json m) }
+    ensures member { (m : Member) → IsMemberOfBytes m → option_and_then (member_of item_of) (document (json_text (member_json item_json m))) ≡ Some m }
+    ensures hex_document { (m : Member) → IsMemberOfBytes m → document (json_text (member_json digits_json m)) ≡ Some (member_json digits_json m) }
+    ensures hex_member { (m : Member) → IsMemberOfBytes m → option_and_then (member_of digits_of) (document (json_text (member_json digits_json m))) ≡ Some m }
+{}
+
+/// A key or a value as JSON is a JSON document, of which a reader finds its bytes.
+pub fn json_items_read_back()
+    ensures item { (bytes : List ℕ) → IsBytes bytes → option_and_then item_of (document (json_text (item_json bytes))) ≡ Some bytes }
+    ensures hex_item { (bytes : List ℕ) → IsBytes bytes → option_and_then digits_of (document (json_text (digits_json bytes))) ≡ Some bytes }
+{}
+
+/// Figures as JSON without the line feed are a JSON document. A reader that goes over its members
+/// finds the names, with underscores for spaces, and the number of each, if it has one.
+pub fn json_figures_read_back()
+    ensures { (figures : List Named) → HaveWords figures → option_and_then figures_of (document (json_text (figures_json figures))) ≡ Some (map (λ figure. (json_name figure.0, figure.1)) figures) }
+{}
+
+/// The line of a bucket's sizes as JSON is, without its line feed, a JSON document. A reader that
+/// looks up its members by their names finds the number of keys, the bytes used, the bytes allocated,
+/// and the name.
+pub fn json_sizes_read_back()
+    ensures item { (stats : Stats) (name : List ℕ) → stats.keys < 2 ^ 64 → IsBytes name
+        → option_and_then (size_of item_of) (document (json_text (size_json stats (item_json name)))) ≡ Some (stats.keys, bytes_used stats, bytes_allocated stats, name) }
+    ensures hex_item { (stats : Stats) (name : List ℕ) → stats.keys < 2 ^ 64 → IsBytes name
+        → option_and_then (size_of digits_of) (document (json_text (size_json stats (digits_json name)))) ≡ Some (stats.keys, bytes_used stats, bytes_allocated stats, name) }
 {}
 
 /// The lines of a listing in hexadecimal are its text.

@@ -36,18 +36,17 @@ pub use fault::ReportFault;
 pub use fault_lines::{
     finding_text, findings_text, meta_fault_text, page_fault_text, snapshot_fault_text,
 };
-pub use form::{Form, ListForm};
-pub use found_lines::{all_lost_and_found_text, lost_and_found_text};
+pub use form::{FigureForm, Form, ListForm};
+pub use found_lines::{counted_lost_text, lost_text};
 pub use key_lines::{buckets, keys};
 pub use key_prefixes::keys_with_prefix;
 pub use list_lines::list;
-pub use loss_lines::{all_lost_text, counted_losses_text, losses_text};
 pub use maps::page_map;
 pub use member_lines::MemberLines;
 pub use metas::{info, slot_fault_text};
 pub use page_lines::page_text;
 pub use page_table::{pages, pages_table};
-pub use part_lines::{list_part, list_recovered_part};
+pub use part_lines::{list_members_part, list_part};
 pub use size_lines::sizes;
 pub use statistics::{Stats, add, stats_text};
 pub use values::{item, value};

@@ -6,13 +6,15 @@ ghost use Rattle.bolt_tree.specs.FileListings.{ForListing};
 ghost use Rattle.bolt_tree.specs.Listing.{rest_from};
 ghost use Rattle.bolt_tree.specs.Paths.{path_of};
 ghost use Rattle.bolt_tree.specs.ShownEntries.{item_view};
+ghost use Rattle.bolt_report.specs.Forms.{digits_json};
+ghost use Rattle.bolt_report.specs.JsonLines.{json_line};
 ghost use Rattle.bolt_report.specs.ListLines.{listing_text, member_line};
 ghost use Rattle.bolt_report.specs.ReportEndings.{report_ending};
 
 use crate::fault::ReportFault;
 use crate::member_lines::MemberLines;
 use crate::part_lines::put_part;
-use crate::pieces::{Piece, put_pieces};
+use crate::pieces::{PathForm, Piece, put_pieces};
 use bolt_check::Checked;
 use bolt_format::{Sink, SinkFault};
 use bolt_tree::{Item, Walk};
@@ -50,7 +52,7 @@ pub(crate) fn put_member<'a, S: Sink>(
     match item {
         Item::Value(value) => put_pieces(
             &[
-                Piece::HexPath(path),
+                Piece::HexPath(path, PathForm::Slashes),
                 Piece::Bytes(b" = "),
                 Piece::Hex(value),
                 Piece::Bytes(b"\n"),
@@ -59,10 +61,45 @@ pub(crate) fn put_member<'a, S: Sink>(
         ),
         Item::Bucket { sequence } => put_pieces(
             &[
-                Piece::HexPath(path),
+                Piece::HexPath(path, PathForm::Slashes),
                 Piece::Bytes(b" bucket "),
                 Piece::Number(*sequence),
                 Piece::Bytes(b"\n"),
+            ],
+            sink,
+        ),
+    }
+}
+
+/// Writes the line of a member at a path as JSON, with its parts and its value in hexadecimal.
+#[tactic(auto, unfolding(crate::specs::JsonLines::json_line))]
+pub(crate) fn put_hex_json<'a, S: Sink>(
+    path: &'a [&'a [u8]],
+    item: &Item<'a>,
+    sink: &mut S,
+) -> Result<(), SinkFault>
+    ensures { Wrote S.Sink sink.old sink.new (json_line digits_json (path_of path.now, item_view item.now)) (ending result) }
+{
+    let path = Piece::HexPath(path, PathForm::Strings);
+    let begin = Piece::Bytes(b"{\"path\":[");
+    match item {
+        Item::Value(value) => put_pieces(
+            &[
+                begin,
+                path,
+                Piece::Bytes(b"],\"value\":"),
+                Piece::HexString(value),
+                Piece::Bytes(b"}\n"),
+            ],
+            sink,
+        ),
+        Item::Bucket { sequence } => put_pieces(
+            &[
+                begin,
+                path,
+                Piece::Bytes(b"],\"bucket\":"),
+                Piece::Number(*sequence),
+                Piece::Bytes(b"}\n"),
             ],
             sink,
         ),

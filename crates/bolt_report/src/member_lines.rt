@@ -9,16 +9,24 @@ ghost use Rattle.bolt_tree.specs.ShownEntries.{item_view};
 use crate::fault::ReportFault;
 use crate::form::ListForm;
 use crate::json_text::JsonText;
-use crate::list_lines::put_member;
+use crate::list_lines::{put_hex_json, put_member};
 use crate::puts::put;
 use bolt_format::Sink;
 use bolt_tree::Item;
 use std::alloc::Global;
 
-/// Writes lines of members in a form. Only JSON needs memory, which is kept from line to line.
+/// Writes lines of members in a form. Only `Json` needs memory, which is kept from line to line.
 #[derive(Drop)]
 pub struct MemberLines {
-    json: Option<JsonText>,
+    writer: LineWriter,
+}
+
+/// What writes a line in each form.
+#[derive(Drop)]
+enum LineWriter {
+    Hex,
+    Json(JsonText),
+    JsonHex,
 }
 
 impl MemberLines {
@@ -26,19 +34,21 @@ impl MemberLines {
     pub fn new(alloc: Global, form: ListForm) -> MemberLines
         ensures { lines_form result ≡ form }
     {
-        match form {
-            ListForm::Hex => MemberLines::hex(),
-            ListForm::Json => MemberLines {
-                json: Some(JsonText::new(alloc)),
-            },
-        }
+        let writer = match form {
+            ListForm::Hex => LineWriter::Hex,
+            ListForm::Json => LineWriter::Json(JsonText::new(alloc)),
+            ListForm::JsonHex => LineWriter::JsonHex,
+        };
+        MemberLines { writer }
     }
 
     /// Lines in hexadecimal.
     pub fn hex() -> MemberLines
         ensures { lines_form result ≡ ListForm.Hex }
     {
-        MemberLines { json: None }
+        MemberLines {
+            writer: LineWriter::Hex,
+        }
     }
 
     /// Writes the line of a member: its path, and then its value or the sequence of its bucket
@@ -46,9 +56,9 @@ impl MemberLines {
     ///
     /// # Errors
     ///
-    /// `Sink` if the sink failed; `NoMemory` if memory ran out for a JSON line, and the sink had not
-    /// failed. The sink has then accepted a prefix of the line. There is no other error, and the
-    /// form `Hex` needs no memory. After an error further lines can be written.
+    /// `Sink` if the sink failed; `NoMemory` if memory ran out for a line in the form `Json`, and the
+    /// sink had not failed. The sink has then accepted a prefix of the line. There is no other
+    /// error, and no other form needs memory. After an error further lines can be written.
     pub fn put<S: Sink>(
         &mut self,
         path: &[&[u8]],
@@ -59,9 +69,10 @@ impl MemberLines {
         ensures written { Wrote S.Sink sink.old sink.new (list_line (lines_form self.old) (path_of path.now, item_view item.now)) (report_ending result) }
         ensures fault { IfErr result (λ fault. (fault ≡ ReportFault.Sink) ⊎ ((fault ≡ ReportFault.NoMemory) × (lines_form self.old ≡ ListForm.Json))) }
     {
-        match &mut self.json {
-            None => put_member(path, item, sink)?,
-            Some(json) => put(json.line(path, item)?, sink)?,
+        match &mut self.writer {
+            LineWriter::Hex => put_member(path, item, sink)?,
+            LineWriter::Json(json) => put(json.line(path, item)?, sink)?,
+            LineWriter::JsonHex => put_hex_json(path, item, sink)?,
         }
         Ok(())
     }

@@ -1,21 +1,38 @@
 //! A meta as a text, and a slot without one.
-ghost use Rattle.std.specs.Prelude.{◌≡◌};
+ghost use Rattle.std.specs.Prelude.{◌≡◌, codes};
 ghost use Rattle.bolt_format.specs.Endings.{ending};
 ghost use Rattle.bolt_format.specs.Wrote.{Wrote};
-ghost use Rattle.bolt_report.specs.MetaLines.{freelist_text, info_text, slot_fault_text, slot_number};
+ghost use Rattle.bolt_report.specs.FigureForms.{named_line, number_text};
+ghost use Rattle.bolt_report.specs.MetaLines.{freelist_of, info_text, slot_fault_text, slot_number};
 ghost use Rattle.bolt_report.specs.Pieces.{piece_text};
 
 use crate::fault_lines::meta_fault_line;
+use crate::form::FigureForm;
 use crate::pieces::{Piece, put_pieces};
 use bolt_format::{Meta, MetaFault, NO_FREELIST, Sink, SinkFault, Slot};
 
-/// Writes the seven lines of a meta and its slot (docs/COMMANDS.md, "What is printed").
+/// Writes the seven figures of a meta and its slot in a form (docs/COMMANDS.md, "What is printed").
 ///
 /// # Errors
 ///
 /// `SinkFault` if the sink failed. It has then accepted a prefix of the text.
-pub fn info<S: Sink>(slot: Slot, meta: &Meta, sink: &mut S) -> Result<(), SinkFault>
-    ensures { Wrote S.Sink sink.old sink.new (info_text slot meta.now) (ending result) }
+pub fn info<S: Sink>(
+    slot: Slot,
+    meta: &Meta,
+    form: FigureForm,
+    sink: &mut S,
+) -> Result<(), SinkFault>
+    ensures { Wrote S.Sink sink.old sink.new (info_text form slot meta.now) (ending result) }
+{
+    match form {
+        FigureForm::Lines => put_lines(slot, meta, sink),
+        FigureForm::Json => put_json(slot, meta, sink),
+    }
+}
+
+#[tactic(auto, unfolding(crate::specs::MetaLines::info_text))]
+fn put_lines<S: Sink>(slot: Slot, meta: &Meta, sink: &mut S) -> Result<(), SinkFault>
+    ensures { Wrote S.Sink sink.old sink.new (info_text FigureForm.Lines slot meta.now) (ending result) }
 {
     put_pieces(
         &[
@@ -24,10 +41,33 @@ pub fn info<S: Sink>(slot: Slot, meta: &Meta, sink: &mut S) -> Result<(), SinkFa
             Piece::Figure(b"txid", meta.txid),
             Piece::Figure(b"root", meta.root),
             Piece::Figure(b"sequence", meta.root_sequence),
-            Piece::Bytes(b"freelist "),
-            freelist_piece(meta.freelist),
-            Piece::Bytes(b"\n"),
+            freelist_line(meta.freelist),
             Piece::Figure(b"high water", meta.high_water),
+        ],
+        sink,
+    )
+}
+
+fn put_json<S: Sink>(slot: Slot, meta: &Meta, sink: &mut S) -> Result<(), SinkFault>
+    ensures { Wrote S.Sink sink.old sink.new (info_text FigureForm.Json slot meta.now) (ending result) }
+{
+    put_pieces(
+        &[
+            Piece::Bytes(b"{\"page_size\":"),
+            Piece::Number(u64::from(meta.page_size)),
+            Piece::Bytes(b",\"meta\":"),
+            Piece::Number(slot_number(slot)),
+            Piece::Bytes(b",\"txid\":"),
+            Piece::Number(meta.txid),
+            Piece::Bytes(b",\"root\":"),
+            Piece::Number(meta.root),
+            Piece::Bytes(b",\"sequence\":"),
+            Piece::Number(meta.root_sequence),
+            Piece::Bytes(b",\"freelist\":"),
+            freelist_value(meta.freelist),
+            Piece::Bytes(b",\"high_water\":"),
+            Piece::Number(meta.high_water),
+            Piece::Bytes(b"}\n"),
         ],
         sink,
     )
@@ -61,12 +101,24 @@ fn slot_number(slot: Slot) -> u64
     }
 }
 
-/// The number of the freelist's page, or that there is none.
-fn freelist_piece(id: u64) -> Piece<'static>
-    ensures { piece_text result ≡ freelist_text id }
+/// The line of the freelist's page, or that there is none.
+#[tactic(auto, unfolding(crate::specs::Lines::figure_line))]
+fn freelist_line(id: u64) -> Piece<'static>
+    ensures { piece_text result ≡ named_line (codes "freelist") (freelist_of id) }
 {
     if id == NO_FREELIST {
-        Piece::Bytes(b"none")
+        Piece::Bytes(b"freelist none\n")
+    } else {
+        Piece::Figure(b"freelist", id)
+    }
+}
+
+/// The number of the freelist's page, or that there is none, as JSON.
+fn freelist_value(id: u64) -> Piece<'static>
+    ensures { piece_text result ≡ number_text (freelist_of id) }
+{
+    if id == NO_FREELIST {
+        Piece::Bytes(b"null")
     } else {
         Piece::Number(id)
     }

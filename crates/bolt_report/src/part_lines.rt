@@ -9,8 +9,6 @@ ghost use Rattle.bolt_tree.specs.ListingParts.{begins_with, bucket_part, has_buc
 ghost use Rattle.bolt_tree.specs.Order.{Rises};
 ghost use Rattle.bolt_tree.specs.Paths.{path_cmp, path_of};
 ghost use Rattle.bolt_tree.specs.ShownEntries.{item_view};
-ghost use Rattle.bolt_recover.specs.Recovered.{ForRecovered};
-ghost use Rattle.bolt_recover.specs.Recoveries.{ForLosses, recovery_file, recovery_left, recovery_losses, recovery_meta};
 ghost use Rattle.bolt_report.specs.ListForms.{lines_form, listing_lines};
 ghost use Rattle.bolt_report.specs.ReportEndings.{report_ending};
 
@@ -19,7 +17,6 @@ use crate::form::ListForm;
 use crate::member_lines::MemberLines;
 use bolt_check::Checked;
 use bolt_format::Sink;
-use bolt_recover::Recovery;
 use bolt_tree::{Item, Members, Walk};
 use std::alloc::Global;
 
@@ -48,25 +45,26 @@ pub fn list_part<S: Sink>(
     put_part(&mut walk, below, &mut MemberLines::new(alloc, form), sink)
 }
 
-/// Writes a line in a form for each path that is left to a recovery, begins with `below` and doesn't
-/// come before `from`, as `list_part` does, with its errors. If it returns `Ok`, the recovery has
-/// reported all losses, and the result says whether what was left has the bucket at `below`: always
-/// if `below` is empty. If it doesn't, the text is empty, even if there is a value at `below`.
-pub fn list_recovered_part<S: Sink>(
+/// Writes a line in a form for each member that is left, begins with `below` and doesn't come before
+/// `from`, as `list_part` does, with its errors. If it returns `Ok`, it has taken all members, and the
+/// result says whether what was left has the bucket at `below`: always if `below` is empty. If it
+/// doesn't, the text is empty, even if there is a value at `below`.
+pub fn list_members_part<'a, M: Members<'a>, S: Sink>(
     alloc: Global,
-    recovery: &mut Recovery<'_>,
+    members: &mut M,
     below: &[&[u8]],
     from: &[&[u8]],
     form: ListForm,
     sink: &mut S,
 ) -> Result<bool, ReportFault>
-    ensures written { ForRecovered (recovery_file recovery.old) (recovery_meta recovery.old) (λ listing. Wrote S.Sink sink.old sink.new (listing_lines form (rest_from (path_of from.now) (bucket_part (path_of below.now) (recovery_left recovery.old listing)))) (report_ending result)) }
-    ensures found { IfOk result (λ found. ForRecovered (recovery_file recovery.old) (recovery_meta recovery.old) (λ listing. found ≡ has_bucket (path_of below.now) (recovery_left recovery.old listing))) }
-    ensures all { OnOk result (ForLosses (recovery_file recovery.old) (recovery_meta recovery.old) (λ losses. recovery_losses recovery.new ≡ losses)) }
+    ensures written { (listing : List Member) → M.lists members.old listing → Rises member_cmp (M.left members.old listing)
+        → Wrote S.Sink sink.old sink.new (listing_lines form (rest_from (path_of from.now) (bucket_part (path_of below.now) (M.left members.old listing)))) (report_ending result) }
+    ensures found { IfOk result (λ found. (listing : List Member) → M.lists members.old listing → found ≡ has_bucket (path_of below.now) (M.left members.old listing)) }
+    ensures end { OnOk result (M.ends_as members.old members.new) }
     ensures fault { IfErr result (λ fault. (fault ≡ ReportFault.Sink) ⊎ (fault ≡ ReportFault.NoMemory)) }
 {
     let mut lines = MemberLines::new(alloc, form);
-    put_bucket_part(recovery, below, from, &mut lines, sink)
+    put_bucket_part(members, below, from, &mut lines, sink)
 }
 
 /// Writes a line for each member that is left, up to the first whose path doesn't begin with

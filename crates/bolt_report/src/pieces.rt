@@ -6,8 +6,7 @@ ghost use Rattle.bolt_format.specs.Wrote.{Wrote};
 ghost use Rattle.bolt_tree.specs.Paths.{path_of};
 ghost use Rattle.bolt_report.specs.Gathers.{Gathers};
 ghost use Rattle.bolt_report.specs.Lines.{column, figure_line};
-ghost use Rattle.bolt_report.specs.ListLines.{hex_path};
-ghost use Rattle.bolt_report.specs.Pieces.{later_parts, piece_text, pieces_text};
+ghost use Rattle.bolt_report.specs.Pieces.{hex_string, later_parts, part_text, path_text, piece_text, pieces_text, separator};
 
 use crate::hexadecimal::{put_hex, write_digits};
 use crate::puts::put;
@@ -24,14 +23,25 @@ pub(crate) enum Piece<'a> {
     Number(u64),
     /// Bytes in lower-case hexadecimal.
     Hex(&'a [u8]),
-    /// Parts in lower-case hexadecimal, joined by slashes.
-    HexPath(&'a [&'a [u8]]),
+    /// Bytes in lower-case hexadecimal as a JSON string.
+    HexString(&'a [u8]),
+    /// Parts in lower-case hexadecimal, in a form.
+    HexPath(&'a [&'a [u8]], PathForm),
     /// A line of a name, a space and a number in decimal.
     Figure(&'a [u8], u64),
     /// Bytes, and spaces up to a width.
     Column(&'a [u8], usize),
     /// A number in decimal, and spaces up to a width.
     NumberColumn(u64, usize),
+}
+
+/// How the parts of a path are written in hexadecimal.
+#[derive(Clone, Copy, Debug, PartialEq, Eq)]
+pub(crate) enum PathForm {
+    /// As they are, joined by slashes.
+    Slashes,
+    /// As JSON strings, joined by commas.
+    Strings,
 }
 
 /// The number of bytes that are gathered.
@@ -62,7 +72,8 @@ fn add_piece<S: Sink>(piece: &Piece<'_>, held: &mut Held, sink: &mut S) -> Resul
         Piece::Bytes(bytes) => add_bytes(bytes, held, sink),
         Piece::Number(n) => add_number(*n, held, sink),
         Piece::Hex(bytes) => add_hex(bytes, held, sink),
-        Piece::HexPath(parts) => add_path(parts, held, sink),
+        Piece::HexString(bytes) => add_hex_string(bytes, held, sink),
+        Piece::HexPath(parts, form) => add_path(parts, *form, held, sink),
         Piece::Figure(name, n) => add_figure(name, *n, held, sink),
         Piece::Column(text, width) => add_column(text, *width, held, sink),
         Piece::NumberColumn(n, width) => {
@@ -107,31 +118,78 @@ fn add_spaces<S: Sink>(count: usize, held: &mut Held, sink: &mut S) -> Result<()
     Ok(())
 }
 
-fn add_path<S: Sink>(parts: &[&[u8]], held: &mut Held, sink: &mut S) -> Result<(), SinkFault>
-    ensures { Gathers S.Sink sink.old sink.new held.old.items held.new.items (hex_path (path_of parts.now)) (ending result) }
+fn add_path<S: Sink>(
+    parts: &[&[u8]],
+    form: PathForm,
+    held: &mut Held,
+    sink: &mut S,
+) -> Result<(), SinkFault>
+    ensures { Gathers S.Sink sink.old sink.new held.old.items held.new.items (path_text form (path_of parts.now)) (ending result) }
 {
     let Some((first, rest)) = parts.split_first() else {
         return Ok(());
     };
-    add_hex(first, held, sink)?;
-    add_later_parts(rest, held, sink)
+    add_part(first, form, held, sink)?;
+    add_later_parts(rest, form, held, sink)
 }
 
-/// Adds a slash and then the part, for each of these parts.
-fn add_later_parts<S: Sink>(parts: &[&[u8]], held: &mut Held, sink: &mut S) -> Result<(), SinkFault>
-    ensures { Gathers S.Sink sink.old sink.new held.old.items held.new.items (later_parts parts.now) (ending result) }
+/// Adds a separator and then the part, for each of these parts.
+fn add_later_parts<S: Sink>(
+    parts: &[&[u8]],
+    form: PathForm,
+    held: &mut Held,
+    sink: &mut S,
+) -> Result<(), SinkFault>
+    ensures { Gathers S.Sink sink.old sink.new held.old.items held.new.items (later_parts form parts.now) (ending result) }
 {
     for part in parts {
-        add_later_part(part, held, sink)?;
+        add_later_part(part, form, held, sink)?;
     }
     Ok(())
 }
 
-fn add_later_part<S: Sink>(part: &[u8], held: &mut Held, sink: &mut S) -> Result<(), SinkFault>
-    ensures { Gathers S.Sink sink.old sink.new held.old.items held.new.items (0x2F ∷ encode_lower part.now) (ending result) }
+fn add_later_part<S: Sink>(
+    part: &[u8],
+    form: PathForm,
+    held: &mut Held,
+    sink: &mut S,
+) -> Result<(), SinkFault>
+    ensures { Gathers S.Sink sink.old sink.new held.old.items held.new.items (separator form ∷ part_text form part.now) (ending result) }
 {
-    add_bytes(b"/", held, sink)?;
-    add_hex(part, held, sink)
+    add_bytes(&[separator(form)], held, sink)?;
+    add_part(part, form, held, sink)
+}
+
+fn separator(form: PathForm) -> u8
+    ensures { result ≡ separator form }
+{
+    match form {
+        PathForm::Slashes => b'/',
+        PathForm::Strings => b',',
+    }
+}
+
+fn add_part<S: Sink>(
+    part: &[u8],
+    form: PathForm,
+    held: &mut Held,
+    sink: &mut S,
+) -> Result<(), SinkFault>
+    ensures { Gathers S.Sink sink.old sink.new held.old.items held.new.items (part_text form part.now) (ending result) }
+{
+    match form {
+        PathForm::Slashes => add_hex(part, held, sink),
+        PathForm::Strings => add_hex_string(part, held, sink),
+    }
+}
+
+/// Adds a JSON string of bytes in hexadecimal. Digits need no escapes.
+fn add_hex_string<S: Sink>(bytes: &[u8], held: &mut Held, sink: &mut S) -> Result<(), SinkFault>
+    ensures { Gathers S.Sink sink.old sink.new held.old.items held.new.items (hex_string bytes.now) (ending result) }
+{
+    add_bytes(b"\"", held, sink)?;
+    add_hex(bytes, held, sink)?;
+    add_bytes(b"\"", held, sink)
 }
 
 /// Adds bytes in hexadecimal; long ones are written part by part, and not held.

@@ -1,5 +1,5 @@
 //! The sizes of the buckets in a bucket as a text.
-ghost use Rattle.std.specs.Prelude.{◌≡◌, ◌∷◌, ◌++◌, ◌⊎◌, [], IfErr, List};
+ghost use Rattle.std.specs.Prelude.{◌≡◌, ◌∷◌, ◌++◌, ◌⊎◌, [], IfErr, List, true};
 ghost use Rattle.bolt_format.specs.Elements.{LeafElement};
 ghost use Rattle.bolt_format.specs.Endings.{ending};
 ghost use Rattle.bolt_format.specs.Wrote.{Wrote};
@@ -9,15 +9,17 @@ ghost use Rattle.bolt_tree.specs.Buckets.{bucket_checked, bucket_start};
 ghost use Rattle.bolt_tree.specs.Entries.{entry_view};
 ghost use Rattle.bolt_tree.specs.EntriesLeft.{ForEntries};
 ghost use Rattle.bolt_tree.specs.ShownEntries.{shown_entry};
-ghost use Rattle.bolt_report.specs.Forms.{value_text};
+ghost use Rattle.bolt_report.specs.Forms.{is_json, json_in, json_text, value_text};
+ghost use Rattle.bolt_report.specs.Lines.{line};
 ghost use Rattle.bolt_report.specs.ReportEndings.{report_ending};
-ghost use Rattle.bolt_report.specs.SizeLines.{AreSized, Sized, bytes_allocated, bytes_used, size_columns, sizes_text};
+ghost use Rattle.bolt_report.specs.SizeLines.{AreSized, Sized, bytes_allocated, bytes_used, size_columns, size_json, size_members, size_text, sizes_text};
 
 use crate::bucket_stats::stats;
 use crate::fault::ReportFault;
 use crate::form::Form;
 use crate::item_writer::ItemWriter;
 use crate::pieces::{Piece, put_pieces};
+use crate::puts::put;
 use crate::statistics::Stats;
 use bolt_format::{Sink, SinkFault};
 use bolt_tree::{Bucket, Entry, Item};
@@ -25,7 +27,7 @@ use std::alloc::Global;
 
 /// Writes the sizes of those entries of a bucket that are buckets, a line for each, in byte order
 /// (docs/COMMANDS.md, "What is printed"): the number of keys, the bytes used, the bytes allocated,
-/// and its name in a form. The figures are those of the bucket with all buckets in it. Inline
+/// and its name in a form, or all of it as an object if the form is JSON. The figures are those of the bucket with all buckets in it. Inline
 /// buckets count as allocated what they use. A sum above 2^64 - 1 saturates there.
 ///
 /// # Errors
@@ -86,11 +88,65 @@ fn put_size<S: Sink>(
     sink: &mut S,
 ) -> Result<(), ReportFault>
     ensures form { items.new.form ≡ items.old.form }
+    ensures written { Wrote S.Sink sink.old sink.new (size_text items.old.form stats.now name.now) (report_ending result) }
+    ensures fault { IfErr result (λ fault. (fault ≡ ReportFault.Sink) ⊎ (fault ≡ ReportFault.NoMemory)) }
+{
+    if items.form().is_json() {
+        put_object(stats, name, items, sink)
+    } else {
+        put_row(stats, name, items, sink)
+    }
+}
+
+/// Writes the figures and the name with spaces between them.
+fn put_row<S: Sink>(
+    stats: &Stats,
+    name: &[u8],
+    items: &mut ItemWriter,
+    sink: &mut S,
+) -> Result<(), ReportFault>
+    ensures form { items.new.form ≡ items.old.form }
     ensures written { Wrote S.Sink sink.old sink.new (size_columns stats.now ++ value_text items.old.form name.now) (report_ending result) }
     ensures fault { IfErr result (λ fault. (fault ≡ ReportFault.Sink) ⊎ (fault ≡ ReportFault.NoMemory)) }
 {
     put_columns(stats, sink)?;
     items.put_line(name, sink)
+}
+
+/// Writes the figures and the name, which is JSON, as an object.
+fn put_object<S: Sink>(
+    stats: &Stats,
+    name: &[u8],
+    items: &mut ItemWriter,
+    sink: &mut S,
+) -> Result<(), ReportFault>
+    requires { is_json items.old.form ≡ true }
+    ensures form { items.new.form ≡ items.old.form }
+    ensures written { Wrote S.Sink sink.old sink.new (line (json_text (size_json stats.now (json_in items.old.form name.now)))) (report_ending result) }
+    ensures fault { IfErr result (λ fault. (fault ≡ ReportFault.Sink) ⊎ (fault ≡ ReportFault.NoMemory)) }
+{
+    put_members(stats, sink)?;
+    items.put(name, sink)?;
+    put(b"}\n", sink)?;
+    Ok(())
+}
+
+/// Writes the beginning of the object, up to the name.
+fn put_members<S: Sink>(stats: &Stats, sink: &mut S) -> Result<(), SinkFault>
+    ensures { Wrote S.Sink sink.old sink.new (size_members stats.now) (ending result) }
+{
+    put_pieces(
+        &[
+            Piece::Bytes(b"{\"keys\":"),
+            Piece::Number(stats.keys),
+            Piece::Bytes(b",\"used\":"),
+            Piece::Number(bytes_used(stats)),
+            Piece::Bytes(b",\"allocated\":"),
+            Piece::Number(bytes_allocated(stats)),
+            Piece::Bytes(b",\"name\":"),
+        ],
+        sink,
+    )
 }
 
 /// Writes the number of keys, the bytes used and the bytes allocated, each followed by a space.

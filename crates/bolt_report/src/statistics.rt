@@ -4,6 +4,7 @@ ghost use Rattle.bolt_format.specs.Endings.{ending};
 ghost use Rattle.bolt_format.specs.Wrote.{Wrote};
 ghost use Rattle.bolt_report.specs.Figures.{add_stats, stats_text};
 
+use crate::form::FigureForm;
 use crate::pieces::{Piece, put_pieces};
 use bolt_format::{Sink, SinkFault};
 
@@ -61,13 +62,23 @@ pub fn add(a: Stats, b: Stats) -> Stats
     }
 }
 
-/// Writes the thirteen lines of figures (docs/COMMANDS.md, "What is printed").
+/// Writes the thirteen figures in a form (docs/COMMANDS.md, "What is printed").
 ///
 /// # Errors
 ///
 /// `SinkFault` if the sink failed. It has then accepted a prefix of the text.
-pub fn stats_text<S: Sink>(stats: &Stats, sink: &mut S) -> Result<(), SinkFault>
-    ensures { Wrote S.Sink sink.old sink.new (stats_text stats.now) (ending result) }
+pub fn stats_text<S: Sink>(stats: &Stats, form: FigureForm, sink: &mut S) -> Result<(), SinkFault>
+    ensures { Wrote S.Sink sink.old sink.new (stats_text form stats.now) (ending result) }
+{
+    match form {
+        FigureForm::Lines => put_lines(stats, sink),
+        FigureForm::Json => put_json(stats, sink),
+    }
+}
+
+#[tactic(auto, unfolding(crate::specs::Figures::stats_text))]
+fn put_lines<S: Sink>(stats: &Stats, sink: &mut S) -> Result<(), SinkFault>
+    ensures { Wrote S.Sink sink.old sink.new (stats_text FigureForm.Lines stats.now) (ending result) }
 {
     put_pieces(
         &[
@@ -84,6 +95,43 @@ pub fn stats_text<S: Sink>(stats: &Stats, sink: &mut S) -> Result<(), SinkFault>
             Piece::Figure(b"leaf overflow", stats.leaf_overflow),
             Piece::Figure(b"leaf allocated", stats.leaf_allocated),
             Piece::Figure(b"leaf used", stats.leaf_used),
+        ],
+        sink,
+    )
+}
+
+fn put_json<S: Sink>(stats: &Stats, sink: &mut S) -> Result<(), SinkFault>
+    ensures { Wrote S.Sink sink.old sink.new (stats_text FigureForm.Json stats.now) (ending result) }
+{
+    put_pieces(
+        &[
+            Piece::Bytes(b"{\"buckets\":"),
+            Piece::Number(stats.buckets),
+            Piece::Bytes(b",\"inline_buckets\":"),
+            Piece::Number(stats.inline_buckets),
+            Piece::Bytes(b",\"inline_used\":"),
+            Piece::Number(stats.inline_used),
+            Piece::Bytes(b",\"keys\":"),
+            Piece::Number(stats.keys),
+            Piece::Bytes(b",\"depth\":"),
+            Piece::Number(stats.depth),
+            Piece::Bytes(b",\"branch_pages\":"),
+            Piece::Number(stats.branch_pages),
+            Piece::Bytes(b",\"branch_overflow\":"),
+            Piece::Number(stats.branch_overflow),
+            Piece::Bytes(b",\"branch_allocated\":"),
+            Piece::Number(stats.branch_allocated),
+            Piece::Bytes(b",\"branch_used\":"),
+            Piece::Number(stats.branch_used),
+            Piece::Bytes(b",\"leaf_pages\":"),
+            Piece::Number(stats.leaf_pages),
+            Piece::Bytes(b",\"leaf_overflow\":"),
+            Piece::Number(stats.leaf_overflow),
+            Piece::Bytes(b",\"leaf_allocated\":"),
+            Piece::Number(stats.leaf_allocated),
+            Piece::Bytes(b",\"leaf_used\":"),
+            Piece::Number(stats.leaf_used),
+            Piece::Bytes(b"}\n"),
         ],
         sink,
     )

@@ -9,7 +9,7 @@ use bolt_cli::{
     PagesJob, StatsJob,
 };
 use bolt_format::choose;
-use bolt_report::{Form, ListForm};
+use bolt_report::{FigureForm, Form, ListForm};
 use std::alloc::{AllocError, Global};
 
 /// The name of a file that is handed over as bytes.
@@ -105,6 +105,7 @@ fn readers(alloc: Global) -> Result<Vec<Job>, AllocError> {
     jobs.push(Job::Stats(StatsJob {
         file: unnamed(alloc),
         meta: MetaChoice::Active,
+        form: FigureForm::Lines,
         path: Vec::new(alloc),
     }))?;
     jobs.push(list_job(alloc, ListForm::Json, false))?;

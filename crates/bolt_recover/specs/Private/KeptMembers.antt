@@ -3,7 +3,7 @@ use Rattle.std.specs.Prelude.{ℕ, List, []}
 use Rattle.bolt_format.specs.declared.meta.Meta.{Meta}
 use Rattle.bolt_tree.specs.Listing.{Member}
 use Rattle.bolt_tree.specs.Paths.{Path}
-use Rattle.bolt_recover.specs.Lost.{LostView, everything, parts}
+use Rattle.bolt_recover.specs.Losses.{LostView, everything, parts}
 use Rattle.bolt_recover.specs.Recoveries.{recovery_file, recovery_left, recovery_losses, recovery_meta, recovery_path, recovery_work}
 use Rattle.bolt_recover.specs.declared.kept.Kept.{Kept}
 use Rattle.bolt_recover.specs.declared.kept.Kept.TheVariants.{Nothing, Recovery}

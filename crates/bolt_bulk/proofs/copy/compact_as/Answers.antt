@@ -9,39 +9,41 @@ use Rattle.bolt_layout.specs.Layout.{layout_held, layout_root}
 use Rattle.bolt_tree.specs.Listing.{IsListing, Member}
 use Rattle.bolt_tree.specs.Tree.{tree_of}
 use Rattle.bolt_bulk.specs.Compacting.{Copies, too_many}
-use Rattle.bolt_bulk.proofs.WholeWalks.{walk_whole}
 use Rattle.bolt_bulk.proofs.copy.compact_as.Goals as goal
 
+pub a_walk_is_whole-requires : goal.a_walk_is_whole-requires
+a_walk_is_whole-requires g c = rw c.new-walk.ensures.checked c.new-walk.ensures.all
+
 pub compact_members-requires : goal.compact_members-requires
-compact_members-requires g c κs = ((refl, tt), walk_whole c.args.checked c.new.result c.new.ensures.checked c.new.ensures.all c.file_is_of_one_tree.ensures)
+compact_members-requires g c κs = ((refl, tt), c.a_walk_is_whole.ensures)
 
 pub returns-clause-copied : goal.returns-clause-copied
 returns-clause-copied g c = subst₂
     (λ (file : Checked) (meta : Meta). (listing : List Member) → IsListing (bytes_of file) (meta_of file) listing
     → Copies g.S.Sink.taken g.S.Sink.failed c.args.sink.now c.compact_members.new.sink (layout_of_listing c.args.layout c.args.page_size listing meta.root_sequence) c.compact_members.result)
-    c.new.ensures.checked c.meta.ensures c.compact_members.ensures.copied
+    c.new-walk.ensures.checked c.meta.ensures c.compact_members.ensures.copied
 
 pub returns-clause-accepted : goal.returns-clause-accepted
 returns-clause-accepted g c = subst₂
     (λ (file : Checked) (meta : Meta). OnOk c.compact_members.result ((listing : List Member) → IsListing (bytes_of file) (meta_of file) listing
     → ∥ IsSoundCopy c.args.layout c.args.page_size (tree_of listing) meta.root_sequence listing ∥₁))
-    c.new.ensures.checked c.meta.ensures c.compact_members.ensures.accepted
+    c.new-walk.ensures.checked c.meta.ensures c.compact_members.ensures.accepted
 
 pub returns-clause-held : goal.returns-clause-held
 returns-clause-held g c = subst
     (λ (file : Checked). IfOk c.compact_members.result (λ done. (listing : List Member) → IsListing (bytes_of file) (meta_of file) listing
     → done.held ≡ layout_held c.args.layout c.args.page_size (tree_of listing)))
-    c.new.ensures.checked c.compact_members.ensures.held
+    c.new-walk.ensures.checked c.compact_members.ensures.held
 
 pub returns-clause-bounded : goal.returns-clause-bounded
 returns-clause-bounded g c = subst
     (λ (file : Checked). IfOk c.compact_members.result (λ done. (listing : List Member) → IsListing (bytes_of file) (meta_of file) listing
     → done.held ≤ most_held c.args.page_size listing))
-    c.new.ensures.checked c.compact_members.ensures.bounded
+    c.new-walk.ensures.checked c.compact_members.ensures.bounded
 
 pub returns-clause-prefixes : goal.returns-clause-prefixes
 returns-clause-prefixes g c = subst₂
     (λ (file : Checked) (meta : Meta). (listing : List Member) → IsListing (bytes_of file) (meta_of file) listing
     → length (layout_of_listing c.args.layout c.args.page_size listing meta.root_sequence) < too_many
     → ∥ RefusesPrefixes (layout_of_listing c.args.layout c.args.page_size listing meta.root_sequence) (layout_root c.args.layout c.args.page_size (tree_of listing)) ∥₁)
-    c.new.ensures.checked c.meta.ensures c.compact_members.ensures.prefixes
+    c.new-walk.ensures.checked c.meta.ensures c.compact_members.ensures.prefixes

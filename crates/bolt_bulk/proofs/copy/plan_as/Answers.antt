@@ -5,13 +5,15 @@ use Rattle.bolt_check.specs.declared.checked_file.Checked.{Checked}
 use Rattle.bolt_format.specs.declared.meta.Meta.{Meta}
 use Rattle.bolt_tree.specs.Listing.{IsListing, Member}
 use Rattle.bolt_bulk.specs.Compacting.{Plans}
-use Rattle.bolt_bulk.proofs.WholeWalks.{walk_whole}
 use Rattle.bolt_bulk.proofs.copy.plan_as.Goals as goal
 
+pub a_walk_is_whole-requires : goal.a_walk_is_whole-requires
+a_walk_is_whole-requires c = rw c.new-walk.ensures.checked c.new-walk.ensures.all
+
 pub plan_members-requires : goal.plan_members-requires
-plan_members-requires c κs = ((refl, tt), walk_whole c.args.checked c.new.result c.new.ensures.checked c.new.ensures.all c.file_is_of_one_tree.ensures)
+plan_members-requires c κs = ((refl, tt), c.a_walk_is_whole.ensures)
 
 pub returns : goal.returns
 returns c = subst₂
     (λ (file : Checked) (meta : Meta). (listing : List Member) → IsListing (bytes_of file) (meta_of file) listing → Plans c.args.layout c.args.page_size meta.root_sequence listing c.plan_members.result)
-    c.new.ensures.checked c.meta.ensures c.plan_members.ensures
+    c.new-walk.ensures.checked c.meta.ensures c.plan_members.ensures

@@ -15,7 +15,7 @@ returns-in_err-slot g c =
 
 pub returns-in_err-info : goal.returns-in_err-info
 returns-in_err-info g c =
-    let answer = done (info_text c.in_ok-slot.slot c.in_ok-slot.meta) in (
+    let answer = done (info_text c.args.job.now.form c.in_ok-slot.slot c.in_ok-slot.meta) in (
       answer,
       inl (c.in_ok-slot.slot, c.in_ok-slot.meta, c.in_ok-slot.ensures.found, refl),
       Does-part _ _ answer _ c.in_err-info.ensures c.from_residual-in_err-info.ensures.1,
@@ -23,7 +23,7 @@ returns-in_err-info g c =
 
 pub returns : goal.returns
 returns g c =
-    let answer = done (info_text c.in_ok-slot.slot c.in_ok-slot.meta) in (
+    let answer = done (info_text c.args.job.now.form c.in_ok-slot.slot c.in_ok-slot.meta) in (
       answer,
       inl (c.in_ok-slot.slot, c.in_ok-slot.meta, c.in_ok-slot.ensures.found, refl),
       Does-whole _ _ answer c.in_ok-info.ensures,

@@ -18,8 +18,8 @@ returns-in_err-stats g c =
     let opened = c.in_ok-checked.ensures in
     let failure = c.in_err-stats.field-0.0 in (
       refused failure,
-      of_read (λ (f : List ℕ). IsStatsAnswer f (path_in c.args.job.now.path.items)) c.args.file.now c.args.job.now.meta c.in_ok-checked.checked opened.bytes opened.sound (refused failure)
-          (stats_missing c.in_ok-checked.checked (path_in c.args.job.now.path.items) failure (rw (sym c.as_slice.ensures.value) c.in_err-stats.ensures.missing)),
+      of_read (λ (f : List ℕ). IsStatsAnswer f (path_in c.args.job.now.path.items) c.args.job.now.form) c.args.file.now c.args.job.now.meta c.in_ok-checked.checked opened.bytes opened.sound (refused failure)
+          (stats_missing c.in_ok-checked.checked (path_in c.args.job.now.path.items) c.args.job.now.form failure (rw (sym c.as_slice.ensures.value) c.in_err-stats.ensures.missing)),
       Does-nothing g.O.Sink.taken g.O.Sink.failed c.args.out.now failure _ c.from_residual-in_err-stats.ensures.1,
     )
 
@@ -27,9 +27,9 @@ pub returns-in_err-stats_text : goal.returns-in_err-stats_text
 returns-in_err-stats_text g c =
     let opened = c.in_ok-checked.ensures in
     let stats = c.in_ok-stats.stats in
-    let answer = done (stats_text stats) in (
+    let answer = done (stats_text c.args.job.now.form stats) in (
       answer,
-      of_read (λ (f : List ℕ). IsStatsAnswer f (path_in c.args.job.now.path.items)) c.args.file.now c.args.job.now.meta c.in_ok-checked.checked opened.bytes opened.sound answer (inl (stats, (rw (sym c.as_slice.ensures.value) c.in_ok-stats.ensures.found), refl)),
+      of_read (λ (f : List ℕ). IsStatsAnswer f (path_in c.args.job.now.path.items) c.args.job.now.form) c.args.file.now c.args.job.now.meta c.in_ok-checked.checked opened.bytes opened.sound answer (inl (stats, (rw (sym c.as_slice.ensures.value) c.in_ok-stats.ensures.found), refl)),
       Does-part _ _ answer _ c.in_err-stats_text.ensures c.from_residual-in_err-stats_text.ensures.1,
     )
 
@@ -37,8 +37,8 @@ pub returns : goal.returns
 returns g c =
     let opened = c.in_ok-checked.ensures in
     let stats = c.in_ok-stats.stats in
-    let answer = done (stats_text stats) in (
+    let answer = done (stats_text c.args.job.now.form stats) in (
       answer,
-      of_read (λ (f : List ℕ). IsStatsAnswer f (path_in c.args.job.now.path.items)) c.args.file.now c.args.job.now.meta c.in_ok-checked.checked opened.bytes opened.sound answer (inl (stats, (rw (sym c.as_slice.ensures.value) c.in_ok-stats.ensures.found), refl)),
+      of_read (λ (f : List ℕ). IsStatsAnswer f (path_in c.args.job.now.path.items) c.args.job.now.form) c.args.file.now c.args.job.now.meta c.in_ok-checked.checked opened.bytes opened.sound answer (inl (stats, (rw (sym c.as_slice.ensures.value) c.in_ok-stats.ensures.found), refl)),
       Does-whole _ _ answer c.in_ok-stats_text.ensures,
     )

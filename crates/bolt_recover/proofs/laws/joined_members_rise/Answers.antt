@@ -1,14 +1,18 @@
 -- The found pages leave room for their names, and the recovered listing for their bucket.
-use Rattle.std.proofs.Common.{◌≡◌, ◌≢◌, ◌∙◌, ℕ, List, [], ap, length, refl, sym}
+use Rattle.std.proofs.Common.{◌∙◌, List, [], ◌∷◌, ap}
 use Rattle.std.proofs.Math.Logic.{∥∥₁_elim}
 use Rattle.std.proofs.Props.{props}
-use Rattle.bolt_recover.specs.Found.{AreFound, numbers_of}
-use Rattle.bolt_recover.specs.Joined.{LacksBucketKey}
+use Rattle.bolt_tree.specs.Listing.{Member, member_cmp}
+use Rattle.bolt_tree.specs.Order.{Rises}
+use Rattle.bolt_recover.specs.Found.{numbers_of}
 use Rattle.bolt_recover.specs.JoinedMembers.{joined_file, joined_meta}
 use Rattle.bolt_recover.specs.Private.KeptMembers.{kept_file, kept_meta}
-use Rattle.bolt_recover.specs.declared.found.Found.{Found}
 use Rattle.bolt_recover.proofs.FoundAll.{one_found}
 use Rattle.bolt_recover.proofs.laws.joined_members_rise.Goals as goal
+
+rises_prop : (listing : List Member) → IsProp (Rises member_cmp listing)
+rises_prop [] = hlevel props
+rises_prop (m ∷ listing) = hlevel (rises_prop listing, props)
 
 pub returns : goal.returns
 unfolding joined_file joined_meta
@@ -16,7 +20,7 @@ returns c = λ listing is.
     let joined = c.args.joined.now in
     let file = kept_file joined.kept in
     let meta = kept_meta joined.kept in
-    ∥∥₁_elim joined.pages (hlevel props) (λ are.
+    ∥∥₁_elim joined.pages (rises_prop listing) (λ are.
     c.joined_listing_rises.ensures file meta listing is are.few
     (λ recovered found recovers pages some.
     are.apart (λ none. some (one_found file meta found (numbers_of joined.found.now) pages are.are_found ∙ ap numbers_of none)) recovered recovers))

@@ -5,4 +5,4 @@ use Rattle.bolt_report.proofs.pieces.add_later_parts.Given as goal
 
 -- the parts before this one were added
 abbrev pub invariant-loop-part : goal.invariant-loop-part
-invariant-loop-part g l = Holds g.S.Sink l.initial.sink l.sink l.initial.held.items l.held.items (later_parts (take l.part-index l.parts))
+invariant-loop-part g l = Holds g.S.Sink l.initial.sink l.sink l.initial.held.items l.held.items (later_parts l.form (take l.part-index l.parts))

@@ -1,6 +1,7 @@
 -- The recovery begins again over the same file, in which the key of the bucket isn't taken.
 use Rattle.std.proofs.Common.{◌≡◌, ◌∙◌, List, length, arith, ap, subst₂, sym, ℕ}
 use Rattle.std.proofs.lemmas.Grind.{common_steps}
+use Rattle.std.proofs.lemmas.List.{length-map}
 use Rattle.bolt_format.specs.declared.meta.Meta.{Meta}
 use Rattle.bolt_tree.specs.Listing.{Member}
 use Rattle.bolt_recover.specs.Joined.{IsJoined}
@@ -10,8 +11,10 @@ use Rattle.bolt_recover.specs.declared.found.Found.{Found}
 use Rattle.bolt_recover.proofs.joined.Joined.beside.Goals as goal
 
 pub returns-then-branch-clause-refused : goal.returns-then-branch-clause-refused
-returns-then-branch-clause-refused c = λ exists. (
-  λ none. let long : length c.args.found.now ≡ 0 = ap (λ (fs : List Found). length fs) none in grind (arith, common_steps, long, c.is_empty.ensures, c.if-is_empty.false),
+returns-then-branch-clause-refused c = (
+  λ none.
+      let long : length c.args.found.now ≡ 0 = sym (length-map c.args.found.now (λ (f : Found). f.number)) ∙ ap (λ (ns : List ℕ). length ns) none in
+      grind (arith, common_steps, long, c.is_empty.ensures, c.if-is_empty.false),
   rw c.if-branch.true at c.in_ok-has_bucket_key.ensures.has,
 )
 

@@ -1,0 +1,48 @@
+-- The format can hold what is recovered of a damaged file, and what is found of it.
+use Rattle.std.proofs.Common.{inl, inr, ℕ, List, [], ◌∷◌, ◌++◌, length, arith, subst, sym}
+use Rattle.std.specs.List.{Contains}
+use Rattle.std.proofs.lemmas.List.{same_from_push}
+use Rattle.bolt_format.specs.Bytes.{IsBytes}
+use Rattle.bolt_format.specs.ElementLengths.{IsKeyLength}
+use Rattle.bolt_format.specs.declared.meta.Meta.{Meta}
+use Rattle.bolt_check.specs.Keys.{Key}
+use Rattle.bolt_tree.specs.Entries.{Bucket, Item}
+use Rattle.bolt_tree.specs.Listing.{Member}
+use Rattle.bolt_tree.specs.Paths.{Path}
+use Rattle.bolt_layout.specs.Storable.{IsFitMember}
+use Rattle.bolt_layout.proofs.FileTrees.{good_fits, good_inner, good_shown, held_fits}
+use Rattle.bolt_recover.specs.Joined.{IsFoundMember, IsJoined, lost_and_found}
+use Rattle.bolt_recover.specs.PageKeys.{page_key}
+use Rattle.bolt_recover.specs.Recovered.{IsRecovered}
+use Rattle.bolt_recover.proofs.HeldMembers.{held, shows_entry}
+use Rattle.bolt_recover.proofs.JoinedContents.{joined_contents}
+use Rattle.bolt_recover.proofs.PageNames.{digits_long}
+
+abbrev Fits : Member → Type 0
+Fits m = IsFitMember m.0 m.1
+
+-- a bucket that is made for what is found
+bucket_fits : (front : Path) (key : Key) → IsKeyLength (length key) → Fits (front ++ key ∷ [], Bucket 0)
+bucket_fits front key fit = (λ own last same. subst (λ (j : Key). IsKeyLength (length j)) (same_from_push front own key last same).1 fit, omega arith)
+
+named_fits : (n : ℕ) → IsKeyLength (length (page_key n))
+named_fits n = let long = digits_long 16 n in (omega (arith, long), omega (arith, long))
+
+module _ (file : List ℕ) (meta : Meta) (bytes : IsBytes file) where
+  pub recovered_fits : (listing : List Member) → IsRecovered file meta listing → (path : Path) (item : Item) → Contains listing (path, item) → IsFitMember path item
+  recovered_fits listing is path item has = held_fits file meta bytes meta.root path item (held file meta is.survey path item ((is.exact path item).0 has))
+
+  found_fits : (found : List ℕ) (m : Member) → IsFoundMember file meta found m → Fits m
+  found_fits found m (n, (has, inl same)) = subst Fits (sym same) (bucket_fits (lost_and_found ∷ []) (page_key n) (named_fits n))
+  found_fits found m (n, (has, inr (inl (e, (on, same))))) =
+      subst Fits (sym same) (good_fits (lost_and_found ∷ page_key n ∷ []) e (good_shown file meta bytes n e (shows_entry file meta n e on)))
+  found_fits found m (n, (has, inr (inr (e, (on, bucket, root, (inner, (within, same))))))) =
+      let good = good_shown file meta bytes n e (shows_entry file meta n e on) in
+      subst Fits (sym same) (good_fits (lost_and_found ∷ page_key n ∷ e.key ∷ []) inner (good_inner e.value inner (good.value bucket) root within))
+
+  pub joined_fits : (listing : List Member) → IsJoined file meta listing → (path : Path) (item : Item) → Contains listing (path, item) → IsFitMember path item
+  joined_fits listing is path item has = elim (joined_contents file meta listing is.recovered is.found (path, item) is is.recovers is.are_found has) [
+    | inl old ↦ recovered_fits is.recovered is.recovers path item old
+    | inr (inl same) ↦ subst Fits (sym same) (bucket_fits [] lost_and_found (omega arith, omega arith))
+    | inr (inr own) ↦ found_fits is.found (path, item) own
+  ]

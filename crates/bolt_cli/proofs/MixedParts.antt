@@ -1,0 +1,27 @@
+-- What is printed of an item in the form `mixed` is read back as a part.
+use Rattle.std.proofs.Common.{◌≡◌, ◌∙◌, ◌++◌, ◌&&◌, ◌==◌, ℕ, List, Bool, true, false, Result, Ok, ap, codes, drop, not, refl, sym, take}
+use Rattle.std.specs.Prelude.{if◌then◌else◌}
+use Rattle.std.specs.Cmp.Lexicographic.{pointwise}
+use Rattle.std.specs.Str.{bytes_eq}
+use Rattle.std.proofs.lemmas.Bool.{and_parts, not-true}
+use Rattle.std.proofs.lemmas.Slice.Eq.{bytes_eq-Decides}
+use Rattle.hex.proofs.HexLemmas.{decode_of-encode_lower}
+use Rattle.hex.specs.Hex.{IsBytes, encode_lower}
+use Rattle.bolt_report.specs.Forms.{is_marked, is_printable, mixed_text}
+use Rattle.bolt_tree.proofs.Filters.{not_true}
+use Rattle.bolt_cli.specs.PathWords.{hex_bytes, mixed_bytes, or_bad_hex}
+
+-- without the mark it is read as text
+unmarked : (bytes : List ℕ) → is_marked bytes ≡ false → bytes_eq (take 2 bytes) (codes "0x") ≡ false
+unmarked bytes none =
+    not_true (bytes_eq (take 2 bytes) (codes "0x")) (λ marked.
+    let same : take 2 bytes ≡ codes "0x" = (bytes_eq-Decides (take 2 bytes) (codes "0x")).0 marked in
+    let both : true ≡ false = sym (ap (λ (front : List ℕ). pointwise (λ a b. a == b) (codes "0x") front) same) ∙ none in cc)
+
+module _ (bytes : List ℕ) (are : IsBytes bytes) where
+  by_test : (plain : Bool) → (is_printable bytes && not (is_marked bytes)) ≡ plain → mixed_bytes (if plain then bytes else codes "0x" ++ encode_lower bytes) ≡ Ok bytes
+  by_test true e = ap (λ (b : Bool). if b then hex_bytes (drop 2 bytes) else Ok bytes) (unmarked bytes (not-true (is_marked bytes) (and_parts _ _ e).1))
+  by_test false e = ap or_bad_hex (decode_of-encode_lower bytes are)
+
+  pub mixed_back : mixed_bytes (mixed_text bytes) ≡ Ok bytes
+  mixed_back = by_test (is_printable bytes && not (is_marked bytes)) refl

@@ -1,0 +1,62 @@
+-- Figures as an object, piece by piece.
+use Rattle.std.proofs.Common.{◌≡◌, ◌∙◌, ◌++◌, ◌∷◌, [], ℕ, List, Bool, true, false, Option, Some, None, ap, append_assoc, codes, refl, sym}
+use Rattle.std.specs.Prelude.{decimal, fold}
+use Rattle.json.proofs.Printed.Tokens.{print_from-append}
+use Rattle.json.specs.Json.{Json}
+use Rattle.json.specs.Print.{ends, escape_byte, print_from}
+use Rattle.json.specs.Token.{Token, end_object}
+use Rattle.json.specs.Tree.{json_tokens}
+use Rattle.bolt_format.specs.declared.meta.Meta.{Meta}
+use Rattle.bolt_format.specs.declared.meta.Slot.{Slot}
+use Rattle.bolt_report.specs.FigureForms.{figures_text, number_text}
+use Rattle.bolt_report.specs.Forms.{is_json, item_text, json_in, json_text}
+use Rattle.bolt_report.specs.Lines.{line}
+use Rattle.bolt_report.specs.SizeLines.{bytes_allocated, bytes_used, size_json, size_members}
+use Rattle.bolt_report.specs.declared.form.FigureForm.TheVariants as figure_form
+use Rattle.bolt_report.specs.declared.form.Form.{Form}
+use Rattle.bolt_report.specs.declared.form.Form.TheVariants as form
+use Rattle.bolt_report.specs.declared.statistics.Stats.{Stats}
+
+-- of a meta, of which the freelist may have no number
+pub meta_object : (page_size slot txid root sequence high_water : ℕ) (freelist : Option ℕ) → codes "{\"page_size\":" ++ (decimal page_size ++ (codes ",\"meta\":" ++ (decimal slot ++ (codes ",\"txid\":" ++ (decimal txid
+    ++ (codes ",\"root\":" ++ (decimal root ++ (codes ",\"sequence\":" ++ (decimal sequence ++ (codes ",\"freelist\":" ++ (number_text freelist ++ (codes ",\"high_water\":" ++ (decimal high_water ++ (codes "}\n" ++ []))))))))))))))
+    ≡ figures_text figure_form.Json ((codes "page size", Some page_size) ∷ (codes "meta", Some slot) ∷ (codes "txid", Some txid) ∷ (codes "root", Some root) ∷ (codes "sequence", Some sequence) ∷ (codes "freelist", freelist) ∷ (codes "high water", Some high_water) ∷ [])
+unfolding print_from escape_byte
+meta_object page_size slot txid root sequence high_water None = simp append_assoc
+meta_object page_size slot txid root sequence high_water (Some n) = simp append_assoc
+
+-- ---- the sizes of a bucket, and its name
+
+closes : (b : Bool) → print_from b (end_object ∷ []) ≡ codes "}"
+unfolding print_from
+closes true = refl
+closes false = refl
+
+-- a value, and then the end of the object
+value_closes : (value : Json) → print_from false (json_tokens value ++ end_object ∷ []) ≡ json_text value ++ codes "}"
+value_closes value =
+    print_from-append false (json_tokens value) (end_object ∷ []) ∙ ap (λ (text : List ℕ). json_text value ++ text) (closes (fold (λ _ t. ends t) false (json_tokens value)))
+
+-- what stands before the name, and the name
+abbrev opened : Stats → List ℕ → List ℕ
+opened stats name =
+    codes "{\"keys\":" ++ (decimal stats.keys ++ (codes ",\"used\":" ++ (decimal (bytes_used stats) ++ (codes ",\"allocated\":" ++ (decimal (bytes_allocated stats) ++ (codes ",\"name\":" ++ name))))))
+
+size_object : (stats : Stats) (name : Json) → size_members stats ++ (json_text name ++ codes "}\n") ≡ line (json_text (size_json stats name))
+unfolding print_from escape_byte
+size_object stats name =
+    let closed : size_members stats ++ (json_text name ++ codes "}\n") ≡ line (opened stats (json_text name ++ codes "}")) = simp append_assoc in
+    closed ∙ sym (ap (λ (text : List ℕ). line (opened stats text)) (value_closes name))
+
+-- an item in a form that is JSON
+json_item : (f : Form) (bytes : List ℕ) → is_json f ≡ true → item_text f bytes ≡ json_text (json_in f bytes)
+json_item form.Printable bytes is = absurd (cc)
+json_item form.Hex bytes is = absurd (cc)
+json_item form.Bytes bytes is = absurd (cc)
+json_item form.Text bytes is = absurd (cc)
+json_item form.Mixed bytes is = absurd (cc)
+json_item form.Json bytes is = refl
+json_item form.JsonHex bytes is = refl
+
+pub sized_item : (stats : Stats) (f : Form) (name : List ℕ) → is_json f ≡ true → size_members stats ++ (item_text f name ++ codes "}\n") ≡ line (json_text (size_json stats (json_in f name)))
+sized_item stats f name is = ap (λ (text : List ℕ). size_members stats ++ (text ++ codes "}\n")) (json_item f name is) ∙ size_object stats (json_in f name)

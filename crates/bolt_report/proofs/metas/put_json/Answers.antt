@@ -1,0 +1,8 @@
+use Rattle.bolt_format.proofs.WroteLemmas.{Wrote-same}
+use Rattle.bolt_report.specs.MetaLines.{info_text}
+use Rattle.bolt_report.proofs.FigureTexts.{meta_object}
+use Rattle.bolt_report.proofs.metas.put_json.Goals as goal
+
+pub returns : goal.returns
+unfolding info_text
+returns g c = Wrote-same (rw (c.freelist_value.ensures, c.slot_number.ensures, c.from.ensures) (meta_object _ _ _ _ _ _ _)) c.put_pieces.ensures

@@ -1,0 +1,29 @@
+use Rattle.std.proofs.Common.{◌≡◌, ◌∙◌, ◌++◌, List, ℕ, ap, codes}
+use Rattle.bolt_format.proofs.WroteLemmas.{Wrote-same, Wrote-then}
+use Rattle.bolt_report.specs.Forms.{json_in, json_text, item_text}
+use Rattle.bolt_report.specs.Lines.{line}
+use Rattle.bolt_report.specs.SizeLines.{size_json, size_members}
+use Rattle.bolt_report.specs.declared.form.Form.{Form}
+use Rattle.bolt_report.specs.declared.statistics.Stats.{Stats}
+use Rattle.bolt_report.proofs.FigureTexts.{sized_item}
+use Rattle.bolt_report.proofs.ReportLemmas.{Wrote-fault, Wrote-passed, Wrote-sink}
+use Rattle.bolt_report.proofs.size_lines.put_object.Goals as goal
+
+pub returns-in_err-put_members-clause-written : goal.returns-in_err-put_members-clause-written
+returns-in_err-put_members-clause-written g c =
+    Wrote-same (sized_item c.args.stats.now c.args.items.now.form c.args.name.now c.requires) (Wrote-sink _ _ c.in_err-put_members.ensures c.from_residual.ensures.1)
+
+pub returns-in_err-put-clause-written : goal.returns-in_err-put-clause-written
+returns-in_err-put-clause-written g c =
+    Wrote-same (sized_item c.args.stats.now c.args.items.now.form c.args.name.now c.requires)
+    (Wrote-then c.in_ok-put_members.ensures (Wrote-fault (codes "}\n") _ _ c.in_err-put.ensures.written c.from_residual-in_err-put.ensures.1))
+
+pub returns-in_err-put-2-clause-written : goal.returns-in_err-put-2-clause-written
+returns-in_err-put-2-clause-written g c =
+    Wrote-same (sized_item c.args.stats.now c.args.items.now.form c.args.name.now c.requires)
+    (Wrote-then c.in_ok-put_members.ensures (Wrote-then c.in_ok-put.ensures.written (Wrote-passed _ c.in_err-put-2.ensures c.from_residual-in_err-put-2.ensures.1)))
+
+pub returns-clause-written : goal.returns-clause-written
+returns-clause-written g c =
+    Wrote-same (sized_item c.args.stats.now c.args.items.now.form c.args.name.now c.requires)
+    (Wrote-then c.in_ok-put_members.ensures (Wrote-then c.in_ok-put.ensures.written c.in_ok-put-2.ensures))

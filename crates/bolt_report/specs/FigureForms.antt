@@ -1,0 +1,42 @@
+-- Figures by their names, as lines or as one JSON object: docs/COMMANDS.md, "What is printed".
+use Rattle.std.specs.Prelude.{ℕ, ◌==◌, List, [], ◌∷◌, ◌++◌, Option, Some, None, codes, decimal, flat_map, map, if◌then◌else◌}
+use Rattle.json.specs.Json as json
+use Rattle.json.specs.Json.{Members, member, no_members, null, number, object}
+use Rattle.bolt_report.specs.Forms.{json_text}
+use Rattle.bolt_report.specs.Lines.{figure_line, line}
+use Rattle.bolt_report.specs.declared.form.FigureForm.{FigureForm}
+use Rattle.bolt_report.specs.declared.form.FigureForm.TheVariants.{Json, Lines}
+
+-- a name, and its number if there is one
+abbrev pub Named : Type 0
+Named = List ℕ × Option ℕ
+
+-- its line
+abbrev pub named_line : List ℕ → Option ℕ → List ℕ
+named_line name (Some n) = figure_line name n
+named_line name None = name ++ codes " none\n"
+
+-- its name and its number as JSON; the name has underscores (95) for spaces (32)
+abbrev pub json_name : List ℕ → List ℕ
+json_name name = map (λ byte. if byte == 32 then 95 else byte) name
+
+abbrev pub number_json : Option ℕ → json.Json
+number_json (Some n) = number (decimal n)
+number_json None = null
+
+-- the text of that number
+abbrev pub number_text : Option ℕ → List ℕ
+number_text (Some n) = decimal n
+number_text None = codes "null"
+
+-- figures, and then other members of an object
+abbrev pub figures_then : List Named → Members → Members
+figures_then [] later = later
+figures_then (figure ∷ figures) later = member (json_name figure.0) (number_json figure.1) (figures_then figures later)
+
+abbrev pub figures_json : List Named → json.Json
+figures_json figures = object (figures_then figures no_members)
+
+abbrev pub figures_text : FigureForm → List Named → List ℕ
+figures_text Lines figures = flat_map (λ figure. named_line figure.0 figure.1) figures
+figures_text Json figures = line (json_text (figures_json figures))
