@@ -18,12 +18,12 @@ use Rattle.bolt_check.specs.Findings.{PageTests, node_finding}
 use Rattle.bolt_check.specs.Nodes.{IsInSpan, Node, node_at}
 use Rattle.bolt_check.specs.Ways.{At_page, root_spot}
 use Rattle.bolt_check.proofs.Lawful.{shape_passes}
-use Rattle.bolt_recover.specs.Losses.{AreLosses, LossView, loss_at, losses_of}
+use Rattle.bolt_recover.specs.Losses.{AreLosses, LossView, everything, loss_at, losses_of, parts}
 use Rattle.bolt_recover.specs.Places.{Place, place_at}
 use Rattle.bolt_recover.specs.Refusals.{IsUnrecoverable, LosesRoot}
 use Rattle.bolt_recover.specs.Surveys.{Has, IsSurvey, Visit}
 use Rattle.bolt_report.specs.FoundLines.{FoundView}
-use Rattle.bolt_cli.specs.Answers.{Answer, AnswersFound, AnswersLosses, IsCheckAnswer, IsCheckAnswerAfter, IsFoundAnswer, IsLostAndFoundAnswer, all_lost_and_found, all_refusal, check_refusal, done, found, losses_found, lost_and_found, none_found, refused}
+use Rattle.bolt_cli.specs.Answers.{Answer, AnswersFound, AnswersLosses, IsCheckAnswer, IsCheckAnswerAfter, IsFoundAnswer, IsLostAndFoundAnswer, all_refusal, check_refusal, done, found, lost_and_found, none_found, refused}
 use Rattle.bolt_cli.specs.GoodCopies.{IsGoodCopy, RefusesFile}
 use Rattle.bolt_cli.specs.FileFaults.{IsMetasFault, IsOtherFault}
 use Rattle.bolt_cli.specs.SnapshotAnswers.{copy_of, hash_found}
@@ -187,15 +187,15 @@ module _ (laws : Laws) where
 
     fails_losses : (losses : List LossView) → RefusesFile file ⊎ (faults.hash ≡ Some HashMissing) → AnswersLosses faults file Active losses answer → answer.ending ≢ Ok 0
     fails_losses [] why is = fails_found why is
-    fails_losses (loss ∷ losses) why is = ends_so answer (losses_found faults (loss ∷ losses)) is (λ same. cc)
+    fails_losses (loss ∷ losses) why is = ends_so answer (lost_and_found faults (parts (loss ∷ losses)) []) is (λ same. cc)
 
     fails_with_found : (losses : List LossView) (found : List FoundView) → RefusesFile file ⊎ (faults.hash ≡ Some HashMissing) → AnswersFound faults file Active losses found answer → answer.ending ≢ Ok 0
     fails_with_found [] found why is = fails_found why is
-    fails_with_found (loss ∷ losses) found why is = ends_so answer (lost_and_found faults (loss ∷ losses) found) is (λ same. cc)
+    fails_with_found (loss ∷ losses) found why is = ends_so answer (lost_and_found faults (parts (loss ∷ losses)) found) is (λ same. cc)
 
     fails_lost_and_found : RefusesFile file ⊎ (faults.hash ≡ Some HashMissing) → IsLostAndFoundAnswer faults file Active answer → answer.ending ≢ Ok 0
     fails_lost_and_found why (inl (meta, under, inl (keeps, losses, pages, are, found, answers))) = fails_with_found losses pages why answers
-    fails_lost_and_found why (inl (meta, under, inr (inl (x, pages, loses, found, said)))) = ends_so answer (all_lost_and_found faults x pages) said (λ same. cc)
+    fails_lost_and_found why (inl (meta, under, inr (inl (x, pages, loses, found, said)))) = ends_so answer (lost_and_found faults (everything x) pages) said (λ same. cc)
     fails_lost_and_found why (inl (meta, under, inr (inr said))) = ends_so answer (refused failure.Memory) said (λ same. cc)
     fails_lost_and_found why (inr (fault, has, said)) = ends_so answer (check_refusal faults (check.Open fault)) said (not_ok faults (check.Open fault))
 

@@ -10,7 +10,7 @@ use Rattle.bolt_format.specs.Pages.{PageView}
 use Rattle.bolt_format.specs.Shown.{shown}
 use Rattle.bolt_format.specs.declared.meta.Meta.{Meta}
 use Rattle.bolt_recover.specs.Found.{AreFound, numbers_of}
-use Rattle.bolt_recover.specs.Losses.{LossView}
+use Rattle.bolt_recover.specs.Losses.{LossView, parts}
 use Rattle.bolt_recover.specs.Places.{leaves_of}
 use Rattle.bolt_recover.specs.Recoveries.{ForLosses}
 use Rattle.bolt_recover.specs.Refusals.{KeepsRoot}
@@ -78,12 +78,12 @@ module _ (file : List ℕ) (meta : Meta) where
     found_none_lost none answer is =
         answered answer (subst (λ (ls : List LossView). AnswersFound faults file choice ls found answer) (sym (ap (map loss_view) none)) is)
 
-    answers_some : (ls : List Loss) → ls ≢ [] → AnswersFound faults file choice (map loss_view ls) found (lost_and_found faults (map loss_view ls) found)
+    answers_some : (ls : List Loss) → ls ≢ [] → AnswersFound faults file choice (map loss_view ls) found (lost_and_found faults (parts (map loss_view ls)) found)
     answers_some [] some = absurd (some refl)
     answers_some (loss ∷ ls) some = refl
 
-    pub found_some_lost : losses ≢ [] → IsFoundPagesAnswer faults file choice meta (lost_and_found faults (map loss_view losses) found)
-    found_some_lost some = answered (lost_and_found faults (map loss_view losses) found) (answers_some losses some)
+    pub found_some_lost : losses ≢ [] → IsFoundPagesAnswer faults file choice meta (lost_and_found faults (parts (map loss_view losses)) found)
+    found_some_lost some = answered (lost_and_found faults (parts (map loss_view losses)) found) (answers_some losses some)
 
 -- memory ran out
 pub none_left : {S : Type 0} (taken : S → Option (List ℕ)) (failed : S → ℕ) (old : S) (file : List ℕ) (meta : Meta) (faults : FileFaults) (choice : MetaChoice) (ending : Ending)

@@ -1,9 +1,12 @@
 -- What a job does, whatever its standard output and its target are.
 use Rattle.std.proofs.Common.{◌≡◌, ◌<◌, ◌∙◌, ap, inl, inr, ℕ, List, [], Option, None, Some, Bool, true, false, length, refl, subst, sym}
+use Rattle.bolt_cli.specs.declared.extent.Extent.{Extent}
+use Rattle.bolt_cli.specs.declared.extent.Extent.TheVariants.{First, LostAndFound, Losses}
 use Rattle.bolt_cli.specs.declared.meta_choice.MetaChoice.{MetaChoice}
 use Rattle.bolt_load.specs.LineMembers.{text_members}
 use Rattle.bolt_layout.specs.Copies.{layout_of_listing}
 use Rattle.bolt_layout.specs.declared.layout.Layout.{Layout}
+use Rattle.bolt_recover.specs.Losses.{parts}
 use Rattle.bolt_tree.specs.Listing.{Member}
 use Rattle.bolt_cli.specs.Answers.{Answer, Does, DoesJob, Ending, MakesCopy, WritesCopy, copy_page_size, copy_report, done, lengths_line}
 use Rattle.bolt_cli.specs.PlainWords.{target_name}
@@ -56,14 +59,16 @@ module _ {O T : Type 0} (out_taken : O → Option (List ℕ)) (out_failed : O �
   written snapshot listing layout answer ending (inl (small, good, put, sound, does)) = inl (small, good, put, sound, does_held _ ending does)
   written snapshot listing layout answer ending (inr (failure, stops, same, is)) = inr (failure, stops, untouched same, is)
 
-  copied : (file : List ℕ) (choice : MetaChoice) (size : Option PageSize) (which : Layout) (snapshot recover : Bool) (ending : Ending)
-      → MakesCopy out_taken out_failed out_old out_new target_taken target_failed target_old target_new file choice size which snapshot recover ending
-      → MakesCopy held_text held_failures (held_of [] 0) (held_of text failures) target_taken target_failed target_old target_new file choice size which snapshot recover ending
-  copied file choice size which snapshot false ending (inl (meta, listing, read, hash, lists, writes)) = inl (meta, listing, read, hash, lists, written snapshot listing (layout_of_listing which (copy_page_size size meta) listing meta.root_sequence) (λ copy. done (lengths_line (length file) copy)) ending writes)
-  copied file choice size which snapshot false ending (inr (inl (meta, read, differs, out, target, is))) = inr (inl (meta, read, differs, untouched out, target, is))
-  copied file choice size which snapshot false ending (inr (inr (fault, failure, refused, of, out, target, is))) = inr (inr (fault, failure, refused, of, untouched out, target, is))
-  copied file choice size which snapshot true ending (inl (meta, listing, losses, under, recovered, are, writes)) = inl (meta, listing, losses, under, recovered, are, written snapshot listing (layout_of_listing which (copy_page_size size meta) listing meta.root_sequence) (λ copy. copy_report (hash_differs snapshot file) losses (length file) copy) ending writes)
-  copied file choice size which snapshot true ending (inr (fault, failure, refused, of, out, target, is)) = inr (fault, failure, refused, of, untouched out, target, is)
+  copied : (file : List ℕ) (choice : MetaChoice) (size : Option PageSize) (which : Layout) (snapshot : Bool) (extent : Extent) (ending : Ending)
+      → MakesCopy out_taken out_failed out_old out_new target_taken target_failed target_old target_new file choice size which snapshot extent ending
+      → MakesCopy held_text held_failures (held_of [] 0) (held_of text failures) target_taken target_failed target_old target_new file choice size which snapshot extent ending
+  copied file choice size which snapshot First ending (inl (meta, listing, read, hash, lists, writes)) = inl (meta, listing, read, hash, lists, written snapshot listing (layout_of_listing which (copy_page_size size meta) listing meta.root_sequence) (λ copy. done (lengths_line (length file) copy)) ending writes)
+  copied file choice size which snapshot First ending (inr (inl (meta, read, differs, out, target, is))) = inr (inl (meta, read, differs, untouched out, target, is))
+  copied file choice size which snapshot First ending (inr (inr (fault, failure, refused, of, out, target, is))) = inr (inr (fault, failure, refused, of, untouched out, target, is))
+  copied file choice size which snapshot Losses ending (inl (meta, listing, losses, under, recovered, are, writes)) = inl (meta, listing, losses, under, recovered, are, written snapshot listing (layout_of_listing which (copy_page_size size meta) listing meta.root_sequence) (λ copy. copy_report (hash_differs snapshot file) (parts losses) [] (length file) copy) ending writes)
+  copied file choice size which snapshot Losses ending (inr (fault, failure, refused, of, out, target, is)) = inr (fault, failure, refused, of, untouched out, target, is)
+  copied file choice size which snapshot LostAndFound ending (inl (meta, listing, lost, found, is_meta, salvaged, writes)) = inl (meta, listing, lost, found, is_meta, salvaged, written snapshot listing (layout_of_listing which (copy_page_size size meta) listing meta.root_sequence) (λ copy. copy_report (hash_differs snapshot file) lost found (length file) copy) ending writes)
+  copied file choice size which snapshot LostAndFound ending (inr (failure, unjoined, out, target, is)) = inr (failure, unjoined, untouched out, target, is)
 
   pub held_job : (file : List ℕ) (j : Job) (ending : Ending)
       → DoesJob out_taken out_failed out_old out_new target_taken target_failed target_old target_new file j ending
@@ -77,6 +82,6 @@ module _ {O T : Type 0} (out_taken : O → Option (List ℕ)) (out_failed : O �
   held_job file (job.Keys j) ending (answer, is, does, same) = (answer, is, does_held answer ending does, same)
   held_job file (job.Get j) ending (answer, is, does, same) = (answer, is, does_held answer ending does, same)
   held_job file (job.List j) ending (answer, is, does, same) = (answer, is, does_held answer ending does, same)
-  held_job file (job.Compact j) ending does = copied file j.meta j.page_size _ _ j.recover ending does
+  held_job file (job.Compact j) ending does = copied file j.meta j.page_size _ _ j.extent ending does
   held_job file (job.Load j) ending (inl (right, writes)) = inl (right, written _ (text_members file) _ (λ copy. done (lengths_line (length file) copy)) ending writes)
   held_job file (job.Load j) ending (inr (fault, is, out, target, ends)) = inr (fault, is, untouched out, target, ends)

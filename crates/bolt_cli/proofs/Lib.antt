@@ -13,6 +13,7 @@ pub mod HeldLines
 pub mod ListAnswers
 pub mod ListedBuckets
 pub mod ListedLoads
+pub mod LoadAnswers
 pub mod LossAnswers
 pub mod MixedParts
 pub mod NeededBytes

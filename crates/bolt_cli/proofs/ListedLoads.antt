@@ -1,5 +1,5 @@
 -- What `list` prints of a file is loaded as the listing of the file.
-use Rattle.std.proofs.Common.{◌≡◌, ◌∙◌, ℕ, Bool, false, List, [], Option, Ok, Err, ap, inl, inr, length, subst, sym}
+use Rattle.std.proofs.Common.{◌≡◌, ◌∙◌, ℕ, Bool, List, [], Option, Ok, Err, ap, inl, inr, length, subst, sym}
 use Rattle.std.specs.Prelude.{filter, not}
 use Rattle.std.specs.Ordering.{is_lt}
 use Rattle.bolt_check.specs.Sound.{HasSoundTrees}
@@ -23,6 +23,7 @@ use Rattle.bolt_tree.specs.Paths.{path_cmp}
 use Rattle.bolt_tree.proofs.Filters.{filter_all}
 use Rattle.bolt_tree.proofs.Giving.{after_end}
 use Rattle.bolt_cli.specs.Answers.{Answer, Ending, IsListAnswer, IsListedAnswer, IsReadUnder, Loads, LoadsListing, WritesCopy, done, lengths_line, part_text}
+use Rattle.bolt_cli.specs.declared.extent.Extent.TheVariants.{First}
 use Rattle.bolt_cli.specs.declared.failure.Failure.{Failure}
 use Rattle.bolt_cli.specs.declared.meta_choice.MetaChoice.{MetaChoice}
 use Rattle.bolt_cli.proofs.ReadFiles.{read_trees}
@@ -65,7 +66,7 @@ module _ (below : Below) where
     told listing text right same out_old out_new target_old target_new page_size sequence layout snapshot ending (inr (Memory, is, out, target, ends)) = inr (out, target, ends)
     told listing text right same out_old out_new target_old target_new page_size sequence layout snapshot ending (inr (Line number fault, is, out, target, ends)) = absurd (below.no_fault text number fault right is)
 
-    pub listed_loads : (file : List ℕ) (choice : MetaChoice) (answer : Answer) → IsBytes file → IsListedAnswer false file choice Hex [] [] answer → answer.ending ≡ Ok 0
+    pub listed_loads : (file : List ℕ) (choice : MetaChoice) (answer : Answer) → IsBytes file → IsListedAnswer First file choice Hex [] [] answer → answer.ending ≡ Ok 0
         → (meta : Meta) × (listing : List Member) × IsReadUnder file choice meta × IsListing file meta listing × Told listing answer.out
     listed_loads file choice answer bytes (inl (meta, under, is)) good =
         let (listing, lists, out) = printed file meta answer is good in

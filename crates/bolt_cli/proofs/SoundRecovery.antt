@@ -15,7 +15,7 @@ use Rattle.bolt_format.specs.declared.meta.Slot.{Slot}
 use Rattle.bolt_layout.specs.Copies.{layout_of_listing}
 use Rattle.bolt_layout.specs.declared.layout.Layout.{Layout}
 use Rattle.bolt_recover.proofs.Existing.{has_losses}
-use Rattle.bolt_recover.specs.Losses.{AreLosses, LossView}
+use Rattle.bolt_recover.specs.Losses.{AreLosses, LossView, parts}
 use Rattle.bolt_recover.specs.Recovered.{IsRecovered}
 use Rattle.bolt_recover.specs.Refusals.{KeepsRoot, LosesRoot}
 use Rattle.bolt_report.specs.declared.form.ListForm.{ListForm}
@@ -24,6 +24,8 @@ use Rattle.bolt_tree.specs.Paths.{Path}
 use Rattle.bolt_cli.specs.MetaChoices.{IsMetaOf, assumed_for}
 use Rattle.bolt_cli.specs.SnapshotAnswers.{hash_differs}
 use Rattle.bolt_cli.specs.Answers.{Answer, Ending, IsEndedOrCut, IsListedAnswer, IsReadUnder, IsRefusedUnder, IsUnrecoverableUnder, MakesCopy, WritesCopy, copy_page_size, copy_report, lost_ending, part_ending, part_text}
+use Rattle.bolt_cli.specs.declared.extent.Extent.{Extent}
+use Rattle.bolt_cli.specs.declared.extent.Extent.TheVariants.{First, Losses}
 use Rattle.bolt_cli.specs.declared.meta_choice.MetaChoice.{MetaChoice}
 use Rattle.bolt_cli.specs.declared.meta_choice.MetaChoice.TheVariants.{Active, Assumed, InSlot}
 use Rattle.bolt_cli.specs.declared.page_size.PageSize.{PageSize}
@@ -119,7 +121,7 @@ module _ (b : Below) (file : List ℕ) (meta : Meta) (trees : HasSoundTrees file
     unrecoverable : (fault : CheckFault) → IsRefusedUnder file named fault → IsUnrecoverableUnder file wanted fault
     unrecoverable fault is = subst (IsUnrecoverableUnder file wanted) (sym (unread named fault alone shown_named is)) (unrecovered_memory wanted)
 
-    listed_there : (form : ListForm) (path from : Path) (answer : Answer) → IsListedAnswer true file wanted form path from answer → IsListedAnswer false file named form path from answer
+    listed_there : (form : ListForm) (path from : Path) (answer : Answer) → IsListedAnswer Losses file wanted form path from answer → IsListedAnswer First file named form path from answer
     listed_there form path from answer (inl (other, (is, keeps), (listing, losses, recovered, are, ended))) =
         let same = one wanted other shown is in
         let empty = b.none_lost file meta losses trees (subst (λ (m : Meta). AreLosses file m losses) same are) in
@@ -134,7 +136,7 @@ module _ (b : Below) (file : List ℕ) (meta : Meta) (trees : HasSoundTrees file
         )
     listed_there form path from answer (inr (fault, is, refusal)) = inr (fault, refused fault is, refusal)
 
-    listed_back : (form : ListForm) (path from : Path) (answer : Answer) → IsListedAnswer false file named form path from answer → IsListedAnswer true file wanted form path from answer
+    listed_back : (form : ListForm) (path from : Path) (answer : Answer) → IsListedAnswer First file named form path from answer → IsListedAnswer Losses file wanted form path from answer
     listed_back form path from answer (inl (other, under, (listing, lists, ended))) =
         let same = read_one named other shown_named under in
         inl (
@@ -144,20 +146,20 @@ module _ (b : Below) (file : List ℕ) (meta : Meta) (trees : HasSoundTrees file
         )
     listed_back form path from answer (inr (fault, is, refusal)) = inr (fault, unrecoverable fault is, refusal)
 
-    pub lists_the_same : (form : ListForm) (path from : Path) (answer : Answer) → IsListedAnswer true file wanted form path from answer ↔ IsListedAnswer false file named form path from answer
+    pub lists_the_same : (form : ListForm) (path from : Path) (answer : Answer) → IsListedAnswer Losses file wanted form path from answer ↔ IsListedAnswer First file named form path from answer
     lists_the_same form path from answer = (listed_there form path from answer, listed_back form path from answer)
 
     module _ {O T : Type 0} (out_taken : O → Option (List ℕ)) (out_failed : O → ℕ) (out_old out_new : O)
         (target_taken : T → Option (List ℕ)) (target_failed : T → ℕ) (target_old target_new : T) where
-      abbrev Copy : (recover : Bool) → MetaChoice → Option PageSize → Layout → (snapshot : Bool) → Ending → Type 0
-      Copy recover choice size which snapshot ending = MakesCopy out_taken out_failed out_old out_new target_taken target_failed target_old target_new file choice size which snapshot recover ending
+      abbrev Copy : (extent : Extent) → MetaChoice → Option PageSize → Layout → (snapshot : Bool) → Ending → Type 0
+      Copy extent choice size which snapshot ending = MakesCopy out_taken out_failed out_old out_new target_taken target_failed target_old target_new file choice size which snapshot extent ending
 
       abbrev Written : (differs snapshot : Bool) (listing : List Member) → Layout → Option PageSize → Meta → List LossView → Ending → Type 0
       Written differs snapshot listing which size m losses ending = WritesCopy out_taken out_failed out_old out_new target_taken target_failed target_old target_new snapshot listing
-          (layout_of_listing which (copy_page_size size m) listing m.root_sequence) (λ copy. copy_report differs losses (length file) copy) ending
+          (layout_of_listing which (copy_page_size size m) listing m.root_sequence) (λ copy. copy_report differs (parts losses) [] (length file) copy) ending
 
       copied_there : (size : Option PageSize) (which : Layout) (snapshot : Bool) (ending : Ending)
-          → hash_differs snapshot file ≡ false → Copy true wanted size which snapshot ending → Copy false named size which snapshot ending
+          → hash_differs snapshot file ≡ false → Copy Losses wanted size which snapshot ending → Copy First named size which snapshot ending
       copied_there size which snapshot ending right (inl (other, listing, losses, (is, keeps), recovered, are, writes)) =
           let same = one wanted other shown is in
           let empty = b.none_lost file meta losses trees (subst (λ (m : Meta). AreLosses file m losses) same are) in
@@ -173,7 +175,7 @@ module _ (b : Below) (file : List ℕ) (meta : Meta) (trees : HasSoundTrees file
       copied_there size which snapshot ending right (inr (fault, failure, is, why, out, target, ends)) = inr (inr (fault, failure, refused fault is, why, out, target, ends))
 
       copied_back : (size : Option PageSize) (which : Layout) (snapshot : Bool) (ending : Ending)
-          → hash_differs snapshot file ≡ false → Copy false named size which snapshot ending → Copy true wanted size which snapshot ending
+          → hash_differs snapshot file ≡ false → Copy First named size which snapshot ending → Copy Losses wanted size which snapshot ending
       copied_back size which snapshot ending right (inl (other, listing, under, same_hash, lists, writes)) =
           let same = read_one named other shown_named under in
           inl (
@@ -189,5 +191,5 @@ module _ (b : Below) (file : List ℕ) (meta : Meta) (trees : HasSoundTrees file
       copied_back size which snapshot ending right (inr (inr (fault, failure, is, why, out, target, ends))) = inr (fault, failure, unrecoverable fault is, why, out, target, ends)
 
       pub copies_the_same : (size : Option PageSize) (which : Layout) (snapshot : Bool) (ending : Ending)
-          → hash_differs snapshot file ≡ false → Copy true wanted size which snapshot ending ↔ Copy false named size which snapshot ending
+          → hash_differs snapshot file ≡ false → Copy Losses wanted size which snapshot ending ↔ Copy First named size which snapshot ending
       copies_the_same size which snapshot ending right = (copied_there size which snapshot ending right, copied_back size which snapshot ending right)

@@ -1,5 +1,5 @@
 -- What the program answers to each command, and what its sinks accept: docs/COMMANDS.md, "What a run writes".
-use Rattle.std.specs.Prelude.{◌≡◌, ◌<◌, ◌≤◌, ◌-◌, ◌⊎◌, ℕ, List, [], ◌∷◌, ◌++◌, Bool, true, false, codes, decimal, length, map, take, Option, Some, None, Result, Ok, Err, if◌then◌else◌}
+use Rattle.std.specs.Prelude.{◌≡◌, ◌≢◌, ◌<◌, ◌≤◌, ◌-◌, ◌⊎◌, ℕ, List, [], ◌∷◌, ◌++◌, Bool, true, false, codes, decimal, length, map, take, Option, Some, None, Result, Ok, Err, if◌then◌else◌}
 use Rattle.std.specs.Io.KnownBytes.{Appends, Keeps}
 use Rattle.bolt_bulk.specs.Compacting.{too_many}
 use Rattle.bolt_layout.specs.Copies.{layout_of_listing}
@@ -21,18 +21,21 @@ use Rattle.bolt_load.specs.LineFaults.{IsListingText, IsLoadFault}
 use Rattle.bolt_load.specs.LineMembers.{text_members}
 use Rattle.bolt_load.specs.declared.fault.LoadFault.{LoadFault}
 use Rattle.bolt_recover.specs.Found.{AreFound}
-use Rattle.bolt_recover.specs.Losses.{AreLosses, LossView}
+use Rattle.bolt_recover.specs.JoinRefusals.{IsJoinRefusal}
+use Rattle.bolt_recover.specs.Joined.{IsJoined, LacksBucketKey}
+use Rattle.bolt_recover.specs.Losses.{AreLosses, LossView, LostView, everything, parts}
+use Rattle.bolt_recover.specs.Lost.{IsAllLost}
 use Rattle.bolt_recover.specs.Places.{leaves_of}
-use Rattle.bolt_recover.specs.Recovered.{IsRecovered}
+use Rattle.bolt_recover.specs.Recovered.{ForRecovered, IsRecovered}
 use Rattle.bolt_recover.specs.Refusals.{IsRefusedRoot, IsSlotUnrecoverable, IsUnrecoverable, KeepsRoot, LosesRoot}
+use Rattle.bolt_recover.specs.declared.joined.JoinFault.{JoinFault}
 use Rattle.bolt_report.specs.FaultWords.{findings_text}
-use Rattle.bolt_report.specs.FoundLines.{FoundView, all_lost_and_found_text, lost_and_found_text}
+use Rattle.bolt_report.specs.FoundLines.{FoundView, counted_lost_text, lost_text}
 use Rattle.bolt_report.specs.Forms.{item_text, value_text}
 use Rattle.bolt_report.specs.Figures.{add_stats, stats_text}
 use Rattle.bolt_report.specs.KeyLines.{buckets_text, keys_text}
 use Rattle.bolt_report.specs.KeyPrefixes.{with_prefix}
 use Rattle.bolt_report.specs.ListForms.{listing_lines}
-use Rattle.bolt_report.specs.LossLines.{all_lost_text, counted_losses_text, losses_text}
 use Rattle.bolt_report.specs.MetaLines.{info_text}
 use Rattle.bolt_report.specs.PageMaps.{map_text}
 use Rattle.bolt_report.specs.PageTables.{pages_text}
@@ -49,7 +52,7 @@ use Rattle.bolt_tree.specs.Listing.{IsListing, Member, rest_from}
 use Rattle.bolt_tree.specs.ListingParts.{bucket_part, has_bucket}
 use Rattle.bolt_tree.specs.Paths.{Holds, Names, Path}
 use Rattle.bolt_cli.specs.CopyKinds.{is_snapshot, layout_for}
-use Rattle.bolt_cli.specs.Failures.{IsFailureOf, failure_line, unloaded}
+use Rattle.bolt_cli.specs.Failures.{IsFailureOf, failure_line, unjoined, unloaded}
 use Rattle.bolt_cli.specs.FileFaults.{AreFileFaults, errors_in, fault_lines, is_fine}
 use Rattle.bolt_cli.specs.GoodCopies.{IsGoodCopy}
 use Rattle.bolt_cli.specs.MetaChoices.{HasNoMetaOf, IsMetaOf, assumed_for}
@@ -311,20 +314,20 @@ IsRecoveredList file form path from meta answer =
     (listing : List Member) × (losses : List LossView) × IsRecovered file meta listing × AreLosses file meta losses
     × IsEndedOrCut (part_text form path from listing) (part_ending path listing (lost_ending losses)) answer
 
--- each loss; what is wrong with the file apart from its pages comes first
-abbrev pub losses_found : FileFaults → List LossView → Answer
-losses_found faults losses = record { out = fault_lines faults ++ counted_losses_text (errors_in faults) losses; ending = Ok 1 }
+-- each loss and each page that is found; what is wrong with the file apart from its pages comes first
+abbrev pub lost_and_found : FileFaults → LostView → List FoundView → Answer
+lost_and_found faults lost found = record { out = fault_lines faults ++ counted_lost_text (errors_in faults) lost found; ending = Ok 1 }
 
 -- each loss; if nothing is lost, what `check` writes; or nothing, if memory ran out
 abbrev pub AnswersLosses : FileFaults → List ℕ → MetaChoice → List LossView → Answer → Type 0
 AnswersLosses faults file choice [] answer = IsFoundAnswer faults file choice answer
-AnswersLosses faults file choice (loss ∷ losses) answer = answer ≡ losses_found faults (loss ∷ losses)
+AnswersLosses faults file choice (loss ∷ losses) answer = answer ≡ lost_and_found faults (parts (loss ∷ losses)) []
 
 abbrev pub IsLossesAnswer : FileFaults → List ℕ → MetaChoice → Meta → Answer → Type 0
 IsLossesAnswer faults file choice meta answer = ((losses : List LossView) × AreLosses file meta losses × AnswersLosses faults file choice losses answer) ⊎ (answer ≡ refused failure.Memory)
 
 abbrev pub all_refusal : FileFaults → CheckFault → Answer
-all_refusal faults (check.Structure x) = record { out = fault_lines faults ++ all_lost_text (errors_in faults) x; ending = Ok 1 }
+all_refusal faults (check.Structure x) = lost_and_found faults (everything x) []
 all_refusal faults (check.Open fault) = check_refusal faults (check.Open fault)
 all_refusal faults (check.Accounts findings) = check_refusal faults (check.Accounts findings)
 all_refusal faults check.Memory = check_refusal faults check.Memory
@@ -337,22 +340,15 @@ found_page file meta n = record { number = n; elements = leaves_of (page_at file
 abbrev pub AreFoundPages : List ℕ → Meta → List FoundView → Type 0
 AreFoundPages file meta found = (numbers : List ℕ) × AreFound file meta numbers × (found ≡ map (found_page file meta) numbers)
 
--- each loss and each of these pages; what is wrong with the file apart from its pages comes first
-abbrev pub lost_and_found : FileFaults → List LossView → List FoundView → Answer
-lost_and_found faults losses found = record { out = fault_lines faults ++ lost_and_found_text (errors_in faults) losses found; ending = Ok 1 }
-
-abbrev pub all_lost_and_found : FileFaults → Finding → List FoundView → Answer
-all_lost_and_found faults finding found = record { out = fault_lines faults ++ all_lost_and_found_text (errors_in faults) finding found; ending = Ok 1 }
-
 -- if nothing is lost, what `check` writes
 abbrev pub AnswersFound : FileFaults → List ℕ → MetaChoice → List LossView → List FoundView → Answer → Type 0
 AnswersFound faults file choice [] found answer = IsFoundAnswer faults file choice answer
-AnswersFound faults file choice (loss ∷ losses) found answer = answer ≡ lost_and_found faults (loss ∷ losses) found
+AnswersFound faults file choice (loss ∷ losses) found answer = answer ≡ lost_and_found faults (parts (loss ∷ losses)) found
 
 -- of a file whose root page is lost; or nothing, if memory ran out
 abbrev pub IsRootlessAnswer : FileFaults → List ℕ → Meta → Answer → Type 0
 IsRootlessAnswer faults file meta answer =
-    ((x : Finding) × (found : List FoundView) × LosesRoot file meta x × AreFoundPages file meta found × (answer ≡ all_lost_and_found faults x found))
+    ((x : Finding) × (found : List FoundView) × LosesRoot file meta x × AreFoundPages file meta found × (answer ≡ lost_and_found faults (everything x) found))
     ⊎ (answer ≡ refused failure.Memory)
 
 -- of a file whose root page is kept, or lost
@@ -366,20 +362,53 @@ IsLostAndFoundAnswer faults file choice answer =
     ((meta : Meta) × IsMetaOf file choice meta × IsFoundPagesAnswer faults file choice meta answer)
     ⊎ ((fault : MetaFault) × HasNoMetaOf file choice fault × (answer ≡ check_refusal faults (check.Open fault)))
 
+-- ---- the joined listing
+
+-- the joined listing of a file, what is lost and what is found; if everything is lost, a page is found
+pub record IsSalvaged (file : List ℕ) (meta : Meta) (listing : List Member) (lost : LostView) (found : List FoundView) : Type 0 where
+  pub joins : IsJoined file meta listing
+  pub loses : IsAllLost file meta lost
+  pub finds : AreFoundPages file meta found
+  pub apart : found ≢ [] → ForRecovered file meta LacksBucketKey
+  pub some : (x : Finding) → lost ≡ everything x → found ≢ []
+
+-- why there is none
+abbrev pub IsUnjoined : List ℕ → Meta → Failure → Type 0
+IsUnjoined file meta failure =
+    (found : List ℕ) × (fault : JoinFault) × AreFound file meta found × IsJoinRefusal file meta found fault × (failure ≡ unjoined fault)
+
+abbrev pub IsUnjoinedUnder : List ℕ → MetaChoice → Failure → Type 0
+IsUnjoinedUnder file choice failure =
+    ((meta : Meta) × IsMetaOf file choice meta × IsUnjoined file meta failure)
+    ⊎ ((fault : MetaFault) × HasNoMetaOf file choice fault × (failure ≡ failure.Metas fault))
+
+-- all that is lost is reported too
+abbrev pub all_lost_ending : LostView → Ending
+all_lost_ending (everything x) = Err (failure.Lost 1)
+all_lost_ending (parts losses) = lost_ending losses
+
+-- a part of the joined listing, or a prefix of it, if memory ran out; or why there is none
+abbrev pub IsJoinedList : List ℕ → MetaChoice → ListForm → (path from : Path) → Answer → Type 0
+IsJoinedList file choice form path from answer =
+    ((meta : Meta) × (listing : List Member) × (lost : LostView) × (found : List FoundView) × IsMetaOf file choice meta × IsSalvaged file meta listing lost found
+    × IsEndedOrCut (part_text form path from listing) (part_ending path listing (all_lost_ending lost)) answer)
+    ⊎ ((why : Failure) × IsUnjoinedUnder file choice why × (answer ≡ refused why))
+
 -- `check`, `check --all` and `check --lost-and-found` of a file of which is known what else is wrong with it
 abbrev pub IsCheckAnswerAfter : Extent → FileFaults → List ℕ → MetaChoice → Answer → Type 0
 IsCheckAnswerAfter First faults file choice answer = IsFoundAnswer faults file choice answer
 IsCheckAnswerAfter LostAndFound faults file choice answer = IsLostAndFoundAnswer faults file choice answer
 IsCheckAnswerAfter Losses faults file choice answer = IsRecoveredAnswer file choice (IsLossesAnswer faults file choice) (λ fault answer. answer ≡ all_refusal faults fault) answer
 
--- `check` to any extent, and of a snapshot; `list` and `list --recover`
+-- `check` to any extent, and of a snapshot; `list` to any extent
 abbrev pub IsCheckAnswer : Extent → (snapshot : Bool) → List ℕ → MetaChoice → Answer → Type 0
 IsCheckAnswer extent snapshot file choice answer =
     (faults : FileFaults) × AreFileFaults extent snapshot file choice faults × IsCheckAnswerAfter extent faults file choice answer
 
-abbrev pub IsListedAnswer : Bool → List ℕ → MetaChoice → ListForm → (path from : Path) → Answer → Type 0
-IsListedAnswer false file choice form path from answer = IsReadAnswer file choice (IsListAnswer file form path from) answer
-IsListedAnswer true file choice form path from answer = IsRecoveredAnswer file choice (IsRecoveredList file form path from) IsFileRefusal answer
+abbrev pub IsListedAnswer : Extent → List ℕ → MetaChoice → ListForm → (path from : Path) → Answer → Type 0
+IsListedAnswer First file choice form path from answer = IsReadAnswer file choice (IsListAnswer file form path from) answer
+IsListedAnswer Losses file choice form path from answer = IsRecoveredAnswer file choice (IsRecoveredList file form path from) IsFileRefusal answer
+IsListedAnswer LostAndFound file choice form path from answer = IsJoinedList file choice form path from answer
 
 -- From its state `old` to `new` standard output accepted the text of the answer without a failure, and the job ends so; or it failed,
 -- accepted a prefix, and the job ends with that.
@@ -413,16 +442,17 @@ pub record StopsShort {T : Type 0} (taken : T → Option (List ℕ)) (failed : T
   pub why : StopsCopy failed old new layout failure
   pub large : too_many ≤ length layout → Keeps (taken old) (taken new)
 
--- the status of a copy if these losses are reported beside it, and whether the hash of its file differs
-abbrev pub copy_status : (differs : Bool) → List LossView → ℕ
-copy_status true losses = 1
-copy_status false [] = 0
-copy_status false (loss ∷ losses) = 1
+-- the status of a copy if this is reported beside it, and whether the hash of its file differs
+abbrev pub copy_status : (differs : Bool) → LostView → ℕ
+copy_status true lost = 1
+copy_status false (everything x) = 1
+copy_status false (parts []) = 0
+copy_status false (parts (loss ∷ losses)) = 1
 
--- what is reported of a copy: that the hash of its file differs, each loss, and the lengths of the file and of the copy
-abbrev pub copy_report : (differs : Bool) → List LossView → (source copy : ℕ) → Answer
-copy_report differs losses source copy =
-    record { out = differing_line differs ++ (losses_text losses ++ lengths_line source copy); ending = Ok (copy_status differs losses) }
+-- what is reported of a copy: that the hash of its file differs, each loss, each found page, and the lengths of the file and of the copy
+abbrev pub copy_report : (differs : Bool) → LostView → List FoundView → (source copy : ℕ) → Answer
+copy_report differs lost found source copy =
+    record { out = differing_line differs ++ (lost_text lost found ++ lengths_line source copy); ending = Ok (copy_status differs lost) }
 
 -- ---- all commands
 
@@ -439,7 +469,7 @@ module _ {O T : Type 0} (out_taken : O → Option (List ℕ)) (out_failed : O �
   abbrev pub WritesCopy : (snapshot : Bool) → (listing : List Member) → (layout : List ℕ) → (ℕ → Answer) → Ending → Type 0
   WritesCopy snapshot listing layout answer ending =
       let copy = copy_of snapshot layout in
-      ((length layout < too_many) × IsGoodCopy snapshot layout listing
+      ((length layout < too_many) × ∥ IsGoodCopy snapshot layout listing ∥₁
       × Appends (target_taken target_old) (target_taken target_new) copy × (target_failed target_new ≡ target_failed target_old)
       × Does out_taken out_failed out_old out_new (answer (length copy)) ending)
       ⊎ ((failure : Failure) × StopsShort target_taken target_failed target_old target_new layout copy failure × (out_new ≡ out_old) × (ending ≡ Err failure))
@@ -459,14 +489,22 @@ module _ {O T : Type 0} (out_taken : O → Option (List ℕ)) (out_failed : O �
   abbrev pub Recovers : List ℕ → MetaChoice → Option PageSize → Layout → (snapshot : Bool) → Ending → Type 0
   Recovers file choice size which snapshot ending =
       ((meta : Meta) × (listing : List Member) × (losses : List LossView) × IsRecoveredUnder file choice meta × IsRecovered file meta listing × AreLosses file meta losses
-      × WritesCopy snapshot listing (layout_of_listing which (copy_page_size size meta) listing meta.root_sequence) (λ copy. copy_report (hash_differs snapshot file) losses (length file) copy) ending)
+      × WritesCopy snapshot listing (layout_of_listing which (copy_page_size size meta) listing meta.root_sequence) (λ copy. copy_report (hash_differs snapshot file) (parts losses) [] (length file) copy) ending)
       ⊎ ((fault : CheckFault) × (failure : Failure) × IsUnrecoverableUnder file choice fault × IsFailureOf fault failure
       × (out_new ≡ out_old) × (target_new ≡ target_old) × (ending ≡ Err failure))
 
-  -- `compact` and `compact --recover`
-  abbrev pub MakesCopy : List ℕ → MetaChoice → Option PageSize → Layout → (snapshot recover : Bool) → Ending → Type 0
-  MakesCopy file choice size which snapshot false ending = Compacts file choice size which snapshot ending
-  MakesCopy file choice size which snapshot true ending = Recovers file choice size which snapshot ending
+  -- the same of the joined listing, and each found page is reported too; or why there is none
+  abbrev pub Joins : List ℕ → MetaChoice → Option PageSize → Layout → (snapshot : Bool) → Ending → Type 0
+  Joins file choice size which snapshot ending =
+      ((meta : Meta) × (listing : List Member) × (lost : LostView) × (found : List FoundView) × IsMetaOf file choice meta × IsSalvaged file meta listing lost found
+      × WritesCopy snapshot listing (layout_of_listing which (copy_page_size size meta) listing meta.root_sequence) (λ copy. copy_report (hash_differs snapshot file) lost found (length file) copy) ending)
+      ⊎ ((failure : Failure) × IsUnjoinedUnder file choice failure × (out_new ≡ out_old) × (target_new ≡ target_old) × (ending ≡ Err failure))
+
+  -- `compact` to any extent
+  abbrev pub MakesCopy : List ℕ → MetaChoice → Option PageSize → Layout → (snapshot : Bool) → Extent → Ending → Type 0
+  MakesCopy file choice size which snapshot First ending = Compacts file choice size which snapshot ending
+  MakesCopy file choice size which snapshot Losses ending = Recovers file choice size which snapshot ending
+  MakesCopy file choice size which snapshot LostAndFound ending = Joins file choice size which snapshot ending
 
   -- `load`: The target accepts the layout that is asked for of the listing that the lines of the file tell, with this root sequence, and for a
   -- snapshot then its hash: a good copy of that listing. Or a line isn't right, or memory ran out, and neither is touched.
@@ -492,8 +530,8 @@ module _ {O T : Type 0} (out_taken : O → Option (List ℕ)) (out_failed : O �
   DoesJob file (job.Stats j) = Prints (IsReadAnswer file j.meta (IsStatsAnswer file (path_in j.path.items) j.form))
   DoesJob file (job.Keys j) = Prints (IsReadAnswer file j.meta (IsEntriesAnswer file (path_in j.path.items) j.form (λ entries. keys_text j.form (with_prefix j.prefix.items entries))))
   DoesJob file (job.Get j) = Prints (IsReadAnswer file j.meta (IsGetAnswer file (path_in j.path.items) j.form j.no_newline))
-  DoesJob file (job.List j) = Prints (IsListedAnswer j.recover file j.meta j.form (path_in j.path.items) (path_in j.from.items))
-  DoesJob file (job.Compact j) = MakesCopy file j.meta j.page_size (layout_for j.kind) (is_snapshot j.kind) j.recover
+  DoesJob file (job.List j) = Prints (IsListedAnswer j.extent file j.meta j.form (path_in j.path.items) (path_in j.from.items))
+  DoesJob file (job.Compact j) = MakesCopy file j.meta j.page_size (layout_for j.kind) (is_snapshot j.kind) j.extent
   DoesJob file (job.Load j) = Loads file j.page_size.bytes j.sequence (layout_for j.kind) (is_snapshot j.kind)
 
 -- ---- the end of a run

@@ -8,12 +8,14 @@ use Rattle.bolt_check.specs.declared.finding.Finding.{Finding}
 use Rattle.bolt_load.specs.FaultWords.{line_fault_words}
 use Rattle.bolt_load.specs.declared.fault.LoadFault.{LoadFault}
 use Rattle.bolt_load.specs.declared.fault.LoadFault.TheVariants as load
+use Rattle.bolt_recover.specs.declared.joined.JoinFault.{JoinFault}
+use Rattle.bolt_recover.specs.declared.joined.JoinFault.TheVariants as join
 use Rattle.bolt_report.specs.FaultWords.{finding_text, meta_fault_text, page_fault_text, snapshot_fault_text}
 use Rattle.bolt_report.specs.declared.fault.ReportFault.{ReportFault}
 use Rattle.bolt_report.specs.declared.fault.ReportFault.TheVariants as report
 use Rattle.bolt_snapshot.specs.declared.hash_check.SnapshotFault.TheVariants as snapshot
 use Rattle.bolt_cli.specs.declared.failure.Failure.{Failure}
-use Rattle.bolt_cli.specs.declared.failure.Failure.TheVariants.{Metas, File, Page, NoBucket, NoKey, Memory, TooLarge, Write, Lost, HashDiffers, Line}
+use Rattle.bolt_cli.specs.declared.failure.Failure.TheVariants.{Exists, File, HashDiffers, Line, Lost, Memory, Metas, NoBucket, NoKey, Page, TooLarge, Write}
 
 abbrev pub failure_text : Failure → List ℕ
 failure_text (Metas fault) = meta_fault_text fault
@@ -25,6 +27,7 @@ failure_text Memory = codes "out of memory\n"
 failure_text TooLarge = codes "layout too large\n"
 failure_text Write = codes "write failed\n"
 failure_text HashDiffers = snapshot_fault_text snapshot.HashDiffers
+failure_text Exists = codes "lost+found exists\n"
 failure_text (Lost count) = codes "pages lost: " ++ (decimal count ++ codes "\n")
 failure_text (Line number fault) = codes "line " ++ (decimal number ++ (codes ": " ++ (line_fault_words fault ++ codes "\n")))
 
@@ -48,6 +51,12 @@ copied bulk.Sink = Write
 abbrev pub unloaded : LoadFault → Failure
 unloaded load.Memory = Memory
 unloaded (load.Line number fault) = Line number fault
+
+-- the failure if there is no joined listing
+abbrev pub unjoined : JoinFault → Failure
+unjoined (join.Root x) = File x
+unjoined join.Exists = Exists
+unjoined join.Memory = Memory
 
 -- of the findings the first is reported
 abbrev pub IsOfFirst : List Finding → Failure → Type 0

@@ -120,10 +120,10 @@ abbrev pub stats_line : Syntax
 stats_line = record { name = codes "stats"; operands = file_operand ∷ part_operand false ∷ []; options = form_option ∷ parts_option ∷ meta_option ∷ assumed_option ∷ [] }
 
 abbrev pub list_line : Syntax
-list_line = record { name = codes "list"; operands = file_operand ∷ part_operand false ∷ []; options = from_option ∷ form_option ∷ parts_option ∷ recover_option ∷ meta_option ∷ assumed_option ∷ [] }
+list_line = record { name = codes "list"; operands = file_operand ∷ part_operand false ∷ []; options = from_option ∷ form_option ∷ parts_option ∷ recover_option ∷ lost_and_found_option ∷ meta_option ∷ assumed_option ∷ [] }
 
 abbrev pub compact_line : Syntax
-compact_line = record { name = codes "compact"; operands = file_operand ∷ []; options = output_option ∷ page_size_option ∷ for_bbolt_option ∷ snapshot_option ∷ recover_option ∷ meta_option ∷ assumed_option ∷ [] }
+compact_line = record { name = codes "compact"; operands = file_operand ∷ []; options = output_option ∷ page_size_option ∷ for_bbolt_option ∷ snapshot_option ∷ recover_option ∷ lost_and_found_option ∷ meta_option ∷ assumed_option ∷ [] }
 
 abbrev pub load_line : Syntax
 load_line = record { name = codes "load"; operands = file_operand ∷ []; options = output_option ∷ page_size_option ∷ for_bbolt_option ∷ snapshot_option ∷ sequence_option ∷ [] }
@@ -146,8 +146,8 @@ pub data Asked : Type 0 where
   keys : Text → AskedMeta → Path → (prefix : Key) → Form → Asked
   get : Text → AskedMeta → Path → Form → (no_newline : Bool) → Asked
   stats : Text → AskedMeta → FigureForm → Path → Asked
-  list : Text → AskedMeta → ListForm → (path from : Path) → (recover : Bool) → Asked
-  compact : (file : Text) → AskedMeta → (target : Text) → (page_size : Option ℕ) → CopyKind → (recover : Bool) → Asked
+  list : Text → AskedMeta → ListForm → (path from : Path) → Extent → Asked
+  compact : (file : Text) → AskedMeta → (target : Text) → (page_size : Option ℕ) → CopyKind → Extent → Asked
   load : (file target : Text) → (sequence page_size : ℕ) → CopyKind → Asked
 
 -- the path that the code owns
@@ -173,8 +173,8 @@ asked_of (job.Buckets j) = buckets (string_bytes j.file) (meta_in j.meta) (path_
 asked_of (job.Keys j) = keys (string_bytes j.file) (meta_in j.meta) (path_in j.path.items) j.prefix.items j.form
 asked_of (job.Get j) = get (string_bytes j.file) (meta_in j.meta) (path_in j.path.items) j.form j.no_newline
 asked_of (job.Stats j) = stats (string_bytes j.file) (meta_in j.meta) j.form (path_in j.path.items)
-asked_of (job.List j) = list (string_bytes j.file) (meta_in j.meta) j.form (path_in j.path.items) (path_in j.from.items) j.recover
-asked_of (job.Compact j) = compact (string_bytes j.file) (meta_in j.meta) (string_bytes j.target) (size_in j.page_size) j.kind j.recover
+asked_of (job.List j) = list (string_bytes j.file) (meta_in j.meta) j.form (path_in j.path.items) (path_in j.from.items) j.extent
+asked_of (job.Compact j) = compact (string_bytes j.file) (meta_in j.meta) (string_bytes j.target) (size_in j.page_size) j.kind j.extent
 asked_of (job.Load j) = load (string_bytes j.file) (string_bytes j.target) j.sequence j.page_size.bytes j.kind
 
 -- the words that a line gives by each name
@@ -227,8 +227,8 @@ copy_kind_by (Some word) None = kind.ForBbolt
 copy_kind_by None None = kind.Plain
 
 -- how far a check goes, by the words of `--all` and `--lost-and-found` if they are given
-abbrev pub extent_by : (all lost_and_found : Option Text) → Extent
-extent_by all (Some word) = extent.LostAndFound
+abbrev pub extent_by : (losses lost_and_found : Option Text) → Extent
+extent_by losses (Some word) = extent.LostAndFound
 extent_by (Some word) None = extent.Losses
 extent_by None None = extent.First
 
@@ -311,12 +311,12 @@ asks_stats values = result_and_then (λ file. result_and_then (λ meta. result_a
 
 abbrev pub asks_list : Values → Result Asked Text
 asks_list values = result_and_then (λ file. result_and_then (λ meta. result_and_then (λ form. result_and_then (λ path. result_and_then (λ from.
-    Ok (list file meta form path from (is_given (first_of (values (codes "recover"))))))
+    Ok (list file meta form path from (extent_by (first_of (values (codes "recover"))) (first_of (values (codes "lost-and-found"))))))
     (hex_path_by (first_of (values (codes "from"))))) (path_by values)) (list_form_by (first_of (values (codes "form"))))) (meta_by values)) (text_by (codes "FILE") values)
 
 abbrev pub asks_compact : Values → Result Asked Text
 asks_compact values = result_and_then (λ file. result_and_then (λ meta. result_and_then (λ target. result_and_then (λ size.
-    Ok (compact file meta target size (copy_kind_by (first_of (values (codes "for-bbolt"))) (first_of (values (codes "etcd-snapshot")))) (is_given (first_of (values (codes "recover"))))))
+    Ok (compact file meta target size (copy_kind_by (first_of (values (codes "for-bbolt"))) (first_of (values (codes "etcd-snapshot")))) (extent_by (first_of (values (codes "recover"))) (first_of (values (codes "lost-and-found"))))))
     (page_size_by (first_of (values (codes "page-size"))))) (text_by (codes "output") values)) (meta_by values)) (text_by (codes "FILE") values)
 
 abbrev pub asks_load : Values → Result Asked Text

@@ -1,22 +1,21 @@
 //! The command `check`.
-ghost use Rattle.std.specs.Prelude.{◌≡◌, OnOk, map};
+ghost use Rattle.std.specs.Prelude.{◌≡◌, OnOk};
 ghost use Rattle.bolt_check.specs.declared.fault.CheckFault.TheVariants as check;
 ghost use Rattle.bolt_recover.specs.Recoveries.{ForLosses, recovery_file, recovery_losses, recovery_meta};
-ghost use Rattle.bolt_recover.specs.ShownLosses.{loss_view};
-ghost use Rattle.bolt_cli.specs.Answers.{Answer, Does, IsCheckAnswer, IsFoundAnswer, IsLossesAnswer, IsRecoveredAnswer, all_refusal, check_refusal, found, losses_found, none_found};
+ghost use Rattle.bolt_cli.specs.Answers.{Answer, Does, IsCheckAnswer, IsFoundAnswer, IsLossesAnswer, IsRecoveredAnswer, all_refusal, check_refusal, found, none_found};
 
 use crate::extent::Extent;
 use crate::failure::Failure;
 use crate::file_faults::{FileFaults, put_file_faults};
 use crate::job::CheckJob;
-use crate::lost_and_found::print_lost_and_found;
+use crate::lost_and_found::{print_lost_and_found, put_lost};
 use crate::meta_choice::MetaChoice;
 use crate::open_read::open_read;
 use crate::open_recovery::open_recovery;
 use bolt_check::{CheckFault, Finding, NoMemory};
 use bolt_format::{MetaFault, Sink};
-use bolt_recover::{Loss, Recovery};
-use bolt_report::{all_lost_text, counted_losses_text, findings_text};
+use bolt_recover::{Lost, Recovery};
+use bolt_report::findings_text;
 use std::alloc::Global;
 use std::slice;
 
@@ -77,7 +76,7 @@ fn print_losses<O: Sink>(
     if losses.is_empty() {
         return print_findings(alloc, file, choice, faults, out);
     }
-    put_losses(losses, faults, out)
+    put_lost(Lost::Parts(losses), &[], faults, out)
 }
 
 /// Walks to the end of what is recovered, so that each loss is known.
@@ -105,12 +104,10 @@ fn put_none_found<O: Sink>(faults: FileFaults, out: &mut O) -> Result<u8, Failur
 fn put_all_lost<O: Sink>(fault: &CheckFault, faults: FileFaults, out: &mut O) -> Result<u8, Failure>
     ensures { Does O.taken O.failed out.old out.new (all_refusal faults fault.now) result }
 {
-    let CheckFault::Structure(finding) = fault else {
-        return put_refusal(fault, faults, out);
-    };
-    let earlier = put_file_faults(faults, out)?;
-    all_lost_text(finding, earlier, out)?;
-    Ok(1)
+    match fault {
+        CheckFault::Structure(finding) => put_lost(Lost::Everything(*finding), &[], faults, out),
+        _ => put_refusal(fault, faults, out),
+    }
 }
 
 /// Writes the findings that a file is refused for.
@@ -146,13 +143,5 @@ fn put_findings<O: Sink>(
 {
     let earlier = put_file_faults(faults, out)?;
     findings_text(findings, earlier, out)?;
-    Ok(1)
-}
-
-fn put_losses<O: Sink>(losses: &[Loss<'_>], faults: FileFaults, out: &mut O) -> Result<u8, Failure>
-    ensures { Does O.taken O.failed out.old out.new (losses_found faults (map loss_view losses.now)) result }
-{
-    let earlier = put_file_faults(faults, out)?;
-    counted_losses_text(losses, earlier, out)?;
     Ok(1)
 }

@@ -270,6 +270,14 @@ const RECOVER: Choice = Choice {
     required: false,
 };
 
+const JOIN: Choice = Choice {
+    name: "lost-and-found",
+    flag: Flag::Long("lost-and-found"),
+    value: None,
+    help: "As with --recover, and read each intact leaf that nothing leads to, in a bucket lost+found",
+    required: false,
+};
+
 const COPY_NOTE: &str = "Use --for-bbolt if bbolt or etcd will write to OUT. bbolt assumes that \
     each branch page has at least two children, and can panic when it deletes below one that has a \
     single child. Without the option OUT may have such pages.";
@@ -339,7 +347,7 @@ pub(crate) static SYNTAXES: [Syntax; 11] = [
         name: "list",
         about: "Print everything in the file or in a bucket, one line for each path, in hex or as JSON",
         operands: &[FILE, BUCKET_IN],
-        options: &[FROM, LIST_FORM, PARTS, RECOVER, META, ASSUME_META],
+        options: &[FROM, LIST_FORM, PARTS, RECOVER, JOIN, META, ASSUME_META],
         note: None,
     },
     Syntax {
@@ -352,6 +360,7 @@ pub(crate) static SYNTAXES: [Syntax; 11] = [
             FOR_BBOLT,
             COPY_SNAPSHOT,
             RECOVER,
+            JOIN,
             META,
             ASSUME_META,
         ],

@@ -1,26 +1,34 @@
 //! The command `compact`.
-ghost use Rattle.std.specs.Prelude.{◌≡◌, ◌++◌, map};
+ghost use Rattle.std.specs.List.{All};
+ghost use Rattle.std.specs.Prelude.{◌≡◌, List, OnOk, map};
+ghost use Rattle.bolt_bulk.specs.WholeListings.{IsWhole};
 ghost use Rattle.bolt_format.specs.Endings.{ending};
 ghost use Rattle.bolt_format.specs.Metas.{IsPageSize};
 ghost use Rattle.bolt_format.specs.Wrote.{Wrote};
-ghost use Rattle.bolt_recover.specs.ShownLosses.{loss_view};
-ghost use Rattle.bolt_report.specs.LossLines.{losses_text};
-ghost use Rattle.bolt_cli.specs.Answers.{Compacts, Does, MakesCopy, Recovers, copy_report, copy_status, lengths_line};
-ghost use Rattle.bolt_cli.specs.CopyEnds.{shape_of};
+ghost use Rattle.bolt_recover.specs.ShownLosses.{lost_view};
+ghost use Rattle.bolt_report.specs.FoundLines.{IsFoundLeaf, found_view};
+ghost use Rattle.bolt_tree.specs.Listing.{Member};
+ghost use Rattle.bolt_cli.specs.Answers.{Compacts, Does, Joins, MakesCopy, Recovers, copy_report, copy_status, lengths_line};
+ghost use Rattle.bolt_cli.specs.CopyEnds.{EndsCopy, asked_layout};
 ghost use Rattle.bolt_cli.specs.CopyKinds.{is_snapshot, layout_for};
+ghost use Rattle.bolt_cli.specs.GoodCopies.{IsGoodCopy};
 ghost use Rattle.bolt_cli.specs.SnapshotAnswers.{differing_line, hash_differs};
 
-use crate::copies::{CopyShape, copy_checked, copy_recovered};
+use crate::copies::copy_members;
 use crate::decimals::put_number_and;
+use crate::extent::Extent;
 use crate::failure::Failure;
-use crate::good_copies::file_has_good_copies;
+use crate::good_copies::members_have_good_copies;
 use crate::job::CompactJob;
 use crate::open_read::open_read;
 use crate::open_recovery::open_recovery;
+use bolt_bulk::laws::{a_recovery_is_whole, a_walk_is_whole, joined_members_are_whole};
+use bolt_bulk::{BulkFault, Shape};
 use bolt_format::{Meta, Sink, SinkFault};
-use bolt_recover::Loss;
-use bolt_report::{losses_text, snapshot_fault_text};
+use bolt_recover::{Found, Joined, Lost, found_pages};
+use bolt_report::{lost_text, snapshot_fault_text};
 use bolt_snapshot::{SnapshotFault, snapshot_fault};
+use bolt_tree::{Members, Walk};
 use std::alloc::Global;
 
 /// Writes the compact copy that is asked for to `target`, and then what is reported of it to `out`.
@@ -31,12 +39,12 @@ pub(crate) fn write_copy<O: Sink, T: Sink>(
     out: &mut O,
     target: &mut T,
 ) -> Result<u8, Failure>
-    ensures { MakesCopy O.taken O.failed out.old out.new T.taken T.failed target.old target.new file.now job.now.meta job.now.page_size (layout_for job.now.kind) (is_snapshot job.now.kind) job.now.recover result }
+    ensures { MakesCopy O.taken O.failed out.old out.new T.taken T.failed target.old target.new file.now job.now.meta job.now.page_size (layout_for job.now.kind) (is_snapshot job.now.kind) job.now.extent result }
 {
-    if job.recover {
-        write_recovered(alloc, file, job, out, target)
-    } else {
-        write_sound(alloc, file, job, out, target)
+    match job.extent {
+        Extent::First => write_sound(alloc, file, job, out, target),
+        Extent::Losses => write_recovered(alloc, file, job, out, target),
+        Extent::LostAndFound => write_joined(alloc, file, job, out, target),
     }
 }
 
@@ -55,10 +63,17 @@ fn write_sound<O: Sink, T: Sink>(
         return Err(Failure::HashDiffers);
     }
     let meta = checked.meta();
-    file_has_good_copies(file, meta.root_sequence);
-    let shape = shape_of(job, &meta);
-    let length = copy_checked(alloc, checked, &shape, target)?;
-    put_report(false, &[], file.len() as u64, length, out)
+    let mut walk = Walk::new(alloc, checked);
+    a_walk_is_whole(&walk);
+    let copy = copy_asked(alloc, &mut walk, job, &meta, target)?;
+    let report = CopyReport {
+        differs: false,
+        lost: Lost::Parts(&[]),
+        found: &[],
+        source: file.len() as u64,
+        copy,
+    };
+    put_report(&report, out)
 }
 
 /// Writes the copy of what a damaged file still holds, and then what is reported of it.
@@ -73,28 +88,70 @@ fn write_recovered<O: Sink, T: Sink>(
 {
     let mut recovery = open_recovery(alloc, file, job.meta)?;
     let meta = recovery.meta();
-    file_has_good_copies(file, meta.root_sequence);
-    let shape = shape_of(job, &meta);
-    let length = copy_recovered(alloc, &mut recovery, &shape, target)?;
-    let differs = hash_differs(job, file);
-    put_report(differs, recovery.losses(), file.len() as u64, length, out)
+    a_recovery_is_whole(&recovery);
+    let copy = copy_asked(alloc, &mut recovery, job, &meta, target)?;
+    let report = CopyReport {
+        differs: hash_differs(job, file),
+        lost: Lost::Parts(recovery.losses()),
+        found: &[],
+        source: file.len() as u64,
+        copy,
+    };
+    put_report(&report, out)
 }
 
-/// What the copy of a file with this meta is to look like.
-fn shape_of(job: &CompactJob, meta: &Meta) -> CopyShape
-    requires { IsPageSize meta.now.page_size }
-    ensures shape { result ≡ shape_of job.now meta.now }
-    ensures accepted { IsPageSize result.page_size }
+/// Writes the copy of what a damaged file still holds and of what is found of it, and then what is
+/// reported of it.
+fn write_joined<O: Sink, T: Sink>(
+    alloc: Global,
+    file: &[u8],
+    job: &CompactJob,
+    out: &mut O,
+    target: &mut T,
+) -> Result<u8, Failure>
+    ensures { Joins O.taken O.failed out.old out.new T.taken T.failed target.old target.new file.now job.now.meta job.now.page_size (layout_for job.now.kind) (is_snapshot job.now.kind) result }
+{
+    let meta = job.meta.find(file)?;
+    let found = found_pages(alloc, file, meta)?;
+    let mut joined = Joined::new(alloc, file, meta, found.as_slice())?;
+    joined_members_are_whole(&joined);
+    let copy = copy_asked(alloc, &mut joined, job, &meta, target)?;
+    let report = CopyReport {
+        differs: hash_differs(job, file),
+        lost: joined.lost(),
+        found: found.as_slice(),
+        source: file.len() as u64,
+        copy,
+    };
+    put_report(&report, out)
+}
+
+/// Writes the copy that is asked for of all members of a file with this meta, and returns its length.
+fn copy_asked<'a, M: Members<'a>, T: Sink>(
+    alloc: Global,
+    members: &mut M,
+    job: &CompactJob,
+    meta: &Meta,
+    target: &mut T,
+) -> Result<u64, BulkFault>
+    requires size { IsPageSize meta.now.page_size }
+    requires whole { IsWhole M.lists M.left members.old }
+    ensures copied { (listing : List Member) → M.lists members.old listing
+        → EndsCopy T.taken T.failed target.old target.new (asked_layout job.now meta.now listing) (is_snapshot job.now.kind) result }
+    ensures good { OnOk result ((listing : List Member) → M.lists members.old listing → ∥ IsGoodCopy (is_snapshot job.now.kind) (asked_layout job.now meta.now listing) listing ∥₁) }
+    ensures end { OnOk result (M.ends_as members.old members.new) }
 {
     let page_size = match job.page_size {
         Some(size) => size.bytes,
         None => u64::from(meta.page_size),
     };
-    CopyShape {
+    let shape = Shape {
         layout: job.kind.layout(),
         page_size,
-        snapshot: job.kind.is_snapshot(),
-    }
+        sequence: meta.root_sequence,
+    };
+    members_have_good_copies(members, shape.sequence);
+    copy_members(alloc, members, &shape, job.kind.is_snapshot(), target)
 }
 
 /// Whether a snapshot is to be made of a file that is one by its length, but whose hash differs. Its
@@ -111,53 +168,52 @@ fn hash_differs(job: &CompactJob, file: &[u8]) -> bool
     }
 }
 
-/// Writes that the hash differs, if it does, the line of each loss, and then the lengths of the file
-/// and of the copy. Returns the status.
-pub(crate) fn put_report<O: Sink>(
+/// What is reported of a copy.
+#[derive(Clone, Copy)]
+struct CopyReport<'a> {
+    /// Whether the hash of the file differs.
     differs: bool,
-    losses: &[Loss<'_>],
+    lost: Lost<'a>,
+    found: &'a [Found<'a>],
+    /// The length of the file.
     source: u64,
+    /// The length of the copy.
     copy: u64,
-    out: &mut O,
-) -> Result<u8, Failure>
-    ensures { Does O.taken O.failed out.old out.new (copy_report differs (map loss_view losses.now) source copy) result }
-{
-    put_differing(differs, out)?;
-    put_losses(losses, source, copy, out)?;
-    Ok(status_of(differs, losses))
 }
 
+/// Writes what is reported of a copy, and returns the status.
+fn put_report<O: Sink>(report: &CopyReport<'_>, out: &mut O) -> Result<u8, Failure>
+    requires { All IsFoundLeaf report.now.found.now }
+    ensures { Does O.taken O.failed out.old out.new (copy_report report.now.differs (lost_view report.now.lost) (map found_view report.now.found.now) report.now.source report.now.copy) result }
+{
+    put_differing(report.differs, out)?;
+    lost_text(report.lost, report.found, out)?;
+    put_lengths(report.source, report.copy, out)?;
+    Ok(status_of(report.differs, report.lost))
+}
+
+/// Writes that the hash differs, if it does.
 fn put_differing<O: Sink>(differs: bool, out: &mut O) -> Result<(), SinkFault>
     ensures { Wrote O.Sink out.old out.new (differing_line differs) (ending result) }
 {
-    if !differs {
-        return Ok(());
+    if differs {
+        return snapshot_fault_text(SnapshotFault::HashDiffers, out);
     }
-    snapshot_fault_text(SnapshotFault::HashDiffers, out)
+    Ok(())
 }
 
-/// Writes the line of each loss, and then the lengths of the file and of the copy.
-fn put_losses<O: Sink>(
-    losses: &[Loss<'_>],
-    source: u64,
-    copy: u64,
-    out: &mut O,
-) -> Result<(), SinkFault>
-    ensures { Wrote O.Sink out.old out.new (losses_text (map loss_view losses.now) ++ lengths_line source copy) (ending result) }
+/// The status if this is lost.
+fn status_of(differs: bool, lost: Lost<'_>) -> u8
+    ensures { result ≡ copy_status differs (lost_view lost.entry) }
 {
-    losses_text(losses, out)?;
-    put_lengths(source, copy, out)
-}
-
-/// The status after these losses.
-fn status_of(differs: bool, losses: &[Loss<'_>]) -> u8
-    ensures { result ≡ copy_status differs (map loss_view losses.now) }
-{
-    if differs || !losses.is_empty() { 1 } else { 0 }
+    match lost {
+        Lost::Parts([]) if !differs => 0,
+        _ => 1,
+    }
 }
 
 /// Writes the lengths of the file and of its copy.
-fn put_lengths<O: Sink>(source: u64, copy: u64, out: &mut O) -> Result<(), SinkFault>
+pub(crate) fn put_lengths<O: Sink>(source: u64, copy: u64, out: &mut O) -> Result<(), SinkFault>
     ensures { Wrote O.Sink out.old out.new (lengths_line source copy) (ending result) }
 {
     put_number_and(source, b" -> ", out)?;

@@ -1,76 +1,44 @@
 //! Copies on a target: a layout and, in a snapshot, its hash after it.
 ghost use Rattle.std.specs.Prelude.{◌≡◌, ℕ, List, IsOk, OnOk, true};
 ghost use Rattle.bolt_bulk.specs.Compacting.{Copies};
-ghost use Rattle.bolt_format.specs.Metas.{IsPageSize};
-ghost use Rattle.bolt_cli.specs.CopyEnds.{EndsChecked, EndsCopy, EndsRecovered, HasAllLosses, IsFresh, PutsChecked, PutsRecovered};
+ghost use Rattle.bolt_bulk.specs.WholeListings.{IsWhole};
+ghost use Rattle.bolt_layout.specs.Copies.{layout_of_listing};
+ghost use Rattle.bolt_tree.specs.Listing.{Member};
+ghost use Rattle.bolt_cli.specs.CopyEnds.{EndsCopy};
 ghost use Rattle.bolt_cli.specs.Hashes.{HashesSince};
 
 use crate::hashing::{Hashing, Origin};
-use bolt_bulk::{BulkFault, Done, Shape, compact_as, compact_members, compact_recovered};
-use bolt_check::Checked;
+use bolt_bulk::{BulkFault, Done, Shape, compact_members};
 use bolt_format::Sink;
-use bolt_layout::Layout;
-use bolt_recover::Recovery;
 use bolt_snapshot::HASH_LEN;
 use bolt_tree::Members;
 use sha2::{Digest, Sha256};
 use std::alloc::Global;
 use std::marker::{Brand, PhantomData};
 
-/// What a copy is to look like.
-#[derive(Clone, Copy, Debug)]
-pub(crate) struct CopyShape {
-    pub layout: Layout,
-    /// The page size in bytes.
-    pub page_size: u64,
-    /// Whether it is a snapshot, which ends with the hash of its layout.
-    pub snapshot: bool,
-}
-
-/// Writes the copy of a sound file, and returns its length.
-pub(crate) fn copy_checked<T: Sink>(
+/// Writes the copy of all members, of which none may have been returned yet, and returns its length.
+/// In a snapshot the hash of the layout comes after it.
+pub(crate) fn copy_members<'a, M: Members<'a>, T: Sink>(
     alloc: Global,
-    checked: Checked<'_>,
-    shape: &CopyShape,
+    members: &mut M,
+    shape: &Shape,
+    snapshot: bool,
     target: &mut T,
 ) -> Result<u64, BulkFault>
-    requires { IsPageSize shape.now.page_size }
-    ensures { EndsChecked T.taken T.failed target.old target.new checked.entry shape.now result }
+    requires { IsWhole M.lists M.left members.old }
+    ensures copied { (listing : List Member) → M.lists members.old listing
+        → EndsCopy T.taken T.failed target.old target.new (layout_of_listing shape.now.layout shape.now.page_size listing shape.now.sequence) snapshot result }
+    ensures end { OnOk result (M.ends_as members.old members.new) }
 {
-    if !shape.snapshot {
-        let done = compact_as(alloc, checked, shape.layout, shape.page_size, target)?;
+    if !snapshot {
+        let done = compact_members(alloc, members, shape, target)?;
         return Ok(done.bytes);
     }
     let Hashed {
         target,
         hash,
         result,
-    } = hash_checked::<T, Brand>(alloc, checked, shape, target);
-    put_hash(result, hash, target)
-}
-
-/// Writes the copy of what is recovered of a damaged file, and returns its length. The recovery must
-/// not have returned anything yet.
-pub(crate) fn copy_recovered<T: Sink>(
-    alloc: Global,
-    recovery: &mut Recovery<'_>,
-    shape: &CopyShape,
-    target: &mut T,
-) -> Result<u64, BulkFault>
-    requires size { IsPageSize shape.now.page_size }
-    requires fresh { IsFresh recovery.old }
-    ensures copied { EndsRecovered T.taken T.failed target.old target.new recovery.old shape.now result }
-    ensures losses { OnOk result (HasAllLosses recovery.old recovery.new) }
-{
-    if !shape.snapshot {
-        let done = compact_recovered(alloc, recovery, shape.layout, shape.page_size, target)?;
-        return Ok(done.bytes);
-    }
-    let Hashed {
-        target,
-        hash,
-        result,
-    } = hash_recovered::<T, Brand>(alloc, recovery, shape, target);
+    } = hash_members::<M, T, Brand>(alloc, members, shape, target);
     put_hash(result, hash, target)
 }
 
@@ -82,17 +50,19 @@ struct Hashed<'a, T> {
     result: Result<Done, BulkFault>,
 }
 
-fn hash_checked<'a, T: Sink, K: Origin>(
+fn hash_members<'a, 'b, M: Members<'b>, T: Sink, K: Origin>(
     alloc: Global,
-    checked: Checked<'_>,
-    shape: &CopyShape,
+    members: &mut M,
+    shape: &Shape,
     target: &'a mut T,
 ) -> Hashed<'a, T>
-    requires size { IsPageSize shape.now.page_size }
+    requires whole { IsWhole M.lists M.left members.old }
     requires name { target.ghost_name ≡ K.name }
     requires start { T.taken target.old ≡ K.start }
     ensures same { result.target.ghost_name ≡ target.entry.ghost_name }
-    ensures copied { PutsChecked T.taken T.failed target.old result.target.now checked.entry shape.now result.result }
+    ensures copied { (listing : List Member) → M.lists members.old listing
+        → Copies T.taken T.failed target.old result.target.now (layout_of_listing shape.now.layout shape.now.page_size listing shape.now.sequence) result.result }
+    ensures end { OnOk result.result (M.ends_as members.old members.new) }
     ensures hashed { T.failed result.target.now ≡ 0 → ∥ HashesSince (T.taken target.old) (T.taken result.target.now) result.hash ∥₁ }
 {
     let mut hashing: Hashing<'a, T, K> = Hashing {
@@ -100,40 +70,7 @@ fn hash_checked<'a, T: Sink, K: Origin>(
         hash: Sha256::new(),
         of: PhantomData,
     };
-    let result = compact_as(alloc, checked, shape.layout, shape.page_size, &mut hashing);
-    let Hashing {
-        target,
-        hash,
-        of: _,
-    } = hashing;
-    Hashed {
-        target,
-        hash,
-        result,
-    }
-}
-
-fn hash_recovered<'a, T: Sink, K: Origin>(
-    alloc: Global,
-    recovery: &mut Recovery<'_>,
-    shape: &CopyShape,
-    target: &'a mut T,
-) -> Hashed<'a, T>
-    requires size { IsPageSize shape.now.page_size }
-    requires fresh { IsFresh recovery.old }
-    requires name { target.ghost_name ≡ K.name }
-    requires start { T.taken target.old ≡ K.start }
-    ensures same { result.target.ghost_name ≡ target.entry.ghost_name }
-    ensures copied { PutsRecovered T.taken T.failed target.old result.target.now recovery.old shape.now result.result }
-    ensures losses { OnOk result.result (HasAllLosses recovery.old recovery.new) }
-    ensures hashed { T.failed result.target.now ≡ 0 → ∥ HashesSince (T.taken target.old) (T.taken result.target.now) result.hash ∥₁ }
-{
-    let mut hashing: Hashing<'a, T, K> = Hashing {
-        target,
-        hash: Sha256::new(),
-        of: PhantomData,
-    };
-    let result = compact_recovered(alloc, recovery, shape.layout, shape.page_size, &mut hashing);
+    let result = compact_members(alloc, members, shape, &mut hashing);
     let Hashing {
         target,
         hash,
@@ -160,23 +97,4 @@ fn put_hash<T: Sink>(
     let done = copied?;
     target.put(&hash.finalize())?;
     Ok(done.bytes.saturating_add(HASH_LEN))
-}
-
-/// Writes the copy of all members, and returns its length.
-pub(crate) fn copy_members<'m, M: Members<'m>, T: Sink>(
-    alloc: Global,
-    members: &mut M,
-    shape: &CopyShape,
-    sequence: u64,
-    target: &mut T,
-) -> Result<u64, BulkFault> {
-    let shape2 = Shape { layout: shape.layout, page_size: shape.page_size, sequence };
-    if !shape.snapshot {
-        let done = compact_members(alloc, members, &shape2, target)?;
-        return Ok(done.bytes);
-    }
-    let mut hashing: Hashing<'_, T, Brand> = Hashing { target, hash: Sha256::new(), of: PhantomData };
-    let result = compact_members(alloc, members, &shape2, &mut hashing);
-    let Hashing { target, hash, of: _ } = hashing;
-    put_hash(result, hash, target)
 }

@@ -4,7 +4,7 @@ ghost use Rattle.bolt_format.specs.Endings.{ending};
 ghost use Rattle.bolt_format.specs.Wrote.{Wrote};
 ghost use Rattle.bolt_report.specs.FaultWords.{finding_text};
 ghost use Rattle.bolt_load.specs.FaultWords.{line_fault_words};
-ghost use Rattle.bolt_cli.specs.Failures.{HasFinding, IsFailureOf, copied, failure_line, failure_text, reported, unloaded};
+ghost use Rattle.bolt_cli.specs.Failures.{HasFinding, IsFailureOf, copied, failure_line, failure_text, reported, unjoined, unloaded};
 ghost use Rattle.bolt_cli.specs.declared.failure.Failure.TheVariants as failure;
 
 use crate::decimals::put_number_and;
@@ -12,6 +12,7 @@ use bolt_bulk::BulkFault;
 use bolt_check::{CheckFault, Finding, NoMemory};
 use bolt_format::{MetaFault, PageFault, Sink, SinkFault};
 use bolt_load::{LineFault, LoadFault};
+use bolt_recover::JoinFault;
 use bolt_report::{
     ReportFault, finding_text, meta_fault_text, page_fault_text, snapshot_fault_text,
 };
@@ -37,6 +38,8 @@ pub enum Failure {
     TooLarge,
     /// A snapshot was to be made of a file that is one by its length, but whose hash differs.
     HashDiffers,
+    /// There is an entry `lost+found`, so what is found can't be put there.
+    Exists,
     /// Standard output or the copy couldn't be written.
     Write,
     /// What is recovered was listed, and this many pages were lost.
@@ -83,6 +86,18 @@ impl From<CheckFault> for Failure {
                 None => Failure::Memory,
             },
             CheckFault::Memory => Failure::Memory,
+        }
+    }
+}
+
+impl From<JoinFault> for Failure {
+    ghost from_gives = { λ fault result. result ≡ unjoined fault };
+
+    fn from(fault: JoinFault) -> Failure {
+        match fault {
+            JoinFault::Root(finding) => Failure::File(finding),
+            JoinFault::Exists => Failure::Exists,
+            JoinFault::Memory => Failure::Memory,
         }
     }
 }
@@ -150,6 +165,7 @@ fn put_text<E: Sink>(failure: &Failure, err: &mut E) -> Result<(), SinkFault>
         Failure::Memory => put_words(b"out of memory\n", err),
         Failure::TooLarge => put_words(b"layout too large\n", err),
         Failure::HashDiffers => snapshot_fault_text(SnapshotFault::HashDiffers, err),
+        Failure::Exists => put_words(b"lost+found exists\n", err),
         Failure::Write => put_words(b"write failed\n", err),
         Failure::Lost(count) => put_pages_lost(*count, err),
         Failure::Line(line, fault) => put_line_fault(*line, *fault, err),

@@ -108,8 +108,7 @@ pub struct ListJob {
     pub form: ListForm,
     pub path: Vec<Vec<u8>>,
     pub from: Vec<Vec<u8>>,
-    /// Whether to list what is recovered of a damaged file.
-    pub recover: bool,
+    pub extent: Extent,
 }
 
 /// Write a compact copy to another file.
@@ -122,8 +121,7 @@ pub struct CompactJob {
     /// The page size of the copy. Without one it is that of the file.
     pub page_size: Option<PageSize>,
     pub kind: CopyKind,
-    /// Whether to copy what is recovered of a damaged file.
-    pub recover: bool,
+    pub extent: Extent,
 }
 
 /// Write a database of the lines of a listing to another file.

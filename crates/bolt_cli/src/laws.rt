@@ -21,6 +21,7 @@ ghost use Rattle.bolt_cli.specs.PathWords.{part_of};
 ghost use Rattle.bolt_cli.specs.declared.parts.Parts.TheVariants as Parts;
 ghost use Rattle.bolt_cli.specs.SnapshotAnswers.{copy_of, hash_differs};
 ghost use Rattle.bolt_cli.specs.declared.extent.Extent.{Extent};
+ghost use Rattle.bolt_cli.specs.declared.extent.Extent.TheVariants as extent;
 ghost use Rattle.bolt_cli.specs.declared.failure.Failure.TheVariants as failure;
 ghost use Rattle.bolt_cli.specs.declared.job.Job.{Job};
 ghost use Rattle.bolt_cli.specs.declared.meta_choice.MetaChoice.{MetaChoice};
@@ -89,7 +90,7 @@ pub fn good_copies_pass_the_check()
 /// If `list` prints a whole file, `load` of what it prints writes the copy of the file's listing, as
 /// `compact` does at the same page size, with the same sequence; unless memory runs out before.
 pub fn loading_a_listing_copies_it<O: Sink, T: Sink>()
-    ensures { (file : List ℕ) (choice : MetaChoice) (answer : Answer) → IsBytes file → IsListedAnswer false file choice form.Hex [] [] answer → answer.ending ≡ Ok 0
+    ensures { (file : List ℕ) (choice : MetaChoice) (answer : Answer) → IsBytes file → IsListedAnswer extent.First file choice form.Hex [] [] answer → answer.ending ≡ Ok 0
         → (meta : Meta) × (listing : List Member) × IsReadUnder file choice meta × IsListing file meta listing
         × ((out_old out_new : O) (target_old target_new : T) (page_size sequence : ℕ) (layout : Layout) (snapshot : Bool) (ending : Ending)
         → Loads O.taken O.failed out_old out_new T.taken T.failed target_old target_new answer.out page_size sequence layout snapshot ending
@@ -110,12 +111,12 @@ pub fn recovering_sound_trees_reads_them<O: Sink, T: Sink>()
     ensures list { (file : List ℕ) (meta : Meta) → HasSoundTrees file meta
         → (wanted named : MetaChoice) → IsMetaOf file wanted meta → IsMetaOf file named meta → named ≢ choice.Active
         → (form : ListForm) (path from : Path) (answer : Answer)
-        → IsListedAnswer true file wanted form path from answer ↔ IsListedAnswer false file named form path from answer }
+        → IsListedAnswer extent.Losses file wanted form path from answer ↔ IsListedAnswer extent.First file named form path from answer }
     ensures compact { (file : List ℕ) (meta : Meta) → HasSoundTrees file meta
         → (wanted named : MetaChoice) → IsMetaOf file wanted meta → IsMetaOf file named meta → named ≢ choice.Active
         → (out_old out_new : O) (target_old target_new : T) (size : Option PageSize) (layout : Layout) (snapshot : Bool) (ending : Ending) → hash_differs snapshot file ≡ false
-        → MakesCopy O.taken O.failed out_old out_new T.taken T.failed target_old target_new file wanted size layout snapshot true ending
-        ↔ MakesCopy O.taken O.failed out_old out_new T.taken T.failed target_old target_new file named size layout snapshot false ending }
+        → MakesCopy O.taken O.failed out_old out_new T.taken T.failed target_old target_new file wanted size layout snapshot extent.Losses ending
+        ↔ MakesCopy O.taken O.failed out_old out_new T.taken T.failed target_old target_new file named size layout snapshot extent.First ending }
 {
     chosen_meta_is_one();
     slot_meta_is_one();

@@ -1,18 +1,18 @@
 //! The command `list`.
-ghost use Rattle.std.specs.Prelude.{◌≡◌, ◌⊎◌, IfErr, IfOk, OnOk, map};
-ghost use Rattle.bolt_recover.specs.Recovered.{ForRecovered};
-ghost use Rattle.bolt_recover.specs.Recoveries.{ForLosses, recovery_file, recovery_left, recovery_losses, recovery_meta};
-ghost use Rattle.bolt_recover.specs.ShownLosses.{loss_view};
+ghost use Rattle.std.specs.Prelude.{◌≡◌, ◌⊎◌, IfErr, IfOk, List, OnOk};
+ghost use Rattle.bolt_recover.specs.ShownLosses.{lost_view};
 ghost use Rattle.bolt_report.specs.ListForms.{listing_lines};
 ghost use Rattle.bolt_format.specs.Wrote.{Wrote};
 ghost use Rattle.bolt_report.specs.ReportEndings.{report_ending};
 ghost use Rattle.bolt_tree.specs.FileListings.{ForListing};
-ghost use Rattle.bolt_tree.specs.Listing.{rest_from};
+ghost use Rattle.bolt_tree.specs.Listing.{Member, member_cmp, rest_from};
 ghost use Rattle.bolt_tree.specs.ListingParts.{has_bucket, part_below};
+ghost use Rattle.bolt_tree.specs.Order.{Rises};
 ghost use Rattle.bolt_tree.specs.Paths.{path_of};
-ghost use Rattle.bolt_cli.specs.Answers.{Answer, Does, IsFileRefusal, IsListAnswer, IsListedAnswer, IsReadAnswer, IsRecoveredAnswer, IsRecoveredList, lost_ending, part_text};
+ghost use Rattle.bolt_cli.specs.Answers.{Answer, Does, IsFileRefusal, IsJoinedList, IsListAnswer, IsListedAnswer, IsReadAnswer, IsRecoveredAnswer, IsRecoveredList, all_lost_ending, part_text};
 ghost use Rattle.bolt_cli.specs.PlainWords.{path_in};
 
+use crate::extent::Extent;
 use crate::failure::Failure;
 use crate::job::ListJob;
 use crate::open_bucket::open_bucket;
@@ -20,24 +20,27 @@ use crate::open_read::open_read;
 use crate::open_recovery::open_recovery;
 use bolt_check::Checked;
 use bolt_format::Sink;
-use bolt_recover::{Loss, Recovery};
-use bolt_report::{ReportFault, list_part, list_recovered_part};
+use bolt_recover::laws::joined_members_rise;
+use bolt_recover::{Joined, Lost, found_pages};
+use bolt_report::{ReportFault, list_members_part, list_part};
+use bolt_tree::Members;
 use std::alloc::Global;
 
-/// Writes a part of the listing: that of a sound file, or of what is recovered of a damaged one.
+/// Writes a part of the listing: that of a sound file, of what is recovered of a damaged one, or of that
+/// joined with what is found of it.
 pub(crate) fn print_list<O: Sink>(
     alloc: Global,
     file: &[u8],
     job: &ListJob,
     out: &mut O,
 ) -> Result<u8, Failure>
-    ensures { (answer : Answer) × IsListedAnswer job.now.recover file.now job.now.meta job.now.form (path_in job.now.path.items) (path_in job.now.from.items) answer
+    ensures { (answer : Answer) × IsListedAnswer job.now.extent file.now job.now.meta job.now.form (path_in job.now.path.items) (path_in job.now.from.items) answer
         × Does O.taken O.failed out.old out.new answer result }
 {
-    if job.recover {
-        print_recovered(alloc, file, job, out)
-    } else {
-        print_sound(alloc, file, job, out)
+    match job.extent {
+        Extent::First => print_sound(alloc, file, job, out),
+        Extent::Losses => print_recovered(alloc, file, job, out),
+        Extent::LostAndFound => print_joined(alloc, file, job, out),
     }
 }
 
@@ -67,10 +70,29 @@ fn print_recovered<O: Sink>(
         × Does O.taken O.failed out.old out.new answer result }
 {
     let mut recovery = open_recovery(alloc, file, job.meta)?;
-    if !put_recovered_part(alloc, &mut recovery, job, out)? {
+    if !put_members_part(alloc, &mut recovery, job, out)? {
         return Err(Failure::NoBucket);
     }
-    ending_of(recovery.losses())
+    ending_of(Lost::Parts(recovery.losses()))
+}
+
+fn print_joined<O: Sink>(
+    alloc: Global,
+    file: &[u8],
+    job: &ListJob,
+    out: &mut O,
+) -> Result<u8, Failure>
+    ensures { (answer : Answer) × IsJoinedList file.now job.now.meta job.now.form (path_in job.now.path.items) (path_in job.now.from.items) answer
+        × Does O.taken O.failed out.old out.new answer result }
+{
+    let meta = job.meta.find(file)?;
+    let found = found_pages(alloc, file, meta)?;
+    let mut joined = Joined::new(alloc, file, meta, found.as_slice())?;
+    joined_members_rise(&joined);
+    if !put_members_part(alloc, &mut joined, job, out)? {
+        return Err(Failure::NoBucket);
+    }
+    ending_of(joined.lost())
 }
 
 /// Writes the part that is wanted of a sound file.
@@ -95,23 +117,24 @@ fn put_sound_part<O: Sink>(
     )
 }
 
-/// Writes the part that is wanted of what is recovered, and returns whether it has the bucket.
-fn put_recovered_part<O: Sink>(
+/// Writes the part that is wanted of what these members list, and returns whether they have the bucket.
+fn put_members_part<'a, M: Members<'a>, O: Sink>(
     alloc: Global,
-    recovery: &mut Recovery<'_>,
+    members: &mut M,
     job: &ListJob,
     out: &mut O,
 ) -> Result<bool, ReportFault>
-    ensures written { ForRecovered (recovery_file recovery.old) (recovery_meta recovery.old) (λ listing. Wrote O.Sink out.old out.new (part_text job.now.form (path_in job.now.path.items) (path_in job.now.from.items) (recovery_left recovery.old listing)) (report_ending result)) }
-    ensures found { IfOk result (λ found. ForRecovered (recovery_file recovery.old) (recovery_meta recovery.old) (λ listing. found ≡ has_bucket (path_in job.now.path.items) (recovery_left recovery.old listing))) }
-    ensures all { OnOk result (ForLosses (recovery_file recovery.old) (recovery_meta recovery.old) (λ losses. recovery_losses recovery.new ≡ losses)) }
+    ensures written { (listing : List Member) → M.lists members.old listing → Rises member_cmp (M.left members.old listing)
+        → Wrote O.Sink out.old out.new (part_text job.now.form (path_in job.now.path.items) (path_in job.now.from.items) (M.left members.old listing)) (report_ending result) }
+    ensures found { IfOk result (λ found. (listing : List Member) → M.lists members.old listing → found ≡ has_bucket (path_in job.now.path.items) (M.left members.old listing)) }
+    ensures end { OnOk result (M.ends_as members.old members.new) }
     ensures fault { IfErr result (λ fault. (fault ≡ ReportFault.Sink) ⊎ (fault ≡ ReportFault.NoMemory)) }
 {
     let path = slices(alloc, job.path.as_slice())?;
     let from = slices(alloc, job.from.as_slice())?;
-    list_recovered_part(
+    list_members_part(
         alloc,
-        recovery,
+        members,
         path.as_slice(),
         from.as_slice(),
         job.form,
@@ -120,13 +143,14 @@ fn put_recovered_part<O: Sink>(
 }
 
 /// How the job ends if this is lost.
-fn ending_of(losses: &[Loss<'_>]) -> Result<u8, Failure>
-    ensures { result ≡ lost_ending (map loss_view losses.now) }
+fn ending_of(lost: Lost<'_>) -> Result<u8, Failure>
+    ensures { result ≡ all_lost_ending (lost_view lost.entry) }
 {
-    if losses.is_empty() {
-        return Ok(0);
+    match lost {
+        Lost::Everything(_) => Err(Failure::Lost(1)),
+        Lost::Parts([]) => Ok(0),
+        Lost::Parts(losses) => Err(Failure::Lost(losses.len() as u64)),
     }
-    Err(Failure::Lost(losses.len() as u64))
 }
 
 /// The parts of a path as slices.

@@ -172,7 +172,10 @@ fn read_list(alloc: Global, matches: &ArgMatches<'_>) -> Result<Job, Refusal>
         form: read_list_form(choice(matches, "form"))?,
         path: read_parts_of(alloc, matches)?,
         from: read_from(alloc, choice(matches, "from"))?,
-        recover: choice(matches, "recover").is_some(),
+        extent: read_extent(
+            choice(matches, "recover"),
+            choice(matches, "lost-and-found"),
+        ),
     }))
 }
 
@@ -199,7 +202,10 @@ fn read_compact(alloc: Global, matches: &ArgMatches<'_>) -> Result<Job, Refusal>
             choice(matches, "for-bbolt"),
             choice(matches, "etcd-snapshot"),
         ),
-        recover: choice(matches, "recover").is_some(),
+        extent: read_extent(
+            choice(matches, "recover"),
+            choice(matches, "lost-and-found"),
+        ),
     }))
 }
 
@@ -305,12 +311,12 @@ fn read_copy_kind(for_bbolt: Option<&str>, snapshot: Option<&str>) -> CopyKind
     }
 }
 
-/// How far a check goes, by the words of `--all` and `--lost-and-found` if they are given. The latter
-/// implies the former.
-fn read_extent(all: Option<&str>, lost_and_found: Option<&str>) -> Extent
-    ensures { result ≡ extent_by (option_map (λ text. text.now) all.entry) (option_map (λ text. text.now) lost_and_found.entry) }
+/// How far a command goes, by the words of `--all` or `--recover` and of `--lost-and-found` if they are
+/// given. The latter implies the former.
+fn read_extent(losses: Option<&str>, lost_and_found: Option<&str>) -> Extent
+    ensures { result ≡ extent_by (option_map (λ text. text.now) losses.entry) (option_map (λ text. text.now) lost_and_found.entry) }
 {
-    match (all, lost_and_found) {
+    match (losses, lost_and_found) {
         (_, Some(_)) => Extent::LostAndFound,
         (Some(_), None) => Extent::Losses,
         (None, None) => Extent::First,

@@ -4,10 +4,8 @@ use Rattle.std.specs.Prelude.{decimal, fold}
 use Rattle.json.proofs.Printed.Tokens.{print_from-append}
 use Rattle.json.specs.Json.{Json}
 use Rattle.json.specs.Print.{ends, escape_byte, print_from}
-use Rattle.json.specs.Token.{Token, end_object}
+use Rattle.json.specs.Token.{end_object}
 use Rattle.json.specs.Tree.{json_tokens}
-use Rattle.bolt_format.specs.declared.meta.Meta.{Meta}
-use Rattle.bolt_format.specs.declared.meta.Slot.{Slot}
 use Rattle.bolt_report.specs.FigureForms.{figures_text, number_text}
 use Rattle.bolt_report.specs.Forms.{is_json, item_text, json_in, json_text}
 use Rattle.bolt_report.specs.Lines.{line}

@@ -25,7 +25,7 @@ pub fn lost_text<S: Sink>(
     sink: &mut S,
 ) -> Result<(), SinkFault>
     requires { All IsFoundLeaf found.now }
-    ensures { Wrote S.Sink sink.old sink.new (lost_text (lost_view lost) (map found_view found.now)) (ending result) }
+    ensures { Wrote S.Sink sink.old sink.new (lost_text (lost_view lost.entry) (map found_view found.now)) (ending result) }
 {
     put_lost(lost, sink)?;
     put_all_found(found, sink)
@@ -46,7 +46,7 @@ pub fn counted_lost_text<S: Sink>(
 ) -> Result<(), SinkFault>
     requires few { earlier ≤ 2 }
     requires leaves { All IsFoundLeaf found.now }
-    ensures { Wrote S.Sink sink.old sink.new (counted_lost_text earlier (lost_view lost) (map found_view found.now)) (ending result) }
+    ensures { Wrote S.Sink sink.old sink.new (counted_lost_text earlier (lost_view lost.entry) (map found_view found.now)) (ending result) }
 {
     put_lost(lost, sink)?;
     put_all_found(found, sink)?;

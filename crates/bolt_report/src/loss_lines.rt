@@ -15,7 +15,7 @@ use bolt_recover::{Loss, Lost};
 
 /// Writes the line of each loss, or the one that says that everything is lost.
 pub(crate) fn put_lost<S: Sink>(lost: Lost<'_>, sink: &mut S) -> Result<(), SinkFault>
-    ensures { Wrote S.Sink sink.old sink.new (lost_lines (lost_view lost)) (ending result) }
+    ensures { Wrote S.Sink sink.old sink.new (lost_lines (lost_view lost.entry)) (ending result) }
 {
     match lost {
         Lost::Everything(finding) => put_sentence(&finding, b"; lost: everything\n", sink),
@@ -25,7 +25,7 @@ pub(crate) fn put_lost<S: Sink>(lost: Lost<'_>, sink: &mut S) -> Result<(), Sink
 
 /// How many losses there are.
 pub(crate) fn count_of(lost: Lost<'_>) -> u64
-    ensures { result ≡ lost_count (lost_view lost) }
+    ensures { result ≡ lost_count (lost_view lost.entry) }
 {
     match lost {
         Lost::Everything(_) => 1,

@@ -1,8 +1,9 @@
 use Rattle.std.proofs.Common.{arith, ◌≡◌, ◌≢◌, [], List, inl, inr, map, refl, subst, ℕ}
 use Rattle.std.proofs.lemmas.Grind.{common_steps}
+use Rattle.bolt_recover.specs.Losses.{parts}
 use Rattle.bolt_recover.specs.Recoveries.{ForLosses, recovery_losses, recovery_meta}
 use Rattle.bolt_recover.specs.ShownLosses.{loss_view}
-use Rattle.bolt_cli.specs.Answers.{losses_found, refused}
+use Rattle.bolt_cli.specs.Answers.{lost_and_found, refused}
 use Rattle.bolt_cli.specs.declared.failure.Failure.TheVariants as failure
 use Rattle.bolt_cli.proofs.Doing.{Does-nothing}
 use Rattle.bolt_cli.proofs.LossAnswers.{lost_none, lost_some}
@@ -28,7 +29,7 @@ returns g c =
     let meta = recovery_meta c.in-Ok.recovery in
     let all = subst (λ (f : List ℕ). ForLosses f meta (λ all. recovery_losses c.walk_to_end.new.recovery ≡ all)) c.in-Ok.ensures.file c.in_ok-walk_to_end.ensures.all in
     let some : c.losses-losses.result.now ≢ [] = (λ e. grind (arith, common_steps, c.is_empty.ensures, c.if-is_empty.false)) in (
-      losses_found c.args.faults (map loss_view c.losses-losses.result.now),
+      lost_and_found c.args.faults (parts (map loss_view c.losses-losses.result.now)) [],
       inl (meta, c.in-Ok.ensures.meta, lost_some c.args.faults c.args.file.now c.args.choice meta (recovery_losses c.walk_to_end.new.recovery) c.losses-losses.result.now c.losses-losses.ensures.losses all some),
-      c.put_losses.ensures,
+      c.put_lost.ensures,
     )

@@ -1,10 +1,18 @@
--- The root page is kept or lost, or memory ran out.
-use Rattle.std.proofs.Common.{inr}
-use Rattle.bolt_cli.proofs.FoundAnswers.{none_left}
+-- The root page is lost, something else is lost, or nothing is; or memory ran out.
+use Rattle.std.proofs.Common.{arith, ◌≡◌, ◌≢◌, [], List, inl, inr, map, refl, subst, sym, ℕ}
+use Rattle.std.specs.List.{All}
+use Rattle.std.proofs.lemmas.Grind.{common_steps}
+use Rattle.bolt_format.specs.declared.meta.Meta.{Meta}
+use Rattle.bolt_recover.specs.Found.{AreFound, numbers_of}
+use Rattle.bolt_recover.specs.Losses.{everything, parts}
+use Rattle.bolt_recover.specs.Recoveries.{ForLosses, recovery_losses, recovery_meta}
+use Rattle.bolt_recover.specs.ShownFound.{IsFoundView}
+use Rattle.bolt_recover.specs.ShownLosses.{loss_view}
+use Rattle.bolt_recover.specs.declared.found.Found.{Found}
+use Rattle.bolt_report.specs.FoundLines.{IsFoundLeaf, found_view}
+use Rattle.bolt_cli.specs.Answers.{lost_and_found}
+use Rattle.bolt_cli.proofs.FoundAnswers.{are_leaves, are_pages, found_none_lost, found_some_lost, none_left}
 use Rattle.bolt_cli.proofs.lost_and_found.print_under.Goals as goal
 
-pub returns-in_err-found-in-Ok : goal.returns-in_err-found-in-Ok
-returns-in_err-found-in-Ok g c = none_left g.O.Sink.taken g.O.Sink.failed c.args.out.now c.args.file.now c.args.meta c.args.faults c.args.choice _ c.from_residual.ensures.1
-
-pub returns-in-Err : goal.returns-in-Err
-returns-in-Err g c = let (answer, is, does) = c.print_rootless.ensures in (answer, inr is, does)
+pub returns-in_err-found : goal.returns-in_err-found
+returns-in_err-found g c = ?

@@ -1,4 +1,4 @@
-use Rattle.std.proofs.Common.{[], ◌∷◌, ◌++◌, ℕ, ap}
+use Rattle.std.proofs.Common.{[], ◌∷◌, ℕ, ap}
 use Rattle.bolt_report.specs.Pieces.{part_text}
 use Rattle.bolt_report.proofs.GatherLemmas.{Gathers-return, Gathers-same, Gathers-then}
 use Rattle.bolt_report.proofs.pieces.add_later_part.Goals as goal

@@ -1,10 +1,5 @@
-use Rattle.std.proofs.Common.{◌≡◌, ◌∙◌, ◌++◌, List, ℕ, ap, codes}
+use Rattle.std.proofs.Common.{codes}
 use Rattle.bolt_format.proofs.WroteLemmas.{Wrote-same, Wrote-then}
-use Rattle.bolt_report.specs.Forms.{json_in, json_text, item_text}
-use Rattle.bolt_report.specs.Lines.{line}
-use Rattle.bolt_report.specs.SizeLines.{size_json, size_members}
-use Rattle.bolt_report.specs.declared.form.Form.{Form}
-use Rattle.bolt_report.specs.declared.statistics.Stats.{Stats}
 use Rattle.bolt_report.proofs.FigureTexts.{sized_item}
 use Rattle.bolt_report.proofs.ReportLemmas.{Wrote-fault, Wrote-passed, Wrote-sink}
 use Rattle.bolt_report.proofs.size_lines.put_object.Goals as goal

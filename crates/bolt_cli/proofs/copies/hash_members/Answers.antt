@@ -1,9 +1,9 @@
 -- The target has accepted what the hashing sink has.
-use Rattle.bolt_cli.proofs.copies.hash_recovered.Goals as goal
+use Rattle.bolt_cli.proofs.copies.hash_members.Goals as goal
 
 pub returns-clause-copied : goal.returns-clause-copied
 returns-clause-copied g c = λ listing is.
-    let a = c.compact_recovered-result.ensures.copied listing is in
+    let a = c.compact_members-result.ensures.copied listing is in
     record {
       all = a.all;
       bytes = a.bytes;
