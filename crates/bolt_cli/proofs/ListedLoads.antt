@@ -1,5 +1,5 @@
 -- What `list` prints of a file is loaded as the listing of the file.
-use Rattle.std.proofs.Common.{◌≡◌, ◌∙◌, ℕ, Bool, List, [], Option, Ok, Err, ap, inl, inr, length, subst, sym}
+use Rattle.std.proofs.Common.{◌≡◌, ◌∙◌, ℕ, Bool, List, [], ◌∷◌, Option, Ok, Err, ap, false, inl, inr, length, refl, subst, sym}
 use Rattle.std.specs.Prelude.{filter, not}
 use Rattle.std.specs.Ordering.{is_lt}
 use Rattle.bolt_check.specs.Sound.{HasSoundTrees}
@@ -19,9 +19,8 @@ use Rattle.bolt_report.specs.declared.form.ListForm.TheVariants.{Hex}
 use Rattle.bolt_tree.specs.Listing.{IsListing, Member, member_cmp, rest_from}
 use Rattle.bolt_tree.specs.ListingParts.{part_below}
 use Rattle.bolt_tree.specs.Order.{Rises}
-use Rattle.bolt_tree.specs.Paths.{path_cmp}
+use Rattle.bolt_tree.specs.Paths.{Path, path_cmp}
 use Rattle.bolt_tree.proofs.Filters.{filter_all}
-use Rattle.bolt_tree.proofs.Giving.{after_end}
 use Rattle.bolt_cli.specs.Answers.{Answer, Ending, IsListAnswer, IsListedAnswer, IsReadUnder, Loads, LoadsListing, WritesCopy, done, lengths_line, part_text}
 use Rattle.bolt_cli.specs.declared.extent.Extent.TheVariants.{First}
 use Rattle.bolt_cli.specs.declared.failure.Failure.{Failure}
@@ -40,9 +39,14 @@ pub record Below : Type 0 where
 no_failure : (failure : Failure) → ◌≡◌ {A = Ending} (Err failure) (Ok 0) → ⊥
 no_failure failure is = cc
 
+-- no path comes before the empty one
+none_before : (path : Path) → is_lt (path_cmp path []) ≡ false
+none_before [] = refl
+none_before (part ∷ path) = refl
+
 module _ (below : Below) where
   rest_all : (listing : List Member) → rest_from [] listing ≡ listing
-  rest_all listing = filter_all (λ m. not (is_lt (path_cmp m.0 []))) listing (λ m has. ap not (after_end m.0))
+  rest_all listing = filter_all (λ m. not (is_lt (path_cmp m.0 []))) listing (λ m has. ap not (none_before m.0))
 
   whole_text : (listing : List Member) → part_text Hex [] [] listing ≡ listing_text listing
   whole_text listing = ap (λ part. listing_lines Hex (rest_from [] part)) (below.below_root listing) ∙ ap (listing_lines Hex) (rest_all listing) ∙ below.hex_lines listing

@@ -29,7 +29,7 @@ failure_text Write = codes "write failed\n"
 failure_text HashDiffers = snapshot_fault_text snapshot.HashDiffers
 failure_text Exists = codes "lost+found exists\n"
 failure_text (Lost count) = codes "pages lost: " ++ (decimal count ++ codes "\n")
-failure_text (Line number fault) = codes "line " ++ (decimal number ++ (codes ": " ++ (line_fault_words fault ++ codes "\n")))
+failure_text (Line number fault) = codes "line " ++ ((decimal number ++ codes ": ") ++ (line_fault_words fault ++ codes "\n"))
 
 -- a failure is one line on standard error
 abbrev pub failure_line : Failure → List ℕ

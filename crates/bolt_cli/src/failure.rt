@@ -187,7 +187,7 @@ fn put_pages_lost<E: Sink>(count: u64, err: &mut E) -> Result<(), SinkFault>
 }
 
 fn put_line_fault<E: Sink>(line: u64, fault: LineFault, err: &mut E) -> Result<(), SinkFault>
-    ensures { Wrote E.Sink err.old err.new (codes "line " ++ (decimal line ++ (codes ": " ++ (line_fault_words fault ++ codes "\n")))) (ending result) }
+    ensures { Wrote E.Sink err.old err.new (codes "line " ++ ((decimal line ++ codes ": ") ++ (line_fault_words fault ++ codes "\n"))) (ending result) }
 {
     put_words(b"line ", err)?;
     put_number_and(line, b": ", err)?;
