@@ -374,13 +374,13 @@ pub record IsSalvaged (file : List ℕ) (meta : Meta) (listing : List Member) (l
 
 -- why there is none
 abbrev pub IsUnjoined : List ℕ → Meta → Failure → Type 0
-IsUnjoined file meta failure =
-    (found : List ℕ) × (fault : JoinFault) × AreFound file meta found × IsJoinRefusal file meta found fault × (failure ≡ unjoined fault)
+IsUnjoined file meta why =
+    (found : List ℕ) × (fault : JoinFault) × AreFound file meta found × IsJoinRefusal file meta found fault × (why ≡ unjoined fault)
 
 abbrev pub IsUnjoinedUnder : List ℕ → MetaChoice → Failure → Type 0
-IsUnjoinedUnder file choice failure =
-    ((meta : Meta) × IsMetaOf file choice meta × IsUnjoined file meta failure)
-    ⊎ ((fault : MetaFault) × HasNoMetaOf file choice fault × (failure ≡ failure.Metas fault))
+IsUnjoinedUnder file choice why =
+    ((meta : Meta) × IsMetaOf file choice meta × IsUnjoined file meta why)
+    ⊎ ((fault : MetaFault) × HasNoMetaOf file choice fault × (why ≡ failure.Metas fault))
 
 -- all that is lost is reported too
 abbrev pub all_lost_ending : LostView → Ending
