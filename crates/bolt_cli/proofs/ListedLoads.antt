@@ -75,8 +75,7 @@ module _ (below : Below) where
     listed_loads file choice answer bytes (inl (meta, under, is)) good =
         let (listing, lists, out) = printed file meta answer is good in
         let one = below.one_tree file meta listing bytes (read_trees file choice meta under) lists in
-        let own = below.of_bytes file meta listing bytes lists in
-        (
+        let own = below.of_bytes file meta listing bytes lists in (
           meta,
           listing,
           under,

@@ -33,13 +33,7 @@ pub(crate) fn write_loaded<O: Sink, T: Sink>(
         page_size: job.page_size.bytes,
         sequence: job.sequence,
     };
-    let length = copy_members(
-        alloc,
-        &mut members,
-        &shape,
-        job.kind.is_snapshot(),
-        target,
-    )?;
+    let length = copy_members(alloc, &mut members, &shape, job.kind.is_snapshot(), target)?;
     put_lengths(file.len() as u64, length, out)?;
     Ok(0)
 }
