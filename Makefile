@@ -42,13 +42,14 @@ cases: $(PROGRAM) $(CALLS)
 		$(CALLS).by-rattle $(filter-out tests/cases/sweep_changes.cases tests/cases/sweep_failures.cases,$(CASES)); fi
 
 COPY = out/copy.db
+LOADED = out/loaded.db
 # Sources that refer to sections of documents.
 SOURCES = Makefile $(wildcard crates/*/src/*.rt crates/*/specs/*.antt crates/*/specs/*/*.antt crates/*/proofs/*.antt)
 # The documents that show commands with what they print.
 SHOWING = README.md docs/GUIDE.md docs/COMMANDS.md docs/luntsegi.1
 
 # Compares what the program prints of each real database with what bbolt finds in it. A compact copy of
-# each must be sound and list the same, and an existing OUT must be refused. Output that can't be
+# each must be sound and list the same, its listing must make the same copy, and an existing OUT must be refused. Output that can't be
 # written must be reported. Documents must show what is printed.
 examples: $(PROGRAM)
 	for list in $(SOUND); do $(PROGRAM) buckets $${list%.buckets}.db | cmp - $$list || exit 1; done
@@ -57,6 +58,8 @@ examples: $(PROGRAM)
 	mkdir -p $(dir $(COPY))
 	for list in $(LISTED); do rm -f $(COPY) && $(PROGRAM) compact -o $(COPY) $${list%.list}.db > /dev/null \
 		&& $(PROGRAM) check $(COPY) | grep -qx OK && $(PROGRAM) list $(COPY) | cmp - $$list || exit 1; done
+	for list in $(LISTED); do rm -f $(COPY) $(LOADED) && $(PROGRAM) compact --page-size 4096 -o $(COPY) $${list%.list}.db > /dev/null \
+		&& $(PROGRAM) load -o $(LOADED) $$list > /dev/null && cmp $(COPY) $(LOADED) || exit 1; done
 	$(PROGRAM) compact -o $(COPY) $(LEAKED).db 2>&1 | grep -qx "error: output exists"
 	rm $(COPY) && $(PROGRAM) compact --meta 1 -o $(COPY) $(LEAKED).db > /dev/null
 	$(PROGRAM) list $(COPY) | cmp - $(LEAKED).list
@@ -109,10 +112,13 @@ failures: $(PROGRAM) $(REFUSE) $(LISTED_LONG) $(DAMAGED) $(MANY_LOST)
 	$(SWEEP) write 1 examples/app.db $(EACH_COMMAND)
 	$(SWEEP) write 1 $(LEAKED).db check list
 	$(SWEEP) write 10 examples/app.db "compact -o OUT" "compact -o OUT --etcd-snapshot"
+	$(SWEEP) write 10 examples/app.list "load -o OUT" "load -o OUT --etcd-snapshot"
 	$(SWEEP) write 1 $(DAMAGED) "check --all" "check --lost-and-found"
 	$(SWEEP) write 200 $(DAMAGED) $(RECOVERIES)
 	$(SWEEP) read 1 examples/app.db info list "compact -o OUT"
+	$(SWEEP) read 1 examples/app.list "load -o OUT"
 	$(SWEEP) sync 1 examples/app.db "compact -o OUT" "compact -o OUT --etcd-snapshot"
+	$(SWEEP) sync 1 examples/app.list "load -o OUT" "load -o OUT --etcd-snapshot"
 	$(SWEEP) sync 1 $(DAMAGED) "compact -o OUT --recover"
 	$(SWEEP) sync 1 $(MANY_LOST) "compact -o OUT --recover" "compact -o OUT --recover --etcd-snapshot"
 	rm -f $(COPY) && test $$($(PROGRAM) compact --recover -o $(COPY) $(MANY_LOST) | grep -c "; lost: ") -eq 1500
@@ -190,7 +196,7 @@ LOST_LEAVES = out/lost_leaves.db
 # entries, 200,000 buckets in the root bucket, and 256 MB with values of 100 KB. Then times compact
 # copies of the first and the last of these, of 256 MB that are mostly free pages, and of 50,000 buckets
 # one within another; and what is recovered of the first, also with a thousand lost leaves. All have
-# pages of 4,096 bytes, as bbolt makes them on most machines. If Go and bbolt's source are there, bbolt's
+# pages of 4,096 bytes, as bbolt makes them on most machines. Listings of the first and of the third are loaded. If Go and bbolt's source are there, bbolt's
 # library does the same on the first two.
 bench: $(PROGRAM) $(LARGE) $(WIDE) $(LONG) $(SPARSE) $(VERY_DEEP) $(LOST_LEAVES)
 	python3 -B tools/bench/time_commands.py $(PROGRAM) $(LARGE) info check buckets pages stats list \
@@ -198,6 +204,7 @@ bench: $(PROGRAM) $(LARGE) $(WIDE) $(LONG) $(SPARSE) $(VERY_DEEP) $(LOST_LEAVES)
 	python3 -B tools/bench/time_commands.py $(PROGRAM) $(WIDE) info check buckets pages stats list
 	python3 -B tools/bench/time_commands.py $(PROGRAM) $(LONG) info check buckets pages stats list
 	python3 -B tools/bench/time_copies.py $(PROGRAM) $(LARGE) $(LONG) $(SPARSE) $(VERY_DEEP)
+	python3 -B tools/bench/time_loads.py $(PROGRAM) $(LARGE) $(LONG)
 	python3 -B tools/bench/time_recovery.py $(PROGRAM) $(LARGE) $(LOST_LEAVES) 1000
 	tools/bbolt/build.sh
 	if test -x $(BBOLT); then python3 -B tools/bench/compare_bbolt.py $(PROGRAM) $(BBOLT) $(LARGE) bucket-0 \
@@ -242,6 +249,8 @@ memory: $(PROGRAM) $(CALLS) $(REFUSE) $(NESTED) $(DEEP) $(DAMAGED)
 		"compact -o OUT --etcd-snapshot"
 	$(SWEEP) memory 1 examples/app.db $(EACH_COMMAND) "compact -o OUT --page-size 1024" \
 		"compact -o OUT --etcd-snapshot"
+	$(SWEEP) memory 1 examples/app.list "load -o OUT" "load -o OUT --for-bbolt" "load -o OUT --etcd-snapshot"
+	$(SWEEP) memory 1 examples/leaked.findings "load -o OUT"
 	$(SWEEP) memory 1 $(LEAKED).db check "list --meta 1" "compact -o OUT --meta 1"
 	$(SWEEP) memory 1 $(DEEP) info check buckets stats
 	REFUSED_CALL=memory REFUSED_NUMBER=200 LD_PRELOAD=$(REFUSE) $(PROGRAM) check $(DEEP) | grep -qx OK

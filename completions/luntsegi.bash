@@ -13,6 +13,7 @@ _luntsegi_options() {
         stats) echo --form --parts --meta --assume-meta ;;
         list) echo --from --form --parts --recover --meta --assume-meta ;;
         compact) echo -o --page-size --for-bbolt --etcd-snapshot --recover --meta --assume-meta ;;
+        load) echo -o --page-size --for-bbolt --etcd-snapshot --sequence ;;
     esac
 }
 
@@ -35,7 +36,7 @@ _luntsegi_wants_file() {
         word=${COMP_WORDS[at]}
         case $word in
             --) ;;
-            --form | --parts | --meta | --assume-meta | --from | --prefix | --page-size | -o)
+            --form | --parts | --meta | --assume-meta | --from | --prefix | --page-size | --sequence | -o)
                 [[ ${COMP_WORDS[at + 1]} == = ]] && ((at++))
                 ((at++))
                 ;;
@@ -65,7 +66,7 @@ _luntsegi_option() {
 _luntsegi_command() {
     case $1 in
         -*) _luntsegi_words "-h --help -V --version" "$1" ;;
-        *) _luntsegi_words "info page pages check buckets keys get stats list compact" "$1" ;;
+        *) _luntsegi_words "info page pages check buckets keys get stats list compact load" "$1" ;;
     esac
 }
 
@@ -86,7 +87,7 @@ _luntsegi_argument() {
         --form | --parts | --meta)
             _luntsegi_words "$(_luntsegi_values "${COMP_WORDS[1]}" "$option")" "$1"
             ;;
-        --from | --prefix | --page-size | --assume-meta) ;;
+        --from | --prefix | --page-size | --sequence | --assume-meta) ;;
         *) _luntsegi_option_or_operand "$1" ;;
     esac
 }

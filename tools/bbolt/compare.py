@@ -4,9 +4,10 @@
 
 BBOLT is the program built from main.go beside this file. The files compared are each FILE and some
 that bbolt makes in FOLDER. Of each: bbolt accepts it where the program does, and both list the same
-and count the same pages; of its compact copies in both layouts, too. Then bbolt makes random
-transactions, N rounds of them, on the files that it made and on a copy of each for bbolt, and both
-programs accept the file after each round. Last, bbolt has to stop with a panic on a copy that has a
+and count the same pages; of its compact copies in both layouts, and of what is loaded of the lines
+that bbolt's cursor prints, too. Then bbolt makes random transactions, N rounds of them, on the files
+that it made, on a copy of each for bbolt and on what is loaded of it, and both programs accept the
+file after each round. Last, bbolt has to stop with a panic on a copy that has a
 branch of one child, and never on the copy of the same file for bbolt: without the first, nothing
 would show that these transactions can find such a branch. It has to do the same when it deletes every
 key. From each copy that the commands of DOCUMENT made, bbolt deletes every key: each was made for it.
@@ -77,6 +78,18 @@ class Programs:
         want(self.lone_children(copy) == 0, file, "the copy for bbolt has a branch of one child")
         return copy
 
+    def load_for_bbolt(self, file, out):
+        """A file for bbolt of the lines that bbolt's cursor prints of another one."""
+        text = ended(self.bbolt, "list", file)[1]
+        with open(out + ".list", "wb") as lines:
+            lines.write(text)
+        if os.path.exists(out):
+            os.remove(out)
+        want(ended(self.program, "load", FOR_BBOLT, "-o", out, out + ".list")[0] == 0, file, "isn't loaded")
+        want(ended(self.program, "list", out)[1] == text, file, "is loaded as something else")
+        want(self.lone_children(out) == 0, file, "what is loaded for bbolt has a branch of one child")
+        return out
+
     def lone_children(self, file):
         """How many branch pages have one child."""
         rows = [line.split() for line in ended(self.program, "pages", file)[1].splitlines()]
@@ -99,7 +112,7 @@ def compare_file(programs, file, folder):
         return
     programs.compare(file)
     out = os.path.join(folder, "copy.db")
-    for copy in programs.copy, programs.copy_for_bbolt:
+    for copy in programs.copy, programs.copy_for_bbolt, programs.load_for_bbolt:
         want(programs.is_sound(copy(file, out)), file, "a copy isn't accepted")
         programs.compare(out)
 
@@ -138,7 +151,7 @@ def compare_panics(programs, file, folder):
 def empty_copies(programs, guide, folder):
     """How many copies the commands of a document made. Bbolt deletes every key of each."""
     with open(guide, encoding="utf-8") as document:
-        made = re.findall(r"(?m)^ {4}\$ luntsegi (compact .*?-o (out/\S+).*)", document.read())
+        made = re.findall(r"(?m)^ {4}\$ (?:.*\| )?luntsegi ((?:compact|load) .*?-o (out/\S+).*)", document.read())
     made = [(command, copy) for command, copy in made if os.path.exists(copy)]
     for command, copy in made:
         want("--for-bbolt" in command or "--etcd-snapshot" in command, command, "makes no copy for bbolt")
@@ -169,10 +182,11 @@ def main():
     count = compare_panics(programs, made[KINDS.index("long")], words.folder)
     for file in made:
         change_file(programs, programs.copy_for_bbolt(file, file + ".copy"), words.rounds)
+        change_file(programs, programs.load_for_bbolt(file, file + ".loaded"), words.rounds)
         change_file(programs, file, words.rounds)
     emptied = empty_copies(programs, words.guide, words.folder) if words.guide else 0
-    print(f"{len(words.files) + len(made)} files compared with bbolt; {len(made)} and their copies for "
-          f"bbolt after each of {words.rounds} rounds of {STEPS} transactions; {count} of {RUNS} runs on a "
+    print(f"{len(words.files) + len(made)} files compared with bbolt; {len(made)}, their copies for "
+          f"bbolt and what is loaded of them after each of {words.rounds} rounds of {STEPS} transactions; {count} of {RUNS} runs on a "
           f"branch of one child panic, and none on the copy for bbolt; every key deleted from {emptied} copies "
           "of the guide")
 

@@ -22,10 +22,10 @@ ROUNDS = 5
 ROOM = 32 * 2**20
 
 
-def seconds(words):
+def seconds(words, out=subprocess.DEVNULL):
     """How long the command took, which must succeed, and the most memory that it needed."""
     begin = time.perf_counter()
-    child = subprocess.Popen(words, stdout=subprocess.DEVNULL, stderr=subprocess.DEVNULL)
+    child = subprocess.Popen(words, stdout=out, stderr=subprocess.DEVNULL)
     _, status, usage = os.wait4(child.pid, 0)
     child.returncode = os.waitstatus_to_exitcode(status)
     if child.returncode != 0:

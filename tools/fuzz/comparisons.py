@@ -5,6 +5,7 @@ import os
 from copies import compare_copy, compare_prefixes, compare_slot
 from findings import ACCOUNT_FAULTS, compare_accounts, compare_bad_page, findings_of
 from listings import compare_keys, compare_missing, compare_order, compare_rests, compare_values
+from loads import compare_loads
 from options import compare_options
 from pages import compare_figures, compare_pages, compare_tree
 from program import want
@@ -34,6 +35,7 @@ def compare_sound(file):
     compare_copy(file, listing)
     compare_prefixes(file, os.path.join(file.folder, "copy.db"))
     compare_snapshot(file, listing)
+    compare_loads(file, listing)
     for slot in (0, 1):
         listed = compare_slot(file, slot)
         is_same = listed.is_ok() and listed.out == listing

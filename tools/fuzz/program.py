@@ -32,6 +32,7 @@ TEXTS = {
     "stats": b"".join(figure.encode() + rb" \d+\n" for figure in FIGURES),
     "list": rb"(?:%b)*" % ENTRY,
     "compact": rb"\d+ -> \d+ bytes\n",
+    "load": rb"\d+ -> \d+ bytes\n",
 }
 # And what it prints as JSON.
 JSON_TEXTS = {
@@ -56,6 +57,7 @@ FAULTS = {
     "stats": REFUSED + rb"|bucket not found",
     "list": REFUSED + rb"|bucket not found",
     "compact": REFUSED,
+    "load": rb"line \d+: (?:not a line of a listing|path not rising|no bucket above)",
 }
 
 

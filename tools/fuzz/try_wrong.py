@@ -50,7 +50,7 @@ def alters(command, *options, status=0):
 
 
 def out_of(words):
-    """The OUT of a run of `compact`."""
+    """The OUT of a run of `compact` or `load`."""
     return words[words.index("-o") + 1]
 
 
@@ -71,6 +71,9 @@ REPLACED = [
     ("page", 1, "reports another fault", rb"(page \d+): .*", rb"\1: cut off"),
     ("info", 0, "shows a higher mark", b"high water ", b"high water 1"),
     ("check", 1, "counts other findings", rb"\d+ errors found", b"9 errors found"),
+    ("load", 1, "reports another line", rb"line \d+", b"line 999"),
+    ("load", 1, "reports another fault", rb"(line \d+): .*", rb"\1: path not rising"),
+    ("load", 0, "prints another length", rb"-> \d+", b"-> 1"),
 ]
 FIGURES = [b"buckets", b"inline buckets", b"keys", b"branch pages", b"leaf allocated"]
 
@@ -254,6 +257,24 @@ def fill_copy(words, result):
 def report_lengths(words, result):
     """compact reports other lengths"""
     result.out = b"1 -> 1 bytes\n"
+
+
+@alters("load")
+def cut_loaded(words, result):
+    """load drops the last byte of OUT"""
+    os.truncate(out_of(words), os.path.getsize(out_of(words)) - 1)
+
+
+@alters("load", "--sequence")
+def lose_sequence(words, result):
+    """load writes another sequence into the metas"""
+    set_bytes(out_of(words), 40, b"\1")
+
+
+@alters("load", status=1)
+def fill_loaded(words, result):
+    """load writes something of what is refused"""
+    set_bytes(out_of(words), 0, b"luntsegi")
 
 
 @alters("stats")

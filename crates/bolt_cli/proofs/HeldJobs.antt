@@ -3,6 +3,7 @@ use Rattle.std.proofs.Common.{◌≡◌, ◌<◌, ◌∙◌, ap, inl, inr, ℕ, 
 use Rattle.bolt_cli.specs.declared.extent.Extent.{Extent}
 use Rattle.bolt_cli.specs.declared.extent.Extent.TheVariants.{First, LostAndFound, Losses}
 use Rattle.bolt_cli.specs.declared.meta_choice.MetaChoice.{MetaChoice}
+use Rattle.bolt_load.specs.LineMembers.{text_members}
 use Rattle.bolt_layout.specs.Copies.{layout_of_listing}
 use Rattle.bolt_layout.specs.declared.layout.Layout.{Layout}
 use Rattle.bolt_recover.specs.Losses.{parts}
@@ -31,6 +32,7 @@ module _ {O T : Type 0} (out_taken : O → Option (List ℕ)) (out_failed : O �
   shown file (job.Get j) ending none (answer, is, does, same) = (answer, is, does, refl)
   shown file (job.List j) ending none (answer, is, does, same) = (answer, is, does, refl)
   shown file (job.Compact j) ending none does = absurd (cc)
+  shown file (job.Load j) ending none does = absurd (cc)
 
 -- a job does the same on a sink that is seen as what it holds
 module _ {O T : Type 0} (out_taken : O → Option (List ℕ)) (out_failed : O → ℕ) (out_old out_new : O)
@@ -83,3 +85,5 @@ module _ {O T : Type 0} (out_taken : O → Option (List ℕ)) (out_failed : O �
   held_job file (job.Get j) ending (answer, is, does, same) = (answer, is, does_held answer ending does, same)
   held_job file (job.List j) ending (answer, is, does, same) = (answer, is, does_held answer ending does, same)
   held_job file (job.Compact j) ending does = copied file j.meta j.page_size _ _ j.extent ending does
+  held_job file (job.Load j) ending (inl (right, writes)) = inl (right, written _ (text_members file) _ (λ copy. done (lengths_line (length file) copy)) ending writes)
+  held_job file (job.Load j) ending (inr (fault, is, out, target, ends)) = inr (fault, is, untouched out, target, ends)

@@ -12,12 +12,14 @@ pub mod HeldJobs
 pub mod HeldLines
 pub mod ListAnswers
 pub mod ListedBuckets
+pub mod ListedLoads
+pub mod LoadAnswers
 pub mod LossAnswers
 pub mod MixedParts
 pub mod NeededBytes
-pub mod Numbers
 pub mod Ordering
 pub mod PageAnswers
+pub mod PageSizes
 pub mod PagesAnswers
 pub mod PathReading
 pub mod ReadFiles

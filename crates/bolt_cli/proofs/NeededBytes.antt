@@ -49,3 +49,4 @@ module _ {O T : Type 0} (out_taken : O → Option (List ℕ)) (out_failed : O �
   enough (job.Get j) is out_old out_new target_old target_new ending = absurd (cc)
   enough (job.List j) is out_old out_new target_old target_new ending = absurd (cc)
   enough (job.Compact j) is out_old out_new target_old target_new ending = absurd (cc)
+  enough (job.Load j) is out_old out_new target_old target_new ending = absurd (cc)

@@ -1,13 +1,15 @@
 -- The parts of a path are read one after another.
-use Rattle.std.proofs.Common.{◌≡◌, ◌∙◌, ◌==◌, Bool, List, [], ◌∷◌, ◌++◌, Result, Ok, Err, codes, length, refl, sym, ap, inl, inr, append_assoc}
-use Rattle.std.specs.Prelude.{if◌then◌else◌}
+use Rattle.std.proofs.Common.{◌≡◌, ◌∙◌, ◌==◌, Bool, List, [], ◌∷◌, ◌++◌, Result, Ok, Err, codes, length, refl, sym, ap, ap₂, inl, inr, append_assoc}
+use Rattle.std.specs.Prelude.{Option, Some, None, false, true, if◌then◌else◌, option_and_then, option_map}
 use Rattle.std.specs.List.{list_any, slice_split}
 use Rattle.std.specs.Result.{IsErrAnd}
+use Rattle.std.proofs.lemmas.Bool.{or_cases, or_parts}
 use Rattle.bolt_check.specs.Keys.{Key}
 use Rattle.bolt_tree.specs.Paths.{Path}
+use Rattle.bolt_load.specs.HexPaths.{hex_bytes_in, hex_path_in, part_in, parts_in}
 use Rattle.bolt_cli.specs.LineWords.{Text}
 use Rattle.bolt_cli.specs.CommandLine.{Gives}
-use Rattle.bolt_cli.specs.PathWords.{each_part, hex_path_of, part_of, result_and_then}
+use Rattle.bolt_cli.specs.PathWords.{each_part, hex_path_of, or_bad_hex, part_of, result_and_then}
 use Rattle.bolt_cli.specs.declared.parts.Parts.TheVariants as parts
 use Rattle.bolt_cli.specs.declared.refusal.Refusal.{Refusal}
 
@@ -37,9 +39,39 @@ module _ (read : Text → Result Key Text) (word : Text) (words : List Text) whe
     | inr (why, is_word, bad) ↦ inr (why, is ∙ is_word, sym same ∙ continued_bad front why.now bad)
   ]
 
--- a path in one word, by the parts between its slashes
-pub path_cut : (word : Text) (words : List Text) (bad : Bool) → words ≡ slice_split (λ byte. byte == 47) word → list_any (λ part. length part == 0) words ≡ bad
+-- ---- a path in one word, by the parts between its slashes
+
+abbrev empties : List Text → Bool
+empties words = list_any (λ part. length part == 0) words
+
+-- the path of the words, if no part is empty and all are in hexadecimal
+with_rest : (part : Option Key) (rest : Option Path)
+    → or_bad_hex (option_and_then (λ part. option_map (λ parts. part ∷ parts) rest) part) ≡ result_and_then (λ part. result_and_then (λ path. Ok (part ∷ path)) (or_bad_hex rest)) (or_bad_hex part)
+with_rest None rest = refl
+with_rest (Some part) None = refl
+with_rest (Some part) (Some path) = refl
+
+all_parts : (words : List Text) → empties words ≡ false → or_bad_hex (parts_in words) ≡ each_part (part_of parts.Hex) words
+all_parts [] none = refl
+all_parts (word ∷ words) none =
+    let both = or_parts (length word == 0) (empties words) none in
+    with_rest (part_in word) (parts_in words)
+    ∙ ap₂ (λ (part : Option Key) (rest : Result Path Text). result_and_then (λ part. result_and_then (λ path. Ok (part ∷ path)) rest) (or_bad_hex part))
+    (ap (λ b. if b then None else hex_bytes_in word) both.0) (all_parts words both.1)
+
+no_path : (part : Option Key) → option_and_then {U = Path} (λ part. option_map (λ parts. part ∷ parts) None) part ≡ None
+no_path None = refl
+no_path (Some part) = refl
+
+an_empty : (words : List Text) → empties words ≡ true → parts_in words ≡ None
+an_empty [] some = absurd (let f : false ≡ true = some in cc)
+an_empty (word ∷ words) some = elim (or_cases (length word == 0) (empties words) some) [
+  | inl here ↦ ap (λ part. option_and_then (λ part. option_map (λ parts. part ∷ parts) (parts_in words)) part) (ap (λ b. if b then None else hex_bytes_in word) here)
+  | inr later ↦ ap (λ rest. option_and_then (λ part. option_map (λ parts. part ∷ parts) rest) (part_in word)) (an_empty words later) ∙ no_path (part_in word)
+]
+
+pub path_cut : (word : Text) (words : List Text) (bad : Bool) → words ≡ slice_split (λ byte. byte == 47) word → empties words ≡ bad
     → hex_path_of word ≡ (if bad then Err (codes "bad hex") else each_part (part_of parts.Hex) words)
-path_cut word words bad cut is =
-    sym (ap (λ (ws : List Text). if list_any (λ part. length part == 0) ws then Err (codes "bad hex") else each_part (part_of parts.Hex) ws) cut)
-    ∙ ap (λ b. if b then Err (codes "bad hex") else each_part (part_of parts.Hex) words) is
+unfolding hex_path_in
+path_cut word words true cut some = ap or_bad_hex (ap parts_in (sym cut) ∙ an_empty words some)
+path_cut word words false cut none = ap or_bad_hex (ap parts_in (sym cut)) ∙ all_parts words none

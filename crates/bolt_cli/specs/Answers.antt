@@ -17,6 +17,9 @@ use Rattle.bolt_format.specs.declared.fault.PageFault.{PageFault}
 use Rattle.bolt_format.specs.declared.meta.Meta.{Meta}
 use Rattle.bolt_format.specs.declared.meta.MetaFault.{MetaFault}
 use Rattle.bolt_format.specs.declared.meta.Slot.{Slot}
+use Rattle.bolt_load.specs.LineFaults.{IsListingText, IsLoadFault}
+use Rattle.bolt_load.specs.LineMembers.{text_members}
+use Rattle.bolt_load.specs.declared.fault.LoadFault.{LoadFault}
 use Rattle.bolt_recover.specs.Found.{AreFound}
 use Rattle.bolt_recover.specs.JoinRefusals.{IsJoinRefusal}
 use Rattle.bolt_recover.specs.Joined.{IsJoined, LacksBucketKey}
@@ -49,7 +52,7 @@ use Rattle.bolt_tree.specs.Listing.{IsListing, Member, rest_from}
 use Rattle.bolt_tree.specs.ListingParts.{bucket_part, has_bucket}
 use Rattle.bolt_tree.specs.Paths.{Holds, Names, Path}
 use Rattle.bolt_cli.specs.CopyKinds.{is_snapshot, layout_for}
-use Rattle.bolt_cli.specs.Failures.{IsFailureOf, failure_line, unjoined}
+use Rattle.bolt_cli.specs.Failures.{IsFailureOf, failure_line, unjoined, unloaded}
 use Rattle.bolt_cli.specs.FileFaults.{AreFileFaults, errors_in, fault_lines, is_fine}
 use Rattle.bolt_cli.specs.GoodCopies.{IsGoodCopy}
 use Rattle.bolt_cli.specs.MetaChoices.{HasNoMetaOf, IsMetaOf, assumed_for}
@@ -515,6 +518,20 @@ module _ {O T : Type 0} (out_taken : O → Option (List ℕ)) (out_failed : O �
   MakesCopy file choice size which snapshot Losses ending = Recovers file choice size which snapshot ending
   MakesCopy file choice size which snapshot LostAndFound ending = Joins file choice size which snapshot ending
 
+  -- `load`: The target accepts the layout that is asked for of the listing that the lines of the file tell, with this root sequence, and for a
+  -- snapshot then its hash: a good copy of that listing. Or a line isn't right, or memory ran out, and neither is touched.
+  abbrev pub Loads : List ℕ → (page_size sequence : ℕ) → Layout → (snapshot : Bool) → Ending → Type 0
+  Loads file page_size sequence which snapshot ending =
+      (IsListingText file
+      × WritesCopy snapshot (text_members file) (layout_of_listing which page_size (text_members file) sequence) (λ copy. done (lengths_line (length file) copy)) ending)
+      ⊎ ((fault : LoadFault) × IsLoadFault file fault × (out_new ≡ out_old) × (target_new ≡ target_old) × (ending ≡ Err (unloaded fault)))
+
+  -- the same of the text of this listing, which has no line that isn't right
+  abbrev pub LoadsListing : List Member → List ℕ → (page_size sequence : ℕ) → Layout → (snapshot : Bool) → Ending → Type 0
+  LoadsListing listing file page_size sequence which snapshot ending =
+      WritesCopy snapshot listing (layout_of_listing which page_size listing sequence) (λ copy. done (lengths_line (length file) copy)) ending
+      ⊎ ((out_new ≡ out_old) × (target_new ≡ target_old) × (ending ≡ Err failure.Memory))
+
   -- what a job does, and how it ends
   abbrev pub DoesJob : List ℕ → Job → Ending → Type 0
   DoesJob file (job.Info j) = Prints (IsInfoAnswer file j.slot j.form)
@@ -527,6 +544,7 @@ module _ {O T : Type 0} (out_taken : O → Option (List ℕ)) (out_failed : O �
   DoesJob file (job.Get j) = Prints (IsReadAnswer file j.meta (IsGetAnswer file (path_in j.path.items) j.form j.no_newline))
   DoesJob file (job.List j) = Prints (IsListedAnswer j.extent file j.meta j.form (path_in j.path.items) (path_in j.from.items))
   DoesJob file (job.Compact j) = MakesCopy file j.meta j.page_size (layout_for j.kind) (is_snapshot j.kind) j.extent
+  DoesJob file (job.Load j) = Loads file j.page_size.bytes j.sequence (layout_for j.kind) (is_snapshot j.kind)
 
 -- ---- the end of a run
 

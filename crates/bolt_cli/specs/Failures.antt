@@ -5,6 +5,9 @@ use Rattle.bolt_bulk.specs.declared.fault.BulkFault.TheVariants as bulk
 use Rattle.bolt_check.specs.declared.fault.CheckFault.{CheckFault}
 use Rattle.bolt_check.specs.declared.fault.CheckFault.TheVariants as check
 use Rattle.bolt_check.specs.declared.finding.Finding.{Finding}
+use Rattle.bolt_load.specs.FaultWords.{line_fault_words}
+use Rattle.bolt_load.specs.declared.fault.LoadFault.{LoadFault}
+use Rattle.bolt_load.specs.declared.fault.LoadFault.TheVariants as load
 use Rattle.bolt_recover.specs.declared.joined.JoinFault.{JoinFault}
 use Rattle.bolt_recover.specs.declared.joined.JoinFault.TheVariants as join
 use Rattle.bolt_report.specs.FaultWords.{finding_text, meta_fault_text, page_fault_text, snapshot_fault_text}
@@ -12,7 +15,7 @@ use Rattle.bolt_report.specs.declared.fault.ReportFault.{ReportFault}
 use Rattle.bolt_report.specs.declared.fault.ReportFault.TheVariants as report
 use Rattle.bolt_snapshot.specs.declared.hash_check.SnapshotFault.TheVariants as snapshot
 use Rattle.bolt_cli.specs.declared.failure.Failure.{Failure}
-use Rattle.bolt_cli.specs.declared.failure.Failure.TheVariants.{Exists, File, HashDiffers, Lost, Memory, Metas, NoBucket, NoKey, Page, TooLarge, Write}
+use Rattle.bolt_cli.specs.declared.failure.Failure.TheVariants.{Exists, File, HashDiffers, Line, Lost, Memory, Metas, NoBucket, NoKey, Page, TooLarge, Write}
 
 abbrev pub failure_text : Failure → List ℕ
 failure_text (Metas fault) = meta_fault_text fault
@@ -26,6 +29,7 @@ failure_text Write = codes "write failed\n"
 failure_text HashDiffers = snapshot_fault_text snapshot.HashDiffers
 failure_text Exists = codes "lost+found exists\n"
 failure_text (Lost count) = codes "pages lost: " ++ (decimal count ++ codes "\n")
+failure_text (Line number fault) = codes "line " ++ ((decimal number ++ codes ": ") ++ (line_fault_words fault ++ codes "\n"))
 
 -- a failure is one line on standard error
 abbrev pub failure_line : Failure → List ℕ
@@ -42,6 +46,11 @@ abbrev pub copied : BulkFault → Failure
 copied bulk.Memory = Memory
 copied bulk.TooLarge = TooLarge
 copied bulk.Sink = Write
+
+-- the failure if a file isn't read as the text of a listing
+abbrev pub unloaded : LoadFault → Failure
+unloaded load.Memory = Memory
+unloaded (load.Line number fault) = Line number fault
 
 -- the failure if there is no joined listing
 abbrev pub unjoined : JoinFault → Failure

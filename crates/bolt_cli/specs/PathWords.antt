@@ -1,11 +1,9 @@
 -- How a path is written on a command line: a word for each part, or all parts in hexadecimal in one word: docs/COMMANDS.md, "Words".
-use Rattle.std.specs.Prelude.{◌==◌, List, [], ◌∷◌, Option, Some, None, Result, Ok, Err, codes, drop, length, take, if◌then◌else◌}
-use Rattle.std.specs.List.{list_any, slice_split}
+use Rattle.std.specs.Prelude.{List, [], ◌∷◌, Option, Some, None, Result, Ok, Err, codes, drop, take, if◌then◌else◌}
 use Rattle.std.specs.Str.{bytes_eq}
-use Rattle.hex.specs.Hex.{decode_of}
-use Rattle.hex.specs.declared.error.FromHexError.{FromHexError}
 use Rattle.bolt_check.specs.Keys.{Key}
 use Rattle.bolt_tree.specs.Paths.{Path}
+use Rattle.bolt_load.specs.HexPaths.{hex_bytes_in, hex_path_in}
 use Rattle.bolt_cli.specs.LineWords.{Text}
 use Rattle.bolt_cli.specs.declared.parts.Parts.{Parts}
 use Rattle.bolt_cli.specs.declared.parts.Parts.TheVariants as parts
@@ -27,13 +25,13 @@ abbrev pub parts_by : Option Text → Result Parts Text
 parts_by (Some word) = parts_of word
 parts_by None = Ok parts.Text
 
-abbrev pub or_bad_hex : Result Key FromHexError → Result Key Text
-or_bad_hex (Ok bytes) = Ok bytes
-or_bad_hex (Err e) = Err (codes "bad hex")
+abbrev pub or_bad_hex : {A : Type 0} → Option A → Result A Text
+or_bad_hex (Some found) = Ok found
+or_bad_hex None = Err (codes "bad hex")
 
 -- bytes in hexadecimal, two digits of either case for each
 abbrev pub hex_bytes : Text → Result Key Text
-hex_bytes word = or_bad_hex (decode_of word)
+hex_bytes word = or_bad_hex (hex_bytes_in word)
 
 -- what follows `0x` is in hexadecimal, and any other word is text
 abbrev pub mixed_bytes : Text → Result Key Text
@@ -55,10 +53,9 @@ abbrev pub each_part : (Text → Result Key Text) → List Text → Result Path 
 each_part read [] = Ok []
 each_part read (word ∷ words) = result_and_then (λ part. result_and_then (λ path. Ok (part ∷ path)) (each_part read words)) (read word)
 
--- the parts between slashes (47), in hexadecimal, with at least one byte in each
+-- a path in hexadecimal
 abbrev pub hex_path_of : Text → Result Path Text
-hex_path_of word = let words = slice_split (λ byte. byte == 47) word in
-    if list_any (λ part. length part == 0) words then Err (codes "bad hex") else each_part (part_of parts.Hex) words
+hex_path_of word = or_bad_hex (hex_path_in word)
 
 -- the path at which the rest of a listing begins; without one it is the whole
 abbrev pub hex_path_by : Option Text → Result Path Text

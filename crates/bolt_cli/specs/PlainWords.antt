@@ -1,12 +1,13 @@
 -- What the words of a command line ask for: docs/COMMANDS.md, "Words".
-use Rattle.std.specs.Prelude.{◌==◌, ◌&&◌, ◌+◌, ◌-◌, ◌*◌, ◌^◌, ℕ, Bool, true, false, List, [], ◌∷◌, Option, Some, None, Result, Ok, Err, Vec, codes, length, map, nat_lt, option_map, string_bytes, if◌then◌else◌}
+use Rattle.std.specs.Prelude.{◌==◌, ◌&&◌, ℕ, Bool, true, false, List, [], ◌∷◌, Option, Some, None, Result, Ok, Err, Vec, codes, map, option_map, string_bytes, if◌then◌else◌}
 use Rattle.std.specs.List.{after_first, before_first, list_any}
-use Rattle.std.specs.Str.{all_ascii_digits, bytes_eq}
+use Rattle.std.specs.Str.{bytes_eq}
 use Rattle.bolt_check.specs.Keys.{Key}
 use Rattle.bolt_tree.specs.Paths.{Path}
 use Rattle.bolt_format.specs.Metas.{page_sizes}
 use Rattle.bolt_format.specs.declared.meta.Slot.{Slot}
 use Rattle.bolt_format.specs.declared.meta.Slot.TheVariants.{One, Zero}
+use Rattle.bolt_load.specs.Numbers.{decimal_value, is_number, number_in}
 use Rattle.bolt_report.specs.declared.form.FigureForm.{FigureForm}
 use Rattle.bolt_report.specs.declared.form.Form.{Form}
 use Rattle.bolt_report.specs.declared.form.ListForm.{ListForm}
@@ -68,6 +69,9 @@ for_bbolt_option = lone_option (codes "for-bbolt")
 abbrev pub snapshot_option : Choice
 snapshot_option = lone_option (codes "etcd-snapshot")
 
+abbrev pub sequence_option : Choice
+sequence_option = valued_option (codes "sequence")
+
 abbrev pub sizes_option : Choice
 sizes_option = lone_option (codes "sizes")
 
@@ -121,6 +125,9 @@ list_line = record { name = codes "list"; operands = file_operand ∷ part_opera
 abbrev pub compact_line : Syntax
 compact_line = record { name = codes "compact"; operands = file_operand ∷ []; options = output_option ∷ page_size_option ∷ for_bbolt_option ∷ snapshot_option ∷ recover_option ∷ lost_and_found_option ∷ meta_option ∷ assumed_option ∷ [] }
 
+abbrev pub load_line : Syntax
+load_line = record { name = codes "load"; operands = file_operand ∷ []; options = output_option ∷ page_size_option ∷ for_bbolt_option ∷ snapshot_option ∷ sequence_option ∷ [] }
+
 -- ---- what a line asks for
 
 -- the active meta, that of a slot, or an assumed one by its page size and root page
@@ -141,6 +148,7 @@ pub data Asked : Type 0 where
   stats : Text → AskedMeta → FigureForm → Path → Asked
   list : Text → AskedMeta → ListForm → (path from : Path) → Extent → Asked
   compact : (file : Text) → AskedMeta → (target : Text) → (page_size : Option ℕ) → CopyKind → Extent → Asked
+  load : (file target : Text) → (sequence page_size : ℕ) → CopyKind → Asked
 
 -- the path that the code owns
 abbrev pub path_in : {Z : Type 0} → List (Vec ℕ Z) → Path
@@ -167,6 +175,7 @@ asked_of (job.Get j) = get (string_bytes j.file) (meta_in j.meta) (path_in j.pat
 asked_of (job.Stats j) = stats (string_bytes j.file) (meta_in j.meta) j.form (path_in j.path.items)
 asked_of (job.List j) = list (string_bytes j.file) (meta_in j.meta) j.form (path_in j.path.items) (path_in j.from.items) j.extent
 asked_of (job.Compact j) = compact (string_bytes j.file) (meta_in j.meta) (string_bytes j.target) (size_in j.page_size) j.kind j.extent
+asked_of (job.Load j) = load (string_bytes j.file) (string_bytes j.target) j.sequence j.page_size.bytes j.kind
 
 -- the words that a line gives by each name
 abbrev pub Values : Type 0
@@ -183,32 +192,33 @@ or_missing None = Err (codes "value missing")
 abbrev pub text_by : Text → Values → Result Text Text
 text_by name values = or_missing (first_of (values name))
 
--- the number that decimal digits stand for, of which '0' is 48: each has the weight of its place
-abbrev pub decimal_value : Text → ℕ
-decimal_value [] = 0
-decimal_value (digit ∷ rest) = (digit - 48) * 10 ^ length rest + decimal_value rest
-
--- digits alone, one or more, of a number below 2 ^ 64
-abbrev pub is_number : Text → Bool
-is_number word = nat_lt 0 (length word) && all_ascii_digits word && nat_lt (decimal_value word) (2 ^ 64)
-
-abbrev pub number_of : Text → Option ℕ
-number_of word = if is_number word then Some (decimal_value word) else None
+-- a number by its word, or what is wrong with it
+abbrev pub number_or : (why word : Text) → Result ℕ Text
+number_or why word = if is_number word then Ok (decimal_value word) else Err why
 
 abbrev pub page_id : Text → Result ℕ Text
-page_id word = if is_number word then Ok (decimal_value word) else Err (codes "bad page id")
+page_id word = number_or (codes "bad page id") word
 
 -- of these numbers some are page sizes
 abbrev pub is_page_size : Text → Bool
 is_page_size word = is_number word && list_any (λ size. size == decimal_value word) page_sizes
 
--- the page size of a copy by its word; without one it is that of the file
-abbrev pub page_size_of : Text → Result (Option ℕ) Text
-page_size_of word = if is_page_size word then Ok (Some (decimal_value word)) else Err (codes "bad page size")
+abbrev pub page_size_of : Text → Result ℕ Text
+page_size_of word = if is_page_size word then Ok (decimal_value word) else Err (codes "bad page size")
 
+-- the page size of a copy by its word; without one it is that of the file
 abbrev pub page_size_by : Option Text → Result (Option ℕ) Text
-page_size_by (Some word) = page_size_of word
+page_size_by (Some word) = result_and_then (λ size. Ok (Some size)) (page_size_of word)
 page_size_by None = Ok None
+
+-- the page size of a database that is made of a listing, and the sequence of its root bucket
+abbrev pub load_size_by : Option Text → Result ℕ Text
+load_size_by (Some word) = page_size_of word
+load_size_by None = Ok 4096
+
+abbrev pub sequence_by : Option Text → Result ℕ Text
+sequence_by (Some word) = number_or (codes "bad sequence") word
+sequence_by None = Ok 0
 
 -- the kind of a copy, by the words of `--for-bbolt` and `--etcd-snapshot` if they are given; a snapshot is for bbolt too
 abbrev pub copy_kind_by : (for_bbolt snapshot : Option Text) → CopyKind
@@ -242,12 +252,12 @@ slot_by None = Ok None
 abbrev bad_assumed : Text
 bad_assumed = codes "bad meta: use PAGE_SIZE:ROOT, and no --meta"
 
-abbrev pub assumed_when : Result (Option ℕ) Text → Option ℕ → Result AskedMeta Text
-assumed_when (Ok (Some page_size)) (Some root) = Ok (assumed page_size root)
+abbrev pub assumed_when : Result ℕ Text → Option ℕ → Result AskedMeta Text
+assumed_when (Ok page_size) (Some root) = Ok (assumed page_size root)
 assumed_when _ _ = Err bad_assumed
 
 abbrev pub assumed_of : Text → Result AskedMeta Text
-assumed_of word = assumed_when (page_size_of (before_first (λ byte. byte == 58) word)) (number_of (after_first (λ byte. byte == 58) word))
+assumed_of word = assumed_when (page_size_of (before_first (λ byte. byte == 58) word)) (number_in (after_first (λ byte. byte == 58) word))
 
 -- the meta by the words of `--meta` and `--assume-meta`, of which only one may be given
 abbrev pub meta_asked : (named assumed : Option Text) → Result AskedMeta Text
@@ -309,6 +319,11 @@ asks_compact values = result_and_then (λ file. result_and_then (λ meta. result
     Ok (compact file meta target size (copy_kind_by (first_of (values (codes "for-bbolt"))) (first_of (values (codes "etcd-snapshot")))) (extent_by (first_of (values (codes "recover"))) (first_of (values (codes "lost-and-found"))))))
     (page_size_by (first_of (values (codes "page-size"))))) (text_by (codes "output") values)) (meta_by values)) (text_by (codes "FILE") values)
 
+abbrev pub asks_load : Values → Result Asked Text
+asks_load values = result_and_then (λ file. result_and_then (λ target. result_and_then (λ sequence. result_and_then (λ size.
+    Ok (load file target sequence size (copy_kind_by (first_of (values (codes "for-bbolt"))) (first_of (values (codes "etcd-snapshot"))))))
+    (load_size_by (first_of (values (codes "page-size"))))) (sequence_by (first_of (values (codes "sequence"))))) (text_by (codes "output") values)) (text_by (codes "FILE") values)
+
 -- a command by its line, and what the words of that line ask for, or which of them can't be read and why
 pub record Command : Type 0 where
   pub syntax : Syntax
@@ -320,7 +335,7 @@ command syntax asks = record { syntax = syntax; asks = asks }
 abbrev pub commands : List Command
 commands =
     command info_line asks_info ∷ command page_line asks_page ∷ command pages_line asks_pages ∷ command check_line asks_check ∷ command buckets_line asks_buckets ∷ command keys_line asks_keys
-    ∷ command get_line asks_get ∷ command stats_line asks_stats ∷ command list_line asks_list ∷ command compact_line asks_compact ∷ []
+    ∷ command get_line asks_get ∷ command stats_line asks_stats ∷ command list_line asks_list ∷ command compact_line asks_compact ∷ command load_line asks_load ∷ []
 
 abbrev pub syntaxes : List Syntax
 syntaxes = map (λ (c : Command). c.syntax) commands
@@ -347,8 +362,10 @@ file_name (job.Get j) = string_bytes j.file
 file_name (job.Stats j) = string_bytes j.file
 file_name (job.List j) = string_bytes j.file
 file_name (job.Compact j) = string_bytes j.file
+file_name (job.Load j) = string_bytes j.file
 
 -- the OUT, if one is asked for
 abbrev pub target_name : Job → Option Text
 target_name (job.Compact j) = Some (string_bytes j.target)
+target_name (job.Load j) = Some (string_bytes j.target)
 target_name _ = None

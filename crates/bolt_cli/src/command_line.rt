@@ -1,12 +1,13 @@
 //! The description of the command line for `clap`.
-ghost use Rattle.std.specs.Prelude.{◌≡◌, ◌∷◌, [], Some, false, IfOk, map};
+ghost use Rattle.std.specs.Prelude.{◌≡◌, ◌∷◌, ◌++◌, [], List, Some, false, IfOk, map};
 ghost use Rattle.clap.specs.declared.builder.action.ArgAction.TheVariants.{Set};
+ghost use Rattle.bolt_cli.specs.LineWords as plain;
 ghost use Rattle.bolt_cli.specs.LineWords.{given_word};
 ghost use Rattle.clap.specs.Words.{new_app, rule_of};
-ghost use Rattle.bolt_cli.specs.CommandLine.{IsCommand, bare_program, command_of, operand_rule, option_rule, program, program_of};
+ghost use Rattle.bolt_cli.specs.CommandLine.{IsCommand, command_of, operand_rule, option_rule, program, program_of};
 ghost use Rattle.bolt_cli.specs.Syntaxes.{choice_view, operand_view, syntax_view};
 
-use crate::commands::{Choice, Flag, Operand, SYNTAXES, Syntax, VERSION};
+use crate::commands::{Choice, Flag, Operand, Syntax, VERSION, reading, writing};
 use clap::{Arg, ArgAction, Command};
 use std::alloc::{AllocError, Global};
 
@@ -90,16 +91,17 @@ pub(crate) fn program<'a>(alloc: Global) -> Result<Command<'a>, AllocError>
         .version(VERSION)
         .subcommand_required(true)
         .disable_help_subcommand(true);
-    with_commands(alloc, program, &SYNTAXES)
+    let program = with_commands(alloc, program, reading())?;
+    with_commands(alloc, program, writing())
 }
 
+/// The command line with these commands after those that it has.
 fn with_commands<'a>(
     alloc: Global,
     program: Command<'a>,
     syntaxes: &'a [Syntax],
 ) -> Result<Command<'a>, AllocError>
-    requires { IsCommand bare_program program }
-    ensures { IfOk result (IsCommand (program_of (map syntax_view syntaxes.now))) }
+    ensures { IfOk result (λ more. (before : List plain.Syntax) → IsCommand (program_of before) program.entry → IsCommand (program_of (before ++ map syntax_view syntaxes.now)) more) }
 {
     let mut program = program;
     for syntax in syntaxes {

@@ -3,13 +3,15 @@ ghost use Rattle.std.specs.Prelude.{◌≡◌, ◌++◌, codes, decimal};
 ghost use Rattle.bolt_format.specs.Endings.{ending};
 ghost use Rattle.bolt_format.specs.Wrote.{Wrote};
 ghost use Rattle.bolt_report.specs.FaultWords.{finding_text};
-ghost use Rattle.bolt_cli.specs.Failures.{HasFinding, IsFailureOf, copied, failure_line, failure_text, reported, unjoined};
+ghost use Rattle.bolt_load.specs.FaultWords.{line_fault_words};
+ghost use Rattle.bolt_cli.specs.Failures.{HasFinding, IsFailureOf, copied, failure_line, failure_text, reported, unjoined, unloaded};
 ghost use Rattle.bolt_cli.specs.declared.failure.Failure.TheVariants as failure;
 
 use crate::decimals::put_number_and;
 use bolt_bulk::BulkFault;
 use bolt_check::{CheckFault, Finding, NoMemory};
 use bolt_format::{MetaFault, PageFault, Sink, SinkFault};
+use bolt_load::{LineFault, LoadFault};
 use bolt_recover::JoinFault;
 use bolt_report::{
     ReportFault, finding_text, meta_fault_text, page_fault_text, snapshot_fault_text,
@@ -42,6 +44,9 @@ pub enum Failure {
     Write,
     /// What is recovered was listed, and this many pages were lost.
     Lost(u64),
+    /// The file isn't the text of a listing: the number of its first line that isn't right, and what
+    /// is wrong with it.
+    Line(u64, LineFault),
 }
 
 impl<T: Drop> From<AllocFailed<T>> for Failure {
@@ -129,6 +134,17 @@ impl From<BulkFault> for Failure {
     }
 }
 
+impl From<LoadFault> for Failure {
+    ghost from_gives = { λ fault result. result ≡ unloaded fault };
+
+    fn from(fault: LoadFault) -> Failure {
+        match fault {
+            LoadFault::Memory => Failure::Memory,
+            LoadFault::Line { line, fault } => Failure::Line(line, fault),
+        }
+    }
+}
+
 /// Writes the line of a failure: `error: ` and its text.
 pub(crate) fn put_failure<E: Sink>(failure: &Failure, err: &mut E) -> Result<(), SinkFault>
     ensures { Wrote E.Sink err.old err.new (failure_line failure.now) (ending result) }
@@ -152,6 +168,7 @@ fn put_text<E: Sink>(failure: &Failure, err: &mut E) -> Result<(), SinkFault>
         Failure::Exists => put_words(b"lost+found exists\n", err),
         Failure::Write => put_words(b"write failed\n", err),
         Failure::Lost(count) => put_pages_lost(*count, err),
+        Failure::Line(line, fault) => put_line_fault(*line, *fault, err),
     }
 }
 
@@ -167,6 +184,15 @@ fn put_pages_lost<E: Sink>(count: u64, err: &mut E) -> Result<(), SinkFault>
 {
     put_words(b"pages lost: ", err)?;
     put_number_and(count, b"\n", err)
+}
+
+fn put_line_fault<E: Sink>(line: u64, fault: LineFault, err: &mut E) -> Result<(), SinkFault>
+    ensures { Wrote E.Sink err.old err.new (codes "line " ++ ((decimal line ++ codes ": ") ++ (line_fault_words fault ++ codes "\n"))) (ending result) }
+{
+    put_words(b"line ", err)?;
+    put_number_and(line, b": ", err)?;
+    put_words(fault.words().as_bytes(), err)?;
+    put_words(b"\n", err)
 }
 
 fn put_words<E: Sink>(words: &[u8], err: &mut E) -> Result<(), SinkFault>

@@ -20,6 +20,7 @@ pub enum Job {
     Get(GetJob),
     List(ListJob),
     Compact(CompactJob),
+    Load(LoadJob),
 }
 
 /// Print the meta in a slot, or the active one.
@@ -123,6 +124,19 @@ pub struct CompactJob {
     pub extent: Extent,
 }
 
+/// Write a database of the lines of a listing to another file.
+#[derive(Debug, Drop)]
+pub struct LoadJob {
+    /// The name of the file that has the lines.
+    pub file: String,
+    /// The name of OUT.
+    pub target: String,
+    /// The sequence of the root bucket.
+    pub sequence: u64,
+    pub page_size: PageSize,
+    pub kind: CopyKind,
+}
+
 impl Job {
     ghost use Rattle.std.specs.Prelude.{◌≡◌, option_map};
     ghost use Rattle.bolt_cli.specs.Needs.{needs_metas_alone};
@@ -143,6 +157,7 @@ impl Job {
             Job::Get(job) => job.file.as_str(),
             Job::List(job) => job.file.as_str(),
             Job::Compact(job) => job.file.as_str(),
+            Job::Load(job) => job.file.as_str(),
         }
     }
 
@@ -161,6 +176,7 @@ impl Job {
     {
         match self {
             Job::Compact(job) => Some(job.target.as_str()),
+            Job::Load(job) => Some(job.target.as_str()),
             _ => None,
         }
     }

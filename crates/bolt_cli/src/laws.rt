@@ -1,5 +1,5 @@
 //! What the definitions of answers imply.
-ghost use Rattle.std.specs.Prelude.{◌≡◌, ◌≢◌, ◌↔◌, ◌⊎◌, ◌<◌, ◌^◌, ℕ, Bool, false, true, List, Ok, Option, codes, length, take};
+ghost use Rattle.std.specs.Prelude.{◌≡◌, ◌≢◌, ◌↔◌, ◌⊎◌, ◌<◌, ◌^◌, ℕ, Bool, false, true, List, [], Ok, Option, codes, length, take};
 ghost use Rattle.bolt_check.specs.Sound.{HasSoundTrees};
 ghost use Rattle.bolt_format.specs.Metas.{IsMetasEnd};
 ghost use Rattle.bolt_format.specs.declared.meta.Meta.{Meta};
@@ -9,9 +9,10 @@ ghost use Rattle.hex.specs.Hex.{IsBytes};
 ghost use Rattle.bolt_report.specs.Forms.{is_printable, item_text};
 ghost use Rattle.bolt_report.specs.declared.form.Form.TheVariants as Form;
 ghost use Rattle.bolt_report.specs.declared.form.ListForm.{ListForm};
-ghost use Rattle.bolt_tree.specs.Listing.{Member};
+ghost use Rattle.bolt_report.specs.declared.form.ListForm.TheVariants as form;
+ghost use Rattle.bolt_tree.specs.Listing.{IsListing, Member};
 ghost use Rattle.bolt_tree.specs.Paths.{Path};
-ghost use Rattle.bolt_cli.specs.Answers.{Answer, DoesJob, Ending, IsCheckAnswer, IsListedAnswer, MakesCopy, done, refused};
+ghost use Rattle.bolt_cli.specs.Answers.{Answer, DoesJob, Ending, IsCheckAnswer, IsListedAnswer, IsReadUnder, Loads, LoadsListing, MakesCopy, done, refused};
 ghost use Rattle.bolt_cli.specs.GoodCopies.{HasGoodCopies, IsGoodCopy};
 ghost use Rattle.bolt_cli.specs.MetaChoices.{IsMetaOf};
 ghost use Rattle.bolt_cli.specs.Needs.{needs_metas_alone};
@@ -29,11 +30,18 @@ ghost use Rattle.bolt_cli.specs.declared.page_size.PageSize.{PageSize};
 use bolt_check::laws::{sound_trees_have_no_finding, sound_trees_pass_the_tests};
 use bolt_format::Sink;
 use bolt_format::laws::{chosen_meta_is_one, metas_lie_in_a_prefix, slot_meta_is_one};
-use bolt_layout::laws::{a_copy_lists_the_same, layout_has_length, prefixes_are_refused};
+use bolt_layout::laws::{
+    a_copy_lists_the_same, a_files_listing_is_of_one_tree, layout_has_length, prefixes_are_refused,
+};
+use bolt_load::laws::{
+    a_files_listing_is_of_bytes, a_listings_text_is_read_back, a_right_text_has_no_first_fault,
+};
 use bolt_recover::laws::{
     sound_trees_lose_nothing, sound_trees_recover_their_listing, sound_trees_recover_what_they_list,
 };
+use bolt_report::laws::hex_lines_are_the_listing_text;
 use bolt_snapshot::laws::{hashed_blocks_are_a_snapshot, trailing_bytes_change_nothing};
+use bolt_tree::part_laws::all_is_below_the_root;
 
 /// A job that needs the metas alone does on the bytes up to their end, which the first 80 tell,
 /// exactly what it does on the whole file.
@@ -77,6 +85,23 @@ pub fn good_copies_pass_the_check()
     chosen_meta_is_one();
     sound_trees_have_no_finding();
     sound_trees_lose_nothing();
+}
+
+/// If `list` prints a whole file, `load` of what it prints writes the copy of the file's listing, as
+/// `compact` does at the same page size, with the same sequence; unless memory runs out before.
+pub fn loading_a_listing_copies_it<O: Sink, T: Sink>()
+    ensures { (file : List ℕ) (choice : MetaChoice) (answer : Answer) → IsBytes file → IsListedAnswer extent.First file choice form.Hex [] [] answer → answer.ending ≡ Ok 0
+        → (meta : Meta) × (listing : List Member) × IsReadUnder file choice meta × IsListing file meta listing
+        × ((out_old out_new : O) (target_old target_new : T) (page_size sequence : ℕ) (layout : Layout) (snapshot : Bool) (ending : Ending)
+        → Loads O.taken O.failed out_old out_new T.taken T.failed target_old target_new answer.out page_size sequence layout snapshot ending
+        → LoadsListing O.taken O.failed out_old out_new T.taken T.failed target_old target_new listing answer.out page_size sequence layout snapshot ending) }
+{
+    all_is_below_the_root();
+    hex_lines_are_the_listing_text();
+    a_files_listing_is_of_one_tree();
+    a_files_listing_is_of_bytes();
+    a_listings_text_is_read_back();
+    a_right_text_has_no_first_fault();
 }
 
 /// With sound trees, `list --recover` and `compact --recover` do exactly what they do without it under

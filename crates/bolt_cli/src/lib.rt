@@ -22,6 +22,7 @@ mod job;
 mod keys_command;
 pub mod laws;
 mod list_command;
+mod load_command;
 mod lost_and_found;
 mod meta_choice;
 mod open_bucket;
@@ -45,8 +46,8 @@ pub use copy_kind::CopyKind;
 pub use extent::Extent;
 pub use failure::Failure;
 pub use job::{
-    BucketsJob, CheckJob, CompactJob, GetJob, InfoJob, Job, KeysJob, ListJob, PageJob, PagesJob,
-    StatsJob,
+    BucketsJob, CheckJob, CompactJob, GetJob, InfoJob, Job, KeysJob, ListJob, LoadJob, PageJob,
+    PagesJob, StatsJob,
 };
 pub use meta_choice::{AssumedMeta, MetaChoice};
 pub use outside::Outside;

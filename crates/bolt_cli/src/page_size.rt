@@ -12,6 +12,9 @@ pub struct PageSize {
 }
 
 impl PageSize {
+    /// That of most files, since most systems have pages of this size.
+    pub const USUAL: PageSize = PageSize { bytes: 4096 };
+
     /// The page size of this many bytes, if it is accepted.
     pub fn new(bytes: u64) -> Option<PageSize>
         ensures same { IfSome result (λ size. size.bytes ≡ bytes) }

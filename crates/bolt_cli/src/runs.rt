@@ -11,6 +11,7 @@ use crate::info_command::print_info;
 use crate::job::Job;
 use crate::keys_command::print_keys;
 use crate::list_command::print_list;
+use crate::load_command::write_loaded;
 use crate::page_command::print_page;
 use crate::pages_command::print_pages;
 use crate::stats_command::print_stats;
@@ -75,5 +76,6 @@ fn do_job<O: Sink, T: Sink>(
         Job::Get(job) => print_value(alloc, file, job, out),
         Job::List(job) => print_list(alloc, file, job, out),
         Job::Compact(job) => write_copy(alloc, file, job, out, target),
+        Job::Load(job) => write_loaded(alloc, file, job, out, target),
     }
 }

@@ -2,21 +2,22 @@
 ghost use Rattle.std.specs.Prelude.{◌≡◌, Err, IfErr, IfOk, MatchOption, MatchResult, None, Ok, Some, codes, map, option_map, string_bytes};
 ghost use Rattle.clap.specs.Words.{fault_of, found_of, kind_of, rows_of, subcommand_rows_of};
 ghost use Rattle.bolt_cli.specs.CommandLine.{Asks, Gives, HasKindOf, IsRefusedBy, asked_by, asked_by_subcommand, program, values_in};
-ghost use Rattle.bolt_cli.specs.PlainWords.{asked, asked_of, asks_buckets, asks_check, asks_compact, asks_get, asks_info, asks_keys, asks_list, asks_page, asks_pages, asks_stats, assumed_of, extent_by, first_of, copy_kind_by, meta_by, meta_in, number_of, page_id, page_size_by, page_size_of, path_by, path_in, prefix_by, size_in, slot_by, slot_of, text_by};
+ghost use Rattle.bolt_cli.specs.PlainWords.{asked, asked_of, asks_buckets, asks_check, asks_compact, asks_get, asks_info, asks_keys, asks_list, asks_load, asks_page, asks_pages, asks_stats, assumed_of, extent_by, first_of, copy_kind_by, load_size_by, meta_by, meta_in, number_or, page_id, page_size_by, page_size_of, path_by, path_in, prefix_by, sequence_by, size_in, slot_by, slot_of, text_by};
 
 use crate::command_line;
 use crate::copy_kind::CopyKind;
 use crate::extent::Extent;
 use crate::form_words::{read_figure_form, read_form, read_list_form};
 use crate::job::{
-    BucketsJob, CheckJob, CompactJob, GetJob, InfoJob, Job, KeysJob, ListJob, PageJob, PagesJob,
-    StatsJob,
+    BucketsJob, CheckJob, CompactJob, GetJob, InfoJob, Job, KeysJob, ListJob, LoadJob, PageJob,
+    PagesJob, StatsJob,
 };
 use crate::meta_choice::{AssumedMeta, MetaChoice};
 use crate::page_size::PageSize;
 use crate::path_words::{read_from, read_parts, read_path, read_prefix};
 use crate::refusal::Refusal;
 use bolt_format::Slot;
+use bolt_load::read_number;
 use clap::error::ErrorKind;
 use clap::{ArgMatches, Error};
 use std::alloc::{AllocError, Global};
@@ -32,8 +33,8 @@ const BAD_ASSUMED: &str = "bad meta: use PAGE_SIZE:ROOT, and no --meta";
 /// - `Version` if `--version` or `-V` is in the place of a command.
 /// - `Usage` if the words are no line of a command for another reason.
 /// - `Word` if the words are a line of a command, but one of them can't be read: `bad form`,
-///   `bad parts` or `bad meta` with the words that are known, `bad page id`, `bad hex` or
-///   `bad page size`.
+///   `bad parts` or `bad meta` with the words that are known, `bad page id`, `bad hex`,
+///   `bad page size` or `bad sequence`.
 /// - `Memory` if memory runs out.
 pub fn read_words(alloc: Global, words: Vec<String>) -> Result<Job, Refusal>
     ensures job { IfOk result (Asks (map string_bytes words.items)) }
@@ -81,6 +82,7 @@ fn read_command(alloc: Global, name: &str, matches: &ArgMatches<'_>) -> Result<J
         "stats" => read_stats(alloc, matches),
         "list" => read_list(alloc, matches),
         "compact" => read_compact(alloc, matches),
+        "load" => read_load(alloc, matches),
         _ => Err(Refusal::Word("command missing")),
     }
 }
@@ -207,6 +209,21 @@ fn read_compact(alloc: Global, matches: &ArgMatches<'_>) -> Result<Job, Refusal>
     }))
 }
 
+fn read_load(alloc: Global, matches: &ArgMatches<'_>) -> Result<Job, Refusal>
+    ensures { Gives asked_of (asks_load (values_in (rows_of (found_of matches.now)))) result }
+{
+    Ok(Job::Load(LoadJob {
+        file: read_text(alloc, matches, "FILE")?,
+        target: read_text(alloc, matches, "output")?,
+        sequence: read_sequence(choice(matches, "sequence"))?,
+        page_size: read_load_size(choice(matches, "page-size"))?,
+        kind: read_copy_kind(
+            choice(matches, "for-bbolt"),
+            choice(matches, "etcd-snapshot"),
+        ),
+    }))
+}
+
 /// The path that the words of PART stand for.
 fn read_parts_of(alloc: Global, matches: &ArgMatches<'_>) -> Result<Vec<Vec<u8>>, Refusal>
     ensures { Gives (λ path. path_in path.items) (path_by (values_in (rows_of (found_of matches.now)))) result }
@@ -249,7 +266,7 @@ fn choice<'a>(matches: &ArgMatches<'a>, id: &str) -> Option<&'a str>
 fn read_page_id(word: &str) -> Result<u64, Refusal>
     ensures { Gives (λ id. id) (page_id word.now) result }
 {
-    read_number(word).ok_or(Refusal::Word("bad page id"))
+    number_or("bad page id", word)
 }
 
 fn read_page_size(word: Option<&str>) -> Result<Option<PageSize>, Refusal>
@@ -260,6 +277,26 @@ fn read_page_size(word: Option<&str>) -> Result<Option<PageSize>, Refusal>
     };
     let size = read_size(word).ok_or(Refusal::Word("bad page size"))?;
     Ok(Some(size))
+}
+
+/// The page size of a database that is made of a listing.
+fn read_load_size(word: Option<&str>) -> Result<PageSize, Refusal>
+    ensures { Gives (λ size. size.bytes) (load_size_by (option_map (λ text. text.now) word.entry)) result }
+{
+    match word {
+        Some(word) => read_size(word).ok_or(Refusal::Word("bad page size")),
+        None => Ok(PageSize::USUAL),
+    }
+}
+
+/// The sequence of the root bucket of such a database.
+fn read_sequence(word: Option<&str>) -> Result<u64, Refusal>
+    ensures { Gives (λ sequence. sequence) (sequence_by (option_map (λ text. text.now) word.entry)) result }
+{
+    match word {
+        Some(word) => number_or("bad sequence", word),
+        None => Ok(0),
+    }
 }
 
 /// The kind of a copy, by the words of `--for-bbolt` and `--etcd-snapshot` if they are given. A
@@ -287,20 +324,16 @@ fn read_extent(losses: Option<&str>, lost_and_found: Option<&str>) -> Extent
 }
 
 fn read_size(word: &str) -> Option<PageSize>
-    ensures { MatchOption result (page_size_of word.now ≡ Err (codes "bad page size")) (λ size. page_size_of word.now ≡ Ok (Some size.bytes)) }
+    ensures { MatchOption result (page_size_of word.now ≡ Err (codes "bad page size")) (λ size. page_size_of word.now ≡ Ok size.bytes) }
 {
-    PageSize::new(read_number(word)?)
+    PageSize::new(read_number(word.as_bytes())?)
 }
 
-/// The number that these digits stand for.
-fn read_number(word: &str) -> Option<u64>
-    ensures { result ≡ number_of word.now }
+/// The number that these digits stand for, or a refusal with these words.
+fn number_or(why: &'static str, word: &str) -> Result<u64, Refusal>
+    ensures { Gives (λ number. number) (number_or why.now word.now) result }
 {
-    // `parse` would accept a plus before the digits.
-    if word.starts_with('+') {
-        return None;
-    }
-    word.parse().ok()
+    read_number(word.as_bytes()).ok_or(Refusal::Word(why))
 }
 
 /// The meta that is read under, by the words of `--meta` and `--assume-meta`. Only one of them may
@@ -351,6 +384,6 @@ fn find_assumed(word: &str) -> Option<AssumedMeta>
     let (page_size, root) = word.split_once(':')?;
     Some(AssumedMeta {
         page_size: read_size(page_size)?,
-        root: read_number(root)?,
+        root: read_number(root.as_bytes())?,
     })
 }

@@ -1,5 +1,5 @@
 -- What `parse` makes of a word that is to be a number.
-use Rattle.std.proofs.Common.{◌≡◌, ◌<◌, ◌^◌, ◌&&◌, ◌==◌, ℕ, [], ◌∷◌, Option, Some, None, Result, Ok, Err, true, false, length, get_or, refl, sym, ap, rules, arith, subst}
+use Rattle.std.proofs.Common.{◌≡◌, ◌<◌, ◌^◌, ◌&&◌, ◌==◌, ℕ, [], ◌∷◌, Option, Some, None, Result, Ok, Err, true, false, length, get_or, inl, inr, refl, sym, ap, rules, arith, subst}
 use Rattle.std.specs.Prelude.{IsUtf8, ◌≢◌, option_copied, slice_get, zero, suc, MatchResult, nat_lt}
 use Rattle.std.specs.Borrow.{Bor}
 use Rattle.std.specs.Option.{option_eq}
@@ -8,12 +8,14 @@ use Rattle.std.proofs.lemmas.Str.{IsUtf8-from_ascii}
 use Rattle.std.specs.Str.{IsAscii}
 use Rattle.std.specs.Char.{is_ascii_digit}
 use Rattle.std.specs.Str.{all_ascii_digits}
+use Rattle.std.specs.Fmt.{decimal}
 use Rattle.std.specs.Str.Parse.{ParsesUnsigned}
-use Rattle.std.proofs.lemmas.Bool.{and_left, and_parts, and_right, false_from_ne_true, ltb-true}
+use Rattle.std.proofs.lemmas.Fmt.{decimal_nonempty, digits_decimal, digits_value-decimal}
+use Rattle.std.proofs.lemmas.Bool.{cases_Bool, and_left, and_parts, and_right, false_from_ne_true, ltb-true}
 use Rattle.std.proofs.lemmas.Bool.Decides.{nat_tests}
 use Rattle.std.proofs.lemmas.Str.Parse.{IsNumeralModel, numerals_by_weight, parse_plain}
 use Rattle.bolt_load.specs.Lines.{Text}
-use Rattle.bolt_load.specs.LineMembers.{decimal_value, is_number, number_in}
+use Rattle.bolt_load.specs.Numbers.{decimal_value, is_number, number_in}
 
 pub decimal_numerals : IsNumeralModel (λ digits. all_ascii_digits digits ≡ true) decimal_value
 decimal_numerals = numerals_by_weight _ (search rules) decimal_value (search rules)
@@ -27,8 +29,17 @@ is_good word good =
     let digits = and_parts (nat_lt 0 (length word)) (all_ascii_digits word) parts.0 in
     (digits.1, ltb-true 0 (length word) digits.0, ltb-true (decimal_value word) (2 ^ 64) parts.1)
 
-no_number : (word : Text) → is_number word ≡ false → number_in word ≡ None
+pub no_number : (word : Text) → is_number word ≡ false → number_in word ≡ None
 no_number word bad = rw bad refl
+
+pub number_is : (word : Text) (n : ℕ) → number_in word ≡ Some n → (is_number word ≡ true) × (decimal_value word ≡ n) × (n < 2 ^ 64)
+number_is word n is = elim (cases_Bool (is_number word)) [
+  | inl good ↦
+      let read : number_in word ≡ Some (decimal_value word) = rw good refl in
+      let same : decimal_value word ≡ n = cc in
+      (good, same, subst (λ (m : ℕ). m < 2 ^ 64) same (is_good word good).2)
+  | inr bad ↦ let none = no_number word bad in absurd (cc)
+]
 
 pub plus_number : (word : Text) → get_or word 0 0 ≡ 43 → number_in word ≡ None
 plus_number [] plus = absurd (omega arith)
@@ -44,6 +55,13 @@ parsed_number {E} word (Ok n) parses plain =
 parsed_number {E} word (Err e) parses plain =
     let read = parse_plain decimal_numerals {E = E} 64 word (Err e) parses plain in
     sym (no_number word (false_from_ne_true (is_number word) (λ good. read (is_good word good))))
+
+-- the digits of a number are read as it
+pub number_written : (n : ℕ) → n < 2 ^ 64 → number_in (decimal n) ≡ Some n
+number_written n fits =
+    let value = digits_value-decimal decimal_numerals n fits in
+    let good = good_number (decimal n) (digits_decimal decimal_numerals n fits) (decimal_nonempty n fits) (subst (λ (m : ℕ). m < 2 ^ 64) (sym value) fits) in
+    rw (good, value) refl
 
 -- digits are ASCII
 ascii_digits : (word : Text) → all_ascii_digits word ≡ true → IsAscii word

@@ -162,7 +162,7 @@ module _ (before : List Member) (last : Path) (bucket : Bool) (is : IsLast befor
 
 -- ---- one member more
 
-has_more : (path : Path) (before more : List Member) → has_bucket path before ≡ true → has_bucket path (before ++ more) ≡ true
+pub has_more : (path : Path) (before more : List Member) → has_bucket path before ≡ true → has_bucket path (before ++ more) ≡ true
 has_more path before more has = elim (or_cases (length path == 0) (list_any (is_bucket_at path) before) has) [
   | inl root ↦ or_left (length path == 0) (list_any (is_bucket_at path) (before ++ more)) root
   | inr any ↦
@@ -170,7 +170,7 @@ has_more path before more has = elim (or_cases (length path == 0) (list_any (is_
       (list_any-append (is_bucket_at path) before more ∙ or_left (list_any (is_bucket_at path) before) (list_any (is_bucket_at path) more) any)
 ]
 
-has_new : (path : Path) (item : Item) (before : List Member) → is_bucket item ≡ true → has_bucket path (before ++ (path, item) ∷ []) ≡ true
+pub has_new : (path : Path) (item : Item) (before : List Member) → is_bucket item ≡ true → has_bucket path (before ++ (path, item) ∷ []) ≡ true
 has_new path item before kind =
     let here : is_bucket_at path (path, item) ≡ true = ap (λ b. b && is_bucket item) (path_itself path) ∙ kind in
     or_right (length path == 0) (list_any (is_bucket_at path) (before ++ (path, item) ∷ []))

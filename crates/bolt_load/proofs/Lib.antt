@@ -2,8 +2,11 @@ pub mod CutLemmas
 pub mod DecimalNumbers
 pub mod DecodedLines
 pub mod EdgeTrees
+pub mod FileBytes
+pub mod FirstFaults
 pub mod LastPaths
 pub mod LineLemmas
+pub mod ListingTexts
 pub mod MemberLemmas
 pub mod NextLines
 pub mod OpenTests
@@ -11,5 +14,7 @@ pub mod PathLemmas
 pub mod PlacedLines
 pub mod PushedParts
 pub mod ReadTexts
+pub mod StoredTexts
 pub mod TextTrees
 pub mod WordLemmas
+pub mod WrittenLines

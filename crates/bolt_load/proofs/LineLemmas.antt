@@ -11,7 +11,7 @@ first_part : (line : Text) (parts : List Text) → 0 < length parts → without_
 first_part line [] some = absurd (omega (arith, some))
 first_part line (next ∷ parts) some = refl
 
-lines_cut : (text line after : Text) → IsCut 10 text line after → lines_of text ≡ line ∷ lines_of after
+pub lines_cut : (text line after : Text) → IsCut 10 text line after → lines_of text ≡ line ∷ lines_of after
 unfolding lines_of
 lines_cut text line after cut = ap without_empty_end (parts_cut 10 text line after cut) ∙ first_part line (slice_split (λ byte. byte == 10) after) (some_parts 10 after)
 

@@ -106,15 +106,15 @@ module _ (before : List Member) (tree : Tree) (last : Path) (bucket : Bool) (so_
 
 -- ---- all lines
 
-or_parts : (a b : Option LineFault) → option_or a b ≡ None → (a ≡ None) × (b ≡ None)
-or_parts None b none = (refl, none)
-or_parts (Some fault) b none = absurd (let f : Some fault ≡ None = none in cc)
+pub or_parts_none : (a b : Option LineFault) → option_or a b ≡ None → (a ≡ None) × (b ≡ None)
+or_parts_none None b none = (refl, none)
+or_parts_none (Some fault) b none = absurd (let f : Some fault ≡ None = none in cc)
 
 grows : (lines : List Text) (before : List Member) (tree : Tree) (last : Path) (bucket : Bool) → HasGrown before tree last bucket → RightAfter before lines
     → (all : Tree) × (listing_of all ≡ before ++ members_in lines) × Rises member_cmp (before ++ members_in lines)
 grows [] before tree last bucket so_far right = (tree, so_far.lists ∙ sym (append-nil before), subst (Rises member_cmp) (sym (append-nil before)) so_far.rises)
 grows (line ∷ lines) before tree last bucket so_far right =
-    let parts = or_parts (shape_fault line) (option_and_then (place_fault before) (line_member line)) right.0 in
+    let parts = or_parts_none (shape_fault line) (option_and_then (place_fault before) (line_member line)) right.0 in
     let told = shaped_member line parts.0 in
     let path = told.0.0 in
     let item = told.0.1 in

@@ -1,33 +1,57 @@
 //! Why a text isn't that of a listing.
 ghost use Rattle.std.specs.Prelude.{◌≡◌};
+ghost use Rattle.bolt_load.specs.FaultWords.{line_fault_words};
 ghost use Rattle.bolt_load.specs.declared.fault.LoadFault.TheVariants as load;
 
 use bolt_tree::NoMemory;
 use std::alloc::AllocError;
-use thiserror::Error;
+use std::error::Error;
+use std::fmt;
 
 /// What is wrong with a line: the first of these that holds.
-#[derive(Clone, Copy, Debug, PartialEq, Eq, Error)]
+#[derive(Clone, Copy, Debug, PartialEq, Eq)]
 pub enum LineFault {
     /// It isn't a path, a mark and a value or a sequence.
-    #[error("not a line of a listing")]
     NotALine,
     /// A part of the path has more than 2^30 bytes.
-    #[error("key too long")]
     KeyTooLong,
     /// The value has more than 2^31 - 2 bytes.
-    #[error("value too long")]
     ValueTooLong,
     /// The path isn't above that of the line before.
-    #[error("path not rising")]
     PathNotRising,
     /// No line before is that of the bucket that the path is in.
-    #[error("no bucket above")]
     NoBucketAbove,
 }
 
+impl LineFault {
+    /// What is reported of it.
+    pub fn words(self) -> &'static str
+        ensures { result.now ≡ line_fault_words self }
+    {
+        match self {
+            LineFault::NotALine => "not a line of a listing",
+            LineFault::KeyTooLong => "key too long",
+            LineFault::ValueTooLong => "value too long",
+            LineFault::PathNotRising => "path not rising",
+            LineFault::NoBucketAbove => "no bucket above",
+        }
+    }
+}
+
+impl fmt::Display for LineFault {
+    ghost use Rattle.std.specs.Prelude.{Some};
+
+    ghost output = { λ fault. Some (line_fault_words fault) };
+
+    fn fmt<W: fmt::Write>(&self, f: &mut fmt::Formatter<W>) -> fmt::Result {
+        f.write_str(self.words())
+    }
+}
+
+impl Error for LineFault {}
+
 /// Why a text isn't read.
-#[derive(Clone, Copy, Debug, PartialEq, Eq, Error)]
+#[derive(Clone, Copy, Debug, PartialEq, Eq, thiserror::Error)]
 pub enum LoadFault {
     /// Memory ran out.
     #[error("out of memory")]

@@ -16,3 +16,4 @@ mod order;
 pub use fault::{LineFault, LoadFault};
 pub use line_members::LineMembers;
 pub use listing_text::ListingText;
+pub use numbers::read_number;

@@ -1,7 +1,8 @@
 //! The words of a line.
 ghost use Rattle.std.specs.Prelude.{◌≡◌, option_and_then, option_map};
 ghost use Rattle.bolt_tree.specs.Entries.{Bucket};
-ghost use Rattle.bolt_load.specs.LineMembers.{item_in, line_member, number_in};
+ghost use Rattle.bolt_load.specs.LineMembers.{item_in, line_member};
+ghost use Rattle.bolt_load.specs.Numbers.{number_in};
 ghost use Rattle.bolt_load.specs.Private.LineWords.{word_item, words_member};
 
 use crate::cuts::cut_at;

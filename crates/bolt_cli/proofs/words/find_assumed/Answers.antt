@@ -1,7 +1,7 @@
 -- What is before the first colon and after it is read, or there is none.
 use Rattle.std.proofs.Common.{None, arith}
 use Rattle.std.proofs.lemmas.Str.Pattern.{split_once_first}
-use Rattle.bolt_cli.proofs.Numbers.{no_colon}
+use Rattle.bolt_cli.proofs.PageSizes.{no_colon}
 use Rattle.bolt_cli.proofs.words.find_assumed.Goals as goal
 
 pub returns-in_err-page_size : goal.returns-in_err-page_size

@@ -1,7 +1,8 @@
 -- Digits of an accepted page size are read as it.
-use Rattle.std.proofs.Common.{sym}
-use Rattle.bolt_cli.proofs.Numbers.{size_answered}
+use Rattle.std.proofs.Common.{◌∙◌, ap, sym}
+use Rattle.bolt_load.specs.Numbers.{number_in}
+use Rattle.bolt_cli.proofs.PageSizes.{size_answered}
 use Rattle.bolt_cli.proofs.words.read_size.Goals as goal
 
 pub returns : goal.returns
-returns c = size_answered c.args.word.now c.in_ok-read_number.field-0 c.new.result (sym c.in_ok-read_number.ensures) c.new.ensures.same c.new.ensures.refused
+returns c = size_answered c.args.word.now c.in_ok-read_number.field-0 c.new.result (ap number_in (sym c.as_bytes.ensures.value) ∙ sym c.in_ok-read_number.ensures) c.new.ensures.same c.new.ensures.refused

@@ -1,0 +1,87 @@
+-- What a file lists has bytes of the file in its keys and its values.
+use Rattle.std.proofs.Common.{◌≡◌, ◌<◌, ◌-◌, ◌==◌, ℕ, Bool, true, false, List, [], ◌∷◌, sym, refl, subst, drop, take, inl, inr, arith}
+use Rattle.std.specs.List.{Contains, slice_range}
+use Rattle.std.proofs.lemmas.Bool.{cases_Bool, cases_lt, eqb-true}
+use Rattle.std.proofs.lemmas.List.{get_or-take, get_or_past, length-take}
+use Rattle.bolt_format.specs.Bytes.{IsBytes}
+use Rattle.bolt_format.specs.Elements.{IsBucketValue, LeafElement, head_root, head_sequence, inline_bytes, inline_elements, leaf_element, leaf_end, leaf_key_start, leaf_value_start}
+use Rattle.bolt_format.specs.Pages.{span_bytes}
+use Rattle.bolt_format.specs.declared.meta.Meta.{Meta}
+use Rattle.bolt_format.proofs.ElementFacts.{drop_bytes}
+use Rattle.bolt_format.proofs.PageFacts.{bucket_value, flat_inline, in_inline, on_leaf}
+use Rattle.bolt_report.specs.JsonReadings.{ArePartsBytes, IsItemOfBytes}
+use Rattle.bolt_tree.specs.Entries.{Bucket, Inline_page, IsEntry, Item, Root_page, Start, Value, item_of, start_of}
+use Rattle.bolt_tree.specs.Listing.{IsListing, Member}
+use Rattle.bolt_tree.specs.Paths.{Holds, Path}
+use Rattle.bolt_layout.specs.Storable.{IsFitItem, IsFitMember}
+use Rattle.bolt_load.specs.ByteMembers.{AreOfBytes}
+
+range_bytes : (bytes : List ℕ) (a b : ℕ) → IsBytes bytes → IsBytes (slice_range bytes a b)
+range_bytes bytes a b are i = elim (cases_lt i (b - a)) [
+  | inl low ↦ subst (λ (x : ℕ). x < 256) (sym (get_or-take (b - a) (drop a bytes) i 0 low)) (drop_bytes bytes a are i)
+  | inr high ↦ subst (λ (x : ℕ). x < 256) (sym (get_or_past (take (b - a) (drop a bytes)) i 0 (let l = length-take (b - a) (drop a bytes) in omega (arith, l, high)))) (omega arith)
+]
+
+record AreBytes (e : LeafElement) : Type 0 where
+  key : IsBytes e.key
+  value : IsBytes e.value
+
+element_bytes : (bytes : List ℕ) (i : ℕ) → IsBytes bytes → AreBytes (leaf_element bytes i)
+element_bytes bytes i are = record {
+  key = range_bytes bytes (leaf_key_start bytes i) (leaf_value_start bytes i) are;
+  value = range_bytes bytes (leaf_value_start bytes i) (leaf_end bytes i) are;
+}
+
+-- a bucket begins at a root page, or in a good value of bytes
+abbrev IsOfBytes : Start → Type 0
+IsOfBytes (Root_page root) = Unit {0}
+IsOfBytes (Inline_page elements) = (value : List ℕ) × IsBucketValue value × (head_root value ≡ 0) × (inline_elements value ≡ elements) × IsBytes value
+
+module _ (file : List ℕ) (meta : Meta) (bytes : IsBytes file) where
+  record IsGood (e : LeafElement) : Type 0 where
+    bytes_are : AreBytes e
+    start : e.is_bucket ≡ true → IsOfBytes (start_of e.value)
+
+  start_bytes : (value : List ℕ) → IsBucketValue value → IsBytes value → IsOfBytes (start_of value)
+  start_bytes value good are = elim (cases_Bool (head_root value == 0)) [
+    | inl t ↦ rw t (value, good, eqb-true (head_root value) 0 t, refl, are)
+    | inr f ↦ rw f tt
+  ]
+
+  not_both : (b : Bool) → b ≡ false → b ≡ true → ⊥
+  not_both b e h = cc
+
+  entry_good : (bucket : Start) (e : LeafElement) → IsOfBytes bucket → IsEntry file meta bucket e → IsGood e
+  entry_good (Root_page root) e start (address, n, leading, (view, at, is, has)) =
+      let on = on_leaf file meta n view e at is has in
+      let are : AreBytes e = subst AreBytes (sym on.same) (element_bytes (span_bytes file meta n) on.i (range_bytes file _ _ bytes)) in
+      record { bytes_are = are; start = λ b. start_bytes e.value (bucket_value file meta n view e at is has b) are.value }
+  entry_good (Inline_page elements) e (value, good, root, same, value_bytes) has =
+      let within = subst (λ (es : List LeafElement). Contains es e) (sym same) has in
+      let on = in_inline value e good root within in
+      record {
+        bytes_are = subst AreBytes (sym on.same) (element_bytes (inline_bytes value) on.i (drop_bytes value 16 value_bytes));
+        start = λ b. absurd (not_both e.is_bucket (flat_inline value e good root within) b);
+      }
+
+  item_bytes : (e : LeafElement) (item : Item) → AreBytes e → item_of e ≡ item → IsFitItem item → IsItemOfBytes item
+  item_bytes e (Value value) are is fits = elim (cases_Bool e.is_bucket) [
+    | inl b ↦ absurd (let f : Bucket (head_sequence e.value) ≡ Value value = (rw b at is) in cc)
+    | inr v ↦ let same : e.value ≡ value = (let f : Value e.value ≡ Value value = (rw v at is) in cc) in subst IsBytes same are.value
+  ]
+  item_bytes e (Bucket sequence) are is fits = fits
+
+  held_bytes : (path : Path) (item : Item) (from : Start) → IsOfBytes from → Holds (IsEntry file meta) from path item → IsFitItem item → ArePartsBytes path × IsItemOfBytes item
+  held_bytes [] item from start held fits = absurd held
+  held_bytes (key ∷ []) item from start (e, is, same, of) fits =
+      let good = entry_good from e start is in
+      ((subst IsBytes same good.bytes_are.key, tt), item_bytes e item good.bytes_are of fits)
+  held_bytes (key ∷ next ∷ path) item from start (e, is, same, b, more) fits =
+      let good = entry_good from e start is in
+      let later = held_bytes (next ∷ path) item (start_of e.value) (good.start b) more fits in
+      ((subst IsBytes same good.bytes_are.key, later.0), later.1)
+
+  pub listing_of_bytes : ((path : Path) (item : Item) → Holds (IsEntry file meta) (Root_page meta.root) path item → IsFitMember path item)
+      → (listing : List Member) → IsListing file meta listing → AreOfBytes listing
+  listing_of_bytes fits listing lists member has =
+      let held = (lists.exact member.0 member.1).0 has in held_bytes member.0 member.1 (Root_page meta.root) tt held (fits member.0 member.1 held).1

@@ -1,0 +1,20 @@
+-- A right text has no first fault.
+use Rattle.std.proofs.Common.{◌≡◌, ◌∙◌, ℕ, List, [], ◌∷◌, ◌++◌, Some, None, ap, sym, subst, append_assoc, append-nil}
+use Rattle.std.proofs.lemmas.List.Elements.{filter_map-append}
+use Rattle.bolt_tree.specs.Listing.{Member}
+use Rattle.bolt_load.specs.LineFaults.{IsFirstFault, IsListingText, RightAfter, line_fault}
+use Rattle.bolt_load.specs.LineMembers.{line_member, members_in}
+use Rattle.bolt_load.specs.Lines.{Text}
+use Rattle.bolt_load.specs.declared.fault.LineFault.{LineFault}
+
+right_at : (before : List Member) (front : List Text) (line : Text) (rest : List Text) → RightAfter before (front ++ line ∷ rest) → line_fault (before ++ members_in front) line ≡ None
+right_at before [] line rest right = ap (λ ms. line_fault ms line) (append-nil before) ∙ right.0
+right_at before (first ∷ front) line rest right =
+    ap (λ ms. line_fault ms line)
+    (ap (λ ms. before ++ ms) (filter_map-append line_member (first ∷ []) front) ∙ sym (append_assoc before (members_in (first ∷ [])) (members_in front)))
+    ∙ right_at (before ++ members_in (first ∷ [])) front line rest right.1
+
+pub no_first_fault : (text : Text) (number : ℕ) (fault : LineFault) → IsListingText text → IsFirstFault text number fault → ⊥
+no_first_fault text number fault right is =
+    let here = right_at [] is.front is.line is.rest (subst (RightAfter []) is.lines right) in
+    let f : None ≡ Some fault = sym here ∙ is.fault_is in cc

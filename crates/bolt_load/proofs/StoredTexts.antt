@@ -1,0 +1,139 @@
+-- What a right text tells can be stored: its keys and its values have lengths that the format allows, and its sequences have 64 bits.
+use Rattle.std.proofs.Common.{◌≡◌, ◌∙◌, ◌==◌, ◌≤◌, ℕ, false, List, [], ◌∷◌, ◌++◌, Option, Some, None, length, inl, inr, refl, sym, ap, subst, arith}
+use Rattle.std.specs.List.{list_any, slice_split}
+use Rattle.std.specs.Option.{option_map_or}
+use Rattle.std.specs.Prelude.{if◌then◌else◌, option_and_then, option_map}
+use Rattle.std.specs.Str.{bytes_eq}
+use Rattle.std.specs.Prelude.{codes}
+use Rattle.std.proofs.lemmas.Bool.{cases_Bool, eqb-false, ltb-false, or_parts}
+use Rattle.bolt_format.specs.ElementLengths.{IsKeyLength}
+use Rattle.bolt_check.specs.Keys.{Key}
+use Rattle.bolt_tree.specs.Entries.{Bucket, Item, Value}
+use Rattle.bolt_tree.specs.Listing.{Member}
+use Rattle.bolt_tree.specs.Paths.{Path}
+use Rattle.bolt_tree.proofs.ListLemmas.{Has, has_from_contains}
+use Rattle.bolt_layout.specs.Storable.{IsFitItem, IsFitListing}
+use Rattle.bolt_load.specs.HexPaths.{hex_bytes_in, hex_path_in, part_in, parts_in}
+use Rattle.bolt_load.specs.LineFaults.{IsListingText, RightAfter, is_long_item, is_long_key, length_fault, place_fault, shape_fault}
+use Rattle.bolt_load.specs.LineMembers.{item_in, line_member, member_in, members_in, text_members}
+use Rattle.bolt_load.specs.Lines.{Text, lines_of}
+use Rattle.bolt_load.specs.Numbers.{number_in}
+use Rattle.bolt_load.specs.declared.fault.LineFault.{LineFault}
+use Rattle.bolt_load.specs.declared.fault.LineFault.TheVariants.{KeyTooLong, ValueTooLong}
+use Rattle.bolt_load.proofs.DecimalNumbers.{number_is}
+use Rattle.bolt_load.proofs.DecodedLines.{shaped_member}
+use Rattle.bolt_load.proofs.NextLines.{members_first, parts_of}
+use Rattle.bolt_load.proofs.PathLemmas.{digits_are, part_is, with_some}
+use Rattle.bolt_load.proofs.TextTrees.{or_parts_none, text_tree}
+
+-- ---- a member that can be stored
+
+abbrev pub AreKeys : Path → Type 0
+AreKeys [] = Unit {0}
+AreKeys (key ∷ path) = IsKeyLength (length key) × AreKeys path
+
+abbrev pub FitsMember : Member → Type 0
+FitsMember member = AreKeys member.0 × IsFitItem member.1
+
+-- ---- the member of a line
+
+some_bytes : (word : Text) (key : Key) → part_in word ≡ Some key → 1 ≤ length key
+some_bytes word key is = elim (cases_Bool (length word == 0)) [
+  | inl none ↦ absurd (let f : None ≡ Some key = sym (ap (λ b. if b then None else hex_bytes_in word) none) ∙ is in cc)
+  | inr some ↦ let twice = digits_are word key (part_is word key is) in let more = eqb-false (length word) 0 some in omega (arith, twice, more)
+]
+
+not_long : (key : Key) → is_long_key key ≡ false → length key ≤ 0x40000000
+not_long key short = ltb-false 0x40000000 (length key) short
+
+parts_fit : (words : List Text) (path : Path) → parts_in words ≡ Some path → list_any is_long_key path ≡ false → AreKeys path
+parts_fit [] path is short = let none : [] ≡ path = (let f : Some [] ≡ Some path = is in cc) in subst AreKeys none tt
+parts_fit (word ∷ words) path is short =
+    let found = with_some (part_in word) (parts_in words) path is in
+    let both = or_parts (is_long_key found.0) (list_any is_long_key found.1) (sym (ap (list_any is_long_key) found.4) ∙ short) in
+    subst AreKeys (sym found.4) ((some_bytes word found.0 found.2, not_long found.0 both.0), parts_fit words found.1 found.3 both.1)
+
+path_fits : (word : Text) (path : Path) → hex_path_in word ≡ Some path → list_any is_long_key path ≡ false → AreKeys path
+unfolding hex_path_in
+path_fits word path is short = parts_fit (slice_split (λ byte. byte == 47) word) path is short
+
+value_fits : (found : Option (List ℕ)) (item : Item) → option_map Value found ≡ Some item → is_long_item item ≡ false → IsFitItem item
+value_fits None item is short = absurd (let f : None ≡ Some item = is in cc)
+value_fits (Some value) item is short =
+    let same : Value value ≡ item = (let f : Some (Value value) ≡ Some item = is in cc) in
+    subst IsFitItem same (ltb-false 0x7FFFFFFE (length value) (ap is_long_item same ∙ short))
+
+sequence_fits : (word : Text) (item : Item) → option_map Bucket (number_in word) ≡ Some item → IsFitItem item
+sequence_fits word item is = at (number_in word) refl is
+  where
+    at : (found : Option ℕ) → number_in word ≡ found → option_map Bucket found ≡ Some item → IsFitItem item
+    at None found is = absurd (let f : None ≡ Some item = is in cc)
+    at (Some n) found is = let same : Bucket n ≡ item = (let f : Some (Bucket n) ≡ Some item = is in cc) in subst IsFitItem same (number_is word n found).2
+
+none_some : (item : Item) → None ≡ Some item → ⊥
+none_some item is = cc
+
+item_fits : (mark word : Text) (item : Item) → item_in mark word ≡ Some item → is_long_item item ≡ false → IsFitItem item
+item_fits mark word item is short = elim (cases_Bool (bytes_eq mark (codes "="))) [
+  | inl value ↦ value_fits (hex_bytes_in word) item (rw value at is) short
+  | inr other ↦ elim (cases_Bool (bytes_eq mark (codes "bucket"))) [
+    | inl bucket ↦ sequence_fits word item (rw (other, bucket) at is)
+    | inr none ↦ absurd (none_some item (rw (other, none) at is))
+  ]
+]
+
+member_fits : (words : List Text) (member : Member) → member_in words ≡ Some member → list_any is_long_key member.0 ≡ false → is_long_item member.1 ≡ false → FitsMember member
+member_fits [] member is keys value = absurd (let f : None ≡ Some member = is in cc)
+member_fits (a ∷ []) member is keys value = absurd (let f : None ≡ Some member = is in cc)
+member_fits (a ∷ b ∷ []) member is keys value = absurd (let f : None ≡ Some member = is in cc)
+member_fits (a ∷ b ∷ c ∷ d ∷ more) member is keys value = absurd (let f : None ≡ Some member = is in cc)
+member_fits (word ∷ mark ∷ last ∷ []) member is keys value =
+    let both = parts_of (hex_path_in word) (item_in mark last) member is in (path_fits word member.0 both.0 keys, item_fits mark last member.1 both.1 value)
+
+no_long_part : (member : Member) → length_fault member ≡ None → (list_any is_long_key member.0 ≡ false) × (is_long_item member.1 ≡ false)
+no_long_part member none = elim (cases_Bool (list_any is_long_key member.0)) [
+  | inl long ↦ absurd (let f : Some KeyTooLong ≡ None = sym (ap (λ b. if b then Some KeyTooLong else if is_long_item member.1 then Some ValueTooLong else None) long) ∙ none in cc)
+  | inr keys ↦ elim (cases_Bool (is_long_item member.1)) [
+    | inl long ↦ absurd (let f : Some ValueTooLong ≡ None = sym (rw (keys, long) refl) ∙ none in cc)
+    | inr value ↦ (keys, value)
+  ]
+]
+
+line_fits : (line : Text) (member : Member) → shape_fault line ≡ None → line_member line ≡ Some member → FitsMember member
+unfolding line_member
+line_fits line member shaped is =
+    let short = no_long_part member (sym (ap (λ found. option_map_or length_fault found (Some LineFault.NotALine)) is) ∙ shaped) in
+    member_fits (slice_split (λ byte. byte == 32) line) member is short.0 short.1
+
+-- ---- the members of all lines
+
+first_or_later : (first : Member) (later : List Member) (member : Member) → FitsMember first → (Has later member → FitsMember member) → Has (first ∷ later) member → FitsMember member
+first_or_later first later member fits others (inl same) = subst FitsMember same fits
+first_or_later first later member fits others (inr has) = others has
+
+lines_fit : (lines : List Text) (before : List Member) → RightAfter before lines → (member : Member) → Has (members_in lines) member → FitsMember member
+lines_fit [] before right member has = absurd has
+lines_fit (line ∷ lines) before right member has =
+    let shaped = (or_parts_none (shape_fault line) (option_and_then (place_fault before) (line_member line)) right.0).0 in
+    let told = shaped_member line shaped in
+    first_or_later told.0 (members_in lines) member (line_fits line told.0 shaped told.1) (lines_fit lines (before ++ members_in (line ∷ [])) right.1 member)
+    (subst (λ (ms : List Member). Has ms member) (members_first line lines told.0 told.1) has)
+
+-- ---- the listing
+
+last_key : (front : Path) (key : Key) → AreKeys (front ++ key ∷ []) → IsKeyLength (length key)
+last_key [] key are = are.0
+last_key (part ∷ front) key are = last_key front key are.1
+
+-- what the lines of a right text tell is a listing that the format can hold
+pub text_fits : (text : Text) → IsListingText text → IsFitListing (text_members text)
+text_fits text right =
+    let (tree, lists, rises) = text_tree text right in
+    record {
+      tree = tree;
+      lists = sym lists;
+      rises = rises;
+      fit = λ path item has.
+          let fits = lines_fit (lines_of text) [] right (path, item) (has_from_contains (text_members text) (path, item) has) in
+          ((λ front key is. last_key front key (subst AreKeys is fits.0)), fits.1);
+    }

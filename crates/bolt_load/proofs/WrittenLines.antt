@@ -1,0 +1,195 @@
+-- The line of a member is read back as that member.
+use Rattle.std.proofs.Common.{◌≡◌, ◌∙◌, ◌==◌, ◌<◌, ◌≤◌, ◌^◌, ℕ, zero, suc, Bool, true, false, List, [], ◌∷◌, ◌++◌, Option, Some, None, codes, length, map, refl, sym, ap, ap₂, arith, append_assoc}
+use Rattle.std.specs.Char.{is_ascii_digit}
+use Rattle.std.specs.Fmt.{decimal}
+use Rattle.std.specs.List.{list_all, list_any, slice_split}
+use Rattle.std.specs.Prelude.{◌/◌, ◌%◌, ◌||◌, if◌then◌else◌, nat_lt, not, option_and_then, option_map, slice_index}
+use Rattle.std.specs.Result.{result_ok}
+use Rattle.std.specs.Str.{all_ascii_digits}
+use Rattle.std.proofs.lemmas.Bool.{and_parts}
+use Rattle.std.proofs.lemmas.Bool.Decides.{nat_tests}
+use Rattle.std.proofs.lemmas.Fmt.{digits_decimal}
+use Rattle.std.proofs.lemmas.List.Elements.{All-append, All-cons, All-nil}
+use Rattle.std.proofs.lemmas.List.Splits.{slice_split_at, slice_split_none}
+use Rattle.hex.specs.Hex.{IsBytes, encode_lower, encode_with, lower_digits}
+use Rattle.hex.proofs.HexLemmas.{decode_of-encode_lower, length-encode_with}
+use Rattle.bolt_report.specs.JsonReadings.{ArePartsBytes, IsMemberOfBytes}
+use Rattle.bolt_report.specs.Lines.{line}
+use Rattle.bolt_report.specs.ListLines.{hex_path, item_end, member_line}
+use Rattle.bolt_report.specs.PageLines.{value_end}
+use Rattle.bolt_check.specs.Keys.{Key}
+use Rattle.bolt_tree.specs.Entries.{Bucket, Item, Value}
+use Rattle.bolt_tree.specs.Listing.{Member}
+use Rattle.bolt_tree.specs.Paths.{Path}
+use Rattle.bolt_load.specs.HexPaths.{hex_bytes_in, hex_path_in, part_in, parts_in}
+use Rattle.bolt_load.specs.LineFaults.{is_long_item, is_long_key, shape_fault}
+use Rattle.bolt_load.specs.LineMembers.{line_member, member_in}
+use Rattle.bolt_load.specs.Lines.{Text}
+use Rattle.bolt_load.specs.Numbers.{number_in}
+use Rattle.bolt_load.specs.Private.Cuts.{IsWithout}
+use Rattle.bolt_load.proofs.DecimalNumbers.{decimal_numerals, number_written}
+use Rattle.bolt_load.proofs.MemberLemmas.{member_of}
+use Rattle.bolt_layout.specs.Storable.{IsFitItem}
+use Rattle.bolt_load.proofs.StoredTexts.{AreKeys, FitsMember}
+
+-- ---- which bytes are in a line
+
+-- a byte that is no digit, in decimal or in hexadecimal
+abbrev pub IsApart : ℕ → Type 0
+IsApart mark = (list_all (λ digit. not (digit == mark)) lower_digits ≡ true) × (is_ascii_digit mark ≡ false)
+
+line_apart : IsApart 10
+line_apart = (refl, refl)
+
+space_apart : IsApart 32
+space_apart = (refl, refl)
+
+slash_apart : IsApart 47
+slash_apart = (refl, refl)
+
+at_index : (p : ℕ → Bool) (xs : List ℕ) (i : ℕ) → i < length xs → list_all p xs ≡ true → p (slice_index xs i) ≡ true
+at_index p [] i below all = absurd (omega (arith, below))
+at_index p (x ∷ xs) zero below all = (and_parts (p x) (list_all p xs) all).0
+at_index p (x ∷ xs) (suc i) below all = at_index p xs i (omega (arith, below)) (and_parts (p x) (list_all p xs) all).1
+
+not_true : (b : Bool) → not b ≡ true → b ≡ false
+not_true true is = absurd (let f : false ≡ true = is in cc)
+not_true false is = refl
+
+digit_apart : (mark : ℕ) → IsApart mark → (i : ℕ) → i < 16 → (slice_index lower_digits i == mark) ≡ false
+digit_apart mark apart i below = not_true (slice_index lower_digits i == mark) (at_index (λ digit. not (digit == mark)) lower_digits i below apart.0)
+
+module _ (mark : ℕ) (apart : IsApart mark) where
+  abbrev Other : ℕ → Type 0
+  Other byte = (byte == mark) ≡ false
+
+  hex_without : (bytes : List ℕ) → IsBytes bytes → IsWithout mark (encode_lower bytes)
+  unfolding encode_with
+  hex_without [] are = All-nil Other
+  hex_without (byte ∷ bytes) are =
+      let below : byte < 256 = are 0 in
+      All-cons Other (slice_index lower_digits (byte / 16)) (slice_index lower_digits (byte % 16) ∷ encode_lower bytes) (digit_apart mark apart (byte / 16) (omega arith))
+      (All-cons Other (slice_index lower_digits (byte % 16)) (encode_lower bytes) (digit_apart mark apart (byte % 16) (omega arith)) (hex_without bytes (λ i. are (suc i))))
+
+  literal_without : (text : Text) → list_all (λ byte. not (byte == mark)) text ≡ true → IsWithout mark text
+  literal_without [] all = All-nil Other
+  literal_without (byte ∷ text) all =
+      let parts = and_parts (not (byte == mark)) (list_all (λ byte. not (byte == mark)) text) all in
+      All-cons Other byte text (not_true (byte == mark) parts.0) (literal_without text parts.1)
+
+  digits_without : (word : Text) → all_ascii_digits word ≡ true → IsWithout mark word
+  digits_without [] all = All-nil Other
+  digits_without (digit ∷ word) all =
+      let parts = and_parts (is_ascii_digit digit) (all_ascii_digits word) all in
+      All-cons Other digit word (other digit parts.0) (digits_without word parts.1)
+    where
+      other : (digit : ℕ) → is_ascii_digit digit ≡ true → (digit == mark) ≡ false
+      other digit is = grind (arith, nat_tests, is, apart.1)
+
+  decimal_without : (n : ℕ) → n < 2 ^ 64 → IsWithout mark (decimal n)
+  decimal_without n fits = digits_without (decimal n) (digits_decimal decimal_numerals n fits)
+
+  path_without : (path : Path) → (47 == mark) ≡ false → ArePartsBytes path → IsWithout mark (hex_path path)
+  path_without [] slash are = All-nil Other
+  path_without (part ∷ []) slash are = hex_without part are.0
+  path_without (part ∷ next ∷ path) slash are =
+      All-append Other (encode_lower part) (47 ∷ hex_path (next ∷ path)) (hex_without part are.0)
+      (All-cons Other 47 (hex_path (next ∷ path)) slash (path_without (next ∷ path) slash are.1))
+
+-- ---- a path is read back
+
+key_back : (key : Key) → 1 ≤ length key → IsBytes key → part_in (encode_lower key) ≡ Some key
+key_back key some are =
+    let twice = length-encode_with lower_digits key in
+    let not_none : (length (encode_lower key) == 0) ≡ false = grind (arith, nat_tests, twice, some) in
+    ap (λ b. if b then None else hex_bytes_in (encode_lower key)) not_none ∙ ap result_ok (decode_of-encode_lower key are)
+
+path_parts : (path : Path) → 0 < length path → ArePartsBytes path → slice_split (λ byte. byte == 47) (hex_path path) ≡ map encode_lower path
+path_parts [] some are = absurd (omega (arith, some))
+path_parts (part ∷ []) some are = slice_split_none (λ byte. byte == 47) (encode_lower part) (hex_without 47 slash_apart part are.0)
+path_parts (part ∷ next ∷ path) some are =
+    slice_split_at (λ byte. byte == 47) (encode_lower part) 47 (hex_path (next ∷ path)) (hex_without 47 slash_apart part are.0) refl
+    ∙ ap (λ parts. encode_lower part ∷ parts) (path_parts (next ∷ path) (omega arith) are.1)
+
+parts_back : (path : Path) → AreKeys path → ArePartsBytes path → parts_in (map encode_lower path) ≡ Some path
+parts_back [] keys are = refl
+parts_back (key ∷ path) keys are =
+    ap (option_and_then (λ part. option_map (λ parts. part ∷ parts) (parts_in (map encode_lower path)))) (key_back key keys.0.0 are.0)
+    ∙ ap (option_map (λ parts. key ∷ parts)) (parts_back path keys.1 are.1)
+
+path_back : (path : Path) → 0 < length path → AreKeys path → ArePartsBytes path → hex_path_in (hex_path path) ≡ Some path
+unfolding hex_path_in
+path_back path some keys are = ap parts_in (path_parts path some are) ∙ parts_back path keys are
+
+-- ---- a line is read back
+
+-- the line of a member without its line feed
+abbrev item_words : Item → Text
+item_words (Value value) = codes " = " ++ encode_lower value
+item_words (Bucket sequence) = codes " bucket " ++ decimal sequence
+
+abbrev pub member_words : Member → Text
+member_words member = hex_path member.0 ++ item_words member.1
+
+item_end_is : (item : Item) → item_end item ≡ item_words item ++ 10 ∷ []
+unfolding item_end value_end
+item_end_is (Value value) = sym (append_assoc (codes " = ") (encode_lower value) (10 ∷ []))
+item_end_is (Bucket sequence) = refl
+
+pub line_is : (member : Member) → member_line member ≡ member_words member ++ 10 ∷ []
+unfolding member_line
+line_is member = ap (λ end. hex_path member.0 ++ end) (item_end_is member.1) ∙ sym (append_assoc (hex_path member.0) (item_words member.1) (10 ∷ []))
+
+-- the three words
+value_parts : (path : Path) (value : List ℕ) → ArePartsBytes path → IsBytes value
+    → slice_split (λ byte. byte == 32) (hex_path path ++ (codes " = " ++ encode_lower value)) ≡ hex_path path ∷ codes "=" ∷ encode_lower value ∷ []
+value_parts path value are bytes =
+    slice_split_at (λ byte. byte == 32) (hex_path path) 32 (codes "= " ++ encode_lower value) (path_without 32 space_apart path refl are) refl
+    ∙ ap (λ parts. hex_path path ∷ codes "=" ∷ parts) (slice_split_none (λ byte. byte == 32) (encode_lower value) (hex_without 32 space_apart value bytes))
+
+bucket_parts : (path : Path) (sequence : ℕ) → ArePartsBytes path → sequence < 2 ^ 64
+    → slice_split (λ byte. byte == 32) (hex_path path ++ (codes " bucket " ++ decimal sequence)) ≡ hex_path path ∷ codes "bucket" ∷ decimal sequence ∷ []
+bucket_parts path sequence are fits =
+    slice_split_at (λ byte. byte == 32) (hex_path path) 32 (codes "bucket " ++ decimal sequence) (path_without 32 space_apart path refl are) refl
+    ∙ ap (λ parts. hex_path path ∷ codes "bucket" ∷ parts) (slice_split_none (λ byte. byte == 32) (decimal sequence) (decimal_without 32 space_apart sequence fits))
+
+told : (path : Path) (item : Item) (found : Option Path) (other : Option Item) → found ≡ Some path → other ≡ Some item → member_of found other ≡ Some (path, item)
+told path item found other is same = ap₂ member_of is same
+
+pub line_back : (member : Member) → 0 < length member.0 → FitsMember member → IsMemberOfBytes member → line_member (member_words member) ≡ Some member
+unfolding line_member
+line_back (path, Value value) some fits are =
+    ap member_in (value_parts path value are.0 are.1)
+    ∙ told path (Value value) (hex_path_in (hex_path path)) (option_map Value (hex_bytes_in (encode_lower value))) (path_back path some fits.0 are.0)
+    (ap (λ found. option_map Value (result_ok found)) (decode_of-encode_lower value are.1))
+line_back (path, Bucket sequence) some fits are =
+    ap member_in (bucket_parts path sequence are.0 are.1)
+    ∙ told path (Bucket sequence) (hex_path_in (hex_path path)) (option_map Bucket (number_in (decimal sequence))) (path_back path some fits.0 are.0)
+    (ap (option_map Bucket) (number_written sequence are.1))
+
+-- no line feed is in it
+pub words_without : (member : Member) → IsMemberOfBytes member → IsWithout 10 (member_words member)
+words_without (path, Value value) are =
+    All-append (λ byte. (byte == 10) ≡ false) (hex_path path) (codes " = " ++ encode_lower value) (path_without 10 line_apart path refl are.0)
+    (All-append (λ byte. (byte == 10) ≡ false) (codes " = ") (encode_lower value) (literal_without 10 line_apart (codes " = ") refl) (hex_without 10 line_apart value are.1))
+words_without (path, Bucket sequence) are =
+    All-append (λ byte. (byte == 10) ≡ false) (hex_path path) (codes " bucket " ++ decimal sequence) (path_without 10 line_apart path refl are.0)
+    (All-append (λ byte. (byte == 10) ≡ false) (codes " bucket ") (decimal sequence) (literal_without 10 line_apart (codes " bucket ") refl) (decimal_without 10 line_apart sequence are.1))
+
+-- ---- nothing is wrong with it in itself
+
+short_parts : (path : Path) → AreKeys path → list_any is_long_key path ≡ false
+short_parts [] keys = refl
+short_parts (key ∷ path) keys =
+    let short : is_long_key key ≡ false = grind (arith, nat_tests, keys.0.1) in
+    ap₂ ◌||◌ short (short_parts path keys.1)
+
+short_item : (item : Item) → IsFitItem item → is_long_item item ≡ false
+short_item (Value value) fits = short (length value) fits
+  where
+    short : (n : ℕ) → n ≤ 0x7FFFFFFE → nat_lt 0x7FFFFFFE n ≡ false
+    short n fits = grind (arith, nat_tests)
+short_item (Bucket sequence) fits = refl
+
+pub line_shaped : (line : Text) (member : Member) → FitsMember member → line_member line ≡ Some member → shape_fault line ≡ None
+line_shaped line member fits is = rw is (rw (short_parts member.0 fits.0, short_item member.1 fits.1) refl)
