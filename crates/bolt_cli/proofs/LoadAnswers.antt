@@ -1,5 +1,5 @@
 -- The answer of `load`.
-use Rattle.std.proofs.Common.{◌≡◌, ◌∙◌, ℕ, Bool, List, Option, Result, Ok, Err, ap, inl, length, refl, subst, sym}
+use Rattle.std.proofs.Common.{◌≡◌, ◌∙◌, ℕ, Bool, List, Option, Result, Ok, Err, ap, inl, inr, length, refl, subst, sym}
 use Rattle.std.specs.Result.{IsErrAnd}
 use Rattle.std.proofs.Math.Logic.{∥∥₁_map}
 use Rattle.bolt_bulk.specs.WholeListings.{IsWhole}
@@ -50,7 +50,7 @@ module _ {T O : Type 0} (taken : T → Option (List ℕ)) (failed : T → ℕ) (
   pub load_stopped : (fault : BulkFault) (ending : Ending) → EndsCopy taken failed old new (layout_by which) snapshot (Err fault) → IsErrAnd ending (λ said. said ≡ copied fault) → Loaded out ending
   load_stopped fault ending ends said = inl (
     right,
-    copy_stopped taken failed old new out_taken out_failed out (is_snapshot job.kind) (text_members file) (layout_by (layout_for job.kind)) answer fault ending (as_asked (Err fault) ends) said,
+    inr (copy_stopped taken failed old new out_taken out_failed out (is_snapshot job.kind) (layout_by (layout_for job.kind)) fault ending (as_asked (Err fault) ends) said),
   )
 
   pub load_reported : (count : ℕ) (out_after : O) (ending : Ending) → EndsCopy taken failed old new (layout_by which) snapshot (Ok count) → ∥ HasGoodCopies (text_members file) job.sequence ∥₁
@@ -59,6 +59,6 @@ module _ {T O : Type 0} (taken : T → Option (List ℕ)) (failed : T → ℕ) (
       let whole = as_asked (Ok count) ends in
       inl (
         right,
-        copy_reported taken failed old new out_taken out_failed out (is_snapshot job.kind) (text_members file) (layout_by (layout_for job.kind)) answer count out_after ending whole
-            (∥∥₁_map good (λ g. g (layout_for job.kind) (is_snapshot job.kind) job.page_size.bytes job.page_size.accepted whole.small)) does,
+        inl (copy_reported taken failed old new out_taken out_failed out (is_snapshot job.kind) (layout_by (layout_for job.kind)) (text_members file) answer count out_after ending whole
+            (∥∥₁_map good (λ g. g (layout_for job.kind) (is_snapshot job.kind) job.page_size.bytes job.page_size.accepted whole.small)) does),
       )

@@ -5,6 +5,8 @@ ghost use Rattle.bolt_bulk.specs.Compacting.{Copies};
 ghost use Rattle.bolt_bulk.specs.WholeListings.{IsWhole};
 ghost use Rattle.bolt_check.specs.CheckedFiles.{bytes_of, meta_of};
 ghost use Rattle.bolt_layout.specs.Copies.{layout_of_listing};
+ghost use Rattle.bolt_load.specs.LineMembers.{text_members};
+ghost use Rattle.bolt_load.specs.ShownMembers.{members_left, members_text};
 ghost use Rattle.bolt_recover.specs.Joined.{IsJoined};
 ghost use Rattle.bolt_recover.specs.JoinedMembers.{HasAllLost, joined_file, joined_left, joined_meta};
 ghost use Rattle.bolt_recover.specs.Recovered.{IsRecovered};
@@ -14,6 +16,7 @@ ghost use Rattle.bolt_tree.specs.Walks.{left_of, walk_checked};
 
 use bolt_bulk::{BulkFault, Done, Shape, compact_members};
 use bolt_format::Sink;
+use bolt_load::LineMembers;
 use bolt_recover::{Joined, Recovery};
 use bolt_tree::Walk;
 use std::alloc::Global;
@@ -82,6 +85,23 @@ impl CopySource for Joined<'_> {
     ghost left = { λ joined listing. joined_left joined listing };
 
     ghost ends_as = { λ joined end. HasAllLost (joined_file joined) (joined_meta joined) end };
+
+    fn copy<S: Sink>(
+        &mut self,
+        alloc: Global,
+        shape: &Shape,
+        sink: &mut S,
+    ) -> Result<Done, BulkFault> {
+        compact_members(alloc, self, shape, sink)
+    }
+}
+
+impl CopySource for LineMembers<'_> {
+    ghost lists = { λ members listing. listing ≡ text_members (members_text members) };
+
+    ghost left = { λ members listing. text_members (members_left members) };
+
+    ghost ends_as = { λ members end. Unit {0} };
 
     fn copy<S: Sink>(
         &mut self,

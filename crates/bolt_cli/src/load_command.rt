@@ -3,9 +3,9 @@ ghost use Rattle.bolt_cli.specs.Answers.{Loads};
 ghost use Rattle.bolt_cli.specs.CopyKinds.{is_snapshot, layout_for};
 
 use crate::compact_command::put_lengths;
-use crate::copies::copy_members;
+use crate::copies::copy_all;
 use crate::failure::Failure;
-use crate::good_copies::members_have_good_copies;
+use crate::good_copies::sources_have_good_copies;
 use crate::job::LoadJob;
 use bolt_bulk::Shape;
 use bolt_format::Sink;
@@ -27,13 +27,13 @@ pub(crate) fn write_loaded<O: Sink, T: Sink>(
     let listing = ListingText::read(alloc, file)?;
     let mut members = listing.members(alloc);
     a_text_is_of_one_tree();
-    members_have_good_copies(&members, job.sequence);
+    sources_have_good_copies(&members, job.sequence);
     let shape = Shape {
         layout: job.kind.layout(),
         page_size: job.page_size.bytes,
         sequence: job.sequence,
     };
-    let length = copy_members(alloc, &mut members, &shape, job.kind.is_snapshot(), target)?;
+    let length = copy_all(alloc, &mut members, &shape, job.kind.is_snapshot(), target)?;
     put_lengths(file.len() as u64, length, out)?;
     Ok(0)
 }

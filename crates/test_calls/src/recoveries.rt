@@ -1,16 +1,12 @@
 //! Recoveries: what is kept of a file, what is lost, and what is found.
-ghost use Rattle.std.specs.List.{All};
 ghost use Rattle.std.specs.Prelude.{◌<◌, IfOk};
-ghost use Rattle.bolt_recover.specs.Found.{AreFound, numbers_of};
-ghost use Rattle.bolt_recover.specs.ShownFound.{IsFoundView};
 
 use crate::fault::Fault;
 use crate::walks::lines_of;
 use crate::words::{assumed_of, slot_of};
-use bolt_check::CheckFault;
-use bolt_format::{Meta, choose};
-use bolt_recover::{Found, Joined, Recovery, found_without_root};
-use bolt_report::losses_text;
+use bolt_format::{Meta, choose, slot_meta};
+use bolt_recover::{Found, Joined, Lost, Recovery, found_pages};
+use bolt_report::lost_text;
 use bolt_tree::Members;
 use std::alloc::Global;
 
@@ -22,7 +18,7 @@ pub fn recovered(alloc: Global, file: &[u8], words: &[String]) -> Result<Vec<u8>
         None => recovery_of(alloc, file, words)?,
     };
     let mut sink = lines_of(alloc, &mut recovery)?;
-    losses_text(recovery.losses(), &mut sink)?;
+    lost_text(Lost::Parts(recovery.losses()), &[], &mut sink)?;
     Ok(sink.bytes().to_vec(alloc)?)
 }
 
@@ -34,13 +30,10 @@ fn recovery_of<'a>(alloc: Global, file: &'a [u8], words: &[String]) -> Result<Re
     Ok(recovery)
 }
 
-/// A line for each page that is found: its number, and its keys in hexadecimal. The first word is as
-/// that of `recovered`.
+/// A line for each page that is found: its number, and its keys in hexadecimal. The first word may
+/// name the slot of the meta, or assume one.
 pub fn found(alloc: Global, file: &[u8], words: &[String]) -> Result<Vec<u8>, Fault> {
-    let pages = match assumed_of(file, words)? {
-        Some(meta) => found_under(alloc, file, meta)?,
-        None => recovery_of(alloc, file, words)?.found()?,
-    };
+    let pages = found_pages(alloc, file, meta_of(file, words)?)?;
     let mut lines = Vec::new(alloc);
     for page in &pages {
         push_found(alloc, page, &mut lines)?;
@@ -48,16 +41,20 @@ pub fn found(alloc: Global, file: &[u8], words: &[String]) -> Result<Vec<u8>, Fa
     Ok(lines)
 }
 
-/// The pages that are found under a meta, also if the root page is lost.
-fn found_under<'a>(alloc: Global, file: &'a [u8], meta: Meta) -> Result<Vec<Found<'a>>, Fault>
-    requires { 0 < meta.page_size }
-    ensures found { IfOk result (λ found. AreFound file.now meta (numbers_of found.items)) }
-    ensures views { IfOk result (λ found. All (IsFoundView file.now meta) found.items) }
+/// The active meta of a file, that of the slot that the first word names, or the one that it assumes.
+fn meta_of(file: &[u8], words: &[String]) -> Result<Meta, Fault>
+    ensures { IfOk result (λ meta. 0 < meta.page_size) }
 {
-    match Recovery::under(alloc, file, meta) {
-        Ok(recovery) => Ok(recovery.found()?),
-        Err(CheckFault::Structure(_)) => Ok(found_without_root(alloc, file, meta)?),
-        Err(fault) => Err(Fault::from(fault)),
+    if let Some(meta) = assumed_of(file, words)? {
+        return Ok(meta);
+    }
+    let found = match slot_of(words)? {
+        None => choose(file).map(|(_, meta)| meta),
+        Some(slot) => slot_meta(file, slot),
+    };
+    match found {
+        Ok(meta) if meta.page_size > 0 => Ok(meta),
+        _ => Err(Fault::Unread),
     }
 }
 
@@ -75,15 +72,9 @@ fn push_found(alloc: Global, found: &Found<'_>, lines: &mut Vec<u8>) -> Result<(
 /// The line of each member of the joined listing, which a second pass returns again. The first word
 /// may assume a meta.
 pub fn joined(alloc: Global, file: &[u8], words: &[String]) -> Result<Vec<u8>, Fault> {
-    let meta = match assumed_of(file, words)? {
-        Some(meta) => meta,
-        None => match choose(file) {
-            Ok((_, meta)) => meta,
-            Err(_) => return Err(Fault::Unread),
-        },
-    };
-    let pages = found_under(alloc, file, meta)?;
-    let mut members = joined_under(alloc, file, meta, pages.as_slice())?;
+    let meta = meta_of(file, words)?;
+    let pages = found_pages(alloc, file, meta)?;
+    let mut members = Joined::new(alloc, file, meta, pages.as_slice())?;
     let first = lines_of(alloc, &mut members)?;
     members.restart(alloc)?;
     let again = lines_of(alloc, &mut members)?;
@@ -91,22 +82,4 @@ pub fn joined(alloc: Global, file: &[u8], words: &[String]) -> Result<Vec<u8>, F
         return Err(Fault::Wrong("a second pass", 0));
     }
     Ok(first.bytes().to_vec(alloc)?)
-}
-
-/// The members of the joined listing under a meta, also if the root page is lost.
-fn joined_under<'a>(
-    alloc: Global,
-    file: &'a [u8],
-    meta: Meta,
-    pages: &'a [Found<'a>],
-) -> Result<Joined<'a>, Fault>
-    requires size { 0 < meta.page_size }
-    requires found { AreFound file.now meta (numbers_of pages.now) }
-    requires views { All (IsFoundView file.now meta) pages.now }
-{
-    match Recovery::under(alloc, file, meta) {
-        Ok(recovery) => Ok(Joined::new(recovery, pages)?),
-        Err(CheckFault::Structure(_)) => Ok(Joined::without_root(file, meta, pages)),
-        Err(fault) => Err(Fault::from(fault)),
-    }
 }

@@ -37,8 +37,13 @@ returns-in_err-joined g c =
     let fault = c.in_err-joined.field-0.0 in
     let found = c.as_slice.result.now in
     let are = subst (λ (fs : List Found). AreFound c.args.file.now c.in_ok-meta.meta (numbers_of fs)) (sym c.as_slice.ensures.value) c.in_ok-found.ensures.found in
-    inr (inr (unjoined fault, inl (c.in_ok-meta.meta, c.in_ok-meta.ensures.found, (numbers_of found, fault, are, c.in_err-joined.ensures.refused, refl)), refl, refl,
-    ends_as _ (unjoined fault) c.from_residual-in_err-joined.ensures.1))
+    inr (inr (
+      unjoined fault,
+      inl (c.in_ok-meta.meta, c.in_ok-meta.ensures.found, (numbers_of found, fault, are, c.in_err-joined.ensures.refused, refl)),
+      refl,
+      refl,
+      ends_as _ (unjoined fault) c.from_residual-in_err-joined.ensures.1,
+    ))
 
 pub joined_members_are_whole-requires : goal.joined_members_are_whole-requires
 joined_members_are_whole-requires g c = subst₂ (λ (f : List ℕ) (m : Meta). (listing : List Member) → IsJoined f m listing → joined_left c.in_ok-joined.joined listing ≡ listing)
@@ -50,8 +55,14 @@ returns-in_err-copy g c =
     let job = c.args.job.now in
     let (own, is) = c.each_file_has_a_joined_listing.ensures c.args.file.now meta in
     let there = subst₂ (λ (f : List ℕ) (m : Meta). IsJoined f m own) (sym c.in_ok-joined.ensures.file) (sym c.in_ok-joined.ensures.meta) is in
-    inr (inl (meta, own, c.in_ok-meta.ensures.found, is, copy_stopped g.T.Sink.taken g.T.Sink.failed c.args.target.now c.copy_asked.new.target
-    g.O.Sink.taken g.O.Sink.failed c.args.out.now (is_snapshot job.kind) (asked_layout job meta own) c.in_err-copy.field-0.0 _ (c.in_err-copy.ensures.copied own there) c.from_residual-in_err-copy.ensures.1))
+    inr (inl (
+      meta,
+      own,
+      c.in_ok-meta.ensures.found,
+      is,
+      copy_stopped g.T.Sink.taken g.T.Sink.failed c.args.target.now c.copy_asked.new.target
+          g.O.Sink.taken g.O.Sink.failed c.args.out.now (is_snapshot job.kind) (asked_layout job meta own) c.in_err-copy.field-0.0 _ (c.in_err-copy.ensures.copied own there) c.from_residual-in_err-copy.ensures.1,
+    ))
 
 pub put_report-requires : goal.put_report-requires
 put_report-requires g c =
@@ -77,8 +88,15 @@ returns g c =
     (copy_report differs l (map found_view c.as_slice-2.result.now) (length file) c.in_ok-copy.copy) c.put_report.result) c.hash_differs.ensures c.lost.ensures c.put_report.ensures in
     let shown = subst (λ (fs : List Found). Does g.O.Sink.taken g.O.Sink.failed c.args.out.now c.put_report.new.out
     (copy_report (hash_differs (is_snapshot job.kind) file) lost (map found_view fs) (length file) c.in_ok-copy.copy) c.put_report.result) again does in
-    inl (meta, own, lost, map found_view found, c.in_ok-meta.ensures.found, salvaged file meta own lost found is loses are views j.apart j.some,
-    copy_reported g.T.Sink.taken g.T.Sink.failed c.args.target.now c.copy_asked.new.target
-    g.O.Sink.taken g.O.Sink.failed c.args.out.now (is_snapshot job.kind) (asked_layout job meta own) own
-    (copy_report (hash_differs (is_snapshot job.kind) file) lost (map found_view found) (length file)) c.in_ok-copy.copy c.put_report.new.out _
-    (c.in_ok-copy.ensures.copied own there) (c.in_ok-copy.ensures.good own there) shown)
+    inl (
+      meta,
+      own,
+      lost,
+      map found_view found,
+      c.in_ok-meta.ensures.found,
+      salvaged file meta own lost found is loses are views j.apart j.some,
+      copy_reported g.T.Sink.taken g.T.Sink.failed c.args.target.now c.copy_asked.new.target
+          g.O.Sink.taken g.O.Sink.failed c.args.out.now (is_snapshot job.kind) (asked_layout job meta own) own
+          (copy_report (hash_differs (is_snapshot job.kind) file) lost (map found_view found) (length file)) c.in_ok-copy.copy c.put_report.new.out _
+          (c.in_ok-copy.ensures.copied own there) (c.in_ok-copy.ensures.good own there) shown,
+    )

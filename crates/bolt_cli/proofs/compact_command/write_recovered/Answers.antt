@@ -31,8 +31,16 @@ returns-in_err-copy g c =
     let there = subst (λ (f : List ℕ). IsRecovered f meta own) (sym c.in_ok-recovery.ensures.file) is in
     let stops = subst (λ (m : Meta). EndsCopy g.T.Sink.taken g.T.Sink.failed c.args.target.now c.copy_asked.new.target (asked_layout job m own) (is_snapshot job.kind) (Err c.in_err-copy.field-0.0)) c.meta-meta.ensures
     (c.in_err-copy.ensures.copied own there) in
-    inl (meta, own, lost, c.in_ok-recovery.ensures.meta, is, are, inr (copy_stopped g.T.Sink.taken g.T.Sink.failed c.args.target.now c.copy_asked.new.target
-    g.O.Sink.taken g.O.Sink.failed c.args.out.now (is_snapshot job.kind) (asked_layout job meta own) c.in_err-copy.field-0.0 _ stops c.from_residual-in_err-copy.ensures.1))
+    inl (
+      meta,
+      own,
+      lost,
+      c.in_ok-recovery.ensures.meta,
+      is,
+      are,
+      inr (copy_stopped g.T.Sink.taken g.T.Sink.failed c.args.target.now c.copy_asked.new.target
+          g.O.Sink.taken g.O.Sink.failed c.args.out.now (is_snapshot job.kind) (asked_layout job meta own) c.in_err-copy.field-0.0 _ stops c.from_residual-in_err-copy.ensures.1),
+    )
 
 pub returns : goal.returns
 returns g c =
@@ -48,6 +56,14 @@ returns g c =
     let all : map loss_view c.losses.result.now ≡ lost = c.losses.ensures.losses ∙ c.in_ok-copy.ensures.end lost (subst (λ (f : List ℕ). AreLosses f meta lost) (sym c.in_ok-recovery.ensures.file) are) in
     let does = subst₂ (λ (differs : Bool) (losses : List LossView). Does g.O.Sink.taken g.O.Sink.failed c.args.out.now c.put_report.new.out
     (copy_report differs (parts losses) [] (length c.args.file.now) c.in_ok-copy.copy) c.put_report.result) c.hash_differs.ensures all c.put_report.ensures in
-    inl (meta, own, lost, c.in_ok-recovery.ensures.meta, is, are, inl (copy_reported g.T.Sink.taken g.T.Sink.failed c.args.target.now c.copy_asked.new.target
-    g.O.Sink.taken g.O.Sink.failed c.args.out.now (is_snapshot job.kind) (asked_layout job meta own) own
-    (copy_report (hash_differs (is_snapshot job.kind) c.args.file.now) (parts lost) [] (length c.args.file.now)) c.in_ok-copy.copy c.put_report.new.out _ whole good does))
+    inl (
+      meta,
+      own,
+      lost,
+      c.in_ok-recovery.ensures.meta,
+      is,
+      are,
+      inl (copy_reported g.T.Sink.taken g.T.Sink.failed c.args.target.now c.copy_asked.new.target
+          g.O.Sink.taken g.O.Sink.failed c.args.out.now (is_snapshot job.kind) (asked_layout job meta own) own
+          (copy_report (hash_differs (is_snapshot job.kind) c.args.file.now) (parts lost) [] (length c.args.file.now)) c.in_ok-copy.copy c.put_report.new.out _ whole good does),
+    )

@@ -41,8 +41,15 @@ returns-in_err-copy g c =
     let there = subst (λ (w : Checked). IsListing (bytes_of w) (meta_of w) own) (sym c.new-walk.ensures.checked) here in
     let stops = subst (λ (m : Meta). EndsCopy g.T.Sink.taken g.T.Sink.failed c.args.target.now c.copy_asked.new.target (asked_layout job m own) (is_snapshot job.kind) (Err c.in_err-copy.field-0.0)) c.meta-meta.ensures
     (c.in_err-copy.ensures.copied own there) in
-    inl (meta_of checked, own, under, rw (sym c.hash_differs.ensures) c.if-hash_differs.false, is, inr (copy_stopped g.T.Sink.taken g.T.Sink.failed c.args.target.now c.copy_asked.new.target
-    g.O.Sink.taken g.O.Sink.failed c.args.out.now (is_snapshot job.kind) (asked_layout job (meta_of checked) own) c.in_err-copy.field-0.0 _ stops c.from_residual-in_err-copy.ensures.1))
+    inl (
+      meta_of checked,
+      own,
+      under,
+      rw (sym c.hash_differs.ensures) c.if-hash_differs.false,
+      is,
+      inr (copy_stopped g.T.Sink.taken g.T.Sink.failed c.args.target.now c.copy_asked.new.target
+          g.O.Sink.taken g.O.Sink.failed c.args.out.now (is_snapshot job.kind) (asked_layout job (meta_of checked) own) c.in_err-copy.field-0.0 _ stops c.from_residual-in_err-copy.ensures.1),
+    )
 
 pub returns : goal.returns
 returns g c =
@@ -55,6 +62,13 @@ returns g c =
     let whole = subst (λ (m : Meta). EndsCopy g.T.Sink.taken g.T.Sink.failed c.args.target.now c.copy_asked.new.target (asked_layout job m own) (is_snapshot job.kind) (Ok c.in_ok-copy.copy)) c.meta-meta.ensures
     (c.in_ok-copy.ensures.copied own there) in
     let good = subst (λ (m : Meta). ∥ IsGoodCopy (is_snapshot job.kind) (asked_layout job m own) own ∥₁) c.meta-meta.ensures (c.in_ok-copy.ensures.good own there) in
-    inl (meta_of checked, own, under, rw (sym c.hash_differs.ensures) c.if-hash_differs.false, is, inl (copy_reported g.T.Sink.taken g.T.Sink.failed c.args.target.now c.copy_asked.new.target
-    g.O.Sink.taken g.O.Sink.failed c.args.out.now (is_snapshot job.kind) (asked_layout job (meta_of checked) own) own (copy_report false (parts []) [] (length c.args.file.now)) c.in_ok-copy.copy c.put_report.new.out _ whole good
-    c.put_report.ensures))
+    inl (
+      meta_of checked,
+      own,
+      under,
+      rw (sym c.hash_differs.ensures) c.if-hash_differs.false,
+      is,
+      inl (copy_reported g.T.Sink.taken g.T.Sink.failed c.args.target.now c.copy_asked.new.target
+          g.O.Sink.taken g.O.Sink.failed c.args.out.now (is_snapshot job.kind) (asked_layout job (meta_of checked) own) own (copy_report false (parts []) [] (length c.args.file.now)) c.in_ok-copy.copy c.put_report.new.out _ whole good
+          c.put_report.ensures),
+    )

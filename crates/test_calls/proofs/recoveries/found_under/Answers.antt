@@ -1,5 +1,0 @@
--- The root page is lost with this finding.
-use Rattle.test_calls.proofs.recoveries.found_under.Goals as goal
-
-pub found_without_root-requires-clause-lost : goal.found_without_root-requires-clause-lost
-found_without_root-requires-clause-lost c = (c.in-Err-Structure.field-0-0, rw c.in-Err-Structure.field-0-is at c.in-Err-Structure.ensures.refused)
