@@ -11,8 +11,8 @@ _luntsegi_options() {
         keys) echo --prefix --form --parts --meta --assume-meta ;;
         get) echo --no-newline -n --form --parts --meta --assume-meta ;;
         stats) echo --form --parts --meta --assume-meta ;;
-        list) echo --from --form --parts --recover --meta --assume-meta ;;
-        compact) echo -o --page-size --for-bbolt --etcd-snapshot --recover --meta --assume-meta ;;
+        list) echo --from --form --parts --recover --lost-and-found --meta --assume-meta ;;
+        compact) echo -o --page-size --for-bbolt --etcd-snapshot --recover --lost-and-found --meta --assume-meta ;;
         load) echo -o --page-size --for-bbolt --etcd-snapshot --sequence ;;
     esac
 }
