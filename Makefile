@@ -100,7 +100,8 @@ EACH_COMMAND = $(PRINTING) "get settings none" "info --help" "info more" "list -
 
 # Commands that recover a damaged file.
 RECOVERIES = "list --recover" "compact -o OUT --recover" "compact -o OUT --recover --for-bbolt" \
-	"list key --recover --form json" "list none --recover" "compact -o OUT --recover --etcd-snapshot"
+	"list key --recover --form json" "list none --recover" "compact -o OUT --recover --etcd-snapshot" \
+	"list --lost-and-found" "compact -o OUT --lost-and-found"
 
 # Tries files that can't be read or created, full devices, closed streams, readers that leave, and who
 # may read a copy. Then each write of each command fails in turn (a write has at most seven bytes), but
