@@ -1,12 +1,14 @@
 -- What is printed of an item in the form `mixed` is a word, which is read back as a part.
-use Rattle.std.proofs.Common.{◌≡◌, ◌∙◌, ◌++◌, ◌&&◌, ◌==◌, ℕ, List, Bool, true, false, Ok, ap, codes, drop, nat_le, not, refl, sym, take}
+use Rattle.std.proofs.Common.{◌≡◌, ◌∙◌, ◌++◌, ◌&&◌, ◌==◌, ℕ, List, Bool, true, false, Result, Ok, ap, codes, drop, nat_le, not, refl, sym, take}
 use Rattle.std.specs.Prelude.{if◌then◌else◌}
 use Rattle.std.specs.Cmp.Lexicographic.{pointwise}
+use Rattle.std.specs.Result.{result_ok}
 use Rattle.std.specs.Str.{bytes_eq}
 use Rattle.std.proofs.lemmas.Bool.{and_parts, not-true}
 use Rattle.std.proofs.lemmas.Slice.Eq.{bytes_eq-Decides}
 use Rattle.hex.proofs.HexLemmas.{decode_of-encode_lower}
 use Rattle.hex.specs.Hex.{IsBytes, encode_lower}
+use Rattle.hex.specs.declared.FromHexError.{FromHexError}
 use Rattle.bolt_report.specs.Forms.{is_marked, is_printable, mixed_text}
 use Rattle.bolt_report.proofs.HexStrings.{digits_pass}
 use Rattle.bolt_tree.proofs.Filters.{not_true}
@@ -22,7 +24,7 @@ unmarked bytes none =
 module _ (bytes : List ℕ) (are : IsBytes bytes) where
   by_test : (plain : Bool) → (is_printable bytes && not (is_marked bytes)) ≡ plain → mixed_bytes (if plain then bytes else codes "0x" ++ encode_lower bytes) ≡ Ok bytes
   by_test true e = ap (λ (b : Bool). if b then hex_bytes (drop 2 bytes) else Ok bytes) (unmarked bytes (not-true (is_marked bytes) (and_parts _ _ e).1))
-  by_test false e = ap or_bad_hex (decode_of-encode_lower bytes are)
+  by_test false e = ap (λ (read : Result (List ℕ) FromHexError). or_bad_hex (result_ok read)) (decode_of-encode_lower bytes are)
 
   pub mixed_back : mixed_bytes (mixed_text bytes) ≡ Ok bytes
   mixed_back = by_test (is_printable bytes && not (is_marked bytes)) refl
