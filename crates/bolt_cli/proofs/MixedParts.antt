@@ -8,7 +8,7 @@ use Rattle.std.proofs.lemmas.Bool.{and_parts, not-true}
 use Rattle.std.proofs.lemmas.Slice.Eq.{bytes_eq-Decides}
 use Rattle.hex.proofs.HexLemmas.{decode_of-encode_lower}
 use Rattle.hex.specs.Hex.{IsBytes, encode_lower}
-use Rattle.hex.specs.declared.FromHexError.{FromHexError}
+use Rattle.hex.specs.declared.error.FromHexError.{FromHexError}
 use Rattle.bolt_report.specs.Forms.{is_marked, is_printable, mixed_text}
 use Rattle.bolt_report.proofs.HexStrings.{digits_pass}
 use Rattle.bolt_tree.proofs.Filters.{not_true}
