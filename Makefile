@@ -251,7 +251,6 @@ memory: $(PROGRAM) $(CALLS) $(REFUSE) $(NESTED) $(DEEP) $(DAMAGED)
 	$(SWEEP) memory 1 examples/app.db $(EACH_COMMAND) "compact -o OUT --page-size 1024" \
 		"compact -o OUT --etcd-snapshot"
 	$(SWEEP) memory 1 examples/app.list "load -o OUT" "load -o OUT --for-bbolt" "load -o OUT --etcd-snapshot"
-	$(SWEEP) memory 1 examples/leaked.findings "load -o OUT"
 	$(SWEEP) memory 1 $(LEAKED).db check "list --meta 1" "compact -o OUT --meta 1"
 	$(SWEEP) memory 1 $(DEEP) info check buckets stats
 	REFUSED_CALL=memory REFUSED_NUMBER=200 LD_PRELOAD=$(REFUSE) $(PROGRAM) check $(DEEP) | grep -qx OK
