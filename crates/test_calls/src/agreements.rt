@@ -26,25 +26,25 @@ fn check_job(alloc: Global, extent: Extent) -> Job {
     })
 }
 
-fn list_job(alloc: Global, form: ListForm, recover: bool) -> Job {
+fn list_job(alloc: Global, form: ListForm, extent: Extent) -> Job {
     Job::List(ListJob {
         file: unnamed(alloc),
         meta: MetaChoice::Active,
         form,
         path: Vec::new(alloc),
         from: Vec::new(alloc),
-        recover,
+        extent,
     })
 }
 
-fn copy_job(alloc: Global, kind: CopyKind, recover: bool) -> Job {
+fn copy_job(alloc: Global, kind: CopyKind, extent: Extent) -> Job {
     Job::Compact(CompactJob {
         file: unnamed(alloc),
         meta: MetaChoice::Active,
         target: unnamed(alloc),
         page_size: None,
         kind,
-        recover,
+        extent,
     })
 }
 
@@ -57,6 +57,8 @@ struct Jobs {
     check_all: Job,
     list_recovered: Job,
     copy_recovered: Job,
+    list_joined: Job,
+    copy_joined: Job,
     /// Other commands that check the file first.
     readers: Vec<Job>,
     /// `page` of each page, and of the one after the last.
@@ -75,11 +77,13 @@ impl Jobs {
         }
         Ok(Jobs {
             check: check_job(alloc, Extent::First),
-            list: list_job(alloc, ListForm::Hex, false),
-            copy: copy_job(alloc, CopyKind::Plain, false),
+            list: list_job(alloc, ListForm::Hex, Extent::First),
+            copy: copy_job(alloc, CopyKind::Plain, Extent::First),
             check_all: check_job(alloc, Extent::Losses),
-            list_recovered: list_job(alloc, ListForm::Hex, true),
-            copy_recovered: copy_job(alloc, CopyKind::ForBbolt, true),
+            list_recovered: list_job(alloc, ListForm::Hex, Extent::Losses),
+            copy_recovered: copy_job(alloc, CopyKind::ForBbolt, Extent::Losses),
+            list_joined: list_job(alloc, ListForm::Hex, Extent::LostAndFound),
+            copy_joined: copy_job(alloc, CopyKind::Plain, Extent::LostAndFound),
             readers: readers(alloc)?,
             pages,
         })
@@ -108,7 +112,7 @@ fn readers(alloc: Global) -> Result<Vec<Job>, AllocError> {
         form: FigureForm::Lines,
         path: Vec::new(alloc),
     }))?;
-    jobs.push(list_job(alloc, ListForm::Json, false))?;
+    jobs.push(list_job(alloc, ListForm::Json, Extent::First))?;
     Ok(jobs)
 }
 
@@ -119,6 +123,11 @@ fn said_of_pages(all: &Ran) -> (&str, usize) {
         Some((first, rest)) if first.starts_with("meta ") => (rest, 1),
         _ => (all.text(), 0),
     }
+}
+
+/// Whether a line of a listing is that of `lost+found`, or of what is below it.
+fn is_found(line: &str) -> bool {
+    line.starts_with("6c6f73742b666f756e64")
 }
 
 /// A file, and where it was changed.
@@ -152,7 +161,8 @@ impl Place<'_> {
         } else {
             self.compare_refused(&check)?;
         }
-        self.compare_recovered(&check)
+        self.compare_recovered(&check)?;
+        self.compare_joined()
     }
 
     /// `page` prints a page, or refuses it; if the file has this fault, it reports the same.
@@ -255,6 +265,21 @@ impl Place<'_> {
         }
         self.compare_losses(lost, [&copy, &list, &all])?;
         self.compare_copy(copy.target.bytes(), list.out.bytes())
+    }
+
+    /// The copy of what is recovered and found is sound and lists what `list` prints, which without the
+    /// bucket of what is found is what is recovered. Or both commands refuse the file alike.
+    fn compare_joined(&self) -> Result<(), Fault> {
+        let copy = self.run(&self.jobs.copy_joined);
+        let list = self.run(&self.jobs.list_joined);
+        if copy.target.bytes().is_empty() {
+            let is_alike = list.is(1, b"", copy.err.bytes()) && copy.code == 1;
+            return self.require(is_alike, "a file with nothing found");
+        }
+        self.compare_copy(copy.target.bytes(), list.out.bytes())?;
+        let recovered = self.run(&self.jobs.list_recovered);
+        let own = list.text().lines().filter(|line| !is_found(line));
+        self.require(own.eq(recovered.text().lines()), "what is recovered")
     }
 
     /// The three commands refuse the file alike.

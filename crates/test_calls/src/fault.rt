@@ -60,7 +60,7 @@ impl From<NoMemory> for Fault {
 impl From<JoinFault> for Fault {
     fn from(fault: JoinFault) -> Fault {
         match fault {
-            JoinFault::Exists => Fault::Unread,
+            JoinFault::Root(_) | JoinFault::Exists => Fault::Unread,
             JoinFault::Memory => Fault::Memory,
         }
     }
