@@ -69,6 +69,7 @@ examples: $(PROGRAM)
 	$(PROGRAM) check $(LEAKED).db 2>&1 > /dev/full | grep -qx "error: write failed"
 	$(PROGRAM) check $(LEAKED).db 2> /dev/null > /dev/full; test $$? -eq 1
 	tools/bbolt/build.sh
+	python3 -B tools/lost/try_lost_pages.py $(PROGRAM) $(SOUND:.buckets=.db)
 	python3 -B tools/usage/run_examples.py $(PROGRAM) $(SHOWING)
 
 # Compares the manual page, and what bash and zsh complete, with help. If mandoc is installed, it must

@@ -42,6 +42,7 @@ JSON_TEXTS = {
     "list": rb"(?:%b)*" % JSON_ENTRY,
 }
 LOSSES = rb"(?:%b)+" % LOSS
+FOUND = rb"(?:page \d+: nothing leads to it; found: \d+ entries, \d+ of them buckets, keys from [0-9a-f]+ to [0-9a-f]+\n)*"
 FINDINGS = rb"(?:%b\n)+\d+ errors found\n" % FINDING
 META_FAULT = rb"file too short|invalid database|version mismatch|checksum error|page size refused"
 OTHER_META = rb"meta [01]: (?:%b)\n" % META_FAULT
@@ -55,8 +56,8 @@ FAULTS = {
     "keys": REFUSED + rb"|bucket not found",
     "get": REFUSED + rb"|bucket not found|key not found",
     "stats": REFUSED + rb"|bucket not found",
-    "list": REFUSED + rb"|bucket not found",
-    "compact": REFUSED,
+    "list": REFUSED + rb"|bucket not found|lost\+found exists",
+    "compact": REFUSED + rb"|lost\+found exists",
     "load": rb"line \d+: (?:not a line of a listing|path not rising|no bucket above)",
 }
 
@@ -67,6 +68,9 @@ FAILED = {
     "check --all": (rb"(?:%b)?(?:%b|%b\d+ errors found\n)|%b\d+ errors found\n" % (OTHER_META, FINDINGS, LOSSES, OTHER_META), b""),
     "list --recover": (TEXTS["list"] + b"|" + JSON_TEXTS["list"], rb"error: pages lost: \d+\n"),
     "compact --recover": (LOSSES + TEXTS["compact"], b""),
+    "check --lost-and-found": (rb"(?:%b)?(?:%b|%b%b\d+ errors found\n)|%b\d+ errors found\n" % (OTHER_META, FINDINGS, LOSSES, FOUND, OTHER_META), b""),
+    "list --lost-and-found": (TEXTS["list"], rb"error: pages lost: \d+\n"),
+    "compact --lost-and-found": (LOSSES + FOUND + TEXTS["compact"], b""),
 }
 
 
@@ -129,7 +133,7 @@ class Program:
 
 def form_of(words):
     """The command of these words, with the option that changes what it prints if it fails."""
-    option = next((word for word in words if word in ("--all", "--recover")), None)
+    option = next((word for word in words if word in ("--all", "--recover", "--lost-and-found")), None)
     return f"{words[0]} {option}" if option else words[0]
 
 

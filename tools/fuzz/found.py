@@ -1,0 +1,37 @@
+"""What holds of `check`, `list` and `compact` with `--lost-and-found`, under each meta."""
+
+import re
+
+from program import want
+from results import read
+
+BUCKET = b"lost+found".hex().encode()
+PAGE = re.compile(rb"%b/([0-9a-f]{32}) bucket 0" % BUCKET)
+NAMED = re.compile(rb"^page (\d+): nothing leads to it", re.M)
+
+
+def pages_in(lines):
+    """The numbers of the pages that have a bucket in `lost+found`, among these lines of a listing."""
+    return [int(bytes.fromhex(page.group(1).decode())) for line in lines if (page := PAGE.fullmatch(line))]
+
+
+def compare_found(file, words):
+    """The copy of what is recovered and found is sound, and lists what `list` prints. Without the bucket
+    `lost+found` this is what is recovered. `check` names the pages that have a bucket there. Or both
+    commands refuse the file alike."""
+    copy = file.copy("joined.db")
+    copied = file.run("compact", "--lost-and-found", "-o", copy, *words)
+    listed = file.run("list", "--lost-and-found", *words)
+    checked = file.run("check", "--lost-and-found", *words)
+    named = [int(number) for number in NAMED.findall(checked.out)]
+    if copied.err:
+        want(listed.out == b"" and listed.err == copied.err, "list and compact refuse the file in two ways:", listed)
+        want(read(copy) == b"", "the copy of what is refused isn't empty")
+        want(not named or copied.err == b"error: lost+found exists\n", "pages are found, and not listed:", named)
+        return
+    want(file.program.text("check", copy) == b"OK\n", "the copy with what is found isn't sound")
+    want(file.program.text("list", copy) == listed.out, "the copy with what is found lists other things")
+    lines = listed.out.splitlines()
+    want(pages_in(lines) == named, "check names", named, "and list has", pages_in(lines))
+    own = [line for line in lines if not named or not line.startswith(BUCKET)]
+    want(own == file.run("list", "--recover", *words).out.splitlines(), "what is recovered isn't listed with what is found")
