@@ -193,14 +193,19 @@ LONG = out/long.db
 SPARSE = out/sparse.db
 VERY_DEEP = out/very_deep.db
 LOST_LEAVES = out/lost_leaves.db
+LOST_BRANCH = out/lost_branch.db
+HALF_FREED = out/half_freed.db
+FREED = out/freed.db
 
 # Times `info`, `check` and the commands that print, on three databases: 256 MB with a million small
 # entries, 200,000 buckets in the root bucket, and 256 MB with values of 100 KB. Then times compact
 # copies of the first and the last of these, of 256 MB that are mostly free pages, and of 50,000 buckets
-# one within another; and what is recovered of the first, also with a thousand lost leaves. All have
-# pages of 4,096 bytes, as bbolt makes them on most machines. Listings of the first and of the third are loaded. If Go and bbolt's source are there, bbolt's
-# library does the same on the first two.
-bench: $(PROGRAM) $(LARGE) $(WIDE) $(LONG) $(SPARSE) $(VERY_DEEP) $(LOST_LEAVES)
+# one within another; and what is recovered of the first, also with a thousand lost leaves. Then what is
+# lost and found: of the first, of the same with a thousand lost leaves and a lost branch, and of two
+# files that list a million free pages and half as many. All have pages of 4,096 bytes, as bbolt makes
+# them on most machines. Listings of the first and of the third are loaded. If Go and bbolt's source are
+# there, bbolt's library does the same on the first two.
+bench: $(PROGRAM) $(LARGE) $(WIDE) $(LONG) $(SPARSE) $(VERY_DEEP) $(LOST_LEAVES) $(LOST_BRANCH) $(HALF_FREED) $(FREED)
 	python3 -B tools/bench/time_commands.py $(PROGRAM) $(LARGE) info check buckets pages stats list \
 		"keys bucket-0" "get bucket-0 entry-000000000000100000"
 	python3 -B tools/bench/time_commands.py $(PROGRAM) $(WIDE) info check buckets pages stats list
@@ -208,6 +213,7 @@ bench: $(PROGRAM) $(LARGE) $(WIDE) $(LONG) $(SPARSE) $(VERY_DEEP) $(LOST_LEAVES)
 	python3 -B tools/bench/time_copies.py $(PROGRAM) $(LARGE) $(LONG) $(SPARSE) $(VERY_DEEP)
 	python3 -B tools/bench/time_loads.py $(PROGRAM) $(LARGE) $(LONG)
 	python3 -B tools/bench/time_recovery.py $(PROGRAM) $(LARGE) $(LOST_LEAVES) 1000
+	python3 -B tools/bench/time_found.py $(PROGRAM) $(LARGE) $(LOST_BRANCH) $(HALF_FREED) $(FREED)
 	tools/bbolt/build.sh
 	if test -x $(BBOLT); then python3 -B tools/bench/compare_bbolt.py $(PROGRAM) $(BBOLT) $(LARGE) bucket-0 \
 		entry-000000000000100000; python3 -B tools/bench/compare_bbolt.py $(PROGRAM) $(BBOLT) $(WIDE); fi
@@ -218,6 +224,17 @@ $(LARGE): tools/bench/make_large.py
 
 $(LOST_LEAVES): tools/bench/zero_leaves.py $(LARGE)
 	$(MAKER) $< $(LARGE) $@ 1000
+
+$(LOST_BRANCH): tools/bench/zero_leaves.py $(LARGE)
+	$(MAKER) $< $(LARGE) $@ 1000 1
+
+$(HALF_FREED): tools/bench/make_freed.py
+	mkdir -p $(@D)
+	$(MAKER) tools/bench/make_freed.py $@ 500000
+
+$(FREED): tools/bench/make_freed.py
+	mkdir -p $(@D)
+	$(MAKER) tools/bench/make_freed.py $@ 1000000
 
 $(WIDE): tools/bench/make_wide.py
 	mkdir -p $(@D)
