@@ -1,6 +1,5 @@
 //! What can be copied: members of which none was returned yet are those of one tree.
 ghost use Rattle.std.specs.Prelude.{◌≡◌};
-ghost use Rattle.bolt_format.specs.Bytes.{IsBytes};
 ghost use Rattle.bolt_recover.specs.JoinedMembers.{ForJoined, joined_file, joined_left, joined_meta};
 ghost use Rattle.bolt_recover.specs.Recovered.{ForRecovered};
 ghost use Rattle.bolt_recover.specs.Recoveries.{recovery_file, recovery_left, recovery_meta};
@@ -17,21 +16,11 @@ use bolt_recover::laws::{
 use bolt_recover::{Joined, Recovery};
 use bolt_tree::Walk;
 
-/// A slice of bytes has none above 255. That is known of a value that the body reads, so this reads it
-/// and does nothing else.
-fn are_bytes(bytes: &[u8])
-    ensures { IsBytes bytes.now }
-{
-    let _ = bytes.len();
-}
-
 /// The members of a sound file.
 pub fn a_walk_is_whole(walk: &Walk<'_>)
     requires { ForListing (walk_checked walk.now) (λ listing. left_of walk.now listing ≡ listing) }
     ensures { IsWholeWalk walk.now }
 {
-    let checked = walk.checked();
-    are_bytes(checked.bytes());
     a_files_listing_is_of_one_tree();
 }
 

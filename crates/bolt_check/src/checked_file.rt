@@ -1,6 +1,7 @@
 //! A file that passed its tests.
 ghost use Rattle.std.specs.Prelude.{◌≡◌};
 ghost use Rattle.bolt_check.specs.Sound.{IsTested};
+ghost use Rattle.bolt_format.specs.Bytes.{IsBytes};
 
 use bolt_format::Meta;
 
@@ -11,6 +12,7 @@ pub struct Checked<'a> {
     pub(crate) bytes: &'a [u8],
     pub(crate) meta: Meta,
     pub(crate) accounts: bool,
+    pub ghost of_bytes: { IsBytes bytes.now },
     pub ghost sound: { ∥ IsTested bytes.now meta accounts ∥₁ },
 }
 

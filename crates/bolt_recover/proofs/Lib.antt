@@ -30,6 +30,7 @@ mod RunSurveys
 mod RunTrees
 mod SoundListing
 mod SoundSurveys
+mod SoundWalks
 mod StepLemmas
 mod SurveyIsOne
 mod TreeOrder

@@ -124,7 +124,8 @@ impl<'a> Joined<'a> {
     ghost use Rattle.bolt_recover.specs.JoinedMembers.{ForJoined, HasAllLost, joined_file, joined_left, joined_lost, joined_meta, joined_path, joined_work};
 
     /// The members of the joined listing of a file under this meta, of which these are the found
-    /// pages (`found_pages`). A second recovery begins, which needs what the first one needed.
+    /// pages (`found_pages`). A second recovery begins, which needs what the first one needed; but if no
+    /// page is found and the trees are sound, their walk returns the same, and tests no page again.
     ///
     /// # Errors
     ///
@@ -150,6 +151,11 @@ impl<'a> Joined<'a> {
     {
         if file.len() as u64 / u64::from(meta.page_size) >= NAMES {
             return Err(JoinFault::Memory);
+        }
+        if found.is_empty() {
+            if let Some(kept) = Kept::of_sound(alloc, file, meta)? {
+                return Ok(Joined::of(kept, found));
+            }
         }
         match Recovery::under(alloc, file, meta) {
             Ok(recovery) => Joined::beside(recovery, found),
@@ -312,8 +318,8 @@ impl<'a> Members<'a> for Joined<'a> {
         }
     }
 
-    fn restart(&mut self, _alloc: Global) -> Result<(), NoMemory> {
+    fn restart(&mut self, alloc: Global) -> Result<(), NoMemory> {
         self.stage = first_stage(self.found);
-        self.kept.restart()
+        self.kept.restart(alloc)
     }
 }

@@ -1,5 +1,5 @@
 //! What is recovered, also if the root page is lost.
-ghost use Rattle.std.specs.Prelude.{◌≡◌, ◌<◌, IfOk, IfSome, OnErr, OnOk};
+ghost use Rattle.std.specs.Prelude.{◌≡◌, ◌<◌, [], IfOk, IfSome, OnErr, OnOk};
 ghost use Rattle.std.specs.Option.{IfNone, option_map};
 ghost use Rattle.bolt_format.specs.Bytes.{IsBytes};
 ghost use Rattle.bolt_tree.specs.Paths.{path_of};
@@ -7,14 +7,15 @@ ghost use Rattle.bolt_tree.specs.ShownEntries.{item_view};
 ghost use Rattle.bolt_tree.specs.Walks.{GivesNext};
 ghost use Rattle.bolt_recover.specs.Lost.{IsAllLost};
 ghost use Rattle.bolt_recover.specs.Recovered.{ForRecovered};
-ghost use Rattle.bolt_recover.specs.Refusals.{LosesRoot};
+ghost use Rattle.bolt_recover.specs.Refusals.{KeepsRoot, LosesRoot};
 ghost use Rattle.bolt_recover.specs.ShownLosses.{lost_view};
 
 use crate::lost::Lost;
 use crate::recovery::Recovery;
-use bolt_check::{Finding, NoMemory};
+use bolt_check::{CheckFault, Finding, NoMemory, check_under};
 use bolt_format::Meta;
-use bolt_tree::Item;
+use bolt_tree::{Item, Walk};
+use std::alloc::Global;
 
 /// A file whose root page is lost: nothing of it is recovered.
 #[derive(Clone, Copy)]
@@ -31,12 +32,30 @@ pub(crate) struct LostRoot<'a> {
 #[derive(Drop)]
 pub(crate) enum Kept<'a> {
     Recovery(Recovery<'a>),
+    /// Those of a file whose trees are sound, so that nothing is lost.
+    Sound(Walk<'a>),
     Nothing(LostRoot<'a>),
 }
 
 #[tactic(auto, unfolding(crate::specs::Recoveries::recovery_file, crate::specs::Recoveries::recovery_meta, crate::specs::Recoveries::recovery_losses))]
 impl<'a> Kept<'a> {
     ghost use Rattle.bolt_recover.specs.Private.KeptMembers.{kept_file, kept_left, kept_lost, kept_meta, kept_path, kept_work};
+
+    /// All that is recovered of a file whose trees are sound under this meta; `None` if they aren't.
+    pub fn of_sound(alloc: Global, file: &'a [u8], meta: Meta) -> Result<Option<Kept<'a>>, NoMemory>
+        requires { 0 < meta.page_size }
+        ensures file { IfOk result (λ kept. IfSome kept (λ kept. kept_file kept ≡ file.now)) }
+        ensures meta { IfOk result (λ kept. IfSome kept (λ kept. kept_meta kept ≡ meta)) }
+        ensures all { IfOk result (λ kept. IfSome kept (λ kept. ForRecovered file.now meta (λ listing. kept_left kept listing ≡ listing))) }
+        ensures path { IfOk result (λ kept. IfSome kept (λ kept. kept_path kept ≡ [])) }
+        ensures root { IfOk result (λ kept. IfSome kept (λ _. KeepsRoot file.now meta)) }
+    {
+        match check_under(alloc, file, meta) {
+            Ok(checked) => Ok(Some(Kept::Sound(Walk::new(alloc, checked)))),
+            Err(CheckFault::Memory) => Err(NoMemory),
+            Err(_) => Ok(None),
+        }
+    }
 
     /// Returns the first member that is left, or `None` if nothing is left.
     pub fn next(&mut self) -> Result<Option<Item<'a>>, NoMemory>
@@ -50,6 +69,7 @@ impl<'a> Kept<'a> {
     {
         match self {
             Kept::Recovery(recovery) => recovery.next(),
+            Kept::Sound(walk) => walk.next(),
             Kept::Nothing(_) => Ok(None),
         }
     }
@@ -60,6 +80,7 @@ impl<'a> Kept<'a> {
     {
         match self {
             Kept::Recovery(recovery) => recovery.path(),
+            Kept::Sound(walk) => walk.path(),
             Kept::Nothing(_) => &[],
         }
     }
@@ -70,18 +91,23 @@ impl<'a> Kept<'a> {
     {
         match self {
             Kept::Recovery(recovery) => Lost::Parts(recovery.losses()),
+            Kept::Sound(_) => Lost::Parts(&[]),
             Kept::Nothing(root) => Lost::Everything(root.finding),
         }
     }
 
     /// Begins again before the first member.
-    pub fn restart(&mut self) -> Result<(), NoMemory>
+    pub fn restart(&mut self, alloc: Global) -> Result<(), NoMemory>
         ensures file { kept_file self.new ≡ kept_file self.old }
         ensures meta { kept_meta self.new ≡ kept_meta self.old }
         ensures all { OnOk result (ForRecovered (kept_file self.old) (kept_meta self.old) (λ listing. kept_left self.new listing ≡ listing)) }
     {
         match self {
             Kept::Recovery(recovery) => recovery.restart(),
+            Kept::Sound(walk) => {
+                *walk = Walk::new(alloc, walk.checked());
+                Ok(())
+            }
             Kept::Nothing(_) => Ok(()),
         }
     }

@@ -1,12 +1,17 @@
 -- The listing of a checked file is the one that is computed, and a walk has fewer members of it left after it returned one.
-use Rattle.std.proofs.Common.{◌≡◌, ◌<◌, List, ◌∷◌, length, ap, arith}
+use Rattle.std.proofs.Common.{◌≡◌, ◌<◌, Err, List, None, Ok, Option, Result, Some, ◌∷◌, length, ap, arith}
+use Rattle.std.specs.Option.{option_map}
+use Rattle.std.specs.Prelude.{IfOk, IfSome}
 use Rattle.std.proofs.Math.Logic.{∥∥₁_elim, ∥∥₁_map}
 use Rattle.std.proofs.Props.{props}
 use Rattle.bolt_check.proofs.CheckedLemmas.{checked_trees}
 use Rattle.bolt_check.specs.CheckedFiles.{bytes_of, meta_of}
 use Rattle.bolt_check.specs.declared.checked_file.Checked.{Checked}
 use Rattle.bolt_tree.specs.Listing.{IsListing, Member}
-use Rattle.bolt_tree.specs.Walks.{left_of, walk_checked}
+use Rattle.bolt_tree.specs.FileListings.{ForListing}
+use Rattle.bolt_tree.specs.ShownEntries.{item_view}
+use Rattle.bolt_tree.specs.Walks.{GivesNext, left_of, walk_checked, walk_path}
+use Rattle.bolt_tree.specs.declared.entry.Item.{Item}
 use Rattle.bolt_tree.specs.WalksLeft.{left_number, the_listing}
 use Rattle.bolt_tree.specs.declared.walk.Walk.{Walk}
 use Rattle.bolt_tree.proofs.Existing.{is_listing}
@@ -22,3 +27,10 @@ number_falls old new member file given =
     ∥∥₁_elim (is_the_listing (walk_checked old)) (hlevel props) (λ is. let n = ap length (given (the_listing (walk_checked old)) is) in omega (arith, n)) in
     let same = ap (λ (c : Checked). length (left_of new (the_listing c))) file in
     omega (arith, less, same)
+
+pub walk_falls : (old new : Walk) {E : Type 0} (result : Result (Option Item) E) → walk_checked new ≡ walk_checked old
+    → IfOk result (λ given. ForListing (walk_checked old) (λ listing. GivesNext (left_of old listing) (left_of new listing) (walk_path new) (option_map item_view given)))
+    → IfOk result (λ given. IfSome given (λ _. left_number new < left_number old))
+walk_falls old new (Ok (Some item)) file given = number_falls old new (walk_path new, item_view item) file given
+walk_falls old new (Ok None) file given = tt
+walk_falls old new (Err e) file given = tt

@@ -8,6 +8,7 @@ use Rattle.bolt_tree.specs.WalksLeft.{the_listing}
 use Rattle.bolt_bulk.proofs.laws.a_walk_is_whole.Goals as goal
 
 pub returns : goal.returns
+unfolding bytes_of
 returns c =
     let checked = walk_checked c.args.walk.now in
     record {
@@ -15,5 +16,5 @@ returns c =
       all = c.requires;
       one = λ listing lists.
           ∥∥₁_map (checked_trees checked) (λ trees.
-          c.a_files_listing_is_of_one_tree.ensures (bytes_of checked) (meta_of checked) listing (rw (c.bytes.ensures, c.checked-checked.ensures) at c.are_bytes.ensures) trees lists);
+          c.a_files_listing_is_of_one_tree.ensures (bytes_of checked) (meta_of checked) listing checked.of_bytes trees lists);
     }

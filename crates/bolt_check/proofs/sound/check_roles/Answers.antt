@@ -21,11 +21,11 @@ test_accounts-requires-clause-wide c =
     let wide = table_wide c.args.file.now c.in_ok-meta.meta c.in_ok-table.table.items c.in_ok-table.ensures.clean c.in_ok-table.ensures.room in
     omega (arith, same, wide)
 
-pub invariant_of-checked : goal.invariant_of-checked
-invariant_of-checked c =
+pub invariant_of-checked-clause-sound : goal.invariant_of-checked-clause-sound
+invariant_of-checked-clause-sound c =
     let right = rw c.deref_mut.ensures.value at c.in_ok-findings.ensures.right in
     let empty = no_items c.in_ok-findings.findings.items (grind (arith, common_steps, c.is_empty.ensures, c.if-not-is_empty.false)) in
-    record { sound = merely (tested_of c.args.file.now c.in_ok-meta.field-0-0 c.in_ok-meta.meta c.in_ok-table.table.items c.in_ok-meta.ensures.chosen c.in_ok-table.ensures.clean c.in_ok-table.ensures.covered (right empty)) }
+    merely (tested_of c.args.file.now c.in_ok-meta.field-0-0 c.in_ok-meta.meta c.in_ok-table.table.items c.in_ok-meta.ensures.chosen c.in_ok-table.ensures.clean c.in_ok-table.ensures.covered (right empty))
 
 pub invariant_of-result : goal.invariant_of-result
 invariant_of-result c =

@@ -6,13 +6,11 @@ use Rattle.bolt_check.specs.Nodes.{node_at}
 use Rattle.bolt_check.proofs.Shaping.{shape_of}
 use Rattle.bolt_check.proofs.sound.check_under.Goals as goal
 
-pub invariant_of-result : goal.invariant_of-result
-invariant_of-result c = record {
-  sound = merely (record {
-    trees = shape_of (node_at c.args.file.now c.args.meta) c.args.meta.root c.in_ok-search.ensures.clean;
-    whole = λ tested. absurd (false≢true tested);
-  });
-}
+pub invariant_of-result-clause-sound : goal.invariant_of-result-clause-sound
+invariant_of-result-clause-sound c = merely (record {
+  trees = shape_of (node_at c.args.file.now c.args.meta) c.args.meta.root c.in_ok-search.ensures.clean;
+  whole = λ tested. absurd (false≢true tested);
+})
 
 pub returns-clause-bytes : goal.returns-clause-bytes
 unfolding bytes_of

@@ -11,6 +11,10 @@ use Rattle.bolt_recover.specs.JoinRefusals.{IsJoinRefusal}
 use Rattle.bolt_recover.specs.Recovered.{ForRecovered}
 use Rattle.bolt_recover.proofs.joined.Joined.new.Goals as goal
 
+pub returns-in-Some-clause-all : goal.returns-in-Some-clause-all
+returns-in-Some-clause-all c = subst₂ (λ (f : List ℕ) (m : Meta). (listing : List Member) → IsJoined f m listing → joined_left c.of.result listing ≡ listing)
+    (rw c.in-Some.is at c.in_ok-kept.ensures.file) (rw c.in-Some.is at c.in_ok-kept.ensures.meta) c.of.ensures.all
+
 pub returns-in-Ok-clause-all : goal.returns-in-Ok-clause-all
 returns-in-Ok-clause-all c = subst₂ (λ (f : List ℕ) (m : Meta). IfOk c.beside.result (λ joined. (listing : List Member) → IsJoined f m listing → joined_left joined listing ≡ listing))
     c.in-Ok.ensures.file c.in-Ok.ensures.meta c.beside.ensures.all

@@ -1,7 +1,10 @@
--- Nothing is recovered if the root page is lost.
-use Rattle.std.proofs.Common.{sym}
+-- Nothing is recovered if the root page is lost. What sound trees list is recovered.
+use Rattle.std.proofs.Common.{List, sym}
 use Rattle.std.proofs.Math.Logic.{∥∥₁_elim}
 use Rattle.std.proofs.Props.{props}
+use Rattle.bolt_tree.specs.Listing.{Member}
+use Rattle.bolt_tree.specs.Walks.{left_of, walk_checked}
+use Rattle.bolt_recover.proofs.SoundWalks.{same_left}
 use Rattle.bolt_recover.proofs.FoundAll.{nothing_recovered}
 use Rattle.bolt_recover.proofs.kept.Kept.restart.Goals as goal
 
@@ -9,3 +12,6 @@ pub returns-in-Nothing-clause-all : goal.returns-in-Nothing-clause-all
 returns-in-Nothing-clause-all c = rw c.in-Nothing.is (λ listing recovered.
     let root = c.in-Nothing.field-0 in
     ∥∥₁_elim root.lost (hlevel props) (λ lost. sym (nothing_recovered root.file.now root.meta root.finding lost listing recovered)))
+
+pub returns-in-Sound-clause-all : goal.returns-in-Sound-clause-all
+returns-in-Sound-clause-all c = rw c.in-Sound.is (same_left (walk_checked c.in-Sound.walk) (left_of c.new.result) (λ (listing : List Member). listing) (rw c.checked.ensures at c.new.ensures.all))

@@ -1,0 +1,64 @@
+-- The walk over sound trees returns what is recovered of them, and nothing of them is lost.
+use Rattle.std.proofs.Common.{◌≡◌, ◌∙◌, ℕ, Err, IfOk, List, Ok, OnErr, Option, Result, [], inl, refl, sym}
+use Rattle.std.proofs.Math.Logic.{∥∥₁_elim, ∥∥₁_map}
+use Rattle.std.proofs.Props.{props}
+use Rattle.std.specs.Option.{option_map}
+use Rattle.bolt_format.specs.declared.meta.Meta.{Meta}
+use Rattle.bolt_check.proofs.CheckedLemmas.{checked_trees}
+use Rattle.bolt_check.proofs.Judging.{passes_fewer}
+use Rattle.bolt_check.proofs.Lawful.{shape_passes}
+use Rattle.bolt_check.specs.CheckedFiles.{bytes_of, meta_of}
+use Rattle.bolt_check.specs.Findings.{IsClaimedBefore, IsMetaPage}
+use Rattle.bolt_check.specs.Nodes.{node_at}
+use Rattle.bolt_check.specs.Sound.{HasSoundTrees}
+use Rattle.bolt_check.specs.Ways.{At_page, reached, root_spot}
+use Rattle.bolt_check.specs.declared.checked_file.Checked.{Checked}
+use Rattle.bolt_tree.specs.FileListings.{ForListing}
+use Rattle.bolt_tree.specs.Listing.{IsListing, Member}
+use Rattle.bolt_tree.specs.ShownEntries.{item_view}
+use Rattle.bolt_tree.specs.Walks.{GivesNext, left_of, walk_checked, walk_path}
+use Rattle.bolt_tree.specs.declared.entry.Item.{Item}
+use Rattle.bolt_tree.specs.declared.walk.Walk.{Walk}
+use Rattle.bolt_recover.specs.Losses.{AreLosses, LossView, parts}
+use Rattle.bolt_recover.specs.Lost.{IsAllLost}
+use Rattle.bolt_recover.specs.Recovered.{ForRecovered, IsRecovered}
+use Rattle.bolt_recover.specs.Refusals.{KeepsRoot}
+use Rattle.bolt_recover.proofs.JoinSteps.{gives_prop}
+use Rattle.bolt_recover.proofs.LostWays.{no_losses}
+use Rattle.bolt_recover.proofs.SoundListing.{sound_listing}
+use Rattle.bolt_recover.proofs.SoundSurveys.{none_lost}
+
+pub no_loss : (file : List ℕ) (meta : Meta) (losses : List LossView) → HasSoundTrees file meta → AreLosses file meta losses → losses ≡ []
+no_loss file meta losses trees (survey, is, are) =
+    are ∙ no_losses file meta survey (none_lost (node_at file meta) (reached (node_at file meta) meta.root) survey (shape_passes (node_at file meta) meta.root trees) is)
+
+pub keeps_root : (file : List ℕ) (meta : Meta) → HasSoundTrees file meta → KeepsRoot file meta
+keeps_root file meta trees =
+    let nodes = node_at file meta in
+    let root = At_page (root_spot meta.root) in
+    passes_fewer nodes (IsClaimedBefore nodes (reached nodes meta.root) IsMetaPage []) IsMetaPage root (λ n is. inl is) ((shape_passes nodes meta.root trees).passes [] root refl)
+
+pub all_lost : (checked : Checked) → IsAllLost (bytes_of checked) (meta_of checked) (parts [])
+all_lost checked =
+    let trees = checked_trees checked in (
+      ∥∥₁_map trees (keeps_root (bytes_of checked) (meta_of checked)),
+      λ losses are. ∥∥₁_elim trees (hlevel props) (λ sound. sym (no_loss (bytes_of checked) (meta_of checked) losses sound are)),
+    )
+
+module _ (checked : Checked) where
+  is_walked : (listing : List Member) → IsRecovered (bytes_of checked) (meta_of checked) listing → ∥ IsListing (bytes_of checked) (meta_of checked) listing ∥₁
+  is_walked listing recovered = ∥∥₁_map (checked_trees checked) (λ trees. sound_listing (bytes_of checked) (meta_of checked) listing trees recovered)
+
+  pub same_left : (left other : List Member → List Member) → ForListing checked (λ listing. left listing ≡ other listing) → ForRecovered (bytes_of checked) (meta_of checked) (λ listing. left listing ≡ other listing)
+  same_left left other same = λ listing is. ∥∥₁_elim (is_walked listing is) (hlevel props) (same listing)
+
+pub walk_gives : (old new : Walk) {E : Type 0} (result : Result (Option Item) E)
+    → IfOk result (λ given. ForListing (walk_checked old) (λ listing. GivesNext (left_of old listing) (left_of new listing) (walk_path new) (option_map item_view given)))
+    → IfOk result (λ given. ForRecovered (bytes_of (walk_checked old)) (meta_of (walk_checked old)) (λ listing. GivesNext (left_of old listing) (left_of new listing) (walk_path new) (option_map item_view given)))
+walk_gives old new (Ok given) gives = λ listing is. ∥∥₁_elim (is_walked (walk_checked old) listing is) (gives_prop (left_of old listing) (left_of new listing) (walk_path new) given) (gives listing)
+walk_gives old new (Err e) gives = tt
+
+pub walk_same : (old new : Walk) {X E : Type 0} (result : Result X E) → OnErr result (ForListing (walk_checked old) (λ listing. left_of new listing ≡ left_of old listing))
+    → OnErr result (ForRecovered (bytes_of (walk_checked old)) (meta_of (walk_checked old)) (λ listing. left_of new listing ≡ left_of old listing))
+walk_same old new (Ok x) same = tt
+walk_same old new (Err e) same = same_left (walk_checked old) (left_of new) (left_of old) same
