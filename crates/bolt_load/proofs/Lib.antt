@@ -12,6 +12,7 @@ pub mod NextLines
 pub mod OpenTests
 pub mod PathLemmas
 pub mod PlacedLines
+pub mod PlainLines
 pub mod PushedParts
 pub mod ReadTexts
 pub mod StoredTexts

@@ -5,5 +5,6 @@ pub mod LineFaults
 pub mod LineMembers
 pub mod Lines
 pub mod Numbers
+pub mod PlainTexts
 pub mod Private
 pub mod ShownMembers

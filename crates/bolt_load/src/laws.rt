@@ -10,6 +10,7 @@ ghost use Rattle.bolt_load.specs.ByteMembers.{AreOfBytes};
 ghost use Rattle.bolt_load.specs.LineFaults.{IsFirstFault, IsListingText};
 ghost use Rattle.bolt_load.specs.LineMembers.{text_members};
 ghost use Rattle.bolt_load.specs.Lines.{Text};
+ghost use Rattle.bolt_load.specs.PlainTexts.{plain_text};
 ghost use Rattle.bolt_load.specs.declared.fault.LineFault.{LineFault};
 
 use bolt_layout::laws::{a_fit_listing_is_of_one_tree, held_members_fit};
@@ -40,4 +41,10 @@ pub fn a_files_listing_is_of_bytes()
 pub fn a_listings_text_is_read_back()
     ensures right { (listing : List Member) → IsOfOneTree listing → Rises member_cmp listing → AreOfBytes listing → IsListingText (listing_text listing) }
     ensures listing { (listing : List Member) → IsOfOneTree listing → Rises member_cmp listing → AreOfBytes listing → text_members (listing_text listing) ≡ listing }
+{}
+
+/// A text without a fault is the text of what it tells, but for the case of its letters, leading zeros of
+/// its numbers and the line feed at its end.
+pub fn a_text_is_that_of_its_listing()
+    ensures { (text : Text) → IsListingText text → plain_text text ≡ listing_text (text_members text) }
 {}

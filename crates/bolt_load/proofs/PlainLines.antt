@@ -1,0 +1,179 @@
+-- A text without a fault, written plainly, is the text of the listing that it tells.
+use Rattle.std.proofs.Common.{unwrap_or, subst, ◌≡◌, ◌∙◌, ◌<◌, ◌+◌, ◌==◌, ◌&&◌, ◌*◌, ◌/◌, ◌%◌, ℕ, zero, suc, Bool, true, List, [], ◌∷◌, ◌++◌, Option, Some, None, Result, Ok, Err, codes, length, map, inl, inr, refl, sym, ap, ap₂, arith, append_assoc}
+use Rattle.std.specs.Char.{to_ascii_lowercase}
+use Rattle.std.specs.Fmt.{decimal}
+use Rattle.std.specs.List.{join_with_byte, slice_split}
+use Rattle.std.specs.Prelude.{flat_map, if◌then◌else◌, nat_lt, option_and_then, option_map, slice_index}
+use Rattle.std.specs.Result.{result_ok, result_unwrap_or}
+use Rattle.std.specs.Str.{bytes_eq, str_to_ascii_lowercase}
+use Rattle.std.proofs.lemmas.Bool.{and_parts, cases_Bool, cases_lt}
+use Rattle.std.proofs.lemmas.Bool.Decides.{nat_tests}
+use Rattle.std.proofs.lemmas.List.{map-append}
+use Rattle.std.proofs.lemmas.List.Splits.{join_with_byte-slice_split}
+use Rattle.std.proofs.lemmas.Slice.Eq.{bytes_eq-Decides}
+use Rattle.hex.specs.Hex.{decode_pairs, digit_or_error, encode_lower, encode_with, hex_digit_value, lower_digits, pair_value, value_at, ◌>>=◌}
+use Rattle.hex.specs.declared.error.FromHexError.{FromHexError}
+use Rattle.bolt_report.specs.Lines.{line}
+use Rattle.bolt_report.specs.ListLines.{hex_path, item_end, listing_text, member_line}
+use Rattle.bolt_report.specs.PageLines.{value_end}
+use Rattle.bolt_tree.specs.Entries.{Bucket, Item, Value}
+use Rattle.bolt_tree.specs.Listing.{Member}
+use Rattle.bolt_tree.specs.Paths.{Path}
+use Rattle.bolt_load.specs.HexPaths.{hex_bytes_in, hex_path_in, part_in, parts_in}
+use Rattle.bolt_load.specs.LineFaults.{IsListingText, RightAfter, place_fault, shape_fault}
+use Rattle.bolt_load.specs.LineMembers.{item_in, line_member, member_in, members_in, text_members}
+use Rattle.bolt_load.specs.Lines.{Text, lines_of}
+use Rattle.bolt_load.specs.Numbers.{number_in}
+use Rattle.bolt_load.specs.PlainTexts.{plain_line, plain_text, plain_word, plain_words}
+use Rattle.bolt_load.proofs.DecimalNumbers.{number_is}
+use Rattle.bolt_load.proofs.DecodedLines.{shaped_member}
+use Rattle.bolt_load.proofs.NextLines.{members_first, parts_of}
+use Rattle.bolt_load.proofs.PathLemmas.{part_is, with_some}
+use Rattle.bolt_load.proofs.TextTrees.{or_parts_none}
+
+-- ---- digits in lower case
+
+abbrev lower : Text → Text
+lower = str_to_ascii_lowercase
+
+-- the digit at a place of the table
+abbrev place_digit : ℕ → ℕ
+place_digit d = if nat_lt d 10 then d + 48 else d + 87
+
+abbrev all_places : ℕ → Bool
+all_places zero = true
+all_places (suc n) = (slice_index lower_digits n == place_digit n) && all_places n
+
+place_is : (n d : ℕ) → all_places n ≡ true → d < n → (slice_index lower_digits d == place_digit d) ≡ true
+place_is zero d all below = absurd (omega (arith, below))
+place_is (suc n) d all below =
+    let parts = and_parts (slice_index lower_digits n == place_digit n) (all_places n) all in
+    elim (cases_lt d n) [
+      | inl lower ↦ place_is n d parts.1 lower
+      | inr last ↦ let same : d ≡ n = omega (arith, below, last) in rw same parts.0
+    ]
+
+digit_lower : (c v : ℕ) → hex_digit_value c ≡ Some v → to_ascii_lowercase c ≡ slice_index lower_digits v
+digit_lower c v is =
+    let small : v < 16 = grind (arith, is) in
+    let at = place_is 16 v refl small in
+    grind (arith, nat_tests, is, at)
+
+digit_of : (c i : ℕ) (found : Option ℕ) (v : ℕ) → digit_or_error c i found ≡ Ok v → found ≡ Some v
+digit_of c i (Some w) v is = ap Some (ap (λ r. result_unwrap_or r 0) is)
+digit_of c i None v is = cc is
+
+small_digit : (c v : ℕ) → hex_digit_value c ≡ Some v → v < 16
+small_digit c v is = grind (arith, is)
+
+bind_ok : {A B : Type 0} (r : Result A FromHexError) (f : A → Result B FromHexError) (y : B) → (r >>= f) ≡ Ok y → (x : A) × (r ≡ Ok x) × (f x ≡ Ok y)
+bind_ok (Ok x) f y is = (x, refl, is)
+bind_ok (Err e) f y is = cc is
+
+pairs_lower : (i : ℕ) (word bytes : Text) → decode_pairs i word ≡ Ok bytes → lower word ≡ encode_lower bytes
+unfolding decode_pairs encode_with
+pairs_lower i [] bytes is = let none : [] ≡ bytes = ap (λ r. result_unwrap_or r []) is in ap encode_lower none
+pairs_lower i (digit ∷ []) bytes is = cc is
+pairs_lower i (high ∷ low ∷ rest) bytes is =
+    let pair = bind_ok (pair_value high low i) _ bytes is in
+    let first = bind_ok (value_at high i) _ pair.0 pair.1 in
+    let second = bind_ok (value_at low (i + 1)) _ pair.0 first.2 in
+    let others = bind_ok (decode_pairs (i + 2) rest) _ bytes pair.2 in
+    let whole : pair.0 ∷ others.0 ≡ bytes = ap (λ r. result_unwrap_or r []) others.2 in
+    let byte : first.0 * 16 + second.0 ≡ pair.0 = ap (λ r. result_unwrap_or r 0) second.2 in
+    let h = digit_of high i (hex_digit_value high) first.0 first.1 in
+    let l = digit_of low (i + 1) (hex_digit_value low) second.0 second.1 in
+    let small = small_digit low second.0 l in
+    let upper_is : first.0 ≡ pair.0 / 16 = omega (arith, byte, small) in
+    let lower_is : second.0 ≡ pair.0 % 16 = omega (arith, byte, small) in
+    ap₂ (λ (d : ℕ) (more : Text). d ∷ more) (digit_lower high first.0 h ∙ ap (slice_index lower_digits) upper_is)
+    (ap₂ (λ (d : ℕ) (more : Text). d ∷ more) (digit_lower low second.0 l ∙ ap (slice_index lower_digits) lower_is) (pairs_lower (i + 2) rest others.0 others.1))
+    ∙ ap encode_lower whole
+
+hex_lower : (word bytes : Text) → hex_bytes_in word ≡ Some bytes → lower word ≡ encode_lower bytes
+hex_lower word bytes is = elim (cases_Bool (length word % 2 == 1)) [
+  | inl odd ↦ absurd (cc (rw odd at is))
+  | inr even ↦ pairs_lower 0 word bytes (ok_of (decode_pairs 0 word) bytes (rw even at is))
+]
+  where
+    ok_of : (found : Result Text FromHexError) (bytes : Text) → result_ok found ≡ Some bytes → found ≡ Ok bytes
+    ok_of (Ok found) bytes is = ap Ok (ap (λ (o : Option Text). unwrap_or o []) is)
+    ok_of (Err e) bytes is = cc is
+
+-- ---- paths
+
+parts_lower : (words : List Text) (path : Path) → parts_in words ≡ Some path → map lower words ≡ map encode_lower path
+parts_lower [] path is = let none : [] ≡ path = (let f : Some [] ≡ Some path = is in cc) in ap (map encode_lower) none
+parts_lower (word ∷ words) path is =
+    let found = with_some (part_in word) (parts_in words) path is in
+    ap₂ (λ (d : Text) (more : List Text). d ∷ more) (hex_lower word found.0 (part_is word found.0 found.2)) (parts_lower words found.1 found.3) ∙ ap (map encode_lower) (sym found.4)
+
+lower_append : (xs ys : Text) → lower (xs ++ ys) ≡ lower xs ++ lower ys
+lower_append xs ys = map-append to_ascii_lowercase xs ys
+
+join_lower : (words : List Text) → lower (join_with_byte 47 words) ≡ join_with_byte 47 (map lower words)
+join_lower [] = refl
+join_lower (word ∷ []) = refl
+join_lower (word ∷ next ∷ words) = lower_append word (47 ∷ join_with_byte 47 (next ∷ words)) ∙ ap (λ rest. lower word ++ 47 ∷ rest) (join_lower (next ∷ words))
+
+path_lower : (word : Text) (path : Path) → hex_path_in word ≡ Some path → lower word ≡ hex_path path
+unfolding hex_path_in
+path_lower word path is =
+    ap lower (sym (join_with_byte-slice_split 47 word)) ∙ join_lower (slice_split (λ byte. byte == 47) word)
+    ∙ ap (join_with_byte 47) (parts_lower (slice_split (λ byte. byte == 47) word) path is)
+
+-- ---- lines
+
+value_plain : (mark word : Text) (found : Option Text) (item : Item) → mark ≡ codes "=" → hex_bytes_in word ≡ found → option_map Value found ≡ Some item
+    → 32 ∷ mark ++ 32 ∷ plain_word mark word ++ 10 ∷ [] ≡ item_end item
+unfolding item_end value_end
+value_plain mark word None item sign found is = cc is
+value_plain mark word (Some bytes) item sign found is =
+    let same : Value bytes ≡ item = (let f : Some (Value bytes) ≡ Some item = is in cc) in
+    subst (λ (i : Item). 32 ∷ mark ++ 32 ∷ plain_word mark word ++ 10 ∷ [] ≡ item_end i) same
+    (rw sign (ap (λ digits. codes " = " ++ digits ++ 10 ∷ []) (hex_lower word bytes found)))
+
+number_plain : (mark word : Text) (found : Option ℕ) (item : Item) → mark ≡ codes "bucket" → number_in word ≡ found → option_map Bucket found ≡ Some item
+    → 32 ∷ mark ++ 32 ∷ plain_word mark word ++ 10 ∷ [] ≡ item_end item
+unfolding item_end
+number_plain mark word None item sign found is = cc is
+number_plain mark word (Some n) item sign found is =
+    let same : Bucket n ≡ item = (let f : Some (Bucket n) ≡ Some item = is in cc) in
+    subst (λ (i : Item). 32 ∷ mark ++ 32 ∷ plain_word mark word ++ 10 ∷ [] ≡ item_end i) same
+    (rw sign (ap (λ n. codes " bucket " ++ decimal n ++ 10 ∷ []) (number_is word n found).1))
+
+item_plain : (mark word : Text) (item : Item) → item_in mark word ≡ Some item → 32 ∷ mark ++ 32 ∷ plain_word mark word ++ 10 ∷ [] ≡ item_end item
+item_plain mark word item is = elim (cases_Bool (bytes_eq mark (codes "="))) [
+  | inl value ↦ value_plain mark word (hex_bytes_in word) item ((bytes_eq-Decides mark (codes "=")).0 value) refl (rw value at is)
+  | inr other ↦ elim (cases_Bool (bytes_eq mark (codes "bucket"))) [
+    | inl bucket ↦ number_plain mark word (number_in word) item ((bytes_eq-Decides mark (codes "bucket")).0 bucket) refl (rw (other, bucket) at is)
+    | inr none ↦ absurd (cc (rw (other, none) at is))
+  ]
+]
+
+words_plain : (words : List Text) (member : Member) → member_in words ≡ Some member → join_with_byte 32 (plain_words words) ++ 10 ∷ [] ≡ member_line member
+unfolding member_line
+words_plain [] member is = cc is
+words_plain (a ∷ []) member is = cc is
+words_plain (a ∷ b ∷ []) member is = cc is
+words_plain (a ∷ b ∷ c ∷ d ∷ more) member is = cc is
+words_plain (path ∷ mark ∷ word ∷ []) member is =
+    let both = parts_of (hex_path_in path) (item_in mark word) member is in
+    append_assoc (lower path) (32 ∷ mark ++ 32 ∷ plain_word mark word) (10 ∷ [])
+    ∙ ap₂ (λ (xs ys : Text). xs ++ ys) (path_lower path member.0 both.0)
+    (item_plain mark word member.1 both.1)
+
+line_plain : (line : Text) (member : Member) → line_member line ≡ Some member → plain_line line ≡ member_line member
+unfolding line_member plain_line
+line_plain line member is = words_plain (slice_split (λ byte. byte == 32) line) member is
+
+lines_plain : (lines : List Text) (before : List Member) → RightAfter before lines → flat_map plain_line lines ≡ listing_text (members_in lines)
+lines_plain [] before right = refl
+lines_plain (line ∷ lines) before right =
+    let shaped = (or_parts_none (shape_fault line) (option_and_then (place_fault before) (line_member line)) right.0).0 in
+    let told = shaped_member line shaped in
+    ap₂ (λ (xs ys : Text). xs ++ ys) (line_plain line told.0 told.1) (lines_plain lines (before ++ members_in (line ∷ [])) right.1)
+    ∙ ap listing_text (sym (members_first line lines told.0 told.1))
+
+pub text_plain : (text : Text) → IsListingText text → plain_text text ≡ listing_text (text_members text)
+text_plain text right = lines_plain (lines_of text) [] right
