@@ -7,6 +7,8 @@ use Rattle.std.specs.List.{Contains, list_any}
 use Rattle.std.specs.Ordering.{is_lt}
 use Rattle.std.specs.Str.{bytes_eq}
 use Rattle.std.specs.declared.cmp.Ordering.TheVariants.{Less}
+use Rattle.std.proofs.Math.Bool.{or_assoc}
+use Rattle.std.proofs.lemmas.Bool.{and_parts, cond-false, cond-true, or_cases}
 use Rattle.std.proofs.lemmas.Slice.Eq.{bytes_eq-Decides, slice_eq-Decides}
 use Rattle.bolt_tree.specs.Listing.{Member, member_cmp, rest_from}
 use Rattle.bolt_tree.specs.ListingParts.{begins_with, is_bucket, is_bucket_at, part_below}
@@ -18,86 +20,55 @@ use Rattle.bolt_tree.proofs.PartLemmas.{begins_after}
 use Rattle.bolt_report.specs.ListForms.{list_line, listing_lines}
 use Rattle.bolt_report.specs.declared.form.ListForm.{ListForm}
 
--- one of the two holds
-either_of : (a b : Bool) → (a || b) ≡ true → (a ≡ true) ⊎ (b ≡ true)
-either_of true b e = inl refl
-either_of false b e = inr e
-
-first_of_both : (a b : Bool) → (a && b) ≡ true → a ≡ true
-first_of_both true b e = refl
-first_of_both false b e = e
-
-or_later : (a b c : Bool) → (a || (b || c)) ≡ ((a || b) || c)
-or_later true b c = refl
-or_later false b c = refl
-
 module _ (below : Path) where
   -- the part of what is left, if the bucket was found or is among it
   abbrev pub left_part : Bool → List Member → List Member
   left_part found members = if found || list_any (is_bucket_at below) members then part_below below members else []
 
   at_path : (m : Member) → is_bucket_at below m ≡ true → m.0 ≡ below
-  at_path m e = (slice_eq-Decides bytes_eq-Decides m.0 below (pointwise bytes_eq m.0 below) refl).0 (first_of_both (pointwise bytes_eq m.0 below) (is_bucket m.1) e)
+  at_path m e = (slice_eq-Decides bytes_eq-Decides m.0 below (pointwise bytes_eq m.0 below) refl).0 (and_parts (pointwise bytes_eq m.0 below) (is_bucket m.1) e).0
 
   -- what comes before the bucket doesn't begin with its path
   apart_before : (path : Path) (ms : List Member) → ((y : Member) → Contains ms y → path_cmp path y.0 ≡ Less) → list_any (is_bucket_at below) ms ≡ true
       → begins_with below path ≡ false
-  apart_before path [] less any = absurd (let f : false ≡ true = any in cc)
+  apart_before path [] less any = cc
   apart_before path (m ∷ ms) less any =
-      elim (either_of (is_bucket_at below m) (list_any (is_bucket_at below) ms) any) [
+      elim (or_cases (is_bucket_at below m) (list_any (is_bucket_at below) ms) any) [
         | inl here ↦ not_true (begins_with below path) (λ begins.
             let before : path_cmp path below ≡ Less = ap (path_cmp path) (sym (at_path m here)) ∙ less m (contains_head m ms) in
             let g : true ≡ false = sym (ap is_lt before) ∙ begins_after below path begins in cc)
         | inr later ↦ apart_before path ms (λ y has. less y (contains_tail m y ms has)) later
       ]
 
-  part_over : (m : Member) (ms : List Member) → begins_with below m.0 ≡ false → part_below below (m ∷ ms) ≡ part_below below ms
-  part_over m ms apart = ap (λ (b : Bool). cond b (m ∷ part_below below ms) (part_below below ms)) apart
-
-  part_with : (m : Member) (ms : List Member) → begins_with below m.0 ≡ true → part_below below (m ∷ ms) ≡ m ∷ part_below below ms
-  part_with m ms begins = ap (λ (b : Bool). cond b (m ∷ part_below below ms) (part_below below ms)) begins
-
   by_later : (m : Member) (ms : List Member) (any : Bool) → list_any (is_bucket_at below) ms ≡ any → Rises member_cmp (m ∷ ms)
       → (if any then part_below below (m ∷ ms) else []) ≡ (if any then part_below below ms else [])
-  by_later m ms true e rises = part_over m ms (apart_before m.0 ms rises.0 e)
+  by_later m ms true e rises = cond-false _ _ _ (apart_before m.0 ms rises.0 e)
   by_later m ms false e rises = refl
 
   module _ (found now : Bool) (m : Member) (ms : List Member) (is : now ≡ (found || is_bucket_at below m)) where
     pub has_next : (found || list_any (is_bucket_at below) (m ∷ ms)) ≡ (now || list_any (is_bucket_at below) ms)
-    has_next = or_later found (is_bucket_at below m) (list_any (is_bucket_at below) ms) ∙ ap (λ (b : Bool). b || list_any (is_bucket_at below) ms) (sym is)
-
-    left_by_next : (b : Bool) → now ≡ b → left_part found (m ∷ ms) ≡ (if b || list_any (is_bucket_at below) ms then part_below below (m ∷ ms) else [])
-    left_by_next b e = ap (λ (has : Bool). if has then part_below below (m ∷ ms) else []) (has_next ∙ ap (λ (f : Bool). f || list_any (is_bucket_at below) ms) e)
-
-    left_now : (b : Bool) → now ≡ b → left_part now ms ≡ (if b || list_any (is_bucket_at below) ms then part_below below ms else [])
-    left_now b e = ap (λ (f : Bool). if f || list_any (is_bucket_at below) ms then part_below below ms else []) e
+    has_next = rw (is, or_assoc)
 
     -- Before the bucket, nothing is written;
     pub before_bucket : now ≡ false → Rises member_cmp (m ∷ ms) → left_part found (m ∷ ms) ≡ left_part now ms
-    before_bucket e rises = left_by_next false e ∙ by_later m ms (list_any (is_bucket_at below) ms) refl rises ∙ sym (left_now false e)
+    before_bucket e rises = rw (has_next, e) (by_later m ms (list_any (is_bucket_at below) ms) refl rises)
 
     module _ (from : Path) where
-      over_by : (begins before : Bool) → begins_with below m.0 ≡ begins → is_lt (path_cmp m.0 from) ≡ before → (begins && not before) ≡ false
-          → rest_from from (part_below below (m ∷ ms)) ≡ rest_from from (part_below below ms)
-      over_by true true e h none = ap (rest_from from) (part_with m ms e) ∙ (rw h refl)
-      over_by true false e h none = absurd (let f : true ≡ false = none in cc)
-      over_by false before e h none = ap (rest_from from) (part_over m ms e)
+      kept_by : (begins before : Bool) → begins_with below m.0 ≡ begins → is_lt (path_cmp m.0 from) ≡ before → rest_from from (part_below below (m ∷ ms))
+          ≡ (if begins && not before then m ∷ rest_from from (part_below below ms) else rest_from from (part_below below ms))
+      kept_by true true e h = rw (e, h)
+      kept_by true false e h = rw (e, h)
+      kept_by false before e h = rw e
+
+      kept : rest_from from (part_below below (m ∷ ms)) ≡ (if begins_with below m.0 && not (is_lt (path_cmp m.0 from)) then m ∷ rest_from from (part_below below ms) else rest_from from (part_below below ms))
+      kept = kept_by (begins_with below m.0) (is_lt (path_cmp m.0 from)) refl refl
 
       -- from it on, nothing of a member that is not wanted,
       pub over_unwanted : now ≡ true → (begins_with below m.0 && not (is_lt (path_cmp m.0 from))) ≡ false
           → rest_from from (left_part found (m ∷ ms)) ≡ rest_from from (left_part now ms)
-      over_unwanted e none =
-          ap (rest_from from) (left_by_next true e) ∙ over_by (begins_with below m.0) (is_lt (path_cmp m.0 from)) refl refl none ∙ ap (rest_from from) (sym (left_now true e))
-
-      with_by : (begins before : Bool) → begins_with below m.0 ≡ begins → is_lt (path_cmp m.0 from) ≡ before → (begins && not before) ≡ true
-          → rest_from from (part_below below (m ∷ ms)) ≡ m ∷ rest_from from (part_below below ms)
-      with_by true false e h both = ap (rest_from from) (part_with m ms e) ∙ (rw h refl)
-      with_by true true e h both = absurd (let f : false ≡ true = both in cc)
-      with_by false before e h both = absurd (let f : false ≡ true = both in cc)
+      over_unwanted e none = rw (has_next, e) (kept ∙ cond-false _ _ _ none)
 
       -- and the line of one that is.
       pub with_wanted : (form : ListForm) → now ≡ true → (begins_with below m.0 && not (is_lt (path_cmp m.0 from))) ≡ true
           → listing_lines form (rest_from from (left_part found (m ∷ ms))) ≡ list_line form m ++ listing_lines form (rest_from from (left_part now ms))
-      with_wanted form e both =
-          ap (listing_lines form) (ap (rest_from from) (left_by_next true e) ∙ with_by (begins_with below m.0) (is_lt (path_cmp m.0 from)) refl refl both)
-          ∙ ap (λ (members : List Member). list_line form m ++ listing_lines form (rest_from from members)) (sym (left_now true e))
+      with_wanted form e both = rw (has_next, e) (ap (listing_lines form) (kept ∙ cond-true _ _ _ both))

@@ -1,4 +1,4 @@
--- The buckets among the first elements of a leaf, and the lines of found pages.
+-- The buckets among the first elements of a leaf.
 use Rattle.std.proofs.Common.{◌≡◌, ◌≢◌, ◌∙◌, ◌+◌, ◌<◌, ◌++◌, ℕ, Bool, true, false, List, [], ◌∷◌, Some, ap, arith, flat_map, length, map, refl, slice_get, subst, take}
 use Rattle.std.specs.Prelude.{cond}
 use Rattle.std.proofs.lemmas.List.Filters.{length-filter_more}
@@ -25,10 +25,6 @@ module _ (elements : List LeafElement) (i : ℕ) (e : LeafElement) (found : slic
 
   pub counts_none : (count : ℕ) → e.is_bucket ≡ false → count ≡ bucket_count (take i elements) → count ≡ bucket_count (take (i + 1) elements)
   counts_none count is before = let more = counted false is in omega (arith, more, before)
-
-pub found_lines : (found : List Found) → flat_map (λ (f : Found). found_line (found_view f)) found ≡ found_text (map found_view found)
-found_lines [] = refl
-found_lines (f ∷ found) = ap (λ (more : List ℕ). found_line (found_view f) ++ more) (found_lines found)
 
 nonempty : {X : Type 0} (xs : List X) → xs ≢ [] → 0 < length xs
 nonempty [] some = absurd (some refl)

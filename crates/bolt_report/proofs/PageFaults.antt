@@ -25,3 +25,6 @@ pub page_text_fault-bad : (file : List ℕ) (meta : Meta) (id : ℕ) (fault : Pa
 page_text_fault-bad file meta id fault e =
     ap (shown_fault (fault_of id (page_fault file meta id)) (fault_of id (freelist_fault file meta id))) (page_at-fault file meta id fault.number e.0) ∙ ap (fault_of id) e.0
     ∙ ap (λ page. Some (record { number = fault.number; page = page })) (sym e.1)
+
+-- for the search
+pub ruleset faults = (page_text_fault-bad)

@@ -1,8 +1,9 @@
 -- The rows of pages by their roles, and the free pages past the file's end.
-use Rattle.std.proofs.Common.{◌≡◌, ◌∙◌, ℕ, zero, suc, ◌+◌, ◌-◌, ◌<◌, ◌≤◌, true, List, Some, cond, length, ap, refl, slice_get, sym, arith}
+use Rattle.std.proofs.Common.{◌≡◌, ◌∙◌, ℕ, zero, suc, ◌+◌, ◌-◌, ◌<◌, ◌≤◌, true, List, Some, cond, length, min, ap, refl, slice_get, sym, arith}
 use Rattle.std.specs.Prelude.{count_by}
 use Rattle.std.specs.List.{range_with_len}
 use Rattle.std.proofs.Math.Logic.{∥∥₁_elim}
+use mathlib.Core.Sum.{⊎_set}
 use Rattle.std.proofs.Math.Nat.{mul-le-mul_right}
 use Rattle.std.proofs.Props.{props}
 use Rattle.std.proofs.lemmas.Grind.{div_ceil_times}
@@ -16,8 +17,7 @@ use Rattle.bolt_check.specs.declared.checked_file.Checked.{Checked}
 use Rattle.bolt_check.specs.declared.role.Role.{Role}
 use Rattle.bolt_check.specs.declared.role.Role.TheVariants as role
 use Rattle.bolt_check.proofs.RoleFacts.{one_role, past_is_free, size_positive, with_accounts}
-use Rattle.bolt_report.specs.PageMaps.{page_mark}
-use Rattle.bolt_report.specs.PageTables.{begun, is_free, page_row, pages_past}
+use Rattle.bolt_report.specs.PageTables.{begun, is_free, page_row, pages_in, pages_past}
 
 -- where each of these pages is free, as many are free as there are
 all_free : (roles : ℕ → Role) (from n : ℕ) → ((k : ℕ) → from ≤ k → k < from + n → roles k ≡ role.Free) → count_by (λ k. is_free (roles k)) (range_with_len from n) ≡ n
@@ -52,12 +52,12 @@ module _ (checked : Checked) (is : has_accounts checked ≡ true) where
       let more = mul-le-mul_right meta.page_size low in
       past_is_free file meta sound k (roles k) (are k (omega (arith, low, high))) (omega (arith, ends, more)))))
 
-  -- the row of a page whose role was found
-  pub same_row : (roles : ℕ → Role) → AreRoles file meta roles → (n : ℕ) (found : Role) → n < meta.high_water → ∥ HasRole file meta n found ∥₁ → page_row file meta n found ≡ page_row file meta n (roles n)
-  same_row roles are n found below has = with_accounts checked _ is (Prim.hlevel props) (λ sound. ∥∥₁_elim has (Prim.hlevel props) (λ h.
-      ap (page_row file meta n) (one_role file meta sound n found (roles n) h (are n below))))
+  -- a role that was found
+  pub same_role : (roles : ℕ → Role) → AreRoles file meta roles → (n : ℕ) (found : Role) → n < meta.high_water → ∥ HasRole file meta n found ∥₁ → found ≡ roles n
+  same_role roles are n found below has = with_accounts checked _ is (Prim.hlevel (props, ⊎_set)) (λ sound. ∥∥₁_elim has (Prim.hlevel (props, ⊎_set)) (λ h. one_role file meta sound n found (roles n) h (are n below)))
 
-  -- the character of a page whose role was found
-  pub same_mark : (roles : ℕ → Role) → AreRoles file meta roles → (n : ℕ) (found : Role) → n < meta.high_water → ∥ HasRole file meta n found ∥₁ → page_mark found ≡ page_mark (roles n)
-  same_mark roles are n found below has = with_accounts checked _ is (Prim.hlevel props) (λ sound. ∥∥₁_elim has (Prim.hlevel props) (λ h.
-      ap page_mark (one_role file meta sound n found (roles n) h (are n below))))
+  -- a page in the file: its place among these, and its row
+  pub next_row : (roles : ℕ → Role) → AreRoles file meta roles → (n : ℕ) (found : Role) → n < min (begun file meta) meta.high_water → ∥ HasRole file meta n found ∥₁
+      → (slice_get (pages_in file meta) n ≡ Some n) × (page_row file meta n found ≡ page_row file meta n (roles n))
+  next_row roles are n found below has =
+      (number_at_place (min (begun file meta) meta.high_water) n below, ap (page_row file meta n) (same_role roles are n found (omega (arith, below)) has))

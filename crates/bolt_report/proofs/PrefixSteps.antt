@@ -9,6 +9,7 @@ use Rattle.std.specs.Option.{option_map}
 use Rattle.std.specs.Prelude.{⊤, IfErr, IsErrAnd}
 use Rattle.std.proofs.lemmas.Grind.{flat_map-append}
 use Rattle.std.proofs.lemmas.List.{drop_all}
+use Rattle.std.proofs.lemmas.Option.{same_Some}
 use Rattle.bolt_format.specs.Elements.{LeafElement}
 use Rattle.bolt_format.specs.Endings as endings
 use Rattle.bolt_format.specs.Wrote.{Wrote}
@@ -32,6 +33,7 @@ use Rattle.bolt_tree.specs.declared.cursor.Cursor.{Cursor}
 use Rattle.bolt_tree.specs.declared.entry.Entry.{Entry}
 use Rattle.bolt_tree.proofs.AllEntries.{sorted_at}
 use Rattle.bolt_tree.proofs.CursorMoves.{none_past, not_below}
+use Rattle.bolt_tree.proofs.Leaving.{TheEntries, the_one}
 use Rattle.bolt_tree.proofs.Lists.{contains_head, contains_tail}
 use Rattle.bolt_tree.proofs.PagerLemmas.{counted_more}
 use Rattle.bolt_tree.proofs.SortedLemmas.{sorted_one}
@@ -47,13 +49,6 @@ use Rattle.bolt_report.proofs.PrefixLemmas.{after_least, from_least, key_begins,
 use Rattle.bolt_report.proofs.ReportLemmas.{Wrote-fault}
 
 -- ---- the entries of a cursor's bucket
-
-abbrev TheEntries : Checked → Start → Type 0
-TheEntries checked start = (entries : List LeafElement) × ∥ AreEntries (entries_of checked) start entries ∥₁
-
-the_one : (checked : Checked) (start : Start) → IsProp (TheEntries checked start)
-the_one checked start = λ a b.
-    Σ_prop_path (λ l. ∥∥₁_prop) (∥∥₁_elim a.1 (hlevel props) (λ h. ∥∥₁_elim b.1 (hlevel props) (λ k. sorted_one (bytes_of checked) (meta_of checked) start a.0 b.0 h k)))
 
 pub cursor_entries : (cursor : Cursor) → TheEntries (cursor_checked cursor) (cursor_start cursor)
 unfolding cursor_checked cursor_start
@@ -74,23 +69,21 @@ StandsAt entries n place (Some v) = (e : LeafElement) × (v ≡ entry_view e) ×
 shows_by : (entries : List LeafElement) (n : ℕ) (place : Place) (x : Option EntryView) (o : Option LeafElement) → slice_get entries n ≡ o → place ≡ On n → x ≡ option_map entry_view o
     → StandsAt entries n place x
 shows_by entries n place None None at on is = drop_all n entries (none_past entries n (sym at))
-shows_by entries n place None (Some e) at on is = absurd (let c : None ≡ Some (entry_view e) = is in cc)
-shows_by entries n place (Some v) None at on is = absurd (let c : Some v ≡ None = is in cc)
+shows_by entries n place None (Some e) at on is = cc
+shows_by entries n place (Some v) None at on is = cc
 shows_by entries n place (Some v) (Some e) at on is =
-    let c : Some v ≡ Some (entry_view e) = is in
-    let shown : v ≡ entry_view e = cc in
-    (e, shown, on, drop_next entries n e at ∙ ap (λ (k : ℕ). e ∷ drop k entries) (add-one n))
+    (e, same_Some v (entry_view e) is, on, drop_next entries n e at ∙ ap (λ (k : ℕ). e ∷ drop k entries) (add-one n))
 
 stands_by : (entries : List LeafElement) (n : ℕ) (place other : Place) (x : Option EntryView) (b : Bool) → nat_lt n (length entries) ≡ b
     → place ≡ (cond b (onto entries n) (nothing_at other)).place → x ≡ option_map entry_view (cond b (onto entries n) (nothing_at other)).answer → StandsAt entries n place x
 stands_by entries n place other x true t p a = shows_by entries n place x (slice_get entries n) refl p a
 stands_by entries n place other None false t p a = drop_all n entries (not_below n (length entries) t)
-stands_by entries n place other (Some v) false t p a = absurd (let c : Some v ≡ None = a in cc)
+stands_by entries n place other (Some v) false t p a = cc
 
 pub sought : (prefix : Key) (entries : List LeafElement) (place : Place) (x : Option EntryView)
     → (place_in entries place ≡ (seek_move prefix entries).place) × (x ≡ option_map entry_view (seek_move prefix entries).answer) → StandsAt entries (least_from prefix entries) place x
 sought prefix [] place None (p, a) = refl
-sought prefix [] place (Some v) (p, a) = absurd (let c : Some v ≡ None = a in cc)
+sought prefix [] place (Some v) (p, a) = cc
 sought prefix (e ∷ entries) place x (p, a) =
     stands_by (e ∷ entries) (least_from prefix (e ∷ entries)) place Past x (nat_lt (least_from prefix (e ∷ entries)) (length (e ∷ entries))) refl p a
 
@@ -98,23 +91,14 @@ pub moved : (entries : List LeafElement) (n : ℕ) (before place : Place) (x : O
     → (place_in entries place ≡ (next_move entries (place_in entries before)).place) × (x ≡ option_map entry_view (next_move entries (place_in entries before)).answer)
     → StandsAt entries (suc n) place x
 moved [] n before place None on (p, a) = refl
-moved [] n before place (Some v) on (p, a) = absurd (let c : Some v ≡ None = a in cc)
+moved [] n before place (Some v) on (p, a) = cc
 moved (e ∷ entries) n before place x on (p, a) =
     stands_by (e ∷ entries) (suc n) place (On n) x (nat_lt (suc n) (length (e ∷ entries))) refl
     (p ∙ ap (λ (q : Place). (next_move (e ∷ entries) q).place) on) (a ∙ ap (λ (q : Place). option_map entry_view (next_move (e ∷ entries) q).answer) on)
 
--- the next move, of the same bucket of the same file
-pub moves_there : (a b : Checked) (s t : Start) (before after : Place) (x : Option EntryView) → a ≡ b → s ≡ t → ShowsMove (entries_of a) s next_move before after x → ShowsMove (entries_of b) t next_move before after x
-moves_there a b s t before after x file start moves =
-    subst (λ (f : Checked). ShowsMove (entries_of f) t next_move before after x) file (subst (λ (q : Start). ShowsMove (entries_of a) q next_move before after x) start moves)
-
-pub opens_there : (a b : Checked) (s t : Start) (place : Place) (old new : ℕ) → a ≡ b → s ≡ t → OpensByNext (bucket_in a s) place old new → OpensByNext (bucket_in b t) place old new
-opens_there a b s t place old new file start opens =
-    subst (λ (f : Checked). OpensByNext (bucket_in f t) place old new) file (subst (λ (q : Start). OpensByNext (bucket_in a q) place old new) start opens)
-
 pub nothing_shown : (o : Option Entry) → option_map shown_entry o ≡ None → o ≡ None
 nothing_shown None is = refl
-nothing_shown (Some entry) is = absurd (let c : Some (shown_entry entry) ≡ None = is in cc)
+nothing_shown (Some entry) is = cc
 
 -- ---- how many entries are left
 
@@ -209,26 +193,25 @@ module _ (b : BucketView) (first : ℕ) (prefix : Key) (entries : List LeafEleme
               ∙ ap (counted first) (omega (arith, sum));
         }
 
-    -- no other begins so, since there is none,
-    pub none_shown : Stage b first prefix entries opened place None done → (n : ℕ) × (with_prefix prefix entries ≡ done ++ with_prefix prefix (drop n entries)) × (with_prefix prefix (drop n entries) ≡ [])
-    none_shown stage = (stage.n, stage.whole, ap (with_prefix prefix) stage.stands)
+    -- no other begins so, if no more is left,
+    no_more : (x : Option EntryView) (stage : Stage b first prefix entries opened place x done) → with_prefix prefix (drop stage.n entries) ≡ [] → with_prefix prefix entries ≡ done
+    no_more x stage none = stage.whole ∙ ap (λ (l : List LeafElement). done ++ l) none ∙ append-nil done
 
-    -- or since the next doesn't
-    pub other_shown : (v : EntryView) → Stage b first prefix entries opened place (Some v) done → key_begins v.key prefix ≡ false
-        → (n : ℕ) × (with_prefix prefix entries ≡ done ++ with_prefix prefix (drop n entries)) × (with_prefix prefix (drop n entries) ≡ [])
+    pub none_shown : Stage b first prefix entries opened place None done → with_prefix prefix entries ≡ done
+    none_shown stage = no_more None stage (ap (with_prefix prefix) stage.stands)
+
+    -- or if the next doesn't
+    pub other_shown : (v : EntryView) → Stage b first prefix entries opened place (Some v) done → key_begins v.key prefix ≡ false → with_prefix prefix entries ≡ done
     other_shown v stage differs =
         let (e, shown, on, rest) = stage.stands in
-        let n = stage.n in
-        let apart : begins prefix e ≡ false = subst (λ (w : EntryView). key_begins w.key prefix ≡ false) shown differs in
-        let after : key_lt e.key prefix ≡ false = stage.after e (subst (λ (l : List LeafElement). Contains l e) (sym rest) (contains_head e (drop (suc n) entries))) in
-        (n, stage.whole, ap (with_prefix prefix) rest ∙ none_later prefix e (drop (suc n) entries) (subst (Rises entry_cmp) rest stage.rises) after apart)
+        let apart : begins prefix e ≡ false = rw shown at differs in
+        let after = rw rest at stage.after e in
+        let rises = rw rest at stage.rises in
+        no_more (Some v) stage (ap (with_prefix prefix) rest ∙ none_later prefix e (drop (suc stage.n) entries) rises (after (contains_head e (drop (suc stage.n) entries))) apart)
 
-    -- so these are all
-    pub all_done : (x : Option EntryView) (stage : Stage b first prefix entries opened place x done) (left : List LeafElement) → with_prefix prefix entries ≡ done ++ left → left ≡ []
-        → Opened b first prefix entries opened (length (with_prefix prefix entries))
-    all_done x stage left whole none =
-        let same : length (with_prefix prefix entries) ≡ length done = ap length (whole ∙ ap (λ (l : List LeafElement). done ++ l) none ∙ append-nil done) in
-        subst (Opened b first prefix entries opened) (sym same) stage.opens
+    -- so the pages were opened for all
+    pub all_opened : (x : Option EntryView) → Stage b first prefix entries opened place x done → with_prefix prefix entries ≡ done → Opened b first prefix entries opened (length (with_prefix prefix entries))
+    all_opened x stage same = rw same stage.opens
 
 -- ---- their lines
 
@@ -245,10 +228,6 @@ module _ {S : Type 0} {sink : Ghosts S} (form : Form) {old mid : S} (done : List
       → Wrote sink mid new (value_text form e.key) (fault_ending fault) → IsErrAnd result (λ f. f ≡ fault) → Wrote sink old new (keys_text form all) (report_ending result)
   line_stop all left rest e fault result all_are first one is =
       Wrote-same (keys_after form done (e ∷ rest) ∙ ap (keys_text form) (ap (λ (l : List LeafElement). done ++ l) (sym first) ∙ sym all_are)) (Wrote-then put (Wrote-fault (keys_text form rest) fault result one is))
-
-  -- all lines
-  pub lines_end : (all left : List LeafElement) → all ≡ done ++ left → left ≡ [] → Wrote sink old mid (keys_text form all) endings.whole
-  lines_end all left all_are none = Wrote-same (ap (keys_text form) (sym (all_are ∙ ap (λ (l : List LeafElement). done ++ l) none ∙ append-nil done))) put
 
 -- ---- a fault that is handed on
 

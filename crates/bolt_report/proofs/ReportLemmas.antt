@@ -1,11 +1,15 @@
 -- What was written, if a call also fails for other reasons than its sink.
-use Rattle.std.proofs.Common.{◌≡◌, List, ℕ, ◌++◌, Result, Ok, Err, ap, sym}
+use Rattle.std.proofs.Common.{◌≡◌, ◌∙◌, ◌<◌, List, ℕ, ◌++◌, Result, Ok, Err, Some, ap, get_or, length, map, option_map, slice_get, sym}
 use Rattle.std.specs.Result.{IsErrAnd}
-use Rattle.bolt_format.specs.Endings.{broken}
+use Rattle.std.proofs.lemmas.List.{length-map}
+use Rattle.std.proofs.lemmas.Option.{slice_get-get_or, slice_get-map}
+use Rattle.std.specs.Prelude.{IsErr}
+use Rattle.bolt_format.specs.Endings.{broken, ending}
 use Rattle.bolt_format.specs.Wrote.{Wrote}
 use Rattle.bolt_format.specs.declared.sink.Sink.{Ghosts}
+use Rattle.bolt_format.specs.declared.sink.SinkFault.{SinkFault}
 use Rattle.bolt_format.proofs.WroteFronts.{WroteFront, front_stop}
-use Rattle.bolt_format.proofs.WroteLemmas.{Wrote-ends, Wrote-halt, Wrote-stop, Wrote-stop_halted}
+use Rattle.bolt_format.proofs.WroteLemmas.{Wrote-element, Wrote-element_return, Wrote-elements, Wrote-ends, Wrote-halt, Wrote-return, Wrote-stop, Wrote-stop_halted, Wrote-then}
 use Rattle.bolt_report.specs.ReportEndings.{fault_ending, report_ending}
 use Rattle.bolt_report.specs.declared.fault.ReportFault.{ReportFault}
 use Rattle.bolt_report.specs.declared.fault.ReportFault.TheVariants as fault
@@ -44,3 +48,17 @@ Wrote-unbegun old text result is = Wrote-ends (ends_by fault.NoMemory result is)
 pub front_fault : {S A : Type 0} {sink : Ghosts S} {old mid new : S} {text piece left : List ℕ} (rest : List ℕ) (e : ReportFault) (result : Result A ReportFault)
     → WroteFront sink old mid text left → Wrote sink mid new piece (fault_ending e) → left ≡ piece ++ rest → IsErrAnd result (λ f. f ≡ e) → Wrote sink old new text (report_ending result)
 front_fault rest e result before one same is = front_stop before (Wrote-fault rest e result one is) same
+
+pub front_broken : {S B : Type 0} {sink : Ghosts S} {old mid new : S} {text piece left : List ℕ} (rest : List ℕ) (result : Result B SinkFault)
+    → WroteFront sink old mid text left → Wrote sink mid new piece broken → left ≡ piece ++ rest → IsErr result → Wrote sink old new text (ending result)
+front_broken rest result before one same err = front_stop before (Wrote-return rest result one err) same
+
+-- the view of an element
+pub view_at : {X Y : Type 0} (view : X → Y) (xs : List X) (i : ℕ) (x : X) → i < length xs → x ≡ get_or xs i x → slice_get (map view xs) i ≡ Some (view x)
+view_at view xs i x within is = slice_get-map view xs i ∙ ap (option_map view) (slice_get-get_or xs i x within) ∙ ap (λ y. Some (view y)) (sym is)
+
+-- for the search: the lines of a list,
+pub ruleset elements = (Wrote-element, Wrote-element_return, Wrote-elements, slice_get-get_or, view_at, length-map)
+
+-- and one text after another, if a call also fails for other reasons than its sink
+pub ruleset reports = (Wrote-then, Wrote-fault, Wrote-sink, Wrote-passed, Wrote-unbegun)

@@ -14,3 +14,6 @@ length-branches page is = subst (λ k. length (shown_branches k page.count page.
 pub length-leaves : (page : Page) → (shown page).kind ≡ kind.Leaf → length (shown page).leaves ≡ (shown page).count
 unfolding shown leaf_elements
 length-leaves page is = subst (λ k. length (shown_leaves k page.count page.span.now) ≡ page.count) (sym is) (length-map-range_with_len (leaf_element page.span.now) 0 page.count)
+
+-- for the search
+pub ruleset lengths = (length-branches, length-leaves)

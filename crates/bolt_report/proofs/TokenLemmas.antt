@@ -1,6 +1,7 @@
 -- JSON tokens, written one after another.
 use Rattle.std.proofs.Common.{◌≡◌, ◌∙◌, ◌+◌, ℕ, Bor, List, [], ◌∷◌, ◌++◌, Some, add-one, ap, append_assoc, codes, flat_map, refl, slice_get, sym, take}
 use Rattle.std.specs.Str.{IsUtf8}
+use Rattle.std.proofs.lemmas.Option.{slice_get-get_or}
 use Rattle.std.proofs.lemmas.Str.{is_utf8-from_IsUtf8}
 use Rattle.hex.specs.Hex.{encode_lower}
 use Rattle.json.specs.Token.{Token, begin_object, end_array, end_object, key, string}
@@ -37,3 +38,6 @@ part_more path i part old mid new found before one =
     let f : Bor (List ℕ) → List Token = λ p. json_tokens (item_json p.now) in
     one ∙ ap (λ (ts : List Token). ts ++ f part) before ∙ append_assoc old (flat_map f (take i path)) (f part)
     ∙ ap (λ (ts : List Token). old ++ ts) (sym (ap (λ k. flat_map f (take k path)) (add-one i) ∙ flat_map-take_more f path i part found))
+
+-- for the search
+pub ruleset tokens = (text_tokens, digits_tokens, part_more, slice_get-get_or)

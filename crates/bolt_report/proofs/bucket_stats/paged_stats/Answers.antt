@@ -76,10 +76,5 @@ buckets-preserved c =
 
 pub returns-clause-depth : goal.returns-clause-depth
 returns-clause-depth c =
-    let file : List ℕ = bytes_of c.args.checked.now in
-    let meta = meta_of c.args.checked.now in
-    let none : c.buckets.buckets.items ≡ [] = none_left c.buckets.buckets.items c.pop.new.self.items (vec_len c.buckets.buckets) c.in_default.ensures.cases.0 c.in_default.ensures.rest c.in_default.ensures.items in
-    let zero = ap (greatest (bucket_end file meta)) none in
-    let whole = c.buckets.invariant.depth in
-    let fits = c.buckets.invariant.depth_fits in
-    omega (arith, zero, whole, fits)
+    let whole = rw (none_left c.in_default.ensures.cases.0 c.in_default.ensures.rest c.in_default.ensures.items) at c.buckets.invariant.depth in
+    omega (arith, whole, c.buckets.invariant.depth_fits)

@@ -104,24 +104,10 @@ pages-smaller c =
     omega (arith, sum, more, same)))
 
 pub returns-clause-good : goal.returns-clause-good
-returns-clause-good c =
-    let none : c.pages.pages.items ≡ [] = none_left c.pages.pages.items c.pop.new.self.items (vec_len c.pages.pages) c.in_default.ensures.cases.0 c.in_default.ensures.rest c.in_default.ensures.items in
-    rw none at c.pages.invariant.good
+returns-clause-good c = rw (none_left c.in_default.ensures.cases.0 c.in_default.ensures.rest c.in_default.ensures.items) at c.pages.invariant.good
 
 pub returns-clause-height : goal.returns-clause-height
-returns-clause-height c =
-    let file : List ℕ = bytes_of c.args.checked.now in
-    let meta = meta_of c.args.checked.now in
-    let none : c.pages.pages.items ≡ [] = none_left c.pages.pages.items c.pop.new.self.items (vec_len c.pages.pages) c.in_default.ensures.cases.0 c.in_default.ensures.rest c.in_default.ensures.items in
-    let zero = ap (greatest (page_height file meta)) none in
-    let whole = c.pages.invariant.height in
-    omega (arith, zero, whole)
+returns-clause-height c = let whole = rw (none_left c.in_default.ensures.cases.0 c.in_default.ensures.rest c.in_default.ensures.items) at c.pages.invariant.height in omega (arith, whole)
 
 pub returns-clause-deepest : goal.returns-clause-deepest
-returns-clause-deepest c =
-    let file : List ℕ = bytes_of c.args.checked.now in
-    let meta = meta_of c.args.checked.now in
-    let none : c.pages.pages.items ≡ [] = none_left c.pages.pages.items c.pop.new.self.items (vec_len c.pages.pages) c.in_default.ensures.cases.0 c.in_default.ensures.rest c.in_default.ensures.items in
-    let zero = ap (λ (l : List UnreadPage). greatest (deepest_of file meta) (numbers_of l)) none in
-    let whole = c.pages.invariant.deepest in
-    omega (arith, zero, whole)
+returns-clause-deepest c = let whole = rw (none_left c.in_default.ensures.cases.0 c.in_default.ensures.rest c.in_default.ensures.items) at c.pages.invariant.deepest in omega (arith, whole)

@@ -26,9 +26,7 @@ rest-init g c = record {
 }
 
 pub rest-smaller : goal.rest-smaller
-rest-smaller g c =
-    fewer_left c.args.bucket.now (cursor_checked c.rest.cursor) (cursor_start c.rest.cursor) (cursor_place c.rest.cursor) (cursor_place c.next.new.self) (shown_entry c.in-Some.entry)
-    c.rest.invariant.checked c.rest.invariant.start c.in-Some.ensures.moves
+rest-smaller g c = fewer_left c.args.bucket.now _ _ _ _ _ c.rest.invariant.checked c.rest.invariant.start c.in-Some.ensures.moves
 
 pub rest-preserved : goal.rest-preserved
 rest-preserved g c = record {
@@ -36,21 +34,18 @@ rest-preserved g c = record {
   start = c.in-Some.ensures.start ∙ c.rest.invariant.start;
   form = c.put_bucket.ensures.form ∙ c.rest.invariant.form;
   put = λ entries are.
-      let (e, shown, first) = next_shows (cursor_checked c.rest.cursor) (bucket_checked c.args.bucket.now) (cursor_start c.rest.cursor) (bucket_start c.args.bucket.now)
-      (cursor_place c.rest.cursor) (cursor_place c.next.new.self) (Some (shown_entry c.in-Some.entry)) c.rest.invariant.checked c.rest.invariant.start c.in-Some.ensures.moves entries are in
+      let (e, shown, first) = next_shows _ _ _ _ _ _ _ c.rest.invariant.checked c.rest.invariant.start c.in-Some.ensures.moves entries are in
       front_more (c.rest.invariant.put entries are) (Wrote-same (ap (λ (form : Form). bucket_name form e) c.rest.invariant.form) (c.in_ok-put_bucket.ensures.written e shown)) (ap (flat_map (bucket_name c.args.form)) first);
 }
 
 pub returns-in_err-put_bucket-clause-written : goal.returns-in_err-put_bucket-clause-written
 returns-in_err-put_bucket-clause-written g c = λ entries are.
-    let (e, shown, first) = next_shows (cursor_checked c.rest.cursor) (bucket_checked c.args.bucket.now) (cursor_start c.rest.cursor) (bucket_start c.args.bucket.now)
-    (cursor_place c.rest.cursor) (cursor_place c.next.new.self) (Some (shown_entry c.in-Some.entry)) c.rest.invariant.checked c.rest.invariant.start c.in-Some.ensures.moves entries are in
+    let (e, shown, first) = next_shows _ _ _ _ _ _ _ c.rest.invariant.checked c.rest.invariant.start c.in-Some.ensures.moves entries are in
     Wrote-same (bucket_lines c.args.form entries)
     (front_fault (flat_map (bucket_name c.args.form) (entries_left entries (cursor_place c.next.new.self))) _ _ (c.rest.invariant.put entries are)
     (Wrote-same (ap (λ (form : Form). bucket_name form e) c.rest.invariant.form) (c.in_err-put_bucket.ensures.written e shown)) (ap (flat_map (bucket_name c.args.form)) first) c.from_residual.ensures.1)
 
 pub returns-clause-written : goal.returns-clause-written
 returns-clause-written g c = λ entries are.
-    let none = next_shows (cursor_checked c.rest.cursor) (bucket_checked c.args.bucket.now) (cursor_start c.rest.cursor) (bucket_start c.args.bucket.now)
-    (cursor_place c.rest.cursor) (cursor_place c.next.new.self) _ c.rest.invariant.checked c.rest.invariant.start c.in_default.ensures.moves entries are in
+    let none = next_shows _ _ _ _ _ _ _ c.rest.invariant.checked c.rest.invariant.start c.in_default.ensures.moves entries are in
     Wrote-same (bucket_lines c.args.form entries) (front_whole (c.rest.invariant.put entries are) (ap (flat_map (bucket_name c.args.form)) none))
