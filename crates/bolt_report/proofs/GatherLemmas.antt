@@ -1,5 +1,5 @@
 -- One text after another, gathered.
-use Rattle.std.proofs.Common.{◌≡◌, ◌∙◌, ◌+◌, ◌<◌, ℕ, zero, suc, List, [], ◌∷◌, ◌++◌, Bor, Some, Result, add-one, ap, append_assoc, append-nil, arith, drop, flat_map, refl, replicate, slice_get, sym, take}
+use Rattle.std.proofs.Common.{◌≡◌, ◌∙◌, ◌+◌, ℕ, suc, List, [], ◌∷◌, ◌++◌, Bor, Some, Result, add-one, ap, append_assoc, append-nil, drop, flat_map, refl, slice_get, sym, take}
 use Rattle.std.specs.Prelude.{IsErr}
 use Rattle.bolt_format.specs.Endings.{Ending, whole, cut, broken, halted, ending}
 use Rattle.bolt_format.specs.Wrote.{Wrote}

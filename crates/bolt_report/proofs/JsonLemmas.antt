@@ -1,5 +1,5 @@
 -- JSON lines are read back.
-use Rattle.std.proofs.Common.{◌≡◌, ◌∙◌, ◌+◌, ℕ, ◌<◌, ◌≤◌, ◌^◌, List, [], ◌∷◌, Bool, true, false, Option, Some, None, arith, ap, codes, cond, map, option_and_then, option_map, refl}
+use Rattle.std.proofs.Common.{◌≡◌, ◌∙◌, ◌+◌, ℕ, ◌<◌, ◌≤◌, ◌^◌, List, [], ◌∷◌, Option, Some, None, arith, ap, codes, map, option_and_then, option_map, refl}
 use Rattle.std.specs.Prelude.{IfSome, decimal}
 use Rattle.std.specs.Result.{result_ok}
 use Rattle.std.specs.Str.{is_utf8}

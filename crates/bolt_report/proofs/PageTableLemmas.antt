@@ -1,5 +1,5 @@
--- The rows of pages by their roles, and the free pages past the file's end.
-use Rattle.std.proofs.Common.{◌≡◌, ◌∙◌, ℕ, zero, suc, ◌+◌, ◌-◌, ◌<◌, ◌≤◌, true, List, Some, cond, length, min, ap, refl, slice_get, sym, arith}
+-- The rows of pages by their roles, the lines of a map, and the free pages past the file's end.
+use Rattle.std.proofs.Common.{◌≡◌, ◌∙◌, ℕ, zero, suc, ◌+◌, ◌-◌, ◌<◌, ◌≤◌, true, List, Some, cond, length, min, ap, refl, slice_get, sym, arith, ◌*◌}
 use Rattle.std.specs.Prelude.{count_by}
 use Rattle.std.specs.List.{range_with_len}
 use Rattle.std.proofs.Math.Logic.{∥∥₁_elim}
@@ -18,6 +18,8 @@ use Rattle.bolt_check.specs.declared.role.Role.{Role}
 use Rattle.bolt_check.specs.declared.role.Role.TheVariants as role
 use Rattle.bolt_check.proofs.RoleFacts.{one_role, past_is_free, size_positive, with_accounts}
 use Rattle.bolt_report.specs.PageTables.{begun, is_free, page_row, pages_in, pages_past}
+use Rattle.std.specs.Int.{div_ceil}
+use Rattle.bolt_report.specs.PageMaps.{line_at, map_line}
 
 -- where each of these pages is free, as many are free as there are
 all_free : (roles : ℕ → Role) (from n : ℕ) → ((k : ℕ) → from ≤ k → k < from + n → roles k ≡ role.Free) → count_by (λ k. is_free (roles k)) (range_with_len from n) ≡ n
@@ -61,3 +63,16 @@ module _ (checked : Checked) (is : has_accounts checked ≡ true) where
       → (slice_get (pages_in file meta) n ≡ Some n) × (page_row file meta n found ≡ page_row file meta n (roles n))
   next_row roles are n found below has =
       (number_at_place (min (begun file meta) meta.high_water) n below, ap (page_row file meta n) (same_role roles are n found (omega (arith, below)) has))
+
+-- each line has a page
+pub starts_below : (pages k : ℕ) → k < div_ceil pages 64 → 64 * k < pages
+starts_below pages k below = let ends = (div_ceil_times pages 64 (omega arith)).1 in omega (arith, ends, below)
+
+-- the pages in the file lie below the mark
+pub fits_below : (file : List ℕ) (meta : Meta) → length (pages_in file meta) ≤ meta.high_water
+fits_below file meta = let count = length-range_with_len 0 (min (begun file meta) meta.high_water) in omega (arith, count)
+
+-- the next line: its place among these, and its text
+pub next_line : (roles : ℕ → Role) (pages line count : ℕ) → line < div_ceil pages 64 → count ≡ min 64 (pages - 64 * line)
+    → (slice_get (range_with_len 0 (div_ceil pages 64)) line ≡ Some line) × (map_line roles (64 * line) (64 * line + count - 64 * line) ≡ line_at roles pages line)
+next_line roles pages line count below is = (number_at_place (div_ceil pages 64) line below, ap (map_line roles (64 * line)) (omega (arith, is)))

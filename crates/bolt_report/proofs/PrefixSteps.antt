@@ -1,9 +1,7 @@
 -- A cursor goes along the entries that begin with given bytes: what it has gone over, and what is left.
 -- Rests on that a bucket's entries in order exist, and are one.
 use Rattle.std.proofs.Common.{◌≡◌, ◌∙◌, ◌<◌, ◌⊎◌, inl, inr, ◌+◌, ℕ, zero, suc, Bool, true, false, List, [], ◌∷◌, ◌++◌, Option, Some, None, Result, Ok, Err, cond, drop, length, nat_lt, refl, slice_get, sym, ap, subst, arith, add-one, append-nil, append_assoc, length-append}
-use Rattle.std.proofs.Math.Logic.{∥∥₁_elim, ∥∥₁_prop}
-use Rattle.std.proofs.Props.{props}
-use mathlib.Core.HLevel.{Σ_prop_path}
+use Rattle.std.proofs.Math.Logic.{∥∥₁_elim}
 use Rattle.std.specs.List.{Contains}
 use Rattle.std.specs.Option.{option_map}
 use Rattle.std.specs.Prelude.{⊤, IfErr, IsErrAnd}
@@ -18,16 +16,15 @@ use Rattle.bolt_format.proofs.WroteLemmas.{Wrote-same, Wrote-then}
 use Rattle.bolt_format.proofs.ListLemmas.{drop_next}
 use Rattle.bolt_check.specs.CheckedFiles.{bytes_of, meta_of}
 use Rattle.bolt_check.specs.Keys.{Key, key_lt}
-use Rattle.bolt_check.specs.declared.checked_file.Checked.{Checked}
-use Rattle.bolt_tree.specs.BucketViews.{AreSorted, BucketView, bucket_in, entries_of}
+use Rattle.bolt_tree.specs.BucketViews.{AreSorted, BucketView}
 use Rattle.bolt_tree.specs.CursorBounds.{OpensByNext, OpensSeek}
 use Rattle.bolt_tree.specs.Cursors.{cursor_checked, cursor_start}
-use Rattle.bolt_tree.specs.Entries.{AreEntries, EntryView, Start, entry_cmp, entry_view}
+use Rattle.bolt_tree.specs.Entries.{EntryView, entry_cmp, entry_view}
 use Rattle.bolt_tree.specs.EntriesLeft.{entries_left}
 use Rattle.bolt_tree.specs.Openings.{IsGap, IsSeekCount, sum_to}
 use Rattle.bolt_tree.specs.Order.{Rises}
 use Rattle.bolt_check.specs.Counts.{counted}
-use Rattle.bolt_tree.specs.Places.{On, Past, Place, ShowsMove, least_from, next_move, nothing_at, onto, place_in, seek_move}
+use Rattle.bolt_tree.specs.Places.{On, Past, Place, least_from, next_move, nothing_at, onto, place_in, seek_move}
 use Rattle.bolt_tree.specs.ShownEntries.{shown_entry}
 use Rattle.bolt_tree.specs.declared.cursor.Cursor.{Cursor}
 use Rattle.bolt_tree.specs.declared.entry.Entry.{Entry}
@@ -36,7 +33,6 @@ use Rattle.bolt_tree.proofs.CursorMoves.{none_past, not_below}
 use Rattle.bolt_tree.proofs.Leaving.{TheEntries, the_one}
 use Rattle.bolt_tree.proofs.Lists.{contains_head, contains_tail}
 use Rattle.bolt_tree.proofs.PagerLemmas.{counted_more}
-use Rattle.bolt_tree.proofs.SortedLemmas.{sorted_one}
 use Rattle.bolt_report.specs.Forms.{value_text}
 use Rattle.bolt_report.specs.KeyLines.{keys_text}
 use Rattle.bolt_report.specs.KeyPrefixes.{with_prefix, begins}

@@ -1,6 +1,4 @@
-use Rattle.std.proofs.Common.{◌≡◌, ◌∙◌, [], ap, arith, inl, ℕ, refl, sum_by, vec_len}
-use Rattle.bolt_report.specs.Deepest.{greatest}
-use Rattle.bolt_report.specs.Readings.{unread_bucket}
+use Rattle.std.proofs.Common.{◌∙◌, arith, inl, refl}
 use Rattle.bolt_report.proofs.ReadDepths.{moved_depth}
 use Rattle.bolt_report.proofs.ReadSums.{moved_from, moved_sum, none_left}
 use Rattle.bolt_report.proofs.bucket_stats.add_buckets.Goals as goal

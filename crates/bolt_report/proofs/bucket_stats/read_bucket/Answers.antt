@@ -1,4 +1,4 @@
-use Rattle.std.proofs.Common.{◌≡◌, ◌∙◌, ◌+◌, ◌<◌, ◌++◌, ◌∷◌, [], ℕ, List, inl, inr, ap, arith, map, max, sym, vec_len}
+use Rattle.std.proofs.Common.{◌≡◌, ◌∙◌, ◌+◌, ◌<◌, ◌++◌, ◌∷◌, [], ℕ, List, inl, inr, ap, arith, map, max, sym}
 use Rattle.std.proofs.Math.Logic.{∥∥₁_elim, ∥∥₁_map, ∥∥₁_prop}
 use Rattle.std.proofs.Props.{props}
 use Rattle.bolt_check.specs.CheckedFiles.{bytes_of, meta_of}
@@ -6,7 +6,6 @@ use Rattle.bolt_check.specs.Nodes.{Node}
 use Rattle.bolt_report.specs.Deepest.{deepest_of, depth_of, greatest}
 use Rattle.bolt_report.specs.Figures.{capped, figure}
 use Rattle.bolt_report.specs.Readings.{inner_pages, inner_roots, numbers_of, one, unread_page, own_figure, total_of}
-use Rattle.bolt_report.specs.declared.bucket_stats.UnreadPage.{UnreadPage}
 use Rattle.bolt_report.proofs.FigureLemmas.{figure_add}
 use Rattle.bolt_report.proofs.ReadDepths.{first_height, numbers_opened, page_height, read_deepest, read_height}
 use Rattle.bolt_report.proofs.ReadSums.{more_found, next_good, none_left, popped, read_good, read_sum, started, zero_figure}

@@ -1,17 +1,23 @@
-use Rattle.std.proofs.Common.{◌∙◌, [], Some, ap, flat_map, sym}
+use Rattle.std.proofs.Common.{◌∙◌, [], ap, flat_map, sym, ◌≡◌, ◌++◌, ◌∷◌, List, ℕ, refl, inl, inr}
+use Rattle.std.proofs.lemmas.Bool.{cases_Bool}
 use Rattle.bolt_format.proofs.WroteFronts.{front_more, front_whole}
 use Rattle.bolt_format.proofs.WroteLemmas.{Wrote-none, Wrote-same}
-use Rattle.bolt_tree.specs.Buckets.{bucket_checked, bucket_start}
-use Rattle.bolt_tree.specs.Cursors.{cursor_checked, cursor_place, cursor_start}
+use Rattle.bolt_tree.specs.Cursors.{cursor_place}
 use Rattle.bolt_tree.specs.EntriesLeft.{entries_left}
 use Rattle.bolt_tree.specs.Places.{Place}
-use Rattle.bolt_tree.specs.ShownEntries.{shown_entry}
 use Rattle.bolt_tree.proofs.Leaving.{fewer_left, next_shows}
-use Rattle.bolt_report.specs.KeyLines.{bucket_name}
+use Rattle.bolt_format.specs.Elements.{LeafElement}
+use Rattle.bolt_report.specs.Forms.{value_text}
+use Rattle.bolt_report.specs.KeyLines.{bucket_name, buckets_text}
 use Rattle.bolt_report.specs.declared.form.Form.{Form}
-use Rattle.bolt_report.proofs.KeyTexts.{bucket_lines}
 use Rattle.bolt_report.proofs.ReportLemmas.{front_fault}
 use Rattle.bolt_report.proofs.key_lines.buckets.Goals as goal
+
+-- the lines of the buckets alone
+bucket_lines : (form : Form) (entries : List LeafElement) → flat_map (bucket_name form) entries ≡ buckets_text form entries
+bucket_lines form [] = refl
+bucket_lines form (e ∷ entries) =
+    elim (cases_Bool e.is_bucket) [ inl is ↦ rw is (ap (λ (text : List ℕ). value_text form e.key ++ text) (bucket_lines form entries)) | inr is ↦ rw is (bucket_lines form entries) ]
 
 pub rest-init : goal.rest-init
 rest-init g c = record {

@@ -1,19 +1,15 @@
 -- Each entry that begins with the prefix has its line written, and the first that doesn't ends the text.
-use Rattle.std.proofs.Common.{◌≡◌, ◌∙◌, [], ◌∷◌, ◌++◌, ℕ, List, Option, Some, None, drop, suc, ap, sym, subst, true, false, arith}
+use Rattle.std.proofs.Common.{◌≡◌, ◌∙◌, [], ◌∷◌, ◌++◌, Option, Some, None, drop, suc, ap, sym, subst, true, false, arith}
 use Rattle.std.proofs.Math.Logic.{∥∥₁_elim}
 use Rattle.std.proofs.Props.{props}
 use Rattle.std.specs.Option.{option_map}
 use Rattle.bolt_format.proofs.WroteLemmas.{Wrote-none, Wrote-same}
-use Rattle.bolt_check.specs.Keys.{Key}
-use Rattle.bolt_format.specs.Elements.{LeafElement}
 use Rattle.bolt_report.specs.Forms.{value_text}
 use Rattle.bolt_report.specs.KeyLines.{keys_text}
 use Rattle.bolt_report.specs.KeyPrefixes.{with_prefix, begins}
 use Rattle.bolt_report.specs.declared.form.Form.{Form}
-use Rattle.bolt_tree.specs.Cursors.{cursor_bucket, cursor_checked, cursor_opened, cursor_place, cursor_start}
-use Rattle.bolt_tree.specs.BucketViews.{BucketView}
+use Rattle.bolt_tree.specs.Cursors.{cursor_bucket, cursor_opened, cursor_place}
 use Rattle.bolt_tree.specs.Entries.{EntryView}
-use Rattle.bolt_tree.specs.Places.{Place}
 use Rattle.bolt_tree.specs.ShownEntries.{shown_entry}
 use Rattle.bolt_tree.specs.declared.entry.Entry.{Entry}
 use Rattle.bolt_report.proofs.PrefixLemmas.{key_begins}

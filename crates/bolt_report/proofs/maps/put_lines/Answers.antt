@@ -1,12 +1,11 @@
-use Rattle.std.proofs.Common.{◌≡◌, ◌∙◌, ap, arith}
+use Rattle.std.proofs.Common.{◌∙◌, arith}
 use Rattle.std.specs.List.{range_with_len}
 use Rattle.std.proofs.lemmas.List.FromFn.{length-range_with_len}
 use Rattle.bolt_format.proofs.WroteLemmas.{Wrote-element, Wrote-element_return, Wrote-elements, Wrote-same}
 use Rattle.bolt_check.specs.CheckedFiles.{bytes_of, meta_of}
 use Rattle.bolt_check.specs.RoledFiles.{roles_checked}
 use Rattle.bolt_report.specs.PageMaps.{line_at}
-use Rattle.bolt_report.proofs.PageMapLemmas.{fits_below, next_line, starts_below}
-use Rattle.bolt_report.proofs.PageTableLemmas.{positive}
+use Rattle.bolt_report.proofs.PageTableLemmas.{fits_below, next_line, starts_below, positive}
 use Rattle.bolt_report.proofs.maps.put_lines.Goals as goal
 
 pub page_count-end-requires : goal.page_count-end-requires

@@ -1,4 +1,4 @@
-use Rattle.std.proofs.Common.{◌≡◌, ◌∙◌, List, ℕ, arith, min}
+use Rattle.std.proofs.Common.{◌∙◌, List, ℕ, arith, min}
 use Rattle.std.proofs.lemmas.List.FromFn.{length-range_with_len}
 use Rattle.bolt_format.proofs.WroteLemmas.{Wrote-element, Wrote-element_return, Wrote-elements, Wrote-same}
 use Rattle.bolt_check.specs.CheckedFiles.{bytes_of, meta_of}
