@@ -263,23 +263,18 @@ module _ (nodes : Nodes) where
         filled (is.address ++ is.place ∷ way) u node
         (follow_append nodes (Some (At_page (root_spot root))) is.address (is.place ∷ way) ∙ ap (λ (o : Option Spot). follow nodes o (is.place ∷ way)) on ∙ ap (λ (o : Option Spot). follow nodes o way) next ∙ f)
 
+    bucket_kid : (root c : ℕ) (e : Entry) (is : IsBucketIn nodes root e) → e.child ≡ suc c → Has (suc c) (kid_pages is.leaf.node.is_leaf is.leaf.node.entries)
+    bucket_kid root c e is child = rw is.leaf.leaf (bucket_has is.leaf.node.entries is.place c e is.entry is.bucket child)
+
     bucket_low : (k root c : ℕ) (e : Entry) (is : IsBucketIn nodes root e) → e.child ≡ suc c → Enough nodes (suc k) root → Enough nodes k (suc c)
     bucket_low k root c e is child h =
-        low (enough_leaf (suc k) is.address root is.leaf.number h is.leaf.leads)
-      where
-        same_node : (a b : Result Node ℕ) (x y : Node) → a ≡ Ok x → a ≡ Ok y → x ≡ y
-        same_node a b x y p q = let e = sym p ∙ q in cc
-
-        low : Enough nodes (suc k) is.leaf.number → Enough nodes k (suc c)
-        low (node, page, kids) =
-            let same = same_node (nodes is.leaf.number) (nodes is.leaf.number) is.leaf.node node is.leaf.page page in
-            kids (suc c) (subst (λ (x : Node). Has (suc c) (kid_pages x.is_leaf x.entries)) same
-            (subst (λ (b : Bool). Has (suc c) (kid_pages b is.leaf.node.entries)) (sym is.leaf.leaf) (bucket_has is.leaf.node.entries is.place c e is.entry is.bucket child)))
+        let (node, page, kids) = enough_leaf (suc k) is.address root is.leaf.number h is.leaf.leads in
+        let same : is.leaf.node ≡ node = let both = sym is.leaf.page ∙ page in cc in
+        kids (suc c) (subst (λ (x : Node). Has (suc c) (kid_pages x.is_leaf x.entries)) same (bucket_kid root c e is child))
 
     bucket_enough : (root c : ℕ) (e : Entry) (is : IsBucketIn nodes root e) → e.child ≡ suc c → Enough nodes steps root → Enough nodes steps (suc c)
     bucket_enough root c e is child h =
-        enough_kids nodes steps is.leaf.number is.leaf.node is.leaf.page (enough_leaf steps is.address root is.leaf.number h is.leaf.leads) (suc c)
-        (subst (λ (b : Bool). Has (suc c) (kid_pages b is.leaf.node.entries)) (sym is.leaf.leaf) (bucket_has is.leaf.node.entries is.place c e is.entry is.bucket child))
+        enough_kids nodes steps is.leaf.number is.leaf.node is.leaf.page (enough_leaf steps is.address root is.leaf.number h is.leaf.leads) (suc c) (bucket_kid root c e is child)
 
     depth_below : (k root : ℕ) → Enough nodes k root → Enough nodes steps root → AllFilled (root_spot root) → root ≢ 0 → IsDepth nodes root (depth_from nodes steps root)
     depth_below zero root low h filled ne = absurd low

@@ -1,5 +1,5 @@
 -- Sums with a greatest number, and over a list from an element on.
-use Rattle.std.proofs.Common.{◌≡◌, ◌∙◌, ◌≤◌, ℕ, ◌+◌, List, Some, ap, arith, drop, length, refl, slice_get, sum_by}
+use Rattle.std.proofs.Common.{◌≡◌, ◌∙◌, ◌≤◌, ℕ, ◌+◌, List, Some, ap, arith, drop, length, slice_get, sum_by}
 use Rattle.std.proofs.lemmas.List.{drop_all}
 use Rattle.std.proofs.lemmas.List.Sums.{sum_by-cons}
 use Rattle.bolt_format.proofs.ListLemmas.{drop_next}

@@ -6,7 +6,6 @@ use Rattle.bolt_check.specs.declared.checked_file.Checked.{Checked}
 use Rattle.bolt_tree.specs.Listing.{IsListing, Member, member_cmp, rest_from}
 use Rattle.std.specs.List.{take_while, Contains, list_any}
 use Rattle.std.proofs.lemmas.List.Sums.{take_while-cons}
-use Rattle.bolt_tree.specs.Entries.{Item}
 use Rattle.bolt_tree.specs.ListingParts.{begins_with, is_bucket, is_bucket_at, part_below}
 use Rattle.bolt_tree.specs.Paths.{Path, path_cmp}
 use Rattle.bolt_tree.proofs.PartLemmas.{begins_by, begins_after}

@@ -1,12 +1,9 @@
 -- The fault of a page that is to be printed.
-use Rattle.std.proofs.Common.{◌≡◌, ◌∙◌, ℕ, List, Option, None, Some, ap, sym}
-use Rattle.bolt_format.specs.Freelists.{freelist_fault}
-use Rattle.bolt_format.specs.Headers.{count_field, flags_field, kind_of}
-use Rattle.bolt_format.specs.Pages.{from_page, page_at, page_fault, page_overflow, shown_as, span_bytes}
+use Rattle.std.proofs.Common.{◌≡◌, ℕ, List, None, Some}
+use Rattle.bolt_format.specs.Pages.{page_at, page_fault}
 use Rattle.bolt_format.specs.declared.fault.PageFault.{PageFault}
-use Rattle.bolt_format.specs.declared.kind.Kind.{Kind}
 use Rattle.bolt_format.specs.declared.meta.Meta.{Meta}
-use Rattle.bolt_report.specs.PageTexts.{fault_of, page_text_fault, shown_fault}
+use Rattle.bolt_report.specs.PageTexts.{page_text_fault}
 
 -- a page that has a fault shows nothing
 page_at-fault : (file : List ℕ) (meta : Meta) (id fault : ℕ) → page_fault file meta id ≡ Some fault → page_at file meta id ≡ None

@@ -1,5 +1,5 @@
 -- The entries that begin with given bytes: none of them is below these bytes, and they lie side by side.
-use Rattle.std.proofs.Common.{◌≡◌, ◌∙◌, ◌==◌, ◌+◌, ℕ, suc, Bool, true, false, not, inl, inr, List, [], ◌∷◌, cond, drop, refl, sym, ap, subst, arith}
+use Rattle.std.proofs.Common.{◌≡◌, ◌==◌, ◌+◌, ℕ, suc, Bool, true, false, not, inl, inr, List, [], ◌∷◌, cond, drop, refl, ap, subst, arith}
 use Rattle.std.proofs.lemmas.Bool.Decides.{nat_tests}
 use Rattle.std.specs.List.{Contains, starts_with}
 use Rattle.bolt_format.specs.Elements.{LeafElement}

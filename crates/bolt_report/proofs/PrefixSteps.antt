@@ -1,18 +1,15 @@
 -- A cursor goes along the entries that begin with given bytes: what it has gone over, and what is left.
 -- Rests on that a bucket's entries in order exist, and are one.
-use Rattle.std.proofs.Common.{◌≡◌, ◌∙◌, ◌<◌, ◌⊎◌, inl, inr, ◌+◌, ℕ, zero, suc, Bool, true, false, List, [], ◌∷◌, ◌++◌, Option, Some, None, Result, Ok, Err, cond, drop, length, nat_lt, refl, slice_get, sym, ap, subst, arith, add-one, append-nil, append_assoc, length-append}
+use Rattle.std.proofs.Common.{◌≡◌, ◌∙◌, ◌<◌, ◌⊎◌, inl, inr, ◌+◌, ℕ, zero, suc, Bool, true, false, List, [], ◌∷◌, Option, Some, None, Result, Ok, Err, cond, drop, length, nat_lt, refl, slice_get, sym, ap, subst, arith, add-one}
 use Rattle.std.proofs.Math.Logic.{∥∥₁_elim}
 use Rattle.std.specs.List.{Contains}
 use Rattle.std.specs.Option.{option_map}
 use Rattle.std.specs.Prelude.{⊤, IfErr, IsErrAnd}
-use Rattle.std.proofs.lemmas.Grind.{flat_map-append}
+use Rattle.std.proofs.lemmas.Bool.{cond-true}
 use Rattle.std.proofs.lemmas.List.{drop_all}
 use Rattle.std.proofs.lemmas.Option.{same_Some}
 use Rattle.bolt_format.specs.Elements.{LeafElement}
 use Rattle.bolt_format.specs.Endings as endings
-use Rattle.bolt_format.specs.Wrote.{Wrote}
-use Rattle.bolt_format.specs.declared.sink.Sink.{Ghosts}
-use Rattle.bolt_format.proofs.WroteLemmas.{Wrote-same, Wrote-then}
 use Rattle.bolt_format.proofs.ListLemmas.{drop_next}
 use Rattle.bolt_check.specs.CheckedFiles.{bytes_of, meta_of}
 use Rattle.bolt_check.specs.Keys.{Key, key_lt}
@@ -33,16 +30,12 @@ use Rattle.bolt_tree.proofs.CursorMoves.{none_past, not_below}
 use Rattle.bolt_tree.proofs.Leaving.{TheEntries, the_one}
 use Rattle.bolt_tree.proofs.Lists.{contains_head, contains_tail}
 use Rattle.bolt_tree.proofs.PagerLemmas.{counted_more}
-use Rattle.bolt_report.specs.Forms.{value_text}
-use Rattle.bolt_report.specs.KeyLines.{keys_text}
 use Rattle.bolt_report.specs.KeyPrefixes.{with_prefix, begins}
-use Rattle.bolt_report.specs.ReportEndings.{fault_ending, report_ending}
 use Rattle.bolt_report.specs.declared.fault.ReportFault.{ReportFault}
 use Rattle.bolt_report.specs.declared.fault.ReportFault.TheVariants.{NoMemory, Sink}
 use Rattle.bolt_report.specs.declared.form.Form.{Form}
 use Rattle.bolt_report.specs.declared.form.Form.TheVariants.{Json}
 use Rattle.bolt_report.proofs.PrefixLemmas.{after_least, from_least, key_begins, none_later}
-use Rattle.bolt_report.proofs.ReportLemmas.{Wrote-fault}
 
 -- ---- the entries of a cursor's bucket
 
@@ -121,109 +114,80 @@ Opened b first prefix entries opened count =
     (seek : ℕ) (gap : ℕ → ℕ) → IsSeekCount b.file b.meta b.start entries prefix seek → ((i : ℕ) → IsGap b.file b.meta b.start entries i (gap i))
     → opened ≡ counted first (seek + sum_to (gap_at prefix entries gap) count)
 
--- Of the entries that begin so it has gone over `done`, and opened the pages for them; it stands on the entry after these, which is the
--- first of those that may begin so.
-pub record Stage (b : BucketView) (first : ℕ) (prefix : Key) (entries : List LeafElement) (opened : ℕ) (place : Place) (x : Option EntryView) (done : List LeafElement) : Type 0 where
-  pub n : ℕ
-  pub at : n ≡ least_from prefix entries + length done
+-- Of the entries that begin so it has gone over as many as `done`, and opened the pages for them; it stands on entry n after these, which is
+-- the first of those that may begin so.
+pub record Stage (b : BucketView) (first : ℕ) (prefix : Key) (entries : List LeafElement) (opened : ℕ) (place : Place) (x : Option EntryView) (n done : ℕ) : Type 0 where
+  pub at : n ≡ least_from prefix entries + done
   pub stands : StandsAt entries n place x
-  pub whole : with_prefix prefix entries ≡ done ++ with_prefix prefix (drop n entries)
+  pub whole : length (with_prefix prefix entries) ≡ done + length (with_prefix prefix (drop n entries))
   pub rises : Rises entry_cmp (drop n entries)
   pub after : (f : LeafElement) → Contains (drop n entries) f → key_lt f.key prefix ≡ false
-  pub opens : Opened b first prefix entries opened (length done)
-
--- one that begins so is the first of them
-pub keeps : (prefix : Key) (e : LeafElement) (left : List LeafElement) → begins prefix e ≡ true → with_prefix prefix (e ∷ left) ≡ e ∷ with_prefix prefix left
-keeps prefix e left starts = ap (λ (t : Bool). cond t (e ∷ with_prefix prefix left) (with_prefix prefix left)) starts
+  pub opens : Opened b first prefix entries opened done
 
 rises_later : (n : ℕ) (entries : List LeafElement) → Rises entry_cmp entries → Rises entry_cmp (drop n entries)
 rises_later zero entries rises = rises
 rises_later (suc n) [] rises = rises
 rises_later (suc n) (e ∷ entries) rises = rises_later n entries rises.1
 
-module _ (b : BucketView) (first : ℕ) (prefix : Key) (entries : List LeafElement) where
-  -- after the seek
-  pub stage_sought : (opened : ℕ) (place : Place) (x : Option EntryView) → AreSorted b entries → StandsAt entries (least_from prefix entries) place x → OpensSeek b prefix first opened
-      → Stage b first prefix entries opened place x []
-  stage_sought opened place x are stands seeks = record {
-    n = least_from prefix entries;
-    at = omega arith;
-    stands = stands;
-    whole = from_least prefix entries;
-    rises = rises_later (least_from prefix entries) entries are.rises;
-    after = after_least prefix entries are.rises;
-    opens = λ seek gap is gaps. seeks entries seek are is ∙ ap (counted first) (omega arith);
-  }
+-- after the seek
+pub stage_sought : (b : BucketView) (first : ℕ) (prefix : Key) (entries : List LeafElement) (opened : ℕ) (place : Place) (x : Option EntryView) → AreSorted b entries
+    → StandsAt entries (least_from prefix entries) place x → OpensSeek b prefix first opened → Stage b first prefix entries opened place x (least_from prefix entries) 0
+stage_sought b first prefix entries opened place x are stands seeks = record {
+  at = omega arith;
+  stands = stands;
+  whole = let same = ap length (from_least prefix entries) in omega (arith, same);
+  rises = rises_later (least_from prefix entries) entries are.rises;
+  after = after_least prefix entries are.rises;
+  opens = λ seek gap is gaps. seeks entries seek are is ∙ ap (counted first) (omega arith);
+}
 
-  module _ (opened : ℕ) (place : Place) (done : List LeafElement) where
-    one_more : (e : LeafElement) → length (done ++ e ∷ []) ≡ suc (length done)
-    one_more e = let l = length-append done (e ∷ []) in omega (arith, l)
+module _ (b : BucketView) (first : ℕ) (prefix : Key) (entries : List LeafElement) (opened : ℕ) (place : Place) (n done : ℕ) where
+  -- the next of those that begin so is the first of them,
+  pub next_first : (v : EntryView) (stage : Stage b first prefix entries opened place (Some v) n done) → key_begins v.key prefix ≡ true
+      → with_prefix prefix (drop n entries) ≡ stage.stands.0 ∷ with_prefix prefix (drop (suc n) entries)
+  next_first v stage starts =
+      let (e, shown, on, rest) = stage.stands in
+      ap (with_prefix prefix) rest ∙ cond-true (begins prefix e) (e ∷ with_prefix prefix (drop (suc n) entries)) (with_prefix prefix (drop (suc n) entries)) (rw shown at starts)
 
-    -- the next of those that begin so is gone over
-    pub stage_next : (v : EntryView) (stage : Stage b first prefix entries opened place (Some v) done) → key_begins v.key prefix ≡ true
-        → (opened2 : ℕ) (place2 : Place) (x2 : Option EntryView) → AreSorted b entries
-        → (place_in entries place2 ≡ (next_move entries (place_in entries place)).place) × (x2 ≡ option_map entry_view (next_move entries (place_in entries place)).answer)
-        → OpensByNext b place opened opened2
-        → Stage b first prefix entries opened2 place2 x2 (done ++ stage.stands.0 ∷ [])
-    stage_next v stage starts opened2 place2 x2 are moves opens =
-        let (e, shown, on, rest) = stage.stands in
-        let n = stage.n in
-        let has : begins prefix e ≡ true = subst (λ (w : EntryView). key_begins w.key prefix ≡ true) shown starts in
-        let count = one_more e in
-        let rises : Rises entry_cmp (e ∷ drop (suc n) entries) = subst (Rises entry_cmp) rest stage.rises in
-        record {
-          n = suc n;
-          at = let old = stage.at in omega (arith, old, count);
-          stands = moved entries n place place2 x2 on moves;
-          whole = stage.whole ∙ ap (λ (l : List LeafElement). done ++ with_prefix prefix l) rest ∙ ap (λ (l : List LeafElement). done ++ l) (keeps prefix e (drop (suc n) entries) has)
-              ∙ sym (append_assoc done (e ∷ []) (with_prefix prefix (drop (suc n) entries)));
-          rises = rises.1;
-          after = λ f more. stage.after f (subst (λ (l : List LeafElement). Contains l f) (sym rest) (contains_tail e f (drop (suc n) entries) more));
-          opens = λ seek gap is gaps.
-              let step : opened2 ≡ counted opened (gap (suc n)) = subst (λ (p : Place). OpensByNext b p opened opened2) on opens entries (gap (suc n)) are (gaps (suc n)) in
-              let before = stage.opens seek gap is gaps in
-              let gap_is : gap (suc n) ≡ gap_at prefix entries gap (length done) = ap (λ (k : ℕ). gap (suc k)) stage.at in
-              let sum : sum_to (gap_at prefix entries gap) (length (done ++ e ∷ [])) ≡ sum_to (gap_at prefix entries gap) (length done) + gap (suc n) =
-              ap (sum_to (gap_at prefix entries gap)) count ∙ ap (λ (k : ℕ). sum_to (gap_at prefix entries gap) (length done) + k) (sym gap_is) in
-              step ∙ ap (λ (k : ℕ). counted k (gap (suc n))) before ∙ counted_more first (seek + sum_to (gap_at prefix entries gap) (length done)) (gap (suc n))
-              ∙ ap (counted first) (omega (arith, sum));
-        }
+  -- and is gone over
+  pub stage_next : (v : EntryView) → Stage b first prefix entries opened place (Some v) n done → key_begins v.key prefix ≡ true
+      → (opened2 : ℕ) (place2 : Place) (x2 : Option EntryView) → AreSorted b entries
+      → (place_in entries place2 ≡ (next_move entries (place_in entries place)).place) × (x2 ≡ option_map entry_view (next_move entries (place_in entries place)).answer)
+      → OpensByNext b place opened opened2 → Stage b first prefix entries opened2 place2 x2 (suc n) (suc done)
+  stage_next v stage starts opened2 place2 x2 are moves opens =
+      let (e, shown, on, rest) = stage.stands in
+      let rises : Rises entry_cmp (e ∷ drop (suc n) entries) = rw rest at stage.rises in
+      record {
+        at = let old = stage.at in omega (arith, old);
+        stands = moved entries n place place2 x2 on moves;
+        whole = let next = ap length (next_first v stage starts) in let old = stage.whole in omega (arith, next, old);
+        rises = rises.1;
+        after = λ f more. stage.after f (subst (λ (l : List LeafElement). Contains l f) (sym rest) (contains_tail e f (drop (suc n) entries) more));
+        opens = λ seek gap is gaps.
+            let step : opened2 ≡ counted opened (gap (suc n)) = subst (λ (p : Place). OpensByNext b p opened opened2) on opens entries (gap (suc n)) are (gaps (suc n)) in
+            let before = sum_to (gap_at prefix entries gap) done in
+            let sum : before + gap (suc n) ≡ sum_to (gap_at prefix entries gap) (suc done) = ap (λ (k : ℕ). before + gap (suc k)) stage.at in
+            step ∙ ap (λ (k : ℕ). counted k (gap (suc n))) (stage.opens seek gap is gaps) ∙ counted_more first (seek + before) (gap (suc n)) ∙ ap (counted first) (omega (arith, sum));
+      }
 
-    -- no other begins so, if no more is left,
-    no_more : (x : Option EntryView) (stage : Stage b first prefix entries opened place x done) → with_prefix prefix (drop stage.n entries) ≡ [] → with_prefix prefix entries ≡ done
-    no_more x stage none = stage.whole ∙ ap (λ (l : List LeafElement). done ++ l) none ∙ append-nil done
+  -- no other begins so, if none is left,
+  pub none_shown : Stage b first prefix entries opened place None n done → with_prefix prefix (drop n entries) ≡ []
+  none_shown stage = ap (with_prefix prefix) stage.stands
 
-    pub none_shown : Stage b first prefix entries opened place None done → with_prefix prefix entries ≡ done
-    none_shown stage = no_more None stage (ap (with_prefix prefix) stage.stands)
+  -- or if the next doesn't
+  pub other_shown : (v : EntryView) → Stage b first prefix entries opened place (Some v) n done → key_begins v.key prefix ≡ false → with_prefix prefix (drop n entries) ≡ []
+  other_shown v stage differs =
+      let (e, shown, on, rest) = stage.stands in
+      let after = rw rest at stage.after e in
+      ap (with_prefix prefix) rest ∙ none_later prefix e (drop (suc n) entries) (rw rest at stage.rises) (after (contains_head e (drop (suc n) entries))) (rw shown at differs)
 
-    -- or if the next doesn't
-    pub other_shown : (v : EntryView) → Stage b first prefix entries opened place (Some v) done → key_begins v.key prefix ≡ false → with_prefix prefix entries ≡ done
-    other_shown v stage differs =
-        let (e, shown, on, rest) = stage.stands in
-        let apart : begins prefix e ≡ false = rw shown at differs in
-        let after = rw rest at stage.after e in
-        let rises = rw rest at stage.rises in
-        no_more (Some v) stage (ap (with_prefix prefix) rest ∙ none_later prefix e (drop (suc stage.n) entries) rises (after (contains_head e (drop (suc stage.n) entries))) apart)
-
-    -- so the pages were opened for all
-    pub all_opened : (x : Option EntryView) → Stage b first prefix entries opened place x done → with_prefix prefix entries ≡ done → Opened b first prefix entries opened (length (with_prefix prefix entries))
-    all_opened x stage same = rw same stage.opens
-
--- ---- their lines
-
-keys_after : (form : Form) (done left : List LeafElement) → keys_text form done ++ keys_text form left ≡ keys_text form (done ++ left)
-keys_after form done left = sym (flat_map-append (λ (e : LeafElement). value_text form e.key) done left)
-
-module _ {S : Type 0} {sink : Ghosts S} (form : Form) {old mid : S} (done : List LeafElement) (put : Wrote sink old mid (keys_text form done) endings.whole) where
-  -- one line more
-  pub line_more : {new : S} (e : LeafElement) → Wrote sink mid new (value_text form e.key) endings.whole → Wrote sink old new (keys_text form (done ++ e ∷ [])) endings.whole
-  line_more e one = Wrote-same (ap (λ (l : List ℕ). keys_text form done ++ l) (sym (append-nil (value_text form e.key))) ∙ keys_after form done (e ∷ [])) (Wrote-then put one)
-
-  -- it was not written whole
-  pub line_stop : {new : S} (all left rest : List LeafElement) (e : LeafElement) (fault : ReportFault) (result : Result ⊤ ReportFault) → all ≡ done ++ left → left ≡ e ∷ rest
-      → Wrote sink mid new (value_text form e.key) (fault_ending fault) → IsErrAnd result (λ f. f ≡ fault) → Wrote sink old new (keys_text form all) (report_ending result)
-  line_stop all left rest e fault result all_are first one is =
-      Wrote-same (keys_after form done (e ∷ rest) ∙ ap (keys_text form) (ap (λ (l : List LeafElement). done ++ l) (sym first) ∙ sym all_are)) (Wrote-then put (Wrote-fault (keys_text form rest) fault result one is))
+  -- so the pages were opened for all
+  pub all_opened : (x : Option EntryView) → Stage b first prefix entries opened place x n done → with_prefix prefix (drop n entries) ≡ []
+      → Opened b first prefix entries opened (length (with_prefix prefix entries))
+  all_opened x stage none =
+      let left = ap length none in
+      let all : done ≡ length (with_prefix prefix entries) = let whole = stage.whole in omega (arith, whole, left) in
+      subst (Opened b first prefix entries opened) all stage.opens
 
 -- ---- a fault that is handed on
 

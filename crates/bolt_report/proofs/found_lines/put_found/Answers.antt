@@ -1,14 +1,9 @@
 -- The pieces are those of the line.
-use Rattle.std.proofs.Common.{◌≡◌, ◌∙◌, ◌++◌, ◌-◌, List, [], ℕ, Option, Some, ap, codes, length, option_map, slice_get, subst, sym, unwrap_or}
-use Rattle.std.specs.Prelude.{decimal}
-use Rattle.hex.specs.Hex.{encode_lower}
-use Rattle.bolt_check.specs.Keys.{Key}
+use Rattle.std.proofs.Common.{◌≡◌, ◌∙◌, ◌-◌, List, [], ℕ, Option, Some, ap, length, option_map, slice_get, sym, unwrap_or}
 use Rattle.bolt_format.specs.ElementPlaces.{leaf_view}
 use Rattle.bolt_format.specs.Elements.{LeafElement}
 use Rattle.bolt_format.specs.Shown.{shown}
-use Rattle.bolt_format.proofs.WroteLemmas.{Wrote-same}
 use Rattle.bolt_report.specs.FoundLines.{bucket_count, found_line, key_at}
-use Rattle.bolt_report.specs.Lines.{line}
 use Rattle.bolt_report.proofs.found_lines.put_found.Goals as goal
 
 -- the key of an element by its place

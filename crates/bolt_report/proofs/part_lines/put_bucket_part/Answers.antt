@@ -1,16 +1,15 @@
 -- The bucket at the path comes before all that begins with the path, so nothing is missed before it is found.
-use Rattle.std.proofs.Common.{◌≡◌, ◌∙◌, ◌∷◌, ◌&&◌, ◌||◌, [], Bool, List, Bor, ap, sym, subst, refl, true, not, length, ℕ, ◌==◌}
+use Rattle.std.proofs.Common.{◌≡◌, ◌∙◌, ◌∷◌, ◌||◌, [], Bool, List, Bor, ap, sym, refl, true, length, ℕ, ◌==◌}
 use Rattle.std.specs.List.{list_any}
-use Rattle.std.specs.Ordering.{is_lt}
 use Rattle.std.proofs.lemmas.List.{length-map}
 use Rattle.bolt_format.proofs.WroteFronts.{front_more, front_same}
 use Rattle.bolt_format.proofs.WroteLemmas.{Wrote-none, Wrote-same}
 use Rattle.bolt_report.specs.ListForms.{lines_form, list_line, listing_lines}
 use Rattle.bolt_report.specs.declared.form.ListForm.{ListForm}
 use Rattle.bolt_tree.specs.Listing.{Member, member_cmp, rest_from}
-use Rattle.bolt_tree.specs.ListingParts.{begins_with, is_bucket_at}
+use Rattle.bolt_tree.specs.ListingParts.{is_bucket_at}
 use Rattle.bolt_tree.specs.Order.{Rises}
-use Rattle.bolt_tree.specs.Paths.{Path, path_cmp, path_of}
+use Rattle.bolt_tree.specs.Paths.{path_of}
 use Rattle.bolt_tree.specs.ShownEntries.{item_view}
 use Rattle.bolt_report.proofs.ListPartTexts.{iff_then, before_bucket, has_next, left_part, over_unwanted, with_wanted}
 use Rattle.bolt_report.proofs.ReportLemmas.{front_fault}
