@@ -36,6 +36,13 @@ pub number_at_place : (n i : ℕ) → i < n → slice_get (range_with_len 0 n) i
 number_at_place n i below =
     slice_get-get_or (range_with_len 0 n) i 0 (omega (arith, below, length-range_with_len 0 n)) ∙ ap (λ k. Some k) (get_or-range_with_len 0 n i 0 below ∙ omega arith)
 
+-- the row of a page by its role, and the pages that have one
+abbrev pub row_of : Checked → (ℕ → Role) → ℕ → List ℕ
+row_of checked roles n = page_row (bytes_of checked) (meta_of checked) n (roles n)
+
+abbrev pub rows_in : Checked → List ℕ
+rows_in checked = pages_in (bytes_of checked) (meta_of checked)
+
 module _ (checked : Checked) (is : has_accounts checked ≡ true) where
   abbrev file : List ℕ
   file = bytes_of checked
@@ -60,7 +67,7 @@ module _ (checked : Checked) (is : has_accounts checked ≡ true) where
 
   -- a page in the file: its place among these, and its row
   pub next_row : (roles : ℕ → Role) → AreRoles file meta roles → (n : ℕ) (found : Role) → n < min (begun file meta) meta.high_water → ∥ HasRole file meta n found ∥₁
-      → (slice_get (pages_in file meta) n ≡ Some n) × (page_row file meta n found ≡ page_row file meta n (roles n))
+      → (slice_get (rows_in checked) n ≡ Some n) × (page_row file meta n found ≡ row_of checked roles n)
   next_row roles are n found below has =
       (number_at_place (min (begun file meta) meta.high_water) n below, ap (page_row file meta n) (same_role roles are n found (omega (arith, below)) has))
 

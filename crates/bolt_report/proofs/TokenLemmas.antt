@@ -42,10 +42,6 @@ parts_tokens (part ∷ path) =
     ap (λ (ts : List Token). json_tokens (item_json part.now) ++ ts) (parts_tokens path)
     ∙ sym (append_assoc (json_tokens (item_json part.now)) (flat_map (λ (p : Bor (List ℕ)). json_tokens (item_json p.now)) path) (end_array ∷ []))
 
--- three lists of tokens
-pub three_added : (old a b c xs ys zs : List Token) → a ≡ old ++ xs → b ≡ a ++ ys → c ≡ b ++ zs → c ≡ old ++ (xs ++ (ys ++ zs))
-three_added old a b c xs ys zs first second third = rw third (rw second (rw first (simp append_assoc)))
-
 -- bytes that are UTF-8 are a string
 pub text_tokens : (bytes text : List ℕ) → IsUtf8 bytes → text ≡ bytes → json_tokens (item_json bytes) ≡ string text ∷ []
 text_tokens bytes text utf8 same = rw (is_utf8-from_IsUtf8 bytes utf8) (rw same refl)

@@ -1,10 +1,8 @@
-use Rattle.std.proofs.Common.{◌∙◌, List, ℕ, arith, min}
+use Rattle.std.proofs.Common.{◌∙◌, arith}
 use Rattle.std.proofs.lemmas.List.FromFn.{length-range_with_len}
 use Rattle.bolt_format.proofs.WroteLemmas.{Wrote-element, Wrote-element_return, Wrote-elements, Wrote-same}
-use Rattle.bolt_check.specs.CheckedFiles.{bytes_of, meta_of}
 use Rattle.bolt_check.specs.RoledFiles.{roles_checked}
-use Rattle.bolt_report.specs.PageTables.{begun, page_row, pages_in}
-use Rattle.bolt_report.proofs.PageTableLemmas.{next_row, positive}
+use Rattle.bolt_report.proofs.PageTableLemmas.{next_row, positive, row_of, rows_in}
 use Rattle.bolt_report.proofs.page_table.put_rows.Goals as goal
 
 pub pages_begun-requires : goal.pages_begun-requires
@@ -15,23 +13,19 @@ put_row-requires g c = rw c.checked-checked.ensures c.role.ensures
 
 pub returns-in_err-put_row : goal.returns-in_err-put_row
 returns-in_err-put_row g c = λ roles are.
-    let file : List ℕ = bytes_of (roles_checked c.args.table.now) in
-    let meta = meta_of (roles_checked c.args.table.now) in
     let below = rw (c.min-end.ensures, c.meta.ensures, c.pages_begun.ensures, c.checked-checked.ensures) at c.loop-id-test.true in
     let (at, same) = next_row (roles_checked c.args.table.now) c.requires roles are c.loop-id.id c.role.result below c.role.ensures in
-    Wrote-element_return (λ n. page_row file meta n (roles n)) (pages_in file meta) c.loop-id.id c.loop-id.id _ at (c.loop-id.invariant roles are) (Wrote-same same (rw c.checked-checked.ensures at c.in_err-put_row.ensures)) c.from_residual.ensures.0
+    Wrote-element_return (row_of (roles_checked c.args.table.now) roles) (rows_in (roles_checked c.args.table.now)) c.loop-id.id c.loop-id.id _ at (c.loop-id.invariant roles are)
+    (Wrote-same same (rw c.checked-checked.ensures at c.in_err-put_row.ensures)) c.from_residual.ensures.0
 
 pub loop-id-preserved : goal.loop-id-preserved
 loop-id-preserved g c = λ roles are.
-    let file : List ℕ = bytes_of (roles_checked c.args.table.now) in
-    let meta = meta_of (roles_checked c.args.table.now) in
     let below = rw (c.min-end.ensures, c.meta.ensures, c.pages_begun.ensures, c.checked-checked.ensures) at c.loop-id-test.true in
     let (at, same) = next_row (roles_checked c.args.table.now) c.requires roles are c.loop-id.id c.role.result below c.role.ensures in
-    Wrote-element (λ n. page_row file meta n (roles n)) (pages_in file meta) c.loop-id.id c.loop-id.id at (c.loop-id.invariant roles are) (Wrote-same same (rw c.checked-checked.ensures at c.in_ok-put_row.ensures))
+    Wrote-element (row_of (roles_checked c.args.table.now) roles) (rows_in (roles_checked c.args.table.now)) c.loop-id.id c.loop-id.id at (c.loop-id.invariant roles are) (Wrote-same same (rw c.checked-checked.ensures at c.in_ok-put_row.ensures))
 
 pub returns : goal.returns
 returns g c = λ roles are.
-    let file : List ℕ = bytes_of (roles_checked c.args.table.now) in
-    let meta = meta_of (roles_checked c.args.table.now) in
     let ends = rw (c.meta.ensures, c.pages_begun.ensures, c.checked-checked.ensures) at c.min-end.ensures in
-    Wrote-elements (λ n. page_row file meta n (roles n)) (pages_in file meta) c.loop-id.id (length-range_with_len 0 (min (begun file meta) meta.high_water) ∙ omega (arith, c.loop-id-test.false, c.loop-id.auto.id-end, ends)) (c.loop-id.invariant roles are)
+    Wrote-elements (row_of (roles_checked c.args.table.now) roles) (rows_in (roles_checked c.args.table.now)) c.loop-id.id
+    (length-range_with_len 0 _ ∙ omega (arith, c.loop-id-test.false, c.loop-id.auto.id-end, ends)) (c.loop-id.invariant roles are)
