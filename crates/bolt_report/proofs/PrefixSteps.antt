@@ -9,7 +9,6 @@ use Rattle.std.proofs.lemmas.Bool.{cond-true}
 use Rattle.std.proofs.lemmas.List.{drop_all}
 use Rattle.std.proofs.lemmas.Option.{same_Some}
 use Rattle.bolt_format.specs.Elements.{LeafElement}
-use Rattle.bolt_format.specs.Endings as endings
 use Rattle.bolt_format.proofs.ListLemmas.{drop_next}
 use Rattle.bolt_check.specs.CheckedFiles.{bytes_of, meta_of}
 use Rattle.bolt_check.specs.Keys.{Key, key_lt}

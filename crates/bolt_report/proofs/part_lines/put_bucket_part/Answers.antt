@@ -1,5 +1,5 @@
 -- The bucket at the path comes before all that begins with the path, so nothing is missed before it is found.
-use Rattle.std.proofs.Common.{◌≡◌, ◌∙◌, ◌∷◌, ◌||◌, [], Bool, List, Bor, ap, sym, refl, true, length, ℕ, ◌==◌}
+use Rattle.std.proofs.Common.{◌≡◌, ◌∙◌, ◌∷◌, ◌||◌, [], Bool, List, Bor, ap, sym, refl, length, ℕ, ◌==◌}
 use Rattle.std.specs.List.{list_any}
 use Rattle.std.proofs.lemmas.List.{length-map}
 use Rattle.bolt_format.proofs.WroteFronts.{front_more, front_same}
