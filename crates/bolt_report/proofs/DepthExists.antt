@@ -1,7 +1,8 @@
 -- The depth that is found page by page is the bucket's depth.
-use Rattle.std.proofs.Common.{◌≡◌, ◌≢◌, ◌∙◌, ◌==◌, ℕ, zero, suc, ◌+◌, ◌≤◌, ◌<◌, ◌⊎◌, max, inl, inr, Bool, true, false, List, [], ◌∷◌, ◌++◌, Option, Some, None, Result, Ok, cond, length, slice_get, refl, sym, ap, subst, arith, if◌then◌else◌}
+use Rattle.std.proofs.Common.{◌≡◌, ◌≢◌, ◌∙◌, ◌==◌, ℕ, zero, suc, ◌+◌, ◌≤◌, ◌⊎◌, max, inl, inr, Bool, true, false, List, [], ◌∷◌, ◌++◌, Option, Some, None, Result, Ok, cond, length, slice_get, refl, sym, ap, subst, arith, if◌then◌else◌}
 use Rattle.std.proofs.Math.Dec.{eqb-suc-zero}
-use Rattle.std.proofs.lemmas.Bool.{cases_lt}
+use Rattle.std.proofs.lemmas.Bool.{cases_Bool, cases_lt}
+use Rattle.std.proofs.lemmas.Option.{none-some, same_Some}
 use Rattle.bolt_check.specs.Nodes.{Entry, Node, Nodes}
 use Rattle.bolt_check.specs.Shape.{child_at, child_in, child_of, leads}
 use Rattle.bolt_check.specs.Subtrees.{Enough, Has, kid_pages, root_page}
@@ -13,18 +14,6 @@ use Rattle.bolt_report.specs.Depths.{IsBucketIn, IsDeepest, IsDepth, IsHeight, I
 use Rattle.bolt_report.specs.Readings.{inner_pages, pages_in_bucket, roots_in_bucket}
 use Rattle.bolt_report.proofs.DepthSums.{deepest_kids, depth_from, greatest_append, greatest_has, height_kids, page_has}
 
-one_number : (a b : ℕ) → Some a ≡ Some b → a ≡ b
-one_number a b e = cc
-
-one_entry : (a b : Entry) → Some a ≡ Some b → a ≡ b
-one_entry a b e = cc
-
-no_entry : (e : Entry) → None ≡ Some e → ⊥
-no_entry e h = cc
-
-not_leaf : true ≡ false → ⊥
-not_leaf e = cc
-
 -- one of the numbers has the greatest
 greatest_met : (f : ℕ → ℕ) (xs : List ℕ) → (greatest f xs ≡ 0) ⊎ ((m : ℕ) × (Has m xs × (f m ≡ greatest f xs)))
 greatest_met f [] = inl refl
@@ -35,10 +24,13 @@ greatest_met f (x ∷ xs) = elim (cases_lt (f x) (greatest f xs)) [
 
 -- the children of a branch
 child_has : (is_leaf : Bool) (entries : List Entry) (i : ℕ) (e : Entry) → is_leaf ≡ false → slice_get entries i ≡ Some e → Has e.child (pages_in_bucket is_leaf entries)
-child_has true entries i e leaf at = absurd (not_leaf leaf)
-child_has false [] i e leaf at = absurd (no_entry e at)
-child_has false (x ∷ entries) zero e leaf at = inl (ap (λ (y : Entry). y.child) (sym (one_entry x e at)))
+child_has true entries i e leaf at = cc
+child_has false [] i e leaf at = cc
+child_has false (x ∷ entries) zero e leaf at = inl (ap (λ (y : Entry). y.child) (sym (same_Some x e at)))
 child_has false (x ∷ entries) (suc i) e leaf at = inr (child_has false entries i e leaf at)
+
+kid_at : (node : Node) (i : ℕ) (e : Entry) → node.is_leaf ≡ false → slice_get node.entries i ≡ Some e → Has e.child (kid_pages node.is_leaf node.entries)
+kid_at node i e branch at = page_has e.child node.is_leaf node.entries (child_has node.is_leaf node.entries i e branch at)
 
 child_place : (entries : List Entry) (m : ℕ) → Has m (kid_pages false entries) → (i : ℕ) × (e : Entry) × (slice_get entries i ≡ Some e) × (e.child ≡ m)
 child_place [] m h = absurd h
@@ -71,7 +63,7 @@ module _ (nodes : Nodes) where
 
   module _ (steps : ℕ) where
     enough_leaf : (k : ℕ) (address : List ℕ) (n number : ℕ) → Enough nodes k n → leads nodes (Some n) address ≡ Some number → Enough nodes k number
-    enough_leaf k [] n number h e = subst (Enough nodes k) (one_number n number e) h
+    enough_leaf k [] n number h e = subst (Enough nodes k) (same_Some n number e) h
     enough_leaf k (i ∷ address) n number h e =
         let (node, page) = enough_node nodes k n h in
         let (m, (has, on)) = step_in n i address number node page e in
@@ -80,7 +72,7 @@ module _ (nodes : Nodes) where
     -- no leaf is deeper
     height_above : (address : List ℕ) (depth n : ℕ) → Enough nodes steps n → IsLeafAt nodes n address → depth + length address ≤ height_from nodes depth steps n
     height_above [] depth n h is =
-        let page : nodes n ≡ Ok is.node = ap nodes (one_number n is.number is.leads) ∙ is.page in
+        let page : nodes n ≡ Ok is.node = ap nodes (same_Some n is.number is.leads) ∙ is.page in
         let whole = height_kids nodes depth steps n is.node page h in
         let own = ap (λ (b : Bool). leaf_depth b depth) is.leaf in
         omega (arith, whole, own)
@@ -99,26 +91,24 @@ module _ (nodes : Nodes) where
 
     height_met : (k depth n : ℕ) → Enough nodes k n → Enough nodes steps n → HeightMet depth n
     height_met zero depth n low h = absurd low
-    height_met (suc k) depth n (node, page, kids) h = by_kind (λ m i. height_met k (suc depth) m (kids m i) (enough_kids nodes steps n node page h m i)) node.is_leaf refl
-      where
-        whole : (b : Bool) → node.is_leaf ≡ b → height_from nodes depth steps n ≡ max (leaf_depth b depth) (greatest (height_from nodes (suc depth) steps) (pages_in_bucket b node.entries))
-        whole b is = height_kids nodes depth steps n node page h ∙ ap (λ (c : Bool). max (leaf_depth c depth) (greatest (height_from nodes (suc depth) steps) (pages_in_bucket c node.entries))) is
-
-        by_kind : ((m : ℕ) → Has m (kid_pages node.is_leaf node.entries) → HeightMet (suc depth) m) → (b : Bool) → node.is_leaf ≡ b → HeightMet depth n
-        by_kind below true is = let all = whole true is in inr ([], (record { number = n; node = node; leads = refl; page = page; leaf = is }, omega (arith, all)))
-        by_kind below false is =
-            let all = whole false is in
-            elim (greatest_met (height_from nodes (suc depth) steps) (kid_pages false node.entries)) [
-              | inl z ↦ inl (omega (arith, all, z))
-              | inr (m, (has, same)) ↦
-                  let (i, e, at, child) = child_place node.entries m has in
-                  let in_node : Has m (kid_pages node.is_leaf node.entries) = subst (λ (c : Bool). Has m (kid_pages c node.entries)) (sym is) has in
-                  elim (below m in_node) [
-                    | inl z ↦ inl (omega (arith, all, same, z))
-                    | inr (address, (leaf, deep)) ↦
-                        inr (i ∷ address, (child_leaf n i node e address page is at (subst (λ (c : ℕ). IsLeafAt nodes c address) (sym child) leaf), omega (arith, all, same, deep)))
-                  ]
-            ]
+    height_met (suc k) depth n (node, page, kids) h =
+        let whole = height_kids nodes depth steps n node page h in
+        elim (cases_Bool node.is_leaf) [
+          | inl leaf ↦ let all = rw leaf at whole in inr ([], (record { number = n; node = node; leads = refl; page = page; leaf = leaf }, omega (arith, all)))
+          | inr branch ↦
+              let all = rw branch at whole in
+              elim (greatest_met (height_from nodes (suc depth) steps) (kid_pages false node.entries)) [
+                | inl z ↦ inl (omega (arith, all, z))
+                | inr (m, (has, same)) ↦
+                    let (i, e, at, child) = child_place node.entries m has in
+                    let here = ap (height_from nodes (suc depth) steps) child in
+                    let kid = kid_at node i e branch at in
+                    elim (height_met k (suc depth) e.child (kids e.child kid) (enough_kids nodes steps n node page h e.child kid)) [
+                      | inl z ↦ inl (omega (arith, all, same, here, z))
+                      | inr (address, (leaf, deep)) ↦ inr (i ∷ address, (child_leaf n i node e address page branch at leaf, omega (arith, all, same, here, deep)))
+                    ]
+              ]
+        ]
 
     -- no branch below this spot is empty
     abbrev pub AllFilled : PageSpot → Type 0
@@ -126,18 +116,17 @@ module _ (nodes : Nodes) where
 
     some_leaf : (k : ℕ) (s : PageSpot) → AllFilled s → Enough nodes k s.number → (address : List ℕ) × IsLeafAt nodes s.number address
     some_leaf zero s filled low = absurd low
-    some_leaf (suc k) s filled (node, page, kids) = by_kind (λ t under i. some_leaf k t under (kids t.number i)) node.is_leaf refl
-      where
-        by_kind : ((t : PageSpot) → AllFilled t → Has t.number (kid_pages node.is_leaf node.entries) → (address : List ℕ) × IsLeafAt nodes t.number address)
-            → (b : Bool) → node.is_leaf ≡ b → (address : List ℕ) × IsLeafAt nodes s.number address
-        by_kind below true is = ([], record { number = s.number; node = node; leads = refl; page = page; leaf = is })
-        by_kind below false is =
-            let (e, at) = first_entry node.entries (filled [] s node refl page is) in
-            let on = step_child nodes s 0 node e page is at in
-            let t = child_spot s e (upper_from (slice_get node.entries 1) s.upper) in
-            let (address, leaf) = below t (λ way u other f. filled (0 ∷ way) u other (ap (λ (o : Option Spot). follow nodes o way) on ∙ f))
-            (page_has e.child node.is_leaf node.entries (child_has node.is_leaf node.entries 0 e is at)) in
-            (0 ∷ address, child_leaf s.number 0 node e address page is at leaf)
+    some_leaf (suc k) s filled (node, page, kids) =
+        elim (cases_Bool node.is_leaf) [
+          | inl leaf ↦ ([], record { number = s.number; node = node; leads = refl; page = page; leaf = leaf })
+          | inr branch ↦
+              let (e, at) = first_entry node.entries (filled [] s node refl page branch) in
+              let on = step_child nodes s 0 node e page branch at in
+              let t = child_spot s e (upper_from (slice_get node.entries 1) s.upper) in
+              let (address, leaf) =
+              some_leaf k t (λ way u other f. filled (0 ∷ way) u other (ap (λ (o : Option Spot). follow nodes o way) on ∙ f)) (kids e.child (kid_at node 0 e branch at)) in
+              (0 ∷ address, child_leaf s.number 0 node e address page branch at leaf)
+        ]
 
     height_is : (root : ℕ) → Enough nodes steps root → AllFilled (root_spot root) → IsHeight nodes root (height_from nodes 1 steps root)
     height_is root h filled =
@@ -156,13 +145,9 @@ module _ (nodes : Nodes) where
     entry_depth b c = max (if b then (if c == 0 then 1 else 0) else 0) (greatest (depth_from nodes steps) (cond b (cond (c == 0) [] (c ∷ [])) []))
 
     entry_is : (b : Bool) (c : ℕ) → b ≡ true → entry_depth b c ≡ child_depth c
-    entry_is false c e = absurd (not_leaf (sym e))
+    entry_is false c e = cc
     entry_is true zero e = refl
     entry_is true (suc c) e = rw (eqb-suc-zero c) (omega arith)
-
-    entry_no : (b : Bool) (c : ℕ) → b ≡ false → entry_depth b c ≡ 0
-    entry_no true c e = absurd (not_leaf e)
-    entry_no false c e = refl
 
     -- an entry of a leaf, and the buckets of all
     abbrev leaf_deepest : List Entry → ℕ
@@ -172,9 +157,9 @@ module _ (nodes : Nodes) where
     first_deepest e entries = let both = greatest_append (depth_from nodes steps) (root_page e) (kid_pages true entries) in omega (arith, both)
 
     entry_above : (entries : List Entry) (place : ℕ) (e : Entry) → slice_get entries place ≡ Some e → e.is_bucket ≡ true → child_depth e.child ≤ leaf_deepest entries
-    entry_above [] place e at is = absurd (no_entry e at)
+    entry_above [] place e at is = absurd (none-some e at)
     entry_above (x ∷ entries) zero e at is =
-        let same : child_depth e.child ≡ entry_depth x.is_bucket x.child = sym (entry_is e.is_bucket e.child is) ∙ ap (λ (y : Entry). entry_depth y.is_bucket y.child) (sym (one_entry x e at)) in
+        let same : child_depth e.child ≡ entry_depth x.is_bucket x.child = sym (entry_is e.is_bucket e.child is) ∙ ap (λ (y : Entry). entry_depth y.is_bucket y.child) (sym (same_Some x e at)) in
         let first = first_deepest x entries in
         omega (arith, same, first)
     entry_above (x ∷ entries) (suc place) e at is =
@@ -185,27 +170,25 @@ module _ (nodes : Nodes) where
 
     entry_met : (entries : List Entry) → EntryMet entries
     entry_met [] = inl refl
-    entry_met (x ∷ entries) = one_more (entry_met entries) x.is_bucket refl
-      where
-        one_more : EntryMet entries → (b : Bool) → x.is_bucket ≡ b → EntryMet (x ∷ entries)
-        one_more rest b is = by_size rest b is (cases_lt (entry_depth x.is_bucket x.child) (leaf_deepest entries))
-          where
-            later : EntryMet entries → entry_depth x.is_bucket x.child ≤ leaf_deepest entries → EntryMet (x ∷ entries)
-            later (inl z) le = let first = first_deepest x entries in inl (omega (arith, first, z, le))
-            later (inr (place, e, at, bucket, same)) le = let first = first_deepest x entries in inr (suc place, e, at, bucket, omega (arith, first, same, le))
-
-            by_size : EntryMet entries → (b : Bool) → x.is_bucket ≡ b → (entry_depth x.is_bucket x.child < leaf_deepest entries) ⊎ (leaf_deepest entries ≤ entry_depth x.is_bucket x.child) → EntryMet (x ∷ entries)
-            by_size rest b is (inl less) = later rest (omega (arith, less))
-            by_size rest false is (inr more) = later rest (let none = entry_no x.is_bucket x.child is in omega (arith, none))
-            by_size rest true is (inr more) =
-                let first = first_deepest x entries in let here = entry_is x.is_bucket x.child is in
-                inr (0, x, refl, is, omega (arith, first, here, more))
+    entry_met (x ∷ entries) =
+        let first = first_deepest x entries in
+        let later : entry_depth x.is_bucket x.child ≤ leaf_deepest entries → EntryMet (x ∷ entries) = λ le. elim (entry_met entries) [
+          | inl z ↦ inl (omega (arith, first, z, le))
+          | inr (place, e, at, bucket, same) ↦ inr (suc place, e, at, bucket, omega (arith, first, same, le))
+        ] in
+        elim (cases_lt (entry_depth x.is_bucket x.child) (leaf_deepest entries)) [
+          | inl less ↦ later (omega (arith, less))
+          | inr more ↦ elim (cases_Bool x.is_bucket) [
+            | inl is ↦ let here = entry_is x.is_bucket x.child is in inr (0, x, refl, is, omega (arith, first, here, more))
+            | inr is ↦ later (rw is (omega arith))
+          ]
+        ]
 
     -- no bucket in it is deeper
     bucket_above : (address : List ℕ) (n : ℕ) → Enough nodes steps n → (leaf : IsLeafAt nodes n address) (place : ℕ) (e : Entry)
         → slice_get leaf.node.entries place ≡ Some e → e.is_bucket ≡ true → child_depth e.child ≤ deepest_from nodes steps n
     bucket_above [] n h leaf place e at is =
-        let page : nodes n ≡ Ok leaf.node = ap nodes (one_number n leaf.number leaf.leads) ∙ leaf.page in
+        let page : nodes n ≡ Ok leaf.node = ap nodes (same_Some n leaf.number leaf.leads) ∙ leaf.page in
         let whole = deepest_kids nodes steps n leaf.node page h in
         let kind = ap (λ (b : Bool). max (inline_in_bucket b leaf.node.entries) (max (greatest (deepest_from nodes steps) (pages_in_bucket b leaf.node.entries)) (greatest (depth_from nodes steps) (roots_in_bucket b leaf.node.entries)))) leaf.leaf in
         let up = entry_above leaf.node.entries place e at is in
@@ -225,50 +208,33 @@ module _ (nodes : Nodes) where
     bucket_met : (k n : ℕ) → Enough nodes k n → Enough nodes steps n → BucketMet n
     unfolding child_leaf
     bucket_met zero n low h = absurd low
-    bucket_met (suc k) n (node, page, kids) h = by_kind (λ m i. bucket_met k m (kids m i) (enough_kids nodes steps n node page h m i)) node.is_leaf refl
-      where
-        whole : (b : Bool) → node.is_leaf ≡ b → deepest_from nodes steps n
-            ≡ max (inline_in_bucket b node.entries) (max (greatest (deepest_from nodes steps) (pages_in_bucket b node.entries)) (greatest (depth_from nodes steps) (roots_in_bucket b node.entries)))
-        whole b is = deepest_kids nodes steps n node page h
-            ∙ ap (λ (c : Bool). max (inline_in_bucket c node.entries) (max (greatest (deepest_from nodes steps) (pages_in_bucket c node.entries)) (greatest (depth_from nodes steps) (roots_in_bucket c node.entries)))) is
-
-        by_kind : ((m : ℕ) → Has m (kid_pages node.is_leaf node.entries) → BucketMet m) → (b : Bool) → node.is_leaf ≡ b → BucketMet n
-        by_kind below true is =
-            let all = whole true is in
-            elim (entry_met node.entries) [
-              | inl z ↦ inl (omega (arith, all, z))
-              | inr (place, e, at, bucket, same) ↦ inr (
-                e,
-                (
-                  record { address = []; leaf = record { number = n; node = node; leads = refl; page = page; leaf = is }; place = place; entry = at; bucket = bucket },
-                  omega (arith, all, same),
-                ),
-              )
-            ]
-        by_kind below false is =
-            let all = whole false is in
-            elim (greatest_met (deepest_from nodes steps) (kid_pages false node.entries)) [
-              | inl z ↦ inl (omega (arith, all, z))
-              | inr (m, (has, same)) ↦
-                  let (i, e, at, child) = child_place node.entries m has in
-                  let here = ap (deepest_from nodes steps) child in
-                  elim (below e.child (page_has e.child node.is_leaf node.entries (child_has node.is_leaf node.entries i e is at))) [
-                    | inl z ↦ inl (omega (arith, all, same, here, z))
-                    | inr (x, (in_child, deep)) ↦ inr (
-                      x,
-                      (
-                        record {
-                          address = i ∷ in_child.address;
-                          leaf = child_leaf n i node e in_child.address page is at in_child.leaf;
-                          place = in_child.place;
-                          entry = in_child.entry;
-                          bucket = in_child.bucket;
-                        },
-                        omega (arith, all, same, here, deep),
-                      ),
-                    )
-                  ]
-            ]
+    bucket_met (suc k) n (node, page, kids) h =
+        let whole = deepest_kids nodes steps n node page h in
+        elim (cases_Bool node.is_leaf) [
+          | inl leaf ↦
+              let all = rw leaf at whole in
+              elim (entry_met node.entries) [
+                | inl z ↦ inl (omega (arith, all, z))
+                | inr (place, e, at, bucket, same) ↦
+                    let here : IsLeafAt nodes n [] = record { number = n; node = node; leads = refl; page = page; leaf = leaf } in
+                    inr (e, (record { address = []; leaf = here; place = place; entry = at; bucket = bucket }, omega (arith, all, same)))
+              ]
+          | inr branch ↦
+              let all = rw branch at whole in
+              elim (greatest_met (deepest_from nodes steps) (kid_pages false node.entries)) [
+                | inl z ↦ inl (omega (arith, all, z))
+                | inr (m, (has, same)) ↦
+                    let (i, e, at, child) = child_place node.entries m has in
+                    let here = ap (deepest_from nodes steps) child in
+                    let kid = kid_at node i e branch at in
+                    elim (bucket_met k e.child (kids e.child kid) (enough_kids nodes steps n node page h e.child kid)) [
+                      | inl z ↦ inl (omega (arith, all, same, here, z))
+                      | inr (x, (is, deep)) ↦
+                          let below : IsLeafAt nodes n (i ∷ is.address) = child_leaf n i node e is.address page branch at is.leaf in
+                          inr (x, (record { address = i ∷ is.address; leaf = below; place = is.place; entry = is.entry; bucket = is.bucket }, omega (arith, all, same, here, deep)))
+                    ]
+              ]
+        ]
 
     deepest_is : (root : ℕ) → Enough nodes steps root → IsDeepest nodes root (λ (e : Entry). child_depth e.child) (deepest_from nodes steps root)
     deepest_is root h = record {
@@ -278,9 +244,9 @@ module _ (nodes : Nodes) where
 
     -- a bucket that lies in this one
     bucket_has : (entries : List Entry) (place c : ℕ) (e : Entry) → slice_get entries place ≡ Some e → e.is_bucket ≡ true → e.child ≡ suc c → Has (suc c) (kid_pages true entries)
-    bucket_has [] place c e at is child = absurd (no_entry e at)
+    bucket_has [] place c e at is child = absurd (none-some e at)
     bucket_has (x ∷ entries) zero c e at is child =
-        let same = one_entry x e at in
+        let same = same_Some x e at in
         let bucket : x.is_bucket ≡ true = ap (λ (y : Entry). y.is_bucket) same ∙ is in
         let leads : x.child ≡ suc c = ap (λ (y : Entry). y.child) same ∙ child in
         rw (bucket, leads, eqb-suc-zero c) (inl refl)
@@ -297,23 +263,18 @@ module _ (nodes : Nodes) where
         filled (is.address ++ is.place ∷ way) u node
         (follow_append nodes (Some (At_page (root_spot root))) is.address (is.place ∷ way) ∙ ap (λ (o : Option Spot). follow nodes o (is.place ∷ way)) on ∙ ap (λ (o : Option Spot). follow nodes o way) next ∙ f)
 
+    bucket_kid : (root c : ℕ) (e : Entry) (is : IsBucketIn nodes root e) → e.child ≡ suc c → Has (suc c) (kid_pages is.leaf.node.is_leaf is.leaf.node.entries)
+    bucket_kid root c e is child = rw is.leaf.leaf (bucket_has is.leaf.node.entries is.place c e is.entry is.bucket child)
+
     bucket_low : (k root c : ℕ) (e : Entry) (is : IsBucketIn nodes root e) → e.child ≡ suc c → Enough nodes (suc k) root → Enough nodes k (suc c)
     bucket_low k root c e is child h =
-        low (enough_leaf (suc k) is.address root is.leaf.number h is.leaf.leads)
-      where
-        same_node : (a b : Result Node ℕ) (x y : Node) → a ≡ Ok x → a ≡ Ok y → x ≡ y
-        same_node a b x y p q = let e = sym p ∙ q in cc
-
-        low : Enough nodes (suc k) is.leaf.number → Enough nodes k (suc c)
-        low (node, page, kids) =
-            let same = same_node (nodes is.leaf.number) (nodes is.leaf.number) is.leaf.node node is.leaf.page page in
-            kids (suc c) (subst (λ (x : Node). Has (suc c) (kid_pages x.is_leaf x.entries)) same
-            (subst (λ (b : Bool). Has (suc c) (kid_pages b is.leaf.node.entries)) (sym is.leaf.leaf) (bucket_has is.leaf.node.entries is.place c e is.entry is.bucket child)))
+        let (node, page, kids) = enough_leaf (suc k) is.address root is.leaf.number h is.leaf.leads in
+        let same : is.leaf.node ≡ node = let both = sym is.leaf.page ∙ page in cc in
+        kids (suc c) (subst (λ (x : Node). Has (suc c) (kid_pages x.is_leaf x.entries)) same (bucket_kid root c e is child))
 
     bucket_enough : (root c : ℕ) (e : Entry) (is : IsBucketIn nodes root e) → e.child ≡ suc c → Enough nodes steps root → Enough nodes steps (suc c)
     bucket_enough root c e is child h =
-        enough_kids nodes steps is.leaf.number is.leaf.node is.leaf.page (enough_leaf steps is.address root is.leaf.number h is.leaf.leads) (suc c)
-        (subst (λ (b : Bool). Has (suc c) (kid_pages b is.leaf.node.entries)) (sym is.leaf.leaf) (bucket_has is.leaf.node.entries is.place c e is.entry is.bucket child))
+        enough_kids nodes steps is.leaf.number is.leaf.node is.leaf.page (enough_leaf steps is.address root is.leaf.number h is.leaf.leads) (suc c) (bucket_kid root c e is child)
 
     depth_below : (k root : ℕ) → Enough nodes k root → Enough nodes steps root → AllFilled (root_spot root) → root ≢ 0 → IsDepth nodes root (depth_from nodes steps root)
     depth_below zero root low h filled ne = absurd low

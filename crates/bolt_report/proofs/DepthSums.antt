@@ -57,17 +57,10 @@ module _ (nodes : Nodes) where
   -- a page's own, and those below it
   pub height_kids : (depth k n : ℕ) (node : Node) → nodes n ≡ Ok node → Enough nodes k n
       → height_from nodes depth k n ≡ max (leaf_depth node.is_leaf depth) (greatest (height_from nodes (suc depth) k) (inner_pages node))
-  height_kids depth zero n node page h = absurd h
-  height_kids depth (suc k) n node page h =
-      ap (max (leaf_at (nodes n) depth)) (greatest_same (height_from nodes (suc depth) k) (height_from nodes (suc depth) (suc k)) (pages_at (nodes n)) (λ m i. sym (height_more (suc depth) k m (low_page k n m h i))))
-      ∙ ap (λ (r : Result Node ℕ). max (leaf_at r depth) (greatest (height_from nodes (suc depth) (suc k)) (pages_at r))) page
+  height_kids depth k n node page h =
+      sym (height_more depth k n h) ∙ ap (λ (r : Result Node ℕ). max (leaf_at r depth) (greatest (height_from nodes (suc depth) k) (pages_at r))) page
 
   pub deepest_kids : (k n : ℕ) (node : Node) → nodes n ≡ Ok node → Enough nodes k n
       → deepest_from nodes k n ≡ max (inner_inline node) (max (greatest (deepest_from nodes k) (inner_pages node)) (greatest (depth_from k) (inner_roots node)))
-  deepest_kids zero n node page h = absurd h
-  deepest_kids (suc k) n node page h =
-      let pages = greatest_same (deepest_from nodes k) (deepest_from nodes (suc k)) (pages_at (nodes n)) (λ m i. sym (deepest_more k m (low_page k n m h i))) in
-      let roots = greatest_same (depth_from k) (depth_from (suc k)) (roots_at (nodes n)) (λ m i.
-      let low = low_root k n m h i in let a = height_more 1 k m low in let b = deepest_more k m low in omega (arith, a, b)) in
-      let same = ap (λ (r : Result Node ℕ). max (inline_at r) (max (greatest (deepest_from nodes (suc k)) (pages_at r)) (greatest (depth_from (suc k)) (roots_at r)))) page in
-      omega (arith, pages, roots, same)
+  deepest_kids k n node page h =
+      sym (deepest_more k n h) ∙ ap (λ (r : Result Node ℕ). max (inline_at r) (max (greatest (deepest_from nodes k) (pages_at r)) (greatest (depth_from k) (roots_at r)))) page

@@ -48,13 +48,9 @@ size_object stats name =
 
 -- an item in a form that is JSON
 json_item : (f : Form) (bytes : List ℕ) → is_json f ≡ true → item_text f bytes ≡ json_text (json_in f bytes)
-json_item form.Printable bytes is = absurd (cc)
-json_item form.Hex bytes is = absurd (cc)
-json_item form.Bytes bytes is = absurd (cc)
-json_item form.Text bytes is = absurd (cc)
-json_item form.Mixed bytes is = absurd (cc)
 json_item form.Json bytes is = refl
 json_item form.JsonHex bytes is = refl
+json_item _ bytes is = absurd (cc)
 
 pub sized_item : (stats : Stats) (f : Form) (name : List ℕ) → is_json f ≡ true → size_members stats ++ (item_text f name ++ codes "}\n") ≡ line (json_text (size_json stats (json_in f name)))
 sized_item stats f name is = ap (λ (text : List ℕ). size_members stats ++ (text ++ codes "}\n")) (json_item f name is) ∙ size_object stats (json_in f name)

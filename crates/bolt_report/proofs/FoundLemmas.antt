@@ -1,34 +1,38 @@
--- The buckets among the first elements of a leaf, and the lines of found pages.
-use Rattle.std.proofs.Common.{◌≡◌, ◌≢◌, ◌∙◌, ◌+◌, ◌<◌, ◌++◌, ℕ, Bool, true, false, List, [], ◌∷◌, Some, ap, arith, flat_map, length, map, refl, slice_get, subst, take}
+-- The elements of a page: as many as its count says, and the buckets among the first of them.
+use Rattle.std.proofs.Common.{◌≡◌, length, subst, sym, ◌≢◌, ◌∙◌, ◌+◌, ◌<◌, ℕ, Bool, true, false, List, [], ◌∷◌, Some, ap, arith, refl, slice_get, take}
+use Rattle.std.proofs.lemmas.List.FromFn.{length-map-range_with_len}
+use Rattle.bolt_format.specs.Elements.{branch_element, branch_elements, leaf_element, leaf_elements, LeafElement}
+use Rattle.bolt_format.specs.Pages.{shown_branches, shown_leaves}
+use Rattle.bolt_format.specs.Shown.{shown}
+use Rattle.bolt_format.specs.declared.kind.Kind.TheVariants as kind
+use Rattle.bolt_format.specs.declared.good_page.Page.{Page}
 use Rattle.std.specs.Prelude.{cond}
 use Rattle.std.proofs.lemmas.List.Filters.{length-filter_more}
 use Rattle.std.proofs.lemmas.Option.{get_or_from_slice_get, slice_get_within}
-use Rattle.bolt_format.specs.Elements.{LeafElement}
-use Rattle.bolt_format.specs.Shown.{shown}
-use Rattle.bolt_format.specs.declared.good_page.Page.{Page}
-use Rattle.bolt_format.specs.declared.kind.Kind.TheVariants as kind
-use Rattle.bolt_recover.specs.declared.found.Found.{Found}
-use Rattle.bolt_report.specs.FoundLines.{bucket_count, found_line, found_text, found_view}
-use Rattle.bolt_report.proofs.ShownLemmas.{length-leaves}
+use Rattle.bolt_report.specs.FoundLines.{bucket_count}
+
+pub length-branches : (page : Page) → (shown page).kind ≡ kind.Branch → length (shown page).branches ≡ (shown page).count
+unfolding shown branch_elements
+length-branches page is = subst (λ k. length (shown_branches k page.count page.span.now) ≡ page.count) (sym is) (length-map-range_with_len (branch_element page.span.now) 0 page.count)
+
+pub length-leaves : (page : Page) → (shown page).kind ≡ kind.Leaf → length (shown page).leaves ≡ (shown page).count
+unfolding shown leaf_elements
+length-leaves page is = subst (λ k. length (shown_leaves k page.count page.span.now) ≡ page.count) (sym is) (length-map-range_with_len (leaf_element page.span.now) 0 page.count)
+
+-- for the search
+pub ruleset lengths = (length-branches, length-leaves)
 
 module _ (elements : List LeafElement) (i : ℕ) (e : LeafElement) (found : slice_get elements i ≡ Some e) where
-  bucket_more : bucket_count (take (i + 1) elements) ≡ bucket_count (take i elements) + cond e.is_bucket 1 0
-  bucket_more =
-      length-filter_more (λ (x : LeafElement). x.is_bucket) elements i e (slice_get_within elements i e found)
-      ∙ ap (λ (x : LeafElement). bucket_count (take i elements) + cond x.is_bucket 1 0) (get_or_from_slice_get elements i e e found)
-
   counted : (is : Bool) → e.is_bucket ≡ is → bucket_count (take (i + 1) elements) ≡ bucket_count (take i elements) + cond is 1 0
-  counted is same = bucket_more ∙ ap (λ (b : Bool). bucket_count (take i elements) + cond b 1 0) same
+  counted is same =
+      length-filter_more (λ (x : LeafElement). x.is_bucket) elements i e (slice_get_within elements i e found)
+      ∙ ap (λ (x : LeafElement). bucket_count (take i elements) + cond x.is_bucket 1 0) (get_or_from_slice_get elements i e e found) ∙ ap (λ (b : Bool). bucket_count (take i elements) + cond b 1 0) same
 
   pub counts_one : (count : ℕ) → e.is_bucket ≡ true → count ≡ bucket_count (take i elements) → count + 1 ≡ bucket_count (take (i + 1) elements)
   counts_one count is before = let more = counted true is in omega (arith, more, before)
 
   pub counts_none : (count : ℕ) → e.is_bucket ≡ false → count ≡ bucket_count (take i elements) → count ≡ bucket_count (take (i + 1) elements)
   counts_none count is before = let more = counted false is in omega (arith, more, before)
-
-pub found_lines : (found : List Found) → flat_map (λ (f : Found). found_line (found_view f)) found ≡ found_text (map found_view found)
-found_lines [] = refl
-found_lines (f ∷ found) = ap (λ (more : List ℕ). found_line (found_view f) ++ more) (found_lines found)
 
 nonempty : {X : Type 0} (xs : List X) → xs ≢ [] → 0 < length xs
 nonempty [] some = absurd (some refl)

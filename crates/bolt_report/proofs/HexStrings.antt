@@ -1,10 +1,12 @@
--- Hexadecimal digits as JSON strings, which need no escapes.
-use Rattle.std.proofs.Common.{◌≡◌, ◌∙◌, ℕ, ◌/◌, ◌%◌, suc, List, [], ◌∷◌, ◌++◌, Bool, true, false, ◌&&◌, ◌==◌, not, nat_le, arith, ap, refl, sym, append_assoc, codes}
-use Rattle.std.specs.Prelude.{decimal}
+-- Hexadecimal digits, written part by part, and as JSON strings, which need no escapes.
+use Rattle.std.proofs.Common.{◌≡◌, ◌∙◌, ℕ, ◌-◌, ◌/◌, ◌%◌, List, [], ◌∷◌, ◌++◌, length, take, drop, ap, refl, sym, take-append-drop, suc, Bool, true, false, ◌&&◌, ◌==◌, not, nat_le, arith, append_assoc, codes}
+use Rattle.std.specs.Prelude.{slice_index, decimal}
+use Rattle.std.proofs.lemmas.List.{take_rest}
+use Rattle.bolt_format.proofs.WroteFronts.{front_more, front_none}
+use Rattle.hex.specs.Hex.{encode_lower, encode_with, lower_digits, IsBytes}
 use Rattle.std.specs.List.{list_all}
 use Rattle.std.proofs.lemmas.Bool.{and_parts, eqb-false, leb-true, not-true}
 use Rattle.std.proofs.lemmas.List.Sums.{AllPass-from_list_all}
-use Rattle.hex.specs.Hex.{IsBytes, encode_lower, encode_with, lower_digits}
 use Rattle.json.proofs.Printed.Strings.{escape_byte_plain}
 use Rattle.json.specs.Print.{escape, escape_byte, print_from}
 use Rattle.json.specs.Token.{Token}
@@ -16,6 +18,24 @@ use Rattle.bolt_report.specs.JsonLines.{end_json, json_line, parts_json}
 use Rattle.bolt_report.specs.Lines.{line}
 use Rattle.bolt_report.specs.Pieces.{hex_string, path_text}
 use Rattle.bolt_report.specs.declared.pieces.PathForm.TheVariants.{Strings}
+
+encode_with-append : (digits xs ys : List ℕ) → encode_with digits (xs ++ ys) ≡ encode_with digits xs ++ encode_with digits ys
+unfolding encode_with
+encode_with-append digits [] ys = refl
+encode_with-append digits (x ∷ xs) ys = ap (λ l. slice_index digits (x / 16) ∷ slice_index digits (x % 16) ∷ l) (encode_with-append digits xs ys)
+
+-- the digits of the next k bytes, and then those of the others
+pub next_digits : (rest : List ℕ) (k : ℕ) → encode_lower rest ≡ encode_lower (take k rest) ++ encode_lower (take (length rest - k) (drop k rest))
+next_digits rest k =
+    ap encode_lower (sym (take-append-drop k rest)) ∙ encode_with-append lower_digits (take k rest) (drop k rest)
+    ∙ ap (λ l. encode_lower (take k rest) ++ encode_lower l) (sym (take_rest rest k))
+
+pub no_digits : (rest : List ℕ) → rest ≡ [] → encode_lower rest ≡ []
+unfolding encode_with
+no_digits rest none = ap encode_lower none
+
+-- for the search
+pub ruleset digits = (front_none, front_more, next_digits)
 
 -- what each digit passes, the digits of bytes do
 pub digits_pass : (test : ℕ → Bool) → list_all test lower_digits ≡ true → (bytes : List ℕ) → IsBytes bytes → list_all test (encode_lower bytes) ≡ true

@@ -1,9 +1,10 @@
 -- JSON lines are read back.
-use Rattle.std.proofs.Common.{◌≡◌, ◌∙◌, ◌+◌, ℕ, ◌<◌, ◌≤◌, ◌^◌, List, [], ◌∷◌, Bool, true, false, Option, Some, None, arith, ap, codes, cond, map, option_and_then, option_map, refl}
+use Rattle.std.proofs.Common.{◌≡◌, ◌∙◌, ◌+◌, ℕ, ◌<◌, ◌≤◌, ◌^◌, List, [], ◌∷◌, Option, Some, None, arith, ap, codes, map, option_and_then, option_map, refl}
 use Rattle.std.specs.Prelude.{IfSome, decimal}
 use Rattle.std.specs.Result.{result_ok}
 use Rattle.std.specs.Str.{is_utf8}
 use Rattle.std.specs.Str.Parse.{digits_value}
+use Rattle.std.proofs.lemmas.Bool.{cond_both}
 use Rattle.std.proofs.lemmas.Fmt.{decimal_is_IsNumeral}
 use Rattle.hex.proofs.HexLemmas.{decode_of-encode_lower}
 use Rattle.hex.specs.Hex.{IsBytes, encode_lower}
@@ -35,26 +36,14 @@ digits_back bytes h = ap result_ok (decode_of-encode_lower bytes h)
 pub digits_read : Reads digits_json digits_of
 digits_read = record { back = digits_back; numbers = λ bytes. tt; shallow = λ bytes. omega arith }
 
-abbrev by_utf8 : Bool → List ℕ → Json
-by_utf8 b bytes = cond b (string bytes) (object (member (codes "hex") (string (encode_lower bytes)) no_members))
-
-utf8_back : (b : Bool) (bytes : List ℕ) → IsBytes bytes → item_of (by_utf8 b bytes) ≡ Some bytes
-utf8_back true bytes h = refl
-utf8_back false bytes h = digits_back bytes h
-
-utf8_numbers : (b : Bool) (bytes : List ℕ) → HasNumbers (by_utf8 b bytes)
-utf8_numbers true bytes = tt
-utf8_numbers false bytes = (tt, tt)
-
-utf8_depth : (b : Bool) (bytes : List ℕ) → depth (by_utf8 b bytes) ≤ 1
-utf8_depth true bytes = omega arith
-utf8_depth false bytes = omega arith
+abbrev hex_object : List ℕ → Json
+hex_object bytes = object (member (codes "hex") (string (encode_lower bytes)) no_members)
 
 pub items_read : Reads item_json item_of
 items_read = record {
-  back = λ bytes. utf8_back (is_utf8 bytes) bytes;
-  numbers = λ bytes. utf8_numbers (is_utf8 bytes) bytes;
-  shallow = λ bytes. utf8_depth (is_utf8 bytes) bytes;
+  back = λ bytes h. cond_both (is_utf8 bytes) (string bytes) (hex_object bytes) (λ json. item_of json ≡ Some bytes) (λ e. refl) (λ e. digits_back bytes h);
+  numbers = λ bytes. cond_both (is_utf8 bytes) (string bytes) (hex_object bytes) HasNumbers (λ e. tt) (λ e. (tt, tt));
+  shallow = λ bytes. cond_both (is_utf8 bytes) (string bytes) (hex_object bytes) (λ json. depth json ≤ 1) (λ e. omega arith) (λ e. omega arith);
 }
 
 numeral_back : (n : ℕ) → n < 2 ^ 64 → digits_value 10 (decimal n) ≡ n
@@ -157,3 +146,6 @@ pub figures_document : (figures : List Named) → HaveWords figures → option_a
 unfolding shown_figures
 figures_document figures h =
     ap (option_and_then figures_of) (document-print (figures_json figures) (figures_numbers figures h) (omega (arith, figures_flat figures))) ∙ figures_back figures h
+
+-- for the search
+pub ruleset read_back = (items_read, digits_read, line_document, line_member)

@@ -1,29 +1,45 @@
--- The text of the part of a listing below a path, member by member.
-use Rattle.std.proofs.Common.{◌≡◌, ◌∙◌, ◌++◌, ◌∷◌, [], Bool, true, List, ap, refl, sym, cond}
-use Rattle.std.specs.List.{take_while}
+-- The text of the part of a listing below a path, or from a bucket on, member by member.
+-- The members are read once, in order: what begins with the path comes after the bucket at that path, if there is one.
+use Rattle.std.proofs.Common.{◌≡◌, ◌↔◌, List, subst, sym, ◌∙◌, ◌++◌, ◌∷◌, [], Bool, true, ap, refl, cond, ◌&&◌, ◌||◌, false, not, inl, inr}
+use Rattle.bolt_check.specs.CheckedFiles.{bytes_of, meta_of}
+use Rattle.bolt_check.specs.declared.checked_file.Checked.{Checked}
+use Rattle.bolt_tree.specs.Listing.{IsListing, Member, member_cmp, rest_from}
+use Rattle.std.specs.List.{take_while, Contains, list_any}
 use Rattle.std.proofs.lemmas.List.Sums.{take_while-cons}
-use Rattle.bolt_tree.specs.Entries.{Item}
-use Rattle.bolt_tree.specs.Listing.{Member}
-use Rattle.bolt_tree.specs.ListingParts.{begins_with}
-use Rattle.bolt_tree.specs.Paths.{Path}
-use Rattle.bolt_tree.proofs.PartLemmas.{begins_by}
+use Rattle.bolt_tree.specs.ListingParts.{begins_with, is_bucket, is_bucket_at, part_below}
+use Rattle.bolt_tree.specs.Paths.{Path, path_cmp}
+use Rattle.bolt_tree.proofs.PartLemmas.{begins_by, begins_after}
 use Rattle.bolt_report.specs.ListForms.{list_line, listing_lines}
 use Rattle.bolt_report.specs.declared.form.ListForm.{ListForm}
+use Rattle.std.specs.Prelude.{if◌then◌else◌}
+use Rattle.std.specs.Cmp.Lexicographic.{pointwise}
+use Rattle.std.specs.Ordering.{is_lt}
+use Rattle.std.specs.Str.{bytes_eq}
+use Rattle.std.specs.declared.cmp.Ordering.TheVariants.{Less}
+use Rattle.std.proofs.Math.Bool.{or_assoc}
+use Rattle.std.proofs.lemmas.Bool.{and_parts, cond-false, cond-true, or_cases}
+use Rattle.std.proofs.lemmas.Slice.Eq.{bytes_eq-Decides, slice_eq-Decides}
+use Rattle.bolt_tree.specs.Order.{Rises}
+use Rattle.bolt_tree.proofs.Filters.{not_true}
+use Rattle.bolt_tree.proofs.Lists.{contains_head, contains_tail}
+
+pub iff_then : {A B C : Type 0} → A ↔ B → B ↔ C → A ↔ C
+iff_then f g = (λ a. g.0 (f.0 a), λ c. f.1 (g.1 c))
+
+-- the listing of the same file
+pub same_listing : (a b : Checked) (listing : List Member) → a ≡ b → IsListing (bytes_of b) (meta_of b) listing → IsListing (bytes_of a) (meta_of a) listing
+same_listing a b listing same lists = subst (λ (file : Checked). IsListing (bytes_of file) (meta_of file) listing) (sym same) lists
 
 module _ (below : Path) where
   abbrev pub front : List Member → List Member
   front members = take_while (λ (m : Member). begins_with below m.0) members
 
-  first_of : (old new : List Member) (path reported : Path) (item : Item) → old ≡ (path, item) ∷ new → reported ≡ path → old ≡ (reported, item) ∷ new
-  first_of old new path reported item given same = given ∙ ap (λ (p : Path). (p, item) ∷ new) (sym same)
-
   -- the line of a member that begins with the path, and then the text of the others
-  pub front_text : (form : ListForm) (old new : List Member) (path reported : Path) (item : Item) → old ≡ (path, item) ∷ new → reported ≡ path → begins_with below reported ≡ true
-      → listing_lines form (front old) ≡ list_line form (reported, item) ++ listing_lines form (front new)
-  front_text form old new path reported item given same begins =
-      let kept : front ((reported, item) ∷ new) ≡ (reported, item) ∷ front new =
-      take_while-cons (λ (m : Member). begins_with below m.0) (reported, item) new ∙ ap (λ (b : Bool). cond b ((reported, item) ∷ front new) []) begins in
-      ap (λ (ms : List Member). listing_lines form (front ms)) (first_of old new path reported item given same) ∙ ap (listing_lines form) kept
+  pub front_text : (form : ListForm) (old new : List Member) (m : Member) → old ≡ m ∷ new → begins_with below m.0 ≡ true
+      → listing_lines form (front old) ≡ list_line form m ++ listing_lines form (front new)
+  front_text form old new m given begins =
+      ap (λ (ms : List Member). listing_lines form (front ms)) given
+      ∙ ap (listing_lines form) (take_while-cons (λ (x : Member). begins_with below x.0) m new ∙ cond-true _ _ _ begins)
 
 -- all members begin with the empty path
 pub front_of_root : (members : List Member) → front [] members ≡ members
@@ -31,3 +47,56 @@ front_of_root [] = refl
 front_of_root (m ∷ members) =
     take_while-cons (λ (x : Member). begins_with [] x.0) m members ∙ ap (λ (b : Bool). cond b (m ∷ front [] members) []) (begins_by [] m.0 m.0 refl)
     ∙ ap (λ (ms : List Member). m ∷ ms) (front_of_root members)
+
+module _ (below : Path) where
+  -- the part of what is left, if the bucket was found or is among it
+  abbrev pub left_part : Bool → List Member → List Member
+  left_part found members = if found || list_any (is_bucket_at below) members then part_below below members else []
+
+  at_path : (m : Member) → is_bucket_at below m ≡ true → m.0 ≡ below
+  at_path m e = (slice_eq-Decides bytes_eq-Decides m.0 below (pointwise bytes_eq m.0 below) refl).0 (and_parts (pointwise bytes_eq m.0 below) (is_bucket m.1) e).0
+
+  -- what comes before the bucket doesn't begin with its path
+  apart_before : (path : Path) (ms : List Member) → ((y : Member) → Contains ms y → path_cmp path y.0 ≡ Less) → list_any (is_bucket_at below) ms ≡ true
+      → begins_with below path ≡ false
+  apart_before path [] less any = cc
+  apart_before path (m ∷ ms) less any =
+      elim (or_cases (is_bucket_at below m) (list_any (is_bucket_at below) ms) any) [
+        | inl here ↦ not_true (begins_with below path) (λ begins.
+            let before : path_cmp path below ≡ Less = ap (path_cmp path) (sym (at_path m here)) ∙ less m (contains_head m ms) in
+            let g : true ≡ false = sym (ap is_lt before) ∙ begins_after below path begins in cc)
+        | inr later ↦ apart_before path ms (λ y has. less y (contains_tail m y ms has)) later
+      ]
+
+  by_later : (m : Member) (ms : List Member) (any : Bool) → list_any (is_bucket_at below) ms ≡ any → Rises member_cmp (m ∷ ms)
+      → (if any then part_below below (m ∷ ms) else []) ≡ (if any then part_below below ms else [])
+  by_later m ms true e rises = cond-false _ _ _ (apart_before m.0 ms rises.0 e)
+  by_later m ms false e rises = refl
+
+  module _ (found now : Bool) (m : Member) (ms : List Member) (is : now ≡ (found || is_bucket_at below m)) where
+    pub has_next : (found || list_any (is_bucket_at below) (m ∷ ms)) ≡ (now || list_any (is_bucket_at below) ms)
+    has_next = rw (is, or_assoc)
+
+    -- Before the bucket, nothing is written;
+    pub before_bucket : now ≡ false → Rises member_cmp (m ∷ ms) → left_part found (m ∷ ms) ≡ left_part now ms
+    before_bucket e rises = rw (has_next, e) (by_later m ms (list_any (is_bucket_at below) ms) refl rises)
+
+    module _ (from : Path) where
+      kept_by : (begins before : Bool) → begins_with below m.0 ≡ begins → is_lt (path_cmp m.0 from) ≡ before → rest_from from (part_below below (m ∷ ms))
+          ≡ (if begins && not before then m ∷ rest_from from (part_below below ms) else rest_from from (part_below below ms))
+      kept_by true true e h = rw (e, h)
+      kept_by true false e h = rw (e, h)
+      kept_by false before e h = rw e
+
+      kept : rest_from from (part_below below (m ∷ ms)) ≡ (if begins_with below m.0 && not (is_lt (path_cmp m.0 from)) then m ∷ rest_from from (part_below below ms) else rest_from from (part_below below ms))
+      kept = kept_by (begins_with below m.0) (is_lt (path_cmp m.0 from)) refl refl
+
+      -- from it on, nothing of a member that is not wanted,
+      pub over_unwanted : now ≡ true → (begins_with below m.0 && not (is_lt (path_cmp m.0 from))) ≡ false
+          → rest_from from (left_part found (m ∷ ms)) ≡ rest_from from (left_part now ms)
+      over_unwanted e none = rw (has_next, e) (kept ∙ cond-false _ _ _ none)
+
+      -- and the line of one that is.
+      pub with_wanted : (form : ListForm) → now ≡ true → (begins_with below m.0 && not (is_lt (path_cmp m.0 from))) ≡ true
+          → listing_lines form (rest_from from (left_part found (m ∷ ms))) ≡ list_line form m ++ listing_lines form (rest_from from (left_part now ms))
+      with_wanted form e both = rw (has_next, e) (ap (listing_lines form) (kept ∙ cond-true _ _ _ both))

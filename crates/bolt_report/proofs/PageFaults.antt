@@ -1,27 +1,19 @@
 -- The fault of a page that is to be printed.
-use Rattle.std.proofs.Common.{◌≡◌, ◌∙◌, ℕ, List, Option, None, Some, ap, sym}
-use Rattle.bolt_format.specs.Freelists.{freelist_fault}
-use Rattle.bolt_format.specs.Headers.{count_field, flags_field, kind_of}
-use Rattle.bolt_format.specs.Pages.{from_page, page_at, page_fault, page_overflow, shown_as, span_bytes}
+use Rattle.std.proofs.Common.{◌≡◌, ℕ, List, None, Some}
+use Rattle.bolt_format.specs.Pages.{page_at, page_fault}
 use Rattle.bolt_format.specs.declared.fault.PageFault.{PageFault}
-use Rattle.bolt_format.specs.declared.kind.Kind.{Kind}
 use Rattle.bolt_format.specs.declared.meta.Meta.{Meta}
-use Rattle.bolt_report.specs.PageTexts.{fault_of, page_text_fault, shown_fault}
-
-shown_as-fault : (fault : ℕ) (kind : Option Kind) (count overflow : ℕ) (bytes : List ℕ) (found : Option ℕ) → found ≡ Some fault
-    → shown_as found kind count overflow bytes ≡ None
-shown_as-fault fault kind count overflow bytes found e = ap (λ f. shown_as f kind count overflow bytes) e
+use Rattle.bolt_report.specs.PageTexts.{page_text_fault}
 
 -- a page that has a fault shows nothing
 page_at-fault : (file : List ℕ) (meta : Meta) (id fault : ℕ) → page_fault file meta id ≡ Some fault → page_at file meta id ≡ None
 unfolding page_at
-page_at-fault file meta id fault e =
-    shown_as-fault fault (kind_of (flags_field (from_page file meta id))) (count_field (from_page file meta id)) (page_overflow file meta id)
-    (span_bytes file meta id) (page_fault file meta id) e
+page_at-fault file meta id fault e = rw e
 
 -- that fault is the one that is reported
 pub page_text_fault-bad : (file : List ℕ) (meta : Meta) (id : ℕ) (fault : PageFault) → (page_fault file meta id ≡ Some fault.number) × (fault.page ≡ id)
     → page_text_fault file meta id ≡ Some fault
-page_text_fault-bad file meta id fault e =
-    ap (shown_fault (fault_of id (page_fault file meta id)) (fault_of id (freelist_fault file meta id))) (page_at-fault file meta id fault.number e.0) ∙ ap (fault_of id) e.0
-    ∙ ap (λ page. Some (record { number = fault.number; page = page })) (sym e.1)
+page_text_fault-bad file meta id fault e = rw (page_at-fault file meta id fault.number e.0, e.0, ← e.1)
+
+-- for the search
+pub ruleset faults = (page_text_fault-bad)

@@ -1,7 +1,7 @@
 -- Paths are compared part by part, as the slices are that hold them.
 use Rattle.std.proofs.Common.{◌≡◌, ◌∙◌, Bor, List, ap, ℕ, length, take}
 use Rattle.std.specs.Cmp.Lexicographic.{pointwise}
-use Rattle.std.specs.Cmp.Derive.Mapped.{pointwise-map}
+use Rattle.std.specs.Cmp.Derive.Mapped.{lex_map, pointwise-map}
 use Rattle.std.specs.List.{starts_with}
 use Rattle.std.specs.Str.{bytes_eq}
 use Rattle.std.proofs.lemmas.List.{length-map, take-map}
@@ -16,3 +16,6 @@ begins_parts path below =
     ap (λ (n : ℕ). pointwise bytes_eq (path_of below) (take n (path_of path))) (length-map below (λ (part : Bor (List ℕ)). part.now))
     ∙ ap (pointwise bytes_eq (path_of below)) (take-map (λ (part : Bor (List ℕ)). part.now) (length below) path)
     ∙ same_path below (take (length below) path)
+
+-- for the search
+pub ruleset parts = (begins_parts, same_path, lex_map)

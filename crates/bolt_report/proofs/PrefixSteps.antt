@@ -1,59 +1,42 @@
 -- A cursor goes along the entries that begin with given bytes: what it has gone over, and what is left.
 -- Rests on that a bucket's entries in order exist, and are one.
-use Rattle.std.proofs.Common.{◌≡◌, ◌∙◌, ◌<◌, ◌⊎◌, inl, inr, ◌+◌, ℕ, zero, suc, Bool, true, false, List, [], ◌∷◌, ◌++◌, Option, Some, None, Result, Ok, Err, cond, drop, length, nat_lt, refl, slice_get, sym, ap, subst, arith, add-one, append-nil, append_assoc, length-append}
-use Rattle.std.proofs.Math.Logic.{∥∥₁_elim, ∥∥₁_prop}
-use Rattle.std.proofs.Props.{props}
-use mathlib.Core.HLevel.{Σ_prop_path}
+use Rattle.std.proofs.Common.{◌≡◌, ◌∙◌, ◌<◌, ◌⊎◌, inl, inr, ◌+◌, ℕ, zero, suc, Bool, true, false, List, [], ◌∷◌, Option, Some, None, Result, Ok, Err, cond, drop, length, nat_lt, refl, slice_get, sym, ap, subst, arith, add-one}
+use Rattle.std.proofs.Math.Logic.{∥∥₁_elim}
 use Rattle.std.specs.List.{Contains}
 use Rattle.std.specs.Option.{option_map}
 use Rattle.std.specs.Prelude.{⊤, IfErr, IsErrAnd}
-use Rattle.std.proofs.lemmas.Grind.{flat_map-append}
+use Rattle.std.proofs.lemmas.Bool.{cond-true}
 use Rattle.std.proofs.lemmas.List.{drop_all}
+use Rattle.std.proofs.lemmas.Option.{same_Some}
 use Rattle.bolt_format.specs.Elements.{LeafElement}
-use Rattle.bolt_format.specs.Endings as endings
-use Rattle.bolt_format.specs.Wrote.{Wrote}
-use Rattle.bolt_format.specs.declared.sink.Sink.{Ghosts}
-use Rattle.bolt_format.proofs.WroteLemmas.{Wrote-same, Wrote-then}
 use Rattle.bolt_format.proofs.ListLemmas.{drop_next}
 use Rattle.bolt_check.specs.CheckedFiles.{bytes_of, meta_of}
 use Rattle.bolt_check.specs.Keys.{Key, key_lt}
-use Rattle.bolt_check.specs.declared.checked_file.Checked.{Checked}
-use Rattle.bolt_tree.specs.BucketViews.{AreSorted, BucketView, bucket_in, entries_of}
+use Rattle.bolt_tree.specs.BucketViews.{AreSorted, BucketView}
 use Rattle.bolt_tree.specs.CursorBounds.{OpensByNext, OpensSeek}
 use Rattle.bolt_tree.specs.Cursors.{cursor_checked, cursor_start}
-use Rattle.bolt_tree.specs.Entries.{AreEntries, EntryView, Start, entry_cmp, entry_view}
+use Rattle.bolt_tree.specs.Entries.{EntryView, entry_cmp, entry_view}
 use Rattle.bolt_tree.specs.EntriesLeft.{entries_left}
 use Rattle.bolt_tree.specs.Openings.{IsGap, IsSeekCount, sum_to}
 use Rattle.bolt_tree.specs.Order.{Rises}
 use Rattle.bolt_check.specs.Counts.{counted}
-use Rattle.bolt_tree.specs.Places.{On, Past, Place, ShowsMove, least_from, next_move, nothing_at, onto, place_in, seek_move}
+use Rattle.bolt_tree.specs.Places.{On, Past, Place, least_from, next_move, nothing_at, onto, place_in, seek_move}
 use Rattle.bolt_tree.specs.ShownEntries.{shown_entry}
 use Rattle.bolt_tree.specs.declared.cursor.Cursor.{Cursor}
 use Rattle.bolt_tree.specs.declared.entry.Entry.{Entry}
 use Rattle.bolt_tree.proofs.AllEntries.{sorted_at}
 use Rattle.bolt_tree.proofs.CursorMoves.{none_past, not_below}
+use Rattle.bolt_tree.proofs.Leaving.{TheEntries, the_one}
 use Rattle.bolt_tree.proofs.Lists.{contains_head, contains_tail}
 use Rattle.bolt_tree.proofs.PagerLemmas.{counted_more}
-use Rattle.bolt_tree.proofs.SortedLemmas.{sorted_one}
-use Rattle.bolt_report.specs.Forms.{value_text}
-use Rattle.bolt_report.specs.KeyLines.{keys_text}
 use Rattle.bolt_report.specs.KeyPrefixes.{with_prefix, begins}
-use Rattle.bolt_report.specs.ReportEndings.{fault_ending, report_ending}
 use Rattle.bolt_report.specs.declared.fault.ReportFault.{ReportFault}
 use Rattle.bolt_report.specs.declared.fault.ReportFault.TheVariants.{NoMemory, Sink}
 use Rattle.bolt_report.specs.declared.form.Form.{Form}
 use Rattle.bolt_report.specs.declared.form.Form.TheVariants.{Json}
 use Rattle.bolt_report.proofs.PrefixLemmas.{after_least, from_least, key_begins, none_later}
-use Rattle.bolt_report.proofs.ReportLemmas.{Wrote-fault}
 
 -- ---- the entries of a cursor's bucket
-
-abbrev TheEntries : Checked → Start → Type 0
-TheEntries checked start = (entries : List LeafElement) × ∥ AreEntries (entries_of checked) start entries ∥₁
-
-the_one : (checked : Checked) (start : Start) → IsProp (TheEntries checked start)
-the_one checked start = λ a b.
-    Σ_prop_path (λ l. ∥∥₁_prop) (∥∥₁_elim a.1 (hlevel props) (λ h. ∥∥₁_elim b.1 (hlevel props) (λ k. sorted_one (bytes_of checked) (meta_of checked) start a.0 b.0 h k)))
 
 pub cursor_entries : (cursor : Cursor) → TheEntries (cursor_checked cursor) (cursor_start cursor)
 unfolding cursor_checked cursor_start
@@ -74,23 +57,21 @@ StandsAt entries n place (Some v) = (e : LeafElement) × (v ≡ entry_view e) ×
 shows_by : (entries : List LeafElement) (n : ℕ) (place : Place) (x : Option EntryView) (o : Option LeafElement) → slice_get entries n ≡ o → place ≡ On n → x ≡ option_map entry_view o
     → StandsAt entries n place x
 shows_by entries n place None None at on is = drop_all n entries (none_past entries n (sym at))
-shows_by entries n place None (Some e) at on is = absurd (let c : None ≡ Some (entry_view e) = is in cc)
-shows_by entries n place (Some v) None at on is = absurd (let c : Some v ≡ None = is in cc)
+shows_by entries n place None (Some e) at on is = cc
+shows_by entries n place (Some v) None at on is = cc
 shows_by entries n place (Some v) (Some e) at on is =
-    let c : Some v ≡ Some (entry_view e) = is in
-    let shown : v ≡ entry_view e = cc in
-    (e, shown, on, drop_next entries n e at ∙ ap (λ (k : ℕ). e ∷ drop k entries) (add-one n))
+    (e, same_Some v (entry_view e) is, on, drop_next entries n e at ∙ ap (λ (k : ℕ). e ∷ drop k entries) (add-one n))
 
 stands_by : (entries : List LeafElement) (n : ℕ) (place other : Place) (x : Option EntryView) (b : Bool) → nat_lt n (length entries) ≡ b
     → place ≡ (cond b (onto entries n) (nothing_at other)).place → x ≡ option_map entry_view (cond b (onto entries n) (nothing_at other)).answer → StandsAt entries n place x
 stands_by entries n place other x true t p a = shows_by entries n place x (slice_get entries n) refl p a
 stands_by entries n place other None false t p a = drop_all n entries (not_below n (length entries) t)
-stands_by entries n place other (Some v) false t p a = absurd (let c : Some v ≡ None = a in cc)
+stands_by entries n place other (Some v) false t p a = cc
 
 pub sought : (prefix : Key) (entries : List LeafElement) (place : Place) (x : Option EntryView)
     → (place_in entries place ≡ (seek_move prefix entries).place) × (x ≡ option_map entry_view (seek_move prefix entries).answer) → StandsAt entries (least_from prefix entries) place x
 sought prefix [] place None (p, a) = refl
-sought prefix [] place (Some v) (p, a) = absurd (let c : Some v ≡ None = a in cc)
+sought prefix [] place (Some v) (p, a) = cc
 sought prefix (e ∷ entries) place x (p, a) =
     stands_by (e ∷ entries) (least_from prefix (e ∷ entries)) place Past x (nat_lt (least_from prefix (e ∷ entries)) (length (e ∷ entries))) refl p a
 
@@ -98,23 +79,14 @@ pub moved : (entries : List LeafElement) (n : ℕ) (before place : Place) (x : O
     → (place_in entries place ≡ (next_move entries (place_in entries before)).place) × (x ≡ option_map entry_view (next_move entries (place_in entries before)).answer)
     → StandsAt entries (suc n) place x
 moved [] n before place None on (p, a) = refl
-moved [] n before place (Some v) on (p, a) = absurd (let c : Some v ≡ None = a in cc)
+moved [] n before place (Some v) on (p, a) = cc
 moved (e ∷ entries) n before place x on (p, a) =
     stands_by (e ∷ entries) (suc n) place (On n) x (nat_lt (suc n) (length (e ∷ entries))) refl
     (p ∙ ap (λ (q : Place). (next_move (e ∷ entries) q).place) on) (a ∙ ap (λ (q : Place). option_map entry_view (next_move (e ∷ entries) q).answer) on)
 
--- the next move, of the same bucket of the same file
-pub moves_there : (a b : Checked) (s t : Start) (before after : Place) (x : Option EntryView) → a ≡ b → s ≡ t → ShowsMove (entries_of a) s next_move before after x → ShowsMove (entries_of b) t next_move before after x
-moves_there a b s t before after x file start moves =
-    subst (λ (f : Checked). ShowsMove (entries_of f) t next_move before after x) file (subst (λ (q : Start). ShowsMove (entries_of a) q next_move before after x) start moves)
-
-pub opens_there : (a b : Checked) (s t : Start) (place : Place) (old new : ℕ) → a ≡ b → s ≡ t → OpensByNext (bucket_in a s) place old new → OpensByNext (bucket_in b t) place old new
-opens_there a b s t place old new file start opens =
-    subst (λ (f : Checked). OpensByNext (bucket_in f t) place old new) file (subst (λ (q : Start). OpensByNext (bucket_in a q) place old new) start opens)
-
 pub nothing_shown : (o : Option Entry) → option_map shown_entry o ≡ None → o ≡ None
 nothing_shown None is = refl
-nothing_shown (Some entry) is = absurd (let c : Some (shown_entry entry) ≡ None = is in cc)
+nothing_shown (Some entry) is = cc
 
 -- ---- how many entries are left
 
@@ -141,114 +113,80 @@ Opened b first prefix entries opened count =
     (seek : ℕ) (gap : ℕ → ℕ) → IsSeekCount b.file b.meta b.start entries prefix seek → ((i : ℕ) → IsGap b.file b.meta b.start entries i (gap i))
     → opened ≡ counted first (seek + sum_to (gap_at prefix entries gap) count)
 
--- Of the entries that begin so it has gone over `done`, and opened the pages for them; it stands on the entry after these, which is the
--- first of those that may begin so.
-pub record Stage (b : BucketView) (first : ℕ) (prefix : Key) (entries : List LeafElement) (opened : ℕ) (place : Place) (x : Option EntryView) (done : List LeafElement) : Type 0 where
-  pub n : ℕ
-  pub at : n ≡ least_from prefix entries + length done
+-- Of the entries that begin so it has gone over as many as `done`, and opened the pages for them; it stands on entry n after these, which is
+-- the first of those that may begin so.
+pub record Stage (b : BucketView) (first : ℕ) (prefix : Key) (entries : List LeafElement) (opened : ℕ) (place : Place) (x : Option EntryView) (n done : ℕ) : Type 0 where
+  pub at : n ≡ least_from prefix entries + done
   pub stands : StandsAt entries n place x
-  pub whole : with_prefix prefix entries ≡ done ++ with_prefix prefix (drop n entries)
+  pub whole : length (with_prefix prefix entries) ≡ done + length (with_prefix prefix (drop n entries))
   pub rises : Rises entry_cmp (drop n entries)
   pub after : (f : LeafElement) → Contains (drop n entries) f → key_lt f.key prefix ≡ false
-  pub opens : Opened b first prefix entries opened (length done)
-
--- one that begins so is the first of them
-pub keeps : (prefix : Key) (e : LeafElement) (left : List LeafElement) → begins prefix e ≡ true → with_prefix prefix (e ∷ left) ≡ e ∷ with_prefix prefix left
-keeps prefix e left starts = ap (λ (t : Bool). cond t (e ∷ with_prefix prefix left) (with_prefix prefix left)) starts
+  pub opens : Opened b first prefix entries opened done
 
 rises_later : (n : ℕ) (entries : List LeafElement) → Rises entry_cmp entries → Rises entry_cmp (drop n entries)
 rises_later zero entries rises = rises
 rises_later (suc n) [] rises = rises
 rises_later (suc n) (e ∷ entries) rises = rises_later n entries rises.1
 
-module _ (b : BucketView) (first : ℕ) (prefix : Key) (entries : List LeafElement) where
-  -- after the seek
-  pub stage_sought : (opened : ℕ) (place : Place) (x : Option EntryView) → AreSorted b entries → StandsAt entries (least_from prefix entries) place x → OpensSeek b prefix first opened
-      → Stage b first prefix entries opened place x []
-  stage_sought opened place x are stands seeks = record {
-    n = least_from prefix entries;
-    at = omega arith;
-    stands = stands;
-    whole = from_least prefix entries;
-    rises = rises_later (least_from prefix entries) entries are.rises;
-    after = after_least prefix entries are.rises;
-    opens = λ seek gap is gaps. seeks entries seek are is ∙ ap (counted first) (omega arith);
-  }
+-- after the seek
+pub stage_sought : (b : BucketView) (first : ℕ) (prefix : Key) (entries : List LeafElement) (opened : ℕ) (place : Place) (x : Option EntryView) → AreSorted b entries
+    → StandsAt entries (least_from prefix entries) place x → OpensSeek b prefix first opened → Stage b first prefix entries opened place x (least_from prefix entries) 0
+stage_sought b first prefix entries opened place x are stands seeks = record {
+  at = omega arith;
+  stands = stands;
+  whole = let same = ap length (from_least prefix entries) in omega (arith, same);
+  rises = rises_later (least_from prefix entries) entries are.rises;
+  after = after_least prefix entries are.rises;
+  opens = λ seek gap is gaps. seeks entries seek are is ∙ ap (counted first) (omega arith);
+}
 
-  module _ (opened : ℕ) (place : Place) (done : List LeafElement) where
-    one_more : (e : LeafElement) → length (done ++ e ∷ []) ≡ suc (length done)
-    one_more e = let l = length-append done (e ∷ []) in omega (arith, l)
+module _ (b : BucketView) (first : ℕ) (prefix : Key) (entries : List LeafElement) (opened : ℕ) (place : Place) (n done : ℕ) where
+  -- the next of those that begin so is the first of them,
+  pub next_first : (v : EntryView) (stage : Stage b first prefix entries opened place (Some v) n done) → key_begins v.key prefix ≡ true
+      → with_prefix prefix (drop n entries) ≡ stage.stands.0 ∷ with_prefix prefix (drop (suc n) entries)
+  next_first v stage starts =
+      let (e, shown, on, rest) = stage.stands in
+      ap (with_prefix prefix) rest ∙ cond-true (begins prefix e) (e ∷ with_prefix prefix (drop (suc n) entries)) (with_prefix prefix (drop (suc n) entries)) (rw shown at starts)
 
-    -- the next of those that begin so is gone over
-    pub stage_next : (v : EntryView) (stage : Stage b first prefix entries opened place (Some v) done) → key_begins v.key prefix ≡ true
-        → (opened2 : ℕ) (place2 : Place) (x2 : Option EntryView) → AreSorted b entries
-        → (place_in entries place2 ≡ (next_move entries (place_in entries place)).place) × (x2 ≡ option_map entry_view (next_move entries (place_in entries place)).answer)
-        → OpensByNext b place opened opened2
-        → Stage b first prefix entries opened2 place2 x2 (done ++ stage.stands.0 ∷ [])
-    stage_next v stage starts opened2 place2 x2 are moves opens =
-        let (e, shown, on, rest) = stage.stands in
-        let n = stage.n in
-        let has : begins prefix e ≡ true = subst (λ (w : EntryView). key_begins w.key prefix ≡ true) shown starts in
-        let count = one_more e in
-        let rises : Rises entry_cmp (e ∷ drop (suc n) entries) = subst (Rises entry_cmp) rest stage.rises in
-        record {
-          n = suc n;
-          at = let old = stage.at in omega (arith, old, count);
-          stands = moved entries n place place2 x2 on moves;
-          whole = stage.whole ∙ ap (λ (l : List LeafElement). done ++ with_prefix prefix l) rest ∙ ap (λ (l : List LeafElement). done ++ l) (keeps prefix e (drop (suc n) entries) has)
-              ∙ sym (append_assoc done (e ∷ []) (with_prefix prefix (drop (suc n) entries)));
-          rises = rises.1;
-          after = λ f more. stage.after f (subst (λ (l : List LeafElement). Contains l f) (sym rest) (contains_tail e f (drop (suc n) entries) more));
-          opens = λ seek gap is gaps.
-              let step : opened2 ≡ counted opened (gap (suc n)) = subst (λ (p : Place). OpensByNext b p opened opened2) on opens entries (gap (suc n)) are (gaps (suc n)) in
-              let before = stage.opens seek gap is gaps in
-              let gap_is : gap (suc n) ≡ gap_at prefix entries gap (length done) = ap (λ (k : ℕ). gap (suc k)) stage.at in
-              let sum : sum_to (gap_at prefix entries gap) (length (done ++ e ∷ [])) ≡ sum_to (gap_at prefix entries gap) (length done) + gap (suc n) =
-              ap (sum_to (gap_at prefix entries gap)) count ∙ ap (λ (k : ℕ). sum_to (gap_at prefix entries gap) (length done) + k) (sym gap_is) in
-              step ∙ ap (λ (k : ℕ). counted k (gap (suc n))) before ∙ counted_more first (seek + sum_to (gap_at prefix entries gap) (length done)) (gap (suc n))
-              ∙ ap (counted first) (omega (arith, sum));
-        }
+  -- and is gone over
+  pub stage_next : (v : EntryView) → Stage b first prefix entries opened place (Some v) n done → key_begins v.key prefix ≡ true
+      → (opened2 : ℕ) (place2 : Place) (x2 : Option EntryView) → AreSorted b entries
+      → (place_in entries place2 ≡ (next_move entries (place_in entries place)).place) × (x2 ≡ option_map entry_view (next_move entries (place_in entries place)).answer)
+      → OpensByNext b place opened opened2 → Stage b first prefix entries opened2 place2 x2 (suc n) (suc done)
+  stage_next v stage starts opened2 place2 x2 are moves opens =
+      let (e, shown, on, rest) = stage.stands in
+      let rises : Rises entry_cmp (e ∷ drop (suc n) entries) = rw rest at stage.rises in
+      record {
+        at = let old = stage.at in omega (arith, old);
+        stands = moved entries n place place2 x2 on moves;
+        whole = let next = ap length (next_first v stage starts) in let old = stage.whole in omega (arith, next, old);
+        rises = rises.1;
+        after = λ f more. stage.after f (subst (λ (l : List LeafElement). Contains l f) (sym rest) (contains_tail e f (drop (suc n) entries) more));
+        opens = λ seek gap is gaps.
+            let step : opened2 ≡ counted opened (gap (suc n)) = subst (λ (p : Place). OpensByNext b p opened opened2) on opens entries (gap (suc n)) are (gaps (suc n)) in
+            let before = sum_to (gap_at prefix entries gap) done in
+            let sum : before + gap (suc n) ≡ sum_to (gap_at prefix entries gap) (suc done) = ap (λ (k : ℕ). before + gap (suc k)) stage.at in
+            step ∙ ap (λ (k : ℕ). counted k (gap (suc n))) (stage.opens seek gap is gaps) ∙ counted_more first (seek + before) (gap (suc n)) ∙ ap (counted first) (omega (arith, sum));
+      }
 
-    -- no other begins so, since there is none,
-    pub none_shown : Stage b first prefix entries opened place None done → (n : ℕ) × (with_prefix prefix entries ≡ done ++ with_prefix prefix (drop n entries)) × (with_prefix prefix (drop n entries) ≡ [])
-    none_shown stage = (stage.n, stage.whole, ap (with_prefix prefix) stage.stands)
+  -- no other begins so, if none is left,
+  pub none_shown : Stage b first prefix entries opened place None n done → with_prefix prefix (drop n entries) ≡ []
+  none_shown stage = ap (with_prefix prefix) stage.stands
 
-    -- or since the next doesn't
-    pub other_shown : (v : EntryView) → Stage b first prefix entries opened place (Some v) done → key_begins v.key prefix ≡ false
-        → (n : ℕ) × (with_prefix prefix entries ≡ done ++ with_prefix prefix (drop n entries)) × (with_prefix prefix (drop n entries) ≡ [])
-    other_shown v stage differs =
-        let (e, shown, on, rest) = stage.stands in
-        let n = stage.n in
-        let apart : begins prefix e ≡ false = subst (λ (w : EntryView). key_begins w.key prefix ≡ false) shown differs in
-        let after : key_lt e.key prefix ≡ false = stage.after e (subst (λ (l : List LeafElement). Contains l e) (sym rest) (contains_head e (drop (suc n) entries))) in
-        (n, stage.whole, ap (with_prefix prefix) rest ∙ none_later prefix e (drop (suc n) entries) (subst (Rises entry_cmp) rest stage.rises) after apart)
+  -- or if the next doesn't
+  pub other_shown : (v : EntryView) → Stage b first prefix entries opened place (Some v) n done → key_begins v.key prefix ≡ false → with_prefix prefix (drop n entries) ≡ []
+  other_shown v stage differs =
+      let (e, shown, on, rest) = stage.stands in
+      let after = rw rest at stage.after e in
+      ap (with_prefix prefix) rest ∙ none_later prefix e (drop (suc n) entries) (rw rest at stage.rises) (after (contains_head e (drop (suc n) entries))) (rw shown at differs)
 
-    -- so these are all
-    pub all_done : (x : Option EntryView) (stage : Stage b first prefix entries opened place x done) (left : List LeafElement) → with_prefix prefix entries ≡ done ++ left → left ≡ []
-        → Opened b first prefix entries opened (length (with_prefix prefix entries))
-    all_done x stage left whole none =
-        let same : length (with_prefix prefix entries) ≡ length done = ap length (whole ∙ ap (λ (l : List LeafElement). done ++ l) none ∙ append-nil done) in
-        subst (Opened b first prefix entries opened) (sym same) stage.opens
-
--- ---- their lines
-
-keys_after : (form : Form) (done left : List LeafElement) → keys_text form done ++ keys_text form left ≡ keys_text form (done ++ left)
-keys_after form done left = sym (flat_map-append (λ (e : LeafElement). value_text form e.key) done left)
-
-module _ {S : Type 0} {sink : Ghosts S} (form : Form) {old mid : S} (done : List LeafElement) (put : Wrote sink old mid (keys_text form done) endings.whole) where
-  -- one line more
-  pub line_more : {new : S} (e : LeafElement) → Wrote sink mid new (value_text form e.key) endings.whole → Wrote sink old new (keys_text form (done ++ e ∷ [])) endings.whole
-  line_more e one = Wrote-same (ap (λ (l : List ℕ). keys_text form done ++ l) (sym (append-nil (value_text form e.key))) ∙ keys_after form done (e ∷ [])) (Wrote-then put one)
-
-  -- it was not written whole
-  pub line_stop : {new : S} (all left rest : List LeafElement) (e : LeafElement) (fault : ReportFault) (result : Result ⊤ ReportFault) → all ≡ done ++ left → left ≡ e ∷ rest
-      → Wrote sink mid new (value_text form e.key) (fault_ending fault) → IsErrAnd result (λ f. f ≡ fault) → Wrote sink old new (keys_text form all) (report_ending result)
-  line_stop all left rest e fault result all_are first one is =
-      Wrote-same (keys_after form done (e ∷ rest) ∙ ap (keys_text form) (ap (λ (l : List LeafElement). done ++ l) (sym first) ∙ sym all_are)) (Wrote-then put (Wrote-fault (keys_text form rest) fault result one is))
-
-  -- all lines
-  pub lines_end : (all left : List LeafElement) → all ≡ done ++ left → left ≡ [] → Wrote sink old mid (keys_text form all) endings.whole
-  lines_end all left all_are none = Wrote-same (ap (keys_text form) (sym (all_are ∙ ap (λ (l : List LeafElement). done ++ l) none ∙ append-nil done))) put
+  -- so the pages were opened for all
+  pub all_opened : (x : Option EntryView) → Stage b first prefix entries opened place x n done → with_prefix prefix (drop n entries) ≡ []
+      → Opened b first prefix entries opened (length (with_prefix prefix entries))
+  all_opened x stage none =
+      let left = ap length none in
+      let all : done ≡ length (with_prefix prefix entries) = let whole = stage.whole in omega (arith, whole, left) in
+      subst (Opened b first prefix entries opened) all stage.opens
 
 -- ---- a fault that is handed on
 

@@ -76,15 +76,6 @@ module _ (file : List ℕ) (meta : Meta) where
       let r = greatest_append (deepest_of file meta) rest (n ∷ []) in
       omega (arith, whole, p, q, r, own)
 
-  above_kept : (b h high deepest above : ℕ) → capped h ≡ capped high → above ≡ capped (b + h) → capped (above + deepest) ≡ capped (b + (high + deepest))
-  above_kept b h high deepest above same sum = omega (arith, same, sum)
-
-  end_kept : (deep others sum whole : ℕ) → deep ≡ capped sum → max sum others ≡ whole → capped (max deep others) ≡ capped whole
-  end_kept deep others sum whole end most = omega (arith, end, most)
-
-  all_kept : (deep others rest new old whole : ℕ) → new ≡ max rest others → old ≡ max rest whole → capped (max deep others) ≡ capped whole → capped (max deep new) ≡ capped old
-  all_kept deep others rest new old whole after before same = omega (arith, after, before, same)
-
   under : (above d : ℕ) (f : ℕ → ℕ) (roots : List ℕ) → max (above + d) (greatest (λ (root : ℕ). above + f root) roots) ≡ above + max d (greatest f roots)
   under above d f [] = omega arith
   under above d f (x ∷ roots) = let rest = under above d f roots in omega (arith, rest)
@@ -98,9 +89,8 @@ module _ (file : List ℕ) (meta : Meta) where
   read_end old rest new b found height above d deep high most sum end before after =
       let others = greatest (λ (root : ℕ). above + depth_of file meta root) found in
       let sum_up : max (above + d) others ≡ above + deepest_of file meta b.root = under above d (depth_of file meta) found ∙ ap (λ (x : ℕ). above + x) most in
-      let one = end_kept deep others (above + d) (above + deepest_of file meta b.root) end sum_up ∙ above_kept b.above height (height_of file meta 1 b.root) (deepest_of file meta b.root) above high sum in
       let was : greatest bucket_end old ≡ max (greatest bucket_end rest) (bucket_end b) = ap (greatest bucket_end) before ∙ greatest_append bucket_end rest (b ∷ []) ∙ omega arith in
-      all_kept deep others (greatest bucket_end rest) (greatest bucket_end new) (greatest bucket_end old) (bucket_end b) after was one
+      omega (arith, high, sum, end, sum_up, was, after)
 
 -- a root page goes over to the open buckets
 pub moved_depth : (before more : List UnreadBucket) (roots rest : List ℕ) (root : ℕ) (f : UnreadBucket → ℕ) (above : ℕ) → roots ≡ rest ++ root ∷ [] → more ≡ before ++ unread_bucket above root ∷ []

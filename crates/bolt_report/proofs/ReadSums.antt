@@ -12,7 +12,6 @@ use Rattle.bolt_report.specs.Readings.{AreGood, inner_pages, inner_roots, number
 use Rattle.bolt_report.specs.declared.statistics.Stats.{Stats}
 use Rattle.bolt_report.specs.declared.bucket_stats.UnreadBucket.{UnreadBucket}
 use Rattle.bolt_report.specs.declared.bucket_stats.UnreadPage.{UnreadPage}
-use Rattle.bolt_report.proofs.FigureLemmas.{every}
 use Rattle.bolt_report.proofs.DepthSums.{page_has, root_has}
 
 -- the last page was taken
@@ -63,10 +62,10 @@ abbrev AllZero : Stats → Type 0
 AllZero s = (s.buckets ≡ 0) × ((s.inline_buckets ≡ 0) × ((s.inline_used ≡ 0) × ((s.keys ≡ 0) × ((s.depth ≡ 0) × ((s.branch_pages ≡ 0) × ((s.branch_overflow ≡ 0) × ((s.branch_allocated ≡ 0) × ((s.branch_used ≡ 0) × ((s.leaf_pages ≡ 0) × ((s.leaf_overflow ≡ 0) × ((s.leaf_allocated ≡ 0) × (s.leaf_used ≡ 0))))))))))))
 
 pub zero_figure : (f : Figure) (s : Stats) → AllZero s → figure f s ≡ 0
-zero_figure f s (a, (b, (c, (d, (e, (g, (h, (i, (j, (k, (l, (m, n)))))))))))) = every (λ f. figure f s ≡ 0) a b c d g h i j k l m n f
+zero_figure f s zero = grind arith
 
 pub zero_depth : (s : Stats) → AllZero s → s.depth ≡ 0
-zero_depth s (a, (b, (c, (d, (e, rest))))) = e
+zero_depth s zero = grind arith
 
 -- more buckets were found
 pub more_found : (file : List ℕ) (meta : Meta) (own : ℕ → ℕ) (roots found inner : List ℕ) → found ≡ roots ++ inner → total_of file meta own roots ≤ total_of file meta own found
@@ -75,10 +74,8 @@ more_found file meta own roots found inner e =
     let both = ap (sum_by w) e ∙ sum_append w roots inner in omega (arith, both)
 
 -- nothing was taken, so nothing is left
-pub none_left : {X : Type 0} (items rest : List X) (n : ℕ) → n ≡ 0 → rest ≡ take (n - 1) items → items ≡ rest ++ [] → items ≡ []
-none_left items rest n z r e =
-    let r0 : rest ≡ take (0 - 1) items = rw z at r in
-    rw r0 at e
+pub none_left : {X : Type 0} {items rest : List X} {n : ℕ} → n ≡ 0 → rest ≡ take (n - 1) items → items ≡ rest ++ [] → items ≡ []
+none_left z r e = let r0 = rw z at r in rw r0 at e
 
 -- a root page goes over to the open buckets
 module _ (before more : List UnreadBucket) (b : UnreadBucket) (roots rest : List ℕ) (root : ℕ) (popped_ : roots ≡ rest ++ root ∷ []) (pushed : more ≡ before ++ b ∷ []) (same : b.root ≡ root) where
@@ -98,17 +95,17 @@ module _ (before more : List UnreadBucket) (b : UnreadBucket) (roots rest : List
 
 -- the depth is none of the figures that are summed
 abbrev at_depth : ℕ → Stats → Stats
-at_depth deep s = record { buckets = s.buckets; inline_buckets = s.inline_buckets; inline_used = s.inline_used; keys = s.keys; depth = deep; branch_pages = s.branch_pages; branch_overflow = s.branch_overflow; branch_allocated = s.branch_allocated; branch_used = s.branch_used; leaf_pages = s.leaf_pages; leaf_overflow = s.leaf_overflow; leaf_allocated = s.leaf_allocated; leaf_used = s.leaf_used }
+at_depth deep s = record s { depth = deep }
 
 pub deepened : (f : Figure) (s : Stats) (deep : ℕ) → figure f (at_depth deep s) ≡ figure f s
-deepened f s deep = every (λ f. figure f (at_depth deep s) ≡ figure f s) refl refl refl refl refl refl refl refl refl refl refl refl f
+deepened f s deep = grind arith
 
 -- one bucket, of which nothing was read
 abbrev one_bucket : Stats → Stats
-one_bucket s = record { buckets = 1; inline_buckets = s.inline_buckets; inline_used = s.inline_used; keys = s.keys; depth = s.depth; branch_pages = s.branch_pages; branch_overflow = s.branch_overflow; branch_allocated = s.branch_allocated; branch_used = s.branch_used; leaf_pages = s.leaf_pages; leaf_overflow = s.leaf_overflow; leaf_allocated = s.leaf_allocated; leaf_used = s.leaf_used }
+one_bucket s = record s { buckets = 1 }
 
 pub first_figure : (f : Figure) (s : Stats) → AllZero s → figure f (one_bucket s) ≡ bucket_figure f
-first_figure f s (a, (b, (c, (d, (e, (g, (h, (i, (j, (k, (l, (m, n)))))))))))) = every (λ f. figure f (one_bucket s) ≡ bucket_figure f) refl b c d g h i j k l m n f
+first_figure f s zero = grind arith
 
 module _ (file : List ℕ) (meta : Meta) where
   pub unread_popped : (old new : List UnreadBucket) (b : UnreadBucket) → old ≡ new ++ b ∷ [] → roots_of old ≡ roots_of new ++ b.root ∷ []
@@ -125,4 +122,4 @@ module _ (file : List ℕ) (meta : Meta) where
       elim (from m h) [ inl i ↦ good m (subst (λ (l : List ℕ). Has m l) (sym e) (has_left m rest (n ∷ []) i)) | inr i ↦ other m i ]
 
 pub first_fits : (f : Figure) → bucket_figure f ≤ 1
-first_fits f = let one : 1 ≤ 1 = omega arith in let none : 0 ≤ 1 = omega arith in every (λ f. bucket_figure f ≤ 1) one none none none none none none none none none none none f
+first_fits f = grind arith

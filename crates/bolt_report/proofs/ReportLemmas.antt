@@ -1,11 +1,15 @@
 -- What was written, if a call also fails for other reasons than its sink.
-use Rattle.std.proofs.Common.{◌≡◌, List, ℕ, ◌++◌, Result, Ok, Err, ap, sym}
+use Rattle.std.proofs.Common.{◌≡◌, ◌∙◌, ◌<◌, List, ℕ, ◌++◌, Result, Ok, Err, Some, ap, get_or, length, map, option_map, slice_get, sym, ◌+◌, flat_map, take}
 use Rattle.std.specs.Result.{IsErrAnd}
-use Rattle.bolt_format.specs.Endings.{broken}
+use Rattle.std.proofs.lemmas.List.{length-map}
+use Rattle.std.proofs.lemmas.Option.{slice_get-get_or, slice_get-map}
+use Rattle.std.specs.Prelude.{IsErr}
+use Rattle.bolt_format.specs.Endings.{broken, ending, whole}
 use Rattle.bolt_format.specs.Wrote.{Wrote}
 use Rattle.bolt_format.specs.declared.sink.Sink.{Ghosts}
+use Rattle.bolt_format.specs.declared.sink.SinkFault.{SinkFault}
 use Rattle.bolt_format.proofs.WroteFronts.{WroteFront, front_stop}
-use Rattle.bolt_format.proofs.WroteLemmas.{Wrote-ends, Wrote-halt, Wrote-stop, Wrote-stop_halted}
+use Rattle.bolt_format.proofs.WroteLemmas.{Wrote-element, Wrote-element_return, Wrote-elements, Wrote-ends, Wrote-halt, Wrote-return, Wrote-stop, Wrote-stop_halted, Wrote-then}
 use Rattle.bolt_report.specs.ReportEndings.{fault_ending, report_ending}
 use Rattle.bolt_report.specs.declared.fault.ReportFault.{ReportFault}
 use Rattle.bolt_report.specs.declared.fault.ReportFault.TheVariants as fault
@@ -44,3 +48,31 @@ Wrote-unbegun old text result is = Wrote-ends (ends_by fault.NoMemory result is)
 pub front_fault : {S A : Type 0} {sink : Ghosts S} {old mid new : S} {text piece left : List ℕ} (rest : List ℕ) (e : ReportFault) (result : Result A ReportFault)
     → WroteFront sink old mid text left → Wrote sink mid new piece (fault_ending e) → left ≡ piece ++ rest → IsErrAnd result (λ f. f ≡ e) → Wrote sink old new text (report_ending result)
 front_fault rest e result before one same is = front_stop before (Wrote-fault rest e result one is) same
+
+pub front_broken : {S B : Type 0} {sink : Ghosts S} {old mid new : S} {text piece left : List ℕ} (rest : List ℕ) (result : Result B SinkFault)
+    → WroteFront sink old mid text left → Wrote sink mid new piece broken → left ≡ piece ++ rest → IsErr result → Wrote sink old new text (ending result)
+front_broken rest result before one same err = front_stop before (Wrote-return rest result one err) same
+
+-- the lines of the elements before number i were written
+abbrev pub WroteLines : {S X : Type 0} (sink : Ghosts S) (old new : S) (line : X → List ℕ) (xs : List X) (i : ℕ) → Type 0
+WroteLines sink old new line xs i = Wrote sink old new (flat_map line (take i xs)) whole
+
+-- the view of an element
+view_at : {X Y : Type 0} (view : X → Y) (xs : List X) (i : ℕ) (x : X) → i < length xs → x ≡ get_or xs i x → slice_get (map view xs) i ≡ Some (view x)
+view_at view xs i x within is = slice_get-map view xs i ∙ ap (option_map view) (slice_get-get_or xs i x within) ∙ ap (λ y. Some (view y)) (sym is)
+
+-- the line of one element more,
+pub view_more : {S X Y : Type 0} {sink : Ghosts S} (line : Y → List ℕ) (view : X → Y) (xs : List X) (i : ℕ) (x : X) {old mid new : S} → i < length xs → x ≡ get_or xs i x
+    → WroteLines sink old mid line (map view xs) i → Wrote sink mid new (line (view x)) whole → WroteLines sink old new line (map view xs) (i + 1)
+view_more line view xs i x within is before one = Wrote-element line (map view xs) i (view x) (view_at view xs i x within is) before one
+
+-- or of one that was not written whole
+pub view_return : {S X Y B : Type 0} {sink : Ghosts S} (line : Y → List ℕ) (view : X → Y) (xs : List X) (i : ℕ) (x : X) {old mid new : S} (result : Result B SinkFault) → i < length xs
+    → x ≡ get_or xs i x → WroteLines sink old mid line (map view xs) i → Wrote sink mid new (line (view x)) broken → IsErr result → Wrote sink old new (flat_map line (map view xs)) (ending result)
+view_return line view xs i x result within is before one err = Wrote-element_return line (map view xs) i (view x) result (view_at view xs i x within is) before one err
+
+-- for the search: the lines of a list,
+pub ruleset elements = (Wrote-element, Wrote-element_return, Wrote-elements, slice_get-get_or, length-map)
+
+-- and one text after another, if a call also fails for other reasons than its sink
+pub ruleset reports = (Wrote-then, Wrote-fault, Wrote-sink, Wrote-passed, Wrote-unbegun)

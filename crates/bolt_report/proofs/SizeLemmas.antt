@@ -1,10 +1,10 @@
 -- The lines of the buckets among entries, entry by entry.
-use Rattle.std.proofs.Common.{if◌then◌else◌, ◌≡◌, ◌∙◌, ℕ, zero, suc, drop, Bool, true, false, List, [], ◌∷◌, ◌++◌, Some, ap, append-nil, cond, filter, map, refl, subst, sym, rules}
+use Rattle.std.proofs.Common.{◌≡◌, ◌∙◌, ℕ, zero, suc, drop, Bool, true, false, List, [], ◌∷◌, ◌++◌, Some, ap, append-nil, cond, filter, map, refl, subst, sym, rules}
 use Rattle.std.proofs.Math.Logic.{∥∥₁_elim}
 use Rattle.std.proofs.Props.{props}
 use Rattle.std.proofs.lemmas.Grind.{flat_map-append}
 use Rattle.std.specs.List.{AllByRecursion, Contains}
-use Rattle.bolt_format.specs.Elements.{LeafElement, head_sequence}
+use Rattle.bolt_format.specs.Elements.{LeafElement}
 use Rattle.bolt_format.specs.declared.meta.Meta.{Meta}
 use Rattle.bolt_check.specs.CheckedFiles.{bytes_of, meta_of}
 use Rattle.bolt_check.specs.Keys.{Key}
@@ -54,9 +54,8 @@ module _ (file : List ℕ) (meta : Meta) where
     first = record { buckets = sym (by_kind e [] false is); stats = tt };
     later = record { buckets = same; stats = stats };
   }
-  cut_by e entries true is [] same stats = absurd (let c : [] ≡ e ∷ buckets_of entries = same in cc)
+  cut_by e entries true is [] same stats = cc
   cut_by e entries true is (s ∷ sized) same stats =
-      let c : s.entry ∷ map (λ (s : Sized). s.entry) sized ≡ e ∷ buckets_of entries = same in
       let head : s.entry ≡ e = cc in
       let tail : map (λ (s : Sized). s.entry) sized ≡ buckets_of entries = cc in
       record {
@@ -78,14 +77,11 @@ module _ (file : List ℕ) (meta : Meta) where
 
   one_line : (form : Form) (e : LeafElement) (own : Stats) (sized : List Sized) → IsStatsOf file meta (start_of e.value) own
       → map (λ (s : Sized). s.entry) sized ≡ e ∷ [] → AllByRecursion HasStats sized → size_text form own e.key ≡ sizes_text form sized
-  one_line form e own [] known same stats = absurd (let c : [] ≡ e ∷ [] = same in cc)
-  one_line form e own (s ∷ t ∷ sized) known same stats =
-      absurd (let c : s.entry ∷ t.entry ∷ map (λ (s : Sized). s.entry) sized ≡ e ∷ [] = same in cc)
+  one_line form e own [] known same stats = cc
+  one_line form e own (s ∷ t ∷ sized) known same stats = cc
   one_line form e own (s ∷ []) known same stats =
-      let c : s.entry ∷ [] ≡ e ∷ [] = same in
       let head : s.entry ≡ e = cc in
-      ap (λ (x : Stats). size_text form x e.key) (same_stats e own s head known stats.0)
-      ∙ ap (λ (x : LeafElement). size_text form s.stats x.key) (sym head) ∙ sym (append-nil (size_line form s))
+      rw (same_stats e own s head known stats.0, ← head) (sym (append-nil (size_line form s)))
 
   pub line_of : (form : Form) (e : LeafElement) (own : Stats) (sized : List Sized) → e.is_bucket ≡ true → IsStatsOf file meta (start_of e.value) own
       → AreSized file meta (e ∷ []) sized → size_text form own e.key ≡ sizes_text form sized
@@ -135,8 +131,7 @@ no_line file meta form entries (s ∷ sized) none are =
 -- an entry that shows a value is no bucket
 value_entry : (e : LeafElement) (b : Bool) (value : List ℕ) → e.is_bucket ≡ b → item_of e ≡ items.Value value → b ≡ false
 value_entry e false value is item = refl
-value_entry e true value is item =
-    absurd (let c : items.Bucket (head_sequence e.value) ≡ items.Value value = sym (ap (λ (b : Bool). if b then items.Bucket (head_sequence e.value) else items.Value e.value) is) ∙ item in cc)
+value_entry e true value is item = let bucket = rw is at item in absurd (cc)
 
 -- and has no line
 pub no_value_line : (file : List ℕ) (meta : Meta) (form : Form) (e : LeafElement) (v : EntryView) (value : List ℕ) (sized : List Sized)

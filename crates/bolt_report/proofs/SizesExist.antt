@@ -59,15 +59,12 @@ module _ (file : List ℕ) (meta : Meta) where
 
   one_by : (a b : List Sized) → map (λ (s : Sized). s.entry) a ≡ map (λ (s : Sized). s.entry) b → AllByRecursion (HasStats file meta) a → AllByRecursion (HasStats file meta) b → a ≡ b
   one_by [] [] same h k = refl
-  one_by [] (t ∷ b) same h k = absurd (let c : [] ≡ t.entry ∷ map (λ (s : Sized). s.entry) b = same in cc)
-  one_by (s ∷ a) [] same h k = absurd (let c : s.entry ∷ map (λ (s : Sized). s.entry) a ≡ [] = same in cc)
+  one_by [] (t ∷ b) same h k = cc
+  one_by (s ∷ a) [] same h k = cc
   one_by (s ∷ a) (t ∷ b) same h k =
-      let c : s.entry ∷ map (λ (s : Sized). s.entry) a ≡ t.entry ∷ map (λ (s : Sized). s.entry) b = same in
       let head : s.entry ≡ t.entry = cc in
       let tail : map (λ (s : Sized). s.entry) a ≡ map (λ (s : Sized). s.entry) b = cc in
-      let first : s ≡ t = same_sized s t head h.0 k.0 in
-      let rest : a ≡ b = one_by a b tail h.1 k.1 in
-      ap (λ (x : Sized). x ∷ a) first ∙ ap (λ (l : List Sized). t ∷ l) rest
+      λ i. same_sized s t head h.0 k.0 i ∷ one_by a b tail h.1 k.1 i
 
   pub one_sizes : (entries : List LeafElement) (a b : List Sized) → AreSized file meta entries a → AreSized file meta entries b → a ≡ b
   one_sizes entries a b h k = one_by a b (h.buckets ∙ sym k.buckets) h.stats k.stats

@@ -13,12 +13,12 @@ use Rattle.bolt_check.proofs.WayFacts.{follow_append, in_own_span}
 use Rattle.bolt_tree.specs.Entries.{Inline_page, IsStart, Root_page, Start}
 use Rattle.bolt_report.specs.Deepest.{depth_of}
 use Rattle.bolt_report.specs.Depths.{IsDepth}
-use Rattle.bolt_report.specs.Figures.{Figure, bucket_figure, buckets, inline_buckets, inline_used, keys, branch_pages, branch_overflow, branch_allocated, branch_used, leaf_pages, leaf_overflow, leaf_allocated, leaf_used, capped, figure, inline_figure}
+use Rattle.bolt_report.specs.Figures.{Figure, bucket_figure, capped, figure, inline_figure}
 use Rattle.bolt_report.specs.Readings.{AreGood, own_figure, total_of}
 use Rattle.bolt_report.specs.StatsOf.{IsPagedStats, IsStatsOf, spot_figure, tour_figure}
 use Rattle.bolt_report.specs.declared.statistics.Stats.{Stats}
-use Rattle.bolt_report.proofs.FigureLemmas.{every}
 use Rattle.bolt_report.proofs.DepthExists.{AllFilled, depth_is}
+use Rattle.bolt_report.proofs.StatsOnce.{stats_from}
 
 -- A page that a way leads to is its bucket's root page, or at depth 2 or more.
 abbrev IsRootOrBelow : PageSpot → Type 0
@@ -121,36 +121,13 @@ module _ (file : List ℕ) (meta : Meta) where
           shown = deep;
         }
 
--- any figures are those of a record
-stats_from : (Figure → ℕ) → ℕ → Stats
-stats_from sums deep = record {
-  buckets = sums buckets;
-  inline_buckets = sums inline_buckets;
-  inline_used = sums inline_used;
-  keys = sums keys;
-  depth = deep;
-  branch_pages = sums branch_pages;
-  branch_overflow = sums branch_overflow;
-  branch_allocated = sums branch_allocated;
-  branch_used = sums branch_used;
-  leaf_pages = sums leaf_pages;
-  leaf_overflow = sums leaf_overflow;
-  leaf_allocated = sums leaf_allocated;
-  leaf_used = sums leaf_used;
-}
-
 figure_from : (sums : Figure → ℕ) (deep : ℕ) (f : Figure) → figure f (stats_from sums deep) ≡ sums f
-unfolding stats_from
-figure_from sums deep f = every (λ f. figure f (stats_from sums deep) ≡ sums f) refl refl refl refl refl refl refl refl refl refl refl refl f
-
-depth_from_is : (sums : Figure → ℕ) (deep : ℕ) → (stats_from sums deep).depth ≡ deep
-unfolding stats_from
-depth_from_is sums deep = refl
+figure_from sums deep f = grind arith
 
 pub some_stats : (file : List ℕ) (meta : Meta) (start : Start) → HasSoundTrees file meta → IsStart file meta start → (stats : Stats) × IsStatsOf file meta start stats
 some_stats file meta (Root_page root) trees on =
     let sums : Figure → ℕ = λ f. capped (bucket_figure f + total_of file meta (own_figure file meta f) (root ∷ [])) in
-    (stats_from sums (capped (depth_of file meta root)), paged_stats_are file meta trees root on _ (figure_from sums _) (depth_from_is sums _))
+    (stats_from sums (capped (depth_of file meta root)), paged_stats_are file meta trees root on _ (figure_from sums _) refl)
 some_stats file meta (Inline_page elements) trees on =
     let sums : Figure → ℕ = λ f. capped (inline_figure f elements) in
-    (stats_from sums 1, record { sums = figure_from sums 1; depth = depth_from_is sums 1 })
+    (stats_from sums 1, record { sums = figure_from sums 1; depth = refl })

@@ -38,22 +38,26 @@ one_sum file meta root a b h k f =
     let reach = reached (node_at file meta) root in
     h.sums f ∙ ap (λ (tour : List (List ℕ)). capped (bucket_figure f + tour_figure file meta f reach tour)) (one_tour reach h.tour k.tour h.whole k.whole) ∙ sym (k.sums f)
 
-same_stats : (a b : Stats) → ((f : Figure) → figure f a ≡ figure f b) → a.depth ≡ b.depth → a ≡ b
-same_stats a b same deep = λ i. record {
-  buckets = same buckets i;
-  inline_buckets = same inline_buckets i;
-  inline_used = same inline_used i;
-  keys = same keys i;
-  branch_pages = same branch_pages i;
-  branch_overflow = same branch_overflow i;
-  branch_allocated = same branch_allocated i;
-  branch_used = same branch_used i;
-  leaf_pages = same leaf_pages i;
-  leaf_overflow = same leaf_overflow i;
-  leaf_allocated = same leaf_allocated i;
-  leaf_used = same leaf_used i;
-  depth = deep i;
+-- any figures are those of a record
+abbrev pub stats_from : (Figure → ℕ) → ℕ → Stats
+stats_from sums deep = record {
+  buckets = sums buckets;
+  inline_buckets = sums inline_buckets;
+  inline_used = sums inline_used;
+  keys = sums keys;
+  depth = deep;
+  branch_pages = sums branch_pages;
+  branch_overflow = sums branch_overflow;
+  branch_allocated = sums branch_allocated;
+  branch_used = sums branch_used;
+  leaf_pages = sums leaf_pages;
+  leaf_overflow = sums leaf_overflow;
+  leaf_allocated = sums leaf_allocated;
+  leaf_used = sums leaf_used;
 }
+
+same_stats : (a b : Stats) → ((f : Figure) → figure f a ≡ figure f b) → a.depth ≡ b.depth → a ≡ b
+same_stats a b same deep = λ i. stats_from (λ f. same f i) (deep i)
 
 pub one_stats : (file : List ℕ) (meta : Meta) (start : Start) (a b : Stats) → IsStatsOf file meta start a → IsStatsOf file meta start b → a ≡ b
 one_stats file meta (Root_page root) a b h k =

@@ -1,25 +1,46 @@
--- JSON tokens, written one after another.
-use Rattle.std.proofs.Common.{◌≡◌, ◌∙◌, ◌+◌, ℕ, Bor, List, [], ◌∷◌, ◌++◌, Some, add-one, ap, append_assoc, codes, flat_map, refl, slice_get, sym, take}
-use Rattle.std.specs.Str.{IsUtf8}
-use Rattle.std.proofs.lemmas.Str.{is_utf8-from_IsUtf8}
-use Rattle.hex.specs.Hex.{encode_lower}
+-- JSON tokens, written one after another, of bytes that are UTF-8 or not.
+use Rattle.std.proofs.Common.{◌≡◌, ℕ, List, Bool, true, false, Result, Ok, Err, nat_lt, refl, ◌∙◌, ◌+◌, Bor, [], ◌∷◌, ◌++◌, Some, add-one, ap, append_assoc, codes, flat_map, slice_get, sym, take}
+use Rattle.std.specs.Prelude.{IsOk, MatchResult}
+use Rattle.std.specs.Str.{IsAscii, IsUtf8, is_utf8}
+use Rattle.std.proofs.lemmas.Bool.{ltb-true}
+use Rattle.std.proofs.lemmas.List.Elements.{All-weaker}
+use Rattle.std.proofs.lemmas.List.Sums.{AllPass-from_list_all}
+use Rattle.std.proofs.lemmas.Str.{IsUtf8-from_ascii, IsUtf8-from_is_utf8, is_utf8-from_IsUtf8}
+use Rattle.std.proofs.lemmas.Str.Ascii.{IsAscii-from_all}
+use Rattle.hex.proofs.HexLemmas.{IsAscii-encode_with}
+use Rattle.hex.specs.Hex.{encode_lower, lower_digits}
+use Rattle.std.proofs.lemmas.Option.{slice_get-get_or}
 use Rattle.json.specs.Token.{Token, begin_object, end_array, end_object, key, string}
 use Rattle.json.specs.Tree.{items_tokens, json_tokens}
 use Rattle.bolt_tree.specs.Paths.{path_of}
 use Rattle.bolt_report.specs.Forms.{item_json}
 use Rattle.bolt_report.specs.JsonLines.{parts_json}
 use Rattle.bolt_format.proofs.ListLemmas.{flat_map-take_more}
-use Rattle.bolt_report.proofs.Utf8Lemmas.{not_utf8}
+
+tested : (bytes : List ℕ) (b : Bool) → is_utf8 bytes ≡ b → ¬ (IsUtf8 bytes) → is_utf8 bytes ≡ false
+tested bytes true is other = absurd (other (IsUtf8-from_is_utf8 bytes is))
+tested bytes false is other = is
+
+pub not_utf8 : (bytes : List ℕ) → ¬ (IsUtf8 bytes) → is_utf8 bytes ≡ false
+not_utf8 bytes other = tested bytes (is_utf8 bytes) refl other
+
+-- a result that can't be an error
+pub never_err : {A E : Type 0} (P : A → Type 0) (Q : E → Type 0) (result : Result A E) → MatchResult result P Q → ((e : E) → ¬ (Q e)) → IsOk result
+never_err P Q (Ok x) is never = refl
+never_err P Q (Err e) is never = absurd (never e is)
+
+digits_ascii : IsAscii lower_digits
+digits_ascii = IsAscii-from_all lower_digits (All-weaker (λ b. nat_lt b 128 ≡ true) _ (λ b. ltb-true b 128) lower_digits (AllPass-from_list_all (λ b. nat_lt b 128) lower_digits refl))
+
+-- hexadecimal digits are UTF-8
+pub digits_utf8 : (bytes : List ℕ) → IsUtf8 (encode_lower bytes)
+digits_utf8 bytes = IsUtf8-from_ascii (encode_lower bytes) (IsAscii-encode_with lower_digits bytes digits_ascii)
 
 pub parts_tokens : (path : List (Bor (List ℕ))) → items_tokens (parts_json item_json (path_of path)) ≡ flat_map (λ (part : Bor (List ℕ)). json_tokens (item_json part.now)) path ++ end_array ∷ []
 parts_tokens [] = refl
 parts_tokens (part ∷ path) =
     ap (λ (ts : List Token). json_tokens (item_json part.now) ++ ts) (parts_tokens path)
     ∙ sym (append_assoc (json_tokens (item_json part.now)) (flat_map (λ (p : Bor (List ℕ)). json_tokens (item_json p.now)) path) (end_array ∷ []))
-
--- three lists of tokens
-pub three_added : (old a b c xs ys zs : List Token) → a ≡ old ++ xs → b ≡ a ++ ys → c ≡ b ++ zs → c ≡ old ++ (xs ++ (ys ++ zs))
-three_added old a b c xs ys zs first second third = rw third (rw second (rw first (simp append_assoc)))
 
 -- bytes that are UTF-8 are a string
 pub text_tokens : (bytes text : List ℕ) → IsUtf8 bytes → text ≡ bytes → json_tokens (item_json bytes) ≡ string text ∷ []
@@ -37,3 +58,6 @@ part_more path i part old mid new found before one =
     let f : Bor (List ℕ) → List Token = λ p. json_tokens (item_json p.now) in
     one ∙ ap (λ (ts : List Token). ts ++ f part) before ∙ append_assoc old (flat_map f (take i path)) (f part)
     ∙ ap (λ (ts : List Token). old ++ ts) (sym (ap (λ k. flat_map f (take k path)) (add-one i) ∙ flat_map-take_more f path i part found))
+
+-- for the search
+pub ruleset tokens = (text_tokens, digits_tokens, part_more, slice_get-get_or)

@@ -13,6 +13,7 @@ use crate::pieces::{Piece, put_pieces};
 use bolt_format::{Branch, FreeIds, Kind, Leaf, Page, Sink, SinkFault, head};
 
 /// Writes a line for each element of a branch page.
+#[tactic(auto, using(crate::proofs::ReportLemmas::elements, crate::proofs::FoundLemmas::lengths))]
 pub(crate) fn put_branches<S: Sink>(page: &Page<'_>, sink: &mut S) -> Result<(), SinkFault>
     requires { (shown page.now).kind ≡ Kind.Branch }
     ensures { Wrote S.Sink sink.old sink.new (flat_map branch_line (shown page.now).branches) (ending result) }
@@ -24,6 +25,7 @@ pub(crate) fn put_branches<S: Sink>(page: &Page<'_>, sink: &mut S) -> Result<(),
 }
 
 /// Writes a line for each element of a leaf page.
+#[tactic(auto, using(crate::proofs::ReportLemmas::elements, crate::proofs::FoundLemmas::lengths))]
 pub(crate) fn put_leaves<S: Sink>(page: &Page<'_>, sink: &mut S) -> Result<(), SinkFault>
     requires { (shown page.now).kind ≡ Kind.Leaf }
     ensures { Wrote S.Sink sink.old sink.new (flat_map leaf_line (shown page.now).leaves) (ending result) }
@@ -35,6 +37,7 @@ pub(crate) fn put_leaves<S: Sink>(page: &Page<'_>, sink: &mut S) -> Result<(), S
 }
 
 /// Writes a line for each id of a freelist.
+#[tactic(auto, using(crate::proofs::ReportLemmas::elements))]
 pub(crate) fn put_ids<S: Sink>(ids: &FreeIds<'_>, sink: &mut S) -> Result<(), SinkFault>
     ensures { Wrote S.Sink sink.old sink.new (flat_map id_line (shown_ids ids.now)) (ending result) }
 {

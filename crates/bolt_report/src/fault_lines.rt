@@ -81,6 +81,7 @@ pub fn findings_text<S: Sink>(
     put_count(earlier + findings.len() as u64, sink)
 }
 
+#[tactic(auto, using(crate::proofs::ReportLemmas::elements))]
 fn put_findings<S: Sink>(findings: &[Finding], sink: &mut S) -> Result<(), SinkFault>
     ensures { Wrote S.Sink sink.old sink.new (flat_map finding_text findings.now) (ending result) }
 {

@@ -19,6 +19,7 @@ use bolt_recover::{Found, Lost};
 /// # Errors
 ///
 /// `SinkFault` if the sink failed. It has then accepted a prefix of the text.
+#[tactic(auto, using(bolt_format::proofs::WroteLemmas::wrote))]
 pub fn lost_text<S: Sink>(
     lost: Lost<'_>,
     found: &[Found<'_>],
@@ -38,6 +39,7 @@ pub fn lost_text<S: Sink>(
 /// # Errors
 ///
 /// `SinkFault` if the sink failed. It has then accepted a prefix of the text.
+#[tactic(auto, using(bolt_format::proofs::WroteLemmas::wrote))]
 pub fn counted_lost_text<S: Sink>(
     lost: Lost<'_>,
     found: &[Found<'_>],
@@ -53,6 +55,7 @@ pub fn counted_lost_text<S: Sink>(
     put_count(earlier + count_of(lost), sink)
 }
 
+#[tactic(auto, using(crate::proofs::ReportLemmas::elements))]
 fn put_all_found<S: Sink>(found: &[Found<'_>], sink: &mut S) -> Result<(), SinkFault>
     requires { All IsFoundLeaf found.now }
     ensures { Wrote S.Sink sink.old sink.new (found_text (map found_view found.now)) (ending result) }

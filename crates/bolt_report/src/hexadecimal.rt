@@ -12,6 +12,7 @@ use hex::encode_to_slice;
 const PART_LEN: usize = 256;
 
 /// Writes bytes in hexadecimal, part by part.
+#[tactic(auto, using(crate::proofs::HexStrings::digits))]
 pub(crate) fn put_hex<S: Sink>(bytes: &[u8], sink: &mut S) -> Result<(), SinkFault>
     ensures { Wrote S.Sink sink.old sink.new (encode_lower bytes.now) (ending result) }
 {

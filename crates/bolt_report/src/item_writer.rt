@@ -41,6 +41,7 @@ impl ItemWriter {
     }
 
     /// Writes a key or a value, and a line feed.
+    #[tactic(auto, using(crate::proofs::ReportLemmas::reports))]
     pub(crate) fn put_line<S: Sink>(
         &mut self,
         bytes: &[u8],

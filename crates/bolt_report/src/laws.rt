@@ -19,21 +19,25 @@ ghost use Rattle.bolt_tree.specs.Entries.{AreEntries, IsEntry, IsStart, Start};
 ghost use Rattle.bolt_tree.specs.Listing.{Member};
 
 /// A bucket has at most one set of figures.
+#[tactic(auto, using(crate::proofs::StatsOnce::one_stats))]
 pub fn stats_are_one()
     ensures { (file : List ℕ) (meta : Meta) (start : Start) (a b : Stats) → IsStatsOf file meta start a → IsStatsOf file meta start b → a ≡ b }
 {}
 
 /// In sound trees each bucket has figures.
+#[tactic(auto, using(crate::proofs::StatsExist::some_stats))]
 pub fn stats_exist()
     ensures { (file : List ℕ) (meta : Meta) (start : Start) → HasSoundTrees file meta → IsStart file meta start → (stats : Stats) × IsStatsOf file meta start stats }
 {}
 
 /// The buckets among the entries of a bucket have at most one list of sizes.
+#[tactic(auto, using(crate::proofs::SizesExist::one_sizes))]
 pub fn sizes_are_one()
     ensures { (file : List ℕ) (meta : Meta) (entries : List LeafElement) (a b : List Sized) → AreSized file meta entries a → AreSized file meta entries b → a ≡ b }
 {}
 
 /// In sound trees the buckets among the entries of a bucket have their sizes.
+#[tactic(auto, using(crate::proofs::SizesExist::some_sizes))]
 pub fn sizes_exist()
     ensures { (file : List ℕ) (meta : Meta) (start : Start) (entries : List LeafElement) → HasSoundTrees file meta → IsStart file meta start → AreEntries (IsEntry file meta) start entries
         → (sized : List Sized) × AreSized file meta entries sized }
@@ -42,6 +46,7 @@ pub fn sizes_exist()
 /// A JSON line without its line feed is a JSON document: an object with the path, and the value or
 /// the sequence. A reader that looks up its members by their names finds all of it again, whatever its
 /// bytes are, in either of the forms that are JSON.
+#[tactic(auto, using(crate::proofs::JsonLemmas::read_back))]
 pub fn json_lines_read_back()
     ensures document { (m : Member) → IsMemberOfBytes m → document (json_text (member_json item_json m)) ≡ Some (member_json item_json m) }
     ensures member { (m : Member) → IsMemberOfBytes m → option_and_then (member_of item_of) (document (json_text (member_json item_json m))) ≡ Some m }
@@ -57,6 +62,7 @@ pub fn json_items_read_back()
 
 /// Figures as JSON without the line feed are a JSON document. A reader that goes over its members
 /// finds the names, with underscores for spaces, and the number of each, if it has one.
+#[tactic(auto, using(crate::proofs::JsonLemmas::figures_document))]
 pub fn json_figures_read_back()
     ensures { (figures : List Named) → HaveWords figures → option_and_then figures_of (document (json_text (figures_json figures))) ≡ Some (map (λ figure. (json_name figure.0, figure.1)) figures) }
 {}

@@ -33,6 +33,7 @@ pub(crate) fn count_of(lost: Lost<'_>) -> u64
     }
 }
 
+#[tactic(auto, using(crate::proofs::ReportLemmas::elements))]
 fn put_losses<S: Sink>(losses: &[Loss<'_>], sink: &mut S) -> Result<(), SinkFault>
     ensures { Wrote S.Sink sink.old sink.new (losses_text (map loss_view losses.now)) (ending result) }
 {

@@ -50,6 +50,7 @@ pub fn page_text<S: Sink>(
 }
 
 /// The page, and its ids if it is a freelist.
+#[tactic(auto, using(crate::proofs::PageFaults::faults))]
 fn find<'a>(file: &'a [u8], meta: &Meta, id: u64) -> Result<PageWithIds<'a>, PageFault>
     ensures page { IfOk result (λ found. page_at file.now meta.now id ≡ Some (shown found.page)) }
     ensures ids { IfOk result (λ found. (shown found.page).kind ≡ Kind.Freelist → known_ids (option_map shown_ids found.ids) ≡ free_ids_at file.now meta.now id) }

@@ -25,6 +25,7 @@ fn leaf_size(leaf: &Leaf<'_>) -> u64
 }
 
 /// The bytes used of an inline bucket's page: its header and its elements.
+#[tactic(auto, using(crate::proofs::FigureLemmas::sums))]
 fn inline_used(page: &Inline<'_>) -> u64
     ensures { result ≡ capped (used_by_leaves (shown_inline page.now)) }
 {
@@ -104,6 +105,7 @@ fn branch_stats(page: &Page<'_>, page_size: u32) -> Stats
 }
 
 /// The bytes used of a leaf: its header and its elements.
+#[tactic(auto, using(crate::proofs::FigureLemmas::sums))]
 fn leaf_used(page: &Page<'_>) -> u64
     requires { (shown page.now).kind ≡ Kind.Leaf }
     ensures { result ≡ capped (used_by_leaves (shown page.now).leaves) }
@@ -132,6 +134,7 @@ fn own_stats(page: &Page<'_>, page_size: u32) -> Stats
 }
 
 /// What the elements of a leaf add.
+#[tactic(auto, using(crate::proofs::FigureLemmas::sums))]
 fn inner_stats(page: &Page<'_>) -> Stats
     requires { (shown page.now).kind ≡ Kind.Leaf }
     ensures { (f : Figure) → figure f result ≡ capped (sum_by (element_figure f) (shown page.now).leaves) }
@@ -144,6 +147,7 @@ fn inner_stats(page: &Page<'_>) -> Stats
 }
 
 /// The figures of a leaf with the inline buckets in it.
+#[tactic(auto, using(crate::proofs::FigureLemmas::sums))]
 fn leaf_stats(page: &Page<'_>, page_size: u32) -> Stats
     requires { (shown page.now).kind ≡ Kind.Leaf }
     ensures { (f : Figure) → figure f result ≡ capped (leaf_figure f page_size (shown page.now) + sum_by (element_figure f) (shown page.now).leaves) }

@@ -23,6 +23,7 @@ use std::alloc::Global;
 ///
 /// `Sink` if the sink failed; `NoMemory` if memory ran out for the roles of the pages, and the sink
 /// had not failed. The sink has then accepted a prefix of the text. There is no other error.
+#[tactic(auto, using(crate::proofs::ReportLemmas::reports))]
 pub fn pages<S: Sink>(alloc: Global, checked: Checked<'_>, sink: &mut S) -> Result<(), ReportFault>
     requires { has_accounts checked ≡ true }
     ensures written { ForRoles checked.entry (λ roles. Wrote S.Sink sink.old sink.new (pages_text (bytes_of checked.entry) (meta_of checked.entry) roles) (report_ending result)) }

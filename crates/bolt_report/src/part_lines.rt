@@ -114,6 +114,7 @@ fn put_bucket_part<'a, M: Members<'a>, S: Sink>(
 }
 
 /// Whether a path comes before another.
+#[tactic(auto, using(crate::proofs::PartTests::parts))]
 fn is_before(path: &[&[u8]], other: &[&[u8]]) -> bool
     ensures { result ≡ is_lt (path_cmp (path_of path.now) (path_of other.now)) }
 {
@@ -135,6 +136,7 @@ fn is_wanted(path: &[&[u8]], below: &[&[u8]], from: &[&[u8]]) -> bool
 }
 
 /// Whether a path begins with another.
+#[tactic(auto, using(crate::proofs::PartTests::parts))]
 fn is_below(path: &[&[u8]], below: &[&[u8]]) -> bool
     ensures { result ≡ begins_with (path_of below.now) (path_of path.now) }
 {
@@ -142,6 +144,7 @@ fn is_below(path: &[&[u8]], below: &[&[u8]]) -> bool
 }
 
 /// Whether a member is the bucket at a path.
+#[tactic(auto, using(crate::proofs::PartTests::parts))]
 fn is_bucket_of(path: &[&[u8]], item: &Item<'_>, bucket: &[&[u8]]) -> bool
     ensures { result ≡ is_bucket_at (path_of bucket.now) (path_of path.now, item_view item.now) }
 {

@@ -88,6 +88,7 @@ fn add_number<S: Sink>(n: u64, held: &mut Held, sink: &mut S) -> Result<(), Sink
     add_bytes(Buffer::new().format(n).as_bytes(), held, sink)
 }
 
+#[tactic(auto, using(crate::proofs::GatherLemmas::gathers), unfolding(crate::specs::Lines::figure_line))]
 fn add_figure<S: Sink>(name: &[u8], n: u64, held: &mut Held, sink: &mut S) -> Result<(), SinkFault>
     ensures { Gathers S.Sink sink.old sink.new held.old.items held.new.items (figure_line name.now n) (ending result) }
 {
@@ -97,6 +98,7 @@ fn add_figure<S: Sink>(name: &[u8], n: u64, held: &mut Held, sink: &mut S) -> Re
     add_bytes(b"\n", held, sink)
 }
 
+#[tactic(auto, using(crate::proofs::GatherLemmas::gathers), unfolding(crate::specs::Lines::column))]
 fn add_column<S: Sink>(
     text: &[u8],
     width: usize,
@@ -118,6 +120,7 @@ fn add_spaces<S: Sink>(count: usize, held: &mut Held, sink: &mut S) -> Result<()
     Ok(())
 }
 
+#[tactic(auto, using(crate::proofs::GatherLemmas::gathers))]
 fn add_path<S: Sink>(
     parts: &[&[u8]],
     form: PathForm,
@@ -193,6 +196,7 @@ fn add_hex_string<S: Sink>(bytes: &[u8], held: &mut Held, sink: &mut S) -> Resul
 }
 
 /// Adds bytes in hexadecimal; long ones are written part by part, and not held.
+#[tactic(auto, using(crate::proofs::GatherLemmas::gathers))]
 fn add_hex<S: Sink>(bytes: &[u8], held: &mut Held, sink: &mut S) -> Result<(), SinkFault>
     ensures { Gathers S.Sink sink.old sink.new held.old.items held.new.items (encode_lower bytes.now) (ending result) }
 {
@@ -216,6 +220,7 @@ fn add_bytes<S: Sink>(bytes: &[u8], held: &mut Held, sink: &mut S) -> Result<(),
     }
 }
 
+#[tactic(auto, using(crate::proofs::GatherLemmas::gathers))]
 fn add_after_put<S: Sink>(bytes: &[u8], held: &mut Held, sink: &mut S) -> Result<(), SinkFault>
     ensures { Gathers S.Sink sink.old sink.new held.old.items held.new.items bytes.now (ending result) }
 {

@@ -99,6 +99,7 @@ fn put_size<S: Sink>(
 }
 
 /// Writes the figures and the name with spaces between them.
+#[tactic(auto, using(crate::proofs::ReportLemmas::reports))]
 fn put_row<S: Sink>(
     stats: &Stats,
     name: &[u8],

@@ -1,6 +1,4 @@
-use Rattle.std.proofs.Common.{◌≡◌, ◌∙◌, [], ap, arith, inl, ℕ, refl, sum_by, vec_len}
-use Rattle.bolt_report.specs.Deepest.{greatest}
-use Rattle.bolt_report.specs.Readings.{unread_bucket}
+use Rattle.std.proofs.Common.{◌∙◌, arith, inl, refl}
 use Rattle.bolt_report.proofs.ReadDepths.{moved_depth}
 use Rattle.bolt_report.proofs.ReadSums.{moved_from, moved_sum, none_left}
 use Rattle.bolt_report.proofs.bucket_stats.add_buckets.Goals as goal
@@ -13,14 +11,10 @@ roots-preserved c = record {
 }
 
 pub returns-clause-sums : goal.returns-clause-sums
-returns-clause-sums c = λ w.
-    let none : c.roots.roots.items ≡ [] = none_left c.roots.roots.items c.pop.new.self.items (vec_len c.roots.roots) c.in_default.ensures.cases.0 c.in_default.ensures.rest c.in_default.ensures.items in
-    let zero = ap (sum_by w) none in let whole = c.roots.invariant.sums w in omega (arith, zero, whole)
+returns-clause-sums c = λ w. let whole = rw (none_left c.in_default.ensures.cases.0 c.in_default.ensures.rest c.in_default.ensures.items) at (c.roots.invariant.sums w) in omega (arith, whole)
 
 pub returns-clause-from : goal.returns-clause-from
 returns-clause-from c = λ m h. c.roots.invariant.from m (inl h)
 
 pub returns-clause-deepest : goal.returns-clause-deepest
-returns-clause-deepest c = λ f.
-    let none : c.roots.roots.items ≡ [] = none_left c.roots.roots.items c.pop.new.self.items (vec_len c.roots.roots) c.in_default.ensures.cases.0 c.in_default.ensures.rest c.in_default.ensures.items in
-    let zero = ap (greatest (λ (root : ℕ). f (unread_bucket c.args.above root))) none in let whole = c.roots.invariant.deepest f in omega (arith, zero, whole)
+returns-clause-deepest c = λ f. let whole = rw (none_left c.in_default.ensures.cases.0 c.in_default.ensures.rest c.in_default.ensures.items) at (c.roots.invariant.deepest f) in omega (arith, whole)

@@ -1,11 +1,10 @@
-use Rattle.std.proofs.Common.{◌≡◌, ◌∙◌, ◌++◌, ◌∷◌, [], ℕ, List, ap, arith, vec_len}
+use Rattle.std.proofs.Common.{◌≡◌, ◌∙◌, ◌∷◌, [], ℕ, List, ap, arith}
 use Rattle.std.proofs.Math.Logic.{∥∥₁_elim, ∥∥₁_map, ∥∥₁_prop}
 use Rattle.bolt_check.specs.CheckedFiles.{bytes_of, meta_of}
 use Rattle.bolt_check.specs.Nodes.{node_at}
 use Rattle.bolt_check.specs.Subtrees.{weight}
-use Rattle.bolt_report.specs.Deepest.{greatest}
 use Rattle.bolt_report.specs.Figures.{figure}
-use Rattle.bolt_report.specs.Readings.{own_figure, roots_of, total_of}
+use Rattle.bolt_report.specs.Readings.{own_figure, roots_of}
 use Rattle.bolt_report.specs.declared.statistics.Stats.{Stats}
 use Rattle.bolt_report.specs.declared.bucket_stats.UnreadBucket.{UnreadBucket}
 use Rattle.bolt_report.proofs.FigureLemmas.{figure_add}
@@ -15,24 +14,16 @@ use Rattle.bolt_report.proofs.bucket_stats.paged_stats.Goals as goal
 
 pub buckets-init : goal.buckets-init
 buckets-init c =
-    let file : List ℕ = bytes_of c.args.checked.now in
-    let meta = meta_of c.args.checked.now in
     let first : UnreadBucket = record { root = c.args.root; above = 0 } in
-    let now : roots_of c.push.new.self.items ≡ c.args.root ∷ [] = ap roots_of (c.in_ok-push.ensures.items ∙ ap (λ (l : List UnreadBucket). l ++ first ∷ []) c.new-buckets.ensures.items) in
+    let items : c.push.new.self.items ≡ first ∷ [] = rw c.new-buckets.ensures.items at c.in_ok-push.ensures.items in
     record {
       pages = c.new-pages.ensures.items;
       roots = c.new-roots.ensures.items;
-      good = rw now c.requires;
+      good = rw items c.requires;
       fits = λ f. let z = first_figure f c.default.result c.default.ensures in let few = first_fits f in omega (arith, z, few);
-      stats = λ f.
-          let z = first_figure f c.default.result c.default.ensures in
-          let a = ap (total_of file meta (own_figure file meta f)) now in
-          omega (arith, z, a);
+      stats = λ f. let z = first_figure f c.default.result c.default.ensures in rw items (omega (arith, z));
       depth_fits = let z = zero_depth c.default.result c.default.ensures in omega (arith, z);
-      depth =
-          let z = zero_depth c.default.result c.default.ensures in
-          let all = ap (greatest (bucket_end file meta)) (c.in_ok-push.ensures.items ∙ ap (λ (l : List UnreadBucket). l ++ first ∷ []) c.new-buckets.ensures.items) in
-          omega (arith, z, all);
+      depth = let z = zero_depth c.default.result c.default.ensures in rw items (omega (arith, z));
     }
 
 pub read_bucket-requires-clause-good : goal.read_bucket-requires-clause-good
@@ -76,10 +67,5 @@ buckets-preserved c =
 
 pub returns-clause-depth : goal.returns-clause-depth
 returns-clause-depth c =
-    let file : List ℕ = bytes_of c.args.checked.now in
-    let meta = meta_of c.args.checked.now in
-    let none : c.buckets.buckets.items ≡ [] = none_left c.buckets.buckets.items c.pop.new.self.items (vec_len c.buckets.buckets) c.in_default.ensures.cases.0 c.in_default.ensures.rest c.in_default.ensures.items in
-    let zero = ap (greatest (bucket_end file meta)) none in
-    let whole = c.buckets.invariant.depth in
-    let fits = c.buckets.invariant.depth_fits in
-    omega (arith, zero, whole, fits)
+    let whole = rw (none_left c.in_default.ensures.cases.0 c.in_default.ensures.rest c.in_default.ensures.items) at c.buckets.invariant.depth in
+    omega (arith, whole, c.buckets.invariant.depth_fits)

@@ -1,14 +1,13 @@
-use Rattle.std.proofs.Common.{◌≡◌, ◌∙◌, ◌+◌, ◌<◌, ◌++◌, ◌∷◌, [], ℕ, List, inl, inr, ap, arith, map, max, sym, vec_len}
+use Rattle.std.proofs.Common.{◌≡◌, ◌∙◌, ◌+◌, ◌<◌, ◌++◌, ◌∷◌, [], ℕ, List, inl, inr, ap, arith, map, sym}
 use Rattle.std.proofs.Math.Logic.{∥∥₁_elim, ∥∥₁_map, ∥∥₁_prop}
 use Rattle.std.proofs.Props.{props}
 use Rattle.bolt_check.specs.CheckedFiles.{bytes_of, meta_of}
 use Rattle.bolt_check.specs.Nodes.{Node}
-use Rattle.bolt_report.specs.Deepest.{deepest_of, depth_of, greatest}
+use Rattle.bolt_report.specs.Deepest.{deepest_of, greatest}
 use Rattle.bolt_report.specs.Figures.{capped, figure}
 use Rattle.bolt_report.specs.Readings.{inner_pages, inner_roots, numbers_of, one, unread_page, own_figure, total_of}
-use Rattle.bolt_report.specs.declared.bucket_stats.UnreadPage.{UnreadPage}
 use Rattle.bolt_report.proofs.FigureLemmas.{figure_add}
-use Rattle.bolt_report.proofs.ReadDepths.{first_height, numbers_opened, page_height, read_deepest, read_height}
+use Rattle.bolt_report.proofs.ReadDepths.{first_height, numbers_opened, read_deepest, read_height}
 use Rattle.bolt_report.proofs.ReadSums.{more_found, next_good, none_left, popped, read_good, read_sum, started, zero_figure}
 use Rattle.bolt_report.proofs.bucket_stats.read_bucket.Goals as goal
 
@@ -17,21 +16,13 @@ pages-init c =
     let file : List ℕ = bytes_of c.args.checked.now in
     let meta = meta_of c.args.checked.now in
     let now = started c.args.pages.now.items c.push.new.self.items _ c.requires.pages c.in_ok-push.ensures.items in
-    let none = c.requires.roots in
     record {
-      good = rw (now, none) c.requires.good;
-      fewer = inl (now, none);
+      good = rw (now, c.requires.roots) c.requires.good;
+      fewer = inl (now, c.requires.roots);
       fits = λ f. let z = zero_figure f c.default.result c.default.ensures in omega (arith, z);
-      stats = λ f.
-          let z = zero_figure f c.default.result c.default.ensures in
-          let a = ap (total_of file meta (own_figure file meta f)) now in
-          let b = ap (total_of file meta (own_figure file meta f)) none in
-          omega (arith, z, a, b);
+      stats = λ f. let z = zero_figure f c.default.result c.default.ensures in rw (now, c.requires.roots) (omega (arith, z));
       height = let first = first_height file meta c.args.pages.now.items c.push.new.self.items _ c.requires.pages c.in_ok-push.ensures.items in omega (arith, first);
-      deepest =
-          let a = ap (greatest (deepest_of file meta)) now in
-          let b = ap (greatest (depth_of file meta)) none in
-          omega (arith, a, b);
+      deepest = rw (now, c.requires.roots) (omega arith);
     }
 
 pub read_page-requires : goal.read_page-requires
@@ -74,19 +65,13 @@ pages-preserved c =
           let sum = sums (own_figure file meta f) in
           let whole = c.pages.invariant.stats f in
           omega (arith, added, own, sum, whole);
-      height =
-          let same : capped (max c.in_ok-read.read.height (greatest (page_height file meta) c.read_page.new.pages.items)) ≡ capped (greatest (page_height file meta) c.pages.pages.items)
-          = ∥∥₁_elim kids (Prim.hlevel props) (λ (node, page, a, b, high, _). ∥∥₁_elim enough (Prim.hlevel props) (λ e.
-          read_height file meta c.pop.new.self.items c.pages.pages.items c.read_page.new.pages.items c.in-Some.open node c.in_ok-read.read.height page e c.in-Some.ensures.items a high)) in
-          let whole = c.pages.invariant.height in
-          omega (arith, same, whole);
-      deepest =
-          let same : max c.in_ok-read.read.inline_depth (max (greatest (deepest_of file meta) after) (greatest (depth_of file meta) found)) ≡ max (greatest (deepest_of file meta) (rest ++ n ∷ [])) (greatest (depth_of file meta) roots)
-          = ∥∥₁_elim kids (Prim.hlevel props) (λ (node, page, a, b, _, deep). ∥∥₁_elim enough (Prim.hlevel props) (λ e.
-          read_deepest file meta rest roots after found n node c.in_ok-read.read.inline_depth page e (opened node a) b deep)) in
+      height = ∥∥₁_elim kids (Prim.hlevel props) (λ (node, page, a, b, high, _). ∥∥₁_elim enough (Prim.hlevel props) (λ e.
+          let same = read_height file meta c.pop.new.self.items c.pages.pages.items c.read_page.new.pages.items c.in-Some.open node c.in_ok-read.read.height page e c.in-Some.ensures.items a high in
+          omega (arith, same, c.pages.invariant.height)));
+      deepest = ∥∥₁_elim kids (Prim.hlevel props) (λ (node, page, a, b, _, deep). ∥∥₁_elim enough (Prim.hlevel props) (λ e.
+          let same = read_deepest file meta rest roots after found n node c.in_ok-read.read.inline_depth page e (opened node a) b deep in
           let was = ap (greatest (deepest_of file meta)) taken in
-          let whole = c.pages.invariant.deepest in
-          omega (arith, same, was, whole);
+          omega (arith, same, was, c.pages.invariant.deepest)));
     }
 
 pub pages-smaller : goal.pages-smaller
@@ -104,24 +89,10 @@ pages-smaller c =
     omega (arith, sum, more, same)))
 
 pub returns-clause-good : goal.returns-clause-good
-returns-clause-good c =
-    let none : c.pages.pages.items ≡ [] = none_left c.pages.pages.items c.pop.new.self.items (vec_len c.pages.pages) c.in_default.ensures.cases.0 c.in_default.ensures.rest c.in_default.ensures.items in
-    rw none at c.pages.invariant.good
+returns-clause-good c = rw (none_left c.in_default.ensures.cases.0 c.in_default.ensures.rest c.in_default.ensures.items) at c.pages.invariant.good
 
 pub returns-clause-height : goal.returns-clause-height
-returns-clause-height c =
-    let file : List ℕ = bytes_of c.args.checked.now in
-    let meta = meta_of c.args.checked.now in
-    let none : c.pages.pages.items ≡ [] = none_left c.pages.pages.items c.pop.new.self.items (vec_len c.pages.pages) c.in_default.ensures.cases.0 c.in_default.ensures.rest c.in_default.ensures.items in
-    let zero = ap (greatest (page_height file meta)) none in
-    let whole = c.pages.invariant.height in
-    omega (arith, zero, whole)
+returns-clause-height c = let whole = rw (none_left c.in_default.ensures.cases.0 c.in_default.ensures.rest c.in_default.ensures.items) at c.pages.invariant.height in omega (arith, whole)
 
 pub returns-clause-deepest : goal.returns-clause-deepest
-returns-clause-deepest c =
-    let file : List ℕ = bytes_of c.args.checked.now in
-    let meta = meta_of c.args.checked.now in
-    let none : c.pages.pages.items ≡ [] = none_left c.pages.pages.items c.pop.new.self.items (vec_len c.pages.pages) c.in_default.ensures.cases.0 c.in_default.ensures.rest c.in_default.ensures.items in
-    let zero = ap (λ (l : List UnreadPage). greatest (deepest_of file meta) (numbers_of l)) none in
-    let whole = c.pages.invariant.deepest in
-    omega (arith, zero, whole)
+returns-clause-deepest c = let whole = rw (none_left c.in_default.ensures.cases.0 c.in_default.ensures.rest c.in_default.ensures.items) at c.pages.invariant.deepest in omega (arith, whole)

@@ -1,10 +1,8 @@
-use Rattle.std.proofs.Common.{flat_map, take}
-use Rattle.bolt_format.specs.Endings.{whole}
 use Rattle.bolt_format.specs.Shown.{shown}
-use Rattle.bolt_format.specs.Wrote.{Wrote}
 use Rattle.bolt_report.specs.PageLines.{branch_line}
+use Rattle.bolt_report.proofs.ReportLemmas.{WroteLines}
 use Rattle.bolt_report.proofs.elements.put_branches.Given as goal
 
 -- the lines of the elements before number i were written
 abbrev pub invariant-loop-i : goal.invariant-loop-i
-invariant-loop-i g l = Wrote g.S.Sink l.initial.sink l.sink (flat_map branch_line (take l.i (shown l.page).branches)) whole
+invariant-loop-i g l = WroteLines g.S.Sink l.initial.sink l.sink branch_line (shown l.page).branches l.i

@@ -1,38 +1,21 @@
 -- The pieces are those of the line.
-use Rattle.std.proofs.Common.{◌≡◌, ◌∙◌, ◌++◌, ◌-◌, List, [], ℕ, Option, Some, ap, codes, length, option_map, slice_get, subst, sym, unwrap_or}
-use Rattle.std.specs.Prelude.{decimal}
-use Rattle.hex.specs.Hex.{encode_lower}
-use Rattle.bolt_check.specs.Keys.{Key}
+use Rattle.std.proofs.Common.{◌≡◌, ◌∙◌, ◌-◌, List, [], ℕ, Option, Some, ap, length, option_map, slice_get, sym, unwrap_or}
 use Rattle.bolt_format.specs.ElementPlaces.{leaf_view}
 use Rattle.bolt_format.specs.Elements.{LeafElement}
 use Rattle.bolt_format.specs.Shown.{shown}
-use Rattle.bolt_format.proofs.WroteLemmas.{Wrote-same}
 use Rattle.bolt_report.specs.FoundLines.{bucket_count, found_line, key_at}
-use Rattle.bolt_report.specs.Lines.{line}
 use Rattle.bolt_report.proofs.found_lines.put_found.Goals as goal
 
 -- the key of an element by its place
 key_of : (elements : List LeafElement) (i : ℕ) (e : LeafElement) → slice_get elements i ≡ Some e → e.key ≡ key_at elements i
 key_of elements i e found = sym (ap (λ (o : Option LeafElement). unwrap_or (option_map (λ (x : LeafElement). x.key) o) []) found)
 
-abbrev words : (number entries buckets : ℕ) → (first last : Key) → List ℕ
-words number entries buckets first last =
-    codes "page " ++ (decimal number ++ (codes ": nothing leads to it; found: " ++ (decimal entries ++ (codes " entries, " ++ (decimal buckets
-    ++ (codes " of them buckets, keys from " ++ (encode_lower first ++ (codes " to " ++ line (encode_lower last)))))))))
-
 pub returns : goal.returns
 unfolding found_line
 returns g c =
-    let n = c.args.found.now.number in
     let elements = (shown c.args.found.now.page.page).leaves in
     let first = key_of elements 0 (leaf_view c.leaf.result) c.leaf.ensures.element in
     let entries : c.from.result ≡ length elements = c.from.ensures ∙ sym (c.count-count.ensures.leaves c.requires.kind) in
     let buckets : c.from-2.result ≡ bucket_count elements = c.from-2.ensures ∙ c.count_buckets.ensures in
-    let at : c.count-count.result - 1 ≡ length elements - 1 = ap (λ (k : ℕ). k - 1) (sym (c.count-count.ensures.leaves c.requires.kind)) in
-    let last = key_of elements (length elements - 1) (leaf_view c.leaf-2.result) (subst (λ (i : ℕ). slice_get elements i ≡ Some (leaf_view c.leaf-2.result)) at c.leaf-2.ensures.element) in
-    Wrote-same
-    (ap (λ (k : ℕ). words n k c.from-2.result c.leaf.result.key.now c.leaf-2.result.key.now) entries
-    ∙ ap (λ (k : ℕ). words n (length elements) k c.leaf.result.key.now c.leaf-2.result.key.now) buckets
-    ∙ ap (λ (k : Key). words n (length elements) (bucket_count elements) k c.leaf-2.result.key.now) first
-    ∙ ap (λ (k : Key). words n (length elements) (bucket_count elements) (key_at elements 0) k) last)
-    c.put_pieces.ensures
+    let last = key_of elements (length elements - 1) (leaf_view c.leaf-2.result) (rw (← c.count-count.ensures.leaves c.requires.kind) at c.leaf-2.ensures.element) in
+    rw (entries, buckets, first, last) at c.put_pieces.ensures

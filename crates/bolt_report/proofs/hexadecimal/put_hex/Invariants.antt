@@ -1,12 +1,11 @@
-use Rattle.std.proofs.Common.{◌≡◌, ◌++◌, List, ℕ, length}
+use Rattle.std.proofs.Common.{length}
 use Rattle.hex.specs.Hex.{encode_lower}
-use Rattle.bolt_format.specs.Endings.{whole}
-use Rattle.bolt_format.specs.Wrote.{Wrote}
+use Rattle.bolt_format.proofs.WroteFronts.{WroteFront}
 use Rattle.bolt_report.proofs.hexadecimal.put_hex.Given as goal
 
--- the digits of the bytes before the rest were put
+-- the digits of the rest are still to be written
 abbrev pub invariant-loop-rest : goal.invariant-loop-rest
-invariant-loop-rest g l = (front : List ℕ) × (l.bytes ≡ front ++ l.rest) × Wrote g.S.Sink l.initial.sink l.sink (encode_lower front) whole
+invariant-loop-rest g l = WroteFront g.S.Sink l.initial.sink l.sink (encode_lower l.bytes) (encode_lower l.rest)
 
 abbrev pub decreases-loop-rest : goal.decreases-loop-rest
 decreases-loop-rest g l = length l.rest

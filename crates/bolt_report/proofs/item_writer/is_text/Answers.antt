@@ -5,7 +5,7 @@ use Rattle.std.specs.List.{list_all}
 use Rattle.std.proofs.lemmas.Iterator.{YieldsList-from_chars}
 use Rattle.std.proofs.lemmas.Iterator.Search.{all_from_yields_List}
 use Rattle.std.proofs.lemmas.Str.{is_utf8-from_IsUtf8}
-use Rattle.bolt_report.proofs.Utf8Lemmas.{not_utf8}
+use Rattle.bolt_report.proofs.TokenLemmas.{not_utf8}
 use Rattle.bolt_report.proofs.item_writer.is_text.Goals as goal
 
 pub returns-in-Ok : goal.returns-in-Ok

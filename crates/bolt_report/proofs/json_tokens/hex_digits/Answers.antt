@@ -1,7 +1,7 @@
 -- Digits are UTF-8.
 use Rattle.std.proofs.Common.{◌≡◌}
 use Rattle.hex.specs.Hex.{encode_lower}
-use Rattle.bolt_report.proofs.Utf8Lemmas.{digits_utf8, never_err}
+use Rattle.bolt_report.proofs.TokenLemmas.{digits_utf8, never_err}
 use Rattle.bolt_report.proofs.json_tokens.hex_digits.Goals as goal
 
 pub unwrap-requires-2 : goal.unwrap-requires-2

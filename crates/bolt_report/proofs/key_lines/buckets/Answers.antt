@@ -1,17 +1,23 @@
-use Rattle.std.proofs.Common.{◌∙◌, [], Some, ap, flat_map, sym}
+use Rattle.std.proofs.Common.{◌∙◌, [], ap, flat_map, sym, ◌≡◌, ◌++◌, ◌∷◌, List, ℕ, refl, inl, inr}
+use Rattle.std.proofs.lemmas.Bool.{cases_Bool}
 use Rattle.bolt_format.proofs.WroteFronts.{front_more, front_whole}
 use Rattle.bolt_format.proofs.WroteLemmas.{Wrote-none, Wrote-same}
-use Rattle.bolt_tree.specs.Buckets.{bucket_checked, bucket_start}
-use Rattle.bolt_tree.specs.Cursors.{cursor_checked, cursor_place, cursor_start}
+use Rattle.bolt_tree.specs.Cursors.{cursor_place}
 use Rattle.bolt_tree.specs.EntriesLeft.{entries_left}
 use Rattle.bolt_tree.specs.Places.{Place}
-use Rattle.bolt_tree.specs.ShownEntries.{shown_entry}
 use Rattle.bolt_tree.proofs.Leaving.{fewer_left, next_shows}
-use Rattle.bolt_report.specs.KeyLines.{bucket_name}
+use Rattle.bolt_format.specs.Elements.{LeafElement}
+use Rattle.bolt_report.specs.Forms.{value_text}
+use Rattle.bolt_report.specs.KeyLines.{bucket_name, buckets_text}
 use Rattle.bolt_report.specs.declared.form.Form.{Form}
-use Rattle.bolt_report.proofs.KeyTexts.{bucket_lines}
 use Rattle.bolt_report.proofs.ReportLemmas.{front_fault}
 use Rattle.bolt_report.proofs.key_lines.buckets.Goals as goal
+
+-- the lines of the buckets alone
+bucket_lines : (form : Form) (entries : List LeafElement) → flat_map (bucket_name form) entries ≡ buckets_text form entries
+bucket_lines form [] = refl
+bucket_lines form (e ∷ entries) =
+    elim (cases_Bool e.is_bucket) [ inl is ↦ rw is (ap (λ (text : List ℕ). value_text form e.key ++ text) (bucket_lines form entries)) | inr is ↦ rw is (bucket_lines form entries) ]
 
 pub rest-init : goal.rest-init
 rest-init g c = record {
@@ -26,9 +32,7 @@ rest-init g c = record {
 }
 
 pub rest-smaller : goal.rest-smaller
-rest-smaller g c =
-    fewer_left c.args.bucket.now (cursor_checked c.rest.cursor) (cursor_start c.rest.cursor) (cursor_place c.rest.cursor) (cursor_place c.next.new.self) (shown_entry c.in-Some.entry)
-    c.rest.invariant.checked c.rest.invariant.start c.in-Some.ensures.moves
+rest-smaller g c = fewer_left c.args.bucket.now _ _ _ _ _ c.rest.invariant.checked c.rest.invariant.start c.in-Some.ensures.moves
 
 pub rest-preserved : goal.rest-preserved
 rest-preserved g c = record {
@@ -36,21 +40,18 @@ rest-preserved g c = record {
   start = c.in-Some.ensures.start ∙ c.rest.invariant.start;
   form = c.put_bucket.ensures.form ∙ c.rest.invariant.form;
   put = λ entries are.
-      let (e, shown, first) = next_shows (cursor_checked c.rest.cursor) (bucket_checked c.args.bucket.now) (cursor_start c.rest.cursor) (bucket_start c.args.bucket.now)
-      (cursor_place c.rest.cursor) (cursor_place c.next.new.self) (Some (shown_entry c.in-Some.entry)) c.rest.invariant.checked c.rest.invariant.start c.in-Some.ensures.moves entries are in
+      let (e, shown, first) = next_shows _ _ _ _ _ _ _ c.rest.invariant.checked c.rest.invariant.start c.in-Some.ensures.moves entries are in
       front_more (c.rest.invariant.put entries are) (Wrote-same (ap (λ (form : Form). bucket_name form e) c.rest.invariant.form) (c.in_ok-put_bucket.ensures.written e shown)) (ap (flat_map (bucket_name c.args.form)) first);
 }
 
 pub returns-in_err-put_bucket-clause-written : goal.returns-in_err-put_bucket-clause-written
 returns-in_err-put_bucket-clause-written g c = λ entries are.
-    let (e, shown, first) = next_shows (cursor_checked c.rest.cursor) (bucket_checked c.args.bucket.now) (cursor_start c.rest.cursor) (bucket_start c.args.bucket.now)
-    (cursor_place c.rest.cursor) (cursor_place c.next.new.self) (Some (shown_entry c.in-Some.entry)) c.rest.invariant.checked c.rest.invariant.start c.in-Some.ensures.moves entries are in
+    let (e, shown, first) = next_shows _ _ _ _ _ _ _ c.rest.invariant.checked c.rest.invariant.start c.in-Some.ensures.moves entries are in
     Wrote-same (bucket_lines c.args.form entries)
     (front_fault (flat_map (bucket_name c.args.form) (entries_left entries (cursor_place c.next.new.self))) _ _ (c.rest.invariant.put entries are)
     (Wrote-same (ap (λ (form : Form). bucket_name form e) c.rest.invariant.form) (c.in_err-put_bucket.ensures.written e shown)) (ap (flat_map (bucket_name c.args.form)) first) c.from_residual.ensures.1)
 
 pub returns-clause-written : goal.returns-clause-written
 returns-clause-written g c = λ entries are.
-    let none = next_shows (cursor_checked c.rest.cursor) (bucket_checked c.args.bucket.now) (cursor_start c.rest.cursor) (bucket_start c.args.bucket.now)
-    (cursor_place c.rest.cursor) (cursor_place c.next.new.self) _ c.rest.invariant.checked c.rest.invariant.start c.in_default.ensures.moves entries are in
+    let none = next_shows _ _ _ _ _ _ _ c.rest.invariant.checked c.rest.invariant.start c.in_default.ensures.moves entries are in
     Wrote-same (bucket_lines c.args.form entries) (front_whole (c.rest.invariant.put entries are) (ap (flat_map (bucket_name c.args.form)) none))

@@ -5,8 +5,7 @@ use Rattle.bolt_report.specs.ListForms.{listing_lines}
 use Rattle.bolt_report.specs.declared.form.ListForm.{ListForm}
 use Rattle.bolt_report.specs.ListLines.{listing_text}
 use Rattle.bolt_tree.specs.Walks.{left_of, walk_checked}
-use Rattle.bolt_report.proofs.ListPartTexts.{front, front_of_root}
-use Rattle.bolt_report.proofs.ListTexts.{same_listing}
+use Rattle.bolt_report.proofs.ListPartTexts.{front, front_of_root, same_listing}
 use Rattle.bolt_report.proofs.list_lines.list.Goals as goal
 
 pub returns-clause-written : goal.returns-clause-written

@@ -1,11 +1,9 @@
-use Rattle.std.proofs.Common.{flat_map, take}
-use Rattle.bolt_format.specs.Endings.{whole}
-use Rattle.bolt_format.specs.Wrote.{Wrote}
+use Rattle.std.proofs.Common.{map}
 use Rattle.bolt_recover.specs.ShownLosses.{loss_view}
-use Rattle.bolt_recover.specs.declared.loss.Loss.{Loss}
 use Rattle.bolt_report.specs.LossLines.{loss_text}
+use Rattle.bolt_report.proofs.ReportLemmas.{WroteLines}
 use Rattle.bolt_report.proofs.loss_lines.put_losses.Given as goal
 
 -- the lines of the losses before this one were written
 abbrev pub invariant-loop-loss : goal.invariant-loop-loss
-invariant-loop-loss g l = Wrote g.S.Sink l.initial.sink l.sink (flat_map (λ (loss : Loss). loss_text (loss_view loss)) (take l.loss-index l.losses)) whole
+invariant-loop-loss g l = WroteLines g.S.Sink l.initial.sink l.sink loss_text (map loss_view l.losses) l.loss-index

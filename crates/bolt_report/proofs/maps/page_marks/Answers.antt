@@ -3,7 +3,7 @@ use Rattle.std.specs.List.{range_with_len}
 use Rattle.std.proofs.lemmas.List.FromFn.{map-range_with_len_more}
 use Rattle.bolt_check.specs.RoledFiles.{roles_checked}
 use Rattle.bolt_report.specs.PageMaps.{page_mark}
-use Rattle.bolt_report.proofs.PageTableLemmas.{same_mark}
+use Rattle.bolt_report.proofs.PageTableLemmas.{same_role}
 use Rattle.bolt_report.proofs.maps.page_marks.Goals as goal
 
 pub loop-id-preserved : goal.loop-id-preserved
@@ -13,7 +13,7 @@ loop-id-preserved c = record {
       let marks : ℕ → List ℕ = λ n. map (λ k. page_mark (roles k)) (range_with_len c.args.first n) in
       let id : ℕ = c.loop-id.id in
       let low : c.args.first ≤ id = omega (arith, c.loop-id.auto.id) in
-      let mark = c.page_mark.ensures ∙ same_mark (roles_checked c.args.table.now) c.requires.accounts roles are id c.role.result (omega (arith, c.loop-id-test.true, c.requires.below)) c.role.ensures in
+      let mark = c.page_mark.ensures ∙ ap page_mark (same_role (roles_checked c.args.table.now) c.requires.accounts roles are id c.role.result (omega (arith, c.loop-id-test.true, c.requires.below)) c.role.ensures) in
       c.push.ensures.items ∙ ap (λ t. t ++ c.page_mark.result ∷ []) (c.loop-id.invariant.marks roles are) ∙ ap (λ (m : ℕ). marks (id - c.args.first) ++ m ∷ []) mark
       ∙ sym (map-range_with_len_more (λ k. page_mark (roles k)) c.args.first (id - c.args.first) id (omega (arith, low)))
       ∙ ap marks (let e : id - c.args.first + 1 ≡ id + 1 - c.args.first = omega (arith, low) in e);

@@ -2,7 +2,7 @@ use Rattle.std.proofs.Common.{◌+◌, arith, length}
 use Rattle.bolt_format.specs.ElementPlaces.{branch_view}
 use Rattle.bolt_format.specs.Elements.{BranchElement}
 use Rattle.bolt_format.specs.Shown.{shown}
-use Rattle.bolt_report.proofs.FigureLemmas.{sum_end, sum_next}
+use Rattle.bolt_report.proofs.FigureLemmas.{sum_next}
 use Rattle.bolt_report.proofs.page_stats.branch_used.Goals as goal
 
 pub loop-i-preserved : goal.loop-i-preserved
@@ -12,9 +12,3 @@ loop-i-preserved c =
       fits = omega (arith, c.saturating_add-used.ensures);
       whole = omega (arith, c.saturating_add.ensures, c.saturating_add-used.ensures, sum, c.loop-i.invariant.whole);
     }
-
-pub returns : goal.returns
-returns c =
-    let long = c.count-i-end.ensures.branches c.requires in
-    let none = sum_end (λ (x : BranchElement). 16 + length x.key) (shown c.args.page.now).branches c.loop-i.i (omega (arith, long)) in
-    omega (arith, none, c.loop-i.invariant.whole, c.loop-i.invariant.fits)

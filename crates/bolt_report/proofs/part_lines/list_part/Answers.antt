@@ -7,8 +7,7 @@ use Rattle.bolt_tree.specs.Walks.{left_of, walk_checked}
 use Rattle.bolt_tree.proofs.PartLemmas.{part_from_later}
 use Rattle.bolt_report.specs.ListForms.{listing_lines}
 use Rattle.bolt_report.specs.declared.form.ListForm.{ListForm}
-use Rattle.bolt_report.proofs.ListTexts.{same_listing}
-use Rattle.bolt_report.proofs.ListPartTexts.{front}
+use Rattle.bolt_report.proofs.ListPartTexts.{same_listing, front}
 use Rattle.bolt_report.proofs.part_lines.list_part.Goals as goal
 
 pub returns-clause-written : goal.returns-clause-written

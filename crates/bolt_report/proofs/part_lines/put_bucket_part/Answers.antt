@@ -1,20 +1,18 @@
 -- The bucket at the path comes before all that begins with the path, so nothing is missed before it is found.
-use Rattle.std.proofs.Common.{◌≡◌, ◌∙◌, ◌∷◌, ◌&&◌, ◌||◌, [], Bool, List, Bor, ap, sym, subst, refl, true, not, length, ℕ, ◌==◌}
+use Rattle.std.proofs.Common.{◌≡◌, ◌∙◌, ◌∷◌, ◌||◌, [], Bool, List, Bor, ap, sym, refl, length, ℕ, ◌==◌}
 use Rattle.std.specs.List.{list_any}
-use Rattle.std.specs.Ordering.{is_lt}
 use Rattle.std.proofs.lemmas.List.{length-map}
 use Rattle.bolt_format.proofs.WroteFronts.{front_more, front_same}
 use Rattle.bolt_format.proofs.WroteLemmas.{Wrote-none, Wrote-same}
 use Rattle.bolt_report.specs.ListForms.{lines_form, list_line, listing_lines}
 use Rattle.bolt_report.specs.declared.form.ListForm.{ListForm}
 use Rattle.bolt_tree.specs.Listing.{Member, member_cmp, rest_from}
-use Rattle.bolt_tree.specs.ListingParts.{begins_with, is_bucket_at}
+use Rattle.bolt_tree.specs.ListingParts.{is_bucket_at}
 use Rattle.bolt_tree.specs.Order.{Rises}
-use Rattle.bolt_tree.specs.Paths.{Path, path_cmp, path_of}
+use Rattle.bolt_tree.specs.Paths.{path_of}
 use Rattle.bolt_tree.specs.ShownEntries.{item_view}
-use Rattle.bolt_report.proofs.ListTexts.{iff_then}
+use Rattle.bolt_report.proofs.ListPartTexts.{iff_then, before_bucket, has_next, left_part, over_unwanted, with_wanted}
 use Rattle.bolt_report.proofs.ReportLemmas.{front_fault}
-use Rattle.bolt_report.proofs.BucketPartTexts.{before_bucket, has_next, left_part, over_unwanted, with_wanted}
 use Rattle.bolt_report.proofs.part_lines.put_bucket_part.Goals as goal
 use Rattle.bolt_report.proofs.part_lines.put_bucket_part.Goals.{else-found-via-then-found+else-is_wanted, else-found-via-else-found}
 
@@ -38,85 +36,60 @@ part-init g c =
 
 pub part-preserved-then-is_wanted : goal.part-preserved-then-is_wanted
 part-preserved-then-is_wanted g c =
-    let form = lines_form c.args.lines.now in
     let below = path_of c.args.below.now in
     let from = path_of c.args.from.now in
-    let reported = path_of c.path-then-is_wanted.result.now in
-    let m : Member = (reported, item_view c.in-Some.item) in
+    let m : Member = (g.M.Members.last_path c.next.new.self, item_view c.in-Some.item) in
     let now = c.part.found || c.is_bucket_of-found.result in
-    let is : now ≡ (c.part.found || is_bucket_at below m) =
-    ap (λ (b : Bool). c.part.found || b)
-    (c.is_bucket_of-found.ensures ∙ ap (λ (p : Path). is_bucket_at below (p, item_view c.in-Some.item)) (c.path.ensures ∙ sym c.path-then-is_wanted.ensures)) in
-    let both : (begins_with below reported && not (is_lt (path_cmp reported from))) ≡ true =
-    ap (λ (p : Path). begins_with below p && not (is_lt (path_cmp p from))) (c.path-then-is_wanted.ensures ∙ sym c.path-then-found.ensures) ∙ sym c.is_wanted.ensures ∙ c.if-is_wanted.true in
-    let given = rw c.in-Some.is at c.in_ok-item.ensures.given in
+    let is : now ≡ (c.part.found || is_bucket_at below m) = ap (λ (b : Bool). c.part.found || b) (rw c.path.ensures at c.is_bucket_of-found.ensures) in
+    let both = sym (rw c.path-then-found.ensures at c.is_wanted.ensures) ∙ c.if-is_wanted.true in
     let first : (listing : List Member) → g.M.Members.lists c.args.members.now listing → g.M.Members.left c.part.members listing ≡ m ∷ g.M.Members.left c.next.new.self listing =
-    λ listing lists.
-    given listing ((c.part.invariant.same listing).1 lists) ∙ ap (λ (p : Path). (p, item_view c.in-Some.item) ∷ g.M.Members.left c.next.new.self listing) (sym c.path-then-is_wanted.ensures) in
+    λ listing lists. (rw c.in-Some.is at c.in_ok-item.ensures.given) listing ((c.part.invariant.same listing).1 lists) in
     record {
       form = c.put.ensures.form ∙ c.part.invariant.form;
       same = λ listing. iff_then (c.next.ensures.listing listing) (c.part.invariant.same listing);
       end = λ end is. c.part.invariant.end end (c.next.ensures.same_end end is);
-      has = λ listing lists.
-          c.part.invariant.has listing lists ∙ ap (λ (ms : List Member). c.part.found || list_any (is_bucket_at below) ms) (first listing lists)
-          ∙ has_next below c.part.found now m (g.M.Members.left c.next.new.self listing) is;
-      rises = λ listing lists up. (subst (Rises member_cmp) (first listing lists) (c.part.invariant.rises listing lists up)).1;
+      has = λ listing lists. rw (first listing lists) at (c.part.invariant.has listing lists) ∙ has_next below c.part.found now m _ is;
+      rises = λ listing lists up. (rw (first listing lists) at (c.part.invariant.rises listing lists up)).1;
       put = λ listing lists up.
-          let new = g.M.Members.left c.next.new.self listing in
-          let text = ap (λ (ms : List Member). listing_lines form (rest_from from (left_part below c.part.found ms))) (first listing lists) ∙ with_wanted below c.part.found now m new is from form c.if-found.true both in
-          front_more (c.part.invariant.put listing lists up) (Wrote-same (ap (λ (f : ListForm). list_line f m) c.part.invariant.form) c.in_ok-put.ensures.written) text;
+          front_more (rw (first listing lists) at (c.part.invariant.put listing lists up))
+          (Wrote-same (ap (λ (f : ListForm). list_line f m) c.part.invariant.form) (rw c.path-then-is_wanted.ensures at c.in_ok-put.ensures.written))
+          (with_wanted below c.part.found now m _ is from (lines_form c.args.lines.now) c.if-found.true both);
     }
 
 pub returns-in_err-put-clause-written : goal.returns-in_err-put-clause-written
 returns-in_err-put-clause-written g c = λ listing lists up.
-    let form = lines_form c.args.lines.now in
     let below = path_of c.args.below.now in
-    let from = path_of c.args.from.now in
-    let reported = path_of c.path-then-is_wanted.result.now in
-    let m : Member = (reported, item_view c.in-Some.item) in
+    let m : Member = (g.M.Members.last_path c.next.new.self, item_view c.in-Some.item) in
     let now = c.part.found || c.is_bucket_of-found.result in
-    let is : now ≡ (c.part.found || is_bucket_at below m) =
-    ap (λ (b : Bool). c.part.found || b)
-    (c.is_bucket_of-found.ensures ∙ ap (λ (p : Path). is_bucket_at below (p, item_view c.in-Some.item)) (c.path.ensures ∙ sym c.path-then-is_wanted.ensures)) in
-    let both : (begins_with below reported && not (is_lt (path_cmp reported from))) ≡ true =
-    ap (λ (p : Path). begins_with below p && not (is_lt (path_cmp p from))) (c.path-then-is_wanted.ensures ∙ sym c.path-then-found.ensures) ∙ sym c.is_wanted.ensures ∙ c.if-is_wanted.true in
-    let given = rw c.in-Some.is at c.in_ok-item.ensures.given in
-    let new = g.M.Members.left c.next.new.self listing in
-    let first = given listing ((c.part.invariant.same listing).1 lists) ∙ ap (λ (p : Path). (p, item_view c.in-Some.item) ∷ new) (sym c.path-then-is_wanted.ensures) in
-    let text = ap (λ (ms : List Member). listing_lines form (rest_from from (left_part below c.part.found ms))) first ∙ with_wanted below c.part.found now m new is from form c.if-found.true both in
-    front_fault (listing_lines form (rest_from from (left_part below now new))) _ _ (c.part.invariant.put listing lists up)
-    (Wrote-same (ap (λ (f : ListForm). list_line f m) c.part.invariant.form) c.in_err-put.ensures.written) text c.from_residual-in_err-put.ensures.1
+    let is : now ≡ (c.part.found || is_bucket_at below m) = ap (λ (b : Bool). c.part.found || b) (rw c.path.ensures at c.is_bucket_of-found.ensures) in
+    let both = sym (rw c.path-then-found.ensures at c.is_wanted.ensures) ∙ c.if-is_wanted.true in
+    let first = (rw c.in-Some.is at c.in_ok-item.ensures.given) listing ((c.part.invariant.same listing).1 lists) in
+    front_fault _ _ _ (rw first at (c.part.invariant.put listing lists up))
+    (Wrote-same (ap (λ (f : ListForm). list_line f m) c.part.invariant.form) (rw c.path-then-is_wanted.ensures at c.in_err-put.ensures.written))
+    (with_wanted below c.part.found now m _ is (path_of c.args.from.now) (lines_form c.args.lines.now) c.if-found.true both) c.from_residual-in_err-put.ensures.1
 
 pub part-preserved : goal.part-preserved
 part-preserved g c =
-    let form = lines_form c.args.lines.now in
     let below = path_of c.args.below.now in
     let from = path_of c.args.from.now in
-    let reported = path_of c.path.result.now in
-    let m : Member = (reported, item_view c.in-Some.item) in
+    let m : Member = (g.M.Members.last_path c.next.new.self, item_view c.in-Some.item) in
     let now = c.part.found || c.is_bucket_of-found.result in
-    let is : now ≡ (c.part.found || is_bucket_at below m) = ap (λ (b : Bool). c.part.found || b) c.is_bucket_of-found.ensures in
-    let given = rw c.in-Some.is at c.in_ok-item.ensures.given in
+    let is : now ≡ (c.part.found || is_bucket_at below m) = ap (λ (b : Bool). c.part.found || b) (rw c.path.ensures at c.is_bucket_of-found.ensures) in
     let first : (listing : List Member) → g.M.Members.lists c.args.members.now listing → g.M.Members.left c.part.members listing ≡ m ∷ g.M.Members.left c.next.new.self listing =
-    λ listing lists.
-    given listing ((c.part.invariant.same listing).1 lists) ∙ ap (λ (p : Path). (p, item_view c.in-Some.item) ∷ g.M.Members.left c.next.new.self listing) (sym c.path.ensures) in
+    λ listing lists. (rw c.in-Some.is at c.in_ok-item.ensures.given) listing ((c.part.invariant.same listing).1 lists) in
     let passed : (ms : List Member) → Rises member_cmp (m ∷ ms) → rest_from from (left_part below c.part.found (m ∷ ms)) ≡ rest_from from (left_part below now ms) =
     λ ms up. elim c.else-found.branch [
       | else-found-via-then-found+else-is_wanted w ↦
-          over_unwanted below c.part.found now m ms is from w.if-found.true
-          (ap (λ (p : Path). begins_with below p && not (is_lt (path_cmp p from))) (c.path.ensures ∙ sym w.path-then-found.ensures) ∙ sym w.is_wanted.ensures ∙ w.if-is_wanted.false)
+          over_unwanted below c.part.found now m ms is from w.if-found.true (sym (rw w.path-then-found.ensures at w.is_wanted.ensures) ∙ w.if-is_wanted.false)
       | else-found-via-else-found w ↦ ap (rest_from from) (before_bucket below c.part.found now m ms is w.if-found.false up)
     ] in
     record {
       form = c.part.invariant.form;
       same = λ listing. iff_then (c.next.ensures.listing listing) (c.part.invariant.same listing);
       end = λ end is. c.part.invariant.end end (c.next.ensures.same_end end is);
-      has = λ listing lists.
-          c.part.invariant.has listing lists ∙ ap (λ (ms : List Member). c.part.found || list_any (is_bucket_at below) ms) (first listing lists)
-          ∙ has_next below c.part.found now m (g.M.Members.left c.next.new.self listing) is;
-      rises = λ listing lists up. (subst (Rises member_cmp) (first listing lists) (c.part.invariant.rises listing lists up)).1;
+      has = λ listing lists. rw (first listing lists) at (c.part.invariant.has listing lists) ∙ has_next below c.part.found now m _ is;
+      rises = λ listing lists up. (rw (first listing lists) at (c.part.invariant.rises listing lists up)).1;
       put = λ listing lists up.
-          let here = subst (Rises member_cmp) (first listing lists) (c.part.invariant.rises listing lists up) in
-          let hidden = ap (λ (ms : List Member). rest_from from (left_part below c.part.found ms)) (first listing lists) ∙ passed (g.M.Members.left c.next.new.self listing) here in
-          front_same (c.part.invariant.put listing lists up) (ap (listing_lines form) hidden);
+          let here = rw (first listing lists) at (c.part.invariant.rises listing lists up) in
+          front_same (rw (first listing lists) at (c.part.invariant.put listing lists up)) (ap (listing_lines (lines_form c.args.lines.now)) (passed (g.M.Members.left c.next.new.self listing) here));
     }

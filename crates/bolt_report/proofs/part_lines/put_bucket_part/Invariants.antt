@@ -6,7 +6,7 @@ use Rattle.bolt_tree.specs.ListingParts.{bucket_part, has_bucket, is_bucket_at}
 use Rattle.bolt_tree.specs.Order.{Rises}
 use Rattle.bolt_tree.specs.Paths.{path_of}
 use Rattle.bolt_report.specs.ListForms.{lines_form, listing_lines}
-use Rattle.bolt_report.proofs.BucketPartTexts.{left_part}
+use Rattle.bolt_report.proofs.ListPartTexts.{left_part}
 use Rattle.bolt_report.proofs.part_lines.put_bucket_part.Given as goal
 
 -- of the text of the part of what was left, the text of the part of what is left is still to be written;

@@ -1,15 +1,13 @@
 -- Each member that begins with the path has its line written, and the first that doesn't ends the text.
-use Rattle.std.proofs.Common.{◌≡◌, ◌∙◌, ap, sym, refl, true}
+use Rattle.std.proofs.Common.{◌∙◌, ap, sym, refl}
 use Rattle.bolt_format.proofs.WroteFronts.{front_more, front_none}
 use Rattle.bolt_format.proofs.WroteLemmas.{Wrote-same}
-use Rattle.bolt_report.specs.ListForms.{lines_form, list_line, listing_lines}
+use Rattle.bolt_report.specs.ListForms.{lines_form, list_line}
 use Rattle.bolt_report.specs.declared.form.ListForm.{ListForm}
 use Rattle.bolt_tree.specs.Listing.{Member}
-use Rattle.bolt_tree.specs.ListingParts.{begins_with}
 use Rattle.bolt_tree.specs.Paths.{path_of}
 use Rattle.bolt_tree.specs.ShownEntries.{item_view}
-use Rattle.bolt_report.proofs.ListTexts.{iff_then}
-use Rattle.bolt_report.proofs.ListPartTexts.{front, front_text}
+use Rattle.bolt_report.proofs.ListPartTexts.{iff_then, front_text}
 use Rattle.bolt_report.proofs.ReportLemmas.{front_fault}
 use Rattle.bolt_report.proofs.part_lines.put_part.Goals as goal
 
@@ -22,34 +20,23 @@ part-init g c = record {
 
 pub part-preserved : goal.part-preserved
 part-preserved g c =
-    let below = path_of c.args.below.now in
-    let reported = path_of c.path-in-Some.result.now in
-    let m : Member = (reported, item_view c.in-Some.item) in
-    let begins : begins_with below reported ≡ true = ap (begins_with below) (c.path-in-Some.ensures ∙ sym c.path.ensures) ∙ sym c.is_below.ensures ∙ c.if-not-is_below.false in
-    let form = lines_form c.args.lines.now in
+    let m : Member = (g.M.Members.last_path c.next.new.self, item_view c.in-Some.item) in
+    let begins = sym (rw c.path.ensures at c.is_below.ensures) ∙ c.if-not-is_below.false in
     record {
       form = c.put.ensures.form ∙ c.part.invariant.form;
       same = λ listing. iff_then (c.next.ensures.listing listing) (c.part.invariant.same listing);
       put = λ listing lists.
-          let given = rw c.in-Some.is at c.in_ok-item.ensures.given in
-          let here = (c.part.invariant.same listing).1 lists in
-          let old = g.M.Members.left c.part.members listing in
-          let new = g.M.Members.left c.next.new.self listing in
-          let text = front_text below form old new (g.M.Members.last_path c.next.new.self) reported (item_view c.in-Some.item) (given listing here) c.path-in-Some.ensures begins in
-          front_more (c.part.invariant.put listing lists) (Wrote-same (ap (λ (f : ListForm). list_line f m) c.part.invariant.form) c.in_ok-put.ensures.written) text;
+          let first = (rw c.in-Some.is at c.in_ok-item.ensures.given) listing ((c.part.invariant.same listing).1 lists) in
+          front_more (c.part.invariant.put listing lists)
+          (Wrote-same (ap (λ (f : ListForm). list_line f m) c.part.invariant.form) (rw c.path-in-Some.ensures at c.in_ok-put.ensures.written))
+          (front_text (path_of c.args.below.now) (lines_form c.args.lines.now) _ _ m first begins);
     }
 
 pub returns-in_err-put-clause-written : goal.returns-in_err-put-clause-written
 returns-in_err-put-clause-written g c = λ listing lists.
-    let form = lines_form c.args.lines.now in
-    let below = path_of c.args.below.now in
-    let reported = path_of c.path-in-Some.result.now in
-    let m : Member = (reported, item_view c.in-Some.item) in
-    let begins : begins_with below reported ≡ true = ap (begins_with below) (c.path-in-Some.ensures ∙ sym c.path.ensures) ∙ sym c.is_below.ensures ∙ c.if-not-is_below.false in
-    let given = rw c.in-Some.is at c.in_ok-item.ensures.given in
-    let here = (c.part.invariant.same listing).1 lists in
-    let old = g.M.Members.left c.part.members listing in
-    let new = g.M.Members.left c.next.new.self listing in
-    let text = front_text below form old new (g.M.Members.last_path c.next.new.self) reported (item_view c.in-Some.item) (given listing here) c.path-in-Some.ensures begins in
-    front_fault (listing_lines form (front below new)) _ _ (c.part.invariant.put listing lists) (Wrote-same (ap (λ (f : ListForm). list_line f m) c.part.invariant.form) c.in_err-put.ensures.written) text
-    c.from_residual-in_err-put.ensures.1
+    let m : Member = (g.M.Members.last_path c.next.new.self, item_view c.in-Some.item) in
+    let begins = sym (rw c.path.ensures at c.is_below.ensures) ∙ c.if-not-is_below.false in
+    let first = (rw c.in-Some.is at c.in_ok-item.ensures.given) listing ((c.part.invariant.same listing).1 lists) in
+    front_fault _ _ _ (c.part.invariant.put listing lists)
+    (Wrote-same (ap (λ (f : ListForm). list_line f m) c.part.invariant.form) (rw c.path-in-Some.ensures at c.in_err-put.ensures.written))
+    (front_text (path_of c.args.below.now) (lines_form c.args.lines.now) _ _ m first begins) c.from_residual-in_err-put.ensures.1

@@ -1,29 +1,20 @@
-use Rattle.std.proofs.Common.{[], ◌∷◌, ◌++◌}
+use Rattle.std.proofs.Common.{[], ◌∷◌}
 use Rattle.std.specs.Prelude.{decimal}
-use Rattle.bolt_report.specs.Lines.{figure_line}
+use Rattle.bolt_report.specs.Lines.{figure_line, line}
 use Rattle.bolt_report.proofs.GatherLemmas.{Gathers-return, Gathers-then}
 use Rattle.bolt_report.proofs.pieces.add_figure.Goals as goal
-
-pub returns-in_err-add_bytes : goal.returns-in_err-add_bytes
-unfolding figure_line
-returns-in_err-add_bytes g c = Gathers-return _ _ c.args.name.now (0x20 ∷ (decimal c.args.n ++ 10 ∷ [])) _ c.in_err-add_bytes.ensures c.from_residual.ensures.0
 
 pub returns-in_err-add_bytes-2 : goal.returns-in_err-add_bytes-2
 unfolding figure_line
 returns-in_err-add_bytes-2 g c =
-    let end = decimal c.args.n ++ 10 ∷ [] in
-    Gathers-then _ _ (0x20 ∷ end) _ c.in_ok-add_bytes.ensures (Gathers-return _ _ (0x20 ∷ []) end _ c.in_err-add_bytes-2.ensures c.from_residual-in_err-add_bytes-2.ensures.0)
+    Gathers-then c.in_ok-add_bytes.ensures (Gathers-return (line (decimal c.args.n)) _ c.in_err-add_bytes-2.ensures c.from_residual-in_err-add_bytes-2.ensures.0)
 
 pub returns-in_err-add_number : goal.returns-in_err-add_number
 unfolding figure_line
 returns-in_err-add_number g c =
-    let end = decimal c.args.n ++ 10 ∷ [] in
-    Gathers-then _ _ (0x20 ∷ end) _ c.in_ok-add_bytes.ensures (Gathers-then _ {first = 0x20 ∷ []} _ end _ c.in_ok-add_bytes-2.ensures
-    (Gathers-return _ _ (decimal c.args.n) (10 ∷ []) _ c.in_err-add_number.ensures c.from_residual-in_err-add_number.ensures.0))
+    Gathers-then c.in_ok-add_bytes.ensures (Gathers-then c.in_ok-add_bytes-2.ensures
+    (Gathers-return (10 ∷ []) _ c.in_err-add_number.ensures c.from_residual-in_err-add_number.ensures.0))
 
 pub returns : goal.returns
 unfolding figure_line
-returns g c =
-    let end = decimal c.args.n ++ 10 ∷ [] in
-    Gathers-then _ _ (0x20 ∷ end) _ c.in_ok-add_bytes.ensures (Gathers-then _ {first = 0x20 ∷ []} _ end _ c.in_ok-add_bytes-2.ensures
-    (Gathers-then _ _ (10 ∷ []) _ c.in_ok-add_number.ensures c.add_bytes-3.ensures))
+returns g c = Gathers-then c.in_ok-add_bytes.ensures (Gathers-then c.in_ok-add_bytes-2.ensures (Gathers-then c.in_ok-add_number.ensures c.add_bytes-3.ensures))

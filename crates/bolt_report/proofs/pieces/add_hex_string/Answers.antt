@@ -1,21 +1,18 @@
 -- Digits need no escapes, so they are what stands between the quotes (34).
-use Rattle.std.proofs.Common.{◌∷◌, ◌++◌, [], List, ℕ, ap, sym}
-use Rattle.hex.specs.Hex.{encode_lower}
-use Rattle.bolt_report.proofs.GatherLemmas.{Gathers-return, Gathers-same, Gathers-then}
+use Rattle.std.proofs.Common.{◌∷◌, []}
+use Rattle.bolt_report.proofs.GatherLemmas.{Gathers-return, Gathers-then}
 use Rattle.bolt_report.proofs.HexStrings.{plain_digits}
 use Rattle.bolt_report.proofs.pieces.add_hex_string.Goals as goal
 
 pub returns-in_err-add_bytes : goal.returns-in_err-add_bytes
-returns-in_err-add_bytes g c = Gathers-return _ _ (34 ∷ []) _ _ c.in_err-add_bytes.ensures c.from_residual.ensures.0
+returns-in_err-add_bytes g c = Gathers-return _ _ c.in_err-add_bytes.ensures c.from_residual.ensures.0
 
 pub returns-in_err-add_hex : goal.returns-in_err-add_hex
 returns-in_err-add_hex g c =
-    let digits = plain_digits c.args.bytes.now (λ i. (c.type_inv.bytes i).fits) in
-    Gathers-same _ _ _ _ _ _ (ap (λ (text : List ℕ). 34 ∷ (text ++ 34 ∷ [])) (sym digits))
-    (Gathers-then _ {first = 34 ∷ []} _ _ _ c.in_ok-add_bytes.ensures (Gathers-return _ _ (encode_lower c.args.bytes.now) (34 ∷ []) _ c.in_err-add_hex.ensures c.from_residual-in_err-add_hex.ensures.0))
+    rw (plain_digits c.args.bytes.now (λ i. (c.type_inv.bytes i).fits))
+    (Gathers-then c.in_ok-add_bytes.ensures (Gathers-return (34 ∷ []) _ c.in_err-add_hex.ensures c.from_residual-in_err-add_hex.ensures.0))
 
 pub returns : goal.returns
 returns g c =
-    let digits = plain_digits c.args.bytes.now (λ i. (c.type_inv.bytes i).fits) in
-    Gathers-same _ _ _ _ _ _ (ap (λ (text : List ℕ). 34 ∷ (text ++ 34 ∷ [])) (sym digits))
-    (Gathers-then _ {first = 34 ∷ []} _ _ _ c.in_ok-add_bytes.ensures (Gathers-then _ _ (34 ∷ []) _ c.in_ok-add_hex.ensures c.add_bytes-2.ensures))
+    rw (plain_digits c.args.bytes.now (λ i. (c.type_inv.bytes i).fits))
+    (Gathers-then c.in_ok-add_bytes.ensures (Gathers-then c.in_ok-add_hex.ensures c.add_bytes-2.ensures))

@@ -1,8 +1,9 @@
 use Rattle.std.proofs.Common.{take}
-use Rattle.bolt_report.specs.Gathers.{Holds}
+use Rattle.bolt_format.specs.Endings.{whole}
+use Rattle.bolt_report.specs.Gathers.{Gathers}
 use Rattle.bolt_report.specs.Pieces.{later_parts}
 use Rattle.bolt_report.proofs.pieces.add_later_parts.Given as goal
 
 -- the parts before this one were added
 abbrev pub invariant-loop-part : goal.invariant-loop-part
-invariant-loop-part g l = Holds g.S.Sink l.initial.sink l.sink l.initial.held.items l.held.items (later_parts l.form (take l.part-index l.parts))
+invariant-loop-part g l = Gathers g.S.Sink l.initial.sink l.sink l.initial.held.items l.held.items (later_parts l.form (take l.part-index l.parts)) whole

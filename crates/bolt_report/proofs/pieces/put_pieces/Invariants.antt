@@ -1,8 +1,9 @@
 use Rattle.std.proofs.Common.{take}
-use Rattle.bolt_report.specs.Gathers.{Holds}
+use Rattle.bolt_format.specs.Endings.{whole}
+use Rattle.bolt_report.specs.Gathers.{Gathers}
 use Rattle.bolt_report.specs.Pieces.{pieces_text}
 use Rattle.bolt_report.proofs.pieces.put_pieces.Given as goal
 
 -- the pieces before this one were added
 abbrev pub invariant-loop-piece : goal.invariant-loop-piece
-invariant-loop-piece g l = Holds g.S.Sink l.initial.sink l.sink l.initial.held.items l.held.items (pieces_text (take l.piece-index l.pieces))
+invariant-loop-piece g l = Gathers g.S.Sink l.initial.sink l.sink l.initial.held.items l.held.items (pieces_text (take l.piece-index l.pieces)) whole

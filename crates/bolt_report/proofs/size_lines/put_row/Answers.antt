@@ -1,9 +1,5 @@
-use Rattle.bolt_format.proofs.WroteLemmas.{Wrote-then}
 use Rattle.bolt_report.proofs.ReportLemmas.{Wrote-sink}
 use Rattle.bolt_report.proofs.size_lines.put_row.Goals as goal
 
 pub returns-in_err-put_columns-clause-written : goal.returns-in_err-put_columns-clause-written
 returns-in_err-put_columns-clause-written g c = Wrote-sink _ _ c.in_err-put_columns.ensures c.from_residual.ensures.1
-
-pub returns-clause-written : goal.returns-clause-written
-returns-clause-written g c = Wrote-then c.in_ok-put_columns.ensures c.put_line.ensures.written

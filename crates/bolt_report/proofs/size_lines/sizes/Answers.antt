@@ -1,13 +1,11 @@
-use Rattle.std.proofs.Common.{◌∙◌, List, Some, ap, subst, sym}
+use Rattle.std.proofs.Common.{◌∙◌, ap, subst, sym}
 use Rattle.bolt_check.specs.CheckedFiles.{bytes_of, meta_of}
 use Rattle.bolt_format.proofs.WroteFronts.{front_more, front_none, front_whole}
 use Rattle.bolt_format.proofs.WroteLemmas.{Wrote-same}
-use Rattle.bolt_format.specs.Elements.{LeafElement}
-use Rattle.bolt_tree.specs.Buckets.{bucket_checked, bucket_start}
-use Rattle.bolt_tree.specs.Cursors.{cursor_checked, cursor_place, cursor_start}
+use Rattle.bolt_tree.specs.Buckets.{bucket_checked}
+use Rattle.bolt_tree.specs.Cursors.{cursor_place}
 use Rattle.bolt_tree.specs.EntriesLeft.{entries_left}
 use Rattle.bolt_tree.specs.Places.{Place}
-use Rattle.bolt_tree.specs.ShownEntries.{shown_entry}
 use Rattle.bolt_tree.proofs.Leaving.{fewer_left, next_shows}
 use Rattle.bolt_report.specs.declared.form.Form.{Form}
 use Rattle.bolt_report.specs.SizeLines.{AreSized, sizes_text}
@@ -28,9 +26,7 @@ rest-init g c = record {
 }
 
 pub rest-smaller : goal.rest-smaller
-rest-smaller g c =
-    fewer_left c.args.bucket.now (cursor_checked c.rest.cursor) (cursor_start c.rest.cursor) (cursor_place c.rest.cursor) (cursor_place c.next.new.self) (shown_entry c.in-Some.entry)
-    c.rest.invariant.checked c.rest.invariant.start c.in-Some.ensures.moves
+rest-smaller g c = fewer_left c.args.bucket.now _ _ _ _ _ c.rest.invariant.checked c.rest.invariant.start c.in-Some.ensures.moves
 
 pub rest-preserved : goal.rest-preserved
 rest-preserved g c = record {
@@ -38,33 +34,25 @@ rest-preserved g c = record {
   start = c.in-Some.ensures.start ∙ c.rest.invariant.start;
   form = c.put_entry.ensures.form ∙ c.rest.invariant.form;
   put = λ entries are sized stats.
-      let bucket = c.args.bucket.now in
-      let (e, shown, first) = next_shows (cursor_checked c.rest.cursor) (bucket_checked bucket) (cursor_start c.rest.cursor) (bucket_start bucket)
-      (cursor_place c.rest.cursor) (cursor_place c.next.new.self) (Some (shown_entry c.in-Some.entry)) c.rest.invariant.checked c.rest.invariant.start c.in-Some.ensures.moves entries are in
+      let (e, shown, first) = next_shows _ _ _ _ _ _ _ c.rest.invariant.checked c.rest.invariant.start c.in-Some.ensures.moves entries are in
       let (left, left_are, before) = c.rest.invariant.put entries are sized stats in
       let entry = (are.exact e).0 (first_left entries (cursor_place c.rest.cursor) e _ first) in
-      let k = cut (bytes_of (bucket_checked bucket)) (meta_of (bucket_checked bucket)) e (entries_left entries (cursor_place c.next.new.self)) left
-      (subst (λ (xs : List LeafElement). AreSized (bytes_of (bucket_checked bucket)) (meta_of (bucket_checked bucket)) xs left) first left_are) in
+      let k = cut _ _ e _ left (rw first at left_are) in
       let one = Wrote-same (ap (λ (form : Form). sizes_text form k.own) c.rest.invariant.form) (c.in_ok-put_entry.ensures.written e entry shown k.own k.first) in
       (k.rest, k.later, front_more before one (cut_text c.args.form left k.own k.rest k.whole));
 }
 
 pub returns-in_err-put_entry-clause-written : goal.returns-in_err-put_entry-clause-written
 returns-in_err-put_entry-clause-written g c = λ entries are sized stats.
-    let bucket = c.args.bucket.now in
-    let (e, shown, first) = next_shows (cursor_checked c.rest.cursor) (bucket_checked bucket) (cursor_start c.rest.cursor) (bucket_start bucket)
-    (cursor_place c.rest.cursor) (cursor_place c.next.new.self) (Some (shown_entry c.in-Some.entry)) c.rest.invariant.checked c.rest.invariant.start c.in-Some.ensures.moves entries are in
+    let (e, shown, first) = next_shows _ _ _ _ _ _ _ c.rest.invariant.checked c.rest.invariant.start c.in-Some.ensures.moves entries are in
     let (left, left_are, before) = c.rest.invariant.put entries are sized stats in
     let entry = (are.exact e).0 (first_left entries (cursor_place c.rest.cursor) e _ first) in
-    let k = cut (bytes_of (bucket_checked bucket)) (meta_of (bucket_checked bucket)) e (entries_left entries (cursor_place c.next.new.self)) left
-    (subst (λ (xs : List LeafElement). AreSized (bytes_of (bucket_checked bucket)) (meta_of (bucket_checked bucket)) xs left) first left_are) in
+    let k = cut _ _ e _ left (rw first at left_are) in
     let one = Wrote-same (ap (λ (form : Form). sizes_text form k.own) c.rest.invariant.form) (c.in_err-put_entry.ensures.written e entry shown k.own k.first) in
     front_fault (sizes_text c.args.form k.rest) _ _ before one (cut_text c.args.form left k.own k.rest k.whole) c.from_residual.ensures.1
 
 pub returns-clause-written : goal.returns-clause-written
 returns-clause-written g c = λ entries are sized stats.
-    let bucket = c.args.bucket.now in
-    let none = next_shows (cursor_checked c.rest.cursor) (bucket_checked bucket) (cursor_start c.rest.cursor) (bucket_start bucket)
-    (cursor_place c.rest.cursor) (cursor_place c.next.new.self) _ c.rest.invariant.checked c.rest.invariant.start c.in_default.ensures.moves entries are in
+    let none = next_shows _ _ _ _ _ _ _ c.rest.invariant.checked c.rest.invariant.start c.in_default.ensures.moves entries are in
     let (left, left_are, before) = c.rest.invariant.put entries are sized stats in
-    front_whole before (no_line (bytes_of (bucket_checked bucket)) (meta_of (bucket_checked bucket)) c.args.form _ left none left_are)
+    front_whole before (no_line _ _ c.args.form _ left none left_are)
