@@ -7,7 +7,7 @@ use Rattle.std.proofs.lemmas.List.Sums.{sum_by-cons}
 use Rattle.bolt_format.specs.Elements.{BranchElement, LeafElement}
 use Rattle.bolt_check.specs.Keys.{Key, is_above, is_below, is_from, keys_order_fault, key_lt}
 use Rattle.bolt_check.specs.Nodes.{Entry, Node, Nodes, branch_entry, node_of}
-use Rattle.bolt_check.specs.Ways.{PageSpot, child_spot, upper_from}
+use Rattle.bolt_check.specs.Ways.{At_page, PageSpot, child_spot, upper_from}
 use Rattle.bolt_check.specs.Findings.{node_finding, keys_of}
 use Rattle.bolt_check.specs.EntrySpots.{places}
 use Rattle.bolt_layout.specs.Cut.{run_size}
@@ -16,7 +16,7 @@ use Rattle.bolt_layout.proofs.BranchLemmas.{IsBranchFit}
 use Rattle.bolt_layout.proofs.KeyLaws.{AreBelow, IsAbove, IsBelowItem, IsWithin, Rise, key_step, lt_irreflexive, lt_not, rise_split}
 use Rattle.bolt_layout.proofs.ListLemmas.{all_split, all_weaker}
 use Rattle.bolt_layout.proofs.OverRows.{IsOver, IsRun, Pieces}
-use Rattle.bolt_layout.proofs.Parts.{AreParts}
+use Rattle.bolt_layout.proofs.Parts.{IsPart, kids_at, more_kids, no_kids}
 use Rattle.bolt_layout.proofs.PageRows.{HasRoom, IsPageFit, branch_room, overflow_room, overflow_small}
 use Rattle.bolt_layout.specs.Laid.{Laid, Placed, elements_of, numbers_of, pages_of, size_of}
 use Rattle.bolt_layout.specs.Levels.{branch_page_view, page_over, run_overflow}
@@ -108,10 +108,10 @@ both_hold lower upper [] a b = tt
 both_hold lower upper (y ∷ ys) a b = ((a.0, b.0), both_hold lower upper ys a.1 b.1)
 
 pub kids_parts : (page_size height : ℕ) (kids : List (Laid BranchElement)) (leaves : List (Laid LeafElement)) → Pieces (IsPage page_size height) kids leaves → Rise leaves
-    → (nodes : Nodes) (s : PageSpot) (n : ℕ) → AllByRecursion (IsWithin s.lower s.upper) leaves → suc s.depth + height ≤ 64 → 1 ≤ n → n + numbers_of kids ≤ limit
-    → AreNodes nodes (pages_of kids n) → AreParts nodes (places false s (map branch_entry (elements_of kids n))) n (n + numbers_of kids)
-kids_parts page_size height [] leaves pieces rise nodes s n within depth some h shown = omega arith
-kids_parts page_size height (kid ∷ kids) leaves pieces rise nodes s n within depth some h shown =
+    → (nodes : Nodes) (s : PageSpot) (n to : ℕ) → AllByRecursion (IsWithin s.lower s.upper) leaves → suc s.depth + height ≤ 64 → 1 ≤ n → to ≡ n + numbers_of kids → to ≤ limit
+    → AreNodes nodes (pages_of kids n) → IsPart nodes (kids_at nodes (places false s (map branch_entry (elements_of kids n)))) n to
+kids_parts page_size height [] leaves pieces rise nodes s n to within depth some end h shown = no_kids nodes n to (omega arith)
+kids_parts page_size height (kid ∷ kids) leaves pieces rise nodes s n to within depth some end h shown =
     let (x, front, back, e, page, more) = pieces in
     let both = all_split (λ (p : Placed). nodes p.number ≡ node_of p.view.kind p.view) (kid.pages n) (pages_of kids (n + kid.numbers)) shown in
     let rise2 = rise_split (x ∷ front) back (subst Rise e rise) in
@@ -123,9 +123,8 @@ kids_parts page_size height (kid ∷ kids) leaves pieces rise nodes s n within d
     let mine = all_weaker (IsWithin s.lower s.upper) (λ (y : Laid LeafElement). is_below s.upper y.key ≡ true) (λ y w. w.1) (x ∷ front) within2.0 in
     let high = upper_holds page_size height kids back (x ∷ front) s.upper (n + kid.numbers) more rise2.2 mine in
     let first = page.part nodes n (child_spot s entry upper) refl some (omega arith) both.0 (omega arith) (both_hold (Some entry.key) upper (x ∷ front) low high) in
-    let rest = kids_parts page_size height kids back more rise2.1 nodes s (n + kid.numbers) within2.1 depth (omega arith) (omega arith) both.1 in
-    let end : n + kid.numbers + numbers_of kids ≡ n + numbers_of (kid ∷ kids) = omega arith in
-    (n + kid.numbers, first, subst (λ (m : ℕ). AreParts nodes (places false s (map branch_entry (elements_of kids (n + kid.numbers)))) (n + kid.numbers) m) end rest)
+    more_kids nodes (Some (At_page (child_spot s entry upper))) (places false s (map branch_entry (elements_of kids (n + kid.numbers)))) n (n + kid.numbers) to first
+    (kids_parts page_size height kids back more rise2.1 nodes s (n + kid.numbers) to within2.1 depth (omega arith) (omega arith) h both.1)
 
 pub kids_keys : (page_size height : ℕ) (kids : List (Laid BranchElement)) (leaves : List (Laid LeafElement)) → Pieces (IsPage page_size height) kids leaves → Rise leaves
     → (before lower upper : Option Key) (n : ℕ) → AllByRecursion (IsAbove before) leaves → AllByRecursion (IsWithin lower upper) leaves
@@ -164,7 +163,7 @@ branch_page page_size height kid kids leaves sized pieces all rise fits = record
       let node : Node = record { is_leaf = false; overflow = run_overflow page_size (kid ∷ kids); entries = map branch_entry (elements_of (kid ∷ kids) n) } in
       let keys = kids_keys page_size height (kid ∷ kids) leaves pieces rise None s.lower s.upper n (above_none leaves) within in
       page_part nodes s node n (n + numbers_of (kid ∷ kids)) same both.1.0 (omega arith) (branch_content node s refl (omega arith) keys)
-      (kids_parts page_size height (kid ∷ kids) leaves pieces rise nodes s n within (omega arith) some (omega arith) both.0) _ (omega arith);
+      (kids_parts page_size height (kid ∷ kids) leaves pieces rise nodes s n (n + numbers_of (kid ∷ kids)) within (omega arith) some refl (omega arith) both.0) _ (omega arith);
 }
 
 -- by the height

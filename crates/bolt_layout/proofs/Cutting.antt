@@ -1,5 +1,5 @@
 -- The cuts of both layouts divide a row as the soundness of a layout asks.
-use Rattle.std.proofs.Common.{◌≡◌, ◌≢◌, ◌∙◌, ℕ, suc, ◌*◌, ◌<◌, ◌≤◌, List, [], ◌∷◌, ◌++◌, length, flat_map, nat_lt, Some, slice_get, refl, sym, ap, inl, inr, arith, append_assoc}
+use Rattle.std.proofs.Common.{◌≡◌, ◌∙◌, ℕ, suc, ◌*◌, ◌<◌, ◌≤◌, List, [], ◌∷◌, ◌++◌, length, flat_map, nat_lt, refl, sym, ap, inl, inr, arith, append_assoc}
 use Rattle.std.specs.List.{AllByRecursion}
 use Rattle.std.proofs.lemmas.Bool.{cases_Bool, ltb-true}
 use Rattle.std.proofs.lemmas.List.{append-nil, length-append}
@@ -7,48 +7,36 @@ use Rattle.bolt_layout.specs.Cut.{branch_cut, cut_of, join_last, max_items}
 use Rattle.bolt_layout.specs.Divisions.{IsDivided, IsHalved, IsPageRun}
 use Rattle.bolt_layout.specs.declared.layout.Layout.{Layout}
 use Rattle.bolt_layout.specs.declared.layout.Layout.TheVariants.{Plain, Balanced}
-use Rattle.bolt_layout.proofs.OneCut.{is_cut}
+use Rattle.bolt_layout.proofs.OneCut.{AreRuns, cut_runs, cut_whole, first_long}
 
-all_of : {X : Type 0} (P : X → Type 0) (xs : List X) → ((i : ℕ) (x : X) → slice_get xs i ≡ Some x → P x) → AllByRecursion P xs
-all_of P [] each = tt
-all_of P (x ∷ xs) each = (each 0 x refl, all_of P xs (λ i y e. each (suc i) y e))
-
-some_item : {X : Type 0} (run : List X) → run ≢ [] → 1 ≤ length run
-some_item [] some = absurd (some refl)
-some_item (x ∷ run) some = omega arith
+divided_each : {X : Type 0} (page_size least wide spare : ℕ) (size : X → ℕ) (runs : List (List X)) → least ≤ wide → AreRuns page_size least size runs
+    → AllByRecursion (IsPageRun page_size wide spare size) runs
+divided_each page_size least wide spare size [] h are = tt
+divided_each page_size least wide spare size (run ∷ runs) h are =
+    let is = are.0 in
+    let cap = is.cap in (
+      record { some = is.some; capped = omega arith; fits = λ more. record { front = run; last = []; whole = sym (append-nil run); few = omega arith; fits = is.fits (omega arith) } },
+      divided_each page_size least wide spare size runs h are.2,
+    )
 
 pub cut_divides : {X : Type 0} (page_size least wide spare : ℕ) (size : X → ℕ) (items : List X) → 1 ≤ least → least ≤ max_items → least ≤ wide
     → IsDivided page_size wide spare size items (cut_of page_size least size items)
-cut_divides page_size least wide spare size items some cap h =
-    let is = is_cut page_size least size items some cap in
-    record {
-      whole = is.whole;
-      each = all_of (IsPageRun page_size wide spare size) (cut_of page_size least size items)
-          (λ i run e. let few = is.capped i run e in record {
-            some = some_item run (is.filled i run e);
-            capped = omega arith;
-            fits = λ more. record { front = run; last = []; whole = sym (append-nil run); few = omega arith; fits = is.fits i run e (omega arith) };
-          });
-    }
+cut_divides page_size least wide spare size items some cap h = record {
+  whole = cut_whole page_size least size items;
+  each = divided_each page_size least wide spare size (cut_of page_size least size items) h (cut_runs page_size least size items some cap);
+}
 
 -- Each run but the last has two items at least.
-halved : {X : Type 0} (runs : List (List X)) → ((i : ℕ) (run : List X) → slice_get runs i ≡ Some run → run ≢ [])
-    → ((i : ℕ) (run next : List X) → slice_get runs i ≡ Some run → slice_get runs (suc i) ≡ Some next → 2 ≤ length run)
-    → 2 * length runs ≤ suc (length (flat_map (λ run. run) runs))
-halved [] filled long = omega arith
-halved (run ∷ []) filled long =
-    let some = some_item run (filled 0 run refl) in
-    let l = length-append run [] in omega arith
-halved (run ∷ next ∷ runs) filled long =
-    let two = long 0 run next refl refl in
-    let ih = halved (next ∷ runs) (λ i r e. filled (suc i) r e) (λ i r s e f. long (suc i) r s e f) in
-    let l = length-append run (flat_map (λ run. run) (next ∷ runs)) in omega arith
+halved : {X : Type 0} (page_size : ℕ) (size : X → ℕ) (runs : List (List X)) → AreRuns page_size 2 size runs → 2 * length runs ≤ suc (length (flat_map (λ run. run) runs))
+halved page_size size [] are = omega arith
+halved page_size size (run ∷ []) are = let some = are.0.some in omega (arith, length-append run [])
+halved page_size size (run ∷ next ∷ runs) are =
+    omega (arith, first_long page_size 2 size run next runs are, halved page_size size (next ∷ runs) are.2, length-append run (flat_map (λ run. run) (next ∷ runs)))
 
 cut_halves : {X : Type 0} (page_size : ℕ) (size : X → ℕ) (items : List X) → IsHalved items (cut_of page_size 2 size items)
 cut_halves {X = X} page_size size items =
-    let is = is_cut page_size 2 size items (omega arith) (omega arith) in
-    let half = halved (cut_of page_size 2 size items) is.filled is.long in
-    let all = ap (λ (xs : List X). length xs) is.whole in omega arith
+    let half = halved page_size size (cut_of page_size 2 size items) (cut_runs page_size 2 size items (omega arith) (omega arith)) in
+    let all = ap (λ (xs : List X). length xs) (cut_whole page_size 2 size items) in omega arith
 
 -- Joining the last run keeps the row,
 joined_whole : {X : Type 0} (runs : List (List X)) → flat_map (λ run. run) (join_last runs) ≡ flat_map (λ run. run) runs

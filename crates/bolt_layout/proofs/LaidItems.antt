@@ -5,12 +5,12 @@ use Rattle.std.proofs.lemmas.List.{length-append}
 use Rattle.std.proofs.lemmas.List.Sums.{sum_by-cons}
 use Rattle.bolt_format.specs.Elements.{LeafElement, value_fault}
 use Rattle.bolt_check.specs.Nodes.{Nodes, leaf_entry}
-use Rattle.bolt_check.specs.Ways.{bucket_spots}
+use Rattle.bolt_check.specs.Ways.{bucket_spots, follow}
 use Rattle.bolt_layout.specs.Cut.{run_size}
 use Rattle.bolt_layout.specs.PageBytes.{leaf_data}
 use Rattle.bolt_layout.proofs.LeafLemmas.{IsLeafFit}
 use Rattle.bolt_layout.proofs.OverRows.{IsRun}
-use Rattle.bolt_layout.proofs.Parts.{IsPartOrNone}
+use Rattle.bolt_layout.proofs.Parts.{IsPart}
 use Rattle.bolt_layout.proofs.PageRows.{HasRoom, IsPageFit, leaf_room, overflow_room, overflow_small}
 use Rattle.bolt_layout.specs.Laid.{Laid, elements_of, numbers_of, size_of}
 use Rattle.bolt_layout.specs.Levels.{leaf_page_view, run_overflow}
@@ -26,7 +26,7 @@ pub record IsItem (page_size : ℕ) (item : Laid LeafElement) : Type 0 where
   pub size : (n : ℕ) → item.size ≡ 16 + (length item.key + length (item.element n).value)
   pub fit : (n : ℕ) → 1 ≤ n → n + item.numbers ≤ limit → IsLeafFit value_fault (item.element n)
   pub part : (nodes : Nodes) (n host : ℕ) → 1 ≤ n → n + item.numbers ≤ limit → AreNodes nodes (item.pages n)
-      → IsPartOrNone nodes (bucket_spots host (leaf_entry (item.element n))) n (n + item.numbers)
+      → IsPart nodes (follow nodes (bucket_spots host (leaf_entry (item.element n)))) n (n + item.numbers)
 
 pub length-elements : {E : Type 0} (items : List (Laid E)) (n : ℕ) → length (elements_of items n) ≡ length items
 length-elements [] n = refl

@@ -1,10 +1,11 @@
 -- The end of a cut: what one more item at the end of the row changes, and what joining the last run does.
 use Rattle.std.proofs.Common.{◌≡◌, ◌∙◌, ◌⊎◌, ◌++◌, ◌≤◌, ℕ, suc, nat_lt, true, false, List, [], ◌∷◌, length, map, refl, sym, ap, inl, inr, arith}
 use Rattle.std.specs.List.{AllByRecursion}
-use Rattle.std.proofs.lemmas.Bool.{cases_Bool, le-ltb, lt-ltb, ltb-false, or_parts}
+use Rattle.std.proofs.lemmas.Bool.{cases_Bool, le-ltb, lt-ltb}
 use Rattle.std.proofs.lemmas.List.{length_push}
 use Rattle.bolt_layout.specs.Cut.{cut_from, cut_of, join_last, joins}
 use Rattle.bolt_layout.specs.Limits.{last_length}
+use Rattle.bolt_layout.proofs.OneCut.{ended_long}
 
 -- the runs with one more item in the last
 abbrev pub push_last : {X : Type 0} → List (List X) → X → List (List X)
@@ -26,10 +27,6 @@ some_runs page_size least size run (next ∷ items) = elim (cases_Bool (joins pa
   | inl t ↦ rw t (some_runs page_size least size (run ++ next ∷ []) items)
   | inr f ↦ rw f (omega arith)
 ]
-
--- A run that ends has as many items as it needs.
-pub ended_long : {X : Type 0} (page_size least : ℕ) (size : X → ℕ) (run : List X) (next : X) → joins page_size least size run next ≡ false → least ≤ length run
-ended_long page_size least size run next f = ltb-false (length run) least (or_parts (nat_lt (length run) least) _ f).0
 
 pub last_behind : {X : Type 0} (run : List X) (runs : List (List X)) → 1 ≤ length runs → last_length (run ∷ runs) ≡ last_length runs
 last_behind run [] some = absurd (omega arith)

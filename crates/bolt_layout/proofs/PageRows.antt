@@ -33,28 +33,30 @@ unfolding overflow_of
 overflow_small page_size size = let d = div-le_self (size - 1) page_size in omega arith
 
 -- What a page needs to be read back, apart from its place.
-pub record IsLeafPage (page_size : ℕ) (view : PageView) : Type 0 where
-  pub es : List LeafElement
+pub record IsPageOf {E : Type 0} (show : ℕ → List E → PageView) (text : List E → List ℕ) (IsFit : E → Type 0) (page_size : ℕ) (view : PageView) : Type 0 where
+  pub es : List E
   pub further : ℕ
-  pub is : view ≡ leaf_page_view further es
+  pub is : view ≡ show further es
   pub few : length es < 256 ^ 2
-  pub room : 16 + (16 * length es + length (leaf_data es)) ≤ (1 + further) * page_size
-  pub small : 16 * length es + length (leaf_data es) < 0x100000000
+  pub room : 16 + (16 * length es + length (text es)) ≤ (1 + further) * page_size
+  pub small : 16 * length es + length (text es) < 0x100000000
   pub narrow : further < 256 ^ 4
-  pub fits : AllByRecursion (IsLeafFit value_fault) es
+  pub fits : AllByRecursion IsFit es
 
-pub record IsBranchPage (page_size : ℕ) (view : PageView) : Type 0 where
-  pub es : List BranchElement
-  pub further : ℕ
-  pub is : view ≡ branch_page_view further es
-  pub few : length es < 256 ^ 2
-  pub room : 16 + (16 * length es + length (branch_data es)) ≤ (1 + further) * page_size
-  pub small : 16 * length es + length (branch_data es) < 0x100000000
-  pub narrow : further < 256 ^ 4
-  pub fits : AllByRecursion IsBranchFit es
+abbrev pub IsLeafPage : ℕ → PageView → Type 0
+IsLeafPage page_size view = IsPageOf leaf_page_view leaf_data (IsLeafFit value_fault) page_size view
+
+abbrev pub IsBranchPage : ℕ → PageView → Type 0
+IsBranchPage page_size view = IsPageOf branch_page_view branch_data IsBranchFit page_size view
 
 abbrev pub IsPageFit : ℕ → Placed → Type 0
 IsPageFit page_size page = IsLeafPage page_size page.view ⊎ IsBranchPage page_size page.view
+
+-- what holds of a leaf page and of a branch page
+by_kind : (page_size : ℕ) (page : Placed) (P : PageView → Type 0) → ((leaf : IsLeafPage page_size page.view) → P (leaf_page_view leaf.further leaf.es))
+    → ((branch : IsBranchPage page_size page.view) → P (branch_page_view branch.further branch.es)) → IsPageFit page_size page → P page.view
+by_kind page_size page P of_leaf of_branch (inl leaf) = subst P (sym leaf.is) (of_leaf leaf)
+by_kind page_size page P of_leaf of_branch (inr branch) = subst P (sym branch.is) (of_branch branch)
 
 -- A page has room for what stands on it,
 abbrev pub HasRoom : ℕ → Placed → Type 0
@@ -75,33 +77,24 @@ branch_room page_size number further es room =
     let c = length-append (header_bytes number kind.Branch (length es) further) (branch_bytes es) in omega arith
 
 fit_room : (page_size : ℕ) (page : Placed) → IsPageFit page_size page → HasRoom page_size page
-fit_room page_size page (inl leaf) =
-    let P : PageView → Type 0 = λ view. HasRoom page_size (record { number = page.number; view = view }) in
-    subst P (sym leaf.is) (leaf_room page_size page.number leaf.further leaf.es leaf.room)
-fit_room page_size page (inr branch) =
-    let P : PageView → Type 0 = λ view. HasRoom page_size (record { number = page.number; view = view }) in
-    subst P (sym branch.is) (branch_room page_size page.number branch.further branch.es branch.room)
+fit_room page_size page =
+    by_kind page_size page (λ view. HasRoom page_size (record { number = page.number; view = view })) (λ leaf. leaf_room page_size page.number leaf.further leaf.es leaf.room)
+    (λ branch. branch_room page_size page.number branch.further branch.es branch.room)
 
 -- and so it takes as many bytes as its span.
 length-page : (page_size : ℕ) (page : Placed) → HasRoom page_size page → length (page_bytes page_size page.number page.view) ≡ (1 + page.view.overflow) * page_size
 unfolding page_bytes
 length-page page_size page room = length-filled ((1 + page.view.overflow) * page_size) (content_bytes page.view.kind page.number page.view) room
 
-page_shown : (file : List ℕ) (meta : Meta) (page : Placed) (rest : List ℕ) → IsPageFit meta.page_size page
-    → drop (page.number * meta.page_size) file ≡ page_bytes meta.page_size page.number page.view ++ rest
-    → page.number < 256 ^ 8 → page.number + page.view.overflow < meta.high_water → page.number * meta.page_size ≤ length file → IsShown file meta page.number page.view
-page_shown file meta page rest (inl leaf) h number below within =
-    let more : page.view.overflow ≡ leaf.further = ap (λ (v : PageView). v.overflow) leaf.is in
-    let h2 = h ∙ ap (λ (v : PageView). page_bytes meta.page_size page.number v ++ rest) leaf.is in
-    let narrow = leaf.narrow in
-    subst (IsShown file meta page.number) (sym leaf.is)
-    (leaf_shown file meta page.number leaf.further leaf.es rest h2 (record { number = number; further = narrow; below = omega arith; within = within }) leaf.few leaf.room leaf.small leaf.fits)
-page_shown file meta page rest (inr branch) h number below within =
-    let more : page.view.overflow ≡ branch.further = ap (λ (v : PageView). v.overflow) branch.is in
-    let h2 = h ∙ ap (λ (v : PageView). page_bytes meta.page_size page.number v ++ rest) branch.is in
-    let narrow = branch.narrow in
-    subst (IsShown file meta page.number) (sym branch.is)
-    (branch_shown file meta page.number branch.further branch.es rest h2 (record { number = number; further = narrow; below = omega arith; within = within }) branch.few branch.room branch.small branch.fits)
+page_shown : (file : List ℕ) (meta : Meta) (page : Placed) (rest : List ℕ) → IsPageFit meta.page_size page → page.number < 256 ^ 8 → page.number * meta.page_size ≤ length file
+    → drop (page.number * meta.page_size) file ≡ page_bytes meta.page_size page.number page.view ++ rest → page.number + page.view.overflow < meta.high_water
+    → IsShown file meta page.number page.view
+page_shown file meta page rest fit number within =
+    by_kind meta.page_size page
+    (λ view. drop (page.number * meta.page_size) file ≡ page_bytes meta.page_size page.number view ++ rest → page.number + view.overflow < meta.high_water → IsShown file meta page.number view)
+    (λ leaf h below. leaf_shown file meta page.number leaf.further leaf.es rest h (record { number = number; further = leaf.narrow; below = below; within = within }) leaf.few leaf.room leaf.small leaf.fits)
+    (λ branch h below. branch_shown file meta page.number branch.further branch.es rest h (record { number = number; further = branch.narrow; below = below; within = within }) branch.few branch.room branch.small branch.fits)
+    fit
 
 abbrev pub IsInARow : ℕ → List Placed → ℕ → Type 0
 IsInARow from [] to = from ≡ to
@@ -132,7 +125,7 @@ row_shown file meta from to (page ∷ pages) rest row fits h within below small 
     let behind : drop ((from + (1 + page.view.overflow)) * size) file ≡ placed_bytes size pages ++ rest =
     part_next file (page_bytes size page.number page.view) (placed_bytes size pages ++ rest) (from * size) _ h2 (omega arith) in
     let order = row_order (from + (1 + page.view.overflow)) to pages row.1 in (
-      page_shown file meta page (placed_bytes size pages ++ rest) fits.0 here (omega arith) (omega arith) (omega arith),
+      page_shown file meta page (placed_bytes size pages ++ rest) fits.0 (omega arith) (omega arith) here (omega arith),
       row_shown file meta (from + (1 + page.view.overflow)) to pages rest row.1 fits.1 behind (omega arith) below small,
     )
 
@@ -189,9 +182,7 @@ view_headed page_size number view own rest same few narrow =
     }
 
 pub page_headed : (page_size : ℕ) (page : Placed) (rest : List ℕ) → IsPageFit page_size page → IsHeaded (page_bytes page_size page.number page.view ++ rest) page
-page_headed page_size page rest (inl leaf) =
-    let P : PageView → Type 0 = λ view. IsHeaded (page_bytes page_size page.number view ++ rest) (record { number = page.number; view = view }) in
-    subst P (sym leaf.is) (view_headed page_size page.number (leaf_page_view leaf.further leaf.es) (leaf_bytes leaf.es) rest refl leaf.few leaf.narrow)
-page_headed page_size page rest (inr branch) =
-    let P : PageView → Type 0 = λ view. IsHeaded (page_bytes page_size page.number view ++ rest) (record { number = page.number; view = view }) in
-    subst P (sym branch.is) (view_headed page_size page.number (branch_page_view branch.further branch.es) (branch_bytes branch.es) rest refl branch.few branch.narrow)
+page_headed page_size page rest =
+    by_kind page_size page (λ view. IsHeaded (page_bytes page_size page.number view ++ rest) (record { number = page.number; view = view }))
+    (λ leaf. view_headed page_size page.number (leaf_page_view leaf.further leaf.es) (leaf_bytes leaf.es) rest refl leaf.few leaf.narrow)
+    (λ branch. view_headed page_size page.number (branch_page_view branch.further branch.es) (branch_bytes branch.es) rest refl branch.few branch.narrow)

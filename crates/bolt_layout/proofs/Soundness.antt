@@ -13,7 +13,7 @@ use Rattle.bolt_format.specs.declared.meta.Slot.TheVariants.{Zero, One}
 use Rattle.bolt_check.specs.Accounts.{IsInUse, ListsFree, times_in}
 use Rattle.bolt_check.specs.Nodes.{node_at, node_of, node_seen}
 use Rattle.bolt_check.specs.Sound.{HasRightAccounts, HasSoundTrees, IsUsed, PassesTests}
-use Rattle.bolt_check.specs.Ways.{At_page, root_spot}
+use Rattle.bolt_check.specs.Ways.{reached, root_spot}
 use Rattle.bolt_layout.specs.PageBytes.{freelist_page, meta_page, copy_meta}
 use Rattle.bolt_format.specs.Written.{header_bytes, meta_bytes}
 use Rattle.bolt_layout.specs.Layout.{file_bytes, layout_mark, layout_meta, layout_of, layout_pages, layout_root, placed_bytes}
@@ -130,7 +130,7 @@ some_same : {X : Type 0} (a b : X) → ◌≡◌ {A = Option X} (Some a) (Some b
 some_same a b e = cc
 
 accounts_of : (file : List ℕ) (page_size root sequence mark txid : ℕ) → IsEmptyFreelist file (copy_meta page_size root sequence mark txid) 2
-    → IsPart (node_at file (copy_meta page_size root sequence mark txid)) (At_page (root_spot root)) 3 mark → HasRightAccounts file (copy_meta page_size root sequence mark txid)
+    → IsPart (node_at file (copy_meta page_size root sequence mark txid)) (reached (node_at file (copy_meta page_size root sequence mark txid)) root) 3 mark → HasRightAccounts file (copy_meta page_size root sequence mark txid)
 accounts_of file page_size root sequence mark txid free part =
     let meta : Meta = copy_meta page_size root sequence mark txid in
     let good : freelist_fault_of file meta ≡ None = free.good in

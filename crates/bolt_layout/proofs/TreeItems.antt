@@ -8,7 +8,7 @@ use Rattle.std.proofs.Math.Nat.{div-le_self}
 use Rattle.bolt_format.specs.Elements.{LeafElement, head_root, head_sequence, inline_elements, value_fault}
 use Rattle.bolt_check.specs.Keys.{Key, key_cmp, key_lt}
 use Rattle.bolt_check.specs.Nodes.{leaf_entry}
-use Rattle.bolt_check.specs.Ways.{At_inline, At_page, Spot, bucket_spots, root_spot}
+use Rattle.bolt_check.specs.Ways.{At_inline, At_page, Spot, bucket_spots, follow, root_spot}
 use Rattle.bolt_check.specs.Findings.{inline_finding, keys_of, finding_of}
 use Rattle.bolt_layout.specs.Cut.{max_items, run_size}
 use Rattle.bolt_format.specs.Written.{header_bytes, head_bytes}
@@ -19,7 +19,7 @@ use Rattle.bolt_layout.proofs.SpanLemmas.{length-leaf_bytes}
 use Rattle.bolt_layout.proofs.KeyLaws.{IsBelowItem, IsWithin, Rise}
 use Rattle.bolt_layout.proofs.ListLemmas.{all_weaker}
 use Rattle.bolt_layout.proofs.OverRows.{HasShortKey, IsAtMost, root_is_over}
-use Rattle.bolt_layout.proofs.Parts.{IsPartOrNone, part_inline}
+use Rattle.bolt_layout.proofs.Parts.{IsPart, part_inline, part_none}
 use Rattle.bolt_tree.specs.Order.{IsBelow, Rises}
 use Rattle.bolt_tree.proofs.Lists.{contains_head, contains_tail}
 use Rattle.bolt_format.proofs.PageSizes.{largest_page}
@@ -45,7 +45,7 @@ value_item page_size key value some short sized = record {
   key = λ n. refl;
   size = λ n. refl;
   fit = λ n any h. record { some = some; key = short; value = sized; bucket = λ e. absurd (cc) };
-  part = λ nodes n host any h shown. omega arith;
+  part = λ nodes n host any h shown. part_none nodes n (n + 0) (omega arith);
 }
 
 -- an inline bucket
@@ -123,9 +123,8 @@ inline_item which page_size key sequence inside small some short sized lengths a
       fit = λ n any h. record { some = some; key = short; value = omega arith; bucket = λ e. written.0 };
       part = λ nodes n host any h shown.
           let fine : inline_finding host (keys_of (map leaf_entry es)) ≡ None = ap (λ (o : Option ℕ). finding_of o host) keys in
-          let same : n ≡ n + 0 = omega arith in
-          subst (λ (o : Option Spot). IsPartOrNone nodes o n (n + 0)) (sym (inline_spot host (record { key = key; value = value; is_bucket = true }) (keys_of (map leaf_entry es)) refl written.1 named))
-          (subst (λ (m : ℕ). IsPartOrNone nodes (Some (At_inline host (keys_of (map leaf_entry es)))) n m) same (part_inline nodes host n (keys_of (map leaf_entry es)) fine));
+          subst (λ (o : Option Spot). IsPart nodes (follow nodes o) n (n + 0)) (sym (inline_spot host (record { key = key; value = value; is_bucket = true }) (keys_of (map leaf_entry es)) refl written.1 named))
+          (part_inline nodes host n (n + 0) (keys_of (map leaf_entry es)) (omega arith) fine);
     }
 
 -- the root page of a bucket's items
@@ -168,7 +167,7 @@ root_item which page_size key sequence items sized small some short narrow all r
           let c = page.child n in
           let same = head n (omega arith) in
           let e : LeafElement = item.element n in
-          subst (λ (o : Option Spot). IsPartOrNone nodes o n (n + root.numbers)) (sym (spot_of_root host (root.element n).child e refl same (omega arith)))
+          subst (λ (o : Option Spot). IsPart nodes (follow nodes o) n (n + root.numbers)) (sym (spot_of_root host (root.element n).child e refl same (omega arith)))
           (page.part nodes n (root_spot (head_root e.value)) same any h shown (let deep = low (omega arith) in omega arith) (within_none items));
     }
 

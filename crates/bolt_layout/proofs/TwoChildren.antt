@@ -1,8 +1,8 @@
 -- No branch page of a balanced layout has fewer than two elements.
-use Rattle.std.proofs.Common.{◌≡◌, ◌≢◌, ℕ, zero, suc, ◌+◌, ◌≤◌, nat_lt, Bool, true, false, List, [], ◌∷◌, length, map, flat_map, Some, slice_get, refl, sym, ap, subst, inl, inr, arith}
+use Rattle.std.proofs.Common.{◌≡◌, ℕ, zero, suc, ◌+◌, ◌≤◌, nat_lt, Bool, true, false, List, [], ◌∷◌, length, map, flat_map, refl, sym, ap, subst, inl, inr, arith}
 use Rattle.std.specs.List.{AllByRecursion}
 use Rattle.std.proofs.lemmas.Bool.{cases_Bool, ltb-false}
-use Rattle.std.proofs.lemmas.List.{append-nil, length-append}
+use Rattle.std.proofs.lemmas.List.{length-append}
 use Rattle.bolt_format.specs.Elements.{BranchElement, LeafElement}
 use Rattle.bolt_format.specs.declared.kind.Kind.TheVariants as kind
 use Rattle.bolt_tree.specs.Tree.{Tree, end, with_bucket, with_value}
@@ -14,35 +14,31 @@ use Rattle.bolt_layout.specs.Levels.{branch_page_view, leaf_level, leaf_page_vie
 use Rattle.bolt_layout.specs.declared.layout.Layout.TheVariants.{Balanced}
 use Rattle.bolt_layout.proofs.Cutting.{branches_divide, cut_divides}
 use Rattle.bolt_layout.proofs.ListLemmas.{all_append, all_split}
-use Rattle.bolt_layout.proofs.OneCut.{is_cut}
+use Rattle.bolt_layout.proofs.OneCut.{AreRuns, cut_runs, cut_whole, first_long}
 
 abbrev HasItems : {X : Type 0} → List X → Type 0
 HasItems run = 2 ≤ length run
 
 -- A run that another one follows has two items, so the joined cut of a row of two or more has only such runs.
-joined_long : {X : Type 0} (runs : List (List X)) → ((i : ℕ) (run : List X) → slice_get runs i ≡ Some run → run ≢ [])
-    → ((i : ℕ) (run next : List X) → slice_get runs i ≡ Some run → slice_get runs (suc i) ≡ Some next → 2 ≤ length run)
-    → 2 ≤ length (flat_map (λ run. run) runs) → AllByRecursion HasItems (join_last runs)
-joined_long [] filled long two = tt
-joined_long {X = X} (run ∷ []) filled long two = let same = ap (λ (xs : List X). length xs) (append-nil run) in (omega arith, tt)
-joined_long (run ∷ next ∷ []) filled long two =
-    let first = long 0 run next refl refl in
+joined_long : {X : Type 0} (page_size : ℕ) (size : X → ℕ) (runs : List (List X)) → AreRuns page_size 2 size runs → 2 ≤ length (flat_map (λ run. run) runs) → AllByRecursion HasItems (join_last runs)
+joined_long page_size size [] are two = tt
+joined_long page_size size (run ∷ []) are two = (omega (arith, length-append run []), tt)
+joined_long page_size size (run ∷ next ∷ []) are two =
+    let first = first_long page_size 2 size run next [] are in
     let l = length-append run next in
     elim (cases_Bool (nat_lt (length next) 2)) [
       | inl t ↦ rw t (omega arith, tt)
       | inr f ↦ (let second = ltb-false (length next) 2 f in rw f (first, (second, tt)))
     ]
-joined_long {X = X} (run ∷ next ∷ more ∷ runs) filled long two =
-    let first = long 0 run next refl refl in
-    let second = long 1 next more refl refl in
+joined_long {X = X} page_size size (run ∷ next ∷ more ∷ runs) are two =
+    let second = first_long page_size 2 size next more runs are.2 in
     let l = length-append next (flat_map (λ (r : List X). r) (more ∷ runs)) in
-    (first, joined_long (next ∷ more ∷ runs) (λ i r e. filled (suc i) r e) (λ i r s e f. long (suc i) r s e f) (omega arith))
+    (first_long page_size 2 size run next (more ∷ runs) are, joined_long page_size size (next ∷ more ∷ runs) are.2 (omega arith))
 
 runs_long : {X : Type 0} (page_size : ℕ) (size : X → ℕ) (items : List X) → 2 ≤ length items → AllByRecursion HasItems (branch_cut Balanced page_size size items)
 runs_long {X = X} page_size size items two =
-    let is = is_cut page_size 2 size items (omega arith) (omega arith) in
-    let same = ap (λ (xs : List X). length xs) is.whole in
-    joined_long (cut_of page_size 2 size items) is.filled is.long (omega arith)
+    let same = ap (λ (xs : List X). length xs) (cut_whole page_size 2 size items) in
+    joined_long page_size size (cut_of page_size 2 size items) (cut_runs page_size 2 size items (omega arith) (omega arith)) (omega arith)
 
 -- the pages of an item, from any number on
 abbrev HasTwos : {E : Type 0} → Laid E → Type 0
