@@ -1,16 +1,15 @@
 -- A branch page over pages, and by the height the page over a row of items.
-use Rattle.std.proofs.Common.{◌≡◌, ◌∙◌, ℕ, zero, suc, ◌+◌, ◌*◌, ◌<◌, ◌≤◌, not, ◌==◌, true, false, List, [], ◌∷◌, ◌++◌, length, map, Option, Some, None, slice_get, refl, sym, ap, subst, inr, arith, sum_by}
+use Rattle.std.proofs.Common.{◌≡◌, ◌∙◌, ℕ, zero, suc, ◌+◌, ◌*◌, ◌<◌, ◌≤◌, ◌==◌, true, false, List, [], ◌∷◌, ◌++◌, length, map, Option, Some, None, slice_get, refl, sym, ap, subst, arith, sum_by}
 use Rattle.std.specs.List.{AllByRecursion}
 use Rattle.std.proofs.lemmas.Bool.{ne_eqb}
 use Rattle.std.proofs.lemmas.List.{length-append}
 use Rattle.std.proofs.lemmas.List.Sums.{sum_by-cons}
 use Rattle.bolt_format.specs.Elements.{BranchElement, LeafElement}
-use Rattle.bolt_check.specs.Keys.{Key, is_above, is_below, is_from, keys_order_fault, key_lt}
+use Rattle.bolt_check.specs.Keys.{Key, is_above, is_below, is_from, keys_order_fault}
 use Rattle.bolt_check.specs.Nodes.{Entry, Node, Nodes, branch_entry, node_of}
 use Rattle.bolt_check.specs.Ways.{At_page, PageSpot, child_spot, upper_from}
 use Rattle.bolt_check.specs.Findings.{node_finding, keys_of}
 use Rattle.bolt_check.specs.EntrySpots.{places}
-use Rattle.bolt_layout.specs.Cut.{run_size}
 use Rattle.bolt_layout.specs.PageBytes.{branch_data}
 use Rattle.bolt_layout.proofs.BranchLemmas.{IsBranchFit}
 use Rattle.bolt_layout.proofs.KeyLaws.{AreBelow, IsAbove, IsBelowItem, IsWithin, Rise, key_step, lt_irreflexive, lt_not, rise_split}
@@ -57,50 +56,23 @@ pieces_fit page_size height (kid ∷ kids) leaves h all n room =
 
 branch_own_room : (page_size height : ℕ) (run : List (Laid BranchElement)) (leaves : List (Laid LeafElement)) → 0 < page_size → Pieces (IsPage page_size height) run leaves
     → (n : ℕ) → HasRoom page_size (own_page branch_page_view page_size run n)
-branch_own_room page_size height run leaves sized pieces n =
-    let size = pieces_size page_size height run leaves pieces n in
-    let room = overflow_room page_size (run_size size_of run) sized (omega arith) in
-    branch_room page_size (n + numbers_of run) (run_overflow page_size run) (elements_of run n) (omega arith)
+branch_own_room page_size height run leaves sized pieces n = grind (arith, pieces_size, overflow_room, branch_room)
 
 pub branch_own : (page_size height : ℕ) (run : List (Laid BranchElement)) (leaves : List (Laid LeafElement)) → 0 < page_size → Pieces (IsPage page_size height) run leaves
     → AllByRecursion (IsItem page_size) leaves → IsRun run → (n : ℕ) → 1 ≤ n → n + numbers_of run < limit
     → IsPageFit page_size (own_page branch_page_view page_size run n)
-branch_own page_size height run leaves sized pieces all fits n some h =
-    let size = pieces_size page_size height run leaves pieces n in
-    let long = length-elements run n in
-    let few = fits.few in
-    let small = fits.small in
-    let room = overflow_room page_size (run_size size_of run) sized (omega arith) in
-    let narrow = overflow_small page_size (run_size size_of run) in
-    inr (record {
-      es = elements_of run n;
-      further = run_overflow page_size run;
-      is = refl;
-      few = omega arith;
-      room = omega arith;
-      small = omega arith;
-      narrow = omega arith;
-      fits = pieces_fit page_size height run leaves pieces all n (omega arith);
-    })
+branch_own page_size height run leaves sized pieces all fits n some h = grind (arith, pieces_size, length-elements, overflow_room, overflow_small, pieces_fit)
 
 -- the upper bound of a child is above all keys below it
 pub upper_holds : (page_size height : ℕ) (kids : List (Laid BranchElement)) (back ys : List (Laid LeafElement)) (upper : Option Key) (m : ℕ) → Pieces (IsPage page_size height) kids back
     → AreBelow ys back → AllByRecursion (λ (y : Laid LeafElement). is_below upper y.key ≡ true) ys
     → AllByRecursion (λ (y : Laid LeafElement). is_below (upper_from (slice_get (map branch_entry (elements_of kids m)) 0) upper) y.key ≡ true) ys
 upper_holds page_size height [] back ys upper m pieces below within = within
-upper_holds page_size height (kid ∷ kids) back ys upper m pieces below within =
-    let (x, front, rest, e, page, more) = pieces in
-    let bound : (kid.element m).key ≡ x.key = page.key m ∙ page.first x front refl in
-    let below2 : AreBelow ys (x ∷ (front ++ rest)) = subst (λ (r : List (Laid LeafElement)). AreBelow ys r) e below in
-    all_weaker (λ (y : Laid LeafElement). AllByRecursion (IsBelowItem y) (x ∷ (front ++ rest))) (λ (y : Laid LeafElement). key_lt y.key (kid.element m).key ≡ true)
-    (λ y h. ap (λ (k : Key). key_lt y.key k) bound ∙ h.0) ys below2
+upper_holds page_size height (kid ∷ kids) back ys upper m pieces below within = grind (arith, all_weaker)
 
 pub lower_holds : (x : Laid LeafElement) (key : Key) (ys : List (Laid LeafElement)) → key ≡ x.key → AllByRecursion (IsBelowItem x) ys
     → AllByRecursion (λ (y : Laid LeafElement). is_from (Some key) y.key ≡ true) (x ∷ ys)
-lower_holds x key ys same h = (
-  ap not (ap (λ (k : Key). key_lt x.key k) same ∙ lt_irreflexive x.key),
-  all_weaker (IsBelowItem x) (λ (y : Laid LeafElement). is_from (Some key) y.key ≡ true) (λ y less. ap not (ap (λ (k : Key). key_lt y.key k) same ∙ lt_not x.key y.key less)) ys h,
-)
+lower_holds x key ys same h = grind (arith, lt_irreflexive, all_weaker, lt_not)
 
 pub both_hold : (lower upper : Option Key) (ys : List (Laid LeafElement)) → AllByRecursion (λ (y : Laid LeafElement). is_from lower y.key ≡ true) ys
     → AllByRecursion (λ (y : Laid LeafElement). is_below upper y.key ≡ true) ys → AllByRecursion (IsWithin lower upper) ys

@@ -1,14 +1,14 @@
 -- A page is full at 65,534 items, however much of it is left, and so is an inline bucket.
-use Rattle.std.proofs.Common.{◌≡◌, ◌∙◌, ℕ, zero, suc, ◌+◌, ◌*◌, ◌/◌, ◌≤◌, ◌&&◌, not, nat_le, Bool, true, false, List, [], ◌∷◌, ◌++◌, length, replicate, sum_by, refl, inr, arith}
+use Rattle.std.proofs.Common.{◌≡◌, ℕ, zero, suc, ◌+◌, ◌*◌, ◌&&◌, Bool, false, List, [], ◌∷◌, ◌++◌, length, replicate, sum_by, inr, arith}
 use Rattle.std.proofs.Math.Nat.{suc-mul}
 use Rattle.std.proofs.lemmas.Bool.{lt-leb}
 use Rattle.std.proofs.lemmas.List.{length-replicate}
 use Rattle.std.proofs.lemmas.List.Sums.{sum_by-cons}
 use Rattle.bolt_format.specs.Elements.{LeafElement}
 use Rattle.bolt_tree.specs.Tree.{Tree}
-use Rattle.bolt_layout.specs.Cut.{cut_of, run_size}
-use Rattle.bolt_layout.specs.Items.{holds_bucket, is_inline}
-use Rattle.bolt_layout.specs.Laid.{Laid, size_of}
+use Rattle.bolt_layout.specs.Cut.{cut_of}
+use Rattle.bolt_layout.specs.Items.{is_inline}
+use Rattle.bolt_layout.specs.Laid.{Laid}
 use Rattle.bolt_layout.proofs.OneCut.{IsRunOf, joins_not, runs_cut}
 
 abbrev itself : ℕ → ℕ
@@ -16,10 +16,7 @@ itself x = x
 
 sum_same : (n x : ℕ) → sum_by itself (replicate n x) ≡ n * x
 sum_same zero x = omega arith
-sum_same (suc n) x =
-    let ih = sum_same n x in
-    let s = sum_by-cons itself x (replicate n x) in
-    let m : suc n * x ≡ x + n * x = suc-mul n x ∙ omega arith in omega arith
+sum_same (suc n) x = omega (arith, sum_by-cons, suc-mul, sum_same n x)
 
 -- 65,535 items of 20 bytes, at the largest page size
 full_page : (n : ℕ) → n ≡ 65534 → replicate n 20 ∷ (20 ∷ []) ∷ [] ≡ cut_of 33554432 1 itself (replicate n 20 ++ 20 ∷ [])
@@ -32,12 +29,8 @@ full_page n same =
     runs_cut 33554432 1 itself (items ∷ (20 ∷ []) ∷ []) (is, joins_not 33554432 1 itself items 20 (omega arith) (inr (omega arith)), (last, tt, tt))
 
 both_false : (a b : Bool) → (a && (b && false)) ≡ false
-both_false true true = refl
-both_false true false = refl
-both_false false b = refl
+both_false a b = grind arith
 
 -- 65,535 items
 full_bucket : (page_size : ℕ) (tree : Tree) (items : List (Laid LeafElement)) → length items ≡ 65535 → is_inline page_size tree items ≡ false
-full_bucket page_size tree items same =
-    let many : nat_le (length items) 65534 ≡ false = lt-leb (length items) 65534 (omega arith) in
-    rw many (both_false (not (holds_bucket tree)) (nat_le (run_size size_of items) (page_size / 4)))
+full_bucket page_size tree items same = grind (arith, lt-leb, both_false)

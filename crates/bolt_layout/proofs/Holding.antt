@@ -1,5 +1,5 @@
 -- The entries of a bucket whose pages were placed: the elements of its items, in order.
-use Rattle.std.proofs.Common.{◌≡◌, ◌∙◌, ℕ, zero, suc, ◌+◌, ◌≤◌, List, [], ◌∷◌, ◌++◌, Option, Some, slice_get, refl, sym, ap, subst, inl, inr, arith}
+use Rattle.std.proofs.Common.{◌≡◌, ◌∙◌, ℕ, zero, suc, ◌+◌, ◌≤◌, List, [], ◌∷◌, ◌++◌, Option, Some, slice_get, refl, sym, subst, inl, inr, arith}
 use Rattle.std.specs.List.{AllByRecursion, Contains}
 use Rattle.std.proofs.lemmas.List.Elements.{Contains-append_cases, Contains-append_left, Contains-append_right}
 use Rattle.bolt_format.specs.Elements.{BranchElement, LeafElement}
@@ -60,10 +60,7 @@ module _ (file : List ℕ) (meta : Meta) where
 
   leaf_entry : (number further : ℕ) (es : List LeafElement) → page_at file meta number ≡ Some (leaf_page_view further es) → (e : LeafElement)
       → IsEntry file meta (Root_page number) e → Contains es e
-  leaf_entry number further es shown e ([], m, leading, (view, seen, is, has)) =
-      let at : number ≡ m = same_number number m leading in
-      let same : leaf_page_view further es ≡ view = same_view (leaf_page_view further es) view (sym shown ∙ (ap (page_at file meta) at ∙ seen)) in
-      subst (λ (v : PageView). Contains v.leaves e) (sym same) has
+  leaf_entry number further es shown e ([], m, leading, (view, seen, is, has)) = grind (arith, same_number, same_view)
   leaf_entry number further es shown e (i ∷ address, m, leading, shows) =
       absurd (leaf_ends (node_at file meta) number i m (leaf_page_view further es) address (node_is file meta number (leaf_page_view further es) kind.Leaf shown refl) leading)
 
@@ -73,10 +70,7 @@ module _ (file : List ℕ) (meta : Meta) where
 
   branch_below : (number further : ℕ) (elements : List BranchElement) → page_at file meta number ≡ Some (branch_page_view further elements) → (e : LeafElement)
       → IsEntry file meta (Root_page number) e → IsBelowKid elements e
-  branch_below number further elements shown e ([], m, leading, (view, seen, is, has)) =
-      let at : number ≡ m = same_number number m leading in
-      let same : branch_page_view further elements ≡ view = same_view (branch_page_view further elements) view (sym shown ∙ (ap (page_at file meta) at ∙ seen)) in
-      absurd (no_leaf view.kind (ap (λ (v : PageView). v.kind) same) is)
+  branch_below number further elements shown e ([], m, leading, (view, seen, is, has)) = grind (arith, same_number, same_view, no_leaf)
   branch_below number further elements shown e (i ∷ address, m, leading, shows) =
       let view : PageView = branch_page_view further elements in
       let node = node_is file meta number view kind.Branch shown refl in
@@ -100,12 +94,7 @@ module _ (file : List ℕ) (meta : Meta) where
   no_kid i kid e = cc
 
   no_kids : KidsHold [] []
-  no_kids = record {
-    es = [];
-    are = tt;
-    each = λ e below. let (i, kid, at, more) = below in absurd (no_kid i kid at);
-    all = λ e has. absurd (contains_none e has);
-  }
+  no_kids = grind (arith, no_kid, contains_none)
 
   same_kid : (a b : BranchElement) → ◌≡◌ {A = Option BranchElement} (Some a) (Some b) → a ≡ b
   same_kid a b e = cc
@@ -173,8 +162,7 @@ module _ (file : List ℕ) (meta : Meta) where
 
   -- the page over a row holds the elements of its items
   pub over_holds : (page_size height : ℕ) (page : Laid BranchElement) (leaves : List (Laid LeafElement)) → IsOver page_size height page leaves → HoldsPage page leaves
-  over_holds page_size zero page leaves o =
-      let (e, fits) = o in subst (λ (p : Laid BranchElement). HoldsPage p leaves) (sym e) (leaf_holds page_size leaves)
+  over_holds page_size zero page leaves o = grind (arith, leaf_holds)
   over_holds page_size (suc height) page leaves o =
       let (kid, kids, e, fits, pieces) = o in
       subst (λ (p : Laid BranchElement). HoldsPage p leaves) (sym e) (branch_holds page_size height (over_holds page_size height) (kid ∷ kids) leaves pieces)

@@ -1,19 +1,18 @@
 -- What holds of a leaf item, and of a row of them: they are read back, and have room on their page.
-use Rattle.std.proofs.Common.{◌≡◌, ℕ, ◌+◌, ◌*◌, ◌<◌, ◌≤◌, List, [], ◌∷◌, ◌++◌, length, refl, ap, inl, arith, sum_by}
+use Rattle.std.proofs.Common.{◌≡◌, ℕ, ◌+◌, ◌*◌, ◌<◌, ◌≤◌, List, [], ◌∷◌, ◌++◌, length, refl, ap, arith, sum_by}
 use Rattle.std.specs.List.{AllByRecursion}
 use Rattle.std.proofs.lemmas.List.{length-append}
 use Rattle.std.proofs.lemmas.List.Sums.{sum_by-cons}
 use Rattle.bolt_format.specs.Elements.{LeafElement, value_fault}
 use Rattle.bolt_check.specs.Nodes.{Nodes, leaf_entry}
 use Rattle.bolt_check.specs.Ways.{bucket_spots, follow}
-use Rattle.bolt_layout.specs.Cut.{run_size}
 use Rattle.bolt_layout.specs.PageBytes.{leaf_data}
 use Rattle.bolt_layout.proofs.LeafLemmas.{IsLeafFit}
 use Rattle.bolt_layout.proofs.OverRows.{IsRun}
 use Rattle.bolt_layout.proofs.Parts.{IsPart}
 use Rattle.bolt_layout.proofs.PageRows.{HasRoom, IsPageFit, leaf_room, overflow_room, overflow_small}
 use Rattle.bolt_layout.specs.Laid.{Laid, elements_of, numbers_of, size_of}
-use Rattle.bolt_layout.specs.Levels.{leaf_page_view, run_overflow}
+use Rattle.bolt_layout.specs.Levels.{leaf_page_view}
 use Rattle.bolt_layout.proofs.LaidPages.{AreNodes, HasPages, limit, own_page}
 
 -- What holds of a leaf item.
@@ -50,27 +49,8 @@ items_size page_size (item ∷ items) all n =
     let d2 = length-append e.value (leaf_data (elements_of items (n + item.numbers))) in omega arith
 
 pub leaf_own_room : (page_size : ℕ) (run : List (Laid LeafElement)) → 0 < page_size → AllByRecursion (IsItem page_size) run → (n : ℕ) → HasRoom page_size (own_page leaf_page_view page_size run n)
-leaf_own_room page_size run sized all n =
-    let size = items_size page_size run all n in
-    let room = overflow_room page_size (run_size size_of run) sized (omega arith) in
-    leaf_room page_size (n + numbers_of run) (run_overflow page_size run) (elements_of run n) (omega arith)
+leaf_own_room page_size run sized all n = grind (arith, items_size, overflow_room, leaf_room)
 
 pub leaf_own : (page_size : ℕ) (run : List (Laid LeafElement)) → 0 < page_size → AllByRecursion (IsItem page_size) run → IsRun run → (n : ℕ) → 1 ≤ n → n + numbers_of run < limit
     → IsPageFit page_size (own_page leaf_page_view page_size run n)
-leaf_own page_size run sized all fits n some h =
-    let size = items_size page_size run all n in
-    let long = length-elements run n in
-    let few = fits.few in
-    let small = fits.small in
-    let room = overflow_room page_size (run_size size_of run) sized (omega arith) in
-    let narrow = overflow_small page_size (run_size size_of run) in
-    inl (record {
-      es = elements_of run n;
-      further = run_overflow page_size run;
-      is = refl;
-      few = omega arith;
-      room = omega arith;
-      small = omega arith;
-      narrow = omega arith;
-      fits = items_fit page_size run all n some (omega arith);
-    })
+leaf_own page_size run sized all fits n some h = grind (arith, items_size, length-elements, overflow_room, overflow_small, items_fit)

@@ -1,5 +1,5 @@
 -- The elements of a leaf page that was written are read back, and pass their tests.
-use Rattle.std.proofs.Common.{◌≡◌, ◌∙◌, ℕ, suc, ◌+◌, ◌-◌, ◌*◌, ◌<◌, ◌≤◌, ◌==◌, nat_lt, Bool, true, false, cond, List, [], ◌∷◌, ◌++◌, length, map, drop, take, Option, None, refl, sym, ap, arith, append_assoc, add-one}
+use Rattle.std.proofs.Common.{◌≡◌, ◌∙◌, ℕ, suc, ◌+◌, ◌-◌, ◌*◌, ◌<◌, ◌≤◌, nat_lt, Bool, true, false, cond, List, [], ◌∷◌, ◌++◌, length, map, drop, take, Option, None, refl, sym, ap, arith, append_assoc, add-one}
 use Rattle.std.specs.List.{AllByRecursion, range_with_len, slice_range}
 use Rattle.std.proofs.lemmas.Bool.{le-ltb, ne_eqb}
 use Rattle.std.proofs.lemmas.List.{length-append}
@@ -20,27 +20,19 @@ pub record IsLeafFit (bucket_fault : List ℕ → Option ℕ) (e : LeafElement) 
 
 -- its tests
 flags_pass : (b : Bool) → leaf_flags_fault (leaf_flag b) ≡ None
-flags_pass true = refl
-flags_pass false = refl
+flags_pass b = grind arith
 
 pub key_passes : (n : ℕ) → 1 ≤ n → n ≤ 0x40000000 → key_length_fault n ≡ None
-key_passes n some most =
-    let a : (n == 0) ≡ false = ne_eqb n 0 (λ e. omega arith) in
-    let b : nat_lt 0x40000000 n ≡ false = le-ltb 0x40000000 n most in
-    rw (a, b) refl
+key_passes n some most = grind (arith, ne_eqb, le-ltb)
 
 value_passes : (n : ℕ) → n ≤ 0x7FFFFFFE → value_length_fault n ≡ None
 value_passes n most = let b : nat_lt 0x7FFFFFFE n ≡ false = le-ltb 0x7FFFFFFE n most in rw b refl
 
 pub data_passes : (bytes : List ℕ) (free start end : ℕ) → free ≤ start → end ≤ length bytes → data_fault bytes free start end ≡ None
-data_passes bytes free start end first last =
-    let a : nat_lt start free ≡ false = le-ltb start free first in
-    let b : nat_lt (length bytes) end ≡ false = le-ltb (length bytes) end last in
-    rw (a, b) refl
+data_passes bytes free start end first last = grind (arith, le-ltb)
 
 chosen_none : (b : Bool) (fault : Option ℕ) → (b ≡ true → fault ≡ None) → cond b fault None ≡ None
-chosen_none true fault h = h refl
-chosen_none false fault h = refl
+chosen_none b fault h = grind arith
 
 -- What is known of element i: it is e, its data ends there, and after `free` it passes.
 record IsLeafRead (bucket_fault : List ℕ → Option ℕ) (bytes : List ℕ) (i end : ℕ) (e : LeafElement) : Type 0 where
@@ -49,9 +41,7 @@ record IsLeafRead (bucket_fault : List ℕ → Option ℕ) (bytes : List ℕ) (i
   pub passes : (free : ℕ) → free ≤ leaf_key_start bytes i → leaf_fault bucket_fault bytes free i ≡ None
 
 same_leaf : (a b : LeafElement) → a.key ≡ b.key → a.value ≡ b.value → a.is_bucket ≡ b.is_bucket → a ≡ b
-same_leaf a b p q r =
-    let f : List ℕ → List ℕ → Bool → LeafElement = λ x y z. record { key = x; value = y; is_bucket = z } in
-    ap (λ (x : List ℕ). f x a.value a.is_bucket) p ∙ (ap (λ (y : List ℕ). f b.key y a.is_bucket) q ∙ ap (f b.key b.value) r)
+same_leaf a b p q r = grind arith
 
 leaf_read : (bucket_fault : List ℕ → Option ℕ) (bytes rest : List ℕ) (i pos : ℕ) (e : LeafElement) → IsLeafHeader bytes i e.is_bucket pos (length e.key) (length e.value) → IsLeafFit bucket_fault e
     → drop (element_at i + pos) bytes ≡ e.key ++ (e.value ++ rest) → element_at i + pos ≤ length bytes
@@ -83,10 +73,7 @@ leaf_read bucket_fault bytes rest i pos e head fit text within =
 
 pub length-leaf_headers : (before : ℕ) (es : List LeafElement) → length (leaf_headers before es) ≡ 16 * length es
 length-leaf_headers before [] = refl
-length-leaf_headers before (e ∷ es) =
-    let h = length-leaf_header e.is_bucket (key_pos (e ∷ es) before) (length e.key) (length e.value) in
-    let r = length-leaf_headers (before + (length e.key + length e.value)) es in
-    length-append (leaf_header e.is_bucket (key_pos (e ∷ es) before) (length e.key) (length e.value)) (leaf_headers (before + (length e.key + length e.value)) es) ∙ omega arith
+length-leaf_headers before (e ∷ es) = grind (arith, length-leaf_header, length-append, length-leaf_headers (before + (length e.key + length e.value)) es)
 
 -- Elements es from number i on, where those before them have this much data: they are read, and pass.
 leaf_run : (bucket_fault : List ℕ → Option ℕ) (bytes : List ℕ) (es : List LeafElement) (i before free : ℕ) (tail rest : List ℕ)

@@ -1,13 +1,12 @@
 -- There is one cut of each row.
-use Rattle.std.proofs.Common.{◌≡◌, ◌≢◌, ◌∙◌, ◌⊎◌, ℕ, zero, suc, ◌+◌, ◌<◌, ◌≤◌, ◌&&◌, nat_lt, nat_le, Bool, true, false, List, [], ◌∷◌, ◌++◌, length, Some, slice_get, refl, sym, ap, subst, inl, inr, arith, append_assoc, sum_by, flat_map}
+use Rattle.std.proofs.Common.{◌≡◌, ◌≢◌, ◌∙◌, ◌⊎◌, ℕ, zero, suc, ◌+◌, ◌<◌, ◌≤◌, ◌&&◌, nat_lt, Bool, true, false, List, [], ◌∷◌, ◌++◌, length, Some, slice_get, refl, sym, ap, subst, inl, inr, arith, append_assoc, sum_by, flat_map}
 use Rattle.std.proofs.lemmas.Bool.{and_cases, cases_Bool, cases_lt, le-leb, le-ltb, leb-false, leb-true, lt-leb, lt-ltb, ltb-false, ltb-true, or_cases, or_parts, and_parts}
 use Rattle.std.proofs.lemmas.List.{append-nil, length-append, length_push}
 use Rattle.std.proofs.lemmas.List.Sums.{sum_by-append}
 use Rattle.bolt_layout.specs.Cut.{CutIsOne, IsCut, cut_from, cut_of, joins, max_items, run_size}
 
 and_no : (b : Bool) → (b && false) ≡ false
-and_no true = refl
-and_no false = refl
+and_no b = grind arith
 
 -- The test of an item, by what is known of it.
 joins_few : {X : Type 0} (page_size least : ℕ) (size : X → ℕ) (run : List X) (next : X) → length run < least → joins page_size least size run next ≡ true
@@ -15,24 +14,11 @@ joins_few page_size least size run next h = let t : nat_lt (length run) least �
 
 joins_fits : {X : Type 0} (page_size least : ℕ) (size : X → ℕ) (run : List X) (next : X) → run_size size (run ++ next ∷ []) ≤ page_size → length run < max_items
     → joins page_size least size run next ≡ true
-joins_fits page_size least size run next h k =
-    let a : nat_le (run_size size (run ++ next ∷ [])) page_size ≡ true = le-leb (run_size size (run ++ next ∷ [])) page_size h in
-    let b : nat_lt (length run) max_items ≡ true = lt-ltb (length run) max_items k in
-    elim (cases_lt (length run) least) [
-      | inl few ↦ joins_few page_size least size run next few
-      | inr more ↦ (let t : nat_lt (length run) least ≡ false = le-ltb (length run) least more in rw (t, a, b) refl)
-    ]
+joins_fits page_size least size run next h k = grind (arith, le-leb, lt-ltb, cases_lt, joins_few, le-ltb)
 
 pub joins_not : {X : Type 0} (page_size least : ℕ) (size : X → ℕ) (run : List X) (next : X) → least ≤ length run
     → (page_size < run_size size (run ++ next ∷ [])) ⊎ (length run ≡ max_items) → joins page_size least size run next ≡ false
-joins_not page_size least size run next long (inl big) =
-    let t : nat_lt (length run) least ≡ false = le-ltb (length run) least long in
-    let a : nat_le (run_size size (run ++ next ∷ [])) page_size ≡ false = lt-leb (run_size size (run ++ next ∷ [])) page_size big in
-    rw (t, a) refl
-joins_not page_size least size run next long (inr full) =
-    let t : nat_lt (length run) least ≡ false = le-ltb (length run) least long in
-    let b : nat_lt (length run) max_items ≡ false = le-ltb (length run) max_items (omega arith) in
-    rw (t, b) (and_no (nat_le (run_size size (run ++ next ∷ [])) page_size))
+joins_not page_size least size run next long is = grind (arith, le-ltb, lt-leb, and_no)
 
 -- A run that ends has as many items as it needs,
 pub ended_long : {X : Type 0} (page_size least : ℕ) (size : X → ℕ) (run : List X) (next : X) → joins page_size least size run next ≡ false → least ≤ length run
@@ -41,10 +27,7 @@ ended_long page_size least size run next f = ltb-false (length run) least (or_pa
 -- and no room for the next one.
 ended_full : {X : Type 0} (page_size least : ℕ) (size : X → ℕ) (run : List X) (next : X) → length run ≤ max_items → joins page_size least size run next ≡ false
     → (page_size < run_size size (run ++ next ∷ [])) ⊎ (length run ≡ max_items)
-ended_full page_size least size run next cap f = elim (and_cases (nat_le (run_size size (run ++ next ∷ [])) page_size) _ (or_parts (nat_lt (length run) least) _ f).1) [
-  | inl big ↦ inl (leb-false _ page_size big)
-  | inr full ↦ inr (let h = ltb-false (length run) max_items full in omega arith)
-]
+ended_full page_size least size run next cap f = grind (arith, and_cases, or_parts, leb-false, ltb-false)
 
 -- A cut by recursion over the runs: each is one that a page can hold, and ends where the first item of the next doesn't join it.
 pub record IsRunOf {X : Type 0} (page_size least : ℕ) (size : X → ℕ) (run : List X) : Type 0 where
@@ -63,8 +46,7 @@ AreRuns page_size least size (run ∷ runs) = IsRunOf page_size least size run �
 
 -- so each run but the last has as many items as it needs
 pub first_long : {X : Type 0} (page_size least : ℕ) (size : X → ℕ) (run next : List X) (runs : List (List X)) → AreRuns page_size least size (run ∷ next ∷ runs) → least ≤ length run
-first_long page_size least size run [] runs are = absurd are.1
-first_long page_size least size run (x ∷ next) runs are = ended_long page_size least size run x are.1
+first_long page_size least size run next runs are = grind (arith, ended_long)
 
 -- It is the one that is computed: a run that fits is taken whole.
 absorb : {X : Type 0} (page_size least : ℕ) (size : X → ℕ) (run xs tail : List X) → (least < length (run ++ xs) → run_size size (run ++ xs) ≤ page_size) → length (run ++ xs) ≤ max_items
@@ -84,16 +66,12 @@ absorb {X = X} page_size least size run (x ∷ xs) tail fits cap =
 
 runs_from : {X : Type 0} (page_size least : ℕ) (size : X → ℕ) (run : List X) (runs : List (List X)) → Ends page_size least size run runs
     → runs ≡ cut_of page_size least size (flat_map (λ r. r) runs) → cut_from page_size least size run (flat_map (λ r. r) runs) ≡ run ∷ runs
-runs_from page_size least size run [] ends rest = refl
-runs_from page_size least size run ([] ∷ runs) ends rest = absurd ends
-runs_from {X = X} page_size least size run ((next ∷ more) ∷ runs) ends rest = rw ends (ap (λ (rs : List (List X)). run ∷ rs) (sym rest))
+runs_from page_size least size run runs ends rest = grind arith
 
 pub runs_cut : {X : Type 0} (page_size least : ℕ) (size : X → ℕ) (runs : List (List X)) → AreRuns page_size least size runs → runs ≡ cut_of page_size least size (flat_map (λ r. r) runs)
 runs_cut page_size least size [] are = refl
 runs_cut page_size least size ([] ∷ runs) are = absurd (let some = are.0.some in omega arith)
-runs_cut page_size least size ((x ∷ xs) ∷ runs) are =
-    sym (absorb page_size least size (x ∷ []) xs (flat_map (λ r. r) runs) are.0.fits are.0.cap
-    ∙ runs_from page_size least size (x ∷ xs) runs are.1 (runs_cut page_size least size runs are.2))
+runs_cut page_size least size ((x ∷ xs) ∷ runs) are = grind (arith, absorb, runs_from, runs_cut page_size least size runs are.2)
 
 -- And the one that is computed is such a cut.
 single_run : {X : Type 0} (page_size least : ℕ) (size : X → ℕ) (next : X) → 1 ≤ least → IsRunOf page_size least size (next ∷ [])
@@ -101,23 +79,12 @@ single_run page_size least size next some = record { some = omega arith; fits = 
 
 joined_run : {X : Type 0} (page_size least : ℕ) (size : X → ℕ) (run : List X) (next : X) → least ≤ max_items → joins page_size least size run next ≡ true
     → IsRunOf page_size least size (run ++ next ∷ [])
-joined_run page_size least size run next cap t =
-    let long = length_push run next in
-    elim (or_cases (nat_lt (length run) least) _ t) [
-      | inl few ↦ (let h = ltb-true (length run) least few in record { some = omega arith; fits = λ k. absurd (omega arith); cap = omega arith })
-      | inr fits ↦
-          (let both = and_parts (nat_le (run_size size (run ++ next ∷ [])) page_size) _ fits in
-          let h = leb-true _ page_size both.0 in
-          let k = ltb-true (length run) max_items both.1 in record { some = omega arith; fits = λ _. h; cap = omega arith })
-    ]
+joined_run page_size least size run next cap t = grind (arith, length_push, or_cases, ltb-true, and_parts, leb-true)
 
 ends_from : {X : Type 0} (page_size least : ℕ) (size : X → ℕ) (run : List X) (next : X) (more items : List X) → joins page_size least size run next ≡ false
     → Ends page_size least size run (cut_from page_size least size (next ∷ more) items)
 ends_from page_size least size run next more [] f = f
-ends_from page_size least size run next more (x ∷ items) f = elim (cases_Bool (joins page_size least size (next ∷ more) x)) [
-  | inl t ↦ rw t (ends_from page_size least size run next (more ++ x ∷ []) items f)
-  | inr u ↦ rw u f
-]
+ends_from page_size least size run next more (x ∷ items) f = grind (arith, ends_from page_size least size run next (more ++ x ∷ []) items f)
 
 cut_from_runs : {X : Type 0} (page_size least : ℕ) (size : X → ℕ) (run items : List X) → 1 ≤ least → least ≤ max_items → IsRunOf page_size least size run
     → AreRuns page_size least size (cut_from page_size least size run items)
@@ -128,19 +95,14 @@ cut_from_runs page_size least size run (next ∷ items) some cap is = elim (case
 ]
 
 pub cut_runs : {X : Type 0} (page_size least : ℕ) (size : X → ℕ) (items : List X) → 1 ≤ least → least ≤ max_items → AreRuns page_size least size (cut_of page_size least size items)
-cut_runs page_size least size [] some cap = tt
-cut_runs page_size least size (x ∷ items) some cap = cut_from_runs page_size least size (x ∷ []) items some cap (single_run page_size least size x some)
+cut_runs page_size least size items some cap = grind (arith, cut_from_runs, single_run)
 
 cut_from_whole : {X : Type 0} (page_size least : ℕ) (size : X → ℕ) (run items : List X) → flat_map (λ r. r) (cut_from page_size least size run items) ≡ run ++ items
 cut_from_whole page_size least size run [] = refl
-cut_from_whole {X = X} page_size least size run (next ∷ items) = elim (cases_Bool (joins page_size least size run next)) [
-  | inl t ↦ rw t (cut_from_whole page_size least size (run ++ next ∷ []) items ∙ append_assoc run (next ∷ []) items)
-  | inr f ↦ rw f (ap (λ (xs : List X). run ++ xs) (cut_from_whole page_size least size (next ∷ []) items))
-]
+cut_from_whole {X = X} page_size least size run (next ∷ items) = grind (arith, append_assoc, cut_from_whole page_size least size (run ++ next ∷ []) items, cut_from_whole page_size least size (next ∷ []) items)
 
 pub cut_whole : {X : Type 0} (page_size least : ℕ) (size : X → ℕ) (items : List X) → flat_map (λ r. r) (cut_of page_size least size items) ≡ items
-cut_whole page_size least size [] = refl
-cut_whole page_size least size (x ∷ items) = cut_from_whole page_size least size (x ∷ []) items
+cut_whole page_size least size items = grind (arith, cut_from_whole)
 
 -- The same by the numbers of the runs.
 run_at : {X : Type 0} (page_size least : ℕ) (size : X → ℕ) (runs : List (List X)) → AreRuns page_size least size runs → (i : ℕ) (run : List X) → slice_get runs i ≡ Some run
@@ -154,9 +116,7 @@ end_at : {X : Type 0} (page_size least : ℕ) (size : X → ℕ) (runs : List (L
 end_at page_size least size [] are i run next more e f = absurd (cc)
 end_at page_size least size (first ∷ []) are zero run next more e f = absurd (cc)
 end_at page_size least size (first ∷ [] ∷ runs) are zero run next more e f = absurd are.1
-end_at page_size least size (first ∷ (x ∷ xs) ∷ runs) are zero run next more e f =
-    let here : first ≡ run = cc in
-    let there : x ≡ next = cc in rw (sym here, sym there) are.1
+end_at page_size least size (first ∷ (x ∷ xs) ∷ runs) are zero run next more e f = grind arith
 end_at page_size least size (first ∷ runs) are (suc i) run next more e f = end_at page_size least size runs are.2 i run next more e f
 
 long_at : {X : Type 0} (page_size least : ℕ) (size : X → ℕ) (runs : List (List X)) → AreRuns page_size least size runs → (i : ℕ) (run next : List X)
@@ -165,8 +125,7 @@ long_at page_size least size runs are i run [] e f = absurd (let some = (run_at 
 long_at page_size least size runs are i run (next ∷ more) e f = ended_long page_size least size run next (end_at page_size least size runs are i run next more e f)
 
 not_empty : {X : Type 0} (run : List X) → 1 ≤ length run → run ≢ []
-not_empty [] some e = absurd (omega arith)
-not_empty (x ∷ run) some e = cc
+not_empty run some e = grind arith
 
 runs_are_cut : {X : Type 0} (page_size least : ℕ) (size : X → ℕ) (items : List X) (runs : List (List X)) → flat_map (λ r. r) runs ≡ items → AreRuns page_size least size runs
     → IsCut page_size least size items runs
@@ -204,7 +163,4 @@ cut_are_runs page_size least size items (run ∷ runs) is = (
 )
 
 pub cut_is_one : (X : Type 0) → CutIsOne X
-cut_is_one X page_size least size items runs some cap = (
-  λ is. runs_cut page_size least size runs (cut_are_runs page_size least size items runs is) ∙ ap (cut_of page_size least size) is.whole,
-  λ e. subst (IsCut page_size least size items) (sym e) (runs_are_cut page_size least size items (cut_of page_size least size items) (cut_whole page_size least size items) (cut_runs page_size least size items some cap)),
-)
+cut_is_one X page_size least size items runs some cap = grind (arith, runs_cut, cut_are_runs, runs_are_cut, cut_whole, cut_runs)

@@ -1,11 +1,10 @@
 -- Pages in a row: each begins where the span of the one before it ends. In the file each shows what was written.
-use Rattle.std.proofs.Common.{◌≡◌, ◌∙◌, ◌⊎◌, ℕ, ◌+◌, ◌-◌, ◌*◌, ◌^◌, ◌/◌, ◌<◌, ◌≤◌, List, [], ◌∷◌, ◌++◌, length, drop, replicate, refl, sym, ap, subst, inl, inr, arith, append_assoc}
+use Rattle.std.proofs.Common.{◌≡◌, ◌∙◌, ◌⊎◌, ℕ, ◌+◌, ◌-◌, ◌*◌, ◌^◌, ◌<◌, ◌≤◌, List, [], ◌∷◌, ◌++◌, length, drop, refl, sym, ap, subst, arith, append_assoc}
 use Rattle.std.specs.List.{AllByRecursion}
 use Rattle.std.proofs.Math.Nat.{add-mul, div-add-mod', div-le_self, mod-lt}
 use Rattle.bolt_format.specs.Elements.{BranchElement, LeafElement, value_fault}
 use Rattle.bolt_format.specs.Pages.{PageView}
 use Rattle.bolt_format.specs.declared.kind.Kind.{Kind}
-use Rattle.bolt_format.specs.declared.kind.Kind.TheVariants as kind
 use Rattle.bolt_format.specs.declared.meta.Meta.{Meta}
 use Rattle.bolt_layout.specs.PageBytes.{branch_data, branch_bytes, content_bytes, leaf_bytes, leaf_data, page_bytes}
 use Rattle.bolt_format.specs.Written.{header_bytes}
@@ -22,11 +21,7 @@ use Rattle.bolt_layout.specs.Levels.{branch_page_view, leaf_page_view, overflow_
 -- Room on a page: the least overflow.
 pub overflow_room : (page_size size : ℕ) → 0 < page_size → 0 < size → size ≤ (1 + overflow_of page_size size) * page_size
 unfolding overflow_of
-overflow_room page_size size some any =
-    let q : ℕ = (size - 1) / page_size in
-    let split = div-add-mod' (size - 1) page_size in
-    let rest = mod-lt (size - 1) some in
-    let e = add-mul 1 q page_size in omega arith
+overflow_room page_size size some any = omega (arith, div-add-mod', mod-lt, add-mul)
 
 pub overflow_small : (page_size size : ℕ) → overflow_of page_size size ≤ size
 unfolding overflow_of
@@ -55,8 +50,7 @@ IsPageFit page_size page = IsLeafPage page_size page.view ⊎ IsBranchPage page_
 -- what holds of a leaf page and of a branch page
 by_kind : (page_size : ℕ) (page : Placed) (P : PageView → Type 0) → ((leaf : IsLeafPage page_size page.view) → P (leaf_page_view leaf.further leaf.es))
     → ((branch : IsBranchPage page_size page.view) → P (branch_page_view branch.further branch.es)) → IsPageFit page_size page → P page.view
-by_kind page_size page P of_leaf of_branch (inl leaf) = subst P (sym leaf.is) (of_leaf leaf)
-by_kind page_size page P of_leaf of_branch (inr branch) = subst P (sym branch.is) (of_branch branch)
+by_kind page_size page P of_leaf of_branch is = grind arith
 
 -- A page has room for what stands on it,
 abbrev pub HasRoom : ℕ → Placed → Type 0
@@ -64,22 +58,14 @@ HasRoom page_size page = length (content_bytes page.view.kind page.number page.v
 
 pub leaf_room : (page_size number further : ℕ) (es : List LeafElement) → 16 + (16 * length es + length (leaf_data es)) ≤ (1 + further) * page_size
     → HasRoom page_size (record { number = number; view = leaf_page_view further es })
-leaf_room page_size number further es room =
-    let a = length-header_bytes number kind.Leaf (length es) further in
-    let b = length-leaf_bytes es in
-    let c = length-append (header_bytes number kind.Leaf (length es) further) (leaf_bytes es) in omega arith
+leaf_room page_size number further es room = grind (arith, length-header_bytes, length-leaf_bytes, length-append)
 
 pub branch_room : (page_size number further : ℕ) (es : List BranchElement) → 16 + (16 * length es + length (branch_data es)) ≤ (1 + further) * page_size
     → HasRoom page_size (record { number = number; view = branch_page_view further es })
-branch_room page_size number further es room =
-    let a = length-header_bytes number kind.Branch (length es) further in
-    let b = length-branch_bytes es in
-    let c = length-append (header_bytes number kind.Branch (length es) further) (branch_bytes es) in omega arith
+branch_room page_size number further es room = grind (arith, length-header_bytes, length-branch_bytes, length-append)
 
 fit_room : (page_size : ℕ) (page : Placed) → IsPageFit page_size page → HasRoom page_size page
-fit_room page_size page =
-    by_kind page_size page (λ view. HasRoom page_size (record { number = page.number; view = view })) (λ leaf. leaf_room page_size page.number leaf.further leaf.es leaf.room)
-    (λ branch. branch_room page_size page.number branch.further branch.es branch.room)
+fit_room page_size page = grind (arith, by_kind, leaf_room, branch_room)
 
 -- and so it takes as many bytes as its span.
 length-page : (page_size : ℕ) (page : Placed) → HasRoom page_size page → length (page_bytes page_size page.number page.view) ≡ (1 + page.view.overflow) * page_size
@@ -133,11 +119,7 @@ row_shown file meta from to (page ∷ pages) rest row fits h within below small 
 pub length-placed : (page_size from to : ℕ) (pages : List Placed) → IsInARow from pages to → AllByRecursion (HasRoom page_size) pages
     → length (placed_bytes page_size pages) + from * page_size ≡ to * page_size
 length-placed page_size from to [] row fits = let e = ap (λ (n : ℕ). n * page_size) row in omega arith
-length-placed page_size from to (page ∷ pages) row fits =
-    let ih = length-placed page_size (from + (1 + page.view.overflow)) to pages row.1 fits.1 in
-    let long = length-page page_size page fits.0 in
-    let end : (from + (1 + page.view.overflow)) * page_size ≡ from * page_size + (1 + page.view.overflow) * page_size = add-mul from (1 + page.view.overflow) page_size in
-    let l = length-append (page_bytes page_size page.number page.view) (placed_bytes page_size pages) in omega arith
+length-placed page_size from to (page ∷ pages) row fits = grind (arith, length-page, add-mul, length-append, length-placed page_size (from + (1 + page.view.overflow)) to pages row.1 fits.1)
 
 -- The last page of a row ends where the row does,
 pub row_last : (from to : ℕ) (front : List Placed) (own : Placed) → IsInARow from (front ++ own ∷ []) to → own.number + (1 + own.view.overflow) ≡ to
@@ -148,8 +130,7 @@ row_last from to (page ∷ front) own row = row_last (from + (1 + page.view.over
 pub last_written : (file : List ℕ) (page_size from to : ℕ) (front : List Placed) (own : Placed) (rest : List ℕ) → IsInARow from (front ++ own ∷ []) to
     → AllByRecursion (IsPageFit page_size) (front ++ own ∷ []) → drop (from * page_size) file ≡ placed_bytes page_size (front ++ own ∷ []) ++ rest
     → IsPageFit page_size own × (drop (own.number * page_size) file ≡ page_bytes page_size own.number own.view ++ rest)
-last_written file page_size from to [] own rest row fits h =
-    (fits.0, ap (λ (n : ℕ). drop (n * page_size) file) row.0 ∙ (h ∙ (append_assoc (page_bytes page_size own.number own.view) [] rest)))
+last_written file page_size from to [] own rest row fits h = grind (arith, append_assoc)
 last_written file page_size from to (page ∷ front) own rest row fits h =
     let long = length-page page_size page (fit_room page_size page fits.0) in
     let h2 = h ∙ append_assoc (page_bytes page_size page.number page.view) (placed_bytes page_size (front ++ own ∷ [])) rest in
@@ -169,17 +150,7 @@ pub record IsHeaded (bytes : List ℕ) (page : Placed) : Type 0 where
 view_headed : (page_size number : ℕ) (view : PageView) (own rest : List ℕ) → content_bytes view.kind number view ≡ header_bytes number view.kind view.count view.overflow ++ own → view.count < 256 ^ 2 → view.overflow < 256 ^ 4
     → IsHeaded (page_bytes page_size number view ++ rest) (record { number = number; view = view })
 unfolding page_bytes
-view_headed page_size number view own rest same few narrow =
-    let content : List ℕ = content_bytes view.kind number view in
-    let zeros : List ℕ = replicate ((1 + view.overflow) * page_size - length content) 0 in
-    record {
-      is = view.kind;
-      n = view.count;
-      behind = own ++ (zeros ++ rest);
-      begins = append_assoc content zeros rest ∙ ap (λ (t : List ℕ). t ++ (zeros ++ rest)) same ∙ append_assoc (header_bytes number view.kind view.count view.overflow) own (zeros ++ rest);
-      few = few;
-      narrow = narrow;
-    }
+view_headed page_size number view own rest same few narrow = grind (arith, append_assoc)
 
 pub page_headed : (page_size : ℕ) (page : Placed) (rest : List ℕ) → IsPageFit page_size page → IsHeaded (page_bytes page_size page.number page.view ++ rest) page
 page_headed page_size page rest =

@@ -1,9 +1,9 @@
 -- A part of a tree of pages: what is reached passes the tests, and its spans fill a row of page numbers, each once.
-use Rattle.std.proofs.Common.{◌≡◌, ◌∙◌, ℕ, zero, suc, ◌+◌, ◌<◌, ◌≤◌, List, [], ◌∷◌, Option, Some, None, Result, Ok, refl, sym, ap, subst, inl, inr, arith}
+use Rattle.std.proofs.Common.{◌≡◌, ◌∙◌, ℕ, zero, suc, ◌+◌, ◌<◌, ◌≤◌, List, [], ◌∷◌, Option, Some, None, Result, Ok, refl, sym, subst, inl, inr, arith}
 use Rattle.std.proofs.lemmas.Bool.{cases_lt}
 use Rattle.bolt_check.specs.Nodes.{IsInSpan, Node, Nodes}
 use Rattle.bolt_check.specs.Keys.{Key}
-use Rattle.bolt_check.specs.Ways.{At_inline, At_page, Before, PageSpot, SpanHas, SpanOf, Spot, follow, reached, root_spot}
+use Rattle.bolt_check.specs.Ways.{At_inline, At_page, Before, PageSpot, SpanHas, SpanOf, Spot, follow, reached}
 use Rattle.bolt_check.proofs.WayOrder.{before_irreflexive}
 use Rattle.bolt_check.specs.Findings.{IsClaimedBefore, IsClean, IsMetaPage, Passes, node_finding, early_finding, inline_finding}
 use Rattle.bolt_check.proofs.Forest.{follow_none}
@@ -30,13 +30,7 @@ pub record IsPart (nodes : Nodes) (at : List ℕ → Option Spot) (from to : ℕ
 -- what takes no page
 part_empty : (nodes : Nodes) (at : List ℕ → Option Spot) (from to : ℕ) → from ≡ to → ((way : List ℕ) (t : Spot) → at way ≡ Some t → IsFine nodes t)
     → ((way : List ℕ) (n : ℕ) → SpanHas nodes (at way) n → ⊥) → IsPart nodes at from to
-part_empty nodes at from to same passes none = record {
-  order = omega arith;
-  passes = passes;
-  apart = λ v w n s t. absurd (none v n s);
-  inside = λ way n s. absurd (none way n s);
-  whole = λ n low high. absurd (omega arith);
-}
+part_empty nodes at from to same passes none = grind arith
 
 nothing : (nodes : Nodes) (way : List ℕ) (n : ℕ) → SpanHas nodes (follow nodes None way) n → ⊥
 nothing nodes way n h = let none : SpanHas nodes None n = subst (λ (o : Option Spot). SpanHas nodes o n) (follow_none nodes way) h in none
@@ -58,8 +52,7 @@ inline_passes nodes host keys fine [] t e = let same : At_inline host keys ≡ t
 inline_passes nodes host keys fine (i ∷ way) t e = absurd (none_some nodes way t e)
 
 pub part_inline : (nodes : Nodes) (host from to : ℕ) (keys : List Key) → from ≡ to → inline_finding host keys ≡ None → IsPart nodes (follow nodes (Some (At_inline host keys))) from to
-part_inline nodes host from to keys same fine =
-    part_empty nodes (follow nodes (Some (At_inline host keys))) from to same (inline_passes nodes host keys fine) (inline_nothing nodes host keys)
+part_inline nodes host from to keys same fine = grind (arith, part_empty, inline_passes, inline_nothing)
 
 -- The ways from a row of spots: the number of one, and on from it.
 abbrev pub kids_at : Nodes → List (Option Spot) → List ℕ → Option Spot
@@ -79,22 +72,13 @@ kid_way nodes (o ∷ os) (j ∷ way) n s = (j, way, s)
 -- a part, and then those after it
 module _ (nodes : Nodes) (o : Option Spot) (os : List (Option Spot)) (from mid to : ℕ) (first : IsPart nodes (follow nodes o) from mid) (rest : IsPart nodes (kids_at nodes os) mid to) where
   more_passes : (way : List ℕ) (t : Spot) → kids_at nodes (o ∷ os) way ≡ Some t → IsFine nodes t
-  more_passes [] t e = absurd (cc)
-  more_passes (zero ∷ way) t e = first.passes way t e
-  more_passes (suc j ∷ way) t e = rest.passes (j ∷ way) t e
+  more_passes way t e = grind arith
 
   more_inside : (way : List ℕ) (n : ℕ) → SpanHas nodes (kids_at nodes (o ∷ os) way) n → (from ≤ n) × (n < to)
-  more_inside [] n s = absurd s
-  more_inside (zero ∷ way) n s = let i = first.inside way n s in let a = rest.order in (omega arith, omega arith)
-  more_inside (suc j ∷ way) n s = let i = rest.inside (j ∷ way) n s in let a = first.order in (omega arith, omega arith)
+  more_inside way n s = grind arith
 
   more_apart : (v w : List ℕ) (n : ℕ) → SpanHas nodes (kids_at nodes (o ∷ os) v) n → SpanHas nodes (kids_at nodes (o ∷ os) w) n → v ≡ w
-  more_apart [] w n s t = absurd s
-  more_apart (i ∷ v) [] n s t = absurd t
-  more_apart (zero ∷ v) (zero ∷ w) n s t = ap (λ (way : List ℕ). 0 ∷ way) (first.apart v w n s t)
-  more_apart (zero ∷ v) (suc j ∷ w) n s t = absurd (let a = first.inside v n s in let b = rest.inside (j ∷ w) n t in omega arith)
-  more_apart (suc i ∷ v) (zero ∷ w) n s t = absurd (let a = rest.inside (i ∷ v) n s in let b = first.inside w n t in omega arith)
-  more_apart (suc i ∷ v) (suc j ∷ w) n s t = let same : i ∷ v ≡ j ∷ w = rest.apart (i ∷ v) (j ∷ w) n s t in cc
+  more_apart v w n s t = grind arith
 
   pub more_kids : IsPart nodes (kids_at nodes (o ∷ os)) from to
   more_kids = record {

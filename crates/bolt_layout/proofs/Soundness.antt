@@ -39,9 +39,7 @@ use Rattle.bolt_layout.specs.declared.layout.Layout.{Layout}
 -- How long the pieces are.
 length-meta_page : (page_size root sequence mark txid : ℕ) → 80 ≤ page_size → length (meta_page page_size root sequence mark txid) ≡ page_size
 unfolding meta_page
-length-meta_page page_size root sequence mark txid room =
-    let a = length-meta_bytes txid (copy_meta page_size root sequence mark txid) in
-    length-filled page_size (meta_bytes txid (copy_meta page_size root sequence mark txid)) (omega arith)
+length-meta_page page_size root sequence mark txid room = grind (arith, length-meta_bytes, length-filled)
 
 -- a meta page begins with its record
 meta_begins : (page_size root sequence mark txid : ℕ) (rest : List ℕ) → (behind : List ℕ) × (meta_page page_size root sequence mark txid ++ rest ≡ meta_bytes txid (copy_meta page_size root sequence mark txid) ++ behind)
@@ -68,18 +66,7 @@ pub record IsFile (page_size root sequence mark : ℕ) (pages : List Placed) (fi
 
 length-file_bytes : (page_size root sequence mark : ℕ) (pages : List Placed) → IsPageSize page_size
     → length (file_bytes page_size root sequence mark pages) ≡ 3 * page_size + length (placed_bytes page_size pages)
-length-file_bytes page_size root sequence mark pages size =
-    let bounds = size_bounds page_size size in
-    let m0 : List ℕ = meta_page page_size root sequence mark 0 in
-    let m1 : List ℕ = meta_page page_size root sequence mark 1 in
-    let fl : List ℕ = freelist_page page_size 2 in
-    let rest : List ℕ = placed_bytes page_size pages in
-    let l0 = length-meta_page page_size root sequence mark 0 (omega arith) in
-    let l1 = length-meta_page page_size root sequence mark 1 (omega arith) in
-    let l2 = length-freelist_page page_size 2 (omega arith) in
-    let a = length-append m0 (m1 ++ (fl ++ rest)) in
-    let b = length-append m1 (fl ++ rest) in
-    let c = length-append fl rest in omega arith
+length-file_bytes page_size root sequence mark pages size = grind (arith, size_bounds, length-meta_page, length-freelist_page, length-append)
 
 pub pieces_stand : (page_size root sequence mark : ℕ) (pages : List Placed) → IsPageSize page_size → root < 256 ^ 8 → sequence < 256 ^ 8 → mark < 256 ^ 8
     → IsFile page_size root sequence mark pages (file_bytes page_size root sequence mark pages)

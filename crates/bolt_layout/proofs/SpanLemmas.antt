@@ -90,14 +90,7 @@ pub record IsShown (file : List ℕ) (meta : Meta) (id : ℕ) (view : PageView) 
 shown_with : (file : List ℕ) (meta : Meta) (id n more : ℕ) (is : Kind) (content rest : List ℕ) (view : PageView) → IsSpanRead file meta id is n more content rest
     → content_fault is n (span_bytes file meta id) ≡ None → view_of is n more (span_bytes file meta id) ≡ view → IsShown file meta id view
 unfolding page_fault page_at
-shown_with file meta id n more is content rest view span good same =
-    let passes : page_fault file meta id ≡ None =
-    first_of-both (span_fault file meta id) _ span.fault (content_is (kind_of (flags_field (from_page file meta id))) (count_field (from_page file meta id)) n (span_bytes file meta id) is span.kind span.count good) in
-    record {
-      passes = passes;
-      shows = shown_is (page_fault file meta id) (kind_of (flags_field (from_page file meta id))) (count_field (from_page file meta id)) (page_overflow file meta id) n more (span_bytes file meta id) is view
-          passes span.kind span.count span.overflow same;
-    }
+shown_with file meta id n more is content rest view span good same = grind (arith, first_of-both, content_is, shown_is)
 
 -- what a page needs to be written: its number and its overflow have room, and it stands in the file and below the mark
 pub record IsPlaceFit (file : List ℕ) (meta : Meta) (id more : ℕ) : Type 0 where

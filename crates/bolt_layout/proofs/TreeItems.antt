@@ -1,5 +1,5 @@
 -- The items of a tree are read back, have room, and are parts of a sound tree of pages.
-use Rattle.std.proofs.Common.{◌≡◌, ◌∙◌, ℕ, ◌+◌, ◌*◌, ◌/◌, ◌^◌, ◌<◌, ◌≤◌, ◌==◌, not, nat_le, Bool, true, false, List, [], ◌∷◌, ◌++◌, length, map, Option, Some, None, refl, sym, ap, subst, arith}
+use Rattle.std.proofs.Common.{◌≡◌, ◌∙◌, ℕ, ◌+◌, ◌*◌, ◌/◌, ◌^◌, ◌<◌, ◌≤◌, ◌==◌, not, nat_le, Bool, true, false, List, [], ◌∷◌, length, map, Option, Some, None, refl, sym, ap, subst, arith}
 use Rattle.std.specs.Ordering.{is_lt}
 use Rattle.std.specs.List.{AllByRecursion}
 use Rattle.std.proofs.lemmas.Bool.{and_parts, eq-eqb, leb-true, ne_eqb, not-true}
@@ -11,8 +11,8 @@ use Rattle.bolt_check.specs.Nodes.{leaf_entry}
 use Rattle.bolt_check.specs.Ways.{At_inline, At_page, Spot, bucket_spots, follow, root_spot}
 use Rattle.bolt_check.specs.Findings.{inline_finding, keys_of, finding_of}
 use Rattle.bolt_layout.specs.Cut.{max_items, run_size}
-use Rattle.bolt_format.specs.Written.{header_bytes, head_bytes}
-use Rattle.bolt_layout.specs.PageBytes.{inline_value, leaf_bytes, leaf_data}
+use Rattle.bolt_format.specs.Written.{head_bytes}
+use Rattle.bolt_layout.specs.PageBytes.{inline_value, leaf_data}
 use Rattle.bolt_layout.proofs.InlineLemmas.{IsFlat, inline_written}
 use Rattle.bolt_format.proofs.WrittenHeaders.{head_written, length-header_bytes, length-head_bytes, root_passes}
 use Rattle.bolt_layout.proofs.SpanLemmas.{length-leaf_bytes}
@@ -23,7 +23,6 @@ use Rattle.bolt_layout.proofs.Parts.{IsPart, part_inline, part_none}
 use Rattle.bolt_tree.specs.Order.{IsBelow, Rises}
 use Rattle.bolt_tree.proofs.Lists.{contains_head, contains_tail}
 use Rattle.bolt_format.proofs.PageSizes.{largest_page}
-use Rattle.bolt_format.specs.declared.kind.Kind.TheVariants as kind
 use Rattle.bolt_layout.proofs.LaidPages.{limit}
 use Rattle.bolt_layout.proofs.LaidItems.{IsItem, items_size, length-elements}
 use Rattle.bolt_layout.proofs.LeafPages.{IsPage, above_none, items_keys}
@@ -51,8 +50,7 @@ value_item page_size key value some short sized = record {
 -- an inline bucket
 flat_elements : (which : Layout) (page_size : ℕ) (tree : Tree) → holds_bucket tree ≡ false → HasLengths tree → (n : ℕ) → AllByRecursion IsFlat (elements_of (items_of which page_size tree) n)
 flat_elements which page_size end none lengths n = tt
-flat_elements which page_size (with_value key value after) none lengths n =
-    (record { some = lengths.0.0; key = lengths.0.1; value = lengths.1; flat = refl }, flat_elements which page_size after none lengths.2 (n + 0))
+flat_elements which page_size (with_value key value after) none lengths n = grind (arith, flat_elements which page_size after none lengths.2 (n + 0))
 flat_elements which page_size (with_bucket key sequence inside after) none lengths n = absurd (cc)
 
 keys_same : (es : List LeafElement) → keys_of (map leaf_entry es) ≡ map (λ (e : LeafElement). e.key) es
@@ -65,12 +63,7 @@ within_none (item ∷ items) = ((refl, refl), within_none items)
 
 length-inline_value : (sequence : ℕ) (es : List LeafElement) → length (inline_value sequence es) ≡ 32 + (16 * length es + length (leaf_data es))
 unfolding inline_value
-length-inline_value sequence es =
-    let a = length-head_bytes 0 sequence in
-    let b = length-header_bytes 0 kind.Leaf (length es) 0 in
-    let c = length-leaf_bytes es in
-    let d = length-append (head_bytes 0 sequence) (header_bytes 0 kind.Leaf (length es) 0 ++ leaf_bytes es) in
-    let e = length-append (header_bytes 0 kind.Leaf (length es) 0) (leaf_bytes es) in omega arith
+length-inline_value sequence es = grind (arith, length-head_bytes, length-header_bytes, length-leaf_bytes, length-append)
 
 inline_spot : (host : ℕ) (e : LeafElement) (keys : List Key) → e.is_bucket ≡ true → head_root e.value ≡ 0 → map (λ (i : LeafElement). i.key) (inline_elements e.value) ≡ keys
     → bucket_spots host (leaf_entry e) ≡ Some (At_inline host keys)
@@ -174,8 +167,7 @@ root_item which page_size key sequence items sized small some short narrow all r
 -- the items of a tree
 stored_key : (which : Layout) (page_size : ℕ) (key : List ℕ) (sequence : ℕ) (inside : Tree) (items : List (Laid LeafElement)) (b : Bool) → is_inline page_size inside items ≡ b
     → (stored_bucket which page_size key sequence inside items).key ≡ key
-stored_key which page_size key sequence inside items true e = rw e refl
-stored_key which page_size key sequence inside items false e = rw e refl
+stored_key which page_size key sequence inside items b e = grind arith
 
 keys_below : (which : Layout) (page_size : ℕ) (key : Key) (tree : Tree) → IsBelow key_cmp key (keys_in tree) → (x : Laid LeafElement) → x.key ≡ key
     → AllByRecursion (IsBelowItem x) (items_of which page_size tree)
