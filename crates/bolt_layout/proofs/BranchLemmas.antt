@@ -10,7 +10,6 @@ use Rattle.bolt_format.proofs.NumberLemmas.{part_next, part_read, part_within}
 use Rattle.bolt_format.proofs.FaultLemmas.{first_of-both}
 use Rattle.bolt_format.specs.ReadBack.{IsBranchHeader}
 use Rattle.bolt_format.proofs.WrittenHeaders.{branch_header_written, length-branch_header}
-use Rattle.bolt_layout.proofs.LeafLemmas.{data_passes, key_passes}
 
 pub record IsBranchFit (e : BranchElement) : Type 0 where
   pub some : 1 ≤ length e.key
@@ -30,7 +29,7 @@ branch_read : (bytes rest : List ℕ) (i pos : ℕ) (e : BranchElement) → IsBr
     → drop (element_at i + pos) bytes ≡ e.key ++ rest → element_at i + pos ≤ length bytes
     → IsBranchRead bytes i (element_at i + pos + length e.key) e
 unfolding branch_fault
-branch_read bytes rest i pos e head fit text within = grind (arith, part_within, part_read, same_branch, first_of-both, key_passes, data_passes)
+branch_read bytes rest i pos e head fit text within = grind (arith, part_within, part_read, same_branch, first_of-both)
 
 pub length-branch_headers : (before : ℕ) (es : List BranchElement) → length (branch_headers before es) ≡ 16 * length es
 length-branch_headers before [] = refl
@@ -60,13 +59,9 @@ branch_run bytes (e ∷ es) i before free tail rest heads text fits small within
     let within_key = part_within bytes e.key (branch_data es ++ rest) (element_at i + pos) here (omega arith) in
     let behind : drop (element_at (suc i + length es) + (before + length e.key)) bytes ≡ branch_data es ++ rest =
     part_next bytes e.key (branch_data es ++ rest) (element_at i + pos) _ here (omega arith) in
-    let ends = one.ends in
     let more = branch_run bytes es (suc i) (before + length e.key) (branch_end bytes i) tail rest next behind fits.1 (omega arith) (omega arith) (omega arith) in
-    let start = head.0.start in
-    let elements : map (branch_element bytes) (range_with_len (i + 1) (length es)) ≡ es = ap (λ (k : ℕ). map (branch_element bytes) (range_with_len k (length es))) (add-one i) ∙ more.0 in (
-      ap (λ (x : BranchElement). x ∷ map (branch_element bytes) (range_with_len (i + 1) (length es))) one.element ∙ ap (λ (xs : List BranchElement). e ∷ xs) elements,
-      first_of-both (branch_fault bytes free i) _ (one.passes free (omega arith)) more.1,
-    )
+    let elements : map (branch_element bytes) (range_with_len (i + 1) (length es)) ≡ es = ap (λ (k : ℕ). map (branch_element bytes) (range_with_len k (length es))) (add-one i) ∙ more.0 in
+    grind (arith, first_of-both)
 
 -- the elements of a branch page after a header
 pub branches_written : (bytes : List ℕ) (es : List BranchElement) (rest : List ℕ)

@@ -5,14 +5,14 @@ use Rattle.std.proofs.lemmas.Bool.{ne_eqb}
 use Rattle.std.proofs.lemmas.List.{length-append}
 use Rattle.std.proofs.lemmas.List.Sums.{sum_by-cons}
 use Rattle.bolt_format.specs.Elements.{BranchElement, LeafElement}
-use Rattle.bolt_check.specs.Keys.{Key, is_above, is_below, is_from, keys_order_fault}
+use Rattle.bolt_check.specs.Keys.{Key, is_below, is_from, keys_order_fault}
 use Rattle.bolt_check.specs.Nodes.{Entry, Node, Nodes, branch_entry, node_of}
 use Rattle.bolt_check.specs.Ways.{At_page, PageSpot, child_spot, upper_from}
 use Rattle.bolt_check.specs.Findings.{node_finding, keys_of}
 use Rattle.bolt_check.specs.EntrySpots.{places}
 use Rattle.bolt_layout.specs.PageBytes.{branch_data}
 use Rattle.bolt_layout.proofs.BranchLemmas.{IsBranchFit}
-use Rattle.bolt_layout.proofs.KeyLaws.{AreBelow, IsAbove, IsBelowItem, IsWithin, Rise, key_step, lt_irreflexive, lt_not, rise_split}
+use Rattle.bolt_layout.proofs.KeyLaws.{AreBelow, IsAbove, IsBelowItem, IsWithin, Rise, key_step, lt_not, rise_split}
 use Rattle.bolt_layout.proofs.ListLemmas.{all_split, all_weaker}
 use Rattle.bolt_layout.proofs.OverRows.{IsOver, IsRun, Pieces}
 use Rattle.bolt_layout.proofs.Parts.{IsPart, kids_at, more_kids, no_kids}
@@ -36,7 +36,6 @@ pieces_size page_size height (kid ∷ kids) leaves h n =
     let ih = pieces_size page_size height kids back more (n + kid.numbers) in
     let s = sum_by-cons (size_of {E = BranchElement}) kid kids in
     let k : length (kid.element n).key ≡ length kid.key = ap (λ (y : List ℕ). length y) (page.key n) in
-    let z = page.size in
     let d = length-append (kid.element n).key (branch_data (elements_of kids (n + kid.numbers))) in omega arith
 
 pub pieces_fit : (page_size height : ℕ) (kids : List (Laid BranchElement)) (leaves : List (Laid LeafElement)) → Pieces (IsPage page_size height) kids leaves
@@ -45,14 +44,7 @@ pieces_fit page_size height [] leaves h all n room = tt
 pieces_fit page_size height (kid ∷ kids) leaves h all n room =
     let (x, front, back, e, page, more) = h in
     let all2 : AllByRecursion (IsItem page_size) (x ∷ (front ++ back)) = subst (AllByRecursion (IsItem page_size)) e all in
-    let k : length (kid.element n).key ≡ length x.key = ap (λ (y : List ℕ). length y) (page.key n ∙ page.first x front refl) in
-    let item : IsItem page_size x = all2.0 in
-    let some = item.some in
-    let short = item.short in
-    let c = (page.child n).1 in (
-      record { some = omega arith; key = omega arith; child = omega arith },
-      pieces_fit page_size height kids back more (all_split (IsItem page_size) front back all2.1).1 (n + kid.numbers) (omega arith),
-    )
+    grind (arith, all_split, pieces_fit page_size height kids back more (all_split (IsItem page_size) front back all2.1).1 (n + kid.numbers) (omega arith))
 
 branch_own_room : (page_size height : ℕ) (run : List (Laid BranchElement)) (leaves : List (Laid LeafElement)) → 0 < page_size → Pieces (IsPage page_size height) run leaves
     → (n : ℕ) → HasRoom page_size (own_page branch_page_view page_size run n)
@@ -72,7 +64,7 @@ upper_holds page_size height (kid ∷ kids) back ys upper m pieces below within 
 
 pub lower_holds : (x : Laid LeafElement) (key : Key) (ys : List (Laid LeafElement)) → key ≡ x.key → AllByRecursion (IsBelowItem x) ys
     → AllByRecursion (λ (y : Laid LeafElement). is_from (Some key) y.key ≡ true) (x ∷ ys)
-lower_holds x key ys same h = grind (arith, lt_irreflexive, all_weaker, lt_not)
+lower_holds x key ys same h = grind (arith, all_weaker, lt_not)
 
 pub both_hold : (lower upper : Option Key) (ys : List (Laid LeafElement)) → AllByRecursion (λ (y : Laid LeafElement). is_from lower y.key ≡ true) ys
     → AllByRecursion (λ (y : Laid LeafElement). is_below upper y.key ≡ true) ys → AllByRecursion (IsWithin lower upper) ys
@@ -108,10 +100,8 @@ kids_keys page_size height (kid ∷ kids) leaves pieces rise before lower upper 
     let same : key ≡ x.key = page.key n ∙ page.first x front refl in
     let rise2 = rise_split (x ∷ front) back (subst Rise e rise) in
     let within2 = all_split (IsWithin lower upper) (x ∷ front) back (subst (AllByRecursion (IsWithin lower upper)) e within) in
-    let above2 = all_split (IsAbove before) (x ∷ front) back (subst (AllByRecursion (IsAbove before)) e above) in
     let rest = kids_keys page_size height kids back more rise2.1 (Some key) lower upper (n + kid.numbers) (above_after x key back same rise2.2.0) within2.1 in
-    key_step before lower upper key (keys_of (map branch_entry (elements_of kids (n + kid.numbers))))
-    (ap (λ (k : Key). is_above before k) same ∙ above2.0.0) (ap (λ (k : Key). is_from lower k) same ∙ within2.0.0.0) (ap (λ (k : Key). is_below upper k) same ∙ within2.0.0.1) rest
+    grind (arith, key_step)
 
 pub branch_content : (node : Node) (s : PageSpot) → node.is_leaf ≡ false → 1 ≤ length node.entries → keys_order_fault None s.lower s.upper (keys_of node.entries) ≡ None → node_finding node s ≡ None
 branch_content node s leaf some keys = let z : (length node.entries == 0) ≡ false = ne_eqb (length node.entries) 0 (λ e. omega arith) in rw (leaf, z, keys) refl

@@ -1,13 +1,12 @@
 -- The cuts of both layouts divide a row as the soundness of a layout asks.
-use Rattle.std.proofs.Common.{◌≡◌, ◌∙◌, ℕ, suc, ◌*◌, ◌<◌, ◌≤◌, List, [], ◌∷◌, ◌++◌, length, flat_map, refl, ap, arith, append_assoc}
+use Rattle.std.proofs.Common.{◌≡◌, ◌∙◌, ℕ, suc, ◌*◌, ◌≤◌, List, [], ◌∷◌, ◌++◌, length, flat_map, refl, ap, arith, append_assoc}
 use Rattle.std.specs.List.{AllByRecursion}
-use Rattle.std.proofs.lemmas.Bool.{ltb-true}
 use Rattle.std.proofs.lemmas.List.{append-nil, length-append}
 use Rattle.bolt_layout.specs.Cut.{branch_cut, cut_of, join_last, max_items}
 use Rattle.bolt_layout.specs.Divisions.{IsDivided, IsHalved, IsPageRun}
 use Rattle.bolt_layout.specs.declared.layout.Layout.{Layout}
 use Rattle.bolt_layout.specs.declared.layout.Layout.TheVariants.{Plain, Balanced}
-use Rattle.bolt_layout.proofs.OneCut.{AreRuns, cut_runs, cut_whole, first_long}
+use Rattle.bolt_layout.proofs.OneCut.{AreRuns, cut_runs, cut_whole}
 
 divided_each : {X : Type 0} (page_size least wide spare : ℕ) (size : X → ℕ) (runs : List (List X)) → least ≤ wide → AreRuns page_size least size runs
     → AllByRecursion (IsPageRun page_size wide spare size) runs
@@ -22,10 +21,7 @@ cut_divides page_size least wide spare size items some cap h = grind (arith, cut
 halved : {X : Type 0} (page_size : ℕ) (size : X → ℕ) (runs : List (List X)) → AreRuns page_size 2 size runs → 2 * length runs ≤ suc (length (flat_map (λ run. run) runs))
 halved page_size size [] are = omega arith
 halved page_size size (run ∷ []) are = let some = are.0.some in omega (arith, length-append run [])
-halved page_size size (run ∷ next ∷ runs) are = grind (arith, first_long, length-append, halved page_size size (next ∷ runs) are.2)
-
-cut_halves : {X : Type 0} (page_size : ℕ) (size : X → ℕ) (items : List X) → IsHalved items (cut_of page_size 2 size items)
-cut_halves {X = X} page_size size items = grind (arith, halved, cut_runs, cut_whole)
+halved page_size size (run ∷ next ∷ runs) are = grind (arith, length-append, halved page_size size (next ∷ runs) are.2)
 
 -- Joining the last run keeps the row,
 joined_whole : {X : Type 0} (runs : List (List X)) → flat_map (λ run. run) (join_last runs) ≡ flat_map (λ run. run) runs
@@ -49,14 +45,11 @@ no_last : {X : Type 0} (last : List X) → length last ≤ 0 → last ≡ []
 no_last [] few = refl
 no_last (x ∷ last) few = absurd (omega arith)
 
-joined_run : {X : Type 0} (page_size : ℕ) (size : X → ℕ) (run next : List X) → length next < 2 → IsPageRun page_size 2 0 size run → IsPageRun page_size 3 1 size (run ++ next)
-joined_run {X = X} page_size size run next single is = grind (arith, length-append, no_last, append-nil)
-
 joined_each : {X : Type 0} (page_size : ℕ) (size : X → ℕ) (runs : List (List X)) → AllByRecursion (IsPageRun page_size 2 0 size) runs
     → AllByRecursion (IsPageRun page_size 3 1 size) (join_last runs)
 joined_each page_size size [] each = tt
 joined_each page_size size (run ∷ []) each = (looser page_size size run each.0, tt)
-joined_each page_size size (run ∷ next ∷ []) each = grind (arith, joined_run, ltb-true, looser)
+joined_each page_size size (run ∷ next ∷ []) each = grind (arith, length-append, no_last, append-nil)
 joined_each page_size size (run ∷ next ∷ more ∷ runs) each = (looser page_size size run each.0, joined_each page_size size (next ∷ more ∷ runs) each.1)
 
 -- So it is of both layouts.
@@ -68,4 +61,4 @@ branches_divide Balanced page_size size items =
     record { whole = joined_whole runs ∙ plain.whole; each = joined_each page_size size runs plain.each }
 
 pub branches_halve : {X : Type 0} (which : Layout) (page_size : ℕ) (size : X → ℕ) (items : List X) → IsHalved items (branch_cut which page_size size items)
-branches_halve which page_size size items = grind (arith, cut_halves, joined_fewer)
+branches_halve which page_size size items = grind (arith, joined_fewer, halved, cut_runs, cut_whole)

@@ -1,6 +1,5 @@
 -- A row as the cut sees it: the keys and sizes of its items decide how the row is cut, and the keys and sizes of the row above.
-use Rattle.std.proofs.Common.{◌≡◌, ◌∙◌, ◌++◌, ◌+◌, ℕ, true, false, List, [], ◌∷◌, length, map, sum_by, refl, sym, ap, inl, inr, arith}
-use Rattle.std.proofs.lemmas.Bool.{cases_Bool}
+use Rattle.std.proofs.Common.{◌≡◌, ◌∙◌, ◌++◌, ◌+◌, ℕ, List, [], ◌∷◌, length, map, sum_by, refl, ap, arith}
 use Rattle.std.proofs.lemmas.List.{length-map, map-append}
 use Rattle.std.proofs.lemmas.List.Sums.{sum_by-cons}
 use Rattle.bolt_format.specs.Elements.{BranchElement, LeafElement}
@@ -23,24 +22,14 @@ map_joins : {X Y : Type 0} (f : X → Y) (page_size least : ℕ) (size : Y → �
 map_joins {X = X} {Y = Y} f page_size least size run next =
     let long = length-map run f in
     let row : map f (run ++ next ∷ []) ≡ map f run ++ f next ∷ [] = map-append f run (next ∷ []) in
-    let sum : sum_by (λ (x : X). size (f x)) (run ++ next ∷ []) ≡ sum_by size (map f run ++ f next ∷ []) =
-    sym (sum_map f size (run ++ next ∷ [])) ∙ ap (λ (ys : List Y). sum_by size ys) row in
-    rw (long, sum) refl
+    grind (arith, sum_map)
 
 map_from : {X Y : Type 0} (f : X → Y) (page_size least : ℕ) (size : Y → ℕ) (run items : List X)
     → map (map f) (cut_from page_size least (λ x. size (f x)) run items) ≡ cut_from page_size least size (map f run) (map f items)
 map_from f page_size least size run [] = refl
 map_from {X = X} {Y = Y} f page_size least size run (next ∷ items) =
     let same = map_joins f page_size least size run next in
-    elim (cases_Bool (joins page_size least (λ (x : X). size (f x)) run next)) [
-      | inl t ↦
-          (let u : joins page_size least size (map f run) (f next) ≡ true = sym same ∙ t in
-          let row : map f (run ++ next ∷ []) ≡ map f run ++ f next ∷ [] = map-append f run (next ∷ []) in
-          rw (t, u) (map_from f page_size least size (run ++ next ∷ []) items ∙ ap (λ (ys : List Y). cut_from page_size least size ys (map f items)) row))
-      | inr t ↦
-          (let u : joins page_size least size (map f run) (f next) ≡ false = sym same ∙ t in
-          rw (t, u) (ap (λ (rs : List (List Y)). map f run ∷ rs) (map_from f page_size least size (next ∷ []) items)))
-    ]
+    grind (arith, map-append, map_from f page_size least size (run ++ next ∷ []) items, map_from f page_size least size (next ∷ []) items)
 
 pub map_cut : {X Y : Type 0} (f : X → Y) (page_size least : ℕ) (size : Y → ℕ) (items : List X)
     → map (map f) (cut_of page_size least (λ x. size (f x)) items) ≡ cut_of page_size least size (map f items)
@@ -81,13 +70,10 @@ top_key (f ∷ faces) = f.0
 abbrev pub top_face : List Face → Face
 top_face faces = (top_key faces, 16 + length (top_key faces))
 
-over_face : {E : Type 0} (view : ℕ → List E → PageView) (page_size : ℕ) (run : List (Laid E)) → face (page_over view page_size run) ≡ top_face (map face run)
-over_face view page_size run = grind arith
-
 over_faces : {E : Type 0} (view : ℕ → List E → PageView) (page_size : ℕ) (runs : List (List (Laid E)))
     → map face (map (page_over view page_size) runs) ≡ map top_face (map (map face) runs)
 over_faces view page_size [] = refl
-over_faces view page_size (run ∷ runs) = grind (arith, over_face, over_faces view page_size runs)
+over_faces view page_size (run ∷ runs) = grind (arith, over_faces view page_size runs)
 
 pub leaf_faces : (page_size : ℕ) (items : List (Laid LeafElement)) → map face (leaf_pages page_size items) ≡ map top_face (cut_from page_size 1 face_size [] (map face items))
 leaf_faces page_size items =

@@ -4,7 +4,6 @@ use Rattle.std.specs.List.{Contains}
 use Rattle.std.specs.Ordering.{ordering_then}
 use Rattle.std.specs.declared.cmp.Ordering.{Ordering}
 use Rattle.std.specs.declared.cmp.Ordering.TheVariants.{Less, Equal}
-use Rattle.std.proofs.lemmas.Bool.{eqb-true}
 use Rattle.std.proofs.lemmas.List.{same_from_push}
 use Rattle.std.proofs.lemmas.List.Elements.{Contains-append_left, Contains-append_right}
 use Rattle.byteorder.specs.Numbers.{little_from-lt}
@@ -91,28 +90,13 @@ inside_rises (with_bucket key sequence inside after) front r =
     let within = rises_left member_cmp deep behind r.1 in
     (keys_rise inside (front ++ key ∷ []) within, inside_rises inside (front ++ key ∷ []) within, inside_rises after front (rises_right member_cmp deep behind r.1))
 
--- What an item says of its element.
-value_is : (e : LeafElement) (value : List ℕ) → item_of e ≡ Value value → e.value ≡ value
-value_is e value is = by e.is_bucket refl
-  where
-    by : (b : Bool) → e.is_bucket ≡ b → e.value ≡ value
-    by true h = absurd (let bad : Bucket (head_sequence e.value) ≡ Value value = (rw h at is) in cc)
-    by false h = let same : Value e.value ≡ Value value = (rw h at is) in cc
-
-sequence_is : (e : LeafElement) (sequence : ℕ) → item_of e ≡ Bucket sequence → (e.is_bucket ≡ true) × (head_sequence e.value ≡ sequence)
-sequence_is e sequence is = by e.is_bucket refl
-  where
-    by : (b : Bool) → e.is_bucket ≡ b → (e.is_bucket ≡ true) × (head_sequence e.value ≡ sequence)
-    by true h = let same : Bucket (head_sequence e.value) ≡ Bucket sequence = (rw h at is) in (h, cc)
-    by false h = absurd (let bad : Value e.value ≡ Bucket sequence = (rw h at is) in cc)
-
 -- A bucket begins at a root page, or in a good value.
 abbrev IsGoodStart : Start → Type 0
 IsGoodStart (Root_page root) = Unit {0}
 IsGoodStart (Inline_page elements) = (value : List ℕ) × IsBucketValue value × (head_root value ≡ 0) × (inline_elements value ≡ elements)
 
 start_good : (value : List ℕ) → IsBucketValue value → IsGoodStart (start_of value)
-start_good value good = grind (arith, eqb-true)
+start_good value good = grind arith
 
 -- what the format says of an entry
 pub record IsGoodEntry (e : LeafElement) : Type 0 where
@@ -129,7 +113,7 @@ good_inner value e good root within =
     record { lengths = inline_fits value e good root within; value = λ b. absurd (not_both e.is_bucket flat b); sequence = λ b. absurd (not_both e.is_bucket flat b) }
 
 good_item : (e : LeafElement) (item : Item) → IsGoodEntry e → item_of e ≡ item → IsFitItem item
-good_item e item good is = grind (arith, value_is, sequence_is, sequence_fits)
+good_item e item good is = grind (arith, sequence_fits)
 
 -- the format can hold its member
 pub good_fits : (path : Path) (e : LeafElement) → IsGoodEntry e → IsFitMember (path ++ e.key ∷ []) (item_of e)
@@ -207,13 +191,8 @@ TreeIsOfItsListing = (tree : Tree) → tree_of (listing_of tree) ≡ tree
 
 pub one_tree : TreeIsOfItsListing → (listing : List Member) → IsFitListing listing → IsOfOneTree listing
 one_tree back listing is =
-    let read : tree_of listing ≡ is.tree = ap tree_of is.lists ∙ back is.tree in
     let storable = fit_storable is.tree (subst (Rises member_cmp) is.lists is.rises) (λ path item h. is.fit path item (subst (λ (ms : List Member). Contains ms (path, item)) (sym is.lists) h)) in
-    record {
-      storable = subst IsStorable (sym read) storable;
-      lists = ap listing_of read ∙ sym is.lists;
-      one = λ other e. sym (back other) ∙ ap tree_of e;
-    }
+    grind arith
 
 abbrev pub ListingIsOfATree : Type 0
 ListingIsOfATree = (file : List ℕ) (meta : Meta) (listing : List Member) → HasSoundTrees file meta → IsListing file meta listing

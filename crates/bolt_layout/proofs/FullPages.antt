@@ -1,7 +1,5 @@
 -- A page is full at 65,534 items, however much of it is left, and so is an inline bucket.
-use Rattle.std.proofs.Common.{◌≡◌, ℕ, zero, suc, ◌+◌, ◌*◌, ◌&&◌, Bool, false, List, [], ◌∷◌, ◌++◌, length, replicate, sum_by, inr, arith}
-use Rattle.std.proofs.Math.Nat.{suc-mul}
-use Rattle.std.proofs.lemmas.Bool.{lt-leb}
+use Rattle.std.proofs.Common.{◌≡◌, ℕ, zero, suc, ◌+◌, ◌*◌, false, List, [], ◌∷◌, ◌++◌, length, replicate, sum_by, inr, arith}
 use Rattle.std.proofs.lemmas.List.{length-replicate}
 use Rattle.std.proofs.lemmas.List.Sums.{sum_by-cons}
 use Rattle.bolt_format.specs.Elements.{LeafElement}
@@ -16,7 +14,7 @@ itself x = x
 
 sum_same : (n x : ℕ) → sum_by itself (replicate n x) ≡ n * x
 sum_same zero x = omega arith
-sum_same (suc n) x = omega (arith, sum_by-cons, suc-mul, sum_same n x)
+sum_same (suc n) x = omega (arith, sum_by-cons, sum_same n x)
 
 -- 65,535 items of 20 bytes, at the largest page size
 full_page : (n : ℕ) → n ≡ 65534 → replicate n 20 ∷ (20 ∷ []) ∷ [] ≡ cut_of 33554432 1 itself (replicate n 20 ++ 20 ∷ [])
@@ -28,9 +26,6 @@ full_page n same =
     let last : IsRunOf 33554432 1 itself (20 ∷ []) = record { some = omega arith; fits = λ more. omega arith; cap = omega arith } in
     runs_cut 33554432 1 itself (items ∷ (20 ∷ []) ∷ []) (is, joins_not 33554432 1 itself items 20 (omega arith) (inr (omega arith)), (last, tt, tt))
 
-both_false : (a b : Bool) → (a && (b && false)) ≡ false
-both_false a b = grind arith
-
 -- 65,535 items
 full_bucket : (page_size : ℕ) (tree : Tree) (items : List (Laid LeafElement)) → length items ≡ 65535 → is_inline page_size tree items ≡ false
-full_bucket page_size tree items same = grind (arith, lt-leb, both_false)
+full_bucket page_size tree items same = grind arith

@@ -1,7 +1,6 @@
 -- How many items are held at one time, at the most: four page sizes for each bucket of a path, and never more than the pages have bytes.
 use Rattle.std.proofs.Common.{◌≡◌, ◌∙◌, ℕ, zero, suc, ◌+◌, ◌*◌, ◌/◌, ◌^◌, ◌<◌, ◌≤◌, Bool, List, [], ◌∷◌, ◌++◌, length, map, flat_map, max, refl, sym, ap, subst, inl, inr, arith, sum_by}
 use Rattle.std.specs.List.{AllByRecursion}
-use Rattle.std.proofs.Math.Nat.{add-mul, mul-le-mul_left, mul-le-mul_right, pow-suc, suc-mul}
 use Rattle.std.proofs.lemmas.Bool.{cases_lt}
 use Rattle.std.proofs.lemmas.List.{length-append, length-map}
 use Rattle.std.proofs.lemmas.List.Sums.{sum_by-cons}
@@ -14,7 +13,7 @@ use Rattle.bolt_tree.specs.Tree.{Tree, end, listing_below, listing_of, with_buck
 use Rattle.bolt_layout.specs.Cut.{branch_cut, cut_of}
 use Rattle.bolt_layout.specs.Divisions.{IsDivided, IsPageRun}
 use Rattle.bolt_layout.specs.Held.{longest, most_held}
-use Rattle.bolt_layout.specs.Items.{bucket_item, is_inline, items_of, leaf_item, root_of, stored_bucket}
+use Rattle.bolt_layout.specs.Items.{is_inline, items_of, root_of, stored_bucket}
 use Rattle.bolt_layout.specs.Laid.{Laid, held_in, numbers_of, size_of}
 use Rattle.bolt_layout.specs.Layout.{layout_held, layout_of}
 use Rattle.bolt_layout.specs.Levels.{branch_page_view, leaf_level, leaf_page_view, next_level, page_over, root_over, top_in}
@@ -40,7 +39,7 @@ run_few page_size most (item ∷ run) all = let ih = run_few page_size most run 
 
 run_small : {E : Type 0} (page_size most : ℕ) (run : List (Laid E)) → AllByRecursion (IsHeldBelow page_size most) run → held_in run ≤ numbers_of run * page_size + length run
 run_small page_size most [] all = omega arith
-run_small page_size most (item ∷ run) all = omega (arith, add-mul, run_small page_size most run all.1)
+run_small page_size most (item ∷ run) all = omega (arith, run_small page_size most run all.1)
 
 run_sized : {E : Type 0} (page_size most : ℕ) (run : List (Laid E)) → AllByRecursion (IsHeldBelow page_size most) run → 16 * length run ≤ sum_by size_of run
 run_sized page_size most [] all = omega arith
@@ -64,7 +63,7 @@ thin {E = E} page_size wide spare most run room one is all =
 -- so the page over a run adds a sixteenth of the page size
 over_held : {E : Type 0} (view : ℕ → List E → PageView) (page_size most : ℕ) (run : List (Laid E)) → 16 * length run ≤ page_size → AllByRecursion (IsHeldBelow page_size most) run
     → IsHeldBelow page_size (most + page_size / 16) (page_over view page_size run)
-over_held view page_size most run room all = grind (arith, run_few, run_small, add-mul)
+over_held view page_size most run room all = grind (arith, run_few, run_small)
 
 -- ---- a level
 
@@ -95,9 +94,7 @@ top_held which page_size (suc steps) (suc k) most (page ∷ other ∷ level) low
     let up = level_held branch_page_view page_size 3 1 most runs pages (omega arith) (omega arith) divided.whole divided.each all in
     let any = runs_some runs pages divided.whole (omega arith) in
     let same = length-map runs (page_over branch_page_view page_size) in
-    let double : 2 ^ suc k ≡ 2 * 2 ^ k = pow-suc 2 k ∙ omega arith in
     let ih = top_held which page_size steps k (most + page_size / 16) (next_level which page_size pages) low up (omega arith) (omega arith) (omega arith) in
-    let more = suc-mul k (page_size / 16) in
     weaker page_size _ _ (top_in which (suc steps) page_size pages) (omega arith) ih
 
 top_numbers : (which : Layout) (page_size steps : ℕ) (level : List (Laid BranchElement)) → length level ≤ suc steps → numbers_of level ≤ (top_in which steps page_size level).numbers
@@ -151,29 +148,22 @@ longest-append : (a b : List Member) → longest (a ++ b) ≡ max (longest a) (l
 longest-append [] b = omega arith
 longest-append (member ∷ a) b = let ih = longest-append a b in omega arith
 
-inline_held : (page_size most : ℕ) (key value : List ℕ) (is_bucket : Bool) → IsHeldBelow page_size most (leaf_item key value is_bucket)
-inline_held page_size most key value is_bucket = record { sized = omega arith; few = omega arith; small = omega arith }
-
-bucket_held : (page_size most : ℕ) (key : List ℕ) (sequence : ℕ) (root : Laid BranchElement) → IsHeldBelow page_size most root → IsHeldBelow page_size most (bucket_item key sequence root)
-bucket_held page_size most key sequence root is = record { sized = omega arith; few = is.few; small = is.small }
-
 stored_held : (which : Layout) (page_size most : ℕ) (key : List ℕ) (sequence : ℕ) (inside : Tree) (items : List (Laid LeafElement)) (after : List (Laid LeafElement)) (b : Bool) → is_inline page_size inside items ≡ b
     → numbers_of (stored_bucket which page_size key sequence inside items ∷ after) ≤ 2 ^ 63
     → ((root_over which page_size items).numbers ≤ 2 ^ 63 → IsHeldBelow page_size most (root_over which page_size items))
     → IsHeldBelow page_size most (stored_bucket which page_size key sequence inside items) × (numbers_of after ≤ 2 ^ 63)
-stored_held which page_size most key sequence inside items after b e room root = grind (arith, inline_held, bucket_held)
+stored_held which page_size most key sequence inside items after b e room root = grind arith
 
 -- each item, where no path below is longer than so many parts more
 tree_held : (which : Layout) (page_size deep : ℕ) (path : Path) (tree : Tree) → 64 ≤ page_size → numbers_of (items_of which page_size tree) ≤ 2 ^ 63 → longest (listing_below path tree) ≤ length path + deep
     → AllByRecursion (IsHeldBelow page_size (4 * page_size * deep)) (items_of which page_size tree)
 tree_held which page_size deep path end low room short = tt
-tree_held which page_size deep path (with_value key value after) low room short = grind (arith, inline_held, tree_held which page_size deep path after low (omega arith) (omega arith))
+tree_held which page_size deep path (with_value key value after) low room short = grind (arith, tree_held which page_size deep path after low (omega arith) (omega arith))
 tree_held which page_size zero path (with_bucket key sequence inside after) low room short = grind (arith, length-append)
 tree_held which page_size (suc deep) path (with_bucket key sequence inside after) low room short =
     let l = length-append path (key ∷ []) in
     let both = longest-append (listing_below (path ++ key ∷ []) inside) (listing_below path after) in
     let items : List (Laid LeafElement) = items_of which page_size inside in
-    let more : 4 * page_size * suc deep ≡ 4 * page_size * deep + 4 * page_size = omega arith in
     let root : (root_over which page_size items).numbers ≤ 2 ^ 63 → IsHeldBelow page_size (4 * page_size * suc deep) (root_over which page_size items) =
     λ within. (
     let numbers = items_numbers which page_size items in
@@ -190,7 +180,6 @@ whole_held which page_size tree low room =
     let numbers = items_numbers which page_size items in
     let deep : ℕ = longest (listing_of tree) in
     let below = tree_held which page_size deep [] tree low (omega arith) (omega arith) in
-    let more : 4 * page_size * (1 + deep) ≡ 4 * page_size * deep + 4 * page_size = omega arith in
     weaker page_size _ _ (root_over which page_size items) (omega arith) (root_held which page_size (4 * page_size * deep) items low below room)
 
 held_bounded : (which : Layout) (page_size : ℕ) (tree : Tree) → 64 ≤ page_size → (root_of which page_size tree).numbers ≤ 2 ^ 63 → (root_of which page_size tree).held ≤ most_held page_size (listing_of tree)
@@ -202,7 +191,7 @@ held_small which page_size tree low room = (whole_held which page_size tree low 
 -- of a layout of fewer than 2^63 bytes
 layout_small : (which : Layout) (page_size : ℕ) (tree : Tree) (sequence : ℕ) → IsPageSize page_size → IsStorable tree → length (layout_of which page_size tree sequence) < 2 ^ 63
     → (64 ≤ page_size) × ((root_of which page_size tree).numbers ≤ 2 ^ 63) × ((root_of which page_size tree).numbers * page_size ≤ length (layout_of which page_size tree sequence))
-layout_small which page_size tree sequence size storable short = grind (arith, layout_length, size_bounds, mul-le-mul_left, mul-le-mul_right)
+layout_small which page_size tree sequence size storable short = grind (arith, layout_length, size_bounds)
 
 pub layout_bounded : (which : Layout) (page_size : ℕ) (tree : Tree) (sequence : ℕ) → IsPageSize page_size → IsStorable tree → length (layout_of which page_size tree sequence) < 2 ^ 63
     → layout_held which page_size tree ≤ most_held page_size (listing_of tree)

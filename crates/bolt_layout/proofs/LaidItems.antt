@@ -44,7 +44,6 @@ items_size page_size (item ∷ items) all n =
     let e = item.element n in
     let s = sum_by-cons (size_of {E = LeafElement}) item items in
     let k : length e.key ≡ length item.key = ap (λ (x : List ℕ). length x) (all.0.key n) in
-    let z = all.0.size n in
     let d = length-append e.key (e.value ++ leaf_data (elements_of items (n + item.numbers))) in
     let d2 = length-append e.value (leaf_data (elements_of items (n + item.numbers))) in omega arith
 

@@ -43,7 +43,6 @@ pub page_has : {E : Type 0} (page_size : ℕ) (view : ℕ → List E → PageVie
     → HasPages page_size (page_over view page_size run)
 page_has page_size view run all over own_room own_fits = record {
   row = λ n.
-      let same = over (run_overflow page_size run) (elements_of run n) in
       row_append n (n + numbers_of run) _ (pages_of run n) _ (items_row page_size run all n) (refl, omega arith);
   room = λ n. all_append (HasRoom page_size) (pages_of run n) _ (items_room page_size run all n) (own_room n, tt);
   fits = λ n some h. all_append (IsPageFit page_size) (pages_of run n) _ (items_fit page_size run all n some (omega arith)) (own_fits n some (omega arith), tt);

@@ -5,7 +5,6 @@ use Rattle.std.proofs.lemmas.Bool.{le-ltb, lt-ltb}
 use Rattle.std.proofs.lemmas.List.{length_push}
 use Rattle.bolt_layout.specs.Cut.{cut_from, cut_of, join_last}
 use Rattle.bolt_layout.specs.Limits.{last_length}
-use Rattle.bolt_layout.proofs.OneCut.{ended_long}
 
 -- the runs with one more item in the last
 abbrev pub push_last : {X : Type 0} → List (List X) → X → List (List X)
@@ -28,13 +27,10 @@ some_runs page_size least size run (next ∷ items) = grind (arith, some_runs pa
 pub last_behind : {X : Type 0} (run : List X) (runs : List (List X)) → 1 ≤ length runs → last_length (run ∷ runs) ≡ last_length runs
 last_behind run runs some = grind arith
 
-pushed_behind : {X : Type 0} (run : List X) (runs more : List (List X)) (x : X) → 1 ≤ length runs → IsPushed runs x more → IsPushed (run ∷ runs) x (run ∷ more)
-pushed_behind run runs more x some is = grind arith
-
 pushed_from : {X : Type 0} (page_size : ℕ) (size : X → ℕ) (run items : List X) (x : X)
     → IsPushed (cut_from page_size 2 size run items) x (cut_from page_size 2 size run (items ++ x ∷ []))
-pushed_from page_size size run [] x = grind (arith, ended_long)
-pushed_from page_size size run (next ∷ items) x = grind (arith, pushed_behind, some_runs, pushed_from page_size size (run ++ next ∷ []) items x, pushed_from page_size size (next ∷ []) items x)
+pushed_from page_size size run [] x = grind arith
+pushed_from page_size size run (next ∷ items) x = grind (arith, pushed_from page_size size (run ++ next ∷ []) items x, pushed_from page_size size (next ∷ []) items x)
 
 pub cut_pushed : {X : Type 0} (page_size : ℕ) (size : X → ℕ) (items : List X) (x : X) → 1 ≤ length items
     → IsPushed (cut_of page_size 2 size items) x (cut_of page_size 2 size (items ++ x ∷ []))
@@ -44,7 +40,7 @@ cut_pushed page_size size items x some = grind (arith, pushed_from)
 pub push_counts : {X : Type 0} (runs : List (List X)) (x : X) → 1 ≤ length runs → (length (push_last runs x) ≡ length runs) × (last_length (push_last runs x) ≡ suc (last_length runs))
 push_counts [] x some = absurd (omega arith)
 push_counts (run ∷ []) x some = let l = length_push run x in (refl, omega arith)
-push_counts (run ∷ next ∷ runs) x some = grind (arith, last_behind, push_counts (next ∷ runs) x (omega arith))
+push_counts (run ∷ next ∷ runs) x some = grind (arith, push_counts (next ∷ runs) x (omega arith))
 
 pub last_append : {X : Type 0} (runs : List (List X)) (run : List X) → last_length (runs ++ run ∷ []) ≡ length run
 last_append [] run = refl

@@ -3,7 +3,7 @@ use Rattle.std.proofs.Common.{◌≡◌, ◌∙◌, ℕ, zero, suc, ◌+◌, ◌
 use Rattle.std.specs.List.{AllByRecursion}
 use Rattle.std.proofs.lemmas.Bool.{le-ltb}
 use Rattle.bolt_format.specs.Elements.{BranchElement, LeafElement}
-use Rattle.bolt_check.specs.Keys.{Key, is_above, is_below, is_from, keys_order_fault, key_lt}
+use Rattle.bolt_check.specs.Keys.{Key, keys_order_fault, key_lt}
 use Rattle.bolt_check.specs.Nodes.{Entry, Node, Nodes, leaf_entry, node_of}
 use Rattle.bolt_check.specs.Ways.{At_page, PageSpot, Spot, bucket_spots, follow, step_entry}
 use Rattle.bolt_check.specs.Findings.{node_finding, keys_of, finding_of}
@@ -68,8 +68,7 @@ items_keys page_size (item ∷ items) all before lower upper n rise above within
     let key : Key = (item.element n).key in
     let same : key ≡ item.key = all.0.key n in
     let rest = items_keys page_size items all.1 (Some key) lower upper (n + item.numbers) rise.1 (above_after item key items same rise.0) within.1 in
-    key_step before lower upper key (keys_of (map leaf_entry (elements_of items (n + item.numbers))))
-    (ap (λ (k : Key). is_above before k) same ∙ above.0) (ap (λ (k : Key). is_from lower k) same ∙ within.0.0) (ap (λ (k : Key). is_below upper k) same ∙ within.0.1) rest
+    grind (arith, key_step)
 
 pub above_none : (items : List (Laid LeafElement)) → AllByRecursion (IsAbove None) items
 above_none [] = tt

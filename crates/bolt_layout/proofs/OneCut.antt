@@ -1,12 +1,9 @@
 -- There is one cut of each row.
-use Rattle.std.proofs.Common.{◌≡◌, ◌≢◌, ◌∙◌, ◌⊎◌, ℕ, zero, suc, ◌+◌, ◌<◌, ◌≤◌, ◌&&◌, nat_lt, Bool, true, false, List, [], ◌∷◌, ◌++◌, length, Some, slice_get, refl, sym, ap, subst, inl, inr, arith, append_assoc, sum_by, flat_map}
-use Rattle.std.proofs.lemmas.Bool.{and_cases, cases_Bool, cases_lt, le-leb, le-ltb, leb-false, leb-true, lt-leb, lt-ltb, ltb-false, ltb-true, or_cases, or_parts, and_parts}
+use Rattle.std.proofs.Common.{◌≡◌, ◌≢◌, ◌⊎◌, ℕ, zero, suc, ◌+◌, ◌<◌, ◌≤◌, nat_lt, true, false, List, [], ◌∷◌, ◌++◌, length, Some, slice_get, refl, sym, ap, subst, inl, inr, arith, append_assoc, flat_map}
+use Rattle.std.proofs.lemmas.Bool.{cases_Bool, cases_lt, lt-ltb, ltb-false, ltb-true, or_cases, or_parts}
 use Rattle.std.proofs.lemmas.List.{append-nil, length-append, length_push}
 use Rattle.std.proofs.lemmas.List.Sums.{sum_by-append}
 use Rattle.bolt_layout.specs.Cut.{CutIsOne, IsCut, cut_from, cut_of, joins, max_items, run_size}
-
-and_no : (b : Bool) → (b && false) ≡ false
-and_no b = grind arith
 
 -- The test of an item, by what is known of it.
 joins_few : {X : Type 0} (page_size least : ℕ) (size : X → ℕ) (run : List X) (next : X) → length run < least → joins page_size least size run next ≡ true
@@ -14,11 +11,11 @@ joins_few page_size least size run next h = let t : nat_lt (length run) least �
 
 joins_fits : {X : Type 0} (page_size least : ℕ) (size : X → ℕ) (run : List X) (next : X) → run_size size (run ++ next ∷ []) ≤ page_size → length run < max_items
     → joins page_size least size run next ≡ true
-joins_fits page_size least size run next h k = grind (arith, le-leb, lt-ltb, cases_lt, joins_few, le-ltb)
+joins_fits page_size least size run next h k = grind arith
 
 pub joins_not : {X : Type 0} (page_size least : ℕ) (size : X → ℕ) (run : List X) (next : X) → least ≤ length run
     → (page_size < run_size size (run ++ next ∷ [])) ⊎ (length run ≡ max_items) → joins page_size least size run next ≡ false
-joins_not page_size least size run next long is = grind (arith, le-ltb, lt-leb, and_no)
+joins_not page_size least size run next long is = grind arith
 
 -- A run that ends has as many items as it needs,
 pub ended_long : {X : Type 0} (page_size least : ℕ) (size : X → ℕ) (run : List X) (next : X) → joins page_size least size run next ≡ false → least ≤ length run
@@ -27,7 +24,7 @@ ended_long page_size least size run next f = ltb-false (length run) least (or_pa
 -- and no room for the next one.
 ended_full : {X : Type 0} (page_size least : ℕ) (size : X → ℕ) (run : List X) (next : X) → length run ≤ max_items → joins page_size least size run next ≡ false
     → (page_size < run_size size (run ++ next ∷ [])) ⊎ (length run ≡ max_items)
-ended_full page_size least size run next cap f = grind (arith, and_cases, or_parts, leb-false, ltb-false)
+ended_full page_size least size run next cap f = grind arith
 
 -- A cut by recursion over the runs: each is one that a page can hold, and ends where the first item of the next doesn't join it.
 pub record IsRunOf {X : Type 0} (page_size least : ℕ) (size : X → ℕ) (run : List X) : Type 0 where
@@ -46,7 +43,7 @@ AreRuns page_size least size (run ∷ runs) = IsRunOf page_size least size run �
 
 -- so each run but the last has as many items as it needs
 pub first_long : {X : Type 0} (page_size least : ℕ) (size : X → ℕ) (run next : List X) (runs : List (List X)) → AreRuns page_size least size (run ∷ next ∷ runs) → least ≤ length run
-first_long page_size least size run next runs are = grind (arith, ended_long)
+first_long page_size least size run next runs are = grind arith
 
 -- It is the one that is computed: a run that fits is taken whole.
 absorb : {X : Type 0} (page_size least : ℕ) (size : X → ℕ) (run xs tail : List X) → (least < length (run ++ xs) → run_size size (run ++ xs) ≤ page_size) → length (run ++ xs) ≤ max_items
@@ -56,22 +53,12 @@ absorb {X = X} page_size least size run (x ∷ xs) tail fits cap =
     let long = length-append run (x ∷ xs) in
     let all = sum_by-append size (run ++ x ∷ []) xs in
     let same : run ++ (x ∷ xs) ≡ (run ++ x ∷ []) ++ xs = sym (append_assoc run (x ∷ []) xs) in
-    let total : sum_by size (run ++ x ∷ xs) ≡ sum_by size (run ++ x ∷ []) + sum_by size xs = ap (λ (r : List X). sum_by size r) same ∙ all in
-    let taken : joins page_size least size run x ≡ true = elim (cases_lt (length run) least) [
-      | inl few ↦ joins_few page_size least size run x few
-      | inr more ↦ (let f = fits (omega arith) in joins_fits page_size least size run x (omega arith) (omega arith))
-    ] in
-    rw taken (absorb page_size least size (run ++ x ∷ []) xs tail (subst (λ (r : List X). least < length r → run_size size r ≤ page_size) same fits) (subst (λ (r : List X). length r ≤ max_items) same cap)
-    ∙ ap (λ (r : List X). cut_from page_size least size r tail) (sym same))
-
-runs_from : {X : Type 0} (page_size least : ℕ) (size : X → ℕ) (run : List X) (runs : List (List X)) → Ends page_size least size run runs
-    → runs ≡ cut_of page_size least size (flat_map (λ r. r) runs) → cut_from page_size least size run (flat_map (λ r. r) runs) ≡ run ∷ runs
-runs_from page_size least size run runs ends rest = grind arith
+    grind (arith, cases_lt, joins_few, joins_fits, absorb page_size least size (run ++ x ∷ []) xs tail (subst (λ (r : List X). least < length r → run_size size r ≤ page_size) same fits) (subst (λ (r : List X). length r ≤ max_items) same cap))
 
 pub runs_cut : {X : Type 0} (page_size least : ℕ) (size : X → ℕ) (runs : List (List X)) → AreRuns page_size least size runs → runs ≡ cut_of page_size least size (flat_map (λ r. r) runs)
 runs_cut page_size least size [] are = refl
 runs_cut page_size least size ([] ∷ runs) are = absurd (let some = are.0.some in omega arith)
-runs_cut page_size least size ((x ∷ xs) ∷ runs) are = grind (arith, absorb, runs_from, runs_cut page_size least size runs are.2)
+runs_cut page_size least size ((x ∷ xs) ∷ runs) are = grind (arith, absorb, runs_cut page_size least size runs are.2)
 
 -- And the one that is computed is such a cut.
 single_run : {X : Type 0} (page_size least : ℕ) (size : X → ℕ) (next : X) → 1 ≤ least → IsRunOf page_size least size (next ∷ [])
@@ -79,7 +66,7 @@ single_run page_size least size next some = record { some = omega arith; fits = 
 
 joined_run : {X : Type 0} (page_size least : ℕ) (size : X → ℕ) (run : List X) (next : X) → least ≤ max_items → joins page_size least size run next ≡ true
     → IsRunOf page_size least size (run ++ next ∷ [])
-joined_run page_size least size run next cap t = grind (arith, length_push, or_cases, ltb-true, and_parts, leb-true)
+joined_run page_size least size run next cap t = grind (arith, length_push, or_cases, ltb-true)
 
 ends_from : {X : Type 0} (page_size least : ℕ) (size : X → ℕ) (run : List X) (next : X) (more items : List X) → joins page_size least size run next ≡ false
     → Ends page_size least size run (cut_from page_size least size (next ∷ more) items)
@@ -95,7 +82,7 @@ cut_from_runs page_size least size run (next ∷ items) some cap is = elim (case
 ]
 
 pub cut_runs : {X : Type 0} (page_size least : ℕ) (size : X → ℕ) (items : List X) → 1 ≤ least → least ≤ max_items → AreRuns page_size least size (cut_of page_size least size items)
-cut_runs page_size least size items some cap = grind (arith, cut_from_runs, single_run)
+cut_runs page_size least size items some cap = grind (arith, cut_from_runs)
 
 cut_from_whole : {X : Type 0} (page_size least : ℕ) (size : X → ℕ) (run items : List X) → flat_map (λ r. r) (cut_from page_size least size run items) ≡ run ++ items
 cut_from_whole page_size least size run [] = refl
@@ -138,14 +125,14 @@ runs_are_cut page_size least size items runs whole are = record {
   full = λ i run more next e f. ended_full page_size least size run next (run_at page_size least size runs are i run e).cap (end_at page_size least size runs are i run next more e f);
 }
 
+some_item : {X : Type 0} (run : List X) → run ≢ [] → 1 ≤ length run
+some_item [] some = absurd (some refl)
+some_item (x ∷ run) some = omega arith
+
 first_ends : {X : Type 0} (page_size least : ℕ) (size : X → ℕ) (items run : List X) (runs : List (List X)) → IsCut page_size least size items (run ∷ runs) → Ends page_size least size run runs
 first_ends page_size least size items run [] is = tt
 first_ends page_size least size items run ([] ∷ runs) is = is.filled 1 [] refl refl
 first_ends page_size least size items run ((next ∷ more) ∷ runs) is = joins_not page_size least size run next (is.long 0 run (next ∷ more) refl refl) (is.full 0 run more next refl refl)
-
-some_item : {X : Type 0} (run : List X) → run ≢ [] → 1 ≤ length run
-some_item [] some = absurd (some refl)
-some_item (x ∷ run) some = omega arith
 
 cut_are_runs : {X : Type 0} (page_size least : ℕ) (size : X → ℕ) (items : List X) (runs : List (List X)) → IsCut page_size least size items runs → AreRuns page_size least size runs
 cut_are_runs page_size least size items [] is = tt

@@ -1,8 +1,7 @@
 -- The root page over a row of leaf items: a leaf page, or a branch page over pages that stand over pieces of the row.
 use Rattle.std.proofs.Common.{◌≡◌, ◌∙◌, ℕ, zero, suc, ◌+◌, ◌*◌, ◌^◌, ◌<◌, ◌≤◌, List, [], ◌∷◌, ◌++◌, length, map, flat_map, refl, sym, ap, subst, arith, append_assoc, sum_by}
 use Rattle.std.specs.List.{AllByRecursion}
-use Rattle.std.proofs.Math.Nat.{mul-le-mul_right, pow-suc, suc-mul}
-use Rattle.std.proofs.lemmas.Bool.{cases_lt}
+use Rattle.std.proofs.Math.Nat.{mul-le-mul_right}
 use Rattle.std.proofs.lemmas.List.{append-nil, length-map}
 use Rattle.std.proofs.lemmas.List.Sums.{sum_by-append, sum_by-cons}
 use Rattle.bolt_format.specs.Elements.{BranchElement, LeafElement}
@@ -68,14 +67,13 @@ pieces_small page_size height (page ∷ pages) leaves h keys =
     let (first, front, back, e, o, more) = h in
     let keys2 : AllByRecursion HasShortKey (first ∷ (front ++ back)) = subst (AllByRecursion HasShortKey) e keys in
     let rest = (all_split HasShortKey front back keys2.1).1 in
-    let short : length first.key ≤ 0x40000000 = keys2.0 in
     let same : length page.key ≡ length first.key = ap (λ (k : List ℕ). length k) (over_key page_size height page first front o) in
     let size = over_size page_size height page (first ∷ front) o in
     (omega arith, pieces_small page_size height pages back more rest)
 
 sum_at_most : {E : Type 0} (bound : ℕ) (run : List (Laid E)) → AllByRecursion (IsAtMost bound) run → sum_by size_of run ≤ length run * bound
 sum_at_most bound [] h = omega arith
-sum_at_most {E = E} bound (x ∷ run) h = omega (arith, sum_by-cons, suc-mul, sum_at_most bound run h.1)
+sum_at_most {E = E} bound (x ∷ run) h = omega (arith, sum_by-cons, sum_at_most bound run h.1)
 
 -- A run that a page can hold, of items that are not too large, has room on its page.
 run_fits : {E : Type 0} (page_size spare bound : ℕ) (run : List (Laid E)) → page_size + spare * bound < 0x100000000 → FitsBut page_size spare size_of run
@@ -89,7 +87,7 @@ run_fits {E = E} page_size spare bound run small is sizes =
 
 run_of : {E : Type 0} (page_size wide spare bound : ℕ) (run : List (Laid E)) → spare ≤ 1 → page_size + spare * bound < 0x100000000 → 16 + wide * bound < 0x100000000
     → IsPageRun page_size wide spare size_of run → AllByRecursion (IsAtMost bound) run → IsRun run
-run_of page_size wide spare bound run one small room is sizes = grind (arith, cases_lt, run_fits, sum_at_most, mul-le-mul_right)
+run_of page_size wide spare bound run one small room is sizes = grind (arith, run_fits, sum_at_most, mul-le-mul_right)
 
 -- The leaf pages over a row of items that is divided.
 pub leaves_over : (page_size : ℕ) (runs : List (List (Laid LeafElement))) (leaves : List (Laid LeafElement)) → page_size < 0x80000000
@@ -164,7 +162,7 @@ over_whole page_size height page leaves h = grind (arith, append-nil)
 fewer : (others next height levels : ℕ) → 2 * next ≤ suc (suc (suc others)) → ((k : ℕ) → next ≤ 2 ^ k → levels ≤ suc height + k)
     → (k : ℕ) → suc (suc others) ≤ 2 ^ k → levels ≤ height + k
 fewer others next height levels half few zero most = absurd (omega arith)
-fewer others next height levels half few (suc k) most = grind (arith, pow-suc)
+fewer others next height levels half few (suc k) most = grind arith
 
 top_fits : (which : Layout) (page_size steps height : ℕ) (level : List (Laid BranchElement)) (leaves : List (Laid LeafElement)) → page_size < 0x80000000
     → AllByRecursion HasShortKey leaves → Pieces (IsOver page_size height) level leaves
@@ -203,5 +201,4 @@ root_is_over which page_size (item ∷ items) small keys sizes =
     let same = length-map runs (page_over leaf_page_view page_size) in
     let count = pages_count leaf_page_view page_size runs in
     let top = top_fits which page_size (length level) 0 level all small keys pieces (omega arith) (omega arith) in
-    let more = top.more in
     (top.levels, λ room. top.few 63 (omega arith), top.over)

@@ -1,7 +1,7 @@
 -- Pages in a row: each begins where the span of the one before it ends. In the file each shows what was written.
 use Rattle.std.proofs.Common.{◌≡◌, ◌∙◌, ◌⊎◌, ℕ, ◌+◌, ◌-◌, ◌*◌, ◌^◌, ◌<◌, ◌≤◌, List, [], ◌∷◌, ◌++◌, length, drop, refl, sym, ap, subst, arith, append_assoc}
 use Rattle.std.specs.List.{AllByRecursion}
-use Rattle.std.proofs.Math.Nat.{add-mul, div-add-mod', div-le_self, mod-lt}
+use Rattle.std.proofs.Math.Nat.{div-le_self}
 use Rattle.bolt_format.specs.Elements.{BranchElement, LeafElement, value_fault}
 use Rattle.bolt_format.specs.Pages.{PageView}
 use Rattle.bolt_format.specs.declared.kind.Kind.{Kind}
@@ -21,7 +21,7 @@ use Rattle.bolt_layout.specs.Levels.{branch_page_view, leaf_page_view, overflow_
 -- Room on a page: the least overflow.
 pub overflow_room : (page_size size : ℕ) → 0 < page_size → 0 < size → size ≤ (1 + overflow_of page_size size) * page_size
 unfolding overflow_of
-overflow_room page_size size some any = omega (arith, div-add-mod', mod-lt, add-mul)
+overflow_room page_size size some any = omega arith
 
 pub overflow_small : (page_size size : ℕ) → overflow_of page_size size ≤ size
 unfolding overflow_of
@@ -65,7 +65,7 @@ pub branch_room : (page_size number further : ℕ) (es : List BranchElement) →
 branch_room page_size number further es room = grind (arith, length-header_bytes, length-branch_bytes, length-append)
 
 fit_room : (page_size : ℕ) (page : Placed) → IsPageFit page_size page → HasRoom page_size page
-fit_room page_size page = grind (arith, by_kind, leaf_room, branch_room)
+fit_room page_size page = grind (arith, leaf_room, branch_room)
 
 -- and so it takes as many bytes as its span.
 length-page : (page_size : ℕ) (page : Placed) → HasRoom page_size page → length (page_bytes page_size page.number page.view) ≡ (1 + page.view.overflow) * page_size
@@ -106,7 +106,6 @@ row_shown file meta from to (page ∷ pages) rest row fits h within below small 
     let h2 : drop (from * size) file ≡ page_bytes size page.number page.view ++ (placed_bytes size pages ++ rest) = h ∙ append_assoc (page_bytes size page.number page.view) (placed_bytes size pages) rest in
     let long = length-page size page (fit_room size page fits.0) in
     let here : drop (page.number * size) file ≡ page_bytes size page.number page.view ++ (placed_bytes size pages ++ rest) = ap (λ (n : ℕ). drop n file) place ∙ h2 in
-    let end : (from + (1 + page.view.overflow)) * size ≡ from * size + (1 + page.view.overflow) * size = add-mul from (1 + page.view.overflow) size in
     let w = part_within file (page_bytes size page.number page.view) (placed_bytes size pages ++ rest) (from * size) h2 within in
     let behind : drop ((from + (1 + page.view.overflow)) * size) file ≡ placed_bytes size pages ++ rest =
     part_next file (page_bytes size page.number page.view) (placed_bytes size pages ++ rest) (from * size) _ h2 (omega arith) in
@@ -119,7 +118,7 @@ row_shown file meta from to (page ∷ pages) rest row fits h within below small 
 pub length-placed : (page_size from to : ℕ) (pages : List Placed) → IsInARow from pages to → AllByRecursion (HasRoom page_size) pages
     → length (placed_bytes page_size pages) + from * page_size ≡ to * page_size
 length-placed page_size from to [] row fits = let e = ap (λ (n : ℕ). n * page_size) row in omega arith
-length-placed page_size from to (page ∷ pages) row fits = grind (arith, length-page, add-mul, length-append, length-placed page_size (from + (1 + page.view.overflow)) to pages row.1 fits.1)
+length-placed page_size from to (page ∷ pages) row fits = grind (arith, length-page, length-append, length-placed page_size (from + (1 + page.view.overflow)) to pages row.1 fits.1)
 
 -- The last page of a row ends where the row does,
 pub row_last : (from to : ℕ) (front : List Placed) (own : Placed) → IsInARow from (front ++ own ∷ []) to → own.number + (1 + own.view.overflow) ≡ to
@@ -134,7 +133,6 @@ last_written file page_size from to [] own rest row fits h = grind (arith, appen
 last_written file page_size from to (page ∷ front) own rest row fits h =
     let long = length-page page_size page (fit_room page_size page fits.0) in
     let h2 = h ∙ append_assoc (page_bytes page_size page.number page.view) (placed_bytes page_size (front ++ own ∷ [])) rest in
-    let end : (from + (1 + page.view.overflow)) * page_size ≡ from * page_size + (1 + page.view.overflow) * page_size = add-mul from (1 + page.view.overflow) page_size in
     let behind = part_next file (page_bytes page_size page.number page.view) (placed_bytes page_size (front ++ own ∷ []) ++ rest) (from * page_size) ((from + (1 + page.view.overflow)) * page_size) h2 (omega arith) in
     last_written file page_size (from + (1 + page.view.overflow)) to front own rest row.1 fits.1 behind
 

@@ -52,7 +52,7 @@ inline_passes nodes host keys fine [] t e = let same : At_inline host keys ≡ t
 inline_passes nodes host keys fine (i ∷ way) t e = absurd (none_some nodes way t e)
 
 pub part_inline : (nodes : Nodes) (host from to : ℕ) (keys : List Key) → from ≡ to → inline_finding host keys ≡ None → IsPart nodes (follow nodes (Some (At_inline host keys))) from to
-part_inline nodes host from to keys same fine = grind (arith, part_empty, inline_passes, inline_nothing)
+part_inline nodes host from to keys same fine = grind (arith, inline_passes, inline_nothing)
 
 -- The ways from a row of spots: the number of one, and on from it.
 abbrev pub kids_at : Nodes → List (Option Spot) → List ℕ → Option Spot

@@ -52,7 +52,7 @@ joined_row lost row runs above noted all r one two same =
 kept_row : (lost : Bool) (row : ℕ × ℕ) (runs : List (List Face)) (above : List Face)
     → ((rows : List (ℕ × ℕ)) → limits_from_ends lost (row ∷ rows) ≡ None ∷ limits_from_ends false rows) → (2 ≤ last_length runs) ⊎ (length runs ≤ 1)
     → above ≡ map top_face runs → IsRow lost row runs above
-kept_row lost row runs above noted long same = grind (arith, top_face, join_none)
+kept_row lost row runs above noted long same = grind (arith, join_none)
 
 -- Where no page is lost, what is noted is of this row.
 whole_row : (row : ℕ × ℕ) (runs : List (List Face)) → AllByRecursion HasItem runs → 1 ≤ length runs → row.0 ≡ length runs → row.1 ≡ last_length runs
@@ -125,13 +125,10 @@ cut_items page_size faces =
     let divided = cut_divides page_size 2 2 0 face_size faces (omega arith) (omega arith) (omega arith) in
     all_weaker (IsPageRun page_size 2 0 face_size) HasItem (λ run is. is.some) (cut_of page_size 2 face_size faces) divided.each
 
-cut_some : (page_size : ℕ) (faces : List Face) → 1 ≤ length faces → 1 ≤ length (cut_of page_size 2 face_size faces)
-cut_some page_size faces some = grind (arith, some_runs, face_size)
-
 limit_of_row : (page_size : ℕ) (lost : Bool) (row : ℕ × ℕ) (plain balanced : List Face) → Lost lost plain balanced → 2 ≤ length plain
     → row.0 ≡ length (cut_of page_size 2 face_size plain) → row.1 ≡ last_length (cut_of page_size 2 face_size plain)
     → IsRow lost row (cut_of page_size 2 face_size balanced) (map top_face (cut_of page_size 2 face_size plain))
-limit_of_row page_size lost row plain balanced same two r m = grind (arith, face_size, top_face, whole_row, cut_items, cut_some, length_push, cut_pushed, lost_row)
+limit_of_row page_size lost row plain balanced same two r m = grind (arith, face_size, whole_row, cut_items, cut_pushed, lost_row, some_runs)
 
 -- A row of one page, and the rows above it, are cut alike.
 next_short : (page_size : ℕ) (pages : List (Laid BranchElement)) → length pages ≤ 1 → length (next_level Balanced page_size pages) ≤ 1
@@ -160,9 +157,6 @@ face_cut page_size pages =
       sym (map_last face runs) ∙ ap (λ (rs : List (List Face)). last_length rs) same,
     )
 
-lost_short : (lost : Bool) (plain balanced : List Face) → Lost lost plain balanced → length plain ≤ 1 → length balanced ≤ 1
-lost_short lost plain balanced same few = grind (arith, length_push)
-
 rows_at : (page_size : ℕ) (limits : List (Option ℕ)) (limit : Option ℕ) (pages : List (Laid BranchElement))
     → cut_row page_size size_of limit pages ≡ branch_cut Balanced page_size size_of pages
     → HaveRightLimits Balanced page_size (limit_at limits) (next_level Balanced page_size pages) → HaveRightLimits Balanced page_size (limit_at (limit ∷ limits)) pages
@@ -170,7 +164,7 @@ rows_at page_size limits limit pages first above k = grind arith
 
 rows_limited : (page_size : ℕ) (rows : List (ℕ × ℕ)) (lost : Bool) (plain balanced : List (Laid BranchElement)) → AreRowEnds page_size plain rows
     → Lost lost (map face plain) (map face balanced) → HaveRightLimits Balanced page_size (limit_at (limits_from_ends lost rows)) balanced
-rows_limited page_size [] lost plain balanced few lacks k = grind (arith, length-map, face, lost_short, short_rows)
+rows_limited page_size [] lost plain balanced few lacks k = grind (arith, length-map, short_rows, length_push)
 rows_limited page_size (row ∷ rows) lost plain balanced (two, r, m, noted) lacks k =
     let a = length-map plain face in
     let of_plain = face_cut page_size plain in

@@ -125,7 +125,6 @@ module _ (file : List ℕ) (meta : Meta) where
   root_shows which page_size sequence n key inside items e sized small narrow all rise ih some room shown same =
       let root = root_over which page_size items in
       let (height, low, page) = root_page which page_size items sized small all rise in
-      let c = page.child n in
       let child : ℕ = (root.element n).child in
       let value : List ℕ = head_bytes child sequence in
       let head = head_written value [] child sequence (sym (append-nil value)) (omega arith) narrow in

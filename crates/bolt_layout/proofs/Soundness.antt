@@ -1,18 +1,15 @@
 -- The layout of a tree is a sound file.
-use Rattle.std.proofs.Common.{◌≡◌, ◌≢◌, ◌∙◌, ℕ, ◌+◌, ◌-◌, ◌*◌, ◌^◌, ◌<◌, ◌≤◌, List, [], ◌∷◌, ◌++◌, length, drop, replicate, Option, Some, None, refl, sym, ap, subst, inl, inr, arith, append_assoc}
+use Rattle.std.proofs.Common.{◌≡◌, ◌∙◌, ℕ, ◌+◌, ◌-◌, ◌*◌, ◌^◌, ◌<◌, ◌≤◌, List, [], ◌∷◌, ◌++◌, length, drop, replicate, Option, Some, refl, sym, ap, inl, inr, arith, append_assoc}
 use Rattle.std.specs.List.{AllByRecursion}
 use Rattle.std.proofs.Math.Nat.{mul-le-mul_left}
 use Rattle.std.proofs.lemmas.Bool.{cases_lt}
 use Rattle.std.proofs.lemmas.List.{append-nil, length-append}
-use Rattle.bolt_format.specs.Freelists.{free_ids_of, freelist_fault_of}
 use Rattle.bolt_format.specs.Metas.{HasBothMetas, IsChosen, IsMeta, IsPageSize}
-use Rattle.bolt_format.specs.Pages.{PageView, page_fault, page_overflow}
+use Rattle.bolt_format.specs.Pages.{PageView, page_fault}
 use Rattle.bolt_format.specs.declared.meta.Meta.{Meta}
-use Rattle.bolt_format.specs.declared.meta.TheConstants.{NO_FREELIST}
 use Rattle.bolt_format.specs.declared.meta.Slot.TheVariants.{Zero, One}
-use Rattle.bolt_check.specs.Accounts.{IsInUse, ListsFree, times_in}
 use Rattle.bolt_check.specs.Nodes.{node_at, node_of, node_seen}
-use Rattle.bolt_check.specs.Sound.{HasRightAccounts, HasSoundTrees, IsUsed, PassesTests}
+use Rattle.bolt_check.specs.Sound.{HasRightAccounts, HasSoundTrees, PassesTests}
 use Rattle.bolt_check.specs.Ways.{reached, root_spot}
 use Rattle.bolt_layout.specs.PageBytes.{freelist_page, meta_page, copy_meta}
 use Rattle.bolt_format.specs.Written.{header_bytes, meta_bytes}
@@ -119,28 +116,7 @@ some_same a b e = cc
 accounts_of : (file : List ℕ) (page_size root sequence mark txid : ℕ) → IsEmptyFreelist file (copy_meta page_size root sequence mark txid) 2
     → IsPart (node_at file (copy_meta page_size root sequence mark txid)) (reached (node_at file (copy_meta page_size root sequence mark txid)) root) 3 mark → HasRightAccounts file (copy_meta page_size root sequence mark txid)
 accounts_of file page_size root sequence mark txid free part =
-    let meta : Meta = copy_meta page_size root sequence mark txid in
-    let good : freelist_fault_of file meta ≡ None = free.good in
-    let alone : page_overflow file meta 2 ≡ 0 = free.alone in
-    let listed : free_ids_of file meta ≡ Some [] = ap (λ (ids : List ℕ). Some ids) free.empty in
-    let written : 2 ≢ NO_FREELIST = λ e. omega arith in
-    record {
-      good = good;
-      apart = λ n in_free used. elim used [
-        | inl low ↦ (let a = in_free.from in omega arith)
-        | inr high ↦ (let (way, h) = high in let i = part.inside way n h in let a = in_free.last in omega arith)
-      ];
-      lists = λ ids e.
-          let none : [] ≡ ids = some_same [] ids (sym listed ∙ e) in
-          subst (λ (xs : List ℕ). ListsFree meta.high_water (IsInUse file meta (IsUsed file meta)) (times_in xs)) none (record {
-            free = λ n h. absurd (omega arith);
-            once = λ n. omega arith;
-            listed = λ n is_free. absurd (is_free.unused (elim (cases_lt n 3) [
-              | inl low ↦ inr (let a = is_free.above_metas in record { written = written; good = good; from = omega arith; last = omega arith })
-              | inr high ↦ inl (inr (part.whole n high is_free.below))
-            ]));
-          });
-    }
+    grind (arith, some_same, cases_lt)
 
 -- what the tests of trees are for
 abbrev pub PassingIsSound : Type 0
@@ -189,26 +165,11 @@ laid_out which page_size tree sequence size storable sized short =
     let pages : List Placed = layout_pages which page_size tree in
     let root : ℕ = layout_root which page_size tree in
     let mark : ℕ = layout_mark which page_size tree in
-    let row : IsInARow 3 pages mark = page.pages.row 3 in
-    let child = page.child 3 in
     let wide : mark * 1024 ≤ mark * page_size = mul-le-mul_left mark (omega arith) in
     let stand = pieces_stand page_size root sequence mark pages size (omega arith) (omega arith) (omega arith) in
     let long = stand.long in
     let fits = page.pages.fits 3 (omega arith) (omega arith) in
-    record {
-      room = omega arith;
-      fits = record { size = size; root = omega arith; sequence = omega arith; freelist = omega arith; mark = omega arith; txid = omega arith };
-      above = omega arith;
-      below = omega arith;
-      row = row;
-      pages = fits;
-      file = stand;
-      long = exact;
-      last = page.last 3;
-      height = height;
-      low = low (omega arith);
-      page = page;
-    }
+    grind arith
 
 pub record IsSoundLayout (which : Layout) (page_size : ℕ) (tree : Tree) (sequence : ℕ) : Type 0 where
   pub metas : HasBothMetas (layout_of which page_size tree sequence)
@@ -229,9 +190,7 @@ layout_sound law which page_size tree sequence size laid =
     let meta : Meta = layout_meta which page_size tree sequence 1 in
     let file : List ℕ = file_bytes page_size root sequence mark pages in
     let stand = laid.file in
-    let long = stand.long in
     let room = laid.room in
-    let above = laid.above in
     let below = laid.below in
     let shown = row_shown file meta 3 mark pages [] laid.row laid.pages stand.placed (omega arith) (omega arith) (omega arith) in
     let nodes = nodes_shown file meta pages shown in

@@ -1,13 +1,11 @@
 -- The top of a level is that of the next, and a page's overflow is the least.
 use Rattle.std.proofs.Common.{◌≡◌, ℕ, zero, suc, ◌-◌, ◌≤◌, List, [], ◌∷◌, length, refl, arith}
-use Rattle.std.proofs.Math.Nat.{div-lt_iff_lt-mul}
 use Rattle.std.proofs.lemmas.List.{length-map}
 use Rattle.bolt_format.specs.Elements.{BranchElement}
 use Rattle.bolt_layout.specs.Cut.{branch_cut}
 use Rattle.bolt_layout.specs.Laid.{Laid, size_of}
 use Rattle.bolt_layout.specs.Levels.{IsOverflow, TopIsAbove, branch_page_view, next_level, overflow_of, page_over, top_in}
 use Rattle.bolt_layout.proofs.Cutting.{branches_halve}
-use Rattle.bolt_layout.proofs.PageRows.{overflow_room}
 use Rattle.bolt_layout.specs.declared.layout.Layout.{Layout}
 
 -- a level of two pages or more has more than the next
@@ -29,4 +27,4 @@ top_above which page_size is h = grind (arith, shorter, top_steps)
 
 pub overflow_is : (page_size size : ℕ) → 1 ≤ page_size → 1 ≤ size → IsOverflow page_size size (overflow_of page_size size)
 unfolding overflow_of
-overflow_is page_size size some any = grind (arith, overflow_room, div-lt_iff_lt-mul)
+overflow_is page_size size some any = grind arith

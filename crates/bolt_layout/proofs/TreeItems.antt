@@ -4,7 +4,6 @@ use Rattle.std.specs.Ordering.{is_lt}
 use Rattle.std.specs.List.{AllByRecursion}
 use Rattle.std.proofs.lemmas.Bool.{and_parts, eq-eqb, leb-true, ne_eqb, not-true}
 use Rattle.std.proofs.lemmas.List.{append-nil, length-append}
-use Rattle.std.proofs.Math.Nat.{div-le_self}
 use Rattle.bolt_format.specs.Elements.{LeafElement, head_root, head_sequence, inline_elements, value_fault}
 use Rattle.bolt_check.specs.Keys.{Key, key_cmp, key_lt}
 use Rattle.bolt_check.specs.Nodes.{leaf_entry}
@@ -89,7 +88,6 @@ inline_read which page_size sequence inside small sized lengths all inline =
     let flat = flat_elements which page_size inside none lengths 0 in
     let size = items_size page_size items all 0 in
     let long = length-elements items 0 in
-    let less = div-le_self page_size 4 in
     let wide = length-inline_value sequence es in
     let written = inline_written sequence es sized flat (omega arith) (omega arith) in
     (written.0, written.1, written.2, written.3, none, omega arith)
@@ -103,7 +101,6 @@ inline_item which page_size key sequence inside small some short sized lengths a
     let es : List LeafElement = elements_of items 0 in
     let value : List ℕ = inline_value sequence es in
     let written = inline_read which page_size sequence inside small sized lengths all inline in
-    let wide = written.5 in
     let keys = items_keys page_size items all None None None 0 rise (above_none items) (within_none items) in
     let named : map (λ (i : LeafElement). i.key) (inline_elements value) ≡ keys_of (map leaf_entry es) = ap (λ (x : List LeafElement). map (λ (i : LeafElement). i.key) x) written.3 ∙ sym (keys_same es) in
     record {
@@ -153,11 +150,9 @@ root_item which page_size key sequence items sized small some short narrow all r
       key = λ n. refl;
       size = λ n. (let l = length-head_bytes (root.element n).child sequence in omega arith);
       fit = λ n any h.
-          let c = page.child n in
           let l = length-head_bytes (root.element n).child sequence in
           record { some = some; key = short; value = omega arith; bucket = λ e. root_passes (root.element n).child sequence (omega arith) (omega arith) narrow };
       part = λ nodes n host any h shown.
-          let c = page.child n in
           let same = head n (omega arith) in
           let e : LeafElement = item.element n in
           subst (λ (o : Option Spot). IsPart nodes (follow nodes o) n (n + root.numbers)) (sym (spot_of_root host (root.element n).child e refl same (omega arith)))
@@ -177,12 +172,7 @@ keys_below which page_size key (with_value other value after) below x same = (
   keys_below which page_size key after (λ k has. below k (contains_tail other k (keys_in after) has)) x same,
 )
 keys_below which page_size key (with_bucket other sequence inside after) below x same =
-    let items = items_of which page_size inside in
-    let named = stored_key which page_size other sequence inside items (is_inline page_size inside items) refl in (
-      ap (λ (k : Key). key_lt k (stored_bucket which page_size other sequence inside items).key) same
-          ∙ (ap (λ (k : Key). key_lt key k) named ∙ ap is_lt (below other (contains_head other (keys_in after)))),
-      keys_below which page_size key after (λ k has. below k (contains_tail other k (keys_in after) has)) x same,
-    )
+    grind (arith, contains_head, contains_tail, keys_below which page_size key after (λ k has. below k (contains_tail other k (keys_in after) has)) x same)
 
 pub tree_rise : (which : Layout) (page_size : ℕ) (tree : Tree) → Rises key_cmp (keys_in tree) → Rise (items_of which page_size tree)
 tree_rise which page_size end h = tt

@@ -1,13 +1,12 @@
 -- No branch page of a balanced layout has fewer than two elements.
-use Rattle.std.proofs.Common.{◌≡◌, ℕ, zero, suc, ◌+◌, ◌≤◌, Bool, List, [], ◌∷◌, length, map, flat_map, refl, sym, ap, subst, arith}
+use Rattle.std.proofs.Common.{◌≡◌, ℕ, zero, suc, ◌+◌, ◌≤◌, List, [], ◌∷◌, length, map, flat_map, refl, sym, ap, subst, arith}
 use Rattle.std.specs.List.{AllByRecursion}
-use Rattle.std.proofs.lemmas.Bool.{ltb-false}
 use Rattle.std.proofs.lemmas.List.{length-append}
 use Rattle.bolt_format.specs.Elements.{BranchElement, LeafElement}
 use Rattle.bolt_format.specs.declared.kind.Kind.TheVariants as kind
 use Rattle.bolt_tree.specs.Tree.{Tree, end, with_bucket, with_value}
 use Rattle.bolt_layout.specs.Cut.{branch_cut, cut_of, join_last}
-use Rattle.bolt_layout.specs.Items.{is_inline, items_of, root_of, stored_bucket}
+use Rattle.bolt_layout.specs.Items.{items_of, root_of}
 use Rattle.bolt_layout.specs.Laid.{Laid, elements_of, pages_of, size_of}
 use Rattle.bolt_layout.specs.Layout.{HasTwoIfBranch, first_page, layout_pages}
 use Rattle.bolt_layout.specs.Levels.{branch_page_view, leaf_level, leaf_page_view, next_level, page_over, root_over, top_in}
@@ -23,7 +22,7 @@ HasItems run = 2 ≤ length run
 joined_long : {X : Type 0} (page_size : ℕ) (size : X → ℕ) (runs : List (List X)) → AreRuns page_size 2 size runs → 2 ≤ length (flat_map (λ run. run) runs) → AllByRecursion HasItems (join_last runs)
 joined_long page_size size [] are two = tt
 joined_long page_size size (run ∷ []) are two = (omega (arith, length-append run []), tt)
-joined_long page_size size (run ∷ next ∷ []) are two = grind (arith, first_long, length-append, ltb-false)
+joined_long page_size size (run ∷ next ∷ []) are two = grind (arith, length-append)
 joined_long {X = X} page_size size (run ∷ next ∷ more ∷ runs) are two =
     let second = first_long page_size 2 size next more runs are.2 in
     let l = length-append next (flat_map (λ (r : List X). r) (more ∷ runs)) in
@@ -88,15 +87,11 @@ root_twos page_size items all =
     let below = subst (AllByRecursion HasTwos) (sym divided.whole) all in
     top_twos (length (leaf_level page_size items)) page_size (leaf_level page_size items) (leaves_twos page_size (cut_of page_size 1 size_of items) below)
 
-stored_twos : (page_size : ℕ) (key : List ℕ) (sequence : ℕ) (inside : Tree) (items : List (Laid LeafElement)) (b : Bool) → is_inline page_size inside items ≡ b
-    → AllByRecursion HasTwos items → HasTwos (stored_bucket Balanced page_size key sequence inside items)
-stored_twos page_size key sequence inside items b e all = grind (arith, root_twos)
-
 -- and all buckets.
 tree_twos : (page_size : ℕ) (tree : Tree) → AllByRecursion HasTwos (items_of Balanced page_size tree)
 tree_twos page_size end = tt
 tree_twos page_size (with_value key value after) = (λ number. tt, tree_twos page_size after)
-tree_twos page_size (with_bucket key sequence inside after) = grind (arith, stored_twos, tree_twos page_size inside, tree_twos page_size after)
+tree_twos page_size (with_bucket key sequence inside after) = grind (arith, tree_twos page_size inside, tree_twos page_size after, root_twos)
 
 pub layout_twos : (page_size : ℕ) (tree : Tree) → AllByRecursion HasTwoIfBranch (layout_pages Balanced page_size tree)
 unfolding root_of
