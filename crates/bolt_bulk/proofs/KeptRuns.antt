@@ -1,11 +1,10 @@
 -- The open runs that the code keeps of a bucket are those that the pass has open.
-use Rattle.std.proofs.Common.{◌≡◌, ◌∙◌, ℕ, ◌+◌, ◌||◌, Bool, true, false, if◌then◌else◌, Option, None, List, [], ◌∷◌, ◌++◌, length, refl, sym, ap, inl, inr, arith, suc}
+use Rattle.std.proofs.Common.{◌≡◌, ◌∙◌, ℕ, ◌+◌, ◌||◌, Bool, true, false, Option, List, [], ◌∷◌, ◌++◌, length, refl, ap, inl, inr, arith, suc}
 use Rattle.std.specs.List.{AllByRecursion}
 use Rattle.std.proofs.lemmas.Bool.{cases_Bool}
 use Rattle.std.proofs.lemmas.List.Sums.{sum_by_push}
 use Rattle.bolt_format.specs.Elements.{BranchElement, LeafElement}
-use Rattle.bolt_layout.specs.Cut.{run_size}
-use Rattle.bolt_layout.specs.Laid.{Laid, Placed, elements_of, first_key, numbers_of, size_of}
+use Rattle.bolt_layout.specs.Laid.{Laid, Placed, elements_of, first_key, numbers_of}
 use Rattle.bolt_layout.specs.Limits.{is_out, one_less}
 use Rattle.bolt_layout.specs.Levels.{branch_page_view, overflow_of, page_over, run_overflow, leaf_page_view}
 use Rattle.bolt_bulk.specs.Private.OpenRuns.{Upper, begun_after, climb, climb_puts, has_room, kept, key_size, numbers_in, own_page, pushed_on, put_in, stays_open, close, close_puts, end_of, end_puts, Known, making_room, nothing_open, Open, pushing, room_puts}
@@ -22,54 +21,27 @@ use Rattle.bolt_layout.proofs.BranchLemmas.{same_branch}
 
 pub elements-append : {E : Type 0} (xs ys : List (Laid E)) (n : ℕ) → elements_of (xs ++ ys) n ≡ elements_of xs n ++ elements_of ys (n + numbers_of xs)
 elements-append [] ys n = ap (λ (m : ℕ). elements_of ys m) (let e : n ≡ n + 0 = omega arith in e)
-elements-append {E = E} (x ∷ xs) ys n =
-    let ih = elements-append xs ys (n + x.numbers) in
-    let e : n + x.numbers + numbers_of xs ≡ n + numbers_of (x ∷ xs) = omega arith in
-    ap (λ (es : List E). x.element n ∷ es) (ih ∙ ap (λ (m : ℕ). elements_of xs (n + x.numbers) ++ elements_of ys m) e)
+elements-append {E = E} (x ∷ xs) ys n = grind (arith, elements-append xs ys (n + x.numbers))
 
 pub run_grown : (kept_run : RunView) (upper : Upper) (n : ℕ) (q : Laid BranchElement) (e : BranchElement) → IsUpper kept_run upper n → IsKeyed q → e ≡ q.element (n + numbers_of upper.run)
     → IsUpper (run_push kept_run e) (pushed_on upper q) n
-run_grown kept_run upper n q e is keyed same =
-    let run : List (Laid BranchElement) = upper.run in
-    let s = sum_by_push (size_of {E = BranchElement}) run q in
-    let size = is.size_is in
-    let k : length e.key ≡ length q.key = ap (λ (x : BranchElement). length x.key) same ∙ ap (λ (x : List ℕ). length x) (keyed.1 (n + numbers_of run)) in
-    let z = keyed.0 in
-    record {
-      same = ap (λ (es : List BranchElement). es ++ e ∷ []) is.same ∙ (ap (λ (x : BranchElement). elements_of run n ++ x ∷ []) same ∙ sym (elements-append run (q ∷ []) n));
-      size_is = omega arith;
-      keyed = all_append IsKeyed run (q ∷ []) is.keyed (keyed, tt);
-      left_is = is.left_is;
-      closed_is = is.closed_is;
-    }
+run_grown kept_run upper n q e is keyed same = grind (arith, sum_by_push, elements-append, all_append)
 
 pub room_same : (page_size : ℕ) (kept_run : RunView) (upper : Upper) (n size : ℕ) → IsUpper kept_run upper n → run_has_room page_size kept_run size ≡ has_room page_size 2 upper.run size
-room_same page_size kept_run upper n size is =
-    let l : length kept_run.elements ≡ length upper.run = ap (λ (es : List BranchElement). length es) is.same ∙ length-elements upper.run n in
-    rw (l, is.size_is) refl
+room_same page_size kept_run upper n size is = grind (arith, length-elements)
 
 pub stays_same : (page_size : ℕ) (kept_run : RunView) (upper : Upper) (n size : ℕ) → IsUpper kept_run upper n → run_stays page_size kept_run size ≡ stays_open page_size upper size
 stays_same page_size kept_run upper n size is = ap (λ (b : Bool). b || is_out kept_run.left) (room_same page_size kept_run upper n size is) ∙ ap (λ (l : Option ℕ). has_room page_size 2 upper.run size || is_out l) is.left_is
 
 pub kept_same : (page_size : ℕ) (kept_run : RunView) (upper : Upper) (n size : ℕ) → IsUpper kept_run upper n → IsUpper (run_kept page_size kept_run size) (kept page_size upper size) n
-kept_same page_size kept_run upper n size is = record {
-  same = is.same;
-  size_is = is.size_is;
-  keyed = is.keyed;
-  left_is = ap (λ (b : Bool). if b then kept_run.left else None) (room_same page_size kept_run upper n size is) ∙ ap (λ (l : Option ℕ). if has_room page_size 2 upper.run size then l else None) is.left_is;
-  closed_is = is.closed_is;
-}
+kept_same page_size kept_run upper n size is = grind (arith, room_same)
 
 pub key_same : (run : List (Laid BranchElement)) (n : ℕ) → AllByRecursion IsKeyed run → run_key (elements_of run n) ≡ first_key run
 key_same [] n keyed = refl
 key_same (x ∷ run) n keyed = keyed.0.1 n
 
 pub placed_same : (page_size : ℕ) (kept_run : RunView) (upper : Upper) (n next : ℕ) → IsUpper kept_run upper n → next ≡ n + numbers_of upper.run → run_page page_size kept_run next ≡ own_page branch_page_view page_size upper.run n
-placed_same page_size kept_run upper n next is number =
-    let run : List (Laid BranchElement) = upper.run in
-    let f : ℕ → ℕ → List BranchElement → Placed = λ m s es. record { number = m; view = branch_page_view (overflow_of page_size s) es } in
-    ap (λ (m : ℕ). f m kept_run.size kept_run.elements) number
-    ∙ (ap (λ (s : ℕ). f (n + numbers_of run) s kept_run.elements) is.size_is ∙ ap (λ (es : List BranchElement). f (n + numbers_of run) (run_size size_of run) es) is.same)
+placed_same page_size kept_run upper n next is number = grind arith
 
 -- the page over a run that takes one more page
 record Over (page_size : ℕ) (kept_run : RunView) (upper : Upper) (m next : ℕ) (e : BranchElement) (q : Laid BranchElement) : Type 0 where
@@ -103,10 +75,7 @@ runs_climbed : (page_size : ℕ) (new : Option ℕ) (key : List ℕ) (e : Branch
     → e ≡ q.element (b + numbers_in uppers) → next ≡ b + numbers_in uppers + q.numbers
     → AreUppers (runs_climb page_size new key e next kept_runs) (climb page_size new key q uppers) b × (runs_put page_size key e next kept_runs ≡ climb_puts page_size key q uppers b)
     × (runs_next page_size key e next kept_runs ≡ b + numbers_in (climb page_size new key q uppers))
-runs_climbed page_size new key e next b q [] [] are keyed same number =
-    let at : b + 0 ≡ b + 0 + 0 = omega arith in
-    let base : IsUpper (no_run new 0) (record { run = []; left = new; closed = 0 }) (b + 0) = record { same = refl; size_is = refl; keyed = tt; left_is = refl; closed_is = refl } in
-    ((run_grown (no_run new 0) (record { run = []; left = new; closed = 0 }) (b + 0) q e base keyed (same ∙ ap q.element at), tt), refl, omega arith)
+runs_climbed page_size new key e next b q [] [] are keyed same number = grind (arith, run_grown)
 runs_climbed page_size new key e next b q [] (upper ∷ uppers) are keyed same number = absurd are
 runs_climbed page_size new key e next b q (kept_run ∷ kept_runs) [] are keyed same number = absurd are
 runs_climbed page_size new key e next b q (kept_run ∷ kept_runs) (upper ∷ uppers) are keyed same number =
@@ -155,17 +124,7 @@ record OverLeaf (page_size : ℕ) (kept_runs : BucketRunsView) (run : List (Laid
   pub after : kept_runs.next + (1 + overflow_of page_size kept_runs.leaves.size) ≡ m + (page_over leaf_page_view page_size run).numbers
 
 over_leaf : (page_size : ℕ) (kept_runs : BucketRunsView) (state : Open) (b : ℕ) → AreOpenRuns kept_runs state b → OverLeaf page_size kept_runs state.run (b + numbers_in state.uppers)
-over_leaf page_size kept_runs state b is =
-    let m : ℕ = b + numbers_in state.uppers in
-    let over : overflow_of page_size kept_runs.leaves.size ≡ run_overflow page_size state.run = ap (overflow_of page_size) is.size_is in
-    let n = is.next_is in
-    let f : ℕ → ℕ → List LeafElement → Placed = λ k s es. record { number = k; view = leaf_page_view (overflow_of page_size s) es } in
-    record {
-      named = same_branch (leaf_closed kept_runs.leaves kept_runs.next) ((page_over leaf_page_view page_size state.run).element m) (ap leaf_key is.same ∙ leaf_key_same state.run m is.keyed) is.next_is;
-      own = ap (λ (k : ℕ). f k kept_runs.leaves.size kept_runs.leaves.elements) is.next_is
-          ∙ (ap (λ (s : ℕ). f (m + numbers_of state.run) s kept_runs.leaves.elements) is.size_is ∙ ap (λ (es : List LeafElement). f (m + numbers_of state.run) (run_size size_of state.run) es) is.same);
-      after = omega arith;
-    }
+over_leaf page_size kept_runs state b is = grind (arith, same_branch, leaf_key_same)
 
 -- making room
 pub runs_have_room : (page_size : ℕ) (kept_runs : BucketRunsView) (state : Open) (b : ℕ) (key : List ℕ) (size : ℕ) → AreOpenRuns kept_runs state b
@@ -193,29 +152,14 @@ runs_have_room page_size kept_runs state b key size is =
 -- an item, once the pages below it were written
 pub runs_pushed : (kept_runs : BucketRunsView) (state : Open) (b : ℕ) (item : Laid LeafElement) → AreOpenRuns kept_runs state b → IsKeyedItem item
     → AreOpenRuns (runs_push kept_runs (item.element kept_runs.next) item.size (kept_runs.next + item.numbers)) (pushing state item) b
-runs_pushed kept_runs state b item is keyed =
-    let m : ℕ = b + numbers_in state.uppers in
-    let s = sum_by_push (size_of {E = LeafElement}) state.run item in
-    let size = is.size_is in
-    let count = numbers-append state.run (item ∷ []) in
-    let n = is.next_is in
-    record {
-      same = ap (λ (es : List LeafElement). es ++ item.element kept_runs.next ∷ []) is.same
-          ∙ (ap (λ (k : ℕ). elements_of state.run m ++ item.element k ∷ []) is.next_is ∙ sym (elements-append state.run (item ∷ []) m));
-      size_is = omega arith;
-      keyed = all_append IsKeyedItem state.run (item ∷ []) is.keyed (keyed, tt);
-      above = is.above;
-      next_is = omega arith;
-      limits_are = is.limits_are;
-    }
+runs_pushed kept_runs state b item is keyed = grind (arith, sum_by_push, numbers-append, elements-append, all_append)
 
 -- the end
 runs_closed : (page_size : ℕ) (e : BranchElement) (next b : ℕ) (q : Laid BranchElement) (kept_runs : List RunView) (uppers : List Upper) → AreUppers kept_runs uppers b → IsKeyed q
     → e ≡ q.element (b + numbers_in uppers) → next ≡ b + numbers_in uppers + q.numbers
     → (runs_close_put page_size e next kept_runs ≡ close_puts page_size q uppers b) × (runs_root page_size e next kept_runs ≡ ((close page_size q uppers).element b).child)
     × (runs_end_next page_size e next kept_runs ≡ b + (close page_size q uppers).numbers)
-runs_closed page_size e next b q [] [] are keyed same number =
-    let at : b + 0 ≡ b = omega arith in (refl, ap (λ (x : BranchElement). x.child) (same ∙ ap q.element at), omega arith)
+runs_closed page_size e next b q [] [] are keyed same number = grind arith
 runs_closed page_size e next b q [] (upper ∷ uppers) are keyed same number = absurd are
 runs_closed page_size e next b q (kept_run ∷ kept_runs) [] are keyed same number = absurd are
 runs_closed page_size e next b q (kept_run ∷ kept_runs) (upper ∷ uppers) are keyed same number =

@@ -1,32 +1,20 @@
 -- The limits of rows: those of other rows stay, and those of a bucket are noted row by row.
 use Rattle.std.proofs.Common.{◌≡◌, ◌∙◌, ◌<◌, ◌≤◌, ◌+◌, ◌-◌, ℕ, suc, Bool, true, false, Option, Some, None, List, [], ◌∷◌, length, drop, refl, sym, ap, inl, inr, arith}
-use Rattle.std.proofs.lemmas.Bool.{cases_Bool, cases_lt}
+use Rattle.std.proofs.lemmas.Bool.{cases_lt}
 use Rattle.std.proofs.lemmas.List.{drop_all}
 use Rattle.std.proofs.lemmas.Map.Lookups.{exact_unsigned}
 use Rattle.std.specs.BTreeMap.{BTreeMap, Updates, get}
-use Rattle.std.specs.Ordering.{is_eq, nat_cmp, ordering_then}
+use Rattle.std.specs.Ordering.{is_eq, ordering_then}
 use Rattle.std.specs.declared.cmp.Ordering.{Ordering}
-use Rattle.std.specs.declared.cmp.Ordering.TheVariants.{Less, Equal, Greater}
+use Rattle.std.specs.declared.cmp.Ordering.TheVariants.{Equal}
 use Rattle.bolt_layout.specs.Limits.{limit_at, limits_from_ends}
 use Rattle.bolt_bulk.specs.Private.RowLimits.{IsOtherRow, row_cmp}
 
 both_equal : (o p : Ordering) → is_eq (ordering_then o p) ≡ true → (o ≡ Equal) × (p ≡ Equal)
-both_equal Less p e = absurd (cc)
-both_equal Equal Less e = absurd (cc)
-both_equal Equal Equal e = (refl, refl)
-both_equal Equal Greater e = absurd (cc)
-both_equal Greater p e = absurd (cc)
+both_equal o p e = grind arith
 
 apart : (bucket level b l : ℕ) → IsOtherRow bucket level b l → is_eq (row_cmp (bucket, level) (b, l)) ≡ false
-apart bucket level b l other = elim (cases_Bool (is_eq (row_cmp (bucket, level) (b, l)))) [
-  | inl t ↦
-      (let (first, second) = both_equal (nat_cmp bucket b) (nat_cmp level l) t in
-      absurd (elim other [
-        | inl other_bucket ↦ other_bucket (sym (exact_unsigned bucket b first))
-        | inr other_level ↦ other_level (sym (exact_unsigned level l second))
-      ]))
-  | inr f ↦ f
-]
+apart bucket level b l other = grind (arith, both_equal, exact_unsigned)
 
 pub others_stay : (old new : BTreeMap (ℕ × ℕ) ℕ) (bucket level left : ℕ) → Updates row_cmp old new (bucket, level) (Some left) → (b l : ℕ) → IsOtherRow bucket level b l
     → get row_cmp new (b, l) ≡ get row_cmp old (b, l)

@@ -43,7 +43,7 @@ use Rattle.bolt_bulk.proofs.Openings.{around_at, coming_at, coming_onto, opened_
 use Rattle.bolt_bulk.proofs.PassReady.{inline_long, small_of}
 use Rattle.bolt_bulk.proofs.PassSteps.{IsOn, inline_item, on_before, on_enters, on_leaves, on_numbers, on_takes, open_values, pass_takes_all, root_item, values_put, values_runs}
 use Rattle.bolt_bulk.proofs.PutsLemmas.{bytes-append, Wrote-gave_up}
-use Rattle.bolt_format.proofs.WroteLemmas.{Wrote-halt, Wrote-none, Wrote-then}
+use Rattle.bolt_format.proofs.WroteLemmas.{Wrote-halt, Wrote-none}
 use Rattle.bolt_format.specs.Wrote.{Wrote}
 use Rattle.bolt_format.specs.Endings.{whole}
 use Rattle.bolt_bulk.specs.BulkEndings.{bulk_ending, fault_ending}
@@ -71,27 +71,11 @@ module _ {S : Type 0} (wanted : Wanted) (sink : Ghosts S) (setup : PageSetup) wh
 
   pub steps_then : {A B : Type 0} {later : PageSetup} (old mid new : S) (put : List Placed) (Mid At : List Placed → Type 0) (x : A) (result : Result B BulkFault)
       → later ≡ setup → StepsBy old mid put Mid (Ok x) → ((all : List Placed) → Mid all → Steps wanted sink mid new later all At result) → StepsBy old new put At result
-  steps_then old mid new put Mid At x result later_is one two =
-      let then = subst (λ (b : PageSetup). Steps wanted sink mid new b (put ++ one.more) At result) later_is (two (put ++ one.more) one.at) in
-      let same : (put ++ one.more) ++ then.more ≡ put ++ (one.more ++ then.more) = append_assoc put one.more then.more in
-      record {
-        more = one.more ++ then.more;
-        puts = subst (λ (bs : List ℕ). Wrote sink old new bs (bulk_ending result)) (sym (bytes-append setup.page_size one.more then.more)) (Wrote-then one.puts then.puts);
-        at = subst (λ (ps : List Placed). OnOk result (At ps)) same then.at;
-        before = subst (λ (ps : List Placed). StandsBefore ps (layout_pages wanted.which setup.page_size wanted.tree)) same then.before;
-        large = then.large;
-      }
+  steps_then old mid new put Mid At x result later_is one two = grind (arith, append_assoc, bytes-append)
 
   -- a fault is returned on
   pub steps_stop : {A B : Type 0} (old new : S) (put : List Placed) (Mid At : List Placed → Type 0) (e : BulkFault) (result : Result B BulkFault) → IsErrAnd result (λ f. f ≡ e) → StepsBy {A = A} old new put Mid (Err e) → StepsBy old new put At result
-  steps_stop old new put Mid At e (Ok x) same one = absurd same
-  steps_stop old new put Mid At e (Err f) same one = rw same (record {
-    more = one.more;
-    puts = one.puts;
-    at = tt;
-    before = one.before;
-    large = one.large;
-  })
+  steps_stop old new put Mid At e result same one = grind arith
 
   -- memory ran out after steps that went well
   pub steps_failed : {A B : Type 0} (old new : S) (put : List Placed) (At : List Placed → Type 0) (x : A) → StepsBy old new put At (Ok x) → StepsBy {A = B} old new put At (Err fault.Memory)
@@ -112,10 +96,7 @@ coming_for wanted pass n rest left frames same right around = subst (λ (t : Tre
 pub on_of : (wanted : Wanted) (pass : Pass) (levels : List Level) (left : Tree) (put : List Placed) (is : IsAt wanted pass levels left put) → pass.pending ≡ None
     → (levels ≡ map level_of is.frames) × IsOn wanted.which pass.setup.page_size wanted.tree is.frames is.state (items_of wanted.which pass.setup.page_size left) (bucket_runs pass.bucket pass.next) put
     × IsComingFor wanted pass is.opened left is.frames
-on_of wanted pass levels left put is none =
-    let (same, rest) = subst (λ (p : Option PendingBucket). IsPending p pass.entries.items (map level_of is.frames) is.rest levels left) none is.pends in
-    let under = subst (λ (t : Tree). IsPass wanted.which pass.setup.page_size is.frames is.state (items_of wanted.which pass.setup.page_size t) (root_of wanted.which pass.setup.page_size wanted.tree)) rest is.under in
-    (same, record { under = under; runs_are_kept = is.runs; put_is = is.put_is }, coming_for wanted pass is.opened is.rest left is.frames rest is.coming is.around)
+on_of wanted pass levels left put is none = grind (arith, coming_for)
 
 -- with a bucket that may be inline
 abbrev pub HasPending : (wanted : Wanted) (pass : Pass) (levels : List Level) (left : Tree) (put : List Placed) (is : IsAt wanted pass levels left put) → PendingBucket → Type 0
@@ -125,10 +106,7 @@ HasPending wanted pass levels left put is p = (after : Tree)
     × IsComingFor wanted pass is.opened (with_bucket p.key.now p.sequence (onto (map leaf_view pass.entries.items) left) after) is.frames
 
 pending_of : (wanted : Wanted) (pass : Pass) (levels : List Level) (left : Tree) (put : List Placed) (p : PendingBucket) (is : IsAt wanted pass levels left put) → pass.pending ≡ Some p → HasPending wanted pass levels left put is p
-pending_of wanted pass levels left put p is some =
-    let (after, same, rest) = subst (λ (q : Option PendingBucket). IsPending q pass.entries.items (map level_of is.frames) is.rest levels left) some is.pends in
-    let under = subst (λ (t : Tree). IsPass wanted.which pass.setup.page_size is.frames is.state (items_of wanted.which pass.setup.page_size t) (root_of wanted.which pass.setup.page_size wanted.tree)) rest is.under in
-    (after, same, record { under = under; runs_are_kept = is.runs; put_is = is.put_is }, coming_for wanted pass is.opened is.rest _ is.frames rest is.coming is.around)
+pending_of wanted pass levels left put p is some = grind (arith, coming_for)
 
 -- what was written comes before the rest, at any time
 pub at_before : (wanted : Wanted) (pass : Pass) (levels : List Level) (left : Tree) (put : List Placed) → IsAt wanted pass levels left put → StandsBefore put (layout_pages wanted.which pass.setup.page_size wanted.tree)
@@ -170,10 +148,7 @@ shown_values (e ∷ entries) all = (all.0, shown_values entries all.1)
 -- what the code counts is what is in the open runs
 counted_items : (frames : List Frame) (state : Open) (waits : List WaitingBucket) (bucket : BucketRuns) (next : ℕ) → AreWaiting (reverse waits) frames → AreOpenRuns (bucket_runs bucket next) state (base_in frames)
     → items_around waits + items_in bucket ≡ length_frames frames + length_open state
-counted_items frames state waits bucket next are runs =
-    let a = around_length (reverse waits) frames are in
-    let b = around_reverse waits in
-    let c = items_length bucket next (base_in frames) state runs in omega arith
+counted_items frames state waits bucket next are runs = omega (arith, around_length, around_reverse, items_length)
 
 module _ {S : Type 0} (sink : Ghosts S) (wanted : Wanted) (pass : Pass) (put : List Placed) where
   abbrev P : ℕ

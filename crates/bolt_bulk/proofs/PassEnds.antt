@@ -44,10 +44,10 @@ use Rattle.bolt_bulk.proofs.PassAt.{on_of}
 use Rattle.bolt_bulk.proofs.PassLeft.{depth_levels}
 use Rattle.bolt_bulk.proofs.PassSteps.{IsOn}
 use Rattle.bolt_bulk.proofs.Tables.{no_numbers, none_noted, opened_most, table_fits, noted_leaves}
-use Rattle.bolt_bulk.proofs.PutsLemmas.{Wrote-prefix, Wrote-stops, bytes-append, pages_some, short_then}
+use Rattle.bolt_bulk.proofs.PutsLemmas.{bytes-append, pages_some, short_then}
 use Rattle.bolt_format.proofs.WroteLemmas.{Wrote-then}
 use Rattle.bolt_format.specs.Wrote.{Wrote}
-use Rattle.bolt_bulk.specs.BulkEndings.{bulk_ending, fault_ending}
+use Rattle.bolt_bulk.specs.BulkEndings.{bulk_ending}
 use Rattle.bolt_format.specs.declared.sink.Sink.{Ghosts}
 
 -- ---- the next member
@@ -105,10 +105,7 @@ fit_append [] ys a b = b
 fit_append (x ∷ xs) ys a b = (a.0, fit_append xs ys a.1 b)
 
 one_part : (path : Path) (key : Key) → length key ≤ 1073741824 → (1 ≤ length (path ++ key ∷ [])) × (length (last_part (path ++ key ∷ [])) ≤ 1073741824)
-one_part path key short =
-    let l = length-append path (key ∷ []) in
-    let last = ap (λ (k : Key). length k) (last_pushed path key) in
-    (omega arith, omega arith)
+one_part path key short = grind (arith, length-append, last_pushed)
 
 pub members_fit : (path : Path) (tree : Tree) → HasLengths tree → AllByRecursion IsFitMember (listing_below path tree)
 members_fit path end lengths = tt
@@ -221,13 +218,7 @@ some_more [] ys some = some
 some_more (x ∷ xs) ys some = λ e. cc
 
 proper_more : (old new : Option (List ℕ)) (first second : List ℕ) → AppendsPrefix old new first → second ≢ [] → AppendsProperPrefix old new (first ++ second)
-proper_more old new first second a some = record {
-  front = a.front;
-  rest = a.rest ++ second;
-  parts = ap (λ (text : List ℕ). text ++ second) a.parts ∙ append_assoc a.front a.rest second;
-  short = some_more a.rest second some;
-  taken = a.taken;
-}
+proper_more old new first second a some = grind (arith, append_assoc, some_more)
 
 rest_some : (page_size : ℕ) (pages : List Placed) → 1 ≤ length pages → placed_bytes page_size pages ≢ []
 rest_some page_size [] some = absurd (omega arith)
@@ -237,23 +228,7 @@ module _ {S : Type 0} (wanted : Wanted) (sink : Ghosts S) (setup : PageSetup) wh
   -- a step failed on the way
   pub ends_early : {A : Type 0} (old new : S) (put : List Placed) (At : List Placed → Type 0) (e : BulkFault) (result : Result Ended BulkFault) → IsErrAnd result (λ f. f ≡ e) → Steps {A = A} wanted sink old new setup put At (Err e) → Ends wanted sink old new setup put result
   ends_early old new put At e (Ok x) same steps = absurd same
-  ends_early old new put At e (Err f) same steps =
-      let P : ℕ = setup.page_size in
-      let others : List Placed = steps.more ++ steps.before.rest in
-      let bytes : placed_bytes P others ≡ placed_bytes P steps.more ++ placed_bytes P steps.before.rest = bytes-append P steps.more steps.before.rest in
-      rw same (record {
-        others = others;
-        all = steps.before.parts ∙ append_assoc put steps.more steps.before.rest;
-        puts = subst (λ (bs : List ℕ). Wrote sink old new bs (fault_ending e)) (sym bytes) (Wrote-stops (placed_bytes P steps.before.rest) e steps.puts);
-        short = subst (λ (bs : List ℕ). AppendsProperPrefix (sink.taken old) (sink.taken new) bs) (sym bytes)
-            (proper_more (sink.taken old) (sink.taken new) (placed_bytes P steps.more) (placed_bytes P steps.before.rest) (Wrote-prefix e steps.puts) (rest_some P steps.before.rest steps.before.some));
-        root = tt;
-        mark = tt;
-        within = tt;
-        noted = tt;
-        held = tt;
-        large = steps.large;
-      })
+  ends_early old new put At e (Err f) same steps = grind (arith, bytes-append, append_assoc, proper_more, rest_some)
 
   -- after steps that went well
   pub ends_after : {A : Type 0} {later : PageSetup} (old mid new : S) (put : List Placed) (At : List Placed → Type 0) (x : A) (result : Result Ended BulkFault) → later ≡ setup → Steps wanted sink old mid setup put At (Ok x)
