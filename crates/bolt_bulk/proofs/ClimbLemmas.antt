@@ -62,11 +62,8 @@ climb_stays page_size fresh key e0 n0 runs0 old mid new runs i e next run h at r
     let climbed : runs_climb page_size fresh key e next (run ∷ drop (i + 1) runs) ≡ run_kept page_size (run_push run e) (key_size key) ∷ drop (i + 1) runs = rw room refl in
     let nexted : runs_next page_size key e next (run ∷ drop (i + 1) runs) ≡ next = rw room refl in
     let no_more : after_put page_size key e next run (drop (i + 1) runs) ≡ [] = rw room refl in
-    let f = front_more c.front one (left_split page_size key e next run (drop (i + 1) runs) (drop i runs) at) in (
-      c.climbs ∙ (ap (λ (rs : List RunView). take i runs ++ runs_climb page_size fresh key e next rs) at ∙ (ap (λ (rs : List RunView). take i runs ++ rs) climbed ∙ sym (set_at runs i (run_kept page_size (run_push run e) (key_size key)) h))),
-      c.nexts ∙ (ap (λ (rs : List RunView). runs_next page_size key e next rs) at ∙ nexted),
-      front_whole f (ap (λ (ps : List Placed). placed_bytes page_size ps) no_more),
-    )
+    let f = front_more c.front one (left_split page_size key e next run (drop (i + 1) runs) (drop i runs) at) in
+    grind (arith, set_at, front_whole)
 
 take_set : {X : Type 0} (xs : List X) (i : ℕ) (x : X) → i < length xs → take (suc i) (set xs i x) ≡ take i xs ++ x ∷ []
 take_set [] i x h = absurd (omega arith)
@@ -96,13 +93,10 @@ pub next_grows : (page_size : ℕ) (key : List ℕ) (e : BranchElement) (next : 
 next_grows page_size key e next [] = omega arith
 next_grows page_size key e next (run ∷ runs) = grind (arith, next_grows page_size key (element_up e next run) (next + (1 + overflow_of page_size (run_push run e).size)) runs)
 
-taking_grows : (page_size : ℕ) (key : List ℕ) (e : BranchElement) (next : ℕ) (run : RunView) (runs : List RunView) → taking_next page_size key e next run ≤ runs_next page_size key e next (run ∷ runs)
-taking_grows page_size key e next run runs = grind (arith, next_grows)
-
 pub climb_large : {S : Type 0} {sink : Ghosts S} (page_size limit : ℕ) (fresh : Option ℕ) (key : List ℕ) (e0 : BranchElement) (n0 : ℕ) (runs0 : List RunView) (old mid : S) (runs : List RunView) (i : ℕ)
     (e : BranchElement) (next : ℕ) (run : RunView) → drop i runs ≡ run ∷ drop (i + 1) runs
     → Climbing page_size fresh key e0 n0 runs0 sink old mid runs i e next → limit < taking_next page_size key e next run → limit < runs_next page_size key e0 n0 runs0
-climb_large page_size limit fresh key e0 n0 runs0 old mid runs i e next run at c large = grind (arith, taking_grows)
+climb_large page_size limit fresh key e0 n0 runs0 old mid runs i e next run at c large = grind (arith, next_grows)
 
 -- the same of the runs that the code keeps
 pub within_runs : (runs : List BranchRun) (i : ℕ) → i < length runs → i < length (map run_view runs)

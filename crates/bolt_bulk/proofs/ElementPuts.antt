@@ -59,21 +59,12 @@ pub heads_more : {S X A E : Type 0} {header : ℕ → X → List ℕ} {datum : X
     → HeadsPut header datum sink old new after xs (i + 1) next
 heads_more {X = X} {header = header} {datum = datum} old mid new buffer text after xs i pos next none x a h e step same heads adds =
     let at = at_i xs i none x h e in
-    let l = ap (λ (ys : List X). length ys) at in
     let d = ap (λ (ys : List X). length (data_of datum ys)) at ∙ length-append (datum x) (data_of datum (drop (i + 1) xs)) in
     let r = heads.room in
     let p = heads.place in
     let rest : List ℕ = headers_of header datum (heads.before + length (datum x)) (drop (i + 1) xs) in
     let pushed : after ≡ adds.kept ++ header pos x = adds.added ∙ ap (λ (t : List ℕ). adds.kept ++ t) same in
-    let left = ap (λ (t : List ℕ). buffer ++ t) (heads_left old mid buffer xs i pos none x h e heads)
-    ∙ (gathered_left buffer adds.kept adds.gathers.put (header pos x ++ rest) adds.gathers.parts
-    ∙ ap (λ (t : List ℕ). adds.gathers.put ++ t) (sym (append_assoc adds.kept (header pos x) rest) ∙ ap (λ (t : List ℕ). t ++ rest) (sym pushed))) in
-    record {
-      before = heads.before + length (datum x);
-      front = front_more heads.front adds.gathers.puts left;
-      place = omega arith;
-      room = omega arith;
-    }
+    grind (arith, heads_left, gathered_left, append_assoc, front_more)
 
 pub heads_stop : {S X A E B F : Type 0} {header : ℕ → X → List ℕ} {datum : X → List ℕ} {sink : Ghosts S} (old mid new : S) (buffer text after : List ℕ) (xs : List X) (i pos : ℕ) (e : E) (result : Result B F)
     → HeadsPut header datum sink old mid buffer xs i pos → Adds {A = A} {E = E} sink mid new buffer text after (Err e) → IsErr result

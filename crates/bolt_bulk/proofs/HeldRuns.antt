@@ -80,11 +80,8 @@ pub run_more : (size : ℕ) (inlined more : List Leaf) (items : List Held) → I
 run_more size inlined more items is = grind (arith, views_more, held_more)
 
 -- the entries of an inline bucket that was just added
-entries_added : (inlined entries : List Leaf) → entries_in (inlined ++ entries) (length inlined) (length entries) ≡ map leaf_view entries
-entries_added inlined entries = grind (arith, drop-append_seam, take-length)
-
 entries_at : (inlined entries run : List Leaf) (first : ℕ) → run ≡ inlined ++ entries → first ≡ length inlined → entries_in run first (length entries) ≡ map leaf_view entries
-entries_at inlined entries run first behind at = grind (arith, entries_added)
+entries_at inlined entries run first behind at = grind (arith, drop-append_seam, take-length)
 
 pub length-inline_value : (sequence : ℕ) (entries : List LeafElement) → length (inline_value sequence entries) ≡ inline_size entries
 unfolding inline_value

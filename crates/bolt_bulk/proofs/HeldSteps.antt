@@ -121,7 +121,6 @@ enters_held page_size known frame frames state key size run before after room fl
     let inner = ap (λ (n : ℕ). held_frames frames (held_open frame.state n)) values in
     let a = open_max frame.state (length run) in
     let b = frames_max frames (held_open frame.state (length run)) in
-    let c = frames_max frames (held_open state 0) in
     let d = frames_max frames (held_open frame.state 0) in
     let still = ap (λ (n : ℕ). held_frames frames n) same in omega arith
 

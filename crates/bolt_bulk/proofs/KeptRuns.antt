@@ -62,13 +62,7 @@ over_run page_size next b e q kept_run upper uppers is keyed same number =
     let more = numbers-append run (q ∷ []) in
     let next_is : next ≡ m + numbers_of (run ++ q ∷ []) = omega arith in
     let over : overflow_of page_size (run_push kept_run e).size ≡ run_overflow page_size (run ++ q ∷ []) = ap (overflow_of page_size) pushed.size_is in
-    record {
-      pushed = pushed;
-      next_is = next_is;
-      named = same_branch (element_up e next kept_run) ((page_over branch_page_view page_size (run ++ q ∷ [])).element m) (ap run_key pushed.same ∙ key_same (run ++ q ∷ []) m pushed.keyed) next_is;
-      own = placed_same page_size (run_push kept_run e) (pushed_on upper q) m next pushed next_is;
-      after = omega arith;
-    }
+    grind (arith, same_branch, key_same, placed_same)
 
 -- the climb of the kept runs is that of the open ones
 runs_climbed : (page_size : ℕ) (new : Option ℕ) (key : List ℕ) (e : BranchElement) (next b : ℕ) (q : Laid BranchElement) (kept_runs : List RunView) (uppers : List Upper) → AreUppers kept_runs uppers b → IsKeyed q
@@ -85,7 +79,6 @@ runs_climbed page_size new key e next b q (kept_run ∷ kept_runs) (upper ∷ up
     let q2 : Laid BranchElement = page_over branch_page_view page_size (upper.run ++ q ∷ []) in
     let after : ℕ = next + (1 + overflow_of page_size (run_push kept_run e).size) in
     let ih = runs_climbed page_size new key (element_up e next kept_run) after b q2 kept_runs uppers are.1 (refl, λ n. refl) over.named over.after in
-    let next_is = over.next_is in
     let more = numbers-append (put_in uppers) (upper.run ++ q ∷ []) in
     let none = numbers-append (put_in (climb page_size new key q2 uppers)) [] in
     elim (cases_Bool (stays_open page_size (pushed_on upper q) (key_size key))) [
@@ -140,14 +133,7 @@ runs_have_room page_size kept_runs state b key size is =
     let new : Option ℕ = bucket_limit state.known.limits (length state.uppers) in
     let level : bucket_limit kept_runs.limits (length kept_runs.uppers) ≡ new = ap (λ (limits : BucketLimits). bucket_limit limits (length kept_runs.uppers)) is.limits_are ∙ ap (λ (k : ℕ). bucket_limit state.known.limits k) (as_many kept_runs.uppers state.uppers b is.above) in
     let climbed = runs_climbed page_size new key closed after b q kept_runs.uppers state.uppers is.above (refl, λ k. refl) over.named over.after in
-    elim (cases_Bool (has_room page_size 1 state.run size)) [
-      | inl t ↦ (let u : leaves_have_room page_size kept_runs.leaves size ≡ true = test ∙ t in rw (t, u) (is, refl))
-      | inr g ↦
-          (let u : leaves_have_room page_size kept_runs.leaves size ≡ false = test ∙ g in
-          let made : AreOpenRuns (record { leaves = no_leaves; uppers = runs_climb page_size new key closed after kept_runs.uppers; limits = kept_runs.limits; next = runs_next page_size key closed after kept_runs.uppers })
-          (record { uppers = climb page_size new key q state.uppers; run = []; known = state.known }) b = record { same = refl; size_is = refl; keyed = tt; above = climbed.0; next_is = climbed.2 ∙ omega arith; limits_are = is.limits_are } in
-          rw (g, u, level) (made, ap (λ (p : Placed). p ∷ runs_put page_size key closed after kept_runs.uppers) over.own ∙ ap (λ (ps : List Placed). own_page leaf_page_view page_size state.run m ∷ ps) climbed.1))
-    ]
+    grind arith
 
 -- an item, once the pages below it were written
 pub runs_pushed : (kept_runs : BucketRunsView) (state : Open) (b : ℕ) (item : Laid LeafElement) → AreOpenRuns kept_runs state b → IsKeyedItem item
@@ -166,11 +152,8 @@ runs_closed page_size e next b q (kept_run ∷ kept_runs) (upper ∷ uppers) are
     let m : ℕ = b + numbers_in uppers in
     let over = over_run page_size next b e q kept_run upper uppers are.0 keyed same number in
     let after : ℕ = next + (1 + overflow_of page_size (run_push kept_run e).size) in
-    let ih = runs_closed page_size (element_up e next kept_run) after b (page_over branch_page_view page_size (upper.run ++ q ∷ [])) kept_runs uppers are.1 (refl, λ n. refl) over.named over.after in (
-      ap (λ (p : Placed). p ∷ runs_close_put page_size (element_up e next kept_run) after kept_runs) over.own ∙ ap (λ (ps : List Placed). own_page branch_page_view page_size (upper.run ++ q ∷ []) m ∷ ps) ih.0,
-      ih.1,
-      ih.2,
-    )
+    let ih = runs_closed page_size (element_up e next kept_run) after b (page_over branch_page_view page_size (upper.run ++ q ∷ [])) kept_runs uppers are.1 (refl, λ n. refl) over.named over.after in
+    grind arith
 
 pub runs_ended : (page_size : ℕ) (kept_runs : BucketRunsView) (state : Open) (b : ℕ) → AreOpenRuns kept_runs state b
     → (runs_end_put page_size kept_runs ≡ end_puts page_size state b) × (runs_end page_size kept_runs ≡ ((end_of page_size state).element b).child)

@@ -1,12 +1,12 @@
 -- Entries that are values, in front of a tree: what they are as items, and whether a bucket with them is inline.
-use Rattle.std.proofs.Common.{◌≡◌, ℕ, ◌+◌, ◌/◌, ◌≤◌, ◌<◌, ◌⊎◌, ◌&&◌, Bool, true, false, not, nat_le, List, [], ◌∷◌, ◌++◌, length, refl, sym, ap, inl, inr, arith}
+use Rattle.std.proofs.Common.{◌≡◌, ℕ, ◌+◌, ◌/◌, ◌≤◌, ◌<◌, ◌⊎◌, ◌&&◌, Bool, true, false, List, [], ◌∷◌, ◌++◌, length, refl, sym, ap, arith}
 use Rattle.std.specs.List.{AllByRecursion}
 use Rattle.std.proofs.lemmas.Bool.{le-leb, lt-leb}
 use Rattle.std.proofs.lemmas.List.{length-append}
 use Rattle.std.proofs.lemmas.List.Sums.{sum_by-cons}
 use Rattle.bolt_format.specs.Elements.{LeafElement}
 use Rattle.bolt_tree.specs.Tree.{Tree, end, with_bucket, with_value}
-use Rattle.bolt_layout.specs.Cut.{max_items, run_size}
+use Rattle.bolt_layout.specs.Cut.{run_size}
 use Rattle.bolt_layout.specs.Items.{holds_bucket, is_inline, items_of, leaf_item}
 use Rattle.bolt_layout.specs.Laid.{Laid, elements_of, held_in, numbers_of, pages_of, size_of}
 use Rattle.bolt_layout.specs.PageBytes.{leaf_data}
@@ -101,10 +101,7 @@ value_too_large which page_size entries key value after large =
     let own = sum_by-cons (size_of {E = LeafElement}) (leaf_item key value false) (items_of which page_size after) in
     let c = onto_count which page_size entries (with_value key value after) in
     let inside : Tree = onto entries (with_value key value after) in
-    elim large [
-      | inl long ↦ (let no : nat_le (run_size size_of (items_of which page_size inside)) (page_size / 4) ≡ false = lt-leb _ _ (omega arith) in rw no (never_first (not (holds_bucket inside)) (nat_le (length (items_of which page_size inside)) max_items)))
-      | inr many ↦ (let no : nat_le (length (items_of which page_size inside)) max_items ≡ false = lt-leb _ _ (omega arith) in rw no (never_last (not (holds_bucket inside)) (nat_le (run_size size_of (items_of which page_size inside)) (page_size / 4))))
-    ]
+    grind (arith, lt-leb, never_first, never_last)
 
 -- and one that holds a bucket isn't
 pub bucket_has_root : (which : Layout) (page_size : ℕ) (entries : List LeafElement) (key : List ℕ) (sequence : ℕ) (inside after : Tree)

@@ -105,7 +105,6 @@ climb_same which page_size limits key q (upper ∷ uppers) p pages all root name
           let p2 : Laid BranchElement = page_over branch_page_view page_size (p ∷ more) in
           let both = subst (λ (runs : List (List (Laid BranchElement))). Comes which page_size above uppers (M whole) (q2 ∷ M runs) root) e split in
           let l = length-append stands.runs ((upper.run ++ q ∷ []) ∷ []) in
-          let n = stands.count in
           rw f (
             record {
               runs = stands.runs ++ (upper.run ++ q ∷ []) ∷ [];

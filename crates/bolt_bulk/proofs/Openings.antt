@@ -63,7 +63,6 @@ module _ (page_size : ℕ) (tree : Tree) (notes : Bool) (limits : ℕ → ℕ �
   plain_coming n (with_bucket key sequence inside after) right from few =
       let (one, rest) = items_below Plain page_size key sequence inside after in (
         λ rooted. (let leaves = leaves_few Plain page_size inside in
-            let own = one rooted in
             (record { right = (right.0 rooted).0; notes = record { noted = λ e. (from.0 rooted).0; few = omega arith } }, plain_coming (suc n) inside (right.0 rooted).1 (from.0 rooted).1 (omega arith))),
         plain_coming (n + opened_by Plain page_size inside) after right.1 from.1 (omega arith),
       )
@@ -75,7 +74,6 @@ module _ (page_size : ℕ) (tree : Tree) (notes : Bool) (limits : ℕ → ℕ �
   balanced_coming n (with_bucket key sequence inside after) right few =
       let (one, rest) = items_below Balanced page_size key sequence inside after in (
         λ rooted. (let leaves = leaves_few Balanced page_size inside in
-            let own = one rooted in
             (record { right = (right.0 rooted).0; notes = record { noted = λ e. absurd cc; few = omega arith } }, balanced_coming (suc n) inside (right.0 rooted).1 (omega arith))),
         balanced_coming (n + opened_by Balanced page_size inside) after right.1 (omega arith),
       )

@@ -226,7 +226,6 @@ module _ {S : Type 0} (sink : Ghosts S) (wanted : Wanted) (pass : Pass) (put : L
       let shown : List LeafElement = map leaf_view pass.entries.items in
       let value : List ℕ = inline_value p.sequence shown in
       let values = shown_values pass.entries.items small.values in
-      let few = small.few in
       let count = length-map pass.entries.items leaf_view in
       let sizes = small.sized in
       let fits = small.small in
@@ -278,7 +277,6 @@ module _ {S : Type 0} (sink : Ghosts S) (wanted : Wanted) (pass : Pass) (put : L
       let (after, same, on, right) = pending_of wanted pass levels left put p is some in
       let shown : List LeafElement = map leaf_view pass.entries.items in
       let values = shown_values pass.entries.items small.values in
-      let few = small.few in
       let count = length-map pass.entries.items leaf_view in
       let sizes = small.sized in
       let fits = small.small in
@@ -451,25 +449,4 @@ pub keep_at : (wanted : Wanted) (pass : Pass) (levels : List Level) (put : List 
 keep_at wanted pass levels put key value after p entry size entries is some pushed view =
     let (behind, same, rest) = subst (λ (q : Option PendingBucket). IsPending q pass.entries.items (map level_of is.frames) is.rest levels (with_value key value after)) some is.pends in
     let shown : List LeafElement = map leaf_view pass.entries.items in
-    let all : map leaf_view entries.items ≡ shown ++ value_element key value ∷ [] =
-    ap (map leaf_view) pushed ∙ (map-append leaf_view pass.entries.items (entry ∷ []) ∙ ap (λ (e : LeafElement). shown ++ e ∷ []) view) in
-    let onto_is : onto (map leaf_view entries.items) after ≡ onto shown (with_value key value after) =
-    ap (λ (es : List LeafElement). onto es after) all ∙ onto_push shown (value_element key value) after in
-    record {
-      frames = is.frames;
-      state = is.state;
-      rest = is.rest;
-      under = is.under;
-      runs = is.runs;
-      waits = is.waits;
-      put_is = is.put_is;
-      held = is.held;
-      opened = is.opened;
-      opened_is = is.opened_is;
-      coming = is.coming;
-      around = is.around;
-      numbers = is.numbers;
-      numbered = is.numbered;
-      has_noted = is.has_noted;
-      pends = (behind, same, rest ∙ ap (λ (t : Tree). with_bucket p.key.now p.sequence t behind) (sym onto_is));
-    }
+    grind (arith, map-append, onto_push)

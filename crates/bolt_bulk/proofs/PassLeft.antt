@@ -1,5 +1,5 @@
 -- A pass and the members of the listing that are left to it.
-use Rattle.std.proofs.Common.{◌≡◌, ◌∙◌, ℕ, suc, ◌+◌, ◌≤◌, ◌<◌, List, [], ◌∷◌, length, Option, Some, None, Result, Ok, refl, sym, ap, subst, arith}
+use Rattle.std.proofs.Common.{◌≡◌, ℕ, suc, ◌+◌, ◌≤◌, ◌<◌, List, [], ◌∷◌, length, Option, Some, None, Result, Ok, refl, ap, arith}
 use Rattle.std.specs.Prelude.{⊤}
 use Rattle.std.proofs.lemmas.List.{length-map, length-reverse}
 use Rattle.bolt_format.specs.declared.element.Leaf.{Leaf}
@@ -64,12 +64,7 @@ has_ended depth wanted pass members put has shallow some deep =
     let d = depth_levels wanted pass has.levels has.left put has.at in
     let none = no_more depth has.levels has.left members has.members_are shallow (omega arith) in
     let (level, levels, same) = some_level has.levels (omega arith) in
-    record {
-      level = level;
-      levels = levels;
-      at = subst (λ (t : Tree). IsAt wanted pass (level ∷ levels) t put) none (subst (λ (ls : List Level). IsAt wanted pass ls has.left put) same has.at);
-      members_are = sym (ap (λ (ls : List Level). left_in ls end) same) ∙ (sym (ap (λ (t : Tree). left_in has.levels t) none) ∙ has.members_are);
-    }
+    grind arith
 
 -- a bucket was left
 pub left_out : (wanted : Wanted) (pass : Pass) (level : Level) (levels : List Level) (members : List Member) (put : List Placed) → left_in levels level.after ≡ members → IsAt wanted pass levels level.after put

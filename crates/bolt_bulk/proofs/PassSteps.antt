@@ -1,5 +1,5 @@
 -- The steps of a pass, over the open runs and what the code keeps of them.
-use Rattle.std.proofs.Common.{◌≡◌, ◌∙◌, ℕ, ◌+◌, ◌/◌, ◌≤◌, ◌<◌, ◌||◌, ◌&&◌, Bool, true, false, List, [], ◌∷◌, ◌++◌, length, refl, sym, ap, subst, arith, append_assoc}
+use Rattle.std.proofs.Common.{◌≡◌, ◌∙◌, ℕ, ◌+◌, ◌/◌, ◌≤◌, ◌<◌, Bool, true, false, List, [], ◌∷◌, ◌++◌, length, refl, sym, ap, subst, arith, append_assoc}
 use Rattle.std.specs.List.{AllByRecursion}
 use Rattle.std.proofs.lemmas.Bool.{le-leb, lt-ltb}
 use Rattle.std.proofs.lemmas.List.{append-nil, length-append}
@@ -98,13 +98,9 @@ module _ (which : Layout) (page_size : ℕ) (tree : Tree) where
 abbrev pub open_values : Known → List (Laid LeafElement) → Open
 open_values known run = record { uppers = []; run = run; known = known }
 
-either : (a : Bool) → (a || (true && true)) ≡ true
-either true = refl
-either false = refl
-
 room_left : (page_size : ℕ) (known : Known) (run : List (Laid LeafElement)) (item : Laid LeafElement) → run_size size_of run + item.size ≤ page_size → length run < 65534
     → taking page_size (open_values known run) item ≡ open_values known (run ++ item ∷ [])
-room_left page_size known run item fits few = grind (arith, le-leb, lt-ltb, either)
+room_left page_size known run item fits few = grind (arith, le-leb, lt-ltb)
 
 pub pass_takes_all : (which : Layout) (page_size : ℕ) (known : Known) (frames : List Frame) (run : List (Laid LeafElement)) (entries : List LeafElement) (items : List (Laid LeafElement)) (whole : Laid BranchElement)
     → run_size size_of run + entries_size entries ≤ page_size + 16 → length run + length entries ≤ 65534

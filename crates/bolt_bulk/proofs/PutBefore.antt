@@ -147,8 +147,7 @@ stack_before which page_size (frame ∷ frames) root whole front few stack is =
     (subst (λ (ps : List Placed). IsBefore (pages_put frame.state b ++ front) (own + few) ps (own + root.numbers)) (sym more) two) in
     let four = stack_before which page_size frames outer whole (pages_put frame.state b ++ front) (own + few) rest (before_by _ _ _ _ _ _ three (only_begins _ _ _ _ one)) in
     let numbered : base_in frames + (own + few) ≡ base_in (frame ∷ frames) + few = omega arith in
-    subst (λ (n : ℕ). IsBefore (frames_put (frame ∷ frames) ++ front) n (whole.pages first_page) (first_page + whole.numbers)) numbered
-    (subst (λ (ps : List Placed). IsBefore ps (base_in frames + (own + few)) (whole.pages first_page) (first_page + whole.numbers)) (sym (append_assoc (frames_put frames) (pages_put frame.state b) front)) four)
+    grind (arith, append_assoc)
 
 -- at any moment of a pass
 pub pass_before : (which : Layout) (page_size : ℕ) (frames : List Frame) (state : Open) (items : List (Laid LeafElement)) (whole : Laid BranchElement) → IsPass which page_size frames state items whole

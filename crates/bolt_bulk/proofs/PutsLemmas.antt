@@ -6,13 +6,12 @@ use Rattle.bolt_format.proofs.SinkLemmas.{AppendsPrefix-whole, AppendsProperPref
 use Rattle.bolt_format.proofs.WroteLemmas.{Wrote-halt, Wrote-none, Wrote-return_cut, Wrote-stop, Wrote-stop_cut, Wrote-stop_halted, Wrote-then, Wrote-unkept}
 use Rattle.bolt_format.specs.Endings.{whole, halted}
 use Rattle.bolt_format.specs.Pages.{PageView}
-use Rattle.bolt_format.specs.Sinks.{AppendsPrefix, AppendsProperPrefix}
+use Rattle.bolt_format.specs.Sinks.{AppendsProperPrefix}
 use Rattle.bolt_format.specs.Wrote.{Wrote}
 use Rattle.bolt_format.specs.declared.sink.Sink.{Ghosts}
-use Rattle.bolt_format.specs.declared.kind.Kind.{Kind}
 use Rattle.bolt_layout.specs.Laid.{Placed}
 use Rattle.bolt_layout.specs.Layout.{placed_bytes}
-use Rattle.bolt_layout.specs.PageBytes.{content_bytes, page_bytes}
+use Rattle.bolt_layout.specs.PageBytes.{page_bytes}
 use Rattle.bolt_format.proofs.WrittenHeaders.{length-header_bytes}
 use Rattle.bolt_bulk.specs.BulkEndings.{fault_ending}
 use Rattle.bolt_bulk.specs.declared.fault.BulkFault.{BulkFault}
@@ -27,12 +26,9 @@ pub proper_same : (old new : Option (List ℕ)) (text same : List ℕ) → text 
 proper_same old new text same e a = subst (λ (l : List ℕ). AppendsProperPrefix old new l) e a
 
 -- a page has a header
-content_some : (kind : Kind) (number : ℕ) (view : PageView) → 16 ≤ length (content_bytes kind number view)
-content_some kind number view = grind (arith, length-header_bytes, length-append)
-
 page_length : (page_size number : ℕ) (view : PageView) → 16 ≤ length (page_bytes page_size number view)
 unfolding page_bytes
-page_length page_size number view = grind (arith, length-append, content_some)
+page_length page_size number view = grind (arith, length-append, length-header_bytes)
 
 none_length : (xs : List ℕ) → xs ≡ [] → length xs ≡ 0
 none_length xs e = ap (λ (ys : List ℕ). length ys) e
@@ -62,12 +58,6 @@ Wrote-stops second fault.Sink a = Wrote-stop second a
 -- memory ran out after the text
 pub Wrote-gave_up : {S : Type 0} {sink : Ghosts S} {old new : S} {text : List ℕ} → Wrote sink old new text whole → Wrote sink old new text halted
 Wrote-gave_up {sink} {old} {new} {text} a = record { appends = AppendsPrefix-whole (sink.taken old) (sink.taken new) text a.appends; failures = a.failures }
-
--- whatever the fault
-pub Wrote-prefix : {S : Type 0} {sink : Ghosts S} {old new : S} {text : List ℕ} (e : BulkFault) → Wrote sink old new text (fault_ending e) → AppendsPrefix (sink.taken old) (sink.taken new) text
-Wrote-prefix fault.Memory a = a.appends
-Wrote-prefix fault.TooLarge a = a.appends
-Wrote-prefix fault.Sink a = a.appends
 
 -- the fault is Sink only if the sink failed,
 pub Wrote-failed : {S : Type 0} {sink : Ghosts S} {old new : S} {text : List ℕ} (e : BulkFault) → Wrote sink old new text (fault_ending e) → e ≡ fault.Sink → 0 < sink.failed new

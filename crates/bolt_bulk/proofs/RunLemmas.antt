@@ -6,8 +6,8 @@ use Rattle.bolt_format.specs.Elements.{BranchElement}
 use Rattle.bolt_layout.specs.Levels.{overflow_of}
 use Rattle.bolt_layout.specs.Limits.{is_out}
 use Rattle.bolt_layout.specs.PageBytes.{branch_data}
-use Rattle.bolt_bulk.specs.Private.BranchRuns.{HasSlack, IsPushed, IsSizedRun, IsStanding}
-use Rattle.bolt_bulk.specs.Private.RunViews.{RunView, run_has_room, run_kept, run_key, run_push, run_stays}
+use Rattle.bolt_bulk.specs.Private.BranchRuns.{IsPushed, IsSizedRun, IsStanding}
+use Rattle.bolt_bulk.specs.Private.RunViews.{RunView, run_kept, run_key, run_push, run_stays}
 use Rattle.bolt_layout.proofs.PageRows.{overflow_room, overflow_small}
 
 -- a page with this many further pages has room for its content, and 64 bits for its size
@@ -45,14 +45,10 @@ pub key_pushed : (es : List BranchElement) (e : BranchElement) → length (run_k
 key_pushed [] e named key = key
 key_pushed (x ∷ es) e named key = named
 
--- a run that has room for the next page has slack
-room_slack : (page_size k : ℕ) (run : RunView) (e : BranchElement) → page_size ≤ 33554432 → IsStanding run → length e.key ≤ 1073741824 → run_has_room page_size (run_push run e) k ≡ true → HasSlack (run_push run e)
-room_slack page_size k run e high is key room = grind (arith, pushed, few_or_fits, ltb-true, alone_small, leb-true)
-
 no_slack : {A : Type 0} → is_out None ≡ true → A
 no_slack e = absurd (cc)
 
 -- a run that stays open for the next page stands
 pub stays_standing : (page_size k : ℕ) (run : RunView) (e : BranchElement) → page_size ≤ 33554432 → IsStanding run → length e.key ≤ 1073741824 → run_stays page_size (run_push run e) k ≡ true
     → IsStanding (run_kept page_size (run_push run e) k)
-stays_standing page_size k run e high is key stays = grind (arith, pushed, room_slack, key_pushed, length-append, no_slack)
+stays_standing page_size k run e high is key stays = grind (arith, pushed, key_pushed, length-append, no_slack, few_or_fits, ltb-true, alone_small, leb-true)

@@ -1,5 +1,5 @@
 -- The numbers of the open buckets, and the limits that were noted of those that have ended.
-use Rattle.std.proofs.Common.{◌≡◌, ◌∙◌, ◌+◌, ◌<◌, ◌≤◌, ℕ, suc, false, List, [], ◌∷◌, ◌++◌, ◌⊎◌, length, map, Option, None, refl, sym, ap, subst, arith}
+use Rattle.std.proofs.Common.{◌≡◌, ◌∙◌, ◌+◌, ◌<◌, ◌≤◌, ℕ, suc, false, List, [], ◌∷◌, ◌++◌, length, map, Option, None, refl, sym, ap, subst, arith}
 use Rattle.std.specs.List.{AllByRecursion}
 use Rattle.std.proofs.lemmas.Bool.{cases_lt}
 use Rattle.std.proofs.lemmas.List.{length-append, length-map}
@@ -48,11 +48,8 @@ numbered_same wanted page_size below (n ∷ numbers) old new others same are = (
 
 -- ---- a bucket is opened
 
-before : (n opened : ℕ) → n < suc opened → (n ≡ opened → ⊥) → n < opened
-before n opened less apart = grind (arith, cases_lt)
-
 pub noted_enters : (wanted : Wanted) (page_size : ℕ) (noted : NotedLimits) (opened : ℕ) (numbers : List ℕ) → HasNoted wanted page_size noted opened numbers → HasNoted wanted page_size noted (suc opened) (opened ∷ numbers)
-noted_enters wanted page_size noted opened numbers has = grind (arith, before)
+noted_enters wanted page_size noted opened numbers has = grind (arith, cases_lt)
 
 -- ---- a bucket ends
 
@@ -68,13 +65,10 @@ run_ends page_size limits (run ∷ runs) (upper ∷ uppers) q all root b (row, a
     let fewer = shorter Plain page_size all stands.some in
     let count = length-map (branch_cut Plain page_size size_of all) (page_over branch_page_view page_size) in
     let parts = ap (λ (rs : List (List (Laid BranchElement))). length rs) stands.cut ∙ length-append stands.runs _ in
-    let closed = stands.count in
     let closed_is : run.closed ≡ upper.closed = (let c = row.closed_is in omega arith) in
     let items : length run.elements.items ≡ length upper.run = run_length run upper.run _ row.same in
     let rest = run_ends page_size (λ k. limits (suc k)) runs uppers (page_over branch_page_view page_size (upper.run ++ q ∷ [])) next root b are comes (omega arith) in
-    ap (λ (n : ℕ). (suc n, suc (length run.elements.items)) ∷ map run_end runs) closed_is
-    ∙ (ap (λ (n : ℕ). (suc upper.closed, suc n) ∷ map run_end runs) items
-    ∙ ap (λ (rows : List (ℕ × ℕ)). upper_end upper ∷ rows) rest)
+    grind arith
 
 -- no more buckets are opened than the layout has page numbers
 around_most : (wanted : Wanted) (page_size : ℕ) (limits : ℕ → ℕ → Option ℕ) (n : ℕ) (frames : List Frame) → AreComingAround wanted page_size limits n frames → n ≤ suc (opened_in wanted.which page_size wanted.tree)
@@ -94,14 +88,11 @@ all_map : {A : Type 0} {P Q R : A → Type 0} (xs : List A) → ((x : A) → P x
 all_map [] f p q = tt
 all_map (x ∷ xs) f p q = (f x p.0 q.0, all_map xs f p.1 q.1)
 
-same_or : (m n : ℕ) → (m ≡ n) ⊎ (m ≡ n → ⊥)
-same_or m n = grind (arith, cases_lt)
-
 -- its own limits join those that were noted
 pub table_ends : (page_size : ℕ) (tree : Tree) (old new : Limits) (opened n : ℕ) (numbers : List ℕ) → IsTable page_size tree old opened (n ∷ numbers) → n < opened → AllByRecursion (λ (m : ℕ). m < n) numbers
     → ((level : ℕ) → limit_in new n level ≡ limits_for page_size tree n level) → ((b level : ℕ) → (b ≡ n → ⊥) → limit_in new b level ≡ limit_in old b level)
     → IsTable page_size tree new opened numbers
-table_ends page_size tree old new opened n numbers table earlier lower own others = grind (arith, all_map, same_or)
+table_ends page_size tree old new opened n numbers table earlier lower own others = grind (arith, all_map, cases_lt)
 
 -- the same buckets have the same numbers, below a higher one
 numbered_below : (wanted : Wanted) (page_size low high : ℕ) (numbers : List ℕ) (states : List Open) → low ≤ high → AreNumbered wanted page_size low numbers states → AreNumbered wanted page_size high numbers states
@@ -121,7 +112,6 @@ pub noted_leaves : (wanted : Wanted) (page_size : ℕ) (old new : NotedLimits) (
     → BucketEnds old new uppers → HasOthers wanted page_size new opened others
 noted_leaves wanted page_size old new opened b [] state others uppers root has are few rows limits runs_open ended = absurd are
 noted_leaves wanted page_size old new opened b (n ∷ numbers) state others uppers root has (is, are) few rows limits runs_open ended =
-    let e = is.earlier in
     record {
       numbers = numbers;
       numbered = numbered_below wanted page_size n opened numbers others (omega arith) are;
