@@ -80,7 +80,7 @@ pub end_short : {S B : Type 0} {sink : Ghosts S} (page_size : ℕ) (runs : Bucke
     → Wrote sink old mid (page_bytes page_size runs.next (leaf_page page_size runs.leaves runs.next).view) whole
     → OnErr result (AppendsProperPrefix (sink.taken mid) (sink.taken new) (placed_bytes page_size (runs_close_put page_size closed after runs.uppers)))
     → OnErr result (AppendsProperPrefix (sink.taken old) (sink.taken new) (placed_bytes page_size (runs_end_put page_size runs)))
-end_short {sink = sink} page_size runs old mid new closed after result same number one two = grind (arith, on_err_same, end_text, short_then)
+end_short page_size runs old mid new closed after result same number one two = grind (arith, on_err_same, end_text, short_then)
 
 pub end_some : (page_size : ℕ) (runs : BucketRunsView) → placed_bytes page_size (runs_end_put page_size runs) ≢ []
 end_some page_size runs =

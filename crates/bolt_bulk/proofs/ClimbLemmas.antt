@@ -78,7 +78,7 @@ pub climb_closes : {S : Type 0} {sink : Ghosts S} (page_size : ℕ) (fresh : Opt
     (e : BranchElement) (next : ℕ) (run : RunView) → i < length runs → drop i runs ≡ run ∷ drop (i + 1) runs → run_stays page_size (run_push run e) (key_size key) ≡ false
     → Climbing page_size fresh key e0 n0 runs0 sink old mid runs i e next → Wrote sink mid new (placed_bytes page_size (taking_puts page_size key e next run)) whole
     → Climbing page_size fresh key e0 n0 runs0 sink old new (set runs i (no_run (one_less run.left) (one_closed run.closed))) (i + 1) (element_up e next run) (next + (1 + overflow_of page_size (run_push run e).size))
-climb_closes {sink = sink} page_size fresh key e0 n0 runs0 old mid new runs i e next run h at room c one = grind (arith, drop-set-lt, take_set_at, front_more, left_split, append_assoc)
+climb_closes page_size fresh key e0 n0 runs0 old mid new runs i e next run h at room c one = grind (arith, drop-set-lt, take_set_at, front_more, left_split, append_assoc)
 
 -- a fault
 pub climb_stops : {S : Type 0} {sink : Ghosts S} (page_size : ℕ) (fresh : Option ℕ) (key : List ℕ) (e0 : BranchElement) (n0 : ℕ) (runs0 : List RunView) (old mid new : S) (runs : List RunView) (i : ℕ)

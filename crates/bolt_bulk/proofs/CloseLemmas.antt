@@ -36,7 +36,7 @@ pub close_more : {S : Type 0} {sink : Ghosts S} (page_size : ℕ) (e0 : BranchEl
     → up ≡ element_up e next run → after ≡ next + (1 + overflow_of page_size (run_push run e).size)
     → Closing page_size e0 n0 runs0 sink old mid runs i e next → Wrote sink mid new (placed_bytes page_size (run_page page_size (run_push run e) next ∷ [])) whole
     → Closing page_size e0 n0 runs0 sink old new (set runs i left) (i + 1) up after
-close_more {sink = sink} page_size e0 n0 runs0 old mid new runs i e next run left up after at up_is after_is c one = grind (arith, drop-set-lt, front_more, close_left)
+close_more page_size e0 n0 runs0 old mid new runs i e next run left up after at up_is after_is c one = grind (arith, drop-set-lt, front_more, close_left)
 
 -- a fault
 pub close_stops : {S : Type 0} {sink : Ghosts S} (page_size : ℕ) (e0 : BranchElement) (n0 : ℕ) (runs0 : List RunView) (old mid new : S) (runs : List RunView) (i : ℕ)

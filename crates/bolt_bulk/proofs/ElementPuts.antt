@@ -41,13 +41,13 @@ pub record NextHead {X : Type 0} (datum : X → List ℕ) (xs : List X) (x : X) 
 
 pub heads_next : {S X : Type 0} {header : ℕ → X → List ℕ} {datum : X → List ℕ} {sink : Ghosts S} (old new : S) (buffer : List ℕ) (xs : List X) (i pos : ℕ) (none x : X) → i < length xs → get_or xs i none ≡ x
     → HeadsPut header datum sink old new buffer xs i pos → NextHead datum xs x pos
-heads_next {X = X} {datum = datum} old new buffer xs i pos none x h e put = grind (arith, at_i, length-append, length-drop)
+heads_next old new buffer xs i pos none x h e put = grind (arith, at_i, length-append, length-drop)
 
 -- the text that is left begins with it
 heads_left : {S X : Type 0} {header : ℕ → X → List ℕ} {datum : X → List ℕ} {sink : Ghosts S} (old new : S) (buffer : List ℕ) (xs : List X) (i pos : ℕ) (none x : X) → i < length xs → get_or xs i none ≡ x
     → (put : HeadsPut header datum sink old new buffer xs i pos)
     → headers_of header datum put.before (drop i xs) ≡ header pos x ++ headers_of header datum (put.before + length (datum x)) (drop (i + 1) xs)
-heads_left {X = X} {header = header} {datum = datum} old new buffer xs i pos none x h e put = grind (arith, at_i)
+heads_left old new buffer xs i pos none x h e put = grind (arith, at_i)
 
 -- the buffer loses at its front what is written, and so does the text that is left
 gathered_left : (buffer kept put rest : List ℕ) → buffer ≡ put ++ kept → buffer ++ rest ≡ put ++ (kept ++ rest)

@@ -21,7 +21,7 @@ use Rattle.bolt_layout.proofs.BranchLemmas.{same_branch}
 
 pub elements-append : {E : Type 0} (xs ys : List (Laid E)) (n : ℕ) → elements_of (xs ++ ys) n ≡ elements_of xs n ++ elements_of ys (n + numbers_of xs)
 elements-append [] ys n = ap (λ (m : ℕ). elements_of ys m) (let e : n ≡ n + 0 = omega arith in e)
-elements-append {E = E} (x ∷ xs) ys n = grind (arith, elements-append xs ys (n + x.numbers))
+elements-append (x ∷ xs) ys n = grind (arith, elements-append xs ys (n + x.numbers))
 
 pub run_grown : (kept_run : RunView) (upper : Upper) (n : ℕ) (q : Laid BranchElement) (e : BranchElement) → IsUpper kept_run upper n → IsKeyed q → e ≡ q.element (n + numbers_of upper.run)
     → IsUpper (run_push kept_run e) (pushed_on upper q) n

@@ -16,7 +16,7 @@ use Rattle.bolt_layout.specs.declared.layout.Layout.{Layout}
 
 -- The code's test of room is that of the cut.
 pub room_joins : {E : Type 0} (page_size least : ℕ) (run : List (Laid E)) (next : Laid E) (size : ℕ) → next.size ≡ size → has_room page_size least run size ≡ joins page_size least size_of run next
-room_joins {E = E} page_size least run next size e = grind (arith, sum_by_push)
+room_joins page_size least run next size e = grind (arith, sum_by_push)
 
 pub cut_joined : {E : Type 0} (page_size least : ℕ) (run : List (Laid E)) (next : Laid E) (items : List (Laid E)) → joins page_size least size_of run next ≡ true
     → cut_from page_size least size_of run (next ∷ items) ≡ cut_from page_size least size_of (run ++ next ∷ []) items

@@ -15,11 +15,11 @@ use Rattle.bolt_layout.specs.declared.layout.Layout.TheVariants.{Plain, Balanced
 -- The cut by a size that a part of each item decides is the cut of these parts.
 pub sum_map : {X Y : Type 0} (f : X → Y) (size : Y → ℕ) (xs : List X) → sum_by size (map f xs) ≡ sum_by (λ x. size (f x)) xs
 sum_map f size [] = refl
-sum_map {X = X} f size (x ∷ xs) = omega (arith, sum_by-cons, sum_map f size xs)
+sum_map f size (x ∷ xs) = omega (arith, sum_by-cons, sum_map f size xs)
 
 map_joins : {X Y : Type 0} (f : X → Y) (page_size least : ℕ) (size : Y → ℕ) (run : List X) (next : X)
     → joins page_size least (λ x. size (f x)) run next ≡ joins page_size least size (map f run) (f next)
-map_joins {X = X} {Y = Y} f page_size least size run next =
+map_joins f page_size least size run next =
     let long = length-map run f in
     let row : map f (run ++ next ∷ []) ≡ map f run ++ f next ∷ [] = map-append f run (next ∷ []) in
     grind (arith, sum_map)
@@ -27,7 +27,7 @@ map_joins {X = X} {Y = Y} f page_size least size run next =
 map_from : {X Y : Type 0} (f : X → Y) (page_size least : ℕ) (size : Y → ℕ) (run items : List X)
     → map (map f) (cut_from page_size least (λ x. size (f x)) run items) ≡ cut_from page_size least size (map f run) (map f items)
 map_from f page_size least size run [] = refl
-map_from {X = X} {Y = Y} f page_size least size run (next ∷ items) =
+map_from f page_size least size run (next ∷ items) =
     let same = map_joins f page_size least size run next in
     grind (arith, map-append, map_from f page_size least size (run ++ next ∷ []) items, map_from f page_size least size (next ∷ []) items)
 
@@ -43,7 +43,7 @@ map_last f (run ∷ next ∷ runs) = map_last f (next ∷ runs)
 map_join : {X Y : Type 0} (f : X → Y) (runs : List (List X)) → map (map f) (join_last runs) ≡ join_last (map (map f) runs)
 map_join f [] = refl
 map_join f (run ∷ []) = refl
-map_join {Y = Y} f (run ∷ next ∷ []) = grind (arith, length-map, map-append)
+map_join f (run ∷ next ∷ []) = grind (arith, length-map, map-append)
 map_join {Y = Y} f (run ∷ next ∷ more ∷ runs) = ap (λ (rs : List (List Y)). map f run ∷ rs) (map_join f (next ∷ more ∷ runs))
 
 map_branches : {X Y : Type 0} (f : X → Y) (which : Layout) (page_size : ℕ) (size : Y → ℕ) (items : List X)

@@ -43,7 +43,7 @@ run_small page_size most (item ∷ run) all = omega (arith, run_small page_size 
 
 run_sized : {E : Type 0} (page_size most : ℕ) (run : List (Laid E)) → AllByRecursion (IsHeldBelow page_size most) run → 16 * length run ≤ sum_by size_of run
 run_sized page_size most [] all = omega arith
-run_sized {E = E} page_size most (item ∷ run) all = omega (arith, sum_by-cons, run_sized page_size most run all.1)
+run_sized page_size most (item ∷ run) all = omega (arith, sum_by-cons, run_sized page_size most run all.1)
 
 -- a page has few items
 thin : {E : Type 0} (page_size wide spare most : ℕ) (run : List (Laid E)) → 16 * wide ≤ page_size → spare ≤ 1 → IsPageRun page_size wide spare size_of run → AllByRecursion (IsHeldBelow page_size most) run

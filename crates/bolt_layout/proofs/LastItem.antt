@@ -82,4 +82,4 @@ join_tops top front (run ∷ []) all one two = absurd (omega arith)
 join_tops {Y = Y} top front (run ∷ next ∷ []) all one two =
     let t : nat_lt (length next) 2 ≡ true = lt-ltb (length next) 2 (omega arith) in
     (top next, rw t (ap (λ (y : Y). y ∷ top next ∷ []) (sym (front run next all.0))))
-join_tops {Y = Y} top front (run ∷ next ∷ more ∷ runs) all one two = grind (arith, join_tops top front (next ∷ more ∷ runs) all.1 one (omega arith))
+join_tops top front (run ∷ next ∷ more ∷ runs) all one two = grind (arith, join_tops top front (next ∷ more ∷ runs) all.1 one (omega arith))

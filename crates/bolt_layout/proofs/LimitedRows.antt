@@ -10,7 +10,7 @@ use Rattle.bolt_layout.proofs.LastItem.{join_behind, join_none, last_behind, som
 -- Without a limit a row is cut as the plain one.
 left_free : {X : Type 0} (page_size : ℕ) (size : X → ℕ) (run items : List X) → cut_left page_size size None run items ≡ cut_from page_size 2 size run items
 left_free page_size size run [] = refl
-left_free {X = X} page_size size run (next ∷ items) = grind (arith, left_free page_size size (run ++ next ∷ []) items, left_free page_size size (next ∷ []) items)
+left_free page_size size run (next ∷ items) = grind (arith, left_free page_size size (run ++ next ∷ []) items, left_free page_size size (next ∷ []) items)
 
 pub row_free : {X : Type 0} (page_size : ℕ) (size : X → ℕ) (items : List X) → cut_row page_size size None items ≡ cut_of page_size 2 size items
 row_free page_size size items = grind (arith, left_free)

@@ -86,7 +86,7 @@ cut_runs page_size least size items some cap = grind (arith, cut_from_runs)
 
 cut_from_whole : {X : Type 0} (page_size least : ℕ) (size : X → ℕ) (run items : List X) → flat_map (λ r. r) (cut_from page_size least size run items) ≡ run ++ items
 cut_from_whole page_size least size run [] = refl
-cut_from_whole {X = X} page_size least size run (next ∷ items) = grind (arith, append_assoc, cut_from_whole page_size least size (run ++ next ∷ []) items, cut_from_whole page_size least size (next ∷ []) items)
+cut_from_whole page_size least size run (next ∷ items) = grind (arith, append_assoc, cut_from_whole page_size least size (run ++ next ∷ []) items, cut_from_whole page_size least size (next ∷ []) items)
 
 pub cut_whole : {X : Type 0} (page_size least : ℕ) (size : X → ℕ) (items : List X) → flat_map (λ r. r) (cut_of page_size least size items) ≡ items
 cut_whole page_size least size items = grind (arith, cut_from_whole)

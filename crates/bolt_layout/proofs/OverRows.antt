@@ -73,7 +73,7 @@ pieces_small page_size height (page ∷ pages) leaves h keys =
 
 sum_at_most : {E : Type 0} (bound : ℕ) (run : List (Laid E)) → AllByRecursion (IsAtMost bound) run → sum_by size_of run ≤ length run * bound
 sum_at_most bound [] h = omega arith
-sum_at_most {E = E} bound (x ∷ run) h = omega (arith, sum_by-cons, sum_at_most bound run h.1)
+sum_at_most bound (x ∷ run) h = omega (arith, sum_by-cons, sum_at_most bound run h.1)
 
 -- A run that a page can hold, of items that are not too large, has room on its page.
 run_fits : {E : Type 0} (page_size spare bound : ℕ) (run : List (Laid E)) → page_size + spare * bound < 0x100000000 → FitsBut page_size spare size_of run

@@ -29,7 +29,7 @@ joined_long {X = X} page_size size (run ∷ next ∷ more ∷ runs) are two =
     (first_long page_size 2 size run next (more ∷ runs) are, joined_long page_size size (next ∷ more ∷ runs) are.2 (omega arith))
 
 runs_long : {X : Type 0} (page_size : ℕ) (size : X → ℕ) (items : List X) → 2 ≤ length items → AllByRecursion HasItems (branch_cut Balanced page_size size items)
-runs_long {X = X} page_size size items two = grind (arith, cut_whole, joined_long, cut_runs)
+runs_long page_size size items two = grind (arith, cut_whole, joined_long, cut_runs)
 
 -- the pages of an item, from any number on
 abbrev HasTwos : {E : Type 0} → Laid E → Type 0
