@@ -59,7 +59,6 @@ pub climb_stays : {S : Type 0} {sink : Ghosts S} (page_size : ℕ) (fresh : Opti
     → (runs_climb page_size fresh key e0 n0 runs0 ≡ set runs i (run_kept page_size (run_push run e) (key_size key))) × (runs_next page_size key e0 n0 runs0 ≡ next)
     × Wrote sink old new (placed_bytes page_size (runs_put page_size key e0 n0 runs0)) whole
 climb_stays page_size fresh key e0 n0 runs0 old mid new runs i e next run h at room c one =
-    let climbed : runs_climb page_size fresh key e next (run ∷ drop (i + 1) runs) ≡ run_kept page_size (run_push run e) (key_size key) ∷ drop (i + 1) runs = rw room refl in
     let nexted : runs_next page_size key e next (run ∷ drop (i + 1) runs) ≡ next = rw room refl in
     let no_more : after_put page_size key e next run (drop (i + 1) runs) ≡ [] = rw room refl in
     let f = front_more c.front one (left_split page_size key e next run (drop (i + 1) runs) (drop i runs) at) in

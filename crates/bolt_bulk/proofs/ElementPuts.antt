@@ -60,7 +60,6 @@ pub heads_more : {S X A E : Type 0} {header : ℕ → X → List ℕ} {datum : X
 heads_more {X = X} {header = header} {datum = datum} old mid new buffer text after xs i pos next none x a h e step same heads adds =
     let at = at_i xs i none x h e in
     let d = ap (λ (ys : List X). length (data_of datum ys)) at ∙ length-append (datum x) (data_of datum (drop (i + 1) xs)) in
-    let r = heads.room in
     let p = heads.place in
     let rest : List ℕ = headers_of header datum (heads.before + length (datum x)) (drop (i + 1) xs) in
     let pushed : after ≡ adds.kept ++ header pos x = adds.added ∙ ap (λ (t : List ℕ). adds.kept ++ t) same in

@@ -8,7 +8,7 @@ use Rattle.bolt_layout.specs.Laid.{Laid, Placed, elements_of, first_key, numbers
 use Rattle.bolt_layout.specs.Limits.{is_out, one_less}
 use Rattle.bolt_layout.specs.Levels.{branch_page_view, overflow_of, page_over, run_overflow, leaf_page_view}
 use Rattle.bolt_bulk.specs.Private.OpenRuns.{Upper, begun_after, climb, climb_puts, has_room, kept, key_size, numbers_in, own_page, pushed_on, put_in, stays_open, close, close_puts, end_of, end_puts, Known, making_room, nothing_open, Open, pushing, room_puts}
-use Rattle.bolt_bulk.specs.Private.RunViews.{RunView, no_run, one_closed, run_has_room, run_kept, run_key, run_page, run_push, run_stays, runs_climb, runs_put, BucketRunsView, leaf_key, leaf_page, leaves_have_room, no_leaves, runs_close_put, runs_end, runs_end_put, runs_next, runs_root, runs_push, runs_room, runs_room_put}
+use Rattle.bolt_bulk.specs.Private.RunViews.{RunView, no_run, one_closed, run_has_room, run_kept, run_key, run_page, run_push, run_stays, runs_climb, runs_put, BucketRunsView, leaf_key, leaf_page, no_leaves, runs_close_put, runs_end, runs_end_put, runs_next, runs_root, runs_push, runs_room, runs_room_put}
 use Rattle.bolt_bulk.specs.Private.BranchRuns.{element_up, runs_end_next}
 use Rattle.bolt_bulk.specs.Private.OpenBuckets.{bucket_end_next, leaf_closed}
 use Rattle.bolt_bulk.specs.Private.BucketRuns.{AreUppers, IsKeyed, IsUpper, IsKeyedItem, AreOpenRuns}
@@ -60,7 +60,6 @@ over_run page_size next b e q kept_run upper uppers is keyed same number =
     let place : b + numbers_in (upper ∷ uppers) ≡ m + numbers_of run = omega arith in
     let pushed = run_grown kept_run upper m q e is keyed (same ∙ ap q.element place) in
     let more = numbers-append run (q ∷ []) in
-    let next_is : next ≡ m + numbers_of (run ++ q ∷ []) = omega arith in
     let over : overflow_of page_size (run_push kept_run e).size ≡ run_overflow page_size (run ++ q ∷ []) = ap (overflow_of page_size) pushed.size_is in
     grind (arith, same_branch, key_same, placed_same)
 
@@ -88,7 +87,6 @@ runs_climbed page_size new key e next b q (kept_run ∷ kept_runs) (upper ∷ up
       | inr f ↦
           (let u : run_stays page_size (run_push kept_run e) (key_size key) ≡ false = test ∙ f in
           let left : one_less kept_run.left ≡ one_less upper.left = ap one_less are.0.left_is in
-          let counted = are.0.closed_is in
           let here : IsUpper (no_run (one_less kept_run.left) (one_closed kept_run.closed)) (begun_after upper) (b + numbers_in (climb page_size new key q2 uppers)) = record { same = refl; size_is = refl; keyed = tt; left_is = left; closed_is = omega arith } in
           rw (f, u) (
             (here, ih.0),
@@ -125,7 +123,6 @@ pub runs_have_room : (page_size : ℕ) (kept_runs : BucketRunsView) (state : Ope
 runs_have_room page_size kept_runs state b key size is =
     let m : ℕ = b + numbers_in state.uppers in
     let l : length kept_runs.leaves.elements ≡ length state.run = ap (λ (es : List LeafElement). length es) is.same ∙ length-elements state.run m in
-    let test : leaves_have_room page_size kept_runs.leaves size ≡ has_room page_size 1 state.run size = rw (l, is.size_is) refl in
     let q : Laid BranchElement = page_over leaf_page_view page_size state.run in
     let closed : BranchElement = leaf_closed kept_runs.leaves kept_runs.next in
     let after : ℕ = kept_runs.next + (1 + overflow_of page_size kept_runs.leaves.size) in
@@ -149,7 +146,6 @@ runs_closed page_size e next b q [] [] are keyed same number = grind arith
 runs_closed page_size e next b q [] (upper ∷ uppers) are keyed same number = absurd are
 runs_closed page_size e next b q (kept_run ∷ kept_runs) [] are keyed same number = absurd are
 runs_closed page_size e next b q (kept_run ∷ kept_runs) (upper ∷ uppers) are keyed same number =
-    let m : ℕ = b + numbers_in uppers in
     let over = over_run page_size next b e q kept_run upper uppers are.0 keyed same number in
     let after : ℕ = next + (1 + overflow_of page_size (run_push kept_run e).size) in
     let ih = runs_closed page_size (element_up e next kept_run) after b (page_over branch_page_view page_size (upper.run ++ q ∷ [])) kept_runs uppers are.1 (refl, λ n. refl) over.named over.after in

@@ -100,7 +100,6 @@ value_too_large which page_size entries key value after large =
     let s = onto_size which page_size entries (with_value key value after) in
     let own = sum_by-cons (size_of {E = LeafElement}) (leaf_item key value false) (items_of which page_size after) in
     let c = onto_count which page_size entries (with_value key value after) in
-    let inside : Tree = onto entries (with_value key value after) in
     grind (arith, lt-leb, never_first, never_last)
 
 -- and one that holds a bucket isn't

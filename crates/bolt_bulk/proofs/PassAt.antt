@@ -227,7 +227,6 @@ module _ {S : Type 0} (sink : Ghosts S) (wanted : Wanted) (pass : Pass) (put : L
       let value : List ℕ = inline_value p.sequence shown in
       let values = shown_values pass.entries.items small.values in
       let count = length-map pass.entries.items leaf_view in
-      let sizes = small.sized in
       let fits = small.small in
       let item = inline_item wanted.which P p.key.now p.sequence shown values (omega arith) (omega arith) in
       let unopened = opened_inline wanted.which P (onto shown end) (ends_inline wanted.which P shown (omega arith) (omega arith)) in
@@ -279,7 +278,6 @@ module _ {S : Type 0} (sink : Ghosts S) (wanted : Wanted) (pass : Pass) (put : L
       let values = shown_values pass.entries.items small.values in
       let count = length-map pass.entries.items leaf_view in
       let sizes = small.sized in
-      let fits = small.small in
       let inner : List (Laid LeafElement) = items_of wanted.which P (onto shown left) in
       let item = root_item wanted.which P p.key.now p.sequence (onto shown left) rooted in
       let on2 = subst (λ (i : Laid LeafElement). IsOn wanted.which P wanted.tree is.frames is.state (i ∷ items_of wanted.which P after) runs_now put) item on in
@@ -448,5 +446,4 @@ pub keep_at : (wanted : Wanted) (pass : Pass) (levels : List Level) (put : List 
     → IsAt wanted (record pass { pending = Some (record { key = p.key; sequence = p.sequence; size = size }); entries = entries }) levels after put
 keep_at wanted pass levels put key value after p entry size entries is some pushed view =
     let (behind, same, rest) = subst (λ (q : Option PendingBucket). IsPending q pass.entries.items (map level_of is.frames) is.rest levels (with_value key value after)) some is.pends in
-    let shown : List LeafElement = map leaf_view pass.entries.items in
     grind (arith, map-append, onto_push)

@@ -146,7 +146,6 @@ stack_before which page_size (frame ∷ frames) root whole front few stack is =
     let three = subst (λ (n : ℕ). IsBefore (pages_put frame.state b ++ front) (own + few) (pages_put (pushing frame.state item) b) n) both
     (subst (λ (ps : List Placed). IsBefore (pages_put frame.state b ++ front) (own + few) ps (own + root.numbers)) (sym more) two) in
     let four = stack_before which page_size frames outer whole (pages_put frame.state b ++ front) (own + few) rest (before_by _ _ _ _ _ _ three (only_begins _ _ _ _ one)) in
-    let numbered : base_in frames + (own + few) ≡ base_in (frame ∷ frames) + few = omega arith in
     grind (arith, append_assoc)
 
 -- at any moment of a pass

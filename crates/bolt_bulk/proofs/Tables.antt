@@ -65,7 +65,6 @@ run_ends page_size limits (run ∷ runs) (upper ∷ uppers) q all root b (row, a
     let fewer = shorter Plain page_size all stands.some in
     let count = length-map (branch_cut Plain page_size size_of all) (page_over branch_page_view page_size) in
     let parts = ap (λ (rs : List (List (Laid BranchElement))). length rs) stands.cut ∙ length-append stands.runs _ in
-    let closed_is : run.closed ≡ upper.closed = (let c = row.closed_is in omega arith) in
     let items : length run.elements.items ≡ length upper.run = run_length run upper.run _ row.same in
     let rest = run_ends page_size (λ k. limits (suc k)) runs uppers (page_over branch_page_view page_size (upper.run ++ q ∷ [])) next root b are comes (omega arith) in
     grind arith
