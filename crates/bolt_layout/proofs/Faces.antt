@@ -1,5 +1,6 @@
 -- A row as the cut sees it: the keys and sizes of its items decide how the row is cut, and the keys and sizes of the row above.
 use Rattle.std.proofs.Common.{◌≡◌, ◌∙◌, ◌++◌, ◌+◌, ℕ, List, [], ◌∷◌, length, map, sum_by, refl, ap, arith}
+use Rattle.std.proofs.lemmas.Grind.{common_steps}
 use Rattle.std.proofs.lemmas.List.{length-map, map-append}
 use Rattle.std.proofs.lemmas.List.Sums.{sum_by-cons}
 use Rattle.bolt_format.specs.Elements.{BranchElement, LeafElement}
@@ -19,17 +20,12 @@ sum_map f size (x ∷ xs) = omega (arith, sum_by-cons, sum_map f size xs)
 
 map_joins : {X Y : Type 0} (f : X → Y) (page_size least : ℕ) (size : Y → ℕ) (run : List X) (next : X)
     → joins page_size least (λ x. size (f x)) run next ≡ joins page_size least size (map f run) (f next)
-map_joins f page_size least size run next =
-    let long = length-map run f in
-    let row : map f (run ++ next ∷ []) ≡ map f run ++ f next ∷ [] = map-append f run (next ∷ []) in
-    grind (arith, sum_map)
+map_joins f page_size least size run next = grind (arith, common_steps, length-map, map-append, sum_map)
 
 map_from : {X Y : Type 0} (f : X → Y) (page_size least : ℕ) (size : Y → ℕ) (run items : List X)
     → map (map f) (cut_from page_size least (λ x. size (f x)) run items) ≡ cut_from page_size least size (map f run) (map f items)
 map_from f page_size least size run [] = refl
-map_from f page_size least size run (next ∷ items) =
-    let same = map_joins f page_size least size run next in
-    grind (arith, map-append, map_from f page_size least size (run ++ next ∷ []) items, map_from f page_size least size (next ∷ []) items)
+map_from f page_size least size run (next ∷ items) = grind (arith, common_steps, map_joins, map-append, map_from f page_size least size (run ++ next ∷ []) items, map_from f page_size least size (next ∷ []) items)
 
 pub map_cut : {X Y : Type 0} (f : X → Y) (page_size least : ℕ) (size : Y → ℕ) (items : List X)
     → map (map f) (cut_of page_size least (λ x. size (f x)) items) ≡ cut_of page_size least size (map f items)

@@ -1,5 +1,6 @@
 -- What holds of a leaf item, and of a row of them: they are read back, and have room on their page.
-use Rattle.std.proofs.Common.{◌≡◌, ℕ, ◌+◌, ◌*◌, ◌<◌, ◌≤◌, List, [], ◌∷◌, ◌++◌, length, refl, ap, arith, sum_by}
+use Rattle.std.proofs.Common.{◌≡◌, ℕ, ◌+◌, ◌*◌, ◌<◌, ◌≤◌, List, [], ◌∷◌, length, refl, arith, sum_by}
+use Rattle.std.proofs.lemmas.Grind.{common_steps}
 use Rattle.std.specs.List.{AllByRecursion}
 use Rattle.std.proofs.lemmas.List.{length-append}
 use Rattle.std.proofs.lemmas.List.Sums.{sum_by-cons}
@@ -39,13 +40,7 @@ items_fit page_size (item ∷ items) all n some h = (all.0.fit n some (omega ari
 pub items_size : (page_size : ℕ) (items : List (Laid LeafElement)) → AllByRecursion (IsItem page_size) items → (n : ℕ)
     → sum_by size_of items ≡ 16 * length (elements_of items n) + length (leaf_data (elements_of items n))
 items_size page_size [] all n = refl
-items_size page_size (item ∷ items) all n =
-    let ih = items_size page_size items all.1 (n + item.numbers) in
-    let e = item.element n in
-    let s = sum_by-cons (size_of {E = LeafElement}) item items in
-    let k : length e.key ≡ length item.key = ap (λ (x : List ℕ). length x) (all.0.key n) in
-    let d = length-append e.key (e.value ++ leaf_data (elements_of items (n + item.numbers))) in
-    let d2 = length-append e.value (leaf_data (elements_of items (n + item.numbers))) in omega arith
+items_size page_size (item ∷ items) all n = grind (arith, common_steps, sum_by-cons, length-append, items_size page_size items all.1 (n + item.numbers))
 
 pub leaf_own_room : (page_size : ℕ) (run : List (Laid LeafElement)) → 0 < page_size → AllByRecursion (IsItem page_size) run → (n : ℕ) → HasRoom page_size (own_page leaf_page_view page_size run n)
 leaf_own_room page_size run sized all n = grind (arith, items_size, overflow_room, leaf_room)

@@ -1,9 +1,10 @@
 -- The elements of a leaf page that was written are read back, and pass their tests.
-use Rattle.std.proofs.Common.{◌≡◌, ◌∙◌, ℕ, suc, ◌+◌, ◌-◌, ◌*◌, ◌<◌, ◌≤◌, nat_lt, Bool, true, false, cond, List, [], ◌∷◌, ◌++◌, length, map, drop, take, Option, None, refl, sym, ap, arith, append_assoc, add-one}
-use Rattle.std.specs.List.{AllByRecursion, range_with_len, slice_range}
+use Rattle.std.proofs.Common.{◌≡◌, ◌∙◌, ℕ, suc, ◌+◌, ◌-◌, ◌*◌, ◌<◌, ◌≤◌, nat_lt, Bool, true, false, cond, List, [], ◌∷◌, ◌++◌, length, map, drop, Option, None, refl, sym, ap, arith, append_assoc, add-one}
+use Rattle.std.proofs.lemmas.Grind.{common_steps}
+use Rattle.std.specs.List.{AllByRecursion, range_with_len}
 use Rattle.std.proofs.lemmas.Bool.{le-ltb}
 use Rattle.std.proofs.lemmas.List.{length-append}
-use Rattle.bolt_format.specs.Elements.{LeafElement, leaf_elements, leaves_fault, table_fault, data_fault, element_at, faults_from, key_length_fault, leaf_element, leaf_end, leaf_fault, leaf_flags_fault, leaf_key_length, leaf_key_start, leaf_value, leaf_value_start, plain_leaf_fault, value_length_fault}
+use Rattle.bolt_format.specs.Elements.{LeafElement, leaf_elements, leaves_fault, table_fault, data_fault, element_at, faults_from, key_length_fault, leaf_element, leaf_end, leaf_fault, leaf_flags_fault, leaf_key_start, plain_leaf_fault, value_length_fault}
 use Rattle.bolt_format.proofs.FaultLemmas.{first_of-both}
 use Rattle.bolt_format.specs.Written.{leaf_flag, leaf_header}
 use Rattle.bolt_layout.specs.PageBytes.{leaf_bytes, leaf_headers, leaf_data, key_pos}
@@ -47,17 +48,7 @@ leaf_read : (bucket_fault : List ℕ → Option ℕ) (bytes rest : List ℕ) (i 
     → drop (element_at i + pos) bytes ≡ e.key ++ (e.value ++ rest) → element_at i + pos ≤ length bytes
     → IsLeafRead bucket_fault bytes i (element_at i + pos + (length e.key + length e.value)) e
 unfolding plain_leaf_fault
-leaf_read bucket_fault bytes rest i pos e head fit text within =
-    let start = head.start in
-    let middle : leaf_value_start bytes i ≡ element_at i + pos + length e.key = ap (λ (n : ℕ). n + leaf_key_length bytes i) head.start ∙ ap (λ (n : ℕ). element_at i + pos + n) head.key in
-    let behind : drop (element_at i + pos + length e.key) bytes ≡ e.value ++ rest = part_next bytes e.key (e.value ++ rest) (element_at i + pos) _ text refl in
-    let key_within = part_within bytes e.key (e.value ++ rest) (element_at i + pos) text within in
-    let value_within = part_within bytes e.value rest (element_at i + pos + length e.key) behind key_within in
-    let key : slice_range bytes (leaf_key_start bytes i) (leaf_value_start bytes i) ≡ e.key =
-    ap (λ (n : ℕ). take (leaf_value_start bytes i - leaf_key_start bytes i) (drop n bytes)) start ∙ part_read bytes e.key (e.value ++ rest) (element_at i + pos) (leaf_value_start bytes i - leaf_key_start bytes i) text (let k = head.key in omega arith) in
-    let value : leaf_value bytes i ≡ e.value =
-    ap (λ (n : ℕ). take (leaf_end bytes i - leaf_value_start bytes i) (drop n bytes)) middle ∙ part_read bytes e.value rest (element_at i + pos + length e.key) (leaf_end bytes i - leaf_value_start bytes i) behind (let k = head.value in omega arith) in
-    grind (arith, same_leaf, first_of-both, flags_pass, key_passes, value_passes, data_passes, chosen_none)
+leaf_read bucket_fault bytes rest i pos e head fit text within = grind (arith, common_steps, part_next, part_within, part_read, same_leaf, first_of-both, flags_pass, key_passes, value_passes, data_passes, chosen_none)
 
 pub length-leaf_headers : (before : ℕ) (es : List LeafElement) → length (leaf_headers before es) ≡ 16 * length es
 length-leaf_headers before [] = refl

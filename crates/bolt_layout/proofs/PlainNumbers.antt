@@ -39,17 +39,12 @@ branches_most times n more weight = times * weight + (2 * more + 4 * (n * more))
 -- half the pages, and no more weight: one level less, at twice the weight
 level_less : (times n more fewer lighter weight own : ℕ) → 2 * fewer ≤ more → lighter ≤ weight → own ≤ more + weight
     → own + branches_most times (2 * n) fewer lighter ≤ branches_most (suc times) n more weight
-level_less times n more fewer lighter weight own half less small =
-    let a : times * lighter ≤ times * weight = mul-le-mul_left times less in
-    let d : n * (2 * fewer) ≤ n * more = mul-le-mul_left n half in omega arith
+level_less times n more fewer lighter weight own half less small = omega (arith, mul-le-mul_left times less, mul-le-mul_left n half)
 
 -- and where each page weighs so much at the most, the pages alone
 level_last : (n more fewer lighter weight own : ℕ) → 2 * fewer ≤ more → 1 ≤ more → weight ≤ n * suc more → own ≤ more + weight
     → own + branches_most 0 n fewer lighter ≤ branches_most 0 n more weight
-level_last n more fewer lighter weight own half some light small =
-    let b : n * 1 ≤ n * more = mul-le-mul_left n some in
-    let c : n * (2 * fewer) ≤ n * more = mul-le-mul_left n half in
-    let d : n * (2 * fewer) ≡ 2 * (n * fewer) = omega arith in omega arith
+level_last n more fewer lighter weight own half some light small = omega (arith, mul-le-mul_left n some, mul-le-mul_left n half)
 
 -- A level of branches over a level of pages.
 record IsNext (page_size most more : ℕ) (pages next : List (Laid BranchElement)) : Type 0 where

@@ -1,11 +1,11 @@
 -- The items of a tree are read back, have room, and are parts of a sound tree of pages.
 use Rattle.std.proofs.Common.{◌≡◌, ◌∙◌, ℕ, ◌+◌, ◌*◌, ◌/◌, ◌^◌, ◌<◌, ◌≤◌, ◌==◌, not, nat_le, Bool, true, false, List, [], ◌∷◌, length, map, Option, Some, None, refl, sym, ap, subst, arith}
-use Rattle.std.specs.Ordering.{is_lt}
+use Rattle.std.proofs.lemmas.Grind.{common_steps}
 use Rattle.std.specs.List.{AllByRecursion}
 use Rattle.std.proofs.lemmas.Bool.{and_parts, eq-eqb, leb-true, ne_eqb, not-true}
 use Rattle.std.proofs.lemmas.List.{append-nil, length-append}
 use Rattle.bolt_format.specs.Elements.{LeafElement, head_root, head_sequence, inline_elements, value_fault}
-use Rattle.bolt_check.specs.Keys.{Key, key_cmp, key_lt}
+use Rattle.bolt_check.specs.Keys.{Key, key_cmp}
 use Rattle.bolt_check.specs.Nodes.{leaf_entry}
 use Rattle.bolt_check.specs.Ways.{At_inline, At_page, Spot, bucket_spots, follow, root_spot}
 use Rattle.bolt_check.specs.Findings.{inline_finding, keys_of, finding_of}
@@ -167,12 +167,8 @@ stored_key which page_size key sequence inside items b e = grind arith
 keys_below : (which : Layout) (page_size : ℕ) (key : Key) (tree : Tree) → IsBelow key_cmp key (keys_in tree) → (x : Laid LeafElement) → x.key ≡ key
     → AllByRecursion (IsBelowItem x) (items_of which page_size tree)
 keys_below which page_size key end below x same = tt
-keys_below which page_size key (with_value other value after) below x same = (
-  ap (λ (k : Key). key_lt k other) same ∙ ap is_lt (below other (contains_head other (keys_in after))),
-  keys_below which page_size key after (λ k has. below k (contains_tail other k (keys_in after) has)) x same,
-)
-keys_below which page_size key (with_bucket other sequence inside after) below x same =
-    grind (arith, contains_head, contains_tail, keys_below which page_size key after (λ k has. below k (contains_tail other k (keys_in after) has)) x same)
+keys_below which page_size key (with_value other value after) below x same = grind (arith, common_steps, contains_head, contains_tail, keys_below which page_size key after (λ k has. below k (contains_tail other k (keys_in after) has)) x same)
+keys_below which page_size key (with_bucket other sequence inside after) below x same = grind (arith, common_steps, contains_head, contains_tail, keys_below which page_size key after (λ k has. below k (contains_tail other k (keys_in after) has)) x same)
 
 pub tree_rise : (which : Layout) (page_size : ℕ) (tree : Tree) → Rises key_cmp (keys_in tree) → Rise (items_of which page_size tree)
 tree_rise which page_size end h = tt
