@@ -1,7 +1,6 @@
 -- A branch page, written piece by piece.
-use Rattle.std.proofs.Common.{◌≡◌, ◌∙◌, ℕ, suc, ◌+◌, ◌-◌, ◌*◌, ◌<◌, ◌≤◌, List, [], ◌∷◌, ◌++◌, length, map, drop, get_or, refl, sym, ap, arith}
+use Rattle.std.proofs.Common.{◌≡◌, ℕ, ◌+◌, ◌-◌, ◌*◌, ◌<◌, ◌≤◌, List, [], ◌∷◌, ◌++◌, length, map, drop, get_or, refl, ap, arith}
 use Rattle.std.proofs.lemmas.List.{append-nil, at_drop_more, drop_all, length-map}
-use Rattle.bolt_format.specs.Elements.{BranchElement}
 use Rattle.bolt_format.specs.ElementPlaces.{branch_view}
 use Rattle.bolt_format.specs.declared.element.Branch.{Branch}
 use Rattle.bolt_layout.specs.Layout.{placed_bytes}
@@ -14,7 +13,6 @@ use Rattle.bolt_format.specs.declared.kind.Kind.TheVariants as kind
 use Rattle.bolt_bulk.specs.Private.BranchRuns.{IsSizedRun, run_view}
 use Rattle.bolt_bulk.specs.Private.RunViews.{run_page}
 use Rattle.bolt_bulk.specs.declared.branch_run.BranchRun.{BranchRun}
-use Rattle.bolt_format.proofs.WroteLemmas.{Wrote-same}
 use Rattle.bolt_format.specs.Endings.{Ending}
 use Rattle.bolt_format.specs.Wrote.{Wrote}
 use Rattle.bolt_bulk.proofs.ElementPuts.{HeadsPut, data_of, headers_of, heads_next}
@@ -32,10 +30,7 @@ key_of x = x.key.now
 
 pub branch_heads : (xs : List Branch) (before : ℕ) → headers_of head_of key_of before xs ≡ branch_headers before (map branch_view xs)
 branch_heads [] before = refl
-branch_heads (x ∷ xs) before =
-    let n : length xs ≡ length (map branch_view xs) = sym (length-map xs branch_view) in
-    ap (λ (m : ℕ). head_of (16 * suc m + before) x ++ headers_of head_of key_of (before + length x.key.now) xs) n
-    ∙ ap (λ (t : List ℕ). head_of (16 * suc (length (map branch_view xs)) + before) x ++ t) (branch_heads xs (before + length x.key.now))
+branch_heads (x ∷ xs) before = grind (arith, length-map, headers_of, branch_heads xs (before + length x.key.now))
 
 pub branch_datum : (xs : List Branch) → data_of key_of xs ≡ branch_data (map branch_view xs)
 branch_datum [] = refl
@@ -54,15 +49,7 @@ pub branch_run_wrote : {S : Type 0} {sink : Ghosts S} {old new : S} (page_size n
     ++ (branch_headers 0 (map branch_view run.elements.items) ++ (branch_data (map branch_view run.elements.items) ++ zeros ((1 + overflow_of page_size run.size) * page_size - run.size)))) end
     → Wrote sink old new (placed_bytes page_size (run_page page_size (run_view run) number ∷ [])) end
 unfolding page_bytes branch_bytes
-branch_run_wrote page_size number run sized wrote =
-    let es : List BranchElement = map branch_view run.elements.items in
-    let over : ℕ = overflow_of page_size run.size in
-    let n : ℕ = (1 + over) * page_size in
-    let count : length run.elements.items ≡ length es = sym (length-map run.elements.items branch_view) in
-    let a = length-header_bytes number kind.Branch (length es) over in
-    let b = length-branch_headers 0 es in
-    Wrote-same (ap (λ (m : ℕ). header_bytes number kind.Branch m over ++ (branch_headers 0 es ++ (branch_data es ++ zeros (n - run.size)))) count
-    ∙ (filled_pieces n run.size (header_bytes number kind.Branch (length es) over) (branch_headers 0 es) (branch_data es) (omega arith) ∙ sym (append-nil _))) wrote
+branch_run_wrote page_size number run sized wrote = grind (arith, length-map, length-header_bytes, length-branch_headers, zeros, filled_pieces, append-nil)
 
 -- what is known of the next header, if all headers and keys are small
 pub record NextBranch (x : Branch) (pos : ℕ) : Type 0 where

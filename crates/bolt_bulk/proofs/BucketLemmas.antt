@@ -1,18 +1,17 @@
 -- What is open of a bucket: its leaf closes, and then runs above it.
-use Rattle.std.proofs.Common.{◌≡◌, ◌≢◌, ◌∙◌, ℕ, ◌+◌, ◌<◌, ◌≤◌, nat_lt, nat_le, true, false, List, [], ◌∷◌, ◌++◌, length, OnErr, OnOk, Option, Result, Ok, Err, refl, sym, ap, inl, inr, arith}
+use Rattle.std.proofs.Common.{◌≡◌, ◌≢◌, ◌∙◌, ℕ, ◌+◌, ◌<◌, ◌≤◌, true, false, List, [], ◌∷◌, ◌++◌, length, OnErr, OnOk, Option, Result, Ok, Err, refl, sym, ap, arith}
 use Rattle.std.proofs.lemmas.Bool.{leb-true, ltb-true}
 use Rattle.std.proofs.lemmas.List.{length-map}
 use Rattle.bolt_format.specs.Elements.{BranchElement, LeafElement}
 use Rattle.bolt_format.specs.Sinks.{AppendsProperPrefix}
 use Rattle.bolt_format.specs.declared.element.Leaf.{Leaf}
-use Rattle.bolt_layout.specs.Cut.{max_items}
 use Rattle.bolt_layout.specs.Laid.{Placed}
 use Rattle.bolt_layout.specs.Layout.{placed_bytes}
 use Rattle.bolt_layout.specs.Levels.{overflow_of}
 use Rattle.bolt_layout.specs.PageBytes.{page_bytes}
-use Rattle.bolt_bulk.specs.Private.HeldItems.{AreHeld, held_view, held_views}
+use Rattle.bolt_bulk.specs.Private.HeldItems.{AreHeld, held_views}
 use Rattle.bolt_bulk.specs.Private.OpenBuckets.{HasRoomFor, IsLeafRun, bucket_end_next, leaf_closed, leaves_of}
-use Rattle.bolt_bulk.specs.Private.RunViews.{BucketRunsView, leaf_key, leaf_page, leaves_have_room, runs_close_put, runs_end_put, runs_next, runs_push, runs_put, runs_room, runs_room_put}
+use Rattle.bolt_bulk.specs.Private.RunViews.{BucketRunsView, leaf_key, leaf_page, leaves_have_room, runs_close_put, runs_end_put, runs_push, runs_put, runs_room, runs_room_put}
 use Rattle.bolt_bulk.specs.Private.TakenItems.{runs_taking}
 use Rattle.bolt_bulk.specs.declared.fault.BulkFault.{BulkFault}
 use Rattle.bolt_bulk.specs.declared.held.Held.{Held}
@@ -29,19 +28,7 @@ use Rattle.bolt_format.specs.declared.sink.Sink.{Ghosts}
 
 -- if a run has room on its page, an item can be added
 pub room_fits : (page_size size : ℕ) (run : LeafRun) → page_size ≤ 33554432 → IsLeafRun run → size < 4294967280 → leaves_have_room page_size (leaves_of run) size ≡ true → HasRoomFor run size
-room_fits page_size size run high is small room =
-    let views : List LeafElement = held_views run.inlined.items run.items.items in
-    let l = length-map run.items.items (held_view run.inlined.items) in
-    elim (few_or_fits (nat_lt (length views) 1) (nat_le (run.size + size) page_size) (nat_lt (length views) max_items) room) [
-      | inl one ↦
-          (let none : length views < 1 = ltb-true _ _ one in
-          let e = none_small run.inlined.items run.items.items run.size (omega arith) is.sized in
-          record { small = omega arith; few = omega arith })
-      | inr both ↦
-          (let fit : run.size + size ≤ page_size = leb-true _ _ both.0 in
-          let few : length views < 65534 = ltb-true _ _ both.1 in
-          record { small = omega arith; few = omega arith })
-    ]
+room_fits page_size size run high is small room = grind (arith, length-map, few_or_fits, ltb-true, none_small, leb-true)
 
 first_short : (inlined : List Leaf) (items : List Held) → AreHeld inlined items → length (leaf_key (held_views inlined items)) ≤ 1073741824
 first_short inlined [] all = omega arith
@@ -50,17 +37,12 @@ first_short inlined (x ∷ items) all = all.0.0
 -- the key of a leaf's element is one of its items' keys
 pub closed_short : (inlined : List Leaf) (items : List Held) (size next : ℕ) (closed : BranchElement) → AreHeld inlined items
     → closed ≡ leaf_closed (record { elements = held_views inlined items; size = size }) next → length closed.key ≤ 1073741824
-closed_short inlined items size next closed all same =
-    let k = ap (λ (e : BranchElement). length e.key) same in
-    let f = first_short inlined items all in omega arith
+closed_short inlined items size next closed all same = omega (arith, ap (λ (e : BranchElement). length e.key) same, first_short inlined items all)
 
 -- a leaf that has no room closes, and its element climbs
 pub room_large : (page_size limit : ℕ) (runs : BucketRunsView) (key : List ℕ) (size : ℕ) → leaves_have_room page_size runs.leaves size ≡ false
     → limit < runs.next + (1 + overflow_of page_size runs.leaves.size) → limit < (runs_room page_size runs key size).next
-room_large page_size limit runs key size none large =
-    let g = next_grows page_size key (leaf_closed runs.leaves runs.next) (runs.next + (1 + overflow_of page_size runs.leaves.size)) runs.uppers in
-    let same : (runs_room page_size runs key size).next ≡ runs_next page_size key (leaf_closed runs.leaves runs.next) (runs.next + (1 + overflow_of page_size runs.leaves.size)) runs.uppers = rw none refl in
-    omega arith
+room_large page_size limit runs key size none large = grind (arith, next_grows)
 
 pub room_made : {S : Type 0} {sink : Ghosts S} (page_size : ℕ) (runs : BucketRunsView) (key : List ℕ) (size : ℕ) (old mid new : S) (closed : BranchElement) (after : ℕ) {end : Ending}
     → leaves_have_room page_size runs.leaves size ≡ false → closed ≡ leaf_closed runs.leaves runs.next → after ≡ runs.next + (1 + overflow_of page_size runs.leaves.size)
@@ -75,15 +57,11 @@ room_made page_size runs key size old mid new closed after none same number one 
 
 -- the end: the leaf closes, and then each run above
 pub end_large : (page_size limit : ℕ) (runs : BucketRunsView) → limit < runs.next + (1 + overflow_of page_size runs.leaves.size) → limit < bucket_end_next page_size runs
-end_large page_size limit runs large =
-    let g = end_grows page_size (leaf_closed runs.leaves runs.next) (runs.next + (1 + overflow_of page_size runs.leaves.size)) runs.uppers in omega arith
+end_large page_size limit runs large = omega (arith, end_grows)
 
 end_text : (page_size : ℕ) (runs : BucketRunsView) (closed : BranchElement) (after : ℕ) → closed ≡ leaf_closed runs.leaves runs.next → after ≡ runs.next + (1 + overflow_of page_size runs.leaves.size)
     → page_bytes page_size runs.next (leaf_page page_size runs.leaves runs.next).view ++ placed_bytes page_size (runs_close_put page_size closed after runs.uppers) ≡ placed_bytes page_size (runs_end_put page_size runs)
-end_text page_size runs closed after same number =
-    let put : runs_close_put page_size closed after runs.uppers ≡ runs_close_put page_size (leaf_closed runs.leaves runs.next) (runs.next + (1 + overflow_of page_size runs.leaves.size)) runs.uppers =
-    ap (λ (e : BranchElement). runs_close_put page_size e after runs.uppers) same ∙ ap (λ (n : ℕ). runs_close_put page_size (leaf_closed runs.leaves runs.next) n runs.uppers) number in
-    ap (λ (ps : List Placed). page_bytes page_size runs.next (leaf_page page_size runs.leaves runs.next).view ++ placed_bytes page_size ps) put
+end_text page_size runs closed after same number = grind arith
 
 pub end_made : {S : Type 0} {sink : Ghosts S} (page_size : ℕ) (runs : BucketRunsView) (old mid new : S) (closed : BranchElement) (after : ℕ) {end : Ending}
     → closed ≡ leaf_closed runs.leaves runs.next → after ≡ runs.next + (1 + overflow_of page_size runs.leaves.size)
@@ -102,8 +80,7 @@ pub end_short : {S B : Type 0} {sink : Ghosts S} (page_size : ℕ) (runs : Bucke
     → Wrote sink old mid (page_bytes page_size runs.next (leaf_page page_size runs.leaves runs.next).view) whole
     → OnErr result (AppendsProperPrefix (sink.taken mid) (sink.taken new) (placed_bytes page_size (runs_close_put page_size closed after runs.uppers)))
     → OnErr result (AppendsProperPrefix (sink.taken old) (sink.taken new) (placed_bytes page_size (runs_end_put page_size runs)))
-end_short {sink = sink} page_size runs old mid new closed after result same number one two =
-    on_err_same (sink.taken old) (sink.taken new) _ _ result (end_text page_size runs closed after same number) (short_then old mid new _ _ result one two)
+end_short page_size runs old mid new closed after result same number one two = grind (arith, on_err_same, end_text, short_then)
 
 pub end_some : (page_size : ℕ) (runs : BucketRunsView) → placed_bytes page_size (runs_end_put page_size runs) ≢ []
 end_some page_size runs =

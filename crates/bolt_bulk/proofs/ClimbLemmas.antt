@@ -1,7 +1,6 @@
 -- The climb over a bucket's open runs, one run after another.
-use Rattle.std.proofs.Common.{◌≡◌, ◌∙◌, ℕ, suc, ◌+◌, ◌<◌, ◌≤◌, true, false, List, [], ◌∷◌, ◌++◌, length, map, take, drop, get_or, set, if◌then◌else◌, zero, add-one, Option, Some, None, option_map, refl, sym, ap, subst, inl, inr, arith, append_assoc}
+use Rattle.std.proofs.Common.{◌≡◌, ◌∙◌, ℕ, suc, ◌+◌, ◌<◌, ◌≤◌, true, false, List, [], ◌∷◌, ◌++◌, length, map, take, drop, get_or, set, if◌then◌else◌, zero, add-one, Option, Some, None, option_map, refl, sym, ap, subst, arith, append_assoc}
 use Rattle.std.specs.List.{AllByRecursion}
-use Rattle.std.proofs.lemmas.Bool.{cases_Bool}
 use Rattle.std.proofs.lemmas.List.{length-map, drop_more, drop-set-lt, set_split}
 use Rattle.std.proofs.Math.ListN.{get_or-map}
 use Rattle.std.proofs.lemmas.Option.{none-some, same_Some}
@@ -44,17 +43,11 @@ after_put page_size key e next run runs =
 
 put_split : (page_size : ℕ) (key : List ℕ) (e : BranchElement) (next : ℕ) (run : RunView) (runs : List RunView)
     → runs_put page_size key e next (run ∷ runs) ≡ taking_puts page_size key e next run ++ after_put page_size key e next run runs
-put_split page_size key e next run runs = elim (cases_Bool (run_stays page_size (run_push run e) (key_size key))) [
-  | inl t ↦ rw t refl
-  | inr f ↦ rw f refl
-]
+put_split page_size key e next run runs = grind arith
 
 left_split : (page_size : ℕ) (key : List ℕ) (e : BranchElement) (next : ℕ) (run : RunView) (runs left : List RunView) → left ≡ run ∷ runs
     → placed_bytes page_size (runs_put page_size key e next left) ≡ placed_bytes page_size (taking_puts page_size key e next run) ++ placed_bytes page_size (after_put page_size key e next run runs)
-left_split page_size key e next run runs left at =
-    ap (λ (rs : List RunView). placed_bytes page_size (runs_put page_size key e next rs)) at
-    ∙ (ap (λ (ps : List Placed). placed_bytes page_size ps) (put_split page_size key e next run runs)
-    ∙ bytes-append page_size (taking_puts page_size key e next run) (after_put page_size key e next run runs))
+left_split page_size key e next run runs left at = grind (arith, put_split, bytes-append)
 
 set_at : {X : Type 0} (xs : List X) (i : ℕ) (x : X) → i < length xs → set xs i x ≡ take i xs ++ x ∷ drop (i + 1) xs
 set_at xs i x h = set_split xs i x h ∙ ap (λ (n : ℕ). take i xs ++ x ∷ drop n xs) (sym (add-one i))
@@ -66,14 +59,10 @@ pub climb_stays : {S : Type 0} {sink : Ghosts S} (page_size : ℕ) (fresh : Opti
     → (runs_climb page_size fresh key e0 n0 runs0 ≡ set runs i (run_kept page_size (run_push run e) (key_size key))) × (runs_next page_size key e0 n0 runs0 ≡ next)
     × Wrote sink old new (placed_bytes page_size (runs_put page_size key e0 n0 runs0)) whole
 climb_stays page_size fresh key e0 n0 runs0 old mid new runs i e next run h at room c one =
-    let climbed : runs_climb page_size fresh key e next (run ∷ drop (i + 1) runs) ≡ run_kept page_size (run_push run e) (key_size key) ∷ drop (i + 1) runs = rw room refl in
     let nexted : runs_next page_size key e next (run ∷ drop (i + 1) runs) ≡ next = rw room refl in
     let no_more : after_put page_size key e next run (drop (i + 1) runs) ≡ [] = rw room refl in
-    let f = front_more c.front one (left_split page_size key e next run (drop (i + 1) runs) (drop i runs) at) in (
-      c.climbs ∙ (ap (λ (rs : List RunView). take i runs ++ runs_climb page_size fresh key e next rs) at ∙ (ap (λ (rs : List RunView). take i runs ++ rs) climbed ∙ sym (set_at runs i (run_kept page_size (run_push run e) (key_size key)) h))),
-      c.nexts ∙ (ap (λ (rs : List RunView). runs_next page_size key e next rs) at ∙ nexted),
-      front_whole f (ap (λ (ps : List Placed). placed_bytes page_size ps) no_more),
-    )
+    let f = front_more c.front one (left_split page_size key e next run (drop (i + 1) runs) (drop i runs) at) in
+    grind (arith, set_at, front_whole)
 
 take_set : {X : Type 0} (xs : List X) (i : ℕ) (x : X) → i < length xs → take (suc i) (set xs i x) ≡ take i xs ++ x ∷ []
 take_set [] i x h = absurd (omega arith)
@@ -88,25 +77,7 @@ pub climb_closes : {S : Type 0} {sink : Ghosts S} (page_size : ℕ) (fresh : Opt
     (e : BranchElement) (next : ℕ) (run : RunView) → i < length runs → drop i runs ≡ run ∷ drop (i + 1) runs → run_stays page_size (run_push run e) (key_size key) ≡ false
     → Climbing page_size fresh key e0 n0 runs0 sink old mid runs i e next → Wrote sink mid new (placed_bytes page_size (taking_puts page_size key e next run)) whole
     → Climbing page_size fresh key e0 n0 runs0 sink old new (set runs i (no_run (one_less run.left) (one_closed run.closed))) (i + 1) (element_up e next run) (next + (1 + overflow_of page_size (run_push run e).size))
-climb_closes {sink = sink} page_size fresh key e0 n0 runs0 old mid new runs i e next run h at room c one =
-    let up : BranchElement = element_up e next run in
-    let after : ℕ = next + (1 + overflow_of page_size (run_push run e).size) in
-    let rest : List RunView = drop (i + 1) runs in
-    let climbed : runs_climb page_size fresh key e next (run ∷ rest) ≡ no_run (one_less run.left) (one_closed run.closed) ∷ runs_climb page_size fresh key up after rest = rw room refl in
-    let nexted : runs_next page_size key e next (run ∷ rest) ≡ runs_next page_size key up after rest = rw room refl in
-    let more : after_put page_size key e next run rest ≡ runs_put page_size key up after rest = rw room refl in
-    let dropped : rest ≡ drop (i + 1) (set runs i (no_run (one_less run.left) (one_closed run.closed))) = sym (drop-set-lt (i + 1) runs i (no_run (one_less run.left) (one_closed run.closed)) (omega arith)) in
-    let taken_too : take (i + 1) (set runs i (no_run (one_less run.left) (one_closed run.closed))) ≡ take i runs ++ no_run (one_less run.left) (one_closed run.closed) ∷ [] = take_set_at runs i (no_run (one_less run.left) (one_closed run.closed)) h in
-    let f = front_more c.front one (left_split page_size key e next run rest (drop i runs) at) in
-    record {
-      climbs = c.climbs ∙ (ap (λ (rs : List RunView). take i runs ++ runs_climb page_size fresh key e next rs) at ∙ (ap (λ (rs : List RunView). take i runs ++ rs) climbed
-          ∙ (sym (append_assoc (take i runs) (no_run (one_less run.left) (one_closed run.closed) ∷ []) (runs_climb page_size fresh key up after rest))
-          ∙ (ap (λ (rs : List RunView). rs ++ runs_climb page_size fresh key up after rest) (sym taken_too)
-          ∙ ap (λ (rs : List RunView). take (i + 1) (set runs i (no_run (one_less run.left) (one_closed run.closed))) ++ runs_climb page_size fresh key up after rs) dropped))));
-      nexts = c.nexts ∙ (ap (λ (rs : List RunView). runs_next page_size key e next rs) at ∙ (nexted ∙ ap (λ (rs : List RunView). runs_next page_size key up after rs) dropped));
-      front = subst (λ (t : List ℕ). WroteFront sink old new (placed_bytes page_size (runs_put page_size key e0 n0 runs0)) t)
-          (ap (λ (ps : List Placed). placed_bytes page_size ps) (more ∙ ap (λ (rs : List RunView). runs_put page_size key up after rs) dropped)) f;
-    }
+climb_closes page_size fresh key e0 n0 runs0 old mid new runs i e next run h at room c one = grind (arith, drop-set-lt, take_set_at, front_more, left_split, append_assoc)
 
 -- a fault
 pub climb_stops : {S : Type 0} {sink : Ghosts S} (page_size : ℕ) (fresh : Option ℕ) (key : List ℕ) (e0 : BranchElement) (n0 : ℕ) (runs0 : List RunView) (old mid new : S) (runs : List RunView) (i : ℕ)
@@ -119,29 +90,12 @@ climb_stops page_size fresh key e0 n0 runs0 old mid new runs i e next run fault 
 -- the numbers only grow
 pub next_grows : (page_size : ℕ) (key : List ℕ) (e : BranchElement) (next : ℕ) (runs : List RunView) → next ≤ runs_next page_size key e next runs
 next_grows page_size key e next [] = omega arith
-next_grows page_size key e next (run ∷ runs) =
-    let after : ℕ = next + (1 + overflow_of page_size (run_push run e).size) in
-    let ih = next_grows page_size key (element_up e next run) after runs in
-    elim (cases_Bool (run_stays page_size (run_push run e) (key_size key))) [
-      | inl t ↦ rw t (omega arith)
-      | inr f ↦ rw f (omega arith)
-    ]
-
-taking_grows : (page_size : ℕ) (key : List ℕ) (e : BranchElement) (next : ℕ) (run : RunView) (runs : List RunView) → taking_next page_size key e next run ≤ runs_next page_size key e next (run ∷ runs)
-taking_grows page_size key e next run runs =
-    let after : ℕ = next + (1 + overflow_of page_size (run_push run e).size) in
-    let ih = next_grows page_size key (element_up e next run) after runs in
-    elim (cases_Bool (run_stays page_size (run_push run e) (key_size key))) [
-      | inl t ↦ rw t (omega arith)
-      | inr f ↦ rw f ih
-    ]
+next_grows page_size key e next (run ∷ runs) = grind (arith, next_grows page_size key (element_up e next run) (next + (1 + overflow_of page_size (run_push run e).size)) runs)
 
 pub climb_large : {S : Type 0} {sink : Ghosts S} (page_size limit : ℕ) (fresh : Option ℕ) (key : List ℕ) (e0 : BranchElement) (n0 : ℕ) (runs0 : List RunView) (old mid : S) (runs : List RunView) (i : ℕ)
     (e : BranchElement) (next : ℕ) (run : RunView) → drop i runs ≡ run ∷ drop (i + 1) runs
     → Climbing page_size fresh key e0 n0 runs0 sink old mid runs i e next → limit < taking_next page_size key e next run → limit < runs_next page_size key e0 n0 runs0
-climb_large page_size limit fresh key e0 n0 runs0 old mid runs i e next run at c large =
-    let g = taking_grows page_size key e next run (drop (i + 1) runs) in
-    let n = c.nexts ∙ ap (λ (rs : List RunView). runs_next page_size key e next rs) at in omega arith
+climb_large page_size limit fresh key e0 n0 runs0 old mid runs i e next run at c large = grind (arith, next_grows)
 
 -- the same of the runs that the code keeps
 pub within_runs : (runs : List BranchRun) (i : ℕ) → i < length runs → i < length (map run_view runs)
@@ -164,17 +118,11 @@ standing_set (x ∷ runs) (suc i) run all is = (all.0, standing_set runs i run a
 
 -- which of the two it was
 room_of : (page_size : ℕ) (key : List ℕ) (e : BranchElement) (next : ℕ) (run : RunView) → None ≡ taking_up page_size key e next run → run_stays page_size (run_push run e) (key_size key) ≡ true
-room_of page_size key e next run up = elim (cases_Bool (run_stays page_size (run_push run e) (key_size key))) [
-  | inl t ↦ t
-  | inr f ↦ (let no : taking_up page_size key e next run ≡ Some (element_up e next run) = rw f refl in absurd (none-some (element_up e next run) (up ∙ no)))
-]
+room_of page_size key e next run up = grind (arith, none-some)
 
 no_room_of : (page_size : ℕ) (key : List ℕ) (e up : BranchElement) (next : ℕ) (run : RunView) → Some up ≡ taking_up page_size key e next run
     → (run_stays page_size (run_push run e) (key_size key) ≡ false) × (up ≡ element_up e next run)
-no_room_of page_size key e up next run same = elim (cases_Bool (run_stays page_size (run_push run e) (key_size key))) [
-  | inl t ↦ (let no : taking_up page_size key e next run ≡ None = rw t refl in absurd (none-some up (sym (same ∙ no))))
-  | inr f ↦ (let yes_ : taking_up page_size key e next run ≡ Some (element_up e next run) = rw f refl in (f, same_Some up (element_up e next run) (same ∙ yes_)))
-]
+no_room_of page_size key e up next run same = grind (arith, none-some, same_Some)
 
 pub room_by : (page_size : ℕ) (key : List ℕ) (e : BranchElement) (next : ℕ) (run : RunView) (up : Option Branch) → up ≡ None → option_map branch_view up ≡ taking_up page_size key e next run
     → run_stays page_size (run_push run e) (key_size key) ≡ true

@@ -1,5 +1,5 @@
 -- The end of a bucket: its open runs close, one after another.
-use Rattle.std.proofs.Common.{◌≡◌, ◌∙◌, ℕ, ◌+◌, ◌<◌, ◌≤◌, List, [], ◌∷◌, ◌++◌, drop, set, sym, ap, subst, arith}
+use Rattle.std.proofs.Common.{◌≡◌, ◌∙◌, ℕ, ◌+◌, ◌<◌, ◌≤◌, List, [], ◌∷◌, ◌++◌, drop, set, ap, arith}
 use Rattle.std.proofs.lemmas.List.{drop-set-lt}
 use Rattle.bolt_format.specs.Elements.{BranchElement}
 use Rattle.bolt_format.specs.Sinks.{AppendsProperPrefix}
@@ -36,17 +36,7 @@ pub close_more : {S : Type 0} {sink : Ghosts S} (page_size : ℕ) (e0 : BranchEl
     → up ≡ element_up e next run → after ≡ next + (1 + overflow_of page_size (run_push run e).size)
     → Closing page_size e0 n0 runs0 sink old mid runs i e next → Wrote sink mid new (placed_bytes page_size (run_page page_size (run_push run e) next ∷ [])) whole
     → Closing page_size e0 n0 runs0 sink old new (set runs i left) (i + 1) up after
-close_more {sink = sink} page_size e0 n0 runs0 old mid new runs i e next run left up after at up_is after_is c one =
-    let rest : List RunView = drop (i + 1) runs in
-    let dropped : rest ≡ drop (i + 1) (set runs i left) = sym (drop-set-lt (i + 1) runs i left (omega arith)) in
-    let f = front_more c.front one (close_left page_size e next run rest (drop i runs) at) in
-    let made : Closing page_size e0 n0 runs0 sink old new (set runs i left) (i + 1) (element_up e next run) (next + (1 + overflow_of page_size (run_push run e).size)) = record {
-      roots = c.roots ∙ (ap (λ (rs : List RunView). runs_root page_size e next rs) at ∙ ap (λ (rs : List RunView). runs_root page_size (element_up e next run) (next + (1 + overflow_of page_size (run_push run e).size)) rs) dropped);
-      nexts = c.nexts ∙ (ap (λ (rs : List RunView). runs_end_next page_size e next rs) at ∙ ap (λ (rs : List RunView). runs_end_next page_size (element_up e next run) (next + (1 + overflow_of page_size (run_push run e).size)) rs) dropped);
-      front = subst (λ (rs : List RunView). WroteFront sink old new (placed_bytes page_size (runs_close_put page_size e0 n0 runs0)) (placed_bytes page_size (runs_close_put page_size (element_up e next run) (next + (1 + overflow_of page_size (run_push run e).size)) rs))) dropped f;
-    } in
-    subst (λ (x : BranchElement). Closing page_size e0 n0 runs0 sink old new (set runs i left) (i + 1) x after) (sym up_is)
-    (subst (λ (n : ℕ). Closing page_size e0 n0 runs0 sink old new (set runs i left) (i + 1) (element_up e next run) n) (sym after_is) made)
+close_more page_size e0 n0 runs0 old mid new runs i e next run left up after at up_is after_is c one = grind (arith, drop-set-lt, front_more, close_left)
 
 -- a fault
 pub close_stops : {S : Type 0} {sink : Ghosts S} (page_size : ℕ) (e0 : BranchElement) (n0 : ℕ) (runs0 : List RunView) (old mid new : S) (runs : List RunView) (i : ℕ)
@@ -72,6 +62,4 @@ end_grows page_size e next (run ∷ runs) = let ih = end_grows page_size (elemen
 pub close_large : {S : Type 0} {sink : Ghosts S} (page_size limit : ℕ) (e0 : BranchElement) (n0 : ℕ) (runs0 : List RunView) (old mid : S) (runs : List RunView) (i : ℕ)
     (e : BranchElement) (next : ℕ) (run : RunView) → drop i runs ≡ run ∷ drop (i + 1) runs
     → Closing page_size e0 n0 runs0 sink old mid runs i e next → limit < next + (1 + overflow_of page_size (run_push run e).size) → limit < runs_end_next page_size e0 n0 runs0
-close_large page_size limit e0 n0 runs0 old mid runs i e next run at c large =
-    let n = c.nexts ∙ ap (λ (rs : List RunView). runs_end_next page_size e next rs) at in
-    let g = end_grows page_size (element_up e next run) (next + (1 + overflow_of page_size (run_push run e).size)) (drop (i + 1) runs) in omega arith
+close_large page_size limit e0 n0 runs0 old mid runs i e next run at c large = grind (arith, end_grows)

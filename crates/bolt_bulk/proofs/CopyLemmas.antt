@@ -1,13 +1,12 @@
 -- The first pages and those of all buckets are the layout, and so a copy is written whole, or stops short.
-use Rattle.std.proofs.Common.{◌≡◌, ◌≢◌, ◌∙◌, ℕ, [], Result, ◌≤◌, ◌<◌, List, ◌++◌, length, Ok, Err, refl, sym, ap, subst, arith, append_assoc}
-use Rattle.std.proofs.KnownBytes.{Appends-trans, Keeps-refl}
+use Rattle.std.proofs.Common.{◌≡◌, ◌≢◌, ◌∙◌, ℕ, [], Result, ◌≤◌, ◌<◌, List, ◌++◌, length, Ok, Err, refl, sym, subst, arith, append_assoc}
+use Rattle.std.proofs.KnownBytes.{Appends-trans}
 use Rattle.std.specs.Io.KnownBytes.{Appends}
 use Rattle.bolt_format.specs.Sinks.{AppendsProperPrefix}
 use Rattle.bolt_tree.specs.Tree.{Tree}
 use Rattle.bolt_bulk.specs.Compacting.{Copies, too_many}
 use Rattle.bolt_layout.specs.Laid.{Placed}
 use Rattle.bolt_layout.specs.Layout.{layout_mark, layout_of, layout_pages, layout_root, placed_bytes}
-use Rattle.bolt_layout.specs.PageBytes.{freelist_page, meta_page}
 use Rattle.bolt_bulk.specs.Private.FirstPages.{first_pages}
 use Rattle.bolt_bulk.specs.declared.fault.BulkFault.{BulkFault}
 use Rattle.bolt_bulk.specs.declared.fault.BulkFault.TheVariants as bulk
@@ -26,22 +25,13 @@ use Rattle.bolt_format.specs.declared.sink.Sink.{Ghosts}
 pub layout_parts : (which : Layout) (page_size : ℕ) (tree : Tree) (sequence root mark : ℕ) → root ≡ layout_root which page_size tree → mark ≡ layout_mark which page_size tree
     → layout_of which page_size tree sequence ≡ first_pages page_size root sequence mark ++ placed_bytes page_size (layout_pages which page_size tree)
 unfolding layout_of
-layout_parts which page_size tree sequence root mark root_is mark_is =
-    let pages : List ℕ = placed_bytes page_size (layout_pages which page_size tree) in
-    let Whole : ℕ → ℕ → List ℕ = λ r m. meta_page page_size r sequence m 0 ++ (meta_page page_size r sequence m 1 ++ (freelist_page page_size 2 ++ pages)) in
-    let regroup : Whole root mark ≡ (meta_page page_size root sequence mark 0 ++ (meta_page page_size root sequence mark 1 ++ freelist_page page_size 2)) ++ pages =
-    ap (λ (bs : List ℕ). meta_page page_size root sequence mark 0 ++ bs) (sym (append_assoc (meta_page page_size root sequence mark 1) (freelist_page page_size 2) pages))
-    ∙ sym (append_assoc (meta_page page_size root sequence mark 0) (meta_page page_size root sequence mark 1 ++ freelist_page page_size 2) pages) in
-    ap (λ (r : ℕ). Whole r (layout_mark which page_size tree)) (sym root_is) ∙ (ap (λ (m : ℕ). Whole root m) (sym mark_is) ∙ regroup)
+layout_parts which page_size tree sequence root mark root_is mark_is = grind (arith, append_assoc)
 
 -- the same, with the pages that a pass writes at this page size
 pub layout_written : (which : Layout) (page_size : ℕ) (tree : Tree) (sequence root mark size : ℕ) (pages : List Placed) → root ≡ layout_root which page_size tree → mark ≡ layout_mark which page_size tree
     → size ≡ page_size → layout_pages which size tree ≡ pages
     → layout_of which page_size tree sequence ≡ first_pages page_size root sequence mark ++ placed_bytes size pages
-layout_written which page_size tree sequence root mark size pages root_is mark_is size_is all =
-    layout_parts which page_size tree sequence root mark root_is mark_is
-    ∙ ap (λ (bytes : List ℕ). first_pages page_size root sequence mark ++ bytes)
-    (ap (λ (n : ℕ). placed_bytes n (layout_pages which n tree)) (sym size_is) ∙ ap (placed_bytes size) all)
+layout_written which page_size tree sequence root mark size pages root_is mark_is size_is all = grind (arith, layout_parts)
 
 never : {X : Type 0} (bytes : ℕ) → bytes < too_many → too_many ≤ bytes → X
 never bytes fits large = absurd (omega arith)
@@ -49,17 +39,7 @@ never bytes fits large = absurd (omega arith)
 -- what stops before a byte is written
 module _ {S : Type 0} (sink : Ghosts S) (old : S) (layout : List ℕ) where
   stops_early : (e : BulkFault) → (e ≡ bulk.Sink → ⊥) → layout ≢ [] → (e ≡ bulk.TooLarge → too_many ≤ length layout) → Copies sink.taken sink.failed old old layout (Err e)
-  stops_early e other some large = record {
-    all = tt;
-    bytes = tt;
-    sound = tt;
-    short = proper_none (sink.taken old) layout some;
-    failure = λ s. absurd (other s);
-    other = λ _. refl;
-    large = large;
-    refuses = λ _. (refl, Keeps-refl (sink.taken old), refl);
-    untouched = λ _. other;
-  }
+  stops_early e other some large = grind (arith, proper_none)
 
   pub stops_unplanned : (plan : PlanFault) (result : Result Done BulkFault) → result ≡ Err (stopped_by plan) → layout ≢ [] → (plan ≡ planned.TooLarge → too_many ≤ length layout)
       → Copies sink.taken sink.failed old old layout result

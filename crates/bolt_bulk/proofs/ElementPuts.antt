@@ -1,6 +1,6 @@
 -- The headers and the data of a page's elements, written one after another: the same for branch and leaf elements, whatever the code keeps
 -- of them.
-use Rattle.std.proofs.Common.{◌≡◌, ◌∙◌, ℕ, suc, ◌+◌, ◌*◌, ◌<◌, ◌≤◌, List, [], ◌∷◌, ◌++◌, length, drop, get_or, Result, Ok, Err, ap, arith, append_assoc, append-nil, sym}
+use Rattle.std.proofs.Common.{◌≡◌, ◌∙◌, ℕ, ◌+◌, ◌*◌, ◌<◌, ◌≤◌, List, [], ◌∷◌, ◌++◌, length, drop, get_or, Result, Ok, Err, ap, arith, append_assoc, append-nil, sym}
 use Rattle.std.specs.Prelude.{IsErr}
 use Rattle.std.proofs.lemmas.List.{drop_all, drop_more, length-append, length-drop}
 use Rattle.bolt_bulk.specs.Private.Gathering.{Adds}
@@ -41,26 +41,13 @@ pub record NextHead {X : Type 0} (datum : X → List ℕ) (xs : List X) (x : X) 
 
 pub heads_next : {S X : Type 0} {header : ℕ → X → List ℕ} {datum : X → List ℕ} {sink : Ghosts S} (old new : S) (buffer : List ℕ) (xs : List X) (i pos : ℕ) (none x : X) → i < length xs → get_or xs i none ≡ x
     → HeadsPut header datum sink old new buffer xs i pos → NextHead datum xs x pos
-heads_next {X = X} {datum = datum} old new buffer xs i pos none x h e put =
-    let at = at_i xs i none x h e in
-    let l = ap (λ (ys : List X). length ys) at in
-    let d = ap (λ (ys : List X). length (data_of datum ys)) at ∙ length-append (datum x) (data_of datum (drop (i + 1) xs)) in
-    let r = put.room in
-    let p = put.place in
-    let w = length-drop i xs in
-    record { low = omega arith; fits = omega arith }
+heads_next old new buffer xs i pos none x h e put = grind (arith, at_i, length-append, length-drop)
 
 -- the text that is left begins with it
 heads_left : {S X : Type 0} {header : ℕ → X → List ℕ} {datum : X → List ℕ} {sink : Ghosts S} (old new : S) (buffer : List ℕ) (xs : List X) (i pos : ℕ) (none x : X) → i < length xs → get_or xs i none ≡ x
     → (put : HeadsPut header datum sink old new buffer xs i pos)
     → headers_of header datum put.before (drop i xs) ≡ header pos x ++ headers_of header datum (put.before + length (datum x)) (drop (i + 1) xs)
-heads_left {X = X} {header = header} {datum = datum} old new buffer xs i pos none x h e put =
-    let at = at_i xs i none x h e in
-    let l = ap (λ (ys : List X). length ys) at in
-    let p = put.place in
-    let same : 16 * suc (length (drop (i + 1) xs)) + put.before ≡ pos = omega arith in
-    ap (λ (ys : List X). headers_of header datum put.before ys) at
-    ∙ ap (λ (n : ℕ). header n x ++ headers_of header datum (put.before + length (datum x)) (drop (i + 1) xs)) same
+heads_left old new buffer xs i pos none x h e put = grind (arith, at_i)
 
 -- the buffer loses at its front what is written, and so does the text that is left
 gathered_left : (buffer kept put rest : List ℕ) → buffer ≡ put ++ kept → buffer ++ rest ≡ put ++ (kept ++ rest)
@@ -72,21 +59,11 @@ pub heads_more : {S X A E : Type 0} {header : ℕ → X → List ℕ} {datum : X
     → HeadsPut header datum sink old new after xs (i + 1) next
 heads_more {X = X} {header = header} {datum = datum} old mid new buffer text after xs i pos next none x a h e step same heads adds =
     let at = at_i xs i none x h e in
-    let l = ap (λ (ys : List X). length ys) at in
     let d = ap (λ (ys : List X). length (data_of datum ys)) at ∙ length-append (datum x) (data_of datum (drop (i + 1) xs)) in
-    let r = heads.room in
     let p = heads.place in
     let rest : List ℕ = headers_of header datum (heads.before + length (datum x)) (drop (i + 1) xs) in
     let pushed : after ≡ adds.kept ++ header pos x = adds.added ∙ ap (λ (t : List ℕ). adds.kept ++ t) same in
-    let left = ap (λ (t : List ℕ). buffer ++ t) (heads_left old mid buffer xs i pos none x h e heads)
-    ∙ (gathered_left buffer adds.kept adds.gathers.put (header pos x ++ rest) adds.gathers.parts
-    ∙ ap (λ (t : List ℕ). adds.gathers.put ++ t) (sym (append_assoc adds.kept (header pos x) rest) ∙ ap (λ (t : List ℕ). t ++ rest) (sym pushed))) in
-    record {
-      before = heads.before + length (datum x);
-      front = front_more heads.front adds.gathers.puts left;
-      place = omega arith;
-      room = omega arith;
-    }
+    grind (arith, heads_left, gathered_left, append_assoc, front_more)
 
 pub heads_stop : {S X A E B F : Type 0} {header : ℕ → X → List ℕ} {datum : X → List ℕ} {sink : Ghosts S} (old mid new : S) (buffer text after : List ℕ) (xs : List X) (i pos : ℕ) (e : E) (result : Result B F)
     → HeadsPut header datum sink old mid buffer xs i pos → Adds {A = A} {E = E} sink mid new buffer text after (Err e) → IsErr result

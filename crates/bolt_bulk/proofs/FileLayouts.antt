@@ -1,5 +1,5 @@
 -- What the laws say of the layout of a checked file. That its trees are sound is known without a witness, and so is what follows from it.
-use Rattle.std.proofs.Common.{◌≡◌, ◌≢◌, ◌<◌, ◌≤◌, ◌+◌, ◌*◌, ◌/◌, ◌^◌, ℕ, List, [], length, refl, ap, subst, arith}
+use Rattle.std.proofs.Common.{◌≡◌, ◌≢◌, ◌<◌, ◌≤◌, ◌+◌, ◌*◌, ◌/◌, ◌^◌, ℕ, List, [], length, refl, subst, arith}
 use Rattle.std.proofs.Math.Logic.{∥∥₁_elim, ∥∥₁_map}
 use Rattle.std.proofs.Math.Nat.{div-lt_iff_lt-mul, div-mul-le_self, mul-le-mul_right}
 use Rattle.std.specs.List.{AllByRecursion}
@@ -66,11 +66,7 @@ module _ (page_size sequence : ℕ) (size : IsPageSize page_size) where
 
 -- it has a byte
 pub some_bytes : (bytes : List ℕ) (mark page_size : ℕ) → length bytes ≡ (3 + mark) * page_size → IsPageSize page_size → bytes ≢ []
-some_bytes bytes mark page_size long size none =
-    let low = (size_bounds page_size size).0 in
-    let n = ap length none in
-    let most : 3 * page_size ≤ (3 + mark) * page_size = mul-le-mul_right page_size (omega arith) in
-    omega (arith, long, low, n, most)
+some_bytes bytes mark page_size long size none = grind (arith, size_bounds, mul-le-mul_right)
 
 -- What the pass over a file asks of its listing, and what its end is of the layout.
 members_same : (a b : List Member) → ∥ a ≡ b ∥₁ → a ≡ b
@@ -84,15 +80,11 @@ listing_fits listing one = ∥∥₁_map one (λ is. subst (AllByRecursion IsFit
 
 -- a high-water mark above the limit is that of a layout that is too large,
 pub too_large : (page_size limit mark bytes : ℕ) → 1 ≤ page_size → limit ≡ 9223372036854775807 / page_size → limit < mark → bytes ≡ mark * page_size → too_many ≤ bytes
-too_large page_size limit mark bytes low limit_is above bytes_are =
-    let more : 9223372036854775807 < mark * page_size = (div-lt_iff_lt-mul {k = page_size} {x = 9223372036854775807} {y = mark} low).0 (omega arith) in omega arith
+too_large page_size limit mark bytes low limit_is above bytes_are = omega (arith, (div-lt_iff_lt-mul {k = page_size} {x = 9223372036854775807} {y = mark} low).0 (omega arith))
 
 -- and one within it is not
 pub within_limit : (page_size limit mark bytes : ℕ) → limit ≡ 9223372036854775807 / page_size → mark ≤ limit → bytes ≡ mark * page_size → bytes < too_many
-within_limit page_size limit mark bytes limit_is within bytes_are =
-    let most : 9223372036854775807 / page_size * page_size ≤ 9223372036854775807 = div-mul-le_self 9223372036854775807 page_size in
-    let same : mark * page_size ≤ 9223372036854775807 / page_size * page_size = mul-le-mul_right page_size (omega arith) in
-    omega arith
+within_limit page_size limit mark bytes limit_is within bytes_are = grind (arith, div-mul-le_self, mul-le-mul_right)
 
 -- The balanced layout is too large if the plain one is beyond 28 times the limit.
 pub balanced_too_large : (page_size : ℕ) (listing : List Member) (bytes : ℕ) → IsPageSize page_size → ∥ IsOfOneTree listing ∥₁

@@ -18,9 +18,4 @@ zeros_none left none = ap zeros none
 -- three texts with zeros after them are what fills a page
 pub filled_pieces : (n size : ℕ) (first second third : List ℕ) → size ≡ length first + (length second + length third)
     → first ++ (second ++ (third ++ zeros (n - size))) ≡ filled n (first ++ (second ++ third))
-filled_pieces n size first second third same =
-    let a = length-append first (second ++ third) in
-    let b = length-append second third in
-    let whole : size ≡ length (first ++ (second ++ third)) = omega arith in
-    ap (λ (rest : List ℕ). first ++ rest) (sym (append_assoc second third (zeros (n - size))))
-    ∙ (sym (append_assoc first (second ++ third) (zeros (n - size))) ∙ ap (λ (m : ℕ). (first ++ (second ++ third)) ++ zeros (n - m)) whole)
+filled_pieces n size first second third same = grind (arith, length-append, append_assoc)

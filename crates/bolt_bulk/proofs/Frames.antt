@@ -1,17 +1,17 @@
 -- A forward pass over a tree, with a frame for each waiting bucket: in the end they become the root page, and the pages that
 -- were written are those of the layout.
-use Rattle.std.proofs.Common.{◌≡◌, ◌∙◌, ℕ, List, [], ◌∷◌, ◌++◌, refl, sym, ap, subst, append_assoc}
+use Rattle.std.proofs.Common.{◌≡◌, ℕ, List, [], ◌∷◌, ◌++◌, refl, append_assoc, arith}
 use Rattle.std.proofs.lemmas.List.{append-nil}
 use Rattle.bolt_format.specs.Elements.{BranchElement, LeafElement}
 use Rattle.bolt_tree.specs.Tree.{Tree}
 use Rattle.bolt_layout.specs.Items.{bucket_item, items_of, root_of}
-use Rattle.bolt_layout.specs.Laid.{Laid, Placed}
+use Rattle.bolt_layout.specs.Laid.{Laid}
 use Rattle.bolt_layout.specs.Levels.{root_over}
 use Rattle.bolt_layout.specs.Limits.{HaveRightLimits}
 use Rattle.bolt_layout.specs.Layout.{first_page, layout_pages}
 use Rattle.bolt_bulk.specs.Private.RowLimits.{bucket_limit}
-use Rattle.bolt_bulk.specs.Private.OpenRuns.{all_put, base_in, end_of, end_puts, Frame, frames_put, Known, making_room, next_number, nothing_open, Open, pages_put, pushing, room_puts, taking}
-use Rattle.bolt_bulk.specs.Private.Coming.{HasBegun, IsPass, IsStack, held_item, leaves_coming}
+use Rattle.bolt_bulk.specs.Private.OpenRuns.{all_put, base_in, end_of, end_puts, Frame, Known, making_room, nothing_open, Open, pushing, room_puts, taking}
+use Rattle.bolt_bulk.specs.Private.Coming.{HasBegun, IsPass, held_item, leaves_coming}
 use Rattle.bolt_bulk.proofs.OpenRunLemmas.{ends, ends_put, opens, pushed_put, room_put, takes}
 use Rattle.bolt_layout.specs.declared.layout.Layout.{Layout}
 
@@ -38,21 +38,11 @@ pass_begins which page_size known tree leaves right = record {
 -- An item with no pages below it: room is made, and it is taken.
 pub pass_takes : (which : Layout) (page_size : ℕ) (frames : List Frame) (state : Open) (item : Laid LeafElement) (items : List (Laid LeafElement)) (whole : Laid BranchElement)
     → IsPass which page_size frames state (item ∷ items) whole → IsPass which page_size frames (taking page_size state item) items whole
-pass_takes which page_size frames state item items whole pass = record {
-  root = pass.root;
-  current = takes which page_size state item items pass.root pass.current;
-  begun = pushed_begun (making_room page_size state item.key item.size) item;
-  stack = pass.stack;
-}
+pass_takes which page_size frames state item items whole pass = grind (arith, takes, pushed_begun)
 
 pub put_takes : (page_size : ℕ) (frames : List Frame) (state : Open) (item : Laid LeafElement) → ((n : ℕ) → item.pages n ≡ [])
     → all_put frames (taking page_size state item) ≡ all_put frames state ++ room_puts page_size state item.key item.size (base_in frames)
-put_takes page_size frames state item none =
-    let b : ℕ = base_in frames in
-    let made : Open = making_room page_size state item.key item.size in
-    let one = pushed_put made item b ∙ (ap (λ (ps : List Placed). pages_put made b ++ ps) (none (next_number made b)) ∙ append-nil (pages_put made b)) in
-    ap (λ (ps : List Placed). frames_put frames ++ ps) (one ∙ room_put page_size state item.key item.size b)
-    ∙ sym (append_assoc (frames_put frames) (pages_put state b) (room_puts page_size state item.key item.size b))
+put_takes page_size frames state item none = grind (arith, pushed_put, append-nil, room_put, append_assoc)
 
 -- A bucket with a root page: room is made, and a bucket within begins.
 abbrev pub waiting : ℕ → Open → List ℕ → ℕ → Laid BranchElement → Tree → Frame
@@ -75,36 +65,18 @@ pass_enters which page_size known frames state key sequence inner after whole le
 pub put_enters : (page_size : ℕ) (known : Known) (frames : List Frame) (state : Open) (key : List ℕ) (sequence : ℕ) (root : Laid BranchElement) (after : Tree)
     → all_put (waiting page_size state key sequence root after ∷ frames) (nothing_open known)
     ≡ all_put frames state ++ room_puts page_size state key (bucket_item key sequence root).size (base_in frames)
-put_enters page_size known frames state key sequence root after =
-    let size : ℕ = (bucket_item key sequence root).size in
-    append-nil (frames_put (waiting page_size state key sequence root after ∷ frames))
-    ∙ (ap (λ (ps : List Placed). frames_put frames ++ ps) (room_put page_size state key size (base_in frames))
-    ∙ sym (append_assoc (frames_put frames) (pages_put state (base_in frames)) (room_puts page_size state key size (base_in frames))))
+put_enters page_size known frames state key sequence root after = grind (arith, append-nil, room_put, append_assoc)
 
 -- The end of a bucket within: its runs close, and the bucket that waits takes its item.
 pub pass_leaves : (which : Layout) (page_size : ℕ) (frame : Frame) (frames : List Frame) (state : Open) (whole : Laid BranchElement) → IsPass which page_size (frame ∷ frames) state [] whole
     → IsPass which page_size frames (pushing frame.state (held_item frame (end_of page_size state))) (items_of which page_size frame.after) whole
-pass_leaves which page_size frame frames state whole pass =
-    let same : pass.root ≡ end_of page_size state = sym (ends which page_size state pass.root pass.current) in
-    let (outer, is, rest) = subst (λ (r : Laid BranchElement). IsStack which page_size (frame ∷ frames) r whole) same pass.stack in
-    record { root = outer; current = is; begun = pushed_begun frame.state (held_item frame (end_of page_size state)); stack = rest }
+pass_leaves which page_size frame frames state whole pass = grind (arith, ends, pushed_begun)
 
 pub put_leaves : (page_size : ℕ) (frame : Frame) (frames : List Frame) (state : Open)
     → all_put frames (pushing frame.state (held_item frame (end_of page_size state))) ≡ all_put (frame ∷ frames) state ++ end_puts page_size state (base_in (frame ∷ frames))
-put_leaves page_size frame frames state =
-    let b : ℕ = base_in frames in
-    let item : Laid LeafElement = held_item frame (end_of page_size state) in
-    let next : ℕ = base_in (frame ∷ frames) in
-    let xs : List Placed = frames_put frames in
-    let ys : List Placed = pages_put frame.state b in
-    let zs : List Placed = pages_put state next in
-    let es : List Placed = end_puts page_size state next in
-    ap (λ (ps : List Placed). xs ++ ps) (pushed_put frame.state item b ∙ ap (λ (ps : List Placed). ys ++ ps) (ends_put page_size state next))
-    ∙ (sym (append_assoc xs ys (zs ++ es)) ∙ sym (append_assoc (xs ++ ys) zs es))
+put_leaves page_size frame frames state = grind (arith, pushed_put, ends_put, append_assoc)
 
 -- The end: what was written and what the last runs write are the pages of the layout.
 pub pass_ends : (which : Layout) (page_size : ℕ) (tree : Tree) (state : Open) → IsPass which page_size [] state [] (root_of which page_size tree)
     → all_put [] state ++ end_puts page_size state first_page ≡ layout_pages which page_size tree
-pass_ends which page_size tree state pass =
-    let same : end_of page_size state ≡ root_of which page_size tree = ends which page_size state pass.root pass.current ∙ pass.stack in
-    sym (ends_put page_size state first_page) ∙ ap (λ (r : Laid BranchElement). r.pages first_page) same
+pass_ends which page_size tree state pass = grind (arith, ends, ends_put)

@@ -1,5 +1,5 @@
 -- How many items the waiting buckets hold, as a pass counts them.
-use Rattle.std.proofs.Common.{◌≡◌, ◌∙◌, ℕ, ◌+◌, List, [], ◌∷◌, ◌++◌, reverse, min, refl, sym, ap, subst, arith}
+use Rattle.std.proofs.Common.{◌≡◌, ◌∙◌, ℕ, ◌+◌, List, [], ◌∷◌, ◌++◌, reverse, min, refl, ap, arith}
 use Rattle.std.proofs.lemmas.List.{reverse-append}
 use Rattle.bolt_bulk.specs.Private.HeldCounts.{AreCounted, capped, items_around, items_in}
 use Rattle.bolt_bulk.specs.declared.waiting_bucket.WaitingBucket.{WaitingBucket}
@@ -11,32 +11,23 @@ around_push (x ∷ others) w = let ih = around_push others w in omega arith
 -- one more waits
 counted_push : (before : ℕ) (others : List WaitingBucket) (w : WaitingBucket) → AreCounted before others → w.around ≡ capped (before + items_around others) → AreCounted before (others ++ w ∷ [])
 counted_push before [] w are at = (at ∙ ap capped (let e : before + 0 ≡ before = omega arith in e), tt)
-counted_push before (x ∷ others) w are at =
-    let e : before + (items_in x.bucket + items_around others) ≡ before + items_in x.bucket + items_around others = omega arith in
-    (are.0, counted_push (before + items_in x.bucket) others w are.1 (at ∙ ap capped e))
+counted_push before (x ∷ others) w are at = grind (arith, counted_push (before + items_in x.bucket) others w are.1 (at ∙ ap capped (omega arith)))
 
 -- the innermost waits no longer
 counted_pop : (before : ℕ) (others : List WaitingBucket) (w : WaitingBucket) → AreCounted before (others ++ w ∷ []) → AreCounted before others × (w.around ≡ capped (before + items_around others))
 counted_pop before [] w are = (tt, are.0 ∙ ap capped (let e : before ≡ before + 0 = omega arith in e))
-counted_pop before (x ∷ others) w are =
-    let e : before + items_in x.bucket + items_around others ≡ before + (items_in x.bucket + items_around others) = omega arith in
-    let (rest, at) = counted_pop (before + items_in x.bucket) others w are.1 in ((are.0, rest), at ∙ ap capped e)
+counted_pop before (x ∷ others) w are = grind (arith, counted_pop (before + items_in x.bucket) others w are.1)
 
 -- of all waiting ones
 pub waits_more : (others more : List WaitingBucket) (w : WaitingBucket) (before : ℕ) → AreCounted 0 others → w.around ≡ before → before ≡ capped (items_around others) → more ≡ others ++ w ∷ [] → AreCounted 0 more
-waits_more others more w before are at old pushed =
-    let e : items_around others ≡ 0 + items_around others = omega arith in
-    subst (λ (ws : List WaitingBucket). AreCounted 0 ws) (sym pushed) (counted_push 0 others w are (at ∙ (old ∙ ap capped e)))
+waits_more others more w before are at old pushed = grind (arith, counted_push)
 
 pub waits_less : (others all : List WaitingBucket) (w : WaitingBucket) → AreCounted 0 all → all ≡ others ++ w ∷ [] → AreCounted 0 others × (w.around ≡ capped (items_around others))
-waits_less others all w are popped =
-    let e : 0 + items_around others ≡ items_around others = omega arith in
-    let (rest, at) = counted_pop 0 others w (subst (λ (ws : List WaitingBucket). AreCounted 0 ws) popped are) in (rest, at ∙ ap capped e)
+waits_less others all w are popped = grind (arith, counted_pop)
 
 pub more_around : (before after held : ℕ) (others more : List WaitingBucket) (w : WaitingBucket) → before ≡ capped (items_around others) → held ≡ capped (items_in w.bucket) → after ≡ min (before + held) 18446744073709551615 → more ≡ others ++ w ∷ []
     → after ≡ capped (items_around more)
-more_around before after held others more w old own sum pushed =
-    let n = ap items_around pushed ∙ around_push others w in omega arith
+more_around before after held others more w old own sum pushed = omega (arith, ap items_around pushed ∙ around_push others w)
 
 around_last : (others : List WaitingBucket) (w : WaitingBucket) → reverse (w ∷ others) ≡ reverse others ++ w ∷ []
 around_last others w = reverse-append (w ∷ []) others
@@ -44,6 +35,4 @@ around_last others w = reverse-append (w ∷ []) others
 -- in either order
 pub around_reverse : (ws : List WaitingBucket) → items_around (reverse ws) ≡ items_around ws
 around_reverse [] = refl
-around_reverse (w ∷ ws) =
-    let ih = around_reverse ws in
-    let n = ap items_around (around_last ws w) ∙ around_push (reverse ws) w in omega arith
+around_reverse (w ∷ ws) = omega (arith, around_reverse ws, ap items_around (around_last ws w) ∙ around_push (reverse ws) w)

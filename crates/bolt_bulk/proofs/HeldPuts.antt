@@ -1,12 +1,12 @@
 -- What is known of the items of an open leaf when they are written.
-use Rattle.std.proofs.Common.{false, ◌≡◌, ◌∙◌, ℕ, zero, suc, ◌+◌, ◌≤◌, ◌<◌, List, [], ◌∷◌, ◌++◌, length, map, drop, take, get_or, append_assoc, sym, ap, subst, arith}
+use Rattle.std.proofs.Common.{false, ◌≡◌, ◌∙◌, ℕ, zero, suc, ◌+◌, ◌≤◌, ◌<◌, List, [], ◌∷◌, ◌++◌, length, map, drop, get_or, append_assoc, sym, ap, arith}
 use Rattle.std.proofs.lemmas.List.{at_drop_more, drop_all, length-drop, length-take-le}
 use Rattle.bolt_format.specs.ElementPlaces.{leaf_view}
 use Rattle.bolt_format.specs.declared.element.Leaf.{Leaf}
 use Rattle.bolt_bulk.specs.declared.held.Held.{Held}
 use Rattle.bolt_bulk.specs.declared.held.Stored.{Stored}
 use Rattle.bolt_bulk.specs.declared.held.Stored.TheVariants as stored
-use Rattle.bolt_bulk.specs.Private.HeldItems.{AreHeld, IsHeld, IsInlined, IsStored, held_views, stored_value}
+use Rattle.bolt_bulk.specs.Private.HeldItems.{AreHeld, IsHeld, IsStored, held_views, stored_value}
 use Rattle.bolt_layout.specs.PageBytes.{leaf_data}
 use Rattle.bolt_bulk.proofs.LeafPuts.{length-inline_value}
 use Rattle.bolt_format.proofs.WrittenHeaders.{length-head_bytes}
@@ -23,23 +23,13 @@ held_at inlined [] i h all = absurd (omega arith)
 held_at inlined (item ∷ items) zero h all = all.0
 held_at inlined (item ∷ items) (suc i) h all = held_at inlined items i (omega arith) all.1
 
--- the entries of an inline bucket are as many as it says
-pub length-entries : (inlined : List Leaf) (first count : ℕ) → first + count ≤ length inlined → length (take count (drop first inlined)) ≡ count
-length-entries inlined first count there =
-    let rest = length-drop first inlined in length-take-le count (drop first inlined) (omega arith)
-
+-- the value of a bucket with a root page is its head
 pub root_len : (inlined : List Leaf) (s : Stored) (page sequence : ℕ) → s ≡ stored.Root page sequence → 16 ≡ length (stored_value inlined s)
 root_len inlined s page sequence e = sym (ap (λ (x : Stored). length (stored_value inlined x)) e ∙ length-head_bytes page sequence)
 
 pub inline_len : (inlined : List Leaf) (s : Stored) (sequence first count size : ℕ) → s ≡ stored.Inline sequence first count size → IsStored inlined s
     → size ≡ length (stored_value inlined s)
-inline_len inlined s sequence first count size e is =
-    let known : IsInlined inlined first count size = subst (λ (x : Stored). IsStored inlined x) e is in
-    let entries : List Leaf = take count (drop first inlined) in
-    let many = length-entries inlined first count known.there in
-    let sized = known.sized in
-    let value = ap (λ (x : Stored). length (stored_value inlined x)) e in
-    let long = length-inline_value leaf_view sequence entries in omega arith
+inline_len inlined s sequence first count size e is = grind (arith, length-inline_value, length-drop, length-take-le)
 
 -- the data that are left, from number i on
 pub held_left : (inlined : List Leaf) (xs : List Held) (i : ℕ) → i < length xs

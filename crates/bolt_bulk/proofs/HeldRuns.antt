@@ -1,23 +1,20 @@
 -- A run of items that takes one more, and the entries of the inline buckets among them.
-use Rattle.std.proofs.Common.{Global, Vec, subst, ◌≡◌, ◌∙◌, ℕ, ◌+◌, ◌<◌, ◌≤◌, Bool, false, List, [], ◌∷◌, ◌++◌, drop, length, map, take, refl, sym, ap, arith}
+use Rattle.std.proofs.Common.{Global, Vec, subst, ◌≡◌, ℕ, ◌+◌, ◌<◌, ◌≤◌, false, List, [], ◌∷◌, ◌++◌, length, map, refl, sym, ap, arith}
 use Rattle.std.specs.List.{AllByRecursion}
 use Rattle.std.proofs.Math.Seq.{drop-append_seam, take-length}
 use Rattle.std.proofs.lemmas.List.{drop-append-le, length-append, length-drop, length-map, take-append-le}
 use Rattle.bolt_format.specs.ElementPlaces.{leaf_view}
 use Rattle.bolt_format.specs.Elements.{LeafElement}
 use Rattle.bolt_format.specs.declared.element.Leaf.{Leaf}
-use Rattle.bolt_format.specs.Written.{header_bytes, head_bytes}
-use Rattle.bolt_layout.specs.PageBytes.{inline_value, leaf_bytes, leaf_data}
+use Rattle.bolt_layout.specs.PageBytes.{inline_value, leaf_data}
 use Rattle.bolt_bulk.specs.Private.HeldItems.{AreHeld, IsHeld, IsInlined, IsStored, entries_in, held_view, held_views, inlined_by, inlined_in, is_stored_bucket, page_size_of, stored_value, value_item}
 use Rattle.bolt_bulk.specs.Private.TakenItems.{entries_size, inline_element, inline_size}
 use Rattle.bolt_bulk.specs.Private.OpenBuckets.{HasRoomFor, IsLeafRun}
 use Rattle.bolt_bulk.specs.declared.leaf_run.LeafRun.{LeafRun}
 use Rattle.bolt_bulk.specs.declared.held.Held.{Held}
 use Rattle.bolt_bulk.specs.declared.held.Stored.{Stored}
-use Rattle.bolt_bulk.specs.declared.held.Stored.TheVariants as stored
 use Rattle.bolt_layout.proofs.ListLemmas.{all_append}
 use Rattle.bolt_format.proofs.WrittenHeaders.{length-header_bytes, length-head_bytes}
-use Rattle.bolt_format.specs.declared.kind.Kind.TheVariants as kind
 use Rattle.bolt_layout.proofs.SpanLemmas.{length-leaf_bytes}
 
 -- what is known of a run of items
@@ -29,15 +26,8 @@ pub record IsRun (inlined : List Leaf) (items : List Held) (size : ℕ) : Type 0
 
 data_push : (inlined : List Leaf) (xs : List Held) (x : Held)
     → length (leaf_data (held_views inlined (xs ++ x ∷ []))) ≡ length (leaf_data (held_views inlined xs)) + (length x.key.now + length (stored_value inlined x.stored))
-data_push inlined [] x =
-    let a = length-append x.key.now (stored_value inlined x.stored ++ []) in
-    let b = length-append (stored_value inlined x.stored) [] in omega arith
-data_push inlined (y ∷ xs) x =
-    let ih = data_push inlined xs x in
-    let a = length-append y.key.now (stored_value inlined y.stored ++ leaf_data (held_views inlined (xs ++ x ∷ []))) in
-    let b = length-append (stored_value inlined y.stored) (leaf_data (held_views inlined (xs ++ x ∷ []))) in
-    let c = length-append y.key.now (stored_value inlined y.stored ++ leaf_data (held_views inlined xs)) in
-    let d = length-append (stored_value inlined y.stored) (leaf_data (held_views inlined xs)) in omega arith
+data_push inlined [] x = omega (arith, length-append x.key.now (stored_value inlined x.stored ++ []), length-append (stored_value inlined x.stored) [])
+data_push inlined (y ∷ xs) x = grind (arith, length-append, data_push inlined xs x)
 
 pub none_small : (inlined : List Leaf) (xs : List Held) (size : ℕ) → length xs < 1 → size ≡ page_size_of inlined xs → size ≡ 16
 none_small inlined [] size h e = omega arith
@@ -45,11 +35,7 @@ none_small inlined (y ∷ xs) size h e = absurd (omega arith)
 
 pub run_pushed : (size more : ℕ) (inlined : List Leaf) (xs : List Held) (x : Held) → IsRun inlined xs size → IsHeld inlined x → more ≡ 16 + (length x.key.now + length (stored_value inlined x.stored))
     → size + more < 4294967296 → length xs < 65534 → IsRun inlined (xs ++ x ∷ []) (size + more)
-run_pushed size more inlined xs x is held same small few =
-    let d = data_push inlined xs x in
-    let n = length-append xs (x ∷ []) in
-    let s = is.sized in
-    record { held = all_append (IsHeld inlined) xs (x ∷ []) is.held (held, tt); sized = omega arith; small = small; few = omega arith }
+run_pushed size more inlined xs x is held same small few = grind (arith, data_push, length-append, all_append)
 
 inlined_push : (xs : List Held) (x : Held) → inlined_in (xs ++ x ∷ []) ≡ inlined_in xs + inlined_by x.stored
 inlined_push [] x = omega arith
@@ -57,9 +43,7 @@ inlined_push (y ∷ xs) x = let ih = inlined_push xs x in omega arith
 
 -- its inline buckets have as many more entries as the item has
 pub counted : (before after : ℕ) (xs more : List Held) (x : Held) → before ≡ inlined_in xs → more ≡ xs ++ x ∷ [] → after ≡ before + inlined_by x.stored → after ≡ inlined_in more
-counted before after xs more x old same grown =
-    let a = ap (λ (items : List Held). inlined_in items) same in
-    let b = inlined_push xs x in omega arith
+counted before after xs more x old same grown = omega (arith, ap (λ (items : List Held). inlined_in items) same, inlined_push xs x)
 
 -- one more item, which isn't an inline bucket
 pub item_pushed : (run : LeafRun) (items : Vec Held Global) (x : Held) (more : ℕ) → IsLeafRun run → items.items ≡ run.items.items ++ x ∷ [] → IsHeld run.inlined.items x → inlined_by x.stored ≡ 0
@@ -72,80 +56,46 @@ item_pushed run items x more old pushed held apart size room =
 
 -- Entries added to a list leave those in it as they are,
 entries_more : (inlined more : List Leaf) (first count : ℕ) → first + count ≤ length inlined → entries_in (inlined ++ more) first count ≡ entries_in inlined first count
-entries_more inlined more first count there =
-    let l = length-drop first inlined in
-    ap (λ (run : List Leaf). map leaf_view (take count run)) (drop-append-le first inlined more (omega arith))
-    ∙ ap (λ (run : List Leaf). map leaf_view run) (take-append-le count (drop first inlined) more (omega arith))
+entries_more inlined more first count there = grind (arith, length-drop, drop-append-le, take-append-le)
 
 -- and so the items that they belong to.
 value_more : (inlined more : List Leaf) (x : Stored) → IsStored inlined x → stored_value (inlined ++ more) x ≡ stored_value inlined x
-value_more inlined more (stored.Value value) is = refl
-value_more inlined more (stored.Root page sequence) is = refl
-value_more inlined more (stored.Inline sequence first count size) is = ap (λ (entries : List LeafElement). inline_value sequence entries) (entries_more inlined more first count is.there)
+value_more inlined more x is = grind (arith, entries_more)
 
 stored_more : (inlined more : List Leaf) (x : Stored) → IsStored inlined x → IsStored (inlined ++ more) x
-stored_more inlined more (stored.Value value) is = tt
-stored_more inlined more (stored.Root page sequence) is = tt
-stored_more inlined more (stored.Inline sequence first count size) is =
-    let n = length-append inlined more in
-    let same = ap (λ (entries : List LeafElement). length (leaf_data entries)) (entries_more inlined more first count is.there) in
-    let s = is.sized in
-    let t = is.there in
-    record { there = omega arith; few = is.few; sized = omega arith; small = is.small }
+stored_more inlined more x is = grind (arith, length-append, entries_more)
 
 view_more : (inlined more : List Leaf) (x : Held) → IsHeld inlined x → held_view (inlined ++ more) x ≡ held_view inlined x
 view_more inlined more x is = ap (λ (value : List ℕ). record { key = x.key.now; value = value; is_bucket = is_stored_bucket x.stored }) (value_more inlined more x.stored is.1)
 
 pub views_more : (inlined more : List Leaf) (items : List Held) → AreHeld inlined items → held_views (inlined ++ more) items ≡ held_views inlined items
 views_more inlined more [] all = refl
-views_more inlined more (x ∷ items) all =
-    ap (λ (e : LeafElement). e ∷ held_views (inlined ++ more) items) (view_more inlined more x all.0)
-    ∙ ap (λ (es : List LeafElement). held_view inlined x ∷ es) (views_more inlined more items all.1)
+views_more inlined more (x ∷ items) all = grind (arith, view_more, views_more inlined more items all.1)
 
 pub held_more : (inlined more : List Leaf) (items : List Held) → AreHeld inlined items → AreHeld (inlined ++ more) items
 held_more inlined more [] all = tt
 held_more inlined more (x ∷ items) all = ((all.0.0, stored_more inlined more x.stored all.0.1), held_more inlined more items all.1)
 
 pub run_more : (size : ℕ) (inlined more : List Leaf) (items : List Held) → IsRun inlined items size → IsRun (inlined ++ more) items size
-run_more size inlined more items is =
-    let same = ap (λ (es : List LeafElement). length (leaf_data es)) (views_more inlined more items is.held) in
-    let s = is.sized in
-    record { held = held_more inlined more items is.held; sized = omega arith; small = is.small; few = is.few }
+run_more size inlined more items is = grind (arith, views_more, held_more)
 
 -- the entries of an inline bucket that was just added
-entries_added : (inlined entries : List Leaf) → entries_in (inlined ++ entries) (length inlined) (length entries) ≡ map leaf_view entries
-entries_added inlined entries =
-    ap (λ (run : List Leaf). map leaf_view (take (length entries) run)) (drop-append_seam inlined entries) ∙ ap (λ (run : List Leaf). map leaf_view run) (take-length entries)
-
 entries_at : (inlined entries run : List Leaf) (first : ℕ) → run ≡ inlined ++ entries → first ≡ length inlined → entries_in run first (length entries) ≡ map leaf_view entries
-entries_at inlined entries run first behind at =
-    ap (λ (r : List Leaf). entries_in r first (length entries)) behind ∙ (ap (λ (n : ℕ). entries_in (inlined ++ entries) n (length entries)) at ∙ entries_added inlined entries)
+entries_at inlined entries run first behind at = grind (arith, drop-append_seam, take-length)
 
 pub length-inline_value : (sequence : ℕ) (entries : List LeafElement) → length (inline_value sequence entries) ≡ inline_size entries
 unfolding inline_value
-length-inline_value sequence entries =
-    let root = length-head_bytes 0 sequence in
-    let head = length-header_bytes 0 kind.Leaf (length entries) 0 in
-    let all = length-leaf_bytes entries in
-    let a = length-append (head_bytes 0 sequence) (header_bytes 0 kind.Leaf (length entries) 0 ++ leaf_bytes entries) in
-    let b = length-append (header_bytes 0 kind.Leaf (length entries) 0) (leaf_bytes entries) in omega arith
+length-inline_value sequence entries = grind (arith, length-head_bytes, length-header_bytes, length-leaf_bytes, length-append)
 
 -- such a bucket is an item,
 pub added_held : (inlined entries run : List Leaf) (first size : ℕ) → run ≡ inlined ++ entries → first ≡ length inlined → length entries < 65535 → size ≡ inline_size (map leaf_view entries) → size < 4294967296
     → IsInlined run first (length entries) size
-added_held inlined entries run first size behind at few same small =
-    let r = ap (λ (r : List Leaf). length r) behind in
-    let n = length-append inlined entries in
-    let m = length-map entries leaf_view in
-    let d = ap (λ (es : List LeafElement). length (leaf_data es)) (entries_at inlined entries run first behind at) in
-    record { there = omega arith; few = few; sized = omega arith; small = small }
+added_held inlined entries run first size behind at few same small = grind (arith, length-append, length-map, entries_at)
 
 -- of this size,
 pub added_size : (inlined entries run : List Leaf) (first sequence key size : ℕ) → run ≡ inlined ++ entries → first ≡ length inlined → size ≡ inline_size (map leaf_view entries)
     → 16 + (key + size) ≡ 16 + (key + length (inline_value sequence (entries_in run first (length entries))))
-added_size inlined entries run first sequence key size behind at same =
-    let e = ap (λ (es : List LeafElement). length (inline_value sequence es)) (entries_at inlined entries run first behind at) in
-    let l = length-inline_value sequence (map leaf_view entries) in omega arith
+added_size inlined entries run first sequence key size behind at same = grind (arith, entries_at, length-inline_value)
 
 views_push : (run : List Leaf) (items : List Held) (x : Held) → held_views run (items ++ x ∷ []) ≡ held_views run items ++ held_view run x ∷ []
 views_push run [] x = refl
@@ -155,18 +105,12 @@ views_push run (y ∷ items) x = ap (λ (es : List LeafElement). held_view run y
 pub added_views : (inlined entries run : List Leaf) (first sequence : ℕ) (key : List ℕ) (items more : List Held) (x : Held) → run ≡ inlined ++ entries → first ≡ length inlined → AreHeld inlined items
     → more ≡ items ++ x ∷ [] → held_view run x ≡ inline_element key sequence (entries_in run first (length entries))
     → held_views run more ≡ held_views inlined items ++ inline_element key sequence (map leaf_view entries) ∷ []
-added_views inlined entries run first sequence key items more x behind at all same view =
-    let old : held_views run items ≡ held_views inlined items = ap (λ (r : List Leaf). held_views r items) behind ∙ views_more inlined entries items all in
-    let new : held_view run x ≡ inline_element key sequence (map leaf_view entries) = view ∙ ap (λ (es : List LeafElement). inline_element key sequence es) (entries_at inlined entries run first behind at) in
-    ap (λ (xs : List Held). held_views run xs) same
-    ∙ (views_push run items x ∙ (ap (λ (es : List LeafElement). es ++ held_view run x ∷ []) old ∙ ap (λ (e : LeafElement). held_views inlined items ++ e ∷ []) new))
+added_views inlined entries run first sequence key items more x behind at all same view = grind (arith, views_more, entries_at, views_push)
 
 -- The items of values are these values,
 pub values_view : (entries : List Leaf) → AllByRecursion (λ (entry : Leaf). entry.is_bucket ≡ false) entries → held_views [] (map value_item entries) ≡ map leaf_view entries
 values_view [] all = refl
-values_view (x ∷ entries) all =
-    ap (λ (b : Bool). record { key = x.key.now; value = x.value.now; is_bucket = b } ∷ held_views [] (map value_item entries)) (sym all.0)
-    ∙ ap (λ (es : List LeafElement). leaf_view x ∷ es) (values_view entries all.1)
+values_view (x ∷ entries) all = grind (arith, values_view entries all.1)
 
 values_held : (entries : List Leaf) → AllByRecursion (λ (entry : Leaf). length entry.key.now ≤ 1073741824) entries → AreHeld [] (map value_item entries)
 values_held [] all = tt
@@ -179,8 +123,4 @@ values_none (x ∷ entries) = let ih = values_none entries in omega arith
 -- and make a run.
 pub values_run : (entries : List Leaf) (size : ℕ) → AllByRecursion (λ (entry : Leaf). length entry.key.now ≤ 1073741824) entries
     → AllByRecursion (λ (entry : Leaf). entry.is_bucket ≡ false) entries → size ≡ entries_size (map leaf_view entries) → size < 4294967296 → length entries < 65535 → IsRun [] (map value_item entries) size
-values_run entries size keys values same small few =
-    let v = ap (λ (es : List LeafElement). length (leaf_data es)) (values_view entries values) in
-    let n = length-map entries value_item in
-    let m = length-map entries leaf_view in
-    record { held = values_held entries keys; sized = omega arith; small = small; few = omega arith }
+values_run entries size keys values same small few = grind (arith, values_view, length-map, values_held)

@@ -1,20 +1,18 @@
 -- The most that a pass has held so far changes only when an item joins a leaf: then the items that are held now count.
-use Rattle.std.proofs.Common.{◌≡◌, ◌∙◌, ℕ, ◌+◌, ◌≤◌, Bool, true, false, Option, List, [], ◌∷◌, ◌++◌, length, max, refl, sym, ap, subst, arith}
+use Rattle.std.proofs.Common.{◌≡◌, ◌∙◌, ℕ, ◌+◌, ◌≤◌, Bool, false, Option, List, [], ◌∷◌, ◌++◌, length, max, refl, ap, arith}
 use Rattle.std.proofs.lemmas.List.{length-append, length-map}
 use Rattle.std.proofs.lemmas.List.Sums.{sum_by-cons}
 use Rattle.bolt_format.specs.ElementPlaces.{branch_view}
 use Rattle.bolt_format.specs.Elements.{BranchElement, LeafElement}
 use Rattle.bolt_layout.specs.Laid.{Laid, elements_of, held_in}
 use Rattle.bolt_layout.specs.Levels as levels
-use Rattle.bolt_bulk.specs.Private.RowLimits.{bucket_limit}
 use Rattle.bolt_bulk.specs.Private.BranchRuns.{run_view, runs_above}
 use Rattle.bolt_bulk.specs.Private.Coming.{held_item}
 use Rattle.bolt_bulk.specs.Private.HeldCounts.{capped, items_above, items_around, items_in}
-use Rattle.bolt_bulk.specs.Private.HeldItems.{held_view}
 use Rattle.bolt_bulk.specs.Private.HeldSoFar.{held_frames, held_on, held_open, held_over, held_so_far, length_frames, length_open, length_over}
 use Rattle.bolt_bulk.specs.Private.OpenBuckets.{bucket_runs}
 use Rattle.bolt_bulk.specs.Private.BucketRuns.{AreUppers, AreOpenRuns}
-use Rattle.bolt_bulk.specs.Private.OpenRuns.{climb, close, end_of, Frame, has_room, key_size, Known, making_room, numbers_in, Open, pushed_on, pushing, stays_open, taking, Upper}
+use Rattle.bolt_bulk.specs.Private.OpenRuns.{climb, close, end_of, Frame, has_room, key_size, Known, making_room, Open, pushed_on, pushing, stays_open, taking, Upper}
 use Rattle.bolt_bulk.specs.Private.Passes.{AreWaiting}
 use Rattle.bolt_bulk.specs.declared.branch_run.BranchRun.{BranchRun}
 use Rattle.bolt_bulk.specs.declared.bucket_runs.BucketRuns.{BucketRuns}
@@ -38,24 +36,14 @@ on_page (item ∷ run) = ap (λ (n : ℕ). max item.held (1 + n)) (on_page run)
 
 over_max : (uppers : List Upper) (inner : ℕ) → held_over uppers inner ≡ max (held_over uppers 0) (length_over uppers + inner)
 over_max [] inner = omega arith
-over_max (upper ∷ uppers) inner =
-    let run : List (Laid BranchElement) = upper.run in
-    let a = over_max uppers (held_on run inner) in
-    let b = over_max uppers (held_on run 0) in
-    let c = on_max run inner in omega arith
+over_max (upper ∷ uppers) inner = omega (arith, on_max, over_max uppers (held_on upper.run inner), over_max uppers (held_on upper.run 0))
 
 open_max : (state : Open) (inner : ℕ) → held_open state inner ≡ max (held_open state 0) (length_open state + inner)
-open_max state inner =
-    let a = over_max state.uppers (held_on state.run inner) in
-    let b = over_max state.uppers (held_on state.run 0) in
-    let c = on_max state.run inner in omega arith
+open_max state inner = omega (arith, over_max, on_max)
 
 frames_max : (frames : List Frame) (inner : ℕ) → held_frames frames inner ≡ max (held_frames frames 0) (length_frames frames + inner)
 frames_max [] inner = omega arith
-frames_max (frame ∷ frames) inner =
-    let a = frames_max frames (held_open frame.state inner) in
-    let b = frames_max frames (held_open frame.state 0) in
-    let c = open_max frame.state inner in omega arith
+frames_max (frame ∷ frames) inner = omega (arith, open_max, frames_max frames (held_open frame.state inner), frames_max frames (held_open frame.state 0))
 
 -- ---- pages that close
 
@@ -66,12 +54,7 @@ joined run q some = on_push run q 0 ∙ ap (λ (n : ℕ). held_on run n) (let e 
 climbs : (page_size : ℕ) (new : Option ℕ) (key : List ℕ) (q : Laid BranchElement) (upper : Upper) (uppers : List Upper) → 1 ≤ q.held
     → ((up : Laid BranchElement) → 1 ≤ up.held → held_over (climb page_size new key up uppers) 0 ≡ held_over uppers up.held)
     → (b : Bool) → stays_open page_size (pushed_on upper q) (key_size key) ≡ b → held_over (climb page_size new key q (upper ∷ uppers)) 0 ≡ held_over (upper ∷ uppers) q.held
-climbs page_size new key q upper uppers some above true room = rw room (ap (λ (n : ℕ). held_over uppers n) (joined upper.run q some))
-climbs page_size new key q upper uppers some above false room =
-    let up : Laid BranchElement = levels.page_over levels.branch_page_view page_size (upper.run ++ q ∷ []) in
-    let same : up.held ≡ held_on upper.run q.held = on_page (upper.run ++ q ∷ []) ∙ joined upper.run q some in
-    let m = on_max upper.run q.held in
-    rw room (above up (omega arith) ∙ ap (λ (n : ℕ). held_over uppers n) same)
+climbs page_size new key q upper uppers some above b room = grind (arith, joined, on_page, on_max)
 
 climbed : (page_size : ℕ) (new : Option ℕ) (key : List ℕ) (q : Laid BranchElement) (uppers : List Upper) → 1 ≤ q.held → held_over (climb page_size new key q uppers) 0 ≡ held_over uppers q.held
 climbed page_size new key q [] some = omega arith
@@ -84,12 +67,7 @@ room_first page_size [] size none = absurd (cc)
 room_first page_size (item ∷ run) size none = omega arith
 
 made : (page_size : ℕ) (state : Open) (key : List ℕ) (size : ℕ) (b : Bool) → has_room page_size 1 state.run size ≡ b → held_open (making_room page_size state key size) 0 ≡ held_open state 0
-made page_size state key size true room = rw room refl
-made page_size state key size false room =
-    let q : Laid BranchElement = levels.page_over levels.leaf_page_view page_size state.run in
-    let same : q.held ≡ held_on state.run 0 = on_page state.run in
-    let some = room_first page_size state.run size room in
-    rw room (climbed page_size (bucket_limit state.known.limits (length state.uppers)) key q state.uppers (omega arith) ∙ ap (λ (n : ℕ). held_over state.uppers n) same)
+made page_size state key size b room = grind (arith, on_page, room_first, climbed)
 
 -- and so does the end of a bucket
 closed : (page_size : ℕ) (q : Laid BranchElement) (uppers : List Upper) → 1 ≤ q.held → (close page_size q uppers).held ≡ held_over uppers q.held
@@ -103,14 +81,7 @@ closed page_size q (upper ∷ uppers) some =
 
 ended_over : (page_size : ℕ) (run : List (Laid LeafElement)) (uppers : List Upper) → (run ≡ [] → uppers ≡ [])
     → (close page_size (levels.page_over levels.leaf_page_view page_size run) uppers).held ≡ held_over uppers (held_on run 0)
-ended_over page_size [] uppers begun =
-    let none = begun refl in
-    let P : List Upper → Type 0 = λ us. (close page_size (levels.page_over levels.leaf_page_view page_size []) us).held ≡ held_over us (held_on {E = LeafElement} [] 0) in
-    subst P (sym none) refl
-ended_over page_size (item ∷ run) uppers begun =
-    let q : Laid BranchElement = levels.page_over levels.leaf_page_view page_size (item ∷ run) in
-    let same : q.held ≡ held_on (item ∷ run) 0 = on_page (item ∷ run) in
-    closed page_size q uppers (omega arith) ∙ ap (λ (n : ℕ). held_over uppers n) same
+ended_over page_size run uppers begun = grind (arith, on_page, closed)
 
 pub end_held : (page_size : ℕ) (state : Open) → (state.run ≡ [] → state.uppers ≡ []) → (end_of page_size state).held ≡ held_open state 0
 end_held page_size state begun = ended_over page_size state.run state.uppers begun
@@ -120,14 +91,7 @@ end_held page_size state begun = ended_over page_size state.run state.uppers beg
 -- an item joins
 pushed : (frames : List Frame) (state : Open) (item : Laid LeafElement)
     → held_so_far frames (pushing state item) ≡ max (held_frames frames (held_open state item.held)) (length_frames frames + length_open (pushing state item))
-pushed frames state item =
-    let join : held_open (pushing state item) 0 ≡ held_open state (max item.held (1 + 0)) = ap (λ (n : ℕ). held_over state.uppers n) (on_push state.run item 0) in
-    let same = ap (λ (n : ℕ). held_frames frames n) join in
-    let a = open_max state (max item.held (1 + 0)) in
-    let b = open_max state item.held in
-    let c = frames_max frames (held_open state (max item.held (1 + 0))) in
-    let d = frames_max frames (held_open state item.held) in
-    let l = length-append state.run (item ∷ []) in omega arith
+pushed frames state item = grind (arith, on_push, open_max, frames_max, length-append)
 
 pub takes_held : (page_size : ℕ) (frames : List Frame) (state : Open) (item : Laid LeafElement) (before after : ℕ) → item.held ≡ 0 → before ≡ capped (held_so_far frames state)
     → after ≡ max before (capped (length_frames frames + length_open (taking page_size state item))) → after ≡ capped (held_so_far frames (taking page_size state item))
@@ -142,11 +106,7 @@ takes_held page_size frames state item before after flat old counted =
 pub leaves_held : (page_size : ℕ) (frame : Frame) (frames : List Frame) (state : Open) (before after : ℕ) → (state.run ≡ [] → state.uppers ≡ []) → before ≡ capped (held_so_far (frame ∷ frames) state)
     → after ≡ max before (capped (length_frames frames + length_open (pushing frame.state (held_item frame (end_of page_size state)))))
     → after ≡ capped (held_so_far frames (pushing frame.state (held_item frame (end_of page_size state))))
-leaves_held page_size frame frames state before after begun old counted =
-    let item : Laid LeafElement = held_item frame (end_of page_size state) in
-    let root : item.held ≡ held_open state 0 = end_held page_size state begun in
-    let join = pushed frames frame.state item in
-    let same = ap (λ (n : ℕ). held_frames frames (held_open frame.state n)) root in omega arith
+leaves_held page_size frame frames state before after begun old counted = grind (arith, end_held, pushed)
 
 -- a bucket is opened with items that have no pages below them, and the one around it waits with room for it
 flat_run : {E : Type 0} (run : List (Laid E)) → held_in run ≤ length run → held_on run 0 ≡ length run
@@ -161,33 +121,22 @@ enters_held page_size known frame frames state key size run before after room fl
     let inner = ap (λ (n : ℕ). held_frames frames (held_open frame.state n)) values in
     let a = open_max frame.state (length run) in
     let b = frames_max frames (held_open frame.state (length run)) in
-    let c = frames_max frames (held_open state 0) in
     let d = frames_max frames (held_open frame.state 0) in
     let still = ap (λ (n : ℕ). held_frames frames n) same in omega arith
 
 -- ---- what the code counts
 
 pub run_length : (run : BranchRun) (pages : List (Laid BranchElement)) (n : ℕ) → (run_view run).elements ≡ elements_of pages n → length run.elements.items ≡ length pages
-run_length run pages n same =
-    let l = length-map run.elements.items branch_view in
-    let e = ap (λ (es : List BranchElement). length es) same in
-    let k = length-elements pages n in omega arith
+run_length run pages n same = omega (arith, length-map run.elements.items branch_view, ap (λ (es : List BranchElement). length es) same, length-elements pages n)
 
 above_length : (runs : List BranchRun) (uppers : List Upper) (b : ℕ) → AreUppers (runs_above runs) uppers b → items_above runs ≡ length_over uppers
 above_length [] [] b are = refl
 above_length [] (upper ∷ uppers) b are = absurd are
 above_length (run ∷ runs) [] b are = absurd are
-above_length (run ∷ runs) (upper ∷ uppers) b are =
-    let ih = above_length runs uppers b are.1 in
-    let one = run_length run upper.run _ are.0.same in
-    let s = sum_by-cons (λ (r : BranchRun). length r.elements.items) run runs in omega arith
+above_length (run ∷ runs) (upper ∷ uppers) b are = omega (arith, run_length, sum_by-cons, above_length runs uppers b are.1)
 
 pub items_length : (bucket : BucketRuns) (next b : ℕ) (state : Open) → AreOpenRuns (bucket_runs bucket next) state b → items_in bucket ≡ length_open state
-items_length bucket next b state runs =
-    let above = above_length bucket.uppers.runs.items state.uppers b runs.above in
-    let l = length-map bucket.leaves.items.items (held_view bucket.leaves.inlined.items) in
-    let e = ap (λ (es : List LeafElement). length es) runs.same in
-    let k = length-elements state.run (b + numbers_in state.uppers) in omega arith
+items_length bucket next b state runs = grind (arith, above_length, length-map, length-elements)
 
 pub around_length : (ws : List WaitingBucket) (frames : List Frame) → AreWaiting ws frames → items_around ws ≡ length_frames frames
 around_length [] [] waits = refl

@@ -1,15 +1,14 @@
 -- The open runs that the code keeps of a bucket are those that the pass has open.
-use Rattle.std.proofs.Common.{◌≡◌, ◌∙◌, ℕ, ◌+◌, ◌||◌, Bool, true, false, if◌then◌else◌, Option, None, List, [], ◌∷◌, ◌++◌, length, refl, sym, ap, inl, inr, arith, suc}
+use Rattle.std.proofs.Common.{◌≡◌, ◌∙◌, ℕ, ◌+◌, ◌||◌, Bool, true, false, Option, List, [], ◌∷◌, ◌++◌, length, refl, ap, inl, inr, arith, suc}
 use Rattle.std.specs.List.{AllByRecursion}
 use Rattle.std.proofs.lemmas.Bool.{cases_Bool}
 use Rattle.std.proofs.lemmas.List.Sums.{sum_by_push}
 use Rattle.bolt_format.specs.Elements.{BranchElement, LeafElement}
-use Rattle.bolt_layout.specs.Cut.{run_size}
-use Rattle.bolt_layout.specs.Laid.{Laid, Placed, elements_of, first_key, numbers_of, size_of}
+use Rattle.bolt_layout.specs.Laid.{Laid, Placed, elements_of, first_key, numbers_of}
 use Rattle.bolt_layout.specs.Limits.{is_out, one_less}
 use Rattle.bolt_layout.specs.Levels.{branch_page_view, overflow_of, page_over, run_overflow, leaf_page_view}
 use Rattle.bolt_bulk.specs.Private.OpenRuns.{Upper, begun_after, climb, climb_puts, has_room, kept, key_size, numbers_in, own_page, pushed_on, put_in, stays_open, close, close_puts, end_of, end_puts, Known, making_room, nothing_open, Open, pushing, room_puts}
-use Rattle.bolt_bulk.specs.Private.RunViews.{RunView, no_run, one_closed, run_has_room, run_kept, run_key, run_page, run_push, run_stays, runs_climb, runs_put, BucketRunsView, leaf_key, leaf_page, leaves_have_room, no_leaves, runs_close_put, runs_end, runs_end_put, runs_next, runs_root, runs_push, runs_room, runs_room_put}
+use Rattle.bolt_bulk.specs.Private.RunViews.{RunView, no_run, one_closed, run_has_room, run_kept, run_key, run_page, run_push, run_stays, runs_climb, runs_put, BucketRunsView, leaf_key, leaf_page, no_leaves, runs_close_put, runs_end, runs_end_put, runs_next, runs_root, runs_push, runs_room, runs_room_put}
 use Rattle.bolt_bulk.specs.Private.BranchRuns.{element_up, runs_end_next}
 use Rattle.bolt_bulk.specs.Private.OpenBuckets.{bucket_end_next, leaf_closed}
 use Rattle.bolt_bulk.specs.Private.BucketRuns.{AreUppers, IsKeyed, IsUpper, IsKeyedItem, AreOpenRuns}
@@ -22,54 +21,27 @@ use Rattle.bolt_layout.proofs.BranchLemmas.{same_branch}
 
 pub elements-append : {E : Type 0} (xs ys : List (Laid E)) (n : ℕ) → elements_of (xs ++ ys) n ≡ elements_of xs n ++ elements_of ys (n + numbers_of xs)
 elements-append [] ys n = ap (λ (m : ℕ). elements_of ys m) (let e : n ≡ n + 0 = omega arith in e)
-elements-append {E = E} (x ∷ xs) ys n =
-    let ih = elements-append xs ys (n + x.numbers) in
-    let e : n + x.numbers + numbers_of xs ≡ n + numbers_of (x ∷ xs) = omega arith in
-    ap (λ (es : List E). x.element n ∷ es) (ih ∙ ap (λ (m : ℕ). elements_of xs (n + x.numbers) ++ elements_of ys m) e)
+elements-append (x ∷ xs) ys n = grind (arith, elements-append xs ys (n + x.numbers))
 
 pub run_grown : (kept_run : RunView) (upper : Upper) (n : ℕ) (q : Laid BranchElement) (e : BranchElement) → IsUpper kept_run upper n → IsKeyed q → e ≡ q.element (n + numbers_of upper.run)
     → IsUpper (run_push kept_run e) (pushed_on upper q) n
-run_grown kept_run upper n q e is keyed same =
-    let run : List (Laid BranchElement) = upper.run in
-    let s = sum_by_push (size_of {E = BranchElement}) run q in
-    let size = is.size_is in
-    let k : length e.key ≡ length q.key = ap (λ (x : BranchElement). length x.key) same ∙ ap (λ (x : List ℕ). length x) (keyed.1 (n + numbers_of run)) in
-    let z = keyed.0 in
-    record {
-      same = ap (λ (es : List BranchElement). es ++ e ∷ []) is.same ∙ (ap (λ (x : BranchElement). elements_of run n ++ x ∷ []) same ∙ sym (elements-append run (q ∷ []) n));
-      size_is = omega arith;
-      keyed = all_append IsKeyed run (q ∷ []) is.keyed (keyed, tt);
-      left_is = is.left_is;
-      closed_is = is.closed_is;
-    }
+run_grown kept_run upper n q e is keyed same = grind (arith, sum_by_push, elements-append, all_append)
 
 pub room_same : (page_size : ℕ) (kept_run : RunView) (upper : Upper) (n size : ℕ) → IsUpper kept_run upper n → run_has_room page_size kept_run size ≡ has_room page_size 2 upper.run size
-room_same page_size kept_run upper n size is =
-    let l : length kept_run.elements ≡ length upper.run = ap (λ (es : List BranchElement). length es) is.same ∙ length-elements upper.run n in
-    rw (l, is.size_is) refl
+room_same page_size kept_run upper n size is = grind (arith, length-elements)
 
 pub stays_same : (page_size : ℕ) (kept_run : RunView) (upper : Upper) (n size : ℕ) → IsUpper kept_run upper n → run_stays page_size kept_run size ≡ stays_open page_size upper size
 stays_same page_size kept_run upper n size is = ap (λ (b : Bool). b || is_out kept_run.left) (room_same page_size kept_run upper n size is) ∙ ap (λ (l : Option ℕ). has_room page_size 2 upper.run size || is_out l) is.left_is
 
 pub kept_same : (page_size : ℕ) (kept_run : RunView) (upper : Upper) (n size : ℕ) → IsUpper kept_run upper n → IsUpper (run_kept page_size kept_run size) (kept page_size upper size) n
-kept_same page_size kept_run upper n size is = record {
-  same = is.same;
-  size_is = is.size_is;
-  keyed = is.keyed;
-  left_is = ap (λ (b : Bool). if b then kept_run.left else None) (room_same page_size kept_run upper n size is) ∙ ap (λ (l : Option ℕ). if has_room page_size 2 upper.run size then l else None) is.left_is;
-  closed_is = is.closed_is;
-}
+kept_same page_size kept_run upper n size is = grind (arith, room_same)
 
 pub key_same : (run : List (Laid BranchElement)) (n : ℕ) → AllByRecursion IsKeyed run → run_key (elements_of run n) ≡ first_key run
 key_same [] n keyed = refl
 key_same (x ∷ run) n keyed = keyed.0.1 n
 
 pub placed_same : (page_size : ℕ) (kept_run : RunView) (upper : Upper) (n next : ℕ) → IsUpper kept_run upper n → next ≡ n + numbers_of upper.run → run_page page_size kept_run next ≡ own_page branch_page_view page_size upper.run n
-placed_same page_size kept_run upper n next is number =
-    let run : List (Laid BranchElement) = upper.run in
-    let f : ℕ → ℕ → List BranchElement → Placed = λ m s es. record { number = m; view = branch_page_view (overflow_of page_size s) es } in
-    ap (λ (m : ℕ). f m kept_run.size kept_run.elements) number
-    ∙ (ap (λ (s : ℕ). f (n + numbers_of run) s kept_run.elements) is.size_is ∙ ap (λ (es : List BranchElement). f (n + numbers_of run) (run_size size_of run) es) is.same)
+placed_same page_size kept_run upper n next is number = grind arith
 
 -- the page over a run that takes one more page
 record Over (page_size : ℕ) (kept_run : RunView) (upper : Upper) (m next : ℕ) (e : BranchElement) (q : Laid BranchElement) : Type 0 where
@@ -88,25 +60,15 @@ over_run page_size next b e q kept_run upper uppers is keyed same number =
     let place : b + numbers_in (upper ∷ uppers) ≡ m + numbers_of run = omega arith in
     let pushed = run_grown kept_run upper m q e is keyed (same ∙ ap q.element place) in
     let more = numbers-append run (q ∷ []) in
-    let next_is : next ≡ m + numbers_of (run ++ q ∷ []) = omega arith in
     let over : overflow_of page_size (run_push kept_run e).size ≡ run_overflow page_size (run ++ q ∷ []) = ap (overflow_of page_size) pushed.size_is in
-    record {
-      pushed = pushed;
-      next_is = next_is;
-      named = same_branch (element_up e next kept_run) ((page_over branch_page_view page_size (run ++ q ∷ [])).element m) (ap run_key pushed.same ∙ key_same (run ++ q ∷ []) m pushed.keyed) next_is;
-      own = placed_same page_size (run_push kept_run e) (pushed_on upper q) m next pushed next_is;
-      after = omega arith;
-    }
+    grind (arith, same_branch, key_same, placed_same)
 
 -- the climb of the kept runs is that of the open ones
 runs_climbed : (page_size : ℕ) (new : Option ℕ) (key : List ℕ) (e : BranchElement) (next b : ℕ) (q : Laid BranchElement) (kept_runs : List RunView) (uppers : List Upper) → AreUppers kept_runs uppers b → IsKeyed q
     → e ≡ q.element (b + numbers_in uppers) → next ≡ b + numbers_in uppers + q.numbers
     → AreUppers (runs_climb page_size new key e next kept_runs) (climb page_size new key q uppers) b × (runs_put page_size key e next kept_runs ≡ climb_puts page_size key q uppers b)
     × (runs_next page_size key e next kept_runs ≡ b + numbers_in (climb page_size new key q uppers))
-runs_climbed page_size new key e next b q [] [] are keyed same number =
-    let at : b + 0 ≡ b + 0 + 0 = omega arith in
-    let base : IsUpper (no_run new 0) (record { run = []; left = new; closed = 0 }) (b + 0) = record { same = refl; size_is = refl; keyed = tt; left_is = refl; closed_is = refl } in
-    ((run_grown (no_run new 0) (record { run = []; left = new; closed = 0 }) (b + 0) q e base keyed (same ∙ ap q.element at), tt), refl, omega arith)
+runs_climbed page_size new key e next b q [] [] are keyed same number = grind (arith, run_grown)
 runs_climbed page_size new key e next b q [] (upper ∷ uppers) are keyed same number = absurd are
 runs_climbed page_size new key e next b q (kept_run ∷ kept_runs) [] are keyed same number = absurd are
 runs_climbed page_size new key e next b q (kept_run ∷ kept_runs) (upper ∷ uppers) are keyed same number =
@@ -116,7 +78,6 @@ runs_climbed page_size new key e next b q (kept_run ∷ kept_runs) (upper ∷ up
     let q2 : Laid BranchElement = page_over branch_page_view page_size (upper.run ++ q ∷ []) in
     let after : ℕ = next + (1 + overflow_of page_size (run_push kept_run e).size) in
     let ih = runs_climbed page_size new key (element_up e next kept_run) after b q2 kept_runs uppers are.1 (refl, λ n. refl) over.named over.after in
-    let next_is = over.next_is in
     let more = numbers-append (put_in uppers) (upper.run ++ q ∷ []) in
     let none = numbers-append (put_in (climb page_size new key q2 uppers)) [] in
     elim (cases_Bool (stays_open page_size (pushed_on upper q) (key_size key))) [
@@ -126,7 +87,6 @@ runs_climbed page_size new key e next b q (kept_run ∷ kept_runs) (upper ∷ up
       | inr f ↦
           (let u : run_stays page_size (run_push kept_run e) (key_size key) ≡ false = test ∙ f in
           let left : one_less kept_run.left ≡ one_less upper.left = ap one_less are.0.left_is in
-          let counted = are.0.closed_is in
           let here : IsUpper (no_run (one_less kept_run.left) (one_closed kept_run.closed)) (begun_after upper) (b + numbers_in (climb page_size new key q2 uppers)) = record { same = refl; size_is = refl; keyed = tt; left_is = left; closed_is = omega arith } in
           rw (f, u) (
             (here, ih.0),
@@ -155,17 +115,7 @@ record OverLeaf (page_size : ℕ) (kept_runs : BucketRunsView) (run : List (Laid
   pub after : kept_runs.next + (1 + overflow_of page_size kept_runs.leaves.size) ≡ m + (page_over leaf_page_view page_size run).numbers
 
 over_leaf : (page_size : ℕ) (kept_runs : BucketRunsView) (state : Open) (b : ℕ) → AreOpenRuns kept_runs state b → OverLeaf page_size kept_runs state.run (b + numbers_in state.uppers)
-over_leaf page_size kept_runs state b is =
-    let m : ℕ = b + numbers_in state.uppers in
-    let over : overflow_of page_size kept_runs.leaves.size ≡ run_overflow page_size state.run = ap (overflow_of page_size) is.size_is in
-    let n = is.next_is in
-    let f : ℕ → ℕ → List LeafElement → Placed = λ k s es. record { number = k; view = leaf_page_view (overflow_of page_size s) es } in
-    record {
-      named = same_branch (leaf_closed kept_runs.leaves kept_runs.next) ((page_over leaf_page_view page_size state.run).element m) (ap leaf_key is.same ∙ leaf_key_same state.run m is.keyed) is.next_is;
-      own = ap (λ (k : ℕ). f k kept_runs.leaves.size kept_runs.leaves.elements) is.next_is
-          ∙ (ap (λ (s : ℕ). f (m + numbers_of state.run) s kept_runs.leaves.elements) is.size_is ∙ ap (λ (es : List LeafElement). f (m + numbers_of state.run) (run_size size_of state.run) es) is.same);
-      after = omega arith;
-    }
+over_leaf page_size kept_runs state b is = grind (arith, same_branch, leaf_key_same)
 
 -- making room
 pub runs_have_room : (page_size : ℕ) (kept_runs : BucketRunsView) (state : Open) (b : ℕ) (key : List ℕ) (size : ℕ) → AreOpenRuns kept_runs state b
@@ -173,7 +123,6 @@ pub runs_have_room : (page_size : ℕ) (kept_runs : BucketRunsView) (state : Ope
 runs_have_room page_size kept_runs state b key size is =
     let m : ℕ = b + numbers_in state.uppers in
     let l : length kept_runs.leaves.elements ≡ length state.run = ap (λ (es : List LeafElement). length es) is.same ∙ length-elements state.run m in
-    let test : leaves_have_room page_size kept_runs.leaves size ≡ has_room page_size 1 state.run size = rw (l, is.size_is) refl in
     let q : Laid BranchElement = page_over leaf_page_view page_size state.run in
     let closed : BranchElement = leaf_closed kept_runs.leaves kept_runs.next in
     let after : ℕ = kept_runs.next + (1 + overflow_of page_size kept_runs.leaves.size) in
@@ -181,52 +130,26 @@ runs_have_room page_size kept_runs state b key size is =
     let new : Option ℕ = bucket_limit state.known.limits (length state.uppers) in
     let level : bucket_limit kept_runs.limits (length kept_runs.uppers) ≡ new = ap (λ (limits : BucketLimits). bucket_limit limits (length kept_runs.uppers)) is.limits_are ∙ ap (λ (k : ℕ). bucket_limit state.known.limits k) (as_many kept_runs.uppers state.uppers b is.above) in
     let climbed = runs_climbed page_size new key closed after b q kept_runs.uppers state.uppers is.above (refl, λ k. refl) over.named over.after in
-    elim (cases_Bool (has_room page_size 1 state.run size)) [
-      | inl t ↦ (let u : leaves_have_room page_size kept_runs.leaves size ≡ true = test ∙ t in rw (t, u) (is, refl))
-      | inr g ↦
-          (let u : leaves_have_room page_size kept_runs.leaves size ≡ false = test ∙ g in
-          let made : AreOpenRuns (record { leaves = no_leaves; uppers = runs_climb page_size new key closed after kept_runs.uppers; limits = kept_runs.limits; next = runs_next page_size key closed after kept_runs.uppers })
-          (record { uppers = climb page_size new key q state.uppers; run = []; known = state.known }) b = record { same = refl; size_is = refl; keyed = tt; above = climbed.0; next_is = climbed.2 ∙ omega arith; limits_are = is.limits_are } in
-          rw (g, u, level) (made, ap (λ (p : Placed). p ∷ runs_put page_size key closed after kept_runs.uppers) over.own ∙ ap (λ (ps : List Placed). own_page leaf_page_view page_size state.run m ∷ ps) climbed.1))
-    ]
+    grind arith
 
 -- an item, once the pages below it were written
 pub runs_pushed : (kept_runs : BucketRunsView) (state : Open) (b : ℕ) (item : Laid LeafElement) → AreOpenRuns kept_runs state b → IsKeyedItem item
     → AreOpenRuns (runs_push kept_runs (item.element kept_runs.next) item.size (kept_runs.next + item.numbers)) (pushing state item) b
-runs_pushed kept_runs state b item is keyed =
-    let m : ℕ = b + numbers_in state.uppers in
-    let s = sum_by_push (size_of {E = LeafElement}) state.run item in
-    let size = is.size_is in
-    let count = numbers-append state.run (item ∷ []) in
-    let n = is.next_is in
-    record {
-      same = ap (λ (es : List LeafElement). es ++ item.element kept_runs.next ∷ []) is.same
-          ∙ (ap (λ (k : ℕ). elements_of state.run m ++ item.element k ∷ []) is.next_is ∙ sym (elements-append state.run (item ∷ []) m));
-      size_is = omega arith;
-      keyed = all_append IsKeyedItem state.run (item ∷ []) is.keyed (keyed, tt);
-      above = is.above;
-      next_is = omega arith;
-      limits_are = is.limits_are;
-    }
+runs_pushed kept_runs state b item is keyed = grind (arith, sum_by_push, numbers-append, elements-append, all_append)
 
 -- the end
 runs_closed : (page_size : ℕ) (e : BranchElement) (next b : ℕ) (q : Laid BranchElement) (kept_runs : List RunView) (uppers : List Upper) → AreUppers kept_runs uppers b → IsKeyed q
     → e ≡ q.element (b + numbers_in uppers) → next ≡ b + numbers_in uppers + q.numbers
     → (runs_close_put page_size e next kept_runs ≡ close_puts page_size q uppers b) × (runs_root page_size e next kept_runs ≡ ((close page_size q uppers).element b).child)
     × (runs_end_next page_size e next kept_runs ≡ b + (close page_size q uppers).numbers)
-runs_closed page_size e next b q [] [] are keyed same number =
-    let at : b + 0 ≡ b = omega arith in (refl, ap (λ (x : BranchElement). x.child) (same ∙ ap q.element at), omega arith)
+runs_closed page_size e next b q [] [] are keyed same number = grind arith
 runs_closed page_size e next b q [] (upper ∷ uppers) are keyed same number = absurd are
 runs_closed page_size e next b q (kept_run ∷ kept_runs) [] are keyed same number = absurd are
 runs_closed page_size e next b q (kept_run ∷ kept_runs) (upper ∷ uppers) are keyed same number =
-    let m : ℕ = b + numbers_in uppers in
     let over = over_run page_size next b e q kept_run upper uppers are.0 keyed same number in
     let after : ℕ = next + (1 + overflow_of page_size (run_push kept_run e).size) in
-    let ih = runs_closed page_size (element_up e next kept_run) after b (page_over branch_page_view page_size (upper.run ++ q ∷ [])) kept_runs uppers are.1 (refl, λ n. refl) over.named over.after in (
-      ap (λ (p : Placed). p ∷ runs_close_put page_size (element_up e next kept_run) after kept_runs) over.own ∙ ap (λ (ps : List Placed). own_page branch_page_view page_size (upper.run ++ q ∷ []) m ∷ ps) ih.0,
-      ih.1,
-      ih.2,
-    )
+    let ih = runs_closed page_size (element_up e next kept_run) after b (page_over branch_page_view page_size (upper.run ++ q ∷ [])) kept_runs uppers are.1 (refl, λ n. refl) over.named over.after in
+    grind arith
 
 pub runs_ended : (page_size : ℕ) (kept_runs : BucketRunsView) (state : Open) (b : ℕ) → AreOpenRuns kept_runs state b
     → (runs_end_put page_size kept_runs ≡ end_puts page_size state b) × (runs_end page_size kept_runs ≡ ((end_of page_size state).element b).child)

@@ -1,5 +1,5 @@
 -- A leaf page, and an inline value, written piece by piece, whatever the code keeps of their elements: `view` is the element that it keeps.
-use Rattle.std.proofs.Common.{◌≡◌, ◌∙◌, ℕ, suc, ◌+◌, ◌-◌, ◌*◌, ◌<◌, ◌≤◌, List, [], ◌∷◌, ◌++◌, length, map, get_or, refl, sym, ap, arith, append_assoc}
+use Rattle.std.proofs.Common.{◌≡◌, ◌∙◌, ℕ, ◌+◌, ◌-◌, ◌*◌, ◌<◌, ◌≤◌, List, [], ◌∷◌, ◌++◌, length, map, get_or, refl, ap, arith, append_assoc}
 use Rattle.std.proofs.lemmas.List.{length-append, length-map}
 use Rattle.bolt_format.specs.Elements.{LeafElement}
 use Rattle.bolt_layout.specs.Levels.{overflow_of}
@@ -8,7 +8,7 @@ use Rattle.bolt_layout.specs.PageBytes.{inline_value, leaf_bytes, leaf_data, lea
 use Rattle.bolt_layout.proofs.LeafLemmas.{length-leaf_headers}
 use Rattle.bolt_format.proofs.WrittenHeaders.{length-header_bytes, length-head_bytes}
 use Rattle.bolt_format.specs.declared.kind.Kind.TheVariants as kind
-use Rattle.bolt_bulk.specs.Private.HeldItems.{held_view, held_views, page_size_of}
+use Rattle.bolt_bulk.specs.Private.HeldItems.{held_views, page_size_of}
 use Rattle.bolt_bulk.specs.Private.OpenBuckets.{leaves_of}
 use Rattle.bolt_bulk.specs.Private.RunViews.{leaf_page}
 use Rattle.bolt_bulk.specs.declared.leaf_run.LeafRun.{LeafRun}
@@ -27,12 +27,7 @@ datum_of view x = (view x).key ++ (view x).value
 
 pub leaf_heads : {X : Type 0} (view : X → LeafElement) (xs : List X) (before : ℕ) → headers_of (head_of view) (datum_of view) before xs ≡ leaf_headers before (map view xs)
 leaf_heads view [] before = refl
-leaf_heads {X} view (x ∷ xs) before =
-    let n : length xs ≡ length (map view xs) = sym (length-map xs view) in
-    let d : length (datum_of view x) ≡ length (view x).key + length (view x).value = length-append (view x).key (view x).value in
-    ap (λ (m : ℕ). head_of view (16 * suc m + before) x ++ headers_of (head_of view) (datum_of view) (before + length (datum_of view x)) xs) n
-    ∙ (ap (λ (t : List ℕ). head_of view (16 * suc (length (map view xs)) + before) x ++ t) (leaf_heads view xs (before + length (datum_of view x)))
-    ∙ ap (λ (m : ℕ). head_of view (16 * suc (length (map view xs)) + before) x ++ leaf_headers (before + m) (map view xs)) d)
+leaf_heads {X} view (x ∷ xs) before = grind (arith, length-map, length-append, headers_of, leaf_heads view xs (before + length (datum_of view x)))
 
 pub leaf_datum : {X : Type 0} (view : X → LeafElement) (xs : List X) → data_of (datum_of view) xs ≡ leaf_data (map view xs)
 leaf_datum view [] = refl
@@ -44,23 +39,13 @@ pub leaf_run_wrote : {S : Type 0} {sink : Ghosts S} {old new : S} (page_size num
     ++ (leaf_headers 0 (held_views run.inlined.items run.items.items) ++ (leaf_data (held_views run.inlined.items run.items.items) ++ zeros ((1 + overflow_of page_size run.size) * page_size - run.size)))) end
     → Wrote sink old new (page_bytes page_size number (leaf_page page_size (leaves_of run) number).view) end
 unfolding page_bytes leaf_bytes
-leaf_run_wrote page_size number run sized wrote =
-    let es : List LeafElement = held_views run.inlined.items run.items.items in
-    let over : ℕ = overflow_of page_size run.size in
-    let n : ℕ = (1 + over) * page_size in
-    let count : length run.items.items ≡ length es = sym (length-map run.items.items (held_view run.inlined.items)) in
-    let a = length-header_bytes number kind.Leaf (length es) over in
-    let b = length-leaf_headers 0 es in
-    Wrote-same (ap (λ (m : ℕ). header_bytes number kind.Leaf m over ++ (leaf_headers 0 es ++ (leaf_data es ++ zeros (n - run.size)))) count
-    ∙ filled_pieces n run.size (header_bytes number kind.Leaf (length es) over) (leaf_headers 0 es) (leaf_data es) (omega arith)) wrote
+leaf_run_wrote page_size number run sized wrote = grind (arith, length-map, length-header_bytes, length-leaf_headers, zeros, filled_pieces)
 
 -- The pieces of an inline value, and its length.
 pub inline_pieces : {X : Type 0} (view : X → LeafElement) (sequence : ℕ) (xs : List X)
     → head_bytes 0 sequence ++ (header_bytes 0 kind.Leaf (length xs) 0 ++ (leaf_headers 0 (map view xs) ++ leaf_data (map view xs))) ≡ inline_value sequence (map view xs)
 unfolding inline_value leaf_bytes
-inline_pieces view sequence xs =
-    let es : List LeafElement = map view xs in
-    ap (λ (m : ℕ). head_bytes 0 sequence ++ (header_bytes 0 kind.Leaf m 0 ++ (leaf_headers 0 es ++ leaf_data es))) (sym (length-map xs view))
+inline_pieces view sequence xs = grind (arith, length-map)
 
 pub length-inline_value : {X : Type 0} (view : X → LeafElement) (sequence : ℕ) (xs : List X) → length (inline_value sequence (map view xs)) ≡ 32 + (16 * length xs + length (leaf_data (map view xs)))
 length-inline_value view sequence xs =

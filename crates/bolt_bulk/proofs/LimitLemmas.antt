@@ -1,32 +1,15 @@
 -- The limits of rows: those of other rows stay, and those of a bucket are noted row by row.
-use Rattle.std.proofs.Common.{◌≡◌, ◌∙◌, ◌<◌, ◌≤◌, ◌+◌, ◌-◌, ℕ, suc, Bool, true, false, Option, Some, None, List, [], ◌∷◌, length, drop, refl, sym, ap, inl, inr, arith}
-use Rattle.std.proofs.lemmas.Bool.{cases_Bool, cases_lt}
+use Rattle.std.proofs.Common.{◌≡◌, ◌∙◌, ◌<◌, ◌≤◌, ◌+◌, ◌-◌, ℕ, suc, Bool, false, Option, Some, None, List, [], ◌∷◌, length, drop, refl, sym, ap, inl, inr, arith}
+use Rattle.std.proofs.lemmas.Bool.{cases_lt}
 use Rattle.std.proofs.lemmas.List.{drop_all}
 use Rattle.std.proofs.lemmas.Map.Lookups.{exact_unsigned}
 use Rattle.std.specs.BTreeMap.{BTreeMap, Updates, get}
-use Rattle.std.specs.Ordering.{is_eq, nat_cmp, ordering_then}
-use Rattle.std.specs.declared.cmp.Ordering.{Ordering}
-use Rattle.std.specs.declared.cmp.Ordering.TheVariants.{Less, Equal, Greater}
+use Rattle.std.specs.Ordering.{is_eq}
 use Rattle.bolt_layout.specs.Limits.{limit_at, limits_from_ends}
 use Rattle.bolt_bulk.specs.Private.RowLimits.{IsOtherRow, row_cmp}
 
-both_equal : (o p : Ordering) → is_eq (ordering_then o p) ≡ true → (o ≡ Equal) × (p ≡ Equal)
-both_equal Less p e = absurd (cc)
-both_equal Equal Less e = absurd (cc)
-both_equal Equal Equal e = (refl, refl)
-both_equal Equal Greater e = absurd (cc)
-both_equal Greater p e = absurd (cc)
-
 apart : (bucket level b l : ℕ) → IsOtherRow bucket level b l → is_eq (row_cmp (bucket, level) (b, l)) ≡ false
-apart bucket level b l other = elim (cases_Bool (is_eq (row_cmp (bucket, level) (b, l)))) [
-  | inl t ↦
-      (let (first, second) = both_equal (nat_cmp bucket b) (nat_cmp level l) t in
-      absurd (elim other [
-        | inl other_bucket ↦ other_bucket (sym (exact_unsigned bucket b first))
-        | inr other_level ↦ other_level (sym (exact_unsigned level l second))
-      ]))
-  | inr f ↦ f
-]
+apart bucket level b l other = grind (arith, exact_unsigned)
 
 pub others_stay : (old new : BTreeMap (ℕ × ℕ) ℕ) (bucket level left : ℕ) → Updates row_cmp old new (bucket, level) (Some left) → (b l : ℕ) → IsOtherRow bucket level b l
     → get row_cmp new (b, l) ≡ get row_cmp old (b, l)
@@ -44,13 +27,8 @@ noted_step rows lost loses i row limit old new at step below above rest here oth
     let next : limits_from_ends lost (drop i rows) ≡ limit ∷ limits_from_ends loses (drop (i + 1) rows) =
     ap (λ (rs : List (ℕ × ℕ)). limits_from_ends lost rs) at ∙ step (drop (i + 1) rows) in
     let zero_is : i ≡ i + 0 = omega arith in
-    let own : limit_at T i ≡ limit = ap (λ (n : ℕ). limit_at T n) zero_is ∙ (rest 0 ∙ ap (λ (ls : List (Option ℕ)). limit_at ls 0) next) in (
-      (λ k less. elim (cases_lt k i) [
-        | inl before ↦ others k (λ e. omega arith) ∙ below k before
-        | inr after ↦ (let same : k ≡ i = omega arith in ap new same ∙ (here ∙ (sym own ∙ ap (λ (n : ℕ). limit_at T n) (sym same))))
-      ]),
-      (λ k more. others k (λ e. omega arith) ∙ above k (omega arith)),
-    )
+    let own : limit_at T i ≡ limit = ap (λ (n : ℕ). limit_at T n) zero_is ∙ (rest 0 ∙ ap (λ (ls : List (Option ℕ)). limit_at ls 0) next) in
+    grind (arith, cases_lt)
 
 pub noted_rest : (rows : List (ℕ × ℕ)) (lost loses : Bool) (i : ℕ) (row : ℕ × ℕ) (limit : Option ℕ) → drop i rows ≡ row ∷ drop (i + 1) rows
     → ((rest : List (ℕ × ℕ)) → limits_from_ends lost (row ∷ rest) ≡ limit ∷ limits_from_ends loses rest)

@@ -1,12 +1,12 @@
 -- Entries that are values, in front of a tree: what they are as items, and whether a bucket with them is inline.
-use Rattle.std.proofs.Common.{◌≡◌, ◌∙◌, ℕ, ◌+◌, ◌/◌, ◌≤◌, ◌<◌, ◌⊎◌, ◌&&◌, Bool, true, false, not, nat_le, List, [], ◌∷◌, ◌++◌, length, refl, sym, ap, inl, inr, arith}
+use Rattle.std.proofs.Common.{◌≡◌, ℕ, ◌+◌, ◌/◌, ◌≤◌, ◌<◌, ◌⊎◌, ◌&&◌, Bool, true, false, List, [], ◌∷◌, ◌++◌, length, refl, sym, ap, arith}
 use Rattle.std.specs.List.{AllByRecursion}
 use Rattle.std.proofs.lemmas.Bool.{le-leb, lt-leb}
 use Rattle.std.proofs.lemmas.List.{length-append}
 use Rattle.std.proofs.lemmas.List.Sums.{sum_by-cons}
 use Rattle.bolt_format.specs.Elements.{LeafElement}
 use Rattle.bolt_tree.specs.Tree.{Tree, end, with_bucket, with_value}
-use Rattle.bolt_layout.specs.Cut.{max_items, run_size}
+use Rattle.bolt_layout.specs.Cut.{run_size}
 use Rattle.bolt_layout.specs.Items.{holds_bucket, is_inline, items_of, leaf_item}
 use Rattle.bolt_layout.specs.Laid.{Laid, elements_of, held_in, numbers_of, pages_of, size_of}
 use Rattle.bolt_layout.specs.PageBytes.{leaf_data}
@@ -66,8 +66,7 @@ same_value e v = ap (λ (b : Bool). record { key = e.key; value = e.value; is_bu
 
 pub values_elements : (entries : List LeafElement) (n : ℕ) → AllByRecursion IsValue entries → elements_of (value_items entries) n ≡ entries
 values_elements [] n all = refl
-values_elements (e ∷ entries) n all =
-    ap (λ (x : LeafElement). x ∷ elements_of (value_items entries) (n + 0)) (same_value e all.0) ∙ ap (λ (es : List LeafElement). e ∷ es) (values_elements entries (n + 0) all.1)
+values_elements (e ∷ entries) n all = grind (arith, same_value, values_elements entries (n + 0) all.1)
 
 pub values_numbers : (entries : List LeafElement) → numbers_of (value_items entries) ≡ 0
 values_numbers [] = refl
@@ -84,22 +83,14 @@ values_keyed (e ∷ entries) = ((λ n. refl), values_keyed entries)
 -- a bucket of values alone that takes a quarter of a page at most is inline
 pub ends_inline : (which : Layout) (page_size : ℕ) (entries : List LeafElement) → entries_size entries ≤ page_size / 4 → length entries ≤ 65534
     → is_inline page_size (onto entries end) (items_of which page_size (onto entries end)) ≡ true
-ends_inline which page_size entries small few =
-    let h = onto_holds entries end in
-    let s = onto_size which page_size entries end in
-    let c = onto_count which page_size entries end in
-    let fits : nat_le (run_size size_of (items_of which page_size (onto entries end))) (page_size / 4) ≡ true = le-leb _ _ (omega arith) in
-    let cap : nat_le (length (items_of which page_size (onto entries end))) max_items ≡ true = le-leb _ _ (omega arith) in
-    rw (h, fits, cap) refl
+ends_inline which page_size entries small few = grind (arith, onto_holds, onto_size, onto_count, le-leb)
 
 never_first : (a b : Bool) → (a && (false && b)) ≡ false
 never_first true b = refl
 never_first false b = refl
 
 never_last : (a b : Bool) → (a && (b && false)) ≡ false
-never_last true true = refl
-never_last true false = refl
-never_last false b = refl
+never_last a b = grind arith
 
 -- one with a value more than takes a quarter of a page, or than a page may have, isn't
 pub value_too_large : (which : Layout) (page_size : ℕ) (entries : List LeafElement) (key value : List ℕ) (after : Tree)
@@ -109,11 +100,7 @@ value_too_large which page_size entries key value after large =
     let s = onto_size which page_size entries (with_value key value after) in
     let own = sum_by-cons (size_of {E = LeafElement}) (leaf_item key value false) (items_of which page_size after) in
     let c = onto_count which page_size entries (with_value key value after) in
-    let inside : Tree = onto entries (with_value key value after) in
-    elim large [
-      | inl long ↦ (let no : nat_le (run_size size_of (items_of which page_size inside)) (page_size / 4) ≡ false = lt-leb _ _ (omega arith) in rw no (never_first (not (holds_bucket inside)) (nat_le (length (items_of which page_size inside)) max_items)))
-      | inr many ↦ (let no : nat_le (length (items_of which page_size inside)) max_items ≡ false = lt-leb _ _ (omega arith) in rw no (never_last (not (holds_bucket inside)) (nat_le (run_size size_of (items_of which page_size inside)) (page_size / 4))))
-    ]
+    grind (arith, lt-leb, never_first, never_last)
 
 -- and one that holds a bucket isn't
 pub bucket_has_root : (which : Layout) (page_size : ℕ) (entries : List LeafElement) (key : List ℕ) (sequence : ℕ) (inside after : Tree)

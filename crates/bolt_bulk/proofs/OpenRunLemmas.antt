@@ -1,25 +1,22 @@
 -- What a forward pass over a bucket's items writes is the pages over them.
-use Rattle.std.proofs.Common.{◌≡◌, ◌∙◌, ◌⊎◌, ℕ, suc, ◌+◌, ◌||◌, ◌&&◌, nat_lt, nat_le, true, false, Option, List, [], ◌∷◌, ◌++◌, length, map, refl, sym, ap, subst, inl, inr, arith, append_assoc}
+use Rattle.std.proofs.Common.{◌≡◌, ◌∙◌, ◌⊎◌, ℕ, suc, ◌+◌, true, false, Option, List, [], ◌∷◌, ◌++◌, length, map, refl, sym, ap, subst, inl, inr, arith, append_assoc}
 use Rattle.std.proofs.lemmas.Bool.{cases_Bool, or_parts}
 use Rattle.std.proofs.lemmas.List.{append-nil, length-append}
 use Rattle.std.proofs.lemmas.List.Sums.{sum_by_push}
 use Rattle.bolt_format.specs.Elements.{BranchElement, LeafElement}
-use Rattle.bolt_layout.specs.Cut.{branch_cut, cut_from, joins, max_items, run_size}
+use Rattle.bolt_layout.specs.Cut.{branch_cut, cut_from, joins}
 use Rattle.bolt_layout.specs.Laid.{Laid, Placed, numbers_of, pages_of, size_of}
 use Rattle.bolt_layout.specs.Levels.{branch_page_view, leaf_page_view, page_over, root_over}
 use Rattle.bolt_bulk.specs.Private.RowLimits.{bucket_limit}
 use Rattle.bolt_bulk.specs.Private.OpenRuns.{climb, climb_puts, close, close_puts, end_of, end_puts, has_room, kept, key_size, Known, making_room, next_number, nothing_open, numbers_in, Open, own_page, pages_put, pushed_on, pushing, put_in, room_puts, stays_open, taking, Upper}
 use Rattle.bolt_bulk.specs.Private.Coming.{Comes, IsOpen, IsSized, IsUnder, leaves_coming}
-use Rattle.bolt_layout.specs.Limits.{HaveRightLimits, cut_left, is_out, one_less}
+use Rattle.bolt_layout.specs.Limits.{HaveRightLimits, cut_left, one_less}
 use Rattle.bolt_layout.proofs.Tops.{top_above}
 use Rattle.bolt_layout.specs.declared.layout.Layout.{Layout}
 
 -- The code's test of room is that of the cut.
 pub room_joins : {E : Type 0} (page_size least : ℕ) (run : List (Laid E)) (next : Laid E) (size : ℕ) → next.size ≡ size → has_room page_size least run size ≡ joins page_size least size_of run next
-room_joins {E = E} page_size least run next size e =
-    let s = sum_by_push (size_of {E = E}) run next in
-    let same : run_size size_of run + size ≡ run_size size_of (run ++ next ∷ []) = omega arith in
-    ap (λ (n : ℕ). nat_lt (length run) least || (nat_le n page_size && nat_lt (length run) max_items)) same
+room_joins page_size least run next size e = grind (arith, sum_by_push)
 
 pub cut_joined : {E : Type 0} (page_size least : ℕ) (run : List (Laid E)) (next : Laid E) (items : List (Laid E)) → joins page_size least size_of run next ≡ true
     → cut_from page_size least size_of run (next ∷ items) ≡ cut_from page_size least size_of (run ++ next ∷ []) items
@@ -32,31 +29,17 @@ cut_begun page_size least run next items h = rw h refl
 pub cut_step : {E : Type 0} (page_size least : ℕ) (run : List (Laid E)) (next : Laid E) (items : List (Laid E))
     → ((joins page_size least size_of run next ≡ true) × (cut_from page_size least size_of run (next ∷ items) ≡ cut_from page_size least size_of (run ++ next ∷ []) items))
     ⊎ ((joins page_size least size_of run next ≡ false) × (cut_from page_size least size_of run (next ∷ items) ≡ run ∷ cut_from page_size least size_of (next ∷ []) items))
-cut_step page_size least run next items = elim (cases_Bool (joins page_size least size_of run next)) [
-  | inl t ↦ inl (t, cut_joined page_size least run next items t)
-  | inr f ↦ inr (f, cut_begun page_size least run next items f)
-]
+cut_step page_size least run next items = grind (arith, cut_joined, cut_begun)
 
 -- A run that stays open takes the next page,
 left_stays : (page_size : ℕ) (upper : Upper) (next : Laid BranchElement) (size : ℕ) (pages : List (Laid BranchElement)) → next.size ≡ size → stays_open page_size upper size ≡ true
     → cut_left page_size size_of upper.left upper.run (next ∷ pages) ≡ cut_left page_size size_of (kept page_size upper size).left (upper.run ++ next ∷ []) pages
-left_stays page_size upper next size pages named stays =
-    let same = room_joins page_size 2 upper.run next size named in
-    elim (cases_Bool (joins page_size 2 size_of upper.run next)) [
-      | inl t ↦ (let u : has_room page_size 2 upper.run size ≡ true = same ∙ t in rw (t, u) refl)
-      | inr f ↦
-          (let u : has_room page_size 2 upper.run size ≡ false = same ∙ f in
-          let out : is_out upper.left ≡ true = (rw u at stays) in
-          rw (f, u, out) refl)
-    ]
+left_stays page_size upper next size pages named stays = grind (arith, room_joins)
 
 -- and any other ends before it.
 left_closes : (page_size : ℕ) (upper : Upper) (next : Laid BranchElement) (size : ℕ) (pages : List (Laid BranchElement)) → next.size ≡ size → stays_open page_size upper size ≡ false
     → cut_left page_size size_of upper.left upper.run (next ∷ pages) ≡ upper.run ∷ cut_left page_size size_of (one_less upper.left) (next ∷ []) pages
-left_closes page_size upper next size pages named closes =
-    let tests = or_parts (has_room page_size 2 upper.run size) _ closes in
-    let f : joins page_size 2 size_of upper.run next ≡ false = sym (room_joins page_size 2 upper.run next size named) ∙ tests.0 in
-    rw (f, tests.1) refl
+left_closes page_size upper next size pages named closes = grind (arith, or_parts, room_joins)
 
 -- the first run of a cut begins with the run that was open
 pub left_begins : (page_size : ℕ) (left : Option ℕ) (run pages : List (Laid BranchElement))
@@ -122,7 +105,6 @@ climb_same which page_size limits key q (upper ∷ uppers) p pages all root name
           let p2 : Laid BranchElement = page_over branch_page_view page_size (p ∷ more) in
           let both = subst (λ (runs : List (List (Laid BranchElement))). Comes which page_size above uppers (M whole) (q2 ∷ M runs) root) e split in
           let l = length-append stands.runs ((upper.run ++ q ∷ []) ∷ []) in
-          let n = stands.count in
           rw f (
             record {
               runs = stands.runs ++ (upper.run ++ q ∷ []) ∷ [];
@@ -146,11 +128,7 @@ close_same which page_size limits q (upper ∷ uppers) all root is =
 -- The pages that were written.
 pub pages-append : {E : Type 0} (xs ys : List (Laid E)) (n : ℕ) → pages_of (xs ++ ys) n ≡ pages_of xs n ++ pages_of ys (n + numbers_of xs)
 pages-append [] ys n = ap (λ (m : ℕ). pages_of ys m) (let e : n ≡ n + 0 = omega arith in e)
-pages-append (x ∷ xs) ys n =
-    let ih = pages-append xs ys (n + x.numbers) in
-    let e : n + x.numbers + numbers_of xs ≡ n + numbers_of (x ∷ xs) = omega arith in
-    ap (λ (ps : List Placed). x.pages n ++ ps) (ih ∙ ap (λ (m : ℕ). pages_of xs (n + x.numbers) ++ pages_of ys m) e)
-    ∙ sym (append_assoc (x.pages n) (pages_of xs (n + x.numbers)) (pages_of ys (n + numbers_of (x ∷ xs))))
+pages-append (x ∷ xs) ys n = grind (arith, append_assoc, pages-append xs ys (n + x.numbers))
 
 pages_one : (q : Laid BranchElement) (n : ℕ) → pages_of (q ∷ []) n ≡ q.pages n
 pages_one q n = append-nil (q.pages n)
@@ -158,9 +136,7 @@ pages_one q n = append-nil (q.pages n)
 -- a row of pages, and a page at its end
 pub pages_push : (xs run : List (Laid BranchElement)) (q : Laid BranchElement) (b : ℕ)
     → pages_of (xs ++ (run ++ q ∷ [])) b ≡ pages_of (xs ++ run) b ++ q.pages (b + numbers_of (xs ++ run))
-pages_push xs run q b =
-    ap (λ (ys : List (Laid BranchElement)). pages_of ys b) (sym (append_assoc xs run (q ∷ [])))
-    ∙ (pages-append (xs ++ run) (q ∷ []) b ∙ ap (λ (ps : List Placed). pages_of (xs ++ run) b ++ ps) (pages_one q (b + numbers_of (xs ++ run))))
+pages_push xs run q b = grind (arith, append_assoc, pages-append, pages_one)
 
 -- a page over a run is written after the pages below it
 over_put : (page_size b : ℕ) (run : List (Laid BranchElement)) (q : Laid BranchElement) (uppers : List Upper) (more : List Placed)
@@ -192,10 +168,7 @@ climb_put page_size new key q (upper ∷ uppers) b =
 pub close_put : (page_size : ℕ) (q : Laid BranchElement) (uppers : List Upper) (b : ℕ)
     → (close page_size q uppers).pages b ≡ pages_of (put_in uppers) b ++ (q.pages (b + numbers_in uppers) ++ close_puts page_size q uppers b)
 close_put page_size q [] b = sym (append-nil (q.pages b)) ∙ ap (λ (n : ℕ). q.pages n ++ []) (let e : b ≡ b + 0 = omega arith in e)
-close_put page_size q (upper ∷ uppers) b =
-    let run : List (Laid BranchElement) = upper.run in
-    let q2 : Laid BranchElement = page_over branch_page_view page_size (run ++ q ∷ []) in
-    close_put page_size q2 uppers b ∙ over_put page_size b run q uppers (close_puts page_size q2 uppers b)
+close_put page_size q (upper ∷ uppers) b = grind (arith, over_put, close_put page_size (page_over branch_page_view page_size (upper.run ++ q ∷ [])) uppers b)
 
 -- One item.
 pub opens : (which : Layout) (page_size : ℕ) (known : Known) (items : List (Laid LeafElement)) → known.leaves ≡ leaves_coming page_size [] items
@@ -240,35 +213,14 @@ takes which page_size state item items root is =
 -- what making room writes, and what an item's pages add
 pub room_put : (page_size : ℕ) (state : Open) (key : List ℕ) (size b : ℕ)
     → pages_put (making_room page_size state key size) b ≡ pages_put state b ++ room_puts page_size state key size b
-room_put page_size state key size b = elim (cases_Bool (has_room page_size 1 state.run size)) [
-  | inl t ↦ rw t (sym (append-nil (pages_put state b)))
-  | inr f ↦
-      let m : ℕ = b + numbers_in state.uppers in
-      let q : Laid BranchElement = page_over leaf_page_view page_size state.run in
-      let xs : List Placed = pages_of (put_in state.uppers) b in
-      let ys : List Placed = pages_of state.run m in
-      let own : Placed = own_page leaf_page_view page_size state.run m in
-      let cs : List Placed = climb_puts page_size key q state.uppers b in
-      rw f (append-nil (pages_of (put_in (climb page_size (bucket_limit state.known.limits (length state.uppers)) key q state.uppers)) b)
-      ∙ (climb_put page_size (bucket_limit state.known.limits (length state.uppers)) key q state.uppers b ∙ (ap (λ (ps : List Placed). xs ++ ps) (append_assoc ys (own ∷ []) cs) ∙ sym (append_assoc xs ys (own ∷ cs)))))
-]
+room_put page_size state key size b = grind (arith, append-nil, climb_put, append_assoc)
 
 pub pushed_put : (state : Open) (item : Laid LeafElement) (b : ℕ) → pages_put (pushing state item) b ≡ pages_put state b ++ item.pages (next_number state b)
-pushed_put state item b =
-    let m : ℕ = b + numbers_in state.uppers in
-    ap (λ (ps : List Placed). pages_of (put_in state.uppers) b ++ ps) (pages-append state.run (item ∷ []) m ∙ ap (λ (ps : List Placed). pages_of state.run m ++ ps) (append-nil (item.pages (m + numbers_of state.run))))
-    ∙ sym (append_assoc (pages_of (put_in state.uppers) b) (pages_of state.run m) (item.pages (m + numbers_of state.run)))
+pushed_put state item b = grind (arith, pages-append, append-nil, append_assoc)
 
 -- The end.
 pub ends : (which : Layout) (page_size : ℕ) (state : Open) (root : Laid BranchElement) → IsOpen which page_size state [] root → end_of page_size state ≡ root
 ends which page_size state root is = close_same which page_size (bucket_limit state.known.limits) (page_over leaf_page_view page_size state.run) state.uppers state.known.leaves root is.comes
 
 pub ends_put : (page_size : ℕ) (state : Open) (b : ℕ) → (end_of page_size state).pages b ≡ pages_put state b ++ end_puts page_size state b
-ends_put page_size state b =
-    let m : ℕ = b + numbers_in state.uppers in
-    let q : Laid BranchElement = page_over leaf_page_view page_size state.run in
-    let xs : List Placed = pages_of (put_in state.uppers) b in
-    let ys : List Placed = pages_of state.run m in
-    let own : Placed = own_page leaf_page_view page_size state.run m in
-    let cs : List Placed = close_puts page_size q state.uppers b in
-    close_put page_size q state.uppers b ∙ (ap (λ (ps : List Placed). xs ++ ps) (append_assoc ys (own ∷ []) cs) ∙ sym (append_assoc xs ys (own ∷ cs)))
+ends_put page_size state b = grind (arith, close_put, append_assoc)

@@ -1,12 +1,11 @@
 -- What is known of the buckets of a tree is known of those that are still to come.
-use Rattle.std.proofs.Common.{◌≡◌, ◌∙◌, ◌+◌, ◌≤◌, ℕ, suc, Bool, true, false, List, [], ◌∷◌, Option, None, refl, sym, ap, subst, arith}
-use Rattle.bolt_format.specs.Elements.{BranchElement, LeafElement}
+use Rattle.std.proofs.Common.{◌≡◌, ◌+◌, ◌≤◌, ℕ, suc, Bool, true, false, List, [], ◌∷◌, Option, None, refl, subst, arith}
+use Rattle.bolt_format.specs.Elements.{LeafElement}
 use Rattle.bolt_tree.specs.Tree.{Tree, end, with_bucket, with_value}
 use Rattle.bolt_layout.specs.Items.{is_inline, items_of, root_of}
-use Rattle.bolt_layout.specs.Laid.{Laid, numbers_of}
+use Rattle.bolt_layout.specs.Laid.{numbers_of}
 use Rattle.bolt_layout.specs.Layout.{layout_mark}
-use Rattle.bolt_layout.specs.Limits.{limit_at, limits_from_ends}
-use Rattle.bolt_layout.specs.Openings.{AreRight, AreFromEnds, leaf_pages, limits_for, opened_by, opened_in, row_ends_of}
+use Rattle.bolt_layout.specs.Openings.{AreRight, AreFromEnds, leaf_pages, limits_for, opened_by, opened_in}
 use Rattle.bolt_layout.specs.declared.layout.Layout.{Layout}
 use Rattle.bolt_layout.specs.declared.layout.Layout.TheVariants.{Balanced, Plain}
 use Rattle.bolt_layout.proofs.OpenedBuckets.{items_below, leaves_few}
@@ -64,7 +63,6 @@ module _ (page_size : ℕ) (tree : Tree) (notes : Bool) (limits : ℕ → ℕ �
   plain_coming n (with_bucket key sequence inside after) right from few =
       let (one, rest) = items_below Plain page_size key sequence inside after in (
         λ rooted. (let leaves = leaves_few Plain page_size inside in
-            let own = one rooted in
             (record { right = (right.0 rooted).0; notes = record { noted = λ e. (from.0 rooted).0; few = omega arith } }, plain_coming (suc n) inside (right.0 rooted).1 (from.0 rooted).1 (omega arith))),
         plain_coming (n + opened_by Plain page_size inside) after right.1 from.1 (omega arith),
       )
@@ -76,7 +74,6 @@ module _ (page_size : ℕ) (tree : Tree) (notes : Bool) (limits : ℕ → ℕ �
   balanced_coming n (with_bucket key sequence inside after) right few =
       let (one, rest) = items_below Balanced page_size key sequence inside after in (
         λ rooted. (let leaves = leaves_few Balanced page_size inside in
-            let own = one rooted in
             (record { right = (right.0 rooted).0; notes = record { noted = λ e. absurd cc; few = omega arith } }, balanced_coming (suc n) inside (right.0 rooted).1 (omega arith))),
         balanced_coming (n + opened_by Balanced page_size inside) after right.1 (omega arith),
       )
@@ -84,13 +81,7 @@ module _ (page_size : ℕ) (tree : Tree) (notes : Bool) (limits : ℕ → ℕ �
 -- the root bucket is opened as number 0
 pub root_notes : (wanted : Wanted) (page_size : ℕ) → Notes wanted page_size 0 (leaf_pages page_size (items_of wanted.which page_size wanted.tree))
 unfolding root_of
-root_notes wanted page_size =
-    let leaves = leaves_few wanted.which page_size wanted.tree in
-    record {
-      noted = λ plain level. (let same = ap (λ (w : Layout). leaf_pages page_size (items_of w page_size wanted.tree)) plain in
-          root_from_ends page_size wanted.tree level ∙ sym (ap (λ (pages : List (Laid BranchElement)). limit_at (limits_from_ends false (row_ends_of page_size pages)) level) same));
-      few = omega arith;
-    }
+root_notes wanted page_size = grind (arith, leaves_few, root_from_ends)
 
 coming_in : (which : Layout) (tree : Tree) (notes : Bool) (page_size : ℕ) (limits : ℕ → ℕ → Option ℕ) → AreRight which page_size limits 1 tree
     → AreComing (record { which = which; tree = tree; notes = notes }) page_size limits 1 tree

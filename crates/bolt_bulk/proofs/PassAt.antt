@@ -43,7 +43,7 @@ use Rattle.bolt_bulk.proofs.Openings.{around_at, coming_at, coming_onto, opened_
 use Rattle.bolt_bulk.proofs.PassReady.{inline_long, small_of}
 use Rattle.bolt_bulk.proofs.PassSteps.{IsOn, inline_item, on_before, on_enters, on_leaves, on_numbers, on_takes, open_values, pass_takes_all, root_item, values_put, values_runs}
 use Rattle.bolt_bulk.proofs.PutsLemmas.{bytes-append, Wrote-gave_up}
-use Rattle.bolt_format.proofs.WroteLemmas.{Wrote-halt, Wrote-none, Wrote-then}
+use Rattle.bolt_format.proofs.WroteLemmas.{Wrote-halt, Wrote-none}
 use Rattle.bolt_format.specs.Wrote.{Wrote}
 use Rattle.bolt_format.specs.Endings.{whole}
 use Rattle.bolt_bulk.specs.BulkEndings.{bulk_ending, fault_ending}
@@ -71,27 +71,11 @@ module _ {S : Type 0} (wanted : Wanted) (sink : Ghosts S) (setup : PageSetup) wh
 
   pub steps_then : {A B : Type 0} {later : PageSetup} (old mid new : S) (put : List Placed) (Mid At : List Placed → Type 0) (x : A) (result : Result B BulkFault)
       → later ≡ setup → StepsBy old mid put Mid (Ok x) → ((all : List Placed) → Mid all → Steps wanted sink mid new later all At result) → StepsBy old new put At result
-  steps_then old mid new put Mid At x result later_is one two =
-      let then = subst (λ (b : PageSetup). Steps wanted sink mid new b (put ++ one.more) At result) later_is (two (put ++ one.more) one.at) in
-      let same : (put ++ one.more) ++ then.more ≡ put ++ (one.more ++ then.more) = append_assoc put one.more then.more in
-      record {
-        more = one.more ++ then.more;
-        puts = subst (λ (bs : List ℕ). Wrote sink old new bs (bulk_ending result)) (sym (bytes-append setup.page_size one.more then.more)) (Wrote-then one.puts then.puts);
-        at = subst (λ (ps : List Placed). OnOk result (At ps)) same then.at;
-        before = subst (λ (ps : List Placed). StandsBefore ps (layout_pages wanted.which setup.page_size wanted.tree)) same then.before;
-        large = then.large;
-      }
+  steps_then old mid new put Mid At x result later_is one two = grind (arith, append_assoc, bytes-append)
 
   -- a fault is returned on
   pub steps_stop : {A B : Type 0} (old new : S) (put : List Placed) (Mid At : List Placed → Type 0) (e : BulkFault) (result : Result B BulkFault) → IsErrAnd result (λ f. f ≡ e) → StepsBy {A = A} old new put Mid (Err e) → StepsBy old new put At result
-  steps_stop old new put Mid At e (Ok x) same one = absurd same
-  steps_stop old new put Mid At e (Err f) same one = rw same (record {
-    more = one.more;
-    puts = one.puts;
-    at = tt;
-    before = one.before;
-    large = one.large;
-  })
+  steps_stop old new put Mid At e result same one = grind arith
 
   -- memory ran out after steps that went well
   pub steps_failed : {A B : Type 0} (old new : S) (put : List Placed) (At : List Placed → Type 0) (x : A) → StepsBy old new put At (Ok x) → StepsBy {A = B} old new put At (Err fault.Memory)
@@ -112,10 +96,7 @@ coming_for wanted pass n rest left frames same right around = subst (λ (t : Tre
 pub on_of : (wanted : Wanted) (pass : Pass) (levels : List Level) (left : Tree) (put : List Placed) (is : IsAt wanted pass levels left put) → pass.pending ≡ None
     → (levels ≡ map level_of is.frames) × IsOn wanted.which pass.setup.page_size wanted.tree is.frames is.state (items_of wanted.which pass.setup.page_size left) (bucket_runs pass.bucket pass.next) put
     × IsComingFor wanted pass is.opened left is.frames
-on_of wanted pass levels left put is none =
-    let (same, rest) = subst (λ (p : Option PendingBucket). IsPending p pass.entries.items (map level_of is.frames) is.rest levels left) none is.pends in
-    let under = subst (λ (t : Tree). IsPass wanted.which pass.setup.page_size is.frames is.state (items_of wanted.which pass.setup.page_size t) (root_of wanted.which pass.setup.page_size wanted.tree)) rest is.under in
-    (same, record { under = under; runs_are_kept = is.runs; put_is = is.put_is }, coming_for wanted pass is.opened is.rest left is.frames rest is.coming is.around)
+on_of wanted pass levels left put is none = grind (arith, coming_for)
 
 -- with a bucket that may be inline
 abbrev pub HasPending : (wanted : Wanted) (pass : Pass) (levels : List Level) (left : Tree) (put : List Placed) (is : IsAt wanted pass levels left put) → PendingBucket → Type 0
@@ -125,10 +106,7 @@ HasPending wanted pass levels left put is p = (after : Tree)
     × IsComingFor wanted pass is.opened (with_bucket p.key.now p.sequence (onto (map leaf_view pass.entries.items) left) after) is.frames
 
 pending_of : (wanted : Wanted) (pass : Pass) (levels : List Level) (left : Tree) (put : List Placed) (p : PendingBucket) (is : IsAt wanted pass levels left put) → pass.pending ≡ Some p → HasPending wanted pass levels left put is p
-pending_of wanted pass levels left put p is some =
-    let (after, same, rest) = subst (λ (q : Option PendingBucket). IsPending q pass.entries.items (map level_of is.frames) is.rest levels left) some is.pends in
-    let under = subst (λ (t : Tree). IsPass wanted.which pass.setup.page_size is.frames is.state (items_of wanted.which pass.setup.page_size t) (root_of wanted.which pass.setup.page_size wanted.tree)) rest is.under in
-    (after, same, record { under = under; runs_are_kept = is.runs; put_is = is.put_is }, coming_for wanted pass is.opened is.rest _ is.frames rest is.coming is.around)
+pending_of wanted pass levels left put p is some = grind (arith, coming_for)
 
 -- what was written comes before the rest, at any time
 pub at_before : (wanted : Wanted) (pass : Pass) (levels : List Level) (left : Tree) (put : List Placed) → IsAt wanted pass levels left put → StandsBefore put (layout_pages wanted.which pass.setup.page_size wanted.tree)
@@ -170,10 +148,7 @@ shown_values (e ∷ entries) all = (all.0, shown_values entries all.1)
 -- what the code counts is what is in the open runs
 counted_items : (frames : List Frame) (state : Open) (waits : List WaitingBucket) (bucket : BucketRuns) (next : ℕ) → AreWaiting (reverse waits) frames → AreOpenRuns (bucket_runs bucket next) state (base_in frames)
     → items_around waits + items_in bucket ≡ length_frames frames + length_open state
-counted_items frames state waits bucket next are runs =
-    let a = around_length (reverse waits) frames are in
-    let b = around_reverse waits in
-    let c = items_length bucket next (base_in frames) state runs in omega arith
+counted_items frames state waits bucket next are runs = omega (arith, around_length, around_reverse, items_length)
 
 module _ {S : Type 0} (sink : Ghosts S) (wanted : Wanted) (pass : Pass) (put : List Placed) where
   abbrev P : ℕ
@@ -251,9 +226,7 @@ module _ {S : Type 0} (sink : Ghosts S) (wanted : Wanted) (pass : Pass) (put : L
       let shown : List LeafElement = map leaf_view pass.entries.items in
       let value : List ℕ = inline_value p.sequence shown in
       let values = shown_values pass.entries.items small.values in
-      let few = small.few in
       let count = length-map pass.entries.items leaf_view in
-      let sizes = small.sized in
       let fits = small.small in
       let item = inline_item wanted.which P p.key.now p.sequence shown values (omega arith) (omega arith) in
       let unopened = opened_inline wanted.which P (onto shown end) (ends_inline wanted.which P shown (omega arith) (omega arith)) in
@@ -303,10 +276,8 @@ module _ {S : Type 0} (sink : Ghosts S) (wanted : Wanted) (pass : Pass) (put : L
       let (after, same, on, right) = pending_of wanted pass levels left put p is some in
       let shown : List LeafElement = map leaf_view pass.entries.items in
       let values = shown_values pass.entries.items small.values in
-      let few = small.few in
       let count = length-map pass.entries.items leaf_view in
       let sizes = small.sized in
-      let fits = small.small in
       let inner : List (Laid LeafElement) = items_of wanted.which P (onto shown left) in
       let item = root_item wanted.which P p.key.now p.sequence (onto shown left) rooted in
       let on2 = subst (λ (i : Laid LeafElement). IsOn wanted.which P wanted.tree is.frames is.state (i ∷ items_of wanted.which P after) runs_now put) item on in
@@ -475,26 +446,4 @@ pub keep_at : (wanted : Wanted) (pass : Pass) (levels : List Level) (put : List 
     → IsAt wanted (record pass { pending = Some (record { key = p.key; sequence = p.sequence; size = size }); entries = entries }) levels after put
 keep_at wanted pass levels put key value after p entry size entries is some pushed view =
     let (behind, same, rest) = subst (λ (q : Option PendingBucket). IsPending q pass.entries.items (map level_of is.frames) is.rest levels (with_value key value after)) some is.pends in
-    let shown : List LeafElement = map leaf_view pass.entries.items in
-    let all : map leaf_view entries.items ≡ shown ++ value_element key value ∷ [] =
-    ap (map leaf_view) pushed ∙ (map-append leaf_view pass.entries.items (entry ∷ []) ∙ ap (λ (e : LeafElement). shown ++ e ∷ []) view) in
-    let onto_is : onto (map leaf_view entries.items) after ≡ onto shown (with_value key value after) =
-    ap (λ (es : List LeafElement). onto es after) all ∙ onto_push shown (value_element key value) after in
-    record {
-      frames = is.frames;
-      state = is.state;
-      rest = is.rest;
-      under = is.under;
-      runs = is.runs;
-      waits = is.waits;
-      put_is = is.put_is;
-      held = is.held;
-      opened = is.opened;
-      opened_is = is.opened_is;
-      coming = is.coming;
-      around = is.around;
-      numbers = is.numbers;
-      numbered = is.numbered;
-      has_noted = is.has_noted;
-      pends = (behind, same, rest ∙ ap (λ (t : Tree). with_bucket p.key.now p.sequence t behind) (sym onto_is));
-    }
+    grind (arith, map-append, onto_push)

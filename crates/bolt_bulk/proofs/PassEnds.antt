@@ -5,7 +5,7 @@ use Rattle.std.specs.List.{AllByRecursion}
 use Rattle.std.proofs.lemmas.List.{length-append}
 use Rattle.bolt_check.specs.Keys.{Key}
 use Rattle.bolt_format.specs.Elements.{BranchElement}
-use Rattle.bolt_format.specs.Sinks.{AppendsPrefix, AppendsProperPrefix}
+use Rattle.bolt_format.specs.Sinks.{AppendsProperPrefix}
 use Rattle.bolt_tree.specs.Entries.{Bucket, Value}
 use Rattle.bolt_tree.specs.Listing.{Member}
 use Rattle.bolt_tree.specs.Paths.{Path}
@@ -24,7 +24,7 @@ use Rattle.bolt_layout.specs.Openings.{leaf_pages, opened_in}
 use Rattle.bolt_layout.specs.declared.layout.Layout.{Layout}
 use Rattle.bolt_layout.specs.declared.layout.Layout.TheVariants.{Balanced, Plain}
 use Rattle.bolt_layout.specs.Items.{items_of}
-use Rattle.bolt_bulk.specs.Private.OpenRuns.{Frame, Known, Open, all_put, base_in, end_of, nothing_open}
+use Rattle.bolt_bulk.specs.Private.OpenRuns.{Frame, Known, Open, base_in, end_of, nothing_open}
 use Rattle.bolt_bulk.specs.Private.Passes.{AreComingAround, AreNumbered, FitLimits, HasLeft, IsAt, IsTable, Steps, Wanted, depth_of, level_of, limits_by, limits_with, open_in, pending_depth}
 use Rattle.bolt_bulk.specs.Private.RunViews.{BucketRunsView, no_leaves, runs_end, runs_end_put}
 use Rattle.bolt_bulk.specs.declared.page_setup.PageSetup.{PageSetup}
@@ -44,10 +44,10 @@ use Rattle.bolt_bulk.proofs.PassAt.{on_of}
 use Rattle.bolt_bulk.proofs.PassLeft.{depth_levels}
 use Rattle.bolt_bulk.proofs.PassSteps.{IsOn}
 use Rattle.bolt_bulk.proofs.Tables.{no_numbers, none_noted, opened_most, table_fits, noted_leaves}
-use Rattle.bolt_bulk.proofs.PutsLemmas.{Wrote-prefix, Wrote-stops, bytes-append, pages_some, short_then}
+use Rattle.bolt_bulk.proofs.PutsLemmas.{bytes-append, pages_some, short_then}
 use Rattle.bolt_format.proofs.WroteLemmas.{Wrote-then}
 use Rattle.bolt_format.specs.Wrote.{Wrote}
-use Rattle.bolt_bulk.specs.BulkEndings.{bulk_ending, fault_ending}
+use Rattle.bolt_bulk.specs.BulkEndings.{bulk_ending}
 use Rattle.bolt_format.specs.declared.sink.Sink.{Ghosts}
 
 -- ---- the next member
@@ -70,12 +70,7 @@ has_value wanted pass path key value members put has deep last =
     let short = next_short has.levels has.left (path, Value value) members has.members_are in
     let (own, after, left, path_is, members_is) = next_value has.levels has.left path value members has.members_are (omega arith) in
     let same : own ≡ key = sym (last_pushed (path_in has.levels) own) ∙ (ap last_part (sym path_is) ∙ last) in
-    record {
-      levels = has.levels;
-      after = after;
-      at = subst (λ (k : Key). IsAt wanted pass has.levels (with_value k value after) put) same (subst (λ (t : Tree). IsAt wanted pass has.levels t put) left has.at);
-      members_are = sym members_is;
-    }
+    grind arith
 
 pub record HasBucket (wanted : Wanted) (pass : Pass) (key : Key) (sequence : ℕ) (members : List Member) (put : List Placed) : Type 0 where
   pub levels : List Level
@@ -91,13 +86,7 @@ has_bucket wanted pass path key sequence members put has deep last =
     let short = next_short has.levels has.left (path, Bucket sequence) members has.members_are in
     let (own, inside, after, left, path_is, members_is) = next_bucket has.levels has.left path sequence members has.members_are (omega arith) in
     let same : own ≡ key = sym (last_pushed (path_in has.levels) own) ∙ (ap last_part (sym path_is) ∙ last) in
-    record {
-      levels = has.levels;
-      inside = inside;
-      after = after;
-      at = subst (λ (k : Key). IsAt wanted pass has.levels (with_bucket k sequence inside after) put) same (subst (λ (t : Tree). IsAt wanted pass has.levels t put) left has.at);
-      members_are = ap (λ (k : Key). left_in (record { key = k; after = after } ∷ has.levels) inside) (sym same) ∙ sym members_is;
-    }
+    grind arith
 
 -- The members of the listing of a tree that can be stored fit.
 fit_append : (xs ys : List Member) → AllByRecursion IsFitMember xs → AllByRecursion IsFitMember ys → AllByRecursion IsFitMember (xs ++ ys)
@@ -105,10 +94,7 @@ fit_append [] ys a b = b
 fit_append (x ∷ xs) ys a b = (a.0, fit_append xs ys a.1 b)
 
 one_part : (path : Path) (key : Key) → length key ≤ 1073741824 → (1 ≤ length (path ++ key ∷ [])) × (length (last_part (path ++ key ∷ [])) ≤ 1073741824)
-one_part path key short =
-    let l = length-append path (key ∷ []) in
-    let last = ap (λ (k : Key). length k) (last_pushed path key) in
-    (omega arith, omega arith)
+one_part path key short = grind (arith, length-append, last_pushed)
 
 pub members_fit : (path : Path) (tree : Tree) → HasLengths tree → AllByRecursion IsFitMember (listing_below path tree)
 members_fit path end lengths = tt
@@ -182,12 +168,8 @@ root_ended : (page_size : ℕ) (wanted : Wanted) (state : Open) (runs : BucketRu
     × (held_so_far [] state ≡ layout_held wanted.which page_size wanted.tree)
 root_ended page_size wanted state runs put on =
     let ended = runs_ended page_size runs state first_page on.runs_are_kept in
-    let whole : end_of page_size state ≡ root_of wanted.which page_size wanted.tree = ends wanted.which page_size state on.under.root on.under.current ∙ on.under.stack in (
-      sym (pass_ends wanted.which page_size wanted.tree state on.under) ∙ (ap (λ (ps : List Placed). all_put [] state ++ ps) (sym ended.0) ∙ ap (λ (ps : List Placed). ps ++ runs_end_put page_size runs) (sym on.put_is)),
-      ended.1 ∙ ap (λ (r : Laid BranchElement). (r.element first_page).child) whole,
-      ended.2 ∙ ap (λ (r : Laid BranchElement). first_page + r.numbers) whole,
-      sym (end_held page_size state on.under.begun) ∙ ap (λ (r : Laid BranchElement). r.held) whole,
-    )
+    let whole : end_of page_size state ≡ root_of wanted.which page_size wanted.tree = ends wanted.which page_size state on.under.root on.under.current ∙ on.under.stack in
+    grind (arith, pass_ends, end_held)
 
 pub has_end : (wanted : Wanted) (pass : Pass) (put : List Placed) → HasLeft wanted pass [] put → depth_of pass ≤ 1 → HasEnd wanted pass put
 has_end wanted pass put has shallow =
@@ -220,15 +202,6 @@ some_more : (xs ys : List ℕ) → ys ≢ [] → (xs ++ ys) ≢ []
 some_more [] ys some = some
 some_more (x ∷ xs) ys some = λ e. cc
 
-proper_more : (old new : Option (List ℕ)) (first second : List ℕ) → AppendsPrefix old new first → second ≢ [] → AppendsProperPrefix old new (first ++ second)
-proper_more old new first second a some = record {
-  front = a.front;
-  rest = a.rest ++ second;
-  parts = ap (λ (text : List ℕ). text ++ second) a.parts ∙ append_assoc a.front a.rest second;
-  short = some_more a.rest second some;
-  taken = a.taken;
-}
-
 rest_some : (page_size : ℕ) (pages : List Placed) → 1 ≤ length pages → placed_bytes page_size pages ≢ []
 rest_some page_size [] some = absurd (omega arith)
 rest_some page_size (page ∷ pages) some = pages_some page_size page pages
@@ -237,23 +210,7 @@ module _ {S : Type 0} (wanted : Wanted) (sink : Ghosts S) (setup : PageSetup) wh
   -- a step failed on the way
   pub ends_early : {A : Type 0} (old new : S) (put : List Placed) (At : List Placed → Type 0) (e : BulkFault) (result : Result Ended BulkFault) → IsErrAnd result (λ f. f ≡ e) → Steps {A = A} wanted sink old new setup put At (Err e) → Ends wanted sink old new setup put result
   ends_early old new put At e (Ok x) same steps = absurd same
-  ends_early old new put At e (Err f) same steps =
-      let P : ℕ = setup.page_size in
-      let others : List Placed = steps.more ++ steps.before.rest in
-      let bytes : placed_bytes P others ≡ placed_bytes P steps.more ++ placed_bytes P steps.before.rest = bytes-append P steps.more steps.before.rest in
-      rw same (record {
-        others = others;
-        all = steps.before.parts ∙ append_assoc put steps.more steps.before.rest;
-        puts = subst (λ (bs : List ℕ). Wrote sink old new bs (fault_ending e)) (sym bytes) (Wrote-stops (placed_bytes P steps.before.rest) e steps.puts);
-        short = subst (λ (bs : List ℕ). AppendsProperPrefix (sink.taken old) (sink.taken new) bs) (sym bytes)
-            (proper_more (sink.taken old) (sink.taken new) (placed_bytes P steps.more) (placed_bytes P steps.before.rest) (Wrote-prefix e steps.puts) (rest_some P steps.before.rest steps.before.some));
-        root = tt;
-        mark = tt;
-        within = tt;
-        noted = tt;
-        held = tt;
-        large = steps.large;
-      })
+  ends_early old new put At e (Err f) same steps = grind (arith, bytes-append, append_assoc, rest_some, some_more)
 
   -- after steps that went well
   pub ends_after : {A : Type 0} {later : PageSetup} (old mid new : S) (put : List Placed) (At : List Placed → Type 0) (x : A) (result : Result Ended BulkFault) → later ≡ setup → Steps wanted sink old mid setup put At (Ok x)

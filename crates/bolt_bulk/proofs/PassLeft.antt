@@ -1,5 +1,5 @@
 -- A pass and the members of the listing that are left to it.
-use Rattle.std.proofs.Common.{◌≡◌, ◌∙◌, ℕ, suc, ◌+◌, ◌≤◌, ◌<◌, List, [], ◌∷◌, ◌++◌, length, map, reverse, Option, Some, None, Result, Ok, refl, sym, ap, subst, arith}
+use Rattle.std.proofs.Common.{◌≡◌, ℕ, suc, ◌+◌, ◌≤◌, ◌<◌, List, [], ◌∷◌, length, Option, Some, None, Result, Ok, refl, ap, arith}
 use Rattle.std.specs.Prelude.{⊤}
 use Rattle.std.proofs.lemmas.List.{length-map, length-reverse}
 use Rattle.bolt_format.specs.declared.element.Leaf.{Leaf}
@@ -8,7 +8,7 @@ use Rattle.bolt_tree.specs.Tree.{Tree, end}
 use Rattle.bolt_layout.specs.Laid.{Placed}
 use Rattle.bolt_bulk.specs.Private.Levels.{Level, left_in}
 use Rattle.bolt_bulk.specs.Private.OpenRuns.{Frame}
-use Rattle.bolt_bulk.specs.Private.Passes.{Wanted, AreWaiting, HasLeft, IsAt, IsNoDeeper, IsPending, Steps, depth_of, level_of, pending_depth}
+use Rattle.bolt_bulk.specs.Private.Passes.{Wanted, AreWaiting, HasLeft, IsAt, IsNoDeeper, IsPending, Steps, depth_of, pending_depth}
 use Rattle.bolt_bulk.specs.declared.page_setup.PageSetup.{PageSetup}
 use Rattle.bolt_bulk.specs.declared.fault.BulkFault.{BulkFault}
 use Rattle.bolt_bulk.specs.declared.pass.Pass.{Pass}
@@ -31,17 +31,12 @@ pending_levels None entries outer rest levels left (same, is) = let l = ap (λ (
 pending_levels (Some p) entries outer rest levels left (after, same, is) = let l = ap (λ (ls : List Level). length ls) same in omega arith
 
 pub depth_levels : (wanted : Wanted) (pass : Pass) (levels : List Level) (left : Tree) (put : List Placed) → IsAt wanted pass levels left put → depth_of pass ≡ suc (length levels)
-depth_levels wanted pass levels left put is =
-    let a = waiting_frames (reverse pass.waiting.items) is.frames is.waits in
-    let b = length-reverse pass.waiting.items in
-    let c = length-map is.frames level_of in
-    let d = pending_levels pass.pending pass.entries.items (map level_of is.frames) is.rest levels left is.pends in omega arith
+depth_levels wanted pass levels left put is = grind (arith, waiting_frames, length-reverse, length-map, pending_levels)
 
 -- what a step leaves, in other words
 pub steps_map : {S A : Type 0} {sink : Ghosts S} (wanted : Wanted) (old new : S) (setup : PageSetup) (put : List Placed) (At Then : List Placed → Type 0) (result : Result A BulkFault)
     → ((all : List Placed) → At all → Then all) → Steps wanted sink old new setup put At result → Steps wanted sink old new setup put Then result
-steps_map wanted old new setup put At Then result f steps =
-    record { more = steps.more; puts = steps.puts; at = on_ok_map result steps.at (f (put ++ steps.more)); before = steps.before; large = steps.large }
+steps_map wanted old new setup put At Then result f steps = grind (arith, on_ok_map)
 
 -- nothing was done yet
 pub steps_begun : {S : Type 0} {sink : Ghosts S} (wanted : Wanted) (pass : Pass) (members : List Member) (put : List Placed) (old : S) → HasLeft wanted pass members put
@@ -69,12 +64,7 @@ has_ended depth wanted pass members put has shallow some deep =
     let d = depth_levels wanted pass has.levels has.left put has.at in
     let none = no_more depth has.levels has.left members has.members_are shallow (omega arith) in
     let (level, levels, same) = some_level has.levels (omega arith) in
-    record {
-      level = level;
-      levels = levels;
-      at = subst (λ (t : Tree). IsAt wanted pass (level ∷ levels) t put) none (subst (λ (ls : List Level). IsAt wanted pass ls has.left put) same has.at);
-      members_are = sym (ap (λ (ls : List Level). left_in ls end) same) ∙ (sym (ap (λ (t : Tree). left_in has.levels t) none) ∙ has.members_are);
-    }
+    grind arith
 
 -- a bucket was left
 pub left_out : (wanted : Wanted) (pass : Pass) (level : Level) (levels : List Level) (members : List Member) (put : List Placed) → left_in levels level.after ≡ members → IsAt wanted pass levels level.after put

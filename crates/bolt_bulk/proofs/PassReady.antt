@@ -1,5 +1,5 @@
 -- What is known of a pass without its tree, after a step.
-use Rattle.std.proofs.Common.{◌⊎◌, inl, inr, ◌≡◌, ◌∙◌, ℕ, ◌+◌, ◌/◌, ◌≤◌, ◌<◌, false, List, [], ◌∷◌, ◌++◌, length, map, Option, Some, sym, ap, subst, arith}
+use Rattle.std.proofs.Common.{◌⊎◌, ◌≡◌, ℕ, ◌+◌, ◌/◌, ◌≤◌, ◌<◌, false, List, [], ◌∷◌, ◌++◌, length, map, Option, Some, subst, arith}
 use Rattle.std.specs.List.{AllByRecursion}
 use Rattle.std.proofs.lemmas.List.{length-append, length-map, map-append}
 use Rattle.bolt_format.specs.ElementPlaces.{leaf_view}
@@ -9,22 +9,14 @@ use Rattle.bolt_tree.specs.Tree.{Tree, with_value}
 use Rattle.bolt_layout.specs.declared.layout.Layout.{Layout}
 use Rattle.bolt_layout.specs.PageBytes.{inline_value, leaf_data}
 use Rattle.bolt_bulk.specs.Private.Passes.{HasRoot, IsPendingSmall, IsSmall, onto}
-use Rattle.bolt_bulk.specs.Private.TakenItems.{entries_size}
 use Rattle.bolt_bulk.specs.declared.pending_bucket.PendingBucket.{PendingBucket}
 use Rattle.bolt_bulk.proofs.Ontos.{value_too_large}
 use Rattle.bolt_bulk.proofs.LeafPuts.{length-inline_value}
 use Rattle.bolt_layout.proofs.ListLemmas.{all_append}
 
 data_push : (es : List LeafElement) (e : LeafElement) → length (leaf_data (es ++ e ∷ [])) ≡ length (leaf_data es) + (length e.key + length e.value)
-data_push [] e =
-    let a = length-append e.key (e.value ++ []) in
-    let b = length-append e.value [] in omega arith
-data_push (x ∷ es) e =
-    let ih = data_push es e in
-    let a = length-append x.key (x.value ++ leaf_data (es ++ e ∷ [])) in
-    let b = length-append x.value (leaf_data (es ++ e ∷ [])) in
-    let c = length-append x.key (x.value ++ leaf_data es) in
-    let d = length-append x.value (leaf_data es) in omega arith
+data_push [] e = omega (arith, length-append e.key (e.value ++ []), length-append e.value [])
+data_push (x ∷ es) e = grind (arith, length-append, data_push es e)
 
 -- the bucket that may be inline
 pub small_of : (page_size : ℕ) (pending : Option PendingBucket) (p : PendingBucket) (entries : List Leaf) → pending ≡ Some p → IsPendingSmall page_size pending entries → IsSmall page_size p entries
@@ -34,27 +26,10 @@ small_of page_size pending p entries some small = subst (λ (q : Option PendingB
 pub small_push : (page_size size : ℕ) (p : PendingBucket) (entries more : List Leaf) (entry : Leaf) → IsSmall page_size p entries → length entry.key.now ≤ 1073741824 → entry.is_bucket ≡ false
     → size ≡ p.size + (16 + (length entry.key.now + length entry.value.now)) → size ≤ page_size / 4 → length entries < 65534 → more ≡ entries ++ entry ∷ []
     → IsSmall page_size (record { key = p.key; sequence = p.sequence; size = size }) more
-small_push page_size size p entries more entry is key value sized small few pushed =
-    let shown : map leaf_view more ≡ map leaf_view entries ++ leaf_view entry ∷ [] = ap (map leaf_view) pushed ∙ map-append leaf_view entries (entry ∷ []) in
-    let d = data_push (map leaf_view entries) (leaf_view entry) in
-    let l = length-append (map leaf_view entries) (leaf_view entry ∷ []) in
-    let n = ap (λ (es : List Leaf). length es) pushed ∙ length-append entries (entry ∷ []) in
-    let s = is.sized in
-    let now : entries_size (map leaf_view more) ≡ entries_size (map leaf_view entries ++ leaf_view entry ∷ []) = ap entries_size shown in
-    record {
-      key = is.key;
-      sized = omega arith;
-      small = small;
-      few = omega arith;
-      keys = subst (λ (es : List Leaf). AllByRecursion (λ (e : Leaf). length e.key.now ≤ 1073741824) es) (sym pushed) (all_append (λ (e : Leaf). length e.key.now ≤ 1073741824) entries (entry ∷ []) is.keys (key, tt));
-      values = subst (λ (es : List Leaf). AllByRecursion (λ (e : Leaf). e.is_bucket ≡ false) es) (sym pushed) (all_append (λ (e : Leaf). e.is_bucket ≡ false) entries (entry ∷ []) is.values (value, tt));
-    }
+small_push page_size size p entries more entry is key value sized small few pushed = grind (arith, map-append, data_push, length-append, all_append)
 
 pub inline_long : (page_size : ℕ) (p : PendingBucket) (entries : List Leaf) → IsSmall page_size p entries → p.size + 16 ≡ length (inline_value p.sequence (map leaf_view entries))
-inline_long page_size p entries is =
-    let s = is.sized in
-    let l = length-inline_value leaf_view p.sequence entries in
-    let n = length-map entries leaf_view in omega arith
+inline_long page_size p entries is = omega (arith, is.sized, length-inline_value leaf_view p.sequence entries, length-map entries leaf_view)
 
 pub last_of : {X : Type 0} (P : X → Type 0) (xs : List X) (x : X) → AllByRecursion P (xs ++ x ∷ []) → P x × AllByRecursion P xs
 last_of P [] x all = (all.0, tt)
@@ -63,10 +38,4 @@ last_of P (y ∷ xs) x all = let (last, others) = last_of P xs x all.1 in (last,
 -- a value that doesn't fit: the bucket has a root page
 pub full_rooted : (which : Layout) (page_size : ℕ) (p : PendingBucket) (entries : List Leaf) (key value : List ℕ) (after : Tree) → IsSmall page_size p entries
     → (page_size / 4 < p.size + (16 + (length key + length value))) ⊎ (65534 ≤ length entries) → HasRoot which page_size (onto (map leaf_view entries) (with_value key value after))
-full_rooted which page_size p entries key value after is full =
-    let s = is.sized in
-    let n = length-map entries leaf_view in
-    value_too_large which page_size (map leaf_view entries) key value after (elim full [
-      | inl large ↦ inl (omega arith)
-      | inr many ↦ inr (omega arith)
-    ])
+full_rooted which page_size p entries key value after is full = grind (arith, length-map, value_too_large)

@@ -1,14 +1,14 @@
 -- The steps of a pass, over the open runs and what the code keeps of them.
-use Rattle.std.proofs.Common.{◌≡◌, ◌∙◌, ℕ, ◌+◌, ◌/◌, ◌≤◌, ◌<◌, ◌||◌, ◌&&◌, nat_le, nat_lt, Bool, true, false, List, [], ◌∷◌, ◌++◌, length, refl, sym, ap, subst, arith, append_assoc}
+use Rattle.std.proofs.Common.{◌≡◌, ◌∙◌, ℕ, ◌+◌, ◌/◌, ◌≤◌, ◌<◌, Bool, true, false, List, [], ◌∷◌, ◌++◌, length, refl, sym, ap, subst, arith, append_assoc}
 use Rattle.std.specs.List.{AllByRecursion}
 use Rattle.std.proofs.lemmas.Bool.{le-leb, lt-ltb}
 use Rattle.std.proofs.lemmas.List.{append-nil, length-append}
 use Rattle.std.proofs.lemmas.List.Sums.{sum_by_push}
 use Rattle.bolt_format.specs.Elements.{BranchElement, LeafElement}
 use Rattle.bolt_tree.specs.Tree.{Tree, end}
-use Rattle.bolt_layout.specs.Cut.{max_items, run_size}
+use Rattle.bolt_layout.specs.Cut.{run_size}
 use Rattle.bolt_layout.specs.Items.{bucket_item, items_of, leaf_item, root_of, stored_bucket}
-use Rattle.bolt_layout.specs.Laid.{Laid, Placed, elements_of, size_of}
+use Rattle.bolt_layout.specs.Laid.{Laid, Placed, size_of}
 use Rattle.bolt_layout.specs.Layout.{layout_mark, layout_pages}
 use Rattle.bolt_layout.specs.Limits.{HaveRightLimits}
 use Rattle.bolt_layout.specs.Levels.{root_over}
@@ -17,7 +17,7 @@ use Rattle.bolt_bulk.specs.Private.RowLimits.{bucket_limit}
 use Rattle.bolt_bulk.specs.Private.Coming.{IsPass, held_item, leaves_coming}
 use Rattle.bolt_bulk.specs.Private.OpenBuckets.{bucket_end_next}
 use Rattle.bolt_bulk.specs.Private.BucketRuns.{AreOpenRuns}
-use Rattle.bolt_bulk.specs.Private.OpenRuns.{all_put, base_in, end_of, Frame, frames_put, has_room, Known, making_room, nothing_open, Open, pushing, room_puts, taking}
+use Rattle.bolt_bulk.specs.Private.OpenRuns.{all_put, base_in, end_of, Frame, frames_put, Known, making_room, nothing_open, Open, pushing, room_puts, taking}
 use Rattle.bolt_bulk.specs.Private.Passes.{HasRoot, StandsBefore, onto}
 use Rattle.bolt_bulk.specs.Private.RunViews.{BucketRunsView, runs_end, runs_end_put, runs_push, runs_room, runs_room_put}
 use Rattle.bolt_bulk.specs.Private.TakenItems.{entries_size, root_element, runs_taking}
@@ -44,9 +44,7 @@ module _ (which : Layout) (page_size : ℕ) (tree : Tree) where
 
   pub on_numbers : (frames : List Frame) (state : Open) (items : List (Laid LeafElement)) (runs : BucketRunsView) (put : List Placed) → IsOn which page_size tree frames state items runs put
       → runs.next ≤ layout_mark which page_size tree
-  on_numbers frames state items runs put on =
-      let fewer = (pass_before which page_size frames state items (root_of which page_size tree) on.under).fewer in
-      let next = on.runs_are_kept.next_is in omega arith
+  on_numbers frames state items runs put on = omega (arith, (pass_before which page_size frames state items (root_of which page_size tree) on.under).fewer, on.runs_are_kept.next_is)
 
   -- an item without pages below it is taken
   pub on_takes : (frames : List Frame) (state : Open) (key value : List ℕ) (flag : Bool) (items : List (Laid LeafElement)) (runs : BucketRunsView) (put : List Placed)
@@ -100,17 +98,9 @@ module _ (which : Layout) (page_size : ℕ) (tree : Tree) where
 abbrev pub open_values : Known → List (Laid LeafElement) → Open
 open_values known run = record { uppers = []; run = run; known = known }
 
-either : (a : Bool) → (a || (true && true)) ≡ true
-either true = refl
-either false = refl
-
 room_left : (page_size : ℕ) (known : Known) (run : List (Laid LeafElement)) (item : Laid LeafElement) → run_size size_of run + item.size ≤ page_size → length run < 65534
     → taking page_size (open_values known run) item ≡ open_values known (run ++ item ∷ [])
-room_left page_size known run item fits few =
-    let size : nat_le (run_size size_of run + item.size) page_size ≡ true = le-leb _ _ fits in
-    let cap : nat_lt (length run) max_items ≡ true = lt-ltb _ _ few in
-    let room : has_room page_size 1 run item.size ≡ true = rw (size, cap) (either (nat_lt (length run) 1)) in
-    rw room refl
+room_left page_size known run item fits few = grind (arith, le-leb, lt-ltb)
 
 pub pass_takes_all : (which : Layout) (page_size : ℕ) (known : Known) (frames : List Frame) (run : List (Laid LeafElement)) (entries : List LeafElement) (items : List (Laid LeafElement)) (whole : Laid BranchElement)
     → run_size size_of run + entries_size entries ≤ page_size + 16 → length run + length entries ≤ 65534
@@ -134,25 +124,12 @@ values_put known frames entries = ap (λ (ps : List Placed). frames_put frames +
 -- and are in the first run
 pub values_runs : (known : Known) (entries : List LeafElement) (size base next : ℕ) → AllByRecursion IsValue entries → size ≡ entries_size entries → next ≡ base
     → AreOpenRuns (record { leaves = record { elements = entries; size = size }; uppers = []; limits = known.limits; next = next }) (open_values known (value_items entries)) base
-values_runs known entries size base next values sized at =
-    let none = values_numbers entries in
-    record {
-      same = sym (values_elements entries (base + 0) values);
-      size_is = sized ∙ sym (values_size entries);
-      keyed = values_keyed entries;
-      above = tt;
-      next_is = omega arith;
-      limits_are = refl;
-    }
+values_runs known entries size base next values sized at = grind (arith, values_numbers, values_elements, values_size, values_keyed)
 
 -- The item of an inline bucket.
 pub inline_item : (which : Layout) (page_size : ℕ) (key : List ℕ) (sequence : ℕ) (entries : List LeafElement) → AllByRecursion IsValue entries → entries_size entries ≤ page_size / 4 → length entries ≤ 65534
     → stored_bucket which page_size key sequence (onto entries end) (items_of which page_size (onto entries end)) ≡ leaf_item key (inline_value sequence entries) true
-inline_item which page_size key sequence entries values small few =
-    let is = ends_inline which page_size entries small few in
-    let items : items_of which page_size (onto entries end) ≡ value_items entries = onto_items which page_size entries end ∙ append-nil (value_items entries) in
-    let elements : elements_of (items_of which page_size (onto entries end)) 0 ≡ entries = ap (λ (l : List (Laid LeafElement)). elements_of l 0) items ∙ values_elements entries 0 values in
-    rw is (ap (λ (es : List LeafElement). leaf_item key (inline_value sequence es) true) elements)
+inline_item which page_size key sequence entries values small few = grind (arith, ends_inline, value_items, onto_items, append-nil, values_elements)
 
 -- The item of a bucket with a root page.
 pub root_item : (which : Layout) (page_size : ℕ) (key : List ℕ) (sequence : ℕ) (inside : Tree) → HasRoot which page_size inside

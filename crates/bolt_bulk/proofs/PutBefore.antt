@@ -11,7 +11,7 @@ use Rattle.bolt_layout.specs.Laid.{Laid, Placed, numbers_of, pages_of, size_of}
 use Rattle.bolt_layout.specs.Levels.{branch_page_view, leaf_page_view, next_level, page_over, top_in}
 use Rattle.bolt_layout.specs.Layout.{first_page}
 use Rattle.bolt_bulk.specs.Private.RowLimits.{bucket_limit}
-use Rattle.bolt_bulk.specs.Private.OpenRuns.{Frame, Open, Upper, all_put, base_in, frames_put, next_number, numbers_in, own_page, pages_put, pushing, put_in}
+use Rattle.bolt_bulk.specs.Private.OpenRuns.{Frame, Open, Upper, all_put, base_in, frames_put, next_number, numbers_in, pages_put, pushing, put_in}
 use Rattle.bolt_layout.proofs.OverRows.{numbers-append}
 use Rattle.bolt_bulk.specs.Private.Coming.{Comes, IsOpen, IsPass, IsStack, held_item}
 use Rattle.bolt_bulk.proofs.OpenRunLemmas.{cut_step, left_begins, pages-append, pages_push, pushed_put}
@@ -31,23 +31,13 @@ pub record IsBefore (front : List Placed) (few : ℕ) (whole : List Placed) (man
   pub fewer : few ≤ many
 
 begins_by : (front : List Placed) (few : ℕ) (middle : List Placed) (between : ℕ) (whole : List Placed) (many : ℕ) → Begins front few middle between → Begins middle between whole many → Begins front few whole many
-begins_by front few middle between whole many a b =
-    let f = a.fewer in
-    let g = b.fewer in
-    record { rest = a.rest ++ b.rest; parts = b.parts ∙ (ap (λ (ps : List Placed). ps ++ b.rest) a.parts ∙ append_assoc front a.rest b.rest); fewer = omega arith }
+begins_by front few middle between whole many a b = grind (arith, append_assoc)
 
 before_by : (front : List Placed) (few : ℕ) (middle : List Placed) (between : ℕ) (whole : List Placed) (many : ℕ) → IsBefore front few middle between → Begins middle between whole many → IsBefore front few whole many
-before_by front few middle between whole many a b =
-    let f = a.fewer in
-    let g = b.fewer in
-    let l = length-append a.rest b.rest in
-    let n = a.some in
-    record { rest = a.rest ++ b.rest; parts = b.parts ∙ (ap (λ (ps : List Placed). ps ++ b.rest) a.parts ∙ append_assoc front a.rest b.rest); some = omega arith; fewer = omega arith }
+before_by front few middle between whole many a b = grind (arith, length-append, append_assoc)
 
 before_behind : (before front : List Placed) (first few : ℕ) (whole : List Placed) (many : ℕ) → IsBefore front few whole many → IsBefore (before ++ front) (first + few) (before ++ whole) (first + many)
-before_behind before front first few whole many a =
-    let f = a.fewer in
-    record { rest = a.rest; parts = ap (λ (ps : List Placed). before ++ ps) a.parts ∙ sym (append_assoc before front a.rest); some = a.some; fewer = omega arith }
+before_behind before front first few whole many a = grind (arith, append_assoc)
 
 only_begins : (front : List Placed) (few : ℕ) (whole : List Placed) (many : ℕ) → IsBefore front few whole many → Begins front few whole many
 only_begins front few whole many a = record { rest = a.rest; parts = a.parts; fewer = a.fewer }
@@ -65,16 +55,7 @@ cut_begins {E = E} page_size least run (next ∷ items) = elim (cut_step page_si
 -- a page over a run comes after the pages of any prefix of the run
 over_before : {E : Type 0} (view : ℕ → List E → PageView) (page_size : ℕ) (run more : List (Laid E)) (n : ℕ)
     → IsBefore (pages_of run n) (numbers_of run) ((page_over view page_size (run ++ more)).pages n) (page_over view page_size (run ++ more)).numbers
-over_before view page_size run more n =
-    let own : List Placed = own_page view page_size (run ++ more) n ∷ [] in
-    let l = length-append (pages_of more (n + numbers_of run)) own in
-    let c = numbers-append run more in
-    record {
-      rest = pages_of more (n + numbers_of run) ++ own;
-      parts = ap (λ (ps : List Placed). ps ++ own) (pages-append run more n) ∙ append_assoc (pages_of run n) (pages_of more (n + numbers_of run)) own;
-      some = omega arith;
-      fewer = omega arith;
-    }
+over_before view page_size run more n = grind (arith, length-append, numbers-append, pages-append, append_assoc)
 
 -- so does the first run of a row of pages, in each layout
 joined_begins : (run : List (Laid BranchElement)) (runs : List (List (Laid BranchElement))) → (more : List (Laid BranchElement)) × (rest : List (List (Laid BranchElement))) × (join_last (run ∷ runs) ≡ (run ++ more) ∷ rest)
@@ -151,10 +132,7 @@ put_before which page_size state items root b is =
 
 stack_before : (which : Layout) (page_size : ℕ) (frames : List Frame) (root whole : Laid BranchElement) (front : List Placed) (few : ℕ) → IsStack which page_size frames root whole → IsBefore front few (root.pages (base_in frames)) root.numbers
     → IsBefore (frames_put frames ++ front) (base_in frames + few) (whole.pages first_page) (first_page + whole.numbers)
-stack_before which page_size [] root whole front few stack is =
-    let f = is.fewer in
-    subst (λ (r : Laid BranchElement). IsBefore front (first_page + few) (r.pages first_page) (first_page + r.numbers)) stack
-    (record { rest = is.rest; parts = is.parts; some = is.some; fewer = omega arith })
+stack_before which page_size [] root whole front few stack is = grind arith
 stack_before which page_size (frame ∷ frames) root whole front few stack is =
     let (outer, opened, rest) = stack in
     let b : ℕ = base_in frames in
@@ -168,9 +146,7 @@ stack_before which page_size (frame ∷ frames) root whole front few stack is =
     let three = subst (λ (n : ℕ). IsBefore (pages_put frame.state b ++ front) (own + few) (pages_put (pushing frame.state item) b) n) both
     (subst (λ (ps : List Placed). IsBefore (pages_put frame.state b ++ front) (own + few) ps (own + root.numbers)) (sym more) two) in
     let four = stack_before which page_size frames outer whole (pages_put frame.state b ++ front) (own + few) rest (before_by _ _ _ _ _ _ three (only_begins _ _ _ _ one)) in
-    let numbered : base_in frames + (own + few) ≡ base_in (frame ∷ frames) + few = omega arith in
-    subst (λ (n : ℕ). IsBefore (frames_put (frame ∷ frames) ++ front) n (whole.pages first_page) (first_page + whole.numbers)) numbered
-    (subst (λ (ps : List Placed). IsBefore ps (base_in frames + (own + few)) (whole.pages first_page) (first_page + whole.numbers)) (sym (append_assoc (frames_put frames) (pages_put frame.state b) front)) four)
+    grind (arith, append_assoc)
 
 -- at any moment of a pass
 pub pass_before : (which : Layout) (page_size : ℕ) (frames : List Frame) (state : Open) (items : List (Laid LeafElement)) (whole : Laid BranchElement) → IsPass which page_size frames state items whole

@@ -1,20 +1,17 @@
 -- What a call that writes pages leaves on its sink, if it can also fail because memory runs out or the layout is too large.
-use Rattle.std.proofs.Common.{◌≡◌, ◌≢◌, ◌∙◌, ℕ, ◌+◌, ◌-◌, ◌*◌, ◌<◌, ◌≤◌, List, [], ◌∷◌, ◌++◌, length, replicate, OnErr, Option, Result, Ok, Err, refl, sym, ap, subst, arith, append_assoc}
+use Rattle.std.proofs.Common.{◌≡◌, ◌≢◌, ℕ, ◌+◌, ◌-◌, ◌<◌, ◌≤◌, List, [], ◌∷◌, ◌++◌, length, OnErr, Option, Result, Ok, Err, refl, sym, ap, subst, arith, append_assoc}
 use Rattle.std.proofs.KnownBytes.{Appends-nil}
 use Rattle.std.proofs.lemmas.List.{length-append}
 use Rattle.bolt_format.proofs.SinkLemmas.{AppendsPrefix-whole, AppendsProperPrefix-first, AppendsProperPrefix-second, more_some}
-use Rattle.bolt_format.proofs.WroteLemmas.{Wrote-cut, Wrote-halt, Wrote-none, Wrote-return_cut, Wrote-stop, Wrote-stop_cut, Wrote-stop_halted, Wrote-then, Wrote-unkept}
+use Rattle.bolt_format.proofs.WroteLemmas.{Wrote-halt, Wrote-none, Wrote-return_cut, Wrote-stop, Wrote-stop_cut, Wrote-stop_halted, Wrote-then, Wrote-unkept}
 use Rattle.bolt_format.specs.Endings.{whole, halted}
 use Rattle.bolt_format.specs.Pages.{PageView}
-use Rattle.bolt_format.specs.Sinks.{AppendsPrefix, AppendsProperPrefix}
+use Rattle.bolt_format.specs.Sinks.{AppendsProperPrefix}
 use Rattle.bolt_format.specs.Wrote.{Wrote}
 use Rattle.bolt_format.specs.declared.sink.Sink.{Ghosts}
-use Rattle.bolt_format.specs.declared.kind.Kind.{Kind}
-use Rattle.bolt_format.specs.declared.kind.Kind.TheVariants as kind
 use Rattle.bolt_layout.specs.Laid.{Placed}
 use Rattle.bolt_layout.specs.Layout.{placed_bytes}
-use Rattle.bolt_layout.specs.PageBytes.{branch_bytes, content_bytes, leaf_bytes, page_bytes}
-use Rattle.bolt_format.specs.Written.{header_bytes}
+use Rattle.bolt_layout.specs.PageBytes.{page_bytes}
 use Rattle.bolt_format.proofs.WrittenHeaders.{length-header_bytes}
 use Rattle.bolt_bulk.specs.BulkEndings.{fault_ending}
 use Rattle.bolt_bulk.specs.declared.fault.BulkFault.{BulkFault}
@@ -29,22 +26,9 @@ pub proper_same : (old new : Option (List ℕ)) (text same : List ℕ) → text 
 proper_same old new text same e a = subst (λ (l : List ℕ). AppendsProperPrefix old new l) e a
 
 -- a page has a header
-content_some : (kind : Kind) (number : ℕ) (view : PageView) → 16 ≤ length (content_bytes kind number view)
-content_some kind.Branch number view =
-    let h = length-header_bytes number kind.Branch view.count view.overflow in
-    let a = length-append (header_bytes number kind.Branch view.count view.overflow) (branch_bytes view.branches) in omega arith
-content_some kind.Leaf number view =
-    let h = length-header_bytes number kind.Leaf view.count view.overflow in
-    let a = length-append (header_bytes number kind.Leaf view.count view.overflow) (leaf_bytes view.leaves) in omega arith
-content_some kind.Meta number view = let h = length-header_bytes number kind.Meta view.count view.overflow in omega arith
-content_some kind.Freelist number view = let h = length-header_bytes number kind.Freelist view.count view.overflow in omega arith
-
 page_length : (page_size number : ℕ) (view : PageView) → 16 ≤ length (page_bytes page_size number view)
 unfolding page_bytes
-page_length page_size number view =
-    let content : List ℕ = content_bytes view.kind number view in
-    let n = length-append content (replicate ((1 + view.overflow) * page_size - length content) 0) in
-    let s = content_some view.kind number view in omega arith
+page_length page_size number view = grind (arith, length-append, length-header_bytes)
 
 none_length : (xs : List ℕ) → xs ≡ [] → length xs ≡ 0
 none_length xs e = ap (λ (ys : List ℕ). length ys) e
@@ -63,8 +47,7 @@ one_some page_size number view = more_some (page_bytes page_size number view) []
 -- the bytes of two rows of pages are those of the first and then those of the second
 pub bytes-append : (page_size : ℕ) (xs ys : List Placed) → placed_bytes page_size (xs ++ ys) ≡ placed_bytes page_size xs ++ placed_bytes page_size ys
 bytes-append page_size [] ys = refl
-bytes-append page_size (x ∷ xs) ys =
-    ap (λ (bs : List ℕ). page_bytes page_size x.number x.view ++ bs) (bytes-append page_size xs ys) ∙ sym (append_assoc (page_bytes page_size x.number x.view) (placed_bytes page_size xs) (placed_bytes page_size ys))
+bytes-append page_size (x ∷ xs) ys = grind (arith, append_assoc, bytes-append page_size xs ys)
 
 -- a fault is passed on, and the second text is left out
 pub Wrote-stops : {S : Type 0} {sink : Ghosts S} {old new : S} {first : List ℕ} (second : List ℕ) (e : BulkFault) → Wrote sink old new first (fault_ending e) → Wrote sink old new (first ++ second) (fault_ending e)
@@ -75,12 +58,6 @@ Wrote-stops second fault.Sink a = Wrote-stop second a
 -- memory ran out after the text
 pub Wrote-gave_up : {S : Type 0} {sink : Ghosts S} {old new : S} {text : List ℕ} → Wrote sink old new text whole → Wrote sink old new text halted
 Wrote-gave_up {sink} {old} {new} {text} a = record { appends = AppendsPrefix-whole (sink.taken old) (sink.taken new) text a.appends; failures = a.failures }
-
--- whatever the fault
-pub Wrote-prefix : {S : Type 0} {sink : Ghosts S} {old new : S} {text : List ℕ} (e : BulkFault) → Wrote sink old new text (fault_ending e) → AppendsPrefix (sink.taken old) (sink.taken new) text
-Wrote-prefix fault.Memory a = a.appends
-Wrote-prefix fault.TooLarge a = a.appends
-Wrote-prefix fault.Sink a = a.appends
 
 -- the fault is Sink only if the sink failed,
 pub Wrote-failed : {S : Type 0} {sink : Ghosts S} {old new : S} {text : List ℕ} (e : BulkFault) → Wrote sink old new text (fault_ending e) → e ≡ fault.Sink → 0 < sink.failed new

@@ -17,7 +17,6 @@ uppers_end page_size limits [] q all root is = let one = ap (λ (pages : List (L
 uppers_end page_size limits (upper ∷ uppers) q all root (stands, is) =
     let last : List (Laid BranchElement) = upper.run ++ q ∷ [] in
     let count = ap (λ (runs : List (List (Laid BranchElement))). length runs) stands.cut ∙ length-append stands.runs (last ∷ []) in
-    let closed = stands.count in
     let items = ap (λ (runs : List (List (Laid BranchElement))). last_length runs) stands.cut ∙ last_append stands.runs last in
     let long = length-append upper.run (q ∷ []) in
     (stands.some, omega arith, omega arith, uppers_end page_size (λ k. limits (suc k)) uppers (page_over branch_page_view page_size last) _ root is)

@@ -1,14 +1,13 @@
 -- A run of pages that takes one more, and closes if the next one doesn't join it.
-use Rattle.std.proofs.Common.{div-add-mod', add-mul, ◌≡◌, ◌∙◌, ◌⊎◌, ℕ, ◌+◌, ◌-◌, ◌*◌, ◌/◌, ◌<◌, ◌≤◌, ◌||◌, ◌&&◌, nat_lt, nat_le, Bool, true, false, None, List, [], ◌∷◌, ◌++◌, length, refl, ap, inl, inr, arith}
-use Rattle.std.proofs.lemmas.Bool.{cases_Bool, leb-true, ltb-true}
+use Rattle.std.proofs.Common.{div-add-mod', add-mul, ◌≡◌, ◌∙◌, ◌⊎◌, ℕ, ◌+◌, ◌-◌, ◌*◌, ◌<◌, ◌≤◌, ◌||◌, ◌&&◌, Bool, true, None, List, [], ◌∷◌, ◌++◌, length, ap, arith}
+use Rattle.std.proofs.lemmas.Bool.{leb-true, ltb-true}
 use Rattle.std.proofs.lemmas.List.{length-append, append-nil}
 use Rattle.bolt_format.specs.Elements.{BranchElement}
-use Rattle.bolt_layout.specs.Cut.{max_items}
 use Rattle.bolt_layout.specs.Levels.{overflow_of}
 use Rattle.bolt_layout.specs.Limits.{is_out}
 use Rattle.bolt_layout.specs.PageBytes.{branch_data}
-use Rattle.bolt_bulk.specs.Private.BranchRuns.{HasSlack, IsPushed, IsSizedRun, IsStanding}
-use Rattle.bolt_bulk.specs.Private.RunViews.{RunView, run_has_room, run_kept, run_key, run_push, run_stays}
+use Rattle.bolt_bulk.specs.Private.BranchRuns.{IsPushed, IsSizedRun, IsStanding}
+use Rattle.bolt_bulk.specs.Private.RunViews.{RunView, run_kept, run_key, run_push, run_stays}
 use Rattle.bolt_layout.proofs.PageRows.{overflow_room, overflow_small}
 
 -- a page with this many further pages has room for its content, and 64 bits for its size
@@ -19,38 +18,23 @@ pub record RunFits (page_size further size : ℕ) : Type 0 where
 
 overflow_most : (page_size size : ℕ) → (1 + overflow_of page_size size) * page_size ≤ size + page_size
 unfolding overflow_of
-overflow_most page_size size =
-    let q : ℕ = (size - 1) / page_size in
-    let split = div-add-mod' (size - 1) page_size in
-    let e = add-mul 1 q page_size in omega arith
+overflow_most page_size size = omega (arith, div-add-mod', add-mul)
 
 pub run_fits : (page_size further size : ℕ) → 1024 ≤ page_size → 0 < size → further ≡ overflow_of page_size size → RunFits page_size further size
 run_fits page_size further size page some same = rw same (record { small = overflow_small page_size size; room = overflow_room page_size size (omega arith) some; fits = overflow_most page_size size })
 
 data_push : (es : List BranchElement) (e : BranchElement) → length (branch_data (es ++ e ∷ [])) ≡ length (branch_data es) + length e.key
 data_push [] e = ap (λ (t : List ℕ). length t) (append-nil e.key) ∙ omega arith
-data_push (x ∷ es) e =
-    let a = length-append x.key (branch_data (es ++ e ∷ [])) in
-    let b = length-append x.key (branch_data es) in
-    let ih = data_push es e in omega arith
+data_push (x ∷ es) e = omega (arith, length-append x.key (branch_data (es ++ e ∷ [])), length-append x.key (branch_data es), data_push es e)
 
 pub pushed_sized : (run : RunView) (e : BranchElement) → IsSizedRun run → IsSizedRun (run_push run e)
-pushed_sized run e sized =
-    let a = data_push run.elements e in
-    let b = length-append run.elements (e ∷ []) in omega arith
+pushed_sized run e sized = omega (arith, data_push run.elements e, length-append run.elements (e ∷ []))
 
 pub pushed : (run : RunView) (e : BranchElement) → IsStanding run → length e.key ≤ 1073741824 → IsPushed (run_push run e)
-pushed run e is key =
-    let s = is.small in
-    let f = is.few in
-    let b = length-append run.elements (e ∷ []) in
-    record { sized = pushed_sized run e is.sized; some = omega arith; small = omega arith; few = omega arith }
+pushed run e is key = grind (arith, length-append, pushed_sized)
 
 pub few_or_fits : (a b c : Bool) → (a || (b && c)) ≡ true → (a ≡ true) ⊎ ((b ≡ true) × (c ≡ true))
-few_or_fits true b c h = inl refl
-few_or_fits false true true h = inr (refl, refl)
-few_or_fits false true false h = absurd (cc)
-few_or_fits false false c h = absurd (cc)
+few_or_fits a b c h = grind arith
 
 alone_small : (es : List BranchElement) (e : BranchElement) (size : ℕ) → length (es ++ e ∷ []) < 2 → size ≡ 16 + (16 * length (es ++ e ∷ []) + length (branch_data (es ++ e ∷ []))) → length e.key ≤ 1073741824 → size ≤ 1073741856
 alone_small [] e size one sized key = let a = data_push [] e in omega arith
@@ -61,37 +45,10 @@ pub key_pushed : (es : List BranchElement) (e : BranchElement) → length (run_k
 key_pushed [] e named key = key
 key_pushed (x ∷ es) e named key = named
 
--- a run that has room for the next page has slack
-room_slack : (page_size k : ℕ) (run : RunView) (e : BranchElement) → page_size ≤ 33554432 → IsStanding run → length e.key ≤ 1073741824 → run_has_room page_size (run_push run e) k ≡ true → HasSlack (run_push run e)
-room_slack page_size k run e high is key room =
-    let p = pushed run e is key in
-    elim (few_or_fits (nat_lt (length (run_push run e).elements) 2) (nat_le ((run_push run e).size + k) page_size) (nat_lt (length (run_push run e).elements) max_items) room) [
-      | inl one ↦
-          (let few : length (run_push run e).elements < 2 = ltb-true _ _ one in
-          record { small = alone_small run.elements e (run_push run e).size few p.sized key; few = omega arith })
-      | inr both ↦
-          (let fit : (run_push run e).size + k ≤ page_size = leb-true _ _ both.0 in
-          let few : length (run_push run e).elements < 65534 = ltb-true _ _ both.1 in
-          record { small = omega arith; few = few })
-    ]
-
 no_slack : {A : Type 0} → is_out None ≡ true → A
 no_slack e = absurd (cc)
 
 -- a run that stays open for the next page stands
 pub stays_standing : (page_size k : ℕ) (run : RunView) (e : BranchElement) → page_size ≤ 33554432 → IsStanding run → length e.key ≤ 1073741824 → run_stays page_size (run_push run e) k ≡ true
     → IsStanding (run_kept page_size (run_push run e) k)
-stays_standing page_size k run e high is key stays =
-    let p = pushed run e is key in
-    elim (cases_Bool (run_has_room page_size (run_push run e) k)) [
-      | inl t ↦
-          (let slack = room_slack page_size k run e high is key t in
-          let small = slack.small in
-          let few = slack.few in rw t (record { sized = p.sized; small = omega arith; few = omega arith; named = key_pushed run.elements e is.named key; slack = λ out. slack }))
-      | inr f ↦
-          (let out : is_out run.left ≡ true = rw f at stays in
-          let slack = is.slack out in
-          let small = slack.small in
-          let few = slack.few in
-          let b = length-append run.elements (e ∷ []) in rw f (record { sized = p.sized; small = omega arith; few = omega arith; named = key_pushed run.elements e is.named key; slack = λ none. no_slack none }))
-    ]
+stays_standing page_size k run e high is key stays = grind (arith, pushed, key_pushed, length-append, no_slack, few_or_fits, ltb-true, alone_small, leb-true)

@@ -1,7 +1,7 @@
 -- The numbers of the open buckets, and the limits that were noted of those that have ended.
-use Rattle.std.proofs.Common.{◌≡◌, ◌∙◌, ◌+◌, ◌<◌, ◌≤◌, ℕ, suc, false, List, [], ◌∷◌, ◌++◌, ◌⊎◌, length, map, Option, None, refl, sym, ap, subst, inl, inr, arith}
+use Rattle.std.proofs.Common.{◌≡◌, ◌∙◌, ◌+◌, ◌<◌, ◌≤◌, ℕ, suc, false, List, [], ◌∷◌, ◌++◌, length, map, Option, None, refl, sym, ap, subst, arith}
 use Rattle.std.specs.List.{AllByRecursion}
-use Rattle.std.proofs.lemmas.Bool.{cases_Bool, cases_lt}
+use Rattle.std.proofs.lemmas.Bool.{cases_lt}
 use Rattle.std.proofs.lemmas.List.{length-append, length-map}
 use Rattle.bolt_format.specs.Elements.{BranchElement}
 use Rattle.bolt_tree.specs.Tree.{Tree}
@@ -22,8 +22,8 @@ use Rattle.bolt_bulk.specs.Private.BranchRuns.{runs_above}
 use Rattle.bolt_bulk.specs.Private.Coming.{Comes, IsOpen}
 use Rattle.bolt_bulk.specs.Private.HeldCounts.{capped}
 use Rattle.bolt_bulk.specs.Private.BucketRuns.{AreUppers}
-use Rattle.bolt_bulk.specs.Private.OpenRuns.{Frame, Known, Open, Upper, has_room, making_room, upper_end}
-use Rattle.bolt_bulk.specs.Private.Passes.{AreComingAround, AreNumbered, FitLimits, HasNoted, IsNumbered, IsTable, Notes, Wanted, limits_with}
+use Rattle.bolt_bulk.specs.Private.OpenRuns.{Frame, Open, Upper, making_room, upper_end}
+use Rattle.bolt_bulk.specs.Private.Passes.{AreComingAround, AreNumbered, FitLimits, HasNoted, IsNumbered, IsTable, Wanted, limits_with}
 use Rattle.bolt_bulk.specs.Private.RowLimits.{BucketEnds, bucket_limit, limit_in, run_end}
 use Rattle.bolt_bulk.specs.declared.branch_run.BranchRun.{BranchRun}
 use Rattle.bolt_bulk.specs.declared.limits.BucketLimits.{BucketLimits}
@@ -36,17 +36,10 @@ use Rattle.bolt_bulk.proofs.RunEnds.{bucket_rows_end}
 -- ---- what is known of a bucket stays while it is open
 
 pub room_known : (page_size : ℕ) (state : Open) (key : List ℕ) (size : ℕ) → (making_room page_size state key size).known ≡ state.known
-room_known page_size state key size = elim (cases_Bool (has_room page_size 1 state.run size)) [
-  | inl t ↦ rw t refl
-  | inr f ↦ rw f refl
-]
+room_known page_size state key size = grind arith
 
 is_numbered : (wanted : Wanted) (page_size below n : ℕ) (old new : Open) → new.known ≡ old.known → IsNumbered wanted page_size below n old → IsNumbered wanted page_size below n new
-is_numbered wanted page_size below n old new same is = record {
-  earlier = is.earlier;
-  number_is = ap (λ (k : Known). k.limits.bucket) same ∙ is.number_is;
-  notes = subst (λ (k : Known). Notes wanted page_size n k.leaves) (sym same) is.notes;
-}
+is_numbered wanted page_size below n old new same is = grind arith
 
 pub numbered_same : (wanted : Wanted) (page_size below : ℕ) (numbers : List ℕ) (old new : Open) (others : List Open) → new.known ≡ old.known
     → AreNumbered wanted page_size below numbers (old ∷ others) → AreNumbered wanted page_size below numbers (new ∷ others)
@@ -55,23 +48,8 @@ numbered_same wanted page_size below (n ∷ numbers) old new others same are = (
 
 -- ---- a bucket is opened
 
-before : (n opened : ℕ) → n < suc opened → (n ≡ opened → ⊥) → n < opened
-before n opened less apart = elim (cases_lt n opened) [
-  | inl l ↦ l
-  | inr g ↦ absurd (apart (omega arith))
-]
-
 pub noted_enters : (wanted : Wanted) (page_size : ℕ) (noted : NotedLimits) (opened : ℕ) (numbers : List ℕ) → HasNoted wanted page_size noted opened numbers → HasNoted wanted page_size noted (suc opened) (opened ∷ numbers)
-noted_enters wanted page_size noted opened numbers has = record {
-  asked = has.asked;
-  table = λ asked which fits.
-      let table = has.table asked which fits in
-      record {
-        still_open = ((λ level. table.later opened level (omega arith)), table.still_open);
-        later = λ n level more. table.later n level (omega arith);
-        ended = λ n level less apart. table.ended n level (before n opened less apart.0) apart.1;
-      };
-}
+noted_enters wanted page_size noted opened numbers has = grind (arith, cases_lt)
 
 -- ---- a bucket ends
 
@@ -87,13 +65,9 @@ run_ends page_size limits (run ∷ runs) (upper ∷ uppers) q all root b (row, a
     let fewer = shorter Plain page_size all stands.some in
     let count = length-map (branch_cut Plain page_size size_of all) (page_over branch_page_view page_size) in
     let parts = ap (λ (rs : List (List (Laid BranchElement))). length rs) stands.cut ∙ length-append stands.runs _ in
-    let closed = stands.count in
-    let closed_is : run.closed ≡ upper.closed = (let c = row.closed_is in omega arith) in
     let items : length run.elements.items ≡ length upper.run = run_length run upper.run _ row.same in
     let rest = run_ends page_size (λ k. limits (suc k)) runs uppers (page_over branch_page_view page_size (upper.run ++ q ∷ [])) next root b are comes (omega arith) in
-    ap (λ (n : ℕ). (suc n, suc (length run.elements.items)) ∷ map run_end runs) closed_is
-    ∙ (ap (λ (n : ℕ). (suc upper.closed, suc n) ∷ map run_end runs) items
-    ∙ ap (λ (rows : List (ℕ × ℕ)). upper_end upper ∷ rows) rest)
+    grind arith
 
 -- no more buckets are opened than the layout has page numbers
 around_most : (wanted : Wanted) (page_size : ℕ) (limits : ℕ → ℕ → Option ℕ) (n : ℕ) (frames : List Frame) → AreComingAround wanted page_size limits n frames → n ≤ suc (opened_in wanted.which page_size wanted.tree)
@@ -101,9 +75,7 @@ around_most wanted page_size limits n [] are = omega arith
 around_most wanted page_size limits n (frame ∷ frames) are = let rest = around_most wanted page_size limits (n + opened_in wanted.which page_size frame.after) frames are.1 in omega arith
 
 pub opened_most : (wanted : Wanted) (page_size : ℕ) (limits : ℕ → ℕ → Option ℕ) (n : ℕ) (frames : List Frame) → AreComingAround wanted page_size limits n frames → n ≤ layout_mark wanted.which page_size wanted.tree
-opened_most wanted page_size limits n frames are =
-    let most = around_most wanted page_size limits n frames are in
-    let few = opened_few page_size wanted.which wanted.tree in omega arith
+opened_most wanted page_size limits n frames are = omega (arith, around_most, opened_few)
 
 -- the numbers of those around it are lower
 all_lower : (wanted : Wanted) (page_size below limit : ℕ) (numbers : List ℕ) (states : List Open) → below ≤ limit → AreNumbered wanted page_size below numbers states → AllByRecursion (λ (m : ℕ). m < limit) numbers
@@ -115,35 +87,18 @@ all_map : {A : Type 0} {P Q R : A → Type 0} (xs : List A) → ((x : A) → P x
 all_map [] f p q = tt
 all_map (x ∷ xs) f p q = (f x p.0 q.0, all_map xs f p.1 q.1)
 
-same_or : (m n : ℕ) → (m ≡ n) ⊎ (m ≡ n → ⊥)
-same_or m n = elim (cases_lt m n) [
-  | inl less ↦ inr (λ same. omega arith)
-  | inr more ↦ elim (cases_lt n m) [
-    | inl less ↦ inr (λ same. omega arith)
-    | inr fewer ↦ inl (omega arith)
-  ]
-]
-
 -- its own limits join those that were noted
 pub table_ends : (page_size : ℕ) (tree : Tree) (old new : Limits) (opened n : ℕ) (numbers : List ℕ) → IsTable page_size tree old opened (n ∷ numbers) → n < opened → AllByRecursion (λ (m : ℕ). m < n) numbers
     → ((level : ℕ) → limit_in new n level ≡ limits_for page_size tree n level) → ((b level : ℕ) → (b ≡ n → ⊥) → limit_in new b level ≡ limit_in old b level)
     → IsTable page_size tree new opened numbers
-table_ends page_size tree old new opened n numbers table earlier lower own others = record {
-  still_open = all_map numbers (λ m none less level. others m level (λ same. omega arith) ∙ none level) table.still_open.1 lower;
-  later = λ b level more. others b level (λ same. omega arith) ∙ table.later b level more;
-  ended = λ b level less apart. elim (same_or b n) [
-    | inl same ↦ ap (λ (m : ℕ). limit_in new m level) same ∙ (own level ∙ ap (λ (m : ℕ). limits_for page_size tree m level) (sym same))
-    | inr other ↦ others b level other ∙ table.ended b level less (other, apart)
-  ];
-}
+table_ends page_size tree old new opened n numbers table earlier lower own others = grind (arith, all_map, cases_lt)
 
 -- the same buckets have the same numbers, below a higher one
 numbered_below : (wanted : Wanted) (page_size low high : ℕ) (numbers : List ℕ) (states : List Open) → low ≤ high → AreNumbered wanted page_size low numbers states → AreNumbered wanted page_size high numbers states
 numbered_below wanted page_size low high [] [] less are = tt
 numbered_below wanted page_size low high [] (state ∷ states) less are = absurd are
 numbered_below wanted page_size low high (n ∷ numbers) [] less are = absurd are
-numbered_below wanted page_size low high (n ∷ numbers) (state ∷ states) less (is, are) =
-    let e = is.earlier in (record { earlier = omega arith; number_is = is.number_is; notes = is.notes }, are)
+numbered_below wanted page_size low high (n ∷ numbers) (state ∷ states) less (is, are) = grind arith
 
 pub record HasOthers (wanted : Wanted) (page_size : ℕ) (noted : NotedLimits) (opened : ℕ) (others : List Open) : Type 0 where
   pub numbers : List ℕ
@@ -156,7 +111,6 @@ pub noted_leaves : (wanted : Wanted) (page_size : ℕ) (old new : NotedLimits) (
     → BucketEnds old new uppers → HasOthers wanted page_size new opened others
 noted_leaves wanted page_size old new opened b [] state others uppers root has are few rows limits runs_open ended = absurd are
 noted_leaves wanted page_size old new opened b (n ∷ numbers) state others uppers root has (is, are) few rows limits runs_open ended =
-    let e = is.earlier in
     record {
       numbers = numbers;
       numbered = numbered_below wanted page_size n opened numbers others (omega arith) are;
@@ -184,11 +138,7 @@ noted_leaves wanted page_size old new opened b (n ∷ numbers) state others uppe
 -- ---- at the beginning, and once all buckets have ended
 
 pub none_noted : (page_size : ℕ) (tree : Tree) (limits : Limits) → ((bucket level : ℕ) → limit_in limits bucket level ≡ None) → IsTable page_size tree limits 1 (0 ∷ [])
-none_noted page_size tree limits none = record {
-  still_open = ((λ level. none 0 level), tt);
-  later = λ n level more. none n level;
-  ended = λ n level less apart. absurd (apart.0 (omega arith));
-}
+none_noted page_size tree limits none = grind arith
 
 pub no_numbers : (wanted : Wanted) (page_size below : ℕ) (numbers : List ℕ) → AreNumbered wanted page_size below numbers [] → numbers ≡ []
 no_numbers wanted page_size below [] are = refl

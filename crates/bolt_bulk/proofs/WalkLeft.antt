@@ -1,5 +1,5 @@
 -- A pass goes along members: those that are left to both are the same.
-use Rattle.std.proofs.Common.{◌≡◌, ◌≤◌, List, ◌∷◌, length, subst, sym}
+use Rattle.std.proofs.Common.{◌≡◌, ◌≤◌, List, ◌∷◌, length, subst, arith}
 use Rattle.std.specs.List.{AllByRecursion}
 use Rattle.std.proofs.Math.Logic.{∥∥₁_elim, ∥∥₁_map}
 use Rattle.std.proofs.Props.{props}
@@ -33,8 +33,7 @@ module _ {M : Type 0} (lists : M → List Member → Type 0) (left : M → List 
 
   -- where nothing is given yet, all fit
   pub whole_fits : (members : M) → IsWhole lists left members → AllFit members members
-  whole_fits members whole listing is =
-      subst (λ (ms : List Member). ∥ AllByRecursion IsFitMember ms ∥₁) (sym (whole.all listing is)) (listing_fits listing (whole.one listing is))
+  whole_fits members whole listing is = grind (arith, listing_fits)
 
   -- the same members from their beginning
   pub whole_again : {ends_as : M → M → Type 0} (old new : M) → IsAgain lists left ends_as old new → IsWhole lists left old → IsWhole lists left new

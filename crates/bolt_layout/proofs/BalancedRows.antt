@@ -1,12 +1,11 @@
 -- The limits that the plain layout notes are right for each bucket of the balanced one.
-use Rattle.std.proofs.Common.{◌≡◌, ◌∙◌, ◌+◌, ℕ, suc, false, List, [], Option, map, sym, ap, subst}
+use Rattle.std.proofs.Common.{◌≡◌, ◌∙◌, ◌+◌, ℕ, suc, false, Option, map, subst, arith}
 use Rattle.bolt_tree.specs.Tree.{Tree, end, with_bucket, with_value}
-use Rattle.bolt_layout.specs.Cut.{cut_from}
 use Rattle.bolt_layout.specs.Items.{items_of}
 use Rattle.bolt_layout.specs.Limits.{HaveRightLimits, limit_at, limits_from_ends}
 use Rattle.bolt_layout.specs.Openings.{AreRight, AreFromEnds, leaf_pages, opened_by, row_ends_of}
 use Rattle.bolt_layout.specs.declared.layout.Layout.TheVariants.{Plain, Balanced}
-use Rattle.bolt_layout.proofs.Faces.{Face, face, face_size, leaf_faces, top_face}
+use Rattle.bolt_layout.proofs.Faces.{face, leaf_faces}
 use Rattle.bolt_layout.proofs.OpenedBuckets.{opened_by_same}
 use Rattle.bolt_layout.proofs.RightLimits.{limits_alike}
 use Rattle.bolt_layout.proofs.SameFaces.{inline_alike, items_alike}
@@ -17,10 +16,7 @@ abbrev pub IsFromEnds : (page_size : ℕ) → (limit : ℕ → Option ℕ) → T
 IsFromEnds page_size limit tree = (level : ℕ) → limit level ≡ limit_at (limits_from_ends false (row_ends_of page_size (leaf_pages page_size (items_of Plain page_size tree)))) level
 
 leaves_alike : (page_size : ℕ) (tree : Tree) → map face (leaf_pages page_size (items_of Plain page_size tree)) ≡ map face (leaf_pages page_size (items_of Balanced page_size tree))
-leaves_alike page_size tree =
-    leaf_faces page_size (items_of Plain page_size tree)
-    ∙ (ap (λ (faces : List Face). map top_face (cut_from page_size 1 face_size [] faces)) (items_alike page_size tree)
-    ∙ sym (leaf_faces page_size (items_of Balanced page_size tree)))
+leaves_alike page_size tree = grind (arith, leaf_faces, items_alike)
 
 -- One bucket, as the root bucket:
 pub right_from_ends : (page_size : ℕ) (limit : ℕ → Option ℕ) (tree : Tree) → IsFromEnds page_size limit tree

@@ -1,16 +1,15 @@
 -- The elements of a branch page that was written are read back, and pass their tests.
-use Rattle.std.proofs.Common.{◌≡◌, ◌∙◌, ℕ, suc, ◌+◌, ◌-◌, ◌*◌, ◌^◌, ◌<◌, ◌≤◌, nat_lt, false, List, [], ◌∷◌, ◌++◌, length, map, drop, take, None, refl, sym, ap, arith, append_assoc, add-one}
-use Rattle.std.specs.List.{AllByRecursion, range_with_len, slice_range}
+use Rattle.std.proofs.Common.{◌≡◌, ◌∙◌, ℕ, suc, ◌+◌, ◌-◌, ◌*◌, ◌^◌, ◌<◌, ◌≤◌, nat_lt, false, List, [], ◌∷◌, ◌++◌, length, map, drop, None, refl, sym, ap, arith, append_assoc, add-one}
+use Rattle.std.specs.List.{AllByRecursion, range_with_len}
 use Rattle.std.proofs.lemmas.Bool.{le-ltb}
 use Rattle.std.proofs.lemmas.List.{length-append}
-use Rattle.bolt_format.specs.Elements.{BranchElement, branch_element, branch_elements, branch_end, branch_fault, branch_key_length, branch_key_start, branches_fault, element_at, faults_from, key_length_fault, table_fault}
+use Rattle.bolt_format.specs.Elements.{BranchElement, branch_element, branch_elements, branch_end, branch_fault, branch_key_start, branches_fault, element_at, faults_from, table_fault}
 use Rattle.bolt_format.specs.Written.{branch_header}
 use Rattle.bolt_layout.specs.PageBytes.{branch_bytes, branch_headers, branch_data, key_pos}
 use Rattle.bolt_format.proofs.NumberLemmas.{part_next, part_read, part_within}
 use Rattle.bolt_format.proofs.FaultLemmas.{first_of-both}
 use Rattle.bolt_format.specs.ReadBack.{IsBranchHeader}
 use Rattle.bolt_format.proofs.WrittenHeaders.{branch_header_written, length-branch_header}
-use Rattle.bolt_layout.proofs.LeafLemmas.{data_passes, key_passes}
 
 pub record IsBranchFit (e : BranchElement) : Type 0 where
   pub some : 1 ≤ length e.key
@@ -24,34 +23,17 @@ record IsBranchRead (bytes : List ℕ) (i end : ℕ) (e : BranchElement) : Type 
 
 -- elements with the same key and child are the same
 pub same_branch : (a b : BranchElement) → a.key ≡ b.key → a.child ≡ b.child → a ≡ b
-same_branch a b p q =
-    let f : List ℕ → ℕ → BranchElement = λ x y. record { key = x; child = y } in
-    ap (λ (x : List ℕ). f x a.child) p ∙ ap (f b.key) q
+same_branch a b p q = grind arith
 
 branch_read : (bytes rest : List ℕ) (i pos : ℕ) (e : BranchElement) → IsBranchHeader bytes i pos (length e.key) e.child → IsBranchFit e
     → drop (element_at i + pos) bytes ≡ e.key ++ rest → element_at i + pos ≤ length bytes
     → IsBranchRead bytes i (element_at i + pos + length e.key) e
 unfolding branch_fault
-branch_read bytes rest i pos e head fit text within =
-    let start = head.start in
-    let end : branch_end bytes i ≡ element_at i + pos + length e.key = ap (λ (n : ℕ). n + branch_key_length bytes i) head.start ∙ ap (λ (n : ℕ). element_at i + pos + n) head.key in
-    let key_within = part_within bytes e.key rest (element_at i + pos) text within in
-    let key : slice_range bytes (branch_key_start bytes i) (branch_end bytes i) ≡ e.key =
-    ap (λ (n : ℕ). take (branch_end bytes i - branch_key_start bytes i) (drop n bytes)) start ∙ part_read bytes e.key rest (element_at i + pos) (branch_end bytes i - branch_key_start bytes i) text (let k = head.key in omega arith) in
-    record {
-      element = same_branch (branch_element bytes i) e key head.child;
-      ends = end;
-      passes = λ free before.
-          first_of-both (key_length_fault (branch_key_length bytes i)) _ (ap key_length_fault head.key ∙ key_passes (length e.key) fit.some fit.key)
-          (data_passes bytes free (branch_key_start bytes i) (branch_end bytes i) before (omega arith));
-    }
+branch_read bytes rest i pos e head fit text within = grind (arith, part_within, part_read, same_branch, first_of-both)
 
 pub length-branch_headers : (before : ℕ) (es : List BranchElement) → length (branch_headers before es) ≡ 16 * length es
 length-branch_headers before [] = refl
-length-branch_headers before (e ∷ es) =
-    let h = length-branch_header (key_pos (e ∷ es) before) (length e.key) e.child in
-    let r = length-branch_headers (before + length e.key) es in
-    length-append (branch_header (key_pos (e ∷ es) before) (length e.key) e.child) (branch_headers (before + length e.key) es) ∙ omega arith
+length-branch_headers before (e ∷ es) = grind (arith, length-branch_header, length-append, length-branch_headers (before + length e.key) es)
 
 branch_run : (bytes : List ℕ) (es : List BranchElement) (i before free : ℕ) (tail rest : List ℕ)
     → drop (element_at i) bytes ≡ branch_headers before es ++ tail
@@ -77,13 +59,9 @@ branch_run bytes (e ∷ es) i before free tail rest heads text fits small within
     let within_key = part_within bytes e.key (branch_data es ++ rest) (element_at i + pos) here (omega arith) in
     let behind : drop (element_at (suc i + length es) + (before + length e.key)) bytes ≡ branch_data es ++ rest =
     part_next bytes e.key (branch_data es ++ rest) (element_at i + pos) _ here (omega arith) in
-    let ends = one.ends in
     let more = branch_run bytes es (suc i) (before + length e.key) (branch_end bytes i) tail rest next behind fits.1 (omega arith) (omega arith) (omega arith) in
-    let start = head.0.start in
-    let elements : map (branch_element bytes) (range_with_len (i + 1) (length es)) ≡ es = ap (λ (k : ℕ). map (branch_element bytes) (range_with_len k (length es))) (add-one i) ∙ more.0 in (
-      ap (λ (x : BranchElement). x ∷ map (branch_element bytes) (range_with_len (i + 1) (length es))) one.element ∙ ap (λ (xs : List BranchElement). e ∷ xs) elements,
-      first_of-both (branch_fault bytes free i) _ (one.passes free (omega arith)) more.1,
-    )
+    let elements : map (branch_element bytes) (range_with_len (i + 1) (length es)) ≡ es = ap (λ (k : ℕ). map (branch_element bytes) (range_with_len k (length es))) (add-one i) ∙ more.0 in
+    grind (arith, first_of-both)
 
 -- the elements of a branch page after a header
 pub branches_written : (bytes : List ℕ) (es : List BranchElement) (rest : List ℕ)

@@ -1,22 +1,21 @@
 -- A branch page over pages, and by the height the page over a row of items.
-use Rattle.std.proofs.Common.{◌≡◌, ◌∙◌, ℕ, zero, suc, ◌+◌, ◌*◌, ◌<◌, ◌≤◌, not, ◌==◌, true, false, List, [], ◌∷◌, ◌++◌, length, map, Option, Some, None, slice_get, refl, sym, ap, subst, inr, arith, sum_by}
+use Rattle.std.proofs.Common.{◌≡◌, ◌∙◌, ℕ, zero, suc, ◌+◌, ◌*◌, ◌<◌, ◌≤◌, ◌==◌, true, false, List, [], ◌∷◌, ◌++◌, length, map, Option, Some, None, slice_get, refl, sym, ap, subst, arith, sum_by}
 use Rattle.std.specs.List.{AllByRecursion}
 use Rattle.std.proofs.lemmas.Bool.{ne_eqb}
 use Rattle.std.proofs.lemmas.List.{length-append}
 use Rattle.std.proofs.lemmas.List.Sums.{sum_by-cons}
 use Rattle.bolt_format.specs.Elements.{BranchElement, LeafElement}
-use Rattle.bolt_check.specs.Keys.{Key, is_above, is_below, is_from, keys_order_fault, key_lt}
+use Rattle.bolt_check.specs.Keys.{Key, is_below, is_from, keys_order_fault}
 use Rattle.bolt_check.specs.Nodes.{Entry, Node, Nodes, branch_entry, node_of}
-use Rattle.bolt_check.specs.Ways.{PageSpot, child_spot, upper_from}
+use Rattle.bolt_check.specs.Ways.{At_page, PageSpot, child_spot, upper_from}
 use Rattle.bolt_check.specs.Findings.{node_finding, keys_of}
 use Rattle.bolt_check.specs.EntrySpots.{places}
-use Rattle.bolt_layout.specs.Cut.{run_size}
 use Rattle.bolt_layout.specs.PageBytes.{branch_data}
 use Rattle.bolt_layout.proofs.BranchLemmas.{IsBranchFit}
-use Rattle.bolt_layout.proofs.KeyLaws.{AreBelow, IsAbove, IsBelowItem, IsWithin, Rise, key_step, lt_irreflexive, lt_not, rise_split}
+use Rattle.bolt_layout.proofs.KeyLaws.{AreBelow, IsAbove, IsBelowItem, IsWithin, Rise, key_step, lt_not, rise_split}
 use Rattle.bolt_layout.proofs.ListLemmas.{all_split, all_weaker}
 use Rattle.bolt_layout.proofs.OverRows.{IsOver, IsRun, Pieces}
-use Rattle.bolt_layout.proofs.Parts.{AreParts}
+use Rattle.bolt_layout.proofs.Parts.{IsPart, kids_at, more_kids, no_kids}
 use Rattle.bolt_layout.proofs.PageRows.{HasRoom, IsPageFit, branch_room, overflow_room, overflow_small}
 use Rattle.bolt_layout.specs.Laid.{Laid, Placed, elements_of, numbers_of, pages_of, size_of}
 use Rattle.bolt_layout.specs.Levels.{branch_page_view, page_over, run_overflow}
@@ -37,7 +36,6 @@ pieces_size page_size height (kid ∷ kids) leaves h n =
     let ih = pieces_size page_size height kids back more (n + kid.numbers) in
     let s = sum_by-cons (size_of {E = BranchElement}) kid kids in
     let k : length (kid.element n).key ≡ length kid.key = ap (λ (y : List ℕ). length y) (page.key n) in
-    let z = page.size in
     let d = length-append (kid.element n).key (branch_data (elements_of kids (n + kid.numbers))) in omega arith
 
 pub pieces_fit : (page_size height : ℕ) (kids : List (Laid BranchElement)) (leaves : List (Laid LeafElement)) → Pieces (IsPage page_size height) kids leaves
@@ -46,61 +44,27 @@ pieces_fit page_size height [] leaves h all n room = tt
 pieces_fit page_size height (kid ∷ kids) leaves h all n room =
     let (x, front, back, e, page, more) = h in
     let all2 : AllByRecursion (IsItem page_size) (x ∷ (front ++ back)) = subst (AllByRecursion (IsItem page_size)) e all in
-    let k : length (kid.element n).key ≡ length x.key = ap (λ (y : List ℕ). length y) (page.key n ∙ page.first x front refl) in
-    let item : IsItem page_size x = all2.0 in
-    let some = item.some in
-    let short = item.short in
-    let c = (page.child n).1 in (
-      record { some = omega arith; key = omega arith; child = omega arith },
-      pieces_fit page_size height kids back more (all_split (IsItem page_size) front back all2.1).1 (n + kid.numbers) (omega arith),
-    )
+    grind (arith, all_split, pieces_fit page_size height kids back more (all_split (IsItem page_size) front back all2.1).1 (n + kid.numbers) (omega arith))
 
 branch_own_room : (page_size height : ℕ) (run : List (Laid BranchElement)) (leaves : List (Laid LeafElement)) → 0 < page_size → Pieces (IsPage page_size height) run leaves
     → (n : ℕ) → HasRoom page_size (own_page branch_page_view page_size run n)
-branch_own_room page_size height run leaves sized pieces n =
-    let size = pieces_size page_size height run leaves pieces n in
-    let room = overflow_room page_size (run_size size_of run) sized (omega arith) in
-    branch_room page_size (n + numbers_of run) (run_overflow page_size run) (elements_of run n) (omega arith)
+branch_own_room page_size height run leaves sized pieces n = grind (arith, pieces_size, overflow_room, branch_room)
 
 pub branch_own : (page_size height : ℕ) (run : List (Laid BranchElement)) (leaves : List (Laid LeafElement)) → 0 < page_size → Pieces (IsPage page_size height) run leaves
     → AllByRecursion (IsItem page_size) leaves → IsRun run → (n : ℕ) → 1 ≤ n → n + numbers_of run < limit
     → IsPageFit page_size (own_page branch_page_view page_size run n)
-branch_own page_size height run leaves sized pieces all fits n some h =
-    let size = pieces_size page_size height run leaves pieces n in
-    let long = length-elements run n in
-    let few = fits.few in
-    let small = fits.small in
-    let room = overflow_room page_size (run_size size_of run) sized (omega arith) in
-    let narrow = overflow_small page_size (run_size size_of run) in
-    inr (record {
-      es = elements_of run n;
-      further = run_overflow page_size run;
-      is = refl;
-      few = omega arith;
-      room = omega arith;
-      small = omega arith;
-      narrow = omega arith;
-      fits = pieces_fit page_size height run leaves pieces all n (omega arith);
-    })
+branch_own page_size height run leaves sized pieces all fits n some h = grind (arith, pieces_size, length-elements, overflow_room, overflow_small, pieces_fit)
 
 -- the upper bound of a child is above all keys below it
 pub upper_holds : (page_size height : ℕ) (kids : List (Laid BranchElement)) (back ys : List (Laid LeafElement)) (upper : Option Key) (m : ℕ) → Pieces (IsPage page_size height) kids back
     → AreBelow ys back → AllByRecursion (λ (y : Laid LeafElement). is_below upper y.key ≡ true) ys
     → AllByRecursion (λ (y : Laid LeafElement). is_below (upper_from (slice_get (map branch_entry (elements_of kids m)) 0) upper) y.key ≡ true) ys
 upper_holds page_size height [] back ys upper m pieces below within = within
-upper_holds page_size height (kid ∷ kids) back ys upper m pieces below within =
-    let (x, front, rest, e, page, more) = pieces in
-    let bound : (kid.element m).key ≡ x.key = page.key m ∙ page.first x front refl in
-    let below2 : AreBelow ys (x ∷ (front ++ rest)) = subst (λ (r : List (Laid LeafElement)). AreBelow ys r) e below in
-    all_weaker (λ (y : Laid LeafElement). AllByRecursion (IsBelowItem y) (x ∷ (front ++ rest))) (λ (y : Laid LeafElement). key_lt y.key (kid.element m).key ≡ true)
-    (λ y h. ap (λ (k : Key). key_lt y.key k) bound ∙ h.0) ys below2
+upper_holds page_size height (kid ∷ kids) back ys upper m pieces below within = grind (arith, all_weaker)
 
 pub lower_holds : (x : Laid LeafElement) (key : Key) (ys : List (Laid LeafElement)) → key ≡ x.key → AllByRecursion (IsBelowItem x) ys
     → AllByRecursion (λ (y : Laid LeafElement). is_from (Some key) y.key ≡ true) (x ∷ ys)
-lower_holds x key ys same h = (
-  ap not (ap (λ (k : Key). key_lt x.key k) same ∙ lt_irreflexive x.key),
-  all_weaker (IsBelowItem x) (λ (y : Laid LeafElement). is_from (Some key) y.key ≡ true) (λ y less. ap not (ap (λ (k : Key). key_lt y.key k) same ∙ lt_not x.key y.key less)) ys h,
-)
+lower_holds x key ys same h = grind (arith, all_weaker, lt_not)
 
 pub both_hold : (lower upper : Option Key) (ys : List (Laid LeafElement)) → AllByRecursion (λ (y : Laid LeafElement). is_from lower y.key ≡ true) ys
     → AllByRecursion (λ (y : Laid LeafElement). is_below upper y.key ≡ true) ys → AllByRecursion (IsWithin lower upper) ys
@@ -108,10 +72,10 @@ both_hold lower upper [] a b = tt
 both_hold lower upper (y ∷ ys) a b = ((a.0, b.0), both_hold lower upper ys a.1 b.1)
 
 pub kids_parts : (page_size height : ℕ) (kids : List (Laid BranchElement)) (leaves : List (Laid LeafElement)) → Pieces (IsPage page_size height) kids leaves → Rise leaves
-    → (nodes : Nodes) (s : PageSpot) (n : ℕ) → AllByRecursion (IsWithin s.lower s.upper) leaves → suc s.depth + height ≤ 64 → 1 ≤ n → n + numbers_of kids ≤ limit
-    → AreNodes nodes (pages_of kids n) → AreParts nodes (places false s (map branch_entry (elements_of kids n))) n (n + numbers_of kids)
-kids_parts page_size height [] leaves pieces rise nodes s n within depth some h shown = omega arith
-kids_parts page_size height (kid ∷ kids) leaves pieces rise nodes s n within depth some h shown =
+    → (nodes : Nodes) (s : PageSpot) (n to : ℕ) → AllByRecursion (IsWithin s.lower s.upper) leaves → suc s.depth + height ≤ 64 → 1 ≤ n → to ≡ n + numbers_of kids → to ≤ limit
+    → AreNodes nodes (pages_of kids n) → IsPart nodes (kids_at nodes (places false s (map branch_entry (elements_of kids n)))) n to
+kids_parts page_size height [] leaves pieces rise nodes s n to within depth some end h shown = no_kids nodes n to (omega arith)
+kids_parts page_size height (kid ∷ kids) leaves pieces rise nodes s n to within depth some end h shown =
     let (x, front, back, e, page, more) = pieces in
     let both = all_split (λ (p : Placed). nodes p.number ≡ node_of p.view.kind p.view) (kid.pages n) (pages_of kids (n + kid.numbers)) shown in
     let rise2 = rise_split (x ∷ front) back (subst Rise e rise) in
@@ -123,9 +87,8 @@ kids_parts page_size height (kid ∷ kids) leaves pieces rise nodes s n within d
     let mine = all_weaker (IsWithin s.lower s.upper) (λ (y : Laid LeafElement). is_below s.upper y.key ≡ true) (λ y w. w.1) (x ∷ front) within2.0 in
     let high = upper_holds page_size height kids back (x ∷ front) s.upper (n + kid.numbers) more rise2.2 mine in
     let first = page.part nodes n (child_spot s entry upper) refl some (omega arith) both.0 (omega arith) (both_hold (Some entry.key) upper (x ∷ front) low high) in
-    let rest = kids_parts page_size height kids back more rise2.1 nodes s (n + kid.numbers) within2.1 depth (omega arith) (omega arith) both.1 in
-    let end : n + kid.numbers + numbers_of kids ≡ n + numbers_of (kid ∷ kids) = omega arith in
-    (n + kid.numbers, first, subst (λ (m : ℕ). AreParts nodes (places false s (map branch_entry (elements_of kids (n + kid.numbers)))) (n + kid.numbers) m) end rest)
+    more_kids nodes (Some (At_page (child_spot s entry upper))) (places false s (map branch_entry (elements_of kids (n + kid.numbers)))) n (n + kid.numbers) to first
+    (kids_parts page_size height kids back more rise2.1 nodes s (n + kid.numbers) to within2.1 depth (omega arith) (omega arith) h both.1)
 
 pub kids_keys : (page_size height : ℕ) (kids : List (Laid BranchElement)) (leaves : List (Laid LeafElement)) → Pieces (IsPage page_size height) kids leaves → Rise leaves
     → (before lower upper : Option Key) (n : ℕ) → AllByRecursion (IsAbove before) leaves → AllByRecursion (IsWithin lower upper) leaves
@@ -137,10 +100,8 @@ kids_keys page_size height (kid ∷ kids) leaves pieces rise before lower upper 
     let same : key ≡ x.key = page.key n ∙ page.first x front refl in
     let rise2 = rise_split (x ∷ front) back (subst Rise e rise) in
     let within2 = all_split (IsWithin lower upper) (x ∷ front) back (subst (AllByRecursion (IsWithin lower upper)) e within) in
-    let above2 = all_split (IsAbove before) (x ∷ front) back (subst (AllByRecursion (IsAbove before)) e above) in
     let rest = kids_keys page_size height kids back more rise2.1 (Some key) lower upper (n + kid.numbers) (above_after x key back same rise2.2.0) within2.1 in
-    key_step before lower upper key (keys_of (map branch_entry (elements_of kids (n + kid.numbers))))
-    (ap (λ (k : Key). is_above before k) same ∙ above2.0.0) (ap (λ (k : Key). is_from lower k) same ∙ within2.0.0.0) (ap (λ (k : Key). is_below upper k) same ∙ within2.0.0.1) rest
+    grind (arith, key_step)
 
 pub branch_content : (node : Node) (s : PageSpot) → node.is_leaf ≡ false → 1 ≤ length node.entries → keys_order_fault None s.lower s.upper (keys_of node.entries) ≡ None → node_finding node s ≡ None
 branch_content node s leaf some keys = let z : (length node.entries == 0) ≡ false = ne_eqb (length node.entries) 0 (λ e. omega arith) in rw (leaf, z, keys) refl
@@ -164,7 +125,7 @@ branch_page page_size height kid kids leaves sized pieces all rise fits = record
       let node : Node = record { is_leaf = false; overflow = run_overflow page_size (kid ∷ kids); entries = map branch_entry (elements_of (kid ∷ kids) n) } in
       let keys = kids_keys page_size height (kid ∷ kids) leaves pieces rise None s.lower s.upper n (above_none leaves) within in
       page_part nodes s node n (n + numbers_of (kid ∷ kids)) same both.1.0 (omega arith) (branch_content node s refl (omega arith) keys)
-      (kids_parts page_size height (kid ∷ kids) leaves pieces rise nodes s n within (omega arith) some (omega arith) both.0) _ (omega arith);
+      (kids_parts page_size height (kid ∷ kids) leaves pieces rise nodes s n (n + numbers_of (kid ∷ kids)) within (omega arith) some refl (omega arith) both.0) _ (omega arith);
 }
 
 -- by the height

@@ -1,6 +1,6 @@
 -- A row as the cut sees it: the keys and sizes of its items decide how the row is cut, and the keys and sizes of the row above.
-use Rattle.std.proofs.Common.{◌≡◌, ◌∙◌, ◌++◌, ◌+◌, ℕ, nat_lt, true, false, List, [], ◌∷◌, length, map, sum_by, refl, sym, ap, inl, inr, arith}
-use Rattle.std.proofs.lemmas.Bool.{cases_Bool}
+use Rattle.std.proofs.Common.{◌≡◌, ◌∙◌, ◌++◌, ◌+◌, ℕ, List, [], ◌∷◌, length, map, sum_by, refl, ap, arith}
+use Rattle.std.proofs.lemmas.Grind.{common_steps}
 use Rattle.std.proofs.lemmas.List.{length-map, map-append}
 use Rattle.std.proofs.lemmas.List.Sums.{sum_by-cons}
 use Rattle.bolt_format.specs.Elements.{BranchElement, LeafElement}
@@ -16,39 +16,20 @@ use Rattle.bolt_layout.specs.declared.layout.Layout.TheVariants.{Plain, Balanced
 -- The cut by a size that a part of each item decides is the cut of these parts.
 pub sum_map : {X Y : Type 0} (f : X → Y) (size : Y → ℕ) (xs : List X) → sum_by size (map f xs) ≡ sum_by (λ x. size (f x)) xs
 sum_map f size [] = refl
-sum_map {X = X} f size (x ∷ xs) =
-    let ih = sum_map f size xs in
-    let a = sum_by-cons size (f x) (map f xs) in
-    let b = sum_by-cons (λ (y : X). size (f y)) x xs in omega arith
+sum_map f size (x ∷ xs) = omega (arith, sum_by-cons, sum_map f size xs)
 
 map_joins : {X Y : Type 0} (f : X → Y) (page_size least : ℕ) (size : Y → ℕ) (run : List X) (next : X)
     → joins page_size least (λ x. size (f x)) run next ≡ joins page_size least size (map f run) (f next)
-map_joins {X = X} {Y = Y} f page_size least size run next =
-    let long = length-map run f in
-    let row : map f (run ++ next ∷ []) ≡ map f run ++ f next ∷ [] = map-append f run (next ∷ []) in
-    let sum : sum_by (λ (x : X). size (f x)) (run ++ next ∷ []) ≡ sum_by size (map f run ++ f next ∷ []) =
-    sym (sum_map f size (run ++ next ∷ [])) ∙ ap (λ (ys : List Y). sum_by size ys) row in
-    rw (long, sum) refl
+map_joins f page_size least size run next = grind (arith, common_steps, length-map, map-append, sum_map)
 
 map_from : {X Y : Type 0} (f : X → Y) (page_size least : ℕ) (size : Y → ℕ) (run items : List X)
     → map (map f) (cut_from page_size least (λ x. size (f x)) run items) ≡ cut_from page_size least size (map f run) (map f items)
 map_from f page_size least size run [] = refl
-map_from {X = X} {Y = Y} f page_size least size run (next ∷ items) =
-    let same = map_joins f page_size least size run next in
-    elim (cases_Bool (joins page_size least (λ (x : X). size (f x)) run next)) [
-      | inl t ↦
-          (let u : joins page_size least size (map f run) (f next) ≡ true = sym same ∙ t in
-          let row : map f (run ++ next ∷ []) ≡ map f run ++ f next ∷ [] = map-append f run (next ∷ []) in
-          rw (t, u) (map_from f page_size least size (run ++ next ∷ []) items ∙ ap (λ (ys : List Y). cut_from page_size least size ys (map f items)) row))
-      | inr t ↦
-          (let u : joins page_size least size (map f run) (f next) ≡ false = sym same ∙ t in
-          rw (t, u) (ap (λ (rs : List (List Y)). map f run ∷ rs) (map_from f page_size least size (next ∷ []) items)))
-    ]
+map_from f page_size least size run (next ∷ items) = grind (arith, common_steps, map_joins, map-append, map_from f page_size least size (run ++ next ∷ []) items, map_from f page_size least size (next ∷ []) items)
 
 pub map_cut : {X Y : Type 0} (f : X → Y) (page_size least : ℕ) (size : Y → ℕ) (items : List X)
     → map (map f) (cut_of page_size least (λ x. size (f x)) items) ≡ cut_of page_size least size (map f items)
-map_cut f page_size least size [] = refl
-map_cut f page_size least size (first ∷ items) = map_from f page_size least size (first ∷ []) items
+map_cut f page_size least size items = grind (arith, map_from)
 
 pub map_last : {X Y : Type 0} (f : X → Y) (runs : List (List X)) → last_length (map (map f) runs) ≡ last_length runs
 map_last f [] = refl
@@ -58,12 +39,7 @@ map_last f (run ∷ next ∷ runs) = map_last f (next ∷ runs)
 map_join : {X Y : Type 0} (f : X → Y) (runs : List (List X)) → map (map f) (join_last runs) ≡ join_last (map (map f) runs)
 map_join f [] = refl
 map_join f (run ∷ []) = refl
-map_join {Y = Y} f (run ∷ next ∷ []) =
-    let long = length-map next f in
-    elim (cases_Bool (nat_lt (length next) 2)) [
-      | inl t ↦ rw (long, t) (ap (λ (ys : List Y). ys ∷ []) (map-append f run next))
-      | inr t ↦ rw (long, t) refl
-    ]
+map_join f (run ∷ next ∷ []) = grind (arith, length-map, map-append)
 map_join {Y = Y} f (run ∷ next ∷ more ∷ runs) = ap (λ (rs : List (List Y)). map f run ∷ rs) (map_join f (next ∷ more ∷ runs))
 
 map_branches : {X Y : Type 0} (f : X → Y) (which : Layout) (page_size : ℕ) (size : Y → ℕ) (items : List X)
@@ -90,16 +66,10 @@ top_key (f ∷ faces) = f.0
 abbrev pub top_face : List Face → Face
 top_face faces = (top_key faces, 16 + length (top_key faces))
 
-over_face : {E : Type 0} (view : ℕ → List E → PageView) (page_size : ℕ) (run : List (Laid E)) → face (page_over view page_size run) ≡ top_face (map face run)
-over_face view page_size [] = refl
-over_face view page_size (item ∷ run) = refl
-
 over_faces : {E : Type 0} (view : ℕ → List E → PageView) (page_size : ℕ) (runs : List (List (Laid E)))
     → map face (map (page_over view page_size) runs) ≡ map top_face (map (map face) runs)
 over_faces view page_size [] = refl
-over_faces view page_size (run ∷ runs) =
-    ap (λ (f : Face). f ∷ map face (map (page_over view page_size) runs)) (over_face view page_size run)
-    ∙ ap (λ (fs : List Face). top_face (map face run) ∷ fs) (over_faces view page_size runs)
+over_faces view page_size (run ∷ runs) = grind (arith, over_faces view page_size runs)
 
 pub leaf_faces : (page_size : ℕ) (items : List (Laid LeafElement)) → map face (leaf_pages page_size items) ≡ map top_face (cut_from page_size 1 face_size [] (map face items))
 leaf_faces page_size items =

@@ -1,15 +1,14 @@
 -- What a file holds can be stored: the tree of a listing that rises, and whose members are held under their paths.
-use Rattle.std.proofs.Common.{◌≡◌, ◌∙◌, ℕ, ◌^◌, ◌<◌, ◌==◌, Bool, true, false, IsTrue, List, [], ◌∷◌, ◌++◌, length, drop, refl, sym, ap, subst, subst₂, inl, inr, arith}
+use Rattle.std.proofs.Common.{◌≡◌, ◌∙◌, ℕ, ◌^◌, ◌<◌, Bool, true, false, IsTrue, List, [], ◌∷◌, ◌++◌, length, drop, refl, sym, ap, subst, subst₂, inl, inr, arith}
 use Rattle.std.specs.List.{Contains}
 use Rattle.std.specs.Ordering.{ordering_then}
 use Rattle.std.specs.declared.cmp.Ordering.{Ordering}
-use Rattle.std.specs.declared.cmp.Ordering.TheVariants.{Less, Equal, Greater}
-use Rattle.std.proofs.lemmas.Bool.{cases_Bool, eqb-true}
+use Rattle.std.specs.declared.cmp.Ordering.TheVariants.{Less, Equal}
 use Rattle.std.proofs.lemmas.List.{same_from_push}
 use Rattle.std.proofs.lemmas.List.Elements.{Contains-append_left, Contains-append_right}
 use Rattle.byteorder.specs.Numbers.{little_from-lt}
 use Rattle.bolt_format.specs.Bytes.{IsBytes, number_at}
-use Rattle.bolt_format.specs.ElementLengths.{HasFitLengths, IsKeyLength, IsValueLength}
+use Rattle.bolt_format.specs.ElementLengths.{HasFitLengths, IsKeyLength}
 use Rattle.bolt_format.specs.Elements.{IsBucketValue, LeafElement, head_root, head_sequence, inline_elements}
 use Rattle.bolt_format.specs.declared.meta.Meta.{Meta}
 use Rattle.bolt_format.proofs.ElementFacts.{drop_bytes, entry_fits, inline_fits, value_bytes}
@@ -42,9 +41,7 @@ rises_right cmp [] ys r = r
 rises_right cmp (x ∷ xs) ys r = rises_right cmp xs ys r.1
 
 only_less : (o : Ordering) → ordering_then o Equal ≡ Less → o ≡ Less
-only_less Less e = refl
-only_less Equal e = absurd (let f : Equal ≡ Less = e in cc)
-only_less Greater e = absurd (let f : Greater ≡ Less = e in cc)
+only_less o e = grind arith
 
 last_less : (front : Path) (j k : Key) → path_cmp (front ++ j ∷ []) (front ++ k ∷ []) ≡ Less → key_cmp j k ≡ Less
 last_less front j k less = only_less (key_cmp j k) (sym (same_front front (j ∷ []) (k ∷ [])) ∙ less)
@@ -93,31 +90,13 @@ inside_rises (with_bucket key sequence inside after) front r =
     let within = rises_left member_cmp deep behind r.1 in
     (keys_rise inside (front ++ key ∷ []) within, inside_rises inside (front ++ key ∷ []) within, inside_rises after front (rises_right member_cmp deep behind r.1))
 
--- What an item says of its element.
-value_is : (e : LeafElement) (value : List ℕ) → item_of e ≡ Value value → e.value ≡ value
-value_is e value is = by e.is_bucket refl
-  where
-    by : (b : Bool) → e.is_bucket ≡ b → e.value ≡ value
-    by true h = absurd (let bad : Bucket (head_sequence e.value) ≡ Value value = (rw h at is) in cc)
-    by false h = let same : Value e.value ≡ Value value = (rw h at is) in cc
-
-sequence_is : (e : LeafElement) (sequence : ℕ) → item_of e ≡ Bucket sequence → (e.is_bucket ≡ true) × (head_sequence e.value ≡ sequence)
-sequence_is e sequence is = by e.is_bucket refl
-  where
-    by : (b : Bool) → e.is_bucket ≡ b → (e.is_bucket ≡ true) × (head_sequence e.value ≡ sequence)
-    by true h = let same : Bucket (head_sequence e.value) ≡ Bucket sequence = (rw h at is) in (h, cc)
-    by false h = absurd (let bad : Value e.value ≡ Bucket sequence = (rw h at is) in cc)
-
 -- A bucket begins at a root page, or in a good value.
 abbrev IsGoodStart : Start → Type 0
 IsGoodStart (Root_page root) = Unit {0}
 IsGoodStart (Inline_page elements) = (value : List ℕ) × IsBucketValue value × (head_root value ≡ 0) × (inline_elements value ≡ elements)
 
 start_good : (value : List ℕ) → IsBucketValue value → IsGoodStart (start_of value)
-start_good value good = elim (cases_Bool (head_root value == 0)) [
-  | inl t ↦ rw t (value, good, eqb-true (head_root value) 0 t, refl)
-  | inr f ↦ rw f tt
-]
+start_good value good = grind arith
 
 -- what the format says of an entry
 pub record IsGoodEntry (e : LeafElement) : Type 0 where
@@ -134,8 +113,7 @@ good_inner value e good root within =
     record { lengths = inline_fits value e good root within; value = λ b. absurd (not_both e.is_bucket flat b); sequence = λ b. absurd (not_both e.is_bucket flat b) }
 
 good_item : (e : LeafElement) (item : Item) → IsGoodEntry e → item_of e ≡ item → IsFitItem item
-good_item e (Value value) good is = subst (λ (j : List ℕ). IsValueLength (length j)) (value_is e value is) good.lengths.value
-good_item e (Bucket sequence) good is = let (b, q) = sequence_is e sequence is in subst (λ (s : ℕ). s < 2 ^ 64) q (sequence_fits e.value (good.sequence b))
+good_item e item good is = grind (arith, sequence_fits)
 
 -- the format can hold its member
 pub good_fits : (path : Path) (e : LeafElement) → IsGoodEntry e → IsFitMember (path ++ e.key ∷ []) (item_of e)
@@ -213,13 +191,8 @@ TreeIsOfItsListing = (tree : Tree) → tree_of (listing_of tree) ≡ tree
 
 pub one_tree : TreeIsOfItsListing → (listing : List Member) → IsFitListing listing → IsOfOneTree listing
 one_tree back listing is =
-    let read : tree_of listing ≡ is.tree = ap tree_of is.lists ∙ back is.tree in
     let storable = fit_storable is.tree (subst (Rises member_cmp) is.lists is.rises) (λ path item h. is.fit path item (subst (λ (ms : List Member). Contains ms (path, item)) (sym is.lists) h)) in
-    record {
-      storable = subst IsStorable (sym read) storable;
-      lists = ap listing_of read ∙ sym is.lists;
-      one = λ other e. sym (back other) ∙ ap tree_of e;
-    }
+    grind arith
 
 abbrev pub ListingIsOfATree : Type 0
 ListingIsOfATree = (file : List ℕ) (meta : Meta) (listing : List Member) → HasSoundTrees file meta → IsListing file meta listing

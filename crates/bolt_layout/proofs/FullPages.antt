@@ -1,29 +1,20 @@
 -- A page is full at 65,534 items, however much of it is left, and so is an inline bucket.
-use Rattle.std.proofs.Common.{◌≡◌, ◌≢◌, ◌∙◌, ℕ, zero, suc, ◌+◌, ◌*◌, ◌/◌, ◌≤◌, ◌&&◌, not, nat_le, Bool, true, false, List, [], ◌∷◌, ◌++◌, length, replicate, sum_by, refl, inr, arith}
-use Rattle.std.proofs.Math.Nat.{suc-mul}
-use Rattle.std.proofs.lemmas.Bool.{lt-leb}
+use Rattle.std.proofs.Common.{◌≡◌, ℕ, zero, suc, ◌+◌, ◌*◌, false, List, [], ◌∷◌, ◌++◌, length, replicate, sum_by, inr, arith}
 use Rattle.std.proofs.lemmas.List.{length-replicate}
 use Rattle.std.proofs.lemmas.List.Sums.{sum_by-cons}
 use Rattle.bolt_format.specs.Elements.{LeafElement}
 use Rattle.bolt_tree.specs.Tree.{Tree}
-use Rattle.bolt_layout.specs.Cut.{cut_of, run_size}
-use Rattle.bolt_layout.specs.Items.{holds_bucket, is_inline}
-use Rattle.bolt_layout.specs.Laid.{Laid, size_of}
-use Rattle.bolt_layout.proofs.OneCut.{IsRunOf, cut_is_one, more_cut, one_cut, single_run}
+use Rattle.bolt_layout.specs.Cut.{cut_of}
+use Rattle.bolt_layout.specs.Items.{is_inline}
+use Rattle.bolt_layout.specs.Laid.{Laid}
+use Rattle.bolt_layout.proofs.OneCut.{IsRunOf, joins_not, runs_cut}
 
 abbrev itself : ℕ → ℕ
 itself x = x
 
 sum_same : (n x : ℕ) → sum_by itself (replicate n x) ≡ n * x
 sum_same zero x = omega arith
-sum_same (suc n) x =
-    let ih = sum_same n x in
-    let s = sum_by-cons itself x (replicate n x) in
-    let m : suc n * x ≡ x + n * x = suc-mul n x ∙ omega arith in omega arith
-
-some_same : (n x : ℕ) → 1 ≤ n → replicate n x ≢ []
-some_same zero x h e = omega arith
-some_same (suc n) x h e = cc
+sum_same (suc n) x = omega (arith, sum_by-cons, sum_same n x)
 
 -- 65,535 items of 20 bytes, at the largest page size
 full_page : (n : ℕ) → n ≡ 65534 → replicate n 20 ∷ (20 ∷ []) ∷ [] ≡ cut_of 33554432 1 itself (replicate n 20 ++ 20 ∷ [])
@@ -31,18 +22,10 @@ full_page n same =
     let items : List ℕ = replicate n 20 in
     let long : length items ≡ n = length-replicate n 20 in
     let sum = sum_same n 20 in
-    let is : IsRunOf 33554432 1 itself items = record { some = some_same n 20 (omega arith); fits = λ more. omega arith; cap = omega arith } in
-    let last = one_cut 33554432 1 itself (20 ∷ []) (single_run 33554432 1 itself 20 (omega arith)) in
-    let cut = more_cut 33554432 1 itself items (20 ∷ []) 20 [] [] is (omega arith) (inr (omega arith)) last in
-    (cut_is_one ℕ 33554432 1 itself (items ++ 20 ∷ []) (items ∷ (20 ∷ []) ∷ []) (omega arith) (omega arith)).0 cut
-
-both_false : (a b : Bool) → (a && (b && false)) ≡ false
-both_false true true = refl
-both_false true false = refl
-both_false false b = refl
+    let is : IsRunOf 33554432 1 itself items = record { some = omega arith; fits = λ more. omega arith; cap = omega arith } in
+    let last : IsRunOf 33554432 1 itself (20 ∷ []) = record { some = omega arith; fits = λ more. omega arith; cap = omega arith } in
+    runs_cut 33554432 1 itself (items ∷ (20 ∷ []) ∷ []) (is, joins_not 33554432 1 itself items 20 (omega arith) (inr (omega arith)), (last, tt, tt))
 
 -- 65,535 items
 full_bucket : (page_size : ℕ) (tree : Tree) (items : List (Laid LeafElement)) → length items ≡ 65535 → is_inline page_size tree items ≡ false
-full_bucket page_size tree items same =
-    let many : nat_le (length items) 65534 ≡ false = lt-leb (length items) 65534 (omega arith) in
-    rw many (both_false (not (holds_bucket tree)) (nat_le (run_size size_of items) (page_size / 4)))
+full_bucket page_size tree items same = grind arith

@@ -1,7 +1,6 @@
 -- How many items are held at one time, at the most: four page sizes for each bucket of a path, and never more than the pages have bytes.
-use Rattle.std.proofs.Common.{◌≡◌, ◌∙◌, ℕ, zero, suc, ◌+◌, ◌*◌, ◌/◌, ◌^◌, ◌<◌, ◌≤◌, Bool, true, false, List, [], ◌∷◌, ◌++◌, length, map, flat_map, max, refl, sym, ap, subst, inl, inr, arith, sum_by}
+use Rattle.std.proofs.Common.{◌≡◌, ◌∙◌, ℕ, zero, suc, ◌+◌, ◌*◌, ◌/◌, ◌^◌, ◌<◌, ◌≤◌, Bool, List, [], ◌∷◌, ◌++◌, length, map, flat_map, max, refl, sym, ap, subst, inl, inr, arith, sum_by}
 use Rattle.std.specs.List.{AllByRecursion}
-use Rattle.std.proofs.Math.Nat.{add-mul, mul-le-mul_left, mul-le-mul_right, pow-suc, suc-mul}
 use Rattle.std.proofs.lemmas.Bool.{cases_lt}
 use Rattle.std.proofs.lemmas.List.{length-append, length-map}
 use Rattle.std.proofs.lemmas.List.Sums.{sum_by-cons}
@@ -14,10 +13,10 @@ use Rattle.bolt_tree.specs.Tree.{Tree, end, listing_below, listing_of, with_buck
 use Rattle.bolt_layout.specs.Cut.{branch_cut, cut_of}
 use Rattle.bolt_layout.specs.Divisions.{IsDivided, IsPageRun}
 use Rattle.bolt_layout.specs.Held.{longest, most_held}
-use Rattle.bolt_layout.specs.Items.{bucket_item, is_inline, items_of, leaf_item, root_of, stored_bucket}
+use Rattle.bolt_layout.specs.Items.{is_inline, items_of, root_of, stored_bucket}
 use Rattle.bolt_layout.specs.Laid.{Laid, held_in, numbers_of, size_of}
-use Rattle.bolt_layout.specs.Layout.{layout_held, layout_mark, layout_of}
-use Rattle.bolt_layout.specs.Levels.{branch_page_view, leaf_level, leaf_page_view, next_level, page_over, root_over, run_overflow, top_in}
+use Rattle.bolt_layout.specs.Layout.{layout_held, layout_of}
+use Rattle.bolt_layout.specs.Levels.{branch_page_view, leaf_level, leaf_page_view, next_level, page_over, root_over, top_in}
 use Rattle.bolt_layout.specs.Storable.{IsStorable}
 use Rattle.bolt_layout.proofs.Cutting.{branches_divide, branches_halve, cut_divides}
 use Rattle.bolt_layout.proofs.ListLemmas.{all_split}
@@ -40,17 +39,11 @@ run_few page_size most (item ∷ run) all = let ih = run_few page_size most run 
 
 run_small : {E : Type 0} (page_size most : ℕ) (run : List (Laid E)) → AllByRecursion (IsHeldBelow page_size most) run → held_in run ≤ numbers_of run * page_size + length run
 run_small page_size most [] all = omega arith
-run_small page_size most (item ∷ run) all =
-    let ih = run_small page_size most run all.1 in
-    let one = all.0.small in
-    let sum = add-mul item.numbers (numbers_of run) page_size in omega arith
+run_small page_size most (item ∷ run) all = omega (arith, run_small page_size most run all.1)
 
 run_sized : {E : Type 0} (page_size most : ℕ) (run : List (Laid E)) → AllByRecursion (IsHeldBelow page_size most) run → 16 * length run ≤ sum_by size_of run
 run_sized page_size most [] all = omega arith
-run_sized {E = E} page_size most (item ∷ run) all =
-    let ih = run_sized page_size most run all.1 in
-    let one = all.0.sized in
-    let e = sum_by-cons (size_of {E = E}) item run in omega arith
+run_sized page_size most (item ∷ run) all = omega (arith, sum_by-cons, run_sized page_size most run all.1)
 
 -- a page has few items
 thin : {E : Type 0} (page_size wide spare most : ℕ) (run : List (Laid E)) → 16 * wide ≤ page_size → spare ≤ 1 → IsPageRun page_size wide spare size_of run → AllByRecursion (IsHeldBelow page_size most) run
@@ -70,13 +63,7 @@ thin {E = E} page_size wide spare most run room one is all =
 -- so the page over a run adds a sixteenth of the page size
 over_held : {E : Type 0} (view : ℕ → List E → PageView) (page_size most : ℕ) (run : List (Laid E)) → 16 * length run ≤ page_size → AllByRecursion (IsHeldBelow page_size most) run
     → IsHeldBelow page_size (most + page_size / 16) (page_over view page_size run)
-over_held view page_size most run room all =
-    let few = run_few page_size most run all in
-    let small = run_small page_size most run all in
-    let further : ℕ = run_overflow page_size run in
-    let own = add-mul 1 further page_size in
-    let sum = add-mul (numbers_of run) (1 + further) page_size in
-    record { sized = omega arith; few = omega arith; small = omega arith }
+over_held view page_size most run room all = grind (arith, run_few, run_small)
 
 -- ---- a level
 
@@ -107,9 +94,7 @@ top_held which page_size (suc steps) (suc k) most (page ∷ other ∷ level) low
     let up = level_held branch_page_view page_size 3 1 most runs pages (omega arith) (omega arith) divided.whole divided.each all in
     let any = runs_some runs pages divided.whole (omega arith) in
     let same = length-map runs (page_over branch_page_view page_size) in
-    let double : 2 ^ suc k ≡ 2 * 2 ^ k = pow-suc 2 k ∙ omega arith in
     let ih = top_held which page_size steps k (most + page_size / 16) (next_level which page_size pages) low up (omega arith) (omega arith) (omega arith) in
-    let more = suc-mul k (page_size / 16) in
     weaker page_size _ _ (top_in which (suc steps) page_size pages) (omega arith) ih
 
 top_numbers : (which : Layout) (page_size steps : ℕ) (level : List (Laid BranchElement)) → length level ≤ suc steps → numbers_of level ≤ (top_in which steps page_size level).numbers
@@ -130,10 +115,7 @@ top_numbers which page_size (suc steps) (page ∷ other ∷ level) fuel =
 
 pub level_numbers : (which : Layout) (page_size : ℕ) (items : List (Laid LeafElement)) → numbers_of (leaf_level page_size items) ≤ (root_over which page_size items).numbers
 unfolding root_over
-level_numbers which page_size [] = omega arith
-level_numbers which page_size (item ∷ items) =
-    let level : List (Laid BranchElement) = leaf_level page_size (item ∷ items) in
-    top_numbers which page_size (length level) level (omega arith)
+level_numbers which page_size items = grind (arith, top_numbers)
 
 items_numbers : (which : Layout) (page_size : ℕ) (items : List (Laid LeafElement)) → numbers_of items ≤ (root_over which page_size items).numbers
 items_numbers which page_size items =
@@ -166,34 +148,22 @@ longest-append : (a b : List Member) → longest (a ++ b) ≡ max (longest a) (l
 longest-append [] b = omega arith
 longest-append (member ∷ a) b = let ih = longest-append a b in omega arith
 
-inline_held : (page_size most : ℕ) (key value : List ℕ) (is_bucket : Bool) → IsHeldBelow page_size most (leaf_item key value is_bucket)
-inline_held page_size most key value is_bucket = record { sized = omega arith; few = omega arith; small = omega arith }
-
-bucket_held : (page_size most : ℕ) (key : List ℕ) (sequence : ℕ) (root : Laid BranchElement) → IsHeldBelow page_size most root → IsHeldBelow page_size most (bucket_item key sequence root)
-bucket_held page_size most key sequence root is = record { sized = omega arith; few = is.few; small = is.small }
-
 stored_held : (which : Layout) (page_size most : ℕ) (key : List ℕ) (sequence : ℕ) (inside : Tree) (items : List (Laid LeafElement)) (after : List (Laid LeafElement)) (b : Bool) → is_inline page_size inside items ≡ b
     → numbers_of (stored_bucket which page_size key sequence inside items ∷ after) ≤ 2 ^ 63
     → ((root_over which page_size items).numbers ≤ 2 ^ 63 → IsHeldBelow page_size most (root_over which page_size items))
     → IsHeldBelow page_size most (stored_bucket which page_size key sequence inside items) × (numbers_of after ≤ 2 ^ 63)
-stored_held which page_size most key sequence inside items after true e room root = rw e (inline_held page_size most key _ true, omega arith)
-stored_held which page_size most key sequence inside items after false e room root =
-    let within : (root_over which page_size items).numbers + numbers_of after ≤ 2 ^ 63 = rw e at room in
-    rw e (bucket_held page_size most key sequence (root_over which page_size items) (root (omega arith)), omega arith)
+stored_held which page_size most key sequence inside items after b e room root = grind arith
 
 -- each item, where no path below is longer than so many parts more
 tree_held : (which : Layout) (page_size deep : ℕ) (path : Path) (tree : Tree) → 64 ≤ page_size → numbers_of (items_of which page_size tree) ≤ 2 ^ 63 → longest (listing_below path tree) ≤ length path + deep
     → AllByRecursion (IsHeldBelow page_size (4 * page_size * deep)) (items_of which page_size tree)
 tree_held which page_size deep path end low room short = tt
-tree_held which page_size deep path (with_value key value after) low room short =
-    (inline_held page_size _ key value false, tree_held which page_size deep path after low (omega arith) (omega arith))
-tree_held which page_size zero path (with_bucket key sequence inside after) low room short =
-    let l = length-append path (key ∷ []) in absurd (omega arith)
+tree_held which page_size deep path (with_value key value after) low room short = grind (arith, tree_held which page_size deep path after low (omega arith) (omega arith))
+tree_held which page_size zero path (with_bucket key sequence inside after) low room short = grind (arith, length-append)
 tree_held which page_size (suc deep) path (with_bucket key sequence inside after) low room short =
     let l = length-append path (key ∷ []) in
     let both = longest-append (listing_below (path ++ key ∷ []) inside) (listing_below path after) in
     let items : List (Laid LeafElement) = items_of which page_size inside in
-    let more : 4 * page_size * suc deep ≡ 4 * page_size * deep + 4 * page_size = omega arith in
     let root : (root_over which page_size items).numbers ≤ 2 ^ 63 → IsHeldBelow page_size (4 * page_size * suc deep) (root_over which page_size items) =
     λ within. (
     let numbers = items_numbers which page_size items in
@@ -210,7 +180,6 @@ whole_held which page_size tree low room =
     let numbers = items_numbers which page_size items in
     let deep : ℕ = longest (listing_of tree) in
     let below = tree_held which page_size deep [] tree low (omega arith) (omega arith) in
-    let more : 4 * page_size * (1 + deep) ≡ 4 * page_size * deep + 4 * page_size = omega arith in
     weaker page_size _ _ (root_over which page_size items) (omega arith) (root_held which page_size (4 * page_size * deep) items low below room)
 
 held_bounded : (which : Layout) (page_size : ℕ) (tree : Tree) → 64 ≤ page_size → (root_of which page_size tree).numbers ≤ 2 ^ 63 → (root_of which page_size tree).held ≤ most_held page_size (listing_of tree)
@@ -222,20 +191,12 @@ held_small which page_size tree low room = (whole_held which page_size tree low 
 -- of a layout of fewer than 2^63 bytes
 layout_small : (which : Layout) (page_size : ℕ) (tree : Tree) (sequence : ℕ) → IsPageSize page_size → IsStorable tree → length (layout_of which page_size tree sequence) < 2 ^ 63
     → (64 ≤ page_size) × ((root_of which page_size tree).numbers ≤ 2 ^ 63) × ((root_of which page_size tree).numbers * page_size ≤ length (layout_of which page_size tree sequence))
-layout_small which page_size tree sequence size storable short =
-    let exact = layout_length which page_size tree sequence size storable in
-    let bounds = size_bounds page_size size in
-    let wide : layout_mark which page_size tree * 1 ≤ layout_mark which page_size tree * page_size = mul-le-mul_left (layout_mark which page_size tree) (omega arith) in
-    let below : (root_of which page_size tree).numbers * page_size ≤ layout_mark which page_size tree * page_size = mul-le-mul_right page_size (omega arith) in
-    (omega arith, omega arith, omega arith)
+layout_small which page_size tree sequence size storable short = grind (arith, layout_length, size_bounds)
 
 pub layout_bounded : (which : Layout) (page_size : ℕ) (tree : Tree) (sequence : ℕ) → IsPageSize page_size → IsStorable tree → length (layout_of which page_size tree sequence) < 2 ^ 63
     → layout_held which page_size tree ≤ most_held page_size (listing_of tree)
-layout_bounded which page_size tree sequence size storable short =
-    let (low, room, bytes) = layout_small which page_size tree sequence size storable short in held_bounded which page_size tree low room
+layout_bounded which page_size tree sequence size storable short = grind (arith, layout_small, held_bounded)
 
 pub layout_fewer : (which : Layout) (page_size : ℕ) (tree : Tree) (sequence : ℕ) → IsPageSize page_size → IsStorable tree → length (layout_of which page_size tree sequence) < 2 ^ 63
     → layout_held which page_size tree ≤ length (layout_of which page_size tree sequence)
-layout_fewer which page_size tree sequence size storable short =
-    let (low, room, bytes) = layout_small which page_size tree sequence size storable short in
-    let small = held_small which page_size tree low room in omega arith
+layout_fewer which page_size tree sequence size storable short = omega (arith, layout_small, held_small)

@@ -1,30 +1,19 @@
 -- The entries of a bucket whose pages were placed: the elements of its items, in order.
-use Rattle.std.proofs.Common.{◌≡◌, ◌∙◌, ℕ, zero, suc, ◌+◌, ◌≤◌, List, [], ◌∷◌, ◌++◌, Option, Some, slice_get, refl, sym, ap, subst, inl, inr, arith}
+use Rattle.std.proofs.Common.{◌≡◌, ◌∙◌, ℕ, zero, suc, ◌+◌, ◌≤◌, List, [], ◌∷◌, ◌++◌, Option, Some, slice_get, refl, sym, subst, inl, inr, arith}
 use Rattle.std.specs.List.{AllByRecursion, Contains}
 use Rattle.std.proofs.lemmas.List.Elements.{Contains-append_cases, Contains-append_left, Contains-append_right}
 use Rattle.bolt_format.specs.Elements.{BranchElement, LeafElement}
 use Rattle.bolt_format.specs.Pages.{PageView, page_at}
-use Rattle.bolt_format.specs.declared.kind.Kind.{Kind}
 use Rattle.bolt_format.specs.declared.kind.Kind.TheVariants as kind
 use Rattle.bolt_format.specs.declared.meta.Meta.{Meta}
 use Rattle.bolt_check.specs.Nodes.{node_at}
 use Rattle.bolt_check.proofs.TreePages.{branch_step, leads_child, leaf_ends, node_is}
 use Rattle.bolt_tree.specs.Entries.{IsEntry, Root_page}
-use Rattle.bolt_tree.proofs.Lists.{contains_none}
 use Rattle.bolt_layout.specs.Laid.{Laid, Placed, elements_of, numbers_of, pages_of}
 use Rattle.bolt_layout.specs.Levels.{branch_page_view, leaf_page_view, page_over, run_overflow}
 use Rattle.bolt_layout.proofs.LaidPages.{limit}
 use Rattle.bolt_layout.proofs.ListLemmas.{all_split}
 use Rattle.bolt_layout.proofs.OverRows.{IsOver, Pieces}
-
-same_number : (a b : ℕ) → ◌≡◌ {A = Option ℕ} (Some a) (Some b) → a ≡ b
-same_number a b e = cc
-
-same_view : (a b : PageView) → ◌≡◌ {A = Option PageView} (Some a) (Some b) → a ≡ b
-same_view a b e = cc
-
-no_leaf : (k : Kind) → kind.Branch ≡ k → k ≡ kind.Leaf → ⊥
-no_leaf k e h = cc
 
 module _ (file : List ℕ) (meta : Meta) where
   -- these pages are shown
@@ -60,10 +49,7 @@ module _ (file : List ℕ) (meta : Meta) where
 
   leaf_entry : (number further : ℕ) (es : List LeafElement) → page_at file meta number ≡ Some (leaf_page_view further es) → (e : LeafElement)
       → IsEntry file meta (Root_page number) e → Contains es e
-  leaf_entry number further es shown e ([], m, leading, (view, seen, is, has)) =
-      let at : number ≡ m = same_number number m leading in
-      let same : leaf_page_view further es ≡ view = same_view (leaf_page_view further es) view (sym shown ∙ (ap (page_at file meta) at ∙ seen)) in
-      subst (λ (v : PageView). Contains v.leaves e) (sym same) has
+  leaf_entry number further es shown e ([], m, leading, (view, seen, is, has)) = grind arith
   leaf_entry number further es shown e (i ∷ address, m, leading, shows) =
       absurd (leaf_ends (node_at file meta) number i m (leaf_page_view further es) address (node_is file meta number (leaf_page_view further es) kind.Leaf shown refl) leading)
 
@@ -73,10 +59,7 @@ module _ (file : List ℕ) (meta : Meta) where
 
   branch_below : (number further : ℕ) (elements : List BranchElement) → page_at file meta number ≡ Some (branch_page_view further elements) → (e : LeafElement)
       → IsEntry file meta (Root_page number) e → IsBelowKid elements e
-  branch_below number further elements shown e ([], m, leading, (view, seen, is, has)) =
-      let at : number ≡ m = same_number number m leading in
-      let same : branch_page_view further elements ≡ view = same_view (branch_page_view further elements) view (sym shown ∙ (ap (page_at file meta) at ∙ seen)) in
-      absurd (no_leaf view.kind (ap (λ (v : PageView). v.kind) same) is)
+  branch_below number further elements shown e ([], m, leading, (view, seen, is, has)) = grind arith
   branch_below number further elements shown e (i ∷ address, m, leading, shows) =
       let view : PageView = branch_page_view further elements in
       let node = node_is file meta number view kind.Branch shown refl in
@@ -96,16 +79,8 @@ module _ (file : List ℕ) (meta : Meta) where
     each : (e : LeafElement) → IsBelowKid elements e → Contains es e
     all : (e : LeafElement) → Contains es e → IsBelowKid elements e
 
-  no_kid : (i : ℕ) (kid : BranchElement) → slice_get [] i ≡ Some kid → ⊥
-  no_kid i kid e = cc
-
   no_kids : KidsHold [] []
-  no_kids = record {
-    es = [];
-    are = tt;
-    each = λ e below. let (i, kid, at, more) = below in absurd (no_kid i kid at);
-    all = λ e has. absurd (contains_none e has);
-  }
+  no_kids = grind arith
 
   same_kid : (a b : BranchElement) → ◌≡◌ {A = Option BranchElement} (Some a) (Some b) → a ≡ b
   same_kid a b e = cc
@@ -173,8 +148,7 @@ module _ (file : List ℕ) (meta : Meta) where
 
   -- the page over a row holds the elements of its items
   pub over_holds : (page_size height : ℕ) (page : Laid BranchElement) (leaves : List (Laid LeafElement)) → IsOver page_size height page leaves → HoldsPage page leaves
-  over_holds page_size zero page leaves o =
-      let (e, fits) = o in subst (λ (p : Laid BranchElement). HoldsPage p leaves) (sym e) (leaf_holds page_size leaves)
+  over_holds page_size zero page leaves o = grind (arith, leaf_holds)
   over_holds page_size (suc height) page leaves o =
       let (kid, kids, e, fits, pieces) = o in
       subst (λ (p : Laid BranchElement). HoldsPage p leaves) (sym e) (branch_holds page_size height (over_holds page_size height) (kid ∷ kids) leaves pieces)

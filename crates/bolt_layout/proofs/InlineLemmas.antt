@@ -21,8 +21,7 @@ pub record IsFlat (e : LeafElement) : Type 0 where
 
 flat_fits : (bucket_fault : List ℕ → Option ℕ) (es : List LeafElement) → AllByRecursion IsFlat es → AllByRecursion (IsLeafFit bucket_fault) es
 flat_fits bucket_fault [] h = tt
-flat_fits bucket_fault (e ∷ es) h =
-    (record { some = h.0.some; key = h.0.key; value = h.0.value; bucket = λ b. absurd (let f = h.0.flat in let t : true ≡ false = sym b ∙ f in cc) }, flat_fits bucket_fault es h.1)
+flat_fits bucket_fault (e ∷ es) h = grind (arith, flat_fits bucket_fault es h.1)
 
 -- none of the elements that are read is a bucket
 no_bucket_in : (bytes : List ℕ) (from n : ℕ) (es : List LeafElement) → map (leaf_element bytes) (range_with_len from n) ≡ es → AllByRecursion IsFlat es

@@ -12,9 +12,6 @@ use Rattle.bolt_layout.specs.Laid.{Laid}
 pub lt_not : (a b : Key) → key_lt a b ≡ true → key_lt b a ≡ false
 lt_not a b h = elim (cases_Bool (key_lt b a)) [ inl t ↦ absurd (lt_strict a b h t) | inr f ↦ f ]
 
-pub lt_irreflexive : (a : Key) → key_lt a a ≡ false
-lt_irreflexive a = elim (cases_Bool (key_lt a a)) [ inl t ↦ absurd (lt_strict a a t t) | inr f ↦ f ]
-
 -- items whose keys rise
 abbrev pub IsBelowItem : Laid LeafElement → Laid LeafElement → Type 0
 IsBelowItem x y = key_lt x.key y.key ≡ true

@@ -1,19 +1,19 @@
 -- What holds of a leaf item, and of a row of them: they are read back, and have room on their page.
-use Rattle.std.proofs.Common.{◌≡◌, ℕ, ◌+◌, ◌*◌, ◌<◌, ◌≤◌, List, [], ◌∷◌, ◌++◌, length, refl, ap, inl, arith, sum_by}
+use Rattle.std.proofs.Common.{◌≡◌, ℕ, ◌+◌, ◌*◌, ◌<◌, ◌≤◌, List, [], ◌∷◌, length, refl, arith, sum_by}
+use Rattle.std.proofs.lemmas.Grind.{common_steps}
 use Rattle.std.specs.List.{AllByRecursion}
 use Rattle.std.proofs.lemmas.List.{length-append}
 use Rattle.std.proofs.lemmas.List.Sums.{sum_by-cons}
 use Rattle.bolt_format.specs.Elements.{LeafElement, value_fault}
 use Rattle.bolt_check.specs.Nodes.{Nodes, leaf_entry}
-use Rattle.bolt_check.specs.Ways.{bucket_spots}
-use Rattle.bolt_layout.specs.Cut.{run_size}
+use Rattle.bolt_check.specs.Ways.{bucket_spots, follow}
 use Rattle.bolt_layout.specs.PageBytes.{leaf_data}
 use Rattle.bolt_layout.proofs.LeafLemmas.{IsLeafFit}
 use Rattle.bolt_layout.proofs.OverRows.{IsRun}
-use Rattle.bolt_layout.proofs.Parts.{IsPartOrNone}
+use Rattle.bolt_layout.proofs.Parts.{IsPart}
 use Rattle.bolt_layout.proofs.PageRows.{HasRoom, IsPageFit, leaf_room, overflow_room, overflow_small}
 use Rattle.bolt_layout.specs.Laid.{Laid, elements_of, numbers_of, size_of}
-use Rattle.bolt_layout.specs.Levels.{leaf_page_view, run_overflow}
+use Rattle.bolt_layout.specs.Levels.{leaf_page_view}
 use Rattle.bolt_layout.proofs.LaidPages.{AreNodes, HasPages, limit, own_page}
 
 -- What holds of a leaf item.
@@ -26,7 +26,7 @@ pub record IsItem (page_size : ℕ) (item : Laid LeafElement) : Type 0 where
   pub size : (n : ℕ) → item.size ≡ 16 + (length item.key + length (item.element n).value)
   pub fit : (n : ℕ) → 1 ≤ n → n + item.numbers ≤ limit → IsLeafFit value_fault (item.element n)
   pub part : (nodes : Nodes) (n host : ℕ) → 1 ≤ n → n + item.numbers ≤ limit → AreNodes nodes (item.pages n)
-      → IsPartOrNone nodes (bucket_spots host (leaf_entry (item.element n))) n (n + item.numbers)
+      → IsPart nodes (follow nodes (bucket_spots host (leaf_entry (item.element n)))) n (n + item.numbers)
 
 pub length-elements : {E : Type 0} (items : List (Laid E)) (n : ℕ) → length (elements_of items n) ≡ length items
 length-elements [] n = refl
@@ -40,37 +40,11 @@ items_fit page_size (item ∷ items) all n some h = (all.0.fit n some (omega ari
 pub items_size : (page_size : ℕ) (items : List (Laid LeafElement)) → AllByRecursion (IsItem page_size) items → (n : ℕ)
     → sum_by size_of items ≡ 16 * length (elements_of items n) + length (leaf_data (elements_of items n))
 items_size page_size [] all n = refl
-items_size page_size (item ∷ items) all n =
-    let ih = items_size page_size items all.1 (n + item.numbers) in
-    let e = item.element n in
-    let s = sum_by-cons (size_of {E = LeafElement}) item items in
-    let k : length e.key ≡ length item.key = ap (λ (x : List ℕ). length x) (all.0.key n) in
-    let z = all.0.size n in
-    let d = length-append e.key (e.value ++ leaf_data (elements_of items (n + item.numbers))) in
-    let d2 = length-append e.value (leaf_data (elements_of items (n + item.numbers))) in omega arith
+items_size page_size (item ∷ items) all n = grind (arith, common_steps, sum_by-cons, length-append, items_size page_size items all.1 (n + item.numbers))
 
 pub leaf_own_room : (page_size : ℕ) (run : List (Laid LeafElement)) → 0 < page_size → AllByRecursion (IsItem page_size) run → (n : ℕ) → HasRoom page_size (own_page leaf_page_view page_size run n)
-leaf_own_room page_size run sized all n =
-    let size = items_size page_size run all n in
-    let room = overflow_room page_size (run_size size_of run) sized (omega arith) in
-    leaf_room page_size (n + numbers_of run) (run_overflow page_size run) (elements_of run n) (omega arith)
+leaf_own_room page_size run sized all n = grind (arith, items_size, overflow_room, leaf_room)
 
 pub leaf_own : (page_size : ℕ) (run : List (Laid LeafElement)) → 0 < page_size → AllByRecursion (IsItem page_size) run → IsRun run → (n : ℕ) → 1 ≤ n → n + numbers_of run < limit
     → IsPageFit page_size (own_page leaf_page_view page_size run n)
-leaf_own page_size run sized all fits n some h =
-    let size = items_size page_size run all n in
-    let long = length-elements run n in
-    let few = fits.few in
-    let small = fits.small in
-    let room = overflow_room page_size (run_size size_of run) sized (omega arith) in
-    let narrow = overflow_small page_size (run_size size_of run) in
-    inl (record {
-      es = elements_of run n;
-      further = run_overflow page_size run;
-      is = refl;
-      few = omega arith;
-      room = omega arith;
-      small = omega arith;
-      narrow = omega arith;
-      fits = items_fit page_size run all n some (omega arith);
-    })
+leaf_own page_size run sized all fits n some h = grind (arith, items_size, length-elements, overflow_room, overflow_small, items_fit)

@@ -1,5 +1,5 @@
 -- The pages below a row of items stand in a row and have room, and so do they with the page over the items.
-use Rattle.std.proofs.Common.{◌≡◌, ℕ, ◌+◌, ◌^◌, ◌<◌, ◌≤◌, List, [], ◌∷◌, refl, subst, arith}
+use Rattle.std.proofs.Common.{◌≡◌, ℕ, ◌+◌, ◌^◌, ◌<◌, ◌≤◌, List, [], ◌∷◌, refl, arith}
 use Rattle.std.specs.List.{AllByRecursion}
 use Rattle.bolt_format.specs.Pages.{PageView}
 use Rattle.bolt_check.specs.Nodes.{Nodes, node_of}
@@ -21,24 +21,16 @@ pub record HasPages {E : Type 0} (page_size : ℕ) (item : Laid E) : Type 0 wher
 items_row : {E : Type 0} (page_size : ℕ) (items : List (Laid E)) → AllByRecursion (HasPages page_size) items → (n : ℕ)
     → IsInARow n (pages_of items n) (n + numbers_of items)
 items_row page_size [] all n = omega arith
-items_row page_size (item ∷ items) all n =
-    let first = all.0.row n in
-    let rest = items_row page_size items all.1 (n + item.numbers) in
-    let e : n + item.numbers + numbers_of items ≡ n + numbers_of (item ∷ items) = omega arith in
-    row_append n (n + item.numbers) (n + numbers_of (item ∷ items)) (item.pages n) (pages_of items (n + item.numbers)) first
-    (subst (λ (m : ℕ). IsInARow (n + item.numbers) (pages_of items (n + item.numbers)) m) e rest)
+items_row page_size (item ∷ items) all n = grind (arith, row_append, items_row page_size items all.1 (n + item.numbers))
 
 items_room : {E : Type 0} (page_size : ℕ) (items : List (Laid E)) → AllByRecursion (HasPages page_size) items → (n : ℕ) → AllByRecursion (HasRoom page_size) (pages_of items n)
 items_room page_size [] all n = tt
-items_room page_size (item ∷ items) all n =
-    all_append (HasRoom page_size) (item.pages n) (pages_of items (n + item.numbers)) (all.0.room n) (items_room page_size items all.1 (n + item.numbers))
+items_room page_size (item ∷ items) all n = grind (arith, all_append, items_room page_size items all.1 (n + item.numbers))
 
 items_fit : {E : Type 0} (page_size : ℕ) (items : List (Laid E)) → AllByRecursion (HasPages page_size) items → (n : ℕ) → 1 ≤ n → n + numbers_of items ≤ limit
     → AllByRecursion (IsPageFit page_size) (pages_of items n)
 items_fit page_size [] all n some h = tt
-items_fit page_size (item ∷ items) all n some h =
-    all_append (IsPageFit page_size) (item.pages n) (pages_of items (n + item.numbers)) (all.0.fits n some (omega arith))
-    (items_fit page_size items all.1 (n + item.numbers) (omega arith) (omega arith))
+items_fit page_size (item ∷ items) all n some h = grind (arith, all_append, items_fit page_size items all.1 (n + item.numbers) (omega arith) (omega arith))
 
 -- and so do they with the page over the items
 abbrev pub own_page : {E : Type 0} → (ℕ → List E → PageView) → (page_size : ℕ) → List (Laid E) → ℕ → Placed
@@ -51,7 +43,6 @@ pub page_has : {E : Type 0} (page_size : ℕ) (view : ℕ → List E → PageVie
     → HasPages page_size (page_over view page_size run)
 page_has page_size view run all over own_room own_fits = record {
   row = λ n.
-      let same = over (run_overflow page_size run) (elements_of run n) in
       row_append n (n + numbers_of run) _ (pages_of run n) _ (items_row page_size run all n) (refl, omega arith);
   room = λ n. all_append (HasRoom page_size) (pages_of run n) _ (items_room page_size run all n) (own_room n, tt);
   fits = λ n some h. all_append (IsPageFit page_size) (pages_of run n) _ (items_fit page_size run all n some (omega arith)) (own_fits n some (omega arith), tt);

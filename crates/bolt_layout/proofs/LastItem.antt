@@ -1,9 +1,9 @@
 -- The end of a cut: what one more item at the end of the row changes, and what joining the last run does.
-use Rattle.std.proofs.Common.{◌≡◌, ◌∙◌, ◌⊎◌, ◌++◌, ◌≤◌, ℕ, suc, nat_lt, true, false, List, [], ◌∷◌, length, map, refl, sym, ap, inl, inr, arith}
+use Rattle.std.proofs.Common.{◌≡◌, ◌⊎◌, ◌++◌, ◌≤◌, ℕ, suc, nat_lt, true, false, List, [], ◌∷◌, length, map, refl, sym, ap, inl, inr, arith}
 use Rattle.std.specs.List.{AllByRecursion}
-use Rattle.std.proofs.lemmas.Bool.{cases_Bool, le-ltb, lt-ltb, ltb-false, or_parts}
+use Rattle.std.proofs.lemmas.Bool.{le-ltb, lt-ltb}
 use Rattle.std.proofs.lemmas.List.{length_push}
-use Rattle.bolt_layout.specs.Cut.{cut_from, cut_of, join_last, joins}
+use Rattle.bolt_layout.specs.Cut.{cut_from, cut_of, join_last}
 use Rattle.bolt_layout.specs.Limits.{last_length}
 
 -- the runs with one more item in the last
@@ -22,48 +22,25 @@ IsPushed runs x more = (more ≡ push_last runs x) ⊎ ((more ≡ runs ++ (x ∷
 -- A row that has begun has a run.
 pub some_runs : {X : Type 0} (page_size least : ℕ) (size : X → ℕ) (run items : List X) → 1 ≤ length (cut_from page_size least size run items)
 some_runs page_size least size run [] = omega arith
-some_runs page_size least size run (next ∷ items) = elim (cases_Bool (joins page_size least size run next)) [
-  | inl t ↦ rw t (some_runs page_size least size (run ++ next ∷ []) items)
-  | inr f ↦ rw f (omega arith)
-]
-
--- A run that ends has as many items as it needs.
-pub ended_long : {X : Type 0} (page_size least : ℕ) (size : X → ℕ) (run : List X) (next : X) → joins page_size least size run next ≡ false → least ≤ length run
-ended_long page_size least size run next f = ltb-false (length run) least (or_parts (nat_lt (length run) least) _ f).0
+some_runs page_size least size run (next ∷ items) = grind (arith, some_runs page_size least size (run ++ next ∷ []) items)
 
 pub last_behind : {X : Type 0} (run : List X) (runs : List (List X)) → 1 ≤ length runs → last_length (run ∷ runs) ≡ last_length runs
-last_behind run [] some = absurd (omega arith)
-last_behind run (next ∷ runs) some = refl
-
-pushed_behind : {X : Type 0} (run : List X) (runs more : List (List X)) (x : X) → 1 ≤ length runs → IsPushed runs x more → IsPushed (run ∷ runs) x (run ∷ more)
-pushed_behind run [] more x some is = absurd (omega arith)
-pushed_behind {X = X} run (next ∷ runs) more x some (inl e) = inl (ap (λ (rs : List (List X)). run ∷ rs) e)
-pushed_behind {X = X} run (next ∷ runs) more x some (inr is) = inr (ap (λ (rs : List (List X)). run ∷ rs) is.0, is.1)
+last_behind run runs some = grind arith
 
 pushed_from : {X : Type 0} (page_size : ℕ) (size : X → ℕ) (run items : List X) (x : X)
     → IsPushed (cut_from page_size 2 size run items) x (cut_from page_size 2 size run (items ++ x ∷ []))
-pushed_from page_size size run [] x = elim (cases_Bool (joins page_size 2 size run x)) [
-  | inl t ↦ rw t (inl refl)
-  | inr f ↦ rw f (inr (refl, ended_long page_size 2 size run x f))
-]
-pushed_from page_size size run (next ∷ items) x = elim (cases_Bool (joins page_size 2 size run next)) [
-  | inl t ↦ rw t (pushed_from page_size size (run ++ next ∷ []) items x)
-  | inr f ↦ rw f (pushed_behind run (cut_from page_size 2 size (next ∷ []) items) _ x (some_runs page_size 2 size (next ∷ []) items) (pushed_from page_size size (next ∷ []) items x))
-]
+pushed_from page_size size run [] x = grind arith
+pushed_from page_size size run (next ∷ items) x = grind (arith, pushed_from page_size size (run ++ next ∷ []) items x, pushed_from page_size size (next ∷ []) items x)
 
 pub cut_pushed : {X : Type 0} (page_size : ℕ) (size : X → ℕ) (items : List X) (x : X) → 1 ≤ length items
     → IsPushed (cut_of page_size 2 size items) x (cut_of page_size 2 size (items ++ x ∷ []))
-cut_pushed page_size size [] x some = absurd (omega arith)
-cut_pushed page_size size (first ∷ items) x some = pushed_from page_size size (first ∷ []) items x
+cut_pushed page_size size items x some = grind (arith, pushed_from)
 
 -- How many runs there are then, and how many items are in the last.
 pub push_counts : {X : Type 0} (runs : List (List X)) (x : X) → 1 ≤ length runs → (length (push_last runs x) ≡ length runs) × (last_length (push_last runs x) ≡ suc (last_length runs))
 push_counts [] x some = absurd (omega arith)
 push_counts (run ∷ []) x some = let l = length_push run x in (refl, omega arith)
-push_counts (run ∷ next ∷ runs) x some =
-    let ih = push_counts (next ∷ runs) x (omega arith) in
-    let l = last_behind run (push_last (next ∷ runs) x) (let n = ih.0 in omega arith) in
-    (ap suc ih.0, l ∙ ih.1)
+push_counts (run ∷ next ∷ runs) x some = grind (arith, push_counts (next ∷ runs) x (omega arith))
 
 pub last_append : {X : Type 0} (runs : List (List X)) (run : List X) → last_length (runs ++ run ∷ []) ≡ length run
 last_append [] run = refl
@@ -85,9 +62,7 @@ join_none {X = X} (run ∷ next ∷ more ∷ runs) (inl two) = ap (λ (rs : List
 join_none (run ∷ next ∷ more ∷ runs) (inr one) = absurd (omega arith)
 
 pub join_behind : {X : Type 0} (run : List X) (runs : List (List X)) → 2 ≤ length runs → join_last (run ∷ runs) ≡ run ∷ join_last runs
-join_behind run [] two = absurd (omega arith)
-join_behind run (next ∷ []) two = absurd (omega arith)
-join_behind run (next ∷ more ∷ runs) two = refl
+join_behind run runs two = grind arith
 
 -- What is made of each run's front alone doesn't change when an item joins the last run,
 abbrev pub IsOfFront : {X Y : Type 0} → (List X → Y) → Type 0
@@ -107,6 +82,4 @@ join_tops top front (run ∷ []) all one two = absurd (omega arith)
 join_tops {Y = Y} top front (run ∷ next ∷ []) all one two =
     let t : nat_lt (length next) 2 ≡ true = lt-ltb (length next) 2 (omega arith) in
     (top next, rw t (ap (λ (y : Y). y ∷ top next ∷ []) (sym (front run next all.0))))
-join_tops {Y = Y} top front (run ∷ next ∷ more ∷ runs) all one two =
-    let (y, e) = join_tops top front (next ∷ more ∷ runs) all.1 one (omega arith) in
-    (y, ap (λ (ys : List Y). top run ∷ ys) e)
+join_tops top front (run ∷ next ∷ more ∷ runs) all one two = grind (arith, join_tops top front (next ∷ more ∷ runs) all.1 one (omega arith))

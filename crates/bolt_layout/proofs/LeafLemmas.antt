@@ -1,9 +1,10 @@
 -- The elements of a leaf page that was written are read back, and pass their tests.
-use Rattle.std.proofs.Common.{◌≡◌, ◌∙◌, ℕ, suc, ◌+◌, ◌-◌, ◌*◌, ◌<◌, ◌≤◌, ◌==◌, nat_lt, Bool, true, false, cond, List, [], ◌∷◌, ◌++◌, length, map, drop, take, Option, None, refl, sym, ap, arith, append_assoc, add-one}
-use Rattle.std.specs.List.{AllByRecursion, range_with_len, slice_range}
-use Rattle.std.proofs.lemmas.Bool.{le-ltb, ne_eqb}
+use Rattle.std.proofs.Common.{◌≡◌, ◌∙◌, ℕ, suc, ◌+◌, ◌-◌, ◌*◌, ◌<◌, ◌≤◌, nat_lt, Bool, true, false, cond, List, [], ◌∷◌, ◌++◌, length, map, drop, Option, None, refl, sym, ap, arith, append_assoc, add-one}
+use Rattle.std.proofs.lemmas.Grind.{common_steps}
+use Rattle.std.specs.List.{AllByRecursion, range_with_len}
+use Rattle.std.proofs.lemmas.Bool.{le-ltb}
 use Rattle.std.proofs.lemmas.List.{length-append}
-use Rattle.bolt_format.specs.Elements.{LeafElement, leaf_elements, leaves_fault, table_fault, data_fault, element_at, faults_from, is_bucket_at, key_length_fault, leaf_element, leaf_end, leaf_fault, leaf_flags, leaf_flags_fault, leaf_key_length, leaf_key_start, leaf_value, leaf_value_length, leaf_value_start, plain_leaf_fault, value_length_fault}
+use Rattle.bolt_format.specs.Elements.{LeafElement, leaf_elements, leaves_fault, table_fault, data_fault, element_at, faults_from, key_length_fault, leaf_element, leaf_end, leaf_fault, leaf_flags_fault, leaf_key_start, plain_leaf_fault, value_length_fault}
 use Rattle.bolt_format.proofs.FaultLemmas.{first_of-both}
 use Rattle.bolt_format.specs.Written.{leaf_flag, leaf_header}
 use Rattle.bolt_layout.specs.PageBytes.{leaf_bytes, leaf_headers, leaf_data, key_pos}
@@ -20,27 +21,19 @@ pub record IsLeafFit (bucket_fault : List ℕ → Option ℕ) (e : LeafElement) 
 
 -- its tests
 flags_pass : (b : Bool) → leaf_flags_fault (leaf_flag b) ≡ None
-flags_pass true = refl
-flags_pass false = refl
+flags_pass b = grind arith
 
 pub key_passes : (n : ℕ) → 1 ≤ n → n ≤ 0x40000000 → key_length_fault n ≡ None
-key_passes n some most =
-    let a : (n == 0) ≡ false = ne_eqb n 0 (λ e. omega arith) in
-    let b : nat_lt 0x40000000 n ≡ false = le-ltb 0x40000000 n most in
-    rw (a, b) refl
+key_passes n some most = grind arith
 
 value_passes : (n : ℕ) → n ≤ 0x7FFFFFFE → value_length_fault n ≡ None
 value_passes n most = let b : nat_lt 0x7FFFFFFE n ≡ false = le-ltb 0x7FFFFFFE n most in rw b refl
 
 pub data_passes : (bytes : List ℕ) (free start end : ℕ) → free ≤ start → end ≤ length bytes → data_fault bytes free start end ≡ None
-data_passes bytes free start end first last =
-    let a : nat_lt start free ≡ false = le-ltb start free first in
-    let b : nat_lt (length bytes) end ≡ false = le-ltb (length bytes) end last in
-    rw (a, b) refl
+data_passes bytes free start end first last = grind arith
 
 chosen_none : (b : Bool) (fault : Option ℕ) → (b ≡ true → fault ≡ None) → cond b fault None ≡ None
-chosen_none true fault h = h refl
-chosen_none false fault h = refl
+chosen_none b fault h = grind arith
 
 -- What is known of element i: it is e, its data ends there, and after `free` it passes.
 record IsLeafRead (bucket_fault : List ℕ → Option ℕ) (bytes : List ℕ) (i end : ℕ) (e : LeafElement) : Type 0 where
@@ -49,44 +42,17 @@ record IsLeafRead (bucket_fault : List ℕ → Option ℕ) (bytes : List ℕ) (i
   pub passes : (free : ℕ) → free ≤ leaf_key_start bytes i → leaf_fault bucket_fault bytes free i ≡ None
 
 same_leaf : (a b : LeafElement) → a.key ≡ b.key → a.value ≡ b.value → a.is_bucket ≡ b.is_bucket → a ≡ b
-same_leaf a b p q r =
-    let f : List ℕ → List ℕ → Bool → LeafElement = λ x y z. record { key = x; value = y; is_bucket = z } in
-    ap (λ (x : List ℕ). f x a.value a.is_bucket) p ∙ (ap (λ (y : List ℕ). f b.key y a.is_bucket) q ∙ ap (f b.key b.value) r)
+same_leaf a b p q r = grind arith
 
 leaf_read : (bucket_fault : List ℕ → Option ℕ) (bytes rest : List ℕ) (i pos : ℕ) (e : LeafElement) → IsLeafHeader bytes i e.is_bucket pos (length e.key) (length e.value) → IsLeafFit bucket_fault e
     → drop (element_at i + pos) bytes ≡ e.key ++ (e.value ++ rest) → element_at i + pos ≤ length bytes
     → IsLeafRead bucket_fault bytes i (element_at i + pos + (length e.key + length e.value)) e
 unfolding plain_leaf_fault
-leaf_read bucket_fault bytes rest i pos e head fit text within =
-    let start = head.start in
-    let middle : leaf_value_start bytes i ≡ element_at i + pos + length e.key = ap (λ (n : ℕ). n + leaf_key_length bytes i) head.start ∙ ap (λ (n : ℕ). element_at i + pos + n) head.key in
-    let end : leaf_end bytes i ≡ element_at i + pos + (length e.key + length e.value) = let a = middle in let b = head.value in omega arith in
-    let behind : drop (element_at i + pos + length e.key) bytes ≡ e.value ++ rest = part_next bytes e.key (e.value ++ rest) (element_at i + pos) _ text refl in
-    let key_within = part_within bytes e.key (e.value ++ rest) (element_at i + pos) text within in
-    let value_within = part_within bytes e.value rest (element_at i + pos + length e.key) behind key_within in
-    let key : slice_range bytes (leaf_key_start bytes i) (leaf_value_start bytes i) ≡ e.key =
-    ap (λ (n : ℕ). take (leaf_value_start bytes i - leaf_key_start bytes i) (drop n bytes)) start ∙ part_read bytes e.key (e.value ++ rest) (element_at i + pos) (leaf_value_start bytes i - leaf_key_start bytes i) text (let k = head.key in omega arith) in
-    let value : leaf_value bytes i ≡ e.value =
-    ap (λ (n : ℕ). take (leaf_end bytes i - leaf_value_start bytes i) (drop n bytes)) middle ∙ part_read bytes e.value rest (element_at i + pos + length e.key) (leaf_end bytes i - leaf_value_start bytes i) behind (let k = head.value in omega arith) in
-    let bucket = head.bucket in
-    record {
-      element = same_leaf (leaf_element bytes i) e key value bucket;
-      ends = end;
-      passes = λ free before.
-          first_of-both (plain_leaf_fault bytes free i) _
-          (first_of-both (leaf_flags_fault (leaf_flags bytes i)) _ (ap leaf_flags_fault head.flags ∙ flags_pass e.is_bucket)
-          (first_of-both (key_length_fault (leaf_key_length bytes i)) _ (ap key_length_fault head.key ∙ key_passes (length e.key) fit.some fit.key)
-          (first_of-both (value_length_fault (leaf_value_length bytes i)) _ (ap value_length_fault head.value ∙ value_passes (length e.value) fit.value)
-          (data_passes bytes free (leaf_key_start bytes i) (leaf_end bytes i) before (omega arith)))))
-          (chosen_none (is_bucket_at bytes i) (bucket_fault (leaf_value bytes i)) (λ h. ap bucket_fault value ∙ fit.bucket (sym bucket ∙ h)));
-    }
+leaf_read bucket_fault bytes rest i pos e head fit text within = grind (arith, common_steps, part_next, part_within, part_read, same_leaf, first_of-both, flags_pass, key_passes, value_passes, data_passes, chosen_none)
 
 pub length-leaf_headers : (before : ℕ) (es : List LeafElement) → length (leaf_headers before es) ≡ 16 * length es
 length-leaf_headers before [] = refl
-length-leaf_headers before (e ∷ es) =
-    let h = length-leaf_header e.is_bucket (key_pos (e ∷ es) before) (length e.key) (length e.value) in
-    let r = length-leaf_headers (before + (length e.key + length e.value)) es in
-    length-append (leaf_header e.is_bucket (key_pos (e ∷ es) before) (length e.key) (length e.value)) (leaf_headers (before + (length e.key + length e.value)) es) ∙ omega arith
+length-leaf_headers before (e ∷ es) = grind (arith, length-leaf_header, length-append, length-leaf_headers (before + (length e.key + length e.value)) es)
 
 -- Elements es from number i on, where those before them have this much data: they are read, and pass.
 leaf_run : (bucket_fault : List ℕ → Option ℕ) (bytes : List ℕ) (es : List LeafElement) (i before free : ℕ) (tail rest : List ℕ)
@@ -116,13 +82,9 @@ leaf_run bucket_fault bytes (e ∷ es) i before free tail rest heads text fits s
     let within_value = part_within bytes e.value (leaf_data es ++ rest) (element_at i + pos + length e.key) behind_key within_key in
     let behind : drop (element_at (suc i + length es) + (before + (length e.key + length e.value))) bytes ≡ leaf_data es ++ rest =
     part_next bytes e.value (leaf_data es ++ rest) (element_at i + pos + length e.key) _ behind_key (omega arith) in
-    let ends = one.ends in
     let more = leaf_run bucket_fault bytes es (suc i) (before + (length e.key + length e.value)) (leaf_end bytes i) tail rest next behind fits.1 (omega arith) (omega arith) (omega arith) in
-    let start = head.0.start in
-    let elements : map (leaf_element bytes) (range_with_len (i + 1) (length es)) ≡ es = ap (λ (k : ℕ). map (leaf_element bytes) (range_with_len k (length es))) (add-one i) ∙ more.0 in (
-      ap (λ (x : LeafElement). x ∷ map (leaf_element bytes) (range_with_len (i + 1) (length es))) one.element ∙ ap (λ (xs : List LeafElement). e ∷ xs) elements,
-      first_of-both (leaf_fault bucket_fault bytes free i) _ (one.passes free (omega arith)) more.1,
-    )
+    let elements : map (leaf_element bytes) (range_with_len (i + 1) (length es)) ≡ es = ap (λ (k : ℕ). map (leaf_element bytes) (range_with_len k (length es))) (add-one i) ∙ more.0 in
+    grind (arith, first_of-both)
 
 -- the elements of a leaf page after a header
 pub leaves_written : (bucket_fault : List ℕ → Option ℕ) (bytes : List ℕ) (es : List LeafElement) (rest : List ℕ)

@@ -3,15 +3,16 @@ use Rattle.std.proofs.Common.{◌≡◌, ◌∙◌, ℕ, zero, suc, ◌+◌, ◌
 use Rattle.std.specs.List.{AllByRecursion}
 use Rattle.std.proofs.lemmas.Bool.{le-ltb}
 use Rattle.bolt_format.specs.Elements.{BranchElement, LeafElement}
-use Rattle.bolt_check.specs.Keys.{Key, is_above, is_below, is_from, keys_order_fault, key_lt}
+use Rattle.bolt_check.specs.Keys.{Key, keys_order_fault, key_lt}
 use Rattle.bolt_check.specs.Nodes.{Entry, Node, Nodes, leaf_entry, node_of}
-use Rattle.bolt_check.specs.Ways.{At_page, PageSpot, step, step_entry}
-use Rattle.bolt_check.specs.Findings.{node_finding, early_finding, keys_of, finding_of}
+use Rattle.bolt_check.specs.Ways.{At_page, PageSpot, Spot, bucket_spots, follow, step_entry}
+use Rattle.bolt_check.specs.Findings.{node_finding, keys_of, finding_of}
 use Rattle.bolt_check.specs.EntrySpots.{places}
+use Rattle.bolt_check.proofs.Forest.{follow_none}
 use Rattle.bolt_layout.proofs.KeyLaws.{IsAbove, IsBelowItem, IsWithin, Rise, key_step}
 use Rattle.bolt_layout.proofs.ListLemmas.{all_split, all_weaker}
 use Rattle.bolt_layout.proofs.OverRows.{IsRun}
-use Rattle.bolt_layout.proofs.Parts.{AreParts, IsPart, part_page, spot_in}
+use Rattle.bolt_layout.proofs.Parts.{IsFinePage, IsPart, kids_at, more_kids, no_kids, part_page}
 use Rattle.bolt_layout.specs.Laid.{Laid, Placed, elements_of, first_key, numbers_of, pages_of}
 use Rattle.bolt_layout.specs.Levels.{leaf_page_view, page_over, run_overflow}
 use Rattle.bolt_layout.proofs.LaidPages.{AreNodes, HasPages, limit, page_has}
@@ -27,44 +28,35 @@ pub record IsPage (page_size height : ℕ) (page : Laid BranchElement) (leaves :
   pub child : (n : ℕ) → (n ≤ (page.element n).child) × ((page.element n).child < n + page.numbers)
   pub last : (n : ℕ) → (front : List Placed) × (own : Placed) × (page.pages n ≡ front ++ own ∷ []) × (own.number ≡ (page.element n).child)
   pub part : (nodes : Nodes) (n : ℕ) (s : PageSpot) → s.number ≡ (page.element n).child → 1 ≤ n → n + page.numbers ≤ limit → AreNodes nodes (page.pages n)
-      → s.depth + height ≤ 64 → AllByRecursion (IsWithin s.lower s.upper) leaves → IsPart nodes (At_page s) n (n + page.numbers)
+      → s.depth + height ≤ 64 → AllByRecursion (IsWithin s.lower s.upper) leaves → IsPart nodes (follow nodes (Some (At_page s))) n (n + page.numbers)
 
 -- what the entries of a page lead to
-pub places_step : (is_leaf : Bool) (s : PageSpot) (entries : List Entry) (j : ℕ)
-    → spot_in (slice_get (places is_leaf s entries) j) ≡ step_entry is_leaf s (slice_get entries j) (slice_get entries (suc j))
-places_step is_leaf s [] j = refl
-places_step is_leaf s (e ∷ entries) zero = refl
-places_step is_leaf s (e ∷ entries) (suc j) = places_step is_leaf s entries j
-
-pub kids_step : (nodes : Nodes) (s : PageSpot) (node : Node) → nodes s.number ≡ Ok node → (j : ℕ)
-    → spot_in (slice_get (places node.is_leaf s node.entries) j) ≡ step nodes (Some (At_page s)) j
-kids_step nodes s node e j = rw e (places_step node.is_leaf s node.entries j)
-
-pub early_passes : (nodes : Nodes) (s : PageSpot) (node : Node) → nodes s.number ≡ Ok node → s.depth ≤ 64 → early_finding nodes s ≡ None
-early_passes nodes s node e h = let d : nat_lt 64 s.depth ≡ false = le-ltb 64 s.depth h in rw (d, e) refl
+places_follow : (nodes : Nodes) (is_leaf : Bool) (s : PageSpot) (entries : List Entry) (j : ℕ) (way : List ℕ)
+    → kids_at nodes (places is_leaf s entries) (j ∷ way) ≡ follow nodes (step_entry is_leaf s (slice_get entries j) (slice_get entries (suc j))) way
+places_follow nodes is_leaf s [] j way = sym (follow_none nodes way)
+places_follow nodes is_leaf s (e ∷ entries) zero way = refl
+places_follow nodes is_leaf s (e ∷ entries) (suc j) way = places_follow nodes is_leaf s entries j way
 
 -- a page over its entries' parts
 pub page_part : (nodes : Nodes) (s : PageSpot) (node : Node) (from number : ℕ) → s.number ≡ number → nodes number ≡ Ok node → s.depth ≤ 64 → node_finding node s ≡ None
-    → AreParts nodes (places node.is_leaf s node.entries) from number → (to : ℕ) → number + (1 + node.overflow) ≡ to → IsPart nodes (At_page s) from to
+    → IsPart nodes (kids_at nodes (places node.is_leaf s node.entries)) from number → (to : ℕ) → number + (1 + node.overflow) ≡ to → IsPart nodes (follow nodes (Some (At_page s))) from to
 page_part nodes s node from number same page depth content parts to end =
     let here : nodes s.number ≡ Ok node = ap nodes same ∙ page in
-    let made = part_page nodes s node (places node.is_leaf s node.entries) from here (early_passes nodes s node here depth) content (kids_step nodes s node here)
-    (subst (λ (m : ℕ). AreParts nodes (places node.is_leaf s node.entries) from m) (sym same) parts) in
+    let deep : nat_lt 64 s.depth ≡ false = le-ltb 64 s.depth depth in
+    let fine : IsFinePage nodes s = record { node = node; early = rw (deep, here) refl; page = here; content = content } in
+    let kids : List (Option Spot) = places node.is_leaf s node.entries in
     let last : s.number + (1 + node.overflow) ≡ to = ap (λ (m : ℕ). m + (1 + node.overflow)) same ∙ end in
-    subst (λ (m : ℕ). IsPart nodes (At_page s) from m) last made
+    subst (IsPart nodes (follow nodes (Some (At_page s))) from) last
+    (part_page nodes s kids from fine (λ j way. rw here (places_follow nodes node.is_leaf s node.entries j way)) (subst (IsPart nodes (kids_at nodes kids) from) (sym same) parts))
 
 -- A leaf.
-pub items_parts : (page_size : ℕ) (items : List (Laid LeafElement)) → AllByRecursion (IsItem page_size) items → (nodes : Nodes) (s : PageSpot) (n : ℕ) → 1 ≤ n
-    → n + numbers_of items ≤ limit → AreNodes nodes (pages_of items n) → AreParts nodes (places true s (map leaf_entry (elements_of items n))) n (n + numbers_of items)
-items_parts page_size [] all nodes s n some h shown = omega arith
-items_parts page_size (item ∷ items) all nodes s n some h shown =
+pub items_parts : (page_size : ℕ) (items : List (Laid LeafElement)) → AllByRecursion (IsItem page_size) items → (nodes : Nodes) (s : PageSpot) (n to : ℕ) → 1 ≤ n → to ≡ n + numbers_of items
+    → to ≤ limit → AreNodes nodes (pages_of items n) → IsPart nodes (kids_at nodes (places true s (map leaf_entry (elements_of items n)))) n to
+items_parts page_size [] all nodes s n to some end h shown = no_kids nodes n to (omega arith)
+items_parts page_size (item ∷ items) all nodes s n to some end h shown =
     let both = all_split (λ (p : Placed). nodes p.number ≡ node_of p.view.kind p.view) (item.pages n) (pages_of items (n + item.numbers)) shown in
-    let rest = items_parts page_size items all.1 nodes s (n + item.numbers) (omega arith) (omega arith) both.1 in
-    let e : n + item.numbers + numbers_of items ≡ n + numbers_of (item ∷ items) = omega arith in (
-      n + item.numbers,
-      all.0.part nodes n s.number some (omega arith) both.0,
-      subst (λ (m : ℕ). AreParts nodes (places true s (map leaf_entry (elements_of items (n + item.numbers)))) (n + item.numbers) m) e rest,
-    )
+    more_kids nodes (bucket_spots s.number (leaf_entry (item.element n))) (places true s (map leaf_entry (elements_of items (n + item.numbers)))) n (n + item.numbers) to
+    (all.0.part nodes n s.number some (omega arith) both.0) (items_parts page_size items all.1 nodes s (n + item.numbers) to (omega arith) (omega arith) h both.1)
 
 pub above_after : (x : Laid LeafElement) (key : Key) (items : List (Laid LeafElement)) → key ≡ x.key → AllByRecursion (IsBelowItem x) items → AllByRecursion (IsAbove (Some key)) items
 above_after x key items same h = all_weaker (IsBelowItem x) (IsAbove (Some key)) (λ y less. ap (λ (k : Key). key_lt k y.key) same ∙ less) items h
@@ -76,8 +68,7 @@ items_keys page_size (item ∷ items) all before lower upper n rise above within
     let key : Key = (item.element n).key in
     let same : key ≡ item.key = all.0.key n in
     let rest = items_keys page_size items all.1 (Some key) lower upper (n + item.numbers) rise.1 (above_after item key items same rise.0) within.1 in
-    key_step before lower upper key (keys_of (map leaf_entry (elements_of items (n + item.numbers))))
-    (ap (λ (k : Key). is_above before k) same ∙ above.0) (ap (λ (k : Key). is_from lower k) same ∙ within.0.0) (ap (λ (k : Key). is_below upper k) same ∙ within.0.1) rest
+    grind (arith, key_step)
 
 pub above_none : (items : List (Laid LeafElement)) → AllByRecursion (IsAbove None) items
 above_none [] = tt
@@ -102,5 +93,5 @@ leaf_page page_size leaves sized all rise fits = record {
       let node : Node = record { is_leaf = true; overflow = run_overflow page_size leaves; entries = map leaf_entry (elements_of leaves n) } in
       let keys = items_keys page_size leaves all None s.lower s.upper n rise (above_none leaves) within in
       page_part nodes s node n (n + numbers_of leaves) same both.1.0 (omega arith) (ap (λ (o : Option ℕ). finding_of o s.number) keys)
-      (items_parts page_size leaves all nodes s n some (omega arith) both.0) _ (omega arith);
+      (items_parts page_size leaves all nodes s n (n + numbers_of leaves) some refl (omega arith) both.0) _ (omega arith);
 }

@@ -10,14 +10,10 @@ use Rattle.bolt_layout.proofs.LastItem.{join_behind, join_none, last_behind, som
 -- Without a limit a row is cut as the plain one.
 left_free : {X : Type 0} (page_size : ℕ) (size : X → ℕ) (run items : List X) → cut_left page_size size None run items ≡ cut_from page_size 2 size run items
 left_free page_size size run [] = refl
-left_free {X = X} page_size size run (next ∷ items) = elim (cases_Bool (joins page_size 2 size run next)) [
-  | inl t ↦ rw t (left_free page_size size (run ++ next ∷ []) items)
-  | inr f ↦ rw f (ap (λ (rs : List (List X)). run ∷ rs) (left_free page_size size (next ∷ []) items))
-]
+left_free page_size size run (next ∷ items) = grind (arith, left_free page_size size (run ++ next ∷ []) items, left_free page_size size (next ∷ []) items)
 
 pub row_free : {X : Type 0} (page_size : ℕ) (size : X → ℕ) (items : List X) → cut_row page_size size None items ≡ cut_of page_size 2 size items
-row_free page_size size [] = refl
-row_free page_size size (first ∷ items) = left_free page_size size (first ∷ []) items
+row_free page_size size items = grind (arith, left_free)
 
 -- one run has all items
 one_run : {X : Type 0} (page_size : ℕ) (size : X → ℕ) (run items : List X) → length (cut_from page_size 2 size run items) ≡ 1
@@ -78,7 +74,4 @@ IsLimit runs last limit = ((limit ≡ None) × ((2 ≤ last) ⊎ (runs ≤ 1))) 
 pub row_limited : {X : Type 0} (page_size : ℕ) (size : X → ℕ) (limit : Option ℕ) (items : List X)
     → IsLimit (length (cut_of page_size 2 size items)) (last_length (cut_of page_size 2 size items)) limit
     → cut_row page_size size limit items ≡ branch_cut Balanced page_size size items
-row_limited page_size size limit items (inl is) = rw is.0 (row_free page_size size items ∙ sym (join_none (cut_of page_size 2 size items) is.1))
-row_limited page_size size limit [] (inr is) = absurd (let two = is.2 in omega arith)
-row_limited page_size size limit (first ∷ items) (inr is) =
-    let two = is.2 in rw is.0 (left_joined page_size size (length (cut_from page_size 2 size (first ∷ []) items) - 2) (first ∷ []) items (omega arith) is.1)
+row_limited page_size size limit items is = grind (arith, row_free, join_none, left_joined)

@@ -1,6 +1,6 @@
 -- The limits of a tree are those that the ends of the plain rows give, for each of its buckets.
-use Rattle.std.proofs.Common.{◌≡◌, ◌∙◌, ◌+◌, ◌<◌, ◌≤◌, ◌==◌, ℕ, zero, suc, nat_lt, true, false, List, Option, refl, subst, inl, inr, arith}
-use Rattle.std.proofs.lemmas.Bool.{cases_Bool, eq-eqb, lt-ltb, le-ltb, ne_eqb}
+use Rattle.std.proofs.Common.{◌≡◌, ◌∙◌, ◌+◌, ◌<◌, ◌≤◌, ◌==◌, ℕ, suc, true, false, List, Option, refl, subst, inl, inr, arith}
+use Rattle.std.proofs.lemmas.Bool.{cases_Bool, eq-eqb}
 use Rattle.bolt_tree.specs.Tree.{Tree, end, with_bucket, with_value}
 use Rattle.bolt_layout.specs.Items.{is_inline, items_of}
 use Rattle.bolt_layout.specs.Limits.{limit_at, limits_from_ends}
@@ -24,18 +24,12 @@ own_below page_size n key sequence inside after own level = let e : (n == n) ≡
 inside_below : (page_size n : ℕ) (key : List ℕ) (sequence : ℕ) (inside after : Tree) → is_inline page_size inside (items_of Plain page_size inside) ≡ false
     → (bucket level : ℕ) → suc n ≤ bucket → bucket < suc n + opened_in Plain page_size inside
     → limits_below page_size n (with_bucket key sequence inside after) bucket level ≡ limits_below page_size (suc n) inside bucket level
-inside_below page_size n key sequence inside after own bucket level some few =
-    let e : (bucket == n) ≡ false = ne_eqb bucket n (λ same. (omega arith)) in
-    let l : nat_lt bucket (suc n + opened_in Plain page_size inside) ≡ true = lt-ltb bucket (suc n + opened_in Plain page_size inside) few in
-    rw (own, e, l) refl
+inside_below page_size n key sequence inside after own bucket level some few = grind arith
 
 after_below : (page_size n : ℕ) (key : List ℕ) (sequence : ℕ) (inside after : Tree) → is_inline page_size inside (items_of Plain page_size inside) ≡ false
     → (bucket level : ℕ) → suc n + opened_in Plain page_size inside ≤ bucket
     → limits_below page_size n (with_bucket key sequence inside after) bucket level ≡ limits_below page_size (suc n + opened_in Plain page_size inside) after bucket level
-after_below page_size n key sequence inside after own bucket level some =
-    let e : (bucket == n) ≡ false = ne_eqb bucket n (λ same. (omega arith)) in
-    let l : nat_lt bucket (suc n + opened_in Plain page_size inside) ≡ false = le-ltb bucket (suc n + opened_in Plain page_size inside) some in
-    rw (own, e, l) refl
+after_below page_size n key sequence inside after own bucket level some = grind arith
 
 below_from_ends : (page_size : ℕ) (limits : ℕ → ℕ → Option ℕ) (n : ℕ) (tree : Tree) → AreBelow page_size limits n tree → AreFromEnds page_size limits n tree
 below_from_ends page_size limits n end are = tt
@@ -64,14 +58,9 @@ below_from_ends page_size limits n (with_bucket key sequence inside after) are =
       rw f (λ own. (own_are, below_from_ends page_size limits (suc n) inside within), last))
 ]
 
-later_bucket : (page_size : ℕ) (tree : Tree) (bucket level : ℕ) → 1 ≤ bucket → limits_for page_size tree bucket level ≡ limits_below page_size 1 tree bucket level
-later_bucket page_size tree zero level some = absurd (omega arith)
-later_bucket page_size tree (suc bucket) level some = refl
-
 pub from_ends_by : (page_size : ℕ) (tree : Tree) (limits : ℕ → ℕ → Option ℕ) → ((bucket level : ℕ) → bucket < suc (opened_in Plain page_size tree) → limits bucket level ≡ limits_for page_size tree bucket level)
     → AreFromEnds page_size limits 1 tree
-from_ends_by page_size tree limits same =
-    below_from_ends page_size limits 1 tree (λ bucket level some few. same bucket level (omega arith) ∙ later_bucket page_size tree bucket level some)
+from_ends_by page_size tree limits same = grind (arith, below_from_ends)
 
 pub from_ends_are : (page_size : ℕ) (tree : Tree) → AreFromEnds page_size (limits_for page_size tree) 1 tree
 from_ends_are page_size tree = from_ends_by page_size tree (limits_for page_size tree) (λ bucket level few. refl)

@@ -1,7 +1,6 @@
 -- The plain layout of a tree takes at most 28 times the page numbers of the balanced one: both have the same leaves.
-use Rattle.std.proofs.Common.{◌≡◌, ◌∙◌, ℕ, ◌+◌, ◌*◌, ◌≤◌, List, [], ◌∷◌, length, map, refl, sym, ap, inl, inr, arith}
+use Rattle.std.proofs.Common.{◌≡◌, ◌∙◌, ℕ, ◌+◌, ◌*◌, ◌≤◌, List, [], ◌∷◌, map, refl, sym, ap, arith}
 use Rattle.std.specs.List.{AllByRecursion}
-use Rattle.std.proofs.lemmas.Bool.{cases_Bool}
 use Rattle.bolt_format.specs.Elements.{LeafElement}
 use Rattle.bolt_format.specs.Metas.{IsPageSize}
 use Rattle.bolt_tree.specs.Tree.{Tree, end, with_bucket, with_value}
@@ -16,11 +15,10 @@ use Rattle.bolt_layout.proofs.HeldBounds.{level_numbers}
 use Rattle.bolt_layout.proofs.LaidItems.{IsItem}
 use Rattle.bolt_layout.proofs.ListLemmas.{all_weaker}
 use Rattle.bolt_format.proofs.PageSizes.{largest_page, size_bounds}
-use Rattle.bolt_layout.proofs.OverRows.{HasShortKey}
 use Rattle.bolt_layout.proofs.PlainNumbers.{leaves_numbers, plain_most}
 use Rattle.bolt_layout.proofs.SameFaces.{inline_alike, items_alike}
 use Rattle.bolt_layout.proofs.TreeItems.{tree_items}
-use Rattle.bolt_layout.proofs.Weights.{HasKeyRoom, own_numbers}
+use Rattle.bolt_layout.proofs.Weights.{own_numbers}
 
 -- The sizes of the items decide what the leaves take themselves.
 faces_numbers : (page_size : ℕ) → List (List Face) → ℕ
@@ -30,10 +28,7 @@ faces_numbers page_size (faces ∷ runs) = (1 + overflow_of page_size (run_size 
 own_by_faces : (page_size : ℕ) (runs : List (List (Laid LeafElement))) → own_numbers page_size runs ≡ faces_numbers page_size (map (map face) runs)
 unfolding faces_numbers
 own_by_faces page_size [] = refl
-own_by_faces page_size (run ∷ runs) =
-    let ih = own_by_faces page_size runs in
-    let sum = sum_map face face_size run in
-    let e = ap (λ (n : ℕ). overflow_of page_size (16 + n)) sum in omega arith
+own_by_faces page_size (run ∷ runs) = omega (arith, own_by_faces page_size runs, sum_map face face_size run, ap (λ (n : ℕ). overflow_of page_size (16 + n)) (sum_map face face_size run))
 
 own_alike : (page_size : ℕ) (plain balanced : List (Laid LeafElement)) → map face plain ≡ map face balanced
     → own_numbers page_size (cut_of page_size 1 size_of plain) ≡ own_numbers page_size (cut_of page_size 1 size_of balanced)
@@ -48,25 +43,13 @@ own_alike page_size plain balanced same =
 root_larger : (page_size : ℕ) (plain balanced : List (Laid LeafElement)) → 1024 ≤ page_size → AllByRecursion (IsItem page_size) plain → map face plain ≡ map face balanced
     → numbers_of plain ≤ 28 * numbers_of balanced → (root_over Plain page_size plain).numbers ≤ 28 * (root_over Balanced page_size balanced).numbers
 unfolding root_over
-root_larger page_size [] [] low all same below = omega arith
-root_larger page_size [] (item ∷ balanced) low all same below = absurd (let e = ap (λ (faces : List Face). length faces) same in omega arith)
-root_larger page_size (item ∷ plain) balanced low all same below =
-    let items : List (Laid LeafElement) = item ∷ plain in
-    let rooms = all_weaker (IsItem page_size) HasKeyRoom (λ i is. let size = is.size 0 in omega arith) items all in
-    let short = all_weaker (IsItem page_size) HasShortKey (λ i is. is.short) items all in
-    let most = plain_most page_size items low rooms short (omega arith) in
-    let least = level_numbers Balanced page_size balanced in
-    let leaves = leaves_numbers page_size balanced in
-    let own = own_alike page_size items balanced same in omega arith
+root_larger page_size plain balanced low all same below = grind (arith, all_weaker, plain_most, level_numbers, leaves_numbers, own_alike)
 
 -- and so for a bucket as it is stored,
 stored_larger : (page_size : ℕ) (key : List ℕ) (sequence : ℕ) (inside : Tree) (plain balanced : List (Laid LeafElement)) → is_inline page_size inside plain ≡ is_inline page_size inside balanced
     → (root_over Plain page_size plain).numbers ≤ 28 * (root_over Balanced page_size balanced).numbers
     → (stored_bucket Plain page_size key sequence inside plain).numbers ≤ 28 * (stored_bucket Balanced page_size key sequence inside balanced).numbers
-stored_larger page_size key sequence inside plain balanced inline larger = elim (cases_Bool (is_inline page_size inside balanced)) [
-  | inl t ↦ rw (inline, t) (omega arith)
-  | inr f ↦ rw (inline, f) larger
-]
+stored_larger page_size key sequence inside plain balanced inline larger = grind arith
 
 -- and for all buckets.
 items_larger : (page_size : ℕ) → 1024 ≤ page_size → page_size ≤ largest_page → (tree : Tree) → HasLengths tree → RisesInside tree
@@ -83,8 +66,4 @@ items_larger page_size low high (with_bucket key sequence inside after) lengths 
 
 pub plain_not_much_larger : (page_size : ℕ) (tree : Tree) → IsPageSize page_size → IsStorable tree → (root_of Plain page_size tree).numbers ≤ 28 * (root_of Balanced page_size tree).numbers
 unfolding root_of
-plain_not_much_larger page_size tree size storable =
-    let bounds = size_bounds page_size size in
-    let all = tree_items Plain page_size (omega arith) (omega arith) tree storable.lengths storable.rising_inside in
-    let items = items_larger page_size (omega arith) (omega arith) tree storable.lengths storable.rising_inside in
-    root_larger page_size (items_of Plain page_size tree) (items_of Balanced page_size tree) (omega arith) all (items_alike page_size tree) items
+plain_not_much_larger page_size tree size storable = grind (arith, size_bounds, tree_items, items_larger, root_larger, items_alike)

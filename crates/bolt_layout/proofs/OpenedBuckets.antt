@@ -1,13 +1,11 @@
 -- How many buckets a pass opens: as many in both layouts, and no more than there are page numbers.
-use Rattle.std.proofs.Common.{◌≡◌, ◌≤◌, ◌+◌, ℕ, suc, false, List, [], ◌∷◌, length, refl, inl, inr, arith}
-use Rattle.std.proofs.lemmas.Bool.{cases_Bool}
+use Rattle.std.proofs.Common.{◌≡◌, ◌≤◌, ◌+◌, ℕ, suc, false, List, [], ◌∷◌, length, refl, arith}
 use Rattle.std.proofs.lemmas.List.{length-map}
 use Rattle.bolt_format.specs.Elements.{LeafElement}
 use Rattle.bolt_tree.specs.Tree.{Tree, end, with_bucket, with_value}
-use Rattle.bolt_layout.specs.Cut.{cut_of}
 use Rattle.bolt_layout.specs.Items.{is_inline, items_of, root_of, stored_bucket}
-use Rattle.bolt_layout.specs.Laid.{Laid, numbers_of, size_of}
-use Rattle.bolt_layout.specs.Levels.{leaf_page_view, page_over, root_over}
+use Rattle.bolt_layout.specs.Laid.{Laid, numbers_of}
+use Rattle.bolt_layout.specs.Levels.{root_over}
 use Rattle.bolt_layout.specs.Openings.{leaf_pages, opened_by, opened_in}
 use Rattle.bolt_layout.specs.declared.layout.Layout.{Layout}
 use Rattle.bolt_layout.specs.declared.layout.Layout.TheVariants.{Plain, Balanced}
@@ -24,9 +22,7 @@ one_same page_size inside same = let inline = inline_alike page_size inside in r
 pub opened_same : (page_size : ℕ) (tree : Tree) → opened_in Plain page_size tree ≡ opened_in Balanced page_size tree
 opened_same page_size end = refl
 opened_same page_size (with_value key value after) = opened_same page_size after
-opened_same page_size (with_bucket key sequence inside after) =
-    let one = one_same page_size inside (opened_same page_size inside) in
-    let rest = opened_same page_size after in omega arith
+opened_same page_size (with_bucket key sequence inside after) = omega (arith, one_same page_size inside (opened_same page_size inside), opened_same page_size after)
 
 pub opened_by_same : (page_size : ℕ) (inside : Tree) → opened_by Plain page_size inside ≡ opened_by Balanced page_size inside
 opened_by_same page_size inside = one_same page_size inside (opened_same page_size inside)
@@ -38,12 +34,7 @@ own_some page_size (run ∷ runs) some = omega arith
 
 root_some : (which : Layout) (page_size : ℕ) (items : List (Laid LeafElement)) → suc (numbers_of items) ≤ (root_over which page_size items).numbers
 unfolding root_over
-root_some which page_size [] = omega arith
-root_some which page_size (item ∷ items) =
-    let all : List (Laid LeafElement) = item ∷ items in
-    let numbers = leaves_numbers page_size all in
-    let some = own_some page_size (cut_of page_size 1 size_of all) (some_runs page_size 1 size_of (item ∷ []) items) in
-    let level = level_numbers which page_size all in omega arith
+root_some which page_size items = grind (arith, leaves_numbers, own_some, some_runs, level_numbers)
 
 -- A bucket with a root page has no more leaf pages than it has page numbers,
 own_count : {E : Type 0} (page_size : ℕ) (runs : List (List (Laid E))) → length runs ≤ own_numbers page_size runs
@@ -52,13 +43,7 @@ own_count page_size (run ∷ runs) = let rest = own_count page_size runs in omeg
 
 pub items_leaves : (which : Layout) (page_size : ℕ) (items : List (Laid LeafElement)) → length (leaf_pages page_size items) + numbers_of items ≤ (root_over which page_size items).numbers
 unfolding root_over
-items_leaves which page_size [] = omega arith
-items_leaves which page_size (item ∷ items) =
-    let all : List (Laid LeafElement) = item ∷ items in
-    let numbers = leaves_numbers page_size all in
-    let count = own_count page_size (cut_of page_size 1 size_of all) in
-    let same = length-map (cut_of page_size 1 size_of all) (page_over leaf_page_view page_size) in
-    let level = level_numbers which page_size all in omega arith
+items_leaves which page_size items = grind (arith, leaves_numbers, own_count, length-map, level_numbers)
 
 pub leaves_few : (which : Layout) (page_size : ℕ) (inside : Tree)
     → length (leaf_pages page_size (items_of which page_size inside)) + numbers_of (items_of which page_size inside) ≤ (root_over which page_size (items_of which page_size inside)).numbers
@@ -73,20 +58,13 @@ items_below which page_size key sequence inside after = ((λ rooted. rw rooted (
 
 stored_few : (which : Layout) (page_size : ℕ) (key : List ℕ) (sequence : ℕ) (inside : Tree) → opened_in which page_size inside ≤ numbers_of (items_of which page_size inside)
     → opened_by which page_size inside ≤ (stored_bucket which page_size key sequence inside (items_of which page_size inside)).numbers
-stored_few which page_size key sequence inside few = elim (cases_Bool (is_inline page_size inside (items_of which page_size inside))) [
-  | inl t ↦ rw t (omega arith)
-  | inr f ↦ let root = root_some which page_size (items_of which page_size inside) in rw f (omega arith)
-]
+stored_few which page_size key sequence inside few = grind (arith, root_some)
 
 items_few : (which : Layout) (page_size : ℕ) (tree : Tree) → opened_in which page_size tree ≤ numbers_of (items_of which page_size tree)
 items_few which page_size end = omega arith
 items_few which page_size (with_value key value after) = let rest = items_few which page_size after in omega arith
-items_few which page_size (with_bucket key sequence inside after) =
-    let one = stored_few which page_size key sequence inside (items_few which page_size inside) in
-    let rest = items_few which page_size after in omega arith
+items_few which page_size (with_bucket key sequence inside after) = omega (arith, stored_few which page_size key sequence inside (items_few which page_size inside), items_few which page_size after)
 
 pub opened_few : (page_size : ℕ) (which : Layout) (tree : Tree) → opened_in which page_size tree ≤ (root_of which page_size tree).numbers
 unfolding root_of
-opened_few page_size which tree =
-    let few = items_few which page_size tree in
-    let root = root_some which page_size (items_of which page_size tree) in omega arith
+opened_few page_size which tree = omega (arith, items_few, root_some)

@@ -1,8 +1,7 @@
 -- The root page over a row of leaf items: a leaf page, or a branch page over pages that stand over pieces of the row.
-use Rattle.std.proofs.Common.{◌≡◌, ◌∙◌, ℕ, zero, suc, ◌+◌, ◌*◌, ◌^◌, ◌<◌, ◌≤◌, List, [], ◌∷◌, ◌++◌, length, map, flat_map, refl, sym, ap, subst, inl, inr, arith, append_assoc, sum_by}
+use Rattle.std.proofs.Common.{◌≡◌, ◌∙◌, ℕ, zero, suc, ◌+◌, ◌*◌, ◌^◌, ◌<◌, ◌≤◌, List, [], ◌∷◌, ◌++◌, length, map, flat_map, refl, sym, ap, subst, arith, append_assoc, sum_by}
 use Rattle.std.specs.List.{AllByRecursion}
-use Rattle.std.proofs.Math.Nat.{mul-le-mul_right, pow-suc, suc-mul}
-use Rattle.std.proofs.lemmas.Bool.{cases_lt}
+use Rattle.std.proofs.Math.Nat.{mul-le-mul_right}
 use Rattle.std.proofs.lemmas.List.{append-nil, length-map}
 use Rattle.std.proofs.lemmas.List.Sums.{sum_by-append, sum_by-cons}
 use Rattle.bolt_format.specs.Elements.{BranchElement, LeafElement}
@@ -52,11 +51,7 @@ over_key page_size (suc height) page x leaves h =
     ap (λ (p : Laid BranchElement). p.key) e ∙ (over_key page_size height kid first front o ∙ ap (λ (i : Laid LeafElement). i.key) (sym same))
 
 pub over_size : (page_size height : ℕ) (page : Laid BranchElement) (leaves : List (Laid LeafElement)) → IsOver page_size height page leaves → page.size ≡ 16 + length page.key
-over_size page_size zero page leaves (e, run) =
-    ap (λ (p : Laid BranchElement). p.size) e ∙ ap (λ (p : Laid BranchElement). 16 + length p.key) (sym e)
-over_size page_size (suc height) page leaves h =
-    let (kid, kids, e, run, pieces) = h in
-    ap (λ (p : Laid BranchElement). p.size) e ∙ ap (λ (p : Laid BranchElement). 16 + length p.key) (sym e)
+over_size page_size height page leaves h = grind arith
 
 -- keys that the format allows
 abbrev pub HasShortKey : Laid LeafElement → Type 0
@@ -72,18 +67,13 @@ pieces_small page_size height (page ∷ pages) leaves h keys =
     let (first, front, back, e, o, more) = h in
     let keys2 : AllByRecursion HasShortKey (first ∷ (front ++ back)) = subst (AllByRecursion HasShortKey) e keys in
     let rest = (all_split HasShortKey front back keys2.1).1 in
-    let short : length first.key ≤ 0x40000000 = keys2.0 in
     let same : length page.key ≡ length first.key = ap (λ (k : List ℕ). length k) (over_key page_size height page first front o) in
     let size = over_size page_size height page (first ∷ front) o in
     (omega arith, pieces_small page_size height pages back more rest)
 
 sum_at_most : {E : Type 0} (bound : ℕ) (run : List (Laid E)) → AllByRecursion (IsAtMost bound) run → sum_by size_of run ≤ length run * bound
 sum_at_most bound [] h = omega arith
-sum_at_most {E = E} bound (x ∷ run) h =
-    let more = sum_at_most bound run h.1 in
-    let one : x.size ≤ bound = h.0 in
-    let e = sum_by-cons (size_of {E = E}) x run in
-    let f : suc (length run) * bound ≡ bound + length run * bound = suc-mul (length run) bound ∙ omega arith in omega arith
+sum_at_most bound (x ∷ run) h = omega (arith, sum_by-cons, sum_at_most bound run h.1)
 
 -- A run that a page can hold, of items that are not too large, has room on its page.
 run_fits : {E : Type 0} (page_size spare bound : ℕ) (run : List (Laid E)) → page_size + spare * bound < 0x100000000 → FitsBut page_size spare size_of run
@@ -97,17 +87,7 @@ run_fits {E = E} page_size spare bound run small is sizes =
 
 run_of : {E : Type 0} (page_size wide spare bound : ℕ) (run : List (Laid E)) → spare ≤ 1 → page_size + spare * bound < 0x100000000 → 16 + wide * bound < 0x100000000
     → IsPageRun page_size wide spare size_of run → AllByRecursion (IsAtMost bound) run → IsRun run
-run_of page_size wide spare bound run one small room is sizes =
-    let few = is.capped in
-    record {
-      few = omega arith;
-      small = elim (cases_lt wide (length run)) [
-        | inl many ↦ run_fits page_size spare bound run small (is.fits many) sizes
-        | inr few ↦
-            (let a = sum_at_most bound run sizes in
-            let b : length run * bound ≤ wide * bound = mul-le-mul_right bound few in omega arith)
-      ];
-    }
+run_of page_size wide spare bound run one small room is sizes = grind (arith, run_fits, sum_at_most, mul-le-mul_right)
 
 -- The leaf pages over a row of items that is divided.
 pub leaves_over : (page_size : ℕ) (runs : List (List (Laid LeafElement))) (leaves : List (Laid LeafElement)) → page_size < 0x80000000
@@ -129,8 +109,7 @@ pieces_first over page pages leaves h = let (first, front, back, e, o, more) = h
 branch_over : (page_size height : ℕ) (first : Laid BranchElement) (run : List (Laid BranchElement)) (leaves : List (Laid LeafElement)) (x : Laid LeafElement) (rest : List (Laid LeafElement))
     → IsRun (first ∷ run) → Pieces (IsOver page_size height) (first ∷ run) leaves → leaves ≡ x ∷ rest
     → IsOver page_size (suc height) (page_over branch_page_view page_size (first ∷ run)) (x ∷ rest)
-branch_over page_size height first run leaves x rest fits pieces e =
-    (first, run, refl, fits, subst (Pieces (IsOver page_size height) (first ∷ run)) e pieces)
+branch_over page_size height first run leaves x rest fits pieces e = grind arith
 
 -- The branch pages over a row of pages that is divided.
 pub branches_over : (page_size height : ℕ) (runs : List (List (Laid BranchElement))) (kids : List (Laid BranchElement)) (leaves : List (Laid LeafElement))
@@ -138,8 +117,7 @@ pub branches_over : (page_size height : ℕ) (runs : List (List (Laid BranchElem
     → AllByRecursion (IsAtMost 0x40000010) kids → Pieces (IsOver page_size height) kids leaves
     → Pieces (IsOver page_size (suc height)) (map (page_over branch_page_view page_size) runs) leaves
 branches_over page_size height [] kids leaves small whole each sizes pieces = subst (λ (r : List (Laid BranchElement)). Pieces (IsOver page_size height) r leaves) (sym whole) pieces
-branches_over page_size height ([] ∷ runs) kids leaves small whole each sizes pieces =
-    absurd (let is : IsPageRun page_size 3 1 size_of [] = each.0 in let some = is.some in omega arith)
+branches_over page_size height ([] ∷ runs) kids leaves small whole each sizes pieces = grind arith
 branches_over page_size height ((first ∷ run) ∷ runs) kids leaves small whole each sizes pieces =
     let others : List (Laid BranchElement) = flat_map (λ run. run) runs in
     let pieces2 = subst (λ (r : List (Laid BranchElement)). Pieces (IsOver page_size height) r leaves) (sym whole) pieces in
@@ -168,9 +146,7 @@ runs_some (run ∷ runs) items whole some = omega arith
 pub runs_numbers : {E : Type 0} (view : ℕ → List E → PageView) (page_size : ℕ) (runs : List (List (Laid E)))
     → numbers_of (flat_map (λ run. run) runs) ≤ numbers_of (map (page_over view page_size) runs)
 runs_numbers view page_size [] = omega arith
-runs_numbers view page_size (run ∷ runs) =
-    let ih = runs_numbers view page_size runs in
-    let l = numbers-append run (flat_map (λ run. run) runs) in omega arith
+runs_numbers view page_size (run ∷ runs) = omega (arith, numbers-append, runs_numbers view page_size runs)
 
 -- The page at the top, which stands over the whole row.
 record IsTopOver (page_size height wide numbers : ℕ) (top : Laid BranchElement) (leaves : List (Laid LeafElement)) : Type 0 where
@@ -180,19 +156,13 @@ record IsTopOver (page_size height wide numbers : ℕ) (top : Laid BranchElement
   more : numbers ≤ top.numbers
 
 over_whole : (page_size height : ℕ) (page : Laid BranchElement) (leaves : List (Laid LeafElement)) → Pieces (IsOver page_size height) (page ∷ []) leaves → IsOver page_size height page leaves
-over_whole page_size height page leaves h =
-    let (first, front, back, e, o, none) = h in
-    let nil : back ≡ [] = none in
-    let same : leaves ≡ first ∷ front = e ∙ ap (λ (r : List (Laid LeafElement)). first ∷ r) (ap (λ (r : List (Laid LeafElement)). front ++ r) nil ∙ append-nil front) in
-    subst (IsOver page_size height page) (sym same) o
+over_whole page_size height page leaves h = grind (arith, append-nil)
 
 -- half the pages, one level more
 fewer : (others next height levels : ℕ) → 2 * next ≤ suc (suc (suc others)) → ((k : ℕ) → next ≤ 2 ^ k → levels ≤ suc height + k)
     → (k : ℕ) → suc (suc others) ≤ 2 ^ k → levels ≤ height + k
 fewer others next height levels half few zero most = absurd (omega arith)
-fewer others next height levels half few (suc k) most =
-    let double : 2 ^ suc k ≡ 2 * 2 ^ k = pow-suc 2 k ∙ omega arith in
-    let less = few k (omega arith) in omega arith
+fewer others next height levels half few (suc k) most = grind arith
 
 top_fits : (which : Layout) (page_size steps height : ℕ) (level : List (Laid BranchElement)) (leaves : List (Laid LeafElement)) → page_size < 0x80000000
     → AllByRecursion HasShortKey leaves → Pieces (IsOver page_size height) level leaves
@@ -231,5 +201,4 @@ root_is_over which page_size (item ∷ items) small keys sizes =
     let same = length-map runs (page_over leaf_page_view page_size) in
     let count = pages_count leaf_page_view page_size runs in
     let top = top_fits which page_size (length level) 0 level all small keys pieces (omega arith) (omega arith) in
-    let more = top.more in
     (top.levels, λ room. top.few 63 (omega arith), top.over)

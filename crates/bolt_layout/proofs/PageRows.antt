@@ -1,11 +1,10 @@
 -- Pages in a row: each begins where the span of the one before it ends. In the file each shows what was written.
-use Rattle.std.proofs.Common.{◌≡◌, ◌∙◌, ◌⊎◌, ℕ, ◌+◌, ◌-◌, ◌*◌, ◌^◌, ◌/◌, ◌<◌, ◌≤◌, List, [], ◌∷◌, ◌++◌, length, drop, replicate, refl, sym, ap, subst, inl, inr, arith, append_assoc}
+use Rattle.std.proofs.Common.{◌≡◌, ◌∙◌, ◌⊎◌, ℕ, ◌+◌, ◌-◌, ◌*◌, ◌^◌, ◌<◌, ◌≤◌, List, [], ◌∷◌, ◌++◌, length, drop, refl, sym, ap, subst, arith, append_assoc}
 use Rattle.std.specs.List.{AllByRecursion}
-use Rattle.std.proofs.Math.Nat.{add-mul, div-add-mod', div-le_self, mod-lt}
+use Rattle.std.proofs.Math.Nat.{div-le_self}
 use Rattle.bolt_format.specs.Elements.{BranchElement, LeafElement, value_fault}
 use Rattle.bolt_format.specs.Pages.{PageView}
 use Rattle.bolt_format.specs.declared.kind.Kind.{Kind}
-use Rattle.bolt_format.specs.declared.kind.Kind.TheVariants as kind
 use Rattle.bolt_format.specs.declared.meta.Meta.{Meta}
 use Rattle.bolt_layout.specs.PageBytes.{branch_data, branch_bytes, content_bytes, leaf_bytes, leaf_data, page_bytes}
 use Rattle.bolt_format.specs.Written.{header_bytes}
@@ -22,39 +21,36 @@ use Rattle.bolt_layout.specs.Levels.{branch_page_view, leaf_page_view, overflow_
 -- Room on a page: the least overflow.
 pub overflow_room : (page_size size : ℕ) → 0 < page_size → 0 < size → size ≤ (1 + overflow_of page_size size) * page_size
 unfolding overflow_of
-overflow_room page_size size some any =
-    let q : ℕ = (size - 1) / page_size in
-    let split = div-add-mod' (size - 1) page_size in
-    let rest = mod-lt (size - 1) some in
-    let e = add-mul 1 q page_size in omega arith
+overflow_room page_size size some any = omega arith
 
 pub overflow_small : (page_size size : ℕ) → overflow_of page_size size ≤ size
 unfolding overflow_of
 overflow_small page_size size = let d = div-le_self (size - 1) page_size in omega arith
 
 -- What a page needs to be read back, apart from its place.
-pub record IsLeafPage (page_size : ℕ) (view : PageView) : Type 0 where
-  pub es : List LeafElement
+pub record IsPageOf {E : Type 0} (show : ℕ → List E → PageView) (text : List E → List ℕ) (IsFit : E → Type 0) (page_size : ℕ) (view : PageView) : Type 0 where
+  pub es : List E
   pub further : ℕ
-  pub is : view ≡ leaf_page_view further es
+  pub is : view ≡ show further es
   pub few : length es < 256 ^ 2
-  pub room : 16 + (16 * length es + length (leaf_data es)) ≤ (1 + further) * page_size
-  pub small : 16 * length es + length (leaf_data es) < 0x100000000
+  pub room : 16 + (16 * length es + length (text es)) ≤ (1 + further) * page_size
+  pub small : 16 * length es + length (text es) < 0x100000000
   pub narrow : further < 256 ^ 4
-  pub fits : AllByRecursion (IsLeafFit value_fault) es
+  pub fits : AllByRecursion IsFit es
 
-pub record IsBranchPage (page_size : ℕ) (view : PageView) : Type 0 where
-  pub es : List BranchElement
-  pub further : ℕ
-  pub is : view ≡ branch_page_view further es
-  pub few : length es < 256 ^ 2
-  pub room : 16 + (16 * length es + length (branch_data es)) ≤ (1 + further) * page_size
-  pub small : 16 * length es + length (branch_data es) < 0x100000000
-  pub narrow : further < 256 ^ 4
-  pub fits : AllByRecursion IsBranchFit es
+abbrev pub IsLeafPage : ℕ → PageView → Type 0
+IsLeafPage page_size view = IsPageOf leaf_page_view leaf_data (IsLeafFit value_fault) page_size view
+
+abbrev pub IsBranchPage : ℕ → PageView → Type 0
+IsBranchPage page_size view = IsPageOf branch_page_view branch_data IsBranchFit page_size view
 
 abbrev pub IsPageFit : ℕ → Placed → Type 0
 IsPageFit page_size page = IsLeafPage page_size page.view ⊎ IsBranchPage page_size page.view
+
+-- what holds of a leaf page and of a branch page
+by_kind : (page_size : ℕ) (page : Placed) (P : PageView → Type 0) → ((leaf : IsLeafPage page_size page.view) → P (leaf_page_view leaf.further leaf.es))
+    → ((branch : IsBranchPage page_size page.view) → P (branch_page_view branch.further branch.es)) → IsPageFit page_size page → P page.view
+by_kind page_size page P of_leaf of_branch is = grind arith
 
 -- A page has room for what stands on it,
 abbrev pub HasRoom : ℕ → Placed → Type 0
@@ -62,46 +58,29 @@ HasRoom page_size page = length (content_bytes page.view.kind page.number page.v
 
 pub leaf_room : (page_size number further : ℕ) (es : List LeafElement) → 16 + (16 * length es + length (leaf_data es)) ≤ (1 + further) * page_size
     → HasRoom page_size (record { number = number; view = leaf_page_view further es })
-leaf_room page_size number further es room =
-    let a = length-header_bytes number kind.Leaf (length es) further in
-    let b = length-leaf_bytes es in
-    let c = length-append (header_bytes number kind.Leaf (length es) further) (leaf_bytes es) in omega arith
+leaf_room page_size number further es room = grind (arith, length-header_bytes, length-leaf_bytes, length-append)
 
 pub branch_room : (page_size number further : ℕ) (es : List BranchElement) → 16 + (16 * length es + length (branch_data es)) ≤ (1 + further) * page_size
     → HasRoom page_size (record { number = number; view = branch_page_view further es })
-branch_room page_size number further es room =
-    let a = length-header_bytes number kind.Branch (length es) further in
-    let b = length-branch_bytes es in
-    let c = length-append (header_bytes number kind.Branch (length es) further) (branch_bytes es) in omega arith
+branch_room page_size number further es room = grind (arith, length-header_bytes, length-branch_bytes, length-append)
 
 fit_room : (page_size : ℕ) (page : Placed) → IsPageFit page_size page → HasRoom page_size page
-fit_room page_size page (inl leaf) =
-    let P : PageView → Type 0 = λ view. HasRoom page_size (record { number = page.number; view = view }) in
-    subst P (sym leaf.is) (leaf_room page_size page.number leaf.further leaf.es leaf.room)
-fit_room page_size page (inr branch) =
-    let P : PageView → Type 0 = λ view. HasRoom page_size (record { number = page.number; view = view }) in
-    subst P (sym branch.is) (branch_room page_size page.number branch.further branch.es branch.room)
+fit_room page_size page = grind (arith, leaf_room, branch_room)
 
 -- and so it takes as many bytes as its span.
 length-page : (page_size : ℕ) (page : Placed) → HasRoom page_size page → length (page_bytes page_size page.number page.view) ≡ (1 + page.view.overflow) * page_size
 unfolding page_bytes
 length-page page_size page room = length-filled ((1 + page.view.overflow) * page_size) (content_bytes page.view.kind page.number page.view) room
 
-page_shown : (file : List ℕ) (meta : Meta) (page : Placed) (rest : List ℕ) → IsPageFit meta.page_size page
-    → drop (page.number * meta.page_size) file ≡ page_bytes meta.page_size page.number page.view ++ rest
-    → page.number < 256 ^ 8 → page.number + page.view.overflow < meta.high_water → page.number * meta.page_size ≤ length file → IsShown file meta page.number page.view
-page_shown file meta page rest (inl leaf) h number below within =
-    let more : page.view.overflow ≡ leaf.further = ap (λ (v : PageView). v.overflow) leaf.is in
-    let h2 = h ∙ ap (λ (v : PageView). page_bytes meta.page_size page.number v ++ rest) leaf.is in
-    let narrow = leaf.narrow in
-    subst (IsShown file meta page.number) (sym leaf.is)
-    (leaf_shown file meta page.number leaf.further leaf.es rest h2 (record { number = number; further = narrow; below = omega arith; within = within }) leaf.few leaf.room leaf.small leaf.fits)
-page_shown file meta page rest (inr branch) h number below within =
-    let more : page.view.overflow ≡ branch.further = ap (λ (v : PageView). v.overflow) branch.is in
-    let h2 = h ∙ ap (λ (v : PageView). page_bytes meta.page_size page.number v ++ rest) branch.is in
-    let narrow = branch.narrow in
-    subst (IsShown file meta page.number) (sym branch.is)
-    (branch_shown file meta page.number branch.further branch.es rest h2 (record { number = number; further = narrow; below = omega arith; within = within }) branch.few branch.room branch.small branch.fits)
+page_shown : (file : List ℕ) (meta : Meta) (page : Placed) (rest : List ℕ) → IsPageFit meta.page_size page → page.number < 256 ^ 8 → page.number * meta.page_size ≤ length file
+    → drop (page.number * meta.page_size) file ≡ page_bytes meta.page_size page.number page.view ++ rest → page.number + page.view.overflow < meta.high_water
+    → IsShown file meta page.number page.view
+page_shown file meta page rest fit number within =
+    by_kind meta.page_size page
+    (λ view. drop (page.number * meta.page_size) file ≡ page_bytes meta.page_size page.number view ++ rest → page.number + view.overflow < meta.high_water → IsShown file meta page.number view)
+    (λ leaf h below. leaf_shown file meta page.number leaf.further leaf.es rest h (record { number = number; further = leaf.narrow; below = below; within = within }) leaf.few leaf.room leaf.small leaf.fits)
+    (λ branch h below. branch_shown file meta page.number branch.further branch.es rest h (record { number = number; further = branch.narrow; below = below; within = within }) branch.few branch.room branch.small branch.fits)
+    fit
 
 abbrev pub IsInARow : ℕ → List Placed → ℕ → Type 0
 IsInARow from [] to = from ≡ to
@@ -127,12 +106,11 @@ row_shown file meta from to (page ∷ pages) rest row fits h within below small 
     let h2 : drop (from * size) file ≡ page_bytes size page.number page.view ++ (placed_bytes size pages ++ rest) = h ∙ append_assoc (page_bytes size page.number page.view) (placed_bytes size pages) rest in
     let long = length-page size page (fit_room size page fits.0) in
     let here : drop (page.number * size) file ≡ page_bytes size page.number page.view ++ (placed_bytes size pages ++ rest) = ap (λ (n : ℕ). drop n file) place ∙ h2 in
-    let end : (from + (1 + page.view.overflow)) * size ≡ from * size + (1 + page.view.overflow) * size = add-mul from (1 + page.view.overflow) size in
     let w = part_within file (page_bytes size page.number page.view) (placed_bytes size pages ++ rest) (from * size) h2 within in
     let behind : drop ((from + (1 + page.view.overflow)) * size) file ≡ placed_bytes size pages ++ rest =
     part_next file (page_bytes size page.number page.view) (placed_bytes size pages ++ rest) (from * size) _ h2 (omega arith) in
     let order = row_order (from + (1 + page.view.overflow)) to pages row.1 in (
-      page_shown file meta page (placed_bytes size pages ++ rest) fits.0 here (omega arith) (omega arith) (omega arith),
+      page_shown file meta page (placed_bytes size pages ++ rest) fits.0 (omega arith) (omega arith) here (omega arith),
       row_shown file meta (from + (1 + page.view.overflow)) to pages rest row.1 fits.1 behind (omega arith) below small,
     )
 
@@ -140,11 +118,7 @@ row_shown file meta from to (page ∷ pages) rest row fits h within below small 
 pub length-placed : (page_size from to : ℕ) (pages : List Placed) → IsInARow from pages to → AllByRecursion (HasRoom page_size) pages
     → length (placed_bytes page_size pages) + from * page_size ≡ to * page_size
 length-placed page_size from to [] row fits = let e = ap (λ (n : ℕ). n * page_size) row in omega arith
-length-placed page_size from to (page ∷ pages) row fits =
-    let ih = length-placed page_size (from + (1 + page.view.overflow)) to pages row.1 fits.1 in
-    let long = length-page page_size page fits.0 in
-    let end : (from + (1 + page.view.overflow)) * page_size ≡ from * page_size + (1 + page.view.overflow) * page_size = add-mul from (1 + page.view.overflow) page_size in
-    let l = length-append (page_bytes page_size page.number page.view) (placed_bytes page_size pages) in omega arith
+length-placed page_size from to (page ∷ pages) row fits = grind (arith, length-page, length-append, length-placed page_size (from + (1 + page.view.overflow)) to pages row.1 fits.1)
 
 -- The last page of a row ends where the row does,
 pub row_last : (from to : ℕ) (front : List Placed) (own : Placed) → IsInARow from (front ++ own ∷ []) to → own.number + (1 + own.view.overflow) ≡ to
@@ -155,12 +129,10 @@ row_last from to (page ∷ front) own row = row_last (from + (1 + page.view.over
 pub last_written : (file : List ℕ) (page_size from to : ℕ) (front : List Placed) (own : Placed) (rest : List ℕ) → IsInARow from (front ++ own ∷ []) to
     → AllByRecursion (IsPageFit page_size) (front ++ own ∷ []) → drop (from * page_size) file ≡ placed_bytes page_size (front ++ own ∷ []) ++ rest
     → IsPageFit page_size own × (drop (own.number * page_size) file ≡ page_bytes page_size own.number own.view ++ rest)
-last_written file page_size from to [] own rest row fits h =
-    (fits.0, ap (λ (n : ℕ). drop (n * page_size) file) row.0 ∙ (h ∙ (append_assoc (page_bytes page_size own.number own.view) [] rest)))
+last_written file page_size from to [] own rest row fits h = grind (arith, append_assoc)
 last_written file page_size from to (page ∷ front) own rest row fits h =
     let long = length-page page_size page (fit_room page_size page fits.0) in
     let h2 = h ∙ append_assoc (page_bytes page_size page.number page.view) (placed_bytes page_size (front ++ own ∷ [])) rest in
-    let end : (from + (1 + page.view.overflow)) * page_size ≡ from * page_size + (1 + page.view.overflow) * page_size = add-mul from (1 + page.view.overflow) page_size in
     let behind = part_next file (page_bytes page_size page.number page.view) (placed_bytes page_size (front ++ own ∷ []) ++ rest) (from * page_size) ((from + (1 + page.view.overflow)) * page_size) h2 (omega arith) in
     last_written file page_size (from + (1 + page.view.overflow)) to front own rest row.1 fits.1 behind
 
@@ -176,22 +148,10 @@ pub record IsHeaded (bytes : List ℕ) (page : Placed) : Type 0 where
 view_headed : (page_size number : ℕ) (view : PageView) (own rest : List ℕ) → content_bytes view.kind number view ≡ header_bytes number view.kind view.count view.overflow ++ own → view.count < 256 ^ 2 → view.overflow < 256 ^ 4
     → IsHeaded (page_bytes page_size number view ++ rest) (record { number = number; view = view })
 unfolding page_bytes
-view_headed page_size number view own rest same few narrow =
-    let content : List ℕ = content_bytes view.kind number view in
-    let zeros : List ℕ = replicate ((1 + view.overflow) * page_size - length content) 0 in
-    record {
-      is = view.kind;
-      n = view.count;
-      behind = own ++ (zeros ++ rest);
-      begins = append_assoc content zeros rest ∙ ap (λ (t : List ℕ). t ++ (zeros ++ rest)) same ∙ append_assoc (header_bytes number view.kind view.count view.overflow) own (zeros ++ rest);
-      few = few;
-      narrow = narrow;
-    }
+view_headed page_size number view own rest same few narrow = grind (arith, append_assoc)
 
 pub page_headed : (page_size : ℕ) (page : Placed) (rest : List ℕ) → IsPageFit page_size page → IsHeaded (page_bytes page_size page.number page.view ++ rest) page
-page_headed page_size page rest (inl leaf) =
-    let P : PageView → Type 0 = λ view. IsHeaded (page_bytes page_size page.number view ++ rest) (record { number = page.number; view = view }) in
-    subst P (sym leaf.is) (view_headed page_size page.number (leaf_page_view leaf.further leaf.es) (leaf_bytes leaf.es) rest refl leaf.few leaf.narrow)
-page_headed page_size page rest (inr branch) =
-    let P : PageView → Type 0 = λ view. IsHeaded (page_bytes page_size page.number view ++ rest) (record { number = page.number; view = view }) in
-    subst P (sym branch.is) (view_headed page_size page.number (branch_page_view branch.further branch.es) (branch_bytes branch.es) rest refl branch.few branch.narrow)
+page_headed page_size page rest =
+    by_kind page_size page (λ view. IsHeaded (page_bytes page_size page.number view ++ rest) (record { number = page.number; view = view }))
+    (λ leaf. view_headed page_size page.number (leaf_page_view leaf.further leaf.es) (leaf_bytes leaf.es) rest refl leaf.few leaf.narrow)
+    (λ branch. view_headed page_size page.number (branch_page_view branch.further branch.es) (branch_bytes branch.es) rest refl branch.few branch.narrow)

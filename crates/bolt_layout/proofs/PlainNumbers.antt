@@ -1,9 +1,9 @@
 -- The branches of a bucket in the plain layout take at most 27 times the page numbers of its leaves.
 -- A level of branches takes no more than its pages and the weights of the level below. The weights don't rise from level to level, and the
 -- number of pages halves. A page weighs less than 2^21: so the weights of 21 levels are counted in full, and above these the pages alone.
-use Rattle.std.proofs.Common.{◌≡◌, ◌∙◌, ℕ, zero, suc, ◌+◌, ◌-◌, ◌*◌, ◌/◌, ◌<◌, ◌≤◌, List, [], ◌∷◌, length, map, flat_map, refl, sym, ap, subst, arith}
+use Rattle.std.proofs.Common.{◌≡◌, ℕ, zero, suc, ◌+◌, ◌-◌, ◌*◌, ◌/◌, ◌<◌, ◌≤◌, List, [], ◌∷◌, length, map, flat_map, sym, ap, subst, arith}
 use Rattle.std.specs.List.{AllByRecursion}
-use Rattle.std.proofs.Math.Nat.{div-lt_iff_lt-mul, mul-le-mul_left, mul-le-mul_right, mul-suc, mul_comm, mul_assoc, suc-mul}
+use Rattle.std.proofs.Math.Nat.{div-lt_iff_lt-mul, mul-le-mul_left, mul-le-mul_right}
 use Rattle.std.proofs.lemmas.List.{length-map}
 use Rattle.bolt_format.specs.Elements.{BranchElement, LeafElement}
 use Rattle.bolt_format.specs.Pages.{PageView}
@@ -39,20 +39,12 @@ branches_most times n more weight = times * weight + (2 * more + 4 * (n * more))
 -- half the pages, and no more weight: one level less, at twice the weight
 level_less : (times n more fewer lighter weight own : ℕ) → 2 * fewer ≤ more → lighter ≤ weight → own ≤ more + weight
     → own + branches_most times (2 * n) fewer lighter ≤ branches_most (suc times) n more weight
-level_less times n more fewer lighter weight own half less small =
-    let a : times * lighter ≤ times * weight = mul-le-mul_left times less in
-    let b : suc times * weight ≡ times * weight + weight = suc-mul times weight ∙ omega arith in
-    let c : 2 * n * fewer ≡ n * (2 * fewer) = ap (λ (x : ℕ). x * fewer) (mul_comm 2 n) ∙ mul_assoc n 2 fewer in
-    let d : n * (2 * fewer) ≤ n * more = mul-le-mul_left n half in omega arith
+level_less times n more fewer lighter weight own half less small = omega (arith, mul-le-mul_left times less, mul-le-mul_left n half)
 
 -- and where each page weighs so much at the most, the pages alone
 level_last : (n more fewer lighter weight own : ℕ) → 2 * fewer ≤ more → 1 ≤ more → weight ≤ n * suc more → own ≤ more + weight
     → own + branches_most 0 n fewer lighter ≤ branches_most 0 n more weight
-level_last n more fewer lighter weight own half some light small =
-    let a : n * suc more ≡ n * more + n = mul-suc n more ∙ omega arith in
-    let b : n * 1 ≤ n * more = mul-le-mul_left n some in
-    let c : n * (2 * fewer) ≤ n * more = mul-le-mul_left n half in
-    let d : n * (2 * fewer) ≡ 2 * (n * fewer) = omega arith in omega arith
+level_last n more fewer lighter weight own half some light small = omega (arith, mul-le-mul_left n some, mul-le-mul_left n half)
 
 -- A level of branches over a level of pages.
 record IsNext (page_size most more : ℕ) (pages next : List (Laid BranchElement)) : Type 0 where
@@ -103,7 +95,6 @@ top_most page_size most zero times n more (page ∷ other ∷ level) low rooms l
 top_most page_size most (suc steps) zero n more (page ∷ other ∷ level) low rooms light enough count =
     let pages : List (Laid BranchElement) = page ∷ other ∷ level in
     let is : IsNext page_size most more pages (next_level Plain page_size pages) = next_is page_size most more pages low rooms light count (omega arith) in
-    let numbers = is.numbers in
     let ih = top_most page_size most steps zero n is.fewer (next_level Plain page_size pages) low is.rooms is.light enough is.count in
     let heavy = weights_light page_size most pages light in
     let all : most * length pages ≤ n * length pages = mul-le-mul_right (length pages) enough in
@@ -113,7 +104,6 @@ top_most page_size most (suc steps) zero n more (page ∷ other ∷ level) low r
 top_most page_size most (suc steps) (suc times) n more (page ∷ other ∷ level) low rooms light enough count =
     let pages : List (Laid BranchElement) = page ∷ other ∷ level in
     let is : IsNext page_size most more pages (next_level Plain page_size pages) = next_is page_size most more pages low rooms light count (omega arith) in
-    let numbers = is.numbers in
     let ih = top_most page_size most steps times (2 * n) is.fewer (next_level Plain page_size pages) low is.rooms is.light enough is.count in
     let less = level_less times n more is.fewer (weights page_size (next_level Plain page_size pages)) (weights page_size pages) is.own is.half is.less is.small in
     omega arith
@@ -125,7 +115,6 @@ leaves_light page_size [] low some short = tt
 leaves_light page_size ([] ∷ runs) low some short = absurd (let none = some.0 in omega arith)
 leaves_light page_size ((first ∷ run) ∷ runs) low some short =
     let both = all_split HasShortKey (first ∷ run) (flat_map (λ run. run) runs) short in
-    let key : length first.key ≤ 0x40000000 = both.0.0 in
     let below : (16 + length first.key) / page_size < 1048577 = (div-lt_iff_lt-mul {k = page_size} {x = 16 + length first.key} {y = 1048577} (omega arith)).1 (omega arith) in
     (omega arith, leaves_light page_size runs low some.1 both.1)
 
@@ -151,7 +140,6 @@ plain_most page_size items low rooms short some =
     let any = runs_some runs items divided.whole some in
     let same = length-map runs (page_over leaf_page_view page_size) in
     let light = leaves_light page_size runs low have short2 in
-    let enough : doubled 21 1 ≡ 2097152 = refl in
     let top = top_most page_size 1048577 (length level) 21 1 (length level - 1) level (omega arith) (rooms_kept leaf_page_view page_size runs) light (omega arith) (omega arith) in
     let numbers = leaves_numbers page_size items in
     let heavy = own_weights leaf_page_view page_size runs (omega arith) have rooms2 in

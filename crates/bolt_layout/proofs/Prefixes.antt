@@ -1,12 +1,11 @@
 -- A layout that is cut short is refused.
-use Rattle.std.proofs.Common.{◌≡◌, ◌∙◌, ℕ, ◌+◌, ◌-◌, ◌*◌, ◌^◌, ◌<◌, ◌≤◌, ◌==◌, is_some, nat_lt, nat_le, true, false, List, [], ◌∷◌, ◌++◌, length, drop, take, Option, Some, Err, refl, sym, ap, subst, inl, inr, arith}
+use Rattle.std.proofs.Common.{◌≡◌, ◌∙◌, ℕ, ◌+◌, ◌-◌, ◌*◌, ◌^◌, ◌<◌, ◌≤◌, List, [], ◌∷◌, ◌++◌, length, drop, take, Some, Err, refl, ap, subst, inl, inr, arith}
 use Rattle.std.specs.List.{AllByRecursion}
 use Rattle.std.proofs.Math.Seq.{take-append-add}
-use Rattle.std.proofs.lemmas.Bool.{cases_lt, eq-eqb, le-ltb, lt-leb, lt-ltb}
+use Rattle.std.proofs.lemmas.Bool.{cases_lt, eq-eqb, le-ltb}
 use Rattle.std.proofs.lemmas.List.{drop-take, length-take}
-use Rattle.bolt_format.specs.Headers.{flags_field, id_field, kind_of}
 use Rattle.bolt_format.specs.Metas.{IsChosen, IsInOne, IsInSlot, IsMeta, IsPageSize}
-use Rattle.bolt_format.specs.Pages.{from_page, page_at, page_fault, page_overflow, span_fault}
+use Rattle.bolt_format.specs.Pages.{page_at, page_fault, span_fault}
 use Rattle.bolt_format.specs.declared.fault.TheConstants.PageFault.{CUT}
 use Rattle.bolt_format.specs.declared.kind.Kind.{Kind}
 use Rattle.bolt_format.specs.declared.meta.Meta.{Meta}
@@ -24,7 +23,6 @@ use Rattle.bolt_format.specs.ReadBack.{IsHeaderFit}
 use Rattle.bolt_format.proofs.WrittenHeaders.{header_written, length-header_bytes}
 use Rattle.bolt_format.proofs.WrittenMetas.{chosen_of, length-meta_bytes, meta_written}
 use Rattle.bolt_layout.specs.PageBytes.{copy_meta}
-use Rattle.bolt_format.proofs.PageSizes.{size_bounds}
 use Rattle.bolt_layout.proofs.PageRows.{IsInARow, IsPageFit, last_written, page_headed, row_last}
 use Rattle.bolt_layout.proofs.Soundness.{IsLaidOut, laid_out}
 use Rattle.bolt_layout.specs.Laid.{Placed}
@@ -41,27 +39,13 @@ cut_front file part rest at n h within =
 -- The tests of a page whose span passes the file's end.
 cut_short : (file : List ℕ) (meta : Meta) (id : ℕ) → id < meta.high_water → length file < id * meta.page_size + 16 → span_fault file meta id ≡ Some CUT
 unfolding span_fault
-cut_short file meta id below short =
-    let t1 : nat_le meta.high_water id ≡ false = lt-leb meta.high_water id below in
-    let t2 : nat_lt (length file) (id * meta.page_size + 16) ≡ true = lt-ltb (length file) (id * meta.page_size + 16) short in
-    rw (t1, t2) refl
+cut_short file meta id below short = grind arith
 
 cut_late : (file : List ℕ) (meta : Meta) (id : ℕ) (is : Kind) (n more : ℕ) (behind : List ℕ) → drop (id * meta.page_size) file ≡ header_bytes id is n more ++ behind
     → IsHeaderFit id n more → id + more < meta.high_water → id * meta.page_size + 16 ≤ length file
     → length file < (id + 1 + more) * meta.page_size → span_fault file meta id ≡ Some CUT
 unfolding span_fault
-cut_late file meta id is n more behind h fit below header short =
-    let size : ℕ = meta.page_size in
-    let read = (header_written (from_page file meta id) behind id is n more h fit).0 in
-    let same : page_overflow file meta id ≡ more = read.overflow in
-    let end : (id + 1 + page_overflow file meta id) * size ≡ (id + 1 + more) * size = ap (λ (m : ℕ). (id + 1 + m) * size) same in
-    let t1 : nat_le meta.high_water id ≡ false = lt-leb meta.high_water id (omega arith) in
-    let t2 : nat_lt (length file) (id * size + 16) ≡ false = le-ltb (length file) (id * size + 16) header in
-    let t3 : (id_field (from_page file meta id) == id) ≡ true = eq-eqb (id_field (from_page file meta id)) id read.id in
-    let t4 : is_some (kind_of (flags_field (from_page file meta id))) ≡ true = ap (λ (o : Option Kind). is_some o) read.kind in
-    let t5 : nat_le meta.high_water (id + page_overflow file meta id) ≡ false = lt-leb meta.high_water (id + page_overflow file meta id) (omega arith) in
-    let t6 : nat_lt (length file) ((id + 1 + page_overflow file meta id) * size) ≡ true = lt-ltb (length file) ((id + 1 + page_overflow file meta id) * size) (omega arith) in
-    rw (t1, t2, t3, t4, t5, t6) refl
+cut_late file meta id is n more behind h fit below header short = grind (arith, header_written, le-ltb, eq-eqb)
 
 -- So it is no node,
 cut_node : (file : List ℕ) (meta : Meta) (id : ℕ) → span_fault file meta id ≡ Some CUT → node_at file meta id ≡ Err CUT
@@ -79,21 +63,13 @@ cut_first file meta h = record {
 }
 
 -- Before the first meta ends there is none.
-no_meta : (file : List ℕ) (at : ℕ) (meta : Meta) → length file < 80 → IsMeta file at meta → ⊥
-no_meta file at meta short valid = let w = valid.whole in omega arith
-
 no_slot : (file : List ℕ) → length file < 80 → (slot : Slot) (meta : Meta) → IsInSlot file slot meta → ⊥
-no_slot file short Zero meta valid = no_meta file 0 meta short valid
-no_slot file short One meta (inl (other, first, second)) = no_meta file 0 other short first
-no_slot file short One meta (inr (none, lone)) = no_meta file lone.at meta short lone.valid
+no_slot file short slot meta valid = grind arith
 
 -- Which meta is active in a layout that is cut short.
 not_second : (file : List ℕ) (page_size root sequence mark : ℕ) (other : Meta) → IsMeta file 0 (copy_meta page_size root sequence mark 0) → length file < page_size + 80
     → IsInOne file other → ⊥
-not_second file page_size root sequence mark other first short (inl (before, zeroth, second)) =
-    let same : before ≡ copy_meta page_size root sequence mark 0 = zeroth.fields ∙ sym first.fields in
-    let at : before.page_size ≡ page_size = ap (λ (m : Meta). m.page_size) same in
-    let w = second.whole in omega arith
+not_second file page_size root sequence mark other first short (inl (before, zeroth, second)) = grind arith
 not_second file page_size root sequence mark other first short (inr (none, lone)) = none (copy_meta page_size root sequence mark 0) first
 
 only_first : (file : List ℕ) (page_size root sequence mark : ℕ) → IsMeta file 0 (copy_meta page_size root sequence mark 0) → length file < page_size + 80
@@ -107,14 +83,11 @@ only_first file page_size root sequence mark first short = record {
 root_cut : (which : Layout) (page_size : ℕ) (tree : Tree) (sequence n txid : ℕ) → IsPageSize page_size → IsLaidOut which page_size tree sequence → n < length (layout_of which page_size tree sequence)
     → node_at (take n (layout_of which page_size tree sequence)) (copy_meta page_size (layout_root which page_size tree) sequence (layout_mark which page_size tree) txid) (layout_root which page_size tree) ≡ Err CUT
 root_cut which page_size tree sequence n txid size laid less =
-    let bounds = size_bounds page_size size in
     let file : List ℕ = layout_of which page_size tree sequence in
     let torn : List ℕ = take n file in
     let root : ℕ = layout_root which page_size tree in
     let mark : ℕ = layout_mark which page_size tree in
     let meta : Meta = copy_meta page_size root sequence mark txid in
-    let long = laid.long in
-    let room = laid.room in
     let cut : length torn ≡ n = length-take n file ∙ omega arith in
     let (front, own, same, number) = laid.last in
     let row : IsInARow 3 (front ++ own ∷ []) mark = subst (λ (ps : List Placed). IsInARow 3 ps mark) same laid.row in
@@ -188,9 +161,4 @@ pub prefixes_refused : (which : Layout) (page_size : ℕ) (tree : Tree) (sequenc
     → RefusesPrefixes (layout_of which page_size tree sequence) (layout_root which page_size tree)
 prefixes_refused which page_size tree sequence asked short =
     let laid = laid_out which page_size tree sequence asked.size asked.storable asked.sequence_fits short in
-    let file : List ℕ = layout_of which page_size tree sequence in
-    record {
-      before_metas = λ n less few. let cut : length (take n file) ≡ n = length-take n file ∙ omega arith in
-          (λ whole. omega arith, no_slot (take n file) (omega arith));
-      at_root = λ n less enough. torn_root which page_size tree sequence n asked.size laid less enough;
-    }
+    grind (arith, length-take, no_slot, torn_root)

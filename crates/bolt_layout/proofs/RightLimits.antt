@@ -32,8 +32,7 @@ record IsRow (lost : Bool) (row : ℕ × ℕ) (runs : List (List Face)) (above :
   above_lost : Lost next above (map top_face (join_last runs))
 
 top_front : (run more : List Face) → HasItem run → top_face (run ++ more) ≡ top_face run
-top_front [] more some = absurd (omega arith)
-top_front (f ∷ run) more some = refl
+top_front run more some = grind arith
 
 -- where the last run joins the one before it
 joined_row : (lost : Bool) (row : ℕ × ℕ) (runs : List (List Face)) (above : List Face)
@@ -53,13 +52,7 @@ joined_row lost row runs above noted all r one two same =
 kept_row : (lost : Bool) (row : ℕ × ℕ) (runs : List (List Face)) (above : List Face)
     → ((rows : List (ℕ × ℕ)) → limits_from_ends lost (row ∷ rows) ≡ None ∷ limits_from_ends false rows) → (2 ≤ last_length runs) ⊎ (length runs ≤ 1)
     → above ≡ map top_face runs → IsRow lost row runs above
-kept_row lost row runs above noted long same = record {
-  limit = None;
-  next = false;
-  noted = noted;
-  right = inl (refl, long);
-  above_lost = same ∙ ap (λ (rs : List (List Face)). map top_face rs) (sym (join_none runs long));
-}
+kept_row lost row runs above noted long same = grind (arith, join_none)
 
 -- Where no page is lost, what is noted is of this row.
 whole_row : (row : ℕ × ℕ) (runs : List (List Face)) → AllByRecursion HasItem runs → 1 ≤ length runs → row.0 ≡ length runs → row.1 ≡ last_length runs
@@ -124,8 +117,7 @@ alone_row row runs more last e two m =
 
 lost_row : (row : ℕ × ℕ) (runs more : List (List Face)) (last : Face) → AllByRecursion HasItem runs → 1 ≤ length runs → IsPushed runs last more
     → row.0 ≡ length more → row.1 ≡ last_length more → IsRow true row runs (map top_face more)
-lost_row row runs more last all some (inl e) r m = pushed_row row runs more last all some e r m
-lost_row row runs more last all some (inr e) r m = alone_row row runs more last e.0 e.1 m
+lost_row row runs more last all some is r m = grind (arith, pushed_row, alone_row)
 
 -- Either way, by the cut of the plain row.
 cut_items : (page_size : ℕ) (faces : List Face) → AllByRecursion HasItem (cut_of page_size 2 face_size faces)
@@ -133,23 +125,10 @@ cut_items page_size faces =
     let divided = cut_divides page_size 2 2 0 face_size faces (omega arith) (omega arith) (omega arith) in
     all_weaker (IsPageRun page_size 2 0 face_size) HasItem (λ run is. is.some) (cut_of page_size 2 face_size faces) divided.each
 
-cut_some : (page_size : ℕ) (faces : List Face) → 1 ≤ length faces → 1 ≤ length (cut_of page_size 2 face_size faces)
-cut_some page_size [] some = absurd (omega arith)
-cut_some page_size (f ∷ faces) some = some_runs page_size 2 face_size (f ∷ []) faces
-
 limit_of_row : (page_size : ℕ) (lost : Bool) (row : ℕ × ℕ) (plain balanced : List Face) → Lost lost plain balanced → 2 ≤ length plain
     → row.0 ≡ length (cut_of page_size 2 face_size plain) → row.1 ≡ last_length (cut_of page_size 2 face_size plain)
     → IsRow lost row (cut_of page_size 2 face_size balanced) (map top_face (cut_of page_size 2 face_size plain))
-limit_of_row page_size false row plain balanced same two r m =
-    let runs = cut_of page_size 2 face_size plain in
-    subst (λ (fs : List Face). IsRow false row (cut_of page_size 2 face_size fs) (map top_face runs)) same
-    (whole_row row runs (cut_items page_size plain) (cut_some page_size plain (omega arith)) r m)
-limit_of_row page_size true row plain balanced (last, e) two r m =
-    let long : length plain ≡ length balanced + 1 = ap (λ (fs : List Face). length fs) e ∙ length_push balanced last in
-    let runs = cut_of page_size 2 face_size balanced in
-    let pushed = cut_pushed page_size face_size balanced last (omega arith) in
-    lost_row row runs (cut_of page_size 2 face_size plain) last (cut_items page_size balanced) (cut_some page_size balanced (omega arith))
-    (subst (λ (fs : List Face). IsPushed runs last (cut_of page_size 2 face_size fs)) (sym e) pushed) r m
+limit_of_row page_size lost row plain balanced same two r m = grind (arith, face_size, whole_row, cut_items, cut_pushed, lost_row, some_runs)
 
 -- A row of one page, and the rows above it, are cut alike.
 next_short : (page_size : ℕ) (pages : List (Laid BranchElement)) → length pages ≤ 1 → length (next_level Balanced page_size pages) ≤ 1
@@ -178,23 +157,14 @@ face_cut page_size pages =
       sym (map_last face runs) ∙ ap (λ (rs : List (List Face)). last_length rs) same,
     )
 
-lost_short : (lost : Bool) (plain balanced : List Face) → Lost lost plain balanced → length plain ≤ 1 → length balanced ≤ 1
-lost_short false plain balanced same few = let e = ap (λ (fs : List Face). length fs) same in omega arith
-lost_short true plain balanced (last, same) few = let e = ap (λ (fs : List Face). length fs) same ∙ length_push balanced last in omega arith
-
 rows_at : (page_size : ℕ) (limits : List (Option ℕ)) (limit : Option ℕ) (pages : List (Laid BranchElement))
     → cut_row page_size size_of limit pages ≡ branch_cut Balanced page_size size_of pages
     → HaveRightLimits Balanced page_size (limit_at limits) (next_level Balanced page_size pages) → HaveRightLimits Balanced page_size (limit_at (limit ∷ limits)) pages
-rows_at page_size limits limit pages first above zero = first
-rows_at page_size limits limit pages first above (suc k) = above k
+rows_at page_size limits limit pages first above k = grind arith
 
 rows_limited : (page_size : ℕ) (rows : List (ℕ × ℕ)) (lost : Bool) (plain balanced : List (Laid BranchElement)) → AreRowEnds page_size plain rows
     → Lost lost (map face plain) (map face balanced) → HaveRightLimits Balanced page_size (limit_at (limits_from_ends lost rows)) balanced
-rows_limited page_size [] lost plain balanced few lacks k =
-    let a = length-map plain face in
-    let b = length-map balanced face in
-    let short = lost_short lost (map face plain) (map face balanced) lacks (omega arith) in
-    short_rows page_size k balanced (omega arith)
+rows_limited page_size [] lost plain balanced few lacks k = grind (arith, length-map, short_rows, length_push)
 rows_limited page_size (row ∷ rows) lost plain balanced (two, r, m, noted) lacks k =
     let a = length-map plain face in
     let of_plain = face_cut page_size plain in

@@ -1,10 +1,9 @@
 -- The ends of the plain rows over a level of pages are found in as many steps as there are pages, and there are no others.
-use Rattle.std.proofs.Common.{◌≡◌, ◌∙◌, ◌≤◌, ℕ, zero, suc, List, [], ◌∷◌, length, refl, ap, arith}
+use Rattle.std.proofs.Common.{◌≡◌, ◌≤◌, ℕ, zero, suc, List, [], ◌∷◌, length, refl, arith}
 use Rattle.bolt_format.specs.Elements.{BranchElement}
-use Rattle.bolt_layout.specs.Cut.{cut_of}
-use Rattle.bolt_layout.specs.Laid.{Laid, size_of}
+use Rattle.bolt_layout.specs.Laid.{Laid}
 use Rattle.bolt_layout.specs.Levels.{next_level}
-use Rattle.bolt_layout.specs.Limits.{AreRowEnds, last_length}
+use Rattle.bolt_layout.specs.Limits.{AreRowEnds}
 use Rattle.bolt_layout.specs.Openings.{row_ends, row_ends_of}
 use Rattle.bolt_layout.specs.declared.layout.Layout.TheVariants.{Plain}
 use Rattle.bolt_layout.proofs.Tops.{shorter}
@@ -32,9 +31,7 @@ steps_one (suc steps) page_size (page ∷ other ∷ pages) ((runs, last) ∷ row
     let level : List (Laid BranchElement) = page ∷ other ∷ pages in
     let less = shorter Plain page_size level (omega arith) in
     let ih = steps_one steps page_size (next_level Plain page_size level) rows (omega arith) noted in
-    ap (λ (n : ℕ). (n, last) ∷ rows) r
-    ∙ (ap (λ (n : ℕ). (length (cut_of page_size 2 size_of level), n) ∷ rows) m
-    ∙ ap (λ (rs : List (ℕ × ℕ)). (length (cut_of page_size 2 size_of level), last_length (cut_of page_size 2 size_of level)) ∷ rs) ih)
+    grind arith
 
 pub row_ends_are_one : (page_size : ℕ) (pages : List (Laid BranchElement)) (rows : List (ℕ × ℕ)) → AreRowEnds page_size pages rows → rows ≡ row_ends_of page_size pages
 row_ends_are_one page_size pages rows noted = steps_one (length pages) page_size pages rows (omega arith) noted

@@ -1,12 +1,10 @@
 -- The items of a bucket have the same keys and sizes in both layouts, and the same buckets are inline.
-use Rattle.std.proofs.Common.{◌≡◌, ◌∙◌, ◌+◌, ℕ, not, Bool, true, false, List, ◌∷◌, length, map, sum_by, refl, sym, ap}
-use Rattle.std.proofs.lemmas.Bool.{and_parts, not-true}
+use Rattle.std.proofs.Common.{◌≡◌, ◌∙◌, ◌+◌, ℕ, true, false, List, ◌∷◌, length, map, sum_by, refl, sym, ap, arith}
 use Rattle.std.proofs.lemmas.List.{length-map}
 use Rattle.bolt_format.specs.Elements.{LeafElement}
 use Rattle.bolt_tree.specs.Tree.{Tree, end, with_bucket, with_value}
-use Rattle.bolt_layout.specs.Items.{holds_bucket, is_inline, items_of, leaf_item, stored_bucket}
-use Rattle.bolt_layout.specs.Laid.{Laid, elements_of, size_of}
-use Rattle.bolt_layout.specs.PageBytes.{inline_value}
+use Rattle.bolt_layout.specs.Items.{holds_bucket, is_inline, items_of, leaf_item}
+use Rattle.bolt_layout.specs.Laid.{Laid, size_of}
 use Rattle.bolt_layout.specs.declared.layout.Layout.TheVariants.{Plain, Balanced}
 use Rattle.bolt_layout.proofs.Faces.{Face, face, face_size, sum_map}
 
@@ -28,28 +26,12 @@ same_items page_size (with_bucket key sequence inside after) none = absurd (cc)
 -- So has one that is inline.
 inline_items : (page_size : ℕ) (inside : Tree) → is_inline page_size inside (items_of Plain page_size inside) ≡ true
     → items_of Plain page_size inside ≡ items_of Balanced page_size inside
-inline_items page_size inside inline =
-    let parts = and_parts (not (holds_bucket inside)) _ inline in
-    same_items page_size inside (not-true (holds_bucket inside) parts.0)
-
-stored_alike : (page_size : ℕ) (key : List ℕ) (sequence : ℕ) (inside : Tree) (plain balanced : List (Laid LeafElement)) (b : Bool) → is_inline page_size inside plain ≡ b
-    → is_inline page_size inside balanced ≡ b → (b ≡ true → plain ≡ balanced)
-    → face (stored_bucket Plain page_size key sequence inside plain) ≡ face (stored_bucket Balanced page_size key sequence inside balanced)
-stored_alike page_size key sequence inside plain balanced true e e2 same =
-    rw (e, e2) (ap (λ (items : List (Laid LeafElement)). face (leaf_item key (inline_value sequence (elements_of items 0)) true)) (same refl))
-stored_alike page_size key sequence inside plain balanced false e e2 same = rw (e, e2) refl
+inline_items page_size inside inline = grind (arith, same_items)
 
 pub items_alike : (page_size : ℕ) (tree : Tree) → map face (items_of Plain page_size tree) ≡ map face (items_of Balanced page_size tree)
 items_alike page_size end = refl
 items_alike page_size (with_value key value after) = ap (λ (faces : List Face). (key, 16 + (length key + length value)) ∷ faces) (items_alike page_size after)
-items_alike page_size (with_bucket key sequence inside after) =
-    let plain = items_of Plain page_size inside in
-    let balanced = items_of Balanced page_size inside in
-    let inline = inline_by_faces page_size inside plain balanced (items_alike page_size inside) in
-    let stored = stored_alike page_size key sequence inside plain balanced (is_inline page_size inside plain) refl (sym inline) (inline_items page_size inside) in
-    ap (λ (f : Face). f ∷ map face (items_of Plain page_size after)) stored
-    ∙ ap (λ (faces : List Face). face (stored_bucket Balanced page_size key sequence inside balanced) ∷ faces) (items_alike page_size after)
+items_alike page_size (with_bucket key sequence inside after) = grind (arith, inline_by_faces, inline_items, items_alike page_size inside, items_alike page_size after)
 
 pub inline_alike : (page_size : ℕ) (inside : Tree) → is_inline page_size inside (items_of Plain page_size inside) ≡ is_inline page_size inside (items_of Balanced page_size inside)
-inline_alike page_size inside =
-    inline_by_faces page_size inside (items_of Plain page_size inside) (items_of Balanced page_size inside) (items_alike page_size inside)
+inline_alike page_size inside = grind (arith, inline_by_faces, items_alike)

@@ -50,19 +50,12 @@ module _ (file : List ℕ) (meta : Meta) where
       → Rises entry_cmp es
   rises_of page_size [] items are all rise = tt
   rises_of page_size (e ∷ es) [] are all rise = absurd are
-  rises_of page_size (e ∷ es) (item ∷ items) are all rise =
-      let (n, some, room, is, shown) = are.0 in
-      let first : IsItem page_size item = all.0 in
-      let key : e.key ≡ item.key = ap (λ (y : LeafElement). y.key) is ∙ first.key n in
-      (below_of page_size item e key es items are.1 all.1 rise.0, rises_of page_size es items are.1 all.1 rise.1)
+  rises_of page_size (e ∷ es) (item ∷ items) are all rise = grind (arith, below_of, rises_of page_size es items are.1 all.1 rise.1)
 
   -- so they are the entries of a bucket whose root page stands over the items
   held_entries : (page_size here : ℕ) (items : List (Laid LeafElement)) (held : Holds file meta here items) → AllByRecursion (IsItem page_size) items → Rise items
       → AreEntries (IsEntry file meta) (Root_page here) held.es
-  held_entries page_size here items held all rise = record {
-    rises = rises_of page_size held.es items held.are all rise;
-    exact = λ e. (held.all e, held.each e);
-  }
+  held_entries page_size here items held all rise = grind (arith, rises_of)
 
   -- What an element of a bucket shows.
   abbrev pub ShowsBucket : Key → ℕ → Tree → LeafElement → Type 0
@@ -132,7 +125,6 @@ module _ (file : List ℕ) (meta : Meta) where
   root_shows which page_size sequence n key inside items e sized small narrow all rise ih some room shown same =
       let root = root_over which page_size items in
       let (height, low, page) = root_page which page_size items sized small all rise in
-      let c = page.child n in
       let child : ℕ = (root.element n).child in
       let value : List ℕ = head_bytes child sequence in
       let head = head_written value [] child sequence (sym (append-nil value)) (omega arith) narrow in
@@ -159,13 +151,7 @@ module _ (file : List ℕ) (meta : Meta) where
   tree_shows which page_size sized small end lengths rises [] h = tt
   tree_shows which page_size sized small end lengths rises (e ∷ es) h = h
   tree_shows which page_size sized small (with_value key value after) lengths rises [] h = h
-  tree_shows which page_size sized small (with_value key value after) lengths rises (e ∷ es) h =
-      let (n, some, room, same, shown) = h.0 in (
-        ap (λ (x : LeafElement). x.is_bucket) same,
-        ap (λ (x : LeafElement). x.key) same,
-        ap (λ (x : LeafElement). x.value) same,
-        tree_shows which page_size sized small after lengths.2 rises es h.1,
-      )
+  tree_shows which page_size sized small (with_value key value after) lengths rises (e ∷ es) h = grind (arith, tree_shows which page_size sized small after lengths.2 rises es h.1)
   tree_shows which page_size sized small (with_bucket key sequence inside after) lengths rises [] h = h
   tree_shows which page_size sized small (with_bucket key sequence inside after) lengths rises (e ∷ es) h =
       let (n, some, room, same, shown) = h.0 in

@@ -1,5 +1,5 @@
 -- The layout of a tree is sound, and lists what the tree lists.
-use Rattle.std.proofs.Common.{◌≡◌, ◌<◌, ◌^◌, ℕ, List, Some, length, subst, arith}
+use Rattle.std.proofs.Common.{◌≡◌, ◌<◌, ◌^◌, ℕ, List, Some, length, arith}
 use Rattle.bolt_format.specs.Metas.{IsPageSize}
 use Rattle.bolt_format.specs.Pages.{page_at}
 use Rattle.bolt_format.specs.declared.meta.Meta.{Meta}
@@ -55,6 +55,4 @@ LayoutsAreSound = (which : Layout) (page_size : ℕ) (tree : Tree) (sequence : �
 
 pub copy_lists : LayoutsAreSound → (which : Layout) (page_size sequence : ℕ) (listing : List Member) → IsOfOneTree listing → IsPageSize page_size → sequence < 2 ^ 64
     → length (layout_of_listing which page_size listing sequence) < 2 ^ 63 → IsSoundCopy which page_size (tree_of listing) sequence listing
-copy_lists sound which page_size sequence listing is size fits short =
-    subst (IsSoundCopy which page_size (tree_of listing) sequence) is.lists
-    (sound which page_size (tree_of listing) sequence (record { size = size; storable = is.storable; sequence_fits = fits }) short)
+copy_lists sound which page_size sequence listing is size fits short = grind arith

@@ -1,19 +1,16 @@
 -- The layout of a tree is a sound file.
-use Rattle.std.proofs.Common.{◌≡◌, ◌≢◌, ◌∙◌, ℕ, ◌+◌, ◌-◌, ◌*◌, ◌^◌, ◌<◌, ◌≤◌, List, [], ◌∷◌, ◌++◌, length, drop, replicate, Option, Some, None, refl, sym, ap, subst, inl, inr, arith, append_assoc}
+use Rattle.std.proofs.Common.{◌≡◌, ◌∙◌, ℕ, ◌+◌, ◌-◌, ◌*◌, ◌^◌, ◌<◌, ◌≤◌, List, [], ◌∷◌, ◌++◌, length, drop, replicate, Option, Some, refl, sym, ap, inl, inr, arith, append_assoc}
 use Rattle.std.specs.List.{AllByRecursion}
 use Rattle.std.proofs.Math.Nat.{mul-le-mul_left}
 use Rattle.std.proofs.lemmas.Bool.{cases_lt}
 use Rattle.std.proofs.lemmas.List.{append-nil, length-append}
-use Rattle.bolt_format.specs.Freelists.{free_ids_of, freelist_fault_of}
 use Rattle.bolt_format.specs.Metas.{HasBothMetas, IsChosen, IsMeta, IsPageSize}
-use Rattle.bolt_format.specs.Pages.{PageView, page_fault, page_overflow}
+use Rattle.bolt_format.specs.Pages.{PageView, page_fault}
 use Rattle.bolt_format.specs.declared.meta.Meta.{Meta}
-use Rattle.bolt_format.specs.declared.meta.TheConstants.{NO_FREELIST}
 use Rattle.bolt_format.specs.declared.meta.Slot.TheVariants.{Zero, One}
-use Rattle.bolt_check.specs.Accounts.{IsInUse, ListsFree, times_in}
 use Rattle.bolt_check.specs.Nodes.{node_at, node_of, node_seen}
-use Rattle.bolt_check.specs.Sound.{HasRightAccounts, HasSoundTrees, IsUsed, PassesTests}
-use Rattle.bolt_check.specs.Ways.{At_page, root_spot}
+use Rattle.bolt_check.specs.Sound.{HasRightAccounts, HasSoundTrees, PassesTests}
+use Rattle.bolt_check.specs.Ways.{reached, root_spot}
 use Rattle.bolt_layout.specs.PageBytes.{freelist_page, meta_page, copy_meta}
 use Rattle.bolt_format.specs.Written.{header_bytes, meta_bytes}
 use Rattle.bolt_layout.specs.Layout.{file_bytes, layout_mark, layout_meta, layout_of, layout_pages, layout_root, placed_bytes}
@@ -39,9 +36,7 @@ use Rattle.bolt_layout.specs.declared.layout.Layout.{Layout}
 -- How long the pieces are.
 length-meta_page : (page_size root sequence mark txid : ℕ) → 80 ≤ page_size → length (meta_page page_size root sequence mark txid) ≡ page_size
 unfolding meta_page
-length-meta_page page_size root sequence mark txid room =
-    let a = length-meta_bytes txid (copy_meta page_size root sequence mark txid) in
-    length-filled page_size (meta_bytes txid (copy_meta page_size root sequence mark txid)) (omega arith)
+length-meta_page page_size root sequence mark txid room = grind (arith, length-meta_bytes, length-filled)
 
 -- a meta page begins with its record
 meta_begins : (page_size root sequence mark txid : ℕ) (rest : List ℕ) → (behind : List ℕ) × (meta_page page_size root sequence mark txid ++ rest ≡ meta_bytes txid (copy_meta page_size root sequence mark txid) ++ behind)
@@ -68,18 +63,7 @@ pub record IsFile (page_size root sequence mark : ℕ) (pages : List Placed) (fi
 
 length-file_bytes : (page_size root sequence mark : ℕ) (pages : List Placed) → IsPageSize page_size
     → length (file_bytes page_size root sequence mark pages) ≡ 3 * page_size + length (placed_bytes page_size pages)
-length-file_bytes page_size root sequence mark pages size =
-    let bounds = size_bounds page_size size in
-    let m0 : List ℕ = meta_page page_size root sequence mark 0 in
-    let m1 : List ℕ = meta_page page_size root sequence mark 1 in
-    let fl : List ℕ = freelist_page page_size 2 in
-    let rest : List ℕ = placed_bytes page_size pages in
-    let l0 = length-meta_page page_size root sequence mark 0 (omega arith) in
-    let l1 = length-meta_page page_size root sequence mark 1 (omega arith) in
-    let l2 = length-freelist_page page_size 2 (omega arith) in
-    let a = length-append m0 (m1 ++ (fl ++ rest)) in
-    let b = length-append m1 (fl ++ rest) in
-    let c = length-append fl rest in omega arith
+length-file_bytes page_size root sequence mark pages size = grind (arith, size_bounds, length-meta_page, length-freelist_page, length-append)
 
 pub pieces_stand : (page_size root sequence mark : ℕ) (pages : List Placed) → IsPageSize page_size → root < 256 ^ 8 → sequence < 256 ^ 8 → mark < 256 ^ 8
     → IsFile page_size root sequence mark pages (file_bytes page_size root sequence mark pages)
@@ -130,30 +114,9 @@ some_same : {X : Type 0} (a b : X) → ◌≡◌ {A = Option X} (Some a) (Some b
 some_same a b e = cc
 
 accounts_of : (file : List ℕ) (page_size root sequence mark txid : ℕ) → IsEmptyFreelist file (copy_meta page_size root sequence mark txid) 2
-    → IsPart (node_at file (copy_meta page_size root sequence mark txid)) (At_page (root_spot root)) 3 mark → HasRightAccounts file (copy_meta page_size root sequence mark txid)
+    → IsPart (node_at file (copy_meta page_size root sequence mark txid)) (reached (node_at file (copy_meta page_size root sequence mark txid)) root) 3 mark → HasRightAccounts file (copy_meta page_size root sequence mark txid)
 accounts_of file page_size root sequence mark txid free part =
-    let meta : Meta = copy_meta page_size root sequence mark txid in
-    let good : freelist_fault_of file meta ≡ None = free.good in
-    let alone : page_overflow file meta 2 ≡ 0 = free.alone in
-    let listed : free_ids_of file meta ≡ Some [] = ap (λ (ids : List ℕ). Some ids) free.empty in
-    let written : 2 ≢ NO_FREELIST = λ e. omega arith in
-    record {
-      good = good;
-      apart = λ n in_free used. elim used [
-        | inl low ↦ (let a = in_free.from in omega arith)
-        | inr high ↦ (let (way, h) = high in let i = part.inside way n h in let a = in_free.last in omega arith)
-      ];
-      lists = λ ids e.
-          let none : [] ≡ ids = some_same [] ids (sym listed ∙ e) in
-          subst (λ (xs : List ℕ). ListsFree meta.high_water (IsInUse file meta (IsUsed file meta)) (times_in xs)) none (record {
-            free = λ n h. absurd (omega arith);
-            once = λ n. omega arith;
-            listed = λ n is_free. absurd (is_free.unused (elim (cases_lt n 3) [
-              | inl low ↦ inr (let a = is_free.above_metas in record { written = written; good = good; from = omega arith; last = omega arith })
-              | inr high ↦ inl (inr (part.whole n high is_free.below))
-            ]));
-          });
-    }
+    grind (arith, some_same, cases_lt)
 
 -- what the tests of trees are for
 abbrev pub PassingIsSound : Type 0
@@ -202,26 +165,11 @@ laid_out which page_size tree sequence size storable sized short =
     let pages : List Placed = layout_pages which page_size tree in
     let root : ℕ = layout_root which page_size tree in
     let mark : ℕ = layout_mark which page_size tree in
-    let row : IsInARow 3 pages mark = page.pages.row 3 in
-    let child = page.child 3 in
     let wide : mark * 1024 ≤ mark * page_size = mul-le-mul_left mark (omega arith) in
     let stand = pieces_stand page_size root sequence mark pages size (omega arith) (omega arith) (omega arith) in
     let long = stand.long in
     let fits = page.pages.fits 3 (omega arith) (omega arith) in
-    record {
-      room = omega arith;
-      fits = record { size = size; root = omega arith; sequence = omega arith; freelist = omega arith; mark = omega arith; txid = omega arith };
-      above = omega arith;
-      below = omega arith;
-      row = row;
-      pages = fits;
-      file = stand;
-      long = exact;
-      last = page.last 3;
-      height = height;
-      low = low (omega arith);
-      page = page;
-    }
+    grind arith
 
 pub record IsSoundLayout (which : Layout) (page_size : ℕ) (tree : Tree) (sequence : ℕ) : Type 0 where
   pub metas : HasBothMetas (layout_of which page_size tree sequence)
@@ -242,9 +190,7 @@ layout_sound law which page_size tree sequence size laid =
     let meta : Meta = layout_meta which page_size tree sequence 1 in
     let file : List ℕ = file_bytes page_size root sequence mark pages in
     let stand = laid.file in
-    let long = stand.long in
     let room = laid.room in
-    let above = laid.above in
     let below = laid.below in
     let shown = row_shown file meta 3 mark pages [] laid.row laid.pages stand.placed (omega arith) (omega arith) (omega arith) in
     let nodes = nodes_shown file meta pages shown in

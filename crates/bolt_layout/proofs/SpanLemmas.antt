@@ -6,8 +6,8 @@ use Rattle.std.proofs.lemmas.Bool.{le-ltb, lt-leb, eq-eqb}
 use Rattle.std.proofs.lemmas.List.{append-nil, length-append, length-replicate, drop_at}
 use Rattle.bolt_format.specs.Headers.{count_field, flags_field, id_field, kind_of}
 use Rattle.bolt_format.specs.Elements.{BranchElement, LeafElement, value_fault}
-use Rattle.bolt_format.specs.Freelists.{freelist_fault, freelist_kind_fault, free_ids_at, ids_fault, ids_from, ids_start, id_count}
-use Rattle.bolt_format.specs.Pages.{PageView, content_fault, fault_as, from_page, page_at, page_fault, page_overflow, shown_as, span_bytes, span_fault, view_of}
+use Rattle.bolt_format.specs.Freelists.{freelist_fault, free_ids_at, ids_fault}
+use Rattle.bolt_format.specs.Pages.{PageView, content_fault, from_page, page_at, page_fault, page_overflow, span_bytes, span_fault, view_of}
 use Rattle.bolt_format.specs.declared.kind.Kind.{Kind}
 use Rattle.bolt_format.specs.declared.kind.Kind.TheVariants as kind
 use Rattle.bolt_format.specs.declared.meta.Meta.{Meta}
@@ -74,13 +74,6 @@ span_written file meta id is n more content rest h room fit below within =
       end = omega arith;
     }
 
-shown_is : (fault : Option ℕ) (k : Option Kind) (count overflow n more : ℕ) (bytes : List ℕ) (is : Kind) (view : PageView)
-    → fault ≡ None → k ≡ Some is → count ≡ n → overflow ≡ more → view_of is n more bytes ≡ view → shown_as fault k count overflow bytes ≡ Some view
-shown_is fault k count overflow n more bytes is view a b c d e = rw (a, b, c, d, e) refl
-
-content_is : (k : Option Kind) (count n : ℕ) (bytes : List ℕ) (is : Kind) → k ≡ Some is → count ≡ n → content_fault is n bytes ≡ None → fault_as k count bytes ≡ None
-content_is k count n bytes is a b c = rw (a, b, c) refl
-
 -- a page of a file passes its tests and shows this
 pub record IsShown (file : List ℕ) (meta : Meta) (id : ℕ) (view : PageView) : Type 0 where
   pub passes : page_fault file meta id ≡ None
@@ -90,14 +83,7 @@ pub record IsShown (file : List ℕ) (meta : Meta) (id : ℕ) (view : PageView) 
 shown_with : (file : List ℕ) (meta : Meta) (id n more : ℕ) (is : Kind) (content rest : List ℕ) (view : PageView) → IsSpanRead file meta id is n more content rest
     → content_fault is n (span_bytes file meta id) ≡ None → view_of is n more (span_bytes file meta id) ≡ view → IsShown file meta id view
 unfolding page_fault page_at
-shown_with file meta id n more is content rest view span good same =
-    let passes : page_fault file meta id ≡ None =
-    first_of-both (span_fault file meta id) _ span.fault (content_is (kind_of (flags_field (from_page file meta id))) (count_field (from_page file meta id)) n (span_bytes file meta id) is span.kind span.count good) in
-    record {
-      passes = passes;
-      shows = shown_is (page_fault file meta id) (kind_of (flags_field (from_page file meta id))) (count_field (from_page file meta id)) (page_overflow file meta id) n more (span_bytes file meta id) is view
-          passes span.kind span.count span.overflow same;
-    }
+shown_with file meta id n more is content rest view span good same = grind arith
 
 -- what a page needs to be written: its number and its overflow have room, and it stands in the file and below the mark
 pub record IsPlaceFit (file : List ℕ) (meta : Meta) (id more : ℕ) : Type 0 where
@@ -131,7 +117,6 @@ leaf_shown file meta id more es rest h place few room small fits =
     let l = length-leaf_bytes es in
     let fit : IsHeaderFit id (length es) more = record { id = place.number; count = few; overflow = place.further } in
     let span = span_written file meta id kind.Leaf (length es) more (leaf_bytes es) rest h (omega arith) fit place.below place.within in
-    let spanned = span.long in
     let written = leaves_written value_fault (span_bytes file meta id) es _ span.behind (omega arith) fits small in
     shown_with file meta id (length es) more kind.Leaf (leaf_bytes es) _ (leaf_page_view more es) span written.1 (ap (leaf_view_of more es) written.0)
 
@@ -146,7 +131,6 @@ branch_shown file meta id more es rest h place few room small fits =
     let l = length-branch_bytes es in
     let fit : IsHeaderFit id (length es) more = record { id = place.number; count = few; overflow = place.further } in
     let span = span_written file meta id kind.Branch (length es) more (branch_bytes es) rest h (omega arith) fit place.below place.within in
-    let spanned = span.long in
     let written = branches_written (span_bytes file meta id) es _ span.behind (omega arith) fits small in
     shown_with file meta id (length es) more kind.Branch (branch_bytes es) _ (branch_page_view more es) span written.1 (ap (branch_view_of more es) written.0)
 
@@ -166,12 +150,4 @@ freelist_shown file meta id rest h place room =
     h ∙ ap (λ (xs : List ℕ). filled size xs ++ rest) (sym (append-nil (header_bytes id kind.Freelist 0 0))) ∙ ap (λ (n : ℕ). filled n (header_bytes id kind.Freelist 0 0 ++ []) ++ rest) (sym one) in
     let fit : IsHeaderFit id 0 0 = record { id = place.number; count = omega arith; overflow = omega arith } in
     let span = span_written file meta id kind.Freelist 0 0 [] rest written (omega arith) fit place.below place.within in
-    let spanned = span.long in
-    let enough : nat_lt (length (span_bytes file meta id)) 16 ≡ false = le-ltb (length (span_bytes file meta id)) 16 (omega arith) in
-    let ids : ids_fault (count_field (from_page file meta id)) (span_bytes file meta id) ≡ None =
-    ap (λ (n : ℕ). ids_fault n (span_bytes file meta id)) span.count ∙ rw enough refl in
-    record {
-      good = first_of-both (span_fault file meta id) _ span.fault (first_of-both (freelist_kind_fault (kind_of (flags_field (from_page file meta id)))) _ (ap freelist_kind_fault span.kind) ids);
-      alone = span.overflow;
-      empty = ap (λ (n : ℕ). ids_from (span_bytes file meta id) (ids_start n) (id_count n (span_bytes file meta id))) span.count;
-    }
+    grind (arith, first_of-both)

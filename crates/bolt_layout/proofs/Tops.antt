@@ -1,20 +1,16 @@
 -- The top of a level is that of the next, and a page's overflow is the least.
-use Rattle.std.proofs.Common.{◌≡◌, ℕ, zero, suc, ◌+◌, ◌-◌, ◌≤◌, List, [], ◌∷◌, length, refl, arith}
-use Rattle.std.proofs.Math.Nat.{div-lt_iff_lt-mul}
+use Rattle.std.proofs.Common.{◌≡◌, ℕ, zero, suc, ◌-◌, ◌≤◌, List, [], ◌∷◌, length, refl, arith}
 use Rattle.std.proofs.lemmas.List.{length-map}
 use Rattle.bolt_format.specs.Elements.{BranchElement}
 use Rattle.bolt_layout.specs.Cut.{branch_cut}
 use Rattle.bolt_layout.specs.Laid.{Laid, size_of}
 use Rattle.bolt_layout.specs.Levels.{IsOverflow, TopIsAbove, branch_page_view, next_level, overflow_of, page_over, top_in}
 use Rattle.bolt_layout.proofs.Cutting.{branches_halve}
-use Rattle.bolt_layout.proofs.PageRows.{overflow_room}
 use Rattle.bolt_layout.specs.declared.layout.Layout.{Layout}
 
 -- a level of two pages or more has more than the next
 pub shorter : (which : Layout) (page_size : ℕ) (level : List (Laid BranchElement)) → 2 ≤ length level → suc (length (next_level which page_size level)) ≤ length level
-shorter which page_size level h =
-    let half = branches_halve which page_size size_of level in
-    let same = length-map (branch_cut which page_size size_of level) (page_over branch_page_view page_size) in omega arith
+shorter which page_size level h = omega (arith, branches_halve which page_size size_of level, length-map (branch_cut which page_size size_of level) (page_over branch_page_view page_size))
 
 -- any number of steps is enough that is not below the number of pages, less one
 top_steps : (which : Layout) (page_size s t : ℕ) (level : List (Laid BranchElement)) → length level ≤ suc s → length level ≤ suc t → top_in which s page_size level ≡ top_in which t page_size level
@@ -27,16 +23,8 @@ top_steps which page_size (suc s) (suc t) (page ∷ other ∷ level) h k =
     top_steps which page_size s t (next_level which page_size (page ∷ other ∷ level)) (omega arith) (omega arith)
 
 pub top_above : TopIsAbove
-top_above which page_size [] h = absurd (omega arith)
-top_above which page_size (page ∷ []) h = absurd (omega arith)
-top_above which page_size (page ∷ other ∷ level) h =
-    let next = next_level which page_size (page ∷ other ∷ level) in
-    let less = shorter which page_size (page ∷ other ∷ level) h in
-    top_steps which page_size (suc (length level)) (length next) next (omega arith) (omega arith)
+top_above which page_size is h = grind (arith, shorter, top_steps)
 
 pub overflow_is : (page_size size : ℕ) → 1 ≤ page_size → 1 ≤ size → IsOverflow page_size size (overflow_of page_size size)
 unfolding overflow_of
-overflow_is page_size size some any = record {
-  room = overflow_room page_size size some any;
-  least = λ fewer enough. (let d = (div-lt_iff_lt-mul {k = page_size} {x = size - 1} {y = 1 + fewer} (omega arith)).1 (omega arith) in omega arith);
-}
+overflow_is page_size size some any = grind arith

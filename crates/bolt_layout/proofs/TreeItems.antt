@@ -1,29 +1,27 @@
 -- The items of a tree are read back, have room, and are parts of a sound tree of pages.
-use Rattle.std.proofs.Common.{◌≡◌, ◌∙◌, ℕ, ◌+◌, ◌*◌, ◌/◌, ◌^◌, ◌<◌, ◌≤◌, ◌==◌, not, nat_le, Bool, true, false, List, [], ◌∷◌, ◌++◌, length, map, Option, Some, None, refl, sym, ap, subst, arith}
-use Rattle.std.specs.Ordering.{is_lt}
+use Rattle.std.proofs.Common.{◌≡◌, ◌∙◌, ℕ, ◌+◌, ◌*◌, ◌/◌, ◌^◌, ◌<◌, ◌≤◌, ◌==◌, not, nat_le, Bool, true, false, List, [], ◌∷◌, length, map, Option, Some, None, refl, sym, ap, subst, arith}
+use Rattle.std.proofs.lemmas.Grind.{common_steps}
 use Rattle.std.specs.List.{AllByRecursion}
 use Rattle.std.proofs.lemmas.Bool.{and_parts, eq-eqb, leb-true, ne_eqb, not-true}
 use Rattle.std.proofs.lemmas.List.{append-nil, length-append}
-use Rattle.std.proofs.Math.Nat.{div-le_self}
 use Rattle.bolt_format.specs.Elements.{LeafElement, head_root, head_sequence, inline_elements, value_fault}
-use Rattle.bolt_check.specs.Keys.{Key, key_cmp, key_lt}
+use Rattle.bolt_check.specs.Keys.{Key, key_cmp}
 use Rattle.bolt_check.specs.Nodes.{leaf_entry}
-use Rattle.bolt_check.specs.Ways.{At_inline, At_page, Spot, bucket_spots, root_spot}
+use Rattle.bolt_check.specs.Ways.{At_inline, At_page, Spot, bucket_spots, follow, root_spot}
 use Rattle.bolt_check.specs.Findings.{inline_finding, keys_of, finding_of}
 use Rattle.bolt_layout.specs.Cut.{max_items, run_size}
-use Rattle.bolt_format.specs.Written.{header_bytes, head_bytes}
-use Rattle.bolt_layout.specs.PageBytes.{inline_value, leaf_bytes, leaf_data}
+use Rattle.bolt_format.specs.Written.{head_bytes}
+use Rattle.bolt_layout.specs.PageBytes.{inline_value, leaf_data}
 use Rattle.bolt_layout.proofs.InlineLemmas.{IsFlat, inline_written}
 use Rattle.bolt_format.proofs.WrittenHeaders.{head_written, length-header_bytes, length-head_bytes, root_passes}
 use Rattle.bolt_layout.proofs.SpanLemmas.{length-leaf_bytes}
 use Rattle.bolt_layout.proofs.KeyLaws.{IsBelowItem, IsWithin, Rise}
 use Rattle.bolt_layout.proofs.ListLemmas.{all_weaker}
 use Rattle.bolt_layout.proofs.OverRows.{HasShortKey, IsAtMost, root_is_over}
-use Rattle.bolt_layout.proofs.Parts.{IsPartOrNone, part_inline}
+use Rattle.bolt_layout.proofs.Parts.{IsPart, part_inline, part_none}
 use Rattle.bolt_tree.specs.Order.{IsBelow, Rises}
 use Rattle.bolt_tree.proofs.Lists.{contains_head, contains_tail}
 use Rattle.bolt_format.proofs.PageSizes.{largest_page}
-use Rattle.bolt_format.specs.declared.kind.Kind.TheVariants as kind
 use Rattle.bolt_layout.proofs.LaidPages.{limit}
 use Rattle.bolt_layout.proofs.LaidItems.{IsItem, items_size, length-elements}
 use Rattle.bolt_layout.proofs.LeafPages.{IsPage, above_none, items_keys}
@@ -45,14 +43,13 @@ value_item page_size key value some short sized = record {
   key = λ n. refl;
   size = λ n. refl;
   fit = λ n any h. record { some = some; key = short; value = sized; bucket = λ e. absurd (cc) };
-  part = λ nodes n host any h shown. omega arith;
+  part = λ nodes n host any h shown. part_none nodes n (n + 0) (omega arith);
 }
 
 -- an inline bucket
 flat_elements : (which : Layout) (page_size : ℕ) (tree : Tree) → holds_bucket tree ≡ false → HasLengths tree → (n : ℕ) → AllByRecursion IsFlat (elements_of (items_of which page_size tree) n)
 flat_elements which page_size end none lengths n = tt
-flat_elements which page_size (with_value key value after) none lengths n =
-    (record { some = lengths.0.0; key = lengths.0.1; value = lengths.1; flat = refl }, flat_elements which page_size after none lengths.2 (n + 0))
+flat_elements which page_size (with_value key value after) none lengths n = grind (arith, flat_elements which page_size after none lengths.2 (n + 0))
 flat_elements which page_size (with_bucket key sequence inside after) none lengths n = absurd (cc)
 
 keys_same : (es : List LeafElement) → keys_of (map leaf_entry es) ≡ map (λ (e : LeafElement). e.key) es
@@ -65,12 +62,7 @@ within_none (item ∷ items) = ((refl, refl), within_none items)
 
 length-inline_value : (sequence : ℕ) (es : List LeafElement) → length (inline_value sequence es) ≡ 32 + (16 * length es + length (leaf_data es))
 unfolding inline_value
-length-inline_value sequence es =
-    let a = length-head_bytes 0 sequence in
-    let b = length-header_bytes 0 kind.Leaf (length es) 0 in
-    let c = length-leaf_bytes es in
-    let d = length-append (head_bytes 0 sequence) (header_bytes 0 kind.Leaf (length es) 0 ++ leaf_bytes es) in
-    let e = length-append (header_bytes 0 kind.Leaf (length es) 0) (leaf_bytes es) in omega arith
+length-inline_value sequence es = grind (arith, length-head_bytes, length-header_bytes, length-leaf_bytes, length-append)
 
 inline_spot : (host : ℕ) (e : LeafElement) (keys : List Key) → e.is_bucket ≡ true → head_root e.value ≡ 0 → map (λ (i : LeafElement). i.key) (inline_elements e.value) ≡ keys
     → bucket_spots host (leaf_entry e) ≡ Some (At_inline host keys)
@@ -96,7 +88,6 @@ inline_read which page_size sequence inside small sized lengths all inline =
     let flat = flat_elements which page_size inside none lengths 0 in
     let size = items_size page_size items all 0 in
     let long = length-elements items 0 in
-    let less = div-le_self page_size 4 in
     let wide = length-inline_value sequence es in
     let written = inline_written sequence es sized flat (omega arith) (omega arith) in
     (written.0, written.1, written.2, written.3, none, omega arith)
@@ -110,7 +101,6 @@ inline_item which page_size key sequence inside small some short sized lengths a
     let es : List LeafElement = elements_of items 0 in
     let value : List ℕ = inline_value sequence es in
     let written = inline_read which page_size sequence inside small sized lengths all inline in
-    let wide = written.5 in
     let keys = items_keys page_size items all None None None 0 rise (above_none items) (within_none items) in
     let named : map (λ (i : LeafElement). i.key) (inline_elements value) ≡ keys_of (map leaf_entry es) = ap (λ (x : List LeafElement). map (λ (i : LeafElement). i.key) x) written.3 ∙ sym (keys_same es) in
     record {
@@ -123,9 +113,8 @@ inline_item which page_size key sequence inside small some short sized lengths a
       fit = λ n any h. record { some = some; key = short; value = omega arith; bucket = λ e. written.0 };
       part = λ nodes n host any h shown.
           let fine : inline_finding host (keys_of (map leaf_entry es)) ≡ None = ap (λ (o : Option ℕ). finding_of o host) keys in
-          let same : n ≡ n + 0 = omega arith in
-          subst (λ (o : Option Spot). IsPartOrNone nodes o n (n + 0)) (sym (inline_spot host (record { key = key; value = value; is_bucket = true }) (keys_of (map leaf_entry es)) refl written.1 named))
-          (subst (λ (m : ℕ). IsPartOrNone nodes (Some (At_inline host (keys_of (map leaf_entry es)))) n m) same (part_inline nodes host n (keys_of (map leaf_entry es)) fine));
+          subst (λ (o : Option Spot). IsPart nodes (follow nodes o) n (n + 0)) (sym (inline_spot host (record { key = key; value = value; is_bucket = true }) (keys_of (map leaf_entry es)) refl written.1 named))
+          (part_inline nodes host n (n + 0) (keys_of (map leaf_entry es)) (omega arith) fine);
     }
 
 -- the root page of a bucket's items
@@ -161,37 +150,25 @@ root_item which page_size key sequence items sized small some short narrow all r
       key = λ n. refl;
       size = λ n. (let l = length-head_bytes (root.element n).child sequence in omega arith);
       fit = λ n any h.
-          let c = page.child n in
           let l = length-head_bytes (root.element n).child sequence in
           record { some = some; key = short; value = omega arith; bucket = λ e. root_passes (root.element n).child sequence (omega arith) (omega arith) narrow };
       part = λ nodes n host any h shown.
-          let c = page.child n in
           let same = head n (omega arith) in
           let e : LeafElement = item.element n in
-          subst (λ (o : Option Spot). IsPartOrNone nodes o n (n + root.numbers)) (sym (spot_of_root host (root.element n).child e refl same (omega arith)))
+          subst (λ (o : Option Spot). IsPart nodes (follow nodes o) n (n + root.numbers)) (sym (spot_of_root host (root.element n).child e refl same (omega arith)))
           (page.part nodes n (root_spot (head_root e.value)) same any h shown (let deep = low (omega arith) in omega arith) (within_none items));
     }
 
 -- the items of a tree
 stored_key : (which : Layout) (page_size : ℕ) (key : List ℕ) (sequence : ℕ) (inside : Tree) (items : List (Laid LeafElement)) (b : Bool) → is_inline page_size inside items ≡ b
     → (stored_bucket which page_size key sequence inside items).key ≡ key
-stored_key which page_size key sequence inside items true e = rw e refl
-stored_key which page_size key sequence inside items false e = rw e refl
+stored_key which page_size key sequence inside items b e = grind arith
 
 keys_below : (which : Layout) (page_size : ℕ) (key : Key) (tree : Tree) → IsBelow key_cmp key (keys_in tree) → (x : Laid LeafElement) → x.key ≡ key
     → AllByRecursion (IsBelowItem x) (items_of which page_size tree)
 keys_below which page_size key end below x same = tt
-keys_below which page_size key (with_value other value after) below x same = (
-  ap (λ (k : Key). key_lt k other) same ∙ ap is_lt (below other (contains_head other (keys_in after))),
-  keys_below which page_size key after (λ k has. below k (contains_tail other k (keys_in after) has)) x same,
-)
-keys_below which page_size key (with_bucket other sequence inside after) below x same =
-    let items = items_of which page_size inside in
-    let named = stored_key which page_size other sequence inside items (is_inline page_size inside items) refl in (
-      ap (λ (k : Key). key_lt k (stored_bucket which page_size other sequence inside items).key) same
-          ∙ (ap (λ (k : Key). key_lt key k) named ∙ ap is_lt (below other (contains_head other (keys_in after)))),
-      keys_below which page_size key after (λ k has. below k (contains_tail other k (keys_in after) has)) x same,
-    )
+keys_below which page_size key (with_value other value after) below x same = grind (arith, common_steps, contains_head, contains_tail, keys_below which page_size key after (λ k has. below k (contains_tail other k (keys_in after) has)) x same)
+keys_below which page_size key (with_bucket other sequence inside after) below x same = grind (arith, common_steps, contains_head, contains_tail, keys_below which page_size key after (λ k has. below k (contains_tail other k (keys_in after) has)) x same)
 
 pub tree_rise : (which : Layout) (page_size : ℕ) (tree : Tree) → Rises key_cmp (keys_in tree) → Rise (items_of which page_size tree)
 tree_rise which page_size end h = tt

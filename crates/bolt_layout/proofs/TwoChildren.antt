@@ -1,48 +1,35 @@
 -- No branch page of a balanced layout has fewer than two elements.
-use Rattle.std.proofs.Common.{◌≡◌, ◌≢◌, ℕ, zero, suc, ◌+◌, ◌≤◌, nat_lt, Bool, true, false, List, [], ◌∷◌, length, map, flat_map, Some, slice_get, refl, sym, ap, subst, inl, inr, arith}
+use Rattle.std.proofs.Common.{◌≡◌, ℕ, zero, suc, ◌+◌, ◌≤◌, List, [], ◌∷◌, length, map, flat_map, refl, sym, ap, subst, arith}
 use Rattle.std.specs.List.{AllByRecursion}
-use Rattle.std.proofs.lemmas.Bool.{cases_Bool, ltb-false}
-use Rattle.std.proofs.lemmas.List.{append-nil, length-append}
+use Rattle.std.proofs.lemmas.List.{length-append}
 use Rattle.bolt_format.specs.Elements.{BranchElement, LeafElement}
 use Rattle.bolt_format.specs.declared.kind.Kind.TheVariants as kind
 use Rattle.bolt_tree.specs.Tree.{Tree, end, with_bucket, with_value}
 use Rattle.bolt_layout.specs.Cut.{branch_cut, cut_of, join_last}
-use Rattle.bolt_layout.specs.Items.{is_inline, items_of, root_of, stored_bucket}
+use Rattle.bolt_layout.specs.Items.{items_of, root_of}
 use Rattle.bolt_layout.specs.Laid.{Laid, elements_of, pages_of, size_of}
 use Rattle.bolt_layout.specs.Layout.{HasTwoIfBranch, first_page, layout_pages}
 use Rattle.bolt_layout.specs.Levels.{branch_page_view, leaf_level, leaf_page_view, next_level, page_over, root_over, top_in}
 use Rattle.bolt_layout.specs.declared.layout.Layout.TheVariants.{Balanced}
 use Rattle.bolt_layout.proofs.Cutting.{branches_divide, cut_divides}
 use Rattle.bolt_layout.proofs.ListLemmas.{all_append, all_split}
-use Rattle.bolt_layout.proofs.OneCut.{is_cut}
+use Rattle.bolt_layout.proofs.OneCut.{AreRuns, cut_runs, cut_whole, first_long}
 
 abbrev HasItems : {X : Type 0} → List X → Type 0
 HasItems run = 2 ≤ length run
 
 -- A run that another one follows has two items, so the joined cut of a row of two or more has only such runs.
-joined_long : {X : Type 0} (runs : List (List X)) → ((i : ℕ) (run : List X) → slice_get runs i ≡ Some run → run ≢ [])
-    → ((i : ℕ) (run next : List X) → slice_get runs i ≡ Some run → slice_get runs (suc i) ≡ Some next → 2 ≤ length run)
-    → 2 ≤ length (flat_map (λ run. run) runs) → AllByRecursion HasItems (join_last runs)
-joined_long [] filled long two = tt
-joined_long {X = X} (run ∷ []) filled long two = let same = ap (λ (xs : List X). length xs) (append-nil run) in (omega arith, tt)
-joined_long (run ∷ next ∷ []) filled long two =
-    let first = long 0 run next refl refl in
-    let l = length-append run next in
-    elim (cases_Bool (nat_lt (length next) 2)) [
-      | inl t ↦ rw t (omega arith, tt)
-      | inr f ↦ (let second = ltb-false (length next) 2 f in rw f (first, (second, tt)))
-    ]
-joined_long {X = X} (run ∷ next ∷ more ∷ runs) filled long two =
-    let first = long 0 run next refl refl in
-    let second = long 1 next more refl refl in
+joined_long : {X : Type 0} (page_size : ℕ) (size : X → ℕ) (runs : List (List X)) → AreRuns page_size 2 size runs → 2 ≤ length (flat_map (λ run. run) runs) → AllByRecursion HasItems (join_last runs)
+joined_long page_size size [] are two = tt
+joined_long page_size size (run ∷ []) are two = (omega (arith, length-append run []), tt)
+joined_long page_size size (run ∷ next ∷ []) are two = grind (arith, length-append)
+joined_long {X = X} page_size size (run ∷ next ∷ more ∷ runs) are two =
+    let second = first_long page_size 2 size next more runs are.2 in
     let l = length-append next (flat_map (λ (r : List X). r) (more ∷ runs)) in
-    (first, joined_long (next ∷ more ∷ runs) (λ i r e. filled (suc i) r e) (λ i r s e f. long (suc i) r s e f) (omega arith))
+    (first_long page_size 2 size run next (more ∷ runs) are, joined_long page_size size (next ∷ more ∷ runs) are.2 (omega arith))
 
 runs_long : {X : Type 0} (page_size : ℕ) (size : X → ℕ) (items : List X) → 2 ≤ length items → AllByRecursion HasItems (branch_cut Balanced page_size size items)
-runs_long {X = X} page_size size items two =
-    let is = is_cut page_size 2 size items (omega arith) (omega arith) in
-    let same = ap (λ (xs : List X). length xs) is.whole in
-    joined_long (cut_of page_size 2 size items) is.filled is.long (omega arith)
+runs_long page_size size items two = grind (arith, cut_whole, joined_long, cut_runs)
 
 -- the pages of an item, from any number on
 abbrev HasTwos : {E : Type 0} → Laid E → Type 0
@@ -50,8 +37,7 @@ HasTwos item = (number : ℕ) → AllByRecursion HasTwoIfBranch (item.pages numb
 
 row_twos : {E : Type 0} (items : List (Laid E)) → AllByRecursion HasTwos items → (number : ℕ) → AllByRecursion HasTwoIfBranch (pages_of items number)
 row_twos [] all number = tt
-row_twos (item ∷ items) all number =
-    all_append HasTwoIfBranch (item.pages number) (pages_of items (number + item.numbers)) (all.0 number) (row_twos items all.1 (number + item.numbers))
+row_twos (item ∷ items) all number = grind (arith, all_append, row_twos items all.1 (number + item.numbers))
 
 no_branch : kind.Leaf ≡ kind.Branch → ⊥
 no_branch e = cc
@@ -64,9 +50,7 @@ count_elements [] number = refl
 count_elements (item ∷ run) number = ap suc (count_elements run (number + item.numbers))
 
 branch_twos : (page_size : ℕ) (run : List (Laid BranchElement)) → HasItems run → AllByRecursion HasTwos run → HasTwos (page_over branch_page_view page_size run)
-branch_twos page_size run two all number =
-    let count = count_elements run number in
-    all_append HasTwoIfBranch (pages_of run number) _ (row_twos run all number) (λ branch. omega arith, tt)
+branch_twos page_size run two all number = grind (arith, count_elements, all_append, row_twos)
 
 -- Leaves,
 leaves_twos : (page_size : ℕ) (runs : List (List (Laid LeafElement))) → AllByRecursion HasTwos (flat_map (λ run. run) runs)
@@ -103,18 +87,11 @@ root_twos page_size items all =
     let below = subst (AllByRecursion HasTwos) (sym divided.whole) all in
     top_twos (length (leaf_level page_size items)) page_size (leaf_level page_size items) (leaves_twos page_size (cut_of page_size 1 size_of items) below)
 
-stored_twos : (page_size : ℕ) (key : List ℕ) (sequence : ℕ) (inside : Tree) (items : List (Laid LeafElement)) (b : Bool) → is_inline page_size inside items ≡ b
-    → AllByRecursion HasTwos items → HasTwos (stored_bucket Balanced page_size key sequence inside items)
-stored_twos page_size key sequence inside items true e all = rw e (λ number. tt)
-stored_twos page_size key sequence inside items false e all = rw e (root_twos page_size items all)
-
 -- and all buckets.
 tree_twos : (page_size : ℕ) (tree : Tree) → AllByRecursion HasTwos (items_of Balanced page_size tree)
 tree_twos page_size end = tt
 tree_twos page_size (with_value key value after) = (λ number. tt, tree_twos page_size after)
-tree_twos page_size (with_bucket key sequence inside after) =
-    let items = items_of Balanced page_size inside in
-    (stored_twos page_size key sequence inside items (is_inline page_size inside items) refl (tree_twos page_size inside), tree_twos page_size after)
+tree_twos page_size (with_bucket key sequence inside after) = grind (arith, tree_twos page_size inside, tree_twos page_size after, root_twos)
 
 pub layout_twos : (page_size : ℕ) (tree : Tree) → AllByRecursion HasTwoIfBranch (layout_pages Balanced page_size tree)
 unfolding root_of

@@ -1,7 +1,7 @@
 -- How many page numbers a row of pages takes: its overflow, by the weights of what stands on it.
 use Rattle.std.proofs.Common.{◌≡◌, ℕ, ◌+◌, ◌*◌, ◌-◌, ◌/◌, ◌<◌, ◌≤◌, List, [], ◌∷◌, ◌++◌, length, map, flat_map, sum_by, refl, ap, arith}
 use Rattle.std.specs.List.{AllByRecursion}
-use Rattle.std.proofs.Math.Nat.{add-mul, div-add-mod', div-lt_iff_lt-mul, div-mul-le_self, mod-lt, mul-suc}
+use Rattle.std.proofs.Math.Nat.{add-mul, div-lt_iff_lt-mul, div-mul-le_self}
 use Rattle.std.proofs.lemmas.Nat.{le-div}
 use Rattle.std.proofs.lemmas.List.Sums.{sum_by-cons}
 use Rattle.bolt_format.specs.Pages.{PageView}
@@ -15,16 +15,7 @@ div_rises : (a b k : ℕ) → 0 < k → a ≤ b → a / k ≤ b / k
 div_rises a b k some h = let l = div-mul-le_self a k in le-div (a / k) b k some (omega arith)
 
 div_sum : (a b k : ℕ) → 0 < k → (a + b) / k ≤ a / k + (1 + b / k)
-div_sum a b k some =
-    let q : ℕ = a / k in
-    let r : ℕ = b / k in
-    let x = div-add-mod' a k in
-    let y = div-add-mod' b k in
-    let s = mod-lt a some in
-    let t = mod-lt b some in
-    let e = add-mul q r k in
-    let f = add-mul (q + r) 2 k in
-    let below : (a + b) / k < (q + r) + 2 = (div-lt_iff_lt-mul {k = k} {x = a + b} {y = (q + r) + 2} some).1 (omega arith) in omega arith
+div_sum a b k some = grind (arith, add-mul, div-lt_iff_lt-mul)
 
 -- an item weighs a page, and as many as its size fills
 abbrev pub weight : {E : Type 0} → (page_size : ℕ) → Laid E → ℕ
@@ -46,9 +37,7 @@ own_numbers page_size (run ∷ runs) = (1 + run_overflow page_size run) + own_nu
 pub level_numbers_are : {E : Type 0} (view : ℕ → List E → PageView) (page_size : ℕ) (runs : List (List (Laid E)))
     → numbers_of (map (page_over view page_size) runs) ≡ numbers_of (flat_map (λ run. run) runs) + own_numbers page_size runs
 level_numbers_are view page_size [] = refl
-level_numbers_are view page_size (run ∷ runs) =
-    let ih = level_numbers_are view page_size runs in
-    let l = numbers-append run (flat_map (λ run. run) runs) in omega arith
+level_numbers_are view page_size (run ∷ runs) = omega (arith, numbers-append, level_numbers_are view page_size runs)
 
 -- A page's overflow is at most the weight of its items.
 run_weight : {E : Type 0} (page_size : ℕ) (run : List (Laid E)) → 16 ≤ page_size → (15 + sum_by size_of run) / page_size ≤ weights page_size run
@@ -98,7 +87,6 @@ own_weights view page_size ([] ∷ runs) low some room = absurd (let none = some
 own_weights {E = E} view page_size ((first ∷ run) ∷ runs) low some room =
     let both = all_split HasKeyRoom (first ∷ run) (flat_map (λ run. run) runs) room in
     let ih = own_weights view page_size runs low some.1 both.1 in
-    let one : 16 + length first.key ≤ first.size = both.0.0 in
     let c = sum_by-cons (size_of {E = E}) first run in
     let d = div_rises (16 + length first.key) ((16 + sum_by size_of (first ∷ run)) - 1) page_size (omega arith) (omega arith) in omega arith
 
@@ -121,12 +109,8 @@ level_light {E = E} view page_size most ((first ∷ run) ∷ runs) low some room
     let rooms = all_split HasKeyRoom (first ∷ run) rest room in
     let lights = all_split (IsLight page_size most) (first ∷ run) rest light in
     let w = first_weight view page_size first run low rooms.0.0 in
-    let one : weight page_size first ≤ most = lights.0.0 in
     (omega arith, level_light view page_size most runs low some.1 rooms.1 lights.1)
 
 pub weights_light : {E : Type 0} (page_size most : ℕ) (items : List (Laid E)) → AllByRecursion (IsLight page_size most) items → weights page_size items ≤ most * length items
 weights_light page_size most [] light = omega arith
-weights_light page_size most (item ∷ items) light =
-    let ih = weights_light page_size most items light.1 in
-    let one : weight page_size item ≤ most = light.0 in
-    let e = mul-suc most (length items) in omega arith
+weights_light page_size most (item ∷ items) light = omega (arith, weights_light page_size most items light.1)

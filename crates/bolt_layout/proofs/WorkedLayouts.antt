@@ -14,7 +14,7 @@ use Rattle.bolt_layout.specs.declared.layout.Layout.TheVariants.{Plain, Balanced
 
 abbrev IsWorked : Layout → (page_size : ℕ) → Tree → (sequence sum root mark held : ℕ) → Type 0
 IsWorked which page_size tree sequence sum root mark held =
-    (fnv_of (layout_of which page_size tree sequence) ≡ sum) × (layout_root which page_size tree ≡ root) × (layout_mark which page_size tree ≡ mark) × (layout_held which page_size tree ≡ held)
+    ◌≡◌ {A = ℕ × ℕ × ℕ × ℕ} (fnv_of (layout_of which page_size tree sequence), layout_root which page_size tree, layout_mark which page_size tree, layout_held which page_size tree) (sum, root, mark, held)
 
 -- values of 82 bytes under keys of two digits
 abbrev digits : List ℕ → Tree
@@ -114,25 +114,4 @@ layouts_are :
     × IsWorked Plain 1024 eleven_leaves 0 8461296673094134919 36 37 4
     × IsWorked Balanced 1024 eleven_leaves 0 8172358324331492310 30 31 6
 unfolding fnv_of fnv_step overflow_of root_of root_over layout_of branch_bytes branch_header freelist_page header_bytes inline_value leaf_bytes leaf_header meta_bytes meta_page meta_record number_bytes page_bytes head_bytes
-layouts_are = (
-  (refl, refl, refl, refl),
-  (refl, refl, refl, refl),
-  (refl, refl, refl, refl),
-  (refl, refl, refl, refl),
-  (refl, refl, refl, refl),
-  (refl, refl, refl, refl),
-  (refl, refl, refl, refl),
-  (refl, refl, refl, refl),
-  (refl, refl, refl, refl),
-  (refl, refl, refl, refl),
-  (refl, refl, refl, refl),
-  (refl, refl, refl, refl),
-  (refl, refl, refl, refl),
-  (refl, refl, refl, refl),
-  (refl, refl, refl, refl),
-  (refl, refl, refl, refl),
-  (refl, refl, refl, refl),
-  (refl, refl, refl, refl),
-  (refl, refl, refl, refl),
-  (refl, refl, refl, refl),
-)
+layouts_are = (refl, refl, refl, refl, refl, refl, refl, refl, refl, refl, refl, refl, refl, refl, refl, refl, refl, refl, refl, refl)

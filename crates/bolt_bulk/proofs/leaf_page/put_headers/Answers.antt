@@ -20,7 +20,6 @@ pub put_leaf-requires-clause-small : goal.put_leaf-requires-clause-small
 put_leaf-requires-clause-small g c =
     let next = next_leaf (held_view c.args.inlined.now) _ _ _ c.args.items.now c.loop-held.held-index c.loop-held.headers.pos no_held c.loop-held-test.true c.loop-held.invariant c.requires.size in
     let is = held_at c.args.inlined.now c.args.items.now c.loop-held.held-index c.loop-held-test.true c.requires.held in
-    let value = c.len-value.ensures c.args.inlined.now is.1 in
     let fits = next.fits in omega arith
 
 pub loop-held-preserved : goal.loop-held-preserved

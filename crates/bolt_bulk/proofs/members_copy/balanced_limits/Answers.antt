@@ -11,12 +11,6 @@ use Rattle.bolt_bulk.proofs.Openings.{fit_plain}
 use Rattle.bolt_bulk.proofs.PutsLemmas.{Wrote-failed}
 use Rattle.bolt_bulk.proofs.members_copy.balanced_limits.Goals as goal
 
-pub put_pages-requires : goal.put_pages-requires
-put_pages-requires g c κs = (
-  (refl, tt),
-  (c.noting_setup_of-setup.ensures.room, c.requires),
-)
-
 pub returns-in-Ok-clause-fit : goal.returns-in-Ok-clause-fit
 returns-in-Ok-clause-fit g c = λ listing lists.
     let ends = c.in-Ok.ensures.pages Plain listing lists (fit_plain c.noting_setup_of-setup.result.page_size c.none-none.result (tree_of listing) c.none-none.ensures) in

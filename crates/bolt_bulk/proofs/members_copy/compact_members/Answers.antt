@@ -25,20 +25,10 @@ there : (g : _) (c : After-setup_of-setup g) (listing : List Member) → g.M.Mem
 there g c listing lists = (c.in_ok-plan.ensures.again.listing listing).1 ((c.in_ok-limits.ensures.again.listing listing).1 lists)
 
 pub plan_within-requires : goal.plan_within-requires
-plan_within-requires g c κs =
-    let again = c.in_ok-limits.ensures.again in (
-      (refl, tt),
-      (
-        whole_again g.M.Members.lists g.M.Members.left c.args.members.now c.limits_of.new.members again c.requires,
-        λ listing is. c.in_ok-limits.ensures.fit listing ((again.listing listing).0 is),
-      ),
-    )
+plan_within-requires g c κs = grind (arith, whole_again, fit)
 
 pub put_pages-requires : goal.put_pages-requires
-put_pages-requires g c κs =
-    let once = whole_again g.M.Members.lists g.M.Members.left c.args.members.now c.limits_of.new.members c.in_ok-limits.ensures.again c.requires in
-    let twice = whole_again g.M.Members.lists g.M.Members.left c.limits_of.new.members c.plan_within.new.members c.in_ok-plan.ensures.again once in
-    ((refl, tt), (c.setup_of-setup.ensures.room, twice))
+put_pages-requires g c κs = grind (arith, whole_again)
 
 pub returns-in_err-limits-clause-copied : goal.returns-in_err-limits-clause-copied
 returns-in_err-limits-clause-copied g c = λ listing lists.
@@ -100,8 +90,4 @@ returns-clause-held g c = λ listing lists.
     let held = ends.held in omega (arith, small, fits, size, held)
 
 pub returns-clause-bounded : goal.returns-clause-bounded
-returns-clause-bounded g c = λ listing lists.
-    let planned = c.in_ok-plan.ensures.plans listing ((c.in_ok-limits.ensures.again.listing listing).1 lists) in
-    let within = c.a_listing_has_one_layout.ensures.bounded c.args.shape.now.layout listing (c.requires.one listing lists) planned.fits in
-    let held = returns-clause-held g c listing lists in
-    omega (arith, within, held)
+returns-clause-bounded g c = grind (arith, returns-clause-held)

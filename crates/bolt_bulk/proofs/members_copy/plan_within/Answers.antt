@@ -1,17 +1,11 @@
 -- The numbers with which a pass over a sink that keeps nothing ends.
-use Rattle.std.proofs.Common.{◌<◌, ℕ, arith, refl, subst, sym}
+use Rattle.std.proofs.Common.{◌<◌, ℕ, arith, subst, sym}
 use Rattle.bolt_tree.specs.Tree.{tree_of}
 use Rattle.bolt_bulk.specs.Private.Passes.{FitLimits, limits_with}
 use Rattle.std.proofs.Math.Logic.{∥∥₁_elim}
 use Rattle.std.proofs.Props.{props}
 use Rattle.bolt_bulk.proofs.PutsLemmas.{Wrote-failed}
 use Rattle.bolt_bulk.proofs.members_copy.plan_within.Goals as goal
-
-pub put_pages-requires : goal.put_pages-requires
-put_pages-requires g c κs = (
-  (refl, tt),
-  (c.setup_of-setup.ensures.room, c.requires.whole),
-)
 
 pub unreachable-requires : goal.unreachable-requires
 unreachable-requires g c = ∥∥₁_elim c.requires.whole.some (Prim.hlevel props) (λ is.

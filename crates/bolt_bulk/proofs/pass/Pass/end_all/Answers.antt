@@ -58,7 +58,6 @@ returns g c = λ wanted put has.
       mark = c.in_ok-root.ensures.next ∙ end.mark;
       within = c.in_ok-root.ensures.within;
       noted = λ asked which.
-          let mark = end.mark in
           let next = c.in_ok-root.ensures.next in
           let within = c.in_ok-root.ensures.within in
           let counted = c.leave_to.new.self.setup.counted in

@@ -1,6 +1,6 @@
 -- The bucket around it takes the item of the one that ends.
 use Rattle.std.specs.Prelude.{⊤}
-use Rattle.std.proofs.Common.{◌∷◌, List, Err, subst}
+use Rattle.std.proofs.Common.{◌∷◌, List, Err, subst, arith}
 use Rattle.bolt_tree.specs.Tree.{end}
 use Rattle.std.specs.List.{AllByRecursion}
 use Rattle.std.proofs.lemmas.Result.{err_from_is_err_and}
@@ -38,12 +38,4 @@ pub count-requires : goal.count-requires
 count-requires g c =
     let ready = c.requires.ready in
     let counted = waits_less c.pop.new.self.items c.args.self.now.waiting.items c.in-Some.waiting ready.counted c.in-Some.ensures.items in
-    record {
-      bucket = c.in_ok-outer.ensures.open;
-      next = c.in_ok-outer.ensures.within;
-      waiting = (last_of (IsWaiting c.args.self.now.setup.page_size) c.pop.new.self.items c.in-Some.waiting
-          (subst (λ (ws : List WaitingBucket). AllByRecursion (IsWaiting c.args.self.now.setup.page_size) ws) c.in-Some.ensures.items ready.waiting)).1;
-      pending = ready.pending;
-      counted = counted.0;
-      around = counted.1;
-    }
+    grind (arith, last_of)

@@ -1,5 +1,5 @@
 -- The value comes after the others, and none has taken a step in the layout.
-use Rattle.std.proofs.Common.{rules, ◌≡◌, ◌++◌, [], ◌∷◌, false, refl}
+use Rattle.std.proofs.Common.{rules, ◌≡◌, ◌++◌, [], ◌∷◌, false, refl, arith}
 use Rattle.bolt_format.specs.declared.element.Leaf.{Leaf}
 use Rattle.bolt_bulk.proofs.PassAt.{keep_at}
 use Rattle.bolt_bulk.proofs.PassReady.{small_of, small_push}
@@ -21,7 +21,4 @@ returns-clause-ready c =
     }
 
 pub returns-clause-at : goal.returns-clause-at
-returns-clause-at c = λ wanted after levels put is.
-    let entry : Leaf = record { key = c.args.key; value = c.args.value; is_bucket = false } in
-    let items : c.push.new.self.items ≡ c.args.self.now.entries.items ++ entry ∷ [] = search rules in
-    keep_at wanted c.args.self.now levels put c.args.key.now c.args.value.now after c.args.pending entry c.args.size c.push.new.self is c.requires.pending items refl
+returns-clause-at c = grind (arith, keep_at)

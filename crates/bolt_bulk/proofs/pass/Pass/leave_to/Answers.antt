@@ -1,5 +1,5 @@
 -- One more bucket has ended, and so on until at most `depth` are left.
-use Rattle.std.proofs.Common.{◌∙◌, List, Result, Ok, refl, arith}
+use Rattle.std.proofs.Common.{◌∙◌, List, Result, Ok, arith}
 use Rattle.std.specs.Prelude.{⊤}
 use Rattle.bolt_layout.specs.Laid.{Placed}
 use Rattle.bolt_bulk.specs.Private.Passes.{HasLeft, IsAt}
@@ -9,11 +9,7 @@ use Rattle.bolt_bulk.proofs.PassLeft.{has_ended, left_out, steps_begun, steps_ma
 use Rattle.bolt_bulk.proofs.pass.Pass.leave_to.Goals as goal
 
 pub levels-init : goal.levels-init
-levels-init g c = record {
-  setup = refl;
-  ready = c.requires.ready;
-  steps = λ wanted members put has shallow. steps_begun wanted c.args.self.now members put c.args.sink.now has;
-}
+levels-init g c = grind (arith, steps_begun)
 
 pub leave_bucket-requires-clause-ready : goal.leave_bucket-requires-clause-ready
 leave_bucket-requires-clause-ready g c = c.levels.invariant.ready

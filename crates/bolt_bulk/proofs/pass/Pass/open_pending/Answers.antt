@@ -1,13 +1,8 @@
 -- The bucket is opened with its entries so far, and the one around it waits with room for it.
-use Rattle.std.proofs.Common.{rules, ◌≡◌, ◌++◌, ◌∷◌, [], List, Ok, Err, subst, sym}
-use Rattle.std.specs.List.{AllByRecursion}
+use Rattle.std.proofs.Common.{rules, ◌≡◌, ◌++◌, ◌∷◌, [], Ok, Err, sym, arith}
 use Rattle.std.proofs.lemmas.Result.{err_from_is_err_and}
-use Rattle.bolt_bulk.specs.Private.OpenBuckets.{IsOpenBucket}
 use Rattle.bolt_bulk.specs.Private.Passes.{IsAt}
 use Rattle.bolt_bulk.specs.declared.fault.BulkFault.TheVariants as fault
-use Rattle.bolt_bulk.specs.Private.WaitingBuckets.{IsWaiting}
-use Rattle.bolt_bulk.specs.declared.bucket_runs.BucketRuns.{BucketRuns}
-use Rattle.bolt_bulk.specs.declared.waiting_bucket.WaitingBucket.{WaitingBucket}
 use Rattle.bolt_bulk.proofs.HeldPasses.{more_around, waits_more}
 use Rattle.bolt_layout.proofs.ListLemmas.{all_append}
 use Rattle.bolt_bulk.proofs.PassAt.{open_steps, open_stops, steps_none}
@@ -40,17 +35,4 @@ returns-clause-steps g c = λ wanted left levels put is rooted.
     items (rw c.replace-outer.ensures.value at c.in_ok-waiting.ensures.runs) c.in_ok-waiting.ensures.key c.in_ok-waiting.ensures.sequence values c.saturating_add-self.ensures c.count.ensures.counts
 
 pub count-requires : goal.count-requires
-count-requires g c =
-    let waiting : List WaitingBucket = c.args.self.now.waiting.items in
-    let w : WaitingBucket = c.in_ok-waiting.waiting in
-    let ready = c.requires in
-    let items : c.push.new.self.items ≡ waiting ++ w ∷ [] = search rules in
-    record {
-      bucket = subst (λ (bucket : BucketRuns). IsOpenBucket bucket) (sym c.replace-outer.ensures.after) c.in_ok-inner.ensures.open;
-      next = c.in_ok-waiting.ensures.within;
-      waiting = subst (λ (ws : List WaitingBucket). AllByRecursion (IsWaiting c.args.self.now.setup.page_size) ws) (sym items)
-          (all_append (IsWaiting c.args.self.now.setup.page_size) waiting (w ∷ []) ready.waiting (c.in_ok-waiting.ensures.waits, tt));
-      pending = c.clear.ensures.items;
-      counted = waits_more waiting c.push.new.self.items w c.args.self.now.around ready.counted c.in_ok-waiting.ensures.around ready.around items;
-      around = more_around c.args.self.now.around c.saturating_add-around.result c.held.result waiting c.push.new.self.items w ready.around c.held.ensures c.saturating_add-around.ensures items;
-    }
+count-requires g c = grind (arith, all_append, waits_more, more_around)

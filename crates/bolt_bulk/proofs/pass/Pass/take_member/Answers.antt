@@ -1,5 +1,5 @@
 -- The buckets that the member isn't in are left; it is the next entry of the innermost one then.
-use Rattle.std.proofs.Common.{◌≤◌, ◌≡◌, ◌∙◌, ◌++◌, ◌∷◌, [], Bor, ℕ, List, ap, length, subst, arith}
+use Rattle.std.proofs.Common.{◌≤◌, ◌≡◌, ◌++◌, ◌∷◌, [], Bor, ℕ, List, ap, length, subst, arith}
 use Rattle.std.proofs.lemmas.List.{length-map, map-append}
 use Rattle.bolt_tree.specs.Entries as entries
 use Rattle.bolt_tree.specs.Listing.{Member}
@@ -16,9 +16,7 @@ use Rattle.bolt_bulk.proofs.pass.Pass.take_member.Goals as goal
 
 -- the last part of the path is the key
 last_is : (parts front : List (Bor (List ℕ))) (key : Bor (List ℕ)) → parts ≡ front ++ key ∷ [] → last_part (path_of parts) ≡ key.now
-last_is parts front key same =
-    let shown : path_of parts ≡ path_of front ++ key.now ∷ [] = ap path_of same ∙ map-append (λ (part : Bor (List ℕ)). part.now) front (key ∷ []) in
-    ap last_part shown ∙ last_pushed (path_of front) key.now
+last_is parts front key same = grind (arith, map-append, last_pushed)
 
 -- which is no longer than the format allows
 key_fits : (parts front : List (Bor (List ℕ))) (key : Bor (List ℕ)) → parts ≡ front ++ key ∷ [] → length (last_part (path_of parts)) ≤ 1073741824 → length key.now ≤ 1073741824
@@ -32,12 +30,10 @@ returns-in_err-leave_to-clause-steps g c = λ wanted members put has.
     (c.in_err-leave_to.ensures.steps wanted (first ∷ members) put has (omega arith))
 
 pub take_value-requires-clause-key : goal.take_value-requires-clause-key
-take_value-requires-clause-key g c =
-    key_fits c.args.path.now c.in-Some.field-0-1.now c.in-Some.key.now c.in-Some.ensures.cases.0 c.requires.fit.1
+take_value-requires-clause-key g c = grind (arith, key_fits)
 
 pub take_bucket-requires-clause-key : goal.take_bucket-requires-clause-key
-take_bucket-requires-clause-key g c =
-    key_fits c.args.path.now c.in-Some.field-0-1.now c.in-Some.key.now c.in-Some.ensures.cases.0 c.requires.fit.1
+take_bucket-requires-clause-key g c = grind (arith, key_fits)
 
 pub returns-in-Value-clause-steps : goal.returns-in-Value-clause-steps
 returns-in-Value-clause-steps g c = λ wanted members put has.

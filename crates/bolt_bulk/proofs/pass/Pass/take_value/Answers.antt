@@ -1,5 +1,5 @@
 -- The value goes to the bucket that may be inline, or that one is opened first, as it has no room.
-use Rattle.std.proofs.Common.{List, inl, inr, map, arith}
+use Rattle.std.proofs.Common.{List, map, arith}
 use Rattle.bolt_format.specs.ElementPlaces.{leaf_view}
 use Rattle.bolt_tree.specs.Tree.{Tree, with_value}
 use Rattle.bolt_layout.specs.Laid.{Placed}
@@ -7,17 +7,14 @@ use Rattle.bolt_bulk.specs.Private.Passes.{HasRoot, IsAt, Wanted, onto}
 use Rattle.bolt_bulk.proofs.PassAt.{steps_none, steps_stop, steps_then}
 use Rattle.bolt_bulk.proofs.PassReady.{full_rooted, small_of}
 use Rattle.bolt_bulk.proofs.pass.Pass.take_value.Goals as goal
-use Rattle.bolt_bulk.proofs.pass.Pass.take_value.Goals.{After-open_pending, else-size-self-via-then-size-self+else-len-lt-MAX_ITEMS, else-size-self-via-else-size-self}
+use Rattle.bolt_bulk.proofs.pass.Pass.take_value.Goals.{After-open_pending}
 
 -- a bucket that has no room for the value has a root page
 rooted : (g : _) (c : After-open_pending g) (wanted : Wanted) (after : Tree)
     → HasRoot wanted.which c.args.self.now.setup.page_size (onto (map leaf_view c.args.self.now.entries.items) (with_value c.args.key.now c.args.value.now after))
 rooted g c wanted after =
     let small = small_of c.args.self.now.setup.page_size c.args.self.now.pending c.in-Some.pending c.args.self.now.entries.items c.in-Some.is c.requires.ready.pending in
-    full_rooted wanted.which c.args.self.now.setup.page_size c.in-Some.pending c.args.self.now.entries.items c.args.key.now c.args.value.now after small (elim c.else-size-self.branch [
-      | else-size-self-via-then-size-self+else-len-lt-MAX_ITEMS w ↦ inr (omega arith)
-      | else-size-self-via-else-size-self w ↦ inl (omega arith)
-    ])
+    grind (arith, full_rooted)
 
 pub returns-then-len-lt-MAX_ITEMS-clause-steps : goal.returns-then-len-lt-MAX_ITEMS-clause-steps
 returns-then-len-lt-MAX_ITEMS-clause-steps g c = λ wanted after levels put is.

@@ -1,6 +1,5 @@
 -- Each run that closes is one step on; a run that stays, or the first new one, ends the climb.
-use Rattle.std.proofs.Common.{◌≡◌, ◌∙◌, ◌+◌, ◌<◌, arith, ap, ℕ, List, subst, sym, refl, map, length, set}
-use Rattle.std.specs.List.{AllByRecursion}
+use Rattle.std.proofs.Common.{◌≡◌, ◌∙◌, ◌+◌, ◌<◌, arith, ap, ℕ, List, refl, map, length, set}
 use Rattle.std.proofs.lemmas.List.{map-set, length-set}
 use Rattle.std.proofs.lemmas.Result.{err_from_is_err_and}
 use Rattle.bolt_format.specs.ElementPlaces.{branch_view}
@@ -9,7 +8,7 @@ use Rattle.bolt_layout.specs.Levels.{overflow_of}
 use Rattle.bolt_layout.specs.Limits.{one_less}
 use Rattle.bolt_bulk.specs.Private.OpenRuns.{key_size}
 use Rattle.bolt_bulk.specs.Private.RowLimits.{bucket_limit}
-use Rattle.bolt_bulk.specs.Private.BranchRuns.{IsStanding, element_up, run_view}
+use Rattle.bolt_bulk.specs.Private.BranchRuns.{run_view}
 use Rattle.bolt_bulk.specs.Private.RunViews.{RunView, no_run, one_closed, run_kept, run_push}
 use Rattle.bolt_bulk.proofs.ClimbLemmas.{Climbing, climb_begins, climb_closes, climb_large, climb_stays, climb_stops, no_room_by, room_by, run_here, standing_at, standing_set, up_key, within_runs}
 use Rattle.bolt_bulk.proofs.upper_runs.UpperRuns.climb.Goals as goal
@@ -45,15 +44,7 @@ returns-in-None g c =
     let took : run_view c.take_page.new.self ≡ run_kept c.args.setup.now.page_size (run_push old (branch_view c.loop-i.closed)) (key_size c.args.key.now) = c.in_ok-take_page.ensures.run ∙ (rw room refl) in
     let next : c.take_page.new.next ≡ c.loop-i.next = c.in_ok-take_page.ensures.next ∙ (rw room refl) in
     let set_is = map-set run_view items c.loop-i.i c.take_page.new.self in
-    record {
-      pages = stays.2;
-      runs = set_is ∙ (ap (λ (r : RunView). set (map run_view items) c.loop-i.i r) took ∙ sym stays.0);
-      limits = c.loop-i.invariant.5;
-      standing = subst (λ (rs : List RunView). AllByRecursion IsStanding rs) (sym set_is) (standing_set (map run_view items) c.loop-i.i (run_view c.take_page.new.self) c.loop-i.invariant.1 c.in_ok-take_page.ensures.standing);
-      next = next ∙ sym stays.1;
-      within = c.in_ok-take_page.ensures.within;
-      large = tt;
-    }
+    grind (arith, standing_set)
 
 pub loop-i-preserved : goal.loop-i-preserved
 loop-i-preserved g c =
@@ -71,15 +62,4 @@ loop-i-preserved g c =
     let k = up_key e c.loop-i.next old (standing_at c.loop-i.self.runs.items c.loop-i.i c.index_mut.result.now h c.index_mut.ensures.value c.loop-i.invariant.1) c.loop-i.invariant.3 in
     let kk = ap (λ (x : BranchElement). length x.key) two.1 in
     let C : List RunView → BranchElement → ℕ → Type 0 = λ rs x n. Climbing c.args.setup.now.page_size (bucket_limit c.args.self.now.limits (length (map run_view c.args.self.now.runs.items))) c.args.key.now (branch_view c.args.closed) c.args.next.now (map run_view c.args.self.now.runs.items) g.S.Sink c.args.sink.now c.take_page.new.sink rs (c.loop-i.i + 1) x n in
-    let one : C (map run_view (set c.loop-i.self.runs.items c.loop-i.i c.take_page.new.self)) (branch_view c.in-Some.up) c.take_page.new.next =
-    subst (λ (rs : List RunView). C rs (branch_view c.in-Some.up) c.take_page.new.next) (sym runs)
-    (subst (λ (x : BranchElement). C (set (map run_view c.loop-i.self.runs.items) c.loop-i.i (no_run (one_less old.left) (one_closed old.closed))) x c.take_page.new.next) (sym two.1)
-    (subst (λ (n : ℕ). C (set (map run_view c.loop-i.self.runs.items) c.loop-i.i (no_run (one_less old.left) (one_closed old.closed))) (element_up e c.loop-i.next old) n) (sym next) closes)) in (
-      one,
-      subst (λ (rs : List RunView). AllByRecursion IsStanding rs) (sym (map-set run_view c.loop-i.self.runs.items c.loop-i.i c.take_page.new.self))
-          (standing_set (map run_view c.loop-i.self.runs.items) c.loop-i.i (run_view c.take_page.new.self) c.loop-i.invariant.1 c.in_ok-take_page.ensures.standing),
-      length-set c.loop-i.self.runs.items c.loop-i.i c.take_page.new.self ∙ c.loop-i.invariant.2,
-      (let z = c.loop-i.invariant.3 in omega arith),
-      c.in_ok-take_page.ensures.within,
-      c.loop-i.invariant.5,
-    )
+    grind (arith, map-set, standing_set, length-set)

@@ -1,14 +1,12 @@
 -- The runs that are left come to the same as all of them: each that closes is one step on, and a fault leaves something out.
-use Rattle.std.proofs.Common.{◌∙◌, ◌+◌, ◌<◌, arith, ap, List, subst, sym, map, length}
-use Rattle.std.specs.List.{AllByRecursion}
+use Rattle.std.proofs.Common.{◌<◌, arith, ap, sym, map, length}
 use Rattle.std.proofs.lemmas.List.{map-set, length-set}
 use Rattle.std.proofs.lemmas.Result.{err_from_is_err_and}
 use Rattle.bolt_format.specs.ElementPlaces.{branch_view}
 use Rattle.bolt_format.specs.Elements.{BranchElement}
-use Rattle.bolt_bulk.specs.Private.BranchRuns.{IsStanding, run_view}
-use Rattle.bolt_bulk.specs.Private.RunViews.{RunView}
+use Rattle.bolt_bulk.specs.Private.BranchRuns.{run_view}
 use Rattle.bolt_bulk.proofs.ClimbLemmas.{run_here, standing_at, standing_set, up_key}
-use Rattle.bolt_bulk.proofs.CloseLemmas.{Closing, close_large, close_more, close_short, close_stops}
+use Rattle.bolt_bulk.proofs.CloseLemmas.{close_large, close_more, close_short, close_stops}
 use Rattle.bolt_bulk.proofs.upper_runs.UpperRuns.close_all.Goals as goal
 
 pub take_last_page-requires-clause-standing : goal.take_last_page-requires-clause-standing
@@ -39,11 +37,5 @@ loop-i-preserved g c =
     (run_here c.loop-i.self.runs.items c.loop-i.i c.index_mut.result.now h c.index_mut.ensures.value) c.in_ok-closed.ensures.up c.in_ok-closed.ensures.next c.loop-i.invariant.0 c.in_ok-closed.ensures.pages in
     let k = up_key e c.loop-i.next run (standing_at c.loop-i.self.runs.items c.loop-i.i c.index_mut.result.now h c.index_mut.ensures.value c.loop-i.invariant.1) c.loop-i.invariant.3 in
     let kk = ap (λ (x : BranchElement). length x.key) c.in_ok-closed.ensures.up in
-    let runs = sym (map-set run_view c.loop-i.self.runs.items c.loop-i.i c.take_last_page.new.self) in (
-      subst (λ (rs : List RunView). Closing c.args.setup.now.page_size (branch_view c.args.closed) c.args.next.now (map run_view c.args.self.now.runs.items) g.S.Sink c.args.sink.now c.take_last_page.new.sink rs (c.loop-i.i + 1) (branch_view c.in_ok-closed.closed) c.take_last_page.new.next) runs more,
-      subst (λ (rs : List RunView). AllByRecursion IsStanding rs) runs
-          (standing_set (map run_view c.loop-i.self.runs.items) c.loop-i.i (run_view c.take_last_page.new.self) c.loop-i.invariant.1 c.in_ok-closed.ensures.standing),
-      length-set c.loop-i.self.runs.items c.loop-i.i c.take_last_page.new.self ∙ c.loop-i.invariant.2,
-      (let z = c.loop-i.invariant.3 in omega arith),
-      c.in_ok-closed.ensures.within,
-    )
+    let runs = sym (map-set run_view c.loop-i.self.runs.items c.loop-i.i c.take_last_page.new.self) in
+    grind (arith, standing_set, length-set)

@@ -17,7 +17,6 @@ push_reserved-requires-clause-size g c = let l = length-head_bytes c.in_ok-root.
 pub push_reserved-requires-clause-room : goal.push_reserved-requires-clause-room
 push_reserved-requires-clause-room g c =
     let size : ℕ = 32 + length c.args.self.key.now in
-    let k = c.requires.waits.key in
     let same = ap (λ (runs : BucketRunsView). leaves_have_room c.args.setup.now.page_size runs.leaves size) (c.reserve.ensures.runs 0) in
     room_fits c.args.setup.now.page_size size c.reserve.new.self.leaves c.args.setup.now.high c.in_ok-reserve.ensures.open.leaves (omega arith) (same ∙ c.requires.waits.room)
 
