@@ -91,6 +91,9 @@ impl Outside for Process<'_> {
         self.read_source(name, metas_alone).map_err(|_| ReadFault)
     }
 
+    /// `create_new` follows no link and truncates nothing, so OUT is never FILE, under any name. The
+    /// permission bits are set as the file is made: if they were set later, a copy of secrets could
+    /// be opened in between.
     fn create(
         &mut self,
         name: &str,
@@ -114,6 +117,7 @@ impl Outside for Process<'_> {
         }
     }
 
+    /// The folder of OUT isn't synced.
     fn end(&mut self, target: WriteSink<BufWriter<File>>) -> Result<(), EndFault> {
         let Ok(file) = target.into_inner().into_inner() else {
             return Err(EndFault);
