@@ -94,7 +94,7 @@ fn step<'a>(
 }
 
 /// Searches all ways from the root page, in order, for a finding. Returns a table in which the
-/// pages of all spans are claimed. It isn't recursive, so deep nesting needs memory, but no stack.
+/// pages of all spans are claimed.
 pub(crate) fn search(alloc: Global, file: &[u8], meta: &Meta) -> Result<Vec<PageUse>, CheckFault>
     requires { 0 < meta.now.page_size }
     ensures clean { OnOk result (IsClean (node_at file.now meta.now) (reached (node_at file.now meta.now) meta.now.root) IsMetaPage) }

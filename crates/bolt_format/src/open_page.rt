@@ -76,9 +76,7 @@ fn page_start(page: u128, meta: &Meta) -> u128
     page * u128::from(meta.page_size)
 }
 
-/// Tests a page's number, its header and its span. The fields are read from the header in the file, not
-/// from the span: with a page size under 16 bytes, which no valid meta has but a caller's may have, the
-/// span would be shorter than the header.
+/// Tests a page's number, its header and its span.
 #[tactic(auto, unfolding(crate::specs::Pages::span_fault))]
 pub(crate) fn test_span(file: &[u8], meta: &Meta, id: u64) -> Result<(), u8>
     ensures fault { result_err result ≡ span_fault file.now meta.now id }

@@ -176,8 +176,7 @@ impl<'a> Cursor<'a> {
     }
 
     /// Moves to the first entry whose key isn't below `key`, and returns it. If there is none,
-    /// moves past the last entry, and returns `None`. From there `next` opens nothing, whatever the
-    /// bucket holds: to find out that a bucket of several pages has no entry would open them all.
+    /// moves past the last entry, and returns `None`.
     pub fn seek(&mut self, key: &[u8]) -> Option<Entry<'a>>
         ensures checked { cursor_checked self.new ≡ cursor_checked self.old }
         ensures start { cursor_start self.new ≡ cursor_start self.old }
