@@ -1,6 +1,7 @@
 pub mod CutLemmas
 pub mod DecimalNumbers
 pub mod DecodedLines
+pub mod DigitLemmas
 pub mod EdgeTrees
 pub mod FileBytes
 pub mod FirstFaults

@@ -12,6 +12,7 @@ ghost use Rattle.bolt_load.specs.Private.Decoding.{Adds, AreDecoded, StopsAt, me
 ghost use Rattle.bolt_load.specs.Private.LineWords.{word_item, words_member};
 
 use crate::cuts::{cut_at, first_line};
+use crate::digits::decode_digits;
 use crate::fault::LineFault;
 use crate::line_words::{ItemWord, LineWords, words_of};
 use bolt_tree::NoMemory;
@@ -42,7 +43,7 @@ fn add_bytes(digits: &[u8], bytes: &mut Vec<u8>) -> Result<bool, NoMemory>
     }
     let start = bytes.len();
     bytes.resize(start + digits.len() / 2, 0)?;
-    Ok(hex::decode_to_slice(digits, &mut bytes[start..]).is_ok())
+    Ok(decode_digits(digits, &mut bytes[start..]))
 }
 
 /// Adds the bytes of a part of a path. Returns whether it is one.

@@ -5,6 +5,7 @@
 
 mod cuts;
 mod decode;
+mod digits;
 mod fault;
 pub mod laws;
 mod line_members;
