@@ -11,6 +11,7 @@ again as the text does, or where it takes more memory than 1.5 times the text, 3
 bytes for each bucket that is open.
 """
 
+import filecmp
 import os
 import sys
 from statistics import median
@@ -18,7 +19,7 @@ from statistics import median
 from time_copies import ROOM, fresh, seconds
 
 ROUNDS = 3
-LONG = 50 * 2**20
+LONG = 50 * 2**10
 NESTED = 3000
 MOST_TIMES = 1.6
 ROOM_IN_BUCKET = 1000
@@ -38,12 +39,6 @@ def one_round(program, file, text, copy, loaded):
     return list_time, copy_time, load_time, memory
 
 
-def is_same(one, other):
-    """Whether two files have the same bytes."""
-    with open(one, "rb") as a, open(other, "rb") as b:
-        return a.read() == b.read()
-
-
 def time_load(program, file):
     """Prints the figures of one file, and returns whether they are as they should be."""
     text, copy, loaded = file + ".list", file + ".copy", file + ".loaded"
@@ -55,39 +50,42 @@ def time_load(program, file):
         f"load {file}: {load_time:.2f} s of {allowed:.2f} (list {list_time:.2f}, compact {copy_time:.2f}), "
         f"{os.path.getsize(text)} bytes of text, memory {memory} of {most}"
     )
-    same = is_same(copy, loaded)
+    same = filecmp.cmp(copy, loaded, shallow=False)
     for path in (text, copy, loaded):
         os.remove(path)
     return same and load_time <= allowed and memory <= most
 
 
 def long_line(length):
-    """A text of one line that has this many bytes in hexadecimal."""
-    return b"61 = " + b"00" * length + b"\n"
+    """The pieces of a text of one line that has this many times 1,024 bytes in hexadecimal."""
+    yield b"61 = "
+    yield from (b"00" * 1024 for _ in range(length))
+    yield b"\n"
 
 
 def nested_lines(depth):
     """The lines of this many buckets, one within another."""
-    return b"".join(b"/".join([b"62"] * (n + 1)) + b" bucket 0\n" for n in range(depth))
+    return (b"/".join([b"62"] * (n + 1)) + b" bucket 0\n" for n in range(depth))
 
 
 def time_lengths(program, folder, name, make, length, room):
-    """Loads a text at two lengths, and returns whether the time grows with its bytes."""
-    times, sizes, good = [], [], True
+    """Loads a text at two lengths, and returns whether the time grows with its bytes. The text is written piece by
+    piece: the memory of a command is at least what this process had when it began the command."""
+    times, sizes, most = [], [], []
     for factor in (1, 2):
         text, loaded = os.path.join(folder, "text.list"), os.path.join(folder, "text.db")
         with open(text, "wb") as out:
-            out.write(make(factor * length))
+            out.writelines(make(factor * length))
         sizes.append(os.path.getsize(text))
         rounds = [seconds([program, "load", "-o", fresh(loaded), text]) for _ in range(ROUNDS)]
         times.append(median(time for time, _ in rounds))
-        memory = median(memory for _, memory in rounds)
-        good = good and memory <= sizes[-1] * 3 // 2 + ROOM + factor * room
+        most.append((median(memory for _, memory in rounds), sizes[-1] * 3 // 2 + ROOM + factor * room))
         os.remove(text)
         os.remove(loaded)
     grown = sizes[1] / sizes[0] * 1.5
-    print(f"load {name}: {times[0]:.2f} s for {sizes[0]} bytes, {times[1]:.2f} s for {sizes[1]}")
-    return good and times[1] <= grown * times[0] + 0.1
+    shown = (f"{time:.2f} s for {size} bytes, memory {memory} of {bound}" for time, size, (memory, bound) in zip(times, sizes, most))
+    print(f"load {name}: {', '.join(shown)}")
+    return times[1] <= grown * times[0] + 0.1 and all(memory <= bound for memory, bound in most)
 
 
 def main():
