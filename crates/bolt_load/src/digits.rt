@@ -13,8 +13,8 @@ fn digit_value(digit: u8) -> u8
 
 /// Decodes two digits for each byte of `out`. Returns whether they are all digits.
 ///
-/// This takes the most time of a load. The library `hex` tells numerals from letters by a branch for each
-/// digit, which no processor can foresee; here no branch depends on a good digit.
+/// Decoding takes much of the time of a load. The library `hex` finds the value of a digit by branches,
+/// which numerals and letters take in turns; here only the test of a digit has them.
 pub(crate) fn decode_digits(digits: &[u8], out: &mut [u8]) -> bool
     requires { length digits.now ≡ 2 * length out.old }
     ensures { MatchResult (decode_sized digits.now (length out.old)) (λ bytes. (result ≡ true) × (out.new ≡ bytes)) (λ _. result ≡ false) }
