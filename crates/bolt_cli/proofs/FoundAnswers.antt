@@ -1,14 +1,10 @@
 -- The answer of `check --lost-and-found`.
-use Rattle.std.proofs.Common.{◌≡◌, ◌≢◌, ◌∙◌, ℕ, Bool, true, List, [], ◌∷◌, Option, ap, inl, inr, map, refl, subst, sym}
+use Rattle.std.proofs.Common.{◌≡◌, ◌≢◌, ◌∙◌, ℕ, Bool, true, false, List, [], ◌∷◌, Option, ap, inl, inr, map, refl, subst, subst₂, sym}
 use Rattle.std.specs.List.{All}
 use Rattle.std.specs.Result.{IsErrAnd}
+use Rattle.std.proofs.lemmas.Bool.{false≢true}
 use Rattle.std.proofs.lemmas.List.Elements.{All-head, All-tail}
-use Rattle.std.proofs.Math.Logic.{∥∥₁_elim}
-use Rattle.std.proofs.Props.{props}
-use Rattle.bolt_check.proofs.Judging.{passes_silent}
-use Rattle.bolt_check.specs.Findings.{IsMetaPage}
-use Rattle.bolt_check.specs.Nodes.{leaf_entry, node_at}
-use Rattle.bolt_check.specs.Ways.{At_page, root_spot}
+use Rattle.bolt_check.specs.Nodes.{leaf_entry}
 use Rattle.bolt_check.specs.ShownNodes.{entries_of, shown_node}
 use Rattle.bolt_check.specs.TreeKinds.{tree_kind}
 use Rattle.bolt_format.specs.Pages.{PageView}
@@ -16,24 +12,23 @@ use Rattle.bolt_format.specs.Shown.{shown}
 use Rattle.bolt_format.specs.declared.meta.Meta.{Meta}
 use Rattle.bolt_recover.specs.Found.{AreFound, numbers_of}
 use Rattle.bolt_recover.specs.Joined.{IsJoined, LacksBucketKey}
-use Rattle.bolt_recover.specs.Losses.{LossView, LostView, everything, parts}
+use Rattle.bolt_recover.specs.Losses.{LossView, LostView, everything, is_nothing, parts}
 use Rattle.bolt_recover.specs.Lost.{IsAllLost}
+use Rattle.bolt_recover.specs.LostAndFound.{all_lost}
 use Rattle.bolt_recover.specs.Recovered.{ForRecovered}
 use Rattle.bolt_tree.specs.Listing.{Member}
 use Rattle.bolt_recover.specs.Places.{leaves_of}
-use Rattle.bolt_recover.specs.Recoveries.{ForLosses}
-use Rattle.bolt_recover.specs.Refusals.{KeepsRoot, LosesRoot}
 use Rattle.bolt_recover.specs.ShownFound.{IsFoundView}
-use Rattle.bolt_recover.specs.ShownLosses.{loss_view}
 use Rattle.bolt_recover.specs.declared.found.Found.{Found}
-use Rattle.bolt_recover.specs.declared.loss.Loss.{Loss}
+use Rattle.bolt_recover.specs.declared.lost_and_found.LostAndFound.{LostAndFound}
+use Rattle.bolt_check.specs.declared.finding.Finding.{Finding}
 use Rattle.bolt_report.specs.FoundLines.{FoundView, IsFoundLeaf, found_view}
 use Rattle.bolt_cli.specs.Answers.{Answer, AnswersFound, AreFoundPages, Does, Ending, IsFoundAnswer, IsFoundPagesAnswer, IsSalvaged, found_page, lost_and_found, refused}
 use Rattle.bolt_cli.specs.declared.failure.Failure.TheVariants as failure
 use Rattle.bolt_cli.specs.declared.file_faults.FileFaults.{FileFaults}
 use Rattle.bolt_cli.specs.declared.meta_choice.MetaChoice.{MetaChoice}
 use Rattle.bolt_cli.proofs.Doing.{Does-nothing}
-use Rattle.bolt_cli.proofs.LossAnswers.{lost, own_losses}
+use Rattle.bolt_cli.proofs.LossAnswers.{lost}
 
 module _ (file : List ℕ) (meta : Meta) where
   -- ---- what is shown of the found pages
@@ -68,31 +63,21 @@ module _ (file : List ℕ) (meta : Meta) where
 
   -- ---- the answer
 
-  module _ (faults : FileFaults) (choice : MetaChoice) (keeps : KeepsRoot file meta) (shown : List LossView) (losses : List Loss) (seen : map loss_view losses ≡ shown)
-      (all : ForLosses file meta (λ ls. shown ≡ ls)) (found : List FoundView) (pages : AreFoundPages file meta found) where
-    own : (lost faults file choice meta).0 ≡ map loss_view losses
-    own = own_losses faults file choice meta shown losses seen all
+  module _ (faults : FileFaults) (choice : MetaChoice) (found : List FoundView) (pages : AreFoundPages file meta found) where
+    reported : (losses : List LossView) → IsAllLost file meta (parts losses) → (answer : Answer) → AnswersFound faults file choice losses found answer → IsFoundPagesAnswer faults file choice meta answer
+    reported losses (keeps, all) answer answers =
+        let (own, are) = lost faults file choice meta in
+        inl (keeps, own, found, are, pages, subst (λ (ls : List LossView). AnswersFound faults file choice ls found answer) (all own are) answers)
 
-    answered : (answer : Answer) → AnswersFound faults file choice (map loss_view losses) found answer → IsFoundPagesAnswer faults file choice meta answer
-    answered answer answers = inl (
-      keeps,
-      (lost faults file choice meta).0,
-      found,
-      (lost faults file choice meta).1,
-      pages,
-      subst (λ (ls : List LossView). AnswersFound faults file choice ls found answer) (sym own) answers,
-    )
+    pub found_none_lost : (lost : LostView) → IsAllLost file meta lost → is_nothing lost ≡ true → (answer : Answer) → IsFoundAnswer faults file choice answer → IsFoundPagesAnswer faults file choice meta answer
+    found_none_lost (everything x) is none answer answers = absurd (false≢true none)
+    found_none_lost (parts []) is none answer answers = reported [] is answer answers
+    found_none_lost (parts (loss ∷ losses)) is none answer answers = absurd (false≢true none)
 
-    pub found_none_lost : losses ≡ [] → (answer : Answer) → IsFoundAnswer faults file choice answer → IsFoundPagesAnswer faults file choice meta answer
-    found_none_lost none answer is =
-        answered answer (subst (λ (ls : List LossView). AnswersFound faults file choice ls found answer) (sym (ap (map loss_view) none)) is)
-
-    answers_some : (ls : List Loss) → ls ≢ [] → AnswersFound faults file choice (map loss_view ls) found (lost_and_found faults (parts (map loss_view ls)) found)
-    answers_some [] some = absurd (some refl)
-    answers_some (loss ∷ ls) some = refl
-
-    pub found_some_lost : losses ≢ [] → IsFoundPagesAnswer faults file choice meta (lost_and_found faults (parts (map loss_view losses)) found)
-    found_some_lost some = answered (lost_and_found faults (parts (map loss_view losses)) found) (answers_some losses some)
+    pub found_some_lost : (lost : LostView) → IsAllLost file meta lost → is_nothing lost ≡ false → IsFoundPagesAnswer faults file choice meta (lost_and_found faults lost found)
+    found_some_lost (everything x) loses some = inr (inl (x, found, loses, pages, refl))
+    found_some_lost (parts []) is some = absurd (false≢true (sym some))
+    found_some_lost (parts (loss ∷ losses)) is some = reported (loss ∷ losses) is (lost_and_found faults (parts (loss ∷ losses)) found) refl
 
 -- memory ran out
 pub none_left : {S : Type 0} (taken : S → Option (List ℕ)) (failed : S → ℕ) (old : S) (file : List ℕ) (meta : Meta) (faults : FileFaults) (choice : MetaChoice) (ending : Ending)
@@ -102,17 +87,17 @@ none_left taken failed old file meta faults choice ending is = (refused failure.
 
 -- ---- the joined listing
 
--- the found pages of the code, and what it says is lost
-pub salvaged : (file : List ℕ) (meta : Meta) (listing : List Member) (lost : LostView) (found : List Found) → IsJoined file meta listing → IsAllLost file meta lost
-    → AreFound file meta (numbers_of found) → All (IsFoundView file meta) found → (found ≢ [] → ForRecovered file meta LacksBucketKey) → (found ≡ [] → KeepsRoot file meta)
-    → IsSalvaged file meta listing lost (map found_view found)
-salvaged file meta listing lost found joins loses are views apart keeps = record {
+-- of a file that was searched
+pub salvaged : (both : LostAndFound) (file : List ℕ) (meta : Meta) (listing : List Member) → IsJoined file meta listing → both.file.now ≡ file → both.meta ≡ meta
+    → IsAllLost file meta (all_lost both) → AreFound file meta (numbers_of both.found.items) → All (IsFoundView file meta) both.found.items
+    → (both.found.items ≢ [] → ForRecovered both.file.now both.meta LacksBucketKey) → ((x : Finding) → all_lost both ≡ everything x → both.found.items ≢ [])
+    → IsSalvaged file meta listing (all_lost both) (map found_view both.found.items)
+salvaged both file meta listing joins same_file same_meta loses are views apart some = record {
   joins = joins;
   loses = loses;
-  finds = are_pages file meta found are views;
-  apart = λ some. apart (λ none. some (ap (map found_view) none));
-  some = λ x is none. ∥∥₁_elim (subst (IsAllLost file meta) is loses) (hlevel props) (λ (lost : LosesRoot file meta x).
-      passes_silent (node_at file meta) IsMetaPage (At_page (root_spot meta.root)) x (keeps (none_found found none)) lost);
+  finds = are_pages file meta both.found.items are views;
+  apart = λ more. subst₂ (λ (f : List ℕ) (m : Meta). ForRecovered f m LacksBucketKey) same_file same_meta (apart (λ none. more (ap (map found_view) none)));
+  some = λ x is none. some x is (none_found both.found.items none);
 }
   where
     none_found : (fs : List Found) → map found_view fs ≡ [] → fs ≡ []

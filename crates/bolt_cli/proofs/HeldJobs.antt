@@ -1,5 +1,5 @@
 -- What a job does, whatever its standard output and its target are.
-use Rattle.std.proofs.Common.{◌≡◌, ◌<◌, ◌∙◌, ap, inl, inr, ℕ, List, [], Option, None, Some, Bool, true, false, length, refl, subst, sym}
+use Rattle.std.proofs.Common.{◌≡◌, ◌<◌, ◌∙◌, ap, inl, inr, ℕ, List, [], Option, None, Some, Bool, length, refl, subst, sym}
 use Rattle.bolt_cli.specs.declared.extent.Extent.{Extent}
 use Rattle.bolt_cli.specs.declared.extent.Extent.TheVariants.{First, LostAndFound, Losses}
 use Rattle.bolt_cli.specs.declared.meta_choice.MetaChoice.{MetaChoice}

@@ -1,6 +1,6 @@
 -- What `list` prints of a file is loaded as the listing of the file.
 use Rattle.std.proofs.Common.{◌≡◌, ◌∙◌, ℕ, Bool, List, [], ◌∷◌, Option, Ok, Err, ap, false, inl, inr, length, refl, subst, sym}
-use Rattle.std.specs.Prelude.{filter, not}
+use Rattle.std.specs.Prelude.{not}
 use Rattle.std.specs.Ordering.{is_lt}
 use Rattle.bolt_check.specs.Sound.{HasSoundTrees}
 use Rattle.bolt_format.specs.Bytes.{IsBytes}

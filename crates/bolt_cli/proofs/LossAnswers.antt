@@ -1,5 +1,5 @@
 -- The answer of `check --all`.
-use Rattle.std.proofs.Common.{◌≡◌, ◌≢◌, ◌∙◌, ℕ, List, [], ◌∷◌, Option, ap, inl, map, refl, subst, sym}
+use Rattle.std.proofs.Common.{◌≡◌, ◌≢◌, ◌∙◌, ℕ, List, [], ◌∷◌, ap, inl, map, refl, subst, sym}
 use Rattle.bolt_format.specs.declared.meta.Meta.{Meta}
 use Rattle.bolt_recover.specs.Losses.{AreLosses, LossView, parts}
 use Rattle.bolt_recover.specs.Recoveries.{ForLosses}

@@ -1,5 +1,5 @@
 -- A part of a listing that the members of a damaged file list, and how the job then ends.
-use Rattle.std.proofs.Common.{◌≡◌, ◌∙◌, ◌⊎◌, ℕ, Bool, true, false, List, Option, Result, Ok, Err, [], ap, append-nil, inl, inr, refl, subst, subst₂, sym}
+use Rattle.std.proofs.Common.{◌≡◌, ◌∙◌, ◌⊎◌, ℕ, Bool, true, false, List, Result, Err, [], ap, append-nil, inl, inr, refl, subst, subst₂, sym}
 use Rattle.std.specs.Prelude.{⊤, if◌then◌else◌}
 use Rattle.std.specs.Result.{IsErrAnd}
 use Rattle.bolt_format.specs.declared.meta.Meta.{Meta}
@@ -8,6 +8,7 @@ use Rattle.bolt_recover.specs.JoinedMembers.{ForJoined, joined_file, joined_left
 use Rattle.bolt_recover.specs.Recovered.{ForRecovered, IsRecovered}
 use Rattle.bolt_recover.specs.Recoveries.{recovery_file, recovery_left, recovery_meta}
 use Rattle.bolt_recover.specs.declared.joined.Joined.{Joined}
+use Rattle.bolt_recover.specs.declared.lost_and_found.LostAndFound.{LostAndFound}
 use Rattle.bolt_recover.specs.declared.recovery.Recovery.{Recovery}
 use Rattle.bolt_recover.proofs.Existing.{has_recovered}
 use Rattle.bolt_recover.proofs.LeftMembers.{left_rises}
@@ -59,10 +60,11 @@ of_recovered r file same all P holds =
     let (own, is) = has_recovered file (recovery_meta r) in
     subst P (all own is) (holds own (subst (λ (f : List ℕ). IsRecovered f (recovery_meta r) own) (sym same) is) (left_rises r own is.rises))
 
--- and likewise of joined members
-pub of_joined : (j : Joined) (file : List ℕ) (meta : Meta) → joined_file j ≡ file → joined_meta j ≡ meta → (own : List Member) (is : IsJoined file meta own)
-    → ForJoined file meta (λ listing. joined_left j listing ≡ listing) → ForJoined (joined_file j) (joined_meta j) (Rises member_cmp) → (P : List Member → Type 0)
-    → ((listing : List Member) → IsJoined (joined_file j) (joined_meta j) listing → Rises member_cmp (joined_left j listing) → P (joined_left j listing)) → P own
-of_joined j file meta same_file same_meta own is all rises P holds =
-    let there : IsJoined (joined_file j) (joined_meta j) own = subst₂ (λ (f : List ℕ) (m : Meta). IsJoined f m own) (sym same_file) (sym same_meta) is in
-    subst P (all own is) (holds own there (subst (Rises member_cmp) (sym (all own is)) (rises own there)))
+-- and likewise of joined members of a file that was searched
+pub of_searched : (both : LostAndFound) (j : Joined) (file : List ℕ) (meta : Meta) → both.file.now ≡ file → both.meta ≡ meta → (own : List Member) (is : IsJoined file meta own)
+    → joined_file j ≡ both.file.now → joined_meta j ≡ both.meta → ForJoined both.file.now both.meta (λ listing. joined_left j listing ≡ listing) → ForJoined (joined_file j) (joined_meta j) (Rises member_cmp)
+    → (P : List Member → Type 0) → ((listing : List Member) → IsJoined (joined_file j) (joined_meta j) listing → Rises member_cmp (joined_left j listing) → P (joined_left j listing)) → P own
+of_searched both j file meta of_file of_meta own is same_file same_meta all rises P holds =
+    let here : IsJoined both.file.now both.meta own = subst₂ (λ (f : List ℕ) (m : Meta). IsJoined f m own) (sym of_file) (sym of_meta) is in
+    let there : IsJoined (joined_file j) (joined_meta j) own = subst₂ (λ (f : List ℕ) (m : Meta). IsJoined f m own) (sym same_file) (sym same_meta) here in
+    subst P (all own here) (holds own there (subst (Rises member_cmp) (sym (all own here)) (rises own there)))

@@ -1,5 +1,5 @@
 -- With sound trees, `--recover` does what is done without it under the same meta, if the accounts don't count there.
-use Rattle.std.proofs.Common.{◌≡◌, ◌≢◌, ◌↔◌, ℕ, Bool, true, false, List, [], Option, inl, inr, length, refl, subst, sym, subst₂, ◌∙◌}
+use Rattle.std.proofs.Common.{◌≡◌, ◌≢◌, ◌↔◌, ℕ, Bool, false, List, [], Option, inl, inr, length, refl, subst, sym, subst₂, ◌∙◌}
 use Rattle.std.proofs.lemmas.Bool.{false≢true}
 use Rattle.bolt_check.proofs.Judging.{passes_fewer, passes_silent}
 use Rattle.bolt_check.specs.Findings.{IsClaimedBefore, IsMetaPage}

@@ -27,7 +27,7 @@ use bolt_bulk::laws::{a_recovery_is_whole, a_walk_is_whole, joined_members_are_w
 use bolt_bulk::{BulkFault, Shape};
 use bolt_format::{Meta, Sink, SinkFault};
 use bolt_recover::laws::{each_file_has_a_joined_listing, each_file_has_found_pages};
-use bolt_recover::{Found, Joined, Lost, found_pages};
+use bolt_recover::{Found, Joined, Lost, LostAndFound};
 use bolt_report::{lost_text, snapshot_fault_text};
 use bolt_snapshot::{SnapshotFault, snapshot_fault};
 use bolt_tree::Walk;
@@ -116,14 +116,14 @@ fn write_joined<O: Sink, T: Sink>(
     each_file_has_found_pages();
     each_file_has_a_joined_listing();
     let meta = job.meta.find(file)?;
-    let found = found_pages(alloc, file, meta)?;
-    let mut joined = Joined::new(alloc, file, meta, found.as_slice())?;
+    let both = LostAndFound::under(alloc, file, meta)?;
+    let mut joined = Joined::new(alloc, &both)?;
     joined_members_are_whole(&joined);
     let copy = copy_asked(alloc, &mut joined, job, &meta, target)?;
     let report = CopyReport {
         differs: hash_differs(job, file),
-        lost: joined.lost(),
-        found: found.as_slice(),
+        lost: both.lost(),
+        found: both.found.as_slice(),
         source: file.len() as u64,
         copy,
     };

@@ -8,7 +8,7 @@ ghost use Rattle.bolt_layout.specs.Copies.{layout_of_listing};
 ghost use Rattle.bolt_load.specs.LineMembers.{text_members};
 ghost use Rattle.bolt_load.specs.ShownMembers.{members_left, members_text};
 ghost use Rattle.bolt_recover.specs.Joined.{IsJoined};
-ghost use Rattle.bolt_recover.specs.JoinedMembers.{HasAllLost, joined_file, joined_left, joined_meta};
+ghost use Rattle.bolt_recover.specs.JoinedMembers.{joined_file, joined_left, joined_meta};
 ghost use Rattle.bolt_recover.specs.Recovered.{IsRecovered};
 ghost use Rattle.bolt_recover.specs.Recoveries.{ForLosses, recovery_file, recovery_left, recovery_losses, recovery_meta};
 ghost use Rattle.bolt_tree.specs.Listing.{IsListing, Member};
@@ -84,7 +84,7 @@ impl CopySource for Joined<'_> {
 
     ghost left = { λ joined listing. joined_left joined listing };
 
-    ghost ends_as = { λ joined end. HasAllLost (joined_file joined) (joined_meta joined) end };
+    ghost ends_as = { λ joined end. Unit {0} };
 
     fn copy<S: Sink>(
         &mut self,

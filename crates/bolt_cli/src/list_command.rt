@@ -23,7 +23,7 @@ use bolt_format::Sink;
 use bolt_recover::laws::{
     each_file_has_a_joined_listing, each_file_has_found_pages, joined_members_rise,
 };
-use bolt_recover::{Joined, Lost, found_pages};
+use bolt_recover::{Joined, Lost, LostAndFound};
 use bolt_report::{ReportFault, list_members_part, list_part};
 use bolt_tree::Members;
 use std::alloc::Global;
@@ -90,13 +90,13 @@ fn print_joined<O: Sink>(
     each_file_has_found_pages();
     each_file_has_a_joined_listing();
     let meta = job.meta.find(file)?;
-    let found = found_pages(alloc, file, meta)?;
-    let mut joined = Joined::new(alloc, file, meta, found.as_slice())?;
+    let both = LostAndFound::under(alloc, file, meta)?;
+    let mut joined = Joined::new(alloc, &both)?;
     joined_members_rise(&joined);
     if !put_members_part(alloc, &mut joined, job, out)? {
         return Err(Failure::NoBucket);
     }
-    ending_of(joined.lost())
+    ending_of(both.lost())
 }
 
 /// Writes the part that is wanted of a sound file.

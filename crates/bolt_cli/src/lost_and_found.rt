@@ -5,13 +5,12 @@ ghost use Rattle.bolt_recover.specs.ShownLosses.{lost_view};
 ghost use Rattle.bolt_report.specs.FoundLines.{IsFoundLeaf, found_view};
 ghost use Rattle.bolt_cli.specs.Answers.{Answer, Does, IsFoundPagesAnswer, IsLostAndFoundAnswer, lost_and_found};
 
-use crate::check_command::{print_findings, put_unread, walk_to_end};
+use crate::check_command::{print_findings, put_unread};
 use crate::failure::Failure;
 use crate::file_faults::{FileFaults, put_file_faults};
 use crate::meta_choice::MetaChoice;
-use bolt_check::CheckFault;
 use bolt_format::{Meta, Sink};
-use bolt_recover::{Found, Lost, Recovery, found_pages};
+use bolt_recover::{Found, Lost, LostAndFound};
 use bolt_report::counted_lost_text;
 use std::alloc::Global;
 
@@ -32,8 +31,7 @@ pub(crate) fn print_lost_and_found<O: Sink>(
     }
 }
 
-/// Writes what is lost and found under a meta. The pages are found first; a second recovery tells what
-/// is lost.
+/// Writes what is lost and found under a meta.
 fn print_under<O: Sink>(
     alloc: Global,
     file: &[u8],
@@ -46,20 +44,12 @@ fn print_under<O: Sink>(
     ensures { (answer : Answer) × IsFoundPagesAnswer faults file.now choice meta answer
         × Does O.taken O.failed out.old out.new answer result }
 {
-    let found = found_pages(alloc, file, meta)?;
-    let mut recovery = match Recovery::under(alloc, file, meta) {
-        Ok(recovery) => recovery,
-        Err(CheckFault::Structure(finding)) => {
-            return put_lost(Lost::Everything(finding), found.as_slice(), faults, out);
-        }
-        Err(_) => return Err(Failure::Memory),
-    };
-    walk_to_end(&mut recovery)?;
-    let losses = recovery.losses();
-    if losses.is_empty() {
+    let both = LostAndFound::under(alloc, file, meta)?;
+    let lost = both.lost();
+    if lost.is_nothing() {
         return print_findings(alloc, file, choice, faults, out);
     }
-    put_lost(Lost::Parts(losses), found.as_slice(), faults, out)
+    put_lost(lost, both.found.as_slice(), faults, out)
 }
 
 /// Writes what is lost, and each page that is found, after what is wrong with the file apart from its

@@ -1,7 +1,9 @@
 -- The members of the joined listing, one after another.
-use Rattle.std.proofs.Common.{◌≡◌, ◌≢◌, ◌∙◌, ℕ, Bool, true, false, List, [], ◌∷◌, ◌++◌, ◌⊎◌, inl, inr, Option, Some, None, Result, Ok, Err, IfOk, IfSome, OnErr, OnOk, filter, is_some, not, refl, sym, ap, subst, subst₂, append_assoc}
+use Rattle.std.proofs.Common.{◌≡◌, ◌≢◌, ◌∙◌, ℕ, Bool, true, false, List, [], ◌∷◌, ◌++◌, ◌⊎◌, ◌||◌, inl, inr, Option, Some, None, Result, Ok, Err, IfOk, IfSome, OnErr, OnOk, filter, is_some, not, refl, sym, ap, subst, subst₂, append_assoc}
 use Rattle.std.specs.List.{All, Contains}
+use Rattle.std.proofs.Math.Logic.{∥∥₁_elim}
 use Rattle.std.proofs.Props.{props}
+use Rattle.std.proofs.lemmas.Bool.{cases_Bool, false≢true}
 use Rattle.std.specs.Option.{option_map}
 use Rattle.std.specs.Ordering.{is_eq, is_lt}
 use Rattle.std.proofs.lemmas.List.Elements.{All-head, All-tail}
@@ -24,7 +26,7 @@ use Rattle.bolt_recover.specs.Places.{leaves_of}
 use Rattle.bolt_recover.specs.Recovered.{ForRecovered, IsRecovered}
 use Rattle.bolt_recover.specs.ShownFound.{IsFoundView}
 use Rattle.bolt_recover.specs.Private.FoundLeft.{below_bucket, bucket_members, pages_of}
-use Rattle.bolt_recover.specs.Private.Joining.{AreJoinable, IsHeldWell, first_cmp, held_members, left_at, path_at, put_members, recovered_in}
+use Rattle.bolt_recover.specs.Private.Joining.{AreJoinable, IsHeldWell, TellsBucketKey, first_cmp, held_members, left_at, path_at, put_members, recovered_in}
 use Rattle.bolt_recover.specs.Private.KeptMembers.{kept_file, kept_left, kept_meta, kept_path}
 use Rattle.bolt_recover.specs.declared.found.Found.{Found}
 use Rattle.bolt_recover.specs.declared.found_members.FoundMembers.{FoundMembers}
@@ -63,6 +65,43 @@ looked_found listing old new path item is same inside =
 pub looked_all : (listing old : List Member) → old ≡ [] → IsLooked listing old → LacksBucketKey listing
 looked_all listing old none looked m has =
     elim (looked m has) [ inl stays ↦ stays | inr left ↦ absurd (contains_none m (subst (λ (ms : List Member). Contains ms m) none left)) ]
+
+-- what is known once the members that aren't left were looked at
+abbrev pub LooksOn : (listing left : List Member) → Bool → Type 0
+LooksOn listing left true = HasBucketKey listing
+LooksOn listing left false = IsLooked listing left
+
+pub looks_on : (listing old new : List Member) (path : Path) (item : Item) → old ≡ (path, item) ∷ new → ((m : Member) → Contains old m → Contains listing m)
+    → (has same : Bool) → same ≡ is_found_path path → LooksOn listing old has → LooksOn listing new (has || same)
+looks_on listing old new path item is inside true same e looked = looked
+looks_on listing old new path item is inside false true e looked = looked_found listing old new path item is (sym e) inside
+looks_on listing old new path item is inside false false e looked = looked_on listing old new path item is (sym e) looked
+
+pub looked_at : (listing old : List Member) → old ≡ [] → (has : Bool) → LooksOn listing old has → TellsBucketKey listing has
+looked_at listing old none true looked = looked
+looked_at listing old none false looked = looked_all listing old none looked
+
+-- a listing has the key or lacks it
+has_or_lacks : (listing : List Member) → HasBucketKey listing ⊎ LacksBucketKey listing
+has_or_lacks [] = inr (λ m has. absurd (contains_none m has))
+has_or_lacks (m ∷ listing) =
+    elim (cases_Bool (is_found_path m.0)) [
+      | inl same ↦ inl (m, (contains_head m listing, same))
+      | inr other ↦ elim (has_or_lacks listing) [
+        | inl (o, (has, same)) ↦ inl (o, (contains_tail m o listing has, same))
+        | inr lacks ↦ inr (λ o has. elim (contains_cases m o listing has) [
+          | inl same ↦ subst (λ (x : Member). not (is_found_path x.0) ≡ true) same (rw other refl)
+          | inr later ↦ lacks o later
+        ])
+      ]
+    ]
+
+pub bucket_key : (listing : List Member) → ∥ HasBucketKey listing ∥₁ → HasBucketKey listing
+bucket_key listing has =
+    elim (has_or_lacks listing) [
+      | inl is ↦ is
+      | inr lacks ↦ absurd (∥∥₁_elim has (hlevel props) (λ (m, (there, same)). false≢true (ap not (sym same) ∙ lacks m there)))
+    ]
 
 -- the bucket with what it holds
 abbrev pub put_of : Tree → List Member

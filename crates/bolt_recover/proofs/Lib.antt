@@ -28,6 +28,7 @@ mod RunRecovers
 mod RunSteps
 mod RunSurveys
 mod RunTrees
+mod Searched
 mod SoundListing
 mod SoundSurveys
 mod SoundWalks

@@ -1,5 +1,5 @@
 -- If nothing is lost, the trees are sound: the tests find nothing at any way, and they look at all ways before it.
-use Rattle.std.proofs.Common.{◌≡◌, ℕ, inl, inr, List, Some, None, subst}
+use Rattle.std.proofs.Common.{◌≡◌, ◌∙◌, ℕ, inl, inr, List, [], Some, None, refl, subst, sym}
 use Rattle.bolt_format.specs.declared.meta.Meta.{Meta}
 use Rattle.bolt_check.specs.Findings.{IsClaimedBefore, IsClean, IsMetaPage}
 use Rattle.bolt_check.specs.Nodes.{Nodes, node_at}
@@ -7,7 +7,10 @@ use Rattle.bolt_check.specs.Sound.{HasSoundTrees}
 use Rattle.bolt_check.specs.Ways.{At_page, Reach, Spot, reached, root_spot}
 use Rattle.bolt_check.proofs.Judging.{passes_fewer, span_spot}
 use Rattle.bolt_check.proofs.Shaping.{shape_of}
+use Rattle.bolt_recover.specs.Losses.{AreLosses, LossView, losses_of}
 use Rattle.bolt_recover.specs.Surveys.{Gives, Has, IsClaimedIn, IsSurvey, Visit, kept}
+use Rattle.bolt_recover.proofs.Existing.{has_survey}
+use Rattle.bolt_recover.proofs.LostWays.{nothing_lost}
 use Rattle.bolt_recover.proofs.SoundListing.{all_kept}
 
 module _ (file : List ℕ) (meta : Meta) (survey : List Visit) (surveys : IsSurvey file meta survey) (none : (v : Visit) → Has survey v → v.found ≡ None) where
@@ -35,3 +38,9 @@ module _ (file : List ℕ) (meta : Meta) (survey : List Visit) (surveys : IsSurv
 
   pub sound : HasSoundTrees file meta
   sound = shape_of nodes meta.root clean
+
+-- so they are if no loss is reported
+pub no_loss_sound : (file : List ℕ) (meta : Meta) (reported : List LossView) → ((losses : List LossView) → AreLosses file meta losses → reported ≡ losses) → reported ≡ [] → HasSoundTrees file meta
+no_loss_sound file meta reported all none =
+    let (survey, is) = has_survey file meta in
+    sound file meta survey is (nothing_lost file meta survey is (sym (all (losses_of file meta survey) (survey, is, refl)) ∙ none))

@@ -2,6 +2,7 @@
 use Rattle.std.proofs.Common.{◌≡◌, ◌∙◌, ℕ, Err, IfOk, List, Ok, OnErr, Option, Result, [], inl, refl, sym}
 use Rattle.std.proofs.Math.Logic.{∥∥₁_elim, ∥∥₁_map}
 use Rattle.std.proofs.Props.{props}
+use Rattle.std.proofs.lemmas.List.Elements.{All-nil}
 use Rattle.std.specs.Option.{option_map}
 use Rattle.bolt_format.specs.declared.meta.Meta.{Meta}
 use Rattle.bolt_check.proofs.CheckedLemmas.{checked_trees}
@@ -19,10 +20,14 @@ use Rattle.bolt_tree.specs.ShownEntries.{item_view}
 use Rattle.bolt_tree.specs.Walks.{GivesNext, left_of, walk_checked, walk_path}
 use Rattle.bolt_tree.specs.declared.entry.Item.{Item}
 use Rattle.bolt_tree.specs.declared.walk.Walk.{Walk}
-use Rattle.bolt_recover.specs.Losses.{AreLosses, LossView, parts}
-use Rattle.bolt_recover.specs.Lost.{IsAllLost}
+use Rattle.bolt_recover.specs.Losses.{AreLosses, LossView}
+use Rattle.bolt_recover.specs.Private.TreesLeft.{IsSearched}
 use Rattle.bolt_recover.specs.Recovered.{ForRecovered, IsRecovered}
 use Rattle.bolt_recover.specs.Refusals.{KeepsRoot}
+use Rattle.bolt_recover.specs.ShownFound.{IsFoundView}
+use Rattle.bolt_recover.specs.declared.found.Found.{Found}
+use Rattle.bolt_recover.specs.declared.lost_and_found.Trees.TheVariants.{Sound}
+use Rattle.bolt_recover.proofs.FoundAll.{found_none}
 use Rattle.bolt_recover.proofs.JoinSteps.{gives_prop}
 use Rattle.bolt_recover.proofs.LostWays.{no_losses}
 use Rattle.bolt_recover.proofs.SoundListing.{sound_listing}
@@ -38,12 +43,17 @@ keeps_root file meta trees =
     let root = At_page (root_spot meta.root) in
     passes_fewer nodes (IsClaimedBefore nodes (reached nodes meta.root) IsMetaPage []) IsMetaPage root (λ n is. inl is) ((shape_passes nodes meta.root trees).passes [] root refl)
 
-pub all_lost : (checked : Checked) → IsAllLost (bytes_of checked) (meta_of checked) (parts [])
-all_lost checked =
-    let trees = checked_trees checked in (
-      ∥∥₁_map trees (keeps_root (bytes_of checked) (meta_of checked)),
-      λ losses are. ∥∥₁_elim trees (hlevel props) (λ sound. sym (no_loss (bytes_of checked) (meta_of checked) losses sound are)),
-    )
+-- a search of sound trees loses nothing and finds nothing
+pub sound_searched : (file : List ℕ) (meta : Meta) (checked : Checked) (found : List Found) → bytes_of checked ≡ file → meta_of checked ≡ meta → found ≡ [] → HasSoundTrees file meta
+    → IsSearched file meta (Sound checked) found
+sound_searched file meta checked found same_file same_meta none trees =
+    let nothing : (losses : List LossView) → AreLosses file meta losses → [] ≡ losses = λ losses are. sym (no_loss file meta losses trees are) in
+    record {
+      left = (same_file, same_meta, none);
+      lost = (keeps_root file meta trees, nothing);
+      are_found = rw none (found_none file meta [] nothing refl);
+      views = rw none (All-nil (IsFoundView file meta));
+    }
 
 module _ (checked : Checked) where
   is_walked : (listing : List Member) → IsRecovered (bytes_of checked) (meta_of checked) listing → ∥ IsListing (bytes_of checked) (meta_of checked) listing ∥₁

@@ -4,10 +4,8 @@ use Rattle.bolt_format.specs.declared.meta.Meta.{Meta}
 use Rattle.bolt_tree.specs.Listing.{Member}
 use Rattle.bolt_tree.specs.Paths.{Path}
 use Rattle.bolt_recover.specs.Joined.{IsJoined}
-use Rattle.bolt_recover.specs.Losses.{LostView}
-use Rattle.bolt_recover.specs.Lost.{IsAllLost}
 use Rattle.bolt_recover.specs.Private.Joining.{left_at, path_at, recovered_in, work_at}
-use Rattle.bolt_recover.specs.Private.KeptMembers.{kept_file, kept_lost, kept_meta}
+use Rattle.bolt_recover.specs.Private.KeptMembers.{kept_file, kept_meta}
 use Rattle.bolt_recover.specs.declared.joined.Joined.{Joined}
 
 unfoldable pub joined_file : Joined → List ℕ
@@ -27,14 +25,6 @@ joined_work joined = work_at joined.stage joined.kept joined.found.now joined.bu
 -- the path of the last member that it returned
 unfoldable pub joined_path : Joined → Path
 joined_path joined = path_at joined.stage joined.kept joined.bucket
-
--- what is lost so far
-unfoldable pub joined_lost : Joined → LostView
-joined_lost joined = kept_lost joined.kept
-
--- it has reported all that is lost
-abbrev pub HasAllLost : List ℕ → Meta → Joined → Type 0
-HasAllLost file meta joined = IsAllLost file meta (joined_lost joined)
 
 -- What is promised of the joined listing is promised for each; there is exactly one (`laws`).
 abbrev pub ForJoined : List ℕ → Meta → (List Member → Type 0) → Type 0

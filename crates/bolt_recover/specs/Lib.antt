@@ -5,6 +5,7 @@ pub mod JoinedMembers
 pub mod KeptPages
 pub mod Losses
 pub mod Lost
+pub mod LostAndFound
 pub mod PageKeys
 pub mod PageWays
 pub mod Places

@@ -1,5 +1,5 @@
 -- What is reported of a lost way: docs/RECOVERY.md, "Losses".
-use Rattle.std.specs.Prelude.{◌≡◌, ℕ, List, [], ◌∷◌, ◌++◌, Option, Some, None}
+use Rattle.std.specs.Prelude.{◌≡◌, ℕ, Bool, true, false, List, [], ◌∷◌, ◌++◌, Option, Some, None}
 use Rattle.bolt_format.specs.declared.meta.Meta.{Meta}
 use Rattle.bolt_check.specs.Keys.{Key}
 use Rattle.bolt_check.specs.Ways.{At_inline, At_page, Spot}
@@ -44,3 +44,8 @@ AreLosses file meta losses = (survey : List Visit) × IsSurvey file meta survey 
 pub data LostView : Type 0 where
   everything : Finding → LostView
   parts : List LossView → LostView
+
+abbrev pub is_nothing : LostView → Bool
+is_nothing (everything x) = false
+is_nothing (parts []) = true
+is_nothing (parts (loss ∷ losses)) = false

@@ -7,5 +7,5 @@ use Rattle.bolt_recover.specs.Refusals.{KeepsRoot, LosesRoot}
 
 -- that is all that is lost of a file
 abbrev pub IsAllLost : List ℕ → Meta → LostView → Type 0
-IsAllLost file meta (everything x) = ∥ LosesRoot file meta x ∥₁
-IsAllLost file meta (parts reported) = ∥ KeepsRoot file meta ∥₁ × ForLosses file meta (λ losses. reported ≡ losses)
+IsAllLost file meta (everything x) = LosesRoot file meta x
+IsAllLost file meta (parts reported) = KeepsRoot file meta × ForLosses file meta (λ losses. reported ≡ losses)

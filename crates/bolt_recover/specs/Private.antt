@@ -5,3 +5,4 @@ pub mod Frames
 pub mod Joining
 pub mod KeptMembers
 pub mod Runs
+pub mod TreesLeft

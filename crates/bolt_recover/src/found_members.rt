@@ -14,16 +14,10 @@ ghost use Rattle.bolt_recover.specs.Private.ElementsLeft.{elements_left, element
 use crate::content::Content;
 use crate::elements::{Elements, next_of};
 use crate::found::Found;
+use crate::found_key::lost_and_found;
 use bolt_check::{BucketSpot, PageSpot, TreePage};
 use bolt_format::{Leaf, head, inline};
 use bolt_tree::Item;
-
-/// The key of the bucket of what is found.
-pub(crate) fn lost_and_found<'a>() -> &'a [u8]
-    ensures { result.now ≡ lost_and_found }
-{
-    b"lost+found"
-}
 
 /// What is left of the bucket of what is found.
 #[derive(Clone, Copy)]

@@ -1,35 +1,31 @@
 //! The members of the joined listing: those that are recovered and, in the bucket `lost+found`, what
 //! is found.
-ghost use Rattle.std.specs.List.{All};
-ghost use Rattle.std.specs.Option.{IfNone, option_map};
-ghost use Rattle.std.specs.Prelude.{◌≡◌, ◌≢◌, ◌<◌, ◌*◌, ◌^◌, ◌↔◌, [], List, None, IfErr, IfOk, IfSome, OnErr, OnOk, length};
+ghost use Rattle.std.specs.Option.{option_map};
+ghost use Rattle.std.specs.Prelude.{◌≡◌, ◌≢◌, ◌<◌, ◌*◌, ◌^◌, [], List, None, IfErr, IfOk, IfSome, OnErr, OnOk, length};
+ghost use Rattle.bolt_check.specs.declared.finding.Finding.{Finding};
 ghost use Rattle.bolt_tree.specs.Listing.{Member};
-ghost use Rattle.bolt_tree.specs.Paths.{path_of};
 ghost use Rattle.bolt_tree.specs.ShownEntries.{item_view};
 ghost use Rattle.bolt_tree.specs.Walks.{GivesNext};
-ghost use Rattle.bolt_recover.specs.Found.{AreFound, numbers_of};
+ghost use Rattle.bolt_recover.specs.Found.{numbers_of};
 ghost use Rattle.bolt_recover.specs.Joined.{IsJoined, LacksBucketKey};
 ghost use Rattle.bolt_recover.specs.JoinRefusals.{IsJoinRefusal};
-ghost use Rattle.bolt_recover.specs.Private.Joining.{AreJoinable, IsHeldWell, TellsBucketKey, first_cmp};
+ghost use Rattle.bolt_recover.specs.Losses.{everything};
+ghost use Rattle.bolt_recover.specs.LostAndFound.{all_lost};
+ghost use Rattle.bolt_recover.specs.Private.Joining.{AreJoinable, IsHeldWell};
 ghost use Rattle.bolt_recover.specs.Private.KeptMembers.{kept_file, kept_left, kept_meta, kept_path};
 ghost use Rattle.bolt_recover.specs.Recovered.{ForRecovered};
-ghost use Rattle.bolt_recover.specs.Recoveries.{recovery_file, recovery_left, recovery_meta, recovery_path};
-ghost use Rattle.bolt_recover.specs.Refusals.{KeepsRoot};
-ghost use Rattle.bolt_recover.specs.ShownFound.{IsFoundView};
-ghost use Rattle.bolt_recover.specs.ShownLosses.{lost_view};
 ghost use Rattle.bolt_recover.specs.declared.joined.JoinFault.TheVariants as faults;
 ghost use Rattle.bolt_recover.specs.declared.joined.Stage.TheVariants as stages;
 
 use crate::found::Found;
-use crate::found_members::{FoundMembers, lost_and_found};
+use crate::found_key::compare_first;
+use crate::found_members::FoundMembers;
 use crate::kept::{Kept, LostRoot};
-use crate::lost::Lost;
+use crate::lost_and_found::{LostAndFound, Trees};
 use crate::recovery::Recovery;
-use bolt_check::{CheckFault, Finding, NoMemory};
-use bolt_format::Meta;
-use bolt_tree::{Item, Members};
+use bolt_check::{Finding, NoMemory};
+use bolt_tree::{Item, Members, Walk};
 use std::alloc::Global;
-use std::cmp::Ordering;
 
 /// Why there is no joined listing.
 #[derive(Clone, Copy, Debug, PartialEq, Eq)]
@@ -80,33 +76,6 @@ pub struct Joined<'a> {
 /// Numbers of sixteen digits name so many pages.
 const NAMES: u64 = 10_000_000_000_000_000;
 
-/// How the first part of a path compares with the key of the bucket of what is found.
-fn compare_first(path: &[&[u8]]) -> Ordering
-    ensures { result ≡ first_cmp (path_of path.now) }
-{
-    match path.first() {
-        Some(key) => key.cmp(lost_and_found()),
-        None => Ordering::Less,
-    }
-}
-
-/// Whether the recovered root bucket has an entry with the key of the bucket of what is found.
-fn has_bucket_key(recovery: &mut Recovery<'_>) -> Result<bool, NoMemory>
-    requires { ForRecovered (recovery_file recovery.old) (recovery_meta recovery.old) (λ listing. recovery_left recovery.old listing ≡ listing) }
-    ensures file { recovery_file recovery.new ≡ recovery_file recovery.old }
-    ensures meta { recovery_meta recovery.new ≡ recovery_meta recovery.old }
-    ensures has { IfOk result (λ has. ForRecovered (recovery_file recovery.old) (recovery_meta recovery.old) (λ listing. TellsBucketKey listing has)) }
-{
-    loop {
-        let Some(_) = recovery.next()? else {
-            return Ok(false);
-        };
-        if compare_first(recovery.path()).is_eq() {
-            return Ok(true);
-        }
-    }
-}
-
 /// The stage to begin with.
 fn first_stage(found: &[Found<'_>]) -> Stage
     ensures none { found.now ≡ [] → result ≡ stages.After }
@@ -119,114 +88,84 @@ fn first_stage(found: &[Found<'_>]) -> Stage
     }
 }
 
-#[tactic(auto, unfolding(crate::specs::JoinedMembers::joined_file, crate::specs::JoinedMembers::joined_left, crate::specs::JoinedMembers::joined_lost, crate::specs::JoinedMembers::joined_meta, crate::specs::JoinedMembers::joined_path, crate::specs::JoinedMembers::joined_work))]
-impl<'a> Joined<'a> {
-    ghost use Rattle.bolt_recover.specs.JoinedMembers.{ForJoined, HasAllLost, joined_file, joined_left, joined_lost, joined_meta, joined_path, joined_work};
+/// The recovered members of a file that was searched, if there is a joined listing.
+fn kept_of<'a>(alloc: Global, both: &LostAndFound<'a>) -> Result<Kept<'a>, JoinFault>
+    ensures file { IfOk result (λ kept. kept_file kept ≡ both.now.file.now) }
+    ensures meta { IfOk result (λ kept. kept_meta kept ≡ both.now.meta) }
+    ensures all { IfOk result (λ kept. ForRecovered both.now.file.now both.now.meta (λ listing. kept_left kept listing ≡ listing)) }
+    ensures path { IfOk result (λ kept. kept_path kept ≡ []) }
+    ensures apart { OnOk result (both.now.found.items ≢ [] → ForRecovered both.now.file.now both.now.meta LacksBucketKey) }
+    ensures some { OnOk result ((x : Finding) → all_lost both.now ≡ everything x → both.now.found.items ≢ []) }
+    ensures refused { IfErr result (IsJoinRefusal both.now.file.now both.now.meta (numbers_of both.now.found.items)) }
+{
+    let some = !both.found.is_empty();
+    match &both.trees {
+        Trees::Sound(checked) => Ok(Kept::Sound(Walk::new(alloc, *checked))),
+        Trees::Damaged(damage) => {
+            if some && damage.has_bucket_key {
+                return Err(JoinFault::Exists);
+            }
+            // The root page is kept, so only memory can be refused.
+            match Recovery::under(alloc, both.file, both.meta) {
+                Ok(recovery) => Ok(Kept::Recovery(recovery)),
+                Err(_) => Err(JoinFault::Memory),
+            }
+        }
+        Trees::Rootless(finding) => {
+            if !some {
+                return Err(JoinFault::Root(*finding));
+            }
+            let root = LostRoot {
+                file: both.file,
+                meta: both.meta,
+            };
+            Ok(Kept::Nothing(root))
+        }
+    }
+}
 
-    /// The members of the joined listing of a file under this meta, of which these are the found
-    /// pages (`found_pages`). A second recovery begins, which needs what the first one needed; but if no
-    /// page is found and the trees are sound, their walk returns the same, and tests no page again.
+#[tactic(auto, unfolding(crate::specs::JoinedMembers::joined_file, crate::specs::JoinedMembers::joined_left, crate::specs::JoinedMembers::joined_meta, crate::specs::JoinedMembers::joined_path, crate::specs::JoinedMembers::joined_work))]
+impl<'a> Joined<'a> {
+    ghost use Rattle.bolt_recover.specs.JoinedMembers.{ForJoined, joined_file, joined_left, joined_meta, joined_path, joined_work};
+
+    /// The members of the joined listing of a file that was searched. If its trees are sound, a plain
+    /// walk returns them, and no page is tested again; otherwise a recovery, which needs a table of
+    /// pages, room for its losses and for the open pages on its way.
     ///
     /// # Errors
     ///
     /// `Root` if the root page is lost and no page is found; `Exists` if a page is found and the
-    /// recovered root bucket has an entry `lost+found`; `Memory` if memory runs out, or if the file
-    /// has more than 10^16 pages.
-    pub fn new(
-        alloc: Global,
-        file: &'a [u8],
-        meta: Meta,
-        found: &'a [Found<'a>],
-    ) -> Result<Joined<'a>, JoinFault>
-        requires size { 0 < meta.page_size }
-        requires found { AreFound file.now meta (numbers_of found.now) }
-        requires views { All (IsFoundView file.now meta) found.now }
-        ensures file { IfOk result (λ joined. joined_file joined ≡ file.now) }
-        ensures meta { IfOk result (λ joined. joined_meta joined ≡ meta) }
-        ensures all { IfOk result (λ joined. ForJoined file.now meta (λ listing. joined_left joined listing ≡ listing)) }
+    /// recovered root bucket has an entry `lost+found`; `Memory` if memory runs out.
+    pub fn new(alloc: Global, both: &'a LostAndFound<'_>) -> Result<Joined<'a>, JoinFault>
+        ensures file { IfOk result (λ joined. joined_file joined ≡ both.now.file.now) }
+        ensures meta { IfOk result (λ joined. joined_meta joined ≡ both.now.meta) }
+        ensures all { IfOk result (λ joined. ForJoined both.now.file.now both.now.meta (λ listing. joined_left joined listing ≡ listing)) }
         ensures path { IfOk result (λ joined. joined_path joined ≡ []) }
-        ensures apart { OnOk result (found.now ≢ [] → ForRecovered file.now meta LacksBucketKey) }
-        ensures some { OnOk result (found.now ≡ [] → KeepsRoot file.now meta) }
-        ensures refused { IfErr result (IsJoinRefusal file.now meta (numbers_of found.now)) }
+        ensures apart { OnOk result (both.now.found.items ≢ [] → ForRecovered both.now.file.now both.now.meta LacksBucketKey) }
+        ensures some { OnOk result ((x : Finding) → all_lost both.now ≡ everything x → both.now.found.items ≢ []) }
+        ensures refused { IfErr result (IsJoinRefusal both.now.file.now both.now.meta (numbers_of both.now.found.items)) }
     {
-        if file.len() as u64 / u64::from(meta.page_size) >= NAMES {
+        if both.file.len() as u64 / u64::from(both.meta.page_size) >= NAMES {
             return Err(JoinFault::Memory);
         }
-        if found.is_empty() {
-            if let Some(kept) = Kept::of_sound(alloc, file, meta)? {
-                return Ok(Joined::of(kept, found));
-            }
-        }
-        match Recovery::under(alloc, file, meta) {
-            Ok(recovery) => Joined::beside(recovery, found),
-            Err(CheckFault::Structure(finding)) => {
-                Joined::without(
-                    &LostRoot {
-                        file,
-                        meta,
-                        finding,
-                    },
-                    found,
-                )
-            }
-            Err(_) => Err(JoinFault::Memory),
-        }
+        let kept = kept_of(alloc, both)?;
+        Ok(Joined::of(kept, both))
     }
 
-    /// The members of a recovery that has returned nothing yet, and those of the pages that are found
-    /// in its file.
-    fn beside(mut recovery: Recovery<'a>, found: &'a [Found<'a>]) -> Result<Joined<'a>, JoinFault>
-        requires few { length (recovery_file recovery) < 10 ^ 16 * (recovery_meta recovery).page_size }
-        requires fresh { ForRecovered (recovery_file recovery) (recovery_meta recovery) (λ listing. recovery_left recovery listing ≡ listing) }
-        requires begun { recovery_path recovery ≡ [] }
-        requires found { AreFound (recovery_file recovery) (recovery_meta recovery) (numbers_of found.now) }
-        requires views { All (IsFoundView (recovery_file recovery) (recovery_meta recovery)) found.now }
-        ensures file { IfOk result (λ joined. joined_file joined ≡ recovery_file recovery.entry) }
-        ensures meta { IfOk result (λ joined. joined_meta joined ≡ recovery_meta recovery.entry) }
-        ensures all { IfOk result (λ joined. ForJoined (recovery_file recovery.entry) (recovery_meta recovery.entry) (λ listing. joined_left joined listing ≡ listing)) }
-        ensures path { IfOk result (λ joined. joined_path joined ≡ []) }
-        ensures apart { OnOk result (found.now ≢ [] → ForRecovered (recovery_file recovery.entry) (recovery_meta recovery.entry) LacksBucketKey) }
-        ensures refused { IfErr result (IsJoinRefusal (recovery_file recovery.entry) (recovery_meta recovery.entry) (numbers_of found.now)) }
-    {
-        if found.is_empty() {
-            return Ok(Joined::of(Kept::Recovery(recovery), found));
-        }
-        if has_bucket_key(&mut recovery)? {
-            return Err(JoinFault::Exists);
-        }
-        recovery.restart()?;
-        Ok(Joined::of(Kept::Recovery(recovery), found))
-    }
-
-    /// The members of the pages that are found of a file whose root page is lost.
-    fn without(root: &LostRoot<'a>, found: &'a [Found<'a>]) -> Result<Joined<'a>, JoinFault>
-        requires few { length root.now.file.now < 10 ^ 16 * root.now.meta.page_size }
-        requires found { AreFound root.now.file.now root.now.meta (numbers_of found.now) }
-        requires views { All (IsFoundView root.now.file.now root.now.meta) found.now }
-        ensures file { IfOk result (λ joined. joined_file joined ≡ root.now.file.now) }
-        ensures meta { IfOk result (λ joined. joined_meta joined ≡ root.now.meta) }
-        ensures all { IfOk result (λ joined. ForJoined root.now.file.now root.now.meta (λ listing. joined_left joined listing ≡ listing)) }
-        ensures path { IfOk result (λ joined. joined_path joined ≡ []) }
-        ensures apart { OnOk result (ForRecovered root.now.file.now root.now.meta LacksBucketKey) }
-        ensures some { OnOk result (found.now ≢ []) }
-        ensures refused { IfErr result (IsJoinRefusal root.now.file.now root.now.meta (numbers_of found.now)) }
-    {
-        if found.is_empty() {
-            return Err(JoinFault::Root(root.finding));
-        }
-        Ok(Joined::of(Kept::Nothing(*root), found))
-    }
-
-    /// The members of found pages and of what is recovered, of which nothing was returned yet.
-    fn of(kept: Kept<'a>, found: &'a [Found<'a>]) -> Joined<'a>
-        requires pages { AreJoinable (kept_file kept) (kept_meta kept) found.now }
-        requires fresh { ForRecovered (kept_file kept) (kept_meta kept) (λ listing. kept_left kept listing ≡ listing) }
+    /// The members of what is found and of what is recovered, of which nothing was returned yet.
+    fn of(kept: Kept<'a>, both: &'a LostAndFound<'_>) -> Joined<'a>
+        requires few { length both.now.file.now < 10 ^ 16 * both.now.meta.page_size }
+        requires file { kept_file kept ≡ both.now.file.now }
+        requires meta { kept_meta kept ≡ both.now.meta }
+        requires fresh { ForRecovered both.now.file.now both.now.meta (λ listing. kept_left kept listing ≡ listing) }
         requires path { kept_path kept ≡ [] }
-        ensures file { joined_file result ≡ kept_file kept.entry }
-        ensures meta { joined_meta result ≡ kept_meta kept.entry }
-        ensures all { ForJoined (kept_file kept.entry) (kept_meta kept.entry) (λ listing. joined_left result listing ≡ listing) }
+        requires apart { both.now.found.items ≢ [] → ForRecovered both.now.file.now both.now.meta LacksBucketKey }
+        ensures file { joined_file result ≡ both.now.file.now }
+        ensures meta { joined_meta result ≡ both.now.meta }
+        ensures all { ForJoined both.now.file.now both.now.meta (λ listing. joined_left result listing ≡ listing) }
         ensures path { joined_path result ≡ [] }
     {
+        let found = both.found.as_slice();
         Joined {
             kept,
             found,
@@ -234,14 +173,6 @@ impl<'a> Joined<'a> {
             bucket: FoundMembers::new(found),
             held: None,
         }
-    }
-
-    /// What is lost so far: everything, or the losses as `Recovery::losses` returns them. Once `next`
-    /// has returned `None`, these are all losses.
-    pub fn lost(&self) -> Lost<'_>
-        ensures { lost_view result ≡ joined_lost self.now }
-    {
-        self.kept.lost()
     }
 
     /// Returns a recovered member before the bucket of what is found, or that bucket.
@@ -272,7 +203,6 @@ impl<'a> Joined<'a> {
         ensures meta { joined_meta self.new ≡ joined_meta self.old }
         ensures given { IfOk result (λ given. ForJoined (joined_file self.old) (joined_meta self.old) (λ listing. GivesNext (joined_left self.old listing) (joined_left self.new listing) (joined_path self.new) (option_map item_view given))) }
         ensures fewer { IfOk result (λ given. IfSome given (λ _. joined_work self.new < joined_work self.old)) }
-        ensures ended { IfOk result (λ given. IfNone given (HasAllLost (joined_file self.old) (joined_meta self.old) self.new)) }
         ensures same { OnErr result (ForJoined (joined_file self.old) (joined_meta self.old) (λ listing. joined_left self.new listing ≡ joined_left self.old listing)) }
         ensures same_path { OnErr result (joined_path self.new ≡ joined_path self.old) }
     {
@@ -289,9 +219,9 @@ impl<'a> Joined<'a> {
     }
 }
 
-#[tactic(auto, unfolding(crate::specs::JoinedMembers::joined_file, crate::specs::JoinedMembers::joined_left, crate::specs::JoinedMembers::joined_lost, crate::specs::JoinedMembers::joined_meta, crate::specs::JoinedMembers::joined_path, crate::specs::JoinedMembers::joined_work))]
+#[tactic(auto, unfolding(crate::specs::JoinedMembers::joined_file, crate::specs::JoinedMembers::joined_left, crate::specs::JoinedMembers::joined_meta, crate::specs::JoinedMembers::joined_path, crate::specs::JoinedMembers::joined_work))]
 impl<'a> Members<'a> for Joined<'a> {
-    ghost use Rattle.bolt_recover.specs.JoinedMembers.{HasAllLost, joined_file, joined_left, joined_lost, joined_meta, joined_path, joined_work};
+    ghost use Rattle.bolt_recover.specs.JoinedMembers.{joined_file, joined_left, joined_meta, joined_path, joined_work};
 
     ghost lists = { λ joined listing. IsJoined (joined_file joined) (joined_meta joined) listing };
 
@@ -301,7 +231,7 @@ impl<'a> Members<'a> for Joined<'a> {
 
     ghost last_path = { λ joined. joined_path joined };
 
-    ghost ends_as = { λ joined end. HasAllLost (joined_file joined) (joined_meta joined) end };
+    ghost ends_as = { λ joined end. Unit {0} };
 
     fn next(&mut self) -> Result<Option<Item<'a>>, NoMemory> {
         match self.stage {

@@ -1,18 +1,16 @@
 //! What is recovered, also if the root page is lost.
-ghost use Rattle.std.specs.Prelude.{◌≡◌, ◌<◌, [], IfOk, IfSome, OnErr, OnOk};
-ghost use Rattle.std.specs.Option.{IfNone, option_map};
+ghost use Rattle.std.specs.Prelude.{◌≡◌, ◌<◌, IfOk, IfSome, OnErr, OnOk};
+ghost use Rattle.std.specs.Option.{option_map};
 ghost use Rattle.bolt_format.specs.Bytes.{IsBytes};
+ghost use Rattle.bolt_check.specs.declared.finding.Finding.{Finding};
 ghost use Rattle.bolt_tree.specs.Paths.{path_of};
 ghost use Rattle.bolt_tree.specs.ShownEntries.{item_view};
 ghost use Rattle.bolt_tree.specs.Walks.{GivesNext};
-ghost use Rattle.bolt_recover.specs.Lost.{IsAllLost};
 ghost use Rattle.bolt_recover.specs.Recovered.{ForRecovered};
-ghost use Rattle.bolt_recover.specs.Refusals.{KeepsRoot, LosesRoot};
-ghost use Rattle.bolt_recover.specs.ShownLosses.{lost_view};
+ghost use Rattle.bolt_recover.specs.Refusals.{LosesRoot};
 
-use crate::lost::Lost;
 use crate::recovery::Recovery;
-use bolt_check::{CheckFault, Finding, NoMemory, check_under};
+use bolt_check::NoMemory;
 use bolt_format::Meta;
 use bolt_tree::{Item, Walk};
 use std::alloc::Global;
@@ -22,10 +20,8 @@ use std::alloc::Global;
 pub(crate) struct LostRoot<'a> {
     pub file: &'a [u8],
     pub meta: Meta,
-    /// Why it is lost.
-    pub finding: Finding,
     ghost bytes: { IsBytes file.now },
-    ghost lost: { ∥ LosesRoot file.now meta finding ∥₁ },
+    ghost lost: { ∥ ((x : Finding) × LosesRoot file.now meta x) ∥₁ },
 }
 
 /// The members that are recovered.
@@ -39,23 +35,7 @@ pub(crate) enum Kept<'a> {
 
 #[tactic(auto, unfolding(crate::specs::Recoveries::recovery_file, crate::specs::Recoveries::recovery_meta, crate::specs::Recoveries::recovery_losses))]
 impl<'a> Kept<'a> {
-    ghost use Rattle.bolt_recover.specs.Private.KeptMembers.{kept_file, kept_left, kept_lost, kept_meta, kept_path, kept_work};
-
-    /// All that is recovered of a file whose trees are sound under this meta; `None` if they aren't.
-    pub fn of_sound(alloc: Global, file: &'a [u8], meta: Meta) -> Result<Option<Kept<'a>>, NoMemory>
-        requires { 0 < meta.page_size }
-        ensures file { IfOk result (λ kept. IfSome kept (λ kept. kept_file kept ≡ file.now)) }
-        ensures meta { IfOk result (λ kept. IfSome kept (λ kept. kept_meta kept ≡ meta)) }
-        ensures all { IfOk result (λ kept. IfSome kept (λ kept. ForRecovered file.now meta (λ listing. kept_left kept listing ≡ listing))) }
-        ensures path { IfOk result (λ kept. IfSome kept (λ kept. kept_path kept ≡ [])) }
-        ensures root { IfOk result (λ kept. IfSome kept (λ _. KeepsRoot file.now meta)) }
-    {
-        match check_under(alloc, file, meta) {
-            Ok(checked) => Ok(Some(Kept::Sound(Walk::new(alloc, checked)))),
-            Err(CheckFault::Memory) => Err(NoMemory),
-            Err(_) => Ok(None),
-        }
-    }
+    ghost use Rattle.bolt_recover.specs.Private.KeptMembers.{kept_file, kept_left, kept_meta, kept_path, kept_work};
 
     /// Returns the first member that is left, or `None` if nothing is left.
     pub fn next(&mut self) -> Result<Option<Item<'a>>, NoMemory>
@@ -63,7 +43,6 @@ impl<'a> Kept<'a> {
         ensures meta { kept_meta self.new ≡ kept_meta self.old }
         ensures given { IfOk result (λ given. ForRecovered (kept_file self.old) (kept_meta self.old) (λ listing. GivesNext (kept_left self.old listing) (kept_left self.new listing) (kept_path self.new) (option_map item_view given))) }
         ensures fewer { IfOk result (λ given. IfSome given (λ _. kept_work self.new < kept_work self.old)) }
-        ensures ended { IfOk result (λ given. IfNone given (IsAllLost (kept_file self.old) (kept_meta self.old) (kept_lost self.new))) }
         ensures same { OnErr result (ForRecovered (kept_file self.old) (kept_meta self.old) (λ listing. kept_left self.new listing ≡ kept_left self.old listing)) }
         ensures same_path { OnErr result (kept_path self.new ≡ kept_path self.old) }
     {
@@ -82,17 +61,6 @@ impl<'a> Kept<'a> {
             Kept::Recovery(recovery) => recovery.path(),
             Kept::Sound(walk) => walk.path(),
             Kept::Nothing(_) => &[],
-        }
-    }
-
-    /// What is lost so far.
-    pub fn lost(&self) -> Lost<'_>
-        ensures { lost_view result ≡ kept_lost self.now }
-    {
-        match self {
-            Kept::Recovery(recovery) => Lost::Parts(recovery.losses()),
-            Kept::Sound(_) => Lost::Parts(&[]),
-            Kept::Nothing(root) => Lost::Everything(root.finding),
         }
     }
 

@@ -5,6 +5,7 @@
 mod content;
 mod elements;
 mod found;
+mod found_key;
 mod found_members;
 mod joined;
 mod kept;
@@ -12,13 +13,13 @@ pub mod laws;
 mod leaves;
 mod loss;
 mod lost;
+mod lost_and_found;
 mod recovery;
-mod search;
 mod steps;
 
 pub use found::Found;
 pub use joined::{JoinFault, Joined};
 pub use loss::Loss;
 pub use lost::Lost;
+pub use lost_and_found::LostAndFound;
 pub use recovery::Recovery;
-pub use search::found_pages;

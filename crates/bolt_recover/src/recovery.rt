@@ -1,26 +1,26 @@
 //! A walk over everything that is kept of a damaged file.
-ghost use Rattle.std.specs.List.{All};
 ghost use Rattle.std.specs.Option.{IfNone, option_map};
 ghost use Rattle.std.specs.Prelude.{◌≡◌, ◌<◌, ◌≤◌, ◌↔◌, ◌^◌, ℕ, [], true, IfErr, IfOk, IfSome, OnErr, OnOk, map};
 ghost use Rattle.bolt_check.specs.Claims.{claims_file, claims_meta, claims_visited, is_claimed};
 ghost use Rattle.bolt_check.specs.Counts.{counted};
 ghost use Rattle.bolt_check.specs.Findings.{IsMetaPage};
+ghost use Rattle.bolt_check.specs.Sound.{HasSoundTrees};
 ghost use Rattle.bolt_format.specs.Metas.{IsChosen, IsInSlot};
 ghost use Rattle.bolt_tree.specs.Paths.{path_of};
 ghost use Rattle.bolt_tree.specs.ShownEntries.{item_view};
 ghost use Rattle.bolt_tree.specs.Walks.{GivesNext};
-ghost use Rattle.bolt_recover.specs.Found.{AreFound, numbers_of};
 ghost use Rattle.bolt_recover.specs.KeptPages.{AreKeptPages};
 ghost use Rattle.bolt_recover.specs.Private.Frames.{IsOn, state_of};
 ghost use Rattle.bolt_recover.specs.PageWays.{ForPageWays};
 ghost use Rattle.bolt_recover.specs.Recovered.{ForRecovered, IsRecovered};
 ghost use Rattle.bolt_recover.specs.Refusals.{IsRefusedRoot, IsSlotUnrecoverable, IsUnrecoverable, KeepsRoot};
-ghost use Rattle.bolt_recover.specs.ShownFound.{IsFoundView};
 ghost use Rattle.bolt_recover.specs.ShownLosses.{loss_view};
 
 use crate::found::Found;
+use crate::found_key::compare_first;
 use crate::leaves::find_leaves;
 use crate::loss::Loss;
+use crate::lost_and_found::Damage;
 use crate::steps::Steps;
 use bolt_check::{CheckFault, Claims, Leftovers, NoMemory};
 use bolt_format::{Meta, Slot, choose, slot_meta};
@@ -44,6 +44,9 @@ pub struct Recovery<'a> {
 
 #[tactic(auto, unfolding(crate::specs::Recoveries::recovery_begun, crate::specs::Recoveries::recovery_claimed, crate::specs::Recoveries::recovery_file, crate::specs::Recoveries::recovery_left, crate::specs::Recoveries::recovery_losses, crate::specs::Recoveries::recovery_meta, crate::specs::Recoveries::recovery_path, crate::specs::Recoveries::recovery_visited, crate::specs::Recoveries::recovery_work))]
 impl<'a> Recovery<'a> {
+    ghost use Rattle.bolt_recover.specs.Private.Joining.{TellsBucketKey};
+    ghost use Rattle.bolt_recover.specs.Private.TreesLeft.{IsSearched};
+    ghost use Rattle.bolt_recover.specs.declared.lost_and_found.Trees.TheVariants as Trees;
     ghost use Rattle.bolt_recover.specs.Recoveries.{AreFirst, ForLosses, recovery_begun, recovery_claimed, recovery_file, recovery_left, recovery_losses, recovery_meta, recovery_path, recovery_visited, recovery_work};
 
     /// A walk under the active meta.
@@ -169,38 +172,46 @@ impl<'a> Recovery<'a> {
         }
     }
 
-    /// Finds the intact leaves that nothing leads to, by rising number (docs/RECOVERY.md, "Found
-    /// pages"). It drops what is left first. If nothing is lost, nothing is found. It needs room for
-    /// what is found, and no second table.
+    /// Drops what is left, and finds the intact leaves that nothing leads to (docs/RECOVERY.md, "Found
+    /// pages"). It needs room for what is found, and no second table.
     ///
     /// # Errors
     ///
     /// `NoMemory` if memory runs out.
-    pub(crate) fn found(mut self) -> Result<Vec<Found<'a>>, NoMemory>
-        ensures found { IfOk result (λ found. AreFound (recovery_file self.entry) (recovery_meta self.entry) (numbers_of found.items)) }
-        ensures views { IfOk result (λ found. All (IsFoundView (recovery_file self.entry) (recovery_meta self.entry)) found.items) }
+    pub(crate) fn found(mut self) -> Result<(Damage<'a>, Vec<Found<'a>>), NoMemory>
+        requires fresh { ForRecovered (recovery_file self) (recovery_meta self) (λ listing. recovery_left self listing ≡ listing) }
+        requires root { KeepsRoot (recovery_file self) (recovery_meta self) }
+        requires damaged { HasSoundTrees (recovery_file self) (recovery_meta self) → ⊥ }
+        ensures { IfOk result (λ (damage, found). IsSearched (recovery_file self.entry) (recovery_meta self.entry) (Trees.Damaged damage) found.items) }
     {
-        self.finish()?;
-        if self.steps.losses.is_empty() {
-            return Ok(Vec::new(self.steps.alloc));
-        }
-        find_leaves(self.steps.alloc, Leftovers::new(self.steps.claims))
+        let has_bucket_key = self.finish()?;
+        let steps = self.steps;
+        let found = find_leaves(steps.alloc, Leftovers::new(steps.claims))?;
+        Ok((
+            Damage {
+                losses: steps.losses,
+                has_bucket_key,
+            },
+            found,
+        ))
     }
 
-    /// Drops what is left.
-    fn finish(&mut self) -> Result<(), NoMemory>
+    /// Drops what is left, and returns whether the root bucket has an entry with the key of the bucket
+    /// of what is found.
+    fn finish(&mut self) -> Result<bool, NoMemory>
+        requires { ForRecovered (recovery_file self.old) (recovery_meta self.old) (λ listing. recovery_left self.old listing ≡ listing) }
         ensures file { recovery_file self.new ≡ recovery_file self.old }
         ensures meta { recovery_meta self.new ≡ recovery_meta self.old }
         ensures under { claims_meta self.new.steps.claims ≡ self.old.meta }
+        ensures has { IfOk result (λ has. ForRecovered (recovery_file self.old) (recovery_meta self.old) (λ listing. TellsBucketKey listing has)) }
         ensures all { OnOk result (ForLosses (recovery_file self.old) (recovery_meta self.old) (λ losses. recovery_losses self.new ≡ losses)) }
         ensures kept { OnOk result (AreKeptPages (recovery_file self.old) (recovery_meta self.old) (recovery_claimed self.new)) }
     {
-        loop {
-            match self.next()? {
-                Some(_) => {}
-                None => return Ok(()),
-            }
+        let mut has_bucket_key = false;
+        while let Some(_) = self.next()? {
+            has_bucket_key |= compare_first(self.path()).is_eq();
         }
+        Ok(has_bucket_key)
     }
 
     /// The path of the last item that was returned, from the root bucket down. It is empty before

@@ -5,7 +5,7 @@ use crate::fault::Fault;
 use crate::walks::lines_of;
 use crate::words::{assumed_of, slot_of};
 use bolt_format::{Meta, choose, slot_meta};
-use bolt_recover::{Found, Joined, Lost, Recovery, found_pages};
+use bolt_recover::{Found, Joined, Lost, LostAndFound, Recovery};
 use bolt_report::lost_text;
 use bolt_tree::Members;
 use std::alloc::Global;
@@ -33,9 +33,9 @@ fn recovery_of<'a>(alloc: Global, file: &'a [u8], words: &[String]) -> Result<Re
 /// A line for each page that is found: its number, and its keys in hexadecimal. The first word may
 /// name the slot of the meta, or assume one.
 pub fn found(alloc: Global, file: &[u8], words: &[String]) -> Result<Vec<u8>, Fault> {
-    let pages = found_pages(alloc, file, meta_of(file, words)?)?;
+    let both = LostAndFound::under(alloc, file, meta_of(file, words)?)?;
     let mut lines = Vec::new(alloc);
-    for page in &pages {
+    for page in &both.found {
         push_found(alloc, page, &mut lines)?;
     }
     Ok(lines)
@@ -73,8 +73,8 @@ fn push_found(alloc: Global, found: &Found<'_>, lines: &mut Vec<u8>) -> Result<(
 /// may assume a meta.
 pub fn joined(alloc: Global, file: &[u8], words: &[String]) -> Result<Vec<u8>, Fault> {
     let meta = meta_of(file, words)?;
-    let pages = found_pages(alloc, file, meta)?;
-    let mut members = Joined::new(alloc, file, meta, pages.as_slice())?;
+    let both = LostAndFound::under(alloc, file, meta)?;
+    let mut members = Joined::new(alloc, &both)?;
     let first = lines_of(alloc, &mut members)?;
     members.restart(alloc)?;
     let again = lines_of(alloc, &mut members)?;

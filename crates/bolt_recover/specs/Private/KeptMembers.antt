@@ -6,8 +6,7 @@ use Rattle.bolt_tree.specs.Listing.{Member}
 use Rattle.bolt_tree.specs.Paths.{Path}
 use Rattle.bolt_tree.specs.Walks.{left_of, walk_checked, walk_path}
 use Rattle.bolt_tree.specs.WalksLeft.{left_number}
-use Rattle.bolt_recover.specs.Losses.{LostView, everything, parts}
-use Rattle.bolt_recover.specs.Recoveries.{recovery_file, recovery_left, recovery_losses, recovery_meta, recovery_path, recovery_work}
+use Rattle.bolt_recover.specs.Recoveries.{recovery_file, recovery_left, recovery_meta, recovery_path, recovery_work}
 use Rattle.bolt_recover.specs.declared.kept.Kept.{Kept}
 use Rattle.bolt_recover.specs.declared.kept.Kept.TheVariants.{Nothing, Recovery, Sound}
 
@@ -35,9 +34,3 @@ abbrev pub kept_path : Kept → Path
 kept_path (Recovery recovery) = recovery_path recovery
 kept_path (Sound walk) = walk_path walk
 kept_path (Nothing root) = []
-
--- what is lost so far
-abbrev pub kept_lost : Kept → LostView
-kept_lost (Recovery recovery) = parts (recovery_losses recovery)
-kept_lost (Sound walk) = parts []
-kept_lost (Nothing root) = everything root.finding

@@ -1,1 +1,0 @@
-use Rattle.bolt_cli.proofs.check_command.put_all_lost.Goals as goal

@@ -1,4 +1,4 @@
-use Rattle.std.proofs.Common.{◌∙◌, ◌++◌, ◌∷◌, [], List, ap, append_assoc, append-nil, map, subst, sym, take}
+use Rattle.std.proofs.Common.{◌∙◌, ◌++◌, List, ap, append_assoc, append-nil, map, subst, sym, take}
 use Rattle.std.proofs.lemmas.List.Sums.{fold-append}
 use Rattle.clap.specs.Words.{App, with_subcommand}
 use Rattle.bolt_cli.specs.CommandLine.{IsCommand, bare_program, command_of, program_of}

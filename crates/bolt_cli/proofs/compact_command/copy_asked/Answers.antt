@@ -1,5 +1,4 @@
 -- The shape is the one that is asked for.
-use Rattle.std.proofs.Common.{List}
 use Rattle.std.proofs.Math.Logic.{∥∥₁_map}
 use Rattle.bolt_cli.specs.Answers.{copy_page_size}
 use Rattle.bolt_cli.specs.CopyEnds.{asked_layout}

@@ -1,17 +1,17 @@
 -- The copy is whole and then reported, or it isn't whole, or there is no joined listing.
-use Rattle.std.proofs.Common.{◌≡◌, ◌∙◌, ℕ, Bool, List, Ok, Err, inl, inr, length, map, refl, subst, subst₂, sym}
+use Rattle.std.proofs.Common.{◌≡◌, ◌∙◌, ℕ, Bool, List, inl, inr, length, map, refl, subst, subst₂, sym}
 use Rattle.std.specs.List.{All}
 use Rattle.bolt_format.specs.declared.meta.Meta.{Meta}
-use Rattle.bolt_recover.specs.Found.{AreFound, numbers_of}
+use Rattle.bolt_recover.specs.Found.{numbers_of}
 use Rattle.bolt_recover.specs.Joined.{IsJoined}
-use Rattle.bolt_recover.specs.JoinedMembers.{joined_left, joined_lost}
+use Rattle.bolt_recover.specs.JoinedMembers.{joined_left}
+use Rattle.bolt_recover.specs.JoinRefusals.{IsJoinRefusal}
 use Rattle.bolt_recover.specs.Losses.{LostView}
-use Rattle.bolt_recover.specs.Lost.{IsAllLost}
-use Rattle.bolt_recover.specs.ShownFound.{IsFoundView}
+use Rattle.bolt_recover.specs.LostAndFound.{all_lost}
 use Rattle.bolt_recover.specs.declared.found.Found.{Found}
+use Rattle.bolt_tree.specs.Listing.{Member}
 use Rattle.bolt_recover.specs.declared.joined.JoinFault.TheVariants as join
 use Rattle.bolt_report.specs.FoundLines.{IsFoundLeaf, found_view}
-use Rattle.bolt_tree.specs.Listing.{Member}
 use Rattle.bolt_cli.specs.Answers.{Does, copy_report}
 use Rattle.bolt_cli.specs.CopyEnds.{asked_layout}
 use Rattle.bolt_cli.specs.CopyKinds.{is_snapshot}
@@ -23,23 +23,24 @@ use Rattle.bolt_cli.proofs.FoundAnswers.{are_leaves, salvaged}
 use Rattle.bolt_cli.proofs.ReadFiles.{some_page_size}
 use Rattle.bolt_cli.proofs.compact_command.write_joined.Goals as goal
 
-pub returns-in_err-found : goal.returns-in_err-found
-returns-in_err-found g c =
+pub under-requires : goal.under-requires
+under-requires g c = some_page_size c.args.file.now c.args.job.now.meta c.in_ok-meta.meta c.in_ok-meta.ensures.found
+
+pub returns-in_err-both : goal.returns-in_err-both
+returns-in_err-both g c =
     let meta = c.in_ok-meta.meta in
     let (numbers, are) = c.each_file_has_found_pages.ensures c.args.file.now meta in
-    inr (inr (failure.Memory, inl (meta, c.in_ok-meta.ensures.found, (numbers, join.Memory, are, tt, refl)), refl, refl, ends_as _ failure.Memory c.from_residual-in_err-found.ensures.1))
-
-pub new-requires-clause-size : goal.new-requires-clause-size
-new-requires-clause-size g c = some_page_size c.args.file.now c.args.job.now.meta c.in_ok-meta.meta c.in_ok-meta.ensures.found
+    inr (inr (failure.Memory, inl (meta, c.in_ok-meta.ensures.found, (numbers, join.Memory, are, tt, refl)), refl, refl, ends_as _ failure.Memory c.from_residual-in_err-both.ensures.1))
 
 pub returns-in_err-joined : goal.returns-in_err-joined
 returns-in_err-joined g c =
     let fault = c.in_err-joined.field-0.0 in
-    let found = c.as_slice.result.now in
-    let are = subst (λ (fs : List Found). AreFound c.args.file.now c.in_ok-meta.meta (numbers_of fs)) (sym c.as_slice.ensures.value) c.in_ok-found.ensures.found in
+    let both = c.in_ok-both.ensures in
+    let numbers = numbers_of c.in_ok-both.both.found.items in
+    let why = subst₂ (λ (f : List ℕ) (m : Meta). IsJoinRefusal f m numbers fault) both.file both.meta c.in_err-joined.ensures.refused in
     inr (inr (
       unjoined fault,
-      inl (c.in_ok-meta.meta, c.in_ok-meta.ensures.found, (numbers_of found, fault, are, c.in_err-joined.ensures.refused, refl)),
+      inl (c.in_ok-meta.meta, c.in_ok-meta.ensures.found, (numbers, fault, both.found, why, refl)),
       refl,
       refl,
       ends_as _ (unjoined fault) c.from_residual-in_err-joined.ensures.1,
@@ -53,8 +54,10 @@ pub returns-in_err-copy : goal.returns-in_err-copy
 returns-in_err-copy g c =
     let meta = c.in_ok-meta.meta in
     let job = c.args.job.now in
+    let j = c.in_ok-joined.ensures in
+    let both = c.in_ok-both.ensures in
     let (own, is) = c.each_file_has_a_joined_listing.ensures c.args.file.now meta in
-    let there = subst₂ (λ (f : List ℕ) (m : Meta). IsJoined f m own) (sym c.in_ok-joined.ensures.file) (sym c.in_ok-joined.ensures.meta) is in
+    let there = subst₂ (λ (f : List ℕ) (m : Meta). IsJoined f m own) (sym (j.file ∙ both.file)) (sym (j.meta ∙ both.meta)) is in
     inr (inl (
       meta,
       own,
@@ -66,8 +69,8 @@ returns-in_err-copy g c =
 
 pub put_report-requires : goal.put_report-requires
 put_report-requires g c =
-    subst (λ (found : List Found). All IsFoundLeaf found) (sym c.as_slice-2.ensures.value)
-    (are_leaves c.args.file.now c.in_ok-meta.meta c.in_ok-found.found.items c.in_ok-found.ensures.views)
+    subst (λ (found : List Found). All IsFoundLeaf found) (sym c.as_slice.ensures.value)
+    (are_leaves c.args.file.now c.in_ok-meta.meta c.in_ok-both.both.found.items c.in_ok-both.ensures.views)
 
 pub returns : goal.returns
 returns g c =
@@ -75,26 +78,22 @@ returns g c =
     let meta = c.in_ok-meta.meta in
     let job = c.args.job.now in
     let j = c.in_ok-joined.ensures in
-    let found = c.as_slice.result.now in
-    let same = sym c.as_slice.ensures.value in
-    let again : c.as_slice-2.result.now ≡ found = c.as_slice-2.ensures.value ∙ same in
-    let are = subst (λ (fs : List Found). AreFound file meta (numbers_of fs)) same c.in_ok-found.ensures.found in
-    let views = subst (λ (fs : List Found). All (IsFoundView file meta) fs) same c.in_ok-found.ensures.views in
+    let both = c.in_ok-both.ensures in
+    let found = c.in_ok-both.both.found.items in
     let (own, is) = c.each_file_has_a_joined_listing.ensures file meta in
-    let there = subst₂ (λ (f : List ℕ) (m : Meta). IsJoined f m own) (sym j.file) (sym j.meta) is in
-    let lost = joined_lost c.copy_asked.new.source in
-    let loses = subst₂ (λ (f : List ℕ) (m : Meta). IsAllLost f m lost) j.file j.meta c.in_ok-copy.ensures.end in
+    let there = subst₂ (λ (f : List ℕ) (m : Meta). IsJoined f m own) (sym (j.file ∙ both.file)) (sym (j.meta ∙ both.meta)) is in
+    let lost = all_lost c.in_ok-both.both in
     let does = subst₂ (λ (differs : Bool) (l : LostView). Does g.O.Sink.taken g.O.Sink.failed c.args.out.now c.put_report.new.out
-    (copy_report differs l (map found_view c.as_slice-2.result.now) (length file) c.in_ok-copy.copy) c.put_report.result) c.hash_differs.ensures c.lost.ensures c.put_report.ensures in
+    (copy_report differs l (map found_view c.as_slice.result.now) (length file) c.in_ok-copy.copy) c.put_report.result) c.hash_differs.ensures c.lost.ensures c.put_report.ensures in
     let shown = subst (λ (fs : List Found). Does g.O.Sink.taken g.O.Sink.failed c.args.out.now c.put_report.new.out
-    (copy_report (hash_differs (is_snapshot job.kind) file) lost (map found_view fs) (length file) c.in_ok-copy.copy) c.put_report.result) again does in
+    (copy_report (hash_differs (is_snapshot job.kind) file) lost (map found_view fs) (length file) c.in_ok-copy.copy) c.put_report.result) c.as_slice.ensures.value does in
     inl (
       meta,
       own,
       lost,
       map found_view found,
       c.in_ok-meta.ensures.found,
-      salvaged file meta own lost found is loses are views j.apart j.some,
+      salvaged c.in_ok-both.both file meta own is both.file both.meta both.lost both.found both.views j.apart j.some,
       copy_reported g.T.Sink.taken g.T.Sink.failed c.args.target.now c.copy_asked.new.target
           g.O.Sink.taken g.O.Sink.failed c.args.out.now (is_snapshot job.kind) (asked_layout job meta own) own
           (copy_report (hash_differs (is_snapshot job.kind) file) lost (map found_view found) (length file)) c.in_ok-copy.copy c.put_report.new.out _

@@ -1,5 +1,5 @@
 -- What holds of what is left to the recovery holds of the recovered listing.
-use Rattle.std.proofs.Common.{◌≡◌, ◌∙◌, Bool, List, ap, inl, inr, map, refl, subst, sym, ℕ}
+use Rattle.std.proofs.Common.{◌≡◌, ◌∙◌, List, ap, inl, inr, map, refl, subst, sym, ℕ}
 use Rattle.bolt_format.specs.Endings.{whole}
 use Rattle.bolt_format.specs.Wrote.{Wrote}
 use Rattle.bolt_report.specs.ReportEndings.{fault_ending}

@@ -11,7 +11,7 @@ use Rattle.bolt_recover.proofs.kept.Kept.restart.Goals as goal
 pub returns-in-Nothing-clause-all : goal.returns-in-Nothing-clause-all
 returns-in-Nothing-clause-all c = rw c.in-Nothing.is (λ listing recovered.
     let root = c.in-Nothing.field-0 in
-    ∥∥₁_elim root.lost (hlevel props) (λ lost. sym (nothing_recovered root.file.now root.meta root.finding lost listing recovered)))
+    ∥∥₁_elim root.lost (hlevel props) (λ (x, lost). sym (nothing_recovered root.file.now root.meta x lost listing recovered)))
 
 pub returns-in-Sound-clause-all : goal.returns-in-Sound-clause-all
 returns-in-Sound-clause-all c = rw c.in-Sound.is (same_left (walk_checked c.in-Sound.walk) (left_of c.new.result) (λ (listing : List Member). listing) (rw c.checked.ensures at c.new.ensures.all))

@@ -1,19 +1,60 @@
-use Rattle.std.proofs.Common.{◌∙◌, List, subst₂, sym, ℕ}
+-- What was returned is looked at, and then all is reported.
+use Rattle.std.proofs.Common.{◌≡◌, ◌∙◌, List, ap, refl, inr, subst₂, sym, ℕ}
+use Rattle.std.specs.Ordering.{is_eq}
 use Rattle.bolt_format.specs.declared.meta.Meta.{Meta}
+use Rattle.bolt_tree.specs.Listing.{Member}
+use Rattle.bolt_tree.specs.Paths.{Path}
+use Rattle.bolt_recover.specs.Joined.{is_found_path}
 use Rattle.bolt_recover.specs.Losses.{AreLosses}
-use Rattle.bolt_recover.specs.Recoveries.{recovery_meta}
+use Rattle.bolt_recover.specs.Private.Joining.{first_cmp}
+use Rattle.bolt_recover.specs.Recovered.{IsRecovered}
+use Rattle.bolt_recover.specs.Recoveries.{recovery_meta, recovery_path}
 use Rattle.bolt_recover.proofs.FoundAll.{recovery_under}
+use Rattle.bolt_recover.proofs.JoinSteps.{first_found, inside_on, looked_at, looks_on}
 use Rattle.bolt_recover.proofs.recovery.Recovery.finish.Goals as goal
+
+recovered_at : {f g : List ℕ} {m n : Meta} → g ≡ f → n ≡ m → (listing : List Member) → IsRecovered f m listing → IsRecovered g n listing
+recovered_at file meta listing recovered = subst₂ (λ (a : List ℕ) (b : Meta). IsRecovered a b listing) (sym file) (sym meta) recovered
+
+pub loop-self-init : goal.loop-self-init
+loop-self-init c = record {
+  file = refl;
+  meta = refl;
+  looked = λ listing recovered m has. inr (rw (c.requires listing recovered) has);
+  inside = λ listing recovered m has. rw (sym (c.requires listing recovered)) has;
+}
+
+pub loop-self-preserved : goal.loop-self-preserved
+loop-self-preserved c =
+    let inv = c.loop-self.invariant in
+    let given = rw c.in-Some.is at c.in_ok-next.ensures.given in
+    let path = recovery_path c.next.new.self in
+    let same : c.is_eq-has_bucket_key.result ≡ is_found_path path =
+    c.is_eq-has_bucket_key.ensures ∙ ap is_eq c.compare_first.ensures ∙ ap (λ (p : Path). is_eq (first_cmp p)) c.path.ensures ∙ first_found path in
+    record {
+      file = c.next.ensures.file ∙ inv.file;
+      meta = c.next.ensures.meta ∙ inv.meta;
+      looked = λ listing recovered.
+          looks_on listing _ _ _ _ (given listing (recovered_at inv.file inv.meta listing recovered)) (inv.inside listing recovered) c.loop-self.has_bucket_key _ same (inv.looked listing recovered);
+      inside = λ listing recovered.
+          inside_on listing _ _ _ _ (given listing (recovered_at inv.file inv.meta listing recovered)) (inv.inside listing recovered);
+    }
 
 pub returns-in_err-next-clause-under : goal.returns-in_err-next-clause-under
 unfolding recovery_meta
-returns-in_err-next-clause-under c = recovery_under c.next.new.self ∙ c.next.ensures.meta ∙ c.loop.invariant.meta
+returns-in_err-next-clause-under c = recovery_under c.next.new.self ∙ c.next.ensures.meta ∙ c.loop-self.invariant.meta
 
-pub returns-in-None-clause-under : goal.returns-in-None-clause-under
+pub returns-clause-under : goal.returns-clause-under
 unfolding recovery_meta
-returns-in-None-clause-under c = recovery_under c.next.new.self ∙ c.next.ensures.meta ∙ c.loop.invariant.meta
+returns-clause-under c = recovery_under c.next.new.self ∙ c.next.ensures.meta ∙ c.loop-self.invariant.meta
 
-pub returns-in-None-clause-all : goal.returns-in-None-clause-all
-returns-in-None-clause-all c = λ losses are.
-    let ended = rw c.in-None.is at c.in_ok-next.ensures.all in
-    ended losses (subst₂ (λ (f : List ℕ) (m : Meta). AreLosses f m losses) (sym c.loop.invariant.file) (sym c.loop.invariant.meta) are)
+pub returns-clause-has : goal.returns-clause-has
+returns-clause-has c = λ listing recovered.
+    let inv = c.loop-self.invariant in
+    let given = rw c.in_default.is at c.in_ok-next.ensures.given in
+    looked_at listing _ (given listing (recovered_at inv.file inv.meta listing recovered)).0 c.loop-self.has_bucket_key (inv.looked listing recovered)
+
+pub returns-clause-all : goal.returns-clause-all
+returns-clause-all c = λ losses are.
+    let ended = rw c.in_default.is at c.in_ok-next.ensures.all in
+    ended losses (subst₂ (λ (f : List ℕ) (m : Meta). AreLosses f m losses) (sym c.loop-self.invariant.file) (sym c.loop-self.invariant.meta) are)

@@ -1,13 +1,19 @@
 use Rattle.std.proofs.Common.{◌≡◌}
-use Rattle.bolt_recover.specs.Recoveries.{recovery_file, recovery_meta, recovery_work}
+use Rattle.std.specs.List.{Contains}
+use Rattle.bolt_tree.specs.Listing.{Member}
+use Rattle.bolt_recover.specs.Recovered.{ForRecovered}
+use Rattle.bolt_recover.specs.Recoveries.{recovery_file, recovery_left, recovery_meta, recovery_work}
+use Rattle.bolt_recover.proofs.JoinSteps.{LooksOn}
 use Rattle.bolt_recover.proofs.recovery.Recovery.finish.Given as goal
 
--- the same file under the same meta
-abbrev pub invariant-loop : goal.invariant-loop
-invariant-loop l = record {
+-- the same file under the same meta, and what isn't left was looked at
+abbrev pub invariant-loop-self : goal.invariant-loop-self
+invariant-loop-self l = record {
   file : recovery_file l.self ≡ recovery_file l.fn.self;
   meta : recovery_meta l.self ≡ recovery_meta l.fn.self;
+  looked : ForRecovered (recovery_file l.fn.self) (recovery_meta l.fn.self) (λ listing. LooksOn listing (recovery_left l.self listing) l.has_bucket_key);
+  inside : ForRecovered (recovery_file l.fn.self) (recovery_meta l.fn.self) (λ listing. (m : Member) → Contains (recovery_left l.self listing) m → Contains listing m);
 }
 
-abbrev pub decreases-loop : goal.decreases-loop
-decreases-loop l = recovery_work l.self
+abbrev pub decreases-loop-self : goal.decreases-loop-self
+decreases-loop-self l = recovery_work l.self

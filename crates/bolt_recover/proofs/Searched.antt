@@ -1,0 +1,69 @@
+-- What is known of a file that was searched.
+use Rattle.std.proofs.Common.{◌≡◌, ◌≢◌, ◌∙◌, ◌<◌, ◌*◌, ◌^◌, true, false, List, [], ap, length, subst, sym}
+use Rattle.std.proofs.Math.Logic.{∥∥₁_elim, ∥∥₁_map}
+use Rattle.std.proofs.Props.{props}
+use Rattle.std.specs.List.{Contains}
+use Rattle.bolt_check.specs.CheckedFiles.{bytes_of, meta_of}
+use Rattle.bolt_check.specs.declared.checked_file.Checked.{Checked}
+use Rattle.bolt_check.specs.declared.finding.Finding.{Finding}
+use Rattle.bolt_tree.specs.Listing.{Member}
+use Rattle.bolt_tree.proofs.Lists.{contains_none}
+use Rattle.bolt_recover.specs.Joined.{HasBucketKey, LacksBucketKey}
+use Rattle.bolt_recover.specs.Losses.{LossView, everything, parts}
+use Rattle.bolt_recover.specs.Lost.{IsAllLost}
+use Rattle.bolt_recover.specs.LostAndFound.{all_lost}
+use Rattle.bolt_recover.specs.Private.Joining.{AreJoinable, TellsBucketKey}
+use Rattle.bolt_recover.specs.Private.TreesLeft.{AreTreesOf, IsSearched, lost_of}
+use Rattle.bolt_recover.specs.Recovered.{ForRecovered}
+use Rattle.bolt_recover.specs.Refusals.{LosesRoot}
+use Rattle.bolt_recover.specs.declared.found.Found.{Found}
+use Rattle.bolt_recover.specs.declared.lost_and_found.Damage.{Damage}
+use Rattle.bolt_recover.specs.declared.lost_and_found.LostAndFound.{LostAndFound}
+use Rattle.bolt_recover.specs.declared.lost_and_found.Trees.{Trees}
+use Rattle.bolt_recover.specs.declared.lost_and_found.Trees.TheVariants.{Damaged, Rootless, Sound}
+use Rattle.bolt_recover.proofs.FoundAll.{nothing_recovered}
+use Rattle.bolt_recover.proofs.JoinSteps.{bucket_key}
+
+parts_some : (losses : List LossView) (x : Finding) → parts losses ≡ everything x → ⊥
+parts_some losses x is = cc
+
+module _ (both : LostAndFound) where
+  left : (trees : Trees) → both.trees ≡ trees → IsSearched both.file.now both.meta both.trees both.found.items → AreTreesOf both.file.now both.meta both.found.items trees
+  left trees is searched = subst (AreTreesOf both.file.now both.meta both.found.items) is searched.left
+
+  pub of_sound : (checked : Checked) → both.trees ≡ Sound checked → (bytes_of checked ≡ both.file.now) × (meta_of checked ≡ both.meta) × (both.found.items ≡ [])
+  of_sound checked is = ∥∥₁_elim both.searched (hlevel props) (left (Sound checked) is)
+
+  -- trees whose root page is kept
+  pub not_everything : (losses : List LossView) → lost_of both.trees ≡ parts losses → (x : Finding) → all_lost both ≡ everything x → ⊥
+  unfolding all_lost
+  not_everything losses is x all = parts_some losses x (sym is ∙ all)
+
+  -- what is found can be joined, if there are few enough pages and room for the bucket
+  pub joinable : (found : List Found) → found ≡ both.found.items → length both.file.now < 10 ^ 16 * both.meta.page_size → (both.found.items ≢ [] → ForRecovered both.file.now both.meta LacksBucketKey)
+      → ∥ AreJoinable both.file.now both.meta found ∥₁
+  joinable found same few apart = ∥∥₁_map both.searched (λ searched. subst (AreJoinable both.file.now both.meta) (sym same) (record {
+    few = few;
+    are_found = searched.are_found;
+    views = searched.views;
+    apart = apart;
+  }))
+
+  module _ (damage : Damage) (is : both.trees ≡ Damaged damage) where
+    pub has_key : damage.has_bucket_key ≡ true → ForRecovered both.file.now both.meta HasBucketKey
+    has_key same listing recovers =
+        bucket_key listing (∥∥₁_map both.searched (λ searched. subst (TellsBucketKey listing) same (left (Damaged damage) is searched listing recovers)))
+
+    pub lacks_key : damage.has_bucket_key ≡ false → ForRecovered both.file.now both.meta LacksBucketKey
+    lacks_key other listing recovers =
+        ∥∥₁_elim both.searched (hlevel props) (λ searched. subst (TellsBucketKey listing) other (left (Damaged damage) is searched listing recovers))
+
+  module _ (x : Finding) (is : both.trees ≡ Rootless x) where
+    pub root_lost : ∥ LosesRoot both.file.now both.meta x ∥₁
+    root_lost = ∥∥₁_map both.searched (λ searched. subst (IsAllLost both.file.now both.meta) (ap lost_of is) searched.lost)
+
+    pub none_recovered : ForRecovered both.file.now both.meta (λ listing. listing ≡ [])
+    none_recovered listing recovers = ∥∥₁_elim root_lost (hlevel props) (λ lost. nothing_recovered both.file.now both.meta x lost listing recovers)
+
+    pub lacks_all : ForRecovered both.file.now both.meta LacksBucketKey
+    lacks_all listing recovers m has = absurd (contains_none m (subst (λ (ms : List Member). Contains ms m) (none_recovered listing recovers) has))

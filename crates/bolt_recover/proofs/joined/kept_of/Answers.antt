@@ -1,0 +1,66 @@
+-- By what is left of the trees.
+use Rattle.std.proofs.Common.{◌≡◌, ◌∙◌, [], List, arith, ap, length, subst₂, sym, ℕ}
+use Rattle.std.proofs.lemmas.Grind.{common_steps}
+use Rattle.std.proofs.lemmas.List.{length-map}
+use Rattle.std.proofs.Math.Logic.{∥∥₁_map}
+use Rattle.bolt_format.specs.declared.meta.Meta.{Meta}
+use Rattle.bolt_tree.specs.Listing.{Member}
+use Rattle.bolt_tree.specs.Walks.{left_of}
+use Rattle.bolt_recover.specs.Found.{numbers_of}
+use Rattle.bolt_recover.specs.Private.TreesLeft.{lost_of}
+use Rattle.bolt_recover.specs.Recovered.{ForRecovered}
+use Rattle.bolt_recover.specs.declared.found.Found.{Found}
+use Rattle.bolt_recover.proofs.Searched.{has_key, lacks_all, lacks_key, none_recovered, not_everything, of_sound, root_lost}
+use Rattle.bolt_recover.proofs.SoundWalks.{same_left}
+use Rattle.bolt_recover.proofs.joined.kept_of.Goals as goal
+use Rattle.bolt_recover.proofs.joined.kept_of.Goals.{else-some-via-else-some, else-some-via-then-some+else-damage}
+
+pub returns-in-Sound-clause-file : goal.returns-in-Sound-clause-file
+returns-in-Sound-clause-file c = rw c.new.ensures.checked (of_sound c.args.both.now c.in-Sound.checked c.in-Sound.is).0
+
+pub returns-in-Sound-clause-meta : goal.returns-in-Sound-clause-meta
+returns-in-Sound-clause-meta c = rw c.new.ensures.checked (of_sound c.args.both.now c.in-Sound.checked c.in-Sound.is).1
+
+pub returns-in-Sound-clause-all : goal.returns-in-Sound-clause-all
+returns-in-Sound-clause-all c =
+    let (file, meta, none) = of_sound c.args.both.now c.in-Sound.checked c.in-Sound.is in
+    let walk = c.new.result in
+    subst₂ (λ (f : List ℕ) (m : Meta). ForRecovered f m (λ listing. left_of walk listing ≡ listing)) file meta
+    (same_left c.in-Sound.checked (left_of walk) (λ (listing : List Member). listing) c.new.ensures.all)
+
+pub returns-in-Sound-clause-apart : goal.returns-in-Sound-clause-apart
+returns-in-Sound-clause-apart c = λ some. absurd (some (of_sound c.args.both.now c.in-Sound.checked c.in-Sound.is).2)
+
+pub returns-in-Sound-clause-some : goal.returns-in-Sound-clause-some
+returns-in-Sound-clause-some c = λ x all none. not_everything c.args.both.now [] (ap lost_of c.in-Sound.is) x all
+
+pub returns-then-damage-clause-refused : goal.returns-then-damage-clause-refused
+returns-then-damage-clause-refused c = (
+  λ none.
+      let long : length c.args.both.now.found.items ≡ 0 = sym (length-map c.args.both.now.found.items (λ (f : Found). f.number)) ∙ ap (λ (ns : List ℕ). length ns) none in
+      grind (arith, common_steps, long, c.is_empty-some.ensures, c.if-some.true),
+  has_key c.args.both.now c.in-Damaged.damage c.in-Damaged.is c.if-damage.true,
+)
+
+pub returns-in-Ok-clause-apart : goal.returns-in-Ok-clause-apart
+returns-in-Ok-clause-apart c = λ some. elim c.else-some.branch [
+  | else-some-via-then-some+else-damage w ↦ lacks_key c.args.both.now c.in-Damaged.damage c.in-Damaged.is w.if-damage.false
+  | else-some-via-else-some w ↦ absurd (some (grind (arith, common_steps, c.is_empty-some.ensures, w.if-some.false)))
+]
+
+pub returns-in-Ok-clause-some : goal.returns-in-Ok-clause-some
+returns-in-Ok-clause-some c = λ x all none. not_everything c.args.both.now _ (ap lost_of c.in-Damaged.is) x all
+
+pub returns-then-not-some-clause-refused : goal.returns-then-not-some-clause-refused
+returns-then-not-some-clause-refused c =
+    let none : c.args.both.now.found.items ≡ [] = grind (arith, common_steps, c.is_empty-some.ensures, c.if-not-some.true) in
+    (ap numbers_of none, root_lost c.args.both.now c.in-Rootless.finding c.in-Rootless.is)
+
+pub invariant_of-root : goal.invariant_of-root
+invariant_of-root c = record { bytes = c.args.both.now.bytes; lost = ∥∥₁_map (root_lost c.args.both.now c.in-Rootless.finding c.in-Rootless.is) (λ lost. (c.in-Rootless.finding, lost)) }
+
+pub returns-clause-all : goal.returns-clause-all
+returns-clause-all c = λ listing recovers. sym (none_recovered c.args.both.now c.in-Rootless.finding c.in-Rootless.is listing recovers)
+
+pub returns-clause-apart : goal.returns-clause-apart
+returns-clause-apart c = λ some. lacks_all c.args.both.now c.in-Rootless.finding c.in-Rootless.is

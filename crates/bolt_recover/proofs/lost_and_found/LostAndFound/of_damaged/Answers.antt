@@ -1,0 +1,44 @@
+-- A recovery searches the file, or the root page is lost.
+use Rattle.std.proofs.Common.{List, subst₂, ℕ}
+use Rattle.std.proofs.lemmas.Grind.{merely}
+use Rattle.bolt_format.specs.declared.meta.Meta.{Meta}
+use Rattle.bolt_recover.specs.Private.TreesLeft.{IsSearched}
+use Rattle.bolt_recover.specs.declared.lost_and_found.Trees.TheVariants.{Damaged}
+use Rattle.bolt_recover.proofs.lost_and_found.LostAndFound.of_damaged.Goals as goal
+
+pub invariant_of-result-clause-bytes : goal.invariant_of-result-clause-bytes
+invariant_of-result-clause-bytes c = λ i. (c.type_inv.file i).fits
+
+pub invariant_of-result-clause-searched : goal.invariant_of-result-clause-searched
+invariant_of-result-clause-searched c =
+    let part = c.in_ok-damage-in-Ok in
+    merely (subst₂ (λ (f : List ℕ) (m : Meta). IsSearched f m (Damaged part.damage) part.found.items) c.in-Ok.ensures.file c.in-Ok.ensures.meta part.ensures)
+
+pub returns-in-Ok-clause-searched : goal.returns-in-Ok-clause-searched
+returns-in-Ok-clause-searched c =
+    let part = c.in_ok-damage-in-Ok in
+    subst₂ (λ (f : List ℕ) (m : Meta). IsSearched f m (Damaged part.damage) part.found.items) c.in-Ok.ensures.file c.in-Ok.ensures.meta part.ensures
+
+pub found-requires-clause-fresh : goal.found-requires-clause-fresh
+found-requires-clause-fresh c = rw (c.in-Ok.ensures.file, c.in-Ok.ensures.meta) c.in-Ok.ensures.all
+
+pub found-requires-clause-root : goal.found-requires-clause-root
+found-requires-clause-root c = rw (c.in-Ok.ensures.file, c.in-Ok.ensures.meta) c.in-Ok.ensures.root
+
+pub found_without_root-requires-clause-lost : goal.found_without_root-requires-clause-lost
+found_without_root-requires-clause-lost c = (c.in-Err-Structure.finding, rw c.in-Err-Structure.field-0-is at c.in-Err-Structure.ensures.refused)
+
+pub invariant_of-result-in-Err-Structure-clause-bytes : goal.invariant_of-result-in-Err-Structure-clause-bytes
+invariant_of-result-in-Err-Structure-clause-bytes c = λ i. (c.type_inv.file i).fits
+
+pub invariant_of-result-in-Err-Structure-clause-searched : goal.invariant_of-result-in-Err-Structure-clause-searched
+invariant_of-result-in-Err-Structure-clause-searched c =
+    let loses = rw c.in-Err-Structure.field-0-is at c.in-Err-Structure.ensures.refused in
+    let part = c.in_ok-found-in-Err-Structure.ensures in
+    merely (record { left = tt; lost = loses; are_found = part.found; views = part.views })
+
+pub returns-in-Err-Structure-clause-searched : goal.returns-in-Err-Structure-clause-searched
+returns-in-Err-Structure-clause-searched c =
+    let loses = rw c.in-Err-Structure.field-0-is at c.in-Err-Structure.ensures.refused in
+    let part = c.in_ok-found-in-Err-Structure.ensures in
+    record { left = tt; lost = loses; are_found = part.found; views = part.views }

@@ -1,0 +1,41 @@
+-- Sound trees lose nothing. The others are searched.
+use Rattle.std.proofs.lemmas.Grind.{merely}
+use Rattle.bolt_check.specs.Nodes.{node_at}
+use Rattle.bolt_check.proofs.Lawful.{sound_reports_nothing}
+use Rattle.bolt_recover.specs.LostAndFound.{all_lost}
+use Rattle.bolt_recover.proofs.FoundAll.{if_ok}
+use Rattle.bolt_recover.proofs.SoundWalks.{sound_searched}
+use Rattle.bolt_recover.proofs.lost_and_found.LostAndFound.under.Goals as goal
+
+pub invariant_of-result-clause-bytes : goal.invariant_of-result-clause-bytes
+invariant_of-result-clause-bytes c = λ i. (c.type_inv.file i).fits
+
+pub invariant_of-result-clause-searched : goal.invariant_of-result-clause-searched
+invariant_of-result-clause-searched c =
+    let checked = c.in-Ok.ensures in
+    merely (sound_searched c.args.file.now c.args.meta c.in-Ok.checked c.new.result.items checked.bytes checked.meta c.new.ensures.items checked.trees)
+
+pub returns-in-Ok-clause-lost : goal.returns-in-Ok-clause-lost
+unfolding all_lost
+returns-in-Ok-clause-lost c =
+    let checked = c.in-Ok.ensures in
+    (sound_searched c.args.file.now c.args.meta c.in-Ok.checked c.new.result.items checked.bytes checked.meta c.new.ensures.items checked.trees).lost
+
+pub returns-in-Ok-clause-found : goal.returns-in-Ok-clause-found
+returns-in-Ok-clause-found c =
+    let checked = c.in-Ok.ensures in
+    (sound_searched c.args.file.now c.args.meta c.in-Ok.checked c.new.result.items checked.bytes checked.meta c.new.ensures.items checked.trees).are_found
+
+pub of_damaged-requires-clause-damaged : goal.of_damaged-requires-clause-damaged
+of_damaged-requires-clause-damaged c = λ trees.
+    sound_reports_nothing (node_at c.args.file.now c.args.meta) c.args.meta.root c.in-Err-Structure.field-0-0 trees (rw c.in-Err-Structure.field-0-is at c.in-Err-Structure.ensures.refused)
+
+pub returns-in-Err-Structure-clause-lost : goal.returns-in-Err-Structure-clause-lost
+unfolding all_lost
+returns-in-Err-Structure-clause-lost c = if_ok c.of_damaged.result (λ both searched. searched.lost) c.of_damaged.ensures.searched
+
+pub returns-in-Err-Structure-clause-found : goal.returns-in-Err-Structure-clause-found
+returns-in-Err-Structure-clause-found c = if_ok c.of_damaged.result (λ both searched. searched.are_found) c.of_damaged.ensures.searched
+
+pub returns-in-Err-Structure-clause-views : goal.returns-in-Err-Structure-clause-views
+returns-in-Err-Structure-clause-views c = if_ok c.of_damaged.result (λ both searched. searched.views) c.of_damaged.ensures.searched

@@ -1,0 +1,33 @@
+-- What is left of the trees of a file.
+use Rattle.std.specs.Prelude.{◌≡◌, ℕ, List, [], map}
+use Rattle.std.specs.List.{All}
+use Rattle.bolt_format.specs.declared.meta.Meta.{Meta}
+use Rattle.bolt_check.specs.CheckedFiles.{bytes_of, meta_of}
+use Rattle.bolt_recover.specs.Found.{AreFound, numbers_of}
+use Rattle.bolt_recover.specs.Losses.{LostView, everything, parts}
+use Rattle.bolt_recover.specs.Lost.{IsAllLost}
+use Rattle.bolt_recover.specs.Private.Joining.{TellsBucketKey}
+use Rattle.bolt_recover.specs.Recovered.{ForRecovered}
+use Rattle.bolt_recover.specs.ShownFound.{IsFoundView}
+use Rattle.bolt_recover.specs.ShownLosses.{loss_view}
+use Rattle.bolt_recover.specs.declared.found.Found.{Found}
+use Rattle.bolt_recover.specs.declared.lost_and_found.Trees.{Trees}
+use Rattle.bolt_recover.specs.declared.lost_and_found.Trees.TheVariants.{Damaged, Rootless, Sound}
+
+abbrev pub lost_of : Trees → LostView
+lost_of (Sound checked) = parts []
+lost_of (Damaged damage) = parts (map loss_view damage.losses.items)
+lost_of (Rootless x) = everything x
+
+-- what is known of them beside what is lost; if they are sound, nothing is found
+abbrev pub AreTreesOf : List ℕ → Meta → List Found → Trees → Type 0
+AreTreesOf file meta found (Sound checked) = (bytes_of checked ≡ file) × (meta_of checked ≡ meta) × (found ≡ [])
+AreTreesOf file meta found (Damaged damage) = ForRecovered file meta (λ listing. TellsBucketKey listing damage.has_bucket_key)
+AreTreesOf file meta found (Rootless x) = Unit {0}
+
+-- A search of the file under this meta leads to these trees and found pages.
+pub record IsSearched (file : List ℕ) (meta : Meta) (trees : Trees) (found : List Found) : Type 0 where
+  pub left : AreTreesOf file meta found trees
+  pub lost : IsAllLost file meta (lost_of trees)
+  pub are_found : AreFound file meta (numbers_of found)
+  pub views : All (IsFoundView file meta) found

@@ -1,0 +1,130 @@
+//! What is lost of a file, and what is found of it though nothing leads to it.
+ghost use Rattle.std.specs.List.{All};
+ghost use Rattle.std.specs.Prelude.{◌≡◌, ◌<◌, IfOk};
+ghost use Rattle.bolt_check.specs.Sound.{HasSoundTrees};
+ghost use Rattle.bolt_format.specs.Bytes.{IsBytes};
+ghost use Rattle.bolt_recover.specs.Found.{AreFound, numbers_of};
+ghost use Rattle.bolt_recover.specs.Lost.{IsAllLost};
+ghost use Rattle.bolt_recover.specs.Private.TreesLeft.{IsSearched};
+ghost use Rattle.bolt_recover.specs.ShownFound.{IsFoundView};
+ghost use Rattle.bolt_recover.specs.ShownLosses.{lost_view};
+
+use crate::found::Found;
+use crate::leaves::found_without_root;
+use crate::loss::Loss;
+use crate::lost::Lost;
+use crate::recovery::Recovery;
+use bolt_check::{CheckFault, Checked, Finding, NoMemory, check_under};
+use bolt_format::Meta;
+use std::alloc::Global;
+
+/// What is left of the trees of a file.
+#[derive(Drop)]
+pub(crate) enum Trees<'a> {
+    /// All of them: they are sound.
+    Sound(Checked<'a>),
+    /// Not all of them.
+    Damaged(Damage<'a>),
+    /// Nothing: the root page is lost, with this finding.
+    Rootless(Finding),
+}
+
+/// What is known of damaged trees whose root page is kept.
+#[derive(Drop)]
+pub(crate) struct Damage<'a> {
+    pub losses: Vec<Loss<'a>>,
+    /// Whether the recovered root bucket has an entry with the key of the bucket of what is found.
+    pub has_bucket_key: bool,
+}
+
+/// What is lost of a file under a meta, and the intact leaves that are found of it though nothing
+/// leads to them (docs/RECOVERY.md, "Found pages").
+#[derive(Drop)]
+pub struct LostAndFound<'a> {
+    /// The file.
+    pub file: &'a [u8],
+    /// The meta that it is read under.
+    pub meta: Meta,
+    /// The found pages, by rising number. If nothing is lost, there are none.
+    pub found: Vec<Found<'a>>,
+    pub(crate) trees: Trees<'a>,
+    ghost sized: { 0 < meta.page_size },
+    ghost bytes: { IsBytes file.now },
+    ghost searched: { ∥ IsSearched file.now meta trees found.items ∥₁ },
+}
+
+#[tactic(auto, unfolding(crate::specs::LostAndFound::all_lost))]
+impl<'a> LostAndFound<'a> {
+    ghost use Rattle.bolt_recover.specs.LostAndFound.{all_lost};
+
+    /// Searches a file under a meta. What is found is known only when every way was visited, so the
+    /// trees are tested first, and if they aren't sound, a recovery runs to its end. It needs what
+    /// these need, and room for what is lost and found.
+    ///
+    /// # Errors
+    ///
+    /// `NoMemory` if memory runs out.
+    pub fn under(alloc: Global, file: &'a [u8], meta: Meta) -> Result<LostAndFound<'a>, NoMemory>
+        requires { 0 < meta.page_size }
+        ensures file { IfOk result (λ both. both.file.now ≡ file.now) }
+        ensures meta { IfOk result (λ both. both.meta ≡ meta) }
+        ensures lost { IfOk result (λ both. IsAllLost file.now meta (all_lost both)) }
+        ensures found { IfOk result (λ both. AreFound file.now meta (numbers_of both.found.items)) }
+        ensures views { IfOk result (λ both. All (IsFoundView file.now meta) both.found.items) }
+    {
+        match check_under(alloc, file, meta) {
+            Ok(checked) => {
+                Ok(LostAndFound {
+                    file,
+                    meta,
+                    found: Vec::new(alloc),
+                    trees: Trees::Sound(checked),
+                })
+            }
+            Err(CheckFault::Structure(_)) => LostAndFound::of_damaged(alloc, file, meta),
+            Err(_) => Err(NoMemory),
+        }
+    }
+
+    /// Searches a file whose trees aren't sound.
+    fn of_damaged(alloc: Global, file: &'a [u8], meta: Meta) -> Result<LostAndFound<'a>, NoMemory>
+        requires size { 0 < meta.page_size }
+        requires damaged { HasSoundTrees file.now meta → ⊥ }
+        ensures file { IfOk result (λ both. both.file.now ≡ file.now) }
+        ensures meta { IfOk result (λ both. both.meta ≡ meta) }
+        ensures searched { IfOk result (λ both. IsSearched file.now meta both.trees both.found.items) }
+    {
+        match Recovery::under(alloc, file, meta) {
+            Ok(recovery) => {
+                let (damage, found) = recovery.found()?;
+                Ok(LostAndFound {
+                    file,
+                    meta,
+                    found,
+                    trees: Trees::Damaged(damage),
+                })
+            }
+            Err(CheckFault::Structure(finding)) => {
+                let found = found_without_root(alloc, file, meta)?;
+                Ok(LostAndFound {
+                    file,
+                    meta,
+                    found,
+                    trees: Trees::Rootless(finding),
+                })
+            }
+            Err(_) => Err(NoMemory),
+        }
+    }
+
+    /// All that is lost.
+    pub fn lost(&self) -> Lost<'_>
+        ensures { lost_view result ≡ all_lost self.now }
+    {
+        match &self.trees {
+            Trees::Sound(_) => Lost::Parts(&[]),
+            Trees::Damaged(damage) => Lost::Parts(damage.losses.as_slice()),
+            Trees::Rootless(finding) => Lost::Everything(*finding),
+        }
+    }
+}
