@@ -74,10 +74,11 @@ impl<'a> LostAndFound<'a> {
     {
         match check_under(alloc, file, meta) {
             Ok(checked) => {
+                let found = Vec::new(alloc);
                 Ok(LostAndFound {
                     file,
                     meta,
-                    found: Vec::new(alloc),
+                    found,
                     trees: Trees::Sound(checked),
                 })
             }

@@ -13,18 +13,18 @@ invariant_of-result-clause-bytes c = λ i. (c.type_inv.file i).fits
 pub invariant_of-result-clause-searched : goal.invariant_of-result-clause-searched
 invariant_of-result-clause-searched c =
     let checked = c.in-Ok.ensures in
-    merely (sound_searched c.args.file.now c.args.meta c.in-Ok.checked c.new.result.items checked.bytes checked.meta c.new.ensures.items checked.trees)
+    merely (sound_searched c.args.file.now c.args.meta c.in-Ok.checked c.new-found.result.items checked.bytes checked.meta c.new-found.ensures.items checked.trees)
 
 pub returns-in-Ok-clause-lost : goal.returns-in-Ok-clause-lost
 unfolding all_lost
 returns-in-Ok-clause-lost c =
     let checked = c.in-Ok.ensures in
-    (sound_searched c.args.file.now c.args.meta c.in-Ok.checked c.new.result.items checked.bytes checked.meta c.new.ensures.items checked.trees).lost
+    (sound_searched c.args.file.now c.args.meta c.in-Ok.checked c.new-found.result.items checked.bytes checked.meta c.new-found.ensures.items checked.trees).lost
 
 pub returns-in-Ok-clause-found : goal.returns-in-Ok-clause-found
 returns-in-Ok-clause-found c =
     let checked = c.in-Ok.ensures in
-    (sound_searched c.args.file.now c.args.meta c.in-Ok.checked c.new.result.items checked.bytes checked.meta c.new.ensures.items checked.trees).are_found
+    (sound_searched c.args.file.now c.args.meta c.in-Ok.checked c.new-found.result.items checked.bytes checked.meta c.new-found.ensures.items checked.trees).are_found
 
 pub of_damaged-requires-clause-damaged : goal.of_damaged-requires-clause-damaged
 of_damaged-requires-clause-damaged c = λ trees.
