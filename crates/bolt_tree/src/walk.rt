@@ -26,6 +26,7 @@ impl<'a> Walk<'a> {
     ghost use Rattle.bolt_tree.specs.Walks.{GivesNext, left_of, walk_checked, walk_path};
 
     /// A walk that has the whole listing ahead of it. Needs no memory.
+    #[tactic(auto, unfolding(crate::specs::Walks::left_of, crate::specs::Walks::walk_checked, crate::specs::Walks::walk_path), using(crate::proofs::Walking::begins))]
     pub fn new(alloc: Global, checked: Checked<'a>) -> Walk<'a>
         ensures checked { walk_checked result ≡ checked.entry }
         ensures all { ForListing checked.entry (λ listing. left_of result listing ≡ listing) }
@@ -61,9 +62,11 @@ impl<'a> Walk<'a> {
     /// `NoMemory` if memory runs out for one more open bucket. The walk then has the same ahead of
     /// it and returns the same path, and `next` may be called again.
     #[inline(always)]
+    #[tactic(auto, unfolding(crate::specs::Walks::left_of, crate::specs::Walks::walk_checked, crate::specs::Walks::walk_path), using(crate::proofs::Climbing::none_beyond))]
     pub fn next(&mut self) -> Result<Option<Item<'a>>, NoMemory>
         ensures checked { walk_checked self.new ≡ walk_checked self.old }
-        ensures given { IfOk result (λ given. ForListing (walk_checked self.old) (λ listing. GivesNext (left_of self.old listing) (left_of self.new listing) (walk_path self.new) (option_map item_view given))) }
+        ensures given { IfOk result (λ given. ForListing (walk_checked self.old)
+            (λ listing. GivesNext (left_of self.old listing) (left_of self.new listing) (walk_path self.new) (option_map item_view given))) }
         ensures same { OnErr result (ForListing (walk_checked self.old) (λ listing. left_of self.new listing ≡ left_of self.old listing)) }
         ensures same_path { OnErr result (walk_path self.new ≡ walk_path self.old) }
     {
