@@ -66,5 +66,4 @@ kept p (x ∷ xs) y h e = elim (contains_cases x y xs h) [
     later x ys y false h = h
 
 pub filter_less : {A : Type 0} (p : A → Bool) (xs : List A) (y : A) → Contains xs y → p y ≡ false → length (filter p xs) < length xs
-filter_less p xs y h out =
-    omega (arith, length-filter_both p (λ x. not (p x)) (λ x. refl) xs, (kept (λ x. not (p x)) xs y h (ap not out)).1)
+filter_less p xs y h out = omega (arith, length-filter_both p (λ x. not (p x)) (λ x. refl) xs, (kept (λ x. not (p x)) xs y h (ap not out)).1)

@@ -27,8 +27,7 @@ module _ (b : BucketView) (s : IsSoundBucket b) (entries : List LeafElement) (so
   grows_to i None p m n g h up1 up2 l = let past = none_past entries i (sym g) in absurd (omega (arith, l, past))
   grows_to i (Some x) None m n g h up1 up2 l =
       let at = at_place i x g in
-      let one = upto_is b s at.cut x m at.has up1 in
-      omega (arith, one, exact_is (all_exact b s) up2, cut_size at.cut)
+      omega (arith, upto_is b s at.cut x m at.has up1, exact_is (all_exact b s) up2, cut_size at.cut)
   grows_to i (Some x) (Some y) m n g h up1 up2 l =
       let at = at_place i x g in
       let next = at_place (suc i) y h in

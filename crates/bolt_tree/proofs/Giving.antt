@@ -88,10 +88,7 @@ module _ (Entry : Start → LeafElement → Type 0) (from : Start) (all : HasEnt
       let on : Path = path ++ e.key ∷ [] in
       let less : key_cmp e.key g.key ≡ Less = next_less entries i e g are.rises at next in
       give (is_beyond on) g ((are.exact g).0 (contains_at entries (suc i) g next)) (λ q t h k. beyond_up on q t h k) (beyond_here path e.key g.key [] [] less)
-      (λ q h. elim (beyond_push path e.key q h) [
-        | inl far ↦ inl far
-        | inr (z, r, longer, behind_e) ↦ inr (z, r, longer)
-      ])
+      (λ q h. elim (beyond_push path e.key q h) [ inl far ↦ inl far | inr (z, r, longer, behind_e) ↦ inr (z, r, longer) ])
       (λ z r f h is key. elim (beyond_push path e.key (path ++ z ∷ r) h) [
         | inl far ↦ absurd (never_beyond path (z ∷ r) far)
         | inr (y, t, longer, behind_e) ↦ let same : z ≡ y = first_part path z y r t longer in

@@ -105,8 +105,7 @@ least_is key [] [] f b = refl
 least_is key [] (y ∷ back) f b = let t : key_lt y.key key ≡ false = b 0 y refl in rw t refl
 least_is key (x ∷ front) back f b =
     let t : key_lt x.key key ≡ true = f 0 x refl in
-    let r = least_is key front back (λ k e g. f (suc k) e g) b in
-    rw (t, r) (omega arith)
+    rw (t, least_is key front back (λ k e g. f (suc k) e g) b) (omega arith)
 
 -- what a key stands between in the nearest leaf
 leaf_key_at : (es : List LeafElement) (k : ℕ) (e : LeafElement) → slice_get es k ≡ Some e → slice_get (content_keys (Of_leaf es)) k ≡ Some e.key

@@ -74,9 +74,8 @@ module _ (bucket : BucketView) where
       let all = the_entries bucket entries is are in
       let a = ahead_number (elements_in bucket) (contents_in bucket) f below (split bucket f below stack rest) in
       let here = all_upto up.0 (suc (index_of (contents_in bucket) (f ∷ below))) is (omega (arith, a, ap length h.0)) (rw (← all) at up.2) in
-      let before = stack_upto f below up.1 stack rest (rw (← all) at up.3) in
       let g = up.4 in
-      opened ∙ ap (counted old) (omega (arith, here, before, g))
+      opened ∙ ap (counted old) (omega (arith, here, stack_upto f below up.1 stack rest (rw (← all) at up.3), g))
   next_opens (Some leaf) (f ∷ below) [] old new is stack rest some stack2 h opened = absurd h.1
   next_opens (Some leaf) (f ∷ below) (k ∷ under) old new is stack rest some stack2 h opened = λ entries gap are up.
       let all = the_entries bucket entries is are in

@@ -122,8 +122,7 @@ module _ (below : Path) where
 
   -- the members of the part stand together
   pub part_together : (listing : List Member) → Rises member_cmp listing → part_below below listing ≡ take_while (λ (x : Member). begins_with below x.0) (rest_from below listing)
-  part_together listing rises =
-      sym (whole_part below listing (λ path h. h)) ∙ rest_of_part below listing ∙ part_from below listing rises (λ path h. h)
+  part_together listing rises = sym (whole_part below listing (λ path h. h)) ∙ rest_of_part below listing ∙ part_from below listing rises (λ path h. h)
 
   -- what doesn't come before a path doesn't come before one that isn't later
   up_less : (from path : Path) → path_cmp from below ≡ Less → is_lt (path_cmp path below) ≡ false → is_lt (path_cmp path from) ≡ false
@@ -149,8 +148,7 @@ module _ (below : Path) where
 
   pub later_from : (from : Path) (listing : List Member) → Rises member_cmp listing → is_lt (path_cmp from below) ≡ false
       → rest_from from (part_below below listing) ≡ take_while (λ (x : Member). begins_with below x.0) (rest_from from listing)
-  later_from from listing rises out =
-      rest_of_part from listing ∙ part_from from listing rises (λ path h. up_other from path (path_cmp from below) refl out h)
+  later_from from listing rises out = rest_of_part from listing ∙ part_from from listing rises (λ path h. up_other from path (path_cmp from below) refl out h)
 
 -- all of a listing begins with the empty path
 pub part_of_root : (listing : List Member) → part_below [] listing ≡ listing

@@ -36,10 +36,7 @@ module _ (Entry : Start → LeafElement → Type 0) where
       → ((e : LeafElement) × Entry bucket e × (e.key ≡ key)) ⊎ ((e : LeafElement) → Entry bucket e → e.key ≡ key → ⊥)
   entry_or_none bucket all key =
       let (entries, are) = all [] bucket refl in
-      elim (key_or_none entries key) [
-        | inl (e, h, is) ↦ inl (e, (are.exact e).0 h, is)
-        | inr none ↦ inr (λ e h is. none e ((are.exact e).1 h) is)
-      ]
+      elim (key_or_none entries key) [ inl (e, h, is) ↦ inl (e, (are.exact e).0 h, is) | inr none ↦ inr (λ e h is. none e ((are.exact e).1 h) is) ]
 
   same_entry : (bucket : Start) → HasEntries Entry bucket → (a b : LeafElement) (key : Key) → Entry bucket a → Entry bucket b → a.key ≡ key → b.key ≡ key → a ≡ b
   same_entry bucket all a b key h g is same = let (entries, are) = all [] bucket refl in entry_once Entry bucket entries are a b h g (is ∙ sym same)

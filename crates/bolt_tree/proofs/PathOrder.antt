@@ -63,10 +63,7 @@ by_parts : (x y : Key) (p q : Path) (o : Ordering) → key_cmp x y ≡ o → ord
 by_parts x y p q Less e h more = inl refl
 by_parts x y p q Equal e h more =
     let same = key_exact x y e in
-    elim (more h) [
-      | inl beyond ↦ inl beyond
-      | inr (k, r, longer) ↦ inr (k, r, let both : y ∷ q ≡ x ∷ (p ++ k ∷ r) = cc in both)
-    ]
+    elim (more h) [ inl beyond ↦ inl beyond | inr (k, r, longer) ↦ inr (k, r, let both : y ∷ q ≡ x ∷ (p ++ k ∷ r) = cc in both) ]
 by_parts x y p q Greater e h more = absurd (let f : Greater ≡ Less = h in cc)
 
 pub beyond_or_longer : (p q : Path) → path_cmp p q ≡ Less → (is_beyond p q ≡ true) ⊎ ((k : Key) × (r : Path) × (q ≡ p ++ k ∷ r))
@@ -93,10 +90,7 @@ by_last : (x y : Key) (p q : Path) (k : Key) (o : Ordering) → key_cmp x y ≡ 
 by_last x y p q k Less e h more = inl refl
 by_last x y p q k Equal e h more =
     let same = key_exact x y e in
-    elim (more h) [
-      | inl beyond ↦ inl beyond
-      | inr (z, r, longer, less) ↦ inr (z, r, (let both : y ∷ q ≡ x ∷ (p ++ z ∷ r) = cc in both), less)
-    ]
+    elim (more h) [ inl beyond ↦ inl beyond | inr (z, r, longer, less) ↦ inr (z, r, (let both : y ∷ q ≡ x ∷ (p ++ z ∷ r) = cc in both), less) ]
 by_last x y p q k Greater e h more = absurd (let f : false ≡ true = h in cc)
 
 only_less : (k y : Key) (o : Ordering) → key_cmp k y ≡ o → by_first o false ≡ true → key_cmp k y ≡ Less

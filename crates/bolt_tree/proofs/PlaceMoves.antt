@@ -109,21 +109,14 @@ next_onto : (entries : List LeafElement) (i k : ℕ) (answer : Option LeafElemen
 next_onto entries i k answer e g h =
     let there = place_there entries (On i) (omega (arith, h)) in
     let there2 = place_there entries (On k) (omega (arith, h)) in
-    let b = lt-ltb (suc i) (length entries) h in
-    rw (there, there2, e, b, g) (refl, refl)
+    rw (there, there2, e, lt-ltb (suc i) (length entries) h, g) (refl, refl)
 
 next_stays : (entries : List LeafElement) (i : ℕ) → 0 < length entries → length entries ≤ suc i → Comes entries (next_move entries (place_in entries (On i))) (On i) None
-next_stays entries i some h =
-    let there = place_there entries (On i) some in
-    let b = le-ltb (suc i) (length entries) h in
-    rw (there, b) (refl, refl)
+next_stays entries i some h = rw (place_there entries (On i) some, le-ltb (suc i) (length entries) h) (refl, refl)
 
 prev_onto : (entries : List LeafElement) (i k : ℕ) (answer : Option LeafElement) → i ≡ suc k → slice_get entries k ≡ answer → 0 < length entries
     → Comes entries (prev_move entries (place_in entries (On i))) (On k) answer
-prev_onto entries i k answer e g some =
-    let there = place_there entries (On i) some in
-    let there2 = place_there entries (On k) some in
-    rw (there, there2, e, g) (refl, refl)
+prev_onto entries i k answer e g some = rw (place_there entries (On i) some, place_there entries (On k) some, e, g) (refl, refl)
 
 prev_stays : (entries : List LeafElement) (i : ℕ) → i ≡ 0 → 0 < length entries → Comes entries (prev_move entries (place_in entries (On i))) (On i) None
 prev_stays entries i e some = let there = place_there entries (On i) some in rw (there, e) (refl, refl)

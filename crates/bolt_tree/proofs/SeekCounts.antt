@@ -78,9 +78,7 @@ module _ (b : BucketView) (s : IsSoundBucket b) (key : Key) where
 
       -- the further pages end before, or with, the page that the seek comes to
       further_within : (o : Option LeafElement) (m up : ℕ) (i : ℕ) → slice_get entries i ≡ o → HasCount (IsSeekPage b.file b.meta b.start c.page.address o) m → IsPagesUpTo b.file b.meta b.start o up → m ≤ up - suc (length c.left)
-      further_within None m up i g count upto =
-          let one = exact_is (after_exact b s c) count in
-          omega (arith, one, exact_is (all_exact b s) upto, cut_size c)
+      further_within None m up i g count upto = omega (arith, exact_is (after_exact b s c) count, exact_is (all_exact b s) upto, cut_size c)
       further_within (Some e) m up i g count upto =
           let at = at_place b s entries sorted i e g in
           omega (arith, exact_is (seek_exact b s c e at) count, upto_is b s at.cut e up at.has upto, sym (cut_size c) ∙ cut_size at.cut)

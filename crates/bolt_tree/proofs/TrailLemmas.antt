@@ -107,10 +107,9 @@ entered_none bucket (Of_branch elements) i below new h stack =
 pub exhausted : (bucket : BucketView) (f : Frame) (below : List Frame) → HasStack bucket (f ∷ below) → content_length f.content ≤ f.taken
     → (ahead_of (contents_in bucket) below ≡ ahead_of (contents_in bucket) (f ∷ below)) × (right_of (contents_in bucket) below ≡ right_of (contents_in bucket) (f ∷ below))
 exhausted bucket f below stack h =
-    let here = nothing_here f.content f.taken h in
     let under = nothing_under (contents_in bucket) (length below) (address_on below) f.content f.taken h in
     let top : here_of below ≡ [] = ∥∥₁_elim stack (Prim.hlevel props) (λ s. branch_here below s.1.0.branch) in
-    (rw (here, under, top) refl, rw under refl)
+    (rw (nothing_here f.content f.taken h, under, top) refl, rw under refl)
 
 -- one step of a move forward
 pub step_some : (old now : BucketView) (whole below new : List Frame) (f : Frame) (e : LeafElement) → now ≡ old → whole ≡ f ∷ below → IsEntered (contents_in old) false f.content f.taken below new (Some e)

@@ -50,8 +50,7 @@ module _ (Entry : Start → LeafElement → Type 0) where
     later : HoldsBy entries path item → Way x entries path item
 
   way_own : (x e : LeafElement) (entries : List LeafElement) (key : Key) (item : Item) → (x ≡ e) ⊎ Contains entries e → e.key ≡ key → item_of e ≡ item → Way x entries (key ∷ []) item
-  way_own x e entries key item (inl s) same of =
-      own (ap (λ (k : Key). k ∷ []) (sym (ap (λ (y : LeafElement). y.key) s ∙ same))) (ap item_of s ∙ of)
+  way_own x e entries key item (inl s) same of = own (ap (λ (k : Key). k ∷ []) (sym (ap (λ (y : LeafElement). y.key) s ∙ same))) (ap item_of s ∙ of)
   way_own x e entries key item (inr h) same of = later (e, h, same, of)
 
   way_inner : (x e : LeafElement) (entries : List LeafElement) (key next : Key) (path : Path) (item : Item) → (x ≡ e) ⊎ Contains entries e → e.key ≡ key → IsTrue e.is_bucket

@@ -32,14 +32,13 @@ pub struct Cursor<'a> {
     ghost held: { ∥ IsHeld trail is_past ∥₁ },
 }
 
-#[tactic(auto, unfolding(crate::specs::Cursors::cursor_checked, crate::specs::Cursors::cursor_compared, crate::specs::Cursors::cursor_opened, crate::specs::Cursors::cursor_place, crate::specs::Cursors::cursor_start), using(crate::proofs::HeldLemmas::held_bucket, crate::proofs::HeldLemmas::held_rest, crate::proofs::HeldLemmas::held_stack))]
+#[tactic(auto, unfolding(crate::specs::Cursors::cursor_checked, crate::specs::Cursors::cursor_compared, crate::specs::Cursors::cursor_opened, crate::specs::Cursors::cursor_place, crate::specs::Cursors::cursor_start), using(crate::proofs::HeldLemmas::fresh_held, crate::proofs::HeldLemmas::held_bucket, crate::proofs::HeldLemmas::held_rest, crate::proofs::HeldLemmas::held_stack, crate::proofs::KeptLemmas::kept_short, crate::proofs::StackLemmas::sound_bucket))]
 impl<'a> Cursor<'a> {
     ghost use Rattle.bolt_tree.specs.Cursors.{cursor_bucket, cursor_checked, cursor_compared, cursor_opened, cursor_place, cursor_start};
     ghost use Rattle.bolt_tree.specs.Private.CursorViews.{cursor_view};
 
     /// A cursor before the first call, over a bucket of the pager's file. Only its pager opens
     /// pages by their numbers.
-    #[tactic(auto, unfolding(crate::specs::Cursors::cursor_checked, crate::specs::Cursors::cursor_compared, crate::specs::Cursors::cursor_opened, crate::specs::Cursors::cursor_place, crate::specs::Cursors::cursor_start), using(crate::proofs::HeldLemmas::fresh_held, crate::proofs::StackLemmas::sound_bucket))]
     pub fn new(pager: Pager<'a>, at: At<'a>) -> Cursor<'a>
         requires { HasStart (pager_checked pager) (start_at at) }
         ensures checked { cursor_checked result ≡ pager_checked pager.entry }
@@ -62,7 +61,6 @@ impl<'a> Cursor<'a> {
     }
 
     /// Starts again in a bucket of the same file, before the first call.
-    #[tactic(auto, unfolding(crate::specs::Cursors::cursor_checked, crate::specs::Cursors::cursor_compared, crate::specs::Cursors::cursor_opened, crate::specs::Cursors::cursor_place, crate::specs::Cursors::cursor_start), using(crate::proofs::HeldLemmas::fresh_held, crate::proofs::StackLemmas::sound_bucket))]
     pub(crate) fn begin(&mut self, at: At<'a>)
         requires { HasStart (cursor_checked self.old) (start_at at) }
         ensures checked { cursor_checked self.new ≡ cursor_checked self.old }
@@ -75,7 +73,6 @@ impl<'a> Cursor<'a> {
     }
 
     /// Takes the place of a cursor of the same file that had these positions.
-    #[tactic(auto, unfolding(crate::specs::Cursors::cursor_checked, crate::specs::Cursors::cursor_compared, crate::specs::Cursors::cursor_opened, crate::specs::Cursors::cursor_place, crate::specs::Cursors::cursor_start), using(crate::proofs::KeptLemmas::kept_short))]
     pub(crate) fn resume(&mut self, at: At<'a>, is_past: bool, positions: &[Position<'a>])
         requires { ∥ IsKept (cursor_checked self.old) at is_past positions.now ∥₁ }
         ensures { cursor_view self.new ≡ kept_view (cursor_checked self.old) at.entry is_past positions.now }

@@ -19,14 +19,13 @@ pub struct Walk<'a> {
     ghost placed: { ∥ IsInPlace buckets × IsAhead buckets ahead ∥₁ },
 }
 
-#[tactic(auto, unfolding(crate::specs::Walks::left_of, crate::specs::Walks::walk_checked, crate::specs::Walks::walk_path))]
+#[tactic(auto, unfolding(crate::specs::Walks::left_of, crate::specs::Walks::walk_checked, crate::specs::Walks::walk_path), using(crate::proofs::Climbing::none_beyond, crate::proofs::Walking::begins))]
 impl<'a> Walk<'a> {
     ghost use Rattle.bolt_tree.specs.FileListings.{ForListing};
     ghost use Rattle.bolt_tree.specs.Paths.{path_of};
     ghost use Rattle.bolt_tree.specs.Walks.{GivesNext, left_of, walk_checked, walk_path};
 
     /// A walk that has the whole listing ahead of it. Needs no memory.
-    #[tactic(auto, unfolding(crate::specs::Walks::left_of, crate::specs::Walks::walk_checked, crate::specs::Walks::walk_path), using(crate::proofs::Walking::begins))]
     pub fn new(alloc: Global, checked: Checked<'a>) -> Walk<'a>
         ensures checked { walk_checked result ≡ checked.entry }
         ensures all { ForListing checked.entry (λ listing. left_of result listing ≡ listing) }
@@ -62,7 +61,6 @@ impl<'a> Walk<'a> {
     /// `NoMemory` if memory runs out for one more open bucket. The walk then has the same ahead of
     /// it and returns the same path, and `next` may be called again.
     #[inline(always)]
-    #[tactic(auto, unfolding(crate::specs::Walks::left_of, crate::specs::Walks::walk_checked, crate::specs::Walks::walk_path), using(crate::proofs::Climbing::none_beyond))]
     pub fn next(&mut self) -> Result<Option<Item<'a>>, NoMemory>
         ensures checked { walk_checked self.new ≡ walk_checked self.old }
         ensures given { IfOk result (λ given. ForListing (walk_checked self.old)
