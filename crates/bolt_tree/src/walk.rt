@@ -19,7 +19,7 @@ pub struct Walk<'a> {
     ghost placed: { ∥ IsInPlace buckets × IsAhead buckets ahead ∥₁ },
 }
 
-#[tactic(auto, unfolding(crate::specs::Walks::left_of, crate::specs::Walks::walk_checked, crate::specs::Walks::walk_path), using(crate::proofs::Climbing::none_beyond, crate::proofs::Walking::begins))]
+#[tactic(auto, unfolding(crate::specs::Walks::left_of, crate::specs::Walks::walk_checked, crate::specs::Walks::walk_path))]
 impl<'a> Walk<'a> {
     ghost use Rattle.bolt_tree.specs.FileListings.{ForListing};
     ghost use Rattle.bolt_tree.specs.Paths.{path_of};

@@ -1,7 +1,7 @@
 use Rattle.std.proofs.Common.{◌∙◌, List, ◌∷◌, sym, ap}
 use Rattle.bolt_tree.proofs.Words.{Item, Member, Path, item_view, open_path, reported_path, rest_after, walk_checked, walk_path, ∥∥₁_elim, ∥∥₁_map, ∥∥₁_prop}
 use Rattle.bolt_tree.specs.Walks.{left_of}
-use Rattle.bolt_tree.proofs.Climbing.{listed_in}
+use Rattle.bolt_tree.proofs.Climbing.{listed_in, none_beyond}
 use Rattle.bolt_tree.proofs.Walking.{ahead_in, ahead_prop}
 use Rattle.bolt_tree.proofs.walk.Walk.next.Goals as goal
 
@@ -29,3 +29,10 @@ returns-in-Some-clause-given c = λ listing lists.
     ∙ ap (λ (i : Item). (open_path c.advance.new.self, i) ∷ rest_after (open_path c.advance.new.self) listing) (sym c.of.ensures)
     ∙ ap (λ (p : Path). (p, item_view c.of.result) ∷ rest_after (open_path c.advance.new.self) listing) (sym c.after-self.ensures.reported)
     ∙ ap (λ (ms : List Member). (reported_path c.after-self.result (open_path c.advance.new.self), item_view c.of.result) ∷ ms) (sym then)
+
+pub returns-in-None-clause-given : goal.returns-in-None-clause-given
+unfolding left_of walk_checked walk_path
+returns-in-None-clause-given c = λ listing lists.
+    let came = rw c.in-None.is at c.in_ok-leaf.ensures.left in
+    let ended = rw c.in-None.is at c.in_ok-leaf.ensures.ended in
+    (came listing lists, none_beyond (open_path c.advance.new.self) listing ended, ended)
