@@ -1,18 +1,8 @@
 -- Each bucket that a path of a sound file names has its entries in order.
 -- Rests on the law that a bucket of the tree has them, and on that each such bucket is one of the tree (BucketWays).
 use Rattle.std.proofs.Common.{ℕ, List}
-use Rattle.std.proofs.Math.Logic.{∥∥₁_prop}
-use Rattle.bolt_format.specs.Elements.{LeafElement}
-use Rattle.bolt_format.specs.declared.meta.Meta.{Meta}
-use Rattle.bolt_check.specs.CheckedFiles.{bytes_of, meta_of}
-use Rattle.bolt_check.specs.Sound.{HasSoundTrees}
-use Rattle.bolt_check.specs.declared.checked_file.Checked.{Checked}
-use Rattle.bolt_check.proofs.CheckedLemmas.{with_trees}
-use Rattle.bolt_tree.specs.BucketViews.{entries_of}
-use Rattle.bolt_tree.specs.Entries.{AreEntries, IsEntry, IsStart, Root_page, Start}
-use Rattle.bolt_tree.specs.FileListings.{root_start}
-use Rattle.bolt_tree.specs.Paths.{HasEntries}
-use Rattle.bolt_tree.specs.Private.Tours.{elements_of, pages_at}
+use Rattle.bolt_tree.proofs.Words.{AreEntries, Checked, HasEntries, HasSoundTrees, IsEntry, IsStart, LeafElement, Meta, Root_page, Start, bytes_of, elements_of}
+use Rattle.bolt_tree.proofs.Words.{entries_of, meta_of, pages_at, root_start, with_trees, ∥∥₁_prop}
 use Rattle.bolt_tree.proofs.SortedLemmas.{sorted}
 use Rattle.bolt_tree.proofs.BucketWays.{root_starts, starts_named}
 

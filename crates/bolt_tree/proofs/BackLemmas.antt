@@ -1,19 +1,10 @@
 -- What the moves of a trail back do to its stack.
 use Rattle.std.proofs.Common.{◌≡◌, ℕ, zero, suc, ◌+◌, ◌-◌, ◌≤◌, true, List, [], ◌∷◌, ◌++◌, Some, None, slice_get, length, take, refl, sym, ap, ◌∙◌, subst, arith, append_assoc, append-nil, length-append}
-use Rattle.std.proofs.Math.Logic.{∥∥₁_elim}
-use Rattle.std.proofs.Props.{props}
-use Rattle.std.proofs.lemmas.List.{length-take, take_all}
-use Rattle.std.proofs.lemmas.List.Concat.{flat_map-append}
-use Rattle.std.proofs.lemmas.Option.{none-some}
-use Rattle.bolt_format.specs.Elements.{BranchElement, LeafElement}
-use Rattle.bolt_tree.specs.BucketViews.{BucketView}
-use Rattle.bolt_tree.specs.Private.BucketPages.{contents_in, elements_in, root_content}
-use Rattle.bolt_tree.specs.Private.Contents.{Content, Contents, Of_branch, Of_leaf, content_length}
-use Rattle.bolt_tree.specs.Private.Entered.{IsEntered}
-use Rattle.bolt_tree.specs.Private.Stacks.{Frame, HasStack, IsAtRest, IsBranchContent, IsBranchTop, IsOn, RestsOn, address_on, before_of, before_under, preceding_of, done_of, done_under, index_of, left_of, left_under, under_at}
-use Rattle.bolt_tree.specs.Private.Tours.{Visit, all_under, elements_of, tour}
+use Rattle.bolt_tree.proofs.Words.{BranchElement, BucketView, Content, Contents, Frame, HasStack, IsAtRest, IsBranchContent, IsBranchTop, IsEntered, IsOn}
+use Rattle.bolt_tree.proofs.Words.{LeafElement, Of_branch, Of_leaf, RestsOn, Visit, address_on, all_under, before_of, before_under, content_length, contents_in}
+use Rattle.bolt_tree.proofs.Words.{done_of, done_under, elements_in, elements_of, flat_map-append, index_of, left_of, left_under, length-take, none-some}
+use Rattle.bolt_tree.proofs.Words.{preceding_of, props, root_content, take_all, take_next, tour, under_at, ∥∥₁_elim}
 use Rattle.bolt_tree.proofs.StackLemmas.{branch_room}
-use Rattle.bolt_format.proofs.ListLemmas.{take_next}
 
 take_none : {X : Type 0} (xs : List X) → take 0 xs ≡ []
 take_none [] = refl
@@ -54,9 +45,6 @@ back_some contents (Of_leaf es) i t below new e two h =
     (rw (h.1, old, back, cut) (sym (append_assoc (elements_of (before_of contents below ++ [])) (take i es) (e ∷ []))), subst (λ (fs : List Frame). IsOn fs e) (sym h.1) on)
 back_some contents (Of_branch bs) i t below new e two h = absurd h
 
-regroup : (b a t u : List LeafElement) → t ≡ u → (b ++ (a ++ t)) ++ [] ≡ (b ++ a) ++ u
-regroup b a t u e = append-nil (b ++ (a ++ t)) ∙ (ap (λ (x : List LeafElement). b ++ (a ++ x)) e ∙ sym (append_assoc b a u))
-
 -- a page is opened
 pub back_none : (bucket : BucketView) (content : Content) (i t : ℕ) (below new : List Frame) → t ≡ i + 2 → IsEntered (contents_in bucket) true content i below new None → HasStack bucket new
     → (preceding_of (contents_in bucket) (record { content = content; taken = t } ∷ below) ≡ preceding_of (contents_in bucket) new)
@@ -78,19 +66,12 @@ back_none bucket (Of_branch bs) i t below new two h stack =
     let more : under_at contents H address 0 (take (suc i) bs) ≡ A ++ f i b.child = under_more f 0 i i bs b h.1 (omega arith) in
     let done = tour_done contents (62 - H) (suc H) (address ++ i ∷ []) child (λ cs e.
     let room = branch_room bucket cs (suc (length cs)) (record { content = Of_branch bs; taken = i + 1 } ∷ below) (rw e at placed) in omega (arith, room)) in
-    let E : List Visit → List LeafElement = λ vs. elements_of vs in
     let left : elements_of (B ++ (A ++ f i b.child)) ++ [] ≡ elements_of ((B ++ A) ++ U) ++ done_under child (suc (content_length child)) =
-    ap (λ (x : List LeafElement). x ++ []) (flat_map-append (λ (v : Visit). v.entries) B (A ++ f i b.child) ∙ ap (λ (x : List LeafElement). elements_of B ++ x) (flat_map-append (λ (v : Visit). v.entries) A (f i b.child)))
-    ∙ (regroup (elements_of B) (elements_of A) (elements_of (f i b.child)) (elements_of U ++ done_under child (suc (content_length child))) done.0
-    ∙ (sym (append_assoc (elements_of B ++ elements_of A) (elements_of U) (done_under child (suc (content_length child))))
-    ∙ ap (λ (x : List LeafElement). x ++ done_under child (suc (content_length child)))
-    (ap (λ (x : List LeafElement). x ++ elements_of U) (sym (flat_map-append (λ (v : Visit). v.entries) B A)) ∙ sym (flat_map-append (λ (v : Visit). v.entries) (B ++ A) U)))) in
-    let l1 = length-append B (A ++ f i b.child) in
+    simp (flat_map-append, append_assoc, append-nil, done.0) in
     let l2 = length-append A (f i b.child) in
     let l3 = length-append (B ++ A) U in
     let l4 = length-append B A in
-    let l5 = done.1 in
-    let size : length (B ++ (A ++ f i b.child)) ≡ suc (length ((B ++ A) ++ U)) = omega (arith, l1, l2, l3, l4, l5) in
+    let size : length (B ++ (A ++ f i b.child)) ≡ suc (length ((B ++ A) ++ U)) = omega (arith, length-append B (A ++ f i b.child), l2, l3, l4, done.1) in
     (rw (h.2, old, back, more) left, rw (h.2, old, back, more) size)
 
 nothing_done : (content : Content) (t : ℕ) → t ≤ 1 → done_under content t ≡ []
@@ -113,12 +94,11 @@ branch_done (f ∷ below) h = by_content f.content f.taken h
 pub left_out : (bucket : BucketView) (f : Frame) (below : List Frame) → HasStack bucket (f ∷ below) → f.taken ≤ 1
     → (preceding_of (contents_in bucket) below ≡ preceding_of (contents_in bucket) (f ∷ below)) × (before_of (contents_in bucket) below ≡ before_of (contents_in bucket) (f ∷ below))
 left_out bucket f below stack h =
-    let here = nothing_done f.content f.taken h in
     let under = nothing_before (contents_in bucket) (length below) (address_on below) f.content f.taken h in
     let top : done_of below ≡ [] = ∥∥₁_elim stack (Prim.hlevel props) (λ s. branch_done below s.1.0.branch) in
     let same : before_of (contents_in bucket) below ≡ before_of (contents_in bucket) below ++ before_under (contents_in bucket) (length below) (address_on below) f.content (f.taken - 1) =
     rw under (sym (append-nil (before_of (contents_in bucket) below))) in
-    (rw (here, top) (ap (λ (vs : List Visit). elements_of vs ++ []) same), same)
+    (rw (nothing_done f.content f.taken h, top) (ap (λ (vs : List Visit). elements_of vs ++ []) same), same)
 
 pub step_back_some : (old now : BucketView) (whole below new : List Frame) (f : Frame) (i : ℕ) (e : LeafElement) → f.taken ≡ i + 2 → now ≡ old → whole ≡ f ∷ below → IsEntered (contents_in old) true f.content i below new (Some e)
     → (preceding_of (contents_in old) whole ≡ preceding_of (contents_in now) new ++ e ∷ []) × IsOn new e
@@ -153,11 +133,9 @@ left_elements contents (f ∷ below) =
 behind_leaf : (contents : Contents) (es : List LeafElement) (t : ℕ) (below : List Frame) → 1 ≤ t → t ≤ length es
     → length (preceding_of contents (record { content = Of_leaf es; taken = t } ∷ below)) ≡ index_of contents (record { content = Of_leaf es; taken = t } ∷ below)
 behind_leaf contents es t below one most =
-    let a = ap length (left_elements contents below) in
-    let b = length-append (elements_of (before_of contents below ++ [])) (take (t - 1) es) in
     let n = ap (λ (vs : List Visit). length (elements_of vs)) (append-nil (before_of contents below)) in
     let m = length-take (t - 1) es in
-    omega (arith, a, b, n, m, one, most)
+    omega (arith, ap length (left_elements contents below), length-append (elements_of (before_of contents below ++ [])) (take (t - 1) es), n, m, one, most)
 
 behind_content : (contents : Contents) (content : Content) (t : ℕ) (below : List Frame) → RestsOn content t → length (preceding_of contents (record { content = content; taken = t } ∷ below)) ≡ index_of contents (record { content = content; taken = t } ∷ below)
 behind_content contents (Of_leaf es) t below rest = behind_leaf contents es t below rest.0 rest.1

@@ -1,27 +1,10 @@
 -- Ways from bucket to bucket: an address inside a bucket is a way, and so is a bucket among its entries. So each bucket that a path
 -- names begins at a place where a bucket of the tree does.
-use Rattle.std.proofs.Common.{◌≡◌, ◌∙◌, inl, inr, Bool, true, false, IsTrue, ℕ, suc, eqb, eqb-true, List, [], ◌∷◌, ◌++◌, map, Option, Some, Result, Ok, slice_get, refl, sym, ap, subst}
-use Rattle.std.specs.List.{Contains}
-use Rattle.bolt_format.specs.Elements.{LeafElement, head_root, inline_elements}
-use Rattle.bolt_format.specs.declared.meta.Meta.{Meta}
-use Rattle.bolt_check.specs.Nodes.{Entry, Node, Nodes, leaf_entry, node_at}
-use Rattle.bolt_check.specs.Shape.{leads}
-use Rattle.bolt_check.specs.Ways.{At_page, PageSpot, Spot, follow, root_spot, step_at, step_entry, bucket_spots}
-use Rattle.bolt_tree.specs.Entries.{Inline_page, IsEntry, IsStart, Root_page, ShowsEntry, Start, start_of}
-use Rattle.bolt_check.specs.OnWays.{IsOnWay}
-use Rattle.bolt_check.proofs.WayFacts.{follow_append, leads_follow, leaf_node}
-use Rattle.bolt_format.proofs.PageFacts.{bucket_value, flat_inline}
-use Rattle.bolt_tree.specs.Paths.{Names, Path}
-use Rattle.bolt_tree.proofs.Lists.{contains_cases, contains_none}
-
--- an element has its place among the entries
-pub place_of : (leaves : List LeafElement) (e : LeafElement) → Contains leaves e → (i : ℕ) × (slice_get (map leaf_entry leaves) i ≡ Some (leaf_entry e))
-place_of [] e h = absurd (contains_none e h)
-place_of (x ∷ leaves) e h =
-    elim (contains_cases x e leaves h) [
-      | inl s ↦ (0, ap (λ (y : LeafElement). Some (leaf_entry y)) s)
-      | inr g ↦ let (i, at) = place_of leaves e g in (suc i, at)
-    ]
+use Rattle.std.proofs.Common.{◌≡◌, ◌∙◌, Bool, true, false, IsTrue, ℕ, suc, eqb, eqb-true, List, [], ◌∷◌, ◌++◌, map, Option, Some, Result, Ok, slice_get, refl, sym, ap, subst}
+use Rattle.bolt_tree.proofs.Words.{At_page, Contains, Entry, Inline_page, IsEntry, IsOnWay, IsStart, LeafElement, Meta, Names, Node, Nodes, PageSpot, Path}
+use Rattle.bolt_tree.proofs.Words.{Root_page, ShowsEntry, Spot, Start, bucket_spots, bucket_value, flat_inline, follow, follow_append, head_root}
+use Rattle.bolt_tree.proofs.Words.{inline_elements, leads, leads_follow, leaf_entry, leaf_node, node_at, option_map, root_spot, slice_get-get_or, slice_get-map}
+use Rattle.bolt_tree.proofs.Words.{start_of, step_at, step_entry}
 
 spot_for : (host : ℕ) (e : LeafElement) → e.is_bucket ≡ true → eqb (head_root e.value) 0 ≡ false → bucket_spots host (leaf_entry e) ≡ Some (At_page (root_spot (head_root e.value)))
 spot_for host e b page = rw (b, page) refl
@@ -40,7 +23,8 @@ pub bucket_way : (file : List ℕ) (meta : Meta) (s : PageSpot) (e : LeafElement
 bucket_way file meta s e (address, n, lead, (view, at, k, is)) b page =
     let nodes : Nodes = node_at file meta in
     let (t, on, number) = leads_follow nodes s address n lead in
-    let (i, place) = place_of view.leaves e is in
+    let i = is.0 in
+    let place = slice_get-map leaf_entry view.leaves i ∙ ap (option_map leaf_entry) (slice_get-get_or view.leaves i e is.1 ∙ ap (λ (x : LeafElement). Some x) is.2) in
     let node = ap nodes number ∙ leaf_node file meta n view at k in
     let last : follow nodes (Some (At_page t)) (i ∷ []) ≡ Some (At_page (root_spot (head_root e.value))) = node_step t (nodes t.number) (map leaf_entry view.leaves) view.overflow i e node place b page in
     (address, i, follow_append nodes (Some (At_page s)) address (i ∷ []) ∙ (ap (λ (o : Option Spot). follow nodes o (i ∷ [])) on ∙ last))
@@ -57,12 +41,6 @@ IsFlat file meta = (n : ℕ) (e f : LeafElement) → ShowsEntry file meta n e �
 
 pub flat : (file : List ℕ) (meta : Meta) → IsFlat file meta
 flat file meta n e f (view, at, leaf, has) bucket root inner = flat_inline e.value f (bucket_value file meta n view e at leaf has bucket) root inner
-
-no_root : (n : ℕ) (elements : List LeafElement) → Root_page n ≡ Inline_page elements → ⊥
-no_root n elements e = cc
-
-same_elements : (a b : List LeafElement) → Inline_page a ≡ Inline_page b → a ≡ b
-same_elements a b e = cc
 
 module _ (file : List ℕ) (meta : Meta) where
   -- where an address from a page on a way leads to, a way leads too
@@ -96,9 +74,9 @@ module _ (file : List ℕ) (meta : Meta) where
         deep = refl;
       })
 
-  none_inside : (value : List ℕ) (elements : List LeafElement) (b : Bool) → eqb (head_root value) 0 ≡ b → start_of value ≡ Inline_page elements → (head_root value ≡ 0) × (inline_elements value ≡ elements)
-  none_inside value elements true e same = (eqb-true (head_root value) 0 e, same_elements (inline_elements value) elements (sym (in_itself value e) ∙ same))
-  none_inside value elements false e same = absurd (no_root (head_root value) elements (sym (at_root value e) ∙ same))
+  pub none_inside : (value : List ℕ) (elements : List LeafElement) (b : Bool) → eqb (head_root value) 0 ≡ b → start_of value ≡ Inline_page elements → (head_root value ≡ 0) × (inline_elements value ≡ elements)
+  none_inside value elements true e same = (eqb-true (head_root value) 0 e, (let c : Inline_page (inline_elements value) ≡ Inline_page elements = sym (in_itself value e) ∙ same in cc))
+  none_inside value elements false e same = absurd (let c : Root_page (head_root value) ≡ Inline_page elements = sym (at_root value e) ∙ same in cc)
 
   -- a bucket among the entries of a bucket of the tree is one of the tree
   pub starts_below : (from : Start) (e : LeafElement) → IsStart file meta from → IsEntry file meta from e → e.is_bucket ≡ true → IsStart file meta (start_of e.value)

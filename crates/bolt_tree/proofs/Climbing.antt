@@ -1,29 +1,9 @@
 -- One turn of a climb, in what is known of open buckets: only that it is so.
-use Rattle.std.proofs.Common.{◌≡◌, ◌∙◌, ◌+◌, ◌-◌, ◌<◌, ℕ, suc, List, [], ◌∷◌, ◌++◌, take, Option, Some, None, MatchOption, refl, sym, ap, subst, arith, Bor, length}
-use Rattle.std.specs.Option.{option_to_list}
-use Rattle.std.proofs.Math.Logic.{∥∥₁_elim, ∥∥₁_map}
-use Rattle.std.proofs.lemmas.List.{length-append}
-use Rattle.std.proofs.Props.{props}
-use Rattle.bolt_format.specs.Elements.{LeafElement}
-use Rattle.bolt_check.specs.declared.checked_file.Checked.{Checked}
-use Rattle.bolt_tree.specs.BucketViews.{entries_of}
-use Rattle.bolt_tree.specs.FileListings.{root_start}
-use Rattle.bolt_tree.specs.Entries.{Start, item_of}
-use Rattle.bolt_tree.specs.Listing.{Lists, Member}
-use Rattle.bolt_tree.specs.Paths.{HasEntries, Names, Path, path_of}
-use Rattle.bolt_tree.specs.Places.{Moves, next_move}
-use Rattle.bolt_tree.specs.Private.Kept.{CursorView}
-use Rattle.bolt_tree.specs.Private.OpenBuckets.{AreOpen}
-use Rattle.bolt_tree.specs.RestAfter.{rest_after, beyond, is_beyond}
+use Rattle.std.proofs.Common.{◌≡◌, ◌∙◌, ◌+◌, ◌-◌, ℕ, suc, List, [], ◌∷◌, ◌++◌, take, Option, Some, None, MatchOption, refl, sym, ap, subst, arith, Bor}
+use Rattle.bolt_tree.proofs.Words.{AreOpen, Checked, CursorView, HasEntries, LeafElement, Lists, Member, Moves, Names, Path, Start, beyond, entries_of}
+use Rattle.bolt_tree.proofs.Words.{is_beyond, item_of, next_move, option_to_list, path_of, props, rest_after, root_start, ∥∥₁_elim, ∥∥₁_map}
 use Rattle.bolt_tree.proofs.Filters.{filter_none}
 use Rattle.bolt_tree.proofs.OpenSteps.{Top, path_popped, next_ended, next_entry, next_given, next_open, open_pop}
-
--- without its last element a list is shorter
-pub one_less : {A : Type 0} (old new front : List A) (x : A) → old ≡ front ++ x ∷ [] → new ≡ front → length new < length old
-one_less old new front x was is =
-    let long = ap length was ∙ length-append front (x ∷ []) in
-    let short = ap length is in
-    omega (arith, long, short)
 
 -- the last cursor is looked at by itself, and the last key was taken off
 pub record Popped (checked : Checked) (cursors : List CursorView) (cursor : CursorView) (old new : Path) : Type 0 where

@@ -1,31 +1,13 @@
 -- A part of a path is sought in a bucket, in what is known of open buckets: only that it is so.
 use Rattle.std.proofs.Common.{◌≡◌, ◌∙◌, ◌⊎◌, IsTrue, Bool, inl, inr, true, false, List, [], ◌∷◌, ◌++◌, Option, Some, None, refl, sym, ap, subst, append_assoc}
-use Rattle.std.proofs.Math.Logic.{∥∥₁_elim}
-use Rattle.std.proofs.Props.{props}
-use Rattle.std.specs.Ordering.{is_lt, ordering_reverse}
-use Rattle.std.specs.declared.cmp.Ordering.{Ordering}
-use Rattle.std.specs.declared.cmp.Ordering.TheVariants.{Less, Equal, Greater}
-use Rattle.bolt_format.specs.Elements.{LeafElement}
-use Rattle.bolt_check.specs.Keys.{Key, key_cmp}
-use Rattle.bolt_check.specs.declared.checked_file.Checked.{Checked}
-use Rattle.bolt_tree.specs.Buckets.{bucket_checked, bucket_start}
-use Rattle.bolt_tree.specs.BucketViews.{entries_of}
-use Rattle.bolt_tree.specs.FileListings.{root_start}
-use Rattle.bolt_tree.specs.Entries.{Start, start_of}
-use Rattle.bolt_tree.specs.Listing.{Lists, Member, rest_from}
-use Rattle.bolt_tree.specs.Paths.{HasEntries, Names, Path}
-use Rattle.bolt_tree.specs.Places.{least_from, seek_move}
-use Rattle.bolt_tree.specs.Private.CursorViews.{Opens, fresh_view}
-use Rattle.bolt_tree.specs.Private.Kept.{CursorView}
-use Rattle.bolt_tree.specs.Private.OpenBuckets.{AreOpen, IsInside, is_end}
-use Rattle.bolt_tree.specs.RestAfter.{beyond}
-use Rattle.bolt_tree.specs.declared.bucket.Bucket.{Bucket}
+use Rattle.bolt_tree.proofs.Words.{AreOpen, Bucket, Checked, CursorView, Equal, Greater, HasEntries, IsInside, Key, LeafElement, Less, Lists, Member, Names}
+use Rattle.bolt_tree.proofs.Words.{Opens, Ordering, Path, Start, beyond, bucket_checked, bucket_start, entries_of, fresh_view, is_end, is_lt, key_cmp}
+use Rattle.bolt_tree.proofs.Words.{least_from, less_of, ordering_reverse, props, rest_from, root_start, seek_move, start_of, ∥∥₁_elim}
 use Rattle.bolt_tree.proofs.CursorMoves.{by_key}
 use Rattle.bolt_tree.proofs.Entering.{Fresh_at, MovesBy, comes_by, leads_by, leads_in, leads_inside, made, opens_by, placed_in}
 use Rattle.bolt_tree.proofs.EntryOrder.{contains_at, seek_from}
 use Rattle.bolt_tree.proofs.PathOrder.{key_exact, key_total}
 use Rattle.bolt_tree.proofs.Seeking.{rest_greater, rest_none, rest_past_value}
-use Rattle.bolt_check.proofs.KeyLaws.{less_of}
 
 pub neither : (a b : Key) (o : Ordering) → key_cmp a b ≡ o → is_lt (key_cmp a b) ≡ false → is_lt (key_cmp b a) ≡ false → a ≡ b
 neither a b Less e h k = absurd (let f = ap is_lt e in cc)

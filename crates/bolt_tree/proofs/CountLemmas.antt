@@ -1,131 +1,233 @@
 -- Numbers of pages: an address is counted by its place on the tour.
-use Rattle.std.proofs.Common.{◌≡◌, ℕ, suc, inl, inr, List, [], ◌∷◌, ◌++◌, Some, length, map, refl, sym, ap, ◌∙◌, subst, arith, append_assoc, length-append}
-use Rattle.std.proofs.lemmas.List.{length-map}
-use Rattle.bolt_format.specs.Elements.{LeafElement}
-use Rattle.bolt_format.specs.declared.meta.Meta.{Meta}
-use Rattle.bolt_check.specs.Nodes.{node_at}
-use Rattle.bolt_check.specs.Shape.{leads}
-use Rattle.bolt_check.specs.Sound.{HasSoundTrees}
-use Rattle.bolt_check.specs.Ways.{Before}
-use Rattle.bolt_tree.specs.Entries.{Inline_page, IsStart, Root_page, Start}
-use Rattle.bolt_tree.specs.Openings.{HasCount, IsAddress, IsAllPages, IsHome, IsPagesUpTo, IsUpTo}
-use Rattle.bolt_tree.specs.Private.Contents.{content_at}
-use Rattle.bolt_tree.specs.Private.Tours.{Visit, pages_at}
-use Rattle.bolt_check.proofs.KeyLaws.{lt_strict}
-use Rattle.bolt_check.proofs.WayOrder.{before_irreflexive, before_strict}
-use Rattle.bolt_tree.proofs.ListLemmas.{Has, RisesBy, contains_from_has, has_from_contains, has_left, has_map, has_right, has_split, map_has, one_list, pairs_from_rises, rises_across, rises_from_pairs, rises_left, rises_map, rises_weaker}
-use Rattle.bolt_tree.proofs.SortedLemmas.{home_visited, start_rises}
+use Rattle.std.proofs.Common.{◌≡◌, ℕ, suc, ◌+◌, ◌-◌, ◌≤◌, ◌<◌, ◌⊎◌, inl, inr, List, [], ◌∷◌, ◌++◌, Some, length, map, refl, sym, ap, ◌∙◌, subst, arith, append_assoc, append-nil, length-append}
+use Rattle.bolt_tree.proofs.Words.{Before, BucketView, HasCount, HasSoundTrees, Inline_page, IsAddress, IsAfter, IsEntry, IsHome, IsPagesUpTo, IsSeekPage}
+use Rattle.bolt_tree.proofs.Words.{IsSoundBucket, IsStart, IsUpTo, LeafElement, Meta, Root_page, Start, Visit, cases_lt, content_at, leads, length-map}
+use Rattle.bolt_tree.proofs.Words.{lt_strict, node_at, pages_at, pages_in}
+use Rattle.bolt_check.proofs.WayOrder.{before_irreflexive, before_strict, before_trans}
+use Rattle.bolt_tree.proofs.ListLemmas.{Has, RisesBy, contains_from_has, flat_has, has_from_contains, has_left, has_map, has_right, has_split, map_has, one_list, pairs_from_rises, rises_across, rises_from_pairs, rises_left, rises_map, rises_right, rises_weaker}
+use Rattle.bolt_tree.proofs.SortedLemmas.{entry_visited, home_visited, start_rises, visit_is}
 use Rattle.bolt_tree.proofs.TourLemmas.{IsApart, led_tour, tour_led, visit_of}
 
--- there is one count
-pub count_is : (Is : List ℕ → Type 0) (members : List (List ℕ)) (n : ℕ) → RisesBy Before members → ((a : List ℕ) → Has members a → Is a) → ((a : List ℕ) → Is a → Has members a)
-    → HasCount Is n → n ≡ length members
-count_is Is members n rises sound complete count =
-    let same : count.members ≡ members = one_list Before before_strict count.members members (rises_from_pairs Before count.members count.rises) rises
-    (λ a h. complete a ((count.exact a).0 (contains_from_has count.members a h)))
-    (λ a h. has_from_contains count.members a ((count.exact a).1 (sound a h))) in
-    sym count.number ∙ ap length same
+-- A rising list of exactly these addresses.
+pub record IsExactly (Is : List ℕ → Type 0) (n : ℕ) : Type 0 where
+  pub members : List (List ℕ)
+  pub rises : RisesBy Before members
+  pub sound : (a : List ℕ) → Has members a → Is a
+  pub complete : (a : List ℕ) → Is a → Has members a
+  pub number : length members ≡ n
 
-pub counts : (Is : List ℕ → Type 0) (members : List (List ℕ)) → RisesBy Before members → ((a : List ℕ) → Has members a → Is a) → ((a : List ℕ) → Is a → Has members a)
-    → HasCount Is (length members)
-counts Is members rises sound complete = record {
-  members = members;
-  rises = pairs_from_rises Before members rises;
-  exact = λ a. (λ c. sound a (has_from_contains members a c), λ i. contains_from_has members a (complete a i));
-  number = refl;
+-- it gives their count, and there is one count
+pub exact_count : {Is : List ℕ → Type 0} {n : ℕ} → IsExactly Is n → HasCount Is n
+exact_count x = record {
+  members = x.members;
+  rises = pairs_from_rises Before x.members x.rises;
+  exact = λ a. (λ c. x.sound a (has_from_contains x.members a c), λ i. contains_from_has x.members a (x.complete a i));
+  number = x.number;
 }
 
-abbrev pub addresses_of : List Visit → List (List ℕ)
-addresses_of visits = map (λ (v : Visit). v.address) visits
+pub exact_is : {Is : List ℕ → Type 0} {n m : ℕ} → IsExactly Is n → HasCount Is m → m ≡ n
+exact_is x count =
+    let same : count.members ≡ x.members = one_list Before before_strict count.members x.members (rises_from_pairs Before count.members count.rises) x.rises
+    (λ a h. x.complete a ((count.exact a).0 (contains_from_has count.members a h)))
+    (λ a h. has_from_contains count.members a ((count.exact a).1 (x.sound a h))) in
+    sym count.number ∙ (ap length same ∙ x.number)
+
+-- A page of a list of pages, and what stands to its left and to its right.
+pub record Cut (pages : List Visit) : Type 0 where
+  pub left : List Visit
+  pub page : Visit
+  pub right : List Visit
+  pub whole : pages ≡ left ++ (page ∷ right)
+
+pub cut_size : {pages : List Visit} (c : Cut pages) → length pages ≡ length c.left + suc (length c.right)
+cut_size c = ap length c.whole ∙ length-append c.left (c.page ∷ c.right)
+
+module _ {X : Type 0} where
+  pub has_cut : (xs : List X) (x : X) → Has xs x → (left : List X) × (right : List X) × (xs ≡ left ++ (x ∷ right))
+  has_cut [] x h = absurd h
+  has_cut (y ∷ xs) x (inl e) = ([], xs, ap (λ (z : X). z ∷ xs) e)
+  has_cut (y ∷ xs) x (inr h) = let r = has_cut xs x h in (y ∷ r.0, r.1, ap (λ (l : List X). y ∷ l) r.2)
+
+  -- of two places in one list, the one that comes first, and what lies between
+  first_cut : (a b c d : List X) (x y : X) → a ++ (x ∷ b) ≡ c ++ (y ∷ d) → length a < length c → Has c x
+  first_cut a b [] d x y e l = absurd (omega arith)
+  first_cut [] b (z ∷ c) d x y e l = let same : x ≡ z = cc in inl (sym same)
+  first_cut (w ∷ a) b (z ∷ c) d x y e l = let rest : a ++ (x ∷ b) ≡ c ++ (y ∷ d) = cc in inr (first_cut a b c d x y rest (omega arith))
+
+  two_cuts : (a b c d : List X) (x y : X) → a ++ (x ∷ b) ≡ c ++ (y ∷ d) → length d ≤ length b → (between : List X) × (b ≡ between ++ d) × (a ++ x ∷ between ≡ c ++ y ∷ [])
+  two_cuts [] b [] d x y e l = ([], cc, cc)
+  two_cuts [] b (z ∷ c) d x y e l =
+      let rest : b ≡ c ++ (y ∷ d) = cc in
+      let same : x ≡ z = cc in
+      (c ++ y ∷ [], rest ∙ sym (append_assoc c (y ∷ []) d), ap (λ (w : X). w ∷ (c ++ y ∷ [])) same)
+  two_cuts (w ∷ a) b [] d x y e l =
+      let rest : a ++ (x ∷ b) ≡ d = cc in
+      absurd (omega (arith, ap length rest, length-append a (x ∷ b), l))
+  two_cuts (w ∷ a) b (z ∷ c) d x y e l =
+      let rest : a ++ (x ∷ b) ≡ c ++ (y ∷ d) = cc in
+      let same : w ≡ z = cc in
+      let r = two_cuts a b c d x y rest l in
+      let whole = r.2 in
+      (r.0, r.1, cc)
+
+not_both : (a c : List ℕ) → Before c a → (a ≡ c) ⊎ Before a c → ⊥
+not_both a c after (inl e) = before_irreflexive c (subst (Before c) e after)
+not_both a c after (inr h) = before_strict c a after h
+
+abbrev pub address_of : Visit → List ℕ
+address_of v = v.address
 
 module _ (file : List ℕ) (meta : Meta) (trees : HasSoundTrees file meta) where
-  pub visit_address : (start : Start) (v : Visit) → IsStart file meta start → Has (pages_at file meta start) v → IsAddress file meta start v.address
+  visit_address : (start : Start) (v : Visit) → IsStart file meta start → Has (pages_at file meta start) v → IsAddress file meta start v.address
   visit_address (Root_page number) v is h =
       let r = tour_led file meta trees 63 number 1 [] v is (omega arith) h in
       (r.page, ap (λ (a : List ℕ). leads (node_at file meta) (Some number) a) r.from ∙ r.led)
-  visit_address (Inline_page elements) v is (inl e) = sym (ap (λ (w : Visit). w.address) e)
+  visit_address (Inline_page elements) v is (inl e) = sym (ap address_of e)
   visit_address (Inline_page elements) v is (inr x) = absurd x
 
-  pub address_visited : (start : Start) (a : List ℕ) → IsStart file meta start → IsAddress file meta start a → Has (addresses_of (pages_at file meta start)) a
+  pub address_visited : (start : Start) (a : List ℕ) → IsStart file meta start → IsAddress file meta start a → Has (map address_of (pages_at file meta start)) a
   address_visited (Root_page number) a is at =
-      let r = led_tour file meta trees 63 number 1 [] a at.0 is (omega arith) at.1 in
-      has_map (λ (v : Visit). v.address) (pages_at file meta (Root_page number)) (visit_of a (content_at file meta at.0)) r
+      has_map address_of (pages_at file meta (Root_page number)) (visit_of a (content_at file meta at.0)) (led_tour file meta trees 63 number 1 [] a at.0 is (omega arith) at.1)
   address_visited (Inline_page elements) a is at = inl (sym at)
 
-  pub addresses_rise : (start : Start) → IsStart file meta start → RisesBy Before (addresses_of (pages_at file meta start))
-  addresses_rise start is = rises_map Before (λ (v : Visit). v.address) (pages_at file meta start)
-      (rises_weaker IsApart (λ v w. Before v.address w.address) (pages_at file meta start) (λ v w a. a.addresses) (start_rises file meta trees start is))
+-- where the page with an entry is
+pub record IsAt (b : BucketView) (e : LeafElement) : Type 0 where
+  pub cut : Cut (pages_in b)
+  pub has : Has cut.page.entries e
 
-  -- the number of all pages
-  pub all_is : (start : Start) (n : ℕ) → IsStart file meta start → IsAllPages file meta start n → n ≡ length (pages_at file meta start)
-  all_is start n is count =
-      let members = addresses_of (pages_at file meta start) in
-      count_is (IsAddress file meta start) members n (addresses_rise start is)
-      (λ a h. let r = map_has (λ (v : Visit). v.address) (pages_at file meta start) a h in subst (IsAddress file meta start) r.2 (visit_address start r.0 is r.1))
-      (λ a i. address_visited start a is i) count
-      ∙ length-map (pages_at file meta start) (λ (v : Visit). v.address)
+module _ (b : BucketView) (s : IsSoundBucket b) where
+  at_address : (v : Visit) → Has (pages_in b) v → IsAddress b.file b.meta b.start v.address
+  at_address v h = visit_address b.file b.meta s.trees b.start v s.start h
 
-  -- the number of pages up to one of them
-  module _ (start : Start) (is : IsStart file meta start) (left right : List Visit) (v : Visit) (cut : pages_at file meta start ≡ left ++ (v ∷ right)) where
-    shorter : pages_at file meta start ≡ (left ++ v ∷ []) ++ right
-    shorter = cut ∙ sym (append_assoc left (v ∷ []) right)
+  rising : RisesBy IsApart (pages_in b)
+  rising = start_rises b.file b.meta s.trees b.start s.start
 
-    cut_rises : RisesBy IsApart ((left ++ v ∷ []) ++ right)
-    cut_rises = subst (RisesBy IsApart) shorter (start_rises file meta trees start is)
+  -- pages that stand together, if their addresses are all those of a kind
+  part_exact : (Is : List ℕ → Type 0) (left part right : List Visit) (n : ℕ) → pages_in b ≡ left ++ (part ++ right) → length part ≡ n → ((a : List ℕ) → Is a → IsAddress b.file b.meta b.start a)
+      → ((v : Visit) → Has (pages_in b) v → Has part v → Is v.address) → ((v : Visit) → Has (pages_in b) v → Is v.address → Has part v) → IsExactly Is n
+  part_exact Is left part right n whole size are sound complete = record {
+    members = map address_of part;
+    rises = rises_map Before address_of part (rises_weaker IsApart (λ v w. Before v.address w.address) part (λ v w a. a.addresses)
+        (rises_left IsApart part right (rises_right IsApart left (part ++ right) (subst (RisesBy IsApart) whole rising))));
+    sound = λ a h.
+        let r = map_has address_of part a h in
+        subst Is r.2 (sound r.0 (subst (λ (vs : List Visit). Has vs r.0) (sym whole) (has_right left (part ++ right) r.0 (has_left part right r.0 r.1))) r.1);
+    complete = λ a i.
+        let r = map_has address_of (pages_in b) a (address_visited b.file b.meta s.trees b.start a s.start (are a i)) in
+        subst (Has (map address_of part)) r.2 (has_map address_of part r.0 (complete r.0 r.1 (subst Is (sym r.2) i)));
+    number = length-map part address_of ∙ size;
+  }
 
-    pub members_rise : RisesBy Before (addresses_of (left ++ v ∷ []))
-    members_rise = rises_map Before (λ (w : Visit). w.address) (left ++ v ∷ [])
-        (rises_weaker IsApart (λ a b. Before a.address b.address) (left ++ v ∷ []) (λ a b r. r.addresses) (rises_left IsApart (left ++ v ∷ []) right cut_rises))
+  -- all pages
+  pub all_exact : IsExactly (IsAddress b.file b.meta b.start) (length (pages_in b))
+  all_exact = part_exact (IsAddress b.file b.meta b.start) [] (pages_in b) [] (length (pages_in b)) (sym (append-nil (pages_in b))) refl (λ a i. i) (λ v h k. at_address v h) (λ v h i. h)
 
-    left_rises : RisesBy IsApart (left ++ v ∷ [])
-    left_rises = rises_left IsApart (left ++ v ∷ []) right cut_rises
+  module _ (c : Cut (pages_in b)) where
+    whole_rises : RisesBy IsApart (c.left ++ (c.page ∷ c.right))
+    whole_rises = subst (RisesBy IsApart) c.whole rising
 
-    pub up_to : (a : List ℕ) → Has (addresses_of (left ++ v ∷ [])) a → IsUpTo file meta start v.address a
-    up_to a h =
-        let r = map_has (λ (w : Visit). w.address) (left ++ v ∷ []) a h in
-        let here : Has (pages_at file meta start) r.0 = subst (λ (vs : List Visit). Has vs r.0) (sym shorter) (has_left (left ++ v ∷ []) right r.0 r.1) in (
-          subst (IsAddress file meta start) r.2 (visit_address start r.0 is here),
-          elim (has_split left (v ∷ []) r.0 r.1) [
-            | inl l ↦ inr (subst (λ (b : List ℕ). Before b v.address) r.2 (rises_across IsApart left (v ∷ []) left_rises r.0 v l (inl refl)).addresses)
-            | inr q ↦ elim q [ inl e ↦ inl (sym r.2 ∙ sym (ap (λ (w : Visit). w.address) e)) | inr x ↦ absurd x ]
-          ],
-        )
+    left_apart : (u : Visit) → Has c.left u → IsApart u c.page
+    left_apart u h = rises_across IsApart c.left (c.page ∷ c.right) whole_rises u c.page h (inl refl)
 
-    pub from_up_to : (a : List ℕ) → IsUpTo file meta start v.address a → Has (addresses_of (left ++ v ∷ [])) a
-    from_up_to a u =
-        let h = address_visited start a is u.0 in
-        let r = map_has (λ (w : Visit). w.address) (pages_at file meta start) a h in
-        let k : Has ((left ++ v ∷ []) ++ right) r.0 = subst (λ (vs : List Visit). Has vs r.0) shorter r.1 in
-        elim (has_split (left ++ v ∷ []) right r.0 k) [
-          | inl l ↦ subst (Has (addresses_of (left ++ v ∷ []))) r.2 (has_map (λ (w : Visit). w.address) (left ++ v ∷ []) r.0 l)
-          | inr q ↦ (
-              let after : Before v.address a = subst (Before v.address) r.2 (rises_across IsApart (left ++ v ∷ []) right cut_rises v r.0 (has_right left (v ∷ []) v (inl refl)) q).addresses in
-              absurd (elim u.1 as (λ _. ⊥) [ inl e ↦ before_irreflexive v.address (subst (Before v.address) e after) | inr b ↦ before_strict v.address a after b ]))
-        ]
+    right_apart : (u : Visit) → Has c.right u → IsApart c.page u
+    right_apart u h = (rises_right IsApart c.left (c.page ∷ c.right) whole_rises).0 u h
 
-    pub upto_count : (n : ℕ) → HasCount (IsUpTo file meta start v.address) n → n ≡ suc (length left)
-    upto_count n count =
-        let one = count_is (IsUpTo file meta start v.address) (addresses_of (left ++ v ∷ [])) n members_rise up_to from_up_to count in
-        one ∙ (length-map (left ++ v ∷ []) (λ (w : Visit). w.address) ∙ (length-append left (v ∷ []) ∙ omega arith))
+    sides : (u : Visit) → Has (pages_in b) u → (Has c.left u × IsApart u c.page) ⊎ ((c.page ≡ u) ⊎ (Has c.right u × IsApart c.page u))
+    sides u h = elim (has_split c.left (c.page ∷ c.right) u (subst (λ (vs : List Visit). Has vs u) c.whole h)) [
+      | inl l ↦ inl (l, left_apart u l)
+      | inr q ↦ elim q [ inl e ↦ inr (inl e) | inr r ↦ inr (inr (r, right_apart u r)) ]
+    ]
 
-    -- the home of an entry is one address
-    pub home_is : (e : LeafElement) (home : List ℕ) → Has v.entries e → IsHome file meta start e home → home ≡ v.address
+    -- the home of its entries
+    pub its_home : (e : LeafElement) → Has c.page.entries e → IsHome b.file b.meta b.start e c.page.address
+    its_home e h =
+        let here : Has (pages_in b) c.page = subst (λ (vs : List Visit). Has vs c.page) (sym c.whole) (has_right c.left (c.page ∷ c.right) c.page (inl refl)) in
+        (visit_is b.file b.meta s.trees b.start c.page s.start here).home e h
+
+    home_is : (e : LeafElement) (home : List ℕ) → Has c.page.entries e → IsHome b.file b.meta b.start e home → home ≡ c.page.address
     home_is e home h at =
-        let other = home_visited file meta trees start home e is at in
-        let w : Visit = record { address = home; entries = other.0 } in
-        let k : Has (left ++ (v ∷ right)) w = subst (λ (vs : List Visit). Has vs w) cut other.1 in
-        let rising : RisesBy IsApart (left ++ (v ∷ right)) = subst (RisesBy IsApart) cut (start_rises file meta trees start is) in
-        elim (has_split left (v ∷ right) w k) [
-          | inl l ↦ (let less = (rises_across IsApart left (v ∷ right) rising w v l (inl refl)).keys e e other.2 h in absurd (lt_strict e.key e.key less less))
+        let other = home_visited b.file b.meta s.trees b.start home e s.start at in
+        elim (sides (record { address = home; entries = other.0 }) other.1) [
+          | inl l ↦ (let less = l.1.keys e e other.2 h in absurd (lt_strict e.key e.key less less))
           | inr q ↦ elim q [
-            | inl s ↦ sym (ap (λ (y : Visit). y.address) s)
-            | inr t ↦ (
-                let less = (rises_across IsApart (left ++ v ∷ []) right cut_rises v w (has_right left (v ∷ []) v (inl refl)) t).keys e e h other.2 in
-                absurd (lt_strict e.key e.key less less))
+            | inl same ↦ sym (ap address_of same)
+            | inr r ↦ (let less = r.1.keys e e h other.2 in absurd (lt_strict e.key e.key less less))
           ]
         ]
 
-    pub upto_is : (e : LeafElement) (n : ℕ) → Has v.entries e → IsPagesUpTo file meta start (Some e) n → n ≡ suc (length left)
-    upto_is e n h up =
-        let same = home_is e up.0 h up.1 in
-        upto_count n (subst (λ (a : List ℕ). HasCount (IsUpTo file meta start a) n) same up.2)
+    -- the pages up to it
+    up_to : (u : Visit) → Has (c.left ++ c.page ∷ []) u → (u.address ≡ c.page.address) ⊎ Before u.address c.page.address
+    up_to u h = elim (has_split c.left (c.page ∷ []) u h) [
+      | inl l ↦ inr (left_apart u l).addresses
+      | inr q ↦ elim q [ inl e ↦ inl (sym (ap address_of e)) | inr x ↦ absurd x ]
+    ]
+
+    up_to_exact : IsExactly (IsUpTo b.file b.meta b.start c.page.address) (suc (length c.left))
+    up_to_exact = part_exact (IsUpTo b.file b.meta b.start c.page.address) [] (c.left ++ c.page ∷ []) c.right (suc (length c.left))
+        (c.whole ∙ sym (append_assoc c.left (c.page ∷ []) c.right)) (length-append c.left (c.page ∷ []) ∙ omega arith) (λ a i. i.0)
+        (λ u h k. (at_address u h, up_to u k))
+        (λ u h i. elim (sides u h) [
+          | inl l ↦ has_left c.left (c.page ∷ []) u l.0
+          | inr q ↦ elim q [ inl e ↦ has_right c.left (c.page ∷ []) u (inl e) | inr r ↦ absurd (not_both u.address c.page.address r.1.addresses i.1) ]
+        ])
+
+    pub upto_exists : (e : LeafElement) → Has c.page.entries e → (n : ℕ) × IsPagesUpTo b.file b.meta b.start (Some e) n
+    upto_exists e h = (suc (length c.left), (c.page.address, its_home e h, exact_count up_to_exact))
+
+    pub upto_is : (e : LeafElement) (n : ℕ) → Has c.page.entries e → IsPagesUpTo b.file b.meta b.start (Some e) n → n ≡ suc (length c.left)
+    upto_is e n h up = exact_is up_to_exact (subst (λ (a : List ℕ). HasCount (IsUpTo b.file b.meta b.start a) n) (home_is e up.0 h up.1) up.2)
+
+    -- those after it
+    from_after : (u : Visit) → Has (pages_in b) u → Before c.page.address u.address → Has c.right u
+    from_after u h after = elim (sides u h) [
+      | inl l ↦ absurd (before_strict c.page.address u.address after l.1.addresses)
+      | inr q ↦ elim q [ inl e ↦ absurd (before_irreflexive c.page.address (subst (Before c.page.address) (sym (ap address_of e)) after)) | inr r ↦ r.0 ]
+    ]
+
+    pub after_exact : IsExactly (IsAfter b.file b.meta b.start c.page.address) (length c.right)
+    after_exact = part_exact (IsAfter b.file b.meta b.start c.page.address) (c.left ++ c.page ∷ []) c.right [] (length c.right)
+        (c.whole ∙ (ap (λ (vs : List Visit). c.left ++ c.page ∷ vs) (sym (append-nil c.right)) ∙ sym (append_assoc c.left (c.page ∷ []) (c.right ++ [])))) refl (λ a i. i.0)
+        (λ u h k. (at_address u h, (right_apart u k).addresses)) (λ u h i. from_after u h i.1)
+
+  -- the page that comes first
+  pub apart : (c d : Cut (pages_in b)) → length c.left < length d.left → IsApart c.page d.page
+  apart c d lt = left_apart d c.page (first_cut c.left c.right d.left d.right c.page d.page (sym c.whole ∙ d.whole) lt)
+
+  pub entry_at : (e : LeafElement) → IsEntry b.file b.meta b.start e → IsAt b e
+  entry_at e entry =
+      let r = flat_has (λ (v : Visit). v.entries) (pages_in b) e (entry_visited b.file b.meta s.trees b.start e s.start entry) in
+      let c = has_cut (pages_in b) r.0 r.1 in
+      record { cut = record { left = c.0; page = r.0; right = c.1; whole = c.2 }; has = r.2 }
+
+  -- the pages after one, up to that of an entry: none, if that doesn't come later
+  between_exact : (c d : Cut (pages_in b)) (e : LeafElement) → Has d.page.entries e → length d.right ≤ length c.right
+      → IsExactly (IsSeekPage b.file b.meta b.start c.page.address (Some e)) (length c.right - length d.right)
+  between_exact c d e h le =
+      let (part, rest, upto) = two_cuts c.left c.right d.left d.right c.page d.page (sym c.whole ∙ d.whole) le in
+      let size = ap length rest ∙ length-append part d.right in
+      part_exact (IsSeekPage b.file b.meta b.start c.page.address (Some e)) (c.left ++ c.page ∷ []) part d.right (length c.right - length d.right)
+      (c.whole ∙ (ap (λ (vs : List Visit). c.left ++ c.page ∷ vs) rest ∙ sym (append_assoc c.left (c.page ∷ []) (part ++ d.right)))) (omega (arith, size)) (λ a page. page.0.0)
+      (λ u k p. (
+        (at_address u k, (right_apart c u (subst (λ (vs : List Visit). Has vs u) (sym rest) (has_left part d.right u p))).addresses),
+        (d.page.address, its_home d e h, up_to d u (subst (λ (vs : List Visit). Has vs u) upto (has_right c.left (c.page ∷ part) u (inr p)))),
+      ))
+      (λ u k page. elim (has_split part d.right u (subst (λ (vs : List Visit). Has vs u) rest (from_after c u k page.0.1))) [
+        | inl l ↦ l
+        | inr r ↦ absurd (not_both u.address d.page.address (right_apart d u r).addresses
+            (subst (λ (home : List ℕ). (u.address ≡ home) ⊎ Before u.address home) (home_is d e page.1.0 h page.1.1) page.1.2))
+      ])
+
+  pub seek_exact : (c : Cut (pages_in b)) (e : LeafElement) (at : IsAt b e) → IsExactly (IsSeekPage b.file b.meta b.start c.page.address (Some e)) (length c.right - length at.cut.right)
+  seek_exact c e at = elim (cases_lt (length c.right) (length at.cut.right)) [
+    | inr le ↦ between_exact c at.cut e at.has le
+    | inl lt ↦ (
+        let first : Before at.cut.page.address c.page.address = (apart at.cut c (omega (arith, lt, sym (cut_size c) ∙ cut_size at.cut))).addresses in
+        record {
+          members = [];
+          rises = tt;
+          sound = λ a h. absurd h;
+          complete = λ a page. absurd (not_both a at.cut.page.address (before_trans at.cut.page.address c.page.address a first page.0.1)
+              (subst (λ (home : List ℕ). (a ≡ home) ⊎ Before a home) (home_is at.cut e page.1.0 at.has page.1.1) page.1.2));
+          number = omega (arith, lt);
+        })
+  ]

@@ -1,9 +1,6 @@
 -- What a cursor's move says of the entry that it comes to.
 use Rattle.std.proofs.Common.{◌≡◌, ◌∙◌, ◌≤◌, Bool, true, false, ℕ, zero, suc, List, [], ◌∷◌, length, Option, Some, None, cond, nat_lt, slice_get, refl, sym, ap, arith}
-use Rattle.std.proofs.lemmas.Bool.Decides.{nat_tests}
-use Rattle.bolt_format.specs.Elements.{LeafElement}
-use Rattle.bolt_check.specs.Keys.{Key}
-use Rattle.bolt_tree.specs.Places.{Move, On, Past, Place, first_move, least_from, next_move, nothing_at, onto, place_in, seek_move}
+use Rattle.bolt_tree.proofs.Words.{Key, LeafElement, Move, On, Past, Place, first_move, least_from, nat_tests, next_move, nothing_at, onto, place_in, seek_move}
 
 pub none_past : (entries : List LeafElement) (i : ℕ) → None ≡ slice_get entries i → length entries ≤ i
 none_past [] i e = omega arith
@@ -18,7 +15,7 @@ abbrev pub ComesTo : List LeafElement → ℕ → Place → Option LeafElement �
 ComesTo entries n place None = length entries ≤ n
 ComesTo entries n place (Some g) = (place ≡ On n) × (slice_get entries n ≡ Some g)
 
-by_length : (entries : List LeafElement) (n : ℕ) (stay place : Place) (o : Option LeafElement) (b : Bool) → nat_lt n (length entries) ≡ b
+pub by_length : (entries : List LeafElement) (n : ℕ) (stay place : Place) (o : Option LeafElement) (b : Bool) → nat_lt n (length entries) ≡ b
     → place ≡ (cond b (onto entries n) (nothing_at stay)).place → o ≡ (cond b (onto entries n) (nothing_at stay)).answer → ComesTo entries n place o
 by_length entries n stay place None true t p a = none_past entries n a
 by_length entries n stay place None false t p a = not_below n (length entries) t

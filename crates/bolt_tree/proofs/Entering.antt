@@ -1,24 +1,10 @@
 -- A bucket is entered, in what is known of open buckets: only that it is so.
 use Rattle.std.proofs.Common.{◌≡◌, ◌∙◌, IsTrue, false, List, [], ◌∷◌, ◌++◌, Option, Some, None, refl, sym, subst}
-use Rattle.std.proofs.Math.Logic.{∥∥₁_elim, ∥∥₁_map, ∥∥₁_prop}
-use Rattle.std.proofs.Props.{props}
-use Rattle.std.proofs.lemmas.List.{drop_all}
-use Rattle.bolt_format.specs.Elements.{LeafElement}
-use Rattle.bolt_check.specs.declared.checked_file.Checked.{Checked}
-use Rattle.bolt_tree.specs.Buckets.{bucket_checked, bucket_start}
-use Rattle.bolt_tree.specs.BucketViews.{entries_of}
-use Rattle.bolt_tree.specs.FileListings.{root_start}
-use Rattle.bolt_tree.specs.Starts.{HasStart}
-use Rattle.bolt_check.specs.CheckedFiles.{bytes_of, meta_of}
+use Rattle.bolt_tree.proofs.Words.{AreEntries, AreOpen, Bucket, Checked, CursorView, HasEntries, HasStart, IsInside, LeafElement, Lists, Member, Moves, Names}
+use Rattle.bolt_tree.proofs.Words.{Path, Start, beyond, bucket_checked, bucket_start, bytes_of, drop_all, entries_of, item_of, meta_of, place_in, props}
+use Rattle.bolt_tree.proofs.Words.{rest_after, rest_from, root_start, start_of, ∥∥₁_elim, ∥∥₁_map, ∥∥₁_prop}
 use Rattle.bolt_tree.proofs.BucketWays.{root_starts, starts_named}
-use Rattle.bolt_tree.specs.Entries.{AreEntries, Start, item_of, start_of}
-use Rattle.bolt_tree.specs.Listing.{Lists, Member, rest_from}
-use Rattle.bolt_tree.specs.Paths.{HasEntries, Names, Path}
-use Rattle.bolt_tree.specs.Places.{Moves, place_in}
-use Rattle.bolt_tree.specs.Private.Kept.{CursorView}
-use Rattle.bolt_tree.specs.Private.OpenBuckets.{AreOpen, IsInside, StandsOn}
-use Rattle.bolt_tree.specs.RestAfter.{rest_after, beyond}
-use Rattle.bolt_tree.specs.declared.bucket.Bucket.{Bucket}
+use Rattle.bolt_tree.specs.Private.OpenBuckets.{StandsOn}
 use Rattle.bolt_tree.proofs.CursorMoves.{ComesTo, FirstMove, by_first}
 use Rattle.bolt_tree.proofs.EntryOrder.{contains_at}
 use Rattle.bolt_tree.proofs.Giving.{give_first, give_itself, give_none, give_past_value}

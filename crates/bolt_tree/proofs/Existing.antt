@@ -1,16 +1,8 @@
 -- A file with sound trees has a listing, which is that of its tree.
 -- Rests on the tree of the root bucket (Nesting) and on what trees list (TreeListing).
 use Rattle.std.proofs.Common.{◌≡◌, ◌∙◌, ◌<◌, ap, ℕ, List, Some, sym}
-use Rattle.bolt_format.specs.declared.meta.Meta.{Meta}
-use Rattle.bolt_format.proofs.PageFacts.{below_mark}
-use Rattle.bolt_check.specs.Nodes.{node_at}
-use Rattle.bolt_check.specs.Sound.{HasSoundTrees}
-use Rattle.bolt_check.specs.Ways.{At_page, PageSpot, reached}
-use Rattle.bolt_check.proofs.CheckedLemmas.{good_page}
-use Rattle.bolt_tree.specs.Entries.{IsEntry, Root_page}
-use Rattle.bolt_tree.specs.FileTrees.{file_tree}
-use Rattle.bolt_tree.specs.Listing.{IsListing, Member}
-use Rattle.bolt_tree.specs.Tree.{IsTreeOf, Tree, listing_of, tree_of}
+use Rattle.bolt_tree.proofs.Words.{At_page, HasSoundTrees, IsEntry, IsListing, IsTreeOf, Member, Meta, PageSpot, Root_page, Tree, below_mark, file_tree}
+use Rattle.bolt_tree.proofs.Words.{good_page, listing_of, node_at, reached, tree_of}
 use Rattle.bolt_tree.proofs.Nesting.{root_tree}
 use Rattle.bolt_tree.proofs.ReadBack.{tree_back}
 use Rattle.bolt_tree.proofs.Single.{lists_once}

@@ -1,14 +1,9 @@
 -- What a filter keeps of a list: all, nothing, as much as another; and of a rising list first the least that it keeps.
-use Rattle.std.proofs.Common.{◌≡◌, ◌∙◌, ◌⊎◌, ◌≤◌, ◌<◌, inl, inr, Bool, true, false, List, [], ◌∷◌, length, cond, filter, refl, sym, ap, subst, arith}
-use Rattle.std.specs.List.{Contains}
-use Rattle.std.specs.Cmp.{IsTotalOrder}
-use Rattle.std.specs.Ordering.{is_lt}
-use Rattle.std.specs.declared.cmp.Ordering.{Ordering}
-use Rattle.std.specs.declared.cmp.Ordering.TheVariants.{Less, Greater}
-use Rattle.std.proofs.lemmas.Cmp.{tied_itself}
-use Rattle.bolt_tree.specs.Order.{Rises}
+use Rattle.std.proofs.Common.{◌≡◌, ◌∙◌, ◌⊎◌, ◌<◌, inl, inr, Bool, true, false, List, [], ◌∷◌, length, cond, filter, refl, sym, ap, subst, arith, not}
+use Rattle.bolt_tree.proofs.Words.{Contains, Greater, IsTotalOrder, Less, Ordering, Rises, false_from_ne_true, is_lt, tied_itself}
 use Rattle.bolt_tree.proofs.Lists.{contains_cases, contains_head, contains_none, contains_tail}
 use Rattle.bolt_tree.proofs.PathOrder.{flip_less}
+use Rattle.std.proofs.lemmas.List.Filters.{length-filter_both}
 
 pub filter_same : {A : Type 0} (f g : A → Bool) (xs : List A) → ((x : A) → Contains xs x → f x ≡ g x) → filter f xs ≡ filter g xs
 filter_same f g [] same = refl
@@ -26,8 +21,7 @@ filter_all f [] all = refl
 filter_all f (x ∷ xs) all = rw (all x (contains_head x xs)) (ap (λ ys. x ∷ ys) (filter_all f xs (λ y h. all y (contains_tail x y xs h))))
 
 pub not_true : (a : Bool) → (a ≡ true → ⊥) → a ≡ false
-not_true true h = absurd (h refl)
-not_true false h = refl
+not_true a h = false_from_ne_true a h
 
 pub lt_of : (o : Ordering) → o ≡ Less → is_lt o ≡ true
 lt_of o e = rw e refl
@@ -60,32 +54,16 @@ module _ {A : Type 0} {cmp : A → A → Ordering} (o : IsTotalOrder cmp) (f : A
       at y ys r kept first (λ g. filter_first ys r.1 g kept (λ x k. first x (contains_tail y x ys k))) (contains_cases y m ys h)
 
 -- what passes is kept, and where one doesn't pass, fewer are left
-kept_by : {A : Type 0} (p : A → Bool) (x : A) (xs : List A) (b : Bool) → p x ≡ b → (y : A) → (x ≡ y) ⊎ Contains (filter p xs) y → p y ≡ true → Contains (cond b (x ∷ filter p xs) (filter p xs)) y
-kept_by p x xs true e y (inl s) h = subst (λ z. Contains (x ∷ filter p xs) z) s (contains_head x (filter p xs))
-kept_by p x xs true e y (inr g) h = contains_tail x y (filter p xs) g
-kept_by p x xs false e y (inl s) h = absurd (let f = ap p s in cc)
-kept_by p x xs false e y (inr g) h = g
-
 pub kept : {A : Type 0} (p : A → Bool) (xs : List A) (y : A) → Contains xs y → p y ≡ true → Contains (filter p xs) y
 kept p [] y h e = absurd (contains_none y h)
-kept p (x ∷ xs) y h e =
-    kept_by p x xs (p x) refl y (elim (contains_cases x y xs h) [ inl s ↦ inl s | inr g ↦ inr (kept p xs y g e) ]) e
-
-still_short : {A : Type 0} (x : A) (xs ys : List A) (b : Bool) → length ys ≤ length xs → length (cond b (x ∷ ys) ys) ≤ length (x ∷ xs)
-still_short x xs ys true h = omega (arith, h)
-still_short x xs ys false h = omega (arith, h)
-
-filter_short : {A : Type 0} (p : A → Bool) (xs : List A) → length (filter p xs) ≤ length xs
-filter_short p [] = omega arith
-filter_short p (x ∷ xs) = still_short x xs (filter p xs) (p x) (filter_short p xs)
-
-one_less : {A : Type 0} (p : A → Bool) (x y : A) (xs : List A) (b : Bool) → p x ≡ b → p y ≡ false → (x ≡ y) ⊎ (length (filter p xs) < length xs)
-    → length (cond b (x ∷ filter p xs) (filter p xs)) < length (x ∷ xs)
-one_less p x y xs true e out (inl s) = absurd (let f = ap p s in cc)
-one_less p x y xs true e out (inr h) = omega (arith, h)
-one_less p x y xs false e out h = let k = filter_short p xs in omega (arith, k)
+kept p (x ∷ xs) y h e = elim (contains_cases x y xs h) [
+  | inl s ↦ rw (ap p s ∙ e) (subst (λ z. Contains (x ∷ filter p xs) z) s (contains_head x (filter p xs)))
+  | inr g ↦ later x (filter p xs) y (p x) (kept p xs y g e)
+]
+  where
+    later : {A : Type 0} (x : A) (ys : List A) (y : A) (b : Bool) → Contains ys y → Contains (cond b (x ∷ ys) ys) y
+    later x ys y true h = contains_tail x y ys h
+    later x ys y false h = h
 
 pub filter_less : {A : Type 0} (p : A → Bool) (xs : List A) (y : A) → Contains xs y → p y ≡ false → length (filter p xs) < length xs
-filter_less p [] y h out = absurd (contains_none y h)
-filter_less p (x ∷ xs) y h out =
-    one_less p x y xs (p x) refl out (elim (contains_cases x y xs h) [ inl s ↦ inl s | inr g ↦ inr (filter_less p xs y g out) ])
+filter_less p xs y h out = omega (arith, length-filter_both p (λ x. not (p x)) (λ x. refl) xs, (kept (λ x. not (p x)) xs y h (ap not out)).1)

@@ -1,24 +1,15 @@
 -- Which member of a listing comes next if a bucket is entered, if its cursor moves on, or if it has ended.
 -- Rests on the order of paths, and on what a named bucket holds (Named).
 use Rattle.std.proofs.Common.{◌≡◌, ◌∙◌, ◌⊎◌, ◌≤◌, inl, inr, Bool, true, false, not, ℕ, suc, List, [], ◌∷◌, ◌++◌, length, filter, Some, slice_get, refl, sym, ap, subst, append-nil}
-use Rattle.std.specs.Ordering.{is_lt, ordering_then}
-use Rattle.std.specs.declared.cmp.Ordering.{Ordering}
-use Rattle.std.specs.declared.cmp.Ordering.TheVariants.{Less, Equal, Greater}
-use Rattle.std.specs.Cmp.{both_ways}
-use Rattle.std.proofs.lemmas.Bool.{false_from_ne_true}
-use Rattle.bolt_format.specs.Elements.{LeafElement}
-use Rattle.bolt_check.specs.Keys.{Key, key_cmp}
-use Rattle.bolt_tree.specs.Entries.{AreEntries, Item, Start, item_of}
-use Rattle.bolt_tree.specs.Listing.{Lists, Member, rest_from}
-use Rattle.bolt_tree.specs.Paths.{HasEntries, Holds, Names, Path, path_cmp}
-use Rattle.bolt_tree.specs.RestAfter.{is_beyond, rest_after, beyond}
+use Rattle.bolt_tree.proofs.Words.{AreEntries, Equal, Greater, HasEntries, Holds, Item, Key, LeafElement, Less, Lists, Member, Names, Ordering, Path, Start}
+use Rattle.bolt_tree.proofs.Words.{append_cancel_left, beyond, both_ways, false_from_ne_true, is_beyond, is_lt, item_of, key_cmp, less_of, ordering_then}
+use Rattle.bolt_tree.proofs.Words.{path_cmp, rest_after, rest_from}
 use Rattle.bolt_tree.proofs.EntryOrder.{contains_at, first_least, last_greatest, next_least, next_less}
 use Rattle.bolt_tree.proofs.Filters.{filter_first, filter_same, lt_of}
 use Rattle.bolt_tree.proofs.Lists.{contains_none, irreflexive}
 use Rattle.bolt_tree.proofs.Named.{first_of_held, held_below, held_down, held_here}
 use Rattle.bolt_tree.proofs.PathOrder.{before_longer, beyond_here, beyond_less, beyond_longer, beyond_or_longer, beyond_push, beyond_up, flip_less, path_same, path_total, same_front}
 use Rattle.bolt_tree.proofs.Single.{member_total}
-use Rattle.bolt_check.proofs.KeyLaws.{less_of}
 
 -- a path is not rest_after another with a part in the same place that is not rest_after its own
 greater_part : (o r : Ordering) → is_lt o ≡ false → (o ≡ Equal → is_lt r ≡ false) → is_lt (ordering_then o r) ≡ false
@@ -40,8 +31,7 @@ never_beyond : (p s : Path) → is_beyond p (p ++ s) ≡ true → ⊥
 never_beyond p s h = irreflexive path_total (p ++ s) (beyond_less p s (p ++ s) h)
 
 first_part : (p : Path) (a b : Key) (r s : Path) → p ++ a ∷ r ≡ p ++ b ∷ s → a ≡ b
-first_part [] a b r s e = cc
-first_part (x ∷ p) a b r s e = first_part p a b r s (let t : x ∷ (p ++ a ∷ r) ≡ x ∷ (p ++ b ∷ s) = e in cc)
+first_part p a b r s e = let rest = append_cancel_left p (a ∷ r) (b ∷ s) e in cc
 
 module _ (Entry : Start → LeafElement → Type 0) (from : Start) (all : HasEntries Entry from) (listing : List Member) (lists : Lists Entry from listing)
     (path : Path) (bucket : Start) (names : Names Entry from path bucket) where
@@ -98,10 +88,7 @@ module _ (Entry : Start → LeafElement → Type 0) (from : Start) (all : HasEnt
       let on : Path = path ++ e.key ∷ [] in
       let less : key_cmp e.key g.key ≡ Less = next_less entries i e g are.rises at next in
       give (is_beyond on) g ((are.exact g).0 (contains_at entries (suc i) g next)) (λ q t h k. beyond_up on q t h k) (beyond_here path e.key g.key [] [] less)
-      (λ q h. elim (beyond_push path e.key q h) [
-        | inl far ↦ inl far
-        | inr (z, r, longer, behind_e) ↦ inr (z, r, longer)
-      ])
+      (λ q h. elim (beyond_push path e.key q h) [ inl far ↦ inl far | inr (z, r, longer, behind_e) ↦ inr (z, r, longer) ])
       (λ z r f h is key. elim (beyond_push path e.key (path ++ z ∷ r) h) [
         | inl far ↦ absurd (never_beyond path (z ∷ r) far)
         | inr (y, t, longer, behind_e) ↦ let same : z ≡ y = first_part path z y r t longer in

@@ -1,26 +1,13 @@
 -- What a cursor keeps, and its moves by those of its trail.
-use Rattle.std.proofs.Common.{◌≡◌, ◌∙◌, ℕ, ◌-◌, ◌≤◌, Bool, true, false, List, [], ◌∷◌, Option, Some, None, length, drop, ap, refl, sym, subst}
-use Rattle.std.specs.Option.{is_none, option_map}
-use Rattle.std.proofs.Math.Logic.{∥∥₁_elim, ∥∥₁_map}
-use Rattle.std.proofs.Props.{props}
-use Rattle.bolt_format.specs.ElementPlaces.{leaf_view}
-use Rattle.bolt_format.specs.Elements.{LeafElement}
-use Rattle.bolt_format.specs.declared.element.Leaf.{Leaf}
-use Rattle.bolt_check.specs.Keys.{Key}
-use Rattle.bolt_tree.specs.BucketViews.{BucketView}
-use Rattle.bolt_tree.specs.Private.BucketPages.{IsSoundBucket, contents_in, elements_in, pages_in}
-use Rattle.bolt_tree.specs.Private.Contents.{Content, Contents, Of_branch, Of_leaf}
-use Rattle.bolt_tree.specs.CursorBounds.{OpensByNext, OpensGap}
-use Rattle.bolt_tree.specs.Private.Entered.{opened_to}
-use Rattle.bolt_tree.specs.Entries.{EntryView, IsEntry, Start, entry_view}
-use Rattle.bolt_tree.specs.Private.Held.{IsHeld, place_by, place_on}
-use Rattle.bolt_check.specs.Counts.{counted}
-use Rattle.bolt_tree.specs.Places.{Move, Moves, Place, ShowsMove, first_move, last_move, least_from, next_move, place_in, prev_move, seek_move}
-use Rattle.bolt_tree.specs.Private.Stacks.{Frame, HasStack, IsAtRest, RestsOn, ahead_of, preceding_of, right_of}
-use Rattle.bolt_tree.specs.Private.Trails.{HasBucket, HasTrail, trail_bucket, trail_frames, Finds, FindsBack}
-use Rattle.bolt_tree.specs.declared.trail.Trail.{Trail}
+use Rattle.std.proofs.Common.{◌≡◌, ◌∙◌, ℕ, ◌-◌, ◌≤◌, Bool, true, false, List, [], ◌∷◌, Option, None, length, drop, ap, refl, sym, subst}
+use Rattle.bolt_tree.proofs.Words.{BucketView, Content, Contents, EntryView, Finds, FindsBack, Frame, HasBucket, HasStack, HasTrail, IsAtRest, IsEntry, IsHeld}
+use Rattle.bolt_tree.proofs.Words.{IsSameBucket, Key, Leaf, LeafElement, Move, Moves, Of_branch, Of_leaf, OpensByNext, OpensGap, Place, RestsOn, ShowsMove}
+use Rattle.bolt_tree.proofs.Words.{Start, Trail, ahead, contents_in, counted, elements_in, entry_view, first_move, is_none, last_move, leaf_view, least_from}
+use Rattle.bolt_tree.proofs.Words.{next_move, opened_to, option_map, pages_in, place_by, place_in, place_on, preceding, prev_move, props, right, seek_move}
+use Rattle.bolt_tree.proofs.Words.{trail_bucket, trail_frames, ∥∥₁_elim, ∥∥₁_map}
 use Rattle.bolt_tree.proofs.OpeningMoves.{first_opens, next_opens}
 use Rattle.bolt_tree.proofs.PlaceMoves.{Comes, first_moves, last_moves, next_moves, prev_moves, seek_moves, stack_bucket, the_entries}
+use Rattle.bolt_tree.proofs.TrailLemmas.{same_bucket}
 
 rest_on_prop : (content : Content) (taken : ℕ) → IsProp (RestsOn content taken)
 rest_on_prop (Of_leaf elements) taken = Prim.hlevel props
@@ -52,11 +39,6 @@ pub not_past : (trail : Trail) (is_past : Bool) → ∥ IsHeld trail is_past ∥
 not_past trail false held h = refl
 not_past trail true held h = absurd (h (∥∥₁_elim held (Prim.hlevel props) (λ k. k.empty refl)))
 
--- a seek that finds nothing leaves an empty stack
-pub sought_empty : (found : Option Leaf) (before after : List LeafElement) (frames : List Frame) → Finds found before after frames [] → is_none found ≡ true → frames ≡ []
-sought_empty None before after frames h none = h.1
-sought_empty (Some leaf) before after frames h none = absurd (cc)
-
 -- what a call returns is shown as the move says
 pub shows_by : (Entry : Start → LeafElement → Type 0) (bucket : Start) (move : List LeafElement → Place → Move) (old new : Place) (answer : Option LeafElement) (shown : Option EntryView)
     → shown ≡ option_map entry_view answer → Moves Entry bucket move old new answer → ShowsMove Entry bucket move old new shown
@@ -72,90 +54,76 @@ prev_last contents is_past [] = refl
 prev_last contents true (e ∷ entries) = refl
 prev_last contents false (e ∷ entries) = refl
 
--- The moves of a trail within one bucket, which is still the same after them, as moves of a cursor over the bucket's entries.
-module _ (bucket other : BucketView) (same : other ≡ bucket) (is : ∥ IsSoundBucket bucket ∥₁) (found : Option Leaf) (new : List Frame) (stack : HasStack other new) where
-  abbrev MovesTo : (List LeafElement → Place → Move) → Place → Place → Type 0
-  MovesTo move from to = Moves (IsEntry bucket.file bucket.meta) bucket.start move from to (option_map leaf_view found)
+-- The moves of a trail, which stays in its bucket, as moves of a cursor over the bucket's entries.
+module _ (old new : Trail) (same : IsSameBucket old new) (is_past : Bool) (held : ∥ IsHeld old is_past ∥₁) (found : Option Leaf) (stack : HasTrail new) where
+  abbrev elements : List LeafElement
+  elements = elements_in (trail_bucket old)
 
-  there : HasStack bucket new
-  there = subst (λ (b : BucketView). HasStack b new) same stack
+  abbrev MovesTo : (List LeafElement → Place → Move) → Place → Place → Type 0
+  MovesTo move from to = Moves (IsEntry (trail_bucket old).file (trail_bucket old).meta) (trail_bucket old).start move from to (option_map leaf_view found)
+
+  is : HasBucket old
+  is = held_bucket old is_past held
+
+  there : HasStack (trail_bucket old) (trail_frames new)
+  there = subst (λ (b : BucketView). HasStack b (trail_frames new)) (same_bucket old new same) stack
 
   -- what holds of the elements along the tour holds of the entries
-  moves_by : (move : List LeafElement → Place → Move) (from to : Place) → Comes (elements_in bucket) (move (elements_in bucket) (place_in (elements_in bucket) from)) to (option_map leaf_view found)
-      → MovesTo move from to
+  moves_by : (move : List LeafElement → Place → Move) (from to : Place) → Comes elements (move elements (place_in elements from)) to (option_map leaf_view found) → MovesTo move from to
   moves_by move from to comes = λ entries are.
-      subst (λ (es : List LeafElement). Comes es (move es (place_in es from)) to (option_map leaf_view found)) (the_entries bucket entries is are) comes
+      subst (λ (es : List LeafElement). Comes es (move es (place_in es from)) to (option_map leaf_view found)) (the_entries (trail_bucket old) entries is are) comes
 
-  pub moves_first : (from : Place) → Finds found (elements_in bucket) (ahead_of (contents_in other) new) new [] → MovesTo (λ entries place. first_move entries) from (place_on (contents_in other) new)
-  moves_first from = subst (λ (b : BucketView). Finds found (elements_in bucket) (ahead_of (contents_in b) new) new [] → MovesTo (λ entries place. first_move entries) from (place_on (contents_in b) new)) (sym same)
-      (λ h. moves_by (λ entries place. first_move entries) from (place_on (contents_in bucket) new) (first_moves bucket found new there h))
+  pub moves_first : (from : Place) → Finds found elements (ahead new) (trail_frames new) [] → MovesTo (λ entries place. first_move entries) from (place_on (contents_in (trail_bucket new)) (trail_frames new))
+  moves_first from h = rw same.file (moves_by (λ entries place. first_move entries) from (place_on (contents_in (trail_bucket old)) (trail_frames new))
+      (first_moves (trail_bucket old) found (trail_frames new) there (rw same.file at h)))
 
-  pub opens_first : (before after : ℕ) → Finds found (elements_in bucket) (ahead_of (contents_in other) new) new []
-      → after ≡ counted before (length (pages_in bucket) - length (right_of (contents_in other) new)) → OpensGap bucket 0 before after
-  opens_first before after = subst (λ (b : BucketView). Finds found (elements_in bucket) (ahead_of (contents_in b) new) new []
-      → after ≡ counted before (length (pages_in bucket) - length (right_of (contents_in b) new)) → OpensGap bucket 0 before after) (sym same)
-      (λ h opened. first_opens bucket found new before after is there h opened)
+  pub opens_first : (before after : ℕ) → Finds found elements (ahead new) (trail_frames new) [] → after ≡ counted before (length (pages_in (trail_bucket old)) - length (right new)) → OpensGap (trail_bucket old) 0 before after
+  opens_first before after h opened = first_opens (trail_bucket old) found (trail_frames new) before after is there (rw same.file at h) (rw same.file at opened)
 
-  pub moves_last : (from : Place) → FindsBack found (elements_in bucket) (preceding_of (contents_in other) new) new [] → MovesTo (λ entries place. last_move entries) from (place_on (contents_in other) new)
-  moves_last from = subst (λ (b : BucketView). FindsBack found (elements_in bucket) (preceding_of (contents_in b) new) new [] → MovesTo (λ entries place. last_move entries) from (place_on (contents_in b) new)) (sym same)
-      (λ h. moves_by (λ entries place. last_move entries) from (place_on (contents_in bucket) new) (last_moves bucket found new there h))
+  pub moves_last : (from : Place) → FindsBack found elements (preceding new) (trail_frames new) [] → MovesTo (λ entries place. last_move entries) from (place_on (contents_in (trail_bucket new)) (trail_frames new))
+  moves_last from h = rw same.file (moves_by (λ entries place. last_move entries) from (place_on (contents_in (trail_bucket old)) (trail_frames new))
+      (last_moves (trail_bucket old) found (trail_frames new) there (rw same.file at h)))
 
-  pub moves_seek : (key : Key) (from : Place) → Finds found (drop (least_from key (elements_in bucket)) (elements_in bucket)) (ahead_of (contents_in other) new) new []
-      → least_from key (elements_in bucket) ≤ length (elements_in bucket) → MovesTo (λ entries place. seek_move key entries) from (place_by (is_none found) (contents_in other) new)
-  moves_seek key from = subst (λ (b : BucketView). Finds found (drop (least_from key (elements_in bucket)) (elements_in bucket)) (ahead_of (contents_in b) new) new []
-      → least_from key (elements_in bucket) ≤ length (elements_in bucket) → MovesTo (λ entries place. seek_move key entries) from (place_by (is_none found) (contents_in b) new)) (sym same)
-      (λ h number. moves_by (λ entries place. seek_move key entries) from (place_by (is_none found) (contents_in bucket) new) (seek_moves bucket key found new there h number))
+  pub moves_seek : (key : Key) (from : Place) → Finds found (drop (least_from key elements) elements) (ahead new) (trail_frames new) [] → least_from key elements ≤ length elements
+      → MovesTo (λ entries place. seek_move key entries) from (place_by (is_none found) (contents_in (trail_bucket new)) (trail_frames new))
+  moves_seek key from h number = rw same.file (moves_by (λ entries place. seek_move key entries) from (place_by (is_none found) (contents_in (trail_bucket old)) (trail_frames new))
+      (seek_moves (trail_bucket old) key found (trail_frames new) there (rw same.file at h) number))
 
   moves_as : (f g : List LeafElement → Place → Move) (from to : Place) → ((entries : List LeafElement) → f entries (place_in entries from) ≡ g entries (place_in entries from)) → MovesTo f from to → MovesTo g from to
-  moves_as f g from to same moves = λ entries are. let m = moves entries are in (m.0 ∙ ap (λ (t : Move). t.place) (same entries), m.1 ∙ ap (λ (t : Move). t.answer) (same entries))
+  moves_as f g from to alike moves = λ entries are. let m = moves entries are in (m.0 ∙ ap (λ (t : Move). t.place) (alike entries), m.1 ∙ ap (λ (t : Move). t.answer) (alike entries))
 
   -- a move from the empty stack
-  module _ (old : List Frame) (is_past : Bool) (empty : old ≡ []) where
-    pub moves_next_first : is_past ≡ false → Finds found (elements_in bucket) (ahead_of (contents_in other) new) new []
-        → MovesTo next_move (place_by is_past (contents_in bucket) old) (place_by is_past (contents_in other) new)
-    moves_next_first here h = rw (here, empty) (moves_as (λ entries place. first_move entries) next_move (place_by false (contents_in bucket) []) (place_on (contents_in other) new) (next_first (contents_in bucket))
-        (moves_first (place_by false (contents_in bucket) []) h))
+  module _ (empty : trail_frames old ≡ []) where
+    pub moves_next_first : is_past ≡ false → Finds found elements (ahead new) (trail_frames new) []
+        → MovesTo next_move (place_by is_past (contents_in (trail_bucket old)) (trail_frames old)) (place_by is_past (contents_in (trail_bucket new)) (trail_frames new))
+    moves_next_first here h = rw (here, empty) (moves_as (λ entries place. first_move entries) next_move (place_by false (contents_in (trail_bucket old)) []) (place_on (contents_in (trail_bucket new)) (trail_frames new))
+        (next_first (contents_in (trail_bucket old))) (moves_first (place_by false (contents_in (trail_bucket old)) []) h))
 
-    pub opens_next_first : (before after : ℕ) → is_past ≡ false → Finds found (elements_in bucket) (ahead_of (contents_in other) new) new []
-        → after ≡ counted before (length (pages_in bucket) - length (right_of (contents_in other) new)) → OpensByNext bucket (place_by is_past (contents_in bucket) old) before after
+    pub opens_next_first : (before after : ℕ) → is_past ≡ false → Finds found elements (ahead new) (trail_frames new) []
+        → after ≡ counted before (length (pages_in (trail_bucket old)) - length (right new)) → OpensByNext (trail_bucket old) (place_by is_past (contents_in (trail_bucket old)) (trail_frames old)) before after
     opens_next_first before after here h opened = rw (here, empty) (opens_first before after h opened)
 
-    pub moves_prev_last : FindsBack found (elements_in bucket) (preceding_of (contents_in other) new) new [] → MovesTo prev_move (place_by is_past (contents_in bucket) old) (place_on (contents_in other) new)
-    moves_prev_last h = rw empty (moves_as (λ entries place. last_move entries) prev_move (place_by is_past (contents_in bucket) []) (place_on (contents_in other) new) (prev_last (contents_in bucket) is_past)
-        (moves_last (place_by is_past (contents_in bucket) []) h))
+    pub moves_prev_last : FindsBack found elements (preceding new) (trail_frames new) []
+        → MovesTo prev_move (place_by is_past (contents_in (trail_bucket old)) (trail_frames old)) (place_on (contents_in (trail_bucket new)) (trail_frames new))
+    moves_prev_last h = rw empty (moves_as (λ entries place. last_move entries) prev_move (place_by is_past (contents_in (trail_bucket old)) []) (place_on (contents_in (trail_bucket new)) (trail_frames new))
+        (prev_last (contents_in (trail_bucket old)) is_past) (moves_last (place_by is_past (contents_in (trail_bucket old)) []) h))
 
-  pub moves_nowhere : (from to : Place) → found ≡ None → elements_in bucket ≡ [] → MovesTo prev_move from to
+  pub moves_nowhere : (from to : Place) → found ≡ None → elements ≡ [] → MovesTo prev_move from to
   moves_nowhere from to none empty = moves_by prev_move from to (rw (none, empty) (refl, refl))
 
   -- a move from where a stack stands
-  module _ (old : List Frame) (is_past : Bool) (here : is_past ≡ false) (from : HasStack bucket old) (rest : IsAtRest old) (nonempty : old ≡ [] → ⊥) where
-    next_on : (frames : List Frame) → HasStack bucket frames → IsAtRest frames → (frames ≡ [] → ⊥) → Finds found (ahead_of (contents_in bucket) frames) (ahead_of (contents_in bucket) new) new frames
-        → MovesTo next_move (place_on (contents_in bucket) frames) (place_on (contents_in bucket) new)
-    next_on [] s r n h = absurd (n refl)
-    next_on (f ∷ below) s r n h = moves_by next_move (place_on (contents_in bucket) (f ∷ below)) (place_on (contents_in bucket) new) (next_moves bucket found f below new s r there h)
+  module _ (some : trail_frames old ≡ [] → ⊥) where
+    pub moves_next : Finds found (ahead old) (ahead new) (trail_frames new) (trail_frames old)
+        → MovesTo next_move (place_by is_past (contents_in (trail_bucket old)) (trail_frames old)) (place_by is_past (contents_in (trail_bucket new)) (trail_frames new))
+    moves_next h = rw (same.file, not_past old is_past held some) (moves_by next_move (place_on (contents_in (trail_bucket old)) (trail_frames old)) (place_on (contents_in (trail_bucket old)) (trail_frames new))
+        (next_moves (trail_bucket old) found (trail_frames old) (trail_frames new) (held_stack old is_past held) (held_rest old is_past held) some there (rw same.file at h)))
 
-    prev_on : (frames : List Frame) → HasStack bucket frames → IsAtRest frames → (frames ≡ [] → ⊥) → FindsBack found (preceding_of (contents_in bucket) frames) (preceding_of (contents_in bucket) new) new frames
-        → MovesTo prev_move (place_on (contents_in bucket) frames) (place_on (contents_in bucket) new)
-    prev_on [] s r n h = absurd (n refl)
-    prev_on (f ∷ below) s r n h = moves_by prev_move (place_on (contents_in bucket) (f ∷ below)) (place_on (contents_in bucket) new) (prev_moves bucket found f below new s r there h)
+    pub moves_prev : FindsBack found (preceding old) (preceding new) (trail_frames new) (trail_frames old)
+        → MovesTo prev_move (place_by is_past (contents_in (trail_bucket old)) (trail_frames old)) (place_by is_past (contents_in (trail_bucket new)) (trail_frames new))
+    moves_prev h = rw (same.file, not_past old is_past held some) (moves_by prev_move (place_on (contents_in (trail_bucket old)) (trail_frames old)) (place_on (contents_in (trail_bucket old)) (trail_frames new))
+        (prev_moves (trail_bucket old) found (trail_frames old) (trail_frames new) (held_stack old is_past held) (held_rest old is_past held) some there (rw same.file at h)))
 
-    opens_on : (frames : List Frame) (before after : ℕ) → HasStack bucket frames → IsAtRest frames → (frames ≡ [] → ⊥) → Finds found (ahead_of (contents_in bucket) frames) (ahead_of (contents_in bucket) new) new frames
-        → after ≡ counted before (length (right_of (contents_in bucket) frames) - opened_to (option_map leaf_view found) (right_of (contents_in bucket) new))
-        → OpensByNext bucket (place_on (contents_in bucket) frames) before after
-    opens_on [] before after s r n h opened = absurd (n refl)
-    opens_on (f ∷ below) before after s r n h opened = next_opens bucket found f below new before after is s r there h opened
-
-    pub moves_next : Finds found (ahead_of (contents_in bucket) old) (ahead_of (contents_in other) new) new old → MovesTo next_move (place_by is_past (contents_in bucket) old) (place_by is_past (contents_in other) new)
-    moves_next = subst (λ (b : BucketView). Finds found (ahead_of (contents_in bucket) old) (ahead_of (contents_in b) new) new old → MovesTo next_move (place_by is_past (contents_in bucket) old) (place_by is_past (contents_in b) new))
-        (sym same) (λ h. rw here (next_on old from rest nonempty h))
-
-    pub moves_prev : FindsBack found (preceding_of (contents_in bucket) old) (preceding_of (contents_in other) new) new old → MovesTo prev_move (place_by is_past (contents_in bucket) old) (place_by is_past (contents_in other) new)
-    moves_prev = subst (λ (b : BucketView). FindsBack found (preceding_of (contents_in bucket) old) (preceding_of (contents_in b) new) new old → MovesTo prev_move (place_by is_past (contents_in bucket) old) (place_by is_past (contents_in b) new))
-        (sym same) (λ h. rw here (prev_on old from rest nonempty h))
-
-    pub opens_next : (before after : ℕ) → Finds found (ahead_of (contents_in bucket) old) (ahead_of (contents_in other) new) new old
-        → after ≡ counted before (length (right_of (contents_in bucket) old) - opened_to (option_map leaf_view found) (right_of (contents_in other) new))
-        → OpensByNext bucket (place_by is_past (contents_in bucket) old) before after
-    opens_next before after = subst (λ (b : BucketView). Finds found (ahead_of (contents_in bucket) old) (ahead_of (contents_in b) new) new old
-        → after ≡ counted before (length (right_of (contents_in bucket) old) - opened_to (option_map leaf_view found) (right_of (contents_in b) new))
-        → OpensByNext bucket (place_by is_past (contents_in bucket) old) before after) (sym same) (λ h opened. rw here (opens_on old before after from rest nonempty h opened))
+    pub opens_next : (before after : ℕ) → Finds found (ahead old) (ahead new) (trail_frames new) (trail_frames old)
+        → after ≡ counted before (length (right old) - opened_to (option_map leaf_view found) (right new)) → OpensByNext (trail_bucket old) (place_by is_past (contents_in (trail_bucket old)) (trail_frames old)) before after
+    opens_next before after h opened = rw (not_past old is_past held some) (next_opens (trail_bucket old) found (trail_frames old) (trail_frames new) before after is
+        (held_stack old is_past held) (held_rest old is_past held) some there (rw same.file at h) (rw same.file at opened))

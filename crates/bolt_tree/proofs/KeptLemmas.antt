@@ -1,27 +1,12 @@
 -- Cursors that wait, and go on.
-use Rattle.std.proofs.Common.{◌≡◌, ◌∙◌, ◌≤◌, ◌-◌, ℕ, Bool, true, List, [], ◌∷◌, ◌++◌, Option, Some, None, drop, take, length, reverse, refl, sym, ap, subst, arith}
-use Rattle.std.proofs.Math.Logic.{∥∥₁_elim, ∥∥₁_map}
-use Rattle.std.proofs.Math.Seq.{drop-append_seam, take-append_seam, take-length}
-use Rattle.std.proofs.Props.{props}
-use Rattle.std.proofs.lemmas.List.{length-append, length-drop, reverse-append}
-use Rattle.bolt_format.specs.Elements.{LeafElement}
-use Rattle.bolt_check.specs.declared.checked_file.Checked.{Checked}
-use Rattle.bolt_tree.specs.BucketViews.{BucketView, bucket_in, entries_of}
-use Rattle.bolt_tree.specs.Cursors.{cursor_checked, cursor_place, cursor_start}
-use Rattle.bolt_tree.specs.Pagers.{pager_checked}
-use Rattle.bolt_tree.specs.Places.{Move, Moves, Place}
-use Rattle.bolt_tree.specs.Private.CursorViews.{AreOfFile, IsInnermost, MovesLast, cursor_view, innermost_views}
-use Rattle.bolt_tree.specs.Private.Held.{IsHeld}
-use Rattle.bolt_tree.specs.Private.Kept.{AreKept, CursorView, IsKept, kept_view, kept_views}
-use Rattle.bolt_tree.specs.Private.Stacks.{Frame, HasStack, IsAtRest}
-use Rattle.bolt_tree.specs.Private.Trails.{frames_of}
-use Rattle.bolt_tree.specs.Starts.{start_at}
+use Rattle.std.proofs.Common.{◌≡◌, ◌∙◌, ◌≤◌, ◌-◌, ℕ, Bool, List, [], ◌∷◌, ◌++◌, Option, Some, None, drop, take, length, reverse, refl, sym, ap, subst, arith}
+use Rattle.bolt_tree.proofs.Words.{AreKept, AreOfFile, BucketView, Checked, Cursor, CursorView, Frame, HasStack, IsHeld, IsInnermost, IsKept, LeafElement, Move}
+use Rattle.bolt_tree.proofs.Words.{Moves, MovesLast, Place, Position, Trail, bucket_in, cursor_checked, cursor_place, cursor_start, cursor_view}
+use Rattle.bolt_tree.proofs.Words.{drop-append_seam, entries_of, frames_of, innermost_views, kept_view, kept_views, length-append, length-drop, pager_checked}
+use Rattle.bolt_tree.proofs.Words.{props, reverse-append, same_from_push, start_at, take-append_seam, take-length, ∥∥₁_elim, ∥∥₁_map}
 use Rattle.bolt_tree.specs.declared.at.At.{At}
-use Rattle.bolt_tree.specs.declared.cursor.Cursor.{Cursor}
 use Rattle.bolt_tree.specs.declared.open_cursors.WaitingCursor.{WaitingCursor}
-use Rattle.bolt_tree.specs.declared.position.Position.{Position}
-use Rattle.bolt_tree.specs.declared.trail.Trail.{Trail}
-use Rattle.bolt_tree.proofs.OpenSteps.{no_snoc, snoc_front}
+use Rattle.bolt_tree.proofs.OpenSteps.{no_snoc}
 use Rattle.bolt_tree.proofs.StackLemmas.{stack_short}
 use Rattle.bolt_tree.proofs.TrailLemmas.{length-frames}
 
@@ -39,12 +24,7 @@ kept_short checked at is_past positions kept =
 pub resumed : (trail : Trail) (is_past : Bool) (checked : Checked) (positions : List Position) → pager_checked trail.pager ≡ checked → trail.stack.items ≡ positions
     → ∥ IsKept checked trail.at is_past positions ∥₁ → ∥ IsHeld trail is_past ∥₁
 resumed trail is_past checked positions file items kept =
-    ∥∥₁_map kept (λ k. record {
-      stack = subst (λ (c : Checked). HasStack (bucket_in c (start_at trail.at)) (frames_of trail.stack.items)) (sym file)
-          (subst (λ (ps : List Position). HasStack (bucket_in checked (start_at trail.at)) (frames_of ps)) (sym items) k.stack);
-      rest = subst (λ (ps : List Position). IsAtRest (frames_of ps)) (sym items) k.rest;
-      empty = subst (λ (ps : List Position). is_past ≡ true → frames_of ps ≡ []) (sym items) k.empty;
-    })
+    ∥∥₁_map kept (λ k. record { stack = rw (file, items) k.stack; rest = rw items k.rest; empty = rw items k.empty })
 
 -- those of a cursor may be kept
 held_kept : (trail : Trail) (is_past : Bool) (checked : Checked) → pager_checked trail.pager ≡ checked → IsHeld trail is_past → IsKept checked trail.at is_past trail.stack.items
@@ -74,10 +54,7 @@ module _ (checked : Checked) (waiting : List WaitingCursor) (w : WaitingCursor) 
       )
 
   pub one_more_view : kept_views checked (reverse (waiting ++ w ∷ [])) (positions ++ more) ≡ kept_views checked (reverse waiting) positions ++ kept_view checked w.at w.is_past more ∷ []
-  one_more_view =
-      ap (λ (ws : List WaitingCursor). kept_views checked ws (positions ++ more)) last_first
-      ∙ (ap (λ (ps : List Position). kept_views checked (reverse waiting) ps ++ kept_view checked w.at w.is_past (drop w.begin (positions ++ more)) ∷ []) taken
-      ∙ ap (λ (ps : List Position). kept_views checked (reverse waiting) positions ++ kept_view checked w.at w.is_past ps ∷ []) dropped)
+  one_more_view = rw (last_first, taken, dropped) refl
 
 -- a cursor of the file shows what its positions show
 cursor_kept : (checked : Checked) (cursor : Cursor) → cursor_checked cursor ≡ checked → kept_view checked cursor.trail.at cursor.is_past cursor.trail.stack.items ≡ cursor_view cursor
@@ -154,11 +131,6 @@ pub innermost_file : (checked : Checked) (waiting : List WaitingCursor) (positio
 innermost_file checked waiting positions innermost cursor known is =
     ∥∥₁_elim known (hlevel props) (λ k. subst (λ (o : Option Cursor). IsInnermost checked waiting o) is k.1)
 
-pub none_waits : (checked : Checked) (waiting new : List WaitingCursor) (w : WaitingCursor) (positions : List Position) (innermost : Option Cursor) → ∥ AreOfFile checked waiting positions innermost ∥₁
-    → waiting ≡ new ++ w ∷ [] → innermost ≡ None → ⊥
-none_waits checked waiting new w positions innermost known split is =
-    ∥∥₁_elim known (hlevel props) (λ k. no_snoc new w (sym (subst (λ (o : Option Cursor). IsInnermost checked waiting o) is k.1) ∙ split))
-
 -- what a cursor shows that goes on by the last of the positions
 pub goes_on_view : (checked file : Checked) (w : WaitingCursor) (positions slice : List Position) (view : CursorView) → file ≡ checked → slice ≡ positions
     → view ≡ kept_view file w.at w.is_past (take (length slice - w.begin) (drop w.begin slice))
@@ -184,7 +156,7 @@ module _ (checked : Checked) (old new : List WaitingCursor) (w : WaitingCursor) 
   under : (o : Option Cursor) (outer : List CursorView) (last : CursorView) → IsInnermost checked old o → kept_views checked (reverse old) positions ++ innermost_views o ≡ outer ++ last ∷ []
       → kept_views checked (reverse old) positions ≡ outer
   under None outer last none e = absurd (no_snoc new w (sym none ∙ split))
-  under (Some c) outer last f e = snoc_front (kept_views checked (reverse old) positions) outer (cursor_view c) last e
+  under (Some c) outer last f e = (same_from_push (kept_views checked (reverse old) positions) outer (cursor_view c) last e).0
 
   pub views_left : (cursor : Cursor) (outer : List CursorView) (last : CursorView)
       → cursor_view cursor ≡ kept_view checked w.at w.is_past (take (length positions - w.begin) (drop w.begin positions))
@@ -199,9 +171,7 @@ module _ (checked : Checked) (old new : List WaitingCursor) (w : WaitingCursor) 
 -- the same of the same
 pub same_file : (checked : Checked) (waiting others : List WaitingCursor) (positions more : List Position) (innermost : Option Cursor) → others ≡ waiting → more ≡ positions
     → ∥ AreOfFile checked waiting positions innermost ∥₁ → ∥ AreOfFile checked others more innermost ∥₁
-same_file checked waiting others positions more innermost same_waiting same_positions known =
-    subst (λ (ws : List WaitingCursor). ∥ AreOfFile checked ws more innermost ∥₁) (sym same_waiting)
-    (subst (λ (ps : List Position). ∥ AreOfFile checked waiting ps innermost ∥₁) (sym same_positions) known)
+same_file checked waiting others positions more innermost same_waiting same_positions known = rw (same_waiting, same_positions) known
 
 pub same_views : (checked : Checked) (waiting others : List WaitingCursor) (positions more : List Position) → others ≡ waiting → more ≡ positions
     → kept_views checked (reverse others) more ≡ kept_views checked (reverse waiting) positions

@@ -1,27 +1,16 @@
 -- A search by halves.
 use Rattle.std.proofs.Common.{◌≡◌, ℕ, zero, suc, ◌+◌, ◌*◌, ◌≤◌, ◌<◌, inl, inr, Bool, true, false, not, List, Some, slice_get, refl, sym, ap, ◌∙◌, arith, add-one}
+use Rattle.bolt_tree.proofs.Words.{Key, KeysRise, cases_lt, doubled, false_from_ne_true, key_lt, lt_trans, not-true, stands_before}
 use Rattle.std.proofs.Math.Nat.{mul-le-mul_left}
-use Rattle.std.proofs.lemmas.Bool.{cases_lt, not-true}
-use Rattle.bolt_check.specs.Keys.{Key, KeysRise, key_lt}
-use Rattle.bolt_tree.specs.Private.PageKeys.{doubled, stands_before}
-use Rattle.bolt_check.proofs.KeyLaws.{lt_trans}
-
-by_test : (a b s : Key) (t : Bool) → key_lt s a ≡ t → key_lt a b ≡ true → key_lt s b ≡ false → not t ≡ true
-by_test a b s false e h k = refl
-by_test a b s true e h k = let r : key_lt s b ≡ true = lt_trans s a b e h in absurd (cc)
 
 -- what stands before a key that stands before does so too
 pub before_down : (or_equal : Bool) (a b s : Key) → key_lt a b ≡ true → stands_before or_equal b s ≡ true → stands_before or_equal a s ≡ true
-before_down true a b s h e = by_test a b s (key_lt s a) refl h (not-true (key_lt s b) e)
+before_down true a b s h e = ap not (false_from_ne_true (key_lt s a) (λ t. let less = not-true (key_lt s b) e in let more : key_lt s b ≡ true = lt_trans s a b t h in cc))
 before_down false a b s h e = lt_trans a b s h e
 
 -- and the other way round
-by_value : (or_equal : Bool) (a b s : Key) (t : Bool) → stands_before or_equal b s ≡ t → key_lt a b ≡ true → stands_before or_equal a s ≡ false → t ≡ false
-by_value or_equal a b s false e h k = refl
-by_value or_equal a b s true e h k = let r : stands_before or_equal a s ≡ true = before_down or_equal a b s h e in absurd (cc)
-
 pub before_up : (or_equal : Bool) (a b s : Key) → key_lt a b ≡ true → stands_before or_equal a s ≡ false → stands_before or_equal b s ≡ false
-before_up or_equal a b s h k = by_value or_equal a b s (stands_before or_equal b s) refl h k
+before_up or_equal a b s h k = false_from_ne_true (stands_before or_equal b s) (λ t. let before = before_down or_equal a b s h t in cc)
 
 same_key : (keys : List Key) (k m : ℕ) (a b : Key) → k ≡ m → slice_get keys k ≡ Some a → slice_get keys m ≡ Some b → a ≡ b
 same_key keys k m a b e g h = let r : slice_get keys m ≡ Some a = ap (slice_get keys) (sym e) ∙ g in cc
@@ -45,8 +34,7 @@ above_middle keys or_equal s m middle k a rise g e l h = elim (cases_lt middle k
 pub halved : (len less c : ℕ) → less * 2 ≤ len → len * doubled c ≤ 65535 → less * doubled (c + 1) ≤ 65535
 halved len less c h few =
     let twice : doubled (c + 1) ≡ 2 * doubled c = ap doubled (add-one c) in
-    let more = mul-le-mul_left (doubled c) h in
-    rw twice (omega (arith, more, few))
+    rw twice (omega (arith, mul-le-mul_left (doubled c) h, few))
 
 positive : (c : ℕ) → 1 ≤ doubled c
 positive zero = omega arith
@@ -62,7 +50,6 @@ sixteen len c one few = elim (cases_lt c 16) [
   | inl lt ↦ omega arith
   | inr ge ↦ (
       let g : doubled 16 ≤ doubled c = grows 16 c ge in
-      let more = mul-le-mul_left (doubled c) one in
       let big : doubled 16 ≡ 65536 = refl in
-      absurd (omega (arith, g, more, few, big)))
+      absurd (omega (arith, g, mul-le-mul_left (doubled c) one, few, big)))
 ]

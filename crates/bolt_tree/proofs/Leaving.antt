@@ -1,22 +1,11 @@
 -- A loop over a cursor: each call removes the first of the entries that are left, so there are fewer left then.
 -- Rests on that the entries of a bucket in order exist, and are one.
-use Rattle.std.proofs.Common.{◌≡◌, ◌∙◌, ◌<◌, Bool, true, false, ℕ, suc, List, [], ◌∷◌, length, drop, cond, nat_lt, Option, Some, None, slice_get, refl, sym, ap, subst, add-one, arith}
-use Rattle.std.proofs.Math.Logic.{∥∥₁_elim, ∥∥₁_prop}
-use Rattle.std.proofs.Props.{props}
-use Rattle.std.specs.Option.{option_map}
-use Rattle.std.proofs.lemmas.List.{drop_all}
+use Rattle.std.proofs.Common.{◌≡◌, ◌∙◌, ◌<◌, ℕ, suc, List, [], ◌∷◌, length, drop, nat_lt, Option, Some, None, refl, sym, ap, subst, arith}
+use Rattle.bolt_tree.proofs.Words.{AreEntries, Bucket, Checked, EntryView, Fresh, LeafElement, On, Past, Place, ShowsMove, Start, bucket_checked, bucket_start}
+use Rattle.bolt_tree.proofs.Words.{bytes_of, drop_all, drop_at, entries_of, entry_view, meta_of, next_move, option_map, place_in, props, ∥∥₁_elim, ∥∥₁_prop}
 use mathlib.Core.HLevel.{Σ_prop_path}
-use Rattle.bolt_format.specs.Elements.{LeafElement}
-use Rattle.bolt_format.proofs.ListLemmas.{drop_next}
-use Rattle.bolt_check.specs.CheckedFiles.{bytes_of, meta_of}
-use Rattle.bolt_check.specs.declared.checked_file.Checked.{Checked}
-use Rattle.bolt_tree.specs.Buckets.{bucket_checked, bucket_start}
-use Rattle.bolt_tree.specs.BucketViews.{entries_of}
-use Rattle.bolt_tree.specs.Entries.{AreEntries, EntryView, Start, entry_view}
 use Rattle.bolt_tree.specs.EntriesLeft.{ForEntries, entries_left}
-use Rattle.bolt_tree.specs.Places.{Fresh, On, Past, Place, ShowsMove, next_move, nothing_at, onto, place_in}
-use Rattle.bolt_tree.specs.declared.bucket.Bucket.{Bucket}
-use Rattle.bolt_tree.proofs.CursorMoves.{none_past, not_below}
+use Rattle.bolt_tree.proofs.CursorMoves.{ComesTo, by_length, comes_first}
 use Rattle.bolt_tree.proofs.Looking.{own_entries}
 use Rattle.bolt_tree.proofs.SortedLemmas.{sorted_one}
 
@@ -43,25 +32,17 @@ none_left Fresh = refl
 none_left (On i) = refl
 none_left Past = refl
 
-drop_more : (entries : List LeafElement) (i : ℕ) (e : LeafElement) → slice_get entries i ≡ Some e → drop i entries ≡ e ∷ drop (suc i) entries
-drop_more entries i e at = drop_next entries i e at ∙ ap (λ (k : ℕ). e ∷ drop k entries) (add-one i)
-
-by_length : (entries : List LeafElement) (i : ℕ) (after : Place) (o : Option LeafElement) (b : Bool) → nat_lt (suc i) (length entries) ≡ b
-    → after ≡ (cond b (onto entries (suc i)) (nothing_at (On i))).place → o ≡ (cond b (onto entries (suc i)) (nothing_at (On i))).answer
-    → TakesFirst (drop (suc i) entries) (entries_left entries after) o
-by_length entries i after None true t p a = drop_all (suc i) entries (none_past entries (suc i) a)
-by_length entries i after None false t p a = drop_all (suc i) entries (not_below (suc i) (length entries) t)
-by_length entries i after (Some e) true t p a = drop_more entries (suc i) e (sym a) ∙ ap (λ (q : Place). e ∷ entries_left entries q) (sym p)
-by_length entries i after (Some e) false t p a = absurd (let c : Some e ≡ None = a in cc)
+takes : (entries : List LeafElement) (n : ℕ) (place : Place) (o : Option LeafElement) → ComesTo entries n place o → TakesFirst (drop n entries) (entries_left entries place) o
+takes entries n place None past = drop_all n entries past
+takes entries n place (Some e) (on, at) = drop_at entries n e at ∙ ap (λ (q : Place). e ∷ entries_left entries q) (sym on)
 
 pub next_takes : (entries : List LeafElement) (before after : Place) (o : Option LeafElement)
     → (place_in entries after ≡ (next_move entries (place_in entries before)).place) × (o ≡ (next_move entries (place_in entries before)).answer)
     → TakesFirst (entries_left entries before) (entries_left entries after) o
 next_takes [] before after None (p, a) = none_left before
 next_takes [] before after (Some e) (p, a) = absurd (let c : Some e ≡ None = a in cc)
-next_takes (x ∷ entries) Fresh after None (p, a) = absurd (let c : None ≡ Some x = a in cc)
-next_takes (x ∷ entries) Fresh after (Some e) (p, a) = let same : e ≡ x = cc in ap (λ y. y ∷ entries) (sym same) ∙ ap (λ (q : Place). e ∷ entries_left (x ∷ entries) q) (sym p)
-next_takes (x ∷ entries) (On i) after o (p, a) = by_length (x ∷ entries) i after o (nat_lt (suc i) (length (x ∷ entries))) refl p a
+next_takes (x ∷ entries) Fresh after o moved = takes (x ∷ entries) 0 after o (comes_first (x ∷ entries) after o moved)
+next_takes (x ∷ entries) (On i) after o (p, a) = takes (x ∷ entries) (suc i) after o (by_length (x ∷ entries) (suc i) (On i) after o (nat_lt (suc i) (length (x ∷ entries))) refl p a)
 next_takes (x ∷ entries) Past after None (p, a) = refl
 next_takes (x ∷ entries) Past after (Some e) (p, a) = absurd (let c : Some e ≡ None = a in cc)
 

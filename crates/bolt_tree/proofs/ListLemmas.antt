@@ -1,9 +1,6 @@
 -- Lists: members, and lists that rise by a relation.
-use Rattle.std.proofs.Common.{◌≡◌, ℕ, zero, suc, ◌+◌, ◌<◌, ◌⊎◌, inl, inr, List, [], ◌∷◌, ◌++◌, length, get_or, Some, None, slice_get, map, refl, sym, ap, subst, arith}
-use Rattle.std.specs.List.{AllPairs, All, Contains, flat_map}
-use Rattle.std.proofs.lemmas.List.Elements.{All-cons, All-nil, All-head, All-tail}
-use Rattle.std.proofs.lemmas.List.Kept.{AllPairs-cons}
-use Rattle.std.proofs.lemmas.Option.{none-some}
+use Rattle.std.proofs.Common.{◌≡◌, ℕ, zero, suc, ◌+◌, ◌<◌, ◌⊎◌, inl, inr, List, [], ◌∷◌, ◌++◌, length, Some, slice_get, get_or, map, refl, sym, ap, subst, arith, ◌∙◌}
+use Rattle.bolt_tree.proofs.Words.{AllPairs, Contains, flat_map, get_or_from_slice_get, none-some, slice_get-get_or, slice_get_within}
 
 -- x is a member
 abbrev pub Has : {X : Type 0} → List X → X → Type 0
@@ -46,17 +43,10 @@ module _ {X : Type 0} where
   at_has (y ∷ xs) (suc k) x e = inr (at_has xs k x e)
 
   pub contains_from_has : (xs : List X) (x : X) → Has xs x → Contains xs x
-  contains_from_has [] x h = absurd h
-  contains_from_has (y ∷ xs) x (inl e) = (0, (omega arith), e)
-  contains_from_has (y ∷ xs) x (inr h) = let r = contains_from_has xs x h in (suc r.0, (omega arith), r.2)
-
-  has_place : (xs : List X) (k : ℕ) (x : X) → k < length xs → get_or xs k x ≡ x → Has xs x
-  has_place [] k x l e = absurd (omega arith)
-  has_place (y ∷ xs) zero x l e = inl e
-  has_place (y ∷ xs) (suc k) x l e = inr (has_place xs k x (omega arith) e)
+  contains_from_has xs x h = let r = has_at xs x h in (r.0, slice_get_within xs r.0 x r.1, get_or_from_slice_get xs r.0 x x r.1)
 
   pub has_from_contains : (xs : List X) (x : X) → Contains xs x → Has xs x
-  has_from_contains xs x c = has_place xs c.0 x c.1 c.2
+  has_from_contains xs x (k, within, is) = at_has xs k x (slice_get-get_or xs k x within ∙ ap (λ (z : X). Some z) is)
 
   pub rises_append : (R : X → X → Type 0) (xs ys : List X) → RisesBy R xs → RisesBy R ys → ((x y : X) → Has xs x → Has ys y → R x y) → RisesBy R (xs ++ ys)
   rises_append R [] ys a b c = b
@@ -76,23 +66,6 @@ module _ {X : Type 0} where
   rises_across R (z ∷ xs) ys a x y (inl e) k = let r = a.0 y (has_right xs ys y k) in subst (λ (w : X). R w y) e r
   rises_across R (z ∷ xs) ys a x y (inr h) k = rises_across R xs ys a.1 x y h k
 
-  all_from_each : (P : X → Type 0) (xs : List X) → Each P xs → All P xs
-  all_from_each P [] each = All-nil P
-  all_from_each P (x ∷ xs) each = All-cons P x xs (each x (inl refl)) (all_from_each P xs (λ y h. each y (inr h)))
-
-  each_from_all : (P : X → Type 0) (xs : List X) → All P xs → Each P xs
-  each_from_all P [] all = λ y h. absurd h
-  each_from_all P (x ∷ xs) all = λ y h. elim h [ inl e ↦ (let r = All-head P x xs all in subst P e r) | inr k ↦ each_from_all P xs (All-tail P x xs all) y k ]
-
-  pub pairs_from_rises : (R : X → X → Type 0) (xs : List X) → RisesBy R xs → AllPairs R xs
-  pairs_from_rises R [] a = λ i j d h k. absurd (omega arith)
-  pairs_from_rises R (x ∷ xs) a = AllPairs-cons R x xs (all_from_each (R x) xs a.0) (pairs_from_rises R xs a.1)
-
-  pub rises_from_pairs : (R : X → X → Type 0) (xs : List X) → AllPairs R xs → RisesBy R xs
-  rises_from_pairs R [] a = tt
-  rises_from_pairs R (x ∷ xs) a =
-      (each_from_all (R x) xs (λ k d l. a 0 (suc k) d (omega arith) (omega arith)), rises_from_pairs R xs (λ i j d h k. a (suc i) (suc j) d (omega arith) (omega arith)))
-
   pub rises_weaker : (R S : X → X → Type 0) (xs : List X) → ((x y : X) → R x y → S x y) → RisesBy R xs → RisesBy S xs
   rises_weaker R S [] f a = tt
   rises_weaker R S (x ∷ xs) f a = (λ y h. f x y (a.0 y h), rises_weaker R S xs f a.1)
@@ -103,22 +76,28 @@ module _ {X : Type 0} where
       (λ y k. let p = has_at xs y k in h 0 (suc p.0) x y (omega arith) refl p.1, rises_from_gets R xs (λ i j a b lt g k. h (suc i) (suc j) a b (omega arith) g k))
 
   pub rises_gets : (R : X → X → Type 0) (xs : List X) (i j : ℕ) (a b : X) → RisesBy R xs → i < j → slice_get xs i ≡ Some a → slice_get xs j ≡ Some b → R a b
-  rises_gets R [] i j a b r l g h = absurd (let n : (None ≡ Some a → ⊥) = λ e. cc in n g)
+  rises_gets R [] i j a b r l g h = absurd (none-some a g)
   rises_gets R (x ∷ xs) i zero a b r l g h = absurd (omega arith)
   rises_gets R (x ∷ xs) zero (suc j) a b r l g h = let same : x ≡ a = cc in subst (λ (y : X). R y b) same (r.0 b (at_has xs j b h))
   rises_gets R (x ∷ xs) (suc i) (suc j) a b r l g h = rises_gets R xs i j a b r.1 (omega arith) g h
-
-  -- what stands before a member
-  pub get_before : (xs : List X) (k l : ℕ) (x : X) → k < l → slice_get xs l ≡ Some x → (y : X) × (slice_get xs k ≡ Some y)
-  get_before [] k l x h g = absurd (none-some x g)
-  get_before (y ∷ xs) k zero x h g = absurd (omega arith)
-  get_before (y ∷ xs) zero (suc l) x h g = (y, refl)
-  get_before (y ∷ xs) (suc k) (suc l) x h g = get_before xs k l x (omega arith) g
 
   pub get_exists : (xs : List X) (k : ℕ) → k < length xs → (x : X) × (slice_get xs k ≡ Some x)
   get_exists [] k h = absurd (omega arith)
   get_exists (x ∷ xs) zero h = (x, refl)
   get_exists (x ∷ xs) (suc k) h = get_exists xs k (omega arith)
+
+  -- the same over pairs of places
+  pub pairs_from_rises : (R : X → X → Type 0) (xs : List X) → RisesBy R xs → AllPairs R xs
+  pairs_from_rises R xs a = λ i j d h k. rises_gets R xs i j (get_or xs i d) (get_or xs j d) a h (slice_get-get_or xs i d (omega (arith, h, k))) (slice_get-get_or xs j d k)
+
+  pub rises_from_pairs : (R : X → X → Type 0) (xs : List X) → AllPairs R xs → RisesBy R xs
+  rises_from_pairs R xs a = rises_from_gets R xs (λ i j x y lt g h.
+      subst (λ (w : X). R x w) (get_or_from_slice_get xs j y x h)
+      (subst (λ (w : X). R w (get_or xs j x)) (get_or_from_slice_get xs i x x g) (a i j x lt (slice_get_within xs j y h))))
+
+  -- what stands before a member
+  pub get_before : (xs : List X) (k l : ℕ) (x : X) → k < l → slice_get xs l ≡ Some x → (y : X) × (slice_get xs k ≡ Some y)
+  get_before xs k l x h g = let within = slice_get_within xs l x g in get_exists xs k (omega (arith, h, within))
 
   -- an element of two lists, one after the other
   pub get_behind : (xs ys : List X) (n k : ℕ) → n ≡ length xs + k → slice_get (xs ++ ys) n ≡ slice_get ys k

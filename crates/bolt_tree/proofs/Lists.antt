@@ -1,12 +1,8 @@
 -- Members of a list, and lists that rise: two of the same members are one.
 -- Over any total order.
-use Rattle.std.proofs.Common.{◌≡◌, ◌∙◌, ◌⊎◌, inl, inr, zero, suc, List, [], ◌∷◌, refl, sym, subst, arith}
-use Rattle.std.specs.List.{Contains}
-use Rattle.std.specs.Cmp.{IsTotalOrder}
-use Rattle.std.specs.declared.cmp.Ordering.{Ordering}
-use Rattle.std.specs.declared.cmp.Ordering.TheVariants.{Less}
-use Rattle.std.proofs.lemmas.Cmp.{tied_itself}
-use Rattle.bolt_tree.specs.Order.{IsBelow, Rises}
+use Rattle.std.proofs.Common.{◌≡◌, ◌⊎◌, inl, inr, zero, suc, List, [], ◌∷◌, refl, arith}
+use Rattle.bolt_tree.proofs.Words.{Contains, IsTotalOrder, Less, Ordering, Rises, tied_itself}
+use Rattle.bolt_tree.proofs.ListLemmas.{RisesBy, contains_from_has, has_from_contains, one_list}
 
 pub contains_head : {A : Type 0} (x : A) (xs : List A) → Contains (x ∷ xs) x
 contains_head x xs = (0, omega arith, refl)
@@ -30,23 +26,10 @@ asymmetric o x y e f = irreflexive o x (o.trans x y x e f)
 
 -- two rising lists of the same members are the same
 module _ {A : Type 0} {cmp : A → A → Ordering} (o : IsTotalOrder cmp) where
-  heads : (x y : A) (xs ys : List A) → IsBelow cmp x xs → IsBelow cmp y ys → (x ≡ y) ⊎ Contains ys x → (y ≡ x) ⊎ Contains xs y → x ≡ y
-  heads x y xs ys b c (inl e) h = e
-  heads x y xs ys b c (inr g) (inl e) = sym e
-  heads x y xs ys b c (inr g) (inr h) = absurd (asymmetric o x y (b y h) (c x g))
-
-  tail_of : (x y z : A) (xs ys : List A) → x ≡ y → IsBelow cmp x xs → Contains xs z → (y ≡ z) ⊎ Contains ys z → Contains ys z
-  tail_of x y z xs ys e b h (inl f) = absurd (irreflexive o x (b x (subst (λ (w : A). Contains xs w) (sym (e ∙ f)) h)))
-  tail_of x y z xs ys e b h (inr g) = g
+  rises_by : (xs : List A) → Rises cmp xs → RisesBy (λ x y. cmp x y ≡ Less) xs
+  rises_by [] r = tt
+  rises_by (x ∷ xs) r = (λ y h. r.0 y (contains_from_has xs y h), rises_by xs r.1)
 
   pub rises_once : (xs ys : List A) → Rises cmp xs → Rises cmp ys → ((z : A) → Contains xs z → Contains ys z) → ((z : A) → Contains ys z → Contains xs z) → xs ≡ ys
-  rises_once [] [] r s to from = refl
-  rises_once [] (y ∷ ys) r s to from = absurd (contains_none y (from y (contains_head y ys)))
-  rises_once (x ∷ xs) [] r s to from = absurd (contains_none x (to x (contains_head x xs)))
-  rises_once (x ∷ xs) (y ∷ ys) r s to from =
-      let first = heads x y xs ys r.0 s.0 (elim (contains_cases y x ys (to x (contains_head x xs))) [ inl e ↦ inl (sym e) | inr h ↦ inr h ])
-      (elim (contains_cases x y xs (from y (contains_head y ys))) [ inl e ↦ inl (sym e) | inr h ↦ inr h ]) in
-      let later = rises_once xs ys r.1 s.1
-      (λ z h. tail_of x y z xs ys first r.0 h (contains_cases y z ys (to z (contains_tail x z xs h))))
-      (λ z h. tail_of y x z ys xs (sym first) s.0 h (contains_cases x z xs (from z (contains_tail y z ys h)))) in
-      cc
+  rises_once xs ys r s to from = one_list (λ x y. cmp x y ≡ Less) (asymmetric o) xs ys (rises_by xs r) (rises_by ys s)
+      (λ z h. has_from_contains ys z (to z (contains_from_has xs z h))) (λ z h. has_from_contains xs z (from z (contains_from_has ys z h)))

@@ -1,21 +1,9 @@
 -- What a seek says of a bucket's entry with a key.
 use Rattle.std.proofs.Common.{◌≡◌, ◌∙◌, true, false, List, Option, Some, None, refl, sym, ap, subst}
-use Rattle.std.proofs.Math.Logic.{∥∥₁_elim, ∥∥₁_map, ∥∥₁_prop}
-use Rattle.std.proofs.Props.{props}
-use Rattle.std.specs.Ordering.{is_lt}
-use Rattle.bolt_format.specs.Elements.{LeafElement}
-use Rattle.bolt_check.specs.CheckedFiles.{bytes_of, meta_of}
-use Rattle.bolt_check.specs.Keys.{Key, key_cmp}
-use Rattle.bolt_check.specs.declared.checked_file.Checked.{Checked}
-use Rattle.bolt_tree.specs.Cursors.{cursor_checked, cursor_place, cursor_start}
-use Rattle.bolt_tree.specs.Entries.{AreEntries, Start, start_of}
-use Rattle.bolt_tree.specs.BucketViews.{entries_of}
-use Rattle.bolt_tree.specs.Starts.{HasStart}
-use Rattle.bolt_check.proofs.CheckedLemmas.{with_trees}
+use Rattle.bolt_tree.proofs.Words.{AreEntries, Checked, Cursor, HasStart, Key, LeafElement, Moves, Start, bytes_of, cursor_checked, cursor_place, cursor_start}
+use Rattle.bolt_tree.proofs.Words.{entries_of, is_lt, key_cmp, least_from, meta_of, props, seek_move, start_of, with_trees, ∥∥₁_elim, ∥∥₁_map, ∥∥₁_prop}
 use Rattle.bolt_tree.proofs.AllEntries.{sorted_at}
 use Rattle.bolt_tree.proofs.BucketWays.{starts_below}
-use Rattle.bolt_tree.specs.Places.{Moves, least_from, seek_move}
-use Rattle.bolt_tree.specs.declared.cursor.Cursor.{Cursor}
 use Rattle.bolt_tree.proofs.Coming.{neither}
 use Rattle.bolt_tree.proofs.CursorMoves.{comes_from}
 use Rattle.bolt_tree.proofs.EntryOrder.{contains_at, seek_from, seek_least, seek_none}

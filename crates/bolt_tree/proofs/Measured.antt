@@ -1,16 +1,8 @@
 -- The listing of a checked file is the one that is computed, and a walk has fewer members of it left after it returned one.
 use Rattle.std.proofs.Common.{◌≡◌, ◌<◌, Err, List, None, Ok, Option, Result, Some, ◌∷◌, length, ap, arith}
-use Rattle.std.specs.Option.{option_map}
-use Rattle.std.specs.Prelude.{IfOk, IfSome}
-use Rattle.std.proofs.Math.Logic.{∥∥₁_elim, ∥∥₁_map}
-use Rattle.std.proofs.Props.{props}
-use Rattle.bolt_check.proofs.CheckedLemmas.{checked_trees}
-use Rattle.bolt_check.specs.CheckedFiles.{bytes_of, meta_of}
-use Rattle.bolt_check.specs.declared.checked_file.Checked.{Checked}
-use Rattle.bolt_tree.specs.Listing.{IsListing, Member}
-use Rattle.bolt_tree.specs.FileListings.{ForListing}
-use Rattle.bolt_tree.specs.ShownEntries.{item_view}
-use Rattle.bolt_tree.specs.Walks.{GivesNext, left_of, walk_checked, walk_path}
+use Rattle.bolt_tree.proofs.Words.{Checked, ForListing, GivesNext, IfOk, IfSome, IsListing, Member, bytes_of, checked_trees, item_view, meta_of, option_map}
+use Rattle.bolt_tree.proofs.Words.{props, walk_checked, walk_path, ∥∥₁_elim, ∥∥₁_map}
+use Rattle.bolt_tree.specs.Walks.{left_of}
 use Rattle.bolt_tree.specs.declared.entry.Item.{Item}
 use Rattle.bolt_tree.specs.WalksLeft.{left_number, the_listing}
 use Rattle.bolt_tree.specs.declared.walk.Walk.{Walk}

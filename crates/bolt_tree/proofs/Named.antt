@@ -1,13 +1,8 @@
 -- What a bucket that a path names holds, and what the path holds below it.
 -- Entries of one key are one, so both say the same.
 use Rattle.std.proofs.Common.{◌≡◌, ◌∙◌, ◌⊎◌, inl, inr, IsTrue, List, [], ◌∷◌, ◌++◌, refl, sym, ap, subst, append_assoc}
-use Rattle.std.specs.List.{Contains}
-use Rattle.std.specs.declared.cmp.Ordering.TheVariants.{Less, Equal}
-use Rattle.bolt_format.specs.Elements.{LeafElement}
-use Rattle.bolt_check.specs.Keys.{Key, key_cmp}
-use Rattle.bolt_tree.specs.Entries.{AreEntries, Item, Start, entry_cmp, item_of, start_of}
-use Rattle.bolt_tree.specs.Order.{IsBelow, Rises}
-use Rattle.bolt_tree.specs.Paths.{HasEntries, Holds, Names, Path}
+use Rattle.bolt_tree.proofs.Words.{AreEntries, Contains, Equal, HasEntries, Holds, IsBelow, Item, Key, LeafElement, Less, Names, Path, Rises, Start, entry_cmp}
+use Rattle.bolt_tree.proofs.Words.{item_of, key_cmp, start_of}
 use Rattle.bolt_tree.proofs.Lists.{contains_cases, contains_none}
 use Rattle.bolt_tree.proofs.PathOrder.{key_same}
 

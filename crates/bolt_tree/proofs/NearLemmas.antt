@@ -1,54 +1,34 @@
--- The nearest leaf to a key: the way down to it, and what lies ahead of the key there.
-use Rattle.std.proofs.Common.{◌≡◌, ℕ, suc, ◌+◌, ◌-◌, ◌≤◌, inl, inr, true, false, List, [], ◌∷◌, ◌++◌, Some, None, Option, slice_get, length, map, drop, take, refl, sym, ap, ◌∙◌, subst, arith, append_assoc, length-append, append-nil}
-use Rattle.std.specs.Option.{option_map}
-use Rattle.std.proofs.Math.Logic.{∥∥₁_elim, ∥∥₁_map, ∥∥₁_prop}
-use Rattle.std.proofs.Props.{props}
-use Rattle.std.proofs.lemmas.Bool.{cases_lt}
-use Rattle.std.proofs.lemmas.List.{take-append-drop}
-use Rattle.std.proofs.lemmas.List.Concat.{flat_map-append}
-use Rattle.std.proofs.lemmas.Option.{slice_get-map}
-use Rattle.bolt_format.specs.Elements.{BranchElement, LeafElement}
-use Rattle.bolt_format.specs.declared.meta.Meta.{Meta}
-use Rattle.bolt_check.specs.Keys.{Key, KeysRise, key_lt}
-use Rattle.bolt_check.specs.Sound.{HasSoundTrees}
-use Rattle.bolt_check.proofs.TreePages.{branch_key, branch_node, on_child, spot_node}
-use Rattle.bolt_tree.specs.BucketViews.{BucketView}
-use Rattle.bolt_tree.specs.Private.BucketPages.{IsSoundBucket, contents_in, elements_in, pages_in, root_content}
-use Rattle.bolt_tree.specs.Private.Contents.{Content, Contents, Of_branch, Of_leaf, content_at, content_keys}
-use Rattle.bolt_tree.specs.Entries.{Inline_page, IsStart, Root_page, Start}
-use Rattle.bolt_tree.specs.Openings.{IsNear, IsNearFrom, IsNearest}
-use Rattle.bolt_tree.specs.Private.PageKeys.{IsPlaceOf}
-use Rattle.bolt_tree.specs.Places.{least_from}
-use Rattle.bolt_tree.specs.Private.Seeks.{AreBelow, IsBetween, IsNearTo, IsNearTop, IsOnWayDown, IsSought}
-use Rattle.bolt_tree.specs.Private.Stacks.{Frame, HasStack, address_on, ahead_of, left_of, right_of}
-use Rattle.bolt_tree.specs.Private.Tours.{Visit, content_at_start, elements_of, tour}
+-- The nearest leaf to a key: the way down to it, step by step, and what lies ahead of the key there.
+use Rattle.std.proofs.Common.{◌≡◌, ℕ, suc, ◌+◌, ◌-◌, ◌≤◌, inl, inr, true, false, List, [], ◌∷◌, ◌++◌, Some, slice_get, length, map, drop, take, refl, sym, ap, ◌∙◌, subst, arith, append_assoc, length-append, append-nil, zero}
+use Rattle.bolt_tree.proofs.Words.{AreBelow, BranchElement, BucketView, Content, Contents, Frame, HasSoundTrees, HasStack, Inline_page, IsBetween, IsLeafTop}
+use Rattle.bolt_tree.proofs.Words.{IsNear, IsNearFrom, IsNearTo, IsNearTop, IsNearest, IsOnWayDown, IsPlaceOf, IsSought, IsSoundBucket, IsStart, Key, KeysRise}
+use Rattle.bolt_tree.proofs.Words.{LeafElement, Meta, Of_branch, Of_leaf, Root_page, Start, Visit, address_on, ahead_of, branch_key, branch_node, cases_lt}
+use Rattle.bolt_tree.proofs.Words.{content_at, content_at_start, content_keys, content_length, contents_in, elements_in, elements_of, key_lt, least_from}
+use Rattle.bolt_tree.proofs.Words.{left_of, none-some, on_child, opened_content, option_map, pages_in, props, right_of, root_content, shown, slice_get-map}
+use Rattle.bolt_tree.proofs.Words.{spot_node, tour, ∥∥₁_elim, ∥∥₁_map, ∥∥₁_prop}
 use Rattle.bolt_tree.proofs.ListLemmas.{Has, has_right, rises_gets}
-use Rattle.bolt_tree.proofs.PlaceLemmas.{drop_front}
-use Rattle.bolt_tree.proofs.SeekLemmas.{are_append, branch_page, drop_get, is_above, not_above, take_get}
+use Rattle.bolt_tree.proofs.PlaceMoves.{drop_front, leaf_parts}
+use Rattle.bolt_tree.proofs.SeekLemmas.{are_append, drop_get, is_above, not_above, take_get}
 use Rattle.bolt_tree.proofs.SortedLemmas.{visit_is}
-use Rattle.bolt_tree.proofs.TourLemmas.{IsBelowElement}
-use Rattle.bolt_tree.proofs.WayPages.{a_branch, a_leaf, on_way_page}
+use Rattle.bolt_tree.proofs.TourLemmas.{IsBelowElement, filled}
+use Rattle.bolt_tree.proofs.WayPages.{a_branch, a_leaf, on_way_page, branch_page}
+use Rattle.bolt_format.specs.ShownInline.{shown_inline}
+use Rattle.bolt_tree.specs.declared.opened.BranchPage.{BranchPage}
+use Rattle.bolt_tree.specs.declared.opened.Opened.{Opened}
+use Rattle.bolt_tree.specs.declared.opened.Opened.TheVariants.{Branch, Inline, Leaf, Nothing}
+use Rattle.bolt_tree.proofs.StackLemmas.{retaken}
 
--- the key of an entry, and of its element
-key_some : (o : Option BranchElement) (a : Key) → option_map (λ (e : BranchElement). e.key) o ≡ Some a → (e : BranchElement) × (o ≡ Some e) × (e.key ≡ a)
-key_some None a g = absurd (let n : (None ≡ Some a → ⊥) = λ e. cc in n g)
-key_some (Some e) a g = (e, refl, cc)
-
-leaf_key_some : (o : Option LeafElement) (a : Key) → option_map (λ (e : LeafElement). e.key) o ≡ Some a → (e : LeafElement) × (o ≡ Some e) × (e.key ≡ a)
-leaf_key_some None a g = absurd (let n : (None ≡ Some a → ⊥) = λ e. cc in n g)
-leaf_key_some (Some e) a g = (e, refl, cc)
-
-branch_at : (elements : List BranchElement) (i : ℕ) (a : Key) → slice_get (map (λ (e : BranchElement). e.key) elements) i ≡ Some a → (e : BranchElement) × (slice_get elements i ≡ Some e) × (e.key ≡ a)
-branch_at elements i a g = key_some (slice_get elements i) a (sym (slice_get-map (λ (e : BranchElement). e.key) elements i) ∙ g)
-
-leaf_at : (elements : List LeafElement) (i : ℕ) (a : Key) → slice_get (map (λ (e : LeafElement). e.key) elements) i ≡ Some a → (e : LeafElement) × (slice_get elements i ≡ Some e) × (e.key ≡ a)
-leaf_at elements i a g = leaf_key_some (slice_get elements i) a (sym (slice_get-map (λ (e : LeafElement). e.key) elements i) ∙ g)
+-- the element with a key
+key_at : {X : Type 0} (f : X → Key) (xs : List X) (i : ℕ) (a : Key) → slice_get (map f xs) i ≡ Some a → (x : X) × (slice_get xs i ≡ Some x) × (f x ≡ a)
+key_at f [] i a g = absurd (none-some a g)
+key_at f (x ∷ xs) zero a g = (x, refl, cc)
+key_at f (x ∷ xs) (suc i) a g = key_at f xs i a g
 
 -- the keys of a page on a stack rise
 leaf_rises : (bucket : BucketView) (es : List LeafElement) (t : ℕ) (below : List Frame) → HasStack bucket (record { content = Of_leaf es; taken = t } ∷ below) → KeysRise (content_keys (Of_leaf es))
 leaf_rises bucket es t below stack = λ i j a c l g h.
-    let x = leaf_at es i a g in
-    let y = leaf_at es j c h in
+    let x = key_at (λ (e : LeafElement). e.key) es i a g in
+    let y = key_at (λ (e : LeafElement). e.key) es j c h in
     let less : key_lt x.0.key y.0.key ≡ true = ∥∥₁_elim stack (Prim.hlevel props) (λ k.
     let v : Visit = record { address = address_on below; entries = es } in
     let here : Has (pages_in bucket) v = subst (λ (vs : List Visit). Has vs v) (sym k.1.0.placed) (has_right (left_of (contents_in bucket) below) (v ∷ right_of (contents_in bucket) below) v (inl refl)) in
@@ -57,8 +37,8 @@ leaf_rises bucket es t below stack = λ i j a c l g h.
 
 branch_rises : (bucket : BucketView) (bs : List BranchElement) (t : ℕ) (below : List Frame) → HasStack bucket (record { content = Of_branch bs; taken = t } ∷ below) → KeysRise (content_keys (Of_branch bs))
 branch_rises bucket bs t below stack = λ i j a c l g h.
-    let x = branch_at bs i a g in
-    let y = branch_at bs j c h in
+    let x = key_at (λ (e : BranchElement). e.key) bs i a g in
+    let y = key_at (λ (e : BranchElement). e.key) bs j c h in
     let less : key_lt x.0.key y.0.key ≡ true = ∥∥₁_elim stack (Prim.hlevel props) (λ k.
     let on = k.1.0.good.1 in
     let page = branch_page bucket.file bucket.meta k.0.trees k.1.0.good.0 (suc (length below)) bs on k.1.0.good.2 in
@@ -79,9 +59,6 @@ near_begin file meta (Inline_page elements) key is = (refl, refl)
 pub way_begins : (bucket : BucketView) (key : Key) → ∥ IsSoundBucket bucket ∥₁ → IsOnWayDown bucket key [] (root_content bucket)
 way_begins bucket key is = ∥∥₁_map is (λ s. near_begin bucket.file bucket.meta bucket.start key s.start)
 
-leaf_no_branch : (a : List LeafElement) (b : List BranchElement) → Of_leaf a ≡ Of_branch b → ⊥
-leaf_no_branch a b e = cc
-
 near_down : (file : List ℕ) (meta : Meta) (trees : HasSoundTrees file meta) (start : Start) (key : Key) (address : List ℕ) (bs : List BranchElement) (i : ℕ) (e : BranchElement)
     → IsNearTo file meta start key address (Of_branch bs) → IsNearest bs key i → slice_get bs i ≡ Some e → IsNearTo file meta start key (address ++ i ∷ []) (content_at file meta e.child)
 near_down file meta trees (Root_page root) key address bs i e (number, depth, on, shown, on_from) nearest g =
@@ -95,7 +72,7 @@ near_down file meta trees (Root_page root) key address bs i e (number, depth, on
       λ rest n. (let r = on_from (i ∷ rest) (page.view, e, page.at, page.is, best, at, n) in
           subst (λ (a : List ℕ). IsNearFrom file meta root key a) (sym (append_assoc address (i ∷ []) rest)) r),
     )
-near_down file meta trees (Inline_page elements) key address bs i e near nearest g = absurd (leaf_no_branch elements bs near.1)
+near_down file meta trees (Inline_page elements) key address bs i e near nearest g = absurd (let c : Of_leaf elements ≡ Of_branch bs = near.1 in cc)
 
 nearest_of : (bs : List BranchElement) (key : Key) (n i : ℕ) (e : BranchElement) → IsPlaceOf (content_keys (Of_branch bs)) true key n → i ≡ n - 1 → slice_get bs i ≡ Some e → IsNearest bs key i
 nearest_of bs key n i e place is g = elim (cases_lt i n) [
@@ -114,7 +91,7 @@ way_down bucket key below bs n i t e stack near place is g = ∥∥₁_elim stac
 near_end : (file : List ℕ) (meta : Meta) (trees : HasSoundTrees file meta) (start : Start) (key : Key) (address : List ℕ) (es : List LeafElement) → IsNearTo file meta start key address (Of_leaf es) → IsNear file meta start key address
 near_end file meta trees (Root_page root) key address es near = elim (on_way_page file meta trees near.0 near.1 near.2) [
   | a_leaf view at k node content ↦ (let r = near.4 [] (view, at, k) in subst (λ (a : List ℕ). IsNearFrom file meta root key a) (append-nil address) r)
-  | a_branch view at k node content ↦ absurd (leaf_no_branch es view.branches (sym near.3 ∙ content))
+  | a_branch view at k node content ↦ absurd (let c : Of_leaf es ≡ Of_branch view.branches = sym near.3 ∙ content in cc)
 ]
 near_end file meta trees (Inline_page page) key address es near = near.0
 
@@ -128,8 +105,7 @@ least_is key [] [] f b = refl
 least_is key [] (y ∷ back) f b = let t : key_lt y.key key ≡ false = b 0 y refl in rw t refl
 least_is key (x ∷ front) back f b =
     let t : key_lt x.key key ≡ true = f 0 x refl in
-    let r = least_is key front back (λ k e g. f (suc k) e g) b in
-    rw (t, r) (omega arith)
+    rw (t, least_is key front back (λ k e g. f (suc k) e g) b) (omega arith)
 
 -- what a key stands between in the nearest leaf
 leaf_key_at : (es : List LeafElement) (k : ℕ) (e : LeafElement) → slice_get es k ≡ Some e → slice_get (content_keys (Of_leaf es)) k ≡ Some e.key
@@ -140,19 +116,16 @@ sought_leaf : (contents : Contents) (n : ℕ) (whole : List Visit) (key : Key) (
 sought_leaf contents n whole key es t below placed place most between =
     let left = elements_of (left_of contents below) in
     let right = elements_of (right_of contents below) in
-    let e1 : elements_of whole ≡ left ++ (es ++ right) =
-    ap elements_of placed ∙ flat_map-append (λ (v : Visit). v.entries) (left_of contents below) (record { address = address_on below; entries = es } ∷ right_of contents below) in
-    let cut : left ++ (es ++ right) ≡ (left ++ take t es) ++ (drop t es ++ right) =
-    ap (λ (l : List LeafElement). left ++ (l ++ right)) (sym (take-append-drop t es)) ∙ simp append_assoc in
+    let parts = leaf_parts contents n whole es t below placed in
     let front : AreBelow true key (left ++ take t es) = are_append true key left (take t es) between.left
     (λ k e g. let r = take_get es t k e g in place.below k e.key r.1 (leaf_key_at es k e r.0)) in
     let back : AreBelow false key (drop t es ++ right) = are_append false key (drop t es) right
     (λ k e g. let r = drop_get es t k (t + k) e refl g in place.above (t + k) e.key (omega arith) (leaf_key_at es (t + k) e r)) between.right in
-    let least : least_from key ((elements_of whole)) ≡ length (left ++ take t es) = ap (λ (l : List LeafElement). least_from key (l)) (e1 ∙ cut) ∙ least_is key (left ++ take t es) (drop t es ++ right) front back in
-    let len : length (elements_of whole) ≡ length (left ++ take t es) + length (drop t es ++ right) = ap length (e1 ∙ cut) ∙ length-append (left ++ take t es) (drop t es ++ right) in
+    let least : least_from key ((elements_of whole)) ≡ length (left ++ take t es) = ap (λ (l : List LeafElement). least_from key l) parts ∙ least_is key (left ++ take t es) (drop t es ++ right) front back in
+    let len : length (elements_of whole) ≡ length (left ++ take t es) + length (drop t es ++ right) = ap length parts ∙ length-append (left ++ take t es) (drop t es ++ right) in
     record {
       number = omega (arith, least, len);
-      rest = ap (λ (k : ℕ). drop k (elements_of whole)) least ∙ (ap (drop (length (left ++ take t es))) (e1 ∙ cut) ∙ drop_front (left ++ take t es) (drop t es ++ right) (length (left ++ take t es)) refl);
+      rest = ap (λ (k : ℕ). drop k (elements_of whole)) least ∙ (ap (drop (length (left ++ take t es))) parts ∙ drop_front (left ++ take t es) (drop t es ++ right) (length (left ++ take t es)) refl);
     }
 
 pub sought : (bucket : BucketView) (key : Key) (es : List LeafElement) (t u : ℕ) (below : List Frame) → HasStack bucket (record { content = Of_leaf es; taken = u } ∷ below)
@@ -160,3 +133,47 @@ pub sought : (bucket : BucketView) (key : Key) (es : List LeafElement) (t u : �
     → IsSought (elements_in bucket) key (ahead_of (contents_in bucket) (record { content = Of_leaf es; taken = t } ∷ below))
 sought bucket key es t u below stack place most between = ∥∥₁_elim stack (Prim.hlevel props) (λ s.
     sought_leaf (contents_in bucket) (63 - length below) (pages_in bucket) key es t below s.1.0.placed place most between)
+
+-- a branch has an element
+pub branch_filled : (bucket : BucketView) (bs : List BranchElement) (t : ℕ) (below : List Frame) → HasStack bucket (record { content = Of_branch bs; taken = t } ∷ below) → 1 ≤ length bs
+branch_filled bucket bs t below stack = ∥∥₁_elim stack (Prim.hlevel props) (λ s.
+    let page = branch_page bucket.file bucket.meta s.0.trees s.1.0.good.0 (suc (length below)) bs s.1.0.good.1 s.1.0.good.2 in
+    omega (arith, filled bucket.file bucket.meta s.0.trees s.1.0.good.0 (suc (length below)) page.view s.1.0.good.1 page.node, ap length page.branches))
+
+-- the same facts, of a bucket and frames that are shown otherwise
+pub moved_between : (old now : BucketView) (key : Key) (under below : List Frame) → now ≡ old → below ≡ under → IsBetween (contents_in old) key under → IsBetween (contents_in now) key below
+moved_between old now key under below e g between = rw (e, g) between
+
+pub moved_way : (old now : BucketView) (key : Key) (under below : List Frame) (a d : Content) → now ≡ old → below ≡ under → d ≡ a → IsOnWayDown old key under a → IsOnWayDown now key below d
+moved_way old now key under below a d e g h way = rw (e, g, h) way
+
+pub begins : (contents : Contents) (key : Key) → IsBetween contents key []
+begins contents key = record {
+  left = λ k e g. absurd (none-some e g);
+  right = λ k e g. absurd (none-some e g);
+}
+
+-- what is no branch shows a leaf
+pub shows_leaf : (opened : Opened) → ((page : BranchPage) → opened ≡ Branch page → ⊥) → (es : List LeafElement) × (opened_content opened ≡ Of_leaf es)
+shows_leaf Nothing h = ([], refl)
+shows_leaf (Branch page) h = absurd (h page refl)
+shows_leaf (Leaf page) h = ((shown page.page).leaves, refl)
+shows_leaf (Inline page) h = (shown_inline page, refl)
+
+-- The way down has come to a leaf, which is put on the stack.
+pub record IsLanded (bucket : BucketView) (key : Key) (frames : List Frame) : Type 0 where
+  pub stack : HasStack bucket frames
+  pub near : IsNearTop bucket key frames
+  pub sought : IsSought (elements_in bucket) key (ahead_of (contents_in bucket) frames)
+  pub leaf : IsLeafTop frames
+
+pub landed : (bucket : BucketView) (key : Key) (content : Content) (es : List LeafElement) (t : ℕ) (frames below : List Frame) → content ≡ Of_leaf es → frames ≡ record { content = content; taken = t } ∷ below
+    → HasStack bucket (record { content = content; taken = 0 } ∷ below)
+    → IsPlaceOf (content_keys content) false key t → t ≤ content_length content → t ≤ 65536 → IsBetween (contents_in bucket) key below → IsOnWayDown bucket key below content
+    → IsLanded bucket key frames
+landed bucket key content es t frames below e f stack place most fits between way = rw (f, e) (record {
+  stack = retaken bucket (Of_leaf es) 0 t below (rw e at stack) (let m = rw e at most in omega (arith, m)) fits;
+  near = way_ends bucket key below es t 0 (rw e at stack) (rw e at way);
+  sought = sought bucket key es t 0 below (rw e at stack) (rw e at place) (rw e at most) between;
+  leaf = tt;
+})

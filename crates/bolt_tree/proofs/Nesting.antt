@@ -1,48 +1,24 @@
 -- Buckets nest only finitely deep: each has a root page of its own, and the pages are so many. So each has the tree that is computed.
 -- Rests on the shape of a sound file: two ways to one page are one.
-use Rattle.std.proofs.Common.{◌≡◌, ◌∙◌, ◌≤◌, ◌<◌, inl, inr, Bool, true, false, not, ℕ, zero, suc, eqb, eq-eqb, eqb-true, List, [], ◌∷◌, ◌++◌, length, filter, Option, Some, refl, sym, ap, subst, arith, length-append}
-use Rattle.std.specs.List.{Contains}
-use Rattle.std.specs.Prelude.{if◌then◌else◌}
-use Rattle.std.proofs.lemmas.Bool.{cases_lt}
-use Rattle.bolt_format.specs.Elements.{LeafElement, head_root, head_sequence, inline_elements}
-use Rattle.bolt_format.specs.declared.meta.Meta.{Meta}
-use Rattle.bolt_check.specs.Nodes.{node_at}
-use Rattle.bolt_check.specs.Sound.{HasSoundTrees}
-use Rattle.bolt_check.specs.Ways.{At_page, PageSpot, Spot, follow, reached, root_spot}
-use Rattle.bolt_tree.specs.Entries.{Inline_page, IsEntry, IsStart, Root_page, ShowsEntry, Start, start_of}
-use Rattle.bolt_tree.specs.FileTrees.{file_entries, file_tree, tree_with, tree_within}
-use Rattle.bolt_tree.specs.Tree.{IsTreeOf, Shows, Tree, with_bucket, with_value}
+use Rattle.std.proofs.Common.{◌≡◌, ◌∙◌, ◌≤◌, ◌<◌, Bool, true, false, not, ℕ, zero, suc, eqb, eq-eqb, eqb-true, List, [], ◌∷◌, ◌++◌, length, filter, Option, Some, refl, sym, ap, subst, arith, length-append}
+use Rattle.bolt_tree.proofs.Words.{At_page, Contains, HasSoundTrees, Inline_page, IsEntry, IsStart, IsTreeOf, LeafElement, Meta, PageSpot, Root_page, Shows}
+use Rattle.bolt_tree.proofs.Words.{ShowsEntry, Spot, Start, Tree, file_entries, file_tree, follow, follow_append, head_root, head_sequence, if◌then◌else◌}
+use Rattle.bolt_tree.proofs.Words.{inline_elements, node_at, one_way, range_with_len, reached, root_spot, start_of, tree_with, tree_within, with_bucket}
+use Rattle.bolt_tree.proofs.Words.{with_value}
 use Rattle.bolt_tree.proofs.Lists.{contains_head, contains_tail}
-use Rattle.bolt_check.proofs.WayFacts.{follow_append, one_way}
 use Rattle.bolt_tree.proofs.BucketWays.{at_root, bucket_way, flat, in_itself, root_starts, starts_named}
 use Rattle.bolt_tree.proofs.SortedLemmas.{sorted}
 use Rattle.bolt_tree.proofs.Filters.{filter_less, kept}
+use Rattle.std.proofs.lemmas.List.FromFn.{get_or-range_with_len, length-range_with_len}
 
 -- Numbers without one of them.
 abbrev without : ℕ → List ℕ → List ℕ
 without n ns = filter (λ m. not (eqb m n)) ns
 
--- the numbers below n
-abbrev numbers : ℕ → List ℕ
-numbers zero = []
-numbers (suc n) = n ∷ numbers n
-
-has_number : (n k : ℕ) → k < n → Contains (numbers n) k
-has_number zero k h = absurd (omega arith)
-has_number (suc n) k h =
-    elim (cases_lt k n) [
-      | inl below ↦ contains_tail n k (numbers n) (has_number n k below)
-      | inr above ↦ let same : n ≡ k = omega arith in subst (λ (j : ℕ). Contains (n ∷ numbers n) j) same (contains_head n (numbers n))
-    ]
-
 no_longer : (w v : List ℕ) (i : ℕ) (x : List ℕ) → w ≡ (w ++ (v ++ i ∷ [])) ++ x → ⊥
 no_longer w v i x e =
-    let n = ap length e in
-    let a = length-append (w ++ (v ++ i ∷ [])) x in
-    let b = length-append w (v ++ i ∷ []) in
-    let c = length-append v (i ∷ []) in
     let one : length (i ∷ []) ≡ 1 = refl in
-    omega (arith, n, a, b, c, one)
+    omega (arith, ap length e, length-append (w ++ (v ++ i ∷ [])) x, length-append w (v ++ i ∷ []), length-append v (i ∷ []), one)
 
 module _ (Own : Start → LeafElement → Type 0) (inside : Start → Tree) where
   shows_with : (e : LeafElement) (entries : List LeafElement) (b : Bool) → e.is_bucket ≡ b → Shows Own (tree_with inside entries) entries
@@ -66,10 +42,6 @@ other_number m n h = by (eqb m n) refl
 
 same_number : (m : ℕ) → not (eqb m m) ≡ false
 same_number m = ap not (eq-eqb m m refl)
-
-few_numbers : (n : ℕ) → length (numbers n) ≤ n
-few_numbers zero = omega arith
-few_numbers (suc n) = let few = few_numbers n in omega (arith, few)
 
 module _ (file : List ℕ) (meta : Meta) (trees : HasSoundTrees file meta) where
   abbrev Own : Start → LeafElement → Type 0
@@ -130,4 +102,7 @@ module _ (file : List ℕ) (meta : Meta) (trees : HasSoundTrees file meta) where
       → IsTreeOf Own (Root_page meta.root) (file_tree file meta)
   unfolding file_tree
   root_tree below =
-      tree_from meta.high_water (numbers meta.high_water) (few_numbers meta.high_water) [] (root_spot meta.root) refl (root_starts file meta) (λ x t e. has_number meta.high_water t.number (below x t e))
+      tree_from meta.high_water (range_with_len 0 meta.high_water) (let n = length-range_with_len 0 meta.high_water in omega (arith, n)) [] (root_spot meta.root) refl (root_starts file meta) (λ x t e.
+      let within = below x t e in
+      let at = get_or-range_with_len 0 meta.high_water t.number t.number within in
+      (t.number, omega (arith, within, length-range_with_len 0 meta.high_water), at ∙ omega arith))

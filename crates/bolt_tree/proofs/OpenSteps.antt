@@ -1,37 +1,12 @@
--- How open buckets change: a cursor is removed and added again.
+-- How open buckets change: a cursor is removed and added again, or opened after the others and makes its first move.
 use Rattle.std.proofs.Common.{◌≡◌, ◌∙◌, ◌-◌, ℕ, suc, List, [], ◌∷◌, ◌++◌, take, Option, Some, None, MatchOption, refl, sym, ap, subst, append_assoc, append-nil, Bor, slice_get}
-use Rattle.std.specs.Option.{option_to_list}
-use Rattle.bolt_format.specs.Elements.{LeafElement}
-use Rattle.bolt_check.specs.Keys.{Key}
-use Rattle.bolt_check.specs.declared.checked_file.Checked.{Checked}
-use Rattle.bolt_tree.specs.BucketViews.{entries_of}
-use Rattle.bolt_tree.specs.FileListings.{root_start}
-use Rattle.bolt_tree.specs.Entries.{AreEntries, Start, item_of}
-use Rattle.bolt_tree.specs.Listing.{Lists, Member}
-use Rattle.bolt_tree.specs.Paths.{HasEntries, Names, Path, path_of}
-use Rattle.bolt_tree.specs.Places.{Moves, next_move}
-use Rattle.bolt_tree.specs.Private.Kept.{CursorView}
-use Rattle.bolt_tree.specs.Private.OpenBuckets.{AreOpen, StandsOn}
-use Rattle.bolt_tree.specs.RestAfter.{rest_after, beyond}
+use Rattle.bolt_tree.proofs.Words.{AreEntries, AreOpen, Bucket, Checked, CursorView, Fresh, HasEntries, Keeps, Key, LeafElement, Lists, Member, Move, Moves}
+use Rattle.bolt_tree.proofs.Words.{MovesLast, Names, Opens, Path, Place, Start, beyond, bucket_checked, bucket_start, entries_of, first_move, fresh_view}
+use Rattle.bolt_tree.proofs.Words.{item_of, next_move, option_to_list, path_of, rest_after, root_start, same_from_push}
+use Rattle.bolt_tree.specs.Private.OpenBuckets.{StandsOn}
 use Rattle.bolt_tree.proofs.CursorMoves.{ComesTo, comes_next}
 use Rattle.bolt_tree.proofs.EntryOrder.{contains_at}
 use Rattle.bolt_tree.proofs.Giving.{give_after_last, give_next}
-
-pub snoc_front : {A : Type 0} (xs ys : List A) (x y : A) → xs ++ x ∷ [] ≡ ys ++ y ∷ [] → xs ≡ ys
-snoc_front [] [] x y e = refl
-snoc_front [] (b ∷ []) x y e = absurd (let c : x ∷ [] ≡ b ∷ y ∷ [] = e in cc)
-snoc_front [] (b ∷ d ∷ ys) x y e = absurd (let c : x ∷ [] ≡ b ∷ d ∷ (ys ++ y ∷ []) = e in cc)
-snoc_front (a ∷ []) [] x y e = absurd (let c : a ∷ x ∷ [] ≡ y ∷ [] = e in cc)
-snoc_front (a ∷ d ∷ xs) [] x y e = absurd (let c : a ∷ d ∷ (xs ++ x ∷ []) ≡ y ∷ [] = e in cc)
-snoc_front (a ∷ xs) (b ∷ ys) x y e =
-    let c : a ∷ (xs ++ x ∷ []) ≡ b ∷ (ys ++ y ∷ []) = e in
-    let rest : xs ++ x ∷ [] ≡ ys ++ y ∷ [] = cc in
-    let same = snoc_front xs ys x y rest in
-    let first : a ≡ b = cc in cc
-
-pub snoc_last : {A : Type 0} (xs : List A) (x y : A) → xs ++ x ∷ [] ≡ xs ++ y ∷ [] → x ≡ y
-snoc_last [] x y e = cc
-snoc_last (a ∷ xs) x y e = snoc_last xs x y (cc)
 
 pub no_snoc : {A : Type 0} (xs : List A) (x : A) → [] ≡ xs ++ x ∷ [] → ⊥
 no_snoc [] x e = cc
@@ -106,7 +81,7 @@ path_popped old new None n m front key keys items rest (zero_old, zero_new) =
     let gone : old ≡ [] = items ∙ ap (λ (xs : List (Bor (List ℕ))). xs ++ []) none in
     absurd (no_snoc front key (ap path_of (sym gone) ∙ keys))
 path_popped old new (Some ref) n m front key keys items rest less =
-    (snoc_front (path_of new) front ref.now key (sym (path_push new ref) ∙ ap path_of (sym items) ∙ keys), less)
+    ((same_from_push (path_of new) front ref.now key (sym (path_push new ref) ∙ ap path_of (sym items) ∙ keys)).0, less)
 
 -- The last cursor moves on, from where it stands to where it comes.
 module _ (checked : Checked) (all : HasEntries (entries_of checked) (root_start checked)) (cursors : List CursorView) (cursor moved : CursorView) (keys : Path)
@@ -155,3 +130,36 @@ module _ (checked : Checked) (all : HasEntries (entries_of checked) (root_start 
       let (i, old, at, same, short) = goes None moves own.0 own.1 in
       subst (λ (p : Path). beyond p listing ≡ beyond top.front listing) same
       (give_after_last (entries_of checked) (root_start checked) all listing lists top.front cursor.start top.names own.0 i old own.1 at short)
+
+module _ (move : List LeafElement → Place → Move) (before opened moved after : List CursorView) (bucket : Bucket) (answer : Option LeafElement)
+    (moves : MovesLast move opened moved answer) (is : opened ≡ before ++ fresh_view bucket ∷ []) where
+  same : (moves.outer ≡ before) × (moves.cursor ≡ fresh_view bucket)
+  same = same_from_push moves.outer before moves.cursor (fresh_view bucket) (sym moves.was ∙ is)
+
+  left : (o : Option LeafElement) → Keeps o moved after → MatchOption o (after ≡ before) (λ e. after ≡ before ++ moves.moved ∷ [])
+  left None shut = shut moves.outer moves.moved moves.is ∙ same.0
+  left (Some e) kept = kept ∙ (moves.is ∙ ap (λ (vs : List CursorView). vs ++ moves.moved ∷ []) same.0)
+
+  pub opens : Keeps answer moved after → Opens bucket move before after answer
+  opens keeps = record {
+    moved = moves.moved;
+    file = moves.file ∙ ap (λ (v : CursorView). v.checked) same.1;
+    start = moves.start ∙ ap (λ (v : CursorView). v.start) same.1;
+    moves = subst (λ (v : CursorView). Moves (entries_of v.checked) v.start move v.place moves.moved.place answer) same.1 moves.moves;
+    is = left answer keeps;
+  }
+
+-- before the first call the next entry is the first one
+next_first : (Entry : Start → LeafElement → Type 0) (bucket : Start) (place : Place) (answer : Option LeafElement) → Moves Entry bucket next_move Fresh place answer
+    → Moves Entry bucket (λ entries place. first_move entries) Fresh place answer
+next_first Entry bucket place answer moves [] are = moves [] are
+next_first Entry bucket place answer moves (e ∷ entries) are = moves (e ∷ entries) are
+
+pub enters : (bucket : Bucket) (old new : List CursorView) (answer : Option LeafElement) → Opens bucket next_move old new answer → Opens bucket (λ entries place. first_move entries) old new answer
+enters bucket old new answer opens = record {
+  moved = opens.moved;
+  file = opens.file;
+  start = opens.start;
+  moves = next_first (entries_of (bucket_checked bucket)) (bucket_start bucket) opens.moved.place answer opens.moves;
+  is = opens.is;
+}

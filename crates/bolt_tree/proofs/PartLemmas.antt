@@ -1,25 +1,14 @@
 -- The part of a listing below a path: its members stand together, and a walk from the later of two paths comes to all of them that don't
 -- come before the other.
-use Rattle.std.proofs.Common.{◌≡◌, ◌∙◌, inl, inr, Bool, true, false, not, List, [], ◌∷◌, ◌++◌, length, drop, cond, filter, refl, sym, ap, subst, append-nil}
-use Rattle.std.specs.Prelude.{if◌then◌else◌}
-use Rattle.std.specs.List.{Contains, take_while}
-use Rattle.std.specs.Ordering.{is_lt, ordering_reverse}
-use Rattle.std.specs.declared.cmp.Ordering.{Ordering}
-use Rattle.std.specs.declared.cmp.Ordering.TheVariants.{Less, Equal, Greater}
-use Rattle.std.proofs.lemmas.List.Sums.{take_while-cons}
-use Rattle.std.proofs.lemmas.Slice.Eq.{bytes_eq-Decides, starts_is}
-use Rattle.std.proofs.lemmas.Bool.{not-true, false_from_ne_true}
-use Rattle.bolt_tree.specs.Entries.{Item}
-use Rattle.bolt_tree.specs.Listing.{Member, member_cmp, rest_from}
+use Rattle.std.proofs.Common.{◌≡◌, ◌∙◌, inl, inr, Bool, true, false, not, List, [], ◌∷◌, ◌++◌, length, drop, cond, filter, refl, sym, ap, append-nil}
+use Rattle.bolt_tree.proofs.Words.{All-contains, All-contains_itself, All-filter, Contains, Equal, Greater, Item, Less, Member, Ordering, Path, Rises}
+use Rattle.bolt_tree.proofs.Words.{bytes_eq-Decides, false_from_ne_true, filter_passes, if◌then◌else◌, is_beyond, is_lt, less_of, member_cmp, not-true}
+use Rattle.bolt_tree.proofs.Words.{ordering_reverse, path_cmp, rest_from, starts_is, take_while, take_while-cons}
 use Rattle.bolt_tree.specs.ListingParts.{begins_with, later_path, part_below}
-use Rattle.bolt_tree.specs.Order.{Rises}
-use Rattle.bolt_tree.specs.Paths.{Path, path_cmp}
-use Rattle.bolt_tree.specs.RestAfter.{is_beyond}
 use Rattle.bolt_tree.proofs.Filters.{filter_all, filter_first, filter_none}
 use Rattle.bolt_tree.proofs.Single.{member_total}
-use Rattle.bolt_tree.proofs.Lists.{contains_cases, contains_head, contains_none, contains_tail, irreflexive}
+use Rattle.bolt_tree.proofs.Lists.{contains_head, contains_tail, irreflexive}
 use Rattle.bolt_tree.proofs.PathOrder.{before_longer, beyond_less, beyond_or_longer, beyond_up, flip_less, path_exact, path_same, path_total}
-use Rattle.bolt_check.proofs.KeyLaws.{less_of}
 
 -- a path that begins with another, by its parts
 pub begins_of : (below path : Path) → begins_with below path ≡ true → path ≡ below ++ drop (length below) path
@@ -66,18 +55,11 @@ pub after_or_beyond : (below path : Path) → is_lt (path_cmp path below) ≡ fa
 after_or_beyond below path = beyond_by below path (path_cmp below path) refl
 
 -- what a filter keeps is of the list, passes, and rises as the list does
-filtered_of : {A : Type 0} (f : A → Bool) (x : A) (xs : List A) (b : Bool) → f x ≡ b → (y : A) → Contains (cond b (x ∷ filter f xs) (filter f xs)) y
-    → (Contains (filter f xs) y → Contains xs y × (f y ≡ true)) → Contains (x ∷ xs) y × (f y ≡ true)
-filtered_of f x xs true e y h more =
-    elim (contains_cases x y (filter f xs) h) [
-      | inl same ↦ (subst (λ z. Contains (x ∷ xs) z) same (contains_head x xs), sym (ap f same) ∙ e)
-      | inr later ↦ (let (has, passes) = more later in (contains_tail x y xs has, passes))
-    ]
-filtered_of f x xs false e y h more = let (has, passes) = more h in (contains_tail x y xs has, passes)
-
 pub filtered : {A : Type 0} (f : A → Bool) (xs : List A) (y : A) → Contains (filter f xs) y → Contains xs y × (f y ≡ true)
-filtered f [] y h = absurd (contains_none y h)
-filtered f (x ∷ xs) y h = filtered_of f x xs (f x) refl y h (filtered f xs y)
+filtered f xs y h = (
+  All-contains (Contains xs) (filter f xs) y (All-filter f (Contains xs) xs (All-contains_itself xs)) h,
+  All-contains (λ x. f x ≡ true) (filter f xs) y (filter_passes f xs) h,
+)
 
 rises_at : {A : Type 0} (cmp : A → A → Ordering) (f : A → Bool) (x : A) (xs : List A) (b : Bool) → ((y : A) → Contains xs y → cmp x y ≡ Less) → Rises cmp (filter f xs)
     → Rises cmp (cond b (x ∷ filter f xs) (filter f xs))
@@ -140,8 +122,7 @@ module _ (below : Path) where
 
   -- the members of the part stand together
   pub part_together : (listing : List Member) → Rises member_cmp listing → part_below below listing ≡ take_while (λ (x : Member). begins_with below x.0) (rest_from below listing)
-  part_together listing rises =
-      sym (whole_part below listing (λ path h. h)) ∙ rest_of_part below listing ∙ part_from below listing rises (λ path h. h)
+  part_together listing rises = sym (whole_part below listing (λ path h. h)) ∙ rest_of_part below listing ∙ part_from below listing rises (λ path h. h)
 
   -- what doesn't come before a path doesn't come before one that isn't later
   up_less : (from path : Path) → path_cmp from below ≡ Less → is_lt (path_cmp path below) ≡ false → is_lt (path_cmp path from) ≡ false
@@ -167,8 +148,7 @@ module _ (below : Path) where
 
   pub later_from : (from : Path) (listing : List Member) → Rises member_cmp listing → is_lt (path_cmp from below) ≡ false
       → rest_from from (part_below below listing) ≡ take_while (λ (x : Member). begins_with below x.0) (rest_from from listing)
-  later_from from listing rises out =
-      rest_of_part from listing ∙ part_from from listing rises (λ path h. up_other from path (path_cmp from below) refl out h)
+  later_from from listing rises out = rest_of_part from listing ∙ part_from from listing rises (λ path h. up_other from path (path_cmp from below) refl out h)
 
 -- all of a listing begins with the empty path
 pub part_of_root : (listing : List Member) → part_below [] listing ≡ listing

@@ -1,16 +1,9 @@
 -- A path leads to one bucket or to none, and holds one item or none; which of the two is computed from the entries of the buckets.
 -- Over any relation that says which elements a bucket has.
 use Rattle.std.proofs.Common.{◌≡◌, ◌∙◌, ◌⊎◌, inl, inr, true, false, IsTrue, List, [], ◌∷◌, ◌++◌, refl, sym, ap, subst, rules}
-use Rattle.std.proofs.Math.Logic.{∥∥₁_elim}
-use Rattle.std.proofs.Props.{props}
-use Rattle.std.specs.List.{Contains}
+use Rattle.bolt_tree.proofs.Words.{Contains, HasEntries, Holds, Item, Key, LeafElement, Names, Path, Start, bytes_eq-Decides, cases_Bool, item_of, props}
+use Rattle.bolt_tree.proofs.Words.{start_of, ∥∥₁_elim}
 use Rattle.std.specs.Str.{bytes_eq}
-use Rattle.std.proofs.lemmas.Bool.{cases_Bool}
-use Rattle.std.proofs.lemmas.Slice.Eq.{bytes_eq-Decides}
-use Rattle.bolt_format.specs.Elements.{LeafElement}
-use Rattle.bolt_check.specs.Keys.{Key}
-use Rattle.bolt_tree.specs.Entries.{Item, Start, item_of, start_of}
-use Rattle.bolt_tree.specs.Paths.{HasEntries, Holds, Names, Path}
 use Rattle.bolt_tree.proofs.Lists.{contains_cases, contains_head, contains_none, contains_tail}
 use Rattle.bolt_tree.proofs.Named.{entries_below, entry_once}
 
@@ -43,10 +36,7 @@ module _ (Entry : Start → LeafElement → Type 0) where
       → ((e : LeafElement) × Entry bucket e × (e.key ≡ key)) ⊎ ((e : LeafElement) → Entry bucket e → e.key ≡ key → ⊥)
   entry_or_none bucket all key =
       let (entries, are) = all [] bucket refl in
-      elim (key_or_none entries key) [
-        | inl (e, h, is) ↦ inl (e, (are.exact e).0 h, is)
-        | inr none ↦ inr (λ e h is. none e ((are.exact e).1 h) is)
-      ]
+      elim (key_or_none entries key) [ inl (e, h, is) ↦ inl (e, (are.exact e).0 h, is) | inr none ↦ inr (λ e h is. none e ((are.exact e).1 h) is) ]
 
   same_entry : (bucket : Start) → HasEntries Entry bucket → (a b : LeafElement) (key : Key) → Entry bucket a → Entry bucket b → a.key ≡ key → b.key ≡ key → a ≡ b
   same_entry bucket all a b key h g is same = let (entries, are) = all [] bucket refl in entry_once Entry bucket entries are a b h g (is ∙ sym same)

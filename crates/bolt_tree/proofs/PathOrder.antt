@@ -1,15 +1,10 @@
 -- The order of paths, part by part: what comes after a path, and where.
 -- Rests on the order of keys, which is total, and in which only equal keys are tied.
-use Rattle.std.proofs.Common.{◌≡◌, ◌∙◌, ◌⊎◌, inl, inr, Bool, true, false, List, [], ◌∷◌, ◌++◌, refl, sym, ap, ℕ}
-use Rattle.std.specs.Cmp.{IsTotalOrder}
+use Rattle.std.proofs.Common.{◌≡◌, ◌∙◌, ◌⊎◌, inl, inr, Bool, true, false, List, [], ◌∷◌, ◌++◌, refl, ap}
+use Rattle.bolt_tree.proofs.Words.{Equal, Greater, IsTotalOrder, Key, Less, Ordering, Path, by_first, is_beyond, is_lt, key_cmp, less_of, lists_total}
+use Rattle.bolt_tree.proofs.Words.{nat_list_cmp_total, ordering_reverse, ordering_then, path_cmp, tied_itself}
 use Rattle.std.specs.Cmp.Lexicographic.{slice_cmp}
-use Rattle.std.specs.Ordering.{is_lt, nat_cmp, ordering_then, ordering_reverse}
-use Rattle.std.specs.declared.cmp.Ordering.{Ordering}
-use Rattle.std.specs.declared.cmp.Ordering.TheVariants.{Less, Equal, Greater}
-use Rattle.std.proofs.lemmas.Cmp.{lists_total, nat_list_cmp_total, ranked, tied_itself}
-use Rattle.bolt_check.specs.Keys.{Key, key_cmp}
-use Rattle.bolt_tree.specs.Paths.{Path, path_cmp}
-use Rattle.bolt_tree.specs.RestAfter.{by_first, is_beyond}
+use Rattle.std.proofs.lemmas.Map.Lookups.{exact_bytes}
 
 pub key_total : IsTotalOrder key_cmp
 key_total = nat_list_cmp_total
@@ -18,14 +13,9 @@ pub path_total : IsTotalOrder path_cmp
 path_total = lists_total nat_list_cmp_total
 
 pub less_lt : (o : Ordering) → is_lt o ≡ true → o ≡ Less
-less_lt Less e = refl
-less_lt Equal e = absurd (cc)
-less_lt Greater e = absurd (cc)
+less_lt o e = less_of o e
 
 -- only equal texts are tied
-nats_exact : (x y : ℕ) → nat_cmp x y ≡ Equal → x ≡ y
-nats_exact x y e = ranked x y Equal (sym e)
-
 then_equal : (a b : Ordering) → ordering_then a b ≡ Equal → (a ≡ Equal) × (b ≡ Equal)
 then_equal Less b e = absurd (cc)
 then_equal Equal b e = (refl, e)
@@ -41,7 +31,7 @@ lists_exact R exact (x ∷ xs) (y ∷ ys) e =
     let later = lists_exact R exact xs ys both.1 in cc
 
 pub key_exact : (a b : Key) → key_cmp a b ≡ Equal → a ≡ b
-key_exact a b e = lists_exact nat_cmp nats_exact a b e
+key_exact a b e = exact_bytes a b e
 
 pub path_exact : (a b : Path) → path_cmp a b ≡ Equal → a ≡ b
 path_exact a b e = lists_exact key_cmp key_exact a b e
@@ -73,10 +63,7 @@ by_parts : (x y : Key) (p q : Path) (o : Ordering) → key_cmp x y ≡ o → ord
 by_parts x y p q Less e h more = inl refl
 by_parts x y p q Equal e h more =
     let same = key_exact x y e in
-    elim (more h) [
-      | inl beyond ↦ inl beyond
-      | inr (k, r, longer) ↦ inr (k, r, let both : y ∷ q ≡ x ∷ (p ++ k ∷ r) = cc in both)
-    ]
+    elim (more h) [ inl beyond ↦ inl beyond | inr (k, r, longer) ↦ inr (k, r, let both : y ∷ q ≡ x ∷ (p ++ k ∷ r) = cc in both) ]
 by_parts x y p q Greater e h more = absurd (let f : Greater ≡ Less = h in cc)
 
 pub beyond_or_longer : (p q : Path) → path_cmp p q ≡ Less → (is_beyond p q ≡ true) ⊎ ((k : Key) × (r : Path) × (q ≡ p ++ k ∷ r))
@@ -103,10 +90,7 @@ by_last : (x y : Key) (p q : Path) (k : Key) (o : Ordering) → key_cmp x y ≡ 
 by_last x y p q k Less e h more = inl refl
 by_last x y p q k Equal e h more =
     let same = key_exact x y e in
-    elim (more h) [
-      | inl beyond ↦ inl beyond
-      | inr (z, r, longer, less) ↦ inr (z, r, (let both : y ∷ q ≡ x ∷ (p ++ z ∷ r) = cc in both), less)
-    ]
+    elim (more h) [ inl beyond ↦ inl beyond | inr (z, r, longer, less) ↦ inr (z, r, (let both : y ∷ q ≡ x ∷ (p ++ z ∷ r) = cc in both), less) ]
 by_last x y p q k Greater e h more = absurd (let f : false ≡ true = h in cc)
 
 only_less : (k y : Key) (o : Ordering) → key_cmp k y ≡ o → by_first o false ≡ true → key_cmp k y ≡ Less

@@ -1,27 +1,75 @@
--- What the moves of a trail are to a cursor's place among the entries.
-use Rattle.std.proofs.Common.{◌≡◌, ℕ, suc, ◌+◌, ◌-◌, ◌≤◌, ◌<◌, List, [], ◌∷◌, ◌++◌, Some, None, Option, slice_get, length, drop, refl, sym, ap, ◌∙◌, arith, length-append}
-use Rattle.std.specs.Option.{is_none, option_map}
-use Rattle.std.proofs.Math.Logic.{∥∥₁_elim, ∥∥₁_map}
-use Rattle.std.proofs.Props.{props}
-use Rattle.std.proofs.lemmas.Bool.{lt-ltb, le-ltb}
-use Rattle.std.proofs.lemmas.List.{length-drop}
-use Rattle.std.proofs.lemmas.List.Concat.{flat_map-append}
-use Rattle.bolt_format.specs.ElementPlaces.{leaf_view}
-use Rattle.bolt_format.specs.Elements.{LeafElement}
-use Rattle.bolt_format.specs.declared.element.Leaf.{Leaf}
-use Rattle.bolt_check.specs.Keys.{Key}
-use Rattle.bolt_tree.specs.BucketViews.{AreSorted, BucketView}
-use Rattle.bolt_tree.specs.Private.BucketPages.{IsSoundBucket, contents_in, elements_in, pages_in}
-use Rattle.bolt_tree.specs.Private.Contents.{Content, Contents, Of_branch, Of_leaf}
-use Rattle.bolt_tree.specs.Private.Held.{place_by, place_on}
-use Rattle.bolt_tree.specs.Places.{Move, On, Past, Place, first_move, last_move, least_from, next_move, place_in, prev_move, seek_move}
-use Rattle.bolt_tree.specs.Private.Stacks.{Frame, HasStack, IsAtRest, IsOn, StandsOn, address_on, ahead_of, preceding_of, index_of, left_of, right_of}
-use Rattle.bolt_tree.specs.Private.Tours.{Visit, elements_of, tour}
+-- The place of a stack among the entries of its bucket, and what the moves of a trail are to a cursor's place.
+use Rattle.std.proofs.Common.{◌≡◌, ℕ, suc, ◌+◌, ◌-◌, ◌≤◌, ◌<◌, List, [], ◌∷◌, ◌++◌, Some, None, Option, slice_get, length, drop, refl, sym, ap, ◌∙◌, arith, length-append, zero, take, append_assoc}
+use Rattle.bolt_tree.proofs.Words.{AreSorted, BucketView, Content, Contents, Finds, FindsBack, Frame, HasStack, IsAtRest, IsOn, IsSoundBucket, Key, Leaf}
+use Rattle.bolt_tree.proofs.Words.{LeafElement, Move, Of_branch, Of_leaf, On, Past, Place, RestsOn, StandsOn, Visit, address_on, ahead_of, contents_in}
+use Rattle.bolt_tree.proofs.Words.{drop-append_seam, elements_in, elements_of, first_move, flat_map-append, index_of, is_none, last_move, le-ltb, leaf_view}
+use Rattle.bolt_tree.proofs.Words.{least_from, left_of, length-drop, length-take, lt-ltb, next_move, none-some, option_map, pages_in, place_by, place_in}
+use Rattle.bolt_tree.proofs.Words.{place_on, preceding_of, prev_move, props, right_of, seek_move, slice_get_within, take-append-drop, tour, ∥∥₁_elim, ∥∥₁_map}
 use Rattle.bolt_tree.proofs.BackLemmas.{behind_index}
 use Rattle.bolt_tree.proofs.ListLemmas.{get_behind, get_front}
-use Rattle.bolt_tree.proofs.PlaceLemmas.{IsSplit, get_next, on_rests, split}
 use Rattle.bolt_tree.proofs.SortedLemmas.{sorted, sorted_one}
-use Rattle.bolt_tree.specs.Private.Trails.{Finds, FindsBack}
+
+module _ {X : Type 0} where
+  pub drop_front : (xs ys : List X) (n : ℕ) → n ≡ length xs → drop n (xs ++ ys) ≡ ys
+  drop_front xs ys n e = rw e (drop-append_seam xs ys)
+
+  -- elements by place
+  pub get_drop : (xs : List X) (n : ℕ) → slice_get xs n ≡ slice_get (drop n xs) 0
+  get_drop [] zero = refl
+  get_drop [] (suc n) = refl
+  get_drop (x ∷ xs) zero = refl
+  get_drop (x ∷ xs) (suc n) = get_drop xs n
+
+  pub get_next : (xs : List X) (n : ℕ) (x : X) (ys : List X) → drop n xs ≡ x ∷ ys → slice_get xs n ≡ Some x
+  get_next xs n x ys e = get_drop xs n ∙ ap (λ (l : List X). slice_get l 0) e
+
+-- what a stack on a leaf says of the bucket's entries
+pub record IsSplit (elements : List LeafElement) (contents : Contents) (frames : List Frame) : Type 0 where
+  pub within : index_of contents frames < length elements
+  pub after : drop (suc (index_of contents frames)) elements ≡ ahead_of contents frames
+
+-- the bucket's entries, cut in a leaf
+pub leaf_parts : (contents : Contents) (n : ℕ) (whole : List Visit) (es : List LeafElement) (taken : ℕ) (below : List Frame)
+    → whole ≡ left_of contents below ++ (tour contents n (address_on below) (Of_leaf es) ++ right_of contents below)
+    → elements_of whole ≡ (elements_of (left_of contents below) ++ take taken es) ++ (drop taken es ++ elements_of (right_of contents below))
+leaf_parts contents n whole es taken below placed =
+    let left = elements_of (left_of contents below) in
+    let right = elements_of (right_of contents below) in
+    ap elements_of placed ∙ (flat_map-append (λ (v : Visit). v.entries) (left_of contents below) (record { address = address_on below; entries = es } ∷ right_of contents below)
+    ∙ (ap (λ (l : List LeafElement). left ++ (l ++ right)) (sym (take-append-drop taken es)) ∙ simp append_assoc))
+
+split_leaf : (contents : Contents) (n : ℕ) (whole : List Visit) (es : List LeafElement) (taken : ℕ) (below : List Frame) → 1 ≤ taken → taken ≤ length es
+    → whole ≡ left_of contents below ++ (tour contents n (address_on below) (Of_leaf es) ++ right_of contents below)
+    → IsSplit (elements_of whole) contents (record { content = Of_leaf es; taken = taken } ∷ below)
+split_leaf contents n whole es taken below one most placed =
+    let left = elements_of (left_of contents below) in
+    let back = drop taken es ++ elements_of (right_of contents below) in
+    let parts = leaf_parts contents n whole es taken below placed in
+    let len : length (left ++ take taken es) ≡ suc (length left + (taken - 1)) =
+    length-append left (take taken es) ∙ (let t = length-take taken es in omega (arith, t, one, most)) in
+    record {
+      within = omega (arith, len, ap length parts ∙ length-append (left ++ take taken es) back);
+      after = ap (drop (suc (length left + (taken - 1)))) parts ∙ drop_front (left ++ take taken es) back (suc (length left + (taken - 1))) (sym len);
+    }
+
+pub split : (bucket : BucketView) (f : Frame) (below : List Frame) → HasStack bucket (f ∷ below) → IsAtRest (f ∷ below)
+    → IsSplit (elements_in bucket) (contents_in bucket) (f ∷ below)
+split bucket f below stack rest = ∥∥₁_elim stack (Prim.hlevel props) (λ s. by_content bucket f.content f.taken below rest s.1.0.placed)
+  where
+    by_content : (bucket : BucketView) (content : Content) (taken : ℕ) (below : List Frame) → RestsOn content taken
+        → pages_in bucket ≡ left_of (contents_in bucket) below ++ (tour (contents_in bucket) (63 - length below) (address_on below) content ++ right_of (contents_in bucket) below)
+        → IsSplit (elements_in bucket) (contents_in bucket) (record { content = content; taken = taken } ∷ below)
+    by_content bucket (Of_leaf es) taken below rest placed = split_leaf (contents_in bucket) (63 - length below) (pages_in bucket) es taken below rest.0 rest.1 placed
+    by_content bucket (Of_branch bs) taken below rest placed = absurd rest
+
+-- a stack on an entry rests on it
+on_content_rests : (content : Content) (taken : ℕ) (e : LeafElement) → StandsOn content taken e → RestsOn content taken
+on_content_rests (Of_leaf es) taken e on = (on.0, let h = slice_get_within es (taken - 1) e on.1 in omega (arith, h))
+on_content_rests (Of_branch bs) taken e on = absurd on
+
+pub on_rests : (frames : List Frame) (e : LeafElement) → IsOn frames e → IsAtRest frames
+on_rests [] e on = absurd on
+on_rests (f ∷ below) e on = on_content_rests f.content f.taken e on
 
 -- a stack is one of a sound bucket
 pub stack_bucket : (bucket : BucketView) (frames : List Frame) → HasStack bucket frames → ∥ IsSoundBucket bucket ∥₁
@@ -46,7 +94,7 @@ first_none : (entries : List LeafElement) (place : Place) → entries ≡ [] →
 first_none entries place e = rw e (refl, refl)
 
 first_onto : (entries : List LeafElement) (i : ℕ) (e : LeafElement) → i ≡ 0 → slice_get entries i ≡ Some e → Comes entries (first_move entries) (On i) (Some e)
-first_onto [] i e z g = absurd (let h : (None ≡ Some e → ⊥) = λ x. cc in h g)
+first_onto [] i e z g = absurd (none-some e g)
 first_onto (x ∷ entries) i e z g = (rw z refl, sym (rw z at g))
 
 last_none : (entries : List LeafElement) (place : Place) → entries ≡ [] → Comes entries (last_move entries) place None
@@ -61,21 +109,14 @@ next_onto : (entries : List LeafElement) (i k : ℕ) (answer : Option LeafElemen
 next_onto entries i k answer e g h =
     let there = place_there entries (On i) (omega (arith, h)) in
     let there2 = place_there entries (On k) (omega (arith, h)) in
-    let b = lt-ltb (suc i) (length entries) h in
-    rw (there, there2, e, b, g) (refl, refl)
+    rw (there, there2, e, lt-ltb (suc i) (length entries) h, g) (refl, refl)
 
 next_stays : (entries : List LeafElement) (i : ℕ) → 0 < length entries → length entries ≤ suc i → Comes entries (next_move entries (place_in entries (On i))) (On i) None
-next_stays entries i some h =
-    let there = place_there entries (On i) some in
-    let b = le-ltb (suc i) (length entries) h in
-    rw (there, b) (refl, refl)
+next_stays entries i some h = rw (place_there entries (On i) some, le-ltb (suc i) (length entries) h) (refl, refl)
 
 prev_onto : (entries : List LeafElement) (i k : ℕ) (answer : Option LeafElement) → i ≡ suc k → slice_get entries k ≡ answer → 0 < length entries
     → Comes entries (prev_move entries (place_in entries (On i))) (On k) answer
-prev_onto entries i k answer e g some =
-    let there = place_there entries (On i) some in
-    let there2 = place_there entries (On k) some in
-    rw (there, there2, e, g) (refl, refl)
+prev_onto entries i k answer e g some = rw (place_there entries (On i) some, place_there entries (On k) some, e, g) (refl, refl)
 
 prev_stays : (entries : List LeafElement) (i : ℕ) → i ≡ 0 → 0 < length entries → Comes entries (prev_move entries (place_in entries (On i))) (On i) None
 prev_stays entries i e some = let there = place_there entries (On i) some in rw (there, e) (refl, refl)
@@ -110,8 +151,7 @@ pub ahead_number : (elements : List LeafElement) (contents : Contents) (f : Fram
     → length elements ≡ suc (index_of contents (f ∷ below)) + length (ahead_of contents (f ∷ below))
 ahead_number elements contents f below s =
     let a : length elements - suc (index_of contents (f ∷ below)) ≡ length (ahead_of contents (f ∷ below)) = sym (length-drop (suc (index_of contents (f ∷ below))) elements) ∙ ap length s.after in
-    let w = s.within in
-    omega (arith, a, w)
+    omega (arith, a, s.within)
 
 module _ (bucket : BucketView) where
   abbrev here : List Frame → Place
@@ -137,15 +177,15 @@ module _ (bucket : BucketView) where
       let l = length-append (preceding_of (contents_in bucket) (f ∷ below)) (leaf_view leaf ∷ []) in
       last_onto (elements_in bucket) (index_of (contents_in bucket) (f ∷ below)) (Some (leaf_view leaf)) (omega (arith, b, m, l)) (current bucket f below (leaf_view leaf) stack h.1)
 
-  pub next_moves : (found : Option Leaf) (f : Frame) (below frames : List Frame) → HasStack bucket (f ∷ below) → IsAtRest (f ∷ below) → HasStack bucket frames
-      → Finds found (ahead_of (contents_in bucket) (f ∷ below)) (ahead_of (contents_in bucket) frames) frames (f ∷ below)
-      → Comes (elements_in bucket) (next_move (elements_in bucket) (place_in (elements_in bucket) (here (f ∷ below)))) (here frames) (option_map leaf_view found)
-  next_moves None f below frames old rest new h =
+  pub next_moves : (found : Option Leaf) (from frames : List Frame) → HasStack bucket from → IsAtRest from → (from ≡ [] → ⊥) → HasStack bucket frames
+      → Finds found (ahead_of (contents_in bucket) from) (ahead_of (contents_in bucket) frames) frames from
+      → Comes (elements_in bucket) (next_move (elements_in bucket) (place_in (elements_in bucket) (here from))) (here frames) (option_map leaf_view found)
+  next_moves found [] frames old rest some new h = absurd (some refl)
+  next_moves None (f ∷ below) frames old rest some new h =
       let a = ahead_number (elements_in bucket) (contents_in bucket) f below (split bucket f below old rest) in
-      let none = ap length h.0 in
-      rw h.1 (next_stays (elements_in bucket) (index_of (contents_in bucket) (f ∷ below)) (omega (arith, a)) (omega (arith, a, none)))
-  next_moves (Some leaf) f below [] old rest new h = absurd h.1
-  next_moves (Some leaf) f below (g ∷ under) old rest new h =
+      rw h.1 (next_stays (elements_in bucket) (index_of (contents_in bucket) (f ∷ below)) (omega (arith, a)) (omega (arith, a, ap length h.0)))
+  next_moves (Some leaf) (f ∷ below) [] old rest some new h = absurd h.1
+  next_moves (Some leaf) (f ∷ below) (g ∷ under) old rest some new h =
       let s = split bucket f below old rest in
       let a = ahead_number (elements_in bucket) (contents_in bucket) f below s in
       let b = ahead_number (elements_in bucket) (contents_in bucket) g under (split bucket g under new (on_rests (g ∷ under) (leaf_view leaf) h.1)) in
@@ -154,16 +194,16 @@ module _ (bucket : BucketView) where
       next_onto (elements_in bucket) i (index_of (contents_in bucket) (g ∷ under)) (Some (leaf_view leaf)) (omega (arith, a, b, c))
       (get_next (elements_in bucket) (suc i) (leaf_view leaf) (ahead_of (contents_in bucket) (g ∷ under)) (s.after ∙ h.0)) (omega (arith, a, c))
 
-  pub prev_moves : (found : Option Leaf) (f : Frame) (below frames : List Frame) → HasStack bucket (f ∷ below) → IsAtRest (f ∷ below) → HasStack bucket frames
-      → FindsBack found (preceding_of (contents_in bucket) (f ∷ below)) (preceding_of (contents_in bucket) frames) frames (f ∷ below)
-      → Comes (elements_in bucket) (prev_move (elements_in bucket) (place_in (elements_in bucket) (here (f ∷ below)))) (here frames) (option_map leaf_view found)
-  prev_moves None f below frames old rest new h =
+  pub prev_moves : (found : Option Leaf) (from frames : List Frame) → HasStack bucket from → IsAtRest from → (from ≡ [] → ⊥) → HasStack bucket frames
+      → FindsBack found (preceding_of (contents_in bucket) from) (preceding_of (contents_in bucket) frames) frames from
+      → Comes (elements_in bucket) (prev_move (elements_in bucket) (place_in (elements_in bucket) (here from))) (here frames) (option_map leaf_view found)
+  prev_moves found [] frames old rest some new h = absurd (some refl)
+  prev_moves None (f ∷ below) frames old rest some new h =
       let a = ahead_number (elements_in bucket) (contents_in bucket) f below (split bucket f below old rest) in
       let b = behind_index (contents_in bucket) f below rest in
-      let none = ap length h.0 in
-      rw h.1 (prev_stays (elements_in bucket) (index_of (contents_in bucket) (f ∷ below)) (omega (arith, b, none)) (omega (arith, a)))
-  prev_moves (Some leaf) f below [] old rest new h = absurd h.1
-  prev_moves (Some leaf) f below (g ∷ under) old rest new h =
+      rw h.1 (prev_stays (elements_in bucket) (index_of (contents_in bucket) (f ∷ below)) (omega (arith, b, ap length h.0)) (omega (arith, a)))
+  prev_moves (Some leaf) (f ∷ below) [] old rest some new h = absurd h.1
+  prev_moves (Some leaf) (f ∷ below) (g ∷ under) old rest some new h =
       let a = ahead_number (elements_in bucket) (contents_in bucket) f below (split bucket f below old rest) in
       let b = behind_index (contents_in bucket) f below rest in
       let d = behind_index (contents_in bucket) g under (on_rests (g ∷ under) (leaf_view leaf) h.1) in

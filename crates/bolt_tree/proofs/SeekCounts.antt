@@ -1,144 +1,102 @@
--- For each key there is a nearest leaf, and a number of pages that a seek opens.
-use Rattle.std.proofs.Common.{◌≡◌, ℕ, zero, suc, ◌+◌, ◌-◌, ◌≤◌, ◌<◌, ◌⊎◌, inl, inr, Bool, true, false, List, [], ◌∷◌, ◌++◌, Some, None, Option, slice_get, length, refl, sym, ap, ◌∙◌, subst, arith}
-use Rattle.std.proofs.lemmas.Bool.{cases_lt}
-use Rattle.bolt_format.specs.Elements.{BranchElement, LeafElement}
-use Rattle.bolt_format.specs.declared.meta.Meta.{Meta}
-use Rattle.bolt_check.specs.Keys.{Key, key_lt}
-use Rattle.bolt_check.specs.Nodes.{node_at}
-use Rattle.bolt_check.specs.Shape.{leads}
-use Rattle.bolt_check.specs.Sound.{HasSoundTrees}
-use Rattle.bolt_check.specs.Ways.{Before}
-use Rattle.bolt_check.proofs.TreePages.{leads_child, on_child, shallow}
-use Rattle.bolt_check.proofs.WayOrder.{before_strict, before_trans}
-use Rattle.bolt_tree.specs.Entries.{AreEntries, Inline_page, IsEntry, IsStart, Root_page, Start}
-use Rattle.bolt_tree.specs.Openings.{HasCount, IsAddress, IsAfter, IsNear, IsNearFrom, IsNearest, IsSeekCount, IsSeekPage}
-use Rattle.bolt_tree.specs.Places.{least_from}
-use Rattle.bolt_tree.specs.Private.Tours.{Visit, pages_at}
-use Rattle.bolt_check.specs.OnWays.{IsOnWay}
-use Rattle.bolt_tree.proofs.CountLemmas.{address_visited, counts}
-use Rattle.std.proofs.Common.{length-append}
-use Rattle.bolt_tree.proofs.CountLemmas.{home_is}
-use Rattle.bolt_tree.proofs.FurtherLemmas.{IsExactly, after_exact, between_exact}
-use Rattle.bolt_tree.proofs.GapLemmas.{IsAt, entry_at, first_cut, has_cut}
-use Rattle.bolt_tree.proofs.ListLemmas.{Has, RisesBy, at_has, contains_from_has, map_has, rises_across}
-use Rattle.bolt_tree.proofs.SortedLemmas.{start_rises}
-use Rattle.bolt_tree.proofs.TourLemmas.{IsApart}
-use Rattle.bolt_tree.proofs.WayPages.{a_branch, a_leaf, on_way_page}
-use Rattle.bolt_tree.proofs.TourLemmas.{filled, not_deepest}
+-- A number of pages that a seek opens: no more than the way down and the gap before the entry that it comes to. For every entry on a page after
+-- the nearest leaf is not below the key, so the page of the entry before is not after that leaf.
+use Rattle.std.proofs.Common.{◌≡◌, ℕ, zero, suc, ◌+◌, ◌-◌, ◌≤◌, ◌<◌, inl, inr, true, false, not, List, [], ◌∷◌, Some, None, Option, slice_get, length, refl, sym, ap, ◌∙◌, subst, arith}
+use Rattle.bolt_tree.proofs.Words.{AreSorted, Before, BranchElement, BucketView, HasCount, HasSoundTrees, Inline_page, IsEntry, IsGap, IsHome, IsNear}
+use Rattle.bolt_tree.proofs.Words.{IsNearFrom, IsNearest, IsOnWay, IsPagesUpTo, IsSeekCount, IsSeekPage, IsSoundBucket, IsStart, Key, LeafElement, Meta}
+use Rattle.bolt_tree.proofs.Words.{Root_page, Start, Visit, branch_step, cases_lt, content_at, key_lt, leads, leads_child, leaf_ends, least_from, node_at}
+use Rattle.bolt_tree.proofs.Words.{node_is, on_address, on_child, pages_in, prefix_len-le-length}
+use Rattle.bolt_format.specs.declared.kind.Kind.TheVariants as kind
+use Rattle.bolt_tree.proofs.ListLemmas.{Has, at_has, contains_from_has, get_exists, has_from_contains, map_has}
+use Rattle.bolt_tree.proofs.SeekLemmas.{not_below}
+use Rattle.bolt_tree.proofs.TourLemmas.{IsUnder, entries_shown, under_child}
+use Rattle.bolt_tree.proofs.WayPages.{content_is}
+use Rattle.bolt_tree.proofs.CountLemmas.{Cut, IsAt, address_of, address_visited, after_exact, all_exact, apart, cut_size, entry_at, exact_count, exact_is, has_cut, its_home, seek_exact, upto_is}
+use Rattle.bolt_tree.proofs.GapLemmas.{at_place}
+use Rattle.bolt_tree.proofs.NearestLeaf.{near_exists, one_near}
+use Rattle.bolt_tree.proofs.EntryOrder.{before_least}
 
-none_at : (elements : List BranchElement) (j : ℕ) (f : BranchElement) → elements ≡ [] → slice_get elements j ≡ Some f → ⊥
-none_at [] j f e g = let h : (None ≡ Some f → ⊥) = λ x. cc in h g
-none_at (x ∷ elements) j f e g = cc
+module _ (file : List ℕ) (meta : Meta) (trees : HasSoundTrees file meta) where
+  -- the elements of a branch behind the nearest one are above the key
+  above_nearest : (elements : List BranchElement) (key : Key) (i j : ℕ) (d : BranchElement) → IsNearest elements key i → i < j → slice_get elements j ≡ Some d → key_lt key d.key ≡ true
+  above_nearest elements key i j d (inl h) l g = h.3 j d l g
+  above_nearest elements key i j d (inr h) l g = h.1 j d g
 
--- the last place at which a test fails, or that it holds everywhere
-pub data LastFalse (key : Key) (elements : List BranchElement) : Type 0 where
-  all_above : ((j : ℕ) (f : BranchElement) → slice_get elements j ≡ Some f → key_lt key f.key ≡ true) → LastFalse key elements
-  last_at : (i : ℕ) (e : BranchElement) → slice_get elements i ≡ Some e → key_lt key e.key ≡ false
-      → ((j : ℕ) (f : BranchElement) → i < j → slice_get elements j ≡ Some f → key_lt key f.key ≡ true) → LastFalse key elements
+  -- an entry at an address after the nearest one is not below the key
+  after_near_from : (near a : List ℕ) (number depth page : ℕ) (key : Key) (x : LeafElement) → IsOnWay file meta number depth → IsNearFrom file meta number key near
+      → leads (node_at file meta) (Some number) a ≡ Some page → Has (entries_shown (content_at file meta page)) x → Before near a → key_lt x.key key ≡ false
+  after_near_from near [] number depth page key x on down led has after = absurd after
+  after_near_from [] (j ∷ rest) number depth page key x on (view, at, leaf) led has after =
+      absurd (leaf_ends (node_at file meta) number j page view rest (node_is file meta number view kind.Leaf at leaf) led)
+  after_near_from (i ∷ near) (j ∷ rest) number depth page key x on (view, e, at, branch, nearest, g, down) led has (inl lt) =
+      let node = node_is file meta number view kind.Branch at branch in
+      let d = branch_step (node_at file meta) number j page view rest node led in
+      let below : leads (node_at file meta) (Some d.0.child) rest ≡ Some page = sym (leads_child file meta number j view d.0 rest node d.1) ∙ led in
+      let there = on_address file meta trees d.0.child (suc depth) page rest (on_child file meta number depth j view d.0 on node d.1) below in
+      let v : Visit = record { address = rest; entries = entries_shown (content_at file meta page) } in
+      let under : IsUnder file meta d.0.child [] v = record { rest = rest; page = page; depth = there.0; from = refl; led = below; shown = refl; on = there.1 } in
+      not_below x.key d.0.key key (under_child file meta trees number depth j [] view d.0 v x on node d.1 under has).0 (above_nearest view.branches key i j d.0 nearest lt d.1)
+  after_near_from (i ∷ near) (j ∷ rest) number depth page key x on (view, e, at, branch, nearest, g, down) led has (inr (same, after)) =
+      let node = node_is file meta number view kind.Branch at branch in
+      let here : slice_get view.branches j ≡ Some e = ap (slice_get view.branches) (sym same) ∙ g in
+      after_near_from near rest e.child (suc depth) page key x (on_child file meta number depth j view e on node here) down (sym (leads_child file meta number j view e rest node here) ∙ led) has after
 
-first_case : (key : Key) (x : BranchElement) (elements : List BranchElement) → key_lt key x.key ≡ true → ((j : ℕ) (f : BranchElement) → slice_get elements j ≡ Some f → key_lt key f.key ≡ true)
-    → (j : ℕ) (f : BranchElement) → slice_get (x ∷ elements) j ≡ Some f → key_lt key f.key ≡ true
-first_case key x elements e above zero f g = let same : x ≡ f = cc in rw (← same) e
-first_case key x elements e above (suc j) f g = above j f g
+  after_near : (start : Start) (key : Key) (near a : List ℕ) (x : LeafElement) → IsStart file meta start → IsNear file meta start key near → IsHome file meta start x a → Before near a → key_lt x.key key ≡ false
+  after_near (Root_page root) key near a x is down (n, led, (view, at, leaf, has)) after =
+      after_near_from near a root 1 n key x is down led (subst (λ (es : List LeafElement). Has es x) (sym (ap entries_shown (content_is file meta n view kind.Leaf at leaf))) (has_from_contains view.leaves x has)) after
+  after_near (Inline_page elements) key near a x is down (empty, has) after = absurd (subst (Before near) empty after)
 
-later_case : (key : Key) (x : BranchElement) (elements : List BranchElement) → ((j : ℕ) (f : BranchElement) → slice_get elements j ≡ Some f → key_lt key f.key ≡ true)
-    → (j : ℕ) (f : BranchElement) → 0 < j → slice_get (x ∷ elements) j ≡ Some f → key_lt key f.key ≡ true
-later_case key x elements above zero f l g = absurd (omega arith)
-later_case key x elements above (suc j) f l g = above j f g
+module _ (b : BucketView) (s : IsSoundBucket b) (key : Key) where
+  -- the page of the nearest leaf
+  near_cut : (c : Cut (pages_in b)) × IsNear b.file b.meta b.start key c.page.address × (1 + length c.page.address ≤ 64)
+  near_cut =
+      let near = near_exists b.file b.meta s.trees b.start key s.start in
+      let r = map_has address_of (pages_in b) near.0 (address_visited b.file b.meta s.trees b.start near.0 s.start near.2) in
+      let c = has_cut (pages_in b) r.0 r.1 in
+      (record { left = c.0; page = r.0; right = c.1; whole = c.2 }, subst (IsNear b.file b.meta b.start key) (sym r.2) near.1, subst (λ (a : List ℕ). 1 + length a ≤ 64) (sym r.2) near.3)
 
-shifted : (key : Key) (x : BranchElement) (elements : List BranchElement) (i : ℕ) → ((j : ℕ) (f : BranchElement) → i < j → slice_get elements j ≡ Some f → key_lt key f.key ≡ true)
-    → (j : ℕ) (f : BranchElement) → suc i < j → slice_get (x ∷ elements) j ≡ Some f → key_lt key f.key ≡ true
-shifted key x elements i later zero f l g = absurd (omega arith)
-shifted key x elements i later (suc j) f l g = later j f (omega arith) g
+  -- how many pages lie after it, up to that of an entry
+  seek_pages : (c : Cut (pages_in b)) (o : Option LeafElement) → ((x : LeafElement) → o ≡ Some x → IsEntry b.file b.meta b.start x) → (m : ℕ) × HasCount (IsSeekPage b.file b.meta b.start c.page.address o) m
+  seek_pages c None entry = (length c.right, exact_count (after_exact b s c))
+  seek_pages c (Some x) entry = let at = entry_at b s x (entry x refl) in (length c.right - length at.cut.right, exact_count (seek_exact b s c x at))
 
-first_true : (key : Key) (x : BranchElement) (elements : List BranchElement) (t : Bool) → key_lt key x.key ≡ t → ((j : ℕ) (f : BranchElement) → slice_get elements j ≡ Some f → key_lt key f.key ≡ true) → LastFalse key (x ∷ elements)
-first_true key x elements true e above = all_above (λ j f g. first_case key x elements e above j f g)
-first_true key x elements false e above = last_at 0 x refl e (λ j f l g. later_case key x elements above j f l g)
+  module _ (entries : List LeafElement) (sorted : AreSorted b entries) where
+    pub seek_counted : (n : ℕ) × IsSeekCount b.file b.meta b.start entries key n
+    seek_counted =
+        let near = near_cut in
+        let m = seek_pages near.0 (slice_get entries (least_from key entries)) (λ x g. (sorted.exact x).0 (contains_from_has entries x (at_has entries (least_from key entries) x g))) in
+        (1 + length near.0.page.address + m.0, record { near = near.0.page.address; down = near.1; further = m.0; counted = m.1; sum = refl {a = 1 + length near.0.page.address + m.0} })
 
-last_false : (key : Key) (elements : List BranchElement) → LastFalse key elements
-last_false key [] = all_above (λ j f g. absurd (none_at [] j f refl g))
-last_false key (x ∷ elements) = elim (last_false key elements) [
-  | all_above above ↦ first_true key x elements (key_lt key x.key) refl above
-  | last_at i e g t later ↦ last_at (suc i) e g t (λ j f l h. shifted key x elements i later j f l h)
-]
-
-nearest_exists : (key : Key) (elements : List BranchElement) → 1 ≤ length elements → (i : ℕ) × (e : BranchElement) × (slice_get elements i ≡ Some e) × IsNearest elements key i
-nearest_exists key [] h = absurd (omega arith)
-nearest_exists key (x ∷ elements) h = elim (last_false key (x ∷ elements)) [
-  | all_above above ↦ (0, x, refl, inr (refl, above))
-  | last_at i e g t later ↦ (i, e, g, inl (e, g, t, later))
-]
-
--- The way down from a page ends.
-near_exists_from : (file : List ℕ) (meta : Meta) (trees : HasSoundTrees file meta) (n number depth : ℕ) (key : Key) → IsOnWay file meta number depth → 64 ≤ depth + n
-    → (near : List ℕ) × (page : ℕ) × IsNearFrom file meta number key near × (leads (node_at file meta) (Some number) near ≡ Some page) × (depth + length near ≤ 64)
-near_exists_from file meta trees zero number depth key on deep = elim (on_way_page file meta trees number depth on) [
-  | a_leaf view at is node content ↦ (let d = shallow file meta trees number depth on in ([], number, (view, at, is), refl, omega (arith, d)))
-  | a_branch view at is node content ↦ (let d = not_deepest file meta trees number depth view on node in absurd (omega (arith, d, deep)))
-]
-near_exists_from file meta trees (suc n) number depth key on deep = elim (on_way_page file meta trees number depth on) [
-  | a_leaf view at is node content ↦ (let d = shallow file meta trees number depth on in ([], number, (view, at, is), refl, omega (arith, d)))
-  | a_branch view at is node content ↦ (
-      let i = nearest_exists key view.branches (filled file meta trees number depth view on node) in
-      let r = near_exists_from file meta trees n i.1.child (suc depth) key (on_child file meta number depth i.0 view i.1 on node i.2) (omega arith) in
-      let l = r.4 in
-      (i.0 ∷ r.0, r.1, (view, i.1, at, is, i.3, i.2, r.2), leads_child file meta number i.0 view i.1 r.0 node i.2 ∙ r.3, omega (arith, l)))
-]
-
-pub near_exists : (file : List ℕ) (meta : Meta) (trees : HasSoundTrees file meta) (start : Start) (key : Key) → IsStart file meta start
-    → (near : List ℕ) × IsNear file meta start key near × IsAddress file meta start near × (1 + length near ≤ 64)
-near_exists file meta trees (Root_page number) key is =
-    let r = near_exists_from file meta trees 63 number 1 key is (omega arith) in
-    (r.0, r.2, (r.1, r.3), r.4)
-near_exists file meta trees (Inline_page page) key is = ([], refl, refl, omega arith)
-
-counted : (Is : List ℕ → Type 0) (n : ℕ) → IsExactly Is n → (m : ℕ) × HasCount Is m
-counted Is n x = (length x.members, counts Is x.members x.rises x.sound x.complete)
-
-module _ (file : List ℕ) (meta : Meta) (trees : HasSoundTrees file meta) (start : Start) (is : IsStart file meta start) where
-  -- no page lies after a page and up to that of an entry before it
-  pub none_between : (left right : List Visit) (v : Visit) (x : LeafElement) (at : IsAt file meta trees start is x) → pages_at file meta start ≡ left ++ (v ∷ right) → length right < length at.right
-      → (a : List ℕ) → IsSeekPage file meta start v.address (Some x) a → ⊥
-  none_between left right v x at cut lt a page =
-      let w = at.visit in
-      let one = ap length cut in
-      let two = ap length at.cut in
-      let l1 = length-append left (v ∷ right) in
-      let l2 = length-append at.left (w ∷ at.right) in
-      let before : Has left w = first_cut at.left at.right left right w v (sym at.cut ∙ cut) (omega (arith, lt, one, two, l1, l2)) in
-      let rising : RisesBy IsApart (left ++ (v ∷ right)) = subst (RisesBy IsApart) cut (start_rises file meta trees start is) in
-      let apart = (rises_across IsApart left (v ∷ right) rising w v before (inl refl)).addresses in
-      let home : page.1.0 ≡ w.address = home_is file meta trees start is at.left at.right w at.cut x page.1.0 at.has page.1.1 in
-      let up : (a ≡ w.address) ⊎ Before a w.address = elim page.1.2 as (λ _. (a ≡ w.address) ⊎ Before a w.address) [ inl e ↦ inl (e ∙ home) | inr b ↦ inr (subst (Before a) home b) ] in
-      elim up as (λ _. ⊥) [
-        | inl e ↦ before_strict w.address v.address apart (subst (Before v.address) e page.0.1)
-        | inr b ↦ before_strict w.address v.address apart (before_trans v.address a w.address page.0.1 b)
+    module _ (c : Cut (pages_in b)) (near : IsNear b.file b.meta b.start key c.page.address) where
+      -- the page of an entry below the key is not after the nearest leaf
+      not_after : (e : LeafElement) (at : IsAt b e) → key_lt e.key key ≡ true → length at.cut.left ≤ length c.left
+      not_after e at less = elim (cases_lt (length c.left) (length at.cut.left)) [
+        | inr le ↦ le
+        | inl lt ↦ (
+            let more = after_near b.file b.meta s.trees b.start key c.page.address at.cut.page.address e s.start near (its_home b s at.cut e at.has) (apart b s c at.cut lt).addresses in
+            absurd (cc))
       ]
 
-  -- how many pages lie after a page, up to that of an entry
-  seek_pages : (left right : List Visit) (v : Visit) (o : Option LeafElement) → pages_at file meta start ≡ left ++ (v ∷ right) → ((x : LeafElement) → o ≡ Some x → IsEntry file meta start x)
-      → (m : ℕ) × HasCount (IsSeekPage file meta start v.address o) m
-  seek_pages left right v None cut entry = counted (IsAfter file meta start v.address) (length right) (after_exact file meta trees start is left right v cut)
-  seek_pages left right v (Some x) cut entry =
-      let at = entry_at file meta trees start is x (entry x refl) in
-      elim (cases_lt (length right) (length at.right)) [
-        | inr le ↦ counted (IsSeekPage file meta start v.address (Some x)) (length right - length at.right) (between_exact file meta trees start is left right at.left at.right v at.visit x cut at.cut le at.has)
-        | inl lt ↦ (0, counts (IsSeekPage file meta start v.address (Some x)) [] tt (λ a h. absurd h) (λ a page. absurd (none_between left right v x at cut lt a page)))
-      ]
+      -- the further pages end before, or with, the page that the seek comes to
+      further_within : (o : Option LeafElement) (m up : ℕ) (i : ℕ) → slice_get entries i ≡ o → HasCount (IsSeekPage b.file b.meta b.start c.page.address o) m → IsPagesUpTo b.file b.meta b.start o up → m ≤ up - suc (length c.left)
+      further_within None m up i g count upto = omega (arith, exact_is (after_exact b s c) count, exact_is (all_exact b s) upto, cut_size c)
+      further_within (Some e) m up i g count upto =
+          let at = at_place b s entries sorted i e g in
+          omega (arith, exact_is (seek_exact b s c e at) count, upto_is b s at.cut e up at.has upto, sym (cut_size c) ∙ cut_size at.cut)
 
-  pub seek_counted : (entries : List LeafElement) (key : Key) → AreEntries (IsEntry file meta) start entries → (n : ℕ) × IsSeekCount file meta start entries key n
-  seek_counted entries key sorted =
-      let near = near_exists file meta trees start key is in
-      let r = map_has (λ (v : Visit). v.address) (pages_at file meta start) near.0 (address_visited file meta trees start near.0 is near.2) in
-      let c = has_cut (pages_at file meta start) r.0 r.1 in
-      let o = slice_get entries (least_from key entries) in
-      let m = seek_pages c.0 c.1 r.0 o c.2 (λ x g. (sorted.exact x).0 (contains_from_has entries x (at_has entries (least_from key entries) x g))) in (
-        1 + length near.0 + m.0,
-        record {
-          near = near.0;
-          down = near.1;
-          further = m.0;
-          counted = subst (λ (a : List ℕ). HasCount (IsSeekPage file meta start a o) m.0) r.2 m.1;
-          sum = refl {a = 1 + length near.0 + m.0};
-        },
-      )
+      further_at : (i m g : ℕ) → i ≡ least_from key entries → HasCount (IsSeekPage b.file b.meta b.start c.page.address (slice_get entries i)) m → IsGap b.file b.meta b.start entries i g → m ≤ g
+      further_at zero m g same count gap = let h = further_within (slice_get entries 0) m g 0 refl count gap in omega (arith, h)
+      further_at (suc i) m g same count (here, before, up, down, is_gap) =
+          let within = prefix_len-le-length (λ (e : LeafElement). not (not (key_lt e.key key))) entries in
+          let e = get_exists entries i (omega (arith, same, within)) in
+          let at = at_place b s entries sorted i e.0 e.1 in
+          let one = upto_is b s at.cut e.0 before at.has (subst (λ (o : Option LeafElement). IsPagesUpTo b.file b.meta b.start o before) e.1 down) in
+          let less = not_after e.0 at (before_least key entries i e.0 (omega (arith, same)) e.1) in
+          omega (arith, further_within (slice_get entries (suc i)) m here (suc i) refl count up, one, less, is_gap)
+
+    pub seek_bounded : (n gap : ℕ) → IsSeekCount b.file b.meta b.start entries key n → IsGap b.file b.meta b.start entries (least_from key entries) gap → n ≤ 64 + gap
+    seek_bounded n gap count is_gap =
+        let near = near_cut in
+        let same : count.near ≡ near.0.page.address = one_near b.file b.meta b.start key count.near near.0.page.address count.down near.1 in
+        let further = further_at near.0 near.1 (least_from key entries) count.further gap refl
+        (subst (λ (a : List ℕ). HasCount (IsSeekPage b.file b.meta b.start a (slice_get entries (least_from key entries))) count.further) same count.counted) is_gap in
+        omega (arith, further, near.2, ap length same, count.sum)

@@ -1,70 +1,32 @@
 -- On the way down to the leaf that is near a key, the key is between what is left and what is right.
-use Rattle.std.proofs.Common.{◌≡◌, ℕ, zero, suc, ◌+◌, ◌-◌, ◌≤◌, ◌<◌, inl, inr, Bool, true, false, List, [], ◌∷◌, ◌++◌, Some, None, Ok, slice_get, length, drop, take, refl, sym, ap, ◌∙◌, subst, arith}
-use Rattle.std.specs.Option.{option_map}
-use Rattle.std.proofs.Math.Logic.{∥∥₁_elim}
-use Rattle.std.proofs.Props.{props}
-use Rattle.std.proofs.lemmas.Bool.{cases_lt, not-false, not-true}
-use Rattle.std.proofs.lemmas.List.Concat.{flat_map-append}
-use Rattle.std.proofs.lemmas.Option.{slice_get-map}
-use Rattle.bolt_format.specs.Elements.{BranchElement, LeafElement}
-use Rattle.bolt_format.specs.Pages.{PageView, page_at}
-use Rattle.bolt_format.specs.declared.kind.Kind.TheVariants as kind
-use Rattle.bolt_format.specs.declared.meta.Meta.{Meta}
-use Rattle.bolt_check.specs.Keys.{Key, key_lt}
-use Rattle.bolt_check.specs.Nodes.{node_at}
-use Rattle.bolt_check.specs.OnWays.{IsOnWay}
-use Rattle.bolt_check.specs.Sound.{HasSoundTrees}
-use Rattle.bolt_check.proofs.KeyLaws.{lt_not_trans, lt_trans}
-use Rattle.bolt_check.proofs.TreePages.{branch_node, on_child}
-use Rattle.bolt_tree.specs.BucketViews.{BucketView}
-use Rattle.bolt_tree.specs.Private.BucketPages.{contents_in}
-use Rattle.bolt_tree.specs.Private.Contents.{Contents, Of_branch, content_at, content_keys}
-use Rattle.bolt_tree.specs.Private.PageKeys.{IsPlaceOf}
-use Rattle.bolt_tree.specs.Private.Seeks.{AreBelow, IsBetween}
-use Rattle.bolt_tree.specs.Private.Stacks.{Frame, HasStack, address_on, left_of, right_of, under_at}
-use Rattle.bolt_tree.specs.Private.Tours.{Visit, elements_of, tour}
+use Rattle.std.proofs.Common.{◌≡◌, ℕ, zero, suc, ◌+◌, ◌-◌, ◌≤◌, ◌<◌, inl, inr, Bool, true, false, List, [], ◌∷◌, ◌++◌, Some, Ok, slice_get, length, drop, take, refl, sym, ap, ◌∙◌, subst, arith}
+use Rattle.bolt_tree.proofs.Words.{AreBelow, BranchElement, BucketView, Contents, Frame, HasSoundTrees, HasStack, IsBetween, IsOnWay, IsPlaceOf, Key}
+use Rattle.bolt_tree.proofs.Words.{LeafElement, Meta, Of_branch, PageView, Visit, address_on, branch_node, cases_lt, content_at, content_keys, contents_in}
+use Rattle.bolt_tree.proofs.Words.{elements_of, false_from_ne_true, flat_map-append, key_lt, left_of, lt_not_trans, lt_trans, node_at, none-some, not-false}
+use Rattle.bolt_tree.proofs.Words.{not-true, on_child, option_map, props, right_of, slice_get-map, tour, under_at, ∥∥₁_elim}
 use Rattle.bolt_tree.proofs.ListLemmas.{Has, at_has, flat_has, get_before, has_at, has_split}
-use Rattle.bolt_tree.proofs.StackLemmas.{not_leaf, same_branch}
 use Rattle.bolt_tree.proofs.TourLemmas.{IsUnder, branches_rise, tour_led, under_child, under_has}
-use Rattle.bolt_tree.proofs.WayPages.{a_branch, a_leaf, on_way_page}
+use Rattle.bolt_tree.proofs.WayPages.{branch_page}
 
 module _ {X : Type 0} where
   pub take_get : (xs : List X) (i j : ℕ) (x : X) → slice_get (take i xs) j ≡ Some x → (slice_get xs j ≡ Some x) × (j < i)
-  take_get [] zero j x g = absurd (let h : (None ≡ Some x → ⊥) = λ e. cc in h g)
-  take_get [] (suc i) j x g = absurd (let h : (None ≡ Some x → ⊥) = λ e. cc in h g)
-  take_get (y ∷ xs) zero j x g = absurd (let h : (None ≡ Some x → ⊥) = λ e. cc in h g)
+  take_get [] zero j x g = absurd (none-some x g)
+  take_get [] (suc i) j x g = absurd (none-some x g)
+  take_get (y ∷ xs) zero j x g = absurd (none-some x g)
   take_get (y ∷ xs) (suc i) zero x g = (g, omega arith)
   take_get (y ∷ xs) (suc i) (suc j) x g = let r = take_get xs i j x g in let l = r.1 in (r.0, omega (arith, l))
 
   pub drop_get : (xs : List X) (i j m : ℕ) (x : X) → m ≡ i + j → slice_get (drop i xs) j ≡ Some x → slice_get xs m ≡ Some x
-  drop_get [] zero j m x e g = absurd (let h : (None ≡ Some x → ⊥) = λ e. cc in h g)
-  drop_get [] (suc i) j m x e g = absurd (let h : (None ≡ Some x → ⊥) = λ e. cc in h g)
+  drop_get [] zero j m x e g = absurd (none-some x g)
+  drop_get [] (suc i) j m x e g = absurd (none-some x g)
   drop_get (y ∷ xs) zero j m x e g = let same : m ≡ j = omega arith in ap (slice_get (y ∷ xs)) same ∙ g
   drop_get (y ∷ xs) (suc i) j zero x e g = absurd (omega arith)
   drop_get (y ∷ xs) (suc i) j (suc m) x e g = drop_get xs i j m x (omega arith) g
 
-not_test : (x d key : Key) (t : Bool) → key_lt x key ≡ t → key_lt x d ≡ false → key_lt key d ≡ true → t ≡ false
-not_test x d key false e h k = refl
-not_test x d key true e h k = let r : key_lt x d ≡ true = lt_trans x key d e k in absurd (cc)
-
 pub not_below : (x d key : Key) → key_lt x d ≡ false → key_lt key d ≡ true → key_lt x key ≡ false
-not_below x d key h k = not_test x d key (key_lt x key) refl h k
+not_below x d key h k = false_from_ne_true (key_lt x key) (λ t. let less : key_lt x d ≡ true = lt_trans x key d t k in cc)
 
 module _ (file : List ℕ) (meta : Meta) (trees : HasSoundTrees file meta) where
-  -- the page of a branch
-  pub record IsBranchPage (number : ℕ) (elements : List BranchElement) : Type 0 where
-    pub view : PageView
-    pub at : page_at file meta number ≡ Some view
-    pub is : view.kind ≡ kind.Branch
-    pub node : node_at file meta number ≡ Ok (branch_node view)
-    pub branches : view.branches ≡ elements
-
-  pub branch_page : (number depth : ℕ) (elements : List BranchElement) → IsOnWay file meta number depth → content_at file meta number ≡ Of_branch elements → IsBranchPage number elements
-  branch_page number depth elements on is = elim (on_way_page file meta trees number depth on) [
-    | a_leaf view at is_leaf node content ↦ absurd (not_leaf (content_at file meta number) view.leaves elements content is)
-    | a_branch view at is_branch node content ↦ record { view = view; at = at; is = is_branch; node = node; branches = same_branch (content_at file meta number) view.branches elements content is }
-  ]
-
   -- an element that lies under one of a branch, not below its key, and below those behind it
   module _ (number H : ℕ) (view : PageView) (on : IsOnWay file meta number (suc H)) (node : node_at file meta number ≡ Ok (branch_node view)) (deep : suc (suc H) ≤ 64) (address : List ℕ) where
     under_led : (k j : ℕ) (d : BranchElement) (v : Visit) → slice_get view.branches k ≡ Some d → Has (tour (content_at file meta) (62 - H) (address ++ j ∷ []) (content_at file meta d.child)) v

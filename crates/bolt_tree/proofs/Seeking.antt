@@ -1,24 +1,15 @@
 -- The rest of a listing from a path, found part by part: if a bucket has no entry from a part on, a greater one, or a value.
 -- Rests on the order of paths, and on what a named bucket holds (Named).
-use Rattle.std.proofs.Common.{◌≡◌, ◌∙◌, ◌≤◌, inl, inr, true, false, not, List, [], ◌∷◌, ◌++◌, length, Some, slice_get, refl, ap, subst}
-use Rattle.std.specs.Ordering.{is_lt, ordering_reverse}
-use Rattle.std.specs.declared.cmp.Ordering.{Ordering}
-use Rattle.std.specs.declared.cmp.Ordering.TheVariants.{Less, Equal, Greater}
-use Rattle.std.proofs.lemmas.Bool.{not-true, false_from_ne_true}
-use Rattle.std.specs.Cmp.{both_ways}
-use Rattle.bolt_format.specs.Elements.{LeafElement}
-use Rattle.bolt_check.specs.Keys.{Key, key_cmp}
-use Rattle.bolt_tree.specs.Entries.{AreEntries, Item, Start}
-use Rattle.bolt_tree.specs.Listing.{Lists, Member, rest_from}
-use Rattle.bolt_tree.specs.Paths.{HasEntries, Holds, Names, Path, path_cmp}
-use Rattle.bolt_tree.specs.Places.{least_from}
-use Rattle.bolt_tree.specs.RestAfter.{is_beyond, rest_after, beyond}
+use Rattle.std.proofs.Common.{◌≡◌, ◌∙◌, ◌≤◌, inl, inr, true, false, not, List, [], ◌∷◌, ◌++◌, length, Some, slice_get, refl, ap, subst, ◌+◌, ◌<◌, ℕ, zero, suc, take, drop, get_or, eqb, eq-eqb, sym, arith, Bor}
+use Rattle.bolt_tree.proofs.Words.{AreEntries, AreOpen, Checked, CursorView, Equal, Greater, HasEntries, Holds, Item, Key, LeafElement, Less, Lists, Member}
+use Rattle.bolt_tree.proofs.Words.{Names, Ordering, Path, Start, beyond, both_ways, entries_of, false_from_ne_true, is_beyond, is_end, is_lt, key_cmp}
+use Rattle.bolt_tree.proofs.Words.{least_from, less_of, nat_tests, not-true, ordering_reverse, path_cmp, path_of, props, rest_after, rest_from, root_start}
+use Rattle.bolt_tree.proofs.Words.{∥∥₁_elim}
 use Rattle.bolt_tree.proofs.EntryOrder.{seek_least, seek_none}
 use Rattle.bolt_tree.proofs.Filters.{filter_all, filter_same}
 use Rattle.bolt_tree.proofs.Giving.{not_before, not_before_beyond, after_end}
 use Rattle.bolt_tree.proofs.Named.{first_of_held, held_below, held_down}
 use Rattle.bolt_tree.proofs.PathOrder.{before_longer, beyond_less, beyond_or_longer, flip_less, path_exact, path_total, same_front}
-use Rattle.bolt_check.proofs.KeyLaws.{less_of}
 
 -- from p < w and not m < w
 behind_from : (p w m : Path) → path_cmp p w ≡ Less → is_lt (path_cmp m w) ≡ false → path_cmp p m ≡ Less
@@ -105,3 +96,34 @@ module _ (Entry : Start → LeafElement → Type 0) (from : Start) (all : HasEnt
   -- and all is rest_after it
   pub behind_all : rest_after [] listing ≡ listing
   behind_all = filter_all (λ m. is_lt (path_cmp [] m.0)) listing (λ m in_it. held_some m.0 m.1 ((lists.exact m.0 m.1).0 in_it))
+
+pub parts_whole : (path : List (Bor (List ℕ))) (i : ℕ) (d : Bor (List ℕ)) → i < length path
+    → path_of (take i path) ++ (get_or path i d).now ∷ path_of (drop (suc i) path) ≡ path_of path
+parts_whole [] i d h = absurd (omega arith)
+parts_whole (x ∷ path) zero d h = refl
+parts_whole (x ∷ path) (suc i) d h = ap (λ (ks : Path). x.now ∷ ks) (parts_whole path i d (omega arith))
+
+not_equal : (m n : ℕ) → m < n → eqb m n ≡ false
+not_equal m n h = grind (arith, nat_tests)
+
+both_more : (i m n : ℕ) → n ≡ suc m → eqb (i + 1) m ≡ eqb (suc i + 1) n
+both_more i m n e = grind (arith, nat_tests)
+
+pub ends_at : (path : List (Bor (List ℕ))) (i n : ℕ) → n ≡ length path → i < n → is_end (path_of (drop (suc i) path)) ≡ eqb (i + 1) n
+ends_at [] i n e h = absurd (omega arith)
+ends_at (x ∷ []) zero n e h = sym (eq-eqb (0 + 1) n (omega arith))
+ends_at (x ∷ y ∷ path) zero n e h = sym (not_equal (0 + 1) n (omega arith))
+ends_at (x ∷ []) (suc i) n e h = absurd (omega arith)
+ends_at (x ∷ y ∷ path) (suc i) n e h = ends_at (y ∷ path) i (length (y ∷ path)) refl (omega arith) ∙ both_more i (length (y ∷ path)) n e
+
+pub none_left : {A : Type 0} (xs : List A) (i : ℕ) → i ≤ length xs → length xs ≤ i → (0 < i → i < length xs) → xs ≡ []
+none_left [] i h k more = refl
+none_left (x ∷ xs) i h k more = absurd (let f = more (omega arith) in omega arith)
+
+-- with no part, all is left
+pub from_start : (checked : Checked) (cursors : List CursorView) (keys path : Path) → ∥ HasEntries (entries_of checked) (root_start checked) × AreOpen checked [] cursors keys ∥₁ → keys ≡ [] → path ≡ []
+    → (listing : List Member) → Lists (entries_of checked) (root_start checked) listing → rest_after keys listing ≡ rest_from path listing
+from_start checked cursors keys path buckets none empty listing lists =
+    ∥∥₁_elim buckets (hlevel props) (λ t.
+    ap (λ (p : Path). rest_after p listing) none ∙ (behind_all (entries_of checked) (root_start checked) t.0 listing lists
+    ∙ (sym (rest_all (entries_of checked) (root_start checked) t.0 listing lists) ∙ ap (λ (p : Path). rest_from p listing) (sym empty))))

@@ -1,10 +1,6 @@
 -- There is one listing: it rises by the order of paths, which is total.
 use Rattle.std.proofs.Common.{◌≡◌, List}
-use Rattle.std.specs.Cmp.{IsTotalOrder}
-use Rattle.std.proofs.lemmas.Cmp.{on_total}
-use Rattle.bolt_format.specs.Elements.{LeafElement}
-use Rattle.bolt_tree.specs.Entries.{Start}
-use Rattle.bolt_tree.specs.Listing.{Lists, Member, member_cmp}
+use Rattle.bolt_tree.proofs.Words.{IsTotalOrder, LeafElement, Lists, Member, Start, member_cmp, on_total}
 use Rattle.bolt_tree.proofs.Lists.{rises_once}
 use Rattle.bolt_tree.proofs.PathOrder.{path_total}
 

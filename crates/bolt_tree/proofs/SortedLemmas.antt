@@ -1,30 +1,14 @@
 -- The entries of a bucket in order are the elements along its tour, and there is one such list.
-use Rattle.std.proofs.Common.{◌≡◌, ◌==◌, ℕ, Bool, true, false, List, [], ◌∷◌, ◌++◌, Some, slice_get, map, refl, sym, ap, ◌∙◌, subst, arith, inl, inr}
-use Rattle.std.specs.List.{Contains}
-use Rattle.std.specs.Option.{option_map}
-use Rattle.std.proofs.lemmas.Option.{slice_get-map}
-use Rattle.bolt_format.specs.Elements.{LeafElement, head_root, inline_elements}
+use Rattle.std.proofs.Common.{◌≡◌, ℕ, List, [], ◌∷◌, ◌++◌, Some, slice_get, map, refl, sym, ap, ◌∙◌, subst, arith, inl, inr, eq-eqb, eqb}
+use Rattle.bolt_tree.proofs.Words.{AreEntries, Contains, HasSoundTrees, Inline_page, IsEntry, IsHome, IsStart, KeysRise, LeafElement, Meta, Root_page, Start}
+use Rattle.bolt_tree.proofs.Words.{Visit, content_at, elements_of, entry_cmp, head_root, inline_elements, inline_reached, leads, less_of, lt_strict, node_at}
+use Rattle.bolt_tree.proofs.Words.{node_is, option_map, pages_at, slice_get-map}
 use Rattle.bolt_format.specs.declared.kind.Kind.TheVariants as kind
-use Rattle.bolt_format.specs.declared.meta.Meta.{Meta}
-use Rattle.bolt_check.specs.Keys.{KeysRise}
-use Rattle.bolt_check.specs.Nodes.{node_at}
-use Rattle.bolt_check.specs.Shape.{leads}
-use Rattle.bolt_check.specs.Sound.{HasSoundTrees}
-use Rattle.bolt_check.proofs.KeyLaws.{less_of, lt_strict}
-use Rattle.bolt_check.proofs.TreePages.{inline_reached, node_is}
-use Rattle.bolt_tree.specs.Private.Contents.{content_at}
-use Rattle.bolt_tree.specs.Entries.{AreEntries, Inline_page, IsEntry, IsStart, Root_page, Start, entry_cmp, start_of}
-use Rattle.bolt_tree.specs.Openings.{IsHome}
 use Rattle.bolt_tree.specs.Order as order
-use Rattle.bolt_tree.specs.Private.Tours.{Visit, elements_of, pages_at}
 use Rattle.bolt_tree.proofs.ListLemmas.{Has, RisesBy, contains_from_has, flat_has, has_at, has_flat, has_from_contains, one_list, rises_flat, rises_from_gets, rises_weaker}
 use Rattle.bolt_tree.proofs.TourLemmas.{IsApart, IsBelowElement, entries_shown, leaf_of, led_tour, page_rises, tour_led, tour_rises}
 use Rattle.bolt_tree.proofs.WayPages.{content_is}
-
--- the page of an inline bucket
-inline_start : (value : List ℕ) (elements : List LeafElement) (t : Bool) → (head_root value == 0) ≡ t → start_of value ≡ Inline_page elements → (t ≡ true) × (inline_elements value ≡ elements)
-inline_start value elements true e h = let same : Inline_page (inline_elements value) ≡ Inline_page elements = rw e at h in (refl, cc)
-inline_start value elements false e h = absurd (let other : Root_page (head_root value) ≡ Inline_page elements = rw e at h in cc)
+use Rattle.bolt_tree.proofs.BucketWays.{none_inside}
 
 -- a page of a bucket: its elements rise, and it is their home
 pub record IsVisit (file : List ℕ) (meta : Meta) (start : Start) (v : Visit) : Type 0 where
@@ -54,8 +38,8 @@ module _ (file : List ℕ) (meta : Meta) (trees : HasSoundTrees file meta) where
   inline_keys : (elements : List LeafElement) → IsStart file meta (Inline_page elements) → KeysRise (map (λ (x : LeafElement). x.key) elements)
   inline_keys elements (n, depth, e, on, (view, at, leaf, has), bucket, start) =
       let i = has_at view.leaves e (has_from_contains view.leaves e has) in
-      let inline = inline_start e.value elements (head_root e.value == 0) refl start in
-      let led = inline_reached file meta n depth i.0 view e on (node_is file meta n view kind.Leaf at leaf) i.1 bucket inline.0 in
+      let inline = none_inside file meta e.value elements (eqb (head_root e.value) 0) refl start in
+      let led = inline_reached file meta n depth i.0 view e on (node_is file meta n view kind.Leaf at leaf) i.1 bucket (eq-eqb (head_root e.value) 0 inline.0) in
       subst (λ (es : List LeafElement). KeysRise (map (λ (x : LeafElement). x.key) es)) inline.1
       (trees.rising_inline (on.way ++ i.0 ∷ []) on.spot.number (map (λ (x : LeafElement). x.key) (inline_elements e.value)) led)
 

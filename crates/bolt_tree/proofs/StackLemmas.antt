@@ -1,19 +1,12 @@
--- What a push does to a stack.
-use Rattle.std.proofs.Common.{◌≡◌, ℕ, zero, suc, ◌+◌, ◌-◌, ◌≤◌, ◌<◌, List, [], ◌∷◌, ◌++◌, Some, None, slice_get, length, drop, take, refl, sym, ap, ◌∙◌, subst, arith, append_assoc}
-use Rattle.std.proofs.Math.Logic.{∥∥₁_elim, ∥∥₁_map}
-use Rattle.std.proofs.Props.{props}
-use Rattle.std.proofs.lemmas.Option.{none-some}
-use Rattle.bolt_format.specs.Elements.{BranchElement, LeafElement}
-use Rattle.bolt_check.specs.OnWays.{IsOnWay}
-use Rattle.bolt_check.specs.Sound.{HasSoundTrees}
-use Rattle.bolt_check.proofs.TreePages.{on_child, shallow}
-use Rattle.bolt_tree.specs.BucketViews.{BucketView}
-use Rattle.bolt_tree.specs.Private.BucketPages.{contents_in, pages_in}
-use Rattle.bolt_tree.specs.Private.Contents.{Content, Contents, Of_branch, Of_leaf, content_length}
-use Rattle.bolt_tree.specs.Private.Stacks.{Frame, HasStack, IsGoodContent, IsStack, address_on, left_of, left_under, right_of, right_under}
-use Rattle.bolt_tree.specs.Private.Tours.{Visit, all_under, tour}
+-- What a push does to a stack, and the root page of a bucket, alone on a stack.
+use Rattle.std.proofs.Common.{◌≡◌, ℕ, zero, suc, ◌+◌, ◌-◌, ◌≤◌, List, [], ◌∷◌, ◌++◌, Some, slice_get, length, drop, take, refl, sym, ap, ◌∙◌, subst, arith, append_assoc, append-nil}
+use Rattle.bolt_tree.proofs.Words.{BranchElement, BucketView, Checked, Content, Contents, Frame, HasSoundTrees, HasStack, HasStart, Inline_page, IsGoodContent}
+use Rattle.bolt_tree.proofs.Words.{IsOnWay, IsSoundBucket, IsStack, IsStart, Of_branch, Of_leaf, Root_page, Start, Visit, address_on, ahead_of, all_under}
+use Rattle.bolt_tree.proofs.Words.{bucket_in, bytes_of, checked_trees, content_at_start, content_length, contents_in, elements_in, elements_of, here_under}
+use Rattle.bolt_tree.proofs.Words.{left_of, left_under, meta_of, none-some, on_child, pages_in, props, right_of, right_under, root_content, shallow, tour}
+use Rattle.bolt_tree.proofs.Words.{∥∥₁_elim, ∥∥₁_map, ∥∥₁_prop}
 use Rattle.bolt_tree.proofs.TourLemmas.{not_deepest}
-use Rattle.bolt_tree.proofs.WayPages.{IsWayPage, a_branch, a_leaf, on_way_page}
+use Rattle.bolt_tree.proofs.WayPages.{a_branch, a_leaf, on_way_page, branch_page}
 
 -- what lies under the elements of a branch, cut at one
 pub under_cut : (f : ℕ → ℕ → List Visit) (i k j : ℕ) (elements : List BranchElement) (e : BranchElement) → slice_get elements k ≡ Some e → j ≡ i + k
@@ -51,23 +44,9 @@ tour_cut contents m n k address elements e same g =
     ap (λ (x : ℕ). tour contents x address (Of_branch elements)) same
     ∙ ap (λ (vs : List Visit). record { address = address; entries = [] } ∷ vs) (under_cut (λ i child. tour contents n (address ++ i ∷ []) (contents child)) 0 k k elements e g (omega arith))
 
-pub in_range : {X : Type 0} (xs : List X) (k : ℕ) (x : X) → slice_get xs k ≡ Some x → k < length xs
-in_range [] k x g = absurd (let h : (None ≡ Some x → ⊥) = λ e. cc in h g)
-in_range (y ∷ xs) zero x g = omega arith
-in_range (y ∷ xs) (suc k) x g = let r = in_range xs k x g in omega (arith, r)
-
-pub same_branch : (o : Content) (a c : List BranchElement) → o ≡ Of_branch a → o ≡ Of_branch c → a ≡ c
-same_branch o a c e h = cc
-
-pub not_leaf : (o : Content) (a : List LeafElement) (c : List BranchElement) → o ≡ Of_leaf a → o ≡ Of_branch c → ⊥
-not_leaf o a c e h = cc
-
 module _ (bucket : BucketView) (trees : HasSoundTrees bucket.file bucket.meta) where
-  pub page_on : (number depth : ℕ) → IsOnWay bucket.file bucket.meta number depth → IsWayPage bucket.file bucket.meta number
-  page_on number depth on = on_way_page bucket.file bucket.meta trees number depth on
-
   pub good_content : (number depth : ℕ) → IsOnWay bucket.file bucket.meta number depth → IsGoodContent bucket depth (contents_in bucket number)
-  good_content number depth on = elim (page_on number depth on) [
+  good_content number depth on = elim (on_way_page bucket.file bucket.meta trees number depth on) [
     | a_leaf view at is node content ↦ subst (IsGoodContent bucket depth) (sym content) tt
     | a_branch view at is node content ↦ subst (IsGoodContent bucket depth) (sym content) (number, on, content)
   ]
@@ -75,19 +54,15 @@ module _ (bucket : BucketView) (trees : HasSoundTrees bucket.file bucket.meta) w
   -- a branch that is the page of a way: where its elements lead
   branch_child : (number depth k : ℕ) (elements : List BranchElement) (e : BranchElement) → IsOnWay bucket.file bucket.meta number depth → contents_in bucket number ≡ Of_branch elements
       → slice_get elements k ≡ Some e → IsOnWay bucket.file bucket.meta e.child (suc depth)
-  branch_child number depth k elements e on is g = elim (page_on number depth on) [
-    | a_leaf view at kind node content ↦ absurd (not_leaf (contents_in bucket number) view.leaves elements content is)
-    | a_branch view at kind node content ↦ (
-        let same = same_branch (contents_in bucket number) view.branches elements content is in
-        on_child bucket.file bucket.meta number depth k view e on node (ap (λ (es : List BranchElement). slice_get es k) same ∙ g))
-  ]
+  branch_child number depth k elements e on is g =
+      let page = branch_page bucket.file bucket.meta trees number depth elements on is in
+      on_child bucket.file bucket.meta number depth k page.view e on page.node (ap (λ (es : List BranchElement). slice_get es k) page.branches ∙ g)
 
   -- it has room for a page above it
   pub room_above : (number depth : ℕ) (elements : List BranchElement) → IsOnWay bucket.file bucket.meta number depth → contents_in bucket number ≡ Of_branch elements → suc depth ≤ 64
-  room_above number depth elements on is = elim (page_on number depth on) [
-    | a_leaf view at kind node content ↦ absurd (not_leaf (contents_in bucket number) view.leaves elements content is)
-    | a_branch view at kind node content ↦ not_deepest bucket.file bucket.meta trees number depth view on node
-  ]
+  room_above number depth elements on is =
+      let page = branch_page bucket.file bucket.meta trees number depth elements on is in
+      not_deepest bucket.file bucket.meta trees number depth page.view on page.node
 
   -- the way to the page under an element of the branch on top
   pub way_under : (elements : List BranchElement) (t k : ℕ) (e : BranchElement) (below : List Frame) → IsStack bucket (record { content = Of_branch elements; taken = t } ∷ below)
@@ -155,3 +130,42 @@ module _ (bucket : BucketView) where
   -- a branch on a stack has room for a page above it
   pub branch_room : (elements : List BranchElement) (t : ℕ) (below : List Frame) → HasStack bucket (record { content = Of_branch elements; taken = t } ∷ below) → suc (suc (length below)) ≤ 64
   branch_room elements t below stack = ∥∥₁_elim stack (Prim.hlevel props) (λ s. room_above bucket s.0.trees s.1.0.good.0 (suc (length below)) elements s.1.0.good.1 s.1.0.good.2)
+
+-- a bucket of a checked file is one of a sound tree
+pub sound_bucket : (checked : Checked) (start : Start) → HasStart checked start → ∥ IsSoundBucket (bucket_in checked start) ∥₁
+sound_bucket checked start is = ∥∥₁_elim (checked_trees checked) ∥∥₁_prop (λ trees. ∥∥₁_map is (λ s. record { trees = trees; start = s }))
+
+pub root_way : (checked : Checked) (number : ℕ) → ∥ IsSoundBucket (bucket_in checked (Root_page number)) ∥₁ → ∥ ((depth : ℕ) × IsOnWay (bytes_of checked) (meta_of checked) number depth) ∥₁
+root_way checked number is = ∥∥₁_map is (λ s. (1, s.start))
+
+root_good : (bucket : BucketView) (trees : HasSoundTrees bucket.file bucket.meta) (start : Start) → IsStart bucket.file bucket.meta start
+    → IsGoodContent bucket 1 (content_at_start (contents_in bucket) start)
+root_good bucket trees (Root_page number) is = good_content bucket trees number 1 is
+root_good bucket trees (Inline_page elements) is = tt
+
+pub root_stack : (bucket : BucketView) → ∥ IsSoundBucket bucket ∥₁ → HasStack bucket (record { content = root_content bucket; taken = 0 } ∷ [])
+root_stack bucket is = ∥∥₁_map is (λ s. (
+  s,
+  (
+    record {
+      shallow = omega arith;
+      good = root_good bucket s.trees bucket.start s.start;
+      bound = omega arith;
+      fits = omega arith;
+      branch = tt;
+      placed = sym (append-nil (tour (contents_in bucket) 63 [] (root_content bucket)));
+    },
+    tt,
+  ),
+))
+
+-- before the root page's first element, everything is ahead
+top_of : (contents : Contents) (content : Content) → tour contents 63 [] content ≡ record { address = []; entries = here_under content 0 } ∷ right_of contents (record { content = content; taken = 0 } ∷ [])
+top_of contents (Of_leaf elements) = refl
+top_of contents (Of_branch elements) = ap (λ (vs : List Visit). record { address = []; entries = [] } ∷ vs) (sym (append-nil (right_under contents 0 [] (Of_branch elements) 0)))
+
+pub root_ahead : (bucket : BucketView) → ahead_of (contents_in bucket) (record { content = root_content bucket; taken = 0 } ∷ []) ≡ elements_in bucket
+root_ahead bucket = sym (ap elements_of (top_of (contents_in bucket) (root_content bucket)))
+
+pub root_right : (bucket : BucketView) → length (pages_in bucket) ≡ suc (length (right_of (contents_in bucket) (record { content = root_content bucket; taken = 0 } ∷ [])))
+root_right bucket = ap length (top_of (contents_in bucket) (root_content bucket))

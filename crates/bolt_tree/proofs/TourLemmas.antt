@@ -1,24 +1,13 @@
 -- The tour of a bucket's pages: which pages it has, and that addresses and keys rise along it.
 use Rattle.std.proofs.Common.{◌≡◌, ℕ, zero, suc, ◌+◌, ◌≤◌, ◌<◌, inl, inr, List, [], ◌∷◌, ◌++◌, false, Some, Ok, slice_get, length, map, refl, sym, ap, ◌∙◌, subst, arith, append_assoc, append-nil}
-use Rattle.std.specs.Prelude.{IsTrue}
-use Rattle.std.proofs.lemmas.Bool.{cases_lt}
-use Rattle.std.proofs.lemmas.Option.{none-some}
-use Rattle.bolt_format.specs.Elements.{BranchElement, LeafElement}
-use Rattle.bolt_format.specs.Pages.{PageView, page_at}
+use Rattle.bolt_tree.proofs.Words.{Before, BranchElement, Content, Contents, HasSoundTrees, IsOnWay, IsTrue, LeafElement, Meta, Of_branch, Of_leaf, PageView}
+use Rattle.bolt_tree.proofs.Words.{Visit, all_under, branch_entry, branch_entry_at, branch_key, branch_node, branch_step, cases_lt, content_at, key_lt, leads}
+use Rattle.bolt_tree.proofs.Words.{leads_child, leaf_ends, leaf_key, lt_not_trans, lt_trans, node_at, none-some, on_child, page_at, shallow, slice_get_within}
+use Rattle.bolt_tree.proofs.Words.{spot_node, tour}
 use Rattle.bolt_format.specs.declared.kind.Kind.TheVariants as kind
-use Rattle.bolt_format.specs.declared.meta.Meta.{Meta}
 use Rattle.bolt_check.specs.Findings.{keys_of}
-use Rattle.bolt_check.specs.Keys.{key_lt}
-use Rattle.bolt_check.specs.Nodes.{branch_entry, node_at}
-use Rattle.bolt_check.specs.Shape.{leads}
-use Rattle.bolt_check.specs.Sound.{HasSoundTrees}
-use Rattle.bolt_check.specs.Ways.{Before}
-use Rattle.bolt_check.specs.OnWays.{IsOnWay}
-use Rattle.bolt_tree.specs.Private.Contents.{Content, Contents, Of_branch, Of_leaf, content_at}
-use Rattle.bolt_tree.specs.Private.Tours.{Visit, all_under, tour}
-use Rattle.bolt_check.proofs.KeyLaws.{lt_not_trans, lt_trans}
 use Rattle.bolt_tree.proofs.ListLemmas.{Has, Each, RisesBy, get_before, has_at, has_left, has_right, has_split, rises_append, rises_from_gets, at_has}
-use Rattle.bolt_check.proofs.TreePages.{branch_entry_at, branch_key, branch_node, branch_step, leads_child, leaf_ends, leaf_key, leaf_node, on_child, shallow, spot_node}
+use Rattle.bolt_check.proofs.TreePages.{leaf_node}
 use Rattle.bolt_tree.proofs.WayPages.{a_branch, a_leaf, on_way_page}
 
 -- what lies under the elements of a branch
@@ -91,10 +80,6 @@ abbrev pub tour_at : List ℕ → Meta → ℕ → List ℕ → ℕ → List Vis
 tour_at file meta n address number = tour (content_at file meta) n address (content_at file meta number)
 
 module _ (file : List ℕ) (meta : Meta) (trees : HasSoundTrees file meta) where
-  first_length : (elements : List BranchElement) (e : BranchElement) → slice_get elements 0 ≡ Some e → 1 ≤ length elements
-  first_length [] e g = absurd (none-some e g)
-  first_length (x ∷ elements) e g = omega arith
-
   first_entry : (elements : List BranchElement) → (elements ≡ [] → ⊥) → (e : BranchElement) × (slice_get elements 0 ≡ Some e)
   first_entry [] h = absurd (h refl)
   first_entry (e ∷ elements) h = (e, refl)
@@ -103,7 +88,7 @@ module _ (file : List ℕ) (meta : Meta) (trees : HasSoundTrees file meta) where
   filled number depth view on node =
       let here = spot_node file meta number depth (branch_node view) on node in
       let e = first_entry view.branches (λ nil. trees.filled on.way on.spot (branch_node view) on.led here refl (ap (map branch_entry) nil)) in
-      first_length view.branches e.0 e.1
+      omega (arith, slice_get_within view.branches 0 e.0 e.1)
 
   -- a branch is never so deep that no page could lie under it
   pub not_deepest : (number depth : ℕ) (view : PageView) → IsOnWay file meta number depth → node_at file meta number ≡ Ok (branch_node view) → suc depth ≤ 64

@@ -1,30 +1,12 @@
 -- What the moves of a trail do to its stack.
 use Rattle.std.proofs.Common.{◌≡◌, ◌==◌, ℕ, suc, ◌+◌, ◌-◌, ◌≤◌, ◌<◌, Bool, true, false, List, [], ◌∷◌, ◌++◌, Some, None, slice_get, length, map, reverse, drop, refl, sym, ap, ◌∙◌, subst, arith, append_assoc, append-nil}
-use Rattle.std.specs.Option.{option_to_list}
-use Rattle.std.specs.Prelude.{IsTrue}
-use Rattle.std.proofs.Math.Logic.{∥∥₁_elim}
-use Rattle.std.proofs.Props.{props}
-use Rattle.std.proofs.lemmas.Bool.Decides.{nat_tests}
-use Rattle.std.proofs.lemmas.List.{drop_all, length-map, length-reverse, reverse-append}
-use Rattle.bolt_format.specs.Elements.{BranchElement, LeafElement}
-use Rattle.bolt_format.specs.Pages.{PageView, page_at}
-use Rattle.bolt_format.specs.declared.meta.Meta.{Meta}
-use Rattle.bolt_check.specs.CheckedFiles.{bytes_of, meta_of}
-use Rattle.bolt_check.specs.OnWays.{IsOnWay}
-use Rattle.bolt_check.specs.declared.checked_file.Checked.{Checked}
-use Rattle.bolt_check.proofs.CheckedLemmas.{checked_trees}
-use Rattle.bolt_tree.specs.BucketViews.{BucketView}
-use Rattle.bolt_tree.specs.Private.BucketPages.{contents_in}
-use Rattle.bolt_tree.specs.Private.Contents.{Content, Contents, Of_branch, Of_leaf, content_length, is_tree_kind}
-use Rattle.bolt_tree.specs.Private.Entered.{IsEntered}
-use Rattle.bolt_tree.specs.Private.Stacks.{Frame, HasStack, IsBranchContent, IsBranchTop, IsOn, address_on, ahead_of, here_of, here_under, right_of, right_under, under_at}
-use Rattle.bolt_tree.specs.Private.Tours.{Visit, elements_of, tour}
-use Rattle.bolt_tree.specs.Private.Trails.{HasTrail, IsSameBucket, frame_of, frames_of, trail_bucket}
-use Rattle.bolt_tree.specs.declared.position.Position.{Position}
-use Rattle.bolt_tree.specs.declared.trail.Trail.{Trail}
+use Rattle.bolt_tree.proofs.Words.{BranchElement, BucketView, Checked, Content, Contents, Frame, HasStack, HasTrail, IsBranchContent, IsBranchTop, IsEntered}
+use Rattle.bolt_tree.proofs.Words.{IsOn, IsOnWay, IsSameBucket, IsTrue, LeafElement, Meta, Of_branch, Of_leaf, PageView, Position, Trail, Visit, address_on}
+use Rattle.bolt_tree.proofs.Words.{ahead_of, bytes_of, checked_trees, content_length, contents_in, drop_all, drop_at, elements_of, frame_of, frames_of, here_of}
+use Rattle.bolt_tree.proofs.Words.{here_under, is_tree_kind, length-map, length-reverse, meta_of, nat_tests, one_some, option_to_list, page_at, props}
+use Rattle.bolt_tree.proofs.Words.{reverse-append, right_of, right_under, tour, trail_bucket, under_at, ∥∥₁_elim}
 use Rattle.bolt_tree.proofs.StackLemmas.{branch_room, stack_short, under_next}
 use Rattle.bolt_tree.proofs.WayPages.{IsWayPage, a_branch, a_leaf, on_way_page}
-use Rattle.bolt_format.proofs.ListLemmas.{one_some, drop_at}
 
 -- one equation moves every fact of a bucket
 pub same_bucket : (old new : Trail) → IsSameBucket old new → trail_bucket new ≡ trail_bucket old
@@ -125,10 +107,9 @@ entered_none bucket (Of_branch elements) i below new h stack =
 pub exhausted : (bucket : BucketView) (f : Frame) (below : List Frame) → HasStack bucket (f ∷ below) → content_length f.content ≤ f.taken
     → (ahead_of (contents_in bucket) below ≡ ahead_of (contents_in bucket) (f ∷ below)) × (right_of (contents_in bucket) below ≡ right_of (contents_in bucket) (f ∷ below))
 exhausted bucket f below stack h =
-    let here = nothing_here f.content f.taken h in
     let under = nothing_under (contents_in bucket) (length below) (address_on below) f.content f.taken h in
     let top : here_of below ≡ [] = ∥∥₁_elim stack (Prim.hlevel props) (λ s. branch_here below s.1.0.branch) in
-    (rw (here, under, top) refl, rw under refl)
+    (rw (nothing_here f.content f.taken h, under, top) refl, rw under refl)
 
 -- one step of a move forward
 pub step_some : (old now : BucketView) (whole below new : List Frame) (f : Frame) (e : LeafElement) → now ≡ old → whole ≡ f ∷ below → IsEntered (contents_in old) false f.content f.taken below new (Some e)
@@ -155,10 +136,7 @@ entered_length contents at_end (Of_branch elements) i below new h = ap length h.
 -- the same stack, as it is shown otherwise
 pub moved_stack : (old now : BucketView) (a d : Content) (under below : List Frame) → now ≡ old → d ≡ a → below ≡ under
     → HasStack old (record { content = a; taken = 0 } ∷ under) → HasStack now (record { content = d; taken = 0 } ∷ below)
-moved_stack old now a d under below e f g stack =
-    let one : HasStack now (record { content = a; taken = 0 } ∷ under) = subst (λ (k : BucketView). HasStack k (record { content = a; taken = 0 } ∷ under)) (sym e) stack in
-    let two : HasStack now (record { content = d; taken = 0 } ∷ under) = subst (λ (c : Content). HasStack now (record { content = c; taken = 0 } ∷ under)) (sym f) one in
-    subst (λ (fs : List Frame). HasStack now (record { content = d; taken = 0 } ∷ fs)) (sym g) two
+moved_stack old now a d under below e f g stack = subst (λ (k : BucketView). HasStack k (record { content = d; taken = 0 } ∷ below)) (sym e) (rw (f, g) stack)
 
 -- the stack when its top page was taken from it, and when there was none
 pub popped_stack : (trail : Trail) (items : List Position) (top : Position) → trail.stack.items ≡ items ++ option_to_list (Some top) → HasTrail trail
@@ -170,5 +148,4 @@ popped_none trail items e stack = subst (λ (ps : List Position). HasStack (trai
 
 -- a stack that was kept is still one of the bucket
 pub kept_stack : (old new : Trail) (items : List Position) → IsSameBucket old new → items ≡ old.stack.items → HasTrail old → HasStack (trail_bucket new) (frames_of items)
-kept_stack old new items same e stack =
-    subst (λ (b : BucketView). HasStack b (frames_of items)) (sym (same_bucket old new same)) (subst (λ (ps : List Position). HasStack (trail_bucket old) (frames_of ps)) (sym e) stack)
+kept_stack old new items same e stack = rw (same.file, same.at, e) stack

@@ -1,16 +1,9 @@
 -- What a tree lists is the listing of what it shows: each path that is held, with its item, once, in path order.
 use Rattle.std.proofs.Common.{◌≡◌, ◌∙◌, ◌⊎◌, inl, inr, true, false, IsTrue, List, [], ◌∷◌, ◌++◌, refl, sym, ap, subst, append_assoc}
-use Rattle.std.specs.List.{Contains}
-use Rattle.std.specs.declared.cmp.Ordering.{Ordering}
-use Rattle.std.specs.declared.cmp.Ordering.TheVariants.{Less}
-use Rattle.std.proofs.lemmas.List.Elements.{Contains-append_cases, Contains-append_left, Contains-append_right}
-use Rattle.bolt_format.specs.Elements.{LeafElement, head_sequence}
-use Rattle.bolt_check.specs.Keys.{Key, key_cmp}
-use Rattle.bolt_tree.specs.Entries.{AreEntries, Bucket, Item, Start, Value, entry_cmp, item_of, start_of}
-use Rattle.bolt_tree.specs.Listing.{Lists, Member, member_cmp}
-use Rattle.bolt_tree.specs.Order.{IsBelow, Rises}
-use Rattle.bolt_tree.specs.Paths.{Holds, Path, path_cmp}
-use Rattle.bolt_tree.specs.Tree.{IsTreeOf, Shows, Tree, end, listing_below, listing_of, with_bucket, with_value}
+use Rattle.bolt_tree.proofs.Words.{AreEntries, Contains, Contains-append_cases, Contains-append_left, Contains-append_right, Holds, IsBelow, IsTreeOf, Item}
+use Rattle.bolt_tree.proofs.Words.{Key, LeafElement, Less, Lists, Member, Ordering, Path, Rises, Shows, Start, Tree, Value, end, entry_cmp, head_sequence}
+use Rattle.bolt_tree.proofs.Words.{item_of, key_cmp, listing_below, listing_of, member_cmp, path_cmp, start_of, with_bucket, with_value}
+use Rattle.bolt_tree.specs.Entries.{Bucket}
 use Rattle.bolt_tree.proofs.Lists.{contains_cases, contains_head, contains_none, contains_tail}
 use Rattle.bolt_tree.proofs.PathOrder.{before_longer, same_front}
 
@@ -57,8 +50,7 @@ module _ (Entry : Start → LeafElement → Type 0) where
     later : HoldsBy entries path item → Way x entries path item
 
   way_own : (x e : LeafElement) (entries : List LeafElement) (key : Key) (item : Item) → (x ≡ e) ⊎ Contains entries e → e.key ≡ key → item_of e ≡ item → Way x entries (key ∷ []) item
-  way_own x e entries key item (inl s) same of =
-      own (ap (λ (k : Key). k ∷ []) (sym (ap (λ (y : LeafElement). y.key) s ∙ same))) (ap item_of s ∙ of)
+  way_own x e entries key item (inl s) same of = own (ap (λ (k : Key). k ∷ []) (sym (ap (λ (y : LeafElement). y.key) s ∙ same))) (ap item_of s ∙ of)
   way_own x e entries key item (inr h) same of = later (e, h, same, of)
 
   way_inner : (x e : LeafElement) (entries : List LeafElement) (key next : Key) (path : Path) (item : Item) → (x ≡ e) ⊎ Contains entries e → e.key ≡ key → IsTrue e.is_bucket

@@ -1,18 +1,7 @@
 -- What is known of a walk's buckets and of what it does next.
 use Rattle.std.proofs.Common.{◌≡◌, ◌∙◌, List, [], ◌∷◌, ◌++◌, sym, ap, subst}
-use Rattle.std.proofs.Math.Logic.{∥∥₁_elim, ∥∥₁_map}
-use Rattle.std.proofs.Props.{props}
-use Rattle.bolt_format.specs.ElementPlaces.{leaf_view}
-use Rattle.bolt_check.specs.declared.checked_file.Checked.{Checked}
-use Rattle.bolt_tree.specs.BucketViews.{entries_of}
-use Rattle.bolt_tree.specs.FileListings.{root_start}
-use Rattle.bolt_tree.specs.Entries.{Start, start_of}
-use Rattle.bolt_tree.specs.Listing.{Lists, Member}
-use Rattle.bolt_tree.specs.Paths.{HasEntries, Names, Path, path_of}
-use Rattle.bolt_tree.specs.Private.Kept.{CursorView}
-use Rattle.bolt_tree.specs.Private.OpenCursors.{cursors_of}
-use Rattle.bolt_tree.specs.Private.OpenBuckets.{AreOpen, IsAhead, IsInPlace, IsInside, open_path}
-use Rattle.bolt_tree.specs.RestAfter.{rest_after}
+use Rattle.bolt_tree.proofs.Words.{AreOpen, Checked, CursorView, HasEntries, IsAhead, IsInPlace, IsInside, Lists, Member, Names, Path, Start, cursors_of}
+use Rattle.bolt_tree.proofs.Words.{entries_of, leaf_view, open_path, path_of, props, rest_after, root_start, start_of, ∥∥₁_elim, ∥∥₁_map}
 use Rattle.bolt_tree.specs.declared.open_buckets.WalkStep.{WalkStep}
 use Rattle.bolt_tree.specs.declared.open_buckets.WalkStep.TheVariants.{Begin, Enter, Give, Leave}
 use Rattle.bolt_tree.specs.declared.open_buckets.OpenBuckets.{OpenBuckets}

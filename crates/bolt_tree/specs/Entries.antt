@@ -33,7 +33,8 @@ IsEntry file meta (Inline_page elements) e = Contains elements e
 abbrev pub IsStart : List ℕ → Meta → Start → Type 0
 IsStart file meta (Root_page root) = IsOnWay file meta root 1
 IsStart file meta (Inline_page elements) =
-    (n : ℕ) × (depth : ℕ) × (e : LeafElement) × IsOnWay file meta n depth × ShowsEntry file meta n e × IsTrue e.is_bucket × (start_of e.value ≡ Inline_page elements)
+    (n : ℕ) × (depth : ℕ) × (e : LeafElement) × IsOnWay file meta n depth × ShowsEntry file meta n e × IsTrue e.is_bucket
+    × (start_of e.value ≡ Inline_page elements)
 
 -- what is under a key: a value, or a bucket with its sequence
 pub data Item : Type 0 where

@@ -20,5 +20,6 @@ IsValueAt Entry bucket key None = (e : LeafElement) → Entry bucket e → e.key
 -- the bucket of an entry with the key; or no entry with the key is a bucket
 abbrev pub IsBucketAt : (Start → LeafElement → Type 0) → Start → Key → Option Bucket → Type 0
 IsBucketAt Entry bucket key (Some inner) =
-    ∥ ((e : LeafElement) × Entry bucket e × (e.key ≡ key) × IsTrue e.is_bucket × (bucket_start inner ≡ start_of e.value) × (bucket_sequence inner ≡ head_sequence e.value)) ∥₁
+    ∥ ((e : LeafElement) × Entry bucket e × (e.key ≡ key) × IsTrue e.is_bucket × (bucket_start inner ≡ start_of e.value)
+    × (bucket_sequence inner ≡ head_sequence e.value)) ∥₁
 IsBucketAt Entry bucket key None = (e : LeafElement) → Entry bucket e → e.key ≡ key → e.is_bucket ≡ false

@@ -55,7 +55,8 @@ IsGap file meta start entries (suc i) g = (here : ℕ) × (before : ℕ) × IsPa
 -- of a branch, the greatest element with a key at or below this one, or element 0 if there is none
 abbrev pub IsNearest : List BranchElement → Key → ℕ → Type 0
 IsNearest elements key i =
-    ((e : BranchElement) × (slice_get elements i ≡ Some e) × IsFalse (key_lt key e.key) × ((j : ℕ) (f : BranchElement) → i < j → slice_get elements j ≡ Some f → IsTrue (key_lt key f.key)))
+    ((e : BranchElement) × (slice_get elements i ≡ Some e) × IsFalse (key_lt key e.key)
+    × ((j : ℕ) (f : BranchElement) → i < j → slice_get elements j ≡ Some f → IsTrue (key_lt key f.key)))
     ⊎ ((i ≡ 0) × ((j : ℕ) (f : BranchElement) → slice_get elements j ≡ Some f → IsTrue (key_lt key f.key)))
 
 -- the address of a leaf, each of whose steps goes to the nearest element
@@ -70,7 +71,8 @@ IsNear file meta (Inline_page elements) key address = address ≡ []
 
 -- an address after the one near a key, and at or before that of the page of an entry, or any after it if no entry is left
 abbrev pub IsSeekPage : List ℕ → Meta → Start → List ℕ → Option LeafElement → List ℕ → Type 0
-IsSeekPage file meta start near (Some e) address = IsAfter file meta start near address × ((home : List ℕ) × IsHome file meta start e home × ((address ≡ home) ⊎ Before address home))
+IsSeekPage file meta start near (Some e) address = IsAfter file meta start near address
+    × ((home : List ℕ) × IsHome file meta start e home × ((address ≡ home) ⊎ Before address home))
 IsSeekPage file meta start near None address = IsAfter file meta start near address
 
 -- What a seek of this key opens: the pages on the way down to the nearest leaf, and those after it up to the page of the entry
@@ -88,4 +90,5 @@ sum_to f (suc n) = sum_to f n + f n
 
 -- each gap is there, and the gaps cover all pages
 abbrev pub GapsCoverAll : List ℕ → Meta → Start → List LeafElement → Type 0
-GapsCoverAll file meta start entries = (gap : ℕ → ℕ) × (all : ℕ) × ((i : ℕ) → IsGap file meta start entries i (gap i)) × IsAllPages file meta start all × (sum_to gap (suc (length entries)) ≡ all)
+GapsCoverAll file meta start entries = (gap : ℕ → ℕ) × (all : ℕ) × ((i : ℕ) → IsGap file meta start entries i (gap i)) × IsAllPages file meta start all
+    × (sum_to gap (suc (length entries)) ≡ all)

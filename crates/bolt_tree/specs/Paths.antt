@@ -25,7 +25,8 @@ Names Entry from (key ∷ path) bucket = (e : LeafElement) × Entry from e × (e
 abbrev pub Holds : (Start → LeafElement → Type 0) → Start → Path → Item → Type 0
 Holds Entry from [] item = ⊥
 Holds Entry from (key ∷ []) item = (e : LeafElement) × Entry from e × (e.key ≡ key) × (item_of e ≡ item)
-Holds Entry from (key ∷ next ∷ path) item = (e : LeafElement) × Entry from e × (e.key ≡ key) × IsTrue e.is_bucket × Holds Entry (start_of e.value) (next ∷ path) item
+Holds Entry from (key ∷ next ∷ path) item = (e : LeafElement) × Entry from e × (e.key ≡ key) × IsTrue e.is_bucket
+    × Holds Entry (start_of e.value) (next ∷ path) item
 
 -- each bucket that a path leads to has its entries in order
 abbrev pub HasEntries : (Start → LeafElement → Type 0) → Start → Type 0

@@ -32,7 +32,7 @@ pub struct Cursor<'a> {
     ghost held: { ∥ IsHeld trail is_past ∥₁ },
 }
 
-#[tactic(auto, unfolding(crate::specs::Cursors::cursor_checked, crate::specs::Cursors::cursor_compared, crate::specs::Cursors::cursor_opened, crate::specs::Cursors::cursor_place, crate::specs::Cursors::cursor_start))]
+#[tactic(auto, unfolding(crate::specs::Cursors::cursor_checked, crate::specs::Cursors::cursor_compared, crate::specs::Cursors::cursor_opened, crate::specs::Cursors::cursor_place, crate::specs::Cursors::cursor_start), using(crate::proofs::HeldLemmas::fresh_held, crate::proofs::HeldLemmas::held_bucket, crate::proofs::HeldLemmas::held_rest, crate::proofs::HeldLemmas::held_stack, crate::proofs::KeptLemmas::kept_short, crate::proofs::StackLemmas::sound_bucket))]
 impl<'a> Cursor<'a> {
     ghost use Rattle.bolt_tree.specs.Cursors.{cursor_bucket, cursor_checked, cursor_compared, cursor_opened, cursor_place, cursor_start};
     ghost use Rattle.bolt_tree.specs.Private.CursorViews.{cursor_view};
@@ -122,7 +122,8 @@ impl<'a> Cursor<'a> {
     pub fn first(&mut self) -> Option<Entry<'a>>
         ensures checked { cursor_checked self.new ≡ cursor_checked self.old }
         ensures start { cursor_start self.new ≡ cursor_start self.old }
-        ensures moves { ShowsMove (entries_of (cursor_checked self.old)) (cursor_start self.old) (λ entries place. first_move entries) (cursor_place self.old) (cursor_place self.new) (option_map shown_entry result) }
+        ensures moves { ShowsMove (entries_of (cursor_checked self.old)) (cursor_start self.old) (λ entries place. first_move entries) (cursor_place self.old)
+            (cursor_place self.new) (option_map shown_entry result) }
         ensures opens { OpensGap (cursor_bucket self.old) 0 (cursor_opened self.old) (cursor_opened self.new) }
         ensures none { result ≡ None → cursor_place self.new ≡ Fresh }
         ensures compared { cursor_compared self.new ≡ 0 }
@@ -136,7 +137,8 @@ impl<'a> Cursor<'a> {
     pub fn last(&mut self) -> Option<Entry<'a>>
         ensures checked { cursor_checked self.new ≡ cursor_checked self.old }
         ensures start { cursor_start self.new ≡ cursor_start self.old }
-        ensures moves { ShowsMove (entries_of (cursor_checked self.old)) (cursor_start self.old) (λ entries place. last_move entries) (cursor_place self.old) (cursor_place self.new) (option_map shown_entry result) }
+        ensures moves { ShowsMove (entries_of (cursor_checked self.old)) (cursor_start self.old) (λ entries place. last_move entries) (cursor_place self.old)
+            (cursor_place self.new) (option_map shown_entry result) }
         ensures none { result ≡ None → cursor_place self.new ≡ Fresh }
         ensures compared { cursor_compared self.new ≡ 0 }
     {
@@ -150,7 +152,8 @@ impl<'a> Cursor<'a> {
     pub fn next(&mut self) -> Option<Entry<'a>>
         ensures checked { cursor_checked self.new ≡ cursor_checked self.old }
         ensures start { cursor_start self.new ≡ cursor_start self.old }
-        ensures moves { ShowsMove (entries_of (cursor_checked self.old)) (cursor_start self.old) next_move (cursor_place self.old) (cursor_place self.new) (option_map shown_entry result) }
+        ensures moves { ShowsMove (entries_of (cursor_checked self.old)) (cursor_start self.old) next_move (cursor_place self.old) (cursor_place self.new)
+            (option_map shown_entry result) }
         ensures opens { OpensByNext (cursor_bucket self.old) (cursor_place self.old) (cursor_opened self.old) (cursor_opened self.new) }
         ensures none { result ≡ None → cursor_place self.new ≡ cursor_place self.old }
         ensures compared { cursor_compared self.new ≡ cursor_compared self.old }
@@ -163,7 +166,8 @@ impl<'a> Cursor<'a> {
     pub fn prev(&mut self) -> Option<Entry<'a>>
         ensures checked { cursor_checked self.new ≡ cursor_checked self.old }
         ensures start { cursor_start self.new ≡ cursor_start self.old }
-        ensures moves { ShowsMove (entries_of (cursor_checked self.old)) (cursor_start self.old) prev_move (cursor_place self.old) (cursor_place self.new) (option_map shown_entry result) }
+        ensures moves { ShowsMove (entries_of (cursor_checked self.old)) (cursor_start self.old) prev_move (cursor_place self.old) (cursor_place self.new)
+            (option_map shown_entry result) }
         ensures none { result ≡ None → cursor_place self.new ≡ cursor_place self.old }
         ensures compared { cursor_compared self.new ≡ cursor_compared self.old }
     {
@@ -180,7 +184,8 @@ impl<'a> Cursor<'a> {
     pub fn seek(&mut self, key: &[u8]) -> Option<Entry<'a>>
         ensures checked { cursor_checked self.new ≡ cursor_checked self.old }
         ensures start { cursor_start self.new ≡ cursor_start self.old }
-        ensures moves { ShowsMove (entries_of (cursor_checked self.old)) (cursor_start self.old) (λ entries place. seek_move key.now entries) (cursor_place self.old) (cursor_place self.new) (option_map shown_entry result) }
+        ensures moves { ShowsMove (entries_of (cursor_checked self.old)) (cursor_start self.old) (λ entries place. seek_move key.now entries)
+            (cursor_place self.old) (cursor_place self.new) (option_map shown_entry result) }
         ensures opens { OpensSeek (cursor_bucket self.old) key.now (cursor_opened self.old) (cursor_opened self.new) }
         ensures none { result ≡ None → cursor_place self.new ≡ Past }
         ensures compared { SeeksInBounds (cursor_bucket self.old) key.now (cursor_compared self.new) }
@@ -193,12 +198,15 @@ impl<'a> Cursor<'a> {
     pub(crate) fn next_element(&mut self) -> Option<Leaf<'a>>
         ensures checked { cursor_checked self.new ≡ cursor_checked self.old }
         ensures start { cursor_start self.new ≡ cursor_start self.old }
-        ensures moves { Moves (entries_of (cursor_checked self.old)) (cursor_start self.old) next_move (cursor_place self.old) (cursor_place self.new) (option_map leaf_view result) }
+        ensures moves { Moves (entries_of (cursor_checked self.old)) (cursor_start self.old) next_move (cursor_place self.old) (cursor_place self.new)
+            (option_map leaf_view result) }
         ensures opens { OpensByNext (cursor_bucket self.old) (cursor_place self.old) (cursor_opened self.old) (cursor_opened self.new) }
         ensures none { result ≡ None → cursor_place self.new ≡ cursor_place self.old }
         ensures compared { cursor_compared self.new ≡ cursor_compared self.old }
         ensures bucket { IfSome result (λ leaf. IsTrue leaf.is_bucket → IsBucketValue leaf.value.now) }
     {
+        // After a `seek` that returned nothing, this opens nothing: only all its pages could tell that
+        // the bucket is empty.
         if self.is_past {
             return None;
         }
@@ -213,7 +221,8 @@ impl<'a> Cursor<'a> {
     pub(crate) fn seek_element(&mut self, key: &[u8]) -> Option<Leaf<'a>>
         ensures checked { cursor_checked self.new ≡ cursor_checked self.old }
         ensures start { cursor_start self.new ≡ cursor_start self.old }
-        ensures moves { Moves (entries_of (cursor_checked self.old)) (cursor_start self.old) (λ entries place. seek_move key.now entries) (cursor_place self.old) (cursor_place self.new) (option_map leaf_view result) }
+        ensures moves { Moves (entries_of (cursor_checked self.old)) (cursor_start self.old) (λ entries place. seek_move key.now entries)
+            (cursor_place self.old) (cursor_place self.new) (option_map leaf_view result) }
         ensures opens { OpensSeek (cursor_bucket self.old) key.now (cursor_opened self.old) (cursor_opened self.new) }
         ensures none { result ≡ None → cursor_place self.new ≡ Past }
         ensures compared { SeeksInBounds (cursor_bucket self.old) key.now (cursor_compared self.new) }

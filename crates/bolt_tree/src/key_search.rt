@@ -28,6 +28,7 @@ fn is_before(key: &[u8], sought: &[u8], or_equal: bool) -> bool
 
 /// The number of keys of a page that are below a key or, if `or_equal` is set, not above it.
 /// Compares at most 16 keys.
+#[tactic(auto, using(crate::proofs::KeySearchLemmas::above_middle, crate::proofs::KeySearchLemmas::below_middle, crate::proofs::KeySearchLemmas::halved, crate::proofs::KeySearchLemmas::sixteen))]
 pub(crate) fn keys_before(page: &Opened<'_>, sought: &[u8], or_equal: bool) -> KeyPlace
     requires { KeysRise (content_keys (opened_content page.now)) }
     ensures within { result.before ≤ content_length (opened_content page.now) }

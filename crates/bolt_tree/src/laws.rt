@@ -27,29 +27,35 @@ pub fn buckets_begin_on_ways()
 }
 
 /// Each bucket of a sound tree has its entries in order.
+#[tactic(auto, using(crate::proofs::SortedLemmas::entries_exist))]
 pub fn sorted_entries_exist()
-    ensures { (file : List ℕ) (meta : Meta) (start : Start) → HasSoundTrees file meta → IsStart file meta start → (entries : List LeafElement) × AreEntries (IsEntry file meta) start entries }
+    ensures { (file : List ℕ) (meta : Meta) (start : Start) → HasSoundTrees file meta → IsStart file meta start
+        → (entries : List LeafElement) × AreEntries (IsEntry file meta) start entries }
 {}
 
 /// There is at most one list of the entries of a bucket in order.
 pub fn sorted_entries_are_one()
-    ensures { (file : List ℕ) (meta : Meta) (start : Start) (a b : List LeafElement) → AreEntries (IsEntry file meta) start a → AreEntries (IsEntry file meta) start b → a ≡ b }
+    ensures { (file : List ℕ) (meta : Meta) (start : Start) (a b : List LeafElement) → AreEntries (IsEntry file meta) start a
+        → AreEntries (IsEntry file meta) start b → a ≡ b }
 {}
 
 /// The pages between each entry and the next have a number, and so have those before the first and
 /// after the last. These numbers add up to that of all pages of the bucket.
 pub fn gaps_cover_all()
-    ensures { (file : List ℕ) (meta : Meta) (start : Start) (entries : List LeafElement) → HasSoundTrees file meta → IsStart file meta start → AreEntries (IsEntry file meta) start entries → GapsCoverAll file meta start entries }
+    ensures { (file : List ℕ) (meta : Meta) (start : Start) (entries : List LeafElement) → HasSoundTrees file meta → IsStart file meta start
+        → AreEntries (IsEntry file meta) start entries → GapsCoverAll file meta start entries }
 {}
 
 /// There is a number of pages that a seek of a key opens.
 pub fn seeks_are_counted()
-    ensures { (file : List ℕ) (meta : Meta) (start : Start) (entries : List LeafElement) (key : List ℕ) → HasSoundTrees file meta → IsStart file meta start → AreEntries (IsEntry file meta) start entries → (n : ℕ) × IsSeekCount file meta start entries key n }
+    ensures { (file : List ℕ) (meta : Meta) (start : Start) (entries : List LeafElement) (key : List ℕ) → HasSoundTrees file meta → IsStart file meta start
+        → AreEntries (IsEntry file meta) start entries → (n : ℕ) × IsSeekCount file meta start entries key n }
 {}
 
 /// A seek opens at most the 64 pages of the longest way down, and the pages between the entry that
 /// it comes to and the preceding one.
 pub fn seeks_are_bounded()
-    ensures { (file : List ℕ) (meta : Meta) (start : Start) (entries : List LeafElement) (key : List ℕ) (n gap : ℕ) → HasSoundTrees file meta → IsStart file meta start → AreEntries (IsEntry file meta) start entries
+    ensures { (file : List ℕ) (meta : Meta) (start : Start) (entries : List LeafElement) (key : List ℕ) (n gap : ℕ) → HasSoundTrees file meta
+        → IsStart file meta start → AreEntries (IsEntry file meta) start entries
         → IsSeekCount file meta start entries key n → IsGap file meta start entries (least_from key entries) gap → n ≤ 64 + gap }
 {}

@@ -12,11 +12,13 @@ pub fn listing_is_one()
 {}
 
 /// A file with sound trees has a listing.
+#[tactic(auto, using(crate::proofs::Existing::has_listing))]
 pub fn sound_trees_have_a_listing()
     ensures { (file : List ℕ) (meta : Meta) → HasSoundTrees file meta → (listing : List Member) × IsListing file meta listing }
 {}
 
 /// The listing of a file with sound trees is what the tree of its root bucket lists.
+#[tactic(auto, using(crate::proofs::Existing::listing_tree))]
 pub fn listing_is_of_a_tree()
     ensures { (file : List ℕ) (meta : Meta) (listing : List Member) → HasSoundTrees file meta → IsListing file meta listing
         → (tree : Tree) × IsTreeOf (IsEntry file meta) (Root_page meta.root) tree × (listing ≡ listing_of tree) }
@@ -29,11 +31,14 @@ pub fn a_tree_lists_its_bucket()
 {}
 
 /// The tree of a listing can be computed from the listing.
+#[tactic(auto, using(crate::proofs::ReadBack::tree_back))]
 pub fn a_tree_is_of_its_listing()
     ensures { (tree : Tree) → tree_of (listing_of tree) ≡ tree }
 {}
 
 /// A file's listing is that of the tree that is computed from it.
+#[tactic(auto, using(crate::proofs::Existing::listing_back))]
 pub fn a_listing_is_of_its_tree()
-    ensures { (file : List ℕ) (meta : Meta) (listing : List Member) → HasSoundTrees file meta → IsListing file meta listing → listing_of (tree_of listing) ≡ listing }
+    ensures { (file : List ℕ) (meta : Meta) (listing : List Member) → HasSoundTrees file meta → IsListing file meta listing
+        → listing_of (tree_of listing) ≡ listing }
 {}

@@ -40,7 +40,8 @@ pub trait Members<'a> {
     /// `next` may be called again.
     fn next(&mut self) -> Result<Option<Item<'a>>, NoMemory>
         ensures listing { (listing : List Member) → lists self.new listing ↔ lists self.old listing }
-        ensures given { IfOk result (λ given. (listing : List Member) → lists self.old listing → GivesNext (left self.old listing) (left self.new listing) (last_path self.new) (option_map item_view given)) }
+        ensures given { IfOk result (λ given. (listing : List Member) → lists self.old listing
+            → GivesNext (left self.old listing) (left self.new listing) (last_path self.new) (option_map item_view given)) }
         ensures fewer { IfOk result (λ given. IfSome given (λ _. work_left self.new < work_left self.old)) }
         ensures ended { IfOk result (λ given. IfNone given (ends_as self.old self.new)) }
         ensures same_end { (end : Self) → ends_as self.new end → ends_as self.old end }

@@ -72,7 +72,8 @@ impl<'a> OpenBuckets<'a> {
         ensures on { IfOk result (λ found. IfSome found (IsAt self.new)) }
         ensures none { IfOk result (λ found. IfNone found (open_path self.new ≡ open_path self.old)) }
         ensures same { OnErr result (open_path self.new ≡ open_path self.old) }
-        ensures left { IfOk result (λ found. ForListing self.old.cursors.checked (λ listing. MatchOption found (rest_after (open_path self.old) listing ≡ beyond (open_path self.old) listing)
+        ensures left { IfOk result (λ found. ForListing self.old.cursors.checked
+            (λ listing. MatchOption found (rest_after (open_path self.old) listing ≡ beyond (open_path self.old) listing)
             (λ leaf. rest_after (open_path self.old) listing ≡ (open_path self.new, item_of (leaf_view leaf)) ∷ rest_after (open_path self.new) listing))) }
     {
         self.path.reserve(1)?;
@@ -93,8 +94,10 @@ impl<'a> OpenBuckets<'a> {
         ensures on { IfOk result (λ found. IfSome found (IsAt self.new)) }
         ensures ended { IfOk result (λ found. IfNone found (open_path self.new ≡ [])) }
         ensures same { OnErr result (open_path self.new ≡ open_path self.old) }
-        ensures left { IfOk result (λ found. ForListing self.old.cursors.checked (λ listing. MatchOption found (left_by ahead.entry (open_path self.old) listing ≡ [])
-            (λ leaf. left_by ahead.entry (open_path self.old) listing ≡ (open_path self.new, item_of (leaf_view leaf)) ∷ rest_after (open_path self.new) listing))) }
+        ensures left { IfOk result (λ found. ForListing self.old.cursors.checked
+            (λ listing. MatchOption found (left_by ahead.entry (open_path self.old) listing ≡ [])
+            (λ leaf. left_by ahead.entry (open_path self.old) listing
+            ≡ (open_path self.new, item_of (leaf_view leaf)) ∷ rest_after (open_path self.new) listing))) }
     {
         let bucket = match ahead {
             WalkStep::Begin => Bucket::root(self.cursors.checked),
@@ -124,6 +127,7 @@ impl<'a> OpenBuckets<'a> {
     }
 
     /// Goes to the next entry after everything that begins with the path, to return it.
+    #[tactic(auto, using(crate::proofs::Climbing::none_beyond))]
     fn next_step(&mut self) -> WalkStep<'a>
         requires { IsInPlace self.old }
         ensures checked { self.new.cursors.checked ≡ self.old.cursors.checked }
@@ -173,7 +177,8 @@ impl<'a> OpenBuckets<'a> {
         ensures placed { OnOk result (IsInPlace self.new) }
         ensures ahead { IfOk result (IsAhead self.new) }
         ensures unreported { IfOk result (λ ahead. reported_path ahead (open_path self.new) ≡ []) }
-        ensures left { IfOk result (λ ahead. ForListing self.old.cursors.checked (λ listing. left_by ahead (open_path self.new) listing ≡ rest_from (path_of path.now) listing)) }
+        ensures left { IfOk result (λ ahead. ForListing self.old.cursors.checked
+            (λ listing. left_by ahead (open_path self.new) listing ≡ rest_from (path_of path.now) listing)) }
     {
         let mut bucket = Bucket::root(self.cursors.checked);
         for (i, part) in path.iter().enumerate() {

@@ -85,6 +85,7 @@ impl<'a> OpenCursors<'a> {
     }
 
     /// Moves the innermost cursor to the first entry whose key isn't below `key`.
+    #[tactic(auto, using(crate::proofs::KeptLemmas::moved_file, crate::proofs::KeptLemmas::moved_last, crate::proofs::KeptLemmas::some_innermost))]
     fn seek_element(&mut self, key: &[u8]) -> Option<Leaf<'a>>
         requires { cursors_of self.old ≡ [] → ⊥ }
         ensures checked { self.new.checked ≡ self.old.checked }
@@ -102,7 +103,8 @@ impl<'a> OpenCursors<'a> {
     pub fn enter(&mut self, bucket: Bucket<'a>) -> Result<Option<Leaf<'a>>, NoMemory>
         requires { bucket_checked bucket ≡ self.old.checked }
         ensures checked { self.new.checked ≡ self.old.checked }
-        ensures opens { IfOk result (λ found. Opens bucket.entry (λ entries place. first_move entries) (cursors_of self.old) (cursors_of self.new) (option_map leaf_view found)) }
+        ensures opens { IfOk result (λ found. Opens bucket.entry (λ entries place. first_move entries) (cursors_of self.old) (cursors_of self.new)
+            (option_map leaf_view found)) }
         ensures bucket { IfOk result (λ found. IfSome found (λ leaf. IsTrue leaf.is_bucket → IsBucketValue leaf.value.now)) }
         ensures same { OnErr result (cursors_of self.new ≡ cursors_of self.old) }
     {
@@ -116,7 +118,8 @@ impl<'a> OpenCursors<'a> {
     pub fn seek(&mut self, bucket: Bucket<'a>, key: &[u8]) -> Result<Option<Leaf<'a>>, NoMemory>
         requires { bucket_checked bucket ≡ self.old.checked }
         ensures checked { self.new.checked ≡ self.old.checked }
-        ensures opens { IfOk result (λ found. Opens bucket.entry (λ entries place. seek_move key.now entries) (cursors_of self.old) (cursors_of self.new) (option_map leaf_view found)) }
+        ensures opens { IfOk result (λ found. Opens bucket.entry (λ entries place. seek_move key.now entries) (cursors_of self.old) (cursors_of self.new)
+            (option_map leaf_view found)) }
         ensures bucket { IfOk result (λ found. IfSome found (λ leaf. IsTrue leaf.is_bucket → IsBucketValue leaf.value.now)) }
         ensures same { OnErr result (cursors_of self.new ≡ cursors_of self.old) }
     {
@@ -139,6 +142,7 @@ impl<'a> OpenCursors<'a> {
 
     /// Moves the innermost cursor to its next entry. If there is none, it stays where it is.
     #[inline(always)]
+    #[tactic(auto, using(crate::proofs::KeptLemmas::moved_file, crate::proofs::KeptLemmas::moved_last, crate::proofs::KeptLemmas::some_innermost))]
     pub fn next_element(&mut self) -> Option<Leaf<'a>>
         requires { cursors_of self.old ≡ [] → ⊥ }
         ensures checked { self.new.checked ≡ self.old.checked }

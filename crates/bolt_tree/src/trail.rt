@@ -38,6 +38,7 @@ pub(crate) struct SeekResult<'a> {
     pub compared: u64,
 }
 
+#[tactic(auto, using(crate::proofs::StackLemmas::retaken, crate::proofs::PagerLemmas::counted_zero))]
 impl<'a> Trail<'a> {
     ghost use Rattle.bolt_tree.specs.Private.Trails.{Finds, FindsBack, HasBucket, HasTrail, IsSameBucket, ahead, preceding, right, trail_bucket, trail_frames};
 
@@ -49,7 +50,8 @@ impl<'a> Trail<'a> {
         ensures rest { IsAtRest (trail_frames self.new) }
         ensures found { Finds result (elements_in (trail_bucket self.old)) (ahead self.new) (trail_frames self.new) [] }
         ensures bucket { IfSome result (λ leaf. IsTrue leaf.is_bucket → IsBucketValue leaf.value.now) }
-        ensures opened { pager_opened self.new.pager ≡ counted (pager_opened self.old.pager) (length (pages_in (trail_bucket self.old)) - length (right self.new)) }
+        ensures opened { pager_opened self.new.pager
+            ≡ counted (pager_opened self.old.pager) (length (pages_in (trail_bucket self.old)) - length (right self.new)) }
     {
         self.begin(false);
         self.advance()
@@ -78,7 +80,8 @@ impl<'a> Trail<'a> {
         ensures rest { IsAtRest (trail_frames self.new) }
         ensures found { Finds result (ahead self.old) (ahead self.new) (trail_frames self.new) (trail_frames self.old) }
         ensures bucket { IfSome result (λ leaf. IsTrue leaf.is_bucket → IsBucketValue leaf.value.now) }
-        ensures opened { pager_opened self.new.pager ≡ counted (pager_opened self.old.pager) (length (right self.old) - opened_to (option_map leaf_view result) (right self.new)) }
+        ensures opened { pager_opened self.new.pager
+            ≡ counted (pager_opened self.old.pager) (length (right self.old) - opened_to (option_map leaf_view result) (right self.new)) }
     {
         if let Some(leaf) = self.next_here() {
             return Some(leaf);
@@ -90,6 +93,7 @@ impl<'a> Trail<'a> {
     }
 
     /// Moves to the preceding entry. If there is none, it stays. The content of `spare` is lost.
+    #[tactic(auto, using(crate::proofs::TrailLemmas::kept_stack))]
     pub fn prev(&mut self, spare: &mut Stack<'a>) -> Option<Leaf<'a>>
         requires stack { HasTrail self.old }
         requires rest { IsAtRest (trail_frames self.old) }
@@ -115,7 +119,8 @@ impl<'a> Trail<'a> {
         ensures same { IsSameBucket self.old self.new }
         ensures stack { HasTrail self.new }
         ensures rest { IsAtRest (trail_frames self.new) }
-        ensures found { Finds result.found (drop (least_from key.now (elements_in (trail_bucket self.old))) (elements_in (trail_bucket self.old))) (ahead self.new) (trail_frames self.new) [] }
+        ensures found { Finds result.found (drop (least_from key.now (elements_in (trail_bucket self.old))) (elements_in (trail_bucket self.old)))
+            (ahead self.new) (trail_frames self.new) [] }
         ensures number { least_from key.now (elements_in (trail_bucket self.old)) ≤ length (elements_in (trail_bucket self.old)) }
         ensures bucket { IfSome result.found (λ leaf. IsTrue leaf.is_bucket → IsBucketValue leaf.value.now) }
         ensures opened { OpensSeek (trail_bucket self.old) key.now (pager_opened self.old.pager) (pager_opened self.new.pager) }
@@ -128,6 +133,7 @@ impl<'a> Trail<'a> {
     }
 
     /// Moves to the next entry if it is in the same leaf. Otherwise it stays.
+    #[tactic(auto, using(crate::proofs::MoveLemmas::was, crate::proofs::TrailLemmas::nothing_here))]
     fn next_here(&mut self) -> Option<Leaf<'a>>
         requires stack { HasTrail self.old }
         requires rest { IsAtRest (trail_frames self.old) }
@@ -150,6 +156,7 @@ impl<'a> Trail<'a> {
 
     /// Moves to the next entry, past the end of the leaf. If there is none, the stack is restored.
     #[inline(never)]
+    #[tactic(auto, using(crate::proofs::TrailLemmas::kept_stack))]
     fn next_further(&mut self, spare: &mut Stack<'a>) -> Option<Leaf<'a>>
         requires stack { HasTrail self.old }
         requires rest { IsAtRest (trail_frames self.old) }
@@ -158,7 +165,8 @@ impl<'a> Trail<'a> {
         ensures rest { IsAtRest (trail_frames self.new) }
         ensures found { Finds result (ahead self.old) (ahead self.new) (trail_frames self.new) (trail_frames self.old) }
         ensures bucket { IfSome result (λ leaf. IsTrue leaf.is_bucket → IsBucketValue leaf.value.now) }
-        ensures opened { pager_opened self.new.pager ≡ counted (pager_opened self.old.pager) (length (right self.old) - opened_to (option_map leaf_view result) (right self.new)) }
+        ensures opened { pager_opened self.new.pager
+            ≡ counted (pager_opened self.old.pager) (length (right self.old) - opened_to (option_map leaf_view result) (right self.new)) }
     {
         set_positions(spare, self.stack.as_slice());
         match self.advance() {
@@ -171,6 +179,7 @@ impl<'a> Trail<'a> {
     }
 
     /// Moves to the next entry. If there is none, the stack is empty.
+    #[tactic(auto, using(crate::proofs::TrailLemmas::popped_none))]
     fn advance(&mut self) -> Option<Leaf<'a>>
         requires { HasTrail self.old }
         ensures same { IsSameBucket self.old self.new }
@@ -191,6 +200,7 @@ impl<'a> Trail<'a> {
     }
 
     /// Moves to the preceding entry. If there is none, the stack is empty.
+    #[tactic(auto, using(crate::proofs::TrailLemmas::popped_none))]
     fn retreat(&mut self) -> Option<Leaf<'a>>
         requires { HasTrail self.old }
         ensures same { IsSameBucket self.old self.new }
@@ -213,7 +223,8 @@ impl<'a> Trail<'a> {
         requires { HasBucket self.old }
         ensures same { IsSameBucket self.old self.new }
         ensures stack { HasTrail self.new }
-        ensures frames { let root = root_content (trail_bucket self.old) in trail_frames self.new ≡ record { content = root; taken = taken_at at_end root } ∷ [] }
+        ensures frames { let root = root_content (trail_bucket self.old) in
+            trail_frames self.new ≡ record { content = root; taken = taken_at at_end root } ∷ [] }
         ensures opened { pager_opened self.new.pager ≡ counted (pager_opened self.old.pager) 1 }
     {
         let page = self.open_root();
@@ -221,6 +232,7 @@ impl<'a> Trail<'a> {
     }
 
     /// Opens the root page of the bucket, or its inline page, which isn't on the stack yet.
+    #[tactic(auto, using(crate::proofs::StackLemmas::root_way, crate::proofs::TrailLemmas::way_kind, crate::proofs::WayPages::content_shown))]
     fn open_root(&mut self) -> Opened<'a>
         requires { HasBucket self.old }
         ensures same { IsSameBucket self.old self.new }
@@ -241,6 +253,7 @@ impl<'a> Trail<'a> {
     /// Goes down from the root page to the leaf that is near a key, and stops before its first
     /// entry that isn't below the key. Returns how many keys were compared, at most 16 for each
     /// page.
+    #[tactic(auto, using(crate::proofs::StackLemmas::retaken, crate::proofs::StackLemmas::stack_short, crate::proofs::NearLemmas::stack_rises))]
     fn descend(&mut self, root: Opened<'a>, key: &[u8]) -> u64
         requires bucket { HasBucket self.old }
         requires empty { trail_frames self.old ≡ [] }
@@ -273,7 +286,8 @@ impl<'a> Trail<'a> {
         requires below { i < content_length (opened_content page) }
         ensures same { IsSameBucket self.old self.new }
         ensures stack { HasTrail self.new }
-        ensures entered { IsEntered (contents_in (trail_bucket self.old)) at_end (opened_content page.entry) i (trail_frames self.old) (trail_frames self.new) (option_map leaf_view result) }
+        ensures entered { IsEntered (contents_in (trail_bucket self.old)) at_end (opened_content page.entry) i (trail_frames self.old) (trail_frames self.new)
+            (option_map leaf_view result) }
         ensures opened { pager_opened self.new.pager ≡ counted (pager_opened self.old.pager) (entered_pages (option_map leaf_view result)) }
         ensures bucket { IfSome result (λ leaf. IsTrue leaf.is_bucket → IsBucketValue leaf.value.now) }
     {
@@ -301,7 +315,8 @@ impl<'a> Trail<'a> {
         requires below { i < length (shown page.page).branches }
         ensures same { IsSameBucket self.old self.new }
         ensures frames { trail_frames self.new ≡ record { content = Of_branch (shown page.entry.page).branches; taken = i + 1 } ∷ trail_frames self.old }
-        ensures child { (e : BranchElement) × (slice_get (shown page.entry.page).branches i ≡ Some e) × (opened_content result ≡ contents_in (trail_bucket self.old) e.child) }
+        ensures child { (e : BranchElement) × (slice_get (shown page.entry.page).branches i ≡ Some e)
+            × (opened_content result ≡ contents_in (trail_bucket self.old) e.child) }
         ensures stack { HasStack (trail_bucket self.new) (record { content = opened_content result; taken = 0 } ∷ trail_frames self.new) }
         ensures opened { pager_opened self.new.pager ≡ counted (pager_opened self.old.pager) 1 }
     {
@@ -314,7 +329,8 @@ impl<'a> Trail<'a> {
         requires { HasStack (trail_bucket self.old) (record { content = opened_content page; taken = 0 } ∷ trail_frames self.old) }
         ensures same { IsSameBucket self.old self.new }
         ensures stack { HasTrail self.new }
-        ensures frames { trail_frames self.new ≡ record { content = opened_content page.entry; taken = taken_at at_end (opened_content page.entry) } ∷ trail_frames self.old }
+        ensures frames { trail_frames self.new
+            ≡ record { content = opened_content page.entry; taken = taken_at at_end (opened_content page.entry) } ∷ trail_frames self.old }
         ensures opened { pager_opened self.new.pager ≡ pager_opened self.old.pager }
     {
         if at_end {
@@ -325,6 +341,7 @@ impl<'a> Trail<'a> {
     }
 
     /// Pushes a page onto the stack.
+    #[tactic(auto, using(crate::proofs::TrailLemmas::stack_room))]
     fn push(&mut self, page: Opened<'a>, taken: u32)
         requires { HasStack (trail_bucket self.old) (record { content = opened_content page; taken = taken } ∷ trail_frames self.old) }
         ensures same { IsSameBucket self.old self.new }

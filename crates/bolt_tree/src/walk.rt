@@ -63,7 +63,8 @@ impl<'a> Walk<'a> {
     #[inline(always)]
     pub fn next(&mut self) -> Result<Option<Item<'a>>, NoMemory>
         ensures checked { walk_checked self.new ≡ walk_checked self.old }
-        ensures given { IfOk result (λ given. ForListing (walk_checked self.old) (λ listing. GivesNext (left_of self.old listing) (left_of self.new listing) (walk_path self.new) (option_map item_view given))) }
+        ensures given { IfOk result (λ given. ForListing (walk_checked self.old)
+            (λ listing. GivesNext (left_of self.old listing) (left_of self.new listing) (walk_path self.new) (option_map item_view given))) }
         ensures same { OnErr result (ForListing (walk_checked self.old) (λ listing. left_of self.new listing ≡ left_of self.old listing)) }
         ensures same_path { OnErr result (walk_path self.new ≡ walk_path self.old) }
     {

@@ -41,13 +41,15 @@ AreOpen checked before (cursor ∷ cursors) (key ∷ keys) =
     × AreOpen checked (before ++ key ∷ []) cursors keys
 
 abbrev pub IsInPlace : OpenBuckets → Type 0
-IsInPlace buckets = ∥ HasEntries (entries_of buckets.cursors.checked) (root_start buckets.cursors.checked) × AreOpen buckets.cursors.checked [] (cursors_of buckets.cursors) (open_path buckets) ∥₁
+IsInPlace buckets = ∥ HasEntries (entries_of buckets.cursors.checked) (root_start buckets.cursors.checked)
+    × AreOpen buckets.cursors.checked [] (cursors_of buckets.cursors) (open_path buckets) ∥₁
 
 -- the path leads to this element
 abbrev pub IsAt : OpenBuckets → Leaf → Type 0
 IsAt buckets leaf =
     (IsTrue leaf.is_bucket → IsBucketValue leaf.value.now)
-    × ∥ ((path : Path) × (bucket : Start) × (open_path buckets ≡ path ++ leaf.key.now ∷ []) × Names (entries_of buckets.cursors.checked) (root_start buckets.cursors.checked) path bucket
+    × ∥ ((path : Path) × (bucket : Start) × (open_path buckets ≡ path ++ leaf.key.now ∷ [])
+    × Names (entries_of buckets.cursors.checked) (root_start buckets.cursors.checked) path bucket
     × entries_of buckets.cursors.checked bucket (leaf_view leaf)) ∥₁
 
 -- the path names the bucket of a file that begins there
@@ -56,7 +58,8 @@ IsInside checked path start = ∥ Names (entries_of checked) (root_start checked
 
 -- the bucket is one of the same file, and the path names it
 abbrev pub IsNamed : OpenBuckets → Bucket → Type 0
-IsNamed buckets bucket = ∥ (bucket_checked bucket ≡ buckets.cursors.checked) × Names (entries_of buckets.cursors.checked) (root_start buckets.cursors.checked) (open_path buckets) (bucket_start bucket) ∥₁
+IsNamed buckets bucket = ∥ (bucket_checked bucket ≡ buckets.cursors.checked)
+    × Names (entries_of buckets.cursors.checked) (root_start buckets.cursors.checked) (open_path buckets) (bucket_start bucket) ∥₁
 
 -- open buckets from which this may be done next
 abbrev pub IsAhead : OpenBuckets → WalkStep → Type 0
@@ -91,4 +94,5 @@ abbrev pub IsPartResult : OpenBuckets → OpenBuckets → Key → Bool → PartR
 IsPartResult old new part is_last (Inside bucket) = (open_path new ≡ open_path old ++ part ∷ []) × IsNamed new bucket × (is_last ≡ false)
 IsPartResult old new part is_last (Here ahead) =
     IsAhead new ahead × (reported_path ahead (open_path new) ≡ [])
-    × ((rest : Path) → is_end rest ≡ is_last → ForListing old.cursors.checked (λ listing. left_by ahead (open_path new) listing ≡ rest_from (open_path old ++ part ∷ rest) listing))
+    × ((rest : Path) → is_end rest ≡ is_last
+    → ForListing old.cursors.checked (λ listing. left_by ahead (open_path new) listing ≡ rest_from (open_path old ++ part ∷ rest) listing))

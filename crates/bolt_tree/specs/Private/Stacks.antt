@@ -33,7 +33,8 @@ right_of contents (frame ∷ below) = right_under contents (length below) (addre
 -- the pages to the left of the page that is on a stack: those on the stack, and those under what was taken before
 abbrev pub left_under : Contents → ℕ → List ℕ → Content → ℕ → List Visit
 left_under contents height address (Of_leaf elements) taken = []
-left_under contents height address (Of_branch elements) taken = record { address = address; entries = [] } ∷ under_at contents height address 0 (take taken elements)
+left_under contents height address (Of_branch elements) taken = record { address = address; entries = [] } ∷ under_at contents height address 0
+    (take taken elements)
 
 abbrev pub left_of : Contents → List Frame → List Visit
 left_of contents [] = []

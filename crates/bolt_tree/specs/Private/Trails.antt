@@ -53,8 +53,10 @@ before trail = before_of (contents_in (trail_bucket trail)) (trail_frames trail)
 
 -- a move to the next entry: what it returns, what was ahead and is ahead now, and its stack; without an entry, that stack is `end`
 abbrev pub Finds : Option Leaf → (before after : List LeafElement) (frames end : List Frame) → Type 0
-Finds found before after frames end = MatchOption found ((before ≡ []) × (frames ≡ end)) (λ leaf. (before ≡ leaf_view leaf ∷ after) × IsOn frames (leaf_view leaf))
+Finds found before after frames end = MatchOption found ((before ≡ []) × (frames ≡ end))
+    (λ leaf. (before ≡ leaf_view leaf ∷ after) × IsOn frames (leaf_view leaf))
 
 -- a move to the preceding entry, and what preceded
 abbrev pub FindsBack : Option Leaf → (before after : List LeafElement) (frames end : List Frame) → Type 0
-FindsBack found before after frames end = MatchOption found ((before ≡ []) × (frames ≡ end)) (λ leaf. (before ≡ after ++ leaf_view leaf ∷ []) × IsOn frames (leaf_view leaf))
+FindsBack found before after frames end = MatchOption found ((before ≡ []) × (frames ≡ end))
+    (λ leaf. (before ≡ after ++ leaf_view leaf ∷ []) × IsOn frames (leaf_view leaf))

@@ -1,8 +1,5 @@
 use Rattle.std.proofs.Common.{◌≡◌, ℕ, ◌-◌, ◌*◌, ◌<◌, ◌≤◌, Some, true, false, slice_get}
-use Rattle.bolt_check.specs.Keys.{Key}
-use Rattle.bolt_tree.specs.Private.PageKeys.{doubled, stands_before}
-use Rattle.bolt_tree.specs.Private.ShownPages.{opened_content}
-use Rattle.bolt_tree.specs.Private.Contents.{content_keys, content_length}
+use Rattle.bolt_tree.proofs.Words.{Key, content_keys, content_length, doubled, opened_content, stands_before}
 use Rattle.bolt_tree.proofs.key_search.keys_before.Given as goal
 
 abbrev pub invariant-loop-from : goal.invariant-loop-from

@@ -1,4 +1,4 @@
-use Rattle.bolt_tree.specs.Entries.{IsEntry}
+use Rattle.bolt_tree.proofs.Words.{IsEntry}
 use Rattle.bolt_tree.proofs.TreeListing.{tree_lists}
 use Rattle.bolt_tree.proofs.listing_laws.a_tree_lists_its_bucket.Goals as goal
 

@@ -1,4 +1,4 @@
-use Rattle.bolt_tree.specs.Entries.{IsEntry, Root_page}
+use Rattle.bolt_tree.proofs.Words.{IsEntry, Root_page}
 use Rattle.bolt_tree.proofs.Single.{lists_once}
 use Rattle.bolt_tree.proofs.listing_laws.listing_is_one.Goals as goal
 

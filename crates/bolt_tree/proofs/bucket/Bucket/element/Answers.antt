@@ -1,8 +1,5 @@
 use Rattle.std.proofs.Common.{◌∙◌, sym, ap}
-use Rattle.bolt_format.specs.ElementPlaces.{leaf_view}
-use Rattle.bolt_tree.specs.Buckets.{bucket_checked, bucket_start}
-use Rattle.bolt_tree.specs.Starts.{start_at}
-use Rattle.std.specs.Ordering.{is_lt}
+use Rattle.bolt_tree.proofs.Words.{bucket_checked, bucket_start, is_lt, leaf_view, start_at}
 use Rattle.bolt_tree.proofs.Looking.{look_found, look_greater, look_none, own_entries}
 use Rattle.bolt_tree.proofs.bucket.Bucket.element.Goals as goal
 

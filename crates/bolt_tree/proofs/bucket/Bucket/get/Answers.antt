@@ -1,13 +1,7 @@
 use Rattle.std.proofs.Common.{◌∙◌, refl}
-use Rattle.std.proofs.Math.Logic.{∥∥₁_map}
-use Rattle.bolt_format.specs.ElementPlaces.{leaf_view}
-use Rattle.bolt_tree.specs.Buckets.{bucket_checked, bucket_start}
-use Rattle.bolt_tree.specs.Starts.{start_at}
+use Rattle.bolt_tree.proofs.Words.{bucket_checked, bucket_start, leaf_view, start_at, ∥∥₁_map}
 use Rattle.bolt_tree.proofs.Looking.{same_kind}
 use Rattle.bolt_tree.proofs.bucket.Bucket.get.Goals as goal
-
-pub returns-in_err-leaf : goal.returns-in_err-leaf
-returns-in_err-leaf c = rw c.from_residual.ensures (λ e is same. absurd (c.in_err-leaf.ensures.element e is same))
 
 pub returns-then-leaf : goal.returns-then-leaf
 unfolding bucket_checked bucket_start

@@ -1,7 +1,5 @@
 use Rattle.std.proofs.Common.{[], refl}
-use Rattle.bolt_check.specs.CheckedFiles.{bytes_of, meta_of}
-use Rattle.bolt_check.specs.OnWays.{IsOnWay}
-use Rattle.bolt_check.specs.Ways.{root_spot}
+use Rattle.bolt_tree.proofs.Words.{IsOnWay, bytes_of, meta_of, root_spot}
 use Rattle.bolt_tree.proofs.bucket.Bucket.root.Goals as goal
 
 pub invariant_of-result : goal.invariant_of-result

@@ -1,10 +1,7 @@
 use Rattle.std.proofs.Common.{refl}
-use Rattle.bolt_tree.specs.Cursors.{cursor_checked}
-use Rattle.bolt_tree.proofs.KeptLemmas.{file_of, kept_short, resumed}
+use Rattle.bolt_tree.proofs.Words.{cursor_checked}
+use Rattle.bolt_tree.proofs.KeptLemmas.{file_of, resumed}
 use Rattle.bolt_tree.proofs.cursor.Cursor.resume.Goals as goal
-
-pub set_positions-requires : goal.set_positions-requires
-set_positions-requires c = kept_short (cursor_checked c.args.self.now) c.args.at c.args.is_past c.args.positions.now c.requires
 
 pub invariant_of-self : goal.invariant_of-self
 invariant_of-self c =

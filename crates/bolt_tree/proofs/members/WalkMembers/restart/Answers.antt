@@ -1,7 +1,5 @@
 use Rattle.std.proofs.Common.{◌∙◌, subst, sym}
-use Rattle.bolt_check.specs.CheckedFiles.{bytes_of, meta_of}
-use Rattle.bolt_check.specs.declared.checked_file.Checked.{Checked}
-use Rattle.bolt_tree.specs.Listing.{IsListing}
+use Rattle.bolt_tree.proofs.Words.{Checked, IsListing, bytes_of, meta_of}
 use Rattle.bolt_tree.proofs.members.WalkMembers.restart.Goals as goal
 
 -- the walk is over the same file

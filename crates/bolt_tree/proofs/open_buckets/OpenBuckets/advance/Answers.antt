@@ -1,13 +1,6 @@
-use Rattle.bolt_tree.specs.Private.OpenCursors.{cursors_of}
 use Rattle.std.proofs.Common.{◌≡◌, ◌∙◌, List, [], ◌∷◌, MatchOption, refl, sym, ap, subst}
-use Rattle.bolt_format.specs.ElementPlaces.{leaf_view}
-use Rattle.bolt_format.specs.declared.element.Leaf.{Leaf}
-use Rattle.bolt_tree.specs.Entries.{item_of, start_of}
-use Rattle.bolt_tree.specs.FileListings.{root_start}
-use Rattle.bolt_tree.specs.Listing.{Member}
-use Rattle.bolt_tree.specs.Paths.{Path, path_of}
-use Rattle.bolt_tree.specs.Private.OpenBuckets.{IsNamed, left_by, open_path}
-use Rattle.bolt_tree.specs.RestAfter.{rest_after, beyond}
+use Rattle.bolt_tree.proofs.Words.{IsNamed, Leaf, Member, Path, beyond, cursors_of, item_of, leaf_view, left_by, open_path, path_of, rest_after, root_start}
+use Rattle.bolt_tree.proofs.Words.{start_of}
 use Rattle.bolt_tree.proofs.Climbing.{listed_in}
 use Rattle.bolt_tree.proofs.Entering.{itself, lies_in, named_by, root_inside}
 use Rattle.bolt_tree.proofs.open_buckets.OpenBuckets.advance.Goals as goal

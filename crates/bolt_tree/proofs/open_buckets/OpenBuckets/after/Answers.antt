@@ -1,6 +1,4 @@
-use Rattle.bolt_tree.specs.Private.OpenCursors.{cursors_of}
-use Rattle.bolt_tree.specs.Paths.{path_of}
-use Rattle.bolt_format.specs.ElementPlaces.{leaf_view}
+use Rattle.bolt_tree.proofs.Words.{cursors_of, leaf_view, path_of}
 use Rattle.bolt_tree.proofs.Entering.{leads_inside, past_value}
 use Rattle.bolt_tree.proofs.open_buckets.OpenBuckets.after.Goals as goal
 

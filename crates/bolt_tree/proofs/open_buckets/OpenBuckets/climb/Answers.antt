@@ -1,8 +1,6 @@
 use Rattle.std.proofs.Common.{◌∙◌, ap, arith, refl, sym, vec_len}
-use Rattle.bolt_format.specs.ElementPlaces.{leaf_view}
-use Rattle.bolt_tree.specs.Paths.{path_of}
-use Rattle.bolt_tree.specs.Private.OpenCursors.{cursors_of}
-use Rattle.bolt_tree.proofs.Climbing.{all_closed, ends, gives, leads_on, listed_in, none_beyond, one_less, opens, popped, popped_len, stays}
+use Rattle.bolt_tree.proofs.Words.{cursors_of, leaf_view, path_of}
+use Rattle.bolt_tree.proofs.Climbing.{all_closed, ends, gives, leads_on, listed_in, none_beyond, opens, popped, popped_len, stays}
 use Rattle.bolt_tree.proofs.Entering.{leads_in, placed_in}
 use Rattle.bolt_tree.proofs.OpenSteps.{path_push}
 use Rattle.bolt_tree.proofs.open_buckets.OpenBuckets.climb.Goals as goal
@@ -51,11 +49,6 @@ returns-in-Some-clause-left c = λ listing lists.
     ∙ gives buckets.cursors.checked m.outer m.cursor m.moved (path_of buckets.path.items) (path_of c.pop.new.self.items) known
     (leaf_view c.in-Some.leaf) (path_of c.push_reserved.new.self.items) m.moves
     (ap path_of c.push_reserved.ensures.items ∙ path_push c.pop.new.self.items c.in-Some.leaf.key) listing here
-
-pub loop-self-smaller : goal.loop-self-smaller
-loop-self-smaller c =
-    let m = c.in_default.ensures.moves in
-    one_less (cursors_of c.loop-self.self.cursors) (cursors_of c.pop-in-loop-self.new.self) m.outer m.cursor m.was (c.pop-in-loop-self.ensures.cursors m.outer m.moved m.is)
 
 pub loop-self-preserved : goal.loop-self-preserved
 loop-self-preserved c =

@@ -1,8 +1,5 @@
-use Rattle.bolt_tree.specs.FileListings.{ForListing}
 use Rattle.std.proofs.Common.{◌≡◌, length}
-use Rattle.bolt_tree.specs.Private.OpenBuckets.{IsInPlace, open_path}
-use Rattle.bolt_tree.specs.Private.OpenCursors.{cursors_of}
-use Rattle.bolt_tree.specs.RestAfter.{beyond}
+use Rattle.bolt_tree.proofs.Words.{ForListing, IsInPlace, beyond, cursors_of, open_path}
 use Rattle.bolt_tree.proofs.open_buckets.OpenBuckets.climb.Given as goal
 
 -- what stands beyond the path is what stood beyond it at the beginning

@@ -1,10 +1,5 @@
 use Rattle.std.proofs.Common.{ap, refl}
-use Rattle.std.proofs.Math.Logic.{∥∥₁_elim}
-use Rattle.std.proofs.Props.{props}
-use Rattle.bolt_format.specs.ElementPlaces.{leaf_view}
-use Rattle.bolt_tree.specs.Paths.{path_of}
-use Rattle.bolt_tree.specs.Private.CursorViews.{fresh_view}
-use Rattle.bolt_tree.specs.Private.OpenCursors.{cursors_of}
+use Rattle.bolt_tree.proofs.Words.{cursors_of, fresh_view, leaf_view, path_of, props, ∥∥₁_elim}
 use Rattle.bolt_tree.proofs.CursorMoves.{by_first}
 use Rattle.bolt_tree.proofs.Entering.{first_gives, first_none, leads_by, leads_in, made, opens_by, placed_in}
 use Rattle.bolt_tree.proofs.OpenSteps.{path_put}

@@ -1,9 +1,6 @@
-use Rattle.bolt_tree.specs.Private.OpenCursors.{cursors_of}
-use Rattle.bolt_tree.specs.Paths.{path_of}
 use Rattle.std.proofs.Common.{◌∙◌, sym}
-use Rattle.bolt_format.specs.ElementPlaces.{leaf_view}
-use Rattle.bolt_tree.specs.Private.OpenBuckets.{open_path}
-use Rattle.bolt_tree.proofs.Climbing.{listed_in, none_beyond}
+use Rattle.bolt_tree.proofs.Words.{cursors_of, leaf_view, path_of}
+use Rattle.bolt_tree.proofs.Climbing.{listed_in}
 use Rattle.bolt_tree.proofs.Entering.{itself}
 use Rattle.bolt_tree.proofs.open_buckets.OpenBuckets.next_step.Goals as goal
 
@@ -12,7 +9,3 @@ returns-in-Some-clause-left c = λ listing lists.
     let there = listed_in c.climb.new.self.cursors.checked c.args.self.now.cursors.checked listing c.in-Some.ensures.checked lists in
     itself c.climb.new.self.cursors.checked (cursors_of c.climb.new.self.cursors) (path_of c.climb.new.self.path.items) (leaf_view c.in-Some.leaf) c.in-Some.ensures.placed c.in-Some.ensures.on.1 listing there
     ∙ sym (c.in-Some.ensures.left listing lists)
-
-pub returns-in-None-clause-left : goal.returns-in-None-clause-left
-returns-in-None-clause-left c = λ listing lists.
-    none_beyond (open_path c.climb.new.self) listing c.in-None.ensures.ended ∙ sym (c.in-None.ensures.left listing lists)

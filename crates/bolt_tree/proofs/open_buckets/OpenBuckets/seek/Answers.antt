@@ -1,11 +1,7 @@
-use Rattle.bolt_tree.specs.Private.OpenCursors.{cursors_of}
 use Rattle.std.proofs.Common.{◌∙◌, ◌++◌, ◌∷◌, [], List, Bor, ℕ, suc, drop, take, length, get_or, refl, ap}
-use Rattle.std.proofs.Math.Seq.{take-nil}
-use Rattle.bolt_tree.specs.Listing.{rest_from}
-use Rattle.bolt_tree.specs.Paths.{Path, path_of}
-use Rattle.bolt_tree.specs.Private.OpenBuckets.{open_path}
+use Rattle.bolt_tree.proofs.Words.{Path, cursors_of, open_path, path_of, rest_from, take-nil}
 use Rattle.bolt_tree.proofs.Climbing.{listed_in}
-use Rattle.bolt_tree.proofs.Parts.{ends_at, from_start, none_left, parts_whole}
+use Rattle.bolt_tree.proofs.Seeking.{ends_at, from_start, none_left, parts_whole}
 use Rattle.bolt_tree.proofs.open_buckets.OpenBuckets.seek.Goals as goal
 
 pub returns-in-Here-clause-left : goal.returns-in-Here-clause-left

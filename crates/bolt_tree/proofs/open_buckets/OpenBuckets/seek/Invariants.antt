@@ -1,6 +1,5 @@
-use Rattle.bolt_tree.specs.Paths.{path_of}
 use Rattle.std.proofs.Common.{◌≡◌, ◌<◌, length, take}
-use Rattle.bolt_tree.specs.Private.OpenBuckets.{IsNamed, IsInPlace, open_path}
+use Rattle.bolt_tree.proofs.Words.{IsInPlace, IsNamed, open_path, path_of}
 use Rattle.bolt_tree.proofs.open_buckets.OpenBuckets.seek.Given as goal
 
 -- the parts so far name the bucket, and unless there are none, one is left

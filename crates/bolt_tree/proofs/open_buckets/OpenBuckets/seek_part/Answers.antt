@@ -1,19 +1,9 @@
-use Rattle.std.proofs.Math.Logic.{∥∥₁_elim}
-use Rattle.std.proofs.Props.{props}
-use Rattle.bolt_tree.specs.Private.CursorViews.{fresh_view}
-use Rattle.bolt_tree.specs.Private.OpenCursors.{cursors_of}
-use Rattle.bolt_tree.specs.Paths.{path_of}
 use Rattle.std.proofs.Common.{◌∙◌, inl, inr, ◌++◌, ◌∷◌, [], refl, sym, ap}
-use Rattle.std.specs.Ordering.{is_lt}
-use Rattle.bolt_format.specs.ElementPlaces.{leaf_view}
-use Rattle.bolt_check.specs.Keys.{Key}
-use Rattle.bolt_tree.specs.Entries.{start_of}
+use Rattle.bolt_tree.proofs.Words.{Key, Path, beyond, cursors_of, fresh_view, is_lt, leaf_view, path_of, props, start_of, ∥∥₁_elim}
 use Rattle.bolt_tree.proofs.Climbing.{listed_in}
 use Rattle.bolt_tree.proofs.Coming.{beyond_there, from_none, inside_there, leads_there, placed_there, rest_there, same_there}
 use Rattle.bolt_tree.proofs.Entering.{lies_in, made, named_by, placed_in}
 use Rattle.bolt_tree.proofs.OpenSteps.{path_put}
-use Rattle.bolt_tree.specs.RestAfter.{beyond}
-use Rattle.bolt_tree.specs.Paths.{Path}
 use Rattle.bolt_tree.proofs.open_buckets.OpenBuckets.seek_part.Goals as goal
 use Rattle.bolt_tree.proofs.open_buckets.OpenBuckets.seek_part.Goals.{then-is_lt-via-then-is_lt, then-is_lt-via-else-is_lt+then-is_last}
 

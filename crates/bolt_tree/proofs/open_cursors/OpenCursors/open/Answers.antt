@@ -1,9 +1,5 @@
 use Rattle.std.proofs.Common.{◌∙◌, List, ◌++◌, Option, Some, refl, sym, ap, subst}
-use Rattle.bolt_check.specs.declared.checked_file.Checked.{Checked}
-use Rattle.bolt_tree.specs.Private.CursorViews.{AreOfFile, cursor_view, fresh_view}
-use Rattle.bolt_tree.specs.Starts.{HasStart, start_at}
-use Rattle.bolt_tree.specs.declared.cursor.Cursor.{Cursor}
-use Rattle.bolt_tree.specs.declared.position.Position.{Position}
+use Rattle.bolt_tree.proofs.Words.{AreOfFile, Checked, Cursor, HasStart, Position, cursor_view, fresh_view, start_at}
 use Rattle.bolt_tree.proofs.KeptLemmas.{first_one, innermost_file, opens_fresh, put_last, same_file, same_views, waits, waits_view}
 use Rattle.bolt_tree.proofs.open_cursors.OpenCursors.open.Goals as goal
 

@@ -1,16 +1,7 @@
 use Rattle.std.proofs.Common.{◌∙◌, ◌-◌, Some, List, [], ◌∷◌, ◌++◌, drop, length, take, sym, ap, subst, reverse}
-use Rattle.bolt_check.specs.declared.checked_file.Checked.{Checked}
-use Rattle.bolt_tree.specs.Cursors.{cursor_checked}
-use Rattle.bolt_tree.specs.Private.CursorViews.{AreOfFile, cursor_view}
-use Rattle.bolt_tree.specs.Private.Kept.{IsKept, kept_views}
-use Rattle.bolt_tree.specs.declared.position.Position.{Position}
-use Rattle.bolt_tree.proofs.KeptLemmas.{goes_on, goes_on_view, innermost_file, none_waits, others, views_left}
+use Rattle.bolt_tree.proofs.Words.{AreOfFile, Checked, IsKept, Position, cursor_checked, cursor_view, kept_views}
+use Rattle.bolt_tree.proofs.KeptLemmas.{goes_on, goes_on_view, innermost_file, others, views_left}
 use Rattle.bolt_tree.proofs.open_cursors.OpenCursors.pop.Goals as goal
-
-pub unreachable-requires : goal.unreachable-requires
-unreachable-requires c =
-    none_waits c.args.self.now.checked c.args.self.now.waiting.items c.pop.new.self.items c.in-Some.outer c.args.self.now.positions.items c.args.self.now.innermost c.args.self.now.kept
-    c.in-Some.ensures.items c.in_default-innermost.is
 
 pub resume-requires : goal.resume-requires
 resume-requires c =

@@ -1,15 +1,7 @@
 use Rattle.std.proofs.Common.{Option, subst}
-use Rattle.std.specs.Option.{option_map}
-use Rattle.bolt_format.specs.ElementPlaces.{leaf_view}
-use Rattle.bolt_format.specs.declared.element.Leaf.{Leaf}
-use Rattle.bolt_tree.specs.Places.{seek_move}
-use Rattle.bolt_tree.specs.Private.CursorViews.{Keeps, fresh_view}
-use Rattle.bolt_tree.specs.Private.OpenCursors.{cursors_of}
-use Rattle.bolt_tree.proofs.FirstMoves.{opens, some_open}
+use Rattle.bolt_tree.proofs.Words.{Keeps, Leaf, cursors_of, leaf_view, option_map, seek_move}
+use Rattle.bolt_tree.proofs.OpenSteps.{opens}
 use Rattle.bolt_tree.proofs.open_cursors.OpenCursors.seek.Goals as goal
-
-pub seek_element-found-requires : goal.seek_element-found-requires
-seek_element-found-requires c = some_open (cursors_of c.open.new.self) (cursors_of c.args.self.now) (fresh_view c.args.bucket) c.in_ok-open.ensures.cursors
 
 pub returns-clause-opens : goal.returns-clause-opens
 returns-clause-opens c = rw c.keep_if_some.ensures.found

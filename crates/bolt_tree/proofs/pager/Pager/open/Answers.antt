@@ -1,5 +1,4 @@
-use Rattle.bolt_check.proofs.CheckedLemmas.{good_on_way}
-use Rattle.bolt_tree.specs.Pagers.{pager_checked}
+use Rattle.bolt_tree.proofs.Words.{good_on_way, pager_checked}
 use Rattle.bolt_tree.proofs.pager.Pager.open.Goals as goal
 
 pub known-requires : goal.known-requires

@@ -1,14 +1,9 @@
 -- The entries ahead stay the same until one is taken, and each page that is opened is the next to the right.
 use Rattle.std.proofs.Common.{◌≡◌, ◌∙◌, ◌<◌, ◌+◌, ◌-◌, ◌*◌, ℕ, false, length, sym, ap, arith, refl}
-use Rattle.bolt_format.specs.ElementPlaces.{leaf_view}
-use Rattle.bolt_tree.specs.Private.BucketPages.{contents_in}
-use Rattle.bolt_check.specs.Counts.{counted}
-use Rattle.bolt_tree.specs.Pagers.{pager_opened}
-use Rattle.bolt_tree.specs.Private.ShownPages.{opened_content}
-use Rattle.bolt_tree.specs.Private.Trails.{ahead, frame_of, frames_of, right, trail_bucket, trail_frames}
+use Rattle.bolt_tree.proofs.Words.{ahead, contents_in, counted, frame_of, frames_of, leaf_view, opened_content, pager_opened, right, trail_bucket, trail_frames}
 use Rattle.bolt_tree.proofs.PagerLemmas.{counted_more, counted_zero}
 use Rattle.bolt_tree.proofs.StackLemmas.{popped, retaken}
-use Rattle.bolt_tree.proofs.TrailLemmas.{entered_length, exhausted, frames_pop, length-frames, popped_none, popped_stack, same_bucket, step_none, step_some}
+use Rattle.bolt_tree.proofs.TrailLemmas.{entered_length, exhausted, frames_pop, length-frames, popped_stack, same_bucket, step_none, step_some}
 use Rattle.bolt_tree.proofs.trail.Trail.advance.Goals as goal
 
 pub loop-top-init : goal.loop-top-init
@@ -80,6 +75,3 @@ loop-top-preserved c =
       less = rw b before.less;
       opened = rw b before.opened;
     }
-
-pub returns-clause-stack : goal.returns-clause-stack
-returns-clause-stack c = popped_none c.loop-top.self c.pop.new.self.items c.in_default.ensures.items c.loop-top.invariant.stack

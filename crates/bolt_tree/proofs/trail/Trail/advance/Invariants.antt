@@ -1,7 +1,5 @@
 use Rattle.std.proofs.Common.{◌≡◌, ◌≤◌, ◌-◌, ◌+◌, ◌*◌, length}
-use Rattle.bolt_check.specs.Counts.{counted}
-use Rattle.bolt_tree.specs.Pagers.{pager_opened}
-use Rattle.bolt_tree.specs.Private.Trails.{HasTrail, IsSameBucket, ahead, right}
+use Rattle.bolt_tree.proofs.Words.{HasTrail, IsSameBucket, ahead, counted, pager_opened, right}
 use Rattle.bolt_tree.proofs.trail.Trail.advance.Given as goal
 
 abbrev pub invariant-loop-top : goal.invariant-loop-top

@@ -1,6 +1,5 @@
-use Rattle.bolt_tree.specs.Private.ShownPages.{opened_content}
-use Rattle.bolt_tree.specs.Private.Trails.{trail_bucket, trail_frames}
-use Rattle.bolt_tree.proofs.RootLemmas.{root_stack}
+use Rattle.bolt_tree.proofs.Words.{opened_content, trail_bucket, trail_frames}
+use Rattle.bolt_tree.proofs.StackLemmas.{root_stack}
 use Rattle.bolt_tree.proofs.TrailLemmas.{moved_stack, same_bucket}
 use Rattle.bolt_tree.proofs.trail.Trail.begin.Goals as goal
 

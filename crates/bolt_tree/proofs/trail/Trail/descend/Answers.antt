@@ -1,20 +1,10 @@
-use Rattle.std.proofs.Common.{◌≡◌, ◌∷◌, ◌∙◌, ◌<◌, ◌≤◌, ◌+◌, ◌-◌, suc, ℕ, length, List, sym, ap, arith, refl, subst}
-use Rattle.bolt_format.specs.Shown.{shown}
-use Rattle.bolt_tree.specs.BucketViews.{BucketView}
-use Rattle.bolt_tree.specs.Private.BucketPages.{contents_in, elements_in}
-use Rattle.bolt_tree.specs.Private.Contents.{Of_branch}
-use Rattle.bolt_check.specs.Counts.{counted}
-use Rattle.bolt_tree.specs.Pagers.{pager_opened}
-use Rattle.bolt_tree.specs.Private.Seeks.{IsNearTop, IsOnWayDown, IsSought}
-use Rattle.bolt_tree.specs.Private.ShownPages.{opened_content}
-use Rattle.bolt_tree.specs.Private.Stacks.{Frame, HasStack, ahead_of}
-use Rattle.bolt_tree.specs.Private.Trails.{trail_bucket, trail_frames}
-use Rattle.bolt_tree.proofs.DescentLemmas.{begins, branch_filled, landed, moved_between, moved_way, shows_leaf}
-use Rattle.bolt_tree.proofs.NearLemmas.{stack_rises, way_begins, way_down}
+use Rattle.std.proofs.Common.{◌≡◌, ◌∷◌, ◌∙◌, ◌+◌, ◌-◌, suc, ℕ, length, List, sym, ap, arith, refl, subst}
+use Rattle.bolt_tree.proofs.Words.{BucketView, Frame, HasStack, IsNearTop, IsOnWayDown, IsSought, Of_branch, ahead_of, contents_in, counted, elements_in}
+use Rattle.bolt_tree.proofs.Words.{opened_content, pager_opened, shown, trail_bucket, trail_frames}
+use Rattle.bolt_tree.proofs.NearLemmas.{begins, branch_filled, landed, moved_between, moved_way, shows_leaf, stack_rises, way_begins, way_down}
 use Rattle.bolt_tree.proofs.PagerLemmas.{counted_more, counted_zero}
-use Rattle.bolt_tree.proofs.RootLemmas.{root_stack}
+use Rattle.bolt_tree.proofs.StackLemmas.{root_stack, branch_room}
 use Rattle.bolt_tree.proofs.SeekLemmas.{between_down}
-use Rattle.bolt_tree.proofs.StackLemmas.{branch_room, retaken, stack_short}
 use Rattle.bolt_tree.proofs.TrailLemmas.{same_bucket}
 use Rattle.bolt_tree.proofs.trail.Trail.descend.Goals as goal
 
@@ -33,30 +23,13 @@ loop-opened-init c =
 pub keys_before-found-requires : goal.keys_before-found-requires
 keys_before-found-requires c = stack_rises (trail_bucket c.loop-opened.self) (Of_branch (shown c.in-Branch.page.page).branches) 0 (trail_frames c.loop-opened.self) (rw c.in-Branch.is at c.loop-opened.invariant.stack)
 
-pub overflow_add-compared : goal.overflow_add-compared
-overflow_add-compared c =
-    let short = stack_short (trail_bucket c.loop-opened.self) (record { content = opened_content c.loop-opened.opened; taken = 0 }) (trail_frames c.loop-opened.self) c.loop-opened.invariant.stack in
-    let few = c.keys_before-found.ensures.few in
-    let before = c.loop-opened.invariant.compared in
-    let sum : c.loop-opened.compared + c.keys_before-found.result.compared ≤ 1040 = omega (arith, short, few, before) in
-    omega (arith, sum)
-
 pub go_under-opened-requires-clause-stack : goal.go_under-opened-requires-clause-stack
 go_under-opened-requires-clause-stack c = rw c.in-Branch.is at c.loop-opened.invariant.stack
 
 pub go_under-opened-requires-clause-below : goal.go_under-opened-requires-clause-below
 go_under-opened-requires-clause-below c =
     let some = branch_filled (trail_bucket c.loop-opened.self) (shown c.in-Branch.page.page).branches 0 (trail_frames c.loop-opened.self) (rw c.in-Branch.is at c.loop-opened.invariant.stack) in
-    let within = c.keys_before-found.ensures.within in
-    let nearest = c.saturating_sub.ensures in
-    omega (arith, some, within, nearest)
-
-pub loop-opened-smaller : goal.loop-opened-smaller
-loop-opened-smaller c =
-    let short = stack_short (trail_bucket c.loop-opened.self) (record { content = opened_content c.loop-opened.opened; taken = 0 }) (trail_frames c.loop-opened.self) c.loop-opened.invariant.stack in
-    let more : length (trail_frames c.go_under-opened.new.self) ≡ suc (length (trail_frames c.loop-opened.self)) = ap (λ (fs : List Frame). length fs) c.go_under-opened.ensures.frames in
-    let less : 64 - length (trail_frames c.go_under-opened.new.self) < 64 - length (trail_frames c.loop-opened.self) = omega (arith, short, more) in
-    less
+    omega (arith, some, c.keys_before-found.ensures.within, c.saturating_sub.ensures)
 
 pub loop-opened-preserved : goal.loop-opened-preserved
 loop-opened-preserved c =
@@ -76,32 +49,15 @@ loop-opened-preserved c =
     let between = between_down old key bs i n 0 e.0 below stack c.saturating_sub.ensures e.1 c.keys_before-found.ensures.place (branch_room old bs 0 below stack) inv.between in
     let on = way_down old key below bs n i 0 e.0 stack way c.keys_before-found.ensures.place c.saturating_sub.ensures e.1 in
     let more : length (trail_frames c.go_under-opened.new.self) ≡ suc (length below) = ap (λ (fs : List Frame). length fs) done.frames in
-    let few = c.keys_before-found.ensures.few in
-    let before = inv.compared in
     let sum : length below + 1 ≡ length (trail_frames c.go_under-opened.new.self) = omega (arith, more) in
     record {
       same = record { file = done.same.file ∙ inv.same.file; at = done.same.at ∙ inv.same.at };
       stack = done.stack;
       between = moved_between old now key (record { content = Of_branch bs; taken = i + 1 } ∷ below) (trail_frames c.go_under-opened.new.self) same done.frames between;
       way = moved_way old now key (record { content = Of_branch bs; taken = i + 1 } ∷ below) (trail_frames c.go_under-opened.new.self) (contents_in old e.0.child) (opened_content c.go_under-opened.result) same done.frames e.2 on;
-      compared = omega (arith, few, before, more);
+      compared = omega (arith, c.keys_before-found.ensures.few, inv.compared, more);
       opened = done.opened ∙ (ap (λ (m : ℕ). counted m 1) inv.opened ∙ (counted_more (pager_opened c.args.self.now.pager) (length below) 1 ∙ ap (counted (pager_opened c.args.self.now.pager)) sum));
     }
-
-pub keys_before-found-requires-2 : goal.keys_before-found-requires-2
-keys_before-found-requires-2 c = stack_rises (trail_bucket c.loop-opened.self) (opened_content c.loop-opened.opened) 0 (trail_frames c.loop-opened.self) c.loop-opened.invariant.stack
-
-pub push-requires : goal.push-requires
-push-requires c = retaken (trail_bucket c.loop-opened.self) (opened_content c.loop-opened.opened) 0 c.from.result (trail_frames c.loop-opened.self) c.loop-opened.invariant.stack
-    (let within = c.keys_before-found-2.ensures.within in omega (arith, within)) (omega arith)
-
-pub overflow_add-result : goal.overflow_add-result
-overflow_add-result c =
-    let short = stack_short (trail_bucket c.loop-opened.self) (record { content = opened_content c.loop-opened.opened; taken = 0 }) (trail_frames c.loop-opened.self) c.loop-opened.invariant.stack in
-    let few = c.keys_before-found-2.ensures.few in
-    let before = c.loop-opened.invariant.compared in
-    let sum : c.loop-opened.compared + c.keys_before-found-2.result.compared ≤ 1040 = omega (arith, short, few, before) in
-    omega (arith, sum)
 
 pub returns : goal.returns
 returns c =
@@ -114,8 +70,6 @@ returns c =
     let is = landed bucket key (opened_content c.loop-opened.opened) leaf.0 c.keys_before-found-2.result.before (trail_frames c.push.new.self) below leaf.1 frames inv.stack
     c.keys_before-found-2.ensures.place c.keys_before-found-2.ensures.within (omega arith) inv.between inv.way in
     let more : length (trail_frames c.push.new.self) ≡ suc (length below) = ap (λ (fs : List Frame). length fs) frames in
-    let few = c.keys_before-found-2.ensures.few in
-    let before = inv.compared in
     let less : length below ≡ length (trail_frames c.push.new.self) - 1 = omega (arith, more) in
     let same = same_bucket c.args.self.now c.loop-opened.self inv.same in
     let now = same_bucket c.loop-opened.self c.push.new.self c.push.ensures.same in
@@ -125,7 +79,7 @@ returns c =
       near = subst (λ (b : BucketView). IsNearTop b key (trail_frames c.push.new.self)) same is.near;
       sought = subst (λ (b : BucketView). IsSought (elements_in (trail_bucket c.args.self.now)) key (ahead_of (contents_in b) (trail_frames c.push.new.self))) (sym now)
           (subst (λ (b : BucketView). IsSought (elements_in b) key (ahead_of (contents_in bucket) (trail_frames c.push.new.self))) same is.sought);
-      compared = omega (arith, few, before, more);
+      compared = omega (arith, c.keys_before-found-2.ensures.few, inv.compared, more);
       opened = c.push.ensures.opened ∙ (inv.opened ∙ ap (counted (pager_opened c.args.self.now.pager)) less);
       leaf = is.leaf;
     }

@@ -1,11 +1,6 @@
 use Rattle.std.proofs.Common.{◌≡◌, ◌∷◌, ◌≤◌, ◌-◌, ◌*◌, length}
-use Rattle.bolt_tree.specs.Private.BucketPages.{contents_in}
-use Rattle.bolt_check.specs.Counts.{counted}
-use Rattle.bolt_tree.specs.Pagers.{pager_opened}
-use Rattle.bolt_tree.specs.Private.Seeks.{IsBetween, IsOnWayDown}
-use Rattle.bolt_tree.specs.Private.ShownPages.{opened_content}
-use Rattle.bolt_tree.specs.Private.Stacks.{HasStack}
-use Rattle.bolt_tree.specs.Private.Trails.{IsSameBucket, trail_bucket, trail_frames}
+use Rattle.bolt_tree.proofs.Words.{HasStack, IsBetween, IsOnWayDown, IsSameBucket, contents_in, counted, opened_content, pager_opened, trail_bucket}
+use Rattle.bolt_tree.proofs.Words.{trail_frames}
 use Rattle.bolt_tree.proofs.trail.Trail.descend.Given as goal
 
 abbrev pub invariant-loop-opened : goal.invariant-loop-opened

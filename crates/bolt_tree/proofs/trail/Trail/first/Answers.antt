@@ -1,11 +1,8 @@
 use Rattle.std.proofs.Common.{◌≡◌, [], ◌∙◌, ◌+◌, ◌-◌, suc, ℕ, length, sym, ap, arith}
-use Rattle.bolt_tree.specs.Private.BucketPages.{elements_in, pages_in}
-use Rattle.bolt_check.specs.Counts.{counted}
-use Rattle.bolt_tree.specs.Pagers.{pager_opened}
-use Rattle.bolt_tree.specs.Private.Trails.{ahead, right, trail_bucket, trail_frames}
+use Rattle.bolt_tree.proofs.Words.{ahead, counted, elements_in, pager_opened, pages_in, right, trail_bucket, trail_frames}
 use Rattle.bolt_tree.proofs.MoveLemmas.{found_over}
 use Rattle.bolt_tree.proofs.PagerLemmas.{counted_more}
-use Rattle.bolt_tree.proofs.RootLemmas.{root_ahead, root_right}
+use Rattle.bolt_tree.proofs.StackLemmas.{root_ahead, root_right}
 use Rattle.bolt_tree.proofs.trail.Trail.first.Goals as goal
 
 all_ahead : (c : goal.After-advance) → elements_in (trail_bucket c.args.self.now) ≡ ahead c.begin.new.self
@@ -19,9 +16,8 @@ returns-clause-found c = found_over c.advance.result (elements_in (trail_bucket 
 
 pub returns-clause-opened : goal.returns-clause-opened
 returns-clause-opened c =
-    let a = all_right c in
     let l = c.advance.ensures.less in
     let gone = length (right c.begin.new.self) - length (right c.advance.new.self) in
-    let more : 1 + gone ≡ length (pages_in (trail_bucket c.args.self.now)) - length (right c.advance.new.self) = omega (arith, a, l) in
+    let more : 1 + gone ≡ length (pages_in (trail_bucket c.args.self.now)) - length (right c.advance.new.self) = omega (arith, all_right c, l) in
     c.advance.ensures.opened ∙ (ap (λ (n : ℕ). counted n gone) c.begin.ensures.opened
     ∙ (counted_more (pager_opened c.args.self.now.pager) 1 gone ∙ ap (counted (pager_opened c.args.self.now.pager)) more))

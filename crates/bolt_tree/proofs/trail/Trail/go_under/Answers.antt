@@ -1,21 +1,10 @@
 use Rattle.std.proofs.Common.{◌≡◌, ◌∷◌, ◌∙◌, ◌+◌, refl, sym, arith}
-use Rattle.bolt_format.specs.ElementPlaces.{branch_view}
-use Rattle.bolt_format.specs.Shown.{shown}
-use Rattle.bolt_check.specs.CheckedFiles.{bytes_of, meta_of}
-use Rattle.bolt_tree.specs.Private.BucketPages.{contents_in}
-use Rattle.bolt_tree.specs.Private.Contents.{Of_branch}
-use Rattle.bolt_tree.specs.Pagers.{pager_checked}
-use Rattle.bolt_tree.specs.Private.ShownPages.{opened_content}
-use Rattle.bolt_tree.specs.Private.Stacks.{HasStack}
-use Rattle.bolt_tree.specs.Private.Trails.{trail_bucket, trail_frames}
+use Rattle.bolt_tree.proofs.Words.{HasStack, Of_branch, branch_view, bytes_of, contents_in, meta_of, opened_content, pager_checked, shown, trail_bucket}
+use Rattle.bolt_tree.proofs.Words.{trail_frames}
 use Rattle.bolt_tree.proofs.StackLemmas.{child_pushed, child_way, retaken}
 use Rattle.bolt_tree.proofs.TrailLemmas.{moved_stack, way_kind}
 use Rattle.bolt_tree.proofs.WayPages.{content_shown}
 use Rattle.bolt_tree.proofs.trail.Trail.go_under.Goals as goal
-
-pub push-requires : goal.push-requires
-push-requires c = retaken (trail_bucket c.args.self.now) (Of_branch (shown c.args.page.page).branches) 0 (c.from.result + 1) (trail_frames c.args.self.now) c.requires.stack
-    (let h = c.requires.below in omega arith) (omega arith)
 
 pub open-requires : goal.open-requires
 open-requires c = rw c.push.ensures.same.file (child_way (trail_bucket c.args.self.now) (shown c.args.page.page).branches 0 c.args.i (branch_view c.element.result) (trail_frames c.args.self.now) c.requires.stack c.element.ensures)

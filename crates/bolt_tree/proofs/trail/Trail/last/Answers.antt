@@ -1,6 +1,5 @@
 use Rattle.std.proofs.Common.{◌≡◌, []}
-use Rattle.bolt_tree.specs.Private.BucketPages.{elements_in}
-use Rattle.bolt_tree.specs.Private.Trails.{preceding, trail_bucket, trail_frames}
+use Rattle.bolt_tree.proofs.Words.{elements_in, preceding, trail_bucket, trail_frames}
 use Rattle.bolt_tree.proofs.BackLemmas.{root_preceding}
 use Rattle.bolt_tree.proofs.MoveLemmas.{back_over}
 use Rattle.bolt_tree.proofs.trail.Trail.last.Goals as goal

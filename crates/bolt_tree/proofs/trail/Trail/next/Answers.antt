@@ -1,8 +1,5 @@
 use Rattle.std.proofs.Common.{◌≡◌, ◌∙◌, ◌-◌, length, sym, ap, arith}
-use Rattle.bolt_check.specs.Counts.{counted}
-use Rattle.bolt_tree.specs.Pagers.{pager_opened}
-use Rattle.bolt_tree.specs.Private.BucketPages.{contents_in}
-use Rattle.bolt_tree.specs.Private.Trails.{right, trail_bucket, trail_frames}
+use Rattle.bolt_tree.proofs.Words.{contents_in, counted, pager_opened, right, trail_bucket, trail_frames}
 use Rattle.bolt_tree.proofs.MoveLemmas.{alone}
 use Rattle.bolt_tree.proofs.PagerLemmas.{counted_zero}
 use Rattle.bolt_tree.proofs.TrailLemmas.{length-frames}
@@ -11,8 +8,7 @@ use Rattle.bolt_tree.proofs.trail.Trail.next.Goals as goal
 pub returns-in-Some-clause-opened : goal.returns-in-Some-clause-opened
 returns-in-Some-clause-opened c =
     let found = rw c.in-Some.is at c.next_here.ensures.found in
-    let same = ap length found.2 in
-    let none : length (right c.args.self.now) - length (right c.next_here.new.self) ≡ 0 = omega (arith, same) in
+    let none : length (right c.args.self.now) - length (right c.next_here.new.self) ≡ 0 = omega (arith, ap length found.2) in
     c.next_here.ensures.opened ∙ (sym (counted_zero c.args.self.now.pager) ∙ ap (counted (pager_opened c.args.self.now.pager)) (sym none))
 
 pub returns-then-len-lt2-clause-opened : goal.returns-then-len-lt2-clause-opened

@@ -1,22 +1,9 @@
 -- It rests on a leaf, so what is taken is an element of that leaf.
-use Rattle.std.proofs.Common.{◌∙◌, ◌+◌, List, Some, take, refl, sym, ap, subst, arith}
-use Rattle.bolt_format.specs.ElementPlaces.{leaf_view}
-use Rattle.bolt_tree.specs.Private.BucketPages.{contents_in}
-use Rattle.bolt_tree.specs.Private.ShownPages.{opened_content}
-use Rattle.bolt_tree.specs.Private.Stacks.{Frame, HasStack, here_of}
-use Rattle.bolt_tree.specs.Private.Trails.{frame_of, frames_of, trail_bucket, trail_frames}
-use Rattle.bolt_tree.proofs.MoveLemmas.{next_in_leaf, rest_on_top}
+use Rattle.std.proofs.Common.{◌+◌, List, Some, take, refl, sym, subst, arith}
+use Rattle.bolt_tree.proofs.Words.{Frame, HasStack, contents_in, frame_of, frames_of, leaf_view, opened_content, trail_bucket, trail_frames}
+use Rattle.bolt_tree.proofs.MoveLemmas.{next_in_leaf, rest_on_top, is, taken_entry, was}
 use Rattle.bolt_tree.proofs.StackLemmas.{retaken}
-use Rattle.bolt_tree.proofs.TopLemmas.{is, taken_entry, was}
-use Rattle.bolt_tree.proofs.TrailLemmas.{nothing_here}
 use Rattle.bolt_tree.proofs.trail.Trail.next_here.Goals as goal
-
-pub returns-then-top-from-clause-found : goal.returns-then-top-from-clause-found
-returns-then-top-from-clause-found c =
-    let items = c.args.self.now.stack.items in
-    let top = c.index-deref-last.result in
-    let frames = was items c.deref.result.now items c.len.result c.in_ok-last.last top top top c.len.ensures.value c.in_ok-last.ensures.0 c.in_ok-last.ensures.1 c.index-deref-last.is c.deref.ensures.0 refl in
-    (ap here_of frames ∙ nothing_here (opened_content top.page) top.taken (omega (arith, c.if-top-from.true, c.from.ensures, c.count.ensures)), refl)
 
 pub returns-clause-stack : goal.returns-clause-stack
 returns-clause-stack c =

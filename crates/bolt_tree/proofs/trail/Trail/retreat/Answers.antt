@@ -1,12 +1,9 @@
 -- The entries preceding stay the same until one is taken.
 use Rattle.std.proofs.Common.{◌≡◌, ◌∙◌, ◌<◌, ◌+◌, ◌-◌, ◌*◌, true, length, sym, arith}
-use Rattle.bolt_format.specs.ElementPlaces.{leaf_view}
-use Rattle.bolt_tree.specs.Private.BucketPages.{contents_in}
-use Rattle.bolt_tree.specs.Private.ShownPages.{opened_content}
-use Rattle.bolt_tree.specs.Private.Trails.{before, preceding, frame_of, frames_of, trail_bucket, trail_frames}
+use Rattle.bolt_tree.proofs.Words.{before, contents_in, frame_of, frames_of, leaf_view, opened_content, preceding, trail_bucket, trail_frames}
 use Rattle.bolt_tree.proofs.BackLemmas.{left_out, step_back_none, step_back_some}
 use Rattle.bolt_tree.proofs.StackLemmas.{popped, retaken, taken_bound, taken_fits}
-use Rattle.bolt_tree.proofs.TrailLemmas.{entered_length, frames_pop, length-frames, popped_none, popped_stack, same_bucket}
+use Rattle.bolt_tree.proofs.TrailLemmas.{entered_length, frames_pop, length-frames, popped_stack, same_bucket}
 use Rattle.bolt_tree.proofs.trail.Trail.retreat.Goals as goal
 
 pub overflow_cast-top : goal.overflow_cast-top
@@ -23,14 +20,11 @@ enter-requires-clause-stack c = retaken (trail_bucket c.loop-top.self) (opened_c
 pub enter-requires-clause-below : goal.enter-requires-clause-below
 enter-requires-clause-below c =
     let stack = popped_stack c.loop-top.self c.pop.new.self.items c.in-Some.top c.in-Some.ensures.items c.loop-top.invariant.stack in
-    let bound = taken_bound (trail_bucket c.loop-top.self) (frame_of c.in-Some.top) (frames_of c.pop.new.self.items) stack in
-    let more = c.if-top-gt1.true in
-    omega (arith, bound, more)
+    omega (arith, taken_bound (trail_bucket c.loop-top.self) (frame_of c.in-Some.top) (frames_of c.pop.new.self.items) stack, c.if-top-gt1.true)
 
 pub returns-in-Some-enter-clause-found : goal.returns-in-Some-enter-clause-found
 returns-in-Some-enter-clause-found c =
-    let more = c.if-top-gt1.true in
-    let two : c.in-Some.top.taken ≡ (c.in-Some.top.taken - 2) + 2 = omega (arith, more) in
+    let two : c.in-Some.top.taken ≡ (c.in-Some.top.taken - 2) + 2 = omega (arith, c.if-top-gt1.true) in
     let r = step_back_some (trail_bucket c.loop-top.self) (trail_bucket c.enter.new.self) (trail_frames c.loop-top.self) (frames_of c.pop.new.self.items) (trail_frames c.enter.new.self) (frame_of c.in-Some.top)
     (c.in-Some.top.taken - 2) (leaf_view c.in-Some-enter.leaf) two (same_bucket _ c.enter.new.self c.enter.ensures.same)
     (frames_pop c.loop-top.self.stack.items c.pop.new.self.items c.in-Some.top c.in-Some.ensures.items) (rw c.in-Some-enter.is at c.enter.ensures.entered) in
@@ -38,8 +32,7 @@ returns-in-Some-enter-clause-found c =
 
 pub loop-top-smaller-in_default-enter : goal.loop-top-smaller-in_default-enter
 loop-top-smaller-in_default-enter c =
-    let more = c.if-top-gt1.true in
-    let two : c.in-Some.top.taken ≡ (c.in-Some.top.taken - 2) + 2 = omega (arith, more) in
+    let two : c.in-Some.top.taken ≡ (c.in-Some.top.taken - 2) + 2 = omega (arith, c.if-top-gt1.true) in
     let entered = rw c.in_default-enter.is at c.enter.ensures.entered in
     let r = step_back_none (trail_bucket c.loop-top.self) (trail_bucket c.enter.new.self) (trail_frames c.loop-top.self) (frames_of c.pop.new.self.items) (trail_frames c.enter.new.self) (frame_of c.in-Some.top)
     (c.in-Some.top.taken - 2) two (same_bucket _ c.enter.new.self c.enter.ensures.same) (frames_pop c.loop-top.self.stack.items c.pop.new.self.items c.in-Some.top c.in-Some.ensures.items) entered c.enter.ensures.stack in
@@ -53,8 +46,7 @@ loop-top-smaller-in_default-enter c =
 
 pub loop-top-preserved-in_default-enter : goal.loop-top-preserved-in_default-enter
 loop-top-preserved-in_default-enter c =
-    let more = c.if-top-gt1.true in
-    let two : c.in-Some.top.taken ≡ (c.in-Some.top.taken - 2) + 2 = omega (arith, more) in
+    let two : c.in-Some.top.taken ≡ (c.in-Some.top.taken - 2) + 2 = omega (arith, c.if-top-gt1.true) in
     let r = step_back_none (trail_bucket c.loop-top.self) (trail_bucket c.enter.new.self) (trail_frames c.loop-top.self) (frames_of c.pop.new.self.items) (trail_frames c.enter.new.self) (frame_of c.in-Some.top)
     (c.in-Some.top.taken - 2) two (same_bucket _ c.enter.new.self c.enter.ensures.same) (frames_pop c.loop-top.self.stack.items c.pop.new.self.items c.in-Some.top c.in-Some.ensures.items)
     (rw c.in_default-enter.is at c.enter.ensures.entered) c.enter.ensures.stack in
@@ -79,6 +71,3 @@ loop-top-preserved c =
       stack = popped (trail_bucket c.loop-top.self) f below stack;
       preceding = a ∙ inv.preceding;
     }
-
-pub returns-clause-stack : goal.returns-clause-stack
-returns-clause-stack c = popped_none c.loop-top.self c.pop.new.self.items c.in_default.ensures.items c.loop-top.invariant.stack

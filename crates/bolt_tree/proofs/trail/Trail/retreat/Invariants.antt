@@ -1,5 +1,5 @@
 use Rattle.std.proofs.Common.{◌≡◌, ◌+◌, ◌*◌, length}
-use Rattle.bolt_tree.specs.Private.Trails.{HasTrail, IsSameBucket, before, preceding}
+use Rattle.bolt_tree.proofs.Words.{HasTrail, IsSameBucket, before, preceding}
 use Rattle.bolt_tree.proofs.trail.Trail.retreat.Given as goal
 
 abbrev pub invariant-loop-top : goal.invariant-loop-top

@@ -1,4 +1,4 @@
-use Rattle.std.proofs.Math.Logic.{∥∥₁_elim, ∥∥₁_prop}
+use Rattle.bolt_tree.proofs.Words.{∥∥₁_elim, ∥∥₁_prop}
 use Rattle.bolt_tree.specs.Walks.{left_of}
 use Rattle.bolt_tree.proofs.Climbing.{listed_in}
 use Rattle.bolt_tree.proofs.Walking.{begins}

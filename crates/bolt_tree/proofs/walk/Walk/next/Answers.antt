@@ -1,12 +1,6 @@
 use Rattle.std.proofs.Common.{◌∙◌, List, ◌∷◌, sym, ap}
-use Rattle.std.proofs.Math.Logic.{∥∥₁_elim, ∥∥₁_prop, ∥∥₁_map}
-use Rattle.bolt_tree.specs.Entries.{Item}
-use Rattle.bolt_tree.specs.ShownEntries.{item_view}
-use Rattle.bolt_tree.specs.Listing.{Member}
-use Rattle.bolt_tree.specs.Paths.{Path}
-use Rattle.bolt_tree.specs.Private.OpenBuckets.{reported_path, open_path}
-use Rattle.bolt_tree.specs.RestAfter.{rest_after}
-use Rattle.bolt_tree.specs.Walks.{left_of, walk_checked, walk_path}
+use Rattle.bolt_tree.proofs.Words.{Item, Member, Path, item_view, open_path, reported_path, rest_after, walk_checked, walk_path, ∥∥₁_elim, ∥∥₁_map, ∥∥₁_prop}
+use Rattle.bolt_tree.specs.Walks.{left_of}
 use Rattle.bolt_tree.proofs.Climbing.{listed_in, none_beyond}
 use Rattle.bolt_tree.proofs.Walking.{ahead_in, ahead_prop}
 use Rattle.bolt_tree.proofs.walk.Walk.next.Goals as goal
