@@ -26,6 +26,7 @@ pub mod SettledLemmas
 pub mod Shaping
 pub mod Single
 pub mod SoundLemmas
+pub mod Spans
 mod TableEnds
 pub mod TableLemmas
 pub mod TourExists

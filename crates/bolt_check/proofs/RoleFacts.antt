@@ -74,7 +74,7 @@ module _ (file : List ℕ) (meta : Meta) where
   past_is_free sound n r is past = past_role n r (page_positive file meta sound) sound.trees is past
 
   pub one_role : IsSound file meta true → (n : ℕ) (a b : Role) → HasRole file meta n a → HasRole file meta n b → a ≡ b
-  one_role sound n a b h k = role_once file meta sound.trees (sound.right refl) n a b h k
+  one_role sound n a b h k = role_once file meta n sound.trees (sound.right refl) a b h k
 
   pub size_positive : IsSound file meta true → 0 < meta.page_size
   size_positive sound = page_positive file meta sound

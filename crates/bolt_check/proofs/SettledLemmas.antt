@@ -67,5 +67,5 @@ module _ (old : List PageUse) (ids past items : List ℕ) (listing : Listing) (l
       → IfOk r (λ reported. AreAllFindings listing.mark (IsClaimed old) (times_in ids) reported.items)
   listing_reported ok times r reported =
       IfOk-weaker r (λ reported. AreAllFindings listing.mark (is_in_use listing) (listed_times listing) reported.items) (λ reported. AreAllFindings listing.mark (IsClaimed old) (times_in ids) reported.items)
-      (λ v. reported_along listing.mark (is_in_use listing) (IsClaimed old) (listed_times listing) (times_in ids) (λ n claimed. sym (used n) ∙ claimed) (λ n claimed. used n ∙ claimed)
-      (same_times ok times) v.items) reported
+      (λ v. reported_along listing.mark (is_in_use listing) (IsClaimed old) (listed_times listing) (times_in ids)
+      (record { there = λ n claimed. sym (used n) ∙ claimed; back = λ n claimed. used n ∙ claimed; counted = same_times ok times }) v.items) reported

@@ -17,15 +17,15 @@ use Rattle.bolt_check.proofs.Shaping.{shape_of}
 
 pub right_of : (file : List ℕ) (meta : Meta) (table : List PageUse) → ((n : ℕ) → IsClaimed table n ↔ IsUsed file meta n)
     → HasAccounts file meta (IsClaimed table) → HasRightAccounts file meta
-right_of file meta table same = has_accounts_along file meta (IsClaimed table) (IsUsed file meta) (λ n. (same n).0) (λ n. (same n).1)
+right_of file meta table same = has_accounts_along file meta (IsClaimed table) (IsUsed file meta) same
 
 pub wrong_of : (file : List ℕ) (meta : Meta) (table : List PageUse) → ((n : ℕ) → IsClaimed table n ↔ IsUsed file meta n)
     → (HasAccounts file meta (IsClaimed table) → ⊥) → HasRightAccounts file meta → ⊥
-wrong_of file meta table same wrong right = wrong (has_accounts_along file meta (IsUsed file meta) (IsClaimed table) (λ n. (same n).1) (λ n. (same n).0) right)
+wrong_of file meta table same wrong right = wrong (has_accounts_along file meta (IsUsed file meta) (IsClaimed table) (λ n. ((same n).1, (same n).0)) right)
 
 pub findings_of_file : (file : List ℕ) (meta : Meta) (table : List PageUse) (reported : List Finding) → ((n : ℕ) → IsClaimed table n ↔ IsUsed file meta n)
     → AreAccountFindings file meta (IsClaimed table) reported → AreAccountFindings file meta (IsUsed file meta) reported
-findings_of_file file meta table reported same = account_findings_along file meta (IsClaimed table) (IsUsed file meta) (λ n. (same n).0) (λ n. (same n).1) reported
+findings_of_file file meta table reported same = account_findings_along file meta (IsClaimed table) (IsUsed file meta) same reported
 
 pub sound_of : (file : List ℕ) (slot : Slot) (meta : Meta) (table : List PageUse) → IsChosen file slot meta
     → IsClean (node_at file meta) (reached (node_at file meta) meta.root) IsMetaPage → ((n : ℕ) → IsClaimed table n ↔ IsUsed file meta n)

@@ -1,5 +1,5 @@
 -- A sum over the tour of a bucket, page by page: a page's own, and those of the pages that it leads to.
-use Rattle.std.proofs.Common.{◌≡◌, ◌∙◌, ◌==◌, ℕ, zero, suc, ◌+◌, ◌≤◌, inl, inr, Bool, true, false, List, [], ◌∷◌, ◌++◌, Option, Some, None, Result, Ok, cond, length, map, sum_by, slice_get, refl, sym, ap, subst, arith}
+use Rattle.std.proofs.Common.{◌≡◌, ◌∙◌, ◌==◌, ℕ, zero, suc, ◌+◌, ◌<◌, ◌≤◌, inl, inr, Bool, true, false, List, [], ◌∷◌, ◌++◌, Option, Some, None, Result, Ok, cond, length, map, sum_by, slice_get, refl, sym, ap, subst, arith}
 use Rattle.std.proofs.lemmas.List.Sums.{sum_by-cons}
 use Rattle.std.specs.Prelude.{IsSome}
 use Rattle.bolt_format.specs.Pages.{page_at}
@@ -12,12 +12,11 @@ use Rattle.bolt_check.specs.Sound.{HasSoundTrees}
 use Rattle.bolt_check.specs.Subtrees.{Enough, Has, kid_pages, kids_at, root_page, weight}
 use Rattle.bolt_check.specs.Tours.{IsTour}
 use Rattle.bolt_check.specs.Ways.{At_inline, At_page, PageSpot, Reach, Spot, follow, reached, root_spot, step}
-use Rattle.bolt_check.proofs.Forest.{flat, inline_visits, kids_step, visits}
+use Rattle.bolt_check.proofs.Forest.{flat, forest_empty, inline_visits, kids_step, nothing_is, page_visits, root_visits, tail}
 use Rattle.bolt_check.proofs.MarkLemmas.{node_page}
-use Rattle.bolt_check.proofs.TourExists.{Anything, Fits, Holds, cancel, fits_root, found, no_tour, numbers, root_tour, shorter, sound_fits, still, tail, tail_leads, without}
-use Rattle.bolt_check.proofs.TourLemmas.{Ways, tour_step}
+use Rattle.bolt_check.proofs.TourExists.{Fits, bucket_fits, fits_down, fits_page, fits_visited, numbers, shorter, without}
+use Rattle.bolt_check.proofs.TourLemmas.{Ways, tour_map, tour_step}
 use Rattle.bolt_check.proofs.Visiting.{Visits}
-use Rattle.bolt_check.proofs.WayFacts.{follow_append}
 
 -- the pages among spots
 abbrev pub pages_of : List Spot → List ℕ
@@ -111,19 +110,6 @@ module _ (nodes : Nodes) where
       let (j, t, at, same) = kid_place m (places node.is_leaf s node.entries) (subst (λ (l : List ℕ). Has m l) (sym (pages_of_kids node.is_leaf s node.entries)) h) in
       (j, t, sym (kids_step nodes s node page j) ∙ at, same)
 
-  no_cons : (i : ℕ) (v : List ℕ) → [] ≡ i ∷ v → ⊥
-  no_cons i v e = cc
-
-  fits_down : (left : List ℕ) (s t : PageSpot) (i : ℕ) → (fits : Fits nodes left (follow nodes (Some (At_page s)))) (has : Has s.number left)
-      → step nodes (Some (At_page s)) i ≡ Some (At_page t) → Fits nodes (without s.number left has) (follow nodes (Some (At_page t)))
-  fits_down left s t i fits has leads =
-      let join : (v : List ℕ) → follow nodes (Some (At_page s)) (i ∷ v) ≡ follow nodes (Some (At_page t)) v = λ v. ap (λ (o : Option Spot). follow nodes o v) leads in
-      record {
-        good = λ v u e. fits.good (i ∷ v) u (join v ∙ e);
-        within = λ v u e. still s.number u.number left has (λ same. no_cons i v (fits.apart [] (i ∷ v) s u refl (join v ∙ e) (sym same))) (fits.within (i ∷ v) u (join v ∙ e));
-        apart = λ v w a b e h same. cancel (i ∷ []) v w (fits.apart (i ∷ v) (i ∷ w) a b (join v ∙ e) (join w ∙ h) same);
-      }
-
   pub enough : (k : ℕ) (left : List ℕ) (s : PageSpot) → length left ≤ k → Fits nodes left (follow nodes (Some (At_page s))) → Enough nodes k s.number
   enough zero left s le fits = let has = fits.within [] s refl in let less = shorter s.number left has in absurd (let h : ⊥ = omega (arith, le, less) in h)
   enough (suc k) left s le fits =
@@ -134,7 +120,7 @@ module _ (nodes : Nodes) where
         good.1,
         λ m h.
             let (j, t, leads, same) = kid_step s good.0 good.1 m h in
-            subst (Enough nodes k) same (enough k (without s.number left has) t (omega (arith, le, less)) (fits_down left s t j fits has leads)),
+            subst (Enough nodes k) same (enough k (without s.number left has) t (omega (arith, le, less)) (fits_down nodes left s t j fits has leads)),
       )
 
   -- what a spot adds: a page its own, an inline bucket nothing
@@ -156,15 +142,16 @@ module _ (nodes : Nodes) where
     abbrev HasSum : List Spot → Type 0
     HasSum spots = AllEnough spots → (tour : Ways) × IsTour (forest nodes spots) tour × (sum_by (λ way. spot_weight own (forest nodes spots way)) tour ≡ sum_by (weight nodes own k) (pages_of spots))
 
-    -- a visit's way and then the others have its own sum and theirs
-    visit_sum : (old new : Reach) (s : Spot) (f : List ℕ → List ℕ) → Visits nodes old new Anything Anything (0 ∷ []) s f → (tour : Ways) → IsTour new tour
-        → sum_by (λ way. spot_weight own (old way)) ((0 ∷ []) ∷ map f tour) ≡ spot_weight own (Some s) + sum_by (λ way. spot_weight own (new way)) tour
-    visit_sum old new s f v tour is =
-        let rest = sum_map f (λ way. spot_weight own (old way)) (λ way. spot_weight own (new way)) tour (λ way i.
-        let (t, e) = is.only way i in ap (spot_weight own) (v.same way t e ∙ sym e)) in
-        let here = ap (spot_weight own) v.leads in
-        let p = sum_by-cons (λ way. spot_weight own (old way)) (0 ∷ []) (map f tour) in
-        omega (arith, rest, here, p)
+    -- the sum over the ways to what is left is the same in the whole
+    map_sum : {old new : Reach} {o : Option Spot} {first : List ℕ} {f : List ℕ → List ℕ} → Visits old new o first f → (tour : Ways) → IsTour new tour
+        → sum_by (λ way. spot_weight own (old way)) (map f tour) ≡ sum_by (λ way. spot_weight own (new way)) tour
+    map_sum {old = old} {new = new} {f = f} v tour is = sum_map f (λ way. spot_weight own (old way)) (λ way. spot_weight own (new way)) tour (λ way i.
+        let (t, e) = is.only way i in ap (spot_weight own) (v.same way t e ∙ sym e))
+
+    step_sum : {old new : Reach} {first : List ℕ} {f : List ℕ → List ℕ} (s : Spot) → Visits old new (Some s) first f → (tour : Ways) → IsTour new tour
+        → sum_by (λ way. spot_weight own (old way)) (first ∷ map f tour) ≡ spot_weight own (Some s) + sum_by (λ way. spot_weight own (new way)) tour
+    step_sum {old = old} {first = first} {f = f} s v tour is =
+        let here = ap (spot_weight own) (v.leads s refl) in omega (arith, here, map_sum v tour is, sum_by-cons (λ way. spot_weight own (old way)) first (map f tour))
 
     page_sum : (s : PageSpot) (node : Node) (rest : List Spot) → nodes s.number ≡ Ok node → HasSum (somes (places node.is_leaf s node.entries) ++ rest) → HasSum (At_page s ∷ rest)
     page_sum s node rest page below all =
@@ -174,34 +161,47 @@ module _ (nodes : Nodes) where
         = pages_append kid_spots rest ∙ ap (λ (l : List ℕ). l ++ pages_of rest) (pages_of_kids node.is_leaf s node.entries) in
         let (tour, is, sum) = below (λ m h. has_either m (kid_pages node.is_leaf node.entries) (pages_of rest) (Enough nodes k) (enough_kids k s.number node page here) (λ x i. all x (inr i))
         (subst (λ (l : List ℕ). Has m l) pages h)) in
-        let v = visits nodes Anything Anything (At_page s) rest (places node.is_leaf s node.entries) (kids_step nodes s node page) (λ n h. inl tt) (λ n h. tt) (λ n h. tt) in
-        let first = visit_sum _ _ (At_page s) _ v tour is in
+        let v = page_visits nodes s node rest page in
+        let first = step_sum (At_page s) v tour is in
         let both = ap (sum_by (weight nodes own k)) pages ∙ sum_append (weight nodes own k) (kid_pages node.is_leaf node.entries) (pages_of rest) in
         let own_kids = weight_kids own k s.number node page here in
         let whole = sum_by-cons (weight nodes own k) s.number (pages_of rest) in
-        (_, tour_step nodes _ _ Anything Anything _ _ _ v tour is, omega (arith, first, sum, both, own_kids, whole))
+        (_, tour_step v tour is (At_page s) refl, omega (arith, first, sum, both, own_kids, whole))
 
     inline_sum : (host : ℕ) (keys : List Key) (rest : List Spot) → HasSum rest → HasSum (At_inline host keys ∷ rest)
     inline_sum host keys rest below all =
         let (tour, is, sum) = below all in
-        let v = inline_visits nodes Anything host keys rest in
-        let first = visit_sum _ _ (At_inline host keys) _ v tour is in
-        (_, tour_step nodes _ _ Anything Anything _ _ _ v tour is, omega (arith, first, sum))
+        let v = inline_visits nodes host keys rest in
+        let first = step_sum (At_inline host keys) v tour is in
+        (_, tour_step v tour is (At_inline host keys) refl, omega (arith, first, sum))
 
-    sums : Holds nodes HasSum
-    sums = record { none = λ all. ([], no_tour nodes, refl); inline = inline_sum; page = page_sum }
+    -- spots that fit, by the pages that are left
+    along : (n : ℕ) → ((left : List ℕ) (spots : List Spot) → length left < n → Fits nodes left (forest nodes spots) → HasSum spots)
+        → (left : List ℕ) (spots : List Spot) → length left ≤ n → Fits nodes left (forest nodes spots) → HasSum spots
+    along n below left [] le fits =
+        λ all. ([], record { rises = tt; all = λ way s e. nothing_is s (sym (forest_empty nodes way) ∙ e); only = λ way i. absurd i }, refl)
+    along n below left (At_inline host keys ∷ rest) le fits =
+        inline_sum host keys rest (along n below left rest le (fits_visited nodes fits (inline_visits nodes host keys rest)))
+    along n below left (At_page s ∷ rest) le fits =
+        let good = fits.good (0 ∷ []) s refl in
+        let has = fits.within (0 ∷ []) s refl in
+        let less = shorter s.number left has in
+        page_sum s good.0 rest good.1 (below (without s.number left has) _ (omega (arith, less, le)) (fits_page nodes fits s (page_visits nodes s good.0 rest good.1) has))
+
+    found : (n : ℕ) (left : List ℕ) (spots : List Spot) → length left < n → Fits nodes left (forest nodes spots) → HasSum spots
+    found zero left spots lt fits = absurd (omega arith)
+    found (suc n) left spots lt fits = along n (found n) left spots (omega arith) fits
 
     -- from a page alone
-    pub sum_from : (left : List ℕ) (root : ℕ) → length left ≤ k → Fits nodes left (reached nodes root)
+    sum_from : (left : List ℕ) (root : ℕ) → length left ≤ k → Fits nodes left (reached nodes root)
         → Enough nodes k root × ((tour : Ways) × IsTour (reached nodes root) tour × (sum_by (λ way. spot_weight own (reached nodes root way)) tour ≡ weight nodes own k root))
     sum_from left root le fits =
-        let s = At_page (root_spot root) in
+        let v = root_visits nodes (At_page (root_spot root)) in
         let good : Enough nodes k root = enough k left (root_spot root) le fits in
-        let (tour, is, sum) = found nodes HasSum sums (suc (length left)) left (s ∷ []) (omega arith) (fits_root nodes left s fits) (λ m h. elim h [ inl e ↦ subst (Enough nodes k) (sym e) good | inr i ↦ absurd i ]) in
-        let moved = sum_map (tail nodes) (λ way. spot_weight own (reached nodes root way)) (λ way. spot_weight own (forest nodes (s ∷ []) way)) tour (λ way i.
-        let (t, e) = is.only way i in ap (spot_weight own) (tail_leads nodes s way t e ∙ sym e)) in
+        let (tour, is, sum) = found (suc (length left)) left (At_page (root_spot root) ∷ []) (omega arith) (fits_visited nodes fits v) (λ m h. elim h [ inl e ↦ subst (Enough nodes k) (sym e) good | inr i ↦ absurd i ]) in
+        let moved = map_sum v tour is in
         let one = sum_by-cons (weight nodes own k) root [] in
-        (good, (map (tail nodes) tour, root_tour nodes s tour is, omega (arith, moved, sum, one)))
+        (good, (map tail tour, tour_map v tour is refl, omega (arith, moved, sum, one)))
 
 length-numbers : (k : ℕ) → length (numbers k) ≡ k
 length-numbers zero = refl
@@ -212,15 +212,12 @@ pub bucket_sum : (file : List ℕ) (meta : Meta) → HasSoundTrees file meta →
     → Enough (node_at file meta) meta.high_water root × ((tour : Ways) × IsTour (reached (node_at file meta) root) tour
     × (sum_by (λ way. spot_weight (node_at file meta) own (reached (node_at file meta) root way)) tour ≡ weight (node_at file meta) own meta.high_water root))
 bucket_sum file meta trees way root leads own =
-    let nodes = node_at file meta in
-    let fits = sound_fits file meta trees in
-    let join : (v : List ℕ) → reached nodes meta.root (way ++ v) ≡ reached nodes root v
-    = λ v. follow_append nodes (Some (At_page (root_spot meta.root))) way v ∙ ap (λ (o : Option Spot). follow nodes o v) leads in
-    sum_from nodes own meta.high_water (numbers meta.high_water) root (let h = length-numbers meta.high_water in omega (arith, h)) (record {
-      good = λ v s e. fits.good (way ++ v) s (join v ∙ e);
-      within = λ v s e. fits.within (way ++ v) s (join v ∙ e);
-      apart = λ v w s t e h same. cancel way v w (fits.apart (way ++ v) (way ++ w) s t (join v ∙ e) (join w ∙ h) same);
-    })
+    sum_from (node_at file meta) own meta.high_water (numbers meta.high_water) root (let h = length-numbers meta.high_water in omega (arith, h)) (bucket_fits file meta trees way root leads)
+
+-- so it has a tour
+pub bucket_tour : (file : List ℕ) (meta : Meta) → HasSoundTrees file meta → (way : List ℕ) (root : ℕ) → reached (node_at file meta) meta.root way ≡ Some (At_page (root_spot root))
+    → (tour : Ways) × IsTour (reached (node_at file meta) root) tour
+bucket_tour file meta trees way root leads = let (_, (tour, is, _)) = bucket_sum file meta trees way root leads (λ n. 0) in (tour, is)
 
 -- a page below which there are enough steps is a good branch or leaf
 pub enough_node : (nodes : Nodes) (k n : ℕ) → Enough nodes k n → (node : Node) × (nodes n ≡ Ok node)

@@ -1,7 +1,8 @@
 //! The search of all ways, in order, for the first finding.
 ghost use Rattle.std.specs.Prelude.{◌≡◌, ℕ, ◌<◌, ◌≤◌, ◌+◌, ◌*◌, ◌++◌, ◌∷◌, ◌↔◌, [], IfErr, IfOk, OnOk, Ok, length, vec_len};
-ghost use Rattle.bolt_check.specs.Findings.{IsClean, IsCovered, IsFirst, IsMetaPage};
+ghost use Rattle.bolt_check.specs.Findings.{IsClean, IsCovered, IsMetaPage};
 ghost use Rattle.bolt_check.specs.Nodes.{node_at};
+ghost use Rattle.bolt_check.specs.Private.Carries.{Carries};
 ghost use Rattle.bolt_check.specs.Private.Listings.{IsUnlisted};
 ghost use Rattle.bolt_check.specs.Private.Pending.{forest, kids, spots_of};
 ghost use Rattle.bolt_check.specs.ShownSpots.{page_spot, spot_at};
@@ -12,7 +13,6 @@ ghost use Rattle.bolt_check.specs.TableLengths.{table_length};
 ghost use Rattle.bolt_check.specs.Private.Uses.{HasUse, IsMetaUse, IsNoted};
 ghost use Rattle.bolt_check.specs.Ways.{At_page, reached, root_spot};
 ghost use Rattle.bolt_check.specs.declared.table.PageUse.{PageUse};
-ghost use Rattle.bolt_check.specs.declared.finding.Finding.{Finding};
 
 use crate::fault::CheckFault;
 use crate::spot::{PageSpot, Spot};
@@ -70,14 +70,9 @@ fn step<'a>(
     ensures unlisted { OnOk result (IsUnlisted table.old → IsUnlisted table.new) }
     ensures length { OnOk result (length table.new ≡ length table.old) }
     ensures less { OnOk result (unclaimed table.new * 65536 + vec_len pending.new ≤ unclaimed table.old * 65536 + vec_len pending.old) }
-    ensures clean { OnOk result (IsClean (node_at file.now meta.now) (forest (node_at file.now meta.now) (spots_of pending.new.items)) (IsClaimed table.new)
-        → IsClean (node_at file.now meta.now) (forest (node_at file.now meta.now) (spot_at spot.entry ∷ spots_of pending.old.items)) (IsClaimed table.old)) }
-    ensures first { OnOk result ((x : Finding) → IsFirst (node_at file.now meta.now) (forest (node_at file.now meta.now) (spots_of pending.new.items)) (IsClaimed table.new) x
-        → IsFirst (node_at file.now meta.now) (forest (node_at file.now meta.now) (spot_at spot.entry ∷ spots_of pending.old.items)) (IsClaimed table.old) x) }
-    ensures covered { OnOk result ((n : ℕ) → IsCovered (node_at file.now meta.now) (forest (node_at file.now meta.now) (spots_of pending.new.items)) (IsClaimed table.new) n
-        ↔ IsCovered (node_at file.now meta.now) (forest (node_at file.now meta.now) (spot_at spot.entry ∷ spots_of pending.old.items)) (IsClaimed table.old) n) }
-    ensures uses { OnOk result ((n : ℕ) (u : PageUse) → HasUse (node_at file.now meta.now) (forest (node_at file.now meta.now) (spots_of pending.new.items)) (IsNoted table.new) n u
-        → HasUse (node_at file.now meta.now) (forest (node_at file.now meta.now) (spot_at spot.entry ∷ spots_of pending.old.items)) (IsNoted table.old) n u) }
+    ensures carried { OnOk result (Carries (node_at file.now meta.now)
+        (forest (node_at file.now meta.now) (spot_at spot.entry ∷ spots_of pending.old.items)) (IsClaimed table.old) (IsNoted table.old)
+        (forest (node_at file.now meta.now) (spots_of pending.new.items)) (IsClaimed table.new) (IsNoted table.new)) }
     ensures reported { IfErr result (IsSearchFault (node_at file.now meta.now) (forest (node_at file.now meta.now) (spot_at spot.entry ∷ spots_of pending.old.items)) (IsClaimed table.old)) }
 {
     match spot {

@@ -1,4 +1,4 @@
-use Rattle.bolt_check.proofs.TourExists.{bucket_tour}
+use Rattle.bolt_check.proofs.TourSums.{bucket_tour}
 use Rattle.bolt_check.proofs.laws.tour_exists.Goals as goal
 
 pub returns : goal.returns
