@@ -1,19 +1,11 @@
 -- There is one list of findings of the accounts.
 use Rattle.std.proofs.Common.{◌≡◌, ◌≢◌, ◌⊎◌, ◌∙◌, ℕ, zero, suc, List, [], ◌∷◌, AllPairs, Contains, Option, Some, None, ap, ap₂, sym, refl, subst, inl, inr, arith}
-use Rattle.std.proofs.lemmas.Bool.{cases_order}
+use Rattle.std.proofs.lemmas.Bool.{cases_eq}
 use Rattle.bolt_format.specs.Freelists.{free_ids_of}
 use Rattle.bolt_format.specs.declared.meta.Meta.{Meta}
 use Rattle.bolt_check.specs.AccountFindings.{AreAccountFindings, IsBefore, IsFreelistFinding}
 use Rattle.bolt_check.specs.declared.finding.Finding.{Finding}
 use Rattle.bolt_check.proofs.AccountLemmas.{unwritten}
-
--- ---- findings and their lists can be reported apart
-
-differs : (n m : ℕ) → (n ≡ m) ⊎ (n ≢ m)
-differs n m = elim (cases_order n m) [
-  | inl e ↦ inl e
-  | inr d ↦ inr (λ e. elim d [ inl lt ↦ omega (arith, lt, e) | inr gt ↦ omega (arith, gt, e) ])
-]
 
 same_finding : (x y : Finding) → x.number ≡ y.number → x.page ≡ y.page → x.last ≡ y.last → x ≡ y
 same_finding x y number page last =
@@ -21,38 +13,13 @@ same_finding x y number page last =
     ∙ ap₂ (λ (p l : ℕ). record { number = y.number; page = p; last = l }) page last
 
 finding_differs : (x y : Finding) → (x ≡ y) ⊎ (x ≢ y)
-finding_differs x y = elim (differs x.number y.number) [
+finding_differs x y = elim (cases_eq x.number y.number) [
   | inr other ↦ inr (λ e. other (ap (λ (z : Finding). z.number) e))
-  | inl number ↦ elim (differs x.page y.page) [
+  | inl number ↦ elim (cases_eq x.page y.page) [
     | inr other ↦ inr (λ e. other (ap (λ (z : Finding). z.page) e))
-    | inl page ↦ elim (differs x.last y.last) [
-      | inr other ↦ inr (λ e. other (ap (λ (z : Finding). z.last) e))
-      | inl last ↦ inl (same_finding x y number page last)
-    ]
+    | inl page ↦ elim (cases_eq x.last y.last) [ inr other ↦ inr (λ e. other (ap (λ (z : Finding). z.last) e)) | inl last ↦ inl (same_finding x y number page last) ]
   ]
 ]
-
-abbrev first_of : Finding → List Finding → Finding
-first_of other [] = other
-first_of other (x ∷ xs) = x
-
-abbrev rest_of : List Finding → List Finding
-rest_of [] = []
-rest_of (x ∷ xs) = xs
-
-list_differs : (xs ys : List Finding) → (xs ≡ ys) ⊎ (xs ≢ ys)
-list_differs [] [] = inl refl
-list_differs [] (y ∷ ys) = inr (λ e. cc)
-list_differs (x ∷ xs) [] = inr (λ e. cc)
-list_differs (x ∷ xs) (y ∷ ys) = elim (finding_differs x y) [
-  | inr other ↦ inr (λ e. other (ap (first_of x) e))
-  | inl same ↦ elim (list_differs xs ys) [
-    | inr other ↦ inr (λ e. other (ap rest_of e))
-    | inl rest ↦ inl (ap₂ (λ (z : Finding) (zs : List Finding). z ∷ zs) same rest)
-  ]
-]
-
--- ---- two lists in order with the same findings
 
 before_not_back : (x y : Finding) → IsBefore x y → IsBefore y x → ⊥
 before_not_back x y (inl a) (inl b) = omega (arith, a, b)
@@ -106,8 +73,6 @@ same_lists (x ∷ xs) (y ∷ ys) a b there back =
     ap₂ (λ (z : Finding) (zs : List Finding). z ∷ zs) same
     (same_lists xs ys (rest_rises x xs a) (rest_rises y ys b) (rest_in x y xs ys same a there) (rest_in y x ys xs (sym same) b back))
 
--- ---- what is reported
-
 by_ids : (file : List ℕ) (meta : Meta) (used : ℕ → Type 0) (xs ys : List Finding) (ids : Option (List ℕ)) → free_ids_of file meta ≡ ids
     → AreAccountFindings file meta used xs → AreAccountFindings file meta used ys → ((x : Finding) → IsFreelistFinding file meta used x → ⊥) → xs ≡ ys
 by_ids file meta used xs ys None are a b none = absurd (unwritten file meta are a.written)
@@ -115,8 +80,13 @@ by_ids file meta used xs ys (Some ids) are a b none =
     same_lists xs ys (a.rises none) (b.rises none)
     (λ z has. (b.exact none ids are z).1 ((a.exact none ids are z).0 has)) (λ z has. (a.exact none ids are z).1 ((b.exact none ids are z).0 has))
 
+-- a list of more or less than one finding has none on the freelist's page, and two lists of one finding on it are the same
 pub account_findings_once : (file : List ℕ) (meta : Meta) (used : ℕ → Type 0) (xs ys : List Finding) → AreAccountFindings file meta used xs → AreAccountFindings file meta used ys → xs ≡ ys
-account_findings_once file meta used xs ys a b = elim (list_differs xs ys) [
-  | inl same ↦ same
-  | inr other ↦ by_ids file meta used xs ys (free_ids_of file meta) refl a b (λ x bad. other (a.of_page x bad ∙ sym (b.of_page x bad)))
+account_findings_once file meta used [] ys a b = by_ids file meta used [] ys (free_ids_of file meta) refl a b (λ z bad. let e = a.of_page z bad in cc)
+account_findings_once file meta used (x ∷ w ∷ xs) ys a b = by_ids file meta used (x ∷ w ∷ xs) ys (free_ids_of file meta) refl a b (λ z bad. let e = a.of_page z bad in cc)
+account_findings_once file meta used (x ∷ []) [] a b = by_ids file meta used (x ∷ []) [] (free_ids_of file meta) refl a b (λ z bad. let e = b.of_page z bad in cc)
+account_findings_once file meta used (x ∷ []) (y ∷ w ∷ ys) a b = by_ids file meta used (x ∷ []) (y ∷ w ∷ ys) (free_ids_of file meta) refl a b (λ z bad. let e = b.of_page z bad in cc)
+account_findings_once file meta used (x ∷ []) (y ∷ []) a b = elim (finding_differs x y) [
+  | inl same ↦ ap (λ (z : Finding). z ∷ []) same
+  | inr other ↦ by_ids file meta used (x ∷ []) (y ∷ []) (free_ids_of file meta) refl a b (λ z bad. other (let e = a.of_page z bad in let f = b.of_page z bad in cc))
 ]

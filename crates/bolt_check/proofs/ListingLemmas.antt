@@ -47,13 +47,9 @@ module _ (listing : Listing) (settled : IsSettled listing) where
   kept_here : (n : ℕ) (page_use : PageUse) → n < length listing.table.now → use_at listing.table.now n ≡ page_use → (page_use ≡ Unused → ⊥)
       → IsLost listing.mark (is_in_use listing) (listed_times listing) n → ⊥
   kept_here n Unused h e ne gone = ne refl
-  kept_here n Branch h e ne gone = gone.free.unused (ap is_used e)
-  kept_here n Leaf h e ne gone = gone.free.unused (ap is_used e)
-  kept_here n Used h e ne gone = gone.free.unused (ap is_used e)
-  kept_here n Free h e ne gone = let t = times_table n h ∙ ap times_of e in let zero = gone.unlisted in omega (arith, t, zero)
-  kept_here n FreeTwice h e ne gone = let t = times_table n h ∙ ap times_of e in let zero = gone.unlisted in omega (arith, t, zero)
-  kept_here n UsedFree h e ne gone = gone.free.unused (ap is_used e)
-  kept_here n UsedFreeTwice h e ne gone = gone.free.unused (ap is_used e)
+  kept_here n Free h e ne gone = omega (arith, times_table n h ∙ ap times_of e, gone.unlisted)
+  kept_here n FreeTwice h e ne gone = omega (arith, times_table n h ∙ ap times_of e, gone.unlisted)
+  kept_here n u h e ne gone = gone.free.unused (ap is_used e)
 
   pub table_lost : (n from : ℕ) (findings : List Finding) → n < length listing.table.now → use_at listing.table.now n ≡ Unused
       → HasFindingsTo listing from n findings → HasFindingsTo listing from (suc n) findings
@@ -78,12 +74,11 @@ module _ (listing : Listing) (settled : IsSettled listing) where
       → HasFindingsTo listing from n findings → HasFindingsTo listing (suc n) (suc n) ((findings ++ run_findings from n) ++ page_findings n page_use)
   table_reported n from findings page_use h order e ne reported =
       let kept = kept_here n page_use h e ne in
-      let before = reported_append listing.mark (is_in_use listing) (listed_times listing) from n findings (run_findings from n) reported.reported order
-      (reports_run listing.mark (is_in_use listing) (listed_times listing) from n order reported.run kept) in
+      let before = reported_append reported.reported order (reports_run order reported.run kept) in
       let here = reports_page listing.mark (is_in_use listing) (listed_times listing) n page_use (let end = settled.below in omega (arith, end)) (settled.metas n)
       (times_table n h ∙ ap times_of e) (λ claimed. sym (ap is_used e) ∙ claimed) (λ used. ap is_used e ∙ used) ne in
       record {
-        reported = reported_append listing.mark (is_in_use listing) (listed_times listing) n (suc n) (findings ++ run_findings from n) (page_findings n page_use) before (omega arith) here;
+        reported = reported_append before (omega arith) here;
         run = run_after n kept;
       }
 
@@ -129,9 +124,7 @@ module _ (listing : Listing) (settled : IsSettled listing) where
     past_next : (ys : List Finding) → Reports listing.mark (is_in_use listing) (listed_times listing) (get_or listing.past.now i 0) (suc (get_or listing.past.now i 0)) ys
         → IsPastTo listing (suc (get_or listing.past.now i 0)) (suc i) ((findings ++ run_findings from (get_or listing.past.now i 0)) ++ ys)
     past_next ys here = record {
-      reported = reported_append listing.mark (is_in_use listing) (listed_times listing) (get_or listing.past.now i 0) (suc (get_or listing.past.now i 0)) (findings ++ run_findings from (get_or listing.past.now i 0)) ys
-          (reported_append listing.mark (is_in_use listing) (listed_times listing) from (get_or listing.past.now i 0) findings (run_findings from (get_or listing.past.now i 0)) reported.reported order
-          (reports_run listing.mark (is_in_use listing) (listed_times listing) from (get_or listing.past.now i 0) order run_before id_kept)) (omega arith) here;
+      reported = reported_append (reported_append reported.reported order (reports_run order run_before id_kept)) (omega arith) here;
       begins = (run_after (get_or listing.past.now i 0) id_kept).begins;
       done = λ k l under. (let up = settled.sorted k i 0 (omega arith) h in omega (arith, up));
       left = λ n low high none. reported.left n (omega arith) high (λ k after l e. elim (cases_lt i k) [
@@ -179,8 +172,7 @@ module _ (listing : Listing) (settled : IsSettled listing) where
   pub mark_reported : (from : ℕ) (findings : List Finding) → from ≤ listing.mark → HasFindingsTo listing from listing.mark findings
       → AreFindingsBelow listing.mark (is_in_use listing) (listed_times listing) listing.mark (findings ++ run_findings from listing.mark)
   mark_reported from findings order reported =
-      reported_append listing.mark (is_in_use listing) (listed_times listing) from listing.mark findings (run_findings from listing.mark) reported.reported order
-      (reports_run listing.mark (is_in_use listing) (listed_times listing) from listing.mark order reported.run (λ gone. (let under = gone.free.below in omega (arith, under))))
+      reported_append reported.reported order (reports_run order reported.run (λ gone. (let under = gone.free.below in omega (arith, under))))
 
   pub beyond_start : (findings : List Finding) → AreFindingsBelow listing.mark (is_in_use listing) (listed_times listing) listing.mark findings → IsBeyondTo listing 0 0 findings
   beyond_start findings reported =
@@ -216,11 +208,9 @@ module _ (listing : Listing) (settled : IsSettled listing) where
       let some = times_some listing.past.now (get_or listing.past.now i 0) i h refl in
       let gap = reports_none listing.mark (is_in_use listing) (listed_times listing) (max listing.mark (suc last)) (get_or listing.past.now i 0)
       (λ n low high gone. (let under = gone.free.below in omega (arith, under))) (gap_none last i h reported.done) in
-      let before = subst (AreFindingsBelow listing.mark (is_in_use listing) (listed_times listing) (get_or listing.past.now i 0)) (append-nil findings)
-      (reported_append listing.mark (is_in_use listing) (listed_times listing) (max listing.mark (suc last)) (get_or listing.past.now i 0) findings [] reported.reported (omega arith) gap) in
+      let before = subst (AreFindingsBelow listing.mark (is_in_use listing) (listed_times listing) (get_or listing.past.now i 0)) (append-nil findings) (reported_append reported.reported (omega arith) gap) in
       let here = reports_range listing.mark (is_in_use listing) (listed_times listing) (get_or listing.past.now i 0) (omega (arith, e, some)) (inr above) (λ r. (let under = r.1 in omega (arith, under, above))) in
-      let after = reported_append listing.mark (is_in_use listing) (listed_times listing) (get_or listing.past.now i 0) (suc (get_or listing.past.now i 0)) findings (finding FREE_RANGE (get_or listing.past.now i 0) ∷ [])
-      before (omega arith) here in
+      let after = reported_append before (omega arith) here in
       let next : suc (get_or listing.past.now i 0) ≡ max listing.mark (suc (get_or listing.past.now i 0)) = omega (arith, above) in
       record {
         reported = subst (λ (next : ℕ). AreFindingsBelow listing.mark (is_in_use listing) (listed_times listing) next (findings ++ finding FREE_RANGE (get_or listing.past.now i 0) ∷ [])) next after;

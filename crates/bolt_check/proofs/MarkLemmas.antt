@@ -1,5 +1,6 @@
 -- A good page lies below the mark and in the file.
 use Rattle.std.proofs.Common.{◌≡◌, ◌∙◌, ℕ, ◌+◌, ◌*◌, ◌<◌, ◌≤◌, List, Option, Some, None, Result, Ok, Err, length, refl, sym, ap, subst, inl, inr, arith, []}
+use Rattle.std.specs.Prelude.{IsSome}
 use Rattle.std.proofs.lemmas.Bool.{cases_lt}
 use Rattle.bolt_format.specs.Pages.{PageView, page_at, page_fault, page_overflow, shown_as}
 use Rattle.bolt_format.specs.declared.kind.Kind.{Kind}
@@ -46,6 +47,9 @@ unfolding node_at
 node_page file meta id node e =
     let (view, is) = seen-some (page_at file meta id) (page_fault file meta id) node e in
     (view, is, node_overflows view.kind view node (subst (λ (o : Option PageView). node_seen o (page_fault file meta id) ≡ Ok node) is e))
+
+pub node_shown : (file : List ℕ) (meta : Meta) (id : ℕ) (node : Node) → node_at file meta id ≡ Ok node → IsSome (page_at file meta id)
+node_shown file meta id node e = let (view, is, _) = node_page file meta id node e in rw is refl
 
 pub node_within : (file : List ℕ) (meta : Meta) (id : ℕ) (node : Node) → node_at file meta id ≡ Ok node
     → (id + node.overflow < meta.high_water) × ((id + node.overflow + 1) * meta.page_size ≤ length file)

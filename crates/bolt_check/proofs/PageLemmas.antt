@@ -109,22 +109,18 @@ module _ (mark : ℕ) (in_use : ℕ → Type 0) (times : ℕ → ℕ) where
   reports_meta n Unused low e used is = absurd (false≢true is)
   reports_meta n Free low e used is = absurd (false≢true is)
   reports_meta n FreeTwice low e used is = absurd (false≢true is)
-  reports_meta n Branch low e used is = reports_unlisted n e (not_lost_used n used)
-  reports_meta n Leaf low e used is = reports_unlisted n e (not_lost_used n used)
-  reports_meta n Used low e used is = reports_unlisted n e (not_lost_used n used)
   reports_meta n UsedFree low e used is = reports_range n (omega arith) (inl low) (outside_metas n low)
   reports_meta n UsedFreeTwice low e used is = reports_range n (omega arith) (inl low) (outside_metas n low)
+  reports_meta n u low e used is = reports_unlisted n e (not_lost_used n used)
 
   reports_use : (n : ℕ) (page_use : PageUse) → IsInRange mark n → times n ≡ times_of page_use → (in_use n → is_used page_use ≡ true) → (is_used page_use ≡ true → in_use n)
       → (page_use ≡ Unused → ⊥) → Reports mark in_use times n (suc n) (use_findings n page_use)
   reports_use n Unused in_range e there here ne = absurd (ne refl)
-  reports_use n Branch in_range e there here ne = reports_unlisted n e (not_lost_used n (here refl))
-  reports_use n Leaf in_range e there here ne = reports_unlisted n e (not_lost_used n (here refl))
-  reports_use n Used in_range e there here ne = reports_unlisted n e (not_lost_used n (here refl))
   reports_use n Free in_range e there here ne = reports_well n (omega arith) (λ u. absurd (false≢true (there u))) (not_lost_listed n (omega arith)) in_range
   reports_use n FreeTwice in_range e there here ne = reports_twice n (omega arith) (λ u. false≢true (there u)) in_range
   reports_use n UsedFree in_range e there here ne = reports_reached n e (here refl) in_range
   reports_use n UsedFreeTwice in_range e there here ne = reports_both n (omega arith) (here refl) in_range
+  reports_use n u in_range e there here ne = reports_unlisted n e (not_lost_used n (here refl))
 
   pub reports_page : (n : ℕ) (page_use : PageUse) → n < mark → (n < 2 → in_use n) → times n ≡ times_of page_use → (in_use n → is_used page_use ≡ true)
       → (is_used page_use ≡ true → in_use n) → (page_use ≡ Unused → ⊥) → Reports mark in_use times n (suc n) (page_findings n page_use)

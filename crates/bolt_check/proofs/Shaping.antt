@@ -25,15 +25,14 @@ filled_if : (b : Bool) (x : Finding) (o : Option Finding) → (if b then Some x 
 filled_if true x o e = absurd (cc)
 filled_if false x o e = (refl, e)
 
-content_keys : (node : Node) (s : PageSpot) → node_finding node s ≡ None → keys_order_fault None s.lower s.upper (keys_of node.entries) ≡ None
-content_keys node s e = finding_none (keys_order_fault None s.lower s.upper (keys_of node.entries)) s.number
-    (filled_if (not node.is_leaf && (length node.entries == 0)) (finding EMPTY_BRANCH s.number) (finding_of (keys_order_fault None s.lower s.upper (keys_of node.entries)) s.number) e).1
+content_parts : (node : Node) (s : PageSpot) → node_finding node s ≡ None
+    → ((not node.is_leaf && (length node.entries == 0)) ≡ false) × (keys_order_fault None s.lower s.upper (keys_of node.entries) ≡ None)
+content_parts node s e =
+    let parts = filled_if (not node.is_leaf && (length node.entries == 0)) (finding EMPTY_BRANCH s.number) (finding_of (keys_order_fault None s.lower s.upper (keys_of node.entries)) s.number) e in
+    (parts.0, finding_none (keys_order_fault None s.lower s.upper (keys_of node.entries)) s.number parts.1)
 
 content_filled : (node : Node) (s : PageSpot) → node_finding node s ≡ None → node.is_leaf ≡ false → node.entries ≢ []
-content_filled node s e leaf nil =
-    let f = (filled_if (not node.is_leaf && (length node.entries == 0)) (finding EMPTY_BRANCH s.number) (finding_of (keys_order_fault None s.lower s.upper (keys_of node.entries)) s.number) e).0 in
-    let g = rw (leaf, nil) at f in
-    let t : true ≡ false = g in cc
+content_filled node s e leaf nil = let t : true ≡ false = rw (leaf, nil) at (content_parts node s e).0 in cc
 
 -- the keys of this page are as its bounds say
 abbrev pub KeysFine : Nodes → PageSpot → Type 0
@@ -111,7 +110,7 @@ span_clean nodes reach c clean w (Some t) n e h b = span_free nodes (IsClaimedBe
 fine_at : (nodes : Nodes) (root : ℕ) → IsClean nodes (reached nodes root) IsMetaPage → (way : List ℕ) (s : PageSpot) → reached nodes root way ≡ Some (At_page s) → KeysFine nodes s
 fine_at nodes root clean way s e node h =
     let p : PagePasses nodes (IsClaimedBefore nodes (reached nodes root) IsMetaPage way) s = clean.passes way (At_page s) e in
-    content_keys node s (rw (same_node (nodes s.number) node p.node h p.page) p.content)
+    (content_parts node s (rw (same_node (nodes s.number) node p.node h p.page) p.content)).1
 
 pub shape_of : (nodes : Nodes) (root : ℕ) → IsClean nodes (reached nodes root) IsMetaPage → HasShape nodes root
 shape_of nodes root clean = record {

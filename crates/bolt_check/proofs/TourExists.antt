@@ -1,6 +1,7 @@
 -- Each visit removes a page number from those that are left.
 use Rattle.std.proofs.Common.{◌≡◌, ◌≢◌, ◌∙◌, ℕ, zero, suc, ◌<◌, inl, inr, List, [], ◌∷◌, ◌++◌, length, Option, Some, Ok, refl, sym, ap, subst, arith}
 use Rattle.std.proofs.lemmas.Bool.{cases_eq}
+use Rattle.std.proofs.lemmas.List.{append_cancel_left}
 use Rattle.bolt_format.specs.declared.meta.Meta.{Meta}
 use Rattle.bolt_check.specs.Nodes.{Node, Nodes, node_at}
 use Rattle.bolt_check.specs.Sound.{HasSoundTrees}
@@ -67,17 +68,13 @@ module _ (nodes : Nodes) {left : List ℕ} {old : Reach} (fits : Fits nodes left
 no_cons : (i : ℕ) (v : List ℕ) → [] ≡ i ∷ v → ⊥
 no_cons i v e = cc
 
-pub cancel : (u v w : List ℕ) → u ++ v ≡ u ++ w → v ≡ w
-cancel [] v w e = e
-cancel (i ∷ u) v w e = let same : u ++ v ≡ u ++ w = cc in cancel u v w same
-
 -- a step down from a page
 pub fits_down : (nodes : Nodes) (left : List ℕ) (s t : PageSpot) (i : ℕ) → Fits nodes left (follow nodes (Some (At_page s))) → (has : Has s.number left)
     → step nodes (Some (At_page s)) i ≡ Some (At_page t) → Fits nodes (without s.number left has) (follow nodes (Some (At_page t)))
 fits_down nodes left s t i fits has leads =
     let join : (v : List ℕ) (u : Spot) → follow nodes (Some (At_page t)) v ≡ Some u → follow nodes (Some (At_page s)) (i ∷ v) ≡ Some u
     = λ v u e. ap (λ (o : Option Spot). follow nodes o v) leads ∙ e in
-    fits_along nodes fits (without s.number left has) (follow nodes (Some (At_page t))) (λ v. i ∷ v) join (λ a b _ _ _ _ e. cancel (i ∷ []) a b e)
+    fits_along nodes fits (without s.number left has) (follow nodes (Some (At_page t))) (λ v. i ∷ v) join (λ a b _ _ _ _ e. append_cancel_left (i ∷ []) a b e)
     (λ v u e. still s.number u.number left has (λ same. no_cons i v (fits.apart [] (i ∷ v) s u refl (join v (At_page u) e) (sym same))))
 
 -- the ways of sound trees fit
@@ -95,4 +92,4 @@ bucket_fits file meta trees way root leads =
     let nodes = node_at file meta in
     fits_along nodes (sound_fits file meta trees) (numbers meta.high_water) (reached nodes root) (λ v. way ++ v)
     (λ v t e. follow_append nodes (Some (At_page (root_spot meta.root))) way v ∙ ap (λ (o : Option Spot). follow nodes o v) leads ∙ e)
-    (λ a b _ _ _ _ e. cancel way a b e) (λ v t e h. h)
+    (λ a b _ _ _ _ e. append_cancel_left way a b e) (λ v t e h. h)

@@ -13,7 +13,7 @@ use Rattle.bolt_check.specs.Subtrees.{Enough, Has, kid_pages, kids_at, root_page
 use Rattle.bolt_check.specs.Tours.{IsTour}
 use Rattle.bolt_check.specs.Ways.{At_inline, At_page, PageSpot, Reach, Spot, follow, reached, root_spot, step}
 use Rattle.bolt_check.proofs.Forest.{flat, forest_empty, inline_visits, kids_step, nothing_is, page_visits, root_visits, tail}
-use Rattle.bolt_check.proofs.MarkLemmas.{node_page}
+use Rattle.bolt_check.proofs.MarkLemmas.{node_shown}
 use Rattle.bolt_check.proofs.TourExists.{Fits, bucket_fits, fits_down, fits_page, fits_visited, numbers, shorter, without}
 use Rattle.bolt_check.proofs.TourLemmas.{Ways, tour_map, tour_step}
 use Rattle.bolt_check.proofs.Visiting.{Visits}
@@ -226,5 +226,4 @@ enough_node nodes (suc k) n (node, page, kids) = (node, page)
 
 pub enough_shown : (file : List ℕ) (meta : Meta) (k n : ℕ) → Enough (node_at file meta) k n → IsSome (page_at file meta n)
 enough_shown file meta k n h =
-    let (node, page) = enough_node (node_at file meta) k n h in
-    let (view, at, _) = node_page file meta n node page in rw at refl
+    let (node, page) = enough_node (node_at file meta) k n h in node_shown file meta n node page

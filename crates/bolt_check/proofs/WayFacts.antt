@@ -54,16 +54,10 @@ leads_follow nodes s [] n e = (s, refl, same_Some s.number n e)
 leads_follow nodes s (i ∷ address) n e = by_node nodes s (nodes s.number) i address n e (λ t h. leads_follow nodes t address n h)
 
 -- a good leaf page as a node
-leaf_is : (view : PageView) (k : Kind) → k ≡ kind.Leaf → node_of k view ≡ Ok (record { is_leaf = true; overflow = view.overflow; entries = map leaf_entry view.leaves })
-leaf_is view k e = rw e refl
-
-seen_is : (o : Option PageView) (fault : Option ℕ) (view : PageView) → o ≡ Some view → node_seen o fault ≡ node_of view.kind view
-seen_is o fault view e = rw e refl
-
 pub leaf_node : (file : List ℕ) (meta : Meta) (n : ℕ) (view : PageView) → page_at file meta n ≡ Some view → view.kind ≡ kind.Leaf
     → node_at file meta n ≡ Ok (record { is_leaf = true; overflow = view.overflow; entries = map leaf_entry view.leaves })
 unfolding node_at
-leaf_node file meta n view e k = seen_is (page_at file meta n) (page_fault file meta n) view e ∙ leaf_is view view.kind k
+leaf_node file meta n view e k = ap (λ (o : Option PageView). node_seen o (page_fault file meta n)) e ∙ ap (λ (x : Kind). node_of x view) k
 
 -- a page lies in its own span
 pub in_own_span : (nodes : Nodes) (s : PageSpot) (node : Node) → nodes s.number ≡ Ok node → SpanHas nodes (Some (At_page s)) s.number

@@ -59,7 +59,8 @@ pub(crate) fn claim_freelist(file: &[u8], meta: &Meta, table: &mut [PageUse]) ->
     requires written { meta.now.freelist ≢ NO_FREELIST }
     requires good { freelist_fault_of file.now meta.now ≡ None }
     requires room { HasRoom file.now meta.now table.old }
-    ensures shared { IfSome result (λ n. IsInFreelist file.now meta.now n × IsClaimed table.old n × ((k : ℕ) → IsInFreelist file.now meta.now k → IsClaimed table.old k → n ≤ k)) }
+    ensures shared { IfSome result (λ n. IsInFreelist file.now meta.now n × IsClaimed table.old n
+        × ((k : ℕ) → IsInFreelist file.now meta.now k → IsClaimed table.old k → n ≤ k)) }
     ensures claimed { MatchOption result (ClaimsFreelist file.now meta.now table.old table.new) (λ _. Unit {0}) }
 {
     let overflow = known(file, meta, meta.freelist).overflow();

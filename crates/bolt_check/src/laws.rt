@@ -31,17 +31,20 @@ pub fn first_finding_is_one()
 
 /// There is one list of findings of the accounts.
 pub fn account_findings_are_one()
-    ensures { (file : List ℕ) (meta : Meta) (a b : List Finding) → AreAccountFindings file meta (IsUsed file meta) a → AreAccountFindings file meta (IsUsed file meta) b → a ≡ b }
+    ensures { (file : List ℕ) (meta : Meta) (a b : List Finding) → AreAccountFindings file meta (IsUsed file meta) a
+        → AreAccountFindings file meta (IsUsed file meta) b → a ≡ b }
 {}
 
 /// In a sound file a page has at most one role.
 pub fn role_is_one()
-    ensures { (file : List ℕ) (meta : Meta) (n : ℕ) (a b : Role) → HasSoundTrees file meta → HasRightAccounts file meta → HasRole file meta n a → HasRole file meta n b → a ≡ b }
+    ensures { (file : List ℕ) (meta : Meta) (n : ℕ) (a b : Role) → HasSoundTrees file meta → HasRightAccounts file meta
+        → HasRole file meta n a → HasRole file meta n b → a ≡ b }
 {}
 
 /// In a sound file each page below the high-water mark has a role.
 pub fn role_exists()
-    ensures { (file : List ℕ) (meta : Meta) (n : ℕ) → HasSoundTrees file meta → HasRightAccounts file meta → n < meta.high_water → (role : Role) × HasRole file meta n role }
+    ensures { (file : List ℕ) (meta : Meta) (n : ℕ) → HasSoundTrees file meta → HasRightAccounts file meta
+        → n < meta.high_water → (role : Role) × HasRole file meta n role }
 {}
 
 /// In a sound file there is an assignment of roles to all pages.
@@ -63,8 +66,8 @@ pub fn ways_go_on()
 
 /// In sound trees each bucket has a tour.
 pub fn tour_exists()
-    ensures { (file : List ℕ) (meta : Meta) (way : List ℕ) (root : ℕ) → HasSoundTrees file meta → reached (node_at file meta) meta.root way ≡ Some (At_page (root_spot root))
-        → (tour : _) × IsTour (reached (node_at file meta) root) tour }
+    ensures { (file : List ℕ) (meta : Meta) (way : List ℕ) (root : ℕ) → HasSoundTrees file meta
+        → reached (node_at file meta) meta.root way ≡ Some (At_page (root_spot root)) → (tour : _) × IsTour (reached (node_at file meta) root) tour }
 {}
 
 /// There is at most one tour.

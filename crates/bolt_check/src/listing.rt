@@ -35,7 +35,8 @@ fn listed(page_use: PageUse) -> PageUse
 /// Lists one id in the table or, if it is past the table, after the others.
 fn list_id(id: u64, table: &mut [PageUse], past: &mut Vec<u64>) -> Result<(), AllocError>
     ensures used { OnOk result ((n : ℕ) → is_used (use_at table.new n) ≡ is_used (use_at table.old n)) }
-    ensures times { OnOk result ((n : ℕ) → n < length table.old → times_of (use_at table.new n) ≡ min 2 (times_of (use_at table.old n) + (if id == n then 1 else 0))) }
+    ensures times { OnOk result ((n : ℕ) → n < length table.old
+        → times_of (use_at table.new n) ≡ min 2 (times_of (use_at table.old n) + (if id == n then 1 else 0))) }
     ensures kept { OnOk result ((n : ℕ) → n ≢ id → use_at table.new n ≡ use_at table.old n) }
     ensures past { OnOk result (past.new.items ≡ past.old.items ++ (if nat_le (length table.old) id then id ∷ [] else [])) }
 {

@@ -1,4 +1,5 @@
-//! The search of all ways, in order, for the first finding.
+//! The search of all ways, in order, for the first finding. It isn't recursive: what is nested deep
+//! needs memory for the spots that are pending, but no stack.
 ghost use Rattle.std.specs.Prelude.{◌≡◌, ℕ, ◌<◌, ◌≤◌, ◌+◌, ◌*◌, ◌++◌, ◌∷◌, ◌↔◌, [], IfErr, IfOk, OnOk, Ok, length, vec_len};
 ghost use Rattle.bolt_check.specs.Findings.{IsClean, IsCovered, IsMetaPage};
 ghost use Rattle.bolt_check.specs.Nodes.{node_at};
@@ -73,7 +74,8 @@ fn step<'a>(
     ensures carried { OnOk result (Carries (node_at file.now meta.now)
         (forest (node_at file.now meta.now) (spot_at spot.entry ∷ spots_of pending.old.items)) (IsClaimed table.old) (IsNoted table.old)
         (forest (node_at file.now meta.now) (spots_of pending.new.items)) (IsClaimed table.new) (IsNoted table.new)) }
-    ensures reported { IfErr result (IsSearchFault (node_at file.now meta.now) (forest (node_at file.now meta.now) (spot_at spot.entry ∷ spots_of pending.old.items)) (IsClaimed table.old)) }
+    ensures reported { IfErr result (IsSearchFault (node_at file.now meta.now)
+        (forest (node_at file.now meta.now) (spot_at spot.entry ∷ spots_of pending.old.items)) (IsClaimed table.old)) }
 {
     match spot {
         Spot::Page(spot) => {
@@ -93,8 +95,10 @@ fn step<'a>(
 pub(crate) fn search(alloc: Global, file: &[u8], meta: &Meta) -> Result<Vec<PageUse>, CheckFault>
     requires { 0 < meta.now.page_size }
     ensures clean { OnOk result (IsClean (node_at file.now meta.now) (reached (node_at file.now meta.now) meta.now.root) IsMetaPage) }
-    ensures covered { IfOk result (λ table. (n : ℕ) → IsClaimed table.items n ↔ IsCovered (node_at file.now meta.now) (reached (node_at file.now meta.now) meta.now.root) IsMetaPage n) }
-    ensures uses { IfOk result (λ table. (n : ℕ) (u : PageUse) → IsNoted table.items n u → HasUse (node_at file.now meta.now) (reached (node_at file.now meta.now) meta.now.root) IsMetaUse n u) }
+    ensures covered { IfOk result (λ table. (n : ℕ) → IsClaimed table.items n
+        ↔ IsCovered (node_at file.now meta.now) (reached (node_at file.now meta.now) meta.now.root) IsMetaPage n) }
+    ensures uses { IfOk result (λ table. (n : ℕ) (u : PageUse) → IsNoted table.items n u
+        → HasUse (node_at file.now meta.now) (reached (node_at file.now meta.now) meta.now.root) IsMetaUse n u) }
     ensures room { IfOk result (λ table. HasRoom file.now meta.now table.items) }
     ensures unlisted { IfOk result (λ table. IsUnlisted table.items) }
     ensures length { IfOk result (λ table. length table.items ≡ table_length file.now meta.now) }

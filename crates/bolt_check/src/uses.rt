@@ -25,7 +25,8 @@ use std::alloc::Global;
 fn search_sound(alloc: Global, file: &[u8], meta: &Meta) -> Result<Vec<PageUse>, NoMemory>
     requires { ∥ IsSound file.now meta.now true ∥₁ }
     ensures claimed { IfOk result (λ table. (n : ℕ) → IsClaimed table.items n ↔ IsUsed file.now meta.now n) }
-    ensures uses { IfOk result (λ table. (n : ℕ) (u : _) → IsNoted table.items n u → HasUse (node_at file.now meta.now) (reached (node_at file.now meta.now) meta.now.root) IsMetaUse n u) }
+    ensures uses { IfOk result (λ table. (n : ℕ) (u : _) → IsNoted table.items n u
+        → HasUse (node_at file.now meta.now) (reached (node_at file.now meta.now) meta.now.root) IsMetaUse n u) }
     ensures room { IfOk result (λ table. HasRoom file.now meta.now table.items) }
 {
     match search(alloc, file, meta) {
