@@ -1,12 +1,12 @@
 -- What a checked file is known to be.
-use Rattle.std.proofs.Common.{◌≡◌, ℕ, List, Option, Some, None, Ok, refl, subst}
+use Rattle.std.proofs.Common.{◌≡◌, ℕ, List, Some, subst}
 use Rattle.std.specs.Prelude.{IsSome}
 use Rattle.std.proofs.Math.Logic.{∥∥₁_elim, ∥∥₁_map}
 use Rattle.std.proofs.Props.{props}
-use Rattle.bolt_format.specs.Pages.{PageView, page_at, page_fault}
+use Rattle.bolt_format.specs.Pages.{page_at}
 use Rattle.bolt_format.specs.declared.meta.Meta.{Meta}
 use Rattle.bolt_check.specs.CheckedFiles.{bytes_of, meta_of}
-use Rattle.bolt_check.specs.Nodes.{Node, node_at, node_seen}
+use Rattle.bolt_check.specs.Nodes.{node_at}
 use Rattle.bolt_check.specs.OnWays.{IsOnWay}
 use Rattle.bolt_check.specs.Sound.{HasSoundTrees}
 use Rattle.bolt_check.specs.Ways.{At_page, PageSpot, reached}

@@ -18,6 +18,7 @@ pub mod MarkLemmas
 pub mod NodeLemmas
 pub mod PageLemmas
 pub mod Pendings
+pub mod Rising
 pub mod RoleExists
 pub mod RoleFacts
 pub mod RoleLemmas

@@ -11,7 +11,7 @@ use Rattle.bolt_check.specs.declared.finding.Finding.{Finding}
 use Rattle.bolt_check.specs.declared.finding.TheConstants.Finding.{FREED_TWICE, FREE_RANGE}
 use Rattle.bolt_check.specs.declared.listing.Listing.{Listing}
 use Rattle.bolt_check.specs.declared.table.PageUse.{PageUse}
-use Rattle.bolt_check.specs.declared.table.PageUse.TheVariants.{Unused, Branch, Leaf, Used, Free, FreeTwice, UsedFree, UsedFreeTwice}
+use Rattle.bolt_check.specs.declared.table.PageUse.TheVariants.{Unused, Free, FreeTwice}
 use Rattle.bolt_check.proofs.CountLemmas.{place_of, times_none, times_once, times_some, times_twice}
 use Rattle.bolt_check.proofs.TableEnds.{past_metas, past_unlisted}
 use Rattle.bolt_check.proofs.PageLemmas.{twice, reached, lost, range, not_lost_listed, on_own_page, reports_page, reports_range, reports_twice, reports_well}

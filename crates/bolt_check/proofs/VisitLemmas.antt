@@ -31,3 +31,5 @@ leaf-is node = refl
 -- a page is claimed after a visit exactly if it was before, or lies in the span
 pub claims_both : (nodes : Nodes) (s : Spot) (old new : List PageUse) → Claims nodes s old new → (n : ℕ) → IsClaimed new n ↔ (IsClaimed old n ⊎ SpanAt nodes s n)
 claims_both nodes s old new claims n = (claims.split n, λ h. elim h [ inl was ↦ claims.kept n was | inr span ↦ claims.span n span ])
+
+pub ruleset visit_rules = (in_room, overflow-is, leaf-is)

@@ -131,6 +131,7 @@ fn take_leaf<'a>(
 }
 
 /// Whether page `number` is a good leaf with an element.
+#[tactic(auto, using(crate::proofs::LeafLemmas::leaf_shown, crate::proofs::LeafLemmas::not_filled, crate::proofs::LeafLemmas::some_entries))]
 fn is_filled_leaf(file: &[u8], meta: &Meta, number: u64) -> bool
     ensures filled { result ≡ true → IsFilledLeaf (node_at file.now meta.now number) }
     ensures other { result ≡ false → IsFilledLeaf (node_at file.now meta.now number) → ⊥ }

@@ -33,6 +33,7 @@ fn listed(page_use: PageUse) -> PageUse
 }
 
 /// Lists one id in the table or, if it is past the table, after the others.
+#[tactic(auto, using(crate::proofs::TableLemmas::used_kept))]
 fn list_id(id: u64, table: &mut [PageUse], past: &mut Vec<u64>) -> Result<(), AllocError>
     ensures used { OnOk result ((n : ℕ) → is_used (use_at table.new n) ≡ is_used (use_at table.old n)) }
     ensures times { OnOk result ((n : ℕ) → n < length table.old
@@ -69,6 +70,7 @@ pub(crate) fn list_ids(
 }
 
 /// Lists one id in the table, if it isn't past it.
+#[tactic(auto, using(crate::proofs::TableLemmas::used_kept))]
 fn list_within(id: u64, table: &mut [PageUse])
     ensures used { (n : ℕ) → is_used (use_at table.new n) ≡ is_used (use_at table.old n) }
     ensures times { (n : ℕ) → n < length table.old → times_of (use_at table.new n) ≡ min 2 (times_of (use_at table.old n) + (if id == n then 1 else 0)) }

@@ -39,6 +39,7 @@ fn search_sound(alloc: Global, file: &[u8], meta: &Meta) -> Result<Vec<PageUse>,
 }
 
 /// Claims the freelist's span. No page of it is claimed.
+#[tactic(auto, using(crate::proofs::UsesClaimed::uses_claimed, crate::proofs::UsesClaimed::uses_unwritten))]
 fn claim_written(file: &[u8], meta: &Meta, table: &mut [PageUse])
     requires sound { ∥ IsSound file.now meta.now true ∥₁ }
     requires claimed { (n : ℕ) → IsClaimed table.old n ↔ IsUsed file.now meta.now n }
