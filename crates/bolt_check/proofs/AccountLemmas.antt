@@ -5,7 +5,7 @@ use Rattle.std.proofs.lemmas.Option.{none-some, same_Some}
 use Rattle.bolt_format.specs.Freelists.{free_ids_at, free_ids_of, freelist_fault, freelist_fault_of}
 use Rattle.bolt_format.specs.declared.meta.Meta.{Meta}
 use Rattle.bolt_format.specs.declared.meta.TheConstants.{NO_FREELIST}
-use Rattle.bolt_check.specs.Accounts.{HasAccounts, IsFree, IsInFreelist, IsInUse, ListsFree, times_in}
+use Rattle.bolt_check.specs.Accounts.{HasAccounts, IsInFreelist, IsInUse, ListsFree, times_in}
 use Rattle.bolt_check.specs.Findings.{finding}
 use Rattle.bolt_check.specs.Private.Listings.{AreAllFindings, ClaimsFreelist}
 use Rattle.bolt_check.specs.Private.Tables.{IsClaimed}
@@ -64,28 +64,22 @@ module _ (mark : ℕ) (in_use : ℕ → Type 0) (times : ℕ → ℕ) where
     ]
   ]
 
-  once_in : AreAllFindings mark in_use times [] → (n : ℕ) → times n ≤ 1
-  once_in reported n = elim (cases_lt 1 (times n)) [
-    | inl more ↦ absurd (none_reported reported _ (freed_twice (in_range reported n (omega arith)) (omega arith)))
-    | inr fewer ↦ fewer
-  ]
-
-  listed_in : AreAllFindings mark in_use times [] → (n : ℕ) → IsFree mark in_use n → 1 ≤ times n
-  listed_in reported n free = elim (cases_lt 0 (times n)) [
-    | inl some ↦ omega arith
-    | inr zero ↦ absurd (reported.silent refl n (record { free = free; unlisted = omega arith }))
-  ]
-
   -- so the free pages are listed
   pub lists_free : AreAllFindings mark in_use times [] → ListsFree mark in_use times
   lists_free reported = record {
-    free = λ n one. record {
-      above_metas = (in_range reported n one).0;
-      below = (in_range reported n one).1;
-      unused = λ used. none_reported reported _ (reached_freed (in_range reported n one) one used);
+    free = λ n one. let range = in_range reported n one in record {
+      above_metas = range.0;
+      below = range.1;
+      unused = λ used. none_reported reported _ (reached_freed range one used);
     };
-    once = once_in reported;
-    listed = listed_in reported;
+    once = λ n. elim (cases_lt 1 (times n)) [
+      | inl more ↦ absurd (none_reported reported _ (freed_twice (in_range reported n (omega arith)) (omega arith)))
+      | inr fewer ↦ fewer
+    ];
+    listed = λ n free. elim (cases_lt 0 (times n)) [
+      | inl some ↦ omega arith
+      | inr zero ↦ absurd (reported.silent refl n (record { free = free; unlisted = omega arith }))
+    ];
   }
 
   -- and where they are, nothing is reported

@@ -99,10 +99,6 @@ way_same : (x : ℕ ⊎ ℕ) (v w : List ℕ) → Before v w → Before (way_of 
 way_same (inl j) v w h = inr (refl, inr (refl, h))
 way_same (inr k) v w h = inr (refl, h)
 
-nil_before : (x : ℕ ⊎ ℕ) (w : List ℕ) → Before [] (way_of x w)
-nil_before (inl j) w = tt
-nil_before (inr k) w = tt
-
 first_before : (x : ℕ ⊎ ℕ) (w : List ℕ) → Before (0 ∷ []) (way_of x w)
 first_before (inl j) w = inr (refl, tt)
 first_before (inr k) w = inl (omega arith)
@@ -112,11 +108,11 @@ abbrev pub lift : List (Option Spot) → List ℕ → List ℕ
 lift os [] = []
 lift os (k ∷ v) = way_of (where_is os k) v
 
-lift_rising : (os : List (Option Spot)) (b e : List ℕ) → Before b e → Before (lift os b) (lift os e)
-lift_rising os b [] h = absurd h
-lift_rising os [] (l ∷ w) h = nil_before (where_is os l) w
-lift_rising os (k ∷ v) (l ∷ w) (inl h) = way_rising (where_is os k) (where_is os l) v w (where_rising os k l h)
-lift_rising os (k ∷ v) (l ∷ w) (inr h) =
+lift_rising : (nodes : Nodes) (rest : List Spot) (os : List (Option Spot)) (b e : List ℕ) (t : Spot) → forest nodes (somes os ++ rest) b ≡ Some t → Before b e → Before (lift os b) (lift os e)
+lift_rising nodes rest os b [] t at h = absurd h
+lift_rising nodes rest os [] (l ∷ w) t at h = absurd (nothing_is t at)
+lift_rising nodes rest os (k ∷ v) (l ∷ w) t at (inl h) = way_rising (where_is os k) (where_is os l) v w (where_rising os k l h)
+lift_rising nodes rest os (k ∷ v) (l ∷ w) t at (inr h) =
     let P : ℕ → Type 0 = λ z. Before (way_of (where_is os k) v) (way_of (where_is os z) w) in
     subst P h.0 (way_same (where_is os k) v w h.1)
 
@@ -170,7 +166,7 @@ visits : (nodes : Nodes) (s : Spot) (rest : List Spot) (os : List (Option Spot))
 visits nodes s rest os fits = record {
   leads = λ t e. e;
   same = lift_same nodes s rest os fits;
-  rising = λ b e t u at_b at_e. lift_rising os b e;
+  rising = λ b e t u at_b at_e. lift_rising nodes rest os b e t at_b;
   after = λ t e. lift_after nodes rest os;
   all = lift_all nodes s rest os fits;
 }

@@ -133,30 +133,24 @@ module _ (listing : Listing) (settled : IsSettled listing) where
       ]);
     }
 
-    pub past_twice : suc i < length listing.past.now → get_or listing.past.now (suc i) 0 ≡ get_or listing.past.now i 0
-        → IsPastTo listing (suc (get_or listing.past.now i 0)) (suc i) ((findings ++ run_findings from (get_or listing.past.now i 0)) ++ finding FREED_TWICE (get_or listing.past.now i 0) ∷ [])
-    past_twice more same =
-        let e = times_past (get_or listing.past.now i 0) id_past in let two = times_twice listing.past.now i more same in
-        past_next (finding FREED_TWICE (get_or listing.past.now i 0) ∷ [])
-        (reports_twice listing.mark (is_in_use listing) (listed_times listing) (get_or listing.past.now i 0) (omega (arith, e, two)) (unused_past (get_or listing.past.now i 0) id_past) id_in_range)
-
-    pub past_once : (suc i < length listing.past.now → get_or listing.past.now (suc i) 0 ≡ get_or listing.past.now i 0 → ⊥)
-        → IsPastTo listing (suc (get_or listing.past.now i 0)) (suc i) (findings ++ run_findings from (get_or listing.past.now i 0))
+    past_once : (suc i < length listing.past.now → get_or listing.past.now (suc i) 0 ≡ get_or listing.past.now i 0 → ⊥)
+        → IsPastTo listing (suc (get_or listing.past.now i 0)) (suc i) ((findings ++ run_findings from (get_or listing.past.now i 0)) ++ [])
     past_once other =
         let e = times_past (get_or listing.past.now i 0) id_past in
         let one = times_once listing.past.now i (λ j k. settled.sorted j k 0) h id_first other in
-        subst (IsPastTo listing (suc (get_or listing.past.now i 0)) (suc i)) (append-nil (findings ++ run_findings from (get_or listing.past.now i 0))) (past_next []
-        (reports_well listing.mark (is_in_use listing) (listed_times listing) (get_or listing.past.now i 0) (omega (arith, e, one))
-        (λ claimed. absurd (unused_past (get_or listing.past.now i 0) id_past claimed)) id_kept id_in_range))
+        past_next [] (reports_well listing.mark (is_in_use listing) (listed_times listing) (get_or listing.past.now i 0) (omega (arith, e, one))
+        (λ claimed. absurd (unused_past (get_or listing.past.now i 0) id_past claimed)) id_kept id_in_range)
 
     pub past_reported : IsPastTo listing (suc (get_or listing.past.now i 0)) (suc i) ((findings ++ run_findings from (get_or listing.past.now i 0)) ++ repeat_findings listing.past.now i)
     past_reported = elim (cases_Bool (is_repeated listing.past.now i)) [
       | inl is ↦ (let both = and_parts (nat_lt (i + 1) (length listing.past.now)) (get_or listing.past.now (i + 1) 0 == get_or listing.past.now i 0) is in
           let more = ltb-true (i + 1) (length listing.past.now) both.0 in
-          let same = eqb-true (get_or listing.past.now (i + 1) 0) (get_or listing.past.now i 0) both.1 in
+          let same = ap (λ j. get_or listing.past.now j 0) (sym (add-one i)) ∙ eqb-true (get_or listing.past.now (i + 1) 0) (get_or listing.past.now i 0) both.1 in
+          let e = times_past (get_or listing.past.now i 0) id_past in let two = times_twice listing.past.now i (omega (arith, more)) same in
           rw (cond-true (is_repeated listing.past.now i) (finding FREED_TWICE (get_or listing.past.now i 0) ∷ []) [] is)
-          (past_twice (omega (arith, more)) (ap (λ j. get_or listing.past.now j 0) (sym (add-one i)) ∙ same)))
-      | inr not ↦ rw (cond-false (is_repeated listing.past.now i) (finding FREED_TWICE (get_or listing.past.now i 0) ∷ []) [] not, append-nil)
+          (past_next (finding FREED_TWICE (get_or listing.past.now i 0) ∷ [])
+          (reports_twice listing.mark (is_in_use listing) (listed_times listing) (get_or listing.past.now i 0) (omega (arith, e, two)) (unused_past (get_or listing.past.now i 0) id_past) id_in_range)))
+      | inr not ↦ rw (cond-false (is_repeated listing.past.now i) (finding FREED_TWICE (get_or listing.past.now i 0) ∷ []) [] not)
           (past_once (λ more same. both_ways (is_repeated listing.past.now i) not
           (and_from (nat_lt (i + 1) (length listing.past.now)) (get_or listing.past.now (i + 1) 0 == get_or listing.past.now i 0) (lt-ltb (i + 1) (length listing.past.now) (omega (arith, more)))
           (eq-eqb (get_or listing.past.now (i + 1) 0) (get_or listing.past.now i 0) (ap (λ j. get_or listing.past.now j 0) (add-one i) ∙ same)))))

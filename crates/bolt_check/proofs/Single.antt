@@ -1,12 +1,12 @@
 -- There is at most one first finding.
-use Rattle.std.proofs.Common.{◌≡◌, ℕ, inl, inr, List, Some, None, sym, ap, ◌∙◌}
+use Rattle.std.proofs.Common.{◌≡◌, ℕ, inl, inr, List, Some, sym, ap, ◌∙◌}
 use Rattle.std.proofs.lemmas.Bool.{cases_order}
 use Rattle.bolt_check.specs.Ways.{PageSpot}
 use Rattle.bolt_check.specs.declared.finding.TheConstants.Finding.{TWICE}
 use Rattle.bolt_check.specs.declared.finding.Finding.{Finding}
 use Rattle.bolt_check.specs.Nodes.{Nodes, Node}
 use Rattle.bolt_check.specs.Ways.{Spot, At_page, At_inline, Reach}
-use Rattle.bolt_check.specs.Findings.{finding, early_finding, node_finding, inline_finding, Tests, PageTests, early, twice, late, IsLowestClaimed, IsClaimedBefore, IsFirst}
+use Rattle.bolt_check.specs.Findings.{finding, node_finding, inline_finding, Tests, PageTests, early, twice, late, IsLowestClaimed, IsClaimedBefore, IsFirst}
 use Rattle.bolt_check.proofs.WayOrder.{before_total}
 use Rattle.bolt_format.proofs.ListLemmas.{one_some}
 
@@ -17,20 +17,17 @@ same_lowest before node number n m h k =
       | inr d ↦ elim d [ inl lt ↦ absurd (k.lowest n h.in_span lt h.was) | inr gt ↦ absurd (h.lowest m k.in_span gt k.was) ]
     ]
 
-early_not : (nodes : Nodes) (s : PageSpot) (x : Finding) → early_finding nodes s ≡ None → early_finding nodes s ≡ Some x → ⊥
-early_not nodes s x a b = cc
-
 page_one : (nodes : Nodes) (before : ℕ → Type 0) (s : PageSpot) (x y : Finding) → PageTests nodes before s x → PageTests nodes before s y → x ≡ y
 page_one nodes before s x y (early a) (early b) = cc
-page_one nodes before s x y (early a) (twice node e p l k) = absurd (early_not nodes s x e a)
-page_one nodes before s x y (early a) (late node e p f c) = absurd (early_not nodes s x e a)
-page_one nodes before s x y (twice node e p l k) (early b) = absurd (early_not nodes s y e b)
+page_one nodes before s x y (early a) (twice node e p l k) = absurd (cc)
+page_one nodes before s x y (early a) (late node e p f c) = absurd (cc)
+page_one nodes before s x y (twice node e p l k) (early b) = absurd (cc)
 page_one nodes before s x y (twice node e p l k) (twice m f q r t) =
     let same : node ≡ m = cc in
     k ∙ ap (finding TWICE) (same_lowest before m s.number x.page y.page (rw same at l) r) ∙ sym t
 page_one nodes before s x y (twice node e p l k) (late m f q free c) =
     let same : node ≡ m = cc in absurd (let i = rw same at l in free x.page i.in_span i.was)
-page_one nodes before s x y (late node e p free c) (early b) = absurd (early_not nodes s y e b)
+page_one nodes before s x y (late node e p free c) (early b) = absurd (cc)
 page_one nodes before s x y (late node e p free c) (twice m f q r t) =
     let same : node ≡ m = cc in absurd (let i = rw (← same) at r in free y.page i.in_span i.was)
 page_one nodes before s x y (late node e p free c) (late m f q free2 d) =

@@ -6,7 +6,7 @@ use Rattle.bolt_format.specs.declared.meta.Meta.{Meta}
 use Rattle.bolt_check.specs.Nodes.{Node, Nodes, node_at}
 use Rattle.bolt_check.specs.Sound.{HasSoundTrees}
 use Rattle.bolt_check.specs.Subtrees.{Has}
-use Rattle.bolt_check.specs.Ways.{At_page, Before, PageSpot, Reach, Spot, follow, reached, root_spot, step}
+use Rattle.bolt_check.specs.Ways.{At_page, Before, PageSpot, Reach, Spot, follow, reached, root_spot}
 use Rattle.bolt_check.proofs.MarkLemmas.{node_below}
 use Rattle.bolt_check.proofs.Visiting.{Visits, one_of}
 use Rattle.bolt_check.proofs.WayFacts.{follow_append, one_way}
@@ -64,18 +64,6 @@ module _ (nodes : Nodes) {left : List ℕ} {old : Reach} (fits : Fits nodes left
   fits_page {new = new} {first = first} {f = f} s v h = fits_along (without s.number left h) new f v.same (one_of v) (λ b t e. still s.number t.number left h (λ same.
       let at = fits.apart (f b) first t s (v.same b (At_page t) e) (v.leads (At_page s) refl) same in
       before_irreflexive first (subst (Before first) at (v.after (At_page s) refl b (At_page t) e))))
-
-no_cons : (i : ℕ) (v : List ℕ) → [] ≡ i ∷ v → ⊥
-no_cons i v e = cc
-
--- a step down from a page
-pub fits_down : (nodes : Nodes) (left : List ℕ) (s t : PageSpot) (i : ℕ) → Fits nodes left (follow nodes (Some (At_page s))) → (has : Has s.number left)
-    → step nodes (Some (At_page s)) i ≡ Some (At_page t) → Fits nodes (without s.number left has) (follow nodes (Some (At_page t)))
-fits_down nodes left s t i fits has leads =
-    let join : (v : List ℕ) (u : Spot) → follow nodes (Some (At_page t)) v ≡ Some u → follow nodes (Some (At_page s)) (i ∷ v) ≡ Some u
-    = λ v u e. ap (λ (o : Option Spot). follow nodes o v) leads ∙ e in
-    fits_along nodes fits (without s.number left has) (follow nodes (Some (At_page t))) (λ v. i ∷ v) join (λ a b _ _ _ _ e. append_cancel_left (i ∷ []) a b e)
-    (λ v u e. still s.number u.number left has (λ same. no_cons i v (fits.apart [] (i ∷ v) s u refl (join v (At_page u) e) (sym same))))
 
 -- the ways of sound trees fit
 sound_fits : (file : List ℕ) (meta : Meta) → HasSoundTrees file meta → Fits (node_at file meta) (numbers meta.high_water) (reached (node_at file meta) meta.root)

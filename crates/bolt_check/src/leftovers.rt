@@ -53,6 +53,7 @@ impl<'a> Leftovers<'a> {
     }
 
     /// The number that pages to be taken are below.
+    #[tactic(auto, using(crate::proofs::LeafLemmas::node_in_table), unfolding(crate::specs::Leftovers::leftovers_file, crate::specs::Leftovers::leftovers_length, crate::specs::Leftovers::leftovers_meta))]
     pub fn end(&self) -> u64
         ensures within { result ≤ leftovers_length self.now }
         ensures below { result ≤ (leftovers_meta self.now).high_water }

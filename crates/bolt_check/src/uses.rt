@@ -71,7 +71,7 @@ fn find_uses(alloc: Global, file: &[u8], meta: &Meta) -> Result<Vec<PageUse>, No
 ///
 /// `NoMemory` if memory runs out. It needs a byte for each whole page that lies in the file and
 /// below the high-water mark, and room for the ways that are still to be followed.
-#[tactic(auto, unfolding(crate::specs::RoledFiles::roles_checked, crate::specs::CheckedFiles::has_accounts))]
+#[tactic(auto, using(crate::proofs::RoleFacts::sound_accounts), unfolding(crate::specs::RoledFiles::roles_checked, crate::specs::CheckedFiles::bytes_of, crate::specs::CheckedFiles::has_accounts, crate::specs::CheckedFiles::meta_of))]
 pub fn roles<'a>(alloc: Global, checked: Checked<'a>) -> Result<Roles<'a>, NoMemory>
     requires { has_accounts checked ≡ true }
     ensures { IfOk result (λ roles. roles_checked roles ≡ checked.entry) }
