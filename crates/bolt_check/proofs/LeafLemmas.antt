@@ -2,7 +2,7 @@
 use Rattle.std.proofs.Common.{◌≡◌, ◌≢◌, ◌∙◌, ◌==◌, ◌<◌, ◌+◌, ℕ, true, false, not, List, [], length, Option, Some, None, Result, Ok, sym, ap, subst, arith}
 use Rattle.std.specs.Option.{IfNone}
 use Rattle.std.specs.Prelude.{IsTrue, nat_lt}
-use Rattle.std.proofs.lemmas.Bool.{false≢true}
+use Rattle.std.proofs.lemmas.Bool.{false≢true, ltb-true}
 use Rattle.std.proofs.lemmas.Bool.Decides.{nat_tests}
 use Rattle.bolt_format.specs.declared.meta.Meta.{Meta}
 use Rattle.bolt_check.specs.Findings.{PagePasses}
@@ -65,10 +65,7 @@ not_filled seen page is not (node, of, leaf, some) =
     false≢true (sym not ∙ sym same ∙ leaf)
 
 pub some_entries : (entries : List Entry) (count : ℕ) → count ≡ length entries → nat_lt 0 count ≡ true → entries ≢ []
-some_entries entries count is more none =
-    let zero : count ≡ 0 = is ∙ ap length none in
-    let f : nat_lt 0 0 ≡ true = subst (λ (n : ℕ). nat_lt 0 n ≡ true) zero more in
-    false≢true f
+some_entries entries count is more none = omega (arith, ltb-true 0 count more, is ∙ ap length none)
 
 pub if_none : {X P Q : Type 0} (o : Option X) → (P → Q) → IfNone o P → IfNone o Q
 if_none None to h = to h

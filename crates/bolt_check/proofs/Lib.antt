@@ -28,13 +28,11 @@ pub mod Shaping
 pub mod Single
 pub mod SoundLemmas
 pub mod Spans
-mod TableEnds
 pub mod TableLemmas
 pub mod TourExists
 pub mod TourLemmas
 pub mod TourSums
 pub mod TreePages
-pub mod UseLemmas
 pub mod UsesClaimed
 pub mod VisitLemmas
 pub mod Visited

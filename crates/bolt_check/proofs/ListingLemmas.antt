@@ -13,7 +13,7 @@ use Rattle.bolt_check.specs.declared.listing.Listing.{Listing}
 use Rattle.bolt_check.specs.declared.table.PageUse.{PageUse}
 use Rattle.bolt_check.specs.declared.table.PageUse.TheVariants.{Unused, Free, FreeTwice}
 use Rattle.bolt_check.proofs.CountLemmas.{place_of, times_none, times_once, times_some, times_twice}
-use Rattle.bolt_check.proofs.TableEnds.{past_metas, past_unlisted}
+use Rattle.bolt_check.proofs.TableLemmas.{past_metas, past_unlisted}
 use Rattle.bolt_check.proofs.PageLemmas.{twice, reached, lost, range, not_lost_listed, on_own_page, reports_page, reports_range, reports_twice, reports_well}
 use Rattle.bolt_check.proofs.AccountFindingLemmas.{Reports, reported_append, reports_none, reports_run}
 
@@ -176,22 +176,22 @@ module _ (listing : Listing) (settled : IsSettled listing) where
         done = λ k h. absurd (omega arith);
       }
 
-  -- a listed page from the mark on has a place among the ids
-  beyond_place : (n : ℕ) → listing.mark ≤ n → 1 ≤ listed_times listing n → (k : ℕ) × ((k < length listing.past.now) × (get_or listing.past.now k 0 ≡ n))
-  beyond_place n h one =
-      let end = settled.below in let e = times_past n (omega (arith, end)) in place_of listing.past.now n (omega (arith, e))
+  -- a finding from the mark on is on a listed page, which has a place among the ids
+  beyond_place : (x : Finding) → IsAccountFinding listing.mark (is_in_use listing) (listed_times listing) x → listing.mark ≤ x.page
+      → (k : ℕ) × ((k < length listing.past.now) × (get_or listing.past.now k 0 ≡ x.page))
+  beyond_place x is h = elim (on_own_page listing.mark (is_in_use listing) (listed_times listing) x is) [
+    | twice e two r ↦ absurd (omega (arith, r.1, h))
+    | reached e one used r ↦ absurd (omega (arith, r.1, h))
+    | lost gone ↦ absurd (omega (arith, gone.free.below, h))
+    | range e one out ↦ place_of listing.past.now x.page (omega (arith, one, times_past x.page (omega (arith, settled.below, h))))
+  ]
 
   -- no finding is on a page between
   gap_none : (last i : ℕ) → i < length listing.past.now → ((k : ℕ) → k < i → get_or listing.past.now k 0 < max listing.mark (suc last))
       → (x : Finding) → IsAccountFinding listing.mark (is_in_use listing) (listed_times listing) x → max listing.mark (suc last) ≤ x.page → x.page < get_or listing.past.now i 0 → ⊥
-  gap_none last i h done x is low high = elim (on_own_page listing.mark (is_in_use listing) (listed_times listing) x is) [
-    | twice e two r ↦ (let under = r.1 in omega (arith, under))
-    | reached e one used r ↦ (let under = r.1 in omega (arith, under))
-    | lost gone ↦ (let under = gone.free.below in omega (arith, under))
-    | range e one out ↦ (let (k, (l, at)) = beyond_place x.page (omega arith) one in elim (cases_lt k i) [
-      | inl before ↦ (let d = done k before in omega (arith, d, at))
-      | inr after ↦ (let up = settled.sorted i k 0 after l in omega (arith, up, at))
-    ])
+  gap_none last i h done x is low high = let (k, (l, at)) = beyond_place x is (omega arith) in elim (cases_lt k i) [
+    | inl before ↦ omega (arith, done k before, at)
+    | inr after ↦ omega (arith, settled.sorted i k 0 after l, at)
   ]
 
   pub beyond_reported : (last i : ℕ) (findings : List Finding) → i < length listing.past.now → listing.mark ≤ get_or listing.past.now i 0 → last < get_or listing.past.now i 0
@@ -214,14 +214,9 @@ module _ (listing : Listing) (settled : IsSettled listing) where
   -- every finding is on a page below
   all_below : (last i : ℕ) → length listing.past.now ≤ i → ((k : ℕ) → k < i → get_or listing.past.now k 0 < max listing.mark (suc last))
       → (x : Finding) → IsAccountFinding listing.mark (is_in_use listing) (listed_times listing) x → x.page < max listing.mark (suc last)
-  all_below last i h done x is = elim (on_own_page listing.mark (is_in_use listing) (listed_times listing) x is) [
-    | twice e two r ↦ (let under = r.1 in omega (arith, under))
-    | reached e one used r ↦ (let under = r.1 in omega (arith, under))
-    | lost gone ↦ (let under = gone.free.below in omega (arith, under))
-    | range e one out ↦ elim (cases_lt x.page listing.mark) [
-      | inl under ↦ omega (arith, under)
-      | inr above ↦ (let (k, (l, at)) = beyond_place x.page above one in let d = done k (omega arith) in omega (arith, d, at))
-    ]
+  all_below last i h done x is = elim (cases_lt x.page listing.mark) [
+    | inl under ↦ omega arith
+    | inr above ↦ let (k, (l, at)) = beyond_place x is above in omega (arith, done k (omega arith), at)
   ]
 
   pub beyond_end : (last i : ℕ) (findings : List Finding) → length listing.past.now ≤ i → IsBeyondTo listing last i findings → AreAllFindings listing.mark (is_in_use listing) (listed_times listing) findings

@@ -61,12 +61,11 @@ module _ (file : List ℕ) (meta : Meta) where
 
   past_role : (n : ℕ) (r : Role) → 0 < meta.page_size → HasSoundTrees file meta → HasRole file meta n r → length file ≤ n * meta.page_size → r ≡ role.Free
   past_role n role.Meta positive trees is past = absurd (past_metas n positive trees is past)
-  past_role n role.Branch positive trees is past = absurd (let same = is.number in past_node is.spot.number n is.node positive is.page (omega (arith, same)) past)
-  past_role n role.Leaf positive trees is past = absurd (let same = is.number in past_node is.spot.number n is.node positive is.page (omega (arith, same)) past)
   past_role n role.Freelist positive trees is past = absurd (past_freelist n positive is.0 past)
   past_role n role.Inside positive trees (inl is) past = absurd (past_node is.spot.number n is.node positive is.page is.within.1 past)
   past_role n role.Inside positive trees (inr is) past = absurd (past_freelist n positive is.0 past)
   past_role n role.Free positive trees is past = refl
+  past_role n r positive trees is past = absurd (past_node is.spot.number n is.node positive is.page (omega (arith, is.number)) past)
 
   -- a page that begins at the file's end or past it is free
   pub past_is_free : IsSound file meta true → (n : ℕ) (r : Role) → HasRole file meta n r → length file ≤ n * meta.page_size → r ≡ role.Free

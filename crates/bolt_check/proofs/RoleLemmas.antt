@@ -18,7 +18,7 @@ use Rattle.bolt_check.specs.Ways.{At_inline, At_page, Reach, Spot, reached}
 use Rattle.bolt_check.specs.declared.role.Role.TheVariants as role
 use Rattle.bolt_check.specs.declared.table.PageUse.{PageUse}
 use Rattle.bolt_check.specs.declared.table.PageUse.TheVariants.{Branch, Leaf, Used, UsedFree, UsedFreeTwice}
-use Rattle.bolt_check.proofs.UseLemmas.{use_spot}
+use Rattle.bolt_check.proofs.Judging.{use_spot}
 
 module _ (file : List ℕ) (meta : Meta) (table : List PageUse) (are : AreUses file meta table) where
   abbrev nodes : Nodes

@@ -1,5 +1,6 @@
 -- From the search and the test of the accounts to the whole file.
-use Rattle.std.proofs.Common.{◌≡◌, ◌∙◌, ap, subst, ℕ, ◌↔◌, ◌∷◌, ◌==◌, ◌≢◌, List, [], false, true, length, refl}
+use Rattle.std.proofs.Common.{◌≡◌, ◌∙◌, ap, ℕ, ◌↔◌, ◌==◌, ◌≢◌, List, [], false, true, length, sym}
+use Rattle.std.proofs.lemmas.Bool.{eq-eqb, false≢true}
 use Rattle.bolt_format.specs.Metas.{IsChosen}
 use Rattle.bolt_format.specs.declared.meta.Meta.{Meta}
 use Rattle.bolt_format.specs.declared.meta.Slot.{Slot}
@@ -40,12 +41,5 @@ tested_of file slot meta table chosen clean same accounts =
     let sound = sound_of file slot meta table chosen clean same accounts in
     record { trees = sound.trees; whole = λ _. sound }
 
-pub no_items : (reported : List Finding) → length reported ≡ 0 → reported ≡ []
-no_items [] e = refl
-no_items (x ∷ reported) e = absurd (cc)
-
-yes_not : (n : ℕ) → n ≡ 0 → (n == 0) ≡ false → ⊥
-yes_not n e not = let h : (0 == 0) ≡ false = subst (λ (m : ℕ). (m == 0) ≡ false) e not in cc
-
 pub some_items : (reported : List Finding) (n : ℕ) → n ≡ length reported → (n == 0) ≡ false → reported ≢ []
-some_items reported n long not e = let zero : length reported ≡ 0 = ap length e in let none : n ≡ 0 = long ∙ zero in yes_not n none not
+some_items reported n long not e = false≢true (sym not ∙ eq-eqb n 0 (long ∙ ap length e))

@@ -7,8 +7,7 @@ use Rattle.bolt_check.specs.Private.Carries.{Carries, Takes}
 use Rattle.bolt_check.specs.Private.Uses.{HasUse, UseOf}
 use Rattle.bolt_check.specs.declared.table.PageUse.{PageUse}
 use Rattle.bolt_check.proofs.WayOrder.{before_irreflexive, before_strict, before_total}
-use Rattle.bolt_check.proofs.Judging.{tests_same, passes_fewer, passes_silent, span_spot, span_at}
-use Rattle.bolt_check.proofs.UseLemmas.{use_back, use_spot}
+use Rattle.bolt_check.proofs.Judging.{tests_same, passes_fewer, passes_silent, span_spot, span_at, use_back, use_spot}
 
 -- the ways of `old` are `first`, if o is a spot, and after it and in the same order those of `new`
 pub record Visits (old new : Reach) (o : Option Spot) (first : List ℕ) (f : List ℕ → List ℕ) : Type 0 where

@@ -36,6 +36,7 @@ impl<'a> TreePage<'a> {
     }
 
     /// The key of element `i`.
+    #[tactic(auto, using(crate::proofs::NodeLemmas::entry_rules, crate::proofs::WayFacts::key_at))]
     pub fn key(&self, i: u16) -> &'a [u8]
         requires { i < length (shown_node self.now).entries }
         ensures { slice_get (keys_of (shown_node self.now).entries) i ≡ Some result.now }

@@ -8,10 +8,10 @@ use Rattle.bolt_check.specs.Private.Listings.{AreAllFindings, ClaimsFreelist, Cl
 use Rattle.bolt_check.specs.Private.Tables.{IsClaimed, is_used, use_at}
 use Rattle.bolt_format.specs.declared.meta.Meta.{Meta}
 use Rattle.bolt_check.specs.declared.table.PageUse.{PageUse}
-use Rattle.bolt_check.proofs.UsesClaimed.{uses_listed, uses_unwritten}
+use Rattle.bolt_check.proofs.UsesClaimed.{uses_listed}
 use Rattle.bolt_check.specs.AccountFindings.{AreAccountFindings}
 use Rattle.bolt_check.specs.declared.finding.Finding.{Finding}
-use Rattle.bolt_check.proofs.AccountLemmas.{accounts_right, accounts_reported, accounts_wrong, claims_reported, reported_fault, reported_shared, unwritten}
+use Rattle.bolt_check.proofs.AccountLemmas.{accounts_right, accounts_reported, accounts_wrong, claims_reported, reported_fault, reported_shared}
 use Rattle.bolt_check.proofs.accounts.test_accounts.Goals as goal
 
 pub returns-in-Err-clause-reported : goal.returns-in-Err-clause-reported
@@ -28,11 +28,6 @@ returns-in-Some-clause-reported c =
     let shared = c.in-Some.ensures.shared in
     IfOk-weaker c.alone-in-Some.result (λ reported. reported.items ≡ c.of_page.result ∷ []) (λ reported. reported.items ≢ [] → AreAccountFindings file meta (IsClaimed c.args.table.now) reported.items)
     (λ reported e some. rw (e, c.of_page.ensures) (reported_shared file meta (IsClaimed c.args.table.now) c.in-Some.page shared.0 shared.1 shared.2)) c.alone-in-Some.ensures
-
-pub returns-in-Ok-None-clause-uses : goal.returns-in-Ok-None-clause-uses
-returns-in-Ok-None-clause-uses c =
-    λ none. uses_unwritten c.args.file.now c.args.meta.now c.args.table.now
-    (unwritten c.args.file.now c.args.meta.now (sym (rw c.in-Ok-None.field-0-is at c.in-Ok-None.ensures.ids)))
 
 -- what is reported of the ids is reported of the accounts
 accounts_of : (file : List ℕ) (meta : Meta) (old mid new : List PageUse) (ids : List ℕ) (r : Result (Vec Finding Global) AllocError)
