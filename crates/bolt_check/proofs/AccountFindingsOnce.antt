@@ -5,6 +5,7 @@ use Rattle.bolt_format.specs.Freelists.{free_ids_of}
 use Rattle.bolt_format.specs.declared.meta.Meta.{Meta}
 use Rattle.bolt_check.specs.AccountFindings.{AreAccountFindings, IsBefore, IsFreelistFinding}
 use Rattle.bolt_check.specs.declared.finding.Finding.{Finding}
+use Rattle.bolt_check.specs.Sound.{IsUsed}
 use Rattle.bolt_check.specs.Subtrees.{Has}
 use Rattle.bolt_check.proofs.AccountLemmas.{unwritten}
 use Rattle.bolt_check.proofs.Rising.{RisesBy, same_lists}
@@ -55,12 +56,12 @@ by_ids file meta used xs ys (Some ids) are a b none =
     (λ z h. from_contains xs z ((a.exact none ids are z).1 ((b.exact none ids are z).0 (to_contains ys z h))))
 
 -- a list of more or less than one finding has none on the freelist's page, and two lists of one finding on it are the same
-pub account_findings_once : (file : List ℕ) (meta : Meta) (used : ℕ → Type 0) (xs ys : List Finding) → AreAccountFindings file meta used xs → AreAccountFindings file meta used ys → xs ≡ ys
-account_findings_once file meta used [] ys a b = by_ids file meta used [] ys (free_ids_of file meta) refl a b (λ z bad. let e = a.of_page z bad in cc)
-account_findings_once file meta used (x ∷ w ∷ xs) ys a b = by_ids file meta used (x ∷ w ∷ xs) ys (free_ids_of file meta) refl a b (λ z bad. let e = a.of_page z bad in cc)
-account_findings_once file meta used (x ∷ []) [] a b = by_ids file meta used (x ∷ []) [] (free_ids_of file meta) refl a b (λ z bad. let e = b.of_page z bad in cc)
-account_findings_once file meta used (x ∷ []) (y ∷ w ∷ ys) a b = by_ids file meta used (x ∷ []) (y ∷ w ∷ ys) (free_ids_of file meta) refl a b (λ z bad. let e = b.of_page z bad in cc)
-account_findings_once file meta used (x ∷ []) (y ∷ []) a b = elim (finding_differs x y) [
+pub account_findings_once : (file : List ℕ) (meta : Meta) (xs ys : List Finding) → AreAccountFindings file meta (IsUsed file meta) xs → AreAccountFindings file meta (IsUsed file meta) ys → xs ≡ ys
+account_findings_once file meta [] ys a b = by_ids file meta (IsUsed file meta) [] ys (free_ids_of file meta) refl a b (λ z bad. let e = a.of_page z bad in cc)
+account_findings_once file meta (x ∷ w ∷ xs) ys a b = by_ids file meta (IsUsed file meta) (x ∷ w ∷ xs) ys (free_ids_of file meta) refl a b (λ z bad. let e = a.of_page z bad in cc)
+account_findings_once file meta (x ∷ []) [] a b = by_ids file meta (IsUsed file meta) (x ∷ []) [] (free_ids_of file meta) refl a b (λ z bad. let e = b.of_page z bad in cc)
+account_findings_once file meta (x ∷ []) (y ∷ w ∷ ys) a b = by_ids file meta (IsUsed file meta) (x ∷ []) (y ∷ w ∷ ys) (free_ids_of file meta) refl a b (λ z bad. let e = b.of_page z bad in cc)
+account_findings_once file meta (x ∷ []) (y ∷ []) a b = elim (finding_differs x y) [
   | inl same ↦ ap (λ (z : Finding). z ∷ []) same
-  | inr other ↦ by_ids file meta used (x ∷ []) (y ∷ []) (free_ids_of file meta) refl a b (λ z bad. other (let e = a.of_page z bad in let f = b.of_page z bad in cc))
+  | inr other ↦ by_ids file meta (IsUsed file meta) (x ∷ []) (y ∷ []) (free_ids_of file meta) refl a b (λ z bad. other (let e = a.of_page z bad in let f = b.of_page z bad in cc))
 ]

@@ -4,11 +4,13 @@ use Rattle.std.proofs.lemmas.Bool.Decides.{nat_tests}
 use Rattle.std.proofs.lemmas.Option.{cond_some, same_Some}
 use Rattle.bolt_check.specs.Ways.{PageSpot}
 use Rattle.bolt_check.specs.declared.finding.Finding.{Finding}
-use Rattle.bolt_check.specs.Nodes.{Nodes, Node, Entry}
+use Rattle.bolt_check.specs.Nodes.{Nodes, Node, Entry, node_at}
 use Rattle.bolt_check.specs.Ways.{Spot, At_page, At_inline, SpanHas, step, step_at, step_entry, bucket_spot, child_spot, upper_from, follow, reached, root_spot}
 use Rattle.bolt_check.specs.Findings.{keys_of, early_finding, node_finding, Passes, IsClaimedBefore, IsClean, IsFirst, IsMetaPage}
 use Rattle.bolt_check.specs.Keys.{Key, is_below, is_from, keys_order_fault, key_lt}
+use Rattle.bolt_format.specs.declared.meta.Meta.{Meta}
 use Rattle.bolt_check.specs.Shape.{leads, HasShape}
+use Rattle.bolt_check.specs.Sound.{HasSoundTrees, IsFirstFinding}
 use Rattle.bolt_check.proofs.WayOrder.{before_irreflexive}
 use Rattle.bolt_check.proofs.Forest.{follow_some, nothing_is}
 use Rattle.bolt_check.proofs.Judging.{passes_silent}
@@ -103,6 +105,7 @@ module _ (nodes : Nodes) (root : ℕ) (shape : HasShape nodes root) where
 pub shape_passes : (nodes : Nodes) (root : ℕ) → HasShape nodes root → IsClean nodes (reached nodes root) IsMetaPage
 shape_passes nodes root shape = record { passes = passes nodes root shape }
 
-pub sound_reports_nothing : (nodes : Nodes) (root : ℕ) (x : Finding) → HasShape nodes root → IsFirst nodes (reached nodes root) IsMetaPage x → ⊥
-sound_reports_nothing nodes root x shape h =
-    passes_silent nodes (IsClaimedBefore nodes (reached nodes root) IsMetaPage h.way) h.spot x (passes nodes root shape h.way h.spot h.leads) h.reported
+pub sound_reports_nothing : (file : List ℕ) (meta : Meta) (x : Finding) → HasSoundTrees file meta → IsFirstFinding file meta x → ⊥
+sound_reports_nothing file meta x shape h =
+    let nodes = node_at file meta in
+    passes_silent nodes (IsClaimedBefore nodes (reached nodes meta.root) IsMetaPage h.way) h.spot x (passes nodes meta.root shape h.way h.spot h.leads) h.reported

@@ -4,9 +4,11 @@ use Rattle.std.proofs.lemmas.Bool.{cases_order}
 use Rattle.bolt_check.specs.Ways.{PageSpot}
 use Rattle.bolt_check.specs.declared.finding.TheConstants.Finding.{TWICE}
 use Rattle.bolt_check.specs.declared.finding.Finding.{Finding}
-use Rattle.bolt_check.specs.Nodes.{Nodes, Node}
-use Rattle.bolt_check.specs.Ways.{Spot, At_page, At_inline, Reach}
-use Rattle.bolt_check.specs.Findings.{finding, node_finding, inline_finding, Tests, PageTests, early, twice, late, IsLowestClaimed, IsClaimedBefore, IsFirst}
+use Rattle.bolt_format.specs.declared.meta.Meta.{Meta}
+use Rattle.bolt_check.specs.Nodes.{Nodes, Node, node_at}
+use Rattle.bolt_check.specs.Sound.{IsFirstFinding}
+use Rattle.bolt_check.specs.Ways.{Spot, At_page, At_inline, Reach, reached}
+use Rattle.bolt_check.specs.Findings.{finding, node_finding, inline_finding, Tests, PageTests, early, twice, late, IsLowestClaimed, IsClaimedBefore, IsMetaPage}
 use Rattle.bolt_check.proofs.WayOrder.{before_total}
 use Rattle.bolt_format.proofs.ListLemmas.{one_some}
 
@@ -46,10 +48,10 @@ at_one nodes reach start v w s t x y e f g h k =
     let h2 : Tests nodes (IsClaimedBefore nodes reach start w) s x = rw e at h in
     tests_one nodes (IsClaimedBefore nodes reach start w) t x y (rw same at h2) k
 
-pub first_one : (nodes : Nodes) (reach : Reach) (start : ℕ → Type 0) (x y : Finding) → IsFirst nodes reach start x → IsFirst nodes reach start y → x ≡ y
-first_one nodes reach start x y h k =
+pub first_one : (file : List ℕ) (meta : Meta) (x y : Finding) → IsFirstFinding file meta x → IsFirstFinding file meta y → x ≡ y
+first_one file meta x y h k =
     elim (before_total h.way k.way) [
-      | inl e ↦ at_one nodes reach start h.way k.way h.spot k.spot x y e h.leads k.leads h.reported k.reported
+      | inl e ↦ at_one (node_at file meta) (reached (node_at file meta) meta.root) IsMetaPage h.way k.way h.spot k.spot x y e h.leads k.leads h.reported k.reported
       | inr d ↦ elim d [
         | inl lt ↦ absurd (k.none_before h.way h.spot x lt h.leads h.reported)
         | inr gt ↦ absurd (h.none_before k.way k.spot y gt k.leads k.reported)

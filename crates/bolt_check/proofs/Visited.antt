@@ -1,5 +1,5 @@
 -- The steps of the search, and its beginning and end.
-use Rattle.std.proofs.Common.{◌≡◌, ℕ, ◌-◌, ◌↔◌, inl, List, [], ◌∷◌, ◌++◌, None, Result, Ok, Err, length, take, sym, subst}
+use Rattle.std.proofs.Common.{◌≡◌, ℕ, ◌-◌, ◌↔◌, inl, List, [], ◌∷◌, ◌++◌, None, Result, Ok, Err, Vec, Global, length, take, drop, sym, ap, subst, arith}
 use Rattle.std.specs.Prelude.{IfErr, IsErrAnd}
 use Rattle.std.proofs.lemmas.List.{take_at}
 use Rattle.bolt_check.specs.Findings.{IsClean, IsCovered, IsFirst, IsMetaPage, PagePasses, inline_finding}
@@ -57,8 +57,9 @@ none_left items rest n z r e =
 pub spots_pop : (items rest : List CodeSpot) (s : CodeSpot) → items ≡ rest ++ s ∷ [] → spots_of items ≡ spot_at s ∷ spots_of rest
 spots_pop items rest s e = rw e (spots_push rest s)
 
-pub written : (n : ℕ) (new old : List PageUse) → length new ≡ n → take n (new ++ old) ≡ new
-written n new old e = take_at new old n e
+-- the table, after it was lent as a slice
+pub stored : (table : Vec PageUse Global) (lent new : List PageUse) → lent ≡ table.items → length new ≡ length lent → take table.len (new ++ drop (length new) table.items) ≡ new
+stored table lent new was long = take_at new (drop (length new) table.items) table.len (omega (arith, long, ap length was, table.ok.0))
 
 -- a fault reported of what is left is reported of the whole
 pub reported_back : (nodes : Nodes) (old new : Reach) (c d : ℕ → Type 0) (fault : CheckFault) → ((x : Finding) → IsFirst nodes new d x → IsFirst nodes old c x)

@@ -7,7 +7,7 @@ use Rattle.bolt_check.specs.ShownSpots.{spot_at}
 use Rattle.bolt_check.specs.Private.SearchFaults.{IsSearchFault}
 use Rattle.bolt_check.specs.Private.Tables.{IsClaimed}
 use Rattle.bolt_check.specs.Ways.{reached}
-use Rattle.bolt_check.proofs.Visited.{begin_carries, ended, none_left, passed_on, reported_back, spots_pop, written}
+use Rattle.bolt_check.proofs.Visited.{begin_carries, ended, none_left, passed_on, reported_back, spots_pop, stored}
 use Rattle.bolt_check.proofs.Visiting.{carries_on}
 use Rattle.bolt_check.proofs.search.search.Goals as goal
 
@@ -24,13 +24,11 @@ pub loop-spot-preserved : goal.loop-spot-preserved
 loop-spot-preserved c =
     let popped = spots_pop c.loop-spot.pending.items c.pop.new.self.items c.in-Some.spot c.in-Some.ensures.items in
     let was = c.deref_mut.ensures.value in
-    let now : length c.deref_mut.result.now ≡ length c.loop-spot.table.items = ap length was in
-    let len : length c.step.new.table ≡ c.loop-spot.table.len = grind (arith, common_steps, now, c.step.auto.table) in
-    rw (written c.loop-spot.table.len c.step.new.table (drop (length c.step.new.table) c.loop-spot.table.items) len)
+    rw (stored c.loop-spot.table c.deref_mut.result.now c.step.new.table was c.step.auto.table)
     (record {
       room = c.in_ok-step.ensures.room;
       unlisted = let next = rw was at c.in_ok-step.ensures.unlisted in next c.loop-spot.invariant.unlisted;
-      long = c.in_ok-step.ensures.length ∙ now ∙ c.loop-spot.invariant.long;
+      long = c.in_ok-step.ensures.length ∙ ap length was ∙ c.loop-spot.invariant.long;
       carried = carries_on (node_at c.args.file.now c.args.meta.now) (rw popped at c.loop-spot.invariant.carried) (rw was at c.in_ok-step.ensures.carried);
     })
 
