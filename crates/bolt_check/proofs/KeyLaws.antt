@@ -11,8 +11,7 @@ use Rattle.bolt_check.specs.Keys.{Key, key_lt, is_above, is_from, is_below}
 
 pub less_of : (o : Ordering) → is_lt o ≡ true → o ≡ Less
 less_of Less e = refl
-less_of Equal e = absurd (cc)
-less_of Greater e = absurd (cc)
+less_of o e = absurd (cc)
 
 pub not_true : (b : Bool) → not b ≡ true → b ≡ false
 not_true = not-true

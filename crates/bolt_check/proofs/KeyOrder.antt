@@ -9,9 +9,7 @@ use Rattle.bolt_check.proofs.KeyLaws.{above_more}
 three_none : (x y z : ℕ) (a b c : Bool) → (if not a then Some x else (if not b then Some y else (if not c then Some z else None))) ≡ None
     → (a ≡ true) × (b ≡ true) × (c ≡ true)
 three_none x y z true true true e = (refl, refl, refl)
-three_none x y z true true false e = absurd (none-some z (sym e))
-three_none x y z true false c e = absurd (none-some y (sym e))
-three_none x y z false b c e = absurd (none-some x (sym e))
+three_none x y z a b c e = absurd (none-some _ (sym e))
 
 pub key_each : (before lower upper : Option Key) (keys : List Key) → keys_order_fault before lower upper keys ≡ None → (j : ℕ) (q : Key) → slice_get keys j ≡ Some q
     → (is_above before q ≡ true) × (is_from lower q ≡ true) × (is_below upper q ≡ true)

@@ -1,5 +1,6 @@
 -- If the shape holds, the tests find nothing.
 use Rattle.std.proofs.Common.{◌≡◌, ◌≢◌, ℕ, suc, ◌≤◌, inl, inr, Bool, true, false, not, ◌&&◌, ◌==◌, if◌then◌else◌, nat_lt, List, [], ◌∷◌, ◌++◌, length, Option, Some, None, Result, Ok, Err, slice_get, ap, refl, subst, arith}
+use Rattle.std.proofs.lemmas.Bool.{ne_eqb}
 use Rattle.std.proofs.lemmas.Bool.Decides.{nat_tests}
 use Rattle.std.proofs.lemmas.Option.{cond_some, same_Some}
 use Rattle.bolt_check.specs.Ways.{PageSpot}
@@ -66,13 +67,10 @@ module _ (nodes : Nodes) (root : ℕ) (shape : HasShape nodes root) where
   all_bounded : (way : List ℕ) (t : Spot) → reached nodes root way ≡ Some t → Bounded nodes t
   all_bounded way t e = way_bounded way [] (At_page (root_spot root)) refl (λ address below j key under l u g. (refl, refl)) t e
 
-suc_not_zero : (n : ℕ) → (suc n == 0) ≡ false
-suc_not_zero n = grind (arith, nat_tests)
-
 not_empty : (leaf : Bool) (entries : List Entry) → (leaf ≡ false → entries ≢ []) → (not leaf && (length entries == 0)) ≡ false
 not_empty true entries h = refl
 not_empty false [] h = absurd (h refl refl)
-not_empty false (p ∷ entries) h = suc_not_zero (length entries)
+not_empty false (p ∷ entries) h = ne_eqb (suc (length entries)) 0 (λ e. omega (arith, e))
 
 content_none : (node : Node) (s : PageSpot) → (node.is_leaf ≡ false → node.entries ≢ []) → keys_order_fault None s.lower s.upper (keys_of node.entries) ≡ None → node_finding node s ≡ None
 content_none node s filled keys = rw (not_empty node.is_leaf node.entries filled, keys) refl

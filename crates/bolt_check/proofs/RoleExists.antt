@@ -40,9 +40,8 @@ module _ (file : List ℕ) (meta : Meta) (n : ℕ) where
   in_node (Ok node) number = within number (number + node.overflow)
 
   at_spot : (o : Option Spot) → Either (SpanHas nodes o n)
-  at_spot None = inr (λ h. h)
   at_spot (Some (At_page s)) = in_node (nodes s.number) s.number
-  at_spot (Some (At_inline host keys)) = inr (λ h. h)
+  at_spot o = inr (λ h. h)
 
   pick : (ways : Ways) → ((way : List ℕ) × SpanHas nodes (reach way) n) ⊎ ((way : List ℕ) → Has way ways → SpanHas nodes (reach way) n → ⊥)
   pick [] = inr (λ way i h. i)
@@ -93,9 +92,8 @@ module _ (file : List ℕ) (meta : Meta) (n : ℕ) where
   ]
 
   on_way : (way : List ℕ) (o : Option Spot) → reach way ≡ o → SpanHas nodes o n → HasRole file meta n (spot_role n nodes o)
-  on_way way None e h = absurd h
   on_way way (Some (At_page s)) e h = at_node way s (nodes s.number) e refl h
-  on_way way (Some (At_inline host keys)) e h = absurd h
+  on_way way o e h = absurd h
 
   has_role : (p : Used file meta n) → HasRole file meta n (used_role file meta n p)
   has_role (inl (inl low)) = low

@@ -20,9 +20,8 @@ node_role n (Err fault) number = role.Free
 node_role n (Ok node) number = cond (n == number) (first_role node.is_leaf) role.Inside
 
 abbrev pub spot_role : ℕ → Nodes → Option Spot → Role
-spot_role n nodes None = role.Free
 spot_role n nodes (Some (At_page s)) = node_role n (nodes s.number) s.number
-spot_role n nodes (Some (At_inline host keys)) = role.Free
+spot_role n nodes o = role.Free
 
 abbrev pub list_role : ℕ → ℕ → Role
 list_role freelist n = cond (n == freelist) role.Freelist role.Inside

@@ -34,9 +34,8 @@ pages_append (At_inline host keys ∷ a) b = pages_append a b
 
 somes_bucket : (bucket small : Bool) (host : ℕ) (e : Entry) (os : List (Option Spot))
     → pages_of (somes (cond bucket (Some (cond small (At_inline host e.inner) (At_page (root_spot e.child)))) None ∷ os)) ≡ cond bucket (cond small [] (e.child ∷ [])) [] ++ pages_of (somes os)
-somes_bucket false small host e os = refl
 somes_bucket true true host e os = refl
-somes_bucket true false host e os = refl
+somes_bucket bucket small host e os = refl
 
 -- the pages that a page leads to are those of its kids
 pages_of_kids : (is_leaf : Bool) (s : PageSpot) (entries : List Entry) → pages_of (somes (places is_leaf s entries)) ≡ kid_pages is_leaf entries

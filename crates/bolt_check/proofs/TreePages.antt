@@ -36,8 +36,7 @@ by_kind : (file : List ℕ) (meta : Meta) (number : ℕ) (view : PageView) (k : 
     → IsTreePage file meta number
 by_kind file meta number view kind.Branch node at is e = a_branch view at is (node_is file meta number view kind.Branch at is)
 by_kind file meta number view kind.Leaf node at is e = a_leaf view at is (node_is file meta number view kind.Leaf at is)
-by_kind file meta number view kind.Meta node at is e = absurd (cc)
-by_kind file meta number view kind.Freelist node at is e = absurd (cc)
+by_kind file meta number view k node at is e = absurd (cc)
 
 pub tree_page : (file : List ℕ) (meta : Meta) (number : ℕ) (node : Node) → node_at file meta number ≡ Ok node → IsTreePage file meta number
 tree_page file meta number node e =

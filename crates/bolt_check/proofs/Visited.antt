@@ -65,9 +65,7 @@ stored table lent new was long = take_at new (drop (length new) table.items) tab
 pub reported_back : (nodes : Nodes) (old new : Reach) (c d : ℕ → Type 0) (fault : CheckFault) → ((x : Finding) → IsFirst nodes new d x → IsFirst nodes old c x)
     → IsSearchFault nodes new d fault → IsSearchFault nodes old c fault
 reported_back nodes old new c d (Structure x) f h = f x h
-reported_back nodes old new c d Memory f h = tt
-reported_back nodes old new c d (Open fault) f h = h
-reported_back nodes old new c d (Accounts findings) f h = h
+reported_back nodes old new c d fault f h = h
 
 -- and so is one that is passed on as it is
 pub passed_on : {T E : Type 0} (r : Result T E) (fault : E) (P : E → Type 0) → P fault → IsErrAnd r (λ e. e ≡ fault) → IfErr r P

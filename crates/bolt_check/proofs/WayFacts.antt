@@ -34,9 +34,8 @@ leads_none nodes [] = refl
 leads_none nodes (i ∷ address) = leads_none nodes address
 
 is_entry : (leaf : Bool) (o : Option Entry) (c : ℕ) → child_of leaf o ≡ Some c → (e : Entry) × (leaf ≡ false) × (o ≡ Some e) × (e.child ≡ c)
-is_entry true o c h = absurd (none-some c h)
-is_entry false None c h = absurd (none-some c h)
 is_entry false (Some e) c h = (e, refl, refl, cc)
+is_entry leaf o c h = absurd (none-some c h)
 
 -- a child of a branch
 pub is_child : (nodes : Nodes) (s : PageSpot) (i : ℕ) (o : Result Node ℕ) (c : ℕ) → nodes s.number ≡ o → child_in o i ≡ Some c
