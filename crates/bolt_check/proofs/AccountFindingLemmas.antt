@@ -40,7 +40,8 @@ is_one x y e = (0, omega arith, sym e)
 pub one_rises : (y : Finding) → AllPairs IsBefore (y ∷ [])
 one_rises y i j d h l = absurd (omega arith)
 
-pub reported_append : {mark : ℕ} {in_use : ℕ → Type 0} {times : ℕ → ℕ} {from next : ℕ} {findings ys : List Finding} → AreFindingsBelow mark in_use times from findings → from ≤ next
+pub reported_append : {mark : ℕ} {in_use : ℕ → Type 0} {times : ℕ → ℕ} {from next : ℕ} {findings ys : List Finding}
+    → AreFindingsBelow mark in_use times from findings → from ≤ next
     → Reports mark in_use times from next ys → AreFindingsBelow mark in_use times next (findings ++ ys)
 reported_append {mark = mark} {in_use = in_use} {times = times} {from = from} {next = next} {findings = findings} {ys = ys} reported order more = record {
   sound = All-append (IsAccountFinding mark in_use times) findings ys reported.sound more.sound;
@@ -50,7 +51,8 @@ reported_append {mark = mark} {in_use = in_use} {times = times} {from = from} {n
     | inl before ↦ Contains-append_left findings ys x (reported.complete x is before)
     | inr after ↦ Contains-append_right findings ys x (more.complete x is after h)
   ];
-  rises = rises_append findings ys from reported.rises more.rises reported.below (All-weaker (λ x. (from ≤ x.page) × (x.page < next)) (λ x. from ≤ x.page) (λ x h. h.0) ys more.within);
+  rises = rises_append findings ys from reported.rises more.rises reported.below
+      (All-weaker (λ x. (from ≤ x.page) × (x.page < next)) (λ x. from ≤ x.page) (λ x h. h.0) ys more.within);
   silent = λ e n h gone. let both = append_empty findings ys e in elim (cases_lt n from) [
     | inl before ↦ reported.silent both.0 n before gone
     | inr after ↦ more.silent both.1 n after h gone
@@ -104,10 +106,12 @@ module _ (mark : ℕ) (in_use : ℕ → Type 0) (times : ℕ → ℕ) where
       unreachable (omega arith) (λ n low high. run.lost n low (omega arith)) (λ lost. ends (subst (IsLost mark in_use times) next lost)) run.begins
 
 -- the lost pages before a page that is not lost
-pub reports_run : {mark : ℕ} {in_use : ℕ → Type 0} {times : ℕ → ℕ} {from page : ℕ} → from ≤ page → IsRun mark in_use times from page → (IsLost mark in_use times page → ⊥)
+pub reports_run : {mark : ℕ} {in_use : ℕ → Type 0} {times : ℕ → ℕ} {from page : ℕ} → from ≤ page → IsRun mark in_use times from page
+    → (IsLost mark in_use times page → ⊥)
     → Reports mark in_use times from page (run_findings from page)
 reports_run {mark = mark} {in_use = in_use} {times = times} {from = from} {page = page} order run ends = elim (cases_lt from page) [
   | inl some ↦ rw (lt-ltb from page some) (reports_one mark in_use times from page (record { number = UNREACHABLE; page = from; last = page - 1 })
       (run_found mark in_use times from page some run ends) (omega arith) some (run_is mark in_use times from page run ends))
-  | inr none ↦ rw (le-ltb from page none) (reports_none mark in_use times from page (λ n low high. absurd (omega arith)) (λ x is low high. absurd (omega arith)))
+  | inr none ↦ rw (le-ltb from page none)
+      (reports_none mark in_use times from page (λ n low high. absurd (omega arith)) (λ x is low high. absurd (omega arith)))
 ]

@@ -20,7 +20,8 @@ finding_differs x y = elim (cases_eq x.number y.number) [
   | inr other ↦ inr (λ e. other (ap (λ (z : Finding). z.number) e))
   | inl number ↦ elim (cases_eq x.page y.page) [
     | inr other ↦ inr (λ e. other (ap (λ (z : Finding). z.page) e))
-    | inl page ↦ elim (cases_eq x.last y.last) [ inr other ↦ inr (λ e. other (ap (λ (z : Finding). z.last) e)) | inl last ↦ inl (same_finding x y number page last) ]
+    | inl page ↦ elim (cases_eq x.last y.last)
+        [ inr other ↦ inr (λ e. other (ap (λ (z : Finding). z.last) e)) | inl last ↦ inl (same_finding x y number page last) ]
   ]
 ]
 
@@ -56,12 +57,17 @@ by_ids file meta used xs ys (Some ids) are a b none =
     (λ z h. from_contains xs z ((a.exact none ids are z).1 ((b.exact none ids are z).0 (to_contains ys z h))))
 
 -- a list of more or less than one finding has none on the freelist's page, and two lists of one finding on it are the same
-pub account_findings_once : (file : List ℕ) (meta : Meta) (xs ys : List Finding) → AreAccountFindings file meta (IsUsed file meta) xs → AreAccountFindings file meta (IsUsed file meta) ys → xs ≡ ys
+pub account_findings_once : (file : List ℕ) (meta : Meta) (xs ys : List Finding) → AreAccountFindings file meta (IsUsed file meta) xs
+    → AreAccountFindings file meta (IsUsed file meta) ys → xs ≡ ys
 account_findings_once file meta [] ys a b = by_ids file meta (IsUsed file meta) [] ys (free_ids_of file meta) refl a b (λ z bad. let e = a.of_page z bad in cc)
-account_findings_once file meta (x ∷ w ∷ xs) ys a b = by_ids file meta (IsUsed file meta) (x ∷ w ∷ xs) ys (free_ids_of file meta) refl a b (λ z bad. let e = a.of_page z bad in cc)
-account_findings_once file meta (x ∷ []) [] a b = by_ids file meta (IsUsed file meta) (x ∷ []) [] (free_ids_of file meta) refl a b (λ z bad. let e = b.of_page z bad in cc)
-account_findings_once file meta (x ∷ []) (y ∷ w ∷ ys) a b = by_ids file meta (IsUsed file meta) (x ∷ []) (y ∷ w ∷ ys) (free_ids_of file meta) refl a b (λ z bad. let e = b.of_page z bad in cc)
+account_findings_once file meta (x ∷ w ∷ xs) ys a b = by_ids file meta (IsUsed file meta) (x ∷ w ∷ xs) ys (free_ids_of file meta) refl a b
+    (λ z bad. let e = a.of_page z bad in cc)
+account_findings_once file meta (x ∷ []) [] a b = by_ids file meta (IsUsed file meta) (x ∷ []) [] (free_ids_of file meta) refl a b
+    (λ z bad. let e = b.of_page z bad in cc)
+account_findings_once file meta (x ∷ []) (y ∷ w ∷ ys) a b = by_ids file meta (IsUsed file meta) (x ∷ []) (y ∷ w ∷ ys) (free_ids_of file meta) refl a b
+    (λ z bad. let e = b.of_page z bad in cc)
 account_findings_once file meta (x ∷ []) (y ∷ []) a b = elim (finding_differs x y) [
   | inl same ↦ ap (λ (z : Finding). z ∷ []) same
-  | inr other ↦ by_ids file meta (IsUsed file meta) (x ∷ []) (y ∷ []) (free_ids_of file meta) refl a b (λ z bad. other (let e = a.of_page z bad in let f = b.of_page z bad in cc))
+  | inr other ↦ by_ids file meta (IsUsed file meta) (x ∷ []) (y ∷ []) (free_ids_of file meta) refl a b
+      (λ z bad. other (let e = a.of_page z bad in let f = b.of_page z bad in cc))
 ]

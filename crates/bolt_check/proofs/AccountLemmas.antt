@@ -24,7 +24,8 @@ pub alike_back : (in_use also : ℕ → Type 0) (times counts : ℕ → ℕ) →
 alike_back in_use also times counts alike = record { there = alike.back; back = alike.there; counted = λ n. sym (alike.counted n) }
 
 module _ (mark : ℕ) where
-  lost_along : {in_use also : ℕ → Type 0} {times counts : ℕ → ℕ} → IsAlike in_use also times counts → (n : ℕ) → IsLost mark in_use times n → IsLost mark also counts n
+  lost_along : {in_use also : ℕ → Type 0} {times counts : ℕ → ℕ} → IsAlike in_use also times counts → (n : ℕ) → IsLost mark in_use times n
+      → IsLost mark also counts n
   lost_along alike n is = record {
     free = record { above_metas = is.free.above_metas; below = is.free.below; unused = λ u. is.free.unused (alike.back n u) };
     unlisted = omega (arith, alike.counted n, is.unlisted);
@@ -33,7 +34,8 @@ module _ (mark : ℕ) where
   pub finding_along : (in_use also : ℕ → Type 0) (times counts : ℕ → ℕ) → IsAlike in_use also times counts
       → (x : Finding) → IsAccountFinding mark in_use times x → IsAccountFinding mark also counts x
   finding_along in_use also times counts alike x (freed_twice {n = n} range two) = freed_twice range (omega (arith, alike.counted n, two))
-  finding_along in_use also times counts alike x (reached_freed {n = n} range one used) = reached_freed range (omega (arith, alike.counted n, one)) (alike.there n used)
+  finding_along in_use also times counts alike x (reached_freed {n = n} range one used) = reached_freed range (omega (arith, alike.counted n, one))
+      (alike.there n used)
   finding_along in_use also times counts alike x (unreachable {page = page} {last = last} order lost after before) =
       let to = lost_along alike in
       let from = lost_along (alike_back in_use also times counts alike) in
@@ -45,7 +47,11 @@ module _ (mark : ℕ) where
   reported_along in_use also times counts alike findings reported =
       let back = alike_back in_use also times counts alike in
       record {
-        exact = λ x. (λ in_list. finding_along in_use also times counts alike x ((reported.exact x).0 in_list), λ is. (reported.exact x).1 (finding_along also in_use counts times back x is));
+        exact = λ x. (
+          λ in_list. finding_along in_use also times counts alike x ((reported.exact x).0 in_list),
+          λ is. (reported.exact x).1
+              (finding_along also in_use counts times back x is),
+        );
         rises = reported.rises;
         silent = λ e n is. reported.silent e n (lost_along back n is);
       }
@@ -167,4 +173,9 @@ pub claims_reported : (file : List ℕ) (meta : Meta) (old new : List PageUse) (
     → AreAllFindings meta.high_water (IsClaimed new) (times_in ids) findings → AreAllFindings meta.high_water (IsInUse file meta (IsClaimed old)) (times_in ids) findings
 claims_reported file meta old new ids findings claims reported =
     reported_along meta.high_water (IsClaimed new) (IsInUse file meta (IsClaimed old)) (times_in ids) (times_in ids)
-    (record { there = claims.split; back = λ n in_use. elim in_use [ inl was ↦ claims.kept n was | inr is ↦ claims.span n is ]; counted = λ n. refl }) findings reported
+    (record {
+      there = claims.split;
+      back = λ n in_use. elim in_use
+          [ inl was ↦ claims.kept n was | inr is ↦ claims.span n is ];
+      counted = λ n. refl;
+    }) findings reported

@@ -11,8 +11,10 @@ module _ (file : List ℕ) (meta : Meta) where
   in_use_along used also to n (inl is) = inl (to n is)
   in_use_along used also to n (inr is) = inr is
 
-  free_along : (used also : ℕ → Type 0) → ((n : ℕ) → also n → used n) → (n : ℕ) → IsFree meta.high_water (IsInUse file meta used) n → IsFree meta.high_water (IsInUse file meta also) n
-  free_along used also back n free = record { above_metas = free.above_metas; below = free.below; unused = λ is. free.unused (in_use_along also used back n is) }
+  free_along : (used also : ℕ → Type 0) → ((n : ℕ) → also n → used n) → (n : ℕ) → IsFree meta.high_water (IsInUse file meta used) n
+      → IsFree meta.high_water (IsInUse file meta also) n
+  free_along used also back n free = record
+      { above_metas = free.above_metas; below = free.below; unused = λ is. free.unused (in_use_along also used back n is) }
 
   pub has_accounts_along : (used also : ℕ → Type 0) → ((n : ℕ) → used n ↔ also n) → HasAccounts file meta used → HasAccounts file meta also
   has_accounts_along used also same has = record {
@@ -25,11 +27,13 @@ module _ (file : List ℕ) (meta : Meta) where
     };
   }
 
-  page_finding_along : (used also : ℕ → Type 0) → ((n : ℕ) → used n ↔ also n) → (x : Finding) → IsFreelistFinding file meta used x → IsFreelistFinding file meta also x
+  page_finding_along : (used also : ℕ → Type 0) → ((n : ℕ) → used n ↔ also n) → (x : Finding) → IsFreelistFinding file meta used x
+      → IsFreelistFinding file meta also x
   page_finding_along used also same x (bad e) = bad e
   page_finding_along used also same x (shared {n = n} is at lowest) = shared is ((same n).0 at) (λ k in_span is. lowest k in_span ((same k).1 is))
 
-  pub account_findings_along : (used also : ℕ → Type 0) → ((n : ℕ) → used n ↔ also n) → (findings : List Finding) → AreAccountFindings file meta used findings → AreAccountFindings file meta also findings
+  pub account_findings_along : (used also : ℕ → Type 0) → ((n : ℕ) → used n ↔ also n) → (findings : List Finding)
+      → AreAccountFindings file meta used findings → AreAccountFindings file meta also findings
   account_findings_along used also same findings reported =
       let there = page_finding_along used also same in
       let back = page_finding_along also used (λ n. ((same n).1, (same n).0)) in

@@ -108,7 +108,8 @@ abbrev pub lift : List (Option Spot) → List ℕ → List ℕ
 lift os [] = []
 lift os (k ∷ v) = way_of (where_is os k) v
 
-lift_rising : (nodes : Nodes) (rest : List Spot) (os : List (Option Spot)) (b e : List ℕ) (t : Spot) → forest nodes (somes os ++ rest) b ≡ Some t → Before b e → Before (lift os b) (lift os e)
+lift_rising : (nodes : Nodes) (rest : List Spot) (os : List (Option Spot)) (b e : List ℕ) (t : Spot) → forest nodes (somes os ++ rest) b ≡ Some t
+    → Before b e → Before (lift os b) (lift os e)
 lift_rising nodes rest os b [] t at h = absurd h
 lift_rising nodes rest os [] (l ∷ w) t at h = absurd (nothing_is t at)
 lift_rising nodes rest os (k ∷ v) (l ∷ w) t at (inl h) = way_rising (where_is os k) (where_is os l) v w (where_rising os k l h)
@@ -144,7 +145,8 @@ all_at nodes rest os x v t e =
     (p.0 ∷ v, (ap f (sym p.1), sym (reach_kid nodes rest os p.0 v) ∙ (ap g p.1 ∙ e)))
 
 lift_all : (nodes : Nodes) (s : Spot) (rest : List Spot) (os : List (Option Spot)) → ((j : ℕ) → flat (slice_get os j) ≡ step nodes (Some s) j)
-    → (a : List ℕ) (t : Spot) → forest nodes (s ∷ rest) a ≡ Some t → ((a ≡ 0 ∷ []) × (Some s ≡ Some t)) ⊎ ((b : List ℕ) × ((a ≡ lift os b) × (forest nodes (somes os ++ rest) b ≡ Some t)))
+    → (a : List ℕ) (t : Spot) → forest nodes (s ∷ rest) a ≡ Some t
+    → ((a ≡ 0 ∷ []) × (Some s ≡ Some t)) ⊎ ((b : List ℕ) × ((a ≡ lift os b) × (forest nodes (somes os ++ rest) b ≡ Some t)))
 lift_all nodes s rest os fits [] t e = absurd (nothing_is t e)
 lift_all nodes s rest os fits (zero ∷ []) t e = inl (refl, e)
 lift_all nodes s rest os fits (zero ∷ (j ∷ v)) t e = inr (all_at nodes rest os (inl j) v t (sym (reach_way nodes s rest os fits (inl j) v) ∙ e))
@@ -173,7 +175,8 @@ visits nodes s rest os fits = record {
 
 -- a page's visit
 pub page_visits : (nodes : Nodes) (s : PageSpot) (node : Node) (rest : List Spot) → nodes s.number ≡ Ok node
-    → Visits (forest nodes (At_page s ∷ rest)) (forest nodes (somes (places node.is_leaf s node.entries) ++ rest)) (Some (At_page s)) (0 ∷ []) (lift (places node.is_leaf s node.entries))
+    → Visits (forest nodes (At_page s ∷ rest)) (forest nodes (somes (places node.is_leaf s node.entries) ++ rest)) (Some (At_page s)) (0 ∷ [])
+    (lift (places node.is_leaf s node.entries))
 page_visits nodes s node rest e = visits nodes (At_page s) rest (places node.is_leaf s node.entries) (kids_step nodes s node e)
 
 -- an inline bucket's visit
@@ -230,7 +233,8 @@ pub root_visits : (nodes : Nodes) (s : Spot) → Visits (follow nodes (Some s)) 
 root_visits nodes s = record {
   leads = λ t e. absurd (nothing_is t e);
   same = λ b t e. subst (λ (z : List ℕ). forest nodes (s ∷ []) z ≡ Some t) (root_way nodes s b t e) e;
-  rising = λ a b t u at_a at_b lt. tail_before (tail a) (tail b) (subst (λ (z : List ℕ). Before z (0 ∷ tail b)) (root_way nodes s a t at_a) (subst (λ (z : List ℕ). Before a z) (root_way nodes s b u at_b) lt));
+  rising = λ a b t u at_a at_b lt. tail_before (tail a) (tail b)
+      (subst (λ (z : List ℕ). Before z (0 ∷ tail b)) (root_way nodes s a t at_a) (subst (λ (z : List ℕ). Before a z) (root_way nodes s b u at_b) lt));
   after = λ t e. absurd (nothing_is t e);
   all = λ a t e. inr (0 ∷ a, (refl, e));
 }

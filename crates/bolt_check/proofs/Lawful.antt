@@ -45,18 +45,21 @@ module _ (nodes : Nodes) (root : ℕ) (shape : HasShape nodes root) where
     entry_bounded : (node : Node) → nodes s.number ≡ Ok node → (leaf : Bool) → node.is_leaf ≡ leaf → (o : Option Entry) → slice_get node.entries i ≡ o
         → (t : Spot) → step_entry leaf s o (slice_get node.entries (suc i)) ≡ Some t → Bounded nodes t
     entry_bounded node h leaf l None g t e = absurd (nothing_is t e)
-    entry_bounded node h true l (Some p) g t e = subst (Bounded nodes) (cond_some p.is_bucket (bucket_spot s.number p) t e).1 (bucket_bounded nodes s.number p (p.child == 0))
+    entry_bounded node h true l (Some p) g t e = subst (Bounded nodes) (cond_some p.is_bucket (bucket_spot s.number p) t e).1
+        (bucket_bounded nodes s.number p (p.child == 0))
     entry_bounded node h false l (Some p) g t e = subst (Bounded nodes) (same_Some _ t e) (child_bounded node p h l g)
 
     node_bounded : (o : Result Node ℕ) → nodes s.number ≡ o → (t : Spot) → step_at o s i ≡ Some t → Bounded nodes t
     node_bounded (Err f) h t e = absurd (nothing_is t e)
     node_bounded (Ok node) h t e = entry_bounded node h node.is_leaf refl (slice_get node.entries i) refl t e
 
-  spot_bounded : (way : List ℕ) (s : Spot) → reached nodes root way ≡ Some s → Bounded nodes s → (i : ℕ) (t : Spot) → step nodes (Some s) i ≡ Some t → Bounded nodes t
+  spot_bounded : (way : List ℕ) (s : Spot) → reached nodes root way ≡ Some s → Bounded nodes s → (i : ℕ) (t : Spot) → step nodes (Some s) i ≡ Some t
+      → Bounded nodes t
   spot_bounded way (At_page s) e bound i t st = node_bounded way s e bound i (nodes s.number) refl t st
   spot_bounded way (At_inline host keys) e bound i t st = absurd (nothing_is t st)
 
-  way_bounded : (w way : List ℕ) (s : Spot) → reached nodes root way ≡ Some s → Bounded nodes s → (t : Spot) → follow nodes (Some s) w ≡ Some t → Bounded nodes t
+  way_bounded : (w way : List ℕ) (s : Spot) → reached nodes root way ≡ Some s → Bounded nodes s → (t : Spot) → follow nodes (Some s) w ≡ Some t
+      → Bounded nodes t
   way_bounded [] way s e bound t f = let same : s ≡ t = cc in rw (← same) bound
   way_bounded (i ∷ w) way s e bound t f =
       let u = follow_some nodes (step nodes (Some s) i) w t f in
@@ -97,7 +100,8 @@ module _ (nodes : Nodes) (root : ℕ) (shape : HasShape nodes root) where
         free = λ n i. claimed_none way n (rw e (rw page i));
         content = content_none node s (shape.filled way s node e page) keys;
       }
-  passes way (At_inline host keys) e = let k = key_passes None None None keys (shape.rising_inline way host keys e) (λ j key at. (refl, refl, refl)) in rw k refl
+  passes way (At_inline host keys) e = let k = key_passes None None None keys (shape.rising_inline way host keys e)
+      (λ j key at. (refl, refl, refl)) in rw k refl
 
 -- where the shape is right, the tests report nothing at any way
 pub shape_passes : (nodes : Nodes) (root : ℕ) → HasShape nodes root → IsClean nodes (reached nodes root) IsMetaPage
@@ -106,4 +110,5 @@ shape_passes nodes root shape = record { passes = passes nodes root shape }
 pub sound_reports_nothing : (file : List ℕ) (meta : Meta) (x : Finding) → HasSoundTrees file meta → IsFirstFinding file meta x → ⊥
 sound_reports_nothing file meta x shape h =
     let nodes = node_at file meta in
-    passes_silent nodes (IsClaimedBefore nodes (reached nodes meta.root) IsMetaPage h.way) h.spot x (passes nodes meta.root shape h.way h.spot h.leads) h.reported
+    passes_silent nodes (IsClaimedBefore nodes (reached nodes meta.root) IsMetaPage h.way) h.spot x
+    (passes nodes meta.root shape h.way h.spot h.leads) h.reported

@@ -145,11 +145,13 @@ module _ (listing : Listing) (settled : IsSettled listing) where
     past_reported = elim (cases_Bool (is_repeated listing.past.now i)) [
       | inl is ↦ (let both = and_parts (nat_lt (i + 1) (length listing.past.now)) (get_or listing.past.now (i + 1) 0 == get_or listing.past.now i 0) is in
           let more = ltb-true (i + 1) (length listing.past.now) both.0 in
-          let same = ap (λ j. get_or listing.past.now j 0) (sym (add-one i)) ∙ eqb-true (get_or listing.past.now (i + 1) 0) (get_or listing.past.now i 0) both.1 in
+          let same = ap (λ j. get_or listing.past.now j 0) (sym (add-one i)) ∙ eqb-true (get_or listing.past.now (i + 1) 0)
+          (get_or listing.past.now i 0) both.1 in
           let e = times_past (get_or listing.past.now i 0) id_past in let two = times_twice listing.past.now i (omega (arith, more)) same in
           rw (cond-true (is_repeated listing.past.now i) (finding FREED_TWICE (get_or listing.past.now i 0) ∷ []) [] is)
           (past_next (finding FREED_TWICE (get_or listing.past.now i 0) ∷ [])
-          (reports_twice listing.mark (is_in_use listing) (listed_times listing) (get_or listing.past.now i 0) (omega (arith, e, two)) (unused_past (get_or listing.past.now i 0) id_past) id_in_range)))
+          (reports_twice listing.mark (is_in_use listing) (listed_times listing) (get_or listing.past.now i 0) (omega (arith, e, two))
+          (unused_past (get_or listing.past.now i 0) id_past) id_in_range)))
       | inr not ↦ rw (cond-false (is_repeated listing.past.now i) (finding FREED_TWICE (get_or listing.past.now i 0) ∷ []) [] not)
           (past_once (λ more same. both_ways (is_repeated listing.past.now i) not
           (and_from (nat_lt (i + 1) (length listing.past.now)) (get_or listing.past.now (i + 1) 0 == get_or listing.past.now i 0) (lt-ltb (i + 1) (length listing.past.now) (omega (arith, more)))
@@ -202,7 +204,8 @@ module _ (listing : Listing) (settled : IsSettled listing) where
       let some = times_some listing.past.now (get_or listing.past.now i 0) i h refl in
       let gap = reports_none listing.mark (is_in_use listing) (listed_times listing) (max listing.mark (suc last)) (get_or listing.past.now i 0)
       (λ n low high gone. (let under = gone.free.below in omega (arith, under))) (gap_none last i h reported.done) in
-      let before = subst (AreFindingsBelow listing.mark (is_in_use listing) (listed_times listing) (get_or listing.past.now i 0)) (append-nil findings) (reported_append reported.reported (omega arith) gap) in
+      let before = subst (AreFindingsBelow listing.mark (is_in_use listing) (listed_times listing) (get_or listing.past.now i 0)) (append-nil findings)
+      (reported_append reported.reported (omega arith) gap) in
       let here = reports_range listing.mark (is_in_use listing) (listed_times listing) (get_or listing.past.now i 0) (omega (arith, e, some)) (inr above) (λ r. (let under = r.1 in omega (arith, under, above))) in
       let after = reported_append before (omega arith) here in
       let next : suc (get_or listing.past.now i 0) ≡ max listing.mark (suc (get_or listing.past.now i 0)) = omega (arith, above) in

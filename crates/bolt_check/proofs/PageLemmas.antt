@@ -73,7 +73,8 @@ module _ (mark : ℕ) (in_use : ℕ → Type 0) (times : ℕ → ℕ) where
           | twice e t r ↦ (0, (omega arith), sym e)
           | reached e t u r ↦ (1, (omega arith), sym e)
           | lost gone ↦ absurd (gone.free.unused used)
-          | range e t out ↦ absurd (elim out as (λ _. ⊥) [ inl below ↦ (let a = in_range.0 in omega (arith, a, below)) | inr above ↦ (let a = in_range.1 in omega (arith, a, above)) ])
+          | range e t out ↦ absurd (elim out as (λ _. ⊥)
+              [ inl below ↦ (let a = in_range.0 in omega (arith, a, below)) | inr above ↦ (let a = in_range.1 in omega (arith, a, above)) ])
         ];
         silent = λ e. absurd (cc);
         rises = AllPairs-cons IsBefore (finding FREED_TWICE n) (finding REACHED_FREED n ∷ []) (All-cons (IsBefore (finding FREED_TWICE n)) (finding REACHED_FREED n) [] (inr (refl, omega arith)) (All-nil (IsBefore (finding FREED_TWICE n)))) (one_rises (finding REACHED_FREED n));

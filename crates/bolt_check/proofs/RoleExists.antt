@@ -80,15 +80,18 @@ module _ (file : List ℕ) (meta : Meta) (n : ℕ) where
     ]
   ]
 
-  first_page : (way : List ℕ) (s : PageSpot) (node : Node) (b : Bool) → node.is_leaf ≡ b → reach way ≡ Some (At_page s) → nodes s.number ≡ Ok node → n ≡ s.number → HasRole file meta n (first_role b)
+  first_page : (way : List ℕ) (s : PageSpot) (node : Node) (b : Bool) → node.is_leaf ≡ b → reach way ≡ Some (At_page s) → nodes s.number ≡ Ok node
+      → n ≡ s.number → HasRole file meta n (first_role b)
   first_page way s node true kind e page same = record { way = way; spot = s; node = node; leads = e; number = same; page = page; kind = kind }
   first_page way s node false kind e page same = record { way = way; spot = s; node = node; leads = e; number = same; page = page; kind = kind }
 
-  at_node : (way : List ℕ) (s : PageSpot) (o : Result Node ℕ) → reach way ≡ Some (At_page s) → nodes s.number ≡ o → SpanOf o s.number n → HasRole file meta n (node_role n o s.number)
+  at_node : (way : List ℕ) (s : PageSpot) (o : Result Node ℕ) → reach way ≡ Some (At_page s) → nodes s.number ≡ o → SpanOf o s.number n
+      → HasRole file meta n (node_role n o s.number)
   at_node way s (Err fault) e page h = absurd h
   at_node way s (Ok node) e page h = elim (cases_eq n s.number) [
     | inl same ↦ rw (eq-eqb n s.number same) (first_page way s node node.is_leaf refl e page same)
-    | inr other ↦ rw (ne_eqb n s.number other) (inl (record { way = way; spot = s; node = node; leads = e; page = page; within = h; later = omega (arith, h.0, other) }))
+    | inr other ↦ rw (ne_eqb n s.number other)
+        (inl (record { way = way; spot = s; node = node; leads = e; page = page; within = h; later = omega (arith, h.0, other) }))
   ]
 
   on_way : (way : List ℕ) (o : Option Spot) → reach way ≡ o → SpanHas nodes o n → HasRole file meta n (spot_role n nodes o)
@@ -108,5 +111,9 @@ module _ (file : List ℕ) (meta : Meta) (n : ℕ) where
       let tour = bucket_tour file meta trees [] meta.root refl in
       elim (in_use right tour.0 tour.1) [
         | inl p ↦ (used_role file meta n p, has_role p)
-        | inr out ↦ (role.Free, record { above_metas = elim (cases_lt n 2) [ inl low ↦ absurd (out (inl (inl low))) | inr high ↦ high ]; below = below; unused = out })
+        | inr out ↦ (
+          role.Free,
+          record
+              { above_metas = elim (cases_lt n 2) [ inl low ↦ absurd (out (inl (inl low))) | inr high ↦ high ]; below = below; unused = out },
+        )
       ]

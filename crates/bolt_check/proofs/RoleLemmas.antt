@@ -44,7 +44,8 @@ module _ (file : List ℕ) (meta : Meta) (table : List PageUse) (are : AreUses f
   shows_spot n u way (At_page s) e (node, page, inl h) =
       subst (Shows n) (sym h.1) (by_first n node.is_leaf (record { way = way; spot = s; node = node; leads = e; number = h.0; page = page; kind = refl }))
   shows_spot n u way (At_page s) e (node, page, inr h) =
-      subst (Shows n) (sym h.2) (by_later (record { way = way; spot = s; node = node; leads = e; page = page; within = (omega (arith, h.0), h.1); later = h.0 }))
+      subst (Shows n) (sym h.2) (by_later
+      (record { way = way; spot = s; node = node; leads = e; page = page; within = (omega (arith, h.0), h.1); later = h.0 }))
 
   shows : (n : ℕ) (u : PageUse) → is_used u ≡ true → use_at table n ≡ u → Shows n u
   shows n u used e = elim (are.noted n u (e, used)) [

@@ -54,7 +54,8 @@ module _ (file : List ℕ) (meta : Meta) (n : ℕ) where
   place_of role.Branch h = first_place false h
   place_of role.Leaf h = first_place true h
   place_of role.Freelist h = inl (inr h.0, rw (eq-eqb n meta.freelist h.1) refl)
-  place_of role.Inside (inl h) = inl (inl (inr (h.way, rw (h.leads, h.page) h.within)), rw (h.leads, h.page, ne_eqb n h.spot.number (λ e. omega (arith, h.later, e))) refl)
+  place_of role.Inside (inl h) = inl
+      (inl (inr (h.way, rw (h.leads, h.page) h.within)), rw (h.leads, h.page, ne_eqb n h.spot.number (λ e. omega (arith, h.later, e))) refl)
   place_of role.Inside (inr h) = inl (inr h.0, rw (ne_eqb n meta.freelist (λ e. omega (arith, h.1, e))) refl)
   place_of role.Free h = inr (h, refl)
 

@@ -22,7 +22,8 @@ use Rattle.bolt_check.proofs.AccountLemmas.{reported_along}
 times_filter : (p : ℕ → Bool) (n : ℕ) → p n ≡ true → (xs : List ℕ) → times_in (filter p xs) n ≡ times_in xs n
 times_filter p n passes xs =
     let others : List ℕ = filter (λ x. not (p x)) xs in
-    let none = times_none others n (λ k h e. both_ways (p n) (not-true (p n) (subst (λ (m : ℕ). not (p m) ≡ true) e (filter_passes (λ x. not (p x)) xs k 0 h))) passes) in
+    let none = times_none others n
+    (λ k h e. both_ways (p n) (not-true (p n) (subst (λ (m : ℕ). not (p m) ≡ true) e (filter_passes (λ x. not (p x)) xs k 0 h))) passes) in
     omega (arith, none, sum_by-filter_both p (λ x. not (p x)) (λ x. refl) (λ id. cond (id == n) 1 0) xs)
 
 module _ (old : List PageUse) (ids past items : List ℕ) (listing : Listing) (long : length listing.table.now ≡ length old)

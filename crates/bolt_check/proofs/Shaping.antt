@@ -27,7 +27,8 @@ filled_if false x o e = (refl, e)
 content_parts : (node : Node) (s : PageSpot) → node_finding node s ≡ None
     → ((not node.is_leaf && (length node.entries == 0)) ≡ false) × (keys_order_fault None s.lower s.upper (keys_of node.entries) ≡ None)
 content_parts node s e =
-    let parts = filled_if (not node.is_leaf && (length node.entries == 0)) (finding EMPTY_BRANCH s.number) (finding_of (keys_order_fault None s.lower s.upper (keys_of node.entries)) s.number) e in
+    let parts = filled_if (not node.is_leaf && (length node.entries == 0)) (finding EMPTY_BRANCH s.number)
+    (finding_of (keys_order_fault None s.lower s.upper (keys_of node.entries)) s.number) e in
     (parts.0, finding_none (keys_order_fault None s.lower s.upper (keys_of node.entries)) s.number parts.1)
 
 content_filled : (node : Node) (s : PageSpot) → node_finding node s ≡ None → node.is_leaf ≡ false → node.entries ≢ []

@@ -51,7 +51,8 @@ at_one nodes reach start v w s t x y e f g h k =
 pub first_one : (file : List ℕ) (meta : Meta) (x y : Finding) → IsFirstFinding file meta x → IsFirstFinding file meta y → x ≡ y
 first_one file meta x y h k =
     elim (before_total h.way k.way) [
-      | inl e ↦ at_one (node_at file meta) (reached (node_at file meta) meta.root) IsMetaPage h.way k.way h.spot k.spot x y e h.leads k.leads h.reported k.reported
+      | inl e ↦ at_one (node_at file meta)
+          (reached (node_at file meta) meta.root) IsMetaPage h.way k.way h.spot k.spot x y e h.leads k.leads h.reported k.reported
       | inr d ↦ elim d [
         | inl lt ↦ absurd (k.none_before h.way h.spot x lt h.leads h.reported)
         | inr gt ↦ absurd (h.none_before k.way k.spot y gt k.leads k.reported)

@@ -13,7 +13,8 @@ use Rattle.bolt_check.specs.declared.table.PageUse.TheVariants.{Used}
 pub not_both : (t : List PageUse) (k : ℕ) → IsUnclaimed t k → IsClaimed t k → ⊥
 not_both t k a b = cc
 
-module _ (old new : List PageUse) (from last : ℕ) (below : (k : ℕ) → k < from → use_at new k ≡ use_at old k) (above : (k : ℕ) → last < k → use_at new k ≡ use_at old k) where
+module _ (old new : List PageUse) (from last : ℕ) (below : (k : ℕ) → k < from → use_at new k ≡ use_at old k)
+    (above : (k : ℕ) → last < k → use_at new k ≡ use_at old k) where
   -- only the span has changed
   pub outside : (n : ℕ) → (use_at new n ≡ use_at old n) ⊎ ((from ≤ n) × (n ≤ last))
   outside n = elim (cases_lt n from) [
@@ -31,7 +32,8 @@ module _ (old new : List PageUse) (from last : ℕ) (below : (k : ℕ) → k < f
 
 -- a visit claims a span: the first page for what the node is, the others as used
 pub span_claimed : (nodes : Nodes) (s : PageSpot) (node : Node) (old new : List PageUse) (last : ℕ) → last ≡ s.number + node.overflow → nodes s.number ≡ Ok node
-    → use_at new s.number ≡ use_of node.is_leaf → ((k : ℕ) → s.number < k → k ≤ last → use_at new k ≡ Used) → ((k : ℕ) → s.number ≤ k → k ≤ last → IsClaimed new k)
+    → use_at new s.number ≡ use_of node.is_leaf → ((k : ℕ) → s.number < k → k ≤ last → use_at new k ≡ Used)
+    → ((k : ℕ) → s.number ≤ k → k ≤ last → IsClaimed new k)
     → ((k : ℕ) → k < s.number → use_at new k ≡ use_at old k) → ((k : ℕ) → last < k → use_at new k ≡ use_at old k) → Claims nodes (At_page s) old new
 span_claimed nodes s node old new last end page first later span below above =
     let place = outside old new s.number last below above in
@@ -43,7 +45,8 @@ span_claimed nodes s node old new last end page first later span below above =
         | inl same ↦ inl (sym same ∙ noted.0, noted.1)
         | inr at ↦ elim (cases_eq n s.number) [
           | inl here ↦ inr (node, page, inl (here, sym noted.0 ∙ ap (use_at new) here ∙ first))
-          | inr other ↦ let low = at.0 in inr (node, page, inr (omega (arith, low, other), omega (arith, at.1, end), sym noted.0 ∙ later n (omega (arith, low, other)) at.1))
+          | inr other ↦ let low = at.0 in inr
+              (node, page, inr (omega (arith, low, other), omega (arith, at.1, end), sym noted.0 ∙ later n (omega (arith, low, other)) at.1))
         ]
       ];
     }

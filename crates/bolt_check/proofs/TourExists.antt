@@ -61,12 +61,14 @@ module _ (nodes : Nodes) {left : List ℕ} {old : Reach} (fits : Fits nodes left
   -- after a page's visit it isn't left
   pub fits_page : {new : Reach} {first : List ℕ} {f : List ℕ → List ℕ} (s : PageSpot) → Visits old new (Some (At_page s)) first f → (h : Has s.number left)
       → Fits nodes (without s.number left h) new
-  fits_page {new = new} {first = first} {f = f} s v h = fits_along (without s.number left h) new f v.same (one_of v) (λ b t e. still s.number t.number left h (λ same.
+  fits_page {new = new} {first = first} {f = f} s v h = fits_along (without s.number left h) new f v.same (one_of v)
+      (λ b t e. still s.number t.number left h (λ same.
       let at = fits.apart (f b) first t s (v.same b (At_page t) e) (v.leads (At_page s) refl) same in
       before_irreflexive first (subst (Before first) at (v.after (At_page s) refl b (At_page t) e))))
 
 -- the ways of sound trees fit
-sound_fits : (file : List ℕ) (meta : Meta) → HasSoundTrees file meta → Fits (node_at file meta) (numbers meta.high_water) (reached (node_at file meta) meta.root)
+sound_fits : (file : List ℕ) (meta : Meta) → HasSoundTrees file meta
+    → Fits (node_at file meta) (numbers meta.high_water) (reached (node_at file meta) meta.root)
 sound_fits file meta trees = record {
   good = λ way s e. (trees.good way s e).1;
   within = λ way s e. let page = (trees.good way s e).1 in has_number s.number meta.high_water (node_below file meta s.number page.0 page.1);
@@ -74,7 +76,8 @@ sound_fits file meta trees = record {
 }
 
 -- and so do those of a bucket that one of them leads to
-pub bucket_fits : (file : List ℕ) (meta : Meta) → HasSoundTrees file meta → (way : List ℕ) (root : ℕ) → reached (node_at file meta) meta.root way ≡ Some (At_page (root_spot root))
+pub bucket_fits : (file : List ℕ) (meta : Meta) → HasSoundTrees file meta → (way : List ℕ) (root : ℕ)
+    → reached (node_at file meta) meta.root way ≡ Some (At_page (root_spot root))
     → Fits (node_at file meta) (numbers meta.high_water) (reached (node_at file meta) root)
 bucket_fits file meta trees way root leads =
     let nodes = node_at file meta in

@@ -43,7 +43,8 @@ rises_by (v ∷ ways) h = (before_each v ways h.0, rises_by ways h.1)
 
 pub one_tour : (reach : Reach) (a b : Ways) → IsTour reach a → IsTour reach b → a ≡ b
 one_tour reach a b h k =
-    same_lists Before before_strict a b (rises_by a h.rises) (rises_by b k.rises) (λ x i. let p = h.only x i in k.all x p.0 p.1) (λ x i. let p = k.only x i in h.all x p.0 p.1)
+    same_lists Before before_strict a b (rises_by a h.rises) (rises_by b k.rises) (λ x i. let p = h.only x i in k.all x p.0 p.1)
+    (λ x i. let p = k.only x i in h.all x p.0 p.1)
 
 module _ {old new : Reach} {o : Option Spot} {first : List ℕ} {f : List ℕ → List ℕ} (v : Visits old new o first f) (tour : Ways) (is : IsTour new tour) where
   map_rises : Rises (map f tour)
@@ -53,7 +54,8 @@ module _ {old new : Reach} {o : Option Spot} {first : List ℕ} {f : List ℕ �
   map_all way b t same leads = subst (λ (z : List ℕ). Has z (map f tour)) (sym same) (in_map f b tour (is.all b t leads))
 
   map_only : (way : List ℕ) → Has way (map f tour) → (s : Spot) × (old way ≡ Some s)
-  map_only way h = let p = from_map f way tour h in let q = is.only p.0 p.1.0 in (q.0, subst (λ (z : List ℕ). old z ≡ Some q.0) (sym p.1.1) (v.same p.0 q.0 q.1))
+  map_only way h = let p = from_map f way tour h in let q = is.only p.0 p.1.0 in
+      (q.0, subst (λ (z : List ℕ). old z ≡ Some q.0) (sym p.1.1) (v.same p.0 q.0 q.1))
 
   -- the ways to what is left, as ways of the whole
   pub tour_map : o ≡ None → IsTour old (map f tour)
@@ -67,7 +69,8 @@ module _ {old new : Reach} {o : Option Spot} {first : List ℕ} {f : List ℕ �
   pub tour_step : (s : Spot) → o ≡ Some s → IsTour old (first ∷ map f tour)
   tour_step s at = record {
     rises = (
-      before_all first (map f tour) (λ w i. let p = from_map f w tour i in let q = is.only p.0 p.1.0 in subst (Before first) (sym p.1.1) (v.after s at p.0 q.0 q.1)),
+      before_all first (map f tour) (λ w i. let p = from_map f w tour i in let q = is.only p.0 p.1.0 in subst (Before first) (sym p.1.1)
+          (v.after s at p.0 q.0 q.1)),
       map_rises,
     );
     all = λ way t e. elim (v.all way t e) [ inl same ↦ inl same.0 | inr (b, (same, leads)) ↦ inr (map_all way b t same leads) ];

@@ -111,7 +111,8 @@ module _ (nodes : Nodes) where
     -- n steps are enough below the pages of these spots, which have a tour, and the sum over it is that over the pages
     abbrev Summed : ℕ → List Spot → Type 0
     Summed n spots = ((m : ℕ) → Has m (pages_of spots) → Enough nodes n m)
-        × ((tour : Ways) × IsTour (forest nodes spots) tour × (sum_by (λ way. spot_weight own (forest nodes spots way)) tour ≡ sum_by (weight nodes own n) (pages_of spots)))
+        × ((tour : Ways) × IsTour (forest nodes spots) tour ×
+        (sum_by (λ way. spot_weight own (forest nodes spots way)) tour ≡ sum_by (weight nodes own n) (pages_of spots)))
 
     -- the sum over the ways to what is left is the same in the whole
     map_sum : {old new : Reach} {o : Option Spot} {first : List ℕ} {f : List ℕ → List ℕ} → Visits old new o first f → (tour : Ways) → IsTour new tour
@@ -122,9 +123,11 @@ module _ (nodes : Nodes) where
     step_sum : {old new : Reach} {first : List ℕ} {f : List ℕ → List ℕ} (s : Spot) → Visits old new (Some s) first f → (tour : Ways) → IsTour new tour
         → sum_by (λ way. spot_weight own (old way)) (first ∷ map f tour) ≡ spot_weight own (Some s) + sum_by (λ way. spot_weight own (new way)) tour
     step_sum {old = old} {first = first} {f = f} s v tour is =
-        let here = ap (spot_weight own) (v.leads s refl) in omega (arith, here, map_sum v tour is, sum_by-cons (λ way. spot_weight own (old way)) first (map f tour))
+        let here = ap (spot_weight own) (v.leads s refl) in omega
+        (arith, here, map_sum v tour is, sum_by-cons (λ way. spot_weight own (old way)) first (map f tour))
 
-    page_sum : (n : ℕ) (s : PageSpot) (node : Node) (rest : List Spot) → nodes s.number ≡ Ok node → Summed n (somes (places node.is_leaf s node.entries) ++ rest) → Summed (suc n) (At_page s ∷ rest)
+    page_sum : (n : ℕ) (s : PageSpot) (node : Node) (rest : List Spot) → nodes s.number ≡ Ok node
+        → Summed n (somes (places node.is_leaf s node.entries) ++ rest) → Summed (suc n) (At_page s ∷ rest)
     page_sum n s node rest page (all, (tour, is, sum)) =
         let kid_spots : List Spot = somes (places node.is_leaf s node.entries) in
         let kids : List ℕ = kid_pages node.is_leaf node.entries in
@@ -134,7 +137,8 @@ module _ (nodes : Nodes) where
         let v = page_visits nodes s node rest page in
         let first = step_sum (At_page s) v tour is in
         let both = ap (sum_by (weight nodes own n)) pages ∙ sum_append (weight nodes own n) kids (pages_of rest) in
-        let others = sum_same (weight nodes own n) (weight nodes own (suc n)) (pages_of rest) (λ m h. sym (weight_more own n m (good m (has_right m kids (pages_of rest) h)))) in
+        let others = sum_same (weight nodes own n) (weight nodes own (suc n)) (pages_of rest)
+        (λ m h. sym (weight_more own n m (good m (has_right m kids (pages_of rest) h)))) in
         let here : weight nodes own (suc n) s.number ≡ own s.number + sum_by (weight nodes own n) kids
         = ap (λ (r : Result Node ℕ). own s.number + sum_by (weight nodes own n) (kids_at r)) page in
         let whole = sum_by-cons (weight nodes own (suc n)) s.number (pages_of rest) in (
@@ -163,7 +167,8 @@ module _ (nodes : Nodes) where
         let good = fits.good (0 ∷ []) s refl in
         let has = fits.within (0 ∷ []) s refl in
         let less = shorter s.number left has in
-        page_sum p s good.0 rest good.1 (below p refl (without s.number left has) _ (omega (arith, less, le)) (fits_page nodes fits s (page_visits nodes s good.0 rest good.1) has))
+        page_sum p s good.0 rest good.1
+        (below p refl (without s.number left has) _ (omega (arith, less, le)) (fits_page nodes fits s (page_visits nodes s good.0 rest good.1) has))
 
     found : (n : ℕ) (left : List ℕ) (spots : List Spot) → length left ≤ n → Fits nodes left (forest nodes spots) → Summed n spots
     found zero = along zero (λ p e. absurd (omega arith))
@@ -172,7 +177,8 @@ module _ (nodes : Nodes) where
 
     -- from a page alone
     sum_from : (n : ℕ) (left : List ℕ) (root : ℕ) → length left ≤ n → Fits nodes left (reached nodes root)
-        → Enough nodes n root × ((tour : Ways) × IsTour (reached nodes root) tour × (sum_by (λ way. spot_weight own (reached nodes root way)) tour ≡ weight nodes own n root))
+        → Enough nodes n root × ((tour : Ways) × IsTour (reached nodes root) tour
+        × (sum_by (λ way. spot_weight own (reached nodes root way)) tour ≡ weight nodes own n root))
     sum_from n left root le fits =
         let v = root_visits nodes (At_page (root_spot root)) in
         let (all, (tour, is, sum)) = found n left (At_page (root_spot root) ∷ []) le (fits_visited nodes fits v) in
@@ -189,7 +195,8 @@ pub bucket_sum : (file : List ℕ) (meta : Meta) → HasSoundTrees file meta →
     → Enough (node_at file meta) meta.high_water root × ((tour : Ways) × IsTour (reached (node_at file meta) root) tour
     × (sum_by (λ way. spot_weight (node_at file meta) own (reached (node_at file meta) root way)) tour ≡ weight (node_at file meta) own meta.high_water root))
 bucket_sum file meta trees way root leads own =
-    sum_from (node_at file meta) own meta.high_water (numbers meta.high_water) root (let h = length-numbers meta.high_water in omega (arith, h)) (bucket_fits file meta trees way root leads)
+    sum_from (node_at file meta) own meta.high_water (numbers meta.high_water) root (let h = length-numbers meta.high_water in omega (arith, h))
+    (bucket_fits file meta trees way root leads)
 
 -- so it has a tour
 pub bucket_tour : (file : List ℕ) (meta : Meta) → HasSoundTrees file meta → (way : List ℕ) (root : ℕ) → reached (node_at file meta) meta.root way ≡ Some (At_page (root_spot root))

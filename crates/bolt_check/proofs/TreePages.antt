@@ -40,7 +40,8 @@ by_kind file meta number view k node at is e = absurd (cc)
 
 pub tree_page : (file : List ℕ) (meta : Meta) (number : ℕ) (node : Node) → node_at file meta number ≡ Ok node → IsTreePage file meta number
 tree_page file meta number node e =
-    let (view, at, _) = node_page file meta number node e in by_kind file meta number view view.kind node at refl (sym (node_is file meta number view view.kind at refl) ∙ e)
+    let (view, at, _) = node_page file meta number node e in by_kind file meta number view view.kind node at refl
+    (sym (node_is file meta number view view.kind at refl) ∙ e)
 
 -- the entry of an element
 pub branch_entry_at : (elements : List BranchElement) (i : ℕ) (e : BranchElement) → slice_get elements i ≡ Some e → slice_get (map branch_entry elements) i ≡ Some (branch_entry e)

@@ -26,7 +26,8 @@ pub begin_carries : (nodes : Nodes) (root : ℕ) (items : List CodeSpot) (table 
     → ((n : ℕ) → IsClaimed table n ↔ IsMetaPage n) → ((n : ℕ) (u : PageUse) → IsNoted table n u → IsMetaUse n u)
     → Carries nodes (reached nodes root) IsMetaPage IsMetaUse (forest nodes (spots_of items)) (IsClaimed table) (IsNoted table)
 begin_carries nodes root items table e metas uses =
-    rw e (carries nodes (root_visits nodes (At_page (root_spot root))) (record { split = λ n h. inl ((metas n).0 h); kept = λ n. (metas n).1; span = λ n h. absurd h; uses = λ n u h. inl (uses n u h) }) tt)
+    rw e (carries nodes (root_visits nodes (At_page (root_spot root)))
+    (record { split = λ n h. inl ((metas n).0 h); kept = λ n. (metas n).1; span = λ n h. absurd h; uses = λ n u h. inl (uses n u h) }) tt)
 
 -- a page's visit
 pub page_carries : (nodes : Nodes) (s : PageSpot) (node : Node) (rest after : List Spot) (old new : List PageUse) → nodes s.number ≡ Ok node
@@ -42,7 +43,8 @@ inline_carries nodes host keys rest table =
     carries nodes (inline_visits nodes host keys rest) (record { split = λ n h. inl h; kept = λ n h. h; span = λ n h. absurd h; uses = λ n u h. inl h })
 
 -- the end: nothing is left
-pub ended : (nodes : Nodes) (items : List CodeSpot) {reach : Reach} {c d : ℕ → Type 0} {a b : ℕ → PageUse → Type 0} → Carries nodes reach c a (forest nodes (spots_of items)) d b → items ≡ []
+pub ended : (nodes : Nodes) (items : List CodeSpot) {reach : Reach} {c d : ℕ → Type 0} {a b : ℕ → PageUse → Type 0}
+    → Carries nodes reach c a (forest nodes (spots_of items)) d b → items ≡ []
     → IsClean nodes reach c × ((n : ℕ) → d n ↔ IsCovered nodes reach c n)
 ended nodes items {d = d} carried none =
     let h = rw none at carried in
@@ -58,7 +60,8 @@ pub spots_pop : (items rest : List CodeSpot) (s : CodeSpot) → items ≡ rest +
 spots_pop items rest s e = rw e (spots_push rest s)
 
 -- the table, after it was lent as a slice
-pub stored : (table : Vec PageUse Global) (lent new : List PageUse) → lent ≡ table.items → length new ≡ length lent → take table.len (new ++ drop (length new) table.items) ≡ new
+pub stored : (table : Vec PageUse Global) (lent new : List PageUse) → lent ≡ table.items → length new ≡ length lent
+    → take table.len (new ++ drop (length new) table.items) ≡ new
 stored table lent new was long = take_at new (drop (length new) table.items) table.len (omega (arith, long, ap length was, table.ok.0))
 
 -- a fault reported of what is left is reported of the whole

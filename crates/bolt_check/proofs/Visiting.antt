@@ -78,7 +78,8 @@ module _ (nodes : Nodes) {old new : Reach} {o : Option Spot} {first : List ℕ} 
     clean = λ clean. record {
       passes = λ y t e. elim (v.all y t e) [
         | inl q ↦ rw q.0 (first_passes h t q.1)
-        | inr g ↦ rw g.1.0 (passes_fewer nodes (IsClaimedBefore nodes new d g.0) (IsClaimedBefore nodes old c (f g.0)) t (claimed_to_new g.0 t g.1.1) (clean.passes g.0 t g.1.1))
+        | inr g ↦ rw g.1.0 (passes_fewer nodes (IsClaimedBefore nodes new d g.0) (IsClaimedBefore nodes old c (f g.0)) t (claimed_to_new g.0 t g.1.1)
+            (clean.passes g.0 t g.1.1))
       ];
     };
     first = λ x g. record {
@@ -88,11 +89,13 @@ module _ (nodes : Nodes) {old new : Reach} {o : Option Spot} {first : List ℕ} 
       reported = tests_same nodes (IsClaimedBefore nodes new d g.way) (IsClaimedBefore nodes old c (f g.way)) g.spot x
           (claimed_to_old g.way g.spot g.leads) (claimed_to_new g.way g.spot g.leads) g.reported;
       none_before = λ y t z lt e m. elim (v.all y t e) [
-        | inl q ↦ passes_silent nodes (IsClaimedBefore nodes old c first) t z (first_passes h t q.1) (let m' : Tests nodes (IsClaimedBefore nodes old c first) t z = rw (← q.0) m in m')
+        | inl q ↦ passes_silent nodes (IsClaimedBefore nodes old c first) t z (first_passes h t q.1)
+            (let m' : Tests nodes (IsClaimedBefore nodes old c first) t z = rw (← q.0) m in m')
         | inr k ↦
             let m' : Tests nodes (IsClaimedBefore nodes old c (f k.0)) t z = rw (← k.1.0) m in
             g.none_before k.0 t z (not_after v k.0 g.way t g.spot k.1.1 g.leads (rw (← k.1.0) lt)) k.1.1
-            (tests_same nodes (IsClaimedBefore nodes old c (f k.0)) (IsClaimedBefore nodes new d k.0) t z (claimed_to_new k.0 t k.1.1) (claimed_to_old k.0 t k.1.1) m')
+            (tests_same nodes (IsClaimedBefore nodes old c (f k.0)) (IsClaimedBefore nodes new d k.0) t z (claimed_to_new k.0 t k.1.1)
+            (claimed_to_old k.0 t k.1.1) m')
       ];
     };
     covered = λ n. (covered_to_old n, covered_to_new n);
@@ -114,7 +117,8 @@ module _ (nodes : Nodes) {old new : Reach} {o : Option Spot} {first : List ℕ} 
       uses_to_old n u (inl h) = elim (takes.uses n u h) [ inl k ↦ inl k | inr k ↦ inr (first, use_first n u k) ]
       uses_to_old n u (inr (y, h)) = let p = use_spot nodes (new y) n u h in inr (f y, use_back nodes (old (f y)) p.0 n u (v.same y p.0 p.1.0) p.1.1)
 
-pub carries_on : (nodes : Nodes) {x y z : Reach} {c d e : ℕ → Type 0} {k l m : ℕ → PageUse → Type 0} → Carries nodes x c k y d l → Carries nodes y d l z e m → Carries nodes x c k z e m
+pub carries_on : (nodes : Nodes) {x y z : Reach} {c d e : ℕ → Type 0} {k l m : ℕ → PageUse → Type 0} → Carries nodes x c k y d l → Carries nodes y d l z e m
+    → Carries nodes x c k z e m
 carries_on nodes p q = record {
   clean = λ h. p.clean (q.clean h);
   first = λ x h. p.first x (q.first x h);

@@ -34,8 +34,10 @@ accounts_of : (file : List ℕ) (meta : Meta) (old mid new : List PageUse) (ids 
     → freelist_fault_of file meta ≡ None → free_ids_of file meta ≡ Some ids → ClaimsFreelist file meta old mid
     → IfOk r (λ reported. AreAllFindings meta.high_water (IsClaimed mid) (times_in ids) reported.items)
     → OnOk r ((n : ℕ) → is_used (use_at new n) ≡ is_used (use_at mid n)) → OnOk r ((n : ℕ) → times_in ids n ≡ 0 → use_at new n ≡ use_at mid n)
-    → IfOk r (λ reported. reported.items ≡ [] → HasAccounts file meta (IsClaimed old)) × IfOk r (λ reported. reported.items ≢ [] → HasAccounts file meta (IsClaimed old) → ⊥)
-    × IfOk r (λ reported. reported.items ≢ [] → AreAccountFindings file meta (IsClaimed old) reported.items) × IfOk r (λ reported. reported.items ≡ [] → ClaimsUses file meta old new)
+    → IfOk r (λ reported. reported.items ≡ [] → HasAccounts file meta (IsClaimed old))
+    × IfOk r (λ reported. reported.items ≢ [] → HasAccounts file meta (IsClaimed old) → ⊥)
+    × IfOk r (λ reported. reported.items ≢ [] → AreAccountFindings file meta (IsClaimed old) reported.items) × IfOk r
+    (λ reported. reported.items ≡ [] → ClaimsUses file meta old new)
 accounts_of file meta old mid new ids (Err e) good are claims all used kept = (tt, tt, tt, tt)
 accounts_of file meta old mid new ids (Ok reported) good are claims all used kept =
     let told = claims_reported file meta old mid ids reported.items claims all in
@@ -48,6 +50,8 @@ accounts_of file meta old mid new ids (Ok reported) good are claims all used kep
 
 pub returns-in-None : goal.returns-in-None
 returns-in-None c =
-    let (right, wrong, reported, uses) = accounts_of c.args.file.now c.args.meta.now c.args.table.now c.claim_freelist.new.table c.test_ids.new.table (shown_ids c.in-Ok-Some.ids) c.test_ids.result
-    c.in-Ok-Some.ensures.good (sym (rw c.in-Ok-Some.field-0-is at c.in-Ok-Some.ensures.ids)) c.in-None.ensures.claimed c.test_ids.ensures.reported c.test_ids.ensures.used c.test_ids.ensures.kept in
+    let (right, wrong, reported, uses) = accounts_of c.args.file.now c.args.meta.now c.args.table.now c.claim_freelist.new.table c.test_ids.new.table
+    (shown_ids c.in-Ok-Some.ids) c.test_ids.result
+    c.in-Ok-Some.ensures.good (sym
+    (rw c.in-Ok-Some.field-0-is at c.in-Ok-Some.ensures.ids)) c.in-None.ensures.claimed c.test_ids.ensures.reported c.test_ids.ensures.used c.test_ids.ensures.kept in
     record { right = right; wrong = wrong; reported = reported; uses = uses }

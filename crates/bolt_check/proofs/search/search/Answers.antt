@@ -35,12 +35,14 @@ loop-spot-preserved c =
 pub returns-clause-clean : goal.returns-clause-clean
 returns-clause-clean c =
     (ended (node_at c.args.file.now c.args.meta.now) c.loop-spot.pending.items c.loop-spot.invariant.carried
-    (none_left c.loop-spot.pending.items c.pop.new.self.items (vec_len c.loop-spot.pending) c.in_default.ensures.cases.0 c.in_default.ensures.rest c.in_default.ensures.items)).0
+    (none_left c.loop-spot.pending.items c.pop.new.self.items
+    (vec_len c.loop-spot.pending) c.in_default.ensures.cases.0 c.in_default.ensures.rest c.in_default.ensures.items)).0
 
 pub returns-clause-covered : goal.returns-clause-covered
 returns-clause-covered c =
     (ended (node_at c.args.file.now c.args.meta.now) c.loop-spot.pending.items c.loop-spot.invariant.carried
-    (none_left c.loop-spot.pending.items c.pop.new.self.items (vec_len c.loop-spot.pending) c.in_default.ensures.cases.0 c.in_default.ensures.rest c.in_default.ensures.items)).1
+    (none_left c.loop-spot.pending.items c.pop.new.self.items
+    (vec_len c.loop-spot.pending) c.in_default.ensures.cases.0 c.in_default.ensures.rest c.in_default.ensures.items)).1
 
 pub returns-in_err-step-clause-first : goal.returns-in_err-step-clause-first
 returns-in_err-step-clause-first c =

@@ -21,7 +21,10 @@ invariant_of-result c =
     let right = rw c.deref_mut.ensures.value at c.in_ok-findings.ensures.right in
     let claims = rw c.deref_mut.ensures.value at c.in_ok-findings.ensures.uses in
     let sound = sound_of c.args.file.now c.in_ok-meta.field-0-0 c.in_ok-meta.meta table.items c.in_ok-meta.ensures.chosen c.in_ok-table.ensures.clean c.in_ok-table.ensures.covered (right (grind (arith, common_steps, c.is_empty.ensures, c.if-not-is_empty.false))) in
-    record { uses = rw kept (merely (uses_with c.args.file.now c.in_ok-meta.meta table.items c.test_accounts.new.table (sound.right refl) c.in_ok-table.ensures.covered c.in_ok-table.ensures.uses (claims (grind (arith, common_steps, c.is_empty.ensures, c.if-not-is_empty.false))))) }
+    record {
+      uses = rw kept (merely
+          (uses_with c.args.file.now c.in_ok-meta.meta table.items c.test_accounts.new.table (sound.right refl) c.in_ok-table.ensures.covered c.in_ok-table.ensures.uses (claims (grind (arith, common_steps, c.is_empty.ensures, c.if-not-is_empty.false)))));
+    }
 
 pub returns-clause-sound : goal.returns-clause-sound
 unfolding meta_of roles_checked

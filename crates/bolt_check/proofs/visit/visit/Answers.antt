@@ -43,5 +43,6 @@ pub returns-clause-claims : goal.returns-clause-claims
 returns-clause-claims c =
     let node = c.in_ok-node.node in
     let last = overflow-is node _ c.overflow.ensures in
-    span_claimed (node_at c.args.file.now c.args.meta.now) (page_spot c.args.spot.now) (shown_node node) c.args.table.now c.claim.new.table _ (omega (arith, last)) c.in_ok-node.ensures.node
+    span_claimed (node_at c.args.file.now c.args.meta.now) (page_spot c.args.spot.now) (shown_node node) c.args.table.now c.claim.new.table _
+    (omega (arith, last)) c.in_ok-node.ensures.node
     (c.claim.ensures.first ∙ c.first_use.ensures ∙ leaf-is node) c.claim.ensures.later c.claim.ensures.span c.claim.ensures.below c.claim.ensures.above
