@@ -48,26 +48,25 @@ rises_by (x ∷ xs) rises = (
   rises_by xs (λ i j d h k. rises (suc i) (suc j) d (omega (arith, h)) (omega (arith, k))),
 )
 
-by_ids : (file : List ℕ) (meta : Meta) (used : ℕ → Type 0) (xs ys : List Finding) (ids : Option (List ℕ)) → free_ids_of file meta ≡ ids
-    → AreAccountFindings file meta used xs → AreAccountFindings file meta used ys → ((x : Finding) → IsFreelistFinding file meta used x → ⊥) → xs ≡ ys
-by_ids file meta used xs ys None are a b none = absurd (unwritten file meta are a.written)
-by_ids file meta used xs ys (Some ids) are a b none =
-    same_lists IsBefore before_not_back xs ys (rises_by xs (a.rises none)) (rises_by ys (b.rises none))
-    (λ z h. from_contains ys z ((b.exact none ids are z).1 ((a.exact none ids are z).0 (to_contains xs z h))))
-    (λ z h. from_contains xs z ((a.exact none ids are z).1 ((b.exact none ids are z).0 (to_contains ys z h))))
+module _ (file : List ℕ) (meta : Meta) where
+  abbrev Are : List Finding → Type 0
+  Are = AreAccountFindings file meta (IsUsed file meta)
 
--- a list of more or less than one finding has none on the freelist's page, and two lists of one finding on it are the same
-pub account_findings_once : (file : List ℕ) (meta : Meta) (xs ys : List Finding) → AreAccountFindings file meta (IsUsed file meta) xs
-    → AreAccountFindings file meta (IsUsed file meta) ys → xs ≡ ys
-account_findings_once file meta [] ys a b = by_ids file meta (IsUsed file meta) [] ys (free_ids_of file meta) refl a b (λ z bad. let e = a.of_page z bad in cc)
-account_findings_once file meta (x ∷ w ∷ xs) ys a b = by_ids file meta (IsUsed file meta) (x ∷ w ∷ xs) ys (free_ids_of file meta) refl a b
-    (λ z bad. let e = a.of_page z bad in cc)
-account_findings_once file meta (x ∷ []) [] a b = by_ids file meta (IsUsed file meta) (x ∷ []) [] (free_ids_of file meta) refl a b
-    (λ z bad. let e = b.of_page z bad in cc)
-account_findings_once file meta (x ∷ []) (y ∷ w ∷ ys) a b = by_ids file meta (IsUsed file meta) (x ∷ []) (y ∷ w ∷ ys) (free_ids_of file meta) refl a b
-    (λ z bad. let e = b.of_page z bad in cc)
-account_findings_once file meta (x ∷ []) (y ∷ []) a b = elim (finding_differs x y) [
-  | inl same ↦ ap (λ (z : Finding). z ∷ []) same
-  | inr other ↦ by_ids file meta (IsUsed file meta) (x ∷ []) (y ∷ []) (free_ids_of file meta) refl a b
-      (λ z bad. other (let e = a.of_page z bad in let f = b.of_page z bad in cc))
-]
+  by_ids : (xs ys : List Finding) (ids : Option (List ℕ)) → free_ids_of file meta ≡ ids → Are xs → Are ys
+      → ((x : Finding) → IsFreelistFinding file meta (IsUsed file meta) x → ⊥) → xs ≡ ys
+  by_ids xs ys None are a b none = absurd (unwritten file meta are a.written)
+  by_ids xs ys (Some ids) are a b none =
+      same_lists IsBefore before_not_back xs ys (rises_by xs (a.rises none)) (rises_by ys (b.rises none))
+      (λ z h. from_contains ys z ((b.exact none ids are z).1 ((a.exact none ids are z).0 (to_contains xs z h))))
+      (λ z h. from_contains xs z ((a.exact none ids are z).1 ((b.exact none ids are z).0 (to_contains ys z h))))
+
+  -- a list of more or less than one finding has none on the freelist's page, and two lists of one finding on it are the same
+  pub account_findings_once : (xs ys : List Finding) → Are xs → Are ys → xs ≡ ys
+  account_findings_once [] ys a b = by_ids [] ys (free_ids_of file meta) refl a b (λ z bad. let e = a.of_page z bad in cc)
+  account_findings_once (x ∷ w ∷ xs) ys a b = by_ids (x ∷ w ∷ xs) ys (free_ids_of file meta) refl a b (λ z bad. let e = a.of_page z bad in cc)
+  account_findings_once (x ∷ []) [] a b = by_ids (x ∷ []) [] (free_ids_of file meta) refl a b (λ z bad. let e = b.of_page z bad in cc)
+  account_findings_once (x ∷ []) (y ∷ w ∷ ys) a b = by_ids (x ∷ []) (y ∷ w ∷ ys) (free_ids_of file meta) refl a b (λ z bad. let e = b.of_page z bad in cc)
+  account_findings_once (x ∷ []) (y ∷ []) a b = elim (finding_differs x y) [
+    | inl same ↦ ap (λ (z : Finding). z ∷ []) same
+    | inr other ↦ by_ids (x ∷ []) (y ∷ []) (free_ids_of file meta) refl a b (λ z bad. other (let e = a.of_page z bad in let f = b.of_page z bad in cc))
+  ]

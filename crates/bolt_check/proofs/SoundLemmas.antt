@@ -16,6 +16,10 @@ use Rattle.bolt_check.specs.declared.table.PageUse.{PageUse}
 use Rattle.bolt_check.proofs.AccountsAlong.{account_findings_along, has_accounts_along}
 use Rattle.bolt_check.proofs.Shaping.{shape_of}
 
+pub right_of : (file : List ℕ) (meta : Meta) (table : List PageUse) → ((n : ℕ) → IsClaimed table n ↔ IsUsed file meta n)
+    → HasAccounts file meta (IsClaimed table) → HasRightAccounts file meta
+right_of file meta table same = has_accounts_along file meta (IsClaimed table) (IsUsed file meta) same
+
 pub wrong_of : (file : List ℕ) (meta : Meta) (table : List PageUse) → ((n : ℕ) → IsClaimed table n ↔ IsUsed file meta n)
     → (HasAccounts file meta (IsClaimed table) → ⊥) → HasRightAccounts file meta → ⊥
 wrong_of file meta table same wrong right = wrong (has_accounts_along file meta (IsUsed file meta) (IsClaimed table) (λ n. ((same n).1, (same n).0)) right)
@@ -31,7 +35,7 @@ sound_of file slot meta table chosen clean same accounts = record {
   slot = slot;
   valid = chosen.valid;
   trees = shape_of (node_at file meta) meta.root clean;
-  right = λ _. has_accounts_along file meta (IsClaimed table) (IsUsed file meta) same accounts;
+  right = λ _. right_of file meta table same accounts;
 }
 
 pub tested_of : (file : List ℕ) (slot : Slot) (meta : Meta) (table : List PageUse) → IsChosen file slot meta

@@ -5,14 +5,15 @@ use Rattle.bolt_check.specs.CheckedFiles.{meta_of}
 use Rattle.bolt_check.specs.Nodes.{node_at}
 use Rattle.bolt_check.proofs.RoleLemmas.{uses_with}
 use Rattle.bolt_check.proofs.Shaping.{shape_of}
-use Rattle.bolt_check.proofs.SoundLemmas.{some_items, sound_of, findings_of_file, tested_of, wrong_of}
+use Rattle.bolt_check.proofs.SoundLemmas.{right_of, some_items, sound_of, findings_of_file, tested_of, wrong_of}
 use Rattle.bolt_check.proofs.Visited.{stored}
 use Rattle.bolt_check.proofs.sound.check_roles.Goals as goal
 
 pub invariant_of-checked-clause-sound : goal.invariant_of-checked-clause-sound
 invariant_of-checked-clause-sound c =
     let right = rw c.deref_mut.ensures.value at c.in_ok-findings.ensures.right in
-    merely (tested_of c.args.file.now c.in_ok-meta.field-0-0 c.in_ok-meta.meta c.in_ok-table.table.items c.in_ok-meta.ensures.chosen c.in_ok-table.ensures.clean c.in_ok-table.ensures.covered (right (grind (arith, common_steps, c.is_empty.ensures, c.if-not-is_empty.false))))
+    merely (tested_of c.args.file.now c.in_ok-meta.field-0-0 c.in_ok-meta.meta c.in_ok-table.table.items c.in_ok-meta.ensures.chosen
+    c.in_ok-table.ensures.clean c.in_ok-table.ensures.covered (right (grind (arith, common_steps, c.is_empty.ensures, c.if-not-is_empty.false))))
 
 pub invariant_of-result : goal.invariant_of-result
 invariant_of-result c =
@@ -20,17 +21,19 @@ invariant_of-result c =
     let kept = stored table c.deref_mut.result.now c.test_accounts.new.table c.deref_mut.ensures.value c.test_accounts.auto.table in
     let right = rw c.deref_mut.ensures.value at c.in_ok-findings.ensures.right in
     let claims = rw c.deref_mut.ensures.value at c.in_ok-findings.ensures.uses in
-    let sound = sound_of c.args.file.now c.in_ok-meta.field-0-0 c.in_ok-meta.meta table.items c.in_ok-meta.ensures.chosen c.in_ok-table.ensures.clean c.in_ok-table.ensures.covered (right (grind (arith, common_steps, c.is_empty.ensures, c.if-not-is_empty.false))) in
+    let empty : c.in_ok-findings.findings.items ≡ [] = grind (arith, common_steps, c.is_empty.ensures, c.if-not-is_empty.false) in
+    let accounts = right_of c.args.file.now c.in_ok-meta.meta table.items c.in_ok-table.ensures.covered (right empty) in
     record {
-      uses = rw kept (merely
-          (uses_with c.args.file.now c.in_ok-meta.meta table.items c.test_accounts.new.table (sound.right refl) c.in_ok-table.ensures.covered c.in_ok-table.ensures.uses (claims (grind (arith, common_steps, c.is_empty.ensures, c.if-not-is_empty.false)))));
+      uses = rw kept (merely (uses_with c.args.file.now c.in_ok-meta.meta table.items c.test_accounts.new.table accounts
+          c.in_ok-table.ensures.covered c.in_ok-table.ensures.uses (claims empty)));
     }
 
 pub returns-clause-sound : goal.returns-clause-sound
 unfolding meta_of roles_checked
 returns-clause-sound c =
     let right = rw c.deref_mut.ensures.value at c.in_ok-findings.ensures.right in
-    sound_of c.args.file.now c.in_ok-meta.field-0-0 c.in_ok-meta.meta c.in_ok-table.table.items c.in_ok-meta.ensures.chosen c.in_ok-table.ensures.clean c.in_ok-table.ensures.covered (right (grind (arith, common_steps, c.is_empty.ensures, c.if-not-is_empty.false)))
+    sound_of c.args.file.now c.in_ok-meta.field-0-0 c.in_ok-meta.meta c.in_ok-table.table.items c.in_ok-meta.ensures.chosen
+    c.in_ok-table.ensures.clean c.in_ok-table.ensures.covered (right (grind (arith, common_steps, c.is_empty.ensures, c.if-not-is_empty.false)))
 
 pub returns-then-not-is_empty-clause-refused : goal.returns-then-not-is_empty-clause-refused
 returns-then-not-is_empty-clause-refused c =
