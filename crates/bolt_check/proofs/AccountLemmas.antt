@@ -141,15 +141,12 @@ module _ (file : List ℕ) (meta : Meta) where
     reported_shared n is at lowest = reported_alone (finding TWICE n) is.written (shared is at lowest) (only_shared n is at lowest)
 
   module _ (used : ℕ → Type 0) (ids : List ℕ) (good : freelist_fault_of file meta ≡ None) (are : free_ids_of file meta ≡ Some ids) where
-    same_ids : (others : List ℕ) → free_ids_of file meta ≡ Some others → ids ≡ others
-    same_ids others e = same_Some ids others (sym are ∙ e)
-
     module _ (apart : (n : ℕ) → IsInFreelist file meta n → used n → ⊥) (findings : List Finding) (reported : AreAllFindings meta.high_water (IsInUse file meta used) (times_in ids) findings) where
       pub accounts_right : findings ≡ [] → HasAccounts file meta used
       accounts_right e = record {
         good = good;
         apart = apart;
-        lists = λ others f. subst (λ (xs : List ℕ). ListsFree meta.high_water (IsInUse file meta used) (times_in xs)) (same_ids others f)
+        lists = λ others f. subst (λ (xs : List ℕ). ListsFree meta.high_water (IsInUse file meta used) (times_in xs)) (same_Some ids others (sym are ∙ f))
             (lists_free meta.high_water (IsInUse file meta used) (times_in ids) (subst (AreAllFindings meta.high_water (IsInUse file meta used) (times_in ids)) e reported));
       }
 
@@ -165,7 +162,7 @@ module _ (file : List ℕ) (meta : Meta) where
         written = written ids are;
         of_page = λ x is. absurd (no_page x is);
         rises = λ none. reported.rises;
-        exact = λ none others e. subst (λ (xs : List ℕ). (x : Finding) → Contains findings x ↔ IsAccountFinding meta.high_water (IsInUse file meta used) (times_in xs) x) (same_ids others e) reported.exact;
+        exact = λ none others e. subst (λ (xs : List ℕ). (x : Finding) → Contains findings x ↔ IsAccountFinding meta.high_water (IsInUse file meta used) (times_in xs) x) (same_Some ids others (sym are ∙ e)) reported.exact;
       }
 
 -- once the freelist's span is claimed, all pages in use are claimed

@@ -37,9 +37,6 @@ place_of (x ∷ xs) n h =
 abbrev Rises : List ℕ → Type 0
 Rises xs = (i j : ℕ) → i ≤ j → j < length xs → get_or xs i 0 ≤ get_or xs j 0
 
-rises_tail : (x : ℕ) (xs : List ℕ) → Rises (x ∷ xs) → Rises xs
-rises_tail x xs up i j order h = up (suc i) (suc j) (omega arith) (omega arith)
-
 -- at its first place a number stands once, unless the next is the same
 pub times_once : (xs : List ℕ) (i : ℕ) → Rises xs → i < length xs → ((k : ℕ) → k < i → get_or xs k 0 < get_or xs i 0)
     → (suc i < length xs → get_or xs (suc i) 0 ≡ get_or xs i 0 → ⊥) → times_in xs (get_or xs i 0) ≡ 1
@@ -51,7 +48,7 @@ times_once (x ∷ xs) zero up h first next =
     let t = times_here x x xs refl in omega (arith, t, none)
 times_once (x ∷ xs) (suc i) up h first next =
     let below = first 0 (omega arith) in
-    let rest = times_once xs i (rises_tail x xs up) (omega arith) (λ k l. first (suc k) (omega arith)) (λ l e. next (omega arith) e) in
+    let rest = times_once xs i (λ a b order l. up (suc a) (suc b) (omega arith) (omega arith)) (omega arith) (λ k l. first (suc k) (omega arith)) (λ l e. next (omega arith) e) in
     times_there x (get_or xs i 0) xs (λ e. omega (arith, below, e)) ∙ rest
 
 -- and at least twice, where it is

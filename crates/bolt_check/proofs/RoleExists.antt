@@ -1,5 +1,5 @@
 -- In a sound file each page below the mark has a role: the tour says whether a way leads to it.
-use Rattle.std.proofs.Common.{◌≡◌, ℕ, ◌+◌, ◌<◌, ◌≤◌, ◌⊎◌, inl, inr, Bool, true, false, List, [], ◌∷◌, Option, Some, None, Result, Ok, Err, refl, arith}
+use Rattle.std.proofs.Common.{◌≡◌, ℕ, ◌+◌, ◌<◌, ◌≤◌, ◌⊎◌, inl, inr, Bool, true, false, List, [], ◌∷◌, Option, Some, Result, Ok, Err, refl, arith}
 use Rattle.std.proofs.lemmas.Bool.{cases_lt, cases_eq, eq-eqb, ne_eqb}
 use Rattle.bolt_format.specs.Pages.{page_overflow}
 use Rattle.bolt_format.specs.declared.meta.Meta.{Meta}
@@ -8,7 +8,7 @@ use Rattle.bolt_check.specs.Accounts.{IsInFreelist}
 use Rattle.bolt_check.specs.Nodes.{Node, Nodes, node_at}
 use Rattle.bolt_check.specs.Roles.{HasRole}
 use Rattle.bolt_check.specs.Sound.{HasRightAccounts, HasSoundTrees}
-use Rattle.bolt_check.specs.Ways.{At_inline, At_page, PageSpot, Reach, SpanHas, SpanOf, Spot, reached}
+use Rattle.bolt_check.specs.Ways.{At_page, PageSpot, Reach, SpanHas, SpanOf, Spot, reached}
 use Rattle.bolt_check.specs.declared.role.Role.{Role}
 use Rattle.bolt_check.specs.declared.role.Role.TheVariants as role
 use Rattle.bolt_check.specs.Tours.{IsTour}

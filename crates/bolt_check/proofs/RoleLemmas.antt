@@ -118,8 +118,3 @@ uses_with file meta old new right claimed uses claims = record {
   good = right.good;
   claimed = λ n in_use. claims.claimed n (elim in_use [ inl used ↦ inl ((claimed n).1 used) | inr is ↦ inr is ]);
 }
-
--- the freelist shares no page with those that are used
-pub none_shared : (file : List ℕ) (meta : Meta) (table : List PageUse) (n : ℕ) → IsSound file meta true → ((k : ℕ) → IsClaimed table k ↔ IsUsed file meta k)
-    → IsInFreelist file meta n → IsClaimed table n → ⊥
-none_shared file meta table n sound claimed is was = (sound.right refl).apart n is ((claimed n).0 was)

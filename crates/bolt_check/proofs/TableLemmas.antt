@@ -27,9 +27,6 @@ unclaimed_set t i =
 pub other_kept : (t : List PageUse) (n k : ℕ) (u : PageUse) → k ≢ n → use_at t k ≡ u → use_at (set t n Used) k ≡ u
 other_kept t n k u ne h = rw get_or-set_other h
 
-pub others_kept : (t : List PageUse) (i : ℕ) (u : PageUse) (n : ℕ) → n ≢ i → use_at (set t i u) n ≡ use_at t n
-others_kept t i u n other = get_or-set_other t i n u (first_use n) other
-
 pub used_kept : (t : List PageUse) (i : ℕ) (u : PageUse) → i < length t → is_used u ≡ is_used (get_or t i Unused) → (n : ℕ) → is_used (use_at (set t i u) n) ≡ is_used (use_at t n)
 used_kept t i u inside same n =
     elim (cases_eq n i) [

@@ -13,7 +13,7 @@ use Rattle.bolt_check.specs.Private.Uses.{IsMetaUse, IsNoted}
 use Rattle.bolt_check.specs.ShownSpots.{spot_at}
 use Rattle.bolt_check.specs.Ways.{At_inline, At_page, PageSpot, Reach, Spot, reached, root_spot}
 use Rattle.bolt_check.specs.declared.fault.CheckFault.{CheckFault}
-use Rattle.bolt_check.specs.declared.fault.CheckFault.TheVariants.{Accounts, Memory, Open, Structure}
+use Rattle.bolt_check.specs.declared.fault.CheckFault.TheVariants.{Structure}
 use Rattle.bolt_check.specs.declared.finding.Finding.{Finding}
 use Rattle.bolt_check.specs.declared.spot.Spot.{Spot as CodeSpot}
 use Rattle.bolt_check.specs.declared.table.PageUse.{PageUse}

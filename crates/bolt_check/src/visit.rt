@@ -22,7 +22,7 @@ use crate::tree_page::TreePage;
 use bolt_format::Meta;
 
 /// Tests a page, and claims its span if the tests find nothing.
-#[tactic(auto, using(crate::proofs::VisitLemmas::visit_rules, crate::proofs::Spans::not_both, crate::proofs::Spans::outside_span, crate::proofs::Lawful::early_passes))]
+#[tactic(auto, using(crate::proofs::VisitLemmas::visit_rules, crate::proofs::Spans::outside_span))]
 pub(crate) fn visit<'a>(
     file: &'a [u8],
     meta: &Meta,

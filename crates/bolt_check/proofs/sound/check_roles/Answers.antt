@@ -1,4 +1,4 @@
-use Rattle.std.proofs.Common.{◌≡◌, ◌≢◌, ◌∙◌, sym, [], drop, length, ap, arith, refl}
+use Rattle.std.proofs.Common.{◌≡◌, ◌≢◌, ◌∙◌, sym, [], arith}
 use Rattle.std.proofs.lemmas.Grind.{common_steps, merely}
 use Rattle.bolt_check.specs.RoledFiles.{roles_checked}
 use Rattle.bolt_check.specs.CheckedFiles.{meta_of}

@@ -1,7 +1,6 @@
 use Rattle.std.proofs.Common.{refl}
 use Rattle.std.proofs.Math.Logic.{∥∥₁_elim}
 use Rattle.std.proofs.Props.{props}
-use Rattle.bolt_check.proofs.RoleLemmas.{none_shared}
 use Rattle.bolt_check.proofs.uses.claim_written.Goals as goal
 
 pub claim_freelist-requires-clause-good : goal.claim_freelist-requires-clause-good
@@ -10,4 +9,4 @@ claim_freelist-requires-clause-good c = ∥∥₁_elim c.requires.sound (Prim.hl
 pub unreachable-requires : goal.unreachable-requires
 unreachable-requires c =
     let shared = c.in-Some.ensures.shared in
-    ∥∥₁_elim c.requires.sound (Prim.hlevel props) (λ sound. none_shared c.args.file.now c.args.meta.now c.args.table.now _ sound c.requires.claimed shared.0 shared.1)
+    ∥∥₁_elim c.requires.sound (Prim.hlevel props) (λ sound. (sound.right refl).apart _ shared.0 ((c.requires.claimed _).0 shared.1))

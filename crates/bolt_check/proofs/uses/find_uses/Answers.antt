@@ -1,6 +1,5 @@
-use Rattle.std.proofs.Common.{◌≡◌, ap, arith, drop, length, refl}
+use Rattle.std.proofs.Common.{refl}
 use Rattle.std.proofs.Math.Logic.{∥∥₁_map}
-use Rattle.std.proofs.lemmas.Grind.{common_steps}
 use Rattle.bolt_check.proofs.RoleLemmas.{uses_with}
 use Rattle.bolt_check.proofs.Visited.{stored}
 use Rattle.bolt_check.proofs.uses.find_uses.Goals as goal
