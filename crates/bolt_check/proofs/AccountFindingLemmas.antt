@@ -40,24 +40,26 @@ is_one x y e = (0, omega arith, sym e)
 pub one_rises : (y : Finding) → AllPairs IsBefore (y ∷ [])
 one_rises y i j d h l = absurd (omega arith)
 
-module _ (mark : ℕ) (in_use : ℕ → Type 0) (times : ℕ → ℕ) where
-  pub reported_append : (from next : ℕ) (findings ys : List Finding) → AreFindingsBelow mark in_use times from findings → from ≤ next → Reports mark in_use times from next ys
-      → AreFindingsBelow mark in_use times next (findings ++ ys)
-  reported_append from next findings ys reported order more = record {
-    sound = All-append (IsAccountFinding mark in_use times) findings ys reported.sound more.sound;
-    below = All-append (λ x. x.page < next) findings ys (All-weaker (λ x. x.page < from) (λ x. x.page < next) (λ x h. omega arith) findings reported.below)
-        (All-weaker (λ x. (from ≤ x.page) × (x.page < next)) (λ x. x.page < next) (λ x h. h.1) ys more.within);
-    complete = λ x is h. elim (cases_lt x.page from) [
-      | inl before ↦ Contains-append_left findings ys x (reported.complete x is before)
-      | inr after ↦ Contains-append_right findings ys x (more.complete x is after h)
-    ];
-    rises = rises_append findings ys from reported.rises more.rises reported.below (All-weaker (λ x. (from ≤ x.page) × (x.page < next)) (λ x. from ≤ x.page) (λ x h. h.0) ys more.within);
-    silent = λ e n h gone. let both = append_empty findings ys e in elim (cases_lt n from) [
-      | inl before ↦ reported.silent both.0 n before gone
-      | inr after ↦ more.silent both.1 n after h gone
-    ];
-  }
+pub reported_append : {mark : ℕ} {in_use : ℕ → Type 0} {times : ℕ → ℕ} {from next : ℕ} {findings ys : List Finding}
+    → AreFindingsBelow mark in_use times from findings → from ≤ next
+    → Reports mark in_use times from next ys → AreFindingsBelow mark in_use times next (findings ++ ys)
+reported_append {mark = mark} {in_use = in_use} {times = times} {from = from} {next = next} {findings = findings} {ys = ys} reported order more = record {
+  sound = All-append (IsAccountFinding mark in_use times) findings ys reported.sound more.sound;
+  below = All-append (λ x. x.page < next) findings ys (All-weaker (λ x. x.page < from) (λ x. x.page < next) (λ x h. omega arith) findings reported.below)
+      (All-weaker (λ x. (from ≤ x.page) × (x.page < next)) (λ x. x.page < next) (λ x h. h.1) ys more.within);
+  complete = λ x is h. elim (cases_lt x.page from) [
+    | inl before ↦ Contains-append_left findings ys x (reported.complete x is before)
+    | inr after ↦ Contains-append_right findings ys x (more.complete x is after h)
+  ];
+  rises = rises_append findings ys from reported.rises more.rises reported.below
+      (All-weaker (λ x. (from ≤ x.page) × (x.page < next)) (λ x. from ≤ x.page) (λ x h. h.0) ys more.within);
+  silent = λ e n h gone. let both = append_empty findings ys e in elim (cases_lt n from) [
+    | inl before ↦ reported.silent both.0 n before gone
+    | inr after ↦ more.silent both.1 n after h gone
+  ];
+}
 
+module _ (mark : ℕ) (in_use : ℕ → Type 0) (times : ℕ → ℕ) where
   pub reports_none : (from next : ℕ) → ((n : ℕ) → from ≤ n → n < next → IsLost mark in_use times n → ⊥)
       → ((x : Finding) → IsAccountFinding mark in_use times x → from ≤ x.page → x.page < next → ⊥) → Reports mark in_use times from next []
   reports_none from next kept none = record {
@@ -103,12 +105,13 @@ module _ (mark : ℕ) (in_use : ℕ → Type 0) (times : ℕ → ℕ) where
       let next : suc (page - 1) ≡ page = omega arith in
       unreachable (omega arith) (λ n low high. run.lost n low (omega arith)) (λ lost. ends (subst (IsLost mark in_use times) next lost)) run.begins
 
-  -- the lost pages before a page that is not lost
-  pub reports_run : (from page : ℕ) → from ≤ page → IsRun mark in_use times from page → (IsLost mark in_use times page → ⊥)
-      → Reports mark in_use times from page (run_findings from page)
-  reports_run from page order run ends =
-      elim (cases_lt from page) [
-        | inl some ↦ rw (lt-ltb from page some) (reports_one from page (record { number = UNREACHABLE; page = from; last = page - 1 }) (run_found from page some run ends) (omega arith) some
-            (run_is from page run ends))
-        | inr none ↦ rw (le-ltb from page none) (reports_none from page (λ n low high. absurd (omega arith)) (λ x is low high. absurd (omega arith)))
-      ]
+-- the lost pages before a page that is not lost
+pub reports_run : {mark : ℕ} {in_use : ℕ → Type 0} {times : ℕ → ℕ} {from page : ℕ} → from ≤ page → IsRun mark in_use times from page
+    → (IsLost mark in_use times page → ⊥)
+    → Reports mark in_use times from page (run_findings from page)
+reports_run {mark = mark} {in_use = in_use} {times = times} {from = from} {page = page} order run ends = elim (cases_lt from page) [
+  | inl some ↦ rw (lt-ltb from page some) (reports_one mark in_use times from page (record { number = UNREACHABLE; page = from; last = page - 1 })
+      (run_found mark in_use times from page some run ends) (omega arith) some (run_is mark in_use times from page run ends))
+  | inr none ↦ rw (le-ltb from page none)
+      (reports_none mark in_use times from page (λ n low high. absurd (omega arith)) (λ x is low high. absurd (omega arith)))
+]

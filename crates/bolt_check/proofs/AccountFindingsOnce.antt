@@ -1,19 +1,14 @@
 -- There is one list of findings of the accounts.
 use Rattle.std.proofs.Common.{◌≡◌, ◌≢◌, ◌⊎◌, ◌∙◌, ℕ, zero, suc, List, [], ◌∷◌, AllPairs, Contains, Option, Some, None, ap, ap₂, sym, refl, subst, inl, inr, arith}
-use Rattle.std.proofs.lemmas.Bool.{cases_order}
+use Rattle.std.proofs.lemmas.Bool.{cases_eq}
 use Rattle.bolt_format.specs.Freelists.{free_ids_of}
 use Rattle.bolt_format.specs.declared.meta.Meta.{Meta}
 use Rattle.bolt_check.specs.AccountFindings.{AreAccountFindings, IsBefore, IsFreelistFinding}
 use Rattle.bolt_check.specs.declared.finding.Finding.{Finding}
+use Rattle.bolt_check.specs.Sound.{IsUsed}
+use Rattle.bolt_check.specs.Subtrees.{Has}
 use Rattle.bolt_check.proofs.AccountLemmas.{unwritten}
-
--- ---- findings and their lists can be reported apart
-
-differs : (n m : ℕ) → (n ≡ m) ⊎ (n ≢ m)
-differs n m = elim (cases_order n m) [
-  | inl e ↦ inl e
-  | inr d ↦ inr (λ e. elim d [ inl lt ↦ omega (arith, lt, e) | inr gt ↦ omega (arith, gt, e) ])
-]
+use Rattle.bolt_check.proofs.Rising.{RisesBy, same_lists}
 
 same_finding : (x y : Finding) → x.number ≡ y.number → x.page ≡ y.page → x.last ≡ y.last → x ≡ y
 same_finding x y number page last =
@@ -21,38 +16,14 @@ same_finding x y number page last =
     ∙ ap₂ (λ (p l : ℕ). record { number = y.number; page = p; last = l }) page last
 
 finding_differs : (x y : Finding) → (x ≡ y) ⊎ (x ≢ y)
-finding_differs x y = elim (differs x.number y.number) [
+finding_differs x y = elim (cases_eq x.number y.number) [
   | inr other ↦ inr (λ e. other (ap (λ (z : Finding). z.number) e))
-  | inl number ↦ elim (differs x.page y.page) [
+  | inl number ↦ elim (cases_eq x.page y.page) [
     | inr other ↦ inr (λ e. other (ap (λ (z : Finding). z.page) e))
-    | inl page ↦ elim (differs x.last y.last) [
-      | inr other ↦ inr (λ e. other (ap (λ (z : Finding). z.last) e))
-      | inl last ↦ inl (same_finding x y number page last)
-    ]
+    | inl page ↦ elim (cases_eq x.last y.last)
+        [ inr other ↦ inr (λ e. other (ap (λ (z : Finding). z.last) e)) | inl last ↦ inl (same_finding x y number page last) ]
   ]
 ]
-
-abbrev first_of : Finding → List Finding → Finding
-first_of other [] = other
-first_of other (x ∷ xs) = x
-
-abbrev rest_of : List Finding → List Finding
-rest_of [] = []
-rest_of (x ∷ xs) = xs
-
-list_differs : (xs ys : List Finding) → (xs ≡ ys) ⊎ (xs ≢ ys)
-list_differs [] [] = inl refl
-list_differs [] (y ∷ ys) = inr (λ e. cc)
-list_differs (x ∷ xs) [] = inr (λ e. cc)
-list_differs (x ∷ xs) (y ∷ ys) = elim (finding_differs x y) [
-  | inr other ↦ inr (λ e. other (ap (first_of x) e))
-  | inl same ↦ elim (list_differs xs ys) [
-    | inr other ↦ inr (λ e. other (ap rest_of e))
-    | inl rest ↦ inl (ap₂ (λ (z : Finding) (zs : List Finding). z ∷ zs) same rest)
-  ]
-]
-
--- ---- two lists in order with the same findings
 
 before_not_back : (x y : Finding) → IsBefore x y → IsBefore y x → ⊥
 before_not_back x y (inl a) (inl b) = omega (arith, a, b)
@@ -60,63 +31,42 @@ before_not_back x y (inl a) (inr b) = omega (arith, a, b.0)
 before_not_back x y (inr a) (inl b) = omega (arith, a.0, b)
 before_not_back x y (inr a) (inr b) = omega (arith, a.1, b.1)
 
-rest_rises : (x : Finding) (xs : List Finding) → AllPairs IsBefore (x ∷ xs) → AllPairs IsBefore xs
-rest_rises x xs rises i j d h k = rises (suc i) (suc j) d (omega (arith, h)) (omega (arith, k))
+from_contains : (xs : List Finding) (z : Finding) → Contains xs z → Has z xs
+from_contains [] z (k, within, is) = absurd (omega (arith, within))
+from_contains (x ∷ xs) z (zero, within, is) = inl (sym is)
+from_contains (x ∷ xs) z (suc k, within, is) = inr (from_contains xs z (k, omega (arith, within), is))
 
-is_before_rest : (x : Finding) (xs : List Finding) (y : Finding) → AllPairs IsBefore (x ∷ xs) → Contains xs y → IsBefore x y
-is_before_rest x xs y rises (k, within, is) = subst (IsBefore x) is (rises 0 (suc k) y (omega arith) (omega (arith, within)))
+to_contains : (xs : List Finding) (z : Finding) → Has z xs → Contains xs z
+to_contains [] z h = absurd h
+to_contains (x ∷ xs) z (inl e) = (0, omega arith, sym e)
+to_contains (x ∷ xs) z (inr h) = let (k, within, is) = to_contains xs z h in (suc k, omega (arith, within), is)
 
-is_first : (x : Finding) (xs : List Finding) → Contains (x ∷ xs) x
-is_first x xs = (0, omega arith, refl)
+rises_by : (xs : List Finding) → AllPairs IsBefore xs → RisesBy IsBefore xs
+rises_by [] rises = tt
+rises_by (x ∷ xs) rises = (
+  λ z h. let (k, within, is) = to_contains xs z h in subst (IsBefore x) is (rises 0 (suc k) z (omega arith) (omega (arith, within))),
+  rises_by xs (λ i j d h k. rises (suc i) (suc j) d (omega (arith, h)) (omega (arith, k))),
+)
 
-in_rest : (x : Finding) (xs : List Finding) (y : Finding) → Contains xs y → Contains (x ∷ xs) y
-in_rest x xs y (k, within, is) = (suc k, omega (arith, within), is)
+module _ (file : List ℕ) (meta : Meta) where
+  abbrev Are : List Finding → Type 0
+  Are = AreAccountFindings file meta (IsUsed file meta)
 
-first_or_rest : (x : Finding) (xs : List Finding) (y : Finding) → Contains (x ∷ xs) y → (x ≡ y) ⊎ Contains xs y
-first_or_rest x xs y (zero, within, is) = inl is
-first_or_rest x xs y (suc k, within, is) = inr (k, omega (arith, within), is)
+  by_ids : (xs ys : List Finding) (ids : Option (List ℕ)) → free_ids_of file meta ≡ ids → Are xs → Are ys
+      → ((x : Finding) → IsFreelistFinding file meta (IsUsed file meta) x → ⊥) → xs ≡ ys
+  by_ids xs ys None are a b none = absurd (unwritten file meta are a.written)
+  by_ids xs ys (Some ids) are a b none =
+      same_lists IsBefore before_not_back xs ys (rises_by xs (a.rises none)) (rises_by ys (b.rises none))
+      (λ z h. from_contains ys z ((b.exact none ids are z).1 ((a.exact none ids are z).0 (to_contains xs z h))))
+      (λ z h. from_contains xs z ((a.exact none ids are z).1 ((b.exact none ids are z).0 (to_contains ys z h))))
 
-none_in_none : (y : Finding) → Contains [] y → ⊥
-none_in_none y (k, within, is) = omega (arith, within)
-
-same_first : (x y : Finding) (xs ys : List Finding) → AllPairs IsBefore (x ∷ xs) → AllPairs IsBefore (y ∷ ys) → Contains (y ∷ ys) x → Contains (x ∷ xs) y → x ≡ y
-same_first x y xs ys a b there back = elim (first_or_rest y ys x there) [
-  | inl e ↦ sym e
-  | inr later ↦ elim (first_or_rest x xs y back) [
-    | inl e ↦ e
-    | inr also ↦ absurd (before_not_back x y (is_before_rest x xs y a also) (is_before_rest y ys x b later))
+  -- a list of more or less than one finding has none on the freelist's page, and two lists of one finding on it are the same
+  pub account_findings_once : (xs ys : List Finding) → Are xs → Are ys → xs ≡ ys
+  account_findings_once [] ys a b = by_ids [] ys (free_ids_of file meta) refl a b (λ z bad. let e = a.of_page z bad in cc)
+  account_findings_once (x ∷ w ∷ xs) ys a b = by_ids (x ∷ w ∷ xs) ys (free_ids_of file meta) refl a b (λ z bad. let e = a.of_page z bad in cc)
+  account_findings_once (x ∷ []) [] a b = by_ids (x ∷ []) [] (free_ids_of file meta) refl a b (λ z bad. let e = b.of_page z bad in cc)
+  account_findings_once (x ∷ []) (y ∷ w ∷ ys) a b = by_ids (x ∷ []) (y ∷ w ∷ ys) (free_ids_of file meta) refl a b (λ z bad. let e = b.of_page z bad in cc)
+  account_findings_once (x ∷ []) (y ∷ []) a b = elim (finding_differs x y) [
+    | inl same ↦ ap (λ (z : Finding). z ∷ []) same
+    | inr other ↦ by_ids (x ∷ []) (y ∷ []) (free_ids_of file meta) refl a b (λ z bad. other (let e = a.of_page z bad in let f = b.of_page z bad in cc))
   ]
-]
-
--- what is in the rest of one is in the rest of the other
-rest_in : (x y : Finding) (xs ys : List Finding) → x ≡ y → AllPairs IsBefore (x ∷ xs) → ((z : Finding) → Contains (x ∷ xs) z → Contains (y ∷ ys) z)
-    → (z : Finding) → Contains xs z → Contains ys z
-rest_in x y xs ys same a there z has = elim (first_or_rest y ys z (there z (in_rest x xs z has))) [
-  | inr later ↦ later
-  | inl e ↦ let before = subst (IsBefore x) (sym (same ∙ e)) (is_before_rest x xs z a has) in absurd (before_not_back x x before before)
-]
-
-same_lists : (xs ys : List Finding) → AllPairs IsBefore xs → AllPairs IsBefore ys → ((z : Finding) → Contains xs z → Contains ys z)
-    → ((z : Finding) → Contains ys z → Contains xs z) → xs ≡ ys
-same_lists [] [] a b there back = refl
-same_lists [] (y ∷ ys) a b there back = absurd (none_in_none y (back y (is_first y ys)))
-same_lists (x ∷ xs) [] a b there back = absurd (none_in_none x (there x (is_first x xs)))
-same_lists (x ∷ xs) (y ∷ ys) a b there back =
-    let same = same_first x y xs ys a b (there x (is_first x xs)) (back y (is_first y ys)) in
-    ap₂ (λ (z : Finding) (zs : List Finding). z ∷ zs) same
-    (same_lists xs ys (rest_rises x xs a) (rest_rises y ys b) (rest_in x y xs ys same a there) (rest_in y x ys xs (sym same) b back))
-
--- ---- what is reported
-
-by_ids : (file : List ℕ) (meta : Meta) (used : ℕ → Type 0) (xs ys : List Finding) (ids : Option (List ℕ)) → free_ids_of file meta ≡ ids
-    → AreAccountFindings file meta used xs → AreAccountFindings file meta used ys → ((x : Finding) → IsFreelistFinding file meta used x → ⊥) → xs ≡ ys
-by_ids file meta used xs ys None are a b none = absurd (unwritten file meta are a.written)
-by_ids file meta used xs ys (Some ids) are a b none =
-    same_lists xs ys (a.rises none) (b.rises none)
-    (λ z has. (b.exact none ids are z).1 ((a.exact none ids are z).0 has)) (λ z has. (a.exact none ids are z).1 ((b.exact none ids are z).0 has))
-
-pub account_findings_once : (file : List ℕ) (meta : Meta) (used : ℕ → Type 0) (xs ys : List Finding) → AreAccountFindings file meta used xs → AreAccountFindings file meta used ys → xs ≡ ys
-account_findings_once file meta used xs ys a b = elim (list_differs xs ys) [
-  | inl same ↦ same
-  | inr other ↦ by_ids file meta used xs ys (free_ids_of file meta) refl a b (λ x bad. other (a.of_page x bad ∙ sym (b.of_page x bad)))
-]

@@ -5,7 +5,7 @@ use Rattle.std.proofs.lemmas.Option.{none-some, same_Some}
 use Rattle.bolt_format.specs.Freelists.{free_ids_at, free_ids_of, freelist_fault, freelist_fault_of}
 use Rattle.bolt_format.specs.declared.meta.Meta.{Meta}
 use Rattle.bolt_format.specs.declared.meta.TheConstants.{NO_FREELIST}
-use Rattle.bolt_check.specs.Accounts.{HasAccounts, IsFree, IsInFreelist, IsInUse, ListsFree, times_in}
+use Rattle.bolt_check.specs.Accounts.{HasAccounts, IsInFreelist, IsInUse, ListsFree, times_in}
 use Rattle.bolt_check.specs.Findings.{finding}
 use Rattle.bolt_check.specs.Private.Listings.{AreAllFindings, ClaimsFreelist}
 use Rattle.bolt_check.specs.Private.Tables.{IsClaimed}
@@ -15,40 +15,46 @@ use Rattle.bolt_check.specs.declared.finding.TheConstants.Finding.{TWICE}
 use Rattle.bolt_check.specs.declared.table.PageUse.{PageUse}
 
 -- the same pages in use, and counts that differ above 2 alone
-module _ (mark : ℕ) (in_use also : ℕ → Type 0) (times counts : ℕ → ℕ) (there : (n : ℕ) → in_use n → also n) (back : (n : ℕ) → also n → in_use n)
-    (same : (n : ℕ) → min 2 (times n) ≡ min 2 (counts n)) where
-  lost_along : (n : ℕ) → IsLost mark in_use times n → IsLost mark also counts n
-  lost_along n is = record {
-    free = record { above_metas = is.free.above_metas; below = is.free.below; unused = λ u. is.free.unused (back n u) };
-    unlisted = let e = same n in let zero = is.unlisted in omega (arith, e, zero);
+pub record IsAlike (in_use also : ℕ → Type 0) (times counts : ℕ → ℕ) : Type 0 where
+  pub there : (n : ℕ) → in_use n → also n
+  pub back : (n : ℕ) → also n → in_use n
+  pub counted : (n : ℕ) → min 2 (times n) ≡ min 2 (counts n)
+
+pub alike_back : (in_use also : ℕ → Type 0) (times counts : ℕ → ℕ) → IsAlike in_use also times counts → IsAlike also in_use counts times
+alike_back in_use also times counts alike = record { there = alike.back; back = alike.there; counted = λ n. sym (alike.counted n) }
+
+module _ (mark : ℕ) where
+  lost_along : {in_use also : ℕ → Type 0} {times counts : ℕ → ℕ} → IsAlike in_use also times counts → (n : ℕ) → IsLost mark in_use times n
+      → IsLost mark also counts n
+  lost_along alike n is = record {
+    free = record { above_metas = is.free.above_metas; below = is.free.below; unused = λ u. is.free.unused (alike.back n u) };
+    unlisted = omega (arith, alike.counted n, is.unlisted);
   }
 
-  lost_back : (n : ℕ) → IsLost mark also counts n → IsLost mark in_use times n
-  lost_back n is = record {
-    free = record { above_metas = is.free.above_metas; below = is.free.below; unused = λ u. is.free.unused (there n u) };
-    unlisted = let e = same n in let zero = is.unlisted in omega (arith, e, zero);
-  }
+  pub finding_along : (in_use also : ℕ → Type 0) (times counts : ℕ → ℕ) → IsAlike in_use also times counts
+      → (x : Finding) → IsAccountFinding mark in_use times x → IsAccountFinding mark also counts x
+  finding_along in_use also times counts alike x (freed_twice {n = n} range two) = freed_twice range (omega (arith, alike.counted n, two))
+  finding_along in_use also times counts alike x (reached_freed {n = n} range one used) = reached_freed range (omega (arith, alike.counted n, one))
+      (alike.there n used)
+  finding_along in_use also times counts alike x (unreachable {page = page} {last = last} order lost after before) =
+      let to = lost_along alike in
+      let from = lost_along (alike_back in_use also times counts alike) in
+      unreachable order (λ n low high. to n (lost n low high)) (λ is. after (from (suc last) is)) (λ n e is. before n e (from n is))
+  finding_along in_use also times counts alike x (out_of_range {n = n} out one) = out_of_range out (omega (arith, alike.counted n, one))
 
-  pub finding_along : (x : Finding) → IsAccountFinding mark in_use times x → IsAccountFinding mark also counts x
-  finding_along x (freed_twice {n = n} range two) = freed_twice range (let e = same n in omega (arith, e, two))
-  finding_along x (reached_freed {n = n} range one used) = reached_freed range (let e = same n in omega (arith, e, one)) (there n used)
-  finding_along x (unreachable {page = page} {last = last} order lost after before) =
-      unreachable order (λ n low high. lost_along n (lost n low high)) (λ is. after (lost_back (suc last) is)) (λ n e is. before n e (lost_back n is))
-  finding_along x (out_of_range {n = n} out one) = out_of_range out (let e = same n in omega (arith, e, one))
-
-  pub finding_back : (x : Finding) → IsAccountFinding mark also counts x → IsAccountFinding mark in_use times x
-  finding_back x (freed_twice {n = n} range two) = freed_twice range (let e = same n in omega (arith, e, two))
-  finding_back x (reached_freed {n = n} range one used) = reached_freed range (let e = same n in omega (arith, e, one)) (back n used)
-  finding_back x (unreachable {page = page} {last = last} order lost after before) =
-      unreachable order (λ n low high. lost_back n (lost n low high)) (λ is. after (lost_along (suc last) is)) (λ n e is. before n e (lost_along n is))
-  finding_back x (out_of_range {n = n} out one) = out_of_range out (let e = same n in omega (arith, e, one))
-
-  pub reported_along : (findings : List Finding) → AreAllFindings mark in_use times findings → AreAllFindings mark also counts findings
-  reported_along findings reported = record {
-    exact = λ x. (λ in_list. finding_along x ((reported.exact x).0 in_list), λ is. (reported.exact x).1 (finding_back x is));
-    rises = reported.rises;
-    silent = λ e n is. reported.silent e n (lost_back n is);
-  }
+  pub reported_along : (in_use also : ℕ → Type 0) (times counts : ℕ → ℕ) → IsAlike in_use also times counts
+      → (findings : List Finding) → AreAllFindings mark in_use times findings → AreAllFindings mark also counts findings
+  reported_along in_use also times counts alike findings reported =
+      let back = alike_back in_use also times counts alike in
+      record {
+        exact = λ x. (
+          λ in_list. finding_along in_use also times counts alike x ((reported.exact x).0 in_list),
+          λ is. (reported.exact x).1
+              (finding_along also in_use counts times back x is),
+        );
+        rises = reported.rises;
+        silent = λ e n is. reported.silent e n (lost_along back n is);
+      }
 
 module _ (mark : ℕ) (in_use : ℕ → Type 0) (times : ℕ → ℕ) where
   -- nothing is reported,
@@ -64,28 +70,22 @@ module _ (mark : ℕ) (in_use : ℕ → Type 0) (times : ℕ → ℕ) where
     ]
   ]
 
-  once_in : AreAllFindings mark in_use times [] → (n : ℕ) → times n ≤ 1
-  once_in reported n = elim (cases_lt 1 (times n)) [
-    | inl more ↦ absurd (none_reported reported _ (freed_twice (in_range reported n (omega arith)) (omega arith)))
-    | inr fewer ↦ fewer
-  ]
-
-  listed_in : AreAllFindings mark in_use times [] → (n : ℕ) → IsFree mark in_use n → 1 ≤ times n
-  listed_in reported n free = elim (cases_lt 0 (times n)) [
-    | inl some ↦ omega arith
-    | inr zero ↦ absurd (reported.silent refl n (record { free = free; unlisted = omega arith }))
-  ]
-
   -- so the free pages are listed
   pub lists_free : AreAllFindings mark in_use times [] → ListsFree mark in_use times
   lists_free reported = record {
-    free = λ n one. record {
-      above_metas = (in_range reported n one).0;
-      below = (in_range reported n one).1;
-      unused = λ used. none_reported reported _ (reached_freed (in_range reported n one) one used);
+    free = λ n one. let range = in_range reported n one in record {
+      above_metas = range.0;
+      below = range.1;
+      unused = λ used. none_reported reported _ (reached_freed range one used);
     };
-    once = once_in reported;
-    listed = listed_in reported;
+    once = λ n. elim (cases_lt 1 (times n)) [
+      | inl more ↦ absurd (none_reported reported _ (freed_twice (in_range reported n (omega arith)) (omega arith)))
+      | inr fewer ↦ fewer
+    ];
+    listed = λ n free. elim (cases_lt 0 (times n)) [
+      | inl some ↦ omega arith
+      | inr zero ↦ absurd (reported.silent refl n (record { free = free; unlisted = omega arith }))
+    ];
   }
 
   -- and where they are, nothing is reported
@@ -141,15 +141,12 @@ module _ (file : List ℕ) (meta : Meta) where
     reported_shared n is at lowest = reported_alone (finding TWICE n) is.written (shared is at lowest) (only_shared n is at lowest)
 
   module _ (used : ℕ → Type 0) (ids : List ℕ) (good : freelist_fault_of file meta ≡ None) (are : free_ids_of file meta ≡ Some ids) where
-    same_ids : (others : List ℕ) → free_ids_of file meta ≡ Some others → ids ≡ others
-    same_ids others e = same_Some ids others (sym are ∙ e)
-
     module _ (apart : (n : ℕ) → IsInFreelist file meta n → used n → ⊥) (findings : List Finding) (reported : AreAllFindings meta.high_water (IsInUse file meta used) (times_in ids) findings) where
       pub accounts_right : findings ≡ [] → HasAccounts file meta used
       accounts_right e = record {
         good = good;
         apart = apart;
-        lists = λ others f. subst (λ (xs : List ℕ). ListsFree meta.high_water (IsInUse file meta used) (times_in xs)) (same_ids others f)
+        lists = λ others f. subst (λ (xs : List ℕ). ListsFree meta.high_water (IsInUse file meta used) (times_in xs)) (same_Some ids others (sym are ∙ f))
             (lists_free meta.high_water (IsInUse file meta used) (times_in ids) (subst (AreAllFindings meta.high_water (IsInUse file meta used) (times_in ids)) e reported));
       }
 
@@ -165,12 +162,17 @@ module _ (file : List ℕ) (meta : Meta) where
         written = written ids are;
         of_page = λ x is. absurd (no_page x is);
         rises = λ none. reported.rises;
-        exact = λ none others e. subst (λ (xs : List ℕ). (x : Finding) → Contains findings x ↔ IsAccountFinding meta.high_water (IsInUse file meta used) (times_in xs) x) (same_ids others e) reported.exact;
+        exact = λ none others e. subst (λ (xs : List ℕ). (x : Finding) → Contains findings x ↔ IsAccountFinding meta.high_water (IsInUse file meta used) (times_in xs) x) (same_Some ids others (sym are ∙ e)) reported.exact;
       }
 
 -- once the freelist's span is claimed, all pages in use are claimed
 pub claims_reported : (file : List ℕ) (meta : Meta) (old new : List PageUse) (ids : List ℕ) (findings : List Finding) → ClaimsFreelist file meta old new
     → AreAllFindings meta.high_water (IsClaimed new) (times_in ids) findings → AreAllFindings meta.high_water (IsInUse file meta (IsClaimed old)) (times_in ids) findings
 claims_reported file meta old new ids findings claims reported =
-    reported_along meta.high_water (IsClaimed new) (IsInUse file meta (IsClaimed old)) (times_in ids) (times_in ids) claims.split
-    (λ n in_use. elim in_use [ inl was ↦ claims.kept n was | inr is ↦ claims.span n is ]) (λ n. refl) findings reported
+    reported_along meta.high_water (IsClaimed new) (IsInUse file meta (IsClaimed old)) (times_in ids) (times_in ids)
+    (record {
+      there = claims.split;
+      back = λ n in_use. elim in_use
+          [ inl was ↦ claims.kept n was | inr is ↦ claims.span n is ];
+      counted = λ n. refl;
+    }) findings reported

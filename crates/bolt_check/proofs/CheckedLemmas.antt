@@ -1,29 +1,22 @@
 -- What a checked file is known to be.
-use Rattle.std.proofs.Common.{◌≡◌, ℕ, List, Option, Some, None, Ok, refl, subst}
+use Rattle.std.proofs.Common.{◌≡◌, ℕ, List, Some, subst}
 use Rattle.std.specs.Prelude.{IsSome}
 use Rattle.std.proofs.Math.Logic.{∥∥₁_elim, ∥∥₁_map}
 use Rattle.std.proofs.Props.{props}
-use Rattle.bolt_format.specs.Pages.{PageView, page_at, page_fault}
+use Rattle.bolt_format.specs.Pages.{page_at}
 use Rattle.bolt_format.specs.declared.meta.Meta.{Meta}
 use Rattle.bolt_check.specs.CheckedFiles.{bytes_of, meta_of}
-use Rattle.bolt_check.specs.Nodes.{Node, node_at, node_seen}
+use Rattle.bolt_check.specs.Nodes.{node_at}
 use Rattle.bolt_check.specs.OnWays.{IsOnWay}
 use Rattle.bolt_check.specs.Sound.{HasSoundTrees}
 use Rattle.bolt_check.specs.Ways.{At_page, PageSpot, reached}
 use Rattle.bolt_check.specs.declared.checked_file.Checked.{Checked}
-
-seen : (view : Option PageView) (fault : Option ℕ) (node : Node) → node_seen view fault ≡ Ok node → IsSome view
-seen (Some view) fault node e = refl
-seen None (Some f) node e = cc
-seen None None node e = cc
+use Rattle.bolt_check.proofs.MarkLemmas.{node_shown}
 
 -- a way leads to a good page
 pub good_page : (file : List ℕ) (meta : Meta) (way : List ℕ) (s : PageSpot) → HasSoundTrees file meta
     → reached (node_at file meta) meta.root way ≡ Some (At_page s) → IsSome (page_at file meta s.number)
-unfolding node_at
-good_page file meta way s trees leads =
-    let good = (trees.good way s leads).1 in
-    seen (page_at file meta s.number) (page_fault file meta s.number) good.0 good.1
+good_page file meta way s trees leads = let good = (trees.good way s leads).1 in node_shown file meta s.number good.0 good.1
 
 -- its trees are sound
 pub checked_trees : (checked : Checked) → ∥ HasSoundTrees (bytes_of checked) (meta_of checked) ∥₁

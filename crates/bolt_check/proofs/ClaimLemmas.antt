@@ -7,7 +7,7 @@ use Rattle.bolt_format.specs.Pages.{page_overflow}
 use Rattle.bolt_format.specs.declared.meta.Meta.{Meta}
 use Rattle.bolt_format.specs.declared.meta.TheConstants.{NO_FREELIST}
 use Rattle.bolt_check.specs.Accounts.{IsInFreelist}
-use Rattle.bolt_check.specs.Private.Listings.{ClaimsFreelist, IsUnlisted}
+use Rattle.bolt_check.specs.Private.Listings.{ClaimsFreelist}
 use Rattle.bolt_check.specs.Claims.{claims_file, claims_visited}
 use Rattle.bolt_check.specs.Counts.{counted}
 use Rattle.bolt_check.specs.Private.Tables.{HasRoom, IsClaimed, IsUnclaimed, first_use, is_used, use_at, times_of}
@@ -15,6 +15,7 @@ use Rattle.bolt_check.specs.declared.claims.Claims.{Claims}
 use Rattle.bolt_check.specs.declared.table.PageUse.{PageUse}
 use Rattle.bolt_check.specs.declared.table.PageUse.TheVariants.{Used}
 use Rattle.bolt_check.proofs.FreelistLemmas.{freelist_within}
+use Rattle.bolt_check.proofs.Spans.{outside, still_unlisted}
 
 -- what holds of Used and of the pages so far holds of one page more
 pub more_of : (P : PageUse → Type 0) → P Used → (t : List PageUse) (from n : ℕ) → n < length t → ((k : ℕ) → from ≤ k → k < n → P (use_at t k))
@@ -34,18 +35,6 @@ all_used t from last u first later k a b =
       | inr other ↦ later k (omega arith) b
     ]
 
--- claiming lists nothing
-pub still_unlisted : (old new : List PageUse) (from last : ℕ) → ((k : ℕ) → from ≤ k → k ≤ last → times_of (use_at new k) ≡ 0)
-    → ((k : ℕ) → k < from → use_at new k ≡ use_at old k) → ((k : ℕ) → last < k → use_at new k ≡ use_at old k) → IsUnlisted old → IsUnlisted new
-still_unlisted old new from last used below above plain n =
-    elim (cases_lt n from) [
-      | inl before ↦ ap times_of (below n before) ∙ plain n
-      | inr low ↦ elim (cases_lt last n) [
-        | inl after ↦ ap times_of (above n after) ∙ plain n
-        | inr high ↦ used n low high
-      ]
-    ]
-
 -- the freelist's span, of which nothing was claimed, is claimed
 pub claims_freelist : (file : List ℕ) (meta : Meta) (old new : List PageUse) (last : ℕ) → last ≡ meta.freelist + page_overflow file meta meta.freelist
     → meta.freelist ≢ NO_FREELIST → freelist_fault_of file meta ≡ None
@@ -54,40 +43,22 @@ pub claims_freelist : (file : List ℕ) (meta : Meta) (old new : List PageUse) (
     → ((k : ℕ) → meta.freelist ≤ k → k ≤ last → use_at new k ≡ Used)
     → ((k : ℕ) → k < meta.freelist → use_at new k ≡ use_at old k) → ((k : ℕ) → last < k → use_at new k ≡ use_at old k) → ClaimsFreelist file meta old new
 claims_freelist file meta old new last end written good none used unlisted all below above = record {
-  apart = λ n is claimed. apart n is.from (in_last n is) claimed;
-  split = λ n claimed. elim (place n) [
-    | inl (inl before) ↦ inl (sym (ap is_used (below n before)) ∙ claimed)
-    | inl (inr after) ↦ inl (sym (ap is_used (above n after)) ∙ claimed)
-    | inr inside ↦ inr (record { written = written; good = good; from = inside.0; last = omega (arith, end, inside.1) })
-  ];
-  kept = λ n claimed. elim (place n) [
-    | inl (inl before) ↦ ap is_used (below n before) ∙ claimed
-    | inl (inr after) ↦ ap is_used (above n after) ∙ claimed
-    | inr inside ↦ used n inside.0 inside.1
-  ];
+  apart = λ n is claimed. false≢true (sym (none n is.from (in_last n is)) ∙ claimed);
+  split = λ n claimed. elim (place n) [ inl same ↦ inl (sym (ap is_used same) ∙ claimed) | inr at ↦ inr (in_list n at) ];
+  kept = λ n claimed. elim (place n) [ inl same ↦ ap is_used same ∙ claimed | inr at ↦ used n at.0 at.1 ];
   span = λ n is. used n is.from (in_last n is);
-  unlisted = still_unlisted old new meta.freelist last unlisted below above;
-  noted = λ n u is. elim (place n) [
-    | inl (inl before) ↦ inl (sym (below n before) ∙ is)
-    | inl (inr after) ↦ inl (sym (above n after) ∙ is)
-    | inr inside ↦ inr (record { written = written; good = good; from = inside.0; last = omega (arith, end, inside.1) }, sym is ∙ all n inside.0 inside.1)
-  ];
+  unlisted = still_unlisted old new meta.freelist last below above unlisted;
+  noted = λ n u is. elim (place n) [ inl same ↦ inl (sym same ∙ is) | inr at ↦ inr (in_list n at, sym is ∙ all n at.0 at.1) ];
 }
   where
-    apart : (n : ℕ) → meta.freelist ≤ n → n ≤ last → IsClaimed old n → ⊥
-    apart n low high claimed = false≢true (sym (none n low high) ∙ claimed)
+    place : (n : ℕ) → (use_at new n ≡ use_at old n) ⊎ ((meta.freelist ≤ n) × (n ≤ last))
+    place = outside old new meta.freelist last below above
 
     in_last : (n : ℕ) → IsInFreelist file meta n → n ≤ last
     in_last n is = let high = is.last in omega (arith, end, high)
 
-    place : (n : ℕ) → ((n < meta.freelist) ⊎ (last < n)) ⊎ ((meta.freelist ≤ n) × (n ≤ last))
-    place n = elim (cases_lt n meta.freelist) [
-      | inl before ↦ inl (inl before)
-      | inr from ↦ elim (cases_lt last n) [
-        | inl after ↦ inl (inr after)
-        | inr inside ↦ inr (from, inside)
-      ]
-    ]
+    in_list : (n : ℕ) → (meta.freelist ≤ n) × (n ≤ last) → IsInFreelist file meta n
+    in_list n at = record { written = written; good = good; from = at.0; last = omega (arith, end, at.1) }
 
 -- the lowest claimed page of the freelist's span
 pub lowest_shared : (file : List ℕ) (meta : Meta) (old : List PageUse) (last n : ℕ) → last ≡ meta.freelist + page_overflow file meta meta.freelist

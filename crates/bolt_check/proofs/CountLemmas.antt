@@ -4,11 +4,15 @@ use Rattle.std.proofs.lemmas.Bool.{cases_eq, eq-eqb, ne_eqb}
 use Rattle.std.proofs.lemmas.List.Sums.{sum_by-cons}
 use Rattle.bolt_check.specs.Accounts.{times_in}
 
-pub times_here : (x n : ℕ) (xs : List ℕ) → x ≡ n → times_in (x ∷ xs) n ≡ 1 + times_in xs n
-times_here x n xs e = sum_by-cons (λ id. cond (id == n) 1 0) x xs ∙ ap (λ b. cond b 1 0 + times_in xs n) (eq-eqb x n e)
+-- one number more
+times_cons : (x n : ℕ) (xs : List ℕ) → times_in (x ∷ xs) n ≡ cond (x == n) 1 0 + times_in xs n
+times_cons x n xs = sum_by-cons (λ id. cond (id == n) 1 0) x xs
 
-pub times_there : (x n : ℕ) (xs : List ℕ) → (x ≡ n → ⊥) → times_in (x ∷ xs) n ≡ times_in xs n
-times_there x n xs ne = let e = sum_by-cons (λ id. cond (id == n) 1 0) x xs ∙ ap (λ b. cond b 1 0 + times_in xs n) (ne_eqb x n ne) in omega (arith, e)
+times_here : (x n : ℕ) (xs : List ℕ) → x ≡ n → times_in (x ∷ xs) n ≡ 1 + times_in xs n
+times_here x n xs e = times_cons x n xs ∙ ap (λ b. cond b 1 0 + times_in xs n) (eq-eqb x n e)
+
+times_there : (x n : ℕ) (xs : List ℕ) → (x ≡ n → ⊥) → times_in (x ∷ xs) n ≡ times_in xs n
+times_there x n xs ne = let e = times_cons x n xs ∙ ap (λ b. cond b 1 0 + times_in xs n) (ne_eqb x n ne) in omega (arith, e)
 
 -- a number above which, or below which, all others are, stands nowhere
 pub times_none : (xs : List ℕ) (n : ℕ) → ((k : ℕ) → k < length xs → get_or xs k 0 ≡ n → ⊥) → times_in xs n ≡ 0
@@ -18,13 +22,8 @@ times_none (x ∷ xs) n none = times_there x n xs (none 0 (omega arith)) ∙ tim
 -- what stands at a place stands there once at least
 pub times_some : (xs : List ℕ) (n k : ℕ) → k < length xs → get_or xs k 0 ≡ n → 1 ≤ times_in xs n
 times_some [] n k h e = absurd (omega arith)
-times_some (x ∷ xs) n zero h e = let t = times_here x n xs e in omega (arith, t)
-times_some (x ∷ xs) n (suc k) h e =
-    let rest = times_some xs n k (omega arith) e in
-    elim (cases_eq x n) [
-      | inl same ↦ let t = times_here x n xs same in omega (arith, t)
-      | inr other ↦ let t = times_there x n xs other in omega (arith, t, rest)
-    ]
+times_some (x ∷ xs) n zero h e = omega (arith, times_here x n xs e)
+times_some (x ∷ xs) n (suc k) h e = omega (arith, times_cons x n xs, times_some xs n k (omega arith) e)
 
 -- and what stands once at least stands at a place
 pub place_of : (xs : List ℕ) (n : ℕ) → 1 ≤ times_in xs n → (k : ℕ) × ((k < length xs) × (get_or xs k 0 ≡ n))
@@ -38,9 +37,6 @@ place_of (x ∷ xs) n h =
 abbrev Rises : List ℕ → Type 0
 Rises xs = (i j : ℕ) → i ≤ j → j < length xs → get_or xs i 0 ≤ get_or xs j 0
 
-rises_tail : (x : ℕ) (xs : List ℕ) → Rises (x ∷ xs) → Rises xs
-rises_tail x xs up i j order h = up (suc i) (suc j) (omega arith) (omega arith)
-
 -- at its first place a number stands once, unless the next is the same
 pub times_once : (xs : List ℕ) (i : ℕ) → Rises xs → i < length xs → ((k : ℕ) → k < i → get_or xs k 0 < get_or xs i 0)
     → (suc i < length xs → get_or xs (suc i) 0 ≡ get_or xs i 0 → ⊥) → times_in xs (get_or xs i 0) ≡ 1
@@ -52,17 +48,11 @@ times_once (x ∷ xs) zero up h first next =
     let t = times_here x x xs refl in omega (arith, t, none)
 times_once (x ∷ xs) (suc i) up h first next =
     let below = first 0 (omega arith) in
-    let rest = times_once xs i (rises_tail x xs up) (omega arith) (λ k l. first (suc k) (omega arith)) (λ l e. next (omega arith) e) in
+    let rest = times_once xs i (λ a b order l. up (suc a) (suc b) (omega arith) (omega arith)) (omega arith) (λ k l. first (suc k) (omega arith)) (λ l e. next (omega arith) e) in
     times_there x (get_or xs i 0) xs (λ e. omega (arith, below, e)) ∙ rest
 
 -- and at least twice, where it is
 pub times_twice : (xs : List ℕ) (i : ℕ) → suc i < length xs → get_or xs (suc i) 0 ≡ get_or xs i 0 → 2 ≤ times_in xs (get_or xs i 0)
 times_twice [] i h e = absurd (omega arith)
-times_twice (x ∷ xs) zero h e =
-    let rest = times_some xs x 0 (omega arith) e in let t = times_here x x xs refl in omega (arith, t, rest)
-times_twice (x ∷ xs) (suc i) h e =
-    let rest = times_twice xs i (omega arith) e in
-    elim (cases_eq x (get_or xs i 0)) [
-      | inl same ↦ let t = times_here x (get_or xs i 0) xs same in omega (arith, t, rest)
-      | inr other ↦ let t = times_there x (get_or xs i 0) xs other in omega (arith, t, rest)
-    ]
+times_twice (x ∷ xs) zero h e = omega (arith, times_here x x xs refl, times_some xs x 0 (omega arith) e)
+times_twice (x ∷ xs) (suc i) h e = omega (arith, times_cons x (get_or xs i 0) xs, times_twice xs i (omega arith) e)

@@ -1,15 +1,15 @@
 -- The spots that are still to be visited, as ways: the first number of a way picks the spot, the rest leads on from it.
-use Rattle.std.proofs.Common.{◌≡◌, ℕ, zero, suc, ◌<◌, ◌⊎◌, ◌↔◌, inl, inr, Bool, List, [], ◌∷◌, ◌++◌, Option, Some, None, Ok, slice_get, refl, sym, ap, subst, arith, ◌∙◌}
+use Rattle.std.proofs.Common.{◌≡◌, ℕ, zero, suc, ◌<◌, ◌⊎◌, inl, inr, Bool, List, [], ◌∷◌, ◌++◌, Option, Some, None, Ok, slice_get, refl, sym, ap, subst, arith, ◌∙◌}
 use Rattle.bolt_check.specs.Ways.{PageSpot}
 use Rattle.bolt_check.specs.declared.finding.Finding.{Finding}
 use Rattle.bolt_check.specs.Nodes.{Nodes, Node, Entry}
 use Rattle.bolt_check.specs.Ways.{Spot, At_page, At_inline, Before, SpanHas, step, step_entry, follow}
 use Rattle.bolt_check.specs.Keys.{Key}
-use Rattle.bolt_check.specs.Findings.{Tests, Passes, IsClaimedBefore, IsCovered, IsClean, IsFirst}
-use Rattle.bolt_check.specs.Private.Pending.{forest, somes, kids}
+use Rattle.bolt_check.specs.Findings.{Tests, IsClaimedBefore, IsCovered, IsClean, IsFirst}
+use Rattle.bolt_check.specs.Private.Pending.{forest, somes}
 use Rattle.bolt_check.specs.EntrySpots.{places}
-use Rattle.bolt_check.proofs.Judging.{tests_same, passes_fewer}
-use Rattle.bolt_check.proofs.Visiting.{Visits, covered_to_old, covered_to_new, clean_back, first_back, found_here}
+use Rattle.bolt_check.proofs.Judging.{tests_same, span_spot}
+use Rattle.bolt_check.proofs.Visiting.{Visits}
 
 pub follow_none : (nodes : Nodes) (way : List ℕ) → follow nodes None way ≡ None
 follow_none nodes [] = refl
@@ -99,24 +99,21 @@ way_same : (x : ℕ ⊎ ℕ) (v w : List ℕ) → Before v w → Before (way_of 
 way_same (inl j) v w h = inr (refl, inr (refl, h))
 way_same (inr k) v w h = inr (refl, h)
 
-nil_before : (x : ℕ ⊎ ℕ) (w : List ℕ) → Before [] (way_of x w)
-nil_before (inl j) w = tt
-nil_before (inr k) w = tt
-
 first_before : (x : ℕ ⊎ ℕ) (w : List ℕ) → Before (0 ∷ []) (way_of x w)
 first_before (inl j) w = inr (refl, tt)
 first_before (inr k) w = inl (omega arith)
 
 -- a way of the spots after a visit, as a way of those before it
-abbrev lift : List (Option Spot) → List ℕ → List ℕ
+abbrev pub lift : List (Option Spot) → List ℕ → List ℕ
 lift os [] = []
 lift os (k ∷ v) = way_of (where_is os k) v
 
-lift_rising : (os : List (Option Spot)) (b e : List ℕ) → Before b e → Before (lift os b) (lift os e)
-lift_rising os b [] h = absurd h
-lift_rising os [] (l ∷ w) h = nil_before (where_is os l) w
-lift_rising os (k ∷ v) (l ∷ w) (inl h) = way_rising (where_is os k) (where_is os l) v w (where_rising os k l h)
-lift_rising os (k ∷ v) (l ∷ w) (inr h) =
+lift_rising : (nodes : Nodes) (rest : List Spot) (os : List (Option Spot)) (b e : List ℕ) (t : Spot) → forest nodes (somes os ++ rest) b ≡ Some t
+    → Before b e → Before (lift os b) (lift os e)
+lift_rising nodes rest os b [] t at h = absurd h
+lift_rising nodes rest os [] (l ∷ w) t at h = absurd (nothing_is t at)
+lift_rising nodes rest os (k ∷ v) (l ∷ w) t at (inl h) = way_rising (where_is os k) (where_is os l) v w (where_rising os k l h)
+lift_rising nodes rest os (k ∷ v) (l ∷ w) t at (inr h) =
     let P : ℕ → Type 0 = λ z. Before (way_of (where_is os k) v) (way_of (where_is os z) w) in
     subst P h.0 (way_same (where_is os k) v w h.1)
 
@@ -148,9 +145,10 @@ all_at nodes rest os x v t e =
     (p.0 ∷ v, (ap f (sym p.1), sym (reach_kid nodes rest os p.0 v) ∙ (ap g p.1 ∙ e)))
 
 lift_all : (nodes : Nodes) (s : Spot) (rest : List Spot) (os : List (Option Spot)) → ((j : ℕ) → flat (slice_get os j) ≡ step nodes (Some s) j)
-    → (a : List ℕ) (t : Spot) → forest nodes (s ∷ rest) a ≡ Some t → (a ≡ 0 ∷ []) ⊎ ((b : List ℕ) × ((a ≡ lift os b) × (forest nodes (somes os ++ rest) b ≡ Some t)))
+    → (a : List ℕ) (t : Spot) → forest nodes (s ∷ rest) a ≡ Some t
+    → ((a ≡ 0 ∷ []) × (Some s ≡ Some t)) ⊎ ((b : List ℕ) × ((a ≡ lift os b) × (forest nodes (somes os ++ rest) b ≡ Some t)))
 lift_all nodes s rest os fits [] t e = absurd (nothing_is t e)
-lift_all nodes s rest os fits (zero ∷ []) t e = inl refl
+lift_all nodes s rest os fits (zero ∷ []) t e = inl (refl, e)
 lift_all nodes s rest os fits (zero ∷ (j ∷ v)) t e = inr (all_at nodes rest os (inl j) v t (sym (reach_way nodes s rest os fits (inl j) v) ∙ e))
 lift_all nodes s rest os fits (suc k ∷ v) t e = inr (all_at nodes rest os (inr k) v t e)
 
@@ -165,62 +163,45 @@ pub kids_step : (nodes : Nodes) (s : PageSpot) (node : Node) → nodes s.number 
 kids_step nodes s node e j = rw e (places_step node.is_leaf s node.entries j)
 
 -- where these places are what s leads to, they take its place
-pub visits : (nodes : Nodes) (c d : ℕ → Type 0) (s : Spot) (rest : List Spot) (os : List (Option Spot)) → ((j : ℕ) → flat (slice_get os j) ≡ step nodes (Some s) j)
-    → ((n : ℕ) → d n → c n ⊎ SpanHas nodes (Some s) n) → ((n : ℕ) → c n → d n) → ((n : ℕ) → SpanHas nodes (Some s) n → d n)
-    → Visits nodes (forest nodes (s ∷ rest)) (forest nodes (somes os ++ rest)) c d (0 ∷ []) s (lift os)
-visits nodes c d s rest os fits split kept span = record {
-  leads = refl;
+visits : (nodes : Nodes) (s : Spot) (rest : List Spot) (os : List (Option Spot)) → ((j : ℕ) → flat (slice_get os j) ≡ step nodes (Some s) j)
+    → Visits (forest nodes (s ∷ rest)) (forest nodes (somes os ++ rest)) (Some s) (0 ∷ []) (lift os)
+visits nodes s rest os fits = record {
+  leads = λ t e. e;
   same = lift_same nodes s rest os fits;
-  rising = lift_rising os;
-  after = lift_after nodes rest os;
+  rising = λ b e t u at_b at_e. lift_rising nodes rest os b e t at_b;
+  after = λ t e. lift_after nodes rest os;
   all = lift_all nodes s rest os fits;
-  split = split;
-  kept = kept;
-  span = span;
 }
 
--- a page's visit that found nothing
-pub clean_step : (nodes : Nodes) (c d : ℕ → Type 0) (s : PageSpot) (rest : List Spot) (node : Node) → nodes s.number ≡ Ok node
-    → ((n : ℕ) → d n → c n ⊎ SpanHas nodes (Some (At_page s)) n) → ((n : ℕ) → c n → d n) → ((n : ℕ) → SpanHas nodes (Some (At_page s)) n → d n)
-    → Passes nodes c (At_page s) → IsClean nodes (forest nodes (kids node s ++ rest)) d → IsClean nodes (forest nodes (At_page s ∷ rest)) c
-unfolding kids
-clean_step nodes c d s rest node e split kept span =
-    let os = places node.is_leaf s node.entries in
-    clean_back nodes (forest nodes (At_page s ∷ rest)) (forest nodes (somes os ++ rest)) c d (0 ∷ []) (At_page s) (lift os)
-    (visits nodes c d (At_page s) rest os (kids_step nodes s node e) split kept span)
-
-pub first_step : (nodes : Nodes) (c d : ℕ → Type 0) (s : PageSpot) (rest : List Spot) (node : Node) → nodes s.number ≡ Ok node
-    → ((n : ℕ) → d n → c n ⊎ SpanHas nodes (Some (At_page s)) n) → ((n : ℕ) → c n → d n) → ((n : ℕ) → SpanHas nodes (Some (At_page s)) n → d n)
-    → Passes nodes c (At_page s) → (x : Finding) → IsFirst nodes (forest nodes (kids node s ++ rest)) d x → IsFirst nodes (forest nodes (At_page s ∷ rest)) c x
-unfolding kids
-first_step nodes c d s rest node e split kept span =
-    let os = places node.is_leaf s node.entries in
-    first_back nodes (forest nodes (At_page s ∷ rest)) (forest nodes (somes os ++ rest)) c d (0 ∷ []) (At_page s) (lift os)
-    (visits nodes c d (At_page s) rest os (kids_step nodes s node e) split kept span)
+-- a page's visit
+pub page_visits : (nodes : Nodes) (s : PageSpot) (node : Node) (rest : List Spot) → nodes s.number ≡ Ok node
+    → Visits (forest nodes (At_page s ∷ rest)) (forest nodes (somes (places node.is_leaf s node.entries) ++ rest)) (Some (At_page s)) (0 ∷ [])
+    (lift (places node.is_leaf s node.entries))
+page_visits nodes s node rest e = visits nodes (At_page s) rest (places node.is_leaf s node.entries) (kids_step nodes s node e)
 
 -- an inline bucket's visit
-pub inline_visits : (nodes : Nodes) (c : ℕ → Type 0) (host : ℕ) (keys : List Key) (rest : List Spot)
-    → Visits nodes (forest nodes (At_inline host keys ∷ rest)) (forest nodes rest) c c (0 ∷ []) (At_inline host keys) (lift [])
-inline_visits nodes c host keys rest = visits nodes c c (At_inline host keys) rest [] (λ j. refl) (λ n h. inl h) (λ n h. h) (λ n h. absurd h)
-
-pub clean_inline : (nodes : Nodes) (c : ℕ → Type 0) (host : ℕ) (keys : List Key) (rest : List Spot) → Passes nodes c (At_inline host keys)
-    → IsClean nodes (forest nodes rest) c → IsClean nodes (forest nodes (At_inline host keys ∷ rest)) c
-clean_inline nodes c host keys rest =
-    clean_back nodes (forest nodes (At_inline host keys ∷ rest)) (forest nodes rest) c c (0 ∷ []) (At_inline host keys) (lift []) (inline_visits nodes c host keys rest)
-
-pub first_inline : (nodes : Nodes) (c : ℕ → Type 0) (host : ℕ) (keys : List Key) (rest : List Spot) → Passes nodes c (At_inline host keys)
-    → (x : Finding) → IsFirst nodes (forest nodes rest) c x → IsFirst nodes (forest nodes (At_inline host keys ∷ rest)) c x
-first_inline nodes c host keys rest =
-    first_back nodes (forest nodes (At_inline host keys ∷ rest)) (forest nodes rest) c c (0 ∷ []) (At_inline host keys) (lift []) (inline_visits nodes c host keys rest)
+pub inline_visits : (nodes : Nodes) (host : ℕ) (keys : List Key) (rest : List Spot)
+    → Visits (forest nodes (At_inline host keys ∷ rest)) (forest nodes rest) (Some (At_inline host keys)) (0 ∷ []) (lift [])
+inline_visits nodes host keys rest = visits nodes (At_inline host keys) rest [] (λ j. refl)
 
 none_before_first : (nodes : Nodes) (spots : List Spot) (v : List ℕ) (t : Spot) → Before v (0 ∷ []) → forest nodes spots v ≡ Some t → ⊥
 none_before_first nodes spots [] t h e = nothing_is t e
 none_before_first nodes spots (i ∷ v) t (inl h) e = omega arith
 none_before_first nodes spots (i ∷ v) t (inr h) e = h.1
 
+only_start : (nodes : Nodes) (c : ℕ → Type 0) (spots : List Spot) (n : ℕ) → IsClaimedBefore nodes (forest nodes spots) c (0 ∷ []) n → c n
+only_start nodes c spots n (inl h) = h
+only_start nodes c spots n (inr (v, (lt, h))) = let p = span_spot nodes (forest nodes spots v) n h in absurd (none_before_first nodes spots v p.0 lt p.1.0)
+
 -- a visit that found something
 pub found_step : (nodes : Nodes) (c : ℕ → Type 0) (s : Spot) (rest : List Spot) (x : Finding) → Tests nodes c s x → IsFirst nodes (forest nodes (s ∷ rest)) c x
-found_step nodes c s rest x m = found_here nodes (forest nodes (s ∷ rest)) c (0 ∷ []) s x refl (none_before_first nodes (s ∷ rest)) m
+found_step nodes c s rest x m = record {
+  way = 0 ∷ [];
+  spot = s;
+  leads = refl;
+  reported = tests_same nodes c (IsClaimedBefore nodes (forest nodes (s ∷ rest)) c (0 ∷ [])) s x (λ n h. inl h) (only_start nodes c (s ∷ rest)) m;
+  none_before = λ v t y lt e _. none_before_first nodes (s ∷ rest) v t lt e;
+}
 
 pub forest_empty : (nodes : Nodes) (way : List ℕ) → forest nodes [] way ≡ None
 forest_empty nodes [] = refl
@@ -230,80 +211,30 @@ forest_empty nodes (k ∷ way) = follow_none nodes way
 pub clean_end : (nodes : Nodes) (c : ℕ → Type 0) → IsClean nodes (forest nodes []) c
 clean_end nodes c = record { passes = λ way s e. absurd (nothing_is s (sym (forest_empty nodes way) ∙ e)) }
 
--- the search begins with the root alone
-claimed_down : (nodes : Nodes) (c : ℕ → Type 0) (s : Spot) (way : List ℕ) (n : ℕ)
-    → IsClaimedBefore nodes (follow nodes (Some s)) c way n → IsClaimedBefore nodes (forest nodes (s ∷ [])) c (0 ∷ way) n
-claimed_down nodes c s way n (inl h) = inl h
-claimed_down nodes c s way n (inr (v, (lt, h))) = inr (0 ∷ v, (inr (refl, lt), h))
-
-claimed_up : (nodes : Nodes) (c : ℕ → Type 0) (s : Spot) (way : List ℕ) (n : ℕ)
-    → IsClaimedBefore nodes (forest nodes (s ∷ [])) c (0 ∷ way) n → IsClaimedBefore nodes (follow nodes (Some s)) c way n
-claimed_up nodes c s way n (inl h) = inl h
-claimed_up nodes c s way n (inr ([], (lt, h))) = absurd h
-claimed_up nodes c s way n (inr (zero ∷ v, (inl lt, h))) = absurd (omega arith)
-claimed_up nodes c s way n (inr (zero ∷ v, (inr lt, h))) = inr (v, (lt.1, h))
-claimed_up nodes c s way n (inr (suc k ∷ v, (inl lt, h))) = absurd (omega arith)
-claimed_up nodes c s way n (inr (suc k ∷ v, (inr lt, h))) = absurd (let e : suc k ≡ 0 = lt.0 in omega arith)
-
-pub clean_root : (nodes : Nodes) (c : ℕ → Type 0) (s : Spot) → IsClean nodes (forest nodes (s ∷ [])) c → IsClean nodes (follow nodes (Some s)) c
-clean_root nodes c s clean = record {
-  passes = λ way t e. passes_fewer nodes (IsClaimedBefore nodes (forest nodes (s ∷ [])) c (0 ∷ way)) (IsClaimedBefore nodes (follow nodes (Some s)) c way) t
-      (claimed_down nodes c s way) (clean.passes (0 ∷ way) t e);
-}
-
-pub root_way : (nodes : Nodes) (s : Spot) (way : List ℕ) (t : Spot) → forest nodes (s ∷ []) way ≡ Some t → (v : List ℕ) × (way ≡ 0 ∷ v)
-root_way nodes s [] t e = absurd (nothing_is t e)
-root_way nodes s (zero ∷ v) t e = (v, refl)
-root_way nodes s (suc k ∷ v) t e = absurd (nothing_is t (sym (follow_none nodes v) ∙ e))
-
-first_at_root : (nodes : Nodes) (c : ℕ → Type 0) (s : Spot) (x : Finding) (w way : List ℕ) (spot : Spot) → w ≡ 0 ∷ way → forest nodes (s ∷ []) w ≡ Some spot
-    → Tests nodes (IsClaimedBefore nodes (forest nodes (s ∷ [])) c w) spot x
-    → ((v : List ℕ) (t : Spot) (y : Finding) → Before v w → forest nodes (s ∷ []) v ≡ Some t → Tests nodes (IsClaimedBefore nodes (forest nodes (s ∷ [])) c v) t y → ⊥)
-    → IsFirst nodes (follow nodes (Some s)) c x
-first_at_root nodes c s x w way spot e leads reported none = record {
-  way = way;
-  spot = spot;
-  leads = rw e at leads;
-  reported = tests_same nodes (IsClaimedBefore nodes (forest nodes (s ∷ [])) c (0 ∷ way)) (IsClaimedBefore nodes (follow nodes (Some s)) c way) spot x
-      (claimed_up nodes c s way) (claimed_down nodes c s way) (rw e at reported);
-  none_before = λ v t y lt l m. none (0 ∷ v) t y (rw e (inr (refl, lt))) l
-      (tests_same nodes (IsClaimedBefore nodes (follow nodes (Some s)) c v) (IsClaimedBefore nodes (forest nodes (s ∷ [])) c (0 ∷ v)) t y
-      (claimed_down nodes c s v) (claimed_up nodes c s v) m);
-}
-
-pub first_root : (nodes : Nodes) (c : ℕ → Type 0) (s : Spot) (x : Finding) → IsFirst nodes (forest nodes (s ∷ [])) c x → IsFirst nodes (follow nodes (Some s)) c x
-first_root nodes c s x h = let p = root_way nodes s h.way h.spot h.leads in first_at_root nodes c s x h.way p.0 h.spot p.1 h.leads h.reported h.none_before
-
--- what is covered stays the same
-pub covered_step : (nodes : Nodes) (c d : ℕ → Type 0) (s : PageSpot) (rest : List Spot) (node : Node) → nodes s.number ≡ Ok node
-    → ((n : ℕ) → d n → c n ⊎ SpanHas nodes (Some (At_page s)) n) → ((n : ℕ) → c n → d n) → ((n : ℕ) → SpanHas nodes (Some (At_page s)) n → d n)
-    → (n : ℕ) → IsCovered nodes (forest nodes (kids node s ++ rest)) d n ↔ IsCovered nodes (forest nodes (At_page s ∷ rest)) c n
-unfolding kids
-covered_step nodes c d s rest node e split kept span n =
-    let os = places node.is_leaf s node.entries in
-    let v = visits nodes c d (At_page s) rest os (kids_step nodes s node e) split kept span in (
-      covered_to_old nodes (forest nodes (At_page s ∷ rest)) (forest nodes (somes os ++ rest)) c d (0 ∷ []) (At_page s) (lift os) v n,
-      covered_to_new nodes (forest nodes (At_page s ∷ rest)) (forest nodes (somes os ++ rest)) c d (0 ∷ []) (At_page s) (lift os) v n,
-    )
-
-pub covered_inline : (nodes : Nodes) (c : ℕ → Type 0) (host : ℕ) (keys : List Key) (rest : List Spot) (n : ℕ)
-    → IsCovered nodes (forest nodes rest) c n ↔ IsCovered nodes (forest nodes (At_inline host keys ∷ rest)) c n
-covered_inline nodes c host keys rest n =
-    let v = inline_visits nodes c host keys rest in (
-      covered_to_old nodes (forest nodes (At_inline host keys ∷ rest)) (forest nodes rest) c c (0 ∷ []) (At_inline host keys) (lift []) v n,
-      covered_to_new nodes (forest nodes (At_inline host keys ∷ rest)) (forest nodes rest) c c (0 ∷ []) (At_inline host keys) (lift []) v n,
-    )
-
-pub covered_down : (nodes : Nodes) (c : ℕ → Type 0) (s : Spot) (n : ℕ) → IsCovered nodes (follow nodes (Some s)) c n → IsCovered nodes (forest nodes (s ∷ [])) c n
-covered_down nodes c s n (inl h) = inl h
-covered_down nodes c s n (inr (v, h)) = inr (0 ∷ v, h)
-
-pub covered_up : (nodes : Nodes) (c : ℕ → Type 0) (s : Spot) (n : ℕ) → IsCovered nodes (forest nodes (s ∷ [])) c n → IsCovered nodes (follow nodes (Some s)) c n
-covered_up nodes c s n (inl h) = inl h
-covered_up nodes c s n (inr ([], h)) = absurd h
-covered_up nodes c s n (inr (zero ∷ v, h)) = inr (v, h)
-covered_up nodes c s n (inr (suc k ∷ v, h)) = absurd (let P : Option Spot → Type 0 = λ o. SpanHas nodes o n in subst P (follow_none nodes v) h)
-
 pub covered_end : (nodes : Nodes) (c : ℕ → Type 0) (n : ℕ) → IsCovered nodes (forest nodes []) c n → c n
 covered_end nodes c n (inl h) = h
-covered_end nodes c n (inr (v, h)) = absurd (let P : Option Spot → Type 0 = λ o. SpanHas nodes o n in subst P (forest_empty nodes v) h)
+covered_end nodes c n (inr (v, h)) = absurd (subst (λ (o : Option Spot). SpanHas nodes o n) (forest_empty nodes v) h)
+
+-- the search begins with the root alone
+abbrev pub tail : List ℕ → List ℕ
+tail [] = []
+tail (i ∷ way) = way
+
+root_way : (nodes : Nodes) (s : Spot) (way : List ℕ) (t : Spot) → forest nodes (s ∷ []) way ≡ Some t → way ≡ 0 ∷ tail way
+root_way nodes s [] t e = absurd (nothing_is t e)
+root_way nodes s (zero ∷ v) t e = refl
+root_way nodes s (suc k ∷ v) t e = absurd (nothing_is t (sym (follow_none nodes v) ∙ e))
+
+tail_before : (a b : List ℕ) → Before (0 ∷ a) (0 ∷ b) → Before a b
+tail_before a b (inl l) = absurd (omega arith)
+tail_before a b (inr l) = l.1
+
+pub root_visits : (nodes : Nodes) (s : Spot) → Visits (follow nodes (Some s)) (forest nodes (s ∷ [])) None [] tail
+root_visits nodes s = record {
+  leads = λ t e. absurd (nothing_is t e);
+  same = λ b t e. subst (λ (z : List ℕ). forest nodes (s ∷ []) z ≡ Some t) (root_way nodes s b t e) e;
+  rising = λ a b t u at_a at_b lt. tail_before (tail a) (tail b)
+      (subst (λ (z : List ℕ). Before z (0 ∷ tail b)) (root_way nodes s a t at_a) (subst (λ (z : List ℕ). Before a z) (root_way nodes s b u at_b) lt));
+  after = λ t e. absurd (nothing_is t e);
+  all = λ a t e. inr (0 ∷ a, (refl, e));
+}

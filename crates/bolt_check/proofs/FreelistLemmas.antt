@@ -12,11 +12,8 @@ use Rattle.bolt_format.proofs.FaultLemmas.{first_of-none}
 use Rattle.bolt_format.proofs.PageFacts.{span_within}
 
 is_freelist : (k : Option Kind) → freelist_kind_fault k ≡ None → k ≡ Some kind.Freelist
-is_freelist None e = absurd (cc)
 is_freelist (Some kind.Freelist) e = refl
-is_freelist (Some kind.Branch) e = absurd (cc)
-is_freelist (Some kind.Leaf) e = absurd (cc)
-is_freelist (Some kind.Meta) e = absurd (cc)
+is_freelist k e = absurd (cc)
 
 module _ (file : List ℕ) (meta : Meta) (written : meta.freelist ≢ NO_FREELIST) (good : freelist_fault_of file meta ≡ None) where
   own_fault : freelist_fault file meta meta.freelist ≡ None

@@ -3,7 +3,9 @@ use Rattle.std.proofs.Common.{◌≡◌, ℕ, Option, Some, None, Ok, refl}
 use Rattle.bolt_check.specs.Ways.{PageSpot}
 use Rattle.bolt_check.specs.declared.finding.Finding.{Finding}
 use Rattle.bolt_check.specs.Nodes.{Nodes}
+use Rattle.bolt_check.specs.Private.Uses.{UseAt, UseOf}
 use Rattle.bolt_check.specs.Ways.{Spot, At_page, At_inline, SpanHas}
+use Rattle.bolt_check.specs.declared.table.PageUse.{PageUse}
 use Rattle.bolt_check.specs.Findings.{early_finding, node_finding, inline_finding, Tests, PageTests, early, twice, late, Passes, PagePasses}
 
 page_same : (nodes : Nodes) (a b : ℕ → Type 0) (s : PageSpot) (x : Finding) → ((n : ℕ) → a n → b n) → ((n : ℕ) → b n → a n)
@@ -45,3 +47,10 @@ span_spot nodes (Some t) n h = (t, (refl, h))
 
 pub span_at : (nodes : Nodes) (o : Option Spot) (t : Spot) (n : ℕ) → o ≡ Some t → SpanHas nodes (Some t) n → SpanHas nodes o n
 span_at nodes o t n e h = rw e h
+
+pub use_spot : (nodes : Nodes) (o : Option Spot) (n : ℕ) (u : PageUse) → UseOf nodes o n u → (t : Spot) × ((o ≡ Some t) × UseAt nodes t n u)
+use_spot nodes None n u h = absurd h
+use_spot nodes (Some t) n u h = (t, (refl, h))
+
+pub use_back : (nodes : Nodes) (o : Option Spot) (t : Spot) (n : ℕ) (u : PageUse) → o ≡ Some t → UseAt nodes t n u → UseOf nodes o n u
+use_back nodes o t n u e h = rw e h

@@ -1,20 +1,15 @@
 -- That the tests of the keys find nothing, in the words of the shape.
-use Rattle.std.proofs.Common.{◌≡◌, ℕ, zero, suc, Bool, true, false, not, if◌then◌else◌, List, [], ◌∷◌, Option, Some, None, slice_get, refl, arith}
+use Rattle.std.proofs.Common.{◌≡◌, ℕ, zero, suc, Bool, true, not, if◌then◌else◌, List, [], ◌∷◌, Option, Some, None, slice_get, refl, sym, arith}
 use Rattle.std.proofs.lemmas.Option.{none-some}
 use Rattle.bolt_format.proofs.FaultLemmas.{first_of-none}
 use Rattle.bolt_check.specs.Keys.{Key, KeysRise, is_above, is_below, is_from, keys_order_fault, key_lt, key_order_fault}
 use Rattle.bolt_check.specs.declared.finding.TheConstants.Finding.{ORDER, BELOW_PARENT, ABOVE_NEXT}
 use Rattle.bolt_check.proofs.KeyLaws.{above_more}
 
-reported : (x : ℕ) → Some x ≡ None → ⊥
-reported x e = cc
-
 three_none : (x y z : ℕ) (a b c : Bool) → (if not a then Some x else (if not b then Some y else (if not c then Some z else None))) ≡ None
     → (a ≡ true) × (b ≡ true) × (c ≡ true)
 three_none x y z true true true e = (refl, refl, refl)
-three_none x y z true true false e = absurd (reported z e)
-three_none x y z true false c e = absurd (reported y e)
-three_none x y z false b c e = absurd (reported x e)
+three_none x y z a b c e = absurd (none-some _ (sym e))
 
 pub key_each : (before lower upper : Option Key) (keys : List Key) → keys_order_fault before lower upper keys ≡ None → (j : ℕ) (q : Key) → slice_get keys j ≡ Some q
     → (is_above before q ≡ true) × (is_from lower q ≡ true) × (is_below upper q ≡ true)
@@ -41,16 +36,13 @@ key_rise before lower upper (p ∷ keys) e =
     rise_cons p keys (λ j q g. (key_each (Some p) lower upper keys f.1 j q g).0) (key_rise (Some p) lower upper keys f.1)
 
 -- and the other way round
-three_pass : (m n k : ℕ) (a b c : Bool) → a ≡ true → b ≡ true → c ≡ true → (if not a then Some m else (if not b then Some n else (if not c then Some k else None))) ≡ None
-three_pass m n k a b c x y z = rw (x, y, z) refl
-
 pub key_passes : (before lower upper : Option Key) (keys : List Key) → KeysRise keys
     → ((j : ℕ) (q : Key) → slice_get keys j ≡ Some q → (is_above before q ≡ true) × (is_from lower q ≡ true) × (is_below upper q ≡ true))
     → keys_order_fault before lower upper keys ≡ None
 key_passes before lower upper [] rise each = refl
 key_passes before lower upper (p ∷ keys) rise each =
     let t = each 0 p refl in
-    let o : key_order_fault before lower upper p ≡ None = three_pass ORDER BELOW_PARENT ABOVE_NEXT (is_above before p) (is_from lower p) (is_below upper p) t.0 t.1 t.2 in
+    let o : key_order_fault before lower upper p ≡ None = rw (t.0, t.1, t.2) refl in
     let r : keys_order_fault (Some p) lower upper keys ≡ None =
     key_passes (Some p) lower upper keys (λ i j a b lt g h. rise (suc i) (suc j) a b (omega arith) g h)
     (λ j q g. (rise 0 (suc j) p q (omega arith) refl g, (each (suc j) q g).1, (each (suc j) q g).2)) in

@@ -1,48 +1,28 @@
 -- If the shape holds, the tests find nothing.
-use Rattle.std.proofs.Common.{◌≡◌, ◌≢◌, ℕ, suc, ◌≤◌, inl, inr, Bool, true, false, not, ◌&&◌, ◌==◌, if◌then◌else◌, nat_lt, List, [], ◌∷◌, ◌++◌, length, Option, Some, None, Result, Ok, Err, slice_get, ap, refl, arith}
+use Rattle.std.proofs.Common.{◌≡◌, ◌≢◌, ℕ, suc, ◌≤◌, inl, inr, Bool, true, false, not, ◌&&◌, ◌==◌, if◌then◌else◌, nat_lt, List, [], ◌∷◌, ◌++◌, length, Option, Some, None, Result, Ok, Err, slice_get, ap, refl, subst, arith}
+use Rattle.std.proofs.lemmas.Bool.{ne_eqb}
 use Rattle.std.proofs.lemmas.Bool.Decides.{nat_tests}
+use Rattle.std.proofs.lemmas.Option.{cond_some, same_Some}
 use Rattle.bolt_check.specs.Ways.{PageSpot}
 use Rattle.bolt_check.specs.declared.finding.Finding.{Finding}
-use Rattle.bolt_check.specs.Nodes.{Nodes, Node, Entry, IsInSpan}
+use Rattle.bolt_check.specs.Nodes.{Nodes, Node, Entry, node_at}
 use Rattle.bolt_check.specs.Ways.{Spot, At_page, At_inline, SpanHas, step, step_at, step_entry, bucket_spot, child_spot, upper_from, follow, reached, root_spot}
-use Rattle.bolt_check.specs.Findings.{keys_of, early_finding, node_finding, PagePasses, Passes, IsClaimedBefore, IsClean, IsFirst, IsMetaPage}
+use Rattle.bolt_check.specs.Findings.{keys_of, early_finding, node_finding, Passes, IsClaimedBefore, IsClean, IsMetaPage}
 use Rattle.bolt_check.specs.Keys.{Key, is_below, is_from, keys_order_fault, key_lt}
+use Rattle.bolt_format.specs.declared.meta.Meta.{Meta}
 use Rattle.bolt_check.specs.Shape.{leads, HasShape}
+use Rattle.bolt_check.specs.Sound.{HasSoundTrees, IsFirstFinding}
 use Rattle.bolt_check.proofs.WayOrder.{before_irreflexive}
 use Rattle.bolt_check.proofs.Forest.{follow_some, nothing_is}
 use Rattle.bolt_check.proofs.Judging.{passes_silent}
 use Rattle.bolt_check.proofs.KeyOrder.{key_passes}
 use Rattle.bolt_check.proofs.Shaping.{snoc_reached}
 
-is_not : (b : Bool) → b ≡ false → not b ≡ true
-is_not b e = ap not e
-
 -- the bounds of a spot hold of all keys below it in its bucket
 abbrev pub Bounded : Nodes → Spot → Type 0
 Bounded nodes (At_page s) = (address : List ℕ) (below j : ℕ) (key : Key) (under : Node) → leads nodes (Some s.number) address ≡ Some below → nodes below ≡ Ok under
     → slice_get (keys_of under.entries) j ≡ Some key → (is_from s.lower key ≡ true) × (is_below s.upper key ≡ true)
 Bounded nodes (At_inline host keys) = Unit {0}
-
--- a step leads into a bucket, or to a child
-pub data Stepped (nodes : Nodes) (s : PageSpot) (i : ℕ) (t : Spot) : Type 0 where
-  into_bucket : (host : ℕ) (e : Entry) → bucket_spot host e ≡ t → Stepped nodes s i t
-  to_child : (node : Node) (e : Entry) → nodes s.number ≡ Ok node → node.is_leaf ≡ false → slice_get node.entries i ≡ Some e
-      → At_page (child_spot s e (upper_from (slice_get node.entries (suc i)) s.upper)) ≡ t → Stepped nodes s i t
-
-leaf_step : (nodes : Nodes) (s : PageSpot) (i : ℕ) (t : Spot) (e : Entry) (b : Bool) → (if b then Some (bucket_spot s.number e) else None) ≡ Some t → Stepped nodes s i t
-leaf_step nodes s i t e true q = into_bucket s.number e (cc)
-leaf_step nodes s i t e false q = absurd (nothing_is t q)
-
-entry_step : (nodes : Nodes) (s : PageSpot) (i : ℕ) (t : Spot) (node : Node) → nodes s.number ≡ Ok node → (leaf : Bool) → node.is_leaf ≡ leaf → (o : Option Entry) → slice_get node.entries i ≡ o
-    → step_entry leaf s o (slice_get node.entries (suc i)) ≡ Some t → Stepped nodes s i t
-entry_step nodes s i t node h leaf l None g e = absurd (nothing_is t e)
-entry_step nodes s i t node h true l (Some p) g e = leaf_step nodes s i t p p.is_bucket e
-entry_step nodes s i t node h false l (Some p) g e =
-    to_child node p h l g (let d : Some (At_page (child_spot s p (upper_from (slice_get node.entries (suc i)) s.upper))) ≡ Some t = e in cc)
-
-node_step : (nodes : Nodes) (s : PageSpot) (i : ℕ) (t : Spot) (o : Result Node ℕ) → nodes s.number ≡ o → step_at o s i ≡ Some t → Stepped nodes s i t
-node_step nodes s i t (Err f) h e = absurd (nothing_is t e)
-node_step nodes s i t (Ok node) h e = entry_step nodes s i t node h node.is_leaf refl (slice_get node.entries i) refl e
 
 upper_is : (next : Option Entry) (upper : Option Key) (key : Key) → ((n : Entry) → next ≡ Some n → key_lt key n.key ≡ true) → is_below upper key ≡ true → is_below (upper_from next upper) key ≡ true
 upper_is None upper key h e = e
@@ -52,42 +32,48 @@ bucket_bounded : (nodes : Nodes) (host : ℕ) (e : Entry) (b : Bool) → Bounded
 bucket_bounded nodes host e true = tt
 bucket_bounded nodes host e false = λ address below j key under l u g. (refl, refl)
 
-child_bounded : (nodes : Nodes) (root : ℕ) → HasShape nodes root → (way : List ℕ) (s : PageSpot) → reached nodes root way ≡ Some (At_page s) → Bounded nodes (At_page s)
-    → (i : ℕ) (t : Spot) → Stepped nodes s i t → Bounded nodes t
-child_bounded nodes root shape way s e bound i t (into_bucket host p same) = rw (← same) (bucket_bounded nodes host p (p.child == 0))
-child_bounded nodes root shape way s e bound i t (to_child node p h leaf f same) =
-    let at_child : Bounded nodes (At_page (child_spot s p (upper_from (slice_get node.entries (suc i)) s.upper))) =
-    λ address below j key under l u g.
-    let b = shape.bounded way address s node under i j below key p e h leaf f l u g in
-    let up : leads nodes (Some s.number) (i ∷ address) ≡ Some below = rw (h, leaf, f) l in
-    (is_not (key_lt key p.key) b.0, upper_is (slice_get node.entries (suc i)) s.upper key b.1 (bound (i ∷ address) below j key under up u g).1) in
-    rw (← same) at_child
+module _ (nodes : Nodes) (root : ℕ) (shape : HasShape nodes root) where
+  module _ (way : List ℕ) (s : PageSpot) (e : reached nodes root way ≡ Some (At_page s)) (bound : Bounded nodes (At_page s)) (i : ℕ) where
+    child_bounded : (node : Node) (p : Entry) → nodes s.number ≡ Ok node → node.is_leaf ≡ false → slice_get node.entries i ≡ Some p
+        → Bounded nodes (At_page (child_spot s p (upper_from (slice_get node.entries (suc i)) s.upper)))
+    child_bounded node p h leaf f = λ address below j key under l u g.
+        let b = shape.bounded way address s node under i j below key p e h leaf f l u g in
+        let up : leads nodes (Some s.number) (i ∷ address) ≡ Some below = rw (h, leaf, f) l in
+        (ap not b.0, upper_is (slice_get node.entries (suc i)) s.upper key b.1 (bound (i ∷ address) below j key under up u g).1)
 
-spot_bounded : (nodes : Nodes) (root : ℕ) → HasShape nodes root → (way : List ℕ) (s : Spot) → reached nodes root way ≡ Some s → Bounded nodes s
-    → (i : ℕ) (t : Spot) → step nodes (Some s) i ≡ Some t → Bounded nodes t
-spot_bounded nodes root shape way (At_page s) e bound i t st = child_bounded nodes root shape way s e bound i t (node_step nodes s i t (nodes s.number) refl st)
-spot_bounded nodes root shape way (At_inline host keys) e bound i t st = absurd (nothing_is t st)
+    -- a step leads into a bucket, or to a child
+    entry_bounded : (node : Node) → nodes s.number ≡ Ok node → (leaf : Bool) → node.is_leaf ≡ leaf → (o : Option Entry) → slice_get node.entries i ≡ o
+        → (t : Spot) → step_entry leaf s o (slice_get node.entries (suc i)) ≡ Some t → Bounded nodes t
+    entry_bounded node h leaf l None g t e = absurd (nothing_is t e)
+    entry_bounded node h true l (Some p) g t e = subst (Bounded nodes) (cond_some p.is_bucket (bucket_spot s.number p) t e).1
+        (bucket_bounded nodes s.number p (p.child == 0))
+    entry_bounded node h false l (Some p) g t e = subst (Bounded nodes) (same_Some _ t e) (child_bounded node p h l g)
 
-way_bounded : (nodes : Nodes) (root : ℕ) → HasShape nodes root → (w way : List ℕ) (s : Spot) → reached nodes root way ≡ Some s → Bounded nodes s
-    → (t : Spot) → follow nodes (Some s) w ≡ Some t → Bounded nodes t
-way_bounded nodes root shape [] way s e bound t f = let same : s ≡ t = cc in rw (← same) bound
-way_bounded nodes root shape (i ∷ w) way s e bound t f =
-    let u = follow_some nodes (step nodes (Some s) i) w t f in
-    let f2 : follow nodes (step nodes (Some s) i) w ≡ Some t = f in
-    let r : reached nodes root (way ++ i ∷ []) ≡ Some u.0 = snoc_reached nodes root way i s (Some u.0) e u.1 [] in
-    way_bounded nodes root shape w (way ++ i ∷ []) u.0 r (spot_bounded nodes root shape way s e bound i u.0 u.1) t (rw u.1 at f2)
+    node_bounded : (o : Result Node ℕ) → nodes s.number ≡ o → (t : Spot) → step_at o s i ≡ Some t → Bounded nodes t
+    node_bounded (Err f) h t e = absurd (nothing_is t e)
+    node_bounded (Ok node) h t e = entry_bounded node h node.is_leaf refl (slice_get node.entries i) refl t e
 
-all_bounded : (nodes : Nodes) (root : ℕ) → HasShape nodes root → (way : List ℕ) (t : Spot) → reached nodes root way ≡ Some t → Bounded nodes t
-all_bounded nodes root shape way t e =
-    way_bounded nodes root shape way [] (At_page (root_spot root)) refl (λ address below j key under l u g. (refl, refl)) t e
+  spot_bounded : (way : List ℕ) (s : Spot) → reached nodes root way ≡ Some s → Bounded nodes s → (i : ℕ) (t : Spot) → step nodes (Some s) i ≡ Some t
+      → Bounded nodes t
+  spot_bounded way (At_page s) e bound i t st = node_bounded way s e bound i (nodes s.number) refl t st
+  spot_bounded way (At_inline host keys) e bound i t st = absurd (nothing_is t st)
 
-suc_not_zero : (n : ℕ) → (suc n == 0) ≡ false
-suc_not_zero n = grind (arith, nat_tests)
+  way_bounded : (w way : List ℕ) (s : Spot) → reached nodes root way ≡ Some s → Bounded nodes s → (t : Spot) → follow nodes (Some s) w ≡ Some t
+      → Bounded nodes t
+  way_bounded [] way s e bound t f = let same : s ≡ t = cc in rw (← same) bound
+  way_bounded (i ∷ w) way s e bound t f =
+      let u = follow_some nodes (step nodes (Some s) i) w t f in
+      let f2 : follow nodes (step nodes (Some s) i) w ≡ Some t = f in
+      let r : reached nodes root (way ++ i ∷ []) ≡ Some u.0 = snoc_reached nodes root way i s (Some u.0) e u.1 [] in
+      way_bounded w (way ++ i ∷ []) u.0 r (spot_bounded way s e bound i u.0 u.1) t (rw u.1 at f2)
+
+  all_bounded : (way : List ℕ) (t : Spot) → reached nodes root way ≡ Some t → Bounded nodes t
+  all_bounded way t e = way_bounded way [] (At_page (root_spot root)) refl (λ address below j key under l u g. (refl, refl)) t e
 
 not_empty : (leaf : Bool) (entries : List Entry) → (leaf ≡ false → entries ≢ []) → (not leaf && (length entries == 0)) ≡ false
 not_empty true entries h = refl
 not_empty false [] h = absurd (h refl refl)
-not_empty false (p ∷ entries) h = suc_not_zero (length entries)
+not_empty false (p ∷ entries) h = ne_eqb (suc (length entries)) 0 (λ e. omega (arith, e))
 
 content_none : (node : Node) (s : PageSpot) → (node.is_leaf ≡ false → node.entries ≢ []) → keys_order_fault None s.lower s.upper (keys_of node.entries) ≡ None → node_finding node s ≡ None
 content_none node s filled keys = rw (not_empty node.is_leaf node.entries filled, keys) refl
@@ -95,42 +81,34 @@ content_none node s filled keys = rw (not_empty node.is_leaf node.entries filled
 pub early_passes : (nodes : Nodes) (s : PageSpot) (node : Node) → s.depth ≤ 64 → nodes s.number ≡ Ok node → early_finding nodes s ≡ None
 early_passes nodes s node h e = let b : nat_lt 64 s.depth ≡ false = grind (arith, nat_tests, h) in rw (b, e) refl
 
-claimed_none : (nodes : Nodes) (root : ℕ) → HasShape nodes root → (way : List ℕ) (s : PageSpot) (node : Node) → reached nodes root way ≡ Some (At_page s) → nodes s.number ≡ Ok node
-    → (n : ℕ) → IsInSpan node s.number n → IsClaimedBefore nodes (reached nodes root) IsMetaPage way n → ⊥
-claimed_none nodes root shape way s node e h n i (inl b) =
-    let here : SpanHas nodes (reached nodes root way) n = rw e (rw h i) in
-    let k = shape.above_metas way n here in omega arith
-claimed_none nodes root shape way s node e h n i (inr (v, (lt, b))) =
-    let here : SpanHas nodes (reached nodes root way) n = rw e (rw h i) in
-    let same : v ≡ way = shape.apart v way n b here in
-    before_irreflexive way (rw same at lt)
+module _ (nodes : Nodes) (root : ℕ) (shape : HasShape nodes root) where
+  claimed_none : (way : List ℕ) (n : ℕ) → SpanHas nodes (reached nodes root way) n → IsClaimedBefore nodes (reached nodes root) IsMetaPage way n → ⊥
+  claimed_none way n here (inl b) = omega (arith, shape.above_metas way n here)
+  claimed_none way n here (inr (v, (lt, b))) = before_irreflexive way (rw (shape.apart v way n b here) at lt)
 
-page_passes : (nodes : Nodes) (root : ℕ) → HasShape nodes root → (way : List ℕ) (s : PageSpot) → reached nodes root way ≡ Some (At_page s)
-    → PagePasses nodes (IsClaimedBefore nodes (reached nodes root) IsMetaPage way) s
-page_passes nodes root shape way s e =
-    let good = shape.good way s e in
-    let node : Node = good.1.0 in
-    let page : nodes s.number ≡ Ok node = good.1.1 in
-    let keys = key_passes None s.lower s.upper (keys_of node.entries) (shape.rising way s node e page)
-    (λ j key at. let b = all_bounded nodes root shape way (At_page s) e [] s.number j key node refl page at in (refl, b.0, b.1)) in
-    record {
-      node = node;
-      early = early_passes nodes s node good.0 page;
-      page = page;
-      free = claimed_none nodes root shape way s node e page;
-      content = content_none node s (shape.filled way s node e page) keys;
-    }
-
-passes : (nodes : Nodes) (root : ℕ) → HasShape nodes root → (way : List ℕ) (s : Spot) → reached nodes root way ≡ Some s
-    → Passes nodes (IsClaimedBefore nodes (reached nodes root) IsMetaPage way) s
-passes nodes root shape way (At_page s) e = page_passes nodes root shape way s e
-passes nodes root shape way (At_inline host keys) e =
-    let k = key_passes None None None keys (shape.rising_inline way host keys e) (λ j key at. (refl, refl, refl)) in rw k refl
+  passes : (way : List ℕ) (s : Spot) → reached nodes root way ≡ Some s → Passes nodes (IsClaimedBefore nodes (reached nodes root) IsMetaPage way) s
+  passes way (At_page s) e =
+      let good = shape.good way s e in
+      let node : Node = good.1.0 in
+      let page : nodes s.number ≡ Ok node = good.1.1 in
+      let keys = key_passes None s.lower s.upper (keys_of node.entries) (shape.rising way s node e page)
+      (λ j key at. let b = all_bounded nodes root shape way (At_page s) e [] s.number j key node refl page at in (refl, b.0, b.1)) in
+      record {
+        node = node;
+        early = early_passes nodes s node good.0 page;
+        page = page;
+        free = λ n i. claimed_none way n (rw e (rw page i));
+        content = content_none node s (shape.filled way s node e page) keys;
+      }
+  passes way (At_inline host keys) e = let k = key_passes None None None keys (shape.rising_inline way host keys e)
+      (λ j key at. (refl, refl, refl)) in rw k refl
 
 -- where the shape is right, the tests report nothing at any way
 pub shape_passes : (nodes : Nodes) (root : ℕ) → HasShape nodes root → IsClean nodes (reached nodes root) IsMetaPage
 shape_passes nodes root shape = record { passes = passes nodes root shape }
 
-pub sound_reports_nothing : (nodes : Nodes) (root : ℕ) (x : Finding) → HasShape nodes root → IsFirst nodes (reached nodes root) IsMetaPage x → ⊥
-sound_reports_nothing nodes root x shape h =
-    passes_silent nodes (IsClaimedBefore nodes (reached nodes root) IsMetaPage h.way) h.spot x (passes nodes root shape h.way h.spot h.leads) h.reported
+pub sound_reports_nothing : (file : List ℕ) (meta : Meta) (x : Finding) → HasSoundTrees file meta → IsFirstFinding file meta x → ⊥
+sound_reports_nothing file meta x shape h =
+    let nodes = node_at file meta in
+    passes_silent nodes (IsClaimedBefore nodes (reached nodes meta.root) IsMetaPage h.way) h.spot x
+    (passes nodes meta.root shape h.way h.spot h.leads) h.reported

@@ -1,14 +1,12 @@
 -- Leaves by themselves, and what is listed as free.
-use Rattle.std.proofs.Common.{◌≡◌, ◌≢◌, ◌∙◌, ◌==◌, ◌≤◌, ◌<◌, ◌+◌, ℕ, true, false, not, min, List, [], length, Option, Some, None, Result, Ok, sym, ap, subst, arith}
+use Rattle.std.proofs.Common.{◌≡◌, ◌≢◌, ◌∙◌, ◌==◌, ◌<◌, ◌+◌, ℕ, true, false, not, List, [], length, Option, Some, None, Result, Ok, sym, ap, subst, arith}
 use Rattle.std.specs.Option.{IfNone}
 use Rattle.std.specs.Prelude.{IsTrue, nat_lt}
-use Rattle.std.proofs.lemmas.Bool.{false≢true}
+use Rattle.std.proofs.lemmas.Bool.{false≢true, ltb-true}
 use Rattle.std.proofs.lemmas.Bool.Decides.{nat_tests}
-use Rattle.bolt_format.specs.Freelists.{free_ids_of, freelist_fault_of}
 use Rattle.bolt_format.specs.declared.meta.Meta.{Meta}
-use Rattle.bolt_check.specs.Accounts.{times_in}
 use Rattle.bolt_check.specs.Findings.{PagePasses}
-use Rattle.bolt_check.specs.LoneLeaves.{IsListedFree, IsLoneLeaf}
+use Rattle.bolt_check.specs.LoneLeaves.{IsLoneLeaf}
 use Rattle.bolt_check.specs.Nodes.{Entry, Node, Nodes, node_at}
 use Rattle.bolt_check.specs.Private.LeafTests.{IsFilledLeaf}
 use Rattle.bolt_check.specs.Private.Tables.{HasRoom}
@@ -24,9 +22,6 @@ filled_lone nodes before n (node, is, leaf, some) passes =
     let one : Ok node ≡ Ok passes.node = sym is ∙ passes.page in
     let same : node ≡ passes.node = cc in
     record { passes = passes; leaf = subst (λ (x : Node). IsTrue x.is_leaf) same leaf; some = subst (λ (x : Node). x.entries ≢ []) same some }
-
-pub lone_filled : (nodes : Nodes) (before : ℕ → Type 0) (n : ℕ) → IsLoneLeaf nodes before n → IsFilledLeaf (nodes n)
-lone_filled nodes before n lone = (lone.passes.node, lone.passes.page, lone.leaf, lone.some)
 
 -- it doesn't matter how it is said which pages were claimed before
 pub lone_same : (nodes : Nodes) (a b : ℕ → Type 0) (n : ℕ) → ((k : ℕ) → b k → a k) → IsLoneLeaf nodes a n → IsLoneLeaf nodes b n
@@ -57,12 +52,6 @@ none_listed t e = grind (arith, nat_tests)
 pub listed_none : (t : ℕ) → t ≡ 0 → not (t == 0) ≡ false
 listed_none t e = grind (arith, nat_tests)
 
-pub listed_more : (t : ℕ) → not (t == 0) ≡ true → 1 ≤ t
-listed_more t e = grind (arith, nat_tests)
-
-pub more_listed : (t : ℕ) → 1 ≤ t → not (t == 0) ≡ true
-more_listed t e = grind (arith, nat_tests)
-
 -- a page of the code that is a leaf, and has an element
 pub leaf_shown : (page : TreePage) → page.is_leaf ≡ true → IsTrue (shown_node page).is_leaf
 unfolding shown_node
@@ -76,24 +65,7 @@ not_filled seen page is not (node, of, leaf, some) =
     false≢true (sym not ∙ sym same ∙ leaf)
 
 pub some_entries : (entries : List Entry) (count : ℕ) → count ≡ length entries → nat_lt 0 count ≡ true → entries ≢ []
-some_entries entries count is more none =
-    let zero : count ≡ 0 = is ∙ ap length none in
-    let f : nat_lt 0 0 ≡ true = subst (λ (n : ℕ). nat_lt 0 n ≡ true) zero more in
-    false≢true f
-
--- the free ids say what is listed
-pub listed_by : (file : List ℕ) (meta : Meta) (ids : List ℕ) (times n : ℕ) → freelist_fault_of file meta ≡ None → Some ids ≡ free_ids_of file meta
-    → times ≡ min 2 (times_in ids n) → 1 ≤ times → IsListedFree file meta n
-listed_by file meta ids times n good is same more = record { ids = ids; good = good; listed = sym is; times = omega (arith, same, more) }
-
-pub by_listed : (file : List ℕ) (meta : Meta) (ids : List ℕ) (times n : ℕ) → Some ids ≡ free_ids_of file meta
-    → times ≡ min 2 (times_in ids n) → IsListedFree file meta n → 1 ≤ times
-by_listed file meta ids times n is same listed =
-    let one : Some ids ≡ Some listed.ids = is ∙ listed.listed in
-    let ids_same : ids ≡ listed.ids = cc in
-    let most = listed.times in
-    let here : times_in ids n ≡ times_in listed.ids n = ap (λ (xs : List ℕ). times_in xs n) ids_same in
-    omega (arith, same, most, here)
+some_entries entries count is more none = omega (arith, ltb-true 0 count more, is ∙ ap length none)
 
 pub if_none : {X P Q : Type 0} (o : Option X) → (P → Q) → IfNone o P → IfNone o Q
 if_none None to h = to h

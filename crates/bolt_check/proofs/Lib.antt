@@ -18,6 +18,7 @@ pub mod MarkLemmas
 pub mod NodeLemmas
 pub mod PageLemmas
 pub mod Pendings
+pub mod Rising
 pub mod RoleExists
 pub mod RoleFacts
 pub mod RoleLemmas
@@ -26,13 +27,12 @@ pub mod SettledLemmas
 pub mod Shaping
 pub mod Single
 pub mod SoundLemmas
-mod TableEnds
+pub mod Spans
 pub mod TableLemmas
 pub mod TourExists
 pub mod TourLemmas
 pub mod TourSums
 pub mod TreePages
-pub mod UseLemmas
 pub mod UsesClaimed
 pub mod VisitLemmas
 pub mod Visited

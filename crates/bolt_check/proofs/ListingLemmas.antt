@@ -11,9 +11,9 @@ use Rattle.bolt_check.specs.declared.finding.Finding.{Finding}
 use Rattle.bolt_check.specs.declared.finding.TheConstants.Finding.{FREED_TWICE, FREE_RANGE}
 use Rattle.bolt_check.specs.declared.listing.Listing.{Listing}
 use Rattle.bolt_check.specs.declared.table.PageUse.{PageUse}
-use Rattle.bolt_check.specs.declared.table.PageUse.TheVariants.{Unused, Branch, Leaf, Used, Free, FreeTwice, UsedFree, UsedFreeTwice}
+use Rattle.bolt_check.specs.declared.table.PageUse.TheVariants.{Unused, Free, FreeTwice}
 use Rattle.bolt_check.proofs.CountLemmas.{place_of, times_none, times_once, times_some, times_twice}
-use Rattle.bolt_check.proofs.TableEnds.{past_metas, past_unlisted}
+use Rattle.bolt_check.proofs.TableLemmas.{past_metas, past_unlisted}
 use Rattle.bolt_check.proofs.PageLemmas.{twice, reached, lost, range, not_lost_listed, on_own_page, reports_page, reports_range, reports_twice, reports_well}
 use Rattle.bolt_check.proofs.AccountFindingLemmas.{Reports, reported_append, reports_none, reports_run}
 
@@ -47,13 +47,9 @@ module _ (listing : Listing) (settled : IsSettled listing) where
   kept_here : (n : ℕ) (page_use : PageUse) → n < length listing.table.now → use_at listing.table.now n ≡ page_use → (page_use ≡ Unused → ⊥)
       → IsLost listing.mark (is_in_use listing) (listed_times listing) n → ⊥
   kept_here n Unused h e ne gone = ne refl
-  kept_here n Branch h e ne gone = gone.free.unused (ap is_used e)
-  kept_here n Leaf h e ne gone = gone.free.unused (ap is_used e)
-  kept_here n Used h e ne gone = gone.free.unused (ap is_used e)
-  kept_here n Free h e ne gone = let t = times_table n h ∙ ap times_of e in let zero = gone.unlisted in omega (arith, t, zero)
-  kept_here n FreeTwice h e ne gone = let t = times_table n h ∙ ap times_of e in let zero = gone.unlisted in omega (arith, t, zero)
-  kept_here n UsedFree h e ne gone = gone.free.unused (ap is_used e)
-  kept_here n UsedFreeTwice h e ne gone = gone.free.unused (ap is_used e)
+  kept_here n Free h e ne gone = omega (arith, times_table n h ∙ ap times_of e, gone.unlisted)
+  kept_here n FreeTwice h e ne gone = omega (arith, times_table n h ∙ ap times_of e, gone.unlisted)
+  kept_here n u h e ne gone = gone.free.unused (ap is_used e)
 
   pub table_lost : (n from : ℕ) (findings : List Finding) → n < length listing.table.now → use_at listing.table.now n ≡ Unused
       → HasFindingsTo listing from n findings → HasFindingsTo listing from (suc n) findings
@@ -78,12 +74,11 @@ module _ (listing : Listing) (settled : IsSettled listing) where
       → HasFindingsTo listing from n findings → HasFindingsTo listing (suc n) (suc n) ((findings ++ run_findings from n) ++ page_findings n page_use)
   table_reported n from findings page_use h order e ne reported =
       let kept = kept_here n page_use h e ne in
-      let before = reported_append listing.mark (is_in_use listing) (listed_times listing) from n findings (run_findings from n) reported.reported order
-      (reports_run listing.mark (is_in_use listing) (listed_times listing) from n order reported.run kept) in
+      let before = reported_append reported.reported order (reports_run order reported.run kept) in
       let here = reports_page listing.mark (is_in_use listing) (listed_times listing) n page_use (let end = settled.below in omega (arith, end)) (settled.metas n)
       (times_table n h ∙ ap times_of e) (λ claimed. sym (ap is_used e) ∙ claimed) (λ used. ap is_used e ∙ used) ne in
       record {
-        reported = reported_append listing.mark (is_in_use listing) (listed_times listing) n (suc n) (findings ++ run_findings from n) (page_findings n page_use) before (omega arith) here;
+        reported = reported_append before (omega arith) here;
         run = run_after n kept;
       }
 
@@ -129,9 +124,7 @@ module _ (listing : Listing) (settled : IsSettled listing) where
     past_next : (ys : List Finding) → Reports listing.mark (is_in_use listing) (listed_times listing) (get_or listing.past.now i 0) (suc (get_or listing.past.now i 0)) ys
         → IsPastTo listing (suc (get_or listing.past.now i 0)) (suc i) ((findings ++ run_findings from (get_or listing.past.now i 0)) ++ ys)
     past_next ys here = record {
-      reported = reported_append listing.mark (is_in_use listing) (listed_times listing) (get_or listing.past.now i 0) (suc (get_or listing.past.now i 0)) (findings ++ run_findings from (get_or listing.past.now i 0)) ys
-          (reported_append listing.mark (is_in_use listing) (listed_times listing) from (get_or listing.past.now i 0) findings (run_findings from (get_or listing.past.now i 0)) reported.reported order
-          (reports_run listing.mark (is_in_use listing) (listed_times listing) from (get_or listing.past.now i 0) order run_before id_kept)) (omega arith) here;
+      reported = reported_append (reported_append reported.reported order (reports_run order run_before id_kept)) (omega arith) here;
       begins = (run_after (get_or listing.past.now i 0) id_kept).begins;
       done = λ k l under. (let up = settled.sorted k i 0 (omega arith) h in omega (arith, up));
       left = λ n low high none. reported.left n (omega arith) high (λ k after l e. elim (cases_lt i k) [
@@ -140,30 +133,26 @@ module _ (listing : Listing) (settled : IsSettled listing) where
       ]);
     }
 
-    pub past_twice : suc i < length listing.past.now → get_or listing.past.now (suc i) 0 ≡ get_or listing.past.now i 0
-        → IsPastTo listing (suc (get_or listing.past.now i 0)) (suc i) ((findings ++ run_findings from (get_or listing.past.now i 0)) ++ finding FREED_TWICE (get_or listing.past.now i 0) ∷ [])
-    past_twice more same =
-        let e = times_past (get_or listing.past.now i 0) id_past in let two = times_twice listing.past.now i more same in
-        past_next (finding FREED_TWICE (get_or listing.past.now i 0) ∷ [])
-        (reports_twice listing.mark (is_in_use listing) (listed_times listing) (get_or listing.past.now i 0) (omega (arith, e, two)) (unused_past (get_or listing.past.now i 0) id_past) id_in_range)
-
-    pub past_once : (suc i < length listing.past.now → get_or listing.past.now (suc i) 0 ≡ get_or listing.past.now i 0 → ⊥)
-        → IsPastTo listing (suc (get_or listing.past.now i 0)) (suc i) (findings ++ run_findings from (get_or listing.past.now i 0))
+    past_once : (suc i < length listing.past.now → get_or listing.past.now (suc i) 0 ≡ get_or listing.past.now i 0 → ⊥)
+        → IsPastTo listing (suc (get_or listing.past.now i 0)) (suc i) ((findings ++ run_findings from (get_or listing.past.now i 0)) ++ [])
     past_once other =
         let e = times_past (get_or listing.past.now i 0) id_past in
         let one = times_once listing.past.now i (λ j k. settled.sorted j k 0) h id_first other in
-        subst (IsPastTo listing (suc (get_or listing.past.now i 0)) (suc i)) (append-nil (findings ++ run_findings from (get_or listing.past.now i 0))) (past_next []
-        (reports_well listing.mark (is_in_use listing) (listed_times listing) (get_or listing.past.now i 0) (omega (arith, e, one))
-        (λ claimed. absurd (unused_past (get_or listing.past.now i 0) id_past claimed)) id_kept id_in_range))
+        past_next [] (reports_well listing.mark (is_in_use listing) (listed_times listing) (get_or listing.past.now i 0) (omega (arith, e, one))
+        (λ claimed. absurd (unused_past (get_or listing.past.now i 0) id_past claimed)) id_kept id_in_range)
 
     pub past_reported : IsPastTo listing (suc (get_or listing.past.now i 0)) (suc i) ((findings ++ run_findings from (get_or listing.past.now i 0)) ++ repeat_findings listing.past.now i)
     past_reported = elim (cases_Bool (is_repeated listing.past.now i)) [
       | inl is ↦ (let both = and_parts (nat_lt (i + 1) (length listing.past.now)) (get_or listing.past.now (i + 1) 0 == get_or listing.past.now i 0) is in
           let more = ltb-true (i + 1) (length listing.past.now) both.0 in
-          let same = eqb-true (get_or listing.past.now (i + 1) 0) (get_or listing.past.now i 0) both.1 in
+          let same = ap (λ j. get_or listing.past.now j 0) (sym (add-one i)) ∙ eqb-true (get_or listing.past.now (i + 1) 0)
+          (get_or listing.past.now i 0) both.1 in
+          let e = times_past (get_or listing.past.now i 0) id_past in let two = times_twice listing.past.now i (omega (arith, more)) same in
           rw (cond-true (is_repeated listing.past.now i) (finding FREED_TWICE (get_or listing.past.now i 0) ∷ []) [] is)
-          (past_twice (omega (arith, more)) (ap (λ j. get_or listing.past.now j 0) (sym (add-one i)) ∙ same)))
-      | inr not ↦ rw (cond-false (is_repeated listing.past.now i) (finding FREED_TWICE (get_or listing.past.now i 0) ∷ []) [] not, append-nil)
+          (past_next (finding FREED_TWICE (get_or listing.past.now i 0) ∷ [])
+          (reports_twice listing.mark (is_in_use listing) (listed_times listing) (get_or listing.past.now i 0) (omega (arith, e, two))
+          (unused_past (get_or listing.past.now i 0) id_past) id_in_range)))
+      | inr not ↦ rw (cond-false (is_repeated listing.past.now i) (finding FREED_TWICE (get_or listing.past.now i 0) ∷ []) [] not)
           (past_once (λ more same. both_ways (is_repeated listing.past.now i) not
           (and_from (nat_lt (i + 1) (length listing.past.now)) (get_or listing.past.now (i + 1) 0 == get_or listing.past.now i 0) (lt-ltb (i + 1) (length listing.past.now) (omega (arith, more)))
           (eq-eqb (get_or listing.past.now (i + 1) 0) (get_or listing.past.now i 0) (ap (λ j. get_or listing.past.now j 0) (add-one i) ∙ same)))))
@@ -179,8 +168,7 @@ module _ (listing : Listing) (settled : IsSettled listing) where
   pub mark_reported : (from : ℕ) (findings : List Finding) → from ≤ listing.mark → HasFindingsTo listing from listing.mark findings
       → AreFindingsBelow listing.mark (is_in_use listing) (listed_times listing) listing.mark (findings ++ run_findings from listing.mark)
   mark_reported from findings order reported =
-      reported_append listing.mark (is_in_use listing) (listed_times listing) from listing.mark findings (run_findings from listing.mark) reported.reported order
-      (reports_run listing.mark (is_in_use listing) (listed_times listing) from listing.mark order reported.run (λ gone. (let under = gone.free.below in omega (arith, under))))
+      reported_append reported.reported order (reports_run order reported.run (λ gone. (let under = gone.free.below in omega (arith, under))))
 
   pub beyond_start : (findings : List Finding) → AreFindingsBelow listing.mark (is_in_use listing) (listed_times listing) listing.mark findings → IsBeyondTo listing 0 0 findings
   beyond_start findings reported =
@@ -190,22 +178,22 @@ module _ (listing : Listing) (settled : IsSettled listing) where
         done = λ k h. absurd (omega arith);
       }
 
-  -- a listed page from the mark on has a place among the ids
-  beyond_place : (n : ℕ) → listing.mark ≤ n → 1 ≤ listed_times listing n → (k : ℕ) × ((k < length listing.past.now) × (get_or listing.past.now k 0 ≡ n))
-  beyond_place n h one =
-      let end = settled.below in let e = times_past n (omega (arith, end)) in place_of listing.past.now n (omega (arith, e))
+  -- a finding from the mark on is on a listed page, which has a place among the ids
+  beyond_place : (x : Finding) → IsAccountFinding listing.mark (is_in_use listing) (listed_times listing) x → listing.mark ≤ x.page
+      → (k : ℕ) × ((k < length listing.past.now) × (get_or listing.past.now k 0 ≡ x.page))
+  beyond_place x is h = elim (on_own_page listing.mark (is_in_use listing) (listed_times listing) x is) [
+    | twice e two r ↦ absurd (omega (arith, r.1, h))
+    | reached e one used r ↦ absurd (omega (arith, r.1, h))
+    | lost gone ↦ absurd (omega (arith, gone.free.below, h))
+    | range e one out ↦ place_of listing.past.now x.page (omega (arith, one, times_past x.page (omega (arith, settled.below, h))))
+  ]
 
   -- no finding is on a page between
   gap_none : (last i : ℕ) → i < length listing.past.now → ((k : ℕ) → k < i → get_or listing.past.now k 0 < max listing.mark (suc last))
       → (x : Finding) → IsAccountFinding listing.mark (is_in_use listing) (listed_times listing) x → max listing.mark (suc last) ≤ x.page → x.page < get_or listing.past.now i 0 → ⊥
-  gap_none last i h done x is low high = elim (on_own_page listing.mark (is_in_use listing) (listed_times listing) x is) [
-    | twice e two r ↦ (let under = r.1 in omega (arith, under))
-    | reached e one used r ↦ (let under = r.1 in omega (arith, under))
-    | lost gone ↦ (let under = gone.free.below in omega (arith, under))
-    | range e one out ↦ (let (k, (l, at)) = beyond_place x.page (omega arith) one in elim (cases_lt k i) [
-      | inl before ↦ (let d = done k before in omega (arith, d, at))
-      | inr after ↦ (let up = settled.sorted i k 0 after l in omega (arith, up, at))
-    ])
+  gap_none last i h done x is low high = let (k, (l, at)) = beyond_place x is (omega arith) in elim (cases_lt k i) [
+    | inl before ↦ omega (arith, done k before, at)
+    | inr after ↦ omega (arith, settled.sorted i k 0 after l, at)
   ]
 
   pub beyond_reported : (last i : ℕ) (findings : List Finding) → i < length listing.past.now → listing.mark ≤ get_or listing.past.now i 0 → last < get_or listing.past.now i 0
@@ -217,10 +205,9 @@ module _ (listing : Listing) (settled : IsSettled listing) where
       let gap = reports_none listing.mark (is_in_use listing) (listed_times listing) (max listing.mark (suc last)) (get_or listing.past.now i 0)
       (λ n low high gone. (let under = gone.free.below in omega (arith, under))) (gap_none last i h reported.done) in
       let before = subst (AreFindingsBelow listing.mark (is_in_use listing) (listed_times listing) (get_or listing.past.now i 0)) (append-nil findings)
-      (reported_append listing.mark (is_in_use listing) (listed_times listing) (max listing.mark (suc last)) (get_or listing.past.now i 0) findings [] reported.reported (omega arith) gap) in
+      (reported_append reported.reported (omega arith) gap) in
       let here = reports_range listing.mark (is_in_use listing) (listed_times listing) (get_or listing.past.now i 0) (omega (arith, e, some)) (inr above) (λ r. (let under = r.1 in omega (arith, under, above))) in
-      let after = reported_append listing.mark (is_in_use listing) (listed_times listing) (get_or listing.past.now i 0) (suc (get_or listing.past.now i 0)) findings (finding FREE_RANGE (get_or listing.past.now i 0) ∷ [])
-      before (omega arith) here in
+      let after = reported_append before (omega arith) here in
       let next : suc (get_or listing.past.now i 0) ≡ max listing.mark (suc (get_or listing.past.now i 0)) = omega (arith, above) in
       record {
         reported = subst (λ (next : ℕ). AreFindingsBelow listing.mark (is_in_use listing) (listed_times listing) next (findings ++ finding FREE_RANGE (get_or listing.past.now i 0) ∷ [])) next after;
@@ -230,14 +217,9 @@ module _ (listing : Listing) (settled : IsSettled listing) where
   -- every finding is on a page below
   all_below : (last i : ℕ) → length listing.past.now ≤ i → ((k : ℕ) → k < i → get_or listing.past.now k 0 < max listing.mark (suc last))
       → (x : Finding) → IsAccountFinding listing.mark (is_in_use listing) (listed_times listing) x → x.page < max listing.mark (suc last)
-  all_below last i h done x is = elim (on_own_page listing.mark (is_in_use listing) (listed_times listing) x is) [
-    | twice e two r ↦ (let under = r.1 in omega (arith, under))
-    | reached e one used r ↦ (let under = r.1 in omega (arith, under))
-    | lost gone ↦ (let under = gone.free.below in omega (arith, under))
-    | range e one out ↦ elim (cases_lt x.page listing.mark) [
-      | inl under ↦ omega (arith, under)
-      | inr above ↦ (let (k, (l, at)) = beyond_place x.page above one in let d = done k (omega arith) in omega (arith, d, at))
-    ]
+  all_below last i h done x is = elim (cases_lt x.page listing.mark) [
+    | inl under ↦ omega arith
+    | inr above ↦ let (k, (l, at)) = beyond_place x is above in omega (arith, done k (omega arith), at)
   ]
 
   pub beyond_end : (last i : ℕ) (findings : List Finding) → length listing.past.now ≤ i → IsBeyondTo listing last i findings → AreAllFindings listing.mark (is_in_use listing) (listed_times listing) findings

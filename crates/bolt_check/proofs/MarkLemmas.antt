@@ -1,5 +1,6 @@
 -- A good page lies below the mark and in the file.
 use Rattle.std.proofs.Common.{◌≡◌, ◌∙◌, ℕ, ◌+◌, ◌*◌, ◌<◌, ◌≤◌, List, Option, Some, None, Result, Ok, Err, length, refl, sym, ap, subst, inl, inr, arith, []}
+use Rattle.std.specs.Prelude.{IsSome}
 use Rattle.std.proofs.lemmas.Bool.{cases_lt}
 use Rattle.bolt_format.specs.Pages.{PageView, page_at, page_fault, page_overflow, shown_as}
 use Rattle.bolt_format.specs.declared.kind.Kind.{Kind}
@@ -27,8 +28,7 @@ overflow_of (Some view) = view.overflow
 
 shown-overflow : (fault : Option ℕ) (kind : Option Kind) (count overflow : ℕ) (bytes : List ℕ) (view : PageView) → shown_as fault kind count overflow bytes ≡ Some view → view.overflow ≡ overflow
 shown-overflow None (Some kind) count overflow bytes view e = sym (ap overflow_of e)
-shown-overflow None None count overflow bytes view e = absurd (cc)
-shown-overflow (Some fault) kind count overflow bytes view e = absurd (cc)
+shown-overflow fault kind count overflow bytes view e = absurd (cc)
 
 pub page_overflows : (file : List ℕ) (meta : Meta) (id : ℕ) (view : PageView) → page_at file meta id ≡ Some view → view.overflow ≡ page_overflow file meta id
 unfolding page_at
@@ -37,8 +37,7 @@ page_overflows file meta id view e = shown-overflow (page_fault file meta id) _ 
 node_overflows : (k : Kind) (view : PageView) (node : Node) → node_of k view ≡ Ok node → node.overflow ≡ view.overflow
 node_overflows kind.Branch view node e = sym (ap node_overflow e)
 node_overflows kind.Leaf view node e = sym (ap node_overflow e)
-node_overflows kind.Meta view node e = absurd (cc)
-node_overflows kind.Freelist view node e = absurd (cc)
+node_overflows k view node e = absurd (cc)
 
 -- a node's page is good, and its span lies below the mark and in the file
 pub node_page : (file : List ℕ) (meta : Meta) (id : ℕ) (node : Node) → node_at file meta id ≡ Ok node → (view : PageView) × (page_at file meta id ≡ Some view) × (node.overflow ≡ view.overflow)
@@ -46,6 +45,9 @@ unfolding node_at
 node_page file meta id node e =
     let (view, is) = seen-some (page_at file meta id) (page_fault file meta id) node e in
     (view, is, node_overflows view.kind view node (subst (λ (o : Option PageView). node_seen o (page_fault file meta id) ≡ Ok node) is e))
+
+pub node_shown : (file : List ℕ) (meta : Meta) (id : ℕ) (node : Node) → node_at file meta id ≡ Ok node → IsSome (page_at file meta id)
+node_shown file meta id node e = let (view, is, _) = node_page file meta id node e in rw is refl
 
 pub node_within : (file : List ℕ) (meta : Meta) (id : ℕ) (node : Node) → node_at file meta id ≡ Ok node
     → (id + node.overflow < meta.high_water) × ((id + node.overflow + 1) * meta.page_size ≤ length file)

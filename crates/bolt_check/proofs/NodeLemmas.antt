@@ -74,3 +74,5 @@ unfolding shown_node
 step-leaf node s i e is found =
     let entries = (shown_node node).entries in
     ap (λ b. step_entry b s (slice_get entries i) (slice_get entries (suc i))) is ∙ ap (λ o. step_entry true s o (slice_get entries (suc i))) found
+
+pub ruleset entry_rules = (length-leaf, length-branch, leaf-entry, branch-entry, step-leaf, step-branch, upper-next, upper-last)

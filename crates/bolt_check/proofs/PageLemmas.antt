@@ -1,5 +1,5 @@
 -- What is reported of one page.
-use Rattle.std.proofs.Common.{◌≡◌, ℕ, suc, ◌<◌, ◌≤◌, ◌⊎◌, inl, inr, true, [], ◌∷◌, refl, sym, subst, arith, Contains}
+use Rattle.std.proofs.Common.{◌≡◌, ℕ, suc, ◌<◌, ◌≤◌, ◌⊎◌, inl, inr, true, [], ◌∷◌, refl, sym, subst, arith}
 use Rattle.std.proofs.lemmas.Bool.{cases_lt, lt-ltb, le-ltb, false≢true}
 use Rattle.std.proofs.lemmas.List.Elements.{All-cons, All-nil}
 use Rattle.std.proofs.lemmas.List.Kept.{AllPairs-cons}
@@ -10,7 +10,7 @@ use Rattle.bolt_check.specs.AccountFindings.{IsAccountFinding, IsBefore, IsInRan
 use Rattle.bolt_check.specs.declared.finding.Finding.{Finding}
 use Rattle.bolt_check.specs.declared.finding.TheConstants.Finding.{FREED_TWICE, FREE_RANGE, REACHED_FREED}
 use Rattle.bolt_check.specs.declared.table.PageUse.{PageUse}
-use Rattle.bolt_check.specs.declared.table.PageUse.TheVariants.{Unused, Branch, Leaf, Used, Free, FreeTwice, UsedFree, UsedFreeTwice}
+use Rattle.bolt_check.specs.declared.table.PageUse.TheVariants.{Unused, Free, FreeTwice, UsedFree, UsedFreeTwice}
 use Rattle.bolt_check.proofs.AccountFindingLemmas.{Reports, reports_none, reports_one, one_rises}
 
 -- a finding on a page, by its number
@@ -33,9 +33,6 @@ module _ (mark : ℕ) (in_use : ℕ → Type 0) (times : ℕ → ℕ) where
   -- no page is lost that is listed or in use
   pub not_lost_listed : (n : ℕ) → 1 ≤ times n → IsLost mark in_use times n → ⊥
   not_lost_listed n one is = let zero = is.unlisted in omega (arith, zero, one)
-
-  pub not_lost_used : (n : ℕ) → in_use n → IsLost mark in_use times n → ⊥
-  not_lost_used n used is = is.free.unused used
 
   only_here : (n : ℕ) → (IsLost mark in_use times n → ⊥) → (k : ℕ) → n ≤ k → k < suc n → IsLost mark in_use times k → ⊥
   only_here n there k low high gone = let same : k ≡ n = omega arith in there (subst (IsLost mark in_use times) same gone)
@@ -61,27 +58,24 @@ module _ (mark : ℕ) (in_use : ℕ → Type 0) (times : ℕ → ℕ) where
   reports_reached n one used in_range = reports_one mark in_use times n (suc n) (finding REACHED_FREED n) (reached_freed in_range (omega arith) used) (omega arith) (omega arith) (λ x is low high. elim (on_page x n is low high) [
     | twice e t r ↦ absurd (omega arith)
     | reached e t u r ↦ e
-    | lost gone ↦ absurd (not_lost_used n used gone)
+    | lost gone ↦ absurd (gone.free.unused used)
     | range e t out ↦ absurd (elim out as (λ _. ⊥) [ inl below ↦ (let a = in_range.0 in omega (arith, a, below)) | inr above ↦ (let a = in_range.1 in omega (arith, a, above)) ])
   ])
 
-  reports_first : (n : ℕ) → 2 ≤ times n → in_use n → IsInRange mark n
-      → (x : Finding) → IsAccountFinding mark in_use times x → n ≤ x.page → x.page < suc n → Contains (finding FREED_TWICE n ∷ finding REACHED_FREED n ∷ []) x
-  reports_first n two used in_range x is low high = elim (on_page x n is low high) [
-    | twice e t r ↦ (0, (omega arith), sym e)
-    | reached e t u r ↦ (1, (omega arith), sym e)
-    | lost gone ↦ absurd (not_lost_used n used gone)
-    | range e t out ↦ absurd (elim out as (λ _. ⊥) [ inl below ↦ (let a = in_range.0 in omega (arith, a, below)) | inr above ↦ (let a = in_range.1 in omega (arith, a, above)) ])
-  ]
-
   pub reports_both : (n : ℕ) → 2 ≤ times n → in_use n → IsInRange mark n → Reports mark in_use times n (suc n) (finding FREED_TWICE n ∷ finding REACHED_FREED n ∷ [])
   reports_both n two used in_range =
-      let after = reports_first n two used in_range in record {
+      record {
         sound = All-cons (IsAccountFinding mark in_use times) (finding FREED_TWICE n) (finding REACHED_FREED n ∷ []) (freed_twice in_range two)
             (All-cons (IsAccountFinding mark in_use times) (finding REACHED_FREED n) [] (reached_freed in_range (omega arith) used) (All-nil (IsAccountFinding mark in_use times)));
         within = All-cons (λ x. (n ≤ x.page) × (x.page < suc n)) (finding FREED_TWICE n) (finding REACHED_FREED n ∷ []) (omega arith, omega arith)
             (All-cons (λ x. (n ≤ x.page) × (x.page < suc n)) (finding REACHED_FREED n) [] (omega arith, omega arith) (All-nil (λ x. (n ≤ x.page) × (x.page < suc n))));
-        complete = λ x is low high. after x is low high;
+        complete = λ x is low high. elim (on_page x n is low high) [
+          | twice e t r ↦ (0, (omega arith), sym e)
+          | reached e t u r ↦ (1, (omega arith), sym e)
+          | lost gone ↦ absurd (gone.free.unused used)
+          | range e t out ↦ absurd (elim out as (λ _. ⊥)
+              [ inl below ↦ (let a = in_range.0 in omega (arith, a, below)) | inr above ↦ (let a = in_range.1 in omega (arith, a, above)) ])
+        ];
         silent = λ e. absurd (cc);
         rises = AllPairs-cons IsBefore (finding FREED_TWICE n) (finding REACHED_FREED n ∷ []) (All-cons (IsBefore (finding FREED_TWICE n)) (finding REACHED_FREED n) [] (inr (refl, omega arith)) (All-nil (IsBefore (finding FREED_TWICE n)))) (one_rises (finding REACHED_FREED n));
       }
@@ -102,29 +96,22 @@ module _ (mark : ℕ) (in_use : ℕ → Type 0) (times : ℕ → ℕ) where
     | range e one out ↦ omega arith
   ])
 
-  outside_metas : (n : ℕ) → n < 2 → IsInRange mark n → ⊥
-  outside_metas n low in_range = let a = in_range.0 in omega (arith, a, low)
-
   reports_meta : (n : ℕ) (page_use : PageUse) → n < 2 → times n ≡ times_of page_use → in_use n → is_used page_use ≡ true → Reports mark in_use times n (suc n) (meta_findings n page_use)
   reports_meta n Unused low e used is = absurd (false≢true is)
   reports_meta n Free low e used is = absurd (false≢true is)
   reports_meta n FreeTwice low e used is = absurd (false≢true is)
-  reports_meta n Branch low e used is = reports_unlisted n e (not_lost_used n used)
-  reports_meta n Leaf low e used is = reports_unlisted n e (not_lost_used n used)
-  reports_meta n Used low e used is = reports_unlisted n e (not_lost_used n used)
-  reports_meta n UsedFree low e used is = reports_range n (omega arith) (inl low) (outside_metas n low)
-  reports_meta n UsedFreeTwice low e used is = reports_range n (omega arith) (inl low) (outside_metas n low)
+  reports_meta n UsedFree low e used is = reports_range n (omega arith) (inl low) (λ r. omega (arith, r.0, low))
+  reports_meta n UsedFreeTwice low e used is = reports_range n (omega arith) (inl low) (λ r. omega (arith, r.0, low))
+  reports_meta n u low e used is = reports_unlisted n e (λ gone. gone.free.unused used)
 
   reports_use : (n : ℕ) (page_use : PageUse) → IsInRange mark n → times n ≡ times_of page_use → (in_use n → is_used page_use ≡ true) → (is_used page_use ≡ true → in_use n)
       → (page_use ≡ Unused → ⊥) → Reports mark in_use times n (suc n) (use_findings n page_use)
   reports_use n Unused in_range e there here ne = absurd (ne refl)
-  reports_use n Branch in_range e there here ne = reports_unlisted n e (not_lost_used n (here refl))
-  reports_use n Leaf in_range e there here ne = reports_unlisted n e (not_lost_used n (here refl))
-  reports_use n Used in_range e there here ne = reports_unlisted n e (not_lost_used n (here refl))
   reports_use n Free in_range e there here ne = reports_well n (omega arith) (λ u. absurd (false≢true (there u))) (not_lost_listed n (omega arith)) in_range
   reports_use n FreeTwice in_range e there here ne = reports_twice n (omega arith) (λ u. false≢true (there u)) in_range
   reports_use n UsedFree in_range e there here ne = reports_reached n e (here refl) in_range
   reports_use n UsedFreeTwice in_range e there here ne = reports_both n (omega arith) (here refl) in_range
+  reports_use n u in_range e there here ne = reports_unlisted n e (λ gone. gone.free.unused (here refl))
 
   pub reports_page : (n : ℕ) (page_use : PageUse) → n < mark → (n < 2 → in_use n) → times n ≡ times_of page_use → (in_use n → is_used page_use ≡ true)
       → (is_used page_use ≡ true → in_use n) → (page_use ≡ Unused → ⊥) → Reports mark in_use times n (suc n) (page_findings n page_use)

@@ -1,6 +1,6 @@
 -- In a sound file each page below the mark has a role: the tour says whether a way leads to it.
-use Rattle.std.proofs.Common.{◌≡◌, ℕ, ◌+◌, ◌<◌, ◌≤◌, ◌⊎◌, inl, inr, Bool, true, false, List, [], ◌∷◌, Option, Some, None, Result, Ok, Err, refl, arith}
-use Rattle.std.proofs.lemmas.Bool.{cases_lt, cases_eq}
+use Rattle.std.proofs.Common.{◌≡◌, ℕ, ◌+◌, ◌<◌, ◌≤◌, ◌⊎◌, inl, inr, Bool, true, false, List, [], ◌∷◌, Option, Some, Result, Ok, Err, refl, arith}
+use Rattle.std.proofs.lemmas.Bool.{cases_lt, cases_eq, eq-eqb, ne_eqb}
 use Rattle.bolt_format.specs.Pages.{page_overflow}
 use Rattle.bolt_format.specs.declared.meta.Meta.{Meta}
 use Rattle.bolt_format.specs.declared.meta.TheConstants.{NO_FREELIST}
@@ -8,10 +8,13 @@ use Rattle.bolt_check.specs.Accounts.{IsInFreelist}
 use Rattle.bolt_check.specs.Nodes.{Node, Nodes, node_at}
 use Rattle.bolt_check.specs.Roles.{HasRole}
 use Rattle.bolt_check.specs.Sound.{HasRightAccounts, HasSoundTrees}
-use Rattle.bolt_check.specs.Ways.{At_inline, At_page, PageSpot, Reach, SpanHas, SpanOf, Spot, reached}
+use Rattle.bolt_check.specs.Ways.{At_page, PageSpot, Reach, SpanHas, SpanOf, Spot, reached}
 use Rattle.bolt_check.specs.declared.role.Role.{Role}
 use Rattle.bolt_check.specs.declared.role.Role.TheVariants as role
-use Rattle.bolt_check.proofs.TourExists.{sound_tour}
+use Rattle.bolt_check.specs.Tours.{IsTour}
+use Rattle.bolt_check.proofs.Judging.{span_spot}
+use Rattle.bolt_check.proofs.RoleOnce.{Used, first_role, node_role, spot_role, used_role}
+use Rattle.bolt_check.proofs.TourSums.{bucket_tour}
 use Rattle.bolt_check.proofs.TourLemmas.{Ways}
 use Rattle.bolt_check.specs.Subtrees.{Has}
 
@@ -25,9 +28,6 @@ module _ (file : List ℕ) (meta : Meta) (n : ℕ) where
   abbrev reach : Reach
   reach = reached nodes meta.root
 
-  abbrev Role_of : Type 0
-  Role_of = (r : Role) × HasRole file meta n r
-
   within : (from last : ℕ) → Either ((from ≤ n) × (n ≤ last))
   within from last =
       elim (cases_lt n from) [
@@ -40,9 +40,8 @@ module _ (file : List ℕ) (meta : Meta) (n : ℕ) where
   in_node (Ok node) number = within number (number + node.overflow)
 
   at_spot : (o : Option Spot) → Either (SpanHas nodes o n)
-  at_spot None = inr (λ h. h)
   at_spot (Some (At_page s)) = in_node (nodes s.number) s.number
-  at_spot (Some (At_inline host keys)) = inr (λ h. h)
+  at_spot o = inr (λ h. h)
 
   pick : (ways : Ways) → ((way : List ℕ) × SpanHas nodes (reach way) n) ⊎ ((way : List ℕ) → Has way ways → SpanHas nodes (reach way) n → ⊥)
   pick [] = inr (λ way i h. i)
@@ -55,30 +54,6 @@ module _ (file : List ℕ) (meta : Meta) (n : ℕ) where
         ]
       ]
 
-  first_role : (way : List ℕ) (s : PageSpot) (node : Node) (b : Bool) → node.is_leaf ≡ b → reach way ≡ Some (At_page s) → nodes s.number ≡ Ok node → n ≡ s.number → Role_of
-  first_role way s node true kind e page same = (role.Leaf, record { way = way; spot = s; node = node; leads = e; number = same; page = page; kind = kind })
-  first_role way s node false kind e page same = (role.Branch, record { way = way; spot = s; node = node; leads = e; number = same; page = page; kind = kind })
-
-  node_role : (way : List ℕ) (s : PageSpot) (o : Result Node ℕ) → reach way ≡ Some (At_page s) → nodes s.number ≡ o → SpanOf o s.number n → Role_of
-  node_role way s (Err fault) e page h = absurd h
-  node_role way s (Ok node) e page h =
-      elim (cases_eq n s.number) [
-        | inl same ↦ first_role way s node node.is_leaf refl e page same
-        | inr other ↦ (role.Inside, inl (record { way = way; spot = s; node = node; leads = e; page = page; within = h; later = let a = h.0 in omega (arith, a, other) }))
-      ]
-
-  way_role : (way : List ℕ) (o : Option Spot) → reach way ≡ o → SpanHas nodes o n → Role_of
-  way_role way None e h = absurd h
-  way_role way (Some (At_page s)) e h = node_role way s (nodes s.number) e refl h
-  way_role way (Some (At_inline host keys)) e h = absurd h
-
-  list_role : IsInFreelist file meta n → Role_of
-  list_role is =
-      elim (cases_eq n meta.freelist) [
-        | inl same ↦ (role.Freelist, (is, same))
-        | inr other ↦ (role.Inside, inr (is, let a = is.from in omega (arith, a, other)))
-      ]
-
   in_list : HasRightAccounts file meta → Either (IsInFreelist file meta n)
   in_list right =
       elim (cases_eq meta.freelist NO_FREELIST) [
@@ -89,31 +64,56 @@ module _ (file : List ℕ) (meta : Meta) (n : ℕ) where
         ]
       ]
 
-  pub role_exists : HasSoundTrees file meta → HasRightAccounts file meta → n < meta.high_water → Role_of
-  role_exists trees right below =
-      let tour = sound_tour file meta trees in
-      elim (cases_lt n 2) [
-        | inl low ↦ (role.Meta, low)
-        | inr high ↦ elim (in_list right) [
-          | inl is ↦ list_role is
-          | inr out ↦ elim (pick tour.0) [
-            | inl (way, h) ↦ way_role way (reach way) refl h
-            | inr none ↦ (
-              role.Free,
-              record {
-                above_metas = high;
-                below = below;
-                unused = λ in_use. elim in_use [
-                  | inl (inl low) ↦ omega (arith, low, high)
-                  | inl (inr (way, h)) ↦ let p = led way (reach way) h in none way (tour.1.all way p.0 (p.1)) h
-                  | inr is ↦ out is
-                ];
-              },
-            )
-          ]
-        ]
+  in_use : HasRightAccounts file meta → (tour : Ways) → IsTour reach tour → Either (Used file meta n)
+  in_use right tour is = elim (cases_lt n 2) [
+    | inl low ↦ inl (inl (inl low))
+    | inr high ↦ elim (in_list right) [
+      | inl list ↦ inl (inr list)
+      | inr out ↦ elim (pick tour) [
+        | inl way ↦ inl (inl (inr way))
+        | inr none ↦ inr (λ used. elim used [
+          | inl (inl low) ↦ omega (arith, low, high)
+          | inl (inr (way, h)) ↦ let p = span_spot nodes (reach way) n h in none way (is.all way p.0 p.1.0) h
+          | inr list ↦ out list
+        ])
       ]
-    where
-      led : (way : List ℕ) (o : Option Spot) → SpanHas nodes o n → (s : Spot) × (o ≡ Some s)
-      led way None h = absurd h
-      led way (Some s) h = (s, refl)
+    ]
+  ]
+
+  first_page : (way : List ℕ) (s : PageSpot) (node : Node) (b : Bool) → node.is_leaf ≡ b → reach way ≡ Some (At_page s) → nodes s.number ≡ Ok node
+      → n ≡ s.number → HasRole file meta n (first_role b)
+  first_page way s node true kind e page same = record { way = way; spot = s; node = node; leads = e; number = same; page = page; kind = kind }
+  first_page way s node false kind e page same = record { way = way; spot = s; node = node; leads = e; number = same; page = page; kind = kind }
+
+  at_node : (way : List ℕ) (s : PageSpot) (o : Result Node ℕ) → reach way ≡ Some (At_page s) → nodes s.number ≡ o → SpanOf o s.number n
+      → HasRole file meta n (node_role n o s.number)
+  at_node way s (Err fault) e page h = absurd h
+  at_node way s (Ok node) e page h = elim (cases_eq n s.number) [
+    | inl same ↦ rw (eq-eqb n s.number same) (first_page way s node node.is_leaf refl e page same)
+    | inr other ↦ rw (ne_eqb n s.number other)
+        (inl (record { way = way; spot = s; node = node; leads = e; page = page; within = h; later = omega (arith, h.0, other) }))
+  ]
+
+  on_way : (way : List ℕ) (o : Option Spot) → reach way ≡ o → SpanHas nodes o n → HasRole file meta n (spot_role n nodes o)
+  on_way way (Some (At_page s)) e h = at_node way s (nodes s.number) e refl h
+  on_way way o e h = absurd h
+
+  has_role : (p : Used file meta n) → HasRole file meta n (used_role file meta n p)
+  has_role (inl (inl low)) = low
+  has_role (inl (inr (way, h))) = on_way way (reach way) refl h
+  has_role (inr is) = elim (cases_eq n meta.freelist) [
+    | inl same ↦ rw (eq-eqb n meta.freelist same) (is, same)
+    | inr other ↦ rw (ne_eqb n meta.freelist other) (inr (is, omega (arith, is.from, other)))
+  ]
+
+  pub role_exists : HasSoundTrees file meta → HasRightAccounts file meta → n < meta.high_water → (r : Role) × HasRole file meta n r
+  role_exists trees right below =
+      let tour = bucket_tour file meta trees [] meta.root refl in
+      elim (in_use right tour.0 tour.1) [
+        | inl p ↦ (used_role file meta n p, has_role p)
+        | inr out ↦ (
+          role.Free,
+          record
+              { above_metas = elim (cases_lt n 2) [ inl low ↦ absurd (out (inl (inl low))) | inr high ↦ high ]; below = below; unused = out },
+        )
+      ]

@@ -1,5 +1,5 @@
 -- What holds of a page with a role, for the crates above.
-use Rattle.std.proofs.Common.{◌≡◌, ℕ, ◌+◌, ◌*◌, ◌<◌, ◌≤◌, ◌⊎◌, inl, inr, Bool, true, List, [], Ok, length, refl, sym, subst, arith}
+use Rattle.std.proofs.Common.{◌≡◌, ℕ, ◌+◌, ◌*◌, ◌<◌, ◌≤◌, inl, inr, Bool, true, List, [], Ok, length, refl, sym, subst, arith}
 use Rattle.std.specs.Prelude.{IsSome}
 use Rattle.std.proofs.Math.Logic.{∥∥₁_elim, ∥∥₁_map}
 use Rattle.std.proofs.Math.Nat.{mul-le-mul_right}
@@ -16,7 +16,7 @@ use Rattle.bolt_check.specs.declared.checked_file.Checked.{Checked}
 use Rattle.bolt_check.specs.declared.role.Role.{Role}
 use Rattle.bolt_check.specs.declared.role.Role.TheVariants as role
 use Rattle.bolt_check.proofs.FreelistLemmas.{freelist_page, freelist_within}
-use Rattle.bolt_check.proofs.MarkLemmas.{node_page, node_within}
+use Rattle.bolt_check.proofs.MarkLemmas.{node_shown, node_within}
 use Rattle.bolt_check.proofs.RoleExists.{role_exists}
 use Rattle.bolt_check.proofs.RoleLemmas.{page_positive}
 use Rattle.bolt_check.proofs.RoleOnce.{role_once}
@@ -34,8 +34,7 @@ module _ (file : List ℕ) (meta : Meta) where
   -- the first page of a branch or a leaf is good
   pub first_shown : (is_leaf : Bool) (n : ℕ) → IsFirstPage (node_at file meta) (reached (node_at file meta) meta.root) is_leaf n → IsSome (page_at file meta n)
   first_shown is_leaf n is =
-      let (view, at, _) = node_page file meta is.spot.number is.node is.page in
-      subst (λ (k : ℕ). IsSome (page_at file meta k)) (sym is.number) (rw at refl)
+      subst (λ (k : ℕ). IsSome (page_at file meta k)) (sym is.number) (node_shown file meta is.spot.number is.node is.page)
 
   -- and so is the freelist's
   pub freelist_shown : (n : ℕ) → IsInFreelist file meta n → n ≡ meta.freelist → IsSome (page_at file meta n)
@@ -62,31 +61,27 @@ module _ (file : List ℕ) (meta : Meta) where
 
   past_role : (n : ℕ) (r : Role) → 0 < meta.page_size → HasSoundTrees file meta → HasRole file meta n r → length file ≤ n * meta.page_size → r ≡ role.Free
   past_role n role.Meta positive trees is past = absurd (past_metas n positive trees is past)
-  past_role n role.Branch positive trees is past = absurd (let same = is.number in past_node is.spot.number n is.node positive is.page (omega (arith, same)) past)
-  past_role n role.Leaf positive trees is past = absurd (let same = is.number in past_node is.spot.number n is.node positive is.page (omega (arith, same)) past)
   past_role n role.Freelist positive trees is past = absurd (past_freelist n positive is.0 past)
   past_role n role.Inside positive trees (inl is) past = absurd (past_node is.spot.number n is.node positive is.page is.within.1 past)
   past_role n role.Inside positive trees (inr is) past = absurd (past_freelist n positive is.0 past)
   past_role n role.Free positive trees is past = refl
+  past_role n r positive trees is past = absurd (past_node is.spot.number n is.node positive is.page (omega (arith, is.number)) past)
 
   -- a page that begins at the file's end or past it is free
   pub past_is_free : IsSound file meta true → (n : ℕ) (r : Role) → HasRole file meta n r → length file ≤ n * meta.page_size → r ≡ role.Free
   past_is_free sound n r is past = past_role n r (page_positive file meta sound) sound.trees is past
 
   pub one_role : IsSound file meta true → (n : ℕ) (a b : Role) → HasRole file meta n a → HasRole file meta n b → a ≡ b
-  one_role sound n a b h k = role_once file meta sound.trees (sound.right refl) n a b h k
+  one_role sound n a b h k = role_once file meta n sound.trees (sound.right refl) a b h k
 
   pub size_positive : IsSound file meta true → 0 < meta.page_size
   size_positive sound = page_positive file meta sound
 
-  abbrev pick : HasSoundTrees file meta → HasRightAccounts file meta → (n : ℕ) → (n < meta.high_water) ⊎ (meta.high_water ≤ n) → Role
-  pick trees right n (inl below) = (role_exists file meta n trees right below).0
-  pick trees right n (inr past) = role.Free
-
-  picked : (trees : HasSoundTrees file meta) (right : HasRightAccounts file meta) (n : ℕ) (where_ : (n < meta.high_water) ⊎ (meta.high_water ≤ n)) → n < meta.high_water
-      → HasRole file meta n (pick trees right n where_)
-  picked trees right n (inl low) below = (role_exists file meta n trees right low).1
-  picked trees right n (inr past) below = absurd (let h : ⊥ = omega (arith, past, below) in h)
+  role_below : HasSoundTrees file meta → HasRightAccounts file meta → (n : ℕ) → (r : Role) × (n < meta.high_water → HasRole file meta n r)
+  role_below trees right n = elim (cases_lt n meta.high_water) [
+    | inl below ↦ let p = role_exists file meta n trees right below in (p.0, λ _. p.1)
+    | inr past ↦ (role.Free, λ below. absurd (omega (arith, past, below)))
+  ]
 
   pub some_roles : HasSoundTrees file meta → HasRightAccounts file meta → (roles : ℕ → Role) × AreRoles file meta roles
-  some_roles trees right = (λ n. pick trees right n (cases_lt n meta.high_water), λ n below. picked trees right n (cases_lt n meta.high_water) below)
+  some_roles trees right = (λ n. (role_below trees right n).0, λ n. (role_below trees right n).1)

@@ -1,5 +1,5 @@
 -- The role of a page, from the table of uses.
-use Rattle.std.proofs.Common.{◌≡◌, ◌≢◌, ◌∙◌, ℕ, zero, suc, ◌<◌, ◌≤◌, ◌↔◌, inl, inr, Bool, true, false, List, Some, sym, ap, refl, arith}
+use Rattle.std.proofs.Common.{◌≡◌, ◌≢◌, ◌∙◌, ℕ, zero, suc, ◌<◌, ◌≤◌, ◌↔◌, inl, inr, Bool, true, false, List, Some, sym, ap, subst, refl, arith}
 use Rattle.std.proofs.lemmas.Bool.{cases_lt, cases_eq, lt-ltb, le-ltb, eq-eqb, ne_eqb, false≢true}
 use Rattle.bolt_format.specs.Metas.{IsInSlot, IsMeta, IsPageSize}
 use Rattle.bolt_format.specs.declared.meta.Meta.{Meta}
@@ -17,25 +17,8 @@ use Rattle.bolt_check.specs.Private.Uses.{HasUse, IsMetaUse, IsNoted, UseAt, use
 use Rattle.bolt_check.specs.Ways.{At_inline, At_page, Reach, Spot, reached}
 use Rattle.bolt_check.specs.declared.role.Role.TheVariants as role
 use Rattle.bolt_check.specs.declared.table.PageUse.{PageUse}
-use Rattle.bolt_check.specs.declared.table.PageUse.TheVariants.{Unused, Branch, Leaf, Used, Free, FreeTwice, UsedFree, UsedFreeTwice}
-use Rattle.bolt_check.proofs.UseLemmas.{use_spot}
-
-tree_use : (b : Bool) (u : PageUse) → u ≡ use_of b → (u ≡ Used → ⊥) × ((u ≡ Branch → b ≡ false) × (u ≡ Leaf → b ≡ true))
-tree_use true u e = (λ h. cc, (λ h. absurd (cc), λ h. refl))
-tree_use false u e = (λ h. cc, (λ h. refl, λ h. absurd (cc)))
-
-first_page : (nodes : Nodes) (reach : Reach) (n : ℕ) (u : PageUse) (b : Bool) → ((c : Bool) → u ≡ use_of c → c ≡ b) → (u ≡ Used → ⊥)
-    → (way : List ℕ) (t : Spot) → reach way ≡ Some t → UseAt nodes t n u → IsFirstPage nodes reach b n
-first_page nodes reach n u b is not way (At_inline host keys) e h = absurd h
-first_page nodes reach n u b is not way (At_page s) e (node, page, inl h) =
-    record { way = way; spot = s; node = node; leads = e; number = h.0; page = page; kind = is node.is_leaf h.1 }
-first_page nodes reach n u b is not way (At_page s) e (node, page, inr h) = absurd (not h.2)
-
-later_page : (nodes : Nodes) (reach : Reach) (n : ℕ) → (way : List ℕ) (t : Spot) → reach way ≡ Some t → UseAt nodes t n Used → IsLaterPage nodes reach n
-later_page nodes reach n way (At_inline host keys) e h = absurd h
-later_page nodes reach n way (At_page s) e (node, page, inl h) = absurd ((tree_use node.is_leaf Used h.1).0 refl)
-later_page nodes reach n way (At_page s) e (node, page, inr h) =
-    record { way = way; spot = s; node = node; leads = e; page = page; within = (omega (arith, h.0), h.1); later = h.0 }
+use Rattle.bolt_check.specs.declared.table.PageUse.TheVariants.{Branch, Leaf, Used, UsedFree, UsedFreeTwice}
+use Rattle.bolt_check.proofs.Judging.{use_spot}
 
 module _ (file : List ℕ) (meta : Meta) (table : List PageUse) (are : AreUses file meta table) where
   abbrev nodes : Nodes
@@ -44,21 +27,43 @@ module _ (file : List ℕ) (meta : Meta) (table : List PageUse) (are : AreUses f
   abbrev reach : Reach
   reach = reached nodes meta.root
 
-  tree : (n : ℕ) (u : PageUse) (b : Bool) → ((c : Bool) → u ≡ use_of c → c ≡ b) → (u ≡ Used → ⊥) → is_used u ≡ true → use_at table n ≡ u → IsFirstPage nodes reach b n
-  tree n u b is not used e =
-      elim (are.noted n u (e, used)) [
-        | inl (inl h) ↦ absurd (not h.1)
-        | inl (inr (way, h)) ↦ let p = use_spot nodes (reach way) n u h in first_page nodes reach n u b is not way p.0 p.1.0 p.1.1
-        | inr h ↦ absurd (not h.1)
-      ]
+  -- why a page has this use
+  data Shows (n : ℕ) : PageUse → Type 0 where
+    by_meta : n < 2 → Shows n Used
+    by_branch : IsFirstPage nodes reach false n → Shows n Branch
+    by_leaf : IsFirstPage nodes reach true n → Shows n Leaf
+    by_later : IsLaterPage nodes reach n → Shows n Used
+    by_list : IsInFreelist file meta n → Shows n Used
 
-  inside : (n : ℕ) → 2 ≤ n → n ≢ meta.freelist → use_at table n ≡ Used → HasRole file meta n role.Inside
-  inside n high other e =
-      elim (are.noted n Used (e, refl)) [
-        | inl (inl h) ↦ absurd (omega (arith, high, h.0))
-        | inl (inr (way, h)) ↦ let p = use_spot nodes (reach way) n Used h in inl (later_page nodes reach n way p.0 p.1.0 p.1.1)
-        | inr h ↦ let from = h.0.from in inr (h.0, omega (arith, from, other))
-      ]
+  by_first : (n : ℕ) (b : Bool) → IsFirstPage nodes reach b n → Shows n (use_of b)
+  by_first n true h = by_leaf h
+  by_first n false h = by_branch h
+
+  shows_spot : (n : ℕ) (u : PageUse) (way : List ℕ) (t : Spot) → reach way ≡ Some t → UseAt nodes t n u → Shows n u
+  shows_spot n u way (At_inline host keys) e h = absurd h
+  shows_spot n u way (At_page s) e (node, page, inl h) =
+      subst (Shows n) (sym h.1) (by_first n node.is_leaf (record { way = way; spot = s; node = node; leads = e; number = h.0; page = page; kind = refl }))
+  shows_spot n u way (At_page s) e (node, page, inr h) =
+      subst (Shows n) (sym h.2) (by_later
+      (record { way = way; spot = s; node = node; leads = e; page = page; within = (omega (arith, h.0), h.1); later = h.0 }))
+
+  shows : (n : ℕ) (u : PageUse) → is_used u ≡ true → use_at table n ≡ u → Shows n u
+  shows n u used e = elim (are.noted n u (e, used)) [
+    | inl (inl h) ↦ subst (Shows n) (sym h.1) (by_meta h.0)
+    | inl (inr (way, h)) ↦ let p = use_spot nodes (reach way) n u h in shows_spot n u way p.0 p.1.0 p.1.1
+    | inr h ↦ subst (Shows n) (sym h.1) (by_list h.0)
+  ]
+
+  branch : (n : ℕ) → Shows n Branch → HasRole file meta n role.Branch
+  branch n (by_branch h) = h
+
+  leaf : (n : ℕ) → Shows n Leaf → HasRole file meta n role.Leaf
+  leaf n (by_leaf h) = h
+
+  inside : (n : ℕ) → 2 ≤ n → n ≢ meta.freelist → Shows n Used → HasRole file meta n role.Inside
+  inside n high other (by_meta low) = absurd (omega (arith, high, low))
+  inside n high other (by_later h) = inl h
+  inside n high other (by_list h) = inr (h, omega (arith, h.from, other))
 
   free : (n : ℕ) (u : PageUse) → 2 ≤ n → n < meta.high_water → is_used u ≡ false → use_at table n ≡ u → HasRole file meta n role.Free
   free n u high below not e = record {
@@ -67,44 +72,13 @@ module _ (file : List ℕ) (meta : Meta) (table : List PageUse) (are : AreUses f
     unused = λ in_use. false≢true (sym not ∙ ap is_used (sym e) ∙ are.claimed n in_use);
   }
 
-  neither : (n : ℕ) (u : PageUse) → ((c : Bool) → u ≡ use_of c → ⊥) → (u ≡ Used → ⊥) → is_used u ≡ true → use_at table n ≡ u → ⊥
-  neither n u nor not used e =
-      elim (are.noted n u (e, used)) [
-        | inl (inl h) ↦ not h.1
-        | inl (inr (way, h)) ↦ let p = use_spot nodes (reach way) n u h in no_use n u nor not p.0 p.1.1
-        | inr h ↦ not h.1
-      ]
-    where
-      no_use : (n : ℕ) (u : PageUse) → ((c : Bool) → u ≡ use_of c → ⊥) → (u ≡ Used → ⊥) → (t : Spot) → UseAt nodes t n u → ⊥
-      no_use n u nor not (At_inline host keys) h = h
-      no_use n u nor not (At_page s) (node, page, inl h) = nor node.is_leaf h.1
-      no_use n u nor not (At_page s) (node, page, inr h) = not h.2
-
-  is_branch : (c : Bool) → Branch ≡ use_of c → c ≡ false
-  is_branch true e = absurd (cc)
-  is_branch false e = refl
-
-  is_leaf : (c : Bool) → Leaf ≡ use_of c → c ≡ true
-  is_leaf true e = refl
-  is_leaf false e = absurd (cc)
-
-  no_free : (c : Bool) → UsedFree ≡ use_of c → ⊥
-  no_free true e = cc
-  no_free false e = cc
-
-  no_twice : (c : Bool) → UsedFreeTwice ≡ use_of c → ⊥
-  no_twice true e = cc
-  no_twice false e = cc
-
   from_use : (n : ℕ) (u : PageUse) → 2 ≤ n → n < meta.high_water → n ≢ meta.freelist → use_at table n ≡ u → HasRole file meta n (role_from u)
-  from_use n Unused high below other e = free n Unused high below refl e
-  from_use n Branch high below other e = tree n Branch false is_branch (λ h. cc) refl e
-  from_use n Leaf high below other e = tree n Leaf true is_leaf (λ h. cc) refl e
-  from_use n Used high below other e = inside n high other e
-  from_use n Free high below other e = free n Free high below refl e
-  from_use n FreeTwice high below other e = free n FreeTwice high below refl e
-  from_use n UsedFree high below other e = absurd (neither n UsedFree no_free (λ h. cc) refl e)
-  from_use n UsedFreeTwice high below other e = absurd (neither n UsedFreeTwice no_twice (λ h. cc) refl e)
+  from_use n Branch high below other e = branch n (shows n Branch refl e)
+  from_use n Leaf high below other e = leaf n (shows n Leaf refl e)
+  from_use n Used high below other e = inside n high other (shows n Used refl e)
+  from_use n UsedFree high below other e = elim (shows n UsedFree refl e) [ ]
+  from_use n UsedFreeTwice high below other e = elim (shows n UsedFreeTwice refl e) [ ]
+  from_use n u high below other e = free n u high below refl e
 
   role_of : (n : ℕ) (u : PageUse) → n < meta.high_water → meta.high_water ≤ NO_FREELIST → use_at table n ≡ u → HasRole file meta n (role_by meta n u)
   role_of n u below mark e =
@@ -144,8 +118,3 @@ uses_with file meta old new right claimed uses claims = record {
   good = right.good;
   claimed = λ n in_use. claims.claimed n (elim in_use [ inl used ↦ inl ((claimed n).1 used) | inr is ↦ inr is ]);
 }
-
--- the freelist shares no page with those that are used
-pub none_shared : (file : List ℕ) (meta : Meta) (table : List PageUse) (n : ℕ) → IsSound file meta true → ((k : ℕ) → IsClaimed table k ↔ IsUsed file meta k)
-    → IsInFreelist file meta n → IsClaimed table n → ⊥
-none_shared file meta table n sound claimed is was = (sound.right refl).apart n is ((claimed n).0 was)

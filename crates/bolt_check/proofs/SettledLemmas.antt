@@ -1,11 +1,11 @@
 -- A table in which the ids are listed, with the ids past it sorted, is a listing of them.
-use Rattle.std.proofs.Common.{◌≡◌, ◌∙◌, ◌==◌, ℕ, ◌+◌, ◌<◌, ◌≤◌, Bool, true, false, List, [], ◌∷◌, All, length, Vec, Global, Result, IfOk, cond, filter, min, IsPermutation, inl, inr, refl, sym, ap, subst, arith, nat_le}
+use Rattle.std.proofs.Common.{◌≡◌, ◌∙◌, ◌==◌, ℕ, ◌<◌, ◌≤◌, Bool, true, List, All, length, Vec, Global, Result, IfOk, cond, not, filter, min, IsPermutation, inl, inr, refl, sym, ap, subst, arith, nat_le}
 use Rattle.std.specs.List.Sorted.{IsNonDecreasing, IsSorted}
 use Rattle.std.specs.Ordering.{nat_cmp}
-use Rattle.std.proofs.lemmas.Bool.{cases_lt, cond-false, cond-true, false≢true, le-leb, leb-true}
+use Rattle.std.proofs.lemmas.Bool.{both_ways, cases_lt, le-leb, leb-true, not-true}
 use Rattle.std.proofs.lemmas.List.Elements.{All-weaker, filter_passes}
 use Rattle.std.proofs.lemmas.List.Sorted.{All-permutation, IsNonDecreasingBy-from_sort, sum_by-IsPermutation}
-use Rattle.std.proofs.lemmas.List.Sums.{sum_by-cons}
+use Rattle.std.proofs.lemmas.List.Filters.{sum_by-filter_both}
 use Rattle.bolt_check.specs.Accounts.{times_in}
 use Rattle.std.specs.declared.alloc.AllocError.{AllocError}
 use Rattle.std.proofs.lemmas.Result.{IfOk-weaker}
@@ -14,26 +14,17 @@ use Rattle.bolt_check.specs.Private.Listings.{AreAllFindings, IsSettled, is_in_u
 use Rattle.bolt_check.specs.Private.Tables.{IsClaimed, is_used, use_at, times_of}
 use Rattle.bolt_check.specs.declared.listing.Listing.{Listing}
 use Rattle.bolt_check.specs.declared.table.PageUse.{PageUse}
-use Rattle.bolt_check.proofs.CountLemmas.{times_there}
+use Rattle.bolt_check.proofs.CountLemmas.{times_none}
 use Rattle.bolt_check.proofs.ListingLemmas.{times_past, times_table}
 use Rattle.bolt_check.proofs.AccountLemmas.{reported_along}
 
-filter_step : (p : ℕ → Bool) (n x : ℕ) (xs : List ℕ) (b : Bool) → p n ≡ true → p x ≡ b → times_in (filter p xs) n ≡ times_in xs n
-    → times_in (cond (p x) (x ∷ filter p xs) (filter p xs)) n ≡ times_in (x ∷ xs) n
-filter_step p n x xs true passes e rest =
-    ap (λ (ys : List ℕ). times_in ys n) (cond-true (p x) (x ∷ filter p xs) (filter p xs) e)
-    ∙ sum_by-cons (λ (id : ℕ). cond (id == n) 1 0) x (filter p xs)
-    ∙ ap (λ (m : ℕ). cond (x == n) 1 0 + m) rest
-    ∙ sym (sum_by-cons (λ (id : ℕ). cond (id == n) 1 0) x xs)
-filter_step p n x xs false passes e rest =
-    ap (λ (ys : List ℕ). times_in ys n) (cond-false (p x) (x ∷ filter p xs) (filter p xs) e)
-    ∙ rest
-    ∙ sym (times_there x n xs (λ same. false≢true (sym e ∙ ap p same ∙ passes)))
-
 -- a number that passes a test is as often in what passes
 times_filter : (p : ℕ → Bool) (n : ℕ) → p n ≡ true → (xs : List ℕ) → times_in (filter p xs) n ≡ times_in xs n
-times_filter p n passes [] = refl
-times_filter p n passes (x ∷ xs) = filter_step p n x xs (p x) passes refl (times_filter p n passes xs)
+times_filter p n passes xs =
+    let others : List ℕ = filter (λ x. not (p x)) xs in
+    let none = times_none others n
+    (λ k h e. both_ways (p n) (not-true (p n) (subst (λ (m : ℕ). not (p m) ≡ true) e (filter_passes (λ x. not (p x)) xs k 0 h))) passes) in
+    omega (arith, none, sum_by-filter_both p (λ x. not (p x)) (λ x. refl) (λ id. cond (id == n) 1 0) xs)
 
 module _ (old : List PageUse) (ids past items : List ℕ) (listing : Listing) (long : length listing.table.now ≡ length old)
     (used : (n : ℕ) → is_used (use_at listing.table.now n) ≡ is_used (use_at old n))
@@ -67,5 +58,5 @@ module _ (old : List PageUse) (ids past items : List ℕ) (listing : Listing) (l
       → IfOk r (λ reported. AreAllFindings listing.mark (IsClaimed old) (times_in ids) reported.items)
   listing_reported ok times r reported =
       IfOk-weaker r (λ reported. AreAllFindings listing.mark (is_in_use listing) (listed_times listing) reported.items) (λ reported. AreAllFindings listing.mark (IsClaimed old) (times_in ids) reported.items)
-      (λ v. reported_along listing.mark (is_in_use listing) (IsClaimed old) (listed_times listing) (times_in ids) (λ n claimed. sym (used n) ∙ claimed) (λ n claimed. used n ∙ claimed)
-      (same_times ok times) v.items) reported
+      (λ v. reported_along listing.mark (is_in_use listing) (IsClaimed old) (listed_times listing) (times_in ids)
+      (record { there = λ n claimed. sym (used n) ∙ claimed; back = λ n claimed. used n ∙ claimed; counted = same_times ok times }) v.items) reported

@@ -1,8 +1,7 @@
 -- If the tests find nothing at any way, the shape holds.
-use Rattle.std.proofs.Common.{◌≡◌, ◌≢◌, ℕ, suc, ◌≤◌, inl, inr, Bool, true, false, not, ◌&&◌, ◌==◌, if◌then◌else◌, nat_lt, List, [], ◌∷◌, ◌++◌, length, Option, Some, None, Result, Ok, Err, slice_get, refl, sym, ap, arith, ◌∙◌}
+use Rattle.std.proofs.Common.{◌≡◌, ◌≢◌, ℕ, suc, ◌≤◌, inl, inr, Bool, true, false, not, ◌&&◌, ◌==◌, if◌then◌else◌, nat_lt, List, [], ◌∷◌, ◌++◌, length, Option, Some, None, Result, Ok, slice_get, refl, ap, arith, ◌∙◌}
 use Rattle.std.proofs.lemmas.Bool.{cases_lt, not-true}
 use Rattle.std.proofs.lemmas.Bool.Decides.{nat_tests}
-use Rattle.std.proofs.lemmas.Option.{none-some}
 use Rattle.bolt_check.specs.Ways.{PageSpot}
 use Rattle.bolt_check.specs.declared.finding.TheConstants.Finding.{EMPTY_BRANCH, TOO_DEEP}
 use Rattle.bolt_check.specs.declared.finding.Finding.{Finding}
@@ -10,11 +9,11 @@ use Rattle.bolt_check.specs.Nodes.{Nodes, Node, Entry}
 use Rattle.bolt_check.specs.Ways.{Spot, At_page, At_inline, Reach, SpanHas, SpanAt, SpanOf, child_spot, step, upper_from, follow, reached, root_spot}
 use Rattle.bolt_check.specs.Findings.{keys_of, early_finding, open_finding, node_finding, finding_of, finding, Passes, PagePasses, IsClaimedBefore, IsClean, IsMetaPage}
 use Rattle.bolt_check.specs.Keys.{Key, is_below, is_from, keys_order_fault, key_lt}
-use Rattle.bolt_check.specs.Shape.{child_of, child_in, child_at, leads, HasShape}
+use Rattle.bolt_check.specs.Shape.{child_at, leads, HasShape}
 use Rattle.bolt_check.proofs.WayOrder.{before_total}
 use Rattle.bolt_check.proofs.KeyLaws.{below_less, from_more}
 use Rattle.bolt_check.proofs.KeyOrder.{key_each, key_rise}
-use Rattle.bolt_check.proofs.WayFacts.{follow_append, key_at, leads_none, step_child}
+use Rattle.bolt_check.proofs.WayFacts.{follow_append, is_child, key_at, leads_some, step_child}
 
 -- the content's tests report nothing
 pub finding_none : (o : Option ℕ) (page : ℕ) → finding_of o page ≡ None → o ≡ None
@@ -25,34 +24,19 @@ filled_if : (b : Bool) (x : Finding) (o : Option Finding) → (if b then Some x 
 filled_if true x o e = absurd (cc)
 filled_if false x o e = (refl, e)
 
-content_keys : (node : Node) (s : PageSpot) → node_finding node s ≡ None → keys_order_fault None s.lower s.upper (keys_of node.entries) ≡ None
-content_keys node s e = finding_none (keys_order_fault None s.lower s.upper (keys_of node.entries)) s.number
-    (filled_if (not node.is_leaf && (length node.entries == 0)) (finding EMPTY_BRANCH s.number) (finding_of (keys_order_fault None s.lower s.upper (keys_of node.entries)) s.number) e).1
+content_parts : (node : Node) (s : PageSpot) → node_finding node s ≡ None
+    → ((not node.is_leaf && (length node.entries == 0)) ≡ false) × (keys_order_fault None s.lower s.upper (keys_of node.entries) ≡ None)
+content_parts node s e =
+    let parts = filled_if (not node.is_leaf && (length node.entries == 0)) (finding EMPTY_BRANCH s.number)
+    (finding_of (keys_order_fault None s.lower s.upper (keys_of node.entries)) s.number) e in
+    (parts.0, finding_none (keys_order_fault None s.lower s.upper (keys_of node.entries)) s.number parts.1)
 
 content_filled : (node : Node) (s : PageSpot) → node_finding node s ≡ None → node.is_leaf ≡ false → node.entries ≢ []
-content_filled node s e leaf nil =
-    let f = (filled_if (not node.is_leaf && (length node.entries == 0)) (finding EMPTY_BRANCH s.number) (finding_of (keys_order_fault None s.lower s.upper (keys_of node.entries)) s.number) e).0 in
-    let g = rw (leaf, nil) at f in
-    let t : true ≡ false = g in cc
+content_filled node s e leaf nil = let t : true ≡ false = rw (leaf, nil) at (content_parts node s e).0 in cc
 
 -- the keys of this page are as its bounds say
 abbrev pub KeysFine : Nodes → PageSpot → Type 0
 KeysFine nodes s = (node : Node) → nodes s.number ≡ Ok node → keys_order_fault None s.lower s.upper (keys_of node.entries) ≡ None
-
-is_entry : (leaf : Bool) (o : Option Entry) (c : ℕ) → child_of leaf o ≡ Some c → (e : Entry) × (leaf ≡ false) × (o ≡ Some e) × (e.child ≡ c)
-is_entry true o c h = absurd (none-some c h)
-is_entry false None c h = absurd (none-some c h)
-is_entry false (Some e) c h = (e, refl, refl, cc)
-
--- a child of a branch
-is_child : (nodes : Nodes) (s : PageSpot) (i : ℕ) (o : Result Node ℕ) (c : ℕ) → nodes s.number ≡ o → child_in o i ≡ Some c
-    → (node : Node) × (e : Entry) × (nodes s.number ≡ Ok node) × (node.is_leaf ≡ false) × (slice_get node.entries i ≡ Some e) × (e.child ≡ c)
-is_child nodes s i (Err f) c q h = absurd (none-some c h)
-is_child nodes s i (Ok node) c q h = let p = is_entry node.is_leaf (slice_get node.entries i) c h in (node, p.0, q, p.1, p.2, p.3)
-
-leads_some : (nodes : Nodes) (o : Option ℕ) (address : List ℕ) (below : ℕ) → leads nodes o address ≡ Some below → (c : ℕ) × (o ≡ Some c)
-leads_some nodes None address below e = absurd (none-some below (sym (leads_none nodes address) ∙ e))
-leads_some nodes (Some c) address below e = (c, refl)
 
 upper_less : (next : Option Entry) (upper : Option Key) (key : Key) → ((n : Entry) → next ≡ Some n → is_below upper n.key ≡ true) → is_below (upper_from next upper) key ≡ true → is_below upper key ≡ true
 upper_less None upper key h e = e
@@ -111,7 +95,7 @@ span_clean nodes reach c clean w (Some t) n e h b = span_free nodes (IsClaimedBe
 fine_at : (nodes : Nodes) (root : ℕ) → IsClean nodes (reached nodes root) IsMetaPage → (way : List ℕ) (s : PageSpot) → reached nodes root way ≡ Some (At_page s) → KeysFine nodes s
 fine_at nodes root clean way s e node h =
     let p : PagePasses nodes (IsClaimedBefore nodes (reached nodes root) IsMetaPage way) s = clean.passes way (At_page s) e in
-    content_keys node s (rw (same_node (nodes s.number) node p.node h p.page) p.content)
+    (content_parts node s (rw (same_node (nodes s.number) node p.node h p.page) p.content)).1
 
 pub shape_of : (nodes : Nodes) (root : ℕ) → IsClean nodes (reached nodes root) IsMetaPage → HasShape nodes root
 shape_of nodes root clean = record {

@@ -1,12 +1,14 @@
 -- There is at most one first finding.
-use Rattle.std.proofs.Common.{◌≡◌, ℕ, inl, inr, List, Some, None, sym, ap, ◌∙◌}
+use Rattle.std.proofs.Common.{◌≡◌, ℕ, inl, inr, List, Some, sym, ap, ◌∙◌}
 use Rattle.std.proofs.lemmas.Bool.{cases_order}
 use Rattle.bolt_check.specs.Ways.{PageSpot}
 use Rattle.bolt_check.specs.declared.finding.TheConstants.Finding.{TWICE}
 use Rattle.bolt_check.specs.declared.finding.Finding.{Finding}
-use Rattle.bolt_check.specs.Nodes.{Nodes, Node}
-use Rattle.bolt_check.specs.Ways.{Spot, At_page, At_inline, Reach}
-use Rattle.bolt_check.specs.Findings.{finding, early_finding, node_finding, inline_finding, Tests, PageTests, early, twice, late, IsLowestClaimed, IsClaimedBefore, IsFirst}
+use Rattle.bolt_format.specs.declared.meta.Meta.{Meta}
+use Rattle.bolt_check.specs.Nodes.{Nodes, Node, node_at}
+use Rattle.bolt_check.specs.Sound.{IsFirstFinding}
+use Rattle.bolt_check.specs.Ways.{Spot, At_page, At_inline, Reach, reached}
+use Rattle.bolt_check.specs.Findings.{finding, node_finding, inline_finding, Tests, PageTests, early, twice, late, IsLowestClaimed, IsClaimedBefore, IsMetaPage}
 use Rattle.bolt_check.proofs.WayOrder.{before_total}
 use Rattle.bolt_format.proofs.ListLemmas.{one_some}
 
@@ -17,20 +19,17 @@ same_lowest before node number n m h k =
       | inr d ↦ elim d [ inl lt ↦ absurd (k.lowest n h.in_span lt h.was) | inr gt ↦ absurd (h.lowest m k.in_span gt k.was) ]
     ]
 
-early_not : (nodes : Nodes) (s : PageSpot) (x : Finding) → early_finding nodes s ≡ None → early_finding nodes s ≡ Some x → ⊥
-early_not nodes s x a b = cc
-
 page_one : (nodes : Nodes) (before : ℕ → Type 0) (s : PageSpot) (x y : Finding) → PageTests nodes before s x → PageTests nodes before s y → x ≡ y
 page_one nodes before s x y (early a) (early b) = cc
-page_one nodes before s x y (early a) (twice node e p l k) = absurd (early_not nodes s x e a)
-page_one nodes before s x y (early a) (late node e p f c) = absurd (early_not nodes s x e a)
-page_one nodes before s x y (twice node e p l k) (early b) = absurd (early_not nodes s y e b)
+page_one nodes before s x y (early a) (twice node e p l k) = absurd (cc)
+page_one nodes before s x y (early a) (late node e p f c) = absurd (cc)
+page_one nodes before s x y (twice node e p l k) (early b) = absurd (cc)
 page_one nodes before s x y (twice node e p l k) (twice m f q r t) =
     let same : node ≡ m = cc in
     k ∙ ap (finding TWICE) (same_lowest before m s.number x.page y.page (rw same at l) r) ∙ sym t
 page_one nodes before s x y (twice node e p l k) (late m f q free c) =
     let same : node ≡ m = cc in absurd (let i = rw same at l in free x.page i.in_span i.was)
-page_one nodes before s x y (late node e p free c) (early b) = absurd (early_not nodes s y e b)
+page_one nodes before s x y (late node e p free c) (early b) = absurd (cc)
 page_one nodes before s x y (late node e p free c) (twice m f q r t) =
     let same : node ≡ m = cc in absurd (let i = rw (← same) at r in free y.page i.in_span i.was)
 page_one nodes before s x y (late node e p free c) (late m f q free2 d) =
@@ -49,10 +48,11 @@ at_one nodes reach start v w s t x y e f g h k =
     let h2 : Tests nodes (IsClaimedBefore nodes reach start w) s x = rw e at h in
     tests_one nodes (IsClaimedBefore nodes reach start w) t x y (rw same at h2) k
 
-pub first_one : (nodes : Nodes) (reach : Reach) (start : ℕ → Type 0) (x y : Finding) → IsFirst nodes reach start x → IsFirst nodes reach start y → x ≡ y
-first_one nodes reach start x y h k =
+pub first_one : (file : List ℕ) (meta : Meta) (x y : Finding) → IsFirstFinding file meta x → IsFirstFinding file meta y → x ≡ y
+first_one file meta x y h k =
     elim (before_total h.way k.way) [
-      | inl e ↦ at_one nodes reach start h.way k.way h.spot k.spot x y e h.leads k.leads h.reported k.reported
+      | inl e ↦ at_one (node_at file meta)
+          (reached (node_at file meta) meta.root) IsMetaPage h.way k.way h.spot k.spot x y e h.leads k.leads h.reported k.reported
       | inr d ↦ elim d [
         | inl lt ↦ absurd (k.none_before h.way h.spot x lt h.leads h.reported)
         | inr gt ↦ absurd (h.none_before k.way k.spot y gt k.leads k.reported)

@@ -1,5 +1,6 @@
 -- From the search and the test of the accounts to the whole file.
-use Rattle.std.proofs.Common.{◌≡◌, ◌∙◌, ap, subst, ℕ, ◌↔◌, ◌∷◌, ◌==◌, ◌≢◌, List, [], false, true, length, refl}
+use Rattle.std.proofs.Common.{◌≡◌, ◌∙◌, ap, ℕ, ◌↔◌, ◌==◌, ◌≢◌, List, [], false, true, length, sym}
+use Rattle.std.proofs.lemmas.Bool.{eq-eqb, false≢true}
 use Rattle.bolt_format.specs.Metas.{IsChosen}
 use Rattle.bolt_format.specs.declared.meta.Meta.{Meta}
 use Rattle.bolt_format.specs.declared.meta.Slot.{Slot}
@@ -17,15 +18,15 @@ use Rattle.bolt_check.proofs.Shaping.{shape_of}
 
 pub right_of : (file : List ℕ) (meta : Meta) (table : List PageUse) → ((n : ℕ) → IsClaimed table n ↔ IsUsed file meta n)
     → HasAccounts file meta (IsClaimed table) → HasRightAccounts file meta
-right_of file meta table same = has_accounts_along file meta (IsClaimed table) (IsUsed file meta) (λ n. (same n).0) (λ n. (same n).1)
+right_of file meta table same = has_accounts_along file meta (IsClaimed table) (IsUsed file meta) same
 
 pub wrong_of : (file : List ℕ) (meta : Meta) (table : List PageUse) → ((n : ℕ) → IsClaimed table n ↔ IsUsed file meta n)
     → (HasAccounts file meta (IsClaimed table) → ⊥) → HasRightAccounts file meta → ⊥
-wrong_of file meta table same wrong right = wrong (has_accounts_along file meta (IsUsed file meta) (IsClaimed table) (λ n. (same n).1) (λ n. (same n).0) right)
+wrong_of file meta table same wrong right = wrong (has_accounts_along file meta (IsUsed file meta) (IsClaimed table) (λ n. ((same n).1, (same n).0)) right)
 
 pub findings_of_file : (file : List ℕ) (meta : Meta) (table : List PageUse) (reported : List Finding) → ((n : ℕ) → IsClaimed table n ↔ IsUsed file meta n)
     → AreAccountFindings file meta (IsClaimed table) reported → AreAccountFindings file meta (IsUsed file meta) reported
-findings_of_file file meta table reported same = account_findings_along file meta (IsClaimed table) (IsUsed file meta) (λ n. (same n).0) (λ n. (same n).1) reported
+findings_of_file file meta table reported same = account_findings_along file meta (IsClaimed table) (IsUsed file meta) same reported
 
 pub sound_of : (file : List ℕ) (slot : Slot) (meta : Meta) (table : List PageUse) → IsChosen file slot meta
     → IsClean (node_at file meta) (reached (node_at file meta) meta.root) IsMetaPage → ((n : ℕ) → IsClaimed table n ↔ IsUsed file meta n)
@@ -44,12 +45,5 @@ tested_of file slot meta table chosen clean same accounts =
     let sound = sound_of file slot meta table chosen clean same accounts in
     record { trees = sound.trees; whole = λ _. sound }
 
-pub no_items : (reported : List Finding) → length reported ≡ 0 → reported ≡ []
-no_items [] e = refl
-no_items (x ∷ reported) e = absurd (cc)
-
-yes_not : (n : ℕ) → n ≡ 0 → (n == 0) ≡ false → ⊥
-yes_not n e not = let h : (0 == 0) ≡ false = subst (λ (m : ℕ). (m == 0) ≡ false) e not in cc
-
 pub some_items : (reported : List Finding) (n : ℕ) → n ≡ length reported → (n == 0) ≡ false → reported ≢ []
-some_items reported n long not e = let zero : length reported ≡ 0 = ap length e in let none : n ≡ 0 = long ∙ zero in yes_not n none not
+some_items reported n long not e = false≢true (sym not ∙ eq-eqb n 0 (long ∙ ap length e))

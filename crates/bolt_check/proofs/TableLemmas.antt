@@ -1,9 +1,9 @@
 -- Claiming lowers the count of what is unclaimed, and listing claims nothing.
-use Rattle.std.proofs.Common.{◌≡◌, ◌≢◌, ◌∙◌, ℕ, ◌<◌, ◌≤◌, List, length, set, arith, cond, not, true, inl, inr, ap, get_or, get_or-set_other, get_or-set_same, sym}
-use Rattle.std.proofs.lemmas.List.{get_or_default, set_past}
+use Rattle.std.proofs.Common.{◌≡◌, ◌≢◌, ◌∙◌, ℕ, ◌<◌, ◌≤◌, List, length, set, arith, cond, not, true, inl, inr, ap, get_or, get_or-set_other, get_or-set_same, refl, sym}
+use Rattle.std.proofs.lemmas.List.{get_or_default, get_or_past, set_past}
 use Rattle.std.proofs.lemmas.List.Sums.{sum_by-set}
-use Rattle.std.proofs.lemmas.Bool.{cases_eq, cases_lt}
-use Rattle.bolt_check.specs.Private.Tables.{IsUnclaimed, first_use, is_used, unclaimed, use_at}
+use Rattle.std.proofs.lemmas.Bool.{cases_eq, cases_lt, le-ltb, lt-ltb}
+use Rattle.bolt_check.specs.Private.Tables.{IsUnclaimed, first_use, is_used, times_of, unclaimed, use_at}
 use Rattle.bolt_check.specs.declared.table.PageUse.{PageUse}
 use Rattle.bolt_check.specs.declared.table.PageUse.TheVariants.{Unused, Used}
 
@@ -27,9 +27,6 @@ unclaimed_set t i =
 pub other_kept : (t : List PageUse) (n k : ℕ) (u : PageUse) → k ≢ n → use_at t k ≡ u → use_at (set t n Used) k ≡ u
 other_kept t n k u ne h = rw get_or-set_other h
 
-pub others_kept : (t : List PageUse) (i : ℕ) (u : PageUse) (n : ℕ) → n ≢ i → use_at (set t i u) n ≡ use_at t n
-others_kept t i u n other = get_or-set_other t i n u (first_use n) other
-
 pub used_kept : (t : List PageUse) (i : ℕ) (u : PageUse) → i < length t → is_used u ≡ is_used (get_or t i Unused) → (n : ℕ) → is_used (use_at (set t i u) n) ≡ is_used (use_at t n)
 used_kept t i u inside same n =
     elim (cases_eq n i) [
@@ -37,3 +34,13 @@ used_kept t i u inside same n =
           ∙ ap is_used (get_or_default t i Unused (first_use i) inside) ∙ ap (λ k. is_used (use_at t k)) (sym here)
       | inr other ↦ ap is_used (get_or-set_other t i n u (first_use n) other)
     ]
+
+-- what a table says past its end
+pub past_metas : (t : List PageUse) (n : ℕ) → 2 ≤ n → length t ≤ n → use_at t n ≡ Unused
+past_metas t n high past = get_or_past t n (first_use n) past ∙ rw (le-ltb n 2 high) refl
+
+first_unlisted : (n : ℕ) → times_of (first_use n) ≡ 0
+first_unlisted n = elim (cases_lt n 2) [ inl low ↦ rw (lt-ltb n 2 low) refl | inr high ↦ rw (le-ltb n 2 high) refl ]
+
+pub past_unlisted : (t : List PageUse) (n : ℕ) → length t ≤ n → times_of (use_at t n) ≡ 0
+past_unlisted t n past = ap times_of (get_or_past t n (first_use n) past) ∙ first_unlisted n

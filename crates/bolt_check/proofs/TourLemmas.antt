@@ -1,10 +1,11 @@
 -- Tours: there is at most one, and a visit puts a way before those of what is left.
-use Rattle.std.proofs.Common.{◌≡◌, ℕ, inl, inr, List, [], ◌∷◌, map, Some, refl, sym, ap, ap₂, subst}
-use Rattle.bolt_check.specs.Nodes.{Nodes}
+use Rattle.std.proofs.Common.{◌≡◌, ◌∙◌, ℕ, inl, inr, List, [], ◌∷◌, map, Option, Some, None, refl, sym, ap, subst}
+use Rattle.std.proofs.lemmas.Option.{none-some}
 use Rattle.bolt_check.specs.Tours.{IsBeforeAll, IsTour, Rises}
 use Rattle.bolt_check.specs.Ways.{Before, Reach, Spot}
 use Rattle.bolt_check.proofs.Visiting.{Visits}
-use Rattle.bolt_check.proofs.WayOrder.{before_irreflexive, before_trans}
+use Rattle.bolt_check.proofs.Rising.{RisesBy, same_lists}
+use Rattle.bolt_check.proofs.WayOrder.{before_strict}
 use Rattle.bolt_check.specs.Subtrees.{Has}
 
 abbrev pub Ways : Type 0
@@ -36,40 +37,42 @@ rises_map f (v ∷ ways) up h = (
   rises_map f ways (λ a b i j. up a b (inr i) (inr j)) h.1,
 )
 
--- a rising list is known by what it has
-same_head : (v w : List ℕ) (vs ws : Ways) → IsBeforeAll v vs → IsBeforeAll w ws → Has v (w ∷ ws) → Has w (v ∷ vs) → v ≡ w
-same_head v w vs ws a b (inl e) j = e
-same_head v w vs ws a b (inr i) (inl e) = sym e
-same_head v w vs ws a b (inr i) (inr j) = absurd (before_irreflexive v (before_trans v w v (before_each v vs a w j) (before_each w ws b v i)))
-
-in_rest : (v w x : List ℕ) (ws : Ways) → v ≡ w → Before v x → Has x (w ∷ ws) → Has x ws
-in_rest v w x ws e lt (inl h) = absurd (before_irreflexive x (subst (λ (z : List ℕ). Before z x) (let f : v ≡ x = cc in f) lt))
-in_rest v w x ws e lt (inr h) = h
-
-pub same_ways : (vs ws : Ways) → Rises vs → Rises ws → ((x : List ℕ) → Has x vs → Has x ws) → ((x : List ℕ) → Has x ws → Has x vs) → vs ≡ ws
-same_ways [] [] a b to from = refl
-same_ways [] (w ∷ ws) a b to from = absurd (from w (inl refl))
-same_ways (v ∷ vs) [] a b to from = absurd (to v (inl refl))
-same_ways (v ∷ vs) (w ∷ ws) a b to from =
-    let e = same_head v w vs ws a.0 b.0 (to v (inl refl)) (from w (inl refl)) in
-    ap₂ (λ (x : List ℕ) (xs : Ways). x ∷ xs) e
-    (same_ways vs ws a.1 b.1 (λ x i. in_rest v w x ws e (before_each v vs a.0 x i) (to x (inr i))) (λ x i. in_rest w v x vs (sym e) (before_each w ws b.0 x i) (from x (inr i))))
+rises_by : (ways : Ways) → Rises ways → RisesBy Before ways
+rises_by [] h = tt
+rises_by (v ∷ ways) h = (before_each v ways h.0, rises_by ways h.1)
 
 pub one_tour : (reach : Reach) (a b : Ways) → IsTour reach a → IsTour reach b → a ≡ b
 one_tour reach a b h k =
-    same_ways a b h.rises k.rises (λ x i. let p = h.only x i in k.all x p.0 p.1) (λ x i. let p = k.only x i in h.all x p.0 p.1)
+    same_lists Before before_strict a b (rises_by a h.rises) (rises_by b k.rises) (λ x i. let p = h.only x i in k.all x p.0 p.1)
+    (λ x i. let p = k.only x i in h.all x p.0 p.1)
 
--- a visit's way, and then the tour of what is left
-pub tour_step : (nodes : Nodes) (old new : Reach) (c d : ℕ → Type 0) (first : List ℕ) (s : Spot) (f : List ℕ → List ℕ) → Visits nodes old new c d first s f
-    → (tour : Ways) → IsTour new tour → IsTour old (first ∷ map f tour)
-tour_step nodes old new c d first s f v tour is = record {
-  rises = (
-    before_all first (map f tour) (λ w i. let p = from_map f w tour i in let q = is.only p.0 p.1.0 in subst (λ (z : List ℕ). Before first z) (sym p.1.1) (v.after p.0 q.0 q.1)),
-    rises_map f tour (λ a b i j. v.rising a b) is.rises,
-  );
-  all = λ way t e. elim (v.all way t e) [ inl same ↦ inl same | inr (b, (same, leads)) ↦ inr (subst (λ (z : List ℕ). Has z (map f tour)) (sym same) (in_map f b tour (is.all b t leads))) ];
-  only = λ way i. elim i [
-    | inl same ↦ (s, subst (λ (z : List ℕ). old z ≡ Some s) (sym same) v.leads)
-    | inr h ↦ let p = from_map f way tour h in let q = is.only p.0 p.1.0 in (q.0, subst (λ (z : List ℕ). old z ≡ Some q.0) (sym p.1.1) (v.same p.0 q.0 q.1))
-  ];
-}
+module _ {old new : Reach} {o : Option Spot} {first : List ℕ} {f : List ℕ → List ℕ} (v : Visits old new o first f) (tour : Ways) (is : IsTour new tour) where
+  map_rises : Rises (map f tour)
+  map_rises = rises_map f tour (λ a b i j. let p = is.only a i in let q = is.only b j in v.rising a b p.0 q.0 p.1 q.1) is.rises
+
+  map_all : (way b : List ℕ) (t : Spot) → way ≡ f b → new b ≡ Some t → Has way (map f tour)
+  map_all way b t same leads = subst (λ (z : List ℕ). Has z (map f tour)) (sym same) (in_map f b tour (is.all b t leads))
+
+  map_only : (way : List ℕ) → Has way (map f tour) → (s : Spot) × (old way ≡ Some s)
+  map_only way h = let p = from_map f way tour h in let q = is.only p.0 p.1.0 in
+      (q.0, subst (λ (z : List ℕ). old z ≡ Some q.0) (sym p.1.1) (v.same p.0 q.0 q.1))
+
+  -- the ways to what is left, as ways of the whole
+  pub tour_map : o ≡ None → IsTour old (map f tour)
+  tour_map none = record {
+    rises = map_rises;
+    all = λ way t e. elim (v.all way t e) [ inl at ↦ absurd (none-some t (sym none ∙ at.1)) | inr (b, (same, leads)) ↦ map_all way b t same leads ];
+    only = map_only;
+  }
+
+  -- a visit's way, and then the tour of what is left
+  pub tour_step : (s : Spot) → o ≡ Some s → IsTour old (first ∷ map f tour)
+  tour_step s at = record {
+    rises = (
+      before_all first (map f tour) (λ w i. let p = from_map f w tour i in let q = is.only p.0 p.1.0 in subst (Before first) (sym p.1.1)
+          (v.after s at p.0 q.0 q.1)),
+      map_rises,
+    );
+    all = λ way t e. elim (v.all way t e) [ inl same ↦ inl same.0 | inr (b, (same, leads)) ↦ inr (map_all way b t same leads) ];
+    only = λ way i. elim i [ inl same ↦ (s, subst (λ (z : List ℕ). old z ≡ Some s) (sym same) (v.leads s at)) | inr h ↦ map_only way h ];
+  }

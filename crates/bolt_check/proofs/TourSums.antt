@@ -1,5 +1,5 @@
 -- A sum over the tour of a bucket, page by page: a page's own, and those of the pages that it leads to.
-use Rattle.std.proofs.Common.{◌≡◌, ◌∙◌, ◌==◌, ℕ, zero, suc, ◌+◌, ◌≤◌, inl, inr, Bool, true, false, List, [], ◌∷◌, ◌++◌, Option, Some, None, Result, Ok, cond, length, map, sum_by, slice_get, refl, sym, ap, subst, arith}
+use Rattle.std.proofs.Common.{◌≡◌, ◌∙◌, ◌==◌, ℕ, zero, suc, ◌+◌, ◌≤◌, inl, inr, Bool, true, false, List, [], ◌∷◌, ◌++◌, Option, Some, None, Result, Ok, cond, length, map, sum_by, refl, sym, ap, subst, arith}
 use Rattle.std.proofs.lemmas.List.Sums.{sum_by-cons}
 use Rattle.std.specs.Prelude.{IsSome}
 use Rattle.bolt_format.specs.Pages.{page_at}
@@ -11,13 +11,12 @@ use Rattle.bolt_check.specs.EntrySpots.{places}
 use Rattle.bolt_check.specs.Sound.{HasSoundTrees}
 use Rattle.bolt_check.specs.Subtrees.{Enough, Has, kid_pages, kids_at, root_page, weight}
 use Rattle.bolt_check.specs.Tours.{IsTour}
-use Rattle.bolt_check.specs.Ways.{At_inline, At_page, PageSpot, Reach, Spot, follow, reached, root_spot, step}
-use Rattle.bolt_check.proofs.Forest.{flat, inline_visits, kids_step, visits}
-use Rattle.bolt_check.proofs.MarkLemmas.{node_page}
-use Rattle.bolt_check.proofs.TourExists.{Anything, Fits, Holds, cancel, fits_root, found, no_tour, numbers, root_tour, shorter, sound_fits, still, tail, tail_leads, without}
-use Rattle.bolt_check.proofs.TourLemmas.{Ways, tour_step}
+use Rattle.bolt_check.specs.Ways.{At_inline, At_page, PageSpot, Reach, Spot, reached, root_spot}
+use Rattle.bolt_check.proofs.Forest.{forest_empty, inline_visits, nothing_is, page_visits, root_visits, tail}
+use Rattle.bolt_check.proofs.MarkLemmas.{node_shown}
+use Rattle.bolt_check.proofs.TourExists.{Fits, bucket_fits, fits_page, fits_visited, numbers, shorter, without}
+use Rattle.bolt_check.proofs.TourLemmas.{Ways, tour_map, tour_step}
 use Rattle.bolt_check.proofs.Visiting.{Visits}
-use Rattle.bolt_check.proofs.WayFacts.{follow_append}
 
 -- the pages among spots
 abbrev pub pages_of : List Spot → List ℕ
@@ -35,9 +34,8 @@ pages_append (At_inline host keys ∷ a) b = pages_append a b
 
 somes_bucket : (bucket small : Bool) (host : ℕ) (e : Entry) (os : List (Option Spot))
     → pages_of (somes (cond bucket (Some (cond small (At_inline host e.inner) (At_page (root_spot e.child)))) None ∷ os)) ≡ cond bucket (cond small [] (e.child ∷ [])) [] ++ pages_of (somes os)
-somes_bucket false small host e os = refl
 somes_bucket true true host e os = refl
-somes_bucket true false host e os = refl
+somes_bucket bucket small host e os = refl
 
 -- the pages that a page leads to are those of its kids
 pages_of_kids : (is_leaf : Bool) (s : PageSpot) (entries : List Entry) → pages_of (somes (places is_leaf s entries)) ≡ kid_pages is_leaf entries
@@ -97,46 +95,6 @@ module _ (nodes : Nodes) where
       let low : (m : ℕ) → Has m (kids_at (nodes n)) → Enough nodes k m = λ m i. kids m (subst (λ (r : Result Node ℕ). Has m (kids_at r)) is i) in
       ap (λ (w : ℕ). own n + w) (sum_same (weight nodes own k) (weight nodes own (suc k)) (kids_at (nodes n)) (λ m i. sym (weight_more own k m (low m i))) ∙ ap (sum_by (weight nodes own (suc k))) at)
 
-  -- where a kid's page comes from
-  kid_place : (m : ℕ) (os : List (Option Spot)) → Has m (pages_of (somes os)) → (j : ℕ) × (t : PageSpot) × (flat (slice_get os j) ≡ Some (At_page t)) × (t.number ≡ m)
-  kid_place m [] h = absurd h
-  kid_place m (None ∷ os) h = let (j, t, at, same) = kid_place m os h in (suc j, t, at, same)
-  kid_place m (Some (At_inline host keys) ∷ os) h = let (j, t, at, same) = kid_place m os h in (suc j, t, at, same)
-  kid_place m (Some (At_page t) ∷ os) (inl e) = (0, t, refl, sym e)
-  kid_place m (Some (At_page t) ∷ os) (inr h) = let (j, u, at, same) = kid_place m os h in (suc j, u, at, same)
-
-  kid_step : (s : PageSpot) (node : Node) → nodes s.number ≡ Ok node → (m : ℕ) → Has m (kid_pages node.is_leaf node.entries)
-      → (j : ℕ) × (t : PageSpot) × (step nodes (Some (At_page s)) j ≡ Some (At_page t)) × (t.number ≡ m)
-  kid_step s node page m h =
-      let (j, t, at, same) = kid_place m (places node.is_leaf s node.entries) (subst (λ (l : List ℕ). Has m l) (sym (pages_of_kids node.is_leaf s node.entries)) h) in
-      (j, t, sym (kids_step nodes s node page j) ∙ at, same)
-
-  no_cons : (i : ℕ) (v : List ℕ) → [] ≡ i ∷ v → ⊥
-  no_cons i v e = cc
-
-  fits_down : (left : List ℕ) (s t : PageSpot) (i : ℕ) → (fits : Fits nodes left (follow nodes (Some (At_page s)))) (has : Has s.number left)
-      → step nodes (Some (At_page s)) i ≡ Some (At_page t) → Fits nodes (without s.number left has) (follow nodes (Some (At_page t)))
-  fits_down left s t i fits has leads =
-      let join : (v : List ℕ) → follow nodes (Some (At_page s)) (i ∷ v) ≡ follow nodes (Some (At_page t)) v = λ v. ap (λ (o : Option Spot). follow nodes o v) leads in
-      record {
-        good = λ v u e. fits.good (i ∷ v) u (join v ∙ e);
-        within = λ v u e. still s.number u.number left has (λ same. no_cons i v (fits.apart [] (i ∷ v) s u refl (join v ∙ e) (sym same))) (fits.within (i ∷ v) u (join v ∙ e));
-        apart = λ v w a b e h same. cancel (i ∷ []) v w (fits.apart (i ∷ v) (i ∷ w) a b (join v ∙ e) (join w ∙ h) same);
-      }
-
-  pub enough : (k : ℕ) (left : List ℕ) (s : PageSpot) → length left ≤ k → Fits nodes left (follow nodes (Some (At_page s))) → Enough nodes k s.number
-  enough zero left s le fits = let has = fits.within [] s refl in let less = shorter s.number left has in absurd (let h : ⊥ = omega (arith, le, less) in h)
-  enough (suc k) left s le fits =
-      let has = fits.within [] s refl in
-      let less = shorter s.number left has in
-      let good = fits.good [] s refl in (
-        good.0,
-        good.1,
-        λ m h.
-            let (j, t, leads, same) = kid_step s good.0 good.1 m h in
-            subst (Enough nodes k) same (enough k (without s.number left has) t (omega (arith, le, less)) (fits_down left s t j fits has leads)),
-      )
-
   -- what a spot adds: a page its own, an inline bucket nothing
   abbrev pub spot_weight : (ℕ → ℕ) → Option Spot → ℕ
   spot_weight own None = 0
@@ -149,59 +107,84 @@ module _ (nodes : Nodes) where
       let rest = sum_map f g h ways (λ x i. same x (inr i)) in let here = same w (inl refl) in
       let p = sum_by-cons g (f w) (map f ways) in let q = sum_by-cons h w ways in omega (arith, rest, here, p, q)
 
-  module _ (own : ℕ → ℕ) (k : ℕ) where
-    abbrev AllEnough : List Spot → Type 0
-    AllEnough spots = (m : ℕ) → Has m (pages_of spots) → Enough nodes k m
+  module _ (own : ℕ → ℕ) where
+    -- n steps are enough below the pages of these spots, which have a tour, and the sum over it is that over the pages
+    abbrev Summed : ℕ → List Spot → Type 0
+    Summed n spots = ((m : ℕ) → Has m (pages_of spots) → Enough nodes n m)
+        × ((tour : Ways) × IsTour (forest nodes spots) tour ×
+        (sum_by (λ way. spot_weight own (forest nodes spots way)) tour ≡ sum_by (weight nodes own n) (pages_of spots)))
 
-    abbrev HasSum : List Spot → Type 0
-    HasSum spots = AllEnough spots → (tour : Ways) × IsTour (forest nodes spots) tour × (sum_by (λ way. spot_weight own (forest nodes spots way)) tour ≡ sum_by (weight nodes own k) (pages_of spots))
+    -- the sum over the ways to what is left is the same in the whole
+    map_sum : {old new : Reach} {o : Option Spot} {first : List ℕ} {f : List ℕ → List ℕ} → Visits old new o first f → (tour : Ways) → IsTour new tour
+        → sum_by (λ way. spot_weight own (old way)) (map f tour) ≡ sum_by (λ way. spot_weight own (new way)) tour
+    map_sum {old = old} {new = new} {f = f} v tour is = sum_map f (λ way. spot_weight own (old way)) (λ way. spot_weight own (new way)) tour (λ way i.
+        let (t, e) = is.only way i in ap (spot_weight own) (v.same way t e ∙ sym e))
 
-    -- a visit's way and then the others have its own sum and theirs
-    visit_sum : (old new : Reach) (s : Spot) (f : List ℕ → List ℕ) → Visits nodes old new Anything Anything (0 ∷ []) s f → (tour : Ways) → IsTour new tour
-        → sum_by (λ way. spot_weight own (old way)) ((0 ∷ []) ∷ map f tour) ≡ spot_weight own (Some s) + sum_by (λ way. spot_weight own (new way)) tour
-    visit_sum old new s f v tour is =
-        let rest = sum_map f (λ way. spot_weight own (old way)) (λ way. spot_weight own (new way)) tour (λ way i.
-        let (t, e) = is.only way i in ap (spot_weight own) (v.same way t e ∙ sym e)) in
-        let here = ap (spot_weight own) v.leads in
-        let p = sum_by-cons (λ way. spot_weight own (old way)) (0 ∷ []) (map f tour) in
-        omega (arith, rest, here, p)
+    step_sum : {old new : Reach} {first : List ℕ} {f : List ℕ → List ℕ} (s : Spot) → Visits old new (Some s) first f → (tour : Ways) → IsTour new tour
+        → sum_by (λ way. spot_weight own (old way)) (first ∷ map f tour) ≡ spot_weight own (Some s) + sum_by (λ way. spot_weight own (new way)) tour
+    step_sum {old = old} {first = first} {f = f} s v tour is =
+        let here = ap (spot_weight own) (v.leads s refl) in omega
+        (arith, here, map_sum v tour is, sum_by-cons (λ way. spot_weight own (old way)) first (map f tour))
 
-    page_sum : (s : PageSpot) (node : Node) (rest : List Spot) → nodes s.number ≡ Ok node → HasSum (somes (places node.is_leaf s node.entries) ++ rest) → HasSum (At_page s ∷ rest)
-    page_sum s node rest page below all =
+    page_sum : (n : ℕ) (s : PageSpot) (node : Node) (rest : List Spot) → nodes s.number ≡ Ok node
+        → Summed n (somes (places node.is_leaf s node.entries) ++ rest) → Summed (suc n) (At_page s ∷ rest)
+    page_sum n s node rest page (all, (tour, is, sum)) =
         let kid_spots : List Spot = somes (places node.is_leaf s node.entries) in
-        let here : Enough nodes k s.number = all s.number (inl refl) in
-        let pages : pages_of (kid_spots ++ rest) ≡ kid_pages node.is_leaf node.entries ++ pages_of rest
+        let kids : List ℕ = kid_pages node.is_leaf node.entries in
+        let pages : pages_of (kid_spots ++ rest) ≡ kids ++ pages_of rest
         = pages_append kid_spots rest ∙ ap (λ (l : List ℕ). l ++ pages_of rest) (pages_of_kids node.is_leaf s node.entries) in
-        let (tour, is, sum) = below (λ m h. has_either m (kid_pages node.is_leaf node.entries) (pages_of rest) (Enough nodes k) (enough_kids k s.number node page here) (λ x i. all x (inr i))
-        (subst (λ (l : List ℕ). Has m l) pages h)) in
-        let v = visits nodes Anything Anything (At_page s) rest (places node.is_leaf s node.entries) (kids_step nodes s node page) (λ n h. inl tt) (λ n h. tt) (λ n h. tt) in
-        let first = visit_sum _ _ (At_page s) _ v tour is in
-        let both = ap (sum_by (weight nodes own k)) pages ∙ sum_append (weight nodes own k) (kid_pages node.is_leaf node.entries) (pages_of rest) in
-        let own_kids = weight_kids own k s.number node page here in
-        let whole = sum_by-cons (weight nodes own k) s.number (pages_of rest) in
-        (_, tour_step nodes _ _ Anything Anything _ _ _ v tour is, omega (arith, first, sum, both, own_kids, whole))
+        let good : (m : ℕ) → Has m (kids ++ pages_of rest) → Enough nodes n m = λ m h. all m (subst (λ (l : List ℕ). Has m l) (sym pages) h) in
+        let v = page_visits nodes s node rest page in
+        let first = step_sum (At_page s) v tour is in
+        let both = ap (sum_by (weight nodes own n)) pages ∙ sum_append (weight nodes own n) kids (pages_of rest) in
+        let others = sum_same (weight nodes own n) (weight nodes own (suc n)) (pages_of rest)
+        (λ m h. sym (weight_more own n m (good m (has_right m kids (pages_of rest) h)))) in
+        let here : weight nodes own (suc n) s.number ≡ own s.number + sum_by (weight nodes own n) kids
+        = ap (λ (r : Result Node ℕ). own s.number + sum_by (weight nodes own n) (kids_at r)) page in
+        let whole = sum_by-cons (weight nodes own (suc n)) s.number (pages_of rest) in (
+          λ m h. elim h [
+            | inl e ↦ subst (Enough nodes (suc n)) (sym e) (node, page, λ x i. good x (has_left x kids (pages_of rest) i))
+            | inr i ↦ enough_more n m (good m (has_right m kids (pages_of rest) i))
+          ],
+          (_, tour_step v tour is (At_page s) refl, omega (arith, first, sum, both, others, here, whole)),
+        )
 
-    inline_sum : (host : ℕ) (keys : List Key) (rest : List Spot) → HasSum rest → HasSum (At_inline host keys ∷ rest)
-    inline_sum host keys rest below all =
-        let (tour, is, sum) = below all in
-        let v = inline_visits nodes Anything host keys rest in
-        let first = visit_sum _ _ (At_inline host keys) _ v tour is in
-        (_, tour_step nodes _ _ Anything Anything _ _ _ v tour is, omega (arith, first, sum))
+    inline_sum : (n : ℕ) (host : ℕ) (keys : List Key) (rest : List Spot) → Summed n rest → Summed n (At_inline host keys ∷ rest)
+    inline_sum n host keys rest (all, (tour, is, sum)) =
+        let v = inline_visits nodes host keys rest in
+        let first = step_sum (At_inline host keys) v tour is in
+        (all, (_, tour_step v tour is (At_inline host keys) refl, omega (arith, first, sum)))
 
-    sums : Holds nodes HasSum
-    sums = record { none = λ all. ([], no_tour nodes, refl); inline = inline_sum; page = page_sum }
+    -- spots that fit, by the pages that are left
+    along : (n : ℕ) → ((p : ℕ) → n ≡ suc p → (left : List ℕ) (spots : List Spot) → length left ≤ p → Fits nodes left (forest nodes spots) → Summed p spots)
+        → (left : List ℕ) (spots : List Spot) → length left ≤ n → Fits nodes left (forest nodes spots) → Summed n spots
+    along n below left [] le fits =
+        (λ m h. absurd h, ([], record { rises = tt; all = λ way s e. nothing_is s (sym (forest_empty nodes way) ∙ e); only = λ way i. absurd i }, refl))
+    along n below left (At_inline host keys ∷ rest) le fits =
+        inline_sum n host keys rest (along n below left rest le (fits_visited nodes fits (inline_visits nodes host keys rest)))
+    along zero below left (At_page s ∷ rest) le fits = absurd (omega (arith, shorter s.number left (fits.within (0 ∷ []) s refl), le))
+    along (suc p) below left (At_page s ∷ rest) le fits =
+        let good = fits.good (0 ∷ []) s refl in
+        let has = fits.within (0 ∷ []) s refl in
+        let less = shorter s.number left has in
+        page_sum p s good.0 rest good.1
+        (below p refl (without s.number left has) _ (omega (arith, less, le)) (fits_page nodes fits s (page_visits nodes s good.0 rest good.1) has))
+
+    found : (n : ℕ) (left : List ℕ) (spots : List Spot) → length left ≤ n → Fits nodes left (forest nodes spots) → Summed n spots
+    found zero = along zero (λ p e. absurd (omega arith))
+    found (suc n) = along (suc n) (λ p e. let same : n ≡ p = omega arith in
+        subst (λ (q : ℕ). (left : List ℕ) (spots : List Spot) → length left ≤ q → Fits nodes left (forest nodes spots) → Summed q spots) same (found n))
 
     -- from a page alone
-    pub sum_from : (left : List ℕ) (root : ℕ) → length left ≤ k → Fits nodes left (reached nodes root)
-        → Enough nodes k root × ((tour : Ways) × IsTour (reached nodes root) tour × (sum_by (λ way. spot_weight own (reached nodes root way)) tour ≡ weight nodes own k root))
-    sum_from left root le fits =
-        let s = At_page (root_spot root) in
-        let good : Enough nodes k root = enough k left (root_spot root) le fits in
-        let (tour, is, sum) = found nodes HasSum sums (suc (length left)) left (s ∷ []) (omega arith) (fits_root nodes left s fits) (λ m h. elim h [ inl e ↦ subst (Enough nodes k) (sym e) good | inr i ↦ absurd i ]) in
-        let moved = sum_map (tail nodes) (λ way. spot_weight own (reached nodes root way)) (λ way. spot_weight own (forest nodes (s ∷ []) way)) tour (λ way i.
-        let (t, e) = is.only way i in ap (spot_weight own) (tail_leads nodes s way t e ∙ sym e)) in
-        let one = sum_by-cons (weight nodes own k) root [] in
-        (good, (map (tail nodes) tour, root_tour nodes s tour is, omega (arith, moved, sum, one)))
+    sum_from : (n : ℕ) (left : List ℕ) (root : ℕ) → length left ≤ n → Fits nodes left (reached nodes root)
+        → Enough nodes n root × ((tour : Ways) × IsTour (reached nodes root) tour
+        × (sum_by (λ way. spot_weight own (reached nodes root way)) tour ≡ weight nodes own n root))
+    sum_from n left root le fits =
+        let v = root_visits nodes (At_page (root_spot root)) in
+        let (all, (tour, is, sum)) = found n left (At_page (root_spot root) ∷ []) le (fits_visited nodes fits v) in
+        let moved = map_sum v tour is in
+        let one = sum_by-cons (weight nodes own n) root [] in
+        (all root (inl refl), (map tail tour, tour_map v tour is refl, omega (arith, moved, sum, one)))
 
 length-numbers : (k : ℕ) → length (numbers k) ≡ k
 length-numbers zero = refl
@@ -212,15 +195,13 @@ pub bucket_sum : (file : List ℕ) (meta : Meta) → HasSoundTrees file meta →
     → Enough (node_at file meta) meta.high_water root × ((tour : Ways) × IsTour (reached (node_at file meta) root) tour
     × (sum_by (λ way. spot_weight (node_at file meta) own (reached (node_at file meta) root way)) tour ≡ weight (node_at file meta) own meta.high_water root))
 bucket_sum file meta trees way root leads own =
-    let nodes = node_at file meta in
-    let fits = sound_fits file meta trees in
-    let join : (v : List ℕ) → reached nodes meta.root (way ++ v) ≡ reached nodes root v
-    = λ v. follow_append nodes (Some (At_page (root_spot meta.root))) way v ∙ ap (λ (o : Option Spot). follow nodes o v) leads in
-    sum_from nodes own meta.high_water (numbers meta.high_water) root (let h = length-numbers meta.high_water in omega (arith, h)) (record {
-      good = λ v s e. fits.good (way ++ v) s (join v ∙ e);
-      within = λ v s e. fits.within (way ++ v) s (join v ∙ e);
-      apart = λ v w s t e h same. cancel way v w (fits.apart (way ++ v) (way ++ w) s t (join v ∙ e) (join w ∙ h) same);
-    })
+    sum_from (node_at file meta) own meta.high_water (numbers meta.high_water) root (let h = length-numbers meta.high_water in omega (arith, h))
+    (bucket_fits file meta trees way root leads)
+
+-- so it has a tour
+pub bucket_tour : (file : List ℕ) (meta : Meta) → HasSoundTrees file meta → (way : List ℕ) (root : ℕ) → reached (node_at file meta) meta.root way ≡ Some (At_page (root_spot root))
+    → (tour : Ways) × IsTour (reached (node_at file meta) root) tour
+bucket_tour file meta trees way root leads = let (_, (tour, is, _)) = bucket_sum file meta trees way root leads (λ n. 0) in (tour, is)
 
 -- a page below which there are enough steps is a good branch or leaf
 pub enough_node : (nodes : Nodes) (k n : ℕ) → Enough nodes k n → (node : Node) × (nodes n ≡ Ok node)
@@ -229,5 +210,4 @@ enough_node nodes (suc k) n (node, page, kids) = (node, page)
 
 pub enough_shown : (file : List ℕ) (meta : Meta) (k n : ℕ) → Enough (node_at file meta) k n → IsSome (page_at file meta n)
 enough_shown file meta k n h =
-    let (node, page) = enough_node (node_at file meta) k n h in
-    let (view, at, _) = node_page file meta n node page in rw at refl
+    let (node, page) = enough_node (node_at file meta) k n h in node_shown file meta n node page

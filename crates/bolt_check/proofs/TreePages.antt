@@ -1,7 +1,7 @@
 -- Pages that ways lead to: each is a leaf or a branch, as bolt_format's page and as the rules' node; what its elements lead to.
-use Rattle.std.proofs.Common.{◌≡◌, ◌==◌, ℕ, suc, ◌≤◌, List, [], ◌∷◌, ◌++◌, true, false, Option, Some, None, Result, Ok, slice_get, map, refl, sym, ap, ◌∙◌, arith, subst}
+use Rattle.std.proofs.Common.{◌≡◌, ◌==◌, ℕ, suc, ◌≤◌, List, [], ◌∷◌, ◌++◌, true, false, inl, inr, Option, Some, None, Result, Ok, slice_get, map, refl, sym, ap, ◌∙◌, arith, subst}
 use Rattle.std.specs.Option.{option_map}
-use Rattle.std.proofs.lemmas.Option.{slice_get-map, none-some}
+use Rattle.std.proofs.lemmas.Option.{slice_get-map, slice_get_cases, none-some}
 use Rattle.bolt_format.specs.Elements.{BranchElement, LeafElement, head_root, inline_elements}
 use Rattle.bolt_format.specs.Pages.{PageView, page_at, page_fault}
 use Rattle.bolt_format.specs.declared.kind.Kind.{Kind}
@@ -13,7 +13,8 @@ use Rattle.bolt_check.specs.OnWays.{IsOnWay}
 use Rattle.bolt_check.specs.Shape.{child_at, child_in, leads}
 use Rattle.bolt_check.specs.Sound.{HasSoundTrees}
 use Rattle.bolt_check.specs.Ways.{At_inline, At_page, PageSpot, Spot, bucket_spot, child_spot, reached, root_spot, step, upper_from}
-use Rattle.bolt_check.proofs.WayFacts.{follow_append, key_at, leads_none, step_child}
+use Rattle.bolt_check.proofs.MarkLemmas.{node_page}
+use Rattle.bolt_check.proofs.WayFacts.{follow_append, key_at, leads_some, step_child}
 
 abbrev pub leaf_node : PageView → Node
 leaf_node view = record { is_leaf = true; overflow = view.overflow; entries = map leaf_entry view.leaves }
@@ -35,18 +36,12 @@ by_kind : (file : List ℕ) (meta : Meta) (number : ℕ) (view : PageView) (k : 
     → IsTreePage file meta number
 by_kind file meta number view kind.Branch node at is e = a_branch view at is (node_is file meta number view kind.Branch at is)
 by_kind file meta number view kind.Leaf node at is e = a_leaf view at is (node_is file meta number view kind.Leaf at is)
-by_kind file meta number view kind.Meta node at is e = absurd (cc)
-by_kind file meta number view kind.Freelist node at is e = absurd (cc)
-
-by_page : (file : List ℕ) (meta : Meta) (number : ℕ) (o : Option PageView) (fault : Option ℕ) (node : Node) → page_at file meta number ≡ o
-    → node_seen o fault ≡ Ok node → IsTreePage file meta number
-by_page file meta number (Some view) fault node at e = by_kind file meta number view view.kind node at refl e
-by_page file meta number None (Some f) node at e = absurd (cc)
-by_page file meta number None None node at e = absurd (cc)
+by_kind file meta number view k node at is e = absurd (cc)
 
 pub tree_page : (file : List ℕ) (meta : Meta) (number : ℕ) (node : Node) → node_at file meta number ≡ Ok node → IsTreePage file meta number
-unfolding node_at
-tree_page file meta number node e = by_page file meta number (page_at file meta number) (page_fault file meta number) node refl e
+tree_page file meta number node e =
+    let (view, at, _) = node_page file meta number node e in by_kind file meta number view view.kind node at refl
+    (sym (node_is file meta number view view.kind at refl) ∙ e)
 
 -- the entry of an element
 pub branch_entry_at : (elements : List BranchElement) (i : ℕ) (e : BranchElement) → slice_get elements i ≡ Some e → slice_get (map branch_entry elements) i ≡ Some (branch_entry e)
@@ -122,25 +117,23 @@ module _ (file : List ℕ) (meta : Meta) where
       let c : child_at (node_at file meta) (Some number) i ≡ Some e.child = ap (λ (o : Result Node ℕ). child_in o i) node ∙ rw (branch_entry_at view.branches i e g) refl in
       ap (λ (o : Option ℕ). leads (node_at file meta) o rest) c
 
+-- no address goes on without a step
+no_step : (nodes : Nodes) (number i m : ℕ) (rest : List ℕ) → child_at nodes (Some number) i ≡ None → leads nodes (Some number) (i ∷ rest) ≡ Some m → ⊥
+no_step nodes number i m rest none l = let (c, at) = leads_some nodes (child_at nodes (Some number) i) rest m l in none-some c (sym none ∙ at)
+
 -- no address goes on from a leaf
 pub leaf_ends : (nodes : Nodes) (number i m : ℕ) (view : PageView) (rest : List ℕ) → nodes number ≡ Ok (leaf_node view) → leads nodes (Some number) (i ∷ rest) ≡ Some m → ⊥
-leaf_ends nodes number i m view rest node l =
-    let c : child_at nodes (Some number) i ≡ None = ap (λ (o : Result Node ℕ). child_in o i) node in
-    none-some m (sym (leads_none nodes rest) ∙ (sym (ap (λ (o : Option ℕ). leads nodes o rest) c) ∙ l))
-
-child_by : (elements : List BranchElement) (i : ℕ) (o : Option BranchElement) → slice_get elements i ≡ o → (rest : List ℕ) (nodes : Nodes) (number m : ℕ) (view : PageView)
-    → view.branches ≡ elements → nodes number ≡ Ok (branch_node view) → leads nodes (Some number) (i ∷ rest) ≡ Some m
-    → (e : BranchElement) × (slice_get elements i ≡ Some e)
-child_by elements i (Some e) g rest nodes number m view is node l = (e, g)
-child_by elements i None g rest nodes number m view is node l =
-    let n : slice_get (map branch_entry view.branches) i ≡ None = slice_get-map branch_entry view.branches i ∙ ap (option_map branch_entry) (ap (λ (es : List BranchElement). slice_get es i) is ∙ g) in
-    let c : child_at nodes (Some number) i ≡ None = ap (λ (o : Result Node ℕ). child_in o i) node ∙ rw n refl in
-    absurd (none-some m (sym (leads_none nodes rest) ∙ (sym (ap (λ (o : Option ℕ). leads nodes o rest) c) ∙ l)))
+leaf_ends nodes number i m view rest node l = no_step nodes number i m rest (ap (λ (o : Result Node ℕ). child_in o i) node) l
 
 -- a step of an address takes an element of a branch
 pub branch_step : (nodes : Nodes) (number i m : ℕ) (view : PageView) (rest : List ℕ) → nodes number ≡ Ok (branch_node view) → leads nodes (Some number) (i ∷ rest) ≡ Some m
     → (e : BranchElement) × (slice_get view.branches i ≡ Some e)
-branch_step nodes number i m view rest node l = child_by view.branches i (slice_get view.branches i) refl rest nodes number m view refl node l
+branch_step nodes number i m view rest node l = elim (slice_get_cases view.branches i).1 [
+  | inl (e, _, at, _) ↦ (e, at)
+  | inr (_, none) ↦
+      let n : slice_get (map branch_entry view.branches) i ≡ None = slice_get-map branch_entry view.branches i ∙ ap (option_map branch_entry) none in
+      absurd (no_step nodes number i m rest (ap (λ (o : Result Node ℕ). child_in o i) node ∙ rw n refl) l)
+]
 
 module _ (file : List ℕ) (meta : Meta) (trees : HasSoundTrees file meta) where
   pub on_way_page : (number depth : ℕ) → IsOnWay file meta number depth → IsTreePage file meta number

@@ -1,14 +1,11 @@
 -- A page that is in the file has its place in the table, and what a visit claims.
-use Rattle.std.proofs.Common.{◌≡◌, ◌↔◌, ◌⊎◌, inl, inr, ◌+◌, ◌*◌, ◌<◌, ◌≤◌, ℕ, List, length, arith, refl, subst}
+use Rattle.std.proofs.Common.{◌≡◌, ◌+◌, ◌*◌, ◌<◌, ◌≤◌, ℕ, List, length, arith, refl, subst}
 use Rattle.bolt_format.specs.Pages.{IsInFile, PageView}
 use Rattle.bolt_format.specs.Shown.{shown}
 use Rattle.bolt_format.specs.declared.meta.Meta.{Meta}
 use Rattle.bolt_check.specs.ShownNodes.{shown_node}
-use Rattle.bolt_check.specs.Nodes.{Nodes}
-use Rattle.bolt_check.specs.Private.Pending.{Claims}
-use Rattle.bolt_check.specs.Private.Tables.{HasRoom, IsClaimed}
+use Rattle.bolt_check.specs.Private.Tables.{HasRoom}
 use Rattle.bolt_check.specs.Private.Uses.{use_of}
-use Rattle.bolt_check.specs.Ways.{SpanAt, Spot}
 use Rattle.bolt_check.specs.declared.table.PageUse.{PageUse}
 use Rattle.bolt_check.specs.declared.tree_page.TreePage.{TreePage}
 
@@ -28,6 +25,4 @@ pub leaf-is : (node : TreePage) → use_of node.is_leaf ≡ use_of (shown_node n
 unfolding shown_node
 leaf-is node = refl
 
--- a page is claimed after a visit exactly if it was before, or lies in the span
-pub claims_both : (nodes : Nodes) (s : Spot) (old new : List PageUse) → Claims nodes s old new → (n : ℕ) → IsClaimed new n ↔ (IsClaimed old n ⊎ SpanAt nodes s n)
-claims_both nodes s old new claims n = (claims.split n, λ h. elim h [ inl was ↦ claims.kept n was | inr span ↦ claims.span n span ])
+pub ruleset visit_rules = (in_room, overflow-is, leaf-is)

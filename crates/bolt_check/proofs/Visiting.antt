@@ -1,126 +1,127 @@
--- A search for findings goes on from what a visited spot leads to: if the ways of `old` are `first` and, in
--- the same order, those of `new`, what holds of `new` with more claimed holds of `old`.
-use Rattle.std.proofs.Common.{◌≡◌, ℕ, ◌⊎◌, inl, inr, List, Some, subst}
-use Rattle.bolt_check.specs.declared.finding.Finding.{Finding}
+-- A search for findings goes on from what a visited spot leads to.
+use Rattle.std.proofs.Common.{◌≡◌, ℕ, ◌⊎◌, inl, inr, List, Option, Some, None, subst}
 use Rattle.bolt_check.specs.Nodes.{Nodes}
 use Rattle.bolt_check.specs.Ways.{Spot, Reach, Before, SpanHas}
-use Rattle.bolt_check.specs.Findings.{Tests, Passes, IsClaimedBefore, IsCovered, IsClean, IsFirst}
-use Rattle.bolt_check.proofs.WayOrder.{before_irreflexive, before_trans, before_total}
-use Rattle.bolt_check.proofs.Judging.{tests_same, passes_fewer, passes_silent, span_spot, span_at}
+use Rattle.bolt_check.specs.Findings.{Tests, Passes, IsClaimedBefore, IsCovered}
+use Rattle.bolt_check.specs.Private.Carries.{Carries, Takes}
+use Rattle.bolt_check.specs.Private.Uses.{HasUse, UseOf}
+use Rattle.bolt_check.specs.declared.table.PageUse.{PageUse}
+use Rattle.bolt_check.proofs.WayOrder.{before_irreflexive, before_strict, before_total}
+use Rattle.bolt_check.proofs.Judging.{tests_same, passes_fewer, passes_silent, span_spot, span_at, use_back, use_spot}
 
-pub record Visits (nodes : Nodes) (old new : Reach) (c d : ℕ → Type 0) (first : List ℕ) (s : Spot) (f : List ℕ → List ℕ) : Type 0 where
-  pub leads : old first ≡ Some s
+-- the ways of `old` are `first`, if o is a spot, and after it and in the same order those of `new`
+pub record Visits (old new : Reach) (o : Option Spot) (first : List ℕ) (f : List ℕ → List ℕ) : Type 0 where
+  pub leads : (s : Spot) → o ≡ Some s → old first ≡ Some s
   pub same : (b : List ℕ) (t : Spot) → new b ≡ Some t → old (f b) ≡ Some t
-  pub rising : (b e : List ℕ) → Before b e → Before (f b) (f e)
-  pub after : (b : List ℕ) (t : Spot) → new b ≡ Some t → Before first (f b)
-  pub all : (a : List ℕ) (t : Spot) → old a ≡ Some t → (a ≡ first) ⊎ ((b : List ℕ) × ((a ≡ f b) × (new b ≡ Some t)))
-  pub split : (n : ℕ) → d n → c n ⊎ SpanHas nodes (Some s) n
-  pub kept : (n : ℕ) → c n → d n
-  pub span : (n : ℕ) → SpanHas nodes (Some s) n → d n
+  pub rising : (b e : List ℕ) (t u : Spot) → new b ≡ Some t → new e ≡ Some u → Before b e → Before (f b) (f e)
+  pub after : (s : Spot) → o ≡ Some s → (b : List ℕ) (t : Spot) → new b ≡ Some t → Before first (f b)
+  pub all : (a : List ℕ) (t : Spot) → old a ≡ Some t → ((a ≡ first) × (o ≡ Some t)) ⊎ ((b : List ℕ) × ((a ≡ f b) × (new b ≡ Some t)))
 
-claimed_to_old : (nodes : Nodes) (old new : Reach) (c d : ℕ → Type 0) (first : List ℕ) (s : Spot) (f : List ℕ → List ℕ)
-    → Visits nodes old new c d first s f → (b : List ℕ) (t : Spot) → new b ≡ Some t → (n : ℕ)
-    → IsClaimedBefore nodes new d b n → IsClaimedBefore nodes old c (f b) n
-claimed_to_old nodes old new c d first s f v b t e n (inl h) =
-    elim (v.split n h) [ inl k ↦ inl k | inr k ↦ inr (first, (v.after b t e, span_at nodes (old first) s n v.leads k)) ]
-claimed_to_old nodes old new c d first s f v b t e n (inr (w, (lt, h))) =
-    let p = span_spot nodes (new w) n h in
-    inr (f w, (v.rising w b lt, span_at nodes (old (f w)) p.0 n (v.same w p.0 p.1.0) p.1.1))
+abbrev pub PassesAt : Nodes → (ℕ → Type 0) → Option Spot → Type 0
+PassesAt nodes c None = Unit {0}
+PassesAt nodes c (Some s) = Passes nodes c s
 
-not_after : (f : List ℕ → List ℕ) → ((b e : List ℕ) → Before b e → Before (f b) (f e)) → (w b : List ℕ) → Before (f w) (f b) → Before w b
-not_after f rising w b lt =
-    elim (before_total w b) [
-      | inl e ↦ absurd (before_irreflexive (f b) (let P : List ℕ → Type 0 = λ z. Before (f z) (f b) in subst P e lt))
-      | inr h ↦ elim h [ inl k ↦ k | inr k ↦ absurd (before_irreflexive (f w) (before_trans (f w) (f b) (f w) lt (rising b w k))) ]
-    ]
+module _ {old new : Reach} {o : Option Spot} {first : List ℕ} {f : List ℕ → List ℕ} (v : Visits old new o first f) where
+  -- the order is the same
+  pub not_after : (w b : List ℕ) (t u : Spot) → new w ≡ Some t → new b ≡ Some u → Before (f w) (f b) → Before w b
+  not_after w b t u at_w at_b lt = elim (before_total w b) [
+    | inl e ↦ absurd (before_irreflexive (f b) (subst (λ z. Before (f z) (f b)) e lt))
+    | inr (inl k) ↦ k
+    | inr (inr k) ↦ absurd (before_strict (f w) (f b) lt (v.rising b w u t at_b at_w k))
+  ]
 
-claimed_to_new : (nodes : Nodes) (old new : Reach) (c d : ℕ → Type 0) (first : List ℕ) (s : Spot) (f : List ℕ → List ℕ)
-    → Visits nodes old new c d first s f → (b : List ℕ) (n : ℕ)
-    → IsClaimedBefore nodes old c (f b) n → IsClaimedBefore nodes new d b n
-claimed_to_new nodes old new c d first s f v b n (inl h) = inl (v.kept n h)
-claimed_to_new nodes old new c d first s f v b n (inr (a, (lt, h))) =
-    let p = span_spot nodes (old a) n h in
-    elim (v.all a p.0 p.1.0) [
-      | inl e ↦ inl (v.span n (let l : old first ≡ Some s = v.leads in let q : old a ≡ Some p.0 = p.1.0 in let r : p.0 ≡ s = cc in rw (← r) p.1.1))
-      | inr g ↦ inr (g.0, (not_after f v.rising g.0 b (rw (← g.1.0) lt), span_at nodes (new g.0) p.0 n g.1.1 p.1.1))
-    ]
+  -- and no two ways become one
+  pub one_of : (a b : List ℕ) (t u : Spot) → new a ≡ Some t → new b ≡ Some u → f a ≡ f b → a ≡ b
+  one_of a b t u at_a at_b e = elim (before_total a b) [
+    | inl same ↦ same
+    | inr (inl lt) ↦ absurd (before_irreflexive (f b) (subst (λ z. Before z (f b)) e (v.rising a b t u at_a at_b lt)))
+    | inr (inr gt) ↦ absurd (before_irreflexive (f b) (subst (λ z. Before (f b) z) e (v.rising b a u t at_b at_a gt)))
+  ]
 
-claimed_first : (nodes : Nodes) (old new : Reach) (c d : ℕ → Type 0) (first : List ℕ) (s : Spot) (f : List ℕ → List ℕ)
-    → Visits nodes old new c d first s f → (n : ℕ) → IsClaimedBefore nodes old c first n → c n
-claimed_first nodes old new c d first s f v n (inl h) = h
-claimed_first nodes old new c d first s f v n (inr (a, (lt, h))) =
-    let p = span_spot nodes (old a) n h in
-    elim (v.all a p.0 p.1.0) [
-      | inl e ↦ absurd (before_irreflexive first (rw e at lt))
-      | inr g ↦ absurd (before_irreflexive first (before_trans first (f g.0) first (v.after g.0 p.0 g.1.1) (rw (← g.1.0) lt)))
-    ]
+module _ (nodes : Nodes) {old new : Reach} {o : Option Spot} {first : List ℕ} {f : List ℕ → List ℕ} {c d : ℕ → Type 0} {a b : ℕ → PageUse → Type 0}
+    (v : Visits old new o first f) (takes : Takes nodes o c d a b) where
+  span_first : (n : ℕ) → SpanHas nodes o n → SpanHas nodes (old first) n
+  span_first n h = let s = span_spot nodes o n h in span_at nodes (old first) s.0 n (v.leads s.0 s.1.0) s.1.1
 
-pub clean_back : (nodes : Nodes) (old new : Reach) (c d : ℕ → Type 0) (first : List ℕ) (s : Spot) (f : List ℕ → List ℕ)
-    → Visits nodes old new c d first s f → Passes nodes c s → IsClean nodes new d → IsClean nodes old c
-clean_back nodes old new c d first s f v h clean = record {
-  passes = λ a t e. elim (v.all a t e) [
-    | inl q ↦
-        let l : old first ≡ Some s = v.leads in
-        let r : s ≡ t = cc in
-        rw (q, ← r) (passes_fewer nodes c (IsClaimedBefore nodes old c first) s (claimed_first nodes old new c d first s f v) h)
-    | inr g ↦
-        rw g.1.0 (passes_fewer nodes (IsClaimedBefore nodes new d g.0) (IsClaimedBefore nodes old c (f g.0)) t (claimed_to_new nodes old new c d first s f v g.0) (clean.passes g.0 t g.1.1))
-  ];
+  use_first : (n : ℕ) (u : PageUse) → UseOf nodes o n u → UseOf nodes (old first) n u
+  use_first n u h = let s = use_spot nodes o n u h in use_back nodes (old first) s.0 n u (v.leads s.0 s.1.0) s.1.1
+
+  span_later : (w : List ℕ) (n : ℕ) → SpanHas nodes (new w) n → SpanHas nodes (old (f w)) n
+  span_later w n h = let p = span_spot nodes (new w) n h in span_at nodes (old (f w)) p.0 n (v.same w p.0 p.1.0) p.1.1
+
+  claimed_to_old : (w : List ℕ) (t : Spot) → new w ≡ Some t → (n : ℕ) → IsClaimedBefore nodes new d w n → IsClaimedBefore nodes old c (f w) n
+  claimed_to_old w t e n (inl h) = elim (takes.split n h) [
+    | inl k ↦ inl k
+    | inr k ↦ let s = span_spot nodes o n k in inr (first, (v.after s.0 s.1.0 w t e, span_first n k))
+  ]
+  claimed_to_old w t e n (inr (y, (lt, h))) = let p = span_spot nodes (new y) n h in inr (f y, (v.rising y w p.0 t p.1.0 e lt, span_later y n h))
+
+  claimed_to_new : (w : List ℕ) (t : Spot) → new w ≡ Some t → (n : ℕ) → IsClaimedBefore nodes old c (f w) n → IsClaimedBefore nodes new d w n
+  claimed_to_new w t e n (inl h) = inl (takes.kept n h)
+  claimed_to_new w t e n (inr (y, (lt, h))) = let p = span_spot nodes (old y) n h in elim (v.all y p.0 p.1.0) [
+    | inl q ↦ inl (takes.span n (span_at nodes o p.0 n q.1 p.1.1))
+    | inr g ↦ inr (g.0, (not_after v g.0 w p.0 t g.1.1 e (rw (← g.1.0) lt), span_at nodes (new g.0) p.0 n g.1.1 p.1.1))
+  ]
+
+  claimed_first : (s : Spot) → o ≡ Some s → (n : ℕ) → IsClaimedBefore nodes old c first n → c n
+  claimed_first s e n (inl h) = h
+  claimed_first s e n (inr (y, (lt, h))) = let p = span_spot nodes (old y) n h in elim (v.all y p.0 p.1.0) [
+    | inl q ↦ absurd (before_irreflexive first (rw q.0 at lt))
+    | inr g ↦ absurd (before_strict first (f g.0) (v.after s e g.0 p.0 g.1.1) (rw (← g.1.0) lt))
+  ]
+
+  first_passes : PassesAt nodes c o → (s : Spot) → o ≡ Some s → Passes nodes (IsClaimedBefore nodes old c first) s
+  first_passes h s e = passes_fewer nodes c (IsClaimedBefore nodes old c first) s (claimed_first s e) (subst (PassesAt nodes c) e h)
+
+  pub carries : PassesAt nodes c o → Carries nodes old c a new d b
+  carries h = record {
+    clean = λ clean. record {
+      passes = λ y t e. elim (v.all y t e) [
+        | inl q ↦ rw q.0 (first_passes h t q.1)
+        | inr g ↦ rw g.1.0 (passes_fewer nodes (IsClaimedBefore nodes new d g.0) (IsClaimedBefore nodes old c (f g.0)) t (claimed_to_new g.0 t g.1.1)
+            (clean.passes g.0 t g.1.1))
+      ];
+    };
+    first = λ x g. record {
+      way = f g.way;
+      spot = g.spot;
+      leads = v.same g.way g.spot g.leads;
+      reported = tests_same nodes (IsClaimedBefore nodes new d g.way) (IsClaimedBefore nodes old c (f g.way)) g.spot x
+          (claimed_to_old g.way g.spot g.leads) (claimed_to_new g.way g.spot g.leads) g.reported;
+      none_before = λ y t z lt e m. elim (v.all y t e) [
+        | inl q ↦ passes_silent nodes (IsClaimedBefore nodes old c first) t z (first_passes h t q.1)
+            (let m' : Tests nodes (IsClaimedBefore nodes old c first) t z = rw (← q.0) m in m')
+        | inr k ↦
+            let m' : Tests nodes (IsClaimedBefore nodes old c (f k.0)) t z = rw (← k.1.0) m in
+            g.none_before k.0 t z (not_after v k.0 g.way t g.spot k.1.1 g.leads (rw (← k.1.0) lt)) k.1.1
+            (tests_same nodes (IsClaimedBefore nodes old c (f k.0)) (IsClaimedBefore nodes new d k.0) t z (claimed_to_new k.0 t k.1.1)
+            (claimed_to_old k.0 t k.1.1) m')
+      ];
+    };
+    covered = λ n. (covered_to_old n, covered_to_new n);
+    uses = uses_to_old;
+  }
+    where
+      covered_to_old : (n : ℕ) → IsCovered nodes new d n → IsCovered nodes old c n
+      covered_to_old n (inl h) = elim (takes.split n h) [ inl k ↦ inl k | inr k ↦ inr (first, span_first n k) ]
+      covered_to_old n (inr (y, h)) = inr (f y, span_later y n h)
+
+      covered_to_new : (n : ℕ) → IsCovered nodes old c n → IsCovered nodes new d n
+      covered_to_new n (inl h) = inl (takes.kept n h)
+      covered_to_new n (inr (y, h)) = let p = span_spot nodes (old y) n h in elim (v.all y p.0 p.1.0) [
+        | inl q ↦ inl (takes.span n (span_at nodes o p.0 n q.1 p.1.1))
+        | inr g ↦ inr (g.0, span_at nodes (new g.0) p.0 n g.1.1 p.1.1)
+      ]
+
+      uses_to_old : (n : ℕ) (u : PageUse) → HasUse nodes new b n u → HasUse nodes old a n u
+      uses_to_old n u (inl h) = elim (takes.uses n u h) [ inl k ↦ inl k | inr k ↦ inr (first, use_first n u k) ]
+      uses_to_old n u (inr (y, h)) = let p = use_spot nodes (new y) n u h in inr (f y, use_back nodes (old (f y)) p.0 n u (v.same y p.0 p.1.0) p.1.1)
+
+pub carries_on : (nodes : Nodes) {x y z : Reach} {c d e : ℕ → Type 0} {k l m : ℕ → PageUse → Type 0} → Carries nodes x c k y d l → Carries nodes y d l z e m
+    → Carries nodes x c k z e m
+carries_on nodes p q = record {
+  clean = λ h. p.clean (q.clean h);
+  first = λ x h. p.first x (q.first x h);
+  covered = λ n. (λ h. (p.covered n).0 ((q.covered n).0 h), λ h. (q.covered n).1 ((p.covered n).1 h));
+  uses = λ n u h. p.uses n u (q.uses n u h);
 }
-
-pub first_back : (nodes : Nodes) (old new : Reach) (c d : ℕ → Type 0) (first : List ℕ) (s : Spot) (f : List ℕ → List ℕ)
-    → Visits nodes old new c d first s f → Passes nodes c s → (x : Finding) → IsFirst nodes new d x → IsFirst nodes old c x
-first_back nodes old new c d first s f v h x g = record {
-  way = f g.way;
-  spot = g.spot;
-  leads = v.same g.way g.spot g.leads;
-  reported = tests_same nodes (IsClaimedBefore nodes new d g.way) (IsClaimedBefore nodes old c (f g.way)) g.spot x
-      (claimed_to_old nodes old new c d first s f v g.way g.spot g.leads) (claimed_to_new nodes old new c d first s f v g.way) g.reported;
-  none_before = λ a t y lt e m. elim (v.all a t e) [
-    | inl q ↦
-        let l : old first ≡ Some s = v.leads in
-        let r : t ≡ s = cc in
-        let m' : Tests nodes (IsClaimedBefore nodes old c first) s y = rw (← q, ← r) m in
-        passes_silent nodes (IsClaimedBefore nodes old c first) s y
-        (passes_fewer nodes c (IsClaimedBefore nodes old c first) s (claimed_first nodes old new c d first s f v) h) m'
-    | inr k ↦
-        let m' : Tests nodes (IsClaimedBefore nodes old c (f k.0)) t y = rw (← k.1.0) m in
-        g.none_before k.0 t y (not_after f v.rising k.0 g.way (rw (← k.1.0) lt)) k.1.1
-        (tests_same nodes (IsClaimedBefore nodes old c (f k.0)) (IsClaimedBefore nodes new d k.0) t y
-        (claimed_to_new nodes old new c d first s f v k.0) (claimed_to_old nodes old new c d first s f v k.0 t k.1.1) m')
-  ];
-}
-
-only_start : (nodes : Nodes) (old : Reach) (c : ℕ → Type 0) (first : List ℕ)
-    → ((v : List ℕ) (t : Spot) → Before v first → old v ≡ Some t → ⊥) → (n : ℕ) → IsClaimedBefore nodes old c first n → c n
-only_start nodes old c first none n (inl h) = h
-only_start nodes old c first none n (inr (v, (lt, h))) = let p = span_spot nodes (old v) n h in absurd (none v p.0 lt p.1.0)
-
--- a finding at the first way of all
-pub found_here : (nodes : Nodes) (old : Reach) (c : ℕ → Type 0) (first : List ℕ) (s : Spot) (x : Finding)
-    → old first ≡ Some s → ((v : List ℕ) (t : Spot) → Before v first → old v ≡ Some t → ⊥) → Tests nodes c s x → IsFirst nodes old c x
-found_here nodes old c first s x leads none m = record {
-  way = first;
-  spot = s;
-  leads = leads;
-  reported = tests_same nodes c (IsClaimedBefore nodes old c first) s x (λ n h. inl h) (only_start nodes old c first none) m;
-  none_before = λ v t y lt e _. none v t lt e;
-}
-
-pub covered_to_old : (nodes : Nodes) (old new : Reach) (c d : ℕ → Type 0) (first : List ℕ) (s : Spot) (f : List ℕ → List ℕ)
-    → Visits nodes old new c d first s f → (n : ℕ) → IsCovered nodes new d n → IsCovered nodes old c n
-covered_to_old nodes old new c d first s f v n (inl h) =
-    elim (v.split n h) [ inl k ↦ inl k | inr k ↦ inr (first, span_at nodes (old first) s n v.leads k) ]
-covered_to_old nodes old new c d first s f v n (inr (b, h)) =
-    let p = span_spot nodes (new b) n h in
-    inr (f b, span_at nodes (old (f b)) p.0 n (v.same b p.0 p.1.0) p.1.1)
-
-pub covered_to_new : (nodes : Nodes) (old new : Reach) (c d : ℕ → Type 0) (first : List ℕ) (s : Spot) (f : List ℕ → List ℕ)
-    → Visits nodes old new c d first s f → (n : ℕ) → IsCovered nodes old c n → IsCovered nodes new d n
-covered_to_new nodes old new c d first s f v n (inl h) = inl (v.kept n h)
-covered_to_new nodes old new c d first s f v n (inr (a, h)) =
-    let p = span_spot nodes (old a) n h in
-    elim (v.all a p.0 p.1.0) [
-      | inl e ↦ inl (v.span n (let l : old first ≡ Some s = v.leads in let q : old a ≡ Some p.0 = p.1.0 in let r : p.0 ≡ s = cc in rw (← r) p.1.1))
-      | inr g ↦ inr (g.0, span_at nodes (new g.0) p.0 n g.1.1 p.1.1)
-    ]

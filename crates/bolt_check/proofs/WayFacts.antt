@@ -8,8 +8,8 @@ use Rattle.bolt_format.specs.declared.kind.Kind.TheVariants as kind
 use Rattle.bolt_format.specs.declared.meta.Meta.{Meta}
 use Rattle.bolt_check.specs.Findings.{keys_of}
 use Rattle.bolt_check.specs.Nodes.{Entry, Node, Nodes, leaf_entry, node_at, node_of, node_seen}
-use Rattle.bolt_check.specs.Shape.{HasShape, child_in, child_of, leads}
-use Rattle.bolt_check.specs.Ways.{At_page, PageSpot, SpanHas, SpanOf, Spot, child_spot, follow, reached, step, step_at, step_entry, upper_from}
+use Rattle.bolt_check.specs.Shape.{HasShape, child_at, child_in, child_of, leads}
+use Rattle.bolt_check.specs.Ways.{At_page, PageSpot, SpanHas, SpanOf, Spot, child_spot, follow, reached, step, upper_from}
 
 -- one way after another
 pub follow_append : (nodes : Nodes) (here : Option Spot) (v w : List ℕ) → follow nodes here (v ++ w) ≡ follow nodes (follow nodes here v) w
@@ -33,37 +33,37 @@ pub leads_none : (nodes : Nodes) (address : List ℕ) → leads nodes None addre
 leads_none nodes [] = refl
 leads_none nodes (i ∷ address) = leads_none nodes address
 
+is_entry : (leaf : Bool) (o : Option Entry) (c : ℕ) → child_of leaf o ≡ Some c → (e : Entry) × (leaf ≡ false) × (o ≡ Some e) × (e.child ≡ c)
+is_entry false (Some e) c h = (e, refl, refl, cc)
+is_entry leaf o c h = absurd (none-some c h)
+
+-- a child of a branch
+pub is_child : (nodes : Nodes) (s : PageSpot) (i : ℕ) (o : Result Node ℕ) (c : ℕ) → nodes s.number ≡ o → child_in o i ≡ Some c
+    → (node : Node) × (e : Entry) × (nodes s.number ≡ Ok node) × (node.is_leaf ≡ false) × (slice_get node.entries i ≡ Some e) × (e.child ≡ c)
+is_child nodes s i (Err f) c q h = absurd (none-some c h)
+is_child nodes s i (Ok node) c q h = let p = is_entry node.is_leaf (slice_get node.entries i) c h in (node, p.0, q, p.1, p.2, p.3)
+
+pub leads_some : (nodes : Nodes) (o : Option ℕ) (address : List ℕ) (below : ℕ) → leads nodes o address ≡ Some below → (c : ℕ) × (o ≡ Some c)
+leads_some nodes None address below e = absurd (none-some below (sym (leads_none nodes address) ∙ e))
+leads_some nodes (Some c) address below e = (c, refl)
+
 -- an address from a page is a way from it
-by_entry : (nodes : Nodes) (s : PageSpot) (is_leaf : Bool) (o next : Option Entry) (address : List ℕ) (n : ℕ) → leads nodes (child_of is_leaf o) address ≡ Some n
-    → ((t : PageSpot) → leads nodes (Some t.number) address ≡ Some n → (u : PageSpot) × (follow nodes (Some (At_page t)) address ≡ Some (At_page u)) × (u.number ≡ n))
-    → (u : PageSpot) × (follow nodes (step_entry is_leaf s o next) address ≡ Some (At_page u)) × (u.number ≡ n)
-by_entry nodes s true None next address n e more = absurd (none-some n (sym (leads_none nodes address) ∙ e))
-by_entry nodes s true (Some x) next address n e more = absurd (none-some n (sym (leads_none nodes address) ∙ e))
-by_entry nodes s false None next address n e more = absurd (none-some n (sym (leads_none nodes address) ∙ e))
-by_entry nodes s false (Some x) next address n e more = more (child_spot s x (upper_from next s.upper)) e
-
-by_node : (nodes : Nodes) (s : PageSpot) (r : Result Node ℕ) (i : ℕ) (address : List ℕ) (n : ℕ) → leads nodes (child_in r i) address ≡ Some n
-    → ((t : PageSpot) → leads nodes (Some t.number) address ≡ Some n → (u : PageSpot) × (follow nodes (Some (At_page t)) address ≡ Some (At_page u)) × (u.number ≡ n))
-    → (u : PageSpot) × (follow nodes (step_at r s i) address ≡ Some (At_page u)) × (u.number ≡ n)
-by_node nodes s (Err fault) i address n e more = absurd (none-some n (sym (leads_none nodes address) ∙ e))
-by_node nodes s (Ok node) i address n e more = by_entry nodes s node.is_leaf (slice_get node.entries i) (slice_get node.entries (suc i)) address n e more
-
 pub leads_follow : (nodes : Nodes) (s : PageSpot) (address : List ℕ) (n : ℕ) → leads nodes (Some s.number) address ≡ Some n
     → (t : PageSpot) × (follow nodes (Some (At_page s)) address ≡ Some (At_page t)) × (t.number ≡ n)
 leads_follow nodes s [] n e = (s, refl, same_Some s.number n e)
-leads_follow nodes s (i ∷ address) n e = by_node nodes s (nodes s.number) i address n e (λ t h. leads_follow nodes t address n h)
+leads_follow nodes s (i ∷ address) n e =
+    let (c, at) = leads_some nodes (child_at nodes (Some s.number) i) address n e in
+    let (node, p, page, branch, found, same) = is_child nodes s i (nodes s.number) c refl at in
+    let next = child_spot s p (upper_from (slice_get node.entries (suc i)) s.upper) in
+    let led : leads nodes (Some next.number) address ≡ Some n = ap (λ (o : Option ℕ). leads nodes o address) (ap Some same ∙ sym at) ∙ e in
+    let (t, way, is) = leads_follow nodes next address n led in
+    (t, ap (λ (o : Option Spot). follow nodes o address) (step_child nodes s i node p page branch found) ∙ way, is)
 
 -- a good leaf page as a node
-leaf_is : (view : PageView) (k : Kind) → k ≡ kind.Leaf → node_of k view ≡ Ok (record { is_leaf = true; overflow = view.overflow; entries = map leaf_entry view.leaves })
-leaf_is view k e = rw e refl
-
-seen_is : (o : Option PageView) (fault : Option ℕ) (view : PageView) → o ≡ Some view → node_seen o fault ≡ node_of view.kind view
-seen_is o fault view e = rw e refl
-
 pub leaf_node : (file : List ℕ) (meta : Meta) (n : ℕ) (view : PageView) → page_at file meta n ≡ Some view → view.kind ≡ kind.Leaf
     → node_at file meta n ≡ Ok (record { is_leaf = true; overflow = view.overflow; entries = map leaf_entry view.leaves })
 unfolding node_at
-leaf_node file meta n view e k = seen_is (page_at file meta n) (page_fault file meta n) view e ∙ leaf_is view view.kind k
+leaf_node file meta n view e k = ap (λ (o : Option PageView). node_seen o (page_fault file meta n)) e ∙ ap (λ (x : Kind). node_of x view) k
 
 -- a page lies in its own span
 pub in_own_span : (nodes : Nodes) (s : PageSpot) (node : Node) → nodes s.number ≡ Ok node → SpanHas nodes (Some (At_page s)) s.number

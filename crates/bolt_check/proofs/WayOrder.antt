@@ -1,5 +1,6 @@
 -- The order of ways is strict and total.
-use Rattle.std.proofs.Common.{◌≡◌, ℕ, zero, suc, ◌<◌, ◌⊎◌, inl, inr, List, [], ◌∷◌, refl, sym, ap, arith}
+use Rattle.std.proofs.Common.{◌≡◌, ℕ, ◌⊎◌, inl, inr, List, [], ◌∷◌, refl, sym, arith}
+use Rattle.std.proofs.lemmas.Bool.{cases_order}
 use Rattle.bolt_check.specs.Ways.{Before}
 
 pub before_irreflexive : (v : List ℕ) → Before v v → ⊥
@@ -16,18 +17,12 @@ before_trans (a ∷ u) (b ∷ v) (c ∷ w) (inl h) (inr k) = inl (let e : b ≡ 
 before_trans (a ∷ u) (b ∷ v) (c ∷ w) (inr h) (inl k) = inl (let e : a ≡ b = h.0 in omega arith)
 before_trans (a ∷ u) (b ∷ v) (c ∷ w) (inr h) (inr k) = inr (let e : a ≡ b = h.0 in let d : b ≡ c = k.0 in omega arith, before_trans u v w h.1 k.1)
 
-three_ways : (i j : ℕ) → (i ≡ j) ⊎ ((i < j) ⊎ (j < i))
-three_ways zero zero = inl refl
-three_ways zero (suc j) = inr (inl (omega arith))
-three_ways (suc i) zero = inr (inr (omega arith))
-three_ways (suc i) (suc j) = elim (three_ways i j) [ inl e ↦ inl (ap suc e) | inr h ↦ inr (elim h [ inl k ↦ inl (omega arith) | inr k ↦ inr (omega arith) ]) ]
-
 pub before_total : (v w : List ℕ) → (v ≡ w) ⊎ (Before v w ⊎ Before w v)
 before_total [] [] = inl refl
 before_total [] (j ∷ w) = inr (inl tt)
 before_total (i ∷ v) [] = inr (inr tt)
 before_total (i ∷ v) (j ∷ w) =
-    elim (three_ways i j) [
+    elim (cases_order i j) [
       | inl e ↦ elim (before_total v w) [
         | inl d ↦ inl (cc)
         | inr h ↦ inr (elim h [ inl k ↦ inl (inr (e, k)) | inr k ↦ inr (inr (sym e, k)) ])

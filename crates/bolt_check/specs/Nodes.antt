@@ -23,7 +23,12 @@ abbrev pub branch_entry : BranchElement → Entry
 branch_entry e = record { key = e.key; child = e.child; is_bucket = false; inner = [] }
 
 abbrev pub leaf_entry : LeafElement → Entry
-leaf_entry e = record { key = e.key; child = head_root e.value; is_bucket = e.is_bucket; inner = map (λ (inner : LeafElement). inner.key) (inline_elements e.value) }
+leaf_entry e = record {
+  key = e.key;
+  child = head_root e.value;
+  is_bucket = e.is_bucket;
+  inner = map (λ (inner : LeafElement). inner.key) (inline_elements e.value);
+}
 
 -- A node by its page's number, or the number of its first fault.
 abbrev pub Nodes : Type 0

@@ -1,4 +1,5 @@
 -- What private contracts and proofs cite, and no public one.
+pub mod Carries
 pub mod LeafTests
 pub mod Listings
 pub mod Pending

@@ -33,7 +33,8 @@ pub record HasShape (nodes : Nodes) (root : ℕ) : Type 0 where
   pub apart : (v w : List ℕ) (n : ℕ) → SpanHas nodes (reached nodes root v) n → SpanHas nodes (reached nodes root w) n → v ≡ w
   pub above_metas : (way : List ℕ) (n : ℕ) → SpanHas nodes (reached nodes root way) n → 2 ≤ n
   -- the keys of each page rise, those of inline pages too
-  pub rising : (way : List ℕ) (s : PageSpot) (node : Node) → reached nodes root way ≡ Some (At_page s) → nodes s.number ≡ Ok node → KeysRise (keys_of node.entries)
+  pub rising : (way : List ℕ) (s : PageSpot) (node : Node) → reached nodes root way ≡ Some (At_page s) → nodes s.number ≡ Ok node
+      → KeysRise (keys_of node.entries)
   pub rising_inline : (way : List ℕ) (host : ℕ) (keys : List Key) → reached nodes root way ≡ Some (At_inline host keys) → KeysRise keys
   -- every key below an entry of a branch, in the same bucket, is not below its key and is below the next
   pub bounded : (way address : List ℕ) (s : PageSpot) (node under : Node) (i j below : ℕ) (key : Key) (e : Entry)

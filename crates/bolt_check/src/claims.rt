@@ -102,13 +102,16 @@ impl<'a> Claims<'a> {
         ensures meta { claims_meta self.new ≡ claims_meta self.old }
         ensures length { claims_length self.new ≡ claims_length self.old }
         ensures visited { claims_visited self.new ≡ counted (claims_visited self.old) 1 }
-        ensures found { IfErr result (PageTests (node_at (claims_file self.old) (claims_meta self.old)) (λ n. is_claimed self.old n ≡ true) (page_spot spot.now)) }
+        ensures found { IfErr result (PageTests (node_at (claims_file self.old) (claims_meta self.old))
+            (λ n. is_claimed self.old n ≡ true) (page_spot spot.now)) }
         ensures same { OnErr result ((n : ℕ) → is_claimed self.new n ≡ is_claimed self.old n) }
         ensures left { OnErr result (pages_left self.new ≡ pages_left self.old) }
-        ensures passes { OnOk result (PagePasses (node_at (claims_file self.old) (claims_meta self.old)) (λ n. is_claimed self.old n ≡ true) (page_spot spot.now)) }
+        ensures passes { OnOk result (PagePasses (node_at (claims_file self.old) (claims_meta self.old))
+            (λ n. is_claimed self.old n ≡ true) (page_spot spot.now)) }
         ensures node { IfOk result (λ node. node_at (claims_file self.old) (claims_meta self.old) spot.now.number ≡ Ok (shown_node node)) }
         ensures page { IfOk result (λ node. page_at (claims_file self.old) (claims_meta self.old) spot.now.number ≡ Some (shown node.page)) }
-        ensures claims { OnOk result ((n : ℕ) → (is_claimed self.new n ≡ true) ↔ ((is_claimed self.old n ≡ true) ⊎ SpanAt (node_at (claims_file self.old) (claims_meta self.old)) (At_page (page_spot spot.now)) n)) }
+        ensures claims { OnOk result ((n : ℕ) → (is_claimed self.new n ≡ true)
+            ↔ ((is_claimed self.old n ≡ true) ⊎ SpanAt (node_at (claims_file self.old) (claims_meta self.old)) (At_page (page_spot spot.now)) n)) }
         ensures fewer { OnOk result (pages_left self.new < pages_left self.old) }
         ensures shallow { OnOk result (spot.now.depth ≤ 64) }
     {

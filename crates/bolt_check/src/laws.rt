@@ -15,6 +15,7 @@ ghost use Rattle.bolt_check.specs.declared.finding.Finding.{Finding};
 ghost use Rattle.bolt_check.specs.declared.role.Role.{Role};
 
 /// No test of the trees fails, exactly if they are sound.
+#[tactic(auto, using(crate::proofs::Lawful::shape_passes, crate::proofs::Shaping::shape_of))]
 pub fn sound_trees_pass_the_tests()
     ensures { (file : List ℕ) (meta : Meta) → HasSoundTrees file meta ↔ PassesTests file meta }
 {}
@@ -31,20 +32,26 @@ pub fn first_finding_is_one()
 
 /// There is one list of findings of the accounts.
 pub fn account_findings_are_one()
-    ensures { (file : List ℕ) (meta : Meta) (a b : List Finding) → AreAccountFindings file meta (IsUsed file meta) a → AreAccountFindings file meta (IsUsed file meta) b → a ≡ b }
+    ensures { (file : List ℕ) (meta : Meta) (a b : List Finding) → AreAccountFindings file meta (IsUsed file meta) a
+        → AreAccountFindings file meta (IsUsed file meta) b → a ≡ b }
 {}
 
 /// In a sound file a page has at most one role.
+#[tactic(auto, using(crate::proofs::RoleOnce::role_once))]
 pub fn role_is_one()
-    ensures { (file : List ℕ) (meta : Meta) (n : ℕ) (a b : Role) → HasSoundTrees file meta → HasRightAccounts file meta → HasRole file meta n a → HasRole file meta n b → a ≡ b }
+    ensures { (file : List ℕ) (meta : Meta) (n : ℕ) (a b : Role) → HasSoundTrees file meta → HasRightAccounts file meta
+        → HasRole file meta n a → HasRole file meta n b → a ≡ b }
 {}
 
 /// In a sound file each page below the high-water mark has a role.
+#[tactic(auto, using(crate::proofs::RoleExists::role_exists))]
 pub fn role_exists()
-    ensures { (file : List ℕ) (meta : Meta) (n : ℕ) → HasSoundTrees file meta → HasRightAccounts file meta → n < meta.high_water → (role : Role) × HasRole file meta n role }
+    ensures { (file : List ℕ) (meta : Meta) (n : ℕ) → HasSoundTrees file meta → HasRightAccounts file meta
+        → n < meta.high_water → (role : Role) × HasRole file meta n role }
 {}
 
 /// In a sound file there is an assignment of roles to all pages.
+#[tactic(auto, using(crate::proofs::RoleFacts::some_roles))]
 pub fn roles_exist()
     ensures { (file : List ℕ) (meta : Meta) → HasSoundTrees file meta → HasRightAccounts file meta → (roles : ℕ → Role) × AreRoles file meta roles }
 {}
@@ -62,9 +69,10 @@ pub fn ways_go_on()
 {}
 
 /// In sound trees each bucket has a tour.
+#[tactic(auto, using(crate::proofs::TourSums::bucket_tour))]
 pub fn tour_exists()
-    ensures { (file : List ℕ) (meta : Meta) (way : List ℕ) (root : ℕ) → HasSoundTrees file meta → reached (node_at file meta) meta.root way ≡ Some (At_page (root_spot root))
-        → (tour : _) × IsTour (reached (node_at file meta) root) tour }
+    ensures { (file : List ℕ) (meta : Meta) (way : List ℕ) (root : ℕ) → HasSoundTrees file meta
+        → reached (node_at file meta) meta.root way ≡ Some (At_page (root_spot root)) → (tour : _) × IsTour (reached (node_at file meta) root) tour }
 {}
 
 /// There is at most one tour.

@@ -42,7 +42,8 @@ impl<'a> Leftovers<'a> {
         ensures file { leftovers_file result ≡ claims_file claims.entry }
         ensures meta { leftovers_meta result ≡ claims_meta claims.entry }
         ensures taken { (n : ℕ) → is_taken result n ≡ is_claimed claims.entry n }
-        ensures listed { (n : ℕ) → n < leftovers_length result → (is_listed result n ≡ true) ↔ IsListedFree (claims_file claims.entry) (claims_meta claims.entry) n }
+        ensures listed { (n : ℕ) → n < leftovers_length result → (is_listed result n ≡ true)
+            ↔ IsListedFree (claims_file claims.entry) (claims_meta claims.entry) n }
     {
         let file = claims.file;
         let meta = claims.meta;
@@ -52,6 +53,7 @@ impl<'a> Leftovers<'a> {
     }
 
     /// The number that pages to be taken are below.
+    #[tactic(auto, using(crate::proofs::LeafLemmas::node_in_table), unfolding(crate::specs::Leftovers::leftovers_file, crate::specs::Leftovers::leftovers_length, crate::specs::Leftovers::leftovers_meta))]
     pub fn end(&self) -> u64
         ensures within { result ≤ leftovers_length self.now }
         ensures below { result ≤ (leftovers_meta self.now).high_water }
@@ -71,7 +73,8 @@ impl<'a> Leftovers<'a> {
         ensures leaf { IfSome result (λ _. IsLoneLeaf (leftovers_nodes self.old) (λ n. is_taken self.old n ≡ true) number) }
         ensures unlisted { IfSome result (λ _. is_listed self.old number ≡ false) }
         ensures none { IfNone result (IsLoneLeaf (leftovers_nodes self.old) (λ n. is_taken self.old n ≡ true) number → is_listed self.old number ≡ false → ⊥) }
-        ensures taken { IfSome result (λ _. (n : ℕ) → (is_taken self.new n ≡ true) ↔ ((is_taken self.old n ≡ true) ⊎ SpanAt (leftovers_nodes self.old) (At_page (root_spot number)) n)) }
+        ensures taken { IfSome result (λ _. (n : ℕ) → (is_taken self.new n ≡ true)
+            ↔ ((is_taken self.old n ≡ true) ⊎ SpanAt (leftovers_nodes self.old) (At_page (root_spot number)) n)) }
         ensures same { IfNone result ((n : ℕ) → is_taken self.new n ≡ is_taken self.old n) }
         ensures noted { (n : ℕ) → is_taken self.new n ≡ false → is_listed self.new n ≡ is_listed self.old n }
     {
@@ -129,6 +132,7 @@ fn take_leaf<'a>(
 }
 
 /// Whether page `number` is a good leaf with an element.
+#[tactic(auto, using(crate::proofs::LeafLemmas::leaf_shown, crate::proofs::LeafLemmas::not_filled, crate::proofs::LeafLemmas::some_entries))]
 fn is_filled_leaf(file: &[u8], meta: &Meta, number: u64) -> bool
     ensures filled { result ≡ true → IsFilledLeaf (node_at file.now meta.now number) }
     ensures other { result ≡ false → IsFilledLeaf (node_at file.now meta.now number) → ⊥ }

@@ -33,9 +33,11 @@ fn listed(page_use: PageUse) -> PageUse
 }
 
 /// Lists one id in the table or, if it is past the table, after the others.
+#[tactic(auto, using(crate::proofs::TableLemmas::used_kept))]
 fn list_id(id: u64, table: &mut [PageUse], past: &mut Vec<u64>) -> Result<(), AllocError>
     ensures used { OnOk result ((n : ℕ) → is_used (use_at table.new n) ≡ is_used (use_at table.old n)) }
-    ensures times { OnOk result ((n : ℕ) → n < length table.old → times_of (use_at table.new n) ≡ min 2 (times_of (use_at table.old n) + (if id == n then 1 else 0))) }
+    ensures times { OnOk result ((n : ℕ) → n < length table.old
+        → times_of (use_at table.new n) ≡ min 2 (times_of (use_at table.old n) + (if id == n then 1 else 0))) }
     ensures kept { OnOk result ((n : ℕ) → n ≢ id → use_at table.new n ≡ use_at table.old n) }
     ensures past { OnOk result (past.new.items ≡ past.old.items ++ (if nat_le (length table.old) id then id ∷ [] else [])) }
 {
@@ -68,6 +70,7 @@ pub(crate) fn list_ids(
 }
 
 /// Lists one id in the table, if it isn't past it.
+#[tactic(auto, using(crate::proofs::TableLemmas::used_kept))]
 fn list_within(id: u64, table: &mut [PageUse])
     ensures used { (n : ℕ) → is_used (use_at table.new n) ≡ is_used (use_at table.old n) }
     ensures times { (n : ℕ) → n < length table.old → times_of (use_at table.new n) ≡ min 2 (times_of (use_at table.old n) + (if id == n then 1 else 0)) }
@@ -80,6 +83,7 @@ fn list_within(id: u64, table: &mut [PageUse])
 }
 
 /// Lists the ids in the table. Those past it are ignored, so it needs no memory.
+#[tactic(auto, using(crate::proofs::ListLemmas::times_more))]
 pub(crate) fn list_ids_within(ids: FreeIds<'_>, table: &mut [PageUse])
     requires { IsUnlisted table.old }
     ensures used { (n : ℕ) → is_used (use_at table.new n) ≡ is_used (use_at table.old n) }

@@ -138,6 +138,7 @@ fn report_repeated(findings: &mut Vec<Finding>, ids: &[u64], i: usize) -> Result
 
 /// Reports the id at place `i` if it is below the mark and not reported yet, and the lost pages
 /// before it.
+#[tactic(auto, using(crate::proofs::ListingLemmas::past_reported))]
 fn report_id(
     listing: &Listing<'_>,
     i: usize,
@@ -202,6 +203,7 @@ fn report_high_id(
 }
 
 /// Reports the ids from the mark on, each once.
+#[tactic(auto, using(crate::proofs::ListingLemmas::beyond_start))]
 fn report_beyond(listing: &Listing<'_>, findings: &mut Vec<Finding>) -> Result<(), AllocError>
     requires settled { IsSettled listing.now }
     requires reported { AreFindingsBelow listing.now.mark (is_in_use listing.now) (listed_times listing.now) listing.now.mark findings.old.items }

@@ -15,7 +15,8 @@ use bolt_format::{Kind, Meta, PageFault, page};
 /// The page's first fault, or `PAGE_KIND` if it is neither a branch nor a leaf.
 #[tactic(auto, unfolding(crate::specs::Nodes::node_at, crate::specs::ShownNodes::shown_node))]
 pub(crate) fn open<'a>(file: &'a [u8], meta: &Meta, id: u64) -> Result<TreePage<'a>, PageFault>
-    ensures node { MatchResult result (λ node. node_at file.now meta.now id ≡ Ok (shown_node node)) (λ fault. (node_at file.now meta.now id ≡ Err fault.number) × (fault.page ≡ id)) }
+    ensures node { MatchResult result (λ node. node_at file.now meta.now id ≡ Ok (shown_node node))
+        (λ fault. (node_at file.now meta.now id ≡ Err fault.number) × (fault.page ≡ id)) }
     ensures page { IfOk result (λ node. page_at file.now meta.now id ≡ Some (shown node.page)) }
     ensures within { IfOk result (λ node. IsInFile file.now meta.now id (shown node.page)) }
 {

@@ -1,7 +1,9 @@
-//! The search of all ways, in order, for the first finding.
+//! The search of all ways, in order, for the first finding. It isn't recursive: what is nested deep
+//! needs memory for the spots that are pending, but no stack.
 ghost use Rattle.std.specs.Prelude.{◌≡◌, ℕ, ◌<◌, ◌≤◌, ◌+◌, ◌*◌, ◌++◌, ◌∷◌, ◌↔◌, [], IfErr, IfOk, OnOk, Ok, length, vec_len};
-ghost use Rattle.bolt_check.specs.Findings.{IsClean, IsCovered, IsFirst, IsMetaPage};
+ghost use Rattle.bolt_check.specs.Findings.{IsClean, IsCovered, IsMetaPage};
 ghost use Rattle.bolt_check.specs.Nodes.{node_at};
+ghost use Rattle.bolt_check.specs.Private.Carries.{Carries};
 ghost use Rattle.bolt_check.specs.Private.Listings.{IsUnlisted};
 ghost use Rattle.bolt_check.specs.Private.Pending.{forest, kids, spots_of};
 ghost use Rattle.bolt_check.specs.ShownSpots.{page_spot, spot_at};
@@ -12,7 +14,6 @@ ghost use Rattle.bolt_check.specs.TableLengths.{table_length};
 ghost use Rattle.bolt_check.specs.Private.Uses.{HasUse, IsMetaUse, IsNoted};
 ghost use Rattle.bolt_check.specs.Ways.{At_page, reached, root_spot};
 ghost use Rattle.bolt_check.specs.declared.table.PageUse.{PageUse};
-ghost use Rattle.bolt_check.specs.declared.finding.Finding.{Finding};
 
 use crate::fault::CheckFault;
 use crate::spot::{PageSpot, Spot};
@@ -70,15 +71,11 @@ fn step<'a>(
     ensures unlisted { OnOk result (IsUnlisted table.old → IsUnlisted table.new) }
     ensures length { OnOk result (length table.new ≡ length table.old) }
     ensures less { OnOk result (unclaimed table.new * 65536 + vec_len pending.new ≤ unclaimed table.old * 65536 + vec_len pending.old) }
-    ensures clean { OnOk result (IsClean (node_at file.now meta.now) (forest (node_at file.now meta.now) (spots_of pending.new.items)) (IsClaimed table.new)
-        → IsClean (node_at file.now meta.now) (forest (node_at file.now meta.now) (spot_at spot.entry ∷ spots_of pending.old.items)) (IsClaimed table.old)) }
-    ensures first { OnOk result ((x : Finding) → IsFirst (node_at file.now meta.now) (forest (node_at file.now meta.now) (spots_of pending.new.items)) (IsClaimed table.new) x
-        → IsFirst (node_at file.now meta.now) (forest (node_at file.now meta.now) (spot_at spot.entry ∷ spots_of pending.old.items)) (IsClaimed table.old) x) }
-    ensures covered { OnOk result ((n : ℕ) → IsCovered (node_at file.now meta.now) (forest (node_at file.now meta.now) (spots_of pending.new.items)) (IsClaimed table.new) n
-        ↔ IsCovered (node_at file.now meta.now) (forest (node_at file.now meta.now) (spot_at spot.entry ∷ spots_of pending.old.items)) (IsClaimed table.old) n) }
-    ensures uses { OnOk result ((n : ℕ) (u : PageUse) → HasUse (node_at file.now meta.now) (forest (node_at file.now meta.now) (spots_of pending.new.items)) (IsNoted table.new) n u
-        → HasUse (node_at file.now meta.now) (forest (node_at file.now meta.now) (spot_at spot.entry ∷ spots_of pending.old.items)) (IsNoted table.old) n u) }
-    ensures reported { IfErr result (IsSearchFault (node_at file.now meta.now) (forest (node_at file.now meta.now) (spot_at spot.entry ∷ spots_of pending.old.items)) (IsClaimed table.old)) }
+    ensures carried { OnOk result (Carries (node_at file.now meta.now)
+        (forest (node_at file.now meta.now) (spot_at spot.entry ∷ spots_of pending.old.items)) (IsClaimed table.old) (IsNoted table.old)
+        (forest (node_at file.now meta.now) (spots_of pending.new.items)) (IsClaimed table.new) (IsNoted table.new)) }
+    ensures reported { IfErr result (IsSearchFault (node_at file.now meta.now)
+        (forest (node_at file.now meta.now) (spot_at spot.entry ∷ spots_of pending.old.items)) (IsClaimed table.old)) }
 {
     match spot {
         Spot::Page(spot) => {
@@ -98,8 +95,10 @@ fn step<'a>(
 pub(crate) fn search(alloc: Global, file: &[u8], meta: &Meta) -> Result<Vec<PageUse>, CheckFault>
     requires { 0 < meta.now.page_size }
     ensures clean { OnOk result (IsClean (node_at file.now meta.now) (reached (node_at file.now meta.now) meta.now.root) IsMetaPage) }
-    ensures covered { IfOk result (λ table. (n : ℕ) → IsClaimed table.items n ↔ IsCovered (node_at file.now meta.now) (reached (node_at file.now meta.now) meta.now.root) IsMetaPage n) }
-    ensures uses { IfOk result (λ table. (n : ℕ) (u : PageUse) → IsNoted table.items n u → HasUse (node_at file.now meta.now) (reached (node_at file.now meta.now) meta.now.root) IsMetaUse n u) }
+    ensures covered { IfOk result (λ table. (n : ℕ) → IsClaimed table.items n
+        ↔ IsCovered (node_at file.now meta.now) (reached (node_at file.now meta.now) meta.now.root) IsMetaPage n) }
+    ensures uses { IfOk result (λ table. (n : ℕ) (u : PageUse) → IsNoted table.items n u
+        → HasUse (node_at file.now meta.now) (reached (node_at file.now meta.now) meta.now.root) IsMetaUse n u) }
     ensures room { IfOk result (λ table. HasRoom file.now meta.now table.items) }
     ensures unlisted { IfOk result (λ table. IsUnlisted table.items) }
     ensures length { IfOk result (λ table. length table.items ≡ table_length file.now meta.now) }

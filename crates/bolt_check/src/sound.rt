@@ -39,7 +39,7 @@ pub fn check<'a>(alloc: Global, file: &'a [u8]) -> Result<Checked<'a>, CheckFaul
 /// # Errors
 ///
 /// Those of `check`.
-#[tactic(auto, unfolding(crate::specs::RoledFiles::roles_checked))]
+#[tactic(auto, using(crate::proofs::MarkLemmas::table_wide), unfolding(crate::specs::RoledFiles::roles_checked, crate::specs::CheckedFiles::bytes_of, crate::specs::CheckedFiles::has_accounts, crate::specs::CheckedFiles::meta_of))]
 pub fn check_roles<'a>(alloc: Global, file: &'a [u8]) -> Result<Roles<'a>, CheckFault>
     ensures bytes { IfOk result (λ roles. bytes_of (roles_checked roles) ≡ file.now) }
     ensures meta { IfOk result (λ roles. (slot : _) × IsChosen file.now slot (meta_of (roles_checked roles))) }
@@ -86,6 +86,7 @@ pub fn check_slot<'a>(alloc: Global, file: &'a [u8], slot: Slot) -> Result<Check
 ///
 /// `Structure` with the first finding of the trees; `Memory` if memory runs out. Never `Open` or
 /// `Accounts`.
+#[tactic(auto, using(crate::proofs::Shaping::shape_of), unfolding(crate::specs::CheckedFiles::bytes_of, crate::specs::CheckedFiles::has_accounts, crate::specs::CheckedFiles::meta_of))]
 pub fn check_under<'a>(alloc: Global, file: &'a [u8], meta: Meta) -> Result<Checked<'a>, CheckFault>
     requires { 0 < meta.page_size }
     ensures bytes { IfOk result (λ checked. bytes_of checked ≡ file.now) }

@@ -1,5 +1,6 @@
 //! The table of pages: one byte for each whole page that lies in the file and below the high-water
-//! mark. The meta pages are claimed, whether the table has them or not.
+//! mark. So it doesn't grow with the mark, which may be far past the end of the file. The meta pages
+//! are claimed, whether the table has them or not.
 ghost use Rattle.std.specs.Prelude.{◌≡◌, ◌==◌, ℕ, not, true, ◌<◌, ◌≤◌, ◌+◌, ◌*◌, ◌↔◌, length, IfOk, IfSome, MatchOption};
 ghost use Rattle.bolt_check.specs.Findings.{IsMetaPage};
 ghost use Rattle.bolt_check.specs.Private.Listings.{IsUnlisted};

@@ -36,6 +36,7 @@ impl<'a> TreePage<'a> {
     }
 
     /// The key of element `i`.
+    #[tactic(auto, using(crate::proofs::NodeLemmas::entry_rules, crate::proofs::WayFacts::key_at))]
     pub fn key(&self, i: u16) -> &'a [u8]
         requires { i < length (shown_node self.now).entries }
         ensures { slice_get (keys_of (shown_node self.now).entries) i ≡ Some result.now }
@@ -49,6 +50,7 @@ impl<'a> TreePage<'a> {
 
     /// What element `i` leads to from a spot at this page: a child of a branch, or a bucket on a
     /// leaf. An element that is a value leads nowhere.
+    #[tactic(auto, using(crate::proofs::NodeLemmas::entry_rules))]
     pub fn spot(&self, i: u16, spot: &PageSpot<'a>) -> Option<Spot<'a>>
         requires below { i < length (shown_node self.now).entries }
         requires shallow { spot.now.depth ≤ 64 }
@@ -63,6 +65,7 @@ impl<'a> TreePage<'a> {
     }
 
     /// The spot at the child of branch element `i`.
+    #[tactic(auto, using(crate::proofs::NodeLemmas::entry_rules))]
     fn child(&self, i: u16, spot: &PageSpot<'a>) -> PageSpot<'a>
         requires branch { self.now.is_leaf ≡ false }
         requires below { i < length (shown_node self.now).entries }
@@ -79,6 +82,7 @@ impl<'a> TreePage<'a> {
     }
 
     /// The upper bound of the child of element `i`: the next key, or the page's own bound.
+    #[tactic(auto, using(crate::proofs::NodeLemmas::entry_rules))]
     fn upper(&self, i: u16, upper: Option<&'a [u8]>) -> Option<&'a [u8]>
         requires { i < length (shown_node self.now).entries }
         ensures { bound_of result ≡ upper_from (slice_get (shown_node self.now).entries (suc i)) (bound_of upper.entry) }

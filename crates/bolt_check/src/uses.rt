@@ -25,7 +25,8 @@ use std::alloc::Global;
 fn search_sound(alloc: Global, file: &[u8], meta: &Meta) -> Result<Vec<PageUse>, NoMemory>
     requires { ∥ IsSound file.now meta.now true ∥₁ }
     ensures claimed { IfOk result (λ table. (n : ℕ) → IsClaimed table.items n ↔ IsUsed file.now meta.now n) }
-    ensures uses { IfOk result (λ table. (n : ℕ) (u : _) → IsNoted table.items n u → HasUse (node_at file.now meta.now) (reached (node_at file.now meta.now) meta.now.root) IsMetaUse n u) }
+    ensures uses { IfOk result (λ table. (n : ℕ) (u : _) → IsNoted table.items n u
+        → HasUse (node_at file.now meta.now) (reached (node_at file.now meta.now) meta.now.root) IsMetaUse n u) }
     ensures room { IfOk result (λ table. HasRoom file.now meta.now table.items) }
 {
     match search(alloc, file, meta) {
@@ -38,6 +39,7 @@ fn search_sound(alloc: Global, file: &[u8], meta: &Meta) -> Result<Vec<PageUse>,
 }
 
 /// Claims the freelist's span. No page of it is claimed.
+#[tactic(auto, using(crate::proofs::UsesClaimed::uses_claimed, crate::proofs::UsesClaimed::uses_unwritten))]
 fn claim_written(file: &[u8], meta: &Meta, table: &mut [PageUse])
     requires sound { ∥ IsSound file.now meta.now true ∥₁ }
     requires claimed { (n : ℕ) → IsClaimed table.old n ↔ IsUsed file.now meta.now n }
@@ -69,7 +71,7 @@ fn find_uses(alloc: Global, file: &[u8], meta: &Meta) -> Result<Vec<PageUse>, No
 ///
 /// `NoMemory` if memory runs out. It needs a byte for each whole page that lies in the file and
 /// below the high-water mark, and room for the ways that are still to be followed.
-#[tactic(auto, unfolding(crate::specs::RoledFiles::roles_checked, crate::specs::CheckedFiles::has_accounts))]
+#[tactic(auto, using(crate::proofs::RoleFacts::sound_accounts), unfolding(crate::specs::RoledFiles::roles_checked, crate::specs::CheckedFiles::bytes_of, crate::specs::CheckedFiles::has_accounts, crate::specs::CheckedFiles::meta_of))]
 pub fn roles<'a>(alloc: Global, checked: Checked<'a>) -> Result<Roles<'a>, NoMemory>
     requires { has_accounts checked ≡ true }
     ensures { IfOk result (λ roles. roles_checked roles ≡ checked.entry) }

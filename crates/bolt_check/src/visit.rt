@@ -10,7 +10,7 @@ ghost use Rattle.bolt_check.specs.Private.Pending.{Claims};
 ghost use Rattle.bolt_check.specs.ShownSpots.{page_spot};
 ghost use Rattle.bolt_check.specs.ShownNodes.{shown_node};
 ghost use Rattle.bolt_check.specs.Private.Tables.{HasRoom, IsClaimed, IsUnclaimed, unclaimed, use_at};
-ghost use Rattle.bolt_check.specs.Private.Uses.{Notes, use_of};
+ghost use Rattle.bolt_check.specs.Private.Uses.{use_of};
 ghost use Rattle.bolt_check.specs.Ways.{At_page};
 
 use crate::finding::Finding;
@@ -22,6 +22,7 @@ use crate::tree_page::TreePage;
 use bolt_format::Meta;
 
 /// Tests a page, and claims its span if the tests find nothing.
+#[tactic(auto, using(crate::proofs::VisitLemmas::visit_rules, crate::proofs::Spans::outside_span))]
 pub(crate) fn visit<'a>(
     file: &'a [u8],
     meta: &Meta,
@@ -35,7 +36,6 @@ pub(crate) fn visit<'a>(
     ensures node { IfOk result (λ node. node_at file.now meta.now spot.now.number ≡ Ok (shown_node node)) }
     ensures passes { OnOk result (PagePasses (node_at file.now meta.now) (IsClaimed table.old) (page_spot spot.now)) }
     ensures claims { OnOk result (Claims (node_at file.now meta.now) (At_page (page_spot spot.now)) table.old table.new) }
-    ensures notes { OnOk result (Notes (node_at file.now meta.now) (At_page (page_spot spot.now)) table.old table.new) }
     ensures outside { OnOk result ((n : ℕ) → IsUnclaimed table.new n → use_at table.new n ≡ use_at table.old n) }
     ensures fewer { OnOk result (unclaimed table.new < unclaimed table.old) }
     ensures unlisted { OnOk result (IsUnlisted table.old → IsUnlisted table.new) }

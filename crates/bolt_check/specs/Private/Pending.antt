@@ -1,10 +1,12 @@
 -- The spots that are still to be visited, as ways: the first number of a way picks the spot.
-use Rattle.std.specs.Prelude.{ℕ, ◌⊎◌, List, [], ◌∷◌, map, reverse, Option, Some, None, slice_get}
+use Rattle.std.specs.Prelude.{List, [], ◌∷◌, map, reverse, Option, Some, None, slice_get}
 use Rattle.bolt_check.specs.EntrySpots.{places}
 use Rattle.bolt_check.specs.Nodes.{Node, Nodes}
-use Rattle.bolt_check.specs.Ways.{PageSpot, Reach, SpanHas, Spot, follow}
+use Rattle.bolt_check.specs.Ways.{PageSpot, Reach, Spot, follow}
 use Rattle.bolt_check.specs.ShownSpots.{spot_at}
+use Rattle.bolt_check.specs.Private.Carries.{Takes}
 use Rattle.bolt_check.specs.Private.Tables.{IsClaimed}
+use Rattle.bolt_check.specs.Private.Uses.{IsNoted}
 use Rattle.bolt_check.specs.declared.table.PageUse.{PageUse}
 use Rattle.bolt_check.specs.declared.spot.Spot.{Spot as CodeSpot}
 
@@ -26,7 +28,5 @@ unfoldable pub kids : Node → PageSpot → List Spot
 kids node s = somes (places node.is_leaf s node.entries)
 
 -- the table after a visit: what was claimed before, and the spot's span
-pub record Claims (nodes : Nodes) (s : Spot) (old new : List PageUse) : Type 0 where
-  pub split : (n : ℕ) → IsClaimed new n → IsClaimed old n ⊎ SpanHas nodes (Some s) n
-  pub kept : (n : ℕ) → IsClaimed old n → IsClaimed new n
-  pub span : (n : ℕ) → SpanHas nodes (Some s) n → IsClaimed new n
+abbrev pub Claims : Nodes → Spot → List PageUse → List PageUse → Type 0
+Claims nodes s old new = Takes nodes (Some s) (IsClaimed old) (IsClaimed new) (IsNoted old) (IsNoted new)

@@ -35,7 +35,3 @@ IsMetaUse n page_use = (n < 2) × (page_use ≡ Used)
 -- page n was used for this from the start, or is by a way
 abbrev pub HasUse : Nodes → Reach → (ℕ → PageUse → Type 0) → ℕ → PageUse → Type 0
 HasUse nodes reach start n page_use = start n page_use ⊎ ((way : List ℕ) × UseOf nodes (reach way) n page_use)
-
--- what a visit of this spot notes
-pub record Notes (nodes : Nodes) (s : Spot) (old new : List PageUse) : Type 0 where
-  pub split : (n : ℕ) (page_use : PageUse) → IsNoted new n page_use → IsNoted old n page_use ⊎ UseOf nodes (Some s) n page_use

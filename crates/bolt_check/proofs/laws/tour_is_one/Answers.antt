@@ -2,4 +2,4 @@ use Rattle.bolt_check.proofs.TourLemmas.{one_tour}
 use Rattle.bolt_check.proofs.laws.tour_is_one.Goals as goal
 
 pub returns : goal.returns
-returns c = λ reach a b h k. one_tour reach a b h k
+returns c = one_tour

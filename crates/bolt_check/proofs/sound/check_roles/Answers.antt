@@ -1,62 +1,39 @@
-use Rattle.std.proofs.Common.{◌≡◌, ◌≢◌, ◌∙◌, sym, [], drop, length, ap, arith, refl}
+use Rattle.std.proofs.Common.{◌≡◌, ◌≢◌, ◌∙◌, sym, [], arith}
 use Rattle.std.proofs.lemmas.Grind.{common_steps, merely}
 use Rattle.bolt_check.specs.RoledFiles.{roles_checked}
-use Rattle.bolt_check.specs.CheckedFiles.{bytes_of, has_accounts, meta_of}
+use Rattle.bolt_check.specs.CheckedFiles.{meta_of}
 use Rattle.bolt_check.specs.Nodes.{node_at}
-use Rattle.bolt_check.proofs.MarkLemmas.{table_wide}
 use Rattle.bolt_check.proofs.RoleLemmas.{uses_with}
 use Rattle.bolt_check.proofs.Shaping.{shape_of}
-use Rattle.bolt_check.proofs.SoundLemmas.{no_items, some_items, sound_of, findings_of_file, tested_of, wrong_of}
-use Rattle.bolt_check.proofs.Visited.{written}
+use Rattle.bolt_check.proofs.SoundLemmas.{right_of, some_items, sound_of, findings_of_file, tested_of, wrong_of}
+use Rattle.bolt_check.proofs.Visited.{stored}
 use Rattle.bolt_check.proofs.sound.check_roles.Goals as goal
-
-pub test_accounts-requires-clause-below : goal.test_accounts-requires-clause-below
-test_accounts-requires-clause-below c =
-    let same : length c.deref_mut.result.now ≡ length c.in_ok-table.table.items = ap length c.deref_mut.ensures.value in
-    omega (arith, same, c.in_ok-table.ensures.length)
-
-pub test_accounts-requires-clause-wide : goal.test_accounts-requires-clause-wide
-test_accounts-requires-clause-wide c =
-    let same : length c.deref_mut.result.now ≡ length c.in_ok-table.table.items = ap length c.deref_mut.ensures.value in
-    let wide = table_wide c.args.file.now c.in_ok-meta.meta c.in_ok-table.table.items c.in_ok-table.ensures.clean c.in_ok-table.ensures.room in
-    omega (arith, same, wide)
 
 pub invariant_of-checked-clause-sound : goal.invariant_of-checked-clause-sound
 invariant_of-checked-clause-sound c =
     let right = rw c.deref_mut.ensures.value at c.in_ok-findings.ensures.right in
-    let empty = no_items c.in_ok-findings.findings.items (grind (arith, common_steps, c.is_empty.ensures, c.if-not-is_empty.false)) in
-    merely (tested_of c.args.file.now c.in_ok-meta.field-0-0 c.in_ok-meta.meta c.in_ok-table.table.items c.in_ok-meta.ensures.chosen c.in_ok-table.ensures.clean c.in_ok-table.ensures.covered (right empty))
+    merely (tested_of c.args.file.now c.in_ok-meta.field-0-0 c.in_ok-meta.meta c.in_ok-table.table.items c.in_ok-meta.ensures.chosen
+    c.in_ok-table.ensures.clean c.in_ok-table.ensures.covered (right (grind (arith, common_steps, c.is_empty.ensures, c.if-not-is_empty.false))))
 
 pub invariant_of-result : goal.invariant_of-result
 invariant_of-result c =
     let table = c.in_ok-table.table in
-    let now : length c.deref_mut.result.now ≡ length table.items = ap length c.deref_mut.ensures.value in
-    let len : length c.test_accounts.new.table ≡ table.len = grind (arith, common_steps, now, c.test_accounts.auto.table) in
-    let kept = written table.len c.test_accounts.new.table (drop (length c.test_accounts.new.table) table.items) len in
+    let kept = stored table c.deref_mut.result.now c.test_accounts.new.table c.deref_mut.ensures.value c.test_accounts.auto.table in
     let right = rw c.deref_mut.ensures.value at c.in_ok-findings.ensures.right in
     let claims = rw c.deref_mut.ensures.value at c.in_ok-findings.ensures.uses in
-    let empty = no_items c.in_ok-findings.findings.items (grind (arith, common_steps, c.is_empty.ensures, c.if-not-is_empty.false)) in
-    let sound = sound_of c.args.file.now c.in_ok-meta.field-0-0 c.in_ok-meta.meta table.items c.in_ok-meta.ensures.chosen c.in_ok-table.ensures.clean c.in_ok-table.ensures.covered (right empty) in
-    record { uses = rw kept (merely (uses_with c.args.file.now c.in_ok-meta.meta table.items c.test_accounts.new.table (sound.right refl) c.in_ok-table.ensures.covered c.in_ok-table.ensures.uses (claims empty))) }
-
-pub returns-clause-bytes : goal.returns-clause-bytes
-unfolding bytes_of roles_checked
-returns-clause-bytes c = refl
-
-pub returns-clause-meta : goal.returns-clause-meta
-unfolding meta_of roles_checked
-returns-clause-meta c = (c.in_ok-meta.field-0-0, c.in_ok-meta.ensures.chosen)
+    let empty : c.in_ok-findings.findings.items ≡ [] = grind (arith, common_steps, c.is_empty.ensures, c.if-not-is_empty.false) in
+    let accounts = right_of c.args.file.now c.in_ok-meta.meta table.items c.in_ok-table.ensures.covered (right empty) in
+    record {
+      uses = rw kept (merely (uses_with c.args.file.now c.in_ok-meta.meta table.items c.test_accounts.new.table accounts
+          c.in_ok-table.ensures.covered c.in_ok-table.ensures.uses (claims empty)));
+    }
 
 pub returns-clause-sound : goal.returns-clause-sound
 unfolding meta_of roles_checked
 returns-clause-sound c =
     let right = rw c.deref_mut.ensures.value at c.in_ok-findings.ensures.right in
-    let empty = no_items c.in_ok-findings.findings.items (grind (arith, common_steps, c.is_empty.ensures, c.if-not-is_empty.false)) in
-    sound_of c.args.file.now c.in_ok-meta.field-0-0 c.in_ok-meta.meta c.in_ok-table.table.items c.in_ok-meta.ensures.chosen c.in_ok-table.ensures.clean c.in_ok-table.ensures.covered (right empty)
-
-pub returns-clause-accounts : goal.returns-clause-accounts
-unfolding has_accounts roles_checked
-returns-clause-accounts c = refl
+    sound_of c.args.file.now c.in_ok-meta.field-0-0 c.in_ok-meta.meta c.in_ok-table.table.items c.in_ok-meta.ensures.chosen
+    c.in_ok-table.ensures.clean c.in_ok-table.ensures.covered (right (grind (arith, common_steps, c.is_empty.ensures, c.if-not-is_empty.false)))
 
 pub returns-then-not-is_empty-clause-refused : goal.returns-then-not-is_empty-clause-refused
 returns-then-not-is_empty-clause-refused c =

@@ -1,6 +1,5 @@
 use Rattle.std.proofs.Math.Logic.{∥∥₁_elim}
 use Rattle.std.proofs.Props.{props}
-use Rattle.bolt_check.specs.Nodes.{node_at}
 use Rattle.bolt_check.proofs.Lawful.{sound_reports_nothing}
 use Rattle.bolt_check.proofs.RoleLemmas.{page_positive}
 use Rattle.bolt_check.proofs.uses.search_sound.Goals as goal
@@ -11,4 +10,4 @@ search-requires c = ∥∥₁_elim c.requires (Prim.hlevel props) (λ sound. pag
 pub unreachable-requires : goal.unreachable-requires
 unreachable-requires c =
     let first = rw c.in-Err-Structure.field-0-is at c.in-Err-Structure.ensures.first in
-    ∥∥₁_elim c.requires (Prim.hlevel props) (λ sound. sound_reports_nothing (node_at c.args.file.now c.args.meta.now) c.args.meta.now.root c.in-Err-Structure.field-0-0 sound.trees first)
+    ∥∥₁_elim c.requires (Prim.hlevel props) (λ sound. sound_reports_nothing c.args.file.now c.args.meta.now c.in-Err-Structure.field-0-0 sound.trees first)

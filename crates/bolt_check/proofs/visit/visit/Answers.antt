@@ -5,18 +5,10 @@ use Rattle.bolt_check.specs.ShownSpots.{page_spot}
 use Rattle.bolt_check.specs.Private.Tables.{IsClaimed}
 use Rattle.bolt_check.specs.ShownNodes.{shown_node}
 use Rattle.bolt_check.proofs.Lawful.{early_passes}
-use Rattle.bolt_check.proofs.Visited.{claims_made, not_both, outside_span, passed_on}
-use Rattle.bolt_check.proofs.UseLemmas.{notes_made}
-use Rattle.bolt_check.proofs.VisitLemmas.{in_room, leaf-is, overflow-is}
+use Rattle.bolt_check.proofs.Spans.{not_both, span_claimed}
+use Rattle.bolt_check.proofs.Visited.{passed_on}
+use Rattle.bolt_check.proofs.VisitLemmas.{leaf-is, overflow-is}
 use Rattle.bolt_check.proofs.visit.visit.Goals as goal
-
-pub first_claimed-requires-clause-within : goal.first_claimed-requires-clause-within
-first_claimed-requires-clause-within c =
-    omega (arith, in_room c.args.file.now c.args.meta.now c.args.spot.now.number _ c.args.table.now c.in_ok-node.ensures.within c.requires, c.overflow.ensures)
-
-pub claim-requires-clause-within : goal.claim-requires-clause-within
-claim-requires-clause-within c =
-    omega (arith, in_room c.args.file.now c.args.meta.now c.args.spot.now.number _ c.args.table.now c.in_ok-node.ensures.within c.requires, c.overflow.ensures)
 
 pub returns-in-Some-clause-found : goal.returns-in-Some-clause-found
 returns-in-Some-clause-found c =
@@ -51,15 +43,6 @@ pub returns-clause-claims : goal.returns-clause-claims
 returns-clause-claims c =
     let node = c.in_ok-node.node in
     let last = overflow-is node _ c.overflow.ensures in
-    claims_made (node_at c.args.file.now c.args.meta.now) (page_spot c.args.spot.now) (shown_node node) c.args.table.now c.claim.new.table c.in_ok-node.ensures.node
-    (λ k a b. c.claim.ensures.span k a (omega (arith, b, last))) c.claim.ensures.below (λ k h. c.claim.ensures.above k (omega (arith, h, last)))
-
-pub returns-clause-notes : goal.returns-clause-notes
-returns-clause-notes c =
-    let node = c.in_ok-node.node in
-    let last = overflow-is node _ c.overflow.ensures in
-    notes_made (node_at c.args.file.now c.args.meta.now) (page_spot c.args.spot.now) (shown_node node) c.args.table.now c.claim.new.table _ (omega (arith, last)) c.in_ok-node.ensures.node
-    (c.claim.ensures.first ∙ c.first_use.ensures ∙ leaf-is node) c.claim.ensures.later c.claim.ensures.below c.claim.ensures.above
-
-pub returns-clause-outside : goal.returns-clause-outside
-returns-clause-outside c = outside_span c.args.table.now c.claim.new.table _ _ c.claim.ensures.span c.claim.ensures.below c.claim.ensures.above
+    span_claimed (node_at c.args.file.now c.args.meta.now) (page_spot c.args.spot.now) (shown_node node) c.args.table.now c.claim.new.table _
+    (omega (arith, last)) c.in_ok-node.ensures.node
+    (c.claim.ensures.first ∙ c.first_use.ensures ∙ leaf-is node) c.claim.ensures.later c.claim.ensures.span c.claim.ensures.below c.claim.ensures.above

@@ -1,12 +1,9 @@
-use Rattle.std.proofs.Common.{◌∙◌, arith, sym}
+use Rattle.std.proofs.Common.{◌∙◌, sym}
 use Rattle.bolt_format.specs.ElementPlaces.{leaf_view}
 use Rattle.bolt_check.specs.Nodes.{leaf_entry}
 use Rattle.bolt_check.specs.ShownSpots.{page_spot}
-use Rattle.bolt_check.proofs.NodeLemmas.{leaf-entry, length-leaf, step-leaf}
+use Rattle.bolt_check.proofs.NodeLemmas.{leaf-entry, step-leaf}
 use Rattle.bolt_check.proofs.tree_page.TreePage.spot.Goals as goal
-
-pub leaf-requires-clause-below : goal.leaf-requires-clause-below
-leaf-requires-clause-below c = omega (arith, length-leaf c.args.self.now c.if-self.true, c.requires.below)
 
 pub returns-then-self-clause-leads : goal.returns-then-self-clause-leads
 returns-then-self-clause-leads c =
