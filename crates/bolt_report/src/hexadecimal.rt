@@ -15,22 +15,22 @@ const PART_LEN: usize = 256;
 pub(crate) fn put_hex<S: Sink>(bytes: &[u8], sink: &mut S) -> Result<(), SinkFault>
     ensures { Wrote S.Sink sink.old sink.new (encode_lower bytes.now) (ending result) }
 {
+    let mut digits = [0; 2 * PART_LEN];
     let mut rest = bytes;
     while !rest.is_empty() {
         let part_len = rest.len().min(PART_LEN);
-        put_hex_part(&rest[..part_len], sink)?;
+        put_hex_part(&rest[..part_len], &mut digits, sink)?;
         rest = &rest[part_len..];
     }
     Ok(())
 }
 
-/// Writes a few bytes in hexadecimal.
-fn put_hex_part<S: Sink>(part: &[u8], sink: &mut S) -> Result<(), SinkFault>
-    requires { length part.now ≤ PART_LEN }
+/// Writes a few bytes in hexadecimal, through a buffer.
+fn put_hex_part<S: Sink>(part: &[u8], buffer: &mut [u8], sink: &mut S) -> Result<(), SinkFault>
+    requires { 2 * length part.now ≤ length buffer.old }
     ensures { Wrote S.Sink sink.old sink.new (encode_lower part.now) (ending result) }
 {
-    let mut digits = [0; 2 * PART_LEN];
-    put(write_digits(part, &mut digits), sink)
+    put(write_digits(part, buffer), sink)
 }
 
 /// The digits of a few bytes, written to the front of a buffer.
