@@ -9,8 +9,8 @@ ghost use Rattle.bolt_report.specs.JsonLines.{end_json, member_json, parts_json}
 ghost use Rattle.bolt_tree.specs.Paths.{path_of};
 ghost use Rattle.bolt_tree.specs.ShownEntries.{item_view};
 
+use crate::hexadecimal::encode_digits;
 use bolt_tree::{Item, NoMemory};
-use hex::encode_to_slice;
 use json::Writer;
 use std::str;
 
@@ -48,7 +48,7 @@ fn hex_digits<'a>(bytes: &[u8], buffer: &'a mut Vec<u8>) -> Result<&'a str, NoMe
 {
     buffer.resize(2 * bytes.len(), 0)?;
     let digits = buffer.as_mut_slice();
-    encode_to_slice(bytes, digits).unwrap();
+    encode_digits(bytes, digits);
     Ok(str::from_utf8(digits).unwrap())
 }
 
