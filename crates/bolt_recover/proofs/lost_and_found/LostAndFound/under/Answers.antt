@@ -1,6 +1,5 @@
 -- Sound trees lose nothing. The others are searched.
 use Rattle.std.proofs.lemmas.Grind.{merely}
-use Rattle.bolt_check.specs.Nodes.{node_at}
 use Rattle.bolt_check.proofs.Lawful.{sound_reports_nothing}
 use Rattle.bolt_recover.specs.LostAndFound.{all_lost}
 use Rattle.bolt_recover.proofs.FoundAll.{if_ok}
@@ -28,7 +27,7 @@ returns-in-Ok-clause-found c =
 
 pub of_damaged-requires-clause-damaged : goal.of_damaged-requires-clause-damaged
 of_damaged-requires-clause-damaged c = λ trees.
-    sound_reports_nothing (node_at c.args.file.now c.args.meta) c.args.meta.root c.in-Err-Structure.field-0-0 trees (rw c.in-Err-Structure.field-0-is at c.in-Err-Structure.ensures.refused)
+    sound_reports_nothing c.args.file.now c.args.meta c.in-Err-Structure.field-0-0 trees (rw c.in-Err-Structure.field-0-is at c.in-Err-Structure.ensures.refused)
 
 pub returns-in-Err-Structure-clause-lost : goal.returns-in-Err-Structure-clause-lost
 unfolding all_lost
