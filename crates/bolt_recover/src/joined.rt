@@ -233,6 +233,7 @@ impl<'a> Members<'a> for Joined<'a> {
 
     ghost ends_as = { λ joined end. Unit {0} };
 
+    #[inline(always)]
     fn next(&mut self) -> Result<Option<Item<'a>>, NoMemory> {
         match self.stage {
             Stage::Before => self.next_before(),
@@ -241,6 +242,7 @@ impl<'a> Members<'a> for Joined<'a> {
         }
     }
 
+    #[inline(always)]
     fn path(&self) -> &[&'a [u8]] {
         match self.stage {
             Stage::Inside => self.bucket.path(),

@@ -38,6 +38,7 @@ impl<'a> Kept<'a> {
     ghost use Rattle.bolt_recover.specs.Private.KeptMembers.{kept_file, kept_left, kept_meta, kept_path, kept_work};
 
     /// Returns the first member that is left, or `None` if nothing is left.
+    #[inline(always)]
     pub fn next(&mut self) -> Result<Option<Item<'a>>, NoMemory>
         ensures file { kept_file self.new ≡ kept_file self.old }
         ensures meta { kept_meta self.new ≡ kept_meta self.old }
@@ -54,6 +55,7 @@ impl<'a> Kept<'a> {
     }
 
     /// The path of the last member that was returned.
+    #[inline(always)]
     pub fn path(&self) -> &[&'a [u8]]
         ensures { path_of result.now ≡ kept_path self.now }
     {
