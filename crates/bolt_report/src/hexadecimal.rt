@@ -4,22 +4,37 @@ ghost use Rattle.hex.specs.Hex.{encode_lower, lower_digits};
 ghost use Rattle.bolt_format.specs.Endings.{ending};
 ghost use Rattle.bolt_format.specs.Wrote.{Wrote};
 
-use crate::puts::put;
+use crate::pieces::put;
 use bolt_format::{Sink, SinkFault};
 
 /// The number of bytes that are encoded at a time.
 const PART_LEN: usize = 256;
 
+/// The same of a long text, where fewer pieces save more than a larger buffer costs.
+const LONG_PART_LEN: usize = 4096;
+
 /// Writes bytes in hexadecimal, part by part.
-#[tactic(auto, using(crate::proofs::HexStrings::digits))]
 pub(crate) fn put_hex<S: Sink>(bytes: &[u8], sink: &mut S) -> Result<(), SinkFault>
     ensures { Wrote S.Sink sink.old sink.new (encode_lower bytes.now) (ending result) }
 {
-    let mut digits = [0; 2 * PART_LEN];
+    if bytes.len() < LONG_PART_LEN {
+        put_hex_parts(bytes, &mut [0; 2 * PART_LEN], sink)
+    } else {
+        put_hex_parts(bytes, &mut [0; 2 * LONG_PART_LEN], sink)
+    }
+}
+
+/// Writes bytes in hexadecimal, as many at a time as the buffer has room for.
+#[tactic(auto, using(crate::proofs::HexStrings::digits))]
+fn put_hex_parts<S: Sink>(bytes: &[u8], buffer: &mut [u8], sink: &mut S) -> Result<(), SinkFault>
+    requires { 2 ≤ length buffer.old }
+    ensures { Wrote S.Sink sink.old sink.new (encode_lower bytes.now) (ending result) }
+{
+    let most = buffer.len() / 2;
     let mut rest = bytes;
     while !rest.is_empty() {
-        let part_len = rest.len().min(PART_LEN);
-        put_hex_part(&rest[..part_len], &mut digits, sink)?;
+        let part_len = rest.len().min(most);
+        put_hex_part(&rest[..part_len], buffer, sink)?;
         rest = &rest[part_len..];
     }
     Ok(())

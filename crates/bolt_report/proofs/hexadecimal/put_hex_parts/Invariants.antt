@@ -1,7 +1,7 @@
 use Rattle.std.proofs.Common.{length}
 use Rattle.hex.specs.Hex.{encode_lower}
 use Rattle.bolt_format.proofs.WroteFronts.{WroteFront}
-use Rattle.bolt_report.proofs.hexadecimal.put_hex.Given as goal
+use Rattle.bolt_report.proofs.hexadecimal.put_hex_parts.Given as goal
 
 -- the digits of the rest are still to be written
 abbrev pub invariant-loop-rest : goal.invariant-loop-rest

@@ -3,7 +3,7 @@ use Rattle.std.proofs.lemmas.Grind.{common_steps}
 use Rattle.bolt_format.proofs.WroteFronts.{front_whole}
 use Rattle.bolt_report.proofs.HexStrings.{next_digits, no_digits}
 use Rattle.bolt_report.proofs.ReportLemmas.{front_broken}
-use Rattle.bolt_report.proofs.hexadecimal.put_hex.Goals as goal
+use Rattle.bolt_report.proofs.hexadecimal.put_hex_parts.Goals as goal
 
 pub returns-in_err-put_hex_part : goal.returns-in_err-put_hex_part
 returns-in_err-put_hex_part g c = front_broken _ _ c.loop-rest.invariant c.in_err-put_hex_part.ensures (next_digits c.loop-rest.rest.now c.min-part_len.result) c.from_residual.ensures.0
