@@ -3,8 +3,7 @@ use Rattle.std.specs.Prelude.{ℕ, List, [], ◌∷◌, ◌++◌, Option, Some, 
 use Rattle.hex.specs.Hex.{encode_lower}
 use Rattle.bolt_check.specs.Keys.{Key}
 use Rattle.bolt_tree.specs.Paths.{Path}
-use Rattle.bolt_recover.specs.Losses.{LossView}
-use Rattle.bolt_recover.specs.Losses.{LostView, everything, parts}
+use Rattle.bolt_recover.specs.Losses.{LossView, LostView, everything, parts}
 use Rattle.bolt_report.specs.FaultWords.{finding_sentence}
 use Rattle.bolt_report.specs.Lines.{line}
 use Rattle.bolt_report.specs.ListLines.{hex_path}

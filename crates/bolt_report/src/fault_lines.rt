@@ -4,8 +4,7 @@ ghost use Rattle.bolt_format.specs.Endings.{ending};
 ghost use Rattle.bolt_format.specs.Wrote.{Wrote};
 ghost use Rattle.bolt_report.specs.FaultWords.{count_line, finding_sentence, finding_text, finding_words, findings_text, meta_fault_text, page_fault_text, page_fault_words, snapshot_fault_text};
 
-use crate::pieces::{Piece, put_pieces};
-use crate::puts::put;
+use crate::pieces::{Piece, put, put_pieces};
 use bolt_check::Finding;
 use bolt_format::{MetaFault, PageFault, Sink, SinkFault};
 use bolt_snapshot::SnapshotFault;

@@ -1,15 +1,19 @@
 //! Keys, values and members of a listing as JSON texts.
-ghost use Rattle.std.specs.Prelude.{◌≡◌, [], IfOk};
+ghost use Rattle.std.specs.Prelude.{◌≡◌, [], IfOk, ◌∷◌, ◌++◌, OnOk, codes, flat_map};
 ghost use Rattle.bolt_report.specs.Forms.{item_json, json_text};
-ghost use Rattle.bolt_report.specs.JsonLines.{json_line};
+ghost use Rattle.bolt_report.specs.JsonLines.{json_line, end_json, member_json, parts_json};
 ghost use Rattle.bolt_tree.specs.Paths.{path_of};
 ghost use Rattle.bolt_tree.specs.ShownEntries.{item_view};
+ghost use Rattle.hex.specs.Hex.{encode_lower};
+ghost use Rattle.json.specs.Json.{array};
+ghost use Rattle.json.specs.Token.{begin_object, end_object, key, string};
+ghost use Rattle.json.specs.Tree.{json_tokens, members_tokens};
 
-use crate::json_tokens::{write_item, write_member};
+use crate::hexadecimal::encode_digits;
 use bolt_tree::{Item, NoMemory};
 use json::Writer;
 use std::alloc::Global;
-use std::mem;
+use std::{mem, str};
 
 /// JSON texts, gathered one at a time in buffers that are kept from text to text.
 #[derive(Drop)]
@@ -60,4 +64,96 @@ impl JsonText {
         text.clear();
         Writer::new(text)
     }
+}
+
+/// Writes a key or a value.
+#[tactic(auto, using(crate::proofs::TokenLemmas::tokens))]
+fn write_item(writer: &mut Writer, bytes: &[u8], digits: &mut Vec<u8>) -> Result<(), NoMemory>
+    ensures before { writer.new.before ≡ writer.old.before }
+    ensures tokens { OnOk result (writer.new.tokens ≡ writer.old.tokens ++ json_tokens (item_json bytes.now)) }
+{
+    match str::from_utf8(bytes) {
+        Ok(text) => Ok(writer.string(text)?),
+        Err(_) => write_digits(writer, bytes, digits),
+    }
+}
+
+/// Writes an object with the hexadecimal digits of a key or a value.
+fn write_digits(writer: &mut Writer, bytes: &[u8], digits: &mut Vec<u8>) -> Result<(), NoMemory>
+    ensures before { writer.new.before ≡ writer.old.before }
+    ensures tokens { OnOk result (writer.new.tokens ≡ writer.old.tokens ++ (begin_object ∷ key (codes "hex") ∷ string (encode_lower bytes.now) ∷ end_object ∷ [])) }
+{
+    writer.begin_object()?;
+    writer.key("hex")?;
+    writer.string(hex_digits(bytes, digits)?)?;
+    writer.end_object()?;
+    Ok(())
+}
+
+/// The hexadecimal digits of bytes, written into a buffer.
+fn hex_digits<'a>(bytes: &[u8], buffer: &'a mut Vec<u8>) -> Result<&'a str, NoMemory>
+    ensures { IfOk result (λ text. text.now ≡ encode_lower bytes.now) }
+{
+    buffer.resize(2 * bytes.len(), 0)?;
+    let digits = buffer.as_mut_slice();
+    encode_digits(bytes, digits);
+    Ok(str::from_utf8(digits).unwrap())
+}
+
+/// Writes a member of a listing.
+fn write_member(
+    writer: &mut Writer,
+    path: &[&[u8]],
+    item: &Item<'_>,
+    digits: &mut Vec<u8>,
+) -> Result<(), NoMemory>
+    ensures before { writer.new.before ≡ writer.old.before }
+    ensures tokens { OnOk result (writer.new.tokens ≡ writer.old.tokens ++ json_tokens (member_json item_json (path_of path.now, item_view item.now))) }
+{
+    writer.begin_object()?;
+    writer.key("path")?;
+    write_path(writer, path, digits)?;
+    write_end(writer, item, digits)
+}
+
+/// Writes the parts of a path as an array.
+fn write_path(writer: &mut Writer, path: &[&[u8]], digits: &mut Vec<u8>) -> Result<(), NoMemory>
+    ensures before { writer.new.before ≡ writer.old.before }
+    ensures tokens { OnOk result (writer.new.tokens ≡ writer.old.tokens ++ json_tokens (array (parts_json item_json (path_of path.now)))) }
+{
+    writer.begin_array()?;
+    write_parts(writer, path, digits)?;
+    writer.end_array()?;
+    Ok(())
+}
+
+/// Writes the parts of a path.
+#[tactic(auto, using(crate::proofs::TokenLemmas::tokens))]
+fn write_parts(writer: &mut Writer, path: &[&[u8]], digits: &mut Vec<u8>) -> Result<(), NoMemory>
+    ensures before { writer.new.before ≡ writer.old.before }
+    ensures tokens { OnOk result (writer.new.tokens ≡ writer.old.tokens ++ flat_map (λ part. json_tokens (item_json part.now)) path.now) }
+{
+    for part in path {
+        write_item(writer, part, digits)?;
+    }
+    Ok(())
+}
+
+/// Writes the value of a member, or the sequence of its bucket, and the end of the object.
+fn write_end(writer: &mut Writer, item: &Item<'_>, digits: &mut Vec<u8>) -> Result<(), NoMemory>
+    ensures before { writer.new.before ≡ writer.old.before }
+    ensures tokens { OnOk result (writer.new.tokens ≡ writer.old.tokens ++ members_tokens (end_json item_json (item_view item.now))) }
+{
+    match item {
+        Item::Value(value) => {
+            writer.key("value")?;
+            write_item(writer, value, digits)?;
+        }
+        Item::Bucket { sequence } => {
+            writer.key("bucket")?;
+            writer.u64(*sequence)?;
+        }
+    }
+    writer.end_object()?;
+    Ok(())
 }

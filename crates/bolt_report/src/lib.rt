@@ -3,20 +3,14 @@
 #![tactic(auto)]
 
 mod bucket_stats;
-mod elements;
 mod fault;
 mod fault_lines;
 mod form;
-mod found_lines;
 mod hexadecimal;
 mod item_writer;
-mod json_hex_lines;
 mod json_text;
-mod json_tokens;
 mod key_lines;
-mod key_prefixes;
 pub mod laws;
-mod list_lines;
 mod loss_lines;
 mod maps;
 mod member_lines;
@@ -26,12 +20,8 @@ mod page_stats;
 mod page_table;
 mod part_lines;
 mod pieces;
-mod puts;
 mod size_lines;
-mod size_objects;
 mod statistics;
-mod table_rows;
-mod values;
 
 pub use bucket_stats::stats;
 pub use fault::ReportFault;
@@ -39,16 +29,14 @@ pub use fault_lines::{
     finding_text, findings_text, meta_fault_text, page_fault_text, snapshot_fault_text,
 };
 pub use form::{FigureForm, Form, ListForm};
-pub use found_lines::{counted_lost_text, lost_text};
-pub use key_lines::{buckets, keys};
-pub use key_prefixes::keys_with_prefix;
-pub use list_lines::list;
+pub use item_writer::{item, value};
+pub use key_lines::{buckets, keys, keys_with_prefix};
+pub use loss_lines::{counted_lost_text, lost_text};
 pub use maps::page_map;
-pub use member_lines::MemberLines;
+pub use member_lines::{MemberLines, list};
 pub use metas::{info, slot_fault_text};
 pub use page_lines::page_text;
 pub use page_table::{pages, pages_table};
 pub use part_lines::{list_members_part, list_part};
 pub use size_lines::sizes;
 pub use statistics::{Stats, add, stats_text};
-pub use values::{item, value};

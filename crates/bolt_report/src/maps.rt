@@ -8,9 +8,8 @@ ghost use Rattle.bolt_check.specs.RoledFiles.{roles_checked};
 ghost use Rattle.bolt_report.specs.PageMaps.{map_line, map_lines, map_text, page_mark};
 ghost use Rattle.bolt_report.specs.PageTables.{ForRoles, pages_in};
 
-use crate::page_table::{free_past, pages_begun};
+use crate::page_table::{free_past, pages_begun, put_past};
 use crate::pieces::{Piece, put_pieces};
-use crate::table_rows::put_past;
 use arrayvec::ArrayVec;
 use bolt_check::{Checked, Role, Roles};
 use bolt_format::{Sink, SinkFault};

@@ -9,7 +9,6 @@ ghost use Rattle.bolt_report.specs.Lines.{column, figure_line};
 ghost use Rattle.bolt_report.specs.Pieces.{hex_string, later_parts, part_text, path_text, piece_text, pieces_text, separator};
 
 use crate::hexadecimal::{put_hex, write_digits};
-use crate::puts::put;
 use arrayvec::ArrayVec;
 use bolt_format::{Sink, SinkFault};
 use itoa::Buffer;
@@ -238,4 +237,11 @@ fn put_held<S: Sink>(held: &mut Held, sink: &mut S) -> Result<(), SinkFault>
     put(held.as_slice(), sink)?;
     held.clear();
     Ok(())
+}
+
+/// Writes bytes in one piece.
+pub(crate) fn put<S: Sink>(bytes: &[u8], sink: &mut S) -> Result<(), SinkFault>
+    ensures { Wrote S.Sink sink.old sink.new bytes.now (ending result) }
+{
+    sink.put(bytes)
 }

@@ -1,5 +1,5 @@
 //! The sizes of the buckets in a bucket as a text.
-ghost use Rattle.std.specs.Prelude.{◌≡◌, ◌∷◌, ◌++◌, ◌⊎◌, [], IfErr, List};
+ghost use Rattle.std.specs.Prelude.{◌≡◌, ◌∷◌, ◌++◌, ◌⊎◌, [], IfErr, List, true};
 ghost use Rattle.bolt_format.specs.Elements.{LeafElement};
 ghost use Rattle.bolt_format.specs.Endings.{ending};
 ghost use Rattle.bolt_format.specs.Wrote.{Wrote};
@@ -9,16 +9,16 @@ ghost use Rattle.bolt_tree.specs.Buckets.{bucket_checked, bucket_start};
 ghost use Rattle.bolt_tree.specs.Entries.{entry_view};
 ghost use Rattle.bolt_tree.specs.EntriesLeft.{ForEntries};
 ghost use Rattle.bolt_tree.specs.ShownEntries.{shown_entry};
-ghost use Rattle.bolt_report.specs.Forms.{value_text};
+ghost use Rattle.bolt_report.specs.Forms.{value_text, is_json, json_in, json_text};
 ghost use Rattle.bolt_report.specs.ReportEndings.{report_ending};
-ghost use Rattle.bolt_report.specs.SizeLines.{AreSized, Sized, bytes_allocated, bytes_used, size_columns, size_text, sizes_text};
+ghost use Rattle.bolt_report.specs.SizeLines.{AreSized, Sized, bytes_allocated, bytes_used, size_columns, size_text, sizes_text, size_json, size_members};
+ghost use Rattle.bolt_report.specs.Lines.{line};
 
 use crate::bucket_stats::stats;
 use crate::fault::ReportFault;
 use crate::form::Form;
 use crate::item_writer::ItemWriter;
-use crate::pieces::{Piece, put_pieces};
-use crate::size_objects::put_object;
+use crate::pieces::{Piece, put, put_pieces};
 use crate::statistics::Stats;
 use bolt_format::{Sink, SinkFault};
 use bolt_tree::{Bucket, Entry, Item};
@@ -133,7 +133,7 @@ fn put_columns<S: Sink>(stats: &Stats, sink: &mut S) -> Result<(), SinkFault>
 }
 
 /// The bytes used of pages and of inline buckets.
-pub(crate) fn bytes_used(stats: &Stats) -> u64
+fn bytes_used(stats: &Stats) -> u64
     ensures { result ≡ bytes_used stats.now }
 {
     stats
@@ -143,11 +143,48 @@ pub(crate) fn bytes_used(stats: &Stats) -> u64
 }
 
 /// The bytes allocated to pages and inline buckets.
-pub(crate) fn bytes_allocated(stats: &Stats) -> u64
+fn bytes_allocated(stats: &Stats) -> u64
     ensures { result ≡ bytes_allocated stats.now }
 {
     stats
         .branch_allocated
         .saturating_add(stats.leaf_allocated)
         .saturating_add(stats.inline_used)
+}
+
+/// Writes a line with the sizes of the bucket with these figures, and with its name, which is JSON, as
+/// an object.
+fn put_object<S: Sink>(
+    stats: &Stats,
+    name: &[u8],
+    items: &mut ItemWriter,
+    sink: &mut S,
+) -> Result<(), ReportFault>
+    requires { is_json items.old.form ≡ true }
+    ensures form { items.new.form ≡ items.old.form }
+    ensures written { Wrote S.Sink sink.old sink.new (line (json_text (size_json stats.now (json_in items.old.form name.now)))) (report_ending result) }
+    ensures fault { IfErr result (λ fault. (fault ≡ ReportFault.Sink) ⊎ (fault ≡ ReportFault.NoMemory)) }
+{
+    put_members(stats, sink)?;
+    items.put(name, sink)?;
+    put(b"}\n", sink)?;
+    Ok(())
+}
+
+/// Writes the beginning of the object, up to the name.
+fn put_members<S: Sink>(stats: &Stats, sink: &mut S) -> Result<(), SinkFault>
+    ensures { Wrote S.Sink sink.old sink.new (size_members stats.now) (ending result) }
+{
+    put_pieces(
+        &[
+            Piece::Bytes(b"{\"keys\":"),
+            Piece::Number(stats.keys),
+            Piece::Bytes(b",\"used\":"),
+            Piece::Number(bytes_used(stats)),
+            Piece::Bytes(b",\"allocated\":"),
+            Piece::Number(bytes_allocated(stats)),
+            Piece::Bytes(b",\"name\":"),
+        ],
+        sink,
+    )
 }

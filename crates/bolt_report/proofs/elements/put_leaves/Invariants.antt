@@ -1,8 +1,0 @@
-use Rattle.bolt_format.specs.Shown.{shown}
-use Rattle.bolt_report.specs.PageLines.{leaf_line}
-use Rattle.bolt_report.proofs.ReportLemmas.{WroteLines}
-use Rattle.bolt_report.proofs.elements.put_leaves.Given as goal
-
--- the lines of the elements before number i were written
-abbrev pub invariant-loop-i : goal.invariant-loop-i
-invariant-loop-i g l = WroteLines g.S.Sink l.initial.sink l.sink leaf_line (shown l.page).leaves l.i

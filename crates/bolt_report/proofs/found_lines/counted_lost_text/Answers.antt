@@ -1,9 +1,0 @@
--- The lines of the losses, those of the found pages, and that of the number.
-use Rattle.bolt_format.proofs.WroteLemmas.{Wrote-return, Wrote-then}
-use Rattle.bolt_report.proofs.found_lines.counted_lost_text.Goals as goal
-
-pub returns-in_err-put_lost : goal.returns-in_err-put_lost
-returns-in_err-put_lost g c = Wrote-return _ _ c.in_err-put_lost.ensures c.from_residual.ensures.0
-
-pub returns-in_err-put_all_found : goal.returns-in_err-put_all_found
-returns-in_err-put_all_found g c = Wrote-then c.in_ok-put_lost.ensures (Wrote-return _ _ c.in_err-put_all_found.ensures c.from_residual-in_err-put_all_found.ensures.0)

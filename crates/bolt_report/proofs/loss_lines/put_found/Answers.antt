@@ -1,0 +1,21 @@
+-- The pieces are those of the line.
+use Rattle.std.proofs.Common.{◌≡◌, ◌∙◌, ◌-◌, List, [], ℕ, Option, Some, ap, length, option_map, slice_get, sym, unwrap_or}
+use Rattle.bolt_format.specs.ElementPlaces.{leaf_view}
+use Rattle.bolt_format.specs.Elements.{LeafElement}
+use Rattle.bolt_format.specs.Shown.{shown}
+use Rattle.bolt_report.specs.FoundLines.{bucket_count, found_line, key_at}
+use Rattle.bolt_report.proofs.loss_lines.put_found.Goals as goal
+
+-- the key of an element by its place
+key_of : (elements : List LeafElement) (i : ℕ) (e : LeafElement) → slice_get elements i ≡ Some e → e.key ≡ key_at elements i
+key_of elements i e found = sym (ap (λ (o : Option LeafElement). unwrap_or (option_map (λ (x : LeafElement). x.key) o) []) found)
+
+pub returns : goal.returns
+unfolding found_line
+returns g c =
+    let elements = (shown c.args.found.now.page.page).leaves in
+    let first = key_of elements 0 (leaf_view c.leaf.result) c.leaf.ensures.element in
+    let entries : c.from.result ≡ length elements = c.from.ensures ∙ sym (c.count-count.ensures.leaves c.requires.kind) in
+    let buckets : c.from-2.result ≡ bucket_count elements = c.from-2.ensures ∙ c.count_buckets.ensures in
+    let last = key_of elements (length elements - 1) (leaf_view c.leaf-2.result) (rw (← c.count-count.ensures.leaves c.requires.kind) at c.leaf-2.ensures.element) in
+    rw (entries, buckets, first, last) at c.put_pieces.ensures

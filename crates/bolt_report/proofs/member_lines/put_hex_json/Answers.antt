@@ -1,0 +1,18 @@
+use Rattle.std.proofs.Common.{◌∙◌, ap, sym}
+use Rattle.bolt_format.proofs.WroteLemmas.{Wrote-same}
+use Rattle.bolt_tree.specs.Paths.{path_of}
+use Rattle.bolt_tree.specs.ShownEntries.{item_view}
+use Rattle.bolt_report.specs.Forms.{digits_json}
+use Rattle.bolt_report.specs.JsonLines.{json_line}
+use Rattle.bolt_report.proofs.HexStrings.{bucket_line, value_line}
+use Rattle.bolt_report.proofs.member_lines.put_hex_json.Goals as goal
+
+pub returns-in-Value : goal.returns-in-Value
+returns-in-Value g c =
+    let path = path_of c.args.path.now in
+    Wrote-same (value_line path c.in-Value.value.now ∙ ap (λ item. json_line digits_json (path, item_view item)) (sym c.in-Value.is)) c.put_pieces.ensures
+
+pub returns-in-Bucket : goal.returns-in-Bucket
+returns-in-Bucket g c =
+    let path = path_of c.args.path.now in
+    Wrote-same (bucket_line path c.in-Bucket.sequence ∙ ap (λ item. json_line digits_json (path, item_view item)) (sym c.in-Bucket.is)) c.put_pieces-in-Bucket.ensures
