@@ -1,10 +1,9 @@
 -- The tests at a spot speak of the nodes that were claimed before only as a set.
 use Rattle.std.proofs.Common.{◌≡◌, ℕ, Option, Some, None, Ok, refl}
-use Rattle.bolt_check.specs.Ways.{PageSpot}
+use Rattle.bolt_check.specs.Ways.{PageSpot, Spot, At_page, At_inline, SpanHas}
 use Rattle.bolt_check.specs.declared.finding.Finding.{Finding}
 use Rattle.bolt_check.specs.Nodes.{Nodes}
 use Rattle.bolt_check.specs.Private.Uses.{UseAt, UseOf}
-use Rattle.bolt_check.specs.Ways.{Spot, At_page, At_inline, SpanHas}
 use Rattle.bolt_check.specs.declared.table.PageUse.{PageUse}
 use Rattle.bolt_check.specs.Findings.{early_finding, node_finding, inline_finding, Tests, PageTests, early, twice, late, Passes, PagePasses}
 

@@ -9,8 +9,8 @@ use Rattle.bolt_check.specs.Nodes.{Node, Nodes, node_at}
 use Rattle.bolt_check.specs.Roles.{HasRole}
 use Rattle.bolt_check.specs.Sound.{HasRightAccounts, HasSoundTrees}
 use Rattle.bolt_check.specs.Ways.{At_page, PageSpot, Reach, SpanHas, SpanOf, Spot, reached}
-use Rattle.bolt_check.specs.declared.role.Role.{Role}
-use Rattle.bolt_check.specs.declared.role.Role.TheVariants as role
+use Rattle.bolt_check.specs.declared.role_table.Role.{Role}
+use Rattle.bolt_check.specs.declared.role_table.Role.TheVariants as role
 use Rattle.bolt_check.specs.Tours.{IsTour}
 use Rattle.bolt_check.proofs.Judging.{span_spot}
 use Rattle.bolt_check.proofs.RoleOnce.{Used, first_role, node_role, spot_role, used_role}

@@ -13,8 +13,8 @@ use Rattle.bolt_check.specs.Roles.{AreRoles, HasRole, IsFirstPage}
 use Rattle.bolt_check.specs.Sound.{HasRightAccounts, HasSoundTrees, IsSound}
 use Rattle.bolt_check.specs.Ways.{reached, root_spot}
 use Rattle.bolt_check.specs.declared.checked_file.Checked.{Checked}
-use Rattle.bolt_check.specs.declared.role.Role.{Role}
-use Rattle.bolt_check.specs.declared.role.Role.TheVariants as role
+use Rattle.bolt_check.specs.declared.role_table.Role.{Role}
+use Rattle.bolt_check.specs.declared.role_table.Role.TheVariants as role
 use Rattle.bolt_check.proofs.FreelistLemmas.{freelist_page, freelist_within}
 use Rattle.bolt_check.proofs.MarkLemmas.{node_shown, node_within}
 use Rattle.bolt_check.proofs.RoleExists.{role_exists}

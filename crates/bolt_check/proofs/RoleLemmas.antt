@@ -15,7 +15,7 @@ use Rattle.bolt_check.specs.Sound.{HasRightAccounts, IsSound, IsUsed}
 use Rattle.bolt_check.specs.Private.Tables.{IsClaimed, is_used, use_at}
 use Rattle.bolt_check.specs.Private.Uses.{HasUse, IsMetaUse, IsNoted, UseAt, use_of}
 use Rattle.bolt_check.specs.Ways.{At_inline, At_page, Reach, Spot, reached}
-use Rattle.bolt_check.specs.declared.role.Role.TheVariants as role
+use Rattle.bolt_check.specs.declared.role_table.Role.TheVariants as role
 use Rattle.bolt_check.specs.declared.table.PageUse.{PageUse}
 use Rattle.bolt_check.specs.declared.table.PageUse.TheVariants.{Branch, Leaf, Used, UsedFree, UsedFreeTwice}
 use Rattle.bolt_check.proofs.Judging.{use_spot}

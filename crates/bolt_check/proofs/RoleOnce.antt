@@ -7,8 +7,8 @@ use Rattle.bolt_check.specs.Nodes.{Node, Nodes, node_at}
 use Rattle.bolt_check.specs.Roles.{HasRole, IsFirstPage}
 use Rattle.bolt_check.specs.Sound.{HasRightAccounts, HasSoundTrees, IsUsed}
 use Rattle.bolt_check.specs.Ways.{At_page, Reach, SpanHas, Spot, reached}
-use Rattle.bolt_check.specs.declared.role.Role.{Role}
-use Rattle.bolt_check.specs.declared.role.Role.TheVariants as role
+use Rattle.bolt_check.specs.declared.role_table.Role.{Role}
+use Rattle.bolt_check.specs.declared.role_table.Role.TheVariants as role
 
 abbrev pub first_role : Bool → Role
 first_role true = role.Leaf

@@ -2,11 +2,10 @@
 use Rattle.std.proofs.Common.{◌≡◌, ◌≢◌, ℕ, suc, ◌≤◌, inl, inr, Bool, true, false, not, ◌&&◌, ◌==◌, if◌then◌else◌, nat_lt, List, [], ◌∷◌, ◌++◌, length, Option, Some, None, Result, Ok, slice_get, refl, ap, arith, ◌∙◌}
 use Rattle.std.proofs.lemmas.Bool.{cases_lt, not-true}
 use Rattle.std.proofs.lemmas.Bool.Decides.{nat_tests}
-use Rattle.bolt_check.specs.Ways.{PageSpot}
+use Rattle.bolt_check.specs.Ways.{PageSpot, Spot, At_page, At_inline, Reach, SpanHas, SpanAt, SpanOf, child_spot, step, upper_from, follow, reached, root_spot}
 use Rattle.bolt_check.specs.declared.finding.TheConstants.Finding.{EMPTY_BRANCH, TOO_DEEP}
 use Rattle.bolt_check.specs.declared.finding.Finding.{Finding}
 use Rattle.bolt_check.specs.Nodes.{Nodes, Node, Entry}
-use Rattle.bolt_check.specs.Ways.{Spot, At_page, At_inline, Reach, SpanHas, SpanAt, SpanOf, child_spot, step, upper_from, follow, reached, root_spot}
 use Rattle.bolt_check.specs.Findings.{keys_of, early_finding, open_finding, node_finding, finding_of, finding, Passes, PagePasses, IsClaimedBefore, IsClean, IsMetaPage}
 use Rattle.bolt_check.specs.Keys.{Key, is_below, is_from, keys_order_fault, key_lt}
 use Rattle.bolt_check.specs.Shape.{child_at, leads, HasShape}

@@ -5,8 +5,8 @@ use Rattle.bolt_check.specs.Accounts.{IsFree, IsInFreelist, IsInUse}
 use Rattle.bolt_check.specs.Nodes.{IsInSpan, Node, Nodes, node_at}
 use Rattle.bolt_check.specs.Sound.{IsUsed}
 use Rattle.bolt_check.specs.Ways.{At_page, PageSpot, Reach, reached}
-use Rattle.bolt_check.specs.declared.role.Role.{Role}
-use Rattle.bolt_check.specs.declared.role.Role.TheVariants as role
+use Rattle.bolt_check.specs.declared.role_table.Role.{Role}
+use Rattle.bolt_check.specs.declared.role_table.Role.TheVariants as role
 
 -- a way leads to page n, which is a leaf, or a branch
 pub record IsFirstPage (nodes : Nodes) (reach : Reach) (is_leaf : Bool) (n : ℕ) : Type 0 where

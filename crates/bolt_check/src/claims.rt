@@ -13,8 +13,8 @@ ghost use Rattle.bolt_check.specs.ShownSpots.{page_spot};
 ghost use Rattle.bolt_check.specs.TableLengths.{table_length};
 ghost use Rattle.bolt_check.specs.Ways.{At_page, SpanAt};
 
+use crate::fault::NoMemory;
 use crate::finding::Finding;
-use crate::no_memory::NoMemory;
 use crate::spot::PageSpot;
 use crate::table::{PageUse, new_table, reset};
 use crate::tree_page::TreePage;

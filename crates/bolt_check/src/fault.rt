@@ -5,6 +5,8 @@ ghost use Rattle.bolt_check.specs.declared.fault.CheckFault.TheVariants as refus
 use crate::finding::Finding;
 use bolt_format::MetaFault;
 use std::alloc::AllocError;
+use std::error::Error;
+use std::fmt;
 use thiserror::Error;
 
 /// Why a file is refused.
@@ -45,5 +47,27 @@ impl From<AllocError> for CheckFault {
 
     fn from(_error: AllocError) -> Self {
         CheckFault::Memory
+    }
+}
+
+/// Memory ran out.
+#[derive(Clone, Copy, Debug, PartialEq, Eq)]
+pub struct NoMemory;
+
+impl fmt::Display for NoMemory {
+    ghost use Rattle.std.specs.Prelude.{Some, codes};
+
+    ghost output = { λ _. Some (codes "out of memory") };
+
+    fn fmt<W: fmt::Write>(&self, f: &mut fmt::Formatter<W>) -> fmt::Result {
+        f.write_str("out of memory")
+    }
+}
+
+impl Error for NoMemory {}
+
+impl From<AllocError> for NoMemory {
+    fn from(_error: AllocError) -> NoMemory {
+        NoMemory
     }
 }

@@ -12,7 +12,7 @@ ghost use Rattle.bolt_check.specs.Sound.{HasRightAccounts, HasSoundTrees, IsFirs
 ghost use Rattle.bolt_check.specs.Tours.{IsTour};
 ghost use Rattle.bolt_check.specs.Ways.{At_page, Reach, reached, root_spot};
 ghost use Rattle.bolt_check.specs.declared.finding.Finding.{Finding};
-ghost use Rattle.bolt_check.specs.declared.role.Role.{Role};
+ghost use Rattle.bolt_check.specs.declared.role_table.Role.{Role};
 
 /// No test of the trees fails, exactly if they are sound.
 #[tactic(auto, using(crate::proofs::Lawful::shape_passes, crate::proofs::Shaping::shape_of))]

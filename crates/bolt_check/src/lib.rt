@@ -3,7 +3,6 @@
 #![tactic(auto)]
 
 mod accounts;
-mod assumed;
 mod checked_file;
 mod claims;
 mod fault;
@@ -13,9 +12,7 @@ pub mod laws;
 mod leftovers;
 mod listing;
 mod listing_findings;
-mod no_memory;
 mod node;
-mod role;
 mod role_table;
 mod search;
 mod sound;
@@ -25,16 +22,13 @@ mod tree_page;
 mod uses;
 mod visit;
 
-pub use assumed::assumed_meta;
 pub use checked_file::Checked;
 pub use claims::Claims;
-pub use fault::CheckFault;
+pub use fault::{CheckFault, NoMemory};
 pub use finding::Finding;
 pub use leftovers::Leftovers;
-pub use no_memory::NoMemory;
-pub use role::Role;
-pub use role_table::Roles;
-pub use sound::{check, check_roles, check_slot, check_under};
+pub use role_table::{Role, Roles};
+pub use sound::{assumed_meta, check, check_roles, check_slot, check_under};
 pub use spot::{BucketSpot, MAX_DEPTH, PageSpot, Spot};
 pub use tree_page::TreePage;
 pub use uses::roles;

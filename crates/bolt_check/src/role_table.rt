@@ -6,7 +6,6 @@ ghost use Rattle.bolt_check.specs.Private.Tables.{use_at};
 ghost use Rattle.bolt_check.specs.Roles.{HasRole};
 
 use crate::checked_file::Checked;
-use crate::role::Role;
 use crate::table::PageUse;
 use bolt_format::Meta;
 
@@ -78,4 +77,21 @@ fn role_by(meta: &Meta, id: u64, page_use: PageUse) -> Role
         PageUse::Used | PageUse::UsedFree | PageUse::UsedFreeTwice => Role::Inside,
         PageUse::Unused | PageUse::Free | PageUse::FreeTwice => Role::Free,
     }
+}
+
+/// What a page below the high-water mark is for (docs/SOUND.md, "Roles").
+#[derive(Clone, Copy, Debug, PartialEq, Eq)]
+pub enum Role {
+    /// One of the two meta pages.
+    Meta,
+    /// The first page of a branch that a way leads to.
+    Branch,
+    /// The first page of a leaf that a way leads to.
+    Leaf,
+    /// The first page of the freelist.
+    Freelist,
+    /// A later page of the span of a branch, of a leaf or of the freelist.
+    Inside,
+    /// Any other page: it isn't in use.
+    Free,
 }

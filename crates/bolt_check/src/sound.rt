@@ -1,16 +1,17 @@
 //! Is a whole file sound, and are the trees of one meta?
-ghost use Rattle.std.specs.Prelude.{◌≡◌, ◌<◌, false, true, IfErr, IfOk, OnOk};
+ghost use Rattle.std.specs.Prelude.{◌≡◌, ◌<◌, false, true, IfErr, IfOk, OnOk, ◌↔◌, ◌*◌, ℕ};
 ghost use Rattle.bolt_format.specs.Metas.{IsChosen, IsInSlot};
 ghost use Rattle.bolt_check.specs.CheckedFiles.{bytes_of, has_accounts, meta_of};
 ghost use Rattle.bolt_check.specs.RoledFiles.{roles_checked};
 ghost use Rattle.bolt_check.specs.Sound.{AreTreesRefused, HasSoundTrees, IsRefused, IsSlotRefused, IsSound};
+ghost use Rattle.bolt_check.specs.Assumed.{assumed_meta};
 
 use crate::accounts::test_accounts;
 use crate::checked_file::Checked;
 use crate::fault::CheckFault;
 use crate::role_table::Roles;
 use crate::search::search;
-use bolt_format::{Meta, Slot, choose, slot_meta};
+use bolt_format::{Meta, NO_FREELIST, Slot, choose, slot_meta};
 use std::alloc::Global;
 
 /// Tests a file under the active meta: its trees, and then its accounts (docs/SOUND.md).
@@ -101,4 +102,22 @@ pub fn check_under<'a>(alloc: Global, file: &'a [u8], meta: Meta) -> Result<Chec
         meta,
         accounts: false,
     })
+}
+
+/// The meta of a file of this length with this page size and root page (docs/RECOVERY.md, "An
+/// assumed meta"). The root bucket has sequence 0, no freelist was written, the transaction id is 0,
+/// and all pages that begin in the file are below the high-water mark.
+pub fn assumed_meta(file_len: u64, page_size: u32, root: u64) -> Meta
+    requires { 0 < page_size }
+    ensures meta { result ≡ assumed_meta file_len page_size root }
+    ensures mark { (n : ℕ) → (n < result.high_water) ↔ (n * page_size < file_len) }
+{
+    Meta {
+        page_size,
+        root,
+        root_sequence: 0,
+        freelist: NO_FREELIST,
+        high_water: file_len.div_ceil(u64::from(page_size)),
+        txid: 0,
+    }
 }

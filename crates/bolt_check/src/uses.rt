@@ -13,8 +13,7 @@ ghost use Rattle.bolt_check.specs.Ways.{reached};
 
 use crate::accounts::claim_freelist;
 use crate::checked_file::Checked;
-use crate::fault::CheckFault;
-use crate::no_memory::NoMemory;
+use crate::fault::{CheckFault, NoMemory};
 use crate::role_table::Roles;
 use crate::search::search;
 use crate::table::PageUse;

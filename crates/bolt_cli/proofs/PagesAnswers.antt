@@ -5,7 +5,7 @@ use Rattle.bolt_check.specs.CheckedFiles.{bytes_of, meta_of}
 use Rattle.bolt_check.specs.Roles.{AreRoles}
 use Rattle.bolt_check.specs.Sound.{HasRightAccounts, HasSoundTrees}
 use Rattle.bolt_check.specs.declared.checked_file.Checked.{Checked}
-use Rattle.bolt_check.specs.declared.role.Role.{Role}
+use Rattle.bolt_check.specs.declared.role_table.Role.{Role}
 use Rattle.bolt_check.proofs.RoleFacts.{some_roles}
 use Rattle.bolt_format.specs.Endings.{whole, broken}
 use Rattle.bolt_format.specs.Wrote.{Wrote}

@@ -41,7 +41,7 @@ use bolt_recover::laws::{
 };
 use bolt_report::laws::hex_lines_are_the_listing_text;
 use bolt_snapshot::laws::{hashed_blocks_are_a_snapshot, trailing_bytes_change_nothing};
-use bolt_tree::part_laws::all_is_below_the_root;
+use bolt_tree::laws::all_is_below_the_root;
 
 /// A job that needs the metas alone does on the bytes up to their end, which the first 80 tell,
 /// exactly what it does on the whole file.

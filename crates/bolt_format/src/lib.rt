@@ -5,7 +5,6 @@
 
 mod bucket;
 mod bytes;
-mod checksum;
 mod content;
 mod element;
 mod fault;
@@ -14,31 +13,28 @@ mod good_page;
 mod header;
 mod kind;
 pub mod laws;
-mod mem_sink;
 mod meta;
 mod open_bucket;
 mod open_freelist;
 mod open_page;
 mod sink;
-mod write_sink;
+mod sinks;
 mod written;
 
 pub use bucket::{HEAD_LEN, Head, Inline};
-pub use checksum::fnv1a;
 pub use element::{Branch, ELEMENT_LEN, Leaf};
 pub use fault::PageFault;
 pub use freelist::FreeIds;
 pub use good_page::Page;
 pub use header::HEADER_LEN;
 pub use kind::Kind;
-pub use mem_sink::MemSink;
 pub use meta::{
-    META_LEN, METAS_END, Meta, MetaFault, NO_FREELIST, Slot, choose, meta_at, metas_end,
+    META_LEN, METAS_END, Meta, MetaFault, NO_FREELIST, Slot, choose, fnv1a, meta_at, metas_end,
     page_size_ok, slot_meta,
 };
 pub use open_bucket::{head, inline};
 pub use open_freelist::{free_ids, free_ids_at};
 pub use open_page::{known, page};
 pub use sink::{Sink, SinkFault};
-pub use write_sink::WriteSink;
+pub use sinks::{MemSink, WriteSink};
 pub use written::{branch_header, bucket_head, leaf_header, meta_page, page_header};

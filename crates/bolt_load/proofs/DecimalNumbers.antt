@@ -5,9 +5,8 @@ use Rattle.std.specs.Borrow.{Bor}
 use Rattle.std.specs.Option.{option_eq}
 use Rattle.std.specs.Result.{result_ok}
 use Rattle.std.proofs.lemmas.Str.{IsUtf8-from_ascii}
-use Rattle.std.specs.Str.{IsAscii}
+use Rattle.std.specs.Str.{IsAscii, all_ascii_digits}
 use Rattle.std.specs.Char.{is_ascii_digit}
-use Rattle.std.specs.Str.{all_ascii_digits}
 use Rattle.std.specs.Fmt.{decimal}
 use Rattle.std.specs.Str.Parse.{ParsesUnsigned}
 use Rattle.std.proofs.lemmas.Fmt.{decimal_nonempty, digits_decimal, digits_value-decimal}

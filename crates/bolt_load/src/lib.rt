@@ -3,18 +3,15 @@
 //! the bytes that the text has in hexadecimal are kept; nothing is kept for each line.
 #![tactic(auto)]
 
-mod cuts;
 mod decode;
-mod digits;
 mod fault;
 pub mod laws;
 mod line_members;
 mod line_words;
 mod listing_text;
-mod numbers;
 mod order;
 
 pub use fault::{LineFault, LoadFault};
 pub use line_members::LineMembers;
+pub use line_words::read_number;
 pub use listing_text::ListingText;
-pub use numbers::read_number;

@@ -10,8 +10,7 @@ ghost use Rattle.bolt_load.specs.Lines.{lines_of};
 ghost use Rattle.bolt_load.specs.Private.Decoding.{AreDecoded, BeginsWith, GivesLine, item_bytes, path_bytes};
 ghost use Rattle.bolt_load.specs.Private.LineWords.{word_item};
 
-use crate::cuts::{cut_at, first_line};
-use crate::line_words::{ItemWord, words_of};
+use crate::line_words::{ItemWord, cut_at, first_line, words_of};
 use bolt_tree::{Item, Members, NoMemory};
 use std::alloc::{AllocError, Global};
 use std::mem;

@@ -1,12 +1,13 @@
 //! The words of a line.
-ghost use Rattle.std.specs.Prelude.{◌≡◌, option_and_then, option_map};
+ghost use Rattle.std.specs.Prelude.{◌≡◌, option_and_then, option_map, ◌∷◌, [], MatchOption};
 ghost use Rattle.bolt_tree.specs.Entries.{Bucket};
 ghost use Rattle.bolt_load.specs.LineMembers.{item_in, line_member};
 ghost use Rattle.bolt_load.specs.Numbers.{number_in};
 ghost use Rattle.bolt_load.specs.Private.LineWords.{word_item, words_member};
+ghost use Rattle.bolt_load.specs.Private.Cuts.{IsCut, IsFirstLine, IsWithout};
 
-use crate::cuts::cut_at;
-use crate::numbers::read_number;
+use memchr::memchr;
+use std::str;
 
 /// The last word of a line: a value in hexadecimal, or the sequence of a bucket.
 #[derive(Clone, Copy)]
@@ -53,4 +54,36 @@ fn sequence_word(word: &[u8]) -> Option<ItemWord<'_>>
     ensures { option_map Bucket (number_in word.now) ≡ option_and_then word_item result }
 {
     Some(ItemWord::Sequence(read_number(word)?))
+}
+
+/// The text before the first mark, and that after it.
+pub(crate) fn cut_at(mark: u8, text: &[u8]) -> Option<(&[u8], &[u8])>
+    ensures { MatchOption result (IsWithout mark text.now) (λ cut. IsCut mark text.now cut.0.now cut.1.now) }
+{
+    let at = memchr(mark, text)?;
+    Some((&text[..at], &text[at + 1..]))
+}
+
+/// The first line of a text, and the text after it.
+pub(crate) fn first_line(text: &[u8]) -> Option<(&[u8], &[u8])>
+    ensures { MatchOption result (text.now ≡ []) (λ cut. IsFirstLine text.now cut.0.now cut.1.now) }
+{
+    if text.is_empty() {
+        return None;
+    }
+    match cut_at(b'\n', text) {
+        Some((line, after)) => Some((line, after)),
+        None => Some((text, &[])),
+    }
+}
+
+/// The number below 2^64 that these digits stand for.
+pub fn read_number(word: &[u8]) -> Option<u64>
+    ensures { result ≡ number_in word.now }
+{
+    // `parse` would accept a plus before the digits.
+    if word.first() == Some(&b'+') {
+        return None;
+    }
+    str::from_utf8(word).ok()?.parse().ok()
 }

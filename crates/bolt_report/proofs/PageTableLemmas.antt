@@ -14,8 +14,8 @@ use Rattle.bolt_format.specs.declared.meta.Meta.{Meta}
 use Rattle.bolt_check.specs.CheckedFiles.{bytes_of, has_accounts, meta_of}
 use Rattle.bolt_check.specs.Roles.{AreRoles, HasRole}
 use Rattle.bolt_check.specs.declared.checked_file.Checked.{Checked}
-use Rattle.bolt_check.specs.declared.role.Role.{Role}
-use Rattle.bolt_check.specs.declared.role.Role.TheVariants as role
+use Rattle.bolt_check.specs.declared.role_table.Role.{Role}
+use Rattle.bolt_check.specs.declared.role_table.Role.TheVariants as role
 use Rattle.bolt_check.proofs.RoleFacts.{one_role, past_is_free, size_positive, with_accounts}
 use Rattle.bolt_report.specs.PageTables.{begun, is_free, page_row, pages_in, pages_past}
 use Rattle.std.specs.Int.{div_ceil}

@@ -1,8 +1,7 @@
 -- Each bucket that a path of a sound file names has its entries in order.
 -- Rests on the law that a bucket of the tree has them, and on that each such bucket is one of the tree (BucketWays).
 use Rattle.std.proofs.Common.{ℕ, List}
-use Rattle.bolt_tree.proofs.Words.{AreEntries, Checked, HasEntries, HasSoundTrees, IsEntry, IsStart, LeafElement, Meta, Root_page, Start, bytes_of, elements_of}
-use Rattle.bolt_tree.proofs.Words.{entries_of, meta_of, pages_at, root_start, with_trees, ∥∥₁_prop}
+use Rattle.bolt_tree.proofs.Words.{AreEntries, Checked, HasEntries, HasSoundTrees, IsEntry, IsStart, LeafElement, Meta, Root_page, Start, bytes_of, elements_of, entries_of, meta_of, pages_at, root_start, with_trees, ∥∥₁_prop}
 use Rattle.bolt_tree.proofs.SortedLemmas.{sorted}
 use Rattle.bolt_tree.proofs.BucketWays.{root_starts, starts_named}
 

@@ -1,9 +1,6 @@
 -- What the moves of a trail back do to its stack.
 use Rattle.std.proofs.Common.{◌≡◌, ℕ, zero, suc, ◌+◌, ◌-◌, ◌≤◌, true, List, [], ◌∷◌, ◌++◌, Some, None, slice_get, length, take, refl, sym, ap, ◌∙◌, subst, arith, append_assoc, append-nil, length-append}
-use Rattle.bolt_tree.proofs.Words.{BranchElement, BucketView, Content, Contents, Frame, HasStack, IsAtRest, IsBranchContent, IsBranchTop, IsEntered, IsOn}
-use Rattle.bolt_tree.proofs.Words.{LeafElement, Of_branch, Of_leaf, RestsOn, Visit, address_on, all_under, before_of, before_under, content_length, contents_in}
-use Rattle.bolt_tree.proofs.Words.{done_of, done_under, elements_in, elements_of, flat_map-append, index_of, left_of, left_under, length-take, none-some}
-use Rattle.bolt_tree.proofs.Words.{preceding_of, props, root_content, take_all, take_next, tour, under_at, ∥∥₁_elim}
+use Rattle.bolt_tree.proofs.Words.{BranchElement, BucketView, Content, Contents, Frame, HasStack, IsAtRest, IsBranchContent, IsBranchTop, IsEntered, IsOn, LeafElement, Of_branch, Of_leaf, RestsOn, Visit, address_on, all_under, before_of, before_under, content_length, contents_in, done_of, done_under, elements_in, elements_of, flat_map-append, index_of, left_of, left_under, length-take, none-some, preceding_of, props, root_content, take_all, take_next, tour, under_at, ∥∥₁_elim}
 use Rattle.bolt_tree.proofs.StackLemmas.{branch_room}
 
 take_none : {X : Type 0} (xs : List X) → take 0 xs ≡ []

@@ -1,10 +1,7 @@
 -- Ways from bucket to bucket: an address inside a bucket is a way, and so is a bucket among its entries. So each bucket that a path
 -- names begins at a place where a bucket of the tree does.
 use Rattle.std.proofs.Common.{◌≡◌, ◌∙◌, Bool, true, false, IsTrue, ℕ, suc, eqb, eqb-true, List, [], ◌∷◌, ◌++◌, map, Option, Some, Result, Ok, slice_get, refl, sym, ap, subst}
-use Rattle.bolt_tree.proofs.Words.{At_page, Contains, Entry, Inline_page, IsEntry, IsOnWay, IsStart, LeafElement, Meta, Names, Node, Nodes, PageSpot, Path}
-use Rattle.bolt_tree.proofs.Words.{Root_page, ShowsEntry, Spot, Start, bucket_spots, bucket_value, flat_inline, follow, follow_append, head_root}
-use Rattle.bolt_tree.proofs.Words.{inline_elements, leads, leads_follow, leaf_entry, leaf_node, node_at, option_map, root_spot, slice_get-get_or, slice_get-map}
-use Rattle.bolt_tree.proofs.Words.{start_of, step_at, step_entry}
+use Rattle.bolt_tree.proofs.Words.{At_page, Contains, Entry, Inline_page, IsEntry, IsOnWay, IsStart, LeafElement, Meta, Names, Node, Nodes, PageSpot, Path, Root_page, ShowsEntry, Spot, Start, bucket_spots, bucket_value, flat_inline, follow, follow_append, head_root, inline_elements, leads, leads_follow, leaf_entry, leaf_node, node_at, option_map, root_spot, slice_get-get_or, slice_get-map, start_of, step_at, step_entry}
 
 spot_for : (host : ℕ) (e : LeafElement) → e.is_bucket ≡ true → eqb (head_root e.value) 0 ≡ false → bucket_spots host (leaf_entry e) ≡ Some (At_page (root_spot (head_root e.value)))
 spot_for host e b page = rw (b, page) refl

@@ -1,7 +1,6 @@
 -- One turn of a climb, in what is known of open buckets: only that it is so.
 use Rattle.std.proofs.Common.{◌≡◌, ◌∙◌, ◌+◌, ◌-◌, ℕ, suc, List, [], ◌∷◌, ◌++◌, take, Option, Some, None, MatchOption, refl, sym, ap, subst, arith, Bor}
-use Rattle.bolt_tree.proofs.Words.{AreOpen, Checked, CursorView, HasEntries, LeafElement, Lists, Member, Moves, Names, Path, Start, beyond, entries_of}
-use Rattle.bolt_tree.proofs.Words.{is_beyond, item_of, next_move, option_to_list, path_of, props, rest_after, root_start, ∥∥₁_elim, ∥∥₁_map}
+use Rattle.bolt_tree.proofs.Words.{AreOpen, Checked, CursorView, HasEntries, LeafElement, Lists, Member, Moves, Names, Path, Start, beyond, entries_of, is_beyond, item_of, next_move, option_to_list, path_of, props, rest_after, root_start, ∥∥₁_elim, ∥∥₁_map}
 use Rattle.bolt_tree.proofs.Filters.{filter_none}
 use Rattle.bolt_tree.proofs.OpenSteps.{Top, path_popped, next_ended, next_entry, next_given, next_open, open_pop}
 

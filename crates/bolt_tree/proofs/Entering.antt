@@ -1,8 +1,6 @@
 -- A bucket is entered, in what is known of open buckets: only that it is so.
 use Rattle.std.proofs.Common.{◌≡◌, ◌∙◌, IsTrue, false, List, [], ◌∷◌, ◌++◌, Option, Some, None, refl, sym, subst}
-use Rattle.bolt_tree.proofs.Words.{AreEntries, AreOpen, Bucket, Checked, CursorView, HasEntries, HasStart, IsInside, LeafElement, Lists, Member, Moves, Names}
-use Rattle.bolt_tree.proofs.Words.{Path, Start, beyond, bucket_checked, bucket_start, bytes_of, drop_all, entries_of, item_of, meta_of, place_in, props}
-use Rattle.bolt_tree.proofs.Words.{rest_after, rest_from, root_start, start_of, ∥∥₁_elim, ∥∥₁_map, ∥∥₁_prop}
+use Rattle.bolt_tree.proofs.Words.{AreEntries, AreOpen, Bucket, Checked, CursorView, HasEntries, HasStart, IsInside, LeafElement, Lists, Member, Moves, Names, Path, Start, beyond, bucket_checked, bucket_start, bytes_of, drop_all, entries_of, item_of, meta_of, place_in, props, rest_after, rest_from, root_start, start_of, ∥∥₁_elim, ∥∥₁_map, ∥∥₁_prop}
 use Rattle.bolt_tree.proofs.BucketWays.{root_starts, starts_named}
 use Rattle.bolt_tree.specs.Private.OpenBuckets.{StandsOn}
 use Rattle.bolt_tree.proofs.CursorMoves.{ComesTo, FirstMove, by_first}

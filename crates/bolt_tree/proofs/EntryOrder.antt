@@ -1,8 +1,7 @@
 -- Entries in order: which come first, next and last, and the place of a key among them.
 -- Over a list of elements whose keys rise.
 use Rattle.std.proofs.Common.{◌≡◌, ◌∙◌, ◌≤◌, inl, inr, Bool, true, false, ℕ, zero, suc, List, [], ◌∷◌, length, not, Some, slice_get, sym, ap, subst, arith, ◌<◌}
-use Rattle.bolt_tree.proofs.Words.{Contains, Key, LeafElement, Less, Rises, cases_lt, entry_cmp, fails_before_first, get_or_from_slice_get, is_lt, key_cmp}
-use Rattle.bolt_tree.proofs.Words.{key_lt, least_from, none-some, not-false, not-true, passes_at_first, same_Some, slice_get-get_or, slice_get_within}
+use Rattle.bolt_tree.proofs.Words.{Contains, Key, LeafElement, Less, Rises, cases_lt, entry_cmp, fails_before_first, get_or_from_slice_get, is_lt, key_cmp, key_lt, least_from, none-some, not-false, not-true, passes_at_first, same_Some, slice_get-get_or, slice_get_within}
 use Rattle.bolt_tree.proofs.PathOrder.{flip_less, key_same, key_total}
 
 not_behind : (a b : Key) → key_cmp a b ≡ Less → is_lt (key_cmp b a) ≡ false

@@ -1,8 +1,7 @@
 -- A file with sound trees has a listing, which is that of its tree.
 -- Rests on the tree of the root bucket (Nesting) and on what trees list (TreeListing).
 use Rattle.std.proofs.Common.{◌≡◌, ◌∙◌, ◌<◌, ap, ℕ, List, Some, sym}
-use Rattle.bolt_tree.proofs.Words.{At_page, HasSoundTrees, IsEntry, IsListing, IsTreeOf, Member, Meta, PageSpot, Root_page, Tree, below_mark, file_tree}
-use Rattle.bolt_tree.proofs.Words.{good_page, listing_of, node_at, reached, tree_of}
+use Rattle.bolt_tree.proofs.Words.{At_page, HasSoundTrees, IsEntry, IsListing, IsTreeOf, Member, Meta, PageSpot, Root_page, Tree, below_mark, file_tree, good_page, listing_of, node_at, reached, tree_of}
 use Rattle.bolt_tree.proofs.Nesting.{root_tree}
 use Rattle.bolt_tree.proofs.ReadBack.{tree_back}
 use Rattle.bolt_tree.proofs.Single.{lists_once}

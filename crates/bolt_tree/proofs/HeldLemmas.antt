@@ -1,10 +1,6 @@
 -- What a cursor keeps, and its moves by those of its trail.
 use Rattle.std.proofs.Common.{◌≡◌, ◌∙◌, ℕ, ◌-◌, ◌≤◌, Bool, true, false, List, [], ◌∷◌, Option, None, length, drop, ap, refl, sym, subst}
-use Rattle.bolt_tree.proofs.Words.{BucketView, Content, Contents, EntryView, Finds, FindsBack, Frame, HasBucket, HasStack, HasTrail, IsAtRest, IsEntry, IsHeld}
-use Rattle.bolt_tree.proofs.Words.{IsSameBucket, Key, Leaf, LeafElement, Move, Moves, Of_branch, Of_leaf, OpensByNext, OpensGap, Place, RestsOn, ShowsMove}
-use Rattle.bolt_tree.proofs.Words.{Start, Trail, ahead, contents_in, counted, elements_in, entry_view, first_move, is_none, last_move, leaf_view, least_from}
-use Rattle.bolt_tree.proofs.Words.{next_move, opened_to, option_map, pages_in, place_by, place_in, place_on, preceding, prev_move, props, right, seek_move}
-use Rattle.bolt_tree.proofs.Words.{trail_bucket, trail_frames, ∥∥₁_elim, ∥∥₁_map}
+use Rattle.bolt_tree.proofs.Words.{BucketView, Content, Contents, EntryView, Finds, FindsBack, Frame, HasBucket, HasStack, HasTrail, IsAtRest, IsEntry, IsHeld, IsSameBucket, Key, Leaf, LeafElement, Move, Moves, Of_branch, Of_leaf, OpensByNext, OpensGap, Place, RestsOn, ShowsMove, Start, Trail, ahead, contents_in, counted, elements_in, entry_view, first_move, is_none, last_move, leaf_view, least_from, next_move, opened_to, option_map, pages_in, place_by, place_in, place_on, preceding, prev_move, props, right, seek_move, trail_bucket, trail_frames, ∥∥₁_elim, ∥∥₁_map}
 use Rattle.bolt_tree.proofs.OpeningMoves.{first_opens, next_opens}
 use Rattle.bolt_tree.proofs.PlaceMoves.{Comes, first_moves, last_moves, next_moves, prev_moves, seek_moves, stack_bucket, the_entries}
 use Rattle.bolt_tree.proofs.TrailLemmas.{same_bucket}

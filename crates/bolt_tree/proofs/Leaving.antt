@@ -1,8 +1,7 @@
 -- A loop over a cursor: each call removes the first of the entries that are left, so there are fewer left then.
 -- Rests on that the entries of a bucket in order exist, and are one.
 use Rattle.std.proofs.Common.{◌≡◌, ◌∙◌, ◌<◌, ℕ, suc, List, [], ◌∷◌, length, drop, nat_lt, Option, Some, None, refl, sym, ap, subst, arith}
-use Rattle.bolt_tree.proofs.Words.{AreEntries, Bucket, Checked, EntryView, Fresh, LeafElement, On, Past, Place, ShowsMove, Start, bucket_checked, bucket_start}
-use Rattle.bolt_tree.proofs.Words.{bytes_of, drop_all, drop_at, entries_of, entry_view, meta_of, next_move, option_map, place_in, props, ∥∥₁_elim, ∥∥₁_prop}
+use Rattle.bolt_tree.proofs.Words.{AreEntries, Bucket, Checked, EntryView, Fresh, LeafElement, On, Past, Place, ShowsMove, Start, bucket_checked, bucket_start, bytes_of, drop_all, drop_at, entries_of, entry_view, meta_of, next_move, option_map, place_in, props, ∥∥₁_elim, ∥∥₁_prop}
 use mathlib.Core.HLevel.{Σ_prop_path}
 use Rattle.bolt_tree.specs.EntriesLeft.{ForEntries, entries_left}
 use Rattle.bolt_tree.proofs.CursorMoves.{ComesTo, by_length, comes_first}

@@ -1,7 +1,6 @@
 -- The listing of a checked file is the one that is computed, and a walk has fewer members of it left after it returned one.
 use Rattle.std.proofs.Common.{◌≡◌, ◌<◌, Err, List, None, Ok, Option, Result, Some, ◌∷◌, length, ap, arith}
-use Rattle.bolt_tree.proofs.Words.{Checked, ForListing, GivesNext, IfOk, IfSome, IsListing, Member, bytes_of, checked_trees, item_view, meta_of, option_map}
-use Rattle.bolt_tree.proofs.Words.{props, walk_checked, walk_path, ∥∥₁_elim, ∥∥₁_map}
+use Rattle.bolt_tree.proofs.Words.{Checked, ForListing, GivesNext, IfOk, IfSome, IsListing, Member, bytes_of, checked_trees, item_view, meta_of, option_map, props, walk_checked, walk_path, ∥∥₁_elim, ∥∥₁_map}
 use Rattle.bolt_tree.specs.Walks.{left_of}
 use Rattle.bolt_tree.specs.declared.entry.Item.{Item}
 use Rattle.bolt_tree.specs.WalksLeft.{left_number, the_listing}

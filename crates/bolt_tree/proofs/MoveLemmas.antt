@@ -1,9 +1,6 @@
 -- Moves from entry to entry. Within a leaf, one element more of the page on top of a stack is taken, in place.
 use Rattle.std.proofs.Common.{◌≡◌, ℕ, ◌<◌, Bool, false, List, [], ◌∷◌, ◌++◌, Some, None, Option, length, refl, ◌∙◌, arith, ◌≤◌, ◌+◌, ◌-◌, suc, take, slice_index_or, slice_set, sym, ap, append-nil}
-use Rattle.bolt_tree.proofs.Words.{BucketView, Content, Contents, Finds, FindsBack, Frame, IsAtRest, IsEntered, IsOn, Leaf, LeafElement, MatchOption, Of_branch}
-use Rattle.bolt_tree.proofs.Words.{Of_leaf, Position, RestsOn, StandsOn, ahead_of, contents_in, drop_all, frame_of, frames_of, get_or_default, here_of}
-use Rattle.bolt_tree.proofs.Words.{leaf_view, length-set, opened_content, option_map, refill, right_of, right_under, slice_get_read, take-suc-set, take_all}
-use Rattle.bolt_tree.proofs.Words.{take_next}
+use Rattle.bolt_tree.proofs.Words.{BucketView, Content, Contents, Finds, FindsBack, Frame, IsAtRest, IsEntered, IsOn, Leaf, LeafElement, MatchOption, Of_branch, Of_leaf, Position, RestsOn, StandsOn, ahead_of, contents_in, drop_all, frame_of, frames_of, get_or_default, here_of, leaf_view, length-set, opened_content, option_map, refill, right_of, right_under, slice_get_read, take-suc-set, take_all, take_next}
 use Rattle.bolt_tree.proofs.TrailLemmas.{step_some, frames_push}
 
 pub found_over : (found : Option Leaf) (whole before after : List LeafElement) (frames end : List Frame) → whole ≡ before → Finds found before after frames end → Finds found whole after frames end

@@ -1,8 +1,6 @@
 -- How open buckets change: a cursor is removed and added again, or opened after the others and makes its first move.
 use Rattle.std.proofs.Common.{◌≡◌, ◌∙◌, ◌-◌, ℕ, suc, List, [], ◌∷◌, ◌++◌, take, Option, Some, None, MatchOption, refl, sym, ap, subst, append_assoc, append-nil, Bor, slice_get}
-use Rattle.bolt_tree.proofs.Words.{AreEntries, AreOpen, Bucket, Checked, CursorView, Fresh, HasEntries, Keeps, Key, LeafElement, Lists, Member, Move, Moves}
-use Rattle.bolt_tree.proofs.Words.{MovesLast, Names, Opens, Path, Place, Start, beyond, bucket_checked, bucket_start, entries_of, first_move, fresh_view}
-use Rattle.bolt_tree.proofs.Words.{item_of, next_move, option_to_list, path_of, rest_after, root_start, same_from_push}
+use Rattle.bolt_tree.proofs.Words.{AreEntries, AreOpen, Bucket, Checked, CursorView, Fresh, HasEntries, Keeps, Key, LeafElement, Lists, Member, Move, Moves, MovesLast, Names, Opens, Path, Place, Start, beyond, bucket_checked, bucket_start, entries_of, first_move, fresh_view, item_of, next_move, option_to_list, path_of, rest_after, root_start, same_from_push}
 use Rattle.bolt_tree.specs.Private.OpenBuckets.{StandsOn}
 use Rattle.bolt_tree.proofs.CursorMoves.{ComesTo, comes_next}
 use Rattle.bolt_tree.proofs.EntryOrder.{contains_at}

@@ -1,9 +1,7 @@
 -- The part of a listing below a path: its members stand together, and a walk from the later of two paths comes to all of them that don't
 -- come before the other.
 use Rattle.std.proofs.Common.{◌≡◌, ◌∙◌, inl, inr, Bool, true, false, not, List, [], ◌∷◌, ◌++◌, length, drop, cond, filter, refl, sym, ap, append-nil}
-use Rattle.bolt_tree.proofs.Words.{All-contains, All-contains_itself, All-filter, Contains, Equal, Greater, Item, Less, Member, Ordering, Path, Rises}
-use Rattle.bolt_tree.proofs.Words.{bytes_eq-Decides, false_from_ne_true, filter_passes, if◌then◌else◌, is_beyond, is_lt, less_of, member_cmp, not-true}
-use Rattle.bolt_tree.proofs.Words.{ordering_reverse, path_cmp, rest_from, starts_is, take_while, take_while-cons}
+use Rattle.bolt_tree.proofs.Words.{All-contains, All-contains_itself, All-filter, Contains, Equal, Greater, Item, Less, Member, Ordering, Path, Rises, bytes_eq-Decides, false_from_ne_true, filter_passes, if◌then◌else◌, is_beyond, is_lt, less_of, member_cmp, not-true, ordering_reverse, path_cmp, rest_from, starts_is, take_while, take_while-cons}
 use Rattle.bolt_tree.specs.ListingParts.{begins_with, later_path, part_below}
 use Rattle.bolt_tree.proofs.Filters.{filter_all, filter_first, filter_none}
 use Rattle.bolt_tree.proofs.Single.{member_total}

@@ -1,7 +1,6 @@
 -- A tree is read off its listing: its trees, from the last member to the first.
 use Rattle.std.proofs.Common.{◌≡◌, ◌∙◌, ◌<◌, ◌≤◌, ℕ, zero, suc, List, [], ◌∷◌, ◌++◌, length, refl, sym, ap, subst, arith, append_assoc, append-nil, length-append}
-use Rattle.bolt_tree.proofs.Words.{Item, Key, Member, Path, Tree, Value, end, first_tree, later_trees, listing_below, listing_of, put_first, tree_of}
-use Rattle.bolt_tree.proofs.Words.{trees_by_depth, with_bucket, with_value}
+use Rattle.bolt_tree.proofs.Words.{Item, Key, Member, Path, Tree, Value, end, first_tree, later_trees, listing_below, listing_of, put_first, tree_of, trees_by_depth, with_bucket, with_value}
 use Rattle.bolt_tree.specs.Entries.{Bucket}
 
 -- the tree at a depth

@@ -1,10 +1,7 @@
 -- The rest of a listing from a path, found part by part: if a bucket has no entry from a part on, a greater one, or a value.
 -- Rests on the order of paths, and on what a named bucket holds (Named).
 use Rattle.std.proofs.Common.{◌≡◌, ◌∙◌, ◌≤◌, inl, inr, true, false, not, List, [], ◌∷◌, ◌++◌, length, Some, slice_get, refl, ap, subst, ◌+◌, ◌<◌, ℕ, zero, suc, take, drop, get_or, eqb, eq-eqb, sym, arith, Bor}
-use Rattle.bolt_tree.proofs.Words.{AreEntries, AreOpen, Checked, CursorView, Equal, Greater, HasEntries, Holds, Item, Key, LeafElement, Less, Lists, Member}
-use Rattle.bolt_tree.proofs.Words.{Names, Ordering, Path, Start, beyond, both_ways, entries_of, false_from_ne_true, is_beyond, is_end, is_lt, key_cmp}
-use Rattle.bolt_tree.proofs.Words.{least_from, less_of, nat_tests, not-true, ordering_reverse, path_cmp, path_of, props, rest_after, rest_from, root_start}
-use Rattle.bolt_tree.proofs.Words.{∥∥₁_elim}
+use Rattle.bolt_tree.proofs.Words.{AreEntries, AreOpen, Checked, CursorView, Equal, Greater, HasEntries, Holds, Item, Key, LeafElement, Less, Lists, Member, Names, Ordering, Path, Start, beyond, both_ways, entries_of, false_from_ne_true, is_beyond, is_end, is_lt, key_cmp, least_from, less_of, nat_tests, not-true, ordering_reverse, path_cmp, path_of, props, rest_after, rest_from, root_start, ∥∥₁_elim}
 use Rattle.bolt_tree.proofs.EntryOrder.{seek_least, seek_none}
 use Rattle.bolt_tree.proofs.Filters.{filter_all, filter_same}
 use Rattle.bolt_tree.proofs.Giving.{not_before, not_before_beyond, after_end}

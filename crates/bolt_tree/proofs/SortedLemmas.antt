@@ -1,8 +1,6 @@
 -- The entries of a bucket in order are the elements along its tour, and there is one such list.
 use Rattle.std.proofs.Common.{◌≡◌, ℕ, List, [], ◌∷◌, ◌++◌, Some, slice_get, map, refl, sym, ap, ◌∙◌, subst, arith, inl, inr, eq-eqb, eqb}
-use Rattle.bolt_tree.proofs.Words.{AreEntries, Contains, HasSoundTrees, Inline_page, IsEntry, IsHome, IsStart, KeysRise, LeafElement, Meta, Root_page, Start}
-use Rattle.bolt_tree.proofs.Words.{Visit, content_at, elements_of, entry_cmp, head_root, inline_elements, inline_reached, leads, less_of, lt_strict, node_at}
-use Rattle.bolt_tree.proofs.Words.{node_is, option_map, pages_at, slice_get-map}
+use Rattle.bolt_tree.proofs.Words.{AreEntries, Contains, HasSoundTrees, Inline_page, IsEntry, IsHome, IsStart, KeysRise, LeafElement, Meta, Root_page, Start, Visit, content_at, elements_of, entry_cmp, head_root, inline_elements, inline_reached, leads, less_of, lt_strict, node_at, node_is, option_map, pages_at, slice_get-map}
 use Rattle.bolt_format.specs.declared.kind.Kind.TheVariants as kind
 use Rattle.bolt_tree.specs.Order as order
 use Rattle.bolt_tree.proofs.ListLemmas.{Has, RisesBy, contains_from_has, flat_has, has_at, has_flat, has_from_contains, one_list, rises_flat, rises_from_gets, rises_weaker}

@@ -1,10 +1,6 @@
 -- What the moves of a trail do to its stack.
 use Rattle.std.proofs.Common.{◌≡◌, ◌==◌, ℕ, suc, ◌+◌, ◌-◌, ◌≤◌, ◌<◌, Bool, true, false, List, [], ◌∷◌, ◌++◌, Some, None, slice_get, length, map, reverse, drop, refl, sym, ap, ◌∙◌, subst, arith, append_assoc, append-nil}
-use Rattle.bolt_tree.proofs.Words.{BranchElement, BucketView, Checked, Content, Contents, Frame, HasStack, HasTrail, IsBranchContent, IsBranchTop, IsEntered}
-use Rattle.bolt_tree.proofs.Words.{IsOn, IsOnWay, IsSameBucket, IsTrue, LeafElement, Meta, Of_branch, Of_leaf, PageView, Position, Trail, Visit, address_on}
-use Rattle.bolt_tree.proofs.Words.{ahead_of, bytes_of, checked_trees, content_length, contents_in, drop_all, drop_at, elements_of, frame_of, frames_of, here_of}
-use Rattle.bolt_tree.proofs.Words.{here_under, is_tree_kind, length-map, length-reverse, meta_of, nat_tests, one_some, option_to_list, page_at, props}
-use Rattle.bolt_tree.proofs.Words.{reverse-append, right_of, right_under, tour, trail_bucket, under_at, ∥∥₁_elim}
+use Rattle.bolt_tree.proofs.Words.{BranchElement, BucketView, Checked, Content, Contents, Frame, HasStack, HasTrail, IsBranchContent, IsBranchTop, IsEntered, IsOn, IsOnWay, IsSameBucket, IsTrue, LeafElement, Meta, Of_branch, Of_leaf, PageView, Position, Trail, Visit, address_on, ahead_of, bytes_of, checked_trees, content_length, contents_in, drop_all, drop_at, elements_of, frame_of, frames_of, here_of, here_under, is_tree_kind, length-map, length-reverse, meta_of, nat_tests, one_some, option_to_list, page_at, props, reverse-append, right_of, right_under, tour, trail_bucket, under_at, ∥∥₁_elim}
 use Rattle.bolt_tree.proofs.StackLemmas.{branch_room, stack_short, under_next}
 use Rattle.bolt_tree.proofs.WayPages.{IsWayPage, a_branch, a_leaf, on_way_page}
 

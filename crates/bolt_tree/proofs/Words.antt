@@ -69,7 +69,7 @@ pub use Rattle.bolt_tree.specs.Walks.{GivesNext}
 unfoldable pub use Rattle.bolt_tree.specs.Walks.{walk_checked, walk_path}
 pub use Rattle.bolt_tree.specs.declared.bucket.Bucket.{Bucket}
 pub use Rattle.bolt_tree.specs.declared.cursor.Cursor.{Cursor}
-pub use Rattle.bolt_tree.specs.declared.position.Position.{Position}
+pub use Rattle.bolt_tree.specs.declared.opened.Position.{Position}
 pub use Rattle.bolt_tree.specs.declared.trail.Trail.{Trail}
 pub use Rattle.std.proofs.Math.Logic.{∥∥₁_elim, ∥∥₁_map, ∥∥₁_prop}
 pub use Rattle.std.proofs.Math.Seq.{drop-append_seam, take-append_seam, take-length, take-nil, take-suc-set}

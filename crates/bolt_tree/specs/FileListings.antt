@@ -1,5 +1,5 @@
 -- The listing of a checked file: docs/LISTING.md, "The listing".
--- What is promised of it is promised for each listing of the file; there is exactly one (`listing_laws`).
+-- What is promised of it is promised for each listing of the file; there is exactly one (`laws`).
 use Rattle.std.specs.Prelude.{List}
 use Rattle.bolt_check.specs.CheckedFiles.{bytes_of, meta_of}
 use Rattle.bolt_check.specs.declared.checked_file.Checked.{Checked}

@@ -3,8 +3,8 @@ use Rattle.bolt_format.specs.ShownInline.{shown_inline}
 use Rattle.bolt_check.specs.CheckedFiles.{bytes_of, meta_of}
 use Rattle.bolt_check.specs.declared.checked_file.Checked.{Checked}
 use Rattle.bolt_tree.specs.Entries.{Inline_page, IsStart, Root_page, Start}
-use Rattle.bolt_tree.specs.declared.at.At.{At}
-use Rattle.bolt_tree.specs.declared.at.At.TheVariants as at
+use Rattle.bolt_tree.specs.declared.bucket.At.{At}
+use Rattle.bolt_tree.specs.declared.bucket.At.TheVariants as at
 
 abbrev pub start_at : At → Start
 start_at (at.Page number) = Root_page number

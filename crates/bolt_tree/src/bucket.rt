@@ -11,11 +11,10 @@ ghost use Rattle.bolt_tree.specs.Entries.{Root_page, start_of};
 ghost use Rattle.bolt_tree.specs.Places.{Fresh};
 ghost use Rattle.bolt_tree.specs.Starts.{HasStart, start_at};
 
-use crate::at::At;
 use crate::cursor::Cursor;
 use crate::pager::Pager;
 use bolt_check::Checked;
-use bolt_format::{Head, Leaf, head, inline};
+use bolt_format::{Head, Inline, Leaf, head, inline};
 
 /// A bucket of a checked file. It is made only if a way of the file leads to it (docs/TREE.md,
 /// "Buckets").
@@ -145,4 +144,14 @@ fn at_of(value: &[u8], head: Head) -> At<'_>
     } else {
         At::Page(head.root)
     }
+}
+
+/// Where a bucket's tree begins: at a root page or, if the bucket is inline, in its own value
+/// (docs/FORMAT.md, "Buckets").
+#[derive(Clone, Copy)]
+pub enum At<'a> {
+    /// The number of the root page.
+    Page(u64),
+    /// The page of an inline bucket.
+    Inline(Inline<'a>),
 }

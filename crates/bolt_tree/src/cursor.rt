@@ -13,10 +13,10 @@ ghost use Rattle.bolt_tree.specs.Places.{Fresh, Moves, Past, ShowsMove, first_mo
 ghost use Rattle.bolt_tree.specs.ShownEntries.{shown_entry};
 ghost use Rattle.bolt_tree.specs.Starts.{HasStart, start_at};
 
-use crate::at::At;
+use crate::bucket::At;
 use crate::entry::Entry;
+use crate::opened::{Position, Stack, set_positions};
 use crate::pager::Pager;
-use crate::position::{Position, Stack, set_positions};
 use crate::trail::Trail;
 use bolt_format::Leaf;
 

@@ -1,14 +1,20 @@
 //! What the definitions of a bucket's entries and of its pages imply.
-ghost use Rattle.std.specs.Prelude.{◌≡◌, ◌≢◌, ◌≤◌, ◌+◌, ℕ, IsTrue, List, Some, slice_get};
+ghost use Rattle.std.specs.Prelude.{◌≡◌, ◌≢◌, ◌≤◌, ◌+◌, ℕ, IsTrue, List, Some, slice_get, ◌∷◌, []};
 ghost use Rattle.bolt_format.specs.Elements.{LeafElement, head_root, inline_elements};
 ghost use Rattle.bolt_format.specs.Pages.{PageView, page_at};
-ghost use Rattle.bolt_format.specs.declared.kind.Kind.TheVariants as kind;
 ghost use Rattle.bolt_format.specs.declared.meta.Meta.{Meta};
 ghost use Rattle.bolt_check.specs.OnWays.{IsOnWay};
 ghost use Rattle.bolt_check.specs.Sound.{HasSoundTrees};
-ghost use Rattle.bolt_tree.specs.Entries.{AreEntries, Inline_page, IsEntry, IsStart, Root_page, Start};
+ghost use Rattle.bolt_tree.specs.Entries.{AreEntries, Inline_page, IsEntry, IsStart, Root_page, Start, Item};
 ghost use Rattle.bolt_tree.specs.Openings.{GapsCoverAll, IsGap, IsSeekCount};
 ghost use Rattle.bolt_tree.specs.Places.{least_from};
+ghost use Rattle.bolt_tree.specs.Listing.{IsListing, Lists, Member, member_cmp, rest_from};
+ghost use Rattle.bolt_tree.specs.Tree.{IsTreeOf, Tree, listing_of, tree_of};
+ghost use Rattle.std.specs.List.{Contains, take_while};
+ghost use Rattle.bolt_tree.specs.ListingParts.{begins_with, part_below};
+ghost use Rattle.bolt_tree.specs.Order.{Rises};
+ghost use Rattle.bolt_tree.specs.Paths.{Path};
+ghost use Rattle.bolt_format.specs.declared.kind.Kind.TheVariants as kind;
 
 use bolt_check::laws::ways_go_on;
 
@@ -58,4 +64,67 @@ pub fn seeks_are_bounded()
     ensures { (file : List ℕ) (meta : Meta) (start : Start) (entries : List LeafElement) (key : List ℕ) (n gap : ℕ) → HasSoundTrees file meta
         → IsStart file meta start → AreEntries (IsEntry file meta) start entries
         → IsSeekCount file meta start entries key n → IsGap file meta start entries (least_from key entries) gap → n ≤ 64 + gap }
+{}
+
+/// A file has at most one listing.
+pub fn listing_is_one()
+    ensures { (file : List ℕ) (meta : Meta) (a b : List Member) → IsListing file meta a → IsListing file meta b → a ≡ b }
+{}
+
+/// A file with sound trees has a listing.
+#[tactic(auto, using(crate::proofs::Existing::has_listing))]
+pub fn sound_trees_have_a_listing()
+    ensures { (file : List ℕ) (meta : Meta) → HasSoundTrees file meta → (listing : List Member) × IsListing file meta listing }
+{}
+
+/// The listing of a file with sound trees is what the tree of its root bucket lists.
+#[tactic(auto, using(crate::proofs::Existing::listing_tree))]
+pub fn listing_is_of_a_tree()
+    ensures { (file : List ℕ) (meta : Meta) (listing : List Member) → HasSoundTrees file meta → IsListing file meta listing
+        → (tree : Tree) × IsTreeOf (IsEntry file meta) (Root_page meta.root) tree × (listing ≡ listing_of tree) }
+{}
+
+/// What a bucket's tree lists is the listing of the bucket.
+pub fn a_tree_lists_its_bucket()
+    ensures { (file : List ℕ) (meta : Meta) (bucket : Start) (tree : Tree) → IsTreeOf (IsEntry file meta) bucket tree
+        → Lists (IsEntry file meta) bucket (listing_of tree) }
+{}
+
+/// The tree of a listing can be computed from the listing.
+#[tactic(auto, using(crate::proofs::ReadBack::tree_back))]
+pub fn a_tree_is_of_its_listing()
+    ensures { (tree : Tree) → tree_of (listing_of tree) ≡ tree }
+{}
+
+/// A file's listing is that of the tree that is computed from it.
+#[tactic(auto, using(crate::proofs::Existing::listing_back))]
+pub fn a_listing_is_of_its_tree()
+    ensures { (file : List ℕ) (meta : Meta) (listing : List Member) → HasSoundTrees file meta → IsListing file meta listing
+        → listing_of (tree_of listing) ≡ listing }
+{}
+
+/// The part below the empty path is the whole listing.
+#[tactic(auto, using(crate::proofs::PartLemmas::part_of_root))]
+pub fn all_is_below_the_root()
+    ensures { (listing : List Member) → part_below [] listing ≡ listing }
+{}
+
+/// The members of a part stand together: they come first in the rest of the listing from the path.
+#[tactic(auto, using(crate::proofs::PartLemmas::part_together))]
+pub fn a_part_stands_together()
+    ensures { (below : Path) (listing : List Member) → Rises member_cmp listing
+        → part_below below listing ≡ take_while (λ m. begins_with below m.0) (rest_from below listing) }
+{}
+
+/// The rest of a part is the part of the rest.
+#[tactic(auto, using(crate::proofs::PartLemmas::rest_of_part))]
+pub fn the_rest_of_a_part_is_a_part()
+    ensures { (below from : Path) (listing : List Member) → rest_from from (part_below below listing) ≡ part_below below (rest_from from listing) }
+{}
+
+/// The member at a path comes first in the part below that path.
+#[tactic(auto, using(crate::proofs::PartLemmas::member_first))]
+pub fn the_member_at_a_path_is_first_below_it()
+    ensures { (below : Path) (item : Item) (listing : List Member) → Rises member_cmp listing → Contains listing (below, item)
+        → (rest : List Member) × (part_below below listing ≡ (below, item) ∷ rest) }
 {}

@@ -4,26 +4,21 @@
 //! innermost open bucket, and the positions of the cursors of the others.
 #![tactic(auto)]
 
-mod at;
 mod bucket;
 mod cursor;
 mod entry;
 mod key_search;
 pub mod laws;
-pub mod listing_laws;
 mod members;
 mod open_buckets;
 mod open_cursors;
 mod opened;
 mod pager;
-pub mod part_laws;
-mod position;
 mod trail;
 mod walk;
 
-pub use at::At;
 pub use bolt_check::NoMemory;
-pub use bucket::Bucket;
+pub use bucket::{At, Bucket};
 pub use cursor::Cursor;
 pub use entry::{Entry, Item};
 pub use members::Members;

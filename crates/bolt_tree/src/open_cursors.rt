@@ -8,10 +8,9 @@ ghost use Rattle.bolt_tree.specs.Places.{first_move, next_move, seek_move};
 ghost use Rattle.bolt_tree.specs.Private.CursorViews.{AreOfFile, Keeps, MovesLast, Opens, fresh_view};
 ghost use Rattle.bolt_tree.specs.Private.Kept.{CursorView};
 
-use crate::at::At;
-use crate::bucket::Bucket;
+use crate::bucket::{At, Bucket};
 use crate::cursor::Cursor;
-use crate::position::Position;
+use crate::opened::Position;
 use bolt_check::{Checked, NoMemory};
 use bolt_format::Leaf;
 use std::alloc::Global;

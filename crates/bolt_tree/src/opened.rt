@@ -1,11 +1,14 @@
 //! A page that a cursor has opened.
-ghost use Rattle.std.specs.Prelude.{◌≡◌, ◌+◌, ◌<◌, IsTrue, Some, length, slice_get};
+ghost use Rattle.std.specs.Prelude.{◌≡◌, ◌+◌, ◌<◌, IsTrue, Some, length, slice_get, ◌≤◌};
 ghost use Rattle.std.proofs.Props.{props};
 ghost use Rattle.bolt_format.specs.ElementPlaces.{branch_view, leaf_view};
 ghost use Rattle.bolt_format.specs.Elements.{IsBucketValue};
 ghost use Rattle.bolt_format.specs.Shown.{shown};
+ghost use Rattle.bolt_check.specs.declared.spot.TheConstants.{MAX_DEPTH};
 ghost use Rattle.bolt_format.specs.declared.kind.Kind.TheVariants as kind;
 
+use arrayvec::ArrayVec;
+use bolt_check::MAX_DEPTH;
 use bolt_format::{Branch, Inline, Kind, Leaf, Page};
 
 /// A page that is a branch.
@@ -108,5 +111,30 @@ impl<'a> Opened<'a> {
             Opened::Leaf(page) => page.element(i).key,
             Opened::Inline(page) => page.leaf(i).key,
         }
+    }
+}
+
+/// A page on the stack.
+#[derive(Clone, Copy, Default)]
+pub(crate) struct Position<'a> {
+    pub page: Opened<'a>,
+    /// The number of elements up to the current one, which the cursor is on or below. The count of
+    /// elements and one means past the end. So one loop serves the end of a leaf, an empty leaf and
+    /// a branch.
+    pub taken: u32,
+}
+
+/// The pages from the root page to the one that a cursor is on.
+pub(crate) type Stack<'a> = ArrayVec<Position<'a>, MAX_DEPTH>;
+
+/// Replaces the content of a stack by these positions.
+pub(crate) fn set_positions<'a>(stack: &mut Stack<'a>, positions: &[Position<'a>])
+    requires { length positions.now ≤ MAX_DEPTH }
+    ensures { stack.new.items ≡ positions.now }
+{
+    stack.clear();
+    match stack.try_extend_from_slice(positions) {
+        Ok(()) => {}
+        Err(_) => unreachable!(),
     }
 }

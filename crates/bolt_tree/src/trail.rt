@@ -15,11 +15,10 @@ ghost use Rattle.bolt_tree.specs.Private.Seeks.{IsNearTop, IsSought};
 ghost use Rattle.bolt_tree.specs.Private.ShownPages.{opened_content};
 ghost use Rattle.bolt_tree.specs.Private.Stacks.{HasStack, IsAtRest, IsLeafTop, IsOn, here_of};
 
-use crate::at::At;
+use crate::bucket::At;
 use crate::key_search::keys_before;
-use crate::opened::{BranchPage, Opened};
+use crate::opened::{BranchPage, Opened, Position, Stack, set_positions};
 use crate::pager::Pager;
-use crate::position::{Position, Stack, set_positions};
 use bolt_format::Leaf;
 
 /// The open pages of a bucket, from its root page on, each with the number of elements up to where

@@ -8,8 +8,8 @@ use Rattle.bolt_check.specs.Private.Tables.{IsClaimed}
 use Rattle.bolt_check.specs.Private.Uses.{HasUse, IsMetaUse, IsNoted}
 use Rattle.bolt_check.specs.Sound.{IsUsed}
 use Rattle.bolt_check.specs.Ways.{reached}
-use Rattle.bolt_check.specs.declared.role.Role.{Role}
-use Rattle.bolt_check.specs.declared.role.Role.TheVariants as role
+use Rattle.bolt_check.specs.declared.role_table.Role.{Role}
+use Rattle.bolt_check.specs.declared.role_table.Role.TheVariants as role
 use Rattle.bolt_check.specs.declared.table.PageUse.{PageUse}
 use Rattle.bolt_check.specs.declared.table.PageUse.TheVariants.{Unused, Branch, Leaf, Used, Free, FreeTwice, UsedFree, UsedFreeTwice}
 

@@ -10,7 +10,7 @@ use Rattle.bolt_tree.specs.Private.Kept.{AreKept, CursorView}
 use Rattle.bolt_tree.specs.declared.bucket.Bucket.{Bucket}
 use Rattle.bolt_tree.specs.declared.cursor.Cursor.{Cursor}
 use Rattle.bolt_tree.specs.declared.open_cursors.WaitingCursor.{WaitingCursor}
-use Rattle.bolt_tree.specs.declared.position.Position.{Position}
+use Rattle.bolt_tree.specs.declared.opened.Position.{Position}
 
 abbrev pub cursor_view : Cursor → CursorView
 cursor_view cursor = record { checked = cursor_checked cursor; start = cursor_start cursor; place = cursor_place cursor }

@@ -9,9 +9,9 @@ use Rattle.bolt_tree.specs.Private.Held.{place_by}
 use Rattle.bolt_tree.specs.Private.Stacks.{HasStack, IsAtRest}
 use Rattle.bolt_tree.specs.Private.Trails.{frames_of}
 use Rattle.bolt_tree.specs.Starts.{start_at}
-use Rattle.bolt_tree.specs.declared.at.At.{At}
+use Rattle.bolt_tree.specs.declared.bucket.At.{At}
 use Rattle.bolt_tree.specs.declared.open_cursors.WaitingCursor.{WaitingCursor}
-use Rattle.bolt_tree.specs.declared.position.Position.{Position}
+use Rattle.bolt_tree.specs.declared.opened.Position.{Position}
 
 -- a cursor without its counts: its file and bucket, and where it is
 pub record CursorView : Type 0 where

@@ -10,7 +10,7 @@ use Rattle.bolt_tree.specs.Private.ShownPages.{opened_content}
 use Rattle.bolt_tree.specs.Private.Stacks.{Frame, HasStack, IsOn, ahead_of, before_of, preceding_of, right_of}
 use Rattle.bolt_tree.specs.Starts.{start_at}
 use Rattle.bolt_tree.specs.Private.Tours.{Visit}
-use Rattle.bolt_tree.specs.declared.position.Position.{Position}
+use Rattle.bolt_tree.specs.declared.opened.Position.{Position}
 use Rattle.bolt_tree.specs.declared.trail.Trail.{Trail}
 
 abbrev pub frame_of : Position → Frame

@@ -1,6 +1,5 @@
 use Rattle.std.proofs.Common.{◌≡◌, ◌∷◌, ◌≤◌, ◌-◌, ◌*◌, length}
-use Rattle.bolt_tree.proofs.Words.{HasStack, IsBetween, IsOnWayDown, IsSameBucket, contents_in, counted, opened_content, pager_opened, trail_bucket}
-use Rattle.bolt_tree.proofs.Words.{trail_frames}
+use Rattle.bolt_tree.proofs.Words.{HasStack, IsBetween, IsOnWayDown, IsSameBucket, contents_in, counted, opened_content, pager_opened, trail_bucket, trail_frames}
 use Rattle.bolt_tree.proofs.trail.Trail.descend.Given as goal
 
 abbrev pub invariant-loop-opened : goal.invariant-loop-opened

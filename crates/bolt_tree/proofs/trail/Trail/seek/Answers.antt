@@ -1,7 +1,6 @@
 -- What the way down and then the move forward say, all of the bucket as it was.
 use Rattle.std.proofs.Common.{◌≡◌, [], ◌∙◌, ◌+◌, ◌-◌, ℕ, length, drop, sym, ap, arith, subst}
-use Rattle.bolt_tree.proofs.Words.{BucketView, Finds, HasStack, IsNearTop, IsSought, ahead, ahead_of, contents_in, counted, elements_in, least_from}
-use Rattle.bolt_tree.proofs.Words.{pager_opened, right, right_of, trail_bucket, trail_frames}
+use Rattle.bolt_tree.proofs.Words.{BucketView, Finds, HasStack, IsNearTop, IsSought, ahead, ahead_of, contents_in, counted, elements_in, least_from, pager_opened, right, right_of, trail_bucket, trail_frames}
 use Rattle.bolt_tree.proofs.MoveLemmas.{found_over}
 use Rattle.bolt_tree.proofs.PagerLemmas.{counted_more}
 use Rattle.bolt_tree.proofs.OpeningMoves.{leaf_nonempty, seek_bounds, seek_opens}

@@ -1,6 +1,6 @@
 use Rattle.bolt_tree.proofs.Words.{IsEntry}
 use Rattle.bolt_tree.proofs.TreeListing.{tree_lists}
-use Rattle.bolt_tree.proofs.listing_laws.a_tree_lists_its_bucket.Goals as goal
+use Rattle.bolt_tree.proofs.laws.a_tree_lists_its_bucket.Goals as goal
 
 pub returns : goal.returns
 returns c = λ file meta bucket tree is. tree_lists (IsEntry file meta) bucket tree is

@@ -3,7 +3,7 @@ use Rattle.std.proofs.Common.{◌≢◌, ◌∙◌, get_or, sym, ap, subst, refl
 use Rattle.bolt_load.specs.Lines.{Text}
 use Rattle.bolt_load.specs.Numbers.{number_in}
 use Rattle.bolt_load.proofs.DecimalNumbers.{no_plus, no_text, parsed_number, text_is}
-use Rattle.bolt_load.proofs.numbers.read_number.Goals as goal
+use Rattle.bolt_load.proofs.line_words.read_number.Goals as goal
 
 pub returns-in_err-ok : goal.returns-in_err-ok
 returns-in_err-ok c = c.from_residual.ensures ∙ sym (no_text c.args.word.now _ c.from_utf8.result c.from_utf8.ensures.cases (sym c.ok.ensures.value ∙ c.in_err-ok.was))

@@ -1,7 +1,7 @@
 -- The line ends at the first line feed, or with the text.
 use Rattle.std.proofs.Common.{sym, ◌∙◌}
 use Rattle.bolt_load.proofs.LineLemmas.{cut_line, last_line, not_empty}
-use Rattle.bolt_load.proofs.cuts.first_line.Goals as goal
+use Rattle.bolt_load.proofs.line_words.first_line.Goals as goal
 
 pub returns-in-Some : goal.returns-in-Some
 returns-in-Some c = cut_line c.args.text.now c.in-Some.line.now c.in-Some.after.now c.in-Some.ensures

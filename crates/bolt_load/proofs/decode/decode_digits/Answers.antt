@@ -1,6 +1,6 @@
 use Rattle.std.proofs.Common.{arith, length}
 use Rattle.bolt_load.proofs.DigitLemmas.{decoded, one_more}
-use Rattle.bolt_load.proofs.digits.decode_digits.Goals as goal
+use Rattle.bolt_load.proofs.decode.decode_digits.Goals as goal
 
 pub loop-i-preserved : goal.loop-i-preserved
 loop-i-preserved c =
