@@ -7,7 +7,7 @@ pub mod NumberLemmas
 pub mod PageSizes
 mod MetaFaultLemmas
 mod MetaLemmas
-mod MetaPrefix
+pub mod MetaPrefix
 pub mod PageFacts
 pub mod PageLaws
 pub mod SinkLemmas

@@ -20,7 +20,7 @@ pub record SameRecord (file other : List ℕ) (at : ℕ) : Type 0 where
   pub numbers : (from n : ℕ) → from + n ≤ 80 → number_at other (at + from) n ≡ number_at file (at + from) n
   pub hashed : take 56 (drop (at + 16) other) ≡ take 56 (drop (at + 16) file)
 
-same_back : (file other : List ℕ) (at : ℕ) → SameRecord file other at → SameRecord other file at
+pub same_back : (file other : List ℕ) (at : ℕ) → SameRecord file other at → SameRecord other file at
 same_back file other at s = record {
   whole = s.part;
   part = s.whole;
@@ -43,7 +43,7 @@ sum_same : (file other : List ℕ) (at : ℕ) → SameRecord file other at → n
     → number_at other (at + 72) 8 ≡ fnv_of (take 56 (drop (at + 16) other))
 sum_same file other at s e = s.numbers 72 8 (omega arith) ∙ (e ∙ ap fnv_of (sym s.hashed))
 
-meta_same : (file other : List ℕ) (at : ℕ) (meta : Meta) → SameRecord file other at → IsMeta file at meta → IsMeta other at meta
+pub meta_same : (file other : List ℕ) (at : ℕ) (meta : Meta) → SameRecord file other at → IsMeta file at meta → IsMeta other at meta
 meta_same file other at meta s valid = record {
   whole = s.whole valid.whole;
   magic = s.numbers 16 4 (omega arith) ∙ valid.magic;

@@ -1,12 +1,12 @@
 -- Bytes after the last page below the high-water mark: the same meta is active.
-use Rattle.std.proofs.Common.{◌≡◌, ◌∙◌, ◌+◌, ◌*◌, ◌<◌, ◌≤◌, ℕ, List, [], ◌++◌, drop, take, length, inl, inr, arith, ap, refl, subst, sym}
+use Rattle.std.proofs.Common.{◌≡◌, ◌∙◌, ◌+◌, ◌*◌, ◌<◌, ◌≤◌, ℕ, List, [], ◌++◌, drop, take, length, inl, inr, arith, ap, refl, sym}
 use Rattle.std.proofs.Math.Nat.{mul-le-mul_right}
 use Rattle.std.proofs.lemmas.List.{drop-append-le, length-append, length-drop, take-append-le}
-use Rattle.bolt_format.specs.Bytes.{fnv_of, number_at}
-use Rattle.bolt_format.specs.Metas.{IsChosen, IsInSlot, IsMeta, IsPageSize, IsPlaced, IsWhole, meta_fields, other_slot, size_at}
+use Rattle.bolt_format.specs.Metas.{IsChosen, IsInSlot, IsMeta, other_slot}
 use Rattle.bolt_format.specs.declared.meta.Meta.{Meta}
 use Rattle.bolt_format.specs.declared.meta.Slot.{Slot}
 use Rattle.bolt_format.specs.declared.meta.Slot.TheVariants.{Zero, One}
+use Rattle.bolt_format.proofs.MetaPrefix.{SameRecord, meta_same, same_back}
 use Rattle.bolt_format.proofs.PageFacts.{span_passes}
 use Rattle.bolt_format.proofs.PageSizes.{size_bounds}
 use Rattle.bolt_check.specs.Nodes.{node_at}
@@ -17,54 +17,23 @@ use Rattle.bolt_check.proofs.WayFacts.{in_own_span}
 use Rattle.bolt_snapshot.specs.Marks.{HasAllPages}
 use Rattle.bolt_snapshot.proofs.TrailingBytes.{below_of, number_more}
 
--- ---- two files with the same whole record at a byte
-
-record SameRecord (file other : List ℕ) (at : ℕ) : Type 0 where
-  whole : IsWhole other at
-  numbers : (from n : ℕ) → from + n ≤ 80 → number_at other (at + from) n ≡ number_at file (at + from) n
-  hashed : take 56 (drop (at + 16) other) ≡ take 56 (drop (at + 16) file)
-
-size_same : (file other : List ℕ) (at : ℕ) → SameRecord file other at → size_at other at ≡ size_at file at
-size_same file other at s = s.numbers 24 4 (omega arith)
-
-fields_same : (file other : List ℕ) (at : ℕ) → SameRecord file other at → meta_fields file at ≡ meta_fields other at
-fields_same file other at s =
-    rw (s.numbers 24 4 (omega arith), s.numbers 32 8 (omega arith), s.numbers 40 8 (omega arith), s.numbers 48 8 (omega arith), s.numbers 56 8 (omega arith), s.numbers 64 8 (omega arith)) refl
-
-placed_same : (file other : List ℕ) (at : ℕ) → SameRecord file other at → IsPlaced file at → IsPlaced other at
-placed_same file other at s (inl first) = inl first
-placed_same file other at s (inr second) = inr (second ∙ sym (size_same file other at s))
-
-meta_same : (file other : List ℕ) (at : ℕ) (meta : Meta) → SameRecord file other at → IsMeta file at meta → IsMeta other at meta
-meta_same file other at meta s valid = record {
-  whole = s.whole;
-  magic = s.numbers 16 4 (omega arith) ∙ valid.magic;
-  version = s.numbers 20 4 (omega arith) ∙ valid.version;
-  sum = s.numbers 72 8 (omega arith) ∙ (valid.sum ∙ ap fnv_of (sym s.hashed));
-  size = subst IsPageSize (sym (size_same file other at s)) valid.size;
-  place = placed_same file other at s valid.place;
-  fields = valid.fields ∙ fields_same file other at s;
-}
-
 -- ---- a file and more bytes
 
 module _ (file more : List ℕ) where
   record_more : (at : ℕ) → at + 80 ≤ length file → SameRecord file (file ++ more) at
   record_more at h = record {
-    whole = omega (arith, h, length-append file more);
+    whole = λ _. omega (arith, h, length-append file more);
+    part = λ _. h;
     numbers = λ from n k. number_more file more (at + from) n (omega (arith, h, k));
     hashed = ap (λ (bytes : List ℕ). take 56 bytes) (drop-append-le (at + 16) file more (omega (arith, h)))
         ∙ take-append-le 56 (drop (at + 16) file) more (omega (arith, h, length-drop (at + 16) file));
   }
 
-  record_less : (at : ℕ) → at + 80 ≤ length file → SameRecord (file ++ more) file at
-  record_less at h = let s = record_more at h in record { whole = h; numbers = λ from n k. sym (s.numbers from n k); hashed = sym s.hashed }
-
   meta_more : (at : ℕ) (meta : Meta) → IsMeta file at meta → IsMeta (file ++ more) at meta
   meta_more at meta valid = meta_same file (file ++ more) at meta (record_more at valid.whole) valid
 
   meta_less : (at : ℕ) (meta : Meta) → at + 80 ≤ length file → IsMeta (file ++ more) at meta → IsMeta file at meta
-  meta_less at meta h valid = meta_same (file ++ more) file at meta (record_less at h) valid
+  meta_less at meta h valid = meta_same (file ++ more) file at meta (same_back file (file ++ more) at (record_more at h)) valid
 
   slot_more : (slot : Slot) (meta : Meta) → IsInSlot file slot meta → IsInSlot (file ++ more) slot meta
   slot_more Zero meta valid = meta_more 0 meta valid
