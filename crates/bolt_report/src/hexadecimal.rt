@@ -10,8 +10,9 @@ use bolt_format::{Sink, SinkFault};
 /// The number of bytes that are encoded at a time.
 const PART_LEN: usize = 256;
 
-/// The same of a long text, where fewer pieces save more than a larger buffer costs.
-const LONG_PART_LEN: usize = 4096;
+/// The same of a long text. Its digits are as many as the program gathers before it writes them, so
+/// they are written at once, and not copied to what is gathered.
+const LONG_PART_LEN: usize = 1 << 15;
 
 /// Writes bytes in hexadecimal, part by part.
 pub(crate) fn put_hex<S: Sink>(bytes: &[u8], sink: &mut S) -> Result<(), SinkFault>
@@ -20,8 +21,16 @@ pub(crate) fn put_hex<S: Sink>(bytes: &[u8], sink: &mut S) -> Result<(), SinkFau
     if bytes.len() < LONG_PART_LEN {
         put_hex_parts(bytes, &mut [0; 2 * PART_LEN], sink)
     } else {
-        put_hex_parts(bytes, &mut [0; 2 * LONG_PART_LEN], sink)
+        put_long_hex(bytes, sink)
     }
+}
+
+/// Writes many bytes in hexadecimal. Only this function's frame has the large buffer.
+#[inline(never)]
+fn put_long_hex<S: Sink>(bytes: &[u8], sink: &mut S) -> Result<(), SinkFault>
+    ensures { Wrote S.Sink sink.old sink.new (encode_lower bytes.now) (ending result) }
+{
+    put_hex_parts(bytes, &mut [0; 2 * LONG_PART_LEN], sink)
 }
 
 /// Writes bytes in hexadecimal, as many at a time as the buffer has room for.
