@@ -1,7 +1,10 @@
 -- Hexadecimal digits, written part by part, and as JSON strings, which need no escapes.
-use Rattle.std.proofs.Common.{◌≡◌, ◌∙◌, ℕ, ◌-◌, ◌/◌, ◌%◌, List, [], ◌∷◌, ◌++◌, length, take, drop, ap, refl, sym, take-append-drop, suc, Bool, true, false, ◌&&◌, ◌==◌, not, nat_le, arith, append_assoc, codes}
+use Rattle.std.proofs.Common.{◌≡◌, ◌∙◌, ℕ, ◌+◌, ◌-◌, ◌*◌, ◌/◌, ◌%◌, ◌<◌, List, [], ◌∷◌, ◌++◌, length, map, get_or, take, drop, bit_and, w16, ap, refl, sym, take-append-drop, suc, Bool, true, false, ◌&&◌, ◌==◌, not, nat_le, arith, append_assoc, codes}
 use Rattle.std.specs.Prelude.{slice_index, decimal}
+use Rattle.std.specs.Int.{to_le_bytes}
+use Rattle.std.specs.List.{range_with_len}
 use Rattle.std.proofs.lemmas.List.{take_rest}
+use Rattle.std.proofs.lemmas.List.FromFn.{get_or-map-range_with_len}
 use Rattle.bolt_format.proofs.WroteFronts.{front_more, front_none}
 use Rattle.hex.specs.Hex.{encode_lower, encode_with, lower_digits, IsBytes}
 use Rattle.std.specs.List.{list_all}
@@ -36,6 +39,26 @@ no_digits rest none = ap encode_lower none
 
 -- for the search
 pub ruleset digits = (front_none, front_more, next_digits)
+
+-- ---- both digits of a byte in one number
+
+abbrev pub pair : ℕ → List ℕ
+pair byte = to_le_bytes w16 (byte / 16 + byte % 16 * 256 + 12336 + bit_and ((byte / 16 + byte % 16 * 256 + 1542) / 16) 257 * 39)
+
+abbrev pub digits_of : ℕ → List ℕ
+digits_of byte = slice_index lower_digits (byte / 16) ∷ slice_index lower_digits (byte % 16) ∷ []
+
+-- each of the 256 bytes was tried
+all_pairs : map pair (range_with_len 0 256) ≡ map digits_of (range_with_len 0 256)
+all_pairs = refl
+
+read : (f : ℕ → List ℕ) (byte : ℕ) → byte < 256 → get_or (map f (range_with_len 0 256)) byte [] ≡ f byte
+read f byte fits = get_or-map-range_with_len f 0 256 byte byte [] fits (omega arith)
+
+pub pair_is : (byte : ℕ) → byte < 256 → pair byte ≡ digits_of byte
+pair_is byte fits = sym (read pair byte fits) ∙ (ap (λ (pairs : List (List ℕ)). get_or pairs byte []) all_pairs ∙ read digits_of byte fits)
+
+-- ---- digits as text
 
 -- what each digit passes, the digits of bytes do
 pub digits_pass : (test : ℕ → Bool) → list_all test lower_digits ≡ true → (bytes : List ℕ) → IsBytes bytes → list_all test (encode_lower bytes) ≡ true
