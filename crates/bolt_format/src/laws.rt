@@ -33,10 +33,14 @@ pub fn chosen_meta_is_one()
 /// All metas of a file, and the faults of slots without a valid one, are those of a prefix. Its
 /// length is known by the first 80 bytes.
 pub fn metas_lie_in_a_prefix()
-    ensures chosen { (file : List ℕ) (end : ℕ) → IsMetasEnd (take 80 file) end → (slot : Slot) (meta : Meta) → IsChosen (take end file) slot meta ↔ IsChosen file slot meta }
-    ensures slot { (file : List ℕ) (end : ℕ) → IsMetasEnd (take 80 file) end → (slot : Slot) (meta : Meta) → IsInSlot (take end file) slot meta ↔ IsInSlot file slot meta }
-    ensures fault { (file : List ℕ) (end : ℕ) → IsMetasEnd (take 80 file) end → (fault : MetaFault) → HasMetaFault (take end file) 0 fault ↔ HasMetaFault file 0 fault }
-    ensures slot_fault { (file : List ℕ) (end : ℕ) → IsMetasEnd (take 80 file) end → (slot : Slot) (fault : MetaFault) → HasSlotFault (take end file) slot fault ↔ HasSlotFault file slot fault }
+    ensures chosen { (file : List ℕ) (end : ℕ) → IsMetasEnd (take 80 file) end
+        → (slot : Slot) (meta : Meta) → IsChosen (take end file) slot meta ↔ IsChosen file slot meta }
+    ensures slot { (file : List ℕ) (end : ℕ) → IsMetasEnd (take 80 file) end
+        → (slot : Slot) (meta : Meta) → IsInSlot (take end file) slot meta ↔ IsInSlot file slot meta }
+    ensures fault { (file : List ℕ) (end : ℕ) → IsMetasEnd (take 80 file) end
+        → (fault : MetaFault) → HasMetaFault (take end file) 0 fault ↔ HasMetaFault file 0 fault }
+    ensures slot_fault { (file : List ℕ) (end : ℕ) → IsMetasEnd (take 80 file) end
+        → (slot : Slot) (fault : MetaFault) → HasSlotFault (take end file) slot fault ↔ HasSlotFault file slot fault }
 {}
 
 /// The elements of a good leaf and of an inline bucket have lengths that the format allows. A

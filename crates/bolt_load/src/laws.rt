@@ -40,7 +40,8 @@ pub fn a_files_listing_is_of_bytes()
 /// that listing.
 pub fn a_listings_text_is_read_back()
     ensures right { (listing : List Member) → IsOfOneTree listing → Rises member_cmp listing → AreOfBytes listing → IsListingText (listing_text listing) }
-    ensures listing { (listing : List Member) → IsOfOneTree listing → Rises member_cmp listing → AreOfBytes listing → text_members (listing_text listing) ≡ listing }
+    ensures listing { (listing : List Member) → IsOfOneTree listing → Rises member_cmp listing → AreOfBytes listing
+        → text_members (listing_text listing) ≡ listing }
 {}
 
 /// A text without a fault is the text of what it tells, but for the case of its letters, leading zeros of

@@ -61,7 +61,8 @@ impl<'a> LineMembers<'a> {
     /// Returns the member of the next line.
     pub(crate) fn advance(&mut self) -> Result<Option<Item<'a>>, NoMemory>
         ensures text { members_text self.new ≡ members_text self.old }
-        ensures given { IfOk result (λ given. GivesNext (text_members (members_left self.old)) (text_members (members_left self.new)) (members_path self.new) (option_map item_view given)) }
+        ensures given { IfOk result (λ given.
+            GivesNext (text_members (members_left self.old)) (text_members (members_left self.new)) (members_path self.new) (option_map item_view given)) }
         ensures lines { IfOk result (λ given. GivesLine (members_left self.old) (members_left self.new) (option_map item_view given) (members_path self.new)) }
         ensures before { IfOk result (λ given. IfSome given (λ _. members_before self.new ≡ members_path self.old)) }
         ensures same { OnErr result (members_left self.new ≡ members_left self.old) }
@@ -100,7 +101,8 @@ fn push_parts<'a>(
     path: &mut Vec<&'a [u8]>,
 ) -> Result<&'a [u8], AllocError>
     requires { IsSomeAnd (hex_path_in word.now) (λ told. BeginsWith (path_bytes told) bytes.now) }
-    ensures { IfOk result (λ rest. (told : Path) → hex_path_in word.now ≡ Some told → (path_of path.new.items ≡ path_of path.old.items ++ told) × (bytes.now ≡ path_bytes told ++ rest.now)) }
+    ensures { IfOk result (λ rest. (told : Path) → hex_path_in word.now ≡ Some told
+        → (path_of path.new.items ≡ path_of path.old.items ++ told) × (bytes.now ≡ path_bytes told ++ rest.now)) }
 {
     let mut word_left = word;
     let mut bytes_left = bytes;
