@@ -1,7 +1,9 @@
 -- How deep a bucket is, found page by page: in so many steps, as of `weight`.
 use Rattle.std.specs.Prelude.{◌==◌, ℕ, zero, suc, ◌+◌, max, Bool, true, false, List, [], ◌∷◌, Result, Ok, Err, if◌then◌else◌}
 use Rattle.bolt_format.specs.declared.meta.Meta.{Meta}
+use Rattle.bolt_check.specs.CheckedFiles.{bytes_of, meta_of}
 use Rattle.bolt_check.specs.Nodes.{Entry, Node, Nodes, node_at}
+use Rattle.bolt_check.specs.declared.checked_file.Checked.{Checked}
 use Rattle.bolt_report.specs.Readings.{inner_pages, inner_roots}
 
 abbrev pub greatest : {X : Type 0} → (X → ℕ) → List X → ℕ
@@ -62,3 +64,11 @@ deepest_of file meta n = deepest_from (node_at file meta) meta.high_water n
 -- of the bucket with this root page
 abbrev pub depth_of : List ℕ → Meta → ℕ → ℕ
 depth_of file meta root = height_of file meta 1 root + deepest_of file meta root
+
+-- ---- the same of a file that passed its tests
+
+abbrev pub deepest_in : Checked → ℕ → ℕ
+deepest_in checked root = deepest_of (bytes_of checked) (meta_of checked) root
+
+abbrev pub depth_in : Checked → ℕ → ℕ
+depth_in checked root = depth_of (bytes_of checked) (meta_of checked) root

@@ -1,6 +1,8 @@
 -- The text of a listing as JSON: docs/COMMANDS.md, "What is printed".
 -- A line for each member: an object with its path, and then with its value or its sequence.
 use Rattle.std.specs.Prelude.{ℕ, List, [], ◌∷◌, codes, decimal}
+use Rattle.hex.specs.Hex.{encode_lower}
+use Rattle.json.specs.Token.{Token, begin_object, end_object, key, string}
 use Rattle.json.specs.Json.{Items, Json, Members, array, item, member, no_items, no_members, number, object}
 use Rattle.bolt_tree.specs.Entries.{Bucket, Item, Value}
 use Rattle.bolt_tree.specs.Listing.{Member}
@@ -25,3 +27,7 @@ module _ (shown : List ℕ → Json) where
 
   unfoldable pub json_line : Member → List ℕ
   json_line m = line (json_text (member_json m))
+
+-- the tokens of an object with the digits of bytes
+abbrev pub digits_tokens : List ℕ → List Token
+digits_tokens bytes = begin_object ∷ key (codes "hex") ∷ string (encode_lower bytes) ∷ end_object ∷ []

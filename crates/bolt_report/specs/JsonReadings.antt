@@ -9,6 +9,8 @@ use Rattle.bolt_tree.specs.Entries.{Bucket, Item, Value}
 use Rattle.bolt_tree.specs.Listing.{Member}
 use Rattle.bolt_tree.specs.Paths.{Path}
 use Rattle.bolt_report.specs.FigureForms.{Named}
+use Rattle.bolt_report.specs.SizeLines.{bytes_allocated, bytes_used}
+use Rattle.bolt_report.specs.declared.statistics.Stats.{Stats}
 
 abbrev pub string_of : Json → Option (List ℕ)
 string_of null = None
@@ -130,3 +132,7 @@ IsMemberOfBytes m = ArePartsBytes m.0 × IsItemOfBytes m.1
 abbrev pub HaveWords : List Named → Type 0
 HaveWords [] = ⊤
 HaveWords (figure ∷ figures) = IfSome figure.1 (λ n. n < 2 ^ 64) × HaveWords figures
+
+-- the sizes of a bucket with a name
+abbrev pub named_size : Stats → List ℕ → ℕ × ℕ × ℕ × List ℕ
+named_size stats name = (stats.keys, bytes_used stats, bytes_allocated stats, name)

@@ -1,6 +1,11 @@
 -- The keys of a bucket as a text: docs/COMMANDS.md, "What is printed".
 use Rattle.std.specs.Prelude.{ℕ, List, [], filter, flat_map, if◌then◌else◌}
 use Rattle.bolt_format.specs.Elements.{LeafElement}
+use Rattle.bolt_tree.specs.Buckets.{bucket_checked, bucket_start}
+use Rattle.bolt_tree.specs.Cursors.{cursor_checked, cursor_start}
+use Rattle.bolt_tree.specs.EntriesLeft.{ForEntries}
+use Rattle.bolt_tree.specs.declared.bucket.Bucket.{Bucket}
+use Rattle.bolt_tree.specs.declared.cursor.Cursor.{Cursor}
 use Rattle.bolt_report.specs.Forms.{value_text}
 use Rattle.bolt_report.specs.declared.form.Form.{Form}
 
@@ -11,6 +16,14 @@ keys_text form entries = flat_map (λ (e : LeafElement). value_text form e.key) 
 -- the keys of those that are buckets
 abbrev pub buckets_text : Form → List LeafElement → List ℕ
 buckets_text form entries = keys_text form (filter (λ (e : LeafElement). e.is_bucket) entries)
+
+-- this holds of a bucket's entries
+abbrev pub ForBucket : Bucket → (List LeafElement → Type 0) → Type 0
+ForBucket bucket P = ForEntries (bucket_checked bucket) (bucket_start bucket) P
+
+-- this holds of the entries of a cursor's bucket
+abbrev pub ForCursor : Cursor → (List LeafElement → Type 0) → Type 0
+ForCursor cursor P = ForEntries (cursor_checked cursor) (cursor_start cursor) P
 
 -- what one entry adds to these
 abbrev pub bucket_name : Form → LeafElement → List ℕ

@@ -1,6 +1,10 @@
 -- The forms of a listing: docs/COMMANDS.md, "What is printed".
 use Rattle.std.specs.Prelude.{ℕ, List, flat_map}
-use Rattle.bolt_tree.specs.Listing.{Member}
+use Rattle.std.specs.Borrow.{Bor}
+use Rattle.std.specs.List.{take_while}
+use Rattle.bolt_tree.specs.Listing.{Member, rest_from}
+use Rattle.bolt_tree.specs.ListingParts.{begins_with, bucket_part, part_below}
+use Rattle.bolt_tree.specs.Paths.{path_of}
 use Rattle.bolt_report.specs.Forms.{digits_json, item_json}
 use Rattle.bolt_report.specs.JsonLines.{json_line}
 use Rattle.bolt_report.specs.ListLines.{member_line}
@@ -19,6 +23,21 @@ list_line JsonHex m = json_line digits_json m
 -- a line for each member
 abbrev pub listing_lines : ListForm → List Member → List ℕ
 listing_lines form listing = flat_map (list_line form) listing
+
+-- ---- those of a part of a listing, of paths that the code holds as slices
+
+abbrev pub lines_below : ListForm → (from below : List (Bor (List ℕ))) → List Member → List ℕ
+lines_below form from below listing = listing_lines form (rest_from (path_of from) (part_below (path_of below) listing))
+
+-- if there is a bucket at `below`
+abbrev pub bucket_lines : ListForm → (from below : List (Bor (List ℕ))) → List Member → List ℕ
+bucket_lines form from below listing = listing_lines form (rest_from (path_of from) (bucket_part (path_of below) listing))
+
+-- up to the first member whose path doesn't begin with `below`
+abbrev pub lines_while_below : ListForm → (below : List (Bor (List ℕ))) → List Member → List ℕ
+lines_while_below form below listing = listing_lines form (take_while (λ (m : Member). begins_with (path_of below) m.0) listing)
+
+-- ---- what writes lines
 
 -- the form of lines, by what writes them
 abbrev pub writer_form : LineWriter → ListForm

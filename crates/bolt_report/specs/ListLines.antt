@@ -1,11 +1,12 @@
 -- The text of a listing: docs/COMMANDS.md, "What is printed".
 -- A line for each member: its path, and then its value or its sequence.
 use Rattle.std.specs.Prelude.{ℕ, List, ◌++◌, codes, decimal, flat_map, map}
+use Rattle.std.specs.Borrow.{Bor}
 use Rattle.std.specs.List.{join_with_byte}
 use Rattle.hex.specs.Hex.{encode_lower}
 use Rattle.bolt_tree.specs.Entries.{Bucket, Item, Value}
-use Rattle.bolt_tree.specs.Listing.{Member}
-use Rattle.bolt_tree.specs.Paths.{Path}
+use Rattle.bolt_tree.specs.Listing.{Member, rest_from}
+use Rattle.bolt_tree.specs.Paths.{Path, path_of}
 use Rattle.bolt_report.specs.Lines.{line}
 use Rattle.bolt_report.specs.PageLines.{value_end}
 
@@ -23,3 +24,7 @@ member_line member = hex_path member.0 ++ item_end member.1
 
 abbrev pub listing_text : List Member → List ℕ
 listing_text listing = flat_map member_line listing
+
+-- from a path on, that the code holds as slices
+abbrev pub rest_text : List (Bor (List ℕ)) → List Member → List ℕ
+rest_text from listing = listing_text (rest_from (path_of from) listing)

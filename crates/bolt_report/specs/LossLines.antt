@@ -1,5 +1,7 @@
 -- The lines of losses: docs/COMMANDS.md, "What is printed".
 use Rattle.std.specs.Prelude.{ℕ, List, [], ◌∷◌, ◌++◌, Option, Some, None, codes, flat_map, length}
+use Rattle.std.specs.Borrow.{Bor}
+use Rattle.std.specs.Option.{option_map}
 use Rattle.hex.specs.Hex.{encode_lower}
 use Rattle.bolt_check.specs.Keys.{Key}
 use Rattle.bolt_tree.specs.Paths.{Path}
@@ -21,6 +23,10 @@ upper_words (Some key) = codes " to below " ++ encode_lower key
 abbrev pub bounds_words : Option Key → Option Key → List ℕ
 bounds_words None upper = []
 bounds_words (Some key) upper = codes ", keys from " ++ (encode_lower key ++ upper_words upper)
+
+-- of bounds that the code holds as slices
+abbrev pub bounds_line : (lower upper : Option (Bor Key)) → List ℕ
+bounds_line lower upper = line (bounds_words (option_map (λ (key : Bor Key). key.now) lower) (option_map (λ (key : Bor Key). key.now) upper))
 
 -- the line of a finding, and what is lost with it
 unfoldable pub loss_text : LossView → List ℕ

@@ -4,6 +4,8 @@ use Rattle.std.specs.Prelude.{◌*◌, ◌-◌, ℕ, List, ◌++◌, codes, coun
 use Rattle.std.specs.Int.{div_ceil}
 use Rattle.std.specs.List.{range_with_len}
 use Rattle.bolt_format.specs.declared.meta.Meta.{Meta}
+use Rattle.bolt_check.specs.CheckedFiles.{bytes_of, meta_of}
+use Rattle.bolt_check.specs.declared.checked_file.Checked.{Checked}
 use Rattle.bolt_check.specs.declared.role_table.Role.{Role}
 use Rattle.bolt_check.specs.declared.role_table.Role.TheVariants as role
 use Rattle.bolt_report.specs.Lines.{column, line}
@@ -34,3 +36,12 @@ map_lines roles pages = flat_map (line_at roles pages) (range_with_len 0 (div_ce
 abbrev pub map_text : List ℕ → Meta → (ℕ → Role) → List ℕ
 map_text file meta roles =
     map_lines roles (length (pages_in file meta)) ++ past_line (count_by (λ n. is_free (roles n)) (pages_past file meta))
+
+-- ---- the same of a file that passed its tests
+
+abbrev pub map_of : Checked → (ℕ → Role) → List ℕ
+map_of checked roles = map_text (bytes_of checked) (meta_of checked) roles
+
+-- its first part, the lines
+abbrev pub lines_of : Checked → (ℕ → Role) → List ℕ
+lines_of checked roles = map_lines roles (length (pages_in (bytes_of checked) (meta_of checked)))

@@ -71,6 +71,21 @@ pages_text file meta roles =
     ++ (flat_map (λ n. page_row file meta n (roles n)) (pages_in file meta)
     ++ past_line (count_by (λ n. is_free (roles n)) (pages_past file meta)))
 
+-- ---- the same of a file that passed its tests
+
+abbrev pub table_text : Checked → (ℕ → Role) → List ℕ
+table_text checked roles = pages_text (bytes_of checked) (meta_of checked) roles
+
+abbrev pub table_rows : Checked → (ℕ → Role) → List ℕ
+table_rows checked roles = flat_map (λ n. page_row (bytes_of checked) (meta_of checked) n (roles n)) (pages_in (bytes_of checked) (meta_of checked))
+
+abbrev pub free_past : Checked → (ℕ → Role) → ℕ
+free_past checked roles = count_by (λ n. is_free (roles n)) (pages_past (bytes_of checked) (meta_of checked))
+
+-- the row of a page with items
+abbrev pub items_row : Checked → ℕ → (kind : List ℕ) → List ℕ
+items_row checked n kind = shown_row n kind (λ view. view.count) (page_at (bytes_of checked) (meta_of checked) n)
+
 -- this holds of the roles of a file's pages
 abbrev pub ForRoles : Checked → ((ℕ → Role) → Type 0) → Type 0
 ForRoles checked P = (roles : ℕ → Role) → AreRoles (bytes_of checked) (meta_of checked) roles → P roles

@@ -3,8 +3,10 @@ use Rattle.std.specs.Prelude.{◌==◌, ℕ, Bool, true, false, List, [], ◌∷
 use Rattle.bolt_format.specs.Elements.{LeafElement, head_root}
 use Rattle.bolt_format.specs.Pages.{page_at}
 use Rattle.bolt_format.specs.declared.meta.Meta.{Meta}
+use Rattle.bolt_check.specs.CheckedFiles.{bytes_of, meta_of}
 use Rattle.bolt_check.specs.Nodes.{Entry, Node, node_at}
 use Rattle.bolt_check.specs.Subtrees.{Enough, Has, kid_pages, weight}
+use Rattle.bolt_check.specs.declared.checked_file.Checked.{Checked}
 use Rattle.bolt_report.specs.Figures.{Figure, page_figure}
 use Rattle.bolt_report.specs.declared.bucket_stats.UnreadBucket.{UnreadBucket}
 use Rattle.bolt_report.specs.declared.bucket_stats.UnreadPage.{UnreadPage}
@@ -56,3 +58,13 @@ roots_in_bucket true entries = kid_pages true entries
 
 abbrev pub inner_roots : Node → List ℕ
 inner_roots node = roots_in_bucket node.is_leaf node.entries
+
+-- ---- of a file that passed its tests
+
+-- a figure of these pages and of all pages below them
+abbrev pub figure_in : Checked → Figure → List ℕ → ℕ
+figure_in checked f ns = total_of (bytes_of checked) (meta_of checked) (own_figure (bytes_of checked) (meta_of checked) f) ns
+
+-- how many these are
+abbrev pub pages_below : Checked → List ℕ → ℕ
+pages_below checked ns = total_of (bytes_of checked) (meta_of checked) one ns

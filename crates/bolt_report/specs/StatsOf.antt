@@ -4,9 +4,12 @@ use Rattle.std.specs.Prelude.{◌≡◌, ℕ, ◌+◌, List, sum_by, Option, Som
 use Rattle.bolt_format.specs.Elements.{LeafElement}
 use Rattle.bolt_format.specs.Pages.{page_at}
 use Rattle.bolt_format.specs.declared.meta.Meta.{Meta}
+use Rattle.bolt_check.specs.CheckedFiles.{bytes_of, meta_of}
 use Rattle.bolt_check.specs.Nodes.{node_at}
 use Rattle.bolt_check.specs.Tours.{IsTour}
 use Rattle.bolt_check.specs.Ways.{At_inline, At_page, Reach, Spot, reached}
+use Rattle.bolt_tree.specs.Buckets.{bucket_checked, bucket_start}
+use Rattle.bolt_tree.specs.declared.bucket.Bucket.{Bucket}
 use Rattle.bolt_tree.specs.Entries.{Inline_page, Root_page, Start}
 use Rattle.bolt_report.specs.Depths.{IsDepth}
 use Rattle.bolt_report.specs.Figures.{Figure, bucket_figure, capped, figure, inline_figure, page_figure}
@@ -42,3 +45,7 @@ pub record IsInlineStats (elements : List LeafElement) (stats : Stats) : Type 0 
 abbrev pub IsStatsOf : List ℕ → Meta → Start → Stats → Type 0
 IsStatsOf file meta (Root_page root) stats = IsPagedStats file meta root stats
 IsStatsOf file meta (Inline_page elements) stats = IsInlineStats elements stats
+
+-- the figures of a bucket of a file that passed its tests
+abbrev pub AreStats : Bucket → Stats → Type 0
+AreStats bucket stats = IsStatsOf (bytes_of (bucket_checked bucket)) (meta_of (bucket_checked bucket)) (bucket_start bucket) stats

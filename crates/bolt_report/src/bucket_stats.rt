@@ -8,11 +8,10 @@ ghost use Rattle.bolt_format.specs.Shown.{shown};
 ghost use Rattle.bolt_check.specs.CheckedFiles.{bytes_of, meta_of};
 ghost use Rattle.bolt_check.specs.Nodes.{Node, leaf_entry, node_at};
 ghost use Rattle.bolt_check.specs.Subtrees.{Enough, Has};
-ghost use Rattle.bolt_tree.specs.Buckets.{bucket_checked, bucket_start};
-ghost use Rattle.bolt_report.specs.Deepest.{deepest_of, depth_of, greatest, height_of, inline_depth, inner_inline, leaf_depth};
+ghost use Rattle.bolt_report.specs.Deepest.{deepest_in, depth_in, depth_of, greatest, height_of, inline_depth, inner_inline, leaf_depth};
 ghost use Rattle.bolt_report.specs.Figures.{Figure, bucket_figure, capped, figure};
-ghost use Rattle.bolt_report.specs.Readings.{AreGood, inner_pages, inner_roots, numbers_of, one, unread_bucket, unread_page, own_figure, root_page_of, roots_of, total_of};
-ghost use Rattle.bolt_report.specs.StatsOf.{IsStatsOf};
+ghost use Rattle.bolt_report.specs.Readings.{AreGood, figure_in, pages_below, inner_pages, inner_roots, one, unread_bucket, unread_page, own_figure, root_page_of, roots_of};
+ghost use Rattle.bolt_report.specs.StatsOf.{AreStats};
 ghost use Rattle.bolt_report.specs.declared.bucket_stats.UnreadBucket.{UnreadBucket};
 
 use crate::page_stats::{inline_stats, page_stats};
@@ -28,7 +27,7 @@ use std::alloc::{AllocError, Global};
 ///
 /// `NoMemory` if memory runs out for the buckets and pages that are still to be read.
 pub fn stats(alloc: Global, bucket: &Bucket<'_>) -> Result<Stats, NoMemory>
-    ensures { IfOk result (λ stats. ∥ IsStatsOf (bytes_of (bucket_checked bucket.now)) (meta_of (bucket_checked bucket.now)) (bucket_start bucket.now) stats ∥₁) }
+    ensures { IfOk result (λ stats. ∥ AreStats bucket.now stats ∥₁) }
 {
     match bucket.at() {
         At::Page(root) => Ok(paged_stats(alloc, &bucket.checked(), root)?),
@@ -68,7 +67,7 @@ struct Read {
 /// The figures of a bucket with this root page.
 fn paged_stats(alloc: Global, checked: &Checked<'_>, root: u64) -> Result<Stats, AllocError>
     requires { ∥ AreGood (bytes_of checked.now) (meta_of checked.now) (root ∷ []) ∥₁ }
-    ensures stats { IfOk result (λ stats. (f : Figure) → figure f stats ≡ capped (bucket_figure f + total_of (bytes_of checked.now) (meta_of checked.now) (own_figure (bytes_of checked.now) (meta_of checked.now) f) (root ∷ []))) }
+    ensures stats { IfOk result (λ stats. (f : Figure) → figure f stats ≡ capped (bucket_figure f + figure_in checked.now f (root ∷ []))) }
     ensures depth { IfOk result (λ stats. stats.depth ≡ capped (depth_of (bytes_of checked.now) (meta_of checked.now) root)) }
 {
     let mut total = Stats {
@@ -107,11 +106,11 @@ fn read_bucket(
     requires roots { roots.old.items ≡ [] }
     ensures good { OnOk result (∥ AreGood (bytes_of checked.now) (meta_of checked.now) roots.new.items ∥₁) }
     ensures pages { OnOk result (pages.new.items ≡ []) }
-    ensures fewer { OnOk result (total_of (bytes_of checked.now) (meta_of checked.now) one roots.new.items < total_of (bytes_of checked.now) (meta_of checked.now) one (root ∷ [])) }
-    ensures stats { IfOk result (λ read. (f : Figure) → capped (figure f read.stats + total_of (bytes_of checked.now) (meta_of checked.now) (own_figure (bytes_of checked.now) (meta_of checked.now) f) roots.new.items)
-        ≡ capped (total_of (bytes_of checked.now) (meta_of checked.now) (own_figure (bytes_of checked.now) (meta_of checked.now) f) (root ∷ []))) }
+    ensures fewer { OnOk result (pages_below checked.now roots.new.items < pages_below checked.now (root ∷ [])) }
+    ensures stats { IfOk result (λ read. (f : Figure) → capped (figure f read.stats + figure_in checked.now f roots.new.items)
+        ≡ capped (figure_in checked.now f (root ∷ []))) }
     ensures height { IfOk result (λ read. capped read.height ≡ capped (height_of (bytes_of checked.now) (meta_of checked.now) 1 root)) }
-    ensures deepest { IfOk result (λ read. max read.inline_depth (greatest (depth_of (bytes_of checked.now) (meta_of checked.now)) roots.new.items) ≡ deepest_of (bytes_of checked.now) (meta_of checked.now) root) }
+    ensures deepest { IfOk result (λ read. max read.inline_depth (greatest (depth_in checked.now) roots.new.items) ≡ deepest_in checked.now root) }
 {
     let mut whole = Read {
         stats: Stats::default(),
@@ -141,7 +140,8 @@ fn read_page(
     requires { ∥ Enough (node_at (bytes_of checked.now) (meta_of checked.now)) (meta_of checked.now).high_water next.number ∥₁ }
     ensures stats { IfOk result (λ read. (f : Figure) → figure f read.stats ≡ capped (own_figure (bytes_of checked.now) (meta_of checked.now) f next.number)) }
     ensures kids { IfOk result (λ read. ∥ ((node : Node) × (node_at (bytes_of checked.now) (meta_of checked.now) next.number ≡ Ok node)
-        × (pages.new.items ≡ pages.old.items ++ map (unread_page (capped (next.depth + 1))) (inner_pages node)) × (roots.new.items ≡ roots.old.items ++ inner_roots node)
+        × (pages.new.items ≡ pages.old.items ++ map (unread_page (capped (next.depth + 1))) (inner_pages node))
+        × (roots.new.items ≡ roots.old.items ++ inner_roots node)
         × (read.height ≡ leaf_depth node.is_leaf next.depth) × (read.inline_depth ≡ inner_inline node)) ∥₁) }
 {
     let meta = checked.meta();
@@ -234,7 +234,8 @@ fn add_buckets(
     ensures none { OnOk result (roots.new.items ≡ []) }
     ensures sums { OnOk result ((w : ℕ → ℕ) → sum_by w (roots_of buckets.new.items) ≡ sum_by w (roots_of buckets.old.items) + sum_by w roots.old.items) }
     ensures from { OnOk result ((m : ℕ) → Has m (roots_of buckets.new.items) → Has m (roots_of buckets.old.items) ⊎ Has m roots.old.items) }
-    ensures deepest { OnOk result ((f : UnreadBucket → ℕ) → greatest f buckets.new.items ≡ max (greatest f buckets.old.items) (greatest (λ root. f (unread_bucket above root)) roots.old.items)) }
+    ensures deepest { OnOk result ((f : UnreadBucket → ℕ) → greatest f buckets.new.items
+        ≡ max (greatest f buckets.old.items) (greatest (λ root. f (unread_bucket above root)) roots.old.items)) }
 {
     'roots: while let Some(root) = roots.pop() {
         buckets.push(UnreadBucket { root, above })?;

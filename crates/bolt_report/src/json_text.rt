@@ -1,12 +1,12 @@
 //! Keys, values and members of a listing as JSON texts.
-ghost use Rattle.std.specs.Prelude.{◌≡◌, [], IfOk, ◌∷◌, ◌++◌, OnOk, codes, flat_map};
+ghost use Rattle.std.specs.Prelude.{◌≡◌, [], IfOk, ◌∷◌, ◌++◌, OnOk, flat_map};
 ghost use Rattle.bolt_report.specs.Forms.{item_json, json_text};
-ghost use Rattle.bolt_report.specs.JsonLines.{json_line, end_json, member_json, parts_json};
+ghost use Rattle.bolt_report.specs.JsonLines.{digits_tokens, json_line, end_json, member_json, parts_json};
 ghost use Rattle.bolt_tree.specs.Paths.{path_of};
 ghost use Rattle.bolt_tree.specs.ShownEntries.{item_view};
 ghost use Rattle.hex.specs.Hex.{encode_lower};
 ghost use Rattle.json.specs.Json.{array};
-ghost use Rattle.json.specs.Token.{begin_object, end_object, key, string};
+ghost use Rattle.json.specs.Token.{key};
 ghost use Rattle.json.specs.Tree.{json_tokens, members_tokens};
 
 use crate::hexadecimal::encode_digits;
@@ -81,7 +81,7 @@ fn write_item(writer: &mut Writer, bytes: &[u8], digits: &mut Vec<u8>) -> Result
 /// Writes an object with the hexadecimal digits of a key or a value.
 fn write_digits(writer: &mut Writer, bytes: &[u8], digits: &mut Vec<u8>) -> Result<(), NoMemory>
     ensures before { writer.new.before ≡ writer.old.before }
-    ensures tokens { OnOk result (writer.new.tokens ≡ writer.old.tokens ++ (begin_object ∷ key (codes "hex") ∷ string (encode_lower bytes.now) ∷ end_object ∷ [])) }
+    ensures tokens { OnOk result (writer.new.tokens ≡ writer.old.tokens ++ digits_tokens bytes.now) }
 {
     writer.begin_object()?;
     writer.key("hex")?;

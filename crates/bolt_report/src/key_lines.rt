@@ -2,11 +2,9 @@
 ghost use Rattle.std.specs.Prelude.{◌≡◌, ◌⊎◌, IfErr, OnOk};
 ghost use Rattle.bolt_format.specs.Elements.{LeafElement};
 ghost use Rattle.bolt_format.specs.Wrote.{Wrote};
-ghost use Rattle.bolt_tree.specs.Buckets.{bucket_checked, bucket_start};
-ghost use Rattle.bolt_tree.specs.EntriesLeft.{ForEntries};
 ghost use Rattle.bolt_tree.specs.Entries.{entry_view};
 ghost use Rattle.bolt_tree.specs.ShownEntries.{shown_entry};
-ghost use Rattle.bolt_report.specs.KeyLines.{bucket_name, buckets_text, keys_text};
+ghost use Rattle.bolt_report.specs.KeyLines.{ForBucket, ForCursor, bucket_name, buckets_text, keys_text};
 ghost use Rattle.bolt_report.specs.ReportEndings.{report_ending};
 ghost use Rattle.bolt_report.specs.KeyPrefixes.{OpensPrefix, with_prefix};
 ghost use Rattle.bolt_tree.specs.Cursors.{cursor_bucket, cursor_checked, cursor_opened, cursor_start};
@@ -31,7 +29,7 @@ pub fn keys<S: Sink>(
     form: Form,
     sink: &mut S,
 ) -> Result<(), ReportFault>
-    ensures written { ForEntries (bucket_checked bucket.now) (bucket_start bucket.now) (λ entries. Wrote S.Sink sink.old sink.new (keys_text form entries) (report_ending result)) }
+    ensures written { ForBucket bucket.now (λ entries. Wrote S.Sink sink.old sink.new (keys_text form entries) (report_ending result)) }
     ensures fault { IfErr result (λ fault. (fault ≡ ReportFault.Sink) ⊎ ((fault ≡ ReportFault.NoMemory) × (form ≡ Form.Json))) }
 {
     keys_with_prefix(alloc, &mut bucket.cursor(), &[], form, sink)
@@ -45,7 +43,7 @@ pub fn buckets<S: Sink>(
     form: Form,
     sink: &mut S,
 ) -> Result<(), ReportFault>
-    ensures written { ForEntries (bucket_checked bucket.now) (bucket_start bucket.now) (λ entries. Wrote S.Sink sink.old sink.new (buckets_text form entries) (report_ending result)) }
+    ensures written { ForBucket bucket.now (λ entries. Wrote S.Sink sink.old sink.new (buckets_text form entries) (report_ending result)) }
     ensures fault { IfErr result (λ fault. (fault ≡ ReportFault.Sink) ⊎ ((fault ≡ ReportFault.NoMemory) × (form ≡ Form.Json))) }
 {
     let mut items = ItemWriter::new(alloc, form);
@@ -63,7 +61,8 @@ fn put_bucket<S: Sink>(
     sink: &mut S,
 ) -> Result<(), ReportFault>
     ensures form { items.new.form ≡ items.old.form }
-    ensures written { (e : LeafElement) → shown_entry entry.now ≡ entry_view e → Wrote S.Sink sink.old sink.new (bucket_name items.old.form e) (report_ending result) }
+    ensures written { (e : LeafElement) → shown_entry entry.now ≡ entry_view e
+        → Wrote S.Sink sink.old sink.new (bucket_name items.old.form e) (report_ending result) }
     ensures fault { IfErr result (λ fault. (fault ≡ ReportFault.Sink) ⊎ ((fault ≡ ReportFault.NoMemory) × (items.old.form ≡ Form.Json))) }
 {
     match entry.item {
@@ -89,7 +88,8 @@ pub fn keys_with_prefix<S: Sink>(
     form: Form,
     sink: &mut S,
 ) -> Result<(), ReportFault>
-    ensures written { ForEntries (cursor_checked cursor.old) (cursor_start cursor.old) (λ entries. Wrote S.Sink sink.old sink.new (keys_text form (with_prefix prefix.now entries)) (report_ending result)) }
+    ensures written { ForCursor cursor.old (λ entries.
+        Wrote S.Sink sink.old sink.new (keys_text form (with_prefix prefix.now entries)) (report_ending result)) }
     ensures opens { OnOk result (OpensPrefix (cursor_bucket cursor.old) prefix.now (cursor_opened cursor.old) (cursor_opened cursor.new)) }
     ensures checked { cursor_checked cursor.new ≡ cursor_checked cursor.old }
     ensures start { cursor_start cursor.new ≡ cursor_start cursor.old }

@@ -8,10 +8,10 @@ ghost use Rattle.bolt_check.specs.Sound.{HasSoundTrees};
 ghost use Rattle.bolt_report.specs.FigureForms.{Named, figures_json, json_name};
 ghost use Rattle.bolt_report.specs.Forms.{digits_json, item_json, json_text};
 ghost use Rattle.bolt_report.specs.JsonLines.{member_json};
-ghost use Rattle.bolt_report.specs.JsonReadings.{HaveWords, IsMemberOfBytes, digits_of, figures_of, item_of, member_of, size_of};
+ghost use Rattle.bolt_report.specs.JsonReadings.{named_size, HaveWords, IsMemberOfBytes, digits_of, figures_of, item_of, member_of, size_of};
 ghost use Rattle.bolt_report.specs.ListForms.{listing_lines};
 ghost use Rattle.bolt_report.specs.ListLines.{listing_text};
-ghost use Rattle.bolt_report.specs.SizeLines.{AreSized, Sized, bytes_allocated, bytes_used, size_json};
+ghost use Rattle.bolt_report.specs.SizeLines.{AreSized, Sized, size_json};
 ghost use Rattle.bolt_report.specs.StatsOf.{IsStatsOf};
 ghost use Rattle.bolt_report.specs.declared.statistics.Stats.{Stats};
 ghost use Rattle.bolt_report.specs.declared.form.ListForm.TheVariants as ListForm;
@@ -27,19 +27,22 @@ pub fn stats_are_one()
 /// In sound trees each bucket has figures.
 #[tactic(auto, using(crate::proofs::StatsExist::some_stats))]
 pub fn stats_exist()
-    ensures { (file : List ℕ) (meta : Meta) (start : Start) → HasSoundTrees file meta → IsStart file meta start → (stats : Stats) × IsStatsOf file meta start stats }
+    ensures { (file : List ℕ) (meta : Meta) (start : Start) → HasSoundTrees file meta → IsStart file meta start
+        → (stats : Stats) × IsStatsOf file meta start stats }
 {}
 
 /// The buckets among the entries of a bucket have at most one list of sizes.
 #[tactic(auto, using(crate::proofs::SizesExist::one_sizes))]
 pub fn sizes_are_one()
-    ensures { (file : List ℕ) (meta : Meta) (entries : List LeafElement) (a b : List Sized) → AreSized file meta entries a → AreSized file meta entries b → a ≡ b }
+    ensures { (file : List ℕ) (meta : Meta) (entries : List LeafElement) (a b : List Sized)
+        → AreSized file meta entries a → AreSized file meta entries b → a ≡ b }
 {}
 
 /// In sound trees the buckets among the entries of a bucket have their sizes.
 #[tactic(auto, using(crate::proofs::SizesExist::some_sizes))]
 pub fn sizes_exist()
-    ensures { (file : List ℕ) (meta : Meta) (start : Start) (entries : List LeafElement) → HasSoundTrees file meta → IsStart file meta start → AreEntries (IsEntry file meta) start entries
+    ensures { (file : List ℕ) (meta : Meta) (start : Start) (entries : List LeafElement)
+        → HasSoundTrees file meta → IsStart file meta start → AreEntries (IsEntry file meta) start entries
         → (sized : List Sized) × AreSized file meta entries sized }
 {}
 
@@ -64,7 +67,8 @@ pub fn json_items_read_back()
 /// finds the names, with underscores for spaces, and the number of each, if it has one.
 #[tactic(auto, using(crate::proofs::JsonLemmas::figures_document))]
 pub fn json_figures_read_back()
-    ensures { (figures : List Named) → HaveWords figures → option_and_then figures_of (document (json_text (figures_json figures))) ≡ Some (map (λ figure. (json_name figure.0, figure.1)) figures) }
+    ensures { (figures : List Named) → HaveWords figures
+        → option_and_then figures_of (document (json_text (figures_json figures))) ≡ Some (map (λ figure. (json_name figure.0, figure.1)) figures) }
 {}
 
 /// The line of a bucket's sizes as JSON is, without its line feed, a JSON document. A reader that
@@ -72,9 +76,9 @@ pub fn json_figures_read_back()
 /// and the name.
 pub fn json_sizes_read_back()
     ensures item { (stats : Stats) (name : List ℕ) → stats.keys < 2 ^ 64 → IsBytes name
-        → option_and_then (size_of item_of) (document (json_text (size_json stats (item_json name)))) ≡ Some (stats.keys, bytes_used stats, bytes_allocated stats, name) }
+        → option_and_then (size_of item_of) (document (json_text (size_json stats (item_json name)))) ≡ Some (named_size stats name) }
     ensures hex_item { (stats : Stats) (name : List ℕ) → stats.keys < 2 ^ 64 → IsBytes name
-        → option_and_then (size_of digits_of) (document (json_text (size_json stats (digits_json name)))) ≡ Some (stats.keys, bytes_used stats, bytes_allocated stats, name) }
+        → option_and_then (size_of digits_of) (document (json_text (size_json stats (digits_json name)))) ≡ Some (named_size stats name) }
 {}
 
 /// The lines of a listing in hexadecimal are its text.

@@ -1,11 +1,11 @@
 //! The lines of what is lost of a damaged file.
-ghost use Rattle.std.specs.Prelude.{◌≡◌, ◌++◌, map, option_map, ◌≤◌};
+ghost use Rattle.std.specs.Prelude.{◌≡◌, ◌++◌, map, ◌≤◌};
 ghost use Rattle.bolt_format.specs.Endings.{ending};
 ghost use Rattle.bolt_format.specs.Wrote.{Wrote};
 ghost use Rattle.bolt_recover.specs.ShownLosses.{loss_view, lost_view};
 ghost use Rattle.bolt_tree.specs.Paths.{path_of};
 ghost use Rattle.bolt_report.specs.Lines.{line};
-ghost use Rattle.bolt_report.specs.LossLines.{bounds_words, bucket_words, loss_text, losses_text, lost_count, lost_lines};
+ghost use Rattle.bolt_report.specs.LossLines.{bounds_line, bucket_words, loss_text, losses_text, lost_count, lost_lines};
 ghost use Rattle.std.specs.List.{All};
 ghost use Rattle.bolt_format.specs.Shown.{shown};
 ghost use Rattle.bolt_report.specs.FoundLines.{IsFoundLeaf, bucket_count, counted_lost_text, found_line, found_text, found_view, lost_text};
@@ -77,7 +77,7 @@ fn put_bounds<'a, S: Sink>(
     upper: Option<&'a [u8]>,
     sink: &mut S,
 ) -> Result<(), SinkFault>
-    ensures { Wrote S.Sink sink.old sink.new (line (bounds_words (option_map (λ key. key.now) lower.entry) (option_map (λ key. key.now) upper.entry))) (ending result) }
+    ensures { Wrote S.Sink sink.old sink.new (bounds_line lower.entry upper.entry) (ending result) }
 {
     match (lower, upper) {
         (None, _) => put(b"\n", sink),

@@ -5,7 +5,7 @@ ghost use Rattle.bolt_format.specs.Endings.{ending};
 ghost use Rattle.bolt_format.specs.Wrote.{Wrote};
 ghost use Rattle.bolt_check.specs.CheckedFiles.{bytes_of, has_accounts, meta_of};
 ghost use Rattle.bolt_check.specs.RoledFiles.{roles_checked};
-ghost use Rattle.bolt_report.specs.PageMaps.{map_line, map_lines, map_text, page_mark};
+ghost use Rattle.bolt_report.specs.PageMaps.{lines_of, map_line, map_of, page_mark};
 ghost use Rattle.bolt_report.specs.PageTables.{ForRoles, pages_in};
 
 use crate::page_table::{free_past, pages_begun, put_past};
@@ -26,7 +26,7 @@ const LINE_PAGES: u64 = 64;
 /// `SinkFault` if the sink failed. It has then accepted a prefix of the text.
 pub fn page_map<S: Sink>(table: &Roles<'_>, sink: &mut S) -> Result<(), SinkFault>
     requires { has_accounts (roles_checked table.now) ≡ true }
-    ensures { ForRoles (roles_checked table.now) (λ roles. Wrote S.Sink sink.old sink.new (map_text (bytes_of (roles_checked table.now)) (meta_of (roles_checked table.now)) roles) (ending result)) }
+    ensures { ForRoles (roles_checked table.now) (λ roles. Wrote S.Sink sink.old sink.new (map_of (roles_checked table.now) roles) (ending result)) }
 {
     put_lines(table, sink)?;
     put_past(free_past(table), sink)
@@ -35,7 +35,7 @@ pub fn page_map<S: Sink>(table: &Roles<'_>, sink: &mut S) -> Result<(), SinkFaul
 /// Writes the lines of the pages in the file.
 fn put_lines<S: Sink>(table: &Roles<'_>, sink: &mut S) -> Result<(), SinkFault>
     requires { has_accounts (roles_checked table.now) ≡ true }
-    ensures { ForRoles (roles_checked table.now) (λ roles. Wrote S.Sink sink.old sink.new (map_lines roles (length (pages_in (bytes_of (roles_checked table.now)) (meta_of (roles_checked table.now))))) (ending result)) }
+    ensures { ForRoles (roles_checked table.now) (λ roles. Wrote S.Sink sink.old sink.new (lines_of (roles_checked table.now) roles) (ending result)) }
 {
     let end = page_count(&table.checked());
     for line in 0..end.div_ceil(LINE_PAGES) {

@@ -9,8 +9,7 @@ ghost use Rattle.bolt_format.specs.Endings.{ending};
 ghost use Rattle.bolt_report.specs.Forms.{digits_json};
 ghost use Rattle.bolt_report.specs.JsonLines.{json_line};
 ghost use Rattle.bolt_tree.specs.FileListings.{ForListing};
-ghost use Rattle.bolt_tree.specs.Listing.{rest_from};
-ghost use Rattle.bolt_report.specs.ListLines.{listing_text, member_line};
+ghost use Rattle.bolt_report.specs.ListLines.{member_line, rest_text};
 
 use crate::fault::ReportFault;
 use crate::form::ListForm;
@@ -133,7 +132,7 @@ pub fn list<S: Sink>(
     from: &[&[u8]],
     sink: &mut S,
 ) -> Result<(), ReportFault>
-    ensures written { ForListing checked.entry (λ listing. Wrote S.Sink sink.old sink.new (listing_text (rest_from (path_of from.now) listing)) (report_ending result)) }
+    ensures written { ForListing checked.entry (λ listing. Wrote S.Sink sink.old sink.new (rest_text from.now listing) (report_ending result)) }
     ensures fault { IfErr result (λ fault. (fault ≡ ReportFault.Sink) ⊎ (fault ≡ ReportFault.NoMemory)) }
 {
     let mut walk = Walk::from(alloc, checked, from)?;

@@ -8,7 +8,7 @@ ghost use Rattle.bolt_format.specs.Pages.{page_at};
 ghost use Rattle.bolt_format.specs.Shown.{shown};
 ghost use Rattle.bolt_format.specs.ShownIds.{shown_ids};
 ghost use Rattle.bolt_format.specs.Wrote.{Wrote};
-ghost use Rattle.bolt_report.specs.PageLines.{head_lines, item_lines, items_on, kind_text, known_ids, page_lines, branch_line, bucket_end, id_line, leaf_line, value_end};
+ghost use Rattle.bolt_report.specs.PageLines.{head_lines, head_of, item_lines, items_on, kind_text, known_ids, page_lines, branch_line, bucket_end, id_line, leaf_line, value_end};
 ghost use Rattle.bolt_report.specs.PageTexts.{page_text, page_text_fault};
 ghost use Rattle.bolt_report.specs.ReportEndings.{report_ending};
 ghost use Rattle.hex.specs.Hex.{encode_lower};
@@ -57,7 +57,8 @@ pub fn page_text<S: Sink>(
 #[tactic(auto, using(crate::proofs::PageFaults::faults))]
 fn find<'a>(file: &'a [u8], meta: &Meta, id: u64) -> Result<PageWithIds<'a>, PageFault>
     ensures page { IfOk result (λ found. page_at file.now meta.now id ≡ Some (shown found.page)) }
-    ensures ids { IfOk result (λ found. (shown found.page).kind ≡ Kind.Freelist → known_ids (option_map shown_ids found.ids) ≡ free_ids_at file.now meta.now id) }
+    ensures ids { IfOk result (λ found. (shown found.page).kind ≡ Kind.Freelist
+        → known_ids (option_map shown_ids found.ids) ≡ free_ids_at file.now meta.now id) }
     ensures fault { result_err result ≡ page_text_fault file.now meta.now id }
 {
     let page = page(file, meta, id)?;
@@ -94,7 +95,7 @@ fn put_head<S: Sink>(
     ids: &Option<FreeIds<'_>>,
     sink: &mut S,
 ) -> Result<(), SinkFault>
-    ensures { Wrote S.Sink sink.old sink.new (head_lines id (shown page.now).kind (items_on (shown page.now).kind (shown page.now).count (known_ids (option_map shown_ids ids.now))) (shown page.now).overflow) (ending result) }
+    ensures { Wrote S.Sink sink.old sink.new (head_of id (shown page.now) (known_ids (option_map shown_ids ids.now))) (ending result) }
 {
     put_pieces(
         &[

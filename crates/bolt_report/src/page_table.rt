@@ -1,5 +1,5 @@
 //! The table of all pages of a file.
-ghost use Rattle.std.specs.Prelude.{◌≡◌, ◌<◌, ◌⊎◌, IfErr, IsSome, count_by, flat_map, length, true, [], codes, decimal};
+ghost use Rattle.std.specs.Prelude.{◌≡◌, ◌<◌, ◌⊎◌, IfErr, IsSome, length, true, [], codes, decimal};
 ghost use Rattle.bolt_format.specs.Endings.{ending};
 ghost use Rattle.bolt_format.specs.Freelists.{free_ids_at};
 ghost use Rattle.bolt_format.specs.Pages.{page_at};
@@ -7,7 +7,7 @@ ghost use Rattle.bolt_format.specs.Wrote.{Wrote};
 ghost use Rattle.bolt_check.specs.CheckedFiles.{bytes_of, has_accounts, meta_of};
 ghost use Rattle.bolt_check.specs.RoledFiles.{roles_checked};
 ghost use Rattle.bolt_check.specs.Roles.{HasRole};
-ghost use Rattle.bolt_report.specs.PageTables.{ForRoles, begun, is_free, page_row, pages_in, pages_past, pages_text, shown_row, head_rows, overflow_text, past_line, row};
+ghost use Rattle.bolt_report.specs.PageTables.{ForRoles, begun, free_past, head_rows, items_row, overflow_text, page_row, past_line, row, table_rows, table_text};
 ghost use Rattle.bolt_report.specs.ReportEndings.{report_ending};
 ghost use Rattle.bolt_report.specs.Lines.{column};
 ghost use Rattle.bolt_report.specs.Pieces.{piece_text};
@@ -28,7 +28,7 @@ use std::alloc::Global;
 #[tactic(auto, using(crate::proofs::ReportLemmas::reports))]
 pub fn pages<S: Sink>(alloc: Global, checked: Checked<'_>, sink: &mut S) -> Result<(), ReportFault>
     requires { has_accounts checked ≡ true }
-    ensures written { ForRoles checked.entry (λ roles. Wrote S.Sink sink.old sink.new (pages_text (bytes_of checked.entry) (meta_of checked.entry) roles) (report_ending result)) }
+    ensures written { ForRoles checked.entry (λ roles. Wrote S.Sink sink.old sink.new (table_text checked.entry roles) (report_ending result)) }
     ensures fault { IfErr result (λ fault. (fault ≡ ReportFault.Sink) ⊎ (fault ≡ ReportFault.NoMemory)) }
 {
     let table = roles(alloc, checked)?;
@@ -45,7 +45,7 @@ pub fn pages<S: Sink>(alloc: Global, checked: Checked<'_>, sink: &mut S) -> Resu
 /// `SinkFault` if the sink failed. It has then accepted a prefix of the text.
 pub fn pages_table<S: Sink>(table: &Roles<'_>, sink: &mut S) -> Result<(), SinkFault>
     requires { has_accounts (roles_checked table.now) ≡ true }
-    ensures { ForRoles (roles_checked table.now) (λ roles. Wrote S.Sink sink.old sink.new (pages_text (bytes_of (roles_checked table.now)) (meta_of (roles_checked table.now)) roles) (ending result)) }
+    ensures { ForRoles (roles_checked table.now) (λ roles. Wrote S.Sink sink.old sink.new (table_text (roles_checked table.now) roles) (ending result)) }
 {
     put_head(sink)?;
     put_rows(table, sink)?;
@@ -64,7 +64,7 @@ pub(crate) fn pages_begun(checked: &Checked<'_>) -> u64
 /// computed, not counted page by page, since the mark may be any number.
 pub(crate) fn free_past(table: &Roles<'_>) -> u64
     requires { has_accounts (roles_checked table.now) ≡ true }
-    ensures { ForRoles (roles_checked table.now) (λ roles. result ≡ count_by (λ n. is_free (roles n)) (pages_past (bytes_of (roles_checked table.now)) (meta_of (roles_checked table.now)))) }
+    ensures { ForRoles (roles_checked table.now) (λ roles. result ≡ free_past (roles_checked table.now) roles) }
 {
     let checked = table.checked();
     checked
@@ -76,7 +76,7 @@ pub(crate) fn free_past(table: &Roles<'_>) -> u64
 /// Writes the rows of the pages in the file.
 fn put_rows<S: Sink>(table: &Roles<'_>, sink: &mut S) -> Result<(), SinkFault>
     requires { has_accounts (roles_checked table.now) ≡ true }
-    ensures { ForRoles (roles_checked table.now) (λ roles. Wrote S.Sink sink.old sink.new (flat_map (λ n. page_row (bytes_of (roles_checked table.now)) (meta_of (roles_checked table.now)) n (roles n)) (pages_in (bytes_of (roles_checked table.now)) (meta_of (roles_checked table.now)))) (ending result)) }
+    ensures { ForRoles (roles_checked table.now) (λ roles. Wrote S.Sink sink.old sink.new (table_rows (roles_checked table.now) roles) (ending result)) }
 {
     let checked = table.checked();
     let end = pages_begun(&checked).min(checked.meta().high_water);
@@ -114,7 +114,7 @@ fn put_tree_row<S: Sink>(
     sink: &mut S,
 ) -> Result<(), SinkFault>
     requires { IsSome (page_at (bytes_of checked.now) (meta_of checked.now) id) }
-    ensures { Wrote S.Sink sink.old sink.new (shown_row id kind.now (λ view. view.count) (page_at (bytes_of checked.now) (meta_of checked.now) id)) (ending result) }
+    ensures { Wrote S.Sink sink.old sink.new (items_row checked.now id kind.now) (ending result) }
 {
     let page = known(checked.bytes(), &checked.meta(), id);
     put_items_row(id, kind, u64::from(page.count()), page.overflow(), sink)

@@ -1,15 +1,14 @@
 //! The text of what a file holds below a path.
-ghost use Rattle.std.specs.List.{take_while};
 ghost use Rattle.std.specs.Prelude.{◌≡◌, ◌&&◌, ◌⊎◌, IfErr, IfOk, List, OnOk, not};
 ghost use Rattle.std.specs.Ordering.{is_lt};
 ghost use Rattle.bolt_format.specs.Wrote.{Wrote};
 ghost use Rattle.bolt_tree.specs.FileListings.{ForListing};
-ghost use Rattle.bolt_tree.specs.Listing.{Member, member_cmp, rest_from};
-ghost use Rattle.bolt_tree.specs.ListingParts.{begins_with, bucket_part, has_bucket, is_bucket_at, later_path, part_below};
+ghost use Rattle.bolt_tree.specs.Listing.{Member, member_cmp};
+ghost use Rattle.bolt_tree.specs.ListingParts.{begins_with, has_bucket, is_bucket_at, later_path};
 ghost use Rattle.bolt_tree.specs.Order.{Rises};
 ghost use Rattle.bolt_tree.specs.Paths.{path_cmp, path_of};
 ghost use Rattle.bolt_tree.specs.ShownEntries.{item_view};
-ghost use Rattle.bolt_report.specs.ListForms.{lines_form, listing_lines};
+ghost use Rattle.bolt_report.specs.ListForms.{bucket_lines, lines_below, lines_form, lines_while_below};
 ghost use Rattle.bolt_report.specs.ReportEndings.{report_ending};
 
 use crate::fault::ReportFault;
@@ -39,7 +38,8 @@ pub fn list_part<S: Sink>(
     form: ListForm,
     sink: &mut S,
 ) -> Result<(), ReportFault>
-    ensures written { ForListing checked.entry (λ listing. Wrote S.Sink sink.old sink.new (listing_lines form (rest_from (path_of from.now) (part_below (path_of below.now) listing))) (report_ending result)) }
+    ensures written { ForListing checked.entry (λ listing.
+        Wrote S.Sink sink.old sink.new (lines_below form from.now below.now listing) (report_ending result)) }
     ensures fault { IfErr result (λ fault. (fault ≡ ReportFault.Sink) ⊎ (fault ≡ ReportFault.NoMemory)) }
 {
     let mut walk = Walk::from(alloc, checked, later_of(from, below))?;
@@ -59,8 +59,9 @@ pub fn list_members_part<'a, M: Members<'a>, S: Sink>(
     sink: &mut S,
 ) -> Result<bool, ReportFault>
     ensures written { (listing : List Member) → M.lists members.old listing → Rises member_cmp (M.left members.old listing)
-        → Wrote S.Sink sink.old sink.new (listing_lines form (rest_from (path_of from.now) (bucket_part (path_of below.now) (M.left members.old listing)))) (report_ending result) }
-    ensures found { IfOk result (λ found. (listing : List Member) → M.lists members.old listing → found ≡ has_bucket (path_of below.now) (M.left members.old listing)) }
+        → Wrote S.Sink sink.old sink.new (bucket_lines form from.now below.now (M.left members.old listing)) (report_ending result) }
+    ensures found { IfOk result (λ found. (listing : List Member) → M.lists members.old listing
+        → found ≡ has_bucket (path_of below.now) (M.left members.old listing)) }
     ensures end { OnOk result (M.ends_as members.old members.new) }
     ensures fault { IfErr result (λ fault. (fault ≡ ReportFault.Sink) ⊎ (fault ≡ ReportFault.NoMemory)) }
 {
@@ -76,7 +77,8 @@ pub(crate) fn put_part<'a, M: Members<'a>, S: Sink>(
     lines: &mut MemberLines,
     sink: &mut S,
 ) -> Result<(), ReportFault>
-    ensures written { (listing : List Member) → M.lists members.old listing → Wrote S.Sink sink.old sink.new (listing_lines (lines_form lines.old) (take_while (λ m. begins_with (path_of below.now) m.0) (M.left members.old listing))) (report_ending result) }
+    ensures written { (listing : List Member) → M.lists members.old listing
+        → Wrote S.Sink sink.old sink.new (lines_while_below (lines_form lines.old) below.now (M.left members.old listing)) (report_ending result) }
     ensures fault { IfErr result (λ fault. (fault ≡ ReportFault.Sink) ⊎ (fault ≡ ReportFault.NoMemory)) }
 {
     'part: while let Some(item) = members.next()? {
@@ -98,8 +100,9 @@ fn put_bucket_part<'a, M: Members<'a>, S: Sink>(
     sink: &mut S,
 ) -> Result<bool, ReportFault>
     ensures written { (listing : List Member) → M.lists members.old listing → Rises member_cmp (M.left members.old listing)
-        → Wrote S.Sink sink.old sink.new (listing_lines (lines_form lines.old) (rest_from (path_of from.now) (bucket_part (path_of below.now) (M.left members.old listing)))) (report_ending result) }
-    ensures found { IfOk result (λ found. (listing : List Member) → M.lists members.old listing → found ≡ has_bucket (path_of below.now) (M.left members.old listing)) }
+        → Wrote S.Sink sink.old sink.new (bucket_lines (lines_form lines.old) from.now below.now (M.left members.old listing)) (report_ending result) }
+    ensures found { IfOk result (λ found. (listing : List Member) → M.lists members.old listing
+        → found ≡ has_bucket (path_of below.now) (M.left members.old listing)) }
     ensures end { OnOk result (M.ends_as members.old members.new) }
     ensures fault { IfErr result (λ fault. (fault ≡ ReportFault.Sink) ⊎ (fault ≡ ReportFault.NoMemory)) }
 {
