@@ -1,5 +1,5 @@
 -- The members of the joined listing, one after another.
-use Rattle.std.proofs.Common.{◌≡◌, ◌≢◌, ◌∙◌, ℕ, Bool, true, false, List, [], ◌∷◌, ◌++◌, ◌⊎◌, ◌||◌, inl, inr, Option, Some, None, Result, Ok, Err, IfOk, IfSome, OnErr, OnOk, filter, is_some, not, refl, sym, ap, subst, subst₂, append_assoc}
+use Rattle.std.proofs.Common.{◌≡◌, ◌≢◌, ◌∙◌, ℕ, Bool, true, false, List, [], ◌∷◌, ◌++◌, ◌⊎◌, ◌||◌, inl, inr, Option, Some, None, Result, Ok, Err, IfOk, IfSome, OnErr, OnOk, filter, is_some, not, refl, sym, ap, subst, subst₂}
 use Rattle.std.specs.List.{All, Contains}
 use Rattle.std.proofs.Math.Logic.{∥∥₁_elim}
 use Rattle.std.proofs.Props.{props}
@@ -7,21 +7,18 @@ use Rattle.std.proofs.lemmas.Bool.{cases_Bool, false≢true}
 use Rattle.std.specs.Option.{option_map}
 use Rattle.std.specs.Ordering.{is_eq, is_lt}
 use Rattle.std.proofs.lemmas.List.Elements.{All-head, All-tail}
-use Rattle.bolt_check.specs.Keys.{Key, key_lt}
 use Rattle.bolt_format.specs.Elements.{LeafElement}
 use Rattle.bolt_format.specs.Pages.{page_at}
 use Rattle.bolt_format.specs.Shown.{shown}
 use Rattle.bolt_format.specs.declared.meta.Meta.{Meta}
-use Rattle.bolt_tree.specs.Entries.{Bucket, Item, Value}
+use Rattle.bolt_tree.specs.Entries.{Bucket, Item}
 use Rattle.bolt_tree.specs.Listing.{Member}
 use Rattle.bolt_tree.specs.Paths.{Path}
 use Rattle.bolt_tree.specs.ShownEntries.{item_view}
 use Rattle.bolt_tree.specs.Walks.{GivesNext}
-use Rattle.bolt_tree.specs.Tree.{Tree, end, listing_below, listing_of, tree_of, with_bucket, with_value}
 use Rattle.bolt_tree.proofs.Lists.{contains_cases, contains_head, contains_none, contains_tail}
-use Rattle.bolt_tree.proofs.ReadBack.{tree_back}
 use Rattle.bolt_recover.specs.Found.{numbers_of}
-use Rattle.bolt_recover.specs.Joined.{HasBucketKey, IsJoined, LacksBucketKey, found_tree, is_found_path, joined_listing, lost_and_found, put_bucket}
+use Rattle.bolt_recover.specs.Joined.{HasBucketKey, IsJoined, LacksBucketKey, is_found_path, joined_listing, lost_and_found}
 use Rattle.bolt_recover.specs.Places.{leaves_of}
 use Rattle.bolt_recover.specs.Recovered.{ForRecovered, IsRecovered}
 use Rattle.bolt_recover.specs.ShownFound.{IsFoundView}
@@ -34,8 +31,7 @@ use Rattle.bolt_recover.specs.declared.joined.Stage.{Stage}
 use Rattle.bolt_recover.specs.declared.joined.Stage.TheVariants.{After, Before, Inside}
 use Rattle.bolt_recover.specs.declared.kept.Kept.{Kept}
 use Rattle.bolt_tree.specs.declared.entry.Item.{Item as CodeItem}
-use Rattle.bolt_recover.proofs.FoundAll.{one_found}
-use Rattle.bolt_recover.proofs.JoinedLemmas.{joined_keeps, stays, tree_recovered, with_elements}
+use Rattle.bolt_recover.proofs.JoinedLemmas.{joined_keeps, joined_of, put_recovered, stays, with_elements}
 
 pub first_found : (path : Path) → is_eq (first_cmp path) ≡ is_found_path path
 first_found [] = refl
@@ -103,52 +99,6 @@ bucket_key listing has =
       | inr lacks ↦ absurd (∥∥₁_elim has (hlevel props) (λ (m, (there, same)). false≢true (ap not (sym same) ∙ lacks m there)))
     ]
 
--- the bucket with what it holds
-abbrev pub put_of : Tree → List Member
-put_of inside = (lost_and_found ∷ [], Bucket 0) ∷ listing_below (lost_and_found ∷ []) inside
-
--- what an earlier bucket holds comes before it
-passes_inside : (put : List Member) (key : Key) (path : Path) (own : Tree) (rest : List Member) → key_lt key lost_and_found ≡ true
-    → put_members put (listing_below (key ∷ path) own ++ rest) ≡ listing_below (key ∷ path) own ++ put_members put rest
-passes_inside put key path end rest less = refl
-passes_inside put key path (with_value k value after) rest less =
-    rw less (ap (λ (ms : List Member). (key ∷ path ++ k ∷ [], Value value) ∷ ms) (passes_inside put key path after rest less))
-passes_inside put key path (with_bucket k sequence inside after) rest less =
-    let here : Member = (key ∷ path ++ k ∷ [], Bucket sequence) in
-    let front = listing_below (key ∷ path ++ k ∷ []) inside in
-    let later = listing_below (key ∷ path) after in
-    rw less (ap (λ (ms : List Member). here ∷ ms)
-    (ap (put_members put) (append_assoc front later rest)
-    ∙ passes_inside put key (path ++ k ∷ []) inside (later ++ rest) less
-    ∙ ap (λ (ms : List Member). front ++ ms) (passes_inside put key path after rest less)
-    ∙ sym (append_assoc front later (put_members put rest))))
-
-by_value : (inside : Tree) (key value : List ℕ) (after : Tree) (b : Bool) → key_lt key lost_and_found ≡ b → put_members (put_of inside) (listing_of after) ≡ listing_of (put_bucket lost_and_found inside after)
-    → put_members (put_of inside) (listing_of (with_value key value after)) ≡ listing_of (put_bucket lost_and_found inside (with_value key value after))
-by_value inside key value after true less later = rw less (ap (λ (ms : List Member). (key ∷ [], Value value) ∷ ms) later)
-by_value inside key value after false over later = rw over refl
-
-by_bucket : (inside : Tree) (key : List ℕ) (sequence : ℕ) (own after : Tree) (b : Bool) → key_lt key lost_and_found ≡ b
-    → put_members (put_of inside) (listing_of after) ≡ listing_of (put_bucket lost_and_found inside after)
-    → put_members (put_of inside) (listing_of (with_bucket key sequence own after)) ≡ listing_of (put_bucket lost_and_found inside (with_bucket key sequence own after))
-by_bucket inside key sequence own after true less later =
-    rw less (ap (λ (ms : List Member). (key ∷ [], Bucket sequence) ∷ ms)
-    (passes_inside (put_of inside) key [] own (listing_of after) less ∙ ap (λ (ms : List Member). listing_below (key ∷ []) own ++ ms) later))
-by_bucket inside key sequence own after false over later = rw over refl
-
--- the members of a tree with the bucket in its place
-pub put_tree : (inside tree : Tree) → put_members (put_of inside) (listing_of tree) ≡ listing_of (put_bucket lost_and_found inside tree)
-put_tree inside end = refl
-put_tree inside (with_value key value after) = by_value inside key value after (key_lt key lost_and_found) refl (put_tree inside after)
-put_tree inside (with_bucket key sequence own after) = by_bucket inside key sequence own after (key_lt key lost_and_found) refl (put_tree inside after)
-
-pub put_recovered : (found : List (ℕ × List LeafElement)) (recovered : List Member) → (tree : Tree) × (recovered ≡ listing_of tree)
-    → put_members (put_of (found_tree found)) recovered ≡ listing_of (put_bucket lost_and_found (found_tree found) (tree_of recovered))
-put_recovered found recovered (tree, of) =
-    ap (put_members (put_of (found_tree found))) of
-    ∙ put_tree (found_tree found) tree
-    ∙ ap (λ (t : Tree). listing_of (put_bucket lost_and_found (found_tree found) t)) (sym (ap tree_of of ∙ tree_back tree))
-
 module _ (file : List ℕ) (meta : Meta) where
   pages_same : (found : List Found) → All (IsFoundView file meta) found → with_elements file meta (numbers_of found) ≡ pages_of found
   pages_same [] views = refl
@@ -168,13 +118,13 @@ module _ (file : List ℕ) (meta : Meta) where
   parted_by [] listing recovered are back joined = record { recovers = subst (IsRecovered file meta) (sym joined) back; joined = refl }
   parted_by (f ∷ found) listing recovered are back joined =
       let none : (f ∷ found) ≢ [] = λ e. cc in
-      let same : filter stays listing ≡ recovered = ap (filter stays) joined ∙ joined_keeps recovered (pages_of (f ∷ found)) (tree_recovered file meta recovered back) (are.apart none recovered back) in
+      let same : filter stays listing ≡ recovered = ap (filter stays) joined ∙ joined_keeps file meta recovered (pages_of (f ∷ found)) back (are.apart none recovered back) in
       record { recovers = subst (IsRecovered file meta) (sym same) back; joined = joined ∙ ap (λ (ms : List Member). joined_listing ms (pages_of (f ∷ found))) (sym same) }
 
   pub parted : (found : List Found) (listing : List Member) → AreJoinable file meta found → IsJoined file meta listing → IsParted found listing (recovered_in found listing)
   parted found listing are is =
       parted_by found listing is.recovered are is.recovers
-      (is.joined ∙ ap (joined_listing is.recovered) (ap (with_elements file meta) (one_found file meta is.found (numbers_of found) is.are_found are.are_found) ∙ pages_same found are.views))
+      (joined_of file meta listing is.recovered (numbers_of found) is is.recovers are.are_found ∙ ap (joined_listing is.recovered) (pages_same found are.views))
 
 -- at the beginning, as the found pages are
 module _ (stage : Stage) (kept : Kept) where
@@ -197,7 +147,7 @@ module _ (stage : Stage) (kept : Kept) where
   all_at file meta [] bucket held listing recovered (none, some) is fresh = rw (none refl) (fresh ∙ sym is.joined)
   all_at file meta (f ∷ found) bucket held listing recovered (none, some) is fresh =
       rw (some (some_found f found)) (ap (put_members (bucket_members (f ∷ found))) fresh
-      ∙ put_recovered (pages_of (f ∷ found)) recovered (tree_recovered file meta recovered is.recovers)
+      ∙ put_recovered file meta (pages_of (f ∷ found)) recovered is.recovers
       ∙ sym is.joined)
 
   pub begun_left : (file : List ℕ) (meta : Meta) (found : List Found) (bucket : FoundMembers) (held : Option CodeItem) → Begins found → AreJoinable file meta found

@@ -1,7 +1,6 @@
 -- The members of a joined listing are recovered or found.
 use Rattle.std.proofs.Common.{◌≡◌, ◌∙◌, ◌⊎◌, inl, inr, ℕ, Bool, true, false, IsTrue, is_none, List, [], ◌∷◌, ◌++◌, None, map, ◌==◌, if◌then◌else◌, refl, sym, ap, subst}
 use Rattle.std.specs.List.{Contains}
-use Rattle.std.specs.Ordering.{is_lt}
 use Rattle.std.proofs.lemmas.Bool.{eqb-true}
 use Rattle.std.proofs.lemmas.List.Elements.{Contains-append_cases}
 use Rattle.bolt_format.specs.Elements.{LeafElement, head_root, head_sequence, inline_elements}
@@ -17,25 +16,8 @@ use Rattle.bolt_recover.specs.Found.{AreFound}
 use Rattle.bolt_recover.specs.Joined.{IsElement, IsFoundMember, IsInner, IsJoined, found_tree, inside_of, joined_listing, lost_and_found, tree_with}
 use Rattle.bolt_recover.specs.PageKeys.{page_key}
 use Rattle.bolt_recover.specs.Places.{leaves_of}
-use Rattle.bolt_recover.specs.Private.Joining.{first_cmp, put_members}
 use Rattle.bolt_recover.specs.Recovered.{IsRecovered}
-use Rattle.bolt_recover.proofs.FoundAll.{one_found}
-use Rattle.bolt_recover.proofs.JoinSteps.{put_of, put_recovered}
-use Rattle.bolt_recover.proofs.JoinedLemmas.{tree_recovered, with_elements}
-use Rattle.bolt_recover.proofs.OneRecovered.{one_recovered}
-
--- what is put, or what was there
-put_by : (put : List Member) (x : Member) (listing : List Member) (m : Member) (b : Bool) → is_lt (first_cmp x.0) ≡ b → (Contains (put_members put listing) m → Contains put m ⊎ Contains listing m)
-    → Contains (put_members put (x ∷ listing)) m → Contains put m ⊎ Contains (x ∷ listing) m
-put_by put x listing m true less further has = elim (contains_cases x m (put_members put listing) (rw less at has)) [
-  | inl same ↦ inr (subst (λ (y : Member). Contains (x ∷ listing) y) same (contains_head x listing))
-  | inr more ↦ elim (further more) [ inl own ↦ inl own | inr later ↦ inr (contains_tail x m listing later) ]
-]
-put_by put x listing m false over further has = Contains-append_cases put (x ∷ listing) m (rw over at has)
-
-put_or_there : (put listing : List Member) (m : Member) → Contains (put_members put listing) m → Contains put m ⊎ Contains listing m
-put_or_there put [] m has = Contains-append_cases put [] m has
-put_or_there put (x ∷ listing) m has = put_by put x listing m (is_lt (first_cmp x.0)) refl (put_or_there put listing m) has
+use Rattle.bolt_recover.proofs.JoinedLemmas.{joined_of, put_of, put_or_there, put_recovered, with_elements}
 
 -- an element, what it holds, or a later one
 abbrev IsHere : (inside : LeafElement → Tree) → Path → LeafElement → Member → Type 0
@@ -111,7 +93,7 @@ module _ (file : List ℕ) (meta : Meta) where
   contents recovered [] m is has = inl has
   contents recovered (n ∷ found) m is has =
       let pages = with_elements file meta (n ∷ found) in
-      let put = subst (λ (ms : List Member). Contains ms m) (sym (put_recovered pages recovered (tree_recovered file meta recovered is))) has in
+      let put = subst (λ (ms : List Member). Contains ms m) (sym (put_recovered file meta pages recovered is)) has in
       elim (put_or_there (put_of (found_tree pages)) recovered m put) [
         | inl own ↦ elim (contains_cases (lost_and_found ∷ [], Bucket 0) m (listing_below (lost_and_found ∷ []) (found_tree pages)) own) [
           | inl same ↦ inr (inl (sym same))
@@ -123,8 +105,4 @@ module _ (file : List ℕ) (meta : Meta) where
   pub joined_contents : (listing recovered : List Member) (found : List ℕ) (m : Member) → IsJoined file meta listing → IsRecovered file meta recovered → AreFound file meta found → Contains listing m
       → Contains recovered m ⊎ ((m ≡ (lost_and_found ∷ [], Bucket 0)) ⊎ IsFoundMember file meta found m)
   joined_contents listing recovered found m is back are has =
-      contents recovered found m back
-      (subst (λ (ms : List Member). Contains ms m)
-      (is.joined
-      ∙ ap (λ (ms : List Member). joined_listing ms (with_elements file meta is.found)) (one_recovered file meta is.recovered recovered is.recovers back)
-      ∙ ap (λ (ns : List ℕ). joined_listing recovered (with_elements file meta ns)) (one_found file meta is.found found is.are_found are)) has)
+      contents recovered found m back (subst (λ (ms : List Member). Contains ms m) (joined_of file meta listing recovered found is back are) has)

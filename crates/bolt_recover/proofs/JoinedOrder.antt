@@ -15,11 +15,9 @@ use Rattle.bolt_check.specs.Nodes.{Entry, Node, leaf_entry, node_at}
 use Rattle.bolt_check.proofs.MarkLemmas.{node_within}
 use Rattle.bolt_tree.specs.Listing.{Member, member_cmp}
 use Rattle.bolt_tree.specs.Order.{Rises}
-use Rattle.bolt_tree.specs.Tree.{Tree, listing_of, tree_of}
 use Rattle.bolt_tree.proofs.Lists.{contains_cases, contains_head, contains_none, contains_tail}
-use Rattle.bolt_tree.proofs.ReadBack.{tree_back}
 use Rattle.bolt_recover.specs.Found.{AreFound, FoundBelow}
-use Rattle.bolt_recover.specs.Joined.{IsJoined, LacksBucketKey, found_tree, inside_of, joined_listing, lost_and_found, put_bucket, tree_with}
+use Rattle.bolt_recover.specs.Joined.{IsJoined, LacksBucketKey, found_tree, inside_of, joined_listing, tree_with}
 use Rattle.bolt_recover.specs.PageKeys.{page_key}
 use Rattle.bolt_recover.specs.Places.{leaves_of}
 use Rattle.bolt_recover.specs.Recovered.{IsRecovered}
@@ -27,12 +25,9 @@ use Rattle.bolt_recover.specs.KeptPages.{IsKeptPage}
 use Rattle.bolt_recover.proofs.FoundAll.{lost_or_none}
 use Rattle.bolt_recover.proofs.FoundLemmas.{found_here}
 use Rattle.bolt_recover.proofs.PlaceKeys.{HasForm, page_form}
-use Rattle.bolt_recover.proofs.JoinedLemmas.{tree_recovered, with_elements}
+use Rattle.bolt_recover.proofs.JoinedLemmas.{joined_between, with_elements}
 use Rattle.bolt_recover.proofs.PageNames.{digits_rise}
-use Rattle.bolt_recover.proofs.TreeOrder.{HasKey, Ordered, elements_ordered, inside_ordered, key_listed, ordered_rises, put_ordered, rises_ordered}
-
-lacks_key : (tree : Tree) → LacksBucketKey (listing_of tree) → HasKey tree lost_and_found → ⊥
-lacks_key tree lacks has = let (item, there) = key_listed tree [] lost_and_found has in let f : false ≡ true = lacks (lost_and_found ∷ [], item) there in cc
+use Rattle.bolt_recover.proofs.TreeOrder.{HasKey, Ordered, elements_ordered, inside_ordered}
 
 -- found pages with rising numbers
 abbrev NumbersRise : List (ℕ × List LeafElement) → Type 0
@@ -134,13 +129,7 @@ module _ (file : List ℕ) (meta : Meta) where
   rises_with recovered [] is are small room = is.rises
   rises_with recovered (n ∷ found) is are small room =
       let some : (n ∷ found) ≢ [] = λ e. cc in
-      let (tree, of) = tree_recovered file meta recovered is in
-      let same : tree_of recovered ≡ tree = ap tree_of of ∙ tree_back tree in
-      let inside = found_tree (with_elements file meta (n ∷ found)) in
-      subst (λ (t : Tree). Rises member_cmp (listing_of (put_bucket lost_and_found inside t))) (sym same)
-      (ordered_rises (put_bucket lost_and_found inside tree) []
-      (put_ordered lost_and_found inside tree (found_ordered (n ∷ found) are small) (rises_ordered tree [] (subst (Rises member_cmp) of is.rises))
-      (lacks_key tree (subst LacksBucketKey of (room recovered (n ∷ found) is are some)))))
+      joined_between file meta recovered _ (with_elements file meta found) is (room recovered (n ∷ found) is are some) (found_ordered (n ∷ found) are small)
 
   pub joined_rises : (listing : List Member) → IsJoined file meta listing → length file < 10 ^ 16 * meta.page_size → LeavesRoom → Rises member_cmp listing
   joined_rises listing is small room = subst (Rises member_cmp) (sym is.joined) (rises_with is.recovered is.found is.recovers is.are_found small room)
