@@ -2,11 +2,12 @@
 use Rattle.std.proofs.Common.{[], ℕ, List, refl}
 use Rattle.bolt_format.specs.declared.meta.Meta.{Meta}
 use Rattle.bolt_tree.specs.Listing.{Member}
+use Rattle.bolt_recover.specs.Private.Runs.{further}
 use Rattle.bolt_recover.specs.Losses.{AreLosses, LossView, losses_of}
 use Rattle.bolt_recover.specs.Recovered.{IsRecovered}
 use Rattle.bolt_recover.specs.Surveys.{IsSurvey, Visit}
 use Rattle.bolt_recover.proofs.RunExists.{run_exists}
-use Rattle.bolt_recover.proofs.RunOrder.{further, visits_of}
+use Rattle.bolt_recover.proofs.RunOrder.{visits_of}
 use Rattle.bolt_recover.proofs.RunRecovers.{recovers}
 use Rattle.bolt_recover.proofs.RunSurveys.{surveyed}
 

@@ -1,7 +1,7 @@
 -- The found pages of a whole file.
-use Rattle.std.proofs.Common.{◌≡◌, ◌∙◌, ◌↔◌, ◌⊎◌, ◌≤◌, ◌<◌, ◌+◌, inl, inr, ℕ, zero, suc, Bool, true, arith, List, [], ◌∷◌, length, map, Option, Some, None, Result, Ok, Err, IfOk, refl, sym, ap, subst}
+use Rattle.std.proofs.Common.{◌≡◌, ◌∙◌, ◌↔◌, ◌⊎◌, ◌+◌, inl, inr, ℕ, Bool, true, arith, List, [], ◌∷◌, length, map, Option, Some, None, Result, Ok, Err, IfOk, refl, sym, ap, subst}
 use Rattle.std.specs.List.{Contains}
-use Rattle.std.proofs.lemmas.Bool.{cases_Bool, cases_lt, false≢true}
+use Rattle.std.proofs.lemmas.Bool.{cases_Bool, false≢true}
 use Rattle.std.proofs.Math.Logic.{∥∥₁_elim}
 use Rattle.std.proofs.Props.{props}
 use Rattle.bolt_format.specs.declared.meta.Meta.{Meta}
@@ -28,11 +28,12 @@ use Rattle.bolt_recover.specs.Surveys.{Gives, Has, IsClaimedIn, IsOpen, IsSurvey
 use Rattle.bolt_recover.specs.declared.recovery.Recovery.{Recovery}
 use Rattle.bolt_recover.proofs.Existing.{has_survey}
 use Rattle.bolt_recover.proofs.FoundLemmas.{found_one, found_same, passed}
+use Rattle.bolt_recover.proofs.Lowest.{lowest}
 use Rattle.bolt_recover.proofs.LostWays.{no_losses, nothing_lost}
 use Rattle.bolt_recover.proofs.OneRecovered.{one_recovered}
-use Rattle.bolt_recover.proofs.Recovering.{all_claimed, claimed_all}
-use Rattle.bolt_recover.proofs.RunSurveys.{claims_in, claims_is}
-use Rattle.bolt_recover.proofs.SurveyIsOne.{one_survey}
+use Rattle.bolt_recover.proofs.Recovering.{claimed_all, claimed_at_end}
+use Rattle.bolt_recover.proofs.RunSurveys.{claims_in}
+use Rattle.bolt_recover.proofs.SurveyIsOne.{same_survey}
 
 pub map_none : {A B : Type 0} (f : A → B) (xs : List A) → length xs ≡ 0 → map f xs ≡ []
 map_none f [] e = refl
@@ -92,27 +93,24 @@ lost_or_none (v ∷ survey) = first v survey v.found refl (lost_or_none survey)
     first v survey None e (inl none) = inl (λ u has. elim has [ inl same ↦ ap (λ (z : Visit). z.found) same ∙ e | inr later ↦ none u later ])
 
 module _ (file : List ℕ) (meta : Meta) where
-  same_survey : (a b : List Visit) → IsSurvey file meta a → IsSurvey file meta b → a ≡ b
-  same_survey a b = one_survey (node_at file meta) (reached (node_at file meta) meta.root) a b
-
   -- the found pages next to the kept ones of the survey
   pub below_of : (found : List ℕ) (survey : List Visit) (way : List ℕ) (x : Finding) → AreFound file meta found → IsSurvey file meta survey → Has survey (lost way x)
       → FoundBelow file meta (IsKeptPage file meta survey) meta.high_water found
   below_of found survey way x are is has =
-      let same = same_survey are.survey survey are.surveys is in
+      let same = same_survey file meta are.survey survey are.surveys is in
       subst (λ (s : List Visit). FoundBelow file meta (IsKeptPage file meta s) meta.high_water found) same
       (are.some way x (subst (λ (s : List Visit). Has s (lost way x)) (sym same) has))
 
   pub one_found : (a b : List ℕ) → AreFound file meta a → AreFound file meta b → a ≡ b
   one_found a b h k =
       elim (lost_or_none h.survey) [
-        | inl none ↦ h.none none ∙ sym (k.none (subst (λ (s : List Visit). (v : Visit) → Has s v → v.found ≡ None) (same_survey h.survey k.survey h.surveys k.surveys) none))
+        | inl none ↦ h.none none ∙ sym (k.none (subst (λ (s : List Visit). (v : Visit) → Has s v → v.found ≡ None) (same_survey file meta h.survey k.survey h.surveys k.surveys) none))
         | inr (way, x, has) ↦ found_one file meta (IsKeptPage file meta h.survey) meta.high_water a b (h.some way x has) (below_of b h.survey way x k h.surveys has)
       ]
 
   pub nothing_found : (found : List ℕ) → AreLosses file meta [] → AreFound file meta found → found ≡ []
   nothing_found found (survey, is, none) are =
-      are.none (subst (λ (s : List Visit). (v : Visit) → Has s v → v.found ≡ None) (same_survey survey are.survey is are.surveys) (nothing_lost file meta survey is (sym none)))
+      are.none (subst (λ (s : List Visit). (v : Visit) → Has s v → v.found ≡ None) (same_survey file meta survey are.survey is are.surveys) (nothing_lost file meta survey is (sym none)))
 
   -- if a page is found, a way is lost
   pub found_in : (found : List ℕ) (survey : List Visit) (n : ℕ) → AreFound file meta found → IsSurvey file meta survey → Contains found n
@@ -120,31 +118,16 @@ module _ (file : List ℕ) (meta : Meta) where
   found_in found survey n are is has =
       elim (lost_or_none survey) [
         | inl none ↦ absurd (contains_none n (subst (λ (xs : List ℕ). Contains xs n)
-            (are.none (subst (λ (s : List Visit). (v : Visit) → Has s v → v.found ≡ None) (same_survey survey are.survey is are.surveys) none)) has))
+            (are.none (subst (λ (s : List Visit). (v : Visit) → Has s v → v.found ≡ None) (same_survey file meta survey are.survey is are.surveys) none)) has))
         | inr (way, x, gone) ↦ below_of found survey way x are is gone
       ]
-
--- a page with a property among so many, or none
-pub look : (P : ℕ → Type 0) → ((k : ℕ) → P k ⊎ (P k → ⊥)) → (from count : ℕ) → ((k : ℕ) × (from ≤ k) × (k < from + count) × P k) ⊎ ((k : ℕ) → from ≤ k → k < from + count → P k → ⊥)
-look P decide from zero = inr (λ k low high. absurd (omega arith))
-look P decide from (suc count) =
-    elim (look P decide from count) [
-      | inl (k, low, high, is) ↦ inl (k, low, omega (arith, high), is)
-      | inr none ↦ elim (decide (from + count)) [
-        | inl is ↦ inl (from + count, omega arith, omega arith, is)
-        | inr never ↦ inr (λ k low high is. elim (cases_lt k (from + count)) [
-          | inl lower ↦ none k low lower is
-          | inr upper ↦ (let same : k ≡ from + count = omega arith in never (subst P same is))
-        ])
-      ]
-    ]
 
 module _ (file : List ℕ) (meta : Meta) where
   -- whether a page is kept or found can be told
   kept_or_not : (survey : List Visit) → IsSurvey file meta survey → (k : ℕ) → IsKeptPage file meta survey k ⊎ (IsKeptPage file meta survey k → ⊥)
   kept_or_not survey is k =
       let which = claimed_all file meta 0 survey is k in
-      elim (cases_Bool (all_claimed file meta 0 k)) [
+      elim (cases_Bool (claimed_at_end file meta 0 k)) [
         | inl yes_ ↦ inl (which.0 yes_)
         | inr none ↦ inr (λ kept. false≢true (sym none ∙ which.1 kept))
       ]
@@ -153,8 +136,8 @@ module _ (file : List ℕ) (meta : Meta) where
   span_or_not m k =
       let nodes = node_at file meta in
       elim (cases_Bool (claims_of nodes (At_page (root_spot m)) k)) [
-        | inl is ↦ inl (claims_in nodes (At_page (root_spot m)) k is)
-        | inr none ↦ inr (λ span. false≢true (sym none ∙ claims_is nodes (At_page (root_spot m)) k span))
+        | inl is ↦ inl ((claims_in nodes (At_page (root_spot m)) k).0 is)
+        | inr none ↦ inr (λ span. false≢true (sym none ∙ (claims_in nodes (At_page (root_spot m)) k).1 span))
       ]
 
   found_or_not : (found : List ℕ) (k : ℕ) → IsFoundPage file meta found k ⊎ (IsFoundPage file meta found k → ⊥)
@@ -188,8 +171,8 @@ module _ (file : List ℕ) (meta : Meta) where
       → (k : ℕ) × SpanAt (node_at file meta) (At_page (root_spot n)) k × (IsKeptPage file meta survey k ⊎ IsFoundPage file meta found k)
   shares found survey way x n are is has lone unlisted =
       let overflow = lone.passes.node.overflow in
-      elim (look (λ k. IsKeptPage file meta survey k ⊎ IsFoundPage file meta found k) (either_or_not found survey is) n (overflow + 1)) [
-        | inl (k, low, high, either) ↦ (k, rw lone.passes.page (low, omega (arith, high)), either)
+      elim (lowest (λ k. IsKeptPage file meta survey k ⊎ IsFoundPage file meta found k) (either_or_not found survey is) n (overflow + 1)) [
+        | inl (k, low, high, either, first) ↦ (k, rw lone.passes.page (low, omega (arith, high)), either)
         | inr none ↦
             let apart : (k : ℕ) → SpanAt (node_at file meta) (At_page (root_spot n)) k → IsKeptPage file meta survey k ⊎ IsFoundPage file meta found k → ⊥ = λ k span.
             let inside = rw lone.passes.page at span in none k inside.0 (let to = inside.1 in omega (arith, to)) in

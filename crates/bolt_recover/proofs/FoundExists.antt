@@ -13,7 +13,8 @@ use Rattle.bolt_recover.specs.Found.{AreFound, FoundBelow, IsFoundNext, IsFoundP
 use Rattle.bolt_recover.specs.KeptPages.{IsKeptPage}
 use Rattle.bolt_recover.specs.Surveys.{IsSurvey, Visit, lost}
 use Rattle.bolt_recover.proofs.Existing.{has_survey}
-use Rattle.bolt_recover.proofs.FoundAll.{either_or_not, look, lost_or_none}
+use Rattle.bolt_recover.proofs.FoundAll.{either_or_not, lost_or_none}
+use Rattle.bolt_recover.proofs.Lowest.{lowest}
 
 abbrev Decided : Type 0 → Type 0
 Decided P = P ⊎ (P → ⊥)
@@ -41,8 +42,8 @@ module _ (nodes : Nodes) (before : ℕ → Type 0) (which : (k : ℕ) → Decide
           | inr empty ↦ inr (λ lone. empty (subst (λ (x : Node). x.entries ≢ []) (sym (node_is node is lone)) lone.some))
           | inl some ↦ elim (nothing_or_not (node_finding node (root_spot n))) [
             | inr finding ↦ inr (λ lone. finding (ap (λ (x : Node). node_finding x (root_spot n)) (node_is node is lone) ∙ lone.passes.content))
-            | inl content ↦ elim (look before which n (node.overflow + 1)) [
-              | inl (k, low, high, was) ↦ inr (λ lone.
+            | inl content ↦ elim (lowest before which n (node.overflow + 1)) [
+              | inl (k, low, high, was, first) ↦ inr (λ lone.
                   let same = ap (λ (x : Node). x.overflow) (node_is node is lone) in
                   lone.passes.free k (low, omega (arith, high, same)) was)
               | inr free ↦ inl (record {

@@ -20,7 +20,7 @@ use Rattle.bolt_tree.proofs.Named.{held_here, names_push}
 use Rattle.bolt_recover.specs.Places.{Place, follow_places, leaves_of, next_place, place_at, place_on, root_place}
 use Rattle.bolt_recover.specs.Recovered.{IsRecoveredMember}
 use Rattle.bolt_recover.specs.Surveys.{Visit}
-use Rattle.bolt_recover.proofs.PlaceKeys.{HasForm, IsTidy, IsTidyAt, page_form, tidy_root, tidy_step}
+use Rattle.bolt_recover.proofs.PlaceKeys.{HasForm, IsTidy, IsTidyAt, no_spot, page_form, tidy_root, tidy_step}
 use Rattle.bolt_tree.proofs.EntryOrder.{contains_at}
 
 -- a page with leaf elements is a leaf that shows them
@@ -116,19 +116,16 @@ module _ (file : List ℕ) (meta : Meta) where
       (ap (λ (x : Result Node ℕ). child_in x i) page ∙ ap (λ (b : Bool). child_of b (slice_get node.entries i)) branch) names
       (sym (ap (place_on file meta path None) step) ∙ ap (λ (o : Option LeafElement). place_on file meta path o (step_from nodes (At_page s) i)) (sym gone) ∙ is)
 
-  no_spot : (path : Path) (o : Option LeafElement) (t : Place) → place_on file meta path o None ≡ Some t → ⊥
-  no_spot path o t e = cc
-
   named_step : (from : Start) (path : Path) (spot : Spot) (elements : List LeafElement) (i : ℕ) (t : Place) → Names (IsEntry file meta) (Root_page meta.root) path from → OfStart from spot elements
       → IsTidyAt file meta elements spot → place_on file meta path (slice_get elements i) (step_from nodes spot i) ≡ Some t → IsNamed t
   named_step (Root_page r) path (At_page s) elements i t names (address, lead) tidy is = by (nodes s.number) refl
     where
       by : (x : Result Node ℕ) → nodes s.number ≡ x → IsNamed t
-      by (Err fault) page = absurd (no_spot path (slice_get elements i) t (sym (ap (place_on file meta path (slice_get elements i)) (ap (λ (y : Result Node ℕ). step_at y s i) page)) ∙ is))
+      by (Err fault) page = absurd (no_spot file meta path (slice_get elements i) t (sym (ap (place_on file meta path (slice_get elements i)) (ap (λ (y : Result Node ℕ). step_at y s i) page)) ∙ is))
       by (Ok node) page = page_step path elements s r address i t node (subst (HasForm node) (sym tidy) (page_form file meta s.number node page)) page lead tidy names is
   named_step (Root_page r) path (At_inline host keys) elements i t names of tidy is = absurd of
   named_step (Inline_page own) path (At_page s) elements i t names of tidy is = absurd of
-  named_step (Inline_page own) path (At_inline host keys) elements i t names of tidy is = absurd (no_spot path (slice_get elements i) t is)
+  named_step (Inline_page own) path (At_inline host keys) elements i t names of tidy is = absurd (no_spot file meta path (slice_get elements i) t is)
 
   abbrev pub IsWell : Place → Type 0
   IsWell p = IsNamed p × IsTidy file meta p

@@ -22,6 +22,7 @@ use Rattle.bolt_tree.proofs.Lists.{contains_cases, contains_head, contains_tail}
 use Rattle.bolt_tree.proofs.PathOrder.{key_total}
 use Rattle.bolt_tree.proofs.ReadBack.{tree_back}
 use Rattle.bolt_tree.proofs.Single.{member_total}
+use Rattle.bolt_recover.specs.Private.Runs.{further}
 use Rattle.bolt_recover.specs.Found.{AreFound}
 use Rattle.bolt_recover.specs.Joined.{IsJoined, LacksBucketKey, is_found_path, found_tree, joined_listing, lost_and_found, put_bucket}
 use Rattle.bolt_recover.specs.Places.{leaves_of}
@@ -32,7 +33,6 @@ use Rattle.bolt_recover.proofs.FoundAll.{one_found}
 use Rattle.bolt_recover.proofs.FoundExists.{has_found}
 use Rattle.bolt_recover.proofs.OneRecovered.{one_recovered}
 use Rattle.bolt_recover.proofs.RunExists.{run_exists}
-use Rattle.bolt_recover.proofs.RunOrder.{further}
 use Rattle.bolt_recover.proofs.RunRecovers.{recovers}
 use Rattle.bolt_recover.proofs.RunTrees.{run_tree}
 use Rattle.bolt_recover.proofs.TreeOrder.{Ordered, ordered_rises, rises_both, under}

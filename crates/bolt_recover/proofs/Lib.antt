@@ -13,6 +13,7 @@ mod JoinedOrder
 mod Leading
 pub mod LeftMembers
 mod LostWays
+mod Lowest
 mod NoLeaves
 mod NothingLost
 mod OneRecovered
@@ -34,4 +35,5 @@ mod SoundSurveys
 mod SoundWalks
 mod StepLemmas
 mod SurveyIsOne
+mod TaskLists
 mod TreeOrder

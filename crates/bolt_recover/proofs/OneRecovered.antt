@@ -1,18 +1,16 @@
 -- There is at most one recovered listing: its survey is one, and it rises by the order of paths.
 use Rattle.std.proofs.Common.{◌≡◌, ℕ, List, subst, sym}
 use Rattle.bolt_format.specs.declared.meta.Meta.{Meta}
-use Rattle.bolt_check.specs.Nodes.{node_at}
-use Rattle.bolt_check.specs.Ways.{reached}
 use Rattle.bolt_tree.specs.Listing.{Member}
 use Rattle.bolt_tree.proofs.Lists.{rises_once}
 use Rattle.bolt_tree.proofs.Single.{member_total}
 use Rattle.bolt_recover.specs.Recovered.{IsRecovered, IsRecoveredMember}
 use Rattle.bolt_recover.specs.Surveys.{Visit}
-use Rattle.bolt_recover.proofs.SurveyIsOne.{one_survey}
+use Rattle.bolt_recover.proofs.SurveyIsOne.{same_survey}
 
 pub one_recovered : (file : List ℕ) (meta : Meta) (a b : List Member) → IsRecovered file meta a → IsRecovered file meta b → a ≡ b
 one_recovered file meta a b h k =
-    let same = one_survey (node_at file meta) (reached (node_at file meta) meta.root) h.survey k.survey h.surveys k.surveys in
+    let same = same_survey file meta h.survey k.survey h.surveys k.surveys in
     rises_once member_total a b h.rises k.rises
     (λ m in_a. (k.exact m.0 m.1).1 (subst (λ (s : List Visit). IsRecoveredMember file meta s m.0 m.1) same ((h.exact m.0 m.1).0 in_a)))
     (λ m in_b. (h.exact m.0 m.1).1 (subst (λ (s : List Visit). IsRecoveredMember file meta s m.0 m.1) (sym same) ((k.exact m.0 m.1).0 in_b)))

@@ -1,6 +1,7 @@
 -- The keys of a place that is kept: they rise between its bounds, its elements have them, and each child has its bounds from them.
 use Rattle.std.proofs.Common.{◌≡◌, ◌∙◌, ◌⊎◌, inl, inr, ℕ, suc, Bool, true, false, List, [], ◌∷◌, ◌++◌, map, Option, Some, None, Result, Ok, slice_get, if◌then◌else◌, ◌==◌, refl, sym, ap, subst}
 use Rattle.std.specs.Option.{option_map}
+use Rattle.std.proofs.lemmas.Bool.{cases_Bool}
 use Rattle.std.proofs.lemmas.Option.{slice_get-map, same_Some}
 use Rattle.bolt_check.proofs.WayFacts.{key_at}
 use Rattle.bolt_check.proofs.Shaping.{finding_none}
@@ -116,7 +117,7 @@ page_form file meta n node is =
 
 -- a bucket of a leaf has a path of its own, and a child of a branch has the keys from its element to the next
 abbrev pub IsInside : Place → Place → ℕ → Type 0
-IsInside p t i = (e : LeafElement) × (slice_get p.elements i ≡ Some e) × (t.path ≡ p.path ++ e.key ∷ [])
+IsInside p t i = (e : LeafElement) × (slice_get p.elements i ≡ Some e) × (t.path ≡ p.path ++ e.key ∷ []) × (e.is_bucket ≡ true)
 
 pub record IsChild (p t : Place) (i : ℕ) (keys : List Key) : Type 0 where
   pub path : t.path ≡ p.path
@@ -141,11 +142,22 @@ no_late false x o page e = finding_none o page e
 key_of_element : (elements : List LeafElement) (i : ℕ) (e : LeafElement) → slice_get elements i ≡ Some e → slice_get (keys_in elements) i ≡ Some e.key
 key_of_element elements i e at = slice_get-map (λ (x : LeafElement). x.key) elements i ∙ ap (option_map (λ (x : LeafElement). x.key)) at
 
+pub no_spot : (file : List ℕ) (meta : Meta) (path : Path) (o : Option LeafElement) (t : Place) → place_on file meta path o None ≡ Some t → ⊥
+no_spot file meta path o t e = cc
+
 -- in a leaf
 inside_of : (file : List ℕ) (meta : Meta) (spot : Spot) (path : Path) (elements : List LeafElement) (s : PageSpot) (i : ℕ) (o : Option LeafElement) (next : Option Entry) (t : Place)
     → slice_get elements i ≡ o → place_on file meta path o (step_entry true s (option_map leaf_entry o) next) ≡ Some t → IsInside (record { spot = spot; path = path; elements = elements }) t i
 inside_of file meta spot path elements s i None next t at is = absurd (cc)
-inside_of file meta spot path elements s i (Some e) next t at is = (e, at, path_on (bucket_spots s.number (leaf_entry e)) is)
+inside_of file meta spot path elements s i (Some e) next t at is = (
+  e,
+  at,
+  path_on (bucket_spots s.number (leaf_entry e)) is,
+  elim (cases_Bool e.is_bucket) [
+    | inl bucket ↦ bucket
+    | inr value ↦ absurd (no_spot file meta path (Some e) t (let nowhere : bucket_spots s.number (leaf_entry e) ≡ None = rw value refl in sym (ap (place_on file meta path (Some e)) nowhere) ∙ is))
+  ],
+)
   where
     path_on : (r : Option Spot) → place_on file meta path (Some e) r ≡ Some t → t.path ≡ path ++ e.key ∷ []
     path_on None h = absurd (cc)

@@ -1,17 +1,15 @@
 -- What the steps of a recovering walk leave to be done.
-use Rattle.std.proofs.Common.{◌≡◌, ◌∙◌, ◌≤◌, ◌<◌, ℕ, suc, ◌+◌, ◌-◌, Bool, true, false, ◌||◌, ◌↔◌, List, [], ◌∷◌, ◌++◌, length, take, drop, Option, Some, None, Result, Ok, Err, OnOk, OnErr, slice_get, refl, sym, ap, subst, subst₂, arith, append_assoc, length-append}
-use Rattle.std.proofs.lemmas.List.{length-take-le, take-append-drop, take-append-le, take_all}
+use Rattle.std.proofs.Common.{◌≡◌, ◌∙◌, ◌≤◌, ◌<◌, ℕ, suc, ◌+◌, ◌-◌, Bool, true, false, ◌↔◌, List, [], ◌∷◌, ◌++◌, length, map, take, drop, Option, Some, None, Result, Ok, Err, OnErr, slice_get, refl, sym, ap, subst, subst₂, arith, append_assoc, length-append}
+use Rattle.std.proofs.lemmas.List.{append-nil, length-take-le, take-append-drop, take-append-le, take_all}
 use Rattle.std.specs.Option.{option_map}
 use Rattle.bolt_format.specs.Elements.{LeafElement}
-use Rattle.bolt_format.specs.Pages.{page_at}
 use Rattle.bolt_format.specs.declared.meta.Meta.{Meta}
-use Rattle.bolt_check.specs.Claims.{claims_file, claims_meta, is_claimed}
+use Rattle.bolt_check.specs.Claims.{claims_meta, is_claimed}
 use Rattle.bolt_check.specs.declared.claims.Claims.{Claims}
-use Rattle.bolt_check.proofs.Judging.{passes_fewer, tests_same}
 use Rattle.bolt_check.specs.Counts.{counted}
 use Rattle.bolt_check.specs.Findings.{IsMetaPage, Passes, Tests}
 use Rattle.bolt_check.specs.Nodes.{node_at}
-use Rattle.bolt_check.specs.ShownSpots.{page_spot, spot_at}
+use Rattle.bolt_check.specs.ShownSpots.{spot_at}
 use Rattle.bolt_check.specs.Ways.{At_page, root_spot}
 use Rattle.bolt_check.specs.declared.spot.PageSpot.{PageSpot}
 use Rattle.std.proofs.lemmas.Bool.Decides.{nat_tests}
@@ -22,14 +20,18 @@ use Rattle.bolt_check.specs.declared.spot.Spot.TheVariants as spots
 use Rattle.bolt_tree.specs.Listing.{Member}
 use Rattle.bolt_tree.specs.Paths.{Path}
 use Rattle.bolt_recover.specs.Losses.{LossView, loss_of}
-use Rattle.bolt_recover.specs.Places.{Place, leaves_of, step_place}
-use Rattle.bolt_recover.specs.Private.Frames.{AreOpen, ComesTo, Ends, GivesHead, GoesOn, HasOpen, IsContent, IsGoodContent, IsGoodPage, IsShallow, NoWay, State, StaysOn, ahead_level, ahead_tasks, ahead_weight, claims_nodes, content_elements, content_place, content_size, content_spot, is_over, lost_state, open_tasks, outcome_of, over_by, page_tasks, page_weight, state_tasks, stay, spot_place}
-use Rattle.bolt_recover.specs.Private.Runs.{Runs, RunsAll, Task, To_visit, Visited, claimed_with, claims_of, entry_tasks, gives_at, losses_in, meta_pages, page_visit, pages_visited, place_size, place_tasks, spans_in, tasks_from, visits_at}
+use Rattle.bolt_recover.specs.Places.{Place, step_place}
+use Rattle.bolt_recover.specs.Private.Frames.{AreOpen, ComesTo, Ends, GivesHead, GoesOn, HasOpen, IsAllLeft, IsContent, IsGoodContent, IsGoodPage, IsShallow, NoWay, State, StaysOn, ahead_level, ahead_tasks, ahead_weight, claims_nodes, content_elements, content_place, content_size, content_spot, is_over, lost_state, open_tasks, over_by, page_tasks, page_weight, state_tasks, stay, spot_place, tally_of}
+use Rattle.bolt_recover.specs.Private.Runs.{Outcome, Runs, Task, Visited, after_visit, after_visits, claimed_with, entry_tasks, gives_at, meta_pages, outcome_of, page_visit, place_size, place_tasks, tasks_after, tasks_from, visits_at}
 use Rattle.bolt_recover.specs.declared.content.Content.{Content}
 use Rattle.bolt_recover.specs.declared.content.Content.TheVariants.{Bucket, Page}
 use Rattle.bolt_recover.specs.declared.content.OpenPage.{OpenPage}
 use Rattle.bolt_recover.specs.declared.steps.NextVisit.{NextVisit}
-use Rattle.bolt_recover.proofs.RunSteps.{gives, keeps, loses}
+use Rattle.bolt_recover.specs.Surveys.{Gives}
+use Rattle.bolt_recover.proofs.RunExists.{or_none}
+use Rattle.bolt_recover.proofs.RunForgets.{blind_visit, forgotten, same_outcome}
+use Rattle.bolt_recover.proofs.RunSteps.{gives, visits_first}
+use Rattle.bolt_recover.proofs.SurveyIsOne.{gives_same}
 
 -- the innermost page is the last one
 open_last : (file : List ℕ) (meta : Meta) (path : Path) (pages : List OpenPage) (page : OpenPage) (rest : List (Task NoWay))
@@ -84,10 +86,6 @@ opened file meta path s content level count is long =
     let place : content_place (take level path) content ≡ spot_place file meta (take level path) s = λ i. record { spot = is.spot i; path = take level path; elements = is.elements i } in
     rw (none, long, size_is file meta content is.good) (ap (λ (p : Place). place_tasks file meta stay tt p) place)
 
-same_claims : (file : List ℕ) (meta : Meta) (a b : ℕ → Bool) (tasks : List (Task NoWay)) (visits : List (Visited NoWay)) (members : List Member)
-    → ((n : ℕ) → b n ≡ a n) → Runs file meta stay a tasks visits members → Runs file meta stay b tasks visits members
-same_claims file meta a b tasks visits members same run = subst (λ (f : ℕ → Bool). Runs file meta stay f tasks visits members) (sym (λ i n. same n i)) run
-
 -- while something is ahead or open, it isn't over
 not_ahead : (s : State) (ahead : NextVisit) → s.ahead ≡ Some ahead → is_over s ≡ true → ⊥
 not_ahead s ahead is over = let f : false ≡ true = ap (λ (o : Option NextVisit). over_by o s.pages) (sym is) ∙ over in cc
@@ -101,15 +99,21 @@ not_open : (s : State) (front : List OpenPage) (top : OpenPage) → s.ahead ≡ 
 not_open s front top is pages over =
     let f : false ≡ true = sym (more_open None front top) ∙ ap (over_by None) (sym pages) ∙ ap (λ (o : Option NextVisit). over_by o s.pages) (sym is) ∙ over in cc
 
-or_assoc : (a b c : Bool) → ((a || b) || c) ≡ (a || (b || c))
-or_assoc true b c = refl
-or_assoc false b c = refl
-
--- one visit more is counted, if it was of a page
-one_more : (old new one all : ℕ) (visits rest : List (Visited NoWay)) (v : Visited NoWay) → all ≡ counted old (pages_visited visits) → visits ≡ v ∷ rest → page_visit v.place.spot ≡ one
-    → new ≡ counted old one → all ≡ counted new (pages_visited rest)
-one_more old new one all visits rest v is same here counts =
-    let whole = ap (λ (vs : List (Visited NoWay)). pages_visited vs) same in omega (arith, is, whole, here, counts)
+-- what is ahead is visited
+after_ahead : (s : State) (ahead : NextVisit) (found : Option Finding) (claimed : ℕ → Bool) (pages : List OpenPage) (losses : List LossView) (visited : ℕ) → s.ahead ≡ Some ahead
+    → Gives (node_at s.file s.meta) (λ n. s.claimed n ≡ true) (spot_at ahead.spot) found
+    → open_tasks s.file s.meta s.path pages [] ≡ tasks_after s.file s.meta stay tt (spot_place s.file s.meta (take ahead.level s.path) ahead.spot) found ++ open_tasks s.file s.meta s.path s.pages []
+    → record { losses = losses; visited = visited; claimed = claimed } ≡ after_visit {W = NoWay} (node_at s.file s.meta) (tally_of s) (record { way = tt; place = spot_place s.file s.meta (take ahead.level s.path) ahead.spot; found = found })
+    → (members : List Member) (outcome : Outcome) → ComesTo s members outcome → ComesTo (record s { claimed = claimed; ahead = None; pages = pages; losses = losses; visited = visited }) members outcome
+after_ahead s ahead found claimed pages losses visited is gives tasks tally members outcome comes =
+    let rest = open_tasks s.file s.meta s.path s.pages [] in
+    let first = subst (λ (o : Option NextVisit). Runs s.file s.meta stay s.claimed (ahead_tasks s.file s.meta s.path o rest) comes.visits members) is comes.run in
+    let (visits, same, run) = visits_first s.file s.meta stay s.claimed tt (spot_place s.file s.meta (take ahead.level s.path) ahead.spot) found rest comes.visits members gives first in
+    record {
+      visits = visits;
+      run = subst₂ (λ (o : Outcome) (ts : List (Task NoWay)). Runs s.file s.meta stay o.claimed ts visits members) (sym tally) (sym tasks) run;
+      all = comes.all ∙ ap (after_visits (node_at s.file s.meta) (tally_of s)) same ∙ ap (λ (o : Outcome). after_visits (node_at s.file s.meta) o visits) (sym tally);
+    }
 
 -- what was ahead is open
 pub entered_page : (s : State) (ahead : NextVisit) (content : Content) (count : ℕ) (claimed : ℕ → Bool) (visited : ℕ) → HasOpen s → s.ahead ≡ Some ahead
@@ -133,21 +137,9 @@ entered_page s ahead content count claimed visited has is passes content_is clai
       };
       path = refl;
       over = λ over. absurd (not_ahead s ahead is over);
-      same = λ members outcome comes.
-          let first = subst (λ (o : Option NextVisit). Runs s.file s.meta stay s.claimed (ahead_tasks s.file s.meta s.path o (open_tasks s.file s.meta s.path s.pages [])) comes.visits members) is comes.run in
-          let next = keeps s.file s.meta stay s.claimed tt (spot_place s.file s.meta (take ahead.level s.path) ahead.spot) (open_tasks s.file s.meta s.path s.pages []) comes.visits members passes first in
-          record {
-            visits = next.0;
-            run = same_claims s.file s.meta (claimed_with (node_at s.file s.meta) s.claimed (spot_at ahead.spot)) claimed _ next.0 members claims
-                (subst (λ (ts : List (Task NoWay)). Runs s.file s.meta stay (claimed_with (node_at s.file s.meta) s.claimed (spot_at ahead.spot)) ts next.0 members)
-                (sym (open_last s.file s.meta s.path s.pages page [] ∙ ap (λ (ts : List (Task NoWay)). ts ++ open_tasks s.file s.meta s.path s.pages []) (opened s.file s.meta s.path ahead.spot content ahead.level count content_is long)))
-                next.2);
-            all = comes.all ∙ ap (λ (vs : List (Visited NoWay)). s.losses ++ losses_in vs) next.1;
-            pages = one_more s.visited visited (page_visit (spot_at ahead.spot)) outcome.visited comes.visits next.0 _ comes.pages next.1 refl counts;
-            spans = λ n. comes.spans n ∙ ap (λ (vs : List (Visited NoWay)). s.claimed n || spans_in (node_at s.file s.meta) vs n) next.1
-                ∙ sym (or_assoc (s.claimed n) (claims_of (node_at s.file s.meta) (spot_at ahead.spot) n) (spans_in (node_at s.file s.meta) next.0 n))
-                ∙ ap (λ (b : Bool). b || spans_in (node_at s.file s.meta) next.0 n) (sym (claims n));
-          };
+      same = after_ahead s ahead None claimed (s.pages ++ page ∷ []) s.losses visited is passes
+          (open_last s.file s.meta s.path s.pages page [] ∙ ap (λ (ts : List (Task NoWay)). ts ++ open_tasks s.file s.meta s.path s.pages []) (opened s.file s.meta s.path ahead.spot content ahead.level count content_is long))
+          (λ i. record { losses = sym (append-nil s.losses) i; visited = counts i; claimed = λ n. claims n i });
     }
 
 -- what was ahead is lost
@@ -158,23 +150,12 @@ pub entered_lost : (s : State) (ahead : NextVisit) (x : Finding) (claimed : ℕ 
 entered_lost s ahead x claimed visited has is tests claims counts =
     let are = rw is at has.pages in
     let within = rw is at has.within in
-    let place : Place = spot_place s.file s.meta (take ahead.level s.path) ahead.spot in
+    let losses : List LossView = s.losses ++ loss_of (spot_place s.file s.meta (take ahead.level s.path) ahead.spot) x ∷ [] in
     record {
       on = record { file = refl; meta = refl; placed = record { pages = are_open_up s.file s.meta 0 s.pages ahead.level (length s.path) are within; within = omega arith } };
       path = refl;
       over = λ over. absurd (not_ahead s ahead is over);
-      same = λ members outcome comes.
-          let first = subst (λ (o : Option NextVisit). Runs s.file s.meta stay s.claimed (ahead_tasks s.file s.meta s.path o (open_tasks s.file s.meta s.path s.pages [])) comes.visits members) is comes.run in
-          let next = loses s.file s.meta stay s.claimed tt place x (open_tasks s.file s.meta s.path s.pages []) comes.visits members tests first in
-          record {
-            visits = next.0;
-            run = same_claims s.file s.meta s.claimed claimed _ next.0 members claims next.2;
-            all = comes.all ∙ ap (λ (vs : List (Visited NoWay)). s.losses ++ losses_in vs) next.1
-                ∙ sym (append_assoc s.losses (loss_of place x ∷ []) (losses_in next.0));
-            pages = one_more s.visited visited (page_visit (spot_at ahead.spot)) outcome.visited comes.visits next.0 _ comes.pages next.1 refl counts;
-            spans = λ n. comes.spans n ∙ ap (λ (vs : List (Visited NoWay)). s.claimed n || spans_in (node_at s.file s.meta) vs n) next.1
-                ∙ ap (λ (b : Bool). b || spans_in (node_at s.file s.meta) next.0 n) (sym (claims n));
-          };
+      same = after_ahead s ahead (Some x) claimed s.pages losses visited is tests refl (λ i. record { losses = losses; visited = counts i; claimed = λ n. (claims n ∙ sym (or_none (s.claimed n))) i });
     }
 
 -- without what is ahead the tasks are those of the open pages
@@ -210,8 +191,6 @@ took_last s front top has is pages over =
         run = subst (λ (n : ℕ). Runs s.file s.meta stay s.claimed (tasks_from s.file s.meta stay tt (content_place (take top.level s.path) top.content) top.next n ++ open_tasks s.file s.meta s.path front []) comes.visits members)
             nothing (run_top s front top comes.visits members is pages comes.run);
         all = comes.all;
-        pages = comes.pages;
-        spans = comes.spans;
       };
     }
 
@@ -303,8 +282,6 @@ module _ (s : State) (front : List OpenPage) (top : OpenPage) (has : HasOpen s) 
               ∙ ap (ahead_tasks s.file s.meta s.path (ahead_of top.level r)) (moved_tasks s.path (λ n le. refl)))
               (run_entry comes.visits members comes.run);
           all = comes.all;
-          pages = comes.pages;
-          spans = comes.spans;
         };
       }
 
@@ -342,8 +319,6 @@ module _ (s : State) (front : List OpenPage) (top : OpenPage) (has : HasOpen s) 
                     ∙ ap (ahead_tasks s.file s.meta path (ahead_of (top.level + 1) r)) (moved_tasks path (λ n le. take_below top.level n s.path (e.key ∷ []) within le)))
                     next.2;
                 all = comes.all;
-                pages = comes.pages;
-                spans = comes.spans;
               },
             );
       }
@@ -356,58 +331,40 @@ as_state P t file meta ahead pages path losses f m a g p l h =
     subst P (λ i. record { file = f i; meta = m i; claimed = t.claimed; ahead = a i; pages = g i; path = p i; losses = l i; visited = t.visited }) h
 
 -- the root page alone is ahead
-abbrev pub start_state : List ℕ → Meta → PageSpot → ℕ → State
-start_state file meta root begun =
-    record { file = file; meta = meta; claimed = meta_pages; ahead = Some (record { spot = spots.Page root; level = 0 }); pages = []; path = []; losses = []; visited = begun }
+abbrev pub root_at : Meta → PageSpot
+root_at meta = record { number = meta.root; depth = 1; lower = None; upper = None }
 
-pub started : (file : List ℕ) (meta : Meta) (root : PageSpot) (begun : ℕ) → page_spot root ≡ root_spot meta.root → root.number ≡ meta.root → (visits : List (Visited NoWay)) (members : List Member)
-    → RunsAll file meta stay tt visits members → ComesTo (start_state file meta root begun) members (outcome_of (node_at file meta) begun visits)
-started file meta root begun spot number visits members run = record {
-  visits = visits;
-  run = subst (λ (p : Place). Runs file meta stay meta_pages (To_visit tt p ∷ []) visits members)
-      (λ i. record { spot = At_page (sym spot i); path = []; elements = leaves_of (page_at file meta (sym number i)) }) run;
-  all = refl;
-  pages = refl;
-  spans = λ n. refl;
+abbrev start_state : List ℕ → Meta → ℕ → State
+start_state file meta begun =
+    record { file = file; meta = meta; claimed = meta_pages; ahead = Some (record { spot = spots.Page (root_at meta); level = 0 }); pages = []; path = []; losses = []; visited = begun }
+
+started : (file : List ℕ) (meta : Meta) (begun : ℕ) → IsAllLeft file meta begun (start_state file meta begun)
+started file meta begun visits members run = record {
+  visits = map blind_visit visits;
+  run = forgotten file meta visits members run;
+  all = sym (same_outcome (node_at file meta) (tally_of (start_state file meta begun)) visits);
 }
 
 -- the meta pages alone are claimed
 pub of_metas : (claimed : ℕ → Bool) → ((n : ℕ) → (claimed n ≡ true) ↔ IsMetaPage n) → (n : ℕ) → claimed n ≡ meta_pages n
 of_metas claimed metas n = both_ways (claimed n) (meta_pages n) (λ h. let is = (metas n).0 h in grind (arith, nat_tests)) (λ h. (metas n).1 (grind (arith, nat_tests)))
 
-pub root_refused : (claims : Claims) (file : List ℕ) (meta : Meta) (x : Finding) → claims_file claims ≡ file → claims_meta claims ≡ meta
-    → ((n : ℕ) → (is_claimed claims n ≡ true) ↔ IsMetaPage n) → Tests (claims_nodes claims) (λ n. is_claimed claims n ≡ true) (At_page (root_spot meta.root)) x
-    → Tests (node_at file meta) IsMetaPage (At_page (root_spot meta.root)) x
-root_refused claims file meta x f m metas h =
-    tests_same (node_at file meta) (λ n. is_claimed claims n ≡ true) IsMetaPage (At_page (root_spot meta.root)) x (λ n. (metas n).0) (λ n. (metas n).1)
-    (subst₂ (λ (a : List ℕ) (b : Meta). Tests (node_at a b) (λ n. is_claimed claims n ≡ true) (At_page (root_spot meta.root)) x) f m h)
-
-pub root_kept : (claims : Claims) (file : List ℕ) (meta : Meta) → claims_file claims ≡ file → claims_meta claims ≡ meta
-    → ((n : ℕ) → (is_claimed claims n ≡ true) ↔ IsMetaPage n) → Passes (claims_nodes claims) (λ n. is_claimed claims n ≡ true) (At_page (root_spot meta.root))
-    → Passes (node_at file meta) IsMetaPage (At_page (root_spot meta.root))
-root_kept claims file meta f m metas h =
-    passes_fewer (node_at file meta) (λ n. is_claimed claims n ≡ true) IsMetaPage (At_page (root_spot meta.root)) (λ n. (metas n).1)
-    (subst₂ (λ (a : List ℕ) (b : Meta). Passes (node_at a b) (λ n. is_claimed claims n ≡ true) (At_page (root_spot meta.root))) f m h)
-
-pub either : {A X E P Q : Type 0} (result : Result X E) → OnOk result P → OnErr result Q → (P → A) → (Q → A) → A
-either (Ok x) p q f g = f p
-either (Err e) p q f g = g q
+pub root_gives : (claims : Claims) (found : Option Finding) → ((n : ℕ) → (is_claimed claims n ≡ true) ↔ IsMetaPage n)
+    → Gives (claims_nodes claims) (λ n. is_claimed claims n ≡ true) (At_page (root_spot (claims_meta claims).root)) found → Gives (claims_nodes claims) IsMetaPage (At_page (root_spot (claims_meta claims).root)) found
+root_gives claims found metas h =
+    gives_same (claims_nodes claims) (λ n. is_claimed claims n ≡ true) IsMetaPage (At_page (root_spot (claims_meta claims).root)) found (λ n. (metas n).0) (λ n. (metas n).1) h
 
 -- the root page is open
-pub begins : (file f : List ℕ) (meta m : Meta) (before claimed : ℕ → Bool) (begun visited : ℕ) (root : PageSpot) (content : Content) (count : ℕ) → f ≡ file → m ≡ meta → ((n : ℕ) → before n ≡ meta_pages n)
-    → page_spot root ≡ root_spot meta.root → root.number ≡ meta.root → Passes (node_at f m) (λ n. before n ≡ true) (At_page (page_spot root)) → IsContent f m (spots.Page root) content
-    → ((n : ℕ) → claimed n ≡ claimed_with (node_at f m) before (At_page (page_spot root)) n) → visited ≡ counted begun 1 → count ≡ content_size content → count < 65536
-    → (visits : List (Visited NoWay)) (members : List Member) → RunsAll file meta stay tt visits members
-    → ComesTo (record { file = f; meta = m; claimed = claimed; ahead = None; pages = record { content = content; level = 0; count = count; next = 0 } ∷ []; path = []; losses = []; visited = visited })
-    members (outcome_of (node_at file meta) begun visits)
-begins file f meta m before claimed begun visited root content count e h metas spot number passes is claims counts long fits visits members run =
-    let s : State = record (start_state f m root begun) { claimed = before } in
-    let ahead : NextVisit = record { spot = spots.Page root; level = 0 } in
-    let here : ComesTo s members (outcome_of (node_at file meta) begun visits) =
-    subst (λ (t : State). ComesTo t members (outcome_of (node_at file meta) begun visits))
-    (λ i. record { file = sym e i; meta = sym h i; claimed = λ n. sym (metas n) i; ahead = Some ahead; pages = []; path = []; losses = []; visited = begun }) (started file meta root begun spot number visits members run) in
+pub begins : (file : List ℕ) (meta : Meta) (before claimed : ℕ → Bool) (begun visited : ℕ) (content : Content) (count : ℕ) → ((n : ℕ) → before n ≡ meta_pages n)
+    → Passes (node_at file meta) (λ n. before n ≡ true) (At_page (root_spot meta.root)) → IsContent file meta (spots.Page (root_at meta)) content
+    → ((n : ℕ) → claimed n ≡ claimed_with (node_at file meta) before (At_page (root_spot meta.root)) n) → visited ≡ counted begun 1 → count ≡ content_size content → count < 65536
+    → IsAllLeft file meta begun (record { file = file; meta = meta; claimed = claimed; ahead = None; pages = record { content = content; level = 0; count = count; next = 0 } ∷ []; path = []; losses = []; visited = visited })
+begins file meta before claimed begun visited content count metas passes is claims counts long fits visits members run =
+    let s : State = record (start_state file meta begun) { claimed = before } in
+    let outcome = outcome_of (node_at file meta) begun visits in
+    let here : ComesTo s members outcome = subst (λ (f : ℕ → Bool). ComesTo (record s { claimed = f }) members outcome) (λ i n. sym (metas n) i) (started file meta begun visits members run) in
     let placed : HasOpen s = record { pages = omega arith; within = omega arith } in
-    (entered_page s ahead content count claimed visited placed refl passes is claims counts long fits).same members (outcome_of (node_at file meta) begun visits) here
+    (entered_page s (record { spot = spots.Page (root_at meta); level = 0 }) content count claimed visited placed refl passes is claims counts long fits).same members outcome here
 
 -- the element to be taken next is there
 pub next_below : (file : List ℕ) (meta : Meta) (page : OpenPage) → IsGoodPage file meta page → (page.next ≡ page.count → ⊥) → page.next < content_size page.content

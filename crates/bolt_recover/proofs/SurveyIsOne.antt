@@ -1,13 +1,14 @@
 -- There is at most one survey. Where two first differ, the preceding kept ways are the same, and so is what the tests find.
 use Rattle.std.proofs.Common.{◌≡◌, ◌∙◌, ℕ, ◌⊎◌, inl, inr, List, [], ◌∷◌, ◌++◌, map, Option, Some, None, refl, sym, ap, subst}
-use Rattle.bolt_check.specs.Nodes.{Nodes}
+use Rattle.bolt_format.specs.declared.meta.Meta.{Meta}
+use Rattle.bolt_check.specs.Nodes.{Nodes, node_at}
 use Rattle.bolt_check.specs.Tours.{IsBeforeAll, Rises}
-use Rattle.bolt_check.specs.Ways.{Before, Reach, Spot}
+use Rattle.bolt_check.specs.Ways.{Before, Reach, Spot, reached}
 use Rattle.bolt_check.specs.declared.finding.Finding.{Finding}
 use Rattle.bolt_check.proofs.Judging.{passes_fewer, passes_silent, tests_same}
 use Rattle.bolt_check.proofs.Single.{tests_one}
 use Rattle.bolt_check.proofs.WayOrder.{before_irreflexive, before_strict, before_total, before_trans}
-use Rattle.bolt_recover.specs.Surveys.{Gives, Has, IsClaimedIn, IsOpen, Surveys, Visit, kept}
+use Rattle.bolt_recover.specs.Surveys.{Gives, Has, IsClaimedIn, IsOpen, IsSurvey, Surveys, Visit, kept}
 
 abbrev pub ways : List Visit → List (List ℕ)
 ways visits = map (λ (v : Visit). v.way) visits
@@ -47,11 +48,11 @@ open_over a b InFront x xs ys at_a at_b (inl e) = inl e
 open_over a b InFront x xs ys at_a at_b (inr (parent, i, e, has)) =
     inr (parent, i, e, at_b.front (kept parent) (earlier a InFront x xs at_a (kept parent) has (subst (λ (z : List ℕ). Before parent z) (sym e) (parent_before parent i))))
 
-gives_same : (nodes : Nodes) (a b : ℕ → Type 0) (s : Spot) (f : Option Finding) → ((n : ℕ) → a n → b n) → ((n : ℕ) → b n → a n) → Gives nodes a s f → Gives nodes b s f
+pub gives_same : (nodes : Nodes) (a b : ℕ → Type 0) (s : Spot) (f : Option Finding) → ((n : ℕ) → a n → b n) → ((n : ℕ) → b n → a n) → Gives nodes a s f → Gives nodes b s f
 gives_same nodes a b s None to from h = passes_fewer nodes a b s from h
 gives_same nodes a b s (Some x) to from h = tests_same nodes a b s x to from h
 
-gives_one : (nodes : Nodes) (a : ℕ → Type 0) (s : Spot) (f g : Option Finding) → Gives nodes a s f → Gives nodes a s g → f ≡ g
+pub gives_one : (nodes : Nodes) (a : ℕ → Type 0) (s : Spot) (f g : Option Finding) → Gives nodes a s f → Gives nodes a s g → f ≡ g
 gives_one nodes a s None None h k = refl
 gives_one nodes a s None (Some y) h k = absurd (passes_silent nodes a s y h k)
 gives_one nodes a s (Some x) None h k = absurd (passes_silent nodes a s x k h)
@@ -136,5 +137,9 @@ module _ (nodes : Nodes) (reach : Reach) where
     rises = of_a.rises;
   }
 
-  pub one_survey : (a b : List Visit) → Surveys nodes reach a → Surveys nodes reach b → a ≡ b
+  one_survey : (a b : List Visit) → Surveys nodes reach a → Surveys nodes reach b → a ≡ b
   one_survey a b of_a of_b = same_from a b of_a of_b (λ v. ⊥) a b (whole a of_a) (whole b of_b)
+
+-- a file has at most one
+pub same_survey : (file : List ℕ) (meta : Meta) (a b : List Visit) → IsSurvey file meta a → IsSurvey file meta b → a ≡ b
+same_survey file meta = one_survey (node_at file meta) (reached (node_at file meta) meta.root)

@@ -1,7 +1,7 @@
 use Rattle.std.proofs.Common.{◌∙◌, []}
+use Rattle.bolt_recover.specs.Private.Runs.{further}
 use Rattle.bolt_recover.proofs.OneRecovered.{one_recovered}
 use Rattle.bolt_recover.proofs.RunExists.{run_exists}
-use Rattle.bolt_recover.proofs.RunOrder.{further}
 use Rattle.bolt_recover.proofs.RunRecovers.{recovers}
 use Rattle.bolt_recover.proofs.RunTrees.{run_tree}
 use Rattle.bolt_recover.proofs.laws.recovered_listing_is_of_a_tree.Goals as goal

@@ -10,7 +10,7 @@ use Rattle.bolt_recover.specs.Recovered.{IsRecovered}
 use Rattle.bolt_recover.specs.Refusals.{KeepsRoot}
 use Rattle.bolt_recover.specs.Private.Frames.{left_by, state_of}
 use Rattle.bolt_recover.specs.Recoveries.{recovery_begun, recovery_claimed, recovery_file, recovery_left, recovery_losses, recovery_meta, recovery_path, recovery_visited, recovery_work}
-use Rattle.bolt_recover.proofs.Recovering.{all_claimed, claimed_all, claimed_ended, file_advanced, has_open_prop, left_next, left_none, left_same, on_advanced, reported_ended, visited_ended}
+use Rattle.bolt_recover.proofs.Recovering.{claimed_all, claimed_at_end, claimed_ended, file_advanced, has_open_prop, left_next, left_none, left_same, on_advanced, reported_ended, visited_ended}
 use Rattle.bolt_recover.proofs.StepLemmas.{when_err}
 use Rattle.bolt_recover.proofs.recovery.Recovery.next.Goals as goal
 
@@ -85,5 +85,5 @@ returns-in-None-clause-kept c = λ survey is n.
     let meta = c.args.self.now.meta in
     let begun = c.args.self.now.begun in
     let ended = rw c.in-None.is at c.in_ok-leaf.ensures.given in
-    let same : all_claimed old.file meta begun n ≡ new.claimed n = ∥∥₁_elim c.args.self.now.on (hlevel props) (λ on. claimed_ended old new meta begun on ended n) in
+    let same : claimed_at_end old.file meta begun n ≡ new.claimed n = ∥∥₁_elim c.args.self.now.on (hlevel props) (λ on. claimed_ended old new meta begun on ended n) in
     subst (λ (b : Bool). (b ≡ true) ↔ IsKeptPage old.file meta survey n) same (claimed_all old.file meta begun survey is n)
