@@ -1,8 +1,6 @@
 -- The places of elements in a list.
 use Rattle.std.proofs.Common.{◌≡◌, ℕ, suc, ◌<◌, inl, inr, List, [], ◌∷◌, length, Some, slice_get, ap, arith}
-use Rattle.std.specs.List.{Contains}
-use Rattle.bolt_format.specs.Elements.{LeafElement}
-use Rattle.bolt_tree.proofs.Lists.{contains_cases, contains_none}
+use Rattle.bolt_recover.proofs.Words.{Contains, contains_cases, contains_none, LeafElement}
 
 pub slice_of : (xs : List LeafElement) (e : LeafElement) → Contains xs e → (i : ℕ) × (i < length xs) × (slice_get xs i ≡ Some e)
 slice_of [] e has = absurd (contains_none e has)

@@ -1,11 +1,6 @@
 -- Each file has a survey, a recovered listing and losses, under each meta.
 use Rattle.std.proofs.Common.{[], ℕ, List, refl}
-use Rattle.bolt_format.specs.declared.meta.Meta.{Meta}
-use Rattle.bolt_tree.specs.Listing.{Member}
-use Rattle.bolt_recover.specs.Private.Runs.{further}
-use Rattle.bolt_recover.specs.Losses.{AreLosses, LossView, losses_of}
-use Rattle.bolt_recover.specs.Recovered.{IsRecovered}
-use Rattle.bolt_recover.specs.Surveys.{IsSurvey, Visit}
+use Rattle.bolt_recover.proofs.Words.{AreLosses, further, IsRecovered, IsSurvey, losses_of, LossView, Member, Meta, Visit}
 use Rattle.bolt_recover.proofs.RunExists.{run_exists}
 use Rattle.bolt_recover.proofs.RunOrder.{visits_of}
 use Rattle.bolt_recover.proofs.RunRecovers.{recovers}

@@ -1,15 +1,7 @@
 -- The first loss is the first finding: all preceding ways are kept, so the tests there look at all preceding ways.
 use Rattle.std.proofs.Common.{◌≡◌, ◌∙◌, ℕ, inl, inr, List, [], ◌∷◌, ◌++◌, Option, Some, None, refl, sym, subst, append_assoc}
-use Rattle.std.proofs.lemmas.List.{append-nil}
-use Rattle.bolt_check.specs.Findings.{IsClaimedBefore, IsFirst, IsMetaPage, Tests}
-use Rattle.bolt_check.specs.Nodes.{Nodes}
-use Rattle.bolt_check.specs.Ways.{Before, Spot, follow}
-use Rattle.bolt_check.specs.declared.finding.Finding.{Finding}
-use Rattle.bolt_check.proofs.Forest.{follow_some}
-use Rattle.bolt_check.proofs.Judging.{passes_fewer, passes_silent, span_spot, tests_same}
-use Rattle.bolt_check.proofs.WayFacts.{follow_append}
-use Rattle.bolt_check.proofs.WayOrder.{before_trans}
-use Rattle.bolt_recover.specs.Surveys.{Gives, Has, IsClaimedIn, Surveys, Visit, kept}
+use Rattle.bolt_recover.proofs.Words.{append-nil, Before, before_trans, Finding, follow, follow_append, follow_some, Gives, Has, IsClaimedBefore, IsClaimedIn}
+use Rattle.bolt_recover.proofs.Words.{IsFirst, IsMetaPage, kept, Nodes, passes_fewer, passes_silent, span_spot, Spot, Surveys, Tests, tests_same, Visit}
 use Rattle.bolt_recover.proofs.SoundSurveys.{claimed_before}
 
 nil_before : (w way : List ℕ) → Before w way → Before [] way

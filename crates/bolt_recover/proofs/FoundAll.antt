@@ -1,31 +1,10 @@
 -- The found pages of a whole file.
 use Rattle.std.proofs.Common.{◌≡◌, ◌∙◌, ◌↔◌, ◌⊎◌, ◌+◌, inl, inr, ℕ, Bool, true, arith, List, [], ◌∷◌, length, map, Option, Some, None, Result, Ok, Err, IfOk, refl, sym, ap, subst}
-use Rattle.std.specs.List.{Contains}
-use Rattle.std.proofs.lemmas.Bool.{cases_Bool, false≢true}
-use Rattle.std.proofs.Math.Logic.{∥∥₁_elim}
-use Rattle.std.proofs.Props.{props}
-use Rattle.bolt_format.specs.declared.meta.Meta.{Meta}
-use Rattle.bolt_check.specs.Claims.{claims_meta}
-use Rattle.bolt_check.specs.Findings.{IsMetaPage}
-use Rattle.bolt_check.specs.LoneLeaves.{IsListedFree, IsLoneLeaf}
-use Rattle.bolt_check.specs.Nodes.{node_at}
-use Rattle.bolt_check.specs.Ways.{At_page, SpanAt, Spot, reached, root_spot}
-use Rattle.bolt_check.specs.declared.finding.Finding.{Finding}
-use Rattle.bolt_check.proofs.Judging.{tests_same}
-use Rattle.bolt_check.proofs.MarkLemmas.{node_below}
-use Rattle.bolt_tree.specs.Entries.{Item}
-use Rattle.bolt_tree.specs.Listing.{Member}
-use Rattle.bolt_tree.specs.Paths.{Path}
-use Rattle.bolt_tree.proofs.Lists.{contains_cases, contains_head, contains_none, contains_tail}
-use Rattle.bolt_recover.specs.Found.{AreFound, FoundBelow, IsFoundPage}
-use Rattle.bolt_recover.specs.KeptPages.{AreKeptPages, IsKeptPage}
-use Rattle.bolt_recover.specs.Losses.{AreLosses, LossView, losses_of}
-use Rattle.bolt_recover.specs.Private.Runs.{claims_of}
-use Rattle.bolt_recover.specs.Recovered.{IsRecovered, IsRecoveredMember}
-use Rattle.bolt_recover.specs.Recoveries.{recovery_meta}
-use Rattle.bolt_recover.specs.Refusals.{LosesRoot}
-use Rattle.bolt_recover.specs.Surveys.{Gives, Has, IsClaimedIn, IsOpen, IsSurvey, Visit, kept, lost}
-use Rattle.bolt_recover.specs.declared.recovery.Recovery.{Recovery}
+use Rattle.bolt_recover.proofs.Words.{AreFound, AreKeptPages, AreLosses, At_page, cases_Bool, claims_meta, claims_of, Contains, contains_cases, contains_head}
+use Rattle.bolt_recover.proofs.Words.{contains_none, contains_tail, false≢true, Finding, FoundBelow, Gives, Has, IsClaimedIn, IsFoundPage, IsKeptPage}
+use Rattle.bolt_recover.proofs.Words.{IsListedFree, IsLoneLeaf, IsMetaPage, IsOpen, IsRecovered, IsRecoveredMember, IsSurvey, Item, kept, LosesRoot, losses_of}
+use Rattle.bolt_recover.proofs.Words.{LossView, lost, Member, Meta, node_at, node_below, Path, props, reached, Recovery, recovery_meta, root_spot, SpanAt, Spot}
+use Rattle.bolt_recover.proofs.Words.{tests_same, Visit, ∥∥₁_elim}
 use Rattle.bolt_recover.proofs.Existing.{has_survey}
 use Rattle.bolt_recover.proofs.FoundLemmas.{found_one, found_same, passed}
 use Rattle.bolt_recover.proofs.Lowest.{lowest}

@@ -1,17 +1,9 @@
 -- Each file has found pages: whether a page is found can be told.
 use Rattle.std.proofs.Common.{◌≡◌, ◌∙◌, ◌≢◌, ◌⊎◌, ◌+◌, inl, inr, ℕ, zero, suc, List, [], ◌∷◌, ◌++◌, Option, Some, None, Result, Ok, Err, refl, sym, ap, subst, arith}
-use Rattle.std.proofs.lemmas.Bool.{cases_Bool, cases_lt, false≢true}
+use Rattle.bolt_recover.proofs.Words.{AreFound, cases_Bool, cases_lt, early_finding, Entry, false≢true, Finding, FoundBelow, IsFoundNext, IsFoundPage}
+use Rattle.bolt_recover.proofs.Words.{IsKeptPage, IsListedFree, IsLoneLeaf, IsSurvey, lost, Meta, Node, node_at, node_finding, Nodes, root_spot, Visit}
 use Rattle.bolt_format.specs.Freelists.{free_ids_of, freelist_fault_of}
-use Rattle.bolt_format.specs.declared.meta.Meta.{Meta}
 use Rattle.bolt_check.specs.Accounts.{times_in}
-use Rattle.bolt_check.specs.Findings.{early_finding, node_finding}
-use Rattle.bolt_check.specs.LoneLeaves.{IsListedFree, IsLoneLeaf}
-use Rattle.bolt_check.specs.Nodes.{Entry, Node, Nodes, node_at}
-use Rattle.bolt_check.specs.Ways.{root_spot}
-use Rattle.bolt_check.specs.declared.finding.Finding.{Finding}
-use Rattle.bolt_recover.specs.Found.{AreFound, FoundBelow, IsFoundNext, IsFoundPage}
-use Rattle.bolt_recover.specs.KeptPages.{IsKeptPage}
-use Rattle.bolt_recover.specs.Surveys.{IsSurvey, Visit, lost}
 use Rattle.bolt_recover.proofs.Existing.{has_survey}
 use Rattle.bolt_recover.proofs.FoundAll.{either_or_not, lost_or_none}
 use Rattle.bolt_recover.proofs.Lowest.{lowest}

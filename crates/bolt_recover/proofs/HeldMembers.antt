@@ -1,27 +1,14 @@
 -- What a path holds, and what is at ways: each element at a way is held under its path and, if all ways are kept, nothing else is held.
 use Rattle.std.proofs.Common.{◌≡◌, ◌∙◌, inl, inr, ℕ, suc, Bool, true, false, eqb, List, [], ◌∷◌, ◌++◌, Option, Some, None, Result, Ok, Err, slice_get, refl, sym, ap, subst}
-use Rattle.std.specs.List.{Contains}
-use Rattle.std.specs.Option.{option_map}
-use Rattle.std.proofs.lemmas.Bool.{cases_Bool}
-use Rattle.std.proofs.lemmas.Option.{slice_get-map, same_Some}
-use Rattle.bolt_format.specs.Elements.{LeafElement, head_root, inline_elements}
-use Rattle.bolt_format.specs.Headers.{count_field, flags_field, kind_of}
-use Rattle.bolt_format.specs.Pages.{PageView, from_page, page_at, page_fault, page_overflow, shown_as, span_bytes}
-use Rattle.bolt_format.specs.declared.kind.Kind.{Kind}
-use Rattle.bolt_format.specs.declared.kind.Kind.TheVariants as kind
-use Rattle.bolt_format.specs.declared.meta.Meta.{Meta}
-use Rattle.bolt_check.specs.Nodes.{Entry, Node, Nodes, leaf_entry, node_at}
-use Rattle.bolt_check.specs.Shape.{child_at, child_in, child_of, leads}
-use Rattle.bolt_check.specs.Ways.{At_inline, At_page, PageSpot, Spot, bucket_spots, root_spot, step_at, step_entry, step_from}
-use Rattle.bolt_tree.specs.Entries.{Inline_page, IsEntry, Item, Root_page, ShowsEntry, Start, start_of}
-use Rattle.bolt_tree.specs.Paths.{Holds, Names, Path}
-use Rattle.bolt_tree.proofs.Lists.{contains_none}
+use Rattle.bolt_recover.proofs.Words.{At_inline, At_page, bucket_spots, cases_Bool, child_at, child_in, child_of, Contains, contains_at, contains_none}
+use Rattle.bolt_recover.proofs.Words.{count_field, Entry, flags_field, follow_places, from_page, head_root, Holds, inline_elements, Inline_page, IsEntry}
+use Rattle.bolt_recover.proofs.Words.{IsRecoveredMember, Item, Kind, kind_of, leads, leaf_entry, LeafElement, leaves_of, Meta, Names, next_place, Node, node_at}
+use Rattle.bolt_recover.proofs.Words.{Nodes, option_map, page_at, page_fault, page_overflow, PageSpot, PageView, Path, Place, place_at, place_on, Root_page}
+use Rattle.bolt_recover.proofs.Words.{root_place, root_spot, same_Some, shown_as, ShowsEntry, slice_get-map, span_bytes, Spot, Start, start_of, step_at}
+use Rattle.bolt_recover.proofs.Words.{step_entry, step_from, Visit}
 use Rattle.bolt_tree.proofs.Named.{held_here, names_push}
-use Rattle.bolt_recover.specs.Places.{Place, follow_places, leaves_of, next_place, place_at, place_on, root_place}
-use Rattle.bolt_recover.specs.Recovered.{IsRecoveredMember}
-use Rattle.bolt_recover.specs.Surveys.{Visit}
+use Rattle.bolt_format.specs.declared.kind.Kind.TheVariants as kind
 use Rattle.bolt_recover.proofs.PlaceKeys.{HasForm, IsTidy, IsTidyAt, no_spot, page_form, tidy_root, tidy_step}
-use Rattle.bolt_tree.proofs.EntryOrder.{contains_at}
 
 -- a page with leaf elements is a leaf that shows them
 by_kind : (fault : Option ℕ) (k : Option Kind) (count overflow : ℕ) (bytes : List ℕ) (e : LeafElement) → Contains (leaves_of (shown_as fault k count overflow bytes)) e

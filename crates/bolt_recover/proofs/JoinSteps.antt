@@ -1,35 +1,14 @@
 -- The members of the joined listing, one after another.
 use Rattle.std.proofs.Common.{◌≡◌, ◌≢◌, ◌∙◌, ℕ, Bool, true, false, List, [], ◌∷◌, ◌++◌, ◌⊎◌, ◌||◌, inl, inr, Option, Some, None, Result, Ok, Err, IfOk, IfSome, OnErr, OnOk, filter, is_some, not, refl, sym, ap, subst, subst₂}
-use Rattle.std.specs.List.{All, Contains}
-use Rattle.std.proofs.Math.Logic.{∥∥₁_elim}
-use Rattle.std.proofs.Props.{props}
-use Rattle.std.proofs.lemmas.Bool.{cases_Bool, false≢true}
-use Rattle.std.specs.Option.{option_map}
-use Rattle.std.specs.Ordering.{is_eq, is_lt}
-use Rattle.std.proofs.lemmas.List.Elements.{All-head, All-tail}
-use Rattle.bolt_format.specs.Elements.{LeafElement}
-use Rattle.bolt_format.specs.Pages.{page_at}
-use Rattle.bolt_format.specs.Shown.{shown}
-use Rattle.bolt_format.specs.declared.meta.Meta.{Meta}
-use Rattle.bolt_tree.specs.Entries.{Bucket, Item}
-use Rattle.bolt_tree.specs.Listing.{Member}
-use Rattle.bolt_tree.specs.Paths.{Path}
-use Rattle.bolt_tree.specs.ShownEntries.{item_view}
-use Rattle.bolt_tree.specs.Walks.{GivesNext}
-use Rattle.bolt_tree.proofs.Lists.{contains_cases, contains_head, contains_none, contains_tail}
-use Rattle.bolt_recover.specs.Found.{numbers_of}
-use Rattle.bolt_recover.specs.Joined.{HasBucketKey, IsJoined, LacksBucketKey, is_found_path, joined_listing, lost_and_found}
-use Rattle.bolt_recover.specs.Places.{leaves_of}
-use Rattle.bolt_recover.specs.Recovered.{ForRecovered, IsRecovered}
-use Rattle.bolt_recover.specs.ShownFound.{IsFoundView}
-use Rattle.bolt_recover.specs.Private.FoundLeft.{below_bucket, bucket_members, pages_of}
-use Rattle.bolt_recover.specs.Private.Joining.{AreJoinable, IsHeldWell, TellsBucketKey, first_cmp, held_members, left_at, path_at, put_members, recovered_in}
-use Rattle.bolt_recover.specs.Private.KeptMembers.{kept_file, kept_left, kept_meta, kept_path}
-use Rattle.bolt_recover.specs.declared.found.Found.{Found}
+use Rattle.bolt_recover.proofs.Words.{All, All-head, All-tail, AreJoinable, below_bucket, Bucket, bucket_members, cases_Bool, Contains, contains_cases}
+use Rattle.bolt_recover.proofs.Words.{contains_head, contains_none, contains_tail, false≢true, first_cmp, ForRecovered, Found, GivesNext, HasBucketKey}
+use Rattle.bolt_recover.proofs.Words.{held_members, is_eq, is_found_path, is_lt, IsFoundView, IsHeldWell, IsJoined, IsRecovered, Item, item_view}
+use Rattle.bolt_recover.proofs.Words.{joined_listing, Kept, kept_file, kept_left, kept_meta, kept_path, LacksBucketKey, LeafElement, leaves_of, left_at}
+use Rattle.bolt_recover.proofs.Words.{lost_and_found, Member, Meta, numbers_of, option_map, page_at, pages_of, Path, path_at, props, put_members, recovered_in}
+use Rattle.bolt_recover.proofs.Words.{shown, TellsBucketKey, ∥∥₁_elim}
 use Rattle.bolt_recover.specs.declared.found_members.FoundMembers.{FoundMembers}
 use Rattle.bolt_recover.specs.declared.joined.Stage.{Stage}
 use Rattle.bolt_recover.specs.declared.joined.Stage.TheVariants.{After, Before, Inside}
-use Rattle.bolt_recover.specs.declared.kept.Kept.{Kept}
 use Rattle.bolt_tree.specs.declared.entry.Item.{Item as CodeItem}
 use Rattle.bolt_recover.proofs.JoinedLemmas.{joined_keeps, joined_of, put_recovered, stays, with_elements}
 

@@ -1,22 +1,9 @@
 -- The members of a joined listing are recovered or found.
 use Rattle.std.proofs.Common.{◌≡◌, ◌∙◌, ◌⊎◌, inl, inr, ℕ, Bool, true, false, IsTrue, is_none, List, [], ◌∷◌, ◌++◌, None, map, ◌==◌, if◌then◌else◌, refl, sym, ap, subst}
-use Rattle.std.specs.List.{Contains}
-use Rattle.std.proofs.lemmas.Bool.{eqb-true}
-use Rattle.std.proofs.lemmas.List.Elements.{Contains-append_cases}
-use Rattle.bolt_format.specs.Elements.{LeafElement, head_root, head_sequence, inline_elements}
-use Rattle.bolt_format.specs.Pages.{page_at}
-use Rattle.bolt_format.specs.declared.meta.Meta.{Meta}
-use Rattle.bolt_check.specs.Keys.{keys_order_fault}
-use Rattle.bolt_tree.specs.Entries.{Bucket, Value, item_of}
-use Rattle.bolt_tree.specs.Listing.{Member}
-use Rattle.bolt_tree.specs.Paths.{Path}
-use Rattle.bolt_tree.specs.Tree.{Tree, end, listing_below, with_bucket, with_value}
-use Rattle.bolt_tree.proofs.Lists.{contains_cases, contains_head, contains_none, contains_tail}
-use Rattle.bolt_recover.specs.Found.{AreFound}
-use Rattle.bolt_recover.specs.Joined.{IsElement, IsFoundMember, IsInner, IsJoined, found_tree, inside_of, joined_listing, lost_and_found, tree_with}
-use Rattle.bolt_recover.specs.PageKeys.{page_key}
-use Rattle.bolt_recover.specs.Places.{leaves_of}
-use Rattle.bolt_recover.specs.Recovered.{IsRecovered}
+use Rattle.bolt_recover.proofs.Words.{AreFound, Bucket, Contains, Contains-append_cases, contains_cases, contains_head, contains_none, contains_tail, end}
+use Rattle.bolt_recover.proofs.Words.{eqb-true, found_tree, head_root, head_sequence, inline_elements, inside_of, IsElement, IsFoundMember, IsInner, IsJoined}
+use Rattle.bolt_recover.proofs.Words.{IsRecovered, item_of, joined_listing, keys_order_fault, LeafElement, leaves_of, listing_below, lost_and_found, Member}
+use Rattle.bolt_recover.proofs.Words.{Meta, page_at, page_key, Path, Tree, tree_with, Value, with_bucket, with_value}
 use Rattle.bolt_recover.proofs.JoinedLemmas.{joined_of, put_of, put_or_there, put_recovered, with_elements}
 
 -- an element, what it holds, or a later one

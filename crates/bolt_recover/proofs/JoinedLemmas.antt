@@ -1,33 +1,11 @@
 -- The joined listing is the recovered one with the bucket of what is found in its place.
 use Rattle.std.proofs.Common.{◌≡◌, ◌∙◌, ◌⊎◌, inl, inr, ℕ, Bool, true, false, not, List, [], ◌∷◌, ◌++◌, filter, map, refl, sym, ap, subst}
-use Rattle.std.specs.List.{Contains}
-use Rattle.std.specs.Ordering.{is_eq, is_lt}
-use Rattle.std.specs.declared.cmp.Ordering.{Ordering}
-use Rattle.std.specs.declared.cmp.Ordering.TheVariants.{Less, Equal, Greater}
-use Rattle.std.proofs.lemmas.Bool.{cases_Bool}
-use Rattle.std.proofs.lemmas.List.{append-nil}
-use Rattle.std.proofs.lemmas.List.Elements.{Contains-append_cases, filter-append}
-use Rattle.bolt_format.specs.Elements.{LeafElement}
-use Rattle.bolt_format.specs.Pages.{page_at}
-use Rattle.bolt_format.specs.declared.meta.Meta.{Meta}
-use Rattle.bolt_check.specs.Keys.{key_cmp, key_lt}
-use Rattle.bolt_check.proofs.KeyLaws.{less_of}
-use Rattle.bolt_tree.specs.Entries.{Bucket, Value}
-use Rattle.bolt_tree.specs.Listing.{Member, member_cmp}
-use Rattle.bolt_tree.specs.Order.{Rises}
-use Rattle.bolt_tree.specs.Paths.{Path, path_cmp}
-use Rattle.bolt_tree.specs.Tree.{Tree, end, listing_below, listing_of, tree_of, with_bucket, with_value}
-use Rattle.bolt_tree.proofs.Filters.{filter_all, filter_none}
-use Rattle.bolt_tree.proofs.Lists.{contains_cases, contains_head, contains_tail}
-use Rattle.bolt_tree.proofs.PathOrder.{key_total}
+use Rattle.bolt_recover.proofs.Words.{append-nil, AreFound, Bucket, cases_Bool, Contains, Contains-append_cases, contains_cases, contains_head, contains_tail}
+use Rattle.bolt_recover.proofs.Words.{end, Equal, filter-append, filter_all, filter_none, first_cmp, found_tree, further, Greater, is_eq, is_found_path, is_lt}
+use Rattle.bolt_recover.proofs.Words.{IsJoined, IsRecovered, joined_listing, key_cmp, key_lt, key_total, LacksBucketKey, LeafElement, leaves_of, Less, less_of}
+use Rattle.bolt_recover.proofs.Words.{listing_below, listing_of, lost_and_found, Member, member_cmp, member_total, Meta, Ordering, page_at, Path, path_cmp}
+use Rattle.bolt_recover.proofs.Words.{put_bucket, put_members, Rises, Tree, tree_of, Value, with_bucket, with_value}
 use Rattle.bolt_tree.proofs.ReadBack.{tree_back}
-use Rattle.bolt_tree.proofs.Single.{member_total}
-use Rattle.bolt_recover.specs.Private.Runs.{further}
-use Rattle.bolt_recover.specs.Found.{AreFound}
-use Rattle.bolt_recover.specs.Joined.{IsJoined, LacksBucketKey, is_found_path, found_tree, joined_listing, lost_and_found, put_bucket}
-use Rattle.bolt_recover.specs.Places.{leaves_of}
-use Rattle.bolt_recover.specs.Private.Joining.{first_cmp, put_members}
-use Rattle.bolt_recover.specs.Recovered.{IsRecovered}
 use Rattle.bolt_recover.proofs.Existing.{has_recovered}
 use Rattle.bolt_recover.proofs.FoundAll.{one_found}
 use Rattle.bolt_recover.proofs.FoundExists.{has_found}

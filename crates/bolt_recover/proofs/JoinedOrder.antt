@@ -1,27 +1,9 @@
 -- A joined listing is in the order of paths.
 use Rattle.std.proofs.Common.{◌≡◌, ◌≢◌, ◌∙◌, inl, inr, ℕ, zero, suc, ◌<◌, ◌+◌, ◌*◌, ◌^◌, true, false, List, [], ◌∷◌, ◌++◌, Option, Some, None, length, map, refl, sym, ap, subst, arith}
-use Rattle.std.proofs.Math.Nat.{lt_of_mul-lt-mul_right}
-use Rattle.std.specs.List.{Contains}
-use Rattle.std.proofs.lemmas.List.Elements.{Contains-push_cases}
-use Rattle.bolt_format.specs.Elements.{LeafElement}
-use Rattle.bolt_format.specs.Pages.{page_at}
-use Rattle.bolt_format.specs.declared.meta.Meta.{Meta}
-use Rattle.bolt_check.specs.Findings.{finding_of, keys_of, node_finding}
-use Rattle.bolt_check.specs.Keys.{Key, KeysRise, key_lt, keys_order_fault}
-use Rattle.bolt_check.specs.Ways.{root_spot}
-use Rattle.bolt_check.proofs.KeyOrder.{key_rise}
-use Rattle.bolt_check.specs.LoneLeaves.{IsLoneLeaf}
-use Rattle.bolt_check.specs.Nodes.{Entry, Node, leaf_entry, node_at}
-use Rattle.bolt_check.proofs.MarkLemmas.{node_within}
-use Rattle.bolt_tree.specs.Listing.{Member, member_cmp}
-use Rattle.bolt_tree.specs.Order.{Rises}
-use Rattle.bolt_tree.proofs.Lists.{contains_cases, contains_head, contains_none, contains_tail}
-use Rattle.bolt_recover.specs.Found.{AreFound, FoundBelow}
-use Rattle.bolt_recover.specs.Joined.{IsJoined, LacksBucketKey, found_tree, inside_of, joined_listing, tree_with}
-use Rattle.bolt_recover.specs.PageKeys.{page_key}
-use Rattle.bolt_recover.specs.Places.{leaves_of}
-use Rattle.bolt_recover.specs.Recovered.{IsRecovered}
-use Rattle.bolt_recover.specs.KeptPages.{IsKeptPage}
+use Rattle.bolt_recover.proofs.Words.{AreFound, Contains, Contains-push_cases, contains_cases, contains_head, contains_none, contains_tail, Entry, finding_of}
+use Rattle.bolt_recover.proofs.Words.{found_tree, FoundBelow, inside_of, IsJoined, IsKeptPage, IsLoneLeaf, IsRecovered, joined_listing, Key, key_lt, key_rise}
+use Rattle.bolt_recover.proofs.Words.{keys_of, keys_order_fault, KeysRise, LacksBucketKey, leaf_entry, LeafElement, leaves_of, lt_of_mul-lt-mul_right, Member}
+use Rattle.bolt_recover.proofs.Words.{member_cmp, Meta, Node, node_at, node_finding, node_within, page_at, page_key, Rises, root_spot, tree_with}
 use Rattle.bolt_recover.proofs.FoundAll.{lost_or_none}
 use Rattle.bolt_recover.proofs.FoundLemmas.{found_here}
 use Rattle.bolt_recover.proofs.PlaceKeys.{HasForm, page_form}

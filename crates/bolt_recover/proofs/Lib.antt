@@ -37,3 +37,4 @@ mod StepLemmas
 mod SurveyIsOne
 mod TaskLists
 mod TreeOrder
+mod Words

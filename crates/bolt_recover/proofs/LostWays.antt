@@ -1,13 +1,7 @@
 -- Each lost way has one loss, and each loss is that of a lost way.
 use Rattle.std.proofs.Common.{◌≡◌, ◌∙◌, ◌⊎◌, ℕ, inl, inr, List, [], ◌∷◌, ◌++◌, length, Option, Some, None, cond, is_some, refl, sym, ap, subst, arith, length-append}
-use Rattle.std.specs.List.{Contains, count_by}
-use Rattle.std.proofs.lemmas.List.Sums.{sum_by-cons}
-use Rattle.bolt_format.specs.declared.meta.Meta.{Meta}
-use Rattle.bolt_check.specs.declared.finding.Finding.{Finding}
-use Rattle.bolt_tree.proofs.Lists.{contains_cases, contains_head, contains_none, contains_tail}
-use Rattle.bolt_recover.specs.Losses.{LossView, loss_at, loss_of, losses_of}
-use Rattle.bolt_recover.specs.Places.{Place, place_at}
-use Rattle.bolt_recover.specs.Surveys.{Has, IsSurvey, Visit, lost}
+use Rattle.bolt_recover.proofs.Words.{Contains, contains_cases, contains_head, contains_none, contains_tail, count_by, Finding, Has, IsSurvey, loss_at, loss_of}
+use Rattle.bolt_recover.proofs.Words.{losses_of, LossView, lost, Meta, Place, place_at, sum_by-cons, Visit}
 use Rattle.bolt_recover.proofs.PlaceFacts.{place_is}
 
 length_at : (o : Option Place) (p : Place) (f : Option Finding) → o ≡ Some p → length (loss_at o f) ≡ cond (is_some f) 1 0

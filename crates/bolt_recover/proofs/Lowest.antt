@@ -1,6 +1,6 @@
 -- The lowest number with a property among some, or none has it.
 use Rattle.std.proofs.Common.{◌≡◌, ◌⊎◌, inl, inr, ℕ, zero, suc, ◌+◌, ◌<◌, ◌≤◌, subst, arith}
-use Rattle.std.proofs.lemmas.Bool.{cases_lt}
+use Rattle.bolt_recover.proofs.Words.{cases_lt}
 
 abbrev pub HasLowest : (ℕ → Type 0) → ℕ → ℕ → Type 0
 HasLowest P from k = (n : ℕ) × (from ≤ n) × (n < from + k) × P n × ((m : ℕ) → from ≤ m → m < n → P m → ⊥)

@@ -1,9 +1,7 @@
 -- A branch shows no leaf elements.
 use Rattle.std.proofs.Common.{◌≡◌, ℕ, List, [], refl}
-use Rattle.bolt_format.specs.Pages.{shown_leaves}
-use Rattle.bolt_format.specs.Shown.{shown}
+use Rattle.bolt_recover.proofs.Words.{Kind, shown, shown_leaves}
 use Rattle.bolt_format.specs.declared.good_page.Page.{Page}
-use Rattle.bolt_format.specs.declared.kind.Kind.{Kind}
 use Rattle.bolt_format.specs.declared.kind.Kind.TheVariants as kind
 
 of_kind : (k : Kind) (count : ℕ) (bytes : List ℕ) → k ≡ kind.Branch → shown_leaves k count bytes ≡ []

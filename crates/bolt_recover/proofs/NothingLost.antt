@@ -1,14 +1,7 @@
 -- If nothing is lost, the trees are sound: the tests find nothing at any way, and they look at all ways before it.
 use Rattle.std.proofs.Common.{◌≡◌, ◌∙◌, ℕ, inl, inr, List, [], Some, None, refl, subst, sym}
-use Rattle.bolt_format.specs.declared.meta.Meta.{Meta}
-use Rattle.bolt_check.specs.Findings.{IsClaimedBefore, IsClean, IsMetaPage}
-use Rattle.bolt_check.specs.Nodes.{Nodes, node_at}
-use Rattle.bolt_check.specs.Sound.{HasSoundTrees}
-use Rattle.bolt_check.specs.Ways.{At_page, Reach, Spot, reached, root_spot}
-use Rattle.bolt_check.proofs.Judging.{passes_fewer, span_spot}
-use Rattle.bolt_check.proofs.Shaping.{shape_of}
-use Rattle.bolt_recover.specs.Losses.{AreLosses, LossView, losses_of}
-use Rattle.bolt_recover.specs.Surveys.{Gives, Has, IsClaimedIn, IsSurvey, Visit, kept}
+use Rattle.bolt_recover.proofs.Words.{AreLosses, At_page, Gives, Has, HasSoundTrees, IsClaimedBefore, IsClaimedIn, IsClean, IsMetaPage, IsSurvey, kept}
+use Rattle.bolt_recover.proofs.Words.{losses_of, LossView, Meta, node_at, Nodes, passes_fewer, Reach, reached, root_spot, shape_of, span_spot, Spot, Visit}
 use Rattle.bolt_recover.proofs.Existing.{has_survey}
 use Rattle.bolt_recover.proofs.LostWays.{nothing_lost}
 use Rattle.bolt_recover.proofs.SoundListing.{all_kept}

@@ -1,11 +1,6 @@
 -- There is at most one recovered listing: its survey is one, and it rises by the order of paths.
 use Rattle.std.proofs.Common.{◌≡◌, ℕ, List, subst, sym}
-use Rattle.bolt_format.specs.declared.meta.Meta.{Meta}
-use Rattle.bolt_tree.specs.Listing.{Member}
-use Rattle.bolt_tree.proofs.Lists.{rises_once}
-use Rattle.bolt_tree.proofs.Single.{member_total}
-use Rattle.bolt_recover.specs.Recovered.{IsRecovered, IsRecoveredMember}
-use Rattle.bolt_recover.specs.Surveys.{Visit}
+use Rattle.bolt_recover.proofs.Words.{IsRecovered, IsRecoveredMember, Member, member_total, Meta, rises_once, Visit}
 use Rattle.bolt_recover.proofs.SurveyIsOne.{same_survey}
 
 pub one_recovered : (file : List ℕ) (meta : Meta) (a b : List Member) → IsRecovered file meta a → IsRecovered file meta b → a ≡ b

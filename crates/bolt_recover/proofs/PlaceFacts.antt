@@ -1,19 +1,10 @@
 -- Places along ways: the spot there, the next one, and the elements.
 use Rattle.std.proofs.Common.{◌≡◌, ◌∙◌, ℕ, suc, ◌<◌, ◌≤◌, Bool, List, [], ◌∷◌, ◌++◌, length, map, Option, Some, None, Result, Ok, Err, slice_get, refl, sym, ap, subst, arith}
-use Rattle.std.specs.Option.{option_map}
-use Rattle.std.proofs.lemmas.List.{length-map}
-use Rattle.std.proofs.lemmas.Option.{slice_get_within, same_Some}
-use Rattle.bolt_format.specs.Elements.{LeafElement}
-use Rattle.bolt_format.specs.Headers.{count_field, flags_field, kind_of}
-use Rattle.bolt_format.specs.Pages.{from_page, page_at, page_fault, page_overflow, shown_as, span_bytes}
-use Rattle.bolt_format.specs.declared.kind.Kind.{Kind}
+use Rattle.bolt_recover.proofs.Words.{At_inline, At_page, count_field, elements_at, Entry, entry_count, flags_field, follow, follow_places, from_page, Kind}
+use Rattle.bolt_recover.proofs.Words.{kind_of, leaf_entry, LeafElement, leaves_of, length-map, Meta, next_place, Node, node_at, node_seen, Nodes, option_map}
+use Rattle.bolt_recover.proofs.Words.{page_at, page_fault, page_overflow, PageSpot, Path, Place, place_at, place_on, place_size, reached, root_place, same_Some}
+use Rattle.bolt_recover.proofs.Words.{shown_as, slice_get_within, span_bytes, Spot, step, step_at, step_entry, step_from, step_place}
 use Rattle.bolt_format.specs.declared.kind.Kind.TheVariants as kind
-use Rattle.bolt_format.specs.declared.meta.Meta.{Meta}
-use Rattle.bolt_check.specs.Nodes.{Entry, Node, Nodes, leaf_entry, node_at, node_seen}
-use Rattle.bolt_check.specs.Ways.{At_inline, At_page, PageSpot, Spot, follow, reached, step, step_at, step_entry, step_from}
-use Rattle.bolt_tree.specs.Paths.{Path}
-use Rattle.bolt_recover.specs.Places.{Place, elements_at, follow_places, leaves_of, next_place, place_at, place_on, root_place, step_place}
-use Rattle.bolt_recover.specs.Private.Runs.{entry_count, place_size}
 
 abbrev spot_in : Option Place → Option Spot
 spot_in o = option_map (λ (p : Place). p.spot) o

@@ -1,25 +1,11 @@
 -- The keys of a place that is kept: they rise between its bounds, its elements have them, and each child has its bounds from them.
 use Rattle.std.proofs.Common.{◌≡◌, ◌∙◌, ◌⊎◌, inl, inr, ℕ, suc, Bool, true, false, List, [], ◌∷◌, ◌++◌, map, Option, Some, None, Result, Ok, slice_get, if◌then◌else◌, ◌==◌, refl, sym, ap, subst}
-use Rattle.std.specs.Option.{option_map}
-use Rattle.std.proofs.lemmas.Bool.{cases_Bool}
-use Rattle.std.proofs.lemmas.Option.{slice_get-map, same_Some}
-use Rattle.bolt_check.proofs.WayFacts.{key_at}
-use Rattle.bolt_check.proofs.Shaping.{finding_none}
-use Rattle.bolt_format.specs.Elements.{LeafElement, head_root, inline_elements}
-use Rattle.bolt_format.specs.Headers.{count_field, flags_field, kind_of}
-use Rattle.bolt_format.specs.Pages.{PageView, from_page, page_at, page_fault, page_overflow, shown_as, span_bytes}
-use Rattle.bolt_check.specs.declared.finding.Finding.{Finding}
-use Rattle.bolt_format.specs.declared.kind.Kind.{Kind}
+use Rattle.bolt_recover.proofs.Words.{At_inline, At_page, bucket_spots, cases_Bool, count_field, Entry, Finding, finding_none, finding_of, flags_field}
+use Rattle.bolt_recover.proofs.Words.{from_page, head_root, inline_elements, is_below, is_from, Key, key_at, key_each, key_rise, keys_of, keys_order_fault}
+use Rattle.bolt_recover.proofs.Words.{KeysRise, Kind, kind_of, leaf_entry, LeafElement, leaves_of, lower_of, Meta, Node, node_at, node_of, node_seen}
+use Rattle.bolt_recover.proofs.Words.{option_map, page_at, page_fault, page_overflow, PageSpot, PageView, Passes, Path, Place, place_on, root_place, same_Some}
+use Rattle.bolt_recover.proofs.Words.{shown_as, slice_get-map, span_bytes, Spot, step_at, step_entry, step_from, step_place, upper_from, upper_of}
 use Rattle.bolt_format.specs.declared.kind.Kind.TheVariants as kind
-use Rattle.bolt_format.specs.declared.meta.Meta.{Meta}
-use Rattle.bolt_check.specs.Findings.{Passes, finding_of, keys_of}
-use Rattle.bolt_check.specs.Keys.{Key, KeysRise, is_below, is_from, keys_order_fault}
-use Rattle.bolt_check.specs.Nodes.{Entry, Node, leaf_entry, node_at, node_of, node_seen}
-use Rattle.bolt_check.specs.Ways.{At_inline, At_page, PageSpot, Spot, bucket_spots, step_at, step_entry, step_from, upper_from}
-use Rattle.bolt_check.proofs.KeyOrder.{key_each, key_rise}
-use Rattle.bolt_tree.specs.Paths.{Path}
-use Rattle.bolt_recover.specs.Losses.{lower_of, upper_of}
-use Rattle.bolt_recover.specs.Places.{Place, leaves_of, place_on, root_place, step_place}
 
 abbrev pub keys_in : List LeafElement → List Key
 keys_in elements = map (λ (e : LeafElement). e.key) elements

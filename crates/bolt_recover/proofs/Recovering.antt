@@ -1,48 +1,18 @@
 -- A recovery between its calls: what of the recovered listing is left, and which losses are still to be reported.
 use Rattle.std.proofs.Common.{◌≡◌, ◌∙◌, ◌≤◌, ◌<◌, ◌^◌, inl, inr, ℕ, Bool, true, false, ◌↔◌, List, [], ◌∷◌, ◌++◌, length, take, Option, Some, None, Result, Ok, Err, IfErr, IfOk, OnErr, cond, filter, if◌then◌else◌, refl, sym, ap, subst, arith, append_assoc}
-use Rattle.std.proofs.Props.{props}
-use Rattle.std.specs.Cmp.{IsTotalOrder}
-use Rattle.std.specs.List.{Contains}
-use Rattle.std.specs.Ordering.{is_lt}
-use Rattle.std.specs.declared.cmp.Ordering.{Ordering}
-use Rattle.std.specs.declared.cmp.Ordering.TheVariants.{Less}
-use Rattle.std.proofs.lemmas.Bool.{cases_Bool}
-use Rattle.std.proofs.lemmas.Cmp.{tied_itself}
-use Rattle.std.proofs.lemmas.List.{append-nil, take-append-le, take_all}
-use Rattle.bolt_format.specs.ElementPlaces.{leaf_view}
-use Rattle.bolt_format.specs.Elements.{LeafElement}
+use Rattle.bolt_recover.proofs.Words.{Accounts, Advances, after_visit, after_visits, ahead_tasks, append-nil, AreFirst, AreKeptPages, AreLosses, AreOpen}
+use Rattle.bolt_recover.proofs.Words.{ArePageWays, cases_Bool, ComesTo, Contains, contains_head, contains_tail, Content, counted, Ends, filter_all, filter_same}
+use Rattle.bolt_recover.proofs.Words.{flip_less, further, GivesHead, GoesOn, HasOpen, is_lt, is_over, IsAllLeft, IsGoodContent, IsGoodPage, IsKeptPage, IsLeft}
+use Rattle.bolt_recover.proofs.Words.{IsOn, IsRecovered, IsRefusedRoot, IsSlotUnrecoverable, IsSurvey, IsTotalOrder, IsUnrecoverable, item_of, Key, leaf_view}
+use Rattle.bolt_recover.proofs.Words.{LeafElement, left_by, Less, less_lt, losses_of, LossView, lost_at, lt_of, Member, member_cmp, member_total, Memory, Meta}
+use Rattle.bolt_recover.proofs.Words.{NextVisit, node_at, Nodes, not_lt_of, NoWay, Open, open_tasks, OpenPage, Ordering, Outcome, outcome_of, over_by, Page}
+use Rattle.bolt_recover.proofs.Words.{page_ways, Path, path_cmp, path_total, props, reached, rest_after, Rises, Runs, RunsAll, State, stay, StaysOn, Structure}
+use Rattle.bolt_recover.proofs.Words.{take-append-le, take_all, tally_of, Task, tied_itself, Visit, Visited, Way}
 use Rattle.bolt_format.specs.declared.element.Leaf.{Leaf}
-use Rattle.bolt_format.specs.declared.meta.Meta.{Meta}
-use Rattle.bolt_check.specs.Counts.{counted}
-use Rattle.bolt_check.specs.Keys.{Key}
-use Rattle.bolt_check.specs.Nodes.{Nodes, node_at}
-use Rattle.bolt_check.specs.Ways.{reached}
 use Rattle.bolt_check.specs.declared.fault.CheckFault.{CheckFault}
-use Rattle.bolt_check.specs.declared.fault.CheckFault.TheVariants.{Accounts, Memory, Open, Structure}
 use Rattle.bolt_format.specs.Metas.{IsChosen, IsInSlot}
 use Rattle.bolt_format.specs.declared.meta.Slot.{Slot}
-use Rattle.bolt_tree.specs.Entries.{item_of}
-use Rattle.bolt_tree.specs.Listing.{Member, member_cmp}
-use Rattle.bolt_tree.specs.Order.{Rises}
-use Rattle.bolt_tree.specs.Paths.{Path, path_cmp}
-use Rattle.bolt_tree.specs.RestAfter.{rest_after}
-use Rattle.bolt_tree.proofs.Filters.{filter_all, filter_same, lt_of, not_lt_of}
-use Rattle.bolt_tree.proofs.Lists.{contains_head, contains_tail}
-use Rattle.bolt_tree.proofs.PathOrder.{flip_less, less_lt, path_total}
-use Rattle.bolt_tree.proofs.Single.{member_total}
-use Rattle.bolt_recover.specs.KeptPages.{AreKeptPages, IsKeptPage}
-use Rattle.bolt_recover.specs.Losses.{AreLosses, LossView, losses_of}
-use Rattle.bolt_recover.specs.PageWays.{ArePageWays, page_ways}
-use Rattle.bolt_recover.specs.Private.Frames.{Advances, AreOpen, ComesTo, Ends, GivesHead, GoesOn, HasOpen, IsAllLeft, IsGoodContent, IsGoodPage, IsLeft, IsOn, NoWay, State, StaysOn, ahead_tasks, is_over, left_by, open_tasks, over_by, stay, tally_of}
-use Rattle.bolt_recover.specs.Private.Runs.{Outcome, Runs, RunsAll, Task, Visited, Way, after_visit, after_visits, further, lost_at, outcome_of}
-use Rattle.bolt_recover.specs.Recovered.{IsRecovered}
-use Rattle.bolt_recover.specs.Recoveries.{AreFirst}
-use Rattle.bolt_recover.specs.Refusals.{IsRefusedRoot, IsSlotUnrecoverable, IsUnrecoverable}
-use Rattle.bolt_recover.specs.Surveys.{IsSurvey, Visit}
-use Rattle.bolt_recover.specs.declared.content.Content.{Content}
-use Rattle.bolt_recover.specs.declared.content.Content.TheVariants.{Bucket, Page}
-use Rattle.bolt_recover.specs.declared.content.OpenPage.{OpenPage}
-use Rattle.bolt_recover.specs.declared.steps.NextVisit.{NextVisit}
+use Rattle.bolt_recover.specs.declared.content.Content.TheVariants.{Bucket}
 use Rattle.bolt_recover.proofs.OneRecovered.{one_recovered}
 use Rattle.bolt_recover.proofs.RunExists.{run_exists}
 use Rattle.bolt_recover.proofs.RunOrder.{visits_of}

@@ -1,23 +1,12 @@
 -- Each file has a run: the tests are decided at each place, and each page that is kept takes a number away from those that aren't claimed.
 use Rattle.std.proofs.Common.{◌≡◌, ◌≢◌, ◌∙◌, ◌⊎◌, inl, inr, ℕ, zero, suc, ◌<◌, ◌≤◌, Bool, true, false, ◌||◌, List, [], ◌∷◌, ◌++◌, length, nat_lt, Option, Some, None, Result, Ok, Err, if◌then◌else◌, refl, sym, ap, subst, arith}
-use Rattle.std.proofs.lemmas.Bool.{cases_Bool, false_from_ne_true, false≢true, or_parts}
-use Rattle.std.proofs.lemmas.Bool.Decides.{nat_tests}
-use Rattle.bolt_format.specs.declared.meta.Meta.{Meta}
-use Rattle.bolt_check.specs.Findings.{Passes, early, early_finding, finding, inline_finding, late, node_finding, open_finding, twice}
-use Rattle.bolt_check.specs.Keys.{Key}
-use Rattle.bolt_check.specs.Nodes.{IsInSpan, Node, Nodes, node_at}
+use Rattle.bolt_recover.proofs.Words.{At_inline, At_page, cases_Bool, claimed_after, done, early, early_finding, false_from_ne_true, false≢true, Finding}
+use Rattle.bolt_recover.proofs.Words.{finding, give, Gives, in_span, inline_finding, IsInSpan, Key, late, Member, Meta, meta_pages, nat_tests, Node, node_at}
+use Rattle.bolt_recover.proofs.Words.{node_below, node_finding, Nodes, none-some, open_finding, or_parts, PageSpot, Passes, Place, place_tasks, root_place}
+use Rattle.bolt_recover.proofs.Words.{Runs, RunsAll, Spot, step_from, Task, tasks_after, To_give, To_visit, twice, visit, Visited}
 use Rattle.bolt_check.specs.Subtrees.{Has}
-use Rattle.bolt_check.specs.Ways.{At_inline, At_page, PageSpot, Spot, step_from}
-use Rattle.bolt_check.specs.declared.finding.Finding.{Finding}
 use Rattle.bolt_check.specs.declared.finding.TheConstants.Finding.{TWICE}
-use Rattle.bolt_check.proofs.MarkLemmas.{node_below}
 use Rattle.bolt_check.proofs.TourExists.{has_number, numbers, shorter, still, without}
-use Rattle.bolt_tree.specs.Listing.{Member}
-use Rattle.bolt_recover.specs.Places.{Place, root_place}
-use Rattle.bolt_recover.specs.Private.Runs.{Runs, RunsAll, Task, To_give, To_visit, Visited, claimed_after, in_span, meta_pages, place_tasks, tasks_after}
-use Rattle.bolt_recover.specs.Private.Runs.Runs.{done, give, visit}
-use Rattle.bolt_recover.specs.Surveys.{Gives}
-use Rattle.std.proofs.lemmas.Option.{none-some}
 use Rattle.bolt_tree.proofs.ListLemmas.{Has as Among}
 use Rattle.bolt_recover.proofs.Lowest.{lowest}
 use Rattle.bolt_recover.proofs.PlaceFacts.{step_spot}

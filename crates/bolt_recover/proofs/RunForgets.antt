@@ -1,16 +1,8 @@
 -- A run may forget its ways.
 use Rattle.std.proofs.Common.{◌≡◌, ◌∙◌, ℕ, zero, suc, Bool, List, [], ◌∷◌, ◌++◌, map, Option, Some, None, slice_get, refl, ap, subst}
-use Rattle.std.proofs.lemmas.List.{map-append}
-use Rattle.bolt_format.specs.Elements.{LeafElement}
-use Rattle.bolt_format.specs.declared.meta.Meta.{Meta}
-use Rattle.bolt_check.specs.Nodes.{Nodes, node_at}
-use Rattle.bolt_check.specs.declared.finding.Finding.{Finding}
-use Rattle.bolt_tree.specs.Listing.{Member}
-use Rattle.bolt_tree.specs.Paths.{Path}
-use Rattle.bolt_recover.specs.Places.{Place, root_place, step_place}
-use Rattle.bolt_recover.specs.Private.Frames.{NoWay, stay}
-use Rattle.bolt_recover.specs.Private.Runs.{Outcome, Runs, RunsAll, Task, To_give, To_visit, Visited, after_visit, after_visits, claimed_after, entry_tasks, gives_at, tasks_after, tasks_from, visits_at, Way, further}
-use Rattle.bolt_recover.specs.Private.Runs.Runs.{done, give, visit}
+use Rattle.bolt_recover.proofs.Words.{after_visit, after_visits, claimed_after, done, entry_tasks, Finding, further, give, gives_at, LeafElement, map-append}
+use Rattle.bolt_recover.proofs.Words.{Member, Meta, node_at, Nodes, NoWay, Outcome, Path, Place, root_place, Runs, RunsAll, stay, step_place, Task, tasks_after}
+use Rattle.bolt_recover.proofs.Words.{tasks_from, To_give, To_visit, visit, Visited, visits_at, Way}
 
 abbrev blind : Task Way → Task NoWay
 blind (To_visit w p) = To_visit tt p

@@ -1,16 +1,9 @@
 -- A run visits ways in their order.
 use Rattle.std.proofs.Common.{◌≡◌, ◌∙◌, ◌<◌, inl, inr, ℕ, Bool, List, [], ◌∷◌, ◌++◌, map, Option, refl, sym, ap, subst, append_assoc}
-use Rattle.std.proofs.lemmas.List.{append-nil}
-use Rattle.bolt_format.specs.declared.meta.Meta.{Meta}
-use Rattle.bolt_check.specs.Tours.{IsBeforeAll, Rises}
-use Rattle.bolt_check.specs.Ways.{Before}
-use Rattle.bolt_check.specs.declared.finding.Finding.{Finding}
-use Rattle.bolt_tree.specs.Listing.{Member}
-use Rattle.bolt_tree.proofs.ListLemmas.{Has as Among, RisesBy, has_split, rises_append}
-use Rattle.bolt_recover.specs.Places.{Place}
-use Rattle.bolt_recover.specs.Private.Runs.{Runs, Task, To_give, To_visit, Visited, Way, further, tasks_after}
-use Rattle.bolt_recover.specs.Private.Runs.Runs.{done, give, visit}
-use Rattle.bolt_recover.specs.Surveys.{Has, Visit}
+use Rattle.bolt_recover.proofs.Words.{append-nil, Before, done, Finding, further, give, Has, has_split, IsBeforeAll, Member, Meta, Place, rises_append, RisesBy}
+use Rattle.bolt_recover.proofs.Words.{Runs, Task, tasks_after, To_give, To_visit, Visit, visit, Visited, Way}
+use Rattle.bolt_check.specs.Tours.{Rises}
+use Rattle.bolt_tree.proofs.ListLemmas.{Has as Among}
 use Rattle.bolt_recover.proofs.SurveyIsOne.{parent_before, ways}
 use Rattle.bolt_recover.proofs.TaskLists.{IsAt, after_at, after_rises}
 

@@ -1,28 +1,11 @@
 -- A run returns its members in the order of their paths: the tasks lead to separate sets of paths, each before the next.
 use Rattle.std.proofs.Common.{◌≡◌, ◌∙◌, ◌<◌, inl, inr, ℕ, suc, Bool, true, false, List, [], ◌∷◌, ◌++◌, Option, Some, None, slice_get, refl, sym, ap, subst, arith, append_assoc}
-use Rattle.std.specs.List.{Contains}
-use Rattle.std.specs.Ordering.{is_lt}
-use Rattle.std.specs.declared.cmp.Ordering.TheVariants.{Less}
-use Rattle.std.proofs.lemmas.Bool.{cases_lt, cases_order}
-use Rattle.std.proofs.lemmas.Option.{none-some, same_Some}
-use Rattle.bolt_format.specs.Elements.{LeafElement}
-use Rattle.bolt_format.specs.declared.meta.Meta.{Meta}
-use Rattle.bolt_check.specs.Keys.{Key, is_below, is_from, key_cmp, key_lt}
-use Rattle.bolt_check.specs.Nodes.{node_at}
-use Rattle.bolt_check.proofs.KeyLaws.{below_less, from_more, less_of, lt_not_trans, lt_trans, not_true}
-use Rattle.bolt_tree.specs.Entries.{item_of}
-use Rattle.bolt_tree.specs.Listing.{Member, member_cmp}
-use Rattle.bolt_tree.specs.Order.{Rises}
-use Rattle.bolt_tree.specs.Paths.{Path, path_cmp}
-use Rattle.bolt_tree.proofs.Lists.{contains_cases, contains_none}
-use Rattle.bolt_tree.proofs.PathOrder.{before_longer, key_same, same_front}
-use Rattle.bolt_recover.specs.Losses.{lower_of, upper_of}
-use Rattle.bolt_recover.specs.Places.{Place, root_place, step_place}
-use Rattle.bolt_recover.specs.Private.Runs.{Runs, RunsAll, Task, To_give, To_visit, Visited, place_tasks, tasks_after}
-use Rattle.bolt_recover.specs.Private.Runs.Runs.{done, give, visit}
-use Rattle.bolt_check.specs.declared.finding.Finding.{Finding}
-use Rattle.bolt_tree.proofs.ListLemmas.{Each, Has as Among, RisesBy, get_before, has_split, rises_append}
-use Rattle.bolt_recover.specs.Surveys.{Gives}
+use Rattle.bolt_recover.proofs.Words.{before_longer, below_less, cases_lt, cases_order, Contains, contains_cases, contains_none, done, Each, Finding, from_more}
+use Rattle.bolt_recover.proofs.Words.{get_before, give, Gives, has_split, is_below, is_from, is_lt, item_of, Key, key_cmp, key_lt, key_same, LeafElement, Less}
+use Rattle.bolt_recover.proofs.Words.{less_of, lower_of, lt_not_trans, lt_trans, Member, member_cmp, Meta, node_at, none-some, not_true, Path, path_cmp, Place}
+use Rattle.bolt_recover.proofs.Words.{place_tasks, Rises, rises_append, RisesBy, root_place, Runs, RunsAll, same_front, same_Some, step_place, Task}
+use Rattle.bolt_recover.proofs.Words.{tasks_after, To_give, To_visit, upper_of, visit, Visited}
+use Rattle.bolt_tree.proofs.ListLemmas.{Has as Among}
 use Rattle.bolt_recover.proofs.TaskLists.{IsAt, after_at, after_rises}
 use Rattle.bolt_recover.proofs.PlaceKeys.{IsChild, IsTidy, Keyed, keyed, tidy_root, tidy_step}
 

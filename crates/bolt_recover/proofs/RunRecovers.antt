@@ -1,9 +1,6 @@
 -- A run from the root page returns the recovered listing.
 use Rattle.std.proofs.Common.{ℕ, List, []}
-use Rattle.bolt_format.specs.declared.meta.Meta.{Meta}
-use Rattle.bolt_tree.specs.Listing.{Member}
-use Rattle.bolt_recover.specs.Private.Runs.{RunsAll, Visited, Way, further}
-use Rattle.bolt_recover.specs.Recovered.{IsRecovered}
+use Rattle.bolt_recover.proofs.Words.{further, IsRecovered, Member, Meta, RunsAll, Visited, Way}
 use Rattle.bolt_recover.proofs.RunOrder.{visits_of}
 use Rattle.bolt_recover.proofs.RunPaths.{members_rise}
 use Rattle.bolt_recover.proofs.RunSurveys.{all_members, surveyed}

@@ -1,16 +1,7 @@
 -- What a run does first.
 use Rattle.std.proofs.Common.{◌≡◌, ℕ, Bool, true, List, [], ◌∷◌, ◌++◌, Option, refl, subst}
-use Rattle.bolt_format.specs.Elements.{LeafElement}
-use Rattle.bolt_format.specs.declared.meta.Meta.{Meta}
-use Rattle.bolt_check.specs.Nodes.{node_at}
-use Rattle.bolt_check.specs.declared.finding.Finding.{Finding}
-use Rattle.bolt_tree.specs.Entries.{item_of}
-use Rattle.bolt_tree.specs.Listing.{Member}
-use Rattle.bolt_tree.specs.Paths.{Path}
-use Rattle.bolt_recover.specs.Places.{Place}
-use Rattle.bolt_recover.specs.Private.Runs.{Runs, Task, To_give, To_visit, Visited, claimed_after, tasks_after}
-use Rattle.bolt_recover.specs.Private.Runs.Runs.{done, give, visit}
-use Rattle.bolt_recover.specs.Surveys.{Gives}
+use Rattle.bolt_recover.proofs.Words.{claimed_after, done, Finding, give, Gives, item_of, LeafElement, Member, Meta, node_at, Path, Place, Runs, Task}
+use Rattle.bolt_recover.proofs.Words.{tasks_after, To_give, To_visit, visit, Visited}
 use Rattle.bolt_recover.proofs.SurveyIsOne.{gives_one}
 
 module _ (file : List ℕ) (meta : Meta) {W : Type 0} (further : W → ℕ → W) where

@@ -1,32 +1,14 @@
 -- What a run visits is a survey, and what it returns are the elements at the kept ways.
 use Rattle.std.proofs.Common.{◌≡◌, ◌∙◌, ◌⊎◌, ◌↔◌, ◌≤◌, ◌<◌, inl, inr, ℕ, ◌+◌, Bool, true, ◌||◌, ◌&&◌, List, [], ◌∷◌, ◌++◌, length, nat_le, Option, Some, None, Result, Ok, Err, refl, sym, ap, subst, arith, append_assoc, cond}
-use Rattle.std.specs.List.{Contains}
-use Rattle.std.proofs.lemmas.Bool.Decides.{nat_tests}
-use Rattle.std.proofs.lemmas.Bool.{and_parts, false≢true, or_cases, or_left, or_right}
-use Rattle.std.proofs.lemmas.List.{append-nil}
-use Rattle.std.proofs.lemmas.List.Sums.{sum_by-cons}
-use Rattle.bolt_format.specs.Elements.{LeafElement}
-use Rattle.bolt_format.specs.declared.meta.Meta.{Meta}
-use Rattle.bolt_check.specs.Counts.{counted}
-use Rattle.bolt_check.specs.Findings.{IsMetaPage, Passes}
-use Rattle.bolt_check.specs.Nodes.{Node, Nodes, node_at}
-use Rattle.bolt_check.specs.Ways.{At_inline, At_page, Reach, SpanAt, SpanHas, SpanOf, Spot, reached}
+use Rattle.bolt_recover.proofs.Words.{after_visit, after_visits, and_parts, append-nil, At_inline, At_page, claimed_after, claims_of, Contains, contains_at}
+use Rattle.bolt_recover.proofs.Words.{contains_cases, contains_head, contains_none, contains_tail, counted, done, false≢true, Finding, further, give, Gives}
+use Rattle.bolt_recover.proofs.Words.{Has, has_left, has_right, has_split, in_span, is_at_page, IsClaimedIn, IsKeptPage, IsMetaPage, IsOpen, IsRecoveredMember}
+use Rattle.bolt_recover.proofs.Words.{IsSurvey, Item, item_of, kept, LeafElement, loss_at, losses_of, LossView, lost_at, Member, Meta, meta_pages, nat_tests}
+use Rattle.bolt_recover.proofs.Words.{Node, node_at, Nodes, or_cases, or_left, or_right, Outcome, outcome_of, page_visit, page_ways, Passes, Path, Place}
+use Rattle.bolt_recover.proofs.Words.{place_at, place_size, Reach, reached, root_place, Runs, RunsAll, span_of, SpanAt, SpanHas, SpanOf, Spot, step_place}
+use Rattle.bolt_recover.proofs.Words.{sum_by-cons, Task, tasks_after, To_give, To_visit, Visit, visit, Visited, Way}
 use Rattle.bolt_check.specs.Tours.{Rises}
-use Rattle.bolt_check.specs.declared.finding.Finding.{Finding}
-use Rattle.bolt_tree.specs.Entries.{Item, item_of}
-use Rattle.bolt_tree.specs.Listing.{Member}
-use Rattle.bolt_tree.specs.Paths.{Path}
-use Rattle.bolt_tree.proofs.ListLemmas.{Has as Among, has_left, has_right, has_split}
-use Rattle.bolt_tree.proofs.Lists.{contains_cases, contains_head, contains_none, contains_tail}
-use Rattle.bolt_recover.specs.KeptPages.{IsKeptPage}
-use Rattle.bolt_recover.specs.Losses.{LossView, loss_at, losses_of}
-use Rattle.bolt_recover.specs.PageWays.{is_at_page, page_ways}
-use Rattle.bolt_recover.specs.Places.{Place, place_at, root_place, step_place}
-use Rattle.bolt_recover.specs.Private.Runs.{Outcome, Runs, RunsAll, Task, To_give, To_visit, Visited, after_visit, after_visits, claimed_after, claims_of, in_span, lost_at, meta_pages, outcome_of, page_visit, place_size, span_of, tasks_after, Way, further}
-use Rattle.bolt_recover.specs.Private.Runs.Runs.{done, give, visit}
-use Rattle.bolt_recover.specs.Recovered.{IsRecoveredMember}
-use Rattle.bolt_recover.specs.Surveys.{Gives, Has, IsClaimedIn, IsOpen, IsSurvey, Visit, kept}
-use Rattle.bolt_tree.proofs.EntryOrder.{contains_at}
+use Rattle.bolt_tree.proofs.ListLemmas.{Has as Among}
 use Rattle.bolt_recover.proofs.ElementLists.{slice_of}
 use Rattle.bolt_recover.proofs.PlaceFacts.{elements_is, leads_within, place_further, place_is, size_enough, spot_is, step_spot}
 use Rattle.bolt_recover.proofs.RunOrder.{rises_run, visits_of}

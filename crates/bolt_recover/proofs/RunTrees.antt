@@ -1,22 +1,9 @@
 -- What a run returns is what a tree lists: each place that is visited comes to a tree, in which a bucket holds what its own place comes to.
 use Rattle.std.proofs.Common.{◌≡◌, ◌∙◌, inl, inr, ℕ, zero, suc, Bool, true, List, [], ◌∷◌, ◌++◌, Option, Some, None, slice_get, refl, sym, ap, subst, append_assoc}
-use Rattle.std.proofs.lemmas.Bool.{cases_Bool}
-use Rattle.std.proofs.lemmas.List.{append-nil}
-use Rattle.std.proofs.lemmas.Option.{none-some, same_Some}
-use Rattle.bolt_format.specs.Elements.{LeafElement, head_sequence}
-use Rattle.bolt_format.specs.declared.meta.Meta.{Meta}
-use Rattle.bolt_check.specs.Keys.{Key}
-use Rattle.bolt_check.specs.Nodes.{node_at}
-use Rattle.bolt_check.specs.declared.finding.Finding.{Finding}
-use Rattle.bolt_tree.specs.Entries.{Bucket, Item, Value, item_of}
-use Rattle.bolt_tree.specs.Listing.{Member}
-use Rattle.bolt_tree.specs.Paths.{Path}
-use Rattle.bolt_tree.specs.Tree.{Tree, end, listing_below, listing_of, with_bucket, with_value}
-use Rattle.bolt_tree.proofs.ListLemmas.{Each}
-use Rattle.bolt_recover.specs.Places.{Place, root_place, step_place}
-use Rattle.bolt_recover.specs.Private.Runs.{Runs, RunsAll, Task, To_give, To_visit, Visited, entry_tasks, gives_at, tasks_after, tasks_from, visits_at}
-use Rattle.bolt_recover.specs.Private.Runs.Runs.{done, give, visit}
-use Rattle.bolt_recover.specs.Surveys.{Gives}
+use Rattle.bolt_recover.proofs.Words.{append-nil, Bucket, cases_Bool, done, Each, end, entry_tasks, Finding, give, Gives, gives_at, head_sequence, Item}
+use Rattle.bolt_recover.proofs.Words.{item_of, Key, LeafElement, listing_below, listing_of, Member, Meta, node_at, none-some, Path, Place, root_place, Runs}
+use Rattle.bolt_recover.proofs.Words.{RunsAll, same_Some, step_place, Task, tasks_after, tasks_from, To_give, To_visit, Tree, Value, visit, Visited, visits_at}
+use Rattle.bolt_recover.proofs.Words.{with_bucket, with_value}
 use Rattle.bolt_recover.proofs.PlaceKeys.{IsTidy, Keyed, keyed}
 use Rattle.bolt_recover.proofs.RunPaths.{IsTidyTask, root_tidy, tidy_after}
 

@@ -1,28 +1,12 @@
 -- If nothing is lost, each way is kept, and what a path holds is an element at a way.
 use Rattle.std.proofs.Common.{◌≡◌, ◌∙◌, ◌⊎◌, inl, inr, ℕ, suc, Bool, true, false, IsTrue, eqb, eqb-true, List, [], ◌∷◌, ◌++◌, Option, Some, None, Result, Ok, Err, slice_get, refl, sym, ap, subst, subst₂, append_assoc}
-use Rattle.std.specs.List.{Contains}
-use Rattle.std.specs.Option.{option_map}
-use Rattle.std.proofs.lemmas.List.{append-nil}
-use Rattle.std.proofs.lemmas.Option.{slice_get-map, same_Some}
-use Rattle.bolt_format.specs.Elements.{LeafElement, head_root, inline_elements}
-use Rattle.bolt_format.specs.Pages.{page_at}
-use Rattle.bolt_format.specs.declared.meta.Meta.{Meta}
-use Rattle.bolt_check.specs.Keys.{Key}
-use Rattle.bolt_check.specs.Nodes.{Entry, Node, Nodes, leaf_entry, node_at}
-use Rattle.bolt_check.specs.Shape.{child_in, child_of, leads}
-use Rattle.bolt_check.specs.Sound.{HasSoundTrees}
-use Rattle.bolt_check.specs.Ways.{At_inline, At_page, PageSpot, Spot, bucket_spots, child_spot, follow, reached, root_spot, step_at, step_entry, step_from, upper_from}
-use Rattle.bolt_check.specs.declared.finding.Finding.{Finding}
-use Rattle.bolt_check.proofs.Forest.{follow_some}
-use Rattle.bolt_check.proofs.Lawful.{shape_passes}
-use Rattle.bolt_check.proofs.WayFacts.{follow_append, leads_none, leaf_node}
-use Rattle.bolt_tree.specs.Entries.{Inline_page, IsEntry, Item, Root_page, ShowsEntry, Start, item_of, start_of}
-use Rattle.bolt_tree.specs.Listing.{IsListing, Member}
-use Rattle.bolt_tree.specs.Paths.{Holds, Path}
+use Rattle.bolt_recover.proofs.Words.{append-nil, At_inline, At_page, bucket_spots, child_in, child_of, child_spot, Contains, Entry, Finding, follow}
+use Rattle.bolt_recover.proofs.Words.{follow_append, follow_some, Has, HasSoundTrees, head_root, Holds, inline_elements, Inline_page, IsEntry, IsListing}
+use Rattle.bolt_recover.proofs.Words.{IsRecovered, IsRecoveredMember, Item, item_of, kept, Key, leads, leads_none, leaf_entry, leaf_node, LeafElement}
+use Rattle.bolt_recover.proofs.Words.{leaves_of, Member, Meta, Node, node_at, Nodes, option_map, page_at, PageSpot, Path, Place, place_at, place_on, reached}
+use Rattle.bolt_recover.proofs.Words.{Root_page, root_place, root_spot, same_Some, shape_passes, ShowsEntry, slice_get-map, Spot, Start, start_of, step_at}
+use Rattle.bolt_recover.proofs.Words.{step_entry, step_from, step_place, Surveys, upper_from, Visit}
 use Rattle.bolt_tree.proofs.BucketWays.{flat}
-use Rattle.bolt_recover.specs.Places.{Place, leaves_of, place_at, place_on, root_place, step_place}
-use Rattle.bolt_recover.specs.Recovered.{IsRecovered, IsRecoveredMember}
-use Rattle.bolt_recover.specs.Surveys.{Has, Surveys, Visit, kept}
 use Rattle.bolt_recover.proofs.ElementLists.{slice_of}
 use Rattle.bolt_recover.proofs.HeldMembers.{held, shows_entry, well_at}
 use Rattle.bolt_recover.proofs.PlaceFacts.{place_further, spot_is}

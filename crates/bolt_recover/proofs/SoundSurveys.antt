@@ -1,11 +1,7 @@
 -- Sound trees lose nothing: the tests pass at each way, so they also pass if fewer pages were claimed earlier.
 use Rattle.std.proofs.Common.{◌≡◌, ℕ, inl, inr, List, Option, Some, None, refl}
-use Rattle.bolt_check.specs.Findings.{IsClaimedBefore, IsClean, IsMetaPage}
-use Rattle.bolt_check.specs.Nodes.{Nodes}
-use Rattle.bolt_check.specs.Ways.{Reach, Spot}
-use Rattle.bolt_check.specs.declared.finding.Finding.{Finding}
-use Rattle.bolt_check.proofs.Judging.{passes_fewer, passes_silent}
-use Rattle.bolt_recover.specs.Surveys.{Gives, Has, IsClaimedIn, Surveys, Visit}
+use Rattle.bolt_recover.proofs.Words.{Finding, Gives, Has, IsClaimedBefore, IsClaimedIn, IsClean, IsMetaPage, Nodes, passes_fewer, passes_silent, Reach, Spot}
+use Rattle.bolt_recover.proofs.Words.{Surveys, Visit}
 
 pub claimed_before : (nodes : Nodes) (reach : Reach) (survey : List Visit) (way : List ℕ) (n : ℕ)
     → IsClaimedIn nodes reach survey way n → IsClaimedBefore nodes reach IsMetaPage way n

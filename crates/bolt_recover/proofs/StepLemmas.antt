@@ -1,33 +1,18 @@
 -- What the steps of a recovering walk leave to be done.
 use Rattle.std.proofs.Common.{◌≡◌, ◌∙◌, ◌≤◌, ◌<◌, ℕ, suc, ◌+◌, ◌-◌, Bool, true, false, ◌↔◌, List, [], ◌∷◌, ◌++◌, length, map, take, drop, Option, Some, None, Result, Ok, Err, OnErr, slice_get, refl, sym, ap, subst, subst₂, arith, append_assoc, length-append}
-use Rattle.std.proofs.lemmas.List.{append-nil, length-take-le, take-append-drop, take-append-le, take_all}
-use Rattle.std.specs.Option.{option_map}
-use Rattle.bolt_format.specs.Elements.{LeafElement}
-use Rattle.bolt_format.specs.declared.meta.Meta.{Meta}
-use Rattle.bolt_check.specs.Claims.{claims_meta, is_claimed}
+use Rattle.bolt_recover.proofs.Words.{after_visit, after_visits, ahead_level, ahead_tasks, ahead_weight, append-nil, AreOpen, At_page, both_ways, claimed_with}
+use Rattle.bolt_recover.proofs.Words.{claims_meta, claims_nodes, ComesTo, Content, content_elements, content_place, content_size, content_spot, counted, Ends}
+use Rattle.bolt_recover.proofs.Words.{entry_tasks, Finding, Gives, gives_at, GivesHead, GoesOn, HasOpen, is_claimed, is_over, IsAllLeft, IsContent}
+use Rattle.bolt_recover.proofs.Words.{IsGoodContent, IsGoodPage, IsMetaPage, IsShallow, LeafElement, length-take-le, loss_of, LossView, lost_state, Member}
+use Rattle.bolt_recover.proofs.Words.{Meta, meta_pages, nat_tests, NextVisit, node_at, NoWay, open_tasks, OpenPage, option_map, Outcome, outcome_of, over_by}
+use Rattle.bolt_recover.proofs.Words.{Page, page_tasks, page_visit, page_weight, Passes, Path, Place, place_size, place_tasks, root_spot, Runs, spot_at}
+use Rattle.bolt_recover.proofs.Words.{spot_place, State, state_tasks, stay, StaysOn, step_place, take-append-drop, take-append-le, take_all, tally_of, Task}
+use Rattle.bolt_recover.proofs.Words.{tasks_after, tasks_from, Tests, Visited, visits_at}
 use Rattle.bolt_check.specs.declared.claims.Claims.{Claims}
-use Rattle.bolt_check.specs.Counts.{counted}
-use Rattle.bolt_check.specs.Findings.{IsMetaPage, Passes, Tests}
-use Rattle.bolt_check.specs.Nodes.{node_at}
-use Rattle.bolt_check.specs.ShownSpots.{spot_at}
-use Rattle.bolt_check.specs.Ways.{At_page, root_spot}
 use Rattle.bolt_check.specs.declared.spot.PageSpot.{PageSpot}
-use Rattle.std.proofs.lemmas.Bool.Decides.{nat_tests}
-use Rattle.std.specs.Cmp.{both_ways}
-use Rattle.bolt_check.specs.declared.finding.Finding.{Finding}
 use Rattle.bolt_check.specs.declared.spot.Spot.{Spot}
+use Rattle.bolt_recover.specs.declared.content.Content.TheVariants.{Bucket}
 use Rattle.bolt_check.specs.declared.spot.Spot.TheVariants as spots
-use Rattle.bolt_tree.specs.Listing.{Member}
-use Rattle.bolt_tree.specs.Paths.{Path}
-use Rattle.bolt_recover.specs.Losses.{LossView, loss_of}
-use Rattle.bolt_recover.specs.Places.{Place, step_place}
-use Rattle.bolt_recover.specs.Private.Frames.{AreOpen, ComesTo, Ends, GivesHead, GoesOn, HasOpen, IsAllLeft, IsContent, IsGoodContent, IsGoodPage, IsShallow, NoWay, State, StaysOn, ahead_level, ahead_tasks, ahead_weight, claims_nodes, content_elements, content_place, content_size, content_spot, is_over, lost_state, open_tasks, over_by, page_tasks, page_weight, state_tasks, stay, spot_place, tally_of}
-use Rattle.bolt_recover.specs.Private.Runs.{Outcome, Runs, Task, Visited, after_visit, after_visits, claimed_with, entry_tasks, gives_at, meta_pages, outcome_of, page_visit, place_size, place_tasks, tasks_after, tasks_from, visits_at}
-use Rattle.bolt_recover.specs.declared.content.Content.{Content}
-use Rattle.bolt_recover.specs.declared.content.Content.TheVariants.{Bucket, Page}
-use Rattle.bolt_recover.specs.declared.content.OpenPage.{OpenPage}
-use Rattle.bolt_recover.specs.declared.steps.NextVisit.{NextVisit}
-use Rattle.bolt_recover.specs.Surveys.{Gives}
 use Rattle.bolt_recover.proofs.RunExists.{or_none}
 use Rattle.bolt_recover.proofs.RunForgets.{blind_visit, forgotten, same_outcome}
 use Rattle.bolt_recover.proofs.RunSteps.{gives, visits_first}

@@ -1,14 +1,10 @@
 -- There is at most one survey. Where two first differ, the preceding kept ways are the same, and so is what the tests find.
 use Rattle.std.proofs.Common.{◌≡◌, ◌∙◌, ℕ, ◌⊎◌, inl, inr, List, [], ◌∷◌, ◌++◌, map, Option, Some, None, refl, sym, ap, subst}
-use Rattle.bolt_format.specs.declared.meta.Meta.{Meta}
-use Rattle.bolt_check.specs.Nodes.{Nodes, node_at}
-use Rattle.bolt_check.specs.Tours.{IsBeforeAll, Rises}
-use Rattle.bolt_check.specs.Ways.{Before, Reach, Spot, reached}
-use Rattle.bolt_check.specs.declared.finding.Finding.{Finding}
-use Rattle.bolt_check.proofs.Judging.{passes_fewer, passes_silent, tests_same}
+use Rattle.bolt_recover.proofs.Words.{Before, before_irreflexive, before_strict, before_total, before_trans, Finding, Gives, Has, IsBeforeAll, IsClaimedIn}
+use Rattle.bolt_recover.proofs.Words.{IsOpen, IsSurvey, kept, Meta, node_at, Nodes, passes_fewer, passes_silent, Reach, reached, Spot, Surveys, tests_same}
+use Rattle.bolt_recover.proofs.Words.{Visit}
+use Rattle.bolt_check.specs.Tours.{Rises}
 use Rattle.bolt_check.proofs.Single.{tests_one}
-use Rattle.bolt_check.proofs.WayOrder.{before_irreflexive, before_strict, before_total, before_trans}
-use Rattle.bolt_recover.specs.Surveys.{Gives, Has, IsClaimedIn, IsOpen, IsSurvey, Surveys, Visit, kept}
 
 abbrev pub ways : List Visit → List (List ℕ)
 ways visits = map (λ (v : Visit). v.way) visits

@@ -1,13 +1,8 @@
 -- What there is to do at a place, entry by entry.
 use Rattle.std.proofs.Common.{◌≡◌, ◌≤◌, ◌<◌, inl, inr, ℕ, zero, suc, ◌+◌, List, [], ◌∷◌, ◌++◌, Option, Some, None, slice_get, refl, sym, ap, subst, arith}
-use Rattle.std.proofs.lemmas.Bool.{cases_lt}
-use Rattle.bolt_format.specs.Elements.{LeafElement}
-use Rattle.bolt_format.specs.declared.meta.Meta.{Meta}
-use Rattle.bolt_check.specs.declared.finding.Finding.{Finding}
-use Rattle.bolt_tree.specs.Paths.{Path}
-use Rattle.bolt_tree.proofs.ListLemmas.{Has as Among, RisesBy, has_left, has_right, has_split, rises_append}
-use Rattle.bolt_recover.specs.Places.{Place, step_place}
-use Rattle.bolt_recover.specs.Private.Runs.{Task, To_give, To_visit, entry_tasks, gives_at, tasks_after, tasks_from, visits_at}
+use Rattle.bolt_recover.proofs.Words.{cases_lt, entry_tasks, Finding, gives_at, has_left, has_right, has_split, LeafElement, Meta, Path, Place, rises_append}
+use Rattle.bolt_recover.proofs.Words.{RisesBy, step_place, Task, tasks_after, tasks_from, To_give, To_visit, visits_at}
+use Rattle.bolt_tree.proofs.ListLemmas.{Has as Among}
 
 module _ (file : List ℕ) (meta : Meta) {W : Type 0} (further : W → ℕ → W) where
   -- this is to be done at entry i of a place

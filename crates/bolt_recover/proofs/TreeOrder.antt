@@ -1,21 +1,9 @@
 -- Trees whose keys rise, and what they list.
 use Rattle.std.proofs.Common.{◌≡◌, ◌∙◌, ◌⊎◌, inl, inr, ℕ, zero, suc, Bool, true, false, List, [], ◌∷◌, ◌++◌, Option, Some, None, map, slice_get, ◌==◌, refl, sym, ap, subst, arith, append_assoc}
-use Rattle.std.specs.List.{Contains}
-use Rattle.std.specs.declared.cmp.Ordering.TheVariants.{Less}
-use Rattle.std.proofs.lemmas.List.Elements.{Contains-append_cases}
-use Rattle.bolt_format.specs.Elements.{LeafElement, head_root, head_sequence, inline_elements}
-use Rattle.bolt_check.specs.Keys.{Key, KeysRise, key_cmp, key_lt, keys_order_fault}
-use Rattle.bolt_check.proofs.KeyLaws.{less_of}
-use Rattle.bolt_check.proofs.KeyOrder.{key_rise}
-use Rattle.std.proofs.lemmas.Bool.{cases_Bool, cond_both}
-use Rattle.bolt_tree.specs.Entries.{Bucket, Value}
-use Rattle.bolt_tree.specs.Listing.{Member, member_cmp}
-use Rattle.bolt_tree.specs.Order.{Rises}
-use Rattle.bolt_tree.specs.Paths.{Path, path_cmp}
-use Rattle.bolt_tree.specs.Tree.{Tree, end, listing_below, with_bucket, with_value}
-use Rattle.bolt_tree.proofs.Lists.{contains_cases, contains_head, contains_none, contains_tail}
-use Rattle.bolt_tree.proofs.PathOrder.{before_longer, same_front}
-use Rattle.bolt_recover.specs.Joined.{inside_of, tree_with}
+use Rattle.bolt_recover.proofs.Words.{before_longer, Bucket, cases_Bool, cond_both, Contains, Contains-append_cases, contains_cases, contains_head}
+use Rattle.bolt_recover.proofs.Words.{contains_none, contains_tail, end, head_root, head_sequence, inline_elements, inside_of, Key, key_cmp, key_lt, key_rise}
+use Rattle.bolt_recover.proofs.Words.{keys_order_fault, KeysRise, LeafElement, Less, less_of, listing_below, Member, member_cmp, Path, path_cmp, Rises}
+use Rattle.bolt_recover.proofs.Words.{same_front, Tree, tree_with, Value, with_bucket, with_value}
 
 -- a key of the outermost bucket
 abbrev pub HasKey : Tree → Key → Type 0

@@ -1,5 +1,5 @@
 use Rattle.std.proofs.Common.{◌∙◌, []}
-use Rattle.bolt_recover.specs.Private.Runs.{further}
+use Rattle.bolt_recover.proofs.Words.{further}
 use Rattle.bolt_recover.proofs.OneRecovered.{one_recovered}
 use Rattle.bolt_recover.proofs.RunExists.{run_exists}
 use Rattle.bolt_recover.proofs.RunRecovers.{recovers}

@@ -1,6 +1,4 @@
-use Rattle.bolt_check.specs.Nodes.{node_at}
-use Rattle.bolt_check.specs.Ways.{reached}
-use Rattle.bolt_check.proofs.Lawful.{shape_passes}
+use Rattle.bolt_recover.proofs.Words.{node_at, reached, shape_passes}
 use Rattle.bolt_recover.proofs.SoundSurveys.{none_lost}
 use Rattle.bolt_recover.proofs.laws.sound_trees_lose_nothing.Goals as goal
 

@@ -1,19 +1,7 @@
 use Rattle.std.proofs.Common.{◌≡◌, ◌∙◌, ◌⊎◌, ◌↔◌, ◌<◌, ◌+◌, ◌-◌, ◌++◌, ◌∷◌, inl, ℕ, true, false, List, [], Ok, Some, ap, arith, subst, subst₂, sym}
-use Rattle.std.specs.List.{All}
-use Rattle.std.proofs.lemmas.Bool.{false≢true}
-use Rattle.std.proofs.lemmas.List.{map-append}
-use Rattle.std.proofs.lemmas.List.Elements.{All-push}
-use Rattle.bolt_format.specs.Pages.{page_at}
-use Rattle.bolt_format.specs.Shown.{shown}
-use Rattle.bolt_format.specs.declared.meta.Meta.{Meta}
-use Rattle.bolt_check.specs.Leftovers.{is_listed, is_taken, leftovers_file, leftovers_length, leftovers_meta}
-use Rattle.bolt_check.specs.LoneLeaves.{IsLoneLeaf}
-use Rattle.bolt_check.specs.Nodes.{node_at}
-use Rattle.bolt_check.specs.ShownNodes.{shown_node}
-use Rattle.bolt_check.specs.Ways.{At_page, SpanAt, root_spot}
-use Rattle.bolt_recover.specs.Found.{FoundBelow, IsFoundPage, numbers_of}
-use Rattle.bolt_recover.specs.ShownFound.{IsFoundView}
-use Rattle.bolt_recover.specs.declared.found.Found.{Found}
+use Rattle.bolt_recover.proofs.Words.{All, All-push, At_page, false≢true, Found, FoundBelow, is_listed, is_taken, IsFoundPage, IsFoundView, IsLoneLeaf}
+use Rattle.bolt_recover.proofs.Words.{leftovers_file, leftovers_length, leftovers_meta, map-append, Meta, node_at, numbers_of, page_at, root_spot, shown}
+use Rattle.bolt_recover.proofs.Words.{shown_node, SpanAt}
 use Rattle.bolt_recover.proofs.FoundLemmas.{found_next, found_not, found_up, not_true, taken_more, view_of}
 use Rattle.bolt_recover.proofs.leaves.find_leaves.Goals as goal
 use Rattle.bolt_recover.proofs.leaves.find_leaves.Goals.{in-Some, in_default}

@@ -1,6 +1,5 @@
 use Rattle.std.proofs.Common.{◌∙◌, arith, ap, refl}
-use Rattle.bolt_check.specs.TreeKinds.{tree_kind}
-use Rattle.bolt_check.proofs.NodeLemmas.{length-leaf}
+use Rattle.bolt_recover.proofs.Words.{length-leaf, tree_kind}
 use Rattle.bolt_recover.proofs.NoLeaves.{no_leaves}
 use Rattle.bolt_recover.proofs.content.Content.leaf.Goals as goal
 

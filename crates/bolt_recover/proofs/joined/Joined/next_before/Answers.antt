@@ -1,15 +1,7 @@
 use Rattle.std.proofs.Common.{◌≡◌, ◌∙◌, ◌⊎◌, inl, inr, true, false, List, Some, None, Option, is_some, refl, ap, sym, subst₂, ℕ}
-use Rattle.std.proofs.Math.Logic.{∥∥₁_elim, ∥∥₁_map}
-use Rattle.std.proofs.Props.{props}
-use Rattle.std.proofs.lemmas.Grind.{merely}
-use Rattle.std.specs.Ordering.{is_lt}
-use Rattle.bolt_format.specs.declared.meta.Meta.{Meta}
-use Rattle.bolt_tree.specs.Paths.{Path}
+use Rattle.bolt_recover.proofs.Words.{AreJoinable, bucket_members, first_cmp, is_lt, joined_file, joined_left, joined_meta, joined_path, kept_file, kept_meta}
+use Rattle.bolt_recover.proofs.Words.{kept_path, merely, Meta, Path, props, put_members, recovered_in, ∥∥₁_elim, ∥∥₁_map}
 use Rattle.bolt_tree.specs.declared.entry.Item.{Item as CodeItem}
-use Rattle.bolt_recover.specs.JoinedMembers.{joined_file, joined_left, joined_meta, joined_path}
-use Rattle.bolt_recover.specs.Private.FoundLeft.{bucket_members}
-use Rattle.bolt_recover.specs.Private.Joining.{AreJoinable, first_cmp, put_members, recovered_in}
-use Rattle.bolt_recover.specs.Private.KeptMembers.{kept_file, kept_meta, kept_path}
 use Rattle.bolt_recover.proofs.JoinSteps.{before_given, bucket_given, gives_prop, held_well, parted}
 use Rattle.bolt_recover.proofs.StepLemmas.{when_err}
 use Rattle.bolt_recover.proofs.joined.Joined.next_before.Goals as goal

@@ -1,11 +1,6 @@
 use Rattle.std.proofs.Common.{◌≡◌, List, [], sym, subst₂, ℕ}
-use Rattle.std.proofs.Math.Logic.{∥∥₁_elim, ∥∥₁_map}
-use Rattle.std.proofs.Props.{props}
-use Rattle.bolt_format.specs.declared.meta.Meta.{Meta}
-use Rattle.bolt_recover.specs.JoinedMembers.{joined_file, joined_left, joined_meta, joined_path}
-use Rattle.bolt_recover.specs.Private.Joining.{AreJoinable, recovered_in}
-use Rattle.bolt_recover.specs.Private.KeptMembers.{kept_file, kept_left, kept_meta, kept_path}
-use Rattle.bolt_recover.specs.Recovered.{ForRecovered}
+use Rattle.bolt_recover.proofs.Words.{AreJoinable, ForRecovered, joined_file, joined_left, joined_meta, joined_path, kept_file, kept_left, kept_meta, kept_path}
+use Rattle.bolt_recover.proofs.Words.{Meta, props, recovered_in, ∥∥₁_elim, ∥∥₁_map}
 use Rattle.bolt_recover.proofs.Existing.{has_recovered}
 use Rattle.bolt_recover.proofs.JoinSteps.{gives_prop, none_given, parted, still_none}
 use Rattle.bolt_recover.proofs.StepLemmas.{when_err}

@@ -1,13 +1,6 @@
 -- After the bucket of what is found, the members are those that are recovered.
-use Rattle.std.proofs.Math.Logic.{∥∥₁_elim}
-use Rattle.std.proofs.Props.{props}
-use Rattle.std.specs.Option.{option_map}
-use Rattle.bolt_tree.specs.ShownEntries.{item_view}
-use Rattle.bolt_tree.specs.Walks.{GivesNext}
-use Rattle.bolt_recover.specs.JoinedMembers.{joined_file, joined_left, joined_meta, joined_path}
-use Rattle.bolt_recover.specs.Private.Joining.{recovered_in}
-use Rattle.bolt_recover.specs.Private.KeptMembers.{kept_file, kept_left, kept_meta, kept_path}
-use Rattle.bolt_recover.specs.Recovered.{ForRecovered}
+use Rattle.bolt_recover.proofs.Words.{ForRecovered, GivesNext, item_view, joined_file, joined_left, joined_meta, joined_path, kept_file, kept_left, kept_meta}
+use Rattle.bolt_recover.proofs.Words.{kept_path, option_map, props, recovered_in, ∥∥₁_elim}
 use Rattle.bolt_recover.proofs.FoundAll.{if_ok}
 use Rattle.bolt_recover.proofs.JoinSteps.{gives_prop, parted, when_fault}
 use Rattle.bolt_recover.proofs.joined.JoinedMembers.next.Goals as goal

@@ -1,14 +1,6 @@
 -- What was returned is looked at, and then all is reported.
 use Rattle.std.proofs.Common.{◌≡◌, ◌∙◌, List, ap, refl, inr, subst₂, sym, ℕ}
-use Rattle.std.specs.Ordering.{is_eq}
-use Rattle.bolt_format.specs.declared.meta.Meta.{Meta}
-use Rattle.bolt_tree.specs.Listing.{Member}
-use Rattle.bolt_tree.specs.Paths.{Path}
-use Rattle.bolt_recover.specs.Joined.{is_found_path}
-use Rattle.bolt_recover.specs.Losses.{AreLosses}
-use Rattle.bolt_recover.specs.Private.Joining.{first_cmp}
-use Rattle.bolt_recover.specs.Recovered.{IsRecovered}
-use Rattle.bolt_recover.specs.Recoveries.{recovery_meta, recovery_path}
+use Rattle.bolt_recover.proofs.Words.{AreLosses, first_cmp, is_eq, is_found_path, IsRecovered, Member, Meta, Path, recovery_meta, recovery_path}
 use Rattle.bolt_recover.proofs.FoundAll.{recovery_under}
 use Rattle.bolt_recover.proofs.JoinSteps.{first_found, inside_on, looked_at, looks_on}
 use Rattle.bolt_recover.proofs.recovery.Recovery.finish.Goals as goal

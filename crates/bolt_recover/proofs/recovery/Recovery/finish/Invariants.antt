@@ -1,8 +1,5 @@
 use Rattle.std.proofs.Common.{◌≡◌}
-use Rattle.std.specs.List.{Contains}
-use Rattle.bolt_tree.specs.Listing.{Member}
-use Rattle.bolt_recover.specs.Recovered.{ForRecovered}
-use Rattle.bolt_recover.specs.Recoveries.{recovery_file, recovery_left, recovery_meta, recovery_work}
+use Rattle.bolt_recover.proofs.Words.{Contains, ForRecovered, Member, recovery_file, recovery_left, recovery_meta, recovery_work}
 use Rattle.bolt_recover.proofs.JoinSteps.{LooksOn}
 use Rattle.bolt_recover.proofs.recovery.Recovery.finish.Given as goal
 

@@ -1,11 +1,6 @@
 -- Something is lost, since the trees aren't sound.
 use Rattle.std.proofs.Common.{◌≡◌, ◌∙◌, List, true, subst₂, ℕ}
-use Rattle.std.specs.List.{All}
-use Rattle.bolt_format.specs.declared.meta.Meta.{Meta}
-use Rattle.bolt_check.specs.Leftovers.{is_taken}
-use Rattle.bolt_recover.specs.Found.{FoundBelow, numbers_of}
-use Rattle.bolt_recover.specs.Recoveries.{recovery_claimed, recovery_file, recovery_losses, recovery_meta}
-use Rattle.bolt_recover.specs.ShownFound.{IsFoundView}
+use Rattle.bolt_recover.proofs.Words.{All, FoundBelow, is_taken, IsFoundView, Meta, numbers_of, recovery_claimed, recovery_file, recovery_losses, recovery_meta}
 use Rattle.bolt_recover.proofs.FoundAll.{found_rest}
 use Rattle.bolt_recover.proofs.NothingLost.{no_loss_sound}
 use Rattle.bolt_recover.proofs.recovery.Recovery.found.Goals as goal

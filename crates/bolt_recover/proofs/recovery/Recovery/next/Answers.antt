@@ -1,15 +1,7 @@
 use Rattle.std.proofs.Common.{arith, ◌≡◌, ◌↔◌, ◌∙◌, ◌∷◌, Bool, true, List, ap, subst, sym, ℕ}
-use Rattle.std.proofs.Math.Logic.{∥∥₁_elim, ∥∥₁_map}
-use Rattle.std.proofs.Props.{props}
-use Rattle.bolt_format.specs.ElementPlaces.{leaf_view}
-use Rattle.bolt_check.proofs.ClaimLemmas.{visited_fits}
-use Rattle.bolt_tree.specs.Entries.{Item}
-use Rattle.bolt_tree.specs.Listing.{Member}
-use Rattle.bolt_recover.specs.KeptPages.{IsKeptPage}
-use Rattle.bolt_recover.specs.Recovered.{IsRecovered}
-use Rattle.bolt_recover.specs.Refusals.{KeepsRoot}
-use Rattle.bolt_recover.specs.Private.Frames.{left_by, state_of}
-use Rattle.bolt_recover.specs.Recoveries.{recovery_begun, recovery_claimed, recovery_file, recovery_left, recovery_losses, recovery_meta, recovery_path, recovery_visited, recovery_work}
+use Rattle.bolt_recover.proofs.Words.{IsKeptPage, IsRecovered, Item, KeepsRoot, leaf_view, left_by, Member, props, recovery_begun, recovery_claimed}
+use Rattle.bolt_recover.proofs.Words.{recovery_file, recovery_left, recovery_losses, recovery_meta, recovery_path, recovery_visited, recovery_work, state_of}
+use Rattle.bolt_recover.proofs.Words.{visited_fits, ∥∥₁_elim, ∥∥₁_map}
 use Rattle.bolt_recover.proofs.Recovering.{claimed_all, claimed_at_end, claimed_ended, file_advanced, has_open_prop, left_next, left_none, left_same, on_advanced, reported_ended, visited_ended}
 use Rattle.bolt_recover.proofs.StepLemmas.{when_err}
 use Rattle.bolt_recover.proofs.recovery.Recovery.next.Goals as goal

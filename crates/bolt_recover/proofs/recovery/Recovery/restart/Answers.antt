@@ -1,11 +1,7 @@
 -- The root page was kept before.
 use Rattle.std.proofs.Common.{◌∙◌, List, subst, sym, ℕ}
-use Rattle.std.proofs.Math.Logic.{∥∥₁_elim, ∥∥₁_map, ∥∥₁_prop}
-use Rattle.bolt_check.specs.Claims.{claims_file, claims_visited}
-use Rattle.bolt_format.specs.declared.meta.Meta.{Meta}
-use Rattle.bolt_recover.specs.Refusals.{KeepsRoot}
-use Rattle.bolt_recover.specs.Private.Frames.{IsAllLeft, IsOn, state_of}
-use Rattle.bolt_recover.specs.Recoveries.{recovery_file, recovery_left, recovery_meta}
+use Rattle.bolt_recover.proofs.Words.{claims_file, claims_visited, IsAllLeft, IsOn, KeepsRoot, Meta, recovery_file, recovery_left, recovery_meta, state_of}
+use Rattle.bolt_recover.proofs.Words.{∥∥₁_elim, ∥∥₁_map, ∥∥₁_prop}
 use Rattle.bolt_recover.proofs.Recovering.{begun, left_all}
 use Rattle.bolt_recover.proofs.recovery.Recovery.restart.Goals as goal
 

@@ -1,12 +1,6 @@
 use Rattle.std.proofs.Common.{arith, ◌∙◌, List, [], ◌∷◌, ◌++◌, None, Some, map, ap, refl, sym}
-use Rattle.bolt_check.specs.Claims.{claims_file, claims_meta, claims_visited, is_claimed}
-use Rattle.bolt_check.specs.declared.fault.CheckFault.TheVariants.{Structure}
-use Rattle.bolt_check.proofs.Visited.{passed_on}
-use Rattle.bolt_tree.specs.Paths.{path_of}
-use Rattle.bolt_recover.specs.Private.Frames.{IsAllLeft}
-use Rattle.bolt_recover.specs.Refusals.{IsRefusedRoot}
-use Rattle.bolt_recover.specs.ShownLosses.{loss_view}
-use Rattle.bolt_recover.specs.declared.content.OpenPage.{OpenPage}
+use Rattle.bolt_recover.proofs.Words.{claims_file, claims_meta, claims_visited, is_claimed, IsAllLeft, IsRefusedRoot, loss_view, OpenPage, passed_on, path_of}
+use Rattle.bolt_recover.proofs.Words.{Structure}
 use Rattle.bolt_recover.proofs.StepLemmas.{as_state, begins, of_metas, root_gives}
 use Rattle.bolt_recover.proofs.steps.Steps.new.Goals as goal
 

@@ -1,18 +1,7 @@
 -- The root page was kept before, so the tests find nothing there again.
 use Rattle.std.proofs.Common.{arith, ◌∙◌, List, [], ◌∷◌, ◌++◌, None, Some, ℕ, map, ap, sym, refl, subst₂}
-use Rattle.std.proofs.Math.Logic.{∥∥₁_elim}
-use Rattle.std.proofs.Props.{props}
-use Rattle.bolt_check.specs.Claims.{claims_file, claims_meta, claims_visited, is_claimed}
-use Rattle.bolt_check.specs.Findings.{IsMetaPage}
-use Rattle.bolt_check.specs.Nodes.{node_at}
-use Rattle.bolt_check.specs.Ways.{At_page, root_spot}
-use Rattle.bolt_check.proofs.Judging.{passes_silent}
-use Rattle.bolt_format.specs.declared.meta.Meta.{Meta}
-use Rattle.bolt_tree.specs.Paths.{path_of}
-use Rattle.bolt_recover.specs.Private.Frames.{IsAllLeft, State}
-use Rattle.bolt_recover.specs.Refusals.{KeepsRoot}
-use Rattle.bolt_recover.specs.ShownLosses.{loss_view}
-use Rattle.bolt_recover.specs.declared.content.OpenPage.{OpenPage}
+use Rattle.bolt_recover.proofs.Words.{At_page, claims_file, claims_meta, claims_visited, is_claimed, IsAllLeft, IsMetaPage, KeepsRoot, loss_view, Meta, node_at}
+use Rattle.bolt_recover.proofs.Words.{OpenPage, passes_silent, path_of, props, root_spot, State, ∥∥₁_elim}
 use Rattle.bolt_recover.proofs.StepLemmas.{as_state, begins, of_metas, root_gives}
 use Rattle.bolt_recover.proofs.steps.Steps.restart.Goals as goal
 
