@@ -1,18 +1,19 @@
 -- The found pages of a whole file.
 use Rattle.std.proofs.Common.{◌≡◌, ◌∙◌, ◌↔◌, ◌⊎◌, ◌+◌, inl, inr, ℕ, Bool, true, arith, List, [], ◌∷◌, length, map, Option, Some, None, Result, Ok, Err, IfOk, refl, sym, ap, subst}
-use Rattle.bolt_recover.proofs.Words.{AreFound, AreKeptPages, AreLosses, At_page, cases_Bool, claims_meta, claims_of, Contains, contains_cases, contains_head}
-use Rattle.bolt_recover.proofs.Words.{contains_none, contains_tail, false≢true, Finding, FoundBelow, Gives, Has, IsClaimedIn, IsFoundPage, IsKeptPage}
-use Rattle.bolt_recover.proofs.Words.{IsListedFree, IsLoneLeaf, IsMetaPage, IsOpen, IsRecovered, IsRecoveredMember, IsSurvey, Item, kept, LosesRoot, losses_of}
-use Rattle.bolt_recover.proofs.Words.{LossView, lost, Member, Meta, node_at, node_below, Path, props, reached, Recovery, recovery_meta, root_spot, SpanAt, Spot}
-use Rattle.bolt_recover.proofs.Words.{tests_same, Visit, ∥∥₁_elim}
+use Rattle.bolt_recover.proofs.Words.{AreFound, AreKeptPages, AreLosses, At_page, claims_meta, claims_of, Contains, contains_cases, contains_head}
+use Rattle.bolt_recover.proofs.Words.{contains_none, contains_tail, done, Finding, FoundBelow, further, Has, IsFoundPage}
+use Rattle.bolt_recover.proofs.Words.{IsKeptPage, IsListedFree, IsLoneLeaf, IsMetaPage, IsRecovered, IsSurvey, kept, LosesRoot}
+use Rattle.bolt_recover.proofs.Words.{losses_of, LossView, lost, Member, Meta, meta_pages, nat_tests, node_at, node_below, props, Recovery}
+use Rattle.bolt_recover.proofs.Words.{recovery_meta, root_place, root_spot, RunsAll, SpanAt, Visit, visit, ∥∥₁_elim}
 use Rattle.bolt_recover.proofs.Existing.{has_survey}
 use Rattle.bolt_recover.proofs.FoundLemmas.{found_one, found_same, passed}
-use Rattle.bolt_recover.proofs.Lowest.{lowest}
+use Rattle.bolt_recover.proofs.Deciding.{Decided, decided_as, decided_by, either_decided, lowest}
+use Rattle.bolt_recover.proofs.RunRecovers.{recovers}
 use Rattle.bolt_recover.proofs.LostWays.{no_losses, nothing_lost}
 use Rattle.bolt_recover.proofs.OneRecovered.{one_recovered}
 use Rattle.bolt_recover.proofs.Recovering.{claimed_all, claimed_at_end}
-use Rattle.bolt_recover.proofs.RunSurveys.{claims_in}
-use Rattle.bolt_recover.proofs.SurveyIsOne.{same_survey}
+use Rattle.bolt_recover.proofs.RunSurveys.{claims_in, surveyed}
+use Rattle.bolt_recover.proofs.SurveyIsOne.{gives_same, same_survey}
 
 pub map_none : {A B : Type 0} (f : A → B) (xs : List A) → length xs ≡ 0 → map f xs ≡ []
 map_none f [] e = refl
@@ -102,47 +103,19 @@ module _ (file : List ℕ) (meta : Meta) where
       ]
 
 module _ (file : List ℕ) (meta : Meta) where
-  -- whether a page is kept or found can be told
-  kept_or_not : (survey : List Visit) → IsSurvey file meta survey → (k : ℕ) → IsKeptPage file meta survey k ⊎ (IsKeptPage file meta survey k → ⊥)
-  kept_or_not survey is k =
-      let which = claimed_all file meta 0 survey is k in
-      elim (cases_Bool (claimed_at_end file meta 0 k)) [
-        | inl yes_ ↦ inl (which.0 yes_)
-        | inr none ↦ inr (λ kept. false≢true (sym none ∙ which.1 kept))
-      ]
-
-  span_or_not : (m k : ℕ) → SpanAt (node_at file meta) (At_page (root_spot m)) k ⊎ (SpanAt (node_at file meta) (At_page (root_spot m)) k → ⊥)
-  span_or_not m k =
-      let nodes = node_at file meta in
-      elim (cases_Bool (claims_of nodes (At_page (root_spot m)) k)) [
-        | inl is ↦ inl ((claims_in nodes (At_page (root_spot m)) k).0 is)
-        | inr none ↦ inr (λ span. false≢true (sym none ∙ (claims_in nodes (At_page (root_spot m)) k).1 span))
-      ]
-
-  found_or_not : (found : List ℕ) (k : ℕ) → IsFoundPage file meta found k ⊎ (IsFoundPage file meta found k → ⊥)
+  found_or_not : (found : List ℕ) (k : ℕ) → Decided (IsFoundPage file meta found k)
   found_or_not [] k = inr (λ (m, (has, span)). contains_none m has)
-  found_or_not (m ∷ found) k =
-      elim (span_or_not m k) [
-        | inl span ↦ inl (m, (contains_head m found, span))
-        | inr apart ↦ elim (found_or_not found k) [
-          | inl (o, (has, span)) ↦ inl (o, (contains_tail m o found has, span))
-          | inr none ↦ inr (λ (o, (has, span)). elim (contains_cases m o found has) [
-            | inl same ↦ apart (subst (λ (y : ℕ). SpanAt (node_at file meta) (At_page (root_spot y)) k) (sym same) span)
-            | inr later ↦ none (o, (later, span))
-          ])
-        ]
-      ]
+  found_or_not (m ∷ found) k = decided_as
+      (λ either. elim either [ inl span ↦ (m, (contains_head m found, span)) | inr (o, (has, span)) ↦ (o, (contains_tail m o found has, span)) ])
+      (λ (o, (has, span)). elim (contains_cases m o found has) [
+        | inl same ↦ inl (subst (λ (y : ℕ). SpanAt (node_at file meta) (At_page (root_spot y)) k) (sym same) span)
+        | inr later ↦ inr (o, (later, span))
+      ])
+      (either_decided (decided_by (claims_of (node_at file meta) (At_page (root_spot m)) k) (claims_in (node_at file meta) (At_page (root_spot m)) k)) (found_or_not found k))
 
-  pub either_or_not : (found : List ℕ) (survey : List Visit) → IsSurvey file meta survey → (k : ℕ)
-      → (IsKeptPage file meta survey k ⊎ IsFoundPage file meta found k) ⊎ (IsKeptPage file meta survey k ⊎ IsFoundPage file meta found k → ⊥)
-  either_or_not found survey is k =
-      elim (kept_or_not survey is k) [
-        | inl kept_ ↦ inl (inl kept_)
-        | inr not_kept ↦ elim (found_or_not found k) [
-          | inl found_ ↦ inl (inr found_)
-          | inr not_found ↦ inr (λ either. elim either [ inl kept_ ↦ not_kept kept_ | inr found_ ↦ not_found found_ ])
-        ]
-      ]
+  -- whether a page is kept or found can be told
+  pub either_or_not : (found : List ℕ) (survey : List Visit) → IsSurvey file meta survey → (k : ℕ) → Decided (IsKeptPage file meta survey k ⊎ IsFoundPage file meta found k)
+  either_or_not found survey is k = either_decided (decided_by (claimed_at_end file meta 0 k) (claimed_all file meta 0 survey is k)) (found_or_not found k)
 
   -- an intact leaf that isn't listed as free shares a page
   pub shares : (found : List ℕ) (survey : List Visit) (way : List ℕ) (x : Finding) (n : ℕ) → AreFound file meta found → IsSurvey file meta survey → Has survey (lost way x)
@@ -159,62 +132,29 @@ module _ (file : List ℕ) (meta : Meta) where
             (node_below file meta n lone.passes.node lone.passes.page) lone unlisted (λ k span one. apart k span (inl one)) (λ k span one. apart k span (inr one)))
       ]
 
--- a file whose root page is lost
+-- a file whose root page is lost: that page alone is visited
 module _ (file : List ℕ) (meta : Meta) (x : Finding) (loses : LosesRoot file meta x) where
   abbrev alone : List Visit
   alone = lost [] x ∷ []
+
+  root_run : RunsAll file meta further [] (record { way = []; place = root_place file meta; found = Some x } ∷ []) []
+  root_run =
+      visit (gives_same (node_at file meta) IsMetaPage (λ n. meta_pages n ≡ true) (At_page (root_spot meta.root)) (Some x) (λ n low. grind (arith, nat_tests)) (λ n is. grind (arith, nat_tests)) loses) done
 
   not_kept : (way : List ℕ) → Has alone (kept way) → ⊥
   not_kept way (inl same) = let f : None ≡ Some x = ap (λ (v : Visit). v.found) same in cc
   not_kept way (inr has) = has
 
-  only_metas : (way : List ℕ) (n : ℕ) → IsClaimedIn (node_at file meta) (reached (node_at file meta) meta.root) alone way n → IsMetaPage n
-  only_metas way n (inl low) = low
-  only_metas way n (inr (v, (has, before, span))) = absurd (not_kept v has)
-
-  only_root : (v : Visit) → v ≡ lost [] x → IsOpen alone v.way
-      × ((spot : Spot) × (reached (node_at file meta) meta.root v.way ≡ Some spot) × Gives (node_at file meta) (IsClaimedIn (node_at file meta) (reached (node_at file meta) meta.root) alone v.way) spot v.found)
-  only_root v same =
-      subst (λ (u : Visit). IsOpen alone u.way
-      × ((spot : Spot) × (reached (node_at file meta) meta.root u.way ≡ Some spot) × Gives (node_at file meta) (IsClaimedIn (node_at file meta) (reached (node_at file meta) meta.root) alone u.way) spot u.found))
-      (sym same) (
-        inl refl,
-        (
-          At_page (root_spot meta.root),
-          refl,
-          tests_same (node_at file meta) IsMetaPage (IsClaimedIn (node_at file meta) (reached (node_at file meta) meta.root) alone []) (At_page (root_spot meta.root)) x (λ n low. inl low) (only_metas []) loses,
-        ),
-      )
-
-  root_survey : IsSurvey file meta alone
-  root_survey = record {
-    rises = (tt, tt);
-    only = λ v has. elim has [ inl same ↦ only_root v same | inr later ↦ absurd later ];
-    all = λ way spot opened leads. elim opened [
-      | inl none ↦ (Some x, inl (λ i. record { way = none i; found = Some x }))
-      | inr (parent, i, is, has) ↦ absurd (not_kept parent has)
-    ];
-  }
-
   pub found_rootless : (taken : ℕ → Bool) (found : List ℕ) → ((n : ℕ) → (taken n ≡ true) ↔ IsMetaPage n)
       → FoundBelow file meta (λ n. taken n ≡ true) meta.high_water found → AreFound file meta found
   found_rootless taken found metas below = record {
     survey = alone;
-    surveys = root_survey;
+    surveys = surveyed file meta _ [] root_run;
     none = λ all. let f : Some x ≡ None = all (lost [] x) (inl refl) in absurd (cc);
     some = λ way y has.
         found_same file meta (λ n. taken n ≡ true) (IsKeptPage file meta alone) (λ k was. inl ((metas k).0 was))
         (λ k is. elim is [ inl low ↦ (metas k).1 low | inr (v, (there, span)) ↦ absurd (not_kept v there) ]) meta.high_water found below;
   }
 
-  none_recovered : (path : Path) (item : Item) → IsRecoveredMember file meta alone path item → ⊥
-  none_recovered path item is = not_kept is.way is.keeps
-
   pub nothing_recovered : (listing : List Member) → IsRecovered file meta listing → listing ≡ []
-  nothing_recovered listing is =
-      one_recovered file meta listing [] is (record {
-        survey = alone;
-        surveys = root_survey;
-        rises = tt;
-        exact = λ path item. (λ has. absurd (contains_none (path, item) has), λ member. absurd (none_recovered path item member));
-      })
+  nothing_recovered listing is = one_recovered file meta listing [] is (recovers file meta _ [] root_run)

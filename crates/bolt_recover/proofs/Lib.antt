@@ -1,5 +1,6 @@
 mod ElementLists
 mod ContentLemmas
+mod Deciding
 pub mod Existing
 mod FirstLoss
 mod FoundAll
@@ -10,10 +11,10 @@ mod JoinSteps
 pub mod JoinedContents
 mod JoinedLemmas
 mod JoinedOrder
+mod KeptWays
 mod Leading
 pub mod LeftMembers
 mod LostWays
-mod Lowest
 mod NoLeaves
 mod NothingLost
 mod OneRecovered

@@ -1,6 +1,6 @@
 -- Each file has a run: the tests are decided at each place, and each page that is kept takes a number away from those that aren't claimed.
-use Rattle.std.proofs.Common.{◌≡◌, ◌≢◌, ◌∙◌, ◌⊎◌, inl, inr, ℕ, zero, suc, ◌<◌, ◌≤◌, Bool, true, false, ◌||◌, List, [], ◌∷◌, ◌++◌, length, nat_lt, Option, Some, None, Result, Ok, Err, if◌then◌else◌, refl, sym, ap, subst, arith}
-use Rattle.bolt_recover.proofs.Words.{At_inline, At_page, cases_Bool, claimed_after, done, early, early_finding, false_from_ne_true, false≢true, Finding}
+use Rattle.std.proofs.Common.{◌≡◌, ◌≢◌, ◌∙◌, inl, inr, ℕ, zero, suc, ◌<◌, ◌≤◌, Bool, true, false, ◌||◌, List, [], ◌∷◌, ◌++◌, length, nat_lt, Option, Some, None, Result, Ok, Err, if◌then◌else◌, refl, sym, ap, subst, arith}
+use Rattle.bolt_recover.proofs.Words.{At_inline, At_page, claimed_after, done, early, early_finding, false_from_ne_true, false≢true, Finding}
 use Rattle.bolt_recover.proofs.Words.{finding, give, Gives, in_span, inline_finding, IsInSpan, Key, late, Member, Meta, meta_pages, nat_tests, Node, node_at}
 use Rattle.bolt_recover.proofs.Words.{node_below, node_finding, Nodes, none-some, open_finding, or_parts, PageSpot, Passes, Place, place_tasks, root_place}
 use Rattle.bolt_recover.proofs.Words.{Runs, RunsAll, Spot, step_from, Task, tasks_after, To_give, To_visit, twice, visit, Visited}
@@ -8,7 +8,7 @@ use Rattle.bolt_check.specs.Subtrees.{Has}
 use Rattle.bolt_check.specs.declared.finding.TheConstants.Finding.{TWICE}
 use Rattle.bolt_check.proofs.TourExists.{has_number, numbers, shorter, still, without}
 use Rattle.bolt_tree.proofs.ListLemmas.{Has as Among}
-use Rattle.bolt_recover.proofs.Lowest.{lowest}
+use Rattle.bolt_recover.proofs.Deciding.{decided_by, lowest}
 use Rattle.bolt_recover.proofs.PlaceFacts.{step_spot}
 use Rattle.bolt_recover.proofs.TaskLists.{after_at}
 
@@ -22,22 +22,19 @@ module _ (nodes : Nodes) (claimed : ℕ → Bool) where
   abbrev Marked : ℕ → Type 0
   Marked n = claimed n ≡ true
 
-  marked_or_not : (n : ℕ) → Marked n ⊎ (Marked n → ⊥)
-  marked_or_not n = elim (cases_Bool (claimed n)) [ inl is ↦ inl is | inr none ↦ inr (λ is. false≢true (sym none ∙ is)) ]
-
-  abbrev Decided : Spot → Type 0
-  Decided s = (found : Option Finding) × Gives nodes Marked s found
+  abbrev Found : Spot → Type 0
+  Found s = (found : Option Finding) × Gives nodes Marked s found
 
   late_decided : (s : PageSpot) (node : Node) (found : Option Finding) → node_finding node s ≡ found → early_finding nodes s ≡ None → nodes s.number ≡ Ok node
-      → ((n : ℕ) → IsInSpan node s.number n → Marked n → ⊥) → Decided (At_page s)
+      → ((n : ℕ) → IsInSpan node s.number n → Marked n → ⊥) → Found (At_page s)
   late_decided s node None content is page free = (None, record { node = node; early = is; page = page; free = free; content = content })
   late_decided s node (Some x) content is page free = (Some x, late node is page free content)
 
-  page_decided : (s : PageSpot) (found : Option Finding) → early_finding nodes s ≡ found → Decided (At_page s)
+  page_decided : (s : PageSpot) (found : Option Finding) → early_finding nodes s ≡ found → Found (At_page s)
   page_decided s (Some x) is = (Some x, early is)
   page_decided s None is =
       let (node, page) = early_ok (nat_lt 64 s.depth) _ (nodes s.number) s.number is in
-      elim (lowest Marked marked_or_not s.number (suc node.overflow)) [
+      elim (lowest Marked (λ n. decided_by (claimed n) (λ h. h, λ h. h)) s.number (suc node.overflow)) [
         | inl (n, low, high, marked, first) ↦ (
           Some (finding TWICE n),
           twice node is page
@@ -46,12 +43,12 @@ module _ (nodes : Nodes) (claimed : ℕ → Bool) where
         | inr none ↦ late_decided s node (node_finding node s) refl is page (λ n inside h. none n inside.0 (let last = inside.1 in omega (arith, last)) h)
       ]
 
-  inline_decided : (host : ℕ) (keys : List Key) (found : Option Finding) → inline_finding host keys ≡ found → Decided (At_inline host keys)
+  inline_decided : (host : ℕ) (keys : List Key) (found : Option Finding) → inline_finding host keys ≡ found → Found (At_inline host keys)
   inline_decided host keys None is = (None, is)
   inline_decided host keys (Some x) is = (Some x, is)
 
   -- the tests find something, or nothing
-  pub decided : (s : Spot) → Decided s
+  pub decided : (s : Spot) → Found s
   decided (At_page s) = page_decided s (early_finding nodes s) refl
   decided (At_inline host keys) = inline_decided host keys (inline_finding host keys) refl
 

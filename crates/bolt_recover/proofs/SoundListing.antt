@@ -1,37 +1,18 @@
 -- If nothing is lost, each way is kept, and what a path holds is an element at a way.
 use Rattle.std.proofs.Common.{◌≡◌, ◌∙◌, ◌⊎◌, inl, inr, ℕ, suc, Bool, true, false, IsTrue, eqb, eqb-true, List, [], ◌∷◌, ◌++◌, Option, Some, None, Result, Ok, Err, slice_get, refl, sym, ap, subst, subst₂, append_assoc}
-use Rattle.bolt_recover.proofs.Words.{append-nil, At_inline, At_page, bucket_spots, child_in, child_of, child_spot, Contains, Entry, Finding, follow}
-use Rattle.bolt_recover.proofs.Words.{follow_append, follow_some, Has, HasSoundTrees, head_root, Holds, inline_elements, Inline_page, IsEntry, IsListing}
+use Rattle.bolt_recover.proofs.Words.{At_inline, At_page, bucket_spots, child_in, child_of, child_spot, Contains, Entry}
+use Rattle.bolt_recover.proofs.Words.{Has, HasSoundTrees, head_root, Holds, inline_elements, Inline_page, IsEntry, IsListing}
 use Rattle.bolt_recover.proofs.Words.{IsRecovered, IsRecoveredMember, Item, item_of, kept, Key, leads, leads_none, leaf_entry, leaf_node, LeafElement}
 use Rattle.bolt_recover.proofs.Words.{leaves_of, Member, Meta, Node, node_at, Nodes, option_map, page_at, PageSpot, Path, Place, place_at, place_on, reached}
 use Rattle.bolt_recover.proofs.Words.{Root_page, root_place, root_spot, same_Some, shape_passes, ShowsEntry, slice_get-map, Spot, Start, start_of, step_at}
-use Rattle.bolt_recover.proofs.Words.{step_entry, step_from, step_place, Surveys, upper_from, Visit}
+use Rattle.bolt_recover.proofs.Words.{step_entry, step_from, step_place, upper_from, Visit}
 use Rattle.bolt_tree.proofs.BucketWays.{flat}
 use Rattle.bolt_recover.proofs.ElementLists.{slice_of}
 use Rattle.bolt_recover.proofs.HeldMembers.{held, shows_entry, well_at}
 use Rattle.bolt_recover.proofs.PlaceFacts.{place_further, spot_is}
 use Rattle.bolt_recover.proofs.PlaceKeys.{HasForm, IsTidyAt, page_form}
+use Rattle.bolt_recover.proofs.NothingLost.{all_kept}
 use Rattle.bolt_recover.proofs.SoundSurveys.{none_lost}
-
-module _ (nodes : Nodes) (root : Option Spot) (survey : List Visit) (surveys : Surveys nodes (follow nodes root) survey) (none : (v : Visit) → Has survey v → v.found ≡ None) where
-  keeps_one : (way : List ℕ) (found : Option Finding) → Has survey (record { way = way; found = found }) → Has survey (kept way)
-  keeps_one way found has = subst (λ (f : Option Finding). Has survey (record { way = way; found = f })) (none (record { way = way; found = found }) has) has
-
-  keeps_on : (front rest : List ℕ) (s : Spot) → Has survey (kept front) → follow nodes root (front ++ rest) ≡ Some s → Has survey (kept (front ++ rest))
-  keeps_on front [] s has led = subst (λ (w : List ℕ). Has survey (kept w)) (sym (append-nil front)) has
-  keeps_on front (i ∷ rest) s has led =
-      let same : (front ++ i ∷ []) ++ rest ≡ front ++ (i ∷ rest) = append_assoc front (i ∷ []) rest in
-      let led2 : follow nodes root ((front ++ i ∷ []) ++ rest) ≡ Some s = subst (λ (w : List ℕ). follow nodes root w ≡ Some s) (sym same) led in
-      let at = follow_some nodes (follow nodes root (front ++ i ∷ [])) rest s (sym (follow_append nodes root (front ++ i ∷ []) rest) ∙ led2) in
-      let p = surveys.all (front ++ i ∷ []) at.0 (inr (front, i, refl, has)) at.1 in
-      subst (λ (w : List ℕ). Has survey (kept w)) same (keeps_on (front ++ i ∷ []) rest s (keeps_one (front ++ i ∷ []) p.0 p.1) led2)
-
-  -- each way that leads somewhere is kept
-  pub all_kept : (way : List ℕ) (s : Spot) → follow nodes root way ≡ Some s → Has survey (kept way)
-  all_kept way s led =
-      let at = follow_some nodes root way s led in
-      let p = surveys.all [] at.0 (inl refl) at.1 in
-      keeps_on [] way s (keeps_one [] p.0 p.1) led
 
 module _ (file : List ℕ) (meta : Meta) where
   abbrev nodes : Nodes
@@ -219,7 +200,7 @@ pub sound_listing : (file : List ℕ) (meta : Meta) (listing : List Member) → 
 sound_listing file meta listing trees recovered =
     let nodes = node_at file meta in
     let none = none_lost nodes (reached nodes meta.root) recovered.survey (shape_passes nodes meta.root trees) recovered.surveys in
-    let all = all_kept nodes (Some (At_page (root_spot meta.root))) recovered.survey recovered.surveys none in
+    let all = all_kept file meta recovered.survey recovered.surveys none in
     record {
       rises = recovered.rises;
       exact = λ path item. (

@@ -33,6 +33,7 @@ pub fn survey_is_one()
 {}
 
 /// Each file has a survey.
+#[tactic(auto, using(crate::proofs::Existing::has_survey))]
 pub fn each_file_has_a_survey()
     ensures { (file : List ℕ) (meta : Meta) → (survey : List Visit) × IsSurvey file meta survey }
 {}
@@ -43,6 +44,7 @@ pub fn recovered_listing_is_one()
 {}
 
 /// Each file has a recovered listing.
+#[tactic(auto, using(crate::proofs::Existing::has_recovered))]
 pub fn each_file_has_a_recovered_listing()
     ensures { (file : List ℕ) (meta : Meta) → (listing : List Member) × IsRecovered file meta listing }
 {}
@@ -118,6 +120,7 @@ pub fn found_pages_are_one()
 {}
 
 /// Each file has found pages: one list, which may be empty.
+#[tactic(auto, using(crate::proofs::FoundExists::has_found))]
 pub fn each_file_has_found_pages()
     ensures { (file : List ℕ) (meta : Meta) → (found : List ℕ) × AreFound file meta found }
 {}
@@ -152,6 +155,7 @@ pub fn joined_listing_is_one()
 {}
 
 /// Each file has a joined listing.
+#[tactic(auto, using(crate::proofs::JoinedLemmas::has_joined))]
 pub fn each_file_has_a_joined_listing()
     ensures { (file : List ℕ) (meta : Meta) → (listing : List Member) × IsJoined file meta listing }
 {}
