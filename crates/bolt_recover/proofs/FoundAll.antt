@@ -1,10 +1,10 @@
 -- The found pages of a whole file.
 use Rattle.std.proofs.Common.{◌≡◌, ◌∙◌, ◌↔◌, ◌⊎◌, ◌+◌, inl, inr, ℕ, Bool, true, arith, List, [], ◌∷◌, length, map, Option, Some, None, Result, Ok, Err, IfOk, refl, sym, ap, subst}
 use Rattle.bolt_recover.proofs.Words.{AreFound, AreKeptPages, AreLosses, At_page, claims_meta, claims_of, Contains, contains_cases, contains_head}
-use Rattle.bolt_recover.proofs.Words.{contains_none, contains_tail, done, Finding, FoundBelow, further, Has, IsFoundPage}
-use Rattle.bolt_recover.proofs.Words.{IsKeptPage, IsListedFree, IsLoneLeaf, IsMetaPage, IsRecovered, IsSurvey, kept, LosesRoot}
-use Rattle.bolt_recover.proofs.Words.{losses_of, LossView, lost, Member, Meta, meta_pages, nat_tests, node_at, node_below, props, Recovery}
-use Rattle.bolt_recover.proofs.Words.{recovery_meta, root_place, root_spot, RunsAll, SpanAt, Visit, visit, ∥∥₁_elim}
+use Rattle.bolt_recover.proofs.Words.{contains_none, contains_tail, done, Finding, FoundBelow, further, Has, IsFoundPage, IsKeptPage, IsListedFree, IsLoneLeaf}
+use Rattle.bolt_recover.proofs.Words.{IsMetaPage, IsRecovered, IsSurvey, kept, LosesNothing, LosesRoot, losses_of, LossView, lost, Member, Meta, meta_pages}
+use Rattle.bolt_recover.proofs.Words.{nat_tests, node_at, node_below, props, Recovery, recovery_meta, root_place, root_spot, RunsAll, SpanAt, Visit, visit}
+use Rattle.bolt_recover.proofs.Words.{∥∥₁_elim}
 use Rattle.bolt_recover.proofs.Existing.{has_survey}
 use Rattle.bolt_recover.proofs.FoundLemmas.{found_one, found_same, passed}
 use Rattle.bolt_recover.proofs.Deciding.{Decided, decided_as, decided_by, either_decided, lowest}
@@ -61,13 +61,13 @@ module _ (file : List ℕ) (meta : Meta) (reported : List LossView) (all : (loss
       }
 
 -- a way of a survey is lost, or none is
-pub lost_or_none : (survey : List Visit) → ((v : Visit) → Has survey v → v.found ≡ None) ⊎ ((way : List ℕ) × (x : Finding) × Has survey (lost way x))
+pub lost_or_none : (survey : List Visit) → LosesNothing survey ⊎ ((way : List ℕ) × (x : Finding) × Has survey (lost way x))
 lost_or_none [] = inl (λ v has. absurd has)
 lost_or_none (v ∷ survey) = first v survey v.found refl (lost_or_none survey)
   where
     first : (v : Visit) (survey : List Visit) (f : Option Finding) → v.found ≡ f
-        → ((u : Visit) → Has survey u → u.found ≡ None) ⊎ ((way : List ℕ) × (x : Finding) × Has survey (lost way x))
-        → ((u : Visit) → Has (v ∷ survey) u → u.found ≡ None) ⊎ ((way : List ℕ) × (x : Finding) × Has (v ∷ survey) (lost way x))
+        → LosesNothing survey ⊎ ((way : List ℕ) × (x : Finding) × Has survey (lost way x))
+        → LosesNothing (v ∷ survey) ⊎ ((way : List ℕ) × (x : Finding) × Has (v ∷ survey) (lost way x))
     first v survey (Some x) e rest = inr (v.way, x, inl (λ i. record { way = v.way; found = sym e i }))
     first v survey None e (inr (way, x, has)) = inr (way, x, inr has)
     first v survey None e (inl none) = inl (λ u has. elim has [ inl same ↦ ap (λ (z : Visit). z.found) same ∙ e | inr later ↦ none u later ])
@@ -84,13 +84,13 @@ module _ (file : List ℕ) (meta : Meta) where
   pub one_found : (a b : List ℕ) → AreFound file meta a → AreFound file meta b → a ≡ b
   one_found a b h k =
       elim (lost_or_none h.survey) [
-        | inl none ↦ h.none none ∙ sym (k.none (subst (λ (s : List Visit). (v : Visit) → Has s v → v.found ≡ None) (same_survey file meta h.survey k.survey h.surveys k.surveys) none))
+        | inl none ↦ h.none none ∙ sym (k.none (subst LosesNothing (same_survey file meta h.survey k.survey h.surveys k.surveys) none))
         | inr (way, x, has) ↦ found_one file meta (IsKeptPage file meta h.survey) meta.high_water a b (h.some way x has) (below_of b h.survey way x k h.surveys has)
       ]
 
   pub nothing_found : (found : List ℕ) → AreLosses file meta [] → AreFound file meta found → found ≡ []
   nothing_found found (survey, is, none) are =
-      are.none (subst (λ (s : List Visit). (v : Visit) → Has s v → v.found ≡ None) (same_survey file meta survey are.survey is are.surveys) (nothing_lost file meta survey is (sym none)))
+      are.none (subst LosesNothing (same_survey file meta survey are.survey is are.surveys) (nothing_lost file meta survey is (sym none)))
 
   -- if a page is found, a way is lost
   pub found_in : (found : List ℕ) (survey : List Visit) (n : ℕ) → AreFound file meta found → IsSurvey file meta survey → Contains found n
@@ -98,7 +98,7 @@ module _ (file : List ℕ) (meta : Meta) where
   found_in found survey n are is has =
       elim (lost_or_none survey) [
         | inl none ↦ absurd (contains_none n (subst (λ (xs : List ℕ). Contains xs n)
-            (are.none (subst (λ (s : List Visit). (v : Visit) → Has s v → v.found ≡ None) (same_survey file meta survey are.survey is are.surveys) none)) has))
+            (are.none (subst LosesNothing (same_survey file meta survey are.survey is are.surveys) none)) has))
         | inr (way, x, gone) ↦ below_of found survey way x are is gone
       ]
 

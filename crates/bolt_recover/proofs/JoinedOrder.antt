@@ -2,8 +2,9 @@
 use Rattle.std.proofs.Common.{◌≡◌, ◌≢◌, ◌∙◌, inl, inr, ℕ, zero, suc, ◌<◌, ◌+◌, ◌*◌, ◌^◌, true, false, List, [], ◌∷◌, ◌++◌, Option, Some, None, length, map, refl, sym, ap, subst, arith}
 use Rattle.bolt_recover.proofs.Words.{AreFound, Contains, Contains-push_cases, contains_cases, contains_head, contains_none, contains_tail, Entry, finding_of}
 use Rattle.bolt_recover.proofs.Words.{found_tree, FoundBelow, inside_of, IsJoined, IsKeptPage, IsLoneLeaf, IsRecovered, joined_listing, Key, key_lt, key_rise}
-use Rattle.bolt_recover.proofs.Words.{keys_of, keys_order_fault, KeysRise, LacksBucketKey, leaf_entry, LeafElement, leaves_of, lt_of_mul-lt-mul_right, Member}
-use Rattle.bolt_recover.proofs.Words.{member_cmp, Meta, Node, node_at, node_finding, node_within, page_at, page_key, Rises, root_spot, tree_with}
+use Rattle.bolt_recover.proofs.Words.{keys_of, keys_order_fault, KeysRise, leaf_entry, LeafElement, leaves_of, LeavesRoom}
+use Rattle.bolt_recover.proofs.Words.{lt_of_mul-lt-mul_right, Member, member_cmp, Meta, Node, node_at, node_finding, node_within, page_at, page_key, Rises}
+use Rattle.bolt_recover.proofs.Words.{root_spot, tree_with}
 use Rattle.bolt_recover.proofs.FoundAll.{lost_or_none}
 use Rattle.bolt_recover.proofs.FoundLemmas.{found_here}
 use Rattle.bolt_recover.proofs.PlaceKeys.{HasForm, page_form}
@@ -103,15 +104,12 @@ module _ (file : List ℕ) (meta : Meta) where
         (number_small kept n small here.leaf, subst (λ (es : List LeafElement). Ordered (tree_with inside_of es)) (sym is) (leaf_ordered kept n here.leaf)))
   ]
 
-  abbrev LeavesRoom : Type 0
-  LeavesRoom = (recovered : List Member) (found : List ℕ) → IsRecovered file meta recovered → AreFound file meta found → found ≢ [] → LacksBucketKey recovered
-
-  rises_with : (recovered : List Member) (found : List ℕ) → IsRecovered file meta recovered → AreFound file meta found → length file < 10 ^ 16 * meta.page_size → LeavesRoom
+  rises_with : (recovered : List Member) (found : List ℕ) → IsRecovered file meta recovered → AreFound file meta found → length file < 10 ^ 16 * meta.page_size → LeavesRoom file meta
       → Rises member_cmp (joined_listing recovered (with_elements file meta found))
   rises_with recovered [] is are small room = is.rises
   rises_with recovered (n ∷ found) is are small room =
       let some : (n ∷ found) ≢ [] = λ e. cc in
       joined_between file meta recovered _ (with_elements file meta found) is (room recovered (n ∷ found) is are some) (found_ordered (n ∷ found) are small)
 
-  pub joined_rises : (listing : List Member) → IsJoined file meta listing → length file < 10 ^ 16 * meta.page_size → LeavesRoom → Rises member_cmp listing
+  pub joined_rises : (listing : List Member) → IsJoined file meta listing → length file < 10 ^ 16 * meta.page_size → LeavesRoom file meta → Rises member_cmp listing
   joined_rises listing is small room = subst (Rises member_cmp) (sym is.joined) (rises_with is.recovered is.found is.recovers is.are_found small room)

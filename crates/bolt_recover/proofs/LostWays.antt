@@ -1,7 +1,7 @@
 -- Each lost way has one loss, and each loss is that of a lost way.
 use Rattle.std.proofs.Common.{◌≡◌, ◌∙◌, ◌⊎◌, ℕ, inl, inr, List, [], ◌∷◌, ◌++◌, length, Option, Some, None, cond, is_some, refl, sym, ap, subst, arith, length-append}
-use Rattle.bolt_recover.proofs.Words.{Contains, contains_cases, contains_head, contains_none, contains_tail, count_by, Finding, Has, IsSurvey, loss_at, loss_of}
-use Rattle.bolt_recover.proofs.Words.{losses_of, LossView, lost, Meta, Place, place_at, sum_by-cons, Visit}
+use Rattle.bolt_recover.proofs.Words.{Contains, contains_cases, contains_head, contains_none, contains_tail, count_by, Finding, Has, IsSurvey, LosesNothing}
+use Rattle.bolt_recover.proofs.Words.{loss_at, loss_of, losses_of, LossView, lost, Meta, Place, place_at, sum_by-cons, Visit}
 use Rattle.bolt_recover.proofs.PlaceFacts.{place_is}
 
 length_at : (o : Option Place) (p : Place) (f : Option Finding) → o ≡ Some p → length (loss_at o f) ≡ cond (is_some f) 1 0
@@ -68,7 +68,7 @@ module _ (file : List ℕ) (meta : Meta) where
       let (p, at) = place_of survey is (lost way x) has in
       absurd (contains_none (loss_of p x) (subst (λ (ls : List LossView). Contains ls (loss_of p x)) none (loss_there survey way x p has at)))
 
-  pub nothing_lost : (survey : List Visit) → IsSurvey file meta survey → losses_of file meta survey ≡ [] → (v : Visit) → Has survey v → v.found ≡ None
+  pub nothing_lost : (survey : List Visit) → IsSurvey file meta survey → losses_of file meta survey ≡ [] → LosesNothing survey
   nothing_lost survey is none v has = found_none survey is none v.way v.found has
 
   -- and if nothing is lost, there is no loss
@@ -76,7 +76,7 @@ module _ (file : List ℕ) (meta : Meta) where
   loss_none None f e = refl
   loss_none (Some p) f e = rw e refl
 
-  pub no_losses : (survey : List Visit) → ((v : Visit) → Has survey v → v.found ≡ None) → losses_of file meta survey ≡ []
+  pub no_losses : (survey : List Visit) → LosesNothing survey → losses_of file meta survey ≡ []
   no_losses [] none = refl
   no_losses (v ∷ survey) none =
       ap (λ (ls : List LossView). ls ++ losses_of file meta survey) (loss_none (place_at file meta v.way) v.found (none v (inl refl)))

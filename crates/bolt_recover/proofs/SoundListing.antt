@@ -1,11 +1,10 @@
 -- If nothing is lost, each way is kept, and what a path holds is an element at a way.
 use Rattle.std.proofs.Common.{◌≡◌, ◌∙◌, ◌⊎◌, inl, inr, ℕ, suc, Bool, true, false, IsTrue, eqb, eqb-true, List, [], ◌∷◌, ◌++◌, Option, Some, None, Result, Ok, Err, slice_get, refl, sym, ap, subst, subst₂, append_assoc}
-use Rattle.bolt_recover.proofs.Words.{At_inline, At_page, bucket_spots, child_in, child_of, child_spot, Contains, Entry}
-use Rattle.bolt_recover.proofs.Words.{Has, HasSoundTrees, head_root, Holds, inline_elements, Inline_page, IsEntry, IsListing}
-use Rattle.bolt_recover.proofs.Words.{IsRecovered, IsRecoveredMember, Item, item_of, kept, Key, leads, leads_none, leaf_entry, leaf_node, LeafElement}
-use Rattle.bolt_recover.proofs.Words.{leaves_of, Member, Meta, Node, node_at, Nodes, option_map, page_at, PageSpot, Path, Place, place_at, place_on, reached}
-use Rattle.bolt_recover.proofs.Words.{Root_page, root_place, root_spot, same_Some, shape_passes, ShowsEntry, slice_get-map, Spot, Start, start_of, step_at}
-use Rattle.bolt_recover.proofs.Words.{step_entry, step_from, step_place, upper_from, Visit}
+use Rattle.bolt_recover.proofs.Words.{At_inline, At_page, bucket_spots, child_in, child_of, child_spot, Contains, Entry, Has, HasSoundTrees, head_root, Holds}
+use Rattle.bolt_recover.proofs.Words.{inline_elements, Inline_page, IsEntry, IsListing, IsRecovered, IsRecoveredMember, Item, item_of, kept, Key, leads}
+use Rattle.bolt_recover.proofs.Words.{leads_none, leaf_entry, leaf_node, LeafElement, leaves_of, Member, Meta, Node, node_at, Nodes, option_map, page_at}
+use Rattle.bolt_recover.proofs.Words.{PageSpot, Path, Place, place_at, place_on, reached, Root_page, root_place, root_spot, same_Some, shape_passes, ShowsEntry}
+use Rattle.bolt_recover.proofs.Words.{slice_get-map, Spot, Start, start_of, step_at, step_entry, step_from, step_place, upper_from, Visit}
 use Rattle.bolt_tree.proofs.BucketWays.{flat}
 use Rattle.bolt_recover.proofs.ElementLists.{slice_of}
 use Rattle.bolt_recover.proofs.HeldMembers.{held, shows_entry, well_at}

@@ -1,6 +1,6 @@
 -- What the steps of a recovering walk leave to be done.
 use Rattle.std.proofs.Common.{◌≡◌, ◌∙◌, ◌≤◌, ◌<◌, ℕ, suc, ◌+◌, ◌-◌, Bool, true, false, ◌↔◌, List, [], ◌∷◌, ◌++◌, length, map, take, drop, Option, Some, None, Result, Ok, Err, OnErr, slice_get, refl, sym, ap, subst, subst₂, arith, append_assoc, length-append}
-use Rattle.bolt_recover.proofs.Words.{after_visit, after_visits, ahead_level, ahead_tasks, ahead_weight, append-nil, AreOpen, At_page, both_ways, claimed_with}
+use Rattle.bolt_recover.proofs.Words.{after_visit, after_visits, ahead_level, ahead_tasks, ahead_weight, append-nil, AreOpen, At_page, both_ways, claimed_after}
 use Rattle.bolt_recover.proofs.Words.{claims_meta, claims_nodes, ComesTo, Content, content_elements, content_place, content_size, content_spot, counted, Ends}
 use Rattle.bolt_recover.proofs.Words.{entry_tasks, Finding, Gives, gives_at, GivesHead, GoesOn, HasOpen, is_claimed, is_over, IsAllLeft, IsContent}
 use Rattle.bolt_recover.proofs.Words.{IsGoodContent, IsGoodPage, IsMetaPage, IsShallow, LeafElement, length-take-le, loss_of, LossView, lost_state, Member}
@@ -103,7 +103,7 @@ after_ahead s ahead found claimed pages losses visited is gives tasks tally memb
 -- what was ahead is open
 pub entered_page : (s : State) (ahead : NextVisit) (content : Content) (count : ℕ) (claimed : ℕ → Bool) (visited : ℕ) → HasOpen s → s.ahead ≡ Some ahead
     → Passes (node_at s.file s.meta) (λ n. s.claimed n ≡ true) (spot_at ahead.spot) → IsContent s.file s.meta ahead.spot content
-    → ((n : ℕ) → claimed n ≡ claimed_with (node_at s.file s.meta) s.claimed (spot_at ahead.spot) n) → visited ≡ counted s.visited (page_visit (spot_at ahead.spot))
+    → ((n : ℕ) → claimed n ≡ claimed_after (node_at s.file s.meta) s.claimed (spot_at ahead.spot) None n) → visited ≡ counted s.visited (page_visit (spot_at ahead.spot))
     → count ≡ content_size content → count < 65536
     → GoesOn s (record s { claimed = claimed; ahead = None; pages = s.pages ++ record { content = content; level = ahead.level; count = count; next = 0 } ∷ []; visited = visited })
 entered_page s ahead content count claimed visited has is passes content_is claims counts long fits =
@@ -342,7 +342,7 @@ root_gives claims found metas h =
 -- the root page is open
 pub begins : (file : List ℕ) (meta : Meta) (before claimed : ℕ → Bool) (begun visited : ℕ) (content : Content) (count : ℕ) → ((n : ℕ) → before n ≡ meta_pages n)
     → Passes (node_at file meta) (λ n. before n ≡ true) (At_page (root_spot meta.root)) → IsContent file meta (spots.Page (root_at meta)) content
-    → ((n : ℕ) → claimed n ≡ claimed_with (node_at file meta) before (At_page (root_spot meta.root)) n) → visited ≡ counted begun 1 → count ≡ content_size content → count < 65536
+    → ((n : ℕ) → claimed n ≡ claimed_after (node_at file meta) before (At_page (root_spot meta.root)) None n) → visited ≡ counted begun 1 → count ≡ content_size content → count < 65536
     → IsAllLeft file meta begun (record { file = file; meta = meta; claimed = claimed; ahead = None; pages = record { content = content; level = 0; count = count; next = 0 } ∷ []; path = []; losses = []; visited = visited })
 begins file meta before claimed begun visited content count metas passes is claims counts long fits visits members run =
     let s : State = record (start_state file meta begun) { claimed = before } in

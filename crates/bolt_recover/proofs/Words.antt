@@ -1,6 +1,5 @@
 -- The words that the proofs of this crate cite, passed on from the modules that define them.
 pub use Rattle.bolt_check.proofs.ClaimLemmas.{claims_bytes, counted_none, visited_fits}
-pub use Rattle.bolt_check.proofs.Forest.{follow_some}
 pub use Rattle.bolt_check.proofs.Judging.{passes_fewer, passes_silent, span_spot, tests_same}
 pub use Rattle.bolt_check.proofs.KeyLaws.{below_less, from_more, less_of, lt_not_trans, lt_trans, not_true}
 pub use Rattle.bolt_check.proofs.KeyOrder.{key_each, key_rise}
@@ -43,8 +42,8 @@ unfoldable pub use Rattle.bolt_format.specs.Shown.{shown}
 pub use Rattle.bolt_format.specs.declared.kind.Kind.{Kind}
 pub use Rattle.bolt_format.specs.declared.meta.Meta.{Meta}
 pub use Rattle.bolt_recover.specs.Found.{AreFound, FoundBelow, IsFoundNext, IsFoundPage, numbers_of}
-pub use Rattle.bolt_recover.specs.Joined.{HasBucketKey, IsElement, IsFoundMember, IsInner, IsJoined, LacksBucketKey, found_tree, inside_of, is_found_path}
-pub use Rattle.bolt_recover.specs.Joined.{joined_listing, lost_and_found, put_bucket, tree_with}
+pub use Rattle.bolt_recover.specs.Joined.{HasBucketKey, IsElement, IsFoundMember, IsInner, IsJoined, LacksBucketKey, LeavesRoom, found_tree, inside_of}
+pub use Rattle.bolt_recover.specs.Joined.{is_found_path, joined_listing, lost_and_found, put_bucket, tree_with}
 unfoldable pub use Rattle.bolt_recover.specs.JoinedMembers.{joined_file, joined_left, joined_meta, joined_path}
 pub use Rattle.bolt_recover.specs.KeptPages.{AreKeptPages, IsKeptPage}
 pub use Rattle.bolt_recover.specs.Losses.{AreLosses, LossView, everything, loss_at, loss_of, losses_of, lower_of, parts, upper_of}
@@ -61,8 +60,8 @@ pub use Rattle.bolt_recover.specs.Private.Joining.{AreJoinable, IsHeldWell, Tell
 pub use Rattle.bolt_recover.specs.Private.Joining.{recovered_in}
 pub use Rattle.bolt_recover.specs.Private.KeptMembers.{kept_file, kept_left, kept_meta, kept_path}
 pub use Rattle.bolt_recover.specs.Private.Runs.{Outcome, Runs, RunsAll, Task, To_give, To_visit, Visited, Way, after_visit, after_visits, claimed_after}
-pub use Rattle.bolt_recover.specs.Private.Runs.{claimed_with, claims_of, entry_count, entry_tasks, further, gives_at, in_span, lost_at, meta_pages, outcome_of}
-pub use Rattle.bolt_recover.specs.Private.Runs.{page_visit, place_size, place_tasks, span_of, tasks_after, tasks_from, visits_at}
+pub use Rattle.bolt_recover.specs.Private.Runs.{claims_of, entry_count, entry_tasks, further, gives_at, in_span, lost_at, meta_pages, outcome_of, page_visit}
+pub use Rattle.bolt_recover.specs.Private.Runs.{place_size, place_tasks, span_of, tasks_after, tasks_from, visits_at}
 pub use Rattle.bolt_recover.specs.Private.Runs.Runs.{done, give, visit}
 pub use Rattle.bolt_recover.specs.Private.TreesLeft.{AreTreesOf, IsSearched, lost_of}
 pub use Rattle.bolt_recover.specs.Recovered.{ForRecovered, IsRecovered, IsRecoveredMember}
@@ -72,7 +71,7 @@ unfoldable pub use Rattle.bolt_recover.specs.Recoveries.{recovery_path, recovery
 pub use Rattle.bolt_recover.specs.Refusals.{IsRefusedRoot, IsSlotUnrecoverable, IsUnrecoverable, KeepsRoot, LosesRoot}
 pub use Rattle.bolt_recover.specs.ShownFound.{IsFoundView}
 pub use Rattle.bolt_recover.specs.ShownLosses.{loss_view}
-pub use Rattle.bolt_recover.specs.Surveys.{Gives, Has, IsClaimedIn, IsOpen, IsSurvey, Surveys, Visit, kept, lost}
+pub use Rattle.bolt_recover.specs.Surveys.{Gives, Has, IsClaimedIn, IsOpen, IsSurvey, LosesNothing, Surveys, Visit, kept, lost}
 pub use Rattle.bolt_recover.specs.declared.content.Content.{Content}
 pub use Rattle.bolt_recover.specs.declared.content.Content.TheVariants.{Page}
 pub use Rattle.bolt_recover.specs.declared.content.OpenPage.{OpenPage}

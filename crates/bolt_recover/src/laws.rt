@@ -14,7 +14,7 @@ ghost use Rattle.bolt_tree.specs.Order.{Rises};
 ghost use Rattle.bolt_tree.specs.Paths.{Holds, Path};
 ghost use Rattle.bolt_tree.specs.Tree.{Tree, listing_of};
 ghost use Rattle.bolt_recover.specs.Found.{AreFound, IsFoundPage};
-ghost use Rattle.bolt_recover.specs.Joined.{IsFoundMember, IsJoined, LacksBucketKey, is_found_path, lost_and_found};
+ghost use Rattle.bolt_recover.specs.Joined.{IsFoundMember, IsJoined, LacksBucketKey, LeavesRoom, is_found_path, lost_and_found};
 ghost use Rattle.bolt_recover.specs.JoinedMembers.{ForJoined, joined_file, joined_meta};
 ghost use Rattle.bolt_recover.specs.KeptPages.{IsKeptPage};
 ghost use Rattle.bolt_recover.specs.Losses.{AreLosses, LossView, loss_of, losses_of};
@@ -22,7 +22,7 @@ ghost use Rattle.bolt_recover.specs.PageWays.{ArePageWays};
 ghost use Rattle.bolt_recover.specs.Places.{Place, place_at};
 ghost use Rattle.bolt_recover.specs.Recovered.{IsRecovered, IsRecoveredMember};
 ghost use Rattle.bolt_recover.specs.Recoveries.{recovery_file};
-ghost use Rattle.bolt_recover.specs.Surveys.{Has, IsSurvey, Visit, lost};
+ghost use Rattle.bolt_recover.specs.Surveys.{Has, IsSurvey, LosesNothing, Visit, lost};
 
 use crate::joined::Joined;
 use crate::recovery::Recovery;
@@ -66,7 +66,7 @@ pub fn losses_are_one()
 
 /// Sound trees lose nothing.
 pub fn sound_trees_lose_nothing()
-    ensures { (file : List ℕ) (meta : Meta) (survey : List Visit) (v : Visit) → HasSoundTrees file meta → IsSurvey file meta survey → Has survey v → v.found ≡ None }
+    ensures { (file : List ℕ) (meta : Meta) (all : List Visit) (v : Visit) → HasSoundTrees file meta → IsSurvey file meta all → Has all v → v.found ≡ None }
 {}
 
 /// The recovered listing of sound trees is their listing.
@@ -82,7 +82,7 @@ pub fn first_loss_is_the_first_finding()
 
 /// The trees are sound if no way is lost, and so if there is no loss.
 pub fn nothing_lost_means_sound_trees()
-    ensures ways { (file : List ℕ) (meta : Meta) (survey : List Visit) → IsSurvey file meta survey → ((v : Visit) → Has survey v → v.found ≡ None) → HasSoundTrees file meta }
+    ensures ways { (file : List ℕ) (meta : Meta) (survey : List Visit) → IsSurvey file meta survey → LosesNothing survey → HasSoundTrees file meta }
     ensures losses { (file : List ℕ) (meta : Meta) → AreLosses file meta [] → HasSoundTrees file meta }
 {}
 
@@ -99,7 +99,7 @@ pub fn each_lost_way_has_one_loss()
 
 /// What is recovered of sound trees is what they list, and there is no loss.
 pub fn sound_trees_recover_what_they_list()
-    ensures listing { (file : List ℕ) (meta : Meta) (listing : List Member) → HasSoundTrees file meta → IsListing file meta listing → IsRecovered file meta listing }
+    ensures listing { (file : List ℕ) (meta : Meta) (all : List Member) → HasSoundTrees file meta → IsListing file meta all → IsRecovered file meta all }
     ensures losses { (file : List ℕ) (meta : Meta) (losses : List LossView) → HasSoundTrees file meta → AreLosses file meta losses → losses ≡ [] }
 {}
 
@@ -176,7 +176,7 @@ pub fn joined_listing_keeps_what_is_recovered()
 /// than sixteen digits, and there is room for the bucket of what is found.
 pub fn joined_listing_rises()
     ensures { (file : List ℕ) (meta : Meta) (listing : List Member) → IsJoined file meta listing → length file < 10 ^ 16 * meta.page_size
-        → ((recovered : List Member) (found : List ℕ) → IsRecovered file meta recovered → AreFound file meta found → found ≢ [] → LacksBucketKey recovered) → Rises member_cmp listing }
+        → LeavesRoom file meta → Rises member_cmp listing }
 {}
 
 /// Each member of a joined listing is recovered, or it is the bucket of what is found, or in it: the

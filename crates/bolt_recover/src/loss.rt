@@ -2,7 +2,7 @@
 ghost use Rattle.std.specs.Prelude.{◌≡◌};
 ghost use Rattle.bolt_check.specs.ShownSpots.{spot_at};
 ghost use Rattle.bolt_tree.specs.Paths.{path_of};
-ghost use Rattle.bolt_recover.specs.Losses.{lower_of, upper_of};
+ghost use Rattle.bolt_recover.specs.Losses.{loss_on};
 ghost use Rattle.bolt_recover.specs.ShownLosses.{loss_view};
 
 use bolt_check::{Finding, Spot};
@@ -25,7 +25,7 @@ pub struct Loss<'a> {
 impl<'a> Loss<'a> {
     /// The loss of what a spot leads to, in the bucket with this path.
     pub fn new(finding: Finding, bucket: Vec<&'a [u8]>, spot: &Spot<'a>) -> Loss<'a>
-        ensures { loss_view result ≡ record { finding = finding; bucket = path_of bucket.entry.items; lower = lower_of (spot_at spot.now); upper = upper_of (spot_at spot.now) } }
+        ensures { loss_view result ≡ loss_on (path_of bucket.entry.items) (spot_at spot.now) finding }
     {
         let (lower, upper) = match spot {
             Spot::Page(page) => (page.lower, page.upper),

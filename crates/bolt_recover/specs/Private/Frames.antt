@@ -1,5 +1,6 @@
 -- The open pages of the code as what is still to be done.
-use Rattle.std.specs.Prelude.{◌≡◌, ◌≤◌, ◌<◌, IsTrue, ℕ, ◌+◌, ◌-◌, ◌*◌, Bool, true, false, List, [], ◌∷◌, ◌++◌, length, map, take, Option, Some, None, Ok, if◌then◌else◌, sum_by}
+use Rattle.std.specs.Prelude.{◌≡◌, ◌≤◌, ◌<◌, IsTrue, ℕ, ◌+◌, ◌-◌, ◌*◌, Bool, true, false, List, [], ◌∷◌, ◌++◌, length, map, take, Option, Some, None, Ok, if◌then◌else◌, slice_get, sum_by}
+use Rattle.std.specs.Option.{option_map}
 use Rattle.bolt_format.specs.ElementPlaces.{leaf_view}
 use Rattle.bolt_format.specs.Elements.{IsBucketValue, LeafElement}
 use Rattle.bolt_format.specs.declared.element.Leaf as element
@@ -20,8 +21,8 @@ use Rattle.bolt_tree.specs.Entries.{item_of}
 use Rattle.bolt_tree.specs.Listing.{Member}
 use Rattle.bolt_tree.specs.Paths.{Path, path_of}
 use Rattle.bolt_recover.specs.Losses.{LossView, loss_of}
-use Rattle.bolt_recover.specs.Places.{Place, leaves_of}
-use Rattle.bolt_recover.specs.Private.Runs.{Outcome, Runs, RunsAll, Task, To_visit, Visited, Way, after_visits, further, outcome_of, tasks_from}
+use Rattle.bolt_recover.specs.Places.{Place, leaves_of, step_place}
+use Rattle.bolt_recover.specs.Private.Runs.{Outcome, Runs, RunsAll, Task, To_visit, Visited, Way, after_visits, claimed_after, further, outcome_of, tasks_from}
 use Rattle.bolt_tree.specs.RestAfter.{rest_after}
 use Rattle.bolt_recover.specs.ShownLosses.{loss_view}
 use Rattle.bolt_recover.specs.declared.content.Content.{Content}
@@ -79,6 +80,15 @@ IsShallow (Bucket s) = Unit {0}
 abbrev pub step_path : Path → Option LeafElement → Path
 step_path path None = path
 step_path path (Some e) = path ++ e.key ∷ []
+
+-- where element i of an open page leads, in whatever bucket that is
+abbrev pub LeadsTo : Content → ℕ → Option CodeSpot → Type 0
+LeadsTo content i to = (file : List ℕ) (meta : Meta) (path : Path) → IsGoodContent file meta content
+    → step_place file meta (content_place path content) i ≡ option_map (spot_place file meta (step_path path (slice_get (content_elements content) i))) to
+
+-- the pages that are claimed once a spot is kept
+abbrev pub claims_with : Claims → Spot → ℕ → Bool
+claims_with claims s = claimed_after (claims_nodes claims) (is_claimed claims) s None
 
 -- what a visit of a spot opens
 pub record IsContent (file : List ℕ) (meta : Meta) (s : CodeSpot) (content : Content) : Type 0 where

@@ -48,9 +48,6 @@ abbrev pub claims_of : Nodes → Spot → ℕ → Bool
 claims_of nodes (At_page s) n = in_span (nodes s.number) s.number n
 claims_of nodes (At_inline host keys) n = false
 
-abbrev pub claimed_with : Nodes → (ℕ → Bool) → Spot → ℕ → Bool
-claimed_with nodes claimed spot n = claimed n || claims_of nodes spot n
-
 -- only the meta pages
 abbrev pub meta_pages : ℕ → Bool
 meta_pages n = nat_lt n 2
