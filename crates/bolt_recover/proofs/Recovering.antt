@@ -175,13 +175,9 @@ over_parts None [] e = (refl, refl)
 over_parts None (page ∷ pages) e = absurd (cc)
 over_parts (Some ahead) pages e = absurd (cc)
 
-module _ (old new : State) (meta : Meta) (before : ℕ) (on : IsOn old meta before) where
+module _ {old : State} {meta : Meta} {before : ℕ} (on : IsOn old meta before) where
   abbrev all : Whole old.file meta before
   all = whole old.file meta before
-
-  -- what comes of a visited file, from the old steps and from the new ones
-  on_new : StaysOn old new → IsLeft old.file meta before (left_by new) new → IsOn new meta before
-  on_new stays left = record { meta = stays.meta ∙ on.meta; placed = stays.placed; comes = subst (λ (f : List ℕ). IsLeft f meta before (left_by new) new) (sym stays.file) left }
 
   comes_all : ComesTo old (left_by old all.members) (outcome_of (node_at old.file meta) before all.visits)
   comes_all = on.comes all.visits all.members all.run
@@ -189,70 +185,75 @@ module _ (old new : State) (meta : Meta) (before : ℕ) (on : IsOn old meta befo
   of_recovered : (P : List Member → Type 0) → P all.members → (listing : List Member) → IsRecovered old.file meta listing → P listing
   of_recovered P holds listing recovered = subst P (one_recovered old.file meta all.members listing all.recovered recovered) holds
 
-  -- after an element was returned
-  given_next : (e : LeafElement) → GivesHead old new e → (visits : List (Visited Way)) (members : List Member) → RunsAll old.file meta further [] visits members
-      → (left_by old members ≡ (new.path, item_of e) ∷ left_by new members) × ComesTo new (left_by new members) (outcome_of (node_at old.file meta) before visits)
-  given_next e gives visits members run =
-      let (rest, was, comes) = gives.head (left_by old members) _ (on.comes visits members run) in
-      let same : left_by new members ≡ rest = left_more new members gives.more ∙ left_given old members (new.path, item_of e) rest (recovers old.file meta visits members run).rises was in
-      (was ∙ ap (λ (ms : List Member). (new.path, item_of e) ∷ ms) (sym same), subst (λ (ms : List Member). ComesTo new ms (outcome_of (node_at old.file meta) before visits)) (sym same) comes)
+  module _ {new : State} where
+    -- what comes of a visited file, from the old steps and from the new ones
+    on_new : StaysOn old new → IsLeft old.file meta before (left_by new) new → IsOn new meta before
+    on_new stays left = record { meta = stays.meta ∙ on.meta; placed = stays.placed; comes = subst (λ (f : List ℕ). IsLeft f meta before (left_by new) new) (sym stays.file) left }
 
-  on_given : (e : LeafElement) → GivesHead old new e → IsOn new meta before
-  on_given e gives = on_new gives.on (λ visits members run. (given_next e gives visits members run).1)
+    -- after an element was returned
+    given_next : (e : LeafElement) → GivesHead old new e → (visits : List (Visited Way)) (members : List Member) → RunsAll old.file meta further [] visits members
+        → (left_by old members ≡ (new.path, item_of e) ∷ left_by new members) × ComesTo new (left_by new members) (outcome_of (node_at old.file meta) before visits)
+    given_next e gives visits members run =
+        let (rest, was, comes) = gives.head (left_by old members) _ (on.comes visits members run) in
+        let same : left_by new members ≡ rest = left_more new members gives.more ∙ left_given old members (new.path, item_of e) rest (recovers old.file meta visits members run).rises was in
+        (was ∙ ap (λ (ms : List Member). (new.path, item_of e) ∷ ms) (sym same), subst (λ (ms : List Member). ComesTo new ms (outcome_of (node_at old.file meta) before visits)) (sym same) comes)
 
-  pub left_next : (e : LeafElement) → GivesHead old new e → (listing : List Member) → IsRecovered old.file meta listing → left_by old listing ≡ (new.path, item_of e) ∷ left_by new listing
-  left_next e gives = of_recovered (λ ms. left_by old ms ≡ (new.path, item_of e) ∷ left_by new ms) (given_next e gives all.visits all.members all.run).0
+    on_given : (e : LeafElement) → GivesHead old new e → IsOn new meta before
+    on_given e gives = on_new gives.on (λ visits members run. (given_next e gives visits members run).1)
 
-  -- after the end
-  over_new : Ends old new → is_over new ≡ true
-  over_new h = ap (λ (o : Option NextVisit). over_by o new.pages) h.ended.ahead ∙ ap (over_by None) h.ended.pages
+    pub left_next : (e : LeafElement) → GivesHead old new e → (listing : List Member) → IsRecovered old.file meta listing → left_by old listing ≡ (new.path, item_of e) ∷ left_by new listing
+    left_next e gives = of_recovered (λ ms. left_by old ms ≡ (new.path, item_of e) ∷ left_by new ms) (given_next e gives all.visits all.members all.run).0
 
-  on_ended : Ends old new → IsOn new meta before
-  on_ended h = on_new h.on (λ visits members run.
-      subst (λ (ms : List Member). ComesTo new ms (outcome_of (node_at old.file meta) before visits)) (sym (left_over new members (over_new h))) (h.none (left_by old members) _ (on.comes visits members run)).1)
+    -- after the end
+    over_new : Ends old new → is_over new ≡ true
+    over_new h = ap (λ (o : Option NextVisit). over_by o new.pages) h.ended.ahead ∙ ap (over_by None) h.ended.pages
 
-  pub left_none : Ends old new → (listing : List Member) → IsRecovered old.file meta listing → (left_by old listing ≡ []) × (left_by new listing ≡ []) × (new.path ≡ [])
-  left_none h listing recovered = (of_recovered (λ ms. left_by old ms ≡ []) (h.none (left_by old all.members) _ comes_all).0 listing recovered, left_over new listing (over_new h), h.ended.path)
+    on_ended : Ends old new → IsOn new meta before
+    on_ended h = on_new h.on (λ visits members run.
+        subst (λ (ms : List Member). ComesTo new ms (outcome_of (node_at old.file meta) before visits)) (sym (left_over new members (over_new h))) (h.none (left_by old members) _ (on.comes visits members run)).1)
 
-  ended_with : Ends old new → outcome_of (node_at old.file meta) before all.visits ≡ tally_of new
-  ended_with h = (reported_all new [] _ h.ended.ahead h.ended.pages (h.none (left_by old all.members) _ comes_all).1).1
+    pub left_none : Ends old new → (listing : List Member) → IsRecovered old.file meta listing → (left_by old listing ≡ []) × (left_by new listing ≡ []) × (new.path ≡ [])
+    left_none h listing recovered = (of_recovered (λ ms. left_by old ms ≡ []) (h.none (left_by old all.members) _ comes_all).0 listing recovered, left_over new listing (over_new h), h.ended.path)
 
-  pub reported_ended : Ends old new → (losses : List LossView) → AreLosses old.file meta losses → new.losses ≡ losses
-  reported_ended h losses reported = one_losses old.file meta new.losses losses (all.survey, all.surveys, ap (λ (o : Outcome). o.losses) (sym (ended_with h)) ∙ all.losses) reported
+    ended_with : Ends old new → outcome_of (node_at old.file meta) before all.visits ≡ tally_of new
+    ended_with h = (reported_all new [] _ h.ended.ahead h.ended.pages (h.none (left_by old all.members) _ comes_all).1).1
 
-  -- and each way to a page number was visited once
-  pub visited_ended : Ends old new → (ways : ℕ) → ArePageWays old.file meta ways → counted before ways ≡ counted new.visited 0
-  visited_ended h ways are =
-      ap (counted before) (one_number old.file meta ways _ are (all.survey, all.surveys, refl)) ∙ sym all.pages ∙ ap (λ (o : Outcome). counted o.visited 0) (ended_with h)
+    pub reported_ended : Ends old new → (losses : List LossView) → AreLosses old.file meta losses → new.losses ≡ losses
+    reported_ended h losses reported = one_losses old.file meta new.losses losses (all.survey, all.surveys, ap (λ (o : Outcome). o.losses) (sym (ended_with h)) ∙ all.losses) reported
 
-  -- and the claimed pages are those that kept ways take in
-  pub claimed_ended : Ends old new → (n : ℕ) → claimed_at_end old.file meta before n ≡ new.claimed n
-  claimed_ended h n = ap (λ (o : Outcome). o.claimed n) (ended_with h)
+    -- and each way to a page number was visited once
+    pub visited_ended : Ends old new → (ways : ℕ) → ArePageWays old.file meta ways → counted before ways ≡ counted new.visited 0
+    visited_ended h ways are =
+        ap (counted before) (one_number old.file meta ways _ are (all.survey, all.surveys, refl)) ∙ sym all.pages ∙ ap (λ (o : Outcome). counted o.visited 0) (ended_with h)
 
-  -- after memory ran out
-  left_still : GoesOn old new → (listing : List Member) (outcome : Outcome) → ComesTo new (left_by old listing) outcome → left_by new listing ≡ left_by old listing
-  left_still h listing outcome comes =
-      elim (cases_Bool (is_over new)) [
-        | inl over ↦ let (ahead, pages) = over_parts new.ahead new.pages over in left_over new listing over ∙ sym (reported_all new (left_by old listing) outcome ahead pages comes).0
-        | inr more ↦ elim (cases_Bool (is_over old)) [
-          | inl over ↦ absurd (let f : true ≡ false = sym (h.over over) ∙ more in cc)
-          | inr going ↦ left_more new listing more ∙ ap (λ (p : Path). rest_after p listing) h.path ∙ sym (left_more old listing going)
+    -- and the claimed pages are those that kept ways take in
+    pub claimed_ended : Ends old new → (n : ℕ) → claimed_at_end old.file meta before n ≡ new.claimed n
+    claimed_ended h n = ap (λ (o : Outcome). o.claimed n) (ended_with h)
+
+    -- after memory ran out
+    left_still : GoesOn old new → (listing : List Member) (outcome : Outcome) → ComesTo new (left_by old listing) outcome → left_by new listing ≡ left_by old listing
+    left_still h listing outcome comes =
+        elim (cases_Bool (is_over new)) [
+          | inl over ↦ let (ahead, pages) = over_parts new.ahead new.pages over in left_over new listing over ∙ sym (reported_all new (left_by old listing) outcome ahead pages comes).0
+          | inr more ↦ elim (cases_Bool (is_over old)) [
+            | inl over ↦ absurd (let f : true ≡ false = sym (h.over over) ∙ more in cc)
+            | inr going ↦ left_more new listing more ∙ ap (λ (p : Path). rest_after p listing) h.path ∙ sym (left_more old listing going)
+          ]
         ]
-      ]
 
-  on_same : GoesOn old new → IsOn new meta before
-  on_same h = on_new h.on (λ visits members run.
-      let here = h.same (left_by old members) _ (on.comes visits members run) in
-      subst (λ (ms : List Member). ComesTo new ms (outcome_of (node_at old.file meta) before visits)) (sym (left_still h members _ here)) here)
+    on_same : GoesOn old new → IsOn new meta before
+    on_same h = on_new h.on (λ visits members run.
+        let here = h.same (left_by old members) _ (on.comes visits members run) in
+        subst (λ (ms : List Member). ComesTo new ms (outcome_of (node_at old.file meta) before visits)) (sym (left_still h members _ here)) here)
 
-  pub left_same : GoesOn old new → (listing : List Member) → IsRecovered old.file meta listing → left_by new listing ≡ left_by old listing
-  left_same h = of_recovered (λ ms. left_by new ms ≡ left_by old ms) (left_still h all.members _ (h.same (left_by old all.members) _ comes_all))
+    pub left_same : GoesOn old new → (listing : List Member) → IsRecovered old.file meta listing → left_by new listing ≡ left_by old listing
+    left_same h = of_recovered (λ ms. left_by new ms ≡ left_by old ms) (left_still h all.members _ (h.same (left_by old all.members) _ comes_all))
 
-  -- whatever comes of a call
-  pub on_advanced : {E : Type 0} (result : Result (Option Leaf) E) → IfOk result (Advances old new) → OnErr result (GoesOn old new) → IsOn new meta before
-  on_advanced (Ok (Some leaf)) given same = on_given (leaf_view leaf) given
-  on_advanced (Ok None) given same = on_ended given
-  on_advanced (Err e) given same = on_same same
+    -- whatever comes of a call
+    pub on_advanced : {E : Type 0} (result : Result (Option Leaf) E) → IfOk result (Advances old new) → OnErr result (GoesOn old new) → IsOn new meta before
+    on_advanced (Ok (Some leaf)) given same = on_given (leaf_view leaf) given
+    on_advanced (Ok None) given same = on_ended given
+    on_advanced (Err e) given same = on_same same
 
 -- the file is the same
 pub file_advanced : {E : Type 0} (old new : State) (result : Result (Option Leaf) E) → IfOk result (Advances old new) → OnErr result (GoesOn old new) → new.file ≡ old.file
