@@ -2,12 +2,11 @@
 use Rattle.std.proofs.Common.{◌≡◌, ◌≢◌, ◌∙◌, inl, inr, ℕ, zero, suc, ◌<◌, ◌+◌, ◌*◌, ◌^◌, true, false, List, [], ◌∷◌, ◌++◌, Option, Some, None, length, map, refl, sym, ap, subst, arith}
 use Rattle.bolt_recover.proofs.Words.{AreFound, Contains, Contains-push_cases, contains_cases, contains_head, contains_none, contains_tail, Entry, finding_of}
 use Rattle.bolt_recover.proofs.Words.{found_tree, FoundBelow, inside_of, IsJoined, IsKeptPage, IsLoneLeaf, IsRecovered, joined_listing, Key, key_lt, key_rise}
-use Rattle.bolt_recover.proofs.Words.{keys_of, keys_order_fault, KeysRise, leaf_entry, LeafElement, leaves_of, LeavesRoom}
-use Rattle.bolt_recover.proofs.Words.{lt_of_mul-lt-mul_right, Member, member_cmp, Meta, Node, node_at, node_finding, node_within, page_at, page_key, Rises}
-use Rattle.bolt_recover.proofs.Words.{root_spot, tree_with}
+use Rattle.bolt_recover.proofs.Words.{keys_of, keys_order_fault, KeysRise, leaf_entry, LeafElement, leaves_of, LeavesRoom, lt_of_mul-lt-mul_right, Member}
+use Rattle.bolt_recover.proofs.Words.{member_cmp, Meta, Node, node_at, node_finding, node_within, page_at, page_key, Rises, root_spot, tree_with}
 use Rattle.bolt_recover.proofs.FoundAll.{lost_or_none}
 use Rattle.bolt_recover.proofs.FoundLemmas.{found_here}
-use Rattle.bolt_recover.proofs.PlaceKeys.{HasForm, page_form}
+use Rattle.bolt_recover.proofs.PlaceSteps.{HasForm, page_form}
 use Rattle.bolt_recover.proofs.JoinedLemmas.{joined_between, with_elements}
 use Rattle.bolt_recover.proofs.PageNames.{digits_rise}
 use Rattle.bolt_recover.proofs.TreeOrder.{HasKey, Ordered, elements_ordered, inside_ordered}

@@ -21,6 +21,7 @@ mod OneRecovered
 pub mod PageNames
 mod PlaceFacts
 mod PlaceKeys
+mod PlaceSteps
 mod Recovering
 mod RunExists
 mod RunForgets

@@ -7,7 +7,8 @@ use Rattle.bolt_recover.proofs.Words.{place_tasks, Rises, rises_append, RisesBy,
 use Rattle.bolt_recover.proofs.Words.{tasks_after, To_give, To_visit, upper_of, visit, Visited}
 use Rattle.bolt_tree.proofs.ListLemmas.{Has as Among}
 use Rattle.bolt_recover.proofs.TaskLists.{IsAt, after_at, after_rises}
-use Rattle.bolt_recover.proofs.PlaceKeys.{IsChild, IsTidy, Keyed, keyed, tidy_root, tidy_step}
+use Rattle.bolt_recover.proofs.PlaceKeys.{IsChild, Keyed, keyed}
+use Rattle.bolt_recover.proofs.PlaceSteps.{IsTidy, tidy_root, tidy_step}
 
 -- a path that a place may lead to
 abbrev InVisit : Place → Path → Type 0

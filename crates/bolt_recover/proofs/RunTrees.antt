@@ -4,7 +4,8 @@ use Rattle.bolt_recover.proofs.Words.{append-nil, Bucket, cases_Bool, done, Each
 use Rattle.bolt_recover.proofs.Words.{item_of, Key, LeafElement, listing_below, listing_of, Member, Meta, node_at, none-some, Path, Place, root_place, Runs}
 use Rattle.bolt_recover.proofs.Words.{RunsAll, same_Some, step_place, Task, tasks_after, tasks_from, To_give, To_visit, Tree, Value, visit, Visited, visits_at}
 use Rattle.bolt_recover.proofs.Words.{with_bucket, with_value}
-use Rattle.bolt_recover.proofs.PlaceKeys.{IsTidy, Keyed, keyed}
+use Rattle.bolt_recover.proofs.PlaceKeys.{Keyed, keyed}
+use Rattle.bolt_recover.proofs.PlaceSteps.{IsTidy}
 use Rattle.bolt_recover.proofs.RunPaths.{IsTidyTask, root_tidy, tidy_after}
 
 -- one tree after another

@@ -18,7 +18,7 @@ pub use Rattle.bolt_check.specs.Findings.{inline_finding, keys_of, late, node_fi
 pub use Rattle.bolt_check.specs.Keys.{Key, KeysRise, is_below, is_from, key_cmp, key_lt, keys_order_fault}
 unfoldable pub use Rattle.bolt_check.specs.Leftovers.{is_listed, is_taken, leftovers_file, leftovers_length, leftovers_meta}
 pub use Rattle.bolt_check.specs.LoneLeaves.{IsListedFree, IsLoneLeaf}
-pub use Rattle.bolt_check.specs.Nodes.{Entry, IsInSpan, Node, Nodes, leaf_entry, node_of, node_seen}
+pub use Rattle.bolt_check.specs.Nodes.{Entry, IsInSpan, Node, Nodes, leaf_entry, node_seen}
 unfoldable pub use Rattle.bolt_check.specs.Nodes.{node_at}
 pub use Rattle.bolt_check.specs.Shape.{child_at, child_in, child_of, leads}
 pub use Rattle.bolt_check.specs.ShownNodes.{entries_of}
@@ -27,8 +27,8 @@ pub use Rattle.bolt_check.specs.ShownSpots.{page_spot, spot_at}
 pub use Rattle.bolt_check.specs.Sound.{HasSoundTrees}
 pub use Rattle.bolt_check.specs.Tours.{IsBeforeAll}
 pub use Rattle.bolt_check.specs.TreeKinds.{tree_kind}
-pub use Rattle.bolt_check.specs.Ways.{At_inline, At_page, Before, PageSpot, Reach, SpanAt, SpanHas, SpanOf, Spot, bucket_spots, child_spot, follow, reached}
-pub use Rattle.bolt_check.specs.Ways.{root_spot, step, step_at, step_entry, step_from, step_on, upper_from}
+pub use Rattle.bolt_check.specs.Ways.{At_inline, At_page, Before, PageSpot, Reach, SpanAt, SpanHas, SpanOf, Spot, bucket_spot, bucket_spots, child_spot, follow}
+pub use Rattle.bolt_check.specs.Ways.{reached, root_spot, step, step_at, step_entry, step_from, step_on, upper_from}
 pub use Rattle.bolt_check.specs.declared.checked_file.Checked.{Checked}
 pub use Rattle.bolt_check.specs.declared.fault.CheckFault.TheVariants.{Accounts, Memory, Open, Structure}
 pub use Rattle.bolt_check.specs.declared.finding.Finding.{Finding}
