@@ -5,12 +5,10 @@ use Rattle.bolt_recover.proofs.Words.{contains_none, contains_tail, done, Findin
 use Rattle.bolt_recover.proofs.Words.{IsMetaPage, IsRecovered, IsSurvey, kept, LosesNothing, LosesRoot, losses_of, LossView, lost, Member, Meta, meta_pages}
 use Rattle.bolt_recover.proofs.Words.{nat_tests, node_at, node_below, props, Recovery, recovery_meta, root_place, root_spot, RunsAll, SpanAt, Visit, visit}
 use Rattle.bolt_recover.proofs.Words.{∥∥₁_elim}
-use Rattle.bolt_recover.proofs.Existing.{has_survey}
+use Rattle.bolt_recover.proofs.Existing.{has_survey, one_recovered, recovers}
 use Rattle.bolt_recover.proofs.FoundLemmas.{found_one, found_same, passed}
 use Rattle.bolt_recover.proofs.Deciding.{Decided, decided_as, decided_by, either_decided, lowest}
-use Rattle.bolt_recover.proofs.RunRecovers.{recovers}
 use Rattle.bolt_recover.proofs.LostWays.{no_losses, nothing_lost}
-use Rattle.bolt_recover.proofs.OneRecovered.{one_recovered}
 use Rattle.bolt_recover.proofs.Recovering.{claimed_all, claimed_at_end}
 use Rattle.bolt_recover.proofs.RunSurveys.{claims_in, surveyed}
 use Rattle.bolt_recover.proofs.SurveyIsOne.{gives_same, same_survey}

@@ -6,12 +6,10 @@ use Rattle.bolt_recover.proofs.Words.{IsJoined, IsRecovered, joined_listing, key
 use Rattle.bolt_recover.proofs.Words.{listing_below, listing_of, lost_and_found, Member, member_cmp, member_total, Meta, Ordering, page_at, Path, path_cmp}
 use Rattle.bolt_recover.proofs.Words.{put_bucket, put_members, Rises, Tree, tree_of, Value, with_bucket, with_value}
 use Rattle.bolt_tree.proofs.ReadBack.{tree_back}
-use Rattle.bolt_recover.proofs.Existing.{has_recovered}
+use Rattle.bolt_recover.proofs.Existing.{has_recovered, one_recovered, recovers}
 use Rattle.bolt_recover.proofs.FoundAll.{one_found}
 use Rattle.bolt_recover.proofs.FoundExists.{has_found}
-use Rattle.bolt_recover.proofs.OneRecovered.{one_recovered}
 use Rattle.bolt_recover.proofs.RunExists.{run_exists}
-use Rattle.bolt_recover.proofs.RunRecovers.{recovers}
 use Rattle.bolt_recover.proofs.RunTrees.{run_tree}
 use Rattle.bolt_recover.proofs.TreeOrder.{Ordered, ordered_rises, rises_both, under}
 

@@ -1,4 +1,3 @@
-mod ElementLists
 mod ContentLemmas
 mod Deciding
 pub mod Existing
@@ -15,9 +14,7 @@ mod KeptWays
 mod Leading
 pub mod LeftMembers
 mod LostWays
-mod NoLeaves
 mod NothingLost
-mod OneRecovered
 pub mod PageNames
 mod PlaceFacts
 mod PlaceKeys
@@ -27,7 +24,6 @@ mod RunExists
 mod RunForgets
 mod RunOrder
 mod RunPaths
-mod RunRecovers
 mod RunSteps
 mod RunSurveys
 mod RunTrees

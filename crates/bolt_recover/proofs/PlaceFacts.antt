@@ -1,9 +1,9 @@
 -- Places along ways: the spot there, the next one, and the elements.
 use Rattle.std.proofs.Common.{◌≡◌, ◌∙◌, inl, inr, ℕ, suc, ◌<◌, ◌≤◌, Bool, List, [], ◌∷◌, ◌++◌, length, Option, Some, None, Result, Ok, Err, slice_get, refl, sym, ap, subst, arith}
-use Rattle.bolt_recover.proofs.Words.{At_inline, At_page, elements_at, Entry, entry_count, follow, follow_places}
-use Rattle.bolt_recover.proofs.Words.{leaf_entry, LeafElement, leaves_of, length-map, Meta, next_place, Node, node_at, Nodes, option_map}
-use Rattle.bolt_recover.proofs.Words.{page_at, PageSpot, Path, Place, place_at, place_on, place_size, reached, root_place, same_Some}
-use Rattle.bolt_recover.proofs.Words.{slice_get_within, Spot, step, step_at, step_entry, step_from, step_place}
+use Rattle.bolt_recover.proofs.Words.{At_inline, At_page, Contains, elements_at, Entry, entry_count, follow, follow_places, has_at, has_from_contains}
+use Rattle.bolt_recover.proofs.Words.{leaf_entry, LeafElement, leaves_of, length-map, Meta, next_place, Node, node_at, Nodes, option_map, page_at, PageSpot}
+use Rattle.bolt_recover.proofs.Words.{Path, Place, place_at, place_on, place_size, reached, root_place, same_Some, slice_get_within, Spot, step, step_at}
+use Rattle.bolt_recover.proofs.Words.{step_entry, step_from, step_place}
 use Rattle.bolt_recover.proofs.PlaceSteps.{page_form}
 
 abbrev spot_in : Option Place → Option Spot
@@ -99,3 +99,7 @@ leads_within nodes (At_inline host keys) elements i t e = absurd (cc)
 -- a step to a place is a step of its spot
 pub step_spot : (file : List ℕ) (meta : Meta) (p t : Place) (i : ℕ) → step_place file meta p i ≡ Some t → step_from (node_at file meta) p.spot i ≡ Some t.spot
 step_spot file meta p t i e = sym (spot_on file meta p.path (slice_get p.elements i) (step_from (node_at file meta) p.spot i)) ∙ ap spot_in e
+
+-- where an element stands
+pub slice_of : (xs : List LeafElement) (e : LeafElement) → Contains xs e → (i : ℕ) × (i < length xs) × (slice_get xs i ≡ Some e)
+slice_of xs e has = let (i, get) = has_at xs e (has_from_contains xs e has) in (i, slice_get_within xs i e get, get)

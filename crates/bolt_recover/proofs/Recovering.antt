@@ -13,10 +13,9 @@ use Rattle.bolt_check.specs.declared.fault.CheckFault.{CheckFault}
 use Rattle.bolt_format.specs.Metas.{IsChosen, IsInSlot}
 use Rattle.bolt_format.specs.declared.meta.Slot.{Slot}
 use Rattle.bolt_recover.specs.declared.content.Content.TheVariants.{Bucket}
-use Rattle.bolt_recover.proofs.OneRecovered.{one_recovered}
+use Rattle.bolt_recover.proofs.Existing.{one_recovered, recovers}
 use Rattle.bolt_recover.proofs.RunExists.{run_exists}
 use Rattle.bolt_recover.proofs.RunOrder.{visits_of}
-use Rattle.bolt_recover.proofs.RunRecovers.{recovers}
 use Rattle.bolt_recover.proofs.RunSteps.{ends}
 use Rattle.bolt_recover.proofs.RunSurveys.{all_claimed, surveyed, tally}
 use Rattle.bolt_recover.proofs.SurveyIsOne.{same_survey}

@@ -9,8 +9,7 @@ use Rattle.bolt_recover.proofs.Words.{place_at, place_size, Reach, reached, root
 use Rattle.bolt_recover.proofs.Words.{sum_by-cons, Task, tasks_after, To_give, To_visit, Visit, visit, Visited, Way}
 use Rattle.bolt_check.specs.Tours.{Rises}
 use Rattle.bolt_tree.proofs.ListLemmas.{Has as Among}
-use Rattle.bolt_recover.proofs.ElementLists.{slice_of}
-use Rattle.bolt_recover.proofs.PlaceFacts.{elements_is, leads_within, place_further, place_is, size_enough, spot_is, step_spot}
+use Rattle.bolt_recover.proofs.PlaceFacts.{elements_is, leads_within, place_further, place_is, size_enough, slice_of, spot_is, step_spot}
 use Rattle.bolt_recover.proofs.RunOrder.{rises_run, visits_of}
 use Rattle.bolt_recover.proofs.SurveyIsOne.{Suffix, earlier, gives_same, next_suffix, ways}
 use Rattle.bolt_recover.proofs.TaskLists.{IsAt, after_at, at_from}

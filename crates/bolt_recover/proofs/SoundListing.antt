@@ -1,15 +1,13 @@
 -- If nothing is lost, each way is kept, and what a path holds is an element at a way.
 use Rattle.std.proofs.Common.{◌≡◌, ◌∙◌, ◌⊎◌, inl, inr, ℕ, suc, Bool, true, false, IsTrue, eqb, eqb-true, List, [], ◌∷◌, ◌++◌, Option, Some, None, Result, Ok, Err, slice_get, refl, sym, ap, subst, append_assoc}
-use Rattle.bolt_recover.proofs.Words.{At_inline, At_page, cases_Bool, child_in, child_of, child_spot, Contains, contains_at, Entry, Has}
-use Rattle.bolt_recover.proofs.Words.{HasSoundTrees, head_root, Holds, inline_elements, Inline_page, IsEntry, IsListing, IsRecovered, IsRecoveredMember, Item}
-use Rattle.bolt_recover.proofs.Words.{item_of, kept, Key, leads, leads_none, leaf_node, LeafElement, leaves_of, Member, Meta, Node, node_at, Nodes}
-use Rattle.bolt_recover.proofs.Words.{none-some, page_at, PageSpot, Path, Place, place_at, reached, Root_page, root_place, root_spot}
-use Rattle.bolt_recover.proofs.Words.{same_Some, shape_passes, ShowsEntry, Spot, Start, start_of, step_place}
-use Rattle.bolt_recover.proofs.Words.{upper_from, Visit}
+use Rattle.bolt_recover.proofs.Words.{At_inline, At_page, cases_Bool, child_in, child_of, child_spot, Contains, contains_at, Entry, Has, HasSoundTrees}
+use Rattle.bolt_recover.proofs.Words.{head_root, Holds, inline_elements, Inline_page, IsEntry, IsListing, IsRecovered, IsRecoveredMember, Item, item_of, kept}
+use Rattle.bolt_recover.proofs.Words.{Key, leads, leads_none, leaf_node, LeafElement, leaves_of, Member, Meta, Node, node_at, Nodes, none-some, page_at}
+use Rattle.bolt_recover.proofs.Words.{PageSpot, Path, Place, place_at, reached, Root_page, root_place, root_spot, same_Some, ShowsEntry, Spot, Start, start_of}
+use Rattle.bolt_recover.proofs.Words.{step_place, upper_from, Visit}
 use Rattle.bolt_tree.proofs.BucketWays.{flat}
-use Rattle.bolt_recover.proofs.ElementLists.{slice_of}
+use Rattle.bolt_recover.proofs.PlaceFacts.{place_further, slice_of, spot_is}
 use Rattle.bolt_recover.proofs.HeldMembers.{held, shows_entry, well_at}
-use Rattle.bolt_recover.proofs.PlaceFacts.{place_further, spot_is}
 use Rattle.bolt_recover.proofs.PlaceSteps.{IsBranchPage, IsLeafPage, IsTidy, IsTidyAt, bucket_place, on_page}
 use Rattle.bolt_recover.proofs.NothingLost.{all_kept}
 use Rattle.bolt_recover.proofs.SoundSurveys.{none_lost}
@@ -161,9 +159,7 @@ module _ (file : List ℕ) (meta : Meta) where
 -- the recovered listing of sound trees is their listing
 pub sound_listing : (file : List ℕ) (meta : Meta) (listing : List Member) → HasSoundTrees file meta → IsRecovered file meta listing → IsListing file meta listing
 sound_listing file meta listing trees recovered =
-    let nodes = node_at file meta in
-    let none = none_lost nodes (reached nodes meta.root) recovered.survey (shape_passes nodes meta.root trees) recovered.surveys in
-    let all = all_kept file meta recovered.survey recovered.surveys none in
+    let all = all_kept file meta recovered.survey recovered.surveys (none_lost file meta recovered.survey trees recovered.surveys) in
     record {
       rises = recovered.rises;
       exact = λ path item. (

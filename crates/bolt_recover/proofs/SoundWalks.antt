@@ -16,7 +16,7 @@ use Rattle.bolt_recover.proofs.SoundSurveys.{none_lost}
 
 pub no_loss : (file : List ℕ) (meta : Meta) (losses : List LossView) → HasSoundTrees file meta → AreLosses file meta losses → losses ≡ []
 no_loss file meta losses trees (survey, is, are) =
-    are ∙ no_losses file meta survey (none_lost (node_at file meta) (reached (node_at file meta) meta.root) survey (shape_passes (node_at file meta) meta.root trees) is)
+    are ∙ no_losses file meta survey (none_lost file meta survey trees is)
 
 pub keeps_root : (file : List ℕ) (meta : Meta) → HasSoundTrees file meta → KeepsRoot file meta
 keeps_root file meta trees =

@@ -7,7 +7,7 @@ use Rattle.bolt_recover.proofs.Words.{IsGoodContent, IsGoodPage, IsMetaPage, IsS
 use Rattle.bolt_recover.proofs.Words.{Meta, meta_pages, nat_tests, NextVisit, node_at, NoWay, open_tasks, OpenPage, option_map, Outcome, outcome_of, over_by}
 use Rattle.bolt_recover.proofs.Words.{Page, page_tasks, page_visit, page_weight, Passes, Path, Place, place_size, place_tasks, root_spot, Runs, spot_at}
 use Rattle.bolt_recover.proofs.Words.{spot_place, State, state_tasks, stay, StaysOn, step_place, take-append-drop, take-append-le, take_all, tally_of, Task}
-use Rattle.bolt_recover.proofs.Words.{tasks_after, tasks_from, Tests, Visited, visits_at}
+use Rattle.bolt_recover.proofs.Words.{tasks_after, tasks_from, Tests, visits_at}
 use Rattle.bolt_check.specs.declared.claims.Claims.{Claims}
 use Rattle.bolt_check.specs.declared.spot.PageSpot.{PageSpot}
 use Rattle.bolt_check.specs.declared.spot.Spot.{Spot}
@@ -143,18 +143,26 @@ entered_lost s ahead x claimed visited has is tests claims counts =
       same = after_ahead s ahead (Some x) claimed s.pages losses visited is tests refl (λ i. record { losses = losses; visited = counts i; claimed = λ n. (claims n ∙ sym (or_none (s.claimed n))) i });
     }
 
--- without what is ahead the tasks are those of the open pages
-run_open : (s : State) (visits : List (Visited NoWay)) (members : List Member) → s.ahead ≡ None → Runs s.file s.meta stay s.claimed (state_tasks s) visits members
-    → Runs s.file s.meta stay s.claimed (open_tasks s.file s.meta s.path s.pages []) visits members
-run_open s visits members is run =
-    subst (λ (o : Option NextVisit). Runs s.file s.meta stay s.claimed (ahead_tasks s.file s.meta s.path o (open_tasks s.file s.meta s.path s.pages [])) visits members) is run
+-- without what is ahead the tasks are those of the open pages, the innermost first
+tasks_top : (s : State) (front : List OpenPage) (top : OpenPage) → s.ahead ≡ None → s.pages ≡ front ++ top ∷ []
+    → state_tasks s ≡ page_tasks s.file s.meta s.path top ++ open_tasks s.file s.meta s.path front []
+tasks_top s front top is pages =
+    ap (λ (o : Option NextVisit). ahead_tasks s.file s.meta s.path o (open_tasks s.file s.meta s.path s.pages [])) is
+    ∙ ap (λ (ps : List OpenPage). open_tasks s.file s.meta s.path ps []) pages ∙ open_last s.file s.meta s.path front top []
 
-run_top : (s : State) (front : List OpenPage) (top : OpenPage) (visits : List (Visited NoWay)) (members : List Member) → s.ahead ≡ None → s.pages ≡ front ++ top ∷ []
-    → Runs s.file s.meta stay s.claimed (state_tasks s) visits members
-    → Runs s.file s.meta stay s.claimed (page_tasks s.file s.meta s.path top ++ open_tasks s.file s.meta s.path front []) visits members
-run_top s front top visits members is pages run =
-    subst (λ (ts : List (Task NoWay)). Runs s.file s.meta stay s.claimed ts visits members)
-    (ap (λ (ps : List OpenPage). open_tasks s.file s.meta s.path ps []) pages ∙ open_last s.file s.meta s.path front top []) (run_open s visits members is run)
+-- where the same is left to be done, the same comes of it
+goes_by : (s : State) (ahead : Option NextVisit) (pages : List OpenPage) → HasOpen (record s { ahead = ahead; pages = pages }) → (is_over s ≡ true → ⊥)
+    → state_tasks s ≡ state_tasks (record s { ahead = ahead; pages = pages }) → GoesOn s (record s { ahead = ahead; pages = pages })
+goes_by s ahead pages placed going same = record {
+  on = record { file = refl; meta = refl; placed = placed };
+  path = refl;
+  over = λ over. absurd (going over);
+  same = λ members outcome comes. record {
+    visits = comes.visits;
+    run = subst (λ (ts : List (Task NoWay)). Runs s.file s.meta stay s.claimed ts comes.visits members) same comes.run;
+    all = comes.all;
+  };
+}
 
 pub top_of : (s : State) (front : List OpenPage) (top : OpenPage) → HasOpen s → s.ahead ≡ None → s.pages ≡ front ++ top ∷ [] → Innermost s.file s.meta 0 front top (length s.path)
 top_of s front top has is pages =
@@ -167,17 +175,9 @@ pub took_last : (s : State) (front : List OpenPage) (top : OpenPage) → HasOpen
 took_last s front top has is pages over =
     let inner = top_of s front top has is pages in
     let nothing : top.count - top.next ≡ 0 = omega arith in
-    record {
-      on = record { file = refl; meta = refl; placed = record { pages = are_open_up s.file s.meta 0 front top.level (length s.path) inner.below inner.within; within = omega arith } };
-      path = refl;
-      over = λ over. absurd (not_open s front top is pages over);
-      same = λ members outcome comes. record {
-        visits = comes.visits;
-        run = subst (λ (n : ℕ). Runs s.file s.meta stay s.claimed (tasks_from s.file s.meta stay tt (content_place (take top.level s.path) top.content) top.next n ++ open_tasks s.file s.meta s.path front []) comes.visits members)
-            nothing (run_top s front top comes.visits members is pages comes.run);
-        all = comes.all;
-      };
-    }
+    goes_by s None front (record { pages = are_open_up s.file s.meta 0 front top.level (length s.path) inner.below inner.within; within = omega arith }) (not_open s front top is pages)
+    (tasks_top s front top is pages
+    ∙ ap (λ (n : ℕ). tasks_from s.file s.meta stay tt (content_place (take top.level s.path) top.content) top.next n ++ open_tasks s.file s.meta s.path front []) nothing)
 
 take_below : (m n : ℕ) (path rest : Path) → m ≤ length path → n ≤ m → take n (take m path ++ rest) ≡ take n path
 take_below m n path rest long le =
@@ -202,15 +202,13 @@ module _ (s : State) (front : List OpenPage) (top : OpenPage) (has : HasOpen s) 
   in_front : top.next + 1 ≤ top.count
   in_front = let taken = inner.good.taken in omega (arith, taken, more)
 
-  run_entry : (visits : List (Visited NoWay)) (members : List Member) → Runs s.file s.meta stay s.claimed (state_tasks s) visits members
-      → Runs s.file s.meta stay s.claimed (entry_tasks s.file s.meta stay tt here top.next ++ rest_tasks) visits members
-  run_entry visits members run =
+  tasks_entry : state_tasks s ≡ entry_tasks s.file s.meta stay tt here top.next ++ rest_tasks
+  tasks_entry =
       let lt = in_front in
       let count : top.count - top.next ≡ suc (top.count - (top.next + 1)) = omega (arith, lt) in
-      subst (λ (ts : List (Task NoWay)). Runs s.file s.meta stay s.claimed ts visits members)
-      (ap (λ (n : ℕ). tasks_from s.file s.meta stay tt here top.next n ++ open_tasks s.file s.meta s.path front []) count
-      ∙ append_assoc (entry_tasks s.file s.meta stay tt here top.next) (tasks_from s.file s.meta stay tt here (suc top.next) (top.count - (top.next + 1))) (open_tasks s.file s.meta s.path front []))
-      (run_top s front top visits members is pages run)
+      tasks_top s front top is pages
+      ∙ ap (λ (n : ℕ). tasks_from s.file s.meta stay tt here top.next n ++ open_tasks s.file s.meta s.path front []) count
+      ∙ append_assoc (entry_tasks s.file s.meta stay tt here top.next) (tasks_from s.file s.meta stay tt here (suc top.next) (top.count - (top.next + 1))) (open_tasks s.file s.meta s.path front [])
 
   moved_open : (high : ℕ) → top.level ≤ high → AreOpen s.file s.meta 0 (front ++ moved ∷ []) high
   moved_open high le = are_open_push s.file s.meta 0 front moved high inner.below (record { content = inner.good.content; count = inner.good.count; fits = inner.good.fits; taken = in_front }) le
@@ -247,28 +245,16 @@ module _ (s : State) (front : List OpenPage) (top : OpenPage) (has : HasOpen s) 
       → GoesOn s (record s { ahead = ahead_of top.level r; pages = front ++ moved ∷ [] })
   took_branch r none leads =
       let within = inner.within in
-      record {
-        on = record {
-          file = refl;
-          meta = refl;
-          placed = record {
-            pages = moved_open (ahead_level (ahead_of top.level r) (length s.path)) (ahead_above top.level top.level r (length s.path) (omega arith) within);
-            within = ahead_within top.level r (length s.path) within;
-          };
-        };
-        path = refl;
-        over = λ over. absurd (not_open s front top is pages over);
-        same = λ members outcome comes. record {
-          visits = comes.visits;
-          run = subst (λ (ts : List (Task NoWay)). Runs s.file s.meta stay s.claimed ts comes.visits members)
-              (ap (λ (o : Option LeafElement). (gives_at s.file s.meta stay (take top.level s.path) o ++ visits_at s.file s.meta stay tt (step_place s.file s.meta here top.next)) ++ rest_tasks) none
-              ∙ ap (λ (o : Option Place). visits_at s.file s.meta stay tt o ++ rest_tasks) leads
-              ∙ visits_ahead s.path top.level r rest_tasks
-              ∙ ap (ahead_tasks s.file s.meta s.path (ahead_of top.level r)) (moved_tasks s.path (λ n le. refl)))
-              (run_entry comes.visits members comes.run);
-          all = comes.all;
-        };
-      }
+      goes_by s (ahead_of top.level r) (front ++ moved ∷ [])
+      (record {
+        pages = moved_open (ahead_level (ahead_of top.level r) (length s.path)) (ahead_above top.level top.level r (length s.path) (omega arith) within);
+        within = ahead_within top.level r (length s.path) within;
+      }) (not_open s front top is pages)
+      (tasks_entry
+      ∙ ap (λ (o : Option LeafElement). (gives_at s.file s.meta stay (take top.level s.path) o ++ visits_at s.file s.meta stay tt (step_place s.file s.meta here top.next)) ++ rest_tasks) none
+      ∙ ap (λ (o : Option Place). visits_at s.file s.meta stay tt o ++ rest_tasks) leads
+      ∙ visits_ahead s.path top.level r rest_tasks
+      ∙ ap (ahead_tasks s.file s.meta s.path (ahead_of top.level r)) (moved_tasks s.path (λ n le. refl)))
 
   -- an element of a leaf
   pub took_leaf : (e : LeafElement) (r : Option Spot) → slice_get (content_elements top.content) top.next ≡ Some e
@@ -291,8 +277,8 @@ module _ (s : State) (front : List OpenPage) (top : OpenPage) (has : HasOpen s) 
         more = more_open (ahead_of (top.level + 1) r) front moved;
         head = λ members outcome comes.
             let first = subst (λ (ts : List (Task NoWay)). Runs s.file s.meta stay s.claimed ts comes.visits members)
-            (ap (λ (o : Option LeafElement). (gives_at s.file s.meta stay (take top.level s.path) o ++ visits_at s.file s.meta stay tt (step_place s.file s.meta here top.next)) ++ rest_tasks) some)
-            (run_entry comes.visits members comes.run) in
+            (tasks_entry ∙ ap (λ (o : Option LeafElement). (gives_at s.file s.meta stay (take top.level s.path) o ++ visits_at s.file s.meta stay tt (step_place s.file s.meta here top.next)) ++ rest_tasks) some)
+            comes.run in
             let next = gives s.file s.meta stay s.claimed path e (visits_at s.file s.meta stay tt (step_place s.file s.meta here top.next) ++ rest_tasks) comes.visits members first in (
               next.0,
               next.1,

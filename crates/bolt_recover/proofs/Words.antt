@@ -13,8 +13,8 @@ pub use Rattle.bolt_check.proofs.WayOrder.{before_irreflexive, before_strict, be
 unfoldable pub use Rattle.bolt_check.specs.CheckedFiles.{bytes_of, meta_of}
 unfoldable pub use Rattle.bolt_check.specs.Claims.{claims_file, claims_meta, claims_visited, is_claimed}
 pub use Rattle.bolt_check.specs.Counts.{counted}
-pub use Rattle.bolt_check.specs.Findings.{IsClaimedBefore, IsClean, IsFirst, IsMetaPage, Passes, Tests, early, early_finding, finding, finding_of}
-pub use Rattle.bolt_check.specs.Findings.{inline_finding, keys_of, late, node_finding, open_finding, twice}
+pub use Rattle.bolt_check.specs.Findings.{IsClaimedBefore, IsFirst, IsMetaPage, Passes, Tests, early, early_finding, finding, finding_of, inline_finding}
+pub use Rattle.bolt_check.specs.Findings.{keys_of, late, node_finding, open_finding, twice}
 pub use Rattle.bolt_check.specs.Keys.{Key, KeysRise, is_below, is_from, key_cmp, key_lt, keys_order_fault}
 unfoldable pub use Rattle.bolt_check.specs.Leftovers.{is_listed, is_taken, leftovers_file, leftovers_length, leftovers_meta}
 pub use Rattle.bolt_check.specs.LoneLeaves.{IsListedFree, IsLoneLeaf}
@@ -82,7 +82,7 @@ pub use Rattle.bolt_recover.specs.declared.recovery.Recovery.{Recovery}
 pub use Rattle.bolt_recover.specs.declared.steps.NextVisit.{NextVisit}
 pub use Rattle.bolt_tree.proofs.EntryOrder.{contains_at}
 pub use Rattle.bolt_tree.proofs.Filters.{filter_all, filter_none, filter_same, lt_of, not_lt_of}
-pub use Rattle.bolt_tree.proofs.ListLemmas.{Each, RisesBy, get_before, has_left, has_right, has_split, rises_append}
+pub use Rattle.bolt_tree.proofs.ListLemmas.{Each, RisesBy, get_before, has_at, has_from_contains, has_left, has_right, has_split, rises_append}
 pub use Rattle.bolt_tree.proofs.Lists.{contains_cases, contains_head, contains_none, contains_tail, rises_once}
 pub use Rattle.bolt_tree.proofs.PathOrder.{before_longer, flip_less, key_same, key_total, less_lt, path_total, same_front}
 pub use Rattle.bolt_tree.proofs.Single.{lists_once, member_total}
