@@ -1,82 +1,36 @@
 -- The members of the joined listing, one after another.
-use Rattle.std.proofs.Common.{◌≡◌, ◌≢◌, ◌∙◌, ℕ, Bool, true, false, List, [], ◌∷◌, ◌++◌, ◌⊎◌, ◌||◌, inl, inr, Option, Some, None, Result, Ok, Err, IfOk, IfSome, OnErr, OnOk, filter, is_some, not, refl, sym, ap, subst, subst₂}
-use Rattle.bolt_recover.proofs.Words.{All, All-head, All-tail, AreJoinable, below_bucket, Bucket, bucket_members, cases_Bool, Contains, contains_cases}
-use Rattle.bolt_recover.proofs.Words.{contains_head, contains_none, contains_tail, false≢true, first_cmp, ForRecovered, Found, GivesNext, HasBucketKey}
-use Rattle.bolt_recover.proofs.Words.{held_members, is_eq, is_found_path, is_lt, IsFoundView, IsHeldWell, IsJoined, IsRecovered, Item, item_view}
+use Rattle.std.proofs.Common.{◌≡◌, ◌≢◌, ◌∙◌, ℕ, true, false, List, [], ◌∷◌, ◌++◌, ◌⊎◌, inl, inr, Option, Some, None, Result, Ok, Err, IfOk, IfSome, OnErr, OnOk, filter, is_some, not, refl, sym, ap, subst, subst₂}
+use Rattle.bolt_recover.proofs.Words.{All, All-head, All-tail, AreJoinable, below_bucket, Bucket, bucket_members, contains_cases}
+use Rattle.bolt_recover.proofs.Words.{contains_head, contains_none, contains_tail, first_cmp, ForRecovered, Found, GivesNext, HasBucketKey}
+use Rattle.bolt_recover.proofs.Words.{held_members, is_eq, is_found_path, is_lt, IsFoundView, IsHeldWell, IsJoined, IsRecovered, item_view}
 use Rattle.bolt_recover.proofs.Words.{joined_listing, Kept, kept_file, kept_left, kept_meta, kept_path, LacksBucketKey, LeafElement, leaves_of, left_at}
 use Rattle.bolt_recover.proofs.Words.{lost_and_found, Member, Meta, numbers_of, option_map, page_at, pages_of, Path, path_at, props, put_members, recovered_in}
-use Rattle.bolt_recover.proofs.Words.{shown, TellsBucketKey, ∥∥₁_elim}
+use Rattle.bolt_recover.proofs.Words.{shown}
 use Rattle.bolt_recover.specs.declared.found_members.FoundMembers.{FoundMembers}
 use Rattle.bolt_recover.specs.declared.joined.Stage.{Stage}
 use Rattle.bolt_recover.specs.declared.joined.Stage.TheVariants.{After, Before, Inside}
 use Rattle.bolt_tree.specs.declared.entry.Item.{Item as CodeItem}
+use Rattle.std.proofs.lemmas.Bool.{or_cases, or_parts}
+use Rattle.bolt_recover.specs.Private.Joining.{holds_key}
 use Rattle.bolt_recover.proofs.JoinedLemmas.{joined_keeps, joined_of, put_recovered, stays, with_elements}
 
 pub first_found : (path : Path) → is_eq (first_cmp path) ≡ is_found_path path
 first_found [] = refl
 first_found (key ∷ path) = refl
 
-abbrev IsLooked : (listing left : List Member) → Type 0
-IsLooked listing left = (m : Member) → Contains listing m → (not (is_found_path m.0) ≡ true) ⊎ Contains left m
+-- what is told of the key
+pub key_held : (listing : List Member) → holds_key listing ≡ true → HasBucketKey listing
+key_held [] e = absurd (cc)
+key_held (m ∷ listing) e = elim (or_cases (is_found_path m.0) (holds_key listing) e) [
+  | inl here ↦ (m, (contains_head m listing, here))
+  | inr later ↦ let (o, (has, is)) = key_held listing later in (o, (contains_tail m o listing has, is))
+]
 
-pub looked_on : (listing old new : List Member) (path : Path) (item : Item) → old ≡ (path, item) ∷ new → is_found_path path ≡ false → IsLooked listing old → IsLooked listing new
-looked_on listing old new path item is other looked m has =
-    elim (looked m has) [
-      | inl stays ↦ inl stays
-      | inr left ↦ elim (contains_cases (path, item) m new (subst (λ (ms : List Member). Contains ms m) is left)) [
-        | inl same ↦ inl (subst (λ (x : Member). not (is_found_path x.0) ≡ true) same (rw other refl))
-        | inr later ↦ inr later
-      ]
-    ]
-
-pub inside_on : (listing old new : List Member) (path : Path) (item : Item) → old ≡ (path, item) ∷ new → ((m : Member) → Contains old m → Contains listing m)
-    → (m : Member) → Contains new m → Contains listing m
-inside_on listing old new path item is inside m has = inside m (subst (λ (ms : List Member). Contains ms m) (sym is) (contains_tail (path, item) m new has))
-
-pub looked_found : (listing old new : List Member) (path : Path) (item : Item) → old ≡ (path, item) ∷ new → is_found_path path ≡ true → ((m : Member) → Contains old m → Contains listing m) → HasBucketKey listing
-looked_found listing old new path item is same inside =
-    ((path, item), (inside (path, item) (subst (λ (ms : List Member). Contains ms (path, item)) (sym is) (contains_head (path, item) new)), same))
-
-pub looked_all : (listing old : List Member) → old ≡ [] → IsLooked listing old → LacksBucketKey listing
-looked_all listing old none looked m has =
-    elim (looked m has) [ inl stays ↦ stays | inr left ↦ absurd (contains_none m (subst (λ (ms : List Member). Contains ms m) none left)) ]
-
--- what is known once the members that aren't left were looked at
-abbrev pub LooksOn : (listing left : List Member) → Bool → Type 0
-LooksOn listing left true = HasBucketKey listing
-LooksOn listing left false = IsLooked listing left
-
-pub looks_on : (listing old new : List Member) (path : Path) (item : Item) → old ≡ (path, item) ∷ new → ((m : Member) → Contains old m → Contains listing m)
-    → (has same : Bool) → same ≡ is_found_path path → LooksOn listing old has → LooksOn listing new (has || same)
-looks_on listing old new path item is inside true same e looked = looked
-looks_on listing old new path item is inside false true e looked = looked_found listing old new path item is (sym e) inside
-looks_on listing old new path item is inside false false e looked = looked_on listing old new path item is (sym e) looked
-
-pub looked_at : (listing old : List Member) → old ≡ [] → (has : Bool) → LooksOn listing old has → TellsBucketKey listing has
-looked_at listing old none true looked = looked
-looked_at listing old none false looked = looked_all listing old none looked
-
--- a listing has the key or lacks it
-has_or_lacks : (listing : List Member) → HasBucketKey listing ⊎ LacksBucketKey listing
-has_or_lacks [] = inr (λ m has. absurd (contains_none m has))
-has_or_lacks (m ∷ listing) =
-    elim (cases_Bool (is_found_path m.0)) [
-      | inl same ↦ inl (m, (contains_head m listing, same))
-      | inr other ↦ elim (has_or_lacks listing) [
-        | inl (o, (has, same)) ↦ inl (o, (contains_tail m o listing has, same))
-        | inr lacks ↦ inr (λ o has. elim (contains_cases m o listing has) [
-          | inl same ↦ subst (λ (x : Member). not (is_found_path x.0) ≡ true) same (rw other refl)
-          | inr later ↦ lacks o later
-        ])
-      ]
-    ]
-
-pub bucket_key : (listing : List Member) → ∥ HasBucketKey listing ∥₁ → HasBucketKey listing
-bucket_key listing has =
-    elim (has_or_lacks listing) [
-      | inl is ↦ is
-      | inr lacks ↦ absurd (∥∥₁_elim has (hlevel props) (λ (m, (there, same)). false≢true (ap not (sym same) ∙ lacks m there)))
-    ]
+pub key_lacks : (listing : List Member) → holds_key listing ≡ false → LacksBucketKey listing
+key_lacks [] e m has = absurd (contains_none m has)
+key_lacks (m ∷ listing) e o has =
+    let both = or_parts (is_found_path m.0) (holds_key listing) e in
+    elim (contains_cases m o listing has) [ inl same ↦ subst (λ (x : Member). not (is_found_path x.0) ≡ true) same (ap not both.0) | inr later ↦ key_lacks listing both.1 o later ]
 
 module _ (file : List ℕ) (meta : Meta) where
   pages_same : (found : List Found) → All (IsFoundView file meta) found → with_elements file meta (numbers_of found) ≡ pages_of found

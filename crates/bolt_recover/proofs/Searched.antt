@@ -2,13 +2,13 @@
 use Rattle.std.proofs.Common.{◌≡◌, ◌≢◌, ◌∙◌, ◌<◌, ◌*◌, ◌^◌, true, false, List, [], ap, length, subst, sym}
 use Rattle.bolt_recover.proofs.Words.{all_lost, AreJoinable, AreTreesOf, bytes_of, Checked, Contains, contains_none, Damaged, everything, Finding, ForRecovered}
 use Rattle.bolt_recover.proofs.Words.{Found, HasBucketKey, IsSearched, LacksBucketKey, LosesRoot, LossView, lost_of, Member, meta_of, parts, props, Rootless}
-use Rattle.bolt_recover.proofs.Words.{Sound, TellsBucketKey, ∥∥₁_elim, ∥∥₁_map}
+use Rattle.bolt_recover.proofs.Words.{Sound, ∥∥₁_elim, ∥∥₁_map}
 use Rattle.bolt_recover.specs.Lost.{IsAllLost}
 use Rattle.bolt_recover.specs.declared.lost_and_found.Damage.{Damage}
 use Rattle.bolt_recover.specs.declared.lost_and_found.LostAndFound.{LostAndFound}
 use Rattle.bolt_recover.specs.declared.lost_and_found.Trees.{Trees}
 use Rattle.bolt_recover.proofs.FoundAll.{nothing_recovered}
-use Rattle.bolt_recover.proofs.JoinSteps.{bucket_key}
+use Rattle.bolt_recover.proofs.JoinSteps.{key_held, key_lacks}
 
 parts_some : (losses : List LossView) (x : Finding) → parts losses ≡ everything x → ⊥
 parts_some losses x is = cc
@@ -37,12 +37,10 @@ module _ (both : LostAndFound) where
 
   module _ (damage : Damage) (is : both.trees ≡ Damaged damage) where
     pub has_key : damage.has_bucket_key ≡ true → ForRecovered both.file.now both.meta HasBucketKey
-    has_key same listing recovers =
-        bucket_key listing (∥∥₁_map both.searched (λ searched. subst (TellsBucketKey listing) same (left (Damaged damage) is searched listing recovers)))
+    has_key same listing recovers = key_held listing (∥∥₁_elim both.searched (hlevel props) (λ searched. sym (left (Damaged damage) is searched listing recovers) ∙ same))
 
     pub lacks_key : damage.has_bucket_key ≡ false → ForRecovered both.file.now both.meta LacksBucketKey
-    lacks_key other listing recovers =
-        ∥∥₁_elim both.searched (hlevel props) (λ searched. subst (TellsBucketKey listing) other (left (Damaged damage) is searched listing recovers))
+    lacks_key other listing recovers = key_lacks listing (∥∥₁_elim both.searched (hlevel props) (λ searched. sym (left (Damaged damage) is searched listing recovers) ∙ other))
 
   module _ (x : Finding) (is : both.trees ≡ Rootless x) where
     pub root_lost : ∥ LosesRoot both.file.now both.meta x ∥₁
