@@ -1,13 +1,15 @@
 -- A recovery between its calls: what of the recovered listing is left, and which losses are still to be reported.
-use Rattle.std.proofs.Common.{◌≡◌, ◌∙◌, ◌≤◌, ◌<◌, ◌^◌, inl, inr, ℕ, Bool, true, false, ◌↔◌, List, [], ◌∷◌, ◌++◌, length, take, Option, Some, None, Result, Ok, Err, IfErr, IfOk, OnErr, cond, filter, if◌then◌else◌, refl, sym, ap, subst, arith, append_assoc}
-use Rattle.bolt_recover.proofs.Words.{Accounts, Advances, after_visit, after_visits, ahead_tasks, append-nil, AreFirst, AreKeptPages, AreLosses, AreOpen}
-use Rattle.bolt_recover.proofs.Words.{ArePageWays, cases_Bool, ComesTo, Contains, contains_head, contains_tail, Content, counted, Ends, filter_all, filter_same}
-use Rattle.bolt_recover.proofs.Words.{flip_less, further, GivesHead, GoesOn, HasOpen, is_lt, is_over, IsAllLeft, IsGoodContent, IsGoodPage, IsKeptPage, IsLeft}
-use Rattle.bolt_recover.proofs.Words.{IsOn, IsRecovered, IsRefusedRoot, IsSlotUnrecoverable, IsSurvey, IsTotalOrder, IsUnrecoverable, item_of, Key, leaf_view}
-use Rattle.bolt_recover.proofs.Words.{LeafElement, left_by, Less, less_lt, losses_of, LossView, lost_at, lt_of, Member, member_cmp, member_total, Memory, Meta}
-use Rattle.bolt_recover.proofs.Words.{NextVisit, node_at, Nodes, not_lt_of, NoWay, Open, open_tasks, OpenPage, Ordering, Outcome, outcome_of, over_by, Page}
+use Rattle.std.proofs.Common.{◌≡◌, ◌∙◌, ◌≤◌, ◌<◌, ◌^◌, inl, inr, ℕ, Bool, true, false, ◌↔◌, List, [], ◌∷◌, ◌++◌, length, take, Option, Some, None, Result, Ok, Err, IfErr, IfOk, OnErr, filter, if◌then◌else◌, refl, sym, ap, subst, arith, append_assoc}
+use Rattle.bolt_recover.proofs.Words.{Accounts, Advances, after_visit, after_visits, ahead_tasks, All-contains, All-contains_itself, All-filter, append-nil}
+use Rattle.bolt_recover.proofs.Words.{AreFirst, AreKeptPages, AreLosses, AreOpen, ArePageWays, cases_Bool, ComesTo, Contains, contains_cases, contains_head}
+use Rattle.bolt_recover.proofs.Words.{Content, counted, Ends, filter_all, filter_first, filter_passes, filter_rises, flip_less}
+use Rattle.bolt_recover.proofs.Words.{further, GivesHead, GoesOn, HasOpen, is_lt, is_over, IsAllLeft, IsGoodContent, IsGoodPage, IsKeptPage, IsLeft, IsOn}
+use Rattle.bolt_recover.proofs.Words.{IsRecovered, IsRefusedRoot, IsSlotUnrecoverable, IsSurvey, IsUnrecoverable, item_of, Key, leaf_view}
+use Rattle.bolt_recover.proofs.Words.{LeafElement, left_by, less_lt, losses_of, LossView, lost_at, lt_of, Member, member_cmp, member_total, Memory, Meta}
+use Rattle.bolt_recover.proofs.Words.{NextVisit, node_at, Nodes, not_lt_of, NoWay, Open, open_tasks, OpenPage, Outcome, outcome_of, over_by, Page}
 use Rattle.bolt_recover.proofs.Words.{page_ways, Path, path_cmp, path_total, props, reached, rest_after, Rises, Runs, RunsAll, State, stay, StaysOn, Structure}
 use Rattle.bolt_recover.proofs.Words.{take-append-le, take_all, tally_of, Task, tied_itself, Visit, Visited, Way}
+use Rattle.bolt_tree.proofs.Filters.{kept as passing}
 use Rattle.bolt_format.specs.declared.element.Leaf.{Leaf}
 use Rattle.bolt_check.specs.declared.fault.CheckFault.{CheckFault}
 use Rattle.bolt_format.specs.Metas.{IsChosen, IsInSlot}
@@ -116,43 +118,21 @@ begun s file meta before of_file of_meta placed more path all = record {
       subst (λ (ms : List Member). ComesTo s ms (outcome_of (node_at file meta) before visits)) (sym (left_all s file meta members more path (recovers file meta visits members run))) (all visits members run));
 }
 
--- what a filter keeps first is a member that it keeps
-kept_first : {A : Type 0} (f : A → Bool) (y : A) (ys : List A) (m : A) (rest : List A) (b : Bool) → f y ≡ b → cond b (y ∷ filter f ys) (filter f ys) ≡ m ∷ rest
-    → (filter f ys ≡ m ∷ rest → Contains ys m × (f m ≡ true)) → Contains (y ∷ ys) m × (f m ≡ true)
-kept_first f y ys m rest true is e more = let same : y ≡ m = cc in (subst (λ z. Contains (y ∷ ys) z) same (contains_head y ys), ap f (sym same) ∙ is)
-kept_first f y ys m rest false is e more = let later = more e in (contains_tail y m ys later.0, later.1)
-
-filter_has : {A : Type 0} (f : A → Bool) (xs : List A) (m : A) (rest : List A) → filter f xs ≡ m ∷ rest → Contains xs m × (f m ≡ true)
-filter_has f [] m rest e = absurd (cc)
-filter_has f (y ∷ ys) m rest e = kept_first f y ys m rest (f y) refl e (λ later. filter_has f ys m rest later)
-
--- In a rising list, what comes after the first member that a filter keeps is the rest that it keeps.
-module _ {A : Type 0} {cmp : A → A → Ordering} (o : IsTotalOrder cmp) (f : A → Bool) (m : A) (rest : List A) (up : (x : A) → cmp m x ≡ Less → f x ≡ true) where
-  behind_first : (y : A) (ys : List A) (b : Bool) → f y ≡ b → Rises cmp (y ∷ ys) → cond b (y ∷ filter f ys) (filter f ys) ≡ m ∷ rest
-      → (filter f ys ≡ m ∷ rest → filter (λ x. is_lt (cmp m x)) ys ≡ rest) → filter (λ x. is_lt (cmp m x)) (y ∷ ys) ≡ rest
-  behind_first y ys true is rises e more =
-      let same : y ≡ m = cc in
-      let later : filter f ys ≡ rest = cc in
-      let below : (x : A) → Contains ys x → cmp m x ≡ Less = subst (λ (z : A). (x : A) → Contains ys x → cmp z x ≡ Less) same rises.0 in
-      let itself : is_lt (cmp m y) ≡ false = ap (λ z. is_lt (cmp m z)) same ∙ ap is_lt (tied_itself o m) in
-      let both : filter (λ x. is_lt (cmp m x)) ys ≡ filter f ys =
-      filter_same (λ x. is_lt (cmp m x)) f ys (λ x h. lt_of (cmp m x) (below x h) ∙ sym (up x (below x h))) in
-      rw itself (both ∙ later)
-  behind_first y ys false is rises e more =
-      let before : cmp y m ≡ Less = rises.0 m (filter_has f ys m rest e).0 in
-      let out : is_lt (cmp m y) ≡ false = not_lt_of (cmp m y) (flip_less o y m before) in
-      rw out (more e)
-
-  filter_behind : (xs : List A) → Rises cmp xs → filter f xs ≡ m ∷ rest → filter (λ x. is_lt (cmp m x)) xs ≡ rest
-  filter_behind [] rises e = absurd (cc)
-  filter_behind (y ∷ ys) rises e = behind_first y ys (f y) refl rises e (λ later. filter_behind ys rises.1 later)
-
--- the rest of what was left comes after what was returned
+-- the rest of what was left comes after what was returned, which is the least of it
 given_left : (path : Path) (listing : List Member) (m : Member) (rest : List Member) → Rises member_cmp listing → rest_after path listing ≡ m ∷ rest → rest_after m.0 listing ≡ rest
 given_left path listing m rest rises e =
-    let kept = (filter_has (λ (x : Member). is_lt (path_cmp path x.0)) listing m rest e).1 in
-    let after : path_cmp path m.0 ≡ Less = less_lt (path_cmp path m.0) kept in
-    filter_behind member_total (λ (x : Member). is_lt (path_cmp path x.0)) m rest (λ x less. lt_of (path_cmp path x.0) (path_total.trans path m.0 x.0 after less)) listing rises e
+    let after : Member → Bool = λ x. is_lt (path_cmp path x.0) in
+    let there : Contains (filter after listing) m = subst (λ (ms : List Member). Contains ms m) (sym e) (contains_head m rest) in
+    let inside = All-contains (Contains listing) (filter after listing) m (All-filter after (Contains listing) listing (All-contains_itself listing)) there in
+    let passes : after m ≡ true = All-contains (λ x. after x ≡ true) (filter after listing) m (filter_passes after listing) there in
+    let later : Rises member_cmp (m ∷ rest) = subst (Rises member_cmp) e (filter_rises member_cmp after listing rises) in
+    let first : filter after listing ≡ m ∷ rest_after m.0 listing = filter_first member_total after m
+    (λ x less. lt_of (path_cmp path x.0) (path_total.trans path m.0 x.0 (less_lt (path_cmp path m.0) passes) less)) listing rises inside passes
+    (λ x has is. elim (contains_cases m x rest (subst (λ (ms : List Member). Contains ms x) e (passing after listing x has is))) [
+      | inl same ↦ subst (λ (y : Member). is_lt (member_cmp y m) ≡ false) same (ap is_lt (tied_itself member_total m))
+      | inr behind ↦ not_lt_of (member_cmp x m) (flip_less member_total m x (later.0 x behind))
+    ]) in
+    cc
 
 left_given : (s : State) (listing : List Member) (m : Member) (rest : List Member) → Rises member_cmp listing → left_by s listing ≡ m ∷ rest → rest_after m.0 listing ≡ rest
 left_given s listing m rest rises e =

@@ -56,8 +56,7 @@ pub use Rattle.bolt_recover.specs.Private.Frames.{Advances, AreOpen, ComesTo, En
 pub use Rattle.bolt_recover.specs.Private.Frames.{IsLeft, IsOn, IsShallow, NoWay, State, StaysOn, ahead_level, ahead_tasks, ahead_weight, claims_nodes}
 pub use Rattle.bolt_recover.specs.Private.Frames.{content_elements, content_place, content_size, content_spot, is_over, left_by, lost_state, open_tasks}
 pub use Rattle.bolt_recover.specs.Private.Frames.{over_by, page_tasks, page_weight, spot_place, state_of, state_tasks, stay, step_path, steps_weight, tally_of}
-pub use Rattle.bolt_recover.specs.Private.Joining.{AreJoinable, IsHeldWell, TellsBucketKey, first_cmp, held_members, left_at, path_at, put_members}
-pub use Rattle.bolt_recover.specs.Private.Joining.{recovered_in}
+pub use Rattle.bolt_recover.specs.Private.Joining.{AreJoinable, IsHeldWell, first_cmp, held_members, holds_key, left_at, path_at, put_members, recovered_in}
 pub use Rattle.bolt_recover.specs.Private.KeptMembers.{kept_file, kept_left, kept_meta, kept_path}
 pub use Rattle.bolt_recover.specs.Private.Runs.{Outcome, Runs, RunsAll, Task, To_give, To_visit, Visited, Way, after_visit, after_visits, claimed_after}
 pub use Rattle.bolt_recover.specs.Private.Runs.{claims_of, entry_count, entry_tasks, further, gives_at, in_span, lost_at, meta_pages, outcome_of, page_visit}
@@ -81,9 +80,11 @@ pub use Rattle.bolt_recover.specs.declared.lost_and_found.Trees.TheVariants.{Dam
 pub use Rattle.bolt_recover.specs.declared.recovery.Recovery.{Recovery}
 pub use Rattle.bolt_recover.specs.declared.steps.NextVisit.{NextVisit}
 pub use Rattle.bolt_tree.proofs.EntryOrder.{contains_at}
-pub use Rattle.bolt_tree.proofs.Filters.{filter_all, filter_none, filter_same, lt_of, not_lt_of}
-pub use Rattle.bolt_tree.proofs.ListLemmas.{Each, RisesBy, get_before, has_at, has_from_contains, has_left, has_right, has_split, rises_append}
+pub use Rattle.bolt_tree.proofs.Filters.{filter_all, filter_first, filter_none, filter_same, lt_of, not_lt_of}
+pub use Rattle.bolt_tree.proofs.ListLemmas.{Each, RisesBy, contains_from_has, get_before, has_at, has_from_contains, has_left, has_right, has_split, map_has}
+pub use Rattle.bolt_tree.proofs.ListLemmas.{rises_append, rises_map}
 pub use Rattle.bolt_tree.proofs.Lists.{contains_cases, contains_head, contains_none, contains_tail, rises_once}
+pub use Rattle.bolt_tree.proofs.PartLemmas.{filter_rises}
 pub use Rattle.bolt_tree.proofs.PathOrder.{before_longer, flip_less, key_same, key_total, less_lt, path_total, same_front}
 pub use Rattle.bolt_tree.proofs.Single.{lists_once, member_total}
 pub use Rattle.bolt_tree.specs.Entries.{Bucket, Inline_page, IsEntry, Item, Root_page, ShowsEntry, Start, Value, item_of, start_of}
@@ -105,8 +106,8 @@ pub use Rattle.std.proofs.lemmas.Cmp.{nat_cmp_total, tied_itself}
 pub use Rattle.std.proofs.lemmas.Grind.{common_steps, merely}
 pub use Rattle.std.proofs.lemmas.List.{append-nil, drop_all, length-append, length-map, length-take-le, map-append, nil_from_length, take-append-drop}
 pub use Rattle.std.proofs.lemmas.List.{take-append-le, take-map, take_all}
-pub use Rattle.std.proofs.lemmas.List.Elements.{All-head, All-nil, All-push, All-tail, Contains-append_cases, Contains-append_left, Contains-append_right}
-pub use Rattle.std.proofs.lemmas.List.Elements.{Contains-push_cases, filter-append}
+pub use Rattle.std.proofs.lemmas.List.Elements.{All-contains, All-contains_itself, All-filter, All-head, All-nil, All-push, All-tail, Contains-append_cases}
+pub use Rattle.std.proofs.lemmas.List.Elements.{Contains-append_left, Contains-append_right, Contains-push_cases, filter-append, filter_passes}
 pub use Rattle.std.proofs.lemmas.List.Sums.{sum_by-append, sum_by-cons}
 pub use Rattle.std.proofs.lemmas.Option.{none-some, same_Some, slice_get-map, slice_get_cases, slice_get_within}
 pub use Rattle.std.specs.Cmp.{IsTotalOrder, both_ways, nat_cmp_is}

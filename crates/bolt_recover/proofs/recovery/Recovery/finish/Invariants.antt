@@ -1,6 +1,5 @@
 use Rattle.std.proofs.Common.{◌≡◌, ◌||◌}
-use Rattle.bolt_recover.proofs.Words.{ForRecovered, recovery_file, recovery_left, recovery_meta, recovery_work}
-use Rattle.bolt_recover.specs.Private.Joining.{holds_key}
+use Rattle.bolt_recover.proofs.Words.{ForRecovered, holds_key, recovery_file, recovery_left, recovery_meta, recovery_work}
 use Rattle.bolt_recover.proofs.recovery.Recovery.finish.Given as goal
 
 -- the same file under the same meta, and what isn't left was looked at
