@@ -1,25 +1,18 @@
 -- The found pages of a whole file.
-use Rattle.std.proofs.Common.{◌≡◌, ◌∙◌, ◌↔◌, ◌⊎◌, ◌+◌, inl, inr, ℕ, Bool, true, arith, List, [], ◌∷◌, length, map, Option, Some, None, Result, Ok, Err, IfOk, refl, sym, ap, subst}
+use Rattle.std.proofs.Common.{◌≡◌, ◌∙◌, ◌↔◌, ◌⊎◌, ◌+◌, inl, inr, ℕ, Bool, true, arith, List, [], ◌∷◌, Option, Some, None, Result, Ok, Err, IfOk, refl, sym, ap, subst}
 use Rattle.bolt_recover.proofs.Words.{AreFound, AreKeptPages, AreLosses, At_page, claims_meta, claims_of, Contains, contains_cases, contains_head}
-use Rattle.bolt_recover.proofs.Words.{contains_none, contains_tail, done, Finding, FoundBelow, further, Has, IsFoundPage, IsKeptPage, IsListedFree, IsLoneLeaf}
-use Rattle.bolt_recover.proofs.Words.{IsMetaPage, IsRecovered, IsSurvey, kept, LosesNothing, LosesRoot, losses_of, LossView, lost, Member, Meta, meta_pages}
-use Rattle.bolt_recover.proofs.Words.{nat_tests, node_at, node_below, props, Recovery, recovery_meta, root_place, root_spot, RunsAll, SpanAt, Visit, visit}
-use Rattle.bolt_recover.proofs.Words.{∥∥₁_elim}
+use Rattle.bolt_recover.proofs.Words.{contains_none, contains_tail, done, Finding, FoundBelow, further, Has, HasSoundTrees, IsFoundPage, IsKeptPage}
+use Rattle.bolt_recover.proofs.Words.{IsListedFree, IsLoneLeaf, IsMetaPage, IsRecovered, IsSurvey, kept, LosesNothing, LosesRoot, lost, Member, Meta}
+use Rattle.bolt_recover.proofs.Words.{meta_pages, nat_tests, node_at, node_below, props, Recovery, recovery_meta, root_place, root_spot, RunsAll, SpanAt, Visit}
+use Rattle.bolt_recover.proofs.Words.{visit, ∥∥₁_elim}
 use Rattle.bolt_recover.proofs.Existing.{has_survey, one_recovered, recovers}
 use Rattle.bolt_recover.proofs.FoundLemmas.{found_one, found_same, passed}
 use Rattle.bolt_recover.proofs.Deciding.{Decided, decided_as, decided_by, either_decided, lowest}
-use Rattle.bolt_recover.proofs.LostWays.{no_losses, nothing_lost}
+use Rattle.bolt_recover.proofs.LostWays.{nothing_lost}
+use Rattle.bolt_recover.proofs.NothingLost.{sound}
 use Rattle.bolt_recover.proofs.Recovering.{claimed_all, claimed_at_end}
 use Rattle.bolt_recover.proofs.RunSurveys.{claims_in, surveyed}
 use Rattle.bolt_recover.proofs.SurveyIsOne.{gives_same, same_survey}
-
-pub map_none : {A B : Type 0} (f : A → B) (xs : List A) → length xs ≡ 0 → map f xs ≡ []
-map_none f [] e = refl
-map_none f (x ∷ xs) e = absurd (cc)
-
-pub none_mapped : {A B : Type 0} (f : A → B) (xs : List A) → map f xs ≡ [] → length xs ≡ 0
-none_mapped f [] e = refl
-none_mapped f (x ∷ xs) e = absurd (cc)
 
 pub if_ok : {X E : Type 0} {P Q : X → Type 0} (result : Result X E) → ((x : X) → P x → Q x) → IfOk result P → IfOk result Q
 if_ok (Ok x) to h = to x h
@@ -29,34 +22,6 @@ if_ok (Err e) to h = h
 pub recovery_under : (recovery : Recovery) → claims_meta recovery.steps.claims ≡ recovery_meta recovery
 unfolding recovery_meta
 recovery_under recovery = ∥∥₁_elim recovery.on (hlevel props) (λ on. on.meta)
-
-module _ (file : List ℕ) (meta : Meta) (reported : List LossView) (all : (losses : List LossView) → AreLosses file meta losses → reported ≡ losses) where
-  -- if there is no loss, nothing is found
-  pub found_none : reported ≡ [] → AreFound file meta []
-  found_none none =
-      let (survey, is) = has_survey file meta in
-      record {
-        survey = survey;
-        surveys = is;
-        none = λ kept. refl;
-        some = λ way x has.
-            let f : Some x ≡ None = nothing_lost file meta survey is (sym (all (losses_of file meta survey) (survey, is, refl)) ∙ none) (lost way x) has in
-            absurd (cc);
-      }
-
-  -- otherwise what is found next to the kept pages is what is found
-  pub found_rest : (claimed taken : ℕ → Bool) (found : List ℕ) → AreKeptPages file meta claimed → ((n : ℕ) → taken n ≡ claimed n) → (reported ≡ [] → ⊥)
-      → FoundBelow file meta (λ n. taken n ≡ true) meta.high_water found → AreFound file meta found
-  found_rest claimed taken found are same some below =
-      let (survey, is) = has_survey file meta in
-      record {
-        survey = survey;
-        surveys = is;
-        none = λ kept. absurd (some (all (losses_of file meta survey) (survey, is, refl) ∙ no_losses file meta survey kept));
-        some = λ way x has.
-            found_same file meta (λ n. taken n ≡ true) (IsKeptPage file meta survey)
-            (λ k was. (are survey is k).0 (sym (same k) ∙ was)) (λ k was. same k ∙ (are survey is k).1 was) meta.high_water found below;
-      }
 
 -- a way of a survey is lost, or none is
 pub lost_or_none : (survey : List Visit) → LosesNothing survey ⊎ ((way : List ℕ) × (x : Finding) × Has survey (lost way x))
@@ -71,6 +36,34 @@ lost_or_none (v ∷ survey) = first v survey v.found refl (lost_or_none survey)
     first v survey None e (inl none) = inl (λ u has. elim has [ inl same ↦ ap (λ (z : Visit). z.found) same ∙ e | inr later ↦ none u later ])
 
 module _ (file : List ℕ) (meta : Meta) where
+  -- if nothing is lost, nothing is found; otherwise what is found next to the kept pages
+  pub are_none : (survey : List Visit) → IsSurvey file meta survey → LosesNothing survey → AreFound file meta []
+  are_none survey is none = record {
+    survey = survey;
+    surveys = is;
+    none = λ same. refl;
+    some = λ way x has. absurd (let f : Some x ≡ None = none (lost way x) has in cc);
+  }
+
+  pub are_some : (found : List ℕ) (survey : List Visit) (way : List ℕ) (x : Finding) → IsSurvey file meta survey → Has survey (lost way x)
+      → FoundBelow file meta (IsKeptPage file meta survey) meta.high_water found → AreFound file meta found
+  are_some found survey way x is has below = record {
+    survey = survey;
+    surveys = is;
+    none = λ none. absurd (let f : Some x ≡ None = none (lost way x) has in cc);
+    some = λ other y gone. below;
+  }
+
+  pub found_damaged : (claimed taken : ℕ → Bool) (found : List ℕ) → AreKeptPages file meta claimed → ((n : ℕ) → taken n ≡ claimed n) → (HasSoundTrees file meta → ⊥)
+      → FoundBelow file meta (λ n. taken n ≡ true) meta.high_water found → AreFound file meta found
+  found_damaged claimed taken found are same damaged below =
+      let (survey, is) = has_survey file meta in
+      elim (lost_or_none survey) [
+        | inl none ↦ absurd (damaged (sound file meta survey is none))
+        | inr (way, x, gone) ↦ are_some found survey way x is gone (found_same file meta (λ n. taken n ≡ true) (IsKeptPage file meta survey)
+            (λ k was. (are survey is k).0 (sym (same k) ∙ was)) (λ k was. same k ∙ (are survey is k).1 was) meta.high_water found below)
+      ]
+
   -- the found pages next to the kept ones of the survey
   pub below_of : (found : List ℕ) (survey : List Visit) (way : List ℕ) (x : Finding) → AreFound file meta found → IsSurvey file meta survey → Has survey (lost way x)
       → FoundBelow file meta (IsKeptPage file meta survey) meta.high_water found
@@ -145,14 +138,9 @@ module _ (file : List ℕ) (meta : Meta) (x : Finding) (loses : LosesRoot file m
 
   pub found_rootless : (taken : ℕ → Bool) (found : List ℕ) → ((n : ℕ) → (taken n ≡ true) ↔ IsMetaPage n)
       → FoundBelow file meta (λ n. taken n ≡ true) meta.high_water found → AreFound file meta found
-  found_rootless taken found metas below = record {
-    survey = alone;
-    surveys = surveyed file meta _ [] root_run;
-    none = λ all. let f : Some x ≡ None = all (lost [] x) (inl refl) in absurd (cc);
-    some = λ way y has.
-        found_same file meta (λ n. taken n ≡ true) (IsKeptPage file meta alone) (λ k was. inl ((metas k).0 was))
-        (λ k is. elim is [ inl low ↦ (metas k).1 low | inr (v, (there, span)) ↦ absurd (not_kept v there) ]) meta.high_water found below;
-  }
+  found_rootless taken found metas below = are_some file meta found alone [] x (surveyed file meta _ [] root_run) (inl refl)
+      (found_same file meta (λ n. taken n ≡ true) (IsKeptPage file meta alone) (λ k was. inl ((metas k).0 was))
+      (λ k is. elim is [ inl low ↦ (metas k).1 low | inr (v, (there, span)) ↦ absurd (not_kept v there) ]) meta.high_water found below)
 
   pub nothing_recovered : (listing : List Member) → IsRecovered file meta listing → listing ≡ []
   nothing_recovered listing is = one_recovered file meta listing [] is (recovers file meta _ [] root_run)

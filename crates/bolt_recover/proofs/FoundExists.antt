@@ -1,11 +1,11 @@
 -- Each file has found pages: whether a page is found can be told.
 use Rattle.std.proofs.Common.{◌≡◌, ◌∙◌, ◌≢◌, ◌⊎◌, ◌+◌, ◌≤◌, true, inl, inr, ℕ, zero, suc, List, [], ◌∷◌, ◌++◌, Option, Some, None, Result, Ok, Err, refl, sym, ap, subst, arith}
 use Rattle.bolt_recover.proofs.Words.{AreFound, cases_lt, early_finding, Entry, Finding, FoundBelow, IsFoundNext, IsFoundPage, IsKeptPage, IsListedFree}
-use Rattle.bolt_recover.proofs.Words.{IsLoneLeaf, IsSurvey, lost, Meta, Node, node_at, node_finding, Nodes, root_spot, Visit}
+use Rattle.bolt_recover.proofs.Words.{IsLoneLeaf, IsSurvey, Meta, Node, node_at, node_finding, Nodes, root_spot, Visit}
 use Rattle.bolt_format.specs.Freelists.{free_ids_of, freelist_fault_of}
 use Rattle.bolt_check.specs.Accounts.{times_in}
 use Rattle.bolt_recover.proofs.Existing.{has_survey}
-use Rattle.bolt_recover.proofs.FoundAll.{either_or_not, lost_or_none}
+use Rattle.bolt_recover.proofs.FoundAll.{are_none, are_some, either_or_not, lost_or_none}
 use Rattle.bolt_recover.proofs.Deciding.{Decided, both_decided, decided_as, decided_by, lowest, not_decided}
 
 nothing_or_not : (o : Option Finding) → Decided (o ≡ None)
@@ -79,23 +79,6 @@ module _ (file : List ℕ) (meta : Meta) where
   has_found =
       let (survey, is) = has_survey file meta in
       elim (lost_or_none survey) [
-        | inl none ↦ (
-          [],
-          record {
-            survey = survey;
-            surveys = is;
-            none = λ kept. refl;
-            some = λ way x has. (let f : Some x ≡ None = none (lost way x) has in absurd (cc));
-          },
-        )
-        | inr (way, x, gone) ↦
-            let (found, below) = below_exists survey is meta.high_water in (
-              found,
-              record {
-                survey = survey;
-                surveys = is;
-                none = λ kept. (let f : Some x ≡ None = kept (lost way x) gone in absurd (cc));
-                some = λ other y has. below;
-              },
-            )
+        | inl none ↦ ([], are_none file meta survey is none)
+        | inr (way, x, gone) ↦ let (found, below) = below_exists survey is meta.high_water in (found, are_some file meta found survey way x is gone below)
       ]

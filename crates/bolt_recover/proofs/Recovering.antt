@@ -2,13 +2,13 @@
 use Rattle.std.proofs.Common.{◌≡◌, ◌∙◌, ◌≤◌, ◌<◌, ◌^◌, inl, inr, ℕ, Bool, true, false, ◌↔◌, List, [], ◌∷◌, ◌++◌, length, take, Option, Some, None, Result, Ok, Err, IfErr, IfOk, OnErr, filter, if◌then◌else◌, refl, sym, ap, subst, arith, append_assoc}
 use Rattle.bolt_recover.proofs.Words.{Accounts, Advances, after_visit, after_visits, ahead_tasks, All-contains, All-contains_itself, All-filter, append-nil}
 use Rattle.bolt_recover.proofs.Words.{AreFirst, AreKeptPages, AreLosses, AreOpen, ArePageWays, cases_Bool, ComesTo, Contains, contains_cases, contains_head}
-use Rattle.bolt_recover.proofs.Words.{Content, counted, Ends, filter_all, filter_first, filter_passes, filter_rises, flip_less}
-use Rattle.bolt_recover.proofs.Words.{further, GivesHead, GoesOn, HasOpen, is_lt, is_over, IsAllLeft, IsGoodContent, IsGoodPage, IsKeptPage, IsLeft, IsOn}
-use Rattle.bolt_recover.proofs.Words.{IsRecovered, IsRefusedRoot, IsSlotUnrecoverable, IsSurvey, IsUnrecoverable, item_of, Key, leaf_view}
-use Rattle.bolt_recover.proofs.Words.{LeafElement, left_by, less_lt, losses_of, LossView, lost_at, lt_of, Member, member_cmp, member_total, Memory, Meta}
-use Rattle.bolt_recover.proofs.Words.{NextVisit, node_at, Nodes, not_lt_of, NoWay, Open, open_tasks, OpenPage, Outcome, outcome_of, over_by, Page}
-use Rattle.bolt_recover.proofs.Words.{page_ways, Path, path_cmp, path_total, props, reached, rest_after, Rises, Runs, RunsAll, State, stay, StaysOn, Structure}
-use Rattle.bolt_recover.proofs.Words.{take-append-le, take_all, tally_of, Task, tied_itself, Visit, Visited, Way}
+use Rattle.bolt_recover.proofs.Words.{Content, counted, Ends, filter_all, filter_first, filter_passes, filter_rises, flip_less, further, GivesHead, GoesOn}
+use Rattle.bolt_recover.proofs.Words.{HasOpen, is_lt, is_over, IsAllLeft, IsGoodContent, IsGoodPage, IsKeptPage, IsLeft, IsOn, IsRecovered, IsRefusedRoot}
+use Rattle.bolt_recover.proofs.Words.{IsSlotUnrecoverable, IsSurvey, IsUnrecoverable, item_of, Key, leaf_view, LeafElement, left_by, less_lt, losses_of}
+use Rattle.bolt_recover.proofs.Words.{LossView, lost_at, lt_of, Member, member_cmp, member_total, Memory, Meta, NextVisit, node_at, Nodes, not_lt_of, NoWay}
+use Rattle.bolt_recover.proofs.Words.{Open, open_tasks, OpenPage, Outcome, outcome_of, over_by, Page, page_ways, Path, path_cmp, path_total, props, reached}
+use Rattle.bolt_recover.proofs.Words.{rest_after, Rises, Runs, RunsAll, State, stay, StaysOn, Structure, take-append-le, take_all, tally_of, Task, tied_itself}
+use Rattle.bolt_recover.proofs.Words.{Visit, Visited, Way}
 use Rattle.bolt_tree.proofs.Filters.{kept as passing}
 use Rattle.bolt_format.specs.declared.element.Leaf.{Leaf}
 use Rattle.bolt_check.specs.declared.fault.CheckFault.{CheckFault}
@@ -265,10 +265,6 @@ visited_within s meta before on fits ways are =
 pub if_err : {X E : Type 0} {P Q : E → Type 0} (result : Result X E) → ((e : E) → P e → Q e) → IfErr result P → IfErr result Q
 if_err (Ok x) to h = h
 if_err (Err e) to h = to e h
-
-pub both_ok : {X E : Type 0} {P Q R : X → Type 0} (result : Result X E) → ((x : X) → P x → Q x → R x) → IfOk result P → IfOk result Q → IfOk result R
-both_ok (Ok x) to h k = to x h k
-both_ok (Err e) to h k = h
 
 pub refused_chosen : (file : List ℕ) (slot : Slot) (meta : Meta) → IsChosen file slot meta → (fault : CheckFault) → IsRefusedRoot file meta fault → IsUnrecoverable file fault
 refused_chosen file slot meta chosen (Structure x) h = (slot, meta, chosen, h)

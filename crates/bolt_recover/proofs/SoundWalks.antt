@@ -8,7 +8,8 @@ use Rattle.bolt_check.proofs.CheckedLemmas.{checked_trees}
 use Rattle.bolt_tree.specs.FileListings.{ForListing}
 use Rattle.bolt_tree.specs.declared.entry.Item.{Item}
 use Rattle.bolt_tree.specs.declared.walk.Walk.{Walk}
-use Rattle.bolt_recover.proofs.FoundAll.{found_none}
+use Rattle.bolt_recover.proofs.FoundAll.{are_none}
+use Rattle.bolt_recover.proofs.Existing.{has_survey}
 use Rattle.bolt_recover.proofs.JoinSteps.{gives_prop}
 use Rattle.bolt_recover.proofs.LostWays.{no_losses}
 use Rattle.bolt_recover.proofs.SoundListing.{sound_listing}
@@ -28,11 +29,11 @@ keeps_root file meta trees =
 pub sound_searched : (file : List ℕ) (meta : Meta) (checked : Checked) (found : List Found) → bytes_of checked ≡ file → meta_of checked ≡ meta → found ≡ [] → HasSoundTrees file meta
     → IsSearched file meta (Sound checked) found
 sound_searched file meta checked found same_file same_meta none trees =
-    let nothing : (losses : List LossView) → AreLosses file meta losses → [] ≡ losses = λ losses are. sym (no_loss file meta losses trees are) in
+    let (survey, is) = has_survey file meta in
     record {
       left = (same_file, same_meta, none);
-      lost = (keeps_root file meta trees, nothing);
-      are_found = rw none (found_none file meta [] nothing refl);
+      lost = (keeps_root file meta trees, λ losses are. sym (no_loss file meta losses trees are));
+      are_found = rw none (are_none file meta survey is (none_lost file meta survey trees is));
       views = rw none (All-nil (IsFoundView file meta));
     }
 

@@ -80,7 +80,7 @@ pub use Rattle.bolt_recover.specs.declared.lost_and_found.Trees.TheVariants.{Dam
 pub use Rattle.bolt_recover.specs.declared.recovery.Recovery.{Recovery}
 pub use Rattle.bolt_recover.specs.declared.steps.NextVisit.{NextVisit}
 pub use Rattle.bolt_tree.proofs.EntryOrder.{contains_at}
-pub use Rattle.bolt_tree.proofs.Filters.{filter_all, filter_first, filter_none, filter_same, lt_of, not_lt_of}
+pub use Rattle.bolt_tree.proofs.Filters.{filter_all, filter_first, filter_none, lt_of, not_lt_of}
 pub use Rattle.bolt_tree.proofs.ListLemmas.{Each, RisesBy, contains_from_has, get_before, has_at, has_from_contains, has_left, has_right, has_split, map_has}
 pub use Rattle.bolt_tree.proofs.ListLemmas.{rises_append, rises_map}
 pub use Rattle.bolt_tree.proofs.Lists.{contains_cases, contains_head, contains_none, contains_tail, rises_once}
@@ -110,7 +110,7 @@ pub use Rattle.std.proofs.lemmas.List.Elements.{All-contains, All-contains_itsel
 pub use Rattle.std.proofs.lemmas.List.Elements.{Contains-append_left, Contains-append_right, Contains-push_cases, filter-append, filter_passes}
 pub use Rattle.std.proofs.lemmas.List.Sums.{sum_by-append, sum_by-cons}
 pub use Rattle.std.proofs.lemmas.Option.{none-some, same_Some, slice_get-map, slice_get_cases, slice_get_within}
-pub use Rattle.std.specs.Cmp.{IsTotalOrder, both_ways, nat_cmp_is}
+pub use Rattle.std.specs.Cmp.{both_ways, nat_cmp_is}
 pub use Rattle.std.specs.List.{All, Contains, count_by}
 pub use Rattle.std.specs.Option.{option_map, option_to_list}
 pub use Rattle.std.specs.Ordering.{is_eq, is_lt, nat_cmp, ordering_then}
