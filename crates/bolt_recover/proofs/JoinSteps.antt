@@ -1,5 +1,6 @@
 -- The members of the joined listing, one after another.
 use Rattle.std.proofs.Common.{◌≡◌, ◌≢◌, ◌∙◌, ℕ, true, false, List, [], ◌∷◌, ◌++◌, ◌⊎◌, inl, inr, Option, Some, None, Result, Ok, Err, IfOk, IfSome, OnErr, OnOk, filter, is_some, not, refl, sym, ap, subst, subst₂}
+use Rattle.bolt_recover.specs.Private.KeptMembers.{GivesKept, LeavesKept}
 use Rattle.bolt_recover.proofs.Words.{All, All-head, All-tail, AreJoinable, below_bucket, Bucket, bucket_members, contains_cases, contains_head, contains_none}
 use Rattle.bolt_recover.proofs.Words.{contains_tail, first_cmp, ForRecovered, Found, GivesNext, HasBucketKey, held_members, holds_key, is_eq, is_found_path}
 use Rattle.bolt_recover.proofs.Words.{is_lt, IsFoundView, IsHeldWell, IsJoined, IsRecovered, item_view, joined_listing, Kept, kept_file, kept_left, kept_meta}
@@ -101,10 +102,9 @@ bucket_given found old new path (Some item) gives (inl none) = absurd (cc)
 bucket_given found old new path (Some item) gives (inr over) = ap (put_members (bucket_members found)) gives ∙ rw over refl
 
 -- if no recovered member is held, none is left
-pub held_well : (old new : Kept) (path : Path) (given : Option CodeItem) → kept_file new ≡ kept_file old → kept_meta new ≡ kept_meta old
-    → ForRecovered (kept_file old) (kept_meta old) (λ recovered. GivesNext (kept_left old recovered) (kept_left new recovered) path (option_map item_view given)) → IsHeldWell Inside new given
-held_well old new path (Some item) file meta gives = tt
-held_well old new path None file meta gives = λ recovered is. (gives recovered (subst₂ (λ (f : List ℕ) (m : Meta). IsRecovered f m recovered) file meta is)).1
+pub held_well : (old new : Kept) (given : Option CodeItem) → kept_file new ≡ kept_file old → kept_meta new ≡ kept_meta old → GivesKept old new given → IsHeldWell Inside new given
+held_well old new (Some item) file meta gives = tt
+held_well old new None file meta gives = λ recovered is. (gives recovered (subst₂ (λ (f : List ℕ) (m : Meta). IsRecovered f m recovered) file meta is)).1
 
 pub gives_prop : (old new : List Member) (path : Path) (given : Option CodeItem) → IsProp (GivesNext old new path (option_map item_view given))
 gives_prop old new path None = hlevel props
@@ -115,18 +115,14 @@ when_ok (Ok x) further holds = further holds
 when_ok (Err e) further holds = tt
 
 -- if no recovered member was left, none is
-pub still_none : {E : Type 0} (old new : Kept) (path : Path) (result : Result (Option CodeItem) E) → kept_file new ≡ kept_file old → kept_meta new ≡ kept_meta old
-    → IfOk result (λ given. ForRecovered (kept_file old) (kept_meta old) (λ recovered. GivesNext (kept_left old recovered) (kept_left new recovered) path (option_map item_view given)))
-    → OnErr result (ForRecovered (kept_file old) (kept_meta old) (λ recovered. kept_left new recovered ≡ kept_left old recovered))
-    → ForRecovered (kept_file old) (kept_meta old) (λ recovered. kept_left old recovered ≡ []) → ForRecovered (kept_file new) (kept_meta new) (λ recovered. kept_left new recovered ≡ [])
-still_none old new path (Ok None) file meta gives same none = λ recovered is. (gives recovered (subst₂ (λ (f : List ℕ) (m : Meta). IsRecovered f m recovered) file meta is)).1
-still_none old new path (Ok (Some item)) file meta gives same none = λ recovered is.
+pub still_none : {E : Type 0} (old new : Kept) (result : Result (Option CodeItem) E) → kept_file new ≡ kept_file old → kept_meta new ≡ kept_meta old
+    → IfOk result (GivesKept old new) → OnErr result (LeavesKept old new) → IsHeldWell Inside old None → IsHeldWell Inside new None
+still_none old new (Ok None) file meta gives same none = held_well old new None file meta gives
+still_none old new (Ok (Some item)) file meta gives same none = λ recovered is.
     let before = subst₂ (λ (f : List ℕ) (m : Meta). IsRecovered f m recovered) file meta is in
-    let some = sym (none recovered before) ∙ gives recovered before in
-    absurd (cc)
-still_none old new path (Err fault) file meta gives same none = λ recovered is.
-    let before = subst₂ (λ (f : List ℕ) (m : Meta). IsRecovered f m recovered) file meta is in
-    same recovered before ∙ none recovered before
+    absurd (let some = sym (none recovered before) ∙ gives recovered before in cc)
+still_none old new (Err fault) file meta gives same none = λ recovered is.
+    let before = subst₂ (λ (f : List ℕ) (m : Meta). IsRecovered f m recovered) file meta is in same recovered before ∙ none recovered before
 
 pub none_given : (P : CodeItem → Type 0) (old new : List Member) (path : Path) (given : Option CodeItem) → old ≡ [] → GivesNext old new path (option_map item_view given) → IfSome given P
 none_given P old new path None none gives = tt

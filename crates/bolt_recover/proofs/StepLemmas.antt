@@ -239,22 +239,26 @@ module _ (s : State) (front : List OpenPage) (top : OpenPage) (has : HasOpen s) 
   ahead_above low level None high le up = omega (arith, le, up)
   ahead_above low level (Some spot) high le up = le
 
+  moved_placed : (path : Path) (level : ℕ) (r : Option Spot) → top.level ≤ level → level ≤ length path → HasOpen (record s { ahead = ahead_of level r; pages = front ++ moved ∷ []; path = path })
+  moved_placed path level r le within = record {
+    pages = moved_open (ahead_level (ahead_of level r) (length path)) (ahead_above top.level level r (length path) le within);
+    within = ahead_within level r (length path) within;
+  }
+
+  moved_left : (path : Path) (level : ℕ) (r : Option Spot) → ((n : ℕ) → n ≤ top.level → take n path ≡ take n s.path)
+      → visits_at s.file s.meta stay tt (option_map (spot_place s.file s.meta (take level path)) r) ++ rest_tasks ≡ ahead_tasks s.file s.meta path (ahead_of level r) (open_tasks s.file s.meta path (front ++ moved ∷ []) [])
+  moved_left path level r same = visits_ahead path level r rest_tasks ∙ ap (ahead_tasks s.file s.meta path (ahead_of level r)) (moved_tasks path same)
+
+  abbrev entry_left : Option LeafElement → Option Place → List (Task NoWay)
+  entry_left o q = (gives_at s.file s.meta stay (take top.level s.path) o ++ visits_at s.file s.meta stay tt q) ++ rest_tasks
+
   -- an element of a branch
   pub took_branch : (r : Option Spot) → slice_get (content_elements top.content) top.next ≡ None
       → step_place s.file s.meta here top.next ≡ option_map (spot_place s.file s.meta (take top.level s.path)) r
       → GoesOn s (record s { ahead = ahead_of top.level r; pages = front ++ moved ∷ [] })
   took_branch r none leads =
-      let within = inner.within in
-      goes_by s (ahead_of top.level r) (front ++ moved ∷ [])
-      (record {
-        pages = moved_open (ahead_level (ahead_of top.level r) (length s.path)) (ahead_above top.level top.level r (length s.path) (omega arith) within);
-        within = ahead_within top.level r (length s.path) within;
-      }) (not_open s front top is pages)
-      (tasks_entry
-      ∙ ap (λ (o : Option LeafElement). (gives_at s.file s.meta stay (take top.level s.path) o ++ visits_at s.file s.meta stay tt (step_place s.file s.meta here top.next)) ++ rest_tasks) none
-      ∙ ap (λ (o : Option Place). visits_at s.file s.meta stay tt o ++ rest_tasks) leads
-      ∙ visits_ahead s.path top.level r rest_tasks
-      ∙ ap (ahead_tasks s.file s.meta s.path (ahead_of top.level r)) (moved_tasks s.path (λ n le. refl)))
+      goes_by s (ahead_of top.level r) (front ++ moved ∷ []) (moved_placed s.path top.level r (omega arith) inner.within) (not_open s front top is pages)
+      (tasks_entry ∙ ap (λ (o : Option LeafElement). entry_left o (step_place s.file s.meta here top.next)) none ∙ ap (entry_left None) leads ∙ moved_left s.path top.level r (λ n le. refl))
 
   -- an element of a leaf
   pub took_leaf : (e : LeafElement) (r : Option Spot) → slice_get (content_elements top.content) top.next ≡ Some e
@@ -266,19 +270,11 @@ module _ (s : State) (front : List OpenPage) (top : OpenPage) (has : HasOpen s) 
       let long : length path ≡ top.level + 1 = length-append (take top.level s.path) (e.key ∷ []) ∙ ap (λ (n : ℕ). n + 1) (length-take-le top.level s.path within) in
       let whole : take (top.level + 1) path ≡ path = take_all (top.level + 1) path (omega (arith, long)) in
       record {
-        on = record {
-          file = refl;
-          meta = refl;
-          placed = record {
-            pages = moved_open (ahead_level (ahead_of (top.level + 1) r) (length path)) (ahead_above top.level (top.level + 1) r (length path) (omega arith) (omega (arith, long)));
-            within = ahead_within (top.level + 1) r (length path) (omega (arith, long));
-          };
-        };
+        on = record { file = refl; meta = refl; placed = moved_placed path (top.level + 1) r (omega arith) (omega (arith, long)) };
         more = more_open (ahead_of (top.level + 1) r) front moved;
         head = λ members outcome comes.
             let first = subst (λ (ts : List (Task NoWay)). Runs s.file s.meta stay s.claimed ts comes.visits members)
-            (tasks_entry ∙ ap (λ (o : Option LeafElement). (gives_at s.file s.meta stay (take top.level s.path) o ++ visits_at s.file s.meta stay tt (step_place s.file s.meta here top.next)) ++ rest_tasks) some)
-            comes.run in
+            (tasks_entry ∙ ap (λ (o : Option LeafElement). entry_left o (step_place s.file s.meta here top.next)) some) comes.run in
             let next = gives s.file s.meta stay s.claimed path e (visits_at s.file s.meta stay tt (step_place s.file s.meta here top.next) ++ rest_tasks) comes.visits members first in (
               next.0,
               next.1,
@@ -286,8 +282,7 @@ module _ (s : State) (front : List OpenPage) (top : OpenPage) (has : HasOpen s) 
                 visits = comes.visits;
                 run = subst (λ (ts : List (Task NoWay)). Runs s.file s.meta stay s.claimed ts comes.visits next.0)
                     (ap (λ (o : Option Place). visits_at s.file s.meta stay tt o ++ rest_tasks) (leads ∙ ap (λ (p : Path). option_map (spot_place s.file s.meta p) r) (sym whole))
-                    ∙ visits_ahead path (top.level + 1) r rest_tasks
-                    ∙ ap (ahead_tasks s.file s.meta path (ahead_of (top.level + 1) r)) (moved_tasks path (λ n le. take_below top.level n s.path (e.key ∷ []) within le)))
+                    ∙ moved_left path (top.level + 1) r (λ n le. take_below top.level n s.path (e.key ∷ []) within le))
                     next.2;
                 all = comes.all;
               },
