@@ -1,5 +1,5 @@
 -- The members of a joined listing are recovered or found.
-use Rattle.std.proofs.Common.{◌≡◌, ◌∙◌, ◌⊎◌, inl, inr, ℕ, Bool, true, false, IsTrue, is_none, List, [], ◌∷◌, ◌++◌, None, map, ◌==◌, if◌then◌else◌, refl, sym, ap, subst}
+use Rattle.std.proofs.Common.{◌≡◌, ◌⊎◌, inl, inr, ℕ, Bool, true, false, IsTrue, is_none, List, [], ◌∷◌, ◌++◌, None, map, ◌==◌, if◌then◌else◌, refl, sym, subst}
 use Rattle.bolt_recover.proofs.Words.{AreFound, Bucket, Contains, Contains-append_cases, contains_cases, contains_head, contains_none, contains_tail, end}
 use Rattle.bolt_recover.proofs.Words.{eqb-true, found_tree, head_root, head_sequence, inline_elements, inside_of, IsElement, IsFoundMember, IsInner, IsJoined}
 use Rattle.bolt_recover.proofs.Words.{IsRecovered, item_of, joined_listing, keys_order_fault, LeafElement, leaves_of, listing_below, lost_and_found, Member}
@@ -10,33 +10,24 @@ use Rattle.bolt_recover.proofs.JoinedLemmas.{joined_of, put_of, put_or_there, pu
 abbrev IsHere : (inside : LeafElement → Tree) → Path → LeafElement → Member → Type 0
 IsHere inside path e m = (m ≡ (path ++ e.key ∷ [], item_of e)) ⊎ (IsTrue e.is_bucket × Contains (listing_below (path ++ e.key ∷ []) (inside e)) m)
 
-here_by : (inside : LeafElement → Tree) (path : Path) (e : LeafElement) (elements : List LeafElement) (m : Member) (b : Bool) → e.is_bucket ≡ b → Contains (listing_below path (tree_with inside (e ∷ elements))) m
-    → IsHere inside path e m ⊎ Contains (listing_below path (tree_with inside elements)) m
-here_by inside path e elements m true is has =
-    let item : item_of e ≡ Bucket (head_sequence e.value) = ap (λ (b : Bool). if b then Bucket (head_sequence e.value) else Value e.value) is in
-    let tree : tree_with inside (e ∷ elements) ≡ with_bucket e.key (head_sequence e.value) (inside e) (tree_with inside elements) =
-    ap (λ (b : Bool). if b then with_bucket e.key (head_sequence e.value) (inside e) (tree_with inside elements) else with_value e.key e.value (tree_with inside elements)) is in
+here_by : (inside : LeafElement → Tree) (path : Path) (e : LeafElement) (elements : List LeafElement) (m : Member) (b : Bool)
+    → Contains (listing_below path (if b then with_bucket e.key (head_sequence e.value) (inside e) (tree_with inside elements) else with_value e.key e.value (tree_with inside elements))) m
+    → ((m ≡ (path ++ e.key ∷ [], if b then Bucket (head_sequence e.value) else Value e.value)) ⊎ (IsTrue b × Contains (listing_below (path ++ e.key ∷ []) (inside e)) m))
+    ⊎ Contains (listing_below path (tree_with inside elements)) m
+here_by inside path e elements m true has =
     let deep : List Member = listing_below (path ++ e.key ∷ []) (inside e) in
     let behind : List Member = listing_below path (tree_with inside elements) in
-    let first : Member = (path ++ e.key ∷ [], Bucket (head_sequence e.value)) in
-    elim (contains_cases first m (deep ++ behind) (subst (λ (t : Tree). Contains (listing_below path t) m) tree has)) [
-      | inl same ↦ inl (inl (sym same ∙ ap (λ (i : _). (path ++ e.key ∷ [], i)) (sym item)))
-      | inr more ↦ elim (Contains-append_cases deep behind m more) [ inl inner ↦ inl (inr (is, inner)) | inr later ↦ inr later ]
+    elim (contains_cases (path ++ e.key ∷ [], Bucket (head_sequence e.value)) m (deep ++ behind) has) [
+      | inl same ↦ inl (inl (sym same))
+      | inr more ↦ elim (Contains-append_cases deep behind m more) [ inl inner ↦ inl (inr (refl, inner)) | inr later ↦ inr later ]
     ]
-here_by inside path e elements m false is has =
-    let item : item_of e ≡ Value e.value = ap (λ (b : Bool). if b then Bucket (head_sequence e.value) else Value e.value) is in
-    let tree : tree_with inside (e ∷ elements) ≡ with_value e.key e.value (tree_with inside elements) =
-    ap (λ (b : Bool). if b then with_bucket e.key (head_sequence e.value) (inside e) (tree_with inside elements) else with_value e.key e.value (tree_with inside elements)) is in
-    let first : Member = (path ++ e.key ∷ [], Value e.value) in
-    elim (contains_cases first m (listing_below path (tree_with inside elements)) (subst (λ (t : Tree). Contains (listing_below path t) m) tree has)) [
-      | inl same ↦ inl (inl (sym same ∙ ap (λ (i : _). (path ++ e.key ∷ [], i)) (sym item)))
-      | inr later ↦ inr later
-    ]
+here_by inside path e elements m false has =
+    elim (contains_cases (path ++ e.key ∷ [], Value e.value) m (listing_below path (tree_with inside elements)) has) [ inl same ↦ inl (inl (sym same)) | inr later ↦ inr later ]
 
 element_of : (inside : LeafElement → Tree) (path : Path) (elements : List LeafElement) (m : Member) → Contains (listing_below path (tree_with inside elements)) m
     → (e : LeafElement) × (Contains elements e × IsHere inside path e m)
 element_of inside path [] m has = absurd (contains_none m has)
-element_of inside path (e ∷ elements) m has = elim (here_by inside path e elements m e.is_bucket refl has) [
+element_of inside path (e ∷ elements) m has = elim (here_by inside path e elements m e.is_bucket has) [
   | inl here ↦ (e, (contains_head e elements, here))
   | inr later ↦ let (x, (there, here)) = element_of inside path elements m later in (x, (contains_tail e x elements there, here))
 ]

@@ -52,43 +52,35 @@ module _ (file : List ℕ) (meta : Meta) (p : Place) (keys : List Key) (known : 
 
   -- what a child of a branch leads to
   child_entry : (t : Place) (i : ℕ) (a : Path) → IsChild p t i keys → InVisit t a → InEntry p keys i a
-  child_entry t i a child (key, rest, is, low, high) = by (slice_get keys (suc i)) refl
+  child_entry t i a child (key, rest, is, low, high) = record {
+    key = key;
+    rest = rest;
+    own = child.key;
+    is = is ∙ ap (λ (q : Path). q ++ key ∷ rest) child.path;
+    at = child.at;
+    from_own = from_own;
+    before = before (slice_get keys (suc i)) refl;
+    from_lower = from_more (lower_of p.spot) child.key key (known.each i child.key child.at).0 from_own;
+    below_upper = below_upper (slice_get keys (suc i)) refl;
+  }
     where
       from_own : key_lt key child.key ≡ false
       from_own = not_true (key_lt key child.key) (subst (λ (o : Option Key). is_from o key ≡ true) child.lower low)
 
-      from_lower : is_from (lower_of p.spot) key ≡ true
-      from_lower = from_more (lower_of p.spot) child.key key (known.each i child.key child.at).0 from_own
+      less : (k : Key) → slice_get keys (suc i) ≡ Some k → key_lt key k ≡ true
+      less k next = subst (λ (o : Option Key). is_below o key ≡ true) (child.next k next) high
 
-      by : (o : Option Key) → slice_get keys (suc i) ≡ o → InEntry p keys i a
-      by None none = record {
-        key = key;
-        rest = rest;
-        own = child.key;
-        is = is ∙ ap (λ (q : Path). q ++ key ∷ rest) child.path;
-        at = child.at;
-        from_own = from_own;
-        before = λ j q lt there. absurd (past_last i j q none lt there);
-        from_lower = from_lower;
-        below_upper = subst (λ (o : Option Key). is_below o key ≡ true) (child.last none) high;
-      }
-      by (Some k) next =
-          let less : key_lt key k ≡ true = subst (λ (o : Option Key). is_below o key ≡ true) (child.next k next) high in
-          record {
-            key = key;
-            rest = rest;
-            own = child.key;
-            is = is ∙ ap (λ (q : Path). q ++ key ∷ rest) child.path;
-            at = child.at;
-            from_own = from_own;
-            before = λ j q lt there. elim (cases_order j (suc i)) [
-              | inl same ↦ subst (λ (z : Key). key_lt key z ≡ true) (same_Some k q (sym next ∙ ap (slice_get keys) (sym same) ∙ there)) less
-              | inr (inl under) ↦ absurd (omega arith)
-              | inr (inr above) ↦ lt_trans key k q less (known.rise (suc i) j k q above next there)
-            ];
-            from_lower = from_lower;
-            below_upper = below_less (upper_of p.spot) k key (known.each (suc i) k next).1 less;
-          }
+      before : (o : Option Key) → slice_get keys (suc i) ≡ o → (j : ℕ) (q : Key) → i < j → slice_get keys j ≡ Some q → key_lt key q ≡ true
+      before None none j q lt there = absurd (past_last i j q none lt there)
+      before (Some k) next j q lt there = elim (cases_order j (suc i)) [
+        | inl same ↦ subst (λ (z : Key). key_lt key z ≡ true) (same_Some k q (sym next ∙ ap (slice_get keys) (sym same) ∙ there)) (less k next)
+        | inr (inl under) ↦ absurd (omega arith)
+        | inr (inr above) ↦ lt_trans key k q (less k next) (known.rise (suc i) j k q above next there)
+      ]
+
+      below_upper : (o : Option Key) → slice_get keys (suc i) ≡ o → is_below (upper_of p.spot) key ≡ true
+      below_upper None none = subst (λ (o : Option Key). is_below o key ≡ true) (child.last none) high
+      below_upper (Some k) next = below_less (upper_of p.spot) k key (known.each (suc i) k next).1 (less k next)
 
   -- where an entry leads
   visit_entry : (t : Place) (i : ℕ) (a : Path) → step_place file meta p i ≡ Some t → InVisit t a → InEntry p keys i a

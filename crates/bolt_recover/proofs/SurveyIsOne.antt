@@ -22,6 +22,11 @@ before_each way [] h w has = absurd has
 before_each way (x ∷ rest) h w (inl e) = rw e h.0
 before_each way (x ∷ rest) h w (inr has) = before_each way rest h.1 w has
 
+-- before the first of them, before all
+before_all : (x y : Visit) (rest : List Visit) → Rises (ways (y ∷ rest)) → Before x.way y.way → (w : Visit) → Has (y ∷ rest) w → Before x.way w.way
+before_all x y rest rises lt w (inl e) = subst (λ (z : Visit). Before x.way z.way) (sym e) lt
+before_all x y rest rises lt w (inr has) = before_trans x.way y.way w.way lt (before_each y.way rest rises.0 w has)
+
 pub parent_before : (parent : List ℕ) (i : ℕ) → Before parent (parent ++ i ∷ [])
 parent_before [] i = tt
 parent_before (j ∷ parent) i = inr (refl, parent_before parent i)
@@ -54,9 +59,6 @@ gives_one nodes a s None (Some y) h k = absurd (passes_silent nodes a s y h k)
 gives_one nodes a s (Some x) None h k = absurd (passes_silent nodes a s x k h)
 gives_one nodes a s (Some x) (Some y) h k = ap Some (tests_one nodes a s x y h k)
 
-same_visit : (v w : List ℕ) (f g : Option Finding) → v ≡ w → f ≡ g → (record { way = v; found = f }) ≡ (let z : Visit = record { way = w; found = g } in z)
-same_visit v w f g e h = rw (e, h) refl
-
 module _ (nodes : Nodes) (reach : Reach) where
   -- the other survey can't pass over the first visit of the rest
   not_missing : (a b : List Visit) → Surveys nodes reach a → Surveys nodes reach b → (InFront : Visit → Type 0) (x : Visit) (xs ys : List Visit)
@@ -75,22 +77,15 @@ module _ (nodes : Nodes) (reach : Reach) where
   claims_over a b InFront x xs ys at_a at_b n (inl h) = inl h
   claims_over a b InFront x xs ys at_a at_b n (inr (v, (has, lt, span))) = inr (v, (at_b.front (kept v) (earlier a InFront x xs at_a (kept v) has lt), lt, span))
 
-  same_spot : (v w : List ℕ) (s t : Spot) → v ≡ w → reach v ≡ Some s → reach w ≡ Some t → s ≡ t
-  same_spot v w s t e f g = let h : reach w ≡ Some s = subst (λ (z : List ℕ). reach z ≡ Some s) e f in cc
-
-  same_found : (a b : List Visit) → Surveys nodes reach a → Surveys nodes reach b → (InFront : Visit → Type 0) (x y : Visit) (xs ys : List Visit)
-      → Suffix a InFront (x ∷ xs) → Suffix b InFront (y ∷ ys) → x.way ≡ y.way → x.found ≡ y.found
-  same_found a b of_a of_b InFront x y xs ys at_a at_b e =
-      let p = (of_a.only x (at_a.inside x (inl refl))).1 in
-      let q = (of_b.only y (at_b.inside y (inl refl))).1 in
-      let spot = same_spot x.way y.way p.0 q.0 e p.1 q.1 in
-      let here = gives_same nodes (IsClaimedIn nodes reach a x.way) (IsClaimedIn nodes reach b x.way) p.0 x.found
-      (claims_over a b InFront x xs (y ∷ ys) at_a at_b)
-      (λ n h. subst (λ (z : List ℕ). IsClaimedIn nodes reach a z n) (sym e)
-      (claims_over b a InFront y ys (x ∷ xs) at_b at_a n (subst (λ (z : List ℕ). IsClaimedIn nodes reach b z n) e h))) p.2 in
-      let there = subst (λ (z : List ℕ). Gives nodes (IsClaimedIn nodes reach b z) q.0 y.found) (sym e) q.2 in
-      gives_one nodes (IsClaimedIn nodes reach b x.way) q.0 x.found y.found
-      (subst (λ (s : Spot). Gives nodes (IsClaimedIn nodes reach b x.way) s x.found) spot here) there
+  same_found : (a b : List Visit) → Surveys nodes reach a → Surveys nodes reach b → (InFront : Visit → Type 0) (way : List ℕ) (f g : Option Finding) (xs ys : List Visit)
+      → Suffix a InFront (record { way = way; found = f } ∷ xs) → Suffix b InFront (record { way = way; found = g } ∷ ys) → f ≡ g
+  same_found a b of_a of_b InFront way f g xs ys at_a at_b =
+      let (s, led, gives) = (of_a.only _ (at_a.inside _ (inl refl))).1 in
+      let (t, also, gives_too) = (of_b.only _ (at_b.inside _ (inl refl))).1 in
+      let same : t ≡ s = cc in
+      gives_one nodes (IsClaimedIn nodes reach b way) s f g
+      (gives_same nodes (IsClaimedIn nodes reach a way) (IsClaimedIn nodes reach b way) s f (claims_over a b InFront _ xs (_ ∷ ys) at_a at_b) (claims_over b a InFront _ ys (_ ∷ xs) at_b at_a) gives)
+      (subst (λ (z : Spot). Gives nodes (IsClaimedIn nodes reach b way) z g) same gives_too)
 
   pub next_suffix : (a : List Visit) (InFront : Visit → Type 0) (x z : Visit) (xs : List Visit) → z ≡ x → Suffix a InFront (x ∷ xs)
       → Suffix a (λ v. InFront v ⊎ (v ≡ z)) xs
@@ -113,14 +108,13 @@ module _ (nodes : Nodes) (reach : Reach) where
   same_from a b of_a of_b InFront (x ∷ xs) (y ∷ ys) at_a at_b =
       elim (before_total x.way y.way) [
         | inl e ↦
-            let same : x ≡ y = same_visit x.way y.way x.found y.found e (same_found a b of_a of_b InFront x y xs ys at_a at_b e) in
+            let found : x.found ≡ y.found = same_found a b of_a of_b InFront x.way x.found y.found xs ys at_a (subst (λ (w : List ℕ). Suffix b InFront (record { way = w; found = y.found } ∷ ys)) (sym e) at_b) in
+            let same : x ≡ y = λ i. record { way = e i; found = found i } in
             let rest = same_from a b of_a of_b (λ v. InFront v ⊎ (v ≡ x)) xs ys (next_suffix a InFront x x xs refl at_a) (next_suffix b InFront y x ys same at_b) in
             rw (same, rest) refl
         | inr d ↦ elim d [
-          | inl lt ↦ absurd (not_missing a b of_a of_b InFront x xs (y ∷ ys) at_a at_b
-              (λ w h. elim h [ inl e ↦ subst (λ (z : Visit). Before x.way z.way) (sym e) lt | inr k ↦ before_trans x.way y.way w.way lt (before_each y.way ys at_b.rises.0 w k) ]))
-          | inr gt ↦ absurd (not_missing b a of_b of_a InFront y ys (x ∷ xs) at_b at_a
-              (λ w h. elim h [ inl e ↦ subst (λ (z : Visit). Before y.way z.way) (sym e) gt | inr k ↦ before_trans y.way x.way w.way gt (before_each x.way xs at_a.rises.0 w k) ]))
+          | inl lt ↦ absurd (not_missing a b of_a of_b InFront x xs (y ∷ ys) at_a at_b (before_all x y ys at_b.rises lt))
+          | inr gt ↦ absurd (not_missing b a of_b of_a InFront y ys (x ∷ xs) at_b at_a (before_all y x xs at_a.rises gt))
         ]
       ]
 

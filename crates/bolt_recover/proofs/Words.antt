@@ -57,7 +57,7 @@ pub use Rattle.bolt_recover.specs.Private.Frames.{IsLeft, IsOn, IsShallow, NoWay
 pub use Rattle.bolt_recover.specs.Private.Frames.{content_elements, content_place, content_size, content_spot, is_over, left_by, lost_state, open_tasks}
 pub use Rattle.bolt_recover.specs.Private.Frames.{over_by, page_tasks, page_weight, spot_place, state_of, state_tasks, stay, step_path, steps_weight, tally_of}
 pub use Rattle.bolt_recover.specs.Private.Joining.{AreJoinable, IsHeldWell, first_cmp, held_members, holds_key, left_at, path_at, put_members, recovered_in}
-pub use Rattle.bolt_recover.specs.Private.KeptMembers.{kept_file, kept_left, kept_meta, kept_path}
+pub use Rattle.bolt_recover.specs.Private.KeptMembers.{GivesKept, LeavesKept, kept_file, kept_left, kept_meta, kept_path}
 pub use Rattle.bolt_recover.specs.Private.Runs.{Outcome, Runs, RunsAll, Task, To_give, To_visit, Visited, Way, after_visit, after_visits, claimed_after}
 pub use Rattle.bolt_recover.specs.Private.Runs.{claims_of, entry_count, entry_tasks, further, gives_at, in_span, lost_at, meta_pages, outcome_of, page_visit}
 pub use Rattle.bolt_recover.specs.Private.Runs.{place_size, place_tasks, span_of, tasks_after, tasks_from, visits_at}
