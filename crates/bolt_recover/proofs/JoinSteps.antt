@@ -6,6 +6,7 @@ use Rattle.bolt_recover.proofs.Words.{is_found_path, is_lt, IsFoundView, IsHeldW
 use Rattle.bolt_recover.proofs.Words.{kept_left, kept_meta, kept_path, LacksBucketKey, LeafElement, leaves_of, LeavesKept, left_at, lost_and_found, Member}
 use Rattle.bolt_recover.proofs.Words.{Meta, numbers_of, option_map, or_cases, or_parts, page_at, pages_of, Path, path_at, props, put_members, recovered_in}
 use Rattle.bolt_recover.proofs.Words.{shown}
+use Rattle.bolt_recover.specs.declared.joined.Joined.{Joined}
 use Rattle.bolt_recover.specs.declared.found_members.FoundMembers.{FoundMembers}
 use Rattle.bolt_recover.specs.declared.joined.Stage.{Stage}
 use Rattle.bolt_recover.specs.declared.joined.Stage.TheVariants.{After, Before, Inside}
@@ -57,6 +58,11 @@ module _ (file : List ℕ) (meta : Meta) where
       parted_by found listing is.recovered are is.recovers
       (joined_of file meta listing is.recovered (numbers_of found) is is.recovers are.are_found ∙ ap (joined_listing is.recovered) (pages_same found are.views))
 
+-- what the members that are kept return of a joined listing
+pub of_joined : (joined : Joined) (listing : List Member) → AreJoinable (kept_file joined.kept) (kept_meta joined.kept) joined.found.now → IsJoined (kept_file joined.kept) (kept_meta joined.kept) listing
+    → IsRecovered (kept_file joined.kept) (kept_meta joined.kept) (recovered_in joined.found.now listing)
+of_joined joined listing are is = (parted (kept_file joined.kept) (kept_meta joined.kept) joined.found.now listing are is).recovers
+
 -- at the beginning, as the found pages are
 module _ (stage : Stage) (kept : Kept) where
   abbrev Begins : List Found → Type 0
@@ -95,10 +101,10 @@ before_given put old new path None gives some less = absurd (let f : false ≡ t
 before_given put old new path (Some item) gives some less = ap (put_members put) gives ∙ rw less refl
 
 -- the bucket before a recovered member, or after all of them
-pub bucket_given : (found : List Found) (old new : List Member) (path : Path) (given : Option CodeItem) → GivesNext old new path (option_map item_view given) → (given ≡ None) ⊎ (is_lt (first_cmp path) ≡ false)
+pub bucket_given : (found : List Found) (old new : List Member) (path : Path) (given : Option CodeItem) → GivesNext old new path (option_map item_view given) → (is_some given ≡ false) ⊎ (is_lt (first_cmp path) ≡ false)
     → put_members (bucket_members found) old ≡ (lost_and_found ∷ [], Bucket 0) ∷ (below_bucket found ++ (held_members path given ++ new))
 bucket_given found old new path None (none, rest, ended) over = rw (none, rest) refl
-bucket_given found old new path (Some item) gives (inl none) = absurd (cc)
+bucket_given found old new path (Some item) gives (inl none) = absurd (let f : true ≡ false = none in cc)
 bucket_given found old new path (Some item) gives (inr over) = ap (put_members (bucket_members found)) gives ∙ rw over refl
 
 -- if no recovered member is held, none is left

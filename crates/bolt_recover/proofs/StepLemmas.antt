@@ -3,11 +3,11 @@ use Rattle.std.proofs.Common.{◌≡◌, ◌∙◌, ◌≤◌, ◌<◌, ℕ, suc
 use Rattle.bolt_recover.proofs.Words.{after_visit, after_visits, ahead_level, ahead_tasks, ahead_weight, append-nil, AreOpen, At_page, both_ways, claimed_after}
 use Rattle.bolt_recover.proofs.Words.{claims_meta, claims_nodes, ComesTo, Content, content_elements, content_place, content_size, content_spot, counted, Ends}
 use Rattle.bolt_recover.proofs.Words.{entry_tasks, Finding, Gives, gives_at, GivesHead, GoesOn, HasOpen, is_claimed, is_over, IsAllLeft, IsContent}
-use Rattle.bolt_recover.proofs.Words.{IsGoodContent, IsGoodPage, IsMetaPage, IsShallow, LeafElement, length-take-le, loss_of, LossView, lost_state, Member}
-use Rattle.bolt_recover.proofs.Words.{Meta, meta_pages, nat_tests, NextVisit, node_at, NoWay, open_tasks, OpenPage, option_map, Outcome, outcome_of, over_by}
-use Rattle.bolt_recover.proofs.Words.{Page, page_tasks, page_visit, page_weight, Passes, Path, Place, place_size, place_tasks, root_spot, Runs, spot_at}
-use Rattle.bolt_recover.proofs.Words.{spot_place, State, state_tasks, stay, StaysOn, step_place, take-append-drop, take-append-le, take_all, tally_of, Task}
-use Rattle.bolt_recover.proofs.Words.{tasks_after, tasks_from, Tests, visits_at}
+use Rattle.bolt_recover.proofs.Words.{IsGoodContent, IsGoodPage, IsMetaPage, IsShallow, LeafElement, length-take-le, loss_of, LossView, lost_state, Meta}
+use Rattle.bolt_recover.proofs.Words.{meta_pages, nat_tests, NextVisit, node_at, NoWay, open_tasks, OpenPage, option_map, Outcome, outcome_of, over_by, Page}
+use Rattle.bolt_recover.proofs.Words.{page_tasks, page_visit, page_weight, Passes, Path, Place, place_size, place_tasks, root_spot, Runs, spot_at, spot_place}
+use Rattle.bolt_recover.proofs.Words.{State, state_tasks, stay, StaysOn, step_place, take-append-drop, take-append-le, take_all, tally_of, Task, tasks_after}
+use Rattle.bolt_recover.proofs.Words.{tasks_from, Tests, visits_at}
 use Rattle.bolt_check.specs.declared.claims.Claims.{Claims}
 use Rattle.bolt_check.specs.declared.spot.PageSpot.{PageSpot}
 use Rattle.bolt_check.specs.declared.spot.Spot.{Spot}
@@ -89,16 +89,22 @@ after_ahead : (s : State) (ahead : NextVisit) (found : Option Finding) (claimed 
     → Gives (node_at s.file s.meta) (λ n. s.claimed n ≡ true) (spot_at ahead.spot) found
     → open_tasks s.file s.meta s.path pages [] ≡ tasks_after s.file s.meta stay tt (spot_place s.file s.meta (take ahead.level s.path) ahead.spot) found ++ open_tasks s.file s.meta s.path s.pages []
     → record { losses = losses; visited = visited; claimed = claimed } ≡ after_visit {W = NoWay} (node_at s.file s.meta) (tally_of s) (record { way = tt; place = spot_place s.file s.meta (take ahead.level s.path) ahead.spot; found = found })
-    → (members : List Member) (outcome : Outcome) → ComesTo s members outcome → ComesTo (record s { claimed = claimed; ahead = None; pages = pages; losses = losses; visited = visited }) members outcome
-after_ahead s ahead found claimed pages losses visited is gives tasks tally members outcome comes =
-    let rest = open_tasks s.file s.meta s.path s.pages [] in
-    let first = subst (λ (o : Option NextVisit). Runs s.file s.meta stay s.claimed (ahead_tasks s.file s.meta s.path o rest) comes.visits members) is comes.run in
-    let (visits, same, run) = visits_first s.file s.meta stay s.claimed tt (spot_place s.file s.meta (take ahead.level s.path) ahead.spot) found rest comes.visits members gives first in
-    record {
-      visits = visits;
-      run = subst₂ (λ (o : Outcome) (ts : List (Task NoWay)). Runs s.file s.meta stay o.claimed ts visits members) (sym tally) (sym tasks) run;
-      all = comes.all ∙ ap (after_visits (node_at s.file s.meta) (tally_of s)) same ∙ ap (λ (o : Outcome). after_visits (node_at s.file s.meta) o visits) (sym tally);
-    }
+    → HasOpen (record s { claimed = claimed; ahead = None; pages = pages; losses = losses; visited = visited })
+    → GoesOn s (record s { claimed = claimed; ahead = None; pages = pages; losses = losses; visited = visited })
+after_ahead s ahead found claimed pages losses visited is gives tasks tally placed = record {
+  on = record { file = refl; meta = refl; placed = placed };
+  path = refl;
+  over = λ over. absurd (not_ahead s ahead is over);
+  same = λ members outcome comes.
+      let rest = open_tasks s.file s.meta s.path s.pages [] in
+      let first = subst (λ (o : Option NextVisit). Runs s.file s.meta stay s.claimed (ahead_tasks s.file s.meta s.path o rest) comes.visits members) is comes.run in
+      let (visits, same, run) = visits_first s.file s.meta stay s.claimed tt (spot_place s.file s.meta (take ahead.level s.path) ahead.spot) found rest comes.visits members gives first in
+      record {
+        visits = visits;
+        run = subst₂ (λ (o : Outcome) (ts : List (Task NoWay)). Runs s.file s.meta stay o.claimed ts visits members) (sym tally) (sym tasks) run;
+        all = comes.all ∙ ap (after_visits (node_at s.file s.meta) (tally_of s)) same ∙ ap (λ (o : Outcome). after_visits (node_at s.file s.meta) o visits) (sym tally);
+      };
+}
 
 -- what was ahead is open
 pub entered_page : (s : State) (ahead : NextVisit) (content : Content) (count : ℕ) (claimed : ℕ → Bool) (visited : ℕ) → HasOpen s → s.ahead ≡ Some ahead
@@ -111,21 +117,13 @@ entered_page s ahead content count claimed visited has is passes content_is clai
     let are = rw is at has.pages in
     let within = rw is at has.within in
     let none : 0 ≤ count = omega arith in
-    record {
-      on = record {
-        file = refl;
-        meta = refl;
-        placed = record {
-          pages = are_open_push s.file s.meta 0 s.pages page (length s.path) are (record { content = content_is.good; count = long; fits = fits; taken = none }) within;
-          within = omega arith;
-        };
-      };
-      path = refl;
-      over = λ over. absurd (not_ahead s ahead is over);
-      same = after_ahead s ahead None claimed (s.pages ++ page ∷ []) s.losses visited is passes
-          (open_last s.file s.meta s.path s.pages page [] ∙ ap (λ (ts : List (Task NoWay)). ts ++ open_tasks s.file s.meta s.path s.pages []) (opened s.file s.meta s.path ahead.spot content ahead.level count content_is long))
-          (λ i. record { losses = sym (append-nil s.losses) i; visited = counts i; claimed = λ n. claims n i });
-    }
+    after_ahead s ahead None claimed (s.pages ++ page ∷ []) s.losses visited is passes
+    (open_last s.file s.meta s.path s.pages page [] ∙ ap (λ (ts : List (Task NoWay)). ts ++ open_tasks s.file s.meta s.path s.pages []) (opened s.file s.meta s.path ahead.spot content ahead.level count content_is long))
+    (λ i. record { losses = sym (append-nil s.losses) i; visited = counts i; claimed = λ n. claims n i })
+    (record {
+      pages = are_open_push s.file s.meta 0 s.pages page (length s.path) are (record { content = content_is.good; count = long; fits = fits; taken = none }) within;
+      within = omega arith;
+    })
 
 -- what was ahead is lost
 pub entered_lost : (s : State) (ahead : NextVisit) (x : Finding) (claimed : ℕ → Bool) (visited : ℕ) → HasOpen s → s.ahead ≡ Some ahead
@@ -136,12 +134,8 @@ entered_lost s ahead x claimed visited has is tests claims counts =
     let are = rw is at has.pages in
     let within = rw is at has.within in
     let losses : List LossView = s.losses ++ loss_of (spot_place s.file s.meta (take ahead.level s.path) ahead.spot) x ∷ [] in
-    record {
-      on = record { file = refl; meta = refl; placed = record { pages = are_open_up s.file s.meta 0 s.pages ahead.level (length s.path) are within; within = omega arith } };
-      path = refl;
-      over = λ over. absurd (not_ahead s ahead is over);
-      same = after_ahead s ahead (Some x) claimed s.pages losses visited is tests refl (λ i. record { losses = losses; visited = counts i; claimed = λ n. (claims n ∙ sym (or_none (s.claimed n))) i });
-    }
+    after_ahead s ahead (Some x) claimed s.pages losses visited is tests refl (λ i. record { losses = losses; visited = counts i; claimed = λ n. (claims n ∙ sym (or_none (s.claimed n))) i })
+    (record { pages = are_open_up s.file s.meta 0 s.pages ahead.level (length s.path) are within; within = omega arith })
 
 -- without what is ahead the tasks are those of the open pages, the innermost first
 tasks_top : (s : State) (front : List OpenPage) (top : OpenPage) → s.ahead ≡ None → s.pages ≡ front ++ top ∷ []

@@ -1,8 +1,8 @@
 use Rattle.std.proofs.Common.{◌≡◌, List, [], sym, subst₂, ℕ}
 use Rattle.bolt_recover.proofs.Words.{AreJoinable, ForRecovered, joined_file, joined_left, joined_meta, joined_path, kept_file, kept_left, kept_meta, kept_path}
-use Rattle.bolt_recover.proofs.Words.{Meta, props, recovered_in, ∥∥₁_elim, ∥∥₁_map}
+use Rattle.bolt_recover.proofs.Words.{Meta, props, ∥∥₁_elim, ∥∥₁_map}
 use Rattle.bolt_recover.proofs.Existing.{has_recovered}
-use Rattle.bolt_recover.proofs.JoinSteps.{gives_prop, none_given, parted, still_none}
+use Rattle.bolt_recover.proofs.JoinSteps.{gives_prop, none_given, of_joined, still_none}
 use Rattle.bolt_recover.proofs.StepLemmas.{when_err}
 use Rattle.bolt_recover.proofs.joined.Joined.next_inside.Goals as goal
 
@@ -21,8 +21,7 @@ returns-in_err-item-clause-same c =
     let self = c.args.self.now in
     when_err c.from_residual.result (λ listing is. rw (c.requires.stage, c.in_default.ensures.0, c.in_default.ensures.1, c.in_default-held.is)
     (∥∥₁_elim self.pages (hlevel props) (λ are.
-    let part = parted (kept_file self.kept) (kept_meta self.kept) self.found.now listing are is in
-    c.in_err-item.ensures.same (recovered_in self.found.now listing) part.recovers)))
+    c.in_err-item.ensures.same _ (of_joined self listing are is))))
 
 pub returns-clause-given : goal.returns-clause-given
 unfolding joined_file joined_left joined_meta joined_path
@@ -30,8 +29,7 @@ returns-clause-given c = λ listing is.
     let self = c.args.self.now in
     rw (c.requires.stage, c.in_default.ensures.0, c.in_default-held.is)
     (∥∥₁_elim self.pages (gives_prop _ _ (kept_path c.next-2.new.self) c.in_ok-item.item) (λ are.
-    let part = parted (kept_file self.kept) (kept_meta self.kept) self.found.now listing are is in
-    c.in_ok-item.ensures.given (recovered_in self.found.now listing) part.recovers))
+    c.in_ok-item.ensures.given _ (of_joined self listing are is)))
 
 pub returns-clause-fewer : goal.returns-clause-fewer
 returns-clause-fewer c =
