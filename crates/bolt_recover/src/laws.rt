@@ -8,10 +8,9 @@ ghost use Rattle.bolt_check.specs.Nodes.{node_at};
 ghost use Rattle.bolt_check.specs.Sound.{HasSoundTrees, IsFirstFinding};
 ghost use Rattle.bolt_check.specs.Ways.{At_page, Before, SpanAt, root_spot};
 ghost use Rattle.bolt_check.specs.declared.finding.Finding.{Finding};
-ghost use Rattle.bolt_tree.specs.Entries.{Bucket, IsEntry, Item, Root_page};
+ghost use Rattle.bolt_tree.specs.Entries.{Bucket};
 ghost use Rattle.bolt_tree.specs.Listing.{IsListing, Member, member_cmp};
 ghost use Rattle.bolt_tree.specs.Order.{Rises};
-ghost use Rattle.bolt_tree.specs.Paths.{Holds, Path};
 ghost use Rattle.bolt_tree.specs.Tree.{Tree, listing_of};
 ghost use Rattle.bolt_recover.specs.Found.{AreFound, IsFoundPage};
 ghost use Rattle.bolt_recover.specs.Joined.{IsFoundMember, IsJoined, LacksBucketKey, LeavesRoom, is_found_path, lost_and_found};
@@ -20,7 +19,7 @@ ghost use Rattle.bolt_recover.specs.KeptPages.{IsKeptPage};
 ghost use Rattle.bolt_recover.specs.Losses.{AreLosses, LossView, loss_of, losses_of};
 ghost use Rattle.bolt_recover.specs.PageWays.{ArePageWays};
 ghost use Rattle.bolt_recover.specs.Places.{Place, place_at};
-ghost use Rattle.bolt_recover.specs.Recovered.{IsRecovered, IsRecoveredMember};
+ghost use Rattle.bolt_recover.specs.Recovered.{AreHeld, IsRecovered};
 ghost use Rattle.bolt_recover.specs.Recoveries.{recovery_file};
 ghost use Rattle.bolt_recover.specs.Surveys.{Has, IsSurvey, LosesNothing, Visit, lost};
 
@@ -56,7 +55,7 @@ pub fn recovered_listing_is_of_a_tree()
 
 /// Each recovered member is what its path holds: an entry of the bucket that the path names.
 pub fn recovered_members_are_held()
-    ensures { (file : List ℕ) (meta : Meta) (survey : List Visit) (path : Path) (item : Item) → IsRecoveredMember file meta survey path item → Holds (IsEntry file meta) (Root_page meta.root) path item }
+    ensures { (file : List ℕ) (meta : Meta) (survey : List Visit) → AreHeld file meta survey }
 {}
 
 /// A file has at most one list of losses.
