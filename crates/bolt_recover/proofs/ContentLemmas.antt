@@ -1,7 +1,6 @@
 -- A page has no more leaf elements than elements.
 use Rattle.std.proofs.Common.{◌≡◌, ◌∙◌, ◌≤◌, Bool, true, false, length, refl, ap, arith}
-use Rattle.bolt_recover.proofs.Words.{Content, content_elements, content_size, entries_of, Kind, leaf_entry, length-map, Page, shown, shown_leaves, shown_node}
-use Rattle.bolt_recover.proofs.Words.{tree_kind, TreePage}
+use Rattle.bolt_recover.proofs.Words.{Content, content_elements, content_size, entries_of, Kind, leaf_entry, length-map, Page, shown, shown_leaves, shown_node, tree_kind, TreePage}
 use Rattle.bolt_recover.specs.declared.content.Content.TheVariants.{Bucket}
 
 by_kind : (page : TreePage) (b : Bool) → page.is_leaf ≡ b → length (shown page.page).leaves ≤ length (shown_node page).entries

@@ -1,7 +1,6 @@
 -- The first loss is the first finding: all preceding ways are kept, so the tests there look at all preceding ways.
 use Rattle.std.proofs.Common.{◌≡◌, ℕ, inl, inr, List, [], ◌∷◌, ◌++◌, Option, Some, None}
-use Rattle.bolt_recover.proofs.Words.{Before, before_trans, Finding, follow, Has, IsClaimedBefore, IsClaimedIn, IsFirst, IsMetaPage, Nodes, passes_silent, Spot}
-use Rattle.bolt_recover.proofs.Words.{Surveys, tests_same, Visit}
+use Rattle.bolt_recover.proofs.Words.{Before, before_trans, Finding, follow, Has, IsClaimedBefore, IsClaimedIn, IsFirst, IsMetaPage, Nodes, passes_silent, Spot, Surveys, tests_same, Visit}
 use Rattle.bolt_recover.proofs.KeptWays.{claimed_in, kept_passes}
 use Rattle.bolt_recover.proofs.SoundSurveys.{claimed_before}
 

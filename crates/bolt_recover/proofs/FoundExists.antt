@@ -1,7 +1,6 @@
 -- Each file has found pages: whether a page is found can be told.
 use Rattle.std.proofs.Common.{◌≡◌, ◌∙◌, ◌≢◌, ◌⊎◌, ◌+◌, ◌≤◌, true, inl, inr, ℕ, zero, suc, List, [], ◌∷◌, ◌++◌, Option, Some, None, Result, Ok, Err, refl, sym, ap, subst, arith}
-use Rattle.bolt_recover.proofs.Words.{AreFound, cases_lt, early_finding, Entry, Finding, FoundBelow, IsFoundNext, IsFoundPage, IsKeptPage, IsListedFree}
-use Rattle.bolt_recover.proofs.Words.{IsLoneLeaf, IsSurvey, Meta, Node, node_at, node_finding, Nodes, root_spot, Visit}
+use Rattle.bolt_recover.proofs.Words.{AreFound, cases_lt, early_finding, Entry, Finding, FoundBelow, IsFoundNext, IsFoundPage, IsKeptPage, IsListedFree, IsLoneLeaf, IsSurvey, Meta, Node, node_at, node_finding, Nodes, root_spot, Visit}
 use Rattle.bolt_format.specs.Freelists.{free_ids_of, freelist_fault_of}
 use Rattle.bolt_check.specs.Accounts.{times_in}
 use Rattle.bolt_recover.proofs.Existing.{has_survey}

@@ -1,8 +1,6 @@
 -- Found pages, one number after another.
 use Rattle.std.proofs.Common.{◌≡◌, ◌∙◌, ◌≤◌, ◌<◌, ◌⊎◌, ◌↔◌, inl, inr, ℕ, zero, suc, ◌+◌, Bool, true, false, List, [], ◌∷◌, ◌++◌, Some, Ok, ◌≢◌, refl, sym, ap, subst, arith}
-use Rattle.bolt_recover.proofs.Words.{At_page, cases_lt, Contains, Contains-append_left, Contains-append_right, Contains-push_cases, contains_head}
-use Rattle.bolt_recover.proofs.Words.{contains_none, false≢true, Found, FoundBelow, IsFoundNext, IsFoundPage, IsFoundView, IsListedFree, IsLoneLeaf, IsTrue}
-use Rattle.bolt_recover.proofs.Words.{Meta, Node, node_at, Nodes, page_at, root_spot, shown, shown_node, SpanAt}
+use Rattle.bolt_recover.proofs.Words.{At_page, cases_lt, Contains, Contains-append_left, Contains-append_right, Contains-push_cases, contains_head, contains_none, false≢true, Found, FoundBelow, IsFoundNext, IsFoundPage, IsFoundView, IsListedFree, IsLoneLeaf, IsTrue, Meta, Node, node_at, Nodes, page_at, root_spot, shown, shown_node, SpanAt}
 use Rattle.bolt_check.proofs.LeafLemmas.{lone_free, lone_same, lone_span}
 
 pub not_true : (b : Bool) → (b ≡ true → ⊥) → b ≡ false

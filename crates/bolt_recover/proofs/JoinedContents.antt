@@ -1,9 +1,6 @@
 -- The members of a joined listing are recovered or found.
 use Rattle.std.proofs.Common.{◌≡◌, ◌⊎◌, inl, inr, ℕ, Bool, true, false, IsTrue, is_none, List, [], ◌∷◌, ◌++◌, None, map, ◌==◌, if◌then◌else◌, refl, sym, subst}
-use Rattle.bolt_recover.proofs.Words.{AreFound, Bucket, Contains, Contains-append_cases, contains_cases, contains_head, contains_none, contains_tail, end}
-use Rattle.bolt_recover.proofs.Words.{eqb-true, found_tree, head_root, head_sequence, inline_elements, inside_of, IsElement, IsFoundMember, IsInner, IsJoined}
-use Rattle.bolt_recover.proofs.Words.{IsRecovered, item_of, joined_listing, keys_order_fault, LeafElement, leaves_of, listing_below, lost_and_found, Member}
-use Rattle.bolt_recover.proofs.Words.{Meta, page_at, page_key, Path, Tree, tree_with, Value, with_bucket, with_value}
+use Rattle.bolt_recover.proofs.Words.{AreFound, Bucket, Contains, Contains-append_cases, contains_cases, contains_head, contains_none, contains_tail, end, eqb-true, found_tree, head_root, head_sequence, inline_elements, inside_of, IsElement, IsFoundMember, IsInner, IsJoined, IsRecovered, item_of, joined_listing, keys_order_fault, LeafElement, leaves_of, listing_below, lost_and_found, Member, Meta, page_at, page_key, Path, Tree, tree_with, Value, with_bucket, with_value}
 use Rattle.bolt_recover.proofs.JoinedLemmas.{joined_of, put_of, put_or_there, put_recovered, with_elements}
 
 -- an element, what it holds, or a later one

@@ -1,10 +1,6 @@
 -- The joined listing is the recovered one with the bucket of what is found in its place.
 use Rattle.std.proofs.Common.{◌≡◌, ◌∙◌, ◌⊎◌, inl, inr, ℕ, Bool, true, false, not, List, [], ◌∷◌, ◌++◌, filter, map, refl, sym, ap, subst}
-use Rattle.bolt_recover.proofs.Words.{append-nil, AreFound, Bucket, cases_Bool, Contains, Contains-append_cases, contains_cases, contains_head, contains_tail}
-use Rattle.bolt_recover.proofs.Words.{end, Equal, filter-append, filter_all, filter_none, first_cmp, found_tree, further, Greater, is_eq, is_found_path, is_lt}
-use Rattle.bolt_recover.proofs.Words.{IsJoined, IsRecovered, joined_listing, key_cmp, key_lt, key_total, LacksBucketKey, LeafElement, leaves_of, Less, less_of}
-use Rattle.bolt_recover.proofs.Words.{listing_below, listing_of, lost_and_found, Member, member_cmp, member_total, Meta, Ordering, page_at, Path, path_cmp}
-use Rattle.bolt_recover.proofs.Words.{put_bucket, put_members, Rises, Tree, tree_of, Value, with_bucket, with_value}
+use Rattle.bolt_recover.proofs.Words.{append-nil, AreFound, Bucket, cases_Bool, Contains, Contains-append_cases, contains_cases, contains_head, contains_tail, end, Equal, filter-append, filter_all, filter_none, first_cmp, found_tree, further, Greater, is_eq, is_found_path, is_lt, IsJoined, IsRecovered, joined_listing, key_cmp, key_lt, key_total, LacksBucketKey, LeafElement, leaves_of, Less, less_of, listing_below, listing_of, lost_and_found, Member, member_cmp, member_total, Meta, Ordering, page_at, Path, path_cmp, put_bucket, put_members, Rises, Tree, tree_of, Value, with_bucket, with_value}
 use Rattle.bolt_tree.proofs.ReadBack.{tree_back}
 use Rattle.bolt_recover.proofs.Existing.{has_recovered, one_recovered, recovers}
 use Rattle.bolt_recover.proofs.FoundAll.{one_found}

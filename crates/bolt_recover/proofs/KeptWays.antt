@@ -1,7 +1,6 @@
 -- Ways of a survey that loses none of some ways: those that lead somewhere are kept, and the tests find nothing at them, whatever ways come before.
 use Rattle.std.proofs.Common.{◌≡◌, ◌∙◌, ℕ, inl, inr, List, [], ◌∷◌, ◌++◌, Option, Some, None, refl, sym, subst, append_assoc}
-use Rattle.bolt_recover.proofs.Words.{append-nil, Before, Finding, follow, follow_append, Gives, Has, IsClaimedBefore, IsClaimedIn, IsMetaPage, kept, Nodes}
-use Rattle.bolt_recover.proofs.Words.{Passes, passes_fewer, span_spot, Spot, Surveys, Visit}
+use Rattle.bolt_recover.proofs.Words.{append-nil, Before, Finding, follow, follow_append, Gives, Has, IsClaimedBefore, IsClaimedIn, IsMetaPage, kept, Nodes, Passes, passes_fewer, span_spot, Spot, Surveys, Visit}
 use Rattle.bolt_check.proofs.Forest.{follow_some}
 
 module _ (nodes : Nodes) (root : Option Spot) (survey : List Visit) (surveys : Surveys nodes (follow nodes root) survey) (P : List ℕ → Type 0) (closed : (front rest : List ℕ) → P (front ++ rest) → P front)

@@ -1,7 +1,6 @@
 -- What is left to a recovery rises, as the listing does.
 use Rattle.std.proofs.Common.{Bool, true, false, List, []}
-use Rattle.bolt_recover.proofs.Words.{filter_rises, if◌then◌else◌, is_lt, is_over, Member, member_cmp, Path, path_cmp, Recovery, recovery_left, rest_after}
-use Rattle.bolt_recover.proofs.Words.{Rises, state_of}
+use Rattle.bolt_recover.proofs.Words.{filter_rises, if◌then◌else◌, is_lt, is_over, Member, member_cmp, Path, path_cmp, Recovery, recovery_left, rest_after, Rises, state_of}
 
 left_if : (path : Path) (listing : List Member) (over : Bool) → Rises member_cmp listing → Rises member_cmp (if over then [] else rest_after path listing)
 left_if path listing true rises = tt

@@ -1,7 +1,6 @@
 -- Each lost way has one loss, and each loss is that of a lost way.
 use Rattle.std.proofs.Common.{◌≡◌, ◌∙◌, ◌⊎◌, ℕ, inl, inr, List, [], ◌∷◌, ◌++◌, length, Option, Some, None, cond, is_some, refl, sym, ap, subst, arith, length-append}
-use Rattle.bolt_recover.proofs.Words.{Contains, Contains-append_right, contains_cases, contains_head, contains_none, count_by, Finding, Has, IsSurvey}
-use Rattle.bolt_recover.proofs.Words.{LosesNothing, loss_at, loss_of, losses_of, LossView, lost, Meta, Place, place_at, sum_by-cons, Visit}
+use Rattle.bolt_recover.proofs.Words.{Contains, Contains-append_right, contains_cases, contains_head, contains_none, count_by, Finding, Has, IsSurvey, LosesNothing, loss_at, loss_of, losses_of, LossView, lost, Meta, Place, place_at, sum_by-cons, Visit}
 use Rattle.bolt_recover.proofs.PlaceFacts.{place_is}
 
 length_at : (o : Option Place) (p : Place) (f : Option Finding) → o ≡ Some p → length (loss_at o f) ≡ cond (is_some f) 1 0

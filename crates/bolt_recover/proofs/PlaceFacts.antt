@@ -1,9 +1,6 @@
 -- Places along ways: the spot there, the next one, and the elements.
 use Rattle.std.proofs.Common.{◌≡◌, ◌∙◌, inl, inr, ℕ, suc, ◌<◌, ◌≤◌, Bool, List, [], ◌∷◌, ◌++◌, length, Option, Some, None, Result, Ok, Err, slice_get, refl, sym, ap, subst, arith}
-use Rattle.bolt_recover.proofs.Words.{At_inline, At_page, Contains, elements_at, Entry, entry_count, follow, follow_places, has_at, has_from_contains}
-use Rattle.bolt_recover.proofs.Words.{leaf_entry, LeafElement, leaves_of, length-map, Meta, next_place, Node, node_at, Nodes, option_map, page_at, PageSpot}
-use Rattle.bolt_recover.proofs.Words.{Path, Place, place_at, place_on, place_size, reached, root_place, same_Some, slice_get_within, Spot, step, step_at}
-use Rattle.bolt_recover.proofs.Words.{step_entry, step_from, step_place}
+use Rattle.bolt_recover.proofs.Words.{At_inline, At_page, Contains, elements_at, Entry, entry_count, follow, follow_places, has_at, has_from_contains, leaf_entry, LeafElement, leaves_of, length-map, Meta, next_place, Node, node_at, Nodes, option_map, page_at, PageSpot, Path, Place, place_at, place_on, place_size, reached, root_place, same_Some, slice_get_within, Spot, step, step_at, step_entry, step_from, step_place}
 use Rattle.bolt_recover.proofs.PlaceSteps.{page_form}
 
 abbrev spot_in : Option Place → Option Spot

@@ -1,8 +1,6 @@
 -- The keys of a place that is kept: they rise between its bounds, its elements have them, and each child has its bounds from them.
 use Rattle.std.proofs.Common.{◌≡◌, ◌∙◌, ◌⊎◌, inl, inr, ℕ, suc, Bool, true, false, List, [], ◌∷◌, ◌++◌, Option, Some, None, slice_get, if◌then◌else◌, refl, sym, ap}
-use Rattle.bolt_recover.proofs.Words.{At_inline, At_page, Entry, Finding, finding_none, finding_of, is_below, is_from, Key, key_at, key_each, key_rise, keys_of}
-use Rattle.bolt_recover.proofs.Words.{keys_order_fault, KeysRise, leaf_entry, LeafElement, lower_of, Meta, Node, node_at, none-some, option_map, PageSpot}
-use Rattle.bolt_recover.proofs.Words.{Passes, Path, Place, slice_get-map, Spot, step_place, upper_from, upper_of}
+use Rattle.bolt_recover.proofs.Words.{At_inline, At_page, Entry, Finding, finding_none, finding_of, is_below, is_from, Key, key_at, key_each, key_rise, keys_of, keys_order_fault, KeysRise, leaf_entry, LeafElement, lower_of, Meta, Node, node_at, none-some, option_map, PageSpot, Passes, Path, Place, slice_get-map, Spot, step_place, upper_from, upper_of}
 use Rattle.bolt_recover.proofs.PlaceSteps.{IsBranchPage, IsLeafPage, IsTidy, IsTidyAt, keys_in, on_page}
 
 -- a bucket of a leaf has a path of its own, and a child of a branch has the keys from its element to the next

@@ -1,8 +1,6 @@
 -- A run may forget its ways.
 use Rattle.std.proofs.Common.{◌≡◌, ◌∙◌, ℕ, zero, suc, Bool, List, [], ◌∷◌, ◌++◌, map, Option, Some, None, slice_get, refl, ap, subst}
-use Rattle.bolt_recover.proofs.Words.{after_visit, after_visits, claimed_after, done, entry_tasks, Finding, further, give, gives_at, LeafElement, map-append}
-use Rattle.bolt_recover.proofs.Words.{Member, Meta, node_at, Nodes, NoWay, Outcome, Path, Place, root_place, Runs, RunsAll, stay, step_place, Task, tasks_after}
-use Rattle.bolt_recover.proofs.Words.{tasks_from, To_give, To_visit, visit, Visited, visits_at, Way}
+use Rattle.bolt_recover.proofs.Words.{after_visit, after_visits, claimed_after, done, entry_tasks, Finding, further, give, gives_at, LeafElement, map-append, Member, Meta, node_at, Nodes, NoWay, Outcome, Path, Place, root_place, Runs, RunsAll, stay, step_place, Task, tasks_after, tasks_from, To_give, To_visit, visit, Visited, visits_at, Way}
 
 abbrev blind : Task Way → Task NoWay
 blind (To_visit w p) = To_visit tt p

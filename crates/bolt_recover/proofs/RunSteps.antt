@@ -1,7 +1,6 @@
 -- What a run does first.
 use Rattle.std.proofs.Common.{◌≡◌, ℕ, Bool, true, List, [], ◌∷◌, ◌++◌, Option, refl, subst}
-use Rattle.bolt_recover.proofs.Words.{claimed_after, done, Finding, give, Gives, item_of, LeafElement, Member, Meta, node_at, Path, Place, Runs, Task}
-use Rattle.bolt_recover.proofs.Words.{tasks_after, To_give, To_visit, visit, Visited}
+use Rattle.bolt_recover.proofs.Words.{claimed_after, done, Finding, give, Gives, item_of, LeafElement, Member, Meta, node_at, Path, Place, Runs, Task, tasks_after, To_give, To_visit, visit, Visited}
 use Rattle.bolt_recover.proofs.SurveyIsOne.{gives_one}
 
 module _ (file : List ℕ) (meta : Meta) {W : Type 0} (further : W → ℕ → W) where

@@ -1,8 +1,6 @@
 -- What is known of a file that was searched.
 use Rattle.std.proofs.Common.{◌≡◌, ◌≢◌, ◌∙◌, ◌<◌, ◌*◌, ◌^◌, true, false, List, [], ap, length, subst, sym}
-use Rattle.bolt_recover.proofs.Words.{all_lost, AreJoinable, AreTreesOf, bytes_of, Checked, Contains, contains_none, Damaged, everything, Finding, ForRecovered}
-use Rattle.bolt_recover.proofs.Words.{Found, HasBucketKey, IsSearched, LacksBucketKey, LosesRoot, LossView, lost_of, Member, meta_of, parts, props, Rootless}
-use Rattle.bolt_recover.proofs.Words.{Sound, ∥∥₁_elim, ∥∥₁_map}
+use Rattle.bolt_recover.proofs.Words.{all_lost, AreJoinable, AreTreesOf, bytes_of, Checked, Contains, contains_none, Damaged, everything, Finding, ForRecovered, Found, HasBucketKey, IsSearched, LacksBucketKey, LosesRoot, LossView, lost_of, Member, meta_of, parts, props, Rootless, Sound, ∥∥₁_elim, ∥∥₁_map}
 use Rattle.bolt_recover.specs.Lost.{IsAllLost}
 use Rattle.bolt_recover.specs.declared.lost_and_found.Damage.{Damage}
 use Rattle.bolt_recover.specs.declared.lost_and_found.LostAndFound.{LostAndFound}

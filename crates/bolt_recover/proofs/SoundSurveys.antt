@@ -1,7 +1,6 @@
 -- Sound trees lose nothing: the tests pass at each way, so they also pass if fewer pages were claimed earlier.
 use Rattle.std.proofs.Common.{ℕ, inl, inr, List, None}
-use Rattle.bolt_recover.proofs.Words.{HasSoundTrees, IsClaimedBefore, IsClaimedIn, IsMetaPage, IsSurvey, LosesNothing, Meta, node_at, Nodes, passes_fewer}
-use Rattle.bolt_recover.proofs.Words.{Reach, reached, shape_passes, Visit}
+use Rattle.bolt_recover.proofs.Words.{HasSoundTrees, IsClaimedBefore, IsClaimedIn, IsMetaPage, IsSurvey, LosesNothing, Meta, node_at, Nodes, passes_fewer, Reach, reached, shape_passes, Visit}
 use Rattle.bolt_recover.proofs.SurveyIsOne.{gives_one}
 
 pub claimed_before : (nodes : Nodes) (reach : Reach) (survey : List Visit) (way : List ℕ) (n : ℕ)

@@ -1,9 +1,6 @@
 -- The walk over sound trees returns what is recovered of them, and nothing of them is lost.
 use Rattle.std.proofs.Common.{◌≡◌, ◌∙◌, ℕ, Err, IfOk, List, Ok, OnErr, Option, Result, [], inl, refl, sym}
-use Rattle.bolt_recover.proofs.Words.{All-nil, AreLosses, At_page, bytes_of, Checked, ForRecovered, Found, GivesNext, HasSoundTrees, IsClaimedBefore}
-use Rattle.bolt_recover.proofs.Words.{IsFoundView, IsListing, IsMetaPage, IsRecovered, IsSearched, item_view, KeepsRoot, left_of, LossView, Member, Meta}
-use Rattle.bolt_recover.proofs.Words.{meta_of, node_at, option_map, passes_fewer, props, reached, root_spot, shape_passes, Sound, walk_checked, walk_path}
-use Rattle.bolt_recover.proofs.Words.{∥∥₁_elim, ∥∥₁_map}
+use Rattle.bolt_recover.proofs.Words.{All-nil, AreLosses, At_page, bytes_of, Checked, ForRecovered, Found, GivesNext, HasSoundTrees, IsClaimedBefore, IsFoundView, IsListing, IsMetaPage, IsRecovered, IsSearched, item_view, KeepsRoot, left_of, LossView, Member, Meta, meta_of, node_at, option_map, passes_fewer, props, reached, root_spot, shape_passes, Sound, walk_checked, walk_path, ∥∥₁_elim, ∥∥₁_map}
 use Rattle.bolt_check.proofs.CheckedLemmas.{checked_trees}
 use Rattle.bolt_tree.specs.FileListings.{ForListing}
 use Rattle.bolt_tree.specs.declared.entry.Item.{Item}

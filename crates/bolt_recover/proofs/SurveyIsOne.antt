@@ -1,8 +1,6 @@
 -- There is at most one survey. Where two first differ, the preceding kept ways are the same, and so is what the tests find.
 use Rattle.std.proofs.Common.{◌≡◌, ◌∙◌, ℕ, ◌⊎◌, inl, inr, List, [], ◌∷◌, ◌++◌, map, Option, Some, None, refl, sym, ap, subst}
-use Rattle.bolt_recover.proofs.Words.{Before, before_irreflexive, before_strict, before_total, before_trans, Finding, Gives, Has, IsBeforeAll, IsClaimedIn}
-use Rattle.bolt_recover.proofs.Words.{IsOpen, IsSurvey, kept, Meta, node_at, Nodes, passes_fewer, passes_silent, Reach, reached, Spot, Surveys, tests_same}
-use Rattle.bolt_recover.proofs.Words.{Visit}
+use Rattle.bolt_recover.proofs.Words.{Before, before_irreflexive, before_strict, before_total, before_trans, Finding, Gives, Has, IsBeforeAll, IsClaimedIn, IsOpen, IsSurvey, kept, Meta, node_at, Nodes, passes_fewer, passes_silent, Reach, reached, Spot, Surveys, tests_same, Visit}
 use Rattle.bolt_check.specs.Tours.{Rises}
 use Rattle.bolt_check.proofs.Single.{tests_one}
 

@@ -1,9 +1,6 @@
 -- Trees whose keys rise, and what they list.
 use Rattle.std.proofs.Common.{◌≡◌, ◌∙◌, ◌⊎◌, inl, inr, ℕ, zero, suc, Bool, true, false, List, [], ◌∷◌, ◌++◌, Option, Some, None, map, slice_get, ◌==◌, refl, sym, ap, subst, arith, append_assoc}
-use Rattle.bolt_recover.proofs.Words.{before_longer, Bucket, cases_Bool, cond_both, Contains, Contains-append_cases, contains_cases, contains_head}
-use Rattle.bolt_recover.proofs.Words.{contains_none, contains_tail, end, head_root, head_sequence, inline_elements, inside_of, Key, key_cmp, key_lt, key_rise}
-use Rattle.bolt_recover.proofs.Words.{keys_order_fault, KeysRise, LeafElement, Less, less_of, listing_below, Member, member_cmp, Path, path_cmp, Rises}
-use Rattle.bolt_recover.proofs.Words.{same_front, Tree, tree_with, Value, with_bucket, with_value}
+use Rattle.bolt_recover.proofs.Words.{before_longer, Bucket, cases_Bool, cond_both, Contains, Contains-append_cases, contains_cases, contains_head, contains_none, contains_tail, end, head_root, head_sequence, inline_elements, inside_of, Key, key_cmp, key_lt, key_rise, keys_order_fault, KeysRise, LeafElement, Less, less_of, listing_below, Member, member_cmp, Path, path_cmp, Rises, same_front, Tree, tree_with, Value, with_bucket, with_value}
 
 -- a key of the outermost bucket
 abbrev pub HasKey : Tree → Key → Type 0

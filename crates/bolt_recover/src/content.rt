@@ -1,5 +1,5 @@
 //! A kept page, and how many of its elements are done.
-ghost use Rattle.std.specs.Prelude.{◌≡◌, ◌≤◌, ◌<◌, ◌+◌, ℕ, List, true, IfErr, IfOk, IfSome, OnErr, OnOk, IsTrue, slice_get};
+ghost use Rattle.std.specs.Prelude.{◌≡◌, ◌≤◌, ◌<◌, ◌+◌, ℕ, List, true, IfErr, IfOk, IfSome, OnErr, OnOk, IsTrue, slice_get, None, Some};
 ghost use Rattle.std.specs.Option.{option_map};
 ghost use Rattle.bolt_format.specs.Elements.{IsBucketValue};
 ghost use Rattle.bolt_format.specs.ElementPlaces.{leaf_view};
@@ -9,6 +9,7 @@ ghost use Rattle.bolt_check.specs.Findings.{Passes, Tests};
 ghost use Rattle.bolt_check.specs.ShownSpots.{spot_at};
 ghost use Rattle.bolt_recover.specs.Private.Frames.{IsContent, IsShallow, LeadsTo, claims_nodes, claims_with, content_elements, content_size, pages_in};
 ghost use Rattle.bolt_recover.specs.Private.Runs.{page_visit};
+ghost use Rattle.bolt_recover.specs.Private.ElementsLeft.{GivesElement, elements_left, elements_of};
 
 use bolt_check::{BucketSpot, Claims, Finding, PageSpot, Spot, TreePage};
 use bolt_format::Leaf;
@@ -88,5 +89,48 @@ impl<'a> Content<'a> {
             Content::Page(page, spot) => page.spot(i, spot),
             Content::Bucket(_) => None,
         }
+    }
+}
+
+/// What is left of the elements of a page.
+#[derive(Clone, Copy)]
+pub(crate) struct Elements<'a> {
+    pub content: Content<'a>,
+    /// The next element.
+    pub next: u16,
+}
+
+impl<'a> Elements<'a> {
+    /// All elements of a page.
+    pub fn new(content: Content<'a>) -> Elements<'a>
+        ensures { result ≡ record { content = content.entry; next = 0 } }
+    {
+        Elements { content, next: 0 }
+    }
+
+    /// Returns the first element that is left, if any.
+    pub fn next(&mut self) -> Option<Leaf<'a>>
+        ensures given { GivesElement (elements_left self.old) (elements_left self.new) (option_map leaf_view result) }
+        ensures bucket { IfSome result (λ leaf. IsTrue leaf.is_bucket → IsBucketValue leaf.value.now) }
+    {
+        if self.next >= self.content.count() {
+            return None;
+        }
+        let Some(leaf) = self.content.leaf(self.next) else {
+            return None;
+        };
+        self.next += 1;
+        Some(leaf)
+    }
+}
+
+/// Returns the first element that is left of an open page, if any.
+pub(crate) fn next_of<'a>(elements: &mut Option<Elements<'a>>) -> Option<Leaf<'a>>
+    ensures given { GivesElement (elements_of elements.old) (elements_of elements.new) (option_map leaf_view result) }
+    ensures bucket { IfSome result (λ leaf. IsTrue leaf.is_bucket → IsBucketValue leaf.value.now) }
+{
+    match elements {
+        Some(elements) => elements.next(),
+        None => None,
     }
 }

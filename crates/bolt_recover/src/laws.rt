@@ -133,7 +133,8 @@ pub fn nothing_lost_finds_nothing()
 /// page with a kept way or with another found page.
 pub fn found_pages_are_intact()
     ensures below { (file : List ℕ) (meta : Meta) (found : List ℕ) (n : ℕ) → AreFound file meta found → Contains found n → n < meta.high_water }
-    ensures leaf { (file : List ℕ) (meta : Meta) (found : List ℕ) (survey : List Visit) (n : ℕ) → AreFound file meta found → IsSurvey file meta survey → Contains found n
+    ensures leaf { (file : List ℕ) (meta : Meta) (found : List ℕ) (survey : List Visit) (n : ℕ)
+        → AreFound file meta found → IsSurvey file meta survey → Contains found n
         → IsLoneLeaf (node_at file meta) (IsKeptPage file meta survey) n }
     ensures unlisted { (file : List ℕ) (meta : Meta) (found : List ℕ) (n : ℕ) → AreFound file meta found → Contains found n → IsListedFree file meta n → ⊥ }
     ensures apart { (file : List ℕ) (meta : Meta) (found : List ℕ) (n m k : ℕ) → AreFound file meta found → Contains found n → Contains found m
@@ -143,7 +144,8 @@ pub fn found_pages_are_intact()
 /// No intact leaf is left behind: if something is lost, each one that isn't listed as free shares a
 /// page with a kept way or with a found page.
 pub fn no_intact_leaf_is_left_behind()
-    ensures { (file : List ℕ) (meta : Meta) (found : List ℕ) (survey : List Visit) (way : List ℕ) (x : Finding) (n : ℕ) → AreFound file meta found → IsSurvey file meta survey → Has survey (lost way x)
+    ensures { (file : List ℕ) (meta : Meta) (found : List ℕ) (survey : List Visit) (way : List ℕ) (x : Finding) (n : ℕ)
+        → AreFound file meta found → IsSurvey file meta survey → Has survey (lost way x)
         → IsLoneLeaf (node_at file meta) (λ k. ⊥) n → (IsListedFree file meta n → ⊥)
         → (k : ℕ) × SpanAt (node_at file meta) (At_page (root_spot n)) k × (IsKeptPage file meta survey k ⊎ IsFoundPage file meta found k) }
 {}
@@ -181,7 +183,8 @@ pub fn joined_listing_rises()
 /// Each member of a joined listing is recovered, or it is the bucket of what is found, or in it: the
 /// bucket of a found page, an element of the page, or one of an inline bucket on the page.
 pub fn joined_members_are_recovered_or_found()
-    ensures { (file : List ℕ) (meta : Meta) (listing recovered : List Member) (found : List ℕ) (m : Member) → IsJoined file meta listing → IsRecovered file meta recovered → AreFound file meta found
+    ensures { (file : List ℕ) (meta : Meta) (listing recovered : List Member) (found : List ℕ) (m : Member)
+        → IsJoined file meta listing → IsRecovered file meta recovered → AreFound file meta found
         → Contains listing m → Contains recovered m ⊎ ((m ≡ (lost_and_found ∷ [], Bucket 0)) ⊎ IsFoundMember file meta found m) }
 {}
 

@@ -2,8 +2,8 @@
 ghost use Rattle.std.specs.Prelude.{◌≡◌};
 ghost use Rattle.bolt_check.specs.ShownSpots.{spot_at};
 ghost use Rattle.bolt_tree.specs.Paths.{path_of};
-ghost use Rattle.bolt_recover.specs.Losses.{loss_on};
-ghost use Rattle.bolt_recover.specs.ShownLosses.{loss_view};
+ghost use Rattle.bolt_recover.specs.Losses.{loss_on, is_nothing};
+ghost use Rattle.bolt_recover.specs.ShownLosses.{loss_view, lost_view};
 
 use bolt_check::{Finding, Spot};
 
@@ -36,6 +36,27 @@ impl<'a> Loss<'a> {
             bucket,
             lower,
             upper,
+        }
+    }
+}
+
+/// What is lost of a damaged file.
+#[derive(Clone, Copy)]
+pub enum Lost<'a> {
+    /// Everything, since the root page is lost, with this finding.
+    Everything(Finding),
+    /// What these losses say.
+    Parts(&'a [Loss<'a>]),
+}
+
+impl Lost<'_> {
+    /// Whether nothing is lost.
+    pub fn is_nothing(self) -> bool
+        ensures { result ≡ is_nothing (lost_view self.entry) }
+    {
+        match self {
+            Lost::Everything(_) => false,
+            Lost::Parts(losses) => losses.is_empty(),
         }
     }
 }

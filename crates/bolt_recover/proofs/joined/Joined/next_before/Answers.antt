@@ -1,6 +1,5 @@
 use Rattle.std.proofs.Common.{◌≡◌, ◌∙◌, ◌⊎◌, inl, inr, true, false, List, is_some, ap, sym, subst₂, ℕ}
-use Rattle.bolt_recover.proofs.Words.{AreJoinable, bucket_members, first_cmp, is_lt, joined_file, joined_left, joined_meta, joined_path, kept_path, merely}
-use Rattle.bolt_recover.proofs.Words.{Meta, Path, props, put_members, ∥∥₁_elim, ∥∥₁_map}
+use Rattle.bolt_recover.proofs.Words.{AreJoinable, bucket_members, first_cmp, is_lt, joined_file, joined_left, joined_meta, joined_path, kept_path, merely, Meta, Path, props, put_members, ∥∥₁_elim, ∥∥₁_map}
 use Rattle.bolt_recover.proofs.JoinSteps.{before_given, bucket_given, gives_prop, held_well, of_joined}
 use Rattle.bolt_recover.proofs.StepLemmas.{when_err}
 use Rattle.bolt_recover.proofs.joined.Joined.next_before.Goals as goal

@@ -1,7 +1,6 @@
 -- What was returned is looked at, and then all is reported.
 use Rattle.std.proofs.Common.{◌≡◌, ◌∙◌, ◌||◌, Bool, List, ap, refl, subst₂, sym, ℕ}
-use Rattle.bolt_recover.proofs.Words.{AreLosses, first_cmp, holds_key, is_eq, is_found_path, IsRecovered, Member, Meta, Path, recovery_left, recovery_meta}
-use Rattle.bolt_recover.proofs.Words.{recovery_path}
+use Rattle.bolt_recover.proofs.Words.{AreLosses, first_cmp, holds_key, is_eq, is_found_path, IsRecovered, Member, Meta, Path, recovery_left, recovery_meta, recovery_path}
 use Rattle.std.proofs.Math.Bool.{or_assoc}
 use Rattle.bolt_recover.proofs.FoundAll.{recovery_under}
 use Rattle.bolt_recover.proofs.JoinSteps.{first_found}

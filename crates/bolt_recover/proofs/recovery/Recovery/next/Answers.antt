@@ -1,6 +1,5 @@
 use Rattle.std.proofs.Common.{arith, ◌≡◌, ◌↔◌, ◌∙◌, ◌∷◌, Bool, true, List, ap, subst, sym, ℕ}
-use Rattle.bolt_recover.proofs.Words.{IsKeptPage, Item, KeepsRoot, leaf_view, left_by, props, recovery_begun, recovery_claimed, recovery_file, recovery_left}
-use Rattle.bolt_recover.proofs.Words.{recovery_losses, recovery_meta, recovery_path, recovery_visited, recovery_work, state_of, visited_fits, ∥∥₁_elim, ∥∥₁_map}
+use Rattle.bolt_recover.proofs.Words.{IsKeptPage, Item, KeepsRoot, leaf_view, left_by, props, recovery_begun, recovery_claimed, recovery_file, recovery_left, recovery_losses, recovery_meta, recovery_path, recovery_visited, recovery_work, state_of, visited_fits, ∥∥₁_elim, ∥∥₁_map}
 use Rattle.bolt_recover.proofs.Recovering.{claimed_all, claimed_at_end, claimed_ended, file_advanced, has_open_prop, left_next, left_none, left_same, on_advanced, reported_ended, visited_ended}
 use Rattle.bolt_recover.proofs.StepLemmas.{when_err}
 use Rattle.bolt_recover.proofs.recovery.Recovery.next.Goals as goal

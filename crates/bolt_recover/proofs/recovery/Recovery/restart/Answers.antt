@@ -1,7 +1,6 @@
 -- The root page was kept before.
 use Rattle.std.proofs.Common.{◌∙◌, List, subst, sym, ℕ}
-use Rattle.bolt_recover.proofs.Words.{claims_file, claims_visited, IsAllLeft, IsOn, KeepsRoot, Meta, recovery_file, recovery_left, recovery_meta, state_of}
-use Rattle.bolt_recover.proofs.Words.{∥∥₁_elim, ∥∥₁_map, ∥∥₁_prop}
+use Rattle.bolt_recover.proofs.Words.{claims_file, claims_visited, IsAllLeft, IsOn, KeepsRoot, Meta, recovery_file, recovery_left, recovery_meta, state_of, ∥∥₁_elim, ∥∥₁_map, ∥∥₁_prop}
 use Rattle.bolt_recover.proofs.Recovering.{begun, left_all}
 use Rattle.bolt_recover.proofs.recovery.Recovery.restart.Goals as goal
 

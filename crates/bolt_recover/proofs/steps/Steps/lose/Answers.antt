@@ -1,6 +1,5 @@
 use Rattle.std.proofs.Common.{arith, ◌≡◌, ◌∙◌, List, [], ◌∷◌, ◌++◌, map, ap, refl, sym, take, Bor, ℕ}
-use Rattle.bolt_recover.proofs.Words.{claims_file, claims_meta, common_steps, loss_of, loss_view, LossView, lost_state, map-append, nil_from_length, Path}
-use Rattle.bolt_recover.proofs.Words.{path_of, spot_place, State, state_of, take-map}
+use Rattle.bolt_recover.proofs.Words.{claims_file, claims_meta, common_steps, loss_of, loss_view, LossView, lost_state, map-append, nil_from_length, Path, path_of, spot_place, State, state_of, take-map}
 use Rattle.bolt_recover.proofs.steps.Steps.lose.Goals as goal
 
 pub returns-clause-reported : goal.returns-clause-reported

@@ -1,6 +1,5 @@
 use Rattle.std.proofs.Common.{arith, ◌∙◌, List, [], ◌∷◌, ◌++◌, None, Some, map, ap, refl, sym}
-use Rattle.bolt_recover.proofs.Words.{claims_file, claims_meta, claims_visited, is_claimed, IsAllLeft, IsRefusedRoot, loss_view, OpenPage, passed_on, path_of}
-use Rattle.bolt_recover.proofs.Words.{Structure}
+use Rattle.bolt_recover.proofs.Words.{claims_file, claims_meta, claims_visited, is_claimed, IsAllLeft, IsRefusedRoot, loss_view, OpenPage, passed_on, path_of, Structure}
 use Rattle.bolt_recover.proofs.StepLemmas.{as_state, begins, of_metas, root_gives}
 use Rattle.bolt_recover.proofs.steps.Steps.new.Goals as goal
 

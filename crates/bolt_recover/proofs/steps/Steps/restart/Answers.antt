@@ -1,7 +1,6 @@
 -- The root page was kept before, so the tests find nothing there again.
 use Rattle.std.proofs.Common.{arith, ◌∙◌, List, [], ◌∷◌, ◌++◌, None, Some, ℕ, map, ap, sym, refl, subst₂}
-use Rattle.bolt_recover.proofs.Words.{At_page, claims_file, claims_meta, claims_visited, is_claimed, IsAllLeft, IsMetaPage, KeepsRoot, loss_view, Meta, node_at}
-use Rattle.bolt_recover.proofs.Words.{OpenPage, passes_silent, path_of, props, root_spot, State, ∥∥₁_elim}
+use Rattle.bolt_recover.proofs.Words.{At_page, claims_file, claims_meta, claims_visited, is_claimed, IsAllLeft, IsMetaPage, KeepsRoot, loss_view, Meta, node_at, OpenPage, passes_silent, path_of, props, root_spot, State, ∥∥₁_elim}
 use Rattle.bolt_recover.proofs.StepLemmas.{as_state, begins, of_metas, root_gives}
 use Rattle.bolt_recover.proofs.steps.Steps.restart.Goals as goal
 
