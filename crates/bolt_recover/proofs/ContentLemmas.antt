@@ -1,16 +1,7 @@
 -- A page has no more leaf elements than elements.
 use Rattle.std.proofs.Common.{◌≡◌, ◌∙◌, ◌≤◌, Bool, true, false, length, refl, ap, arith}
-use Rattle.std.proofs.lemmas.List.{length-map}
-use Rattle.bolt_format.specs.Pages.{shown_leaves}
-use Rattle.bolt_format.specs.Shown.{shown}
-use Rattle.bolt_format.specs.declared.kind.Kind.{Kind}
-use Rattle.bolt_check.specs.Nodes.{leaf_entry}
-use Rattle.bolt_check.specs.ShownNodes.{entries_of, shown_node}
-use Rattle.bolt_check.specs.TreeKinds.{tree_kind}
-use Rattle.bolt_check.specs.declared.tree_page.TreePage.{TreePage}
-use Rattle.bolt_recover.specs.Private.Frames.{content_elements, content_size}
-use Rattle.bolt_recover.specs.declared.content.Content.{Content}
-use Rattle.bolt_recover.specs.declared.content.Content.TheVariants.{Bucket, Page}
+use Rattle.bolt_recover.proofs.Words.{Content, content_elements, content_size, entries_of, Kind, leaf_entry, length-map, Page, shown, shown_leaves, shown_node, tree_kind, TreePage}
+use Rattle.bolt_recover.specs.declared.content.Content.TheVariants.{Bucket}
 
 by_kind : (page : TreePage) (b : Bool) → page.is_leaf ≡ b → length (shown page.page).leaves ≤ length (shown_node page).entries
 unfolding shown shown_node

@@ -1,14 +1,26 @@
--- Each file has a survey, a recovered listing and losses, under each meta.
-use Rattle.std.proofs.Common.{[], ℕ, List, refl}
-use Rattle.bolt_format.specs.declared.meta.Meta.{Meta}
-use Rattle.bolt_tree.specs.Listing.{Member}
-use Rattle.bolt_recover.specs.Losses.{AreLosses, LossView, losses_of}
-use Rattle.bolt_recover.specs.Recovered.{IsRecovered}
-use Rattle.bolt_recover.specs.Surveys.{IsSurvey, Visit}
+-- Each file has a survey, one recovered listing and losses, under each meta: a run from the root page returns that listing.
+use Rattle.std.proofs.Common.{◌≡◌, [], ℕ, List, refl, subst, sym}
+use Rattle.bolt_recover.proofs.Words.{AreLosses, further, IsRecovered, IsRecoveredMember, IsSurvey, losses_of, LossView, Member, member_total, Meta, rises_once, RunsAll, Visit, Visited, Way}
 use Rattle.bolt_recover.proofs.RunExists.{run_exists}
-use Rattle.bolt_recover.proofs.RunOrder.{further, visits_of}
-use Rattle.bolt_recover.proofs.RunRecovers.{recovers}
-use Rattle.bolt_recover.proofs.RunSurveys.{surveyed}
+use Rattle.bolt_recover.proofs.RunOrder.{visits_of}
+use Rattle.bolt_recover.proofs.RunPaths.{members_rise}
+use Rattle.bolt_recover.proofs.RunSurveys.{all_members, surveyed}
+use Rattle.bolt_recover.proofs.SurveyIsOne.{same_survey}
+
+pub recovers : (file : List ℕ) (meta : Meta) (visits : List (Visited Way)) (members : List Member) → RunsAll file meta further [] visits members → IsRecovered file meta members
+recovers file meta visits members run = record {
+  survey = visits_of visits;
+  surveys = surveyed file meta visits members run;
+  rises = members_rise file meta further [] visits members run;
+  exact = all_members file meta visits members run;
+}
+
+pub one_recovered : (file : List ℕ) (meta : Meta) (a b : List Member) → IsRecovered file meta a → IsRecovered file meta b → a ≡ b
+one_recovered file meta a b h k =
+    let same = same_survey file meta h.survey k.survey h.surveys k.surveys in
+    rises_once member_total a b h.rises k.rises
+    (λ m in_a. (k.exact m.0 m.1).1 (subst (λ (s : List Visit). IsRecoveredMember file meta s m.0 m.1) same ((h.exact m.0 m.1).0 in_a)))
+    (λ m in_b. (h.exact m.0 m.1).1 (subst (λ (s : List Visit). IsRecoveredMember file meta s m.0 m.1) (sym same) ((k.exact m.0 m.1).0 in_b)))
 
 pub has_survey : (file : List ℕ) (meta : Meta) → (survey : List Visit) × IsSurvey file meta survey
 has_survey file meta =

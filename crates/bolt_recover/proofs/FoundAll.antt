@@ -1,46 +1,14 @@
 -- The found pages of a whole file.
-use Rattle.std.proofs.Common.{◌≡◌, ◌∙◌, ◌↔◌, ◌⊎◌, ◌≤◌, ◌<◌, ◌+◌, inl, inr, ℕ, zero, suc, Bool, true, arith, List, [], ◌∷◌, length, map, Option, Some, None, Result, Ok, Err, IfOk, refl, sym, ap, subst}
-use Rattle.std.specs.List.{Contains}
-use Rattle.std.proofs.lemmas.Bool.{cases_Bool, cases_lt, false≢true}
-use Rattle.std.proofs.Math.Logic.{∥∥₁_elim}
-use Rattle.std.proofs.Props.{props}
-use Rattle.bolt_format.specs.declared.meta.Meta.{Meta}
-use Rattle.bolt_check.specs.Claims.{claims_meta}
-use Rattle.bolt_check.specs.Findings.{IsMetaPage}
-use Rattle.bolt_check.specs.LoneLeaves.{IsListedFree, IsLoneLeaf}
-use Rattle.bolt_check.specs.Nodes.{node_at}
-use Rattle.bolt_check.specs.Ways.{At_page, SpanAt, Spot, reached, root_spot}
-use Rattle.bolt_check.specs.declared.finding.Finding.{Finding}
-use Rattle.bolt_check.proofs.Judging.{tests_same}
-use Rattle.bolt_check.proofs.MarkLemmas.{node_below}
-use Rattle.bolt_tree.specs.Entries.{Item}
-use Rattle.bolt_tree.specs.Listing.{Member}
-use Rattle.bolt_tree.specs.Paths.{Path}
-use Rattle.bolt_tree.proofs.Lists.{contains_cases, contains_head, contains_none, contains_tail}
-use Rattle.bolt_recover.specs.Found.{AreFound, FoundBelow, IsFoundPage}
-use Rattle.bolt_recover.specs.KeptPages.{AreKeptPages, IsKeptPage}
-use Rattle.bolt_recover.specs.Losses.{AreLosses, LossView, losses_of}
-use Rattle.bolt_recover.specs.Private.Runs.{claims_of}
-use Rattle.bolt_recover.specs.Recovered.{IsRecovered, IsRecoveredMember}
-use Rattle.bolt_recover.specs.Recoveries.{recovery_meta}
-use Rattle.bolt_recover.specs.Refusals.{LosesRoot}
-use Rattle.bolt_recover.specs.Surveys.{Gives, Has, IsClaimedIn, IsOpen, IsSurvey, Visit, kept, lost}
-use Rattle.bolt_recover.specs.declared.recovery.Recovery.{Recovery}
-use Rattle.bolt_recover.proofs.Existing.{has_survey}
+use Rattle.std.proofs.Common.{◌≡◌, ◌∙◌, ◌↔◌, ◌⊎◌, ◌+◌, inl, inr, ℕ, Bool, true, arith, List, [], ◌∷◌, Option, Some, None, Result, Ok, Err, IfOk, refl, sym, ap, subst}
+use Rattle.bolt_recover.proofs.Words.{AreFound, AreKeptPages, AreLosses, At_page, claims_meta, claims_of, Contains, contains_cases, contains_head, contains_none, contains_tail, done, Finding, FoundBelow, further, Has, HasSoundTrees, IsFoundPage, IsKeptPage, IsListedFree, IsLoneLeaf, IsMetaPage, IsRecovered, IsSurvey, kept, LosesNothing, LosesRoot, lost, Member, Meta, meta_pages, nat_tests, node_at, node_below, props, Recovery, recovery_meta, root_place, root_spot, RunsAll, SpanAt, Visit, visit, ∥∥₁_elim}
+use Rattle.bolt_recover.proofs.Existing.{has_survey, one_recovered, recovers}
 use Rattle.bolt_recover.proofs.FoundLemmas.{found_one, found_same, passed}
-use Rattle.bolt_recover.proofs.LostWays.{no_losses, nothing_lost}
-use Rattle.bolt_recover.proofs.OneRecovered.{one_recovered}
-use Rattle.bolt_recover.proofs.Recovering.{all_claimed, claimed_all}
-use Rattle.bolt_recover.proofs.RunSurveys.{claims_in, claims_is}
-use Rattle.bolt_recover.proofs.SurveyIsOne.{one_survey}
-
-pub map_none : {A B : Type 0} (f : A → B) (xs : List A) → length xs ≡ 0 → map f xs ≡ []
-map_none f [] e = refl
-map_none f (x ∷ xs) e = absurd (cc)
-
-pub none_mapped : {A B : Type 0} (f : A → B) (xs : List A) → map f xs ≡ [] → length xs ≡ 0
-none_mapped f [] e = refl
-none_mapped f (x ∷ xs) e = absurd (cc)
+use Rattle.bolt_recover.proofs.Deciding.{Decided, decided_as, decided_by, either_decided, lowest}
+use Rattle.bolt_recover.proofs.LostWays.{nothing_lost}
+use Rattle.bolt_recover.proofs.NothingLost.{sound}
+use Rattle.bolt_recover.proofs.Recovering.{claimed_all, claimed_at_end}
+use Rattle.bolt_recover.proofs.RunSurveys.{claims_in, surveyed}
+use Rattle.bolt_recover.proofs.SurveyIsOne.{gives_same, same_survey}
 
 pub if_ok : {X E : Type 0} {P Q : X → Type 0} (result : Result X E) → ((x : X) → P x → Q x) → IfOk result P → IfOk result Q
 if_ok (Ok x) to h = to x h
@@ -51,68 +19,65 @@ pub recovery_under : (recovery : Recovery) → claims_meta recovery.steps.claims
 unfolding recovery_meta
 recovery_under recovery = ∥∥₁_elim recovery.on (hlevel props) (λ on. on.meta)
 
-module _ (file : List ℕ) (meta : Meta) (reported : List LossView) (all : (losses : List LossView) → AreLosses file meta losses → reported ≡ losses) where
-  -- if there is no loss, nothing is found
-  pub found_none : reported ≡ [] → AreFound file meta []
-  found_none none =
-      let (survey, is) = has_survey file meta in
-      record {
-        survey = survey;
-        surveys = is;
-        none = λ kept. refl;
-        some = λ way x has.
-            let f : Some x ≡ None = nothing_lost file meta survey is (sym (all (losses_of file meta survey) (survey, is, refl)) ∙ none) (lost way x) has in
-            absurd (cc);
-      }
-
-  -- otherwise what is found next to the kept pages is what is found
-  pub found_rest : (claimed taken : ℕ → Bool) (found : List ℕ) → AreKeptPages file meta claimed → ((n : ℕ) → taken n ≡ claimed n) → (reported ≡ [] → ⊥)
-      → FoundBelow file meta (λ n. taken n ≡ true) meta.high_water found → AreFound file meta found
-  found_rest claimed taken found are same some below =
-      let (survey, is) = has_survey file meta in
-      record {
-        survey = survey;
-        surveys = is;
-        none = λ kept. absurd (some (all (losses_of file meta survey) (survey, is, refl) ∙ no_losses file meta survey kept));
-        some = λ way x has.
-            found_same file meta (λ n. taken n ≡ true) (IsKeptPage file meta survey)
-            (λ k was. (are survey is k).0 (sym (same k) ∙ was)) (λ k was. same k ∙ (are survey is k).1 was) meta.high_water found below;
-      }
-
 -- a way of a survey is lost, or none is
-pub lost_or_none : (survey : List Visit) → ((v : Visit) → Has survey v → v.found ≡ None) ⊎ ((way : List ℕ) × (x : Finding) × Has survey (lost way x))
+pub lost_or_none : (survey : List Visit) → LosesNothing survey ⊎ ((way : List ℕ) × (x : Finding) × Has survey (lost way x))
 lost_or_none [] = inl (λ v has. absurd has)
 lost_or_none (v ∷ survey) = first v survey v.found refl (lost_or_none survey)
   where
     first : (v : Visit) (survey : List Visit) (f : Option Finding) → v.found ≡ f
-        → ((u : Visit) → Has survey u → u.found ≡ None) ⊎ ((way : List ℕ) × (x : Finding) × Has survey (lost way x))
-        → ((u : Visit) → Has (v ∷ survey) u → u.found ≡ None) ⊎ ((way : List ℕ) × (x : Finding) × Has (v ∷ survey) (lost way x))
+        → LosesNothing survey ⊎ ((way : List ℕ) × (x : Finding) × Has survey (lost way x))
+        → LosesNothing (v ∷ survey) ⊎ ((way : List ℕ) × (x : Finding) × Has (v ∷ survey) (lost way x))
     first v survey (Some x) e rest = inr (v.way, x, inl (λ i. record { way = v.way; found = sym e i }))
     first v survey None e (inr (way, x, has)) = inr (way, x, inr has)
     first v survey None e (inl none) = inl (λ u has. elim has [ inl same ↦ ap (λ (z : Visit). z.found) same ∙ e | inr later ↦ none u later ])
 
 module _ (file : List ℕ) (meta : Meta) where
-  same_survey : (a b : List Visit) → IsSurvey file meta a → IsSurvey file meta b → a ≡ b
-  same_survey a b = one_survey (node_at file meta) (reached (node_at file meta) meta.root) a b
+  -- if nothing is lost, nothing is found; otherwise what is found next to the kept pages
+  pub are_none : (survey : List Visit) → IsSurvey file meta survey → LosesNothing survey → AreFound file meta []
+  are_none survey is none = record {
+    survey = survey;
+    surveys = is;
+    none = λ same. refl;
+    some = λ way x has. absurd (let f : Some x ≡ None = none (lost way x) has in cc);
+  }
+
+  pub are_some : (found : List ℕ) (survey : List Visit) (way : List ℕ) (x : Finding) → IsSurvey file meta survey → Has survey (lost way x)
+      → FoundBelow file meta (IsKeptPage file meta survey) meta.high_water found → AreFound file meta found
+  are_some found survey way x is has below = record {
+    survey = survey;
+    surveys = is;
+    none = λ none. absurd (let f : Some x ≡ None = none (lost way x) has in cc);
+    some = λ other y gone. below;
+  }
+
+  pub found_damaged : (claimed taken : ℕ → Bool) (found : List ℕ) → AreKeptPages file meta claimed → ((n : ℕ) → taken n ≡ claimed n) → (HasSoundTrees file meta → ⊥)
+      → FoundBelow file meta (λ n. taken n ≡ true) meta.high_water found → AreFound file meta found
+  found_damaged claimed taken found are same damaged below =
+      let (survey, is) = has_survey file meta in
+      elim (lost_or_none survey) [
+        | inl none ↦ absurd (damaged (sound file meta survey is none))
+        | inr (way, x, gone) ↦ are_some found survey way x is gone (found_same file meta (λ n. taken n ≡ true) (IsKeptPage file meta survey)
+            (λ k was. (are survey is k).0 (sym (same k) ∙ was)) (λ k was. same k ∙ (are survey is k).1 was) meta.high_water found below)
+      ]
 
   -- the found pages next to the kept ones of the survey
   pub below_of : (found : List ℕ) (survey : List Visit) (way : List ℕ) (x : Finding) → AreFound file meta found → IsSurvey file meta survey → Has survey (lost way x)
       → FoundBelow file meta (IsKeptPage file meta survey) meta.high_water found
   below_of found survey way x are is has =
-      let same = same_survey are.survey survey are.surveys is in
+      let same = same_survey file meta are.survey survey are.surveys is in
       subst (λ (s : List Visit). FoundBelow file meta (IsKeptPage file meta s) meta.high_water found) same
       (are.some way x (subst (λ (s : List Visit). Has s (lost way x)) (sym same) has))
 
   pub one_found : (a b : List ℕ) → AreFound file meta a → AreFound file meta b → a ≡ b
   one_found a b h k =
       elim (lost_or_none h.survey) [
-        | inl none ↦ h.none none ∙ sym (k.none (subst (λ (s : List Visit). (v : Visit) → Has s v → v.found ≡ None) (same_survey h.survey k.survey h.surveys k.surveys) none))
+        | inl none ↦ h.none none ∙ sym (k.none (subst LosesNothing (same_survey file meta h.survey k.survey h.surveys k.surveys) none))
         | inr (way, x, has) ↦ found_one file meta (IsKeptPage file meta h.survey) meta.high_water a b (h.some way x has) (below_of b h.survey way x k h.surveys has)
       ]
 
   pub nothing_found : (found : List ℕ) → AreLosses file meta [] → AreFound file meta found → found ≡ []
   nothing_found found (survey, is, none) are =
-      are.none (subst (λ (s : List Visit). (v : Visit) → Has s v → v.found ≡ None) (same_survey survey are.survey is are.surveys) (nothing_lost file meta survey is (sym none)))
+      are.none (subst LosesNothing (same_survey file meta survey are.survey is are.surveys) (nothing_lost file meta survey is (sym none)))
 
   -- if a page is found, a way is lost
   pub found_in : (found : List ℕ) (survey : List Visit) (n : ℕ) → AreFound file meta found → IsSurvey file meta survey → Contains found n
@@ -120,67 +85,24 @@ module _ (file : List ℕ) (meta : Meta) where
   found_in found survey n are is has =
       elim (lost_or_none survey) [
         | inl none ↦ absurd (contains_none n (subst (λ (xs : List ℕ). Contains xs n)
-            (are.none (subst (λ (s : List Visit). (v : Visit) → Has s v → v.found ≡ None) (same_survey survey are.survey is are.surveys) none)) has))
+            (are.none (subst LosesNothing (same_survey file meta survey are.survey is are.surveys) none)) has))
         | inr (way, x, gone) ↦ below_of found survey way x are is gone
       ]
 
--- a page with a property among so many, or none
-pub look : (P : ℕ → Type 0) → ((k : ℕ) → P k ⊎ (P k → ⊥)) → (from count : ℕ) → ((k : ℕ) × (from ≤ k) × (k < from + count) × P k) ⊎ ((k : ℕ) → from ≤ k → k < from + count → P k → ⊥)
-look P decide from zero = inr (λ k low high. absurd (omega arith))
-look P decide from (suc count) =
-    elim (look P decide from count) [
-      | inl (k, low, high, is) ↦ inl (k, low, omega (arith, high), is)
-      | inr none ↦ elim (decide (from + count)) [
-        | inl is ↦ inl (from + count, omega arith, omega arith, is)
-        | inr never ↦ inr (λ k low high is. elim (cases_lt k (from + count)) [
-          | inl lower ↦ none k low lower is
-          | inr upper ↦ (let same : k ≡ from + count = omega arith in never (subst P same is))
-        ])
-      ]
-    ]
-
 module _ (file : List ℕ) (meta : Meta) where
-  -- whether a page is kept or found can be told
-  kept_or_not : (survey : List Visit) → IsSurvey file meta survey → (k : ℕ) → IsKeptPage file meta survey k ⊎ (IsKeptPage file meta survey k → ⊥)
-  kept_or_not survey is k =
-      let which = claimed_all file meta 0 survey is k in
-      elim (cases_Bool (all_claimed file meta 0 k)) [
-        | inl yes_ ↦ inl (which.0 yes_)
-        | inr none ↦ inr (λ kept. false≢true (sym none ∙ which.1 kept))
-      ]
-
-  span_or_not : (m k : ℕ) → SpanAt (node_at file meta) (At_page (root_spot m)) k ⊎ (SpanAt (node_at file meta) (At_page (root_spot m)) k → ⊥)
-  span_or_not m k =
-      let nodes = node_at file meta in
-      elim (cases_Bool (claims_of nodes (At_page (root_spot m)) k)) [
-        | inl is ↦ inl (claims_in nodes (At_page (root_spot m)) k is)
-        | inr none ↦ inr (λ span. false≢true (sym none ∙ claims_is nodes (At_page (root_spot m)) k span))
-      ]
-
-  found_or_not : (found : List ℕ) (k : ℕ) → IsFoundPage file meta found k ⊎ (IsFoundPage file meta found k → ⊥)
+  found_or_not : (found : List ℕ) (k : ℕ) → Decided (IsFoundPage file meta found k)
   found_or_not [] k = inr (λ (m, (has, span)). contains_none m has)
-  found_or_not (m ∷ found) k =
-      elim (span_or_not m k) [
-        | inl span ↦ inl (m, (contains_head m found, span))
-        | inr apart ↦ elim (found_or_not found k) [
-          | inl (o, (has, span)) ↦ inl (o, (contains_tail m o found has, span))
-          | inr none ↦ inr (λ (o, (has, span)). elim (contains_cases m o found has) [
-            | inl same ↦ apart (subst (λ (y : ℕ). SpanAt (node_at file meta) (At_page (root_spot y)) k) (sym same) span)
-            | inr later ↦ none (o, (later, span))
-          ])
-        ]
-      ]
+  found_or_not (m ∷ found) k = decided_as
+      (λ either. elim either [ inl span ↦ (m, (contains_head m found, span)) | inr (o, (has, span)) ↦ (o, (contains_tail m o found has, span)) ])
+      (λ (o, (has, span)). elim (contains_cases m o found has) [
+        | inl same ↦ inl (subst (λ (y : ℕ). SpanAt (node_at file meta) (At_page (root_spot y)) k) (sym same) span)
+        | inr later ↦ inr (o, (later, span))
+      ])
+      (either_decided (decided_by (claims_of (node_at file meta) (At_page (root_spot m)) k) (claims_in (node_at file meta) (At_page (root_spot m)) k)) (found_or_not found k))
 
-  pub either_or_not : (found : List ℕ) (survey : List Visit) → IsSurvey file meta survey → (k : ℕ)
-      → (IsKeptPage file meta survey k ⊎ IsFoundPage file meta found k) ⊎ (IsKeptPage file meta survey k ⊎ IsFoundPage file meta found k → ⊥)
-  either_or_not found survey is k =
-      elim (kept_or_not survey is k) [
-        | inl kept_ ↦ inl (inl kept_)
-        | inr not_kept ↦ elim (found_or_not found k) [
-          | inl found_ ↦ inl (inr found_)
-          | inr not_found ↦ inr (λ either. elim either [ inl kept_ ↦ not_kept kept_ | inr found_ ↦ not_found found_ ])
-        ]
-      ]
+  -- whether a page is kept or found can be told
+  pub either_or_not : (found : List ℕ) (survey : List Visit) → IsSurvey file meta survey → (k : ℕ) → Decided (IsKeptPage file meta survey k ⊎ IsFoundPage file meta found k)
+  either_or_not found survey is k = either_decided (decided_by (claimed_at_end file meta 0 k) (claimed_all file meta 0 survey is k)) (found_or_not found k)
 
   -- an intact leaf that isn't listed as free shares a page
   pub shares : (found : List ℕ) (survey : List Visit) (way : List ℕ) (x : Finding) (n : ℕ) → AreFound file meta found → IsSurvey file meta survey → Has survey (lost way x)
@@ -188,8 +110,8 @@ module _ (file : List ℕ) (meta : Meta) where
       → (k : ℕ) × SpanAt (node_at file meta) (At_page (root_spot n)) k × (IsKeptPage file meta survey k ⊎ IsFoundPage file meta found k)
   shares found survey way x n are is has lone unlisted =
       let overflow = lone.passes.node.overflow in
-      elim (look (λ k. IsKeptPage file meta survey k ⊎ IsFoundPage file meta found k) (either_or_not found survey is) n (overflow + 1)) [
-        | inl (k, low, high, either) ↦ (k, rw lone.passes.page (low, omega (arith, high)), either)
+      elim (lowest (λ k. IsKeptPage file meta survey k ⊎ IsFoundPage file meta found k) (either_or_not found survey is) n (overflow + 1)) [
+        | inl (k, low, high, either, first) ↦ (k, rw lone.passes.page (low, omega (arith, high)), either)
         | inr none ↦
             let apart : (k : ℕ) → SpanAt (node_at file meta) (At_page (root_spot n)) k → IsKeptPage file meta survey k ⊎ IsFoundPage file meta found k → ⊥ = λ k span.
             let inside = rw lone.passes.page at span in none k inside.0 (let to = inside.1 in omega (arith, to)) in
@@ -197,62 +119,24 @@ module _ (file : List ℕ) (meta : Meta) where
             (node_below file meta n lone.passes.node lone.passes.page) lone unlisted (λ k span one. apart k span (inl one)) (λ k span one. apart k span (inr one)))
       ]
 
--- a file whose root page is lost
+-- a file whose root page is lost: that page alone is visited
 module _ (file : List ℕ) (meta : Meta) (x : Finding) (loses : LosesRoot file meta x) where
   abbrev alone : List Visit
   alone = lost [] x ∷ []
+
+  root_run : RunsAll file meta further [] (record { way = []; place = root_place file meta; found = Some x } ∷ []) []
+  root_run =
+      visit (gives_same (node_at file meta) IsMetaPage (λ n. meta_pages n ≡ true) (At_page (root_spot meta.root)) (Some x) (λ n low. grind (arith, nat_tests)) (λ n is. grind (arith, nat_tests)) loses) done
 
   not_kept : (way : List ℕ) → Has alone (kept way) → ⊥
   not_kept way (inl same) = let f : None ≡ Some x = ap (λ (v : Visit). v.found) same in cc
   not_kept way (inr has) = has
 
-  only_metas : (way : List ℕ) (n : ℕ) → IsClaimedIn (node_at file meta) (reached (node_at file meta) meta.root) alone way n → IsMetaPage n
-  only_metas way n (inl low) = low
-  only_metas way n (inr (v, (has, before, span))) = absurd (not_kept v has)
-
-  only_root : (v : Visit) → v ≡ lost [] x → IsOpen alone v.way
-      × ((spot : Spot) × (reached (node_at file meta) meta.root v.way ≡ Some spot) × Gives (node_at file meta) (IsClaimedIn (node_at file meta) (reached (node_at file meta) meta.root) alone v.way) spot v.found)
-  only_root v same =
-      subst (λ (u : Visit). IsOpen alone u.way
-      × ((spot : Spot) × (reached (node_at file meta) meta.root u.way ≡ Some spot) × Gives (node_at file meta) (IsClaimedIn (node_at file meta) (reached (node_at file meta) meta.root) alone u.way) spot u.found))
-      (sym same) (
-        inl refl,
-        (
-          At_page (root_spot meta.root),
-          refl,
-          tests_same (node_at file meta) IsMetaPage (IsClaimedIn (node_at file meta) (reached (node_at file meta) meta.root) alone []) (At_page (root_spot meta.root)) x (λ n low. inl low) (only_metas []) loses,
-        ),
-      )
-
-  root_survey : IsSurvey file meta alone
-  root_survey = record {
-    rises = (tt, tt);
-    only = λ v has. elim has [ inl same ↦ only_root v same | inr later ↦ absurd later ];
-    all = λ way spot opened leads. elim opened [
-      | inl none ↦ (Some x, inl (λ i. record { way = none i; found = Some x }))
-      | inr (parent, i, is, has) ↦ absurd (not_kept parent has)
-    ];
-  }
-
   pub found_rootless : (taken : ℕ → Bool) (found : List ℕ) → ((n : ℕ) → (taken n ≡ true) ↔ IsMetaPage n)
       → FoundBelow file meta (λ n. taken n ≡ true) meta.high_water found → AreFound file meta found
-  found_rootless taken found metas below = record {
-    survey = alone;
-    surveys = root_survey;
-    none = λ all. let f : Some x ≡ None = all (lost [] x) (inl refl) in absurd (cc);
-    some = λ way y has.
-        found_same file meta (λ n. taken n ≡ true) (IsKeptPage file meta alone) (λ k was. inl ((metas k).0 was))
-        (λ k is. elim is [ inl low ↦ (metas k).1 low | inr (v, (there, span)) ↦ absurd (not_kept v there) ]) meta.high_water found below;
-  }
-
-  none_recovered : (path : Path) (item : Item) → IsRecoveredMember file meta alone path item → ⊥
-  none_recovered path item is = not_kept is.way is.keeps
+  found_rootless taken found metas below = are_some file meta found alone [] x (surveyed file meta _ [] root_run) (inl refl)
+      (found_same file meta (λ n. taken n ≡ true) (IsKeptPage file meta alone) (λ k was. inl ((metas k).0 was))
+      (λ k is. elim is [ inl low ↦ (metas k).1 low | inr (v, (there, span)) ↦ absurd (not_kept v there) ]) meta.high_water found below)
 
   pub nothing_recovered : (listing : List Member) → IsRecovered file meta listing → listing ≡ []
-  nothing_recovered listing is =
-      one_recovered file meta listing [] is (record {
-        survey = alone;
-        surveys = root_survey;
-        rises = tt;
-        exact = λ path item. (λ has. absurd (contains_none (path, item) has), λ member. absurd (none_recovered path item member));
-      })
+  nothing_recovered listing is = one_recovered file meta listing [] is (recovers file meta _ [] root_run)

@@ -1,22 +1,11 @@
 -- Each file has found pages: whether a page is found can be told.
-use Rattle.std.proofs.Common.{◌≡◌, ◌∙◌, ◌≢◌, ◌⊎◌, ◌+◌, inl, inr, ℕ, zero, suc, List, [], ◌∷◌, ◌++◌, Option, Some, None, Result, Ok, Err, refl, sym, ap, subst, arith}
-use Rattle.std.proofs.lemmas.Bool.{cases_Bool, cases_lt, false≢true}
+use Rattle.std.proofs.Common.{◌≡◌, ◌∙◌, ◌≢◌, ◌⊎◌, ◌+◌, ◌≤◌, true, inl, inr, ℕ, zero, suc, List, [], ◌∷◌, ◌++◌, Option, Some, None, Result, Ok, Err, refl, sym, ap, subst, arith}
+use Rattle.bolt_recover.proofs.Words.{AreFound, cases_lt, early_finding, Entry, Finding, FoundBelow, IsFoundNext, IsFoundPage, IsKeptPage, IsListedFree, IsLoneLeaf, IsSurvey, Meta, Node, node_at, node_finding, Nodes, root_spot, Visit}
 use Rattle.bolt_format.specs.Freelists.{free_ids_of, freelist_fault_of}
-use Rattle.bolt_format.specs.declared.meta.Meta.{Meta}
 use Rattle.bolt_check.specs.Accounts.{times_in}
-use Rattle.bolt_check.specs.Findings.{early_finding, node_finding}
-use Rattle.bolt_check.specs.LoneLeaves.{IsListedFree, IsLoneLeaf}
-use Rattle.bolt_check.specs.Nodes.{Entry, Node, Nodes, node_at}
-use Rattle.bolt_check.specs.Ways.{root_spot}
-use Rattle.bolt_check.specs.declared.finding.Finding.{Finding}
-use Rattle.bolt_recover.specs.Found.{AreFound, FoundBelow, IsFoundNext, IsFoundPage}
-use Rattle.bolt_recover.specs.KeptPages.{IsKeptPage}
-use Rattle.bolt_recover.specs.Surveys.{IsSurvey, Visit, lost}
 use Rattle.bolt_recover.proofs.Existing.{has_survey}
-use Rattle.bolt_recover.proofs.FoundAll.{either_or_not, look, lost_or_none}
-
-abbrev Decided : Type 0 → Type 0
-Decided P = P ⊎ (P → ⊥)
+use Rattle.bolt_recover.proofs.FoundAll.{are_none, are_some, either_or_not, lost_or_none}
+use Rattle.bolt_recover.proofs.Deciding.{Decided, both_decided, decided_as, decided_by, lowest, not_decided}
 
 nothing_or_not : (o : Option Finding) → Decided (o ≡ None)
 nothing_or_not None = inl refl
@@ -33,33 +22,24 @@ module _ (nodes : Nodes) (before : ℕ → Type 0) (which : (k : ℕ) → Decide
   early_none : (node : Node) → nodes n ≡ Ok node → early_finding nodes (root_spot n) ≡ None
   early_none node is = rw is refl
 
+  free_or_not : (overflow : ℕ) → Decided ((k : ℕ) → n ≤ k → k ≤ n + overflow → before k → ⊥)
+  free_or_not overflow = elim (lowest before which n (overflow + 1)) [
+    | inl (k, low, high, was, first) ↦ inr (λ free. free k low (omega (arith, high)) was)
+    | inr none ↦ inl (λ k low high was. none k low (omega (arith, high)) was)
+  ]
+
   leaf_decided : (node : Node) → nodes n ≡ Ok node → Decided (IsLoneLeaf nodes before n)
-  leaf_decided node is =
-      elim (cases_Bool node.is_leaf) [
-        | inr branch ↦ inr (λ lone. false≢true (sym branch ∙ ap (λ (x : Node). x.is_leaf) (node_is node is lone) ∙ lone.leaf))
-        | inl leaf ↦ elim (empty_or_not node.entries) [
-          | inr empty ↦ inr (λ lone. empty (subst (λ (x : Node). x.entries ≢ []) (sym (node_is node is lone)) lone.some))
-          | inl some ↦ elim (nothing_or_not (node_finding node (root_spot n))) [
-            | inr finding ↦ inr (λ lone. finding (ap (λ (x : Node). node_finding x (root_spot n)) (node_is node is lone) ∙ lone.passes.content))
-            | inl content ↦ elim (look before which n (node.overflow + 1)) [
-              | inl (k, low, high, was) ↦ inr (λ lone.
-                  let same = ap (λ (x : Node). x.overflow) (node_is node is lone) in
-                  lone.passes.free k (low, omega (arith, high, same)) was)
-              | inr free ↦ inl (record {
-                passes = record {
-                  node = node;
-                  early = early_none node is;
-                  page = is;
-                  free = λ k inside was. free k inside.0 (let to = inside.1 in omega (arith, to)) was;
-                  content = content;
-                };
-                leaf = leaf;
-                some = some;
-              })
-            ]
-          ]
-        ]
-      ]
+  leaf_decided node is = decided_as
+      (λ (leaf, (some, (content, free))). record {
+        passes = record { node = node; early = early_none node is; page = is; free = λ k inside was. free k inside.0 inside.1 was; content = content };
+        leaf = leaf;
+        some = some;
+      })
+      (λ lone. let same = sym (node_is node is lone) in subst
+      (λ (x : Node). (x.is_leaf ≡ true) × ((x.entries ≢ []) × ((node_finding x (root_spot n) ≡ None) × ((k : ℕ) → n ≤ k → k ≤ n + x.overflow → before k → ⊥)))) same
+      (lone.leaf, (lone.some, (lone.passes.content, λ k low high was. lone.passes.free k (low, high) was))))
+      (both_decided (decided_by node.is_leaf (λ h. h, λ h. h)) (λ leaf. both_decided (empty_or_not node.entries) (λ some.
+      both_decided (nothing_or_not (node_finding node (root_spot n))) (λ content. free_or_not node.overflow))))
 
   seen_decided : (seen : Result Node ℕ) → nodes n ≡ seen → Decided (IsLoneLeaf nodes before n)
   seen_decided (Ok node) is = leaf_decided node is
@@ -81,14 +61,9 @@ module _ (file : List ℕ) (meta : Meta) where
       ]
 
   next_decided : (survey : List Visit) → IsSurvey file meta survey → (found : List ℕ) (n : ℕ) → Decided (IsFoundNext file meta (IsKeptPage file meta survey) found n)
-  next_decided survey is found n =
-      elim (seen_decided (node_at file meta) (λ k. IsKeptPage file meta survey k ⊎ IsFoundPage file meta found k) (either_or_not file meta found survey is) n (node_at file meta n) refl) [
-        | inr none ↦ inr (λ next. none next.leaf)
-        | inl leaf ↦ elim (ids_decided n (freelist_fault_of file meta) (free_ids_of file meta) refl refl) [
-          | inl listed ↦ inr (λ next. next.unlisted listed)
-          | inr unlisted ↦ inl (record { leaf = leaf; unlisted = unlisted })
-        ]
-      ]
+  next_decided survey is found n = decided_as (λ (leaf, unlisted). record { leaf = leaf; unlisted = unlisted }) (λ next. (next.leaf, next.unlisted))
+      (both_decided (seen_decided (node_at file meta) (λ k. IsKeptPage file meta survey k ⊎ IsFoundPage file meta found k) (either_or_not file meta found survey is) n (node_at file meta n) refl)
+      (λ leaf. not_decided (ids_decided n (freelist_fault_of file meta) (free_ids_of file meta) refl refl)))
 
   below_exists : (survey : List Visit) → IsSurvey file meta survey → (mark : ℕ) → (found : List ℕ) × FoundBelow file meta (IsKeptPage file meta survey) mark found
   below_exists survey is zero = ([], refl)
@@ -103,23 +78,6 @@ module _ (file : List ℕ) (meta : Meta) where
   has_found =
       let (survey, is) = has_survey file meta in
       elim (lost_or_none survey) [
-        | inl none ↦ (
-          [],
-          record {
-            survey = survey;
-            surveys = is;
-            none = λ kept. refl;
-            some = λ way x has. (let f : Some x ≡ None = none (lost way x) has in absurd (cc));
-          },
-        )
-        | inr (way, x, gone) ↦
-            let (found, below) = below_exists survey is meta.high_water in (
-              found,
-              record {
-                survey = survey;
-                surveys = is;
-                none = λ kept. (let f : Some x ≡ None = kept (lost way x) gone in absurd (cc));
-                some = λ other y has. below;
-              },
-            )
+        | inl none ↦ ([], are_none file meta survey is none)
+        | inr (way, x, gone) ↦ let (found, below) = below_exists survey is meta.high_water in (found, are_some file meta found survey way x is gone below)
       ]

@@ -1,21 +1,7 @@
 -- Found pages, one number after another.
 use Rattle.std.proofs.Common.{◌≡◌, ◌∙◌, ◌≤◌, ◌<◌, ◌⊎◌, ◌↔◌, inl, inr, ℕ, zero, suc, ◌+◌, Bool, true, false, List, [], ◌∷◌, ◌++◌, Some, Ok, ◌≢◌, refl, sym, ap, subst, arith}
-use Rattle.std.specs.List.{Contains}
-use Rattle.std.specs.Prelude.{IsTrue}
-use Rattle.std.proofs.lemmas.Bool.{cases_lt, false≢true}
-use Rattle.std.proofs.lemmas.List.Elements.{Contains-append_left, Contains-append_right, Contains-push_cases}
-use Rattle.bolt_format.specs.Pages.{page_at}
-use Rattle.bolt_format.specs.Shown.{shown}
-use Rattle.bolt_format.specs.declared.meta.Meta.{Meta}
-use Rattle.bolt_check.specs.LoneLeaves.{IsListedFree, IsLoneLeaf}
-use Rattle.bolt_check.specs.Nodes.{Node, Nodes, node_at}
-use Rattle.bolt_check.specs.ShownNodes.{shown_node}
-use Rattle.bolt_check.specs.Ways.{At_page, SpanAt, root_spot}
+use Rattle.bolt_recover.proofs.Words.{At_page, cases_lt, Contains, Contains-append_left, Contains-append_right, Contains-push_cases, contains_head, contains_none, false≢true, Found, FoundBelow, IsFoundNext, IsFoundPage, IsFoundView, IsListedFree, IsLoneLeaf, IsTrue, Meta, Node, node_at, Nodes, page_at, root_spot, shown, shown_node, SpanAt}
 use Rattle.bolt_check.proofs.LeafLemmas.{lone_free, lone_same, lone_span}
-use Rattle.bolt_tree.proofs.Lists.{contains_head, contains_none}
-use Rattle.bolt_recover.specs.Found.{FoundBelow, IsFoundNext, IsFoundPage}
-use Rattle.bolt_recover.specs.ShownFound.{IsFoundView}
-use Rattle.bolt_recover.specs.declared.found.Found.{Found}
 
 pub not_true : (b : Bool) → (b ≡ true → ⊥) → b ≡ false
 not_true true never = absurd (never refl)

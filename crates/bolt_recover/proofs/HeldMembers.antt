@@ -1,27 +1,9 @@
 -- What a path holds, and what is at ways: each element at a way is held under its path and, if all ways are kept, nothing else is held.
-use Rattle.std.proofs.Common.{◌≡◌, ◌∙◌, inl, inr, ℕ, suc, Bool, true, false, eqb, List, [], ◌∷◌, ◌++◌, Option, Some, None, Result, Ok, Err, slice_get, refl, sym, ap, subst}
-use Rattle.std.specs.List.{Contains}
-use Rattle.std.specs.Option.{option_map}
-use Rattle.std.proofs.lemmas.Bool.{cases_Bool}
-use Rattle.std.proofs.lemmas.Option.{slice_get-map, same_Some}
-use Rattle.bolt_format.specs.Elements.{LeafElement, head_root, inline_elements}
-use Rattle.bolt_format.specs.Headers.{count_field, flags_field, kind_of}
-use Rattle.bolt_format.specs.Pages.{PageView, from_page, page_at, page_fault, page_overflow, shown_as, span_bytes}
-use Rattle.bolt_format.specs.declared.kind.Kind.{Kind}
-use Rattle.bolt_format.specs.declared.kind.Kind.TheVariants as kind
-use Rattle.bolt_format.specs.declared.meta.Meta.{Meta}
-use Rattle.bolt_check.specs.Nodes.{Entry, Node, Nodes, leaf_entry, node_at}
-use Rattle.bolt_check.specs.Shape.{child_at, child_in, child_of, leads}
-use Rattle.bolt_check.specs.Ways.{At_inline, At_page, PageSpot, Spot, bucket_spots, root_spot, step_at, step_entry, step_from}
-use Rattle.bolt_tree.specs.Entries.{Inline_page, IsEntry, Item, Root_page, ShowsEntry, Start, start_of}
-use Rattle.bolt_tree.specs.Paths.{Holds, Names, Path}
-use Rattle.bolt_tree.proofs.Lists.{contains_none}
+use Rattle.std.proofs.Common.{◌≡◌, ◌∙◌, inl, inr, ℕ, suc, Bool, false, eqb, List, [], ◌∷◌, ◌++◌, Option, Some, None, Result, slice_get, refl, sym, ap, subst}
+use Rattle.bolt_recover.proofs.Words.{At_inline, At_page, cases_Bool, child_at, child_in, child_of, Contains, contains_at, contains_none, count_field, Entry, flags_field, follow_places, from_page, head_root, Holds, Inline_page, IsEntry, IsRecoveredMember, Item, Kind, kind_of, leads, LeafElement, leaves_of, Meta, Names, next_place, Node, node_at, Nodes, page_at, page_fault, page_overflow, PageSpot, PageView, Path, Place, place_at, Root_page, root_place, same_Some, shown_as, ShowsEntry, span_bytes, Spot, Start, start_of, step_place, Visit}
 use Rattle.bolt_tree.proofs.Named.{held_here, names_push}
-use Rattle.bolt_recover.specs.Places.{Place, follow_places, leaves_of, next_place, place_at, place_on, root_place}
-use Rattle.bolt_recover.specs.Recovered.{IsRecoveredMember}
-use Rattle.bolt_recover.specs.Surveys.{Visit}
-use Rattle.bolt_recover.proofs.PlaceKeys.{HasForm, IsTidy, IsTidyAt, page_form, tidy_root, tidy_step}
-use Rattle.bolt_tree.proofs.EntryOrder.{contains_at}
+use Rattle.bolt_format.specs.declared.kind.Kind.TheVariants as kind
+use Rattle.bolt_recover.proofs.PlaceSteps.{IsTidy, IsTidyAt, bucket_place, child_place, leads_from, tidy_root, tidy_step}
 
 -- a page with leaf elements is a leaf that shows them
 by_kind : (fault : Option ℕ) (k : Option Kind) (count overflow : ℕ) (bytes : List ℕ) (e : LeafElement) → Contains (leaves_of (shown_as fault k count overflow bytes)) e
@@ -63,72 +45,30 @@ module _ (file : List ℕ) (meta : Meta) where
   abbrev IsNamed : Place → Type 0
   IsNamed p = (from : Start) × Names (IsEntry file meta) (Root_page meta.root) p.path from × OfStart from p.spot p.elements
 
-  inside_at : (path : Path) (e : LeafElement) (host : ℕ) (zero : Bool) (r : Option Spot) → eqb (head_root e.value) 0 ≡ zero → e.is_bucket ≡ true → r ≡ bucket_spots host (leaf_entry e)
-      → Names (IsEntry file meta) (Root_page meta.root) (path ++ e.key ∷ []) (start_of e.value) → (t : Place) → place_on file meta path (Some e) r ≡ Some t → IsNamed t
-  inside_at path e host true r at bucket is names t there =
-      let spot : r ≡ Some (At_inline host (leaf_entry e).inner) = is ∙ (rw (bucket, at) refl) in
-      let start : start_of e.value ≡ Inline_page (inline_elements e.value) = rw at refl in
-      subst IsNamed (same_Some _ t (sym (ap (place_on file meta path (Some e)) spot) ∙ there)) (Inline_page (inline_elements e.value), subst (λ (s : Start). Names (IsEntry file meta) (Root_page meta.root) (path ++ e.key ∷ []) s) start names, refl)
-  inside_at path e host false r at bucket is names t there =
-      let spot : r ≡ Some (At_page (root_spot (head_root e.value))) = is ∙ (rw (bucket, at) refl) in
-      let start : start_of e.value ≡ Root_page (head_root e.value) = rw at refl in
-      subst IsNamed (same_Some _ t (sym (ap (place_on file meta path (Some e)) spot) ∙ there)) (Root_page (head_root e.value), subst (λ (s : Start). Names (IsEntry file meta) (Root_page meta.root) (path ++ e.key ∷ []) s) start names, ([], refl))
+  -- a bucket on a leaf
+  bucket_named : (path : Path) (s : PageSpot) (e : LeafElement) → Names (IsEntry file meta) (Root_page meta.root) (path ++ e.key ∷ []) (start_of e.value) → IsNamed (bucket_place file meta path s e)
+  bucket_named path s e names = (start_of e.value, names, elim (cases_Bool (eqb (head_root e.value) 0)) [ inl zero ↦ rw zero refl | inr more ↦ rw more ([], refl) ])
 
-  -- from a leaf
-  leaf_step : (path : Path) (s : PageSpot) (o : Option LeafElement) (next : Option Entry) (t : Place) → ((e : LeafElement) → o ≡ Some e → e.is_bucket ≡ true → Names (IsEntry file meta) (Root_page meta.root) (path ++ e.key ∷ []) (start_of e.value))
-      → place_on file meta path o (step_entry true s (option_map leaf_entry o) next) ≡ Some t → IsNamed t
-  leaf_step path s None next t names is = absurd (cc)
-  leaf_step path s (Some e) next t names is =
-      elim (cases_Bool e.is_bucket) [
-        | inl bucket ↦ inside_at path e s.number (eqb (head_root e.value) 0) (bucket_spots s.number (leaf_entry e)) refl bucket refl (names e refl bucket) t is
-        | inr value ↦ absurd (no_place t (sym (ap (place_on file meta path (Some e)) (nowhere value)) ∙ is))
+  -- a child of a branch
+  child_named : (from : Start) (path : Path) (s : PageSpot) (elements : List LeafElement) (x : Entry) (next : Option Entry) (i : ℕ) → Names (IsEntry file meta) (Root_page meta.root) path from
+      → OfStart from (At_page s) elements → child_in (nodes s.number) i ≡ Some x.child → IsNamed (child_place file meta path s x next)
+  child_named (Inline_page own) path s elements x next i names of child = absurd of
+  child_named (Root_page r) path s elements x next i names (address, lead) child =
+      (Root_page r, names, (address ++ i ∷ [], leads_further nodes (Some r) address i ∙ ap (λ (o : Option ℕ). child_at nodes o i) lead ∙ child))
+
+  named_step : (from : Start) (p t : Place) (i : ℕ) → Names (IsEntry file meta) (Root_page meta.root) p.path from → OfStart from p.spot p.elements → IsTidy file meta p → step_place file meta p i ≡ Some t → IsNamed t
+  named_step from p t i names of tidy is =
+      let on = leads_from file meta p t i tidy is in
+      elim on.form [
+        | inl leaf ↦
+            let (e, get, bucket, same) = leaf.from i t is in
+            subst IsNamed (sym same) (bucket_named p.path on.s e
+            (names_push (IsEntry file meta) (Root_page meta.root) p.path from e names (entry_at from p.spot p.elements e of tidy (contains_at p.elements i e get)) bucket))
+        | inr branch ↦
+            let (x, get, same) = branch.from i t is in
+            subst IsNamed (sym same) (child_named from p.path on.s p.elements x (slice_get on.node.entries (suc i)) i names (subst (λ (z : Spot). OfStart from z p.elements) on.at of)
+            (ap (λ (r : Result Node ℕ). child_in r i) on.page ∙ ap (λ (b : Bool). child_of b (slice_get on.node.entries i)) branch.branch ∙ ap (child_of false) get))
       ]
-    where
-      nowhere : e.is_bucket ≡ false → bucket_spots s.number (leaf_entry e) ≡ None
-      nowhere value = rw value refl
-
-      no_place : (t : Place) → None ≡ Some t → ⊥
-      no_place t e2 = cc
-
-  -- from a branch
-  branch_step : (path : Path) (s : PageSpot) (o next : Option Entry) (t : Place) (r : ℕ) (address : List ℕ) (i : ℕ) → leads nodes (Some r) address ≡ Some s.number → child_in (nodes s.number) i ≡ child_of false o
-      → Names (IsEntry file meta) (Root_page meta.root) path (Root_page r) → place_on file meta path None (step_entry false s o next) ≡ Some t → IsNamed t
-  branch_step path s None next t r address i lead child names is = absurd (cc)
-  branch_step path s (Some x) next t r address i lead child names is =
-      let further : leads nodes (Some r) (address ++ i ∷ []) ≡ Some x.child = leads_further nodes (Some r) address i ∙ ap (λ (o : Option ℕ). child_at nodes o i) lead ∙ child in
-      subst IsNamed (same_Some _ t is) (Root_page r, names, (address ++ i ∷ [], further))
-
-  page_step : (path : Path) (elements : List LeafElement) (s : PageSpot) (r : ℕ) (address : List ℕ) (i : ℕ) (t : Place) (node : Node) → HasForm node elements → nodes s.number ≡ Ok node
-      → leads nodes (Some r) address ≡ Some s.number → elements ≡ leaves_of (page_at file meta s.number) → Names (IsEntry file meta) (Root_page meta.root) path (Root_page r)
-      → place_on file meta path (slice_get elements i) (step_from nodes (At_page s) i) ≡ Some t → IsNamed t
-  page_step path elements s r address i t node (inl (leaf, entries)) page lead tidy names is =
-      let step : step_from nodes (At_page s) i ≡ step_entry true s (option_map leaf_entry (slice_get elements i)) (slice_get node.entries (suc i)) =
-      ap (λ (x : Result Node ℕ). step_at x s i) page ∙ ap (λ (b : Bool). step_entry b s (slice_get node.entries i) (slice_get node.entries (suc i))) leaf
-      ∙ ap (λ (o : Option Entry). step_entry true s o (slice_get node.entries (suc i))) (ap (λ (es : List Entry). slice_get es i) entries ∙ slice_get-map leaf_entry elements i) in
-      leaf_step path s (slice_get elements i) (slice_get node.entries (suc i)) t
-      (λ e at bucket. names_push (IsEntry file meta) (Root_page meta.root) path (Root_page r) e names (entry_at (Root_page r) (At_page s) elements e (address, lead) tidy (contains_at elements i e at)) bucket)
-      (sym (ap (place_on file meta path (slice_get elements i)) step) ∙ is)
-  page_step path elements s r address i t node (inr (branch, none)) page lead tidy names is =
-      let step : step_from nodes (At_page s) i ≡ step_entry false s (slice_get node.entries i) (slice_get node.entries (suc i)) =
-      ap (λ (x : Result Node ℕ). step_at x s i) page ∙ ap (λ (b : Bool). step_entry b s (slice_get node.entries i) (slice_get node.entries (suc i))) branch in
-      let gone : slice_get elements i ≡ None = ap (λ (xs : List LeafElement). slice_get xs i) none in
-      branch_step path s (slice_get node.entries i) (slice_get node.entries (suc i)) t r address i lead
-      (ap (λ (x : Result Node ℕ). child_in x i) page ∙ ap (λ (b : Bool). child_of b (slice_get node.entries i)) branch) names
-      (sym (ap (place_on file meta path None) step) ∙ ap (λ (o : Option LeafElement). place_on file meta path o (step_from nodes (At_page s) i)) (sym gone) ∙ is)
-
-  no_spot : (path : Path) (o : Option LeafElement) (t : Place) → place_on file meta path o None ≡ Some t → ⊥
-  no_spot path o t e = cc
-
-  named_step : (from : Start) (path : Path) (spot : Spot) (elements : List LeafElement) (i : ℕ) (t : Place) → Names (IsEntry file meta) (Root_page meta.root) path from → OfStart from spot elements
-      → IsTidyAt file meta elements spot → place_on file meta path (slice_get elements i) (step_from nodes spot i) ≡ Some t → IsNamed t
-  named_step (Root_page r) path (At_page s) elements i t names (address, lead) tidy is = by (nodes s.number) refl
-    where
-      by : (x : Result Node ℕ) → nodes s.number ≡ x → IsNamed t
-      by (Err fault) page = absurd (no_spot path (slice_get elements i) t (sym (ap (place_on file meta path (slice_get elements i)) (ap (λ (y : Result Node ℕ). step_at y s i) page)) ∙ is))
-      by (Ok node) page = page_step path elements s r address i t node (subst (HasForm node) (sym tidy) (page_form file meta s.number node page)) page lead tidy names is
-  named_step (Root_page r) path (At_inline host keys) elements i t names of tidy is = absurd of
-  named_step (Inline_page own) path (At_page s) elements i t names of tidy is = absurd of
-  named_step (Inline_page own) path (At_inline host keys) elements i t names of tidy is = absurd (no_spot path (slice_get elements i) t is)
 
   abbrev pub IsWell : Place → Type 0
   IsWell p = IsNamed p × IsTidy file meta p
@@ -136,7 +76,7 @@ module _ (file : List ℕ) (meta : Meta) where
   well_next : (here : Option Place) (i : ℕ) (t : Place) → ((q : Place) → here ≡ Some q → IsWell q) → next_place file meta here i ≡ Some t → IsWell t
   well_next None i t well is = absurd (cc)
   well_next (Some q) i t well is =
-      let ((from, names, of), tidy) = well q refl in (named_step from q.path q.spot q.elements i t names of tidy is, tidy_step file meta q t i tidy is)
+      let ((from, names, of), tidy) = well q refl in (named_step from q t i names of tidy is, tidy_step file meta q t i tidy is)
 
   well_follow : (here : Option Place) (way : List ℕ) (p : Place) → ((q : Place) → here ≡ Some q → IsWell q) → follow_places file meta here way ≡ Some p → IsWell p
   well_follow here [] p well is = well p is

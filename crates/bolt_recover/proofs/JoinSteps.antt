@@ -1,153 +1,30 @@
 -- The members of the joined listing, one after another.
-use Rattle.std.proofs.Common.{◌≡◌, ◌≢◌, ◌∙◌, ℕ, Bool, true, false, List, [], ◌∷◌, ◌++◌, ◌⊎◌, ◌||◌, inl, inr, Option, Some, None, Result, Ok, Err, IfOk, IfSome, OnErr, OnOk, filter, is_some, not, refl, sym, ap, subst, subst₂, append_assoc}
-use Rattle.std.specs.List.{All, Contains}
-use Rattle.std.proofs.Math.Logic.{∥∥₁_elim}
-use Rattle.std.proofs.Props.{props}
-use Rattle.std.proofs.lemmas.Bool.{cases_Bool, false≢true}
-use Rattle.std.specs.Option.{option_map}
-use Rattle.std.specs.Ordering.{is_eq, is_lt}
-use Rattle.std.proofs.lemmas.List.Elements.{All-head, All-tail}
-use Rattle.bolt_check.specs.Keys.{Key, key_lt}
-use Rattle.bolt_format.specs.Elements.{LeafElement}
-use Rattle.bolt_format.specs.Pages.{page_at}
-use Rattle.bolt_format.specs.Shown.{shown}
-use Rattle.bolt_format.specs.declared.meta.Meta.{Meta}
-use Rattle.bolt_tree.specs.Entries.{Bucket, Item, Value}
-use Rattle.bolt_tree.specs.Listing.{Member}
-use Rattle.bolt_tree.specs.Paths.{Path}
-use Rattle.bolt_tree.specs.ShownEntries.{item_view}
-use Rattle.bolt_tree.specs.Walks.{GivesNext}
-use Rattle.bolt_tree.specs.Tree.{Tree, end, listing_below, listing_of, tree_of, with_bucket, with_value}
-use Rattle.bolt_tree.proofs.Lists.{contains_cases, contains_head, contains_none, contains_tail}
-use Rattle.bolt_tree.proofs.ReadBack.{tree_back}
-use Rattle.bolt_recover.specs.Found.{numbers_of}
-use Rattle.bolt_recover.specs.Joined.{HasBucketKey, IsJoined, LacksBucketKey, found_tree, is_found_path, joined_listing, lost_and_found, put_bucket}
-use Rattle.bolt_recover.specs.Places.{leaves_of}
-use Rattle.bolt_recover.specs.Recovered.{ForRecovered, IsRecovered}
-use Rattle.bolt_recover.specs.ShownFound.{IsFoundView}
-use Rattle.bolt_recover.specs.Private.FoundLeft.{below_bucket, bucket_members, pages_of}
-use Rattle.bolt_recover.specs.Private.Joining.{AreJoinable, IsHeldWell, TellsBucketKey, first_cmp, held_members, left_at, path_at, put_members, recovered_in}
-use Rattle.bolt_recover.specs.Private.KeptMembers.{kept_file, kept_left, kept_meta, kept_path}
-use Rattle.bolt_recover.specs.declared.found.Found.{Found}
+use Rattle.std.proofs.Common.{◌≡◌, ◌≢◌, ◌∙◌, ℕ, true, false, List, [], ◌∷◌, ◌++◌, ◌⊎◌, inl, inr, Option, Some, None, Result, Ok, Err, IfOk, IfSome, OnErr, OnOk, filter, is_some, not, refl, sym, ap, subst, subst₂}
+use Rattle.bolt_recover.proofs.Words.{All, All-head, All-tail, AreJoinable, below_bucket, Bucket, bucket_members, contains_cases, contains_head, contains_none, contains_tail, first_cmp, ForRecovered, Found, GivesKept, GivesNext, HasBucketKey, held_members, holds_key, is_eq, is_found_path, is_lt, IsFoundView, IsHeldWell, IsJoined, IsRecovered, item_view, joined_listing, Kept, kept_file, kept_left, kept_meta, kept_path, LacksBucketKey, LeafElement, leaves_of, LeavesKept, left_at, lost_and_found, Member, Meta, numbers_of, option_map, or_cases, or_parts, page_at, pages_of, Path, path_at, props, put_members, recovered_in, shown}
+use Rattle.bolt_recover.specs.declared.joined.Joined.{Joined}
 use Rattle.bolt_recover.specs.declared.found_members.FoundMembers.{FoundMembers}
 use Rattle.bolt_recover.specs.declared.joined.Stage.{Stage}
 use Rattle.bolt_recover.specs.declared.joined.Stage.TheVariants.{After, Before, Inside}
-use Rattle.bolt_recover.specs.declared.kept.Kept.{Kept}
 use Rattle.bolt_tree.specs.declared.entry.Item.{Item as CodeItem}
-use Rattle.bolt_recover.proofs.FoundAll.{one_found}
-use Rattle.bolt_recover.proofs.JoinedLemmas.{joined_keeps, stays, tree_recovered, with_elements}
+use Rattle.bolt_recover.proofs.JoinedLemmas.{joined_keeps, joined_of, put_recovered, stays, with_elements}
 
 pub first_found : (path : Path) → is_eq (first_cmp path) ≡ is_found_path path
 first_found [] = refl
 first_found (key ∷ path) = refl
 
-abbrev IsLooked : (listing left : List Member) → Type 0
-IsLooked listing left = (m : Member) → Contains listing m → (not (is_found_path m.0) ≡ true) ⊎ Contains left m
+-- what is told of the key
+pub key_held : (listing : List Member) → holds_key listing ≡ true → HasBucketKey listing
+key_held [] e = absurd (cc)
+key_held (m ∷ listing) e = elim (or_cases (is_found_path m.0) (holds_key listing) e) [
+  | inl here ↦ (m, (contains_head m listing, here))
+  | inr later ↦ let (o, (has, is)) = key_held listing later in (o, (contains_tail m o listing has, is))
+]
 
-pub looked_on : (listing old new : List Member) (path : Path) (item : Item) → old ≡ (path, item) ∷ new → is_found_path path ≡ false → IsLooked listing old → IsLooked listing new
-looked_on listing old new path item is other looked m has =
-    elim (looked m has) [
-      | inl stays ↦ inl stays
-      | inr left ↦ elim (contains_cases (path, item) m new (subst (λ (ms : List Member). Contains ms m) is left)) [
-        | inl same ↦ inl (subst (λ (x : Member). not (is_found_path x.0) ≡ true) same (rw other refl))
-        | inr later ↦ inr later
-      ]
-    ]
-
-pub inside_on : (listing old new : List Member) (path : Path) (item : Item) → old ≡ (path, item) ∷ new → ((m : Member) → Contains old m → Contains listing m)
-    → (m : Member) → Contains new m → Contains listing m
-inside_on listing old new path item is inside m has = inside m (subst (λ (ms : List Member). Contains ms m) (sym is) (contains_tail (path, item) m new has))
-
-pub looked_found : (listing old new : List Member) (path : Path) (item : Item) → old ≡ (path, item) ∷ new → is_found_path path ≡ true → ((m : Member) → Contains old m → Contains listing m) → HasBucketKey listing
-looked_found listing old new path item is same inside =
-    ((path, item), (inside (path, item) (subst (λ (ms : List Member). Contains ms (path, item)) (sym is) (contains_head (path, item) new)), same))
-
-pub looked_all : (listing old : List Member) → old ≡ [] → IsLooked listing old → LacksBucketKey listing
-looked_all listing old none looked m has =
-    elim (looked m has) [ inl stays ↦ stays | inr left ↦ absurd (contains_none m (subst (λ (ms : List Member). Contains ms m) none left)) ]
-
--- what is known once the members that aren't left were looked at
-abbrev pub LooksOn : (listing left : List Member) → Bool → Type 0
-LooksOn listing left true = HasBucketKey listing
-LooksOn listing left false = IsLooked listing left
-
-pub looks_on : (listing old new : List Member) (path : Path) (item : Item) → old ≡ (path, item) ∷ new → ((m : Member) → Contains old m → Contains listing m)
-    → (has same : Bool) → same ≡ is_found_path path → LooksOn listing old has → LooksOn listing new (has || same)
-looks_on listing old new path item is inside true same e looked = looked
-looks_on listing old new path item is inside false true e looked = looked_found listing old new path item is (sym e) inside
-looks_on listing old new path item is inside false false e looked = looked_on listing old new path item is (sym e) looked
-
-pub looked_at : (listing old : List Member) → old ≡ [] → (has : Bool) → LooksOn listing old has → TellsBucketKey listing has
-looked_at listing old none true looked = looked
-looked_at listing old none false looked = looked_all listing old none looked
-
--- a listing has the key or lacks it
-has_or_lacks : (listing : List Member) → HasBucketKey listing ⊎ LacksBucketKey listing
-has_or_lacks [] = inr (λ m has. absurd (contains_none m has))
-has_or_lacks (m ∷ listing) =
-    elim (cases_Bool (is_found_path m.0)) [
-      | inl same ↦ inl (m, (contains_head m listing, same))
-      | inr other ↦ elim (has_or_lacks listing) [
-        | inl (o, (has, same)) ↦ inl (o, (contains_tail m o listing has, same))
-        | inr lacks ↦ inr (λ o has. elim (contains_cases m o listing has) [
-          | inl same ↦ subst (λ (x : Member). not (is_found_path x.0) ≡ true) same (rw other refl)
-          | inr later ↦ lacks o later
-        ])
-      ]
-    ]
-
-pub bucket_key : (listing : List Member) → ∥ HasBucketKey listing ∥₁ → HasBucketKey listing
-bucket_key listing has =
-    elim (has_or_lacks listing) [
-      | inl is ↦ is
-      | inr lacks ↦ absurd (∥∥₁_elim has (hlevel props) (λ (m, (there, same)). false≢true (ap not (sym same) ∙ lacks m there)))
-    ]
-
--- the bucket with what it holds
-abbrev pub put_of : Tree → List Member
-put_of inside = (lost_and_found ∷ [], Bucket 0) ∷ listing_below (lost_and_found ∷ []) inside
-
--- what an earlier bucket holds comes before it
-passes_inside : (put : List Member) (key : Key) (path : Path) (own : Tree) (rest : List Member) → key_lt key lost_and_found ≡ true
-    → put_members put (listing_below (key ∷ path) own ++ rest) ≡ listing_below (key ∷ path) own ++ put_members put rest
-passes_inside put key path end rest less = refl
-passes_inside put key path (with_value k value after) rest less =
-    rw less (ap (λ (ms : List Member). (key ∷ path ++ k ∷ [], Value value) ∷ ms) (passes_inside put key path after rest less))
-passes_inside put key path (with_bucket k sequence inside after) rest less =
-    let here : Member = (key ∷ path ++ k ∷ [], Bucket sequence) in
-    let front = listing_below (key ∷ path ++ k ∷ []) inside in
-    let later = listing_below (key ∷ path) after in
-    rw less (ap (λ (ms : List Member). here ∷ ms)
-    (ap (put_members put) (append_assoc front later rest)
-    ∙ passes_inside put key (path ++ k ∷ []) inside (later ++ rest) less
-    ∙ ap (λ (ms : List Member). front ++ ms) (passes_inside put key path after rest less)
-    ∙ sym (append_assoc front later (put_members put rest))))
-
-by_value : (inside : Tree) (key value : List ℕ) (after : Tree) (b : Bool) → key_lt key lost_and_found ≡ b → put_members (put_of inside) (listing_of after) ≡ listing_of (put_bucket lost_and_found inside after)
-    → put_members (put_of inside) (listing_of (with_value key value after)) ≡ listing_of (put_bucket lost_and_found inside (with_value key value after))
-by_value inside key value after true less later = rw less (ap (λ (ms : List Member). (key ∷ [], Value value) ∷ ms) later)
-by_value inside key value after false over later = rw over refl
-
-by_bucket : (inside : Tree) (key : List ℕ) (sequence : ℕ) (own after : Tree) (b : Bool) → key_lt key lost_and_found ≡ b
-    → put_members (put_of inside) (listing_of after) ≡ listing_of (put_bucket lost_and_found inside after)
-    → put_members (put_of inside) (listing_of (with_bucket key sequence own after)) ≡ listing_of (put_bucket lost_and_found inside (with_bucket key sequence own after))
-by_bucket inside key sequence own after true less later =
-    rw less (ap (λ (ms : List Member). (key ∷ [], Bucket sequence) ∷ ms)
-    (passes_inside (put_of inside) key [] own (listing_of after) less ∙ ap (λ (ms : List Member). listing_below (key ∷ []) own ++ ms) later))
-by_bucket inside key sequence own after false over later = rw over refl
-
--- the members of a tree with the bucket in its place
-pub put_tree : (inside tree : Tree) → put_members (put_of inside) (listing_of tree) ≡ listing_of (put_bucket lost_and_found inside tree)
-put_tree inside end = refl
-put_tree inside (with_value key value after) = by_value inside key value after (key_lt key lost_and_found) refl (put_tree inside after)
-put_tree inside (with_bucket key sequence own after) = by_bucket inside key sequence own after (key_lt key lost_and_found) refl (put_tree inside after)
-
-pub put_recovered : (found : List (ℕ × List LeafElement)) (recovered : List Member) → (tree : Tree) × (recovered ≡ listing_of tree)
-    → put_members (put_of (found_tree found)) recovered ≡ listing_of (put_bucket lost_and_found (found_tree found) (tree_of recovered))
-put_recovered found recovered (tree, of) =
-    ap (put_members (put_of (found_tree found))) of
-    ∙ put_tree (found_tree found) tree
-    ∙ ap (λ (t : Tree). listing_of (put_bucket lost_and_found (found_tree found) t)) (sym (ap tree_of of ∙ tree_back tree))
+pub key_lacks : (listing : List Member) → holds_key listing ≡ false → LacksBucketKey listing
+key_lacks [] e m has = absurd (contains_none m has)
+key_lacks (m ∷ listing) e o has =
+    let both = or_parts (is_found_path m.0) (holds_key listing) e in
+    elim (contains_cases m o listing has) [ inl same ↦ subst (λ (x : Member). not (is_found_path x.0) ≡ true) same (ap not both.0) | inr later ↦ key_lacks listing both.1 o later ]
 
 module _ (file : List ℕ) (meta : Meta) where
   pages_same : (found : List Found) → All (IsFoundView file meta) found → with_elements file meta (numbers_of found) ≡ pages_of found
@@ -168,13 +45,18 @@ module _ (file : List ℕ) (meta : Meta) where
   parted_by [] listing recovered are back joined = record { recovers = subst (IsRecovered file meta) (sym joined) back; joined = refl }
   parted_by (f ∷ found) listing recovered are back joined =
       let none : (f ∷ found) ≢ [] = λ e. cc in
-      let same : filter stays listing ≡ recovered = ap (filter stays) joined ∙ joined_keeps recovered (pages_of (f ∷ found)) (tree_recovered file meta recovered back) (are.apart none recovered back) in
+      let same : filter stays listing ≡ recovered = ap (filter stays) joined ∙ joined_keeps file meta recovered (pages_of (f ∷ found)) back (are.apart none recovered back) in
       record { recovers = subst (IsRecovered file meta) (sym same) back; joined = joined ∙ ap (λ (ms : List Member). joined_listing ms (pages_of (f ∷ found))) (sym same) }
 
   pub parted : (found : List Found) (listing : List Member) → AreJoinable file meta found → IsJoined file meta listing → IsParted found listing (recovered_in found listing)
   parted found listing are is =
       parted_by found listing is.recovered are is.recovers
-      (is.joined ∙ ap (joined_listing is.recovered) (ap (with_elements file meta) (one_found file meta is.found (numbers_of found) is.are_found are.are_found) ∙ pages_same found are.views))
+      (joined_of file meta listing is.recovered (numbers_of found) is is.recovers are.are_found ∙ ap (joined_listing is.recovered) (pages_same found are.views))
+
+-- what the members that are kept return of a joined listing
+pub of_joined : (joined : Joined) (listing : List Member) → AreJoinable (kept_file joined.kept) (kept_meta joined.kept) joined.found.now → IsJoined (kept_file joined.kept) (kept_meta joined.kept) listing
+    → IsRecovered (kept_file joined.kept) (kept_meta joined.kept) (recovered_in joined.found.now listing)
+of_joined joined listing are is = (parted (kept_file joined.kept) (kept_meta joined.kept) joined.found.now listing are is).recovers
 
 -- at the beginning, as the found pages are
 module _ (stage : Stage) (kept : Kept) where
@@ -197,7 +79,7 @@ module _ (stage : Stage) (kept : Kept) where
   all_at file meta [] bucket held listing recovered (none, some) is fresh = rw (none refl) (fresh ∙ sym is.joined)
   all_at file meta (f ∷ found) bucket held listing recovered (none, some) is fresh =
       rw (some (some_found f found)) (ap (put_members (bucket_members (f ∷ found))) fresh
-      ∙ put_recovered (pages_of (f ∷ found)) recovered (tree_recovered file meta recovered is.recovers)
+      ∙ put_recovered file meta (pages_of (f ∷ found)) recovered is.recovers
       ∙ sym is.joined)
 
   pub begun_left : (file : List ℕ) (meta : Meta) (found : List Found) (bucket : FoundMembers) (held : Option CodeItem) → Begins found → AreJoinable file meta found
@@ -214,17 +96,16 @@ before_given put old new path None gives some less = absurd (let f : false ≡ t
 before_given put old new path (Some item) gives some less = ap (put_members put) gives ∙ rw less refl
 
 -- the bucket before a recovered member, or after all of them
-pub bucket_given : (found : List Found) (old new : List Member) (path : Path) (given : Option CodeItem) → GivesNext old new path (option_map item_view given) → (given ≡ None) ⊎ (is_lt (first_cmp path) ≡ false)
+pub bucket_given : (found : List Found) (old new : List Member) (path : Path) (given : Option CodeItem) → GivesNext old new path (option_map item_view given) → (is_some given ≡ false) ⊎ (is_lt (first_cmp path) ≡ false)
     → put_members (bucket_members found) old ≡ (lost_and_found ∷ [], Bucket 0) ∷ (below_bucket found ++ (held_members path given ++ new))
 bucket_given found old new path None (none, rest, ended) over = rw (none, rest) refl
-bucket_given found old new path (Some item) gives (inl none) = absurd (cc)
+bucket_given found old new path (Some item) gives (inl none) = absurd (let f : true ≡ false = none in cc)
 bucket_given found old new path (Some item) gives (inr over) = ap (put_members (bucket_members found)) gives ∙ rw over refl
 
 -- if no recovered member is held, none is left
-pub held_well : (old new : Kept) (path : Path) (given : Option CodeItem) → kept_file new ≡ kept_file old → kept_meta new ≡ kept_meta old
-    → ForRecovered (kept_file old) (kept_meta old) (λ recovered. GivesNext (kept_left old recovered) (kept_left new recovered) path (option_map item_view given)) → IsHeldWell Inside new given
-held_well old new path (Some item) file meta gives = tt
-held_well old new path None file meta gives = λ recovered is. (gives recovered (subst₂ (λ (f : List ℕ) (m : Meta). IsRecovered f m recovered) file meta is)).1
+pub held_well : (old new : Kept) (given : Option CodeItem) → kept_file new ≡ kept_file old → kept_meta new ≡ kept_meta old → GivesKept old new given → IsHeldWell Inside new given
+held_well old new (Some item) file meta gives = tt
+held_well old new None file meta gives = λ recovered is. (gives recovered (subst₂ (λ (f : List ℕ) (m : Meta). IsRecovered f m recovered) file meta is)).1
 
 pub gives_prop : (old new : List Member) (path : Path) (given : Option CodeItem) → IsProp (GivesNext old new path (option_map item_view given))
 gives_prop old new path None = hlevel props
@@ -235,18 +116,14 @@ when_ok (Ok x) further holds = further holds
 when_ok (Err e) further holds = tt
 
 -- if no recovered member was left, none is
-pub still_none : {E : Type 0} (old new : Kept) (path : Path) (result : Result (Option CodeItem) E) → kept_file new ≡ kept_file old → kept_meta new ≡ kept_meta old
-    → IfOk result (λ given. ForRecovered (kept_file old) (kept_meta old) (λ recovered. GivesNext (kept_left old recovered) (kept_left new recovered) path (option_map item_view given)))
-    → OnErr result (ForRecovered (kept_file old) (kept_meta old) (λ recovered. kept_left new recovered ≡ kept_left old recovered))
-    → ForRecovered (kept_file old) (kept_meta old) (λ recovered. kept_left old recovered ≡ []) → ForRecovered (kept_file new) (kept_meta new) (λ recovered. kept_left new recovered ≡ [])
-still_none old new path (Ok None) file meta gives same none = λ recovered is. (gives recovered (subst₂ (λ (f : List ℕ) (m : Meta). IsRecovered f m recovered) file meta is)).1
-still_none old new path (Ok (Some item)) file meta gives same none = λ recovered is.
+pub still_none : {E : Type 0} (old new : Kept) (result : Result (Option CodeItem) E) → kept_file new ≡ kept_file old → kept_meta new ≡ kept_meta old
+    → IfOk result (GivesKept old new) → OnErr result (LeavesKept old new) → IsHeldWell Inside old None → IsHeldWell Inside new None
+still_none old new (Ok None) file meta gives same none = held_well old new None file meta gives
+still_none old new (Ok (Some item)) file meta gives same none = λ recovered is.
     let before = subst₂ (λ (f : List ℕ) (m : Meta). IsRecovered f m recovered) file meta is in
-    let some = sym (none recovered before) ∙ gives recovered before in
-    absurd (cc)
-still_none old new path (Err fault) file meta gives same none = λ recovered is.
-    let before = subst₂ (λ (f : List ℕ) (m : Meta). IsRecovered f m recovered) file meta is in
-    same recovered before ∙ none recovered before
+    absurd (let some = sym (none recovered before) ∙ gives recovered before in cc)
+still_none old new (Err fault) file meta gives same none = λ recovered is.
+    let before = subst₂ (λ (f : List ℕ) (m : Meta). IsRecovered f m recovered) file meta is in same recovered before ∙ none recovered before
 
 pub none_given : (P : CodeItem → Type 0) (old new : List Member) (path : Path) (given : Option CodeItem) → old ≡ [] → GivesNext old new path (option_map item_view given) → IfSome given P
 none_given P old new path None none gives = tt

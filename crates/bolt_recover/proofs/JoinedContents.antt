@@ -1,73 +1,30 @@
 -- The members of a joined listing are recovered or found.
-use Rattle.std.proofs.Common.{◌≡◌, ◌∙◌, ◌⊎◌, inl, inr, ℕ, Bool, true, false, IsTrue, is_none, List, [], ◌∷◌, ◌++◌, None, map, ◌==◌, if◌then◌else◌, refl, sym, ap, subst}
-use Rattle.std.specs.List.{Contains}
-use Rattle.std.specs.Ordering.{is_lt}
-use Rattle.std.proofs.lemmas.Bool.{eqb-true}
-use Rattle.std.proofs.lemmas.List.Elements.{Contains-append_cases}
-use Rattle.bolt_format.specs.Elements.{LeafElement, head_root, head_sequence, inline_elements}
-use Rattle.bolt_format.specs.Pages.{page_at}
-use Rattle.bolt_format.specs.declared.meta.Meta.{Meta}
-use Rattle.bolt_check.specs.Keys.{keys_order_fault}
-use Rattle.bolt_tree.specs.Entries.{Bucket, Value, item_of}
-use Rattle.bolt_tree.specs.Listing.{Member}
-use Rattle.bolt_tree.specs.Paths.{Path}
-use Rattle.bolt_tree.specs.Tree.{Tree, end, listing_below, with_bucket, with_value}
-use Rattle.bolt_tree.proofs.Lists.{contains_cases, contains_head, contains_none, contains_tail}
-use Rattle.bolt_recover.specs.Found.{AreFound}
-use Rattle.bolt_recover.specs.Joined.{IsElement, IsFoundMember, IsInner, IsJoined, found_tree, inside_of, joined_listing, lost_and_found, tree_with}
-use Rattle.bolt_recover.specs.PageKeys.{page_key}
-use Rattle.bolt_recover.specs.Places.{leaves_of}
-use Rattle.bolt_recover.specs.Private.Joining.{first_cmp, put_members}
-use Rattle.bolt_recover.specs.Recovered.{IsRecovered}
-use Rattle.bolt_recover.proofs.FoundAll.{one_found}
-use Rattle.bolt_recover.proofs.JoinSteps.{put_of, put_recovered}
-use Rattle.bolt_recover.proofs.JoinedLemmas.{tree_recovered, with_elements}
-use Rattle.bolt_recover.proofs.OneRecovered.{one_recovered}
-
--- what is put, or what was there
-put_by : (put : List Member) (x : Member) (listing : List Member) (m : Member) (b : Bool) → is_lt (first_cmp x.0) ≡ b → (Contains (put_members put listing) m → Contains put m ⊎ Contains listing m)
-    → Contains (put_members put (x ∷ listing)) m → Contains put m ⊎ Contains (x ∷ listing) m
-put_by put x listing m true less further has = elim (contains_cases x m (put_members put listing) (rw less at has)) [
-  | inl same ↦ inr (subst (λ (y : Member). Contains (x ∷ listing) y) same (contains_head x listing))
-  | inr more ↦ elim (further more) [ inl own ↦ inl own | inr later ↦ inr (contains_tail x m listing later) ]
-]
-put_by put x listing m false over further has = Contains-append_cases put (x ∷ listing) m (rw over at has)
-
-put_or_there : (put listing : List Member) (m : Member) → Contains (put_members put listing) m → Contains put m ⊎ Contains listing m
-put_or_there put [] m has = Contains-append_cases put [] m has
-put_or_there put (x ∷ listing) m has = put_by put x listing m (is_lt (first_cmp x.0)) refl (put_or_there put listing m) has
+use Rattle.std.proofs.Common.{◌≡◌, ◌⊎◌, inl, inr, ℕ, Bool, true, false, IsTrue, is_none, List, [], ◌∷◌, ◌++◌, None, map, ◌==◌, if◌then◌else◌, refl, sym, subst}
+use Rattle.bolt_recover.proofs.Words.{AreFound, Bucket, Contains, Contains-append_cases, contains_cases, contains_head, contains_none, contains_tail, end, eqb-true, found_tree, head_root, head_sequence, inline_elements, inside_of, IsElement, IsFoundMember, IsInner, IsJoined, IsRecovered, item_of, joined_listing, keys_order_fault, LeafElement, leaves_of, listing_below, lost_and_found, Member, Meta, page_at, page_key, Path, Tree, tree_with, Value, with_bucket, with_value}
+use Rattle.bolt_recover.proofs.JoinedLemmas.{joined_of, put_of, put_or_there, put_recovered, with_elements}
 
 -- an element, what it holds, or a later one
 abbrev IsHere : (inside : LeafElement → Tree) → Path → LeafElement → Member → Type 0
 IsHere inside path e m = (m ≡ (path ++ e.key ∷ [], item_of e)) ⊎ (IsTrue e.is_bucket × Contains (listing_below (path ++ e.key ∷ []) (inside e)) m)
 
-here_by : (inside : LeafElement → Tree) (path : Path) (e : LeafElement) (elements : List LeafElement) (m : Member) (b : Bool) → e.is_bucket ≡ b → Contains (listing_below path (tree_with inside (e ∷ elements))) m
-    → IsHere inside path e m ⊎ Contains (listing_below path (tree_with inside elements)) m
-here_by inside path e elements m true is has =
-    let item : item_of e ≡ Bucket (head_sequence e.value) = ap (λ (b : Bool). if b then Bucket (head_sequence e.value) else Value e.value) is in
-    let tree : tree_with inside (e ∷ elements) ≡ with_bucket e.key (head_sequence e.value) (inside e) (tree_with inside elements) =
-    ap (λ (b : Bool). if b then with_bucket e.key (head_sequence e.value) (inside e) (tree_with inside elements) else with_value e.key e.value (tree_with inside elements)) is in
+here_by : (inside : LeafElement → Tree) (path : Path) (e : LeafElement) (elements : List LeafElement) (m : Member) (b : Bool)
+    → Contains (listing_below path (if b then with_bucket e.key (head_sequence e.value) (inside e) (tree_with inside elements) else with_value e.key e.value (tree_with inside elements))) m
+    → ((m ≡ (path ++ e.key ∷ [], if b then Bucket (head_sequence e.value) else Value e.value)) ⊎ (IsTrue b × Contains (listing_below (path ++ e.key ∷ []) (inside e)) m))
+    ⊎ Contains (listing_below path (tree_with inside elements)) m
+here_by inside path e elements m true has =
     let deep : List Member = listing_below (path ++ e.key ∷ []) (inside e) in
     let behind : List Member = listing_below path (tree_with inside elements) in
-    let first : Member = (path ++ e.key ∷ [], Bucket (head_sequence e.value)) in
-    elim (contains_cases first m (deep ++ behind) (subst (λ (t : Tree). Contains (listing_below path t) m) tree has)) [
-      | inl same ↦ inl (inl (sym same ∙ ap (λ (i : _). (path ++ e.key ∷ [], i)) (sym item)))
-      | inr more ↦ elim (Contains-append_cases deep behind m more) [ inl inner ↦ inl (inr (is, inner)) | inr later ↦ inr later ]
+    elim (contains_cases (path ++ e.key ∷ [], Bucket (head_sequence e.value)) m (deep ++ behind) has) [
+      | inl same ↦ inl (inl (sym same))
+      | inr more ↦ elim (Contains-append_cases deep behind m more) [ inl inner ↦ inl (inr (refl, inner)) | inr later ↦ inr later ]
     ]
-here_by inside path e elements m false is has =
-    let item : item_of e ≡ Value e.value = ap (λ (b : Bool). if b then Bucket (head_sequence e.value) else Value e.value) is in
-    let tree : tree_with inside (e ∷ elements) ≡ with_value e.key e.value (tree_with inside elements) =
-    ap (λ (b : Bool). if b then with_bucket e.key (head_sequence e.value) (inside e) (tree_with inside elements) else with_value e.key e.value (tree_with inside elements)) is in
-    let first : Member = (path ++ e.key ∷ [], Value e.value) in
-    elim (contains_cases first m (listing_below path (tree_with inside elements)) (subst (λ (t : Tree). Contains (listing_below path t) m) tree has)) [
-      | inl same ↦ inl (inl (sym same ∙ ap (λ (i : _). (path ++ e.key ∷ [], i)) (sym item)))
-      | inr later ↦ inr later
-    ]
+here_by inside path e elements m false has =
+    elim (contains_cases (path ++ e.key ∷ [], Value e.value) m (listing_below path (tree_with inside elements)) has) [ inl same ↦ inl (inl (sym same)) | inr later ↦ inr later ]
 
 element_of : (inside : LeafElement → Tree) (path : Path) (elements : List LeafElement) (m : Member) → Contains (listing_below path (tree_with inside elements)) m
     → (e : LeafElement) × (Contains elements e × IsHere inside path e m)
 element_of inside path [] m has = absurd (contains_none m has)
-element_of inside path (e ∷ elements) m has = elim (here_by inside path e elements m e.is_bucket refl has) [
+element_of inside path (e ∷ elements) m has = elim (here_by inside path e elements m e.is_bucket has) [
   | inl here ↦ (e, (contains_head e elements, here))
   | inr later ↦ let (x, (there, here)) = element_of inside path elements m later in (x, (contains_tail e x elements there, here))
 ]
@@ -111,7 +68,7 @@ module _ (file : List ℕ) (meta : Meta) where
   contents recovered [] m is has = inl has
   contents recovered (n ∷ found) m is has =
       let pages = with_elements file meta (n ∷ found) in
-      let put = subst (λ (ms : List Member). Contains ms m) (sym (put_recovered pages recovered (tree_recovered file meta recovered is))) has in
+      let put = subst (λ (ms : List Member). Contains ms m) (sym (put_recovered file meta pages recovered is)) has in
       elim (put_or_there (put_of (found_tree pages)) recovered m put) [
         | inl own ↦ elim (contains_cases (lost_and_found ∷ [], Bucket 0) m (listing_below (lost_and_found ∷ []) (found_tree pages)) own) [
           | inl same ↦ inr (inl (sym same))
@@ -123,8 +80,4 @@ module _ (file : List ℕ) (meta : Meta) where
   pub joined_contents : (listing recovered : List Member) (found : List ℕ) (m : Member) → IsJoined file meta listing → IsRecovered file meta recovered → AreFound file meta found → Contains listing m
       → Contains recovered m ⊎ ((m ≡ (lost_and_found ∷ [], Bucket 0)) ⊎ IsFoundMember file meta found m)
   joined_contents listing recovered found m is back are has =
-      contents recovered found m back
-      (subst (λ (ms : List Member). Contains ms m)
-      (is.joined
-      ∙ ap (λ (ms : List Member). joined_listing ms (with_elements file meta is.found)) (one_recovered file meta is.recovered recovered is.recovers back)
-      ∙ ap (λ (ns : List ℕ). joined_listing recovered (with_elements file meta ns)) (one_found file meta is.found found is.are_found are)) has)
+      contents recovered found m back (subst (λ (ms : List Member). Contains ms m) (joined_of file meta listing recovered found is back are) has)

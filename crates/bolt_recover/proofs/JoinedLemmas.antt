@@ -1,109 +1,102 @@
--- The joined listing is that of a tree, and what isn't in the bucket of what is found is what is recovered.
-use Rattle.std.proofs.Common.{◌≡◌, ◌∙◌, inl, inr, ℕ, Bool, true, false, not, List, [], ◌∷◌, ◌++◌, filter, map, refl, sym, ap, subst, append_assoc}
-use Rattle.std.specs.List.{Contains}
-use Rattle.std.proofs.lemmas.List.Elements.{Contains-append_left, Contains-append_right}
-use Rattle.bolt_format.specs.Elements.{LeafElement}
-use Rattle.bolt_format.specs.Pages.{page_at}
-use Rattle.bolt_format.specs.declared.meta.Meta.{Meta}
-use Rattle.bolt_check.specs.Keys.{key_lt}
-use Rattle.bolt_tree.specs.Entries.{Bucket, Value}
-use Rattle.bolt_tree.specs.Listing.{Member}
-use Rattle.bolt_tree.specs.Paths.{Path}
-use Rattle.bolt_tree.specs.Tree.{Tree, end, listing_below, listing_of, tree_of, with_bucket, with_value}
-use Rattle.bolt_tree.proofs.Filters.{filter_all}
-use Rattle.bolt_tree.proofs.Lists.{contains_cases, contains_head, contains_none, contains_tail}
+-- The joined listing is the recovered one with the bucket of what is found in its place.
+use Rattle.std.proofs.Common.{◌≡◌, ◌∙◌, ◌⊎◌, inl, inr, ℕ, Bool, true, false, not, List, [], ◌∷◌, ◌++◌, filter, map, refl, sym, ap, subst}
+use Rattle.bolt_recover.proofs.Words.{append-nil, AreFound, Bucket, cases_Bool, Contains, Contains-append_cases, contains_cases, contains_head, contains_tail, end, Equal, filter-append, filter_all, filter_none, first_cmp, found_tree, further, Greater, is_eq, is_found_path, is_lt, IsJoined, IsRecovered, joined_listing, key_cmp, key_lt, key_total, LacksBucketKey, LeafElement, leaves_of, Less, less_of, listing_below, listing_of, lost_and_found, Member, member_cmp, member_total, Meta, Ordering, page_at, Path, path_cmp, put_bucket, put_members, Rises, Tree, tree_of, Value, with_bucket, with_value}
 use Rattle.bolt_tree.proofs.ReadBack.{tree_back}
-use Rattle.bolt_recover.specs.Joined.{IsJoined, is_found_path, found_tree, joined_listing, lost_and_found, put_bucket}
-use Rattle.bolt_recover.specs.Places.{leaves_of}
-use Rattle.bolt_recover.specs.Recovered.{IsRecovered}
-use Rattle.bolt_recover.proofs.Existing.{has_recovered}
+use Rattle.bolt_recover.proofs.Existing.{has_recovered, one_recovered, recovers}
 use Rattle.bolt_recover.proofs.FoundAll.{one_found}
 use Rattle.bolt_recover.proofs.FoundExists.{has_found}
-use Rattle.bolt_recover.proofs.OneRecovered.{one_recovered}
 use Rattle.bolt_recover.proofs.RunExists.{run_exists}
-use Rattle.bolt_recover.proofs.RunOrder.{further}
-use Rattle.bolt_recover.proofs.RunRecovers.{recovers}
 use Rattle.bolt_recover.proofs.RunTrees.{run_tree}
+use Rattle.bolt_recover.proofs.TreeOrder.{Ordered, ordered_rises, rises_both, under}
 
 abbrev pub stays : Member → Bool
 stays m = not (is_found_path m.0)
 
-none_stays : (path : Path) (tree : Tree) (rest : List Member) → filter stays (listing_below (lost_and_found ∷ path) tree ++ rest) ≡ filter stays rest
-none_stays path end rest = refl
-none_stays path (with_value key value after) rest = none_stays path after rest
-none_stays path (with_bucket key sequence inside after) rest =
-    ap (filter stays) (append_assoc (listing_below (lost_and_found ∷ path ++ key ∷ []) inside) (listing_below (lost_and_found ∷ path) after) rest)
-    ∙ none_stays (path ++ key ∷ []) inside (listing_below (lost_and_found ∷ path) after ++ rest)
-    ∙ none_stays path after rest
+-- the bucket with what it holds
+abbrev pub put_of : Tree → List Member
+put_of inside = (lost_and_found ∷ [], Bucket 0) ∷ listing_below (lost_and_found ∷ []) inside
+
+put_path : (inside : Tree) (m : Member) → Contains (put_of inside) m → (rest : Path) × (m.0 ≡ lost_and_found ∷ rest)
+put_path inside m has = elim (contains_cases (lost_and_found ∷ [], Bucket 0) m (listing_below (lost_and_found ∷ []) inside) has) [
+  | inl same ↦ ([], sym (ap (λ (x : Member). x.0) same))
+  | inr deep ↦ let u = under inside (lost_and_found ∷ []) m deep in (u.key ∷ u.rest, u.at)
+]
+
+put_rises : (inside : Tree) → Ordered inside → Rises member_cmp (put_of inside)
+put_rises inside own =
+    subst (λ (ms : List Member). Rises member_cmp ((lost_and_found ∷ [], Bucket 0) ∷ ms)) (append-nil (listing_below (lost_and_found ∷ []) inside))
+    (ordered_rises (with_bucket lost_and_found 0 inside end) [] (λ k has. absurd has, own, tt))
+
+-- members are put after all those that come before the bucket
+passes : (put front rest : List Member) → ((m : Member) → Contains front m → is_lt (first_cmp m.0) ≡ true) → put_members put (front ++ rest) ≡ front ++ put_members put rest
+passes put [] rest less = refl
+passes put (x ∷ front) rest less = rw (less x (contains_head x front)) (ap (λ (ms : List Member). x ∷ ms) (passes put front rest (λ m has. less m (contains_tail x m front has))))
+
+put_tree : (inside tree : Tree) → put_members (put_of inside) (listing_of tree) ≡ listing_of (put_bucket lost_and_found inside tree)
+put_tree inside end = refl
+put_tree inside (with_value key value after) = elim (cases_Bool (key_lt key lost_and_found)) [
+  | inl less ↦ rw less (ap (λ (ms : List Member). (key ∷ [], Value value) ∷ ms) (put_tree inside after))
+  | inr over ↦ rw over refl
+]
+put_tree inside (with_bucket key sequence own after) = elim (cases_Bool (key_lt key lost_and_found)) [
+  | inl less ↦ rw less (ap (λ (ms : List Member). (key ∷ [], Bucket sequence) ∷ ms)
+      (passes (put_of inside) (listing_below (key ∷ []) own) (listing_of after) (λ m has. let u = under own (key ∷ []) m has in rw u.at less)
+      ∙ ap (λ (ms : List Member). listing_below (key ∷ []) own ++ ms) (put_tree inside after)))
+  | inr over ↦ rw over refl
+]
+
+-- what is put, or what was there
+pub put_or_there : (put listing : List Member) (m : Member) → Contains (put_members put listing) m → Contains put m ⊎ Contains listing m
+put_or_there put [] m has = Contains-append_cases put [] m has
+put_or_there put (x ∷ listing) m has = elim (cases_Bool (is_lt (first_cmp x.0))) [
+  | inl less ↦ elim (contains_cases x m (put_members put listing) (rw less at has)) [
+    | inl same ↦ inr (subst (λ (y : Member). Contains (x ∷ listing) y) same (contains_head x listing))
+    | inr more ↦ elim (put_or_there put listing m more) [ inl own ↦ inl own | inr later ↦ inr (contains_tail x m listing later) ]
+  ]
+  | inr over ↦ Contains-append_cases put (x ∷ listing) m (rw over at has)
+]
 
 -- the bucket alone goes
-in_front : (inside : Tree) (rest : List Member) → ((m : Member) → Contains rest m → stays m ≡ true)
-    → filter stays ((lost_and_found ∷ [], Bucket 0) ∷ (listing_below (lost_and_found ∷ []) inside ++ rest)) ≡ rest
-in_front inside rest all = none_stays [] inside rest ∙ filter_all stays rest all
+put_goes : (put listing : List Member) → ((m : Member) → Contains put m → stays m ≡ false) → ((m : Member) → Contains listing m → stays m ≡ true) → filter stays (put_members put listing) ≡ listing
+put_goes put [] none all = filter-append stays put [] ∙ ap (λ (ms : List Member). ms ++ []) (filter_none stays put none)
+put_goes put (x ∷ listing) none all = elim (cases_Bool (is_lt (first_cmp x.0))) [
+  | inl less ↦ rw (less, all x (contains_head x listing)) (ap (λ (ms : List Member). x ∷ ms) (put_goes put listing none (λ m has. all m (contains_tail x m listing has))))
+  | inr over ↦ rw over (filter-append stays put (x ∷ listing) ∙ ap (λ (ms : List Member). ms ++ filter stays (x ∷ listing)) (filter_none stays put none) ∙ filter_all stays (x ∷ listing) all)
+]
 
-front_stays : (xs rest : List Member) → ((m : Member) → Contains xs m → stays m ≡ true) → filter stays (xs ++ rest) ≡ xs ++ filter stays rest
-front_stays [] rest all = refl
-front_stays (x ∷ xs) rest all = rw (all x (contains_head x xs)) (ap (λ (ms : List Member). x ∷ ms) (front_stays xs rest (λ m has. all m (contains_tail x m xs has))))
+-- the bucket stands in the order of paths
+first_before : (path rest : Path) → is_lt (first_cmp path) ≡ true → path_cmp path (lost_and_found ∷ rest) ≡ Less
+first_before [] rest less = refl
+first_before (key ∷ path) rest less = rw (less_of (key_cmp key lost_and_found) less) refl
 
-abbrev Stay : Tree → Type 0
-Stay tree = (m : Member) → Contains (listing_of tree) m → stays m ≡ true
+first_after : (path rest : Path) → is_lt (first_cmp path) ≡ false → not (is_found_path path) ≡ true → path_cmp (lost_and_found ∷ rest) path ≡ Less
+first_after [] rest over other = absurd (let f : true ≡ false = over in cc)
+first_after (key ∷ path) rest over other = by (key_cmp key lost_and_found) refl over other
+  where
+    by : (o : Ordering) → key_cmp key lost_and_found ≡ o → is_lt o ≡ false → not (is_eq o) ≡ true → path_cmp (lost_and_found ∷ rest) (key ∷ path) ≡ Less
+    by Less is over2 other2 = absurd (let f : true ≡ false = over2 in cc)
+    by Equal is over2 other2 = absurd (let f : false ≡ true = other2 in cc)
+    by Greater is over2 other2 = let less : key_cmp lost_and_found key ≡ Less = key_total.antisymm lost_and_found key ∙ rw is refl in rw less refl
 
-abbrev Without : (inside tree : Tree) → Type 0
-Without inside tree = filter stays (listing_of (put_bucket lost_and_found inside tree)) ≡ listing_of tree
-
-past_value : (inside : Tree) (key value : List ℕ) (after : Tree) (b : Bool) → key_lt key lost_and_found ≡ b → Stay (with_value key value after) → (Stay after → Without inside after)
-    → Without inside (with_value key value after)
-past_value inside key value after true e all later =
-    let first : Member = (key ∷ [], Value value) in
-    rw e (front_stays (first ∷ []) (listing_of (put_bucket lost_and_found inside after)) (λ m has. elim (contains_cases first m [] has) [
-      | inl same ↦ subst (λ (x : Member). stays x ≡ true) same (all first (contains_head first (listing_of after)))
-      | inr none ↦ absurd (contains_none m none)
-    ])
-    ∙ ap (λ (ms : List Member). first ∷ ms) (later (λ m has. all m (contains_tail first m (listing_of after) has))))
-past_value inside key value after false e all later = rw e (in_front inside (listing_of (with_value key value after)) all)
-
-past_bucket : (inside : Tree) (key : List ℕ) (sequence : ℕ) (own after : Tree) (b : Bool) → key_lt key lost_and_found ≡ b → Stay (with_bucket key sequence own after)
-    → (Stay after → Without inside after) → Without inside (with_bucket key sequence own after)
-past_bucket inside key sequence own after true e all later =
-    let front : List Member = (key ∷ [], Bucket sequence) ∷ listing_below (key ∷ []) own in
-    rw e (front_stays front (listing_of (put_bucket lost_and_found inside after)) (λ m has. all m (Contains-append_left front (listing_of after) m has))
-    ∙ ap (λ (ms : List Member). front ++ ms) (later (λ m has. all m (Contains-append_right front (listing_of after) m has))))
-past_bucket inside key sequence own after false e all later = rw e (in_front inside (listing_of (with_bucket key sequence own after)) all)
-
-without_found : (inside tree : Tree) → Stay tree → Without inside tree
-without_found inside end all = in_front inside [] all
-without_found inside (with_value key value after) all = past_value inside key value after (key_lt key lost_and_found) refl all (without_found inside after)
-without_found inside (with_bucket key sequence own after) all = past_bucket inside key sequence own after (key_lt key lost_and_found) refl all (without_found inside after)
-
--- of a recovered listing, which is that of a tree
-pub joined_keeps : (recovered : List Member) (found : List (ℕ × List LeafElement)) → (tree : Tree) × (recovered ≡ listing_of tree)
-    → ((m : Member) → Contains recovered m → stays m ≡ true) → filter stays (joined_listing recovered found) ≡ recovered
-joined_keeps recovered [] of all = filter_all stays recovered all
-joined_keeps recovered (page ∷ found) (tree, of) all =
-    let same : tree_of recovered ≡ tree = ap tree_of of ∙ tree_back tree in
-    rw same (without_found (found_tree (page ∷ found)) tree (subst (λ (ms : List Member). (m : Member) → Contains ms m → stays m ≡ true) of all) ∙ sym of)
-
-pub joined_tree : (recovered : List Member) (found : List (ℕ × List LeafElement)) → (tree : Tree) × (recovered ≡ listing_of tree)
-    → (tree : Tree) × (joined_listing recovered found ≡ listing_of tree)
-joined_tree recovered [] (tree, of) = (tree, of)
-joined_tree recovered (page ∷ found) (tree, of) = (put_bucket lost_and_found (found_tree (page ∷ found)) (tree_of recovered), refl)
+put_between : (inside : Tree) (listing : List Member) → Ordered inside → Rises member_cmp listing → LacksBucketKey listing → Rises member_cmp (put_members (put_of inside) listing)
+put_between inside [] own rise lacks = subst (Rises member_cmp) (sym (append-nil (put_of inside))) (put_rises inside own)
+put_between inside (x ∷ listing) own rise lacks = elim (cases_Bool (is_lt (first_cmp x.0))) [
+  | inl less ↦ rw less (
+    λ m has. elim (put_or_there (put_of inside) listing m has) [
+      | inl put ↦ let (rest, at) = put_path inside m put in rw at (first_before x.0 rest less)
+      | inr later ↦ rise.0 m later
+    ],
+    put_between inside listing own rise.1 (λ m has. lacks m (contains_tail x m listing has)),
+  )
+  | inr over ↦ rw over (rises_both (put_of inside) (x ∷ listing) (put_rises inside own) rise (λ a b put has.
+      let (rest, at) = put_path inside a put in
+      let here : member_cmp a x ≡ Less = rw at (first_after x.0 rest over (lacks x (contains_head x listing))) in
+      elim (contains_cases x b listing has) [ inl same ↦ subst (λ (y : Member). member_cmp a y ≡ Less) same here | inr later ↦ member_total.trans a x b here (rise.0 b later) ]))
+]
 
 module _ (file : List ℕ) (meta : Meta) where
   abbrev pub with_elements : List ℕ → List (ℕ × List LeafElement)
   with_elements found = map (λ (n : ℕ). (n, leaves_of (page_at file meta n))) found
-
-  pub one_joined : (a b : List Member) → IsJoined file meta a → IsJoined file meta b → a ≡ b
-  one_joined a b h k =
-      h.joined
-      ∙ ap (λ (ms : List Member). joined_listing ms (with_elements h.found)) (one_recovered file meta h.recovered k.recovered h.recovers k.recovers)
-      ∙ ap (λ (found : List ℕ). joined_listing k.recovered (with_elements found)) (one_found file meta h.found k.found h.are_found k.are_found)
-      ∙ sym k.joined
-
-  pub has_joined : (listing : List Member) × IsJoined file meta listing
-  has_joined =
-      let (recovered, back) = has_recovered file meta in
-      let (found, are) = has_found file meta in
-      (joined_listing recovered (with_elements found), record { recovered = recovered; recovers = back; found = found; are_found = are; joined = refl })
 
   pub tree_recovered : (recovered : List Member) → IsRecovered file meta recovered → (tree : Tree) × (recovered ≡ listing_of tree)
   tree_recovered recovered is =
@@ -111,15 +104,51 @@ module _ (file : List ℕ) (meta : Meta) where
       let (tree, same) = run_tree file meta further [] visits members run in
       (tree, one_recovered file meta recovered members is (recovers file meta visits members run) ∙ same)
 
+  pub put_recovered : (found : List (ℕ × List LeafElement)) (recovered : List Member) → IsRecovered file meta recovered
+      → put_members (put_of (found_tree found)) recovered ≡ listing_of (put_bucket lost_and_found (found_tree found) (tree_of recovered))
+  put_recovered found recovered is =
+      let (tree, of) = tree_recovered recovered is in
+      ap (put_members (put_of (found_tree found))) of
+      ∙ put_tree (found_tree found) tree
+      ∙ ap (λ (t : Tree). listing_of (put_bucket lost_and_found (found_tree found) t)) (sym (ap tree_of of ∙ tree_back tree))
+
+  pub joined_keeps : (recovered : List Member) (found : List (ℕ × List LeafElement)) → IsRecovered file meta recovered → LacksBucketKey recovered → filter stays (joined_listing recovered found) ≡ recovered
+  joined_keeps recovered [] is lacks = filter_all stays recovered lacks
+  joined_keeps recovered (page ∷ found) is lacks =
+      let inside = found_tree (page ∷ found) in
+      ap (filter stays) (sym (put_recovered (page ∷ found) recovered is)) ∙ put_goes (put_of inside) recovered (λ m has. let (rest, at) = put_path inside m has in rw at refl) lacks
+
+  pub joined_between : (recovered : List Member) (page : ℕ × List LeafElement) (found : List (ℕ × List LeafElement)) → IsRecovered file meta recovered → LacksBucketKey recovered
+      → Ordered (found_tree (page ∷ found)) → Rises member_cmp (joined_listing recovered (page ∷ found))
+  joined_between recovered page found is lacks own =
+      subst (Rises member_cmp) (put_recovered (page ∷ found) recovered is) (put_between (found_tree (page ∷ found)) recovered own is.rises lacks)
+
+  -- it is that of the file's one recovered listing and one list of found pages
+  pub joined_of : (listing recovered : List Member) (found : List ℕ) → IsJoined file meta listing → IsRecovered file meta recovered → AreFound file meta found
+      → listing ≡ joined_listing recovered (with_elements found)
+  joined_of listing recovered found is back are =
+      is.joined
+      ∙ ap (λ (ms : List Member). joined_listing ms (with_elements is.found)) (one_recovered file meta is.recovered recovered is.recovers back)
+      ∙ ap (λ (ns : List ℕ). joined_listing recovered (with_elements ns)) (one_found file meta is.found found is.are_found are)
+
+  pub one_joined : (a b : List Member) → IsJoined file meta a → IsJoined file meta b → a ≡ b
+  one_joined a b h k = joined_of a k.recovered k.found h k.recovers k.are_found ∙ sym k.joined
+
+  pub has_joined : (listing : List Member) × IsJoined file meta listing
+  has_joined =
+      let (recovered, back) = has_recovered file meta in
+      let (found, are) = has_found file meta in
+      (joined_listing recovered (with_elements found), record { recovered = recovered; recovers = back; found = found; are_found = are; joined = refl })
+
+  joined_tree : (recovered : List Member) (found : List (ℕ × List LeafElement)) → (tree : Tree) × (recovered ≡ listing_of tree) → (tree : Tree) × (joined_listing recovered found ≡ listing_of tree)
+  joined_tree recovered [] of = of
+  joined_tree recovered (page ∷ found) of = (put_bucket lost_and_found (found_tree (page ∷ found)) (tree_of recovered), refl)
+
   pub joined_of_tree : (listing : List Member) → IsJoined file meta listing → (tree : Tree) × (listing ≡ listing_of tree)
   joined_of_tree listing is =
       let (tree, of) = joined_tree is.recovered (with_elements is.found) (tree_recovered is.recovered is.recovers) in
       (tree, is.joined ∙ of)
 
-  pub joined_recovered : (listing recovered : List Member) → IsJoined file meta listing → IsRecovered file meta recovered
-      → ((m : Member) → Contains recovered m → stays m ≡ true) → filter stays listing ≡ recovered
-  joined_recovered listing recovered is back all =
-      let same = one_recovered file meta is.recovered recovered is.recovers back in
-      ap (filter stays) is.joined
-      ∙ ap (λ (ms : List Member). filter stays (joined_listing ms (with_elements is.found))) same
-      ∙ joined_keeps recovered (with_elements is.found) (tree_recovered recovered back) all
+  pub joined_recovered : (listing recovered : List Member) → IsJoined file meta listing → IsRecovered file meta recovered → LacksBucketKey recovered → filter stays listing ≡ recovered
+  joined_recovered listing recovered is back lacks =
+      ap (filter stays) (joined_of listing recovered is.found is back is.are_found) ∙ joined_keeps recovered (with_elements is.found) back lacks

@@ -1,89 +1,41 @@
 -- A joined listing is in the order of paths.
-use Rattle.std.proofs.Common.{◌≡◌, ◌≢◌, ◌∙◌, inl, inr, ℕ, zero, suc, ◌<◌, ◌+◌, ◌*◌, ◌^◌, true, false, List, [], ◌∷◌, ◌++◌, Option, Some, None, length, map, refl, sym, ap, subst, arith}
-use Rattle.std.proofs.Math.Nat.{lt_of_mul-lt-mul_right}
-use Rattle.std.specs.List.{Contains}
-use Rattle.std.proofs.lemmas.List.Elements.{Contains-push_cases}
-use Rattle.bolt_format.specs.Elements.{LeafElement}
-use Rattle.bolt_format.specs.Pages.{page_at}
-use Rattle.bolt_format.specs.declared.meta.Meta.{Meta}
-use Rattle.bolt_check.specs.Findings.{finding_of, keys_of, node_finding}
-use Rattle.bolt_check.specs.Keys.{Key, KeysRise, key_lt, keys_order_fault}
-use Rattle.bolt_check.specs.Ways.{root_spot}
-use Rattle.bolt_check.proofs.KeyOrder.{key_rise}
-use Rattle.bolt_check.specs.LoneLeaves.{IsLoneLeaf}
-use Rattle.bolt_check.specs.Nodes.{Entry, Node, leaf_entry, node_at}
-use Rattle.bolt_check.proofs.MarkLemmas.{node_within}
-use Rattle.bolt_tree.specs.Listing.{Member, member_cmp}
-use Rattle.bolt_tree.specs.Order.{Rises}
-use Rattle.bolt_tree.specs.Tree.{Tree, listing_of, tree_of}
-use Rattle.bolt_tree.proofs.Lists.{contains_cases, contains_head, contains_none, contains_tail}
-use Rattle.bolt_tree.proofs.ReadBack.{tree_back}
-use Rattle.bolt_recover.specs.Found.{AreFound, FoundBelow}
-use Rattle.bolt_recover.specs.Joined.{IsJoined, LacksBucketKey, found_tree, inside_of, joined_listing, lost_and_found, put_bucket, tree_with}
-use Rattle.bolt_recover.specs.PageKeys.{page_key}
-use Rattle.bolt_recover.specs.Places.{leaves_of}
-use Rattle.bolt_recover.specs.Recovered.{IsRecovered}
-use Rattle.bolt_recover.specs.KeptPages.{IsKeptPage}
+use Rattle.std.proofs.Common.{◌≡◌, ◌≢◌, ◌∙◌, inl, inr, ℕ, zero, suc, ◌<◌, ◌+◌, ◌*◌, ◌^◌, true, false, List, [], ◌∷◌, Option, Some, None, length, map, refl, sym, ap, subst, arith}
+use Rattle.bolt_recover.proofs.Words.{AreFound, contains_from_has, Each, Entry, finding_of, found_tree, FoundBelow, inside_of, IsJoined, IsKeptPage, IsLoneLeaf, IsRecovered, joined_listing, Key, key_lt, key_rise, keys_of, keys_order_fault, KeysRise, leaf_entry, LeafElement, leaves_of, LeavesRoom, lt_of_mul-lt-mul_right, map_has, Member, member_cmp, Meta, Node, node_at, node_finding, node_within, page_at, page_key, Rises, rises_append, rises_map, RisesBy, root_spot, tree_with}
+use Rattle.bolt_tree.proofs.ListLemmas.{Has as Among}
 use Rattle.bolt_recover.proofs.FoundAll.{lost_or_none}
 use Rattle.bolt_recover.proofs.FoundLemmas.{found_here}
-use Rattle.bolt_recover.proofs.PlaceKeys.{HasForm, page_form}
-use Rattle.bolt_recover.proofs.JoinedLemmas.{tree_recovered, with_elements}
+use Rattle.bolt_recover.proofs.PlaceSteps.{HasForm, page_form}
+use Rattle.bolt_recover.proofs.JoinedLemmas.{joined_between, with_elements}
 use Rattle.bolt_recover.proofs.PageNames.{digits_rise}
-use Rattle.bolt_recover.proofs.TreeOrder.{HasKey, Ordered, elements_ordered, inside_ordered, key_listed, ordered_rises, put_ordered, rises_ordered}
-
-lacks_key : (tree : Tree) → LacksBucketKey (listing_of tree) → HasKey tree lost_and_found → ⊥
-lacks_key tree lacks has = let (item, there) = key_listed tree [] lost_and_found has in let f : false ≡ true = lacks (lost_and_found ∷ [], item) there in cc
+use Rattle.bolt_recover.proofs.TreeOrder.{HasKey, Ordered, elements_ordered, inside_ordered}
 
 -- found pages with rising numbers
-abbrev NumbersRise : List (ℕ × List LeafElement) → Type 0
-NumbersRise [] = Unit {0}
-NumbersRise ((n, elements) ∷ pages) = ((m : ℕ) (own : List LeafElement) → Contains pages (m, own) → n < m) × NumbersRise pages
+abbrev Page : Type 0
+Page = ℕ × List LeafElement
 
-has_page : (pages : List (ℕ × List LeafElement)) (k : Key) → HasKey (found_tree pages) k → (n : ℕ) × (own : List LeafElement) × (Contains pages (n, own) × (page_key n ≡ k))
+has_page : (pages : List Page) (k : Key) → HasKey (found_tree pages) k → (p : Page) × Among pages p × (page_key p.0 ≡ k)
 has_page [] k has = absurd has
-has_page ((n, elements) ∷ pages) k (inl same) = (n, elements, (contains_head (n, elements) pages, same))
-has_page ((n, elements) ∷ pages) k (inr later) = let (m, own, (there, is)) = has_page pages k later in (m, own, (contains_tail (n, elements) (m, own) pages there, is))
+has_page (p ∷ pages) k (inl same) = (p, inl refl, same)
+has_page (p ∷ pages) k (inr later) = let (q, there, is) = has_page pages k later in (q, inr there, is)
 
-pages_ordered : (pages : List (ℕ × List LeafElement)) → NumbersRise pages → ((n : ℕ) (own : List LeafElement) → Contains pages (n, own) → (n < 10 ^ 16) × Ordered (tree_with inside_of own)) → Ordered (found_tree pages)
+pages_ordered : (pages : List Page) → RisesBy (λ p q. p.0 < q.0) pages → Each (λ p. (p.0 < 10 ^ 16) × Ordered (tree_with inside_of p.1)) pages → Ordered (found_tree pages)
 pages_ordered [] rise good = tt
-pages_ordered ((n, elements) ∷ pages) (first, rise) good = (
-  λ k has. let (m, own, (there, is)) = has_page pages k has in
-      subst (λ (j : Key). key_lt (page_key n) j ≡ true) is (rw (digits_rise 16 n m (first m own there) (good m own (contains_tail (n, elements) (m, own) pages there)).0) refl),
-  (good n elements (contains_head (n, elements) pages)).1,
-  pages_ordered pages rise (λ m own there. good m own (contains_tail (n, elements) (m, own) pages there)),
-)
-
--- the numbers of found pages rise
-abbrev IsRising : List ℕ → Type 0
-IsRising [] = Unit {0}
-IsRising (n ∷ numbers) = ((m : ℕ) → Contains numbers m → n < m) × IsRising numbers
-
-rising_push : (numbers : List ℕ) (n : ℕ) → IsRising numbers → ((m : ℕ) → Contains numbers m → m < n) → IsRising (numbers ++ n ∷ [])
-rising_push [] n rise below = (λ m has. absurd (contains_none m has), tt)
-rising_push (x ∷ numbers) n (first, rise) below = (
-  λ m has. elim (Contains-push_cases numbers n m has) [ inl old ↦ first m old | inr same ↦ subst (λ (k : ℕ). x < k) same (below x (contains_head x numbers)) ],
-  rising_push numbers n rise (λ m has. below m (contains_tail x m numbers has)),
+pages_ordered (p ∷ pages) (first, rise) good = (
+  λ k has. let (q, there, is) = has_page pages k has in
+      subst (λ (j : Key). key_lt (page_key p.0) j ≡ true) is (rw (digits_rise 16 p.0 q.0 (first q there) (good q (inr there)).0) refl),
+  (good p (inl refl)).1,
+  pages_ordered pages rise (λ q there. good q (inr there)),
 )
 
 module _ (file : List ℕ) (meta : Meta) where
-  found_rise : (kept : ℕ → Type 0) (mark : ℕ) (found : List ℕ) → FoundBelow file meta kept mark found → IsRising found
-  found_rise kept zero found none = subst IsRising (sym none) tt
+  found_rise : (kept : ℕ → Type 0) (mark : ℕ) (found : List ℕ) → FoundBelow file meta kept mark found → RisesBy (λ n m. n < m) found
+  found_rise kept zero found none = subst (RisesBy (λ n m. n < m)) (sym none) tt
   found_rise kept (suc mark) found (before, below, inl (next, is)) =
-      subst IsRising (sym is) (rising_push before mark (found_rise kept mark before below) (λ m has. (found_here file meta kept mark before m below has).below))
-  found_rise kept (suc mark) found (before, below, inr (none, is)) = subst IsRising (sym is) (found_rise kept mark before below)
-
-  with_has : (numbers : List ℕ) (n : ℕ) (own : List LeafElement) → Contains (with_elements file meta numbers) (n, own) → Contains numbers n × (own ≡ leaves_of (page_at file meta n))
-  with_has [] n own has = absurd (contains_none (n, own) has)
-  with_has (x ∷ numbers) n own has = elim (contains_cases (x, leaves_of (page_at file meta x)) (n, own) (with_elements file meta numbers) has) [
-    | inl same ↦
-        let one : x ≡ n = ap (λ (p : ℕ × List LeafElement). p.0) same in
-        (subst (λ (k : ℕ). Contains (x ∷ numbers) k) one (contains_head x numbers), sym (ap (λ (p : ℕ × List LeafElement). p.1) same) ∙ ap (λ (k : ℕ). leaves_of (page_at file meta k)) one)
-    | inr later ↦ let (there, is) = with_has numbers n own later in (contains_tail x n numbers there, is)
-  ]
-
-  numbers_rise : (numbers : List ℕ) → IsRising numbers → NumbersRise (with_elements file meta numbers)
-  numbers_rise [] rise = tt
-  numbers_rise (n ∷ numbers) (first, rise) = (λ m own has. first m (with_has numbers m own has).0, numbers_rise numbers rise)
+      subst (RisesBy (λ n m. n < m)) (sym is) (rises_append (λ n m. n < m) before (mark ∷ []) (found_rise kept mark before below) (λ m none. absurd none, tt) (λ n m there last. elim last [
+        | inl same ↦ subst (λ (k : ℕ). n < k) same (found_here file meta kept mark before n below (contains_from_has before n there)).below
+        | inr none ↦ absurd none
+      ]))
+  found_rise kept (suc mark) found (before, below, inr (none, is)) = subst (RisesBy (λ n m. n < m)) (sym is) (found_rise kept mark before below)
 
   -- the keys of an intact leaf rise
   no_fault : (fault : Option ℕ) (n : ℕ) → finding_of fault n ≡ None → fault ≡ None
@@ -120,27 +72,19 @@ module _ (file : List ℕ) (meta : Meta) where
     | inr (way, x, gone) ↦
         let below = are.some way x gone in
         let kept = IsKeptPage file meta are.survey in
-        pages_ordered (with_elements file meta found) (numbers_rise found (found_rise kept meta.high_water found below)) (λ n own has.
-        let (there, is) = with_has found n own has in
-        let here = found_here file meta kept meta.high_water found n below there in
-        (number_small kept n small here.leaf, subst (λ (es : List LeafElement). Ordered (tree_with inside_of es)) (sym is) (leaf_ordered kept n here.leaf)))
+        let pages : ℕ → Page = λ n. (n, leaves_of (page_at file meta n)) in
+        pages_ordered (with_elements file meta found) (rises_map (λ p q. p.0 < q.0) pages found (found_rise kept meta.high_water found below)) (λ p has.
+        let (n, there, is) = map_has pages found p has in
+        let here = found_here file meta kept meta.high_water found n below (contains_from_has found n there) in
+        subst (λ (q : Page). (q.0 < 10 ^ 16) × Ordered (tree_with inside_of q.1)) is (number_small kept n small here.leaf, leaf_ordered kept n here.leaf))
   ]
 
-  abbrev LeavesRoom : Type 0
-  LeavesRoom = (recovered : List Member) (found : List ℕ) → IsRecovered file meta recovered → AreFound file meta found → found ≢ [] → LacksBucketKey recovered
-
-  rises_with : (recovered : List Member) (found : List ℕ) → IsRecovered file meta recovered → AreFound file meta found → length file < 10 ^ 16 * meta.page_size → LeavesRoom
+  rises_with : (recovered : List Member) (found : List ℕ) → IsRecovered file meta recovered → AreFound file meta found → length file < 10 ^ 16 * meta.page_size → LeavesRoom file meta
       → Rises member_cmp (joined_listing recovered (with_elements file meta found))
   rises_with recovered [] is are small room = is.rises
   rises_with recovered (n ∷ found) is are small room =
       let some : (n ∷ found) ≢ [] = λ e. cc in
-      let (tree, of) = tree_recovered file meta recovered is in
-      let same : tree_of recovered ≡ tree = ap tree_of of ∙ tree_back tree in
-      let inside = found_tree (with_elements file meta (n ∷ found)) in
-      subst (λ (t : Tree). Rises member_cmp (listing_of (put_bucket lost_and_found inside t))) (sym same)
-      (ordered_rises (put_bucket lost_and_found inside tree) []
-      (put_ordered lost_and_found inside tree (found_ordered (n ∷ found) are small) (rises_ordered tree [] (subst (Rises member_cmp) of is.rises))
-      (lacks_key tree (subst LacksBucketKey of (room recovered (n ∷ found) is are some)))))
+      joined_between file meta recovered _ (with_elements file meta found) is (room recovered (n ∷ found) is are some) (found_ordered (n ∷ found) are small)
 
-  pub joined_rises : (listing : List Member) → IsJoined file meta listing → length file < 10 ^ 16 * meta.page_size → LeavesRoom → Rises member_cmp listing
+  pub joined_rises : (listing : List Member) → IsJoined file meta listing → length file < 10 ^ 16 * meta.page_size → LeavesRoom file meta → Rises member_cmp listing
   joined_rises listing is small room = subst (Rises member_cmp) (sym is.joined) (rises_with is.recovered is.found is.recovers is.are_found small room)

@@ -1,26 +1,11 @@
 -- Where an element of an open page leads, as a place.
 use Rattle.std.proofs.Common.{◌≡◌, ◌∙◌, ℕ, ◌<◌, Bool, true, false, List, Option, Some, None, Ok, IfSome, length, slice_get, refl, sym, ap, arith, inl, inr}
-use Rattle.std.specs.Option.{option_map}
-use Rattle.std.proofs.lemmas.Option.{slice_get_cases}
-use Rattle.bolt_format.specs.Elements.{LeafElement}
-use Rattle.bolt_format.specs.Shown.{shown}
-use Rattle.bolt_format.specs.declared.meta.Meta.{Meta}
+use Rattle.bolt_recover.proofs.Words.{At_inline, content_place, Entry, Key, LeafElement, length-leaf, Meta, node_at, option_map, Page, page_spot, PageSpot, Path, place_on, shown, shown_node, slice_get_cases, spot_at, spot_place, step_entry, step_on, step_path, step_place, tree_kind, TreePage}
 use Rattle.bolt_format.proofs.PageLaws.{length-shown_leaves}
-use Rattle.bolt_check.specs.Keys.{Key}
-use Rattle.bolt_check.specs.Nodes.{Entry, node_at}
-use Rattle.bolt_check.specs.ShownNodes.{shown_node}
-use Rattle.bolt_check.specs.ShownSpots.{IsInner, page_spot, spot_at}
-use Rattle.bolt_check.specs.TreeKinds.{tree_kind}
-use Rattle.bolt_check.specs.Ways.{At_inline, PageSpot, step_entry, step_on}
+use Rattle.bolt_check.specs.ShownSpots.{IsInner}
 use Rattle.bolt_check.specs.declared.spot.PageSpot.{PageSpot as CodePageSpot}
 use Rattle.bolt_check.specs.declared.spot.Spot.{Spot}
 use Rattle.bolt_check.specs.declared.spot.Spot.TheVariants as spots
-use Rattle.bolt_check.specs.declared.tree_page.TreePage.{TreePage}
-use Rattle.bolt_check.proofs.NodeLemmas.{length-leaf}
-use Rattle.bolt_tree.specs.Paths.{Path}
-use Rattle.bolt_recover.specs.Places.{place_on, step_place}
-use Rattle.bolt_recover.specs.Private.Frames.{content_place, step_path, spot_place}
-use Rattle.bolt_recover.specs.declared.content.Content.TheVariants.{Page}
 
 -- only an element of a leaf leads to an inline bucket
 from_leaf : (is_leaf : Bool) (s : PageSpot) (e next : Option Entry) (host : ℕ) (keys : List Key) → Some (At_inline host keys) ≡ step_entry is_leaf s e next → is_leaf ≡ true

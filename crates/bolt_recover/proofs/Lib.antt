@@ -1,5 +1,5 @@
-mod ElementLists
 mod ContentLemmas
+mod Deciding
 pub mod Existing
 mod FirstLoss
 mod FoundAll
@@ -10,21 +10,20 @@ mod JoinSteps
 pub mod JoinedContents
 mod JoinedLemmas
 mod JoinedOrder
+mod KeptWays
 mod Leading
 pub mod LeftMembers
 mod LostWays
-mod NoLeaves
 mod NothingLost
-mod OneRecovered
 pub mod PageNames
 mod PlaceFacts
 mod PlaceKeys
+mod PlaceSteps
 mod Recovering
 mod RunExists
 mod RunForgets
 mod RunOrder
 mod RunPaths
-mod RunRecovers
 mod RunSteps
 mod RunSurveys
 mod RunTrees
@@ -34,4 +33,6 @@ mod SoundSurveys
 mod SoundWalks
 mod StepLemmas
 mod SurveyIsOne
+mod TaskLists
 mod TreeOrder
+mod Words

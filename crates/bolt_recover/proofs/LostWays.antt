@@ -1,13 +1,6 @@
 -- Each lost way has one loss, and each loss is that of a lost way.
 use Rattle.std.proofs.Common.{◌≡◌, ◌∙◌, ◌⊎◌, ℕ, inl, inr, List, [], ◌∷◌, ◌++◌, length, Option, Some, None, cond, is_some, refl, sym, ap, subst, arith, length-append}
-use Rattle.std.specs.List.{Contains, count_by}
-use Rattle.std.proofs.lemmas.List.Sums.{sum_by-cons}
-use Rattle.bolt_format.specs.declared.meta.Meta.{Meta}
-use Rattle.bolt_check.specs.declared.finding.Finding.{Finding}
-use Rattle.bolt_tree.proofs.Lists.{contains_cases, contains_head, contains_none, contains_tail}
-use Rattle.bolt_recover.specs.Losses.{LossView, loss_at, loss_of, losses_of}
-use Rattle.bolt_recover.specs.Places.{Place, place_at}
-use Rattle.bolt_recover.specs.Surveys.{Has, IsSurvey, Visit, lost}
+use Rattle.bolt_recover.proofs.Words.{Contains, Contains-append_right, contains_cases, contains_head, contains_none, count_by, Finding, Has, IsSurvey, LosesNothing, loss_at, loss_of, losses_of, LossView, lost, Meta, Place, place_at, sum_by-cons, Visit}
 use Rattle.bolt_recover.proofs.PlaceFacts.{place_is}
 
 length_at : (o : Option Place) (p : Place) (f : Option Finding) → o ≡ Some p → length (loss_at o f) ≡ cond (is_some f) 1 0
@@ -16,11 +9,6 @@ length_at o p (Some x) e = rw e refl
 
 at_front : (o : Option Place) (f : Option Finding) (p : Place) (x : Finding) (rest : List LossView) → o ≡ Some p → f ≡ Some x → Contains (loss_at o f ++ rest) (loss_of p x)
 at_front o f p x rest e g = rw (e, g) (contains_head (loss_of p x) rest)
-
-at_back : (o : Option Place) (f : Option Finding) (rest : List LossView) (l : LossView) → Contains rest l → Contains (loss_at o f ++ rest) l
-at_back None f rest l has = has
-at_back (Some p) None rest l has = has
-at_back (Some p) (Some x) rest l has = contains_tail (loss_of p x) l rest has
 
 which : (o : Option Place) (f : Option Finding) (rest : List LossView) (l : LossView) → Contains (loss_at o f ++ rest) l
     → ((p : Place) × (x : Finding) × (o ≡ Some p) × (f ≡ Some x) × (l ≡ loss_of p x)) ⊎ Contains rest l
@@ -56,7 +44,7 @@ module _ (file : List ℕ) (meta : Meta) where
       at_front (place_at file meta v.way) v.found p x (losses_of file meta survey)
       (ap (λ (u : Visit). place_at file meta u.way) (sym same) ∙ at) (ap (λ (u : Visit). u.found) (sym same))
   loss_there (v ∷ survey) way x p (inr later) at =
-      at_back (place_at file meta v.way) v.found (losses_of file meta survey) (loss_of p x) (loss_there survey way x p later at)
+      Contains-append_right (loss_at (place_at file meta v.way) v.found) (losses_of file meta survey) (loss_of p x) (loss_there survey way x p later at)
 
   pub way_there : (survey : List Visit) (l : LossView) → Contains (losses_of file meta survey) l
       → (way : List ℕ) × (x : Finding) × (p : Place) × Has survey (lost way x) × (place_at file meta way ≡ Some p) × (l ≡ loss_of p x)
@@ -74,7 +62,7 @@ module _ (file : List ℕ) (meta : Meta) where
       let (p, at) = place_of survey is (lost way x) has in
       absurd (contains_none (loss_of p x) (subst (λ (ls : List LossView). Contains ls (loss_of p x)) none (loss_there survey way x p has at)))
 
-  pub nothing_lost : (survey : List Visit) → IsSurvey file meta survey → losses_of file meta survey ≡ [] → (v : Visit) → Has survey v → v.found ≡ None
+  pub nothing_lost : (survey : List Visit) → IsSurvey file meta survey → losses_of file meta survey ≡ [] → LosesNothing survey
   nothing_lost survey is none v has = found_none survey is none v.way v.found has
 
   -- and if nothing is lost, there is no loss
@@ -82,7 +70,7 @@ module _ (file : List ℕ) (meta : Meta) where
   loss_none None f e = refl
   loss_none (Some p) f e = rw e refl
 
-  pub no_losses : (survey : List Visit) → ((v : Visit) → Has survey v → v.found ≡ None) → losses_of file meta survey ≡ []
+  pub no_losses : (survey : List Visit) → LosesNothing survey → losses_of file meta survey ≡ []
   no_losses [] none = refl
   no_losses (v ∷ survey) none =
       ap (λ (ls : List LossView). ls ++ losses_of file meta survey) (loss_none (place_at file meta v.way) v.found (none v (inl refl)))

@@ -1,14 +1,6 @@
 -- The names of found pages rise with their numbers.
 use Rattle.std.proofs.Common.{◌≡◌, ◌∙◌, inl, inr, ℕ, zero, suc, ◌<◌, ◌+◌, ◌/◌, ◌%◌, ◌^◌, [], ◌∷◌, ◌++◌, length, refl, sym, arith}
-use Rattle.std.specs.Cmp.{nat_cmp_is}
-use Rattle.std.specs.Ordering.{nat_cmp, ordering_then}
-use Rattle.std.specs.declared.cmp.Ordering.{Ordering}
-use Rattle.std.specs.declared.cmp.Ordering.TheVariants.{Less, Equal, Greater}
-use Rattle.std.proofs.lemmas.Bool.{cases_lt}
-use Rattle.std.proofs.lemmas.Cmp.{nat_cmp_total, tied_itself}
-use Rattle.std.proofs.lemmas.List.{length-append}
-use Rattle.bolt_check.specs.Keys.{Key, key_cmp}
-use Rattle.bolt_recover.specs.PageKeys.{last_digits}
+use Rattle.bolt_recover.proofs.Words.{cases_lt, Equal, Greater, Key, key_cmp, last_digits, length-append, Less, nat_cmp, nat_cmp_is, nat_cmp_total, Ordering, ordering_then, tied_itself}
 
 then_less : (o r : Ordering) (after : Ordering) → ordering_then o r ≡ Less → (r ≡ Less → after ≡ Less) → ordering_then o after ≡ Less
 then_less Less r after less further = refl

@@ -1,19 +1,7 @@
 -- Places along ways: the spot there, the next one, and the elements.
-use Rattle.std.proofs.Common.{◌≡◌, ◌∙◌, ℕ, suc, ◌<◌, ◌≤◌, Bool, List, [], ◌∷◌, ◌++◌, length, map, Option, Some, None, Result, Ok, Err, slice_get, refl, sym, ap, subst, arith}
-use Rattle.std.specs.Option.{option_map}
-use Rattle.std.proofs.lemmas.List.{length-map}
-use Rattle.std.proofs.lemmas.Option.{slice_get_within, same_Some}
-use Rattle.bolt_format.specs.Elements.{LeafElement}
-use Rattle.bolt_format.specs.Headers.{count_field, flags_field, kind_of}
-use Rattle.bolt_format.specs.Pages.{from_page, page_at, page_fault, page_overflow, shown_as, span_bytes}
-use Rattle.bolt_format.specs.declared.kind.Kind.{Kind}
-use Rattle.bolt_format.specs.declared.kind.Kind.TheVariants as kind
-use Rattle.bolt_format.specs.declared.meta.Meta.{Meta}
-use Rattle.bolt_check.specs.Nodes.{Entry, Node, Nodes, leaf_entry, node_at, node_seen}
-use Rattle.bolt_check.specs.Ways.{At_inline, At_page, PageSpot, Spot, follow, reached, step, step_at, step_entry, step_from}
-use Rattle.bolt_tree.specs.Paths.{Path}
-use Rattle.bolt_recover.specs.Places.{Place, elements_at, follow_places, leaves_of, next_place, place_at, place_on, root_place, step_place}
-use Rattle.bolt_recover.specs.Private.Runs.{entry_count, place_size}
+use Rattle.std.proofs.Common.{◌≡◌, ◌∙◌, inl, inr, ℕ, suc, ◌<◌, ◌≤◌, Bool, List, [], ◌∷◌, ◌++◌, length, Option, Some, None, Result, Ok, Err, slice_get, refl, sym, ap, subst, arith}
+use Rattle.bolt_recover.proofs.Words.{At_inline, At_page, Contains, elements_at, Entry, entry_count, follow, follow_places, has_at, has_from_contains, leaf_entry, LeafElement, leaves_of, length-map, Meta, next_place, Node, node_at, Nodes, option_map, page_at, PageSpot, Path, Place, place_at, place_on, place_size, reached, root_place, same_Some, slice_get_within, Spot, step, step_at, step_entry, step_from, step_place}
+use Rattle.bolt_recover.proofs.PlaceSteps.{page_form}
 
 abbrev spot_in : Option Place → Option Spot
 spot_in o = option_map (λ (p : Place). p.spot) o
@@ -77,22 +65,11 @@ elements_is file meta way p is =
     elements_follow file meta (Some (root_place file meta)) way p (λ q here. subst (HasElements file meta) (same_Some (root_place file meta) q here) ([], refl)) is
 
 -- a page that is a node shows no more leaf elements than it has entries
-by_kind : (fault : Option ℕ) (k : Option Kind) (count overflow : ℕ) (bytes : List ℕ) (other : Option ℕ) (node : Node)
-    → node_seen (shown_as fault k count overflow bytes) other ≡ Ok node → length (leaves_of (shown_as fault k count overflow bytes)) ≤ length node.entries
-by_kind (Some fault) k count overflow bytes other node is = omega arith
-by_kind None None count overflow bytes other node is = omega arith
-by_kind None (Some kind.Branch) count overflow bytes other node is = omega arith
-by_kind None (Some kind.Leaf) count overflow bytes other node is =
-    let leaves = leaves_of (shown_as None (Some kind.Leaf) count overflow bytes) in
-    let entries : node.entries ≡ map leaf_entry leaves = (let same = sym is in cc) in
-    let long = ap length entries ∙ length-map leaves leaf_entry in omega (arith, long)
-by_kind None (Some kind.Meta) count overflow bytes other node is = omega arith
-by_kind None (Some kind.Freelist) count overflow bytes other node is = omega arith
-
 page_leaves : (file : List ℕ) (meta : Meta) (n : ℕ) (node : Node) → node_at file meta n ≡ Ok node → length (leaves_of (page_at file meta n)) ≤ length node.entries
-unfolding node_at page_at
-page_leaves file meta n node is =
-    by_kind (page_fault file meta n) (kind_of (flags_field (from_page file meta n))) (count_field (from_page file meta n)) (page_overflow file meta n) (span_bytes file meta n) (page_fault file meta n) node is
+page_leaves file meta n node is = elim (page_form file meta n node is) [
+  | inl (leaf, entries) ↦ (let long = ap length entries ∙ length-map (leaves_of (page_at file meta n)) leaf_entry in omega (arith, long))
+  | inr (branch, none) ↦ (let short = ap length none in omega (arith, short))
+]
 
 pub size_enough : (file : List ℕ) (meta : Meta) (p : Place) (s : PageSpot) (node : Node) → HasElements file meta p → p.spot ≡ At_page s → node_at file meta s.number ≡ Ok node
     → length p.elements ≤ place_size (node_at file meta) p.spot p.elements
@@ -119,3 +96,7 @@ leads_within nodes (At_inline host keys) elements i t e = absurd (cc)
 -- a step to a place is a step of its spot
 pub step_spot : (file : List ℕ) (meta : Meta) (p t : Place) (i : ℕ) → step_place file meta p i ≡ Some t → step_from (node_at file meta) p.spot i ≡ Some t.spot
 step_spot file meta p t i e = sym (spot_on file meta p.path (slice_get p.elements i) (step_from (node_at file meta) p.spot i)) ∙ ap spot_in e
+
+-- where an element stands
+pub slice_of : (xs : List LeafElement) (e : LeafElement) → Contains xs e → (i : ℕ) × (i < length xs) × (slice_get xs i ≡ Some e)
+slice_of xs e has = let (i, get) = has_at xs e (has_from_contains xs e has) in (i, slice_get_within xs i e get, get)

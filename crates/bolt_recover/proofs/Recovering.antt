@@ -1,56 +1,18 @@
 -- A recovery between its calls: what of the recovered listing is left, and which losses are still to be reported.
-use Rattle.std.proofs.Common.{◌≡◌, ◌∙◌, ◌≤◌, ◌<◌, ◌^◌, inl, inr, ℕ, Bool, true, false, ◌||◌, ◌↔◌, List, [], ◌∷◌, ◌++◌, length, map, take, Option, Some, None, Result, Ok, Err, IfErr, IfOk, OnErr, cond, filter, if◌then◌else◌, refl, sym, ap, subst, subst₂, arith}
-use Rattle.std.proofs.Props.{props}
-use Rattle.std.specs.Cmp.{IsTotalOrder, both_ways}
-use Rattle.std.specs.List.{Contains}
-use Rattle.std.specs.Ordering.{is_lt}
-use Rattle.std.specs.declared.cmp.Ordering.{Ordering}
-use Rattle.std.specs.declared.cmp.Ordering.TheVariants.{Less}
-use Rattle.std.proofs.lemmas.Bool.{cases_Bool}
-use Rattle.std.proofs.lemmas.Cmp.{tied_itself}
-use Rattle.std.proofs.lemmas.List.{append-nil, take-append-le, take_all}
-use Rattle.bolt_format.specs.ElementPlaces.{leaf_view}
-use Rattle.bolt_format.specs.Elements.{LeafElement}
+use Rattle.std.proofs.Common.{◌≡◌, ◌∙◌, ◌≤◌, ◌<◌, ◌^◌, inl, inr, ℕ, Bool, true, false, ◌↔◌, List, [], ◌∷◌, ◌++◌, length, take, Option, Some, None, Result, Ok, Err, IfErr, IfOk, OnErr, filter, if◌then◌else◌, refl, sym, ap, subst, arith, append_assoc}
+use Rattle.bolt_recover.proofs.Words.{Accounts, Advances, after_visit, after_visits, ahead_tasks, All-contains, All-contains_itself, All-filter, append-nil, AreFirst, AreKeptPages, AreLosses, AreOpen, ArePageWays, cases_Bool, ComesTo, Contains, contains_cases, contains_head, Content, counted, Ends, filter_all, filter_first, filter_passes, filter_rises, flip_less, further, GivesHead, GoesOn, HasOpen, is_lt, is_over, IsAllLeft, IsGoodContent, IsGoodPage, IsKeptPage, IsLeft, IsOn, IsRecovered, IsRefusedRoot, IsSlotUnrecoverable, IsSurvey, IsUnrecoverable, item_of, Key, leaf_view, LeafElement, left_by, less_lt, losses_of, LossView, lost_at, lt_of, Member, member_cmp, member_total, Memory, Meta, NextVisit, node_at, Nodes, not_lt_of, NoWay, Open, open_tasks, OpenPage, Outcome, outcome_of, over_by, Page, page_ways, Path, path_cmp, path_total, props, reached, rest_after, Rises, Runs, RunsAll, State, stay, StaysOn, Structure, take-append-le, take_all, tally_of, Task, tied_itself, Visit, Visited, Way}
+use Rattle.bolt_tree.proofs.Filters.{kept as passing}
 use Rattle.bolt_format.specs.declared.element.Leaf.{Leaf}
-use Rattle.bolt_format.specs.declared.meta.Meta.{Meta}
-use Rattle.bolt_check.specs.Counts.{counted}
-use Rattle.bolt_check.specs.Keys.{Key}
-use Rattle.bolt_check.specs.Nodes.{node_at}
-use Rattle.bolt_check.specs.Ways.{reached}
 use Rattle.bolt_check.specs.declared.fault.CheckFault.{CheckFault}
-use Rattle.bolt_check.specs.declared.fault.CheckFault.TheVariants.{Accounts, Memory, Open, Structure}
 use Rattle.bolt_format.specs.Metas.{IsChosen, IsInSlot}
 use Rattle.bolt_format.specs.declared.meta.Slot.{Slot}
-use Rattle.bolt_tree.specs.Entries.{item_of}
-use Rattle.bolt_tree.specs.Listing.{Member, member_cmp}
-use Rattle.bolt_tree.specs.Order.{Rises}
-use Rattle.bolt_tree.specs.Paths.{Path, path_cmp}
-use Rattle.bolt_tree.specs.RestAfter.{rest_after}
-use Rattle.bolt_tree.proofs.Filters.{filter_all, filter_same, lt_of, not_lt_of}
-use Rattle.bolt_tree.proofs.Lists.{contains_head, contains_tail}
-use Rattle.bolt_tree.proofs.PathOrder.{flip_less, less_lt, path_total}
-use Rattle.bolt_tree.proofs.Single.{member_total}
-use Rattle.bolt_recover.specs.KeptPages.{AreKeptPages, IsKeptPage}
-use Rattle.bolt_recover.specs.Losses.{AreLosses, LossView, losses_of}
-use Rattle.bolt_recover.specs.PageWays.{ArePageWays, page_ways}
-use Rattle.bolt_recover.specs.Private.Frames.{Advances, AreOpen, ComesTo, Ends, GivesHead, GoesOn, HasOpen, IsGoodContent, IsGoodPage, IsOn, IsOutcome, NoWay, Outcome, State, StaysOn, ahead_tasks, is_over, left_by, open_tasks, outcome_of, over_by, stay}
-use Rattle.bolt_recover.specs.Private.Runs.{Runs, RunsAll, Task, Visited, losses_in, meta_pages, pages_visited, spans_in}
-use Rattle.bolt_recover.specs.Recovered.{IsRecovered}
-use Rattle.bolt_recover.specs.Recoveries.{AreFirst}
-use Rattle.bolt_recover.specs.Refusals.{IsRefusedRoot, IsSlotUnrecoverable, IsUnrecoverable}
-use Rattle.bolt_recover.specs.Surveys.{Visit}
-use Rattle.bolt_recover.specs.declared.content.Content.{Content}
-use Rattle.bolt_recover.specs.declared.content.Content.TheVariants.{Bucket, Page}
-use Rattle.bolt_recover.specs.declared.content.OpenPage.{OpenPage}
-use Rattle.bolt_recover.specs.declared.steps.NextVisit.{NextVisit}
-use Rattle.bolt_recover.proofs.OneRecovered.{one_recovered}
+use Rattle.bolt_recover.specs.declared.content.Content.TheVariants.{Bucket}
+use Rattle.bolt_recover.proofs.Existing.{one_recovered, recovers}
 use Rattle.bolt_recover.proofs.RunExists.{run_exists}
-use Rattle.bolt_recover.proofs.RunForgets.{blind_visit, forgotten, same_losses, same_pages, same_spans}
-use Rattle.bolt_recover.proofs.RunOrder.{further, visits_of}
-use Rattle.bolt_recover.proofs.RunRecovers.{recovers}
+use Rattle.bolt_recover.proofs.RunOrder.{visits_of}
 use Rattle.bolt_recover.proofs.RunSteps.{ends}
-use Rattle.bolt_recover.proofs.RunSurveys.{all_losses, all_pages, all_spans, surveyed}
-use Rattle.bolt_recover.proofs.SurveyIsOne.{one_survey}
+use Rattle.bolt_recover.proofs.RunSurveys.{all_claimed, surveyed, tally}
+use Rattle.bolt_recover.proofs.SurveyIsOne.{same_survey}
 
 -- that pages are open in good order is known or not, and no more
 content_prop : (file : List ℕ) (meta : Meta) (content : Content) (x y : IsGoodContent file meta content) → x ≡ y
@@ -67,73 +29,56 @@ open_prop file meta low (page ∷ pages) high = hlevel (props, good_prop file me
 pub has_open_prop : (s : State) (x y : HasOpen s) → x ≡ y
 has_open_prop s = hlevel (props, open_prop)
 
--- the recovered listing of a file and the outcome, and the run that comes to them
-pub record IsAll (file : List ℕ) (meta : Meta) (begun : ℕ) (listing : List Member) (outcome : Outcome) : Type 0 where
-  pub recovered : IsRecovered file meta listing
-  pub whole : IsOutcome file meta begun outcome
-  pub visits : List (Visited NoWay)
-  pub run : RunsAll file meta stay tt visits listing
-  pub all : outcome ≡ outcome_of (node_at file meta) begun visits
+-- all that comes of a file, if so many visits were made before
+pub record Whole (file : List ℕ) (meta : Meta) (begun : ℕ) : Type 0 where
+  pub survey : List Visit
+  pub surveys : IsSurvey file meta survey
+  pub members : List Member
+  pub recovered : IsRecovered file meta members
+  pub visits : List (Visited Way)
+  pub run : RunsAll file meta further [] visits members
+  pub losses : (outcome_of (node_at file meta) begun visits).losses ≡ losses_of file meta survey
+  pub pages : counted (outcome_of (node_at file meta) begun visits).visited 0 ≡ counted begun (page_ways (reached (node_at file meta) meta.root) survey)
+  pub claimed : (n : ℕ) → ((outcome_of (node_at file meta) begun visits).claimed n ≡ true) ↔ IsKeptPage file meta survey n
 
-pub all_of : (file : List ℕ) (meta : Meta) (begun : ℕ) → (listing : List Member) × (outcome : Outcome) × IsAll file meta begun listing outcome
-all_of file meta begun =
+pub whole : (file : List ℕ) (meta : Meta) (begun : ℕ) → Whole file meta begun
+whole file meta begun =
     let (visits, members, run) = run_exists file meta further [] in
-    let survey = surveyed file meta visits members run in (
-      members,
-      record { losses = losses_in visits; visited = counted begun (pages_visited visits); claimed = λ n. meta_pages n || spans_in (node_at file meta) visits n },
-      record {
-        recovered = recovers file meta visits members run;
-        whole = record {
-          losses = (visits_of visits, survey, all_losses file meta visits members run);
-          ways = pages_visited visits;
-          counts = (visits_of visits, survey, all_pages file meta visits members run);
-          visited = refl;
-          claimed = λ other is n.
-              subst (λ (sv : List Visit). ((meta_pages n || spans_in (node_at file meta) visits n) ≡ true) ↔ IsKeptPage file meta sv n)
-              (one_survey (node_at file meta) (reached (node_at file meta) meta.root) (visits_of visits) other survey is) (all_spans file meta visits members run n);
-        };
-        visits = map blind_visit visits;
-        run = forgotten file meta visits members run;
-        all = λ i. record {
-          losses = sym (same_losses visits) i;
-          visited = counted begun (sym (same_pages visits) i);
-          claimed = λ n. meta_pages n || sym (same_spans (node_at file meta) visits n) i;
-        };
-      },
-    )
+    let all = tally file meta visits members run begun in
+    record {
+      survey = visits_of visits;
+      surveys = surveyed file meta visits members run;
+      members = members;
+      recovered = recovers file meta visits members run;
+      visits = visits;
+      run = run;
+      losses = all.losses;
+      pages = all.pages;
+      claimed = all_claimed file meta visits members run begun;
+    }
 
 -- the pages that are claimed at the end
-abbrev pub all_claimed : List ℕ → Meta → ℕ → ℕ → Bool
-all_claimed file meta begun = (all_of file meta begun).1.claimed
+abbrev pub claimed_at_end : List ℕ → Meta → ℕ → ℕ → Bool
+claimed_at_end file meta begun = (outcome_of (node_at file meta) begun (whole file meta begun).visits).claimed
 
-pub claimed_all : (file : List ℕ) (meta : Meta) (begun : ℕ) → AreKeptPages file meta (all_claimed file meta begun)
-claimed_all file meta begun = (all_of file meta begun).2.whole.claimed
+pub claimed_all : (file : List ℕ) (meta : Meta) (begun : ℕ) → AreKeptPages file meta (claimed_at_end file meta begun)
+claimed_all file meta begun survey is n =
+    let all = whole file meta begun in
+    subst (λ (s : List Visit). (claimed_at_end file meta begun n ≡ true) ↔ IsKeptPage file meta s n) (same_survey file meta all.survey survey all.surveys is) (all.claimed n)
 
-one_losses : (file : List ℕ) (meta : Meta) (a b : List LossView) → AreLosses file meta a → AreLosses file meta b → a ≡ b
-one_losses file meta a b (s, is_s, of_s) (t, is_t, of_t) =
-    of_s ∙ ap (losses_of file meta) (one_survey (node_at file meta) (reached (node_at file meta) meta.root) s t is_s is_t) ∙ sym of_t
+pub one_losses : (file : List ℕ) (meta : Meta) (a b : List LossView) → AreLosses file meta a → AreLosses file meta b → a ≡ b
+one_losses file meta a b (s, is_s, of_s) (t, is_t, of_t) = of_s ∙ ap (losses_of file meta) (same_survey file meta s t is_s is_t) ∙ sym of_t
 
 pub one_number : (file : List ℕ) (meta : Meta) (a b : ℕ) → ArePageWays file meta a → ArePageWays file meta b → a ≡ b
-one_number file meta a b (s, is_s, of_s) (t, is_t, of_t) =
-    of_s ∙ ap (page_ways (reached (node_at file meta) meta.root)) (one_survey (node_at file meta) (reached (node_at file meta) meta.root) s t is_s is_t) ∙ sym of_t
+one_number file meta a b (s, is_s, of_s) (t, is_t, of_t) = of_s ∙ ap (page_ways (reached (node_at file meta) meta.root)) (same_survey file meta s t is_s is_t) ∙ sym of_t
 
-one_claimed : (file : List ℕ) (meta : Meta) (begun : ℕ) (a b : Outcome) → IsOutcome file meta begun a → IsOutcome file meta begun b → (n : ℕ) → a.claimed n ≡ b.claimed n
-one_claimed file meta begun a b h k n =
-    let (survey, is, of) = h.losses in
-    both_ways (a.claimed n) (b.claimed n) (λ was. (k.claimed survey is n).1 ((h.claimed survey is n).0 was)) (λ was. (h.claimed survey is n).1 ((k.claimed survey is n).0 was))
-
-one_outcome : (file : List ℕ) (meta : Meta) (begun : ℕ) (a b : Outcome) → IsOutcome file meta begun a → IsOutcome file meta begun b → a ≡ b
-one_outcome file meta begun a b h k =
-    let losses = one_losses file meta a.losses b.losses h.losses k.losses in
-    let visited = h.visited ∙ ap (counted begun) (one_number file meta h.ways k.ways h.counts k.counts) ∙ sym k.visited in
-    let claimed = one_claimed file meta begun a b h k in
-    λ i. record { losses = losses i; visited = visited i; claimed = λ n. claimed n i }
-
--- each recovered listing and outcome come of a run
-all_from : (file : List ℕ) (meta : Meta) (begun : ℕ) (listing : List Member) (outcome : Outcome) → IsRecovered file meta listing → IsOutcome file meta begun outcome → IsAll file meta begun listing outcome
-all_from file meta begun listing outcome recovered whole =
-    let (members, other, all) = all_of file meta begun in
-    subst₂ (IsAll file meta begun) (one_recovered file meta members listing all.recovered recovered) (one_outcome file meta begun other outcome all.whole whole) all
+-- visits add losses and are counted
+grows : {W : Type 0} (nodes : Nodes) (o : Outcome) (visits : List (Visited W))
+    → ((rest : List LossView) × ((after_visits nodes o visits).losses ≡ o.losses ++ rest)) × (o.visited < 2 ^ 64 → o.visited ≤ (after_visits nodes o visits).visited)
+grows nodes o [] = (([], sym (append-nil o.losses)), λ fits. omega arith)
+grows nodes o (v ∷ visits) =
+    let ((rest, same), up) = grows nodes (after_visit nodes o v) visits in
+    ((lost_at v.place v.found ++ rest, same ∙ append_assoc o.losses (lost_at v.place v.found) rest), λ fits. let more = up (omega (arith, fits)) in omega (arith, more, fits))
 
 -- all members come after the empty path
 behind_nothing : (path rest : Path) (key : Key) → is_lt (path_cmp [] (path ++ key ∷ rest)) ≡ true
@@ -157,54 +102,29 @@ pub left_all : (s : State) (file : List ℕ) (meta : Meta) (listing : List Membe
 left_all s file meta listing more path recovered =
     left_more s listing more ∙ ap (λ (p : Path). rest_after p listing) path ∙ behind_start file meta listing recovered
 
-pub begun : (s : State) (file : List ℕ) (meta : Meta) (before : ℕ) → s.file ≡ file → s.meta ≡ meta → HasOpen s → is_over s ≡ false → s.path ≡ []
-    → ((visits : List (Visited NoWay)) (members : List Member) → RunsAll file meta stay tt visits members → ComesTo s members (outcome_of (node_at file meta) before visits)) → IsOn s meta before
-begun s file meta before of_file of_meta placed more path comes = record {
+pub begun : (s : State) (file : List ℕ) (meta : Meta) (before : ℕ) → s.file ≡ file → s.meta ≡ meta → HasOpen s → is_over s ≡ false → s.path ≡ [] → IsAllLeft file meta before s → IsOn s meta before
+begun s file meta before of_file of_meta placed more path all = record {
   meta = of_meta;
   placed = placed;
-  comes = λ listing outcome recovered whole.
-      let here = subst (λ (f : List ℕ). IsRecovered f meta listing) of_file recovered in
-      let all = all_from file meta before listing outcome here (subst (λ (f : List ℕ). IsOutcome f meta before outcome) of_file whole) in
-      subst₂ (ComesTo s) (sym (left_all s file meta listing more path here)) (sym all.all) (comes all.visits listing all.run);
+  comes = subst (λ (f : List ℕ). IsLeft f meta before (left_by s) s) (sym of_file) (λ visits members run.
+      subst (λ (ms : List Member). ComesTo s ms (outcome_of (node_at file meta) before visits)) (sym (left_all s file meta members more path (recovers file meta visits members run))) (all visits members run));
 }
 
--- what a filter keeps first is a member that it keeps
-kept_first : {A : Type 0} (f : A → Bool) (y : A) (ys : List A) (m : A) (rest : List A) (b : Bool) → f y ≡ b → cond b (y ∷ filter f ys) (filter f ys) ≡ m ∷ rest
-    → (filter f ys ≡ m ∷ rest → Contains ys m × (f m ≡ true)) → Contains (y ∷ ys) m × (f m ≡ true)
-kept_first f y ys m rest true is e more = let same : y ≡ m = cc in (subst (λ z. Contains (y ∷ ys) z) same (contains_head y ys), ap f (sym same) ∙ is)
-kept_first f y ys m rest false is e more = let later = more e in (contains_tail y m ys later.0, later.1)
-
-filter_has : {A : Type 0} (f : A → Bool) (xs : List A) (m : A) (rest : List A) → filter f xs ≡ m ∷ rest → Contains xs m × (f m ≡ true)
-filter_has f [] m rest e = absurd (cc)
-filter_has f (y ∷ ys) m rest e = kept_first f y ys m rest (f y) refl e (λ later. filter_has f ys m rest later)
-
--- In a rising list, what comes after the first member that a filter keeps is the rest that it keeps.
-module _ {A : Type 0} {cmp : A → A → Ordering} (o : IsTotalOrder cmp) (f : A → Bool) (m : A) (rest : List A) (up : (x : A) → cmp m x ≡ Less → f x ≡ true) where
-  behind_first : (y : A) (ys : List A) (b : Bool) → f y ≡ b → Rises cmp (y ∷ ys) → cond b (y ∷ filter f ys) (filter f ys) ≡ m ∷ rest
-      → (filter f ys ≡ m ∷ rest → filter (λ x. is_lt (cmp m x)) ys ≡ rest) → filter (λ x. is_lt (cmp m x)) (y ∷ ys) ≡ rest
-  behind_first y ys true is rises e more =
-      let same : y ≡ m = cc in
-      let later : filter f ys ≡ rest = cc in
-      let below : (x : A) → Contains ys x → cmp m x ≡ Less = subst (λ (z : A). (x : A) → Contains ys x → cmp z x ≡ Less) same rises.0 in
-      let itself : is_lt (cmp m y) ≡ false = ap (λ z. is_lt (cmp m z)) same ∙ ap is_lt (tied_itself o m) in
-      let both : filter (λ x. is_lt (cmp m x)) ys ≡ filter f ys =
-      filter_same (λ x. is_lt (cmp m x)) f ys (λ x h. lt_of (cmp m x) (below x h) ∙ sym (up x (below x h))) in
-      rw itself (both ∙ later)
-  behind_first y ys false is rises e more =
-      let before : cmp y m ≡ Less = rises.0 m (filter_has f ys m rest e).0 in
-      let out : is_lt (cmp m y) ≡ false = not_lt_of (cmp m y) (flip_less o y m before) in
-      rw out (more e)
-
-  filter_behind : (xs : List A) → Rises cmp xs → filter f xs ≡ m ∷ rest → filter (λ x. is_lt (cmp m x)) xs ≡ rest
-  filter_behind [] rises e = absurd (cc)
-  filter_behind (y ∷ ys) rises e = behind_first y ys (f y) refl rises e (λ later. filter_behind ys rises.1 later)
-
--- the rest of what was left comes after what was returned
+-- the rest of what was left comes after what was returned, which is the least of it
 given_left : (path : Path) (listing : List Member) (m : Member) (rest : List Member) → Rises member_cmp listing → rest_after path listing ≡ m ∷ rest → rest_after m.0 listing ≡ rest
 given_left path listing m rest rises e =
-    let kept = (filter_has (λ (x : Member). is_lt (path_cmp path x.0)) listing m rest e).1 in
-    let after : path_cmp path m.0 ≡ Less = less_lt (path_cmp path m.0) kept in
-    filter_behind member_total (λ (x : Member). is_lt (path_cmp path x.0)) m rest (λ x less. lt_of (path_cmp path x.0) (path_total.trans path m.0 x.0 after less)) listing rises e
+    let after : Member → Bool = λ x. is_lt (path_cmp path x.0) in
+    let there : Contains (filter after listing) m = subst (λ (ms : List Member). Contains ms m) (sym e) (contains_head m rest) in
+    let inside = All-contains (Contains listing) (filter after listing) m (All-filter after (Contains listing) listing (All-contains_itself listing)) there in
+    let passes : after m ≡ true = All-contains (λ x. after x ≡ true) (filter after listing) m (filter_passes after listing) there in
+    let later : Rises member_cmp (m ∷ rest) = subst (Rises member_cmp) e (filter_rises member_cmp after listing rises) in
+    let first : filter after listing ≡ m ∷ rest_after m.0 listing = filter_first member_total after m
+    (λ x less. lt_of (path_cmp path x.0) (path_total.trans path m.0 x.0 (less_lt (path_cmp path m.0) passes) less)) listing rises inside passes
+    (λ x has is. elim (contains_cases m x rest (subst (λ (ms : List Member). Contains ms x) e (passing after listing x has is))) [
+      | inl same ↦ subst (λ (y : Member). is_lt (member_cmp y m) ≡ false) same (ap is_lt (tied_itself member_total m))
+      | inr behind ↦ not_lt_of (member_cmp x m) (flip_less member_total m x (later.0 x behind))
+    ]) in
+    cc
 
 left_given : (s : State) (listing : List Member) (m : Member) (rest : List Member) → Rises member_cmp listing → left_by s listing ≡ m ∷ rest → rest_after m.0 listing ≡ rest
 left_given s listing m rest rises e =
@@ -213,122 +133,98 @@ left_given s listing m rest rises e =
       | inr more ↦ given_left s.path listing m rest rises (sym (left_more s listing more) ∙ e)
     ]
 
-or_none : (b : Bool) → (b || false) ≡ b
-or_none true = refl
-or_none false = refl
+-- if nothing is left to be done, everything is reported
+reported_all : (s : State) (members : List Member) (outcome : Outcome) → s.ahead ≡ None → s.pages ≡ [] → ComesTo s members outcome → (members ≡ []) × (outcome ≡ tally_of s)
+reported_all s members outcome ahead pages comes =
+    let run = subst (λ (ts : List (Task NoWay)). Runs s.file s.meta stay s.claimed ts comes.visits members)
+    (ap (λ (o : Option NextVisit). ahead_tasks s.file s.meta s.path o (open_tasks s.file s.meta s.path s.pages [])) ahead ∙ ap (λ (ps : List OpenPage). open_tasks s.file s.meta s.path ps []) pages) comes.run in
+    let over = ends s.file s.meta stay s.claimed comes.visits members run in
+    (over.1, comes.all ∙ ap (after_visits (node_at s.file s.meta) (tally_of s)) over.0)
 
-module _ (old new : State) (meta : Meta) (before : ℕ) (on : IsOn old meta before) where
-  -- after an element was returned
-  given_next : (e : LeafElement) → GivesHead old new e → (listing : List Member) (outcome : Outcome) → IsRecovered old.file meta listing → IsOutcome old.file meta before outcome
-      → (left_by old listing ≡ (new.path, item_of e) ∷ left_by new listing) × ComesTo new (left_by new listing) outcome
-  given_next e gives listing outcome recovered whole =
-      let (rest, was, comes) = gives.head (left_by old listing) outcome (on.comes listing outcome recovered whole) in
-      let same : left_by new listing ≡ rest = left_more new listing gives.more ∙ left_given old listing (new.path, item_of e) rest recovered.rises was in
-      (was ∙ ap (λ (ms : List Member). (new.path, item_of e) ∷ ms) (sym same), subst (λ (ms : List Member). ComesTo new ms outcome) (sym same) comes)
+over_parts : (o : Option NextVisit) (pages : List OpenPage) → over_by o pages ≡ true → (o ≡ None) × (pages ≡ [])
+over_parts None [] e = (refl, refl)
+over_parts None (page ∷ pages) e = absurd (cc)
+over_parts (Some ahead) pages e = absurd (cc)
 
-  to_old : (listing : List Member) → StaysOn old new → IsRecovered new.file meta listing → IsRecovered old.file meta listing
-  to_old listing on recovered = subst (λ (f : List ℕ). IsRecovered f meta listing) on.file recovered
+module _ {old : State} {meta : Meta} {before : ℕ} (on : IsOn old meta before) where
+  abbrev all : Whole old.file meta before
+  all = whole old.file meta before
 
-  whole_old : (outcome : Outcome) → StaysOn old new → IsOutcome new.file meta before outcome → IsOutcome old.file meta before outcome
-  whole_old outcome on whole = subst (λ (f : List ℕ). IsOutcome f meta before outcome) on.file whole
+  comes_all : ComesTo old (left_by old all.members) (outcome_of (node_at old.file meta) before all.visits)
+  comes_all = on.comes all.visits all.members all.run
 
-  pub on_given : (e : LeafElement) → GivesHead old new e → IsOn new meta before
-  on_given e gives = record {
-    meta = gives.on.meta ∙ on.meta;
-    placed = gives.on.placed;
-    comes = λ listing outcome recovered whole. (given_next e gives listing outcome (to_old listing gives.on recovered) (whole_old outcome gives.on whole)).1;
-  }
+  of_recovered : (P : List Member → Type 0) → P all.members → (listing : List Member) → IsRecovered old.file meta listing → P listing
+  of_recovered P holds listing recovered = subst P (one_recovered old.file meta all.members listing all.recovered recovered) holds
 
-  pub left_next : (e : LeafElement) → GivesHead old new e → (listing : List Member) → IsRecovered old.file meta listing → left_by old listing ≡ (new.path, item_of e) ∷ left_by new listing
-  left_next e gives listing recovered =
-      let (members, outcome, all) = all_of old.file meta before in (given_next e gives listing outcome recovered all.whole).0
+  module _ {new : State} where
+    -- what comes of a visited file, from the old steps and from the new ones
+    on_new : StaysOn old new → IsLeft old.file meta before (left_by new) new → IsOn new meta before
+    on_new stays left = record { meta = stays.meta ∙ on.meta; placed = stays.placed; comes = subst (λ (f : List ℕ). IsLeft f meta before (left_by new) new) (sym stays.file) left }
 
-  -- after the end
-  over_new : Ends old new → is_over new ≡ true
-  over_new h = ap (λ (o : Option NextVisit). over_by o new.pages) h.ended.ahead ∙ ap (over_by None) h.ended.pages
+    -- after an element was returned
+    given_next : (e : LeafElement) → GivesHead old new e → (visits : List (Visited Way)) (members : List Member) → RunsAll old.file meta further [] visits members
+        → (left_by old members ≡ (new.path, item_of e) ∷ left_by new members) × ComesTo new (left_by new members) (outcome_of (node_at old.file meta) before visits)
+    given_next e gives visits members run =
+        let (rest, was, comes) = gives.head (left_by old members) _ (on.comes visits members run) in
+        let same : left_by new members ≡ rest = left_more new members gives.more ∙ left_given old members (new.path, item_of e) rest (recovers old.file meta visits members run).rises was in
+        (was ∙ ap (λ (ms : List Member). (new.path, item_of e) ∷ ms) (sym same), subst (λ (ms : List Member). ComesTo new ms (outcome_of (node_at old.file meta) before visits)) (sym same) comes)
 
-  pub on_ended : Ends old new → IsOn new meta before
-  on_ended h = record {
-    meta = h.on.meta ∙ on.meta;
-    placed = h.on.placed;
-    comes = λ listing outcome recovered whole.
-        let here = on.comes listing outcome (to_old listing h.on recovered) (whole_old outcome h.on whole) in
-        subst (λ (ms : List Member). ComesTo new ms outcome) (sym (left_over new listing (over_new h))) (h.none (left_by old listing) outcome here).1;
-  }
+    on_given : (e : LeafElement) → GivesHead old new e → IsOn new meta before
+    on_given e gives = on_new gives.on (λ visits members run. (given_next e gives visits members run).1)
 
-  pub left_none : Ends old new → (listing : List Member) → IsRecovered old.file meta listing → (left_by old listing ≡ []) × (left_by new listing ≡ []) × (new.path ≡ [])
-  left_none h listing recovered =
-      let (members, outcome, all) = all_of old.file meta before in
-      ((h.none (left_by old listing) outcome (on.comes listing outcome recovered all.whole)).0, left_over new listing (over_new h), h.ended.path)
+    pub left_next : (e : LeafElement) → GivesHead old new e → (listing : List Member) → IsRecovered old.file meta listing → left_by old listing ≡ (new.path, item_of e) ∷ left_by new listing
+    left_next e gives = of_recovered (λ ms. left_by old ms ≡ (new.path, item_of e) ∷ left_by new ms) (given_next e gives all.visits all.members all.run).0
 
-  -- if nothing is left to be done, everything is reported
-  reported_all : (s : State) (members : List Member) (outcome : Outcome) → s.ahead ≡ None → s.pages ≡ [] → ComesTo s members outcome
-      → (members ≡ []) × (s.losses ≡ outcome.losses) × (outcome.visited ≡ counted s.visited 0) × ((n : ℕ) → outcome.claimed n ≡ s.claimed n)
-  reported_all s members outcome ahead pages comes =
-      let run = subst (λ (ts : List (Task NoWay)). Runs s.file s.meta stay s.claimed ts comes.visits members)
-      (ap (λ (o : Option NextVisit). ahead_tasks s.file s.meta s.path o (open_tasks s.file s.meta s.path s.pages [])) ahead ∙ ap (λ (ps : List OpenPage). open_tasks s.file s.meta s.path ps []) pages) comes.run in
-      let over = ends s.file s.meta stay s.claimed comes.visits members run in (
-        over.1,
-        sym (comes.all ∙ ap (λ (vs : List (Visited NoWay)). s.losses ++ losses_in vs) over.0 ∙ append-nil s.losses),
-        comes.pages ∙ ap (λ (vs : List (Visited NoWay)). counted s.visited (pages_visited vs)) over.0,
-        λ n. comes.spans n ∙ ap (λ (vs : List (Visited NoWay)). s.claimed n || spans_in (node_at s.file s.meta) vs n) over.0 ∙ or_none (s.claimed n),
-      )
+    -- after the end
+    over_new : Ends old new → is_over new ≡ true
+    over_new h = ap (λ (o : Option NextVisit). over_by o new.pages) h.ended.ahead ∙ ap (over_by None) h.ended.pages
 
-  ended_with : Ends old new → (outcome : Outcome) → IsOutcome old.file meta before outcome → (new.losses ≡ outcome.losses) × (outcome.visited ≡ counted new.visited 0) × ((n : ℕ) → outcome.claimed n ≡ new.claimed n)
-  ended_with h outcome whole =
-      let (members, other, all) = all_of old.file meta before in
-      let last = reported_all new [] outcome h.ended.ahead h.ended.pages (h.none (left_by old members) outcome (on.comes members outcome all.recovered whole)).1 in
-      (last.1, last.2, last.3)
+    on_ended : Ends old new → IsOn new meta before
+    on_ended h = on_new h.on (λ visits members run.
+        subst (λ (ms : List Member). ComesTo new ms (outcome_of (node_at old.file meta) before visits)) (sym (left_over new members (over_new h))) (h.none (left_by old members) _ (on.comes visits members run)).1)
 
-  pub reported_ended : Ends old new → (losses : List LossView) → AreLosses old.file meta losses → new.losses ≡ losses
-  reported_ended h losses reported =
-      let (members, other, all) = all_of old.file meta before in
-      (ended_with h (record other { losses = losses }) (record { losses = reported; ways = all.whole.ways; counts = all.whole.counts; visited = all.whole.visited; claimed = all.whole.claimed })).0
+    pub left_none : Ends old new → (listing : List Member) → IsRecovered old.file meta listing → (left_by old listing ≡ []) × (left_by new listing ≡ []) × (new.path ≡ [])
+    left_none h listing recovered = (of_recovered (λ ms. left_by old ms ≡ []) (h.none (left_by old all.members) _ comes_all).0 listing recovered, left_over new listing (over_new h), h.ended.path)
 
-  -- and each way to a page number was visited once
-  pub visited_ended : Ends old new → (ways : ℕ) → ArePageWays old.file meta ways → counted before ways ≡ counted new.visited 0
-  visited_ended h ways are =
-      let (members, other, all) = all_of old.file meta before in
-      (ended_with h (record other { visited = counted before ways }) (record { losses = all.whole.losses; ways = ways; counts = are; visited = refl; claimed = all.whole.claimed })).1
+    ended_with : Ends old new → outcome_of (node_at old.file meta) before all.visits ≡ tally_of new
+    ended_with h = (reported_all new [] _ h.ended.ahead h.ended.pages (h.none (left_by old all.members) _ comes_all).1).1
 
-  -- and the claimed pages are those that kept ways take in
-  pub claimed_ended : Ends old new → (n : ℕ) → all_claimed old.file meta before n ≡ new.claimed n
-  claimed_ended h n = let all = all_of old.file meta before in (ended_with h all.1 all.2.whole).2 n
+    pub reported_ended : Ends old new → (losses : List LossView) → AreLosses old.file meta losses → new.losses ≡ losses
+    reported_ended h losses reported = one_losses old.file meta new.losses losses (all.survey, all.surveys, ap (λ (o : Outcome). o.losses) (sym (ended_with h)) ∙ all.losses) reported
 
-  -- after memory ran out
-  over_parts : (o : Option NextVisit) (pages : List OpenPage) → over_by o pages ≡ true → (o ≡ None) × (pages ≡ [])
-  over_parts None [] e = (refl, refl)
-  over_parts None (page ∷ pages) e = absurd (cc)
-  over_parts (Some ahead) pages e = absurd (cc)
+    -- and each way to a page number was visited once
+    pub visited_ended : Ends old new → (ways : ℕ) → ArePageWays old.file meta ways → counted before ways ≡ counted new.visited 0
+    visited_ended h ways are =
+        ap (counted before) (one_number old.file meta ways _ are (all.survey, all.surveys, refl)) ∙ sym all.pages ∙ ap (λ (o : Outcome). counted o.visited 0) (ended_with h)
 
-  left_still : GoesOn old new → (listing : List Member) (outcome : Outcome) → ComesTo new (left_by old listing) outcome → left_by new listing ≡ left_by old listing
-  left_still h listing outcome comes =
-      elim (cases_Bool (is_over new)) [
-        | inl over ↦ let (ahead, pages) = over_parts new.ahead new.pages over in left_over new listing over ∙ sym (reported_all new (left_by old listing) outcome ahead pages comes).0
-        | inr more ↦ elim (cases_Bool (is_over old)) [
-          | inl over ↦ absurd (let f : true ≡ false = sym (h.over over) ∙ more in cc)
-          | inr going ↦ left_more new listing more ∙ ap (λ (p : Path). rest_after p listing) h.path ∙ sym (left_more old listing going)
+    -- and the claimed pages are those that kept ways take in
+    pub claimed_ended : Ends old new → (n : ℕ) → claimed_at_end old.file meta before n ≡ new.claimed n
+    claimed_ended h n = ap (λ (o : Outcome). o.claimed n) (ended_with h)
+
+    -- after memory ran out
+    left_still : GoesOn old new → (listing : List Member) (outcome : Outcome) → ComesTo new (left_by old listing) outcome → left_by new listing ≡ left_by old listing
+    left_still h listing outcome comes =
+        elim (cases_Bool (is_over new)) [
+          | inl over ↦ let (ahead, pages) = over_parts new.ahead new.pages over in left_over new listing over ∙ sym (reported_all new (left_by old listing) outcome ahead pages comes).0
+          | inr more ↦ elim (cases_Bool (is_over old)) [
+            | inl over ↦ absurd (let f : true ≡ false = sym (h.over over) ∙ more in cc)
+            | inr going ↦ left_more new listing more ∙ ap (λ (p : Path). rest_after p listing) h.path ∙ sym (left_more old listing going)
+          ]
         ]
-      ]
 
-  pub on_same : GoesOn old new → IsOn new meta before
-  on_same h = record {
-    meta = h.on.meta ∙ on.meta;
-    placed = h.on.placed;
-    comes = λ listing outcome recovered whole.
-        let here = h.same (left_by old listing) outcome (on.comes listing outcome (to_old listing h.on recovered) (whole_old outcome h.on whole)) in
-        subst (λ (ms : List Member). ComesTo new ms outcome) (sym (left_still h listing outcome here)) here;
-  }
+    on_same : GoesOn old new → IsOn new meta before
+    on_same h = on_new h.on (λ visits members run.
+        let here = h.same (left_by old members) _ (on.comes visits members run) in
+        subst (λ (ms : List Member). ComesTo new ms (outcome_of (node_at old.file meta) before visits)) (sym (left_still h members _ here)) here)
 
-  pub left_same : GoesOn old new → (listing : List Member) → IsRecovered old.file meta listing → left_by new listing ≡ left_by old listing
-  left_same h listing recovered =
-      let (members, outcome, all) = all_of old.file meta before in left_still h listing outcome (h.same (left_by old listing) outcome (on.comes listing outcome recovered all.whole))
+    pub left_same : GoesOn old new → (listing : List Member) → IsRecovered old.file meta listing → left_by new listing ≡ left_by old listing
+    left_same h = of_recovered (λ ms. left_by new ms ≡ left_by old ms) (left_still h all.members _ (h.same (left_by old all.members) _ comes_all))
 
-  -- whatever comes of a call
-  pub on_advanced : {E : Type 0} (result : Result (Option Leaf) E) → IfOk result (Advances old new) → OnErr result (GoesOn old new) → IsOn new meta before
-  on_advanced (Ok (Some leaf)) given same = on_given (leaf_view leaf) given
-  on_advanced (Ok None) given same = on_ended given
-  on_advanced (Err e) given same = on_same same
+    -- whatever comes of a call
+    pub on_advanced : {E : Type 0} (result : Result (Option Leaf) E) → IfOk result (Advances old new) → OnErr result (GoesOn old new) → IsOn new meta before
+    on_advanced (Ok (Some leaf)) given same = on_given (leaf_view leaf) given
+    on_advanced (Ok None) given same = on_ended given
+    on_advanced (Err e) given same = on_same same
 
 -- the file is the same
 pub file_advanced : {E : Type 0} (old new : State) (result : Result (Option Leaf) E) → IfOk result (Advances old new) → OnErr result (GoesOn old new) → new.file ≡ old.file
@@ -339,27 +235,28 @@ file_advanced old new (Err e) given same = same.on.file
 -- the losses reported so far are the first of all losses
 pub reported_first : (s : State) (meta : Meta) (before : ℕ) → IsOn s meta before → (losses : List LossView) → AreLosses s.file meta losses → AreFirst s.losses losses
 reported_first s meta before on losses reported =
-    let (members, other, all) = all_of s.file meta before in
-    let comes = on.comes members (record other { losses = losses }) all.recovered (record { losses = reported; ways = all.whole.ways; counts = all.whole.counts; visited = all.whole.visited; claimed = all.whole.claimed }) in
+    let all = whole s.file meta before in
+    let comes = on.comes all.visits all.members all.run in
+    let ((rest, same), up) = grows (node_at s.file s.meta) (tally_of s) comes.visits in
+    let more : losses ≡ s.losses ++ rest = one_losses s.file meta losses _ reported (all.survey, all.surveys, refl) ∙ sym all.losses ∙ ap (λ (o : Outcome). o.losses) comes.all ∙ same in
     let short : length s.losses ≤ length s.losses = omega arith in
-    sym (ap (take (length s.losses)) comes.all ∙ take-append-le (length s.losses) s.losses (losses_in comes.visits) short ∙ take_all (length s.losses) s.losses short)
+    sym (ap (take (length s.losses)) more ∙ take-append-le (length s.losses) s.losses rest short ∙ take_all (length s.losses) s.losses short)
 
 -- and no more pages were visited than ways lead to
 pub visited_within : (s : State) (meta : Meta) (before : ℕ) → IsOn s meta before → s.visited < 2 ^ 64 → (ways : ℕ) → ArePageWays s.file meta ways → s.visited ≤ counted before ways
 visited_within s meta before on fits ways are =
-    let (members, other, all) = all_of s.file meta before in
-    let comes = on.comes members (record other { visited = counted before ways }) all.recovered
-    (record { losses = all.whole.losses; ways = ways; counts = are; visited = refl; claimed = all.whole.claimed }) in
-    let pages = comes.pages in
-    omega (arith, pages, fits)
+    let all = whole s.file meta before in
+    let comes = on.comes all.visits all.members all.run in
+    let (lost, up) = grows (node_at s.file s.meta) (tally_of s) comes.visits in
+    let more = up fits in
+    let same = ap (λ (o : Outcome). o.visited) comes.all in
+    let pages = all.pages in
+    let number = one_number s.file meta ways _ are (all.survey, all.surveys, refl) in
+    omega (arith, more, same, pages, number, fits)
 
 pub if_err : {X E : Type 0} {P Q : E → Type 0} (result : Result X E) → ((e : E) → P e → Q e) → IfErr result P → IfErr result Q
 if_err (Ok x) to h = h
 if_err (Err e) to h = to e h
-
-pub both_ok : {X E : Type 0} {P Q R : X → Type 0} (result : Result X E) → ((x : X) → P x → Q x → R x) → IfOk result P → IfOk result Q → IfOk result R
-both_ok (Ok x) to h k = to x h k
-both_ok (Err e) to h k = h
 
 pub refused_chosen : (file : List ℕ) (slot : Slot) (meta : Meta) → IsChosen file slot meta → (fault : CheckFault) → IsRefusedRoot file meta fault → IsUnrecoverable file fault
 refused_chosen file slot meta chosen (Structure x) h = (slot, meta, chosen, h)

@@ -1,17 +1,6 @@
 -- A run may forget its ways.
-use Rattle.std.proofs.Common.{◌≡◌, ◌∙◌, ℕ, zero, suc, ◌+◌, Bool, ◌||◌, List, [], ◌∷◌, ◌++◌, map, Option, Some, None, slice_get, refl, ap, subst}
-use Rattle.std.proofs.lemmas.List.{map-append}
-use Rattle.bolt_format.specs.Elements.{LeafElement}
-use Rattle.bolt_format.specs.declared.meta.Meta.{Meta}
-use Rattle.bolt_check.specs.Nodes.{Nodes, node_at}
-use Rattle.bolt_tree.specs.Listing.{Member}
-use Rattle.bolt_tree.specs.Paths.{Path}
-use Rattle.bolt_recover.specs.Losses.{LossView}
-use Rattle.bolt_recover.specs.Places.{Place, root_place, step_place}
-use Rattle.bolt_recover.specs.Private.Frames.{NoWay, stay}
-use Rattle.bolt_recover.specs.Private.Runs.{Runs, RunsAll, Task, To_give, To_visit, Visited, claimed_with, entry_tasks, gives_at, losses_in, lost_at, page_visit, pages_visited, place_tasks, span_of, spans_in, tasks_from, visits_at}
-use Rattle.bolt_recover.specs.Private.Runs.Runs.{done, give, keep, lose}
-use Rattle.bolt_recover.proofs.RunOrder.{Way, further}
+use Rattle.std.proofs.Common.{◌≡◌, ◌∙◌, ℕ, zero, suc, Bool, List, [], ◌∷◌, ◌++◌, map, Option, Some, None, slice_get, refl, ap, subst}
+use Rattle.bolt_recover.proofs.Words.{after_visit, after_visits, claimed_after, done, entry_tasks, Finding, further, give, gives_at, LeafElement, map-append, Member, Meta, node_at, Nodes, NoWay, Outcome, Path, Place, root_place, Runs, RunsAll, stay, step_place, Task, tasks_after, tasks_from, To_give, To_visit, visit, Visited, visits_at, Way}
 
 abbrev blind : Task Way → Task NoWay
 blind (To_visit w p) = To_visit tt p
@@ -35,27 +24,22 @@ module _ (file : List ℕ) (meta : Meta) where
       ∙ ap (λ (ts : List (Task NoWay)). ts ++ map blind (tasks_from file meta further w p (suc i) k)) (entry_blind (further w i) p.path (slice_get p.elements i) (step_place file meta p i))
       ∙ ap (λ (ts : List (Task NoWay)). entry_tasks file meta stay tt p i ++ ts) (tasks_blind w p (suc i) k)
 
+  after_blind : (w : Way) (p : Place) (found : Option Finding) → map blind (tasks_after file meta further w p found) ≡ tasks_after file meta stay tt p found
+  after_blind w p None = tasks_blind w p 0 _
+  after_blind w p (Some x) = refl
+
   forgets : (claimed : ℕ → Bool) (tasks : List (Task Way)) (visits : List (Visited Way)) (members : List Member) → Runs file meta further claimed tasks visits members
       → Runs file meta stay claimed (map blind tasks) (map blind_visit visits) members
   forgets claimed tasks visits members done = done
   forgets claimed tasks visits members (give {tasks = more} {members = rest} run) = give (forgets claimed more visits rest run)
-  forgets claimed tasks visits members (keep {way = w} {p = p} {tasks = more} {visits = rest} passes run) =
-      let next = forgets _ (place_tasks file meta further w p ++ more) rest members run in
-      keep passes (subst (λ (ts : List (Task NoWay)). Runs file meta stay (claimed_with (node_at file meta) claimed p.spot) ts (map blind_visit rest) members)
-      (map-append blind (place_tasks file meta further w p) more ∙ ap (λ (ts : List (Task NoWay)). ts ++ map blind more) (tasks_blind w p 0 _)) next)
-  forgets claimed tasks visits members (lose {tasks = more} {visits = rest} tests run) = lose tests (forgets claimed more rest members run)
+  forgets claimed tasks visits members (visit {way = w} {p = p} {found = found} {tasks = more} {visits = rest} here run) =
+      visit here (subst (λ (ts : List (Task NoWay)). Runs file meta stay (claimed_after (node_at file meta) claimed p.spot found) ts (map blind_visit rest) members)
+      (map-append blind (tasks_after file meta further w p found) more ∙ ap (λ (ts : List (Task NoWay)). ts ++ map blind more) (after_blind w p found))
+      (forgets _ (tasks_after file meta further w p found ++ more) rest members run))
 
   pub forgotten : (visits : List (Visited Way)) (members : List Member) → RunsAll file meta further [] visits members → RunsAll file meta stay tt (map blind_visit visits) members
   forgotten visits members run = forgets _ (To_visit [] (root_place file meta) ∷ []) visits members run
 
-pub same_pages : (visits : List (Visited Way)) → pages_visited (map blind_visit visits) ≡ pages_visited visits
-same_pages [] = refl
-same_pages (v ∷ visits) = ap (λ (n : ℕ). page_visit v.place.spot + n) (same_pages visits)
-
-pub same_losses : (visits : List (Visited Way)) → losses_in (map blind_visit visits) ≡ losses_in visits
-same_losses [] = refl
-same_losses (v ∷ visits) = ap (λ (ls : List LossView). lost_at v.place v.found ++ ls) (same_losses visits)
-
-pub same_spans : (nodes : Nodes) (visits : List (Visited Way)) (n : ℕ) → spans_in nodes (map blind_visit visits) n ≡ spans_in nodes visits n
-same_spans nodes [] n = refl
-same_spans nodes (v ∷ visits) n = ap (λ (b : Bool). span_of nodes v.place.spot v.found n || b) (same_spans nodes visits n)
+pub same_outcome : (nodes : Nodes) (o : Outcome) (visits : List (Visited Way)) → after_visits nodes o (map blind_visit visits) ≡ after_visits nodes o visits
+same_outcome nodes o [] = refl
+same_outcome nodes o (v ∷ visits) = same_outcome nodes (after_visit nodes o v) visits

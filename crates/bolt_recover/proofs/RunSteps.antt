@@ -1,18 +1,7 @@
 -- What a run does first.
-use Rattle.std.proofs.Common.{◌≡◌, ℕ, Bool, true, List, [], ◌∷◌, ◌++◌, Some, None, refl}
-use Rattle.bolt_format.specs.Elements.{LeafElement}
-use Rattle.bolt_format.specs.declared.meta.Meta.{Meta}
-use Rattle.bolt_check.specs.Findings.{Passes, Tests}
-use Rattle.bolt_check.specs.Nodes.{node_at}
-use Rattle.bolt_check.specs.declared.finding.Finding.{Finding}
-use Rattle.bolt_check.proofs.Judging.{passes_silent}
-use Rattle.bolt_check.proofs.Single.{tests_one}
-use Rattle.bolt_tree.specs.Entries.{item_of}
-use Rattle.bolt_tree.specs.Listing.{Member}
-use Rattle.bolt_tree.specs.Paths.{Path}
-use Rattle.bolt_recover.specs.Places.{Place}
-use Rattle.bolt_recover.specs.Private.Runs.{Runs, Task, To_give, To_visit, Visited, claimed_with, place_tasks}
-use Rattle.bolt_recover.specs.Private.Runs.Runs.{done, give, keep, lose}
+use Rattle.std.proofs.Common.{◌≡◌, ℕ, Bool, true, List, [], ◌∷◌, ◌++◌, Option, refl, subst}
+use Rattle.bolt_recover.proofs.Words.{claimed_after, done, Finding, give, Gives, item_of, LeafElement, Member, Meta, node_at, Path, Place, Runs, Task, tasks_after, To_give, To_visit, visit, Visited}
+use Rattle.bolt_recover.proofs.SurveyIsOne.{gives_one}
 
 module _ (file : List ℕ) (meta : Meta) {W : Type 0} (further : W → ℕ → W) where
   pub ends : (claimed : ℕ → Bool) (visits : List (Visited W)) (members : List Member) → Runs file meta further claimed [] visits members
@@ -24,18 +13,13 @@ module _ (file : List ℕ) (meta : Meta) {W : Type 0} (further : W → ℕ → W
       → (rest : List Member) × (members ≡ (path, item_of e) ∷ rest) × Runs file meta further claimed tasks visits rest
   gives claimed path e tasks visits members (give {members = rest} run) = (rest, refl, run)
 
-  pub keeps : (claimed : ℕ → Bool) (way : W) (p : Place) (tasks : List (Task W)) (visits : List (Visited W)) (members : List Member)
-      → Passes (node_at file meta) (λ n. claimed n ≡ true) p.spot
-      → Runs file meta further claimed (To_visit way p ∷ tasks) visits members
-      → (rest : List (Visited W)) × (visits ≡ record { way = way; place = p; found = None } ∷ rest)
-      × Runs file meta further (claimed_with (node_at file meta) claimed p.spot) (place_tasks file meta further way p ++ tasks) rest members
-  keeps claimed way p tasks visits members passes (keep {visits = rest} h run) = (rest, refl, run)
-  keeps claimed way p tasks visits members passes (lose {x = x} h run) = absurd (passes_silent (node_at file meta) (λ n. claimed n ≡ true) p.spot x passes h)
+  -- a place is visited, where the tests find this
+  abbrev pub Visits : (ℕ → Bool) → W → Place → Option Finding → List (Task W) → List (Visited W) → List Member → Type 0
+  Visits claimed way p found tasks visits members = (rest : List (Visited W)) × (visits ≡ record { way = way; place = p; found = found } ∷ rest)
+      × Runs file meta further (claimed_after (node_at file meta) claimed p.spot found) (tasks_after file meta further way p found ++ tasks) rest members
 
-  pub loses : (claimed : ℕ → Bool) (way : W) (p : Place) (x : Finding) (tasks : List (Task W)) (visits : List (Visited W)) (members : List Member)
-      → Tests (node_at file meta) (λ n. claimed n ≡ true) p.spot x
-      → Runs file meta further claimed (To_visit way p ∷ tasks) visits members
-      → (rest : List (Visited W)) × (visits ≡ record { way = way; place = p; found = Some x } ∷ rest) × Runs file meta further claimed tasks rest members
-  loses claimed way p x tasks visits members tests (keep h run) = absurd (passes_silent (node_at file meta) (λ n. claimed n ≡ true) p.spot x h tests)
-  loses claimed way p x tasks visits members tests (lose {x = y} {visits = rest} h run) =
-      let same = tests_one (node_at file meta) (λ n. claimed n ≡ true) p.spot y x h tests in (rest, rw same refl, run)
+  pub visits_first : (claimed : ℕ → Bool) (way : W) (p : Place) (found : Option Finding) (tasks : List (Task W)) (visits : List (Visited W)) (members : List Member)
+      → Gives (node_at file meta) (λ n. claimed n ≡ true) p.spot found → Runs file meta further claimed (To_visit way p ∷ tasks) visits members → Visits claimed way p found tasks visits members
+  visits_first claimed way p found tasks visits members here (visit {found = other} {visits = rest} there run) =
+      subst (λ (f : Option Finding). Visits claimed way p f tasks (record { way = way; place = p; found = other } ∷ rest) members)
+      (gives_one (node_at file meta) (λ n. claimed n ≡ true) p.spot other found there here) (rest, refl, run)

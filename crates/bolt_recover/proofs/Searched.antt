@@ -1,28 +1,12 @@
 -- What is known of a file that was searched.
 use Rattle.std.proofs.Common.{◌≡◌, ◌≢◌, ◌∙◌, ◌<◌, ◌*◌, ◌^◌, true, false, List, [], ap, length, subst, sym}
-use Rattle.std.proofs.Math.Logic.{∥∥₁_elim, ∥∥₁_map}
-use Rattle.std.proofs.Props.{props}
-use Rattle.std.specs.List.{Contains}
-use Rattle.bolt_check.specs.CheckedFiles.{bytes_of, meta_of}
-use Rattle.bolt_check.specs.declared.checked_file.Checked.{Checked}
-use Rattle.bolt_check.specs.declared.finding.Finding.{Finding}
-use Rattle.bolt_tree.specs.Listing.{Member}
-use Rattle.bolt_tree.proofs.Lists.{contains_none}
-use Rattle.bolt_recover.specs.Joined.{HasBucketKey, LacksBucketKey}
-use Rattle.bolt_recover.specs.Losses.{LossView, everything, parts}
+use Rattle.bolt_recover.proofs.Words.{all_lost, AreJoinable, AreTreesOf, bytes_of, Checked, Contains, contains_none, Damaged, everything, Finding, ForRecovered, Found, HasBucketKey, IsSearched, LacksBucketKey, LosesRoot, LossView, lost_of, Member, meta_of, parts, props, Rootless, Sound, ∥∥₁_elim, ∥∥₁_map}
 use Rattle.bolt_recover.specs.Lost.{IsAllLost}
-use Rattle.bolt_recover.specs.LostAndFound.{all_lost}
-use Rattle.bolt_recover.specs.Private.Joining.{AreJoinable, TellsBucketKey}
-use Rattle.bolt_recover.specs.Private.TreesLeft.{AreTreesOf, IsSearched, lost_of}
-use Rattle.bolt_recover.specs.Recovered.{ForRecovered}
-use Rattle.bolt_recover.specs.Refusals.{LosesRoot}
-use Rattle.bolt_recover.specs.declared.found.Found.{Found}
 use Rattle.bolt_recover.specs.declared.lost_and_found.Damage.{Damage}
 use Rattle.bolt_recover.specs.declared.lost_and_found.LostAndFound.{LostAndFound}
 use Rattle.bolt_recover.specs.declared.lost_and_found.Trees.{Trees}
-use Rattle.bolt_recover.specs.declared.lost_and_found.Trees.TheVariants.{Damaged, Rootless, Sound}
 use Rattle.bolt_recover.proofs.FoundAll.{nothing_recovered}
-use Rattle.bolt_recover.proofs.JoinSteps.{bucket_key}
+use Rattle.bolt_recover.proofs.JoinSteps.{key_held, key_lacks}
 
 parts_some : (losses : List LossView) (x : Finding) → parts losses ≡ everything x → ⊥
 parts_some losses x is = cc
@@ -51,12 +35,10 @@ module _ (both : LostAndFound) where
 
   module _ (damage : Damage) (is : both.trees ≡ Damaged damage) where
     pub has_key : damage.has_bucket_key ≡ true → ForRecovered both.file.now both.meta HasBucketKey
-    has_key same listing recovers =
-        bucket_key listing (∥∥₁_map both.searched (λ searched. subst (TellsBucketKey listing) same (left (Damaged damage) is searched listing recovers)))
+    has_key same listing recovers = key_held listing (∥∥₁_elim both.searched (hlevel props) (λ searched. sym (left (Damaged damage) is searched listing recovers) ∙ same))
 
     pub lacks_key : damage.has_bucket_key ≡ false → ForRecovered both.file.now both.meta LacksBucketKey
-    lacks_key other listing recovers =
-        ∥∥₁_elim both.searched (hlevel props) (λ searched. subst (TellsBucketKey listing) other (left (Damaged damage) is searched listing recovers))
+    lacks_key other listing recovers = key_lacks listing (∥∥₁_elim both.searched (hlevel props) (λ searched. sym (left (Damaged damage) is searched listing recovers) ∙ other))
 
   module _ (x : Finding) (is : both.trees ≡ Rootless x) where
     pub root_lost : ∥ LosesRoot both.file.now both.meta x ∥₁

@@ -1,53 +1,12 @@
 -- If nothing is lost, each way is kept, and what a path holds is an element at a way.
-use Rattle.std.proofs.Common.{◌≡◌, ◌∙◌, ◌⊎◌, inl, inr, ℕ, suc, Bool, true, false, IsTrue, eqb, eqb-true, List, [], ◌∷◌, ◌++◌, Option, Some, None, Result, Ok, Err, slice_get, refl, sym, ap, subst, subst₂, append_assoc}
-use Rattle.std.specs.List.{Contains}
-use Rattle.std.specs.Option.{option_map}
-use Rattle.std.proofs.lemmas.List.{append-nil}
-use Rattle.std.proofs.lemmas.Option.{slice_get-map, same_Some}
-use Rattle.bolt_format.specs.Elements.{LeafElement, head_root, inline_elements}
-use Rattle.bolt_format.specs.Pages.{page_at}
-use Rattle.bolt_format.specs.declared.meta.Meta.{Meta}
-use Rattle.bolt_check.specs.Keys.{Key}
-use Rattle.bolt_check.specs.Nodes.{Entry, Node, Nodes, leaf_entry, node_at}
-use Rattle.bolt_check.specs.Shape.{child_in, child_of, leads}
-use Rattle.bolt_check.specs.Sound.{HasSoundTrees}
-use Rattle.bolt_check.specs.Ways.{At_inline, At_page, PageSpot, Spot, bucket_spots, child_spot, follow, reached, root_spot, step_at, step_entry, step_from, upper_from}
-use Rattle.bolt_check.specs.declared.finding.Finding.{Finding}
-use Rattle.bolt_check.proofs.Forest.{follow_some}
-use Rattle.bolt_check.proofs.Lawful.{shape_passes}
-use Rattle.bolt_check.proofs.WayFacts.{follow_append, leads_none, leaf_node}
-use Rattle.bolt_tree.specs.Entries.{Inline_page, IsEntry, Item, Root_page, ShowsEntry, Start, item_of, start_of}
-use Rattle.bolt_tree.specs.Listing.{IsListing, Member}
-use Rattle.bolt_tree.specs.Paths.{Holds, Path}
+use Rattle.std.proofs.Common.{◌≡◌, ◌∙◌, ◌⊎◌, inl, inr, ℕ, suc, Bool, true, false, IsTrue, eqb, eqb-true, List, [], ◌∷◌, ◌++◌, Option, Some, None, Result, Ok, Err, slice_get, refl, sym, ap, subst, append_assoc}
+use Rattle.bolt_recover.proofs.Words.{At_inline, At_page, cases_Bool, child_in, child_of, child_spot, Contains, contains_at, Entry, Has, HasSoundTrees, head_root, Holds, inline_elements, Inline_page, IsEntry, IsListing, IsRecovered, IsRecoveredMember, Item, item_of, kept, Key, leads, leads_none, leaf_node, LeafElement, leaves_of, Member, Meta, Node, node_at, Nodes, none-some, page_at, PageSpot, Path, Place, place_at, reached, Root_page, root_place, root_spot, same_Some, ShowsEntry, Spot, Start, start_of, step_place, upper_from, Visit}
 use Rattle.bolt_tree.proofs.BucketWays.{flat}
-use Rattle.bolt_recover.specs.Places.{Place, leaves_of, place_at, place_on, root_place, step_place}
-use Rattle.bolt_recover.specs.Recovered.{IsRecovered, IsRecoveredMember}
-use Rattle.bolt_recover.specs.Surveys.{Has, Surveys, Visit, kept}
-use Rattle.bolt_recover.proofs.ElementLists.{slice_of}
+use Rattle.bolt_recover.proofs.PlaceFacts.{place_further, slice_of, spot_is}
 use Rattle.bolt_recover.proofs.HeldMembers.{held, shows_entry, well_at}
-use Rattle.bolt_recover.proofs.PlaceFacts.{place_further, spot_is}
-use Rattle.bolt_recover.proofs.PlaceKeys.{HasForm, IsTidyAt, page_form}
+use Rattle.bolt_recover.proofs.PlaceSteps.{IsBranchPage, IsLeafPage, IsTidy, IsTidyAt, bucket_place, on_page}
+use Rattle.bolt_recover.proofs.NothingLost.{all_kept}
 use Rattle.bolt_recover.proofs.SoundSurveys.{none_lost}
-
-module _ (nodes : Nodes) (root : Option Spot) (survey : List Visit) (surveys : Surveys nodes (follow nodes root) survey) (none : (v : Visit) → Has survey v → v.found ≡ None) where
-  keeps_one : (way : List ℕ) (found : Option Finding) → Has survey (record { way = way; found = found }) → Has survey (kept way)
-  keeps_one way found has = subst (λ (f : Option Finding). Has survey (record { way = way; found = f })) (none (record { way = way; found = found }) has) has
-
-  keeps_on : (front rest : List ℕ) (s : Spot) → Has survey (kept front) → follow nodes root (front ++ rest) ≡ Some s → Has survey (kept (front ++ rest))
-  keeps_on front [] s has led = subst (λ (w : List ℕ). Has survey (kept w)) (sym (append-nil front)) has
-  keeps_on front (i ∷ rest) s has led =
-      let same : (front ++ i ∷ []) ++ rest ≡ front ++ (i ∷ rest) = append_assoc front (i ∷ []) rest in
-      let led2 : follow nodes root ((front ++ i ∷ []) ++ rest) ≡ Some s = subst (λ (w : List ℕ). follow nodes root w ≡ Some s) (sym same) led in
-      let at = follow_some nodes (follow nodes root (front ++ i ∷ [])) rest s (sym (follow_append nodes root (front ++ i ∷ []) rest) ∙ led2) in
-      let p = surveys.all (front ++ i ∷ []) at.0 (inr (front, i, refl, has)) at.1 in
-      subst (λ (w : List ℕ). Has survey (kept w)) same (keeps_on (front ++ i ∷ []) rest s (keeps_one (front ++ i ∷ []) p.0 p.1) led2)
-
-  -- each way that leads somewhere is kept
-  pub all_kept : (way : List ℕ) (s : Spot) → follow nodes root way ≡ Some s → Has survey (kept way)
-  all_kept way s led =
-      let at = follow_some nodes root way s led in
-      let p = surveys.all [] at.0 (inl refl) at.1 in
-      keeps_on [] way s (keeps_one [] p.0 p.1) led
 
 module _ (file : List ℕ) (meta : Meta) where
   abbrev nodes : Nodes
@@ -74,36 +33,23 @@ module _ (file : List ℕ) (meta : Meta) where
     on : IsOnPage place.spot ⊎ (e.is_bucket ≡ false)
 
   -- a child of a branch
-  abbrev HasChild : Path → Option Place → ℕ → Type 0
-  HasChild path o child = (t : Place) × (s : PageSpot) × (o ≡ Some t) × (t.spot ≡ At_page s) × (s.number ≡ child) × (t.path ≡ path)
+  abbrev HasChild : Place → ℕ → ℕ → Type 0
+  HasChild p i child = (t : Place) × (u : PageSpot) × (step_place file meta p i ≡ Some t) × (t.spot ≡ At_page u) × (u.number ≡ child) × (t.path ≡ p.path)
 
-  some_child : (path : Path) (s : PageSpot) (o next : Option Entry) (child : ℕ) → child_of false o ≡ Some child → HasChild path (place_on file meta path None (step_entry false s o next)) child
-  some_child path s None next child e = absurd (cc)
-  some_child path s (Some x) next child e = (_, child_spot s x (upper_from next s.upper), refl, refl, (let same : Some x.child ≡ Some child = e in cc), refl)
-
-  child_form : (path : Path) (elements : List LeafElement) (s : PageSpot) (node : Node) (i child : ℕ) → HasForm node elements → nodes s.number ≡ Ok node → child_in (nodes s.number) i ≡ Some child
-      → HasChild path (place_on file meta path (slice_get elements i) (step_from nodes (At_page s) i)) child
-  child_form path elements s node i child (inl (leaf, entries)) page is =
-      absurd (let gone : None ≡ Some child = sym (ap (λ (r : Result Node ℕ). child_in r i) page ∙ ap (λ (b : Bool). child_of b (slice_get node.entries i)) leaf ∙ no_child (slice_get node.entries i)) ∙ is in cc)
+  child_step : (p : Place) (s : PageSpot) (i child : ℕ) → IsTidy file meta p → p.spot ≡ At_page s → child_in (nodes s.number) i ≡ Some child → HasChild p i child
+  child_step p s i child tidy at is = by (nodes s.number) refl
     where
-      no_child : (o : Option Entry) → child_of true o ≡ None
-      no_child o = refl
-  child_form path elements s node i child (inr (branch, none)) page is =
-      let step : step_from nodes (At_page s) i ≡ step_entry false s (slice_get node.entries i) (slice_get node.entries (suc i)) =
-      ap (λ (x : Result Node ℕ). step_at x s i) page ∙ ap (λ (b : Bool). step_entry b s (slice_get node.entries i) (slice_get node.entries (suc i))) branch in
-      let gone : slice_get elements i ≡ None = ap (λ (xs : List LeafElement). slice_get xs i) none in
-      let there : child_of false (slice_get node.entries i) ≡ Some child = sym (ap (λ (r : Result Node ℕ). child_in r i) page ∙ ap (λ (b : Bool). child_of b (slice_get node.entries i)) branch) ∙ is in
-      subst (λ (o : Option Place). HasChild path o child)
-      (sym (ap (λ (o : Option LeafElement). place_on file meta path o (step_from nodes (At_page s) i)) gone ∙ ap (place_on file meta path None) step))
-      (some_child path s (slice_get node.entries i) (slice_get node.entries (suc i)) child there)
+      on_entry : (node : Node) (o : Option Entry) → IsBranchPage file meta p s node → slice_get node.entries i ≡ o → child_of false o ≡ Some child → HasChild p i child
+      on_entry node None branch get there = absurd (cc)
+      on_entry node (Some x) branch get there = (_, child_spot s x (upper_from (slice_get node.entries (suc i)) s.upper), branch.to i x get, refl, same_Some x.child child there, refl)
 
-  child_step : (path : Path) (elements : List LeafElement) (s : PageSpot) (i child : ℕ) → IsTidyAt file meta elements (At_page s) → child_in (nodes s.number) i ≡ Some child
-      → HasChild path (place_on file meta path (slice_get elements i) (step_from nodes (At_page s) i)) child
-  child_step path elements s i child tidy is = by (nodes s.number) refl
-    where
-      by : (r : Result Node ℕ) → nodes s.number ≡ r → HasChild path (place_on file meta path (slice_get elements i) (step_from nodes (At_page s) i)) child
-      by (Err fault) page = absurd (let gone : None ≡ Some child = sym (ap (λ (r : Result Node ℕ). child_in r i) page) ∙ is in cc)
-      by (Ok node) page = child_form path elements s node i child (subst (HasForm node) (sym tidy) (page_form file meta s.number node page)) page is
+      on_form : (node : Node) → IsLeafPage file meta p s node ⊎ IsBranchPage file meta p s node → child_of node.is_leaf (slice_get node.entries i) ≡ Some child → HasChild p i child
+      on_form node (inl leaf) there = absurd (none-some child (sym (ap (λ (b : Bool). child_of b (slice_get node.entries i)) leaf.leaf) ∙ there))
+      on_form node (inr branch) there = on_entry node (slice_get node.entries i) branch refl (sym (ap (λ (b : Bool). child_of b (slice_get node.entries i)) branch.branch) ∙ there)
+
+      by : (r : Result Node ℕ) → nodes s.number ≡ r → HasChild p i child
+      by (Err fault) page = absurd (none-some child (sym (ap (λ (r : Result Node ℕ). child_in r i) page) ∙ is))
+      by (Ok node) page = on_form node (on_page file meta p s node tidy at page) (sym (ap (λ (r : Result Node ℕ). child_in r i) page) ∙ is)
 
   -- an address is a way on
   abbrev HasPage : Path → ℕ → Type 0
@@ -120,8 +66,7 @@ module _ (file : List ℕ) (meta : Meta) where
           → ((w : List ℕ) (q : Place) (t : PageSpot) → place_at file meta w ≡ Some q → q.spot ≡ At_page t → leads nodes (Some t.number) address ≡ Some n → HasPage q.path n) → HasPage p.path n
       by None none onward = absurd (let gone : None ≡ Some n = sym (ap (λ (o : Option ℕ). leads nodes o address) none ∙ leads_none nodes address) ∙ lead in cc)
       by (Some child) there onward =
-          let (t, u, step, spot, number, path) = child_step p.path p.elements s i child (tidy_page way p s at is) there in
-          let next : step_place file meta p i ≡ Some t = ap (λ (x : Spot). place_on file meta p.path (slice_get p.elements i) (step_from nodes x i)) is ∙ step in
+          let (t, u, next, spot, number, path) = child_step p s i child (well_at file meta way p at).1 is there in
           let (w, q, v, found, stands, same, named) = onward (way ++ i ∷ []) t u (place_further file meta way i p at ∙ next) spot
           (ap (λ (x : ℕ). leads nodes (Some x) address) number ∙ ap (λ (o : Option ℕ). leads nodes o address) (sym there) ∙ lead) in
           (w, q, v, found, stands, same, named ∙ path)
@@ -150,46 +95,23 @@ module _ (file : List ℕ) (meta : Meta) where
       record { way = w; place = q; i = i; at = found; same = named; get = get; has = has; on = inl (subst IsOnPage (sym stands) tt) }
 
   -- a bucket among the entries begins one step further
-  abbrev HasStart : Start → Path → Option Place → Type 0
-  HasStart from path o = (t : Place) × (o ≡ Some t) × AtStart from t × (t.path ≡ path)
+  bucket_starts : (path : Path) (s : PageSpot) (e : LeafElement) (n : ℕ) → e.is_bucket ≡ true → ShowsEntry file meta n e → AtStart (start_of e.value) (bucket_place file meta path s e)
+  bucket_starts path s e n bucket shows = elim (cases_Bool (eqb (head_root e.value) 0)) [
+    | inl zero ↦ rw zero (refl, (n, e, shows, bucket, eqb-true (head_root e.value) 0 zero, refl))
+    | inr more ↦ rw more refl
+  ]
 
-  start_of_value : (path : Path) (e : LeafElement) (n host : ℕ) (zero : Bool) → eqb (head_root e.value) 0 ≡ zero → e.is_bucket ≡ true → ShowsEntry file meta n e
-      → HasStart (start_of e.value) (path ++ e.key ∷ []) (place_on file meta path (Some e) (bucket_spots host (leaf_entry e)))
-  start_of_value path e n host true zero bucket shows =
-      let spot : bucket_spots host (leaf_entry e) ≡ Some (At_inline host (leaf_entry e).inner) = rw (bucket, zero) refl in
-      let start : start_of e.value ≡ Inline_page (inline_elements e.value) = rw zero refl in
-      subst₂ (λ (from : Start) (o : Option Spot). HasStart from (path ++ e.key ∷ []) (place_on file meta path (Some e) o)) (sym start) (sym spot)
-      (_, refl, (refl, (n, e, shows, bucket, eqb-true (head_root e.value) 0 zero, refl)), refl)
-  start_of_value path e n host false zero bucket shows =
-      let spot : bucket_spots host (leaf_entry e) ≡ Some (At_page (root_spot (head_root e.value))) = rw (bucket, zero) refl in
-      let start : start_of e.value ≡ Root_page (head_root e.value) = rw zero refl in
-      subst₂ (λ (from : Start) (o : Option Spot). HasStart from (path ++ e.key ∷ []) (place_on file meta path (Some e) o)) (sym start) (sym spot) (_, refl, refl, refl)
-
-  bucket_form : (path : Path) (elements : List LeafElement) (s : PageSpot) (node : Node) (i : ℕ) (e : LeafElement) → HasForm node elements → nodes s.number ≡ Ok node → slice_get elements i ≡ Some e
-      → e.is_bucket ≡ true → ShowsEntry file meta s.number e → HasStart (start_of e.value) (path ++ e.key ∷ []) (place_on file meta path (slice_get elements i) (step_from nodes (At_page s) i))
-  bucket_form path elements s node i e (inl (leaf, entries)) page get bucket shows =
-      let step : step_from nodes (At_page s) i ≡ bucket_spots s.number (leaf_entry e) =
-      ap (λ (x : Result Node ℕ). step_at x s i) page ∙ ap (λ (b : Bool). step_entry b s (slice_get node.entries i) (slice_get node.entries (suc i))) leaf
-      ∙ ap (λ (o : Option Entry). step_entry true s o (slice_get node.entries (suc i))) (ap (λ (es : List Entry). slice_get es i) entries ∙ slice_get-map leaf_entry elements i ∙ ap (option_map leaf_entry) get) in
-      subst₂ (λ (o : Option LeafElement) (r : Option Spot). HasStart (start_of e.value) (path ++ e.key ∷ []) (place_on file meta path o r)) (sym get) (sym step)
-      (start_of_value path e s.number s.number (eqb (head_root e.value) 0) refl bucket shows)
-  bucket_form path elements s node i e (inr (branch, none)) page get bucket shows =
-      absurd (let gone : None ≡ Some e = sym (ap (λ (xs : List LeafElement). slice_get xs i) none) ∙ get in cc)
-
-  bucket_step : (path : Path) (elements : List LeafElement) (spot : Spot) (i : ℕ) (e : LeafElement) → IsTidyAt file meta elements spot → slice_get elements i ≡ Some e → Contains elements e
-      → e.is_bucket ≡ true → IsOnPage spot → HasStart (start_of e.value) (path ++ e.key ∷ []) (place_on file meta path (slice_get elements i) (step_from nodes spot i))
-  bucket_step path elements (At_inline host keys) i e tidy get has bucket on = absurd on
-  bucket_step path elements (At_page s) i e tidy get has bucket on = by (nodes s.number) refl
-    where
-      shows : ShowsEntry file meta s.number e
-      shows = shows_entry file meta s.number e (subst (λ (xs : List LeafElement). Contains xs e) tidy has)
-
-      no_page : (fault : ℕ) → nodes s.number ≡ Err fault → ⊥
-      no_page fault page = let (view, at, leaf, inside) = shows in let node : nodes s.number ≡ Ok _ = leaf_node file meta s.number view at leaf in cc
-
-      by : (r : Result Node ℕ) → nodes s.number ≡ r → HasStart (start_of e.value) (path ++ e.key ∷ []) (place_on file meta path (slice_get elements i) (step_from nodes (At_page s) i))
-      by (Err fault) page = absurd (no_page fault page)
-      by (Ok node) page = bucket_form path elements s node i e (subst (HasForm node) (sym tidy) (page_form file meta s.number node page)) page get bucket shows
+  bucket_step : (p : Place) (spot : Spot) (i : ℕ) (e : LeafElement) → IsTidy file meta p → p.spot ≡ spot → slice_get p.elements i ≡ Some e → e.is_bucket ≡ true → IsOnPage spot
+      → (t : Place) × (step_place file meta p i ≡ Some t) × AtStart (start_of e.value) t × (t.path ≡ p.path ++ e.key ∷ [])
+  bucket_step p (At_inline host keys) i e tidy at get bucket on = absurd on
+  bucket_step p (At_page s) i e tidy at get bucket on =
+      let has : Contains (leaves_of (page_at file meta s.number)) e = subst (λ (xs : List LeafElement). Contains xs e) (subst (IsTidyAt file meta p.elements) at tidy) (contains_at p.elements i e get) in
+      let shows = shows_entry file meta s.number e has in
+      let (view, page, leaf, inside) = shows in
+      elim (on_page file meta p s _ tidy at (leaf_node file meta s.number view page leaf)) [
+        | inl form ↦ (bucket_place file meta p.path s e, form.to i e get bucket, bucket_starts p.path s e s.number bucket shows, refl)
+        | inr branch ↦ absurd (none-some e (ap (λ (xs : List LeafElement). slice_get xs i) (sym branch.none) ∙ get))
+      ]
 
   module _ (survey : List Visit) (all : (way : List ℕ) (s : Spot) → reached nodes meta.root way ≡ Some s → Has survey (kept way)) where
     member_there : (path full : Path) (e : LeafElement) (item : Item) → IsThere path e → full ≡ path ++ e.key ∷ [] → item ≡ item_of e → IsRecoveredMember file meta survey full item
@@ -213,7 +135,7 @@ module _ (file : List ℕ) (meta : Meta) where
           | inr value ↦ absurd (not_value e.is_bucket bucket value)
           | inl on ↦
               let tidy = (well_at file meta there.way there.place there.at).1 in
-              let (t, step, begins, named) = bucket_step there.place.path there.place.elements there.place.spot there.i e tidy there.get there.has bucket on in
+              let (t, step, begins, named) = bucket_step there.place there.place.spot there.i e tidy refl there.get bucket on in
               (there.way ++ there.i ∷ [], t, place_further file meta there.way there.i there.place there.at ∙ step, begins, named ∙ ap (λ (q : Path). q ++ e.key ∷ []) there.same)
         ]
 
@@ -233,9 +155,7 @@ module _ (file : List ℕ) (meta : Meta) where
 -- the recovered listing of sound trees is their listing
 pub sound_listing : (file : List ℕ) (meta : Meta) (listing : List Member) → HasSoundTrees file meta → IsRecovered file meta listing → IsListing file meta listing
 sound_listing file meta listing trees recovered =
-    let nodes = node_at file meta in
-    let none = none_lost nodes (reached nodes meta.root) recovered.survey (shape_passes nodes meta.root trees) recovered.surveys in
-    let all = all_kept nodes (Some (At_page (root_spot meta.root))) recovered.survey recovered.surveys none in
+    let all = all_kept file meta recovered.survey recovered.surveys (none_lost file meta recovered.survey trees recovered.surveys) in
     record {
       rises = recovered.rises;
       exact = λ path item. (

@@ -1,33 +1,12 @@
 -- The walk over sound trees returns what is recovered of them, and nothing of them is lost.
 use Rattle.std.proofs.Common.{◌≡◌, ◌∙◌, ℕ, Err, IfOk, List, Ok, OnErr, Option, Result, [], inl, refl, sym}
-use Rattle.std.proofs.Math.Logic.{∥∥₁_elim, ∥∥₁_map}
-use Rattle.std.proofs.Props.{props}
-use Rattle.std.proofs.lemmas.List.Elements.{All-nil}
-use Rattle.std.specs.Option.{option_map}
-use Rattle.bolt_format.specs.declared.meta.Meta.{Meta}
+use Rattle.bolt_recover.proofs.Words.{All-nil, AreLosses, At_page, bytes_of, Checked, ForRecovered, Found, GivesNext, HasSoundTrees, IsClaimedBefore, IsFoundView, IsListing, IsMetaPage, IsRecovered, IsSearched, item_view, KeepsRoot, left_of, LossView, Member, Meta, meta_of, node_at, option_map, passes_fewer, props, reached, root_spot, shape_passes, Sound, walk_checked, walk_path, ∥∥₁_elim, ∥∥₁_map}
 use Rattle.bolt_check.proofs.CheckedLemmas.{checked_trees}
-use Rattle.bolt_check.proofs.Judging.{passes_fewer}
-use Rattle.bolt_check.proofs.Lawful.{shape_passes}
-use Rattle.bolt_check.specs.CheckedFiles.{bytes_of, meta_of}
-use Rattle.bolt_check.specs.Findings.{IsClaimedBefore, IsMetaPage}
-use Rattle.bolt_check.specs.Nodes.{node_at}
-use Rattle.bolt_check.specs.Sound.{HasSoundTrees}
-use Rattle.bolt_check.specs.Ways.{At_page, reached, root_spot}
-use Rattle.bolt_check.specs.declared.checked_file.Checked.{Checked}
 use Rattle.bolt_tree.specs.FileListings.{ForListing}
-use Rattle.bolt_tree.specs.Listing.{IsListing, Member}
-use Rattle.bolt_tree.specs.ShownEntries.{item_view}
-use Rattle.bolt_tree.specs.Walks.{GivesNext, left_of, walk_checked, walk_path}
 use Rattle.bolt_tree.specs.declared.entry.Item.{Item}
 use Rattle.bolt_tree.specs.declared.walk.Walk.{Walk}
-use Rattle.bolt_recover.specs.Losses.{AreLosses, LossView}
-use Rattle.bolt_recover.specs.Private.TreesLeft.{IsSearched}
-use Rattle.bolt_recover.specs.Recovered.{ForRecovered, IsRecovered}
-use Rattle.bolt_recover.specs.Refusals.{KeepsRoot}
-use Rattle.bolt_recover.specs.ShownFound.{IsFoundView}
-use Rattle.bolt_recover.specs.declared.found.Found.{Found}
-use Rattle.bolt_recover.specs.declared.lost_and_found.Trees.TheVariants.{Sound}
-use Rattle.bolt_recover.proofs.FoundAll.{found_none}
+use Rattle.bolt_recover.proofs.FoundAll.{are_none}
+use Rattle.bolt_recover.proofs.Existing.{has_survey}
 use Rattle.bolt_recover.proofs.JoinSteps.{gives_prop}
 use Rattle.bolt_recover.proofs.LostWays.{no_losses}
 use Rattle.bolt_recover.proofs.SoundListing.{sound_listing}
@@ -35,7 +14,7 @@ use Rattle.bolt_recover.proofs.SoundSurveys.{none_lost}
 
 pub no_loss : (file : List ℕ) (meta : Meta) (losses : List LossView) → HasSoundTrees file meta → AreLosses file meta losses → losses ≡ []
 no_loss file meta losses trees (survey, is, are) =
-    are ∙ no_losses file meta survey (none_lost (node_at file meta) (reached (node_at file meta) meta.root) survey (shape_passes (node_at file meta) meta.root trees) is)
+    are ∙ no_losses file meta survey (none_lost file meta survey trees is)
 
 pub keeps_root : (file : List ℕ) (meta : Meta) → HasSoundTrees file meta → KeepsRoot file meta
 keeps_root file meta trees =
@@ -47,11 +26,11 @@ keeps_root file meta trees =
 pub sound_searched : (file : List ℕ) (meta : Meta) (checked : Checked) (found : List Found) → bytes_of checked ≡ file → meta_of checked ≡ meta → found ≡ [] → HasSoundTrees file meta
     → IsSearched file meta (Sound checked) found
 sound_searched file meta checked found same_file same_meta none trees =
-    let nothing : (losses : List LossView) → AreLosses file meta losses → [] ≡ losses = λ losses are. sym (no_loss file meta losses trees are) in
+    let (survey, is) = has_survey file meta in
     record {
       left = (same_file, same_meta, none);
-      lost = (keeps_root file meta trees, nothing);
-      are_found = rw none (found_none file meta [] nothing refl);
+      lost = (keeps_root file meta trees, λ losses are. sym (no_loss file meta losses trees are));
+      are_found = rw none (are_none file meta survey is (none_lost file meta survey trees is));
       views = rw none (All-nil (IsFoundView file meta));
     }
 

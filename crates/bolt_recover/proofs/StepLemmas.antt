@@ -1,35 +1,15 @@
 -- What the steps of a recovering walk leave to be done.
-use Rattle.std.proofs.Common.{◌≡◌, ◌∙◌, ◌≤◌, ◌<◌, ℕ, suc, ◌+◌, ◌-◌, Bool, true, false, ◌||◌, ◌↔◌, List, [], ◌∷◌, ◌++◌, length, take, drop, Option, Some, None, Result, Ok, Err, OnOk, OnErr, slice_get, refl, sym, ap, subst, subst₂, arith, append_assoc, length-append}
-use Rattle.std.proofs.lemmas.List.{length-take-le, take-append-drop, take-append-le, take_all}
-use Rattle.std.specs.Option.{option_map}
-use Rattle.bolt_format.specs.Elements.{LeafElement}
-use Rattle.bolt_format.specs.Pages.{page_at}
-use Rattle.bolt_format.specs.declared.meta.Meta.{Meta}
-use Rattle.bolt_check.specs.Claims.{claims_file, claims_meta, is_claimed}
+use Rattle.std.proofs.Common.{◌≡◌, ◌∙◌, ◌≤◌, ◌<◌, ℕ, suc, ◌+◌, ◌-◌, Bool, true, false, ◌↔◌, List, [], ◌∷◌, ◌++◌, length, map, take, drop, Option, Some, None, Result, Ok, Err, OnErr, slice_get, refl, sym, ap, subst, subst₂, arith, append_assoc, length-append}
+use Rattle.bolt_recover.proofs.Words.{after_visit, after_visits, ahead_level, ahead_tasks, ahead_weight, append-nil, AreOpen, At_page, both_ways, claimed_after, claims_meta, claims_nodes, ComesTo, Content, content_elements, content_place, content_size, content_spot, counted, Ends, entry_tasks, Finding, Gives, gives_at, GivesHead, GoesOn, HasOpen, is_claimed, is_over, IsAllLeft, IsContent, IsGoodContent, IsGoodPage, IsMetaPage, IsShallow, LeafElement, length-take-le, loss_of, LossView, lost_state, Meta, meta_pages, nat_tests, NextVisit, node_at, NoWay, open_tasks, OpenPage, option_map, Outcome, outcome_of, over_by, Page, page_tasks, page_visit, page_weight, Passes, Path, Place, place_size, place_tasks, root_spot, Runs, spot_at, spot_place, State, state_tasks, stay, StaysOn, step_place, take-append-drop, take-append-le, take_all, tally_of, Task, tasks_after, tasks_from, Tests, visits_at}
 use Rattle.bolt_check.specs.declared.claims.Claims.{Claims}
-use Rattle.bolt_check.proofs.Judging.{passes_fewer, tests_same}
-use Rattle.bolt_check.specs.Counts.{counted}
-use Rattle.bolt_check.specs.Findings.{IsMetaPage, Passes, Tests}
-use Rattle.bolt_check.specs.Nodes.{node_at}
-use Rattle.bolt_check.specs.ShownSpots.{page_spot, spot_at}
-use Rattle.bolt_check.specs.Ways.{At_page, root_spot}
 use Rattle.bolt_check.specs.declared.spot.PageSpot.{PageSpot}
-use Rattle.std.proofs.lemmas.Bool.Decides.{nat_tests}
-use Rattle.std.specs.Cmp.{both_ways}
-use Rattle.bolt_check.specs.declared.finding.Finding.{Finding}
 use Rattle.bolt_check.specs.declared.spot.Spot.{Spot}
+use Rattle.bolt_recover.specs.declared.content.Content.TheVariants.{Bucket}
 use Rattle.bolt_check.specs.declared.spot.Spot.TheVariants as spots
-use Rattle.bolt_tree.specs.Listing.{Member}
-use Rattle.bolt_tree.specs.Paths.{Path}
-use Rattle.bolt_recover.specs.Losses.{LossView, loss_of}
-use Rattle.bolt_recover.specs.Places.{Place, leaves_of, step_place}
-use Rattle.bolt_recover.specs.Private.Frames.{AreOpen, ComesTo, Ends, GivesHead, GoesOn, HasOpen, IsContent, IsGoodContent, IsGoodPage, IsShallow, NoWay, State, StaysOn, ahead_level, ahead_tasks, ahead_weight, claims_nodes, content_elements, content_place, content_size, content_spot, is_over, lost_state, open_tasks, outcome_of, over_by, page_tasks, page_weight, state_tasks, stay, spot_place}
-use Rattle.bolt_recover.specs.Private.Runs.{Runs, RunsAll, Task, To_visit, Visited, claimed_with, claims_of, entry_tasks, gives_at, losses_in, meta_pages, page_visit, pages_visited, place_size, place_tasks, spans_in, tasks_from, visits_at}
-use Rattle.bolt_recover.specs.declared.content.Content.{Content}
-use Rattle.bolt_recover.specs.declared.content.Content.TheVariants.{Bucket, Page}
-use Rattle.bolt_recover.specs.declared.content.OpenPage.{OpenPage}
-use Rattle.bolt_recover.specs.declared.steps.NextVisit.{NextVisit}
-use Rattle.bolt_recover.proofs.RunSteps.{gives, keeps, loses}
+use Rattle.bolt_recover.proofs.RunExists.{or_none}
+use Rattle.bolt_recover.proofs.RunForgets.{blind_visit, forgotten, same_outcome}
+use Rattle.bolt_recover.proofs.RunSteps.{gives, visits_first}
+use Rattle.bolt_recover.proofs.SurveyIsOne.{gives_same}
 
 -- the innermost page is the last one
 open_last : (file : List ℕ) (meta : Meta) (path : Path) (pages : List OpenPage) (page : OpenPage) (rest : List (Task NoWay))
@@ -84,10 +64,6 @@ opened file meta path s content level count is long =
     let place : content_place (take level path) content ≡ spot_place file meta (take level path) s = λ i. record { spot = is.spot i; path = take level path; elements = is.elements i } in
     rw (none, long, size_is file meta content is.good) (ap (λ (p : Place). place_tasks file meta stay tt p) place)
 
-same_claims : (file : List ℕ) (meta : Meta) (a b : ℕ → Bool) (tasks : List (Task NoWay)) (visits : List (Visited NoWay)) (members : List Member)
-    → ((n : ℕ) → b n ≡ a n) → Runs file meta stay a tasks visits members → Runs file meta stay b tasks visits members
-same_claims file meta a b tasks visits members same run = subst (λ (f : ℕ → Bool). Runs file meta stay f tasks visits members) (sym (λ i n. same n i)) run
-
 -- while something is ahead or open, it isn't over
 not_ahead : (s : State) (ahead : NextVisit) → s.ahead ≡ Some ahead → is_over s ≡ true → ⊥
 not_ahead s ahead is over = let f : false ≡ true = ap (λ (o : Option NextVisit). over_by o s.pages) (sym is) ∙ over in cc
@@ -101,20 +77,32 @@ not_open : (s : State) (front : List OpenPage) (top : OpenPage) → s.ahead ≡ 
 not_open s front top is pages over =
     let f : false ≡ true = sym (more_open None front top) ∙ ap (over_by None) (sym pages) ∙ ap (λ (o : Option NextVisit). over_by o s.pages) (sym is) ∙ over in cc
 
-or_assoc : (a b c : Bool) → ((a || b) || c) ≡ (a || (b || c))
-or_assoc true b c = refl
-or_assoc false b c = refl
-
--- one visit more is counted, if it was of a page
-one_more : (old new one all : ℕ) (visits rest : List (Visited NoWay)) (v : Visited NoWay) → all ≡ counted old (pages_visited visits) → visits ≡ v ∷ rest → page_visit v.place.spot ≡ one
-    → new ≡ counted old one → all ≡ counted new (pages_visited rest)
-one_more old new one all visits rest v is same here counts =
-    let whole = ap (λ (vs : List (Visited NoWay)). pages_visited vs) same in omega (arith, is, whole, here, counts)
+-- what is ahead is visited
+after_ahead : (s : State) (ahead : NextVisit) (found : Option Finding) (claimed : ℕ → Bool) (pages : List OpenPage) (losses : List LossView) (visited : ℕ) → s.ahead ≡ Some ahead
+    → Gives (node_at s.file s.meta) (λ n. s.claimed n ≡ true) (spot_at ahead.spot) found
+    → open_tasks s.file s.meta s.path pages [] ≡ tasks_after s.file s.meta stay tt (spot_place s.file s.meta (take ahead.level s.path) ahead.spot) found ++ open_tasks s.file s.meta s.path s.pages []
+    → record { losses = losses; visited = visited; claimed = claimed } ≡ after_visit {W = NoWay} (node_at s.file s.meta) (tally_of s) (record { way = tt; place = spot_place s.file s.meta (take ahead.level s.path) ahead.spot; found = found })
+    → HasOpen (record s { claimed = claimed; ahead = None; pages = pages; losses = losses; visited = visited })
+    → GoesOn s (record s { claimed = claimed; ahead = None; pages = pages; losses = losses; visited = visited })
+after_ahead s ahead found claimed pages losses visited is gives tasks tally placed = record {
+  on = record { file = refl; meta = refl; placed = placed };
+  path = refl;
+  over = λ over. absurd (not_ahead s ahead is over);
+  same = λ members outcome comes.
+      let rest = open_tasks s.file s.meta s.path s.pages [] in
+      let first = subst (λ (o : Option NextVisit). Runs s.file s.meta stay s.claimed (ahead_tasks s.file s.meta s.path o rest) comes.visits members) is comes.run in
+      let (visits, same, run) = visits_first s.file s.meta stay s.claimed tt (spot_place s.file s.meta (take ahead.level s.path) ahead.spot) found rest comes.visits members gives first in
+      record {
+        visits = visits;
+        run = subst₂ (λ (o : Outcome) (ts : List (Task NoWay)). Runs s.file s.meta stay o.claimed ts visits members) (sym tally) (sym tasks) run;
+        all = comes.all ∙ ap (after_visits (node_at s.file s.meta) (tally_of s)) same ∙ ap (λ (o : Outcome). after_visits (node_at s.file s.meta) o visits) (sym tally);
+      };
+}
 
 -- what was ahead is open
 pub entered_page : (s : State) (ahead : NextVisit) (content : Content) (count : ℕ) (claimed : ℕ → Bool) (visited : ℕ) → HasOpen s → s.ahead ≡ Some ahead
     → Passes (node_at s.file s.meta) (λ n. s.claimed n ≡ true) (spot_at ahead.spot) → IsContent s.file s.meta ahead.spot content
-    → ((n : ℕ) → claimed n ≡ claimed_with (node_at s.file s.meta) s.claimed (spot_at ahead.spot) n) → visited ≡ counted s.visited (page_visit (spot_at ahead.spot))
+    → ((n : ℕ) → claimed n ≡ claimed_after (node_at s.file s.meta) s.claimed (spot_at ahead.spot) None n) → visited ≡ counted s.visited (page_visit (spot_at ahead.spot))
     → count ≡ content_size content → count < 65536
     → GoesOn s (record s { claimed = claimed; ahead = None; pages = s.pages ++ record { content = content; level = ahead.level; count = count; next = 0 } ∷ []; visited = visited })
 entered_page s ahead content count claimed visited has is passes content_is claims counts long fits =
@@ -122,33 +110,13 @@ entered_page s ahead content count claimed visited has is passes content_is clai
     let are = rw is at has.pages in
     let within = rw is at has.within in
     let none : 0 ≤ count = omega arith in
-    record {
-      on = record {
-        file = refl;
-        meta = refl;
-        placed = record {
-          pages = are_open_push s.file s.meta 0 s.pages page (length s.path) are (record { content = content_is.good; count = long; fits = fits; taken = none }) within;
-          within = omega arith;
-        };
-      };
-      path = refl;
-      over = λ over. absurd (not_ahead s ahead is over);
-      same = λ members outcome comes.
-          let first = subst (λ (o : Option NextVisit). Runs s.file s.meta stay s.claimed (ahead_tasks s.file s.meta s.path o (open_tasks s.file s.meta s.path s.pages [])) comes.visits members) is comes.run in
-          let next = keeps s.file s.meta stay s.claimed tt (spot_place s.file s.meta (take ahead.level s.path) ahead.spot) (open_tasks s.file s.meta s.path s.pages []) comes.visits members passes first in
-          record {
-            visits = next.0;
-            run = same_claims s.file s.meta (claimed_with (node_at s.file s.meta) s.claimed (spot_at ahead.spot)) claimed _ next.0 members claims
-                (subst (λ (ts : List (Task NoWay)). Runs s.file s.meta stay (claimed_with (node_at s.file s.meta) s.claimed (spot_at ahead.spot)) ts next.0 members)
-                (sym (open_last s.file s.meta s.path s.pages page [] ∙ ap (λ (ts : List (Task NoWay)). ts ++ open_tasks s.file s.meta s.path s.pages []) (opened s.file s.meta s.path ahead.spot content ahead.level count content_is long)))
-                next.2);
-            all = comes.all ∙ ap (λ (vs : List (Visited NoWay)). s.losses ++ losses_in vs) next.1;
-            pages = one_more s.visited visited (page_visit (spot_at ahead.spot)) outcome.visited comes.visits next.0 _ comes.pages next.1 refl counts;
-            spans = λ n. comes.spans n ∙ ap (λ (vs : List (Visited NoWay)). s.claimed n || spans_in (node_at s.file s.meta) vs n) next.1
-                ∙ sym (or_assoc (s.claimed n) (claims_of (node_at s.file s.meta) (spot_at ahead.spot) n) (spans_in (node_at s.file s.meta) next.0 n))
-                ∙ ap (λ (b : Bool). b || spans_in (node_at s.file s.meta) next.0 n) (sym (claims n));
-          };
-    }
+    after_ahead s ahead None claimed (s.pages ++ page ∷ []) s.losses visited is passes
+    (open_last s.file s.meta s.path s.pages page [] ∙ ap (λ (ts : List (Task NoWay)). ts ++ open_tasks s.file s.meta s.path s.pages []) (opened s.file s.meta s.path ahead.spot content ahead.level count content_is long))
+    (λ i. record { losses = sym (append-nil s.losses) i; visited = counts i; claimed = λ n. claims n i })
+    (record {
+      pages = are_open_push s.file s.meta 0 s.pages page (length s.path) are (record { content = content_is.good; count = long; fits = fits; taken = none }) within;
+      within = omega arith;
+    })
 
 -- what was ahead is lost
 pub entered_lost : (s : State) (ahead : NextVisit) (x : Finding) (claimed : ℕ → Bool) (visited : ℕ) → HasOpen s → s.ahead ≡ Some ahead
@@ -158,37 +126,30 @@ pub entered_lost : (s : State) (ahead : NextVisit) (x : Finding) (claimed : ℕ 
 entered_lost s ahead x claimed visited has is tests claims counts =
     let are = rw is at has.pages in
     let within = rw is at has.within in
-    let place : Place = spot_place s.file s.meta (take ahead.level s.path) ahead.spot in
-    record {
-      on = record { file = refl; meta = refl; placed = record { pages = are_open_up s.file s.meta 0 s.pages ahead.level (length s.path) are within; within = omega arith } };
-      path = refl;
-      over = λ over. absurd (not_ahead s ahead is over);
-      same = λ members outcome comes.
-          let first = subst (λ (o : Option NextVisit). Runs s.file s.meta stay s.claimed (ahead_tasks s.file s.meta s.path o (open_tasks s.file s.meta s.path s.pages [])) comes.visits members) is comes.run in
-          let next = loses s.file s.meta stay s.claimed tt place x (open_tasks s.file s.meta s.path s.pages []) comes.visits members tests first in
-          record {
-            visits = next.0;
-            run = same_claims s.file s.meta s.claimed claimed _ next.0 members claims next.2;
-            all = comes.all ∙ ap (λ (vs : List (Visited NoWay)). s.losses ++ losses_in vs) next.1
-                ∙ sym (append_assoc s.losses (loss_of place x ∷ []) (losses_in next.0));
-            pages = one_more s.visited visited (page_visit (spot_at ahead.spot)) outcome.visited comes.visits next.0 _ comes.pages next.1 refl counts;
-            spans = λ n. comes.spans n ∙ ap (λ (vs : List (Visited NoWay)). s.claimed n || spans_in (node_at s.file s.meta) vs n) next.1
-                ∙ ap (λ (b : Bool). b || spans_in (node_at s.file s.meta) next.0 n) (sym (claims n));
-          };
-    }
+    let losses : List LossView = s.losses ++ loss_of (spot_place s.file s.meta (take ahead.level s.path) ahead.spot) x ∷ [] in
+    after_ahead s ahead (Some x) claimed s.pages losses visited is tests refl (λ i. record { losses = losses; visited = counts i; claimed = λ n. (claims n ∙ sym (or_none (s.claimed n))) i })
+    (record { pages = are_open_up s.file s.meta 0 s.pages ahead.level (length s.path) are within; within = omega arith })
 
--- without what is ahead the tasks are those of the open pages
-run_open : (s : State) (visits : List (Visited NoWay)) (members : List Member) → s.ahead ≡ None → Runs s.file s.meta stay s.claimed (state_tasks s) visits members
-    → Runs s.file s.meta stay s.claimed (open_tasks s.file s.meta s.path s.pages []) visits members
-run_open s visits members is run =
-    subst (λ (o : Option NextVisit). Runs s.file s.meta stay s.claimed (ahead_tasks s.file s.meta s.path o (open_tasks s.file s.meta s.path s.pages [])) visits members) is run
+-- without what is ahead the tasks are those of the open pages, the innermost first
+tasks_top : (s : State) (front : List OpenPage) (top : OpenPage) → s.ahead ≡ None → s.pages ≡ front ++ top ∷ []
+    → state_tasks s ≡ page_tasks s.file s.meta s.path top ++ open_tasks s.file s.meta s.path front []
+tasks_top s front top is pages =
+    ap (λ (o : Option NextVisit). ahead_tasks s.file s.meta s.path o (open_tasks s.file s.meta s.path s.pages [])) is
+    ∙ ap (λ (ps : List OpenPage). open_tasks s.file s.meta s.path ps []) pages ∙ open_last s.file s.meta s.path front top []
 
-run_top : (s : State) (front : List OpenPage) (top : OpenPage) (visits : List (Visited NoWay)) (members : List Member) → s.ahead ≡ None → s.pages ≡ front ++ top ∷ []
-    → Runs s.file s.meta stay s.claimed (state_tasks s) visits members
-    → Runs s.file s.meta stay s.claimed (page_tasks s.file s.meta s.path top ++ open_tasks s.file s.meta s.path front []) visits members
-run_top s front top visits members is pages run =
-    subst (λ (ts : List (Task NoWay)). Runs s.file s.meta stay s.claimed ts visits members)
-    (ap (λ (ps : List OpenPage). open_tasks s.file s.meta s.path ps []) pages ∙ open_last s.file s.meta s.path front top []) (run_open s visits members is run)
+-- where the same is left to be done, the same comes of it
+goes_by : (s : State) (ahead : Option NextVisit) (pages : List OpenPage) → HasOpen (record s { ahead = ahead; pages = pages }) → (is_over s ≡ true → ⊥)
+    → state_tasks s ≡ state_tasks (record s { ahead = ahead; pages = pages }) → GoesOn s (record s { ahead = ahead; pages = pages })
+goes_by s ahead pages placed going same = record {
+  on = record { file = refl; meta = refl; placed = placed };
+  path = refl;
+  over = λ over. absurd (going over);
+  same = λ members outcome comes. record {
+    visits = comes.visits;
+    run = subst (λ (ts : List (Task NoWay)). Runs s.file s.meta stay s.claimed ts comes.visits members) same comes.run;
+    all = comes.all;
+  };
+}
 
 pub top_of : (s : State) (front : List OpenPage) (top : OpenPage) → HasOpen s → s.ahead ≡ None → s.pages ≡ front ++ top ∷ [] → Innermost s.file s.meta 0 front top (length s.path)
 top_of s front top has is pages =
@@ -201,19 +162,9 @@ pub took_last : (s : State) (front : List OpenPage) (top : OpenPage) → HasOpen
 took_last s front top has is pages over =
     let inner = top_of s front top has is pages in
     let nothing : top.count - top.next ≡ 0 = omega arith in
-    record {
-      on = record { file = refl; meta = refl; placed = record { pages = are_open_up s.file s.meta 0 front top.level (length s.path) inner.below inner.within; within = omega arith } };
-      path = refl;
-      over = λ over. absurd (not_open s front top is pages over);
-      same = λ members outcome comes. record {
-        visits = comes.visits;
-        run = subst (λ (n : ℕ). Runs s.file s.meta stay s.claimed (tasks_from s.file s.meta stay tt (content_place (take top.level s.path) top.content) top.next n ++ open_tasks s.file s.meta s.path front []) comes.visits members)
-            nothing (run_top s front top comes.visits members is pages comes.run);
-        all = comes.all;
-        pages = comes.pages;
-        spans = comes.spans;
-      };
-    }
+    goes_by s None front (record { pages = are_open_up s.file s.meta 0 front top.level (length s.path) inner.below inner.within; within = omega arith }) (not_open s front top is pages)
+    (tasks_top s front top is pages
+    ∙ ap (λ (n : ℕ). tasks_from s.file s.meta stay tt (content_place (take top.level s.path) top.content) top.next n ++ open_tasks s.file s.meta s.path front []) nothing)
 
 take_below : (m n : ℕ) (path rest : Path) → m ≤ length path → n ≤ m → take n (take m path ++ rest) ≡ take n path
 take_below m n path rest long le =
@@ -238,15 +189,13 @@ module _ (s : State) (front : List OpenPage) (top : OpenPage) (has : HasOpen s) 
   in_front : top.next + 1 ≤ top.count
   in_front = let taken = inner.good.taken in omega (arith, taken, more)
 
-  run_entry : (visits : List (Visited NoWay)) (members : List Member) → Runs s.file s.meta stay s.claimed (state_tasks s) visits members
-      → Runs s.file s.meta stay s.claimed (entry_tasks s.file s.meta stay tt here top.next ++ rest_tasks) visits members
-  run_entry visits members run =
+  tasks_entry : state_tasks s ≡ entry_tasks s.file s.meta stay tt here top.next ++ rest_tasks
+  tasks_entry =
       let lt = in_front in
       let count : top.count - top.next ≡ suc (top.count - (top.next + 1)) = omega (arith, lt) in
-      subst (λ (ts : List (Task NoWay)). Runs s.file s.meta stay s.claimed ts visits members)
-      (ap (λ (n : ℕ). tasks_from s.file s.meta stay tt here top.next n ++ open_tasks s.file s.meta s.path front []) count
-      ∙ append_assoc (entry_tasks s.file s.meta stay tt here top.next) (tasks_from s.file s.meta stay tt here (suc top.next) (top.count - (top.next + 1))) (open_tasks s.file s.meta s.path front []))
-      (run_top s front top visits members is pages run)
+      tasks_top s front top is pages
+      ∙ ap (λ (n : ℕ). tasks_from s.file s.meta stay tt here top.next n ++ open_tasks s.file s.meta s.path front []) count
+      ∙ append_assoc (entry_tasks s.file s.meta stay tt here top.next) (tasks_from s.file s.meta stay tt here (suc top.next) (top.count - (top.next + 1))) (open_tasks s.file s.meta s.path front [])
 
   moved_open : (high : ℕ) → top.level ≤ high → AreOpen s.file s.meta 0 (front ++ moved ∷ []) high
   moved_open high le = are_open_push s.file s.meta 0 front moved high inner.below (record { content = inner.good.content; count = inner.good.count; fits = inner.good.fits; taken = in_front }) le
@@ -277,36 +226,26 @@ module _ (s : State) (front : List OpenPage) (top : OpenPage) (has : HasOpen s) 
   ahead_above low level None high le up = omega (arith, le, up)
   ahead_above low level (Some spot) high le up = le
 
+  moved_placed : (path : Path) (level : ℕ) (r : Option Spot) → top.level ≤ level → level ≤ length path → HasOpen (record s { ahead = ahead_of level r; pages = front ++ moved ∷ []; path = path })
+  moved_placed path level r le within = record {
+    pages = moved_open (ahead_level (ahead_of level r) (length path)) (ahead_above top.level level r (length path) le within);
+    within = ahead_within level r (length path) within;
+  }
+
+  moved_left : (path : Path) (level : ℕ) (r : Option Spot) → ((n : ℕ) → n ≤ top.level → take n path ≡ take n s.path)
+      → visits_at s.file s.meta stay tt (option_map (spot_place s.file s.meta (take level path)) r) ++ rest_tasks ≡ ahead_tasks s.file s.meta path (ahead_of level r) (open_tasks s.file s.meta path (front ++ moved ∷ []) [])
+  moved_left path level r same = visits_ahead path level r rest_tasks ∙ ap (ahead_tasks s.file s.meta path (ahead_of level r)) (moved_tasks path same)
+
+  abbrev entry_left : Option LeafElement → Option Place → List (Task NoWay)
+  entry_left o q = (gives_at s.file s.meta stay (take top.level s.path) o ++ visits_at s.file s.meta stay tt q) ++ rest_tasks
+
   -- an element of a branch
   pub took_branch : (r : Option Spot) → slice_get (content_elements top.content) top.next ≡ None
       → step_place s.file s.meta here top.next ≡ option_map (spot_place s.file s.meta (take top.level s.path)) r
       → GoesOn s (record s { ahead = ahead_of top.level r; pages = front ++ moved ∷ [] })
   took_branch r none leads =
-      let within = inner.within in
-      record {
-        on = record {
-          file = refl;
-          meta = refl;
-          placed = record {
-            pages = moved_open (ahead_level (ahead_of top.level r) (length s.path)) (ahead_above top.level top.level r (length s.path) (omega arith) within);
-            within = ahead_within top.level r (length s.path) within;
-          };
-        };
-        path = refl;
-        over = λ over. absurd (not_open s front top is pages over);
-        same = λ members outcome comes. record {
-          visits = comes.visits;
-          run = subst (λ (ts : List (Task NoWay)). Runs s.file s.meta stay s.claimed ts comes.visits members)
-              (ap (λ (o : Option LeafElement). (gives_at s.file s.meta stay (take top.level s.path) o ++ visits_at s.file s.meta stay tt (step_place s.file s.meta here top.next)) ++ rest_tasks) none
-              ∙ ap (λ (o : Option Place). visits_at s.file s.meta stay tt o ++ rest_tasks) leads
-              ∙ visits_ahead s.path top.level r rest_tasks
-              ∙ ap (ahead_tasks s.file s.meta s.path (ahead_of top.level r)) (moved_tasks s.path (λ n le. refl)))
-              (run_entry comes.visits members comes.run);
-          all = comes.all;
-          pages = comes.pages;
-          spans = comes.spans;
-        };
-      }
+      goes_by s (ahead_of top.level r) (front ++ moved ∷ []) (moved_placed s.path top.level r (omega arith) inner.within) (not_open s front top is pages)
+      (tasks_entry ∙ ap (λ (o : Option LeafElement). entry_left o (step_place s.file s.meta here top.next)) none ∙ ap (entry_left None) leads ∙ moved_left s.path top.level r (λ n le. refl))
 
   -- an element of a leaf
   pub took_leaf : (e : LeafElement) (r : Option Spot) → slice_get (content_elements top.content) top.next ≡ Some e
@@ -318,19 +257,11 @@ module _ (s : State) (front : List OpenPage) (top : OpenPage) (has : HasOpen s) 
       let long : length path ≡ top.level + 1 = length-append (take top.level s.path) (e.key ∷ []) ∙ ap (λ (n : ℕ). n + 1) (length-take-le top.level s.path within) in
       let whole : take (top.level + 1) path ≡ path = take_all (top.level + 1) path (omega (arith, long)) in
       record {
-        on = record {
-          file = refl;
-          meta = refl;
-          placed = record {
-            pages = moved_open (ahead_level (ahead_of (top.level + 1) r) (length path)) (ahead_above top.level (top.level + 1) r (length path) (omega arith) (omega (arith, long)));
-            within = ahead_within (top.level + 1) r (length path) (omega (arith, long));
-          };
-        };
+        on = record { file = refl; meta = refl; placed = moved_placed path (top.level + 1) r (omega arith) (omega (arith, long)) };
         more = more_open (ahead_of (top.level + 1) r) front moved;
         head = λ members outcome comes.
             let first = subst (λ (ts : List (Task NoWay)). Runs s.file s.meta stay s.claimed ts comes.visits members)
-            (ap (λ (o : Option LeafElement). (gives_at s.file s.meta stay (take top.level s.path) o ++ visits_at s.file s.meta stay tt (step_place s.file s.meta here top.next)) ++ rest_tasks) some)
-            (run_entry comes.visits members comes.run) in
+            (tasks_entry ∙ ap (λ (o : Option LeafElement). entry_left o (step_place s.file s.meta here top.next)) some) comes.run in
             let next = gives s.file s.meta stay s.claimed path e (visits_at s.file s.meta stay tt (step_place s.file s.meta here top.next) ++ rest_tasks) comes.visits members first in (
               next.0,
               next.1,
@@ -338,12 +269,9 @@ module _ (s : State) (front : List OpenPage) (top : OpenPage) (has : HasOpen s) 
                 visits = comes.visits;
                 run = subst (λ (ts : List (Task NoWay)). Runs s.file s.meta stay s.claimed ts comes.visits next.0)
                     (ap (λ (o : Option Place). visits_at s.file s.meta stay tt o ++ rest_tasks) (leads ∙ ap (λ (p : Path). option_map (spot_place s.file s.meta p) r) (sym whole))
-                    ∙ visits_ahead path (top.level + 1) r rest_tasks
-                    ∙ ap (ahead_tasks s.file s.meta path (ahead_of (top.level + 1) r)) (moved_tasks path (λ n le. take_below top.level n s.path (e.key ∷ []) within le)))
+                    ∙ moved_left path (top.level + 1) r (λ n le. take_below top.level n s.path (e.key ∷ []) within le))
                     next.2;
                 all = comes.all;
-                pages = comes.pages;
-                spans = comes.spans;
               },
             );
       }
@@ -356,58 +284,40 @@ as_state P t file meta ahead pages path losses f m a g p l h =
     subst P (λ i. record { file = f i; meta = m i; claimed = t.claimed; ahead = a i; pages = g i; path = p i; losses = l i; visited = t.visited }) h
 
 -- the root page alone is ahead
-abbrev pub start_state : List ℕ → Meta → PageSpot → ℕ → State
-start_state file meta root begun =
-    record { file = file; meta = meta; claimed = meta_pages; ahead = Some (record { spot = spots.Page root; level = 0 }); pages = []; path = []; losses = []; visited = begun }
+abbrev pub root_at : Meta → PageSpot
+root_at meta = record { number = meta.root; depth = 1; lower = None; upper = None }
 
-pub started : (file : List ℕ) (meta : Meta) (root : PageSpot) (begun : ℕ) → page_spot root ≡ root_spot meta.root → root.number ≡ meta.root → (visits : List (Visited NoWay)) (members : List Member)
-    → RunsAll file meta stay tt visits members → ComesTo (start_state file meta root begun) members (outcome_of (node_at file meta) begun visits)
-started file meta root begun spot number visits members run = record {
-  visits = visits;
-  run = subst (λ (p : Place). Runs file meta stay meta_pages (To_visit tt p ∷ []) visits members)
-      (λ i. record { spot = At_page (sym spot i); path = []; elements = leaves_of (page_at file meta (sym number i)) }) run;
-  all = refl;
-  pages = refl;
-  spans = λ n. refl;
+abbrev start_state : List ℕ → Meta → ℕ → State
+start_state file meta begun =
+    record { file = file; meta = meta; claimed = meta_pages; ahead = Some (record { spot = spots.Page (root_at meta); level = 0 }); pages = []; path = []; losses = []; visited = begun }
+
+started : (file : List ℕ) (meta : Meta) (begun : ℕ) → IsAllLeft file meta begun (start_state file meta begun)
+started file meta begun visits members run = record {
+  visits = map blind_visit visits;
+  run = forgotten file meta visits members run;
+  all = sym (same_outcome (node_at file meta) (tally_of (start_state file meta begun)) visits);
 }
 
 -- the meta pages alone are claimed
 pub of_metas : (claimed : ℕ → Bool) → ((n : ℕ) → (claimed n ≡ true) ↔ IsMetaPage n) → (n : ℕ) → claimed n ≡ meta_pages n
 of_metas claimed metas n = both_ways (claimed n) (meta_pages n) (λ h. let is = (metas n).0 h in grind (arith, nat_tests)) (λ h. (metas n).1 (grind (arith, nat_tests)))
 
-pub root_refused : (claims : Claims) (file : List ℕ) (meta : Meta) (x : Finding) → claims_file claims ≡ file → claims_meta claims ≡ meta
-    → ((n : ℕ) → (is_claimed claims n ≡ true) ↔ IsMetaPage n) → Tests (claims_nodes claims) (λ n. is_claimed claims n ≡ true) (At_page (root_spot meta.root)) x
-    → Tests (node_at file meta) IsMetaPage (At_page (root_spot meta.root)) x
-root_refused claims file meta x f m metas h =
-    tests_same (node_at file meta) (λ n. is_claimed claims n ≡ true) IsMetaPage (At_page (root_spot meta.root)) x (λ n. (metas n).0) (λ n. (metas n).1)
-    (subst₂ (λ (a : List ℕ) (b : Meta). Tests (node_at a b) (λ n. is_claimed claims n ≡ true) (At_page (root_spot meta.root)) x) f m h)
-
-pub root_kept : (claims : Claims) (file : List ℕ) (meta : Meta) → claims_file claims ≡ file → claims_meta claims ≡ meta
-    → ((n : ℕ) → (is_claimed claims n ≡ true) ↔ IsMetaPage n) → Passes (claims_nodes claims) (λ n. is_claimed claims n ≡ true) (At_page (root_spot meta.root))
-    → Passes (node_at file meta) IsMetaPage (At_page (root_spot meta.root))
-root_kept claims file meta f m metas h =
-    passes_fewer (node_at file meta) (λ n. is_claimed claims n ≡ true) IsMetaPage (At_page (root_spot meta.root)) (λ n. (metas n).1)
-    (subst₂ (λ (a : List ℕ) (b : Meta). Passes (node_at a b) (λ n. is_claimed claims n ≡ true) (At_page (root_spot meta.root))) f m h)
-
-pub either : {A X E P Q : Type 0} (result : Result X E) → OnOk result P → OnErr result Q → (P → A) → (Q → A) → A
-either (Ok x) p q f g = f p
-either (Err e) p q f g = g q
+pub root_gives : (claims : Claims) (found : Option Finding) → ((n : ℕ) → (is_claimed claims n ≡ true) ↔ IsMetaPage n)
+    → Gives (claims_nodes claims) (λ n. is_claimed claims n ≡ true) (At_page (root_spot (claims_meta claims).root)) found → Gives (claims_nodes claims) IsMetaPage (At_page (root_spot (claims_meta claims).root)) found
+root_gives claims found metas h =
+    gives_same (claims_nodes claims) (λ n. is_claimed claims n ≡ true) IsMetaPage (At_page (root_spot (claims_meta claims).root)) found (λ n. (metas n).0) (λ n. (metas n).1) h
 
 -- the root page is open
-pub begins : (file f : List ℕ) (meta m : Meta) (before claimed : ℕ → Bool) (begun visited : ℕ) (root : PageSpot) (content : Content) (count : ℕ) → f ≡ file → m ≡ meta → ((n : ℕ) → before n ≡ meta_pages n)
-    → page_spot root ≡ root_spot meta.root → root.number ≡ meta.root → Passes (node_at f m) (λ n. before n ≡ true) (At_page (page_spot root)) → IsContent f m (spots.Page root) content
-    → ((n : ℕ) → claimed n ≡ claimed_with (node_at f m) before (At_page (page_spot root)) n) → visited ≡ counted begun 1 → count ≡ content_size content → count < 65536
-    → (visits : List (Visited NoWay)) (members : List Member) → RunsAll file meta stay tt visits members
-    → ComesTo (record { file = f; meta = m; claimed = claimed; ahead = None; pages = record { content = content; level = 0; count = count; next = 0 } ∷ []; path = []; losses = []; visited = visited })
-    members (outcome_of (node_at file meta) begun visits)
-begins file f meta m before claimed begun visited root content count e h metas spot number passes is claims counts long fits visits members run =
-    let s : State = record (start_state f m root begun) { claimed = before } in
-    let ahead : NextVisit = record { spot = spots.Page root; level = 0 } in
-    let here : ComesTo s members (outcome_of (node_at file meta) begun visits) =
-    subst (λ (t : State). ComesTo t members (outcome_of (node_at file meta) begun visits))
-    (λ i. record { file = sym e i; meta = sym h i; claimed = λ n. sym (metas n) i; ahead = Some ahead; pages = []; path = []; losses = []; visited = begun }) (started file meta root begun spot number visits members run) in
+pub begins : (file : List ℕ) (meta : Meta) (before claimed : ℕ → Bool) (begun visited : ℕ) (content : Content) (count : ℕ) → ((n : ℕ) → before n ≡ meta_pages n)
+    → Passes (node_at file meta) (λ n. before n ≡ true) (At_page (root_spot meta.root)) → IsContent file meta (spots.Page (root_at meta)) content
+    → ((n : ℕ) → claimed n ≡ claimed_after (node_at file meta) before (At_page (root_spot meta.root)) None n) → visited ≡ counted begun 1 → count ≡ content_size content → count < 65536
+    → IsAllLeft file meta begun (record { file = file; meta = meta; claimed = claimed; ahead = None; pages = record { content = content; level = 0; count = count; next = 0 } ∷ []; path = []; losses = []; visited = visited })
+begins file meta before claimed begun visited content count metas passes is claims counts long fits visits members run =
+    let s : State = record (start_state file meta begun) { claimed = before } in
+    let outcome = outcome_of (node_at file meta) begun visits in
+    let here : ComesTo s members outcome = subst (λ (f : ℕ → Bool). ComesTo (record s { claimed = f }) members outcome) (λ i n. sym (metas n) i) (started file meta begun visits members run) in
     let placed : HasOpen s = record { pages = omega arith; within = omega arith } in
-    (entered_page s ahead content count claimed visited placed refl passes is claims counts long fits).same members (outcome_of (node_at file meta) begun visits) here
+    (entered_page s (record { spot = spots.Page (root_at meta); level = 0 }) content count claimed visited placed refl passes is claims counts long fits).same members outcome here
 
 -- the element to be taken next is there
 pub next_below : (file : List ℕ) (meta : Meta) (page : OpenPage) → IsGoodPage file meta page → (page.next ≡ page.count → ⊥) → page.next < content_size page.content

@@ -1,13 +1,8 @@
 -- There is at most one survey. Where two first differ, the preceding kept ways are the same, and so is what the tests find.
 use Rattle.std.proofs.Common.{◌≡◌, ◌∙◌, ℕ, ◌⊎◌, inl, inr, List, [], ◌∷◌, ◌++◌, map, Option, Some, None, refl, sym, ap, subst}
-use Rattle.bolt_check.specs.Nodes.{Nodes}
-use Rattle.bolt_check.specs.Tours.{IsBeforeAll, Rises}
-use Rattle.bolt_check.specs.Ways.{Before, Reach, Spot}
-use Rattle.bolt_check.specs.declared.finding.Finding.{Finding}
-use Rattle.bolt_check.proofs.Judging.{passes_fewer, passes_silent, tests_same}
+use Rattle.bolt_recover.proofs.Words.{Before, before_irreflexive, before_strict, before_total, before_trans, Finding, Gives, Has, IsBeforeAll, IsClaimedIn, IsOpen, IsSurvey, kept, Meta, node_at, Nodes, passes_fewer, passes_silent, Reach, reached, Spot, Surveys, tests_same, Visit}
+use Rattle.bolt_check.specs.Tours.{Rises}
 use Rattle.bolt_check.proofs.Single.{tests_one}
-use Rattle.bolt_check.proofs.WayOrder.{before_irreflexive, before_strict, before_total, before_trans}
-use Rattle.bolt_recover.specs.Surveys.{Gives, Has, IsClaimedIn, IsOpen, Surveys, Visit, kept}
 
 abbrev pub ways : List Visit → List (List ℕ)
 ways visits = map (λ (v : Visit). v.way) visits
@@ -24,6 +19,11 @@ before_each : (way : List ℕ) (rest : List Visit) → IsBeforeAll way (ways res
 before_each way [] h w has = absurd has
 before_each way (x ∷ rest) h w (inl e) = rw e h.0
 before_each way (x ∷ rest) h w (inr has) = before_each way rest h.1 w has
+
+-- before the first of them, before all
+before_all : (x y : Visit) (rest : List Visit) → Rises (ways (y ∷ rest)) → Before x.way y.way → (w : Visit) → Has (y ∷ rest) w → Before x.way w.way
+before_all x y rest rises lt w (inl e) = subst (λ (z : Visit). Before x.way z.way) (sym e) lt
+before_all x y rest rises lt w (inr has) = before_trans x.way y.way w.way lt (before_each y.way rest rises.0 w has)
 
 pub parent_before : (parent : List ℕ) (i : ℕ) → Before parent (parent ++ i ∷ [])
 parent_before [] i = tt
@@ -47,18 +47,15 @@ open_over a b InFront x xs ys at_a at_b (inl e) = inl e
 open_over a b InFront x xs ys at_a at_b (inr (parent, i, e, has)) =
     inr (parent, i, e, at_b.front (kept parent) (earlier a InFront x xs at_a (kept parent) has (subst (λ (z : List ℕ). Before parent z) (sym e) (parent_before parent i))))
 
-gives_same : (nodes : Nodes) (a b : ℕ → Type 0) (s : Spot) (f : Option Finding) → ((n : ℕ) → a n → b n) → ((n : ℕ) → b n → a n) → Gives nodes a s f → Gives nodes b s f
+pub gives_same : (nodes : Nodes) (a b : ℕ → Type 0) (s : Spot) (f : Option Finding) → ((n : ℕ) → a n → b n) → ((n : ℕ) → b n → a n) → Gives nodes a s f → Gives nodes b s f
 gives_same nodes a b s None to from h = passes_fewer nodes a b s from h
 gives_same nodes a b s (Some x) to from h = tests_same nodes a b s x to from h
 
-gives_one : (nodes : Nodes) (a : ℕ → Type 0) (s : Spot) (f g : Option Finding) → Gives nodes a s f → Gives nodes a s g → f ≡ g
+pub gives_one : (nodes : Nodes) (a : ℕ → Type 0) (s : Spot) (f g : Option Finding) → Gives nodes a s f → Gives nodes a s g → f ≡ g
 gives_one nodes a s None None h k = refl
 gives_one nodes a s None (Some y) h k = absurd (passes_silent nodes a s y h k)
 gives_one nodes a s (Some x) None h k = absurd (passes_silent nodes a s x k h)
 gives_one nodes a s (Some x) (Some y) h k = ap Some (tests_one nodes a s x y h k)
-
-same_visit : (v w : List ℕ) (f g : Option Finding) → v ≡ w → f ≡ g → (record { way = v; found = f }) ≡ (let z : Visit = record { way = w; found = g } in z)
-same_visit v w f g e h = rw (e, h) refl
 
 module _ (nodes : Nodes) (reach : Reach) where
   -- the other survey can't pass over the first visit of the rest
@@ -78,22 +75,15 @@ module _ (nodes : Nodes) (reach : Reach) where
   claims_over a b InFront x xs ys at_a at_b n (inl h) = inl h
   claims_over a b InFront x xs ys at_a at_b n (inr (v, (has, lt, span))) = inr (v, (at_b.front (kept v) (earlier a InFront x xs at_a (kept v) has lt), lt, span))
 
-  same_spot : (v w : List ℕ) (s t : Spot) → v ≡ w → reach v ≡ Some s → reach w ≡ Some t → s ≡ t
-  same_spot v w s t e f g = let h : reach w ≡ Some s = subst (λ (z : List ℕ). reach z ≡ Some s) e f in cc
-
-  same_found : (a b : List Visit) → Surveys nodes reach a → Surveys nodes reach b → (InFront : Visit → Type 0) (x y : Visit) (xs ys : List Visit)
-      → Suffix a InFront (x ∷ xs) → Suffix b InFront (y ∷ ys) → x.way ≡ y.way → x.found ≡ y.found
-  same_found a b of_a of_b InFront x y xs ys at_a at_b e =
-      let p = (of_a.only x (at_a.inside x (inl refl))).1 in
-      let q = (of_b.only y (at_b.inside y (inl refl))).1 in
-      let spot = same_spot x.way y.way p.0 q.0 e p.1 q.1 in
-      let here = gives_same nodes (IsClaimedIn nodes reach a x.way) (IsClaimedIn nodes reach b x.way) p.0 x.found
-      (claims_over a b InFront x xs (y ∷ ys) at_a at_b)
-      (λ n h. subst (λ (z : List ℕ). IsClaimedIn nodes reach a z n) (sym e)
-      (claims_over b a InFront y ys (x ∷ xs) at_b at_a n (subst (λ (z : List ℕ). IsClaimedIn nodes reach b z n) e h))) p.2 in
-      let there = subst (λ (z : List ℕ). Gives nodes (IsClaimedIn nodes reach b z) q.0 y.found) (sym e) q.2 in
-      gives_one nodes (IsClaimedIn nodes reach b x.way) q.0 x.found y.found
-      (subst (λ (s : Spot). Gives nodes (IsClaimedIn nodes reach b x.way) s x.found) spot here) there
+  same_found : (a b : List Visit) → Surveys nodes reach a → Surveys nodes reach b → (InFront : Visit → Type 0) (way : List ℕ) (f g : Option Finding) (xs ys : List Visit)
+      → Suffix a InFront (record { way = way; found = f } ∷ xs) → Suffix b InFront (record { way = way; found = g } ∷ ys) → f ≡ g
+  same_found a b of_a of_b InFront way f g xs ys at_a at_b =
+      let (s, led, gives) = (of_a.only _ (at_a.inside _ (inl refl))).1 in
+      let (t, also, gives_too) = (of_b.only _ (at_b.inside _ (inl refl))).1 in
+      let same : t ≡ s = cc in
+      gives_one nodes (IsClaimedIn nodes reach b way) s f g
+      (gives_same nodes (IsClaimedIn nodes reach a way) (IsClaimedIn nodes reach b way) s f (claims_over a b InFront _ xs (_ ∷ ys) at_a at_b) (claims_over b a InFront _ ys (_ ∷ xs) at_b at_a) gives)
+      (subst (λ (z : Spot). Gives nodes (IsClaimedIn nodes reach b way) z g) same gives_too)
 
   pub next_suffix : (a : List Visit) (InFront : Visit → Type 0) (x z : Visit) (xs : List Visit) → z ≡ x → Suffix a InFront (x ∷ xs)
       → Suffix a (λ v. InFront v ⊎ (v ≡ z)) xs
@@ -116,14 +106,13 @@ module _ (nodes : Nodes) (reach : Reach) where
   same_from a b of_a of_b InFront (x ∷ xs) (y ∷ ys) at_a at_b =
       elim (before_total x.way y.way) [
         | inl e ↦
-            let same : x ≡ y = same_visit x.way y.way x.found y.found e (same_found a b of_a of_b InFront x y xs ys at_a at_b e) in
+            let found : x.found ≡ y.found = same_found a b of_a of_b InFront x.way x.found y.found xs ys at_a (subst (λ (w : List ℕ). Suffix b InFront (record { way = w; found = y.found } ∷ ys)) (sym e) at_b) in
+            let same : x ≡ y = λ i. record { way = e i; found = found i } in
             let rest = same_from a b of_a of_b (λ v. InFront v ⊎ (v ≡ x)) xs ys (next_suffix a InFront x x xs refl at_a) (next_suffix b InFront y x ys same at_b) in
             rw (same, rest) refl
         | inr d ↦ elim d [
-          | inl lt ↦ absurd (not_missing a b of_a of_b InFront x xs (y ∷ ys) at_a at_b
-              (λ w h. elim h [ inl e ↦ subst (λ (z : Visit). Before x.way z.way) (sym e) lt | inr k ↦ before_trans x.way y.way w.way lt (before_each y.way ys at_b.rises.0 w k) ]))
-          | inr gt ↦ absurd (not_missing b a of_b of_a InFront y ys (x ∷ xs) at_b at_a
-              (λ w h. elim h [ inl e ↦ subst (λ (z : Visit). Before y.way z.way) (sym e) gt | inr k ↦ before_trans y.way x.way w.way gt (before_each x.way xs at_a.rises.0 w k) ]))
+          | inl lt ↦ absurd (not_missing a b of_a of_b InFront x xs (y ∷ ys) at_a at_b (before_all x y ys at_b.rises lt))
+          | inr gt ↦ absurd (not_missing b a of_b of_a InFront y ys (x ∷ xs) at_b at_a (before_all y x xs at_a.rises gt))
         ]
       ]
 
@@ -136,5 +125,9 @@ module _ (nodes : Nodes) (reach : Reach) where
     rises = of_a.rises;
   }
 
-  pub one_survey : (a b : List Visit) → Surveys nodes reach a → Surveys nodes reach b → a ≡ b
+  one_survey : (a b : List Visit) → Surveys nodes reach a → Surveys nodes reach b → a ≡ b
   one_survey a b of_a of_b = same_from a b of_a of_b (λ v. ⊥) a b (whole a of_a) (whole b of_b)
+
+-- a file has at most one
+pub same_survey : (file : List ℕ) (meta : Meta) (a b : List Visit) → IsSurvey file meta a → IsSurvey file meta b → a ≡ b
+same_survey file meta = one_survey (node_at file meta) (reached (node_at file meta) meta.root)

@@ -1,12 +1,12 @@
 -- The pages that are found though nothing leads to them: docs/RECOVERY.md, "Found pages".
-use Rattle.std.specs.Prelude.{◌≡◌, ℕ, zero, suc, ◌⊎◌, List, [], ◌∷◌, ◌++◌, Contains, None, map}
+use Rattle.std.specs.Prelude.{◌≡◌, ℕ, zero, suc, ◌⊎◌, List, [], ◌∷◌, ◌++◌, Contains, map}
 use Rattle.bolt_format.specs.declared.meta.Meta.{Meta}
 use Rattle.bolt_check.specs.LoneLeaves.{IsListedFree, IsLoneLeaf}
 use Rattle.bolt_check.specs.Nodes.{node_at}
 use Rattle.bolt_check.specs.Ways.{At_page, SpanAt, root_spot}
 use Rattle.bolt_check.specs.declared.finding.Finding.{Finding}
 use Rattle.bolt_recover.specs.KeptPages.{IsKeptPage}
-use Rattle.bolt_recover.specs.Surveys.{Has, IsSurvey, Visit, lost}
+use Rattle.bolt_recover.specs.Surveys.{Has, IsSurvey, LosesNothing, Visit, lost}
 use Rattle.bolt_recover.specs.declared.found.Found.{Found}
 
 module _ (file : List ℕ) (meta : Meta) where
@@ -31,7 +31,7 @@ module _ (file : List ℕ) (meta : Meta) where
   pub record AreFound (found : List ℕ) : Type 0 where
     pub survey : List Visit
     pub surveys : IsSurvey file meta survey
-    pub none : ((v : Visit) → Has survey v → v.found ≡ None) → found ≡ []
+    pub none : LosesNothing survey → found ≡ []
     pub some : (way : List ℕ) (x : Finding) → Has survey (lost way x) → FoundBelow (IsKeptPage file meta survey) meta.high_water found
 
 -- the numbers of found pages of the code

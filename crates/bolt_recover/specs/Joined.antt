@@ -1,5 +1,5 @@
 -- The recovered listing, joined with what is found: docs/RECOVERY.md, "The joined listing".
-use Rattle.std.specs.Prelude.{◌≡◌, ◌==◌, ◌&&◌, ◌⊎◌, ℕ, Bool, true, false, IsTrue, List, [], ◌∷◌, ◌++◌, Contains, None, codes, if◌then◌else◌, is_none, map, not}
+use Rattle.std.specs.Prelude.{◌≡◌, ◌≢◌, ◌==◌, ◌&&◌, ◌⊎◌, ℕ, Bool, true, false, IsTrue, List, [], ◌∷◌, ◌++◌, Contains, None, codes, if◌then◌else◌, is_none, map, not}
 use Rattle.std.specs.Ordering.{is_eq}
 use Rattle.bolt_format.specs.Elements.{LeafElement, head_root, head_sequence, inline_elements}
 use Rattle.bolt_format.specs.Pages.{page_at}
@@ -69,6 +69,10 @@ HasBucketKey listing = (m : Member) × (Contains listing m × (is_found_path m.0
 -- It has none.
 abbrev pub LacksBucketKey : List Member → Type 0
 LacksBucketKey listing = (m : Member) → Contains listing m → not (is_found_path m.0) ≡ true
+
+-- If a page is found, there is room for its bucket.
+abbrev pub LeavesRoom : List ℕ → Meta → Type 0
+LeavesRoom file meta = (recovered : List Member) (found : List ℕ) → IsRecovered file meta recovered → AreFound file meta found → found ≢ [] → LacksBucketKey recovered
 
 -- an element under a path
 abbrev pub IsElement : List LeafElement → Path → Member → Type 0

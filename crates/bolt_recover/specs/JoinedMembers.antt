@@ -1,8 +1,12 @@
 -- What the members of the joined listing show.
-use Rattle.std.specs.Prelude.{ℕ, List}
+use Rattle.std.specs.Prelude.{◌≡◌, ℕ, List, Option}
+use Rattle.std.specs.Option.{option_map}
 use Rattle.bolt_format.specs.declared.meta.Meta.{Meta}
 use Rattle.bolt_tree.specs.Listing.{Member}
 use Rattle.bolt_tree.specs.Paths.{Path}
+use Rattle.bolt_tree.specs.ShownEntries.{item_view}
+use Rattle.bolt_tree.specs.Walks.{GivesNext}
+use Rattle.bolt_tree.specs.declared.entry.Item.{Item}
 use Rattle.bolt_recover.specs.Joined.{IsJoined}
 use Rattle.bolt_recover.specs.Private.Joining.{left_at, path_at, recovered_in, work_at}
 use Rattle.bolt_recover.specs.Private.KeptMembers.{kept_file, kept_meta}
@@ -29,3 +33,12 @@ joined_path joined = path_at joined.stage joined.kept joined.bucket
 -- What is promised of the joined listing is promised for each; there is exactly one (`laws`).
 abbrev pub ForJoined : List ℕ → Meta → (List Member → Type 0) → Type 0
 ForJoined file meta P = (listing : List Member) → IsJoined file meta listing → P listing
+
+-- The first member of the joined listing that was left is given, with its path, and the others are left; or none was left, and none is.
+abbrev pub GivesJoined : Joined → Joined → Option Item → Type 0
+GivesJoined old new given =
+    ForJoined (joined_file old) (joined_meta old) (λ listing. GivesNext (joined_left old listing) (joined_left new listing) (joined_path new) (option_map item_view given))
+
+-- the same of it is left
+abbrev pub LeavesJoined : Joined → Joined → Type 0
+LeavesJoined old new = ForJoined (joined_file old) (joined_meta old) (λ listing. joined_left new listing ≡ joined_left old listing)

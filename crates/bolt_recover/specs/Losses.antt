@@ -23,8 +23,11 @@ abbrev pub upper_of : Spot → Option Key
 upper_of (At_page s) = s.upper
 upper_of (At_inline host keys) = None
 
+abbrev pub loss_on : Path → Spot → Finding → LossView
+loss_on path s x = record { finding = x; bucket = path; lower = lower_of s; upper = upper_of s }
+
 abbrev pub loss_of : Place → Finding → LossView
-loss_of p x = record { finding = x; bucket = p.path; lower = lower_of p.spot; upper = upper_of p.spot }
+loss_of p x = loss_on p.path p.spot x
 
 abbrev pub loss_at : Option Place → Option Finding → List LossView
 loss_at None found = []

@@ -4,5 +4,6 @@ pub mod FoundLeft
 pub mod Frames
 pub mod Joining
 pub mod KeptMembers
+pub mod LeavesLeft
 pub mod Runs
 pub mod TreesLeft

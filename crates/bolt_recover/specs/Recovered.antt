@@ -2,10 +2,10 @@
 use Rattle.std.specs.Prelude.{◌≡◌, ◌↔◌, ℕ, List, [], ◌∷◌, ◌++◌, Contains, Some}
 use Rattle.bolt_format.specs.Elements.{LeafElement}
 use Rattle.bolt_format.specs.declared.meta.Meta.{Meta}
-use Rattle.bolt_tree.specs.Entries.{Item, item_of}
+use Rattle.bolt_tree.specs.Entries.{IsEntry, Item, Root_page, item_of}
 use Rattle.bolt_tree.specs.Listing.{Member, member_cmp}
 use Rattle.bolt_tree.specs.Order.{Rises}
-use Rattle.bolt_tree.specs.Paths.{Path}
+use Rattle.bolt_tree.specs.Paths.{Holds, Path}
 use Rattle.bolt_recover.specs.Places.{Place, place_at}
 use Rattle.bolt_recover.specs.Surveys.{Has, IsSurvey, Visit, kept}
 
@@ -19,6 +19,10 @@ pub record IsRecoveredMember (file : List ℕ) (meta : Meta) (survey : List Visi
   pub has : Contains place.elements element
   pub named : path ≡ place.path ++ element.key ∷ []
   pub is : item ≡ item_of element
+
+-- Each of these is what its path holds: an entry of the bucket that the path names.
+abbrev pub AreHeld : List ℕ → Meta → List Visit → Type 0
+AreHeld file meta survey = (path : Path) (item : Item) → IsRecoveredMember file meta survey path item → Holds (IsEntry file meta) (Root_page meta.root) path item
 
 -- the rising list of exactly these
 pub record IsRecovered (file : List ℕ) (meta : Meta) (listing : List Member) : Type 0 where

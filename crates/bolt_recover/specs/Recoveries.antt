@@ -1,10 +1,17 @@
 -- What a recovery shows: the file that it reads, the part of the recovered listing that is left, and the losses so far.
-use Rattle.std.specs.Prelude.{◌≡◌, ℕ, Bool, List, length, take}
+use Rattle.std.specs.Prelude.{◌≡◌, ◌≤◌, ℕ, Bool, List, Option, length, take}
+use Rattle.std.specs.Option.{option_map}
 use Rattle.bolt_format.specs.declared.meta.Meta.{Meta}
+use Rattle.bolt_check.specs.Counts.{counted}
 use Rattle.bolt_tree.specs.Listing.{Member}
 use Rattle.bolt_tree.specs.Paths.{Path}
+use Rattle.bolt_tree.specs.ShownEntries.{item_view}
+use Rattle.bolt_tree.specs.Walks.{GivesNext}
+use Rattle.bolt_tree.specs.declared.entry.Item.{Item}
 use Rattle.bolt_recover.specs.Losses.{AreLosses, LossView}
+use Rattle.bolt_recover.specs.PageWays.{ForPageWays}
 use Rattle.bolt_recover.specs.Private.Frames.{left_by, state_of, steps_weight}
+use Rattle.bolt_recover.specs.Recovered.{ForRecovered}
 use Rattle.bolt_recover.specs.declared.recovery.Recovery.{Recovery}
 
 unfoldable pub recovery_file : Recovery → List ℕ
@@ -40,9 +47,30 @@ recovery_claimed recovery = (state_of recovery.steps).claimed
 unfoldable pub recovery_losses : Recovery → List LossView
 recovery_losses recovery = (state_of recovery.steps).losses
 
+-- The first member of the recovered listing that was left is given, with its path, and the others are left; or none was left, and none is.
+abbrev pub GivesRecovered : Recovery → Recovery → Option Item → Type 0
+GivesRecovered old new given =
+    ForRecovered (recovery_file old) (recovery_meta old) (λ listing. GivesNext (recovery_left old listing) (recovery_left new listing) (recovery_path new) (option_map item_view given))
+
+-- the same of it is left
+abbrev pub LeavesRecovered : Recovery → Recovery → Type 0
+LeavesRecovered old new = ForRecovered (recovery_file old) (recovery_meta old) (λ listing. recovery_left new listing ≡ recovery_left old listing)
+
+-- each way to a page number was visited once
+abbrev pub HasVisitedAll : Recovery → Recovery → Type 0
+HasVisitedAll old new = ForPageWays (recovery_file old) (recovery_meta old) (λ ways. recovery_visited new ≡ counted (recovery_begun old) ways)
+
 -- What is promised of the losses of a file is promised for each list of them; there is exactly one (`laws`).
 abbrev pub ForLosses : List ℕ → Meta → (List LossView → Type 0) → Type 0
 ForLosses file meta P = (losses : List LossView) → AreLosses file meta losses → P losses
+
+-- all losses are reported
+abbrev pub HasReportedAll : Recovery → Recovery → Type 0
+HasReportedAll old new = ForLosses (recovery_file old) (recovery_meta old) (λ losses. recovery_losses new ≡ losses)
+
+-- no way to a page number was visited twice
+abbrev pub IsWithinWays : Recovery → Type 0
+IsWithinWays recovery = ForPageWays (recovery_file recovery) (recovery_meta recovery) (λ ways. recovery_visited recovery ≤ counted (recovery_begun recovery) ways)
 
 -- these are the first of all losses
 abbrev pub AreFirst : List LossView → List LossView → Type 0

@@ -46,3 +46,7 @@ pub record Surveys (nodes : Nodes) (reach : Reach) (survey : List Visit) : Type 
 -- the survey of a file under a meta
 abbrev pub IsSurvey : List ℕ → Meta → List Visit → Type 0
 IsSurvey file meta survey = Surveys (node_at file meta) (reached (node_at file meta) meta.root) survey
+
+-- no way of a survey is lost
+abbrev pub LosesNothing : List Visit → Type 0
+LosesNothing survey = (v : Visit) → Has survey v → v.found ≡ None

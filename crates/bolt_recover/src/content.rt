@@ -1,17 +1,15 @@
 //! A kept page, and how many of its elements are done.
-ghost use Rattle.std.specs.Prelude.{◌≡◌, ◌≤◌, ◌<◌, ◌+◌, ℕ, List, true, IfErr, IfOk, IfSome, OnErr, OnOk, IsTrue, slice_get};
+ghost use Rattle.std.specs.Prelude.{◌≡◌, ◌≤◌, ◌<◌, ◌+◌, ℕ, List, true, IfErr, IfOk, IfSome, OnErr, OnOk, IsTrue, slice_get, None, Some};
 ghost use Rattle.std.specs.Option.{option_map};
 ghost use Rattle.bolt_format.specs.Elements.{IsBucketValue};
 ghost use Rattle.bolt_format.specs.ElementPlaces.{leaf_view};
-ghost use Rattle.bolt_format.specs.declared.meta.Meta.{Meta};
 ghost use Rattle.bolt_check.specs.Claims.{claims_file, claims_meta, claims_visited, is_claimed, pages_left};
 ghost use Rattle.bolt_check.specs.Counts.{counted};
 ghost use Rattle.bolt_check.specs.Findings.{Passes, Tests};
 ghost use Rattle.bolt_check.specs.ShownSpots.{spot_at};
-ghost use Rattle.bolt_tree.specs.Paths.{Path};
-ghost use Rattle.bolt_recover.specs.Places.{step_place};
-ghost use Rattle.bolt_recover.specs.Private.Frames.{IsContent, IsGoodContent, IsShallow, claims_nodes, content_elements, content_place, content_size, pages_in, step_path, spot_place};
-ghost use Rattle.bolt_recover.specs.Private.Runs.{claimed_with, page_visit};
+ghost use Rattle.bolt_recover.specs.Private.Frames.{IsContent, IsShallow, LeadsTo, claims_nodes, claims_with, content_elements, content_size, pages_in};
+ghost use Rattle.bolt_recover.specs.Private.Runs.{page_visit};
+ghost use Rattle.bolt_recover.specs.Private.ElementsLeft.{GivesElement, elements_left, elements_of};
 
 use bolt_check::{BucketSpot, Claims, Finding, PageSpot, Spot, TreePage};
 use bolt_format::Leaf;
@@ -46,7 +44,7 @@ impl<'a> Content<'a> {
         ensures left { OnErr result (pages_left claims.new ≡ pages_left claims.old) }
         ensures passes { OnOk result (Passes (claims_nodes claims.old) (λ n. is_claimed claims.old n ≡ true) (spot_at spot.entry)) }
         ensures content { IfOk result (IsContent (claims_file claims.old) (claims_meta claims.old) spot.entry) }
-        ensures claims { OnOk result ((n : ℕ) → is_claimed claims.new n ≡ claimed_with (claims_nodes claims.old) (is_claimed claims.old) (spot_at spot.entry) n) }
+        ensures claims { OnOk result ((n : ℕ) → is_claimed claims.new n ≡ claims_with claims.old (spot_at spot.entry) n) }
         ensures fewer { IfOk result (λ content. pages_left claims.new + pages_in content ≤ pages_left claims.old) }
     {
         match spot {
@@ -85,12 +83,54 @@ impl<'a> Content<'a> {
     pub fn spot(&self, i: u16) -> Option<Spot<'a>>
         requires shallow { IsShallow self.now }
         requires below { i < content_size self.now }
-        ensures { (file : List ℕ) (meta : Meta) (path : Path) → IsGoodContent file meta self.now
-            → step_place file meta (content_place path self.now) i ≡ option_map (spot_place file meta (step_path path (slice_get (content_elements self.now) i))) result }
+        ensures { LeadsTo self.now i result }
     {
         match self {
             Content::Page(page, spot) => page.spot(i, spot),
             Content::Bucket(_) => None,
         }
+    }
+}
+
+/// What is left of the elements of a page.
+#[derive(Clone, Copy)]
+pub(crate) struct Elements<'a> {
+    pub content: Content<'a>,
+    /// The next element.
+    pub next: u16,
+}
+
+impl<'a> Elements<'a> {
+    /// All elements of a page.
+    pub fn new(content: Content<'a>) -> Elements<'a>
+        ensures { result ≡ record { content = content.entry; next = 0 } }
+    {
+        Elements { content, next: 0 }
+    }
+
+    /// Returns the first element that is left, if any.
+    pub fn next(&mut self) -> Option<Leaf<'a>>
+        ensures given { GivesElement (elements_left self.old) (elements_left self.new) (option_map leaf_view result) }
+        ensures bucket { IfSome result (λ leaf. IsTrue leaf.is_bucket → IsBucketValue leaf.value.now) }
+    {
+        if self.next >= self.content.count() {
+            return None;
+        }
+        let Some(leaf) = self.content.leaf(self.next) else {
+            return None;
+        };
+        self.next += 1;
+        Some(leaf)
+    }
+}
+
+/// Returns the first element that is left of an open page, if any.
+pub(crate) fn next_of<'a>(elements: &mut Option<Elements<'a>>) -> Option<Leaf<'a>>
+    ensures given { GivesElement (elements_of elements.old) (elements_of elements.new) (option_map leaf_view result) }
+    ensures bucket { IfSome result (λ leaf. IsTrue leaf.is_bucket → IsBucketValue leaf.value.now) }
+{
+    match elements {
+        Some(elements) => elements.next(),
+        None => None,
     }
 }

@@ -11,8 +11,7 @@ ghost use Rattle.bolt_tree.specs.Tree.{end};
 ghost use Rattle.bolt_recover.specs.Joined.{inside_of, lost_and_found, tree_with};
 ghost use Rattle.bolt_recover.specs.Private.ElementsLeft.{elements_left, elements_of};
 
-use crate::content::Content;
-use crate::elements::{Elements, next_of};
+use crate::content::{Content, Elements, next_of};
 use crate::found::Found;
 use crate::found_key::lost_and_found;
 use bolt_check::{BucketSpot, PageSpot, TreePage};

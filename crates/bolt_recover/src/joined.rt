@@ -1,11 +1,8 @@
 //! The members of the joined listing: those that are recovered and, in the bucket `lost+found`, what
 //! is found.
-ghost use Rattle.std.specs.Option.{option_map};
 ghost use Rattle.std.specs.Prelude.{◌≡◌, ◌≢◌, ◌<◌, ◌*◌, ◌^◌, [], List, None, IfErr, IfOk, IfSome, OnErr, OnOk, length};
 ghost use Rattle.bolt_check.specs.declared.finding.Finding.{Finding};
 ghost use Rattle.bolt_tree.specs.Listing.{Member};
-ghost use Rattle.bolt_tree.specs.ShownEntries.{item_view};
-ghost use Rattle.bolt_tree.specs.Walks.{GivesNext};
 ghost use Rattle.bolt_recover.specs.Found.{numbers_of};
 ghost use Rattle.bolt_recover.specs.Joined.{IsJoined, LacksBucketKey};
 ghost use Rattle.bolt_recover.specs.JoinRefusals.{IsJoinRefusal};
@@ -126,7 +123,7 @@ fn kept_of<'a>(alloc: Global, both: &LostAndFound<'a>) -> Result<Kept<'a>, JoinF
 
 #[tactic(auto, unfolding(crate::specs::JoinedMembers::joined_file, crate::specs::JoinedMembers::joined_left, crate::specs::JoinedMembers::joined_meta, crate::specs::JoinedMembers::joined_path, crate::specs::JoinedMembers::joined_work))]
 impl<'a> Joined<'a> {
-    ghost use Rattle.bolt_recover.specs.JoinedMembers.{ForJoined, joined_file, joined_left, joined_meta, joined_path, joined_work};
+    ghost use Rattle.bolt_recover.specs.JoinedMembers.{ForJoined, GivesJoined, LeavesJoined, joined_file, joined_left, joined_meta, joined_path, joined_work};
 
     /// The members of the joined listing of a file that was searched. If its trees are sound, a plain
     /// walk returns them, and no page is tested again; otherwise a recovery, which needs a table of
@@ -180,10 +177,10 @@ impl<'a> Joined<'a> {
         requires stage { self.old.stage ≡ stages.Before }
         ensures file { joined_file self.new ≡ joined_file self.old }
         ensures meta { joined_meta self.new ≡ joined_meta self.old }
-        ensures given { IfOk result (λ given. ForJoined (joined_file self.old) (joined_meta self.old) (λ listing. GivesNext (joined_left self.old listing) (joined_left self.new listing) (joined_path self.new) (option_map item_view given))) }
+        ensures given { IfOk result (GivesJoined self.old self.new) }
         ensures fewer { IfOk result (λ given. IfSome given (λ _. joined_work self.new < joined_work self.old)) }
         ensures ended { IfOk result (λ given. given ≡ None → ⊥) }
-        ensures same { OnErr result (ForJoined (joined_file self.old) (joined_meta self.old) (λ listing. joined_left self.new listing ≡ joined_left self.old listing)) }
+        ensures same { OnErr result (LeavesJoined self.old self.new) }
         ensures same_path { OnErr result (joined_path self.new ≡ joined_path self.old) }
     {
         let item = self.kept.next()?;
@@ -201,9 +198,9 @@ impl<'a> Joined<'a> {
         requires stage { self.old.stage ≡ stages.Inside }
         ensures file { joined_file self.new ≡ joined_file self.old }
         ensures meta { joined_meta self.new ≡ joined_meta self.old }
-        ensures given { IfOk result (λ given. ForJoined (joined_file self.old) (joined_meta self.old) (λ listing. GivesNext (joined_left self.old listing) (joined_left self.new listing) (joined_path self.new) (option_map item_view given))) }
+        ensures given { IfOk result (GivesJoined self.old self.new) }
         ensures fewer { IfOk result (λ given. IfSome given (λ _. joined_work self.new < joined_work self.old)) }
-        ensures same { OnErr result (ForJoined (joined_file self.old) (joined_meta self.old) (λ listing. joined_left self.new listing ≡ joined_left self.old listing)) }
+        ensures same { OnErr result (LeavesJoined self.old self.new) }
         ensures same_path { OnErr result (joined_path self.new ≡ joined_path self.old) }
     {
         if let Some(item) = self.bucket.next() {

@@ -8,21 +8,20 @@ ghost use Rattle.bolt_check.specs.Nodes.{node_at};
 ghost use Rattle.bolt_check.specs.Sound.{HasSoundTrees, IsFirstFinding};
 ghost use Rattle.bolt_check.specs.Ways.{At_page, Before, SpanAt, root_spot};
 ghost use Rattle.bolt_check.specs.declared.finding.Finding.{Finding};
-ghost use Rattle.bolt_tree.specs.Entries.{Bucket, IsEntry, Item, Root_page};
+ghost use Rattle.bolt_tree.specs.Entries.{Bucket};
 ghost use Rattle.bolt_tree.specs.Listing.{IsListing, Member, member_cmp};
 ghost use Rattle.bolt_tree.specs.Order.{Rises};
-ghost use Rattle.bolt_tree.specs.Paths.{Holds, Path};
 ghost use Rattle.bolt_tree.specs.Tree.{Tree, listing_of};
 ghost use Rattle.bolt_recover.specs.Found.{AreFound, IsFoundPage};
-ghost use Rattle.bolt_recover.specs.Joined.{IsFoundMember, IsJoined, LacksBucketKey, is_found_path, lost_and_found};
+ghost use Rattle.bolt_recover.specs.Joined.{IsFoundMember, IsJoined, LacksBucketKey, LeavesRoom, is_found_path, lost_and_found};
 ghost use Rattle.bolt_recover.specs.JoinedMembers.{ForJoined, joined_file, joined_meta};
 ghost use Rattle.bolt_recover.specs.KeptPages.{IsKeptPage};
 ghost use Rattle.bolt_recover.specs.Losses.{AreLosses, LossView, loss_of, losses_of};
 ghost use Rattle.bolt_recover.specs.PageWays.{ArePageWays};
 ghost use Rattle.bolt_recover.specs.Places.{Place, place_at};
-ghost use Rattle.bolt_recover.specs.Recovered.{IsRecovered, IsRecoveredMember};
+ghost use Rattle.bolt_recover.specs.Recovered.{AreHeld, IsRecovered};
 ghost use Rattle.bolt_recover.specs.Recoveries.{recovery_file};
-ghost use Rattle.bolt_recover.specs.Surveys.{Has, IsSurvey, Visit, lost};
+ghost use Rattle.bolt_recover.specs.Surveys.{Has, IsSurvey, LosesNothing, Visit, lost};
 
 use crate::joined::Joined;
 use crate::recovery::Recovery;
@@ -33,6 +32,7 @@ pub fn survey_is_one()
 {}
 
 /// Each file has a survey.
+#[tactic(auto, using(crate::proofs::Existing::has_survey))]
 pub fn each_file_has_a_survey()
     ensures { (file : List ℕ) (meta : Meta) → (survey : List Visit) × IsSurvey file meta survey }
 {}
@@ -43,6 +43,7 @@ pub fn recovered_listing_is_one()
 {}
 
 /// Each file has a recovered listing.
+#[tactic(auto, using(crate::proofs::Existing::has_recovered))]
 pub fn each_file_has_a_recovered_listing()
     ensures { (file : List ℕ) (meta : Meta) → (listing : List Member) × IsRecovered file meta listing }
 {}
@@ -54,7 +55,7 @@ pub fn recovered_listing_is_of_a_tree()
 
 /// Each recovered member is what its path holds: an entry of the bucket that the path names.
 pub fn recovered_members_are_held()
-    ensures { (file : List ℕ) (meta : Meta) (survey : List Visit) (path : Path) (item : Item) → IsRecoveredMember file meta survey path item → Holds (IsEntry file meta) (Root_page meta.root) path item }
+    ensures { (file : List ℕ) (meta : Meta) (survey : List Visit) → AreHeld file meta survey }
 {}
 
 /// A file has at most one list of losses.
@@ -64,7 +65,7 @@ pub fn losses_are_one()
 
 /// Sound trees lose nothing.
 pub fn sound_trees_lose_nothing()
-    ensures { (file : List ℕ) (meta : Meta) (survey : List Visit) (v : Visit) → HasSoundTrees file meta → IsSurvey file meta survey → Has survey v → v.found ≡ None }
+    ensures { (file : List ℕ) (meta : Meta) (all : List Visit) (v : Visit) → HasSoundTrees file meta → IsSurvey file meta all → Has all v → v.found ≡ None }
 {}
 
 /// The recovered listing of sound trees is their listing.
@@ -80,7 +81,7 @@ pub fn first_loss_is_the_first_finding()
 
 /// The trees are sound if no way is lost, and so if there is no loss.
 pub fn nothing_lost_means_sound_trees()
-    ensures ways { (file : List ℕ) (meta : Meta) (survey : List Visit) → IsSurvey file meta survey → ((v : Visit) → Has survey v → v.found ≡ None) → HasSoundTrees file meta }
+    ensures ways { (file : List ℕ) (meta : Meta) (survey : List Visit) → IsSurvey file meta survey → LosesNothing survey → HasSoundTrees file meta }
     ensures losses { (file : List ℕ) (meta : Meta) → AreLosses file meta [] → HasSoundTrees file meta }
 {}
 
@@ -97,7 +98,7 @@ pub fn each_lost_way_has_one_loss()
 
 /// What is recovered of sound trees is what they list, and there is no loss.
 pub fn sound_trees_recover_what_they_list()
-    ensures listing { (file : List ℕ) (meta : Meta) (listing : List Member) → HasSoundTrees file meta → IsListing file meta listing → IsRecovered file meta listing }
+    ensures listing { (file : List ℕ) (meta : Meta) (all : List Member) → HasSoundTrees file meta → IsListing file meta all → IsRecovered file meta all }
     ensures losses { (file : List ℕ) (meta : Meta) (losses : List LossView) → HasSoundTrees file meta → AreLosses file meta losses → losses ≡ [] }
 {}
 
@@ -118,6 +119,7 @@ pub fn found_pages_are_one()
 {}
 
 /// Each file has found pages: one list, which may be empty.
+#[tactic(auto, using(crate::proofs::FoundExists::has_found))]
 pub fn each_file_has_found_pages()
     ensures { (file : List ℕ) (meta : Meta) → (found : List ℕ) × AreFound file meta found }
 {}
@@ -131,7 +133,8 @@ pub fn nothing_lost_finds_nothing()
 /// page with a kept way or with another found page.
 pub fn found_pages_are_intact()
     ensures below { (file : List ℕ) (meta : Meta) (found : List ℕ) (n : ℕ) → AreFound file meta found → Contains found n → n < meta.high_water }
-    ensures leaf { (file : List ℕ) (meta : Meta) (found : List ℕ) (survey : List Visit) (n : ℕ) → AreFound file meta found → IsSurvey file meta survey → Contains found n
+    ensures leaf { (file : List ℕ) (meta : Meta) (found : List ℕ) (survey : List Visit) (n : ℕ)
+        → AreFound file meta found → IsSurvey file meta survey → Contains found n
         → IsLoneLeaf (node_at file meta) (IsKeptPage file meta survey) n }
     ensures unlisted { (file : List ℕ) (meta : Meta) (found : List ℕ) (n : ℕ) → AreFound file meta found → Contains found n → IsListedFree file meta n → ⊥ }
     ensures apart { (file : List ℕ) (meta : Meta) (found : List ℕ) (n m k : ℕ) → AreFound file meta found → Contains found n → Contains found m
@@ -141,7 +144,8 @@ pub fn found_pages_are_intact()
 /// No intact leaf is left behind: if something is lost, each one that isn't listed as free shares a
 /// page with a kept way or with a found page.
 pub fn no_intact_leaf_is_left_behind()
-    ensures { (file : List ℕ) (meta : Meta) (found : List ℕ) (survey : List Visit) (way : List ℕ) (x : Finding) (n : ℕ) → AreFound file meta found → IsSurvey file meta survey → Has survey (lost way x)
+    ensures { (file : List ℕ) (meta : Meta) (found : List ℕ) (survey : List Visit) (way : List ℕ) (x : Finding) (n : ℕ)
+        → AreFound file meta found → IsSurvey file meta survey → Has survey (lost way x)
         → IsLoneLeaf (node_at file meta) (λ k. ⊥) n → (IsListedFree file meta n → ⊥)
         → (k : ℕ) × SpanAt (node_at file meta) (At_page (root_spot n)) k × (IsKeptPage file meta survey k ⊎ IsFoundPage file meta found k) }
 {}
@@ -152,6 +156,7 @@ pub fn joined_listing_is_one()
 {}
 
 /// Each file has a joined listing.
+#[tactic(auto, using(crate::proofs::JoinedLemmas::has_joined))]
 pub fn each_file_has_a_joined_listing()
     ensures { (file : List ℕ) (meta : Meta) → (listing : List Member) × IsJoined file meta listing }
 {}
@@ -172,13 +177,14 @@ pub fn joined_listing_keeps_what_is_recovered()
 /// than sixteen digits, and there is room for the bucket of what is found.
 pub fn joined_listing_rises()
     ensures { (file : List ℕ) (meta : Meta) (listing : List Member) → IsJoined file meta listing → length file < 10 ^ 16 * meta.page_size
-        → ((recovered : List Member) (found : List ℕ) → IsRecovered file meta recovered → AreFound file meta found → found ≢ [] → LacksBucketKey recovered) → Rises member_cmp listing }
+        → LeavesRoom file meta → Rises member_cmp listing }
 {}
 
 /// Each member of a joined listing is recovered, or it is the bucket of what is found, or in it: the
 /// bucket of a found page, an element of the page, or one of an inline bucket on the page.
 pub fn joined_members_are_recovered_or_found()
-    ensures { (file : List ℕ) (meta : Meta) (listing recovered : List Member) (found : List ℕ) (m : Member) → IsJoined file meta listing → IsRecovered file meta recovered → AreFound file meta found
+    ensures { (file : List ℕ) (meta : Meta) (listing recovered : List Member) (found : List ℕ) (m : Member)
+        → IsJoined file meta listing → IsRecovered file meta recovered → AreFound file meta found
         → Contains listing m → Contains recovered m ⊎ ((m ≡ (lost_and_found ∷ [], Bucket 0)) ⊎ IsFoundMember file meta found m) }
 {}
 

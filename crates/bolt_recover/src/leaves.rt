@@ -1,10 +1,10 @@
 //! Intact leaves that nothing leads to.
 ghost use Rattle.std.specs.List.{All};
-ghost use Rattle.std.specs.Prelude.{◌≡◌, ◌↔◌, ◌<◌, ℕ, true, IfOk};
-ghost use Rattle.bolt_check.specs.Leftovers.{is_listed, is_taken, leftovers_file, leftovers_length, leftovers_meta};
-ghost use Rattle.bolt_check.specs.LoneLeaves.{IsListedFree};
+ghost use Rattle.std.specs.Prelude.{◌<◌, IfOk};
+ghost use Rattle.bolt_check.specs.Leftovers.{leftovers_file, leftovers_meta};
 ghost use Rattle.bolt_check.specs.declared.finding.Finding.{Finding};
-ghost use Rattle.bolt_recover.specs.Found.{AreFound, FoundBelow, numbers_of};
+ghost use Rattle.bolt_recover.specs.Found.{AreFound, numbers_of};
+ghost use Rattle.bolt_recover.specs.Private.LeavesLeft.{AreAmong, NotesFree};
 ghost use Rattle.bolt_recover.specs.Refusals.{LosesRoot};
 ghost use Rattle.bolt_recover.specs.ShownFound.{IsFoundView};
 
@@ -34,8 +34,8 @@ pub(crate) fn find_leaves<'a>(
     alloc: Global,
     mut leftovers: Leftovers<'a>,
 ) -> Result<Vec<Found<'a>>, NoMemory>
-    requires { (n : ℕ) → n < leftovers_length leftovers → (is_listed leftovers n ≡ true) ↔ IsListedFree (leftovers_file leftovers) (leftovers_meta leftovers) n }
-    ensures found { IfOk result (λ found. FoundBelow (leftovers_file leftovers.entry) (leftovers_meta leftovers.entry) (λ n. is_taken leftovers.entry n ≡ true) (leftovers_meta leftovers.entry).high_water (numbers_of found.items)) }
+    requires { NotesFree leftovers }
+    ensures found { IfOk result (λ found. AreAmong leftovers.entry found.items) }
     ensures views { IfOk result (λ found. All (IsFoundView (leftovers_file leftovers.entry) (leftovers_meta leftovers.entry)) found.items) }
 {
     let mut found = Vec::new(alloc);

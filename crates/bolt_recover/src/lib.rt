@@ -3,7 +3,6 @@
 #![tactic(auto)]
 
 mod content;
-mod elements;
 mod found;
 mod found_key;
 mod found_members;
@@ -12,14 +11,12 @@ mod kept;
 pub mod laws;
 mod leaves;
 mod loss;
-mod lost;
 mod lost_and_found;
 mod recovery;
 mod steps;
 
 pub use found::Found;
 pub use joined::{JoinFault, Joined};
-pub use loss::Loss;
-pub use lost::Lost;
+pub use loss::{Loss, Lost};
 pub use lost_and_found::LostAndFound;
 pub use recovery::Recovery;

@@ -2,8 +2,8 @@
 ghost use Rattle.std.specs.Prelude.{◌≡◌};
 ghost use Rattle.bolt_check.specs.ShownSpots.{spot_at};
 ghost use Rattle.bolt_tree.specs.Paths.{path_of};
-ghost use Rattle.bolt_recover.specs.Losses.{lower_of, upper_of};
-ghost use Rattle.bolt_recover.specs.ShownLosses.{loss_view};
+ghost use Rattle.bolt_recover.specs.Losses.{loss_on, is_nothing};
+ghost use Rattle.bolt_recover.specs.ShownLosses.{loss_view, lost_view};
 
 use bolt_check::{Finding, Spot};
 
@@ -25,7 +25,7 @@ pub struct Loss<'a> {
 impl<'a> Loss<'a> {
     /// The loss of what a spot leads to, in the bucket with this path.
     pub fn new(finding: Finding, bucket: Vec<&'a [u8]>, spot: &Spot<'a>) -> Loss<'a>
-        ensures { loss_view result ≡ record { finding = finding; bucket = path_of bucket.entry.items; lower = lower_of (spot_at spot.now); upper = upper_of (spot_at spot.now) } }
+        ensures { loss_view result ≡ loss_on (path_of bucket.entry.items) (spot_at spot.now) finding }
     {
         let (lower, upper) = match spot {
             Spot::Page(page) => (page.lower, page.upper),
@@ -36,6 +36,27 @@ impl<'a> Loss<'a> {
             bucket,
             lower,
             upper,
+        }
+    }
+}
+
+/// What is lost of a damaged file.
+#[derive(Clone, Copy)]
+pub enum Lost<'a> {
+    /// Everything, since the root page is lost, with this finding.
+    Everything(Finding),
+    /// What these losses say.
+    Parts(&'a [Loss<'a>]),
+}
+
+impl Lost<'_> {
+    /// Whether nothing is lost.
+    pub fn is_nothing(self) -> bool
+        ensures { result ≡ is_nothing (lost_view self.entry) }
+    {
+        match self {
+            Lost::Everything(_) => false,
+            Lost::Parts(losses) => losses.is_empty(),
         }
     }
 }

@@ -11,8 +11,7 @@ ghost use Rattle.bolt_recover.specs.ShownLosses.{lost_view};
 
 use crate::found::Found;
 use crate::leaves::found_without_root;
-use crate::loss::Loss;
-use crate::lost::Lost;
+use crate::loss::{Loss, Lost};
 use crate::recovery::Recovery;
 use bolt_check::{CheckFault, Checked, Finding, NoMemory, check_under};
 use bolt_format::Meta;

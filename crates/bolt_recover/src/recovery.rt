@@ -1,5 +1,5 @@
 //! A walk over everything that is kept of a damaged file.
-ghost use Rattle.std.specs.Option.{IfNone, option_map};
+ghost use Rattle.std.specs.Option.{IfNone};
 ghost use Rattle.std.specs.Prelude.{◌≡◌, ◌<◌, ◌≤◌, ◌↔◌, ◌^◌, ℕ, [], true, IfErr, IfOk, IfSome, OnErr, OnOk, map};
 ghost use Rattle.bolt_check.specs.Claims.{claims_file, claims_meta, claims_visited, is_claimed};
 ghost use Rattle.bolt_check.specs.Counts.{counted};
@@ -7,11 +7,8 @@ ghost use Rattle.bolt_check.specs.Findings.{IsMetaPage};
 ghost use Rattle.bolt_check.specs.Sound.{HasSoundTrees};
 ghost use Rattle.bolt_format.specs.Metas.{IsChosen, IsInSlot};
 ghost use Rattle.bolt_tree.specs.Paths.{path_of};
-ghost use Rattle.bolt_tree.specs.ShownEntries.{item_view};
-ghost use Rattle.bolt_tree.specs.Walks.{GivesNext};
 ghost use Rattle.bolt_recover.specs.KeptPages.{AreKeptPages};
 ghost use Rattle.bolt_recover.specs.Private.Frames.{IsOn, state_of};
-ghost use Rattle.bolt_recover.specs.PageWays.{ForPageWays};
 ghost use Rattle.bolt_recover.specs.Recovered.{ForRecovered, IsRecovered};
 ghost use Rattle.bolt_recover.specs.Refusals.{IsRefusedRoot, IsSlotUnrecoverable, IsUnrecoverable, KeepsRoot};
 ghost use Rattle.bolt_recover.specs.ShownLosses.{loss_view};
@@ -47,7 +44,7 @@ impl<'a> Recovery<'a> {
     ghost use Rattle.bolt_recover.specs.Private.Joining.{TellsBucketKey};
     ghost use Rattle.bolt_recover.specs.Private.TreesLeft.{IsSearched};
     ghost use Rattle.bolt_recover.specs.declared.lost_and_found.Trees.TheVariants as Trees;
-    ghost use Rattle.bolt_recover.specs.Recoveries.{AreFirst, ForLosses, recovery_begun, recovery_claimed, recovery_file, recovery_left, recovery_losses, recovery_meta, recovery_path, recovery_visited, recovery_work};
+    ghost use Rattle.bolt_recover.specs.Recoveries.{AreFirst, ForLosses, GivesRecovered, HasReportedAll, HasVisitedAll, IsWithinWays, LeavesRecovered, recovery_begun, recovery_claimed, recovery_file, recovery_left, recovery_losses, recovery_meta, recovery_path, recovery_visited, recovery_work};
 
     /// A walk under the active meta.
     ///
@@ -157,13 +154,13 @@ impl<'a> Recovery<'a> {
     pub fn next(&mut self) -> Result<Option<Item<'a>>, NoMemory>
         ensures file { recovery_file self.new ≡ recovery_file self.old }
         ensures meta { recovery_meta self.new ≡ recovery_meta self.old }
-        ensures given { IfOk result (λ given. ForRecovered (recovery_file self.old) (recovery_meta self.old) (λ listing. GivesNext (recovery_left self.old listing) (recovery_left self.new listing) (recovery_path self.new) (option_map item_view given))) }
+        ensures given { IfOk result (GivesRecovered self.old self.new) }
         ensures fewer { IfOk result (λ given. IfSome given (λ _. recovery_work self.new < recovery_work self.old)) }
         ensures begun { recovery_begun self.new ≡ recovery_begun self.old }
-        ensures visited { IfOk result (λ given. IfNone given (ForPageWays (recovery_file self.old) (recovery_meta self.old) (λ ways. recovery_visited self.new ≡ counted (recovery_begun self.old) ways))) }
-        ensures all { IfOk result (λ given. IfNone given (ForLosses (recovery_file self.old) (recovery_meta self.old) (λ losses. recovery_losses self.new ≡ losses))) }
+        ensures visited { IfOk result (λ given. IfNone given (HasVisitedAll self.old self.new)) }
+        ensures all { IfOk result (λ given. IfNone given (HasReportedAll self.old self.new)) }
         ensures kept { IfOk result (λ given. IfNone given (AreKeptPages (recovery_file self.old) (recovery_meta self.old) (recovery_claimed self.new))) }
-        ensures same { OnErr result (ForRecovered (recovery_file self.old) (recovery_meta self.old) (λ listing. recovery_left self.new listing ≡ recovery_left self.old listing)) }
+        ensures same { OnErr result (LeavesRecovered self.old self.new) }
         ensures same_path { OnErr result (recovery_path self.new ≡ recovery_path self.old) }
     {
         match self.steps.advance()? {
@@ -204,7 +201,7 @@ impl<'a> Recovery<'a> {
         ensures meta { recovery_meta self.new ≡ recovery_meta self.old }
         ensures under { claims_meta self.new.steps.claims ≡ self.old.meta }
         ensures has { IfOk result (λ has. ForRecovered (recovery_file self.old) (recovery_meta self.old) (λ listing. TellsBucketKey listing has)) }
-        ensures all { OnOk result (ForLosses (recovery_file self.old) (recovery_meta self.old) (λ losses. recovery_losses self.new ≡ losses)) }
+        ensures all { OnOk result (HasReportedAll self.old self.new) }
         ensures kept { OnOk result (AreKeptPages (recovery_file self.old) (recovery_meta self.old) (recovery_claimed self.new)) }
     {
         let mut has_bucket_key = false;
@@ -235,7 +232,7 @@ impl<'a> Recovery<'a> {
     /// most one. Saturates at 2^64 - 1.
     pub fn visited(&self) -> u64
         ensures visited { result ≡ recovery_visited self.now }
-        ensures within { ForPageWays (recovery_file self.now) (recovery_meta self.now) (λ ways. recovery_visited self.now ≤ counted (recovery_begun self.now) ways) }
+        ensures within { IsWithinWays self.now }
     {
         self.steps.claims.visited()
     }

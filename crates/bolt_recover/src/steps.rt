@@ -4,14 +4,11 @@ ghost use Rattle.std.specs.Option.{option_map};
 ghost use Rattle.bolt_check.specs.Claims.{claims_file, claims_meta, claims_visited, is_claimed};
 ghost use Rattle.bolt_check.specs.Counts.{counted};
 ghost use Rattle.bolt_check.specs.Findings.{IsMetaPage};
-ghost use Rattle.bolt_check.specs.Nodes.{node_at};
 ghost use Rattle.bolt_check.specs.declared.spot.Spot.TheVariants as spots;
 ghost use Rattle.bolt_format.specs.Elements.{IsBucketValue};
-ghost use Rattle.bolt_tree.specs.Listing.{Member};
 ghost use Rattle.bolt_tree.specs.Paths.{path_of};
-ghost use Rattle.bolt_recover.specs.Private.Frames.{Advances, ComesTo, GoesOn, HasOpen, NoWay, Takes, TakesBucket, is_over, lost_state, outcome_of, state_of, stay, steps_weight, taken_weight};
+ghost use Rattle.bolt_recover.specs.Private.Frames.{Advances, GoesOn, HasOpen, IsAllLeft, Takes, TakesBucket, is_over, lost_state, state_of, steps_weight, taken_weight};
 ghost use Rattle.bolt_recover.specs.Refusals.{IsRefusedRoot, KeepsRoot};
-ghost use Rattle.bolt_recover.specs.Private.Runs.{RunsAll, Visited};
 
 use crate::content::{Content, OpenPage};
 use crate::loss::Loss;
@@ -94,8 +91,7 @@ impl<'a> Steps<'a> {
         ensures more { IfOk result (λ steps. is_over (state_of steps) ≡ false) }
         ensures losses { IfOk result (λ steps. (state_of steps).losses ≡ []) }
         ensures root { OnOk result (KeepsRoot (claims_file claims.entry) (claims_meta claims.entry)) }
-        ensures all { IfOk result (λ steps. (visits : List (Visited NoWay)) (members : List Member) → RunsAll (claims_file claims.entry) (claims_meta claims.entry) stay tt visits members
-            → ComesTo (state_of steps) members (outcome_of (node_at (claims_file claims.entry) (claims_meta claims.entry)) (claims_visited claims.entry) visits)) }
+        ensures all { IfOk result (λ steps. IsAllLeft (claims_file claims.entry) (claims_meta claims.entry) (claims_visited claims.entry) (state_of steps)) }
         ensures refused { IfErr result (IsRefusedRoot (claims_file claims.entry) (claims_meta claims.entry)) }
     {
         let root = root_of(&claims.meta());
@@ -133,8 +129,7 @@ impl<'a> Steps<'a> {
         ensures placed { OnOk result (HasOpen (state_of self.new)) }
         ensures more { OnOk result (is_over (state_of self.new) ≡ false) }
         ensures losses { OnOk result ((state_of self.new).losses ≡ []) }
-        ensures all { OnOk result ((visits : List (Visited NoWay)) (members : List Member) → RunsAll (claims_file self.old.claims) (claims_meta self.old.claims) stay tt visits members
-            → ComesTo (state_of self.new) members (outcome_of (node_at (claims_file self.old.claims) (claims_meta self.old.claims)) (claims_visited self.old.claims) visits)) }
+        ensures all { OnOk result (IsAllLeft (claims_file self.old.claims) (claims_meta self.old.claims) (claims_visited self.old.claims) (state_of self.new)) }
         ensures same { OnErr result (state_of self.new ≡ state_of self.old) }
     {
         self.open.reserve(1)?;

@@ -1,5 +1,6 @@
 -- The open pages of the code as what is still to be done.
-use Rattle.std.specs.Prelude.{◌≡◌, ◌||◌, ◌≤◌, ◌<◌, IsTrue, ℕ, ◌+◌, ◌-◌, ◌*◌, Bool, true, false, List, [], ◌∷◌, ◌++◌, length, map, take, Option, Some, None, Ok, if◌then◌else◌, sum_by}
+use Rattle.std.specs.Prelude.{◌≡◌, ◌≤◌, ◌<◌, IsTrue, ℕ, ◌+◌, ◌-◌, ◌*◌, Bool, true, false, List, [], ◌∷◌, ◌++◌, length, map, take, Option, Some, None, Ok, if◌then◌else◌, slice_get, sum_by}
+use Rattle.std.specs.Option.{option_map}
 use Rattle.bolt_format.specs.ElementPlaces.{leaf_view}
 use Rattle.bolt_format.specs.Elements.{IsBucketValue, LeafElement}
 use Rattle.bolt_format.specs.declared.element.Leaf as element
@@ -8,7 +9,6 @@ use Rattle.bolt_format.specs.Shown.{shown}
 use Rattle.bolt_format.specs.ShownInline.{shown_inline}
 use Rattle.bolt_format.specs.declared.meta.Meta.{Meta}
 use Rattle.bolt_check.specs.Claims.{claims_file, claims_meta, claims_visited, is_claimed, pages_left}
-use Rattle.bolt_check.specs.Counts.{counted}
 use Rattle.bolt_check.specs.Nodes.{Nodes, node_at}
 use Rattle.bolt_check.specs.ShownNodes.{shown_node}
 use Rattle.bolt_check.specs.ShownSpots.{inline_keys, page_spot, spot_at}
@@ -20,12 +20,9 @@ use Rattle.bolt_check.specs.declared.spot.Spot.TheVariants as spots
 use Rattle.bolt_tree.specs.Entries.{item_of}
 use Rattle.bolt_tree.specs.Listing.{Member}
 use Rattle.bolt_tree.specs.Paths.{Path, path_of}
-use Rattle.bolt_recover.specs.KeptPages.{AreKeptPages}
-use Rattle.bolt_recover.specs.Losses.{AreLosses, LossView, loss_of}
-use Rattle.bolt_recover.specs.PageWays.{ArePageWays}
-use Rattle.bolt_recover.specs.Places.{Place, leaves_of}
-use Rattle.bolt_recover.specs.Private.Runs.{losses_in, meta_pages, pages_visited, spans_in, tasks_from, Runs, Task, To_visit, Visited}
-use Rattle.bolt_recover.specs.Recovered.{IsRecovered}
+use Rattle.bolt_recover.specs.Losses.{LossView, loss_of}
+use Rattle.bolt_recover.specs.Places.{Place, leaves_of, step_place}
+use Rattle.bolt_recover.specs.Private.Runs.{Outcome, Runs, RunsAll, Task, To_visit, Visited, Way, after_visits, claimed_after, further, outcome_of, tasks_from}
 use Rattle.bolt_tree.specs.RestAfter.{rest_after}
 use Rattle.bolt_recover.specs.ShownLosses.{loss_view}
 use Rattle.bolt_recover.specs.declared.content.Content.{Content}
@@ -83,6 +80,15 @@ IsShallow (Bucket s) = Unit {0}
 abbrev pub step_path : Path → Option LeafElement → Path
 step_path path None = path
 step_path path (Some e) = path ++ e.key ∷ []
+
+-- where element i of an open page leads, in whatever bucket that is
+abbrev pub LeadsTo : Content → ℕ → Option CodeSpot → Type 0
+LeadsTo content i to = (file : List ℕ) (meta : Meta) (path : Path) → IsGoodContent file meta content
+    → step_place file meta (content_place path content) i ≡ option_map (spot_place file meta (step_path path (slice_get (content_elements content) i))) to
+
+-- the pages that are claimed once a spot is kept
+abbrev pub claims_with : Claims → Spot → ℕ → Bool
+claims_with claims s = claimed_after (claims_nodes claims) (is_claimed claims) s None
 
 -- what a visit of a spot opens
 pub record IsContent (file : List ℕ) (meta : Meta) (s : CodeSpot) (content : Content) : Type 0 where
@@ -151,23 +157,22 @@ ahead_tasks file meta path (Some ahead) rest = To_visit tt (spot_place file meta
 abbrev pub state_tasks : State → List (Task NoWay)
 state_tasks s = ahead_tasks s.file s.meta s.path s.ahead (open_tasks s.file s.meta s.path s.pages [])
 
--- what there is at the end: all losses, the number of visits, and the claimed pages
-pub record Outcome : Type 0 where
-  pub losses : List LossView
-  pub visited : ℕ
-  pub claimed : ℕ → Bool
-
--- the outcome of these visits, if so many were made before
-abbrev pub outcome_of : Nodes → ℕ → List (Visited NoWay) → Outcome
-outcome_of nodes before visits = record { losses = losses_in visits; visited = counted before (pages_visited visits); claimed = λ n. meta_pages n || spans_in nodes visits n }
+abbrev pub tally_of : State → Outcome
+tally_of s = record { losses = s.losses; visited = s.visited; claimed = s.claimed }
 
 -- these members are left, and what is still to be visited comes to this outcome
 pub record ComesTo (s : State) (members : List Member) (outcome : Outcome) : Type 0 where
   pub visits : List (Visited NoWay)
   pub run : Runs s.file s.meta stay s.claimed (state_tasks s) visits members
-  pub all : outcome.losses ≡ s.losses ++ losses_in visits
-  pub pages : outcome.visited ≡ counted s.visited (pages_visited visits)
-  pub spans : (n : ℕ) → outcome.claimed n ≡ (s.claimed n || spans_in (node_at s.file s.meta) visits n)
+  pub all : outcome ≡ after_visits (node_at s.file s.meta) (tally_of s) visits
+
+-- Of each run over a file this part of the members is left, if so many visits were made before.
+abbrev pub IsLeft : List ℕ → Meta → ℕ → (List Member → List Member) → State → Type 0
+IsLeft file meta begun left s = (visits : List (Visited Way)) (members : List Member) → RunsAll file meta further [] visits members
+    → ComesTo s (left members) (outcome_of (node_at file meta) begun visits)
+
+abbrev pub IsAllLeft : List ℕ → Meta → ℕ → State → Type 0
+IsAllLeft file meta begun s = IsLeft file meta begun (λ members. members) s
 
 -- nothing is left to be done
 abbrev pub over_by : Option NextVisit → List OpenPage → Bool
@@ -218,20 +223,12 @@ Takes old new End = Ends old new
 abbrev pub left_by : State → List Member → List Member
 left_by s listing = if is_over s then [] else rest_after s.path listing
 
--- all that comes of a file, if so many visits were made before
-pub record IsOutcome (file : List ℕ) (meta : Meta) (begun : ℕ) (outcome : Outcome) : Type 0 where
-  pub losses : AreLosses file meta outcome.losses
-  pub ways : ℕ
-  pub counts : ArePageWays file meta ways
-  pub visited : outcome.visited ≡ counted begun ways
-  pub claimed : AreKeptPages file meta outcome.claimed
-
--- Good steps over a file under this meta, begun after so many visits: what is left of them is what is left of the recovered listing, and they
--- come to all losses, and to a visit of each way to a page number.
+-- Good steps over a file under this meta, begun after so many visits: what is left of them is what is left of what a run returns, and they come
+-- to what comes of all its visits.
 pub record IsOn (s : State) (under : Meta) (begun : ℕ) : Type 0 where
   pub meta : s.meta ≡ under
   pub placed : HasOpen s
-  pub comes : (listing : List Member) (outcome : Outcome) → IsRecovered s.file under listing → IsOutcome s.file under begun outcome → ComesTo s (left_by s listing) outcome
+  pub comes : IsLeft s.file under begun (left_by s) s
 
 -- a bucket that is returned has a bucket's value
 abbrev pub TakesBucket : Taken → Type 0

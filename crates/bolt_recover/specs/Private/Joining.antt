@@ -1,5 +1,5 @@
 -- How far the members of the joined listing are returned.
-use Rattle.std.specs.Prelude.{◌≡◌, ◌≢◌, ◌<◌, ◌*◌, ◌^◌, ◌+◌, ℕ, suc, Bool, true, false, List, [], ◌∷◌, ◌++◌, Option, Some, None, if◌then◌else◌, filter, length, not}
+use Rattle.std.specs.Prelude.{◌≡◌, ◌≢◌, ◌<◌, ◌*◌, ◌^◌, ◌+◌, ℕ, suc, Bool, false, ◌||◌, List, [], ◌∷◌, ◌++◌, Option, Some, None, if◌then◌else◌, filter, length, not}
 use Rattle.std.specs.List.{All}
 use Rattle.std.specs.Ordering.{is_lt}
 use Rattle.std.specs.declared.cmp.Ordering.{Ordering}
@@ -11,7 +11,7 @@ use Rattle.bolt_tree.specs.Paths.{Path}
 use Rattle.bolt_tree.specs.ShownEntries.{item_view}
 use Rattle.bolt_tree.specs.declared.entry.Item.{Item}
 use Rattle.bolt_recover.specs.Found.{AreFound, numbers_of}
-use Rattle.bolt_recover.specs.Joined.{HasBucketKey, LacksBucketKey, is_found_path, lost_and_found}
+use Rattle.bolt_recover.specs.Joined.{LacksBucketKey, is_found_path, lost_and_found}
 use Rattle.bolt_recover.specs.Recovered.{ForRecovered}
 use Rattle.bolt_recover.specs.ShownFound.{IsFoundView}
 use Rattle.bolt_recover.specs.Private.FoundLeft.{below_bucket, bucket_left, bucket_members, bucket_path}
@@ -56,10 +56,13 @@ path_at Before kept bucket = kept_path kept
 path_at Inside kept bucket = bucket_path bucket
 path_at After kept bucket = kept_path kept
 
--- what is known of a listing if such a member is looked for
+-- whether a member has that key
+abbrev pub holds_key : List Member → Bool
+holds_key [] = false
+holds_key (m ∷ listing) = is_found_path m.0 || holds_key listing
+
 abbrev pub TellsBucketKey : List Member → Bool → Type 0
-TellsBucketKey listing true = HasBucketKey listing
-TellsBucketKey listing false = LacksBucketKey listing
+TellsBucketKey listing has = has ≡ holds_key listing
 
 -- The found pages are those of the file, whose page numbers have sixteen digits at most. If there is one, the recovered listing leaves room for
 -- their bucket.

@@ -1,11 +1,15 @@
 -- What is recovered, also if the root page is lost.
-use Rattle.std.specs.Prelude.{ℕ, List, []}
+use Rattle.std.specs.Prelude.{◌≡◌, ℕ, List, [], Option}
+use Rattle.std.specs.Option.{option_map}
 use Rattle.bolt_format.specs.declared.meta.Meta.{Meta}
 use Rattle.bolt_check.specs.CheckedFiles.{bytes_of, meta_of}
 use Rattle.bolt_tree.specs.Listing.{Member}
 use Rattle.bolt_tree.specs.Paths.{Path}
-use Rattle.bolt_tree.specs.Walks.{left_of, walk_checked, walk_path}
+use Rattle.bolt_tree.specs.ShownEntries.{item_view}
+use Rattle.bolt_tree.specs.Walks.{GivesNext, left_of, walk_checked, walk_path}
+use Rattle.bolt_tree.specs.declared.entry.Item.{Item}
 use Rattle.bolt_tree.specs.WalksLeft.{left_number}
+use Rattle.bolt_recover.specs.Recovered.{ForRecovered}
 use Rattle.bolt_recover.specs.Recoveries.{recovery_file, recovery_left, recovery_meta, recovery_path, recovery_work}
 use Rattle.bolt_recover.specs.declared.kept.Kept.{Kept}
 use Rattle.bolt_recover.specs.declared.kept.Kept.TheVariants.{Nothing, Recovery, Sound}
@@ -34,3 +38,12 @@ abbrev pub kept_path : Kept → Path
 kept_path (Recovery recovery) = recovery_path recovery
 kept_path (Sound walk) = walk_path walk
 kept_path (Nothing root) = []
+
+-- The first member of the recovered listing that was left is given, with its path, and the others are left; or none was left, and none is.
+abbrev pub GivesKept : Kept → Kept → Option Item → Type 0
+GivesKept old new given =
+    ForRecovered (kept_file old) (kept_meta old) (λ listing. GivesNext (kept_left old listing) (kept_left new listing) (kept_path new) (option_map item_view given))
+
+-- the same of it is left
+abbrev pub LeavesKept : Kept → Kept → Type 0
+LeavesKept old new = ForRecovered (kept_file old) (kept_meta old) (λ listing. kept_left new listing ≡ kept_left old listing)

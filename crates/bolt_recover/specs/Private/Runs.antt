@@ -1,8 +1,8 @@
--- What is still to be done, and all that comes of it. A way may be anything that a step takes further, or nothing at all.
+-- What is still to be done, and all that comes of it. Tasks know their ways, or anything else that a step takes further, or nothing at all.
 use Rattle.std.specs.Prelude.{◌≡◌, ℕ, zero, suc, ◌+◌, Bool, true, false, ◌||◌, ◌&&◌, List, [], ◌∷◌, ◌++◌, length, Option, Some, None, Result, Ok, Err, nat_le, nat_lt, slice_get}
 use Rattle.bolt_format.specs.Elements.{LeafElement}
 use Rattle.bolt_format.specs.declared.meta.Meta.{Meta}
-use Rattle.bolt_check.specs.Findings.{Passes, Tests}
+use Rattle.bolt_check.specs.Counts.{counted}
 use Rattle.bolt_check.specs.Nodes.{Node, Nodes, node_at}
 use Rattle.bolt_check.specs.Ways.{At_inline, At_page, Spot}
 use Rattle.bolt_check.specs.declared.finding.Finding.{Finding}
@@ -11,6 +11,13 @@ use Rattle.bolt_tree.specs.Listing.{Member}
 use Rattle.bolt_tree.specs.Paths.{Path}
 use Rattle.bolt_recover.specs.Losses.{LossView, loss_of}
 use Rattle.bolt_recover.specs.Places.{Place, root_place, step_place}
+use Rattle.bolt_recover.specs.Surveys.{Gives}
+
+abbrev pub Way : Type 0
+Way = List ℕ
+
+abbrev pub further : Way → ℕ → Way
+further way i = way ++ i ∷ []
 
 -- a place to be visited, or an element to be returned under its path
 pub data Task (W : Type 0) : Type 0 where
@@ -41,39 +48,47 @@ abbrev pub claims_of : Nodes → Spot → ℕ → Bool
 claims_of nodes (At_page s) n = in_span (nodes s.number) s.number n
 claims_of nodes (At_inline host keys) n = false
 
-abbrev pub claimed_with : Nodes → (ℕ → Bool) → Spot → ℕ → Bool
-claimed_with nodes claimed spot n = claimed n || claims_of nodes spot n
-
 -- only the meta pages
 abbrev pub meta_pages : ℕ → Bool
 meta_pages n = nat_lt n 2
 
--- the losses among visits, in order
 abbrev pub lost_at : Place → Option Finding → List LossView
 lost_at p None = []
 lost_at p (Some x) = loss_of p x ∷ []
 
-abbrev pub losses_in : {W : Type 0} → List (Visited W) → List LossView
-losses_in [] = []
-losses_in (v ∷ visits) = lost_at v.place v.found ++ losses_in visits
-
--- page n lies in the span of one of these visits that is kept
+-- page n lies in the span of a spot that is kept
 abbrev pub span_of : Nodes → Spot → Option Finding → ℕ → Bool
 span_of nodes s None n = claims_of nodes s n
 span_of nodes s (Some x) n = false
 
-abbrev pub spans_in : {W : Type 0} → Nodes → List (Visited W) → ℕ → Bool
-spans_in nodes [] n = false
-spans_in nodes (v ∷ visits) n = span_of nodes v.place.spot v.found n || spans_in nodes visits n
+abbrev pub claimed_after : Nodes → (ℕ → Bool) → Spot → Option Finding → ℕ → Bool
+claimed_after nodes claimed s found n = claimed n || span_of nodes s found n
 
 -- how many visits are of pages
 abbrev pub page_visit : Spot → ℕ
 page_visit (At_page s) = 1
 page_visit (At_inline host keys) = 0
 
-abbrev pub pages_visited : {W : Type 0} → List (Visited W) → ℕ
-pages_visited [] = 0
-pages_visited (v ∷ visits) = page_visit v.place.spot + pages_visited visits
+-- what comes of visits: the losses, in order, the number of visits, and the claimed pages
+pub record Outcome : Type 0 where
+  pub losses : List LossView
+  pub visited : ℕ
+  pub claimed : ℕ → Bool
+
+abbrev pub after_visit : {W : Type 0} → Nodes → Outcome → Visited W → Outcome
+after_visit nodes o v = record {
+  losses = o.losses ++ lost_at v.place v.found;
+  visited = counted o.visited (page_visit v.place.spot);
+  claimed = claimed_after nodes o.claimed v.place.spot v.found;
+}
+
+abbrev pub after_visits : {W : Type 0} → Nodes → Outcome → List (Visited W) → Outcome
+after_visits nodes o [] = o
+after_visits nodes o (v ∷ visits) = after_visits nodes (after_visit nodes o v) visits
+
+-- of all visits of a file, if so many were made before
+abbrev pub outcome_of : {W : Type 0} → Nodes → ℕ → List (Visited W) → Outcome
+outcome_of nodes begun visits = after_visits nodes (record { losses = []; visited = begun; claimed = meta_pages }) visits
 
 module _ (file : List ℕ) (meta : Meta) {W : Type 0} (further : W → ℕ → W) where
   abbrev pub gives_at : Path → Option LeafElement → List (Task W)
@@ -96,20 +111,21 @@ module _ (file : List ℕ) (meta : Meta) {W : Type 0} (further : W → ℕ → W
   abbrev pub place_tasks : W → Place → List (Task W)
   place_tasks way p = tasks_from way p 0 (place_size (node_at file meta) p.spot p.elements)
 
+  -- and after a visit
+  abbrev pub tasks_after : W → Place → Option Finding → List (Task W)
+  tasks_after way p None = place_tasks way p
+  tasks_after way p (Some x) = []
+
   -- from these claims these tasks come to these visits and these members
   pub data Runs : (ℕ → Bool) → List (Task W) → List (Visited W) → List Member → Type 0 where
     done : {claimed : ℕ → Bool} → Runs claimed [] [] []
     give : {claimed : ℕ → Bool} {path : Path} {e : LeafElement} {tasks : List (Task W)} {visits : List (Visited W)} {members : List Member}
         → Runs claimed tasks visits members
         → Runs claimed (To_give path e ∷ tasks) visits ((path, item_of e) ∷ members)
-    keep : {claimed : ℕ → Bool} {way : W} {p : Place} {tasks : List (Task W)} {visits : List (Visited W)} {members : List Member}
-        → Passes (node_at file meta) (λ n. claimed n ≡ true) p.spot
-        → Runs (claimed_with (node_at file meta) claimed p.spot) (place_tasks way p ++ tasks) visits members
-        → Runs claimed (To_visit way p ∷ tasks) (record { way = way; place = p; found = None } ∷ visits) members
-    lose : {claimed : ℕ → Bool} {way : W} {p : Place} {x : Finding} {tasks : List (Task W)} {visits : List (Visited W)} {members : List Member}
-        → Tests (node_at file meta) (λ n. claimed n ≡ true) p.spot x
-        → Runs claimed tasks visits members
-        → Runs claimed (To_visit way p ∷ tasks) (record { way = way; place = p; found = Some x } ∷ visits) members
+    visit : {claimed : ℕ → Bool} {way : W} {p : Place} {found : Option Finding} {tasks : List (Task W)} {visits : List (Visited W)} {members : List Member}
+        → Gives (node_at file meta) (λ n. claimed n ≡ true) p.spot found
+        → Runs (claimed_after (node_at file meta) claimed p.spot found) (tasks_after way p found ++ tasks) visits members
+        → Runs claimed (To_visit way p ∷ tasks) (record { way = way; place = p; found = found } ∷ visits) members
 
   -- the run from the root page on
   abbrev pub RunsAll : W → List (Visited W) → List Member → Type 0

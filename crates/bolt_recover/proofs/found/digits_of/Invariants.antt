@@ -1,5 +1,5 @@
 use Rattle.std.proofs.Common.{◌≡◌, ◌-◌, ◌++◌, drop, length}
-use Rattle.bolt_recover.specs.PageKeys.{last_digits}
+use Rattle.bolt_recover.proofs.Words.{last_digits}
 use Rattle.bolt_recover.proofs.found.digits_of.Given as goal
 
 -- the last digits stand, and the others are those of the rest

@@ -1,15 +1,6 @@
 -- By what is left of the trees.
 use Rattle.std.proofs.Common.{◌≡◌, ◌∙◌, [], List, arith, ap, length, subst₂, sym, ℕ}
-use Rattle.std.proofs.lemmas.Grind.{common_steps}
-use Rattle.std.proofs.lemmas.List.{length-map}
-use Rattle.std.proofs.Math.Logic.{∥∥₁_map}
-use Rattle.bolt_format.specs.declared.meta.Meta.{Meta}
-use Rattle.bolt_tree.specs.Listing.{Member}
-use Rattle.bolt_tree.specs.Walks.{left_of}
-use Rattle.bolt_recover.specs.Found.{numbers_of}
-use Rattle.bolt_recover.specs.Private.TreesLeft.{lost_of}
-use Rattle.bolt_recover.specs.Recovered.{ForRecovered}
-use Rattle.bolt_recover.specs.declared.found.Found.{Found}
+use Rattle.bolt_recover.proofs.Words.{common_steps, ForRecovered, Found, left_of, length-map, lost_of, Member, Meta, numbers_of, ∥∥₁_map}
 use Rattle.bolt_recover.proofs.Searched.{has_key, lacks_all, lacks_key, none_recovered, not_everything, of_sound, root_lost}
 use Rattle.bolt_recover.proofs.SoundWalks.{same_left}
 use Rattle.bolt_recover.proofs.joined.kept_of.Goals as goal

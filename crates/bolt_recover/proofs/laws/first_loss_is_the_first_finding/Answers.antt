@@ -1,6 +1,5 @@
 use Rattle.std.proofs.Common.{Some}
-use Rattle.bolt_check.specs.Nodes.{node_at}
-use Rattle.bolt_check.specs.Ways.{At_page, root_spot}
+use Rattle.bolt_recover.proofs.Words.{At_page, node_at, root_spot}
 use Rattle.bolt_recover.proofs.FirstLoss.{first_is}
 use Rattle.bolt_recover.proofs.laws.first_loss_is_the_first_finding.Goals as goal
 

@@ -1,12 +1,6 @@
 -- The found pages leave room for their names, and the recovered listing for their bucket.
 use Rattle.std.proofs.Common.{◌∙◌, List, [], ◌∷◌, ap}
-use Rattle.std.proofs.Math.Logic.{∥∥₁_elim}
-use Rattle.std.proofs.Props.{props}
-use Rattle.bolt_tree.specs.Listing.{Member, member_cmp}
-use Rattle.bolt_tree.specs.Order.{Rises}
-use Rattle.bolt_recover.specs.Found.{numbers_of}
-use Rattle.bolt_recover.specs.JoinedMembers.{joined_file, joined_meta}
-use Rattle.bolt_recover.specs.Private.KeptMembers.{kept_file, kept_meta}
+use Rattle.bolt_recover.proofs.Words.{joined_file, joined_meta, kept_file, kept_meta, Member, member_cmp, numbers_of, props, Rises, ∥∥₁_elim}
 use Rattle.bolt_recover.proofs.FoundAll.{one_found}
 use Rattle.bolt_recover.proofs.laws.joined_members_rise.Goals as goal
 

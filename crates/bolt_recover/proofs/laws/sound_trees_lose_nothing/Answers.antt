@@ -1,9 +1,5 @@
-use Rattle.bolt_check.specs.Nodes.{node_at}
-use Rattle.bolt_check.specs.Ways.{reached}
-use Rattle.bolt_check.proofs.Lawful.{shape_passes}
 use Rattle.bolt_recover.proofs.SoundSurveys.{none_lost}
 use Rattle.bolt_recover.proofs.laws.sound_trees_lose_nothing.Goals as goal
 
 pub returns : goal.returns
-returns c = λ file meta survey v shape surveys.
-    none_lost (node_at file meta) (reached (node_at file meta) meta.root) survey (shape_passes (node_at file meta) meta.root shape) surveys v
+returns c = λ file meta survey v trees surveys. none_lost file meta survey trees surveys v

@@ -1,7 +1,5 @@
 use Rattle.std.proofs.Common.{subst}
-use Rattle.bolt_tree.specs.Entries.{IsEntry, Root_page}
-use Rattle.bolt_tree.proofs.Single.{lists_once}
-use Rattle.bolt_recover.specs.Recovered.{IsRecovered}
+use Rattle.bolt_recover.proofs.Words.{IsEntry, IsRecovered, lists_once, Root_page}
 use Rattle.bolt_recover.proofs.Existing.{has_recovered}
 use Rattle.bolt_recover.proofs.SoundListing.{sound_listing}
 use Rattle.bolt_recover.proofs.SoundWalks.{no_loss}

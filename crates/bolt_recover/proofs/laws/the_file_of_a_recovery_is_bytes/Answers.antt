@@ -1,5 +1,4 @@
-use Rattle.bolt_check.proofs.ClaimLemmas.{claims_bytes}
-use Rattle.bolt_recover.specs.Recoveries.{recovery_file}
+use Rattle.bolt_recover.proofs.Words.{claims_bytes, recovery_file}
 use Rattle.bolt_recover.proofs.laws.the_file_of_a_recovery_is_bytes.Goals as goal
 
 pub returns : goal.returns

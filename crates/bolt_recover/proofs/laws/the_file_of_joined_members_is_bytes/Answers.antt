@@ -1,11 +1,5 @@
+use Rattle.bolt_recover.proofs.Words.{bytes_of, claims_bytes, joined_file, Kept, kept_file, recovery_file, walk_checked}
 use Rattle.bolt_format.specs.Bytes.{IsBytes}
-use Rattle.bolt_check.proofs.ClaimLemmas.{claims_bytes}
-use Rattle.bolt_check.specs.CheckedFiles.{bytes_of}
-use Rattle.bolt_recover.specs.JoinedMembers.{joined_file}
-use Rattle.bolt_recover.specs.Private.KeptMembers.{kept_file}
-use Rattle.bolt_recover.specs.Recoveries.{recovery_file}
-use Rattle.bolt_tree.specs.Walks.{walk_checked}
-use Rattle.bolt_recover.specs.declared.kept.Kept.{Kept}
 use Rattle.bolt_recover.specs.declared.kept.Kept.TheVariants.{Nothing, Recovery, Sound}
 use Rattle.bolt_recover.proofs.laws.the_file_of_joined_members_is_bytes.Goals as goal
 

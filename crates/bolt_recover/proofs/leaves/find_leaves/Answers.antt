@@ -1,19 +1,5 @@
-use Rattle.std.proofs.Common.{◌≡◌, ◌∙◌, ◌⊎◌, ◌↔◌, ◌<◌, ◌+◌, ◌-◌, ◌++◌, ◌∷◌, inl, ℕ, true, false, List, [], Ok, Some, ap, arith, subst, subst₂, sym}
-use Rattle.std.specs.List.{All}
-use Rattle.std.proofs.lemmas.Bool.{false≢true}
-use Rattle.std.proofs.lemmas.List.{map-append}
-use Rattle.std.proofs.lemmas.List.Elements.{All-push}
-use Rattle.bolt_format.specs.Pages.{page_at}
-use Rattle.bolt_format.specs.Shown.{shown}
-use Rattle.bolt_format.specs.declared.meta.Meta.{Meta}
-use Rattle.bolt_check.specs.Leftovers.{is_listed, is_taken, leftovers_file, leftovers_length, leftovers_meta}
-use Rattle.bolt_check.specs.LoneLeaves.{IsLoneLeaf}
-use Rattle.bolt_check.specs.Nodes.{node_at}
-use Rattle.bolt_check.specs.ShownNodes.{shown_node}
-use Rattle.bolt_check.specs.Ways.{At_page, SpanAt, root_spot}
-use Rattle.bolt_recover.specs.Found.{FoundBelow, IsFoundPage, numbers_of}
-use Rattle.bolt_recover.specs.ShownFound.{IsFoundView}
-use Rattle.bolt_recover.specs.declared.found.Found.{Found}
+use Rattle.std.proofs.Common.{◌≡◌, ◌∙◌, ◌⊎◌, ◌↔◌, ◌<◌, ◌+◌, ◌-◌, ◌++◌, ◌∷◌, inl, ℕ, true, List, [], ap, arith, subst, sym}
+use Rattle.bolt_recover.proofs.Words.{All, All-push, false≢true, Found, FoundBelow, is_listed, is_taken, IsFoundPage, IsFoundView, leftovers_file, leftovers_length, leftovers_meta, map-append, numbers_of}
 use Rattle.bolt_recover.proofs.FoundLemmas.{found_next, found_not, found_up, not_true, taken_more, view_of}
 use Rattle.bolt_recover.proofs.leaves.find_leaves.Goals as goal
 use Rattle.bolt_recover.proofs.leaves.find_leaves.Goals.{in-Some, in_default}
@@ -35,30 +21,25 @@ loop-number-preserved c =
     let free = c.requires n inside in
     elim c.match-take.branch [
       | in-Some w ↦
-          let some = w.in-Some.ensures in
+          let some = rw (inv.file, inv.meta) at w.in-Some.ensures in
           let f : Found = w.new.result in
           let items : c.match-take.found.items ≡ l.found.items ++ f ∷ [] =
           ap (λ v. v.items) w.found-is ∙ w.push_reserved.ensures.items ∙ ap (λ (fs : List Found). fs ++ f ∷ []) c.in_ok-reserve.ensures.items in
           let numbers : numbers_of c.match-take.found.items ≡ found ++ n ∷ [] = ap numbers_of items ∙ map-append (λ (x : Found). x.number) l.found.items (f ∷ []) ∙ ap (λ (m : ℕ). found ++ m ∷ []) w.new.ensures.number in
-          let lone = subst₂ (λ (a : List ℕ) (b : Meta). IsLoneLeaf (node_at a b) (λ k. old k ≡ true) n) inv.file inv.meta some.leaf in
-          let more = subst₂ (λ (a : List ℕ) (b : Meta). (k : ℕ) → (new k ≡ true) ↔ ((old k ≡ true) ⊎ SpanAt (node_at a b) (At_page (root_spot n)) k)) inv.file inv.meta some.taken in
-          let view = view_of file meta (λ k. old k ≡ true) f
-          (rw (w.new.ensures.number, w.new.ensures.page) (subst₂ (λ (a : List ℕ) (b : Meta). page_at a b n ≡ Some (shown w.in-Some.page.page)) inv.file inv.meta some.page))
-          (rw (w.new.ensures.number, w.new.ensures.page) (subst₂ (λ (a : List ℕ) (b : Meta). node_at a b n ≡ Ok (shown_node w.in-Some.page)) inv.file inv.meta some.node))
-          (rw w.new.ensures.number lone) in
+          let view = view_of file meta (λ k. old k ≡ true) f (rw (w.new.ensures.number, w.new.ensures.page) some.page) (rw (w.new.ensures.number, w.new.ensures.page) some.node) (rw w.new.ensures.number some.leaf) in
           record {
             file = c.take.ensures.file ∙ inv.file;
             meta = c.take.ensures.meta ∙ inv.meta;
             length = c.take.ensures.length ∙ inv.length;
             below = subst (λ (xs : List ℕ). FoundBelow file meta kept (n + 1) xs) (sym numbers)
-                (found_next file meta kept found n old listed first inv.taken (inv.listed n) free inv.below lone some.unlisted);
+                (found_next file meta kept found n old listed first inv.taken (inv.listed n) free inv.below some.leaf some.unlisted);
             taken = subst (λ (xs : List ℕ). (k : ℕ) → (new k ≡ true) ↔ (kept k ⊎ IsFoundPage file meta xs k)) (sym numbers)
-                (taken_more file meta kept found n old new inv.taken more);
-            listed = λ k untaken. c.take.ensures.noted k untaken ∙ inv.listed k (not_true (old k) (λ was. false≢true (sym untaken ∙ (more k).1 (inl was))));
+                (taken_more file meta kept found n old new inv.taken some.taken);
+            listed = λ k untaken. c.take.ensures.noted k untaken ∙ inv.listed k (not_true (old k) (λ was. false≢true (sym untaken ∙ (some.taken k).1 (inl was))));
             views = subst (All (IsFoundView file meta)) (sym items) (All-push (IsFoundView file meta) l.found.items f inv.views view);
           }
       | in_default w ↦
-          let none = w.in_default.ensures in
+          let none = rw (inv.file, inv.meta) at w.in_default.ensures in
           let items : c.match-take.found.items ≡ l.found.items = ap (λ v. v.items) w.found-is ∙ c.in_ok-reserve.ensures.items in
           let numbers : numbers_of c.match-take.found.items ≡ found = ap numbers_of items in
           record {
@@ -66,8 +47,7 @@ loop-number-preserved c =
             meta = c.take.ensures.meta ∙ inv.meta;
             length = c.take.ensures.length ∙ inv.length;
             below = subst (λ (xs : List ℕ). FoundBelow file meta kept (n + 1) xs) (sym numbers)
-                (found_not file meta kept found n old listed first inv.taken (inv.listed n) free inv.below
-                (subst₂ (λ (a : List ℕ) (b : Meta). IsLoneLeaf (node_at a b) (λ k. old k ≡ true) n → listed n ≡ false → ⊥) inv.file inv.meta none.none));
+                (found_not file meta kept found n old listed first inv.taken (inv.listed n) free inv.below none.none);
             taken = subst (λ (xs : List ℕ). (k : ℕ) → (new k ≡ true) ↔ (kept k ⊎ IsFoundPage file meta xs k)) (sym numbers)
                 (λ k. subst (λ b. (b ≡ true) ↔ (kept k ⊎ IsFoundPage file meta found k)) (sym (none.same k)) (inv.taken k));
             listed = λ k untaken. c.take.ensures.noted k untaken ∙ inv.listed k (sym (none.same k) ∙ untaken);

@@ -1,8 +1,5 @@
 use Rattle.std.proofs.Common.{◌≡◌, ◌⊎◌, ◌↔◌, ℕ, true, false}
-use Rattle.std.specs.List.{All}
-use Rattle.bolt_check.specs.Leftovers.{is_listed, is_taken, leftovers_file, leftovers_length, leftovers_meta}
-use Rattle.bolt_recover.specs.Found.{FoundBelow, IsFoundPage, numbers_of}
-use Rattle.bolt_recover.specs.ShownFound.{IsFoundView}
+use Rattle.bolt_recover.proofs.Words.{All, FoundBelow, is_listed, is_taken, IsFoundPage, IsFoundView, leftovers_file, leftovers_length, leftovers_meta, numbers_of}
 use Rattle.bolt_recover.proofs.leaves.find_leaves.Given as goal
 
 -- the pages so far are found, and they are taken

@@ -1,8 +1,5 @@
 use Rattle.std.proofs.Common.{◌≡◌, ◌∙◌, ◌↔◌, ℕ, List, Bool, true, subst, subst₂, sym}
-use Rattle.bolt_format.specs.declared.meta.Meta.{Meta}
-use Rattle.bolt_check.specs.Findings.{IsMetaPage}
-use Rattle.bolt_check.specs.Leftovers.{is_taken}
-use Rattle.bolt_recover.specs.Found.{FoundBelow, numbers_of}
+use Rattle.bolt_recover.proofs.Words.{FoundBelow, is_taken, IsMetaPage, Meta, numbers_of}
 use Rattle.bolt_recover.proofs.FoundAll.{found_rootless, if_ok}
 use Rattle.bolt_recover.proofs.leaves.found_without_root.Goals as goal
 

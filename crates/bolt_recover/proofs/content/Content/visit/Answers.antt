@@ -1,5 +1,4 @@
-use Rattle.bolt_check.proofs.Visited.{passed_on}
-use Rattle.bolt_check.proofs.ClaimLemmas.{counted_none}
+use Rattle.bolt_recover.proofs.Words.{counted_none, passed_on}
 use Rattle.bolt_recover.proofs.content.Content.visit.Goals as goal
 
 pub returns-in_err-visit-in-Page-clause-found : goal.returns-in_err-visit-in-Page-clause-found

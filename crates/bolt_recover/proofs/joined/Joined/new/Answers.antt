@@ -1,6 +1,6 @@
 -- The file has few enough pages.
 use Rattle.std.proofs.Common.{◌≡◌, ◌<◌, ◌*◌, ◌^◌, ◌/◌, ℕ, length, subst}
-use Rattle.std.proofs.Math.Nat.{div-lt_iff_lt-mul}
+use Rattle.bolt_recover.proofs.Words.{div-lt_iff_lt-mul}
 use Rattle.bolt_recover.proofs.joined.Joined.new.Goals as goal
 
 few : (n size divisor : ℕ) → divisor ≡ size → 0 < size → n / divisor < 10 ^ 16 → n < 10 ^ 16 * size

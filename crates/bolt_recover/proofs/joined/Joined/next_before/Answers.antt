@@ -1,16 +1,6 @@
-use Rattle.std.proofs.Common.{◌≡◌, ◌∙◌, ◌⊎◌, inl, inr, true, false, List, Some, None, Option, is_some, refl, ap, sym, subst₂, ℕ}
-use Rattle.std.proofs.Math.Logic.{∥∥₁_elim, ∥∥₁_map}
-use Rattle.std.proofs.Props.{props}
-use Rattle.std.proofs.lemmas.Grind.{merely}
-use Rattle.std.specs.Ordering.{is_lt}
-use Rattle.bolt_format.specs.declared.meta.Meta.{Meta}
-use Rattle.bolt_tree.specs.Paths.{Path}
-use Rattle.bolt_tree.specs.declared.entry.Item.{Item as CodeItem}
-use Rattle.bolt_recover.specs.JoinedMembers.{joined_file, joined_left, joined_meta, joined_path}
-use Rattle.bolt_recover.specs.Private.FoundLeft.{bucket_members}
-use Rattle.bolt_recover.specs.Private.Joining.{AreJoinable, first_cmp, put_members, recovered_in}
-use Rattle.bolt_recover.specs.Private.KeptMembers.{kept_file, kept_meta, kept_path}
-use Rattle.bolt_recover.proofs.JoinSteps.{before_given, bucket_given, gives_prop, held_well, parted}
+use Rattle.std.proofs.Common.{◌≡◌, ◌∙◌, ◌⊎◌, inl, inr, true, false, List, is_some, ap, sym, subst₂, ℕ}
+use Rattle.bolt_recover.proofs.Words.{AreJoinable, bucket_members, first_cmp, is_lt, joined_file, joined_left, joined_meta, joined_path, kept_path, merely, Meta, Path, props, put_members, ∥∥₁_elim, ∥∥₁_map}
+use Rattle.bolt_recover.proofs.JoinSteps.{before_given, bucket_given, gives_prop, held_well, of_joined}
 use Rattle.bolt_recover.proofs.StepLemmas.{when_err}
 use Rattle.bolt_recover.proofs.joined.Joined.next_before.Goals as goal
 use Rattle.bolt_recover.proofs.joined.Joined.next_before.Goals.{else-is_some-via-then-is_some+else-is_lt, else-is_some-via-else-is_some}
@@ -21,8 +11,7 @@ returns-in_err-item-clause-same c =
     let self = c.args.self.now in
     when_err c.from_residual.result (λ listing is. rw c.requires.stage
     (∥∥₁_elim self.pages (hlevel props) (λ are.
-    let part = parted (kept_file self.kept) (kept_meta self.kept) self.found.now listing are is in
-    ap (put_members (bucket_members self.found.now)) (c.in_err-item.ensures.same (recovered_in self.found.now listing) part.recovers))))
+    ap (put_members (bucket_members self.found.now)) (c.in_err-item.ensures.same _ (of_joined self listing are is)))))
 
 pub returns-then-is_lt-clause-given : goal.returns-then-is_lt-clause-given
 unfolding joined_file joined_left joined_meta joined_path
@@ -32,31 +21,25 @@ returns-then-is_lt-clause-given c = λ listing is.
     ap (λ (path : Path). is_lt (first_cmp path)) (sym c.path.ensures) ∙ ap is_lt (sym c.compare_first.ensures) ∙ sym c.is_lt.ensures ∙ c.if-is_lt.true in
     rw c.requires.stage
     (∥∥₁_elim self.pages (gives_prop _ _ (kept_path c.next.new.self) c.in_ok-item.item) (λ are.
-    let part = parted (kept_file self.kept) (kept_meta self.kept) self.found.now listing are is in
-    before_given (bucket_members self.found.now) _ _ (kept_path c.next.new.self) c.in_ok-item.item (c.in_ok-item.ensures.given (recovered_in self.found.now listing) part.recovers)
+    before_given (bucket_members self.found.now) _ _ (kept_path c.next.new.self) c.in_ok-item.item (c.in_ok-item.ensures.given _ (of_joined self listing are is))
     (sym c.is_some.ensures ∙ c.if-is_some.true) less))
 
 pub invariant_of-self-2 : goal.invariant_of-self-2
 invariant_of-self-2 c = record {
   pages = ∥∥₁_map c.args.self.now.pages (λ are. subst₂ (λ (f : List ℕ) (m : Meta). AreJoinable f m c.args.self.now.found.now) (sym c.next.ensures.file) (sym c.next.ensures.meta) are);
-  waits = merely (held_well c.args.self.now.kept c.next.new.self (kept_path c.next.new.self) c.in_ok-item.item c.next.ensures.file c.next.ensures.meta c.in_ok-item.ensures.given);
+  waits = merely (held_well c.args.self.now.kept c.next.new.self c.in_ok-item.item c.next.ensures.file c.next.ensures.meta c.in_ok-item.ensures.given);
 }
 
 pub returns-clause-given : goal.returns-clause-given
 unfolding joined_file joined_left joined_meta joined_path
 returns-clause-given c = λ listing is.
     let self = c.args.self.now in
-    let over : (c.in_ok-item.item ≡ None) ⊎ (is_lt (first_cmp (kept_path c.next.new.self)) ≡ false) =
+    let over : (is_some c.in_ok-item.item ≡ false) ⊎ (is_lt (first_cmp (kept_path c.next.new.self)) ≡ false) =
     elim c.else-is_some.branch [
       | else-is_some-via-then-is_some+else-is_lt w ↦
           inr (ap (λ (path : Path). is_lt (first_cmp path)) (sym w.path.ensures) ∙ ap is_lt (sym w.compare_first.ensures) ∙ sym w.is_lt.ensures ∙ w.if-is_lt.false)
-      | else-is_some-via-else-is_some w ↦ inl (none_if c.in_ok-item.item (sym c.is_some.ensures ∙ w.if-is_some.false))
+      | else-is_some-via-else-is_some w ↦ inl (sym c.is_some.ensures ∙ w.if-is_some.false)
     ] in
     rw (c.requires.stage, c.new-self.ensures.all, c.new-self.ensures.path)
     (∥∥₁_elim self.pages (hlevel props) (λ are.
-    let part = parted (kept_file self.kept) (kept_meta self.kept) self.found.now listing are is in
-    bucket_given self.found.now _ _ (kept_path c.next.new.self) c.in_ok-item.item (c.in_ok-item.ensures.given (recovered_in self.found.now listing) part.recovers) over))
-  where
-    none_if : (given : Option CodeItem) → is_some given ≡ false → given ≡ None
-    none_if None none = refl
-    none_if (Some item) none = absurd (let f : true ≡ false = none in cc)
+    bucket_given self.found.now _ _ (kept_path c.next.new.self) c.in_ok-item.item (c.in_ok-item.ensures.given _ (of_joined self listing are is)) over))

@@ -1,13 +1,7 @@
 use Rattle.std.proofs.Common.{◌≡◌, List, [], sym, subst₂, ℕ}
-use Rattle.std.proofs.Math.Logic.{∥∥₁_elim, ∥∥₁_map}
-use Rattle.std.proofs.Props.{props}
-use Rattle.bolt_format.specs.declared.meta.Meta.{Meta}
-use Rattle.bolt_recover.specs.JoinedMembers.{joined_file, joined_left, joined_meta, joined_path}
-use Rattle.bolt_recover.specs.Private.Joining.{AreJoinable, recovered_in}
-use Rattle.bolt_recover.specs.Private.KeptMembers.{kept_file, kept_left, kept_meta, kept_path}
-use Rattle.bolt_recover.specs.Recovered.{ForRecovered}
+use Rattle.bolt_recover.proofs.Words.{AreJoinable, ForRecovered, joined_file, joined_left, joined_meta, joined_path, kept_file, kept_left, kept_meta, kept_path, Meta, props, ∥∥₁_elim, ∥∥₁_map}
 use Rattle.bolt_recover.proofs.Existing.{has_recovered}
-use Rattle.bolt_recover.proofs.JoinSteps.{gives_prop, none_given, parted, still_none}
+use Rattle.bolt_recover.proofs.JoinSteps.{gives_prop, none_given, of_joined, still_none}
 use Rattle.bolt_recover.proofs.StepLemmas.{when_err}
 use Rattle.bolt_recover.proofs.joined.Joined.next_inside.Goals as goal
 
@@ -17,7 +11,7 @@ invariant_of-self-in-Break-1 c =
     record {
       pages = ∥∥₁_map self.pages (λ are. subst₂ (λ (f : List ℕ) (m : Meta). AreJoinable f m self.found.now) (sym c.next-2.ensures.file) (sym c.next-2.ensures.meta) are);
       waits = rw (c.requires.stage, c.in_default-held.is) (∥∥₁_map (rw (c.requires.stage, c.in_default-held.is) at self.waits) (λ none.
-          still_none self.kept c.next-2.new.self (kept_path c.next-2.new.self) c.next-2.result c.next-2.ensures.file c.next-2.ensures.meta c.next-2.ensures.given c.next-2.ensures.same none));
+          still_none self.kept c.next-2.new.self c.next-2.result c.next-2.ensures.file c.next-2.ensures.meta c.next-2.ensures.given c.next-2.ensures.same none));
     }
 
 pub returns-in_err-item-clause-same : goal.returns-in_err-item-clause-same
@@ -26,8 +20,7 @@ returns-in_err-item-clause-same c =
     let self = c.args.self.now in
     when_err c.from_residual.result (λ listing is. rw (c.requires.stage, c.in_default.ensures.0, c.in_default.ensures.1, c.in_default-held.is)
     (∥∥₁_elim self.pages (hlevel props) (λ are.
-    let part = parted (kept_file self.kept) (kept_meta self.kept) self.found.now listing are is in
-    c.in_err-item.ensures.same (recovered_in self.found.now listing) part.recovers)))
+    c.in_err-item.ensures.same _ (of_joined self listing are is))))
 
 pub returns-clause-given : goal.returns-clause-given
 unfolding joined_file joined_left joined_meta joined_path
@@ -35,8 +28,7 @@ returns-clause-given c = λ listing is.
     let self = c.args.self.now in
     rw (c.requires.stage, c.in_default.ensures.0, c.in_default-held.is)
     (∥∥₁_elim self.pages (gives_prop _ _ (kept_path c.next-2.new.self) c.in_ok-item.item) (λ are.
-    let part = parted (kept_file self.kept) (kept_meta self.kept) self.found.now listing are is in
-    c.in_ok-item.ensures.given (recovered_in self.found.now listing) part.recovers))
+    c.in_ok-item.ensures.given _ (of_joined self listing are is)))
 
 pub returns-clause-fewer : goal.returns-clause-fewer
 returns-clause-fewer c =

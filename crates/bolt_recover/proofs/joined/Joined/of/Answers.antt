@@ -1,11 +1,6 @@
 -- What is found is joined to what is kept of the same file.
 use Rattle.std.proofs.Common.{◌∙◌, List, subst₂, sym, ℕ}
-use Rattle.std.proofs.Math.Logic.{∥∥₁_elim}
-use Rattle.std.proofs.Props.{props}
-use Rattle.std.proofs.lemmas.Grind.{merely}
-use Rattle.bolt_format.specs.declared.meta.Meta.{Meta}
-use Rattle.bolt_recover.specs.JoinedMembers.{joined_left, joined_path}
-use Rattle.bolt_recover.specs.Private.Joining.{AreJoinable}
+use Rattle.bolt_recover.proofs.Words.{AreJoinable, joined_left, joined_path, merely, Meta, props, ∥∥₁_elim}
 use Rattle.bolt_recover.proofs.JoinSteps.{begun_left, begun_path, begun_well}
 use Rattle.bolt_recover.proofs.Searched.{joinable}
 use Rattle.bolt_recover.proofs.joined.Joined.of.Goals as goal

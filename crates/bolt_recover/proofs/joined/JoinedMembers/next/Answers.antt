@@ -1,15 +1,7 @@
 -- After the bucket of what is found, the members are those that are recovered.
-use Rattle.std.proofs.Math.Logic.{∥∥₁_elim}
-use Rattle.std.proofs.Props.{props}
-use Rattle.std.specs.Option.{option_map}
-use Rattle.bolt_tree.specs.ShownEntries.{item_view}
-use Rattle.bolt_tree.specs.Walks.{GivesNext}
-use Rattle.bolt_recover.specs.JoinedMembers.{joined_file, joined_left, joined_meta, joined_path}
-use Rattle.bolt_recover.specs.Private.Joining.{recovered_in}
-use Rattle.bolt_recover.specs.Private.KeptMembers.{kept_file, kept_left, kept_meta, kept_path}
-use Rattle.bolt_recover.specs.Recovered.{ForRecovered}
+use Rattle.bolt_recover.proofs.Words.{ForRecovered, GivesNext, item_view, joined_file, joined_left, joined_meta, joined_path, kept_file, kept_left, kept_meta, kept_path, option_map, props, ∥∥₁_elim}
 use Rattle.bolt_recover.proofs.FoundAll.{if_ok}
-use Rattle.bolt_recover.proofs.JoinSteps.{gives_prop, parted, when_fault}
+use Rattle.bolt_recover.proofs.JoinSteps.{gives_prop, of_joined, when_fault}
 use Rattle.bolt_recover.proofs.joined.JoinedMembers.next.Goals as goal
 
 pub returns-in-After-clause-given : goal.returns-in-After-clause-given
@@ -18,8 +10,7 @@ returns-in-After-clause-given c =
     let self = c.args.self.now in
     if_ok {P = λ given. ForRecovered (kept_file self.kept) (kept_meta self.kept) (λ recovered. GivesNext (kept_left self.kept recovered) (kept_left c.next.new.self recovered) (kept_path c.next.new.self) (option_map item_view given))} c.next.result (λ given gives listing is. rw c.in-After.is
     (∥∥₁_elim self.pages (gives_prop _ _ (kept_path c.next.new.self) given) (λ are.
-    let part = parted (kept_file self.kept) (kept_meta self.kept) self.found.now listing are is in
-    gives (recovered_in self.found.now listing) part.recovers))) c.next.ensures.given
+    gives _ (of_joined self listing are is)))) c.next.ensures.given
 
 pub returns-in-After-clause-same : goal.returns-in-After-clause-same
 unfolding joined_file joined_left joined_meta
@@ -27,5 +18,4 @@ returns-in-After-clause-same c =
     let self = c.args.self.now in
     when_fault c.next.result (λ same listing is. rw c.in-After.is
     (∥∥₁_elim self.pages (hlevel props) (λ are.
-    let part = parted (kept_file self.kept) (kept_meta self.kept) self.found.now listing are is in
-    same (recovered_in self.found.now listing) part.recovers))) c.next.ensures.same
+    same _ (of_joined self listing are is)))) c.next.ensures.same

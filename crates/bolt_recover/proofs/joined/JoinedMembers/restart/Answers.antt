@@ -1,8 +1,5 @@
 -- Begun again, over the same pages.
-use Rattle.std.proofs.Math.Logic.{∥∥₁_elim}
-use Rattle.std.proofs.Props.{props}
-use Rattle.bolt_recover.specs.JoinedMembers.{joined_file, joined_left, joined_meta}
-use Rattle.bolt_recover.specs.Private.KeptMembers.{kept_file, kept_meta}
+use Rattle.bolt_recover.proofs.Words.{joined_file, joined_left, joined_meta, kept_file, kept_meta, props, ∥∥₁_elim}
 use Rattle.bolt_recover.proofs.JoinSteps.{begun_left, when_ok}
 use Rattle.bolt_recover.proofs.joined.JoinedMembers.restart.Goals as goal
 

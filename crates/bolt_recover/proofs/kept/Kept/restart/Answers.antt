@@ -1,9 +1,6 @@
 -- Nothing is recovered if the root page is lost. What sound trees list is recovered.
 use Rattle.std.proofs.Common.{List, sym}
-use Rattle.std.proofs.Math.Logic.{∥∥₁_elim}
-use Rattle.std.proofs.Props.{props}
-use Rattle.bolt_tree.specs.Listing.{Member}
-use Rattle.bolt_tree.specs.Walks.{left_of, walk_checked}
+use Rattle.bolt_recover.proofs.Words.{left_of, Member, props, walk_checked, ∥∥₁_elim}
 use Rattle.bolt_recover.proofs.SoundWalks.{same_left}
 use Rattle.bolt_recover.proofs.FoundAll.{nothing_recovered}
 use Rattle.bolt_recover.proofs.kept.Kept.restart.Goals as goal

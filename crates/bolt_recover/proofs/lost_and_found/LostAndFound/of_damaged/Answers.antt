@@ -1,9 +1,6 @@
 -- A recovery searches the file, or the root page is lost.
 use Rattle.std.proofs.Common.{List, subst₂, ℕ}
-use Rattle.std.proofs.lemmas.Grind.{merely}
-use Rattle.bolt_format.specs.declared.meta.Meta.{Meta}
-use Rattle.bolt_recover.specs.Private.TreesLeft.{IsSearched}
-use Rattle.bolt_recover.specs.declared.lost_and_found.Trees.TheVariants.{Damaged}
+use Rattle.bolt_recover.proofs.Words.{Damaged, IsSearched, merely, Meta}
 use Rattle.bolt_recover.proofs.lost_and_found.LostAndFound.of_damaged.Goals as goal
 
 pub invariant_of-result-clause-bytes : goal.invariant_of-result-clause-bytes

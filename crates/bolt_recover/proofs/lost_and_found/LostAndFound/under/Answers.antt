@@ -1,7 +1,5 @@
 -- Sound trees lose nothing. The others are searched.
-use Rattle.std.proofs.lemmas.Grind.{merely}
-use Rattle.bolt_check.proofs.Lawful.{sound_reports_nothing}
-use Rattle.bolt_recover.specs.LostAndFound.{all_lost}
+use Rattle.bolt_recover.proofs.Words.{all_lost, merely, sound_reports_nothing}
 use Rattle.bolt_recover.proofs.FoundAll.{if_ok}
 use Rattle.bolt_recover.proofs.SoundWalks.{sound_searched}
 use Rattle.bolt_recover.proofs.lost_and_found.LostAndFound.under.Goals as goal

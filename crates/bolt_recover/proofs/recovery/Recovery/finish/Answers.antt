@@ -1,16 +1,10 @@
 -- What was returned is looked at, and then all is reported.
-use Rattle.std.proofs.Common.{◌≡◌, ◌∙◌, List, ap, refl, inr, subst₂, sym, ℕ}
-use Rattle.std.specs.Ordering.{is_eq}
-use Rattle.bolt_format.specs.declared.meta.Meta.{Meta}
-use Rattle.bolt_tree.specs.Listing.{Member}
-use Rattle.bolt_tree.specs.Paths.{Path}
-use Rattle.bolt_recover.specs.Joined.{is_found_path}
-use Rattle.bolt_recover.specs.Losses.{AreLosses}
-use Rattle.bolt_recover.specs.Private.Joining.{first_cmp}
-use Rattle.bolt_recover.specs.Recovered.{IsRecovered}
-use Rattle.bolt_recover.specs.Recoveries.{recovery_meta, recovery_path}
+use Rattle.std.proofs.Common.{◌≡◌, ◌∙◌, ◌||◌, Bool, List, ap, refl, subst₂, sym, ℕ}
+use Rattle.bolt_recover.proofs.Words.{AreLosses, first_cmp, holds_key, is_eq, is_found_path, IsRecovered, Member, Meta, Path, recovery_left, recovery_meta, recovery_path}
+use Rattle.std.proofs.Math.Bool.{or_assoc}
 use Rattle.bolt_recover.proofs.FoundAll.{recovery_under}
-use Rattle.bolt_recover.proofs.JoinSteps.{first_found, inside_on, looked_at, looks_on}
+use Rattle.bolt_recover.proofs.JoinSteps.{first_found}
+use Rattle.bolt_recover.proofs.RunExists.{or_none}
 use Rattle.bolt_recover.proofs.recovery.Recovery.finish.Goals as goal
 
 recovered_at : {f g : List ℕ} {m n : Meta} → g ≡ f → n ≡ m → (listing : List Member) → IsRecovered f m listing → IsRecovered g n listing
@@ -20,8 +14,7 @@ pub loop-self-init : goal.loop-self-init
 loop-self-init c = record {
   file = refl;
   meta = refl;
-  looked = λ listing recovered m has. inr (rw (c.requires listing recovered) has);
-  inside = λ listing recovered m has. rw (sym (c.requires listing recovered)) has;
+  looked = λ listing recovered. ap holds_key (c.requires listing recovered);
 }
 
 pub loop-self-preserved : goal.loop-self-preserved
@@ -35,9 +28,10 @@ loop-self-preserved c =
       file = c.next.ensures.file ∙ inv.file;
       meta = c.next.ensures.meta ∙ inv.meta;
       looked = λ listing recovered.
-          looks_on listing _ _ _ _ (given listing (recovered_at inv.file inv.meta listing recovered)) (inv.inside listing recovered) c.loop-self.has_bucket_key _ same (inv.looked listing recovered);
-      inside = λ listing recovered.
-          inside_on listing _ _ _ _ (given listing (recovered_at inv.file inv.meta listing recovered)) (inv.inside listing recovered);
+          or_assoc c.loop-self.has_bucket_key c.is_eq-has_bucket_key.result (holds_key (recovery_left c.next.new.self listing))
+          ∙ ap (λ (b : Bool). c.loop-self.has_bucket_key || (b || holds_key (recovery_left c.next.new.self listing))) same
+          ∙ ap (λ (ms : List Member). c.loop-self.has_bucket_key || holds_key ms) (sym (given listing (recovered_at inv.file inv.meta listing recovered)))
+          ∙ inv.looked listing recovered;
     }
 
 pub returns-in_err-next-clause-under : goal.returns-in_err-next-clause-under
@@ -52,7 +46,9 @@ pub returns-clause-has : goal.returns-clause-has
 returns-clause-has c = λ listing recovered.
     let inv = c.loop-self.invariant in
     let given = rw c.in_default.is at c.in_ok-next.ensures.given in
-    looked_at listing _ (given listing (recovered_at inv.file inv.meta listing recovered)).0 c.loop-self.has_bucket_key (inv.looked listing recovered)
+    sym (or_none c.loop-self.has_bucket_key)
+    ∙ ap (λ (ms : List Member). c.loop-self.has_bucket_key || holds_key ms) (sym (given listing (recovered_at inv.file inv.meta listing recovered)).0)
+    ∙ inv.looked listing recovered
 
 pub returns-clause-all : goal.returns-clause-all
 returns-clause-all c = λ losses are.

@@ -1,9 +1,5 @@
-use Rattle.std.proofs.Common.{◌≡◌}
-use Rattle.std.specs.List.{Contains}
-use Rattle.bolt_tree.specs.Listing.{Member}
-use Rattle.bolt_recover.specs.Recovered.{ForRecovered}
-use Rattle.bolt_recover.specs.Recoveries.{recovery_file, recovery_left, recovery_meta, recovery_work}
-use Rattle.bolt_recover.proofs.JoinSteps.{LooksOn}
+use Rattle.std.proofs.Common.{◌≡◌, ◌||◌}
+use Rattle.bolt_recover.proofs.Words.{ForRecovered, holds_key, recovery_file, recovery_left, recovery_meta, recovery_work}
 use Rattle.bolt_recover.proofs.recovery.Recovery.finish.Given as goal
 
 -- the same file under the same meta, and what isn't left was looked at
@@ -11,8 +7,7 @@ abbrev pub invariant-loop-self : goal.invariant-loop-self
 invariant-loop-self l = record {
   file : recovery_file l.self ≡ recovery_file l.fn.self;
   meta : recovery_meta l.self ≡ recovery_meta l.fn.self;
-  looked : ForRecovered (recovery_file l.fn.self) (recovery_meta l.fn.self) (λ listing. LooksOn listing (recovery_left l.self listing) l.has_bucket_key);
-  inside : ForRecovered (recovery_file l.fn.self) (recovery_meta l.fn.self) (λ listing. (m : Member) → Contains (recovery_left l.self listing) m → Contains listing m);
+  looked : ForRecovered (recovery_file l.fn.self) (recovery_meta l.fn.self) (λ listing. (l.has_bucket_key || holds_key (recovery_left l.self listing)) ≡ holds_key listing);
 }
 
 abbrev pub decreases-loop-self : goal.decreases-loop-self

@@ -1,13 +1,7 @@
 -- Something is lost, since the trees aren't sound.
 use Rattle.std.proofs.Common.{◌≡◌, ◌∙◌, List, true, subst₂, ℕ}
-use Rattle.std.specs.List.{All}
-use Rattle.bolt_format.specs.declared.meta.Meta.{Meta}
-use Rattle.bolt_check.specs.Leftovers.{is_taken}
-use Rattle.bolt_recover.specs.Found.{FoundBelow, numbers_of}
-use Rattle.bolt_recover.specs.Recoveries.{recovery_claimed, recovery_file, recovery_losses, recovery_meta}
-use Rattle.bolt_recover.specs.ShownFound.{IsFoundView}
-use Rattle.bolt_recover.proofs.FoundAll.{found_rest}
-use Rattle.bolt_recover.proofs.NothingLost.{no_loss_sound}
+use Rattle.bolt_recover.proofs.Words.{All, FoundBelow, is_taken, IsFoundView, Meta, numbers_of, recovery_claimed, recovery_file, recovery_losses, recovery_meta}
+use Rattle.bolt_recover.proofs.FoundAll.{found_damaged}
 use Rattle.bolt_recover.proofs.recovery.Recovery.found.Goals as goal
 
 pub returns : goal.returns
@@ -25,8 +19,7 @@ returns c =
       left = finished.has;
       lost = (c.requires.root, finished.all);
       are_found =
-          found_rest file meta (recovery_losses self) finished.all (recovery_claimed self) (is_taken rest) (numbers_of items) finished.kept c.new.ensures.taken
-          (λ none. c.requires.damaged (no_loss_sound file meta (recovery_losses self) finished.all none))
+          found_damaged file meta (recovery_claimed self) (is_taken rest) (numbers_of items) finished.kept c.new.ensures.taken c.requires.damaged
           (subst₂ (λ (f : List ℕ) (m : Meta). FoundBelow f m (λ n. is_taken rest n ≡ true) m.high_water (numbers_of items)) same_file same_meta c.in_ok-found.ensures.found);
       views = subst₂ (λ (f : List ℕ) (m : Meta). All (IsFoundView f m) items) same_file same_meta c.in_ok-found.ensures.views;
     }

@@ -1,7 +1,4 @@
-use Rattle.std.proofs.Math.Logic.{∥∥₁_elim}
-use Rattle.std.proofs.Props.{props}
-use Rattle.bolt_recover.specs.Private.Frames.{state_of}
-use Rattle.bolt_recover.specs.Recoveries.{recovery_file, recovery_losses, recovery_meta}
+use Rattle.bolt_recover.proofs.Words.{props, recovery_file, recovery_losses, recovery_meta, state_of, ∥∥₁_elim}
 use Rattle.bolt_recover.proofs.Recovering.{reported_first}
 use Rattle.bolt_recover.proofs.recovery.Recovery.losses.Goals as goal
 

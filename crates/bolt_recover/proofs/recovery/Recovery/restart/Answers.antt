@@ -1,14 +1,6 @@
 -- The root page was kept before.
 use Rattle.std.proofs.Common.{◌∙◌, List, subst, sym, ℕ}
-use Rattle.std.proofs.Math.Logic.{∥∥₁_elim, ∥∥₁_map, ∥∥₁_prop}
-use Rattle.bolt_check.specs.Claims.{claims_file, claims_visited}
-use Rattle.bolt_check.specs.Nodes.{node_at}
-use Rattle.bolt_format.specs.declared.meta.Meta.{Meta}
-use Rattle.bolt_tree.specs.Listing.{Member}
-use Rattle.bolt_recover.specs.Refusals.{KeepsRoot}
-use Rattle.bolt_recover.specs.Private.Frames.{ComesTo, IsOn, NoWay, outcome_of, state_of, stay}
-use Rattle.bolt_recover.specs.Private.Runs.{RunsAll, Visited}
-use Rattle.bolt_recover.specs.Recoveries.{recovery_file, recovery_left, recovery_meta}
+use Rattle.bolt_recover.proofs.Words.{claims_file, claims_visited, IsAllLeft, IsOn, KeepsRoot, Meta, recovery_file, recovery_left, recovery_meta, state_of, ∥∥₁_elim, ∥∥₁_map, ∥∥₁_prop}
 use Rattle.bolt_recover.proofs.Recovering.{begun, left_all}
 use Rattle.bolt_recover.proofs.recovery.Recovery.restart.Goals as goal
 
@@ -29,7 +21,7 @@ invariant_of-self-2 c =
       root = ∥∥₁_map c.args.self.now.root (λ keeps. subst (λ (f : List ℕ). KeepsRoot f meta) (sym new.file) keeps);
       on = ∥∥₁_map c.args.self.now.on (λ on. subst (IsOn (state_of steps) meta) (sym c.visited-begun.ensures)
           (begun (state_of steps) file meta (claims_visited claims) new.file (new.meta ∙ on.meta) new.placed new.more new.path
-          (subst (λ (m : Meta). (visits : List (Visited NoWay)) (members : List Member) → RunsAll file m stay tt visits members → ComesTo (state_of steps) members (outcome_of (node_at file m) (claims_visited claims) visits)) on.meta new.all)));
+          (subst (λ (m : Meta). IsAllLeft file m (claims_visited claims) (state_of steps)) on.meta new.all)));
     }
 
 pub returns-clause-all : goal.returns-clause-all

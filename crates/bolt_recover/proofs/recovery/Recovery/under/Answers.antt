@@ -1,9 +1,5 @@
 use Rattle.std.proofs.Common.{subst₂, sym}
-use Rattle.std.proofs.lemmas.Grind.{merely}
-use Rattle.bolt_check.specs.Claims.{claims_file, claims_meta, claims_visited}
-use Rattle.bolt_recover.specs.Refusals.{KeepsRoot}
-use Rattle.bolt_recover.specs.Private.Frames.{IsOn, state_of}
-use Rattle.bolt_recover.specs.Recoveries.{recovery_left}
+use Rattle.bolt_recover.proofs.Words.{claims_file, claims_meta, claims_visited, IsOn, KeepsRoot, merely, recovery_left, state_of}
 use Rattle.bolt_recover.proofs.Recovering.{begun, left_all}
 use Rattle.bolt_recover.proofs.recovery.Recovery.under.Goals as goal
 

@@ -1,8 +1,4 @@
-use Rattle.std.proofs.Math.Logic.{∥∥₁_elim}
-use Rattle.std.proofs.Props.{props}
-use Rattle.bolt_check.proofs.ClaimLemmas.{visited_fits}
-use Rattle.bolt_recover.specs.Private.Frames.{state_of}
-use Rattle.bolt_recover.specs.Recoveries.{recovery_begun, recovery_file, recovery_meta, recovery_visited}
+use Rattle.bolt_recover.proofs.Words.{props, recovery_begun, recovery_file, recovery_meta, recovery_visited, state_of, visited_fits, ∥∥₁_elim}
 use Rattle.bolt_recover.proofs.Recovering.{visited_within}
 use Rattle.bolt_recover.proofs.recovery.Recovery.visited.Goals as goal
 

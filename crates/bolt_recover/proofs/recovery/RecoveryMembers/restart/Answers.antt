@@ -1,8 +1,6 @@
 -- The file is read under the same meta.
 use Rattle.std.proofs.Common.{◌≡◌, List, subst₂, ℕ}
-use Rattle.bolt_format.specs.declared.meta.Meta.{Meta}
-use Rattle.bolt_recover.specs.Losses.{LossView}
-use Rattle.bolt_recover.specs.Recoveries.{ForLosses, recovery_losses}
+use Rattle.bolt_recover.proofs.Words.{ForLosses, LossView, Meta, recovery_losses}
 use Rattle.bolt_recover.proofs.recovery.RecoveryMembers.restart.Goals as goal
 
 pub returns-clause-same_end : goal.returns-clause-same_end

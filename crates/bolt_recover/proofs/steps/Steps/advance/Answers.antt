@@ -1,5 +1,4 @@
-use Rattle.bolt_format.specs.ElementPlaces.{leaf_view}
-use Rattle.bolt_recover.specs.Private.Frames.{state_of}
+use Rattle.bolt_recover.proofs.Words.{leaf_view, state_of}
 use Rattle.bolt_recover.proofs.StepLemmas.{ends_from, gives_from, goes_from, when_err}
 use Rattle.bolt_recover.proofs.steps.Steps.advance.Goals as goal
 

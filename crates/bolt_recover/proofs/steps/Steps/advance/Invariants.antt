@@ -1,5 +1,5 @@
 use Rattle.std.proofs.Common.{◌≤◌}
-use Rattle.bolt_recover.specs.Private.Frames.{GoesOn, state_of, steps_weight}
+use Rattle.bolt_recover.proofs.Words.{GoesOn, state_of, steps_weight}
 use Rattle.bolt_recover.proofs.steps.Steps.advance.Given as goal
 
 -- nothing was returned yet

@@ -1,8 +1,5 @@
 use Rattle.std.proofs.Common.{arith, ◌∙◌, [], ◌∷◌, ◌++◌, List, None, ap, map, refl, sym, subst}
-use Rattle.bolt_check.specs.Claims.{claims_file, claims_meta, claims_visited, is_claimed}
-use Rattle.bolt_recover.specs.Private.Frames.{GoesOn, State, lost_state, state_of}
-use Rattle.bolt_recover.specs.ShownLosses.{loss_view}
-use Rattle.bolt_recover.specs.declared.content.OpenPage.{OpenPage}
+use Rattle.bolt_recover.proofs.Words.{claims_file, claims_meta, claims_visited, GoesOn, is_claimed, loss_view, lost_state, OpenPage, State, state_of}
 use Rattle.bolt_recover.proofs.StepLemmas.{as_state, entered_lost, entered_page}
 use Rattle.bolt_recover.proofs.steps.Steps.enter.Goals as goal
 

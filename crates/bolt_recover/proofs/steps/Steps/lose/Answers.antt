@@ -1,11 +1,5 @@
 use Rattle.std.proofs.Common.{arith, ◌≡◌, ◌∙◌, List, [], ◌∷◌, ◌++◌, map, ap, refl, sym, take, Bor, ℕ}
-use Rattle.std.proofs.lemmas.Grind.{common_steps}
-use Rattle.std.proofs.lemmas.List.{map-append, nil_from_length, take-map}
-use Rattle.bolt_check.specs.Claims.{claims_file, claims_meta}
-use Rattle.bolt_tree.specs.Paths.{Path, path_of}
-use Rattle.bolt_recover.specs.Losses.{LossView, loss_of}
-use Rattle.bolt_recover.specs.Private.Frames.{State, lost_state, state_of, spot_place}
-use Rattle.bolt_recover.specs.ShownLosses.{loss_view}
+use Rattle.bolt_recover.proofs.Words.{claims_file, claims_meta, common_steps, loss_of, loss_view, LossView, lost_state, map-append, nil_from_length, Path, path_of, spot_place, State, state_of, take-map}
 use Rattle.bolt_recover.proofs.steps.Steps.lose.Goals as goal
 
 pub returns-clause-reported : goal.returns-clause-reported

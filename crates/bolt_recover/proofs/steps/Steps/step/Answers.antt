@@ -1,13 +1,6 @@
 use Rattle.std.proofs.Common.{◌≡◌, ◌∙◌, ◌++◌, ◌+◌, ◌<◌, ◌≤◌, ◌∷◌, [], Bor, List, None, Option, ℕ, ap, length, refl, sym, arith, sum_by, take}
-use Rattle.std.proofs.lemmas.List.{length-map, map-append, take-map}
-use Rattle.std.proofs.lemmas.List.Sums.{sum_by-append}
-use Rattle.bolt_format.specs.ElementPlaces.{leaf_view}
-use Rattle.bolt_format.specs.Elements.{LeafElement}
+use Rattle.bolt_recover.proofs.Words.{ahead_weight, GivesHead, GoesOn, leaf_view, LeafElement, length-map, map-append, OpenPage, option_map, option_to_list, page_weight, Path, path_of, spot_place, State, state_of, step_path, sum_by-append, take-map}
 use Rattle.bolt_check.specs.declared.spot.Spot.{Spot}
-use Rattle.std.specs.Option.{option_map, option_to_list}
-use Rattle.bolt_tree.specs.Paths.{Path, path_of}
-use Rattle.bolt_recover.specs.Private.Frames.{GivesHead, GoesOn, State, ahead_weight, page_weight, state_of, step_path, spot_place}
-use Rattle.bolt_recover.specs.declared.content.OpenPage.{OpenPage}
 use Rattle.bolt_recover.proofs.StepLemmas.{Innermost, as_state, is_shallow, moved_weight, next_below, took_branch, took_last, took_leaf, top_of}
 use Rattle.bolt_recover.proofs.steps.Steps.step.Goals as goal
 use Rattle.bolt_recover.proofs.steps.Steps.step.Goals.{After-spot-spot, In-Some}

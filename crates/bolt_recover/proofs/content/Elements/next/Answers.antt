@@ -1,12 +1,9 @@
 use Rattle.std.proofs.Common.{◌≡◌, [], arith, drop, sym}
-use Rattle.std.proofs.lemmas.Grind.{common_steps}
-use Rattle.std.proofs.lemmas.List.{drop_all}
+use Rattle.bolt_recover.proofs.Words.{common_steps, content_elements, drop_all, leaf_view}
 use Rattle.bolt_format.proofs.ListLemmas.{drop_next}
-use Rattle.bolt_format.specs.ElementPlaces.{leaf_view}
 use Rattle.bolt_tree.proofs.CursorMoves.{none_past}
-use Rattle.bolt_recover.specs.Private.Frames.{content_elements}
 use Rattle.bolt_recover.proofs.ContentLemmas.{elements_within}
-use Rattle.bolt_recover.proofs.elements.Elements.next.Goals as goal
+use Rattle.bolt_recover.proofs.content.Elements.next.Goals as goal
 
 pub returns-then-self-count-clause-given : goal.returns-then-self-count-clause-given
 returns-then-self-count-clause-given c =
