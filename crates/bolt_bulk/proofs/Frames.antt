@@ -1,6 +1,6 @@
 -- A forward pass over a tree, with a frame for each waiting bucket: in the end they become the root page, and the pages that
 -- were written are those of the layout.
-use Rattle.std.proofs.Common.{◌≡◌, ℕ, List, [], ◌∷◌, ◌++◌, refl, append_assoc, arith}
+use Rattle.std.proofs.Common.{◌≡◌, ℕ, ◌+◌, List, [], ◌∷◌, ◌++◌, length, refl, subst, append_assoc, arith}
 use Rattle.std.proofs.lemmas.List.{append-nil}
 use Rattle.bolt_format.specs.Elements.{BranchElement, LeafElement}
 use Rattle.bolt_tree.specs.Tree.{Tree}
@@ -11,7 +11,7 @@ use Rattle.bolt_layout.specs.Limits.{HaveRightLimits}
 use Rattle.bolt_layout.specs.Layout.{first_page, layout_pages}
 use Rattle.bolt_bulk.specs.Private.RowLimits.{bucket_limit}
 use Rattle.bolt_bulk.specs.Private.OpenRuns.{all_put, base_in, end_of, end_puts, Frame, Known, making_room, nothing_open, Open, pushing, room_puts, taking}
-use Rattle.bolt_bulk.specs.Private.Coming.{HasBegun, IsPass, held_item, leaves_coming}
+use Rattle.bolt_bulk.specs.Private.Coming.{HasBegun, IsOpen, IsPass, held_item, leaves_coming}
 use Rattle.bolt_bulk.proofs.OpenRunLemmas.{ends, ends_put, opens, pushed_put, room_put, takes}
 use Rattle.bolt_layout.specs.declared.layout.Layout.{Layout}
 
@@ -45,27 +45,30 @@ pub put_takes : (page_size : ℕ) (frames : List Frame) (state : Open) (item : L
 put_takes page_size frames state item none = grind (arith, pushed_put, append-nil, room_put, append_assoc)
 
 -- A bucket with a root page: room is made, and a bucket within begins.
-abbrev pub waiting : ℕ → Open → List ℕ → ℕ → Laid BranchElement → Tree → Frame
-waiting page_size state key sequence root after =
-    record { state = making_room page_size state key (bucket_item key sequence root).size; key = key; sequence = sequence; after = after }
+abbrev pub waiting : ℕ → Open → List ℕ → ℕ → Tree → Frame
+waiting page_size state key sequence after = record { state = making_room page_size state key (32 + length key); key = key; sequence = sequence; after = after }
 
 pub pass_enters : (which : Layout) (page_size : ℕ) (known : Known) (frames : List Frame) (state : Open) (key : List ℕ) (sequence : ℕ) (inner : List (Laid LeafElement)) (after : Tree) (whole : Laid BranchElement)
     → known.leaves ≡ leaves_coming page_size [] inner → HaveRightLimits which page_size (bucket_limit known.limits) (leaves_coming page_size [] inner)
     → IsPass which page_size frames state (bucket_item key sequence (root_over which page_size inner) ∷ items_of which page_size after) whole
-    → IsPass which page_size (waiting page_size state key sequence (root_over which page_size inner) after ∷ frames) (nothing_open known) inner whole
+    → IsPass which page_size (waiting page_size state key sequence after ∷ frames) (nothing_open known) inner whole
 pass_enters which page_size known frames state key sequence inner after whole leaves right pass =
     let item : Laid LeafElement = bucket_item key sequence (root_over which page_size inner) in
+    let size : item.size ≡ 32 + length key = omega arith in
     record {
       root = root_over which page_size inner;
       current = opens which page_size known inner leaves right;
       begun = λ none. refl;
-      stack = (pass.root, takes which page_size state item (items_of which page_size after) pass.root pass.current, pass.stack);
+      stack = (
+        pass.root,
+        subst (λ (n : ℕ). IsOpen which page_size (pushing (making_room page_size state key n) item) (items_of which page_size after) pass.root) size (takes which page_size state item (items_of which page_size after) pass.root pass.current),
+        pass.stack,
+      );
     }
 
-pub put_enters : (page_size : ℕ) (known : Known) (frames : List Frame) (state : Open) (key : List ℕ) (sequence : ℕ) (root : Laid BranchElement) (after : Tree)
-    → all_put (waiting page_size state key sequence root after ∷ frames) (nothing_open known)
-    ≡ all_put frames state ++ room_puts page_size state key (bucket_item key sequence root).size (base_in frames)
-put_enters page_size known frames state key sequence root after = grind (arith, append-nil, room_put, append_assoc)
+pub put_enters : (page_size : ℕ) (known : Known) (frames : List Frame) (state : Open) (key : List ℕ) (sequence : ℕ) (after : Tree)
+    → all_put (waiting page_size state key sequence after ∷ frames) (nothing_open known) ≡ all_put frames state ++ room_puts page_size state key (32 + length key) (base_in frames)
+put_enters page_size known frames state key sequence after = grind (arith, append-nil, room_put, append_assoc)
 
 -- The end of a bucket within: its runs close, and the bucket that waits takes its item.
 pub pass_leaves : (which : Layout) (page_size : ℕ) (frame : Frame) (frames : List Frame) (state : Open) (whole : Laid BranchElement) → IsPass which page_size (frame ∷ frames) state [] whole

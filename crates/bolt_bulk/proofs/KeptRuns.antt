@@ -133,9 +133,9 @@ runs_have_room page_size kept_runs state b key size is =
     grind arith
 
 -- an item, once the pages below it were written
-pub runs_pushed : (kept_runs : BucketRunsView) (state : Open) (b : ℕ) (item : Laid LeafElement) → AreOpenRuns kept_runs state b → IsKeyedItem item
-    → AreOpenRuns (runs_push kept_runs (item.element kept_runs.next) item.size (kept_runs.next + item.numbers)) (pushing state item) b
-runs_pushed kept_runs state b item is keyed = grind (arith, sum_by_push, numbers-append, elements-append, all_append)
+pub runs_pushed : (kept_runs : BucketRunsView) (state : Open) (b : ℕ) (item : Laid LeafElement) (e : LeafElement) (size next : ℕ) → AreOpenRuns kept_runs state b → IsKeyedItem item → e ≡ item.element kept_runs.next
+    → size ≡ item.size → next ≡ kept_runs.next + item.numbers → AreOpenRuns (runs_push kept_runs e size next) (pushing state item) b
+runs_pushed kept_runs state b item e size next is keyed element sized after = grind (arith, sum_by_push, numbers-append, elements-append, all_append)
 
 -- the end
 runs_closed : (page_size : ℕ) (e : BranchElement) (next b : ℕ) (q : Laid BranchElement) (kept_runs : List RunView) (uppers : List Upper) → AreUppers kept_runs uppers b → IsKeyed q

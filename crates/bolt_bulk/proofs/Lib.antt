@@ -24,7 +24,6 @@ mod PassAt
 mod PassEnds
 mod PassLeft
 mod PassReady
-mod PassRuns
 mod PassSteps
 mod PutBefore
 mod PutsLemmas
