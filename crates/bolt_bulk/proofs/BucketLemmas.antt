@@ -16,8 +16,7 @@ use Rattle.bolt_bulk.specs.Private.TakenItems.{runs_taking}
 use Rattle.bolt_bulk.specs.declared.fault.BulkFault.{BulkFault}
 use Rattle.bolt_bulk.specs.declared.held.Held.{Held}
 use Rattle.bolt_bulk.specs.declared.leaf_run.LeafRun.{LeafRun}
-use Rattle.bolt_bulk.proofs.ClimbLemmas.{next_grows}
-use Rattle.bolt_bulk.proofs.CloseLemmas.{end_grows}
+use Rattle.bolt_bulk.proofs.ClimbLemmas.{next_grows, end_grows}
 use Rattle.bolt_bulk.proofs.HeldRuns.{none_small}
 use Rattle.bolt_bulk.proofs.RunLemmas.{few_or_fits}
 use Rattle.bolt_bulk.proofs.PutsLemmas.{proper_same, pages_some, short_then}

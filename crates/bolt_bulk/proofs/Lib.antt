@@ -1,7 +1,6 @@
 mod BranchPuts
 mod BucketLemmas
 mod ClimbLemmas
-mod CloseLemmas
 mod CopyLemmas
 mod ElementPuts
 mod FileLayouts
