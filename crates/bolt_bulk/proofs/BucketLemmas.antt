@@ -1,11 +1,10 @@
 -- What is open of a bucket: its leaf closes, and then runs above it.
-use Rattle.std.proofs.Common.{◌≡◌, ◌≢◌, ◌∙◌, ℕ, ◌+◌, ◌<◌, ◌≤◌, true, false, List, [], ◌∷◌, ◌++◌, length, OnErr, OnOk, Option, Result, Ok, Err, refl, sym, ap, arith}
+use Rattle.std.proofs.Common.{◌≡◌, ◌≢◌, ◌∙◌, ℕ, ◌+◌, ◌<◌, ◌≤◌, true, false, List, [], ◌∷◌, ◌++◌, length, OnErr, OnOk, Option, Result, Ok, Err, ap, arith}
 use Rattle.std.proofs.lemmas.Bool.{leb-true, ltb-true}
 use Rattle.std.proofs.lemmas.List.{length-map}
 use Rattle.bolt_format.specs.Elements.{BranchElement, LeafElement}
 use Rattle.bolt_format.specs.Sinks.{AppendsProperPrefix}
 use Rattle.bolt_format.specs.declared.element.Leaf.{Leaf}
-use Rattle.bolt_layout.specs.Laid.{Placed}
 use Rattle.bolt_layout.specs.Layout.{placed_bytes}
 use Rattle.bolt_layout.specs.Levels.{overflow_of}
 use Rattle.bolt_layout.specs.PageBytes.{page_bytes}
@@ -48,11 +47,7 @@ pub room_made : {S : Type 0} {sink : Ghosts S} (page_size : ℕ) (runs : BucketR
     → Wrote sink old mid (page_bytes page_size runs.next (leaf_page page_size runs.leaves runs.next).view) whole
     → Wrote sink mid new (placed_bytes page_size (runs_put page_size key closed after runs.uppers)) end
     → Wrote sink old new (placed_bytes page_size (runs_room_put page_size runs key size)) end
-room_made page_size runs key size old mid new closed after none same number one two =
-    let text : runs_room_put page_size runs key size ≡ leaf_page page_size runs.leaves runs.next ∷ runs_put page_size key (leaf_closed runs.leaves runs.next) (runs.next + (1 + overflow_of page_size runs.leaves.size)) runs.uppers = rw none refl in
-    let put : runs_put page_size key closed after runs.uppers ≡ runs_put page_size key (leaf_closed runs.leaves runs.next) (runs.next + (1 + overflow_of page_size runs.leaves.size)) runs.uppers =
-    ap (λ (e : BranchElement). runs_put page_size key e after runs.uppers) same ∙ ap (λ (n : ℕ). runs_put page_size key (leaf_closed runs.leaves runs.next) n runs.uppers) number in
-    Wrote-same (ap (λ (ps : List Placed). page_bytes page_size runs.next (leaf_page page_size runs.leaves runs.next).view ++ placed_bytes page_size ps) put ∙ ap (λ (ps : List Placed). placed_bytes page_size ps) (sym text)) (Wrote-then one two)
+room_made page_size runs key size old mid new closed after none same number one two = grind (arith, Wrote-same, Wrote-then)
 
 -- the end: the leaf closes, and then each run above
 pub end_large : (page_size limit : ℕ) (runs : BucketRunsView) → limit < runs.next + (1 + overflow_of page_size runs.leaves.size) → limit < bucket_end_next page_size runs

@@ -1,6 +1,6 @@
 -- A forward pass over a tree, with a frame for each waiting bucket: in the end they become the root page, and the pages that
 -- were written are those of the layout.
-use Rattle.std.proofs.Common.{◌≡◌, ℕ, ◌+◌, List, [], ◌∷◌, ◌++◌, length, refl, subst, append_assoc, arith}
+use Rattle.std.proofs.Common.{◌≡◌, ℕ, ◌+◌, List, [], ◌∷◌, ◌++◌, length, refl, append_assoc, arith, subst}
 use Rattle.std.proofs.lemmas.List.{append-nil}
 use Rattle.bolt_format.specs.Elements.{BranchElement, LeafElement}
 use Rattle.bolt_tree.specs.Tree.{Tree}
@@ -11,7 +11,7 @@ use Rattle.bolt_layout.specs.Limits.{HaveRightLimits}
 use Rattle.bolt_layout.specs.Layout.{first_page, layout_pages}
 use Rattle.bolt_bulk.specs.Private.RowLimits.{bucket_limit}
 use Rattle.bolt_bulk.specs.Private.OpenRuns.{all_put, base_in, end_of, end_puts, Frame, Known, making_room, nothing_open, Open, pushing, room_puts, taking}
-use Rattle.bolt_bulk.specs.Private.Coming.{HasBegun, IsOpen, IsPass, held_item, leaves_coming}
+use Rattle.bolt_bulk.specs.Private.Coming.{HasBegun, IsPass, held_item, leaves_coming, IsOpen}
 use Rattle.bolt_bulk.proofs.OpenRunLemmas.{ends, ends_put, opens, pushed_put, room_put, takes}
 use Rattle.bolt_layout.specs.declared.layout.Layout.{Layout}
 

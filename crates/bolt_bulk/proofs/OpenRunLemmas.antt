@@ -121,9 +121,7 @@ climb_same which page_size limits key q (upper ∷ uppers) p pages all root name
 pub close_same : (which : Layout) (page_size : ℕ) (limits : ℕ → Option ℕ) (q : Laid BranchElement) (uppers : List Upper) (all : List (Laid BranchElement)) (root : Laid BranchElement)
     → Comes which page_size limits uppers all (q ∷ []) root → close page_size q uppers ≡ root
 close_same which page_size limits q [] all root is = is.1.top
-close_same which page_size limits q (upper ∷ uppers) all root is =
-    close_same which page_size (λ k. limits (suc k)) (page_over branch_page_view page_size (upper.run ++ q ∷ [])) uppers
-    (map (page_over branch_page_view page_size) (branch_cut which page_size size_of all)) root is.1
+close_same which page_size limits q (upper ∷ uppers) all root is = grind (arith, close_same which page_size (λ k. limits (suc k)) (page_over branch_page_view page_size (upper.run ++ q ∷ [])) uppers (map (page_over branch_page_view page_size) (branch_cut which page_size size_of all)) root is.1)
 
 -- The pages that were written.
 pub pages-append : {E : Type 0} (xs ys : List (Laid E)) (n : ℕ) → pages_of (xs ++ ys) n ≡ pages_of xs n ++ pages_of ys (n + numbers_of xs)
@@ -155,15 +153,7 @@ over_put page_size b run q uppers more =
 pub climb_put : (page_size : ℕ) (new : Option ℕ) (key : List ℕ) (q : Laid BranchElement) (uppers : List Upper) (b : ℕ)
     → pages_of (put_in (climb page_size new key q uppers)) b ≡ pages_of (put_in uppers) b ++ (q.pages (b + numbers_in uppers) ++ climb_puts page_size key q uppers b)
 climb_put page_size new key q [] b = ap (λ (n : ℕ). q.pages n ++ []) (let e : b ≡ b + 0 = omega arith in e)
-climb_put page_size new key q (upper ∷ uppers) b =
-    let run : List (Laid BranchElement) = upper.run in
-    elim (cases_Bool (stays_open page_size (pushed_on upper q) (key_size key))) [
-      | inl t ↦ rw t (pages_push (put_in uppers) run q b ∙ ap (λ (ps : List Placed). pages_of (put_in uppers ++ run) b ++ ps) (sym (append-nil (q.pages (b + numbers_of (put_in uppers ++ run))))))
-      | inr f ↦
-          let q2 : Laid BranchElement = page_over branch_page_view page_size (run ++ q ∷ []) in
-          let ih = climb_put page_size new key q2 uppers b in
-          rw f (ap (λ (xs : List (Laid BranchElement)). pages_of xs b) (append-nil (put_in (climb page_size new key q2 uppers))) ∙ (ih ∙ over_put page_size b run q uppers (climb_puts page_size key q2 uppers b)))
-    ]
+climb_put page_size new key q (upper ∷ uppers) b = grind (arith, cases_Bool, pages_push, append-nil, over_put, climb_put page_size new key (page_over branch_page_view page_size (upper.run ++ q ∷ [])) uppers b)
 
 pub close_put : (page_size : ℕ) (q : Laid BranchElement) (uppers : List Upper) (b : ℕ)
     → (close page_size q uppers).pages b ≡ pages_of (put_in uppers) b ++ (q.pages (b + numbers_in uppers) ++ close_puts page_size q uppers b)

@@ -338,6 +338,4 @@ module _ (wanted : Wanted) (pass : Pass) where
 pub keep_at : (wanted : Wanted) (pass : Pass) (levels : List Level) (put : List Placed) (key value : List ℕ) (after : Tree) (p : PendingBucket) (entry : Leaf) (size : ℕ) (entries : Vec Leaf Global)
     → IsAt wanted pass levels (with_value key value after) put → pass.pending ≡ Some p → entries.items ≡ pass.entries.items ++ entry ∷ [] → leaf_view entry ≡ value_element key value
     → IsAt wanted (record pass { pending = Some (record { key = p.key; sequence = p.sequence; size = size }); entries = entries }) levels after put
-keep_at wanted pass levels put key value after p entry size entries is some pushed view =
-    let (behind, same, rest) = subst (λ (q : Option PendingBucket). IsPending q pass.entries.items (map level_of is.frames) is.rest levels (with_value key value after)) some is.pends in
-    grind (arith, map-append, onto_push)
+keep_at wanted pass levels put key value after p entry size entries is some pushed view = grind (arith, map-append, onto_push)

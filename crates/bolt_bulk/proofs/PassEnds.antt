@@ -10,7 +10,6 @@ use Rattle.bolt_tree.specs.Entries.{Bucket, Value}
 use Rattle.bolt_tree.specs.Listing.{Member}
 use Rattle.bolt_tree.specs.Paths.{Path}
 use Rattle.bolt_tree.specs.Tree.{Tree, end, listing_below, listing_of, with_bucket, with_value}
-use Rattle.bolt_layout.specs.Items.{root_of}
 use Rattle.bolt_layout.specs.Laid.{Placed}
 use Rattle.bolt_layout.specs.Layout.{first_page, layout_held, layout_mark, layout_pages, layout_root, placed_bytes}
 use Rattle.bolt_layout.specs.Storable.{HasLengths}
@@ -23,8 +22,8 @@ use Rattle.bolt_bulk.specs.Private.BucketRuns.{AreOpenRuns}
 use Rattle.bolt_layout.specs.Openings.{leaf_pages, opened_in}
 use Rattle.bolt_layout.specs.declared.layout.Layout.{Layout}
 use Rattle.bolt_layout.specs.declared.layout.Layout.TheVariants.{Balanced, Plain}
-use Rattle.bolt_layout.specs.Items.{items_of}
-use Rattle.bolt_bulk.specs.Private.OpenRuns.{Frame, Known, Open, end_of, nothing_open}
+use Rattle.bolt_layout.specs.Items.{items_of, root_of}
+use Rattle.bolt_bulk.specs.Private.OpenRuns.{Frame, Known, Open, nothing_open, end_of}
 use Rattle.bolt_bulk.specs.Private.Passes.{AreComingAround, FitLimits, HasLeft, HasNoted, IsAt, IsOn, Steps, Wanted, depth_of, level_of, limits_by, limits_with, open_in, pending_depth}
 use Rattle.bolt_bulk.specs.Private.RunViews.{BucketRunsView, no_leaves, runs_end, runs_end_put}
 use Rattle.bolt_bulk.specs.declared.page_setup.PageSetup.{PageSetup}

@@ -1,41 +1,35 @@
 -- What is added is the next header, and the place of its key has room in 32 bits.
-use Rattle.std.proofs.Common.{arith, get_or, refl, Bool, length, ap, ◌∙◌}
+use Rattle.std.proofs.Common.{ℕ, arith, get_or, Bool, length, ap, ◌∙◌}
 use Rattle.std.proofs.lemmas.List.{length-append}
 use Rattle.bolt_format.specs.Written.{leaf_header}
 use Rattle.bolt_bulk.specs.declared.held.Held.{Held}
-use Rattle.bolt_bulk.specs.Private.HeldItems.{held_view, stored_value}
-use Rattle.bolt_bulk.proofs.ElementPuts.{heads_all, heads_more, heads_none, heads_stop}
+use Rattle.bolt_bulk.specs.Private.HeldItems.{held_view}
+use Rattle.bolt_bulk.proofs.ElementPuts.{heads_all, heads_more, heads_next, heads_none, heads_stop}
 use Rattle.bolt_bulk.proofs.HeldPuts.{held_at, no_held}
-use Rattle.bolt_bulk.proofs.LeafPuts.{leaf_heads, next_leaf}
+use Rattle.bolt_bulk.proofs.LeafPuts.{leaf_packed}
 use Rattle.bolt_bulk.proofs.leaf_page.put_headers.Goals as goal
-use Rattle.bolt_format.proofs.WroteLemmas.{Wrote-same}
 
 pub loop-held-init : goal.loop-held-init
-loop-held-init g c = heads_none c.args.sink.now c.new-headers.result.buffer.items c.args.items.now c.new-headers.result.pos c.new-headers.ensures.empty c.new-headers.ensures.pos
+loop-held-init g c = heads_none c.new-headers.ensures.empty c.new-headers.ensures.pos
 
 pub put_leaf-requires-clause-low : goal.put_leaf-requires-clause-low
-put_leaf-requires-clause-low g c = (next_leaf (held_view c.args.inlined.now) _ _ _ c.args.items.now c.loop-held.held-index c.loop-held.headers.pos no_held c.loop-held-test.true c.loop-held.invariant c.requires.size).low
+put_leaf-requires-clause-low g c = (heads_next (leaf_packed (held_view c.args.inlined.now)) c.loop-held.invariant no_held c.loop-held-test.true).low
 
 pub put_leaf-requires-clause-small : goal.put_leaf-requires-clause-small
 put_leaf-requires-clause-small g c =
-    let next = next_leaf (held_view c.args.inlined.now) _ _ _ c.args.items.now c.loop-held.held-index c.loop-held.headers.pos no_held c.loop-held-test.true c.loop-held.invariant c.requires.size in
     let is = held_at c.args.inlined.now c.args.items.now c.loop-held.held-index c.loop-held-test.true c.requires.held in
-    let fits = next.fits in omega arith
+    let fits = (heads_next (leaf_packed (held_view c.args.inlined.now)) c.loop-held.invariant no_held c.loop-held-test.true).fits in omega (arith, length-append {A = ℕ})
 
 pub loop-held-preserved : goal.loop-held-preserved
 loop-held-preserved g c =
     let x : Held = get_or c.args.items.now c.loop-held.held-index no_held in
     let is = held_at c.args.inlined.now c.args.items.now c.loop-held.held-index c.loop-held-test.true c.requires.held in
     let value = c.len-value.ensures c.args.inlined.now is.1 in
-    let d = length-append x.key.now (stored_value c.args.inlined.now x.stored) in
-    let step = c.in_ok-put_leaf.ensures.pos in
     let text = ap (λ (b : Bool). leaf_header b c.loop-held.headers.pos (length x.key.now) c.len-value.result) c.is_bucket.ensures ∙ ap (leaf_header _ c.loop-held.headers.pos (length x.key.now)) value in
-    heads_more _ _ _ _ _ _ c.args.items.now c.loop-held.held-index c.loop-held.headers.pos _ no_held x _ c.loop-held-test.true refl (omega arith) text c.loop-held.invariant c.in_ok-put_leaf.ensures.adds
+    heads_more (leaf_packed (held_view c.args.inlined.now)) c.loop-held.invariant no_held _ c.loop-held-test.true (omega (arith, length-append {A = ℕ}, c.in_ok-put_leaf.ensures.pos)) text c.in_ok-put_leaf.ensures.adds
 
 pub returns-in_err-put_leaf : goal.returns-in_err-put_leaf
-returns-in_err-put_leaf g c =
-    Wrote-same (leaf_heads (held_view c.args.inlined.now) c.args.items.now 0) (heads_stop _ _ _ _ _ _ c.args.items.now c.loop-held.held-index c.loop-held.headers.pos _ _ c.loop-held.invariant c.in_err-put_leaf.ensures.adds c.from_residual.ensures.0)
+returns-in_err-put_leaf g c = heads_stop _ c.loop-held.invariant c.in_err-put_leaf.ensures.adds c.from_residual.ensures.0
 
 pub returns : goal.returns
-returns g c =
-    Wrote-same (leaf_heads (held_view c.args.inlined.now) c.args.items.now 0) (heads_all _ _ _ _ c.args.items.now c.loop-held.held-index c.loop-held.headers.pos (omega arith) c.loop-held.invariant c.put_rest.ensures)
+returns g c = heads_all (leaf_packed (held_view c.args.inlined.now)) c.loop-held.invariant (omega arith) c.put_rest.ensures
