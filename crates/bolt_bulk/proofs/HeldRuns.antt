@@ -9,7 +9,8 @@ use Rattle.bolt_format.specs.declared.element.Leaf.{Leaf}
 use Rattle.bolt_layout.specs.PageBytes.{inline_value, leaf_data}
 use Rattle.bolt_bulk.specs.Private.HeldItems.{AreHeld, IsHeld, IsInlined, IsStored, entries_in, held_view, held_views, inlined_by, inlined_in, is_stored_bucket, page_size_of, stored_value, value_item}
 use Rattle.bolt_bulk.specs.Private.TakenItems.{entries_size, inline_element, inline_size}
-use Rattle.bolt_bulk.specs.Private.OpenBuckets.{HasRoomFor, IsLeafRun}
+use Rattle.bolt_bulk.specs.Private.OpenBuckets.{HasRoomFor, IsOpenBucket}
+use Rattle.bolt_bulk.specs.declared.bucket_runs.BucketRuns.{BucketRuns}
 use Rattle.bolt_bulk.specs.declared.leaf_run.LeafRun.{LeafRun}
 use Rattle.bolt_bulk.specs.declared.held.Held.{Held}
 use Rattle.bolt_bulk.specs.declared.held.Stored.{Stored}
@@ -46,13 +47,16 @@ pub counted : (before after : ℕ) (xs more : List Held) (x : Held) → before �
 counted before after xs more x old same grown = omega (arith, ap (λ (items : List Held). inlined_in items) same, inlined_push xs x)
 
 -- one more item, which isn't an inline bucket
-pub item_pushed : (run : LeafRun) (items : Vec Held Global) (x : Held) (more : ℕ) → IsLeafRun run → items.items ≡ run.items.items ++ x ∷ [] → IsHeld run.inlined.items x → inlined_by x.stored ≡ 0
-    → more ≡ 16 + (length x.key.now + length (stored_value run.inlined.items x.stored)) → HasRoomFor run more → IsLeafRun (record run { items = items; size = run.size + more })
-item_pushed run items x more old pushed held apart size room =
+pub item_pushed : (bucket : BucketRuns) (items : Vec Held Global) (x : Held) (more : ℕ) → IsOpenBucket bucket → items.items ≡ bucket.leaves.items.items ++ x ∷ [] → IsHeld bucket.leaves.inlined.items x → inlined_by x.stored ≡ 0
+    → more ≡ 16 + (length x.key.now + length (stored_value bucket.leaves.inlined.items x.stored)) → HasRoomFor bucket.leaves more
+    → IsOpenBucket (record { leaves = record { items = items; inlined = bucket.leaves.inlined; size = bucket.leaves.size + more }; uppers = bucket.uppers })
+item_pushed bucket items x more is_open pushed held apart size room =
+    let run : LeafRun = bucket.leaves in
+    let old = is_open.leaves in
     let is : IsRun run.inlined.items items.items (run.size + more) = subst (λ (xs : List Held). IsRun run.inlined.items xs (run.size + more)) (sym pushed)
     (run_pushed run.size more run.inlined.items run.items.items x (record { held = old.held; sized = old.sized; small = old.small; few = old.few }) held size room.small room.few) in
     let none : length run.inlined.items ≡ length run.inlined.items + inlined_by x.stored = omega arith in
-    record { held = is.held; sized = is.sized; small = is.small; few = is.few; inlined = counted _ _ run.items.items _ x old.inlined pushed none }
+    record { leaves = record { held = is.held; sized = is.sized; small = is.small; few = is.few; inlined = counted _ _ run.items.items _ x old.inlined pushed none }; uppers = is_open.uppers }
 
 -- Entries added to a list leave those in it as they are,
 entries_more : (inlined more : List Leaf) (first count : ℕ) → first + count ≤ length inlined → entries_in (inlined ++ more) first count ≡ entries_in inlined first count

@@ -131,18 +131,16 @@ run_length run pages n same = omega (arith, length-map run.elements.items branch
 
 above_length : (runs : List BranchRun) (uppers : List Upper) (b : ℕ) → AreUppers (runs_above runs) uppers b → items_above runs ≡ length_over uppers
 above_length [] [] b are = refl
-above_length [] (upper ∷ uppers) b are = absurd are
-above_length (run ∷ runs) [] b are = absurd are
 above_length (run ∷ runs) (upper ∷ uppers) b are = omega (arith, run_length, sum_by-cons, above_length runs uppers b are.1)
+above_length runs uppers b are = absurd are
 
 pub items_length : (bucket : BucketRuns) (next b : ℕ) (state : Open) → AreOpenRuns (bucket_runs bucket next) state b → items_in bucket ≡ length_open state
 items_length bucket next b state runs = grind (arith, above_length, length-map, length-elements)
 
 pub around_length : (ws : List WaitingBucket) (frames : List Frame) → AreWaiting ws frames → items_around ws ≡ length_frames frames
 around_length [] [] waits = refl
-around_length [] (frame ∷ frames) waits = absurd waits
-around_length (w ∷ ws) [] waits = absurd waits
 around_length (w ∷ ws) (frame ∷ frames) waits =
     let (runs, key, sequence, others) = waits in
     let one = items_length w.bucket _ _ frame.state runs in
     let ih = around_length ws frames others in omega arith
+around_length ws frames waits = absurd waits

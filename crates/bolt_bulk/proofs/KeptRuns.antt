@@ -69,8 +69,6 @@ runs_climbed : (page_size : ℕ) (new : Option ℕ) (key : List ℕ) (e : Branch
     → AreUppers (runs_climb page_size new key e next kept_runs) (climb page_size new key q uppers) b × (runs_put page_size key e next kept_runs ≡ climb_puts page_size key q uppers b)
     × (runs_next page_size key e next kept_runs ≡ b + numbers_in (climb page_size new key q uppers))
 runs_climbed page_size new key e next b q [] [] are keyed same number = grind (arith, run_grown)
-runs_climbed page_size new key e next b q [] (upper ∷ uppers) are keyed same number = absurd are
-runs_climbed page_size new key e next b q (kept_run ∷ kept_runs) [] are keyed same number = absurd are
 runs_climbed page_size new key e next b q (kept_run ∷ kept_runs) (upper ∷ uppers) are keyed same number =
     let m : ℕ = b + numbers_in uppers in
     let over = over_run page_size next b e q kept_run upper uppers are.0 keyed same number in
@@ -94,6 +92,7 @@ runs_climbed page_size new key e next b q (kept_run ∷ kept_runs) (upper ∷ up
             ih.2 ∙ omega arith,
           ))
     ]
+runs_climbed page_size new key e next b q kept_runs uppers are keyed same number = absurd are
 
 pub nothing_runs : (known : Known) (b : ℕ) → AreOpenRuns (record { leaves = no_leaves; uppers = []; limits = known.limits; next = b }) (nothing_open known) b
 nothing_runs known b = record { same = refl; size_is = refl; keyed = tt; above = tt; next_is = omega arith; limits_are = refl }
@@ -104,9 +103,8 @@ leaf_key_same (x ∷ run) n keyed = keyed.0 n
 
 as_many : (kept_runs : List RunView) (uppers : List Upper) (b : ℕ) → AreUppers kept_runs uppers b → length kept_runs ≡ length uppers
 as_many [] [] b are = refl
-as_many [] (upper ∷ uppers) b are = absurd are
-as_many (kept_run ∷ kept_runs) [] b are = absurd are
 as_many (kept_run ∷ kept_runs) (upper ∷ uppers) b are = ap suc (as_many kept_runs uppers b are.1)
+as_many kept_runs uppers b are = absurd are
 
 -- the page over the leaf under way
 record OverLeaf (page_size : ℕ) (kept_runs : BucketRunsView) (run : List (Laid LeafElement)) (m : ℕ) : Type 0 where
@@ -143,13 +141,12 @@ runs_closed : (page_size : ℕ) (e : BranchElement) (next b : ℕ) (q : Laid Bra
     → (runs_close_put page_size e next kept_runs ≡ close_puts page_size q uppers b) × (runs_root page_size e next kept_runs ≡ ((close page_size q uppers).element b).child)
     × (runs_end_next page_size e next kept_runs ≡ b + (close page_size q uppers).numbers)
 runs_closed page_size e next b q [] [] are keyed same number = grind arith
-runs_closed page_size e next b q [] (upper ∷ uppers) are keyed same number = absurd are
-runs_closed page_size e next b q (kept_run ∷ kept_runs) [] are keyed same number = absurd are
 runs_closed page_size e next b q (kept_run ∷ kept_runs) (upper ∷ uppers) are keyed same number =
     let over = over_run page_size next b e q kept_run upper uppers are.0 keyed same number in
     let after : ℕ = next + (1 + overflow_of page_size (run_push kept_run e).size) in
     let ih = runs_closed page_size (element_up e next kept_run) after b (page_over branch_page_view page_size (upper.run ++ q ∷ [])) kept_runs uppers are.1 (refl, λ n. refl) over.named over.after in
     grind arith
+runs_closed page_size e next b q kept_runs uppers are keyed same number = absurd are
 
 pub runs_ended : (page_size : ℕ) (kept_runs : BucketRunsView) (state : Open) (b : ℕ) → AreOpenRuns kept_runs state b
     → (runs_end_put page_size kept_runs ≡ end_puts page_size state b) × (runs_end page_size kept_runs ≡ ((end_of page_size state).element b).child)

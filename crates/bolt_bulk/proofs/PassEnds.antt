@@ -6,7 +6,7 @@ use Rattle.std.specs.List.{AllByRecursion}
 use Rattle.std.proofs.lemmas.List.{length-append}
 use Rattle.bolt_check.specs.Keys.{Key}
 use Rattle.bolt_format.specs.Sinks.{AppendsProperPrefix}
-use Rattle.bolt_tree.specs.Entries.{Bucket, Value}
+use Rattle.bolt_tree.specs.Entries.{Item}
 use Rattle.bolt_tree.specs.Listing.{Member}
 use Rattle.bolt_tree.specs.Paths.{Path}
 use Rattle.bolt_tree.specs.Tree.{Tree, end, listing_below, listing_of, with_bucket, with_value}
@@ -14,7 +14,7 @@ use Rattle.bolt_layout.specs.Laid.{Placed}
 use Rattle.bolt_layout.specs.Layout.{first_page, layout_held, layout_mark, layout_pages, layout_root, placed_bytes}
 use Rattle.bolt_layout.specs.Storable.{HasLengths}
 use Rattle.bolt_bulk.specs.Private.Endings.{Ends, IsFitMember, last_part}
-use Rattle.bolt_bulk.specs.Private.Levels.{Level, left_in, path_in}
+use Rattle.bolt_bulk.specs.Private.Levels.{Level, path_in}
 use Rattle.bolt_bulk.specs.Private.HeldCounts.{capped}
 use Rattle.bolt_bulk.specs.Private.HeldSoFar.{held_so_far}
 use Rattle.bolt_bulk.specs.Private.OpenBuckets.{bucket_end_next, bucket_runs}
@@ -35,7 +35,7 @@ use Rattle.bolt_bulk.specs.declared.pending_bucket.PendingBucket.{PendingBucket}
 use Rattle.bolt_bulk.specs.declared.noted_limits.NotedLimits.{NotedLimits}
 use Rattle.bolt_bulk.proofs.Frames.{pass_begins, pass_ends}
 use Rattle.bolt_bulk.proofs.HeldSteps.{end_held}
-use Rattle.bolt_bulk.proofs.Members.{all_left, next_bucket, next_short, next_value, none_at_all}
+use Rattle.bolt_bulk.proofs.Members.{all_left, left_after, next_entry, next_short, none_at_all, with_item}
 use Rattle.bolt_bulk.proofs.KeptRuns.{nothing_runs, runs_ended}
 use Rattle.bolt_bulk.proofs.OpenRunLemmas.{ends}
 use Rattle.bolt_bulk.proofs.Openings.{all_coming, root_notes}
@@ -53,36 +53,27 @@ last_pushed [] key = refl
 last_pushed (part ∷ []) key = refl
 last_pushed (part ∷ next ∷ path) key = last_pushed (next ∷ path) key
 
-pub record HasValue (wanted : Wanted) (pass : Pass) (key value : List ℕ) (members : List Member) (put : List Placed) : Type 0 where
-  pub levels : List Level
-  pub after : Tree
-  pub at : IsAt wanted pass levels (with_value key value after) put
-  pub members_are : left_in levels after ≡ members
-
-pub has_value : (wanted : Wanted) (pass : Pass) (path : Path) (key value : List ℕ) (members : List Member) (put : List Placed) → HasLeft wanted pass ((path, Value value) ∷ members) put → depth_of pass ≤ length path → last_part path ≡ key
-    → HasValue wanted pass key value members put
-has_value wanted pass path key value members put has deep last =
-    let d = depth_levels wanted pass has.levels has.left put has.at in
-    let short = next_short has.levels has.left (path, Value value) members has.members_are in
-    let (own, after, left, path_is, members_is) = next_value has.levels has.left path value members has.members_are (omega arith) in
-    let same : own ≡ key = sym (last_pushed (path_in has.levels) own) ∙ (ap last_part (sym path_is) ∙ last) in
-    grind arith
-
-pub record HasBucket (wanted : Wanted) (pass : Pass) (key : Key) (sequence : ℕ) (members : List Member) (put : List Placed) : Type 0 where
+pub record HasNext (wanted : Wanted) (pass : Pass) (key : Key) (item : Item) (members : List Member) (put : List Placed) : Type 0 where
   pub levels : List Level
   pub inside : Tree
   pub after : Tree
-  pub at : IsAt wanted pass levels (with_bucket key sequence inside after) put
-  pub members_are : left_in (record { key = key; after = after } ∷ levels) inside ≡ members
+  pub at : IsAt wanted pass levels (with_item key item inside after) put
+  pub members_are : left_after levels key item inside after ≡ members
 
-pub has_bucket : (wanted : Wanted) (pass : Pass) (path : Path) (key : Key) (sequence : ℕ) (members : List Member) (put : List Placed) → HasLeft wanted pass ((path, Bucket sequence) ∷ members) put → depth_of pass ≤ length path → last_part path ≡ key
-    → HasBucket wanted pass key sequence members put
-has_bucket wanted pass path key sequence members put has deep last =
+pub has_next : (wanted : Wanted) (pass : Pass) (path : Path) (key : Key) (item : Item) (members : List Member) (put : List Placed) → HasLeft wanted pass ((path, item) ∷ members) put → depth_of pass ≤ length path → last_part path ≡ key
+    → HasNext wanted pass key item members put
+has_next wanted pass path key item members put has deep last =
     let d = depth_levels wanted pass has.levels has.left put has.at in
-    let short = next_short has.levels has.left (path, Bucket sequence) members has.members_are in
-    let (own, inside, after, left, path_is, members_is) = next_bucket has.levels has.left path sequence members has.members_are (omega arith) in
-    let same : own ≡ key = sym (last_pushed (path_in has.levels) own) ∙ (ap last_part (sym path_is) ∙ last) in
-    grind arith
+    let short = next_short has.levels has.left (path, item) members has.members_are in
+    let next = next_entry has.levels has.left path item members has.members_are (omega arith) in
+    let same : next.key ≡ key = sym (last_pushed (path_in has.levels) next.key) ∙ (ap last_part (sym next.path_is) ∙ last) in
+    record {
+      levels = has.levels;
+      inside = next.inside;
+      after = next.after;
+      at = subst (λ (k : Key). IsAt wanted pass has.levels (with_item k item next.inside next.after) put) same (subst (λ (t : Tree). IsAt wanted pass has.levels t put) next.rest_is has.at);
+      members_are = ap (λ (k : Key). left_after has.levels k item next.inside next.after) (sym same) ∙ sym next.more_is;
+    }
 
 -- The members of the listing of a tree that can be stored fit.
 fit_append : (xs ys : List Member) → AllByRecursion IsFitMember xs → AllByRecursion IsFitMember ys → AllByRecursion IsFitMember (xs ++ ys)

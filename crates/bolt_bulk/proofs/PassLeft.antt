@@ -19,9 +19,8 @@ use Rattle.bolt_format.specs.declared.sink.Sink.{Ghosts}
 -- The depth that the code counts is that of the levels.
 waiting_frames : (waiting : List WaitingBucket) (frames : List Frame) → AreWaiting waiting frames → length waiting ≡ length frames
 waiting_frames [] [] are = refl
-waiting_frames [] (frame ∷ frames) are = absurd are
-waiting_frames (w ∷ waiting) [] are = absurd are
 waiting_frames (w ∷ waiting) (frame ∷ frames) (runs, key, sequence, others) = let ih = waiting_frames waiting frames others in omega arith
+waiting_frames waiting frames are = absurd are
 
 pending_levels : (pending : Option PendingBucket) (entries : List Leaf) (outer : List Level) (rest : Tree) (levels : List Level) (left : Tree) → IsPending pending entries outer rest levels left
     → length levels ≡ pending_depth pending + length outer

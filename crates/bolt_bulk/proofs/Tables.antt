@@ -47,8 +47,6 @@ run_ends : (page_size : ℕ) (limits : ℕ → Option ℕ) (runs : List BranchRu
     → AreUppers (runs_above runs) uppers b → Comes Plain page_size limits uppers all (q ∷ []) root → length all ≤ 18446744073709551615
     → map run_end runs ≡ map upper_end uppers
 run_ends page_size limits [] [] q all root b are comes few = refl
-run_ends page_size limits [] (upper ∷ uppers) q all root b are comes few = absurd are
-run_ends page_size limits (run ∷ runs) [] q all root b are comes few = absurd are
 run_ends page_size limits (run ∷ runs) (upper ∷ uppers) q all root b (row, are) (stands, comes) few =
     let next : List (Laid BranchElement) = map (page_over branch_page_view page_size) (branch_cut Plain page_size size_of all) in
     let fewer = shorter Plain page_size all stands.some in
@@ -57,6 +55,7 @@ run_ends page_size limits (run ∷ runs) (upper ∷ uppers) q all root b (row, a
     let items : length run.elements.items ≡ length upper.run = run_length run upper.run _ row.same in
     let rest = run_ends page_size (λ k. limits (suc k)) runs uppers (page_over branch_page_view page_size (upper.run ++ q ∷ [])) next root b are comes (omega arith) in
     grind arith
+run_ends page_size limits runs uppers q all root b are comes few = absurd are
 
 -- no more buckets are opened than the layout has page numbers
 around_most : (wanted : Wanted) (page_size : ℕ) (limits : ℕ → ℕ → Option ℕ) (n : ℕ) (frames : List Frame) → AreComingAround wanted page_size limits n frames → n ≤ suc (opened_in wanted.which page_size wanted.tree)

@@ -6,7 +6,7 @@ use Rattle.bolt_tree.specs.Paths.{Path, path_of}
 use Rattle.bolt_tree.specs.ShownEntries.{item_view}
 use Rattle.bolt_bulk.specs.Private.Endings.{last_part}
 use Rattle.bolt_bulk.proofs.PassAt.{steps_map, steps_stop, steps_then}
-use Rattle.bolt_bulk.proofs.PassEnds.{has_bucket, has_value, last_pushed}
+use Rattle.bolt_bulk.proofs.PassEnds.{has_next, last_pushed}
 use Rattle.bolt_bulk.proofs.PassLeft.{left_same}
 use Rattle.bolt_bulk.proofs.pass.Pass.take_member.Goals as goal
 
@@ -37,7 +37,7 @@ returns-in-Value-clause-steps g c = λ wanted members put has.
     let l = length-map c.args.path.now (λ (part : Bor (List ℕ)). part.now) in
     steps_then c.in_ok-leave_to.ensures.setup (c.in_ok-leave_to.ensures.steps wanted ((path, item_view c.args.item) ∷ members) put has (omega arith))
     (λ all mid. let deep = c.in_ok-leave_to.ensures.depth in
-    let next = has_value wanted c.leave_to.new.self path c.in-Some.key.now.now c.in-Value.value.now members all (left_same (ap (λ (i : entries.Item). (path, i) ∷ members) item) mid) (omega arith) last in
+    let next = has_next wanted c.leave_to.new.self path c.in-Some.key.now.now (entries.Value c.in-Value.value.now) members all (left_same (ap (λ (i : entries.Item). (path, i) ∷ members) item) mid) (omega arith) last in
     steps_map (λ then at. record { levels = next.levels; left = next.after; at = at; members_are = next.members_are }) (c.take_value.ensures.steps wanted next.after next.levels all next.at))
 
 pub returns-in-Bucket-clause-steps : goal.returns-in-Bucket-clause-steps
@@ -48,5 +48,5 @@ returns-in-Bucket-clause-steps g c = λ wanted members put has.
     let l = length-map c.args.path.now (λ (part : Bor (List ℕ)). part.now) in
     steps_then c.in_ok-leave_to.ensures.setup (c.in_ok-leave_to.ensures.steps wanted ((path, item_view c.args.item) ∷ members) put has (omega arith))
     (λ all mid. let deep = c.in_ok-leave_to.ensures.depth in
-    let next = has_bucket wanted c.leave_to.new.self path c.in-Some.key.now.now c.in-Bucket.sequence members all (left_same (ap (λ (i : entries.Item). (path, i) ∷ members) item) mid) (omega arith) last in
+    let next = has_next wanted c.leave_to.new.self path c.in-Some.key.now.now (entries.Bucket c.in-Bucket.sequence) members all (left_same (ap (λ (i : entries.Item). (path, i) ∷ members) item) mid) (omega arith) last in
     steps_map (λ then at. record { levels = _; left = next.inside; at = at; members_are = next.members_are }) (c.take_bucket.ensures.steps wanted next.inside next.after next.levels all next.at))
