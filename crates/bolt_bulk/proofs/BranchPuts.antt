@@ -10,8 +10,7 @@ use Rattle.bolt_format.specs.Written.{branch_header, header_bytes}
 use Rattle.bolt_layout.proofs.BranchLemmas.{length-branch_headers}
 use Rattle.bolt_format.proofs.WrittenHeaders.{length-header_bytes}
 use Rattle.bolt_format.specs.declared.kind.Kind.TheVariants as kind
-use Rattle.bolt_bulk.specs.Private.BranchRuns.{IsSizedRun, run_view}
-use Rattle.bolt_bulk.specs.Private.RunViews.{run_page}
+use Rattle.bolt_bulk.specs.Private.{IsSizedRun, run_page, run_view}
 use Rattle.bolt_bulk.specs.declared.branch_run.BranchRun.{BranchRun}
 use Rattle.bolt_format.specs.Endings.{Ending}
 use Rattle.bolt_format.specs.Wrote.{Wrote}

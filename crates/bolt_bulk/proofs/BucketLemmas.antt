@@ -8,10 +8,7 @@ use Rattle.bolt_format.specs.declared.element.Leaf.{Leaf}
 use Rattle.bolt_layout.specs.Layout.{placed_bytes}
 use Rattle.bolt_layout.specs.Levels.{overflow_of}
 use Rattle.bolt_layout.specs.PageBytes.{page_bytes}
-use Rattle.bolt_bulk.specs.Private.HeldItems.{AreHeld, held_views}
-use Rattle.bolt_bulk.specs.Private.OpenBuckets.{HasRoomFor, IsLeafRun, bucket_end_next, leaf_closed, leaves_of}
-use Rattle.bolt_bulk.specs.Private.RunViews.{BucketRunsView, leaf_key, leaf_page, leaves_have_room, runs_close_put, runs_end_put, runs_push, runs_put, runs_room, runs_room_put}
-use Rattle.bolt_bulk.specs.Private.TakenItems.{runs_taking}
+use Rattle.bolt_bulk.specs.Private.{AreHeld, bucket_end_next, BucketRunsView, HasRoomFor, held_views, IsLeafRun, leaf_closed, leaf_key, leaf_page, leaves_have_room, leaves_of, runs_close_put, runs_end_put, runs_push, runs_put, runs_room, runs_room_put, runs_taking}
 use Rattle.bolt_bulk.specs.declared.fault.BulkFault.{BulkFault}
 use Rattle.bolt_bulk.specs.declared.held.Held.{Held}
 use Rattle.bolt_bulk.specs.declared.leaf_run.LeafRun.{LeafRun}

@@ -13,9 +13,7 @@ use Rattle.bolt_layout.specs.Laid.{Placed}
 use Rattle.bolt_layout.specs.Levels.{overflow_of}
 use Rattle.bolt_layout.specs.Limits.{one_less}
 use Rattle.bolt_layout.specs.Layout.{placed_bytes}
-use Rattle.bolt_bulk.specs.Private.BranchRuns.{IsStanding, element_up, run_view, runs_above, runs_end_next, taking_next, taking_puts, taking_up}
-use Rattle.bolt_bulk.specs.Private.RunViews.{RunView, no_run, one_closed, run_kept, run_page, run_push, run_stays, runs_climb, runs_close_put, runs_next, runs_put, runs_root}
-use Rattle.bolt_bulk.specs.Private.OpenRuns.{key_size}
+use Rattle.bolt_bulk.specs.Private.{element_up, IsStanding, key_size, no_run, one_closed, run_kept, run_page, run_push, run_stays, run_view, runs_above, runs_climb, runs_close_put, runs_end_next, runs_next, runs_put, runs_root, RunView, taking_next, taking_puts, taking_up}
 use Rattle.bolt_bulk.specs.declared.fault.BulkFault.{BulkFault}
 use Rattle.bolt_bulk.proofs.RunLemmas.{key_pushed}
 use Rattle.bolt_bulk.proofs.PutsLemmas.{bytes-append, short_stop, Wrote-stops}

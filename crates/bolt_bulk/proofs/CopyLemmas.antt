@@ -6,13 +6,12 @@ use Rattle.bolt_tree.specs.Tree.{Tree}
 use Rattle.bolt_bulk.specs.Compacting.{Copies, too_many}
 use Rattle.bolt_layout.specs.Laid.{Placed}
 use Rattle.bolt_layout.specs.Layout.{layout_mark, layout_of, layout_pages, layout_root, placed_bytes}
-use Rattle.bolt_bulk.specs.Private.FirstPages.{first_pages}
+use Rattle.bolt_bulk.specs.Private.{first_pages, stopped_by}
 use Rattle.bolt_bulk.specs.declared.fault.BulkFault.{BulkFault}
 use Rattle.bolt_bulk.specs.declared.fault.BulkFault.TheVariants as bulk
 use Rattle.bolt_bulk.specs.declared.fault.PlanFault.{PlanFault}
 use Rattle.bolt_bulk.specs.declared.fault.PlanFault.TheVariants as planned
 use Rattle.bolt_bulk.specs.declared.outcome.Done.{Done}
-use Rattle.bolt_bulk.specs.Private.Stops.{stopped_by}
 use Rattle.bolt_layout.specs.declared.layout.Layout.{Layout}
 use Rattle.bolt_bulk.proofs.PutsLemmas.{Wrote-failed, Wrote-sound, proper_none, proper_same}
 use Rattle.bolt_format.proofs.SinkLemmas.{AppendsProperPrefix-first, AppendsProperPrefix-second}

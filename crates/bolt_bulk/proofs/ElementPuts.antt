@@ -3,7 +3,7 @@
 use Rattle.std.proofs.Common.{◌≡◌, ◌∙◌, ℕ, suc, ◌+◌, ◌*◌, ◌<◌, ◌≤◌, List, [], ◌∷◌, ◌++◌, length, drop, get_or, Result, Ok, Err, ap, arith, append_assoc, append-nil, sym}
 use Rattle.std.specs.Prelude.{IsErr}
 use Rattle.std.proofs.lemmas.List.{drop_all, drop_more, length-append, length-drop}
-use Rattle.bolt_bulk.specs.Private.Gathering.{Adds}
+use Rattle.bolt_bulk.specs.Private.{Adds}
 use Rattle.bolt_format.proofs.WroteFronts.{WroteFront, front_more, front_return}
 use Rattle.bolt_format.proofs.WroteLemmas.{Wrote-none, Wrote-same, Wrote-then}
 use Rattle.bolt_format.specs.Wrote.{Wrote}

@@ -10,7 +10,7 @@ use Rattle.bolt_tree.specs.Tree.{Tree, listing_of, tree_of}
 use Rattle.bolt_bulk.specs.Compacting.{too_many}
 use Rattle.bolt_layout.specs.Copies.{IsOfOneTree}
 use Rattle.bolt_layout.specs.Layout.{layout_mark}
-use Rattle.bolt_bulk.specs.Private.Endings.{IsFitMember}
+use Rattle.bolt_bulk.specs.Private.{IsFitMember}
 use Rattle.bolt_format.proofs.PageSizes.{size_bounds}
 use Rattle.bolt_bulk.proofs.PassEnds.{members_fit}
 use Rattle.bolt_layout.specs.declared.layout.Layout.TheVariants.{Balanced, Plain}

@@ -9,9 +9,7 @@ use Rattle.bolt_layout.specs.Laid.{Laid}
 use Rattle.bolt_layout.specs.Levels.{root_over}
 use Rattle.bolt_layout.specs.Limits.{HaveRightLimits}
 use Rattle.bolt_layout.specs.Layout.{first_page, layout_pages}
-use Rattle.bolt_bulk.specs.Private.RowLimits.{bucket_limit}
-use Rattle.bolt_bulk.specs.Private.OpenRuns.{all_put, base_in, end_of, end_puts, Frame, Known, making_room, nothing_open, Open, pushing, room_puts, taking}
-use Rattle.bolt_bulk.specs.Private.Coming.{HasBegun, IsPass, held_item, leaves_coming, IsOpen}
+use Rattle.bolt_bulk.specs.Private.{all_put, base_in, bucket_limit, end_of, end_puts, Frame, HasBegun, held_item, IsOpen, IsPass, Known, leaves_coming, making_room, nothing_open, Open, pushing, room_puts, taking}
 use Rattle.bolt_bulk.proofs.OpenRunLemmas.{ends, ends_put, opens, pushed_put, room_put, takes}
 use Rattle.bolt_layout.specs.declared.layout.Layout.{Layout}
 

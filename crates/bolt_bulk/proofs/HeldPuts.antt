@@ -6,7 +6,7 @@ use Rattle.bolt_format.specs.declared.element.Leaf.{Leaf}
 use Rattle.bolt_bulk.specs.declared.held.Held.{Held}
 use Rattle.bolt_bulk.specs.declared.held.Stored.{Stored}
 use Rattle.bolt_bulk.specs.declared.held.Stored.TheVariants as stored
-use Rattle.bolt_bulk.specs.Private.HeldItems.{AreHeld, IsHeld, IsStored, held_views, stored_value}
+use Rattle.bolt_bulk.specs.Private.{AreHeld, held_views, IsHeld, IsStored, stored_value}
 use Rattle.bolt_layout.specs.PageBytes.{leaf_data}
 use Rattle.bolt_bulk.proofs.HeldRuns.{length-inline_value}
 use Rattle.bolt_format.proofs.WrittenHeaders.{length-head_bytes}

@@ -7,9 +7,7 @@ use Rattle.bolt_format.specs.ElementPlaces.{leaf_view}
 use Rattle.bolt_format.specs.Elements.{LeafElement}
 use Rattle.bolt_format.specs.declared.element.Leaf.{Leaf}
 use Rattle.bolt_layout.specs.PageBytes.{inline_value, leaf_data}
-use Rattle.bolt_bulk.specs.Private.HeldItems.{AreHeld, IsHeld, IsInlined, IsStored, entries_in, held_view, held_views, inlined_by, inlined_in, is_stored_bucket, page_size_of, stored_value, value_item}
-use Rattle.bolt_bulk.specs.Private.TakenItems.{entries_size, inline_element, inline_size}
-use Rattle.bolt_bulk.specs.Private.OpenBuckets.{HasRoomFor, IsOpenBucket}
+use Rattle.bolt_bulk.specs.Private.{AreHeld, entries_in, entries_size, HasRoomFor, held_view, held_views, inline_element, inline_size, inlined_by, inlined_in, is_stored_bucket, IsHeld, IsInlined, IsOpenBucket, IsStored, page_size_of, stored_value, value_item}
 use Rattle.bolt_bulk.specs.declared.bucket_runs.BucketRuns.{BucketRuns}
 use Rattle.bolt_bulk.specs.declared.leaf_run.LeafRun.{LeafRun}
 use Rattle.bolt_bulk.specs.declared.held.Held.{Held}

@@ -6,14 +6,7 @@ use Rattle.bolt_format.specs.ElementPlaces.{branch_view}
 use Rattle.bolt_format.specs.Elements.{BranchElement, LeafElement}
 use Rattle.bolt_layout.specs.Laid.{Laid, elements_of, held_in}
 use Rattle.bolt_layout.specs.Levels as levels
-use Rattle.bolt_bulk.specs.Private.BranchRuns.{run_view, runs_above}
-use Rattle.bolt_bulk.specs.Private.Coming.{held_item}
-use Rattle.bolt_bulk.specs.Private.HeldCounts.{capped, items_above, items_around, items_in}
-use Rattle.bolt_bulk.specs.Private.HeldSoFar.{held_frames, held_on, held_open, held_over, held_so_far, length_frames, length_open, length_over}
-use Rattle.bolt_bulk.specs.Private.OpenBuckets.{bucket_runs}
-use Rattle.bolt_bulk.specs.Private.BucketRuns.{AreUppers, AreOpenRuns}
-use Rattle.bolt_bulk.specs.Private.OpenRuns.{climb, close, end_of, Frame, has_room, key_size, Known, making_room, Open, pushed_on, pushing, stays_open, taking, Upper}
-use Rattle.bolt_bulk.specs.Private.Passes.{AreWaiting}
+use Rattle.bolt_bulk.specs.Private.{AreOpenRuns, AreUppers, AreWaiting, bucket_runs, capped, climb, close, end_of, Frame, has_room, held_frames, held_item, held_on, held_open, held_over, held_so_far, items_above, items_around, items_in, key_size, Known, length_frames, length_open, length_over, making_room, Open, pushed_on, pushing, run_view, runs_above, stays_open, taking, Upper}
 use Rattle.bolt_bulk.specs.declared.branch_run.BranchRun.{BranchRun}
 use Rattle.bolt_bulk.specs.declared.bucket_runs.BucketRuns.{BucketRuns}
 use Rattle.bolt_bulk.specs.declared.waiting_bucket.WaitingBucket.{WaitingBucket}

@@ -7,15 +7,10 @@ use Rattle.bolt_format.specs.Elements.{BranchElement, LeafElement}
 use Rattle.bolt_layout.specs.Laid.{Laid, Placed, elements_of, first_key, numbers_of}
 use Rattle.bolt_layout.specs.Limits.{is_out, one_less}
 use Rattle.bolt_layout.specs.Levels.{branch_page_view, overflow_of, page_over, run_overflow, leaf_page_view}
-use Rattle.bolt_bulk.specs.Private.OpenRuns.{Upper, begun_after, climb, climb_puts, has_room, kept, key_size, numbers_in, own_page, pushed_on, put_in, stays_open, close, close_puts, end_of, end_puts, Known, making_room, nothing_open, Open, pushing, room_puts}
-use Rattle.bolt_bulk.specs.Private.RunViews.{RunView, no_run, one_closed, run_has_room, run_kept, run_key, run_page, run_push, run_stays, runs_climb, runs_put, BucketRunsView, leaf_key, leaf_page, no_leaves, runs_close_put, runs_end, runs_end_put, runs_next, runs_root, runs_push, runs_room, runs_room_put}
-use Rattle.bolt_bulk.specs.Private.BranchRuns.{element_up, runs_end_next}
-use Rattle.bolt_bulk.specs.Private.OpenBuckets.{bucket_end_next, leaf_closed}
-use Rattle.bolt_bulk.specs.Private.BucketRuns.{AreUppers, IsKeyed, IsUpper, IsKeyedItem, AreOpenRuns}
+use Rattle.bolt_bulk.specs.Private.{AreOpenRuns, AreUppers, begun_after, bucket_end_next, bucket_limit, BucketRunsView, climb, climb_puts, close, close_puts, element_up, end_of, end_puts, has_room, IsKeyed, IsKeyedItem, IsUpper, kept, key_size, Known, leaf_closed, leaf_key, leaf_page, making_room, no_leaves, no_run, nothing_open, numbers_in, one_closed, Open, own_page, pushed_on, pushing, put_in, room_puts, run_has_room, run_kept, run_key, run_page, run_push, run_stays, runs_climb, runs_close_put, runs_end, runs_end_next, runs_end_put, runs_next, runs_push, runs_put, runs_room, runs_room_put, runs_root, RunView, stays_open, Upper}
 use Rattle.bolt_layout.proofs.ListLemmas.{all_append}
 use Rattle.bolt_layout.proofs.OverRows.{numbers-append}
 use Rattle.bolt_bulk.specs.declared.limits.BucketLimits.{BucketLimits}
-use Rattle.bolt_bulk.specs.Private.RowLimits.{bucket_limit}
 use Rattle.bolt_layout.proofs.LaidItems.{length-elements}
 use Rattle.bolt_layout.proofs.BranchLemmas.{same_branch}
 

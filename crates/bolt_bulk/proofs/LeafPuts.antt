@@ -8,9 +8,7 @@ use Rattle.bolt_layout.specs.PageBytes.{inline_value, leaf_bytes, leaf_data, lea
 use Rattle.bolt_layout.proofs.LeafLemmas.{length-leaf_headers}
 use Rattle.bolt_format.proofs.WrittenHeaders.{length-header_bytes}
 use Rattle.bolt_format.specs.declared.kind.Kind.TheVariants as kind
-use Rattle.bolt_bulk.specs.Private.HeldItems.{held_views, page_size_of}
-use Rattle.bolt_bulk.specs.Private.OpenBuckets.{leaves_of}
-use Rattle.bolt_bulk.specs.Private.RunViews.{leaf_page}
+use Rattle.bolt_bulk.specs.Private.{held_views, leaf_page, leaves_of, page_size_of}
 use Rattle.bolt_bulk.specs.declared.leaf_run.LeafRun.{LeafRun}
 use Rattle.bolt_bulk.proofs.ElementPuts.{ArePacked}
 use Rattle.bolt_format.proofs.WroteLemmas.{Wrote-same}

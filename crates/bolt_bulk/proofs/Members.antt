@@ -7,7 +7,7 @@ use Rattle.bolt_tree.specs.Entries.{Bucket, Item, Value}
 use Rattle.bolt_tree.specs.Listing.{Member}
 use Rattle.bolt_tree.specs.Paths.{Path}
 use Rattle.bolt_tree.specs.Tree.{Tree, end, listing_below, listing_of, with_bucket, with_value}
-use Rattle.bolt_bulk.specs.Private.Levels.{Level, behind_in, left_in, path_in}
+use Rattle.bolt_bulk.specs.Private.{behind_in, left_in, Level, path_in}
 
 pub path_length : (levels : List Level) → length (path_in levels) ≡ length levels
 path_length [] = refl

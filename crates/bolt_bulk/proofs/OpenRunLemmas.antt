@@ -7,9 +7,7 @@ use Rattle.bolt_format.specs.Elements.{BranchElement, LeafElement}
 use Rattle.bolt_layout.specs.Cut.{branch_cut, cut_from, joins}
 use Rattle.bolt_layout.specs.Laid.{Laid, Placed, numbers_of, pages_of, size_of}
 use Rattle.bolt_layout.specs.Levels.{branch_page_view, leaf_page_view, page_over, root_over}
-use Rattle.bolt_bulk.specs.Private.RowLimits.{bucket_limit}
-use Rattle.bolt_bulk.specs.Private.OpenRuns.{climb, climb_puts, close, close_puts, end_of, end_puts, has_room, kept, key_size, Known, making_room, next_number, nothing_open, numbers_in, Open, own_page, pages_put, pushed_on, pushing, put_in, room_puts, stays_open, taking, Upper}
-use Rattle.bolt_bulk.specs.Private.Coming.{Comes, IsOpen, IsSized, IsUnder, leaves_coming}
+use Rattle.bolt_bulk.specs.Private.{bucket_limit, climb, climb_puts, close, close_puts, Comes, end_of, end_puts, has_room, IsOpen, IsSized, IsUnder, kept, key_size, Known, leaves_coming, making_room, next_number, nothing_open, numbers_in, Open, own_page, pages_put, pushed_on, pushing, put_in, room_puts, stays_open, taking, Upper}
 use Rattle.bolt_layout.specs.Limits.{HaveRightLimits, cut_left, one_less}
 use Rattle.bolt_layout.proofs.Tops.{top_above}
 use Rattle.bolt_layout.specs.declared.layout.Layout.{Layout}

@@ -12,11 +12,8 @@ use Rattle.bolt_layout.specs.declared.layout.Layout.TheVariants.{Plain}
 use Rattle.bolt_layout.proofs.OpenedBuckets.{items_below, leaves_few}
 use Rattle.bolt_layout.proofs.PlainRows.{plain_right, plain_rows}
 use Rattle.bolt_layout.proofs.LimitsFromEnds.{root_from_ends, from_ends_are}
-use Rattle.bolt_bulk.specs.Private.HeldCounts.{capped}
-use Rattle.bolt_bulk.specs.Private.RowLimits.{limit_in}
+use Rattle.bolt_bulk.specs.Private.{AreComing, AreComingAround, capped, FitLimits, Frame, HasRoot, limit_in, limits_with, Notes, onto, Wanted}
 use Rattle.bolt_bulk.specs.declared.limits.Limits.{Limits}
-use Rattle.bolt_bulk.specs.Private.OpenRuns.{Frame}
-use Rattle.bolt_bulk.specs.Private.Passes.{AreComing, AreComingAround, FitLimits, HasRoot, Notes, Wanted, limits_with, onto}
 
 module _ (which : Layout) (page_size : ℕ) where
   -- entries that are values change nothing

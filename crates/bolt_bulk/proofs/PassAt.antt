@@ -10,17 +10,8 @@ use Rattle.bolt_tree.specs.Tree.{Tree, end, with_bucket, with_value}
 use Rattle.bolt_layout.specs.Items.{items_of, leaf_item, root_of}
 use Rattle.bolt_layout.specs.Laid.{Laid, Placed}
 use Rattle.bolt_layout.specs.Layout.{placed_bytes}
-use Rattle.bolt_bulk.specs.Private.Levels.{Level}
+use Rattle.bolt_bulk.specs.Private.{AreOpenRuns, AreWaiting, base_in, bucket_end_next, bucket_limit, bucket_runs, BucketEnds, BucketRunsView, capped, Counts, end_of, Frame, HasNoted, HasRoot, held_item, held_so_far, inline_element, IsAt, IsOn, IsPass, IsPending, IsPendingSmall, IsToCome, items_around, items_in, Known, length_frames, length_open, Level, level_of, limit_in, limits_by, making_room, Notes, onto, Open, open_in, pushing, root_element, runs_end, runs_end_put, runs_push, runs_room, runs_room_put, runs_taking, Steps, taking, value_element, Wanted}
 use Rattle.bolt_layout.specs.PageBytes.{inline_value}
-use Rattle.bolt_bulk.specs.Private.Coming.{IsPass, held_item}
-use Rattle.bolt_bulk.specs.Private.HeldCounts.{Counts, capped, items_around, items_in}
-use Rattle.bolt_bulk.specs.Private.HeldSoFar.{held_so_far, length_frames, length_open}
-use Rattle.bolt_bulk.specs.Private.OpenBuckets.{bucket_end_next, bucket_runs}
-use Rattle.bolt_bulk.specs.Private.BucketRuns.{AreOpenRuns}
-use Rattle.bolt_bulk.specs.Private.OpenRuns.{Frame, Known, Open, base_in, end_of, making_room, pushing, taking}
-use Rattle.bolt_bulk.specs.Private.Passes.{AreWaiting, HasNoted, HasRoot, IsAt, IsOn, IsPending, IsPendingSmall, IsToCome, Notes, Steps, Wanted, level_of, limits_by, onto, open_in}
-use Rattle.bolt_bulk.specs.Private.RunViews.{BucketRunsView, runs_end, runs_end_put, runs_push, runs_room, runs_room_put}
-use Rattle.bolt_bulk.specs.Private.TakenItems.{inline_element, root_element, runs_taking, value_element}
 use Rattle.bolt_bulk.specs.declared.page_setup.PageSetup.{PageSetup}
 use Rattle.bolt_bulk.specs.declared.fault.BulkFault.{BulkFault}
 use Rattle.bolt_bulk.specs.declared.fault.BulkFault.TheVariants as fault
@@ -34,7 +25,6 @@ use Rattle.bolt_bulk.proofs.HeldSteps.{around_length, enters_held, items_length,
 use Rattle.bolt_bulk.proofs.Ontos.{IsValue, ends_inline, onto_items, onto_push, value_items, values_held}
 use Rattle.bolt_layout.specs.Limits.{HaveRightLimits}
 use Rattle.bolt_layout.specs.Openings.{leaf_pages, opened_by}
-use Rattle.bolt_bulk.specs.Private.RowLimits.{BucketEnds, bucket_limit, limit_in}
 use Rattle.bolt_bulk.specs.declared.noted_limits.NotedLimits.{NotedLimits}
 use Rattle.bolt_bulk.proofs.Tables.{noted_enters, noted_leaves}
 use Rattle.bolt_bulk.proofs.Openings.{around_at, coming_at, coming_onto, opened_inline, opened_onto, opened_rooted}

@@ -13,24 +13,15 @@ use Rattle.bolt_tree.specs.Tree.{Tree, end, listing_below, listing_of, with_buck
 use Rattle.bolt_layout.specs.Laid.{Placed}
 use Rattle.bolt_layout.specs.Layout.{first_page, layout_held, layout_mark, layout_pages, layout_root, placed_bytes}
 use Rattle.bolt_layout.specs.Storable.{HasLengths}
-use Rattle.bolt_bulk.specs.Private.Endings.{Ends, IsFitMember, last_part}
-use Rattle.bolt_bulk.specs.Private.Levels.{Level, path_in}
-use Rattle.bolt_bulk.specs.Private.HeldCounts.{capped}
-use Rattle.bolt_bulk.specs.Private.HeldSoFar.{held_so_far}
-use Rattle.bolt_bulk.specs.Private.OpenBuckets.{bucket_end_next, bucket_runs}
-use Rattle.bolt_bulk.specs.Private.BucketRuns.{AreOpenRuns}
+use Rattle.bolt_bulk.specs.Private.{AreComingAround, AreOpenRuns, bucket_end_next, bucket_runs, BucketEnds, BucketRunsView, capped, depth_of, end_of, Ends, FitLimits, Frame, HasLeft, HasNoted, held_so_far, IsAt, IsFitMember, IsOn, Known, last_part, Level, level_of, limit_in, limits_by, limits_with, no_leaves, nothing_open, Open, open_in, path_in, pending_depth, runs_end, runs_end_put, Steps, Wanted}
 use Rattle.bolt_layout.specs.Openings.{leaf_pages, opened_in}
 use Rattle.bolt_layout.specs.declared.layout.Layout.{Layout}
 use Rattle.bolt_layout.specs.declared.layout.Layout.TheVariants.{Balanced, Plain}
 use Rattle.bolt_layout.specs.Items.{items_of, root_of}
-use Rattle.bolt_bulk.specs.Private.OpenRuns.{Frame, Known, Open, nothing_open, end_of}
-use Rattle.bolt_bulk.specs.Private.Passes.{AreComingAround, FitLimits, HasLeft, HasNoted, IsAt, IsOn, Steps, Wanted, depth_of, level_of, limits_by, limits_with, open_in, pending_depth}
-use Rattle.bolt_bulk.specs.Private.RunViews.{BucketRunsView, no_leaves, runs_end, runs_end_put}
 use Rattle.bolt_bulk.specs.declared.page_setup.PageSetup.{PageSetup}
 use Rattle.bolt_bulk.specs.declared.fault.BulkFault.{BulkFault}
 use Rattle.bolt_bulk.specs.declared.pass.Ended.{Ended}
 use Rattle.bolt_bulk.specs.declared.pass.Pass.{Pass}
-use Rattle.bolt_bulk.specs.Private.RowLimits.{BucketEnds, limit_in}
 use Rattle.bolt_bulk.specs.declared.pending_bucket.PendingBucket.{PendingBucket}
 use Rattle.bolt_bulk.specs.declared.noted_limits.NotedLimits.{NotedLimits}
 use Rattle.bolt_bulk.proofs.Frames.{pass_begins, pass_ends}

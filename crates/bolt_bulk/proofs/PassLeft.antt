@@ -6,9 +6,7 @@ use Rattle.bolt_format.specs.declared.element.Leaf.{Leaf}
 use Rattle.bolt_tree.specs.Listing.{Member}
 use Rattle.bolt_tree.specs.Tree.{Tree, end}
 use Rattle.bolt_layout.specs.Laid.{Placed}
-use Rattle.bolt_bulk.specs.Private.Levels.{Level, left_in}
-use Rattle.bolt_bulk.specs.Private.OpenRuns.{Frame}
-use Rattle.bolt_bulk.specs.Private.Passes.{Wanted, AreWaiting, HasLeft, IsAt, IsNoDeeper, IsPending, Steps, depth_of, pending_depth}
+use Rattle.bolt_bulk.specs.Private.{AreWaiting, depth_of, Frame, HasLeft, IsAt, IsNoDeeper, IsPending, left_in, Level, pending_depth, Steps, Wanted}
 use Rattle.bolt_bulk.specs.declared.pass.Pass.{Pass}
 use Rattle.bolt_bulk.specs.declared.pending_bucket.PendingBucket.{PendingBucket}
 use Rattle.bolt_bulk.specs.declared.waiting_bucket.WaitingBucket.{WaitingBucket}

@@ -13,14 +13,7 @@ use Rattle.bolt_layout.specs.Layout.{layout_mark, layout_pages}
 use Rattle.bolt_layout.specs.Limits.{HaveRightLimits}
 use Rattle.bolt_layout.specs.Levels.{root_over}
 use Rattle.bolt_layout.specs.PageBytes.{inline_value, leaf_data}
-use Rattle.bolt_bulk.specs.Private.RowLimits.{bucket_limit}
-use Rattle.bolt_bulk.specs.Private.Coming.{IsPass, held_item, leaves_coming}
-use Rattle.bolt_bulk.specs.Private.OpenBuckets.{bucket_end_next}
-use Rattle.bolt_bulk.specs.Private.BucketRuns.{AreOpenRuns}
-use Rattle.bolt_bulk.specs.Private.OpenRuns.{all_put, base_in, end_of, Frame, frames_put, Known, making_room, nothing_open, Open, pushing, taking}
-use Rattle.bolt_bulk.specs.Private.Passes.{HasRoot, IsOn, StandsBefore, onto}
-use Rattle.bolt_bulk.specs.Private.RunViews.{BucketRunsView, runs_end, runs_end_put, runs_push, runs_room, runs_room_put}
-use Rattle.bolt_bulk.specs.Private.TakenItems.{entries_size, root_element, runs_taking}
+use Rattle.bolt_bulk.specs.Private.{all_put, AreOpenRuns, base_in, bucket_end_next, bucket_limit, BucketRunsView, end_of, entries_size, Frame, frames_put, HasRoot, held_item, IsOn, IsPass, Known, leaves_coming, making_room, nothing_open, onto, Open, pushing, root_element, runs_end, runs_end_put, runs_push, runs_room, runs_room_put, runs_taking, StandsBefore, taking}
 use Rattle.bolt_bulk.proofs.Frames.{pass_enters, pass_leaves, pass_takes, put_enters, put_leaves, put_takes, waiting}
 use Rattle.bolt_bulk.proofs.Ontos.{IsValue, ends_inline, onto_items, value_items, values_elements, values_keyed, values_numbers, values_pages, values_size}
 use Rattle.bolt_bulk.proofs.KeptRuns.{runs_ended, runs_have_room, runs_pushed}

@@ -10,10 +10,8 @@ use Rattle.bolt_layout.specs.Items.{items_of}
 use Rattle.bolt_layout.specs.Laid.{Laid, Placed, numbers_of, pages_of, size_of}
 use Rattle.bolt_layout.specs.Levels.{branch_page_view, leaf_page_view, next_level, page_over, top_in}
 use Rattle.bolt_layout.specs.Layout.{first_page}
-use Rattle.bolt_bulk.specs.Private.RowLimits.{bucket_limit}
-use Rattle.bolt_bulk.specs.Private.OpenRuns.{Frame, Open, Upper, all_put, base_in, frames_put, next_number, numbers_in, pages_put, pushing, put_in}
+use Rattle.bolt_bulk.specs.Private.{all_put, base_in, bucket_limit, Comes, Frame, frames_put, held_item, IsOpen, IsPass, IsStack, next_number, numbers_in, Open, pages_put, pushing, put_in, Upper}
 use Rattle.bolt_layout.proofs.OverRows.{numbers-append}
-use Rattle.bolt_bulk.specs.Private.Coming.{Comes, IsOpen, IsPass, IsStack, held_item}
 use Rattle.bolt_bulk.proofs.OpenRunLemmas.{cut_step, left_begins, pages-append, pages_push, pushed_put}
 use Rattle.bolt_layout.specs.declared.layout.Layout.{Layout}
 use Rattle.bolt_layout.specs.declared.layout.Layout.TheVariants.{Plain, Balanced}

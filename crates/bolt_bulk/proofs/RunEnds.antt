@@ -6,9 +6,7 @@ use Rattle.bolt_layout.specs.Laid.{Laid}
 use Rattle.bolt_layout.specs.Levels.{branch_page_view, leaf_page_view, page_over}
 use Rattle.bolt_layout.specs.Limits.{AreRowEnds}
 use Rattle.bolt_layout.specs.declared.layout.Layout.TheVariants.{Plain}
-use Rattle.bolt_bulk.specs.Private.RowLimits.{bucket_limit}
-use Rattle.bolt_bulk.specs.Private.Coming.{Comes, IsOpen}
-use Rattle.bolt_bulk.specs.Private.OpenRuns.{Open, Upper, upper_end}
+use Rattle.bolt_bulk.specs.Private.{bucket_limit, Comes, IsOpen, Open, Upper, upper_end}
 use Rattle.bolt_layout.proofs.LastItem.{last_append}
 
 uppers_end : (page_size : ℕ) (limits : ℕ → Option ℕ) (uppers : List Upper) (q : Laid BranchElement) (all : List (Laid BranchElement)) (root : Laid BranchElement)

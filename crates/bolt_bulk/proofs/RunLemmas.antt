@@ -6,8 +6,7 @@ use Rattle.bolt_format.specs.Elements.{BranchElement}
 use Rattle.bolt_layout.specs.Levels.{overflow_of}
 use Rattle.bolt_layout.specs.Limits.{is_out}
 use Rattle.bolt_layout.specs.PageBytes.{branch_data}
-use Rattle.bolt_bulk.specs.Private.BranchRuns.{IsPushed, IsSizedRun, IsStanding}
-use Rattle.bolt_bulk.specs.Private.RunViews.{RunView, run_kept, run_key, run_push, run_stays}
+use Rattle.bolt_bulk.specs.Private.{IsPushed, IsSizedRun, IsStanding, run_kept, run_key, run_push, run_stays, RunView}
 use Rattle.bolt_layout.proofs.PageRows.{overflow_room, overflow_small}
 
 -- a page with this many further pages has room for its content, and 64 bits for its size

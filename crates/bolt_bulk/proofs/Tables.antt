@@ -18,14 +18,7 @@ use Rattle.bolt_layout.proofs.OpenedBuckets.{opened_few}
 use Rattle.bolt_layout.proofs.LimitsFromEnds.{from_ends_by}
 use Rattle.bolt_layout.proofs.RowEnds.{row_ends_are_one}
 use Rattle.bolt_layout.proofs.Tops.{shorter}
-use Rattle.bolt_bulk.specs.Private.BranchRuns.{runs_above}
-use Rattle.bolt_bulk.specs.Private.Coming.{Comes, IsOpen}
-use Rattle.bolt_bulk.specs.Private.HeldCounts.{capped}
-use Rattle.bolt_bulk.specs.Private.BucketRuns.{AreUppers}
-use Rattle.bolt_bulk.specs.Private.OpenBuckets.{bucket_runs}
-use Rattle.bolt_bulk.specs.Private.OpenRuns.{Frame, Known, Open, Upper, upper_end}
-use Rattle.bolt_bulk.specs.Private.Passes.{AreComingAround, AreNumbered, FitLimits, HasNoted, IsOn, IsTable, IsToCome, Notes, Wanted, limits_with}
-use Rattle.bolt_bulk.specs.Private.RowLimits.{BucketEnds, bucket_limit, limit_in, run_end}
+use Rattle.bolt_bulk.specs.Private.{AreComingAround, AreNumbered, AreUppers, bucket_limit, bucket_runs, BucketEnds, capped, Comes, FitLimits, Frame, HasNoted, IsOn, IsOpen, IsTable, IsToCome, Known, limit_in, limits_with, Notes, Open, run_end, runs_above, Upper, upper_end, Wanted}
 use Rattle.bolt_bulk.specs.declared.branch_run.BranchRun.{BranchRun}
 use Rattle.bolt_bulk.specs.declared.limits.BucketLimits.{BucketLimits}
 use Rattle.bolt_bulk.specs.declared.limits.Limits.{Limits}

@@ -3,8 +3,7 @@ ghost use Rattle.std.specs.Prelude.{◌≤◌, ◌↔◌, [], List, OnOk};
 ghost use Rattle.bolt_tree.specs.Listing.{Member};
 ghost use Rattle.bolt_tree.specs.Tree.{tree_of};
 ghost use Rattle.bolt_layout.specs.declared.layout.Layout.{Layout};
-ghost use Rattle.bolt_bulk.specs.Private.Endings.{Ends};
-ghost use Rattle.bolt_bulk.specs.Private.Passes.{FitLimits, limits_with};
+ghost use Rattle.bolt_bulk.specs.Private.{Ends, FitLimits, limits_with};
 ghost use Rattle.bolt_bulk.specs.WholeListings.{IsWhole};
 
 use crate::fault::BulkFault;

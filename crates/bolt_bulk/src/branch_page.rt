@@ -3,9 +3,7 @@ ghost use Rattle.std.specs.Prelude.{◌+◌, ◌*◌, ◌<◌, [], ◌∷◌, le
 ghost use Rattle.bolt_format.specs.ElementPlaces.{branch_view};
 ghost use Rattle.bolt_layout.specs.Layout.{placed_bytes};
 ghost use Rattle.bolt_layout.specs.PageBytes.{branch_data, branch_headers};
-ghost use Rattle.bolt_bulk.specs.Private.FormatLimits.{length_end};
-ghost use Rattle.bolt_bulk.specs.Private.BranchRuns.{IsSizedRun, run_view};
-ghost use Rattle.bolt_bulk.specs.Private.RunViews.{run_page};
+ghost use Rattle.bolt_bulk.specs.Private.{IsSizedRun, length_end, run_page, run_view};
 ghost use Rattle.bolt_format.specs.Endings.{page_ending};
 ghost use Rattle.bolt_format.specs.Wrote.{Wrote};
 

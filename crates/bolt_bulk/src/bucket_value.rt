@@ -4,7 +4,7 @@ ghost use Rattle.bolt_format.specs.ElementPlaces.{leaf_view};
 ghost use Rattle.bolt_layout.specs.PageBytes.{inline_value, leaf_data, leaf_headers};
 ghost use Rattle.bolt_format.specs.Endings.{page_ending};
 ghost use Rattle.bolt_format.specs.Wrote.{Wrote};
-ghost use Rattle.bolt_bulk.specs.Private.FormatLimits.{length_end};
+ghost use Rattle.bolt_bulk.specs.Private.{length_end};
 
 use crate::headers::Headers;
 use crate::pieces::put;

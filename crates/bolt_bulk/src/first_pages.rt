@@ -1,7 +1,7 @@
 //! The pages that precede those of the buckets, as they are written.
 ghost use Rattle.std.specs.Prelude.{◌≡◌, ◌≤◌, length};
 ghost use Rattle.bolt_layout.specs.PageBytes.{filled, copy_meta};
-ghost use Rattle.bolt_bulk.specs.Private.FirstPages.{first_pages};
+ghost use Rattle.bolt_bulk.specs.Private.{first_pages};
 ghost use Rattle.bolt_format.specs.Endings.{page_ending};
 ghost use Rattle.bolt_format.specs.Wrote.{Wrote};
 

@@ -1,7 +1,7 @@
 //! An item of an open run of a leaf: a key with a value, with an inline bucket, which is packed
 //! anew, or with the root page of a bucket.
 ghost use Rattle.std.specs.Prelude.{◌≡◌, List, length};
-ghost use Rattle.bolt_bulk.specs.Private.HeldItems.{IsStored, is_stored_bucket, stored_value};
+ghost use Rattle.bolt_bulk.specs.Private.{is_stored_bucket, IsStored, stored_value};
 ghost use Rattle.bolt_format.specs.Endings.{page_ending};
 ghost use Rattle.bolt_format.specs.Wrote.{Wrote};
 

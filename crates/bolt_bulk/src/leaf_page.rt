@@ -1,10 +1,7 @@
 //! A leaf page, as it is written.
 ghost use Rattle.std.specs.Prelude.{◌+◌, ◌*◌, ◌<◌, ◌++◌, length};
 ghost use Rattle.bolt_layout.specs.PageBytes.{leaf_data, leaf_headers, page_bytes};
-ghost use Rattle.bolt_bulk.specs.Private.FormatLimits.{length_end};
-ghost use Rattle.bolt_bulk.specs.Private.HeldItems.{AreHeld, IsHeld, held_views, stored_value};
-ghost use Rattle.bolt_bulk.specs.Private.OpenBuckets.{IsLeafRun, leaves_of};
-ghost use Rattle.bolt_bulk.specs.Private.RunViews.{leaf_page};
+ghost use Rattle.bolt_bulk.specs.Private.{AreHeld, held_views, IsHeld, IsLeafRun, leaf_page, leaves_of, length_end, stored_value};
 ghost use Rattle.bolt_format.specs.Endings.{page_ending};
 ghost use Rattle.bolt_format.specs.Wrote.{Wrote};
 

@@ -1,7 +1,7 @@
 //! How many runs the rows of a bucket's branches may have, in the balanced layout.
 ghost use Rattle.std.specs.Prelude.{◌≡◌, ◌∷◌, ℕ, List, false, IfErr, None, OnOk, Some, map};
 ghost use Rattle.bolt_layout.specs.Limits.{limit_at, limits_from_ends};
-ghost use Rattle.bolt_bulk.specs.Private.RowLimits.{IsOtherRow, bucket_limit, limit_in, run_end};
+ghost use Rattle.bolt_bulk.specs.Private.{bucket_limit, IsOtherRow, limit_in, run_end};
 ghost use Rattle.bolt_bulk.specs.declared.fault.BulkFault.TheVariants as fault;
 
 use crate::branch_run::BranchRun;

@@ -9,7 +9,7 @@ ghost use Rattle.bolt_layout.specs.Held.{most_held};
 ghost use Rattle.bolt_layout.specs.Layout.{layout_held, layout_root};
 ghost use Rattle.bolt_layout.specs.declared.layout.Layout.{Layout};
 ghost use Rattle.bolt_layout.specs.declared.layout.Layout.TheVariants.{Balanced};
-ghost use Rattle.bolt_bulk.specs.Private.Passes.{FitLimits, limits_with};
+ghost use Rattle.bolt_bulk.specs.Private.{FitLimits, limits_with};
 ghost use Rattle.bolt_bulk.specs.WholeListings.{IsAgain, IsWhole};
 ghost use Rattle.bolt_bulk.specs.declared.fault.PlanFault.TheVariants as planned;
 

@@ -1,6 +1,6 @@
 //! The limits of rows that a pass over the plain layout notes.
 ghost use Rattle.std.specs.Prelude.{◌≡◌, ℕ, IfErr, None, OnOk};
-ghost use Rattle.bolt_bulk.specs.Private.RowLimits.{BucketEnds, limit_in};
+ghost use Rattle.bolt_bulk.specs.Private.{BucketEnds, limit_in};
 ghost use Rattle.bolt_bulk.specs.declared.fault.BulkFault.TheVariants as fault;
 
 use crate::fault::BulkFault;

@@ -4,7 +4,7 @@ ghost use Rattle.bolt_format.specs.Written.{header_bytes};
 ghost use Rattle.bolt_layout.specs.Levels.{overflow_of};
 ghost use Rattle.bolt_format.specs.Endings.{page_ending};
 ghost use Rattle.bolt_format.specs.Wrote.{Wrote};
-ghost use Rattle.bolt_bulk.specs.Private.FormatLimits.{length_end};
+ghost use Rattle.bolt_bulk.specs.Private.{length_end};
 
 use crate::page_setup::{PageSetup, overflow};
 use crate::pieces::put;

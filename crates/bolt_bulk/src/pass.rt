@@ -53,13 +53,9 @@ pub(crate) struct Pass<'a> {
 impl<'a> Pass<'a> {
     ghost use Rattle.bolt_tree.specs.Tree.{Tree, end, listing_of, with_bucket, with_value};
     ghost use Rattle.bolt_layout.specs.Laid.{Placed};
-    ghost use Rattle.bolt_bulk.specs.Private.FormatLimits.{longest_key};
-    ghost use Rattle.bolt_bulk.specs.Private.HeldCounts.{Counts, capped, items_by};
-    ghost use Rattle.bolt_bulk.specs.Private.Levels.{Level};
+    ghost use Rattle.bolt_bulk.specs.Private.{capped, Counts, depth_of, Ends, FitLimits, HasLeft, HasRoot, IsAt, IsFitMember, IsNoDeeper, IsReady, items_by, Level, limits_with, longest_key, onto, Steps, Wanted};
     ghost use Rattle.bolt_format.specs.ElementLengths.{IsValueLength};
     ghost use Rattle.bolt_format.specs.ElementPlaces.{leaf_view};
-    ghost use Rattle.bolt_bulk.specs.Private.Passes.{FitLimits, HasLeft, HasRoot, IsAt, IsNoDeeper, IsReady, Steps, Wanted, depth_of, limits_with, onto};
-    ghost use Rattle.bolt_bulk.specs.Private.Endings.{Ends, IsFitMember};
     ghost use Rattle.bolt_tree.specs.Listing.{Member};
     ghost use Rattle.bolt_tree.specs.Paths.{path_of};
     ghost use Rattle.bolt_tree.specs.ShownEntries.{item_view};

@@ -2,10 +2,7 @@
 ghost use Rattle.std.specs.Prelude.{◌≡◌, ◌+◌, ◌<◌, ◌≤◌, ℕ, IfErr, IfOk, OnErr, OnOk, length};
 ghost use Rattle.bolt_format.specs.Sinks.{AppendsProperPrefix};
 ghost use Rattle.bolt_layout.specs.Layout.{placed_bytes};
-ghost use Rattle.bolt_bulk.specs.Private.OpenBuckets.{IsOpenBucket, bucket_end_next, bucket_runs};
-ghost use Rattle.bolt_bulk.specs.Private.RunViews.{runs_end, runs_end_put, runs_push};
-ghost use Rattle.bolt_bulk.specs.Private.TakenItems.{root_element};
-ghost use Rattle.bolt_bulk.specs.Private.WaitingBuckets.{IsWaiting};
+ghost use Rattle.bolt_bulk.specs.Private.{bucket_end_next, bucket_runs, IsOpenBucket, IsWaiting, root_element, runs_end, runs_end_put, runs_push};
 ghost use Rattle.bolt_format.specs.Wrote.{Wrote};
 ghost use Rattle.bolt_bulk.specs.BulkEndings.{bulk_ending};
 ghost use Rattle.bolt_bulk.specs.declared.fault.BulkFault.TheVariants as fault;

@@ -4,7 +4,7 @@ use Rattle.std.specs.Prelude.{⊤}
 use Rattle.bolt_tree.specs.Paths.{path_of}
 use Rattle.bolt_tree.specs.ShownEntries.{item_view}
 use Rattle.bolt_tree.specs.Tree.{tree_of}
-use Rattle.bolt_bulk.specs.Private.Passes.{HasLeft, Steps, Wanted}
+use Rattle.bolt_bulk.specs.Private.{HasLeft, Steps, Wanted}
 use Rattle.bolt_bulk.specs.declared.page_setup.PageSetup.{PageSetup}
 use Rattle.bolt_bulk.proofs.PassAt.{steps_failed, steps_then}
 use Rattle.bolt_bulk.proofs.PassEnds.{ends_after, ends_early}

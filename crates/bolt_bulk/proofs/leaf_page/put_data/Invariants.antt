@@ -1,7 +1,7 @@
 -- The data before number i were written.
 use Rattle.std.proofs.Common.{drop}
 use Rattle.bolt_layout.specs.PageBytes.{leaf_data}
-use Rattle.bolt_bulk.specs.Private.HeldItems.{held_views}
+use Rattle.bolt_bulk.specs.Private.{held_views}
 use Rattle.bolt_format.proofs.WroteFronts.{WroteFront}
 use Rattle.bolt_bulk.proofs.leaf_page.put_data.Given as goal
 

@@ -1,5 +1,5 @@
 -- The headers before number i were written, or are in the buffer.
-use Rattle.bolt_bulk.specs.Private.HeldItems.{held_view}
+use Rattle.bolt_bulk.specs.Private.{held_view}
 use Rattle.bolt_bulk.proofs.ElementPuts.{HeadsPut}
 use Rattle.bolt_bulk.proofs.LeafPuts.{data_by, heads_by}
 use Rattle.bolt_bulk.proofs.leaf_page.put_headers.Given as goal

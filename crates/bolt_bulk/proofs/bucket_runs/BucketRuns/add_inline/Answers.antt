@@ -1,8 +1,7 @@
 -- What is open after the room is made takes the item.
 use Rattle.std.proofs.Common.{◌+◌, length, map}
 use Rattle.bolt_format.specs.ElementPlaces.{leaf_view}
-use Rattle.bolt_bulk.specs.Private.OpenBuckets.{bucket_runs}
-use Rattle.bolt_bulk.specs.Private.TakenItems.{inline_element}
+use Rattle.bolt_bulk.specs.Private.{bucket_runs, inline_element}
 use Rattle.bolt_bulk.proofs.BucketLemmas.{on_ok, take_runs}
 use Rattle.bolt_bulk.proofs.bucket_runs.BucketRuns.add_inline.Goals as goal
 

@@ -1,7 +1,6 @@
 -- What is open after the room is made takes the item.
 use Rattle.std.proofs.Common.{◌+◌, length}
-use Rattle.bolt_bulk.specs.Private.OpenBuckets.{bucket_runs}
-use Rattle.bolt_bulk.specs.Private.TakenItems.{value_element}
+use Rattle.bolt_bulk.specs.Private.{bucket_runs, value_element}
 use Rattle.bolt_bulk.proofs.BucketLemmas.{on_ok, take_runs}
 use Rattle.bolt_bulk.proofs.bucket_runs.BucketRuns.add_value.Goals as goal
 

@@ -1,7 +1,7 @@
 -- The leaf closes, and then the runs above it.
 use Rattle.std.proofs.lemmas.Result.{err_from_is_err_and}
 use Rattle.bolt_format.specs.ElementPlaces.{branch_view}
-use Rattle.bolt_bulk.specs.Private.OpenBuckets.{bucket_runs}
+use Rattle.bolt_bulk.specs.Private.{bucket_runs}
 use Rattle.bolt_bulk.proofs.BucketLemmas.{closed_short, end_large, end_made, end_short}
 use Rattle.bolt_bulk.proofs.bucket_runs.BucketRuns.close_runs.Goals as goal
 

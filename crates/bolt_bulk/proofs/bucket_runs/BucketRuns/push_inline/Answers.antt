@@ -3,8 +3,7 @@ use Rattle.std.proofs.Common.{rules, ◌≡◌, ◌∙◌, ◌+◌, ◌++◌, []
 use Rattle.std.proofs.lemmas.List.{length-append}
 use Rattle.bolt_format.specs.Elements.{LeafElement}
 use Rattle.bolt_format.specs.declared.element.Leaf.{Leaf}
-use Rattle.bolt_bulk.specs.Private.BranchRuns.{runs_above}
-use Rattle.bolt_bulk.specs.Private.RunViews.{BucketRunsView}
+use Rattle.bolt_bulk.specs.Private.{BucketRunsView, runs_above}
 use Rattle.bolt_bulk.specs.declared.held.Held.{Held}
 use Rattle.bolt_bulk.specs.declared.held.Stored.TheVariants as stored
 use Rattle.bolt_bulk.proofs.HeldRuns.{IsRun, added_held, added_size, added_views, counted, run_more, run_pushed}

@@ -3,9 +3,7 @@ use Rattle.std.proofs.Common.{◌∙◌, [], Err, arith, subst, sym}
 use Rattle.std.specs.Prelude.{⊤}
 use Rattle.std.proofs.lemmas.Result.{err_from_is_err_and}
 use Rattle.bolt_layout.specs.declared.layout.Layout.TheVariants.{Balanced}
-use Rattle.bolt_bulk.specs.Private.OpenBuckets.{bucket_runs}
-use Rattle.bolt_bulk.specs.Private.Passes.{FitLimits, limits_with}
-use Rattle.bolt_bulk.specs.Private.RunViews.{runs_end_put}
+use Rattle.bolt_bulk.specs.Private.{bucket_runs, FitLimits, limits_with, runs_end_put}
 use Rattle.bolt_bulk.proofs.PassAt.{steps_none}
 use Rattle.bolt_bulk.proofs.PassEnds.{ends_after, ends_early, has_end}
 use Rattle.bolt_bulk.specs.declared.limits.Limits.{Limits}

@@ -2,7 +2,7 @@
 use Rattle.std.specs.Prelude.{⊤}
 use Rattle.std.proofs.Common.{List, Err, subst, arith, Ok}
 use Rattle.std.specs.List.{AllByRecursion}
-use Rattle.bolt_bulk.specs.Private.WaitingBuckets.{IsWaiting}
+use Rattle.bolt_bulk.specs.Private.{IsWaiting}
 use Rattle.bolt_bulk.specs.declared.waiting_bucket.WaitingBucket.{WaitingBucket}
 use Rattle.bolt_bulk.proofs.HeldPasses.{waits_less}
 use Rattle.bolt_bulk.proofs.PassAt.{leave_steps, steps_none, steps_stop}

@@ -4,7 +4,7 @@ use Rattle.std.proofs.lemmas.List.{length-map, map-append}
 use Rattle.bolt_tree.specs.Entries as entries
 use Rattle.bolt_tree.specs.Paths.{Path, path_of}
 use Rattle.bolt_tree.specs.ShownEntries.{item_view}
-use Rattle.bolt_bulk.specs.Private.Endings.{last_part}
+use Rattle.bolt_bulk.specs.Private.{last_part}
 use Rattle.bolt_bulk.proofs.PassAt.{steps_map, steps_stop, steps_then}
 use Rattle.bolt_bulk.proofs.PassEnds.{has_next, last_pushed}
 use Rattle.bolt_bulk.proofs.PassLeft.{left_same}

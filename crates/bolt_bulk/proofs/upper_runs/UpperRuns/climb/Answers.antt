@@ -6,9 +6,7 @@ use Rattle.bolt_format.specs.ElementPlaces.{branch_view}
 use Rattle.bolt_format.specs.Elements.{BranchElement}
 use Rattle.bolt_layout.specs.Levels.{overflow_of}
 use Rattle.bolt_layout.specs.Limits.{one_less}
-use Rattle.bolt_bulk.specs.Private.OpenRuns.{key_size}
-use Rattle.bolt_bulk.specs.Private.BranchRuns.{run_view}
-use Rattle.bolt_bulk.specs.Private.RunViews.{no_run, one_closed, run_kept, run_push}
+use Rattle.bolt_bulk.specs.Private.{key_size, no_run, one_closed, run_kept, run_push, run_view}
 use Rattle.bolt_bulk.proofs.ClimbLemmas.{climb_begins, climb_closes, climb_large, climb_stays, climb_stops, no_room_by, room_by, run_at, standing_set, up_key}
 use Rattle.bolt_bulk.proofs.upper_runs.UpperRuns.climb.Goals as goal
 

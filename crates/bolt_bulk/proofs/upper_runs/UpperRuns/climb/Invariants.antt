@@ -2,8 +2,7 @@
 use Rattle.std.proofs.Common.{◌≡◌, ◌≤◌, length}
 use Rattle.std.specs.List.{AllByRecursion}
 use Rattle.bolt_format.specs.ElementPlaces.{branch_view}
-use Rattle.bolt_bulk.specs.Private.BranchRuns.{IsStanding, runs_above}
-use Rattle.bolt_bulk.specs.Private.RowLimits.{bucket_limit}
+use Rattle.bolt_bulk.specs.Private.{bucket_limit, IsStanding, runs_above}
 use Rattle.bolt_bulk.proofs.ClimbLemmas.{Climbing}
 use Rattle.bolt_bulk.proofs.upper_runs.UpperRuns.climb.Given as goal
 

@@ -2,7 +2,7 @@
 use Rattle.std.proofs.Common.{◌≡◌, ◌≤◌, length}
 use Rattle.std.specs.List.{AllByRecursion}
 use Rattle.bolt_format.specs.ElementPlaces.{branch_view}
-use Rattle.bolt_bulk.specs.Private.BranchRuns.{IsStanding, runs_above}
+use Rattle.bolt_bulk.specs.Private.{IsStanding, runs_above}
 use Rattle.bolt_bulk.proofs.ClimbLemmas.{Closing}
 use Rattle.bolt_bulk.proofs.upper_runs.UpperRuns.close_all.Given as goal
 
