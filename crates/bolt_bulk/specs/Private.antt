@@ -12,6 +12,7 @@ pub mod HeldSoFar
 pub mod Levels
 pub mod OpenBuckets
 pub mod OpenRuns
+pub mod PagesWritten
 pub mod Passes
 pub mod RowLimits
 pub mod RunViews
@@ -31,6 +32,7 @@ pub use HeldSoFar.*
 pub use Levels.*
 pub use OpenBuckets.*
 pub use OpenRuns.*
+pub use PagesWritten.*
 pub use Passes.*
 pub use RowLimits.*
 pub use RunViews.*

@@ -1,13 +1,12 @@
 //! The run of items of a bucket's leaf under way.
-ghost use Rattle.std.specs.Prelude.{◌≡◌, ◌+◌, ◌<◌, ◌≤◌, IfErr, IfOk, OnErr, OnOk};
+ghost use Rattle.std.specs.Prelude.{◌≡◌, ◌+◌, ◌<◌, ◌≤◌, IfOk, OnErr, OnOk};
 ghost use Rattle.bolt_format.specs.ElementPlaces.{branch_view};
 ghost use Rattle.bolt_format.specs.Sinks.{AppendsProperPrefix};
 ghost use Rattle.bolt_layout.specs.Levels.{overflow_of};
 ghost use Rattle.bolt_layout.specs.PageBytes.{page_bytes};
-ghost use Rattle.bolt_bulk.specs.Private.{IsLeafRun, leaf_closed, leaf_page, leaves_have_room, leaves_of, no_leaves};
+ghost use Rattle.bolt_bulk.specs.Private.{IsLeafRun, leaf_closed, leaf_page, leaves_have_room, leaves_of, no_leaves, OnlyAbove};
 ghost use Rattle.bolt_format.specs.Wrote.{Wrote};
 ghost use Rattle.bolt_bulk.specs.BulkEndings.{bulk_ending};
-ghost use Rattle.bolt_bulk.specs.declared.fault.BulkFault.TheVariants as fault;
 
 use crate::fault::BulkFault;
 use crate::held::Held;
@@ -51,7 +50,7 @@ impl<'a> LeafRun<'a> {
         ensures run { OnOk result (IsLeafRun self.new) }
         ensures next { OnOk result (next.new ≡ next.old + (1 + overflow_of setup.now.page_size self.old.size)) }
         ensures within { OnOk result (next.new ≤ setup.now.limit) }
-        ensures large { IfErr result (λ e. e ≡ fault.TooLarge → setup.now.limit < next.old + (1 + overflow_of setup.now.page_size self.old.size)) }
+        ensures large { OnlyAbove setup.now (next.old + (1 + overflow_of setup.now.page_size self.old.size)) result }
     {
         let number = *next;
         let after = number_after(setup, self.size, number)?;

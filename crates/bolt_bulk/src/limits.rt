@@ -1,7 +1,7 @@
 //! How many runs the rows of a bucket's branches may have, in the balanced layout.
-ghost use Rattle.std.specs.Prelude.{◌≡◌, ◌∷◌, ℕ, List, false, IfErr, None, OnOk, Some, map};
-ghost use Rattle.bolt_layout.specs.Limits.{limit_at, limits_from_ends};
-ghost use Rattle.bolt_bulk.specs.Private.{bucket_limit, IsOtherRow, limit_in, run_end};
+ghost use Rattle.std.specs.Prelude.{◌≡◌, ◌∷◌, ℕ, List, false, IfErr, None, OnOk, Some};
+ghost use Rattle.bolt_layout.specs.Limits.{limits_from_ends};
+ghost use Rattle.bolt_bulk.specs.Private.{bucket_limit, IsOtherRow, limit_in, NotesRows, run_end};
 ghost use Rattle.bolt_bulk.specs.declared.fault.BulkFault.TheVariants as fault;
 
 use crate::branch_run::BranchRun;
@@ -81,7 +81,7 @@ impl Limits {
         bucket: u64,
         runs: &[BranchRun<'_>],
     ) -> Result<(), BulkFault>
-        ensures noted { OnOk result (((level : ℕ) → limit_in self.old bucket level ≡ None) → (level : ℕ) → limit_in self.new bucket level ≡ limit_at (limits_from_ends false (map run_end runs.now)) level) }
+        ensures noted { OnOk result (NotesRows self.old self.new bucket runs.now) }
         ensures others { OnOk result ((b l : ℕ) → (b ≡ bucket → ⊥) → limit_in self.new b l ≡ limit_in self.old b l) }
         ensures fault { IfErr result (λ e. e ≡ fault.Memory) }
     {

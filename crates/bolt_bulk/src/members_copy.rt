@@ -9,7 +9,7 @@ ghost use Rattle.bolt_layout.specs.Held.{most_held};
 ghost use Rattle.bolt_layout.specs.Layout.{layout_held, layout_root};
 ghost use Rattle.bolt_layout.specs.declared.layout.Layout.{Layout};
 ghost use Rattle.bolt_layout.specs.declared.layout.Layout.TheVariants.{Balanced};
-ghost use Rattle.bolt_bulk.specs.Private.{FitLimits, limits_with};
+ghost use Rattle.bolt_bulk.specs.Private.{FitAll};
 ghost use Rattle.bolt_bulk.specs.WholeListings.{IsAgain, IsWhole};
 ghost use Rattle.bolt_bulk.specs.declared.fault.PlanFault.TheVariants as planned;
 
@@ -68,7 +68,7 @@ fn balanced_limits<'a, M: Members<'a>>(
     shape: &Shape,
 ) -> Result<Limits, PlanFault>
     requires { IsWhole M.lists M.left members.old }
-    ensures fit { IfOk result (λ limits. (listing : List Member) → M.lists members.old listing → FitLimits Balanced (tree_of listing) shape.now.page_size (limits_with limits)) }
+    ensures fit { IfOk result (λ limits. FitAll M.lists members.old Balanced shape.now.page_size limits) }
     ensures large { IfErr result (λ fault. fault ≡ planned.TooLarge → (listing : List Member) → M.lists members.old listing
         → too_many ≤ length (layout_of_listing Balanced shape.now.page_size listing shape.now.sequence)) }
     ensures again { IfOk result (λ limits. IsAgain M.lists M.left M.ends_as members.old members.new) }
@@ -94,7 +94,7 @@ fn limits_of<'a, M: Members<'a>>(
     shape: &Shape,
 ) -> Result<Limits, PlanFault>
     requires { IsWhole M.lists M.left members.old }
-    ensures fit { IfOk result (λ limits. (listing : List Member) → M.lists members.old listing → FitLimits shape.now.layout (tree_of listing) shape.now.page_size (limits_with limits)) }
+    ensures fit { IfOk result (λ limits. FitAll M.lists members.old shape.now.layout shape.now.page_size limits) }
     ensures large { IfErr result (λ fault. fault ≡ planned.TooLarge → (listing : List Member) → M.lists members.old listing
         → too_many ≤ length (layout_of_listing shape.now.layout shape.now.page_size listing shape.now.sequence)) }
     ensures again { IfOk result (λ limits. IsAgain M.lists M.left M.ends_as members.old members.new) }
@@ -113,7 +113,7 @@ fn plan_within<'a, M: Members<'a>>(
     shape: &Shape,
 ) -> Result<Plan, PlanFault>
     requires whole { IsWhole M.lists M.left members.old }
-    requires fit { (listing : List Member) → M.lists members.old listing → FitLimits shape.now.layout (tree_of listing) shape.now.page_size (limits_with limits.now) }
+    requires fit { FitAll M.lists members.old shape.now.layout shape.now.page_size limits.now }
     ensures plans { (listing : List Member) → M.lists members.old listing → Plans shape.now.layout shape.now.page_size shape.now.sequence listing result }
     ensures again { IfOk result (λ plan. IsAgain M.lists M.left M.ends_as members.old members.new) }
 {

@@ -51,9 +51,9 @@ pub(crate) struct Pass<'a> {
 }
 
 impl<'a> Pass<'a> {
-    ghost use Rattle.bolt_tree.specs.Tree.{Tree, end, listing_of, with_bucket, with_value};
+    ghost use Rattle.bolt_tree.specs.Tree.{Tree, with_bucket, with_value};
     ghost use Rattle.bolt_layout.specs.Laid.{Placed};
-    ghost use Rattle.bolt_bulk.specs.Private.{capped, Counts, depth_of, Ends, FitLimits, HasLeft, HasRoot, IsAt, IsFitMember, IsNoDeeper, IsReady, items_by, Level, limits_with, longest_key, onto, Steps, Wanted};
+    ghost use Rattle.bolt_bulk.specs.Private.{BeginsAll, capped, Counts, depth_of, Ends, EntersBucket, HasLeft, HasRoot, IsAt, IsFitMember, IsNoDeeper, IsReady, items_by, LeavesBucket, Level, longest_key, onto, Steps, TakesValue, Wanted};
     ghost use Rattle.bolt_format.specs.ElementLengths.{IsValueLength};
     ghost use Rattle.bolt_format.specs.ElementPlaces.{leaf_view};
     ghost use Rattle.bolt_tree.specs.Listing.{Member};
@@ -66,7 +66,7 @@ impl<'a> Pass<'a> {
         requires { 3 ≤ setup.limit }
         ensures setup { result.setup ≡ setup }
         ensures ready { IsReady result }
-        ensures at { (wanted : Wanted) → wanted.notes ≡ notes → FitLimits wanted.which wanted.tree setup.page_size (limits_with limits.now) → HasLeft wanted result (listing_of wanted.tree) [] }
+        ensures at { BeginsAll limits.now notes setup.page_size result }
     {
         let alloc = setup.alloc;
         Pass {
@@ -133,8 +133,7 @@ impl<'a> Pass<'a> {
         ensures setup { OnOk result (self.new.setup ≡ self.old.setup) }
         ensures ready { OnOk result (IsReady self.new) }
         ensures depth { OnOk result (depth_of self.new ≡ depth_of self.old) }
-        ensures steps { (wanted : Wanted) (after : Tree) (levels : List Level) (put : List Placed) → IsAt wanted self.old levels (with_value key.now value.now after) put
-            → Steps wanted S.Sink sink.old sink.new self.old.setup put (IsAt wanted self.new levels after) result }
+        ensures steps { TakesValue S.Sink sink.old sink.new self.old self.new key.now value.now result }
     {
         let Some(pending) = self.pending else {
             return self.put_value(key, value, sink);
@@ -193,8 +192,7 @@ impl<'a> Pass<'a> {
         ensures setup { OnOk result (self.new.setup ≡ self.old.setup) }
         ensures ready { OnOk result (IsReady self.new) }
         ensures depth { OnOk result (depth_of self.new ≡ depth_of self.old) }
-        ensures steps { (wanted : Wanted) (after : Tree) (levels : List Level) (put : List Placed) → IsAt wanted self.old levels (with_value key.now value.now after) put
-            → Steps wanted S.Sink sink.old sink.new self.old.setup put (IsAt wanted self.new levels after) result }
+        ensures steps { TakesValue S.Sink sink.old sink.new self.old self.new key.now value.now result }
     {
         self.bucket
             .add_value(&self.setup, key, value, &mut self.next, sink)?;
@@ -214,8 +212,7 @@ impl<'a> Pass<'a> {
         ensures setup { OnOk result (self.new.setup ≡ self.old.setup) }
         ensures ready { OnOk result (IsReady self.new) }
         ensures depth { OnOk result (depth_of self.new ≡ depth_of self.old + 1) }
-        ensures steps { (wanted : Wanted) (inside after : Tree) (levels : List Level) (put : List Placed) → IsAt wanted self.old levels (with_bucket key.now sequence inside after) put
-            → Steps wanted S.Sink sink.old sink.new self.old.setup put (IsAt wanted self.new (record { key = key.now; after = after } ∷ levels) inside) result }
+        ensures steps { EntersBucket S.Sink sink.old sink.new self.old self.new key.now sequence result }
     {
         self.open_pending(sink)?;
         self.begin(key, sequence);
@@ -285,8 +282,7 @@ impl<'a> Pass<'a> {
         ensures setup { OnOk result (self.new.setup ≡ self.old.setup) }
         ensures ready { OnOk result (IsReady self.new) }
         ensures depth { OnOk result (depth_of self.new + 1 ≡ depth_of self.old) }
-        ensures steps { (wanted : Wanted) (level : Level) (levels : List Level) (put : List Placed) → IsAt wanted self.old (level ∷ levels) end put
-            → Steps wanted S.Sink sink.old sink.new self.old.setup put (IsAt wanted self.new levels level.after) result }
+        ensures steps { LeavesBucket S.Sink sink.old sink.new self.old self.new result }
     {
         match self.pending {
             Some(pending) => self.end_inline(pending, sink),
@@ -305,8 +301,7 @@ impl<'a> Pass<'a> {
         ensures setup { OnOk result (self.new.setup ≡ self.old.setup) }
         ensures ready { OnOk result (IsReady self.new) }
         ensures depth { OnOk result (depth_of self.new + 1 ≡ depth_of self.old) }
-        ensures steps { (wanted : Wanted) (level : Level) (levels : List Level) (put : List Placed) → IsAt wanted self.old (level ∷ levels) end put
-            → Steps wanted S.Sink sink.old sink.new self.old.setup put (IsAt wanted self.new levels level.after) result }
+        ensures steps { LeavesBucket S.Sink sink.old sink.new self.old self.new result }
     {
         self.bucket.add_inline(
             &self.setup,
@@ -329,8 +324,7 @@ impl<'a> Pass<'a> {
         ensures setup { OnOk result (self.new.setup ≡ self.old.setup) }
         ensures ready { OnOk result (IsReady self.new) }
         ensures depth { OnOk result (depth_of self.new + 1 ≡ depth_of self.old) }
-        ensures steps { (wanted : Wanted) (level : Level) (levels : List Level) (put : List Placed) → IsAt wanted self.old (level ∷ levels) end put
-            → Steps wanted S.Sink sink.old sink.new self.old.setup put (IsAt wanted self.new levels level.after) result }
+        ensures steps { LeavesBucket S.Sink sink.old sink.new self.old self.new result }
     {
         self.noted.bucket_ends(&self.bucket.uppers)?;
         let Some(waiting) = self.waiting.pop() else {

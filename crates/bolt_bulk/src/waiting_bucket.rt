@@ -1,11 +1,6 @@
 //! A bucket that waits while one within it is open.
-ghost use Rattle.std.specs.Prelude.{◌≡◌, ◌+◌, ◌<◌, ◌≤◌, ℕ, IfErr, IfOk, OnErr, OnOk, length};
-ghost use Rattle.bolt_format.specs.Sinks.{AppendsProperPrefix};
-ghost use Rattle.bolt_layout.specs.Layout.{placed_bytes};
-ghost use Rattle.bolt_bulk.specs.Private.{bucket_end_next, bucket_runs, IsOpenBucket, IsWaiting, root_element, runs_end, runs_end_put, runs_push};
-ghost use Rattle.bolt_format.specs.Wrote.{Wrote};
-ghost use Rattle.bolt_bulk.specs.BulkEndings.{bulk_ending};
-ghost use Rattle.bolt_bulk.specs.declared.fault.BulkFault.TheVariants as fault;
+ghost use Rattle.std.specs.Prelude.{◌≡◌, ◌+◌, ◌<◌, ◌≤◌, ℕ, IfOk, OnOk, length};
+ghost use Rattle.bolt_bulk.specs.Private.{bucket_end_next, bucket_runs, IsOpenBucket, IsWaiting, LeavesOut, OnlyAbove, Puts, root_element, root_size, runs_end, runs_end_put, runs_push};
 
 use crate::bucket_runs::BucketRuns;
 use crate::fault::BulkFault;
@@ -40,14 +35,14 @@ impl<'a> WaitingBucket<'a> {
         requires open { IsOpenBucket bucket }
         requires waits { IsWaiting setup.now.page_size self }
         requires next { next.old ≤ setup.now.limit }
-        ensures pages { Wrote S.Sink sink.old sink.new (placed_bytes setup.now.page_size (runs_end_put setup.now.page_size (bucket_runs bucket.entry next.old))) (bulk_ending result) }
-        ensures short { OnErr result (AppendsProperPrefix (S.taken sink.old) (S.taken sink.new) (placed_bytes setup.now.page_size (runs_end_put setup.now.page_size (bucket_runs bucket.entry next.old)))) }
+        ensures pages { Puts S.Sink sink.old sink.new setup.now (runs_end_put setup.now.page_size (bucket_runs bucket.entry next.old)) result }
+        ensures short { LeavesOut S.Sink sink.old sink.new setup.now (runs_end_put setup.now.page_size (bucket_runs bucket.entry next.old)) result }
         ensures runs { IfOk result (λ outer. (before : ℕ) → bucket_runs outer next.new
             ≡ runs_push (bucket_runs self.entry.bucket before) (root_element self.entry.key.now (runs_end setup.now.page_size (bucket_runs bucket.entry next.old)) self.entry.sequence)
-            (32 + length self.entry.key.now) (bucket_end_next setup.now.page_size (bucket_runs bucket.entry next.old))) }
+            (root_size self.entry.key.now) (bucket_end_next setup.now.page_size (bucket_runs bucket.entry next.old))) }
         ensures open { IfOk result (λ outer. IsOpenBucket outer) }
         ensures within { OnOk result (next.new ≤ setup.now.limit) }
-        ensures large { IfErr result (λ e. e ≡ fault.TooLarge → setup.now.limit < bucket_end_next setup.now.page_size (bucket_runs bucket.entry next.old)) }
+        ensures large { OnlyAbove setup.now (bucket_end_next setup.now.page_size (bucket_runs bucket.entry next.old)) result }
     {
         let mut outer = self.bucket;
         outer.reserve()?;

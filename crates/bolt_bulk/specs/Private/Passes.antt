@@ -5,7 +5,7 @@ use Rattle.bolt_format.specs.ElementPlaces.{leaf_view}
 use Rattle.bolt_format.specs.Elements.{BranchElement, LeafElement}
 use Rattle.bolt_format.specs.declared.element.Leaf.{Leaf}
 use Rattle.bolt_tree.specs.Listing.{Member}
-use Rattle.bolt_tree.specs.Tree.{Tree, end, with_bucket, with_value}
+use Rattle.bolt_tree.specs.Tree.{Tree, end, listing_of, tree_of, with_bucket, with_value}
 use Rattle.bolt_layout.specs.Items.{is_inline, items_of, root_of}
 use Rattle.bolt_layout.specs.Laid.{Laid, Placed}
 use Rattle.bolt_layout.specs.Layout.{layout_mark, layout_pages, placed_bytes}
@@ -213,3 +213,27 @@ pub record HasLeft (wanted : Wanted) (pass : Pass) (members : List Member) (put 
   pub left : Tree
   pub at : IsAt wanted pass levels left put
   pub members_are : left_in levels left ≡ members
+
+-- what a pass knows at its beginning, if these limits of rows are right
+abbrev pub BeginsAll : Limits → (notes : Bool) → (page_size : ℕ) → Pass → Type 0
+BeginsAll limits notes page_size pass = (wanted : Wanted) → wanted.notes ≡ notes → FitLimits wanted.which wanted.tree page_size (limits_with limits) → HasLeft wanted pass (listing_of wanted.tree) []
+
+-- the next entry is a value, and is taken
+abbrev pub TakesValue : {S A : Type 0} → Ghosts S → (old new : S) → (before after : Pass) → (key value : List ℕ) → Result A BulkFault → Type 0
+TakesValue sink old new before after key value result = (wanted : Wanted) (rest : Tree) (levels : List Level) (put : List Placed) → IsAt wanted before levels (with_value key value rest) put
+    → Steps wanted sink old new before.setup put (IsAt wanted after levels rest) result
+
+-- the next entry is a bucket, and is entered
+abbrev pub EntersBucket : {S A : Type 0} → Ghosts S → (old new : S) → (before after : Pass) → (key : List ℕ) → (sequence : ℕ) → Result A BulkFault → Type 0
+EntersBucket sink old new before after key sequence result =
+    (wanted : Wanted) (inside rest : Tree) (levels : List Level) (put : List Placed) → IsAt wanted before levels (with_bucket key sequence inside rest) put
+    → Steps wanted sink old new before.setup put (IsAt wanted after (record { key = key; after = rest } ∷ levels) inside) result
+
+-- the innermost bucket has no more entries, and is left
+abbrev pub LeavesBucket : {S A : Type 0} → Ghosts S → (old new : S) → (before after : Pass) → Result A BulkFault → Type 0
+LeavesBucket sink old new before after result = (wanted : Wanted) (level : Level) (levels : List Level) (put : List Placed) → IsAt wanted before (level ∷ levels) end put
+    → Steps wanted sink old new before.setup put (IsAt wanted after levels level.after) result
+
+-- the limits are right for each tree that is listed
+abbrev pub FitAll : {M : Type 0} → (M → List Member → Type 0) → M → Layout → (page_size : ℕ) → Limits → Type 0
+FitAll lists members which page_size limits = (listing : List Member) → lists members listing → FitLimits which (tree_of listing) page_size (limits_with limits)
