@@ -1,5 +1,5 @@
 -- What is open of a bucket: its leaf closes, and then runs above it.
-use Rattle.std.proofs.Common.{◌≡◌, ◌≢◌, ◌∙◌, ℕ, ◌+◌, ◌<◌, ◌≤◌, true, false, List, [], ◌∷◌, ◌++◌, length, OnErr, OnOk, Option, Result, Ok, Err, ap, arith}
+use Rattle.std.proofs.Common.{◌≡◌, ◌≢◌, ◌∙◌, ℕ, ◌+◌, ◌<◌, ◌≤◌, true, false, List, [], ◌∷◌, ◌++◌, length, OnErr, Option, Result, Ok, Err, ap, arith}
 use Rattle.std.proofs.lemmas.Bool.{leb-true, ltb-true}
 use Rattle.std.proofs.lemmas.List.{length-map}
 use Rattle.bolt_format.specs.Elements.{BranchElement, LeafElement}
@@ -81,7 +81,3 @@ end_some page_size runs =
 pub take_runs : (page_size : ℕ) (final made runs : BucketRunsView) (e : LeafElement) (size : ℕ) → final ≡ runs_push made e size made.next → made ≡ runs_room page_size runs e.key size
     → final ≡ runs_taking page_size runs e size
 take_runs page_size final made runs e size p q = p ∙ ap (λ (m : BucketRunsView). runs_push m e size m.next) q
-
-pub on_ok : {A E : Type 0} (P Q : Type 0) (r : Result A E) → (P → Q) → OnOk r P → OnOk r Q
-on_ok P Q (Ok x) f h = f h
-on_ok P Q (Err e) f h = tt

@@ -1,7 +1,7 @@
 -- A bucket's open runs, one after another: the climb over them, and the end of the bucket, at which each closes.
 use Rattle.std.proofs.Common.{◌≡◌, ◌∙◌, ℕ, suc, ◌+◌, ◌<◌, ◌≤◌, true, false, List, [], ◌∷◌, ◌++◌, length, map, take, drop, get_or, set, if◌then◌else◌, zero, add-one, Option, Some, None, option_map, refl, sym, ap, subst, arith, append_assoc}
 use Rattle.std.specs.List.{AllByRecursion}
-use Rattle.std.proofs.lemmas.List.{length-map, drop_more, drop-set-lt, set_split}
+use Rattle.std.proofs.lemmas.List.{length-map, drop_more, drop-set-lt, set_split, take_more_set}
 use Rattle.std.proofs.Math.ListN.{get_or-map}
 use Rattle.std.proofs.lemmas.Option.{none-some, same_Some}
 use Rattle.bolt_format.specs.ElementPlaces.{branch_view}
@@ -50,14 +50,6 @@ left_split page_size key e next run runs left at = grind (arith, put_split, byte
 set_at : {X : Type 0} (xs : List X) (i : ℕ) (x : X) → i < length xs → set xs i x ≡ take i xs ++ x ∷ drop (i + 1) xs
 set_at xs i x h = set_split xs i x h ∙ ap (λ (n : ℕ). take i xs ++ x ∷ drop n xs) (sym (add-one i))
 
-take_set : {X : Type 0} (xs : List X) (i : ℕ) (x : X) → i < length xs → take (suc i) (set xs i x) ≡ take i xs ++ x ∷ []
-take_set [] i x h = absurd (omega arith)
-take_set (y ∷ xs) zero x h = refl
-take_set {X = X} (y ∷ xs) (suc i) x h = ap (λ (t : List X). y ∷ t) (take_set xs i x (omega arith))
-
-take_set_at : {X : Type 0} (xs : List X) (i : ℕ) (x : X) → i < length xs → take (i + 1) (set xs i x) ≡ take i xs ++ x ∷ []
-take_set_at xs i x h = ap (λ (n : ℕ). take n (set xs i x)) (add-one i) ∙ take_set xs i x h
-
 -- the numbers only grow
 pub next_grows : (page_size : ℕ) (key : List ℕ) (e : BranchElement) (next : ℕ) (runs : List RunView) → next ≤ runs_next page_size key e next runs
 next_grows page_size key e next [] = omega arith
@@ -78,7 +70,7 @@ module _ {S : Type 0} {sink : Ghosts S} {page_size : ℕ} {new : Option ℕ} {ke
   -- it closes: its element climbs on
   pub climb_closes : {later : S} → i < length runs → run_stays page_size (run_push run e) (key_size key) ≡ false → Wrote sink mid later (placed_bytes page_size (taking_puts page_size key e next run)) whole
       → Climbing page_size new key e0 n0 runs0 sink old later (set runs i (no_run (one_less run.left) (one_closed run.closed))) (i + 1) (element_up e next run) (next + (1 + overflow_of page_size (run_push run e).size))
-  climb_closes h room one = grind (arith, drop-set-lt, take_set_at, front_more, left_split, append_assoc)
+  climb_closes h room one = grind (arith, drop-set-lt, take_more_set, front_more, left_split, append_assoc)
 
   -- a fault
   pub climb_stops : {later : S} (fault : BulkFault) → Wrote sink mid later (placed_bytes page_size (taking_puts page_size key e next run)) (fault_ending fault)

@@ -2,7 +2,7 @@
 use Rattle.std.proofs.Common.{Global, Vec, subst, ◌≡◌, ℕ, ◌+◌, ◌<◌, ◌≤◌, false, List, [], ◌∷◌, ◌++◌, length, map, refl, sym, ap, arith}
 use Rattle.std.specs.List.{AllByRecursion}
 use Rattle.std.proofs.Math.Seq.{drop-append_seam, take-length}
-use Rattle.std.proofs.lemmas.List.{drop-append-le, length-append, length-drop, length-map, take-append-le}
+use Rattle.std.proofs.lemmas.List.{drop-append-le, length-append, length-drop, length-map, take-append-le, map-append}
 use Rattle.bolt_format.specs.ElementPlaces.{leaf_view}
 use Rattle.bolt_format.specs.Elements.{LeafElement}
 use Rattle.bolt_format.specs.declared.element.Leaf.{Leaf}
@@ -23,10 +23,9 @@ pub record IsRun (inlined : List Leaf) (items : List Held) (size : ℕ) : Type 0
   pub small : size < 4294967296
   pub few : length items < 65535
 
-data_push : (inlined : List Leaf) (xs : List Held) (x : Held)
-    → length (leaf_data (held_views inlined (xs ++ x ∷ []))) ≡ length (leaf_data (held_views inlined xs)) + (length x.key.now + length (stored_value inlined x.stored))
-data_push inlined [] x = omega (arith, length-append x.key.now (stored_value inlined x.stored ++ []), length-append (stored_value inlined x.stored) [])
-data_push inlined (y ∷ xs) x = grind (arith, length-append, data_push inlined xs x)
+pub data_push : (es : List LeafElement) (e : LeafElement) → length (leaf_data (es ++ e ∷ [])) ≡ length (leaf_data es) + (length e.key + length e.value)
+data_push [] e = omega (arith, length-append e.key (e.value ++ []), length-append e.value [])
+data_push (x ∷ es) e = grind (arith, length-append, data_push es e)
 
 pub none_small : (inlined : List Leaf) (xs : List Held) (size : ℕ) → length xs < 1 → size ≡ page_size_of inlined xs → size ≡ 16
 none_small inlined [] size h e = omega arith
@@ -34,7 +33,7 @@ none_small inlined (y ∷ xs) size h e = absurd (omega arith)
 
 pub run_pushed : (size more : ℕ) (inlined : List Leaf) (xs : List Held) (x : Held) → IsRun inlined xs size → IsHeld inlined x → more ≡ 16 + (length x.key.now + length (stored_value inlined x.stored))
     → size + more < 4294967296 → length xs < 65534 → IsRun inlined (xs ++ x ∷ []) (size + more)
-run_pushed size more inlined xs x is held same small few = grind (arith, data_push, length-append, all_append)
+run_pushed size more inlined xs x is held same small few = grind (arith, data_push, map-append, length-append, all_append)
 
 inlined_push : (xs : List Held) (x : Held) → inlined_in (xs ++ x ∷ []) ≡ inlined_in xs + inlined_by x.stored
 inlined_push [] x = omega arith
@@ -99,15 +98,11 @@ pub added_size : (inlined entries run : List Leaf) (first sequence key size : �
     → 16 + (key + size) ≡ 16 + (key + length (inline_value sequence (entries_in run first (length entries))))
 added_size inlined entries run first sequence key size behind at same = grind (arith, entries_at, length-inline_value)
 
-views_push : (run : List Leaf) (items : List Held) (x : Held) → held_views run (items ++ x ∷ []) ≡ held_views run items ++ held_view run x ∷ []
-views_push run [] x = refl
-views_push run (y ∷ items) x = ap (λ (es : List LeafElement). held_view run y ∷ es) (views_push run items x)
-
 -- and these are the elements then.
 pub added_views : (inlined entries run : List Leaf) (first sequence : ℕ) (key : List ℕ) (items more : List Held) (x : Held) → run ≡ inlined ++ entries → first ≡ length inlined → AreHeld inlined items
     → more ≡ items ++ x ∷ [] → held_view run x ≡ inline_element key sequence (entries_in run first (length entries))
     → held_views run more ≡ held_views inlined items ++ inline_element key sequence (map leaf_view entries) ∷ []
-added_views inlined entries run first sequence key items more x behind at all same view = grind (arith, views_more, entries_at, views_push)
+added_views inlined entries run first sequence key items more x behind at all same view = grind (arith, views_more, entries_at, map-append)
 
 -- The items of values are these values,
 pub values_view : (entries : List Leaf) → AllByRecursion (λ (entry : Leaf). entry.is_bucket ≡ false) entries → held_views [] (map value_item entries) ≡ map leaf_view entries

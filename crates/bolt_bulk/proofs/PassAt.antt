@@ -1,4 +1,5 @@
 -- The steps of a pass, over what the code keeps of it.
+use Rattle.std.proofs.lemmas.Result.{IfErr-weaker, on_ok_weaker}
 use Rattle.std.proofs.Common.{Bool, ◌≡◌, ◌∙◌, ℕ, suc, ◌+◌, ◌<◌, true, false, List, [], ◌∷◌, ◌++◌, length, map, max, min, reverse, Option, Some, None, Result, Ok, Err, Vec, Global, refl, sym, ap, subst, arith, append_assoc}
 use Rattle.std.specs.Prelude.{⊤, IfErr, IsErrAnd, OnOk}
 use Rattle.std.specs.List.{AllByRecursion}
@@ -39,17 +40,9 @@ use Rattle.bolt_format.specs.declared.sink.Sink.{Ghosts}
 
 -- ---- results
 
-pub on_ok_map : {A E : Type 0} {P Q : Type 0} (result : Result A E) → OnOk result P → (P → Q) → OnOk result Q
-on_ok_map (Ok x) p f = f p
-on_ok_map (Err e) p f = tt
-
-pub on_ok_both : {A E : Type 0} {P Q R : Type 0} (result : Result A E) → OnOk result P → OnOk result Q → (P → Q → R) → OnOk result R
+on_ok_both : {A E : Type 0} {P Q R : Type 0} (result : Result A E) → OnOk result P → OnOk result Q → (P → Q → R) → OnOk result R
 on_ok_both (Ok x) p q f = f p q
 on_ok_both (Err e) p q f = tt
-
-pub if_err_map : {A E : Type 0} {P Q : E → Type 0} (result : Result A E) → IfErr result P → ((e : E) → P e → Q e) → IfErr result Q
-if_err_map (Ok x) p f = tt
-if_err_map (Err e) p f = f e p
 
 -- ---- one step after another
 
@@ -68,13 +61,13 @@ module _ {S : Type 0} {wanted : Wanted} {sink : Ghosts S} {setup : PageSetup} {o
 
   -- what a step leaves, in other words
   pub steps_map : {A : Type 0} {At Then : List Placed → Type 0} {result : Result A BulkFault} → ((all : List Placed) → At all → Then all) → Steps wanted sink old new setup put At result → Steps wanted sink old new setup put Then result
-  steps_map f steps = grind (arith, on_ok_map)
+  steps_map f steps = grind (arith, on_ok_weaker)
 
   -- a step in the layout
   steps_on : {A : Type 0} {At : List Placed → Type 0} {result : Result A BulkFault} {frames : List Frame} {state : Open} {items : List (Laid LeafElement)} {runs : BucketRunsView} (more : List Placed)
       → IsOn wanted.which setup.page_size wanted.tree frames state items runs (put ++ more) → Wrote sink old new (placed_bytes setup.page_size more) (bulk_ending result)
       → IfErr result (λ e. e ≡ fault.TooLarge → setup.limit < runs.next) → OnOk result (At (put ++ more)) → Steps wanted sink old new setup put At result
-  steps_on {result} more on puts large at = record { more = more; puts = puts; at = at; before = on_before on; large = if_err_map result large (λ e l h. let m = l h in omega (arith, m, on_numbers on)) }
+  steps_on {result} more on puts large at = record { more = more; puts = puts; at = at; before = on_before on; large = IfErr-weaker result _ _ (λ e l h. let m = l h in omega (arith, m, on_numbers on)) large }
 
 -- ---- what is in a pass
 

@@ -1,4 +1,5 @@
 -- The next member of a listing in a pass, the beginning of a pass, and its end.
+use Rattle.bolt_layout.proofs.ListLemmas.{all_append}
 use Rattle.std.specs.Prelude.{IsErrAnd}
 use Rattle.std.proofs.lemmas.Result.{err_from_is_err_and}
 use Rattle.std.proofs.Common.{◌≡◌, ◌≢◌, ◌∙◌, ℕ, suc, true, ◌+◌, ◌≤◌, List, [], ◌∷◌, ◌++◌, length, map, Option, Some, None, Result, Ok, Err, OnErr, refl, sym, ap, subst, arith, append_assoc}
@@ -67,10 +68,6 @@ has_next wanted pass path key item members put has deep last =
     }
 
 -- The members of the listing of a tree that can be stored fit.
-fit_append : (xs ys : List Member) → AllByRecursion IsFitMember xs → AllByRecursion IsFitMember ys → AllByRecursion IsFitMember (xs ++ ys)
-fit_append [] ys a b = b
-fit_append (x ∷ xs) ys a b = (a.0, fit_append xs ys a.1 b)
-
 one_part : (path : Path) (key : Key) → length key ≤ 1073741824 → (1 ≤ length (path ++ key ∷ [])) × (length (last_part (path ++ key ∷ [])) ≤ 1073741824)
 one_part path key short = grind (arith, length-append, last_pushed)
 
@@ -80,7 +77,7 @@ members_fit path (with_value key value after) (key_fits, value_fits, others) =
     let (some, last) = one_part path key key_fits.1 in ((some, last, value_fits), members_fit path after others)
 members_fit path (with_bucket key sequence inside after) (key_fits, sequence_fits, inner, others) =
     let (some, last) = one_part path key key_fits.1 in
-    ((some, last, tt), fit_append (listing_below (path ++ key ∷ []) inside) (listing_below path after) (members_fit (path ++ key ∷ []) inside inner) (members_fit path after others))
+    ((some, last, tt), all_append IsFitMember (listing_below (path ++ key ∷ []) inside) (listing_below path after) (members_fit (path ++ key ∷ []) inside inner) (members_fit path after others))
 
 -- ---- the beginning
 
