@@ -41,8 +41,7 @@ module _ {which : Layout} {page_size : ℕ} {tree : Tree} where
       record {
         under = pass_takes which page_size frames state item items (root_of which page_size tree) on.under;
         kept = runs_pushed _ (making_room page_size state key item.size) (base_in frames) item _ _ _ made.0 (λ n. refl) refl refl (omega arith);
-        put_is = ap (λ (ps : List Placed). ps ++ runs_room_put page_size runs key item.size) on.put_is
-            ∙ (ap (λ (ps : List Placed). all_put frames state ++ ps) made.1 ∙ sym (put_takes page_size frames state item (λ n. refl)));
+        put_is = (let written = put_takes page_size frames state item (λ n. refl) in let before = on.put_is in cc);
       }
 
   -- a bucket with a root page is entered
@@ -56,8 +55,7 @@ module _ {which : Layout} {page_size : ℕ} {tree : Tree} where
       let made = runs_have_room page_size runs state (base_in frames) key (32 + length key) on.kept in (
         pass_enters which page_size known frames state key sequence inner after (root_of which page_size tree) leaves right on.under,
         made.0,
-        ap (λ (ps : List Placed). ps ++ runs_room_put page_size runs key (32 + length key)) on.put_is
-            ∙ (ap (λ (ps : List Placed). all_put frames state ++ ps) made.1 ∙ sym (put_enters page_size known frames state key sequence after)),
+        (let written = put_enters page_size known frames state key sequence after in let before = on.put_is in cc),
       )
 
   -- it ends, and the bucket around it goes on
@@ -74,8 +72,7 @@ module _ {which : Layout} {page_size : ℕ} {tree : Tree} where
       record {
         under = pass_leaves which page_size frame frames state (root_of which page_size tree) on.under;
         kept = runs_pushed outer frame.state (base_in frames) (held_item frame root) _ _ _ waits (λ n. refl) (cc) (omega arith) (omega arith);
-        put_is = ap (λ (ps : List Placed). ps ++ runs_end_put page_size inner) on.put_is
-            ∙ (ap (λ (ps : List Placed). all_put (frame ∷ frames) state ++ ps) ended.0 ∙ sym (put_leaves page_size frame frames state));
+        put_is = (let written = put_leaves page_size frame frames state in let before = on.put_is in cc);
       }
 
 -- Values are taken as long as their page has room.

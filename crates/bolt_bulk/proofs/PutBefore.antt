@@ -26,6 +26,9 @@ pub record Begins (least : ℕ) (front : List Placed) (few : ℕ) (whole : List 
 begins_by : {front middle whole : List Placed} {few between many least fewer others : ℕ} → fewer ≤ least → Begins least front few middle between → Begins others middle between whole many → Begins fewer front few whole many
 begins_by less a b = grind (arith, length-append, append_assoc)
 
+begins_same : {front same whole : List Placed} {least few as_few many : ℕ} → front ≡ same → few ≡ as_few → Begins least front few whole many → Begins least same as_few whole many
+begins_same same numbers a = grind arith
+
 begins_behind : {front whole : List Placed} {few many : ℕ} (before : List Placed) (first : ℕ) → Begins 1 front few whole many → Begins 1 (before ++ front) (first + few) (before ++ whole) (first + many)
 begins_behind before first a = grind (arith, append_assoc)
 
@@ -80,11 +83,7 @@ top_begins which page_size (suc steps) page (other ∷ level) b =
 coming_begins : (which : Layout) (page_size : ℕ) (limits : ℕ → Option ℕ) (uppers : List Upper) (p : Laid BranchElement) (pages all : List (Laid BranchElement)) (root : Laid BranchElement)
     → Comes which page_size limits uppers all (p ∷ pages) root → (b : ℕ)
     → Begins 0 (pages_of (put_in uppers) b ++ p.pages (b + numbers_in uppers)) (numbers_in uppers + p.numbers) (root.pages b) root.numbers
-coming_begins which page_size limits [] p pages all root is b =
-    let same : b ≡ b + 0 = omega arith in
-    let none : p.numbers ≡ 0 + p.numbers = omega arith in
-    let t = subst (λ (r : Laid BranchElement). Begins 0 (p.pages b) p.numbers (r.pages b) r.numbers) is.1.top (top_begins which page_size (length (p ∷ pages)) p pages b) in
-    subst (λ (k : ℕ). Begins 0 (p.pages (b + 0)) k (root.pages b) root.numbers) none (subst (λ (n : ℕ). Begins 0 (p.pages n) p.numbers (root.pages b) root.numbers) same t)
+coming_begins which page_size limits [] p pages all root is b = let top = top_begins which page_size (length (p ∷ pages)) p pages b in let under = is.1.top in grind arith
 coming_begins which page_size limits (upper ∷ uppers) p pages all root is b =
     let others : List (Laid BranchElement) = map (page_over branch_page_view page_size) (branch_cut which page_size size_of all) in
     let run : List (Laid BranchElement) = upper.run in
@@ -100,8 +99,7 @@ coming_begins which page_size limits (upper ∷ uppers) p pages all root is b =
     let c = numbers-append (put_in uppers) run in
     let d = numbers-append run (p ∷ []) in
     let count : numbers_in uppers + numbers_of (run ++ p ∷ []) ≡ numbers_in (upper ∷ uppers) + p.numbers = omega arith in
-    let three = subst (λ (ps : List Placed). Begins 0 ps (numbers_in uppers + numbers_of (run ++ p ∷ [])) (root.pages b) root.numbers) front two in
-    subst (λ (n : ℕ). Begins 0 (pages_of (put_in uppers ++ run) b ++ p.pages (b + numbers_of (put_in uppers ++ run))) n (root.pages b) root.numbers) count three
+    begins_same front count two
 
 -- What was written of an open bucket comes before its root page.
 pub put_before : (which : Layout) (page_size : ℕ) (state : Open) (items : List (Laid LeafElement)) (root : Laid BranchElement) (b : ℕ) → IsOpen which page_size state items root
@@ -128,8 +126,7 @@ stack_before which page_size (frame ∷ frames) root whole front few stack is =
     let count = numbers-append frame.state.run (item ∷ []) in
     let both : own + root.numbers ≡ numbers_in frame.state.uppers + numbers_of (frame.state.run ++ item ∷ []) = omega arith in
     let more : pages_put (pushing frame.state item) b ≡ pages_put frame.state b ++ root.pages (base_in (frame ∷ frames)) = pushed_put frame.state item b in
-    let three = subst (λ (n : ℕ). Begins 1 (pages_put frame.state b ++ front) (own + few) (pages_put (pushing frame.state item) b) n) both
-    (subst (λ (ps : List Placed). Begins 1 (pages_put frame.state b ++ front) (own + few) ps (own + root.numbers)) (sym more) two) in
+    let three : Begins 1 (pages_put frame.state b ++ front) (own + few) (pages_put (pushing frame.state item) b) (numbers_in frame.state.uppers + numbers_of (frame.state.run ++ item ∷ [])) = grind arith in
     let four = stack_before which page_size frames outer whole (pages_put frame.state b ++ front) (own + few) rest (begins_by (omega arith) three one) in
     grind (arith, append_assoc)
 
@@ -139,5 +136,4 @@ pub pass_before : (which : Layout) (page_size : ℕ) (frames : List Frame) (stat
 pass_before which page_size frames state items whole pass =
     let few : ℕ = numbers_in state.uppers + numbers_of state.run in
     let is = stack_before which page_size frames pass.root whole (pages_put state (base_in frames)) few pass.stack (put_before which page_size state items pass.root (base_in frames) pass.current) in
-    let same : base_in frames + few ≡ next_number state (base_in frames) = omega arith in
-    subst (λ (n : ℕ). Begins 1 (all_put frames state) n (whole.pages first_page) (first_page + whole.numbers)) same is
+    grind arith
