@@ -6,7 +6,6 @@ mod ElementPuts
 mod FileLayouts
 mod FilledTexts
 mod FirstPuts
-mod Frames
 mod HeldPasses
 mod HeldPuts
 mod HeldRuns
@@ -26,7 +25,6 @@ mod PassReady
 mod PassSteps
 mod PutBefore
 mod PutsLemmas
-mod RunEnds
 mod RunLemmas
 mod Tables
 mod WalkLeft
