@@ -12,6 +12,7 @@ use bolt_format::{Kind, Sink, SinkFault, page_header};
 
 /// Writes the header of a page with `count` elements, which take `size` bytes with the header.
 /// Returns how many zeros fill the page after them.
+#[tactic(auto, using(crate::proofs::RunLemmas::run_fits))]
 pub(crate) fn put_page_header<S: Sink>(
     setup: &PageSetup,
     number: u64,
