@@ -1,13 +1,12 @@
 -- The open runs that the code keeps of a bucket are those that the pass has open.
-use Rattle.std.proofs.Common.{◌≡◌, ◌∙◌, ℕ, ◌+◌, ◌||◌, Bool, true, false, Option, List, [], ◌∷◌, ◌++◌, length, refl, ap, inl, inr, arith, suc}
+use Rattle.std.proofs.Common.{◌≡◌, ◌∙◌, ℕ, ◌+◌, ◌||◌, Bool, Option, List, [], ◌∷◌, ◌++◌, length, refl, ap, arith, suc}
 use Rattle.std.specs.List.{AllByRecursion}
-use Rattle.std.proofs.lemmas.Bool.{cases_Bool}
 use Rattle.std.proofs.lemmas.List.Sums.{sum_by_push}
 use Rattle.bolt_format.specs.Elements.{BranchElement, LeafElement}
 use Rattle.bolt_layout.specs.Laid.{Laid, Placed, elements_of, first_key, numbers_of}
-use Rattle.bolt_layout.specs.Limits.{is_out, one_less}
+use Rattle.bolt_layout.specs.Limits.{is_out}
 use Rattle.bolt_layout.specs.Levels.{branch_page_view, overflow_of, page_over, run_overflow, leaf_page_view}
-use Rattle.bolt_bulk.specs.Private.{AreOpenRuns, AreUppers, begun_after, bucket_end_next, bucket_limit, BucketRunsView, climb, climb_puts, close, close_puts, element_up, end_of, end_puts, has_room, IsKeyed, IsKeyedItem, IsUpper, kept, key_size, Known, leaf_closed, leaf_key, leaf_page, making_room, no_leaves, no_run, nothing_open, numbers_in, one_closed, Open, own_page, pushed_on, pushing, put_in, room_puts, run_has_room, run_kept, run_key, run_page, run_push, run_stays, runs_climb, runs_close_put, runs_end, runs_end_next, runs_end_put, runs_next, runs_push, runs_put, runs_room, runs_room_put, runs_root, RunView, stays_open, Upper}
+use Rattle.bolt_bulk.specs.Private.{AreOpenRuns, AreUppers, bucket_end_next, bucket_limit, BucketRunsView, climb, climb_puts, close, close_puts, element_up, end_of, end_puts, has_room, IsKeyed, IsKeyedItem, IsUpper, kept, key_size, Known, leaf_closed, leaf_key, leaf_page, making_room, no_leaves, nothing_open, numbers_in, Open, own_page, pushed_on, pushing, put_in, room_puts, run_has_room, run_kept, run_key, run_page, run_push, run_stays, runs_climb, runs_close_put, runs_end, runs_end_next, runs_end_put, runs_next, runs_push, runs_put, runs_room, runs_room_put, runs_root, RunView, stays_open, Upper}
 use Rattle.bolt_layout.proofs.ListLemmas.{all_append}
 use Rattle.bolt_layout.proofs.OverRows.{numbers-append}
 use Rattle.bolt_bulk.specs.declared.limits.BucketLimits.{BucketLimits}
@@ -73,20 +72,10 @@ runs_climbed page_size new key e next b q (kept_run ∷ kept_runs) (upper ∷ up
     let ih = runs_climbed page_size new key (element_up e next kept_run) after b q2 kept_runs uppers are.1 (refl, λ n. refl) over.named over.after in
     let more = numbers-append (put_in uppers) (upper.run ++ q ∷ []) in
     let none = numbers-append (put_in (climb page_size new key q2 uppers)) [] in
-    elim (cases_Bool (stays_open page_size (pushed_on upper q) (key_size key))) [
-      | inl t ↦
-          (let u : run_stays page_size (run_push kept_run e) (key_size key) ≡ true = test ∙ t in
-          let stays = kept_same page_size (run_push kept_run e) (pushed_on upper q) m (key_size key) over.pushed in rw (t, u) ((stays, are.1), refl, omega arith))
-      | inr f ↦
-          (let u : run_stays page_size (run_push kept_run e) (key_size key) ≡ false = test ∙ f in
-          let left : one_less kept_run.left ≡ one_less upper.left = ap one_less are.0.left_is in
-          let here : IsUpper (no_run (one_less kept_run.left) (one_closed kept_run.closed)) (begun_after upper) (b + numbers_in (climb page_size new key q2 uppers)) = record { same = refl; size_is = refl; keyed = tt; left_is = left; closed_is = omega arith } in
-          rw (f, u) (
-            (here, ih.0),
-            ap (λ (p : Placed). p ∷ runs_put page_size key (element_up e next kept_run) after kept_runs) over.own ∙ ap (λ (ps : List Placed). own_page branch_page_view page_size (upper.run ++ q ∷ []) m ∷ ps) ih.1,
-            ih.2 ∙ omega arith,
-          ))
-    ]
+    let stays = kept_same page_size (run_push kept_run e) (pushed_on upper q) m (key_size key) over.pushed in
+    let left = are.0.left_is in
+    let closed = are.0.closed_is in
+    grind arith
 runs_climbed page_size new key e next b q kept_runs uppers are keyed same number = absurd are
 
 pub nothing_runs : (known : Known) (b : ℕ) → AreOpenRuns (record { leaves = no_leaves; uppers = []; limits = known.limits; next = b }) (nothing_open known) b

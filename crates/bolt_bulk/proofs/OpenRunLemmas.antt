@@ -143,10 +143,13 @@ over_put page_size b run q uppers more =
     let own : Placed = own_page branch_page_view page_size (run ++ q ∷ []) m in
     let xs : List Placed = pages_of (put_in uppers) b in
     let ys : List Placed = pages_of (run ++ q ∷ []) m in
-    let regroup : xs ++ ((ys ++ own ∷ []) ++ more) ≡ (xs ++ ys) ++ (own ∷ more) =
-    ap (λ (ps : List Placed). xs ++ ps) (append_assoc ys (own ∷ []) more) ∙ sym (append_assoc xs ys (own ∷ more)) in
-    let joined : xs ++ ys ≡ pages_of (put_in uppers ++ run) b ++ q.pages (b + numbers_of (put_in uppers ++ run)) = sym (pages-append (put_in uppers) (run ++ q ∷ []) b) ∙ pages_push (put_in uppers) run q b in
-    regroup ∙ (ap (λ (ps : List Placed). ps ++ (own ∷ more)) joined ∙ append_assoc (pages_of (put_in uppers ++ run) b) (q.pages (b + numbers_of (put_in uppers ++ run))) (own ∷ more))
+    cc (
+      append_assoc ys (own ∷ []) more,
+      append_assoc xs ys (own ∷ more),
+      pages-append (put_in uppers) (run ++ q ∷ []) b,
+      pages_push (put_in uppers) run q b,
+      append_assoc (pages_of (put_in uppers ++ run) b) (q.pages (b + numbers_of (put_in uppers ++ run))) (own ∷ more),
+    )
 
 pub climb_put : (page_size : ℕ) (new : Option ℕ) (key : List ℕ) (q : Laid BranchElement) (uppers : List Upper) (b : ℕ)
     → pages_of (put_in (climb page_size new key q uppers)) b ≡ pages_of (put_in uppers) b ++ (q.pages (b + numbers_in uppers) ++ climb_puts page_size key q uppers b)

@@ -30,18 +30,12 @@ members-init g c = record {
 pub returns-in_err-item-clause-pages : goal.returns-in_err-item-clause-pages
 returns-in_err-item-clause-pages g c = λ which listing lists fit. ends_early c.from_residual.ensures.1 (steps_failed {B = ⊤} (c.members.invariant.steps which listing lists fit))
 
-pub end_all-requires : goal.end_all-requires
-end_all-requires g c = c.members.invariant.ready
-
 pub returns-clause-pages : goal.returns-clause-pages
 returns-clause-pages g c = λ which listing lists fit.
     let given = rw c.in_default.is at c.in_ok-item.ensures.given in
     let none : g.M.Members.left c.members.members listing ≡ [] = (given listing ((c.members.invariant.same listing).1 lists)).0 in
     ends_after c.members.invariant.setup (c.members.invariant.steps which listing lists fit)
     (λ all mid. c.end_all.ensures _ all (left_same none mid))
-
-pub take_member-requires-clause-ready : goal.take_member-requires-clause-ready
-take_member-requires-clause-ready g c = c.members.invariant.ready
 
 pub take_member-requires-clause-fit : goal.take_member-requires-clause-fit
 take_member-requires-clause-fit g c =

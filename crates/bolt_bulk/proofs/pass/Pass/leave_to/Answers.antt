@@ -7,9 +7,6 @@ use Rattle.bolt_bulk.proofs.pass.Pass.leave_to.Goals as goal
 pub levels-init : goal.levels-init
 levels-init g c = grind (arith, steps_begun)
 
-pub leave_bucket-requires-clause-ready : goal.leave_bucket-requires-clause-ready
-leave_bucket-requires-clause-ready g c = c.levels.invariant.ready
-
 pub returns-in_err-leave_bucket-clause-steps : goal.returns-in_err-leave_bucket-clause-steps
 returns-in_err-leave_bucket-clause-steps g c = λ wanted members put has shallow.
     steps_then c.levels.invariant.setup (c.levels.invariant.steps wanted members put has shallow)
@@ -28,12 +25,3 @@ levels-preserved g c = record {
       (λ all mid. let ended = has_ended c.args.depth wanted c.levels.self members all mid shallow c.requires.some (omega arith) in
       steps_map (λ then at. left_out wanted c.leave_bucket.new.self ended.level ended.levels members then ended.members_are at) (c.in_ok-leave_bucket.ensures.steps wanted ended.level ended.levels all ended.at));
 }
-
-pub returns-clause-setup : goal.returns-clause-setup
-returns-clause-setup g c = c.levels.invariant.setup
-
-pub returns-clause-ready : goal.returns-clause-ready
-returns-clause-ready g c = c.levels.invariant.ready
-
-pub returns-clause-steps : goal.returns-clause-steps
-returns-clause-steps g c = λ wanted members put has shallow. c.levels.invariant.steps wanted members put has shallow
