@@ -51,9 +51,6 @@ returns-in_err-take_member-clause-pages g c = λ which listing lists fit.
     ends_early c.from_residual-in_err-take_member.ensures.1 (steps_then {B = ⊤} c.members.invariant.setup (c.members.invariant.steps which listing lists fit)
     (λ all mid. c.in_err-take_member.ensures.steps _ (g.M.Members.left c.next.new.self listing) all (left_same next mid)))
 
-pub members-smaller : goal.members-smaller
-members-smaller g c = rw c.in-Some.is at c.in_ok-item.ensures.fewer
-
 pub members-preserved : goal.members-preserved
 members-preserved g c =
     let given = rw (c.in-Some.is, sym c.path.ensures) at c.in_ok-item.ensures.given in

@@ -1,17 +1,8 @@
 -- What is added is the next header, and the place of its key has room in 32 bits.
 use Rattle.std.proofs.Common.{arith, refl}
 use Rattle.bolt_bulk.proofs.BranchPuts.{branch_packed, no_branch}
-use Rattle.bolt_bulk.proofs.ElementPuts.{heads_all, heads_more, heads_next, heads_none, heads_stop}
+use Rattle.bolt_bulk.proofs.ElementPuts.{heads_all, heads_more, heads_stop}
 use Rattle.bolt_bulk.proofs.branch_page.put_headers.Goals as goal
-
-pub loop-branch-init : goal.loop-branch-init
-loop-branch-init g c = heads_none c.new-headers.ensures.empty c.new-headers.ensures.pos
-
-pub put_branch-requires-clause-low : goal.put_branch-requires-clause-low
-put_branch-requires-clause-low g c = (heads_next branch_packed c.loop-branch.invariant no_branch c.loop-branch-test.true).low
-
-pub put_branch-requires-clause-small : goal.put_branch-requires-clause-small
-put_branch-requires-clause-small g c = let fits = (heads_next branch_packed c.loop-branch.invariant no_branch c.loop-branch-test.true).fits in omega arith
 
 pub loop-branch-preserved : goal.loop-branch-preserved
 loop-branch-preserved g c = heads_more branch_packed c.loop-branch.invariant no_branch _ c.loop-branch-test.true c.in_ok-put_branch.ensures.pos refl c.in_ok-put_branch.ensures.adds

@@ -2,19 +2,10 @@
 use Rattle.std.proofs.Common.{ℕ, arith, refl}
 use Rattle.std.proofs.lemmas.List.{length-append}
 use Rattle.bolt_format.specs.ElementPlaces.{leaf_view}
-use Rattle.bolt_bulk.proofs.ElementPuts.{heads_all, heads_more, heads_next, heads_none, heads_stop}
+use Rattle.bolt_bulk.proofs.ElementPuts.{heads_all, heads_more, heads_stop}
 use Rattle.bolt_bulk.proofs.HeldPuts.{no_entry}
 use Rattle.bolt_bulk.proofs.LeafPuts.{leaf_packed}
 use Rattle.bolt_bulk.proofs.bucket_value.put_headers.Goals as goal
-
-pub loop-entry-init : goal.loop-entry-init
-loop-entry-init g c = heads_none c.new-headers.ensures.empty c.new-headers.ensures.pos
-
-pub put_leaf-requires-clause-low : goal.put_leaf-requires-clause-low
-put_leaf-requires-clause-low g c = (heads_next (leaf_packed leaf_view) c.loop-entry.invariant no_entry c.loop-entry-test.true).low
-
-pub put_leaf-requires-clause-small : goal.put_leaf-requires-clause-small
-put_leaf-requires-clause-small g c = let fits = (heads_next (leaf_packed leaf_view) c.loop-entry.invariant no_entry c.loop-entry-test.true).fits in omega (arith, length-append {A = ℕ})
 
 pub loop-entry-preserved : goal.loop-entry-preserved
 loop-entry-preserved g c = heads_more (leaf_packed leaf_view) c.loop-entry.invariant no_entry _ c.loop-entry-test.true (omega (arith, length-append {A = ℕ}, c.in_ok-put_leaf.ensures.pos)) refl c.in_ok-put_leaf.ensures.adds

@@ -4,16 +4,10 @@ use Rattle.std.proofs.lemmas.List.{length-append}
 use Rattle.bolt_format.specs.Written.{leaf_header}
 use Rattle.bolt_bulk.specs.declared.held.Held.{Held}
 use Rattle.bolt_bulk.specs.Private.{held_view}
-use Rattle.bolt_bulk.proofs.ElementPuts.{heads_all, heads_more, heads_next, heads_none, heads_stop}
+use Rattle.bolt_bulk.proofs.ElementPuts.{heads_all, heads_more, heads_next, heads_stop}
 use Rattle.bolt_bulk.proofs.HeldPuts.{held_at, no_held}
 use Rattle.bolt_bulk.proofs.LeafPuts.{leaf_packed}
 use Rattle.bolt_bulk.proofs.leaf_page.put_headers.Goals as goal
-
-pub loop-held-init : goal.loop-held-init
-loop-held-init g c = heads_none c.new-headers.ensures.empty c.new-headers.ensures.pos
-
-pub put_leaf-requires-clause-low : goal.put_leaf-requires-clause-low
-put_leaf-requires-clause-low g c = (heads_next (leaf_packed (held_view c.args.inlined.now)) c.loop-held.invariant no_held c.loop-held-test.true).low
 
 pub put_leaf-requires-clause-small : goal.put_leaf-requires-clause-small
 put_leaf-requires-clause-small g c =

@@ -13,9 +13,6 @@ returns-in_err-leave_bucket-clause-steps g c = λ wanted members put has shallow
     (λ all mid. let ended = has_ended c.args.depth wanted c.levels.self members all mid shallow c.requires.some (omega arith) in
     steps_stop c.from_residual.ensures.1 (c.in_err-leave_bucket.ensures.steps wanted ended.level ended.levels all ended.at))
 
-pub levels-smaller : goal.levels-smaller
-levels-smaller g c = let fewer = c.in_ok-leave_bucket.ensures.depth in omega arith
-
 pub levels-preserved : goal.levels-preserved
 levels-preserved g c = record {
   setup = c.in_ok-leave_bucket.ensures.setup ∙ c.levels.invariant.setup;

@@ -7,11 +7,8 @@ use Rattle.bolt_format.specs.Elements.{BranchElement}
 use Rattle.bolt_layout.specs.Levels.{overflow_of}
 use Rattle.bolt_layout.specs.Limits.{one_less}
 use Rattle.bolt_bulk.specs.Private.{key_size, no_run, one_closed, run_kept, run_push, run_view}
-use Rattle.bolt_bulk.proofs.ClimbLemmas.{climb_begins, climb_closes, climb_large, climb_stays, climb_stops, no_room_by, room_by, run_at, standing_set, up_key}
+use Rattle.bolt_bulk.proofs.ClimbLemmas.{climb_closes, climb_large, climb_stays, climb_stops, no_room_by, room_by, run_at, standing_set, up_key}
 use Rattle.bolt_bulk.proofs.upper_runs.UpperRuns.climb.Goals as goal
-
-pub loop-i-init : goal.loop-i-init
-loop-i-init g c = record { climbs = climb_begins; standing = c.requires.standing; count = refl; short = c.requires.closed; within = c.requires.next; limits = refl }
 
 pub take_page-requires-clause-standing : goal.take_page-requires-clause-standing
 take_page-requires-clause-standing g c = (run_at _ c.loop-i.self.runs.items c.loop-i.i c.index_mut.result.now c.loop-i-test.true (omega arith) c.index_mut.ensures.value c.loop-i.invariant.standing).standing
