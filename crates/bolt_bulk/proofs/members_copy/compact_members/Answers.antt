@@ -87,3 +87,6 @@ returns-clause-held g c = λ listing lists.
     let fits = planned.fits in
     let size = ap (λ (n : ℕ). layout_held c.args.shape.now.layout n (tree_of listing)) c.setup_of-setup.ensures.page_size in
     let held = ends.held in omega (arith, small, fits, size, held)
+
+pub returns-clause-bounded : goal.returns-clause-bounded
+returns-clause-bounded g c = grind (arith, returns-clause-held)
