@@ -8,7 +8,7 @@ use Rattle.bolt_tree.specs.Tree.{Tree, end}
 use Rattle.bolt_layout.specs.Laid.{Placed}
 use Rattle.bolt_bulk.specs.Private.{AreWaiting, depth_of, Frame, HasLeft, IsAt, IsNoDeeper, IsPending, left_in, Level, pending_depth, Steps, Wanted}
 use Rattle.bolt_bulk.specs.declared.pass.Pass.{Pass}
-use Rattle.bolt_bulk.specs.declared.pending_bucket.PendingBucket.{PendingBucket}
+use Rattle.bolt_bulk.specs.declared.waiting_bucket.PendingBucket.{PendingBucket}
 use Rattle.bolt_bulk.specs.declared.waiting_bucket.WaitingBucket.{WaitingBucket}
 use Rattle.bolt_bulk.proofs.Members.{none_at_all, none_further}
 use Rattle.bolt_bulk.proofs.PassAt.{steps_none}

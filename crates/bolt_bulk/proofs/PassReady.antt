@@ -8,7 +8,7 @@ use Rattle.bolt_tree.specs.Tree.{Tree, with_value}
 use Rattle.bolt_layout.specs.declared.layout.Layout.{Layout}
 use Rattle.bolt_layout.specs.PageBytes.{inline_value}
 use Rattle.bolt_bulk.specs.Private.{HasRoot, IsPendingSmall, IsSmall, onto}
-use Rattle.bolt_bulk.specs.declared.pending_bucket.PendingBucket.{PendingBucket}
+use Rattle.bolt_bulk.specs.declared.waiting_bucket.PendingBucket.{PendingBucket}
 use Rattle.bolt_bulk.proofs.Ontos.{value_too_large}
 use Rattle.bolt_bulk.proofs.HeldRuns.{data_push, length-inline_value}
 use Rattle.bolt_layout.proofs.ListLemmas.{all_append}

@@ -23,7 +23,7 @@ use Rattle.bolt_layout.proofs.Tops.{shorter}
 use Rattle.bolt_bulk.specs.declared.branch_run.BranchRun.{BranchRun}
 use Rattle.bolt_bulk.specs.declared.limits.BucketLimits.{BucketLimits}
 use Rattle.bolt_bulk.specs.declared.limits.Limits.{Limits}
-use Rattle.bolt_bulk.specs.declared.noted_limits.NotedLimits.{NotedLimits}
+use Rattle.bolt_bulk.specs.declared.limits.NotedLimits.{NotedLimits}
 use Rattle.bolt_bulk.specs.declared.bucket_runs.BucketRuns.{BucketRuns}
 use Rattle.bolt_bulk.proofs.HeldSteps.{run_length}
 

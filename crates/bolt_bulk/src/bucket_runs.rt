@@ -12,9 +12,8 @@ use crate::held::{Held, Stored};
 use crate::leaf_run::LeafRun;
 use crate::limits::BucketLimits;
 use crate::page_setup::PageSetup;
-use crate::pending_bucket::PendingBucket;
 use crate::upper_runs::UpperRuns;
-use crate::waiting_bucket::{ROOT_ITEM_LEN, WaitingBucket};
+use crate::waiting_bucket::{PendingBucket, ROOT_ITEM_LEN, WaitingBucket};
 use bolt_format::{ELEMENT_LEN, HEAD_LEN, HEADER_LEN, Leaf, Sink};
 use std::alloc::Global;
 

@@ -5,9 +5,9 @@ ghost use Rattle.bolt_bulk.specs.Private.{first_pages};
 ghost use Rattle.bolt_format.specs.Endings.{page_ending};
 ghost use Rattle.bolt_format.specs.Wrote.{Wrote};
 
+use crate::copy::Shape;
 use crate::outcome::Plan;
 use crate::pieces::{put, put_zeros};
-use crate::shape::Shape;
 use bolt_format::{Kind, Meta, Sink, SinkFault, meta_page, page_header};
 
 /// The page number of the freelist.

@@ -4,11 +4,9 @@ ghost use Rattle.std.specs.Prelude.{[], ◌≡◌, ◌+◌, ◌/◌, ◌<◌, �
 
 use crate::bucket_runs::BucketRuns;
 use crate::fault::BulkFault;
-use crate::limits::{BucketLimits, Limits};
-use crate::noted_limits::NotedLimits;
+use crate::limits::{BucketLimits, Limits, NotedLimits};
 use crate::page_setup::{MAX_ITEMS, PageSetup};
-use crate::pending_bucket::PendingBucket;
-use crate::waiting_bucket::WaitingBucket;
+use crate::waiting_bucket::{PendingBucket, WaitingBucket};
 use bolt_format::{ELEMENT_LEN, HEADER_LEN, Leaf, Sink};
 use bolt_tree::Item;
 use std::mem;

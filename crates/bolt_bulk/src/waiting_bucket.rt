@@ -1,4 +1,4 @@
-//! A bucket that waits while one within it is open.
+//! A bucket that waits while one within it is open, and one that may turn out to be inline.
 ghost use Rattle.std.specs.Prelude.{◌≡◌, ◌+◌, ◌<◌, ◌≤◌, ℕ, IfOk, OnOk, length};
 ghost use Rattle.bolt_bulk.specs.Private.{bucket_end_next, bucket_runs, IsOpenBucket, IsWaiting, LeavesOut, OnlyAbove, Puts, root_element, root_size, runs_end, runs_end_put, runs_push};
 
@@ -56,4 +56,14 @@ impl<'a> WaitingBucket<'a> {
         outer.push_reserved(Held { key, stored }, ROOT_ITEM_LEN + key.len());
         Ok(outer)
     }
+}
+
+/// A bucket that has only values so far, which take at most a quarter of a page. If it ends so, it
+/// is inline; if it has more, it has a root page.
+#[derive(Clone, Copy)]
+pub(crate) struct PendingBucket<'a> {
+    pub key: &'a [u8],
+    pub sequence: u64,
+    /// The size of the leaf page over its entries so far.
+    pub size: usize,
 }

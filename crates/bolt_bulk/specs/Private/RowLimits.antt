@@ -6,7 +6,7 @@ use Rattle.std.specs.declared.cmp.Ordering.{Ordering}
 use Rattle.bolt_bulk.specs.declared.branch_run.BranchRun.{BranchRun}
 use Rattle.bolt_bulk.specs.declared.limits.BucketLimits.{BucketLimits}
 use Rattle.bolt_bulk.specs.declared.limits.Limits.{Limits}
-use Rattle.bolt_bulk.specs.declared.noted_limits.NotedLimits.{NotedLimits}
+use Rattle.bolt_bulk.specs.declared.limits.NotedLimits.{NotedLimits}
 use Rattle.bolt_bulk.specs.declared.upper_runs.UpperRuns.{UpperRuns}
 use Rattle.bolt_layout.specs.Limits.{limit_at, limits_from_ends}
 

@@ -2,7 +2,7 @@
 use Rattle.std.specs.Prelude.{ℕ, ◌+◌, ◌*◌, true, false, List, length, map}
 use Rattle.bolt_format.specs.ElementPlaces.{leaf_view}
 use Rattle.bolt_format.specs.declared.element.Leaf.{Leaf}
-use Rattle.bolt_bulk.specs.declared.pending_bucket.PendingBucket.{PendingBucket}
+use Rattle.bolt_bulk.specs.declared.waiting_bucket.PendingBucket.{PendingBucket}
 use Rattle.bolt_format.specs.Elements.{LeafElement}
 use Rattle.bolt_layout.specs.PageBytes.{inline_value, leaf_data}
 use Rattle.bolt_format.specs.Written.{head_bytes}

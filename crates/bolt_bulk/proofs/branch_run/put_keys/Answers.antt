@@ -1,7 +1,7 @@
 -- The next key is not put whole.
 use Rattle.bolt_bulk.proofs.BranchPuts.{keys_left}
 use Rattle.bolt_format.proofs.WroteFronts.{front_return}
-use Rattle.bolt_bulk.proofs.branch_page.put_keys.Goals as goal
+use Rattle.bolt_bulk.proofs.branch_run.put_keys.Goals as goal
 
 pub returns-in_err-put : goal.returns-in_err-put
 returns-in_err-put g c =

@@ -5,7 +5,7 @@ use Rattle.bolt_format.specs.ElementPlaces.{leaf_view}
 use Rattle.bolt_bulk.proofs.ElementPuts.{heads_all, heads_more, heads_stop}
 use Rattle.bolt_bulk.proofs.HeldPuts.{no_entry}
 use Rattle.bolt_bulk.proofs.LeafPuts.{leaf_packed}
-use Rattle.bolt_bulk.proofs.bucket_value.put_headers.Goals as goal
+use Rattle.bolt_bulk.proofs.held.put_headers.Goals as goal
 
 pub loop-entry-preserved : goal.loop-entry-preserved
 loop-entry-preserved g c = heads_more (leaf_packed leaf_view) c.loop-entry.invariant no_entry _ c.loop-entry-test.true (omega (arith, length-append {A = ℕ}, c.in_ok-put_leaf.ensures.pos)) refl c.in_ok-put_leaf.ensures.adds

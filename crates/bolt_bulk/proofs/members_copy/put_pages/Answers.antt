@@ -11,7 +11,7 @@ use Rattle.bolt_bulk.proofs.PassEnds.{ends_after, ends_early}
 use Rattle.bolt_bulk.proofs.PassLeft.{left_same, steps_begun}
 use Rattle.bolt_bulk.proofs.FileLayouts.{listing_is_back}
 use Rattle.bolt_bulk.proofs.WalkLeft.{first_fits, others_fit, whole_fits}
-use Rattle.bolt_bulk.proofs.all_pages.put_pages.Goals as goal
+use Rattle.bolt_bulk.proofs.members_copy.put_pages.Goals as goal
 
 pub members-init : goal.members-init
 members-init g c = record {

@@ -2,7 +2,7 @@
 use Rattle.std.proofs.Common.{arith, refl}
 use Rattle.bolt_bulk.proofs.BranchPuts.{branch_packed, no_branch}
 use Rattle.bolt_bulk.proofs.ElementPuts.{heads_all, heads_more, heads_stop}
-use Rattle.bolt_bulk.proofs.branch_page.put_headers.Goals as goal
+use Rattle.bolt_bulk.proofs.branch_run.put_headers.Goals as goal
 
 pub loop-branch-preserved : goal.loop-branch-preserved
 loop-branch-preserved g c = heads_more branch_packed c.loop-branch.invariant no_branch _ c.loop-branch-test.true c.in_ok-put_branch.ensures.pos refl c.in_ok-put_branch.ensures.adds

@@ -7,7 +7,7 @@ use Rattle.bolt_tree.specs.Listing.{Member}
 use Rattle.bolt_tree.specs.Tree.{tree_of}
 use Rattle.bolt_layout.specs.Held.{most_held}
 use Rattle.bolt_layout.specs.Layout.{layout_held}
-use Rattle.bolt_bulk.proofs.file_laws.a_listing_has_one_layout.Goals as goal
+use Rattle.bolt_bulk.proofs.laws.a_listing_has_one_layout.Goals as goal
 
 pub returns-clause-length : goal.returns-clause-length
 returns-clause-length c = λ which listing one. ∥∥₁_elim one (Prim.hlevel props) (λ is. c.layout_has_length.ensures which c.args.page_size (tree_of listing) c.args.sequence c.requires is.storable)

@@ -5,7 +5,7 @@ use Rattle.bolt_tree.specs.Listing.{Member}
 use Rattle.bolt_tree.specs.Tree.{tree_of}
 use Rattle.bolt_bulk.specs.Private.{FitLimits, HasLeft, IsFitMember, IsReady, limits_with, Steps}
 use Rattle.bolt_layout.specs.declared.layout.Layout.{Layout}
-use Rattle.bolt_bulk.proofs.all_pages.put_pages.Given as goal
+use Rattle.bolt_bulk.proofs.members_copy.put_pages.Given as goal
 
 -- the members that are left are left to the pass, which has put pages of the layout
 abbrev pub invariant-members : goal.invariant-members

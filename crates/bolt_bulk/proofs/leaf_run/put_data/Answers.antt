@@ -1,7 +1,7 @@
 -- The next item is not put whole.
 use Rattle.bolt_bulk.proofs.HeldPuts.{held_left}
 use Rattle.bolt_format.proofs.WroteFronts.{front_return}
-use Rattle.bolt_bulk.proofs.leaf_page.put_data.Goals as goal
+use Rattle.bolt_bulk.proofs.leaf_run.put_data.Goals as goal
 
 pub returns-in_err-put_item : goal.returns-in_err-put_item
 returns-in_err-put_item g c =

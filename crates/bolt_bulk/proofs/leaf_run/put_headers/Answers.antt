@@ -7,7 +7,7 @@ use Rattle.bolt_bulk.specs.Private.{held_view}
 use Rattle.bolt_bulk.proofs.ElementPuts.{heads_all, heads_more, heads_next, heads_stop}
 use Rattle.bolt_bulk.proofs.HeldPuts.{held_at, no_held}
 use Rattle.bolt_bulk.proofs.LeafPuts.{leaf_packed}
-use Rattle.bolt_bulk.proofs.leaf_page.put_headers.Goals as goal
+use Rattle.bolt_bulk.proofs.leaf_run.put_headers.Goals as goal
 
 pub put_leaf-requires-clause-small : goal.put_leaf-requires-clause-small
 put_leaf-requires-clause-small g c =

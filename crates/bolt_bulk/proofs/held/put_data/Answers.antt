@@ -1,7 +1,7 @@
 -- The next entry is not put whole.
 use Rattle.bolt_bulk.proofs.HeldPuts.{entries_left}
 use Rattle.bolt_format.proofs.WroteFronts.{front_return}
-use Rattle.bolt_bulk.proofs.bucket_value.put_data.Goals as goal
+use Rattle.bolt_bulk.proofs.held.put_data.Goals as goal
 
 pub returns-in_err-put_entry : goal.returns-in_err-put_entry
 returns-in_err-put_entry g c =
