@@ -10,12 +10,11 @@ use Rattle.bolt_format.specs.Written.{branch_header, header_bytes}
 use Rattle.bolt_layout.proofs.BranchLemmas.{length-branch_headers}
 use Rattle.bolt_format.proofs.WrittenHeaders.{length-header_bytes}
 use Rattle.bolt_format.specs.declared.kind.Kind.TheVariants as kind
-use Rattle.bolt_bulk.specs.Private.BranchRuns.{IsSizedRun, run_view}
-use Rattle.bolt_bulk.specs.Private.RunViews.{run_page}
+use Rattle.bolt_bulk.specs.Private.{IsSizedRun, run_page, run_view}
 use Rattle.bolt_bulk.specs.declared.branch_run.BranchRun.{BranchRun}
 use Rattle.bolt_format.specs.Endings.{Ending}
 use Rattle.bolt_format.specs.Wrote.{Wrote}
-use Rattle.bolt_bulk.proofs.ElementPuts.{HeadsPut, data_of, headers_of, heads_next}
+use Rattle.bolt_bulk.proofs.ElementPuts.{ArePacked}
 use Rattle.bolt_bulk.proofs.FilledTexts.{zeros, filled_pieces}
 use Rattle.bolt_format.specs.declared.sink.Sink.{Ghosts}
 
@@ -28,13 +27,14 @@ head_of pos x = branch_header pos (length x.key.now) x.child
 abbrev pub key_of : Branch → List ℕ
 key_of x = x.key.now
 
-pub branch_heads : (xs : List Branch) (before : ℕ) → headers_of head_of key_of before xs ≡ branch_headers before (map branch_view xs)
-branch_heads [] before = refl
-branch_heads (x ∷ xs) before = grind (arith, length-map, headers_of, branch_heads xs (before + length x.key.now))
+abbrev pub heads_of : ℕ → List Branch → List ℕ
+heads_of before xs = branch_headers before (map branch_view xs)
 
-pub branch_datum : (xs : List Branch) → data_of key_of xs ≡ branch_data (map branch_view xs)
-branch_datum [] = refl
-branch_datum (x ∷ xs) = ap (λ (t : List ℕ). x.key.now ++ t) (branch_datum xs)
+abbrev pub keys_of : List Branch → List ℕ
+keys_of xs = branch_data (map branch_view xs)
+
+pub branch_packed : ArePacked heads_of keys_of head_of key_of
+branch_packed = record { none = λ before. refl; first = λ before x xs. grind (arith, length-map); more = λ x xs. refl }
 
 -- the keys that are left, from number i on
 pub keys_left : (xs : List Branch) (i : ℕ) → i < length xs → branch_data (map branch_view (drop i xs)) ≡ (get_or xs i no_branch).key.now ++ branch_data (map branch_view (drop (i + 1) xs))
@@ -50,15 +50,3 @@ pub branch_run_wrote : {S : Type 0} {sink : Ghosts S} {old new : S} (page_size n
     → Wrote sink old new (placed_bytes page_size (run_page page_size (run_view run) number ∷ [])) end
 unfolding page_bytes branch_bytes
 branch_run_wrote page_size number run sized wrote = grind (arith, length-map, length-header_bytes, length-branch_headers, zeros, filled_pieces, append-nil)
-
--- what is known of the next header, if all headers and keys are small
-pub record NextBranch (x : Branch) (pos : ℕ) : Type 0 where
-  pub low : 16 ≤ pos
-  pub fits : pos + length x.key.now < 4294967296
-
-pub next_branch : {S : Type 0} {sink : Ghosts S} (old new : S) (buffer : List ℕ) (xs : List Branch) (i pos : ℕ) → i < length xs
-    → HeadsPut head_of key_of sink old new buffer xs i pos → 16 * length xs + length (branch_data (map branch_view xs)) < 4294967296 → NextBranch (get_or xs i no_branch) pos
-next_branch old new buffer xs i pos h put small =
-    let next = heads_next old new buffer xs i pos no_branch (get_or xs i no_branch) h refl put in
-    let same = ap (λ (t : List ℕ). length t) (branch_datum xs) in
-    let fits = next.fits in record { low = next.low; fits = omega arith }

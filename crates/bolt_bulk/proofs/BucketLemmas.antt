@@ -1,23 +1,18 @@
 -- What is open of a bucket: its leaf closes, and then runs above it.
-use Rattle.std.proofs.Common.{◌≡◌, ◌≢◌, ◌∙◌, ℕ, ◌+◌, ◌<◌, ◌≤◌, true, false, List, [], ◌∷◌, ◌++◌, length, OnErr, OnOk, Option, Result, Ok, Err, refl, sym, ap, arith}
+use Rattle.std.proofs.Common.{◌≡◌, ◌≢◌, ◌∙◌, ℕ, ◌+◌, ◌<◌, ◌≤◌, true, false, List, [], ◌∷◌, ◌++◌, length, OnErr, Option, Result, Ok, Err, ap, arith}
 use Rattle.std.proofs.lemmas.Bool.{leb-true, ltb-true}
 use Rattle.std.proofs.lemmas.List.{length-map}
 use Rattle.bolt_format.specs.Elements.{BranchElement, LeafElement}
 use Rattle.bolt_format.specs.Sinks.{AppendsProperPrefix}
 use Rattle.bolt_format.specs.declared.element.Leaf.{Leaf}
-use Rattle.bolt_layout.specs.Laid.{Placed}
 use Rattle.bolt_layout.specs.Layout.{placed_bytes}
 use Rattle.bolt_layout.specs.Levels.{overflow_of}
 use Rattle.bolt_layout.specs.PageBytes.{page_bytes}
-use Rattle.bolt_bulk.specs.Private.HeldItems.{AreHeld, held_views}
-use Rattle.bolt_bulk.specs.Private.OpenBuckets.{HasRoomFor, IsLeafRun, bucket_end_next, leaf_closed, leaves_of}
-use Rattle.bolt_bulk.specs.Private.RunViews.{BucketRunsView, leaf_key, leaf_page, leaves_have_room, runs_close_put, runs_end_put, runs_push, runs_put, runs_room, runs_room_put}
-use Rattle.bolt_bulk.specs.Private.TakenItems.{runs_taking}
+use Rattle.bolt_bulk.specs.Private.{AreHeld, bucket_end_next, BucketRunsView, HasRoomFor, held_views, IsLeafRun, leaf_closed, leaf_key, leaf_page, leaves_have_room, leaves_of, runs_close_put, runs_end_put, runs_push, runs_put, runs_room, runs_room_put, runs_taking}
 use Rattle.bolt_bulk.specs.declared.fault.BulkFault.{BulkFault}
 use Rattle.bolt_bulk.specs.declared.held.Held.{Held}
 use Rattle.bolt_bulk.specs.declared.leaf_run.LeafRun.{LeafRun}
-use Rattle.bolt_bulk.proofs.ClimbLemmas.{next_grows}
-use Rattle.bolt_bulk.proofs.CloseLemmas.{end_grows}
+use Rattle.bolt_bulk.proofs.ClimbLemmas.{next_grows, end_grows}
 use Rattle.bolt_bulk.proofs.HeldRuns.{none_small}
 use Rattle.bolt_bulk.proofs.RunLemmas.{few_or_fits}
 use Rattle.bolt_bulk.proofs.PutsLemmas.{proper_same, pages_some, short_then}
@@ -49,11 +44,7 @@ pub room_made : {S : Type 0} {sink : Ghosts S} (page_size : ℕ) (runs : BucketR
     → Wrote sink old mid (page_bytes page_size runs.next (leaf_page page_size runs.leaves runs.next).view) whole
     → Wrote sink mid new (placed_bytes page_size (runs_put page_size key closed after runs.uppers)) end
     → Wrote sink old new (placed_bytes page_size (runs_room_put page_size runs key size)) end
-room_made page_size runs key size old mid new closed after none same number one two =
-    let text : runs_room_put page_size runs key size ≡ leaf_page page_size runs.leaves runs.next ∷ runs_put page_size key (leaf_closed runs.leaves runs.next) (runs.next + (1 + overflow_of page_size runs.leaves.size)) runs.uppers = rw none refl in
-    let put : runs_put page_size key closed after runs.uppers ≡ runs_put page_size key (leaf_closed runs.leaves runs.next) (runs.next + (1 + overflow_of page_size runs.leaves.size)) runs.uppers =
-    ap (λ (e : BranchElement). runs_put page_size key e after runs.uppers) same ∙ ap (λ (n : ℕ). runs_put page_size key (leaf_closed runs.leaves runs.next) n runs.uppers) number in
-    Wrote-same (ap (λ (ps : List Placed). page_bytes page_size runs.next (leaf_page page_size runs.leaves runs.next).view ++ placed_bytes page_size ps) put ∙ ap (λ (ps : List Placed). placed_bytes page_size ps) (sym text)) (Wrote-then one two)
+room_made page_size runs key size old mid new closed after none same number one two = grind (arith, Wrote-same, Wrote-then)
 
 -- the end: the leaf closes, and then each run above
 pub end_large : (page_size limit : ℕ) (runs : BucketRunsView) → limit < runs.next + (1 + overflow_of page_size runs.leaves.size) → limit < bucket_end_next page_size runs
@@ -90,7 +81,3 @@ end_some page_size runs =
 pub take_runs : (page_size : ℕ) (final made runs : BucketRunsView) (e : LeafElement) (size : ℕ) → final ≡ runs_push made e size made.next → made ≡ runs_room page_size runs e.key size
     → final ≡ runs_taking page_size runs e size
 take_runs page_size final made runs e size p q = p ∙ ap (λ (m : BucketRunsView). runs_push m e size m.next) q
-
-pub on_ok : {A E : Type 0} (P Q : Type 0) (r : Result A E) → (P → Q) → OnOk r P → OnOk r Q
-on_ok P Q (Ok x) f h = f h
-on_ok P Q (Err e) f h = tt

@@ -1,23 +1,22 @@
--- The climb over a bucket's open runs, one run after another.
+-- A bucket's open runs, one after another: the climb over them, and the end of the bucket, at which each closes.
 use Rattle.std.proofs.Common.{◌≡◌, ◌∙◌, ℕ, suc, ◌+◌, ◌<◌, ◌≤◌, true, false, List, [], ◌∷◌, ◌++◌, length, map, take, drop, get_or, set, if◌then◌else◌, zero, add-one, Option, Some, None, option_map, refl, sym, ap, subst, arith, append_assoc}
 use Rattle.std.specs.List.{AllByRecursion}
-use Rattle.std.proofs.lemmas.List.{length-map, drop_more, drop-set-lt, set_split}
+use Rattle.std.proofs.lemmas.List.{length-map, drop_more, drop-set-lt, set_split, take_more_set}
 use Rattle.std.proofs.Math.ListN.{get_or-map}
 use Rattle.std.proofs.lemmas.Option.{none-some, same_Some}
 use Rattle.bolt_format.specs.ElementPlaces.{branch_view}
 use Rattle.bolt_format.specs.Elements.{BranchElement}
+use Rattle.bolt_format.specs.Sinks.{AppendsProperPrefix}
 use Rattle.bolt_format.specs.declared.element.Branch.{Branch}
 use Rattle.bolt_bulk.specs.declared.branch_run.BranchRun.{BranchRun}
 use Rattle.bolt_layout.specs.Laid.{Placed}
 use Rattle.bolt_layout.specs.Levels.{overflow_of}
 use Rattle.bolt_layout.specs.Limits.{one_less}
 use Rattle.bolt_layout.specs.Layout.{placed_bytes}
-use Rattle.bolt_bulk.specs.Private.BranchRuns.{IsStanding, element_up, run_view, taking_next, taking_puts, taking_up}
-use Rattle.bolt_bulk.specs.Private.RunViews.{RunView, no_run, one_closed, run_kept, run_push, run_stays, runs_climb, runs_next, runs_put}
-use Rattle.bolt_bulk.specs.Private.OpenRuns.{key_size}
+use Rattle.bolt_bulk.specs.Private.{element_up, IsStanding, key_size, no_run, one_closed, run_kept, run_page, run_push, run_stays, run_view, runs_above, runs_climb, runs_close_put, runs_end_next, runs_next, runs_put, runs_root, RunView, taking_next, taking_puts, taking_up}
 use Rattle.bolt_bulk.specs.declared.fault.BulkFault.{BulkFault}
 use Rattle.bolt_bulk.proofs.RunLemmas.{key_pushed}
-use Rattle.bolt_bulk.proofs.PutsLemmas.{bytes-append, Wrote-stops}
+use Rattle.bolt_bulk.proofs.PutsLemmas.{bytes-append, short_stop, Wrote-stops}
 use Rattle.bolt_format.proofs.WroteFronts.{WroteFront, front_none, front_more, front_stop, front_whole}
 use Rattle.bolt_format.specs.Wrote.{Wrote}
 use Rattle.bolt_format.specs.Endings.{whole}
@@ -31,9 +30,8 @@ pub record Climbing {S : Type 0} (page_size : ℕ) (new : Option ℕ) (key : Lis
   pub nexts : runs_next page_size key e0 n0 runs0 ≡ runs_next page_size key e next (drop i runs)
   pub front : WroteFront sink old later (placed_bytes page_size (runs_put page_size key e0 n0 runs0)) (placed_bytes page_size (runs_put page_size key e next (drop i runs)))
 
-pub climb_begins : {S : Type 0} {sink : Ghosts S} (page_size : ℕ) (fresh : Option ℕ) (key : List ℕ) (e : BranchElement) (next : ℕ) (runs : List RunView) (old : S)
-    → Climbing page_size fresh key e next runs sink old old runs 0 e next
-climb_begins page_size fresh key e next runs old = record { climbs = refl; nexts = refl; front = front_none old (placed_bytes page_size (runs_put page_size key e next runs)) }
+pub climb_begins : {S : Type 0} {sink : Ghosts S} {page_size : ℕ} {new : Option ℕ} {key : List ℕ} {e : BranchElement} {next : ℕ} {runs : List RunView} {old : S} → Climbing page_size new key e next runs sink old old runs 0 e next
+climb_begins {page_size = page_size} {key = key} {e} {next} {runs} {old} = record { climbs = refl; nexts = refl; front = front_none old (placed_bytes page_size (runs_put page_size key e next runs)) }
 
 -- what the next run writes, and what is written after it
 abbrev after_put : ℕ → List ℕ → BranchElement → ℕ → RunView → List RunView → List Placed
@@ -52,64 +50,55 @@ left_split page_size key e next run runs left at = grind (arith, put_split, byte
 set_at : {X : Type 0} (xs : List X) (i : ℕ) (x : X) → i < length xs → set xs i x ≡ take i xs ++ x ∷ drop (i + 1) xs
 set_at xs i x h = set_split xs i x h ∙ ap (λ (n : ℕ). take i xs ++ x ∷ drop n xs) (sym (add-one i))
 
--- the run takes the element and stays: the climb is over
-pub climb_stays : {S : Type 0} {sink : Ghosts S} (page_size : ℕ) (fresh : Option ℕ) (key : List ℕ) (e0 : BranchElement) (n0 : ℕ) (runs0 : List RunView) (old mid new : S) (runs : List RunView) (i : ℕ)
-    (e : BranchElement) (next : ℕ) (run : RunView) → i < length runs → drop i runs ≡ run ∷ drop (i + 1) runs → run_stays page_size (run_push run e) (key_size key) ≡ true
-    → Climbing page_size fresh key e0 n0 runs0 sink old mid runs i e next → Wrote sink mid new (placed_bytes page_size (taking_puts page_size key e next run)) whole
-    → (runs_climb page_size fresh key e0 n0 runs0 ≡ set runs i (run_kept page_size (run_push run e) (key_size key))) × (runs_next page_size key e0 n0 runs0 ≡ next)
-    × Wrote sink old new (placed_bytes page_size (runs_put page_size key e0 n0 runs0)) whole
-climb_stays page_size fresh key e0 n0 runs0 old mid new runs i e next run h at room c one =
-    let nexted : runs_next page_size key e next (run ∷ drop (i + 1) runs) ≡ next = rw room refl in
-    let no_more : after_put page_size key e next run (drop (i + 1) runs) ≡ [] = rw room refl in
-    let f = front_more c.front one (left_split page_size key e next run (drop (i + 1) runs) (drop i runs) at) in
-    grind (arith, set_at, front_whole)
-
-take_set : {X : Type 0} (xs : List X) (i : ℕ) (x : X) → i < length xs → take (suc i) (set xs i x) ≡ take i xs ++ x ∷ []
-take_set [] i x h = absurd (omega arith)
-take_set (y ∷ xs) zero x h = refl
-take_set {X = X} (y ∷ xs) (suc i) x h = ap (λ (t : List X). y ∷ t) (take_set xs i x (omega arith))
-
-take_set_at : {X : Type 0} (xs : List X) (i : ℕ) (x : X) → i < length xs → take (i + 1) (set xs i x) ≡ take i xs ++ x ∷ []
-take_set_at xs i x h = ap (λ (n : ℕ). take n (set xs i x)) (add-one i) ∙ take_set xs i x h
-
--- it closes: its element climbs on
-pub climb_closes : {S : Type 0} {sink : Ghosts S} (page_size : ℕ) (fresh : Option ℕ) (key : List ℕ) (e0 : BranchElement) (n0 : ℕ) (runs0 : List RunView) (old mid new : S) (runs : List RunView) (i : ℕ)
-    (e : BranchElement) (next : ℕ) (run : RunView) → i < length runs → drop i runs ≡ run ∷ drop (i + 1) runs → run_stays page_size (run_push run e) (key_size key) ≡ false
-    → Climbing page_size fresh key e0 n0 runs0 sink old mid runs i e next → Wrote sink mid new (placed_bytes page_size (taking_puts page_size key e next run)) whole
-    → Climbing page_size fresh key e0 n0 runs0 sink old new (set runs i (no_run (one_less run.left) (one_closed run.closed))) (i + 1) (element_up e next run) (next + (1 + overflow_of page_size (run_push run e).size))
-climb_closes page_size fresh key e0 n0 runs0 old mid new runs i e next run h at room c one = grind (arith, drop-set-lt, take_set_at, front_more, left_split, append_assoc)
-
--- a fault
-pub climb_stops : {S : Type 0} {sink : Ghosts S} (page_size : ℕ) (fresh : Option ℕ) (key : List ℕ) (e0 : BranchElement) (n0 : ℕ) (runs0 : List RunView) (old mid new : S) (runs : List RunView) (i : ℕ)
-    (e : BranchElement) (next : ℕ) (run : RunView) (fault : BulkFault) → drop i runs ≡ run ∷ drop (i + 1) runs
-    → Climbing page_size fresh key e0 n0 runs0 sink old mid runs i e next → Wrote sink mid new (placed_bytes page_size (taking_puts page_size key e next run)) (fault_ending fault)
-    → Wrote sink old new (placed_bytes page_size (runs_put page_size key e0 n0 runs0)) (fault_ending fault)
-climb_stops page_size fresh key e0 n0 runs0 old mid new runs i e next run fault at c one =
-    front_stop c.front (Wrote-stops _ fault one) (left_split page_size key e next run (drop (i + 1) runs) (drop i runs) at)
-
 -- the numbers only grow
 pub next_grows : (page_size : ℕ) (key : List ℕ) (e : BranchElement) (next : ℕ) (runs : List RunView) → next ≤ runs_next page_size key e next runs
 next_grows page_size key e next [] = omega arith
 next_grows page_size key e next (run ∷ runs) = grind (arith, next_grows page_size key (element_up e next run) (next + (1 + overflow_of page_size (run_push run e).size)) runs)
 
-pub climb_large : {S : Type 0} {sink : Ghosts S} (page_size limit : ℕ) (fresh : Option ℕ) (key : List ℕ) (e0 : BranchElement) (n0 : ℕ) (runs0 : List RunView) (old mid : S) (runs : List RunView) (i : ℕ)
-    (e : BranchElement) (next : ℕ) (run : RunView) → drop i runs ≡ run ∷ drop (i + 1) runs
-    → Climbing page_size fresh key e0 n0 runs0 sink old mid runs i e next → limit < taking_next page_size key e next run → limit < runs_next page_size key e0 n0 runs0
-climb_large page_size limit fresh key e0 n0 runs0 old mid runs i e next run at c large = grind (arith, next_grows)
+module _ {S : Type 0} {sink : Ghosts S} {page_size : ℕ} {new : Option ℕ} {key : List ℕ} {e0 : BranchElement} {n0 : ℕ} {runs0 : List RunView} {old mid : S} {runs : List RunView} {i : ℕ} {e : BranchElement} {next : ℕ} {run : RunView}
+    (at : drop i runs ≡ run ∷ drop (i + 1) runs) (c : Climbing page_size new key e0 n0 runs0 sink old mid runs i e next) where
+  -- the run takes the element and stays: the climb is over
+  pub climb_stays : {later : S} → i < length runs → run_stays page_size (run_push run e) (key_size key) ≡ true → Wrote sink mid later (placed_bytes page_size (taking_puts page_size key e next run)) whole
+      → (runs_climb page_size new key e0 n0 runs0 ≡ set runs i (run_kept page_size (run_push run e) (key_size key))) × (runs_next page_size key e0 n0 runs0 ≡ next)
+      × Wrote sink old later (placed_bytes page_size (runs_put page_size key e0 n0 runs0)) whole
+  climb_stays h room one =
+      let nexted : runs_next page_size key e next (run ∷ drop (i + 1) runs) ≡ next = rw room refl in
+      let no_more : after_put page_size key e next run (drop (i + 1) runs) ≡ [] = rw room refl in
+      let f = front_more c.front one (left_split page_size key e next run (drop (i + 1) runs) (drop i runs) at) in
+      grind (arith, set_at, front_whole)
+
+  -- it closes: its element climbs on
+  pub climb_closes : {later : S} → i < length runs → run_stays page_size (run_push run e) (key_size key) ≡ false → Wrote sink mid later (placed_bytes page_size (taking_puts page_size key e next run)) whole
+      → Climbing page_size new key e0 n0 runs0 sink old later (set runs i (no_run (one_less run.left) (one_closed run.closed))) (i + 1) (element_up e next run) (next + (1 + overflow_of page_size (run_push run e).size))
+  climb_closes h room one = grind (arith, drop-set-lt, take_more_set, front_more, left_split, append_assoc)
+
+  -- a fault
+  pub climb_stops : {later : S} (fault : BulkFault) → Wrote sink mid later (placed_bytes page_size (taking_puts page_size key e next run)) (fault_ending fault)
+      → Wrote sink old later (placed_bytes page_size (runs_put page_size key e0 n0 runs0)) (fault_ending fault)
+  climb_stops fault one = front_stop c.front (Wrote-stops _ fault one) (left_split page_size key e next run (drop (i + 1) runs) (drop i runs) at)
+
+  pub climb_large : (limit : ℕ) → limit < taking_next page_size key e next run → limit < runs_next page_size key e0 n0 runs0
+  climb_large limit large = grind (arith, next_grows)
 
 -- the same of the runs that the code keeps
-pub within_runs : (runs : List BranchRun) (i : ℕ) → i < length runs → i < length (map run_view runs)
-within_runs runs i h = let l = length-map runs run_view in omega arith
-
-pub run_here : (runs : List BranchRun) (i : ℕ) (run : BranchRun) → i < length runs → run ≡ get_or runs i run → drop i (map run_view runs) ≡ run_view run ∷ drop (i + 1) (map run_view runs)
-run_here runs i run h same =
-    drop_more (map run_view runs) i (run_view run) (within_runs runs i h)
-    ∙ ap (λ (r : RunView). r ∷ drop (i + 1) (map run_view runs)) (get_or-map run_view runs i run ∙ ap run_view (sym same))
-
-pub standing_at : (runs : List BranchRun) (i : ℕ) (run : BranchRun) → i < length runs → run ≡ get_or runs i run → AllByRecursion IsStanding (map run_view runs) → IsStanding (run_view run)
+standing_at : (runs : List BranchRun) (i : ℕ) (run : BranchRun) → i < length runs → run ≡ get_or runs i run → AllByRecursion IsStanding (map run_view runs) → IsStanding (run_view run)
 standing_at [] i run h same all = absurd (omega arith)
 standing_at (x ∷ runs) zero run h same all = subst (λ (r : BranchRun). IsStanding (run_view r)) (sym same) all.0
 standing_at (x ∷ runs) (suc i) run h same all = standing_at runs i run (omega arith) same all.1
+
+pub record IsRunAt (runs : List BranchRun) (i : ℕ) (run : BranchRun) : Type 0 where
+  pub within : i < length (runs_above runs)
+  pub at : drop i (runs_above runs) ≡ run_view run ∷ drop (i + 1) (runs_above runs)
+  pub standing : IsStanding (run_view run)
+
+pub run_at : (count : ℕ) (runs : List BranchRun) (i : ℕ) (run : BranchRun) → i < count → length runs ≡ count → run ≡ get_or runs i run → AllByRecursion IsStanding (runs_above runs) → IsRunAt runs i run
+run_at count runs i run h same value all =
+    let l = length-map runs run_view in
+    record {
+      within = omega arith;
+      at = drop_more (runs_above runs) i (run_view run) (omega arith) ∙ ap (λ (r : RunView). r ∷ drop (i + 1) (runs_above runs)) (get_or-map run_view runs i run ∙ ap run_view (sym value));
+      standing = standing_at runs i run (omega arith) value all;
+    }
 
 pub standing_set : (runs : List RunView) (i : ℕ) (run : RunView) → AllByRecursion IsStanding runs → IsStanding run → AllByRecursion IsStanding (set runs i run)
 standing_set [] i run all is = tt
@@ -135,3 +124,43 @@ no_room_by page_size key e next run up x is same = no_room_of page_size key e (b
 -- the key of a run's own element is one of its elements' keys
 pub up_key : (e : BranchElement) (next : ℕ) (run : RunView) → IsStanding run → length e.key ≤ 1073741824 → length (element_up e next run).key ≤ 1073741824
 up_key e next run is key = key_pushed run.elements e is.named key
+
+-- The whole end, from an element, a number and runs; and the end that is left, from the runs from number i on.
+pub record Closing {S : Type 0} (page_size : ℕ) (e0 : BranchElement) (n0 : ℕ) (runs0 : List RunView) (sink : Ghosts S) (old new : S)
+    (runs : List RunView) (i : ℕ) (e : BranchElement) (next : ℕ) : Type 0 where
+  pub roots : runs_root page_size e0 n0 runs0 ≡ runs_root page_size e next (drop i runs)
+  pub nexts : runs_end_next page_size e0 n0 runs0 ≡ runs_end_next page_size e next (drop i runs)
+  pub front : WroteFront sink old new (placed_bytes page_size (runs_close_put page_size e0 n0 runs0)) (placed_bytes page_size (runs_close_put page_size e next (drop i runs)))
+
+-- what the next run writes, and what is written after it
+close_left : (page_size : ℕ) (e : BranchElement) (next : ℕ) (run : RunView) (runs left : List RunView) → left ≡ run ∷ runs
+    → placed_bytes page_size (runs_close_put page_size e next left)
+    ≡ placed_bytes page_size (run_page page_size (run_push run e) next ∷ []) ++ placed_bytes page_size (runs_close_put page_size (element_up e next run) (next + (1 + overflow_of page_size (run_push run e).size)) runs)
+close_left page_size e next run runs left at =
+    ap (λ (rs : List RunView). placed_bytes page_size (runs_close_put page_size e next rs)) at
+    ∙ bytes-append page_size (run_page page_size (run_push run e) next ∷ []) (runs_close_put page_size (element_up e next run) (next + (1 + overflow_of page_size (run_push run e).size)) runs)
+
+-- the numbers only grow
+pub end_grows : (page_size : ℕ) (e : BranchElement) (next : ℕ) (runs : List RunView) → next ≤ runs_end_next page_size e next runs
+end_grows page_size e next [] = omega arith
+end_grows page_size e next (run ∷ runs) = let ih = end_grows page_size (element_up e next run) (next + (1 + overflow_of page_size (run_push run e).size)) runs in omega arith
+
+module _ {S : Type 0} {sink : Ghosts S} {page_size : ℕ} {e0 : BranchElement} {n0 : ℕ} {runs0 : List RunView} {old mid : S} {runs : List RunView} {i : ℕ} {e : BranchElement} {next : ℕ} {run : RunView}
+    (at : drop i runs ≡ run ∷ drop (i + 1) runs) (c : Closing page_size e0 n0 runs0 sink old mid runs i e next) where
+  -- a run closes, and its element goes on
+  pub close_more : {later : S} (left : RunView) (up : BranchElement) (after : ℕ) → up ≡ element_up e next run → after ≡ next + (1 + overflow_of page_size (run_push run e).size)
+      → Wrote sink mid later (placed_bytes page_size (run_page page_size (run_push run e) next ∷ [])) whole → Closing page_size e0 n0 runs0 sink old later (set runs i left) (i + 1) up after
+  close_more left up after up_is after_is one = grind (arith, drop-set-lt, front_more, close_left)
+
+  -- a fault
+  pub close_stops : {later : S} (fault : BulkFault) → Wrote sink mid later (placed_bytes page_size (run_page page_size (run_push run e) next ∷ [])) (fault_ending fault)
+      → Wrote sink old later (placed_bytes page_size (runs_close_put page_size e0 n0 runs0)) (fault_ending fault)
+  close_stops fault one = front_stop c.front (Wrote-stops _ fault one) (close_left page_size e next run (drop (i + 1) runs) (drop i runs) at)
+
+  -- and it leaves something out
+  pub close_short : {later : S} → AppendsProperPrefix (sink.taken mid) (sink.taken later) (placed_bytes page_size (run_page page_size (run_push run e) next ∷ []))
+      → AppendsProperPrefix (sink.taken old) (sink.taken later) (placed_bytes page_size (runs_close_put page_size e0 n0 runs0))
+  close_short one = short_stop _ (close_left page_size e next run (drop (i + 1) runs) (drop i runs) at) c.front one
+
+  pub close_large : (limit : ℕ) → limit < next + (1 + overflow_of page_size (run_push run e).size) → limit < runs_end_next page_size e0 n0 runs0
+  close_large limit large = grind (arith, end_grows)

@@ -1,19 +1,17 @@
 -- The first pages and those of all buckets are the layout, and so a copy is written whole, or stops short.
-use Rattle.std.proofs.Common.{◌≡◌, ◌≢◌, ◌∙◌, ℕ, [], Result, ◌≤◌, ◌<◌, List, ◌++◌, length, Ok, Err, refl, sym, subst, arith, append_assoc}
+use Rattle.std.proofs.Common.{◌≡◌, ◌≢◌, ℕ, [], Result, ◌≤◌, ◌<◌, List, ◌++◌, length, Ok, Err, refl, arith, append_assoc}
 use Rattle.std.proofs.KnownBytes.{Appends-trans}
-use Rattle.std.specs.Io.KnownBytes.{Appends}
 use Rattle.bolt_format.specs.Sinks.{AppendsProperPrefix}
 use Rattle.bolt_tree.specs.Tree.{Tree}
 use Rattle.bolt_bulk.specs.Compacting.{Copies, too_many}
 use Rattle.bolt_layout.specs.Laid.{Placed}
 use Rattle.bolt_layout.specs.Layout.{layout_mark, layout_of, layout_pages, layout_root, placed_bytes}
-use Rattle.bolt_bulk.specs.Private.FirstPages.{first_pages}
+use Rattle.bolt_bulk.specs.Private.{first_pages, stopped_by}
 use Rattle.bolt_bulk.specs.declared.fault.BulkFault.{BulkFault}
 use Rattle.bolt_bulk.specs.declared.fault.BulkFault.TheVariants as bulk
 use Rattle.bolt_bulk.specs.declared.fault.PlanFault.{PlanFault}
 use Rattle.bolt_bulk.specs.declared.fault.PlanFault.TheVariants as planned
 use Rattle.bolt_bulk.specs.declared.outcome.Done.{Done}
-use Rattle.bolt_bulk.specs.Private.Stops.{stopped_by}
 use Rattle.bolt_layout.specs.declared.layout.Layout.{Layout}
 use Rattle.bolt_bulk.proofs.PutsLemmas.{Wrote-failed, Wrote-sound, proper_none, proper_same}
 use Rattle.bolt_format.proofs.SinkLemmas.{AppendsProperPrefix-first, AppendsProperPrefix-second}
@@ -49,41 +47,11 @@ module _ {S : Type 0} (sink : Ghosts S) (old : S) (layout : List ℕ) where
 module _ {S : Type 0} (sink : Ghosts S) (old new : S) (layout first pages : List ℕ) (same : layout ≡ first ++ pages) (fits : length layout < too_many) where
   pub copied : (mid : S) (bytes held : ℕ) → Wrote sink old mid first whole → Wrote sink mid new pages whole → bytes ≡ length layout
       → Copies sink.taken sink.failed old new layout (Ok (record { bytes = bytes; held = held }))
-  copied mid bytes held one two count = record {
-    all = subst (λ (text : List ℕ). Appends (sink.taken old) (sink.taken new) text) (sym same) (Appends-trans (sink.taken old) (sink.taken mid) (sink.taken new) first pages one.appends two.appends);
-    bytes = count;
-    sound = two.failures ∙ one.failures;
-    short = tt;
-    failure = tt;
-    other = tt;
-    large = tt;
-    refuses = λ large. never (length layout) fits large;
-    untouched = λ large. never (length layout) fits large;
-  }
+  copied mid bytes held one two count = grind (arith, Appends-trans, never)
 
   pub stops_first : Wrote sink old new first cut → Copies sink.taken sink.failed old new layout (Err bulk.Sink)
-  stops_first one = record {
-    all = tt;
-    bytes = tt;
-    sound = tt;
-    short = proper_same (sink.taken old) (sink.taken new) _ _ (sym same) (AppendsProperPrefix-first (sink.taken old) (sink.taken new) first pages one.appends);
-    failure = λ s. one.failures;
-    other = λ s. absurd (s refl);
-    large = λ e. absurd cc;
-    refuses = λ large. never (length layout) fits large;
-    untouched = λ large. never (length layout) fits large;
-  }
+  stops_first one = grind (arith, proper_same, AppendsProperPrefix-first, never)
 
   pub stops_later : (mid : S) (e : BulkFault) → Wrote sink old mid first whole → Wrote sink mid new pages (fault_ending e)
       → AppendsProperPrefix (sink.taken mid) (sink.taken new) pages → (e ≡ bulk.TooLarge → too_many ≤ length layout) → Copies sink.taken sink.failed old new layout (Err e)
-  stops_later mid e one two short large = record {
-    all = tt;
-    bytes = tt;
-    sound = tt;
-    short = proper_same (sink.taken old) (sink.taken new) _ _ (sym same) (AppendsProperPrefix-second (sink.taken old) (sink.taken mid) (sink.taken new) first pages one.appends short);
-    failure = Wrote-failed e two;
-    other = λ s. Wrote-sound e two s ∙ one.failures;
-    large = large;
-    refuses = λ much. never (length layout) fits much;
-    untouched = λ much. never (length layout) fits much;
-  }
+  stops_later mid e one two short large = grind (arith, proper_same, AppendsProperPrefix-second, Wrote-failed, Wrote-sound, never)

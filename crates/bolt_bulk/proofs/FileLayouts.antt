@@ -1,5 +1,5 @@
 -- What the laws say of the layout of a checked file. That its trees are sound is known without a witness, and so is what follows from it.
-use Rattle.std.proofs.Common.{◌≡◌, ◌≢◌, ◌<◌, ◌≤◌, ◌+◌, ◌*◌, ◌/◌, ◌^◌, ℕ, List, [], length, refl, subst, arith}
+use Rattle.std.proofs.Common.{◌≡◌, ◌≢◌, ◌<◌, ◌≤◌, ◌+◌, ◌*◌, ◌/◌, ℕ, List, [], length, refl, subst, arith}
 use Rattle.std.proofs.Math.Logic.{∥∥₁_elim, ∥∥₁_map}
 use Rattle.std.proofs.Math.Nat.{div-lt_iff_lt-mul, div-mul-le_self, mul-le-mul_right}
 use Rattle.std.specs.List.{AllByRecursion}
@@ -8,61 +8,14 @@ use Rattle.bolt_format.specs.Metas.{IsPageSize}
 use Rattle.bolt_tree.specs.Listing.{Member}
 use Rattle.bolt_tree.specs.Tree.{Tree, listing_of, tree_of}
 use Rattle.bolt_bulk.specs.Compacting.{too_many}
-use Rattle.bolt_layout.specs.Copies.{IsAsked, IsOfOneTree, IsSoundCopy, RefusesPrefixes, layout_of_listing}
-use Rattle.bolt_layout.specs.Held.{most_held}
-use Rattle.bolt_layout.specs.Layout.{layout_held, layout_mark, layout_of, layout_root}
-use Rattle.bolt_bulk.specs.Private.Endings.{IsFitMember}
-use Rattle.bolt_layout.specs.Storable.{IsStorable}
+use Rattle.bolt_layout.specs.Copies.{IsOfOneTree}
+use Rattle.bolt_layout.specs.Layout.{layout_mark}
+use Rattle.bolt_bulk.specs.Private.{IsFitMember}
 use Rattle.bolt_format.proofs.PageSizes.{size_bounds}
 use Rattle.bolt_bulk.proofs.PassEnds.{members_fit}
-use Rattle.bolt_layout.specs.declared.layout.Layout.{Layout}
 use Rattle.bolt_layout.specs.declared.layout.Layout.TheVariants.{Balanced, Plain}
 use Rattle.bolt_layout.specs.Items.{root_of}
 use Rattle.bolt_layout.proofs.NotMuchLarger.{plain_not_much_larger}
-
-abbrev pub LayoutsHoldFew : Type 0
-LayoutsHoldFew = (which : Layout) (page_size : ℕ) (tree : Tree) (sequence : ℕ) → IsPageSize page_size → IsStorable tree → length (layout_of which page_size tree sequence) < 2 ^ 63
-    → layout_held which page_size tree ≤ length (layout_of which page_size tree sequence)
-
-abbrev pub LayoutsHoldWithin : Type 0
-LayoutsHoldWithin = (which : Layout) (page_size : ℕ) (tree : Tree) (sequence : ℕ) → IsPageSize page_size → IsStorable tree → length (layout_of which page_size tree sequence) < 2 ^ 63
-    → layout_held which page_size tree ≤ most_held page_size (listing_of tree)
-
-abbrev pub LayoutsHaveLength : Type 0
-LayoutsHaveLength = (which : Layout) (page_size : ℕ) (tree : Tree) (sequence : ℕ) → IsPageSize page_size → IsStorable tree
-    → length (layout_of which page_size tree sequence) ≡ layout_mark which page_size tree * page_size
-
-abbrev pub CopiesListTheSame : Type 0
-CopiesListTheSame = (which : Layout) (listing : List Member) (page_size : ℕ) (sequence : ℕ) → IsOfOneTree listing → IsPageSize page_size → sequence < 2 ^ 64
-    → length (layout_of_listing which page_size listing sequence) < 2 ^ 63 → IsSoundCopy which page_size (tree_of listing) sequence listing
-
-abbrev pub PrefixesAreRefused : Type 0
-PrefixesAreRefused = (which : Layout) (page_size : ℕ) (tree : Tree) (sequence : ℕ) → IsAsked page_size tree sequence → length (layout_of which page_size tree sequence) < 2 ^ 63
-    → RefusesPrefixes (layout_of which page_size tree sequence) (layout_root which page_size tree)
-
--- What the laws say of a listing of one tree holds where it is only known to be one.
-module _ (page_size sequence : ℕ) (size : IsPageSize page_size) where
-  pub has_length : LayoutsHaveLength → (which : Layout) (listing : List Member) → ∥ IsOfOneTree listing ∥₁
-      → length (layout_of_listing which page_size listing sequence) ≡ layout_mark which page_size (tree_of listing) * page_size
-  has_length long which listing one = ∥∥₁_elim one (Prim.hlevel props) (λ is. long which page_size (tree_of listing) sequence size is.storable)
-
-  pub accepted : CopiesListTheSame → sequence < 2 ^ 64 → (which : Layout) (listing : List Member) → ∥ IsOfOneTree listing ∥₁ → length (layout_of_listing which page_size listing sequence) < too_many
-      → ∥ IsSoundCopy which page_size (tree_of listing) sequence listing ∥₁
-  accepted law fits which listing one short = ∥∥₁_map one (λ is. law which listing page_size sequence is size fits short)
-
-  pub holds_few : LayoutsHoldFew → (which : Layout) (listing : List Member) → ∥ IsOfOneTree listing ∥₁ → length (layout_of_listing which page_size listing sequence) < too_many
-      → layout_held which page_size (tree_of listing) ≤ length (layout_of_listing which page_size listing sequence)
-  holds_few few which listing one short = ∥∥₁_elim one (Prim.hlevel props) (λ is. few which page_size (tree_of listing) sequence size is.storable short)
-
-  pub holds_within : LayoutsHoldWithin → (which : Layout) (listing : List Member) → ∥ IsOfOneTree listing ∥₁ → length (layout_of_listing which page_size listing sequence) < too_many
-      → layout_held which page_size (tree_of listing) ≤ most_held page_size listing
-  holds_within within which listing one short = ∥∥₁_elim one (Prim.hlevel props) (λ is.
-      subst (λ (ms : List Member). layout_held which page_size (tree_of listing) ≤ most_held page_size ms) is.lists (within which page_size (tree_of listing) sequence size is.storable short))
-
-  pub refused : PrefixesAreRefused → sequence < 2 ^ 64 → (which : Layout) (listing : List Member) → ∥ IsOfOneTree listing ∥₁ → length (layout_of_listing which page_size listing sequence) < too_many
-      → ∥ RefusesPrefixes (layout_of_listing which page_size listing sequence) (layout_root which page_size (tree_of listing)) ∥₁
-  refused law fits which listing one short =
-      ∥∥₁_map one (λ is. law which page_size (tree_of listing) sequence (record { size = size; storable = is.storable; sequence_fits = fits }) short)
 
 -- it has a byte
 pub some_bytes : (bytes : List ℕ) (mark page_size : ℕ) → length bytes ≡ (3 + mark) * page_size → IsPageSize page_size → bytes ≢ []

@@ -6,7 +6,7 @@ use Rattle.bolt_format.specs.declared.kind.Kind.TheVariants as kind
 use Rattle.bolt_format.specs.Endings.{Ending}
 use Rattle.bolt_format.specs.Wrote.{Wrote}
 use Rattle.bolt_format.specs.declared.sink.Sink.{Ghosts}
-use Rattle.bolt_bulk.specs.Private.FirstPages.{first_pages}
+use Rattle.bolt_bulk.specs.Private.{first_pages}
 
 -- a meta page, and the freelist page
 abbrev pub meta_filled : (page_size root sequence mark txid : ℕ) → List ℕ

@@ -1,14 +1,14 @@
 -- What is known of the items of an open leaf when they are written.
 use Rattle.std.proofs.Common.{false, ◌≡◌, ◌∙◌, ℕ, zero, suc, ◌+◌, ◌≤◌, ◌<◌, List, [], ◌∷◌, ◌++◌, length, map, drop, get_or, append_assoc, sym, ap, arith}
-use Rattle.std.proofs.lemmas.List.{at_drop_more, drop_all, length-drop, length-take-le}
+use Rattle.std.proofs.lemmas.List.{at_drop_more, drop_all, length-drop, length-take-le, length-map}
 use Rattle.bolt_format.specs.ElementPlaces.{leaf_view}
 use Rattle.bolt_format.specs.declared.element.Leaf.{Leaf}
 use Rattle.bolt_bulk.specs.declared.held.Held.{Held}
 use Rattle.bolt_bulk.specs.declared.held.Stored.{Stored}
 use Rattle.bolt_bulk.specs.declared.held.Stored.TheVariants as stored
-use Rattle.bolt_bulk.specs.Private.HeldItems.{AreHeld, IsHeld, IsStored, held_views, stored_value}
+use Rattle.bolt_bulk.specs.Private.{AreHeld, held_views, IsHeld, IsStored, stored_value}
 use Rattle.bolt_layout.specs.PageBytes.{leaf_data}
-use Rattle.bolt_bulk.proofs.LeafPuts.{length-inline_value}
+use Rattle.bolt_bulk.proofs.HeldRuns.{length-inline_value}
 use Rattle.bolt_format.proofs.WrittenHeaders.{length-head_bytes}
 
 -- what stands for an entry or an item past the end
@@ -29,7 +29,7 @@ root_len inlined s page sequence e = sym (ap (λ (x : Stored). length (stored_va
 
 pub inline_len : (inlined : List Leaf) (s : Stored) (sequence first count size : ℕ) → s ≡ stored.Inline sequence first count size → IsStored inlined s
     → size ≡ length (stored_value inlined s)
-inline_len inlined s sequence first count size e is = grind (arith, length-inline_value, length-drop, length-take-le)
+inline_len inlined s sequence first count size e is = grind (arith, length-inline_value, length-map, length-drop, length-take-le)
 
 -- the data that are left, from number i on
 pub held_left : (inlined : List Leaf) (xs : List Held) (i : ℕ) → i < length xs

@@ -1,19 +1,12 @@
 -- The most that a pass has held so far changes only when an item joins a leaf: then the items that are held now count.
-use Rattle.std.proofs.Common.{◌≡◌, ◌∙◌, ℕ, ◌+◌, ◌≤◌, Bool, false, Option, List, [], ◌∷◌, ◌++◌, length, max, refl, ap, arith}
+use Rattle.std.proofs.Common.{◌≡◌, ◌∙◌, ℕ, ◌+◌, ◌≤◌, false, Option, List, [], ◌∷◌, ◌++◌, length, max, refl, ap, arith}
 use Rattle.std.proofs.lemmas.List.{length-append, length-map}
 use Rattle.std.proofs.lemmas.List.Sums.{sum_by-cons}
 use Rattle.bolt_format.specs.ElementPlaces.{branch_view}
 use Rattle.bolt_format.specs.Elements.{BranchElement, LeafElement}
 use Rattle.bolt_layout.specs.Laid.{Laid, elements_of, held_in}
 use Rattle.bolt_layout.specs.Levels as levels
-use Rattle.bolt_bulk.specs.Private.BranchRuns.{run_view, runs_above}
-use Rattle.bolt_bulk.specs.Private.Coming.{held_item}
-use Rattle.bolt_bulk.specs.Private.HeldCounts.{capped, items_above, items_around, items_in}
-use Rattle.bolt_bulk.specs.Private.HeldSoFar.{held_frames, held_on, held_open, held_over, held_so_far, length_frames, length_open, length_over}
-use Rattle.bolt_bulk.specs.Private.OpenBuckets.{bucket_runs}
-use Rattle.bolt_bulk.specs.Private.BucketRuns.{AreUppers, AreOpenRuns}
-use Rattle.bolt_bulk.specs.Private.OpenRuns.{climb, close, end_of, Frame, has_room, key_size, Known, making_room, Open, pushed_on, pushing, stays_open, taking, Upper}
-use Rattle.bolt_bulk.specs.Private.Passes.{AreWaiting}
+use Rattle.bolt_bulk.specs.Private.{AreOpenRuns, AreUppers, AreWaiting, bucket_runs, capped, climb, close, end_of, Frame, has_room, held_frames, held_item, held_on, held_open, held_over, held_so_far, items_above, items_around, items_in, Known, length_frames, length_open, length_over, making_room, Open, pushing, run_view, runs_above, taking, Upper}
 use Rattle.bolt_bulk.specs.declared.branch_run.BranchRun.{BranchRun}
 use Rattle.bolt_bulk.specs.declared.bucket_runs.BucketRuns.{BucketRuns}
 use Rattle.bolt_bulk.specs.declared.waiting_bucket.WaitingBucket.{WaitingBucket}
@@ -51,23 +44,17 @@ frames_max (frame ∷ frames) inner = omega (arith, open_max, frames_max frames 
 joined : (run : List (Laid BranchElement)) (q : Laid BranchElement) → 1 ≤ q.held → held_on (run ++ q ∷ []) 0 ≡ held_on run q.held
 joined run q some = on_push run q 0 ∙ ap (λ (n : ℕ). held_on run n) (let e : max q.held (1 + 0) ≡ q.held = omega arith in e)
 
-climbs : (page_size : ℕ) (new : Option ℕ) (key : List ℕ) (q : Laid BranchElement) (upper : Upper) (uppers : List Upper) → 1 ≤ q.held
-    → ((up : Laid BranchElement) → 1 ≤ up.held → held_over (climb page_size new key up uppers) 0 ≡ held_over uppers up.held)
-    → (b : Bool) → stays_open page_size (pushed_on upper q) (key_size key) ≡ b → held_over (climb page_size new key q (upper ∷ uppers)) 0 ≡ held_over (upper ∷ uppers) q.held
-climbs page_size new key q upper uppers some above b room = grind (arith, joined, on_page, on_max)
-
 climbed : (page_size : ℕ) (new : Option ℕ) (key : List ℕ) (q : Laid BranchElement) (uppers : List Upper) → 1 ≤ q.held → held_over (climb page_size new key q uppers) 0 ≡ held_over uppers q.held
 climbed page_size new key q [] some = omega arith
-climbed page_size new key q (upper ∷ uppers) some =
-    climbs page_size new key q upper uppers some (λ up high. climbed page_size new key up uppers high) (stays_open page_size (pushed_on upper q) (key_size key)) refl
+climbed page_size new key q (upper ∷ uppers) some = let above = λ (up : Laid BranchElement) (high : 1 ≤ up.held). climbed page_size new key up uppers high in grind (arith, joined, on_page, on_max)
 
 -- room for an item is made by closing pages
 room_first : {E : Type 0} (page_size : ℕ) (run : List (Laid E)) (size : ℕ) → has_room page_size 1 run size ≡ false → 1 ≤ held_on run 0
 room_first page_size [] size none = absurd (cc)
 room_first page_size (item ∷ run) size none = omega arith
 
-made : (page_size : ℕ) (state : Open) (key : List ℕ) (size : ℕ) (b : Bool) → has_room page_size 1 state.run size ≡ b → held_open (making_room page_size state key size) 0 ≡ held_open state 0
-made page_size state key size b room = grind (arith, on_page, room_first, climbed)
+made : (page_size : ℕ) (state : Open) (key : List ℕ) (size : ℕ) → held_open (making_room page_size state key size) 0 ≡ held_open state 0
+made page_size state key size = grind (arith, on_page, room_first, climbed)
 
 -- and so does the end of a bucket
 closed : (page_size : ℕ) (q : Laid BranchElement) (uppers : List Upper) → 1 ≤ q.held → (close page_size q uppers).held ≡ held_over uppers q.held
@@ -97,7 +84,7 @@ pub takes_held : (page_size : ℕ) (frames : List Frame) (state : Open) (item : 
     → after ≡ max before (capped (length_frames frames + length_open (taking page_size state item))) → after ≡ capped (held_so_far frames (taking page_size state item))
 takes_held page_size frames state item before after flat old counted =
     let room : Open = making_room page_size state item.key item.size in
-    let same = made page_size state item.key item.size (has_room page_size 1 state.run item.size) refl in
+    let same = made page_size state item.key item.size in
     let join = pushed frames room item in
     let zero = ap (λ (n : ℕ). held_frames frames (held_open room n)) flat in
     let still = ap (λ (n : ℕ). held_frames frames n) same in omega arith
@@ -116,7 +103,7 @@ pub enters_held : (page_size : ℕ) (known : Known) (frame : Frame) (frames : Li
     → held_in run ≤ length run → before ≡ capped (held_so_far frames state)
     → after ≡ max before (capped (length_frames (frame ∷ frames) + length_open (record { uppers = []; run = run; known = known }))) → after ≡ capped (held_so_far (frame ∷ frames) (record { uppers = []; run = run; known = known }))
 enters_held page_size known frame frames state key size run before after room flat old counted =
-    let same = ap (λ (s : Open). held_open s 0) room ∙ made page_size state key size (has_room page_size 1 state.run size) refl in
+    let same = ap (λ (s : Open). held_open s 0) room ∙ made page_size state key size in
     let values = flat_run run flat in
     let inner = ap (λ (n : ℕ). held_frames frames (held_open frame.state n)) values in
     let a = open_max frame.state (length run) in
@@ -131,18 +118,16 @@ run_length run pages n same = omega (arith, length-map run.elements.items branch
 
 above_length : (runs : List BranchRun) (uppers : List Upper) (b : ℕ) → AreUppers (runs_above runs) uppers b → items_above runs ≡ length_over uppers
 above_length [] [] b are = refl
-above_length [] (upper ∷ uppers) b are = absurd are
-above_length (run ∷ runs) [] b are = absurd are
 above_length (run ∷ runs) (upper ∷ uppers) b are = omega (arith, run_length, sum_by-cons, above_length runs uppers b are.1)
+above_length runs uppers b are = absurd are
 
 pub items_length : (bucket : BucketRuns) (next b : ℕ) (state : Open) → AreOpenRuns (bucket_runs bucket next) state b → items_in bucket ≡ length_open state
 items_length bucket next b state runs = grind (arith, above_length, length-map, length-elements)
 
 pub around_length : (ws : List WaitingBucket) (frames : List Frame) → AreWaiting ws frames → items_around ws ≡ length_frames frames
 around_length [] [] waits = refl
-around_length [] (frame ∷ frames) waits = absurd waits
-around_length (w ∷ ws) [] waits = absurd waits
 around_length (w ∷ ws) (frame ∷ frames) waits =
     let (runs, key, sequence, others) = waits in
     let one = items_length w.bucket _ _ frame.state runs in
     let ih = around_length ws frames others in omega arith
+around_length ws frames waits = absurd waits

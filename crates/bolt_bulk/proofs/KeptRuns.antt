@@ -1,21 +1,15 @@
 -- The open runs that the code keeps of a bucket are those that the pass has open.
-use Rattle.std.proofs.Common.{◌≡◌, ◌∙◌, ℕ, ◌+◌, ◌||◌, Bool, true, false, Option, List, [], ◌∷◌, ◌++◌, length, refl, ap, inl, inr, arith, suc}
+use Rattle.std.proofs.Common.{◌≡◌, ◌∙◌, ℕ, ◌+◌, ◌||◌, Bool, Option, List, [], ◌∷◌, ◌++◌, length, refl, ap, arith, suc}
 use Rattle.std.specs.List.{AllByRecursion}
-use Rattle.std.proofs.lemmas.Bool.{cases_Bool}
 use Rattle.std.proofs.lemmas.List.Sums.{sum_by_push}
 use Rattle.bolt_format.specs.Elements.{BranchElement, LeafElement}
 use Rattle.bolt_layout.specs.Laid.{Laid, Placed, elements_of, first_key, numbers_of}
-use Rattle.bolt_layout.specs.Limits.{is_out, one_less}
+use Rattle.bolt_layout.specs.Limits.{is_out}
 use Rattle.bolt_layout.specs.Levels.{branch_page_view, overflow_of, page_over, run_overflow, leaf_page_view}
-use Rattle.bolt_bulk.specs.Private.OpenRuns.{Upper, begun_after, climb, climb_puts, has_room, kept, key_size, numbers_in, own_page, pushed_on, put_in, stays_open, close, close_puts, end_of, end_puts, Known, making_room, nothing_open, Open, pushing, room_puts}
-use Rattle.bolt_bulk.specs.Private.RunViews.{RunView, no_run, one_closed, run_has_room, run_kept, run_key, run_page, run_push, run_stays, runs_climb, runs_put, BucketRunsView, leaf_key, leaf_page, no_leaves, runs_close_put, runs_end, runs_end_put, runs_next, runs_root, runs_push, runs_room, runs_room_put}
-use Rattle.bolt_bulk.specs.Private.BranchRuns.{element_up, runs_end_next}
-use Rattle.bolt_bulk.specs.Private.OpenBuckets.{bucket_end_next, leaf_closed}
-use Rattle.bolt_bulk.specs.Private.BucketRuns.{AreUppers, IsKeyed, IsUpper, IsKeyedItem, AreOpenRuns}
+use Rattle.bolt_bulk.specs.Private.{AreOpenRuns, AreUppers, bucket_end_next, bucket_limit, BucketRunsView, climb, climb_puts, close, close_puts, element_up, end_of, end_puts, has_room, IsKeyed, IsKeyedItem, IsUpper, kept, key_size, Known, leaf_closed, leaf_key, leaf_page, making_room, no_leaves, nothing_open, numbers_in, Open, own_page, pushed_on, pushing, put_in, room_puts, run_has_room, run_kept, run_key, run_page, run_push, run_stays, runs_climb, runs_close_put, runs_end, runs_end_next, runs_end_put, runs_next, runs_push, runs_put, runs_room, runs_room_put, runs_root, RunView, stays_open, Upper}
 use Rattle.bolt_layout.proofs.ListLemmas.{all_append}
 use Rattle.bolt_layout.proofs.OverRows.{numbers-append}
 use Rattle.bolt_bulk.specs.declared.limits.BucketLimits.{BucketLimits}
-use Rattle.bolt_bulk.specs.Private.RowLimits.{bucket_limit}
 use Rattle.bolt_layout.proofs.LaidItems.{length-elements}
 use Rattle.bolt_layout.proofs.BranchLemmas.{same_branch}
 
@@ -69,8 +63,6 @@ runs_climbed : (page_size : ℕ) (new : Option ℕ) (key : List ℕ) (e : Branch
     → AreUppers (runs_climb page_size new key e next kept_runs) (climb page_size new key q uppers) b × (runs_put page_size key e next kept_runs ≡ climb_puts page_size key q uppers b)
     × (runs_next page_size key e next kept_runs ≡ b + numbers_in (climb page_size new key q uppers))
 runs_climbed page_size new key e next b q [] [] are keyed same number = grind (arith, run_grown)
-runs_climbed page_size new key e next b q [] (upper ∷ uppers) are keyed same number = absurd are
-runs_climbed page_size new key e next b q (kept_run ∷ kept_runs) [] are keyed same number = absurd are
 runs_climbed page_size new key e next b q (kept_run ∷ kept_runs) (upper ∷ uppers) are keyed same number =
     let m : ℕ = b + numbers_in uppers in
     let over = over_run page_size next b e q kept_run upper uppers are.0 keyed same number in
@@ -80,20 +72,11 @@ runs_climbed page_size new key e next b q (kept_run ∷ kept_runs) (upper ∷ up
     let ih = runs_climbed page_size new key (element_up e next kept_run) after b q2 kept_runs uppers are.1 (refl, λ n. refl) over.named over.after in
     let more = numbers-append (put_in uppers) (upper.run ++ q ∷ []) in
     let none = numbers-append (put_in (climb page_size new key q2 uppers)) [] in
-    elim (cases_Bool (stays_open page_size (pushed_on upper q) (key_size key))) [
-      | inl t ↦
-          (let u : run_stays page_size (run_push kept_run e) (key_size key) ≡ true = test ∙ t in
-          let stays = kept_same page_size (run_push kept_run e) (pushed_on upper q) m (key_size key) over.pushed in rw (t, u) ((stays, are.1), refl, omega arith))
-      | inr f ↦
-          (let u : run_stays page_size (run_push kept_run e) (key_size key) ≡ false = test ∙ f in
-          let left : one_less kept_run.left ≡ one_less upper.left = ap one_less are.0.left_is in
-          let here : IsUpper (no_run (one_less kept_run.left) (one_closed kept_run.closed)) (begun_after upper) (b + numbers_in (climb page_size new key q2 uppers)) = record { same = refl; size_is = refl; keyed = tt; left_is = left; closed_is = omega arith } in
-          rw (f, u) (
-            (here, ih.0),
-            ap (λ (p : Placed). p ∷ runs_put page_size key (element_up e next kept_run) after kept_runs) over.own ∙ ap (λ (ps : List Placed). own_page branch_page_view page_size (upper.run ++ q ∷ []) m ∷ ps) ih.1,
-            ih.2 ∙ omega arith,
-          ))
-    ]
+    let stays = kept_same page_size (run_push kept_run e) (pushed_on upper q) m (key_size key) over.pushed in
+    let left = are.0.left_is in
+    let closed = are.0.closed_is in
+    grind arith
+runs_climbed page_size new key e next b q kept_runs uppers are keyed same number = absurd are
 
 pub nothing_runs : (known : Known) (b : ℕ) → AreOpenRuns (record { leaves = no_leaves; uppers = []; limits = known.limits; next = b }) (nothing_open known) b
 nothing_runs known b = record { same = refl; size_is = refl; keyed = tt; above = tt; next_is = omega arith; limits_are = refl }
@@ -104,9 +87,8 @@ leaf_key_same (x ∷ run) n keyed = keyed.0 n
 
 as_many : (kept_runs : List RunView) (uppers : List Upper) (b : ℕ) → AreUppers kept_runs uppers b → length kept_runs ≡ length uppers
 as_many [] [] b are = refl
-as_many [] (upper ∷ uppers) b are = absurd are
-as_many (kept_run ∷ kept_runs) [] b are = absurd are
 as_many (kept_run ∷ kept_runs) (upper ∷ uppers) b are = ap suc (as_many kept_runs uppers b are.1)
+as_many kept_runs uppers b are = absurd are
 
 -- the page over the leaf under way
 record OverLeaf (page_size : ℕ) (kept_runs : BucketRunsView) (run : List (Laid LeafElement)) (m : ℕ) : Type 0 where
@@ -133,9 +115,9 @@ runs_have_room page_size kept_runs state b key size is =
     grind arith
 
 -- an item, once the pages below it were written
-pub runs_pushed : (kept_runs : BucketRunsView) (state : Open) (b : ℕ) (item : Laid LeafElement) → AreOpenRuns kept_runs state b → IsKeyedItem item
-    → AreOpenRuns (runs_push kept_runs (item.element kept_runs.next) item.size (kept_runs.next + item.numbers)) (pushing state item) b
-runs_pushed kept_runs state b item is keyed = grind (arith, sum_by_push, numbers-append, elements-append, all_append)
+pub runs_pushed : (kept_runs : BucketRunsView) (state : Open) (b : ℕ) (item : Laid LeafElement) (e : LeafElement) (size next : ℕ) → AreOpenRuns kept_runs state b → IsKeyedItem item → e ≡ item.element kept_runs.next
+    → size ≡ item.size → next ≡ kept_runs.next + item.numbers → AreOpenRuns (runs_push kept_runs e size next) (pushing state item) b
+runs_pushed kept_runs state b item e size next is keyed element sized after = grind (arith, sum_by_push, numbers-append, elements-append, all_append)
 
 -- the end
 runs_closed : (page_size : ℕ) (e : BranchElement) (next b : ℕ) (q : Laid BranchElement) (kept_runs : List RunView) (uppers : List Upper) → AreUppers kept_runs uppers b → IsKeyed q
@@ -143,13 +125,12 @@ runs_closed : (page_size : ℕ) (e : BranchElement) (next b : ℕ) (q : Laid Bra
     → (runs_close_put page_size e next kept_runs ≡ close_puts page_size q uppers b) × (runs_root page_size e next kept_runs ≡ ((close page_size q uppers).element b).child)
     × (runs_end_next page_size e next kept_runs ≡ b + (close page_size q uppers).numbers)
 runs_closed page_size e next b q [] [] are keyed same number = grind arith
-runs_closed page_size e next b q [] (upper ∷ uppers) are keyed same number = absurd are
-runs_closed page_size e next b q (kept_run ∷ kept_runs) [] are keyed same number = absurd are
 runs_closed page_size e next b q (kept_run ∷ kept_runs) (upper ∷ uppers) are keyed same number =
     let over = over_run page_size next b e q kept_run upper uppers are.0 keyed same number in
     let after : ℕ = next + (1 + overflow_of page_size (run_push kept_run e).size) in
     let ih = runs_closed page_size (element_up e next kept_run) after b (page_over branch_page_view page_size (upper.run ++ q ∷ [])) kept_runs uppers are.1 (refl, λ n. refl) over.named over.after in
     grind arith
+runs_closed page_size e next b q kept_runs uppers are keyed same number = absurd are
 
 pub runs_ended : (page_size : ℕ) (kept_runs : BucketRunsView) (state : Open) (b : ℕ) → AreOpenRuns kept_runs state b
     → (runs_end_put page_size kept_runs ≡ end_puts page_size state b) × (runs_end page_size kept_runs ≡ ((end_of page_size state).element b).child)

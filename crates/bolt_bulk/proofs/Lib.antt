@@ -1,13 +1,11 @@
 mod BranchPuts
 mod BucketLemmas
 mod ClimbLemmas
-mod CloseLemmas
 mod CopyLemmas
 mod ElementPuts
 mod FileLayouts
 mod FilledTexts
 mod FirstPuts
-mod Frames
 mod HeldPasses
 mod HeldPuts
 mod HeldRuns
@@ -24,11 +22,9 @@ mod PassAt
 mod PassEnds
 mod PassLeft
 mod PassReady
-mod PassRuns
 mod PassSteps
 mod PutBefore
 mod PutsLemmas
-mod RunEnds
 mod RunLemmas
 mod Tables
 mod WalkLeft

@@ -1,13 +1,13 @@
 -- What of a listing is still to come while buckets are open: the members of the innermost one, then those after it in each bucket around it.
 -- The length of the next member's path says which bucket it is in.
-use Rattle.std.proofs.Common.{◌≡◌, ◌∙◌, ℕ, suc, ◌≤◌, ◌<◌, List, [], ◌∷◌, ◌++◌, length, refl, sym, ap, arith, append_assoc}
+use Rattle.std.proofs.Common.{◌≡◌, ◌∙◌, ℕ, suc, ◌≤◌, ◌<◌, List, [], ◌∷◌, ◌++◌, length, refl, sym, ap, arith, append_assoc, subst}
 use Rattle.std.proofs.lemmas.List.{append-nil, length-append}
 use Rattle.bolt_check.specs.Keys.{Key}
 use Rattle.bolt_tree.specs.Entries.{Bucket, Item, Value}
 use Rattle.bolt_tree.specs.Listing.{Member}
 use Rattle.bolt_tree.specs.Paths.{Path}
 use Rattle.bolt_tree.specs.Tree.{Tree, end, listing_below, listing_of, with_bucket, with_value}
-use Rattle.bolt_bulk.specs.Private.Levels.{Level, behind_in, left_in, path_in}
+use Rattle.bolt_bulk.specs.Private.{behind_in, left_in, Level, path_in}
 
 pub path_length : (levels : List Level) → length (path_in levels) ≡ length levels
 path_length [] = refl
@@ -55,29 +55,33 @@ none_at_all levels end e = refl
 none_at_all levels (with_value key value after) e = absurd cc
 none_at_all levels (with_bucket key sequence inside after) e = absurd cc
 
+-- The entry of an item, a value or a bucket with entries `inside`, and where the pass is after it.
+abbrev pub with_item : Key → Item → (inside after : Tree) → Tree
+with_item key (Value value) inside after = with_value key value after
+with_item key (Bucket sequence) inside after = with_bucket key sequence inside after
+
+abbrev pub left_after : List Level → Key → Item → (inside after : Tree) → List Member
+left_after levels key (Value value) inside after = left_in levels after
+left_after levels key (Bucket sequence) inside after = left_in (record { key = key; after = after } ∷ levels) inside
+
 -- A member in the innermost bucket is the next entry there.
-abbrev pub IsNextValue : List Level → Tree → Path → List ℕ → List Member → Type 0
-IsNextValue levels rest path value more =
-    (key : Key) × (after : Tree) × (rest ≡ with_value key value after) × (path ≡ path_in levels ++ key ∷ []) × (more ≡ left_in levels after)
+pub record IsNext (levels : List Level) (rest : Tree) (path : Path) (item : Item) (more : List Member) : Type 0 where
+  pub key : Key
+  pub inside : Tree
+  pub after : Tree
+  pub rest_is : rest ≡ with_item key item inside after
+  pub path_is : path ≡ path_in levels ++ key ∷ []
+  pub more_is : more ≡ left_after levels key item inside after
 
-abbrev pub IsNextBucket : List Level → Tree → Path → ℕ → List Member → Type 0
-IsNextBucket levels rest path sequence more =
-    (key : Key) × (inside : Tree) × (after : Tree) × (rest ≡ with_bucket key sequence inside after) × (path ≡ path_in levels ++ key ∷ [])
-    × (more ≡ left_in (record { key = key; after = after } ∷ levels) inside)
+next_by : (levels : List Level) (key : Key) (own : Item) (inside after : Tree) (path : Path) (item : Item) (more : List Member) → (path_in levels ++ key ∷ [], own) ∷ left_after levels key own inside after ≡ (path, item) ∷ more
+    → IsNext levels (with_item key own inside after) path item more
+next_by levels key own inside after path item more e =
+    let first : ◌≡◌ {A = Member} (path_in levels ++ key ∷ [], own) (path, item) = cc in
+    let others : left_after levels key own inside after ≡ more = cc in
+    subst (λ (i : Item). IsNext levels (with_item key own inside after) path i more) (ap (λ (m : Member). m.1) first)
+    (record { key = key; inside = inside; after = after; rest_is = refl; path_is = sym (ap (λ (m : Member). m.0) first); more_is = sym others })
 
-pub next_value : (levels : List Level) (rest : Tree) (path : Path) (value : List ℕ) (more : List Member) → left_in levels rest ≡ (path, Value value) ∷ more → length path ≡ suc (length levels)
-    → IsNextValue levels rest path value more
-next_value levels end path value more e deep = let n = behind_short levels (path, Value value) more e in absurd (omega arith)
-next_value levels (with_value key own after) path value more e deep = grind arith
-next_value levels (with_bucket key sequence inside after) path value more e deep = grind arith
-
-pub next_bucket : (levels : List Level) (rest : Tree) (path : Path) (sequence : ℕ) (more : List Member) → left_in levels rest ≡ (path, Bucket sequence) ∷ more → length path ≡ suc (length levels)
-    → IsNextBucket levels rest path sequence more
-next_bucket levels end path sequence more e deep = let n = behind_short levels (path, Bucket sequence) more e in absurd (omega arith)
-next_bucket levels (with_value key own after) path sequence more e deep = grind arith
-next_bucket levels (with_bucket key own inside after) path sequence more e deep =
-    let whole : (path_in levels ++ key ∷ [], Bucket own) ∷ left_in (record { key = key; after = after } ∷ levels) inside ≡ (path, Bucket sequence) ∷ more = sym (left_entered levels key own inside after) ∙ e in
-    let first : ◌≡◌ {A = Member} (path_in levels ++ key ∷ [], Bucket own) (path, Bucket sequence) = cc in
-    let item : Bucket own ≡ Bucket sequence = ap (λ (m : Member). m.1) first in
-    let same : own ≡ sequence = cc in
-    (key, inside, after, ap (λ (n : ℕ). with_bucket key n inside after) same, sym (ap (λ (m : Member). m.0) first), (let rest : left_in (record { key = key; after = after } ∷ levels) inside ≡ more = cc in sym rest))
+pub next_entry : (levels : List Level) (rest : Tree) (path : Path) (item : Item) (more : List Member) → left_in levels rest ≡ (path, item) ∷ more → length path ≡ suc (length levels) → IsNext levels rest path item more
+next_entry levels end path item more e deep = let n = behind_short levels (path, item) more e in absurd (omega arith)
+next_entry levels (with_value key own after) path item more e deep = next_by levels key (Value own) end after path item more e
+next_entry levels (with_bucket key own inside after) path item more e deep = next_by levels key (Bucket own) inside after path item more (sym (left_entered levels key own inside after) ∙ e)

@@ -10,9 +10,7 @@ use Rattle.bolt_layout.specs.Cut.{run_size}
 use Rattle.bolt_layout.specs.Items.{holds_bucket, is_inline, items_of, leaf_item}
 use Rattle.bolt_layout.specs.Laid.{Laid, elements_of, held_in, numbers_of, pages_of, size_of}
 use Rattle.bolt_layout.specs.PageBytes.{leaf_data}
-use Rattle.bolt_bulk.specs.Private.BucketRuns.{IsKeyedItem}
-use Rattle.bolt_bulk.specs.Private.Passes.{onto}
-use Rattle.bolt_bulk.specs.Private.TakenItems.{entries_size}
+use Rattle.bolt_bulk.specs.Private.{entries_size, IsKeyedItem, onto}
 use Rattle.bolt_layout.specs.declared.layout.Layout.{Layout}
 
 abbrev pub IsValue : LeafElement → Type 0

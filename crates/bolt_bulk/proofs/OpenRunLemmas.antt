@@ -7,9 +7,7 @@ use Rattle.bolt_format.specs.Elements.{BranchElement, LeafElement}
 use Rattle.bolt_layout.specs.Cut.{branch_cut, cut_from, joins}
 use Rattle.bolt_layout.specs.Laid.{Laid, Placed, numbers_of, pages_of, size_of}
 use Rattle.bolt_layout.specs.Levels.{branch_page_view, leaf_page_view, page_over, root_over}
-use Rattle.bolt_bulk.specs.Private.RowLimits.{bucket_limit}
-use Rattle.bolt_bulk.specs.Private.OpenRuns.{climb, climb_puts, close, close_puts, end_of, end_puts, has_room, kept, key_size, Known, making_room, next_number, nothing_open, numbers_in, Open, own_page, pages_put, pushed_on, pushing, put_in, room_puts, stays_open, taking, Upper}
-use Rattle.bolt_bulk.specs.Private.Coming.{Comes, IsOpen, IsSized, IsUnder, leaves_coming}
+use Rattle.bolt_bulk.specs.Private.{bucket_limit, climb, climb_puts, close, close_puts, Comes, end_of, end_puts, has_room, IsOpen, IsSized, IsUnder, kept, key_size, Known, leaves_coming, making_room, next_number, nothing_open, numbers_in, Open, own_page, pages_put, pushed_on, pushing, put_in, room_puts, stays_open, taking, Upper}
 use Rattle.bolt_layout.specs.Limits.{HaveRightLimits, cut_left, one_less}
 use Rattle.bolt_layout.proofs.Tops.{top_above}
 use Rattle.bolt_layout.specs.declared.layout.Layout.{Layout}
@@ -121,9 +119,7 @@ climb_same which page_size limits key q (upper ∷ uppers) p pages all root name
 pub close_same : (which : Layout) (page_size : ℕ) (limits : ℕ → Option ℕ) (q : Laid BranchElement) (uppers : List Upper) (all : List (Laid BranchElement)) (root : Laid BranchElement)
     → Comes which page_size limits uppers all (q ∷ []) root → close page_size q uppers ≡ root
 close_same which page_size limits q [] all root is = is.1.top
-close_same which page_size limits q (upper ∷ uppers) all root is =
-    close_same which page_size (λ k. limits (suc k)) (page_over branch_page_view page_size (upper.run ++ q ∷ [])) uppers
-    (map (page_over branch_page_view page_size) (branch_cut which page_size size_of all)) root is.1
+close_same which page_size limits q (upper ∷ uppers) all root is = grind (arith, close_same which page_size (λ k. limits (suc k)) (page_over branch_page_view page_size (upper.run ++ q ∷ [])) uppers (map (page_over branch_page_view page_size) (branch_cut which page_size size_of all)) root is.1)
 
 -- The pages that were written.
 pub pages-append : {E : Type 0} (xs ys : List (Laid E)) (n : ℕ) → pages_of (xs ++ ys) n ≡ pages_of xs n ++ pages_of ys (n + numbers_of xs)
@@ -147,23 +143,18 @@ over_put page_size b run q uppers more =
     let own : Placed = own_page branch_page_view page_size (run ++ q ∷ []) m in
     let xs : List Placed = pages_of (put_in uppers) b in
     let ys : List Placed = pages_of (run ++ q ∷ []) m in
-    let regroup : xs ++ ((ys ++ own ∷ []) ++ more) ≡ (xs ++ ys) ++ (own ∷ more) =
-    ap (λ (ps : List Placed). xs ++ ps) (append_assoc ys (own ∷ []) more) ∙ sym (append_assoc xs ys (own ∷ more)) in
-    let joined : xs ++ ys ≡ pages_of (put_in uppers ++ run) b ++ q.pages (b + numbers_of (put_in uppers ++ run)) = sym (pages-append (put_in uppers) (run ++ q ∷ []) b) ∙ pages_push (put_in uppers) run q b in
-    regroup ∙ (ap (λ (ps : List Placed). ps ++ (own ∷ more)) joined ∙ append_assoc (pages_of (put_in uppers ++ run) b) (q.pages (b + numbers_of (put_in uppers ++ run))) (own ∷ more))
+    cc (
+      append_assoc ys (own ∷ []) more,
+      append_assoc xs ys (own ∷ more),
+      pages-append (put_in uppers) (run ++ q ∷ []) b,
+      pages_push (put_in uppers) run q b,
+      append_assoc (pages_of (put_in uppers ++ run) b) (q.pages (b + numbers_of (put_in uppers ++ run))) (own ∷ more),
+    )
 
 pub climb_put : (page_size : ℕ) (new : Option ℕ) (key : List ℕ) (q : Laid BranchElement) (uppers : List Upper) (b : ℕ)
     → pages_of (put_in (climb page_size new key q uppers)) b ≡ pages_of (put_in uppers) b ++ (q.pages (b + numbers_in uppers) ++ climb_puts page_size key q uppers b)
 climb_put page_size new key q [] b = ap (λ (n : ℕ). q.pages n ++ []) (let e : b ≡ b + 0 = omega arith in e)
-climb_put page_size new key q (upper ∷ uppers) b =
-    let run : List (Laid BranchElement) = upper.run in
-    elim (cases_Bool (stays_open page_size (pushed_on upper q) (key_size key))) [
-      | inl t ↦ rw t (pages_push (put_in uppers) run q b ∙ ap (λ (ps : List Placed). pages_of (put_in uppers ++ run) b ++ ps) (sym (append-nil (q.pages (b + numbers_of (put_in uppers ++ run))))))
-      | inr f ↦
-          let q2 : Laid BranchElement = page_over branch_page_view page_size (run ++ q ∷ []) in
-          let ih = climb_put page_size new key q2 uppers b in
-          rw f (ap (λ (xs : List (Laid BranchElement)). pages_of xs b) (append-nil (put_in (climb page_size new key q2 uppers))) ∙ (ih ∙ over_put page_size b run q uppers (climb_puts page_size key q2 uppers b)))
-    ]
+climb_put page_size new key q (upper ∷ uppers) b = grind (arith, cases_Bool, pages_push, append-nil, over_put, climb_put page_size new key (page_over branch_page_view page_size (upper.run ++ q ∷ [])) uppers b)
 
 pub close_put : (page_size : ℕ) (q : Laid BranchElement) (uppers : List Upper) (b : ℕ)
     → (close page_size q uppers).pages b ≡ pages_of (put_in uppers) b ++ (q.pages (b + numbers_in uppers) ++ close_puts page_size q uppers b)

@@ -1,21 +1,19 @@
 -- What is known of the buckets of a tree is known of those that are still to come.
-use Rattle.std.proofs.Common.{◌≡◌, ◌+◌, ◌≤◌, ℕ, suc, Bool, true, false, List, [], ◌∷◌, Option, None, refl, subst, arith}
+use Rattle.std.proofs.Common.{◌≡◌, ◌∙◌, ap, ◌+◌, ◌≤◌, ℕ, suc, true, false, List, [], ◌∷◌, Option, None, refl, subst, arith, sym}
 use Rattle.bolt_format.specs.Elements.{LeafElement}
 use Rattle.bolt_tree.specs.Tree.{Tree, end, with_bucket, with_value}
 use Rattle.bolt_layout.specs.Items.{is_inline, items_of, root_of}
 use Rattle.bolt_layout.specs.Laid.{numbers_of}
 use Rattle.bolt_layout.specs.Layout.{layout_mark}
-use Rattle.bolt_layout.specs.Openings.{AreRight, AreFromEnds, leaf_pages, limits_for, opened_by, opened_in}
+use Rattle.bolt_layout.specs.Limits.{limit_at, limits_from_ends}
+use Rattle.bolt_layout.specs.Openings.{row_ends_of, AreRight, AreFromEnds, leaf_pages, limits_for, opened_by, opened_in}
 use Rattle.bolt_layout.specs.declared.layout.Layout.{Layout}
-use Rattle.bolt_layout.specs.declared.layout.Layout.TheVariants.{Balanced, Plain}
+use Rattle.bolt_layout.specs.declared.layout.Layout.TheVariants.{Plain}
 use Rattle.bolt_layout.proofs.OpenedBuckets.{items_below, leaves_few}
 use Rattle.bolt_layout.proofs.PlainRows.{plain_right, plain_rows}
 use Rattle.bolt_layout.proofs.LimitsFromEnds.{root_from_ends, from_ends_are}
-use Rattle.bolt_bulk.specs.Private.HeldCounts.{capped}
-use Rattle.bolt_bulk.specs.Private.RowLimits.{limit_in}
+use Rattle.bolt_bulk.specs.Private.{AreComing, AreComingAround, capped, FitLimits, Frame, HasRoot, limit_in, limits_with, Notes, onto, Wanted}
 use Rattle.bolt_bulk.specs.declared.limits.Limits.{Limits}
-use Rattle.bolt_bulk.specs.Private.OpenRuns.{Frame}
-use Rattle.bolt_bulk.specs.Private.Passes.{AreComing, AreComingAround, FitLimits, Notes, Wanted, limits_with, onto}
 
 module _ (which : Layout) (page_size : ℕ) where
   -- entries that are values change nothing
@@ -49,45 +47,32 @@ fit_plain page_size limits tree none = record {
 }
 
 -- At the beginning it is known of all.
-module _ (page_size : ℕ) (tree : Tree) (notes : Bool) (limits : ℕ → ℕ → Option ℕ) where
-  abbrev plain : Wanted
-  plain = record { which = Plain; tree = tree; notes = notes }
+module _ (wanted : Wanted) (page_size : ℕ) (limits : ℕ → ℕ → Option ℕ) where
+  abbrev FromEnds : ℕ → Tree → Type 0
+  FromEnds n below = wanted.which ≡ Plain → AreFromEnds page_size (limits_for page_size wanted.tree) n below
 
-  abbrev balanced : Wanted
-  balanced = record { which = Balanced; tree = tree; notes = notes }
+  -- the limits that the ends of a bucket's rows give
+  abbrev ends : Layout → Tree → ℕ → Option ℕ
+  ends w inside level = limit_at (limits_from_ends false (row_ends_of page_size (leaf_pages page_size (items_of w page_size inside)))) level
 
-  plain_coming : (n : ℕ) (below : Tree) → AreRight Plain page_size limits n below → AreFromEnds page_size (limits_for page_size tree) n below
-      → numbers_of (items_of Plain page_size below) ≤ layout_mark Plain page_size tree → AreComing plain page_size limits n below
-  plain_coming n end right from few = tt
-  plain_coming n (with_value key value after) right from few = plain_coming n after right from (omega arith)
-  plain_coming n (with_bucket key sequence inside after) right from few =
-      let (one, rest) = items_below Plain page_size key sequence inside after in (
-        λ rooted. (let leaves = leaves_few Plain page_size inside in
-            (record { right = (right.0 rooted).0; notes = record { noted = λ e. (from.0 rooted).0; few = omega arith } }, plain_coming (suc n) inside (right.0 rooted).1 (from.0 rooted).1 (omega arith))),
-        plain_coming (n + opened_by Plain page_size inside) after right.1 from.1 (omega arith),
+  coming_below : (n : ℕ) (below : Tree) → AreRight wanted.which page_size limits n below → FromEnds n below → numbers_of (items_of wanted.which page_size below) ≤ layout_mark wanted.which page_size wanted.tree
+      → AreComing wanted page_size limits n below
+  coming_below n end right from few = tt
+  coming_below n (with_value key value after) right from few = coming_below n after right from (omega arith)
+  coming_below n (with_bucket key sequence inside after) right from few =
+      let (one, rest) = items_below wanted.which page_size key sequence inside after in
+      let leaves = leaves_few wanted.which page_size inside in
+      let plain = λ (rooted : HasRoot wanted.which page_size inside) (e : wanted.which ≡ Plain). (from e).0 (subst (λ (w : Layout). HasRoot w page_size inside) e rooted) in (
+        λ rooted. (record { right = (right.0 rooted).0; notes = record { noted = λ e level. (plain rooted e).0 level ∙ ap (λ (w : Layout). ends w inside level) (sym e); few = omega arith } }, coming_below (suc n) inside (right.0 rooted).1 (λ e. (plain rooted e).1) (omega arith)),
+        coming_below (n + opened_by wanted.which page_size inside) after right.1
+            (λ e. subst (λ (w : Layout). AreFromEnds page_size (limits_for page_size wanted.tree) (n + opened_by w page_size inside) after) (sym e) (from e).1) (omega arith),
       )
 
-  balanced_coming : (n : ℕ) (below : Tree) → AreRight Balanced page_size limits n below
-      → numbers_of (items_of Balanced page_size below) ≤ layout_mark Balanced page_size tree → AreComing balanced page_size limits n below
-  balanced_coming n end right few = tt
-  balanced_coming n (with_value key value after) right few = balanced_coming n after right (omega arith)
-  balanced_coming n (with_bucket key sequence inside after) right few =
-      let (one, rest) = items_below Balanced page_size key sequence inside after in (
-        λ rooted. (let leaves = leaves_few Balanced page_size inside in
-            (record { right = (right.0 rooted).0; notes = record { noted = λ e. absurd cc; few = omega arith } }, balanced_coming (suc n) inside (right.0 rooted).1 (omega arith))),
-        balanced_coming (n + opened_by Balanced page_size inside) after right.1 (omega arith),
-      )
+  pub all_coming : AreRight wanted.which page_size limits 1 wanted.tree → AreComing wanted page_size limits 1 wanted.tree
+  unfolding root_of
+  all_coming right = let leaves = leaves_few wanted.which page_size wanted.tree in coming_below 1 wanted.tree right (λ e. from_ends_are page_size wanted.tree) (omega arith)
 
 -- the root bucket is opened as number 0
 pub root_notes : (wanted : Wanted) (page_size : ℕ) → Notes wanted page_size 0 (leaf_pages page_size (items_of wanted.which page_size wanted.tree))
 unfolding root_of
 root_notes wanted page_size = grind (arith, leaves_few, root_from_ends)
-
-coming_in : (which : Layout) (tree : Tree) (notes : Bool) (page_size : ℕ) (limits : ℕ → ℕ → Option ℕ) → AreRight which page_size limits 1 tree
-    → AreComing (record { which = which; tree = tree; notes = notes }) page_size limits 1 tree
-unfolding root_of
-coming_in Plain tree notes page_size limits right = let leaves = leaves_few Plain page_size tree in plain_coming page_size tree notes limits 1 tree right (from_ends_are page_size tree) (omega arith)
-coming_in Balanced tree notes page_size limits right = let leaves = leaves_few Balanced page_size tree in balanced_coming page_size tree notes limits 1 tree right (omega arith)
-
-pub all_coming : (wanted : Wanted) (page_size : ℕ) (limits : ℕ → ℕ → Option ℕ) → AreRight wanted.which page_size limits 1 wanted.tree → AreComing wanted page_size limits 1 wanted.tree
-all_coming wanted page_size limits right = coming_in wanted.which wanted.tree wanted.notes page_size limits right

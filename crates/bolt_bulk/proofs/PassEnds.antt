@@ -1,53 +1,41 @@
 -- The next member of a listing in a pass, the beginning of a pass, and its end.
+use Rattle.bolt_layout.proofs.ListLemmas.{all_append}
 use Rattle.std.specs.Prelude.{IsErrAnd}
+use Rattle.std.proofs.lemmas.Result.{err_from_is_err_and}
 use Rattle.std.proofs.Common.{◌≡◌, ◌≢◌, ◌∙◌, ℕ, suc, true, ◌+◌, ◌≤◌, List, [], ◌∷◌, ◌++◌, length, map, Option, Some, None, Result, Ok, Err, OnErr, refl, sym, ap, subst, arith, append_assoc}
 use Rattle.std.specs.List.{AllByRecursion}
 use Rattle.std.proofs.lemmas.List.{length-append}
 use Rattle.bolt_check.specs.Keys.{Key}
-use Rattle.bolt_format.specs.Elements.{BranchElement}
 use Rattle.bolt_format.specs.Sinks.{AppendsProperPrefix}
-use Rattle.bolt_tree.specs.Entries.{Bucket, Value}
+use Rattle.bolt_tree.specs.Entries.{Item}
 use Rattle.bolt_tree.specs.Listing.{Member}
 use Rattle.bolt_tree.specs.Paths.{Path}
 use Rattle.bolt_tree.specs.Tree.{Tree, end, listing_below, listing_of, with_bucket, with_value}
-use Rattle.bolt_layout.specs.Items.{root_of}
-use Rattle.bolt_layout.specs.Laid.{Laid, Placed}
+use Rattle.bolt_layout.specs.Laid.{Placed}
 use Rattle.bolt_layout.specs.Layout.{first_page, layout_held, layout_mark, layout_pages, layout_root, placed_bytes}
 use Rattle.bolt_layout.specs.Storable.{HasLengths}
-use Rattle.bolt_bulk.specs.Private.Endings.{Ends, IsFitMember, last_part}
-use Rattle.bolt_bulk.specs.Private.Levels.{Level, left_in, path_in}
-use Rattle.bolt_bulk.specs.Private.HeldCounts.{capped}
-use Rattle.bolt_bulk.specs.Private.HeldSoFar.{held_so_far}
-use Rattle.bolt_bulk.specs.Private.OpenBuckets.{bucket_end_next, bucket_runs}
-use Rattle.bolt_bulk.specs.Private.BucketRuns.{AreOpenRuns}
+use Rattle.bolt_bulk.specs.Private.{AreComingAround, AreOpenRuns, bucket_end_next, bucket_runs, BucketEnds, BucketRunsView, capped, depth_of, end_of, Ends, FitLimits, Frame, HasLeft, HasNoted, held_so_far, IsAt, IsFitMember, IsOn, Known, last_part, Level, level_of, limit_in, limits_by, limits_with, no_leaves, nothing_open, Open, open_in, path_in, pending_depth, runs_end, runs_end_put, Steps, Wanted}
 use Rattle.bolt_layout.specs.Openings.{leaf_pages, opened_in}
 use Rattle.bolt_layout.specs.declared.layout.Layout.{Layout}
 use Rattle.bolt_layout.specs.declared.layout.Layout.TheVariants.{Balanced, Plain}
-use Rattle.bolt_layout.specs.Items.{items_of}
-use Rattle.bolt_bulk.specs.Private.OpenRuns.{Frame, Known, Open, base_in, end_of, nothing_open}
-use Rattle.bolt_bulk.specs.Private.Passes.{AreComingAround, AreNumbered, FitLimits, HasLeft, IsAt, IsTable, Steps, Wanted, depth_of, level_of, limits_by, limits_with, open_in, pending_depth}
-use Rattle.bolt_bulk.specs.Private.RunViews.{BucketRunsView, no_leaves, runs_end, runs_end_put}
+use Rattle.bolt_layout.specs.Items.{items_of, root_of}
 use Rattle.bolt_bulk.specs.declared.page_setup.PageSetup.{PageSetup}
 use Rattle.bolt_bulk.specs.declared.fault.BulkFault.{BulkFault}
 use Rattle.bolt_bulk.specs.declared.pass.Ended.{Ended}
 use Rattle.bolt_bulk.specs.declared.pass.Pass.{Pass}
-use Rattle.bolt_bulk.specs.Private.RowLimits.{BucketEnds, limit_in}
-use Rattle.bolt_bulk.specs.declared.pending_bucket.PendingBucket.{PendingBucket}
-use Rattle.bolt_bulk.specs.declared.noted_limits.NotedLimits.{NotedLimits}
-use Rattle.bolt_bulk.proofs.Frames.{pass_begins, pass_ends}
+use Rattle.bolt_bulk.specs.declared.waiting_bucket.PendingBucket.{PendingBucket}
+use Rattle.bolt_bulk.specs.declared.limits.NotedLimits.{NotedLimits}
+use Rattle.bolt_bulk.proofs.PassSteps.{pass_begins, pass_ends}
 use Rattle.bolt_bulk.proofs.HeldSteps.{end_held}
-use Rattle.bolt_bulk.proofs.Members.{all_left, next_bucket, next_short, next_value, none_at_all}
+use Rattle.bolt_bulk.proofs.Members.{all_left, left_after, next_entry, next_short, none_at_all, with_item}
 use Rattle.bolt_bulk.proofs.KeptRuns.{nothing_runs, runs_ended}
 use Rattle.bolt_bulk.proofs.OpenRunLemmas.{ends}
 use Rattle.bolt_bulk.proofs.Openings.{all_coming, root_notes}
 use Rattle.bolt_bulk.proofs.PassAt.{on_of}
 use Rattle.bolt_bulk.proofs.PassLeft.{depth_levels}
-use Rattle.bolt_bulk.proofs.PassSteps.{IsOn}
-use Rattle.bolt_bulk.proofs.Tables.{no_numbers, none_noted, opened_most, table_fits, noted_leaves}
+use Rattle.bolt_bulk.proofs.Tables.{none_noted, noted_leaves, opened_most, table_fits}
 use Rattle.bolt_bulk.proofs.PutsLemmas.{bytes-append, pages_some, short_then}
-use Rattle.bolt_format.proofs.WroteLemmas.{Wrote-then}
-use Rattle.bolt_format.specs.Wrote.{Wrote}
-use Rattle.bolt_bulk.specs.BulkEndings.{bulk_ending}
+use Rattle.bolt_format.proofs.WroteLemmas.{Wrote-same, Wrote-then}
 use Rattle.bolt_format.specs.declared.sink.Sink.{Ghosts}
 
 -- ---- the next member
@@ -57,42 +45,29 @@ last_pushed [] key = refl
 last_pushed (part ∷ []) key = refl
 last_pushed (part ∷ next ∷ path) key = last_pushed (next ∷ path) key
 
-pub record HasValue (wanted : Wanted) (pass : Pass) (key value : List ℕ) (members : List Member) (put : List Placed) : Type 0 where
-  pub levels : List Level
-  pub after : Tree
-  pub at : IsAt wanted pass levels (with_value key value after) put
-  pub members_are : left_in levels after ≡ members
-
-pub has_value : (wanted : Wanted) (pass : Pass) (path : Path) (key value : List ℕ) (members : List Member) (put : List Placed) → HasLeft wanted pass ((path, Value value) ∷ members) put → depth_of pass ≤ length path → last_part path ≡ key
-    → HasValue wanted pass key value members put
-has_value wanted pass path key value members put has deep last =
-    let d = depth_levels wanted pass has.levels has.left put has.at in
-    let short = next_short has.levels has.left (path, Value value) members has.members_are in
-    let (own, after, left, path_is, members_is) = next_value has.levels has.left path value members has.members_are (omega arith) in
-    let same : own ≡ key = sym (last_pushed (path_in has.levels) own) ∙ (ap last_part (sym path_is) ∙ last) in
-    grind arith
-
-pub record HasBucket (wanted : Wanted) (pass : Pass) (key : Key) (sequence : ℕ) (members : List Member) (put : List Placed) : Type 0 where
+pub record HasNext (wanted : Wanted) (pass : Pass) (key : Key) (item : Item) (members : List Member) (put : List Placed) : Type 0 where
   pub levels : List Level
   pub inside : Tree
   pub after : Tree
-  pub at : IsAt wanted pass levels (with_bucket key sequence inside after) put
-  pub members_are : left_in (record { key = key; after = after } ∷ levels) inside ≡ members
+  pub at : IsAt wanted pass levels (with_item key item inside after) put
+  pub members_are : left_after levels key item inside after ≡ members
 
-pub has_bucket : (wanted : Wanted) (pass : Pass) (path : Path) (key : Key) (sequence : ℕ) (members : List Member) (put : List Placed) → HasLeft wanted pass ((path, Bucket sequence) ∷ members) put → depth_of pass ≤ length path → last_part path ≡ key
-    → HasBucket wanted pass key sequence members put
-has_bucket wanted pass path key sequence members put has deep last =
+pub has_next : (wanted : Wanted) (pass : Pass) (path : Path) (key : Key) (item : Item) (members : List Member) (put : List Placed) → HasLeft wanted pass ((path, item) ∷ members) put → depth_of pass ≤ length path → last_part path ≡ key
+    → HasNext wanted pass key item members put
+has_next wanted pass path key item members put has deep last =
     let d = depth_levels wanted pass has.levels has.left put has.at in
-    let short = next_short has.levels has.left (path, Bucket sequence) members has.members_are in
-    let (own, inside, after, left, path_is, members_is) = next_bucket has.levels has.left path sequence members has.members_are (omega arith) in
-    let same : own ≡ key = sym (last_pushed (path_in has.levels) own) ∙ (ap last_part (sym path_is) ∙ last) in
-    grind arith
+    let short = next_short has.levels has.left (path, item) members has.members_are in
+    let next = next_entry has.levels has.left path item members has.members_are (omega arith) in
+    let same : next.key ≡ key = sym (last_pushed (path_in has.levels) next.key) ∙ (ap last_part (sym next.path_is) ∙ last) in
+    record {
+      levels = has.levels;
+      inside = next.inside;
+      after = next.after;
+      at = subst (λ (k : Key). IsAt wanted pass has.levels (with_item k item next.inside next.after) put) same (subst (λ (t : Tree). IsAt wanted pass has.levels t put) next.rest_is has.at);
+      members_are = ap (λ (k : Key). left_after has.levels k item next.inside next.after) (sym same) ∙ sym next.more_is;
+    }
 
 -- The members of the listing of a tree that can be stored fit.
-fit_append : (xs ys : List Member) → AllByRecursion IsFitMember xs → AllByRecursion IsFitMember ys → AllByRecursion IsFitMember (xs ++ ys)
-fit_append [] ys a b = b
-fit_append (x ∷ xs) ys a b = (a.0, fit_append xs ys a.1 b)
-
 one_part : (path : Path) (key : Key) → length key ≤ 1073741824 → (1 ≤ length (path ++ key ∷ [])) × (length (last_part (path ++ key ∷ [])) ≤ 1073741824)
 one_part path key short = grind (arith, length-append, last_pushed)
 
@@ -102,7 +77,7 @@ members_fit path (with_value key value after) (key_fits, value_fits, others) =
     let (some, last) = one_part path key key_fits.1 in ((some, last, value_fits), members_fit path after others)
 members_fit path (with_bucket key sequence inside after) (key_fits, sequence_fits, inner, others) =
     let (some, last) = one_part path key key_fits.1 in
-    ((some, last, tt), fit_append (listing_below (path ++ key ∷ []) inside) (listing_below path after) (members_fit (path ++ key ∷ []) inside inner) (members_fit path after others))
+    ((some, last, tt), all_append IsFitMember (listing_below (path ++ key ∷ []) inside) (listing_below path after) (members_fit (path ++ key ∷ []) inside inner) (members_fit path after others))
 
 -- ---- the beginning
 
@@ -112,8 +87,7 @@ pub has_begun : (wanted : Wanted) (pass : Pass) → pass.waiting.items ≡ [] �
     → FitLimits wanted.which wanted.tree pass.setup.page_size (limits_by pass) → HasLeft wanted pass (listing_of wanted.tree) []
 has_begun wanted pass none nothing runs fresh first asked unnoted fit =
     let P : ℕ = pass.setup.page_size in
-    let leaves : List (Laid BranchElement) = leaf_pages P (items_of wanted.which P wanted.tree) in
-    let known : Known = record { limits = record { all = pass.limits; bucket = 0 }; leaves = leaves } in
+    let known : Known = record { number = 0; limits = record { all = pass.limits; bucket = 0 }; leaves = leaf_pages P (items_of wanted.which P wanted.tree) } in
     record {
       levels = [];
       left = wanted.tree;
@@ -121,19 +95,18 @@ has_begun wanted pass none nothing runs fresh first asked unnoted fit =
         frames = [];
         state = nothing_open known;
         rest = wanted.tree;
-        under = pass_begins wanted.which P known wanted.tree refl fit.root;
-        runs = subst (λ (r : BucketRunsView). AreOpenRuns r (nothing_open known) first_page) (sym runs) (nothing_runs known first_page);
+        on = record { under = pass_begins wanted.which P known wanted.tree refl fit.root; kept = subst (λ (r : BucketRunsView). AreOpenRuns r (nothing_open known) first_page) (sym runs) (nothing_runs known first_page); put_is = refl };
         waits = rw none tt;
-        put_is = refl;
-        held = omega arith;
         pends = rw nothing (refl, refl);
+        held = omega arith;
         opened = 1;
         opened_is = omega arith;
-        coming = all_coming wanted P (limits_by pass) fit.others;
-        around = omega arith;
-        numbers = 0 ∷ [];
-        numbered = (record { earlier = omega arith; number_is = refl; notes = root_notes wanted P }, tt);
-        has_noted = record { asked = asked; table = λ _ _ _. none_noted P wanted.tree pass.noted.limits unnoted };
+        coming = record { inside = all_coming wanted P (limits_by pass) fit.others; around = omega arith };
+        noted = record {
+          numbered = (record { earlier = omega arith; number_is = refl; notes = root_notes wanted P }, tt);
+          asked = asked;
+          table = λ _ _ _. none_noted P wanted.tree pass.noted.limits known refl unnoted;
+        };
       };
       members_are = all_left wanted.tree;
     }
@@ -167,7 +140,7 @@ root_ended : (page_size : ℕ) (wanted : Wanted) (state : Open) (runs : BucketRu
     → (layout_pages wanted.which page_size wanted.tree ≡ put ++ runs_end_put page_size runs) × (runs_end page_size runs ≡ layout_root wanted.which page_size wanted.tree) × (bucket_end_next page_size runs ≡ layout_mark wanted.which page_size wanted.tree)
     × (held_so_far [] state ≡ layout_held wanted.which page_size wanted.tree)
 root_ended page_size wanted state runs put on =
-    let ended = runs_ended page_size runs state first_page on.runs_are_kept in
+    let ended = runs_ended page_size runs state first_page on.kept in
     let whole : end_of page_size state ≡ root_of wanted.which page_size wanted.tree = ends wanted.which page_size state on.under.root on.under.current ∙ on.under.stack in
     grind (arith, pass_ends, end_held)
 
@@ -177,10 +150,10 @@ has_end wanted pass put has shallow =
     let none = no_levels has.levels (omega arith) in
     let left : has.left ≡ end = none_at_all has.levels has.left has.members_are in
     let at = subst (λ (t : Tree). IsAt wanted pass [] t put) left (subst (λ (ls : List Level). IsAt wanted pass ls has.left put) none has.at) in
-    let (same, on, right) = on_of wanted pass [] end put at (no_pending pass shallow) in
+    let (same, on, coming) = on_of at (no_pending pass shallow) in
     let frames = no_frames at.frames same in
-    let on2 = subst (λ (fs : List Frame). IsOn wanted.which pass.setup.page_size wanted.tree fs at.state [] (bucket_runs pass.bucket pass.next) put) frames on in
-    let (pages, root, mark, held) = root_ended pass.setup.page_size wanted at.state (bucket_runs pass.bucket pass.next) put on2 in
+    let (pages, root, mark, held) = root_ended pass.setup.page_size wanted at.state (bucket_runs pass.bucket pass.next) put
+    (subst (λ (fs : List Frame). IsOn wanted.which pass.setup.page_size wanted.tree fs at.state [] (bucket_runs pass.bucket pass.next) put) frames on) in
     record {
       pages = pages;
       root = root;
@@ -188,13 +161,11 @@ has_end wanted pass put has shallow =
       held = at.held ∙ ap capped (ap (λ (fs : List Frame). held_so_far fs at.state) frames ∙ held);
       noted = λ noted ended asked which fits.
           let P : ℕ = pass.setup.page_size in
-          let numbered = subst (λ (fs : List Frame). AreNumbered wanted P at.opened at.numbers (open_in at.state fs)) frames at.numbered in
-          let around = subst (λ (fs : List Frame). AreComingAround wanted P (limits_by pass) (at.opened + 0) fs) frames right.1 in
-          let most = opened_most wanted P (limits_by pass) (at.opened + 0) at.frames right.1 in
-          let last = noted_leaves wanted P pass.noted noted at.opened (base_in at.frames) at.numbers at.state [] pass.bucket.uppers on.under.root at.has_noted numbered (omega arith) at.runs.above at.runs.limits_are on.under.current ended in
-          let table = subst (λ (ns : List ℕ). IsTable P wanted.tree noted.limits at.opened ns) (no_numbers wanted P at.opened last.numbers last.numbered) (last.has_noted.table asked which fits) in
+          let last = noted_leaves pass.bucket [] (subst (λ (fs : List Frame). HasNoted wanted P pass.noted at.opened (open_in at.state fs)) frames at.noted) coming on ended in
+          let all = subst (λ (fs : List Frame). AreComingAround wanted P (limits_by pass) (at.opened + 0) fs) frames coming.around in
+          let most = opened_most wanted P (limits_by pass) (at.opened + 0) at.frames coming.around in
           let count : suc (opened_in wanted.which P wanted.tree) ≡ suc (opened_in Plain P wanted.tree) = ap (λ (w : Layout). suc (opened_in w P wanted.tree)) which in
-          table_fits P wanted.tree noted.limits at.opened table (omega arith) (omega arith);
+          table_fits P wanted.tree noted.limits at.opened (last.table asked which fits) (omega arith) (omega arith);
     }
 
 -- A prefix of a text isn't the whole of a longer one.
@@ -206,26 +177,23 @@ rest_some : (page_size : ℕ) (pages : List Placed) → 1 ≤ length pages → p
 rest_some page_size [] some = absurd (omega arith)
 rest_some page_size (page ∷ pages) some = pages_some page_size page pages
 
-module _ {S : Type 0} (wanted : Wanted) (sink : Ghosts S) (setup : PageSetup) where
+module _ {S : Type 0} {wanted : Wanted} {sink : Ghosts S} {setup : PageSetup} {old new : S} {put : List Placed} {At : List Placed → Type 0} {result : Result Ended BulkFault} where
   -- a step failed on the way
-  pub ends_early : {A : Type 0} (old new : S) (put : List Placed) (At : List Placed → Type 0) (e : BulkFault) (result : Result Ended BulkFault) → IsErrAnd result (λ f. f ≡ e) → Steps {A = A} wanted sink old new setup put At (Err e) → Ends wanted sink old new setup put result
-  ends_early old new put At e (Ok x) same steps = absurd same
-  ends_early old new put At e (Err f) same steps = grind (arith, bytes-append, append_assoc, rest_some, some_more)
+  pub ends_early : {A : Type 0} {e : BulkFault} → IsErrAnd result (λ f. f ≡ e) → Steps {A = A} wanted sink old new setup put At (Err e) → Ends wanted sink old new setup put result
+  ends_early same steps = let e = err_from_is_err_and result same in rw (e.1, e.2) (grind (arith, bytes-append, append_assoc, rest_some, some_more))
 
   -- after steps that went well
-  pub ends_after : {A : Type 0} {later : PageSetup} (old mid new : S) (put : List Placed) (At : List Placed → Type 0) (x : A) (result : Result Ended BulkFault) → later ≡ setup → Steps wanted sink old mid setup put At (Ok x)
-      → ((all : List Placed) → At all → Ends wanted sink mid new later all result) → Ends wanted sink old new setup put result
-  ends_after old mid new put At x result later_is one two =
+  pub ends_after : {A : Type 0} {later : PageSetup} {mid : S} {x : A} → later ≡ setup → Steps wanted sink old mid setup put At (Ok x) → ((all : List Placed) → At all → Ends wanted sink mid new later all result)
+      → Ends wanted sink old new setup put result
+  ends_after {mid} later_is one two =
       let P : ℕ = setup.page_size in
       let then = subst (λ (b : PageSetup). Ends wanted sink mid new b (put ++ one.more) result) later_is (two (put ++ one.more) one.at) in
-      let others : List Placed = one.more ++ then.others in
-      let bytes : placed_bytes P others ≡ placed_bytes P one.more ++ placed_bytes P then.others = bytes-append P one.more then.others in
+      let bytes = sym (bytes-append P one.more then.others) in
       record {
-        others = others;
+        others = one.more ++ then.others;
         all = then.all ∙ append_assoc put one.more then.others;
-        puts = subst (λ (bs : List ℕ). Wrote sink old new bs (bulk_ending result)) (sym bytes) (Wrote-then one.puts then.puts);
-        short = subst (λ (bs : List ℕ). OnErr result (AppendsProperPrefix (sink.taken old) (sink.taken new) bs)) (sym bytes)
-            (short_then old mid new (placed_bytes P one.more) (placed_bytes P then.others) result one.puts then.short);
+        puts = Wrote-same bytes (Wrote-then one.puts then.puts);
+        short = subst (λ (bs : List ℕ). OnErr result (AppendsProperPrefix (sink.taken old) (sink.taken new) bs)) bytes (short_then old mid new (placed_bytes P one.more) (placed_bytes P then.others) result one.puts then.short);
         root = then.root;
         mark = then.mark;
         within = then.within;

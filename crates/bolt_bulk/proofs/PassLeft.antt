@@ -1,29 +1,24 @@
 -- A pass and the members of the listing that are left to it.
-use Rattle.std.proofs.Common.{◌≡◌, ℕ, suc, ◌+◌, ◌≤◌, ◌<◌, List, [], ◌∷◌, length, Option, Some, None, Result, Ok, refl, ap, arith}
+use Rattle.std.proofs.Common.{◌≡◌, ℕ, suc, ◌+◌, ◌≤◌, ◌<◌, List, [], ◌∷◌, length, Option, Some, None, Ok, refl, ap, arith, subst}
 use Rattle.std.specs.Prelude.{⊤}
 use Rattle.std.proofs.lemmas.List.{length-map, length-reverse}
 use Rattle.bolt_format.specs.declared.element.Leaf.{Leaf}
 use Rattle.bolt_tree.specs.Listing.{Member}
 use Rattle.bolt_tree.specs.Tree.{Tree, end}
 use Rattle.bolt_layout.specs.Laid.{Placed}
-use Rattle.bolt_bulk.specs.Private.Levels.{Level, left_in}
-use Rattle.bolt_bulk.specs.Private.OpenRuns.{Frame}
-use Rattle.bolt_bulk.specs.Private.Passes.{Wanted, AreWaiting, HasLeft, IsAt, IsNoDeeper, IsPending, Steps, depth_of, pending_depth}
-use Rattle.bolt_bulk.specs.declared.page_setup.PageSetup.{PageSetup}
-use Rattle.bolt_bulk.specs.declared.fault.BulkFault.{BulkFault}
+use Rattle.bolt_bulk.specs.Private.{AreWaiting, depth_of, Frame, HasLeft, IsAt, IsNoDeeper, IsPending, left_in, Level, pending_depth, Steps, Wanted}
 use Rattle.bolt_bulk.specs.declared.pass.Pass.{Pass}
-use Rattle.bolt_bulk.specs.declared.pending_bucket.PendingBucket.{PendingBucket}
+use Rattle.bolt_bulk.specs.declared.waiting_bucket.PendingBucket.{PendingBucket}
 use Rattle.bolt_bulk.specs.declared.waiting_bucket.WaitingBucket.{WaitingBucket}
 use Rattle.bolt_bulk.proofs.Members.{none_at_all, none_further}
-use Rattle.bolt_bulk.proofs.PassAt.{on_ok_map, steps_none}
+use Rattle.bolt_bulk.proofs.PassAt.{steps_none}
 use Rattle.bolt_format.specs.declared.sink.Sink.{Ghosts}
 
 -- The depth that the code counts is that of the levels.
 waiting_frames : (waiting : List WaitingBucket) (frames : List Frame) → AreWaiting waiting frames → length waiting ≡ length frames
 waiting_frames [] [] are = refl
-waiting_frames [] (frame ∷ frames) are = absurd are
-waiting_frames (w ∷ waiting) [] are = absurd are
 waiting_frames (w ∷ waiting) (frame ∷ frames) (runs, key, sequence, others) = let ih = waiting_frames waiting frames others in omega arith
+waiting_frames waiting frames are = absurd are
 
 pending_levels : (pending : Option PendingBucket) (entries : List Leaf) (outer : List Level) (rest : Tree) (levels : List Level) (left : Tree) → IsPending pending entries outer rest levels left
     → length levels ≡ pending_depth pending + length outer
@@ -33,15 +28,13 @@ pending_levels (Some p) entries outer rest levels left (after, same, is) = let l
 pub depth_levels : (wanted : Wanted) (pass : Pass) (levels : List Level) (left : Tree) (put : List Placed) → IsAt wanted pass levels left put → depth_of pass ≡ suc (length levels)
 depth_levels wanted pass levels left put is = grind (arith, waiting_frames, length-reverse, length-map, pending_levels)
 
--- what a step leaves, in other words
-pub steps_map : {S A : Type 0} {sink : Ghosts S} (wanted : Wanted) (old new : S) (setup : PageSetup) (put : List Placed) (At Then : List Placed → Type 0) (result : Result A BulkFault)
-    → ((all : List Placed) → At all → Then all) → Steps wanted sink old new setup put At result → Steps wanted sink old new setup put Then result
-steps_map wanted old new setup put At Then result f steps = grind (arith, on_ok_map)
+pub left_same : {wanted : Wanted} {pass : Pass} {members others : List Member} {put : List Placed} → members ≡ others → HasLeft wanted pass members put → HasLeft wanted pass others put
+left_same {wanted} {pass} {put = put} same has = subst (λ (ms : List Member). HasLeft wanted pass ms put) same has
 
 -- nothing was done yet
-pub steps_begun : {S : Type 0} {sink : Ghosts S} (wanted : Wanted) (pass : Pass) (members : List Member) (put : List Placed) (old : S) → HasLeft wanted pass members put
+pub steps_begun : {S : Type 0} {sink : Ghosts S} {wanted : Wanted} {pass : Pass} {members : List Member} {put : List Placed} {old : S} → HasLeft wanted pass members put
     → Steps {A = ⊤} wanted sink old old pass.setup put (HasLeft wanted pass members) (Ok tt)
-steps_begun wanted pass members put old has = steps_none wanted pass has.levels has.left put old (HasLeft wanted pass members) (Ok tt) has.at tt has
+steps_begun has = steps_none (Ok tt) has.at tt has
 
 -- The next member is further out, or there is none: the innermost bucket has no more.
 no_more : (depth : ℕ) (levels : List Level) (left : Tree) (members : List Member) → left_in levels left ≡ members → IsNoDeeper depth members → depth < suc (length levels) → left ≡ end

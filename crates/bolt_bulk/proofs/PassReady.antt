@@ -3,20 +3,15 @@ use Rattle.std.proofs.Common.{◌⊎◌, ◌≡◌, ℕ, ◌+◌, ◌/◌, ◌�
 use Rattle.std.specs.List.{AllByRecursion}
 use Rattle.std.proofs.lemmas.List.{length-append, length-map, map-append}
 use Rattle.bolt_format.specs.ElementPlaces.{leaf_view}
-use Rattle.bolt_format.specs.Elements.{LeafElement}
 use Rattle.bolt_format.specs.declared.element.Leaf.{Leaf}
 use Rattle.bolt_tree.specs.Tree.{Tree, with_value}
 use Rattle.bolt_layout.specs.declared.layout.Layout.{Layout}
-use Rattle.bolt_layout.specs.PageBytes.{inline_value, leaf_data}
-use Rattle.bolt_bulk.specs.Private.Passes.{HasRoot, IsPendingSmall, IsSmall, onto}
-use Rattle.bolt_bulk.specs.declared.pending_bucket.PendingBucket.{PendingBucket}
+use Rattle.bolt_layout.specs.PageBytes.{inline_value}
+use Rattle.bolt_bulk.specs.Private.{HasRoot, IsPendingSmall, IsSmall, onto}
+use Rattle.bolt_bulk.specs.declared.waiting_bucket.PendingBucket.{PendingBucket}
 use Rattle.bolt_bulk.proofs.Ontos.{value_too_large}
-use Rattle.bolt_bulk.proofs.LeafPuts.{length-inline_value}
+use Rattle.bolt_bulk.proofs.HeldRuns.{data_push, length-inline_value}
 use Rattle.bolt_layout.proofs.ListLemmas.{all_append}
-
-data_push : (es : List LeafElement) (e : LeafElement) → length (leaf_data (es ++ e ∷ [])) ≡ length (leaf_data es) + (length e.key + length e.value)
-data_push [] e = omega (arith, length-append e.key (e.value ++ []), length-append e.value [])
-data_push (x ∷ es) e = grind (arith, length-append, data_push es e)
 
 -- the bucket that may be inline
 pub small_of : (page_size : ℕ) (pending : Option PendingBucket) (p : PendingBucket) (entries : List Leaf) → pending ≡ Some p → IsPendingSmall page_size pending entries → IsSmall page_size p entries
@@ -29,7 +24,7 @@ pub small_push : (page_size size : ℕ) (p : PendingBucket) (entries more : List
 small_push page_size size p entries more entry is key value sized small few pushed = grind (arith, map-append, data_push, length-append, all_append)
 
 pub inline_long : (page_size : ℕ) (p : PendingBucket) (entries : List Leaf) → IsSmall page_size p entries → p.size + 16 ≡ length (inline_value p.sequence (map leaf_view entries))
-inline_long page_size p entries is = omega (arith, is.sized, length-inline_value leaf_view p.sequence entries, length-map entries leaf_view)
+inline_long page_size p entries is = omega (arith, is.sized, length-inline_value p.sequence (map leaf_view entries))
 
 pub last_of : {X : Type 0} (P : X → Type 0) (xs : List X) (x : X) → AllByRecursion P (xs ++ x ∷ []) → P x × AllByRecursion P xs
 last_of P [] x all = (all.0, tt)

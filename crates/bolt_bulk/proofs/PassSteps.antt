@@ -1,50 +1,104 @@
--- The steps of a pass, over the open runs and what the code keeps of them.
-use Rattle.std.proofs.Common.{◌≡◌, ◌∙◌, ℕ, ◌+◌, ◌/◌, ◌≤◌, ◌<◌, Bool, true, false, List, [], ◌∷◌, ◌++◌, length, refl, sym, ap, subst, arith, append_assoc}
-use Rattle.std.specs.List.{AllByRecursion}
-use Rattle.std.proofs.lemmas.Bool.{le-leb, lt-ltb}
+-- A forward pass over a tree, with a frame for each waiting bucket: in the end they become the root page, and the pages that were written are
+-- those of the layout. Its steps, over the open runs and what the code keeps of them.
+use Rattle.std.proofs.Common.{◌≡◌, ℕ, ◌+◌, List, [], ◌∷◌, ◌++◌, length, refl, append_assoc, arith, subst, ◌∙◌, ◌/◌, ◌≤◌, ◌<◌, Bool, true, false, sym, ap}
 use Rattle.std.proofs.lemmas.List.{append-nil, length-append}
-use Rattle.std.proofs.lemmas.List.Sums.{sum_by_push}
 use Rattle.bolt_format.specs.Elements.{BranchElement, LeafElement}
 use Rattle.bolt_tree.specs.Tree.{Tree, end}
-use Rattle.bolt_layout.specs.Cut.{run_size}
-use Rattle.bolt_layout.specs.Items.{bucket_item, items_of, leaf_item, root_of, stored_bucket}
+use Rattle.bolt_layout.specs.Items.{bucket_item, items_of, root_of, leaf_item, stored_bucket}
 use Rattle.bolt_layout.specs.Laid.{Laid, Placed, size_of}
-use Rattle.bolt_layout.specs.Layout.{layout_mark, layout_pages}
-use Rattle.bolt_layout.specs.Limits.{HaveRightLimits}
 use Rattle.bolt_layout.specs.Levels.{root_over}
-use Rattle.bolt_layout.specs.PageBytes.{inline_value, leaf_data}
-use Rattle.bolt_bulk.specs.Private.RowLimits.{bucket_limit}
-use Rattle.bolt_bulk.specs.Private.Coming.{IsPass, held_item, leaves_coming}
-use Rattle.bolt_bulk.specs.Private.OpenBuckets.{bucket_end_next}
-use Rattle.bolt_bulk.specs.Private.BucketRuns.{AreOpenRuns}
-use Rattle.bolt_bulk.specs.Private.OpenRuns.{all_put, base_in, end_of, Frame, frames_put, Known, making_room, nothing_open, Open, pushing, room_puts, taking}
-use Rattle.bolt_bulk.specs.Private.Passes.{HasRoot, StandsBefore, onto}
-use Rattle.bolt_bulk.specs.Private.RunViews.{BucketRunsView, runs_end, runs_end_put, runs_push, runs_room, runs_room_put}
-use Rattle.bolt_bulk.specs.Private.TakenItems.{entries_size, root_element, runs_taking}
-use Rattle.bolt_bulk.proofs.Frames.{pass_enters, pass_leaves, pass_takes, put_enters, put_leaves, put_takes, waiting}
-use Rattle.bolt_bulk.proofs.Ontos.{IsValue, ends_inline, onto_items, value_items, values_elements, values_keyed, values_numbers, values_pages, values_size}
-use Rattle.bolt_bulk.proofs.KeptRuns.{runs_ended}
-use Rattle.bolt_bulk.proofs.PassRuns.{enter_is, leave_is, take_is}
-use Rattle.bolt_bulk.proofs.PutBefore.{pass_before}
+use Rattle.bolt_layout.specs.Limits.{HaveRightLimits}
+use Rattle.bolt_layout.specs.Layout.{first_page, layout_pages, layout_mark}
+use Rattle.bolt_bulk.specs.Private.{all_put, base_in, bucket_limit, end_of, end_puts, Frame, HasBegun, held_item, IsOpen, IsPass, Known, leaves_coming, making_room, nothing_open, Open, pushing, room_puts, taking, AreOpenRuns, bucket_end_next, BucketRunsView, entries_size, frames_put, HasRoot, IsOn, onto, root_element, runs_end, runs_end_put, runs_push, runs_room, runs_room_put, runs_taking, StandsBefore}
+use Rattle.bolt_bulk.proofs.OpenRunLemmas.{ends, ends_put, opens, pushed_put, room_put, takes}
 use Rattle.bolt_layout.specs.declared.layout.Layout.{Layout}
+use Rattle.std.specs.List.{AllByRecursion}
+use Rattle.std.proofs.lemmas.Bool.{le-leb, lt-ltb}
+use Rattle.std.proofs.lemmas.List.Sums.{sum_by_push}
+use Rattle.bolt_layout.specs.Cut.{run_size}
+use Rattle.bolt_layout.specs.PageBytes.{inline_value, leaf_data}
+use Rattle.bolt_bulk.proofs.Ontos.{IsValue, ends_inline, onto_items, value_items, values_elements, values_keyed, values_numbers, values_pages, values_size}
+use Rattle.bolt_bulk.proofs.KeptRuns.{runs_ended, runs_have_room, runs_pushed}
+use Rattle.bolt_bulk.proofs.PutBefore.{pass_before}
 
--- Where the pass is, apart from how the code keeps the waiting buckets.
-pub record IsOn (which : Layout) (page_size : ℕ) (tree : Tree) (frames : List Frame) (state : Open) (items : List (Laid LeafElement)) (runs : BucketRunsView) (put : List Placed) : Type 0 where
-  pub under : IsPass which page_size frames state items (root_of which page_size tree)
-  pub runs_are_kept : AreOpenRuns runs state (base_in frames)
-  pub put_is : put ≡ all_put frames state
+-- a run with an item isn't empty
+no_push : (run : List (Laid LeafElement)) (item : Laid LeafElement) → run ++ item ∷ [] ≡ [] → ⊥
+no_push [] item e = cc
+no_push (x ∷ run) item e = cc
 
-module _ (which : Layout) (page_size : ℕ) (tree : Tree) where
+pushed_begun : (state : Open) (item : Laid LeafElement) → HasBegun (pushing state item)
+pushed_begun state item none = absurd (no_push state.run item none)
+
+-- The beginning: nothing is open, and nothing was written.
+pub pass_begins : (which : Layout) (page_size : ℕ) (known : Known) (tree : Tree) → known.leaves ≡ leaves_coming page_size [] (items_of which page_size tree)
+    → HaveRightLimits which page_size (bucket_limit known.limits) (leaves_coming page_size [] (items_of which page_size tree))
+    → IsPass which page_size [] (nothing_open known) (items_of which page_size tree) (root_of which page_size tree)
+unfolding root_of
+pass_begins which page_size known tree leaves right = record {
+  root = root_over which page_size (items_of which page_size tree);
+  current = opens which page_size known (items_of which page_size tree) leaves right;
+  begun = λ none. refl;
+  stack = refl;
+}
+
+-- An item with no pages below it: room is made, and it is taken.
+pub pass_takes : (which : Layout) (page_size : ℕ) (frames : List Frame) (state : Open) (item : Laid LeafElement) (items : List (Laid LeafElement)) (whole : Laid BranchElement)
+    → IsPass which page_size frames state (item ∷ items) whole → IsPass which page_size frames (taking page_size state item) items whole
+pass_takes which page_size frames state item items whole pass = grind (arith, takes, pushed_begun)
+
+pub put_takes : (page_size : ℕ) (frames : List Frame) (state : Open) (item : Laid LeafElement) → ((n : ℕ) → item.pages n ≡ [])
+    → all_put frames (taking page_size state item) ≡ all_put frames state ++ room_puts page_size state item.key item.size (base_in frames)
+put_takes page_size frames state item none = grind (arith, pushed_put, append-nil, room_put, append_assoc)
+
+-- A bucket with a root page: room is made, and a bucket within begins.
+abbrev pub waiting : ℕ → Open → List ℕ → ℕ → Tree → Frame
+waiting page_size state key sequence after = record { state = making_room page_size state key (32 + length key); key = key; sequence = sequence; after = after }
+
+pub pass_enters : (which : Layout) (page_size : ℕ) (known : Known) (frames : List Frame) (state : Open) (key : List ℕ) (sequence : ℕ) (inner : List (Laid LeafElement)) (after : Tree) (whole : Laid BranchElement)
+    → known.leaves ≡ leaves_coming page_size [] inner → HaveRightLimits which page_size (bucket_limit known.limits) (leaves_coming page_size [] inner)
+    → IsPass which page_size frames state (bucket_item key sequence (root_over which page_size inner) ∷ items_of which page_size after) whole
+    → IsPass which page_size (waiting page_size state key sequence after ∷ frames) (nothing_open known) inner whole
+pass_enters which page_size known frames state key sequence inner after whole leaves right pass =
+    let item : Laid LeafElement = bucket_item key sequence (root_over which page_size inner) in
+    let size : item.size ≡ 32 + length key = omega arith in
+    record {
+      root = root_over which page_size inner;
+      current = opens which page_size known inner leaves right;
+      begun = λ none. refl;
+      stack = (
+        pass.root,
+        subst (λ (n : ℕ). IsOpen which page_size (pushing (making_room page_size state key n) item) (items_of which page_size after) pass.root) size (takes which page_size state item (items_of which page_size after) pass.root pass.current),
+        pass.stack,
+      );
+    }
+
+pub put_enters : (page_size : ℕ) (known : Known) (frames : List Frame) (state : Open) (key : List ℕ) (sequence : ℕ) (after : Tree)
+    → all_put (waiting page_size state key sequence after ∷ frames) (nothing_open known) ≡ all_put frames state ++ room_puts page_size state key (32 + length key) (base_in frames)
+put_enters page_size known frames state key sequence after = grind (arith, append-nil, room_put, append_assoc)
+
+-- The end of a bucket within: its runs close, and the bucket that waits takes its item.
+pub pass_leaves : (which : Layout) (page_size : ℕ) (frame : Frame) (frames : List Frame) (state : Open) (whole : Laid BranchElement) → IsPass which page_size (frame ∷ frames) state [] whole
+    → IsPass which page_size frames (pushing frame.state (held_item frame (end_of page_size state))) (items_of which page_size frame.after) whole
+pass_leaves which page_size frame frames state whole pass = grind (arith, ends, pushed_begun)
+
+pub put_leaves : (page_size : ℕ) (frame : Frame) (frames : List Frame) (state : Open)
+    → all_put frames (pushing frame.state (held_item frame (end_of page_size state))) ≡ all_put (frame ∷ frames) state ++ end_puts page_size state (base_in (frame ∷ frames))
+put_leaves page_size frame frames state = grind (arith, pushed_put, ends_put, append_assoc)
+
+-- The end: what was written and what the last runs write are the pages of the layout.
+pub pass_ends : (which : Layout) (page_size : ℕ) (tree : Tree) (state : Open) → IsPass which page_size [] state [] (root_of which page_size tree)
+    → all_put [] state ++ end_puts page_size state first_page ≡ layout_pages which page_size tree
+pass_ends which page_size tree state pass = grind (arith, ends, ends_put)
+
+module _ {which : Layout} {page_size : ℕ} {tree : Tree} where
   -- what was written comes before the root page, and its numbers are below the high-water mark
-  pub on_before : (frames : List Frame) (state : Open) (items : List (Laid LeafElement)) (runs : BucketRunsView) (put : List Placed) → IsOn which page_size tree frames state items runs put
-      → StandsBefore put (layout_pages which page_size tree)
-  on_before frames state items runs put on =
+  pub on_before : {frames : List Frame} {state : Open} {items : List (Laid LeafElement)} {runs : BucketRunsView} {put : List Placed} → IsOn which page_size tree frames state items runs put → StandsBefore put (layout_pages which page_size tree)
+  on_before {frames} {state} {items} on =
       let is = pass_before which page_size frames state items (root_of which page_size tree) on.under in
       record { rest = is.rest; parts = is.parts ∙ ap (λ (ps : List Placed). ps ++ is.rest) (sym on.put_is); some = is.some }
 
-  pub on_numbers : (frames : List Frame) (state : Open) (items : List (Laid LeafElement)) (runs : BucketRunsView) (put : List Placed) → IsOn which page_size tree frames state items runs put
-      → runs.next ≤ layout_mark which page_size tree
-  on_numbers frames state items runs put on = omega (arith, (pass_before which page_size frames state items (root_of which page_size tree) on.under).fewer, on.runs_are_kept.next_is)
+  pub on_numbers : {frames : List Frame} {state : Open} {items : List (Laid LeafElement)} {runs : BucketRunsView} {put : List Placed} → IsOn which page_size tree frames state items runs put → runs.next ≤ layout_mark which page_size tree
+  on_numbers {frames} {state} {items} on = omega (arith, (pass_before which page_size frames state items (root_of which page_size tree) on.under).fewer, on.kept.next_is)
 
   -- an item without pages below it is taken
   pub on_takes : (frames : List Frame) (state : Open) (key value : List ℕ) (flag : Bool) (items : List (Laid LeafElement)) (runs : BucketRunsView) (put : List Placed)
@@ -53,45 +107,42 @@ module _ (which : Layout) (page_size : ℕ) (tree : Tree) where
       (put ++ runs_room_put page_size runs key (16 + (length key + length value)))
   on_takes frames state key value flag items runs put on =
       let item : Laid LeafElement = leaf_item key value flag in
-      let made = take_is page_size runs state (base_in frames) key value flag on.runs_are_kept in
+      let made = runs_have_room page_size runs state (base_in frames) key item.size on.kept in
       record {
         under = pass_takes which page_size frames state item items (root_of which page_size tree) on.under;
-        runs_are_kept = made.0;
-        put_is = ap (λ (ps : List Placed). ps ++ runs_room_put page_size runs key item.size) on.put_is
-            ∙ (ap (λ (ps : List Placed). all_put frames state ++ ps) made.1 ∙ sym (put_takes page_size frames state item (λ n. refl)));
+        kept = runs_pushed _ (making_room page_size state key item.size) (base_in frames) item _ _ _ made.0 (λ n. refl) refl refl (omega arith);
+        put_is = (let written = put_takes page_size frames state item (λ n. refl) in let before = on.put_is in cc);
       }
 
   -- a bucket with a root page is entered
   pub on_enters : (known : Known) (frames : List Frame) (state : Open) (key : List ℕ) (sequence : ℕ) (inner : List (Laid LeafElement)) (after : Tree) (runs : BucketRunsView) (put : List Placed)
       → known.leaves ≡ leaves_coming page_size [] inner → HaveRightLimits which page_size (bucket_limit known.limits) (leaves_coming page_size [] inner)
       → IsOn which page_size tree frames state (bucket_item key sequence (root_over which page_size inner) ∷ items_of which page_size after) runs put
-      → IsPass which page_size (waiting page_size state key sequence (root_over which page_size inner) after ∷ frames) (nothing_open known) inner (root_of which page_size tree)
+      → IsPass which page_size (waiting page_size state key sequence after ∷ frames) (nothing_open known) inner (root_of which page_size tree)
       × AreOpenRuns (runs_room page_size runs key (32 + length key)) (making_room page_size state key (32 + length key)) (base_in frames)
-      × (put ++ runs_room_put page_size runs key (32 + length key) ≡ all_put (waiting page_size state key sequence (root_over which page_size inner) after ∷ frames) (nothing_open known))
+      × (put ++ runs_room_put page_size runs key (32 + length key) ≡ all_put (waiting page_size state key sequence after ∷ frames) (nothing_open known))
   on_enters known frames state key sequence inner after runs put leaves right on =
-      let made = enter_is page_size runs state (base_in frames) key on.runs_are_kept in
-      let size : 32 + length key ≡ 16 + (length key + 16) = omega arith in
-      let root : Laid LeafElement = bucket_item key sequence (root_over which page_size inner) in (
+      let made = runs_have_room page_size runs state (base_in frames) key (32 + length key) on.kept in (
         pass_enters which page_size known frames state key sequence inner after (root_of which page_size tree) leaves right on.under,
         made.0,
-        ap (λ (ps : List Placed). ps ++ runs_room_put page_size runs key (32 + length key)) on.put_is
-            ∙ (ap (λ (ps : List Placed). all_put frames state ++ ps) (made.1 ∙ ap (λ (n : ℕ). room_puts page_size state key n (base_in frames)) size)
-            ∙ sym (put_enters page_size known frames state key sequence (root_over which page_size inner) after)),
+        (let written = put_enters page_size known frames state key sequence after in let before = on.put_is in cc),
       )
 
   -- it ends, and the bucket around it goes on
-  pub on_leaves : (frame : Frame) (frames : List Frame) (state : Open) (inner outer : BucketRunsView) (put : List Placed) → IsOn which page_size tree (frame ∷ frames) state [] inner put
-      → AreOpenRuns outer frame.state (base_in frames) → outer.next ≡ base_in (frame ∷ frames)
+  pub on_leaves : (frame : Frame) (frames : List Frame) (state : Open) (inner outer : BucketRunsView) (put : List Placed) (key : List ℕ) (sequence : ℕ) → IsOn which page_size tree (frame ∷ frames) state [] inner put
+      → AreOpenRuns outer frame.state (base_in frames) → outer.next ≡ base_in (frame ∷ frames) → key ≡ frame.key → sequence ≡ frame.sequence
       → IsOn which page_size tree frames (pushing frame.state (held_item frame (end_of page_size state))) (items_of which page_size frame.after)
-      (runs_push outer (root_element frame.key (runs_end page_size inner) frame.sequence) (16 + (length frame.key + 16)) (bucket_end_next page_size inner))
-      (put ++ runs_end_put page_size inner)
-  on_leaves frame frames state inner outer put on waits base =
-      let ended = runs_ended page_size inner state (base_in (frame ∷ frames)) on.runs_are_kept in
+      (runs_push outer (root_element key (runs_end page_size inner) sequence) (32 + length key) (bucket_end_next page_size inner)) (put ++ runs_end_put page_size inner)
+  on_leaves frame frames state inner outer put key sequence on waits base named numbered =
+      let root : Laid BranchElement = end_of page_size state in
+      let ended = runs_ended page_size inner state (base_in (frame ∷ frames)) on.kept in
+      let child : runs_end page_size inner ≡ (root.element outer.next).child = ended.1 ∙ ap (λ (n : ℕ). (root.element n).child) (sym base) in
+      let long = ap (λ (k : List ℕ). length k) named in
+      let last = ended.2 in
       record {
         under = pass_leaves which page_size frame frames state (root_of which page_size tree) on.under;
-        runs_are_kept = leave_is page_size inner outer state frame frames on.runs_are_kept waits base;
-        put_is = ap (λ (ps : List Placed). ps ++ runs_end_put page_size inner) on.put_is
-            ∙ (ap (λ (ps : List Placed). all_put (frame ∷ frames) state ++ ps) ended.0 ∙ sym (put_leaves page_size frame frames state));
+        kept = runs_pushed outer frame.state (base_in frames) (held_item frame root) _ _ _ waits (λ n. refl) (cc) (omega arith) (omega arith);
+        put_is = (let written = put_leaves page_size frame frames state in let before = on.put_is in cc);
       }
 
 -- Values are taken as long as their page has room.

@@ -10,37 +10,27 @@ use Rattle.bolt_layout.specs.Items.{items_of}
 use Rattle.bolt_layout.specs.Laid.{Laid, Placed, numbers_of, pages_of, size_of}
 use Rattle.bolt_layout.specs.Levels.{branch_page_view, leaf_page_view, next_level, page_over, top_in}
 use Rattle.bolt_layout.specs.Layout.{first_page}
-use Rattle.bolt_bulk.specs.Private.RowLimits.{bucket_limit}
-use Rattle.bolt_bulk.specs.Private.OpenRuns.{Frame, Open, Upper, all_put, base_in, frames_put, next_number, numbers_in, pages_put, pushing, put_in}
+use Rattle.bolt_bulk.specs.Private.{all_put, base_in, bucket_limit, Comes, Frame, frames_put, held_item, IsOpen, IsPass, IsStack, next_number, numbers_in, Open, pages_put, pushing, put_in, Upper}
 use Rattle.bolt_layout.proofs.OverRows.{numbers-append}
-use Rattle.bolt_bulk.specs.Private.Coming.{Comes, IsOpen, IsPass, IsStack, held_item}
 use Rattle.bolt_bulk.proofs.OpenRunLemmas.{cut_step, left_begins, pages-append, pages_push, pushed_put}
 use Rattle.bolt_layout.specs.declared.layout.Layout.{Layout}
 use Rattle.bolt_layout.specs.declared.layout.Layout.TheVariants.{Plain, Balanced}
 
--- Pages with so many numbers begin the pages of what is laid out, with these numbers; and strictly, if there is one more page.
-pub record Begins (front : List Placed) (few : ℕ) (whole : List Placed) (many : ℕ) : Type 0 where
+-- Pages with so many numbers begin the pages of what is laid out, with these numbers, and at least so many pages follow.
+pub record Begins (least : ℕ) (front : List Placed) (few : ℕ) (whole : List Placed) (many : ℕ) : Type 0 where
   pub rest : List Placed
   pub parts : whole ≡ front ++ rest
+  pub some : least ≤ length rest
   pub fewer : few ≤ many
 
-pub record IsBefore (front : List Placed) (few : ℕ) (whole : List Placed) (many : ℕ) : Type 0 where
-  pub rest : List Placed
-  pub parts : whole ≡ front ++ rest
-  pub some : 1 ≤ length rest
-  pub fewer : few ≤ many
+begins_by : {front middle whole : List Placed} {few between many least fewer others : ℕ} → fewer ≤ least → Begins least front few middle between → Begins others middle between whole many → Begins fewer front few whole many
+begins_by less a b = grind (arith, length-append, append_assoc)
 
-begins_by : (front : List Placed) (few : ℕ) (middle : List Placed) (between : ℕ) (whole : List Placed) (many : ℕ) → Begins front few middle between → Begins middle between whole many → Begins front few whole many
-begins_by front few middle between whole many a b = grind (arith, append_assoc)
+begins_same : {front same whole : List Placed} {least few as_few many : ℕ} → front ≡ same → few ≡ as_few → Begins least front few whole many → Begins least same as_few whole many
+begins_same same numbers a = grind arith
 
-before_by : (front : List Placed) (few : ℕ) (middle : List Placed) (between : ℕ) (whole : List Placed) (many : ℕ) → IsBefore front few middle between → Begins middle between whole many → IsBefore front few whole many
-before_by front few middle between whole many a b = grind (arith, length-append, append_assoc)
-
-before_behind : (before front : List Placed) (first few : ℕ) (whole : List Placed) (many : ℕ) → IsBefore front few whole many → IsBefore (before ++ front) (first + few) (before ++ whole) (first + many)
-before_behind before front first few whole many a = grind (arith, append_assoc)
-
-only_begins : (front : List Placed) (few : ℕ) (whole : List Placed) (many : ℕ) → IsBefore front few whole many → Begins front few whole many
-only_begins front few whole many a = record { rest = a.rest; parts = a.parts; fewer = a.fewer }
+begins_behind : {front whole : List Placed} {few many : ℕ} (before : List Placed) (first : ℕ) → Begins 1 front few whole many → Begins 1 (before ++ front) (first + few) (before ++ whole) (first + many)
+begins_behind before first a = grind (arith, append_assoc)
 
 -- the first run of a cut begins with the run that was open
 cut_begins : {E : Type 0} (page_size least : ℕ) (run items : List (Laid E)) → (more : List (Laid E)) × (rest : List (List (Laid E))) × (cut_from page_size least size_of run items ≡ (run ++ more) ∷ rest)
@@ -54,7 +44,7 @@ cut_begins {E = E} page_size least run (next ∷ items) = elim (cut_step page_si
 
 -- a page over a run comes after the pages of any prefix of the run
 over_before : {E : Type 0} (view : ℕ → List E → PageView) (page_size : ℕ) (run more : List (Laid E)) (n : ℕ)
-    → IsBefore (pages_of run n) (numbers_of run) ((page_over view page_size (run ++ more)).pages n) (page_over view page_size (run ++ more)).numbers
+    → Begins 1 (pages_of run n) (numbers_of run) ((page_over view page_size (run ++ more)).pages n) (page_over view page_size (run ++ more)).numbers
 over_before view page_size run more n = grind (arith, length-append, numbers-append, pages-append, append_assoc)
 
 -- so does the first run of a row of pages, in each layout
@@ -75,9 +65,9 @@ run_begins Balanced page_size page level =
     (more ++ others, runs, ap (λ (rs : List (List (Laid BranchElement))). join_last rs) e ∙ joined)
 
 top_begins : (which : Layout) (page_size steps : ℕ) (page : Laid BranchElement) (level : List (Laid BranchElement)) (b : ℕ)
-    → Begins (page.pages b) page.numbers ((top_in which steps page_size (page ∷ level)).pages b) (top_in which steps page_size (page ∷ level)).numbers
-top_begins which page_size steps page [] b = record { rest = []; parts = sym (append-nil (page.pages b)); fewer = omega arith }
-top_begins which page_size zero page (other ∷ level) b = record { rest = []; parts = sym (append-nil (page.pages b)); fewer = omega arith }
+    → Begins 0 (page.pages b) page.numbers ((top_in which steps page_size (page ∷ level)).pages b) (top_in which steps page_size (page ∷ level)).numbers
+top_begins which page_size steps page [] b = record { rest = []; parts = sym (append-nil (page.pages b)); some = omega arith; fewer = omega arith }
+top_begins which page_size zero page (other ∷ level) b = record { rest = []; parts = sym (append-nil (page.pages b)); some = omega arith; fewer = omega arith }
 top_begins which page_size (suc steps) page (other ∷ level) b =
     let (more, rest, e) = run_begins which page_size page (other ∷ level) in
     let up : Laid BranchElement = page_over branch_page_view page_size (page ∷ more) in
@@ -85,21 +75,15 @@ top_begins which page_size (suc steps) page (other ∷ level) b =
     let same : next_level which page_size (page ∷ other ∷ level) ≡ up ∷ level2 = ap (λ (runs : List (List (Laid BranchElement))). map (page_over branch_page_view page_size) runs) e in
     let one = over_before branch_page_view page_size (page ∷ []) more b in
     let fewer = one.fewer in
-    let two = top_begins which page_size steps up level2 b in
-    let first : Begins (page.pages b) page.numbers (up.pages b) up.numbers =
-    record { rest = one.rest; parts = one.parts ∙ ap (λ (ps : List Placed). ps ++ one.rest) (append-nil (page.pages b)); fewer = omega arith } in
-    subst (λ (l : List (Laid BranchElement)). Begins (page.pages b) page.numbers ((top_in which steps page_size l).pages b) (top_in which steps page_size l).numbers) (sym same)
-    (begins_by (page.pages b) page.numbers (up.pages b) up.numbers _ _ first two)
+    let first : Begins 0 (page.pages b) page.numbers (up.pages b) up.numbers = record { rest = one.rest; parts = one.parts ∙ ap (λ (ps : List Placed). ps ++ one.rest) (append-nil (page.pages b)); some = omega arith; fewer = omega arith } in
+    subst (λ (l : List (Laid BranchElement)). Begins 0 (page.pages b) page.numbers ((top_in which steps page_size l).pages b) (top_in which steps page_size l).numbers) (sym same)
+    (begins_by (omega arith) first (top_begins which page_size steps up level2 b))
 
 -- What open upper runs and a page become begins with the pages of those runs and of that page.
 coming_begins : (which : Layout) (page_size : ℕ) (limits : ℕ → Option ℕ) (uppers : List Upper) (p : Laid BranchElement) (pages all : List (Laid BranchElement)) (root : Laid BranchElement)
     → Comes which page_size limits uppers all (p ∷ pages) root → (b : ℕ)
-    → Begins (pages_of (put_in uppers) b ++ p.pages (b + numbers_in uppers)) (numbers_in uppers + p.numbers) (root.pages b) root.numbers
-coming_begins which page_size limits [] p pages all root is b =
-    let same : b ≡ b + 0 = omega arith in
-    let none : p.numbers ≡ 0 + p.numbers = omega arith in
-    let t = subst (λ (r : Laid BranchElement). Begins (p.pages b) p.numbers (r.pages b) r.numbers) is.1.top (top_begins which page_size (length (p ∷ pages)) p pages b) in
-    subst (λ (k : ℕ). Begins (p.pages (b + 0)) k (root.pages b) root.numbers) none (subst (λ (n : ℕ). Begins (p.pages n) p.numbers (root.pages b) root.numbers) same t)
+    → Begins 0 (pages_of (put_in uppers) b ++ p.pages (b + numbers_in uppers)) (numbers_in uppers + p.numbers) (root.pages b) root.numbers
+coming_begins which page_size limits [] p pages all root is b = let top = top_begins which page_size (length (p ∷ pages)) p pages b in let under = is.1.top in grind arith
 coming_begins which page_size limits (upper ∷ uppers) p pages all root is b =
     let others : List (Laid BranchElement) = map (page_over branch_page_view page_size) (branch_cut which page_size size_of all) in
     let run : List (Laid BranchElement) = upper.run in
@@ -108,30 +92,29 @@ coming_begins which page_size limits (upper ∷ uppers) p pages all root is b =
     let m : ℕ = b + numbers_in uppers in
     let above = subst (λ (rs : List (List (Laid BranchElement))). Comes which page_size (λ k. limits (suc k)) uppers others (map (page_over branch_page_view page_size) rs) root) e is.1 in
     let ih = coming_begins which page_size (λ k. limits (suc k)) uppers up (map (page_over branch_page_view page_size) rest) others root above b in
-    let one = before_behind (pages_of (put_in uppers) b) (pages_of (run ++ p ∷ []) m) (numbers_in uppers) (numbers_of (run ++ p ∷ [])) (up.pages m) up.numbers (over_before branch_page_view page_size (run ++ p ∷ []) more m) in
-    let two = begins_by _ _ _ _ _ _ (only_begins _ _ _ _ one) ih in
+    let one = begins_behind (pages_of (put_in uppers) b) (numbers_in uppers) (over_before branch_page_view page_size (run ++ p ∷ []) more m) in
+    let two = begins_by (omega arith) one ih in
     let front : pages_of (put_in uppers) b ++ pages_of (run ++ p ∷ []) m ≡ pages_of (put_in uppers ++ run) b ++ p.pages (b + numbers_of (put_in uppers ++ run)) =
     sym (pages-append (put_in uppers) (run ++ p ∷ []) b) ∙ pages_push (put_in uppers) run p b in
     let c = numbers-append (put_in uppers) run in
     let d = numbers-append run (p ∷ []) in
     let count : numbers_in uppers + numbers_of (run ++ p ∷ []) ≡ numbers_in (upper ∷ uppers) + p.numbers = omega arith in
-    let three = subst (λ (ps : List Placed). Begins ps (numbers_in uppers + numbers_of (run ++ p ∷ [])) (root.pages b) root.numbers) front two in
-    subst (λ (n : ℕ). Begins (pages_of (put_in uppers ++ run) b ++ p.pages (b + numbers_of (put_in uppers ++ run))) n (root.pages b) root.numbers) count three
+    begins_same front count two
 
 -- What was written of an open bucket comes before its root page.
 pub put_before : (which : Layout) (page_size : ℕ) (state : Open) (items : List (Laid LeafElement)) (root : Laid BranchElement) (b : ℕ) → IsOpen which page_size state items root
-    → IsBefore (pages_put state b) (numbers_in state.uppers + numbers_of state.run) (root.pages b) root.numbers
+    → Begins 1 (pages_put state b) (numbers_in state.uppers + numbers_of state.run) (root.pages b) root.numbers
 put_before which page_size state items root b is =
     let (more, rest, e) = cut_begins page_size 1 state.run items in
     let p : Laid BranchElement = page_over leaf_page_view page_size (state.run ++ more) in
     let m : ℕ = b + numbers_in state.uppers in
     let comes = subst (λ (rs : List (List (Laid LeafElement))). Comes which page_size (bucket_limit state.known.limits) state.uppers state.known.leaves (map (page_over leaf_page_view page_size) rs) root) e is.comes in
     let one = coming_begins which page_size (bucket_limit state.known.limits) state.uppers p (map (page_over leaf_page_view page_size) rest) state.known.leaves root comes b in
-    let two = before_behind (pages_of (put_in state.uppers) b) (pages_of state.run m) (numbers_in state.uppers) (numbers_of state.run) (p.pages m) p.numbers (over_before leaf_page_view page_size state.run more m) in
-    before_by _ _ _ _ _ _ two one
+    let two = begins_behind (pages_of (put_in state.uppers) b) (numbers_in state.uppers) (over_before leaf_page_view page_size state.run more m) in
+    begins_by (omega arith) two one
 
-stack_before : (which : Layout) (page_size : ℕ) (frames : List Frame) (root whole : Laid BranchElement) (front : List Placed) (few : ℕ) → IsStack which page_size frames root whole → IsBefore front few (root.pages (base_in frames)) root.numbers
-    → IsBefore (frames_put frames ++ front) (base_in frames + few) (whole.pages first_page) (first_page + whole.numbers)
+stack_before : (which : Layout) (page_size : ℕ) (frames : List Frame) (root whole : Laid BranchElement) (front : List Placed) (few : ℕ) → IsStack which page_size frames root whole → Begins 1 front few (root.pages (base_in frames)) root.numbers
+    → Begins 1 (frames_put frames ++ front) (base_in frames + few) (whole.pages first_page) (first_page + whole.numbers)
 stack_before which page_size [] root whole front few stack is = grind arith
 stack_before which page_size (frame ∷ frames) root whole front few stack is =
     let (outer, opened, rest) = stack in
@@ -139,20 +122,18 @@ stack_before which page_size (frame ∷ frames) root whole front few stack is =
     let item = held_item frame root in
     let own : ℕ = numbers_in frame.state.uppers + numbers_of frame.state.run in
     let one = put_before which page_size (pushing frame.state item) (items_of which page_size frame.after) outer b opened in
-    let two = before_behind (pages_put frame.state b) front own few (root.pages (base_in (frame ∷ frames))) root.numbers is in
+    let two = begins_behind (pages_put frame.state b) own is in
     let count = numbers-append frame.state.run (item ∷ []) in
     let both : own + root.numbers ≡ numbers_in frame.state.uppers + numbers_of (frame.state.run ++ item ∷ []) = omega arith in
     let more : pages_put (pushing frame.state item) b ≡ pages_put frame.state b ++ root.pages (base_in (frame ∷ frames)) = pushed_put frame.state item b in
-    let three = subst (λ (n : ℕ). IsBefore (pages_put frame.state b ++ front) (own + few) (pages_put (pushing frame.state item) b) n) both
-    (subst (λ (ps : List Placed). IsBefore (pages_put frame.state b ++ front) (own + few) ps (own + root.numbers)) (sym more) two) in
-    let four = stack_before which page_size frames outer whole (pages_put frame.state b ++ front) (own + few) rest (before_by _ _ _ _ _ _ three (only_begins _ _ _ _ one)) in
+    let three : Begins 1 (pages_put frame.state b ++ front) (own + few) (pages_put (pushing frame.state item) b) (numbers_in frame.state.uppers + numbers_of (frame.state.run ++ item ∷ [])) = grind arith in
+    let four = stack_before which page_size frames outer whole (pages_put frame.state b ++ front) (own + few) rest (begins_by (omega arith) three one) in
     grind (arith, append_assoc)
 
 -- at any moment of a pass
 pub pass_before : (which : Layout) (page_size : ℕ) (frames : List Frame) (state : Open) (items : List (Laid LeafElement)) (whole : Laid BranchElement) → IsPass which page_size frames state items whole
-    → IsBefore (all_put frames state) (next_number state (base_in frames)) (whole.pages first_page) (first_page + whole.numbers)
+    → Begins 1 (all_put frames state) (next_number state (base_in frames)) (whole.pages first_page) (first_page + whole.numbers)
 pass_before which page_size frames state items whole pass =
     let few : ℕ = numbers_in state.uppers + numbers_of state.run in
     let is = stack_before which page_size frames pass.root whole (pages_put state (base_in frames)) few pass.stack (put_before which page_size state items pass.root (base_in frames) pass.current) in
-    let same : base_in frames + few ≡ next_number state (base_in frames) = omega arith in
-    subst (λ (n : ℕ). IsBefore (all_put frames state) n (whole.pages first_page) (first_page + whole.numbers)) same is
+    grind arith

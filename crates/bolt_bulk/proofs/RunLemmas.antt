@@ -1,27 +1,22 @@
 -- A run of pages that takes one more, and closes if the next one doesn't join it.
-use Rattle.std.proofs.Common.{div-add-mod', add-mul, ◌≡◌, ◌∙◌, ◌⊎◌, ℕ, ◌+◌, ◌-◌, ◌*◌, ◌<◌, ◌≤◌, ◌||◌, ◌&&◌, Bool, true, None, List, [], ◌∷◌, ◌++◌, length, ap, arith}
+use Rattle.std.proofs.Common.{div-add-mod', add-mul, ◌≡◌, ◌∙◌, ◌⊎◌, ℕ, ◌+◌, ◌*◌, ◌<◌, ◌≤◌, ◌||◌, ◌&&◌, Bool, true, None, List, [], ◌∷◌, ◌++◌, length, ap, arith}
 use Rattle.std.proofs.lemmas.Bool.{leb-true, ltb-true}
 use Rattle.std.proofs.lemmas.List.{length-append, append-nil}
 use Rattle.bolt_format.specs.Elements.{BranchElement}
 use Rattle.bolt_layout.specs.Levels.{overflow_of}
 use Rattle.bolt_layout.specs.Limits.{is_out}
 use Rattle.bolt_layout.specs.PageBytes.{branch_data}
-use Rattle.bolt_bulk.specs.Private.BranchRuns.{IsPushed, IsSizedRun, IsStanding}
-use Rattle.bolt_bulk.specs.Private.RunViews.{RunView, run_kept, run_key, run_push, run_stays}
+use Rattle.bolt_bulk.specs.Private.{IsPushed, IsSizedRun, IsStanding, run_kept, run_key, run_push, run_stays, RunView}
 use Rattle.bolt_layout.proofs.PageRows.{overflow_room, overflow_small}
-
--- a page with this many further pages has room for its content, and 64 bits for its size
-pub record RunFits (page_size further size : ℕ) : Type 0 where
-  pub small : further ≤ size
-  pub room : size ≤ (1 + further) * page_size
-  pub fits : (1 + further) * page_size ≤ size + page_size
 
 overflow_most : (page_size size : ℕ) → (1 + overflow_of page_size size) * page_size ≤ size + page_size
 unfolding overflow_of
 overflow_most page_size size = omega (arith, div-add-mod', add-mul)
 
-pub run_fits : (page_size further size : ℕ) → 1024 ≤ page_size → 0 < size → further ≡ overflow_of page_size size → RunFits page_size further size
-run_fits page_size further size page some same = rw same (record { small = overflow_small page_size size; room = overflow_room page_size size (omega arith) some; fits = overflow_most page_size size })
+-- a page with its further pages has room for its content, and 64 bits for its size
+pub run_fits : (page_size size : ℕ) → 1024 ≤ page_size → 0 < size
+    → (overflow_of page_size size ≤ size) × (size ≤ (1 + overflow_of page_size size) * page_size) × ((1 + overflow_of page_size size) * page_size ≤ size + page_size)
+run_fits page_size size page some = (overflow_small page_size size, overflow_room page_size size (omega arith) some, overflow_most page_size size)
 
 data_push : (es : List BranchElement) (e : BranchElement) → length (branch_data (es ++ e ∷ [])) ≡ length (branch_data es) + length e.key
 data_push [] e = ap (λ (t : List ℕ). length t) (append-nil e.key) ∙ omega arith

@@ -1,65 +1,53 @@
--- The numbers of the open buckets, and the limits that were noted of those that have ended.
-use Rattle.std.proofs.Common.{◌≡◌, ◌∙◌, ◌+◌, ◌<◌, ◌≤◌, ℕ, suc, false, List, [], ◌∷◌, ◌++◌, length, map, Option, None, refl, sym, ap, subst, arith}
-use Rattle.std.specs.List.{AllByRecursion}
-use Rattle.std.proofs.lemmas.Bool.{cases_lt}
+-- The numbers of the open buckets, what their open runs say of each row at their end, and the limits that were noted of those that have ended.
+use Rattle.std.proofs.Common.{ℕ, suc, Option, List, [], ◌∷◌, ◌++◌, length, map, ap, arith, ◌≡◌, ◌∙◌, ◌+◌, ◌<◌, ◌≤◌, false, None, refl, sym, subst}
 use Rattle.std.proofs.lemmas.List.{length-append, length-map}
 use Rattle.bolt_format.specs.Elements.{BranchElement}
-use Rattle.bolt_tree.specs.Tree.{Tree}
-use Rattle.bolt_layout.specs.Cut.{branch_cut}
-use Rattle.bolt_layout.specs.Laid.{Laid, size_of}
+use Rattle.bolt_layout.specs.Laid.{Laid, Placed, size_of}
 use Rattle.bolt_layout.specs.Levels.{branch_page_view, leaf_page_view, page_over}
+use Rattle.bolt_layout.specs.Limits.{AreRowEnds, limit_at, limits_from_ends}
+use Rattle.bolt_layout.specs.declared.layout.Layout.TheVariants.{Plain, Balanced}
+use Rattle.bolt_bulk.specs.Private.{bucket_limit, Comes, IsOpen, Open, Upper, upper_end, AreComingAround, AreNumbered, AreUppers, bucket_runs, BucketEnds, capped, FitLimits, Frame, HasNoted, IsOn, IsTable, IsToCome, Known, limit_in, limits_with, Notes, run_end, runs_above, Wanted}
+use Rattle.bolt_layout.proofs.LastItem.{last_append}
+use Rattle.std.specs.List.{AllByRecursion}
+use Rattle.std.proofs.lemmas.Bool.{cases_lt}
+use Rattle.bolt_tree.specs.Tree.{Tree, end}
+use Rattle.bolt_layout.specs.Cut.{branch_cut}
 use Rattle.bolt_layout.specs.Layout.{layout_mark}
-use Rattle.bolt_layout.specs.Limits.{limit_at, limits_from_ends}
 use Rattle.bolt_layout.specs.Openings.{limits_for, opened_in, row_ends_of}
 use Rattle.bolt_layout.specs.declared.layout.Layout.{Layout}
-use Rattle.bolt_layout.specs.declared.layout.Layout.TheVariants.{Balanced, Plain}
 use Rattle.bolt_layout.proofs.BalancedRows.{right_from_ends, from_ends_right}
 use Rattle.bolt_layout.proofs.OpenedBuckets.{opened_few}
 use Rattle.bolt_layout.proofs.LimitsFromEnds.{from_ends_by}
 use Rattle.bolt_layout.proofs.RowEnds.{row_ends_are_one}
 use Rattle.bolt_layout.proofs.Tops.{shorter}
-use Rattle.bolt_bulk.specs.Private.BranchRuns.{runs_above}
-use Rattle.bolt_bulk.specs.Private.Coming.{Comes, IsOpen}
-use Rattle.bolt_bulk.specs.Private.HeldCounts.{capped}
-use Rattle.bolt_bulk.specs.Private.BucketRuns.{AreUppers}
-use Rattle.bolt_bulk.specs.Private.OpenRuns.{Frame, Open, Upper, making_room, upper_end}
-use Rattle.bolt_bulk.specs.Private.Passes.{AreComingAround, AreNumbered, FitLimits, HasNoted, IsNumbered, IsTable, Wanted, limits_with}
-use Rattle.bolt_bulk.specs.Private.RowLimits.{BucketEnds, bucket_limit, limit_in, run_end}
 use Rattle.bolt_bulk.specs.declared.branch_run.BranchRun.{BranchRun}
 use Rattle.bolt_bulk.specs.declared.limits.BucketLimits.{BucketLimits}
 use Rattle.bolt_bulk.specs.declared.limits.Limits.{Limits}
-use Rattle.bolt_bulk.specs.declared.noted_limits.NotedLimits.{NotedLimits}
-use Rattle.bolt_bulk.specs.declared.upper_runs.UpperRuns.{UpperRuns}
+use Rattle.bolt_bulk.specs.declared.limits.NotedLimits.{NotedLimits}
+use Rattle.bolt_bulk.specs.declared.bucket_runs.BucketRuns.{BucketRuns}
 use Rattle.bolt_bulk.proofs.HeldSteps.{run_length}
-use Rattle.bolt_bulk.proofs.RunEnds.{bucket_rows_end}
 
--- ---- what is known of a bucket stays while it is open
+uppers_end : (page_size : ℕ) (limits : ℕ → Option ℕ) (uppers : List Upper) (q : Laid BranchElement) (all : List (Laid BranchElement)) (root : Laid BranchElement)
+    → Comes Plain page_size limits uppers all (q ∷ []) root → AreRowEnds page_size all (map upper_end uppers)
+uppers_end page_size limits [] q all root is = let one = ap (λ (pages : List (Laid BranchElement)). length pages) is.0 in omega arith
+uppers_end page_size limits (upper ∷ uppers) q all root (stands, is) = grind (arith, length-append, last_append, uppers_end page_size (λ k. limits (suc k)) uppers (page_over branch_page_view page_size (upper.run ++ q ∷ [])) _ root is)
 
-pub room_known : (page_size : ℕ) (state : Open) (key : List ℕ) (size : ℕ) → (making_room page_size state key size).known ≡ state.known
-room_known page_size state key size = grind arith
-
-is_numbered : (wanted : Wanted) (page_size below n : ℕ) (old new : Open) → new.known ≡ old.known → IsNumbered wanted page_size below n old → IsNumbered wanted page_size below n new
-is_numbered wanted page_size below n old new same is = grind arith
-
-pub numbered_same : (wanted : Wanted) (page_size below : ℕ) (numbers : List ℕ) (old new : Open) (others : List Open) → new.known ≡ old.known
-    → AreNumbered wanted page_size below numbers (old ∷ others) → AreNumbered wanted page_size below numbers (new ∷ others)
-numbered_same wanted page_size below [] old new others same are = absurd are
-numbered_same wanted page_size below (n ∷ numbers) old new others same are = (is_numbered wanted page_size below n old new same are.0, are.1)
+pub bucket_rows_end : (page_size : ℕ) (state : Open) (root : Laid BranchElement) → IsOpen Plain page_size state [] root → AreRowEnds page_size state.known.leaves (map upper_end state.uppers)
+bucket_rows_end page_size state root is = uppers_end page_size (bucket_limit state.known.limits) state.uppers (page_over leaf_page_view page_size state.run) state.known.leaves root is.comes
 
 -- ---- a bucket is opened
 
-pub noted_enters : (wanted : Wanted) (page_size : ℕ) (noted : NotedLimits) (opened : ℕ) (numbers : List ℕ) → HasNoted wanted page_size noted opened numbers → HasNoted wanted page_size noted (suc opened) (opened ∷ numbers)
-noted_enters wanted page_size noted opened numbers has = grind (arith, cases_lt)
+pub noted_enters : (wanted : Wanted) (page_size : ℕ) (noted : NotedLimits) (known : Known) (buckets : List Known) → known.limits.bucket ≡ capped known.number → Notes wanted page_size known.number known.leaves
+    → HasNoted wanted page_size noted known.number buckets → HasNoted wanted page_size noted (suc known.number) (known ∷ buckets)
+noted_enters wanted page_size noted known buckets number notes has = grind (arith, cases_lt)
 
 -- ---- a bucket ends
 
 -- its runs say what the rows say
-pub run_ends : (page_size : ℕ) (limits : ℕ → Option ℕ) (runs : List BranchRun) (uppers : List Upper) (q : Laid BranchElement) (all : List (Laid BranchElement)) (root : Laid BranchElement) (b : ℕ)
+run_ends : (page_size : ℕ) (limits : ℕ → Option ℕ) (runs : List BranchRun) (uppers : List Upper) (q : Laid BranchElement) (all : List (Laid BranchElement)) (root : Laid BranchElement) (b : ℕ)
     → AreUppers (runs_above runs) uppers b → Comes Plain page_size limits uppers all (q ∷ []) root → length all ≤ 18446744073709551615
     → map run_end runs ≡ map upper_end uppers
 run_ends page_size limits [] [] q all root b are comes few = refl
-run_ends page_size limits [] (upper ∷ uppers) q all root b are comes few = absurd are
-run_ends page_size limits (run ∷ runs) [] q all root b are comes few = absurd are
 run_ends page_size limits (run ∷ runs) (upper ∷ uppers) q all root b (row, are) (stands, comes) few =
     let next : List (Laid BranchElement) = map (page_over branch_page_view page_size) (branch_cut Plain page_size size_of all) in
     let fewer = shorter Plain page_size all stands.some in
@@ -68,6 +56,7 @@ run_ends page_size limits (run ∷ runs) (upper ∷ uppers) q all root b (row, a
     let items : length run.elements.items ≡ length upper.run = run_length run upper.run _ row.same in
     let rest = run_ends page_size (λ k. limits (suc k)) runs uppers (page_over branch_page_view page_size (upper.run ++ q ∷ [])) next root b are comes (omega arith) in
     grind arith
+run_ends page_size limits runs uppers q all root b are comes few = absurd are
 
 -- no more buckets are opened than the layout has page numbers
 around_most : (wanted : Wanted) (page_size : ℕ) (limits : ℕ → ℕ → Option ℕ) (n : ℕ) (frames : List Frame) → AreComingAround wanted page_size limits n frames → n ≤ suc (opened_in wanted.which page_size wanted.tree)
@@ -78,71 +67,54 @@ pub opened_most : (wanted : Wanted) (page_size : ℕ) (limits : ℕ → ℕ → 
 opened_most wanted page_size limits n frames are = omega (arith, around_most, opened_few)
 
 -- the numbers of those around it are lower
-all_lower : (wanted : Wanted) (page_size below limit : ℕ) (numbers : List ℕ) (states : List Open) → below ≤ limit → AreNumbered wanted page_size below numbers states → AllByRecursion (λ (m : ℕ). m < limit) numbers
-all_lower wanted page_size below limit [] states low are = tt
-all_lower wanted page_size below limit (n ∷ numbers) [] low are = absurd are
-all_lower wanted page_size below limit (n ∷ numbers) (state ∷ states) low (is, are) = let e = is.earlier in (omega arith, all_lower wanted page_size n limit numbers states (omega arith) are)
+all_lower : (wanted : Wanted) (page_size below limit : ℕ) (buckets : List Known) → below ≤ limit → AreNumbered wanted page_size below buckets → AllByRecursion (λ (known : Known). known.number < limit) buckets
+all_lower wanted page_size below limit [] low are = tt
+all_lower wanted page_size below limit (known ∷ buckets) low (is, are) = let e = is.earlier in (omega arith, all_lower wanted page_size known.number limit buckets (omega arith) are)
 
 all_map : {A : Type 0} {P Q R : A → Type 0} (xs : List A) → ((x : A) → P x → Q x → R x) → AllByRecursion P xs → AllByRecursion Q xs → AllByRecursion R xs
 all_map [] f p q = tt
 all_map (x ∷ xs) f p q = (f x p.0 q.0, all_map xs f p.1 q.1)
 
 -- its own limits join those that were noted
-pub table_ends : (page_size : ℕ) (tree : Tree) (old new : Limits) (opened n : ℕ) (numbers : List ℕ) → IsTable page_size tree old opened (n ∷ numbers) → n < opened → AllByRecursion (λ (m : ℕ). m < n) numbers
-    → ((level : ℕ) → limit_in new n level ≡ limits_for page_size tree n level) → ((b level : ℕ) → (b ≡ n → ⊥) → limit_in new b level ≡ limit_in old b level)
-    → IsTable page_size tree new opened numbers
-table_ends page_size tree old new opened n numbers table earlier lower own others = grind (arith, all_map, cases_lt)
+table_ends : (page_size : ℕ) (tree : Tree) (old new : Limits) (opened : ℕ) (known : Known) (buckets : List Known) → IsTable page_size tree old opened (known ∷ buckets) → known.number < opened
+    → AllByRecursion (λ (other : Known). other.number < known.number) buckets → ((level : ℕ) → limit_in new known.number level ≡ limits_for page_size tree known.number level)
+    → ((b level : ℕ) → (b ≡ known.number → ⊥) → limit_in new b level ≡ limit_in old b level) → IsTable page_size tree new opened buckets
+table_ends page_size tree old new opened known buckets table earlier lower own others = grind (arith, all_map, cases_lt)
 
 -- the same buckets have the same numbers, below a higher one
-numbered_below : (wanted : Wanted) (page_size low high : ℕ) (numbers : List ℕ) (states : List Open) → low ≤ high → AreNumbered wanted page_size low numbers states → AreNumbered wanted page_size high numbers states
-numbered_below wanted page_size low high [] [] less are = tt
-numbered_below wanted page_size low high [] (state ∷ states) less are = absurd are
-numbered_below wanted page_size low high (n ∷ numbers) [] less are = absurd are
-numbered_below wanted page_size low high (n ∷ numbers) (state ∷ states) less (is, are) = grind arith
+numbered_below : (wanted : Wanted) (page_size low high : ℕ) (buckets : List Known) → low ≤ high → AreNumbered wanted page_size low buckets → AreNumbered wanted page_size high buckets
+numbered_below wanted page_size low high [] less are = tt
+numbered_below wanted page_size low high (known ∷ buckets) less (is, are) = grind arith
 
-pub record HasOthers (wanted : Wanted) (page_size : ℕ) (noted : NotedLimits) (opened : ℕ) (others : List Open) : Type 0 where
-  pub numbers : List ℕ
-  pub numbered : AreNumbered wanted page_size opened numbers others
-  pub has_noted : HasNoted wanted page_size noted opened numbers
-
-pub noted_leaves : (wanted : Wanted) (page_size : ℕ) (old new : NotedLimits) (opened b : ℕ) (numbers : List ℕ) (state : Open) (others : List Open) (uppers : UpperRuns) (root : Laid BranchElement)
-    → HasNoted wanted page_size old opened numbers → AreNumbered wanted page_size opened numbers (state ∷ others) → opened ≤ layout_mark wanted.which page_size wanted.tree
-    → AreUppers (runs_above uppers.runs.items) state.uppers b → uppers.limits ≡ state.known.limits → IsOpen wanted.which page_size state [] root
-    → BucketEnds old new uppers → HasOthers wanted page_size new opened others
-noted_leaves wanted page_size old new opened b [] state others uppers root has are few rows limits runs_open ended = absurd are
-noted_leaves wanted page_size old new opened b (n ∷ numbers) state others uppers root has (is, are) few rows limits runs_open ended =
+pub noted_leaves : {wanted : Wanted} {page_size next opened : ℕ} {limits : ℕ → ℕ → Option ℕ} {old new : NotedLimits} {frames : List Frame} {state : Open} {put : List Placed} (bucket : BucketRuns) (others : List Known)
+    → HasNoted wanted page_size old opened (state.known ∷ others) → IsToCome wanted page_size limits opened end frames
+    → IsOn wanted.which page_size wanted.tree frames state [] (bucket_runs bucket next) put → BucketEnds old new bucket.uppers → HasNoted wanted page_size new opened others
+noted_leaves {wanted} {page_size} {next} {opened} {limits} {old} {new} {frames} {state} bucket others has come on ended =
+    let (is, are) = has.numbered in
+    let known : Known = state.known in
     record {
-      numbers = numbers;
-      numbered = numbered_below wanted page_size n opened numbers others (omega arith) are;
-      has_noted = record {
-        asked = ended.same ∙ has.asked;
-        table = λ asked which fits.
-            let table = has.table asked which fits in
-            let number : uppers.limits.bucket ≡ n = (let c = is.number_is in let l = ap (λ (l : BucketLimits). l.bucket) limits in omega arith) in
-            let plain : IsOpen Plain page_size state [] root = subst (λ (w : Layout). IsOpen w page_size state [] root) which runs_open in
-            let leaves : length state.known.leaves ≤ 18446744073709551615 = (let l = is.notes.few in omega arith) in
-            let runs_are : map run_end uppers.runs.items ≡ map upper_end state.uppers =
-            run_ends page_size (bucket_limit state.known.limits) uppers.runs.items state.uppers (page_over leaf_page_view page_size state.run) state.known.leaves root b rows plain.comes leaves in
-            let runs_are_kept : map upper_end state.uppers ≡ row_ends_of page_size state.known.leaves = row_ends_are_one page_size state.known.leaves (map upper_end state.uppers) (bucket_rows_end page_size state root plain) in
-            let all : limits_from_ends false (map run_end uppers.runs.items) ≡ limits_from_ends false (row_ends_of page_size state.known.leaves) = ap (λ (rs : List (ℕ × ℕ)). limits_from_ends false rs) (runs_are ∙ runs_are_kept) in
-            let fresh : (level : ℕ) → limit_in old.limits uppers.limits.bucket level ≡ None = λ level. ap (λ (m : ℕ). limit_in old.limits m level) number ∙ table.still_open.0 level in
-            let own : (level : ℕ) → limit_in new.limits n level ≡ limits_for page_size wanted.tree n level =
-            λ level. ap (λ (m : ℕ). limit_in new.limits m level) (sym number)
-            ∙ (ended.noted (has.asked ∙ asked) fresh level
-            ∙ (ap (λ (ls : List (Option ℕ)). limit_at ls level) all ∙ sym (is.notes.noted which level))) in
-            table_ends page_size wanted.tree old.limits new.limits opened n numbers table is.earlier (all_lower wanted page_size n n numbers others (omega arith) are) own
-            (λ m level other. ended.others m level (λ same. other (same ∙ number)));
-      };
+      numbered = numbered_below wanted page_size known.number opened others (let e = is.earlier in omega arith) are;
+      asked = ended.same ∙ has.asked;
+      table = λ asked which fits.
+          let table = has.table asked which fits in
+          let number : bucket.uppers.limits.bucket ≡ known.number = (let c = is.number_is in let e = is.earlier in let l = ap (λ (l : BucketLimits). l.bucket) on.kept.limits_are in let most = opened_most wanted page_size limits (opened + 0) frames come.around in omega arith) in
+          let plain : IsOpen Plain page_size state [] on.under.root = subst (λ (w : Layout). IsOpen w page_size state [] on.under.root) which on.under.current in
+          let runs : map run_end bucket.uppers.runs.items ≡ map upper_end state.uppers =
+          run_ends page_size (bucket_limit known.limits) bucket.uppers.runs.items state.uppers (page_over leaf_page_view page_size state.run) known.leaves on.under.root _ on.kept.above plain.comes (let l = is.notes.few in omega arith) in
+          let rows : map upper_end state.uppers ≡ row_ends_of page_size known.leaves = row_ends_are_one page_size known.leaves (map upper_end state.uppers) (bucket_rows_end page_size state on.under.root plain) in
+          let fresh : (level : ℕ) → limit_in old.limits bucket.uppers.limits.bucket level ≡ None = λ level. ap (λ (m : ℕ). limit_in old.limits m level) number ∙ table.still_open.0 level in
+          let own : (level : ℕ) → limit_in new.limits known.number level ≡ limits_for page_size wanted.tree known.number level =
+          λ level. ap (λ (m : ℕ). limit_in new.limits m level) (sym number)
+          ∙ (ended.noted (has.asked ∙ asked) fresh level
+          ∙ (ap (λ (rs : List (ℕ × ℕ)). limit_at (limits_from_ends false rs) level) (runs ∙ rows) ∙ sym (is.notes.noted which level))) in
+          table_ends page_size wanted.tree old.limits new.limits opened known others table is.earlier (all_lower wanted page_size known.number known.number others (omega arith) are) own
+          (λ m level other. ended.others m level (λ same. other (same ∙ number)));
     }
 
 -- ---- at the beginning, and once all buckets have ended
 
-pub none_noted : (page_size : ℕ) (tree : Tree) (limits : Limits) → ((bucket level : ℕ) → limit_in limits bucket level ≡ None) → IsTable page_size tree limits 1 (0 ∷ [])
-none_noted page_size tree limits none = grind arith
-
-pub no_numbers : (wanted : Wanted) (page_size below : ℕ) (numbers : List ℕ) → AreNumbered wanted page_size below numbers [] → numbers ≡ []
-no_numbers wanted page_size below [] are = refl
-no_numbers wanted page_size below (n ∷ numbers) are = absurd are
+pub none_noted : (page_size : ℕ) (tree : Tree) (limits : Limits) (known : Known) → known.number ≡ 0 → ((bucket level : ℕ) → limit_in limits bucket level ≡ None) → IsTable page_size tree limits 1 (known ∷ [])
+none_noted page_size tree limits known first none = grind arith
 
 pub table_fits : (page_size : ℕ) (tree : Tree) (limits : Limits) (opened : ℕ) → IsTable page_size tree limits opened [] → opened ≡ suc (opened_in Plain page_size tree) → opened ≤ 18446744073709551615
     → FitLimits Balanced tree page_size (limits_with limits)

@@ -6,7 +6,7 @@ use Rattle.std.proofs.Props.{props}
 use Rattle.bolt_tree.specs.Entries.{Bucket, Item, Value}
 use Rattle.bolt_tree.specs.Listing.{Member}
 use Rattle.bolt_tree.specs.Paths.{Path}
-use Rattle.bolt_bulk.specs.Private.Endings.{IsFitItem, IsFitMember, last_part}
+use Rattle.bolt_bulk.specs.Private.{IsFitItem, IsFitMember, last_part}
 use Rattle.bolt_bulk.specs.WholeListings.{IsAgain, IsWhole}
 use Rattle.bolt_bulk.proofs.FileLayouts.{listing_fits}
 

@@ -1,5 +1,6 @@
--- What private contracts and proofs cite, and no public one.
+-- What private contracts and proofs cite, and no public one. Each name is passed on, so that one line imports what a file cites.
 pub mod BranchRuns
+pub mod BucketRuns
 pub mod Coming
 pub mod Endings
 pub mod FirstPages
@@ -10,11 +11,31 @@ pub mod HeldItems
 pub mod HeldSoFar
 pub mod Levels
 pub mod OpenBuckets
-pub mod BucketRuns
 pub mod OpenRuns
+pub mod PagesWritten
 pub mod Passes
 pub mod RowLimits
 pub mod RunViews
 pub mod Stops
 pub mod TakenItems
 pub mod WaitingBuckets
+pub use BranchRuns.*
+pub use BucketRuns.*
+pub use Coming.*
+pub use Endings.*
+pub use FirstPages.*
+pub use FormatLimits.*
+pub use Gathering.*
+pub use HeldCounts.*
+pub use HeldItems.*
+pub use HeldSoFar.*
+pub use Levels.*
+pub use OpenBuckets.*
+pub use OpenRuns.*
+pub use PagesWritten.*
+pub use Passes.*
+pub use RowLimits.*
+pub use RunViews.*
+pub use Stops.*
+pub use TakenItems.*
+pub use WaitingBuckets.*

@@ -1,22 +1,20 @@
-//! An open run of pages above a bucket's leaves.
-ghost use Rattle.std.specs.Prelude.{◌≡◌, ◌+◌, ◌<◌, ◌≤◌, true, false, [], ◌∷◌, IfErr, IfOk, OnErr, OnOk, length, option_map};
+//! An open run of pages above a bucket's leaves, and the branch page that it becomes.
+ghost use Rattle.std.specs.Prelude.{◌≡◌, ◌+◌, ◌<◌, ◌≤◌, true, false, [], ◌∷◌, IfErr, IfOk, OnOk, length, option_map, ◌*◌, map};
 ghost use Rattle.bolt_format.specs.ElementPlaces.{branch_view};
-ghost use Rattle.bolt_format.specs.Sinks.{AppendsProperPrefix};
-ghost use Rattle.bolt_layout.specs.Layout.{placed_bytes};
 ghost use Rattle.bolt_layout.specs.Levels.{overflow_of};
-ghost use Rattle.bolt_bulk.specs.Private.FormatLimits.{longest_key};
-ghost use Rattle.bolt_bulk.specs.Private.BranchRuns.{IsPushed, IsStanding, element_up, own_element, run_view, run_taking, taking_next, taking_puts, taking_up};
-ghost use Rattle.bolt_bulk.specs.Private.OpenRuns.{key_size};
+ghost use Rattle.bolt_bulk.specs.Private.{element_up, IsPushed, IsStanding, key_size, LeavesOut, longest_key, no_run, one_closed, OnlyAbove, own_element, Puts, run_has_room, run_kept, run_page, run_push, run_stays, run_taking, run_view, taking_next, taking_puts, taking_up, IsSizedRun, length_end};
 ghost use Rattle.bolt_layout.specs.Limits.{one_less};
-ghost use Rattle.bolt_bulk.specs.Private.RunViews.{no_run, one_closed, run_has_room, run_kept, run_page, run_push, run_stays};
+ghost use Rattle.bolt_layout.specs.Layout.{placed_bytes};
+ghost use Rattle.bolt_layout.specs.PageBytes.{branch_data, branch_headers};
+ghost use Rattle.bolt_format.specs.Endings.{page_ending};
 ghost use Rattle.bolt_format.specs.Wrote.{Wrote};
-ghost use Rattle.bolt_bulk.specs.BulkEndings.{bulk_ending};
 ghost use Rattle.bolt_bulk.specs.declared.fault.BulkFault.TheVariants as fault;
 
-use crate::branch_page::put_branch_page;
 use crate::fault::BulkFault;
+use crate::headers::Headers;
 use crate::page_setup::{MAX_ITEMS, PageSetup, number_after};
-use bolt_format::{Branch, ELEMENT_LEN, HEADER_LEN, Sink};
+use crate::pieces::{put, put_page_header, put_zeros};
+use bolt_format::{Branch, ELEMENT_LEN, HEADER_LEN, Kind, Sink, SinkFault};
 use std::alloc::Global;
 
 /// An open run of pages, the size of the page over it, and how many runs may come after it.
@@ -97,13 +95,13 @@ impl<'a> BranchRun<'a> {
         requires key { length key.now ≤ longest_key }
         requires closed { length closed.key.now ≤ longest_key }
         requires next { next.old ≤ setup.now.limit }
-        ensures pages { Wrote S.Sink sink.old sink.new (placed_bytes setup.now.page_size (taking_puts setup.now.page_size key.now (branch_view closed.entry) next.old (run_view self.old))) (bulk_ending result) }
+        ensures pages { Puts S.Sink sink.old sink.new setup.now (taking_puts setup.now.page_size key.now (branch_view closed.entry) next.old (run_view self.old)) result }
         ensures run { OnOk result (run_view self.new ≡ run_taking setup.now.page_size key.now (branch_view closed.entry) (run_view self.old)) }
         ensures standing { OnOk result (IsStanding (run_view self.new)) }
         ensures next { OnOk result (next.new ≡ taking_next setup.now.page_size key.now (branch_view closed.entry) next.old (run_view self.old)) }
         ensures within { OnOk result (next.new ≤ setup.now.limit) }
         ensures up { IfOk result (λ up. option_map branch_view up ≡ taking_up setup.now.page_size key.now (branch_view closed.entry) next.old (run_view self.old)) }
-        ensures large { IfErr result (λ e. e ≡ fault.TooLarge → setup.now.limit < taking_next setup.now.page_size key.now (branch_view closed.entry) next.old (run_view self.old)) }
+        ensures large { OnlyAbove setup.now (taking_next setup.now.page_size key.now (branch_view closed.entry) next.old (run_view self.old)) result }
     {
         self.push_page(closed)?;
         if self.stays(setup.page_size, key) {
@@ -126,13 +124,13 @@ impl<'a> BranchRun<'a> {
         requires standing { IsStanding (run_view self.old) }
         requires closed { length closed.key.now ≤ longest_key }
         requires next { next.old ≤ setup.now.limit }
-        ensures pages { Wrote S.Sink sink.old sink.new (placed_bytes setup.now.page_size (run_page setup.now.page_size (run_push (run_view self.old) (branch_view closed.entry)) next.old ∷ [])) (bulk_ending result) }
-        ensures short { OnErr result (AppendsProperPrefix (S.taken sink.old) (S.taken sink.new) (placed_bytes setup.now.page_size (run_page setup.now.page_size (run_push (run_view self.old) (branch_view closed.entry)) next.old ∷ []))) }
+        ensures pages { Puts S.Sink sink.old sink.new setup.now (run_page setup.now.page_size (run_push (run_view self.old) (branch_view closed.entry)) next.old ∷ []) result }
+        ensures short { LeavesOut S.Sink sink.old sink.new setup.now (run_page setup.now.page_size (run_push (run_view self.old) (branch_view closed.entry)) next.old ∷ []) result }
         ensures up { IfOk result (λ up. branch_view up ≡ element_up (branch_view closed.entry) next.old (run_view self.old)) }
         ensures standing { OnOk result (IsStanding (run_view self.new)) }
         ensures next { OnOk result (next.new ≡ next.old + (1 + overflow_of setup.now.page_size (run_push (run_view self.old) (branch_view closed.entry)).size)) }
         ensures within { OnOk result (next.new ≤ setup.now.limit) }
-        ensures large { IfErr result (λ e. e ≡ fault.TooLarge → setup.now.limit < next.old + (1 + overflow_of setup.now.page_size (run_push (run_view self.old) (branch_view closed.entry)).size)) }
+        ensures large { OnlyAbove setup.now (next.old + (1 + overflow_of setup.now.page_size (run_push (run_view self.old) (branch_view closed.entry)).size)) result }
     {
         self.push_page(closed)?;
         self.close(setup, next, sink)
@@ -148,13 +146,13 @@ impl<'a> BranchRun<'a> {
     ) -> Result<Branch<'a>, BulkFault>
         requires pushed { IsPushed (run_view self.old) }
         requires next { next.old ≤ setup.now.limit }
-        ensures pages { Wrote S.Sink sink.old sink.new (placed_bytes setup.now.page_size (run_page setup.now.page_size (run_view self.old) next.old ∷ [])) (bulk_ending result) }
-        ensures short { OnErr result (AppendsProperPrefix (S.taken sink.old) (S.taken sink.new) (placed_bytes setup.now.page_size (run_page setup.now.page_size (run_view self.old) next.old ∷ []))) }
+        ensures pages { Puts S.Sink sink.old sink.new setup.now (run_page setup.now.page_size (run_view self.old) next.old ∷ []) result }
+        ensures short { LeavesOut S.Sink sink.old sink.new setup.now (run_page setup.now.page_size (run_view self.old) next.old ∷ []) result }
         ensures up { IfOk result (λ up. branch_view up ≡ own_element (run_view self.old) next.old) }
         ensures run { OnOk result (run_view self.new ≡ no_run (one_less self.old.left) (one_closed self.old.closed)) }
         ensures next { OnOk result (next.new ≡ next.old + (1 + overflow_of setup.now.page_size self.old.size)) }
         ensures within { OnOk result (next.new ≤ setup.now.limit) }
-        ensures large { IfErr result (λ e. e ≡ fault.TooLarge → setup.now.limit < next.old + (1 + overflow_of setup.now.page_size self.old.size)) }
+        ensures large { OnlyAbove setup.now (next.old + (1 + overflow_of setup.now.page_size self.old.size)) result }
     {
         let number = *next;
         let after = number_after(setup, self.size, number)?;
@@ -173,4 +171,50 @@ impl<'a> BranchRun<'a> {
         *next = after;
         Ok(up)
     }
+}
+
+/// Writes the headers of elements. All keys are packed after the last header.
+fn put_headers<S: Sink>(branches: &[Branch<'_>], sink: &mut S) -> Result<(), SinkFault>
+    requires { 16 * length branches.now + length (branch_data (map branch_view branches.now)) < length_end }
+    ensures { Wrote S.Sink sink.old sink.new (branch_headers 0 (map branch_view branches.now)) (page_ending result) }
+{
+    let mut headers = Headers::new(branches.len());
+    for branch in branches {
+        headers.put_branch(branch.key.len(), branch.child, sink)?;
+    }
+    headers.put_rest(sink)
+}
+
+/// Writes the keys of elements.
+#[tactic(auto, using(bolt_format::proofs::WroteFronts::fronts, crate::proofs::BranchPuts::keys_left, crate::proofs::BranchPuts::keys_none))]
+fn put_keys<S: Sink>(branches: &[Branch<'_>], sink: &mut S) -> Result<(), SinkFault>
+    ensures { Wrote S.Sink sink.old sink.new (branch_data (map branch_view branches.now)) (page_ending result) }
+{
+    for branch in branches {
+        put(branch.key, sink)?;
+    }
+    Ok(())
+}
+
+/// Writes the branch page over a run.
+#[tactic(auto, using(crate::proofs::PutsLemmas::puts, crate::proofs::BranchPuts::branch_run_wrote))]
+fn put_branch_page<S: Sink>(
+    run: &BranchRun<'_>,
+    setup: &PageSetup,
+    number: u64,
+    sink: &mut S,
+) -> Result<(), SinkFault>
+    requires sized { IsSizedRun (run_view run.now) }
+    requires small { run.now.size < length_end }
+    requires few { length run.now.elements.items < 65536 }
+    ensures { Wrote S.Sink sink.old sink.new (placed_bytes setup.now.page_size (run_page setup.now.page_size (run_view run.now) number ∷ [])) (page_ending result) }
+{
+    if sink.keeps_nothing() {
+        return Ok(());
+    }
+    let branches = run.elements.as_slice();
+    let zeros = put_page_header(setup, number, Kind::Branch, branches.len(), run.size, sink)?;
+    put_headers(branches, sink)?;
+    put_keys(branches, sink)?;
+    put_zeros(zeros, sink)
 }

@@ -1,20 +1,10 @@
 //! The open runs of a bucket: the run of items of its leaf under way, and the runs of pages above.
-ghost use Rattle.std.specs.Prelude.{◌≡◌, ◌+◌, ◌<◌, ◌≤◌, true, false, ℕ, [], IfErr, IfOk, OnErr, OnOk, length, map, vec_capacity, vec_len};
+ghost use Rattle.std.specs.Prelude.{◌≡◌, ◌+◌, ◌<◌, ◌≤◌, true, false, ℕ, [], IfErr, IfOk, OnOk, length, map, vec_capacity, vec_len};
 ghost use Rattle.std.specs.List.{AllByRecursion};
 ghost use Rattle.bolt_format.specs.ElementLengths.{IsValueLength};
 ghost use Rattle.bolt_format.specs.ElementPlaces.{leaf_view};
-ghost use Rattle.bolt_format.specs.Sinks.{AppendsProperPrefix};
 ghost use Rattle.bolt_format.specs.declared.element.Leaf.{Leaf};
-ghost use Rattle.bolt_layout.specs.Layout.{placed_bytes};
-ghost use Rattle.bolt_bulk.specs.Private.FormatLimits.{length_end, longest_key};
-ghost use Rattle.bolt_bulk.specs.Private.HeldCounts.{capped, items_in};
-ghost use Rattle.bolt_bulk.specs.Private.HeldItems.{IsHeld, held_view, inlined_by, stored_value, value_item};
-ghost use Rattle.bolt_bulk.specs.Private.OpenBuckets.{HasRoomFor, IsOpenBucket, bucket_end_next, leaves_of, bucket_runs};
-ghost use Rattle.bolt_bulk.specs.Private.RunViews.{leaves_have_room, no_leaves, runs_end, runs_end_put, runs_push, runs_room, runs_room_put};
-ghost use Rattle.bolt_bulk.specs.Private.TakenItems.{entries_size, inline_element, inline_size, runs_taking, value_element};
-ghost use Rattle.bolt_bulk.specs.Private.WaitingBuckets.{IsWaiting};
-ghost use Rattle.bolt_format.specs.Wrote.{Wrote};
-ghost use Rattle.bolt_bulk.specs.BulkEndings.{bulk_ending};
+ghost use Rattle.bolt_bulk.specs.Private.{bucket_end_next, bucket_runs, capped, entries_size, HasRoomFor, held_view, inline_element, inline_size, inlined_by, IsHeld, IsOpenBucket, IsWaiting, items_in, leaves_have_room, leaves_of, LeavesOut, length_end, longest_key, no_leaves, OnlyAbove, pending_element, pending_size, Puts, root_size, runs_end, runs_end_put, runs_push, runs_room, runs_room_put, runs_taking, stored_value, value_element, value_item, value_size};
 ghost use Rattle.bolt_bulk.specs.declared.fault.BulkFault.TheVariants as fault;
 
 use crate::fault::BulkFault;
@@ -22,9 +12,8 @@ use crate::held::{Held, Stored};
 use crate::leaf_run::LeafRun;
 use crate::limits::BucketLimits;
 use crate::page_setup::PageSetup;
-use crate::pending_bucket::PendingBucket;
 use crate::upper_runs::UpperRuns;
-use crate::waiting_bucket::{ROOT_ITEM_LEN, WaitingBucket};
+use crate::waiting_bucket::{PendingBucket, ROOT_ITEM_LEN, WaitingBucket};
 use bolt_format::{ELEMENT_LEN, HEAD_LEN, HEADER_LEN, Leaf, Sink};
 use std::alloc::Global;
 
@@ -111,12 +100,12 @@ impl<'a> BucketRuns<'a> {
         requires key { length key.now ≤ longest_key }
         requires size { size < length_end }
         requires next { next.old ≤ setup.now.limit }
-        ensures pages { Wrote S.Sink sink.old sink.new (placed_bytes setup.now.page_size (runs_room_put setup.now.page_size (bucket_runs self.old next.old) key.now size)) (bulk_ending result) }
+        ensures pages { Puts S.Sink sink.old sink.new setup.now (runs_room_put setup.now.page_size (bucket_runs self.old next.old) key.now size) result }
         ensures runs { OnOk result (bucket_runs self.new next.new ≡ runs_room setup.now.page_size (bucket_runs self.old next.old) key.now size) }
         ensures open { OnOk result (IsOpenBucket self.new) }
         ensures room { OnOk result (leaves_have_room setup.now.page_size (leaves_of self.new.leaves) size ≡ true) }
         ensures within { OnOk result (next.new ≤ setup.now.limit) }
-        ensures large { IfErr result (λ e. e ≡ fault.TooLarge → setup.now.limit < (runs_room setup.now.page_size (bucket_runs self.old next.old) key.now size).next) }
+        ensures large { OnlyAbove setup.now ((runs_room setup.now.page_size (bucket_runs self.old next.old) key.now size).next) result }
     {
         if self.leaves.has_room(setup.page_size, size) {
             return Ok(());
@@ -214,11 +203,11 @@ impl<'a> BucketRuns<'a> {
         requires key { length key.now ≤ longest_key }
         requires value { IsValueLength (length value.now) }
         requires next { next.old ≤ setup.now.limit }
-        ensures pages { Wrote S.Sink sink.old sink.new (placed_bytes setup.now.page_size (runs_room_put setup.now.page_size (bucket_runs self.old next.old) key.now (16 + (length key.now + length value.now)))) (bulk_ending result) }
-        ensures runs { OnOk result (bucket_runs self.new next.new ≡ runs_taking setup.now.page_size (bucket_runs self.old next.old) (value_element key.now value.now) (16 + (length key.now + length value.now))) }
+        ensures pages { Puts S.Sink sink.old sink.new setup.now (runs_room_put setup.now.page_size (bucket_runs self.old next.old) key.now (value_size key.now value.now)) result }
+        ensures runs { OnOk result (bucket_runs self.new next.new ≡ runs_taking setup.now.page_size (bucket_runs self.old next.old) (value_element key.now value.now) (value_size key.now value.now)) }
         ensures open { OnOk result (IsOpenBucket self.new) }
         ensures within { OnOk result (next.new ≤ setup.now.limit) }
-        ensures large { IfErr result (λ e. e ≡ fault.TooLarge → setup.now.limit < (runs_room setup.now.page_size (bucket_runs self.old next.old) key.now (16 + (length key.now + length value.now))).next) }
+        ensures large { OnlyAbove setup.now ((runs_room setup.now.page_size (bucket_runs self.old next.old) key.now (value_size key.now value.now)).next) result }
     {
         let size = ELEMENT_LEN + (key.len() + value.len());
         let stored = Stored::Value(value);
@@ -241,11 +230,11 @@ impl<'a> BucketRuns<'a> {
         requires size { pending.size + 16 ≡ inline_size (map leaf_view entries.now) }
         requires small { pending.size < 2147483632 }
         requires next { next.old ≤ setup.now.limit }
-        ensures pages { Wrote S.Sink sink.old sink.new (placed_bytes setup.now.page_size (runs_room_put setup.now.page_size (bucket_runs self.old next.old) pending.entry.key.now (16 + (length pending.entry.key.now + (pending.entry.size + 16))))) (bulk_ending result) }
-        ensures runs { OnOk result (bucket_runs self.new next.new ≡ runs_taking setup.now.page_size (bucket_runs self.old next.old) (inline_element pending.entry.key.now pending.entry.sequence (map leaf_view entries.now)) (16 + (length pending.entry.key.now + (pending.entry.size + 16)))) }
+        ensures pages { Puts S.Sink sink.old sink.new setup.now (runs_room_put setup.now.page_size (bucket_runs self.old next.old) pending.entry.key.now (pending_size pending.entry)) result }
+        ensures runs { OnOk result (bucket_runs self.new next.new ≡ runs_taking setup.now.page_size (bucket_runs self.old next.old) (pending_element pending.entry entries.now) (pending_size pending.entry)) }
         ensures open { OnOk result (IsOpenBucket self.new) }
         ensures within { OnOk result (next.new ≤ setup.now.limit) }
-        ensures large { IfErr result (λ e. e ≡ fault.TooLarge → setup.now.limit < (runs_room setup.now.page_size (bucket_runs self.old next.old) pending.entry.key.now (16 + (length pending.entry.key.now + (pending.entry.size + 16)))).next) }
+        ensures large { OnlyAbove setup.now ((runs_room setup.now.page_size (bucket_runs self.old next.old) pending.entry.key.now (pending_size pending.entry)).next) result }
     {
         let key = pending.key;
         let size = pending.size + HEAD_LEN;
@@ -266,14 +255,14 @@ impl<'a> BucketRuns<'a> {
         requires open { IsOpenBucket self }
         requires key { length pending.key.now ≤ longest_key }
         requires next { next.old ≤ setup.now.limit }
-        ensures pages { Wrote S.Sink sink.old sink.new (placed_bytes setup.now.page_size (runs_room_put setup.now.page_size (bucket_runs self.entry next.old) pending.entry.key.now (32 + length pending.entry.key.now))) (bulk_ending result) }
-        ensures runs { IfOk result (λ waiting. bucket_runs waiting.bucket next.new ≡ runs_room setup.now.page_size (bucket_runs self.entry next.old) pending.entry.key.now (32 + length pending.entry.key.now)) }
+        ensures pages { Puts S.Sink sink.old sink.new setup.now (runs_room_put setup.now.page_size (bucket_runs self.entry next.old) pending.entry.key.now (root_size pending.entry.key.now)) result }
+        ensures runs { IfOk result (λ waiting. bucket_runs waiting.bucket next.new ≡ runs_room setup.now.page_size (bucket_runs self.entry next.old) pending.entry.key.now (root_size pending.entry.key.now)) }
         ensures waits { IfOk result (λ waiting. IsWaiting setup.now.page_size waiting) }
         ensures key { IfOk result (λ waiting. waiting.key.now ≡ pending.entry.key.now) }
         ensures sequence { IfOk result (λ waiting. waiting.sequence ≡ pending.entry.sequence) }
         ensures around { IfOk result (λ waiting. waiting.around ≡ around) }
         ensures within { OnOk result (next.new ≤ setup.now.limit) }
-        ensures large { IfErr result (λ e. e ≡ fault.TooLarge → setup.now.limit < (runs_room setup.now.page_size (bucket_runs self.entry next.old) pending.entry.key.now (32 + length pending.entry.key.now)).next) }
+        ensures large { OnlyAbove setup.now ((runs_room setup.now.page_size (bucket_runs self.entry next.old) pending.entry.key.now (root_size pending.entry.key.now)).next) result }
     {
         let mut bucket = self;
         let key = pending.key;
@@ -296,12 +285,12 @@ impl<'a> BucketRuns<'a> {
     ) -> Result<u64, BulkFault>
         requires open { IsOpenBucket self.old }
         requires next { next.old ≤ setup.now.limit }
-        ensures pages { Wrote S.Sink sink.old sink.new (placed_bytes setup.now.page_size (runs_end_put setup.now.page_size (bucket_runs self.old next.old))) (bulk_ending result) }
-        ensures short { OnErr result (AppendsProperPrefix (S.taken sink.old) (S.taken sink.new) (placed_bytes setup.now.page_size (runs_end_put setup.now.page_size (bucket_runs self.old next.old)))) }
+        ensures pages { Puts S.Sink sink.old sink.new setup.now (runs_end_put setup.now.page_size (bucket_runs self.old next.old)) result }
+        ensures short { LeavesOut S.Sink sink.old sink.new setup.now (runs_end_put setup.now.page_size (bucket_runs self.old next.old)) result }
         ensures root { IfOk result (λ root. root ≡ runs_end setup.now.page_size (bucket_runs self.old next.old)) }
         ensures next { OnOk result (next.new ≡ bucket_end_next setup.now.page_size (bucket_runs self.old next.old)) }
         ensures within { OnOk result (next.new ≤ setup.now.limit) }
-        ensures large { IfErr result (λ e. e ≡ fault.TooLarge → setup.now.limit < bucket_end_next setup.now.page_size (bucket_runs self.old next.old)) }
+        ensures large { OnlyAbove setup.now (bucket_end_next setup.now.page_size (bucket_runs self.old next.old)) result }
     {
         let closed = self.leaves.close(setup, next, sink)?;
         self.uppers.close_all(setup, closed, next, sink)

@@ -14,7 +14,6 @@ use crate::fault::{BulkFault, PlanFault};
 use crate::laws::a_walk_is_whole;
 use crate::members_copy::{compact_members, plan_members};
 use crate::outcome::{Done, Plan};
-use crate::shape::Shape;
 use bolt_check::Checked;
 use bolt_format::Sink;
 use bolt_layout::Layout;
@@ -115,4 +114,16 @@ pub fn compact<S: Sink>(
     ensures prefixes { ForListing checked.entry (λ listing. length (layout_for Plain checked.entry page_size listing) < too_many → ∥ RefusesPrefixes (layout_for Plain checked.entry page_size listing) (layout_root Plain page_size (tree_of listing)) ∥₁) }
 {
     compact_as(alloc, checked, Layout::Plain, page_size, sink)
+}
+
+/// What a copy looks like, apart from its members.
+#[derive(Clone, Copy)]
+pub struct Shape {
+    /// Its layout.
+    pub layout: Layout,
+    /// The size of its pages.
+    pub page_size: u64,
+    /// The sequence of the root bucket.
+    pub sequence: u64,
+    pub ghost accepted: { IsPageSize page_size },
 }

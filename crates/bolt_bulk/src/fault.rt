@@ -1,7 +1,7 @@
 //! Why there is no plan, or no whole copy.
 ghost use Rattle.std.specs.Prelude.{◌≡◌};
 ghost use Rattle.bolt_bulk.specs.declared.fault.BulkFault.TheVariants as bulk;
-ghost use Rattle.bolt_bulk.specs.Private.Stops.{stopped_by};
+ghost use Rattle.bolt_bulk.specs.Private.{stopped_by};
 ghost use Rattle.bolt_bulk.specs.declared.fault.PlanFault.TheVariants as planned;
 
 use bolt_format::SinkFault;

@@ -1,13 +1,13 @@
 //! The pages that precede those of the buckets, as they are written.
 ghost use Rattle.std.specs.Prelude.{◌≡◌, ◌≤◌, length};
 ghost use Rattle.bolt_layout.specs.PageBytes.{filled, copy_meta};
-ghost use Rattle.bolt_bulk.specs.Private.FirstPages.{first_pages};
+ghost use Rattle.bolt_bulk.specs.Private.{first_pages};
 ghost use Rattle.bolt_format.specs.Endings.{page_ending};
 ghost use Rattle.bolt_format.specs.Wrote.{Wrote};
 
+use crate::copy::Shape;
 use crate::outcome::Plan;
 use crate::pieces::{put, put_zeros};
-use crate::shape::Shape;
 use bolt_format::{Kind, Meta, Sink, SinkFault, meta_page, page_header};
 
 /// The page number of the freelist.

@@ -1,20 +1,20 @@
-//! The run of items of a bucket's leaf under way.
-ghost use Rattle.std.specs.Prelude.{◌≡◌, ◌+◌, ◌<◌, ◌≤◌, IfErr, IfOk, OnErr, OnOk};
+//! The run of items of a bucket's leaf under way, and the leaf page that it becomes.
+ghost use Rattle.std.specs.Prelude.{◌≡◌, ◌+◌, ◌<◌, ◌≤◌, IfOk, OnErr, OnOk, ◌*◌, ◌++◌, length};
 ghost use Rattle.bolt_format.specs.ElementPlaces.{branch_view};
 ghost use Rattle.bolt_format.specs.Sinks.{AppendsProperPrefix};
 ghost use Rattle.bolt_layout.specs.Levels.{overflow_of};
-ghost use Rattle.bolt_layout.specs.PageBytes.{page_bytes};
-ghost use Rattle.bolt_bulk.specs.Private.OpenBuckets.{IsLeafRun, leaf_closed, leaves_of};
-ghost use Rattle.bolt_bulk.specs.Private.RunViews.{leaf_page, leaves_have_room, no_leaves};
+ghost use Rattle.bolt_layout.specs.PageBytes.{page_bytes, leaf_data, leaf_headers};
+ghost use Rattle.bolt_bulk.specs.Private.{IsLeafRun, leaf_closed, leaf_page, leaves_have_room, leaves_of, no_leaves, OnlyAbove, AreHeld, held_views, IsHeld, length_end, stored_value};
 ghost use Rattle.bolt_format.specs.Wrote.{Wrote};
 ghost use Rattle.bolt_bulk.specs.BulkEndings.{bulk_ending};
-ghost use Rattle.bolt_bulk.specs.declared.fault.BulkFault.TheVariants as fault;
+ghost use Rattle.bolt_format.specs.Endings.{page_ending};
 
 use crate::fault::BulkFault;
+use crate::headers::Headers;
 use crate::held::Held;
-use crate::leaf_page::put_leaf_page;
 use crate::page_setup::{MAX_ITEMS, PageSetup, number_after};
-use bolt_format::{Branch, HEADER_LEN, Leaf, Sink};
+use crate::pieces::{put, put_page_header, put_zeros};
+use bolt_format::{Branch, HEADER_LEN, Kind, Leaf, Sink, SinkFault};
 
 /// An open run of items, the entries of the inline buckets among them, and the size of the page
 /// over it.
@@ -52,7 +52,7 @@ impl<'a> LeafRun<'a> {
         ensures run { OnOk result (IsLeafRun self.new) }
         ensures next { OnOk result (next.new ≡ next.old + (1 + overflow_of setup.now.page_size self.old.size)) }
         ensures within { OnOk result (next.new ≤ setup.now.limit) }
-        ensures large { IfErr result (λ e. e ≡ fault.TooLarge → setup.now.limit < next.old + (1 + overflow_of setup.now.page_size self.old.size)) }
+        ensures large { OnlyAbove setup.now (next.old + (1 + overflow_of setup.now.page_size self.old.size)) result }
     {
         let number = *next;
         let after = number_after(setup, self.size, number)?;
@@ -67,4 +67,70 @@ impl<'a> LeafRun<'a> {
         *next = after;
         Ok(Branch { key, child: number })
     }
+}
+
+/// Writes the headers of items. All their data is packed after the last header.
+fn put_headers<S: Sink>(
+    items: &[Held<'_>],
+    inlined: &[Leaf<'_>],
+    sink: &mut S,
+) -> Result<(), SinkFault>
+    requires held { AreHeld inlined.now items.now }
+    requires size { 16 * length items.now + length (leaf_data (held_views inlined.now items.now)) < length_end }
+    ensures { Wrote S.Sink sink.old sink.new (leaf_headers 0 (held_views inlined.now items.now)) (page_ending result) }
+{
+    let mut headers = Headers::new(items.len());
+    for held in items {
+        let value = held.stored.len();
+        headers.put_leaf(held.stored.is_bucket(), held.key.len(), value, sink)?;
+    }
+    headers.put_rest(sink)
+}
+
+/// Writes the key and the value of an item.
+#[tactic(auto, using(crate::proofs::PutsLemmas::puts))]
+fn put_item<S: Sink>(held: &Held<'_>, inlined: &[Leaf<'_>], sink: &mut S) -> Result<(), SinkFault>
+    requires { IsHeld inlined.now held.now }
+    ensures { Wrote S.Sink sink.old sink.new (held.now.key.now ++ stored_value inlined.now held.now.stored) (page_ending result) }
+{
+    put(held.key, sink)?;
+    held.stored.put(inlined, sink)
+}
+
+/// Writes the data of items.
+#[tactic(auto, using(bolt_format::proofs::WroteFronts::fronts, crate::proofs::HeldPuts::held_left, crate::proofs::HeldPuts::held_none))]
+fn put_data<S: Sink>(
+    items: &[Held<'_>],
+    inlined: &[Leaf<'_>],
+    sink: &mut S,
+) -> Result<(), SinkFault>
+    requires { AreHeld inlined.now items.now }
+    ensures { Wrote S.Sink sink.old sink.new (leaf_data (held_views inlined.now items.now)) (page_ending result) }
+{
+    for held in items {
+        put_item(held, inlined, sink)?;
+    }
+    Ok(())
+}
+
+/// Writes the leaf page over a run.
+#[tactic(auto, using(crate::proofs::PutsLemmas::puts, crate::proofs::LeafPuts::leaf_run_wrote))]
+fn put_leaf_page<S: Sink>(
+    run: &LeafRun<'_>,
+    setup: &PageSetup,
+    number: u64,
+    sink: &mut S,
+) -> Result<(), SinkFault>
+    requires { IsLeafRun run.now }
+    ensures { Wrote S.Sink sink.old sink.new (page_bytes setup.now.page_size number (leaf_page setup.now.page_size (leaves_of run.now) number).view) (page_ending result) }
+{
+    if sink.keeps_nothing() {
+        return Ok(());
+    }
+    let items = run.items.as_slice();
+    let inlined = run.inlined.as_slice();
+    let zeros = put_page_header(setup, number, Kind::Leaf, items.len(), run.size, sink)?;
+    put_headers(items, inlined, sink)?;
+    put_data(items, inlined, sink)?;
+    put_zeros(zeros, sink)
 }

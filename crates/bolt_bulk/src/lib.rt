@@ -6,36 +6,25 @@
 //! that aren't full yet are held.
 #![tactic(auto)]
 
-mod all_pages;
-mod branch_page;
 mod branch_run;
 mod bucket_runs;
-mod bucket_value;
 mod copy;
 mod fault;
-mod file_laws;
 mod first_pages;
 mod headers;
 mod held;
 pub mod laws;
-mod leaf_page;
 mod leaf_run;
 mod limits;
 mod members_copy;
-mod no_sink;
-mod noted_limits;
 mod outcome;
-mod page_header;
 mod page_setup;
 mod pass;
-mod pending_bucket;
 mod pieces;
-mod shape;
 mod upper_runs;
 mod waiting_bucket;
 
-pub use copy::{compact, compact_as, plan, plan_as};
+pub use copy::{Shape, compact, compact_as, plan, plan_as};
 pub use fault::{BulkFault, PlanFault};
 pub use members_copy::compact_members;
 pub use outcome::{Done, Plan};
-pub use shape::Shape;

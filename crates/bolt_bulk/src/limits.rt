@@ -1,13 +1,15 @@
 //! How many runs the rows of a bucket's branches may have, in the balanced layout.
-ghost use Rattle.std.specs.Prelude.{◌≡◌, ◌∷◌, ℕ, List, false, IfErr, None, OnOk, Some, map};
-ghost use Rattle.bolt_layout.specs.Limits.{limit_at, limits_from_ends};
-ghost use Rattle.bolt_bulk.specs.Private.RowLimits.{IsOtherRow, bucket_limit, limit_in, run_end};
+ghost use Rattle.std.specs.Prelude.{◌≡◌, ◌∷◌, ℕ, List, false, IfErr, None, OnOk, Some};
+ghost use Rattle.bolt_layout.specs.Limits.{limits_from_ends};
+ghost use Rattle.bolt_bulk.specs.Private.{bucket_limit, IsOtherRow, limit_in, NotesRows, run_end, BucketEnds};
 ghost use Rattle.bolt_bulk.specs.declared.fault.BulkFault.TheVariants as fault;
 
 use crate::branch_run::BranchRun;
 use crate::fault::BulkFault;
+use crate::upper_runs::UpperRuns;
 use std::alloc::Global;
 use std::collections::BTreeMap;
+use std::mem;
 
 /// The rows of branches that have a limit: only so many runs may begin after the first one, and the
 /// last page joins the last run even if that has no room for it. A row is named by the number of
@@ -81,7 +83,7 @@ impl Limits {
         bucket: u64,
         runs: &[BranchRun<'_>],
     ) -> Result<(), BulkFault>
-        ensures noted { OnOk result (((level : ℕ) → limit_in self.old bucket level ≡ None) → (level : ℕ) → limit_in self.new bucket level ≡ limit_at (limits_from_ends false (map run_end runs.now)) level) }
+        ensures noted { OnOk result (NotesRows self.old self.new bucket runs.now) }
         ensures others { OnOk result ((b l : ℕ) → (b ≡ bucket → ⊥) → limit_in self.new b l ≡ limit_in self.old b l) }
         ensures fault { IfErr result (λ e. e ≡ fault.Memory) }
     {
@@ -107,5 +109,44 @@ impl<'a> BucketLimits<'a> {
             Some(left) => Some(*left),
             None => None,
         }
+    }
+}
+
+/// The limits of the rows of the buckets that have ended, if they are asked for.
+#[derive(Drop)]
+pub(crate) struct NotedLimits {
+    pub notes: bool,
+    pub limits: Limits,
+}
+
+impl NotedLimits {
+    /// No limit is noted yet.
+    pub(crate) fn new(alloc: Global, notes: bool) -> NotedLimits
+        ensures notes { result.notes ≡ notes }
+        ensures none { (bucket level : ℕ) → limit_in result.limits bucket level ≡ None }
+    {
+        NotedLimits {
+            notes,
+            limits: Limits::none(alloc),
+        }
+    }
+
+    /// A bucket ends with these open runs. If limits are asked for, those of its rows are noted.
+    pub(crate) fn bucket_ends(&mut self, uppers: &UpperRuns<'_>) -> Result<(), BulkFault>
+        ensures ends { OnOk result (BucketEnds self.old self.new uppers.now) }
+        ensures fault { IfErr result (λ e. e ≡ fault.Memory) }
+    {
+        if !self.notes {
+            return Ok(());
+        }
+        self.limits
+            .add_bucket(uppers.limits.bucket, uppers.runs.as_slice())
+    }
+
+    /// Returns the limits, and leaves none.
+    pub(crate) fn take_limits(&mut self, alloc: Global) -> Limits
+        ensures { result ≡ self.old.limits }
+    {
+        mem::replace(&mut self.limits, Limits::none(alloc))
     }
 }

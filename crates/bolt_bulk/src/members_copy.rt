@@ -1,5 +1,5 @@
 //! The copy of all members that are given one after another, in a few passes over them.
-ghost use Rattle.std.specs.Prelude.{◌≡◌, ◌*◌, ◌≤◌, ◌<◌, ◌/◌, IfErr, IfOk, List, OnOk, length};
+ghost use Rattle.std.specs.Prelude.{◌≡◌, ◌*◌, ◌≤◌, ◌<◌, ◌/◌, IfErr, IfOk, List, OnOk, length, ◌↔◌, [], None};
 ghost use Rattle.bolt_format.specs.Metas.{IsPageSize};
 ghost use Rattle.bolt_tree.specs.Listing.{Member};
 ghost use Rattle.bolt_tree.specs.Tree.{tree_of};
@@ -9,20 +9,19 @@ ghost use Rattle.bolt_layout.specs.Held.{most_held};
 ghost use Rattle.bolt_layout.specs.Layout.{layout_held, layout_root};
 ghost use Rattle.bolt_layout.specs.declared.layout.Layout.{Layout};
 ghost use Rattle.bolt_layout.specs.declared.layout.Layout.TheVariants.{Balanced};
-ghost use Rattle.bolt_bulk.specs.Private.Passes.{FitLimits, limits_with};
+ghost use Rattle.bolt_bulk.specs.Private.{FitAll, Ends, FitLimits, limits_with};
 ghost use Rattle.bolt_bulk.specs.WholeListings.{IsAgain, IsWhole};
 ghost use Rattle.bolt_bulk.specs.declared.fault.PlanFault.TheVariants as planned;
 
-use crate::all_pages::put_pages;
+use crate::copy::Shape;
 use crate::fault::{BulkFault, PlanFault};
-use crate::file_laws::a_listing_has_one_layout;
 use crate::first_pages::put_first_pages;
+use crate::laws::a_listing_has_one_layout;
 use crate::limits::Limits;
-use crate::no_sink::NoSink;
 use crate::outcome::{Done, Plan};
 use crate::page_setup::PageSetup;
-use crate::shape::Shape;
-use bolt_format::Sink;
+use crate::pass::{Ended, Pass};
+use bolt_format::{Sink, SinkFault};
 use bolt_layout::Layout;
 use bolt_tree::Members;
 use std::alloc::Global;
@@ -68,7 +67,7 @@ fn balanced_limits<'a, M: Members<'a>>(
     shape: &Shape,
 ) -> Result<Limits, PlanFault>
     requires { IsWhole M.lists M.left members.old }
-    ensures fit { IfOk result (λ limits. (listing : List Member) → M.lists members.old listing → FitLimits Balanced (tree_of listing) shape.now.page_size (limits_with limits)) }
+    ensures fit { IfOk result (λ limits. FitAll M.lists members.old Balanced shape.now.page_size limits) }
     ensures large { IfErr result (λ fault. fault ≡ planned.TooLarge → (listing : List Member) → M.lists members.old listing
         → too_many ≤ length (layout_of_listing Balanced shape.now.page_size listing shape.now.sequence)) }
     ensures again { IfOk result (λ limits. IsAgain M.lists M.left M.ends_as members.old members.new) }
@@ -94,7 +93,7 @@ fn limits_of<'a, M: Members<'a>>(
     shape: &Shape,
 ) -> Result<Limits, PlanFault>
     requires { IsWhole M.lists M.left members.old }
-    ensures fit { IfOk result (λ limits. (listing : List Member) → M.lists members.old listing → FitLimits shape.now.layout (tree_of listing) shape.now.page_size (limits_with limits)) }
+    ensures fit { IfOk result (λ limits. FitAll M.lists members.old shape.now.layout shape.now.page_size limits) }
     ensures large { IfErr result (λ fault. fault ≡ planned.TooLarge → (listing : List Member) → M.lists members.old listing
         → too_many ≤ length (layout_of_listing shape.now.layout shape.now.page_size listing shape.now.sequence)) }
     ensures again { IfOk result (λ limits. IsAgain M.lists M.left M.ends_as members.old members.new) }
@@ -113,7 +112,7 @@ fn plan_within<'a, M: Members<'a>>(
     shape: &Shape,
 ) -> Result<Plan, PlanFault>
     requires whole { IsWhole M.lists M.left members.old }
-    requires fit { (listing : List Member) → M.lists members.old listing → FitLimits shape.now.layout (tree_of listing) shape.now.page_size (limits_with limits.now) }
+    requires fit { FitAll M.lists members.old shape.now.layout shape.now.page_size limits.now }
     ensures plans { (listing : List Member) → M.lists members.old listing → Plans shape.now.layout shape.now.page_size shape.now.sequence listing result }
     ensures again { IfOk result (λ plan. IsAgain M.lists M.left M.ends_as members.old members.new) }
 {
@@ -178,4 +177,50 @@ pub fn compact_members<'a, M: Members<'a>, S: Sink>(
         bytes: ended.high_water * shape.page_size,
         held: ended.held,
     })
+}
+
+/// Writes the pages of all members, in the layout whose rows have these limits. If `notes` is set
+/// and this is the plain layout, it returns the limits of the balanced one.
+fn put_pages<'a, M: Members<'a>, S: Sink>(
+    setup: PageSetup,
+    limits: &Limits,
+    notes: bool,
+    members: &mut M,
+    sink: &mut S,
+) -> Result<Ended, BulkFault>
+    requires room { 3 ≤ setup.limit }
+    requires whole { IsWhole M.lists M.left members.old }
+    ensures pages { (which : Layout) (listing : List Member) → M.lists members.old listing → FitLimits which (tree_of listing) setup.page_size (limits_with limits.now)
+        → Ends (record { which = which; tree = tree_of listing; notes = notes }) S.Sink sink.old sink.new setup [] result }
+    ensures end { OnOk result (M.ends_as members.old members.new) }
+    ensures listing { (listing : List Member) → M.lists members.new listing ↔ M.lists members.old listing }
+    ensures same_end { (end : M) → M.ends_as members.new end → M.ends_as members.old end }
+{
+    let mut pass = Pass::new(setup, limits, notes);
+    'members: while let Some(item) = members.next()? {
+        pass.take_member(members.path(), item, sink)?;
+    }
+    pass.end_all(sink)
+}
+
+/// Accepts all bytes, and keeps none.
+#[derive(Drop)]
+pub(crate) struct NoSink;
+
+impl Sink for NoSink {
+    ghost taken = { λ _. None };
+
+    ghost failed = { λ _. 0 };
+
+    fn put(&mut self, _bytes: &[u8]) -> Result<(), SinkFault> {
+        Ok(())
+    }
+
+    fn failures(&self) -> u64 {
+        0
+    }
+
+    fn keeps_nothing(&self) -> bool {
+        true
+    }
 }

@@ -4,11 +4,9 @@ ghost use Rattle.std.specs.Prelude.{[], ◌≡◌, ◌+◌, ◌/◌, ◌<◌, �
 
 use crate::bucket_runs::BucketRuns;
 use crate::fault::BulkFault;
-use crate::limits::{BucketLimits, Limits};
-use crate::noted_limits::NotedLimits;
+use crate::limits::{BucketLimits, Limits, NotedLimits};
 use crate::page_setup::{MAX_ITEMS, PageSetup};
-use crate::pending_bucket::PendingBucket;
-use crate::waiting_bucket::WaitingBucket;
+use crate::waiting_bucket::{PendingBucket, WaitingBucket};
 use bolt_format::{ELEMENT_LEN, HEADER_LEN, Leaf, Sink};
 use bolt_tree::Item;
 use std::mem;
@@ -51,15 +49,11 @@ pub(crate) struct Pass<'a> {
 }
 
 impl<'a> Pass<'a> {
-    ghost use Rattle.bolt_tree.specs.Tree.{Tree, end, listing_of, with_bucket, with_value};
+    ghost use Rattle.bolt_tree.specs.Tree.{Tree, with_bucket, with_value};
     ghost use Rattle.bolt_layout.specs.Laid.{Placed};
-    ghost use Rattle.bolt_bulk.specs.Private.FormatLimits.{longest_key};
-    ghost use Rattle.bolt_bulk.specs.Private.HeldCounts.{Counts, capped, items_by};
-    ghost use Rattle.bolt_bulk.specs.Private.Levels.{Level};
+    ghost use Rattle.bolt_bulk.specs.Private.{BeginsAll, capped, Counts, depth_of, Ends, EntersBucket, HasLeft, HasRoot, IsAt, IsFitMember, IsNoDeeper, IsReady, items_by, LeavesBucket, Level, longest_key, onto, Steps, TakesValue, Wanted};
     ghost use Rattle.bolt_format.specs.ElementLengths.{IsValueLength};
     ghost use Rattle.bolt_format.specs.ElementPlaces.{leaf_view};
-    ghost use Rattle.bolt_bulk.specs.Private.Passes.{FitLimits, HasLeft, HasRoot, IsAt, IsNoDeeper, IsReady, Steps, Wanted, depth_of, limits_with, onto};
-    ghost use Rattle.bolt_bulk.specs.Private.Endings.{Ends, IsFitMember};
     ghost use Rattle.bolt_tree.specs.Listing.{Member};
     ghost use Rattle.bolt_tree.specs.Paths.{path_of};
     ghost use Rattle.bolt_tree.specs.ShownEntries.{item_view};
@@ -70,7 +64,7 @@ impl<'a> Pass<'a> {
         requires { 3 ≤ setup.limit }
         ensures setup { result.setup ≡ setup }
         ensures ready { IsReady result }
-        ensures at { (wanted : Wanted) → wanted.notes ≡ notes → FitLimits wanted.which wanted.tree setup.page_size (limits_with limits.now) → HasLeft wanted result (listing_of wanted.tree) [] }
+        ensures at { BeginsAll limits.now notes setup.page_size result }
     {
         let alloc = setup.alloc;
         Pass {
@@ -137,8 +131,7 @@ impl<'a> Pass<'a> {
         ensures setup { OnOk result (self.new.setup ≡ self.old.setup) }
         ensures ready { OnOk result (IsReady self.new) }
         ensures depth { OnOk result (depth_of self.new ≡ depth_of self.old) }
-        ensures steps { (wanted : Wanted) (after : Tree) (levels : List Level) (put : List Placed) → IsAt wanted self.old levels (with_value key.now value.now after) put
-            → Steps wanted S.Sink sink.old sink.new self.old.setup put (IsAt wanted self.new levels after) result }
+        ensures steps { TakesValue S.Sink sink.old sink.new self.old self.new key.now value.now result }
     {
         let Some(pending) = self.pending else {
             return self.put_value(key, value, sink);
@@ -197,8 +190,7 @@ impl<'a> Pass<'a> {
         ensures setup { OnOk result (self.new.setup ≡ self.old.setup) }
         ensures ready { OnOk result (IsReady self.new) }
         ensures depth { OnOk result (depth_of self.new ≡ depth_of self.old) }
-        ensures steps { (wanted : Wanted) (after : Tree) (levels : List Level) (put : List Placed) → IsAt wanted self.old levels (with_value key.now value.now after) put
-            → Steps wanted S.Sink sink.old sink.new self.old.setup put (IsAt wanted self.new levels after) result }
+        ensures steps { TakesValue S.Sink sink.old sink.new self.old self.new key.now value.now result }
     {
         self.bucket
             .add_value(&self.setup, key, value, &mut self.next, sink)?;
@@ -218,8 +210,7 @@ impl<'a> Pass<'a> {
         ensures setup { OnOk result (self.new.setup ≡ self.old.setup) }
         ensures ready { OnOk result (IsReady self.new) }
         ensures depth { OnOk result (depth_of self.new ≡ depth_of self.old + 1) }
-        ensures steps { (wanted : Wanted) (inside after : Tree) (levels : List Level) (put : List Placed) → IsAt wanted self.old levels (with_bucket key.now sequence inside after) put
-            → Steps wanted S.Sink sink.old sink.new self.old.setup put (IsAt wanted self.new (record { key = key.now; after = after } ∷ levels) inside) result }
+        ensures steps { EntersBucket S.Sink sink.old sink.new self.old self.new key.now sequence result }
     {
         self.open_pending(sink)?;
         self.begin(key, sequence);
@@ -289,8 +280,7 @@ impl<'a> Pass<'a> {
         ensures setup { OnOk result (self.new.setup ≡ self.old.setup) }
         ensures ready { OnOk result (IsReady self.new) }
         ensures depth { OnOk result (depth_of self.new + 1 ≡ depth_of self.old) }
-        ensures steps { (wanted : Wanted) (level : Level) (levels : List Level) (put : List Placed) → IsAt wanted self.old (level ∷ levels) end put
-            → Steps wanted S.Sink sink.old sink.new self.old.setup put (IsAt wanted self.new levels level.after) result }
+        ensures steps { LeavesBucket S.Sink sink.old sink.new self.old self.new result }
     {
         match self.pending {
             Some(pending) => self.end_inline(pending, sink),
@@ -309,8 +299,7 @@ impl<'a> Pass<'a> {
         ensures setup { OnOk result (self.new.setup ≡ self.old.setup) }
         ensures ready { OnOk result (IsReady self.new) }
         ensures depth { OnOk result (depth_of self.new + 1 ≡ depth_of self.old) }
-        ensures steps { (wanted : Wanted) (level : Level) (levels : List Level) (put : List Placed) → IsAt wanted self.old (level ∷ levels) end put
-            → Steps wanted S.Sink sink.old sink.new self.old.setup put (IsAt wanted self.new levels level.after) result }
+        ensures steps { LeavesBucket S.Sink sink.old sink.new self.old self.new result }
     {
         self.bucket.add_inline(
             &self.setup,
@@ -333,8 +322,7 @@ impl<'a> Pass<'a> {
         ensures setup { OnOk result (self.new.setup ≡ self.old.setup) }
         ensures ready { OnOk result (IsReady self.new) }
         ensures depth { OnOk result (depth_of self.new + 1 ≡ depth_of self.old) }
-        ensures steps { (wanted : Wanted) (level : Level) (levels : List Level) (put : List Placed) → IsAt wanted self.old (level ∷ levels) end put
-            → Steps wanted S.Sink sink.old sink.new self.old.setup put (IsAt wanted self.new levels level.after) result }
+        ensures steps { LeavesBucket S.Sink sink.old sink.new self.old self.new result }
     {
         self.noted.bucket_ends(&self.bucket.uppers)?;
         let Some(waiting) = self.waiting.pop() else {

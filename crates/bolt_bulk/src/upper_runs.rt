@@ -1,16 +1,8 @@
 //! The open runs of pages above a bucket's leaves.
-ghost use Rattle.std.specs.Prelude.{◌≡◌, ◌<◌, ◌≤◌, [], IfErr, IfOk, OnErr, OnOk, length};
+ghost use Rattle.std.specs.Prelude.{◌≡◌, ◌<◌, ◌≤◌, [], IfOk, OnOk, length};
 ghost use Rattle.std.specs.List.{AllByRecursion};
 ghost use Rattle.bolt_format.specs.ElementPlaces.{branch_view};
-ghost use Rattle.bolt_format.specs.Sinks.{AppendsProperPrefix};
-ghost use Rattle.bolt_layout.specs.Layout.{placed_bytes};
-ghost use Rattle.bolt_bulk.specs.Private.FormatLimits.{longest_key};
-ghost use Rattle.bolt_bulk.specs.Private.BranchRuns.{IsStanding, runs_above, runs_end_next};
-ghost use Rattle.bolt_bulk.specs.Private.RowLimits.{bucket_limit};
-ghost use Rattle.bolt_bulk.specs.Private.RunViews.{runs_climb, runs_close_put, runs_next, runs_put, runs_root};
-ghost use Rattle.bolt_format.specs.Wrote.{Wrote};
-ghost use Rattle.bolt_bulk.specs.BulkEndings.{bulk_ending};
-ghost use Rattle.bolt_bulk.specs.declared.fault.BulkFault.TheVariants as fault;
+ghost use Rattle.bolt_bulk.specs.Private.{bucket_limit, IsStanding, LeavesOut, longest_key, OnlyAbove, Puts, runs_above, runs_climb, runs_close_put, runs_end_next, runs_next, runs_put, runs_root};
 
 use crate::branch_run::BranchRun;
 use crate::fault::BulkFault;
@@ -54,13 +46,13 @@ impl<'a> UpperRuns<'a> {
         requires key { length key.now ≤ longest_key }
         requires closed { length closed.key.now ≤ longest_key }
         requires next { next.old ≤ setup.now.limit }
-        ensures pages { Wrote S.Sink sink.old sink.new (placed_bytes setup.now.page_size (runs_put setup.now.page_size key.now (branch_view closed.entry) next.old (runs_above self.old.runs.items))) (bulk_ending result) }
+        ensures pages { Puts S.Sink sink.old sink.new setup.now (runs_put setup.now.page_size key.now (branch_view closed.entry) next.old (runs_above self.old.runs.items)) result }
         ensures runs { OnOk result (runs_above self.new.runs.items ≡ runs_climb setup.now.page_size (bucket_limit self.old.limits (length (runs_above self.old.runs.items))) key.now (branch_view closed.entry) next.old (runs_above self.old.runs.items)) }
         ensures limits { OnOk result (self.new.limits ≡ self.old.limits) }
         ensures standing { OnOk result (AllByRecursion IsStanding (runs_above self.new.runs.items)) }
         ensures next { OnOk result (next.new ≡ runs_next setup.now.page_size key.now (branch_view closed.entry) next.old (runs_above self.old.runs.items)) }
         ensures within { OnOk result (next.new ≤ setup.now.limit) }
-        ensures large { IfErr result (λ e. e ≡ fault.TooLarge → setup.now.limit < runs_next setup.now.page_size key.now (branch_view closed.entry) next.old (runs_above self.old.runs.items)) }
+        ensures large { OnlyAbove setup.now (runs_next setup.now.page_size key.now (branch_view closed.entry) next.old (runs_above self.old.runs.items)) result }
     {
         let mut closed = closed;
         for i in 0..self.runs.len() {
@@ -86,12 +78,12 @@ impl<'a> UpperRuns<'a> {
         requires standing { AllByRecursion IsStanding (runs_above self.old.runs.items) }
         requires closed { length closed.key.now ≤ longest_key }
         requires next { next.old ≤ setup.now.limit }
-        ensures pages { Wrote S.Sink sink.old sink.new (placed_bytes setup.now.page_size (runs_close_put setup.now.page_size (branch_view closed.entry) next.old (runs_above self.old.runs.items))) (bulk_ending result) }
-        ensures short { OnErr result (AppendsProperPrefix (S.taken sink.old) (S.taken sink.new) (placed_bytes setup.now.page_size (runs_close_put setup.now.page_size (branch_view closed.entry) next.old (runs_above self.old.runs.items)))) }
+        ensures pages { Puts S.Sink sink.old sink.new setup.now (runs_close_put setup.now.page_size (branch_view closed.entry) next.old (runs_above self.old.runs.items)) result }
+        ensures short { LeavesOut S.Sink sink.old sink.new setup.now (runs_close_put setup.now.page_size (branch_view closed.entry) next.old (runs_above self.old.runs.items)) result }
         ensures root { IfOk result (λ root. root ≡ runs_root setup.now.page_size (branch_view closed.entry) next.old (runs_above self.old.runs.items)) }
         ensures next { OnOk result (next.new ≡ runs_end_next setup.now.page_size (branch_view closed.entry) next.old (runs_above self.old.runs.items)) }
         ensures within { OnOk result (next.new ≤ setup.now.limit) }
-        ensures large { IfErr result (λ e. e ≡ fault.TooLarge → setup.now.limit < runs_end_next setup.now.page_size (branch_view closed.entry) next.old (runs_above self.old.runs.items)) }
+        ensures large { OnlyAbove setup.now (runs_end_next setup.now.page_size (branch_view closed.entry) next.old (runs_above self.old.runs.items)) result }
     {
         let mut closed = closed;
         for i in 0..self.runs.len() {

@@ -1,14 +1,6 @@
-//! A bucket that waits while one within it is open.
-ghost use Rattle.std.specs.Prelude.{◌≡◌, ◌+◌, ◌<◌, ◌≤◌, ℕ, IfErr, IfOk, OnErr, OnOk, length};
-ghost use Rattle.bolt_format.specs.Sinks.{AppendsProperPrefix};
-ghost use Rattle.bolt_layout.specs.Layout.{placed_bytes};
-ghost use Rattle.bolt_bulk.specs.Private.OpenBuckets.{IsOpenBucket, bucket_end_next, bucket_runs};
-ghost use Rattle.bolt_bulk.specs.Private.RunViews.{runs_end, runs_end_put, runs_push};
-ghost use Rattle.bolt_bulk.specs.Private.TakenItems.{root_element};
-ghost use Rattle.bolt_bulk.specs.Private.WaitingBuckets.{IsWaiting};
-ghost use Rattle.bolt_format.specs.Wrote.{Wrote};
-ghost use Rattle.bolt_bulk.specs.BulkEndings.{bulk_ending};
-ghost use Rattle.bolt_bulk.specs.declared.fault.BulkFault.TheVariants as fault;
+//! A bucket that waits while one within it is open, and one that may turn out to be inline.
+ghost use Rattle.std.specs.Prelude.{◌≡◌, ◌+◌, ◌<◌, ◌≤◌, ℕ, IfOk, OnOk, length};
+ghost use Rattle.bolt_bulk.specs.Private.{bucket_end_next, bucket_runs, IsOpenBucket, IsWaiting, LeavesOut, OnlyAbove, Puts, root_element, root_size, runs_end, runs_end_put, runs_push};
 
 use crate::bucket_runs::BucketRuns;
 use crate::fault::BulkFault;
@@ -43,14 +35,14 @@ impl<'a> WaitingBucket<'a> {
         requires open { IsOpenBucket bucket }
         requires waits { IsWaiting setup.now.page_size self }
         requires next { next.old ≤ setup.now.limit }
-        ensures pages { Wrote S.Sink sink.old sink.new (placed_bytes setup.now.page_size (runs_end_put setup.now.page_size (bucket_runs bucket.entry next.old))) (bulk_ending result) }
-        ensures short { OnErr result (AppendsProperPrefix (S.taken sink.old) (S.taken sink.new) (placed_bytes setup.now.page_size (runs_end_put setup.now.page_size (bucket_runs bucket.entry next.old)))) }
+        ensures pages { Puts S.Sink sink.old sink.new setup.now (runs_end_put setup.now.page_size (bucket_runs bucket.entry next.old)) result }
+        ensures short { LeavesOut S.Sink sink.old sink.new setup.now (runs_end_put setup.now.page_size (bucket_runs bucket.entry next.old)) result }
         ensures runs { IfOk result (λ outer. (before : ℕ) → bucket_runs outer next.new
             ≡ runs_push (bucket_runs self.entry.bucket before) (root_element self.entry.key.now (runs_end setup.now.page_size (bucket_runs bucket.entry next.old)) self.entry.sequence)
-            (32 + length self.entry.key.now) (bucket_end_next setup.now.page_size (bucket_runs bucket.entry next.old))) }
+            (root_size self.entry.key.now) (bucket_end_next setup.now.page_size (bucket_runs bucket.entry next.old))) }
         ensures open { IfOk result (λ outer. IsOpenBucket outer) }
         ensures within { OnOk result (next.new ≤ setup.now.limit) }
-        ensures large { IfErr result (λ e. e ≡ fault.TooLarge → setup.now.limit < bucket_end_next setup.now.page_size (bucket_runs bucket.entry next.old)) }
+        ensures large { OnlyAbove setup.now (bucket_end_next setup.now.page_size (bucket_runs bucket.entry next.old)) result }
     {
         let mut outer = self.bucket;
         outer.reserve()?;
@@ -64,4 +56,14 @@ impl<'a> WaitingBucket<'a> {
         outer.push_reserved(Held { key, stored }, ROOT_ITEM_LEN + key.len());
         Ok(outer)
     }
+}
+
+/// A bucket that has only values so far, which take at most a quarter of a page. If it ends so, it
+/// is inline; if it has more, it has a root page.
+#[derive(Clone, Copy)]
+pub(crate) struct PendingBucket<'a> {
+    pub key: &'a [u8],
+    pub sequence: u64,
+    /// The size of the leaf page over its entries so far.
+    pub size: usize,
 }

@@ -85,8 +85,9 @@ close_puts page_size q [] number = []
 close_puts page_size q (upper ∷ uppers) number =
     own_page branch_page_view page_size (upper.run ++ q ∷ []) (number + numbers_in uppers) ∷ close_puts page_size (page_over branch_page_view page_size (upper.run ++ q ∷ [])) uppers number
 
--- What a bucket is known by before its pages are written: the limits of its rows, with its number, and all its leaf pages.
+-- What a bucket is known by before its pages are written: its number in the order of openings, the limits of its rows, and all its leaf pages.
 pub record Known : Type 0 where
+  pub number : ℕ
   pub limits : BucketLimits
   pub leaves : List (Laid BranchElement)
 
@@ -108,9 +109,13 @@ next_number state number = number + numbers_in state.uppers + numbers_of state.r
 
 -- Room for the next item, by its key and size: it is there, or the run closes before any page of the item is written.
 abbrev pub making_room : ℕ → Open → List ℕ → ℕ → Open
-making_room page_size state key size =
-    let closed : Open = record { uppers = climb page_size (bucket_limit state.known.limits (length state.uppers)) key (page_over leaf_page_view page_size state.run) state.uppers; run = []; known = state.known } in
-    if has_room page_size 1 state.run size then state else closed
+making_room page_size state key size = record {
+  uppers =
+      let above = climb page_size (bucket_limit state.known.limits (length state.uppers)) key (page_over leaf_page_view page_size state.run) state.uppers in
+      if has_room page_size 1 state.run size then state.uppers else above;
+  run = if has_room page_size 1 state.run size then state.run else [];
+  known = state.known;
+}
 
 abbrev pub room_puts : ℕ → Open → List ℕ → ℕ → ℕ → List Placed
 room_puts page_size state key size number =

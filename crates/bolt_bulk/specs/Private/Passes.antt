@@ -5,7 +5,7 @@ use Rattle.bolt_format.specs.ElementPlaces.{leaf_view}
 use Rattle.bolt_format.specs.Elements.{BranchElement, LeafElement}
 use Rattle.bolt_format.specs.declared.element.Leaf.{Leaf}
 use Rattle.bolt_tree.specs.Listing.{Member}
-use Rattle.bolt_tree.specs.Tree.{Tree, end, with_bucket, with_value}
+use Rattle.bolt_tree.specs.Tree.{Tree, end, listing_of, tree_of, with_bucket, with_value}
 use Rattle.bolt_layout.specs.Items.{is_inline, items_of, root_of}
 use Rattle.bolt_layout.specs.Laid.{Laid, Placed}
 use Rattle.bolt_layout.specs.Layout.{layout_mark, layout_pages, placed_bytes}
@@ -21,16 +21,17 @@ use Rattle.bolt_bulk.specs.Private.HeldSoFar.{held_so_far}
 use Rattle.bolt_bulk.specs.Private.Levels.{Level, left_in}
 use Rattle.bolt_bulk.specs.Private.OpenBuckets.{IsOpenBucket, bucket_runs}
 use Rattle.bolt_bulk.specs.Private.BucketRuns.{AreOpenRuns}
-use Rattle.bolt_bulk.specs.Private.OpenRuns.{Frame, Open, all_put, base_in}
+use Rattle.bolt_bulk.specs.Private.OpenRuns.{Frame, Known, Open, all_put, base_in}
+use Rattle.bolt_bulk.specs.Private.RunViews.{BucketRunsView}
 use Rattle.bolt_bulk.specs.Private.TakenItems.{entries_size}
 use Rattle.bolt_bulk.specs.Private.WaitingBuckets.{IsWaiting}
 use Rattle.bolt_bulk.specs.declared.page_setup.PageSetup.{PageSetup}
 use Rattle.bolt_bulk.specs.declared.fault.BulkFault.{BulkFault}
 use Rattle.bolt_bulk.specs.declared.fault.BulkFault.TheVariants as fault
 use Rattle.bolt_bulk.specs.declared.pass.Pass.{Pass}
-use Rattle.bolt_bulk.specs.declared.pending_bucket.PendingBucket.{PendingBucket}
+use Rattle.bolt_bulk.specs.declared.waiting_bucket.PendingBucket.{PendingBucket}
 use Rattle.bolt_bulk.specs.declared.waiting_bucket.WaitingBucket.{WaitingBucket}
-use Rattle.bolt_bulk.specs.declared.noted_limits.NotedLimits.{NotedLimits}
+use Rattle.bolt_bulk.specs.declared.limits.NotedLimits.{NotedLimits}
 use Rattle.bolt_layout.specs.declared.layout.Layout.{Layout}
 use Rattle.bolt_format.specs.Wrote.{Wrote}
 use Rattle.bolt_bulk.specs.BulkEndings.{bulk_ending}
@@ -102,52 +103,56 @@ AreComingAround wanted page_size limits n [] = n ≡ suc (opened_in wanted.which
 AreComingAround wanted page_size limits n (frame ∷ frames) =
     AreComing wanted page_size limits n frame.after × AreComingAround wanted page_size limits (n + opened_in wanted.which page_size frame.after) frames
 
--- The open buckets, the innermost first, have these numbers, each lower than the one before it.
-pub record IsNumbered (wanted : Wanted) (page_size below n : ℕ) (state : Open) : Type 0 where
-  pub earlier : n < below
-  pub number_is : state.known.limits.bucket ≡ capped n
-  pub notes : Notes wanted page_size n state.known.leaves
+pub record IsToCome (wanted : Wanted) (page_size : ℕ) (limits : ℕ → ℕ → Option ℕ) (n : ℕ) (left : Tree) (frames : List Frame) : Type 0 where
+  pub inside : AreComing wanted page_size limits n left
+  pub around : AreComingAround wanted page_size limits (n + opened_in wanted.which page_size left) frames
 
-abbrev pub AreNumbered : (wanted : Wanted) → (page_size below : ℕ) → (numbers : List ℕ) → List Open → Type 0
-AreNumbered wanted page_size below [] [] = Unit {0}
-AreNumbered wanted page_size below [] (state ∷ states) = ⊥
-AreNumbered wanted page_size below (n ∷ numbers) [] = ⊥
-AreNumbered wanted page_size below (n ∷ numbers) (state ∷ states) = IsNumbered wanted page_size below n state × AreNumbered wanted page_size n numbers states
+-- The open buckets, the innermost first, each have a lower number than the one before it.
+pub record IsNumbered (wanted : Wanted) (page_size below : ℕ) (known : Known) : Type 0 where
+  pub earlier : known.number < below
+  pub number_is : known.limits.bucket ≡ capped known.number
+  pub notes : Notes wanted page_size known.number known.leaves
 
--- The limits of the buckets that have ended are those that follow from the plain layout. The open buckets, which have these numbers, have none
--- yet, and nor have those that come later.
-pub record IsTable (page_size : ℕ) (tree : Tree) (limits : Limits) (opened : ℕ) (numbers : List ℕ) : Type 0 where
-  pub still_open : AllByRecursion (λ (n : ℕ). (level : ℕ) → limit_in limits n level ≡ None) numbers
+abbrev pub AreNumbered : (wanted : Wanted) → (page_size below : ℕ) → List Known → Type 0
+AreNumbered wanted page_size below [] = Unit {0}
+AreNumbered wanted page_size below (known ∷ others) = IsNumbered wanted page_size below known × AreNumbered wanted page_size known.number others
+
+-- The limits of the buckets that have ended are those that follow from the plain layout. The open buckets have none yet, and nor have those
+-- that come later.
+pub record IsTable (page_size : ℕ) (tree : Tree) (limits : Limits) (opened : ℕ) (buckets : List Known) : Type 0 where
+  pub still_open : AllByRecursion (λ (known : Known). (level : ℕ) → limit_in limits known.number level ≡ None) buckets
   pub later : (n level : ℕ) → opened ≤ n → limit_in limits n level ≡ None
-  pub ended : (n level : ℕ) → n < opened → AllByRecursion (λ (m : ℕ). n ≡ m → ⊥) numbers → limit_in limits n level ≡ limits_for page_size tree n level
+  pub ended : (n level : ℕ) → n < opened → AllByRecursion (λ (known : Known). n ≡ known.number → ⊥) buckets → limit_in limits n level ≡ limits_for page_size tree n level
 
 -- A pass over the plain layout that notes limits has noted these, unless there are more page numbers than the code counts.
-pub record HasNoted (wanted : Wanted) (page_size : ℕ) (noted : NotedLimits) (opened : ℕ) (numbers : List ℕ) : Type 0 where
+pub record HasNoted (wanted : Wanted) (page_size : ℕ) (noted : NotedLimits) (opened : ℕ) (buckets : List Known) : Type 0 where
+  pub numbered : AreNumbered wanted page_size opened buckets
   pub asked : noted.notes ≡ wanted.notes
   pub table : wanted.notes ≡ true → wanted.which ≡ Plain → layout_mark wanted.which page_size wanted.tree ≤ 18446744073709551615
-      → IsTable page_size wanted.tree noted.limits opened numbers
+      → IsTable page_size wanted.tree noted.limits opened buckets
 
-abbrev pub open_in : Open → List Frame → List Open
-open_in state frames = state ∷ map (λ (frame : Frame). frame.state) frames
+abbrev pub open_in : Open → List Frame → List Known
+open_in state frames = state.known ∷ map (λ (frame : Frame). frame.state.known) frames
+
+-- Where the pass is in the layout.
+pub record IsOn (which : Layout) (page_size : ℕ) (tree : Tree) (frames : List Frame) (state : Open) (items : List (Laid LeafElement)) (runs : BucketRunsView) (put : List Placed) : Type 0 where
+  pub under : IsPass which page_size frames state items (root_of which page_size tree)
+  pub kept : AreOpenRuns runs state (base_in frames)
+  pub put_is : put ≡ all_put frames state
 
 -- The pass has written these pages, and these entries of the innermost bucket are left.
 pub record IsAt (wanted : Wanted) (pass : Pass) (levels : List Level) (left : Tree) (put : List Placed) : Type 0 where
   pub frames : List Frame
   pub state : Open
   pub rest : Tree
-  pub under : IsPass wanted.which pass.setup.page_size frames state (items_of wanted.which pass.setup.page_size rest) (root_of wanted.which pass.setup.page_size wanted.tree)
-  pub runs : AreOpenRuns (bucket_runs pass.bucket pass.next) state (base_in frames)
+  pub on : IsOn wanted.which pass.setup.page_size wanted.tree frames state (items_of wanted.which pass.setup.page_size rest) (bucket_runs pass.bucket pass.next) put
   pub waits : AreWaiting (reverse pass.waiting.items) frames
-  pub put_is : put ≡ all_put frames state
   pub pends : IsPending pass.pending pass.entries.items (map level_of frames) rest levels left
   pub held : pass.most ≡ capped (held_so_far frames state)
   pub opened : ℕ
   pub opened_is : pass.opened ≡ capped opened
-  pub coming : AreComing wanted pass.setup.page_size (limits_by pass) opened rest
-  pub around : AreComingAround wanted pass.setup.page_size (limits_by pass) (opened + opened_in wanted.which pass.setup.page_size rest) frames
-  pub numbers : List ℕ
-  pub numbered : AreNumbered wanted pass.setup.page_size opened numbers (open_in state frames)
-  pub has_noted : HasNoted wanted pass.setup.page_size pass.noted opened numbers
+  pub coming : IsToCome wanted pass.setup.page_size (limits_by pass) opened rest frames
+  pub noted : HasNoted wanted pass.setup.page_size pass.noted opened (open_in state frames)
 
 -- What is known of it without the tree. A bucket that may be inline has values alone, which take at most a quarter of a page.
 pub record IsSmall (page_size : ℕ) (pending : PendingBucket) (entries : List Leaf) : Type 0 where
@@ -208,3 +213,27 @@ pub record HasLeft (wanted : Wanted) (pass : Pass) (members : List Member) (put 
   pub left : Tree
   pub at : IsAt wanted pass levels left put
   pub members_are : left_in levels left ≡ members
+
+-- what a pass knows at its beginning, if these limits of rows are right
+abbrev pub BeginsAll : Limits → (notes : Bool) → (page_size : ℕ) → Pass → Type 0
+BeginsAll limits notes page_size pass = (wanted : Wanted) → wanted.notes ≡ notes → FitLimits wanted.which wanted.tree page_size (limits_with limits) → HasLeft wanted pass (listing_of wanted.tree) []
+
+-- the next entry is a value, and is taken
+abbrev pub TakesValue : {S A : Type 0} → Ghosts S → (old new : S) → (before after : Pass) → (key value : List ℕ) → Result A BulkFault → Type 0
+TakesValue sink old new before after key value result = (wanted : Wanted) (rest : Tree) (levels : List Level) (put : List Placed) → IsAt wanted before levels (with_value key value rest) put
+    → Steps wanted sink old new before.setup put (IsAt wanted after levels rest) result
+
+-- the next entry is a bucket, and is entered
+abbrev pub EntersBucket : {S A : Type 0} → Ghosts S → (old new : S) → (before after : Pass) → (key : List ℕ) → (sequence : ℕ) → Result A BulkFault → Type 0
+EntersBucket sink old new before after key sequence result =
+    (wanted : Wanted) (inside rest : Tree) (levels : List Level) (put : List Placed) → IsAt wanted before levels (with_bucket key sequence inside rest) put
+    → Steps wanted sink old new before.setup put (IsAt wanted after (record { key = key; after = rest } ∷ levels) inside) result
+
+-- the innermost bucket has no more entries, and is left
+abbrev pub LeavesBucket : {S A : Type 0} → Ghosts S → (old new : S) → (before after : Pass) → Result A BulkFault → Type 0
+LeavesBucket sink old new before after result = (wanted : Wanted) (level : Level) (levels : List Level) (put : List Placed) → IsAt wanted before (level ∷ levels) end put
+    → Steps wanted sink old new before.setup put (IsAt wanted after levels level.after) result
+
+-- the limits are right for each tree that is listed
+abbrev pub FitAll : {M : Type 0} → (M → List Member → Type 0) → M → Layout → (page_size : ℕ) → Limits → Type 0
+FitAll lists members which page_size limits = (listing : List Member) → lists members listing → FitLimits which (tree_of listing) page_size (limits_with limits)

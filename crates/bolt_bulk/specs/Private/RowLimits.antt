@@ -1,12 +1,12 @@
 -- The limits of rows, as the code keeps them: only of the rows that have one.
-use Rattle.std.specs.Prelude.{◌≡◌, ◌⊎◌, ℕ, suc, true, false, None, Option, length, map}
+use Rattle.std.specs.Prelude.{◌≡◌, ◌⊎◌, ℕ, suc, true, false, None, List, Option, length, map}
 use Rattle.std.specs.BTreeMap.{get}
 use Rattle.std.specs.Ordering.{nat_cmp, ordering_then}
 use Rattle.std.specs.declared.cmp.Ordering.{Ordering}
 use Rattle.bolt_bulk.specs.declared.branch_run.BranchRun.{BranchRun}
 use Rattle.bolt_bulk.specs.declared.limits.BucketLimits.{BucketLimits}
 use Rattle.bolt_bulk.specs.declared.limits.Limits.{Limits}
-use Rattle.bolt_bulk.specs.declared.noted_limits.NotedLimits.{NotedLimits}
+use Rattle.bolt_bulk.specs.declared.limits.NotedLimits.{NotedLimits}
 use Rattle.bolt_bulk.specs.declared.upper_runs.UpperRuns.{UpperRuns}
 use Rattle.bolt_layout.specs.Limits.{limit_at, limits_from_ends}
 
@@ -28,9 +28,12 @@ IsOtherRow bucket level b l = (b ≡ bucket → ⊥) ⊎ (l ≡ level → ⊥)
 abbrev pub run_end : BranchRun → ℕ × ℕ
 run_end run = (suc run.closed, suc (length run.elements.items))
 
+-- the limits of a bucket that ends with these open runs, if it has none yet
+abbrev pub NotesRows : (old new : Limits) → (bucket : ℕ) → List BranchRun → Type 0
+NotesRows old new bucket runs = ((level : ℕ) → limit_in old bucket level ≡ None) → (level : ℕ) → limit_in new bucket level ≡ limit_at (limits_from_ends false (map run_end runs)) level
+
 -- what is noted when a bucket ends with these open runs
 pub record BucketEnds (old new : NotedLimits) (uppers : UpperRuns) : Type 0 where
   pub same : new.notes ≡ old.notes
-  pub noted : old.notes ≡ true → ((level : ℕ) → limit_in old.limits uppers.limits.bucket level ≡ None)
-      → (level : ℕ) → limit_in new.limits uppers.limits.bucket level ≡ limit_at (limits_from_ends false (map run_end uppers.runs.items)) level
+  pub noted : old.notes ≡ true → NotesRows old.limits new.limits uppers.limits.bucket uppers.runs.items
   pub others : (b level : ℕ) → (b ≡ uppers.limits.bucket → ⊥) → limit_in new.limits b level ≡ limit_in old.limits b level

@@ -1,5 +1,5 @@
 -- The members are those of the file's listing.
-use Rattle.std.proofs.Common.{◌≡◌, ◌<◌, ◌≤◌, IfOk, List, OnOk, length, refl, subst, subst₂}
+use Rattle.std.proofs.Common.{◌≡◌, ◌<◌, ◌≤◌, IfOk, List, OnOk, length, subst, subst₂}
 use Rattle.bolt_check.specs.CheckedFiles.{bytes_of, meta_of}
 use Rattle.bolt_check.specs.declared.checked_file.Checked.{Checked}
 use Rattle.bolt_format.specs.declared.meta.Meta.{Meta}
@@ -13,9 +13,6 @@ use Rattle.bolt_bulk.proofs.copy.compact_as.Goals as goal
 
 pub a_walk_is_whole-requires : goal.a_walk_is_whole-requires
 a_walk_is_whole-requires g c = rw c.new-walk.ensures.checked c.new-walk.ensures.all
-
-pub compact_members-requires : goal.compact_members-requires
-compact_members-requires g c κs = ((refl, tt), c.a_walk_is_whole.ensures)
 
 pub returns-clause-copied : goal.returns-clause-copied
 returns-clause-copied g c = subst₂

@@ -1,5 +1,5 @@
 -- The members are those of the file's listing.
-use Rattle.std.proofs.Common.{List, refl, subst₂}
+use Rattle.std.proofs.Common.{List, subst₂}
 use Rattle.bolt_check.specs.CheckedFiles.{bytes_of, meta_of}
 use Rattle.bolt_check.specs.declared.checked_file.Checked.{Checked}
 use Rattle.bolt_format.specs.declared.meta.Meta.{Meta}
@@ -9,9 +9,6 @@ use Rattle.bolt_bulk.proofs.copy.plan_as.Goals as goal
 
 pub a_walk_is_whole-requires : goal.a_walk_is_whole-requires
 a_walk_is_whole-requires c = rw c.new-walk.ensures.checked c.new-walk.ensures.all
-
-pub plan_members-requires : goal.plan_members-requires
-plan_members-requires c κs = ((refl, tt), c.a_walk_is_whole.ensures)
 
 pub returns : goal.returns
 returns c = subst₂

@@ -5,7 +5,7 @@ use Rattle.std.proofs.Props.{props}
 use Rattle.bolt_tree.specs.Tree.{tree_of}
 use Rattle.bolt_layout.specs.Layout.{layout_mark}
 use Rattle.bolt_layout.specs.declared.layout.Layout.TheVariants.{Balanced, Plain}
-use Rattle.bolt_bulk.specs.Private.Passes.{FitLimits, limits_with}
+use Rattle.bolt_bulk.specs.Private.{FitLimits, limits_with}
 use Rattle.bolt_bulk.proofs.FileLayouts.{balanced_too_large}
 use Rattle.bolt_bulk.proofs.Openings.{fit_plain}
 use Rattle.bolt_bulk.proofs.PutsLemmas.{Wrote-failed}

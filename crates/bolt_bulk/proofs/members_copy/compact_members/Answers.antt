@@ -7,8 +7,7 @@ use Rattle.bolt_tree.specs.Listing.{Member}
 use Rattle.bolt_tree.specs.Tree.{tree_of}
 use Rattle.bolt_layout.specs.Layout.{layout_held, layout_mark}
 use Rattle.bolt_bulk.proofs.CopyLemmas.{copied, layout_parts, layout_written, stops_first, stops_later, stops_unplanned}
-use Rattle.bolt_bulk.specs.Private.Passes.{FitLimits, limits_with}
-use Rattle.bolt_bulk.specs.Private.Stops.{stopped_by}
+use Rattle.bolt_bulk.specs.Private.{FitLimits, limits_with, stopped_by}
 use Rattle.bolt_bulk.proofs.FileLayouts.{some_bytes, too_large, within_limit}
 use Rattle.bolt_bulk.proofs.WalkLeft.{whole_again}
 use Rattle.bolt_format.proofs.PageSizes.{size_bounds}

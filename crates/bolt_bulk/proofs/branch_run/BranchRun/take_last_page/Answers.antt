@@ -1,8 +1,7 @@
 -- A run that took one more can close; if memory runs out, its page is left out.
 use Rattle.std.proofs.Common.{subst, sym}
 use Rattle.bolt_format.specs.ElementPlaces.{branch_view}
-use Rattle.bolt_bulk.specs.Private.BranchRuns.{IsPushed, run_view}
-use Rattle.bolt_bulk.specs.Private.RunViews.{RunView}
+use Rattle.bolt_bulk.specs.Private.{IsPushed, run_view, RunView}
 use Rattle.bolt_bulk.proofs.RunLemmas.{pushed}
 use Rattle.bolt_bulk.proofs.branch_run.BranchRun.take_last_page.Goals as goal
 

@@ -1,9 +1,7 @@
 -- A run that stays open for the next page stands, and any other can close.
 use Rattle.std.proofs.Common.{◌∙◌, ap, subst, sym}
 use Rattle.bolt_format.specs.ElementPlaces.{branch_view}
-use Rattle.bolt_bulk.specs.Private.BranchRuns.{IsPushed, IsStanding, run_view}
-use Rattle.bolt_bulk.specs.Private.RunViews.{RunView, run_kept, run_stays}
-use Rattle.bolt_bulk.specs.Private.OpenRuns.{key_size}
+use Rattle.bolt_bulk.specs.Private.{IsPushed, IsStanding, key_size, run_kept, run_stays, run_view, RunView}
 use Rattle.bolt_bulk.proofs.RunLemmas.{pushed, stays_standing}
 use Rattle.bolt_bulk.proofs.branch_run.BranchRun.take_page.Goals as goal
 

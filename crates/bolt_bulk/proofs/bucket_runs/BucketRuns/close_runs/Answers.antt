@@ -1,13 +1,17 @@
 -- The leaf closes, and then the runs above it.
 use Rattle.std.proofs.lemmas.Result.{err_from_is_err_and}
 use Rattle.bolt_format.specs.ElementPlaces.{branch_view}
-use Rattle.bolt_bulk.specs.Private.OpenBuckets.{bucket_runs}
+use Rattle.bolt_bulk.specs.Private.{bucket_runs}
 use Rattle.bolt_bulk.proofs.BucketLemmas.{closed_short, end_large, end_made, end_short}
+use Rattle.bolt_bulk.proofs.PutsLemmas.{Wrote-stops}
 use Rattle.bolt_bulk.proofs.bucket_runs.BucketRuns.close_runs.Goals as goal
 
 pub close_all-requires-clause-closed : goal.close_all-requires-clause-closed
 close_all-requires-clause-closed g c =
     closed_short c.args.self.now.leaves.inlined.items c.args.self.now.leaves.items.items c.args.self.now.leaves.size c.args.next.now (branch_view c.in_ok-closed.closed) c.requires.open.leaves.held c.in_ok-closed.ensures.closed
+
+pub returns-in_err-closed-clause-pages : goal.returns-in_err-closed-clause-pages
+returns-in_err-closed-clause-pages g c = let p = err_from_is_err_and c.from_residual.result c.from_residual.ensures.1 in rw (p.1, p.2) (Wrote-stops _ _ c.in_err-closed.ensures.page)
 
 pub returns-in_err-closed-clause-large : goal.returns-in_err-closed-clause-large
 returns-in_err-closed-clause-large g c =

@@ -1,6 +1,6 @@
 -- With the pages of the runs from here on it is the whole.
 use Rattle.std.proofs.Common.{◌≡◌, ◌≤◌, ◌+◌, drop, min}
-use Rattle.bolt_bulk.specs.Private.HeldCounts.{items_above, items_in}
+use Rattle.bolt_bulk.specs.Private.{items_above, items_in}
 use Rattle.bolt_bulk.proofs.bucket_runs.BucketRuns.held.Given as goal
 
 abbrev pub invariant-loop-run : goal.invariant-loop-run

@@ -1,35 +1,26 @@
 -- What is open of the root bucket ends, which is the rest of the layout.
-use Rattle.std.proofs.Common.{◌∙◌, [], Result, Ok, Err, arith, subst, sym}
+use Rattle.std.proofs.Common.{◌∙◌, [], Err, arith, subst, sym}
 use Rattle.std.specs.Prelude.{⊤}
 use Rattle.std.proofs.lemmas.Result.{err_from_is_err_and}
 use Rattle.bolt_layout.specs.declared.layout.Layout.TheVariants.{Balanced}
-use Rattle.bolt_bulk.specs.Private.OpenBuckets.{bucket_runs}
-use Rattle.bolt_bulk.specs.Private.Passes.{FitLimits, HasLeft, limits_with}
-use Rattle.bolt_bulk.specs.Private.RunViews.{runs_end_put}
-use Rattle.bolt_bulk.specs.declared.fault.BulkFault.{BulkFault}
-use Rattle.bolt_bulk.specs.declared.pass.Ended.{Ended}
+use Rattle.bolt_bulk.specs.Private.{bucket_runs, FitLimits, limits_with, runs_end_put}
 use Rattle.bolt_bulk.proofs.PassAt.{steps_none}
 use Rattle.bolt_bulk.proofs.PassEnds.{ends_after, ends_early, has_end}
 use Rattle.bolt_bulk.specs.declared.limits.Limits.{Limits}
 use Rattle.bolt_bulk.proofs.pass.Pass.end_all.Goals as goal
 
 pub returns-in_err-leave_to : goal.returns-in_err-leave_to
-returns-in_err-leave_to g c = λ wanted put has.
-    ends_early wanted g.S.Sink c.args.self.now.setup c.args.sink.now c.leave_to.new.sink put (HasLeft wanted c.leave_to.new.self []) _ c.from_residual.result c.from_residual.ensures.1 (c.in_err-leave_to.ensures.steps wanted [] put has tt)
+returns-in_err-leave_to g c = λ wanted put has. ends_early c.from_residual.ensures.1 (c.in_err-leave_to.ensures.steps wanted [] put has tt)
 
 pub returns-in_err-bucket_ends : goal.returns-in_err-bucket_ends
 returns-in_err-bucket_ends g c = λ wanted put has.
-    let stop = c.from_residual-in_err-bucket_ends.result in
-    let first : Result ⊤ BulkFault = Err _ in
-    ends_after wanted g.S.Sink c.args.self.now.setup c.args.sink.now c.leave_to.new.sink c.leave_to.new.sink put (HasLeft wanted c.leave_to.new.self []) tt stop c.in_ok-leave_to.ensures.setup (c.in_ok-leave_to.ensures.steps wanted [] put has tt)
-    (λ all mid. ends_early wanted g.S.Sink c.leave_to.new.self.setup c.leave_to.new.sink c.leave_to.new.sink all (HasLeft wanted c.leave_to.new.self []) _ stop c.from_residual-in_err-bucket_ends.ensures.1
-    (steps_none wanted c.leave_to.new.self mid.levels mid.left all c.leave_to.new.sink (HasLeft wanted c.leave_to.new.self []) first mid.at c.in_err-bucket_ends.ensures.fault tt))
+    ends_after c.in_ok-leave_to.ensures.setup (c.in_ok-leave_to.ensures.steps wanted [] put has tt)
+    (λ all mid. ends_early c.from_residual-in_err-bucket_ends.ensures.1 (steps_none {A = ⊤} {At = λ _. ⊤} (Err _) mid.at c.in_err-bucket_ends.ensures.fault tt))
 
 pub returns-in_err-root : goal.returns-in_err-root
 returns-in_err-root g c = λ wanted put has.
     let p = err_from_is_err_and c.from_residual-in_err-root.result c.from_residual-in_err-root.ensures.1 in
-    let stop : Result Ended BulkFault = Err c.in_err-root.field-0.0 in rw (p.1, p.2) (
-    ends_after wanted g.S.Sink c.args.self.now.setup c.args.sink.now c.leave_to.new.sink c.close_runs.new.sink put (HasLeft wanted c.leave_to.new.self []) tt stop c.in_ok-leave_to.ensures.setup (c.in_ok-leave_to.ensures.steps wanted [] put has tt)
+    rw (p.1, p.2) (ends_after c.in_ok-leave_to.ensures.setup (c.in_ok-leave_to.ensures.steps wanted [] put has tt)
     (λ all mid. let end = has_end wanted c.leave_to.new.self all mid c.in_ok-leave_to.ensures.depth in
     record {
       others = runs_end_put c.leave_to.new.self.setup.page_size (bucket_runs c.leave_to.new.self.bucket c.leave_to.new.self.next);
@@ -46,8 +37,7 @@ returns-in_err-root g c = λ wanted put has.
 
 pub returns : goal.returns
 returns g c = λ wanted put has.
-    let well : Result Ended BulkFault = Ok (record { root = c.in_ok-root.root; high_water = c.close_runs.new.next; held = c.leave_to.new.self.most; noted = c.take_limits.result }) in
-    ends_after wanted g.S.Sink c.args.self.now.setup c.args.sink.now c.leave_to.new.sink c.close_runs.new.sink put (HasLeft wanted c.leave_to.new.self []) tt well c.in_ok-leave_to.ensures.setup (c.in_ok-leave_to.ensures.steps wanted [] put has tt)
+    ends_after c.in_ok-leave_to.ensures.setup (c.in_ok-leave_to.ensures.steps wanted [] put has tt)
     (λ all mid. let end = has_end wanted c.leave_to.new.self all mid c.in_ok-leave_to.ensures.depth in
     record {
       others = runs_end_put c.leave_to.new.self.setup.page_size (bucket_runs c.leave_to.new.self.bucket c.leave_to.new.self.next);

@@ -1,15 +1,12 @@
 -- The bucket around it takes the item of the one that ends.
 use Rattle.std.specs.Prelude.{⊤}
-use Rattle.std.proofs.Common.{◌∷◌, List, Err, subst, arith}
-use Rattle.bolt_tree.specs.Tree.{end}
+use Rattle.std.proofs.Common.{List, Err, subst, arith, Ok}
 use Rattle.std.specs.List.{AllByRecursion}
-use Rattle.std.proofs.lemmas.Result.{err_from_is_err_and}
-use Rattle.bolt_bulk.specs.Private.WaitingBuckets.{IsWaiting}
+use Rattle.bolt_bulk.specs.Private.{IsWaiting}
 use Rattle.bolt_bulk.specs.declared.waiting_bucket.WaitingBucket.{WaitingBucket}
 use Rattle.bolt_bulk.proofs.HeldPasses.{waits_less}
 use Rattle.bolt_bulk.proofs.PassAt.{leave_steps, steps_none, steps_stop}
 use Rattle.bolt_bulk.proofs.PassReady.{last_of}
-use Rattle.bolt_bulk.specs.declared.noted_limits.NotedLimits.{NotedLimits}
 use Rattle.bolt_bulk.proofs.pass.Pass.end_open.Goals as goal
 
 pub end_inner-requires-clause-waits : goal.end_inner-requires-clause-waits
@@ -18,21 +15,17 @@ end_inner-requires-clause-waits g c =
     (subst (λ (ws : List WaitingBucket). AllByRecursion (IsWaiting c.args.self.now.setup.page_size) ws) c.in-Some.ensures.items c.requires.ready.waiting)).0
 
 pub returns-in_err-bucket_ends-clause-steps : goal.returns-in_err-bucket_ends-clause-steps
-returns-in_err-bucket_ends-clause-steps g c = λ wanted level levels put is.
-    let p = err_from_is_err_and c.from_residual.result c.from_residual.ensures.1 in rw (p.1, p.2) (steps_none wanted c.args.self.now (level ∷ levels) end put c.args.sink.now _ (Err _) is c.in_err-bucket_ends.ensures.fault tt)
+returns-in_err-bucket_ends-clause-steps g c = λ wanted level levels put is. steps_stop {A = ⊤} {Mid = λ _. ⊤} c.from_residual.ensures.1 (steps_none (Err _) is c.in_err-bucket_ends.ensures.fault tt)
 
 pub returns-in_err-outer-clause-steps : goal.returns-in_err-outer-clause-steps
 returns-in_err-outer-clause-steps g c = λ wanted level levels put is.
-    let noted : NotedLimits = c.bucket_ends.new.self in
-    steps_stop wanted g.S.Sink c.args.self.now.setup {A = ⊤} c.args.sink.now c.end_inner.new.sink put _ _ _ c.from_residual-in_err-outer.result c.from_residual-in_err-outer.ensures.1
-    (leave_steps g.S.Sink wanted c.args.self.now put level levels c.in-Some.waiting c.args.sink.now c.end_inner.new.sink c.args.self.now.bucket c.pop.new.self c.end_inner.new.next 0 noted c.args.self.now _ is c.requires.pending
-    c.in-Some.ensures.items c.in_ok-bucket_ends.ensures.ends (rw c.replace-inner.ensures.value at c.in_err-outer.ensures.pages) tt (rw c.replace-inner.ensures.value at c.in_err-outer.ensures.large) tt)
+    steps_stop {A = ⊤} c.from_residual-in_err-outer.ensures.1 (leave_steps wanted c.args.self.now {counted = c.args.self.now} level c.in-Some.waiting c.args.self.now.bucket c.pop.new.self c.end_inner.new.next 0 c.bucket_ends.new.self (Err _)
+    is c.requires.pending c.in-Some.ensures.items c.in_ok-bucket_ends.ensures.ends (rw c.replace-inner.ensures.value at c.in_err-outer.ensures.pages) tt (rw c.replace-inner.ensures.value at c.in_err-outer.ensures.large) tt)
 
 pub returns-clause-steps : goal.returns-clause-steps
 returns-clause-steps g c = λ wanted level levels put is.
-    let noted : NotedLimits = c.bucket_ends.new.self in
-    leave_steps g.S.Sink wanted c.args.self.now put level levels c.in-Some.waiting c.args.sink.now c.end_inner.new.sink c.in_ok-outer.outer c.pop.new.self c.end_inner.new.next _ noted c.count.new.self _ is c.requires.pending
-    c.in-Some.ensures.items c.in_ok-bucket_ends.ensures.ends ((rw c.replace-inner.ensures.value at c.in_ok-outer.ensures.pages)) (rw c.replace-inner.ensures.value at c.in_ok-outer.ensures.runs) tt c.count.ensures.counts
+    leave_steps wanted c.args.self.now level c.in-Some.waiting c.in_ok-outer.outer c.pop.new.self c.end_inner.new.next _ c.bucket_ends.new.self (Ok tt)
+    is c.requires.pending c.in-Some.ensures.items c.in_ok-bucket_ends.ensures.ends (rw c.replace-inner.ensures.value at c.in_ok-outer.ensures.pages) (rw c.replace-inner.ensures.value at c.in_ok-outer.ensures.runs) tt c.count.ensures.counts
 
 pub count-requires : goal.count-requires
 count-requires g c =

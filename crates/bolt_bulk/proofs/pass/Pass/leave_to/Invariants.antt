@@ -2,7 +2,7 @@ use Rattle.std.proofs.Common.{◌≡◌, List, Ok}
 use Rattle.std.specs.Prelude.{⊤}
 use Rattle.bolt_tree.specs.Listing.{Member}
 use Rattle.bolt_layout.specs.Laid.{Placed}
-use Rattle.bolt_bulk.specs.Private.Passes.{Wanted, HasLeft, IsNoDeeper, IsReady, Steps, depth_of}
+use Rattle.bolt_bulk.specs.Private.{depth_of, HasLeft, IsNoDeeper, IsReady, Steps, Wanted}
 use Rattle.bolt_bulk.proofs.pass.Pass.leave_to.Given as goal
 
 -- the steps so far are one, and the same members are left

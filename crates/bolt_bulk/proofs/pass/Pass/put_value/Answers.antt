@@ -1,15 +1,13 @@
 -- The value is an item of the open bucket.
-use Rattle.std.specs.Prelude.{⊤}
+use Rattle.std.specs.Prelude.{⊤, Ok, Err}
 use Rattle.bolt_bulk.proofs.PassAt.{steps_stop, value_steps}
 use Rattle.bolt_bulk.proofs.pass.Pass.put_value.Goals as goal
 
 pub returns-in_err-add_value-clause-steps : goal.returns-in_err-add_value-clause-steps
 returns-in_err-add_value-clause-steps g c = λ wanted after levels put is.
-    steps_stop wanted g.S.Sink c.args.self.now.setup {A = ⊤} c.args.sink.now c.add_value.new.sink put _ _ _ c.from_residual.result c.from_residual.ensures.1
-    (value_steps g.S.Sink wanted c.args.self.now put levels c.args.key.now c.args.value.now after c.args.sink.now c.add_value.new.sink c.add_value.new.self c.add_value.new.next
-    c.args.self.now _ is c.requires.pending c.in_err-add_value.ensures.pages tt c.in_err-add_value.ensures.large tt)
+    steps_stop {A = ⊤} c.from_residual.ensures.1 (value_steps wanted c.args.self.now {counted = c.args.self.now} c.args.key.now c.args.value.now after c.add_value.new.self c.add_value.new.next (Err _)
+    is c.requires.pending c.in_err-add_value.ensures.pages tt c.in_err-add_value.ensures.large tt)
 
 pub returns-clause-steps : goal.returns-clause-steps
 returns-clause-steps g c = λ wanted after levels put is.
-    value_steps g.S.Sink wanted c.args.self.now put levels c.args.key.now c.args.value.now after c.args.sink.now c.add_value.new.sink c.add_value.new.self c.add_value.new.next
-    c.count.new.self _ is c.requires.pending c.in_ok-add_value.ensures.pages c.in_ok-add_value.ensures.runs tt c.count.ensures.counts
+    value_steps wanted c.args.self.now c.args.key.now c.args.value.now after c.add_value.new.self c.add_value.new.next (Ok tt) is c.requires.pending c.in_ok-add_value.ensures.pages c.in_ok-add_value.ensures.runs tt c.count.ensures.counts

@@ -1,9 +1,8 @@
 -- The value goes to the bucket that may be inline, or that one is opened first, as it has no room.
-use Rattle.std.proofs.Common.{List, map, arith}
+use Rattle.std.proofs.Common.{map, arith}
 use Rattle.bolt_format.specs.ElementPlaces.{leaf_view}
 use Rattle.bolt_tree.specs.Tree.{Tree, with_value}
-use Rattle.bolt_layout.specs.Laid.{Placed}
-use Rattle.bolt_bulk.specs.Private.Passes.{HasRoot, IsAt, Wanted, onto}
+use Rattle.bolt_bulk.specs.Private.{HasRoot, onto, Wanted}
 use Rattle.bolt_bulk.proofs.PassAt.{steps_none, steps_stop, steps_then}
 use Rattle.bolt_bulk.proofs.PassReady.{full_rooted, small_of}
 use Rattle.bolt_bulk.proofs.pass.Pass.take_value.Goals as goal
@@ -17,20 +16,14 @@ rooted g c wanted after =
     grind (arith, full_rooted)
 
 pub returns-then-len-lt-MAX_ITEMS-clause-steps : goal.returns-then-len-lt-MAX_ITEMS-clause-steps
-returns-then-len-lt-MAX_ITEMS-clause-steps g c = λ wanted after levels put is.
-    steps_none wanted c.args.self.now levels (with_value c.args.key.now c.args.value.now after) put c.args.sink.now (IsAt wanted c.keep_value.new.self levels after) c.keep_value.result is
-    c.keep_value.ensures.fault (c.keep_value.ensures.at wanted after levels put is)
+returns-then-len-lt-MAX_ITEMS-clause-steps g c = λ wanted after levels put is. steps_none c.keep_value.result is c.keep_value.ensures.fault (c.keep_value.ensures.at wanted after levels put is)
 
 pub returns-in_err-open_pending-clause-steps : goal.returns-in_err-open_pending-clause-steps
 returns-in_err-open_pending-clause-steps g c = λ wanted after levels put is.
-    let left : Tree = with_value c.args.key.now c.args.value.now after in
-    steps_stop wanted g.S.Sink c.args.self.now.setup c.args.sink.now c.open_pending.new.sink put (IsAt wanted c.open_pending.new.self levels left) (IsAt wanted c.open_pending.new.self levels after) _ c.from_residual.result c.from_residual.ensures.1
-    (c.in_err-open_pending.ensures.steps wanted left levels put is (rooted g (goal.at.returns-in_err-open_pending-clause-steps g c).After-open_pending wanted after))
+    steps_stop c.from_residual.ensures.1 (c.in_err-open_pending.ensures.steps wanted (with_value c.args.key.now c.args.value.now after) levels put is
+    (rooted g (goal.at.returns-in_err-open_pending-clause-steps g c).After-open_pending wanted after))
 
 pub returns-clause-steps : goal.returns-clause-steps
 returns-clause-steps g c = λ wanted after levels put is.
-    let left : Tree = with_value c.args.key.now c.args.value.now after in
-    let At : List Placed → Type 0 = IsAt wanted c.put_value-2.new.self levels after in
-    steps_then wanted g.S.Sink c.args.self.now.setup c.args.sink.now c.open_pending.new.sink c.put_value-2.new.sink put (IsAt wanted c.open_pending.new.self levels left) At tt c.put_value-2.result c.in_ok-open_pending.ensures.setup
-    (c.in_ok-open_pending.ensures.steps wanted left levels put is (rooted g (goal.at.returns-clause-steps g c).After-open_pending wanted after))
-    (λ all mid. c.put_value-2.ensures.steps wanted after levels all mid)
+    steps_then c.in_ok-open_pending.ensures.setup (c.in_ok-open_pending.ensures.steps wanted (with_value c.args.key.now c.args.value.now after) levels put is
+    (rooted g (goal.at.returns-clause-steps g c).After-open_pending wanted after)) (λ all mid. c.put_value-2.ensures.steps wanted after levels all mid)

@@ -2,15 +2,15 @@
 use Rattle.std.proofs.Common.{◌≡◌, ◌≤◌, length}
 use Rattle.std.specs.List.{AllByRecursion}
 use Rattle.bolt_format.specs.ElementPlaces.{branch_view}
-use Rattle.bolt_bulk.specs.Private.BranchRuns.{IsStanding, runs_above}
-use Rattle.bolt_bulk.proofs.CloseLemmas.{Closing}
+use Rattle.bolt_bulk.specs.Private.{IsStanding, runs_above}
+use Rattle.bolt_bulk.proofs.ClimbLemmas.{Closing}
 use Rattle.bolt_bulk.proofs.upper_runs.UpperRuns.close_all.Given as goal
 
 abbrev pub invariant-loop-i : goal.invariant-loop-i
-invariant-loop-i g l =
-    Closing l.setup.page_size (branch_view l.closed-2) l.initial.next (runs_above l.initial.self.runs.items) g.S.Sink l.initial.sink l.sink
-    (runs_above l.self.runs.items) l.i (branch_view l.closed) l.next
-    × AllByRecursion IsStanding (runs_above l.self.runs.items)
-    × (length l.self.runs.items ≡ length l.initial.self.runs.items)
-    × (length l.closed.key.now ≤ 1073741824)
-    × (l.next ≤ l.setup.limit)
+invariant-loop-i g l = record {
+  closes : Closing l.setup.page_size (branch_view l.closed-2) l.initial.next (runs_above l.initial.self.runs.items) g.S.Sink l.initial.sink l.sink (runs_above l.self.runs.items) l.i (branch_view l.closed) l.next;
+  standing : AllByRecursion IsStanding (runs_above l.self.runs.items);
+  count : length l.self.runs.items ≡ length l.initial.self.runs.items;
+  short : length l.closed.key.now ≤ 1073741824;
+  within : l.next ≤ l.setup.limit;
+}

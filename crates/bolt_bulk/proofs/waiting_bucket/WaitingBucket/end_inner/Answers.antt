@@ -1,8 +1,6 @@
 -- Memory for the item is there before anything is written, and what is open of the outer bucket stays until then.
 use Rattle.std.proofs.Common.{◌∙◌, ◌+◌, ap, arith, ℕ, length}
-use Rattle.bolt_bulk.specs.Private.OpenBuckets.{bucket_runs}
-use Rattle.bolt_bulk.specs.Private.RunViews.{BucketRunsView, leaves_have_room, runs_end, runs_push}
-use Rattle.bolt_bulk.specs.Private.TakenItems.{root_element}
+use Rattle.bolt_bulk.specs.Private.{bucket_runs, BucketRunsView, leaves_have_room, root_element, runs_end, runs_push}
 use Rattle.bolt_bulk.proofs.BucketLemmas.{end_some, room_fits}
 use Rattle.bolt_format.proofs.WrittenHeaders.{length-head_bytes}
 use Rattle.bolt_bulk.proofs.waiting_bucket.WaitingBucket.end_inner.Goals as goal

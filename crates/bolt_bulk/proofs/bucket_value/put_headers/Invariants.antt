@@ -1,8 +1,0 @@
--- The headers before number i were written, or are in the buffer.
-use Rattle.bolt_format.specs.ElementPlaces.{leaf_view}
-use Rattle.bolt_bulk.proofs.ElementPuts.{HeadsPut}
-use Rattle.bolt_bulk.proofs.LeafPuts.{datum_of, head_of}
-use Rattle.bolt_bulk.proofs.bucket_value.put_headers.Given as goal
-
-abbrev pub invariant-loop-entry : goal.invariant-loop-entry
-invariant-loop-entry g l = HeadsPut (head_of leaf_view) (datum_of leaf_view) g.S.Sink l.initial.sink l.sink l.headers.buffer.items l.entries l.entry-index l.headers.pos

@@ -1,8 +1,0 @@
--- The next item is not put whole.
-use Rattle.bolt_bulk.proofs.HeldPuts.{held_left}
-use Rattle.bolt_format.proofs.WroteFronts.{front_return}
-use Rattle.bolt_bulk.proofs.leaf_page.put_data.Goals as goal
-
-pub returns-in_err-put_item : goal.returns-in_err-put_item
-returns-in_err-put_item g c =
-    front_return _ _ c.loop-held.invariant c.in_err-put_item.ensures (held_left c.args.inlined.now c.args.items.now c.loop-held.held-index c.loop-held-test.true) c.from_residual.ensures.0

@@ -1,8 +1,0 @@
--- The headers before number i were written, or are in the buffer.
-use Rattle.bolt_bulk.specs.Private.HeldItems.{held_view}
-use Rattle.bolt_bulk.proofs.ElementPuts.{HeadsPut}
-use Rattle.bolt_bulk.proofs.LeafPuts.{datum_of, head_of}
-use Rattle.bolt_bulk.proofs.leaf_page.put_headers.Given as goal
-
-abbrev pub invariant-loop-held : goal.invariant-loop-held
-invariant-loop-held g l = HeadsPut (head_of (held_view l.inlined)) (datum_of (held_view l.inlined)) g.S.Sink l.initial.sink l.sink l.headers.buffer.items l.items l.held-index l.headers.pos

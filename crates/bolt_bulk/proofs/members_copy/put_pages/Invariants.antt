@@ -1,0 +1,24 @@
+use Rattle.std.proofs.Common.{◌≡◌, ◌↔◌, [], List, Ok}
+use Rattle.std.specs.List.{AllByRecursion}
+use Rattle.std.specs.Prelude.{⊤}
+use Rattle.bolt_tree.specs.Listing.{Member}
+use Rattle.bolt_tree.specs.Tree.{tree_of}
+use Rattle.bolt_bulk.specs.Private.{FitLimits, HasLeft, IsFitMember, IsReady, limits_with, Steps}
+use Rattle.bolt_layout.specs.declared.layout.Layout.{Layout}
+use Rattle.bolt_bulk.proofs.members_copy.put_pages.Given as goal
+
+-- the members that are left are left to the pass, which has put pages of the layout
+abbrev pub invariant-members : goal.invariant-members
+invariant-members g l = record {
+  same : (listing : List Member) → g.M.Members.lists l.members listing ↔ g.M.Members.lists l.initial.members listing;
+  end : (end : g.row.M.Denot) → g.M.Members.ends_as l.members end → g.M.Members.ends_as l.initial.members end;
+  setup : l.pass.setup ≡ l.fn.setup;
+  ready : IsReady l.pass;
+  fit : (listing : List Member) → g.M.Members.lists l.initial.members listing → ∥ AllByRecursion IsFitMember (g.M.Members.left l.members listing) ∥₁;
+  steps : (which : Layout) (listing : List Member) → g.M.Members.lists l.initial.members listing → FitLimits which (tree_of listing) l.fn.setup.page_size (limits_with l.limits)
+      → Steps {A = ⊤} (record { which = which; tree = tree_of listing; notes = l.notes }) g.S.Sink l.initial.sink l.sink l.fn.setup []
+      (HasLeft (record { which = which; tree = tree_of listing; notes = l.notes }) l.pass (g.M.Members.left l.members listing)) (Ok tt);
+}
+
+abbrev pub decreases-members : goal.decreases-members
+decreases-members g l = g.M.Members.work_left l.members

@@ -1,0 +1,23 @@
+-- What a call that writes pages leaves on its sink, and when it returns TooLarge.
+use Rattle.std.specs.Prelude.{◌≡◌, ◌<◌, ℕ, List, IfErr, OnErr, Result}
+use Rattle.bolt_format.specs.Sinks.{AppendsProperPrefix}
+use Rattle.bolt_format.specs.Wrote.{Wrote}
+use Rattle.bolt_format.specs.declared.sink.Sink.{Ghosts}
+use Rattle.bolt_layout.specs.Laid.{Placed}
+use Rattle.bolt_layout.specs.Layout.{placed_bytes}
+use Rattle.bolt_bulk.specs.BulkEndings.{bulk_ending}
+use Rattle.bolt_bulk.specs.declared.fault.BulkFault.{BulkFault}
+use Rattle.bolt_bulk.specs.declared.fault.BulkFault.TheVariants as fault
+use Rattle.bolt_bulk.specs.declared.page_setup.PageSetup.{PageSetup}
+
+-- the pages are written, or a prefix of their bytes if the call fails
+abbrev pub Puts : {S A : Type 0} → Ghosts S → (old new : S) → PageSetup → List Placed → Result A BulkFault → Type 0
+Puts sink old new setup pages result = Wrote sink old new (placed_bytes setup.page_size pages) (bulk_ending result)
+
+-- a call that fails leaves some of their bytes out
+abbrev pub LeavesOut : {S A : Type 0} → Ghosts S → (old new : S) → PageSetup → List Placed → Result A BulkFault → Type 0
+LeavesOut sink old new setup pages result = OnErr result (AppendsProperPrefix (sink.taken old) (sink.taken new) (placed_bytes setup.page_size pages))
+
+-- TooLarge is returned only if the mark after these pages is above the limit
+abbrev pub OnlyAbove : {A : Type 0} → PageSetup → (mark : ℕ) → Result A BulkFault → Type 0
+OnlyAbove setup mark result = IfErr result (λ e. e ≡ fault.TooLarge → setup.limit < mark)
