@@ -10,6 +10,7 @@ use Rattle.bolt_check.specs.TreeKinds.{tree_kind}
 use Rattle.bolt_format.specs.Pages.{PageView}
 use Rattle.bolt_format.specs.Shown.{shown}
 use Rattle.bolt_format.specs.declared.meta.Meta.{Meta}
+use Rattle.bolt_recover.proofs.Existing.{has_losses}
 use Rattle.bolt_recover.specs.Found.{AreFound, numbers_of}
 use Rattle.bolt_recover.specs.Joined.{IsJoined, LacksBucketKey}
 use Rattle.bolt_recover.specs.Losses.{LossView, LostView, everything, is_nothing, parts}
@@ -28,7 +29,6 @@ use Rattle.bolt_cli.specs.declared.failure.Failure.TheVariants as failure
 use Rattle.bolt_cli.specs.declared.file_faults.FileFaults.{FileFaults}
 use Rattle.bolt_cli.specs.declared.meta_choice.MetaChoice.{MetaChoice}
 use Rattle.bolt_cli.proofs.Doing.{Does-nothing}
-use Rattle.bolt_cli.proofs.LossAnswers.{lost}
 
 module _ (file : List ℕ) (meta : Meta) where
   -- ---- what is shown of the found pages
@@ -66,7 +66,7 @@ module _ (file : List ℕ) (meta : Meta) where
   module _ (faults : FileFaults) (choice : MetaChoice) (found : List FoundView) (pages : AreFoundPages file meta found) where
     reported : (losses : List LossView) → IsAllLost file meta (parts losses) → (answer : Answer) → AnswersFound faults file choice losses found answer → IsFoundPagesAnswer faults file choice meta answer
     reported losses (keeps, all) answer answers =
-        let (own, are) = lost faults file choice meta in
+        let (own, are) = has_losses file meta in
         inl (keeps, own, found, are, pages, subst (λ (ls : List LossView). AnswersFound faults file choice ls found answer) (all own are) answers)
 
     pub found_none_lost : (lost : LostView) → IsAllLost file meta lost → is_nothing lost ≡ true → (answer : Answer) → IsFoundAnswer faults file choice answer → IsFoundPagesAnswer faults file choice meta answer

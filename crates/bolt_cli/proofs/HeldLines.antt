@@ -5,7 +5,7 @@ use Rattle.bolt_format.specs.Sinks.{AppendsPrefix}
 use Rattle.bolt_cli.specs.Answers.{Ending, error_text, status_of}
 use Rattle.bolt_cli.specs.Deeds.{Deed, Said}
 use Rattle.bolt_cli.specs.Failures.{failure_line}
-use Rattle.bolt_cli.specs.Runs.{Fails, IsHeldLine, IsReported, Prints, PrintsHeld}
+use Rattle.bolt_cli.specs.Runs.{Fails, IsHeldLine, IsReported, PrintsHeld}
 use Rattle.bolt_cli.specs.declared.failure.Failure.TheVariants.{Memory}
 
 -- what a fresh sink accepted of the line of an ending, or the line of memory if it failed
@@ -35,11 +35,6 @@ module _ {T O : Type 0} (output_taken : O → Option (List ℕ)) (output_failed 
       → 0 < failures → Fails (failure_line Memory) deeds code → PrintsHeld output_taken output_failed failures text ending deeds code
   PrintsHeld-none zero text ending deeds code less fails = absurd (omega (arith, less))
   PrintsHeld-none (suc more) text ending deeds code less fails = fails
-
-  pub PrintsHeld-all : (failures : ℕ) (text : List ℕ) (ending : Ending) (deeds : List (Deed T O)) (code : ℕ)
-      → failures ≡ 0 → Prints output_taken output_failed text ending deeds code → PrintsHeld output_taken output_failed failures text ending deeds code
-  PrintsHeld-all zero text ending deeds code none prints = prints
-  PrintsHeld-all (suc more) text ending deeds code none prints = absurd (omega (arith, none))
 
 -- a sink that hasn't failed has taken what was put
 pub put_whole : {T E : Type 0} {A : Type 0} (result : Result T E) (failed : ℕ) → OnOk result A → OnErr result (0 < failed) → failed ≡ 0 → A

@@ -23,12 +23,9 @@ pub mod PageSizes
 pub mod PagesAnswers
 pub mod PathReading
 pub mod ReadFiles
-pub mod Readings
 pub mod RestAnswers
-pub mod RootEntries
-pub mod ShownTexts
-pub mod SizesAnswers
 pub mod SnapshotCopies
+pub mod SoundReads
 pub mod SoundRecovery
 pub mod StatsAnswers
 pub mod Telling

@@ -3,7 +3,7 @@ use Rattle.std.proofs.Common.{arith, length, ◌==◌, ◌≡◌, ◌∙◌, ◌
 use Rattle.std.specs.Cmp.Lexicographic.{pointwise}
 use Rattle.std.specs.List.{Contains, list_any}
 use Rattle.std.specs.Str.{bytes_eq}
-use Rattle.std.proofs.lemmas.Bool.{cases_Bool}
+use Rattle.std.proofs.lemmas.Bool.{and_parts, cases_Bool, or_cases, or_left, or_right}
 use Rattle.std.proofs.lemmas.Bool.Decides.{nat_tests}
 use Rattle.std.proofs.lemmas.Slice.Eq.{bytes_eq-Decides, slice_eq-Decides}
 use Rattle.bolt_format.specs.Elements.{LeafElement, head_sequence}
@@ -21,21 +21,15 @@ use Rattle.bolt_cli.specs.Answers.{LeadsTo}
 any_of : (p : Member → Bool) (ms : List Member) (m : Member) → Contains ms m → p m ≡ true → list_any p ms ≡ true
 any_of p [] m has holds = absurd (contains_none m has)
 any_of p (x ∷ ms) m has holds = elim (contains_cases x m ms has) [
-  | inl same ↦ ap (λ (b : Bool). b || list_any p ms) (ap p same ∙ holds)
-  | inr later ↦ either (p x) (any_of p ms m later holds)
+  | inl same ↦ or_left (p x) (list_any p ms) (ap p same ∙ holds)
+  | inr later ↦ or_right (p x) (list_any p ms) (any_of p ms m later holds)
 ]
-  where
-    either : (b : Bool) → list_any p ms ≡ true → (b || list_any p ms) ≡ true
-    either true t = refl
-    either false t = t
 
 some_of : (p : Member → Bool) (ms : List Member) → list_any p ms ≡ true → (m : Member) × Contains ms m × (p m ≡ true)
-some_of p [] any = absurd (let f : false ≡ true = any in cc)
-some_of p (x ∷ ms) any = elim (cases_Bool (p x)) [
+some_of p [] any = absurd (cc)
+some_of p (x ∷ ms) any = elim (or_cases (p x) (list_any p ms) any) [
   | inl here ↦ (x, contains_head x ms, here)
-  | inr past ↦
-      let (m, has, holds) = some_of p ms (sym (ap (λ (b : Bool). b || list_any p ms) past) ∙ any) in
-      (m, contains_tail x m ms has, holds)
+  | inr later ↦ let (m, has, holds) = some_of p ms later in (m, contains_tail x m ms has, holds)
 ]
 
 -- ---- entries
@@ -67,12 +61,8 @@ module _ (Entry : Start → LeafElement → Type 0) where
 same_path : (path : Path) → pointwise bytes_eq path path ≡ true
 same_path path = (slice_eq-Decides bytes_eq-Decides path path (pointwise bytes_eq path path) refl).1 refl
 
-and_true : (a b : Bool) → (a && b) ≡ true → (a ≡ true) × (b ≡ true)
-and_true true b t = (refl, t)
-and_true false b t = absurd (let f : false ≡ true = t in cc)
-
 bucket_in : (item : Item) → is_bucket item ≡ true → (sequence : ℕ) × (item ≡ Bucket sequence)
-bucket_in (Value value) t = absurd (let f : false ≡ true = t in cc)
+bucket_in (Value value) t = absurd (cc)
 bucket_in (Bucket sequence) t = (sequence, refl)
 
 module _ (file : List ℕ) (meta : Meta) (listing : List Member) (is : IsListing file meta listing) where
@@ -93,7 +83,7 @@ module _ (file : List ℕ) (meta : Meta) (listing : List Member) (is : IsListing
   named_has [] has = (Root_page meta.root, refl)
   named_has (key ∷ path) has =
       let (m, contained, at) = some_of (is_bucket_at (key ∷ path)) listing (sym (by_members key path) ∙ has) in
-      let parts = and_true (pointwise bytes_eq m.0 (key ∷ path)) (is_bucket m.1) at in
+      let parts = and_parts (pointwise bytes_eq m.0 (key ∷ path)) (is_bucket m.1) at in
       let same : m.0 ≡ key ∷ path = (slice_eq-Decides bytes_eq-Decides m.0 (key ∷ path) (pointwise bytes_eq m.0 (key ∷ path)) refl).0 parts.0 in
       let (sequence, item) = bucket_in m.1 parts.1 in
       let held = (is.exact m.0 m.1).0 contained in

@@ -40,13 +40,4 @@ module _ {O T : Type 0} (out_taken : O → Option (List ℕ)) (out_failed : O �
     (λ h. (h.0, answer_there part file j.slot j.form h.0 same h.1, h.2, h.3)),
     (λ h. (h.0, answer_there file part j.slot j.form h.0 (back part file same) h.1, h.2, h.3)),
   )
-  enough (job.Page j) is out_old out_new target_old target_new ending = absurd (cc)
-  enough (job.Pages j) is out_old out_new target_old target_new ending = absurd (cc)
-  enough (job.Check j) is out_old out_new target_old target_new ending = absurd (cc)
-  enough (job.Buckets j) is out_old out_new target_old target_new ending = absurd (cc)
-  enough (job.Stats j) is out_old out_new target_old target_new ending = absurd (cc)
-  enough (job.Keys j) is out_old out_new target_old target_new ending = absurd (cc)
-  enough (job.Get j) is out_old out_new target_old target_new ending = absurd (cc)
-  enough (job.List j) is out_old out_new target_old target_new ending = absurd (cc)
-  enough (job.Compact j) is out_old out_new target_old target_new ending = absurd (cc)
-  enough (job.Load j) is out_old out_new target_old target_new ending = absurd (cc)
+  enough j is out_old out_new target_old target_new ending = absurd (cc)

@@ -24,6 +24,11 @@ read_trees file Active meta (slot, chosen, sound) = sound.trees
 read_trees file (InSlot slot) meta (valid, trees) = trees
 read_trees file (Assumed assumed) meta (same, trees) = trees
 
+pub read_meta : (file : List ℕ) (choice : MetaChoice) (meta : Meta) → IsReadUnder file choice meta → IsMetaOf file choice meta
+read_meta file Active meta (slot, chosen, sound) = (slot, chosen)
+read_meta file (InSlot slot) meta (is, trees) = is
+read_meta file (Assumed assumed) meta (same, trees) = same
+
 pub own_trees : (file : List ℕ) (choice : MetaChoice) (checked : Checked) → bytes_of checked ≡ file → IsReadUnder file choice (meta_of checked) → HasSoundTrees (bytes_of checked) (meta_of checked)
 own_trees file choice checked same under = subst (λ (f : List ℕ). HasSoundTrees f (meta_of checked)) (sym same) (read_trees file choice (meta_of checked) under)
 
@@ -42,15 +47,13 @@ slot_page_size file Zero meta is = meta_page_size file 0 meta is
 slot_page_size file One meta (inl is) = meta_page_size file _ meta is.2
 slot_page_size file One meta (inr is) = meta_page_size file is.1.at meta is.1.valid
 
-pub read_page_size : (file : List ℕ) (choice : MetaChoice) (meta : Meta) → IsReadUnder file choice meta → IsPageSize meta.page_size
-read_page_size file Active meta (slot, chosen, sound) = slot_page_size file slot meta chosen.valid
-read_page_size file (InSlot slot) meta (is, trees) = slot_page_size file slot meta is
-read_page_size file (Assumed assumed) meta (same, trees) = subst (λ (m : Meta). IsPageSize m.page_size) (sym same) assumed.page_size.accepted
-
 pub choice_page_size : (file : List ℕ) (choice : MetaChoice) (meta : Meta) → IsMetaOf file choice meta → IsPageSize meta.page_size
 choice_page_size file Active meta (slot, chosen) = slot_page_size file slot meta chosen.valid
 choice_page_size file (InSlot slot) meta is = slot_page_size file slot meta is
 choice_page_size file (Assumed assumed) meta same = subst (λ (m : Meta). IsPageSize m.page_size) (sym same) assumed.page_size.accepted
+
+pub read_page_size : (file : List ℕ) (choice : MetaChoice) (meta : Meta) → IsReadUnder file choice meta → IsPageSize meta.page_size
+read_page_size file choice meta under = choice_page_size file choice meta (read_meta file choice meta under)
 
 pub some_page_size : (file : List ℕ) (choice : MetaChoice) (meta : Meta) → IsMetaOf file choice meta → 0 < meta.page_size
 some_page_size file choice meta is = let (least, most) = size_bounds meta.page_size (choice_page_size file choice meta is) in omega (arith, least)
@@ -62,20 +65,16 @@ copy_size None meta is = is
 -- ---- why the file is refused, or nothing of it is recovered
 
 pub unread_finding : (file : List ℕ) (choice : MetaChoice) (fault : CheckFault) → IsRefusedUnder file choice fault → HasFinding fault
-unread_finding file choice (check.Open fault) is = tt
-unread_finding file choice (check.Structure x) is = tt
 unread_finding file Active (check.Accounts findings) (slot, meta, chosen, trees, wrong, are, some) = some
 unread_finding file (InSlot slot) (check.Accounts findings) is = absurd is
 unread_finding file (Assumed assumed) (check.Accounts findings) is = absurd is
-unread_finding file choice check.Memory is = tt
+unread_finding file choice fault is = tt
 
 pub unrecoverable_finding : (file : List ℕ) (choice : MetaChoice) (fault : CheckFault) → IsUnrecoverableUnder file choice fault → HasFinding fault
-unrecoverable_finding file choice (check.Open fault) is = tt
-unrecoverable_finding file choice (check.Structure x) is = tt
 unrecoverable_finding file Active (check.Accounts findings) is = absurd is
 unrecoverable_finding file (InSlot slot) (check.Accounts findings) is = absurd is
 unrecoverable_finding file (Assumed assumed) (check.Accounts findings) is = absurd is
-unrecoverable_finding file choice check.Memory is = tt
+unrecoverable_finding file choice fault is = tt
 
 -- only the first finding is reported
 pub failure_named : (fault : CheckFault) (ending : Ending) → HasFinding fault → IsErrAnd ending (λ said. HasFinding fault → IsFailureOf fault said)

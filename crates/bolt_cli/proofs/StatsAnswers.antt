@@ -9,7 +9,7 @@ use Rattle.bolt_format.specs.Elements.{LeafElement}
 use Rattle.bolt_format.specs.declared.meta.Meta.{Meta}
 use Rattle.bolt_tree.specs.Buckets.{bucket_checked, bucket_start}
 use Rattle.bolt_tree.specs.BucketViews.{entries_of}
-use Rattle.bolt_tree.specs.Entries.{Root_page, Start, start_of}
+use Rattle.bolt_tree.specs.Entries.{AreEntries, Root_page, Start, start_of}
 use Rattle.bolt_tree.specs.EntriesLeft.{ForEntries}
 use Rattle.bolt_tree.specs.Lookups.{IsBucketAt}
 use Rattle.bolt_tree.specs.declared.bucket.Bucket.{Bucket}
@@ -22,8 +22,7 @@ use Rattle.bolt_report.specs.declared.statistics.Stats.{Stats}
 use Rattle.bolt_tree.specs.Paths.{Path}
 use Rattle.bolt_check.specs.Sound.{HasSoundTrees}
 use Rattle.bolt_cli.specs.PlainWords.{path_in}
-use Rattle.bolt_cli.proofs.AtPaths.{no_parts}
-use Rattle.bolt_cli.proofs.RootEntries.{of_root, root_entries}
+use Rattle.bolt_cli.proofs.AtPaths.{at_path, no_parts}
 use Rattle.bolt_cli.specs.Answers.{AddsBy, AddsEntry, HasStats, IsStatsAnswer, IsTotal, LeadsTo, no_stats, refused}
 use Rattle.bolt_cli.specs.declared.failure.Failure.{Failure}
 use Rattle.bolt_cli.specs.declared.failure.Failure.TheVariants as failure
@@ -101,11 +100,11 @@ pub root_stats : {Z : Type 0} (path : List (Vec ℕ Z)) (checked : Checked) (roo
     → ForEntries (bucket_checked root) (bucket_start root) (λ entries. ∥ IsTotal (bytes_of (bucket_checked root)) (meta_of (bucket_checked root)) entries no_stats total ∥₁)
     → HasStats (bytes_of checked) (path_in path) (meta_of checked) total
 root_stats path checked root total empty trees is begins promised =
-    let file = bytes_of checked in
-    let (entries, are) = root_entries file (meta_of checked) trees in
-    let known = of_root file checked root (λ entries. ∥ IsTotal (bytes_of (bucket_checked root)) (meta_of (bucket_checked root)) entries no_stats total ∥₁) refl is begins promised entries are in
-    let of_checked = subst (λ (c : Checked). ∥ IsTotal (bytes_of c) (meta_of c) entries no_stats total ∥₁) is known in
-    subst (λ (p : Path). HasStats file p (meta_of checked) total) (sym (no_parts path empty)) (entries, ∥∥₁_map of_checked (λ sum. (are, sum)))
+    let Sum : List LeafElement → Type 0 = λ entries. ∥ IsTotal (bytes_of (bucket_checked root)) (meta_of (bucket_checked root)) entries no_stats total ∥₁ in
+    let (start, entries, names, are, known) = at_path checked [] root Sum trees is ∣ sym begins ∣₁ promised in
+    let here = subst (λ (s : Start). AreEntries (entries_of checked) s entries) (sym names) are in
+    let sum = subst (λ (c : Checked). ∥ IsTotal (bytes_of c) (meta_of c) entries no_stats total ∥₁) is known in
+    subst (λ (p : Path). HasStats (bytes_of checked) p (meta_of checked) total) (sym (no_parts path empty)) (entries, ∥∥₁_map sum (λ all. (here, all)))
 
 -- and those of another bucket
 pub bucket_stats : {Z : Type 0} (path : List (Vec ℕ Z)) (checked : Checked) (bucket : Bucket) (own : Stats) → (length path ≡ 0 → ⊥)
