@@ -1,29 +1,10 @@
 -- What a path leads to in a sound file, and what it holds.
-use Rattle.std.proofs.Common.{◌≡◌, ◌∙◌, ◌++◌, ◌-◌, ◌+◌, List, [], ◌∷◌, ℕ, Some, None, Result, Ok, Err, IfErr, true, false, IsTrue, Vec, drop, get_or, inl, inr, length, take, refl, sym, ap, subst, rules, arith, ◌<◌}
-use Rattle.std.proofs.Math.Logic.{∥∥₁_elim, ∥∥₁_map}
-use Rattle.std.proofs.Math.Seq.{take-append_seam}
-use Rattle.std.proofs.Props.{props}
-use Rattle.std.proofs.lemmas.List.{drop_more, length-append, map-append, take-append-drop}
-use Rattle.std.specs.Result.{IsErrAnd}
-use Rattle.bolt_format.specs.Elements.{LeafElement}
-use Rattle.bolt_check.specs.CheckedFiles.{bytes_of, meta_of}
-use Rattle.bolt_check.specs.Keys.{Key}
-use Rattle.bolt_check.specs.Sound.{HasSoundTrees}
-use Rattle.bolt_check.specs.declared.checked_file.Checked.{Checked}
-use Rattle.bolt_tree.specs.Buckets.{bucket_checked, bucket_start}
-use Rattle.bolt_tree.specs.BucketViews.{entries_of}
-use Rattle.bolt_tree.specs.Entries.{AreEntries, Item, Start, Value, item_of, start_of}
-use Rattle.bolt_tree.specs.EntriesLeft.{ForEntries}
-use Rattle.bolt_tree.specs.FileListings.{root_start}
-use Rattle.bolt_tree.specs.Lookups.{IsBucketAt, IsValueAt}
-use Rattle.bolt_tree.specs.Paths.{Path}
-use Rattle.bolt_tree.specs.declared.bucket.Bucket.{Bucket}
+use Rattle.std.proofs.Common.{◌≡◌, ◌∙◌, ◌⊎◌, ◌++◌, ◌-◌, ◌+◌, List, [], ◌∷◌, ℕ, Some, None, Result, Ok, Err, IfErr, true, false, IsTrue, Vec, drop, get_or, inl, inr, length, take, refl, sym, ap, subst, rules, arith, ◌<◌}
+use Rattle.bolt_cli.proofs.Vocabulary.{AreEntries, Bucket, Checked, Failure, ForEntries, HasSoundTrees, HoldsIn, HoldsNone, IsBucketAt, IsErrAnd, IsValueAt, Item, Key, LeadsTo, LeafElement, Path}
+use Rattle.bolt_cli.proofs.Vocabulary.{Start, Value, bucket_checked, bucket_start, bytes_of, drop_more, entries_of, held_down, held_up, item_of, length-append, map-append, meta_of, names_push}
+use Rattle.bolt_cli.proofs.Vocabulary.{parents_of, path_in, props, root_start, start_of, take-append-drop, take-append_seam, ∥∥₁_elim, ∥∥₁_map}
 use Rattle.bolt_tree.proofs.AllEntries.{all_entries, checked_entries}
-use Rattle.bolt_tree.proofs.Named.{held_down, held_up, names_push}
-use Rattle.bolt_cli.specs.Answers.{HoldsIn, HoldsNone, LeadsTo, parents_of}
-use Rattle.bolt_cli.specs.declared.failure.Failure.{Failure}
 use Rattle.bolt_cli.specs.declared.failure.Failure.TheVariants as failure
-use Rattle.bolt_cli.specs.PlainWords.{path_in}
 use Rattle.bolt_cli.proofs.CommandLineLemmas.{made_more}
 use Rattle.bolt_tree.proofs.PathEntries.{held_once, held_or_none, item_known, named_once, named_or_none, names_no_further, start_known}
 
@@ -71,25 +52,20 @@ module _ (checked : Checked) where
 
   -- ---- if trees are sound, what is only known to be can be named
 
+  known_one : {X : Type 0} (P : X → Type 0) → ((x : X) × P x) ⊎ ((x : X) → P x → ⊥) → ((a b : X) → P a → P b → a ≡ b) → ((a b : X) → ∥ a ≡ b ∥₁ → a ≡ b)
+      → (x : X) → ∥ P x ∥₁ → P x
+  known_one P (inl (there, is)) once same x known = subst P (same there x (∥∥₁_map known (λ here. once there x is here))) is
+  known_one P (inr none) once same x known = absurd (∥∥₁_elim known (hlevel props) (λ here. none x here))
+
   pub lead_named : (path : Path) (bucket : Start) → HasSoundTrees (bytes_of checked) (meta_of checked) → ∥ LeadsIn path bucket ∥₁ → LeadsIn path bucket
   lead_named path bucket trees known =
       let all = all_entries (bytes_of checked) (meta_of checked) trees in
-      elim (named_or_none Entry (root_start checked) path all) [
-        | inl (there, names) ↦
-            let same = start_known there bucket (∥∥₁_map known (λ here. named_once Entry (root_start checked) path there bucket all names here)) in
-            subst (LeadsIn path) same names
-        | inr none ↦ absurd (∥∥₁_elim known (hlevel props) (λ here. none bucket here))
-      ]
+      known_one (LeadsIn path) (named_or_none Entry (root_start checked) path all) (λ a b. named_once Entry (root_start checked) path a b all) start_known bucket known
 
   pub held_at : (path : Path) (item : Item) → HasSoundTrees (bytes_of checked) (meta_of checked) → ∥ HoldsAt path item ∥₁ → HoldsAt path item
   held_at path item trees known =
       let all = all_entries (bytes_of checked) (meta_of checked) trees in
-      elim (held_or_none Entry (root_start checked) path all) [
-        | inl (there, held) ↦
-            let same = item_known there item (∥∥₁_map known (λ here. held_once Entry (root_start checked) path there item all held here)) in
-            subst (HoldsAt path) same held
-        | inr none ↦ absurd (∥∥₁_elim known (hlevel props) (λ here. none item here))
-      ]
+      known_one (HoldsAt path) (held_or_none Entry (root_start checked) path all) (λ a b. held_once Entry (root_start checked) path a b all) item_known item known
 
   -- what is promised of the entries of the bucket that a path leads to
   pub at_path : (path : Path) (bucket : Bucket) (P : List LeafElement → Type 0) → HasSoundTrees (bytes_of checked) (meta_of checked) → bucket_checked bucket ≡ checked

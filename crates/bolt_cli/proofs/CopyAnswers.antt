@@ -1,15 +1,6 @@
 -- The copy of a listing, and what is then reported of it.
 use Rattle.std.proofs.Common.{◌≡◌, ◌<◌, ℕ, List, Bool, Option, Result, Ok, Err, ap, length, refl, subst}
-use Rattle.std.specs.Prelude.{OnOk}
-use Rattle.std.specs.Result.{IsErrAnd}
-use Rattle.bolt_bulk.specs.Compacting.{too_many}
-use Rattle.bolt_bulk.specs.declared.fault.BulkFault.{BulkFault}
-use Rattle.bolt_tree.specs.Listing.{Member}
-use Rattle.bolt_cli.specs.Answers.{Answer, CopiesInPart, CopiesWhole, Does, Ending}
-use Rattle.bolt_cli.specs.CopyEnds.{EndsCopy}
-use Rattle.bolt_cli.specs.Failures.{copied}
-use Rattle.bolt_cli.specs.GoodCopies.{IsGoodCopy}
-use Rattle.bolt_cli.specs.declared.failure.Failure.{Failure}
+use Rattle.bolt_cli.proofs.Vocabulary.{Answer, BulkFault, CopiesInPart, CopiesWhole, Does, Ending, EndsCopy, Failure, IsErrAnd, IsGoodCopy, Member, OnOk, copied, too_many}
 
 module _ {T O : Type 0} (taken : T → Option (List ℕ)) (failed : T → ℕ) (old new : T) (out_taken : O → Option (List ℕ)) (out_failed : O → ℕ) (out : O)
     (snapshot : Bool) (layout : List ℕ) where

@@ -1,32 +1,16 @@
 -- What `check` answers to a good copy, and to its proper prefixes.
 use Rattle.std.proofs.Common.{◌≡◌, ◌≢◌, ◌∙◌, ◌⊎◌, ◌++◌, ◌∷◌, ◌<◌, ℕ, List, [], Bool, true, false, IsTrue, Option, None, Some, Ok, ap, codes, inl, inr, length, refl, subst, sym, take}
-use Rattle.std.proofs.lemmas.Bool.{cases_lt}
-use Rattle.bolt_check.specs.Sound.{HasSoundTrees, IsSound}
-use Rattle.bolt_check.specs.declared.fault.CheckFault.{CheckFault}
+use Rattle.bolt_cli.proofs.Vocabulary.{Active, Answer, AnswersFound, AnswersLosses, AreLosses, CheckFault, Extent, FileFaults, Finding, First, HasBothMetas, HasSoundTrees, HashMissing}
+use Rattle.bolt_cli.proofs.Vocabulary.{IsCheckAnswer, IsCheckAnswerAfter, IsChosen, IsFoundAnswer, IsGoodCopy, IsMetaOf, IsMetasFault, IsOtherFault, IsSnapshot, IsSound, LossView, Losses, Member}
+use Rattle.bolt_cli.proofs.Vocabulary.{Meta, MetaFault, RefusesFile, Slot, all_refusal, cases_lt, check_refusal, copy_of, done, found, hash_fault, hash_found, loss_at, losses_of, none_found}
+use Rattle.bolt_cli.proofs.Vocabulary.{place_at, refused}
 use Rattle.bolt_check.specs.declared.fault.CheckFault.TheVariants as check
-use Rattle.bolt_format.specs.Metas.{HasBothMetas, IsChosen}
-use Rattle.bolt_format.specs.declared.meta.MetaFault.{MetaFault}
-use Rattle.bolt_format.specs.declared.meta.Meta.{Meta}
-use Rattle.bolt_format.specs.declared.meta.Slot.{Slot}
-use Rattle.bolt_snapshot.specs.SnapshotFaults.{IsSnapshot, hash_fault}
 use Rattle.bolt_snapshot.specs.declared.hash_check.SnapshotFault.{SnapshotFault}
-use Rattle.bolt_snapshot.specs.declared.hash_check.SnapshotFault.TheVariants.{HashMissing}
 use Rattle.bolt_snapshot.proofs.SnapshotLemmas.{no_fault_iff}
-use Rattle.bolt_tree.specs.Listing.{Member}
-use Rattle.bolt_check.specs.declared.finding.Finding.{Finding}
-use Rattle.bolt_recover.specs.Losses.{AreLosses, LossView, loss_at, losses_of}
-use Rattle.bolt_recover.specs.Places.{Place, place_at}
+use Rattle.bolt_recover.specs.Places.{Place}
 use Rattle.bolt_recover.specs.Surveys.{Has, IsSurvey, Visit}
-use Rattle.bolt_cli.specs.Answers.{Answer, AnswersFound, AnswersLosses, IsCheckAnswer, IsCheckAnswerAfter, IsFoundAnswer, all_refusal, check_refusal, done, found, none_found, refused}
-use Rattle.bolt_cli.specs.GoodCopies.{IsGoodCopy, RefusesFile}
-use Rattle.bolt_cli.specs.FileFaults.{IsMetasFault, IsOtherFault}
-use Rattle.bolt_cli.specs.MetaChoices.{IsMetaOf}
-use Rattle.bolt_cli.specs.SnapshotAnswers.{copy_of, hash_found}
-use Rattle.bolt_cli.specs.declared.extent.Extent.{Extent}
-use Rattle.bolt_cli.specs.declared.extent.Extent.TheVariants.{First, LostAndFound, Losses}
+use Rattle.bolt_cli.specs.declared.extent.Extent.TheVariants.{LostAndFound}
 use Rattle.bolt_cli.specs.declared.failure.Failure.TheVariants as failure
-use Rattle.bolt_cli.specs.declared.file_faults.FileFaults.{FileFaults}
-use Rattle.bolt_cli.specs.declared.meta_choice.MetaChoice.TheVariants.{Active}
 use Rattle.bolt_cli.proofs.SoundReads.{NamesOne, keeps_not_loses, unread, unrecovered}
 
 -- what the laws of the crates below say

@@ -1,14 +1,7 @@
 -- The answer of a job that may run out of memory on its way, whether its text was written whole or not.
 use Rattle.std.proofs.Common.{◌≡◌, ◌⊎◌, ◌++◌, ℕ, IfErr, List, Ok, Err, Result, inl, inr, ap, refl}
-use Rattle.std.specs.Prelude.{⊤}
-use Rattle.std.specs.Result.{IsErrAnd}
-use Rattle.bolt_format.specs.Wrote.{Wrote}
-use Rattle.bolt_format.specs.declared.sink.Sink.{Ghosts}
-use Rattle.bolt_report.specs.ReportEndings.{report_ending}
-use Rattle.bolt_report.specs.declared.fault.ReportFault.{ReportFault}
+use Rattle.bolt_cli.proofs.Vocabulary.{Answer, Does, Ending, Ghosts, IsEndedOrCut, IsErrAnd, ReportFault, Wrote, report_ending, reported, ⊤}
 use Rattle.bolt_report.specs.declared.fault.ReportFault.TheVariants as report
-use Rattle.bolt_cli.specs.Answers.{Answer, Does, Ending, IsEndedOrCut}
-use Rattle.bolt_cli.specs.Failures.{reported}
 use Rattle.bolt_cli.specs.declared.failure.Failure.TheVariants as failure
 use Rattle.bolt_cli.proofs.Doing.{Does-part}
 

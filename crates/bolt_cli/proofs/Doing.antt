@@ -1,18 +1,9 @@
 -- What jobs do with their text, and what is reported at the end of a run.
 use Rattle.std.proofs.Common.{◌⊎◌, ◌≡◌, ℕ, List, Option, Ok, Err, inl, inr, ap, refl}
-use Rattle.std.specs.Result.{IsErrAnd}
-use Rattle.std.proofs.KnownBytes.{Appends-nil}
-use Rattle.bolt_format.specs.Endings.{whole, broken}
-use Rattle.bolt_format.specs.Wrote.{Wrote}
-use Rattle.bolt_format.specs.declared.sink.Sink.{Ghosts}
-use Rattle.bolt_cli.specs.Answers.{Answer, Does, Ending, IsFileRefusal, IsReadAnswer, IsRefusedUnder, refused}
-use Rattle.bolt_check.specs.declared.fault.CheckFault.{CheckFault}
-use Rattle.bolt_format.specs.declared.meta.Meta.{Meta}
-use Rattle.bolt_cli.specs.Failures.{HasFinding, IsFailureOf}
-use Rattle.bolt_cli.specs.declared.failure.Failure.{Failure}
+use Rattle.bolt_cli.proofs.Vocabulary.{Answer, Appends-nil, CheckFault, Does, Ending, Failure, Ghosts, HasFinding, IsErrAnd, IsFailureOf, IsFileRefusal, IsReadAnswer, IsRefusedUnder, Meta}
+use Rattle.bolt_cli.proofs.Vocabulary.{MetaChoice, Wrote, broken, refused, whole}
 use Rattle.bolt_cli.specs.declared.failure.Failure.TheVariants as failure
 use Rattle.bolt_cli.proofs.ReadFiles.{unread_finding}
-use Rattle.bolt_cli.specs.declared.meta_choice.MetaChoice.{MetaChoice}
 
 -- the text was written, and the job ends as its answer says
 pub Does-whole : {S : Type 0} {sink : Ghosts S} (old new : S) (answer : Answer) → Wrote sink old new answer.out whole → Does sink.taken sink.failed old new answer answer.ending

@@ -1,29 +1,12 @@
 -- What is answered of the entries of the bucket at a path, or of their sizes.
 use Rattle.std.proofs.Common.{◌⊎◌, ◌≡◌, ℕ, IfErr, List, Ok, Option, Result, ap, inl, subst, sym}
-use Rattle.std.specs.Result.{IsErrAnd}
-use Rattle.bolt_check.specs.CheckedFiles.{bytes_of, meta_of}
-use Rattle.bolt_check.specs.Sound.{HasSoundTrees}
-use Rattle.bolt_check.specs.declared.checked_file.Checked.{Checked}
-use Rattle.bolt_format.specs.Elements.{LeafElement}
-use Rattle.bolt_format.specs.Wrote.{Wrote}
-use Rattle.bolt_format.specs.declared.meta.Meta.{Meta}
-use Rattle.bolt_format.specs.declared.sink.Sink.{Ghosts}
-use Rattle.bolt_report.specs.ReportEndings.{report_ending}
+use Rattle.bolt_cli.proofs.Vocabulary.{Answer, Bucket, Checked, Does, Ending, Failure, ForEntries, Ghosts, HasSoundTrees, IsEntriesAnswer, IsErrAnd, IsReadAnswer, IsReadUnder, IsSizesAnswer}
+use Rattle.bolt_cli.proofs.Vocabulary.{Json, LeadsTo, LeafElement, Meta, MetaChoice, Path, ReportFault, Start, Wrote, bucket_checked, bucket_start, bytes_of, meta_of, refused, report_ending}
 use Rattle.bolt_report.specs.SizeLines.{AreSized, Sized, sizes_text}
 use Rattle.bolt_report.specs.declared.form.Form.{Form}
-use Rattle.bolt_report.specs.declared.form.Form.TheVariants.{Json}
-use Rattle.bolt_report.specs.declared.fault.ReportFault.{ReportFault}
 use Rattle.bolt_report.specs.declared.fault.ReportFault.TheVariants as report
 use Rattle.bolt_report.proofs.SizesExist.{named_sizes}
-use Rattle.bolt_tree.specs.Buckets.{bucket_checked, bucket_start}
-use Rattle.bolt_tree.specs.Entries.{Start}
-use Rattle.bolt_tree.specs.EntriesLeft.{ForEntries}
-use Rattle.bolt_tree.specs.Paths.{Path}
-use Rattle.bolt_tree.specs.declared.bucket.Bucket.{Bucket}
-use Rattle.bolt_cli.specs.Answers.{Answer, Does, Ending, IsEntriesAnswer, IsReadAnswer, IsReadUnder, IsSizesAnswer, LeadsTo, refused}
-use Rattle.bolt_cli.specs.declared.failure.Failure.{Failure}
 use Rattle.bolt_cli.specs.declared.failure.Failure.TheVariants as failure
-use Rattle.bolt_cli.specs.declared.meta_choice.MetaChoice.{MetaChoice}
 use Rattle.bolt_cli.proofs.AtPaths.{at_path}
 use Rattle.bolt_cli.proofs.CutTexts.{EndsAfter, ended_put, text_put}
 use Rattle.bolt_cli.proofs.Doing.{Does-nothing}

@@ -1,33 +1,17 @@
 -- The answer of `check --lost-and-found`.
 use Rattle.std.proofs.Common.{◌≡◌, ◌≢◌, ◌∙◌, ℕ, Bool, true, false, List, [], ◌∷◌, Option, ap, inl, inr, map, refl, subst, subst₂, sym}
-use Rattle.std.specs.List.{All}
-use Rattle.std.specs.Result.{IsErrAnd}
-use Rattle.std.proofs.lemmas.Bool.{false≢true}
+use Rattle.bolt_cli.proofs.Vocabulary.{All, Answer, AnswersFound, AreFoundPages, Does, Ending, FileFaults, Finding, ForRecovered, Found, FoundView, IsErrAnd, IsFoundAnswer, IsFoundLeaf}
+use Rattle.bolt_cli.proofs.Vocabulary.{IsFoundPagesAnswer, IsJoined, IsSalvaged, LacksBucketKey, LossView, LostAndFound, LostView, Member, Meta, MetaChoice, all_lost, everything, false≢true}
+use Rattle.bolt_cli.proofs.Vocabulary.{found_page, found_view, has_losses, is_nothing, leaf_entry, leaves_of, lost_and_found, parts, refused}
 use Rattle.std.proofs.lemmas.List.Elements.{All-head, All-tail}
-use Rattle.bolt_check.specs.Nodes.{leaf_entry}
 use Rattle.bolt_check.specs.ShownNodes.{entries_of, shown_node}
 use Rattle.bolt_check.specs.TreeKinds.{tree_kind}
 use Rattle.bolt_format.specs.Pages.{PageView}
 use Rattle.bolt_format.specs.Shown.{shown}
-use Rattle.bolt_format.specs.declared.meta.Meta.{Meta}
-use Rattle.bolt_recover.proofs.Existing.{has_losses}
 use Rattle.bolt_recover.specs.Found.{AreFound, numbers_of}
-use Rattle.bolt_recover.specs.Joined.{IsJoined, LacksBucketKey}
-use Rattle.bolt_recover.specs.Losses.{LossView, LostView, everything, is_nothing, parts}
 use Rattle.bolt_recover.specs.Lost.{IsAllLost}
-use Rattle.bolt_recover.specs.LostAndFound.{all_lost}
-use Rattle.bolt_recover.specs.Recovered.{ForRecovered}
-use Rattle.bolt_tree.specs.Listing.{Member}
-use Rattle.bolt_recover.specs.Places.{leaves_of}
 use Rattle.bolt_recover.specs.ShownFound.{IsFoundView}
-use Rattle.bolt_recover.specs.declared.found.Found.{Found}
-use Rattle.bolt_recover.specs.declared.lost_and_found.LostAndFound.{LostAndFound}
-use Rattle.bolt_check.specs.declared.finding.Finding.{Finding}
-use Rattle.bolt_report.specs.FoundLines.{FoundView, IsFoundLeaf, found_view}
-use Rattle.bolt_cli.specs.Answers.{Answer, AnswersFound, AreFoundPages, Does, Ending, IsFoundAnswer, IsFoundPagesAnswer, IsSalvaged, found_page, lost_and_found, refused}
 use Rattle.bolt_cli.specs.declared.failure.Failure.TheVariants as failure
-use Rattle.bolt_cli.specs.declared.file_faults.FileFaults.{FileFaults}
-use Rattle.bolt_cli.specs.declared.meta_choice.MetaChoice.{MetaChoice}
 use Rattle.bolt_cli.proofs.Doing.{Does-nothing}
 
 module _ (file : List ℕ) (meta : Meta) where

@@ -1,32 +1,16 @@
 -- A copy of a listing that is that of one tree, and its hash: what holds of both.
 use Rattle.std.proofs.Common.{◌≡◌, ◌∙◌, ◌+◌, ◌*◌, ◌-◌, ◌^◌, ◌%◌, ◌≤◌, ◌<◌, ◌==◌, ℕ, zero, suc, List, [], ◌∷◌, ◌++◌, map, Bool, true, false, IsTrue, Some, arith, ap, inl, inr, length, length-append, subst, sym, take}
-use Rattle.std.specs.List.{AllByRecursion, list_any, range_with_len}
+use Rattle.bolt_cli.proofs.Vocabulary.{AcceptsListing, AllByRecursion, HasBothMetas, HasGoodCopies, HashMissing, IsAsked, IsChosen, IsGoodCopy, IsListing, IsOfOneTree, IsPageSize, IsSnapshot}
+use Rattle.bolt_cli.proofs.Vocabulary.{IsSound, IsSoundCopy, Layout, Member, Meta, One, RefusesFile, RefusesPrefixes, Slot, cases_lt, copy_of, eqb-true, finding, hash_fault, hash_found}
+use Rattle.bolt_cli.proofs.Vocabulary.{layout_of_listing, length-sha256, list_any, or_cases, page_size_count, page_sizes, range_with_len, sha256, snapshot_of, take-append-le, too_many}
 use Rattle.std.proofs.Math.Nat.{mul-mod_left, mul_assoc}
-use Rattle.std.proofs.lemmas.Bool.{cases_lt, eqb-true, or_cases}
-use Rattle.std.proofs.lemmas.List.{take-append-le}
-use Rattle.sha2.specs.Sha256.{sha256}
-use Rattle.sha2.proofs.Facts256.{length-sha256}
-use Rattle.bolt_bulk.specs.Compacting.{too_many}
-use Rattle.bolt_check.specs.Findings.{finding}
-use Rattle.bolt_check.specs.Sound.{IsSound}
 use Rattle.bolt_check.specs.declared.fault.CheckFault.TheVariants as check
-use Rattle.bolt_format.specs.Metas.{HasBothMetas, IsChosen, IsPageSize, page_size_count, page_sizes}
 use Rattle.bolt_format.specs.declared.fault.TheConstants.PageFault.{CUT}
-use Rattle.bolt_format.specs.declared.meta.Meta.{Meta}
 use Rattle.bolt_format.specs.declared.meta.MetaFault.TheVariants.{Cut}
-use Rattle.bolt_format.specs.declared.meta.Slot.{Slot}
-use Rattle.bolt_format.specs.declared.meta.Slot.TheVariants.{One}
-use Rattle.bolt_layout.specs.Copies.{IsAsked, IsOfOneTree, IsSoundCopy, RefusesPrefixes, layout_of_listing}
 use Rattle.bolt_layout.specs.Layout.{layout_mark, layout_meta, layout_of, layout_root}
 use Rattle.bolt_layout.specs.Storable.{IsStorable}
-use Rattle.bolt_layout.specs.declared.layout.Layout.{Layout}
 use Rattle.bolt_snapshot.specs.Marks.{HasAllPages}
-use Rattle.bolt_snapshot.specs.SnapshotFaults.{IsSnapshot, hash_fault, snapshot_of}
-use Rattle.bolt_snapshot.specs.declared.hash_check.SnapshotFault.TheVariants.{HashMissing}
-use Rattle.bolt_tree.specs.Listing.{IsListing, Member}
 use Rattle.bolt_tree.specs.Tree.{Tree, tree_of}
-use Rattle.bolt_cli.specs.GoodCopies.{AcceptsListing, HasGoodCopies, IsGoodCopy, RefusesFile}
-use Rattle.bolt_cli.specs.SnapshotAnswers.{copy_of, hash_found}
 
 -- ---- an accepted page size has whole blocks of 512 bytes
 

@@ -1,19 +1,7 @@
 -- The hash of what a target has accepted.
 use Rattle.std.proofs.Common.{◌≡◌, ◌≢◌, ◌<◌, ◌∙◌, ◌⊎◌, ℕ, zero, suc, List, [], ◌++◌, Option, None, Some, Result, Ok, Err, ap, append_assoc, arith, drop, inl, inr, length, refl, subst, sym}
-use Rattle.std.proofs.KnownBytes.{Appends-kept, Appends-trans}
-use Rattle.std.proofs.Math.Seq.{drop-append_seam}
-use Rattle.std.proofs.lemmas.Bool.{cases_lt}
-use Rattle.std.proofs.Math.Logic.{∥∥₁_elim, ∥∥₁_map}
-use Rattle.std.proofs.Props.{props}
-use Rattle.std.specs.Prelude.{OnErr, OnOk}
-use Rattle.std.specs.Io.KnownBytes.{Appends, Keeps}
-use Rattle.bolt_format.proofs.SinkLemmas.{AppendsProperPrefix-second}
-use Rattle.bolt_format.specs.Sinks.{AppendsProperPrefix}
-use Rattle.sha2.specs.Hashers.{Holds256}
-use Rattle.sha2.specs.Sha256.{sha256}
-use Rattle.sha2.proofs.Facts256.{length-sha256}
-use Rattle.sha2.specs.declared.Sha256.{Sha256}
-use Rattle.bolt_cli.specs.Hashes.{HashesSince}
+use Rattle.bolt_cli.proofs.Vocabulary.{Appends, Appends-kept, Appends-trans, AppendsProperPrefix, AppendsProperPrefix-second, HashesSince, Holds256, Keeps, OnErr, OnOk, Sha256, cases_lt}
+use Rattle.bolt_cli.proofs.Vocabulary.{drop-append_seam, length-sha256, props, sha256, ∥∥₁_elim, ∥∥₁_map}
 
 -- a hash goes on with what the target accepts
 since_more : (start old new : Option (List ℕ)) (hash next : Sha256) (bytes : List ℕ) → ((m : List ℕ) → Holds256 hash m → Holds256 next (m ++ bytes))

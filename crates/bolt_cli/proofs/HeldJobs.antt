@@ -1,19 +1,8 @@
 -- What a job does, whatever its standard output and its target are.
 use Rattle.std.proofs.Common.{◌≡◌, ◌<◌, ◌∙◌, ap, inl, inr, ℕ, List, [], Option, None, Some, Bool, length, refl, subst, sym}
-use Rattle.bolt_cli.specs.declared.extent.Extent.{Extent}
-use Rattle.bolt_cli.specs.declared.extent.Extent.TheVariants.{First, LostAndFound, Losses}
-use Rattle.bolt_cli.specs.declared.meta_choice.MetaChoice.{MetaChoice}
-use Rattle.bolt_load.specs.LineMembers.{text_members}
-use Rattle.bolt_layout.specs.Copies.{layout_of_listing}
-use Rattle.bolt_layout.specs.declared.layout.Layout.{Layout}
-use Rattle.bolt_recover.specs.Losses.{parts}
-use Rattle.bolt_tree.specs.Listing.{Member}
-use Rattle.bolt_cli.specs.Answers.{Answer, Does, DoesJob, Ending, MakesCopy, WritesCopy, copy_page_size, copy_report, done, lengths_line}
-use Rattle.bolt_cli.specs.PlainWords.{target_name}
-use Rattle.bolt_cli.specs.Runs.{held_failures, held_of, held_text}
-use Rattle.bolt_cli.specs.declared.page_size.PageSize.{PageSize}
-use Rattle.bolt_cli.specs.SnapshotAnswers.{hash_differs}
-use Rattle.bolt_cli.specs.declared.job.Job.{Job}
+use Rattle.bolt_cli.proofs.Vocabulary.{Answer, Does, DoesJob, Ending, Extent, First, Job, Layout, Losses, MakesCopy, Member, MetaChoice, PageSize, WritesCopy, copy_page_size, copy_report, done}
+use Rattle.bolt_cli.proofs.Vocabulary.{hash_differs, held_failures, held_of, held_text, layout_of_listing, lengths_line, parts, target_name, text_members}
+use Rattle.bolt_cli.specs.declared.extent.Extent.TheVariants.{LostAndFound}
 use Rattle.bolt_cli.specs.declared.job.Job.TheVariants as job
 
 module _ {O T : Type 0} (out_taken : O → Option (List ℕ)) (out_failed : O → ℕ) (out_old out_new : O)

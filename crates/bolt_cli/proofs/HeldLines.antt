@@ -1,11 +1,6 @@
 -- The line that is held for standard error once a job has ended.
 use Rattle.std.proofs.Common.{◌≡◌, ◌≢◌, ◌<◌, ◌⊎◌, ◌∙◌, inl, inr, arith, ℕ, zero, suc, List, [], ◌∷◌, Option, Some, Result, Ok, Err, OnOk, OnErr}
-use Rattle.std.specs.Io.KnownBytes.{Appends}
-use Rattle.bolt_format.specs.Sinks.{AppendsPrefix}
-use Rattle.bolt_cli.specs.Answers.{Ending, error_text, status_of}
-use Rattle.bolt_cli.specs.Deeds.{Deed, Said}
-use Rattle.bolt_cli.specs.Failures.{failure_line}
-use Rattle.bolt_cli.specs.Runs.{Fails, IsHeldLine, IsReported, PrintsHeld}
+use Rattle.bolt_cli.proofs.Vocabulary.{Appends, AppendsPrefix, Deed, Ending, Fails, IsHeldLine, IsReported, PrintsHeld, Said, error_text, failure_line, status_of}
 use Rattle.bolt_cli.specs.declared.failure.Failure.TheVariants.{Memory}
 
 -- what a fresh sink accepted of the line of an ending, or the line of memory if it failed

@@ -29,3 +29,4 @@ pub mod SoundReads
 pub mod SoundRecovery
 pub mod StatsAnswers
 pub mod Telling
+pub mod Vocabulary

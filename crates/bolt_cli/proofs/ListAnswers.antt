@@ -1,25 +1,9 @@
 -- The answer of `list`.
 use Rattle.std.proofs.Common.{◌≡◌, ◌⊎◌, ℕ, Bool, true, IfErr, List, [], Option, Result, Ok, Err, ap, inl, subst, sym}
-use Rattle.std.specs.Prelude.{if◌then◌else◌}
-use Rattle.std.proofs.Math.Logic.{∥∥₁_elim}
-use Rattle.std.proofs.Props.{props}
-use Rattle.bolt_check.specs.CheckedFiles.{bytes_of, meta_of}
-use Rattle.bolt_check.specs.Sound.{HasSoundTrees}
-use Rattle.bolt_check.specs.declared.checked_file.Checked.{Checked}
-use Rattle.bolt_tree.specs.Entries.{Start}
-use Rattle.bolt_tree.specs.FileListings.{ForListing}
-use Rattle.bolt_tree.specs.Listing.{IsListing, Member, rest_from}
-use Rattle.bolt_tree.specs.ListingParts.{has_bucket, part_below}
-use Rattle.bolt_tree.specs.Paths.{Path}
-use Rattle.bolt_tree.proofs.Existing.{has_listing}
-use Rattle.bolt_report.specs.ListForms.{listing_lines}
-use Rattle.bolt_format.specs.Wrote.{Wrote}
-use Rattle.bolt_format.specs.declared.sink.Sink.{Ghosts}
-use Rattle.bolt_report.specs.ReportEndings.{report_ending}
-use Rattle.bolt_report.specs.declared.fault.ReportFault.{ReportFault}
+use Rattle.bolt_cli.proofs.Vocabulary.{Answer, Checked, Does, Ending, ForListing, Ghosts, HasSoundTrees, IsListAnswer, IsListing, LeadsTo, ListForm, Member, Path, ReportFault, Start, Wrote}
+use Rattle.bolt_cli.proofs.Vocabulary.{bytes_of, has_bucket, has_listing, if◌then◌else◌, listing_lines, meta_of, part_below, part_ending, part_text, props, refused, report_ending, rest_from}
+use Rattle.bolt_cli.proofs.Vocabulary.{∥∥₁_elim}
 use Rattle.bolt_report.specs.declared.fault.ReportFault.TheVariants as report
-use Rattle.bolt_report.specs.declared.form.ListForm.{ListForm}
-use Rattle.bolt_cli.specs.Answers.{Answer, Does, Ending, IsListAnswer, LeadsTo, part_ending, part_text, refused}
 use Rattle.bolt_cli.specs.declared.failure.Failure.TheVariants as failure
 use Rattle.bolt_cli.proofs.CutTexts.{EndsAfter, ended_put}
 use Rattle.bolt_cli.proofs.ListedBuckets.{has_named, none_named}

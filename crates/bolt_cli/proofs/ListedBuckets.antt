@@ -1,20 +1,11 @@
 -- A listing has the bucket at a path where the path leads to one.
 use Rattle.std.proofs.Common.{arith, length, ◌==◌, ◌≡◌, ◌∙◌, ◌||◌, ◌&&◌, ℕ, Bool, true, false, List, [], ◌∷◌, IsTrue, inl, inr, refl, sym, ap, subst, rules}
-use Rattle.std.specs.Cmp.Lexicographic.{pointwise}
-use Rattle.std.specs.List.{Contains, list_any}
-use Rattle.std.specs.Str.{bytes_eq}
-use Rattle.std.proofs.lemmas.Bool.{and_parts, cases_Bool, or_cases, or_left, or_right}
+use Rattle.bolt_cli.proofs.Vocabulary.{Contains, Holds, IsEntry, IsListing, Item, Key, LeadsTo, LeafElement, Member, Meta, Names, Path, Root_page, Start, Value, and_parts, bytes_eq}
+use Rattle.bolt_cli.proofs.Vocabulary.{bytes_eq-Decides, cases_Bool, has_bucket, head_sequence, is_bucket, is_bucket_at, item_of, list_any, or_cases, or_left, or_right, pointwise}
+use Rattle.bolt_cli.proofs.Vocabulary.{slice_eq-Decides, start_of}
 use Rattle.std.proofs.lemmas.Bool.Decides.{nat_tests}
-use Rattle.std.proofs.lemmas.Slice.Eq.{bytes_eq-Decides, slice_eq-Decides}
-use Rattle.bolt_format.specs.Elements.{LeafElement, head_sequence}
-use Rattle.bolt_format.specs.declared.meta.Meta.{Meta}
-use Rattle.bolt_check.specs.Keys.{Key}
-use Rattle.bolt_tree.specs.Entries.{Bucket, IsEntry, Item, Root_page, Start, Value, item_of, start_of}
-use Rattle.bolt_tree.specs.Listing.{IsListing, Member}
-use Rattle.bolt_tree.specs.ListingParts.{has_bucket, is_bucket, is_bucket_at}
-use Rattle.bolt_tree.specs.Paths.{Holds, Names, Path}
+use Rattle.bolt_tree.specs.Entries.{Bucket}
 use Rattle.bolt_tree.proofs.Lists.{contains_cases, contains_head, contains_none, contains_tail}
-use Rattle.bolt_cli.specs.Answers.{LeadsTo}
 
 -- ---- lists
 

@@ -1,30 +1,16 @@
 -- What `list` prints of a file is loaded as the listing of the file.
 use Rattle.std.proofs.Common.{◌≡◌, ◌∙◌, ℕ, Bool, List, [], ◌∷◌, Option, Ok, Err, ap, false, inl, inr, length, refl, subst, sym}
-use Rattle.std.specs.Prelude.{not}
+use Rattle.bolt_cli.proofs.Vocabulary.{Answer, Ending, Failure, First, HasSoundTrees, IsFirstFault, IsListAnswer, IsListedAnswer, IsListing, IsListingText, IsOfOneTree, IsReadUnder, Layout}
+use Rattle.bolt_cli.proofs.Vocabulary.{Loads, LoadsListing, Member, Meta, MetaChoice, Path, Rises, WritesCopy, done, filter_all, layout_of_listing, lengths_line, listing_lines, member_cmp, not}
+use Rattle.bolt_cli.proofs.Vocabulary.{part_below, part_text, path_cmp, rest_from, text_members}
 use Rattle.std.specs.Ordering.{is_lt}
-use Rattle.bolt_check.specs.Sound.{HasSoundTrees}
 use Rattle.bolt_format.specs.Bytes.{IsBytes}
-use Rattle.bolt_format.specs.declared.meta.Meta.{Meta}
-use Rattle.bolt_layout.specs.Copies.{IsOfOneTree, layout_of_listing}
-use Rattle.bolt_layout.specs.declared.layout.Layout.{Layout}
 use Rattle.bolt_load.specs.ByteMembers.{AreOfBytes}
-use Rattle.bolt_load.specs.LineFaults.{IsFirstFault, IsListingText}
-use Rattle.bolt_load.specs.LineMembers.{text_members}
 use Rattle.bolt_load.specs.Lines.{Text}
 use Rattle.bolt_load.specs.declared.fault.LineFault.{LineFault}
 use Rattle.bolt_load.specs.declared.fault.LoadFault.TheVariants.{Line, Memory}
-use Rattle.bolt_report.specs.ListForms.{listing_lines}
 use Rattle.bolt_report.specs.ListLines.{listing_text}
 use Rattle.bolt_report.specs.declared.form.ListForm.TheVariants.{Hex}
-use Rattle.bolt_tree.specs.Listing.{IsListing, Member, member_cmp, rest_from}
-use Rattle.bolt_tree.specs.ListingParts.{part_below}
-use Rattle.bolt_tree.specs.Order.{Rises}
-use Rattle.bolt_tree.specs.Paths.{Path, path_cmp}
-use Rattle.bolt_tree.proofs.Filters.{filter_all}
-use Rattle.bolt_cli.specs.Answers.{Answer, Ending, IsListAnswer, IsListedAnswer, IsReadUnder, Loads, LoadsListing, WritesCopy, done, lengths_line, part_text}
-use Rattle.bolt_cli.specs.declared.extent.Extent.TheVariants.{First}
-use Rattle.bolt_cli.specs.declared.failure.Failure.{Failure}
-use Rattle.bolt_cli.specs.declared.meta_choice.MetaChoice.{MetaChoice}
 use Rattle.bolt_cli.proofs.ReadFiles.{read_trees}
 
 pub record Below : Type 0 where

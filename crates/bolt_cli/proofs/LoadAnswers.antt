@@ -1,21 +1,11 @@
 -- The answer of `load`.
 use Rattle.std.proofs.Common.{◌≡◌, ◌∙◌, ℕ, List, Option, Ok, Err, ap, inl, inr, length, refl, subst, sym}
-use Rattle.std.specs.Result.{IsErrAnd}
-use Rattle.std.proofs.Math.Logic.{∥∥₁_map}
+use Rattle.bolt_cli.proofs.Vocabulary.{Answer, BulkFault, Does, Ending, EndsCopy, HasGoodCopies, IsErrAnd, IsListingText, IsOfOneTree, Loads, Member, copied, done, is_snapshot, layout_for}
+use Rattle.bolt_cli.proofs.Vocabulary.{layout_of_listing, lengths_line, text_members, ∥∥₁_map}
 use Rattle.bolt_bulk.specs.WholeListings.{IsWhole}
-use Rattle.bolt_bulk.specs.declared.fault.BulkFault.{BulkFault}
-use Rattle.bolt_layout.specs.Copies.{IsOfOneTree, layout_of_listing}
-use Rattle.bolt_load.specs.LineFaults.{IsListingText}
-use Rattle.bolt_load.specs.LineMembers.{text_members}
 use Rattle.bolt_load.specs.Lines.{Text}
 use Rattle.bolt_load.specs.ShownMembers.{members_left, members_text}
 use Rattle.bolt_load.specs.declared.line_members.LineMembers.{LineMembers}
-use Rattle.bolt_tree.specs.Listing.{Member}
-use Rattle.bolt_cli.specs.Answers.{Answer, Does, Ending, Loads, done, lengths_line}
-use Rattle.bolt_cli.specs.CopyEnds.{EndsCopy}
-use Rattle.bolt_cli.specs.CopyKinds.{is_snapshot, layout_for}
-use Rattle.bolt_cli.specs.Failures.{copied}
-use Rattle.bolt_cli.specs.GoodCopies.{HasGoodCopies}
 use Rattle.bolt_cli.specs.declared.job.LoadJob.{LoadJob}
 use Rattle.bolt_cli.proofs.CopyAnswers.{copy_reported, copy_stopped}
 

@@ -1,14 +1,8 @@
 -- The answer of `check --all`.
 use Rattle.std.proofs.Common.{◌≡◌, ◌≢◌, ◌∙◌, ℕ, List, [], ◌∷◌, inl, map, refl, subst, sym}
-use Rattle.bolt_format.specs.declared.meta.Meta.{Meta}
-use Rattle.bolt_recover.specs.Losses.{AreLosses, LossView, parts}
-use Rattle.bolt_recover.specs.Recoveries.{ForLosses}
-use Rattle.bolt_recover.specs.ShownLosses.{loss_view}
+use Rattle.bolt_cli.proofs.Vocabulary.{Answer, AnswersLosses, AreLosses, FileFaults, ForLosses, IsFoundAnswer, IsLossesAnswer, LossView, Meta, MetaChoice, has_losses, loss_view, lost_and_found}
+use Rattle.bolt_cli.proofs.Vocabulary.{parts}
 use Rattle.bolt_recover.specs.declared.loss.Loss.{Loss}
-use Rattle.bolt_recover.proofs.Existing.{has_losses}
-use Rattle.bolt_cli.specs.Answers.{Answer, AnswersLosses, IsFoundAnswer, IsLossesAnswer, lost_and_found}
-use Rattle.bolt_cli.specs.declared.file_faults.FileFaults.{FileFaults}
-use Rattle.bolt_cli.specs.declared.meta_choice.MetaChoice.{MetaChoice}
 
 module _ (faults : FileFaults) (file : List ℕ) (choice : MetaChoice) (meta : Meta) where
   -- the losses that a recovery shows at its end are all

@@ -1,13 +1,7 @@
 -- A job that shows nothing but metas does the same on any two files with the same metas.
 use Rattle.std.proofs.Common.{◌≡◌, ◌↔◌, inl, inr, ℕ, List, Option, None, Some, true}
-use Rattle.bolt_format.specs.Metas.{HasMetaFault, HasSlotFault, IsChosen, IsInSlot}
-use Rattle.bolt_format.specs.declared.meta.Meta.{Meta}
-use Rattle.bolt_format.specs.declared.meta.MetaFault.{MetaFault}
-use Rattle.bolt_format.specs.declared.meta.Slot.{Slot}
-use Rattle.bolt_report.specs.declared.form.FigureForm.{FigureForm}
-use Rattle.bolt_cli.specs.Answers.{Answer, DoesJob, Ending, IsInfoAnswer}
+use Rattle.bolt_cli.proofs.Vocabulary.{Answer, DoesJob, Ending, FigureForm, HasMetaFault, HasSlotFault, IsChosen, IsInSlot, IsInfoAnswer, Job, Meta, MetaFault, Slot}
 use Rattle.bolt_cli.specs.Needs.{needs_metas_alone}
-use Rattle.bolt_cli.specs.declared.job.Job.{Job}
 use Rattle.bolt_cli.specs.declared.job.Job.TheVariants as job
 
 -- the metas of two files, and the faults of their first, are the same

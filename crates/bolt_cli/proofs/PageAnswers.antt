@@ -1,15 +1,8 @@
 -- The answer of `page`, whether the page is good or not.
 use Rattle.std.proofs.Common.{◌≡◌, ◌≢◌, ◌↔◌, ℕ, List, Option, Some, None, Result, Ok, Err, ap, refl, subst, sym}
-use Rattle.std.specs.Result.{IsErrAnd}
+use Rattle.bolt_cli.proofs.Vocabulary.{Does, Ending, Ghosts, IsErrAnd, ReportFault, Wrote, done, fault_ending, page_answer, reported, whole}
 use Rattle.bolt_format.specs.declared.fault.PageFault.{PageFault}
-use Rattle.bolt_format.specs.Endings.{whole}
-use Rattle.bolt_format.specs.Wrote.{Wrote}
-use Rattle.bolt_format.specs.declared.sink.Sink.{Ghosts}
-use Rattle.bolt_report.specs.ReportEndings.{fault_ending}
-use Rattle.bolt_report.specs.declared.fault.ReportFault.{ReportFault}
 use Rattle.bolt_report.specs.declared.fault.ReportFault.TheVariants as report
-use Rattle.bolt_cli.specs.Answers.{Does, Ending, done, page_answer}
-use Rattle.bolt_cli.specs.Failures.{reported}
 use Rattle.bolt_cli.specs.declared.failure.Failure.TheVariants as failure
 use Rattle.bolt_cli.proofs.Doing.{Does-nothing, Does-part, Does-whole}
 

@@ -1,17 +1,10 @@
 -- The answer of `pages`.
 use Rattle.std.proofs.Common.{◌≡◌, ℕ, Bool, List, Ok, Option, refl, subst, sym}
-use Rattle.std.specs.Result.{IsErrAnd}
-use Rattle.bolt_check.specs.CheckedFiles.{bytes_of, meta_of}
+use Rattle.bolt_cli.proofs.Vocabulary.{Answer, Checked, Does, Ending, Ghosts, HasRightAccounts, HasSoundTrees, IsErrAnd, IsPagesAnswer, Wrote, broken, bytes_of, done, meta_of, pages_shown, whole}
 use Rattle.bolt_check.specs.Roles.{AreRoles}
-use Rattle.bolt_check.specs.Sound.{HasRightAccounts, HasSoundTrees}
-use Rattle.bolt_check.specs.declared.checked_file.Checked.{Checked}
 use Rattle.bolt_check.specs.declared.role.Role.{Role}
 use Rattle.bolt_check.proofs.RoleFacts.{some_roles}
-use Rattle.bolt_format.specs.Endings.{whole, broken}
-use Rattle.bolt_format.specs.Wrote.{Wrote}
-use Rattle.bolt_format.specs.declared.sink.Sink.{Ghosts}
 use Rattle.bolt_report.specs.PageTables.{ForRoles}
-use Rattle.bolt_cli.specs.Answers.{Answer, Does, Ending, IsPagesAnswer, done, pages_shown}
 use Rattle.bolt_cli.specs.declared.failure.Failure.TheVariants as failure
 use Rattle.bolt_cli.proofs.Doing.{Does-part, Does-whole}
 

@@ -1,23 +1,9 @@
 -- What is known of a file that is read, under whatever meta.
 use Rattle.std.proofs.Common.{Option, Some, None, ◌≡◌, ◌<◌, arith, ℕ, List, Ok, Err, ap, inl, inr, refl, subst, sym}
-use Rattle.std.specs.Result.{IsErrAnd}
-use Rattle.bolt_check.specs.CheckedFiles.{bytes_of, meta_of}
-use Rattle.bolt_check.specs.declared.checked_file.Checked.{Checked}
+use Rattle.bolt_cli.proofs.Vocabulary.{Active, Answer, Assumed, CheckFault, Checked, Ending, Failure, HasFinding, HasSoundTrees, InSlot, IsErrAnd, IsFailureOf, IsInSlot, IsMeta, IsMetaOf}
+use Rattle.bolt_cli.proofs.Vocabulary.{IsPageSize, IsReadAnswer, IsReadUnder, IsRefusedUnder, IsUnrecoverableUnder, Meta, MetaChoice, One, PageSize, Slot, Zero, bytes_of, copy_page_size, meta_of}
 use Rattle.bolt_format.proofs.PageSizes.{size_bounds}
-use Rattle.bolt_format.specs.Metas.{IsInSlot, IsMeta, IsPageSize}
-use Rattle.bolt_format.specs.declared.meta.Slot.TheVariants.{One, Zero}
-use Rattle.bolt_check.specs.Sound.{HasSoundTrees}
-use Rattle.bolt_format.specs.declared.meta.Meta.{Meta}
-use Rattle.bolt_format.specs.declared.meta.Slot.{Slot}
-use Rattle.bolt_check.specs.declared.fault.CheckFault.{CheckFault}
 use Rattle.bolt_check.specs.declared.fault.CheckFault.TheVariants as check
-use Rattle.bolt_cli.specs.Answers.{Answer, Ending, IsReadAnswer, IsReadUnder, IsRefusedUnder, IsUnrecoverableUnder, copy_page_size}
-use Rattle.bolt_cli.specs.MetaChoices.{IsMetaOf}
-use Rattle.bolt_cli.specs.Failures.{HasFinding, IsFailureOf}
-use Rattle.bolt_cli.specs.declared.failure.Failure.{Failure}
-use Rattle.bolt_cli.specs.declared.meta_choice.MetaChoice.{MetaChoice}
-use Rattle.bolt_cli.specs.declared.page_size.PageSize.{PageSize}
-use Rattle.bolt_cli.specs.declared.meta_choice.MetaChoice.TheVariants.{Active, Assumed, InSlot}
 
 pub read_trees : (file : List ℕ) (choice : MetaChoice) (meta : Meta) → IsReadUnder file choice meta → HasSoundTrees file meta
 read_trees file Active meta (slot, chosen, sound) = sound.trees

@@ -1,34 +1,14 @@
 -- A part of a listing that the members of a damaged file list, and how the job then ends.
 use Rattle.std.proofs.Common.{◌≡◌, ◌∙◌, ◌⊎◌, ℕ, Bool, IfErr, IfOk, List, Result, Ok, Err, ap, inl, inr, subst, subst₂, sym}
-use Rattle.std.specs.Prelude.{if◌then◌else◌}
-use Rattle.std.specs.Result.{IsErrAnd}
-use Rattle.bolt_format.specs.declared.meta.Meta.{Meta}
-use Rattle.bolt_recover.specs.Joined.{IsJoined}
-use Rattle.bolt_recover.specs.JoinedMembers.{ForJoined, joined_file, joined_left, joined_meta}
-use Rattle.bolt_recover.specs.Losses.{LostView}
-use Rattle.bolt_recover.specs.Recovered.{ForRecovered, IsRecovered}
-use Rattle.bolt_recover.specs.Recoveries.{recovery_file, recovery_left, recovery_meta}
+use Rattle.bolt_cli.proofs.Vocabulary.{Answer, Does, Ending, ForJoined, ForRecovered, FoundView, Ghosts, IsEndedOrCut, IsErrAnd, IsFileRefusal, IsJoined, IsJoinedList, IsMetaOf, IsRecovered}
+use Rattle.bolt_cli.proofs.Vocabulary.{IsRecoveredAnswer, IsRecoveredList, IsRecoveredUnder, IsSalvaged, ListForm, LostAndFound, LostView, Member, Meta, MetaChoice, Path, ReportFault, Rises}
+use Rattle.bolt_cli.proofs.Vocabulary.{Wrote, all_lost_ending, has_bucket, has_losses, has_recovered, if◌then◌else◌, joined_file, joined_left, joined_meta, lost_ending, member_cmp, part_ending}
+use Rattle.bolt_cli.proofs.Vocabulary.{part_text, recovery_file, recovery_left, recovery_meta, report_ending, reported}
 use Rattle.bolt_recover.specs.declared.joined.Joined.{Joined}
-use Rattle.bolt_recover.specs.declared.lost_and_found.LostAndFound.{LostAndFound}
 use Rattle.bolt_recover.specs.declared.recovery.Recovery.{Recovery}
-use Rattle.bolt_recover.proofs.Existing.{has_losses, has_recovered}
 use Rattle.bolt_recover.proofs.LeftMembers.{left_rises}
-use Rattle.bolt_tree.specs.Listing.{Member, member_cmp}
-use Rattle.bolt_tree.specs.ListingParts.{has_bucket}
-use Rattle.bolt_tree.specs.Order.{Rises}
-use Rattle.bolt_tree.specs.Paths.{Path}
-use Rattle.bolt_format.specs.Wrote.{Wrote}
-use Rattle.bolt_format.specs.declared.sink.Sink.{Ghosts}
-use Rattle.bolt_report.specs.FoundLines.{FoundView}
-use Rattle.bolt_report.specs.ReportEndings.{report_ending}
-use Rattle.bolt_report.specs.declared.fault.ReportFault.{ReportFault}
 use Rattle.bolt_report.specs.declared.fault.ReportFault.TheVariants as report
-use Rattle.bolt_report.specs.declared.form.ListForm.{ListForm}
-use Rattle.bolt_cli.specs.Answers.{Answer, Does, Ending, IsEndedOrCut, IsFileRefusal, IsJoinedList, IsRecoveredAnswer, IsRecoveredList, IsRecoveredUnder, IsSalvaged, all_lost_ending, lost_ending, part_ending, part_text}
-use Rattle.bolt_cli.specs.Failures.{reported}
-use Rattle.bolt_cli.specs.MetaChoices.{IsMetaOf}
 use Rattle.bolt_cli.specs.declared.failure.Failure.TheVariants as failure
-use Rattle.bolt_cli.specs.declared.meta_choice.MetaChoice.{MetaChoice}
 use Rattle.bolt_cli.proofs.CutTexts.{ended_put}
 
 -- how a job ends that put a part of a listing: as it is to, if there is the bucket, or with the fault

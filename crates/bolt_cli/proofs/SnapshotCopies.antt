@@ -1,24 +1,10 @@
 -- A copy, and in a snapshot its hash: what the target accepted of both.
 use Rattle.std.proofs.Common.{◌≡◌, ◌≢◌, ◌∙◌, ◌+◌, ◌<◌, ℕ, List, [], Bool, true, false, arith, length, length-append, Option, Result, Ok, Err, ap, inl, inr, refl, subst, sym, rules}
-use Rattle.std.proofs.lemmas.Bool.{cases_lt}
-use Rattle.std.specs.Io.KnownBytes.{Appends, Keeps}
-use Rattle.std.specs.Prelude.{IsOk, OnOk}
-use Rattle.std.specs.Result.{IsErrAnd}
-use Rattle.sha2.specs.Hashers.{Holds256}
-use Rattle.sha2.specs.Sha256.{sha256}
-use Rattle.sha2.specs.declared.Sha256.{Sha256}
-use Rattle.sha2.proofs.Facts256.{length-sha256}
-use Rattle.bolt_format.proofs.SinkLemmas.{AppendsProperPrefix-first}
-use Rattle.bolt_format.specs.Sinks.{AppendsProperPrefix}
-use Rattle.bolt_bulk.specs.Compacting.{Copies, too_many}
-use Rattle.bolt_bulk.specs.declared.fault.BulkFault.{BulkFault}
+use Rattle.bolt_cli.proofs.Vocabulary.{Appends, AppendsProperPrefix, AppendsProperPrefix-first, BulkFault, EndsCopy, HashesSince, Holds256, IsErrAnd, IsOk, Keeps, OnOk, Sha256, StopsShort}
+use Rattle.bolt_cli.proofs.Vocabulary.{cases_lt, copied, copy_of, length-sha256, sha256, too_many}
+use Rattle.bolt_bulk.specs.Compacting.{Copies}
 use Rattle.bolt_bulk.specs.declared.fault.BulkFault.TheVariants as bulk
 use Rattle.bolt_bulk.specs.declared.outcome.Done.{Done}
-use Rattle.bolt_cli.specs.Answers.{StopsShort}
-use Rattle.bolt_cli.specs.CopyEnds.{EndsCopy}
-use Rattle.bolt_cli.specs.Failures.{copied}
-use Rattle.bolt_cli.specs.Hashes.{HashesSince}
-use Rattle.bolt_cli.specs.SnapshotAnswers.{copy_of}
 use Rattle.bolt_cli.proofs.HashLemmas.{short_with_hash, whole_with_hash}
 
 -- a proper prefix of the layout is one of the copy

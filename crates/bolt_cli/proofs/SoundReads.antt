@@ -1,20 +1,12 @@
 -- Where the trees are sound for the one meta that a choice names, only memory can be wanting.
 use Rattle.std.proofs.Common.{◌≡◌, ℕ, List, [], inl, refl, subst, sym, true}
+use Rattle.bolt_cli.proofs.Vocabulary.{Active, Assumed, CheckFault, Finding, HasSoundTrees, InSlot, IsClaimedBefore, IsFirstFinding, IsMetaOf, IsMetaPage, IsReadUnder, IsRefusedUnder, IsSound}
+use Rattle.bolt_cli.proofs.Vocabulary.{IsUnrecoverableUnder, Meta, MetaChoice, assumed_for, node_at}
 use Rattle.bolt_check.proofs.Judging.{passes_fewer, passes_silent}
 use Rattle.bolt_check.proofs.Lawful.{shape_passes, sound_reports_nothing}
-use Rattle.bolt_check.specs.Findings.{IsClaimedBefore, IsMetaPage}
-use Rattle.bolt_check.specs.Nodes.{node_at}
-use Rattle.bolt_check.specs.Sound.{HasSoundTrees, IsFirstFinding, IsSound}
 use Rattle.bolt_check.specs.Ways.{At_page, reached, root_spot}
-use Rattle.bolt_check.specs.declared.fault.CheckFault.{CheckFault}
 use Rattle.bolt_check.specs.declared.fault.CheckFault.TheVariants as check
-use Rattle.bolt_check.specs.declared.finding.Finding.{Finding}
-use Rattle.bolt_format.specs.declared.meta.Meta.{Meta}
 use Rattle.bolt_recover.specs.Refusals.{KeepsRoot, LosesRoot}
-use Rattle.bolt_cli.specs.Answers.{IsReadUnder, IsRefusedUnder, IsUnrecoverableUnder}
-use Rattle.bolt_cli.specs.MetaChoices.{IsMetaOf, assumed_for}
-use Rattle.bolt_cli.specs.declared.meta_choice.MetaChoice.{MetaChoice}
-use Rattle.bolt_cli.specs.declared.meta_choice.MetaChoice.TheVariants.{Active, Assumed, InSlot}
 
 -- the choice names no other meta
 abbrev pub NamesOne : List ℕ → MetaChoice → Meta → Type 0

@@ -1,28 +1,9 @@
 -- With sound trees, `--recover` does what is done without it under the same meta, if the accounts don't count there.
 use Rattle.std.proofs.Common.{◌≡◌, ◌≢◌, ◌↔◌, ℕ, Bool, false, List, [], Option, inl, inr, length, refl, subst, sym, subst₂, ◌∙◌}
-use Rattle.std.proofs.lemmas.Bool.{false≢true}
-use Rattle.bolt_check.specs.Sound.{HasSoundTrees}
-use Rattle.bolt_check.specs.declared.fault.CheckFault.{CheckFault}
+use Rattle.bolt_cli.proofs.Vocabulary.{Active, Answer, AreLosses, Assumed, CheckFault, Ending, Extent, First, HasSoundTrees, InSlot, IsChosen, IsEndedOrCut, IsInSlot, IsListedAnswer, IsListing}
+use Rattle.bolt_cli.proofs.Vocabulary.{IsMetaOf, IsReadUnder, IsRecovered, IsRefusedUnder, IsUnrecoverableUnder, Layout, ListForm, LossView, Losses, MakesCopy, Member, Meta, MetaChoice, PageSize}
+use Rattle.bolt_cli.proofs.Vocabulary.{Path, Slot, WritesCopy, copy_page_size, copy_report, false≢true, has_losses, hash_differs, layout_of_listing, lost_ending, part_ending, part_text, parts}
 use Rattle.bolt_check.specs.declared.fault.CheckFault.TheVariants as check
-use Rattle.bolt_format.specs.Metas.{IsChosen, IsInSlot}
-use Rattle.bolt_format.specs.declared.meta.Meta.{Meta}
-use Rattle.bolt_format.specs.declared.meta.Slot.{Slot}
-use Rattle.bolt_layout.specs.Copies.{layout_of_listing}
-use Rattle.bolt_layout.specs.declared.layout.Layout.{Layout}
-use Rattle.bolt_recover.proofs.Existing.{has_losses}
-use Rattle.bolt_recover.specs.Losses.{AreLosses, LossView, parts}
-use Rattle.bolt_recover.specs.Recovered.{IsRecovered}
-use Rattle.bolt_report.specs.declared.form.ListForm.{ListForm}
-use Rattle.bolt_tree.specs.Listing.{IsListing, Member}
-use Rattle.bolt_tree.specs.Paths.{Path}
-use Rattle.bolt_cli.specs.MetaChoices.{IsMetaOf}
-use Rattle.bolt_cli.specs.SnapshotAnswers.{hash_differs}
-use Rattle.bolt_cli.specs.Answers.{Answer, Ending, IsEndedOrCut, IsListedAnswer, IsReadUnder, IsRefusedUnder, IsUnrecoverableUnder, MakesCopy, WritesCopy, copy_page_size, copy_report, lost_ending, part_ending, part_text}
-use Rattle.bolt_cli.specs.declared.extent.Extent.{Extent}
-use Rattle.bolt_cli.specs.declared.extent.Extent.TheVariants.{First, Losses}
-use Rattle.bolt_cli.specs.declared.meta_choice.MetaChoice.{MetaChoice}
-use Rattle.bolt_cli.specs.declared.meta_choice.MetaChoice.TheVariants.{Active, Assumed, InSlot}
-use Rattle.bolt_cli.specs.declared.page_size.PageSize.{PageSize}
 use Rattle.bolt_cli.proofs.ReadFiles.{read_meta}
 use Rattle.bolt_cli.proofs.SoundReads.{NamesOne, keeps_root, unread, unrecovered}
 

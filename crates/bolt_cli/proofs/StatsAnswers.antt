@@ -1,30 +1,10 @@
 -- The figures of a bucket's buckets, added up entry by entry.
 use Rattle.std.proofs.Common.{◌≡◌, ◌∙◌, ◌⊎◌, inl, inr, ap, ℕ, Vec, length, false, IsTrue, List, [], ◌∷◌, Some, refl, sym, subst}
-use Rattle.std.proofs.Math.Logic.{∥∥₁_elim, ∥∥₁_map}
-use Rattle.std.proofs.Props.{props}
-use Rattle.bolt_check.specs.CheckedFiles.{bytes_of, meta_of}
-use Rattle.bolt_check.specs.Keys.{Key}
-use Rattle.bolt_check.specs.declared.checked_file.Checked.{Checked}
-use Rattle.bolt_format.specs.Elements.{LeafElement}
-use Rattle.bolt_format.specs.declared.meta.Meta.{Meta}
-use Rattle.bolt_tree.specs.Buckets.{bucket_checked, bucket_start}
-use Rattle.bolt_tree.specs.BucketViews.{entries_of}
-use Rattle.bolt_tree.specs.Entries.{AreEntries, Root_page, Start, start_of}
-use Rattle.bolt_tree.specs.EntriesLeft.{ForEntries}
-use Rattle.bolt_tree.specs.Lookups.{IsBucketAt}
-use Rattle.bolt_tree.specs.declared.bucket.Bucket.{Bucket}
-use Rattle.bolt_tree.proofs.Leaving.{the_entries}
-use Rattle.bolt_tree.proofs.Named.{entry_once}
-use Rattle.bolt_report.specs.Figures.{add_stats}
+use Rattle.bolt_cli.proofs.Vocabulary.{AddsBy, AddsEntry, AreEntries, Bucket, Checked, Failure, FigureForm, ForEntries, HasSoundTrees, HasStats, IsBucketAt, IsStatsAnswer, IsTotal, Key, LeadsTo}
+use Rattle.bolt_cli.proofs.Vocabulary.{LeafElement, Meta, Path, Root_page, Start, Stats, add_stats, bucket_checked, bucket_start, bytes_of, entries_of, entry_once, meta_of, no_stats, path_in}
+use Rattle.bolt_cli.proofs.Vocabulary.{props, refused, start_of, the_entries, ∥∥₁_elim, ∥∥₁_map}
 use Rattle.bolt_report.specs.StatsOf.{IsStatsOf}
-use Rattle.bolt_report.specs.declared.form.FigureForm.{FigureForm}
-use Rattle.bolt_report.specs.declared.statistics.Stats.{Stats}
-use Rattle.bolt_tree.specs.Paths.{Path}
-use Rattle.bolt_check.specs.Sound.{HasSoundTrees}
-use Rattle.bolt_cli.specs.PlainWords.{path_in}
 use Rattle.bolt_cli.proofs.AtPaths.{at_path, no_parts}
-use Rattle.bolt_cli.specs.Answers.{AddsBy, AddsEntry, HasStats, IsStatsAnswer, IsTotal, LeadsTo, no_stats, refused}
-use Rattle.bolt_cli.specs.declared.failure.Failure.{Failure}
 use Rattle.bolt_cli.specs.declared.failure.Failure.TheVariants as failure
 
 -- ---- one entry

@@ -1,9 +1,5 @@
 use Rattle.std.proofs.Common.{arith, ◌≡◌, ◌≢◌, [], List, inl, inr, map, refl, subst, ℕ}
-use Rattle.std.proofs.lemmas.Grind.{common_steps}
-use Rattle.bolt_recover.specs.Losses.{parts}
-use Rattle.bolt_recover.specs.Recoveries.{ForLosses, recovery_losses, recovery_meta}
-use Rattle.bolt_recover.specs.ShownLosses.{loss_view}
-use Rattle.bolt_cli.specs.Answers.{lost_and_found, refused}
+use Rattle.bolt_cli.proofs.Vocabulary.{ForLosses, common_steps, loss_view, lost_and_found, parts, recovery_losses, recovery_meta, refused}
 use Rattle.bolt_cli.specs.declared.failure.Failure.TheVariants as failure
 use Rattle.bolt_cli.proofs.Doing.{Does-nothing}
 use Rattle.bolt_cli.proofs.LossAnswers.{lost_none, lost_some}

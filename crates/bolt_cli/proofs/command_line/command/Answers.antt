@@ -1,8 +1,5 @@
 use Rattle.std.proofs.Common.{◌∙◌, ◌++◌, List, map, take, ap, ap₂, append_assoc, append-nil, rules, subst, sym}
-use Rattle.std.proofs.lemmas.List.{take_all}
-use Rattle.clap.specs.Words.{Rule}
-use Rattle.bolt_cli.specs.CommandLine.{IsCommand, command_with, operand_rule, option_rule}
-use Rattle.bolt_cli.specs.Syntaxes.{choice_view, operand_view}
+use Rattle.bolt_cli.proofs.Vocabulary.{IsCommand, Rule, choice_view, command_with, operand_rule, operand_view, option_rule, take_all}
 use Rattle.bolt_cli.specs.declared.commands.Choice.{Choice}
 use Rattle.bolt_cli.specs.declared.commands.Operand.{Operand}
 use Rattle.bolt_cli.proofs.CommandLineLemmas.{argument_added, made_more, made_twice}

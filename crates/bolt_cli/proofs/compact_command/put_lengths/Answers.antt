@@ -1,4 +1,4 @@
-use Rattle.bolt_format.proofs.WroteLemmas.{Wrote-return, Wrote-then}
+use Rattle.bolt_cli.proofs.Vocabulary.{Wrote-return, Wrote-then}
 use Rattle.bolt_cli.proofs.compact_command.put_lengths.Goals as goal
 
 pub returns-in_err-put_number_and : goal.returns-in_err-put_number_and

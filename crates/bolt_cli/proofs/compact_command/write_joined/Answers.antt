@@ -1,17 +1,7 @@
 -- The copy is whole and then reported, or it isn't whole, or there is no joined listing.
 use Rattle.std.proofs.Common.{◌≡◌, ◌∙◌, ℕ, List, inl, inr, length, map, refl, subst₂, sym}
-use Rattle.bolt_format.specs.declared.meta.Meta.{Meta}
-use Rattle.bolt_recover.specs.Joined.{IsJoined}
-use Rattle.bolt_recover.specs.JoinedMembers.{joined_left}
-use Rattle.bolt_recover.specs.LostAndFound.{all_lost}
-use Rattle.bolt_tree.specs.Listing.{Member}
+use Rattle.bolt_cli.proofs.Vocabulary.{IsJoined, Member, Meta, all_lost, asked_layout, copy_report, found_view, hash_differs, is_snapshot, joined_left, unjoined}
 use Rattle.bolt_recover.specs.declared.joined.JoinFault.TheVariants as join
-use Rattle.bolt_report.specs.FoundLines.{found_view}
-use Rattle.bolt_cli.specs.Answers.{copy_report}
-use Rattle.bolt_cli.specs.CopyEnds.{asked_layout}
-use Rattle.bolt_cli.specs.CopyKinds.{is_snapshot}
-use Rattle.bolt_cli.specs.Failures.{unjoined}
-use Rattle.bolt_cli.specs.SnapshotAnswers.{hash_differs}
 use Rattle.bolt_cli.specs.declared.failure.Failure.TheVariants as failure
 use Rattle.bolt_cli.proofs.CopyAnswers.{copy_reported, copy_stopped, ends_as}
 use Rattle.bolt_cli.proofs.FoundAnswers.{are_leaves, salvaged}

@@ -1,14 +1,6 @@
 -- The copy is whole and then reported, or it isn't whole, or nothing is recovered.
 use Rattle.std.proofs.Common.{◌≡◌, ◌∙◌, ℕ, List, [], inl, inr, length, map, refl, subst, sym}
-use Rattle.bolt_recover.specs.Losses.{parts}
-use Rattle.bolt_recover.specs.Recovered.{IsRecovered}
-use Rattle.bolt_recover.specs.Recoveries.{recovery_meta}
-use Rattle.bolt_recover.specs.ShownLosses.{loss_view}
-use Rattle.bolt_recover.proofs.Existing.{has_losses, has_recovered}
-use Rattle.bolt_cli.specs.Answers.{copy_report}
-use Rattle.bolt_cli.specs.CopyEnds.{asked_layout}
-use Rattle.bolt_cli.specs.CopyKinds.{is_snapshot}
-use Rattle.bolt_cli.specs.SnapshotAnswers.{hash_differs}
+use Rattle.bolt_cli.proofs.Vocabulary.{IsRecovered, asked_layout, copy_report, has_losses, has_recovered, hash_differs, is_snapshot, loss_view, parts, recovery_meta}
 use Rattle.bolt_cli.proofs.CopyAnswers.{copy_reported, copy_stopped}
 use Rattle.bolt_cli.proofs.ReadFiles.{failure_named, unrecoverable_finding}
 use Rattle.bolt_cli.proofs.compact_command.write_recovered.Goals as goal

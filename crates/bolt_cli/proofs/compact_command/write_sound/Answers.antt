@@ -1,15 +1,7 @@
 -- The copy is whole and then reported, or it isn't whole, or the file is refused.
 use Rattle.std.proofs.Common.{false, [], inl, inr, length, refl, subst, sym}
-use Rattle.bolt_format.specs.Metas.{IsPageSize}
-use Rattle.bolt_format.specs.declared.meta.Meta.{Meta}
-use Rattle.bolt_check.specs.CheckedFiles.{bytes_of, meta_of}
-use Rattle.bolt_tree.specs.Listing.{IsListing}
+use Rattle.bolt_cli.proofs.Vocabulary.{IsListing, IsPageSize, Meta, asked_layout, bytes_of, copy_report, has_listing, is_snapshot, meta_of, parts}
 use Rattle.bolt_tree.specs.Walks.{walk_checked}
-use Rattle.bolt_tree.proofs.Existing.{has_listing}
-use Rattle.bolt_recover.specs.Losses.{parts}
-use Rattle.bolt_cli.specs.Answers.{copy_report}
-use Rattle.bolt_cli.specs.CopyEnds.{asked_layout}
-use Rattle.bolt_cli.specs.CopyKinds.{is_snapshot}
 use Rattle.bolt_cli.proofs.CopyAnswers.{copy_reported, copy_stopped}
 use Rattle.bolt_cli.proofs.ReadFiles.{failure_named, read_page_size, read_trees, unread_finding}
 use Rattle.bolt_cli.proofs.compact_command.write_sound.Goals as goal

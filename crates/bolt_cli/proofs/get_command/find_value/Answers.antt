@@ -1,8 +1,5 @@
 use Rattle.std.proofs.Common.{None, Some, subst}
-use Rattle.bolt_check.specs.Keys.{Key}
-use Rattle.bolt_tree.specs.Buckets.{bucket_checked, bucket_start}
-use Rattle.bolt_tree.specs.BucketViews.{entries_of}
-use Rattle.bolt_tree.specs.Lookups.{IsValueAt}
+use Rattle.bolt_cli.proofs.Vocabulary.{IsValueAt, Key, bucket_checked, bucket_start, entries_of}
 use Rattle.bolt_cli.proofs.AtPaths.{none_at, none_at_root, reason_named, value_at}
 use Rattle.bolt_cli.proofs.get_command.find_value.Goals as goal
 

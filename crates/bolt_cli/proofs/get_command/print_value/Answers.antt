@@ -1,9 +1,5 @@
 use Rattle.std.proofs.Common.{◌≡◌, Err, List, Ok, inl, inr, refl, ℕ, sym}
-use Rattle.std.specs.Prelude.{⊤}
-use Rattle.bolt_report.specs.declared.form.Form.TheVariants.{Json}
-use Rattle.bolt_tree.specs.Entries.{Value}
-use Rattle.bolt_cli.specs.Answers.{IsGetAnswer, refused, value_shown}
-use Rattle.bolt_cli.specs.PlainWords.{path_in}
+use Rattle.bolt_cli.proofs.Vocabulary.{IsGetAnswer, Json, Value, path_in, refused, value_shown, ⊤}
 use Rattle.bolt_cli.proofs.AtPaths.{held_at}
 use Rattle.bolt_cli.proofs.CutTexts.{text_put}
 use Rattle.bolt_cli.proofs.Doing.{Does-nothing, Does-unread}

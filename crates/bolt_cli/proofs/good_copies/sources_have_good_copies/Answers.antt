@@ -1,4 +1,4 @@
-use Rattle.std.proofs.Math.Logic.{∥∥₁_map}
+use Rattle.bolt_cli.proofs.Vocabulary.{∥∥₁_map}
 use Rattle.bolt_cli.proofs.good_copies.sources_have_good_copies.Goals as goal
 
 pub returns : goal.returns

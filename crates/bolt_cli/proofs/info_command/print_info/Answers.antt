@@ -1,6 +1,6 @@
 use Rattle.std.proofs.Common.{inl, inr, refl}
+use Rattle.bolt_cli.proofs.Vocabulary.{done, refused}
 use Rattle.bolt_report.specs.MetaLines.{info_text}
-use Rattle.bolt_cli.specs.Answers.{done, refused}
 use Rattle.bolt_cli.specs.declared.failure.Failure.TheVariants as failure
 use Rattle.bolt_cli.proofs.Doing.{Does-nothing, Does-part, Does-whole}
 use Rattle.bolt_cli.proofs.info_command.print_info.Goals as goal

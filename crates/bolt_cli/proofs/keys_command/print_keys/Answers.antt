@@ -1,9 +1,6 @@
 use Rattle.std.proofs.Common.{Err, List, Ok, inr, refl, sym, ℕ}
-use Rattle.std.specs.Prelude.{⊤}
-use Rattle.bolt_report.specs.KeyLines.{keys_text}
+use Rattle.bolt_cli.proofs.Vocabulary.{IsEntriesAnswer, keys_text, path_in, ⊤}
 use Rattle.bolt_report.specs.KeyPrefixes.{with_prefix}
-use Rattle.bolt_cli.specs.Answers.{IsEntriesAnswer}
-use Rattle.bolt_cli.specs.PlainWords.{path_in}
 use Rattle.bolt_cli.proofs.Doing.{Does-unread}
 use Rattle.bolt_cli.proofs.EntryAnswers.{bucket_missing, entries_put}
 use Rattle.bolt_cli.proofs.keys_command.print_keys.Goals as goal

@@ -1,9 +1,7 @@
 -- The part is put, as it is of the joined listing; or memory ran out, or there is no joined listing.
 use Rattle.std.proofs.Common.{◌∙◌, Err, Ok, ap, inl, inr, refl}
+use Rattle.bolt_cli.proofs.Vocabulary.{all_lost_ending, path_in, refused, unjoined}
 use Rattle.bolt_recover.specs.declared.joined.JoinFault.TheVariants as join
-use Rattle.bolt_cli.specs.Answers.{all_lost_ending, refused}
-use Rattle.bolt_cli.specs.Failures.{unjoined}
-use Rattle.bolt_cli.specs.PlainWords.{path_in}
 use Rattle.bolt_cli.specs.declared.failure.Failure.TheVariants as failure
 use Rattle.bolt_cli.proofs.Doing.{Does-nothing}
 use Rattle.bolt_cli.proofs.FoundAnswers.{salvaged}

@@ -1,10 +1,6 @@
 -- The part is put, as it is of the recovered listing; or memory ran out, or nothing is recovered.
 use Rattle.std.proofs.Common.{◌≡◌, ◌∙◌, Err, Ok, ap, map, refl}
-use Rattle.bolt_recover.specs.Recoveries.{recovery_meta}
-use Rattle.bolt_recover.specs.ShownLosses.{loss_view}
-use Rattle.bolt_recover.proofs.Existing.{has_losses}
-use Rattle.bolt_cli.specs.Answers.{lost_ending}
-use Rattle.bolt_cli.specs.PlainWords.{path_in}
+use Rattle.bolt_cli.proofs.Vocabulary.{has_losses, loss_view, lost_ending, path_in, recovery_meta}
 use Rattle.bolt_cli.proofs.Doing.{Does-refused}
 use Rattle.bolt_cli.proofs.ReadFiles.{unrecoverable_finding}
 use Rattle.bolt_cli.proofs.RestAnswers.{recovered_put}

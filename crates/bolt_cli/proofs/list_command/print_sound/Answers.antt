@@ -1,11 +1,5 @@
 use Rattle.std.proofs.Common.{◌≡◌, Err, Ok, inl, refl, subst, sym}
-use Rattle.std.specs.Prelude.{⊤}
-use Rattle.std.specs.Result.{IsErrAnd}
-use Rattle.bolt_check.specs.CheckedFiles.{meta_of}
-use Rattle.bolt_tree.specs.Buckets.{bucket_start}
-use Rattle.bolt_cli.specs.Answers.{refused}
-use Rattle.bolt_cli.specs.PlainWords.{path_in}
-use Rattle.bolt_cli.specs.declared.failure.Failure.{Failure}
+use Rattle.bolt_cli.proofs.Vocabulary.{Failure, IsErrAnd, bucket_start, meta_of, path_in, refused, ⊤}
 use Rattle.bolt_cli.specs.declared.failure.Failure.TheVariants as failure
 use Rattle.bolt_cli.proofs.Doing.{Does-nothing, Does-unread}
 use Rattle.bolt_cli.proofs.ListAnswers.{list_put, no_bucket_listed}

@@ -1,11 +1,6 @@
 -- Nothing is lost, or something is; or memory ran out.
-use Rattle.std.proofs.Common.{◌∙◌, List, ap, map, subst, sym}
-use Rattle.std.specs.List.{All}
-use Rattle.bolt_recover.specs.Losses.{LostView, is_nothing}
-use Rattle.bolt_recover.specs.LostAndFound.{all_lost}
-use Rattle.bolt_recover.specs.declared.found.Found.{Found}
-use Rattle.bolt_report.specs.FoundLines.{IsFoundLeaf, found_view}
-use Rattle.bolt_cli.specs.Answers.{Does, lost_and_found}
+use Rattle.std.proofs.Common.{◌∙◌, ap, map, sym}
+use Rattle.bolt_cli.proofs.Vocabulary.{all_lost, found_view, is_nothing, lost_and_found}
 use Rattle.bolt_cli.proofs.FoundAnswers.{are_leaves, are_pages, found_none_lost, found_some_lost, none_left}
 use Rattle.bolt_cli.proofs.lost_and_found.print_under.Goals as goal
 
@@ -17,16 +12,12 @@ returns-then-is_nothing g c =
     let both = c.in_ok-both.ensures in
     let found = c.in_ok-both.both.found.items in
     let (answer, is, does) = c.print_findings.ensures in
-    let none = ap is_nothing (sym c.lost-lost.ensures) ∙ sym c.is_nothing.ensures ∙ c.if-is_nothing.true in (
-      answer,
-      found_none_lost c.args.file.now c.args.meta c.args.faults c.args.choice (map found_view found) (are_pages c.args.file.now c.args.meta found both.found both.views) (all_lost c.in_ok-both.both) both.lost none answer is,
-      does,
-    )
+    let none = ap is_nothing (sym c.lost-lost.ensures) ∙ sym c.is_nothing.ensures ∙ c.if-is_nothing.true in
+    let pages = are_pages c.args.file.now c.args.meta found both.found both.views in
+    (answer, found_none_lost c.args.file.now c.args.meta c.args.faults c.args.choice (map found_view found) pages (all_lost c.in_ok-both.both) both.lost none answer is, does)
 
 pub put_lost-requires : goal.put_lost-requires
-put_lost-requires g c =
-    subst (λ (found : List Found). All IsFoundLeaf found) (sym c.as_slice.ensures.value)
-    (are_leaves c.args.file.now c.args.meta c.in_ok-both.both.found.items c.in_ok-both.ensures.views)
+put_lost-requires g c = rw c.as_slice.ensures.value (are_leaves c.args.file.now c.args.meta c.in_ok-both.both.found.items c.in_ok-both.ensures.views)
 
 pub returns : goal.returns
 returns g c =
@@ -34,8 +25,6 @@ returns g c =
     let lost = all_lost c.in_ok-both.both in
     let found = c.in_ok-both.both.found.items in
     let some = ap is_nothing (sym c.lost-lost.ensures) ∙ sym c.is_nothing.ensures ∙ c.if-is_nothing.false in
-    let does = subst (λ (l : LostView). Does g.O.Sink.taken g.O.Sink.failed c.args.out.now c.put_lost.new.out (lost_and_found c.args.faults l (map found_view c.as_slice.result.now)) c.put_lost.result) c.lost-lost.ensures c.put_lost.ensures in (
-      lost_and_found c.args.faults lost (map found_view found),
-      found_some_lost c.args.file.now c.args.meta c.args.faults c.args.choice (map found_view found) (are_pages c.args.file.now c.args.meta found both.found both.views) lost both.lost some,
-      subst (λ (fs : List Found). Does g.O.Sink.taken g.O.Sink.failed c.args.out.now c.put_lost.new.out (lost_and_found c.args.faults lost (map found_view fs)) c.put_lost.result) c.as_slice.ensures.value does,
-    )
+    let does = rw (c.lost-lost.ensures, c.as_slice.ensures.value) at c.put_lost.ensures in
+    let is = found_some_lost c.args.file.now c.args.meta c.args.faults c.args.choice (map found_view found) (are_pages c.args.file.now c.args.meta found both.found both.views) lost both.lost some in
+    (lost_and_found c.args.faults lost (map found_view found), is, does)

@@ -1,10 +1,6 @@
 -- What is wrong apart from the pages, and then the text of what is lost and found.
-use Rattle.std.proofs.Common.{ap, map, ℕ}
-use Rattle.bolt_format.proofs.WroteLemmas.{Wrote-same, Wrote-stop, Wrote-then}
-use Rattle.bolt_recover.specs.ShownLosses.{lost_view}
-use Rattle.bolt_report.specs.FoundLines.{counted_lost_text, found_view}
-use Rattle.bolt_cli.specs.Answers.{lost_and_found}
-use Rattle.bolt_cli.specs.FileFaults.{errors_in}
+use Rattle.std.proofs.Common.{map}
+use Rattle.bolt_cli.proofs.Vocabulary.{Wrote-stop, Wrote-then, counted_lost_text, errors_in, found_view, lost_and_found, lost_view}
 use Rattle.bolt_cli.proofs.Doing.{Does-part, Does-whole}
 use Rattle.bolt_cli.proofs.lost_and_found.put_lost.Goals as goal
 
@@ -16,15 +12,10 @@ returns-in_err-earlier g c =
 
 pub returns-in_err-counted_lost_text : goal.returns-in_err-counted_lost_text
 returns-in_err-counted_lost_text g c =
-    let lost = lost_view c.args.lost in
-    let found = map found_view c.args.found.now in
-    Does-part _ _ (lost_and_found c.args.faults lost found) _
-    (Wrote-then c.in_ok-earlier.ensures.lines (Wrote-same (ap (λ (n : ℕ). counted_lost_text n lost found) c.in_ok-earlier.ensures.errors) c.in_err-counted_lost_text.ensures))
-    c.from_residual-in_err-counted_lost_text.ensures.1
+    let put = rw c.in_ok-earlier.ensures.errors at c.in_err-counted_lost_text.ensures in
+    Does-part _ _ (lost_and_found c.args.faults (lost_view c.args.lost) (map found_view c.args.found.now)) _ (Wrote-then c.in_ok-earlier.ensures.lines put) c.from_residual-in_err-counted_lost_text.ensures.1
 
 pub returns : goal.returns
 returns g c =
-    let lost = lost_view c.args.lost in
-    let found = map found_view c.args.found.now in
-    Does-whole _ _ (lost_and_found c.args.faults lost found)
-    (Wrote-then c.in_ok-earlier.ensures.lines (Wrote-same (ap (λ (n : ℕ). counted_lost_text n lost found) c.in_ok-earlier.ensures.errors) c.in_ok-counted_lost_text.ensures))
+    let put = rw c.in_ok-earlier.ensures.errors at c.in_ok-counted_lost_text.ensures in
+    Does-whole _ _ (lost_and_found c.args.faults (lost_view c.args.lost) (map found_view c.args.found.now)) (Wrote-then c.in_ok-earlier.ensures.lines put)

@@ -1,11 +1,5 @@
 use Rattle.std.proofs.Common.{◌∙◌, ◌+◌, None, Some, drop, refl, subst, sym, take}
-use Rattle.bolt_check.specs.declared.checked_file.Checked.{Checked}
-use Rattle.bolt_tree.specs.Buckets.{bucket_start}
-use Rattle.bolt_tree.specs.BucketViews.{entries_of}
-use Rattle.bolt_tree.specs.Lookups.{IsBucketAt}
-use Rattle.bolt_tree.specs.Paths.{Path}
-use Rattle.bolt_check.specs.Keys.{Key}
-use Rattle.bolt_cli.specs.PlainWords.{path_in}
+use Rattle.bolt_cli.proofs.Vocabulary.{Checked, IsBucketAt, Key, Path, bucket_start, entries_of, path_in}
 use Rattle.bolt_cli.proofs.AtPaths.{LeadsIn, leads_further, leads_nowhere, parts_at, parts_more}
 use Rattle.bolt_cli.proofs.open_bucket.open_bucket.Goals as goal
 

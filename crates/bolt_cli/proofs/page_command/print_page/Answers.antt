@@ -1,7 +1,6 @@
 use Rattle.std.proofs.Common.{inl, inr, refl}
-use Rattle.std.specs.Prelude.{⊤}
+use Rattle.bolt_cli.proofs.Vocabulary.{page_answer, refused, ⊤}
 use Rattle.bolt_report.specs.PageTexts.{page_text, page_text_fault}
-use Rattle.bolt_cli.specs.Answers.{page_answer, refused}
 use Rattle.bolt_cli.specs.declared.failure.Failure.TheVariants as failure
 use Rattle.bolt_cli.proofs.Doing.{Does-nothing}
 use Rattle.bolt_cli.proofs.PageAnswers.{Does-page_part, Does-page_whole}

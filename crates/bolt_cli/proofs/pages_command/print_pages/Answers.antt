@@ -1,7 +1,6 @@
 use Rattle.std.proofs.Common.{inl, refl}
-use Rattle.bolt_check.specs.CheckedFiles.{meta_of}
+use Rattle.bolt_cli.proofs.Vocabulary.{Active, meta_of}
 use Rattle.bolt_check.specs.RoledFiles.{roles_checked}
-use Rattle.bolt_cli.specs.declared.meta_choice.MetaChoice.TheVariants.{Active}
 use Rattle.bolt_cli.proofs.Doing.{Does-refused}
 use Rattle.bolt_cli.proofs.ReadFiles.{unread_finding}
 use Rattle.bolt_cli.proofs.PagesAnswers.{pages_cut, pages_put}

@@ -1,9 +1,5 @@
 use Rattle.std.proofs.Common.{◌≡◌, ◌∙◌, ◌==◌, Bool, List, inr, refl, ap, length, map, sym}
-use Rattle.std.specs.Borrow.{Bor}
-use Rattle.std.specs.List.{list_any}
-use Rattle.clap.proofs.WalkLemmas.{list_any-map}
-use Rattle.bolt_cli.specs.LineWords.{Text}
-use Rattle.bolt_cli.specs.PathWords.{each_part, part_of}
+use Rattle.bolt_cli.proofs.Vocabulary.{Bor, Text, each_part, list_any, list_any-map, part_of}
 use Rattle.bolt_cli.specs.declared.parts.Parts.TheVariants as parts
 use Rattle.bolt_cli.proofs.CommandLineLemmas.{gives_same}
 use Rattle.bolt_cli.proofs.PathReading.{path_cut}

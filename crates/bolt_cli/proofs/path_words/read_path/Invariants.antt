@@ -1,8 +1,5 @@
 use Rattle.std.proofs.Common.{◌≡◌, drop, map}
-use Rattle.std.specs.Borrow.{Bor}
-use Rattle.bolt_cli.specs.LineWords.{Text}
-use Rattle.bolt_cli.specs.PathWords.{each_part, part_of}
-use Rattle.bolt_cli.specs.PlainWords.{path_in}
+use Rattle.bolt_cli.proofs.Vocabulary.{Bor, Text, each_part, part_of, path_in}
 use Rattle.bolt_cli.proofs.PathReading.{continued}
 use Rattle.bolt_cli.proofs.path_words.read_path.Given as goal
 

@@ -1,7 +1,5 @@
 use Rattle.std.proofs.Common.{ℕ, List, inl, refl, sym}
-use Rattle.bolt_report.specs.Figures.{stats_text}
-use Rattle.bolt_cli.specs.Answers.{IsStatsAnswer, done, refused}
-use Rattle.bolt_cli.specs.PlainWords.{path_in}
+use Rattle.bolt_cli.proofs.Vocabulary.{IsStatsAnswer, done, path_in, refused, stats_text}
 use Rattle.bolt_cli.proofs.Doing.{Does-nothing, Does-part, Does-unread, Does-whole}
 use Rattle.bolt_cli.proofs.ReadFiles.{of_read, own_trees}
 use Rattle.bolt_cli.proofs.StatsAnswers.{stats_missing}

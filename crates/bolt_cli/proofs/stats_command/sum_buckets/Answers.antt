@@ -1,14 +1,8 @@
 use Rattle.std.proofs.Common.{◌∙◌, Some, ap, subst, sym}
-use Rattle.bolt_check.specs.CheckedFiles.{bytes_of, meta_of}
-use Rattle.bolt_report.specs.declared.statistics.Stats.{Stats}
-use Rattle.bolt_tree.specs.Buckets.{bucket_checked, bucket_start}
-use Rattle.bolt_tree.specs.Cursors.{cursor_checked, cursor_place, cursor_start}
-use Rattle.bolt_tree.specs.Entries.{EntryView}
-use Rattle.bolt_tree.specs.EntriesLeft.{entries_left}
+use Rattle.bolt_cli.proofs.Vocabulary.{EntryView, IsTotal, Stats, bucket_checked, bucket_start, bytes_of, cursor_checked, cursor_place, cursor_start, entries_left, fewer_left, meta_of}
+use Rattle.bolt_cli.proofs.Vocabulary.{next_shows}
 use Rattle.bolt_tree.specs.Places.{Fresh, Place}
 use Rattle.bolt_tree.specs.ShownEntries.{shown_entry}
-use Rattle.bolt_tree.proofs.Leaving.{fewer_left, next_shows}
-use Rattle.bolt_cli.specs.Answers.{IsTotal}
 use Rattle.bolt_report.proofs.SizeLemmas.{first_left}
 use Rattle.bolt_cli.proofs.StatsAnswers.{total_end, total_more, zero_stats}
 use Rattle.bolt_cli.proofs.stats_command.sum_buckets.Goals as goal

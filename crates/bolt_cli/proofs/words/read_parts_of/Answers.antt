@@ -1,11 +1,5 @@
 use Rattle.std.proofs.Common.{◌≡◌, ◌∙◌, List, [], Option, Ok, codes, ap, ap₂, map, option_map, sym, unwrap_or}
-use Rattle.std.specs.Borrow.{Bor}
-use Rattle.clap.proofs.WalkLemmas.{raw_values-rows}
-use Rattle.clap.specs.Words.{Row, all_of, found_of, rows_of}
-use Rattle.bolt_cli.specs.CommandLine.{values_in}
-use Rattle.bolt_cli.specs.LineWords.{Text}
-use Rattle.bolt_cli.specs.PathWords.{each_part, part_of, parts_by, result_and_then}
-use Rattle.bolt_cli.specs.PlainWords.{first_of, path_by, path_in}
+use Rattle.bolt_cli.proofs.Vocabulary.{Bor, Row, Text, all_of, each_part, first_of, found_of, part_of, parts_by, path_by, path_in, raw_values-rows, result_and_then, rows_of, values_in}
 use Rattle.bolt_cli.specs.declared.parts.Parts.{Parts}
 use Rattle.bolt_cli.proofs.CommandLineLemmas.{gives_same}
 use Rattle.bolt_cli.proofs.words.read_parts_of.Goals as goal
