@@ -110,7 +110,7 @@ module _ (checked : Checked) where
   IsReason path reason = HoldsNone (bytes_of checked) path (meta_of checked) reason
 
   pub none_at_root : {Z : Type 0} (path : List (Vec ℕ Z)) → length path ≡ 0 → IsReason (path_in path) failure.NoKey
-  none_at_root path none = subst (λ (p : Path). IsReason p failure.NoKey) (sym (no_parts path none)) (inl (refl, λ value held. held, (root_start checked, ∣ refl ∣₁)))
+  none_at_root path none = rw (no_parts path none) (inl (refl, λ value held. held, (root_start checked, ∣ refl ∣₁)))
 
   module _ {Z : Type 0} (path parents : List (Vec ℕ Z)) (key : Vec ℕ Z) (is : path ≡ parents ++ key ∷ []) where
     last_part : path_in path ≡ path_in parents ++ key.items ∷ []
@@ -126,16 +126,11 @@ module _ (checked : Checked) where
 
     pub value_at : (bucket : Bucket) (value : List ℕ) → bucket_checked bucket ≡ checked → ∥ LeadsIn checked (path_in parents) (bucket_start bucket) ∥₁
         → IsValueAt (entries_of (bucket_checked bucket)) (bucket_start bucket) key.items (Some value) → ∥ HoldsAt checked (path_in path) (Value value) ∥₁
-    value_at bucket value same known found =
-        let here = subst (λ (c : Checked). IsValueAt (entries_of c) (bucket_start bucket) key.items (Some value)) same found in
-        subst (λ (p : Path). ∥ HoldsAt checked p (Value value) ∥₁) (sym last_part) (value_held checked (path_in parents) key.items (bucket_start bucket) value known here)
+    value_at bucket value same known found = rw last_part (value_held checked (path_in parents) key.items (bucket_start bucket) value known (rw same at found))
 
     pub none_at : (bucket : Bucket) → bucket_checked bucket ≡ checked → ∥ LeadsIn checked (path_in parents) (bucket_start bucket) ∥₁
         → IsValueAt (entries_of (bucket_checked bucket)) (bucket_start bucket) key.items None → IsReason (path_in path) failure.NoKey
     none_at bucket same known none =
-        let here = subst (λ (c : Checked). IsValueAt (entries_of c) (bucket_start bucket) key.items None) same none in
-        inl (
-          refl,
-          λ value held. no_value_held checked (path_in parents) key.items (bucket_start bucket) known here value (subst (λ (p : Path). HoldsAt checked p (Value value)) last_part held),
-          (bucket_start bucket, subst (λ (p : Path). ∥ LeadsIn checked p (bucket_start bucket) ∥₁) (sym parents_in) known),
-        )
+        let here = rw same at none in
+        let empty = λ (value : List ℕ) (held : HoldsAt checked (path_in path) (Value value)). no_value_held checked (path_in parents) key.items (bucket_start bucket) known here value (rw last_part at held) in
+        inl (refl, empty, (bucket_start bucket, rw parents_in known))

@@ -96,9 +96,9 @@ word_refused kinds wanted (Err e) gives taken = elim gives [
 pub fault_refused : (k : ErrorKind) (kinds : Kinds) (wanted : Result Asked Text) (e : Refusal) → HasKindOf k e
     → (k ≡ kind.OutOfMemory) ⊎ IsAmong k kinds → IsRefusedBy kinds wanted e
 fault_refused k kinds wanted Memory by found = tt
-fault_refused k kinds wanted (Help text) by (inl full) = let bad : kind.DisplayHelp ≡ kind.OutOfMemory = sym by ∙ full in absurd (search rules)
+fault_refused k kinds wanted (Help text) by (inl full) = absurd (cc)
 fault_refused k kinds wanted (Help text) by (inr among) = subst (λ (x : ErrorKind). IsAmong x kinds) by among
-fault_refused k kinds wanted (Version text) by (inl full) = let bad : kind.DisplayVersion ≡ kind.OutOfMemory = sym by ∙ full in absurd (search rules)
+fault_refused k kinds wanted (Version text) by (inl full) = absurd (cc)
 fault_refused k kinds wanted (Version text) by (inr among) = subst (λ (x : ErrorKind). IsAmong x kinds) by among
 fault_refused k kinds wanted (Usage text) by (inl full) = absurd (by.1 full)
 fault_refused k kinds wanted (Usage text) by (inr among) = (k, among, by.0)

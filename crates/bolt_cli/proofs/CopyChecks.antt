@@ -1,6 +1,6 @@
 -- What `check` answers to a good copy, and to its proper prefixes.
-use Rattle.std.proofs.Common.{◌≡◌, ◌≢◌, ◌∙◌, ◌⊎◌, ◌++◌, ◌∷◌, ◌<◌, ℕ, List, [], Bool, true, false, IsTrue, Option, None, Some, Ok, ap, codes, inl, inr, length, refl, subst, sym, take}
-use Rattle.bolt_cli.proofs.Vocabulary.{Active, Answer, AnswersFound, AnswersLosses, AreLosses, CheckFault, Extent, FileFaults, Finding, First, HasBothMetas, HasSoundTrees, HashMissing}
+use Rattle.std.proofs.Common.{◌≡◌, ◌≢◌, ◌∙◌, ◌⊎◌, ◌∷◌, ◌<◌, ℕ, List, [], Bool, true, false, IsTrue, Option, None, Some, Ok, ap, codes, inl, inr, length, refl, subst, sym, take}
+use Rattle.bolt_cli.proofs.Vocabulary.{Active, Answer, AnswersFound, AnswersLosses, AreLosses, CheckFault, Extent, FileFaults, First, HasBothMetas, HasSoundTrees, HashMissing}
 use Rattle.bolt_cli.proofs.Vocabulary.{IsCheckAnswer, IsCheckAnswerAfter, IsChosen, IsFoundAnswer, IsGoodCopy, IsMetaOf, IsMetasFault, IsOtherFault, IsSnapshot, IsSound, LossView, Losses, Member}
 use Rattle.bolt_cli.proofs.Vocabulary.{Meta, MetaFault, RefusesFile, Slot, all_refusal, cases_lt, check_refusal, copy_of, done, found, hash_fault, hash_found, loss_at, losses_of, none_found}
 use Rattle.bolt_cli.proofs.Vocabulary.{place_at, refused}
@@ -23,15 +23,13 @@ one_active laws file slot meta chosen other (another, is) = (laws.one file slot 
 
 -- ---- ways that aren't lost have no losses
 
-none_at : (o : Option Place) (found : Option Finding) → found ≡ None → loss_at o found ≡ []
-none_at None found is = refl
-none_at (Some p) None is = refl
-none_at (Some p) (Some x) is = absurd (cc)
+none_at : (o : Option Place) → loss_at o None ≡ []
+none_at None = refl
+none_at (Some p) = refl
 
 none_of : (file : List ℕ) (meta : Meta) (survey : List Visit) → ((v : Visit) → Has survey v → v.found ≡ None) → losses_of file meta survey ≡ []
 none_of file meta [] each = refl
-none_of file meta (v ∷ survey) each =
-    ap (λ (first : List LossView). first ++ losses_of file meta survey) (none_at (place_at file meta v.way) v.found (each v (inl refl))) ∙ none_of file meta survey (λ w has. each w (inr has))
+none_of file meta (v ∷ survey) each = rw (each v (inl refl), none_at (place_at file meta v.way)) (none_of file meta survey (λ w has. each w (inr has)))
 
 -- ---- what is wrong with a file apart from its pages
 

@@ -56,7 +56,7 @@ no_path None = refl
 no_path (Some part) = refl
 
 an_empty : (words : List Text) → empties words ≡ true → parts_in words ≡ None
-an_empty [] some = absurd (let f : false ≡ true = some in cc)
+an_empty [] some = absurd (cc)
 an_empty (word ∷ words) some = elim (or_cases (length word == 0) (empties words) some) [
   | inl here ↦ ap (λ part. option_and_then (λ part. option_map (λ parts. part ∷ parts) (parts_in words)) part) (ap (λ b. if b then None else hex_bytes_in word) here)
   | inr later ↦ ap (λ rest. option_and_then (λ part. option_map (λ parts. part ∷ parts) rest) (part_in word)) (an_empty words later) ∙ no_path (part_in word)

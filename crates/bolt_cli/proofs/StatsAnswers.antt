@@ -1,6 +1,6 @@
 -- The figures of a bucket's buckets, added up entry by entry.
 use Rattle.std.proofs.Common.{◌≡◌, ◌∙◌, ◌⊎◌, inl, inr, ap, ℕ, Vec, length, false, IsTrue, List, [], ◌∷◌, Some, refl, sym, subst}
-use Rattle.bolt_cli.proofs.Vocabulary.{AddsBy, AddsEntry, AreEntries, Bucket, Checked, Failure, FigureForm, ForEntries, HasSoundTrees, HasStats, IsBucketAt, IsStatsAnswer, IsTotal, Key, LeadsTo}
+use Rattle.bolt_cli.proofs.Vocabulary.{AddsEntry, AreEntries, Bucket, Checked, Failure, FigureForm, ForEntries, HasSoundTrees, HasStats, IsBucketAt, IsStatsAnswer, IsTotal, Key, LeadsTo}
 use Rattle.bolt_cli.proofs.Vocabulary.{LeafElement, Meta, Path, Root_page, Start, Stats, add_stats, bucket_checked, bucket_start, bytes_of, entries_of, entry_once, meta_of, no_stats, path_in}
 use Rattle.bolt_cli.proofs.Vocabulary.{props, refused, start_of, the_entries, ∥∥₁_elim, ∥∥₁_map}
 use Rattle.bolt_report.specs.StatsOf.{IsStatsOf}
@@ -10,10 +10,10 @@ use Rattle.bolt_cli.specs.declared.failure.Failure.TheVariants as failure
 -- ---- one entry
 
 adds_bucket : (file : List ℕ) (meta : Meta) (e : LeafElement) (own before : Stats) → IsTrue e.is_bucket → IsStatsOf file meta (start_of e.value) own → AddsEntry file meta e before (add_stats before own)
-adds_bucket file meta e own before is_bucket are = subst (λ b. AddsBy b file meta e before (add_stats before own)) (sym is_bucket) (own, are, refl)
+adds_bucket file meta e own before is_bucket are = rw is_bucket (own, are, refl)
 
 pub adds_nothing : (file : List ℕ) (meta : Meta) (e : LeafElement) (before : Stats) → e.is_bucket ≡ false → AddsEntry file meta e before before
-adds_nothing file meta e before is_value = subst (λ b. AddsBy b file meta e before before) (sym is_value) refl
+adds_nothing file meta e before is_value = rw is_value refl
 
 module _ (bucket : Bucket) where
   abbrev file_in : List ℕ
@@ -48,29 +48,6 @@ total_more file meta old new e before after total is adds later =
 
 pub total_end : (file : List ℕ) (meta : Meta) (left : List LeafElement) (total : Stats) → left ≡ [] → ∥ IsTotal file meta left total total ∥₁
 total_end file meta left total none = subst (λ (entries : List LeafElement). ∥ IsTotal file meta entries total total ∥₁) (sym none) ∣ refl ∣₁
-
--- ---- no figures
-
-abbrev AreZero : Stats → Type 0
-AreZero s =
-    (s.buckets ≡ 0) × ((s.inline_buckets ≡ 0) × ((s.inline_used ≡ 0) × ((s.keys ≡ 0) × ((s.depth ≡ 0) × ((s.branch_pages ≡ 0) × ((s.branch_overflow ≡ 0) × ((s.branch_allocated ≡ 0) × ((s.branch_used ≡ 0) × ((s.leaf_pages ≡ 0) × ((s.leaf_overflow ≡ 0) × ((s.leaf_allocated ≡ 0) × ((s.leaf_used ≡ 0)))))))))))))
-
-pub zero_stats : (s : Stats) → AreZero s → s ≡ no_stats
-zero_stats s none = λ i. record {
-  buckets = none.0 i;
-  inline_buckets = none.1.0 i;
-  inline_used = none.1.1.0 i;
-  keys = none.1.1.1.0 i;
-  depth = none.1.1.1.1.0 i;
-  branch_pages = none.1.1.1.1.1.0 i;
-  branch_overflow = none.1.1.1.1.1.1.0 i;
-  branch_allocated = none.1.1.1.1.1.1.1.0 i;
-  branch_used = none.1.1.1.1.1.1.1.1.0 i;
-  leaf_pages = none.1.1.1.1.1.1.1.1.1.0 i;
-  leaf_overflow = none.1.1.1.1.1.1.1.1.1.1.0 i;
-  leaf_allocated = none.1.1.1.1.1.1.1.1.1.1.1.0 i;
-  leaf_used = none.1.1.1.1.1.1.1.1.1.1.1.1 i;
-}
 
 -- ---- the bucket at a path
 

@@ -28,7 +28,7 @@ pub use Rattle.bolt_cli.specs.LineWords.{Syntax, Text}
 pub use Rattle.bolt_cli.specs.MetaChoices.{IsMetaOf, assumed_for}
 pub use Rattle.bolt_cli.specs.PathWords.{each_part, hex_bytes, hex_path_of, mixed_bytes, or_bad_hex, part_of, parts_by, result_and_then}
 pub use Rattle.bolt_cli.specs.PlainWords.{Asked, asked, asked_of, assumed_of, assumed_when, first_of, is_page_size, page_size_of, path_by, path_in, syntaxes, target_name}
-pub use Rattle.bolt_cli.specs.Runs.{Choose, Closes, Copies, Ends, Fails, Goes, IsHeldLine, IsReported, IsRun, Makes, Prints, PrintsHeld, Reads, Refuses, Shows, error_line, held_failures}
+pub use Rattle.bolt_cli.specs.Runs.{Choose, Closes, Copies, Ends, Fails, Goes, IsHeldLine, IsReported, IsRun, Prints, PrintsHeld, Reads, Refuses, error_line, held_failures}
 pub use Rattle.bolt_cli.specs.Runs.{held_of, held_text, is_again}
 pub use Rattle.bolt_cli.specs.SnapshotAnswers.{copy_of, hash_differs, hash_found}
 pub use Rattle.bolt_cli.specs.Syntaxes.{choice_view, operand_view, syntax_view}

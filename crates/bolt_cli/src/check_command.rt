@@ -2,7 +2,7 @@
 ghost use Rattle.std.specs.Prelude.{◌≡◌, OnOk};
 ghost use Rattle.bolt_check.specs.declared.fault.CheckFault.TheVariants as check;
 ghost use Rattle.bolt_recover.specs.Recoveries.{ForLosses, recovery_file, recovery_losses, recovery_meta};
-ghost use Rattle.bolt_cli.specs.Answers.{Answer, Does, IsCheckAnswer, IsFoundAnswer, IsLossesAnswer, IsRecoveredAnswer, all_refusal, check_refusal, found, none_found};
+ghost use Rattle.bolt_cli.specs.Answers.{Answer, Does, IsCheckAnswer, IsCheckAnswerAfter, IsFoundAnswer, all_refusal, check_refusal, found, none_found};
 
 use crate::extent::Extent;
 use crate::failure::Failure;
@@ -64,7 +64,7 @@ fn print_losses<O: Sink>(
     faults: FileFaults,
     out: &mut O,
 ) -> Result<u8, Failure>
-    ensures { (answer : Answer) × IsRecoveredAnswer file.now choice (IsLossesAnswer faults file.now choice) (λ fault answer. answer ≡ all_refusal faults fault) answer
+    ensures { (answer : Answer) × IsCheckAnswerAfter Extent.Losses faults file.now choice answer
         × Does O.taken O.failed out.old out.new answer result }
 {
     let mut recovery = match open_recovery(alloc, file, choice) {

@@ -2,10 +2,10 @@
 ghost use Rattle.std.specs.Prelude.{◌≡◌, ℕ, List, IsOk, OnOk, true};
 ghost use Rattle.bolt_bulk.specs.Compacting.{Copies};
 ghost use Rattle.bolt_bulk.specs.WholeListings.{IsWhole};
-ghost use Rattle.bolt_layout.specs.Copies.{layout_of_listing};
 ghost use Rattle.bolt_tree.specs.Listing.{Member};
 ghost use Rattle.bolt_cli.specs.CopyEnds.{EndsCopy};
 ghost use Rattle.bolt_cli.specs.Hashes.{HashesSince};
+ghost use Rattle.bolt_cli.specs.Private.Copying.{shaped_layout};
 
 use crate::copy_source::CopySource;
 use crate::hashing::{Hashing, Origin};
@@ -27,7 +27,7 @@ pub(crate) fn copy_all<C: CopySource, T: Sink>(
 ) -> Result<u64, BulkFault>
     requires { IsWhole C.lists C.left source.old }
     ensures copied { (listing : List Member) → C.lists source.old listing
-        → EndsCopy T.taken T.failed target.old target.new (layout_of_listing shape.now.layout shape.now.page_size listing shape.now.sequence) snapshot result }
+        → EndsCopy T.taken T.failed target.old target.new (shaped_layout shape.now listing) snapshot result }
     ensures end { OnOk result (C.ends_as source.old source.new) }
 {
     if !snapshot {
@@ -61,7 +61,7 @@ fn hash_all<'a, K: Origin, T: Sink, C: CopySource>(
     requires start { T.taken target.old ≡ K.start }
     ensures same { result.target.ghost_name ≡ target.entry.ghost_name }
     ensures copied { (listing : List Member) → C.lists source.old listing
-        → Copies T.taken T.failed target.old result.target.now (layout_of_listing shape.now.layout shape.now.page_size listing shape.now.sequence) result.result }
+        → Copies T.taken T.failed target.old result.target.now (shaped_layout shape.now listing) result.result }
     ensures end { OnOk result.result (C.ends_as source.old source.new) }
     ensures hashed { T.failed result.target.now ≡ 0 → ∥ HashesSince (T.taken target.old) (T.taken result.target.now) result.hash ∥₁ }
 {

@@ -4,7 +4,6 @@ ghost use Rattle.std.specs.Prelude.{◌≡◌, List, OnOk};
 ghost use Rattle.bolt_bulk.specs.Compacting.{Copies};
 ghost use Rattle.bolt_bulk.specs.WholeListings.{IsWhole};
 ghost use Rattle.bolt_check.specs.CheckedFiles.{bytes_of, meta_of};
-ghost use Rattle.bolt_layout.specs.Copies.{layout_of_listing};
 ghost use Rattle.bolt_load.specs.LineMembers.{text_members};
 ghost use Rattle.bolt_load.specs.ShownMembers.{members_left, members_text};
 ghost use Rattle.bolt_recover.specs.Joined.{IsJoined};
@@ -13,6 +12,7 @@ ghost use Rattle.bolt_recover.specs.Recovered.{IsRecovered};
 ghost use Rattle.bolt_recover.specs.Recoveries.{ForLosses, recovery_file, recovery_left, recovery_losses, recovery_meta};
 ghost use Rattle.bolt_tree.specs.Listing.{IsListing, Member};
 ghost use Rattle.bolt_tree.specs.Walks.{left_of, walk_checked};
+ghost use Rattle.bolt_cli.specs.Private.Copying.{shaped_layout};
 
 use bolt_bulk::{BulkFault, Done, Shape, compact_members};
 use bolt_format::Sink;
@@ -41,7 +41,8 @@ pub(crate) trait CopySource {
         sink: &mut S,
     ) -> Result<Done, BulkFault>
         requires { IsWhole lists left self.old }
-        ensures copied { (listing : List Member) → lists self.old listing → Copies S.taken S.failed sink.old sink.new (layout_of_listing shape.now.layout shape.now.page_size listing shape.now.sequence) result }
+        ensures copied { (listing : List Member) → lists self.old listing
+            → Copies S.taken S.failed sink.old sink.new (shaped_layout shape.now listing) result }
         ensures end { OnOk result (ends_as self.old self.new) };
 }
 

@@ -1,8 +1,6 @@
 //! The command `keys`.
-ghost use Rattle.bolt_report.specs.KeyLines.{keys_text};
-ghost use Rattle.bolt_report.specs.KeyPrefixes.{with_prefix};
-ghost use Rattle.bolt_cli.specs.Answers.{Answer, Does, IsEntriesAnswer, IsReadAnswer};
-ghost use Rattle.bolt_cli.specs.PlainWords.{path_in};
+ghost use Rattle.bolt_cli.specs.Answers.{Answer, Does};
+ghost use Rattle.bolt_cli.specs.Private.Printing.{IsKeysPrint};
 
 use crate::failure::Failure;
 use crate::job::KeysJob;
@@ -19,7 +17,7 @@ pub(crate) fn print_keys<O: Sink>(
     job: &KeysJob,
     out: &mut O,
 ) -> Result<u8, Failure>
-    ensures { (answer : Answer) × IsReadAnswer file.now job.now.meta (IsEntriesAnswer file.now (path_in job.now.path.items) job.now.form (λ entries. keys_text job.now.form (with_prefix job.now.prefix.items entries))) answer
+    ensures { (answer : Answer) × IsKeysPrint job.now file.now answer
         × Does O.taken O.failed out.old out.new answer result }
 {
     let checked = open_read(alloc, file, job.meta)?;
