@@ -21,11 +21,6 @@ program_is_simple = refl
 pub program_is_free : is_simple_and_free program ≡ true
 program_is_free = refl
 
--- what is made of a list in two steps
-pub made_twice : {X Y Z : Type 0} (f : Y → Z) (g : X → Y) (xs : List X) → map (λ x. f (g x)) xs ≡ map f (map g xs)
-made_twice f g [] = refl
-made_twice f g (x ∷ xs) = ap (λ zs. f (g x) ∷ zs) (made_twice f g xs)
-
 -- what was made of a list so far, with one more
 pub made_more : {X Y : Type 0} (f : X → Y) (xs : List X) (i : ℕ) (d : X) → i < length xs → map f (take (i + 1) xs) ≡ map f (take i xs) ++ f (get_or xs i d) ∷ []
 made_more f xs i d within = ap (λ n. map f (take n xs)) (add-one i) ∙ ap (map f) (take-suc xs i d within) ∙ map-append f (take i xs) (get_or xs i d ∷ [])

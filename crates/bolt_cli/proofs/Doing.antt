@@ -21,6 +21,20 @@ pub Does-nothing : {S : Type 0} (taken : S → Option (List ℕ)) (failed : S �
 Does-nothing taken failed old failure (Ok x) is = absurd is
 Does-nothing taken failed old failure (Err said) is = inl (Appends-nil (taken old), refl, ap Err is)
 
+-- ---- an answer that is one of those that are wanted
+
+pub answer_whole : {S : Type 0} {sink : Ghosts S} {IsWanted : Answer → Type 0} (old new : S) (answer : Answer) → IsWanted answer → Wrote sink old new answer.out whole
+    → (a : Answer) × IsWanted a × Does sink.taken sink.failed old new a answer.ending
+answer_whole old new answer is put = (answer, is, Does-whole old new answer put)
+
+pub answer_part : {S : Type 0} {sink : Ghosts S} {IsWanted : Answer → Type 0} (old new : S) (answer : Answer) (result : Ending) → IsWanted answer → Wrote sink old new answer.out broken
+    → IsErrAnd result (λ said. said ≡ failure.Write) → (a : Answer) × IsWanted a × Does sink.taken sink.failed old new a result
+answer_part old new answer result is put said = (answer, is, Does-part old new answer result put said)
+
+pub answer_nothing : {S : Type 0} {IsWanted : Answer → Type 0} (taken : S → Option (List ℕ)) (failed : S → ℕ) (old : S) (failure : Failure) (result : Ending) → IsWanted (refused failure)
+    → IsErrAnd result (λ said. said ≡ failure) → (a : Answer) × IsWanted a × Does taken failed old old a result
+answer_nothing taken failed old failure result is said = (refused failure, is, Does-nothing taken failed old failure result said)
+
 -- the file is refused, and only the first finding is reported
 pub Does-refused : {S : Type 0} {IsAccepted : Answer → Type 0} {IsRefusal : CheckFault → Type 0} (taken : S → Option (List ℕ)) (failed : S → ℕ) (old : S) (fault : CheckFault) (ending : Ending)
     → HasFinding fault → IsRefusal fault → IsErrAnd ending (λ said. HasFinding fault → IsFailureOf fault said)

@@ -1,8 +1,8 @@
 -- The answer of `check --lost-and-found`.
-use Rattle.std.proofs.Common.{◌≡◌, ◌≢◌, ◌∙◌, ℕ, Bool, true, false, List, [], ◌∷◌, Option, ap, inl, inr, map, refl, subst, subst₂, sym}
+use Rattle.std.proofs.Common.{◌≡◌, ◌≢◌, ◌∙◌, ℕ, Bool, true, false, List, [], ◌∷◌, Option, ap, ap₂, inl, inr, map, refl, subst, subst₂, sym}
 use Rattle.bolt_cli.proofs.Vocabulary.{All, Answer, AnswersFound, AreFoundPages, Does, Ending, FileFaults, Finding, ForRecovered, Found, FoundView, IsErrAnd, IsFoundAnswer, IsFoundLeaf}
 use Rattle.bolt_cli.proofs.Vocabulary.{IsFoundPagesAnswer, IsJoined, IsSalvaged, LacksBucketKey, LossView, LostAndFound, LostView, Member, Meta, MetaChoice, all_lost, everything, false≢true}
-use Rattle.bolt_cli.proofs.Vocabulary.{found_page, found_view, has_losses, is_nothing, leaf_entry, leaves_of, lost_and_found, parts, refused}
+use Rattle.bolt_cli.proofs.Vocabulary.{found_page, found_view, has_losses, is_nothing, leaf_entry, leaves_of, lost_and_found, parts}
 use Rattle.std.proofs.lemmas.List.Elements.{All-head, All-tail}
 use Rattle.bolt_check.specs.ShownNodes.{entries_of, shown_node}
 use Rattle.bolt_check.specs.TreeKinds.{tree_kind}
@@ -12,7 +12,7 @@ use Rattle.bolt_recover.specs.Found.{AreFound, numbers_of}
 use Rattle.bolt_recover.specs.Lost.{IsAllLost}
 use Rattle.bolt_recover.specs.ShownFound.{IsFoundView}
 use Rattle.bolt_cli.specs.declared.failure.Failure.TheVariants as failure
-use Rattle.bolt_cli.proofs.Doing.{Does-nothing}
+use Rattle.bolt_cli.proofs.Doing.{answer_nothing}
 
 module _ (file : List ℕ) (meta : Meta) where
   -- ---- what is shown of the found pages
@@ -23,8 +23,7 @@ module _ (file : List ℕ) (meta : Meta) where
   views_are : (found : List Found) → All (IsFoundView file meta) found → map found_view found ≡ map (found_page file meta) (numbers_of found)
   views_are [] all = refl
   views_are (f ∷ found) all =
-      ap (λ (v : FoundView). v ∷ map found_view found) (view_is f (All-head (IsFoundView file meta) f found all))
-      ∙ ap (λ (vs : List FoundView). found_page file meta f.number ∷ vs) (views_are found (All-tail (IsFoundView file meta) f found all))
+      ap₂ (λ (v : FoundView) (vs : List FoundView). v ∷ vs) (view_is f (All-head (IsFoundView file meta) f found all)) (views_are found (All-tail (IsFoundView file meta) f found all))
 
   pub are_pages : (found : List Found) → AreFound file meta (numbers_of found) → All (IsFoundView file meta) found → AreFoundPages file meta (map found_view found)
   are_pages found are all = (numbers_of found, are, views_are found all)
@@ -67,7 +66,7 @@ module _ (file : List ℕ) (meta : Meta) where
 pub none_left : {S : Type 0} (taken : S → Option (List ℕ)) (failed : S → ℕ) (old : S) (file : List ℕ) (meta : Meta) (faults : FileFaults) (choice : MetaChoice) (ending : Ending)
     → IsErrAnd ending (λ said. said ≡ failure.Memory)
     → (answer : Answer) × IsFoundPagesAnswer faults file choice meta answer × Does taken failed old old answer ending
-none_left taken failed old file meta faults choice ending is = (refused failure.Memory, inr (inr refl), Does-nothing taken failed old failure.Memory ending is)
+none_left taken failed old file meta faults choice ending is = answer_nothing taken failed old failure.Memory ending (inr (inr refl)) is
 
 -- ---- the joined listing
 

@@ -1,7 +1,7 @@
 -- A copy of a listing that is that of one tree, and its hash: what holds of both.
-use Rattle.std.proofs.Common.{◌≡◌, ◌∙◌, ◌+◌, ◌*◌, ◌-◌, ◌^◌, ◌%◌, ◌≤◌, ◌<◌, ◌==◌, ℕ, zero, suc, List, [], ◌∷◌, ◌++◌, map, Bool, true, false, IsTrue, Some, arith, ap, inl, inr, length, length-append, subst, sym, take}
-use Rattle.bolt_cli.proofs.Vocabulary.{AcceptsListing, AllByRecursion, HasBothMetas, HasGoodCopies, HashMissing, IsAsked, IsChosen, IsGoodCopy, IsListing, IsOfOneTree, IsPageSize, IsSnapshot}
-use Rattle.bolt_cli.proofs.Vocabulary.{IsSound, IsSoundCopy, Layout, Member, Meta, One, RefusesFile, RefusesPrefixes, Slot, cases_lt, copy_of, eqb-true, finding, hash_fault, hash_found}
+use Rattle.std.proofs.Common.{◌≡◌, ◌∙◌, ◌+◌, ◌*◌, ◌-◌, ◌^◌, ◌%◌, ◌<◌, ◌==◌, ℕ, zero, suc, List, [], ◌∷◌, ◌++◌, map, Bool, true, false, IsTrue, Some, arith, ap, inl, inr, length, length-append, subst, sym, take}
+use Rattle.bolt_cli.proofs.Vocabulary.{AllByRecursion, HasBothMetas, HasGoodCopies, HashMissing, IsAsked, IsChosen, IsGoodCopy, IsListing, IsOfOneTree, IsPageSize, IsSnapshot}
+use Rattle.bolt_cli.proofs.Vocabulary.{IsSound, IsSoundCopy, Layout, Member, Meta, One, RefusesFile, RefusesPrefixes, Slot, cases_lt, eqb-true, finding, hash_fault}
 use Rattle.bolt_cli.proofs.Vocabulary.{layout_of_listing, length-sha256, list_any, or_cases, page_size_count, page_sizes, range_with_len, sha256, snapshot_of, take-append-le, too_many}
 use Rattle.std.proofs.Math.Nat.{mul-mod_left, mul_assoc}
 use Rattle.bolt_check.specs.declared.fault.CheckFault.TheVariants as check
@@ -70,24 +70,6 @@ module _ (laws : Laws) (listing : List Member) (sequence : ℕ) (one : IsOfOneTr
   copy_sound : IsSoundCopy which page_size (tree_of listing) sequence listing
   copy_sound = laws.sound which listing page_size sequence one size fits few
 
-  accepts : (snapshot : Bool) → AcceptsListing (copy_of snapshot layout) listing
-  accepts false = (One, own_meta, copy_sound.chosen, copy_sound.sound, copy_sound.lists)
-  accepts true = (
-    One,
-    own_meta,
-    laws.chosen_more layout (sha256 layout) One own_meta true all_pages copy_sound.sound copy_sound.chosen,
-    laws.sound_more layout (sha256 layout) own_meta true all_pages copy_sound.sound,
-    laws.listing_more layout (sha256 layout) own_meta listing all_pages copy_sound.lists,
-  )
-
-  both_metas : (snapshot : Bool) → HasBothMetas (copy_of snapshot layout)
-  both_metas false = copy_sound.metas
-  both_metas true = laws.metas_more layout (sha256 layout) copy_sound.metas
-
-  has_hash : (snapshot : Bool) → IsTrue snapshot → IsSnapshot (copy_of snapshot layout)
-  has_hash false asked = absurd (cc)
-  has_hash true asked = laws.snapshot layout blocks
-
   refuses : (n : ℕ) → n < length layout → RefusesFile (take n layout)
   refuses n less =
       let cuts = laws.prefixes which page_size (tree_of listing) sequence (record { size = size; storable = one.storable; sequence_fits = fits }) few in
@@ -96,18 +78,29 @@ module _ (laws : Laws) (listing : List Member) (sequence : ℕ) (one : IsOfOneTr
         | inr late ↦ (check.Structure (finding CUT (layout_root which page_size (tree_of listing))), λ same. cc, cuts.at_root n less late)
       ]
 
-  cut_layout : (snapshot : Bool) (n : ℕ) → n < length layout → RefusesFile (take n (copy_of snapshot layout))
-  cut_layout false n less = refuses n less
-  cut_layout true n less = subst RefusesFile (sym (take-append-le n layout (sha256 layout) (omega (arith, less)))) (refuses n less)
-
-  cut_hash : (snapshot : Bool) (n : ℕ) → length layout ≤ n → n < length (copy_of snapshot layout) → hash_found snapshot (take n (copy_of snapshot layout)) ≡ Some HashMissing
-  cut_hash false n from less = absurd (omega (arith, from, less))
-  cut_hash true n from less =
-      let part : n - length layout < 32 = omega (arith, from, less, length-append layout (sha256 layout), length-sha256 layout) in
-      subst (λ k. hash_fault (take k (snapshot_of layout)) ≡ Some HashMissing) (omega (arith, from)) (laws.cut layout (n - length layout) blocks part)
-
   good : (snapshot : Bool) → IsGoodCopy snapshot layout listing
-  good snapshot = record { accepted = accepts snapshot; metas = both_metas snapshot; hash = has_hash snapshot; cut_layout = cut_layout snapshot; cut_hash = cut_hash snapshot }
+  good false = record {
+    accepted = (One, own_meta, copy_sound.chosen, copy_sound.sound, copy_sound.lists);
+    metas = copy_sound.metas;
+    hash = λ asked. absurd (cc);
+    cut_layout = refuses;
+    cut_hash = λ n from less. absurd (omega (arith, from, less));
+  }
+  good true = record {
+    accepted = (
+      One,
+      own_meta,
+      laws.chosen_more layout (sha256 layout) One own_meta true all_pages copy_sound.sound copy_sound.chosen,
+      laws.sound_more layout (sha256 layout) own_meta true all_pages copy_sound.sound,
+      laws.listing_more layout (sha256 layout) own_meta listing all_pages copy_sound.lists,
+    );
+    metas = laws.metas_more layout (sha256 layout) copy_sound.metas;
+    hash = λ asked. laws.snapshot layout blocks;
+    cut_layout = λ n less. subst RefusesFile (sym (take-append-le n layout (sha256 layout) (omega (arith, less)))) (refuses n less);
+    cut_hash = λ n from less.
+        let part : n - length layout < 32 = omega (arith, from, less, length-append layout (sha256 layout), length-sha256 layout) in
+        subst (λ k. hash_fault (take k (snapshot_of layout)) ≡ Some HashMissing) (omega (arith, from)) (laws.cut layout (n - length layout) blocks part);
+  }
 
 pub good_copies : Laws → (listing : List Member) (sequence : ℕ) → IsOfOneTree listing → sequence < 2 ^ 64 → HasGoodCopies listing sequence
 good_copies laws listing sequence one fits which snapshot page_size size few = good laws listing sequence one fits which page_size size few snapshot

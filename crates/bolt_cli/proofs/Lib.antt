@@ -20,7 +20,6 @@ pub mod NeededBytes
 pub mod Ordering
 pub mod PageAnswers
 pub mod PageSizes
-pub mod PagesAnswers
 pub mod PathReading
 pub mod ReadFiles
 pub mod RestAnswers

@@ -2,7 +2,7 @@ use Rattle.std.proofs.Common.{◌≡◌, Err, List, Ok, inl, inr, refl, ℕ, sym
 use Rattle.bolt_cli.proofs.Vocabulary.{IsGetAnswer, Json, Value, path_in, refused, value_shown, ⊤}
 use Rattle.bolt_cli.proofs.AtPaths.{held_at}
 use Rattle.bolt_cli.proofs.CutTexts.{text_put}
-use Rattle.bolt_cli.proofs.Doing.{Does-nothing, Does-unread}
+use Rattle.bolt_cli.proofs.Doing.{Does-unread, answer_nothing}
 use Rattle.bolt_cli.proofs.ReadFiles.{of_read, own_trees}
 use Rattle.bolt_cli.proofs.get_command.print_value.Goals as goal
 
@@ -13,12 +13,10 @@ pub returns-in_err-value : goal.returns-in_err-value
 returns-in_err-value g c =
     let opened = c.in_ok-checked.ensures in
     let job = c.args.job.now in
-    let failure = c.in_err-value.field-0.0 in (
-      refused failure,
-      of_read (λ (f : List ℕ). IsGetAnswer f (path_in job.path.items) job.form job.no_newline) c.args.file.now c.args.job.now.meta c.in_ok-checked.checked opened.bytes opened.sound (refused failure)
-          (inr (failure, (rw (sym c.as_slice.ensures.value) c.in_err-value.ensures.refused), refl)),
-      Does-nothing g.O.Sink.taken g.O.Sink.failed c.args.out.now failure _ c.from_residual-in_err-value.ensures.1,
-    )
+    let failure = c.in_err-value.field-0.0 in
+    let is = of_read (λ (f : List ℕ). IsGetAnswer f (path_in job.path.items) job.form job.no_newline) c.args.file.now job.meta c.in_ok-checked.checked opened.bytes opened.sound (refused failure)
+    (inr (failure, (rw (sym c.as_slice.ensures.value) c.in_err-value.ensures.refused), refl)) in
+    answer_nothing g.O.Sink.taken g.O.Sink.failed c.args.out.now failure _ is c.from_residual-in_err-value.ensures.1
 
 pub returns-in_err-put_value : goal.returns-in_err-put_value
 returns-in_err-put_value g c =

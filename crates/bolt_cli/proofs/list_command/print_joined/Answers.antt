@@ -1,9 +1,9 @@
 -- The part is put, as it is of the joined listing; or memory ran out, or there is no joined listing.
 use Rattle.std.proofs.Common.{◌∙◌, Err, Ok, ap, inl, inr, refl}
-use Rattle.bolt_cli.proofs.Vocabulary.{all_lost_ending, path_in, refused, unjoined}
+use Rattle.bolt_cli.proofs.Vocabulary.{all_lost_ending, path_in, unjoined}
 use Rattle.bolt_recover.specs.declared.joined.JoinFault.TheVariants as join
 use Rattle.bolt_cli.specs.declared.failure.Failure.TheVariants as failure
-use Rattle.bolt_cli.proofs.Doing.{Does-nothing}
+use Rattle.bolt_cli.proofs.Doing.{answer_nothing}
 use Rattle.bolt_cli.proofs.FoundAnswers.{salvaged}
 use Rattle.bolt_cli.proofs.ReadFiles.{some_page_size}
 use Rattle.bolt_cli.proofs.RestAnswers.{joined_put}
@@ -11,30 +11,23 @@ use Rattle.bolt_cli.proofs.list_command.print_joined.Goals as goal
 
 pub returns-in_err-meta : goal.returns-in_err-meta
 returns-in_err-meta g c =
-    let why = failure.Metas c.in_err-meta.field-0.0 in
-    (refused why, inr (inr (why, inr (c.in_err-meta.field-0.0, c.in_err-meta.ensures.none, refl), refl)), Does-nothing g.O.Sink.taken g.O.Sink.failed c.args.out.now why _ c.from_residual.ensures.1)
+    answer_nothing g.O.Sink.taken g.O.Sink.failed c.args.out.now (failure.Metas c.in_err-meta.field-0.0) _ (inr (inr (_, inr (_, c.in_err-meta.ensures.none, refl), refl))) c.from_residual.ensures.1
 
 pub under-requires : goal.under-requires
 under-requires g c = some_page_size c.args.file.now c.args.job.now.meta c.in_ok-meta.meta c.in_ok-meta.ensures.found
 
 pub returns-in_err-both : goal.returns-in_err-both
 returns-in_err-both g c =
-    let meta = c.in_ok-meta.meta in
-    let (numbers, are) = c.each_file_has_found_pages.ensures c.args.file.now meta in (
-      refused failure.Memory,
-      inr (inr (failure.Memory, inl (meta, c.in_ok-meta.ensures.found, (numbers, join.Memory, are, tt, refl)), refl)),
-      Does-nothing g.O.Sink.taken g.O.Sink.failed c.args.out.now failure.Memory _ c.from_residual-in_err-both.ensures.1,
-    )
+    let (numbers, are) = c.each_file_has_found_pages.ensures c.args.file.now c.in_ok-meta.meta in
+    answer_nothing g.O.Sink.taken g.O.Sink.failed c.args.out.now failure.Memory _
+    (inr (inr (failure.Memory, inl (c.in_ok-meta.meta, c.in_ok-meta.ensures.found, (numbers, join.Memory, are, tt, refl)), refl))) c.from_residual-in_err-both.ensures.1
 
 pub returns-in_err-joined : goal.returns-in_err-joined
 returns-in_err-joined g c =
-    let fault = c.in_err-joined.field-0.0 in
     let both = c.in_ok-both.ensures in
-    let why = rw (both.file, both.meta) at c.in_err-joined.ensures.refused in (
-      refused (unjoined fault),
-      inr (inr (unjoined fault, inl (c.in_ok-meta.meta, c.in_ok-meta.ensures.found, (_, fault, both.found, why, refl)), refl)),
-      Does-nothing g.O.Sink.taken g.O.Sink.failed c.args.out.now (unjoined fault) _ c.from_residual-in_err-joined.ensures.1,
-    )
+    let why = rw (both.file, both.meta) at c.in_err-joined.ensures.refused in
+    answer_nothing g.O.Sink.taken g.O.Sink.failed c.args.out.now (unjoined c.in_err-joined.field-0.0) _
+    (inr (inr (_, inl (c.in_ok-meta.meta, c.in_ok-meta.ensures.found, (_, c.in_err-joined.field-0.0, both.found, why, refl)), refl))) c.from_residual-in_err-joined.ensures.1
 
 pub returns-in_err-put_members_part : goal.returns-in_err-put_members_part
 returns-in_err-put_members_part g c =
