@@ -1,7 +1,7 @@
 -- What a path leads to in a sound file, and what it holds.
-use Rattle.std.proofs.Common.{◌≡◌, ◌∙◌, ◌⊎◌, ◌++◌, ◌-◌, ◌+◌, List, [], ◌∷◌, ℕ, Some, None, Result, Ok, Err, IfErr, true, false, IsTrue, Vec, drop, get_or, inl, inr, length, take, refl, sym, ap, subst, rules, arith, ◌<◌}
+use Rattle.std.proofs.Common.{◌≡◌, ◌∙◌, ◌⊎◌, ◌++◌, ◌-◌, ◌+◌, List, [], ◌∷◌, ℕ, Some, None, Result, Ok, Err, IfErr, Vec, drop, get_or, inl, inr, length, take, refl, sym, ap, subst, rules, arith, ◌<◌}
 use Rattle.bolt_cli.proofs.Vocabulary.{AreEntries, Bucket, Checked, Failure, ForEntries, HasSoundTrees, HoldsIn, HoldsNone, IsBucketAt, IsErrAnd, IsValueAt, Item, Key, LeadsTo, LeafElement, Path}
-use Rattle.bolt_cli.proofs.Vocabulary.{Start, Value, bucket_checked, bucket_start, bytes_of, drop_more, entries_of, held_down, held_up, item_of, length-append, map-append, meta_of, names_push}
+use Rattle.bolt_cli.proofs.Vocabulary.{Start, Value, bucket_checked, bucket_start, bytes_of, drop_more, entries_of, held_down, held_up, length-append, map-append, meta_of, names_push}
 use Rattle.bolt_cli.proofs.Vocabulary.{parents_of, path_in, props, root_start, start_of, take-append-drop, take-append_seam, ∥∥₁_elim, ∥∥₁_map}
 use Rattle.bolt_tree.proofs.AllEntries.{all_entries, checked_entries}
 use Rattle.bolt_cli.specs.declared.failure.Failure.TheVariants as failure
@@ -31,24 +31,18 @@ module _ (checked : Checked) where
       ∥∥₁_elim known (hlevel props) (λ here. ∥∥₁_elim (checked_entries checked) (hlevel props) (λ all.
       names_no_further Entry (root_start checked) path bucket key rest all here none there names))
 
-  item_value : (e : LeafElement) (value : List ℕ) → e.is_bucket ≡ false → e.value ≡ value → item_of e ≡ Value value
-  item_value e value is_value same = rw is_value (ap Value same)
-
-  no_value_of : (e : LeafElement) (value : List ℕ) → IsTrue e.is_bucket → item_of e ≡ Value value → ⊥
-  no_value_of e value is_bucket same = let is : e.is_bucket ≡ true = is_bucket in let bad = rw is at same in absurd (search (rules, bad))
-
   pub value_held : (path : Path) (key : Key) (bucket : Start) (value : List ℕ) → ∥ LeadsIn path bucket ∥₁ → IsValueAt Entry bucket key (Some value)
       → ∥ HoldsAt (path ++ key ∷ []) (Value value) ∥₁
   value_held path key bucket value known found =
       ∥∥₁_elim known (hlevel props) (λ names. ∥∥₁_map found (λ (e, is, k, is_value, same).
-      held_up Entry (root_start checked) path bucket key [] (Value value) names (e, is, k, item_value e value is_value same)))
+      held_up Entry (root_start checked) path bucket key [] (Value value) names (e, is, k, rw is_value (ap Value same))))
 
   pub no_value_held : (path : Path) (key : Key) (bucket : Start) → ∥ LeadsIn path bucket ∥₁ → IsValueAt Entry bucket key None
       → (value : List ℕ) → HoldsAt (path ++ key ∷ []) (Value value) → ⊥
   no_value_held path key bucket known none value held =
       ∥∥₁_elim known (hlevel props) (λ names. ∥∥₁_elim (checked_entries checked) (hlevel props) (λ all.
       let (e, is, k, same) = held_down Entry (root_start checked) path bucket key [] (Value value) all names held in
-      no_value_of e value (none e is k) same))
+      let bad = rw (none e is k) at same in absurd (search (rules, bad))))
 
   -- ---- if trees are sound, what is only known to be can be named
 

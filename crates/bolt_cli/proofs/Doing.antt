@@ -5,6 +5,11 @@ use Rattle.bolt_cli.proofs.Vocabulary.{MetaChoice, Wrote, broken, refused, whole
 use Rattle.bolt_cli.specs.declared.failure.Failure.TheVariants as failure
 use Rattle.bolt_cli.proofs.ReadFiles.{unread_finding}
 
+-- how a job ends that isn't done
+pub ends_as : (ending : Ending) (why : Failure) → IsErrAnd ending (λ said. said ≡ why) → ending ≡ Err why
+ends_as (Ok x) why is = absurd is
+ends_as (Err said) why is = ap Err is
+
 -- the text was written, and the job ends as its answer says
 pub Does-whole : {S : Type 0} {sink : Ghosts S} (old new : S) (answer : Answer) → Wrote sink old new answer.out whole → Does sink.taken sink.failed old new answer answer.ending
 Does-whole old new answer a = inl (a.appends, a.failures, refl)
@@ -12,14 +17,12 @@ Does-whole old new answer a = inl (a.appends, a.failures, refl)
 -- the sink failed
 pub Does-part : {S : Type 0} {sink : Ghosts S} (old new : S) (answer : Answer) (result : Ending) → Wrote sink old new answer.out broken
     → IsErrAnd result (λ said. said ≡ failure.Write) → Does sink.taken sink.failed old new answer result
-Does-part old new answer (Ok x) a is = absurd is
-Does-part old new answer (Err said) a is = inr (a.failures, a.appends, ap Err is)
+Does-part old new answer result a is = inr (a.failures, a.appends, ends_as result failure.Write is)
 
 -- nothing was written
 pub Does-nothing : {S : Type 0} (taken : S → Option (List ℕ)) (failed : S → ℕ) (old : S) (failure : Failure) (result : Ending)
     → IsErrAnd result (λ said. said ≡ failure) → Does taken failed old old (refused failure) result
-Does-nothing taken failed old failure (Ok x) is = absurd is
-Does-nothing taken failed old failure (Err said) is = inl (Appends-nil (taken old), refl, ap Err is)
+Does-nothing taken failed old failure result is = inl (Appends-nil (taken old), refl, ends_as result failure is)
 
 -- ---- an answer that is one of those that are wanted
 

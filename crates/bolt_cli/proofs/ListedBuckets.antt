@@ -1,5 +1,5 @@
 -- A listing has the bucket at a path where the path leads to one.
-use Rattle.std.proofs.Common.{arith, length, ◌==◌, ◌≡◌, ◌∙◌, ◌||◌, ◌&&◌, ℕ, Bool, true, false, List, [], ◌∷◌, IsTrue, inl, inr, refl, sym, ap, subst, rules}
+use Rattle.std.proofs.Common.{arith, length, ◌==◌, ◌≡◌, ◌∙◌, ◌||◌, ◌&&◌, ℕ, Bool, true, false, List, [], ◌∷◌, IsTrue, inl, inr, refl, sym, ap, rules}
 use Rattle.bolt_cli.proofs.Vocabulary.{Contains, Holds, IsEntry, IsListing, Item, Key, LeadsTo, LeafElement, Member, Meta, Names, Path, Root_page, Start, Value, and_parts, bytes_eq}
 use Rattle.bolt_cli.proofs.Vocabulary.{bytes_eq-Decides, cases_Bool, has_bucket, head_sequence, is_bucket, is_bucket_at, item_of, list_any, or_cases, or_left, or_right, pointwise}
 use Rattle.bolt_cli.proofs.Vocabulary.{slice_eq-Decides, start_of}
@@ -25,9 +25,6 @@ some_of p (x ∷ ms) any = elim (or_cases (p x) (list_any p ms) any) [
 
 -- ---- entries
 
-bucket_item : (e : LeafElement) → IsTrue e.is_bucket → item_of e ≡ Bucket (head_sequence e.value)
-bucket_item e b = let is : e.is_bucket ≡ true = b in rw is refl
-
 is_bucket_of : (e : LeafElement) (sequence : ℕ) → item_of e ≡ Bucket sequence → IsTrue e.is_bucket
 is_bucket_of e sequence is = elim (cases_Bool e.is_bucket) [
   | inl holds ↦ holds
@@ -36,7 +33,7 @@ is_bucket_of e sequence is = elim (cases_Bool e.is_bucket) [
 
 module _ (Entry : Start → LeafElement → Type 0) where
   held_of : (key : Key) (path : Path) (from bucket : Start) → Names Entry from (key ∷ path) bucket → (sequence : ℕ) × Holds Entry from (key ∷ path) (Bucket sequence)
-  held_of key [] from bucket (e, is, k, b, there) = (head_sequence e.value, (e, is, k, bucket_item e b))
+  held_of key [] from bucket (e, is, k, b, there) = (head_sequence e.value, (e, is, k, rw b refl))
   held_of key (next ∷ path) from bucket (e, is, k, b, later) =
       let (sequence, held) = held_of next path (start_of e.value) bucket later in
       (sequence, (e, is, k, b, held))
@@ -78,8 +75,7 @@ module _ (file : List ℕ) (meta : Meta) (listing : List Member) (is : IsListing
       let same : m.0 ≡ key ∷ path = (slice_eq-Decides bytes_eq-Decides m.0 (key ∷ path) (pointwise bytes_eq m.0 (key ∷ path)) refl).0 parts.0 in
       let (sequence, item) = bucket_in m.1 parts.1 in
       let held = (is.exact m.0 m.1).0 contained in
-      named_of (IsEntry file meta) key path (Root_page meta.root) sequence
-      (subst (λ (i : Item). Holds (IsEntry file meta) (Root_page meta.root) (key ∷ path) i) item (subst (λ (p : Path). Holds (IsEntry file meta) (Root_page meta.root) p m.1) same held))
+      named_of (IsEntry file meta) key path (Root_page meta.root) sequence (rw (same, item) at held)
 
   -- where it leads to none, the listing has none
   pub none_named : (path : Path) → ((bucket : Start) → LeadsTo file meta path bucket → ⊥) → has_bucket path listing ≡ false

@@ -1,5 +1,5 @@
 -- The answer of `page`, whether the page is good or not.
-use Rattle.std.proofs.Common.{◌≡◌, ◌≢◌, ◌↔◌, ℕ, List, Option, Some, None, Result, Ok, Err, ap, refl, subst, sym}
+use Rattle.std.proofs.Common.{◌≡◌, ◌≢◌, ◌↔◌, ℕ, List, Option, Some, None, Result, Ok, Err, ap, refl}
 use Rattle.bolt_cli.proofs.Vocabulary.{Does, Ending, Ghosts, IsErrAnd, ReportFault, Wrote, done, fault_ending, page_answer, reported, whole}
 use Rattle.bolt_format.specs.declared.fault.PageFault.{PageFault}
 use Rattle.bolt_report.specs.declared.fault.ReportFault.TheVariants as report
@@ -32,5 +32,4 @@ Does-page_part A old new None text (report.Page fault) result a memory names unt
 Does-page_part A {sink} old new (Some found) text e result a memory names untouched is =
     let same : refused_by A e ≡ Err (report.Page found) = (names found).1 refl in
     let said : reported e ≡ failure.Page found = ap (λ (r : Result A ReportFault). reported (fault_in r e)) same in
-    subst (λ s. Does sink.taken sink.failed old s (page_answer (Some found) text) result) (sym (untouched found same))
-    (Does-nothing sink.taken sink.failed old (failure.Page found) result (subst (λ f. IsErrAnd result (λ t. t ≡ f)) said is))
+    rw (untouched found same) (Does-nothing sink.taken sink.failed old (failure.Page found) result (rw said at is))

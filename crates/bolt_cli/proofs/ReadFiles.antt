@@ -7,13 +7,11 @@ use Rattle.bolt_check.specs.declared.fault.CheckFault.TheVariants as check
 
 pub read_trees : (file : List ℕ) (choice : MetaChoice) (meta : Meta) → IsReadUnder file choice meta → HasSoundTrees file meta
 read_trees file Active meta (slot, chosen, sound) = sound.trees
-read_trees file (InSlot slot) meta (valid, trees) = trees
-read_trees file (Assumed assumed) meta (same, trees) = trees
+read_trees file choice meta under = under.1
 
 pub read_meta : (file : List ℕ) (choice : MetaChoice) (meta : Meta) → IsReadUnder file choice meta → IsMetaOf file choice meta
 read_meta file Active meta (slot, chosen, sound) = (slot, chosen)
-read_meta file (InSlot slot) meta (is, trees) = is
-read_meta file (Assumed assumed) meta (same, trees) = same
+read_meta file choice meta under = under.0
 
 pub own_trees : (file : List ℕ) (choice : MetaChoice) (checked : Checked) → bytes_of checked ≡ file → IsReadUnder file choice (meta_of checked) → HasSoundTrees (bytes_of checked) (meta_of checked)
 own_trees file choice checked same under = subst (λ (f : List ℕ). HasSoundTrees f (meta_of checked)) (sym same) (read_trees file choice (meta_of checked) under)
@@ -52,14 +50,12 @@ copy_size None meta is = is
 
 pub unread_finding : (file : List ℕ) (choice : MetaChoice) (fault : CheckFault) → IsRefusedUnder file choice fault → HasFinding fault
 unread_finding file Active (check.Accounts findings) (slot, meta, chosen, trees, wrong, are, some) = some
-unread_finding file (InSlot slot) (check.Accounts findings) is = absurd is
-unread_finding file (Assumed assumed) (check.Accounts findings) is = absurd is
+unread_finding file choice (check.Accounts findings) is = absurd is
 unread_finding file choice fault is = tt
 
 pub unrecoverable_finding : (file : List ℕ) (choice : MetaChoice) (fault : CheckFault) → IsUnrecoverableUnder file choice fault → HasFinding fault
 unrecoverable_finding file Active (check.Accounts findings) is = absurd is
-unrecoverable_finding file (InSlot slot) (check.Accounts findings) is = absurd is
-unrecoverable_finding file (Assumed assumed) (check.Accounts findings) is = absurd is
+unrecoverable_finding file choice (check.Accounts findings) is = absurd is
 unrecoverable_finding file choice fault is = tt
 
 -- only the first finding is reported

@@ -1,8 +1,8 @@
 -- With sound trees, `--recover` does what is done without it under the same meta, if the accounts don't count there.
-use Rattle.std.proofs.Common.{◌≡◌, ◌≢◌, ◌↔◌, ℕ, Bool, false, List, [], Option, inl, inr, length, refl, subst, sym, subst₂, ◌∙◌}
+use Rattle.std.proofs.Common.{◌≡◌, ◌≢◌, ◌↔◌, ℕ, Bool, false, List, [], Option, inl, inr, refl, subst, sym, ◌∙◌}
 use Rattle.bolt_cli.proofs.Vocabulary.{Active, Answer, AreLosses, Assumed, CheckFault, Ending, Extent, First, HasSoundTrees, InSlot, IsChosen, IsEndedOrCut, IsInSlot, IsListedAnswer, IsListing}
 use Rattle.bolt_cli.proofs.Vocabulary.{IsMetaOf, IsReadUnder, IsRecovered, IsRefusedUnder, IsUnrecoverableUnder, Layout, ListForm, LossView, Losses, MakesCopy, Member, Meta, MetaChoice, PageSize}
-use Rattle.bolt_cli.proofs.Vocabulary.{Path, Slot, WritesCopy, copy_page_size, copy_report, false≢true, has_losses, hash_differs, layout_of_listing, lost_ending, part_ending, part_text, parts}
+use Rattle.bolt_cli.proofs.Vocabulary.{Path, Slot, false≢true, has_losses, hash_differs, lost_ending, part_ending, part_text}
 use Rattle.bolt_check.specs.declared.fault.CheckFault.TheVariants as check
 use Rattle.bolt_cli.proofs.ReadFiles.{read_meta}
 use Rattle.bolt_cli.proofs.SoundReads.{NamesOne, keeps_root, unread, unrecovered}
@@ -78,22 +78,16 @@ module _ (b : Below) (file : List ℕ) (meta : Meta) (trees : HasSoundTrees file
     abbrev Copy : (extent : Extent) → MetaChoice → Type 0
     Copy extent choice = MakesCopy out_taken out_failed out_old out_new target_taken target_failed target_old target_new file choice size which snapshot extent ending
 
-    abbrev Written : (differs : Bool) (listing : List Member) → Meta → List LossView → Type 0
-    Written differs listing m losses = WritesCopy out_taken out_failed out_old out_new target_taken target_failed target_old target_new snapshot listing
-        (layout_of_listing which (copy_page_size size m) listing m.root_sequence) (λ copy. copy_report differs (parts losses) [] (length file) copy) ending
-
     copied_there : Copy Losses wanted → Copy First named
     copied_there (inl (other, listing, losses, (is, keeps), recovered, are, writes)) =
         let (same, lists, empty) = there other listing losses is recovered are in
-        let here = subst₂ (λ (differs : Bool) (ls : List LossView). Written differs listing other ls) right empty writes in
-        inl (meta, listing, under, right, lists, subst (λ (m : Meta). Written false listing m []) same here)
+        inl (meta, listing, under, right, lists, rw (right, empty, same) at writes)
     copied_there (inr (fault, failure, is, why, out, target, ends)) = inr (inr (fault, failure, refused fault is, why, out, target, ends))
 
     copied_back : Copy First named → Copy Losses wanted
     copied_back (inl (other, listing, read, same_hash, lists, writes)) =
         let (same, recovered) = back other listing read lists in
-        let here = subst₂ (λ (differs : Bool) (m : Meta). Written differs listing m []) (sym right) same writes in
-        inl (meta, listing, [], (shown, keeps_root file meta trees), recovered, no_losses, here)
+        inl (meta, listing, [], (shown, keeps_root file meta trees), recovered, no_losses, rw right (rw same at writes))
     copied_back (inr (inl (other, sound, differs, out, target, ends))) = absurd (false≢true (sym right ∙ differs))
     copied_back (inr (inr (fault, failure, is, why, out, target, ends))) = inr (fault, failure, unrecoverable fault is, why, out, target, ends)
 

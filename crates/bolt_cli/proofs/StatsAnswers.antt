@@ -43,8 +43,7 @@ module _ (bucket : Bucket) where
 pub total_more : (file : List ℕ) (meta : Meta) (old new : List LeafElement) (e : LeafElement) (before after total : Stats) → old ≡ e ∷ new → ∥ AddsEntry file meta e before after ∥₁
     → ∥ IsTotal file meta new after total ∥₁ → ∥ IsTotal file meta old before total ∥₁
 total_more file meta old new e before after total is adds later =
-    subst (λ (entries : List LeafElement). ∥ IsTotal file meta entries before total ∥₁) (sym is)
-    (∥∥₁_elim adds (hlevel props) (λ one. ∥∥₁_map later (λ rest. (after, one, rest))))
+    rw is (∥∥₁_elim adds (hlevel props) (λ one. ∥∥₁_map later (λ rest. (after, one, rest))))
 
 pub total_end : (file : List ℕ) (meta : Meta) (left : List LeafElement) (total : Stats) → left ≡ [] → ∥ IsTotal file meta left total total ∥₁
 total_end file meta left total none = subst (λ (entries : List LeafElement). ∥ IsTotal file meta entries total total ∥₁) (sym none) ∣ refl ∣₁

@@ -227,6 +227,7 @@ fn status_of(differs: bool, lost: Lost<'_>) -> u8
 }
 
 /// Writes the lengths of the file and of its copy.
+#[tactic(auto, using(bolt_format::proofs::WroteLemmas::wrote))]
 pub(crate) fn put_lengths<O: Sink>(source: u64, copy: u64, out: &mut O) -> Result<(), SinkFault>
     ensures { Wrote O.Sink out.old out.new (lengths_line source copy) (ending result) }
 {

@@ -1,9 +1,10 @@
 -- The copy is whole and then reported, or it isn't whole, or there is no joined listing.
-use Rattle.std.proofs.Common.{◌≡◌, ◌∙◌, ℕ, List, inl, inr, length, map, refl, subst₂, sym}
-use Rattle.bolt_cli.proofs.Vocabulary.{IsJoined, Member, Meta, all_lost, asked_layout, copy_report, found_view, hash_differs, is_snapshot, joined_left, unjoined}
+use Rattle.std.proofs.Common.{◌∙◌, ℕ, List, inl, inr, length, map, refl, subst₂, sym}
+use Rattle.bolt_cli.proofs.Vocabulary.{IsJoined, Meta, all_lost, asked_layout, copy_report, found_view, hash_differs, is_snapshot, unjoined}
 use Rattle.bolt_recover.specs.declared.joined.JoinFault.TheVariants as join
 use Rattle.bolt_cli.specs.declared.failure.Failure.TheVariants as failure
-use Rattle.bolt_cli.proofs.CopyAnswers.{copy_reported, copy_stopped, ends_as}
+use Rattle.bolt_cli.proofs.CopyAnswers.{copy_reported, copy_stopped}
+use Rattle.bolt_cli.proofs.Doing.{ends_as}
 use Rattle.bolt_cli.proofs.FoundAnswers.{are_leaves, salvaged}
 use Rattle.bolt_cli.proofs.ReadFiles.{some_page_size}
 use Rattle.bolt_cli.proofs.compact_command.write_joined.Goals as goal
@@ -25,8 +26,7 @@ returns-in_err-joined g c =
     inr (inr (unjoined fault, inl (c.in_ok-meta.meta, c.in_ok-meta.ensures.found, (_, fault, both.found, why, refl)), refl, refl, ends_as _ (unjoined fault) c.from_residual-in_err-joined.ensures.1))
 
 pub joined_members_are_whole-requires : goal.joined_members_are_whole-requires
-joined_members_are_whole-requires g c = subst₂ (λ (f : List ℕ) (m : Meta). (listing : List Member) → IsJoined f m listing → joined_left c.in_ok-joined.joined listing ≡ listing)
-    (sym c.in_ok-joined.ensures.file) (sym c.in_ok-joined.ensures.meta) c.in_ok-joined.ensures.all
+joined_members_are_whole-requires g c = rw (c.in_ok-joined.ensures.file, c.in_ok-joined.ensures.meta) c.in_ok-joined.ensures.all
 
 pub returns-in_err-copy : goal.returns-in_err-copy
 returns-in_err-copy g c =
@@ -35,9 +35,9 @@ returns-in_err-copy g c =
     let j = c.in_ok-joined.ensures in
     let both = c.in_ok-both.ensures in
     let (own, is) = c.each_file_has_a_joined_listing.ensures c.args.file.now meta in
-    let there = subst₂ (λ (f : List ℕ) (m : Meta). IsJoined f m own) (sym (j.file ∙ both.file)) (sym (j.meta ∙ both.meta)) is in
+    let stops = c.in_err-copy.ensures.copied own (rw (j.file ∙ both.file, j.meta ∙ both.meta) is) in
     let part = copy_stopped g.T.Sink.taken g.T.Sink.failed c.args.target.now c.copy_asked.new.target g.O.Sink.taken g.O.Sink.failed c.args.out.now (is_snapshot job.kind) (asked_layout job meta own)
-    c.in_err-copy.field-0.0 _ (c.in_err-copy.ensures.copied own there) c.from_residual-in_err-copy.ensures.1 in
+    c.in_err-copy.field-0.0 _ stops c.from_residual-in_err-copy.ensures.1 in
     inr (inl (meta, own, c.in_ok-meta.ensures.found, is, part))
 
 pub put_report-requires : goal.put_report-requires
