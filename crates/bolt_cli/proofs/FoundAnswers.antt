@@ -1,6 +1,6 @@
 -- The answer of `check --lost-and-found`.
 use Rattle.std.proofs.Common.{◌≡◌, ◌≢◌, ◌∙◌, ℕ, Bool, true, false, List, [], ◌∷◌, Option, ap, ap₂, inl, inr, map, refl, subst, subst₂, sym}
-use Rattle.bolt_cli.proofs.Vocabulary.{All, Answer, AnswersFound, AreFoundPages, Does, Ending, FileFaults, Finding, ForRecovered, Found, FoundView, IsErrAnd, IsFoundAnswer, IsFoundLeaf}
+use Rattle.bolt_cli.proofs.Vocabulary.{All, Answer, AnswersFound, AreFoundPages, FileFaults, Finding, ForRecovered, Found, FoundView, IsFoundAnswer, IsFoundLeaf}
 use Rattle.bolt_cli.proofs.Vocabulary.{IsFoundPagesAnswer, IsJoined, IsSalvaged, LacksBucketKey, LossView, LostAndFound, LostView, Member, Meta, MetaChoice, all_lost, everything, false≢true}
 use Rattle.bolt_cli.proofs.Vocabulary.{found_page, found_view, has_losses, is_nothing, leaf_entry, leaves_of, lost_and_found, parts}
 use Rattle.std.proofs.lemmas.List.Elements.{All-head, All-tail}
@@ -11,8 +11,6 @@ use Rattle.bolt_format.specs.Shown.{shown}
 use Rattle.bolt_recover.specs.Found.{AreFound, numbers_of}
 use Rattle.bolt_recover.specs.Lost.{IsAllLost}
 use Rattle.bolt_recover.specs.ShownFound.{IsFoundView}
-use Rattle.bolt_cli.specs.declared.failure.Failure.TheVariants as failure
-use Rattle.bolt_cli.proofs.Doing.{answer_nothing}
 
 module _ (file : List ℕ) (meta : Meta) where
   -- ---- what is shown of the found pages
@@ -61,12 +59,6 @@ module _ (file : List ℕ) (meta : Meta) where
     found_some_lost (everything x) loses some = inr (inl (x, found, loses, pages, refl))
     found_some_lost (parts []) is some = absurd (false≢true (sym some))
     found_some_lost (parts (loss ∷ losses)) is some = reported (loss ∷ losses) is (lost_and_found faults (parts (loss ∷ losses)) found) refl
-
--- memory ran out
-pub none_left : {S : Type 0} (taken : S → Option (List ℕ)) (failed : S → ℕ) (old : S) (file : List ℕ) (meta : Meta) (faults : FileFaults) (choice : MetaChoice) (ending : Ending)
-    → IsErrAnd ending (λ said. said ≡ failure.Memory)
-    → (answer : Answer) × IsFoundPagesAnswer faults file choice meta answer × Does taken failed old old answer ending
-none_left taken failed old file meta faults choice ending is = answer_nothing taken failed old failure.Memory ending (inr (inr refl)) is
 
 -- ---- the joined listing
 

@@ -1,19 +1,13 @@
 -- The figures of a bucket's buckets, added up entry by entry.
-use Rattle.std.proofs.Common.{◌≡◌, ◌∙◌, ◌⊎◌, inl, inr, ap, ℕ, Vec, length, false, IsTrue, List, [], ◌∷◌, Some, refl, sym, subst}
+use Rattle.std.proofs.Common.{◌≡◌, ◌∙◌, ◌⊎◌, inl, inr, ap, ℕ, Vec, length, List, [], ◌∷◌, Some, refl, sym, subst}
 use Rattle.bolt_cli.proofs.Vocabulary.{AddsEntry, AreEntries, Bucket, Checked, Failure, FigureForm, ForEntries, HasSoundTrees, HasStats, IsBucketAt, IsStatsAnswer, IsTotal, Key, LeadsTo}
 use Rattle.bolt_cli.proofs.Vocabulary.{LeafElement, Meta, Path, Root_page, Start, Stats, add_stats, bucket_checked, bucket_start, bytes_of, entries_of, entry_once, meta_of, no_stats, path_in}
-use Rattle.bolt_cli.proofs.Vocabulary.{props, refused, start_of, the_entries, ∥∥₁_elim, ∥∥₁_map}
+use Rattle.bolt_cli.proofs.Vocabulary.{props, refused, the_entries, ∥∥₁_elim, ∥∥₁_map}
 use Rattle.bolt_report.specs.StatsOf.{IsStatsOf}
 use Rattle.bolt_cli.proofs.AtPaths.{at_path, no_parts}
 use Rattle.bolt_cli.specs.declared.failure.Failure.TheVariants as failure
 
 -- ---- one entry
-
-adds_bucket : (file : List ℕ) (meta : Meta) (e : LeafElement) (own before : Stats) → IsTrue e.is_bucket → IsStatsOf file meta (start_of e.value) own → AddsEntry file meta e before (add_stats before own)
-adds_bucket file meta e own before is_bucket are = rw is_bucket (own, are, refl)
-
-pub adds_nothing : (file : List ℕ) (meta : Meta) (e : LeafElement) (before : Stats) → e.is_bucket ≡ false → AddsEntry file meta e before before
-adds_nothing file meta e before is_value = rw is_value refl
 
 module _ (bucket : Bucket) where
   abbrev file_in : List ℕ
@@ -32,21 +26,15 @@ module _ (bucket : Bucket) where
       → Entry (bucket_start bucket) e → e.key ≡ key → ∥ AddsEntry file_in meta_in e before sum ∥₁
   adds_found inner key own before sum e same found stats is entry named =
       let (entries, known) = the_entries bucket in
-      let its_stats = subst (λ (c : Checked). ∥ IsStatsOf (bytes_of c) (meta_of c) (bucket_start inner) own ∥₁) same stats in
-      ∥∥₁_elim known (hlevel props) (λ are. ∥∥₁_elim found (hlevel props) (λ (x, there, key_is, is_bucket, start, sequence). ∥∥₁_map its_stats (λ own_are.
+      ∥∥₁_elim known (hlevel props) (λ are. ∥∥₁_elim found (hlevel props) (λ (x, there, key_is, is_bucket, start, sequence). ∥∥₁_map (rw same at stats) (λ own_are.
       let one = entry_once Entry (bucket_start bucket) entries are x e there entry (key_is ∙ sym named) in
-      let at = subst (λ (s : Start). IsStatsOf file_in meta_in s own) start own_are in
-      subst (AddsEntry file_in meta_in e before) (sym is)
-      (subst (λ (y : LeafElement). AddsEntry file_in meta_in y before (add_stats before own)) one (adds_bucket file_in meta_in x own before is_bucket at)))))
+      rw is (subst (λ (y : LeafElement). AddsEntry file_in meta_in y before (add_stats before own)) one (rw is_bucket (own, rw start at own_are, refl))))))
 
 -- what is left makes the whole, so it does with the next entry
 pub total_more : (file : List ℕ) (meta : Meta) (old new : List LeafElement) (e : LeafElement) (before after total : Stats) → old ≡ e ∷ new → ∥ AddsEntry file meta e before after ∥₁
     → ∥ IsTotal file meta new after total ∥₁ → ∥ IsTotal file meta old before total ∥₁
 total_more file meta old new e before after total is adds later =
     rw is (∥∥₁_elim adds (hlevel props) (λ one. ∥∥₁_map later (λ rest. (after, one, rest))))
-
-pub total_end : (file : List ℕ) (meta : Meta) (left : List LeafElement) (total : Stats) → left ≡ [] → ∥ IsTotal file meta left total total ∥₁
-total_end file meta left total none = subst (λ (entries : List LeafElement). ∥ IsTotal file meta entries total total ∥₁) (sym none) ∣ refl ∣₁
 
 -- ---- the bucket at a path
 
@@ -58,9 +46,9 @@ pub root_stats : {Z : Type 0} (path : List (Vec ℕ Z)) (checked : Checked) (roo
 root_stats path checked root total empty trees is begins promised =
     let Sum : List LeafElement → Type 0 = λ entries. ∥ IsTotal (bytes_of (bucket_checked root)) (meta_of (bucket_checked root)) entries no_stats total ∥₁ in
     let (start, entries, names, are, known) = at_path checked [] root Sum trees is ∣ sym begins ∣₁ promised in
-    let here = subst (λ (s : Start). AreEntries (entries_of checked) s entries) (sym names) are in
     let sum = subst (λ (c : Checked). ∥ IsTotal (bytes_of c) (meta_of c) entries no_stats total ∥₁) is known in
-    subst (λ (p : Path). HasStats (bytes_of checked) p (meta_of checked) total) (sym (no_parts path empty)) (entries, ∥∥₁_map sum (λ all. (here, all)))
+    let here = subst (λ (s : Start). AreEntries (entries_of checked) s entries) (sym names) are in
+    rw (no_parts path empty) (entries, ∥∥₁_map sum (λ all. (here, all)))
 
 -- and those of another bucket
 pub bucket_stats : {Z : Type 0} (path : List (Vec ℕ Z)) (checked : Checked) (bucket : Bucket) (own : Stats) → (length path ≡ 0 → ⊥)
@@ -68,8 +56,7 @@ pub bucket_stats : {Z : Type 0} (path : List (Vec ℕ Z)) (checked : Checked) (b
     → ∥ IsStatsOf (bytes_of (bucket_checked bucket)) (meta_of (bucket_checked bucket)) (bucket_start bucket) own ∥₁ → HasStats (bytes_of checked) (path_in path) (meta_of checked) own
 bucket_stats [] checked bucket own some is named stats = absurd (some refl)
 bucket_stats (part ∷ path) checked bucket own some is named stats =
-    let its_stats = subst (λ (c : Checked). ∥ IsStatsOf (bytes_of c) (meta_of c) (bucket_start bucket) own ∥₁) is stats in
-    (bucket_start bucket, ∥∥₁_elim named (hlevel props) (λ led. ∥∥₁_map its_stats (λ are. (led, are))))
+    (bucket_start bucket, ∥∥₁_elim named (hlevel props) (λ led. ∥∥₁_map (rw is at stats) (λ are. (led, are))))
 
 -- why there are none
 pub stats_missing : (checked : Checked) (path : Path) (form : FigureForm) (reason : Failure)

@@ -1,6 +1,6 @@
 -- The copy is whole and then reported, or it isn't whole, or there is no joined listing.
-use Rattle.std.proofs.Common.{◌∙◌, ℕ, List, inl, inr, length, map, refl, subst₂, sym}
-use Rattle.bolt_cli.proofs.Vocabulary.{IsJoined, Meta, all_lost, asked_layout, copy_report, found_view, hash_differs, is_snapshot, unjoined}
+use Rattle.std.proofs.Common.{◌∙◌, inl, inr, length, map, refl}
+use Rattle.bolt_cli.proofs.Vocabulary.{all_lost, asked_layout, copy_report, found_view, hash_differs, is_snapshot, unjoined}
 use Rattle.bolt_recover.specs.declared.joined.JoinFault.TheVariants as join
 use Rattle.bolt_cli.specs.declared.failure.Failure.TheVariants as failure
 use Rattle.bolt_cli.proofs.CopyAnswers.{copy_reported, copy_stopped}
@@ -53,10 +53,9 @@ returns g c =
     let found = c.in_ok-both.both.found.items in
     let lost = all_lost c.in_ok-both.both in
     let (own, is) = c.each_file_has_a_joined_listing.ensures file meta in
-    let there = subst₂ (λ (f : List ℕ) (m : Meta). IsJoined f m own) (sym (j.file ∙ both.file)) (sym (j.meta ∙ both.meta)) is in
     let does = rw (c.hash_differs.ensures, c.lost.ensures, c.as_slice.ensures.value) at c.put_report.ensures in
     let saved = salvaged c.in_ok-both.both file meta own is both.file both.meta both.lost both.found both.views j.apart j.some in
     let copy = copy_reported g.T.Sink.taken g.T.Sink.failed c.args.target.now c.copy_asked.new.target g.O.Sink.taken g.O.Sink.failed c.args.out.now (is_snapshot job.kind) (asked_layout job meta own)
     own (copy_report (hash_differs (is_snapshot job.kind) file) lost (map found_view found) (length file)) c.in_ok-copy.copy c.put_report.new.out _
-    (c.in_ok-copy.ensures.copied own there) (c.in_ok-copy.ensures.good own there) does in
+    (c.in_ok-copy.ensures.copied own (rw (j.file ∙ both.file, j.meta ∙ both.meta) is)) (c.in_ok-copy.ensures.good own (rw (j.file ∙ both.file, j.meta ∙ both.meta) is)) does in
     inl (meta, own, lost, map found_view found, c.in_ok-meta.ensures.found, saved, copy)

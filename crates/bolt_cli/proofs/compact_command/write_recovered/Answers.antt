@@ -1,6 +1,6 @@
 -- The copy is whole and then reported, or it isn't whole, or nothing is recovered.
-use Rattle.std.proofs.Common.{◌≡◌, ◌∙◌, ℕ, List, [], inl, inr, length, map, refl, subst, sym}
-use Rattle.bolt_cli.proofs.Vocabulary.{IsRecovered, asked_layout, copy_report, has_losses, has_recovered, hash_differs, is_snapshot, loss_view, parts, recovery_meta}
+use Rattle.std.proofs.Common.{◌≡◌, ◌∙◌, [], inl, inr, length, map, refl}
+use Rattle.bolt_cli.proofs.Vocabulary.{asked_layout, copy_report, has_losses, has_recovered, hash_differs, is_snapshot, loss_view, parts, recovery_meta}
 use Rattle.bolt_cli.proofs.CopyAnswers.{copy_reported, copy_stopped}
 use Rattle.bolt_cli.proofs.ReadFiles.{failure_named, unrecoverable_finding}
 use Rattle.bolt_cli.proofs.compact_command.write_recovered.Goals as goal
@@ -29,9 +29,8 @@ returns g c =
     let file = c.args.file.now in
     let (own, is) = has_recovered file meta in
     let (lost, are) = has_losses file meta in
-    let there = subst (λ (f : List ℕ). IsRecovered f meta own) (sym c.in_ok-recovery.ensures.file) is in
-    let whole = rw c.meta-meta.ensures at (c.in_ok-copy.ensures.copied own there) in
-    let good = rw c.meta-meta.ensures at (c.in_ok-copy.ensures.good own there) in
+    let whole = rw c.meta-meta.ensures at (c.in_ok-copy.ensures.copied own (rw c.in_ok-recovery.ensures.file is)) in
+    let good = rw c.meta-meta.ensures at (c.in_ok-copy.ensures.good own (rw c.in_ok-recovery.ensures.file is)) in
     let all : map loss_view c.losses.result.now ≡ lost = c.losses.ensures.losses ∙ c.in_ok-copy.ensures.end lost (rw c.in_ok-recovery.ensures.file are) in
     let does = rw (c.hash_differs.ensures, all) at c.put_report.ensures in
     let copy = copy_reported g.T.Sink.taken g.T.Sink.failed c.args.target.now c.copy_asked.new.target g.O.Sink.taken g.O.Sink.failed c.args.out.now (is_snapshot job.kind) (asked_layout job meta own)

@@ -1,7 +1,6 @@
 -- The copy is whole and then reported, or it isn't whole, or the file is refused.
 use Rattle.std.proofs.Common.{false, [], inl, inr, length, refl, subst, sym}
-use Rattle.bolt_cli.proofs.Vocabulary.{IsListing, IsPageSize, Meta, asked_layout, bytes_of, copy_report, has_listing, is_snapshot, meta_of, parts}
-use Rattle.bolt_tree.specs.Walks.{walk_checked}
+use Rattle.bolt_cli.proofs.Vocabulary.{IsPageSize, Meta, asked_layout, copy_report, has_listing, is_snapshot, meta_of, parts}
 use Rattle.bolt_cli.proofs.CopyAnswers.{copy_reported, copy_stopped}
 use Rattle.bolt_cli.proofs.ReadFiles.{failure_named, read_page_size, read_trees, unread_finding}
 use Rattle.bolt_cli.proofs.compact_command.write_sound.Goals as goal
@@ -37,9 +36,8 @@ returns g c =
     let meta = meta_of c.in_ok-checked.checked in
     let job = c.args.job.now in
     let (own, is) = has_listing c.args.file.now meta (read_trees c.args.file.now job.meta meta c.in_ok-checked.ensures.sound) in
-    let there : IsListing (bytes_of (walk_checked c.new-walk.result)) (meta_of (walk_checked c.new-walk.result)) own = rw (c.new-walk.ensures.checked, c.in_ok-checked.ensures.bytes) is in
-    let whole = rw c.meta-meta.ensures at (c.in_ok-copy.ensures.copied own there) in
-    let good = rw c.meta-meta.ensures at (c.in_ok-copy.ensures.good own there) in
+    let whole = rw c.meta-meta.ensures at (c.in_ok-copy.ensures.copied own (rw (c.new-walk.ensures.checked, c.in_ok-checked.ensures.bytes) is)) in
+    let good = rw c.meta-meta.ensures at (c.in_ok-copy.ensures.good own (rw (c.new-walk.ensures.checked, c.in_ok-checked.ensures.bytes) is)) in
     let copy = copy_reported g.T.Sink.taken g.T.Sink.failed c.args.target.now c.copy_asked.new.target g.O.Sink.taken g.O.Sink.failed c.args.out.now (is_snapshot job.kind) (asked_layout job meta own)
     own (copy_report false (parts []) [] (length c.args.file.now)) c.in_ok-copy.copy c.put_report.new.out _ whole good c.put_report.ensures in
     inl (meta, own, c.in_ok-checked.ensures.sound, rw (sym c.hash_differs.ensures) c.if-hash_differs.false, is, inl copy)

@@ -1,11 +1,13 @@
 -- Nothing is lost, or something is; or memory ran out.
-use Rattle.std.proofs.Common.{◌∙◌, ap, map, sym}
+use Rattle.std.proofs.Common.{◌∙◌, ap, inr, map, refl, sym}
 use Rattle.bolt_cli.proofs.Vocabulary.{all_lost, found_view, is_nothing, lost_and_found}
-use Rattle.bolt_cli.proofs.FoundAnswers.{are_leaves, are_pages, found_none_lost, found_some_lost, none_left}
+use Rattle.bolt_cli.proofs.FoundAnswers.{are_leaves, are_pages, found_none_lost, found_some_lost}
+use Rattle.bolt_cli.specs.declared.failure.Failure.TheVariants as failure
+use Rattle.bolt_cli.proofs.Doing.{answer_nothing}
 use Rattle.bolt_cli.proofs.lost_and_found.print_under.Goals as goal
 
 pub returns-in_err-both : goal.returns-in_err-both
-returns-in_err-both g c = none_left g.O.Sink.taken g.O.Sink.failed c.args.out.now c.args.file.now c.args.meta c.args.faults c.args.choice _ c.from_residual.ensures.1
+returns-in_err-both g c = answer_nothing g.O.Sink.taken g.O.Sink.failed c.args.out.now failure.Memory _ (inr (inr refl)) c.from_residual.ensures.1
 
 pub returns-then-is_nothing : goal.returns-then-is_nothing
 returns-then-is_nothing g c =

@@ -1,9 +1,9 @@
-use Rattle.std.proofs.Common.{◌≡◌, ◌∙◌, Some, ap, rules, sym}
+use Rattle.std.proofs.Common.{◌≡◌, ◌∙◌, Some, ap, refl, rules, sym}
 use Rattle.bolt_cli.proofs.Vocabulary.{EntryView, bucket_checked, bucket_start, bytes_of, cursor_checked, cursor_place, cursor_start, entries_left, fewer_left, meta_of}
 use Rattle.bolt_cli.proofs.Vocabulary.{next_shows, no_stats}
 use Rattle.bolt_tree.specs.ShownEntries.{shown_entry}
 use Rattle.bolt_report.proofs.SizeLemmas.{first_left}
-use Rattle.bolt_cli.proofs.StatsAnswers.{total_end, total_more}
+use Rattle.bolt_cli.proofs.StatsAnswers.{total_more}
 use Rattle.bolt_cli.proofs.stats_command.sum_buckets.Goals as goal
 
 pub rest-init : goal.rest-init
@@ -39,4 +39,4 @@ returns c = λ entries are.
     let bucket = c.args.bucket.now in
     let none = next_shows (cursor_checked c.rest.cursor) (bucket_checked bucket) (cursor_start c.rest.cursor) (bucket_start bucket)
     (cursor_place c.rest.cursor) (cursor_place c.next.new.self) _ c.rest.invariant.checked c.rest.invariant.start c.in_default.ensures.moves entries are in
-    c.rest.invariant.sum entries are c.rest.total (total_end (bytes_of (bucket_checked bucket)) (meta_of (bucket_checked bucket)) (entries_left entries (cursor_place c.rest.cursor)) c.rest.total none)
+    c.rest.invariant.sum entries are c.rest.total (rw none (∣ refl ∣₁))
