@@ -1,8 +1,8 @@
 -- The answer of `check --lost-and-found`.
 use Rattle.std.proofs.Common.{◌≡◌, ◌≢◌, ◌∙◌, ℕ, Bool, true, false, List, [], ◌∷◌, Option, ap, ap₂, inl, inr, map, refl, subst, subst₂, sym}
-use Rattle.bolt_cli.proofs.Vocabulary.{All, Answer, AnswersFound, AreFoundPages, FileFaults, Finding, ForRecovered, Found, FoundView, IsFoundAnswer, IsFoundLeaf}
-use Rattle.bolt_cli.proofs.Vocabulary.{IsFoundPagesAnswer, IsJoined, IsSalvaged, LacksBucketKey, LossView, LostAndFound, LostView, Member, Meta, MetaChoice, all_lost, everything, false≢true}
-use Rattle.bolt_cli.proofs.Vocabulary.{found_page, found_view, has_losses, is_nothing, leaf_entry, leaves_of, lost_and_found, parts}
+use Rattle.bolt_cli.proofs.Vocabulary.{All, Answer, AnswersFound, AreFoundPages, FileFaults, Finding, ForRecovered, Found, FoundView, IsFoundAnswer, IsFoundLeaf, IsFoundPagesAnswer}
+use Rattle.bolt_cli.proofs.Vocabulary.{IsJoined, IsSalvaged, LacksBucketKey, LossView, LostAndFound, LostView, Member, Meta, MetaChoice, all_lost, everything, false≢true, found_page}
+use Rattle.bolt_cli.proofs.Vocabulary.{found_view, has_losses, is_nothing, leaf_entry, leaves_of, lost_and_found, parts}
 use Rattle.std.proofs.lemmas.List.Elements.{All-head, All-tail}
 use Rattle.bolt_check.specs.ShownNodes.{entries_of, shown_node}
 use Rattle.bolt_check.specs.TreeKinds.{tree_kind}
@@ -51,9 +51,8 @@ module _ (file : List ℕ) (meta : Meta) where
         inl (keeps, own, found, are, pages, subst (λ (ls : List LossView). AnswersFound faults file choice ls found answer) (all own are) answers)
 
     pub found_none_lost : (lost : LostView) → IsAllLost file meta lost → is_nothing lost ≡ true → (answer : Answer) → IsFoundAnswer faults file choice answer → IsFoundPagesAnswer faults file choice meta answer
-    found_none_lost (everything x) is none answer answers = absurd (false≢true none)
     found_none_lost (parts []) is none answer answers = reported [] is answer answers
-    found_none_lost (parts (loss ∷ losses)) is none answer answers = absurd (false≢true none)
+    found_none_lost lost is none answer answers = absurd (false≢true none)
 
     pub found_some_lost : (lost : LostView) → IsAllLost file meta lost → is_nothing lost ≡ false → IsFoundPagesAnswer faults file choice meta (lost_and_found faults lost found)
     found_some_lost (everything x) loses some = inr (inl (x, found, loses, pages, refl))

@@ -5,15 +5,15 @@ pub use Rattle.bolt_check.specs.CheckedFiles.{bytes_of, meta_of}
 pub use Rattle.bolt_check.specs.Findings.{IsClaimedBefore, IsMetaPage, finding}
 pub use Rattle.bolt_check.specs.Keys.{Key}
 pub use Rattle.bolt_check.specs.Nodes.{leaf_entry, node_at}
-pub use Rattle.bolt_check.specs.Sound.{HasRightAccounts, HasSoundTrees, IsFirstFinding, IsSound}
+pub use Rattle.bolt_check.specs.Sound.{HasSoundTrees, IsFirstFinding, IsSound}
 pub use Rattle.bolt_check.specs.declared.checked_file.Checked.{Checked}
 pub use Rattle.bolt_check.specs.declared.fault.CheckFault.{CheckFault}
 pub use Rattle.bolt_check.specs.declared.finding.Finding.{Finding}
-pub use Rattle.bolt_cli.specs.Answers.{AddsBy, AddsEntry, Answer, AnswersFound, AnswersLosses, AreFoundPages, CopiesInPart, CopiesWhole, Does, DoesJob, Ending, HasStats, HoldsIn, HoldsNone}
+pub use Rattle.bolt_cli.specs.Answers.{AddsEntry, Answer, AnswersFound, AnswersLosses, AreFoundPages, CopiesInPart, CopiesWhole, Does, DoesJob, Ending, HasStats, HoldsIn, HoldsNone}
 pub use Rattle.bolt_cli.specs.Answers.{IsCheckAnswer, IsCheckAnswerAfter, IsEndedOrCut, IsEntriesAnswer, IsFileRefusal, IsFoundAnswer, IsFoundPagesAnswer, IsGetAnswer, IsInfoAnswer}
-pub use Rattle.bolt_cli.specs.Answers.{IsJoinedList, IsListAnswer, IsListedAnswer, IsLossesAnswer, IsPagesAnswer, IsReadAnswer, IsReadUnder, IsRecoveredAnswer, IsRecoveredList}
-pub use Rattle.bolt_cli.specs.Answers.{IsRecoveredUnder, IsRefusedUnder, IsSalvaged, IsSizesAnswer, IsStatsAnswer, IsTotal, IsUnrecoverableUnder, LeadsTo, Loads, LoadsListing, MakesCopy}
-pub use Rattle.bolt_cli.specs.Answers.{StopsShort, WritesCopy, all_lost_ending, all_refusal, check_refusal, copy_page_size, copy_report, done, error_text, found, found_page, lengths_line}
+pub use Rattle.bolt_cli.specs.Answers.{IsJoinedList, IsListAnswer, IsListedAnswer, IsLossesAnswer, IsReadAnswer, IsReadUnder, IsRecoveredAnswer, IsRecoveredList, IsRecoveredUnder}
+pub use Rattle.bolt_cli.specs.Answers.{IsRefusedUnder, IsSalvaged, IsSizesAnswer, IsStatsAnswer, IsTotal, IsUnrecoverableUnder, LeadsTo, Loads, LoadsListing, MakesCopy, StopsShort}
+pub use Rattle.bolt_cli.specs.Answers.{WritesCopy, all_lost_ending, all_refusal, check_refusal, copy_page_size, copy_report, done, error_text, found, found_page, lengths_line}
 pub use Rattle.bolt_cli.specs.Answers.{lost_and_found, lost_ending, no_stats, none_found, page_answer, pages_shown, parents_of, part_ending, part_text, refused, status_of, value_shown}
 pub use Rattle.bolt_cli.specs.CommandLine.{Asks, Gives, HasKindOf, IsCommand, IsRefusedBy, asked_by, asked_by_subcommand, bare_program, command_of, command_with, operand_rule, option_rule}
 pub use Rattle.bolt_cli.specs.CommandLine.{program, program_of, values_in}
@@ -22,14 +22,14 @@ pub use Rattle.bolt_cli.specs.CopyKinds.{is_snapshot, layout_for}
 pub use Rattle.bolt_cli.specs.Deeds.{Adds, Closed, Deed, Ended, Made, Opened, Read, Said}
 pub use Rattle.bolt_cli.specs.Failures.{HasFinding, IsFailureOf, copied, failure_line, reported, unjoined, unloaded}
 pub use Rattle.bolt_cli.specs.FileFaults.{IsMetasFault, IsOtherFault, errors_in, other_lines}
-pub use Rattle.bolt_cli.specs.GoodCopies.{AcceptsListing, HasGoodCopies, IsGoodCopy, RefusesFile}
+pub use Rattle.bolt_cli.specs.GoodCopies.{HasGoodCopies, IsGoodCopy, RefusesFile}
 pub use Rattle.bolt_cli.specs.Hashes.{HashesSince}
 pub use Rattle.bolt_cli.specs.LineWords.{Syntax, Text}
 pub use Rattle.bolt_cli.specs.MetaChoices.{IsMetaOf, assumed_for}
 pub use Rattle.bolt_cli.specs.PathWords.{each_part, hex_bytes, hex_path_of, mixed_bytes, or_bad_hex, part_of, parts_by, result_and_then}
 pub use Rattle.bolt_cli.specs.PlainWords.{Asked, asked, asked_of, assumed_of, assumed_when, first_of, is_page_size, page_size_of, path_by, path_in, syntaxes, target_name}
-pub use Rattle.bolt_cli.specs.Runs.{Choose, Closes, Copies, Ends, Fails, Goes, IsHeldLine, IsReported, IsRun, Prints, PrintsHeld, Reads, Refuses, error_line, held_failures}
-pub use Rattle.bolt_cli.specs.Runs.{held_of, held_text, is_again}
+pub use Rattle.bolt_cli.specs.Runs.{Choose, Closes, Copies, Ends, Fails, Goes, IsHeldLine, IsReported, IsRun, Prints, PrintsHeld, Reads, Refuses, error_line, held_failures, held_of}
+pub use Rattle.bolt_cli.specs.Runs.{held_text, is_again}
 pub use Rattle.bolt_cli.specs.SnapshotAnswers.{copy_of, hash_differs, hash_found}
 pub use Rattle.bolt_cli.specs.Syntaxes.{choice_view, operand_view, syntax_view}
 pub use Rattle.bolt_cli.specs.declared.extent.Extent.{Extent}
@@ -41,7 +41,7 @@ pub use Rattle.bolt_cli.specs.declared.meta_choice.MetaChoice.{MetaChoice}
 pub use Rattle.bolt_cli.specs.declared.meta_choice.MetaChoice.TheVariants.{Active, Assumed, InSlot}
 pub use Rattle.bolt_cli.specs.declared.page_size.PageSize.{PageSize}
 pub use Rattle.bolt_cli.specs.declared.refusal.Refusal.{Refusal}
-pub use Rattle.bolt_cli.specs.declared.refusal.Refusal.TheVariants.{Help, Usage, Version, Word}
+pub use Rattle.bolt_cli.specs.declared.refusal.Refusal.TheVariants.{Help, Memory, Usage, Version, Word}
 pub use Rattle.bolt_format.proofs.SinkLemmas.{AppendsProperPrefix-first, AppendsProperPrefix-second}
 pub use Rattle.bolt_format.proofs.WroteLemmas.{Wrote-ends, Wrote-return, Wrote-same, Wrote-stop, Wrote-then, broken_by}
 pub use Rattle.bolt_format.specs.Elements.{LeafElement, head_sequence}
@@ -64,7 +64,7 @@ pub use Rattle.bolt_recover.specs.Joined.{IsJoined, LacksBucketKey}
 pub use Rattle.bolt_recover.specs.JoinedMembers.{ForJoined, joined_file, joined_left, joined_meta}
 pub use Rattle.bolt_recover.specs.Losses.{AreLosses, LossView, LostView, everything, is_nothing, loss_at, losses_of, parts}
 pub use Rattle.bolt_recover.specs.LostAndFound.{all_lost}
-pub use Rattle.bolt_recover.specs.Places.{leaves_of, place_at}
+pub use Rattle.bolt_recover.specs.Places.{Place, leaves_of, place_at}
 pub use Rattle.bolt_recover.specs.Recovered.{ForRecovered, IsRecovered}
 pub use Rattle.bolt_recover.specs.Recoveries.{ForLosses, recovery_file, recovery_left, recovery_losses, recovery_meta, recovery_work}
 pub use Rattle.bolt_recover.specs.ShownLosses.{loss_view, lost_view}

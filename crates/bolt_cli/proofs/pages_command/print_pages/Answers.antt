@@ -1,6 +1,5 @@
 use Rattle.std.proofs.Common.{inl, refl}
-use Rattle.bolt_cli.proofs.Vocabulary.{Active, done, meta_of}
-use Rattle.bolt_cli.specs.Answers.{pages_shown}
+use Rattle.bolt_cli.proofs.Vocabulary.{Active, done, meta_of, pages_shown}
 use Rattle.bolt_check.proofs.RoleFacts.{some_roles}
 use Rattle.bolt_check.specs.RoledFiles.{roles_checked}
 use Rattle.bolt_cli.proofs.Doing.{Does-part, Does-refused, Does-whole}
