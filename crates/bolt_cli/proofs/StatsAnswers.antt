@@ -7,28 +7,16 @@ use Rattle.bolt_report.specs.StatsOf.{IsStatsOf}
 use Rattle.bolt_cli.proofs.AtPaths.{at_path, no_parts}
 use Rattle.bolt_cli.specs.declared.failure.Failure.TheVariants as failure
 
--- ---- one entry
-
-module _ (bucket : Bucket) where
-  abbrev file_in : List ℕ
-  file_in = bytes_of (bucket_checked bucket)
-
-  abbrev meta_in : Meta
-  meta_in = meta_of (bucket_checked bucket)
-
-  abbrev Entry : Start → LeafElement → Type 0
-  Entry = entries_of (bucket_checked bucket)
-
-  -- the figures of the bucket under a key are those of the entry with that key
-  pub adds_found : (inner : Bucket) (key : Key) (own before sum : Stats) (e : LeafElement) → bucket_checked inner ≡ bucket_checked bucket
-      → IsBucketAt Entry (bucket_start bucket) key (Some inner)
-      → ∥ IsStatsOf (bytes_of (bucket_checked inner)) (meta_of (bucket_checked inner)) (bucket_start inner) own ∥₁ → sum ≡ add_stats before own
-      → Entry (bucket_start bucket) e → e.key ≡ key → ∥ AddsEntry file_in meta_in e before sum ∥₁
-  adds_found inner key own before sum e same found stats is entry named =
-      let (entries, known) = the_entries bucket in
-      ∥∥₁_elim known (hlevel props) (λ are. ∥∥₁_elim found (hlevel props) (λ (x, there, key_is, is_bucket, start, sequence). ∥∥₁_map (rw same at stats) (λ own_are.
-      let one = entry_once Entry (bucket_start bucket) entries are x e there entry (key_is ∙ sym named) in
-      rw is (subst (λ (y : LeafElement). AddsEntry file_in meta_in y before (add_stats before own)) one (rw is_bucket (own, rw start at own_are, refl))))))
+-- the figures of the bucket under a key are those of the entry with that key
+pub adds_found : (bucket inner : Bucket) (key : Key) (own before sum : Stats) (e : LeafElement) → bucket_checked inner ≡ bucket_checked bucket
+    → IsBucketAt (entries_of (bucket_checked bucket)) (bucket_start bucket) key (Some inner)
+    → ∥ IsStatsOf (bytes_of (bucket_checked inner)) (meta_of (bucket_checked inner)) (bucket_start inner) own ∥₁ → sum ≡ add_stats before own
+    → entries_of (bucket_checked bucket) (bucket_start bucket) e → e.key ≡ key → ∥ AddsEntry (bytes_of (bucket_checked bucket)) (meta_of (bucket_checked bucket)) e before sum ∥₁
+adds_found bucket inner key own before sum e same found stats is entry named =
+    let (entries, known) = the_entries bucket in
+    ∥∥₁_elim known (hlevel props) (λ are. ∥∥₁_elim found (hlevel props) (λ (x, there, key_is, is_bucket, start, sequence). ∥∥₁_map (rw same at stats) (λ own_are.
+    let one = entry_once (entries_of (bucket_checked bucket)) (bucket_start bucket) entries are x e there entry (key_is ∙ sym named) in
+    rw is (subst (λ (y : LeafElement). AddsEntry (bytes_of (bucket_checked bucket)) (meta_of (bucket_checked bucket)) y before (add_stats before own)) one (rw is_bucket (own, rw start at own_are, refl))))))
 
 -- what is left makes the whole, so it does with the next entry
 pub total_more : (file : List ℕ) (meta : Meta) (old new : List LeafElement) (e : LeafElement) (before after total : Stats) → old ≡ e ∷ new → ∥ AddsEntry file meta e before after ∥₁

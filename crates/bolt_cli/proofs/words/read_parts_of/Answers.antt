@@ -15,14 +15,12 @@ path_found rows shown how words by is found =
 
 pub returns-in-Some : goal.returns-in-Some
 returns-in-Some c =
-    let rows = rows_of (found_of c.args.matches.now) in
     let found = c.get_strs.ensures ∙ raw_values-rows (found_of c.args.matches.now) (codes "PART") in
     gives_same _ _ _ c.read_path.result
-    (path_found rows _ c.in_ok-parts.parts _ c.choice.ensures c.in_ok-parts.ensures found ∙ ap (λ ws. each_part (part_of c.in_ok-parts.parts) (unwrap_or (texts ws) [])) c.in-Some.is) c.read_path.ensures
+    (path_found (rows_of (found_of c.args.matches.now)) _ c.in_ok-parts.parts _ c.choice.ensures c.in_ok-parts.ensures found ∙ ap (λ ws. each_part (part_of c.in_ok-parts.parts) (unwrap_or (texts ws) [])) c.in-Some.is) c.read_path.ensures
 
 pub returns-in-None : goal.returns-in-None
 returns-in-None c =
-    let rows = rows_of (found_of c.args.matches.now) in
     let found = c.get_strs.ensures ∙ raw_values-rows (found_of c.args.matches.now) (codes "PART") in
-    path_found rows _ c.in_ok-parts.parts _ c.choice.ensures c.in_ok-parts.ensures found ∙ ap (λ ws. each_part (part_of c.in_ok-parts.parts) (unwrap_or (texts ws) [])) c.in-None.is
+    path_found (rows_of (found_of c.args.matches.now)) _ c.in_ok-parts.parts _ c.choice.ensures c.in_ok-parts.ensures found ∙ ap (λ ws. each_part (part_of c.in_ok-parts.parts) (unwrap_or (texts ws) [])) c.in-None.is
     ∙ sym (ap (λ items. Ok (path_in items)) c.new.ensures.items)
