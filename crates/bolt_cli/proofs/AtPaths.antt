@@ -31,19 +31,6 @@ module _ (checked : Checked) where
       ∥∥₁_elim known (hlevel props) (λ here. ∥∥₁_elim (checked_entries checked) (hlevel props) (λ all.
       names_no_further Entry (root_start checked) path bucket key rest all here none there names))
 
-  pub value_held : (path : Path) (key : Key) (bucket : Start) (value : List ℕ) → ∥ LeadsIn path bucket ∥₁ → IsValueAt Entry bucket key (Some value)
-      → ∥ HoldsAt (path ++ key ∷ []) (Value value) ∥₁
-  value_held path key bucket value known found =
-      ∥∥₁_elim known (hlevel props) (λ names. ∥∥₁_map found (λ (e, is, k, is_value, same).
-      held_up Entry (root_start checked) path bucket key [] (Value value) names (e, is, k, rw is_value (ap Value same))))
-
-  pub no_value_held : (path : Path) (key : Key) (bucket : Start) → ∥ LeadsIn path bucket ∥₁ → IsValueAt Entry bucket key None
-      → (value : List ℕ) → HoldsAt (path ++ key ∷ []) (Value value) → ⊥
-  no_value_held path key bucket known none value held =
-      ∥∥₁_elim known (hlevel props) (λ names. ∥∥₁_elim (checked_entries checked) (hlevel props) (λ all.
-      let (e, is, k, same) = held_down Entry (root_start checked) path bucket key [] (Value value) all names held in
-      let bad = rw (none e is k) at same in absurd (search (rules, bad))))
-
   -- ---- if trees are sound, what is only known to be can be named
 
   known_one : {X : Type 0} (P : X → Type 0) → ((x : X) × P x) ⊎ ((x : X) → P x → ⊥) → ((a b : X) → P a → P b → a ≡ b) → ((a b : X) → ∥ a ≡ b ∥₁ → a ≡ b)
@@ -120,11 +107,16 @@ module _ (checked : Checked) where
 
     pub value_at : (bucket : Bucket) (value : List ℕ) → bucket_checked bucket ≡ checked → ∥ LeadsIn checked (path_in parents) (bucket_start bucket) ∥₁
         → IsValueAt (entries_of (bucket_checked bucket)) (bucket_start bucket) key.items (Some value) → ∥ HoldsAt checked (path_in path) (Value value) ∥₁
-    value_at bucket value same known found = rw last_part (value_held checked (path_in parents) key.items (bucket_start bucket) value known (rw same at found))
+    value_at bucket value same known found =
+        ∥∥₁_elim known (hlevel props) (λ names. ∥∥₁_map (rw same at found) (λ (e, is, k, is_value, held).
+        rw last_part (held_up (entries_of checked) (root_start checked) (path_in parents) (bucket_start bucket) key.items [] (Value value) names (e, is, k, rw is_value (ap Value held)))))
 
     pub none_at : (bucket : Bucket) → bucket_checked bucket ≡ checked → ∥ LeadsIn checked (path_in parents) (bucket_start bucket) ∥₁
         → IsValueAt (entries_of (bucket_checked bucket)) (bucket_start bucket) key.items None → IsReason (path_in path) failure.NoKey
     none_at bucket same known none =
         let here = rw same at none in
-        let empty = λ (value : List ℕ) (held : HoldsAt checked (path_in path) (Value value)). no_value_held checked (path_in parents) key.items (bucket_start bucket) known here value (rw last_part at held) in
+        let empty : (value : List ℕ) → HoldsAt checked (path_in path) (Value value) → ⊥ = λ value held.
+        ∥∥₁_elim known (hlevel props) (λ names. ∥∥₁_elim (checked_entries checked) (hlevel props) (λ all.
+        let (e, is, k, item) = held_down (entries_of checked) (root_start checked) (path_in parents) (bucket_start bucket) key.items [] (Value value) all names (rw last_part at held) in
+        let bad = rw (here e is k) at item in absurd (search (rules, bad)))) in
         inl (refl, empty, (bucket_start bucket, rw parents_in known))

@@ -48,9 +48,6 @@ no_other_fault : (extent : Extent) (file : List ℕ) → HasBothMetas file → (
 no_other_fault First file both other is = is
 no_other_fault extent file both other is = no_other file both other is
 
-right_faults : (faults : FileFaults) → faults.hash ≡ None → faults.other ≡ None → faults ≡ no_faults
-right_faults faults hash other = rw (hash, other) refl
-
 wrong_hash : (faults : FileFaults) (fault : SnapshotFault) → faults.hash ≡ Some fault → none_found faults ≡ found faults []
 wrong_hash faults fault is = rw is refl
 
@@ -91,7 +88,9 @@ pub passes : Laws → (extent : Extent) (snapshot : Bool) (layout : List ℕ) (l
 passes laws extent snapshot layout listing answer good (faults, are, is) =
     let (slot, meta, chosen, sound, lists) = good.accepted in
     let file = copy_of snapshot layout in
-    fine laws faults file slot meta answer (right_faults faults (are.hash ∙ no_hash_fault snapshot file good.hash) (no_other_fault extent file good.metas faults.other are.metas)) chosen sound extent is
+    let hash = are.hash ∙ no_hash_fault snapshot file good.hash in
+    let other = no_other_fault extent file good.metas faults.other are.metas in
+    fine laws faults file slot meta answer (rw (hash, other) refl) chosen sound extent is
 
 -- ---- a file that `check` refuses, or whose hash is missing
 
