@@ -1,14 +1,11 @@
 -- What `check` answers to a good copy, and to its proper prefixes.
 use Rattle.std.proofs.Common.{◌≡◌, ◌≢◌, ◌∙◌, ◌⊎◌, ◌∷◌, ◌<◌, ℕ, List, [], Bool, true, false, IsTrue, Option, None, Some, Ok, ap, codes, inl, inr, length, refl, subst, sym, take}
-use Rattle.bolt_cli.proofs.Vocabulary.{Active, Answer, AnswersFound, AnswersLosses, AreLosses, CheckFault, Extent, FileFaults, First, HasBothMetas, HasSoundTrees, HashMissing, IsCheckAnswer}
-use Rattle.bolt_cli.proofs.Vocabulary.{IsCheckAnswerAfter, IsChosen, IsFoundAnswer, IsGoodCopy, IsMetaOf, IsMetasFault, IsOtherFault, IsSnapshot, IsSound, LossView, Losses, Member, Meta}
-use Rattle.bolt_cli.proofs.Vocabulary.{MetaFault, Place, RefusesFile, Slot, all_refusal, cases_lt, check_refusal, copy_of, done, found, hash_fault, hash_found, loss_at, losses_of}
-use Rattle.bolt_cli.proofs.Vocabulary.{none_found, place_at, refused}
+use Rattle.bolt_cli.proofs.Vocabulary.{Active, Answer, AnswersFound, AnswersLosses, AreLosses, CheckFault, Extent, FileFaults, First, HasBothMetas, HasSoundTrees, HashMissing, IsCheckAnswer, IsCheckAnswerAfter, IsChosen, IsFoundAnswer, IsGoodCopy, IsMetaOf, IsMetasFault, IsOtherFault, IsSnapshot, IsSound, LossView, Losses, Member, Meta, MetaFault, Place, RefusesFile, Slot, all_refusal, cases_lt, check_refusal, copy_of, done, found, hash_fault, hash_found, loss_at, losses_of, none_found, place_at, refused}
 use Rattle.bolt_check.specs.declared.fault.CheckFault.TheVariants as check
 use Rattle.bolt_snapshot.specs.declared.hash_check.SnapshotFault.{SnapshotFault}
 use Rattle.bolt_snapshot.proofs.SnapshotLemmas.{no_fault_iff}
 use Rattle.bolt_recover.specs.Surveys.{Has, IsSurvey, Visit}
-use Rattle.bolt_cli.specs.declared.extent.Extent.TheVariants.{LostAndFound}
+use Rattle.bolt_cli.specs.declared.choices.Extent.TheVariants.{LostAndFound}
 use Rattle.bolt_cli.specs.declared.failure.Failure.TheVariants as failure
 use Rattle.bolt_cli.proofs.SoundReads.{NamesOne, keeps_not_loses, unread, unrecovered}
 

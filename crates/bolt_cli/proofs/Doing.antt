@@ -1,7 +1,6 @@
 -- What jobs do with their text, and what is reported at the end of a run.
 use Rattle.std.proofs.Common.{◌⊎◌, ◌≡◌, ℕ, List, Option, Ok, Err, inl, inr, ap, refl}
-use Rattle.bolt_cli.proofs.Vocabulary.{Answer, Appends-nil, CheckFault, Does, Ending, Failure, Ghosts, HasFinding, IsErrAnd, IsFailureOf, IsFileRefusal, IsReadAnswer, IsRefusedUnder, Meta}
-use Rattle.bolt_cli.proofs.Vocabulary.{MetaChoice, Wrote, broken, refused, whole}
+use Rattle.bolt_cli.proofs.Vocabulary.{Answer, Appends-nil, CheckFault, Does, Ending, Failure, Ghosts, HasFinding, IsErrAnd, IsFailureOf, IsFileRefusal, IsReadAnswer, IsRefusedUnder, Meta, MetaChoice, Wrote, broken, refused, whole}
 use Rattle.bolt_cli.specs.declared.failure.Failure.TheVariants as failure
 use Rattle.bolt_cli.proofs.ReadFiles.{unread_finding}
 

@@ -1,7 +1,6 @@
 -- What is answered of the entries of the bucket at a path, or of their sizes.
 use Rattle.std.proofs.Common.{◌⊎◌, ◌≡◌, ℕ, IfErr, List, Ok, Option, Result, ap, inl, subst, sym}
-use Rattle.bolt_cli.proofs.Vocabulary.{Answer, Bucket, Checked, Does, Ending, Failure, ForEntries, Ghosts, HasSoundTrees, IsEntriesAnswer, IsErrAnd, IsReadAnswer, IsReadUnder, IsSizesAnswer}
-use Rattle.bolt_cli.proofs.Vocabulary.{Json, LeadsTo, LeafElement, Meta, MetaChoice, Path, ReportFault, Start, Wrote, bucket_checked, bucket_start, bytes_of, meta_of, refused, report_ending}
+use Rattle.bolt_cli.proofs.Vocabulary.{Answer, Bucket, Checked, Does, Ending, Failure, ForEntries, Ghosts, HasSoundTrees, IsEntriesAnswer, IsErrAnd, IsReadAnswer, IsReadUnder, IsSizesAnswer, Json, LeadsTo, LeafElement, Meta, MetaChoice, Path, ReportFault, Start, Wrote, bucket_checked, bucket_start, bytes_of, meta_of, refused, report_ending}
 use Rattle.bolt_report.specs.SizeLines.{AreSized, Sized, sizes_text}
 use Rattle.bolt_report.specs.declared.form.Form.{Form}
 use Rattle.bolt_report.specs.declared.fault.ReportFault.TheVariants as report

@@ -1,8 +1,6 @@
 -- The answer of `check --lost-and-found`.
 use Rattle.std.proofs.Common.{◌≡◌, ◌≢◌, ◌∙◌, ℕ, Bool, true, false, List, [], ◌∷◌, Option, ap, ap₂, inl, inr, map, refl, subst, subst₂, sym}
-use Rattle.bolt_cli.proofs.Vocabulary.{All, Answer, AnswersFound, AreFoundPages, FileFaults, Finding, ForRecovered, Found, FoundView, IsFoundAnswer, IsFoundLeaf, IsFoundPagesAnswer}
-use Rattle.bolt_cli.proofs.Vocabulary.{IsJoined, IsSalvaged, LacksBucketKey, LossView, LostAndFound, LostView, Member, Meta, MetaChoice, all_lost, everything, false≢true, found_page}
-use Rattle.bolt_cli.proofs.Vocabulary.{found_view, has_losses, is_nothing, leaf_entry, leaves_of, lost_and_found, parts}
+use Rattle.bolt_cli.proofs.Vocabulary.{All, Answer, AnswersFound, AreFoundPages, FileFaults, Finding, ForRecovered, Found, FoundView, IsFoundAnswer, IsFoundLeaf, IsFoundPagesAnswer, IsJoined, IsSalvaged, LacksBucketKey, LossView, LostAndFound, LostView, Member, Meta, MetaChoice, all_lost, everything, false≢true, found_page, found_view, has_losses, is_nothing, leaf_entry, leaves_of, lost_and_found, parts}
 use Rattle.std.proofs.lemmas.List.Elements.{All-head, All-tail}
 use Rattle.bolt_check.specs.ShownNodes.{entries_of, shown_node}
 use Rattle.bolt_check.specs.TreeKinds.{tree_kind}

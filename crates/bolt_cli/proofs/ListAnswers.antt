@@ -1,7 +1,6 @@
 -- The answer of `list`.
 use Rattle.std.proofs.Common.{◌≡◌, ◌⊎◌, ℕ, true, IfErr, List, Result, Ok, inl, subst, sym}
-use Rattle.bolt_cli.proofs.Vocabulary.{Answer, Checked, Does, Ending, ForListing, Ghosts, HasSoundTrees, IsListAnswer, IsListing, LeadsTo, ListForm, Member, Path, ReportFault, Start, Wrote}
-use Rattle.bolt_cli.proofs.Vocabulary.{bytes_of, has_bucket, has_listing, listing_lines, meta_of, part_below, part_ending, part_text, props, refused, report_ending, rest_from, ∥∥₁_elim}
+use Rattle.bolt_cli.proofs.Vocabulary.{Answer, Checked, Does, Ending, ForListing, Ghosts, HasSoundTrees, IsListAnswer, IsListing, LeadsTo, ListForm, Member, Path, ReportFault, Start, Wrote, bytes_of, has_bucket, has_listing, listing_lines, meta_of, part_below, part_ending, part_text, props, refused, report_ending, rest_from, ∥∥₁_elim}
 use Rattle.bolt_report.specs.declared.fault.ReportFault.TheVariants as report
 use Rattle.bolt_cli.specs.declared.failure.Failure.TheVariants as failure
 use Rattle.bolt_cli.proofs.CutTexts.{EndsAfter, ended_put}

@@ -1,8 +1,6 @@
 -- What `list` prints of a file is loaded as the listing of the file.
 use Rattle.std.proofs.Common.{◌≡◌, ◌∙◌, ℕ, Bool, List, [], ◌∷◌, Option, Ok, ap, false, inl, inr, refl, subst, sym}
-use Rattle.bolt_cli.proofs.Vocabulary.{Answer, Ending, First, HasSoundTrees, IsFirstFault, IsListAnswer, IsListedAnswer, IsListing, IsListingText, IsOfOneTree, IsReadUnder, Layout, Loads}
-use Rattle.bolt_cli.proofs.Vocabulary.{LoadsListing, Member, Meta, MetaChoice, Path, Rises, filter_all, listing_lines, member_cmp, not, part_below, part_text, path_cmp, rest_from}
-use Rattle.bolt_cli.proofs.Vocabulary.{text_members}
+use Rattle.bolt_cli.proofs.Vocabulary.{Answer, Ending, First, HasSoundTrees, IsFirstFault, IsListAnswer, IsListedAnswer, IsListing, IsListingText, IsOfOneTree, IsReadUnder, Layout, Loads, LoadsListing, Member, Meta, MetaChoice, Path, Rises, filter_all, listing_lines, member_cmp, not, part_below, part_text, path_cmp, rest_from, text_members}
 use Rattle.std.specs.Ordering.{is_lt}
 use Rattle.bolt_format.specs.Bytes.{IsBytes}
 use Rattle.bolt_load.specs.ByteMembers.{AreOfBytes}

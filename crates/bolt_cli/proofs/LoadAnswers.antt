@@ -1,7 +1,6 @@
 -- The answer of `load`.
 use Rattle.std.proofs.Common.{◌≡◌, ◌∙◌, ℕ, List, Option, Ok, Err, ap, inl, inr, length, refl, subst, sym}
-use Rattle.bolt_cli.proofs.Vocabulary.{Answer, BulkFault, Does, Ending, EndsCopy, HasGoodCopies, IsErrAnd, IsListingText, IsOfOneTree, Loads, Member, copied, done, is_snapshot, layout_for}
-use Rattle.bolt_cli.proofs.Vocabulary.{layout_of_listing, lengths_line, text_members, ∥∥₁_map}
+use Rattle.bolt_cli.proofs.Vocabulary.{Answer, BulkFault, Does, Ending, EndsCopy, HasGoodCopies, IsErrAnd, IsListingText, IsOfOneTree, Loads, Member, copied, done, is_snapshot, layout_for, layout_of_listing, lengths_line, text_members, ∥∥₁_map}
 use Rattle.bolt_bulk.specs.WholeListings.{IsWhole}
 use Rattle.bolt_load.specs.Lines.{Text}
 use Rattle.bolt_load.specs.ShownMembers.{members_left, members_text}

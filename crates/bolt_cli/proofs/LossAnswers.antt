@@ -1,7 +1,6 @@
 -- The answer of `check --all`.
 use Rattle.std.proofs.Common.{◌≡◌, ◌≢◌, ◌∙◌, ℕ, List, [], ◌∷◌, inl, map, refl, subst, sym}
-use Rattle.bolt_cli.proofs.Vocabulary.{Answer, AnswersLosses, AreLosses, FileFaults, ForLosses, IsFoundAnswer, IsLossesAnswer, LossView, Meta, MetaChoice, has_losses, loss_view}
-use Rattle.bolt_cli.proofs.Vocabulary.{lost_and_found, parts}
+use Rattle.bolt_cli.proofs.Vocabulary.{Answer, AnswersLosses, AreLosses, FileFaults, ForLosses, IsFoundAnswer, IsLossesAnswer, LossView, Meta, MetaChoice, has_losses, loss_view, lost_and_found, parts}
 use Rattle.bolt_recover.specs.declared.loss.Loss.{Loss}
 
 module _ (faults : FileFaults) (file : List ℕ) (choice : MetaChoice) (meta : Meta) where

@@ -1,7 +1,6 @@
 -- Each run does its deeds in order.
 use Rattle.std.proofs.Common.{◌≡◌, ◌≢◌, inl, inr, arith, ℕ, zero, suc, List, [], ◌∷◌, Bool, true, false, Option, Some, None, Ok, Err}
-use Rattle.bolt_cli.proofs.Vocabulary.{Choose, Closed, Closes, Copies, Deed, Ended, Ending, Ends, Fails, Goes, IsReported, IsRun, Job, Made, Opened, Prints, PrintsHeld, Read, Reads, Refusal}
-use Rattle.bolt_cli.proofs.Vocabulary.{Refuses, Said, Text, is_again, string_bytes, target_name}
+use Rattle.bolt_cli.proofs.Vocabulary.{Choose, Closed, Closes, Copies, Deed, Ended, Ending, Ends, Fails, Goes, IsReported, IsRun, Job, Made, Opened, Prints, PrintsHeld, Read, Reads, Refusal, Refuses, Said, Text, is_again, string_bytes, target_name}
 use Rattle.bolt_cli.specs.Orders.{Copied, Copying, Failing, IsInOrder, Printed, Printing, Reading}
 use Rattle.bolt_cli.specs.declared.refusal.Refusal.TheVariants as refusal
 use Rattle.bolt_cli.specs.declared.source.OutputFault.TheVariants.{ReaderLeft, Failed}

@@ -1,9 +1,8 @@
 -- The parts of a path are read one after another.
 use Rattle.std.proofs.Common.{◌≡◌, ◌∙◌, ◌==◌, Bool, List, [], ◌∷◌, ◌++◌, Result, Ok, Err, codes, length, refl, sym, ap, ap₂, inl, inr, append_assoc, map}
-use Rattle.bolt_cli.proofs.Vocabulary.{Bor, Gives, IsErrAnd, Key, None, Option, Path, Refusal, Some, Text, each_part, false, hex_path_of, if◌then◌else◌, list_any, option_and_then}
-use Rattle.bolt_cli.proofs.Vocabulary.{option_map, or_bad_hex, or_cases, or_parts, part_of, result_and_then, slice_split, true}
+use Rattle.bolt_cli.proofs.Vocabulary.{Bor, Gives, IsErrAnd, Key, None, Option, Path, Refusal, Some, Text, each_part, false, hex_path_of, if◌then◌else◌, list_any, option_and_then, option_map, or_bad_hex, or_cases, or_parts, part_of, result_and_then, slice_split, true}
 use Rattle.bolt_load.specs.HexPaths.{hex_bytes_in, hex_path_in, part_in, parts_in}
-use Rattle.bolt_cli.specs.declared.parts.Parts.TheVariants as parts
+use Rattle.bolt_cli.specs.declared.path_words.Parts.TheVariants as parts
 
 -- the words behind borrows
 abbrev pub texts : List (Bor Text) → List Text

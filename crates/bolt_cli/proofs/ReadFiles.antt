@@ -1,8 +1,6 @@
 -- What is known of a file that is read, under whatever meta.
 use Rattle.std.proofs.Common.{Option, Some, None, ◌≡◌, ◌<◌, arith, ℕ, List, Ok, Err, ap, inl, inr, refl, subst, sym}
-use Rattle.bolt_cli.proofs.Vocabulary.{Active, Answer, Assumed, CheckFault, Checked, Ending, Failure, HasFinding, HasSoundTrees, InSlot, IsErrAnd, IsFailureOf, IsInSlot, IsMeta, IsMetaOf}
-use Rattle.bolt_cli.proofs.Vocabulary.{IsPageSize, IsReadAnswer, IsReadUnder, IsRefusedUnder, IsUnrecoverableUnder, Meta, MetaChoice, One, PageSize, Slot, Zero, bytes_of, copy_page_size}
-use Rattle.bolt_cli.proofs.Vocabulary.{meta_of}
+use Rattle.bolt_cli.proofs.Vocabulary.{Active, Answer, Assumed, CheckFault, Checked, Ending, Failure, HasFinding, HasSoundTrees, InSlot, IsErrAnd, IsFailureOf, IsInSlot, IsMeta, IsMetaOf, IsPageSize, IsReadAnswer, IsReadUnder, IsRefusedUnder, IsUnrecoverableUnder, Meta, MetaChoice, One, PageSize, Slot, Zero, bytes_of, copy_page_size, meta_of}
 use Rattle.bolt_format.proofs.PageSizes.{size_bounds}
 use Rattle.bolt_check.specs.declared.fault.CheckFault.TheVariants as check
 

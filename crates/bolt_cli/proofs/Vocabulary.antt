@@ -32,14 +32,14 @@ pub use Rattle.bolt_cli.specs.Runs.{Choose, Closes, Copies, Ends, Fails, Goes, I
 pub use Rattle.bolt_cli.specs.Runs.{held_text, is_again}
 pub use Rattle.bolt_cli.specs.SnapshotAnswers.{copy_of, hash_differs, hash_found}
 pub use Rattle.bolt_cli.specs.Syntaxes.{choice_view, operand_view, syntax_view}
-pub use Rattle.bolt_cli.specs.declared.extent.Extent.{Extent}
-pub use Rattle.bolt_cli.specs.declared.extent.Extent.TheVariants.{First, Losses}
+pub use Rattle.bolt_cli.specs.declared.choices.Extent.{Extent}
+pub use Rattle.bolt_cli.specs.declared.choices.Extent.TheVariants.{First, Losses}
 pub use Rattle.bolt_cli.specs.declared.failure.Failure.{Failure}
 pub use Rattle.bolt_cli.specs.declared.file_faults.FileFaults.{FileFaults}
 pub use Rattle.bolt_cli.specs.declared.job.Job.{Job}
-pub use Rattle.bolt_cli.specs.declared.meta_choice.MetaChoice.{MetaChoice}
-pub use Rattle.bolt_cli.specs.declared.meta_choice.MetaChoice.TheVariants.{Active, Assumed, InSlot}
-pub use Rattle.bolt_cli.specs.declared.page_size.PageSize.{PageSize}
+pub use Rattle.bolt_cli.specs.declared.choices.MetaChoice.{MetaChoice}
+pub use Rattle.bolt_cli.specs.declared.choices.MetaChoice.TheVariants.{Active, Assumed, InSlot}
+pub use Rattle.bolt_cli.specs.declared.choices.PageSize.{PageSize}
 pub use Rattle.bolt_cli.specs.declared.refusal.Refusal.{Refusal}
 pub use Rattle.bolt_cli.specs.declared.refusal.Refusal.TheVariants.{Help, Memory, Usage, Version, Word}
 pub use Rattle.bolt_format.proofs.SinkLemmas.{AppendsProperPrefix-first, AppendsProperPrefix-second}

@@ -5,8 +5,7 @@ ghost use Rattle.bolt_cli.specs.Private.Printing.{IsBucketsPrint};
 
 use crate::failure::Failure;
 use crate::job::BucketsJob;
-use crate::open_bucket::open_bucket;
-use crate::open_read::open_read;
+use crate::opening::{open_bucket, open_read};
 use bolt_format::Sink;
 use bolt_report::{buckets, sizes};
 use std::alloc::Global;

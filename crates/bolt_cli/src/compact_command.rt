@@ -14,15 +14,13 @@ ghost use Rattle.bolt_cli.specs.CopyKinds.{is_snapshot, layout_for};
 ghost use Rattle.bolt_cli.specs.Private.Copying.{CompactsTo, IsGoodAsked, report_answer};
 ghost use Rattle.bolt_cli.specs.SnapshotAnswers.{differing_line, hash_differs};
 
+use crate::choices::Extent;
 use crate::copies::copy_all;
-use crate::copy_source::CopySource;
+use crate::copy_source::{CopySource, sources_have_good_copies};
 use crate::decimals::put_number_and;
-use crate::extent::Extent;
 use crate::failure::Failure;
-use crate::good_copies::sources_have_good_copies;
 use crate::job::CompactJob;
-use crate::open_read::open_read;
-use crate::open_recovery::open_recovery;
+use crate::opening::{open_read, open_recovery};
 use bolt_bulk::laws::{a_recovery_is_whole, a_walk_is_whole, joined_members_are_whole};
 use bolt_bulk::{BulkFault, Shape};
 use bolt_format::{Meta, Sink, SinkFault};

@@ -13,7 +13,9 @@ ghost use Rattle.bolt_recover.specs.Recoveries.{ForLosses, recovery_file, recove
 ghost use Rattle.bolt_tree.specs.Listing.{IsListing, Member};
 ghost use Rattle.bolt_tree.specs.Walks.{left_of, walk_checked};
 ghost use Rattle.bolt_cli.specs.Private.Copying.{shaped_layout};
+ghost use Rattle.bolt_cli.specs.GoodCopies.{HasGoodCopies};
 
+use crate::laws::whole_copies_are_good;
 use bolt_bulk::{BulkFault, Done, Shape, compact_members};
 use bolt_format::Sink;
 use bolt_load::LineMembers;
@@ -112,4 +114,14 @@ impl CopySource for LineMembers<'_> {
     ) -> Result<Done, BulkFault> {
         compact_members(alloc, self, shape, sink)
     }
+}
+
+/// The copies of a source are good. The range of a type is known of a
+/// value that the body reads: so it reads the sequence, and does nothing else.
+pub(crate) fn sources_have_good_copies<C: CopySource>(_source: &C, sequence: u64)
+    requires { IsWhole C.lists C.left _source.now }
+    ensures { (listing : List Member) → C.lists _source.now listing → ∥ HasGoodCopies listing sequence ∥₁ }
+{
+    let _ = sequence;
+    whole_copies_are_good();
 }

@@ -10,8 +10,7 @@ ghost use Rattle.bolt_cli.specs.Private.Printing.{IsGetPrint};
 
 use crate::failure::Failure;
 use crate::job::GetJob;
-use crate::open_bucket::open_bucket;
-use crate::open_read::open_read;
+use crate::opening::{open_bucket, open_read};
 use bolt_check::Checked;
 use bolt_format::Sink;
 use bolt_report::{Form, ReportFault, item, value};

@@ -4,8 +4,7 @@ ghost use Rattle.bolt_cli.specs.Private.Printing.{IsKeysPrint};
 
 use crate::failure::Failure;
 use crate::job::KeysJob;
-use crate::open_bucket::open_bucket;
-use crate::open_read::open_read;
+use crate::opening::{open_bucket, open_read};
 use bolt_format::Sink;
 use bolt_report::keys_with_prefix;
 use std::alloc::Global;

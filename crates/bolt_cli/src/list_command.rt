@@ -11,12 +11,10 @@ ghost use Rattle.bolt_cli.specs.Answers.{Answer, Does, all_lost_ending};
 ghost use Rattle.bolt_cli.specs.PlainWords.{path_in};
 ghost use Rattle.bolt_cli.specs.Private.Printing.{IsListPrint, finds, job_part, sound_part};
 
-use crate::extent::Extent;
+use crate::choices::Extent;
 use crate::failure::Failure;
 use crate::job::ListJob;
-use crate::open_bucket::open_bucket;
-use crate::open_read::open_read;
-use crate::open_recovery::open_recovery;
+use crate::opening::{open_bucket, open_read, open_recovery};
 use bolt_check::Checked;
 use bolt_format::Sink;
 use bolt_recover::laws::{

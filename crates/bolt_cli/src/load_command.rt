@@ -3,8 +3,8 @@ ghost use Rattle.bolt_cli.specs.Private.Copying.{LoadsJob};
 
 use crate::compact_command::put_lengths;
 use crate::copies::copy_all;
+use crate::copy_source::sources_have_good_copies;
 use crate::failure::Failure;
-use crate::good_copies::sources_have_good_copies;
 use crate::job::LoadJob;
 use bolt_bulk::Shape;
 use bolt_format::Sink;

@@ -5,16 +5,13 @@ ghost use Rattle.bolt_cli.specs.CommandLine.{Asks, Gives, HasKindOf, IsRefusedBy
 ghost use Rattle.bolt_cli.specs.PlainWords.{asked, asked_of, asks_buckets, asks_check, asks_compact, asks_get, asks_info, asks_keys, asks_list, asks_load, asks_page, asks_pages, asks_stats, assumed_of, extent_by, first_of, copy_kind_by, load_size_by, meta_by, meta_in, number_or, page_id, page_size_by, page_size_of, path_by, path_in, prefix_by, sequence_by, size_in, slot_by, slot_of, text_by};
 ghost use Rattle.bolt_cli.specs.Private.CommandLines.{IsAssumedBy};
 
+use crate::choices::{AssumedMeta, CopyKind, Extent, MetaChoice, PageSize};
 use crate::command_line;
-use crate::copy_kind::CopyKind;
-use crate::extent::Extent;
 use crate::form_words::{read_figure_form, read_form, read_list_form};
 use crate::job::{
     BucketsJob, CheckJob, CompactJob, GetJob, InfoJob, Job, KeysJob, ListJob, LoadJob, PageJob,
     PagesJob, StatsJob,
 };
-use crate::meta_choice::{AssumedMeta, MetaChoice};
-use crate::page_size::PageSize;
 use crate::path_words::{read_from, read_parts, read_path, read_prefix};
 use crate::refusal::Refusal;
 use bolt_format::Slot;

@@ -11,7 +11,7 @@ use Rattle.bolt_cli.specs.CopyEnds.{asked_layout}
 use Rattle.bolt_cli.specs.CopyKinds.{is_snapshot, layout_for}
 use Rattle.bolt_cli.specs.GoodCopies.{IsGoodCopy}
 use Rattle.bolt_cli.specs.declared.compact_command.CopyReport.{CopyReport}
-use Rattle.bolt_cli.specs.declared.extent.Extent.{Extent}
+use Rattle.bolt_cli.specs.declared.choices.Extent.{Extent}
 use Rattle.bolt_cli.specs.declared.job.CompactJob.{CompactJob}
 use Rattle.bolt_cli.specs.declared.job.LoadJob.{LoadJob}
 

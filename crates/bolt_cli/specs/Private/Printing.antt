@@ -10,7 +10,7 @@ use Rattle.bolt_tree.specs.Listing.{Member, rest_from}
 use Rattle.bolt_tree.specs.ListingParts.{has_bucket, part_below}
 use Rattle.bolt_cli.specs.Answers.{Answer, IsBucketsAnswer, IsEntriesAnswer, IsGetAnswer, IsListedAnswer, IsReadAnswer, pages_shown, part_text}
 use Rattle.bolt_cli.specs.PlainWords.{path_in}
-use Rattle.bolt_cli.specs.declared.extent.Extent.{Extent}
+use Rattle.bolt_cli.specs.declared.choices.Extent.{Extent}
 use Rattle.bolt_cli.specs.declared.job.BucketsJob.{BucketsJob}
 use Rattle.bolt_cli.specs.declared.job.GetJob.{GetJob}
 use Rattle.bolt_cli.specs.declared.job.KeysJob.{KeysJob}

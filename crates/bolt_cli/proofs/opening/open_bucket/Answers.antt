@@ -1,7 +1,7 @@
 use Rattle.std.proofs.Common.{◌∙◌, ◌+◌, drop, refl, take}
 use Rattle.bolt_cli.proofs.Vocabulary.{bucket_start, path_in}
 use Rattle.bolt_cli.proofs.AtPaths.{leads_further, leads_nowhere, parts_at, parts_more}
-use Rattle.bolt_cli.proofs.open_bucket.open_bucket.Goals as goal
+use Rattle.bolt_cli.proofs.opening.open_bucket.Goals as goal
 
 pub returns-in_default-clause-refused : goal.returns-in_default-clause-refused
 returns-in_default-clause-refused c =

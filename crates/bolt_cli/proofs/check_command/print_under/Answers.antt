@@ -4,7 +4,7 @@ use Rattle.bolt_cli.proofs.Vocabulary.{all_lost, found_view, is_nothing, lost_an
 use Rattle.bolt_cli.proofs.FoundAnswers.{are_leaves, are_pages, found_none_lost, found_some_lost}
 use Rattle.bolt_cli.specs.declared.failure.Failure.TheVariants as failure
 use Rattle.bolt_cli.proofs.Doing.{answer_nothing}
-use Rattle.bolt_cli.proofs.lost_and_found.print_under.Goals as goal
+use Rattle.bolt_cli.proofs.check_command.print_under.Goals as goal
 
 pub returns-in_err-both : goal.returns-in_err-both
 returns-in_err-both g c = answer_nothing g.O.Sink.taken g.O.Sink.failed c.args.out.now failure.Memory _ (inr (inr refl)) c.from_residual.ensures.1

@@ -2,7 +2,7 @@
 use Rattle.std.proofs.Common.{map}
 use Rattle.bolt_cli.proofs.Vocabulary.{Wrote-stop, Wrote-then, counted_lost_text, errors_in, found_view, lost_and_found, lost_view}
 use Rattle.bolt_cli.proofs.Doing.{Does-part, Does-whole}
-use Rattle.bolt_cli.proofs.lost_and_found.put_lost.Goals as goal
+use Rattle.bolt_cli.proofs.check_command.put_lost.Goals as goal
 
 pub returns-in_err-earlier : goal.returns-in_err-earlier
 returns-in_err-earlier g c =
