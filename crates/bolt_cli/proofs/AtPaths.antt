@@ -1,29 +1,8 @@
 -- What a path leads to in a sound file, and what it holds.
-use Rattle.std.proofs.Common.{◌≡◌, ◌∙◌, ◌++◌, ◌-◌, ◌+◌, List, [], ◌∷◌, ℕ, Some, None, Result, Ok, Err, IfErr, true, false, IsTrue, Vec, drop, get_or, inl, inr, length, take, refl, sym, ap, subst, rules, arith, ◌<◌}
-use Rattle.std.proofs.Math.Logic.{∥∥₁_elim, ∥∥₁_map}
-use Rattle.std.proofs.Math.Seq.{take-append_seam}
-use Rattle.std.proofs.Props.{props}
-use Rattle.std.proofs.lemmas.List.{drop_more, length-append, map-append, take-append-drop}
-use Rattle.std.specs.Result.{IsErrAnd}
-use Rattle.bolt_format.specs.Elements.{LeafElement}
-use Rattle.bolt_check.specs.CheckedFiles.{bytes_of, meta_of}
-use Rattle.bolt_check.specs.Keys.{Key}
-use Rattle.bolt_check.specs.Sound.{HasSoundTrees}
-use Rattle.bolt_check.specs.declared.checked_file.Checked.{Checked}
-use Rattle.bolt_tree.specs.Buckets.{bucket_checked, bucket_start}
-use Rattle.bolt_tree.specs.BucketViews.{entries_of}
-use Rattle.bolt_tree.specs.Entries.{AreEntries, Item, Start, Value, item_of, start_of}
-use Rattle.bolt_tree.specs.EntriesLeft.{ForEntries}
-use Rattle.bolt_tree.specs.FileListings.{root_start}
-use Rattle.bolt_tree.specs.Lookups.{IsBucketAt, IsValueAt}
-use Rattle.bolt_tree.specs.Paths.{Path}
-use Rattle.bolt_tree.specs.declared.bucket.Bucket.{Bucket}
+use Rattle.std.proofs.Common.{◌≡◌, ◌∙◌, ◌⊎◌, ◌++◌, ◌-◌, ◌+◌, List, [], ◌∷◌, ℕ, Some, None, Result, Ok, Err, IfErr, Vec, drop, get_or, inl, inr, length, take, refl, sym, ap, subst, rules, arith, ◌<◌}
+use Rattle.bolt_cli.proofs.Vocabulary.{AreEntries, Bucket, Checked, Failure, ForEntries, HasSoundTrees, HoldsIn, HoldsNone, IsBucketAt, IsErrAnd, IsValueAt, Item, Key, LeadsTo, LeafElement, Path, Start, Value, bucket_checked, bucket_start, bytes_of, drop_more, entries_of, held_down, held_up, length-append, map-append, meta_of, names_push, parents_of, path_in, props, root_start, start_of, take-append-drop, take-append_seam, ∥∥₁_elim, ∥∥₁_map}
 use Rattle.bolt_tree.proofs.AllEntries.{all_entries, checked_entries}
-use Rattle.bolt_tree.proofs.Named.{held_down, held_up, names_push}
-use Rattle.bolt_cli.specs.Answers.{HoldsIn, HoldsNone, LeadsTo, parents_of}
-use Rattle.bolt_cli.specs.declared.failure.Failure.{Failure}
 use Rattle.bolt_cli.specs.declared.failure.Failure.TheVariants as failure
-use Rattle.bolt_cli.specs.PlainWords.{path_in}
 use Rattle.bolt_cli.proofs.CommandLineLemmas.{made_more}
 use Rattle.bolt_tree.proofs.PathEntries.{held_once, held_or_none, item_known, named_once, named_or_none, names_no_further, start_known}
 
@@ -50,46 +29,22 @@ module _ (checked : Checked) where
       ∥∥₁_elim known (hlevel props) (λ here. ∥∥₁_elim (checked_entries checked) (hlevel props) (λ all.
       names_no_further Entry (root_start checked) path bucket key rest all here none there names))
 
-  item_value : (e : LeafElement) (value : List ℕ) → e.is_bucket ≡ false → e.value ≡ value → item_of e ≡ Value value
-  item_value e value is_value same = rw is_value (ap Value same)
-
-  no_value_of : (e : LeafElement) (value : List ℕ) → IsTrue e.is_bucket → item_of e ≡ Value value → ⊥
-  no_value_of e value is_bucket same = let is : e.is_bucket ≡ true = is_bucket in let bad = rw is at same in absurd (search (rules, bad))
-
-  pub value_held : (path : Path) (key : Key) (bucket : Start) (value : List ℕ) → ∥ LeadsIn path bucket ∥₁ → IsValueAt Entry bucket key (Some value)
-      → ∥ HoldsAt (path ++ key ∷ []) (Value value) ∥₁
-  value_held path key bucket value known found =
-      ∥∥₁_elim known (hlevel props) (λ names. ∥∥₁_map found (λ (e, is, k, is_value, same).
-      held_up Entry (root_start checked) path bucket key [] (Value value) names (e, is, k, item_value e value is_value same)))
-
-  pub no_value_held : (path : Path) (key : Key) (bucket : Start) → ∥ LeadsIn path bucket ∥₁ → IsValueAt Entry bucket key None
-      → (value : List ℕ) → HoldsAt (path ++ key ∷ []) (Value value) → ⊥
-  no_value_held path key bucket known none value held =
-      ∥∥₁_elim known (hlevel props) (λ names. ∥∥₁_elim (checked_entries checked) (hlevel props) (λ all.
-      let (e, is, k, same) = held_down Entry (root_start checked) path bucket key [] (Value value) all names held in
-      no_value_of e value (none e is k) same))
-
   -- ---- if trees are sound, what is only known to be can be named
+
+  known_one : {X : Type 0} (P : X → Type 0) → ((x : X) × P x) ⊎ ((x : X) → P x → ⊥) → ((a b : X) → P a → P b → a ≡ b) → ((a b : X) → ∥ a ≡ b ∥₁ → a ≡ b)
+      → (x : X) → ∥ P x ∥₁ → P x
+  known_one P (inl (there, is)) once same x known = subst P (same there x (∥∥₁_map known (λ here. once there x is here))) is
+  known_one P (inr none) once same x known = absurd (∥∥₁_elim known (hlevel props) (λ here. none x here))
 
   pub lead_named : (path : Path) (bucket : Start) → HasSoundTrees (bytes_of checked) (meta_of checked) → ∥ LeadsIn path bucket ∥₁ → LeadsIn path bucket
   lead_named path bucket trees known =
       let all = all_entries (bytes_of checked) (meta_of checked) trees in
-      elim (named_or_none Entry (root_start checked) path all) [
-        | inl (there, names) ↦
-            let same = start_known there bucket (∥∥₁_map known (λ here. named_once Entry (root_start checked) path there bucket all names here)) in
-            subst (LeadsIn path) same names
-        | inr none ↦ absurd (∥∥₁_elim known (hlevel props) (λ here. none bucket here))
-      ]
+      known_one (LeadsIn path) (named_or_none Entry (root_start checked) path all) (λ a b. named_once Entry (root_start checked) path a b all) start_known bucket known
 
   pub held_at : (path : Path) (item : Item) → HasSoundTrees (bytes_of checked) (meta_of checked) → ∥ HoldsAt path item ∥₁ → HoldsAt path item
   held_at path item trees known =
       let all = all_entries (bytes_of checked) (meta_of checked) trees in
-      elim (held_or_none Entry (root_start checked) path all) [
-        | inl (there, held) ↦
-            let same = item_known there item (∥∥₁_map known (λ here. held_once Entry (root_start checked) path there item all held here)) in
-            subst (HoldsAt path) same held
-        | inr none ↦ absurd (∥∥₁_elim known (hlevel props) (λ here. none item here))
-      ]
+      known_one (HoldsAt path) (held_or_none Entry (root_start checked) path all) (λ a b. held_once Entry (root_start checked) path a b all) item_known item known
 
   -- what is promised of the entries of the bucket that a path leads to
   pub at_path : (path : Path) (bucket : Bucket) (P : List LeafElement → Type 0) → HasSoundTrees (bytes_of checked) (meta_of checked) → bucket_checked bucket ≡ checked
@@ -134,7 +89,7 @@ module _ (checked : Checked) where
   IsReason path reason = HoldsNone (bytes_of checked) path (meta_of checked) reason
 
   pub none_at_root : {Z : Type 0} (path : List (Vec ℕ Z)) → length path ≡ 0 → IsReason (path_in path) failure.NoKey
-  none_at_root path none = subst (λ (p : Path). IsReason p failure.NoKey) (sym (no_parts path none)) (inl (refl, λ value held. held, (root_start checked, ∣ refl ∣₁)))
+  none_at_root path none = rw (no_parts path none) (inl (refl, λ value held. held, (root_start checked, ∣ refl ∣₁)))
 
   module _ {Z : Type 0} (path parents : List (Vec ℕ Z)) (key : Vec ℕ Z) (is : path ≡ parents ++ key ∷ []) where
     last_part : path_in path ≡ path_in parents ++ key.items ∷ []
@@ -151,15 +106,15 @@ module _ (checked : Checked) where
     pub value_at : (bucket : Bucket) (value : List ℕ) → bucket_checked bucket ≡ checked → ∥ LeadsIn checked (path_in parents) (bucket_start bucket) ∥₁
         → IsValueAt (entries_of (bucket_checked bucket)) (bucket_start bucket) key.items (Some value) → ∥ HoldsAt checked (path_in path) (Value value) ∥₁
     value_at bucket value same known found =
-        let here = subst (λ (c : Checked). IsValueAt (entries_of c) (bucket_start bucket) key.items (Some value)) same found in
-        subst (λ (p : Path). ∥ HoldsAt checked p (Value value) ∥₁) (sym last_part) (value_held checked (path_in parents) key.items (bucket_start bucket) value known here)
+        ∥∥₁_elim known (hlevel props) (λ names. ∥∥₁_map (rw same at found) (λ (e, is, k, is_value, held).
+        rw last_part (held_up (entries_of checked) (root_start checked) (path_in parents) (bucket_start bucket) key.items [] (Value value) names (e, is, k, rw is_value (ap Value held)))))
 
     pub none_at : (bucket : Bucket) → bucket_checked bucket ≡ checked → ∥ LeadsIn checked (path_in parents) (bucket_start bucket) ∥₁
         → IsValueAt (entries_of (bucket_checked bucket)) (bucket_start bucket) key.items None → IsReason (path_in path) failure.NoKey
     none_at bucket same known none =
-        let here = subst (λ (c : Checked). IsValueAt (entries_of c) (bucket_start bucket) key.items None) same none in
-        inl (
-          refl,
-          λ value held. no_value_held checked (path_in parents) key.items (bucket_start bucket) known here value (subst (λ (p : Path). HoldsAt checked p (Value value)) last_part held),
-          (bucket_start bucket, subst (λ (p : Path). ∥ LeadsIn checked p (bucket_start bucket) ∥₁) (sym parents_in) known),
-        )
+        let here = rw same at none in
+        let empty : (value : List ℕ) → HoldsAt checked (path_in path) (Value value) → ⊥ = λ value held.
+        ∥∥₁_elim known (hlevel props) (λ names. ∥∥₁_elim (checked_entries checked) (hlevel props) (λ all.
+        let (e, is, k, item) = held_down (entries_of checked) (root_start checked) (path_in parents) (bucket_start bucket) key.items [] (Value value) all names (rw last_part at held) in
+        let bad = rw (here e is k) at item in absurd (search (rules, bad)))) in
+        inl (refl, empty, (bucket_start bucket, rw parents_in known))

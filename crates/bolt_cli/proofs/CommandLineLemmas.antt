@@ -1,35 +1,22 @@
 -- The command line as it is built, and what its matches say.
 use Rattle.std.proofs.Common.{◌≡◌, ◌⊎◌, ◌∙◌, List, [], ◌∷◌, ◌++◌, ℕ, ◌+◌, ◌<◌, true, false, add-one, get_or, length, map, take, refl, sym, ap, ap₂, subst, inl, inr, rules, ◌||◌, Option, None, Some, Result, Ok, Err, IfOk, IfErr, option_map, slice_get, unwrap_or}
-use Rattle.std.specs.Prelude.{Box, option_and_then}
+use Rattle.bolt_cli.proofs.Vocabulary.{AddsArg, AddsSubcommand, App, Asked, Asks, Box, Command, Gives, HasKindOf, HasMatchesOf, Help, IsAmong, IsCommand, IsRefusedBy, Job, Kinds, Memory, Refusal, Row, Rule, Usage, Version, Word, asked, asked_by, asked_by_subcommand, asked_of, command_with, fault_of, first_of, is_simple, is_simple_and_free, map-append, option_and_then, program, rule_of, subcommand_of, subcommand_rows_of, take-suc, values_in, with_rule, with_subcommand}
 use Rattle.std.specs.Box.{box_value}
-use Rattle.std.proofs.Math.Seq.{take-suc}
-use Rattle.std.proofs.lemmas.List.{map-append}
-use Rattle.clap.specs.Words.{AddsArg, AddsSubcommand, App, HasMatchesOf, IsAmong, Kinds, Row, Rule, Text, fault_of, is_simple, is_simple_and_free, subcommand_of, subcommand_rows_of, rule_of, with_rule, with_subcommand}
+use Rattle.clap.specs.Words.{Text}
 use Rattle.clap.specs.declared.parser.ArgMatches.{ArgMatches}
 use Rattle.clap.specs.declared.parser.matches.ArgMatches.TheViews.{out-ArgMatches, out-SubCommand}
 use Rattle.clap.specs.declared.parser.matches.SubCommand.{SubCommand}
 use Rattle.clap.specs.Matches.{subcommand_name_of}
 use Rattle.clap.specs.Simple.{subcommand_rows}
 use Rattle.clap.specs.declared.builder.Arg.{Arg}
-use Rattle.clap.specs.declared.builder.Command.{Command}
 use Rattle.clap.specs.declared.error.ErrorKind.{ErrorKind}
 use Rattle.clap.specs.declared.error.ErrorKind.TheVariants as kind
-use Rattle.bolt_cli.specs.declared.job.Job.{Job}
-use Rattle.bolt_cli.specs.declared.refusal.Refusal.{Refusal}
-use Rattle.bolt_cli.specs.declared.refusal.Refusal.TheVariants.{Memory, Help, Version, Usage, Word}
-use Rattle.bolt_cli.specs.CommandLine.{Asks, Gives, HasKindOf, IsCommand, IsRefusedBy, asked_by, asked_by_subcommand, command_with, program, values_in}
-use Rattle.bolt_cli.specs.PlainWords.{Asked, asked, asked_of, first_of}
 
 pub program_is_simple : is_simple program ≡ true
 program_is_simple = refl
 
 pub program_is_free : is_simple_and_free program ≡ true
 program_is_free = refl
-
--- what is made of a list in two steps
-pub made_twice : {X Y Z : Type 0} (f : Y → Z) (g : X → Y) (xs : List X) → map (λ x. f (g x)) xs ≡ map f (map g xs)
-made_twice f g [] = refl
-made_twice f g (x ∷ xs) = ap (λ zs. f (g x) ∷ zs) (made_twice f g xs)
 
 -- what was made of a list so far, with one more
 pub made_more : {X Y : Type 0} (f : X → Y) (xs : List X) (i : ℕ) (d : X) → i < length xs → map f (take (i + 1) xs) ≡ map f (take i xs) ++ f (get_or xs i d) ∷ []
@@ -101,9 +88,9 @@ word_refused kinds wanted (Err e) gives taken = elim gives [
 pub fault_refused : (k : ErrorKind) (kinds : Kinds) (wanted : Result Asked Text) (e : Refusal) → HasKindOf k e
     → (k ≡ kind.OutOfMemory) ⊎ IsAmong k kinds → IsRefusedBy kinds wanted e
 fault_refused k kinds wanted Memory by found = tt
-fault_refused k kinds wanted (Help text) by (inl full) = let bad : kind.DisplayHelp ≡ kind.OutOfMemory = sym by ∙ full in absurd (search rules)
+fault_refused k kinds wanted (Help text) by (inl full) = absurd (cc)
 fault_refused k kinds wanted (Help text) by (inr among) = subst (λ (x : ErrorKind). IsAmong x kinds) by among
-fault_refused k kinds wanted (Version text) by (inl full) = let bad : kind.DisplayVersion ≡ kind.OutOfMemory = sym by ∙ full in absurd (search rules)
+fault_refused k kinds wanted (Version text) by (inl full) = absurd (cc)
 fault_refused k kinds wanted (Version text) by (inr among) = subst (λ (x : ErrorKind). IsAmong x kinds) by among
 fault_refused k kinds wanted (Usage text) by (inl full) = absurd (by.1 full)
 fault_refused k kinds wanted (Usage text) by (inr among) = (k, among, by.0)

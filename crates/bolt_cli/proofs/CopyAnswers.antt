@@ -1,33 +1,19 @@
 -- The copy of a listing, and what is then reported of it.
-use Rattle.std.proofs.Common.{◌≡◌, ◌<◌, ℕ, List, Bool, Option, Result, Ok, Err, ap, length, refl, subst}
-use Rattle.std.specs.Prelude.{OnOk}
-use Rattle.std.specs.Result.{IsErrAnd}
-use Rattle.bolt_bulk.specs.Compacting.{too_many}
-use Rattle.bolt_bulk.specs.declared.fault.BulkFault.{BulkFault}
-use Rattle.bolt_tree.specs.Listing.{Member}
-use Rattle.bolt_cli.specs.Answers.{Answer, CopiesInPart, CopiesWhole, Does, Ending}
-use Rattle.bolt_cli.specs.CopyEnds.{EndsCopy}
-use Rattle.bolt_cli.specs.Failures.{copied}
-use Rattle.bolt_cli.specs.GoodCopies.{IsGoodCopy}
-use Rattle.bolt_cli.specs.declared.failure.Failure.{Failure}
+use Rattle.std.proofs.Common.{◌≡◌, ◌<◌, ℕ, List, Bool, Option, Result, Ok, Err, length, refl, subst}
+use Rattle.bolt_cli.proofs.Vocabulary.{Answer, BulkFault, CopiesInPart, CopiesWhole, Does, Ending, EndsCopy, IsErrAnd, IsGoodCopy, Member, OnOk, copied, too_many}
+use Rattle.bolt_cli.proofs.Doing.{ends_as}
 
 module _ {T O : Type 0} (taken : T → Option (List ℕ)) (failed : T → ℕ) (old new : T) (out_taken : O → Option (List ℕ)) (out_failed : O → ℕ) (out : O)
     (snapshot : Bool) (layout : List ℕ) where
   pub copy_stopped : (fault : BulkFault) (ending : Ending) → EndsCopy taken failed old new layout snapshot (Err fault) → IsErrAnd ending (λ said. said ≡ copied fault)
       → CopiesInPart out_taken out_failed out out taken failed old new snapshot layout ending
-  copy_stopped fault (Ok x) stops said = absurd said
-  copy_stopped fault (Err why) stops said = (copied fault, stops, refl, ap Err said)
+  copy_stopped fault ending stops said = (copied fault, stops, refl, ends_as ending (copied fault) said)
 
   pub copy_reported : (listing : List Member) (answer : ℕ → Answer) (count : ℕ) (out_after : O) (ending : Ending) → EndsCopy taken failed old new layout snapshot (Ok count)
       → ∥ IsGoodCopy snapshot layout listing ∥₁ → Does out_taken out_failed out out_after (answer count) ending
       → CopiesWhole out_taken out_failed out out_after taken failed old new snapshot listing layout answer ending
   copy_reported listing answer count out_after ending whole good does =
       (whole.small, good, whole.all, whole.sound, subst (λ (n : ℕ). Does out_taken out_failed out out_after (answer n) ending) whole.long does)
-
--- how a job ends that isn't done
-pub ends_as : (ending : Ending) (why : Failure) → IsErrAnd ending (λ said. said ≡ why) → ending ≡ Err why
-ends_as (Ok x) why is = absurd is
-ends_as (Err said) why is = ap Err is
 
 -- a copy that is whole is good
 pub goods : {T : Type 0} (taken : T → Option (List ℕ)) (failed : T → ℕ) (old new : T) (lists : List Member → Type 0) (layout : List Member → List ℕ) (snapshot : Bool) (result : Result ℕ BulkFault)

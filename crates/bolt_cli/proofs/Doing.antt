@@ -1,18 +1,13 @@
 -- What jobs do with their text, and what is reported at the end of a run.
 use Rattle.std.proofs.Common.{◌⊎◌, ◌≡◌, ℕ, List, Option, Ok, Err, inl, inr, ap, refl}
-use Rattle.std.specs.Result.{IsErrAnd}
-use Rattle.std.proofs.KnownBytes.{Appends-nil}
-use Rattle.bolt_format.specs.Endings.{whole, broken}
-use Rattle.bolt_format.specs.Wrote.{Wrote}
-use Rattle.bolt_format.specs.declared.sink.Sink.{Ghosts}
-use Rattle.bolt_cli.specs.Answers.{Answer, Does, Ending, IsFileRefusal, IsReadAnswer, IsRefusedUnder, refused}
-use Rattle.bolt_check.specs.declared.fault.CheckFault.{CheckFault}
-use Rattle.bolt_format.specs.declared.meta.Meta.{Meta}
-use Rattle.bolt_cli.specs.Failures.{HasFinding, IsFailureOf}
-use Rattle.bolt_cli.specs.declared.failure.Failure.{Failure}
+use Rattle.bolt_cli.proofs.Vocabulary.{Answer, Appends-nil, CheckFault, Does, Ending, Failure, Ghosts, HasFinding, IsErrAnd, IsFailureOf, IsFileRefusal, IsReadAnswer, IsRefusedUnder, Meta, MetaChoice, Wrote, broken, refused, whole}
 use Rattle.bolt_cli.specs.declared.failure.Failure.TheVariants as failure
 use Rattle.bolt_cli.proofs.ReadFiles.{unread_finding}
-use Rattle.bolt_cli.specs.declared.meta_choice.MetaChoice.{MetaChoice}
+
+-- how a job ends that isn't done
+pub ends_as : (ending : Ending) (why : Failure) → IsErrAnd ending (λ said. said ≡ why) → ending ≡ Err why
+ends_as (Ok x) why is = absurd is
+ends_as (Err said) why is = ap Err is
 
 -- the text was written, and the job ends as its answer says
 pub Does-whole : {S : Type 0} {sink : Ghosts S} (old new : S) (answer : Answer) → Wrote sink old new answer.out whole → Does sink.taken sink.failed old new answer answer.ending
@@ -21,14 +16,26 @@ Does-whole old new answer a = inl (a.appends, a.failures, refl)
 -- the sink failed
 pub Does-part : {S : Type 0} {sink : Ghosts S} (old new : S) (answer : Answer) (result : Ending) → Wrote sink old new answer.out broken
     → IsErrAnd result (λ said. said ≡ failure.Write) → Does sink.taken sink.failed old new answer result
-Does-part old new answer (Ok x) a is = absurd is
-Does-part old new answer (Err said) a is = inr (a.failures, a.appends, ap Err is)
+Does-part old new answer result a is = inr (a.failures, a.appends, ends_as result failure.Write is)
 
 -- nothing was written
 pub Does-nothing : {S : Type 0} (taken : S → Option (List ℕ)) (failed : S → ℕ) (old : S) (failure : Failure) (result : Ending)
     → IsErrAnd result (λ said. said ≡ failure) → Does taken failed old old (refused failure) result
-Does-nothing taken failed old failure (Ok x) is = absurd is
-Does-nothing taken failed old failure (Err said) is = inl (Appends-nil (taken old), refl, ap Err is)
+Does-nothing taken failed old failure result is = inl (Appends-nil (taken old), refl, ends_as result failure is)
+
+-- ---- an answer that is one of those that are wanted
+
+pub answer_whole : {S : Type 0} {sink : Ghosts S} {IsWanted : Answer → Type 0} (old new : S) (answer : Answer) → IsWanted answer → Wrote sink old new answer.out whole
+    → (a : Answer) × IsWanted a × Does sink.taken sink.failed old new a answer.ending
+answer_whole old new answer is put = (answer, is, Does-whole old new answer put)
+
+pub answer_part : {S : Type 0} {sink : Ghosts S} {IsWanted : Answer → Type 0} (old new : S) (answer : Answer) (result : Ending) → IsWanted answer → Wrote sink old new answer.out broken
+    → IsErrAnd result (λ said. said ≡ failure.Write) → (a : Answer) × IsWanted a × Does sink.taken sink.failed old new a result
+answer_part old new answer result is put said = (answer, is, Does-part old new answer result put said)
+
+pub answer_nothing : {S : Type 0} {IsWanted : Answer → Type 0} (taken : S → Option (List ℕ)) (failed : S → ℕ) (old : S) (failure : Failure) (result : Ending) → IsWanted (refused failure)
+    → IsErrAnd result (λ said. said ≡ failure) → (a : Answer) × IsWanted a × Does taken failed old old a result
+answer_nothing taken failed old failure result is said = (refused failure, is, Does-nothing taken failed old failure result said)
 
 -- the file is refused, and only the first finding is reported
 pub Does-refused : {S : Type 0} {IsAccepted : Answer → Type 0} {IsRefusal : CheckFault → Type 0} (taken : S → Option (List ℕ)) (failed : S → ℕ) (old : S) (fault : CheckFault) (ending : Ending)

@@ -1,34 +1,14 @@
 -- The answer of `check --lost-and-found`.
-use Rattle.std.proofs.Common.{◌≡◌, ◌≢◌, ◌∙◌, ℕ, Bool, true, false, List, [], ◌∷◌, Option, ap, inl, inr, map, refl, subst, subst₂, sym}
-use Rattle.std.specs.List.{All}
-use Rattle.std.specs.Result.{IsErrAnd}
-use Rattle.std.proofs.lemmas.Bool.{false≢true}
+use Rattle.std.proofs.Common.{◌≡◌, ◌≢◌, ◌∙◌, ℕ, Bool, true, false, List, [], ◌∷◌, Option, ap, ap₂, inl, inr, map, refl, subst, subst₂, sym}
+use Rattle.bolt_cli.proofs.Vocabulary.{All, Answer, AnswersFound, AreFoundPages, FileFaults, Finding, ForRecovered, Found, FoundView, IsFoundAnswer, IsFoundLeaf, IsFoundPagesAnswer, IsJoined, IsSalvaged, LacksBucketKey, LossView, LostAndFound, LostView, Member, Meta, MetaChoice, all_lost, everything, false≢true, found_page, found_view, has_losses, is_nothing, leaf_entry, leaves_of, lost_and_found, parts}
 use Rattle.std.proofs.lemmas.List.Elements.{All-head, All-tail}
-use Rattle.bolt_check.specs.Nodes.{leaf_entry}
 use Rattle.bolt_check.specs.ShownNodes.{entries_of, shown_node}
 use Rattle.bolt_check.specs.TreeKinds.{tree_kind}
 use Rattle.bolt_format.specs.Pages.{PageView}
 use Rattle.bolt_format.specs.Shown.{shown}
-use Rattle.bolt_format.specs.declared.meta.Meta.{Meta}
 use Rattle.bolt_recover.specs.Found.{AreFound, numbers_of}
-use Rattle.bolt_recover.specs.Joined.{IsJoined, LacksBucketKey}
-use Rattle.bolt_recover.specs.Losses.{LossView, LostView, everything, is_nothing, parts}
 use Rattle.bolt_recover.specs.Lost.{IsAllLost}
-use Rattle.bolt_recover.specs.LostAndFound.{all_lost}
-use Rattle.bolt_recover.specs.Recovered.{ForRecovered}
-use Rattle.bolt_tree.specs.Listing.{Member}
-use Rattle.bolt_recover.specs.Places.{leaves_of}
 use Rattle.bolt_recover.specs.ShownFound.{IsFoundView}
-use Rattle.bolt_recover.specs.declared.found.Found.{Found}
-use Rattle.bolt_recover.specs.declared.lost_and_found.LostAndFound.{LostAndFound}
-use Rattle.bolt_check.specs.declared.finding.Finding.{Finding}
-use Rattle.bolt_report.specs.FoundLines.{FoundView, IsFoundLeaf, found_view}
-use Rattle.bolt_cli.specs.Answers.{Answer, AnswersFound, AreFoundPages, Does, Ending, IsFoundAnswer, IsFoundPagesAnswer, IsSalvaged, found_page, lost_and_found, refused}
-use Rattle.bolt_cli.specs.declared.failure.Failure.TheVariants as failure
-use Rattle.bolt_cli.specs.declared.file_faults.FileFaults.{FileFaults}
-use Rattle.bolt_cli.specs.declared.meta_choice.MetaChoice.{MetaChoice}
-use Rattle.bolt_cli.proofs.Doing.{Does-nothing}
-use Rattle.bolt_cli.proofs.LossAnswers.{lost}
 
 module _ (file : List ℕ) (meta : Meta) where
   -- ---- what is shown of the found pages
@@ -39,8 +19,7 @@ module _ (file : List ℕ) (meta : Meta) where
   views_are : (found : List Found) → All (IsFoundView file meta) found → map found_view found ≡ map (found_page file meta) (numbers_of found)
   views_are [] all = refl
   views_are (f ∷ found) all =
-      ap (λ (v : FoundView). v ∷ map found_view found) (view_is f (All-head (IsFoundView file meta) f found all))
-      ∙ ap (λ (vs : List FoundView). found_page file meta f.number ∷ vs) (views_are found (All-tail (IsFoundView file meta) f found all))
+      ap₂ (λ (v : FoundView) (vs : List FoundView). v ∷ vs) (view_is f (All-head (IsFoundView file meta) f found all)) (views_are found (All-tail (IsFoundView file meta) f found all))
 
   pub are_pages : (found : List Found) → AreFound file meta (numbers_of found) → All (IsFoundView file meta) found → AreFoundPages file meta (map found_view found)
   are_pages found are all = (numbers_of found, are, views_are found all)
@@ -66,24 +45,17 @@ module _ (file : List ℕ) (meta : Meta) where
   module _ (faults : FileFaults) (choice : MetaChoice) (found : List FoundView) (pages : AreFoundPages file meta found) where
     reported : (losses : List LossView) → IsAllLost file meta (parts losses) → (answer : Answer) → AnswersFound faults file choice losses found answer → IsFoundPagesAnswer faults file choice meta answer
     reported losses (keeps, all) answer answers =
-        let (own, are) = lost faults file choice meta in
+        let (own, are) = has_losses file meta in
         inl (keeps, own, found, are, pages, subst (λ (ls : List LossView). AnswersFound faults file choice ls found answer) (all own are) answers)
 
     pub found_none_lost : (lost : LostView) → IsAllLost file meta lost → is_nothing lost ≡ true → (answer : Answer) → IsFoundAnswer faults file choice answer → IsFoundPagesAnswer faults file choice meta answer
-    found_none_lost (everything x) is none answer answers = absurd (false≢true none)
     found_none_lost (parts []) is none answer answers = reported [] is answer answers
-    found_none_lost (parts (loss ∷ losses)) is none answer answers = absurd (false≢true none)
+    found_none_lost lost is none answer answers = absurd (false≢true none)
 
     pub found_some_lost : (lost : LostView) → IsAllLost file meta lost → is_nothing lost ≡ false → IsFoundPagesAnswer faults file choice meta (lost_and_found faults lost found)
     found_some_lost (everything x) loses some = inr (inl (x, found, loses, pages, refl))
     found_some_lost (parts []) is some = absurd (false≢true (sym some))
     found_some_lost (parts (loss ∷ losses)) is some = reported (loss ∷ losses) is (lost_and_found faults (parts (loss ∷ losses)) found) refl
-
--- memory ran out
-pub none_left : {S : Type 0} (taken : S → Option (List ℕ)) (failed : S → ℕ) (old : S) (file : List ℕ) (meta : Meta) (faults : FileFaults) (choice : MetaChoice) (ending : Ending)
-    → IsErrAnd ending (λ said. said ≡ failure.Memory)
-    → (answer : Answer) × IsFoundPagesAnswer faults file choice meta answer × Does taken failed old old answer ending
-none_left taken failed old file meta faults choice ending is = (refused failure.Memory, inr (inr refl), Does-nothing taken failed old failure.Memory ending is)
 
 -- ---- the joined listing
 

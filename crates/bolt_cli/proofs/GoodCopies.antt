@@ -1,32 +1,14 @@
 -- A copy of a listing that is that of one tree, and its hash: what holds of both.
-use Rattle.std.proofs.Common.{◌≡◌, ◌∙◌, ◌+◌, ◌*◌, ◌-◌, ◌^◌, ◌%◌, ◌≤◌, ◌<◌, ◌==◌, ℕ, zero, suc, List, [], ◌∷◌, ◌++◌, map, Bool, true, false, IsTrue, Some, arith, ap, inl, inr, length, length-append, subst, sym, take}
-use Rattle.std.specs.List.{AllByRecursion, list_any, range_with_len}
+use Rattle.std.proofs.Common.{◌≡◌, ◌∙◌, ◌+◌, ◌*◌, ◌-◌, ◌^◌, ◌%◌, ◌<◌, ◌==◌, ℕ, zero, suc, List, [], ◌∷◌, ◌++◌, map, Bool, true, false, IsTrue, Some, arith, ap, inl, inr, length, length-append, subst, sym, take}
+use Rattle.bolt_cli.proofs.Vocabulary.{AllByRecursion, HasBothMetas, HasGoodCopies, HashMissing, IsAsked, IsChosen, IsGoodCopy, IsListing, IsOfOneTree, IsPageSize, IsSnapshot, IsSound, IsSoundCopy, Layout, Member, Meta, One, RefusesFile, RefusesPrefixes, Slot, cases_lt, eqb-true, finding, hash_fault, layout_of_listing, length-sha256, list_any, or_cases, page_size_count, page_sizes, range_with_len, sha256, snapshot_of, take-append-le, too_many}
 use Rattle.std.proofs.Math.Nat.{mul-mod_left, mul_assoc}
-use Rattle.std.proofs.lemmas.Bool.{cases_lt, eqb-true, or_cases}
-use Rattle.std.proofs.lemmas.List.{take-append-le}
-use Rattle.sha2.specs.Sha256.{sha256}
-use Rattle.sha2.proofs.Facts256.{length-sha256}
-use Rattle.bolt_bulk.specs.Compacting.{too_many}
-use Rattle.bolt_check.specs.Findings.{finding}
-use Rattle.bolt_check.specs.Sound.{IsSound}
 use Rattle.bolt_check.specs.declared.fault.CheckFault.TheVariants as check
-use Rattle.bolt_format.specs.Metas.{HasBothMetas, IsChosen, IsPageSize, page_size_count, page_sizes}
 use Rattle.bolt_format.specs.declared.fault.TheConstants.PageFault.{CUT}
-use Rattle.bolt_format.specs.declared.meta.Meta.{Meta}
 use Rattle.bolt_format.specs.declared.meta.MetaFault.TheVariants.{Cut}
-use Rattle.bolt_format.specs.declared.meta.Slot.{Slot}
-use Rattle.bolt_format.specs.declared.meta.Slot.TheVariants.{One}
-use Rattle.bolt_layout.specs.Copies.{IsAsked, IsOfOneTree, IsSoundCopy, RefusesPrefixes, layout_of_listing}
 use Rattle.bolt_layout.specs.Layout.{layout_mark, layout_meta, layout_of, layout_root}
 use Rattle.bolt_layout.specs.Storable.{IsStorable}
-use Rattle.bolt_layout.specs.declared.layout.Layout.{Layout}
 use Rattle.bolt_snapshot.specs.Marks.{HasAllPages}
-use Rattle.bolt_snapshot.specs.SnapshotFaults.{IsSnapshot, hash_fault, snapshot_of}
-use Rattle.bolt_snapshot.specs.declared.hash_check.SnapshotFault.TheVariants.{HashMissing}
-use Rattle.bolt_tree.specs.Listing.{IsListing, Member}
 use Rattle.bolt_tree.specs.Tree.{Tree, tree_of}
-use Rattle.bolt_cli.specs.GoodCopies.{AcceptsListing, HasGoodCopies, IsGoodCopy, RefusesFile}
-use Rattle.bolt_cli.specs.SnapshotAnswers.{copy_of, hash_found}
 
 -- ---- an accepted page size has whole blocks of 512 bytes
 
@@ -86,24 +68,6 @@ module _ (laws : Laws) (listing : List Member) (sequence : ℕ) (one : IsOfOneTr
   copy_sound : IsSoundCopy which page_size (tree_of listing) sequence listing
   copy_sound = laws.sound which listing page_size sequence one size fits few
 
-  accepts : (snapshot : Bool) → AcceptsListing (copy_of snapshot layout) listing
-  accepts false = (One, own_meta, copy_sound.chosen, copy_sound.sound, copy_sound.lists)
-  accepts true = (
-    One,
-    own_meta,
-    laws.chosen_more layout (sha256 layout) One own_meta true all_pages copy_sound.sound copy_sound.chosen,
-    laws.sound_more layout (sha256 layout) own_meta true all_pages copy_sound.sound,
-    laws.listing_more layout (sha256 layout) own_meta listing all_pages copy_sound.lists,
-  )
-
-  both_metas : (snapshot : Bool) → HasBothMetas (copy_of snapshot layout)
-  both_metas false = copy_sound.metas
-  both_metas true = laws.metas_more layout (sha256 layout) copy_sound.metas
-
-  has_hash : (snapshot : Bool) → IsTrue snapshot → IsSnapshot (copy_of snapshot layout)
-  has_hash false asked = absurd (cc)
-  has_hash true asked = laws.snapshot layout blocks
-
   refuses : (n : ℕ) → n < length layout → RefusesFile (take n layout)
   refuses n less =
       let cuts = laws.prefixes which page_size (tree_of listing) sequence (record { size = size; storable = one.storable; sequence_fits = fits }) few in
@@ -112,18 +76,29 @@ module _ (laws : Laws) (listing : List Member) (sequence : ℕ) (one : IsOfOneTr
         | inr late ↦ (check.Structure (finding CUT (layout_root which page_size (tree_of listing))), λ same. cc, cuts.at_root n less late)
       ]
 
-  cut_layout : (snapshot : Bool) (n : ℕ) → n < length layout → RefusesFile (take n (copy_of snapshot layout))
-  cut_layout false n less = refuses n less
-  cut_layout true n less = subst RefusesFile (sym (take-append-le n layout (sha256 layout) (omega (arith, less)))) (refuses n less)
-
-  cut_hash : (snapshot : Bool) (n : ℕ) → length layout ≤ n → n < length (copy_of snapshot layout) → hash_found snapshot (take n (copy_of snapshot layout)) ≡ Some HashMissing
-  cut_hash false n from less = absurd (omega (arith, from, less))
-  cut_hash true n from less =
-      let part : n - length layout < 32 = omega (arith, from, less, length-append layout (sha256 layout), length-sha256 layout) in
-      subst (λ k. hash_fault (take k (snapshot_of layout)) ≡ Some HashMissing) (omega (arith, from)) (laws.cut layout (n - length layout) blocks part)
-
   good : (snapshot : Bool) → IsGoodCopy snapshot layout listing
-  good snapshot = record { accepted = accepts snapshot; metas = both_metas snapshot; hash = has_hash snapshot; cut_layout = cut_layout snapshot; cut_hash = cut_hash snapshot }
+  good false = record {
+    accepted = (One, own_meta, copy_sound.chosen, copy_sound.sound, copy_sound.lists);
+    metas = copy_sound.metas;
+    hash = λ asked. absurd (cc);
+    cut_layout = refuses;
+    cut_hash = λ n from less. absurd (omega (arith, from, less));
+  }
+  good true = record {
+    accepted = (
+      One,
+      own_meta,
+      laws.chosen_more layout (sha256 layout) One own_meta true all_pages copy_sound.sound copy_sound.chosen,
+      laws.sound_more layout (sha256 layout) own_meta true all_pages copy_sound.sound,
+      laws.listing_more layout (sha256 layout) own_meta listing all_pages copy_sound.lists,
+    );
+    metas = laws.metas_more layout (sha256 layout) copy_sound.metas;
+    hash = λ asked. laws.snapshot layout blocks;
+    cut_layout = λ n less. subst RefusesFile (sym (take-append-le n layout (sha256 layout) (omega (arith, less)))) (refuses n less);
+    cut_hash = λ n from less.
+        let part : n - length layout < 32 = omega (arith, from, less, length-append layout (sha256 layout), length-sha256 layout) in
+        subst (λ k. hash_fault (take k (snapshot_of layout)) ≡ Some HashMissing) (omega (arith, from)) (laws.cut layout (n - length layout) blocks part);
+  }
 
 pub good_copies : Laws → (listing : List Member) (sequence : ℕ) → IsOfOneTree listing → sequence < 2 ^ 64 → HasGoodCopies listing sequence
 good_copies laws listing sequence one fits which snapshot page_size size few = good laws listing sequence one fits which page_size size few snapshot

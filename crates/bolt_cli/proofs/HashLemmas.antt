@@ -1,18 +1,6 @@
 -- The hash of what a target has accepted.
-use Rattle.std.proofs.Common.{◌≡◌, ◌≢◌, ◌<◌, ◌≤◌, ◌∙◌, ℕ, List, [], ◌++◌, Option, None, Some, Result, Ok, Err, ap, append_assoc, arith, drop, inl, inr, length, refl, subst, sym}
-use Rattle.std.proofs.KnownBytes.{Appends-kept, Appends-trans}
-use Rattle.std.proofs.Math.Seq.{drop-append_seam}
-use Rattle.std.proofs.lemmas.Bool.{cases_lt}
-use Rattle.std.proofs.Math.Logic.{∥∥₁_elim, ∥∥₁_map}
-use Rattle.std.proofs.Props.{props}
-use Rattle.std.specs.Prelude.{OnErr, OnOk}
-use Rattle.std.specs.Io.KnownBytes.{Appends, Keeps}
-use Rattle.bolt_format.specs.Sinks.{AppendsProperPrefix}
-use Rattle.sha2.specs.Hashers.{Holds256}
-use Rattle.sha2.specs.Sha256.{sha256}
-use Rattle.sha2.proofs.Facts256.{length-sha256}
-use Rattle.sha2.specs.declared.Sha256.{Sha256}
-use Rattle.bolt_cli.specs.Hashes.{HashesSince}
+use Rattle.std.proofs.Common.{◌≡◌, ◌≢◌, ◌<◌, ◌∙◌, ◌⊎◌, ℕ, zero, suc, List, [], ◌++◌, Option, None, Some, Result, Ok, Err, ap, append_assoc, arith, drop, inl, inr, length, refl, subst, sym}
+use Rattle.bolt_cli.proofs.Vocabulary.{Appends, Appends-kept, Appends-trans, AppendsProperPrefix, AppendsProperPrefix-second, HashesSince, Holds256, Keeps, OnErr, OnOk, Sha256, cases_lt, drop-append_seam, length-sha256, props, sha256, ∥∥₁_elim, ∥∥₁_map}
 
 -- a hash goes on with what the target accepts
 since_more : (start old new : Option (List ℕ)) (hash next : Sha256) (bytes : List ℕ) → ((m : List ℕ) → Holds256 hash m → Holds256 next (m ++ bytes))
@@ -31,58 +19,41 @@ since_put (Ok a) start old new failed_old failed_new hash next bytes goes taken 
     ∥∥₁_map (since (sym sound ∙ none)) (since_more start old new hash next bytes goes taken)
 since_put (Err e) start old new failed_old failed_new hash next bytes goes taken sound failure since none = absurd (omega (arith, failure, none))
 
-pub hash_not_empty : (text : List ℕ) → sha256 text ≢ []
+hash_not_empty : (text : List ℕ) → sha256 text ≢ []
 hash_not_empty text none = let long : length (sha256 text) ≡ 0 = ap length none in absurd (omega (arith, long, length-sha256 text))
 
--- what the target accepted is the layout, so the digest is that of the layout
-digest_of : (xs ys layout : List ℕ) (hash : Sha256) (digest : List ℕ) → ((m : List ℕ) → Holds256 hash m → digest ≡ sha256 m) → ys ≡ xs ++ layout
-    → ∥ HashesSince (Some xs) (Some ys) hash ∥₁ → digest ≡ sha256 layout
-digest_of xs ys layout hash digest ends taken since = ∥∥₁_elim since (Prim.hlevel props) (λ known.
+-- what the target accepted is the layout, so the digest is that of the layout, if the target shows its bytes
+digest_of : (old mid : Option (List ℕ)) (layout : List ℕ) (hash : Sha256) (digest : List ℕ) → ((m : List ℕ) → Holds256 hash m → digest ≡ sha256 m)
+    → Appends old mid layout → ∥ HashesSince old mid hash ∥₁ → (old ≡ None) ⊎ (digest ≡ sha256 layout)
+digest_of None mid layout hash digest ends taken since = inl refl
+digest_of (Some xs) None layout hash digest ends taken since = absurd taken
+digest_of (Some xs) (Some ys) layout hash digest ends taken since = inr (∥∥₁_elim since (Prim.hlevel props) (λ known.
     let same : known.0 ≡ layout = sym (drop-append_seam xs known.0) ∙ ap (drop (length xs)) (sym known.2 ∙ taken) ∙ drop-append_seam xs layout in
-    ends known.0 known.1 ∙ ap sha256 same)
+    ends known.0 known.1 ∙ ap sha256 same))
 
-whole_pair : (old mid new : Option (List ℕ)) (layout : List ℕ) (hash : Sha256) (digest : List ℕ) → ((m : List ℕ) → Holds256 hash m → digest ≡ sha256 m)
-    → Appends old mid layout → ∥ HashesSince old mid hash ∥₁ → Appends mid new digest → Appends old new (layout ++ sha256 layout)
-whole_pair None mid new layout hash digest ends taken since put = tt
-whole_pair (Some xs) None new layout hash digest ends taken since put = absurd taken
-whole_pair (Some xs) (Some ys) new layout hash digest ends taken since put =
-    let same = digest_of xs ys layout hash digest ends taken since in
-    Appends-trans (Some xs) (Some ys) new layout (sha256 layout) taken (subst (λ (l : List ℕ). Appends (Some ys) new l) same put)
-
--- the first text whole, and then a proper prefix of the second
-proper_second : (old mid new : Option (List ℕ)) (first second : List ℕ) → Appends old mid first → AppendsProperPrefix mid new second
-    → AppendsProperPrefix old new (first ++ second)
-proper_second old mid new first second taken short = record {
-  front = first ++ short.front;
-  rest = short.rest;
-  parts = ap (λ (text : List ℕ). first ++ text) short.parts ∙ sym (append_assoc first short.front short.rest);
-  short = short.short;
-  taken = Appends-trans old mid new first short.front taken short.taken;
-}
-
-short_pair : (old mid new : Option (List ℕ)) (layout : List ℕ) (hash : Sha256) (digest : List ℕ) → ((m : List ℕ) → Holds256 hash m → digest ≡ sha256 m)
-    → Appends old mid layout → ∥ HashesSince old mid hash ∥₁ → (digest ≢ [] → AppendsProperPrefix mid new digest) → AppendsProperPrefix old new (layout ++ sha256 layout)
-short_pair None mid new layout hash digest ends taken since put = record { front = layout; rest = sha256 layout; parts = refl; short = hash_not_empty layout; taken = tt }
-short_pair (Some xs) None new layout hash digest ends taken since put = absurd taken
-short_pair (Some xs) (Some ys) new layout hash digest ends taken since put =
-    let same = digest_of xs ys layout hash digest ends taken since in
-    let short = put (λ none. hash_not_empty layout (sym same ∙ none)) in
-    proper_second (Some xs) (Some ys) new layout (sha256 layout) taken (subst (λ (l : List ℕ). AppendsProperPrefix (Some ys) new l) same short)
-
-zero_of : (n : ℕ) → n ≤ 0 → n ≡ 0
-zero_of n le = omega (arith, le)
+none_failed : (failed : ℕ) → (0 < failed → ⊥) → failed ≡ 0
+none_failed zero sound = refl
+none_failed (suc failed) sound = absurd (sound (omega arith))
 
 -- what a target holds once the hash was put, whether it had failed before or not
 module _ (old mid new : Option (List ℕ)) (failed : ℕ) (layout : List ℕ) (hash : Sha256) (digest : List ℕ)
     (ends : (m : List ℕ) → Holds256 hash m → digest ≡ sha256 m) (taken : Appends old mid layout) (since : failed ≡ 0 → ∥ HashesSince old mid hash ∥₁) where
   pub whole_with_hash : Appends mid new digest → (0 < failed → ⊥) → Appends old new (layout ++ sha256 layout)
-  whole_with_hash put sound = elim (cases_lt 0 failed) [
-    | inl some ↦ absurd (sound some)
-    | inr none ↦ whole_pair old mid new layout hash digest ends taken (since (zero_of failed none)) put
+  whole_with_hash put sound = elim (digest_of old mid layout hash digest ends taken (since (none_failed failed sound))) [
+    | inl unseen ↦ subst (λ (o : Option (List ℕ)). Appends o new (layout ++ sha256 layout)) (sym unseen) tt
+    | inr same ↦ Appends-trans old mid new layout (sha256 layout) taken (subst (λ (l : List ℕ). Appends mid new l) same put)
   ]
+
+  unhashed : Appends old new layout → AppendsProperPrefix old new (layout ++ sha256 layout)
+  unhashed all = record { front = layout; rest = sha256 layout; parts = refl; short = hash_not_empty layout; taken = all }
 
   pub short_with_hash : (digest ≢ [] → AppendsProperPrefix mid new digest) → (0 < failed → Keeps mid new) → AppendsProperPrefix old new (layout ++ sha256 layout)
   short_with_hash put keeps = elim (cases_lt 0 failed) [
-    | inl some ↦ record { front = layout; rest = sha256 layout; parts = refl; short = hash_not_empty layout; taken = Appends-kept old mid new layout taken (keeps some) }
-    | inr none ↦ short_pair old mid new layout hash digest ends taken (since (zero_of failed none)) put
+    | inl some ↦ unhashed (Appends-kept old mid new layout taken (keeps some))
+    | inr none ↦ elim (digest_of old mid layout hash digest ends taken (since (omega (arith, none)))) [
+      | inl unseen ↦ unhashed (subst (λ (o : Option (List ℕ)). Appends o new layout) (sym unseen) tt)
+      | inr same ↦
+          let short = put (λ empty. hash_not_empty layout (sym same ∙ empty)) in
+          AppendsProperPrefix-second old mid new layout (sha256 layout) taken (subst (λ (l : List ℕ). AppendsProperPrefix mid new l) same short)
+    ]
   ]

@@ -1,19 +1,7 @@
 -- What a job does, whatever its standard output and its target are.
 use Rattle.std.proofs.Common.{◌≡◌, ◌<◌, ◌∙◌, ap, inl, inr, ℕ, List, [], Option, None, Some, Bool, length, refl, subst, sym}
-use Rattle.bolt_cli.specs.declared.extent.Extent.{Extent}
-use Rattle.bolt_cli.specs.declared.extent.Extent.TheVariants.{First, LostAndFound, Losses}
-use Rattle.bolt_cli.specs.declared.meta_choice.MetaChoice.{MetaChoice}
-use Rattle.bolt_load.specs.LineMembers.{text_members}
-use Rattle.bolt_layout.specs.Copies.{layout_of_listing}
-use Rattle.bolt_layout.specs.declared.layout.Layout.{Layout}
-use Rattle.bolt_recover.specs.Losses.{parts}
-use Rattle.bolt_tree.specs.Listing.{Member}
-use Rattle.bolt_cli.specs.Answers.{Answer, Does, DoesJob, Ending, MakesCopy, WritesCopy, copy_page_size, copy_report, done, lengths_line}
-use Rattle.bolt_cli.specs.PlainWords.{target_name}
-use Rattle.bolt_cli.specs.Runs.{held_failures, held_of, held_text}
-use Rattle.bolt_cli.specs.declared.page_size.PageSize.{PageSize}
-use Rattle.bolt_cli.specs.SnapshotAnswers.{hash_differs}
-use Rattle.bolt_cli.specs.declared.job.Job.{Job}
+use Rattle.bolt_cli.proofs.Vocabulary.{Answer, Does, DoesJob, Ending, Extent, First, Job, Layout, Losses, MakesCopy, Member, MetaChoice, PageSize, WritesCopy, copy_page_size, copy_report, done, hash_differs, held_failures, held_of, held_text, layout_of_listing, lengths_line, parts, target_name, text_members}
+use Rattle.bolt_cli.specs.declared.choices.Extent.TheVariants.{LostAndFound}
 use Rattle.bolt_cli.specs.declared.job.Job.TheVariants as job
 
 module _ {O T : Type 0} (out_taken : O → Option (List ℕ)) (out_failed : O → ℕ) (out_old out_new : O)
@@ -22,17 +10,9 @@ module _ {O T : Type 0} (out_taken : O → Option (List ℕ)) (out_failed : O �
   pub shown : (file : List ℕ) (j : Job) (ending : Ending) → target_name j ≡ None
       → DoesJob out_taken out_failed out_old out_new target_taken target_failed target_old target_new file j ending
       → DoesJob {T = Unit {0}} out_taken out_failed out_old out_new (λ _. None) (λ _. 0) tt tt file j ending
-  shown file (job.Info j) ending none (answer, is, does, same) = (answer, is, does, refl)
-  shown file (job.Page j) ending none (answer, is, does, same) = (answer, is, does, refl)
-  shown file (job.Pages j) ending none (answer, is, does, same) = (answer, is, does, refl)
-  shown file (job.Check j) ending none (answer, is, does, same) = (answer, is, does, refl)
-  shown file (job.Buckets j) ending none (answer, is, does, same) = (answer, is, does, refl)
-  shown file (job.Stats j) ending none (answer, is, does, same) = (answer, is, does, refl)
-  shown file (job.Keys j) ending none (answer, is, does, same) = (answer, is, does, refl)
-  shown file (job.Get j) ending none (answer, is, does, same) = (answer, is, does, refl)
-  shown file (job.List j) ending none (answer, is, does, same) = (answer, is, does, refl)
   shown file (job.Compact j) ending none does = absurd (cc)
   shown file (job.Load j) ending none does = absurd (cc)
+  shown file j ending none (answer, is, does, same) = (answer, is, does, refl)
 
 -- a job does the same on a sink that is seen as what it holds
 module _ {O T : Type 0} (out_taken : O → Option (List ℕ)) (out_failed : O → ℕ) (out_old out_new : O)
@@ -75,15 +55,9 @@ module _ {O T : Type 0} (out_taken : O → Option (List ℕ)) (out_failed : O �
   pub held_job : (file : List ℕ) (j : Job) (ending : Ending)
       → DoesJob out_taken out_failed out_old out_new target_taken target_failed target_old target_new file j ending
       → DoesJob held_text held_failures (held_of [] 0) (held_of text failures) target_taken target_failed target_old target_new file j ending
-  held_job file (job.Info j) ending (answer, is, does, same) = (answer, is, does_held answer ending does, same)
-  held_job file (job.Page j) ending (answer, is, does, same) = (answer, is, does_held answer ending does, same)
-  held_job file (job.Pages j) ending (answer, is, does, same) = (answer, is, does_held answer ending does, same)
-  held_job file (job.Check j) ending (answer, is, does, same) = (answer, is, does_held answer ending does, same)
-  held_job file (job.Buckets j) ending (answer, is, does, same) = (answer, is, does_held answer ending does, same)
-  held_job file (job.Stats j) ending (answer, is, does, same) = (answer, is, does_held answer ending does, same)
-  held_job file (job.Keys j) ending (answer, is, does, same) = (answer, is, does_held answer ending does, same)
-  held_job file (job.Get j) ending (answer, is, does, same) = (answer, is, does_held answer ending does, same)
-  held_job file (job.List j) ending (answer, is, does, same) = (answer, is, does_held answer ending does, same)
   held_job file (job.Compact j) ending does = copied file j.meta j.page_size _ _ j.extent ending does
-  held_job file (job.Load j) ending (inl (right, writes)) = inl (right, written _ (text_members file) _ (λ copy. done (lengths_line (length file) copy)) ending writes)
-  held_job file (job.Load j) ending (inr (fault, is, out, target, ends)) = inr (fault, is, untouched out, target, ends)
+  held_job file (job.Load j) ending does = elim does [
+    | inl (right, writes) ↦ inl (right, written _ (text_members file) _ (λ copy. done (lengths_line (length file) copy)) ending writes)
+    | inr (fault, is, out, target, ends) ↦ inr (fault, is, untouched out, target, ends)
+  ]
+  held_job file j ending (answer, is, does, same) = (answer, is, does_held answer ending does, same)

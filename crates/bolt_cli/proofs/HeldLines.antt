@@ -1,11 +1,6 @@
 -- The line that is held for standard error once a job has ended.
-use Rattle.std.proofs.Common.{◌≡◌, ◌≢◌, ◌<◌, ◌⊎◌, ◌∙◌, inl, inr, arith, ℕ, zero, suc, List, [], ◌∷◌, Option, Some, Result, Ok, Err, OnOk, OnErr}
-use Rattle.std.specs.Io.KnownBytes.{Appends}
-use Rattle.bolt_format.specs.Sinks.{AppendsPrefix}
-use Rattle.bolt_cli.specs.Answers.{Ending, error_text, status_of}
-use Rattle.bolt_cli.specs.Deeds.{Deed, Said}
-use Rattle.bolt_cli.specs.Failures.{failure_line}
-use Rattle.bolt_cli.specs.Runs.{Fails, IsHeldLine, IsReported, Prints, PrintsHeld}
+use Rattle.std.proofs.Common.{◌≡◌, ◌≢◌, ◌<◌, ◌⊎◌, ◌∙◌, inl, inr, arith, ℕ, List, [], ◌∷◌, Option, Some, Result, Ok, Err, OnOk, OnErr}
+use Rattle.bolt_cli.proofs.Vocabulary.{Appends, AppendsPrefix, Deed, Ending, Fails, IsHeldLine, IsReported, Said, error_text, failure_line, status_of}
 use Rattle.bolt_cli.specs.declared.failure.Failure.TheVariants.{Memory}
 
 -- what a fresh sink accepted of the line of an ending, or the line of memory if it failed
@@ -28,18 +23,6 @@ Reported-line (Ok status) line (Said text ∷ []) code (inl none) some fails = a
 Reported-line (Ok status) line (Said text ∷ []) code (inr memory) some (is, failed) = (is ∙ memory, failed)
 Reported-line (Err failure) line (Said text ∷ []) code held some (is, failed) = (rw is held, failed)
 Reported-line ending line deeds code held some fails = absurd fails.0
-
--- what was held is printed, if it was held without a failure
-module _ {T O : Type 0} (output_taken : O → Option (List ℕ)) (output_failed : O → ℕ) where
-  pub PrintsHeld-none : (failures : ℕ) (text : List ℕ) (ending : Ending) (deeds : List (Deed T O)) (code : ℕ)
-      → 0 < failures → Fails (failure_line Memory) deeds code → PrintsHeld output_taken output_failed failures text ending deeds code
-  PrintsHeld-none zero text ending deeds code less fails = absurd (omega (arith, less))
-  PrintsHeld-none (suc more) text ending deeds code less fails = fails
-
-  pub PrintsHeld-all : (failures : ℕ) (text : List ℕ) (ending : Ending) (deeds : List (Deed T O)) (code : ℕ)
-      → failures ≡ 0 → Prints output_taken output_failed text ending deeds code → PrintsHeld output_taken output_failed failures text ending deeds code
-  PrintsHeld-all zero text ending deeds code none prints = prints
-  PrintsHeld-all (suc more) text ending deeds code none prints = absurd (omega (arith, none))
 
 -- a sink that hasn't failed has taken what was put
 pub put_whole : {T E : Type 0} {A : Type 0} (result : Result T E) (failed : ℕ) → OnOk result A → OnErr result (0 < failed) → failed ≡ 0 → A

@@ -20,15 +20,12 @@ pub mod NeededBytes
 pub mod Ordering
 pub mod PageAnswers
 pub mod PageSizes
-pub mod PagesAnswers
 pub mod PathReading
 pub mod ReadFiles
-pub mod Readings
 pub mod RestAnswers
-pub mod RootEntries
-pub mod ShownTexts
-pub mod SizesAnswers
 pub mod SnapshotCopies
+pub mod SoundReads
 pub mod SoundRecovery
 pub mod StatsAnswers
 pub mod Telling
+pub mod Vocabulary

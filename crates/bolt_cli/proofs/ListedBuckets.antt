@@ -1,47 +1,27 @@
 -- A listing has the bucket at a path where the path leads to one.
-use Rattle.std.proofs.Common.{arith, length, ◌==◌, ◌≡◌, ◌∙◌, ◌||◌, ◌&&◌, ℕ, Bool, true, false, List, [], ◌∷◌, IsTrue, inl, inr, refl, sym, ap, subst, rules}
-use Rattle.std.specs.Cmp.Lexicographic.{pointwise}
-use Rattle.std.specs.List.{Contains, list_any}
-use Rattle.std.specs.Str.{bytes_eq}
-use Rattle.std.proofs.lemmas.Bool.{cases_Bool}
+use Rattle.std.proofs.Common.{arith, length, ◌==◌, ◌≡◌, ◌∙◌, ◌||◌, ◌&&◌, ℕ, Bool, true, false, List, [], ◌∷◌, IsTrue, inl, inr, refl, sym, ap, rules}
+use Rattle.bolt_cli.proofs.Vocabulary.{Contains, Holds, IsEntry, IsListing, Item, Key, LeadsTo, LeafElement, Member, Meta, Names, Path, Root_page, Start, Value, and_parts, bytes_eq, bytes_eq-Decides, cases_Bool, has_bucket, head_sequence, is_bucket, is_bucket_at, item_of, list_any, or_cases, or_left, or_right, pointwise, slice_eq-Decides, start_of}
 use Rattle.std.proofs.lemmas.Bool.Decides.{nat_tests}
-use Rattle.std.proofs.lemmas.Slice.Eq.{bytes_eq-Decides, slice_eq-Decides}
-use Rattle.bolt_format.specs.Elements.{LeafElement, head_sequence}
-use Rattle.bolt_format.specs.declared.meta.Meta.{Meta}
-use Rattle.bolt_check.specs.Keys.{Key}
-use Rattle.bolt_tree.specs.Entries.{Bucket, IsEntry, Item, Root_page, Start, Value, item_of, start_of}
-use Rattle.bolt_tree.specs.Listing.{IsListing, Member}
-use Rattle.bolt_tree.specs.ListingParts.{has_bucket, is_bucket, is_bucket_at}
-use Rattle.bolt_tree.specs.Paths.{Holds, Names, Path}
+use Rattle.bolt_tree.specs.Entries.{Bucket}
 use Rattle.bolt_tree.proofs.Lists.{contains_cases, contains_head, contains_none, contains_tail}
-use Rattle.bolt_cli.specs.Answers.{LeadsTo}
 
 -- ---- lists
 
 any_of : (p : Member → Bool) (ms : List Member) (m : Member) → Contains ms m → p m ≡ true → list_any p ms ≡ true
 any_of p [] m has holds = absurd (contains_none m has)
 any_of p (x ∷ ms) m has holds = elim (contains_cases x m ms has) [
-  | inl same ↦ ap (λ (b : Bool). b || list_any p ms) (ap p same ∙ holds)
-  | inr later ↦ either (p x) (any_of p ms m later holds)
+  | inl same ↦ or_left (p x) (list_any p ms) (ap p same ∙ holds)
+  | inr later ↦ or_right (p x) (list_any p ms) (any_of p ms m later holds)
 ]
-  where
-    either : (b : Bool) → list_any p ms ≡ true → (b || list_any p ms) ≡ true
-    either true t = refl
-    either false t = t
 
 some_of : (p : Member → Bool) (ms : List Member) → list_any p ms ≡ true → (m : Member) × Contains ms m × (p m ≡ true)
-some_of p [] any = absurd (let f : false ≡ true = any in cc)
-some_of p (x ∷ ms) any = elim (cases_Bool (p x)) [
+some_of p [] any = absurd (cc)
+some_of p (x ∷ ms) any = elim (or_cases (p x) (list_any p ms) any) [
   | inl here ↦ (x, contains_head x ms, here)
-  | inr past ↦
-      let (m, has, holds) = some_of p ms (sym (ap (λ (b : Bool). b || list_any p ms) past) ∙ any) in
-      (m, contains_tail x m ms has, holds)
+  | inr later ↦ let (m, has, holds) = some_of p ms later in (m, contains_tail x m ms has, holds)
 ]
 
 -- ---- entries
-
-bucket_item : (e : LeafElement) → IsTrue e.is_bucket → item_of e ≡ Bucket (head_sequence e.value)
-bucket_item e b = let is : e.is_bucket ≡ true = b in rw is refl
 
 is_bucket_of : (e : LeafElement) (sequence : ℕ) → item_of e ≡ Bucket sequence → IsTrue e.is_bucket
 is_bucket_of e sequence is = elim (cases_Bool e.is_bucket) [
@@ -51,7 +31,7 @@ is_bucket_of e sequence is = elim (cases_Bool e.is_bucket) [
 
 module _ (Entry : Start → LeafElement → Type 0) where
   held_of : (key : Key) (path : Path) (from bucket : Start) → Names Entry from (key ∷ path) bucket → (sequence : ℕ) × Holds Entry from (key ∷ path) (Bucket sequence)
-  held_of key [] from bucket (e, is, k, b, there) = (head_sequence e.value, (e, is, k, bucket_item e b))
+  held_of key [] from bucket (e, is, k, b, there) = (head_sequence e.value, (e, is, k, rw b refl))
   held_of key (next ∷ path) from bucket (e, is, k, b, later) =
       let (sequence, held) = held_of next path (start_of e.value) bucket later in
       (sequence, (e, is, k, b, held))
@@ -67,12 +47,8 @@ module _ (Entry : Start → LeafElement → Type 0) where
 same_path : (path : Path) → pointwise bytes_eq path path ≡ true
 same_path path = (slice_eq-Decides bytes_eq-Decides path path (pointwise bytes_eq path path) refl).1 refl
 
-and_true : (a b : Bool) → (a && b) ≡ true → (a ≡ true) × (b ≡ true)
-and_true true b t = (refl, t)
-and_true false b t = absurd (let f : false ≡ true = t in cc)
-
 bucket_in : (item : Item) → is_bucket item ≡ true → (sequence : ℕ) × (item ≡ Bucket sequence)
-bucket_in (Value value) t = absurd (let f : false ≡ true = t in cc)
+bucket_in (Value value) t = absurd (cc)
 bucket_in (Bucket sequence) t = (sequence, refl)
 
 module _ (file : List ℕ) (meta : Meta) (listing : List Member) (is : IsListing file meta listing) where
@@ -93,12 +69,11 @@ module _ (file : List ℕ) (meta : Meta) (listing : List Member) (is : IsListing
   named_has [] has = (Root_page meta.root, refl)
   named_has (key ∷ path) has =
       let (m, contained, at) = some_of (is_bucket_at (key ∷ path)) listing (sym (by_members key path) ∙ has) in
-      let parts = and_true (pointwise bytes_eq m.0 (key ∷ path)) (is_bucket m.1) at in
+      let parts = and_parts (pointwise bytes_eq m.0 (key ∷ path)) (is_bucket m.1) at in
       let same : m.0 ≡ key ∷ path = (slice_eq-Decides bytes_eq-Decides m.0 (key ∷ path) (pointwise bytes_eq m.0 (key ∷ path)) refl).0 parts.0 in
       let (sequence, item) = bucket_in m.1 parts.1 in
       let held = (is.exact m.0 m.1).0 contained in
-      named_of (IsEntry file meta) key path (Root_page meta.root) sequence
-      (subst (λ (i : Item). Holds (IsEntry file meta) (Root_page meta.root) (key ∷ path) i) item (subst (λ (p : Path). Holds (IsEntry file meta) (Root_page meta.root) p m.1) same held))
+      named_of (IsEntry file meta) key path (Root_page meta.root) sequence (rw (same, item) at held)
 
   -- where it leads to none, the listing has none
   pub none_named : (path : Path) → ((bucket : Start) → LeadsTo file meta path bucket → ⊥) → has_bucket path listing ≡ false

@@ -1,30 +1,14 @@
 -- What `list` prints of a file is loaded as the listing of the file.
-use Rattle.std.proofs.Common.{◌≡◌, ◌∙◌, ℕ, Bool, List, [], ◌∷◌, Option, Ok, Err, ap, false, inl, inr, length, refl, subst, sym}
-use Rattle.std.specs.Prelude.{not}
+use Rattle.std.proofs.Common.{◌≡◌, ◌∙◌, ℕ, Bool, List, [], ◌∷◌, Option, Ok, ap, false, inl, inr, refl, subst, sym}
+use Rattle.bolt_cli.proofs.Vocabulary.{Answer, Ending, First, HasSoundTrees, IsFirstFault, IsListAnswer, IsListedAnswer, IsListing, IsListingText, IsOfOneTree, IsReadUnder, Layout, Loads, LoadsListing, Member, Meta, MetaChoice, Path, Rises, filter_all, listing_lines, member_cmp, not, part_below, part_text, path_cmp, rest_from, text_members}
 use Rattle.std.specs.Ordering.{is_lt}
-use Rattle.bolt_check.specs.Sound.{HasSoundTrees}
 use Rattle.bolt_format.specs.Bytes.{IsBytes}
-use Rattle.bolt_format.specs.declared.meta.Meta.{Meta}
-use Rattle.bolt_layout.specs.Copies.{IsOfOneTree, layout_of_listing}
-use Rattle.bolt_layout.specs.declared.layout.Layout.{Layout}
 use Rattle.bolt_load.specs.ByteMembers.{AreOfBytes}
-use Rattle.bolt_load.specs.LineFaults.{IsFirstFault, IsListingText}
-use Rattle.bolt_load.specs.LineMembers.{text_members}
 use Rattle.bolt_load.specs.Lines.{Text}
 use Rattle.bolt_load.specs.declared.fault.LineFault.{LineFault}
 use Rattle.bolt_load.specs.declared.fault.LoadFault.TheVariants.{Line, Memory}
-use Rattle.bolt_report.specs.ListForms.{listing_lines}
 use Rattle.bolt_report.specs.ListLines.{listing_text}
 use Rattle.bolt_report.specs.declared.form.ListForm.TheVariants.{Hex}
-use Rattle.bolt_tree.specs.Listing.{IsListing, Member, member_cmp, rest_from}
-use Rattle.bolt_tree.specs.ListingParts.{part_below}
-use Rattle.bolt_tree.specs.Order.{Rises}
-use Rattle.bolt_tree.specs.Paths.{Path, path_cmp}
-use Rattle.bolt_tree.proofs.Filters.{filter_all}
-use Rattle.bolt_cli.specs.Answers.{Answer, Ending, IsListAnswer, IsListedAnswer, IsReadUnder, Loads, LoadsListing, WritesCopy, done, lengths_line, part_text}
-use Rattle.bolt_cli.specs.declared.extent.Extent.TheVariants.{First}
-use Rattle.bolt_cli.specs.declared.failure.Failure.{Failure}
-use Rattle.bolt_cli.specs.declared.meta_choice.MetaChoice.{MetaChoice}
 use Rattle.bolt_cli.proofs.ReadFiles.{read_trees}
 
 pub record Below : Type 0 where
@@ -35,9 +19,6 @@ pub record Below : Type 0 where
   pub right : (listing : List Member) → IsOfOneTree listing → Rises member_cmp listing → AreOfBytes listing → IsListingText (listing_text listing)
   pub read_back : (listing : List Member) → IsOfOneTree listing → Rises member_cmp listing → AreOfBytes listing → text_members (listing_text listing) ≡ listing
   pub no_fault : (text : Text) (number : ℕ) (fault : LineFault) → IsListingText text → IsFirstFault text number fault → ⊥
-
-no_failure : (failure : Failure) → ◌≡◌ {A = Ending} (Err failure) (Ok 0) → ⊥
-no_failure failure is = cc
 
 -- no path comes before the empty one
 none_before : (path : Path) → is_lt (path_cmp path []) ≡ false
@@ -55,7 +36,7 @@ module _ (below : Below) where
   printed : (file : List ℕ) (meta : Meta) (answer : Answer) → IsListAnswer file Hex [] [] meta answer → answer.ending ≡ Ok 0
       → (listing : List Member) × IsListing file meta listing × (answer.out ≡ listing_text listing)
   printed file meta answer (listing, lists, inl is) good = (listing, lists, ap (λ (a : Answer). a.out) is ∙ whole_text listing)
-  printed file meta answer (listing, lists, inr (front, rest, parts, is)) good = absurd (no_failure _ (sym (ap (λ (a : Answer). a.ending) is) ∙ good))
+  printed file meta answer (listing, lists, inr (front, rest, parts, is)) good = absurd (let bad = rw is at good in cc)
 
   module _ {O T : Type 0} (out_taken : O → Option (List ℕ)) (out_failed : O → ℕ) (target_taken : T → Option (List ℕ)) (target_failed : T → ℕ) where
     abbrev Told : List Member → List ℕ → Type 0
@@ -65,8 +46,7 @@ module _ (below : Below) where
 
     told : (listing : List Member) (text : List ℕ) → IsListingText text → text_members text ≡ listing → Told listing text
     told listing text right same out_old out_new target_old target_new page_size sequence layout snapshot ending (inl (is, writes)) =
-        inl (subst (λ (ms : List Member). WritesCopy out_taken out_failed out_old out_new target_taken target_failed target_old target_new snapshot ms
-        (layout_of_listing layout page_size ms sequence) (λ copy. done (lengths_line (length text) copy)) ending) same writes)
+        inl (rw same at writes)
     told listing text right same out_old out_new target_old target_new page_size sequence layout snapshot ending (inr (Memory, is, out, target, ends)) = inr (out, target, ends)
     told listing text right same out_old out_new target_old target_new page_size sequence layout snapshot ending (inr (Line number fault, is, out, target, ends)) = absurd (below.no_fault text number fault right is)
 
@@ -75,11 +55,7 @@ module _ (below : Below) where
     listed_loads file choice answer bytes (inl (meta, under, is)) good =
         let (listing, lists, out) = printed file meta answer is good in
         let one = below.one_tree file meta listing bytes (read_trees file choice meta under) lists in
-        let own = below.of_bytes file meta listing bytes lists in (
-          meta,
-          listing,
-          under,
-          lists,
-          subst (Told listing) (sym out) (told listing (listing_text listing) (below.right listing one lists.rises own) (below.read_back listing one lists.rises own)),
-        )
-    listed_loads file choice answer bytes (inr (fault, refused, (failure, of, is))) good = absurd (no_failure failure (sym (ap (λ (a : Answer). a.ending) is) ∙ good))
+        let own = below.of_bytes file meta listing bytes lists in
+        let loads = subst (Told listing) (sym out) (told listing (listing_text listing) (below.right listing one lists.rises own) (below.read_back listing one lists.rises own)) in
+        (meta, listing, under, lists, loads)
+    listed_loads file choice answer bytes (inr (fault, refused, (failure, of, is))) good = absurd (let bad = rw is at good in cc)

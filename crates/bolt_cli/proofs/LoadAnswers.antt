@@ -1,22 +1,10 @@
 -- The answer of `load`.
-use Rattle.std.proofs.Common.{◌≡◌, ◌∙◌, ℕ, Bool, List, Option, Result, Ok, Err, ap, inl, inr, length, refl, subst, sym}
-use Rattle.std.specs.Result.{IsErrAnd}
-use Rattle.std.proofs.Math.Logic.{∥∥₁_map}
+use Rattle.std.proofs.Common.{◌≡◌, ◌∙◌, ℕ, List, Option, Ok, Err, ap, inl, inr, length, refl, subst, sym}
+use Rattle.bolt_cli.proofs.Vocabulary.{Answer, BulkFault, Does, Ending, EndsCopy, HasGoodCopies, IsErrAnd, IsListingText, IsOfOneTree, Loads, Member, copied, done, is_snapshot, layout_for, layout_of_listing, lengths_line, text_members, ∥∥₁_map}
 use Rattle.bolt_bulk.specs.WholeListings.{IsWhole}
-use Rattle.bolt_bulk.specs.declared.fault.BulkFault.{BulkFault}
-use Rattle.bolt_layout.specs.Copies.{IsOfOneTree, layout_of_listing}
-use Rattle.bolt_layout.specs.declared.layout.Layout.{Layout}
-use Rattle.bolt_load.specs.LineFaults.{IsListingText}
-use Rattle.bolt_load.specs.LineMembers.{text_members}
 use Rattle.bolt_load.specs.Lines.{Text}
 use Rattle.bolt_load.specs.ShownMembers.{members_left, members_text}
 use Rattle.bolt_load.specs.declared.line_members.LineMembers.{LineMembers}
-use Rattle.bolt_tree.specs.Listing.{Member}
-use Rattle.bolt_cli.specs.Answers.{Answer, Does, Ending, Loads, done, lengths_line}
-use Rattle.bolt_cli.specs.CopyEnds.{EndsCopy}
-use Rattle.bolt_cli.specs.CopyKinds.{is_snapshot, layout_for}
-use Rattle.bolt_cli.specs.Failures.{copied}
-use Rattle.bolt_cli.specs.GoodCopies.{HasGoodCopies}
 use Rattle.bolt_cli.specs.declared.job.LoadJob.{LoadJob}
 use Rattle.bolt_cli.proofs.CopyAnswers.{copy_reported, copy_stopped}
 
@@ -31,34 +19,21 @@ whole_members members text told left right one = record {
 }
 
 module _ {T O : Type 0} (taken : T → Option (List ℕ)) (failed : T → ℕ) (old new : T) (out_taken : O → Option (List ℕ)) (out_failed : O → ℕ) (out : O)
-    (file : List ℕ) (job : LoadJob) (right : IsListingText file) (which : Layout) (snapshot : Bool) (layout_is : which ≡ layout_for job.kind) (snapshot_is : snapshot ≡ is_snapshot job.kind) where
+    (file : List ℕ) (job : LoadJob) (right : IsListingText file) where
   abbrev Loaded : O → Ending → Type 0
   Loaded out_after ending = Loads out_taken out_failed out out_after taken failed old new file job.page_size.bytes job.sequence (layout_for job.kind) (is_snapshot job.kind) ending
 
-  abbrev layout_by : Layout → List ℕ
-  layout_by which = layout_of_listing which job.page_size.bytes (text_members file) job.sequence
+  abbrev layout : List ℕ
+  layout = layout_of_listing (layout_for job.kind) job.page_size.bytes (text_members file) job.sequence
 
   abbrev answer : ℕ → Answer
   answer copy = done (lengths_line (length file) copy)
 
-  -- the copy is the one that is asked for
-  as_asked : (result : Result ℕ BulkFault) → EndsCopy taken failed old new (layout_by which) snapshot result → EndsCopy taken failed old new (layout_by (layout_for job.kind)) (is_snapshot job.kind) result
-  as_asked result ends =
-      subst (λ (s : Bool). EndsCopy taken failed old new (layout_by (layout_for job.kind)) s result) snapshot_is
-      (subst (λ (w : Layout). EndsCopy taken failed old new (layout_by w) snapshot result) layout_is ends)
+  pub load_stopped : (fault : BulkFault) (ending : Ending) → EndsCopy taken failed old new layout (is_snapshot job.kind) (Err fault) → IsErrAnd ending (λ said. said ≡ copied fault) → Loaded out ending
+  load_stopped fault ending ends said = inl (right, inr (copy_stopped taken failed old new out_taken out_failed out (is_snapshot job.kind) layout fault ending ends said))
 
-  pub load_stopped : (fault : BulkFault) (ending : Ending) → EndsCopy taken failed old new (layout_by which) snapshot (Err fault) → IsErrAnd ending (λ said. said ≡ copied fault) → Loaded out ending
-  load_stopped fault ending ends said = inl (
-    right,
-    inr (copy_stopped taken failed old new out_taken out_failed out (is_snapshot job.kind) (layout_by (layout_for job.kind)) fault ending (as_asked (Err fault) ends) said),
-  )
-
-  pub load_reported : (count : ℕ) (out_after : O) (ending : Ending) → EndsCopy taken failed old new (layout_by which) snapshot (Ok count) → ∥ HasGoodCopies (text_members file) job.sequence ∥₁
+  pub load_reported : (count : ℕ) (out_after : O) (ending : Ending) → EndsCopy taken failed old new layout (is_snapshot job.kind) (Ok count) → ∥ HasGoodCopies (text_members file) job.sequence ∥₁
       → Does out_taken out_failed out out_after (answer count) ending → Loaded out_after ending
-  load_reported count out_after ending ends good does =
-      let whole = as_asked (Ok count) ends in
-      inl (
-        right,
-        inl (copy_reported taken failed old new out_taken out_failed out (is_snapshot job.kind) (layout_by (layout_for job.kind)) (text_members file) answer count out_after ending whole
-            (∥∥₁_map good (λ g. g (layout_for job.kind) (is_snapshot job.kind) job.page_size.bytes job.page_size.accepted whole.small)) does),
-      )
+  load_reported count out_after ending whole good does =
+      let own = ∥∥₁_map good (λ g. g (layout_for job.kind) (is_snapshot job.kind) job.page_size.bytes job.page_size.accepted whole.small) in
+      inl (right, inl (copy_reported taken failed old new out_taken out_failed out (is_snapshot job.kind) layout (text_members file) answer count out_after ending whole own does))

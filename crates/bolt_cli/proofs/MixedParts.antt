@@ -1,18 +1,11 @@
 -- What is printed of an item in the form `mixed` is a word, which is read back as a part.
 use Rattle.std.proofs.Common.{◌≡◌, ◌∙◌, ◌++◌, ◌&&◌, ◌==◌, ℕ, List, Bool, true, false, Result, Ok, ap, codes, drop, nat_le, not, refl, sym, take}
-use Rattle.std.specs.Prelude.{if◌then◌else◌}
-use Rattle.std.specs.Cmp.Lexicographic.{pointwise}
-use Rattle.std.specs.Result.{result_ok}
-use Rattle.std.specs.Str.{bytes_eq}
-use Rattle.std.proofs.lemmas.Bool.{and_parts, not-true}
-use Rattle.std.proofs.lemmas.Slice.Eq.{bytes_eq-Decides}
+use Rattle.bolt_cli.proofs.Vocabulary.{and_parts, bytes_eq, bytes_eq-Decides, hex_bytes, if◌then◌else◌, mixed_bytes, not-true, not_true, or_bad_hex, pointwise, result_ok}
 use Rattle.hex.proofs.HexLemmas.{decode_of-encode_lower}
 use Rattle.hex.specs.Hex.{IsBytes, encode_lower}
 use Rattle.hex.specs.declared.error.FromHexError.{FromHexError}
 use Rattle.bolt_report.specs.Forms.{is_marked, is_printable, mixed_text}
 use Rattle.bolt_report.proofs.HexStrings.{digits_pass}
-use Rattle.bolt_tree.proofs.Filters.{not_true}
-use Rattle.bolt_cli.specs.PathWords.{hex_bytes, mixed_bytes, or_bad_hex}
 
 -- without the mark it is read as text
 unmarked : (bytes : List ℕ) → is_marked bytes ≡ false → bytes_eq (take 2 bytes) (codes "0x") ≡ false

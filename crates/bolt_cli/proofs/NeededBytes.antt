@@ -1,13 +1,7 @@
 -- A job that shows nothing but metas does the same on any two files with the same metas.
 use Rattle.std.proofs.Common.{◌≡◌, ◌↔◌, inl, inr, ℕ, List, Option, None, Some, true}
-use Rattle.bolt_format.specs.Metas.{HasMetaFault, HasSlotFault, IsChosen, IsInSlot}
-use Rattle.bolt_format.specs.declared.meta.Meta.{Meta}
-use Rattle.bolt_format.specs.declared.meta.MetaFault.{MetaFault}
-use Rattle.bolt_format.specs.declared.meta.Slot.{Slot}
-use Rattle.bolt_report.specs.declared.form.FigureForm.{FigureForm}
-use Rattle.bolt_cli.specs.Answers.{Answer, DoesJob, Ending, IsInfoAnswer}
+use Rattle.bolt_cli.proofs.Vocabulary.{Answer, DoesJob, Ending, FigureForm, HasMetaFault, HasSlotFault, IsChosen, IsInSlot, IsInfoAnswer, Job, Meta, MetaFault, Slot}
 use Rattle.bolt_cli.specs.Needs.{needs_metas_alone}
-use Rattle.bolt_cli.specs.declared.job.Job.{Job}
 use Rattle.bolt_cli.specs.declared.job.Job.TheVariants as job
 
 -- the metas of two files, and the faults of their first, are the same
@@ -40,13 +34,4 @@ module _ {O T : Type 0} (out_taken : O → Option (List ℕ)) (out_failed : O �
     (λ h. (h.0, answer_there part file j.slot j.form h.0 same h.1, h.2, h.3)),
     (λ h. (h.0, answer_there file part j.slot j.form h.0 (back part file same) h.1, h.2, h.3)),
   )
-  enough (job.Page j) is out_old out_new target_old target_new ending = absurd (cc)
-  enough (job.Pages j) is out_old out_new target_old target_new ending = absurd (cc)
-  enough (job.Check j) is out_old out_new target_old target_new ending = absurd (cc)
-  enough (job.Buckets j) is out_old out_new target_old target_new ending = absurd (cc)
-  enough (job.Stats j) is out_old out_new target_old target_new ending = absurd (cc)
-  enough (job.Keys j) is out_old out_new target_old target_new ending = absurd (cc)
-  enough (job.Get j) is out_old out_new target_old target_new ending = absurd (cc)
-  enough (job.List j) is out_old out_new target_old target_new ending = absurd (cc)
-  enough (job.Compact j) is out_old out_new target_old target_new ending = absurd (cc)
-  enough (job.Load j) is out_old out_new target_old target_new ending = absurd (cc)
+  enough j is out_old out_new target_old target_new ending = absurd (cc)

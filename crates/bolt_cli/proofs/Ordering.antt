@@ -1,14 +1,7 @@
 -- Each run does its deeds in order.
 use Rattle.std.proofs.Common.{◌≡◌, ◌≢◌, inl, inr, arith, ℕ, zero, suc, List, [], ◌∷◌, Bool, true, false, Option, Some, None, Ok, Err}
-use Rattle.std.specs.Prelude.{string_bytes}
-use Rattle.bolt_cli.specs.Answers.{Ending}
-use Rattle.bolt_cli.specs.Deeds.{Deed, Read, Made, Ended, Opened, Closed, Said}
-use Rattle.bolt_cli.specs.LineWords.{Text}
+use Rattle.bolt_cli.proofs.Vocabulary.{Choose, Closed, Closes, Copies, Deed, Ended, Ending, Ends, Fails, Goes, IsReported, IsRun, Job, Made, Opened, Prints, PrintsHeld, Read, Reads, Refusal, Refuses, Said, Text, is_again, string_bytes, target_name}
 use Rattle.bolt_cli.specs.Orders.{Copied, Copying, Failing, IsInOrder, Printed, Printing, Reading}
-use Rattle.bolt_cli.specs.Runs.{Choose, Closes, Copies, Ends, Fails, Goes, IsReported, IsRun, Makes, Prints, PrintsHeld, Reads, Refuses, Shows, is_again}
-use Rattle.bolt_cli.specs.PlainWords.{target_name}
-use Rattle.bolt_cli.specs.declared.job.Job.{Job}
-use Rattle.bolt_cli.specs.declared.refusal.Refusal.{Refusal}
 use Rattle.bolt_cli.specs.declared.refusal.Refusal.TheVariants as refusal
 use Rattle.bolt_cli.specs.declared.source.OutputFault.TheVariants.{ReaderLeft, Failed}
 use Rattle.bolt_cli.specs.declared.source.Source.{Source}
@@ -39,11 +32,6 @@ module _ {T O : Type 0} (output_taken : O → Option (List ℕ)) (output_failed 
   Prints-ordered text ending (Opened (Err fault) ∷ deeds) code are = let is = Fails-ordered _ deeds code are in (is, is)
   Prints-ordered text ending deeds code are = absurd are
 
-  Shows-ordered : (file : List ℕ) (job : Job) (deeds : List (Deed T O)) (code : ℕ) → Shows output_taken output_failed file job deeds code → IsInOrder Reading deeds code
-  Shows-ordered file job (Opened (Ok before) ∷ deeds) code (empty, after, ending, does, closes) = Closes-ordered after ending deeds code closes
-  Shows-ordered file job (Opened (Err fault) ∷ deeds) code are = Fails-ordered _ deeds code are
-  Shows-ordered file job deeds code are = absurd are
-
   Held-ordered : (failures : ℕ) (text : List ℕ) (ending : Ending) (deeds : List (Deed T O)) (code : ℕ)
       → PrintsHeld output_taken output_failed failures text ending deeds code → IsInOrder Copied deeds code
   Held-ordered zero text ending deeds code are = (Prints-ordered text ending deeds code are).1
@@ -57,16 +45,13 @@ module _ {T O : Type 0} (target_taken : T → Option (List ℕ)) (target_failed 
   Copies-ordered before file job (Ended after (Err fault) ∷ deeds) code (held, ending, does, (line, is, fails)) = Fails-ordered line deeds code fails
   Copies-ordered before file job deeds code are = absurd are
 
-  Makes-ordered : (out : Text) (source : Source) (job : Job) (deeds : List (Deed T O)) (code : ℕ)
-      → Makes target_taken target_failed output_taken output_failed out source job deeds code → IsInOrder Reading deeds code
-  Makes-ordered out source job (Made name permissions (Ok target) ∷ deeds) code (is, bits, empty, copies) = Copies-ordered target source.bytes.items job deeds code copies
-  Makes-ordered out source job (Made name permissions (Err fault) ∷ deeds) code (is, bits, fails) = Fails-ordered _ deeds code fails
-  Makes-ordered out source job deeds code are = absurd are
-
   Goes-ordered : (target : Option Text) (source : Source) (job : Job) (deeds : List (Deed T O)) (code : ℕ)
       → Goes target_taken target_failed output_taken output_failed target source job deeds code → IsInOrder Reading deeds code
-  Goes-ordered (Some out) source job deeds code are = Makes-ordered out source job deeds code are
-  Goes-ordered None source job deeds code are = Shows-ordered output_taken output_failed source.bytes.items job deeds code are
+  Goes-ordered (Some out) source job (Made name permissions (Ok target) ∷ deeds) code (is, bits, empty, copies) = Copies-ordered target source.bytes.items job deeds code copies
+  Goes-ordered (Some out) source job (Made name permissions (Err fault) ∷ deeds) code (is, bits, fails) = Fails-ordered _ deeds code fails
+  Goes-ordered None source job (Opened (Ok before) ∷ deeds) code (empty, after, ending, does, closes) = Closes-ordered output_taken output_failed after ending deeds code closes
+  Goes-ordered None source job (Opened (Err fault) ∷ deeds) code are = Fails-ordered _ deeds code are
+  Goes-ordered target source job deeds code are = absurd are
 
   Choose-either : (again : Bool) {A B C : Type 0} → (A → C) → (B → C) → Choose again A B → C
   Choose-either true first second chosen = first chosen

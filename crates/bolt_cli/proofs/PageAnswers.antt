@@ -1,15 +1,8 @@
 -- The answer of `page`, whether the page is good or not.
-use Rattle.std.proofs.Common.{◌≡◌, ◌≢◌, ◌↔◌, ℕ, List, Option, Some, None, Result, Ok, Err, ap, refl, subst, sym}
-use Rattle.std.specs.Result.{IsErrAnd}
+use Rattle.std.proofs.Common.{◌≡◌, ◌≢◌, ◌↔◌, ℕ, List, Option, Some, None, Result, Ok, Err, refl}
+use Rattle.bolt_cli.proofs.Vocabulary.{Does, Ending, Ghosts, IsErrAnd, ReportFault, Wrote, done, fault_ending, page_answer, reported, whole}
 use Rattle.bolt_format.specs.declared.fault.PageFault.{PageFault}
-use Rattle.bolt_format.specs.Endings.{whole}
-use Rattle.bolt_format.specs.Wrote.{Wrote}
-use Rattle.bolt_format.specs.declared.sink.Sink.{Ghosts}
-use Rattle.bolt_report.specs.ReportEndings.{fault_ending}
-use Rattle.bolt_report.specs.declared.fault.ReportFault.{ReportFault}
 use Rattle.bolt_report.specs.declared.fault.ReportFault.TheVariants as report
-use Rattle.bolt_cli.specs.Answers.{Does, Ending, done, page_answer}
-use Rattle.bolt_cli.specs.Failures.{reported}
 use Rattle.bolt_cli.specs.declared.failure.Failure.TheVariants as failure
 use Rattle.bolt_cli.proofs.Doing.{Does-nothing, Does-part, Does-whole}
 
@@ -19,10 +12,6 @@ NamesFault result found = (fault : PageFault) → (result ≡ Err (report.Page f
 
 abbrev refused_by : (A : Type 0) → ReportFault → Result A ReportFault
 refused_by A e = Err e
-
-abbrev fault_in : {A : Type 0} → Result A ReportFault → ReportFault → ReportFault
-fault_in (Ok x) other = other
-fault_in (Err e) other = e
 
 pub Does-page_whole : {S A : Type 0} {sink : Ghosts S} (old new : S) (found : Option PageFault) (text : List ℕ) (x : A)
     → Wrote sink old new text whole → NamesFault {A = A} (Ok x) found → Does sink.taken sink.failed old new (page_answer found text) (Ok 0)
@@ -38,6 +27,5 @@ Does-page_part A old new None text report.NoMemory result a memory names untouch
 Does-page_part A old new None text (report.Page fault) result a memory names untouched is = let bad = (names fault).0 refl in absurd (cc)
 Does-page_part A {sink} old new (Some found) text e result a memory names untouched is =
     let same : refused_by A e ≡ Err (report.Page found) = (names found).1 refl in
-    let said : reported e ≡ failure.Page found = ap (λ (r : Result A ReportFault). reported (fault_in r e)) same in
-    subst (λ s. Does sink.taken sink.failed old s (page_answer (Some found) text) result) (sym (untouched found same))
-    (Does-nothing sink.taken sink.failed old (failure.Page found) result (subst (λ f. IsErrAnd result (λ t. t ≡ f)) said is))
+    let page : e ≡ report.Page found = cc in
+    rw (untouched found same) (Does-nothing sink.taken sink.failed old (failure.Page found) result (rw page at is))

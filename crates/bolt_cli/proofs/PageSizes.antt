@@ -1,15 +1,8 @@
 -- Page sizes, alone and in an assumed meta, are read of their words.
 use Rattle.std.proofs.Common.{◌≡◌, ◌∙◌, ◌+◌, ◌&&◌, ◌==◌, Bool, ℕ, [], Option, Some, None, Result, Ok, Err, codes, length, sym, refl, ap, ap₂, arith, subst}
-use Rattle.std.specs.List.{after_first, before_first, list_any, position_or_len}
-use Rattle.std.specs.Prelude.{IfNone, IfSome, MatchOption, if◌then◌else◌}
-use Rattle.std.proofs.lemmas.Bool.{false_from_ne_true}
-use Rattle.std.proofs.lemmas.List.{drop_all}
+use Rattle.bolt_cli.proofs.Vocabulary.{IfNone, IfSome, IsPageSize, MatchOption, PageSize, after_first, assumed_of, assumed_when, before_first, drop_all, false_from_ne_true, if◌then◌else◌, is_page_size, list_any, number_in, page_size_of, page_sizes, position_or_len}
 use Rattle.clap.specs.Words.{Text}
-use Rattle.bolt_format.specs.Metas.{IsPageSize, page_sizes}
-use Rattle.bolt_load.specs.Numbers.{number_in}
 use Rattle.bolt_load.proofs.DecimalNumbers.{number_is}
-use Rattle.bolt_cli.specs.declared.page_size.PageSize.{PageSize}
-use Rattle.bolt_cli.specs.PlainWords.{assumed_of, assumed_when, is_page_size, page_size_of}
 
 tested : (word : Text) (n : ℕ) → number_in word ≡ Some n → is_page_size word ≡ list_any (λ size. size == n) page_sizes
 tested word n is = let parts = number_is word n is in ap₂ (λ (b : Bool) (m : ℕ). b && list_any (λ size. size == m) page_sizes) parts.0 parts.1

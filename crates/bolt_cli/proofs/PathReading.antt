@@ -1,17 +1,12 @@
 -- The parts of a path are read one after another.
-use Rattle.std.proofs.Common.{◌≡◌, ◌∙◌, ◌==◌, Bool, List, [], ◌∷◌, ◌++◌, Result, Ok, Err, codes, length, refl, sym, ap, ap₂, inl, inr, append_assoc}
-use Rattle.std.specs.Prelude.{Option, Some, None, false, true, if◌then◌else◌, option_and_then, option_map}
-use Rattle.std.specs.List.{list_any, slice_split}
-use Rattle.std.specs.Result.{IsErrAnd}
-use Rattle.std.proofs.lemmas.Bool.{or_cases, or_parts}
-use Rattle.bolt_check.specs.Keys.{Key}
-use Rattle.bolt_tree.specs.Paths.{Path}
+use Rattle.std.proofs.Common.{◌≡◌, ◌∙◌, ◌==◌, Bool, List, [], ◌∷◌, ◌++◌, Result, Ok, Err, codes, length, refl, sym, ap, ap₂, inl, inr, append_assoc, map}
+use Rattle.bolt_cli.proofs.Vocabulary.{Bor, Gives, IsErrAnd, Key, None, Option, Path, Refusal, Some, Text, each_part, false, hex_path_of, if◌then◌else◌, list_any, option_and_then, option_map, or_bad_hex, or_cases, or_parts, part_of, result_and_then, slice_split, true}
 use Rattle.bolt_load.specs.HexPaths.{hex_bytes_in, hex_path_in, part_in, parts_in}
-use Rattle.bolt_cli.specs.LineWords.{Text}
-use Rattle.bolt_cli.specs.CommandLine.{Gives}
-use Rattle.bolt_cli.specs.PathWords.{each_part, hex_path_of, or_bad_hex, part_of, result_and_then}
-use Rattle.bolt_cli.specs.declared.parts.Parts.TheVariants as parts
-use Rattle.bolt_cli.specs.declared.refusal.Refusal.{Refusal}
+use Rattle.bolt_cli.specs.declared.path_words.Parts.TheVariants as parts
+
+-- the words behind borrows
+abbrev pub texts : List (Bor Text) → List Text
+texts words = map (λ (word : Bor Text). word.now) words
 
 -- what is read of the words that are left, after the parts so far
 abbrev pub continued : Path → Result Path Text → Result Path Text
@@ -64,7 +59,7 @@ no_path None = refl
 no_path (Some part) = refl
 
 an_empty : (words : List Text) → empties words ≡ true → parts_in words ≡ None
-an_empty [] some = absurd (let f : false ≡ true = some in cc)
+an_empty [] some = absurd (cc)
 an_empty (word ∷ words) some = elim (or_cases (length word == 0) (empties words) some) [
   | inl here ↦ ap (λ part. option_and_then (λ part. option_map (λ parts. part ∷ parts) (parts_in words)) part) (ap (λ b. if b then None else hex_bytes_in word) here)
   | inr later ↦ ap (λ rest. option_and_then (λ part. option_map (λ parts. part ∷ parts) rest) (part_in word)) (an_empty words later) ∙ no_path (part_in word)

@@ -1,28 +1,16 @@
 -- What is known of a file that is read, under whatever meta.
 use Rattle.std.proofs.Common.{Option, Some, None, ◌≡◌, ◌<◌, arith, ℕ, List, Ok, Err, ap, inl, inr, refl, subst, sym}
-use Rattle.std.specs.Result.{IsErrAnd}
-use Rattle.bolt_check.specs.CheckedFiles.{bytes_of, meta_of}
-use Rattle.bolt_check.specs.declared.checked_file.Checked.{Checked}
+use Rattle.bolt_cli.proofs.Vocabulary.{Active, Answer, Assumed, CheckFault, Checked, Ending, Failure, HasFinding, HasSoundTrees, InSlot, IsErrAnd, IsFailureOf, IsInSlot, IsMeta, IsMetaOf, IsPageSize, IsReadAnswer, IsReadUnder, IsRefusedUnder, IsUnrecoverableUnder, Meta, MetaChoice, One, PageSize, Slot, Zero, bytes_of, copy_page_size, meta_of}
 use Rattle.bolt_format.proofs.PageSizes.{size_bounds}
-use Rattle.bolt_format.specs.Metas.{IsInSlot, IsMeta, IsPageSize}
-use Rattle.bolt_format.specs.declared.meta.Slot.TheVariants.{One, Zero}
-use Rattle.bolt_check.specs.Sound.{HasSoundTrees}
-use Rattle.bolt_format.specs.declared.meta.Meta.{Meta}
-use Rattle.bolt_format.specs.declared.meta.Slot.{Slot}
-use Rattle.bolt_check.specs.declared.fault.CheckFault.{CheckFault}
 use Rattle.bolt_check.specs.declared.fault.CheckFault.TheVariants as check
-use Rattle.bolt_cli.specs.Answers.{Answer, Ending, IsReadAnswer, IsReadUnder, IsRefusedUnder, IsUnrecoverableUnder, copy_page_size}
-use Rattle.bolt_cli.specs.MetaChoices.{IsMetaOf}
-use Rattle.bolt_cli.specs.Failures.{HasFinding, IsFailureOf}
-use Rattle.bolt_cli.specs.declared.failure.Failure.{Failure}
-use Rattle.bolt_cli.specs.declared.meta_choice.MetaChoice.{MetaChoice}
-use Rattle.bolt_cli.specs.declared.page_size.PageSize.{PageSize}
-use Rattle.bolt_cli.specs.declared.meta_choice.MetaChoice.TheVariants.{Active, Assumed, InSlot}
 
 pub read_trees : (file : List ℕ) (choice : MetaChoice) (meta : Meta) → IsReadUnder file choice meta → HasSoundTrees file meta
 read_trees file Active meta (slot, chosen, sound) = sound.trees
-read_trees file (InSlot slot) meta (valid, trees) = trees
-read_trees file (Assumed assumed) meta (same, trees) = trees
+read_trees file choice meta under = under.1
+
+pub read_meta : (file : List ℕ) (choice : MetaChoice) (meta : Meta) → IsReadUnder file choice meta → IsMetaOf file choice meta
+read_meta file Active meta (slot, chosen, sound) = (slot, chosen)
+read_meta file choice meta under = under.0
 
 pub own_trees : (file : List ℕ) (choice : MetaChoice) (checked : Checked) → bytes_of checked ≡ file → IsReadUnder file choice (meta_of checked) → HasSoundTrees (bytes_of checked) (meta_of checked)
 own_trees file choice checked same under = subst (λ (f : List ℕ). HasSoundTrees f (meta_of checked)) (sym same) (read_trees file choice (meta_of checked) under)
@@ -42,15 +30,13 @@ slot_page_size file Zero meta is = meta_page_size file 0 meta is
 slot_page_size file One meta (inl is) = meta_page_size file _ meta is.2
 slot_page_size file One meta (inr is) = meta_page_size file is.1.at meta is.1.valid
 
-pub read_page_size : (file : List ℕ) (choice : MetaChoice) (meta : Meta) → IsReadUnder file choice meta → IsPageSize meta.page_size
-read_page_size file Active meta (slot, chosen, sound) = slot_page_size file slot meta chosen.valid
-read_page_size file (InSlot slot) meta (is, trees) = slot_page_size file slot meta is
-read_page_size file (Assumed assumed) meta (same, trees) = subst (λ (m : Meta). IsPageSize m.page_size) (sym same) assumed.page_size.accepted
-
 pub choice_page_size : (file : List ℕ) (choice : MetaChoice) (meta : Meta) → IsMetaOf file choice meta → IsPageSize meta.page_size
 choice_page_size file Active meta (slot, chosen) = slot_page_size file slot meta chosen.valid
 choice_page_size file (InSlot slot) meta is = slot_page_size file slot meta is
 choice_page_size file (Assumed assumed) meta same = subst (λ (m : Meta). IsPageSize m.page_size) (sym same) assumed.page_size.accepted
+
+pub read_page_size : (file : List ℕ) (choice : MetaChoice) (meta : Meta) → IsReadUnder file choice meta → IsPageSize meta.page_size
+read_page_size file choice meta under = choice_page_size file choice meta (read_meta file choice meta under)
 
 pub some_page_size : (file : List ℕ) (choice : MetaChoice) (meta : Meta) → IsMetaOf file choice meta → 0 < meta.page_size
 some_page_size file choice meta is = let (least, most) = size_bounds meta.page_size (choice_page_size file choice meta is) in omega (arith, least)
@@ -62,20 +48,14 @@ copy_size None meta is = is
 -- ---- why the file is refused, or nothing of it is recovered
 
 pub unread_finding : (file : List ℕ) (choice : MetaChoice) (fault : CheckFault) → IsRefusedUnder file choice fault → HasFinding fault
-unread_finding file choice (check.Open fault) is = tt
-unread_finding file choice (check.Structure x) is = tt
 unread_finding file Active (check.Accounts findings) (slot, meta, chosen, trees, wrong, are, some) = some
-unread_finding file (InSlot slot) (check.Accounts findings) is = absurd is
-unread_finding file (Assumed assumed) (check.Accounts findings) is = absurd is
-unread_finding file choice check.Memory is = tt
+unread_finding file choice (check.Accounts findings) is = absurd is
+unread_finding file choice fault is = tt
 
 pub unrecoverable_finding : (file : List ℕ) (choice : MetaChoice) (fault : CheckFault) → IsUnrecoverableUnder file choice fault → HasFinding fault
-unrecoverable_finding file choice (check.Open fault) is = tt
-unrecoverable_finding file choice (check.Structure x) is = tt
 unrecoverable_finding file Active (check.Accounts findings) is = absurd is
-unrecoverable_finding file (InSlot slot) (check.Accounts findings) is = absurd is
-unrecoverable_finding file (Assumed assumed) (check.Accounts findings) is = absurd is
-unrecoverable_finding file choice check.Memory is = tt
+unrecoverable_finding file choice (check.Accounts findings) is = absurd is
+unrecoverable_finding file choice fault is = tt
 
 -- only the first finding is reported
 pub failure_named : (fault : CheckFault) (ending : Ending) → HasFinding fault → IsErrAnd ending (λ said. HasFinding fault → IsFailureOf fault said)

@@ -1,42 +1,15 @@
 -- A copy, and in a snapshot its hash: what the target accepted of both.
-use Rattle.std.proofs.Common.{◌≡◌, ◌≢◌, ◌∙◌, ◌+◌, ◌≤◌, ◌<◌, ℕ, List, [], ◌∷◌, ◌++◌, Bool, true, false, arith, length, length-append, Option, Result, Ok, Err, ap, append_assoc, inl, inr, refl, subst, sym, rules}
-use Rattle.std.proofs.lemmas.Bool.{cases_lt}
-use Rattle.std.specs.Io.KnownBytes.{Appends, Keeps}
-use Rattle.std.specs.Prelude.{IsOk, OnOk}
-use Rattle.std.specs.Result.{IsErrAnd}
-use Rattle.sha2.specs.Hashers.{Holds256}
-use Rattle.sha2.specs.Sha256.{sha256}
-use Rattle.sha2.specs.declared.Sha256.{Sha256}
-use Rattle.sha2.proofs.Facts256.{length-sha256}
-use Rattle.bolt_format.specs.Sinks.{AppendsProperPrefix}
-use Rattle.bolt_bulk.specs.Compacting.{Copies, too_many}
-use Rattle.bolt_bulk.specs.declared.fault.BulkFault.{BulkFault}
+use Rattle.std.proofs.Common.{◌≡◌, ◌≢◌, ◌∙◌, ◌+◌, ◌<◌, ℕ, List, [], Bool, true, false, arith, length, length-append, Option, Result, Ok, Err, ap, inl, inr, refl, subst, sym, rules}
+use Rattle.bolt_cli.proofs.Vocabulary.{Appends, AppendsProperPrefix, AppendsProperPrefix-first, BulkFault, EndsCopy, HashesSince, Holds256, IsErrAnd, IsOk, Keeps, OnOk, Sha256, StopsShort, cases_lt, copied, copy_of, length-sha256, sha256, too_many}
+use Rattle.bolt_bulk.specs.Compacting.{Copies}
 use Rattle.bolt_bulk.specs.declared.fault.BulkFault.TheVariants as bulk
 use Rattle.bolt_bulk.specs.declared.outcome.Done.{Done}
-use Rattle.bolt_cli.specs.Answers.{StopsShort}
-use Rattle.bolt_cli.specs.CopyEnds.{EndsCopy}
-use Rattle.bolt_cli.specs.Failures.{copied}
-use Rattle.bolt_cli.specs.Hashes.{HashesSince}
-use Rattle.bolt_cli.specs.SnapshotAnswers.{copy_of}
 use Rattle.bolt_cli.proofs.HashLemmas.{short_with_hash, whole_with_hash}
-
-below : (n bound : ℕ) → (bound ≤ n → ⊥) → n < bound
-below n bound none = elim (cases_lt n bound) [ inl less ↦ less | inr more ↦ absurd (none more) ]
-
-more_some : (xs ys : List ℕ) → xs ≢ [] → (xs ++ ys) ≢ []
-more_some [] ys some e = some refl
-more_some (x ∷ xs) ys some e = cc
 
 -- a proper prefix of the layout is one of the copy
 proper_copy : (snapshot : Bool) (old new : Option (List ℕ)) (layout : List ℕ) → AppendsProperPrefix old new layout → AppendsProperPrefix old new (copy_of snapshot layout)
 proper_copy false old new layout short = short
-proper_copy true old new layout short = record {
-  front = short.front;
-  rest = short.rest ++ sha256 layout;
-  parts = ap (λ (text : List ℕ). text ++ sha256 layout) short.parts ∙ append_assoc short.front short.rest (sha256 layout);
-  short = more_some short.rest (sha256 layout) short.short;
-  taken = short.taken;
-}
+proper_copy true old new layout short = AppendsProperPrefix-first old new layout (sha256 layout) short
 
 module _ {T : Type 0} (taken : T → Option (List ℕ)) (failed : T → ℕ) (old mid : T) (layout : List ℕ) where
   -- the layout isn't whole
@@ -58,7 +31,7 @@ module _ {T : Type 0} (taken : T → Option (List ℕ)) (failed : T → ℕ) (ol
 
     -- none is written whole that has too many bytes
     small : length layout < too_many
-    small = below (length layout) too_many (λ h. search (rules, (at_ok.refuses h).0))
+    small = elim (cases_lt (length layout) too_many) [ inl less ↦ less | inr more ↦ absurd (search (rules, (at_ok.refuses more).0)) ]
 
     -- the copy is its layout
     pub layout_whole : (snapshot : Bool) → snapshot ≡ false → EndsCopy taken failed old mid layout snapshot (Ok done.bytes)
@@ -90,7 +63,6 @@ module _ {T : Type 0} (taken : T → Option (List ℕ)) (failed : T → ℕ) (ol
 
 -- what holds of a layout that is whole, holds of a copy that is
 pub only_after : {A B E F : Type 0} (X : Type 0) (first : Result A E) (second : Result B F) → OnOk second (IsOk first) → OnOk first X → OnOk second X
+only_after X first (Err f) after x = tt
 only_after X (Ok a) (Ok b) after x = x
-only_after X (Ok a) (Err f) after x = tt
 only_after X (Err e) (Ok b) after x = absurd (cc after)
-only_after X (Err e) (Err f) after x = tt

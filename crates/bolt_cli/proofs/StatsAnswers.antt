@@ -1,97 +1,26 @@
 -- The figures of a bucket's buckets, added up entry by entry.
-use Rattle.std.proofs.Common.{◌≡◌, ◌∙◌, ◌⊎◌, inl, inr, ap, ℕ, Vec, length, false, IsTrue, List, [], ◌∷◌, Some, refl, sym, subst}
-use Rattle.std.proofs.Math.Logic.{∥∥₁_elim, ∥∥₁_map}
-use Rattle.std.proofs.Props.{props}
-use Rattle.bolt_check.specs.CheckedFiles.{bytes_of, meta_of}
-use Rattle.bolt_check.specs.Keys.{Key}
-use Rattle.bolt_check.specs.declared.checked_file.Checked.{Checked}
-use Rattle.bolt_format.specs.Elements.{LeafElement}
-use Rattle.bolt_format.specs.declared.meta.Meta.{Meta}
-use Rattle.bolt_tree.specs.Buckets.{bucket_checked, bucket_start}
-use Rattle.bolt_tree.specs.BucketViews.{entries_of}
-use Rattle.bolt_tree.specs.Entries.{Root_page, Start, start_of}
-use Rattle.bolt_tree.specs.EntriesLeft.{ForEntries}
-use Rattle.bolt_tree.specs.Lookups.{IsBucketAt}
-use Rattle.bolt_tree.specs.declared.bucket.Bucket.{Bucket}
-use Rattle.bolt_tree.proofs.Leaving.{the_entries}
-use Rattle.bolt_tree.proofs.Named.{entry_once}
-use Rattle.bolt_report.specs.Figures.{add_stats}
+use Rattle.std.proofs.Common.{◌≡◌, ◌∙◌, ◌⊎◌, inl, inr, ap, ℕ, Vec, length, List, [], ◌∷◌, Some, refl, sym, subst}
+use Rattle.bolt_cli.proofs.Vocabulary.{AddsEntry, AreEntries, Bucket, Checked, Failure, FigureForm, ForEntries, HasSoundTrees, HasStats, IsBucketAt, IsStatsAnswer, IsTotal, Key, LeadsTo, LeafElement, Meta, Path, Root_page, Start, Stats, add_stats, bucket_checked, bucket_start, bytes_of, entries_of, entry_once, meta_of, no_stats, path_in, props, refused, the_entries, ∥∥₁_elim, ∥∥₁_map}
 use Rattle.bolt_report.specs.StatsOf.{IsStatsOf}
-use Rattle.bolt_report.specs.declared.form.FigureForm.{FigureForm}
-use Rattle.bolt_report.specs.declared.statistics.Stats.{Stats}
-use Rattle.bolt_tree.specs.Paths.{Path}
-use Rattle.bolt_check.specs.Sound.{HasSoundTrees}
-use Rattle.bolt_cli.specs.PlainWords.{path_in}
-use Rattle.bolt_cli.proofs.AtPaths.{no_parts}
-use Rattle.bolt_cli.proofs.RootEntries.{of_root, root_entries}
-use Rattle.bolt_cli.specs.Answers.{AddsBy, AddsEntry, HasStats, IsStatsAnswer, IsTotal, LeadsTo, no_stats, refused}
-use Rattle.bolt_cli.specs.declared.failure.Failure.{Failure}
+use Rattle.bolt_cli.proofs.AtPaths.{at_path, no_parts}
 use Rattle.bolt_cli.specs.declared.failure.Failure.TheVariants as failure
 
--- ---- one entry
-
-adds_bucket : (file : List ℕ) (meta : Meta) (e : LeafElement) (own before : Stats) → IsTrue e.is_bucket → IsStatsOf file meta (start_of e.value) own → AddsEntry file meta e before (add_stats before own)
-adds_bucket file meta e own before is_bucket are = subst (λ b. AddsBy b file meta e before (add_stats before own)) (sym is_bucket) (own, are, refl)
-
-pub adds_nothing : (file : List ℕ) (meta : Meta) (e : LeafElement) (before : Stats) → e.is_bucket ≡ false → AddsEntry file meta e before before
-adds_nothing file meta e before is_value = subst (λ b. AddsBy b file meta e before before) (sym is_value) refl
-
-module _ (bucket : Bucket) where
-  abbrev file_in : List ℕ
-  file_in = bytes_of (bucket_checked bucket)
-
-  abbrev meta_in : Meta
-  meta_in = meta_of (bucket_checked bucket)
-
-  abbrev Entry : Start → LeafElement → Type 0
-  Entry = entries_of (bucket_checked bucket)
-
-  -- the figures of the bucket under a key are those of the entry with that key
-  pub adds_found : (inner : Bucket) (key : Key) (own before sum : Stats) (e : LeafElement) → bucket_checked inner ≡ bucket_checked bucket
-      → IsBucketAt Entry (bucket_start bucket) key (Some inner)
-      → ∥ IsStatsOf (bytes_of (bucket_checked inner)) (meta_of (bucket_checked inner)) (bucket_start inner) own ∥₁ → sum ≡ add_stats before own
-      → Entry (bucket_start bucket) e → e.key ≡ key → ∥ AddsEntry file_in meta_in e before sum ∥₁
-  adds_found inner key own before sum e same found stats is entry named =
-      let (entries, known) = the_entries bucket in
-      let its_stats = subst (λ (c : Checked). ∥ IsStatsOf (bytes_of c) (meta_of c) (bucket_start inner) own ∥₁) same stats in
-      ∥∥₁_elim known (hlevel props) (λ are. ∥∥₁_elim found (hlevel props) (λ (x, there, key_is, is_bucket, start, sequence). ∥∥₁_map its_stats (λ own_are.
-      let one = entry_once Entry (bucket_start bucket) entries are x e there entry (key_is ∙ sym named) in
-      let at = subst (λ (s : Start). IsStatsOf file_in meta_in s own) start own_are in
-      subst (AddsEntry file_in meta_in e before) (sym is)
-      (subst (λ (y : LeafElement). AddsEntry file_in meta_in y before (add_stats before own)) one (adds_bucket file_in meta_in x own before is_bucket at)))))
+-- the figures of the bucket under a key are those of the entry with that key
+pub adds_found : (bucket inner : Bucket) (key : Key) (own before sum : Stats) (e : LeafElement) → bucket_checked inner ≡ bucket_checked bucket
+    → IsBucketAt (entries_of (bucket_checked bucket)) (bucket_start bucket) key (Some inner)
+    → ∥ IsStatsOf (bytes_of (bucket_checked inner)) (meta_of (bucket_checked inner)) (bucket_start inner) own ∥₁ → sum ≡ add_stats before own
+    → entries_of (bucket_checked bucket) (bucket_start bucket) e → e.key ≡ key → ∥ AddsEntry (bytes_of (bucket_checked bucket)) (meta_of (bucket_checked bucket)) e before sum ∥₁
+adds_found bucket inner key own before sum e same found stats is entry named =
+    let (entries, known) = the_entries bucket in
+    ∥∥₁_elim known (hlevel props) (λ are. ∥∥₁_elim found (hlevel props) (λ (x, there, key_is, is_bucket, start, sequence). ∥∥₁_map (rw same at stats) (λ own_are.
+    let one = entry_once (entries_of (bucket_checked bucket)) (bucket_start bucket) entries are x e there entry (key_is ∙ sym named) in
+    rw is (subst (λ (y : LeafElement). AddsEntry (bytes_of (bucket_checked bucket)) (meta_of (bucket_checked bucket)) y before (add_stats before own)) one (rw is_bucket (own, rw start at own_are, refl))))))
 
 -- what is left makes the whole, so it does with the next entry
 pub total_more : (file : List ℕ) (meta : Meta) (old new : List LeafElement) (e : LeafElement) (before after total : Stats) → old ≡ e ∷ new → ∥ AddsEntry file meta e before after ∥₁
     → ∥ IsTotal file meta new after total ∥₁ → ∥ IsTotal file meta old before total ∥₁
 total_more file meta old new e before after total is adds later =
-    subst (λ (entries : List LeafElement). ∥ IsTotal file meta entries before total ∥₁) (sym is)
-    (∥∥₁_elim adds (hlevel props) (λ one. ∥∥₁_map later (λ rest. (after, one, rest))))
-
-pub total_end : (file : List ℕ) (meta : Meta) (left : List LeafElement) (total : Stats) → left ≡ [] → ∥ IsTotal file meta left total total ∥₁
-total_end file meta left total none = subst (λ (entries : List LeafElement). ∥ IsTotal file meta entries total total ∥₁) (sym none) ∣ refl ∣₁
-
--- ---- no figures
-
-abbrev AreZero : Stats → Type 0
-AreZero s =
-    (s.buckets ≡ 0) × ((s.inline_buckets ≡ 0) × ((s.inline_used ≡ 0) × ((s.keys ≡ 0) × ((s.depth ≡ 0) × ((s.branch_pages ≡ 0) × ((s.branch_overflow ≡ 0) × ((s.branch_allocated ≡ 0) × ((s.branch_used ≡ 0) × ((s.leaf_pages ≡ 0) × ((s.leaf_overflow ≡ 0) × ((s.leaf_allocated ≡ 0) × ((s.leaf_used ≡ 0)))))))))))))
-
-pub zero_stats : (s : Stats) → AreZero s → s ≡ no_stats
-zero_stats s none = λ i. record {
-  buckets = none.0 i;
-  inline_buckets = none.1.0 i;
-  inline_used = none.1.1.0 i;
-  keys = none.1.1.1.0 i;
-  depth = none.1.1.1.1.0 i;
-  branch_pages = none.1.1.1.1.1.0 i;
-  branch_overflow = none.1.1.1.1.1.1.0 i;
-  branch_allocated = none.1.1.1.1.1.1.1.0 i;
-  branch_used = none.1.1.1.1.1.1.1.1.0 i;
-  leaf_pages = none.1.1.1.1.1.1.1.1.1.0 i;
-  leaf_overflow = none.1.1.1.1.1.1.1.1.1.1.0 i;
-  leaf_allocated = none.1.1.1.1.1.1.1.1.1.1.1.0 i;
-  leaf_used = none.1.1.1.1.1.1.1.1.1.1.1.1 i;
-}
+    rw is (∥∥₁_elim adds (hlevel props) (λ one. ∥∥₁_map later (λ rest. (after, one, rest))))
 
 -- ---- the bucket at a path
 
@@ -101,11 +30,11 @@ pub root_stats : {Z : Type 0} (path : List (Vec ℕ Z)) (checked : Checked) (roo
     → ForEntries (bucket_checked root) (bucket_start root) (λ entries. ∥ IsTotal (bytes_of (bucket_checked root)) (meta_of (bucket_checked root)) entries no_stats total ∥₁)
     → HasStats (bytes_of checked) (path_in path) (meta_of checked) total
 root_stats path checked root total empty trees is begins promised =
-    let file = bytes_of checked in
-    let (entries, are) = root_entries file (meta_of checked) trees in
-    let known = of_root file checked root (λ entries. ∥ IsTotal (bytes_of (bucket_checked root)) (meta_of (bucket_checked root)) entries no_stats total ∥₁) refl is begins promised entries are in
-    let of_checked = subst (λ (c : Checked). ∥ IsTotal (bytes_of c) (meta_of c) entries no_stats total ∥₁) is known in
-    subst (λ (p : Path). HasStats file p (meta_of checked) total) (sym (no_parts path empty)) (entries, ∥∥₁_map of_checked (λ sum. (are, sum)))
+    let Sum : List LeafElement → Type 0 = λ entries. ∥ IsTotal (bytes_of (bucket_checked root)) (meta_of (bucket_checked root)) entries no_stats total ∥₁ in
+    let (start, entries, names, are, known) = at_path checked [] root Sum trees is ∣ sym begins ∣₁ promised in
+    let sum = subst (λ (c : Checked). ∥ IsTotal (bytes_of c) (meta_of c) entries no_stats total ∥₁) is known in
+    let here = subst (λ (s : Start). AreEntries (entries_of checked) s entries) (sym names) are in
+    rw (no_parts path empty) (entries, ∥∥₁_map sum (λ all. (here, all)))
 
 -- and those of another bucket
 pub bucket_stats : {Z : Type 0} (path : List (Vec ℕ Z)) (checked : Checked) (bucket : Bucket) (own : Stats) → (length path ≡ 0 → ⊥)
@@ -113,8 +42,7 @@ pub bucket_stats : {Z : Type 0} (path : List (Vec ℕ Z)) (checked : Checked) (b
     → ∥ IsStatsOf (bytes_of (bucket_checked bucket)) (meta_of (bucket_checked bucket)) (bucket_start bucket) own ∥₁ → HasStats (bytes_of checked) (path_in path) (meta_of checked) own
 bucket_stats [] checked bucket own some is named stats = absurd (some refl)
 bucket_stats (part ∷ path) checked bucket own some is named stats =
-    let its_stats = subst (λ (c : Checked). ∥ IsStatsOf (bytes_of c) (meta_of c) (bucket_start bucket) own ∥₁) is stats in
-    (bucket_start bucket, ∥∥₁_elim named (hlevel props) (λ led. ∥∥₁_map its_stats (λ are. (led, are))))
+    (bucket_start bucket, ∥∥₁_elim named (hlevel props) (λ led. ∥∥₁_map (rw is at stats) (λ are. (led, are))))
 
 -- why there are none
 pub stats_missing : (checked : Checked) (path : Path) (form : FigureForm) (reason : Failure)

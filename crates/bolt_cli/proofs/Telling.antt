@@ -1,6 +1,7 @@
 -- One deed after another.
 use Rattle.std.proofs.Common.{List, [], ◌∷◌, ◌++◌, subst, append_assoc}
-use Rattle.bolt_cli.specs.Deeds.{Adds, Does}
+use Rattle.bolt_cli.proofs.Vocabulary.{Adds}
+use Rattle.bolt_cli.specs.Deeds.{Does}
 
 -- one deed alone
 pub Does-one : {D : Type 0} {Before After : List D → Type 0} (deed : D) {Are : List D → Type 0}

@@ -57,16 +57,16 @@ use Rattle.bolt_cli.specs.FileFaults.{AreFileFaults, errors_in, fault_lines, is_
 use Rattle.bolt_cli.specs.GoodCopies.{IsGoodCopy}
 use Rattle.bolt_cli.specs.MetaChoices.{HasNoMetaOf, IsMetaOf, assumed_for}
 use Rattle.bolt_cli.specs.SnapshotAnswers.{copy_of, differing_line, hash_differs}
-use Rattle.bolt_cli.specs.declared.extent.Extent.{Extent}
-use Rattle.bolt_cli.specs.declared.extent.Extent.TheVariants.{First, LostAndFound, Losses}
+use Rattle.bolt_cli.specs.declared.choices.Extent.{Extent}
+use Rattle.bolt_cli.specs.declared.choices.Extent.TheVariants.{First, LostAndFound, Losses}
 use Rattle.bolt_cli.specs.declared.failure.Failure.{Failure}
 use Rattle.bolt_cli.specs.declared.failure.Failure.TheVariants as failure
 use Rattle.bolt_cli.specs.declared.file_faults.FileFaults.{FileFaults}
 use Rattle.bolt_cli.specs.declared.job.Job.{Job}
 use Rattle.bolt_cli.specs.declared.job.Job.TheVariants as job
-use Rattle.bolt_cli.specs.declared.meta_choice.MetaChoice.{MetaChoice}
-use Rattle.bolt_cli.specs.declared.meta_choice.MetaChoice.TheVariants.{Active, Assumed, InSlot}
-use Rattle.bolt_cli.specs.declared.page_size.PageSize.{PageSize}
+use Rattle.bolt_cli.specs.declared.choices.MetaChoice.{MetaChoice}
+use Rattle.bolt_cli.specs.declared.choices.MetaChoice.TheVariants.{Active, Assumed, InSlot}
+use Rattle.bolt_cli.specs.declared.choices.PageSize.{PageSize}
 use Rattle.bolt_cli.specs.PlainWords.{path_in}
 use Rattle.bolt_layout.specs.declared.layout.Layout.{Layout}
 

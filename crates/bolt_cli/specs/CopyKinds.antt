@@ -2,8 +2,8 @@
 use Rattle.std.specs.Prelude.{Bool, true, false}
 use Rattle.bolt_layout.specs.declared.layout.Layout.{Layout}
 use Rattle.bolt_layout.specs.declared.layout.Layout.TheVariants.{Balanced, Plain}
-use Rattle.bolt_cli.specs.declared.copy_kind.CopyKind.{CopyKind}
-use Rattle.bolt_cli.specs.declared.copy_kind.CopyKind.TheVariants as kind
+use Rattle.bolt_cli.specs.declared.choices.CopyKind.{CopyKind}
+use Rattle.bolt_cli.specs.declared.choices.CopyKind.TheVariants as kind
 
 -- only a plain copy has the plain layout
 abbrev pub layout_for : CopyKind → Layout

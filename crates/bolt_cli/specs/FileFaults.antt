@@ -8,11 +8,11 @@ use Rattle.bolt_report.specs.FaultWords.{snapshot_fault_text}
 use Rattle.bolt_report.specs.MetaLines.{slot_fault_text}
 use Rattle.bolt_snapshot.specs.declared.hash_check.SnapshotFault.{SnapshotFault}
 use Rattle.bolt_cli.specs.SnapshotAnswers.{hash_found}
-use Rattle.bolt_cli.specs.declared.extent.Extent.{Extent}
-use Rattle.bolt_cli.specs.declared.extent.Extent.TheVariants.{First, LostAndFound, Losses}
+use Rattle.bolt_cli.specs.declared.choices.Extent.{Extent}
+use Rattle.bolt_cli.specs.declared.choices.Extent.TheVariants.{First, LostAndFound, Losses}
 use Rattle.bolt_cli.specs.declared.file_faults.FileFaults.{FileFaults}
-use Rattle.bolt_cli.specs.declared.meta_choice.MetaChoice.{MetaChoice}
-use Rattle.bolt_cli.specs.declared.meta_choice.MetaChoice.TheVariants.{Active, Assumed, InSlot}
+use Rattle.bolt_cli.specs.declared.choices.MetaChoice.{MetaChoice}
+use Rattle.bolt_cli.specs.declared.choices.MetaChoice.TheVariants.{Active, Assumed, InSlot}
 
 -- ---- what it is
 

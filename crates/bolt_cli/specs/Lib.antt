@@ -14,6 +14,7 @@ pub mod Needs
 pub mod Orders
 pub mod PathWords
 pub mod PlainWords
+pub mod Private
 pub mod Runs
 pub mod SnapshotAnswers
 pub mod Sources

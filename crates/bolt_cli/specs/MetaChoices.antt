@@ -5,9 +5,9 @@ use Rattle.bolt_format.specs.Metas.{HasMetaFault, HasSlotFault, IsChosen, IsInSl
 use Rattle.bolt_format.specs.declared.meta.Meta.{Meta}
 use Rattle.bolt_format.specs.declared.meta.MetaFault.{MetaFault}
 use Rattle.bolt_format.specs.declared.meta.Slot.{Slot}
-use Rattle.bolt_cli.specs.declared.meta_choice.AssumedMeta.{AssumedMeta}
-use Rattle.bolt_cli.specs.declared.meta_choice.MetaChoice.{MetaChoice}
-use Rattle.bolt_cli.specs.declared.meta_choice.MetaChoice.TheVariants.{Active, Assumed, InSlot}
+use Rattle.bolt_cli.specs.declared.choices.AssumedMeta.{AssumedMeta}
+use Rattle.bolt_cli.specs.declared.choices.MetaChoice.{MetaChoice}
+use Rattle.bolt_cli.specs.declared.choices.MetaChoice.TheVariants.{Active, Assumed, InSlot}
 
 -- the meta that is assumed of a file
 abbrev pub assumed_for : List ℕ → AssumedMeta → Meta

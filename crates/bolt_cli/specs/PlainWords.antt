@@ -14,15 +14,15 @@ use Rattle.bolt_report.specs.declared.form.ListForm.{ListForm}
 use Rattle.bolt_cli.specs.FormWords.{figure_form_by, form_by, list_form_by}
 use Rattle.bolt_cli.specs.LineWords.{Choice, Operand, Syntax, Text, both, long, short}
 use Rattle.bolt_cli.specs.PathWords.{each_part, hex_path_by, part_of, parts_by, prefix_of, result_and_then}
-use Rattle.bolt_cli.specs.declared.copy_kind.CopyKind.{CopyKind}
-use Rattle.bolt_cli.specs.declared.copy_kind.CopyKind.TheVariants as kind
-use Rattle.bolt_cli.specs.declared.extent.Extent.{Extent}
-use Rattle.bolt_cli.specs.declared.extent.Extent.TheVariants as extent
+use Rattle.bolt_cli.specs.declared.choices.CopyKind.{CopyKind}
+use Rattle.bolt_cli.specs.declared.choices.CopyKind.TheVariants as kind
+use Rattle.bolt_cli.specs.declared.choices.Extent.{Extent}
+use Rattle.bolt_cli.specs.declared.choices.Extent.TheVariants as extent
 use Rattle.bolt_cli.specs.declared.job.Job.{Job}
 use Rattle.bolt_cli.specs.declared.job.Job.TheVariants as job
-use Rattle.bolt_cli.specs.declared.meta_choice.MetaChoice.{MetaChoice}
-use Rattle.bolt_cli.specs.declared.meta_choice.MetaChoice.TheVariants as choice
-use Rattle.bolt_cli.specs.declared.page_size.PageSize.{PageSize}
+use Rattle.bolt_cli.specs.declared.choices.MetaChoice.{MetaChoice}
+use Rattle.bolt_cli.specs.declared.choices.MetaChoice.TheVariants as choice
+use Rattle.bolt_cli.specs.declared.choices.PageSize.{PageSize}
 
 abbrev pub file_operand : Operand
 file_operand = record { name = codes "FILE"; several = false; required = true }

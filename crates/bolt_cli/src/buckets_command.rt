@@ -1,12 +1,11 @@
 //! The command `buckets`.
-ghost use Rattle.bolt_report.specs.KeyLines.{buckets_text};
-ghost use Rattle.bolt_cli.specs.Answers.{Answer, Does, IsBucketsAnswer, IsEntriesAnswer, IsReadAnswer, IsSizesAnswer};
-ghost use Rattle.bolt_cli.specs.PlainWords.{path_in};
+ghost use Rattle.std.specs.Prelude.{false, true};
+ghost use Rattle.bolt_cli.specs.Answers.{Answer, Does};
+ghost use Rattle.bolt_cli.specs.Private.Printing.{IsBucketsPrint};
 
 use crate::failure::Failure;
 use crate::job::BucketsJob;
-use crate::open_bucket::open_bucket;
-use crate::open_read::open_read;
+use crate::opening::{open_bucket, open_read};
 use bolt_format::Sink;
 use bolt_report::{buckets, sizes};
 use std::alloc::Global;
@@ -18,7 +17,7 @@ pub(crate) fn print_buckets<O: Sink>(
     job: &BucketsJob,
     out: &mut O,
 ) -> Result<u8, Failure>
-    ensures { (answer : Answer) × IsReadAnswer file.now job.now.meta (IsBucketsAnswer file.now (path_in job.now.path.items) job.now.form job.now.sizes) answer
+    ensures { (answer : Answer) × IsBucketsPrint job.now.sizes job.now file.now answer
         × Does O.taken O.failed out.old out.new answer result }
 {
     if job.sizes {
@@ -34,7 +33,7 @@ fn print_names<O: Sink>(
     job: &BucketsJob,
     out: &mut O,
 ) -> Result<u8, Failure>
-    ensures { (answer : Answer) × IsReadAnswer file.now job.now.meta (IsEntriesAnswer file.now (path_in job.now.path.items) job.now.form (buckets_text job.now.form)) answer
+    ensures { (answer : Answer) × IsBucketsPrint false job.now file.now answer
         × Does O.taken O.failed out.old out.new answer result }
 {
     let checked = open_read(alloc, file, job.meta)?;
@@ -49,7 +48,7 @@ fn print_sizes<O: Sink>(
     job: &BucketsJob,
     out: &mut O,
 ) -> Result<u8, Failure>
-    ensures { (answer : Answer) × IsReadAnswer file.now job.now.meta (IsSizesAnswer file.now (path_in job.now.path.items) job.now.form) answer
+    ensures { (answer : Answer) × IsBucketsPrint true job.now file.now answer
         × Does O.taken O.failed out.old out.new answer result }
 {
     let checked = open_read(alloc, file, job.meta)?;

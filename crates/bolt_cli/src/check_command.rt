@@ -1,21 +1,21 @@
 //! The command `check`.
-ghost use Rattle.std.specs.Prelude.{◌≡◌, OnOk};
-ghost use Rattle.bolt_check.specs.declared.fault.CheckFault.TheVariants as check;
+ghost use Rattle.std.specs.Prelude.{◌≡◌, OnOk, ◌<◌, map};
 ghost use Rattle.bolt_recover.specs.Recoveries.{ForLosses, recovery_file, recovery_losses, recovery_meta};
-ghost use Rattle.bolt_cli.specs.Answers.{Answer, Does, IsCheckAnswer, IsFoundAnswer, IsLossesAnswer, IsRecoveredAnswer, all_refusal, check_refusal, found, none_found};
+ghost use Rattle.bolt_cli.specs.Answers.{Answer, Does, IsCheckAnswer, IsCheckAnswerAfter, IsFoundAnswer, all_refusal, check_refusal, found, none_found, IsFoundPagesAnswer, IsLostAndFoundAnswer, lost_and_found};
+ghost use Rattle.std.specs.List.{All};
+ghost use Rattle.bolt_recover.specs.ShownLosses.{lost_view};
+ghost use Rattle.bolt_report.specs.FoundLines.{IsFoundLeaf, found_view};
+ghost use Rattle.bolt_check.specs.declared.fault.CheckFault.TheVariants as check;
 
-use crate::extent::Extent;
+use crate::choices::{Extent, MetaChoice};
 use crate::failure::Failure;
 use crate::file_faults::{FileFaults, put_file_faults};
 use crate::job::CheckJob;
-use crate::lost_and_found::{print_lost_and_found, put_lost};
-use crate::meta_choice::MetaChoice;
-use crate::open_read::open_read;
-use crate::open_recovery::open_recovery;
+use crate::opening::{open_read, open_recovery};
 use bolt_check::{CheckFault, Finding, NoMemory};
-use bolt_format::{MetaFault, Sink};
-use bolt_recover::{Lost, Recovery};
-use bolt_report::findings_text;
+use bolt_format::{Meta, MetaFault, Sink};
+use bolt_recover::{Found, Lost, LostAndFound, Recovery};
+use bolt_report::{counted_lost_text, findings_text};
 use std::alloc::Global;
 use std::slice;
 
@@ -40,7 +40,7 @@ pub(crate) fn print_check<O: Sink>(
 
 /// Writes `OK` if the file is sound, and otherwise the first finding of its trees or those of its
 /// accounts.
-pub(crate) fn print_findings<O: Sink>(
+fn print_findings<O: Sink>(
     alloc: Global,
     file: &[u8],
     choice: MetaChoice,
@@ -64,7 +64,7 @@ fn print_losses<O: Sink>(
     faults: FileFaults,
     out: &mut O,
 ) -> Result<u8, Failure>
-    ensures { (answer : Answer) × IsRecoveredAnswer file.now choice (IsLossesAnswer faults file.now choice) (λ fault answer. answer ≡ all_refusal faults fault) answer
+    ensures { (answer : Answer) × IsCheckAnswerAfter Extent.Losses faults file.now choice answer
         × Does O.taken O.failed out.old out.new answer result }
 {
     let mut recovery = match open_recovery(alloc, file, choice) {
@@ -80,7 +80,7 @@ fn print_losses<O: Sink>(
 }
 
 /// Walks to the end of what is recovered, so that each loss is known.
-pub(crate) fn walk_to_end(recovery: &mut Recovery<'_>) -> Result<(), NoMemory>
+fn walk_to_end(recovery: &mut Recovery<'_>) -> Result<(), NoMemory>
     ensures file { recovery_file recovery.new ≡ recovery_file recovery.old }
     ensures meta { recovery_meta recovery.new ≡ recovery_meta recovery.old }
     ensures all { OnOk result (ForLosses (recovery_file recovery.old) (recovery_meta recovery.old) (λ losses. recovery_losses recovery.new ≡ losses)) }
@@ -123,11 +123,7 @@ fn put_refusal<O: Sink>(fault: &CheckFault, faults: FileFaults, out: &mut O) -> 
 }
 
 /// Writes what else is wrong with a file that has no valid meta. The failure says that.
-pub(crate) fn put_unread<O: Sink>(
-    fault: MetaFault,
-    faults: FileFaults,
-    out: &mut O,
-) -> Result<u8, Failure>
+fn put_unread<O: Sink>(fault: MetaFault, faults: FileFaults, out: &mut O) -> Result<u8, Failure>
     ensures { Does O.taken O.failed out.old out.new (check_refusal faults (check.Open fault)) result }
 {
     put_file_faults(faults, out)?;
@@ -143,5 +139,59 @@ fn put_findings<O: Sink>(
 {
     let earlier = put_file_faults(faults, out)?;
     findings_text(findings, earlier, out)?;
+    Ok(1)
+}
+
+/// Writes each loss and each page that is found; if nothing is lost, `OK` or the findings.
+fn print_lost_and_found<O: Sink>(
+    alloc: Global,
+    file: &[u8],
+    choice: MetaChoice,
+    faults: FileFaults,
+    out: &mut O,
+) -> Result<u8, Failure>
+    ensures { (answer : Answer) × IsLostAndFoundAnswer faults file.now choice answer
+        × Does O.taken O.failed out.old out.new answer result }
+{
+    match choice.find(file) {
+        Ok(meta) => print_under(alloc, file, choice, meta, faults, out),
+        Err(fault) => put_unread(fault, faults, out),
+    }
+}
+
+/// Writes what is lost and found under a meta.
+fn print_under<O: Sink>(
+    alloc: Global,
+    file: &[u8],
+    choice: MetaChoice,
+    meta: Meta,
+    faults: FileFaults,
+    out: &mut O,
+) -> Result<u8, Failure>
+    requires { 0 < meta.page_size }
+    ensures { (answer : Answer) × IsFoundPagesAnswer faults file.now choice meta answer
+        × Does O.taken O.failed out.old out.new answer result }
+{
+    let both = LostAndFound::under(alloc, file, meta)?;
+    let lost = both.lost();
+    if lost.is_nothing() {
+        return print_findings(alloc, file, choice, faults, out);
+    }
+    put_lost(lost, both.found.as_slice(), faults, out)
+}
+
+/// Writes what is lost, and each page that is found, after what is wrong with the file apart from its
+/// pages.
+fn put_lost<O: Sink>(
+    lost: Lost<'_>,
+    found: &[Found<'_>],
+    faults: FileFaults,
+    out: &mut O,
+) -> Result<u8, Failure>
+    requires { All IsFoundLeaf found.now }
+    ensures { Does O.taken O.failed out.old out.new (lost_and_found faults (lost_view lost.entry) (map found_view found.now)) result }
+{
+    let earlier = put_file_faults(faults, out)?;
+    counted_lost_text(lost, found, earlier, out)?;
     Ok(1)
 }

@@ -5,6 +5,7 @@ ghost use Rattle.bolt_cli.specs.LineWords as plain;
 ghost use Rattle.bolt_cli.specs.LineWords.{given_word};
 ghost use Rattle.clap.specs.Words.{new_app, rule_of};
 ghost use Rattle.bolt_cli.specs.CommandLine.{IsCommand, command_of, operand_rule, option_rule, program, program_of};
+ghost use Rattle.bolt_cli.specs.Private.CommandLines.{AddsLines};
 ghost use Rattle.bolt_cli.specs.Syntaxes.{choice_view, operand_view, syntax_view};
 
 use crate::commands::{Choice, Flag, Operand, Syntax, VERSION, reading, writing};
@@ -101,7 +102,7 @@ fn with_commands<'a>(
     program: Command<'a>,
     syntaxes: &'a [Syntax],
 ) -> Result<Command<'a>, AllocError>
-    ensures { IfOk result (λ more. (before : List plain.Syntax) → IsCommand (program_of before) program.entry → IsCommand (program_of (before ++ map syntax_view syntaxes.now)) more) }
+    ensures { IfOk result (AddsLines program.entry (map syntax_view syntaxes.now)) }
 {
     let mut program = program;
     for syntax in syntaxes {

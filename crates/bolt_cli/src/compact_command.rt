@@ -1,28 +1,26 @@
 //! The command `compact`.
 ghost use Rattle.std.specs.List.{All};
-ghost use Rattle.std.specs.Prelude.{◌≡◌, List, OnOk, map};
+ghost use Rattle.std.specs.Prelude.{◌≡◌, List, OnOk};
 ghost use Rattle.bolt_bulk.specs.WholeListings.{IsWhole};
 ghost use Rattle.bolt_format.specs.Endings.{ending};
 ghost use Rattle.bolt_format.specs.Metas.{IsPageSize};
 ghost use Rattle.bolt_format.specs.Wrote.{Wrote};
 ghost use Rattle.bolt_recover.specs.ShownLosses.{lost_view};
-ghost use Rattle.bolt_report.specs.FoundLines.{IsFoundLeaf, found_view};
+ghost use Rattle.bolt_report.specs.FoundLines.{IsFoundLeaf};
 ghost use Rattle.bolt_tree.specs.Listing.{Member};
-ghost use Rattle.bolt_cli.specs.Answers.{Compacts, Does, Joins, MakesCopy, Recovers, copy_page_size, copy_report, copy_status, lengths_line};
+ghost use Rattle.bolt_cli.specs.Answers.{Does, copy_page_size, copy_status, lengths_line};
 ghost use Rattle.bolt_cli.specs.CopyEnds.{EndsCopy, asked_layout};
 ghost use Rattle.bolt_cli.specs.CopyKinds.{is_snapshot, layout_for};
-ghost use Rattle.bolt_cli.specs.GoodCopies.{IsGoodCopy};
+ghost use Rattle.bolt_cli.specs.Private.Copying.{CompactsTo, IsGoodAsked, report_answer};
 ghost use Rattle.bolt_cli.specs.SnapshotAnswers.{differing_line, hash_differs};
 
+use crate::choices::Extent;
 use crate::copies::copy_all;
-use crate::copy_source::CopySource;
+use crate::copy_source::{CopySource, sources_have_good_copies};
 use crate::decimals::put_number_and;
-use crate::extent::Extent;
 use crate::failure::Failure;
-use crate::good_copies::sources_have_good_copies;
 use crate::job::CompactJob;
-use crate::open_read::open_read;
-use crate::open_recovery::open_recovery;
+use crate::opening::{open_read, open_recovery};
 use bolt_bulk::laws::{a_recovery_is_whole, a_walk_is_whole, joined_members_are_whole};
 use bolt_bulk::{BulkFault, Shape};
 use bolt_format::{Meta, Sink, SinkFault};
@@ -41,7 +39,7 @@ pub(crate) fn write_copy<O: Sink, T: Sink>(
     out: &mut O,
     target: &mut T,
 ) -> Result<u8, Failure>
-    ensures { MakesCopy O.taken O.failed out.old out.new T.taken T.failed target.old target.new file.now job.now.meta job.now.page_size (layout_for job.now.kind) (is_snapshot job.now.kind) job.now.extent result }
+    ensures { CompactsTo O.taken O.failed out.old out.new T.taken T.failed target.old target.new job.now.extent job.now file.now result }
 {
     match job.extent {
         Extent::First => write_sound(alloc, file, job, out, target),
@@ -58,7 +56,7 @@ fn write_sound<O: Sink, T: Sink>(
     out: &mut O,
     target: &mut T,
 ) -> Result<u8, Failure>
-    ensures { Compacts O.taken O.failed out.old out.new T.taken T.failed target.old target.new file.now job.now.meta job.now.page_size (layout_for job.now.kind) (is_snapshot job.now.kind) result }
+    ensures { CompactsTo O.taken O.failed out.old out.new T.taken T.failed target.old target.new Extent.First job.now file.now result }
 {
     let checked = open_read(alloc, file, job.meta)?;
     if hash_differs(job, file) {
@@ -86,7 +84,7 @@ fn write_recovered<O: Sink, T: Sink>(
     out: &mut O,
     target: &mut T,
 ) -> Result<u8, Failure>
-    ensures { Recovers O.taken O.failed out.old out.new T.taken T.failed target.old target.new file.now job.now.meta job.now.page_size (layout_for job.now.kind) (is_snapshot job.now.kind) result }
+    ensures { CompactsTo O.taken O.failed out.old out.new T.taken T.failed target.old target.new Extent.Losses job.now file.now result }
 {
     let mut recovery = open_recovery(alloc, file, job.meta)?;
     let meta = recovery.meta();
@@ -111,7 +109,7 @@ fn write_joined<O: Sink, T: Sink>(
     out: &mut O,
     target: &mut T,
 ) -> Result<u8, Failure>
-    ensures { Joins O.taken O.failed out.old out.new T.taken T.failed target.old target.new file.now job.now.meta job.now.page_size (layout_for job.now.kind) (is_snapshot job.now.kind) result }
+    ensures { CompactsTo O.taken O.failed out.old out.new T.taken T.failed target.old target.new Extent.LostAndFound job.now file.now result }
 {
     each_file_has_found_pages();
     each_file_has_a_joined_listing();
@@ -142,7 +140,7 @@ fn copy_asked<C: CopySource, T: Sink>(
     requires whole { IsWhole C.lists C.left source.old }
     ensures copied { (listing : List Member) → C.lists source.old listing
         → EndsCopy T.taken T.failed target.old target.new (asked_layout job.now meta.now listing) (is_snapshot job.now.kind) result }
-    ensures good { OnOk result ((listing : List Member) → C.lists source.old listing → ∥ IsGoodCopy (is_snapshot job.now.kind) (asked_layout job.now meta.now listing) listing ∥₁) }
+    ensures good { OnOk result ((listing : List Member) → C.lists source.old listing → ∥ IsGoodAsked job.now meta.now listing ∥₁) }
     ensures end { OnOk result (C.ends_as source.old source.new) }
 {
     let shape = shape_of(job, meta);
@@ -198,7 +196,7 @@ struct CopyReport<'l, 'f> {
 /// Writes what is reported of a copy, and returns the status.
 fn put_report<O: Sink>(report: &CopyReport<'_, '_>, out: &mut O) -> Result<u8, Failure>
     requires { All IsFoundLeaf report.now.found.now }
-    ensures { Does O.taken O.failed out.old out.new (copy_report report.now.differs (lost_view report.now.lost) (map found_view report.now.found.now) report.now.source report.now.copy) result }
+    ensures { Does O.taken O.failed out.old out.new (report_answer report.now) result }
 {
     put_differing(report.differs, out)?;
     lost_text(report.lost, report.found, out)?;
@@ -227,6 +225,7 @@ fn status_of(differs: bool, lost: Lost<'_>) -> u8
 }
 
 /// Writes the lengths of the file and of its copy.
+#[tactic(auto, using(bolt_format::proofs::WroteLemmas::wrote))]
 pub(crate) fn put_lengths<O: Sink>(source: u64, copy: u64, out: &mut O) -> Result<(), SinkFault>
     ensures { Wrote O.Sink out.old out.new (lengths_line source copy) (ending result) }
 {

@@ -1,16 +1,16 @@
 //! Copies on a target: a layout and, in a snapshot, its hash after it.
-ghost use Rattle.std.specs.Prelude.{◌≡◌, ℕ, List, IsOk, OnOk, true};
+ghost use Rattle.std.specs.Prelude.{◌≡◌, ℕ, List, IsOk, OnOk, true, Option, None};
 ghost use Rattle.bolt_bulk.specs.Compacting.{Copies};
 ghost use Rattle.bolt_bulk.specs.WholeListings.{IsWhole};
-ghost use Rattle.bolt_layout.specs.Copies.{layout_of_listing};
 ghost use Rattle.bolt_tree.specs.Listing.{Member};
 ghost use Rattle.bolt_cli.specs.CopyEnds.{EndsCopy};
 ghost use Rattle.bolt_cli.specs.Hashes.{HashesSince};
+ghost use Rattle.bolt_cli.specs.Private.Copying.{shaped_layout};
+ghost use Rattle.std.specs.Borrow.{GName};
 
 use crate::copy_source::CopySource;
-use crate::hashing::{Hashing, Origin};
 use bolt_bulk::{BulkFault, Done, Shape};
-use bolt_format::Sink;
+use bolt_format::{Sink, SinkFault};
 use bolt_snapshot::HASH_LEN;
 use sha2::{Digest, Sha256};
 use std::alloc::Global;
@@ -27,7 +27,7 @@ pub(crate) fn copy_all<C: CopySource, T: Sink>(
 ) -> Result<u64, BulkFault>
     requires { IsWhole C.lists C.left source.old }
     ensures copied { (listing : List Member) → C.lists source.old listing
-        → EndsCopy T.taken T.failed target.old target.new (layout_of_listing shape.now.layout shape.now.page_size listing shape.now.sequence) snapshot result }
+        → EndsCopy T.taken T.failed target.old target.new (shaped_layout shape.now listing) snapshot result }
     ensures end { OnOk result (C.ends_as source.old source.new) }
 {
     if !snapshot {
@@ -61,7 +61,7 @@ fn hash_all<'a, K: Origin, T: Sink, C: CopySource>(
     requires start { T.taken target.old ≡ K.start }
     ensures same { result.target.ghost_name ≡ target.entry.ghost_name }
     ensures copied { (listing : List Member) → C.lists source.old listing
-        → Copies T.taken T.failed target.old result.target.now (layout_of_listing shape.now.layout shape.now.page_size listing shape.now.sequence) result.result }
+        → Copies T.taken T.failed target.old result.target.now (shaped_layout shape.now listing) result.result }
     ensures end { OnOk result.result (C.ends_as source.old source.new) }
     ensures hashed { T.failed result.target.now ≡ 0 → ∥ HashesSince (T.taken target.old) (T.taken result.target.now) result.hash ∥₁ }
 {
@@ -97,4 +97,45 @@ fn put_hash<T: Sink>(
     let done = copied?;
     target.put(&hash.finalize())?;
     Ok(done.bytes.saturating_add(HASH_LEN))
+}
+
+/// What a hash began with, for proofs alone.
+pub(crate) trait Origin {
+    /// Which borrow of the target it is.
+    ghost name: { GName };
+
+    /// What the target had accepted.
+    ghost start: { Option (List ℕ) };
+}
+
+impl Origin for Brand {
+    ghost name = { 0 };
+
+    ghost start = { None };
+}
+
+/// Hands on each byte to the target, and hashes it. The hash is right as long as the target hasn't
+/// failed.
+#[derive(Drop)]
+pub(crate) struct Hashing<'a, T: Sink, K: Origin> {
+    pub target: &'a mut T,
+    pub hash: Sha256,
+    pub of: PhantomData<K>,
+    pub ghost same: { target.ghost_name ≡ K.name },
+    pub ghost hashed: { T.failed target.now ≡ 0 → ∥ HashesSince K.start (T.taken target.now) hash ∥₁ },
+}
+
+impl<'a, T: Sink, K: Origin> Sink for Hashing<'a, T, K> {
+    ghost taken = { λ s. T.taken s.target.now };
+
+    ghost failed = { λ s. T.failed s.target.now };
+
+    fn put(&mut self, bytes: &[u8]) -> Result<(), SinkFault> {
+        self.hash.update(bytes);
+        self.target.put(bytes)
+    }
+
+    fn failures(&self) -> u64 {
+        self.target.failures()
+    }
 }

@@ -4,7 +4,6 @@ ghost use Rattle.std.specs.Prelude.{◌≡◌, List, OnOk};
 ghost use Rattle.bolt_bulk.specs.Compacting.{Copies};
 ghost use Rattle.bolt_bulk.specs.WholeListings.{IsWhole};
 ghost use Rattle.bolt_check.specs.CheckedFiles.{bytes_of, meta_of};
-ghost use Rattle.bolt_layout.specs.Copies.{layout_of_listing};
 ghost use Rattle.bolt_load.specs.LineMembers.{text_members};
 ghost use Rattle.bolt_load.specs.ShownMembers.{members_left, members_text};
 ghost use Rattle.bolt_recover.specs.Joined.{IsJoined};
@@ -13,7 +12,10 @@ ghost use Rattle.bolt_recover.specs.Recovered.{IsRecovered};
 ghost use Rattle.bolt_recover.specs.Recoveries.{ForLosses, recovery_file, recovery_left, recovery_losses, recovery_meta};
 ghost use Rattle.bolt_tree.specs.Listing.{IsListing, Member};
 ghost use Rattle.bolt_tree.specs.Walks.{left_of, walk_checked};
+ghost use Rattle.bolt_cli.specs.Private.Copying.{shaped_layout};
+ghost use Rattle.bolt_cli.specs.GoodCopies.{HasGoodCopies};
 
+use crate::laws::whole_copies_are_good;
 use bolt_bulk::{BulkFault, Done, Shape, compact_members};
 use bolt_format::Sink;
 use bolt_load::LineMembers;
@@ -41,7 +43,8 @@ pub(crate) trait CopySource {
         sink: &mut S,
     ) -> Result<Done, BulkFault>
         requires { IsWhole lists left self.old }
-        ensures copied { (listing : List Member) → lists self.old listing → Copies S.taken S.failed sink.old sink.new (layout_of_listing shape.now.layout shape.now.page_size listing shape.now.sequence) result }
+        ensures copied { (listing : List Member) → lists self.old listing
+            → Copies S.taken S.failed sink.old sink.new (shaped_layout shape.now listing) result }
         ensures end { OnOk result (ends_as self.old self.new) };
 }
 
@@ -111,4 +114,14 @@ impl CopySource for LineMembers<'_> {
     ) -> Result<Done, BulkFault> {
         compact_members(alloc, self, shape, sink)
     }
+}
+
+/// The copies of a source are good. The range of a type is known of a
+/// value that the body reads: so it reads the sequence, and does nothing else.
+pub(crate) fn sources_have_good_copies<C: CopySource>(_source: &C, sequence: u64)
+    requires { IsWhole C.lists C.left _source.now }
+    ensures { (listing : List Member) → C.lists _source.now listing → ∥ HasGoodCopies listing sequence ∥₁ }
+{
+    let _ = sequence;
+    whole_copies_are_good();
 }

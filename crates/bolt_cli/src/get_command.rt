@@ -4,13 +4,13 @@ ghost use Rattle.bolt_check.specs.CheckedFiles.{bytes_of, meta_of};
 ghost use Rattle.bolt_tree.specs.Entries.{Value};
 ghost use Rattle.bolt_format.specs.Wrote.{Wrote};
 ghost use Rattle.bolt_report.specs.ReportEndings.{report_ending};
-ghost use Rattle.bolt_cli.specs.Answers.{Answer, Does, HoldsIn, HoldsNone, IsGetAnswer, IsReadAnswer, value_shown};
+ghost use Rattle.bolt_cli.specs.Answers.{Answer, Does, HoldsIn, HoldsNone, value_shown};
 ghost use Rattle.bolt_cli.specs.PlainWords.{path_in};
+ghost use Rattle.bolt_cli.specs.Private.Printing.{IsGetPrint};
 
 use crate::failure::Failure;
 use crate::job::GetJob;
-use crate::open_bucket::open_bucket;
-use crate::open_read::open_read;
+use crate::opening::{open_bucket, open_read};
 use bolt_check::Checked;
 use bolt_format::Sink;
 use bolt_report::{Form, ReportFault, item, value};
@@ -23,7 +23,7 @@ pub(crate) fn print_value<O: Sink>(
     job: &GetJob,
     out: &mut O,
 ) -> Result<u8, Failure>
-    ensures { (answer : Answer) × IsReadAnswer file.now job.now.meta (IsGetAnswer file.now (path_in job.now.path.items) job.now.form job.now.no_newline) answer
+    ensures { (answer : Answer) × IsGetPrint job.now file.now answer
         × Does O.taken O.failed out.old out.new answer result }
 {
     let checked = open_read(alloc, file, job.meta)?;

@@ -1,9 +1,6 @@
 //! What a command line asks for.
 
-use crate::copy_kind::CopyKind;
-use crate::extent::Extent;
-use crate::meta_choice::MetaChoice;
-use crate::page_size::PageSize;
+use crate::choices::{CopyKind, Extent, MetaChoice, PageSize};
 use bolt_format::Slot;
 use bolt_report::{FigureForm, Form, ListForm};
 

@@ -7,9 +7,7 @@ ghost use Rattle.bolt_layout.specs.Copies.{IsOfOneTree};
 ghost use Rattle.bolt_layout.specs.declared.layout.Layout.{Layout};
 ghost use Rattle.hex.specs.Hex.{IsBytes};
 ghost use Rattle.bolt_report.specs.Forms.{is_printable, item_text};
-ghost use Rattle.bolt_report.specs.declared.form.Form.TheVariants as Form;
 ghost use Rattle.bolt_report.specs.declared.form.ListForm.{ListForm};
-ghost use Rattle.bolt_report.specs.declared.form.ListForm.TheVariants as form;
 ghost use Rattle.bolt_tree.specs.Listing.{IsListing, Member};
 ghost use Rattle.bolt_tree.specs.Paths.{Path};
 ghost use Rattle.bolt_cli.specs.Answers.{Answer, DoesJob, Ending, IsCheckAnswer, IsListedAnswer, IsReadUnder, Loads, LoadsListing, MakesCopy, done, refused};
@@ -17,16 +15,22 @@ ghost use Rattle.bolt_cli.specs.GoodCopies.{HasGoodCopies, IsGoodCopy};
 ghost use Rattle.bolt_cli.specs.MetaChoices.{IsMetaOf};
 ghost use Rattle.bolt_cli.specs.Needs.{needs_metas_alone};
 ghost use Rattle.bolt_cli.specs.PathWords.{part_of};
-ghost use Rattle.bolt_cli.specs.declared.parts.Parts.TheVariants as Parts;
 ghost use Rattle.bolt_cli.specs.SnapshotAnswers.{copy_of, hash_differs};
-ghost use Rattle.bolt_cli.specs.declared.extent.Extent.{Extent};
-ghost use Rattle.bolt_cli.specs.declared.extent.Extent.TheVariants as extent;
-ghost use Rattle.bolt_cli.specs.declared.failure.Failure.TheVariants as failure;
+ghost use Rattle.bolt_cli.specs.declared.choices.Extent.{Extent};
 ghost use Rattle.bolt_cli.specs.declared.job.Job.{Job};
-ghost use Rattle.bolt_cli.specs.declared.meta_choice.MetaChoice.{MetaChoice};
-ghost use Rattle.bolt_cli.specs.declared.meta_choice.MetaChoice.TheVariants as choice;
-ghost use Rattle.bolt_cli.specs.declared.page_size.PageSize.{PageSize};
+ghost use Rattle.bolt_cli.specs.declared.choices.MetaChoice.{MetaChoice};
+ghost use Rattle.bolt_cli.specs.declared.choices.PageSize.{PageSize};
+ghost use Rattle.bolt_cli.specs.Deeds.{Deed};
+ghost use Rattle.bolt_cli.specs.Orders.{IsInOrder, Reading};
+ghost use Rattle.bolt_cli.specs.Runs.{IsRun};
+ghost use Rattle.bolt_report.specs.declared.form.Form.TheVariants as Form;
+ghost use Rattle.bolt_report.specs.declared.form.ListForm.TheVariants as form;
+ghost use Rattle.bolt_cli.specs.declared.path_words.Parts.TheVariants as Parts;
+ghost use Rattle.bolt_cli.specs.declared.choices.Extent.TheVariants as extent;
+ghost use Rattle.bolt_cli.specs.declared.failure.Failure.TheVariants as failure;
+ghost use Rattle.bolt_cli.specs.declared.choices.MetaChoice.TheVariants as choice;
 
+use crate::outside::Outside;
 use bolt_check::laws::{sound_trees_have_no_finding, sound_trees_pass_the_tests};
 use bolt_format::Sink;
 use bolt_format::laws::{chosen_meta_is_one, metas_lie_in_a_prefix, slot_meta_is_one};
@@ -77,10 +81,12 @@ pub fn whole_copies_are_good()
 /// Of a good copy `check` prints that it is sound, to any extent, and with `--etcd-snapshot`
 /// if it is a snapshot, unless memory runs out. For a proper prefix of it, the status isn't 0.
 pub fn good_copies_pass_the_check()
-    ensures whole { (extent : Extent) (snapshot : Bool) (layout : List ℕ) (listing : List Member) (answer : Answer) → IsGoodCopy snapshot layout listing
+    ensures whole { (extent : Extent) (snapshot : Bool) (layout : List ℕ) (listing : List Member) (answer : Answer)
+        → IsGoodCopy snapshot layout listing
         → IsCheckAnswer extent snapshot (copy_of snapshot layout) choice.Active answer → (answer ≡ done (codes "OK\n")) ⊎ (answer ≡ refused failure.Memory) }
-    ensures prefixes { (extent : Extent) (snapshot : Bool) (layout : List ℕ) (listing : List Member) (n : ℕ) (answer : Answer) → IsGoodCopy snapshot layout listing
-        → n < length (copy_of snapshot layout) → IsCheckAnswer extent snapshot (take n (copy_of snapshot layout)) choice.Active answer → answer.ending ≢ Ok 0 }
+    ensures prefixes { (extent : Extent) (snapshot : Bool) (layout : List ℕ) (listing : List Member) (n : ℕ) (answer : Answer)
+        → IsGoodCopy snapshot layout listing → n < length (copy_of snapshot layout)
+        → IsCheckAnswer extent snapshot (take n (copy_of snapshot layout)) choice.Active answer → answer.ending ≢ Ok 0 }
 {
     chosen_meta_is_one();
     sound_trees_have_no_finding();
@@ -90,7 +96,8 @@ pub fn good_copies_pass_the_check()
 /// If `list` prints a whole file, `load` of what it prints writes the copy of the file's listing, as
 /// `compact` does at the same page size, with the same sequence; unless memory runs out before.
 pub fn loading_a_listing_copies_it<O: Sink, T: Sink>()
-    ensures { (file : List ℕ) (choice : MetaChoice) (answer : Answer) → IsBytes file → IsListedAnswer extent.First file choice form.Hex [] [] answer → answer.ending ≡ Ok 0
+    ensures { (file : List ℕ) (choice : MetaChoice) (answer : Answer)
+        → IsBytes file → IsListedAnswer extent.First file choice form.Hex [] [] answer → answer.ending ≡ Ok 0
         → (meta : Meta) × (listing : List Member) × IsReadUnder file choice meta × IsListing file meta listing
         × ((out_old out_new : O) (target_old target_new : T) (page_size sequence : ℕ) (layout : Layout) (snapshot : Bool) (ending : Ending)
         → Loads O.taken O.failed out_old out_new T.taken T.failed target_old target_new answer.out page_size sequence layout snapshot ending
@@ -114,7 +121,8 @@ pub fn recovering_sound_trees_reads_them<O: Sink, T: Sink>()
         → IsListedAnswer extent.Losses file wanted form path from answer ↔ IsListedAnswer extent.First file named form path from answer }
     ensures compact { (file : List ℕ) (meta : Meta) → HasSoundTrees file meta
         → (wanted named : MetaChoice) → IsMetaOf file wanted meta → IsMetaOf file named meta → named ≢ choice.Active
-        → (out_old out_new : O) (target_old target_new : T) (size : Option PageSize) (layout : Layout) (snapshot : Bool) (ending : Ending) → hash_differs snapshot file ≡ false
+        → (out_old out_new : O) (target_old target_new : T) (size : Option PageSize) (layout : Layout) (snapshot : Bool) (ending : Ending)
+        → hash_differs snapshot file ≡ false
         → MakesCopy O.taken O.failed out_old out_new T.taken T.failed target_old target_new file wanted size layout snapshot extent.Losses ending
         ↔ MakesCopy O.taken O.failed out_old out_new T.taken T.failed target_old target_new file named size layout snapshot extent.First ending }
 {
@@ -125,3 +133,12 @@ pub fn recovering_sound_trees_reads_them<O: Sink, T: Sink>()
     sound_trees_recover_their_listing();
     sound_trees_recover_what_they_list();
 }
+
+/// A run does its deeds in order. FILE is read before anything else. OUT is made at most once, and
+/// standard output is opened at most once, and never while there is an OUT that isn't on the disk. At
+/// most one text goes to standard error, and it comes last; there is none if a reader has left. The
+/// status is 0 only if all went well.
+pub fn runs_are_in_order<O: Outside>()
+    ensures { (words : List (List ℕ)) (deeds : List (Deed O.Target O.Output)) (code : ℕ)
+        → IsRun O.Target.taken O.Target.failed O.Output.taken O.Output.failed words deeds code → IsInOrder Reading deeds code }
+{}

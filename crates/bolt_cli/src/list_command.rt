@@ -1,23 +1,20 @@
 //! The command `list`.
 ghost use Rattle.std.specs.Prelude.{◌≡◌, ◌⊎◌, IfErr, IfOk, List, OnOk};
 ghost use Rattle.bolt_recover.specs.ShownLosses.{lost_view};
-ghost use Rattle.bolt_report.specs.ListForms.{listing_lines};
 ghost use Rattle.bolt_format.specs.Wrote.{Wrote};
 ghost use Rattle.bolt_report.specs.ReportEndings.{report_ending};
 ghost use Rattle.bolt_tree.specs.FileListings.{ForListing};
-ghost use Rattle.bolt_tree.specs.Listing.{Member, member_cmp, rest_from};
-ghost use Rattle.bolt_tree.specs.ListingParts.{has_bucket, part_below};
+ghost use Rattle.bolt_tree.specs.Listing.{Member, member_cmp};
 ghost use Rattle.bolt_tree.specs.Order.{Rises};
 ghost use Rattle.bolt_tree.specs.Paths.{path_of};
-ghost use Rattle.bolt_cli.specs.Answers.{Answer, Does, IsFileRefusal, IsJoinedList, IsListAnswer, IsListedAnswer, IsReadAnswer, IsRecoveredAnswer, IsRecoveredList, all_lost_ending, part_text};
+ghost use Rattle.bolt_cli.specs.Answers.{Answer, Does, all_lost_ending};
 ghost use Rattle.bolt_cli.specs.PlainWords.{path_in};
+ghost use Rattle.bolt_cli.specs.Private.Printing.{IsListPrint, finds, job_part, sound_part};
 
-use crate::extent::Extent;
+use crate::choices::Extent;
 use crate::failure::Failure;
 use crate::job::ListJob;
-use crate::open_bucket::open_bucket;
-use crate::open_read::open_read;
-use crate::open_recovery::open_recovery;
+use crate::opening::{open_bucket, open_read, open_recovery};
 use bolt_check::Checked;
 use bolt_format::Sink;
 use bolt_recover::laws::{
@@ -36,7 +33,7 @@ pub(crate) fn print_list<O: Sink>(
     job: &ListJob,
     out: &mut O,
 ) -> Result<u8, Failure>
-    ensures { (answer : Answer) × IsListedAnswer job.now.extent file.now job.now.meta job.now.form (path_in job.now.path.items) (path_in job.now.from.items) answer
+    ensures { (answer : Answer) × IsListPrint job.now.extent job.now file.now answer
         × Does O.taken O.failed out.old out.new answer result }
 {
     match job.extent {
@@ -52,7 +49,7 @@ fn print_sound<O: Sink>(
     job: &ListJob,
     out: &mut O,
 ) -> Result<u8, Failure>
-    ensures { (answer : Answer) × IsReadAnswer file.now job.now.meta (IsListAnswer file.now job.now.form (path_in job.now.path.items) (path_in job.now.from.items)) answer
+    ensures { (answer : Answer) × IsListPrint Extent.First job.now file.now answer
         × Does O.taken O.failed out.old out.new answer result }
 {
     let checked = open_read(alloc, file, job.meta)?;
@@ -68,7 +65,7 @@ fn print_recovered<O: Sink>(
     job: &ListJob,
     out: &mut O,
 ) -> Result<u8, Failure>
-    ensures { (answer : Answer) × IsRecoveredAnswer file.now job.now.meta (IsRecoveredList file.now job.now.form (path_in job.now.path.items) (path_in job.now.from.items)) IsFileRefusal answer
+    ensures { (answer : Answer) × IsListPrint Extent.Losses job.now file.now answer
         × Does O.taken O.failed out.old out.new answer result }
 {
     let mut recovery = open_recovery(alloc, file, job.meta)?;
@@ -84,7 +81,7 @@ fn print_joined<O: Sink>(
     job: &ListJob,
     out: &mut O,
 ) -> Result<u8, Failure>
-    ensures { (answer : Answer) × IsJoinedList file.now job.now.meta job.now.form (path_in job.now.path.items) (path_in job.now.from.items) answer
+    ensures { (answer : Answer) × IsListPrint Extent.LostAndFound job.now file.now answer
         × Does O.taken O.failed out.old out.new answer result }
 {
     each_file_has_found_pages();
@@ -106,7 +103,7 @@ fn put_sound_part<O: Sink>(
     job: &ListJob,
     out: &mut O,
 ) -> Result<(), ReportFault>
-    ensures written { ForListing checked.entry (λ listing. Wrote O.Sink out.old out.new (listing_lines job.now.form (rest_from (path_in job.now.from.items) (part_below (path_in job.now.path.items) listing))) (report_ending result)) }
+    ensures written { ForListing checked.entry (λ listing. Wrote O.Sink out.old out.new (sound_part job.now listing) (report_ending result)) }
     ensures fault { IfErr result (λ fault. (fault ≡ ReportFault.Sink) ⊎ (fault ≡ ReportFault.NoMemory)) }
 {
     let path = slices(alloc, job.path.as_slice())?;
@@ -129,8 +126,8 @@ fn put_members_part<'a, M: Members<'a>, O: Sink>(
     out: &mut O,
 ) -> Result<bool, ReportFault>
     ensures written { (listing : List Member) → M.lists members.old listing → Rises member_cmp (M.left members.old listing)
-        → Wrote O.Sink out.old out.new (part_text job.now.form (path_in job.now.path.items) (path_in job.now.from.items) (M.left members.old listing)) (report_ending result) }
-    ensures found { IfOk result (λ found. (listing : List Member) → M.lists members.old listing → found ≡ has_bucket (path_in job.now.path.items) (M.left members.old listing)) }
+        → Wrote O.Sink out.old out.new (job_part job.now (M.left members.old listing)) (report_ending result) }
+    ensures found { IfOk result (λ found. (listing : List Member) → M.lists members.old listing → found ≡ finds job.now (M.left members.old listing)) }
     ensures end { OnOk result (M.ends_as members.old members.new) }
     ensures fault { IfErr result (λ fault. (fault ≡ ReportFault.Sink) ⊎ (fault ≡ ReportFault.NoMemory)) }
 {

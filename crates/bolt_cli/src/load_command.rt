@@ -1,11 +1,10 @@
 //! The command `load`.
-ghost use Rattle.bolt_cli.specs.Answers.{Loads};
-ghost use Rattle.bolt_cli.specs.CopyKinds.{is_snapshot, layout_for};
+ghost use Rattle.bolt_cli.specs.Private.Copying.{LoadsJob};
 
 use crate::compact_command::put_lengths;
 use crate::copies::copy_all;
+use crate::copy_source::sources_have_good_copies;
 use crate::failure::Failure;
-use crate::good_copies::sources_have_good_copies;
 use crate::job::LoadJob;
 use bolt_bulk::Shape;
 use bolt_format::Sink;
@@ -22,7 +21,7 @@ pub(crate) fn write_loaded<O: Sink, T: Sink>(
     out: &mut O,
     target: &mut T,
 ) -> Result<u8, Failure>
-    ensures { Loads O.taken O.failed out.old out.new T.taken T.failed target.old target.new file.now job.now.page_size.bytes job.now.sequence (layout_for job.now.kind) (is_snapshot job.now.kind) result }
+    ensures { LoadsJob O.taken O.failed out.old out.new T.taken T.failed target.old target.new job.now file.now result }
 {
     let listing = ListingText::read(alloc, file)?;
     let mut members = listing.members(alloc);

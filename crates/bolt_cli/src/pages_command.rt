@@ -1,11 +1,12 @@
 //! The command `pages`.
 ghost use Rattle.std.specs.Prelude.{◌≡◌, true};
-ghost use Rattle.bolt_check.specs.CheckedFiles.{bytes_of, has_accounts, meta_of};
+ghost use Rattle.bolt_check.specs.CheckedFiles.{has_accounts};
 ghost use Rattle.bolt_check.specs.RoledFiles.{roles_checked};
 ghost use Rattle.bolt_format.specs.Endings.{ending};
 ghost use Rattle.bolt_format.specs.Wrote.{Wrote};
 ghost use Rattle.bolt_report.specs.PageTables.{ForRoles};
-ghost use Rattle.bolt_cli.specs.Answers.{Answer, Does, IsCheckedAnswer, IsFileRefusal, IsPagesAnswer, pages_shown};
+ghost use Rattle.bolt_cli.specs.Answers.{Answer, Does, IsCheckedAnswer, IsFileRefusal, IsPagesAnswer};
+ghost use Rattle.bolt_cli.specs.Private.Printing.{checked_pages};
 
 use crate::failure::Failure;
 use crate::job::PagesJob;
@@ -31,7 +32,7 @@ pub(crate) fn print_pages<O: Sink>(
 
 fn put_pages<O: Sink>(roles: &Roles<'_>, map: bool, out: &mut O) -> Result<(), SinkFault>
     requires { has_accounts (roles_checked roles.now) ≡ true }
-    ensures { ForRoles (roles_checked roles.now) (λ own. Wrote O.Sink out.old out.new (pages_shown map (bytes_of (roles_checked roles.now)) (meta_of (roles_checked roles.now)) own) (ending result)) }
+    ensures { ForRoles (roles_checked roles.now) (λ own. Wrote O.Sink out.old out.new (checked_pages map (roles_checked roles.now) own) (ending result)) }
 {
     if map {
         page_map(roles, out)

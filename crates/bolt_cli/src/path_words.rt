@@ -5,7 +5,6 @@ ghost use Rattle.bolt_cli.specs.CommandLine.{Gives};
 ghost use Rattle.bolt_cli.specs.PathWords.{each_part, hex_bytes, hex_path_by, hex_path_of, mixed_bytes, part_of, parts_by, prefix_of};
 ghost use Rattle.bolt_cli.specs.PlainWords.{path_in};
 
-use crate::parts::Parts;
 use crate::refusal::Refusal;
 use hex::FromHexError;
 use std::alloc::{AllocError, Global};
@@ -112,4 +111,15 @@ fn read_hex(alloc: Global, word: &[u8]) -> Result<Vec<u8>, Refusal>
         Err(FromHexError::OutOfMemory) => Err(Refusal::Memory),
         Err(_) => Err(Refusal::Word("bad hex")),
     }
+}
+
+/// How the parts of a path are written on a command line.
+#[derive(Clone, Copy, Debug, PartialEq, Eq)]
+pub(crate) enum Parts {
+    /// As they are.
+    Text,
+    /// In hexadecimal.
+    Hex,
+    /// In hexadecimal after `0x`, and otherwise as they are.
+    Mixed,
 }

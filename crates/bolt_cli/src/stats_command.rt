@@ -13,8 +13,7 @@ ghost use Rattle.bolt_cli.specs.declared.failure.Failure.TheVariants.{Memory, No
 
 use crate::failure::Failure;
 use crate::job::StatsJob;
-use crate::open_bucket::open_bucket;
-use crate::open_read::open_read;
+use crate::opening::{open_bucket, open_read};
 use bolt_check::{Checked, NoMemory};
 use bolt_format::Sink;
 use bolt_report::{Stats, add, stats, stats_text};

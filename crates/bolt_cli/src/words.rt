@@ -3,17 +3,15 @@ ghost use Rattle.std.specs.Prelude.{◌≡◌, Err, IfErr, IfOk, MatchOption, Ma
 ghost use Rattle.clap.specs.Words.{fault_of, found_of, kind_of, rows_of, subcommand_rows_of};
 ghost use Rattle.bolt_cli.specs.CommandLine.{Asks, Gives, HasKindOf, IsRefusedBy, asked_by, asked_by_subcommand, program, values_in};
 ghost use Rattle.bolt_cli.specs.PlainWords.{asked, asked_of, asks_buckets, asks_check, asks_compact, asks_get, asks_info, asks_keys, asks_list, asks_load, asks_page, asks_pages, asks_stats, assumed_of, extent_by, first_of, copy_kind_by, load_size_by, meta_by, meta_in, number_or, page_id, page_size_by, page_size_of, path_by, path_in, prefix_by, sequence_by, size_in, slot_by, slot_of, text_by};
+ghost use Rattle.bolt_cli.specs.Private.CommandLines.{IsAssumedBy};
 
+use crate::choices::{AssumedMeta, CopyKind, Extent, MetaChoice, PageSize};
 use crate::command_line;
-use crate::copy_kind::CopyKind;
-use crate::extent::Extent;
 use crate::form_words::{read_figure_form, read_form, read_list_form};
 use crate::job::{
     BucketsJob, CheckJob, CompactJob, GetJob, InfoJob, Job, KeysJob, ListJob, LoadJob, PageJob,
     PagesJob, StatsJob,
 };
-use crate::meta_choice::{AssumedMeta, MetaChoice};
-use crate::page_size::PageSize;
 use crate::path_words::{read_from, read_parts, read_path, read_prefix};
 use crate::refusal::Refusal;
 use bolt_format::Slot;
@@ -379,7 +377,7 @@ fn assumed_of(word: &str) -> Result<MetaChoice, Refusal>
 
 /// The page size before the first colon, and the root page after it.
 fn find_assumed(word: &str) -> Option<AssumedMeta>
-    ensures { MatchOption result (assumed_of word.now ≡ Err (codes "bad meta: use PAGE_SIZE:ROOT, and no --meta")) (λ assumed. assumed_of word.now ≡ Ok (meta_in (MetaChoice.Assumed assumed))) }
+    ensures { IsAssumedBy word.now result }
 {
     let (page_size, root) = word.split_once(':')?;
     Some(AssumedMeta {

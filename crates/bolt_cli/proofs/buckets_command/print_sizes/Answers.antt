@@ -1,8 +1,7 @@
-use Rattle.std.proofs.Common.{Err, Ok, refl, sym}
-use Rattle.std.specs.Prelude.{⊤}
-use Rattle.bolt_cli.specs.PlainWords.{path_in}
+use Rattle.std.proofs.Common.{Err, List, Ok, inr, refl, sym, ℕ}
+use Rattle.bolt_cli.proofs.Vocabulary.{IsSizesAnswer, path_in, ⊤}
 use Rattle.bolt_cli.proofs.Doing.{Does-unread}
-use Rattle.bolt_cli.proofs.SizesAnswers.{sizes_missing, sizes_put}
+use Rattle.bolt_cli.proofs.EntryAnswers.{bucket_missing, sizes_put}
 use Rattle.bolt_cli.proofs.buckets_command.print_sizes.Goals as goal
 
 pub returns-in_err-checked : goal.returns-in_err-checked
@@ -10,20 +9,16 @@ returns-in_err-checked g c = Does-unread g.O.Sink.taken g.O.Sink.failed c.args.o
 
 pub returns-in_err-bucket : goal.returns-in_err-bucket
 returns-in_err-bucket g c =
-    let opened = c.in_ok-checked.ensures in
-    sizes_missing c.args.file.now c.args.job.now.meta (path_in c.args.job.now.path.items) c.args.job.now.form c.in_ok-checked.checked opened.bytes opened.sound
-    g.O.Sink.taken g.O.Sink.failed c.args.out.now c.in_err-bucket.field-0.0 _ (rw (sym c.as_slice.ensures.value) c.in_err-bucket.ensures.refused) c.from_residual-in_err-bucket.ensures.1
+    bucket_missing c.args.file.now c.args.job.now.meta (path_in c.args.job.now.path.items) c.in_ok-checked.checked c.in_ok-checked.ensures.bytes c.in_ok-checked.ensures.sound
+    g.O.Sink.taken g.O.Sink.failed c.args.out.now (λ (f : List ℕ). IsSizesAnswer f (path_in c.args.job.now.path.items) c.args.job.now.form) (λ answer is. inr is)
+    c.in_err-bucket.field-0.0 _ (rw (sym c.as_slice.ensures.value) c.in_err-bucket.ensures.refused) c.from_residual-in_err-bucket.ensures.1
 
 pub returns-in_err-sizes : goal.returns-in_err-sizes
 returns-in_err-sizes g c =
-    let opened = c.in_ok-checked.ensures in
-    let found = c.in_ok-bucket.ensures in
-    sizes_put c.args.file.now c.args.job.now.meta (path_in c.args.job.now.path.items) c.args.job.now.form c.in_ok-checked.checked opened.bytes opened.sound
-    c.in_ok-bucket.bucket found.file (rw (sym c.as_slice.ensures.value) found.named) {A = ⊤} c.args.out.now c.sizes.new.sink (Err c.in_err-sizes.field-0.0) _ c.in_err-sizes.ensures.written c.in_err-sizes.ensures.fault c.from_residual-in_err-sizes.ensures.1
+    sizes_put c.args.file.now c.args.job.now.meta (path_in c.args.job.now.path.items) c.in_ok-checked.checked c.in_ok-checked.ensures.bytes c.in_ok-checked.ensures.sound
+    c.args.job.now.form c.in_ok-bucket.bucket c.in_ok-bucket.ensures.file (rw (sym c.as_slice.ensures.value) c.in_ok-bucket.ensures.named) {A = ⊤} g.O.Sink c.args.out.now c.sizes.new.sink (Err c.in_err-sizes.field-0.0) _ c.in_err-sizes.ensures.written c.in_err-sizes.ensures.fault c.from_residual-in_err-sizes.ensures.1
 
 pub returns : goal.returns
 returns g c =
-    let opened = c.in_ok-checked.ensures in
-    let found = c.in_ok-bucket.ensures in
-    sizes_put c.args.file.now c.args.job.now.meta (path_in c.args.job.now.path.items) c.args.job.now.form c.in_ok-checked.checked opened.bytes opened.sound
-    c.in_ok-bucket.bucket found.file (rw (sym c.as_slice.ensures.value) found.named) {A = ⊤} c.args.out.now c.sizes.new.sink (Ok tt) _ c.in_ok-sizes.ensures.written tt refl
+    sizes_put c.args.file.now c.args.job.now.meta (path_in c.args.job.now.path.items) c.in_ok-checked.checked c.in_ok-checked.ensures.bytes c.in_ok-checked.ensures.sound
+    c.args.job.now.form c.in_ok-bucket.bucket c.in_ok-bucket.ensures.file (rw (sym c.as_slice.ensures.value) c.in_ok-bucket.ensures.named) {A = ⊤} g.O.Sink c.args.out.now c.sizes.new.sink (Ok tt) _ c.in_ok-sizes.ensures.written tt refl

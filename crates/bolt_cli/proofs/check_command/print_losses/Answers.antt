@@ -1,20 +1,13 @@
-use Rattle.std.proofs.Common.{arith, ◌≡◌, ◌≢◌, [], List, inl, inr, map, refl, subst, ℕ}
-use Rattle.std.proofs.lemmas.Grind.{common_steps}
-use Rattle.bolt_recover.specs.Losses.{parts}
-use Rattle.bolt_recover.specs.Recoveries.{ForLosses, recovery_losses, recovery_meta}
-use Rattle.bolt_recover.specs.ShownLosses.{loss_view}
-use Rattle.bolt_cli.specs.Answers.{lost_and_found, refused}
+use Rattle.std.proofs.Common.{arith, ◌≡◌, ◌≢◌, [], List, inl, inr, refl, subst, ℕ}
+use Rattle.bolt_cli.proofs.Vocabulary.{ForLosses, common_steps, recovery_losses, recovery_meta}
 use Rattle.bolt_cli.specs.declared.failure.Failure.TheVariants as failure
-use Rattle.bolt_cli.proofs.Doing.{Does-nothing}
+use Rattle.bolt_cli.proofs.Doing.{answer_nothing}
 use Rattle.bolt_cli.proofs.LossAnswers.{lost_none, lost_some}
 use Rattle.bolt_cli.proofs.check_command.print_losses.Goals as goal
 
 pub returns-in_err-walk_to_end : goal.returns-in_err-walk_to_end
-returns-in_err-walk_to_end g c = (
-  refused failure.Memory,
-  inl (recovery_meta c.in-Ok.recovery, c.in-Ok.ensures.meta, inr refl),
-  Does-nothing g.O.Sink.taken g.O.Sink.failed c.args.out.now failure.Memory _ c.from_residual.ensures.1,
-)
+returns-in_err-walk_to_end g c =
+    answer_nothing g.O.Sink.taken g.O.Sink.failed c.args.out.now failure.Memory _ (inl (recovery_meta c.in-Ok.recovery, c.in-Ok.ensures.meta, inr refl)) c.from_residual.ensures.1
 
 pub returns-then-is_empty : goal.returns-then-is_empty
 returns-then-is_empty g c =
@@ -28,8 +21,6 @@ pub returns : goal.returns
 returns g c =
     let meta = recovery_meta c.in-Ok.recovery in
     let all = subst (λ (f : List ℕ). ForLosses f meta (λ all. recovery_losses c.walk_to_end.new.recovery ≡ all)) c.in-Ok.ensures.file c.in_ok-walk_to_end.ensures.all in
-    let some : c.losses-losses.result.now ≢ [] = (λ e. grind (arith, common_steps, c.is_empty.ensures, c.if-is_empty.false)) in (
-      lost_and_found c.args.faults (parts (map loss_view c.losses-losses.result.now)) [],
-      inl (meta, c.in-Ok.ensures.meta, lost_some c.args.faults c.args.file.now c.args.choice meta (recovery_losses c.walk_to_end.new.recovery) c.losses-losses.result.now c.losses-losses.ensures.losses all some),
-      c.put_lost.ensures,
-    )
+    let some : c.losses-losses.result.now ≢ [] = (λ e. grind (arith, common_steps, c.is_empty.ensures, c.if-is_empty.false)) in
+    let lost = lost_some c.args.faults c.args.file.now c.args.choice meta (recovery_losses c.walk_to_end.new.recovery) c.losses-losses.result.now c.losses-losses.ensures.losses all some in
+    (_, inl (meta, c.in-Ok.ensures.meta, lost), c.put_lost.ensures)

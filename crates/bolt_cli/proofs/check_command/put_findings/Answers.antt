@@ -1,9 +1,6 @@
 -- What is wrong apart from the pages, and then the text of the findings.
-use Rattle.std.proofs.Common.{ap, ℕ}
-use Rattle.bolt_format.proofs.WroteLemmas.{Wrote-same, Wrote-stop, Wrote-then}
+use Rattle.bolt_cli.proofs.Vocabulary.{Wrote-stop, Wrote-then, errors_in, found}
 use Rattle.bolt_report.specs.FaultWords.{findings_text}
-use Rattle.bolt_cli.specs.Answers.{found}
-use Rattle.bolt_cli.specs.FileFaults.{errors_in}
 use Rattle.bolt_cli.proofs.Doing.{Does-part, Does-whole}
 use Rattle.bolt_cli.proofs.check_command.put_findings.Goals as goal
 
@@ -13,11 +10,8 @@ returns-in_err-earlier g c =
 
 pub returns-in_err-findings_text : goal.returns-in_err-findings_text
 returns-in_err-findings_text g c =
-    Does-part _ _ (found c.args.faults c.args.findings.now) _
-    (Wrote-then c.in_ok-earlier.ensures.lines (Wrote-same (ap (λ (n : ℕ). findings_text n c.args.findings.now) c.in_ok-earlier.ensures.errors) c.in_err-findings_text.ensures))
-    c.from_residual-in_err-findings_text.ensures.1
+    let put = rw c.in_ok-earlier.ensures.errors at c.in_err-findings_text.ensures in
+    Does-part _ _ (found c.args.faults c.args.findings.now) _ (Wrote-then c.in_ok-earlier.ensures.lines put) c.from_residual-in_err-findings_text.ensures.1
 
 pub returns : goal.returns
-returns g c =
-    Does-whole _ _ (found c.args.faults c.args.findings.now)
-    (Wrote-then c.in_ok-earlier.ensures.lines (Wrote-same (ap (λ (n : ℕ). findings_text n c.args.findings.now) c.in_ok-earlier.ensures.errors) c.in_ok-findings_text.ensures))
+returns g c = Does-whole _ _ (found c.args.faults c.args.findings.now) (Wrote-then c.in_ok-earlier.ensures.lines (rw c.in_ok-earlier.ensures.errors at c.in_ok-findings_text.ensures))

@@ -1,8 +1,7 @@
 -- Nothing is left where no item is returned.
 use Rattle.std.proofs.Common.{◌≡◌, ◌∙◌, List, None, Option, Some, false, is_some, subst₂, sym, ℕ}
+use Rattle.bolt_cli.proofs.Vocabulary.{ForLosses, Meta, recovery_losses}
 use Rattle.std.specs.Option.{IfNone}
-use Rattle.bolt_format.specs.declared.meta.Meta.{Meta}
-use Rattle.bolt_recover.specs.Recoveries.{ForLosses, recovery_losses}
 use Rattle.bolt_cli.proofs.check_command.walk_to_end.Goals as goal
 
 ended : {A P : Type 0} (item : Option A) → is_some item ≡ false → IfNone item P → P

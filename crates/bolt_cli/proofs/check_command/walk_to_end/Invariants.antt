@@ -1,5 +1,5 @@
 use Rattle.std.proofs.Common.{◌≡◌}
-use Rattle.bolt_recover.specs.Recoveries.{recovery_file, recovery_meta, recovery_work}
+use Rattle.bolt_cli.proofs.Vocabulary.{recovery_file, recovery_meta, recovery_work}
 use Rattle.bolt_cli.proofs.check_command.walk_to_end.Given as goal
 
 -- the same file is read under the same meta

@@ -1,11 +1,9 @@
 use Rattle.std.proofs.Common.{◌∙◌, ◌++◌, List, map, take, ap, ap₂, append_assoc, append-nil, rules, subst, sym}
-use Rattle.std.proofs.lemmas.List.{take_all}
-use Rattle.clap.specs.Words.{Rule}
-use Rattle.bolt_cli.specs.CommandLine.{IsCommand, command_with, operand_rule, option_rule}
-use Rattle.bolt_cli.specs.Syntaxes.{choice_view, operand_view}
+use Rattle.bolt_cli.proofs.Vocabulary.{IsCommand, Rule, choice_view, command_with, operand_rule, operand_view, option_rule, take_all}
+use Rattle.std.proofs.lemmas.Simd.{map-map}
 use Rattle.bolt_cli.specs.declared.commands.Choice.{Choice}
 use Rattle.bolt_cli.specs.declared.commands.Operand.{Operand}
-use Rattle.bolt_cli.proofs.CommandLineLemmas.{argument_added, made_more, made_twice}
+use Rattle.bolt_cli.proofs.CommandLineLemmas.{argument_added, made_more}
 use Rattle.bolt_cli.proofs.command_line.command.Goals as goal
 
 abbrev rule_of_operand : Operand → Rule
@@ -44,6 +42,6 @@ pub returns : goal.returns
 returns c =
     let syntax = c.args.syntax.now in
     subst (λ (rules : List Rule). IsCommand (command_with syntax.name.now rules) c.loop-option.command)
-    (ap₂ (λ (a b : List Rule). a ++ b) (made_twice operand_rule operand_view syntax.operands.now)
-    (ap (map rule_of_option) (take_all c.loop-option.option-index syntax.options.now c.loop-option-test.false) ∙ made_twice option_rule choice_view syntax.options.now))
+    (ap₂ (λ (a b : List Rule). a ++ b) (sym (map-map operand_rule operand_view syntax.operands.now))
+    (ap (map rule_of_option) (take_all c.loop-option.option-index syntax.options.now c.loop-option-test.false) ∙ sym (map-map option_rule choice_view syntax.options.now)))
     c.loop-option.invariant

@@ -1,6 +1,5 @@
 use Rattle.std.proofs.Common.{map, take, ◌++◌}
-use Rattle.bolt_cli.specs.CommandLine.{IsCommand, command_with, operand_rule, option_rule}
-use Rattle.bolt_cli.specs.Syntaxes.{choice_view, operand_view}
+use Rattle.bolt_cli.proofs.Vocabulary.{IsCommand, choice_view, command_with, operand_rule, operand_view, option_rule}
 use Rattle.bolt_cli.proofs.command_line.command.Given as goal
 
 -- the command has the arguments so far

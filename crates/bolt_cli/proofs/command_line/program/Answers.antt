@@ -1,11 +1,6 @@
 -- The program has the first commands, and then the others.
 use Rattle.std.proofs.Common.{◌≡◌, ◌∙◌, ◌++◌, [], List, Result, Ok, Err, IfOk, ap₂, map, rules, subst}
-use Rattle.std.proofs.lemmas.List.{take-append-drop}
-use Rattle.clap.specs.declared.builder.Command.{Command}
-use Rattle.bolt_cli.specs.CommandLine.{IsCommand, bare_program, program, program_of}
-use Rattle.bolt_cli.specs.LineWords.{Syntax}
-use Rattle.bolt_cli.specs.PlainWords.{syntaxes}
-use Rattle.bolt_cli.specs.Syntaxes.{syntax_view}
+use Rattle.bolt_cli.proofs.Vocabulary.{Command, IsCommand, Syntax, bare_program, program, program_of, syntax_view, syntaxes, take-append-drop}
 use Rattle.bolt_cli.proofs.command_line.program.Goals as goal
 
 has_all : {E : Type 0} (begun : Command) (first second : List Syntax) (result : Result Command E) → IsCommand (program_of first) begun

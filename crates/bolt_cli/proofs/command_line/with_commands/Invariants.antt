@@ -1,7 +1,6 @@
 use Rattle.std.proofs.Common.{◌++◌, List, map, take}
-use Rattle.bolt_cli.specs.CommandLine.{IsCommand, program_of}
+use Rattle.bolt_cli.proofs.Vocabulary.{IsCommand, program_of, syntax_view}
 use Rattle.bolt_cli.specs.LineWords as plain
-use Rattle.bolt_cli.specs.Syntaxes.{syntax_view}
 use Rattle.bolt_cli.proofs.command_line.with_commands.Given as goal
 
 -- the program has the commands so far

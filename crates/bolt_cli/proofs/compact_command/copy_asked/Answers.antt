@@ -1,9 +1,5 @@
 -- The shape is the one that is asked for.
-use Rattle.std.proofs.Math.Logic.{∥∥₁_map}
-use Rattle.bolt_cli.specs.Answers.{copy_page_size}
-use Rattle.bolt_cli.specs.CopyEnds.{asked_layout}
-use Rattle.bolt_cli.specs.CopyKinds.{is_snapshot, layout_for}
-use Rattle.bolt_cli.specs.GoodCopies.{HasGoodCopies}
+use Rattle.bolt_cli.proofs.Vocabulary.{HasGoodCopies, asked_layout, copy_page_size, is_snapshot, layout_for, ∥∥₁_map}
 use Rattle.bolt_cli.proofs.CopyAnswers.{goods}
 use Rattle.bolt_cli.proofs.ReadFiles.{copy_size}
 use Rattle.bolt_cli.proofs.compact_command.copy_asked.Goals as goal

@@ -1,24 +1,10 @@
 -- The copy is whole and then reported, or it isn't whole, or there is no joined listing.
-use Rattle.std.proofs.Common.{◌≡◌, ◌∙◌, ℕ, Bool, List, inl, inr, length, map, refl, subst, subst₂, sym}
-use Rattle.std.specs.List.{All}
-use Rattle.bolt_format.specs.declared.meta.Meta.{Meta}
-use Rattle.bolt_recover.specs.Found.{numbers_of}
-use Rattle.bolt_recover.specs.Joined.{IsJoined}
-use Rattle.bolt_recover.specs.JoinedMembers.{joined_left}
-use Rattle.bolt_recover.specs.JoinRefusals.{IsJoinRefusal}
-use Rattle.bolt_recover.specs.Losses.{LostView}
-use Rattle.bolt_recover.specs.LostAndFound.{all_lost}
-use Rattle.bolt_recover.specs.declared.found.Found.{Found}
-use Rattle.bolt_tree.specs.Listing.{Member}
+use Rattle.std.proofs.Common.{◌∙◌, inl, inr, length, map, refl}
+use Rattle.bolt_cli.proofs.Vocabulary.{all_lost, asked_layout, copy_report, found_view, hash_differs, is_snapshot, unjoined}
 use Rattle.bolt_recover.specs.declared.joined.JoinFault.TheVariants as join
-use Rattle.bolt_report.specs.FoundLines.{IsFoundLeaf, found_view}
-use Rattle.bolt_cli.specs.Answers.{Does, copy_report}
-use Rattle.bolt_cli.specs.CopyEnds.{asked_layout}
-use Rattle.bolt_cli.specs.CopyKinds.{is_snapshot}
-use Rattle.bolt_cli.specs.Failures.{unjoined}
-use Rattle.bolt_cli.specs.SnapshotAnswers.{hash_differs}
 use Rattle.bolt_cli.specs.declared.failure.Failure.TheVariants as failure
-use Rattle.bolt_cli.proofs.CopyAnswers.{copy_reported, copy_stopped, ends_as}
+use Rattle.bolt_cli.proofs.CopyAnswers.{copy_reported, copy_stopped}
+use Rattle.bolt_cli.proofs.Doing.{ends_as}
 use Rattle.bolt_cli.proofs.FoundAnswers.{are_leaves, salvaged}
 use Rattle.bolt_cli.proofs.ReadFiles.{some_page_size}
 use Rattle.bolt_cli.proofs.compact_command.write_joined.Goals as goal
@@ -36,19 +22,11 @@ pub returns-in_err-joined : goal.returns-in_err-joined
 returns-in_err-joined g c =
     let fault = c.in_err-joined.field-0.0 in
     let both = c.in_ok-both.ensures in
-    let numbers = numbers_of c.in_ok-both.both.found.items in
-    let why = subst₂ (λ (f : List ℕ) (m : Meta). IsJoinRefusal f m numbers fault) both.file both.meta c.in_err-joined.ensures.refused in
-    inr (inr (
-      unjoined fault,
-      inl (c.in_ok-meta.meta, c.in_ok-meta.ensures.found, (numbers, fault, both.found, why, refl)),
-      refl,
-      refl,
-      ends_as _ (unjoined fault) c.from_residual-in_err-joined.ensures.1,
-    ))
+    let why = rw (both.file, both.meta) at c.in_err-joined.ensures.refused in
+    inr (inr (unjoined fault, inl (c.in_ok-meta.meta, c.in_ok-meta.ensures.found, (_, fault, both.found, why, refl)), refl, refl, ends_as _ (unjoined fault) c.from_residual-in_err-joined.ensures.1))
 
 pub joined_members_are_whole-requires : goal.joined_members_are_whole-requires
-joined_members_are_whole-requires g c = subst₂ (λ (f : List ℕ) (m : Meta). (listing : List Member) → IsJoined f m listing → joined_left c.in_ok-joined.joined listing ≡ listing)
-    (sym c.in_ok-joined.ensures.file) (sym c.in_ok-joined.ensures.meta) c.in_ok-joined.ensures.all
+joined_members_are_whole-requires g c = rw (c.in_ok-joined.ensures.file, c.in_ok-joined.ensures.meta) c.in_ok-joined.ensures.all
 
 pub returns-in_err-copy : goal.returns-in_err-copy
 returns-in_err-copy g c =
@@ -57,20 +35,13 @@ returns-in_err-copy g c =
     let j = c.in_ok-joined.ensures in
     let both = c.in_ok-both.ensures in
     let (own, is) = c.each_file_has_a_joined_listing.ensures c.args.file.now meta in
-    let there = subst₂ (λ (f : List ℕ) (m : Meta). IsJoined f m own) (sym (j.file ∙ both.file)) (sym (j.meta ∙ both.meta)) is in
-    inr (inl (
-      meta,
-      own,
-      c.in_ok-meta.ensures.found,
-      is,
-      copy_stopped g.T.Sink.taken g.T.Sink.failed c.args.target.now c.copy_asked.new.target
-          g.O.Sink.taken g.O.Sink.failed c.args.out.now (is_snapshot job.kind) (asked_layout job meta own) c.in_err-copy.field-0.0 _ (c.in_err-copy.ensures.copied own there) c.from_residual-in_err-copy.ensures.1,
-    ))
+    let stops = c.in_err-copy.ensures.copied own (rw (j.file ∙ both.file, j.meta ∙ both.meta) is) in
+    let part = copy_stopped g.T.Sink.taken g.T.Sink.failed c.args.target.now c.copy_asked.new.target g.O.Sink.taken g.O.Sink.failed c.args.out.now (is_snapshot job.kind) (asked_layout job meta own)
+    c.in_err-copy.field-0.0 _ stops c.from_residual-in_err-copy.ensures.1 in
+    inr (inl (meta, own, c.in_ok-meta.ensures.found, is, part))
 
 pub put_report-requires : goal.put_report-requires
-put_report-requires g c =
-    subst (λ (found : List Found). All IsFoundLeaf found) (sym c.as_slice.ensures.value)
-    (are_leaves c.args.file.now c.in_ok-meta.meta c.in_ok-both.both.found.items c.in_ok-both.ensures.views)
+put_report-requires g c = rw c.as_slice.ensures.value (are_leaves c.args.file.now c.in_ok-meta.meta c.in_ok-both.both.found.items c.in_ok-both.ensures.views)
 
 pub returns : goal.returns
 returns g c =
@@ -80,22 +51,11 @@ returns g c =
     let j = c.in_ok-joined.ensures in
     let both = c.in_ok-both.ensures in
     let found = c.in_ok-both.both.found.items in
-    let (own, is) = c.each_file_has_a_joined_listing.ensures file meta in
-    let there = subst₂ (λ (f : List ℕ) (m : Meta). IsJoined f m own) (sym (j.file ∙ both.file)) (sym (j.meta ∙ both.meta)) is in
     let lost = all_lost c.in_ok-both.both in
-    let does = subst₂ (λ (differs : Bool) (l : LostView). Does g.O.Sink.taken g.O.Sink.failed c.args.out.now c.put_report.new.out
-    (copy_report differs l (map found_view c.as_slice.result.now) (length file) c.in_ok-copy.copy) c.put_report.result) c.hash_differs.ensures c.lost.ensures c.put_report.ensures in
-    let shown = subst (λ (fs : List Found). Does g.O.Sink.taken g.O.Sink.failed c.args.out.now c.put_report.new.out
-    (copy_report (hash_differs (is_snapshot job.kind) file) lost (map found_view fs) (length file) c.in_ok-copy.copy) c.put_report.result) c.as_slice.ensures.value does in
-    inl (
-      meta,
-      own,
-      lost,
-      map found_view found,
-      c.in_ok-meta.ensures.found,
-      salvaged c.in_ok-both.both file meta own is both.file both.meta both.lost both.found both.views j.apart j.some,
-      copy_reported g.T.Sink.taken g.T.Sink.failed c.args.target.now c.copy_asked.new.target
-          g.O.Sink.taken g.O.Sink.failed c.args.out.now (is_snapshot job.kind) (asked_layout job meta own) own
-          (copy_report (hash_differs (is_snapshot job.kind) file) lost (map found_view found) (length file)) c.in_ok-copy.copy c.put_report.new.out _
-          (c.in_ok-copy.ensures.copied own there) (c.in_ok-copy.ensures.good own there) shown,
-    )
+    let (own, is) = c.each_file_has_a_joined_listing.ensures file meta in
+    let does = rw (c.hash_differs.ensures, c.lost.ensures, c.as_slice.ensures.value) at c.put_report.ensures in
+    let saved = salvaged c.in_ok-both.both file meta own is both.file both.meta both.lost both.found both.views j.apart j.some in
+    let copy = copy_reported g.T.Sink.taken g.T.Sink.failed c.args.target.now c.copy_asked.new.target g.O.Sink.taken g.O.Sink.failed c.args.out.now (is_snapshot job.kind) (asked_layout job meta own)
+    own (copy_report (hash_differs (is_snapshot job.kind) file) lost (map found_view found) (length file)) c.in_ok-copy.copy c.put_report.new.out _
+    (c.in_ok-copy.ensures.copied own (rw (j.file ∙ both.file, j.meta ∙ both.meta) is)) (c.in_ok-copy.ensures.good own (rw (j.file ∙ both.file, j.meta ∙ both.meta) is)) does in
+    inl (meta, own, lost, map found_view found, c.in_ok-meta.ensures.found, saved, copy)

@@ -1,16 +1,6 @@
 -- The copy is whole and then reported, or it isn't whole, or nothing is recovered.
-use Rattle.std.proofs.Common.{◌≡◌, ◌∙◌, ℕ, Bool, List, [], Ok, Err, inl, inr, length, map, refl, subst, subst₂, sym}
-use Rattle.bolt_format.specs.declared.meta.Meta.{Meta}
-use Rattle.bolt_recover.specs.Losses.{AreLosses, LossView, parts}
-use Rattle.bolt_recover.specs.Recovered.{IsRecovered}
-use Rattle.bolt_recover.specs.Recoveries.{recovery_meta}
-use Rattle.bolt_recover.specs.ShownLosses.{loss_view}
-use Rattle.bolt_recover.proofs.Existing.{has_losses, has_recovered}
-use Rattle.bolt_cli.specs.Answers.{Does, copy_report}
-use Rattle.bolt_cli.specs.CopyEnds.{EndsCopy, asked_layout}
-use Rattle.bolt_cli.specs.CopyKinds.{is_snapshot}
-use Rattle.bolt_cli.specs.GoodCopies.{IsGoodCopy}
-use Rattle.bolt_cli.specs.SnapshotAnswers.{hash_differs}
+use Rattle.std.proofs.Common.{◌≡◌, ◌∙◌, [], inl, inr, length, map, refl}
+use Rattle.bolt_cli.proofs.Vocabulary.{asked_layout, copy_report, has_losses, has_recovered, hash_differs, is_snapshot, loss_view, parts, recovery_meta}
 use Rattle.bolt_cli.proofs.CopyAnswers.{copy_reported, copy_stopped}
 use Rattle.bolt_cli.proofs.ReadFiles.{failure_named, unrecoverable_finding}
 use Rattle.bolt_cli.proofs.compact_command.write_recovered.Goals as goal
@@ -23,47 +13,26 @@ returns-in_err-recovery g c =
 
 pub returns-in_err-copy : goal.returns-in_err-copy
 returns-in_err-copy g c =
-    let r = c.in_ok-recovery.recovery in
-    let meta = recovery_meta r in
+    let meta = recovery_meta c.in_ok-recovery.recovery in
     let job = c.args.job.now in
     let (own, is) = has_recovered c.args.file.now meta in
     let (lost, are) = has_losses c.args.file.now meta in
-    let there = subst (λ (f : List ℕ). IsRecovered f meta own) (sym c.in_ok-recovery.ensures.file) is in
-    let stops = subst (λ (m : Meta). EndsCopy g.T.Sink.taken g.T.Sink.failed c.args.target.now c.copy_asked.new.target (asked_layout job m own) (is_snapshot job.kind) (Err c.in_err-copy.field-0.0)) c.meta-meta.ensures
-    (c.in_err-copy.ensures.copied own there) in
-    inl (
-      meta,
-      own,
-      lost,
-      c.in_ok-recovery.ensures.meta,
-      is,
-      are,
-      inr (copy_stopped g.T.Sink.taken g.T.Sink.failed c.args.target.now c.copy_asked.new.target
-          g.O.Sink.taken g.O.Sink.failed c.args.out.now (is_snapshot job.kind) (asked_layout job meta own) c.in_err-copy.field-0.0 _ stops c.from_residual-in_err-copy.ensures.1),
-    )
+    let stops = rw c.meta-meta.ensures at (c.in_err-copy.ensures.copied own (rw c.in_ok-recovery.ensures.file is)) in
+    let part = copy_stopped g.T.Sink.taken g.T.Sink.failed c.args.target.now c.copy_asked.new.target g.O.Sink.taken g.O.Sink.failed c.args.out.now (is_snapshot job.kind) (asked_layout job meta own)
+    c.in_err-copy.field-0.0 _ stops c.from_residual-in_err-copy.ensures.1 in
+    inl (meta, own, lost, c.in_ok-recovery.ensures.meta, is, are, inr part)
 
 pub returns : goal.returns
 returns g c =
-    let r = c.in_ok-recovery.recovery in
-    let meta = recovery_meta r in
+    let meta = recovery_meta c.in_ok-recovery.recovery in
     let job = c.args.job.now in
-    let (own, is) = has_recovered c.args.file.now meta in
-    let (lost, are) = has_losses c.args.file.now meta in
-    let there = subst (λ (f : List ℕ). IsRecovered f meta own) (sym c.in_ok-recovery.ensures.file) is in
-    let whole = subst (λ (m : Meta). EndsCopy g.T.Sink.taken g.T.Sink.failed c.args.target.now c.copy_asked.new.target (asked_layout job m own) (is_snapshot job.kind) (Ok c.in_ok-copy.copy)) c.meta-meta.ensures
-    (c.in_ok-copy.ensures.copied own there) in
-    let good = subst (λ (m : Meta). ∥ IsGoodCopy (is_snapshot job.kind) (asked_layout job m own) own ∥₁) c.meta-meta.ensures (c.in_ok-copy.ensures.good own there) in
-    let all : map loss_view c.losses.result.now ≡ lost = c.losses.ensures.losses ∙ c.in_ok-copy.ensures.end lost (subst (λ (f : List ℕ). AreLosses f meta lost) (sym c.in_ok-recovery.ensures.file) are) in
-    let does = subst₂ (λ (differs : Bool) (losses : List LossView). Does g.O.Sink.taken g.O.Sink.failed c.args.out.now c.put_report.new.out
-    (copy_report differs (parts losses) [] (length c.args.file.now) c.in_ok-copy.copy) c.put_report.result) c.hash_differs.ensures all c.put_report.ensures in
-    inl (
-      meta,
-      own,
-      lost,
-      c.in_ok-recovery.ensures.meta,
-      is,
-      are,
-      inl (copy_reported g.T.Sink.taken g.T.Sink.failed c.args.target.now c.copy_asked.new.target
-          g.O.Sink.taken g.O.Sink.failed c.args.out.now (is_snapshot job.kind) (asked_layout job meta own) own
-          (copy_report (hash_differs (is_snapshot job.kind) c.args.file.now) (parts lost) [] (length c.args.file.now)) c.in_ok-copy.copy c.put_report.new.out _ whole good does),
-    )
+    let file = c.args.file.now in
+    let (own, is) = has_recovered file meta in
+    let (lost, are) = has_losses file meta in
+    let whole = rw c.meta-meta.ensures at (c.in_ok-copy.ensures.copied own (rw c.in_ok-recovery.ensures.file is)) in
+    let good = rw c.meta-meta.ensures at (c.in_ok-copy.ensures.good own (rw c.in_ok-recovery.ensures.file is)) in
+    let all : map loss_view c.losses.result.now ≡ lost = c.losses.ensures.losses ∙ c.in_ok-copy.ensures.end lost (rw c.in_ok-recovery.ensures.file are) in
+    let does = rw (c.hash_differs.ensures, all) at c.put_report.ensures in
+    let copy = copy_reported g.T.Sink.taken g.T.Sink.failed c.args.target.now c.copy_asked.new.target g.O.Sink.taken g.O.Sink.failed c.args.out.now (is_snapshot job.kind) (asked_layout job meta own)
+    own (copy_report (hash_differs (is_snapshot job.kind) file) (parts lost) [] (length file)) c.in_ok-copy.copy c.put_report.new.out _ whole good does in
+    inl (meta, own, lost, c.in_ok-recovery.ensures.meta, is, are, inl copy)

@@ -1,16 +1,6 @@
 -- The copy is whole and then reported, or it isn't whole, or the file is refused.
-use Rattle.std.proofs.Common.{ℕ, false, List, [], Ok, Err, inl, inr, length, refl, subst, sym}
-use Rattle.bolt_format.specs.Metas.{IsPageSize}
-use Rattle.bolt_format.specs.declared.meta.Meta.{Meta}
-use Rattle.bolt_check.specs.CheckedFiles.{bytes_of, meta_of}
-use Rattle.bolt_check.specs.declared.checked_file.Checked.{Checked}
-use Rattle.bolt_tree.specs.Listing.{IsListing}
-use Rattle.bolt_tree.proofs.Existing.{has_listing}
-use Rattle.bolt_recover.specs.Losses.{parts}
-use Rattle.bolt_cli.specs.Answers.{copy_report}
-use Rattle.bolt_cli.specs.CopyEnds.{EndsCopy, asked_layout}
-use Rattle.bolt_cli.specs.CopyKinds.{is_snapshot}
-use Rattle.bolt_cli.specs.GoodCopies.{IsGoodCopy}
+use Rattle.std.proofs.Common.{false, [], inl, inr, length, refl, subst, sym}
+use Rattle.bolt_cli.proofs.Vocabulary.{IsPageSize, Meta, asked_layout, copy_report, has_listing, is_snapshot, meta_of, parts}
 use Rattle.bolt_cli.proofs.CopyAnswers.{copy_reported, copy_stopped}
 use Rattle.bolt_cli.proofs.ReadFiles.{failure_named, read_page_size, read_trees, unread_finding}
 use Rattle.bolt_cli.proofs.compact_command.write_sound.Goals as goal
@@ -33,42 +23,21 @@ copy_asked-requires-clause-size g c = subst (λ (m : Meta). IsPageSize m.page_si
 
 pub returns-in_err-copy : goal.returns-in_err-copy
 returns-in_err-copy g c =
-    let checked = c.in_ok-checked.checked in
+    let meta = meta_of c.in_ok-checked.checked in
     let job = c.args.job.now in
-    let under = c.in_ok-checked.ensures.sound in
-    let (own, is) = has_listing c.args.file.now (meta_of checked) (read_trees c.args.file.now job.meta (meta_of checked) under) in
-    let here = subst (λ (f : List ℕ). IsListing f (meta_of checked) own) (sym c.in_ok-checked.ensures.bytes) is in
-    let there = subst (λ (w : Checked). IsListing (bytes_of w) (meta_of w) own) (sym c.new-walk.ensures.checked) here in
-    let stops = subst (λ (m : Meta). EndsCopy g.T.Sink.taken g.T.Sink.failed c.args.target.now c.copy_asked.new.target (asked_layout job m own) (is_snapshot job.kind) (Err c.in_err-copy.field-0.0)) c.meta-meta.ensures
-    (c.in_err-copy.ensures.copied own there) in
-    inl (
-      meta_of checked,
-      own,
-      under,
-      rw (sym c.hash_differs.ensures) c.if-hash_differs.false,
-      is,
-      inr (copy_stopped g.T.Sink.taken g.T.Sink.failed c.args.target.now c.copy_asked.new.target
-          g.O.Sink.taken g.O.Sink.failed c.args.out.now (is_snapshot job.kind) (asked_layout job (meta_of checked) own) c.in_err-copy.field-0.0 _ stops c.from_residual-in_err-copy.ensures.1),
-    )
+    let (own, is) = has_listing c.args.file.now meta (read_trees c.args.file.now job.meta meta c.in_ok-checked.ensures.sound) in
+    let stops = rw c.meta-meta.ensures at (c.in_err-copy.ensures.copied own (rw (c.new-walk.ensures.checked, c.in_ok-checked.ensures.bytes) is)) in
+    let part = copy_stopped g.T.Sink.taken g.T.Sink.failed c.args.target.now c.copy_asked.new.target g.O.Sink.taken g.O.Sink.failed c.args.out.now (is_snapshot job.kind) (asked_layout job meta own)
+    c.in_err-copy.field-0.0 _ stops c.from_residual-in_err-copy.ensures.1 in
+    inl (meta, own, c.in_ok-checked.ensures.sound, rw (sym c.hash_differs.ensures) c.if-hash_differs.false, is, inr part)
 
 pub returns : goal.returns
 returns g c =
-    let checked = c.in_ok-checked.checked in
+    let meta = meta_of c.in_ok-checked.checked in
     let job = c.args.job.now in
-    let under = c.in_ok-checked.ensures.sound in
-    let (own, is) = has_listing c.args.file.now (meta_of checked) (read_trees c.args.file.now job.meta (meta_of checked) under) in
-    let here = subst (λ (f : List ℕ). IsListing f (meta_of checked) own) (sym c.in_ok-checked.ensures.bytes) is in
-    let there = subst (λ (w : Checked). IsListing (bytes_of w) (meta_of w) own) (sym c.new-walk.ensures.checked) here in
-    let whole = subst (λ (m : Meta). EndsCopy g.T.Sink.taken g.T.Sink.failed c.args.target.now c.copy_asked.new.target (asked_layout job m own) (is_snapshot job.kind) (Ok c.in_ok-copy.copy)) c.meta-meta.ensures
-    (c.in_ok-copy.ensures.copied own there) in
-    let good = subst (λ (m : Meta). ∥ IsGoodCopy (is_snapshot job.kind) (asked_layout job m own) own ∥₁) c.meta-meta.ensures (c.in_ok-copy.ensures.good own there) in
-    inl (
-      meta_of checked,
-      own,
-      under,
-      rw (sym c.hash_differs.ensures) c.if-hash_differs.false,
-      is,
-      inl (copy_reported g.T.Sink.taken g.T.Sink.failed c.args.target.now c.copy_asked.new.target
-          g.O.Sink.taken g.O.Sink.failed c.args.out.now (is_snapshot job.kind) (asked_layout job (meta_of checked) own) own (copy_report false (parts []) [] (length c.args.file.now)) c.in_ok-copy.copy c.put_report.new.out _ whole good
-          c.put_report.ensures),
-    )
+    let (own, is) = has_listing c.args.file.now meta (read_trees c.args.file.now job.meta meta c.in_ok-checked.ensures.sound) in
+    let whole = rw c.meta-meta.ensures at (c.in_ok-copy.ensures.copied own (rw (c.new-walk.ensures.checked, c.in_ok-checked.ensures.bytes) is)) in
+    let good = rw c.meta-meta.ensures at (c.in_ok-copy.ensures.good own (rw (c.new-walk.ensures.checked, c.in_ok-checked.ensures.bytes) is)) in
+    let copy = copy_reported g.T.Sink.taken g.T.Sink.failed c.args.target.now c.copy_asked.new.target g.O.Sink.taken g.O.Sink.failed c.args.out.now (is_snapshot job.kind) (asked_layout job meta own)
+    own (copy_report false (parts []) [] (length c.args.file.now)) c.in_ok-copy.copy c.put_report.new.out _ whole good c.put_report.ensures in
+    inl (meta, own, c.in_ok-checked.ensures.sound, rw (sym c.hash_differs.ensures) c.if-hash_differs.false, is, inl copy)

@@ -1,5 +1,5 @@
 -- The number's digits, and the words after them.
-use Rattle.bolt_format.proofs.WroteLemmas.{Wrote-return}
+use Rattle.bolt_cli.proofs.Vocabulary.{Wrote-return}
 use Rattle.bolt_cli.proofs.decimals.put_number_and.Goals as goal
 
 pub returns-in_err-put_digits : goal.returns-in_err-put_digits

@@ -1,4 +1,4 @@
-use Rattle.bolt_format.proofs.WroteLemmas.{Wrote-return, Wrote-then}
+use Rattle.bolt_cli.proofs.Vocabulary.{Wrote-return, Wrote-then}
 use Rattle.bolt_cli.proofs.failure.put_file_refused.Goals as goal
 
 pub returns-in_err-put_words : goal.returns-in_err-put_words

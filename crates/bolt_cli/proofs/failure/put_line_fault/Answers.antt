@@ -1,5 +1,5 @@
 use Rattle.std.proofs.Common.{◌∙◌}
-use Rattle.bolt_format.proofs.WroteLemmas.{Wrote-return, Wrote-same, Wrote-then}
+use Rattle.bolt_cli.proofs.Vocabulary.{Wrote-return, Wrote-same, Wrote-then}
 use Rattle.bolt_cli.proofs.failure.put_line_fault.Goals as goal
 
 pub returns-in_err-put_words : goal.returns-in_err-put_words

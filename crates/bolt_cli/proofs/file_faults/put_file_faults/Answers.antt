@@ -1,6 +1,5 @@
 -- The first line, or both.
-use Rattle.bolt_format.proofs.WroteLemmas.{Wrote-ends, Wrote-return, Wrote-then, broken_by}
-use Rattle.bolt_cli.specs.FileFaults.{other_lines}
+use Rattle.bolt_cli.proofs.Vocabulary.{Wrote-ends, Wrote-return, Wrote-then, broken_by, other_lines}
 use Rattle.bolt_cli.proofs.file_faults.put_file_faults.Goals as goal
 
 pub returns-in_err-hash-clause-lines : goal.returns-in_err-hash-clause-lines

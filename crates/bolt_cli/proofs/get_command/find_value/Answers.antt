@@ -1,8 +1,3 @@
-use Rattle.std.proofs.Common.{None, Some, subst}
-use Rattle.bolt_check.specs.Keys.{Key}
-use Rattle.bolt_tree.specs.Buckets.{bucket_checked, bucket_start}
-use Rattle.bolt_tree.specs.BucketViews.{entries_of}
-use Rattle.bolt_tree.specs.Lookups.{IsValueAt}
 use Rattle.bolt_cli.proofs.AtPaths.{none_at, none_at_root, reason_named, value_at}
 use Rattle.bolt_cli.proofs.get_command.find_value.Goals as goal
 
@@ -17,11 +12,11 @@ returns-in_err-bucket-clause-refused c =
 pub returns-in-Some-get-clause-held : goal.returns-in-Some-get-clause-held
 returns-in-Some-get-clause-held c =
     let bucket = c.in_ok-bucket.bucket in
-    let found = subst (λ (k : Key). IsValueAt (entries_of (bucket_checked bucket)) (bucket_start bucket) k (Some c.in-Some-get.value.now)) c.as_slice.ensures.value c.in-Some-get.ensures in
+    let found = rw c.as_slice.ensures.value at c.in-Some-get.ensures in
     value_at c.args.checked c.args.path.now c.in-Some.parents.now c.in-Some.key.now c.in-Some.ensures.cases.0 bucket c.in-Some-get.value.now c.in_ok-bucket.ensures.file c.in_ok-bucket.ensures.named found
 
 pub returns-in-None-clause-refused : goal.returns-in-None-clause-refused
 returns-in-None-clause-refused c =
     let bucket = c.in_ok-bucket.bucket in
-    let none = subst (λ (k : Key). IsValueAt (entries_of (bucket_checked bucket)) (bucket_start bucket) k None) c.as_slice.ensures.value c.in-None.ensures in
+    let none = rw c.as_slice.ensures.value at c.in-None.ensures in
     none_at c.args.checked c.args.path.now c.in-Some.parents.now c.in-Some.key.now c.in-Some.ensures.cases.0 bucket c.in_ok-bucket.ensures.file c.in_ok-bucket.ensures.named none

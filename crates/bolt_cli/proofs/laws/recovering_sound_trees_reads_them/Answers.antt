@@ -6,13 +6,10 @@ returns g c =
     let below : Below = record {
       chosen_is_one = c.chosen_meta_is_one.ensures;
       slot_is_one = c.slot_meta_is_one.ensures;
-      passes = c.sound_trees_pass_the_tests.ensures;
-      no_finding = c.sound_trees_have_no_finding.ensures;
       listed = c.sound_trees_recover_their_listing.ensures;
       recovered = c.sound_trees_recover_what_they_list.ensures.listing;
       none_lost = c.sound_trees_recover_what_they_list.ensures.losses;
     } in record {
       list = lists_the_same below;
-      compact = λ file meta trees wanted named shown shown_named alone out_old out_new target_old target_new.
-          copies_the_same below file meta trees wanted named shown shown_named alone g.O.Sink.taken g.O.Sink.failed out_old out_new g.T.Sink.taken g.T.Sink.failed target_old target_new;
+      compact = λ file meta trees wanted named shown shown_named alone. copies_the_same below file meta trees wanted named shown shown_named alone g.O.Sink.taken g.O.Sink.failed g.T.Sink.taken g.T.Sink.failed;
     }

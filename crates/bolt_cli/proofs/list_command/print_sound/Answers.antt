@@ -1,13 +1,7 @@
-use Rattle.std.proofs.Common.{◌≡◌, Err, Ok, inl, refl, subst, sym}
-use Rattle.std.specs.Prelude.{⊤}
-use Rattle.std.specs.Result.{IsErrAnd}
-use Rattle.bolt_check.specs.CheckedFiles.{meta_of}
-use Rattle.bolt_tree.specs.Buckets.{bucket_start}
-use Rattle.bolt_cli.specs.Answers.{refused}
-use Rattle.bolt_cli.specs.PlainWords.{path_in}
-use Rattle.bolt_cli.specs.declared.failure.Failure.{Failure}
+use Rattle.std.proofs.Common.{Err, Ok, inl, refl, sym}
+use Rattle.bolt_cli.proofs.Vocabulary.{bucket_start, meta_of, path_in, ⊤}
 use Rattle.bolt_cli.specs.declared.failure.Failure.TheVariants as failure
-use Rattle.bolt_cli.proofs.Doing.{Does-nothing, Does-unread}
+use Rattle.bolt_cli.proofs.Doing.{Does-unread, answer_nothing}
 use Rattle.bolt_cli.proofs.ListAnswers.{list_put, no_bucket_listed}
 use Rattle.bolt_cli.proofs.ReadFiles.{read_trees}
 use Rattle.bolt_cli.proofs.list_command.print_sound.Goals as goal
@@ -17,15 +11,12 @@ returns-in_err-checked g c = Does-unread g.O.Sink.taken g.O.Sink.failed c.args.o
 
 pub returns-in_err-open_bucket : goal.returns-in_err-open_bucket
 returns-in_err-open_bucket g c =
-    let checked = c.in_ok-checked.checked in
+    let meta = meta_of c.in_ok-checked.checked in
     let under = c.in_ok-checked.ensures.sound in
     let job = c.args.job.now in
-    let said = c.in_err-open_bucket.ensures.refused in (
-      refused failure.NoBucket,
-      inl (meta_of checked, under, no_bucket_listed c.args.file.now checked job.form (path_in job.path.items) (path_in job.from.items) c.in_ok-checked.ensures.bytes (read_trees c.args.file.now c.args.job.now.meta (meta_of checked) under) (rw (sym c.as_slice.ensures.value) said.1)),
-      Does-nothing g.O.Sink.taken g.O.Sink.failed c.args.out.now failure.NoBucket _
-          (subst (λ (reason : Failure). IsErrAnd c.from_residual-in_err-open_bucket.result (λ said. said ≡ reason)) said.0 c.from_residual-in_err-open_bucket.ensures.1),
-    )
+    let none = no_bucket_listed c.args.file.now c.in_ok-checked.checked job.form (path_in job.path.items) (path_in job.from.items) c.in_ok-checked.ensures.bytes (read_trees c.args.file.now job.meta meta under)
+    (rw (sym c.as_slice.ensures.value) c.in_err-open_bucket.ensures.refused.1) in
+    answer_nothing g.O.Sink.taken g.O.Sink.failed c.args.out.now failure.NoBucket _ (inl (meta, under, none)) (rw c.in_err-open_bucket.ensures.refused.0 at c.from_residual-in_err-open_bucket.ensures.1)
 
 pub returns-in_err-put_sound_part : goal.returns-in_err-put_sound_part
 returns-in_err-put_sound_part g c =

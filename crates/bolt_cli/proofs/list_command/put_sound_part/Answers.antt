@@ -1,12 +1,6 @@
 -- The paths that are handed over as slices are those of the job.
 use Rattle.std.proofs.Common.{◌∙◌, ap, subst₂}
-use Rattle.bolt_tree.specs.Listing.{rest_from}
-use Rattle.bolt_tree.specs.ListingParts.{part_below}
-use Rattle.bolt_tree.specs.Paths.{Path, path_of}
-use Rattle.bolt_report.specs.ListForms.{listing_lines}
-use Rattle.bolt_report.specs.ReportEndings.{report_ending}
-use Rattle.bolt_format.specs.Wrote.{Wrote}
-use Rattle.bolt_cli.specs.PlainWords.{path_in}
+use Rattle.bolt_cli.proofs.Vocabulary.{Path, Wrote, listing_lines, part_below, path_in, path_of, report_ending, rest_from}
 use Rattle.bolt_cli.proofs.list_command.put_sound_part.Goals as goal
 
 pub returns-clause-written : goal.returns-clause-written

@@ -1,6 +1,5 @@
 use Rattle.std.proofs.Common.{◌≡◌, take}
-use Rattle.bolt_tree.specs.Paths.{path_of}
-use Rattle.bolt_cli.specs.PlainWords.{path_in}
+use Rattle.bolt_cli.proofs.Vocabulary.{path_in, path_of}
 use Rattle.bolt_cli.proofs.list_command.slices.Given as goal
 
 -- the parts so far

@@ -1,10 +1,9 @@
 use Rattle.std.proofs.Common.{inl, refl}
-use Rattle.bolt_check.specs.CheckedFiles.{meta_of}
+use Rattle.bolt_cli.proofs.Vocabulary.{Active, done, meta_of, pages_shown}
+use Rattle.bolt_check.proofs.RoleFacts.{some_roles}
 use Rattle.bolt_check.specs.RoledFiles.{roles_checked}
-use Rattle.bolt_cli.specs.declared.meta_choice.MetaChoice.TheVariants.{Active}
-use Rattle.bolt_cli.proofs.Doing.{Does-refused}
+use Rattle.bolt_cli.proofs.Doing.{Does-part, Does-refused, Does-whole}
 use Rattle.bolt_cli.proofs.ReadFiles.{unread_finding}
-use Rattle.bolt_cli.proofs.PagesAnswers.{pages_cut, pages_put}
 use Rattle.bolt_cli.proofs.pages_command.print_pages.Goals as goal
 
 pub returns-in_err-roles : goal.returns-in_err-roles
@@ -12,18 +11,20 @@ returns-in_err-roles g c = Does-refused g.O.Sink.taken g.O.Sink.failed c.args.ou
 
 pub returns-in_err-put_pages : goal.returns-in_err-put_pages
 returns-in_err-put_pages g c =
-    let checked = roles_checked c.in_ok-roles.roles in
+    let meta = meta_of (roles_checked c.in_ok-roles.roles) in
     let (slot, chosen) = c.in_ok-roles.ensures.meta in
     let sound = c.in_ok-roles.ensures.sound in
-    let (answer, said, does) = pages_cut c.args.file.now c.args.job.now.map checked c.in_ok-roles.ensures.bytes sound.trees (sound.right refl)
-    c.args.out.now c.put_pages.new.out _ c.in_err-put_pages.ensures c.from_residual-in_err-put_pages.ensures.1 in
-    (answer, inl (slot, meta_of checked, chosen, sound, said), does)
+    let (roles, are) = some_roles c.args.file.now meta sound.trees (sound.right refl) in
+    let put = rw c.in_ok-roles.ensures.bytes at c.in_err-put_pages.ensures in
+    let does = Does-part _ _ (done (pages_shown c.args.job.now.map c.args.file.now meta roles)) _ (put roles are) c.from_residual-in_err-put_pages.ensures.1 in
+    (_, inl (slot, meta, chosen, sound, (roles, are, refl)), does)
 
 pub returns : goal.returns
 returns g c =
-    let checked = roles_checked c.in_ok-roles.roles in
+    let meta = meta_of (roles_checked c.in_ok-roles.roles) in
     let (slot, chosen) = c.in_ok-roles.ensures.meta in
     let sound = c.in_ok-roles.ensures.sound in
-    let (answer, said, does) = pages_put c.args.file.now c.args.job.now.map checked c.in_ok-roles.ensures.bytes sound.trees (sound.right refl)
-    c.args.out.now c.put_pages.new.out c.in_ok-put_pages.ensures in
-    (answer, inl (slot, meta_of checked, chosen, sound, said), does)
+    let (roles, are) = some_roles c.args.file.now meta sound.trees (sound.right refl) in
+    let put = rw c.in_ok-roles.ensures.bytes at c.in_ok-put_pages.ensures in
+    let does = Does-whole _ _ (done (pages_shown c.args.job.now.map c.args.file.now meta roles)) (put roles are) in
+    (_, inl (slot, meta, chosen, sound, (roles, are, refl)), does)

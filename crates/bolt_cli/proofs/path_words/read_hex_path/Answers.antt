@@ -1,16 +1,9 @@
-use Rattle.std.proofs.Common.{◌≡◌, ◌∙◌, ◌==◌, Bool, List, inr, refl, ap, length, map, sym}
-use Rattle.std.specs.Borrow.{Bor}
-use Rattle.std.specs.List.{list_any}
-use Rattle.clap.proofs.WalkLemmas.{list_any-map}
-use Rattle.bolt_cli.specs.LineWords.{Text}
-use Rattle.bolt_cli.specs.PathWords.{each_part, part_of}
-use Rattle.bolt_cli.specs.declared.parts.Parts.TheVariants as parts
+use Rattle.std.proofs.Common.{◌≡◌, ◌∙◌, ◌==◌, Bool, List, inr, refl, ap, length, sym}
+use Rattle.bolt_cli.proofs.Vocabulary.{Bor, Text, each_part, list_any, list_any-map, part_of}
+use Rattle.bolt_cli.specs.declared.path_words.Parts.TheVariants as parts
 use Rattle.bolt_cli.proofs.CommandLineLemmas.{gives_same}
-use Rattle.bolt_cli.proofs.PathReading.{path_cut}
+use Rattle.bolt_cli.proofs.PathReading.{path_cut, texts}
 use Rattle.bolt_cli.proofs.path_words.read_hex_path.Goals as goal
-
-abbrev texts : List (Bor Text) → List Text
-texts words = map (λ (word : Bor Text). word.now) words
 
 -- what the test says of the parts
 tested : (cut kept : List (Bor Text)) (empty bad : Bool) → empty ≡ list_any (λ (part : Bor Text). length part.now == 0) kept → kept ≡ cut → empty ≡ bad

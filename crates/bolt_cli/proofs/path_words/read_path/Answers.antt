@@ -1,15 +1,7 @@
-use Rattle.std.proofs.Common.{◌∙◌, ℕ, Global, Vec, List, [], ◌∷◌, ◌+◌, ap, drop, map, sym}
-use Rattle.std.proofs.lemmas.List.{at_drop_more, map-append}
-use Rattle.std.specs.Borrow.{Bor}
-use Rattle.bolt_tree.specs.Paths.{Path}
-use Rattle.bolt_cli.specs.LineWords.{Text}
-use Rattle.bolt_cli.specs.PathWords.{each_part, part_of}
-use Rattle.bolt_cli.specs.PlainWords.{path_in}
-use Rattle.bolt_cli.proofs.PathReading.{continued, continued_one, part_refused}
+use Rattle.std.proofs.Common.{◌∙◌, ℕ, Global, Vec, [], ◌∷◌, ◌+◌, ap, drop, sym}
+use Rattle.bolt_cli.proofs.Vocabulary.{Path, at_drop_more, each_part, map-append, part_of, path_in}
+use Rattle.bolt_cli.proofs.PathReading.{continued, continued_one, part_refused, texts}
 use Rattle.bolt_cli.proofs.path_words.read_path.Goals as goal
-
-abbrev texts : List (Bor Text) → List Text
-texts words = map (λ (word : Bor Text). word.now) words
 
 pub returns-in_err-read_part : goal.returns-in_err-read_part
 returns-in_err-read_part c =

@@ -1,12 +1,8 @@
-use Rattle.std.proofs.Common.{◌≡◌, drop, map}
-use Rattle.std.specs.Borrow.{Bor}
-use Rattle.bolt_cli.specs.LineWords.{Text}
-use Rattle.bolt_cli.specs.PathWords.{each_part, part_of}
-use Rattle.bolt_cli.specs.PlainWords.{path_in}
-use Rattle.bolt_cli.proofs.PathReading.{continued}
+use Rattle.std.proofs.Common.{◌≡◌, drop}
+use Rattle.bolt_cli.proofs.Vocabulary.{each_part, part_of, path_in}
+use Rattle.bolt_cli.proofs.PathReading.{continued, texts}
 use Rattle.bolt_cli.proofs.path_words.read_path.Given as goal
 
 -- the words that are left, after the parts so far, are read as all are
 abbrev pub invariant-loop-word : goal.invariant-loop-word
-invariant-loop-word l = let words = map (λ (word : Bor Text). word.now) l.words in
-    continued (path_in l.path.items) (each_part (part_of l.parts) (map (λ (word : Bor Text). word.now) (drop l.word-index l.words))) ≡ each_part (part_of l.parts) words
+invariant-loop-word l = continued (path_in l.path.items) (each_part (part_of l.parts) (texts (drop l.word-index l.words))) ≡ each_part (part_of l.parts) (texts l.words)

@@ -1,4 +1,5 @@
-use Rattle.bolt_cli.proofs.StatsAnswers.{adds_found, adds_nothing}
+use Rattle.std.proofs.Common.{refl}
+use Rattle.bolt_cli.proofs.StatsAnswers.{adds_found}
 use Rattle.bolt_cli.proofs.stats_command.add_entry.Goals as goal
 
 pub returns-in_ok-stats-in-Some : goal.returns-in_ok-stats-in-Some
@@ -6,4 +7,4 @@ returns-in_ok-stats-in-Some c = λ e entry named.
     adds_found c.args.bucket.now c.in-Some.inner c.args.key.now _ c.args.total c.add.result e c.in-Some.ensures.checked c.in-Some.ensures.bucket c.in_ok-stats-in-Some.ensures c.add.ensures entry named
 
 pub returns-in-None : goal.returns-in-None
-returns-in-None c = λ e entry named. ∣ adds_nothing _ _ e c.args.total (c.in-None.ensures.bucket e entry named) ∣₁
+returns-in-None c = λ e entry named. rw (c.in-None.ensures.bucket e entry named) (∣ refl ∣₁)

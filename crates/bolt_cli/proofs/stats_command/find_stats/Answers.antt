@@ -1,5 +1,5 @@
 use Rattle.std.proofs.Common.{◌∙◌, length, sym}
-use Rattle.std.proofs.lemmas.Bool.{both_ways, eq-eqb, eqb-true}
+use Rattle.bolt_cli.proofs.Vocabulary.{both_ways, eq-eqb, eqb-true}
 use Rattle.bolt_cli.proofs.StatsAnswers.{bucket_stats, root_stats}
 use Rattle.bolt_cli.proofs.stats_command.find_stats.Goals as goal
 

@@ -1,16 +1,8 @@
-use Rattle.std.proofs.Common.{◌∙◌, Some, ap, subst, sym}
-use Rattle.bolt_check.specs.CheckedFiles.{bytes_of, meta_of}
-use Rattle.bolt_report.specs.declared.statistics.Stats.{Stats}
-use Rattle.bolt_tree.specs.Buckets.{bucket_checked, bucket_start}
-use Rattle.bolt_tree.specs.Cursors.{cursor_checked, cursor_place, cursor_start}
-use Rattle.bolt_tree.specs.Entries.{EntryView}
-use Rattle.bolt_tree.specs.EntriesLeft.{entries_left}
-use Rattle.bolt_tree.specs.Places.{Fresh, Place}
+use Rattle.std.proofs.Common.{◌≡◌, ◌∙◌, Some, ap, refl, rules, sym}
+use Rattle.bolt_cli.proofs.Vocabulary.{EntryView, bucket_checked, bucket_start, bytes_of, cursor_checked, cursor_place, cursor_start, entries_left, fewer_left, meta_of, next_shows, no_stats}
 use Rattle.bolt_tree.specs.ShownEntries.{shown_entry}
-use Rattle.bolt_tree.proofs.Leaving.{fewer_left, next_shows}
-use Rattle.bolt_cli.specs.Answers.{IsTotal}
 use Rattle.bolt_report.proofs.SizeLemmas.{first_left}
-use Rattle.bolt_cli.proofs.StatsAnswers.{total_end, total_more, zero_stats}
+use Rattle.bolt_cli.proofs.StatsAnswers.{total_more}
 use Rattle.bolt_cli.proofs.stats_command.sum_buckets.Goals as goal
 
 pub rest-init : goal.rest-init
@@ -18,9 +10,8 @@ rest-init c = record {
   checked = c.cursor-cursor.ensures.checked;
   start = c.cursor-cursor.ensures.start;
   sum = λ entries are total known.
-      let bucket = c.args.bucket.now in
-      let Sum : Stats → Place → Type 0 = λ before place. ∥ IsTotal (bytes_of (bucket_checked bucket)) (meta_of (bucket_checked bucket)) (entries_left entries place) before total ∥₁ in
-      subst (λ (before : Stats). Sum before Fresh) (zero_stats c.default-total.result c.default-total.ensures) (subst (Sum c.default-total.result) c.cursor-cursor.ensures.place known);
+      let none : c.default-total.result ≡ no_stats = search (rules, c.default-total.ensures) in
+      rw (none, c.cursor-cursor.ensures.place) at known;
 }
 
 pub rest-smaller : goal.rest-smaller
@@ -47,4 +38,4 @@ returns c = λ entries are.
     let bucket = c.args.bucket.now in
     let none = next_shows (cursor_checked c.rest.cursor) (bucket_checked bucket) (cursor_start c.rest.cursor) (bucket_start bucket)
     (cursor_place c.rest.cursor) (cursor_place c.next.new.self) _ c.rest.invariant.checked c.rest.invariant.start c.in_default.ensures.moves entries are in
-    c.rest.invariant.sum entries are c.rest.total (total_end (bytes_of (bucket_checked bucket)) (meta_of (bucket_checked bucket)) (entries_left entries (cursor_place c.rest.cursor)) c.rest.total none)
+    c.rest.invariant.sum entries are c.rest.total (rw none (∣ refl ∣₁))

@@ -1,11 +1,5 @@
 use Rattle.std.proofs.Common.{◌≡◌, length}
-use Rattle.bolt_check.specs.CheckedFiles.{bytes_of, meta_of}
-use Rattle.bolt_report.specs.declared.statistics.Stats.{Stats}
-use Rattle.bolt_tree.specs.Buckets.{bucket_checked, bucket_start}
-use Rattle.bolt_tree.specs.Cursors.{cursor_checked, cursor_place, cursor_start}
-use Rattle.bolt_tree.specs.EntriesLeft.{ForEntries, entries_left}
-use Rattle.bolt_tree.proofs.Leaving.{the_entries}
-use Rattle.bolt_cli.specs.Answers.{IsTotal, no_stats}
+use Rattle.bolt_cli.proofs.Vocabulary.{ForEntries, IsTotal, Stats, bucket_checked, bucket_start, bytes_of, cursor_checked, cursor_place, cursor_start, entries_left, meta_of, no_stats, the_entries}
 use Rattle.bolt_cli.proofs.stats_command.sum_buckets.Given as goal
 
 -- what the figures so far and the entries that are left come to, all entries do

@@ -1,9 +1,6 @@
 use Rattle.std.proofs.Common.{◌≡◌, ◌⊎◌, Global, List, Ok, Option, String, ap, inl, inr, refl, string_bytes, ℕ}
+use Rattle.bolt_cli.proofs.Vocabulary.{Deed, Help, Prints, Refusal, Refuses, Version, error_line}
 use Rattle.bolt_cli.proofs.Telling.{Does-as, Does-one}
-use Rattle.bolt_cli.specs.Deeds.{Deed}
-use Rattle.bolt_cli.specs.Runs.{Prints, Refuses, error_line}
-use Rattle.bolt_cli.specs.declared.refusal.Refusal.{Refusal}
-use Rattle.bolt_cli.specs.declared.refusal.Refusal.TheVariants.{Help, Version}
 use Rattle.bolt_cli.proofs.whole_run.refuse.Goals as goal
 
 -- help and the version are printed

@@ -1,7 +1,5 @@
 use Rattle.std.proofs.Common.{◌∙◌, find}
-use Rattle.std.specs.Str.{bytes_eq}
-use Rattle.clap.proofs.WalkLemmas.{first_value-rows}
-use Rattle.clap.specs.Words.{Row, found_of, rows_of}
+use Rattle.bolt_cli.proofs.Vocabulary.{Row, bytes_eq, first_value-rows, found_of, rows_of}
 use Rattle.bolt_cli.proofs.CommandLineLemmas.{found_first}
 use Rattle.bolt_cli.proofs.words.choice.Goals as goal
 

@@ -1,12 +1,6 @@
 use Rattle.std.proofs.Common.{◌≡◌, ◌∙◌, List, [], Option, Ok, codes, ap, ap₂, map, option_map, sym, unwrap_or}
-use Rattle.std.specs.Borrow.{Bor}
-use Rattle.clap.proofs.WalkLemmas.{raw_values-rows}
-use Rattle.clap.specs.Words.{Row, all_of, found_of, rows_of}
-use Rattle.bolt_cli.specs.CommandLine.{values_in}
-use Rattle.bolt_cli.specs.LineWords.{Text}
-use Rattle.bolt_cli.specs.PathWords.{each_part, part_of, parts_by, result_and_then}
-use Rattle.bolt_cli.specs.PlainWords.{first_of, path_by, path_in}
-use Rattle.bolt_cli.specs.declared.parts.Parts.{Parts}
+use Rattle.bolt_cli.proofs.Vocabulary.{Bor, Row, Text, all_of, each_part, first_of, found_of, part_of, parts_by, path_by, path_in, raw_values-rows, result_and_then, rows_of, values_in}
+use Rattle.bolt_cli.specs.declared.path_words.Parts.{Parts}
 use Rattle.bolt_cli.proofs.CommandLineLemmas.{gives_same}
 use Rattle.bolt_cli.proofs.words.read_parts_of.Goals as goal
 
@@ -21,14 +15,12 @@ path_found rows shown how words by is found =
 
 pub returns-in-Some : goal.returns-in-Some
 returns-in-Some c =
-    let rows = rows_of (found_of c.args.matches.now) in
     let found = c.get_strs.ensures ∙ raw_values-rows (found_of c.args.matches.now) (codes "PART") in
     gives_same _ _ _ c.read_path.result
-    (path_found rows _ c.in_ok-parts.parts _ c.choice.ensures c.in_ok-parts.ensures found ∙ ap (λ ws. each_part (part_of c.in_ok-parts.parts) (unwrap_or (texts ws) [])) c.in-Some.is) c.read_path.ensures
+    (path_found (rows_of (found_of c.args.matches.now)) _ c.in_ok-parts.parts _ c.choice.ensures c.in_ok-parts.ensures found ∙ ap (λ ws. each_part (part_of c.in_ok-parts.parts) (unwrap_or (texts ws) [])) c.in-Some.is) c.read_path.ensures
 
 pub returns-in-None : goal.returns-in-None
 returns-in-None c =
-    let rows = rows_of (found_of c.args.matches.now) in
     let found = c.get_strs.ensures ∙ raw_values-rows (found_of c.args.matches.now) (codes "PART") in
-    path_found rows _ c.in_ok-parts.parts _ c.choice.ensures c.in_ok-parts.ensures found ∙ ap (λ ws. each_part (part_of c.in_ok-parts.parts) (unwrap_or (texts ws) [])) c.in-None.is
+    path_found (rows_of (found_of c.args.matches.now)) _ c.in_ok-parts.parts _ c.choice.ensures c.in_ok-parts.ensures found ∙ ap (λ ws. each_part (part_of c.in_ok-parts.parts) (unwrap_or (texts ws) [])) c.in-None.is
     ∙ sym (ap (λ items. Ok (path_in items)) c.new.ensures.items)

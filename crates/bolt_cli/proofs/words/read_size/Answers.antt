@@ -1,6 +1,6 @@
 -- Digits of an accepted page size are read as it.
 use Rattle.std.proofs.Common.{◌∙◌, ap, sym}
-use Rattle.bolt_load.specs.Numbers.{number_in}
+use Rattle.bolt_cli.proofs.Vocabulary.{number_in}
 use Rattle.bolt_cli.proofs.PageSizes.{size_answered}
 use Rattle.bolt_cli.proofs.words.read_size.Goals as goal
 

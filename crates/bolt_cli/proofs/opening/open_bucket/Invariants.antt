@@ -1,8 +1,7 @@
 use Rattle.std.proofs.Common.{◌≡◌, take}
-use Rattle.bolt_tree.specs.Buckets.{bucket_checked, bucket_start}
-use Rattle.bolt_cli.specs.PlainWords.{path_in}
+use Rattle.bolt_cli.proofs.Vocabulary.{bucket_checked, bucket_start, path_in}
 use Rattle.bolt_cli.proofs.AtPaths.{LeadsIn}
-use Rattle.bolt_cli.proofs.open_bucket.open_bucket.Given as goal
+use Rattle.bolt_cli.proofs.opening.open_bucket.Given as goal
 
 -- the parts so far lead to the bucket
 abbrev pub invariant-loop-part : goal.invariant-loop-part

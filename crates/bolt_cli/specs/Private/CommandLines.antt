@@ -1,0 +1,17 @@
+-- What the functions of the command line promise.
+use Rattle.std.specs.Prelude.{◌≡◌, List, ◌++◌, Option, None, Some, Ok, Err, codes}
+use Rattle.clap.specs.declared.builder.Command.{Command}
+use Rattle.bolt_cli.specs.CommandLine.{IsCommand, program_of}
+use Rattle.bolt_cli.specs.LineWords.{Syntax, Text}
+use Rattle.bolt_cli.specs.PlainWords.{assumed_of, meta_in}
+use Rattle.bolt_cli.specs.declared.choices.AssumedMeta.{AssumedMeta}
+use Rattle.bolt_cli.specs.declared.choices.MetaChoice.TheVariants.{Assumed}
+
+-- the second is the first with these commands after those that it has
+abbrev pub AddsLines : Command → List Syntax → Command → Type 0
+AddsLines begun lines more = (before : List Syntax) → IsCommand (program_of before) begun → IsCommand (program_of (before ++ lines)) more
+
+-- the assumed meta that a word names, or it names none
+abbrev pub IsAssumedBy : Text → Option AssumedMeta → Type 0
+IsAssumedBy word None = assumed_of word ≡ Err (codes "bad meta: use PAGE_SIZE:ROOT, and no --meta")
+IsAssumedBy word (Some assumed) = assumed_of word ≡ Ok (meta_in (Assumed assumed))

@@ -1,0 +1,48 @@
+-- What the functions of a command that prints promise of its job.
+use Rattle.std.specs.Prelude.{ℕ, List, Bool}
+use Rattle.bolt_check.specs.CheckedFiles.{bytes_of, meta_of}
+use Rattle.bolt_check.specs.declared.checked_file.Checked.{Checked}
+use Rattle.bolt_check.specs.declared.role.Role.{Role}
+use Rattle.bolt_report.specs.KeyLines.{keys_text}
+use Rattle.bolt_report.specs.KeyPrefixes.{with_prefix}
+use Rattle.bolt_report.specs.ListForms.{listing_lines}
+use Rattle.bolt_tree.specs.Listing.{Member, rest_from}
+use Rattle.bolt_tree.specs.ListingParts.{has_bucket, part_below}
+use Rattle.bolt_cli.specs.Answers.{Answer, IsBucketsAnswer, IsEntriesAnswer, IsGetAnswer, IsListedAnswer, IsReadAnswer, pages_shown, part_text}
+use Rattle.bolt_cli.specs.PlainWords.{path_in}
+use Rattle.bolt_cli.specs.declared.choices.Extent.{Extent}
+use Rattle.bolt_cli.specs.declared.job.BucketsJob.{BucketsJob}
+use Rattle.bolt_cli.specs.declared.job.GetJob.{GetJob}
+use Rattle.bolt_cli.specs.declared.job.KeysJob.{KeysJob}
+use Rattle.bolt_cli.specs.declared.job.ListJob.{ListJob}
+
+-- ---- the answers to a job
+
+abbrev pub IsBucketsPrint : (sizes : Bool) → BucketsJob → List ℕ → Answer → Type 0
+IsBucketsPrint sizes job file answer = IsReadAnswer file job.meta (IsBucketsAnswer file (path_in job.path.items) job.form sizes) answer
+
+abbrev pub IsKeysPrint : KeysJob → List ℕ → Answer → Type 0
+IsKeysPrint job file answer =
+    IsReadAnswer file job.meta (IsEntriesAnswer file (path_in job.path.items) job.form (λ entries. keys_text job.form (with_prefix job.prefix.items entries))) answer
+
+abbrev pub IsGetPrint : GetJob → List ℕ → Answer → Type 0
+IsGetPrint job file answer = IsReadAnswer file job.meta (IsGetAnswer file (path_in job.path.items) job.form job.no_newline) answer
+
+abbrev pub IsListPrint : Extent → ListJob → List ℕ → Answer → Type 0
+IsListPrint extent job file answer = IsListedAnswer extent file job.meta job.form (path_in job.path.items) (path_in job.from.items) answer
+
+-- ---- the texts of it
+
+-- the part of a listing, and of one that has the bucket; and whether it has it
+abbrev pub job_part : ListJob → List Member → List ℕ
+job_part job listing = part_text job.form (path_in job.path.items) (path_in job.from.items) listing
+
+abbrev pub sound_part : ListJob → List Member → List ℕ
+sound_part job listing = listing_lines job.form (rest_from (path_in job.from.items) (part_below (path_in job.path.items) listing))
+
+abbrev pub finds : ListJob → List Member → Bool
+finds job listing = has_bucket (path_in job.path.items) listing
+
+-- the pages of a checked file
+abbrev pub checked_pages : (as_map : Bool) → Checked → (ℕ → Role) → List ℕ
+checked_pages as_map checked roles = pages_shown as_map (bytes_of checked) (meta_of checked) roles
