@@ -1,6 +1,6 @@
 -- What the functions of a command that writes a copy promise of its job.
 use Rattle.std.specs.Prelude.{ℕ, List, Option, map}
-use Rattle.bolt_bulk.specs.declared.shape.Shape.{Shape}
+use Rattle.bolt_bulk.specs.declared.copy.Shape.{Shape}
 use Rattle.bolt_format.specs.declared.meta.Meta.{Meta}
 use Rattle.bolt_layout.specs.Copies.{layout_of_listing}
 use Rattle.bolt_recover.specs.ShownLosses.{lost_view}
