@@ -1,10 +1,6 @@
 -- The limits that the plain layout notes are right for each bucket of the balanced one.
 use Rattle.std.proofs.Common.{◌≡◌, ◌∙◌, ◌+◌, ℕ, suc, false, Option, map, subst, arith}
-use Rattle.bolt_tree.specs.Tree.{Tree, end, with_bucket, with_value}
-use Rattle.bolt_layout.specs.Items.{items_of}
-use Rattle.bolt_layout.specs.Limits.{HaveRightLimits, limit_at, limits_from_ends}
-use Rattle.bolt_layout.specs.Openings.{AreRight, AreFromEnds, leaf_pages, opened_by, row_ends_of}
-use Rattle.bolt_layout.specs.declared.layout.Layout.TheVariants.{Plain, Balanced}
+use Rattle.bolt_layout.proofs.Words.{AreFromEnds, AreRight, Balanced, end, HaveRightLimits, items_of, leaf_pages, limit_at, limits_from_ends, opened_by, Plain, row_ends_of, Tree, with_bucket, with_value}
 use Rattle.bolt_layout.proofs.Faces.{face, leaf_faces}
 use Rattle.bolt_layout.proofs.OpenedBuckets.{opened_by_same}
 use Rattle.bolt_layout.proofs.RightLimits.{limits_alike}

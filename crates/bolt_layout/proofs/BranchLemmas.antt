@@ -1,13 +1,7 @@
 -- The elements of a branch page that was written are read back, and pass their tests.
 use Rattle.std.proofs.Common.{◌≡◌, ◌∙◌, ℕ, suc, ◌+◌, ◌*◌, ◌^◌, ◌<◌, ◌≤◌, nat_lt, false, List, [], ◌∷◌, ◌++◌, length, map, drop, None, refl, sym, ap, arith, append_assoc, add-one}
-use Rattle.std.specs.List.{AllByRecursion, range_with_len}
-use Rattle.std.proofs.lemmas.Bool.{le-ltb}
-use Rattle.std.proofs.lemmas.List.{length-append}
-use Rattle.bolt_format.specs.Elements.{BranchElement, branch_element, branch_elements, branch_end, branch_fault, branch_key_start, branches_fault, element_at, faults_from, table_fault}
-use Rattle.bolt_format.specs.Written.{branch_header}
-use Rattle.bolt_layout.specs.PageBytes.{branch_bytes, branch_headers, branch_data, key_pos}
-use Rattle.bolt_format.proofs.NumberLemmas.{part_next, part_read, part_within}
-use Rattle.bolt_format.proofs.FaultLemmas.{first_of-both}
+use Rattle.bolt_layout.proofs.Words.{AllByRecursion, branch_bytes, branch_data, branch_header, branch_headers, BranchElement, element_at, faults_from, first_of-both, key_pos, le-ltb, length-append, part_next, part_read, part_within, range_with_len, table_fault}
+use Rattle.bolt_format.specs.Elements.{branch_element, branch_elements, branch_end, branch_fault, branch_key_start, branches_fault}
 use Rattle.bolt_format.specs.ReadBack.{IsBranchHeader}
 use Rattle.bolt_format.proofs.WrittenHeaders.{branch_header_written, length-branch_header}
 

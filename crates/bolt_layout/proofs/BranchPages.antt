@@ -1,24 +1,14 @@
 -- A branch page over pages, and by the height the page over a row of items.
 use Rattle.std.proofs.Common.{◌≡◌, ◌∙◌, ℕ, zero, suc, ◌+◌, ◌*◌, ◌<◌, ◌≤◌, ◌==◌, true, false, List, [], ◌∷◌, ◌++◌, length, map, Option, Some, None, slice_get, refl, sym, ap, subst, arith, sum_by}
-use Rattle.std.specs.List.{AllByRecursion}
-use Rattle.std.proofs.lemmas.Bool.{ne_eqb}
-use Rattle.std.proofs.lemmas.List.{length-append}
-use Rattle.std.proofs.lemmas.List.Sums.{sum_by-cons}
-use Rattle.bolt_format.specs.Elements.{BranchElement, LeafElement}
-use Rattle.bolt_check.specs.Keys.{Key, is_below, is_from, keys_order_fault}
-use Rattle.bolt_check.specs.Nodes.{Entry, Node, Nodes, branch_entry, node_of}
-use Rattle.bolt_check.specs.Ways.{At_page, PageSpot, child_spot, upper_from}
-use Rattle.bolt_check.specs.Findings.{node_finding, keys_of}
-use Rattle.bolt_check.specs.EntrySpots.{places}
-use Rattle.bolt_layout.specs.PageBytes.{branch_data}
+use Rattle.bolt_layout.proofs.Words.{AllByRecursion, At_page, branch_data, branch_page_view, BranchElement, elements_of, Entry, is_below, is_from, Key, keys_of, keys_order_fault, Laid, LeafElement, length-append, ne_eqb, Node, node_finding, node_of, Nodes, numbers_of, page_over, pages_of, PageSpot, Placed, places, run_overflow, size_of, sum_by-cons}
+use Rattle.bolt_check.specs.Nodes.{branch_entry}
+use Rattle.bolt_check.specs.Ways.{child_spot, upper_from}
 use Rattle.bolt_layout.proofs.BranchLemmas.{IsBranchFit}
 use Rattle.bolt_layout.proofs.KeyLaws.{AreBelow, IsAbove, IsBelowItem, IsWithin, Rise, key_step, lt_not, rise_split}
 use Rattle.bolt_layout.proofs.ListLemmas.{all_split, all_weaker}
 use Rattle.bolt_layout.proofs.OverRows.{IsOver, IsRun, Pieces}
 use Rattle.bolt_layout.proofs.Parts.{IsPart, kids_at, more_kids, no_kids}
 use Rattle.bolt_layout.proofs.PageRows.{HasRoom, IsPageFit, branch_room, overflow_room, overflow_small}
-use Rattle.bolt_layout.specs.Laid.{Laid, Placed, elements_of, numbers_of, pages_of, size_of}
-use Rattle.bolt_layout.specs.Levels.{branch_page_view, page_over, run_overflow}
 use Rattle.bolt_layout.proofs.LaidPages.{AreNodes, HasPages, limit, own_page, page_has}
 use Rattle.bolt_layout.proofs.LaidItems.{IsItem, length-elements}
 use Rattle.bolt_layout.proofs.LeafPages.{IsPage, above_after, above_none, leaf_page, page_part}

@@ -1,17 +1,6 @@
 -- A row as the cut sees it: the keys and sizes of its items decide how the row is cut, and the keys and sizes of the row above.
 use Rattle.std.proofs.Common.{◌≡◌, ◌∙◌, ◌++◌, ◌+◌, ℕ, List, [], ◌∷◌, length, map, sum_by, refl, ap, arith}
-use Rattle.std.proofs.lemmas.Grind.{common_steps}
-use Rattle.std.proofs.lemmas.List.{length-map, map-append}
-use Rattle.std.proofs.lemmas.List.Sums.{sum_by-cons}
-use Rattle.bolt_format.specs.Elements.{BranchElement, LeafElement}
-use Rattle.bolt_format.specs.Pages.{PageView}
-use Rattle.bolt_layout.specs.Cut.{branch_cut, cut_from, cut_of, join_last, joins}
-use Rattle.bolt_layout.specs.Laid.{Laid, size_of}
-use Rattle.bolt_layout.specs.Levels.{branch_page_view, leaf_page_view, next_level, page_over}
-use Rattle.bolt_layout.specs.Limits.{last_length}
-use Rattle.bolt_layout.specs.Openings.{leaf_pages}
-use Rattle.bolt_layout.specs.declared.layout.Layout.{Layout}
-use Rattle.bolt_layout.specs.declared.layout.Layout.TheVariants.{Plain, Balanced}
+use Rattle.bolt_layout.proofs.Words.{Balanced, branch_cut, branch_page_view, BranchElement, common_steps, cut_from, cut_of, join_last, joins, Laid, last_length, Layout, leaf_page_view, leaf_pages, LeafElement, length-map, map-append, next_level, page_over, PageView, Plain, size_of, sum_by-cons}
 
 -- The cut by a size that a part of each item decides is the cut of these parts.
 pub sum_map : {X Y : Type 0} (f : X → Y) (size : Y → ℕ) (xs : List X) → sum_by size (map f xs) ≡ sum_by (λ x. size (f x)) xs

@@ -1,12 +1,6 @@
 -- A page is full at 65,534 items, however much of it is left, and so is an inline bucket.
 use Rattle.std.proofs.Common.{◌≡◌, ℕ, zero, suc, ◌*◌, false, List, [], ◌∷◌, ◌++◌, length, replicate, sum_by, inr, arith}
-use Rattle.std.proofs.lemmas.List.{length-replicate}
-use Rattle.std.proofs.lemmas.List.Sums.{sum_by-cons}
-use Rattle.bolt_format.specs.Elements.{LeafElement}
-use Rattle.bolt_tree.specs.Tree.{Tree}
-use Rattle.bolt_layout.specs.Cut.{cut_of}
-use Rattle.bolt_layout.specs.Items.{is_inline}
-use Rattle.bolt_layout.specs.Laid.{Laid}
+use Rattle.bolt_layout.proofs.Words.{cut_of, is_inline, Laid, LeafElement, length-replicate, sum_by-cons, Tree}
 use Rattle.bolt_layout.proofs.OneCut.{IsRunOf, joins_not, runs_cut}
 
 abbrev itself : ℕ → ℕ

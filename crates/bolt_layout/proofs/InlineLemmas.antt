@@ -1,14 +1,8 @@
 -- The value of an inline bucket that was written is read back, and passes its tests.
 use Rattle.std.proofs.Common.{◌≡◌, ◌∙◌, ℕ, zero, suc, ◌+◌, ◌*◌, ◌^◌, ◌<◌, ◌≤◌, ◌==◌, nat_lt, true, false, List, [], ◌∷◌, ◌++◌, length, map, drop, Option, None, refl, sym, ap, arith}
-use Rattle.std.specs.List.{AllByRecursion, list_any, range_with_len}
-use Rattle.std.proofs.lemmas.Bool.{le-ltb, eq-eqb}
-use Rattle.std.proofs.lemmas.List.{append-nil, length-append}
-use Rattle.bolt_format.specs.Headers.{count_field, flags_field}
-use Rattle.bolt_format.specs.Elements.{LeafElement, has_bucket, head_fault, head_root, head_sequence, inline_bytes, inline_elements, inline_fault, inline_page_fault, is_bucket_at, leaf_element, leaf_elements, leaves_fault, value_fault}
-use Rattle.bolt_format.specs.Written.{header_bytes}
-use Rattle.bolt_layout.specs.PageBytes.{inline_value, leaf_bytes, leaf_data}
-use Rattle.bolt_format.proofs.FaultLemmas.{first_of-both}
-use Rattle.bolt_format.proofs.WrittenHeaders.{head_written, header_written, length-header_bytes}
+use Rattle.bolt_layout.proofs.Words.{AllByRecursion, append-nil, count_field, eq-eqb, first_of-both, flags_field, head_root, head_sequence, head_written, header_bytes, header_written, inline_elements, inline_value, le-ltb, leaf_bytes, leaf_data, leaf_element, leaf_elements, LeafElement, leaves_fault, length-append, length-header_bytes, range_with_len, value_fault}
+use Rattle.std.specs.List.{list_any}
+use Rattle.bolt_format.specs.Elements.{has_bucket, head_fault, inline_bytes, inline_fault, inline_page_fault, is_bucket_at}
 use Rattle.bolt_format.specs.declared.kind.Kind.TheVariants as kind
 use Rattle.bolt_layout.proofs.LeafLemmas.{IsLeafFit, leaves_written}
 

@@ -1,19 +1,10 @@
 -- What holds of a leaf item, and of a row of them: they are read back, and have room on their page.
 use Rattle.std.proofs.Common.{◌≡◌, ℕ, ◌+◌, ◌*◌, ◌<◌, ◌≤◌, List, [], ◌∷◌, length, refl, arith, sum_by}
-use Rattle.std.proofs.lemmas.Grind.{common_steps}
-use Rattle.std.specs.List.{AllByRecursion}
-use Rattle.std.proofs.lemmas.List.{length-append}
-use Rattle.std.proofs.lemmas.List.Sums.{sum_by-cons}
-use Rattle.bolt_format.specs.Elements.{LeafElement, value_fault}
-use Rattle.bolt_check.specs.Nodes.{Nodes, leaf_entry}
-use Rattle.bolt_check.specs.Ways.{bucket_spots, follow}
-use Rattle.bolt_layout.specs.PageBytes.{leaf_data}
+use Rattle.bolt_layout.proofs.Words.{AllByRecursion, bucket_spots, common_steps, elements_of, follow, Laid, leaf_data, leaf_entry, leaf_page_view, LeafElement, length-append, Nodes, numbers_of, size_of, sum_by-cons, value_fault}
 use Rattle.bolt_layout.proofs.LeafLemmas.{IsLeafFit}
 use Rattle.bolt_layout.proofs.OverRows.{IsRun}
 use Rattle.bolt_layout.proofs.Parts.{IsPart}
 use Rattle.bolt_layout.proofs.PageRows.{HasRoom, IsPageFit, leaf_room, overflow_room, overflow_small}
-use Rattle.bolt_layout.specs.Laid.{Laid, elements_of, numbers_of, size_of}
-use Rattle.bolt_layout.specs.Levels.{leaf_page_view}
 use Rattle.bolt_layout.proofs.LaidPages.{AreNodes, HasPages, limit, own_page}
 
 -- What holds of a leaf item.

@@ -1,12 +1,8 @@
 -- The pages below a row of items stand in a row and have room, and so do they with the page over the items.
 use Rattle.std.proofs.Common.{◌≡◌, ℕ, ◌+◌, ◌^◌, ◌<◌, ◌≤◌, List, [], ◌∷◌, refl, arith}
-use Rattle.std.specs.List.{AllByRecursion}
-use Rattle.bolt_format.specs.Pages.{PageView}
-use Rattle.bolt_check.specs.Nodes.{Nodes, node_of}
+use Rattle.bolt_layout.proofs.Words.{AllByRecursion, elements_of, Laid, node_of, Nodes, numbers_of, page_over, pages_of, PageView, Placed, run_overflow}
 use Rattle.bolt_layout.proofs.ListLemmas.{all_append}
 use Rattle.bolt_layout.proofs.PageRows.{HasRoom, IsInARow, IsPageFit, row_append}
-use Rattle.bolt_layout.specs.Laid.{Laid, Placed, elements_of, numbers_of, pages_of}
-use Rattle.bolt_layout.specs.Levels.{page_over, run_overflow}
 
 -- so many page numbers there are at most
 abbrev pub limit : ℕ

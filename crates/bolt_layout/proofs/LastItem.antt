@@ -1,10 +1,6 @@
 -- The end of a cut: what one more item at the end of the row changes, and what joining the last run does.
 use Rattle.std.proofs.Common.{◌≡◌, ◌⊎◌, ◌++◌, ◌≤◌, ℕ, suc, nat_lt, true, false, List, [], ◌∷◌, length, map, refl, sym, ap, inl, inr, arith}
-use Rattle.std.specs.List.{AllByRecursion}
-use Rattle.std.proofs.lemmas.Bool.{le-ltb, lt-ltb}
-use Rattle.std.proofs.lemmas.List.{length_push}
-use Rattle.bolt_layout.specs.Cut.{cut_from, cut_of, join_last}
-use Rattle.bolt_layout.specs.Limits.{last_length}
+use Rattle.bolt_layout.proofs.Words.{AllByRecursion, cut_from, cut_of, join_last, last_length, le-ltb, length_push, lt-ltb}
 
 -- the runs with one more item in the last
 abbrev pub push_last : {X : Type 0} → List (List X) → X → List (List X)

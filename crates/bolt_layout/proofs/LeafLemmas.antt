@@ -1,14 +1,8 @@
 -- The elements of a leaf page that was written are read back, and pass their tests.
 use Rattle.std.proofs.Common.{◌≡◌, ◌∙◌, ℕ, suc, ◌+◌, ◌*◌, ◌<◌, ◌≤◌, nat_lt, Bool, true, false, cond, List, [], ◌∷◌, ◌++◌, length, map, drop, Option, None, refl, sym, ap, arith, append_assoc, add-one}
-use Rattle.std.proofs.lemmas.Grind.{common_steps}
-use Rattle.std.specs.List.{AllByRecursion, range_with_len}
-use Rattle.std.proofs.lemmas.Bool.{le-ltb}
-use Rattle.std.proofs.lemmas.List.{length-append}
-use Rattle.bolt_format.specs.Elements.{LeafElement, leaf_elements, leaves_fault, table_fault, data_fault, element_at, faults_from, key_length_fault, leaf_element, leaf_end, leaf_fault, leaf_flags_fault, leaf_key_start, plain_leaf_fault, value_length_fault}
-use Rattle.bolt_format.proofs.FaultLemmas.{first_of-both}
-use Rattle.bolt_format.specs.Written.{leaf_flag, leaf_header}
-use Rattle.bolt_layout.specs.PageBytes.{leaf_bytes, leaf_headers, leaf_data, key_pos}
-use Rattle.bolt_format.proofs.NumberLemmas.{part_next, part_read, part_within}
+use Rattle.bolt_layout.proofs.Words.{AllByRecursion, common_steps, element_at, faults_from, first_of-both, key_pos, le-ltb, leaf_bytes, leaf_data, leaf_element, leaf_elements, leaf_header, leaf_headers, LeafElement, leaves_fault, length-append, part_next, part_read, part_within, range_with_len, table_fault}
+use Rattle.bolt_format.specs.Elements.{data_fault, key_length_fault, leaf_end, leaf_fault, leaf_flags_fault, leaf_key_start, plain_leaf_fault, value_length_fault}
+use Rattle.bolt_format.specs.Written.{leaf_flag}
 use Rattle.bolt_format.specs.ReadBack.{IsLeafHeader}
 use Rattle.bolt_format.proofs.WrittenHeaders.{leaf_header_written, length-leaf_header}
 

@@ -39,3 +39,4 @@ pub mod LimitsFromEnds
 pub mod RowEnds
 pub mod Tops
 pub mod Weights
+mod Words

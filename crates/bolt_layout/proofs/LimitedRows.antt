@@ -1,10 +1,7 @@
 -- How a row is cut with a limit: without one as in the plain layout, and with the right one as in the balanced.
 use Rattle.std.proofs.Common.{◌≡◌, ◌∙◌, ◌⊎◌, ◌++◌, ◌+◌, ◌-◌, ◌≤◌, ℕ, zero, suc, List, [], ◌∷◌, length, Option, Some, None, refl, sym, ap, inl, inr, arith}
-use Rattle.std.proofs.lemmas.Bool.{cases_Bool}
-use Rattle.std.proofs.lemmas.List.{length_push}
-use Rattle.bolt_layout.specs.Cut.{branch_cut, cut_from, cut_of, join_last, joins}
-use Rattle.bolt_layout.specs.Limits.{cut_left, cut_row, last_length}
-use Rattle.bolt_layout.specs.declared.layout.Layout.TheVariants.{Balanced}
+use Rattle.bolt_layout.proofs.Words.{Balanced, branch_cut, cases_Bool, cut_from, cut_of, cut_row, join_last, joins, last_length, length_push}
+use Rattle.bolt_layout.specs.Limits.{cut_left}
 use Rattle.bolt_layout.proofs.LastItem.{join_behind, join_none, last_behind, some_runs}
 
 -- Without a limit a row is cut as the plain one.

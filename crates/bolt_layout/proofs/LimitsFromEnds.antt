@@ -1,11 +1,7 @@
 -- The limits of a tree are those that the ends of the plain rows give, for each of its buckets.
 use Rattle.std.proofs.Common.{◌≡◌, ◌∙◌, ◌+◌, ◌<◌, ◌≤◌, ◌==◌, ℕ, suc, true, false, List, Option, refl, subst, inl, inr, arith}
-use Rattle.std.proofs.lemmas.Bool.{cases_Bool, eq-eqb}
-use Rattle.bolt_tree.specs.Tree.{Tree, end, with_bucket, with_value}
-use Rattle.bolt_layout.specs.Items.{is_inline, items_of}
-use Rattle.bolt_layout.specs.Limits.{limit_at, limits_from_ends}
-use Rattle.bolt_layout.specs.Openings.{AreFromEnds, leaf_pages, limits_below, limits_for, opened_in, row_ends_of}
-use Rattle.bolt_layout.specs.declared.layout.Layout.TheVariants.{Plain}
+use Rattle.bolt_layout.proofs.Words.{AreFromEnds, cases_Bool, end, eq-eqb, is_inline, items_of, leaf_pages, limit_at, limits_from_ends, opened_in, Plain, row_ends_of, Tree, with_bucket, with_value}
+use Rattle.bolt_layout.specs.Openings.{limits_below, limits_for}
 
 -- These limits are those below, for the buckets of a tree.
 abbrev AreBelow : (page_size : ℕ) → (limits : ℕ → ℕ → Option ℕ) → (n : ℕ) → Tree → Type 0

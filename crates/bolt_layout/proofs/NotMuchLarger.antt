@@ -1,20 +1,10 @@
 -- The plain layout of a tree takes at most 28 times the page numbers of the balanced one: both have the same leaves.
 use Rattle.std.proofs.Common.{◌≡◌, ◌∙◌, ℕ, ◌+◌, ◌*◌, ◌≤◌, List, [], ◌∷◌, map, refl, sym, ap, arith}
-use Rattle.std.specs.List.{AllByRecursion}
-use Rattle.bolt_format.specs.Elements.{LeafElement}
-use Rattle.bolt_format.specs.Metas.{IsPageSize}
-use Rattle.bolt_tree.specs.Tree.{Tree, end, with_bucket, with_value}
-use Rattle.bolt_layout.specs.Cut.{cut_of, run_size}
-use Rattle.bolt_layout.specs.Items.{is_inline, items_of, root_of, stored_bucket}
-use Rattle.bolt_layout.specs.Laid.{Laid, numbers_of, size_of}
-use Rattle.bolt_layout.specs.Levels.{overflow_of, root_over}
-use Rattle.bolt_layout.specs.Storable.{HasLengths, IsStorable, RisesInside}
-use Rattle.bolt_layout.specs.declared.layout.Layout.TheVariants.{Plain, Balanced}
+use Rattle.bolt_layout.proofs.Words.{AllByRecursion, Balanced, cut_of, end, HasLengths, is_inline, IsPageSize, IsStorable, items_of, Laid, largest_page, LeafElement, numbers_of, overflow_of, Plain, RisesInside, root_of, root_over, run_size, size_bounds, size_of, stored_bucket, Tree, with_bucket, with_value}
 use Rattle.bolt_layout.proofs.Faces.{Face, face, face_size, map_cut, sum_map}
 use Rattle.bolt_layout.proofs.HeldBounds.{level_numbers}
 use Rattle.bolt_layout.proofs.LaidItems.{IsItem}
 use Rattle.bolt_layout.proofs.ListLemmas.{all_weaker}
-use Rattle.bolt_format.proofs.PageSizes.{largest_page, size_bounds}
 use Rattle.bolt_layout.proofs.PlainNumbers.{leaves_numbers, plain_most}
 use Rattle.bolt_layout.proofs.SameFaces.{inline_alike, items_alike}
 use Rattle.bolt_layout.proofs.TreeItems.{tree_items}

@@ -1,9 +1,8 @@
 -- There is one cut of each row.
 use Rattle.std.proofs.Common.{◌≡◌, ◌≢◌, ◌⊎◌, ℕ, zero, suc, ◌<◌, ◌≤◌, nat_lt, true, false, List, [], ◌∷◌, ◌++◌, length, Some, slice_get, refl, sym, ap, subst, inl, inr, arith, append_assoc, flat_map}
-use Rattle.std.proofs.lemmas.Bool.{cases_Bool, cases_lt, lt-ltb, ltb-false, ltb-true, or_cases, or_parts}
-use Rattle.std.proofs.lemmas.List.{append-nil, length-append, length_push}
-use Rattle.std.proofs.lemmas.List.Sums.{sum_by-append}
-use Rattle.bolt_layout.specs.Cut.{CutIsOne, IsCut, cut_from, cut_of, joins, max_items, run_size}
+use Rattle.bolt_layout.proofs.Words.{append-nil, cases_Bool, cases_lt, cut_from, cut_of, joins, length-append, length_push, lt-ltb, ltb-false, ltb-true, max_items, run_size, sum_by-append}
+use Rattle.std.proofs.lemmas.Bool.{or_cases, or_parts}
+use Rattle.bolt_layout.specs.Cut.{CutIsOne, IsCut}
 
 -- The test of an item, by what is known of it.
 joins_few : {X : Type 0} (page_size least : ℕ) (size : X → ℕ) (run : List X) (next : X) → length run < least → joins page_size least size run next ≡ true

@@ -1,14 +1,6 @@
 -- How many buckets a pass opens: as many in both layouts, and no more than there are page numbers.
 use Rattle.std.proofs.Common.{◌≡◌, ◌≤◌, ◌+◌, ℕ, suc, false, List, [], ◌∷◌, length, refl, arith}
-use Rattle.std.proofs.lemmas.List.{length-map}
-use Rattle.bolt_format.specs.Elements.{LeafElement}
-use Rattle.bolt_tree.specs.Tree.{Tree, end, with_bucket, with_value}
-use Rattle.bolt_layout.specs.Items.{is_inline, items_of, root_of, stored_bucket}
-use Rattle.bolt_layout.specs.Laid.{Laid, numbers_of}
-use Rattle.bolt_layout.specs.Levels.{root_over}
-use Rattle.bolt_layout.specs.Openings.{leaf_pages, opened_by, opened_in}
-use Rattle.bolt_layout.specs.declared.layout.Layout.{Layout}
-use Rattle.bolt_layout.specs.declared.layout.Layout.TheVariants.{Plain, Balanced}
+use Rattle.bolt_layout.proofs.Words.{Balanced, end, is_inline, items_of, Laid, Layout, leaf_pages, LeafElement, length-map, numbers_of, opened_by, opened_in, Plain, root_of, root_over, stored_bucket, Tree, with_bucket, with_value}
 use Rattle.bolt_layout.proofs.HeldBounds.{level_numbers}
 use Rattle.bolt_layout.proofs.LastItem.{some_runs}
 use Rattle.bolt_layout.proofs.PlainNumbers.{leaves_numbers}

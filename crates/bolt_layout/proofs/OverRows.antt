@@ -1,18 +1,9 @@
 -- The root page over a row of leaf items: a leaf page, or a branch page over pages that stand over pieces of the row.
 use Rattle.std.proofs.Common.{◌≡◌, ◌∙◌, ℕ, zero, suc, ◌+◌, ◌*◌, ◌^◌, ◌<◌, ◌≤◌, List, [], ◌∷◌, ◌++◌, length, map, flat_map, refl, sym, ap, subst, arith, append_assoc, sum_by}
-use Rattle.std.specs.List.{AllByRecursion}
-use Rattle.std.proofs.Math.Nat.{mul-le-mul_right}
-use Rattle.std.proofs.lemmas.List.{append-nil, length-map}
-use Rattle.std.proofs.lemmas.List.Sums.{sum_by-append, sum_by-cons}
-use Rattle.bolt_format.specs.Elements.{BranchElement, LeafElement}
-use Rattle.bolt_format.specs.Pages.{PageView}
-use Rattle.bolt_layout.specs.Cut.{branch_cut, cut_of, max_items, run_size}
-use Rattle.bolt_layout.specs.Divisions.{FitsBut, IsDivided, IsPageRun}
+use Rattle.bolt_layout.proofs.Words.{AllByRecursion, append-nil, branch_cut, branch_page_view, BranchElement, cut_of, IsDivided, IsPageRun, Laid, Layout, leaf_level, leaf_page_view, LeafElement, length-map, max_items, mul-le-mul_right, next_level, numbers_of, page_over, PageView, root_over, run_size, size_of, sum_by-append, sum_by-cons, top_in}
+use Rattle.bolt_layout.specs.Divisions.{FitsBut}
 use Rattle.bolt_layout.proofs.Cutting.{branches_divide, branches_halve, cut_divides}
 use Rattle.bolt_layout.proofs.ListLemmas.{all_split}
-use Rattle.bolt_layout.specs.Laid.{Laid, numbers_of, size_of}
-use Rattle.bolt_layout.specs.Levels.{branch_page_view, leaf_level, leaf_page_view, next_level, page_over, root_over, top_in}
-use Rattle.bolt_layout.specs.declared.layout.Layout.{Layout}
 
 abbrev pub Over : Type 1
 Over = Laid BranchElement → List (Laid LeafElement) → Type 0

@@ -1,12 +1,10 @@
 -- A part of a tree of pages: what is reached passes the tests, and its spans fill a row of page numbers, each once.
 use Rattle.std.proofs.Common.{◌≡◌, ◌∙◌, ℕ, zero, suc, ◌+◌, ◌<◌, ◌≤◌, List, [], ◌∷◌, Option, Some, None, Result, Ok, refl, sym, subst, inl, inr, arith}
-use Rattle.std.proofs.lemmas.Bool.{cases_lt}
-use Rattle.bolt_check.specs.Nodes.{IsInSpan, Node, Nodes}
-use Rattle.bolt_check.specs.Keys.{Key}
-use Rattle.bolt_check.specs.Ways.{At_inline, At_page, Before, PageSpot, SpanHas, SpanOf, Spot, follow, reached}
+use Rattle.bolt_layout.proofs.Words.{At_inline, At_page, cases_lt, follow, follow_none, inline_finding, Key, Node, node_finding, Nodes, PageSpot, reached, Spot}
+use Rattle.bolt_check.specs.Nodes.{IsInSpan}
+use Rattle.bolt_check.specs.Ways.{Before, SpanHas, SpanOf}
 use Rattle.bolt_check.proofs.WayOrder.{before_irreflexive}
-use Rattle.bolt_check.specs.Findings.{IsClaimedBefore, IsClean, IsMetaPage, Passes, node_finding, early_finding, inline_finding}
-use Rattle.bolt_check.proofs.Forest.{follow_none}
+use Rattle.bolt_check.specs.Findings.{IsClaimedBefore, IsClean, IsMetaPage, Passes, early_finding}
 
 -- the tests that look at one page alone
 pub record IsFinePage (nodes : Nodes) (s : PageSpot) : Type 0 where

@@ -2,16 +2,7 @@
 -- A level of branches takes no more than its pages and the weights of the level below. The weights don't rise from level to level, and the
 -- number of pages halves. A page weighs less than 2^21: so the weights of 21 levels are counted in full, and above these the pages alone.
 use Rattle.std.proofs.Common.{◌≡◌, ℕ, zero, suc, ◌+◌, ◌-◌, ◌*◌, ◌/◌, ◌<◌, ◌≤◌, List, [], ◌∷◌, length, map, flat_map, sym, ap, subst, arith}
-use Rattle.std.specs.List.{AllByRecursion}
-use Rattle.std.proofs.Math.Nat.{div-lt_iff_lt-mul, mul-le-mul_left, mul-le-mul_right}
-use Rattle.std.proofs.lemmas.List.{length-map}
-use Rattle.bolt_format.specs.Elements.{BranchElement, LeafElement}
-use Rattle.bolt_format.specs.Pages.{PageView}
-use Rattle.bolt_layout.specs.Cut.{cut_of}
-use Rattle.bolt_layout.specs.Divisions.{IsDivided, IsPageRun}
-use Rattle.bolt_layout.specs.Laid.{Laid, numbers_of, size_of}
-use Rattle.bolt_layout.specs.Levels.{branch_page_view, leaf_level, leaf_page_view, next_level, page_over, root_over, top_in}
-use Rattle.bolt_layout.specs.declared.layout.Layout.TheVariants.{Plain}
+use Rattle.bolt_layout.proofs.Words.{AllByRecursion, branch_page_view, BranchElement, cut_of, div-lt_iff_lt-mul, IsDivided, IsPageRun, Laid, leaf_level, leaf_page_view, LeafElement, length-map, mul-le-mul_left, mul-le-mul_right, next_level, numbers_of, page_over, PageView, Plain, root_over, size_of, top_in}
 use Rattle.bolt_layout.proofs.Cutting.{branches_divide, branches_halve, cut_divides}
 use Rattle.bolt_layout.proofs.LastItem.{HasItem}
 use Rattle.bolt_layout.proofs.ListLemmas.{all_split, all_weaker}

@@ -1,12 +1,6 @@
 -- The plain layout needs no limits in any of its buckets.
 use Rattle.std.proofs.Common.{◌≡◌, ◌+◌, ℕ, suc, List, Option, None}
-use Rattle.bolt_format.specs.Elements.{BranchElement}
-use Rattle.bolt_tree.specs.Tree.{Tree, end, with_bucket, with_value}
-use Rattle.bolt_layout.specs.Items.{items_of}
-use Rattle.bolt_layout.specs.Laid.{Laid}
-use Rattle.bolt_layout.specs.Limits.{HaveRightLimits}
-use Rattle.bolt_layout.specs.Openings.{AreRight, leaf_pages, opened_by}
-use Rattle.bolt_layout.specs.declared.layout.Layout.TheVariants.{Plain}
+use Rattle.bolt_layout.proofs.Words.{AreRight, BranchElement, end, HaveRightLimits, items_of, Laid, leaf_pages, opened_by, Plain, Tree, with_bucket, with_value}
 use Rattle.bolt_layout.proofs.RightLimits.{plain_limits}
 
 pub plain_rows : (page_size : ℕ) (limits : ℕ → ℕ → Option ℕ) → ((bucket level : ℕ) → limits bucket level ≡ None) → (bucket : ℕ) (pages : List (Laid BranchElement))

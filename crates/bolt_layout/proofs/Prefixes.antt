@@ -1,33 +1,17 @@
 -- A layout that is cut short is refused.
 use Rattle.std.proofs.Common.{◌≡◌, ◌∙◌, ℕ, ◌+◌, ◌-◌, ◌*◌, ◌^◌, ◌<◌, ◌≤◌, List, [], ◌∷◌, ◌++◌, length, drop, take, Some, Err, refl, ap, subst, inl, inr, arith}
-use Rattle.std.specs.List.{AllByRecursion}
+use Rattle.bolt_layout.proofs.Words.{AllByRecursion, At_page, cases_lt, chosen_of, copy_meta, eq-eqb, header_bytes, header_written, IsAsked, IsChosen, IsHeaderFit, IsMeta, IsPageSize, Kind, Layout, layout_mark, layout_of, layout_root, le-ltb, length-header_bytes, length-meta_bytes, Meta, meta_bytes, meta_written, node_at, One, page_at, page_fault, Placed, placed_bytes, root_spot, span_fault, Tree, Zero}
 use Rattle.std.proofs.Math.Seq.{take-append-add}
-use Rattle.std.proofs.lemmas.Bool.{cases_lt, eq-eqb, le-ltb}
 use Rattle.std.proofs.lemmas.List.{drop-take, length-take}
-use Rattle.bolt_format.specs.Metas.{IsChosen, IsInOne, IsInSlot, IsMeta, IsPageSize}
-use Rattle.bolt_format.specs.Pages.{page_at, page_fault, span_fault}
+use Rattle.bolt_format.specs.Metas.{IsInOne, IsInSlot}
 use Rattle.bolt_format.specs.declared.fault.TheConstants.PageFault.{CUT}
-use Rattle.bolt_format.specs.declared.kind.Kind.{Kind}
-use Rattle.bolt_format.specs.declared.meta.Meta.{Meta}
 use Rattle.bolt_format.specs.declared.meta.Slot.{Slot}
-use Rattle.bolt_format.specs.declared.meta.Slot.TheVariants.{Zero, One}
 use Rattle.bolt_check.specs.Findings.{PageTests, finding}
-use Rattle.bolt_check.specs.Nodes.{node_at}
 use Rattle.bolt_check.specs.Sound.{IsFirstFinding, IsRefused}
 use Rattle.bolt_check.specs.declared.fault.CheckFault.TheVariants.{Structure}
-use Rattle.bolt_check.specs.Ways.{At_page, root_spot}
-use Rattle.bolt_format.specs.Written.{header_bytes, meta_bytes}
-use Rattle.bolt_layout.specs.Layout.{layout_mark, layout_of, layout_root, placed_bytes}
-use Rattle.bolt_layout.specs.Copies.{IsAsked, RefusesPrefixes}
-use Rattle.bolt_format.specs.ReadBack.{IsHeaderFit}
-use Rattle.bolt_format.proofs.WrittenHeaders.{header_written, length-header_bytes}
-use Rattle.bolt_format.proofs.WrittenMetas.{chosen_of, length-meta_bytes, meta_written}
-use Rattle.bolt_layout.specs.PageBytes.{copy_meta}
+use Rattle.bolt_layout.specs.Copies.{RefusesPrefixes}
 use Rattle.bolt_layout.proofs.PageRows.{IsInARow, IsPageFit, last_written, page_headed, row_last}
 use Rattle.bolt_layout.proofs.Soundness.{IsLaidOut, laid_out}
-use Rattle.bolt_layout.specs.Laid.{Placed}
-use Rattle.bolt_tree.specs.Tree.{Tree}
-use Rattle.bolt_layout.specs.declared.layout.Layout.{Layout}
 
 -- a part before the cut is there
 cut_front : (file part rest : List ℕ) (at n : ℕ) → drop at file ≡ part ++ rest → at + length part ≤ n → drop at (take n file) ≡ part ++ take (n - (at + length part)) rest

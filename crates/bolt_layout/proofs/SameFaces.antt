@@ -1,11 +1,6 @@
 -- The items of a bucket have the same keys and sizes in both layouts, and the same buckets are inline.
 use Rattle.std.proofs.Common.{◌≡◌, ◌∙◌, ◌+◌, ℕ, true, false, List, ◌∷◌, length, map, sum_by, refl, sym, ap, arith}
-use Rattle.std.proofs.lemmas.List.{length-map}
-use Rattle.bolt_format.specs.Elements.{LeafElement}
-use Rattle.bolt_tree.specs.Tree.{Tree, end, with_bucket, with_value}
-use Rattle.bolt_layout.specs.Items.{holds_bucket, is_inline, items_of, leaf_item}
-use Rattle.bolt_layout.specs.Laid.{Laid, size_of}
-use Rattle.bolt_layout.specs.declared.layout.Layout.TheVariants.{Plain, Balanced}
+use Rattle.bolt_layout.proofs.Words.{Balanced, end, holds_bucket, is_inline, items_of, Laid, leaf_item, LeafElement, length-map, Plain, size_of, Tree, with_bucket, with_value}
 use Rattle.bolt_layout.proofs.Faces.{Face, face, face_size, sum_map}
 
 -- Sizes decide which buckets are inline.

@@ -1,33 +1,16 @@
 -- The pages of a tree show it: the entries of each bucket are its items' elements.
 use Rattle.std.proofs.Common.{◌≡◌, ◌∙◌, ℕ, ◌+◌, ◌^◌, ◌<◌, ◌≤◌, ◌==◌, Bool, true, false, List, [], ◌∷◌, refl, sym, ap, subst, inl, inr, arith}
-use Rattle.std.specs.List.{AllByRecursion}
-use Rattle.std.specs.declared.cmp.Ordering.TheVariants.{Less}
-use Rattle.std.proofs.lemmas.Bool.{eq-eqb, ne_eqb}
-use Rattle.std.proofs.lemmas.List.{append-nil}
-use Rattle.bolt_format.specs.Elements.{LeafElement, head_root, head_sequence, inline_elements}
-use Rattle.bolt_format.specs.declared.meta.Meta.{Meta}
-use Rattle.bolt_check.specs.Keys.{Key, key_cmp}
+use Rattle.bolt_layout.proofs.Words.{AllByRecursion, append-nil, bucket_item, contains_cases, contains_none, elements_of, end, eq-eqb, HasLengths, head_bytes, head_root, head_sequence, head_written, holds_bucket, inline_elements, Inline_page, inline_value, is_inline, IsBelow, IsEntry, IsTreeOf, items_of, Key, key_cmp, keys_in, Laid, largest_page, Layout, LeafElement, Less, Meta, ne_eqb, Rises, RisesInside, root_over, Root_page, Start, start_of, stored_bucket, Tree, with_bucket, with_value}
 use Rattle.bolt_check.proofs.KeyLaws.{less_of}
-use Rattle.bolt_tree.specs.Entries.{AreEntries, Inline_page, IsEntry, Root_page, Start, entry_cmp, start_of}
-use Rattle.bolt_tree.specs.Order.{IsBelow, Rises}
-use Rattle.bolt_tree.specs.Tree.{IsTreeOf, Shows, Tree, end, with_bucket, with_value}
-use Rattle.bolt_tree.proofs.Lists.{contains_cases, contains_none}
-use Rattle.bolt_layout.specs.Items.{bucket_item, holds_bucket, is_inline, items_of, stored_bucket}
-use Rattle.bolt_layout.specs.Laid.{Laid, elements_of}
-use Rattle.bolt_layout.specs.Levels.{root_over}
-use Rattle.bolt_layout.specs.PageBytes.{inline_value}
-use Rattle.bolt_format.specs.Written.{head_bytes}
-use Rattle.bolt_layout.specs.Storable.{HasLengths, RisesInside, keys_in}
+use Rattle.bolt_tree.specs.Entries.{AreEntries, entry_cmp}
+use Rattle.bolt_tree.specs.Tree.{Shows}
 use Rattle.bolt_layout.proofs.Holding.{AreOf, ArePages, Holds, over_holds}
 use Rattle.bolt_layout.proofs.KeyLaws.{IsBelowItem, Rise}
 use Rattle.bolt_layout.proofs.LaidItems.{IsItem}
 use Rattle.bolt_layout.proofs.LaidPages.{limit}
 use Rattle.bolt_layout.proofs.ListLemmas.{all_weaker}
-use Rattle.bolt_format.proofs.PageSizes.{largest_page}
 use Rattle.bolt_layout.proofs.OverRows.{HasShortKey, IsAtMost, root_is_over}
-use Rattle.bolt_format.proofs.WrittenHeaders.{head_written}
 use Rattle.bolt_layout.proofs.TreeItems.{inline_read, root_page, tree_items, tree_rise}
-use Rattle.bolt_layout.specs.declared.layout.Layout.{Layout}
 
 module _ (file : List ℕ) (meta : Meta) where
   -- Elements of items whose keys rise, rise.

@@ -1,24 +1,13 @@
 -- The layout of a tree is sound, and lists what the tree lists.
 use Rattle.std.proofs.Common.{◌≡◌, ◌<◌, ◌^◌, ℕ, List, Some, length, arith}
-use Rattle.bolt_format.specs.Metas.{IsPageSize}
-use Rattle.bolt_format.specs.Pages.{page_at}
-use Rattle.bolt_format.specs.declared.meta.Meta.{Meta}
-use Rattle.bolt_format.specs.declared.meta.Slot.TheVariants.{One}
-use Rattle.bolt_tree.specs.Entries.{IsEntry, Root_page, Start}
-use Rattle.bolt_tree.specs.Listing.{Lists, Member}
-use Rattle.bolt_tree.specs.Tree.{IsTreeOf, Tree, listing_of, tree_of}
-use Rattle.bolt_layout.specs.Copies.{IsAsked, IsOfOneTree, IsSoundCopy, layout_of_listing}
-use Rattle.bolt_layout.specs.Items.{root_of}
-use Rattle.bolt_layout.specs.Laid.{Placed}
-use Rattle.bolt_layout.specs.Layout.{layout_meta, layout_of, layout_pages, layout_root}
-use Rattle.bolt_layout.specs.Storable.{IsStorable}
+use Rattle.bolt_layout.proofs.Words.{IsAsked, IsEntry, IsOfOneTree, IsPageSize, IsStorable, IsTreeOf, Layout, layout_meta, layout_of, layout_pages, layout_root, listing_of, Member, Meta, One, page_at, Placed, root_of, Root_page, size_bounds, Start, Tree, tree_of}
+use Rattle.bolt_tree.specs.Listing.{Lists}
+use Rattle.bolt_layout.specs.Copies.{IsSoundCopy, layout_of_listing}
 use Rattle.bolt_layout.proofs.Holding.{ArePages}
 use Rattle.bolt_layout.proofs.ListLemmas.{all_weaker}
-use Rattle.bolt_format.proofs.PageSizes.{size_bounds}
 use Rattle.bolt_layout.proofs.Showing.{root_tree}
 use Rattle.bolt_layout.proofs.Soundness.{IsSoundLayout, PassingIsSound, laid_out, layout_sound}
 use Rattle.bolt_layout.proofs.SpanLemmas.{IsShown}
-use Rattle.bolt_layout.specs.declared.layout.Layout.{Layout}
 
 -- what a bucket's tree lists is the bucket's listing
 abbrev pub TreeLists : Type 0

@@ -1,37 +1,18 @@
 -- The layout of a tree is a sound file.
 use Rattle.std.proofs.Common.{◌≡◌, ◌∙◌, ℕ, ◌+◌, ◌-◌, ◌*◌, ◌^◌, ◌<◌, ◌≤◌, List, [], ◌∷◌, ◌++◌, length, drop, replicate, Option, Some, refl, sym, ap, inl, inr, arith, append_assoc}
-use Rattle.std.specs.List.{AllByRecursion}
-use Rattle.std.proofs.Math.Nat.{mul-le-mul_left}
-use Rattle.std.proofs.lemmas.Bool.{cases_lt}
-use Rattle.std.proofs.lemmas.List.{append-nil, length-append}
-use Rattle.bolt_format.specs.Metas.{HasBothMetas, IsChosen, IsMeta, IsPageSize}
-use Rattle.bolt_format.specs.Pages.{PageView, page_fault}
-use Rattle.bolt_format.specs.declared.meta.Meta.{Meta}
-use Rattle.bolt_format.specs.declared.meta.Slot.TheVariants.{Zero, One}
-use Rattle.bolt_check.specs.Nodes.{node_at, node_of, node_seen}
-use Rattle.bolt_check.specs.Sound.{HasRightAccounts, HasSoundTrees, PassesTests}
-use Rattle.bolt_check.specs.Ways.{reached, root_spot}
-use Rattle.bolt_layout.specs.PageBytes.{freelist_page, meta_page, copy_meta}
-use Rattle.bolt_format.specs.Written.{header_bytes, meta_bytes}
-use Rattle.bolt_layout.specs.Layout.{file_bytes, layout_mark, layout_meta, layout_of, layout_pages, layout_root, placed_bytes}
-use Rattle.bolt_format.proofs.NumberLemmas.{part_next}
-use Rattle.bolt_format.proofs.WrittenHeaders.{length-header_bytes}
+use Rattle.bolt_layout.proofs.Words.{AllByRecursion, append-nil, cases_lt, chosen_of, copy_meta, freelist_page, HasSoundTrees, header_bytes, IsChosen, IsMeta, IsPageSize, IsStorable, items_of, Layout, layout_mark, layout_meta, layout_of, layout_pages, layout_root, length-append, length-header_bytes, length-meta_bytes, Meta, meta_bytes, meta_page, meta_written, mul-le-mul_left, node_at, node_of, One, page_fault, PageView, part_next, Placed, placed_bytes, reached, root_of, root_over, root_spot, size_bounds, Tree, Zero}
+use Rattle.bolt_format.specs.Metas.{HasBothMetas}
+use Rattle.bolt_check.specs.Nodes.{node_seen}
+use Rattle.bolt_check.specs.Sound.{HasRightAccounts, PassesTests}
+use Rattle.bolt_layout.specs.Layout.{file_bytes}
 use Rattle.bolt_layout.proofs.SpanLemmas.{IsEmptyFreelist, IsShown, freelist_shown, length-filled}
 use Rattle.bolt_format.specs.ReadBack.{IsMetaFit}
-use Rattle.bolt_format.proofs.WrittenMetas.{chosen_of, length-meta_bytes, meta_written}
-use Rattle.bolt_format.proofs.PageSizes.{size_bounds}
 use Rattle.bolt_format.specs.declared.kind.Kind.TheVariants as kind
 use Rattle.bolt_layout.proofs.Parts.{IsPart, part_clean}
 use Rattle.bolt_layout.proofs.PageRows.{IsInARow, IsPageFit, length-placed, row_shown}
 use Rattle.bolt_layout.proofs.LeafPages.{IsPage}
 use Rattle.bolt_layout.proofs.LaidPages.{AreNodes, limit}
 use Rattle.bolt_layout.proofs.TreeItems.{root_page, tree_items, tree_rise, within_none}
-use Rattle.bolt_layout.specs.Items.{items_of, root_of}
-use Rattle.bolt_layout.specs.Laid.{Placed}
-use Rattle.bolt_layout.specs.Levels.{root_over}
-use Rattle.bolt_layout.specs.Storable.{IsStorable}
-use Rattle.bolt_tree.specs.Tree.{Tree}
-use Rattle.bolt_layout.specs.declared.layout.Layout.{Layout}
 
 -- How long the pieces are.
 length-meta_page : (page_size root sequence mark txid : ℕ) → 80 ≤ page_size → length (meta_page page_size root sequence mark txid) ≡ page_size

@@ -1,25 +1,15 @@
 -- A page that was written at its place in a file shows what was written.
 use Rattle.std.proofs.Common.{◌≡◌, ◌∙◌, ℕ, ◌+◌, ◌-◌, ◌*◌, ◌^◌, ◌<◌, ◌≤◌, ◌==◌, is_some, nat_lt, nat_le, true, false, List, [], ◌++◌, length, drop, replicate, Option, Some, None, refl, sym, ap, arith, append_assoc}
-use Rattle.std.specs.List.{AllByRecursion}
-use Rattle.std.proofs.Math.Nat.{add-mul}
-use Rattle.std.proofs.lemmas.Bool.{le-ltb, lt-leb, eq-eqb}
-use Rattle.std.proofs.lemmas.List.{append-nil, length-append, length-replicate, drop_at}
-use Rattle.bolt_format.specs.Headers.{count_field, flags_field, id_field, kind_of}
-use Rattle.bolt_format.specs.Elements.{BranchElement, LeafElement, value_fault}
+use Rattle.bolt_layout.proofs.Words.{add-mul, AllByRecursion, append-nil, branch_bytes, branch_data, branch_headers, branch_page_view, BranchElement, count_field, eq-eqb, first_of-both, flags_field, freelist_page, header_bytes, header_written, IsHeaderFit, Kind, le-ltb, leaf_bytes, leaf_data, leaf_headers, leaf_page_view, LeafElement, length-append, length-header_bytes, length-replicate, Meta, page_at, page_bytes, page_fault, PageView, part_read, part_within, span_fault, value_fault}
+use Rattle.std.proofs.lemmas.Bool.{lt-leb}
+use Rattle.std.proofs.lemmas.List.{drop_at}
+use Rattle.bolt_format.specs.Headers.{id_field, kind_of}
 use Rattle.bolt_format.specs.Freelists.{freelist_fault, free_ids_at, ids_fault}
-use Rattle.bolt_format.specs.Pages.{PageView, content_fault, from_page, page_at, page_fault, page_overflow, span_bytes, span_fault, view_of}
-use Rattle.bolt_format.specs.declared.kind.Kind.{Kind}
+use Rattle.bolt_format.specs.Pages.{content_fault, from_page, page_overflow, span_bytes, view_of}
 use Rattle.bolt_format.specs.declared.kind.Kind.TheVariants as kind
-use Rattle.bolt_format.specs.declared.meta.Meta.{Meta}
-use Rattle.bolt_layout.specs.PageBytes.{branch_bytes, branch_data, filled, freelist_page, leaf_bytes, leaf_data, leaf_headers, branch_headers, page_bytes}
-use Rattle.bolt_format.specs.Written.{header_bytes}
-use Rattle.bolt_format.proofs.NumberLemmas.{part_read, part_within}
-use Rattle.bolt_format.proofs.FaultLemmas.{first_of-both}
+use Rattle.bolt_layout.specs.PageBytes.{filled}
 use Rattle.bolt_layout.proofs.LeafLemmas.{IsLeafFit, leaves_written, length-leaf_headers}
 use Rattle.bolt_layout.proofs.BranchLemmas.{IsBranchFit, branches_written, length-branch_headers}
-use Rattle.bolt_format.specs.ReadBack.{IsHeaderFit}
-use Rattle.bolt_format.proofs.WrittenHeaders.{header_written, length-header_bytes}
-use Rattle.bolt_layout.specs.Levels.{branch_page_view, leaf_page_view}
 
 pub length-filled : (n : ℕ) (bytes : List ℕ) → length bytes ≤ n → length (filled n bytes) ≡ n
 length-filled n bytes h = let l = length-replicate {A = ℕ} (n - length bytes) 0 in length-append bytes (replicate (n - length bytes) 0) ∙ omega (arith, l)

@@ -1,37 +1,18 @@
 -- The items of a tree are read back, have room, and are parts of a sound tree of pages.
 use Rattle.std.proofs.Common.{◌≡◌, ◌∙◌, ℕ, ◌+◌, ◌*◌, ◌/◌, ◌^◌, ◌<◌, ◌≤◌, ◌==◌, not, nat_le, Bool, true, false, List, [], ◌∷◌, length, map, Option, Some, None, refl, sym, ap, subst, arith}
-use Rattle.std.proofs.lemmas.Grind.{common_steps}
-use Rattle.std.specs.List.{AllByRecursion}
-use Rattle.std.proofs.lemmas.Bool.{and_parts, eq-eqb, leb-true, ne_eqb, not-true}
-use Rattle.std.proofs.lemmas.List.{append-nil, length-append}
-use Rattle.bolt_format.specs.Elements.{LeafElement, head_root, head_sequence, inline_elements, value_fault}
-use Rattle.bolt_check.specs.Keys.{Key, key_cmp}
-use Rattle.bolt_check.specs.Nodes.{leaf_entry}
-use Rattle.bolt_check.specs.Ways.{At_inline, At_page, Spot, bucket_spots, follow, root_spot}
-use Rattle.bolt_check.specs.Findings.{inline_finding, keys_of, finding_of}
-use Rattle.bolt_layout.specs.Cut.{max_items, run_size}
-use Rattle.bolt_format.specs.Written.{head_bytes}
-use Rattle.bolt_layout.specs.PageBytes.{inline_value, leaf_data}
+use Rattle.bolt_layout.proofs.Words.{AllByRecursion, and_parts, append-nil, At_inline, At_page, bucket_item, bucket_spots, common_steps, contains_head, contains_tail, elements_of, end, eq-eqb, finding_of, follow, HasLengths, head_bytes, head_root, head_sequence, head_written, holds_bucket, inline_elements, inline_finding, inline_value, is_inline, IsBelow, items_of, Key, key_cmp, keys_in, keys_of, Laid, largest_page, Layout, leaf_data, leaf_entry, leaf_item, LeafElement, length-append, length-header_bytes, max_items, ne_eqb, Rises, RisesInside, root_over, root_spot, run_size, size_of, Spot, stored_bucket, Tree, value_fault, with_bucket, with_value}
+use Rattle.std.proofs.lemmas.Bool.{leb-true, not-true}
 use Rattle.bolt_layout.proofs.InlineLemmas.{IsFlat, inline_written}
-use Rattle.bolt_format.proofs.WrittenHeaders.{head_written, length-header_bytes, length-head_bytes, root_passes}
+use Rattle.bolt_format.proofs.WrittenHeaders.{length-head_bytes, root_passes}
 use Rattle.bolt_layout.proofs.SpanLemmas.{length-leaf_bytes}
 use Rattle.bolt_layout.proofs.KeyLaws.{IsBelowItem, IsWithin, Rise}
 use Rattle.bolt_layout.proofs.ListLemmas.{all_weaker}
 use Rattle.bolt_layout.proofs.OverRows.{HasShortKey, IsAtMost, root_is_over}
 use Rattle.bolt_layout.proofs.Parts.{IsPart, part_inline, part_none}
-use Rattle.bolt_tree.specs.Order.{IsBelow, Rises}
-use Rattle.bolt_tree.proofs.Lists.{contains_head, contains_tail}
-use Rattle.bolt_format.proofs.PageSizes.{largest_page}
 use Rattle.bolt_layout.proofs.LaidPages.{limit}
 use Rattle.bolt_layout.proofs.LaidItems.{IsItem, items_size, length-elements}
 use Rattle.bolt_layout.proofs.LeafPages.{IsPage, above_none, items_keys}
 use Rattle.bolt_layout.proofs.BranchPages.{over_page}
-use Rattle.bolt_layout.specs.Items.{bucket_item, holds_bucket, is_inline, items_of, leaf_item, stored_bucket}
-use Rattle.bolt_layout.specs.Laid.{Laid, elements_of, size_of}
-use Rattle.bolt_layout.specs.Levels.{root_over}
-use Rattle.bolt_layout.specs.Storable.{HasLengths, RisesInside, keys_in}
-use Rattle.bolt_tree.specs.Tree.{Tree, end, with_bucket, with_value}
-use Rattle.bolt_layout.specs.declared.layout.Layout.{Layout}
 
 -- a value
 value_item : (page_size : ℕ) (key value : List ℕ) → 1 ≤ length key → length key ≤ 0x40000000 → length value ≤ 0x7FFFFFFE → IsItem page_size (leaf_item key value false)

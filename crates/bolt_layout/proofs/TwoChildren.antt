@@ -1,16 +1,8 @@
 -- No branch page of a balanced layout has fewer than two elements.
 use Rattle.std.proofs.Common.{◌≡◌, ℕ, zero, suc, ◌+◌, ◌≤◌, List, [], ◌∷◌, length, map, flat_map, refl, sym, ap, subst, arith}
-use Rattle.std.specs.List.{AllByRecursion}
-use Rattle.std.proofs.lemmas.List.{length-append}
-use Rattle.bolt_format.specs.Elements.{BranchElement, LeafElement}
+use Rattle.bolt_layout.proofs.Words.{AllByRecursion, Balanced, branch_cut, branch_page_view, BranchElement, cut_of, elements_of, end, items_of, join_last, Laid, layout_pages, leaf_level, leaf_page_view, LeafElement, length-append, next_level, page_over, pages_of, root_of, root_over, size_of, top_in, Tree, with_bucket, with_value}
 use Rattle.bolt_format.specs.declared.kind.Kind.TheVariants as kind
-use Rattle.bolt_tree.specs.Tree.{Tree, end, with_bucket, with_value}
-use Rattle.bolt_layout.specs.Cut.{branch_cut, cut_of, join_last}
-use Rattle.bolt_layout.specs.Items.{items_of, root_of}
-use Rattle.bolt_layout.specs.Laid.{Laid, elements_of, pages_of, size_of}
-use Rattle.bolt_layout.specs.Layout.{HasTwoIfBranch, first_page, layout_pages}
-use Rattle.bolt_layout.specs.Levels.{branch_page_view, leaf_level, leaf_page_view, next_level, page_over, root_over, top_in}
-use Rattle.bolt_layout.specs.declared.layout.Layout.TheVariants.{Balanced}
+use Rattle.bolt_layout.specs.Layout.{HasTwoIfBranch, first_page}
 use Rattle.bolt_layout.proofs.Cutting.{branches_divide, cut_divides}
 use Rattle.bolt_layout.proofs.ListLemmas.{all_append, all_split}
 use Rattle.bolt_layout.proofs.OneCut.{AreRuns, cut_runs, cut_whole, first_long}

@@ -1,12 +1,8 @@
 -- How many page numbers a row of pages takes: its overflow, by the weights of what stands on it.
 use Rattle.std.proofs.Common.{◌≡◌, ℕ, ◌+◌, ◌*◌, ◌-◌, ◌/◌, ◌<◌, ◌≤◌, List, [], ◌∷◌, ◌++◌, length, map, flat_map, sum_by, refl, ap, arith}
-use Rattle.std.specs.List.{AllByRecursion}
-use Rattle.std.proofs.Math.Nat.{add-mul, div-lt_iff_lt-mul, div-mul-le_self}
+use Rattle.bolt_layout.proofs.Words.{add-mul, AllByRecursion, div-lt_iff_lt-mul, Laid, numbers_of, overflow_of, page_over, PageView, run_overflow, size_of, sum_by-cons}
+use Rattle.std.proofs.Math.Nat.{div-mul-le_self}
 use Rattle.std.proofs.lemmas.Nat.{le-div}
-use Rattle.std.proofs.lemmas.List.Sums.{sum_by-cons}
-use Rattle.bolt_format.specs.Pages.{PageView}
-use Rattle.bolt_layout.specs.Laid.{Laid, numbers_of, size_of}
-use Rattle.bolt_layout.specs.Levels.{overflow_of, page_over, run_overflow}
 use Rattle.bolt_layout.proofs.LastItem.{HasItem}
 use Rattle.bolt_layout.proofs.ListLemmas.{all_split}
 use Rattle.bolt_layout.proofs.OverRows.{numbers-append}

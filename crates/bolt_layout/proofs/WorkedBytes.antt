@@ -1,13 +1,7 @@
 -- The bytes of worked layouts, each at its place.
 use Rattle.std.proofs.Common.{◌≡◌, ℕ, List, [], ◌∷◌, take, drop, refl}
-use Rattle.bolt_format.specs.Bytes.{fnv_of, fnv_step}
-use Rattle.bolt_layout.specs.Items.{root_of}
-use Rattle.bolt_layout.specs.Layout.{layout_of}
-use Rattle.bolt_layout.specs.Levels.{overflow_of, root_over}
-use Rattle.bolt_layout.specs.PageBytes.{branch_bytes, freelist_page, inline_value, leaf_bytes, meta_page, page_bytes}
-use Rattle.bolt_format.specs.Written.{branch_header, header_bytes, leaf_header, meta_bytes, meta_record, number_bytes, head_bytes}
+use Rattle.bolt_layout.proofs.Words.{branch_bytes, branch_header, fnv_of, fnv_step, freelist_page, head_bytes, header_bytes, inline_value, layout_of, leaf_bytes, leaf_header, meta_bytes, meta_page, meta_record, number_bytes, overflow_of, page_bytes, Plain, root_of, root_over}
 use Rattle.bolt_layout.proofs.WorkedLayouts.{no_entries, one_inline, empty_bucket, forty_values}
-use Rattle.bolt_layout.specs.declared.layout.Layout.TheVariants.{Plain}
 
 -- bytes of a layout, from a place on
 abbrev bytes_at : ℕ → ℕ → List ℕ → List ℕ

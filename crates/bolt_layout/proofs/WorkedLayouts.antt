@@ -1,16 +1,7 @@
 -- Worked layouts: the whole bytes by their checksum, the root page, the mark and the items held at most. The figures are those of another program that goes by
 -- docs/LAYOUT.md.
 use Rattle.std.proofs.Common.{◌≡◌, ◌==◌, ℕ, ◌+◌, ◌/◌, ◌%◌, if◌then◌else◌, List, [], ◌∷◌, replicate, refl}
-use Rattle.std.specs.List.{range_with_len}
-use Rattle.bolt_format.specs.Bytes.{fnv_of, fnv_step}
-use Rattle.bolt_tree.specs.Tree.{Tree, end, with_bucket, with_value}
-use Rattle.bolt_layout.specs.Items.{root_of}
-use Rattle.bolt_layout.specs.Layout.{layout_held, layout_mark, layout_of, layout_root}
-use Rattle.bolt_layout.specs.Levels.{overflow_of, root_over}
-use Rattle.bolt_layout.specs.PageBytes.{branch_bytes, freelist_page, inline_value, leaf_bytes, meta_page, page_bytes}
-use Rattle.bolt_format.specs.Written.{branch_header, header_bytes, leaf_header, meta_bytes, meta_record, number_bytes, head_bytes}
-use Rattle.bolt_layout.specs.declared.layout.Layout.{Layout}
-use Rattle.bolt_layout.specs.declared.layout.Layout.TheVariants.{Plain, Balanced}
+use Rattle.bolt_layout.proofs.Words.{Balanced, branch_bytes, branch_header, end, fnv_of, fnv_step, freelist_page, head_bytes, header_bytes, inline_value, Layout, layout_held, layout_mark, layout_of, layout_root, leaf_bytes, leaf_header, meta_bytes, meta_page, meta_record, number_bytes, overflow_of, page_bytes, Plain, range_with_len, root_of, root_over, Tree, with_bucket, with_value}
 
 abbrev IsWorked : Layout → (page_size : ℕ) → Tree → (sequence sum root mark held : ℕ) → Type 0
 IsWorked which page_size tree sequence sum root mark held =

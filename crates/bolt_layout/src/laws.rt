@@ -21,9 +21,7 @@ ghost use Rattle.bolt_layout.specs.declared.layout.Layout.{Layout};
 ghost use Rattle.bolt_layout.specs.declared.layout.Layout.TheVariants.{Balanced};
 
 use bolt_check::laws::sound_trees_pass_the_tests;
-use bolt_tree::laws::{
-    a_tree_is_of_its_listing, a_tree_lists_its_bucket, listing_is_of_a_tree,
-};
+use bolt_tree::laws::{a_tree_is_of_its_listing, a_tree_lists_its_bucket, listing_is_of_a_tree};
 
 /// The layout of a tree is a sound file, and its listing is that of the tree, if the layout has
 /// fewer than 2^63 bytes.

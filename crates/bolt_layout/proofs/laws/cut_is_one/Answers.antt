@@ -1,5 +1,4 @@
-use Rattle.bolt_format.specs.Elements.{BranchElement, LeafElement}
-use Rattle.bolt_layout.specs.Laid.{Laid}
+use Rattle.bolt_layout.proofs.Words.{BranchElement, Laid, LeafElement}
 use Rattle.bolt_layout.proofs.OneCut.{cut_is_one}
 use Rattle.bolt_layout.proofs.laws.cut_is_one.Goals as goal
 
