@@ -3,18 +3,14 @@ use Rattle.std.proofs.Common.{◌≡◌, ◌<◌, ◌^◌, ◌&&◌, ◌==◌, �
 use Rattle.std.specs.Prelude.{IsUtf8, ◌≢◌, option_copied, slice_get, zero, suc, MatchResult, nat_lt}
 use Rattle.std.specs.Borrow.{Bor}
 use Rattle.std.specs.Option.{option_eq}
-use Rattle.std.specs.Result.{result_ok}
+use Rattle.bolt_load.proofs.Words.{all_ascii_digits, and_parts, cases_Bool, decimal, digits_decimal, is_ascii_digit, nat_tests, number_in, result_ok, Text}
 use Rattle.std.proofs.lemmas.Str.{IsUtf8-from_ascii}
-use Rattle.std.specs.Str.{IsAscii, all_ascii_digits}
-use Rattle.std.specs.Char.{is_ascii_digit}
-use Rattle.std.specs.Fmt.{decimal}
+use Rattle.std.specs.Str.{IsAscii}
 use Rattle.std.specs.Str.Parse.{ParsesUnsigned}
-use Rattle.std.proofs.lemmas.Fmt.{decimal_nonempty, digits_decimal, digits_value-decimal}
-use Rattle.std.proofs.lemmas.Bool.{cases_Bool, and_left, and_parts, and_right, false_from_ne_true, ltb-true}
-use Rattle.std.proofs.lemmas.Bool.Decides.{nat_tests}
+use Rattle.std.proofs.lemmas.Fmt.{decimal_nonempty, digits_value-decimal}
+use Rattle.std.proofs.lemmas.Bool.{and_left, and_right, false_from_ne_true, ltb-true}
 use Rattle.std.proofs.lemmas.Str.Parse.{IsNumeralModel, numerals_by_weight, parse_plain}
-use Rattle.bolt_load.specs.Lines.{Text}
-use Rattle.bolt_load.specs.Numbers.{decimal_value, is_number, number_in}
+use Rattle.bolt_load.specs.Numbers.{decimal_value, is_number}
 
 pub decimal_numerals : IsNumeralModel (λ digits. all_ascii_digits digits ≡ true) decimal_value
 decimal_numerals = numerals_by_weight _ (search rules) decimal_value (search rules)

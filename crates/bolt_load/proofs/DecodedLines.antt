@@ -1,19 +1,8 @@
 -- The lines of a text are decoded one after another.
 use Rattle.std.proofs.Common.{◌≡◌, ◌∙◌, ◌<◌, ◌≤◌, ◌-◌, ℕ, List, [], ◌∷◌, ◌++◌, Option, Some, None, length, get_or, take, refl, sym, ap, subst, arith, append_assoc, append-nil, length-append}
-use Rattle.std.specs.List.{All}
-use Rattle.std.specs.Prelude.{zero, suc, IfSome, IsSome, flat_map, option_map}
+use Rattle.bolt_load.proofs.Words.{Adds, All, All-append, AreDecoded, filter_map-append, flat_map, IfSome, IsFirstLine, IsSome, length_fault, line_member, LineFault, lines_of, Member, member_bytes, members_in, NotALine, option_map, option_map_or, shape_fault, StopsAt, take-append_seam, Text}
+use Rattle.std.specs.Prelude.{zero, suc}
 use Rattle.std.proofs.lemmas.Grind.{flat_map-append}
-use Rattle.std.proofs.lemmas.List.Elements.{All-append, filter_map-append}
-use Rattle.std.proofs.Math.Seq.{take-append_seam}
-use Rattle.bolt_tree.specs.Listing.{Member}
-use Rattle.bolt_load.specs.LineFaults.{length_fault, shape_fault}
-use Rattle.bolt_load.specs.LineMembers.{line_member, members_in}
-use Rattle.bolt_load.specs.Lines.{Text, lines_of}
-use Rattle.bolt_load.specs.Private.Cuts.{IsFirstLine}
-use Rattle.bolt_load.specs.Private.Decoding.{Adds, AreDecoded, StopsAt, member_bytes}
-use Rattle.bolt_load.specs.declared.fault.LineFault.{LineFault}
-use Rattle.bolt_load.specs.declared.fault.LineFault.TheVariants.{NotALine}
-use Rattle.std.specs.Option.{option_map_or}
 use Rattle.bolt_load.proofs.LineLemmas.{no_lines}
 
 -- ---- lines that are right in themselves

@@ -2,9 +2,8 @@
 use Rattle.std.proofs.Common.{◌≡◌, ◌+◌, ◌*◌, ◌<◌, ℕ, Bool, ◌&&◌, true, false, List, Some, None, Result, Ok, Err, MatchResult, length, refl, sym, arith, take, drop, slice_index, slice_set}
 use Rattle.std.specs.Bool.{OnTrue, MatchBool}
 use Rattle.std.specs.Char.{is_ascii_hexdigit}
-use Rattle.std.proofs.lemmas.Bool.Decides.{nat_tests}
-use Rattle.hex.specs.Hex.{decode_pairs, decode_sized, digit_or_error, hex_digit_value, pair_value, value_at, ◌>>=◌}
-use Rattle.hex.specs.declared.error.FromHexError.{FromHexError}
+use Rattle.bolt_load.proofs.Words.{decode_pairs, digit_or_error, FromHexError, hex_digit_value, nat_tests, pair_value, value_at, ◌>>=◌}
+use Rattle.hex.specs.Hex.{decode_sized}
 use Rattle.hex.proofs.Pairs.{decode_done, decode_err, decode_sized-pairs, decode_step, prepend}
 
 no_digit : (c : ℕ) → is_ascii_hexdigit c ≡ false → hex_digit_value c ≡ None

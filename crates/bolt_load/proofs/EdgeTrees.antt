@@ -1,10 +1,6 @@
 -- A member that comes last is put at the end of its bucket, which is on the right edge of the tree.
 use Rattle.std.proofs.Common.{◌≡◌, ◌∙◌, ℕ, List, [], ◌∷◌, ◌++◌, refl, sym, ap, append_assoc, append-nil}
-use Rattle.bolt_check.specs.Keys.{Key}
-use Rattle.bolt_tree.specs.Entries.{Bucket, Item, Value}
-use Rattle.bolt_tree.specs.Listing.{Member}
-use Rattle.bolt_tree.specs.Paths.{Path}
-use Rattle.bolt_tree.specs.Tree.{Tree, end, listing_below, with_bucket, with_value}
+use Rattle.bolt_load.proofs.Words.{Bucket, end, Item, Key, listing_below, Member, Path, Tree, Value, with_bucket, with_value}
 
 -- the first if nothing comes after, and otherwise the second
 abbrev pub fact_at_end : Tree → Type 0 → Type 0 → Type 0

@@ -1,7 +1,8 @@
 -- What a file lists has bytes of the file in its keys and its values.
 use Rattle.std.proofs.Common.{◌≡◌, ◌<◌, ◌-◌, ◌==◌, ℕ, Bool, true, false, List, [], ◌∷◌, sym, refl, subst, drop, take, inl, inr, arith}
-use Rattle.std.specs.List.{Contains, slice_range}
-use Rattle.std.proofs.lemmas.Bool.{cases_Bool, cases_lt, eqb-true}
+use Rattle.bolt_load.proofs.Words.{ArePartsBytes, Bucket, cases_Bool, cases_lt, Contains, IsFitItem, Item, Member, Path, Value}
+use Rattle.std.specs.List.{slice_range}
+use Rattle.std.proofs.lemmas.Bool.{eqb-true}
 use Rattle.std.proofs.lemmas.List.{get_or-take, get_or_past, length-take}
 use Rattle.bolt_format.specs.Bytes.{IsBytes}
 use Rattle.bolt_format.specs.Elements.{IsBucketValue, LeafElement, head_root, head_sequence, inline_bytes, inline_elements, leaf_element, leaf_end, leaf_key_start, leaf_value_start}
@@ -9,11 +10,11 @@ use Rattle.bolt_format.specs.Pages.{span_bytes}
 use Rattle.bolt_format.specs.declared.meta.Meta.{Meta}
 use Rattle.bolt_format.proofs.ElementFacts.{drop_bytes}
 use Rattle.bolt_format.proofs.PageFacts.{bucket_value, flat_inline, in_inline, on_leaf}
-use Rattle.bolt_report.specs.JsonReadings.{ArePartsBytes, IsItemOfBytes}
-use Rattle.bolt_tree.specs.Entries.{Bucket, Inline_page, IsEntry, Item, Root_page, Start, Value, item_of, start_of}
-use Rattle.bolt_tree.specs.Listing.{IsListing, Member}
-use Rattle.bolt_tree.specs.Paths.{Holds, Path}
-use Rattle.bolt_layout.specs.Storable.{IsFitItem, IsFitMember}
+use Rattle.bolt_report.specs.JsonReadings.{IsItemOfBytes}
+use Rattle.bolt_tree.specs.Entries.{Inline_page, IsEntry, Root_page, Start, item_of, start_of}
+use Rattle.bolt_tree.specs.Listing.{IsListing}
+use Rattle.bolt_tree.specs.Paths.{Holds}
+use Rattle.bolt_layout.specs.Storable.{IsFitMember}
 use Rattle.bolt_load.specs.ByteMembers.{AreOfBytes}
 
 range_bytes : (bytes : List ℕ) (a b : ℕ) → IsBytes bytes → IsBytes (slice_range bytes a b)

@@ -1,11 +1,6 @@
 -- A right text has no first fault.
 use Rattle.std.proofs.Common.{◌≡◌, ◌∙◌, ℕ, List, [], ◌∷◌, ◌++◌, Some, None, ap, sym, subst, append_assoc, append-nil}
-use Rattle.std.proofs.lemmas.List.Elements.{filter_map-append}
-use Rattle.bolt_tree.specs.Listing.{Member}
-use Rattle.bolt_load.specs.LineFaults.{IsFirstFault, IsListingText, RightAfter, line_fault}
-use Rattle.bolt_load.specs.LineMembers.{line_member, members_in}
-use Rattle.bolt_load.specs.Lines.{Text}
-use Rattle.bolt_load.specs.declared.fault.LineFault.{LineFault}
+use Rattle.bolt_load.proofs.Words.{filter_map-append, IsFirstFault, IsListingText, line_fault, line_member, LineFault, Member, members_in, RightAfter, Text}
 
 right_at : (before : List Member) (front : List Text) (line : Text) (rest : List Text) → RightAfter before (front ++ line ∷ rest) → line_fault (before ++ members_in front) line ≡ None
 right_at before [] line rest right = ap (λ ms. line_fault ms line) (append-nil before) ∙ right.0

@@ -20,3 +20,4 @@ pub mod StoredTexts
 pub mod TextTrees
 pub mod WordLemmas
 pub mod WrittenLines
+mod Words

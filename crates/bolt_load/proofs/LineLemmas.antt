@@ -1,9 +1,7 @@
 -- The first line of a text ends at the first line feed, or with the text.
 use Rattle.std.proofs.Common.{◌≡◌, ◌∙◌, ◌==◌, ◌<◌, ℕ, List, [], ◌∷◌, ◌++◌, true, false, length, refl, sym, ap, arith, append_assoc, append-nil}
-use Rattle.std.specs.List.{slice_split}
-use Rattle.std.proofs.lemmas.Bool.Decides.{nat_tests}
-use Rattle.bolt_load.specs.Lines.{Text, lines_of, without_empty_end}
-use Rattle.bolt_load.specs.Private.Cuts.{IsCut, IsFirstLine, IsWithout}
+use Rattle.bolt_load.proofs.Words.{IsCut, IsFirstLine, IsWithout, lines_of, nat_tests, slice_split, Text}
+use Rattle.bolt_load.specs.Lines.{without_empty_end}
 use Rattle.bolt_load.proofs.CutLemmas.{cut_is_shorter, parts_cut, parts_whole, some_parts}
 
 -- before other parts, a part is a line also if it is empty

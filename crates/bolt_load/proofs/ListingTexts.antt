@@ -1,26 +1,11 @@
 -- The text of a listing that is of one tree is read back as that listing.
 use Rattle.std.proofs.Common.{◌≡◌, ◌∙◌, ◌<◌, ◌-◌, true, List, [], ◌∷◌, ◌++◌, Option, Some, None, length, map, slice_get, take, inl, inr, refl, sym, ap, ap₂, subst, arith, append_assoc, append-nil, length-append}
-use Rattle.std.specs.List.{Contains}
-use Rattle.std.specs.Option.{option_map_or}
-use Rattle.std.specs.Ordering.{is_lt}
-use Rattle.std.specs.declared.cmp.Ordering.TheVariants.{Less}
-use Rattle.std.proofs.Math.Seq.{take-append_seam}
-use Rattle.std.proofs.lemmas.List.Elements.{Contains-append_left, filter_map-append}
-use Rattle.bolt_report.specs.JsonReadings.{IsMemberOfBytes}
-use Rattle.bolt_report.specs.ListLines.{listing_text}
-use Rattle.bolt_check.specs.Keys.{Key}
-use Rattle.bolt_tree.specs.Entries.{Bucket, Item, Value}
-use Rattle.bolt_tree.specs.Listing.{Member, member_cmp}
-use Rattle.bolt_tree.specs.ListingParts.{has_bucket}
-use Rattle.bolt_tree.specs.Order.{Rises}
-use Rattle.bolt_tree.specs.Paths.{Path, path_cmp}
-use Rattle.bolt_tree.specs.Tree.{Tree, end, listing_below, listing_of, tree_of, with_bucket, with_value}
-use Rattle.bolt_tree.proofs.ListLemmas.{Has, at_has, contains_from_has, has_left, has_right}
+use Rattle.bolt_load.proofs.Words.{Bucket, Contains, contains_from_has, end, filter_map-append, Has, has_bucket, is_above_last, is_lt, IsListingText, IsMemberOfBytes, Item, Key, Less, line_fault, line_member, lines_of, listing_below, listing_of, listing_text, Member, member_cmp, members_in, option_map_or, Path, path_above, path_cmp, place_fault, RightAfter, Rises, take-append_seam, Text, text_members, Tree, Value, with_bucket, with_value}
+use Rattle.std.proofs.lemmas.List.Elements.{Contains-append_left}
+use Rattle.bolt_tree.specs.Tree.{tree_of}
+use Rattle.bolt_tree.proofs.ListLemmas.{at_has, has_left, has_right}
 use Rattle.bolt_layout.specs.Copies.{IsOfOneTree}
 use Rattle.bolt_layout.specs.Storable.{HasLengths}
-use Rattle.bolt_load.specs.LineFaults.{IsListingText, RightAfter, is_above_last, line_fault, path_above, place_fault}
-use Rattle.bolt_load.specs.LineMembers.{line_member, members_in, text_members}
-use Rattle.bolt_load.specs.Lines.{Text, lines_of}
 use Rattle.bolt_load.proofs.DecodedLines.{member_alone}
 use Rattle.bolt_load.proofs.LastPaths.{has_more, has_new}
 use Rattle.bolt_load.proofs.LineLemmas.{lines_cut, no_lines}

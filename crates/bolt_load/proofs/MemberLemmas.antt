@@ -1,16 +1,7 @@
 -- What the words of a line tell, and what their bytes are.
 use Rattle.std.proofs.Common.{◌≡◌, ◌∙◌, ℕ, Bool, true, false, List, [], ◌++◌, Option, Some, None, length, refl, sym, ap, append_assoc, append-nil}
-use Rattle.std.specs.List.{list_any}
-use Rattle.std.specs.Prelude.{◌/◌, is_some, nat_lt, option_and_then, option_map}
-use Rattle.bolt_tree.specs.Entries.{Bucket, Item, Value}
-use Rattle.bolt_tree.specs.Listing.{Member}
-use Rattle.bolt_tree.specs.Paths.{Path}
-use Rattle.bolt_load.specs.HexPaths.{hex_bytes_in}
-use Rattle.bolt_load.specs.LineFaults.{is_long_item, is_long_key, length_fault, shape_fault}
-use Rattle.bolt_load.specs.LineMembers.{line_member}
-use Rattle.bolt_load.specs.Lines.{Text}
-use Rattle.bolt_load.specs.Private.Decoding.{Adds, item_bytes, member_bytes, path_bytes}
-use Rattle.bolt_load.specs.declared.fault.LineFault.TheVariants.{KeyTooLong, NotALine, ValueTooLong}
+use Rattle.bolt_load.proofs.Words.{Adds, Bucket, hex_bytes_in, is_long_item, is_long_key, is_some, Item, item_bytes, KeyTooLong, length_fault, line_member, list_any, Member, member_bytes, NotALine, option_and_then, option_map, Path, path_bytes, shape_fault, Text, Value, ValueTooLong}
+use Rattle.std.specs.Prelude.{◌/◌, nat_lt}
 use Rattle.bolt_load.proofs.PathLemmas.{halved}
 
 abbrev pub member_of : Option Path → Option Item → Option Member

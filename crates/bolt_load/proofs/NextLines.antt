@@ -1,16 +1,8 @@
 -- The next line tells the member whose bytes come next.
 use Rattle.std.proofs.Common.{◌≡◌, ◌∙◌, ℕ, List, [], ◌∷◌, ◌++◌, Option, Some, None, length, drop, take, refl, sym, ap, ap₂, subst, arith, append_assoc}
-use Rattle.std.specs.List.{All}
-use Rattle.std.specs.Prelude.{true, false, suc, IsSome, IsSomeAnd}
-use Rattle.std.proofs.Math.Seq.{drop-append_seam, take-append_seam}
-use Rattle.std.proofs.lemmas.List.{take-append-drop}
-use Rattle.bolt_tree.specs.Entries.{Item}
-use Rattle.bolt_tree.specs.Listing.{Member}
-use Rattle.bolt_tree.specs.Paths.{Path}
-use Rattle.bolt_load.specs.LineMembers.{line_member, members_in, text_members}
-use Rattle.bolt_load.specs.Lines.{Text, lines_of}
-use Rattle.bolt_load.specs.Private.Cuts.{IsFirstLine}
-use Rattle.bolt_load.specs.Private.Decoding.{AreDecoded, BeginsWith, GivesLine, item_bytes, listing_bytes, member_bytes, path_bytes}
+use Rattle.bolt_load.proofs.Words.{All, AreDecoded, BeginsWith, drop-append_seam, GivesLine, IsFirstLine, IsSome, Item, item_bytes, line_member, lines_of, Member, member_bytes, members_in, Path, path_bytes, take-append-drop, take-append_seam, Text, text_members}
+use Rattle.std.specs.Prelude.{true, false, suc, IsSomeAnd}
+use Rattle.bolt_load.specs.Private.Decoding.{listing_bytes}
 use Rattle.bolt_load.proofs.MemberLemmas.{member_of}
 
 cancelled : (front a b : List ℕ) → front ++ a ≡ front ++ b → a ≡ b

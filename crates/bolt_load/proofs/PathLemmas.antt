@@ -1,19 +1,10 @@
 -- A path in hexadecimal is read part by part.
 use Rattle.std.proofs.Common.{◌≡◌, ◌∙◌, ◌==◌, ◌<◌, ◌≤◌, ◌*◌, ℕ, Bool, true, false, List, [], ◌∷◌, ◌++◌, Option, Some, None, length, refl, sym, ap, arith, append_assoc, append-nil}
-use Rattle.std.specs.List.{list_any}
-use Rattle.std.specs.Prelude.{◌/◌, if◌then◌else◌, ◌||◌, Result, Ok, Err, nat_lt, is_some, option_and_then, option_map}
-use Rattle.std.specs.Result.{result_ok}
+use Rattle.bolt_load.proofs.Words.{Adds, hex_bytes_in, hex_path_in, if◌then◌else◌, is_long_key, is_some, IsCut, IsWithout, Key, list_any, nat_tests, option_and_then, option_map, part_in, parts_in, Path, path_bytes, result_ok, Text}
+use Rattle.std.specs.Prelude.{◌/◌, ◌||◌, Result, Ok, Err, nat_lt}
 use Rattle.std.proofs.Math.Bool.{or-false}
 use Rattle.hex.specs.Hex.{decode_of}
 use Rattle.hex.proofs.HexLemmas.{decode_of-ok}
-use Rattle.bolt_check.specs.Keys.{Key}
-use Rattle.bolt_tree.specs.Paths.{Path}
-use Rattle.bolt_load.specs.HexPaths.{hex_bytes_in, hex_path_in, part_in, parts_in}
-use Rattle.bolt_load.specs.LineFaults.{is_long_key}
-use Rattle.std.proofs.lemmas.Bool.Decides.{nat_tests}
-use Rattle.bolt_load.specs.Lines.{Text}
-use Rattle.bolt_load.specs.Private.Cuts.{IsCut, IsWithout}
-use Rattle.bolt_load.specs.Private.Decoding.{Adds, path_bytes}
 use Rattle.bolt_load.proofs.CutLemmas.{parts_cut, parts_whole}
 
 -- ---- how many digits there are

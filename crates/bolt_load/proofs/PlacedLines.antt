@@ -1,24 +1,6 @@
 -- The places of lines are tested one after another.
 use Rattle.std.proofs.Common.{◌≡◌, ◌∙◌, ◌<◌, ◌≤◌, ◌+◌, ◌==◌, ℕ, Bool, true, false, List, [], ◌∷◌, ◌++◌, Option, Some, None, length, Bor, refl, sym, ap, ap₂, subst, arith, append_assoc, append-nil, length-append}
-use Rattle.std.specs.List.{All, slice_split}
-use Rattle.std.specs.Option.{option_or}
-use Rattle.std.specs.Ordering.{is_lt}
-use Rattle.std.specs.Prelude.{option_and_then, option_map}
-use Rattle.std.proofs.lemmas.List.{length-map}
-use Rattle.std.proofs.lemmas.List.Elements.{filter_map-append}
-use Rattle.bolt_check.specs.Keys.{Key}
-use Rattle.bolt_tree.specs.Entries.{Item}
-use Rattle.bolt_tree.specs.Listing.{Member}
-use Rattle.bolt_tree.specs.ListingParts.{is_bucket}
-use Rattle.bolt_tree.specs.Paths.{Path, path_cmp, path_of}
-use Rattle.bolt_tree.proofs.PathOrder.{less_lt}
-use Rattle.bolt_load.specs.HexPaths.{hex_path_in, part_in, parts_in}
-use Rattle.bolt_load.specs.LineFaults.{IsFirstFault, RightAfter, line_fault, path_above, place_fault}
-use Rattle.bolt_load.specs.LineMembers.{item_in, line_member, member_in, members_in}
-use Rattle.bolt_load.specs.Lines.{Text, lines_of}
-use Rattle.bolt_load.specs.Private.Decoding.{GivesLine}
-use Rattle.bolt_load.specs.Private.OpenPaths.{fault_after, fault_by, is_open}
-use Rattle.bolt_load.specs.declared.fault.LineFault.{LineFault}
+use Rattle.bolt_load.proofs.Words.{All, fault_after, fault_by, filter_map-append, GivesLine, hex_path_in, is_bucket, is_lt, is_open, IsFirstFault, Item, item_in, Key, length-map, less_lt, line_fault, line_member, LineFault, lines_of, Member, member_in, members_in, option_and_then, option_map, option_or, part_in, parts_in, Path, path_above, path_cmp, path_of, place_fault, RightAfter, slice_split, Text}
 use Rattle.bolt_load.proofs.CutLemmas.{some_parts}
 use Rattle.bolt_load.proofs.DecodedLines.{IsShaped, members_push}
 use Rattle.bolt_load.proofs.LastPaths.{IsLast, next_last, none_last, path_open, place_same}

@@ -1,29 +1,12 @@
 -- A text without a fault, written plainly, is the text of the listing that it tells.
 use Rattle.std.proofs.Common.{unwrap_or, subst, ◌≡◌, ◌∙◌, ◌<◌, ◌+◌, ◌==◌, ◌&&◌, ◌*◌, ◌/◌, ◌%◌, ℕ, zero, suc, Bool, true, List, [], ◌∷◌, ◌++◌, Option, Some, None, Result, Ok, Err, codes, length, map, inl, inr, refl, sym, ap, ap₂, arith, append_assoc}
 use Rattle.std.specs.Char.{to_ascii_lowercase}
-use Rattle.std.specs.Fmt.{decimal}
-use Rattle.std.specs.List.{join_with_byte, slice_split}
-use Rattle.std.specs.Prelude.{flat_map, if◌then◌else◌, nat_lt, option_and_then, option_map, slice_index}
-use Rattle.std.specs.Result.{result_ok, result_unwrap_or}
-use Rattle.std.specs.Str.{bytes_eq, str_to_ascii_lowercase}
-use Rattle.std.proofs.lemmas.Bool.{and_parts, cases_Bool, cases_lt}
-use Rattle.std.proofs.lemmas.Bool.Decides.{nat_tests}
-use Rattle.std.proofs.lemmas.List.{map-append}
+use Rattle.bolt_load.proofs.Words.{and_parts, Bucket, bytes_eq, bytes_eq-Decides, cases_Bool, cases_lt, decimal, decode_pairs, digit_or_error, encode_lower, encode_with, flat_map, FromHexError, hex_bytes_in, hex_digit_value, hex_path, hex_path_in, if◌then◌else◌, IsListingText, Item, item_end, item_in, line, line_member, lines_of, listing_text, lower_digits, map-append, Member, member_in, member_line, members_in, nat_tests, number_in, option_and_then, option_map, pair_value, part_in, parts_in, Path, place_fault, result_ok, RightAfter, shape_fault, slice_split, Text, text_members, Value, value_at, value_end, ◌>>=◌}
+use Rattle.std.specs.List.{join_with_byte}
+use Rattle.std.specs.Prelude.{nat_lt, slice_index}
+use Rattle.std.specs.Result.{result_unwrap_or}
+use Rattle.std.specs.Str.{str_to_ascii_lowercase}
 use Rattle.std.proofs.lemmas.List.Splits.{join_with_byte-slice_split}
-use Rattle.std.proofs.lemmas.Slice.Eq.{bytes_eq-Decides}
-use Rattle.hex.specs.Hex.{decode_pairs, digit_or_error, encode_lower, encode_with, hex_digit_value, lower_digits, pair_value, value_at, ◌>>=◌}
-use Rattle.hex.specs.declared.error.FromHexError.{FromHexError}
-use Rattle.bolt_report.specs.Lines.{line}
-use Rattle.bolt_report.specs.ListLines.{hex_path, item_end, listing_text, member_line}
-use Rattle.bolt_report.specs.PageLines.{value_end}
-use Rattle.bolt_tree.specs.Entries.{Bucket, Item, Value}
-use Rattle.bolt_tree.specs.Listing.{Member}
-use Rattle.bolt_tree.specs.Paths.{Path}
-use Rattle.bolt_load.specs.HexPaths.{hex_bytes_in, hex_path_in, part_in, parts_in}
-use Rattle.bolt_load.specs.LineFaults.{IsListingText, RightAfter, place_fault, shape_fault}
-use Rattle.bolt_load.specs.LineMembers.{item_in, line_member, member_in, members_in, text_members}
-use Rattle.bolt_load.specs.Lines.{Text, lines_of}
-use Rattle.bolt_load.specs.Numbers.{number_in}
 use Rattle.bolt_load.specs.PlainTexts.{plain_line, plain_text, plain_word, plain_words}
 use Rattle.bolt_load.proofs.DecimalNumbers.{number_is}
 use Rattle.bolt_load.proofs.DecodedLines.{shaped_member}

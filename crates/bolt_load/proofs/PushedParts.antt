@@ -1,14 +1,7 @@
 -- The parts of a path are found again in the bytes that were decoded.
 use Rattle.std.proofs.Common.{◌≡◌, ◌∙◌, ◌≤◌, ℕ, List, [], ◌∷◌, ◌++◌, Option, Some, None, length, take, drop, refl, sym, ap, arith, append_assoc, append-nil, length-append}
-use Rattle.std.specs.Prelude.{◌/◌, IsSomeAnd, option_map}
-use Rattle.std.proofs.Math.Seq.{drop-append_seam, take-append_seam}
-use Rattle.bolt_check.specs.Keys.{Key}
-use Rattle.bolt_tree.specs.Entries.{Value}
-use Rattle.bolt_tree.specs.Paths.{Path}
-use Rattle.bolt_load.specs.HexPaths.{hex_bytes_in, hex_path_in, part_in}
-use Rattle.bolt_load.specs.Lines.{Text}
-use Rattle.bolt_load.specs.Private.Cuts.{IsCut, IsWithout}
-use Rattle.bolt_load.specs.Private.Decoding.{BeginsWith, item_bytes, path_bytes}
+use Rattle.bolt_load.proofs.Words.{BeginsWith, drop-append_seam, hex_bytes_in, hex_path_in, IsCut, IsWithout, item_bytes, Key, option_map, part_in, Path, path_bytes, take-append_seam, Text, Value}
+use Rattle.std.specs.Prelude.{◌/◌, IsSomeAnd}
 use Rattle.bolt_load.proofs.PathLemmas.{first_part, halved, last_part, part_is, path_bytes_push, with_some}
 
 module _ {A : Type 0} (front after whole : List A) (n : ℕ) (is : whole ≡ front ++ after) (many : n ≡ length front) where

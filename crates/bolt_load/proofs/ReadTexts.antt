@@ -1,12 +1,8 @@
 -- What holds of the lines that were decoded holds of the text.
 use Rattle.std.proofs.Common.{◌≡◌, ◌∙◌, ◌+◌, ℕ, List, [], ◌∷◌, ◌++◌, Option, Some, None, length, subst, sym, ap, append_assoc, append-nil}
-use Rattle.std.specs.Option.{IfNone, option_or}
-use Rattle.std.specs.Prelude.{IfErr, IfSome, IsErrAnd, Result, Err, Ok, option_and_then}
-use Rattle.bolt_load.specs.LineFaults.{IsFirstFault, IsLoadFault, RightAfter, place_fault}
-use Rattle.bolt_load.specs.LineMembers.{line_member, members_in}
-use Rattle.bolt_load.specs.Lines.{Text, lines_of}
-use Rattle.bolt_load.specs.Private.Decoding.{StopsAt}
-use Rattle.bolt_load.specs.declared.fault.LineFault.{LineFault}
+use Rattle.bolt_load.proofs.Words.{IfSome, IsFirstFault, IsLoadFault, line_member, LineFault, lines_of, members_in, option_and_then, option_or, place_fault, RightAfter, StopsAt, Text}
+use Rattle.std.specs.Option.{IfNone}
+use Rattle.std.specs.Prelude.{IfErr, IsErrAnd, Result, Err, Ok}
 use Rattle.bolt_load.specs.declared.fault.LoadFault.{LoadFault}
 use Rattle.bolt_load.specs.declared.fault.LoadFault.TheVariants.{Line, Memory}
 

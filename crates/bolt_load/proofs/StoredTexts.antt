@@ -1,24 +1,10 @@
 -- What a right text tells can be stored: its keys and its values have lengths that the format allows, and its sequences have 64 bits.
 use Rattle.std.proofs.Common.{◌≡◌, ◌∙◌, ◌==◌, ◌≤◌, ℕ, false, List, [], ◌∷◌, ◌++◌, Option, Some, None, length, inl, inr, refl, sym, ap, subst, arith}
-use Rattle.std.specs.List.{list_any, slice_split}
-use Rattle.std.specs.Option.{option_map_or}
-use Rattle.std.specs.Prelude.{if◌then◌else◌, option_and_then, option_map, codes}
-use Rattle.std.specs.Str.{bytes_eq}
-use Rattle.std.proofs.lemmas.Bool.{cases_Bool, eqb-false, ltb-false, or_parts}
+use Rattle.bolt_load.proofs.Words.{Bucket, bytes_eq, cases_Bool, Has, has_from_contains, hex_bytes_in, hex_path_in, if◌then◌else◌, is_long_item, is_long_key, IsFitItem, IsListingText, Item, item_in, Key, KeyTooLong, length_fault, line_member, LineFault, lines_of, list_any, Member, member_in, members_in, number_in, option_and_then, option_map, option_map_or, part_in, parts_in, Path, place_fault, RightAfter, shape_fault, slice_split, Text, text_members, Value, ValueTooLong}
+use Rattle.std.specs.Prelude.{codes}
+use Rattle.std.proofs.lemmas.Bool.{eqb-false, ltb-false, or_parts}
 use Rattle.bolt_format.specs.ElementLengths.{IsKeyLength}
-use Rattle.bolt_check.specs.Keys.{Key}
-use Rattle.bolt_tree.specs.Entries.{Bucket, Item, Value}
-use Rattle.bolt_tree.specs.Listing.{Member}
-use Rattle.bolt_tree.specs.Paths.{Path}
-use Rattle.bolt_tree.proofs.ListLemmas.{Has, has_from_contains}
-use Rattle.bolt_layout.specs.Storable.{IsFitItem, IsFitListing}
-use Rattle.bolt_load.specs.HexPaths.{hex_bytes_in, hex_path_in, part_in, parts_in}
-use Rattle.bolt_load.specs.LineFaults.{IsListingText, RightAfter, is_long_item, is_long_key, length_fault, place_fault, shape_fault}
-use Rattle.bolt_load.specs.LineMembers.{item_in, line_member, member_in, members_in, text_members}
-use Rattle.bolt_load.specs.Lines.{Text, lines_of}
-use Rattle.bolt_load.specs.Numbers.{number_in}
-use Rattle.bolt_load.specs.declared.fault.LineFault.{LineFault}
-use Rattle.bolt_load.specs.declared.fault.LineFault.TheVariants.{KeyTooLong, ValueTooLong}
+use Rattle.bolt_layout.specs.Storable.{IsFitListing}
 use Rattle.bolt_load.proofs.DecimalNumbers.{number_is}
 use Rattle.bolt_load.proofs.DecodedLines.{shaped_member}
 use Rattle.bolt_load.proofs.NextLines.{members_first, parts_of}

@@ -1,27 +1,9 @@
 -- What the lines of a text tell is what one tree lists: each member is put at the end of its bucket.
 use Rattle.std.proofs.Common.{◌≡◌, ◌∙◌, inl, inr, ◌<◌, ◌==◌, ◌||◌, Bool, true, false, List, [], ◌∷◌, ◌++◌, Option, Some, None, drop, length, refl, sym, ap, ap₂, subst, arith, append_assoc, append-nil}
-use Rattle.std.specs.Option.{option_or}
-use Rattle.std.specs.Ordering.{is_lt}
-use Rattle.std.specs.Prelude.{nat_lt, option_and_then}
+use Rattle.bolt_load.proofs.Words.{and_parts, begins_of, begins_with, Bucket, contains_from_has, end, Has, has_bucket, has_from_contains, has_split, is_bucket, is_lt, is_open, IsListingText, Item, Less, less_lt, line_member, LineFault, lines_of, listing_of, Member, member_cmp, members_in, nat_tests, option_and_then, option_or, Path, path_above, path_cmp, path_total, place_fault, RightAfter, Rises, shape_fault, Text, text_members, Tree, Value}
+use Rattle.std.specs.Prelude.{nat_lt}
 use Rattle.std.specs.declared.cmp.Ordering.{Ordering}
-use Rattle.std.specs.declared.cmp.Ordering.TheVariants.{Less}
-use Rattle.std.proofs.lemmas.Bool.{and_parts}
-use Rattle.std.proofs.lemmas.Bool.Decides.{nat_tests}
-use Rattle.bolt_tree.specs.Entries.{Bucket, Item, Value}
-use Rattle.bolt_tree.specs.Listing.{Member, member_cmp}
-use Rattle.bolt_tree.specs.ListingParts.{begins_with, has_bucket, is_bucket}
-use Rattle.bolt_tree.specs.Order.{Rises}
-use Rattle.bolt_tree.specs.Paths.{Path, path_cmp}
-use Rattle.bolt_tree.specs.Tree.{Tree, end, listing_of}
-use Rattle.bolt_tree.proofs.ListLemmas.{Has, contains_from_has, has_from_contains, has_split}
 use Rattle.bolt_tree.proofs.Lists.{contains_none}
-use Rattle.bolt_tree.proofs.PartLemmas.{begins_of}
-use Rattle.bolt_tree.proofs.PathOrder.{less_lt, path_total}
-use Rattle.bolt_load.specs.LineFaults.{IsListingText, RightAfter, path_above, place_fault, shape_fault}
-use Rattle.bolt_load.specs.LineMembers.{line_member, members_in, text_members}
-use Rattle.bolt_load.specs.Lines.{Text, lines_of}
-use Rattle.bolt_load.specs.Private.OpenPaths.{is_open}
-use Rattle.bolt_load.specs.declared.fault.LineFault.{LineFault}
 use Rattle.bolt_load.proofs.DecodedLines.{member_alone, shaped_member}
 use Rattle.bolt_load.proofs.EdgeTrees.{OnEdge, front_on_edge, new_on_edge, put_last, put_lists}
 use Rattle.bolt_load.proofs.LastPaths.{IsLast, above_append, next_last, none_last, place_same, split_last}

@@ -1,15 +1,8 @@
 -- A line of three words tells the member of these words, and no other line tells one.
 use Rattle.std.proofs.Common.{◌≡◌, ◌∙◌, ◌==◌, ◌<◌, List, [], ◌∷◌, Option, Some, None, true, false, length, refl, ap, arith}
-use Rattle.std.specs.List.{slice_split}
+use Rattle.bolt_load.proofs.Words.{hex_path_in, is_some, IsCut, IsWithout, Item, item_in, line_member, Member, member_in, option_and_then, option_map, Path, slice_split, Text}
 use Rattle.std.specs.Borrow.{Bor}
-use Rattle.std.specs.Prelude.{MatchOption, is_some, option_and_then, option_map}
-use Rattle.bolt_tree.specs.Entries.{Item}
-use Rattle.bolt_tree.specs.Listing.{Member}
-use Rattle.bolt_tree.specs.Paths.{Path}
-use Rattle.bolt_load.specs.HexPaths.{hex_path_in}
-use Rattle.bolt_load.specs.LineMembers.{item_in, line_member, member_in}
-use Rattle.bolt_load.specs.Lines.{Text}
-use Rattle.bolt_load.specs.Private.Cuts.{IsCut, IsWithout}
+use Rattle.std.specs.Prelude.{MatchOption}
 use Rattle.bolt_load.proofs.CutLemmas.{parts_cut, parts_whole, some_parts}
 
 pub one_word : (line : Text) → IsWithout 32 line → line_member line ≡ None

@@ -1,35 +1,13 @@
 -- The line of a member is read back as that member.
 use Rattle.std.proofs.Common.{◌≡◌, ◌∙◌, ◌==◌, ◌<◌, ◌≤◌, ◌^◌, ℕ, zero, suc, Bool, true, false, List, [], ◌∷◌, ◌++◌, Option, Some, None, codes, length, map, refl, sym, ap, ap₂, arith, append_assoc}
-use Rattle.std.specs.Char.{is_ascii_digit}
-use Rattle.std.specs.Fmt.{decimal}
-use Rattle.std.specs.List.{list_all, list_any, slice_split}
-use Rattle.std.specs.Prelude.{◌/◌, ◌%◌, ◌||◌, if◌then◌else◌, nat_lt, not, option_and_then, option_map, slice_index}
-use Rattle.std.specs.Result.{result_ok}
-use Rattle.std.specs.Str.{all_ascii_digits}
-use Rattle.std.proofs.lemmas.Bool.{and_parts}
-use Rattle.std.proofs.lemmas.Bool.Decides.{nat_tests}
-use Rattle.std.proofs.lemmas.Fmt.{digits_decimal}
-use Rattle.std.proofs.lemmas.List.Elements.{All-append, All-cons, All-nil}
-use Rattle.std.proofs.lemmas.List.Splits.{slice_split_at, slice_split_none}
-use Rattle.hex.specs.Hex.{IsBytes, encode_lower, encode_with, lower_digits}
+use Rattle.bolt_load.proofs.Words.{All-append, all_ascii_digits, and_parts, ArePartsBytes, Bucket, decimal, digits_decimal, encode_lower, encode_with, hex_bytes_in, hex_path, hex_path_in, if◌then◌else◌, is_ascii_digit, is_long_item, is_long_key, IsFitItem, IsMemberOfBytes, IsWithout, Item, item_end, Key, line, line_member, list_any, lower_digits, Member, member_in, member_line, nat_tests, number_in, option_and_then, option_map, part_in, parts_in, Path, result_ok, shape_fault, slice_split, slice_split_at, slice_split_none, Text, Value, value_end}
+use Rattle.std.specs.List.{list_all}
+use Rattle.std.specs.Prelude.{◌/◌, ◌%◌, ◌||◌, nat_lt, not, slice_index}
+use Rattle.std.proofs.lemmas.List.Elements.{All-cons, All-nil}
+use Rattle.hex.specs.Hex.{IsBytes}
 use Rattle.hex.proofs.HexLemmas.{decode_of-encode_lower, length-encode_with}
-use Rattle.bolt_report.specs.JsonReadings.{ArePartsBytes, IsMemberOfBytes}
-use Rattle.bolt_report.specs.Lines.{line}
-use Rattle.bolt_report.specs.ListLines.{hex_path, item_end, member_line}
-use Rattle.bolt_report.specs.PageLines.{value_end}
-use Rattle.bolt_check.specs.Keys.{Key}
-use Rattle.bolt_tree.specs.Entries.{Bucket, Item, Value}
-use Rattle.bolt_tree.specs.Listing.{Member}
-use Rattle.bolt_tree.specs.Paths.{Path}
-use Rattle.bolt_load.specs.HexPaths.{hex_bytes_in, hex_path_in, part_in, parts_in}
-use Rattle.bolt_load.specs.LineFaults.{is_long_item, is_long_key, shape_fault}
-use Rattle.bolt_load.specs.LineMembers.{line_member, member_in}
-use Rattle.bolt_load.specs.Lines.{Text}
-use Rattle.bolt_load.specs.Numbers.{number_in}
-use Rattle.bolt_load.specs.Private.Cuts.{IsWithout}
 use Rattle.bolt_load.proofs.DecimalNumbers.{decimal_numerals, number_written}
 use Rattle.bolt_load.proofs.MemberLemmas.{member_of}
-use Rattle.bolt_layout.specs.Storable.{IsFitItem}
 use Rattle.bolt_load.proofs.StoredTexts.{AreKeys, FitsMember}
 
 -- ---- which bytes are in a line

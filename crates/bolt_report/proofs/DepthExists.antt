@@ -1,17 +1,16 @@
 -- The depth that is found page by page is the bucket's depth.
 use Rattle.std.proofs.Common.{◌≡◌, ◌≢◌, ◌∙◌, ◌==◌, ℕ, zero, suc, ◌+◌, ◌≤◌, ◌⊎◌, max, inl, inr, Bool, true, false, List, [], ◌∷◌, ◌++◌, Option, Some, None, Result, Ok, cond, length, slice_get, refl, sym, ap, subst, arith, if◌then◌else◌}
 use Rattle.std.proofs.Math.Dec.{eqb-suc-zero}
-use Rattle.std.proofs.lemmas.Bool.{cases_Bool, cases_lt}
-use Rattle.std.proofs.lemmas.Option.{none-some, same_Some}
-use Rattle.bolt_check.specs.Nodes.{Entry, Node, Nodes}
+use Rattle.bolt_report.proofs.Words.{At_page, cases_Bool, deepest_from, Enough, enough_kids, enough_node, follow, follow_append, greatest, Has, has_right, height_from, inline, inline_depth, inner_pages, IsBucketIn, IsDeepest, IsDepth, IsHeight, kid_pages, leaf_depth, Node, Nodes, paged, pages_in_bucket, PageSpot, root_spot, roots_in_bucket, same_Some, Spot, step}
+use Rattle.std.proofs.lemmas.Bool.{cases_lt}
+use Rattle.std.proofs.lemmas.Option.{none-some}
+use Rattle.bolt_check.specs.Nodes.{Entry}
 use Rattle.bolt_check.specs.Shape.{child_at, child_in, child_of, leads}
-use Rattle.bolt_check.specs.Subtrees.{Enough, Has, kid_pages, root_page}
-use Rattle.bolt_check.specs.Ways.{At_page, PageSpot, Spot, child_spot, follow, root_spot, step, upper_from}
-use Rattle.bolt_check.proofs.TourSums.{enough_kids, enough_node, has_right}
-use Rattle.bolt_check.proofs.WayFacts.{follow_append, leads_follow, leads_none, none_number, step_child}
-use Rattle.bolt_report.specs.Deepest.{deepest_from, greatest, height_from, inline_depth, inline_in_bucket, leaf_depth}
-use Rattle.bolt_report.specs.Depths.{IsBucketIn, IsDeepest, IsDepth, IsHeight, IsLeafAt, inline, paged}
-use Rattle.bolt_report.specs.Readings.{inner_pages, pages_in_bucket, roots_in_bucket}
+use Rattle.bolt_check.specs.Subtrees.{root_page}
+use Rattle.bolt_check.specs.Ways.{child_spot, upper_from}
+use Rattle.bolt_check.proofs.WayFacts.{leads_follow, leads_none, none_number, step_child}
+use Rattle.bolt_report.specs.Deepest.{inline_in_bucket}
+use Rattle.bolt_report.specs.Depths.{IsLeafAt}
 use Rattle.bolt_report.proofs.DepthSums.{deepest_kids, depth_from, greatest_append, greatest_has, height_kids, page_has}
 
 -- one of the numbers has the greatest

@@ -1,9 +1,8 @@
 -- The depths of a bucket, page by page: a page's own, and those of the pages that it leads to.
 use Rattle.std.proofs.Common.{◌≡◌, ◌∙◌, ℕ, zero, suc, ◌+◌, ◌≤◌, max, inl, inr, Bool, true, false, List, [], ◌∷◌, ◌++◌, Result, Ok, map, refl, sym, ap, subst, arith}
-use Rattle.bolt_check.specs.Nodes.{Entry, Node, Nodes}
-use Rattle.bolt_check.specs.Subtrees.{Enough, Has, kid_pages}
-use Rattle.bolt_report.specs.Deepest.{deepest_from, greatest, height_from, inline_at, inner_inline, leaf_at, leaf_depth, pages_at, roots_at}
-use Rattle.bolt_report.specs.Readings.{inner_pages, inner_roots, pages_in_bucket, roots_in_bucket}
+use Rattle.bolt_report.proofs.Words.{deepest_from, Enough, greatest, Has, height_from, inner_inline, inner_pages, inner_roots, kid_pages, leaf_at, leaf_depth, Node, Nodes, pages_at, pages_in_bucket, roots_in_bucket}
+use Rattle.bolt_check.specs.Nodes.{Entry}
+use Rattle.bolt_report.specs.Deepest.{inline_at, roots_at}
 
 pub greatest_append : {X : Type 0} (f : X → ℕ) (a b : List X) → greatest f (a ++ b) ≡ max (greatest f a) (greatest f b)
 greatest_append f [] b = omega arith

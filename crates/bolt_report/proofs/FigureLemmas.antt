@@ -1,10 +1,7 @@
 -- Sums with a greatest number, and over a list from an element on.
 use Rattle.std.proofs.Common.{◌≡◌, ◌∙◌, ◌≤◌, ℕ, ◌+◌, List, Some, ap, arith, drop, length, slice_get, sum_by}
-use Rattle.std.proofs.lemmas.List.{drop_all}
-use Rattle.std.proofs.lemmas.List.Sums.{sum_by-cons}
-use Rattle.bolt_format.proofs.ListLemmas.{drop_next}
-use Rattle.bolt_report.specs.Figures.{Figure, add_stats, capped, figure}
-use Rattle.bolt_report.specs.declared.statistics.Stats.{Stats}
+use Rattle.bolt_report.proofs.Words.{capped, drop_all, drop_next, figure, Figure, Stats, sum_by-cons}
+use Rattle.bolt_report.specs.Figures.{add_stats}
 
 pub figure_add : (f : Figure) (a b : Stats) → figure f (add_stats a b) ≡ capped (figure f a + figure f b)
 figure_add f a b = grind arith

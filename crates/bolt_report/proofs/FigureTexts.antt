@@ -1,19 +1,15 @@
 -- Figures as an object, piece by piece.
 use Rattle.std.proofs.Common.{◌≡◌, ◌∙◌, ◌++◌, ◌∷◌, [], ℕ, List, Bool, true, false, Option, Some, None, ap, append_assoc, codes, refl, sym}
-use Rattle.std.specs.Prelude.{decimal, fold}
+use Rattle.bolt_report.proofs.Words.{bytes_allocated, bytes_used, decimal, end_object, escape_byte, Form, json_text, json_tokens, line, print_from, size_json, Stats}
+use Rattle.std.specs.Prelude.{fold}
 use Rattle.json.proofs.Printed.Tokens.{print_from-append}
 use Rattle.json.specs.Json.{Json}
-use Rattle.json.specs.Print.{ends, escape_byte, print_from}
-use Rattle.json.specs.Token.{end_object}
-use Rattle.json.specs.Tree.{json_tokens}
+use Rattle.json.specs.Print.{ends}
 use Rattle.bolt_report.specs.FigureForms.{figures_text, number_text}
-use Rattle.bolt_report.specs.Forms.{is_json, item_text, json_in, json_text}
-use Rattle.bolt_report.specs.Lines.{line}
-use Rattle.bolt_report.specs.SizeLines.{bytes_allocated, bytes_used, size_json, size_members}
+use Rattle.bolt_report.specs.Forms.{is_json, item_text, json_in}
+use Rattle.bolt_report.specs.SizeLines.{size_members}
 use Rattle.bolt_report.specs.declared.form.FigureForm.TheVariants as figure_form
-use Rattle.bolt_report.specs.declared.form.Form.{Form}
 use Rattle.bolt_report.specs.declared.form.Form.TheVariants as form
-use Rattle.bolt_report.specs.declared.statistics.Stats.{Stats}
 
 -- of a meta, of which the freelist may have no number
 pub meta_object : (page_size slot txid root sequence high_water : ℕ) (freelist : Option ℕ) → codes "{\"page_size\":" ++ (decimal page_size ++ (codes ",\"meta\":" ++ (decimal slot ++ (codes ",\"txid\":" ++ (decimal txid

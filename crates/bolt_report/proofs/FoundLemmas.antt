@@ -1,15 +1,14 @@
 -- The elements of a page: as many as its count says, and the buckets among the first of them.
 use Rattle.std.proofs.Common.{◌≡◌, length, subst, sym, ◌≢◌, ◌∙◌, ◌+◌, ◌<◌, ℕ, Bool, true, false, List, [], ◌∷◌, Some, ap, arith, refl, slice_get, take}
 use Rattle.std.proofs.lemmas.List.FromFn.{length-map-range_with_len}
-use Rattle.bolt_format.specs.Elements.{branch_element, branch_elements, leaf_element, leaf_elements, LeafElement}
+use Rattle.bolt_report.proofs.Words.{bucket_count, LeafElement, shown}
+use Rattle.bolt_format.specs.Elements.{branch_element, branch_elements, leaf_element, leaf_elements}
 use Rattle.bolt_format.specs.Pages.{shown_branches, shown_leaves}
-use Rattle.bolt_format.specs.Shown.{shown}
 use Rattle.bolt_format.specs.declared.kind.Kind.TheVariants as kind
 use Rattle.bolt_format.specs.declared.good_page.Page.{Page}
 use Rattle.std.specs.Prelude.{cond}
 use Rattle.std.proofs.lemmas.List.Filters.{length-filter_more}
 use Rattle.std.proofs.lemmas.Option.{get_or_from_slice_get, slice_get_within}
-use Rattle.bolt_report.specs.FoundLines.{bucket_count}
 
 pub length-branches : (page : Page) → (shown page).kind ≡ kind.Branch → length (shown page).branches ≡ (shown page).count
 unfolding shown branch_elements

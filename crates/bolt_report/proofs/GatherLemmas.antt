@@ -1,16 +1,11 @@
 -- One text after another, gathered.
 use Rattle.std.proofs.Common.{◌≡◌, ◌∙◌, ◌+◌, ℕ, suc, List, [], ◌∷◌, ◌++◌, Bor, Some, Result, add-one, ap, append_assoc, append-nil, drop, flat_map, refl, slice_get, sym, take}
-use Rattle.std.specs.Prelude.{IsErr}
-use Rattle.bolt_format.specs.Endings.{Ending, whole, cut, broken, halted, ending}
-use Rattle.bolt_format.specs.Wrote.{Wrote}
-use Rattle.bolt_format.specs.declared.sink.Sink.{Ghosts}
-use Rattle.bolt_format.specs.declared.sink.SinkFault.{SinkFault}
-use Rattle.bolt_tree.specs.Paths.{path_of}
-use Rattle.bolt_report.specs.Gathers.{Gathers, left_held}
-use Rattle.bolt_report.specs.Pieces.{later_parts, part_text, path_text, separator}
+use Rattle.bolt_report.proofs.Words.{broken, ending, flat_map-take_more, Gathers, Ghosts, IsErr, later_parts, part_text, path_of, path_text, separator, SinkFault, whole, Wrote, Wrote-none, Wrote-return, Wrote-same, Wrote-then}
+use Rattle.bolt_format.specs.Endings.{Ending, cut, halted}
+use Rattle.bolt_report.specs.Gathers.{left_held}
 use Rattle.bolt_report.specs.declared.pieces.PathForm.{PathForm}
-use Rattle.bolt_format.proofs.ListLemmas.{flat_map-cut_at, flat_map-take_more}
-use Rattle.bolt_format.proofs.WroteLemmas.{Wrote-none, Wrote-return, Wrote-same, Wrote-then, broken_by}
+use Rattle.bolt_format.proofs.ListLemmas.{flat_map-cut_at}
+use Rattle.bolt_format.proofs.WroteLemmas.{broken_by}
 
 none_held : (end : Ending) {holds : List ℕ} → holds ≡ [] → left_held end holds ≡ []
 none_held whole none = none

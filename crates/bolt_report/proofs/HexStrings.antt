@@ -1,25 +1,17 @@
 -- Hexadecimal digits, written part by part, and as JSON strings, which need no escapes.
 use Rattle.std.proofs.Common.{◌≡◌, ◌∙◌, ℕ, ◌+◌, ◌-◌, ◌*◌, ◌/◌, ◌%◌, ◌<◌, List, [], ◌∷◌, ◌++◌, length, map, get_or, take, drop, bit_and, w16, ap, refl, sym, take-append-drop, suc, Bool, true, false, ◌&&◌, ◌==◌, not, nat_le, arith, append_assoc, codes}
-use Rattle.std.specs.Prelude.{slice_index, decimal}
+use Rattle.bolt_report.proofs.Words.{AllPass-from_list_all, and_parts, decimal, digits_json, encode_lower, end_json, escape_byte, front_more, front_none, IsBytes, items_tokens, json_line, line, list_all, lower_digits, parts_json, Path, path_text, print_from, range_with_len, Token, Value}
+use Rattle.std.specs.Prelude.{slice_index}
 use Rattle.std.specs.Int.{to_le_bytes}
-use Rattle.std.specs.List.{range_with_len}
 use Rattle.std.proofs.lemmas.List.{take_rest}
 use Rattle.std.proofs.lemmas.List.FromFn.{get_or-map-range_with_len}
-use Rattle.bolt_format.proofs.WroteFronts.{front_more, front_none}
-use Rattle.hex.specs.Hex.{encode_lower, encode_with, lower_digits, IsBytes}
-use Rattle.std.specs.List.{list_all}
-use Rattle.std.proofs.lemmas.Bool.{and_parts, eqb-false, leb-true, not-true}
-use Rattle.std.proofs.lemmas.List.Sums.{AllPass-from_list_all}
+use Rattle.hex.specs.Hex.{encode_with}
+use Rattle.std.proofs.lemmas.Bool.{eqb-false, leb-true, not-true}
 use Rattle.json.proofs.Printed.Strings.{escape_byte_plain}
-use Rattle.json.specs.Print.{escape, escape_byte, print_from}
-use Rattle.json.specs.Token.{Token}
-use Rattle.json.specs.Tree.{items_tokens, members_tokens}
-use Rattle.bolt_tree.specs.Entries.{Bucket, Value}
-use Rattle.bolt_tree.specs.Paths.{Path}
-use Rattle.bolt_report.specs.Forms.{digits_json}
-use Rattle.bolt_report.specs.JsonLines.{end_json, json_line, parts_json}
-use Rattle.bolt_report.specs.Lines.{line}
-use Rattle.bolt_report.specs.Pieces.{hex_string, path_text}
+use Rattle.json.specs.Print.{escape}
+use Rattle.json.specs.Tree.{members_tokens}
+use Rattle.bolt_tree.specs.Entries.{Bucket}
+use Rattle.bolt_report.specs.Pieces.{hex_string}
 use Rattle.bolt_report.specs.declared.pieces.PathForm.TheVariants.{Strings}
 
 encode_with-append : (digits xs ys : List ℕ) → encode_with digits (xs ++ ys) ≡ encode_with digits xs ++ encode_with digits ys

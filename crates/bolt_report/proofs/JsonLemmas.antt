@@ -1,27 +1,20 @@
 -- JSON lines are read back.
 use Rattle.std.proofs.Common.{◌≡◌, ◌∙◌, ◌+◌, ℕ, ◌<◌, ◌≤◌, ◌^◌, List, [], ◌∷◌, Option, Some, None, arith, ap, codes, map, option_and_then, option_map, refl}
-use Rattle.std.specs.Prelude.{IfSome, decimal}
+use Rattle.bolt_report.proofs.Words.{bytes_allocated, bytes_used, capped, decimal, digits_json, encode_lower, end_json, is_utf8, IsBytes, item_json, json_text, Member, parts_json, Path, size_json, Stats, Value}
+use Rattle.std.specs.Prelude.{IfSome}
 use Rattle.std.specs.Result.{result_ok}
-use Rattle.std.specs.Str.{is_utf8}
 use Rattle.std.specs.Str.Parse.{digits_value}
 use Rattle.std.proofs.lemmas.Bool.{cond_both}
 use Rattle.std.proofs.lemmas.Fmt.{decimal_is_IsNumeral}
 use Rattle.hex.proofs.HexLemmas.{decode_of-encode_lower}
-use Rattle.hex.specs.Hex.{IsBytes, encode_lower}
 use Rattle.json.proofs.Printed.Decimals.{IsNumber-decimal}
 use Rattle.json.proofs.Printed.Trees.{document-print}
 use Rattle.json.specs.Json.{Items, Json, array, document, member, no_members, object, string}
 use Rattle.json.specs.Tree.{HasNumbers, ItemsHaveNumbers, MembersHaveNumbers, depth, items_depth, members_depth}
-use Rattle.bolt_tree.specs.Entries.{Bucket, Item, Value}
-use Rattle.bolt_tree.specs.Listing.{Member}
-use Rattle.bolt_tree.specs.Paths.{Path}
+use Rattle.bolt_tree.specs.Entries.{Bucket, Item}
 use Rattle.bolt_report.specs.FigureForms.{Named, figures_json, figures_then, json_name, number_json}
-use Rattle.bolt_report.specs.Figures.{capped}
-use Rattle.bolt_report.specs.Forms.{digits_json, item_json, json_text}
-use Rattle.bolt_report.specs.JsonLines.{end_json, member_json, parts_json}
+use Rattle.bolt_report.specs.JsonLines.{member_json}
 use Rattle.bolt_report.specs.JsonReadings.{ArePartsBytes, HaveWords, IsItemOfBytes, IsMemberOfBytes, count_of, digits_of, end_of, figures_in, figures_of, item_of, member_of, parts_of, size_of}
-use Rattle.bolt_report.specs.SizeLines.{bytes_allocated, bytes_used, size_json}
-use Rattle.bolt_report.specs.declared.statistics.Stats.{Stats}
 
 -- a key or a value as JSON, and what reads it
 pub record Reads (shown : List ℕ → Json) (read : Json → Option (List ℕ)) : Type 0 where

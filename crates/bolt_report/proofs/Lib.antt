@@ -21,3 +21,4 @@ pub mod SizesExist
 pub mod StatsExist
 pub mod StatsOnce
 mod TokenLemmas
+mod Words

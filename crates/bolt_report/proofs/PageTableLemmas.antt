@@ -1,25 +1,17 @@
 -- The rows of pages by their roles, the lines of a map, and the free pages past the file's end.
 use Rattle.std.proofs.Common.{◌≡◌, ◌∙◌, ℕ, zero, suc, ◌+◌, ◌-◌, ◌<◌, ◌≤◌, true, List, Some, cond, length, min, ap, refl, slice_get, sym, arith, ◌*◌}
 use Rattle.std.specs.Prelude.{count_by}
-use Rattle.std.specs.List.{range_with_len}
-use Rattle.std.proofs.Math.Logic.{∥∥₁_elim}
+use Rattle.bolt_report.proofs.Words.{bytes_of, Checked, div_ceil, length-range_with_len, line_at, map_line, Meta, meta_of, props, range_with_len, slice_get-get_or, sum_by-cons, ∥∥₁_elim}
 use mathlib.Core.Sum.{⊎_set}
 use Rattle.std.proofs.Math.Nat.{mul-le-mul_right}
-use Rattle.std.proofs.Props.{props}
 use Rattle.std.proofs.lemmas.Grind.{div_ceil_times}
-use Rattle.std.proofs.lemmas.List.FromFn.{get_or-range_with_len, length-range_with_len}
-use Rattle.std.proofs.lemmas.List.Sums.{sum_by-cons}
-use Rattle.std.proofs.lemmas.Option.{slice_get-get_or}
-use Rattle.bolt_format.specs.declared.meta.Meta.{Meta}
-use Rattle.bolt_check.specs.CheckedFiles.{bytes_of, has_accounts, meta_of}
+use Rattle.std.proofs.lemmas.List.FromFn.{get_or-range_with_len}
+use Rattle.bolt_check.specs.CheckedFiles.{has_accounts}
 use Rattle.bolt_check.specs.Roles.{AreRoles, HasRole}
-use Rattle.bolt_check.specs.declared.checked_file.Checked.{Checked}
 use Rattle.bolt_check.specs.declared.role_table.Role.{Role}
 use Rattle.bolt_check.specs.declared.role_table.Role.TheVariants as role
 use Rattle.bolt_check.proofs.RoleFacts.{one_role, past_is_free, size_positive, with_accounts}
 use Rattle.bolt_report.specs.PageTables.{begun, is_free, page_row, pages_in, pages_past}
-use Rattle.std.specs.Int.{div_ceil}
-use Rattle.bolt_report.specs.PageMaps.{line_at, map_line}
 
 -- where each of these pages is free, as many are free as there are
 all_free : (roles : ℕ → Role) (from n : ℕ) → ((k : ℕ) → from ≤ k → k < from + n → roles k ≡ role.Free) → count_by (λ k. is_free (roles k)) (range_with_len from n) ≡ n

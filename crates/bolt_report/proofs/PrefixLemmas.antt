@@ -1,16 +1,11 @@
 -- The entries that begin with given bytes: none of them is below these bytes, and they lie side by side.
 use Rattle.std.proofs.Common.{◌≡◌, ◌==◌, ◌+◌, ℕ, suc, Bool, true, false, not, inl, inr, List, [], ◌∷◌, cond, drop, refl, ap, subst, arith}
 use Rattle.std.proofs.lemmas.Bool.Decides.{nat_tests}
-use Rattle.std.specs.List.{Contains, starts_with}
-use Rattle.bolt_format.specs.Elements.{LeafElement}
-use Rattle.bolt_check.specs.Keys.{Key, key_cmp, key_lt}
+use Rattle.bolt_report.proofs.Words.{begins, Contains, entry_cmp, Key, key_lt, LeafElement, least_from, not_true, Rises, starts_with, with_prefix}
+use Rattle.bolt_check.specs.Keys.{key_cmp}
 use Rattle.bolt_check.proofs.KeyLaws.{lt_trans}
-use Rattle.bolt_tree.specs.Entries.{entry_cmp}
-use Rattle.bolt_tree.specs.Order.{Rises}
-use Rattle.bolt_tree.specs.Places.{least_from}
-use Rattle.bolt_tree.proofs.Filters.{filter_none, lt_of, not_true}
+use Rattle.bolt_tree.proofs.Filters.{filter_none, lt_of}
 use Rattle.bolt_tree.proofs.Lists.{contains_cases, contains_none}
-use Rattle.bolt_report.specs.KeyPrefixes.{with_prefix, begins}
 
 abbrev pub key_begins : Key → Key → Bool
 key_begins key prefix = starts_with (λ a b. a == b) key prefix

@@ -1,38 +1,21 @@
 -- A cursor goes along the entries that begin with given bytes: what it has gone over, and what is left.
 -- Rests on that a bucket's entries in order exist, and are one.
 use Rattle.std.proofs.Common.{◌≡◌, ◌∙◌, ◌<◌, ◌⊎◌, inl, inr, ◌+◌, ℕ, zero, suc, Bool, true, false, List, [], ◌∷◌, Option, Some, None, Result, Ok, Err, cond, drop, length, nat_lt, refl, slice_get, sym, ap, subst, arith, add-one}
-use Rattle.std.proofs.Math.Logic.{∥∥₁_elim}
-use Rattle.std.specs.List.{Contains}
+use Rattle.bolt_report.proofs.Words.{begins, bytes_of, cond-true, Contains, contains_head, contains_tail, cursor_checked, cursor_start, drop_all, drop_next, entries_left, entry_cmp, entry_view, EntryView, Form, Key, key_lt, LeafElement, least_from, meta_of, On, Past, Place, ReportFault, Rises, same_Some, shown_entry, with_prefix, ∥∥₁_elim}
 use Rattle.std.specs.Option.{option_map}
 use Rattle.std.specs.Prelude.{⊤, IfErr, IsErrAnd}
-use Rattle.std.proofs.lemmas.Bool.{cond-true}
-use Rattle.std.proofs.lemmas.List.{drop_all}
-use Rattle.std.proofs.lemmas.Option.{same_Some}
-use Rattle.bolt_format.specs.Elements.{LeafElement}
-use Rattle.bolt_format.proofs.ListLemmas.{drop_next}
-use Rattle.bolt_check.specs.CheckedFiles.{bytes_of, meta_of}
-use Rattle.bolt_check.specs.Keys.{Key, key_lt}
 use Rattle.bolt_tree.specs.BucketViews.{AreSorted, BucketView}
 use Rattle.bolt_tree.specs.CursorBounds.{OpensByNext, OpensSeek}
-use Rattle.bolt_tree.specs.Cursors.{cursor_checked, cursor_start}
-use Rattle.bolt_tree.specs.Entries.{EntryView, entry_cmp, entry_view}
-use Rattle.bolt_tree.specs.EntriesLeft.{entries_left}
 use Rattle.bolt_tree.specs.Openings.{IsGap, IsSeekCount, sum_to}
-use Rattle.bolt_tree.specs.Order.{Rises}
 use Rattle.bolt_check.specs.Counts.{counted}
-use Rattle.bolt_tree.specs.Places.{On, Past, Place, least_from, next_move, nothing_at, onto, place_in, seek_move}
-use Rattle.bolt_tree.specs.ShownEntries.{shown_entry}
+use Rattle.bolt_tree.specs.Places.{next_move, nothing_at, onto, place_in, seek_move}
 use Rattle.bolt_tree.specs.declared.cursor.Cursor.{Cursor}
 use Rattle.bolt_tree.specs.declared.entry.Entry.{Entry}
 use Rattle.bolt_tree.proofs.AllEntries.{sorted_at}
 use Rattle.bolt_tree.proofs.CursorMoves.{none_past, not_below}
 use Rattle.bolt_tree.proofs.Leaving.{TheEntries, the_one}
-use Rattle.bolt_tree.proofs.Lists.{contains_head, contains_tail}
 use Rattle.bolt_tree.proofs.PagerLemmas.{counted_more}
-use Rattle.bolt_report.specs.KeyPrefixes.{with_prefix, begins}
-use Rattle.bolt_report.specs.declared.fault.ReportFault.{ReportFault}
 use Rattle.bolt_report.specs.declared.fault.ReportFault.TheVariants.{NoMemory, Sink}
-use Rattle.bolt_report.specs.declared.form.Form.{Form}
 use Rattle.bolt_report.specs.declared.form.Form.TheVariants.{Json}
 use Rattle.bolt_report.proofs.PrefixLemmas.{after_least, from_least, key_begins, none_later}
 

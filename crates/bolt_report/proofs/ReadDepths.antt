@@ -1,14 +1,6 @@
 -- Depths of what is still to be read, through the reading of a page and of a bucket.
 use Rattle.std.proofs.Common.{◌≡◌, ◌∙◌, ℕ, zero, suc, ◌+◌, max, Bool, true, false, List, [], ◌∷◌, ◌++◌, Result, Ok, Err, map, refl, ap, arith}
-use Rattle.std.proofs.lemmas.List.{map-append}
-use Rattle.bolt_format.specs.declared.meta.Meta.{Meta}
-use Rattle.bolt_check.specs.Nodes.{Node, Nodes, node_at}
-use Rattle.bolt_check.specs.Subtrees.{Enough}
-use Rattle.bolt_report.specs.Deepest.{deepest_of, depth_of, greatest, height_from, height_of, inner_inline, leaf_at, leaf_depth, pages_at}
-use Rattle.bolt_report.specs.Figures.{capped}
-use Rattle.bolt_report.specs.Readings.{inner_pages, inner_roots, numbers_of, unread_bucket, unread_page}
-use Rattle.bolt_report.specs.declared.bucket_stats.UnreadBucket.{UnreadBucket}
-use Rattle.bolt_report.specs.declared.bucket_stats.UnreadPage.{UnreadPage}
+use Rattle.bolt_report.proofs.Words.{capped, deepest_of, depth_of, Enough, greatest, height_from, height_of, inner_inline, inner_pages, inner_roots, leaf_at, leaf_depth, map-append, Meta, Node, node_at, Nodes, numbers_of, pages_at, unread_bucket, unread_page, UnreadBucket, UnreadPage}
 use Rattle.bolt_report.proofs.DepthSums.{deepest_kids, greatest_append, greatest_map, height_kids}
 
 -- a depth that is capped counts the same

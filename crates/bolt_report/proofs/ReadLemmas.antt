@@ -1,19 +1,11 @@
 -- What reading a page opens and finds.
 use Rattle.std.proofs.Common.{◌≡◌, ◌∙◌, ◌+◌, ℕ, true, false, List, [], ◌∷◌, ◌++◌, Some, flat_map, map, take, slice_get, refl, sym, ap, add-one, append_assoc, arith, max}
-use Rattle.std.proofs.lemmas.List.{map-append}
-use Rattle.bolt_format.specs.Elements.{BranchElement, LeafElement}
-use Rattle.bolt_format.specs.Pages.{PageView, page_at}
+use Rattle.bolt_report.proofs.Words.{BranchElement, Enough, enough_node, flat_map-take_more, greatest, inline_depth, kid_pages, leaf_entry, LeafElement, map-append, Meta, node_at, node_is, page_at, root_page_of, unread_page, UnreadPage}
+use Rattle.bolt_format.specs.Pages.{PageView}
 use Rattle.bolt_format.specs.declared.kind.Kind.TheVariants as kind
-use Rattle.bolt_format.specs.declared.meta.Meta.{Meta}
-use Rattle.bolt_check.specs.Nodes.{branch_entry, leaf_entry, node_at}
-use Rattle.bolt_check.specs.Subtrees.{Enough, kid_pages}
-use Rattle.bolt_check.proofs.TourSums.{enough_node}
-use Rattle.bolt_check.proofs.TreePages.{node_is}
-use Rattle.bolt_report.specs.Deepest.{greatest, inline_depth}
-use Rattle.bolt_report.specs.Readings.{unread_page, root_page_of}
-use Rattle.bolt_report.specs.declared.bucket_stats.UnreadPage.{UnreadPage}
+use Rattle.bolt_check.specs.Nodes.{branch_entry}
 use Rattle.bolt_report.proofs.DepthSums.{greatest_append}
-use Rattle.bolt_format.proofs.ListLemmas.{flat_map-take_more, take_next}
+use Rattle.bolt_format.proofs.ListLemmas.{take_next}
 
 -- one child more was opened
 pub children_next : (cur new old : List UnreadPage) (p : UnreadPage) (opened : BranchElement → UnreadPage) (xs : List BranchElement) (i : ℕ) (e : BranchElement)

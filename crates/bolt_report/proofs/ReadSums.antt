@@ -1,17 +1,8 @@
 -- Sums over what is still to be read, through the reading of a page.
 use Rattle.std.proofs.Common.{◌≡◌, ◌∙◌, ◌+◌, ◌-◌, ◌≤◌, ◌⊎◌, ℕ, inl, inr, Bool, true, false, List, [], ◌∷◌, ◌++◌, Ok, map, take, sum_by, refl, sym, ap, subst, arith}
-use Rattle.std.proofs.Math.Logic.{∥∥₁_map}
-use Rattle.std.proofs.lemmas.List.{map-append}
-use Rattle.std.proofs.lemmas.List.Sums.{sum_by-cons}
-use Rattle.bolt_format.specs.declared.meta.Meta.{Meta}
-use Rattle.bolt_check.specs.Nodes.{Entry, Node, node_at}
-use Rattle.bolt_check.specs.Subtrees.{Enough, Has, kid_pages, weight}
-use Rattle.bolt_check.proofs.TourSums.{enough_kids, has_either, has_left, has_right, sum_append, weight_kids}
-use Rattle.bolt_report.specs.Figures.{Figure, bucket_figure, figure}
-use Rattle.bolt_report.specs.Readings.{AreGood, inner_pages, inner_roots, numbers_of, pages_in_bucket, roots_in_bucket, roots_of, total_of}
-use Rattle.bolt_report.specs.declared.statistics.Stats.{Stats}
-use Rattle.bolt_report.specs.declared.bucket_stats.UnreadBucket.{UnreadBucket}
-use Rattle.bolt_report.specs.declared.bucket_stats.UnreadPage.{UnreadPage}
+use Rattle.bolt_report.proofs.Words.{AreGood, bucket_figure, Enough, enough_kids, Figure, figure, Has, has_right, inner_pages, inner_roots, kid_pages, map-append, Meta, Node, node_at, numbers_of, pages_in_bucket, roots_in_bucket, roots_of, Stats, sum_by-cons, total_of, UnreadBucket, UnreadPage, weight, ∥∥₁_map}
+use Rattle.bolt_check.specs.Nodes.{Entry}
+use Rattle.bolt_check.proofs.TourSums.{has_either, has_left, sum_append, weight_kids}
 use Rattle.bolt_report.proofs.DepthSums.{page_has, root_has}
 
 -- the last page was taken

@@ -1,17 +1,11 @@
 -- What was written, if a call also fails for other reasons than its sink.
 use Rattle.std.proofs.Common.{◌≡◌, ◌∙◌, ◌<◌, List, ℕ, ◌++◌, Result, Ok, Err, Some, ap, get_or, length, map, option_map, slice_get, sym, ◌+◌, flat_map, take}
 use Rattle.std.specs.Result.{IsErrAnd}
-use Rattle.std.proofs.lemmas.List.{length-map}
-use Rattle.std.proofs.lemmas.Option.{slice_get-get_or, slice_get-map}
-use Rattle.std.specs.Prelude.{IsErr}
-use Rattle.bolt_format.specs.Endings.{broken, ending, whole}
-use Rattle.bolt_format.specs.Wrote.{Wrote}
-use Rattle.bolt_format.specs.declared.sink.Sink.{Ghosts}
-use Rattle.bolt_format.specs.declared.sink.SinkFault.{SinkFault}
-use Rattle.bolt_format.proofs.WroteFronts.{WroteFront, front_stop}
-use Rattle.bolt_format.proofs.WroteLemmas.{Wrote-element, Wrote-element_return, Wrote-elements, Wrote-ends, Wrote-halt, Wrote-return, Wrote-stop, Wrote-stop_halted, Wrote-then}
+use Rattle.bolt_report.proofs.Words.{broken, ending, Ghosts, IsErr, length-map, ReportFault, SinkFault, slice_get-get_or, whole, Wrote, Wrote-element, Wrote-element_return, Wrote-elements, Wrote-return, Wrote-then, WroteFront}
+use Rattle.std.proofs.lemmas.Option.{slice_get-map}
+use Rattle.bolt_format.proofs.WroteFronts.{front_stop}
+use Rattle.bolt_format.proofs.WroteLemmas.{Wrote-ends, Wrote-halt, Wrote-stop, Wrote-stop_halted}
 use Rattle.bolt_report.specs.ReportEndings.{fault_ending, report_ending}
-use Rattle.bolt_report.specs.declared.fault.ReportFault.{ReportFault}
 use Rattle.bolt_report.specs.declared.fault.ReportFault.TheVariants as fault
 
 -- a fault that was passed on

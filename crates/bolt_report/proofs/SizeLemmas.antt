@@ -1,29 +1,15 @@
 -- The lines of the buckets among entries, entry by entry.
 use Rattle.std.proofs.Common.{◌≡◌, ◌∙◌, ℕ, zero, suc, drop, Bool, true, false, List, [], ◌∷◌, ◌++◌, Some, ap, append-nil, cond, filter, map, refl, subst, sym, rules}
-use Rattle.std.proofs.Math.Logic.{∥∥₁_elim}
-use Rattle.std.proofs.Props.{props}
+use Rattle.bolt_report.proofs.Words.{AllByRecursion, AreSized, bucket_checked, bucket_start, bytes_of, Checked, Contains, contains_head, contains_tail, entries_left, entry_view, EntryView, Form, IsStatsOf, Key, LeafElement, Meta, meta_of, On, Past, Place, props, Sized, sizes_text, Start, start_of, Stats, the_entries, ∥∥₁_elim}
 use Rattle.std.proofs.lemmas.Grind.{flat_map-append}
-use Rattle.std.specs.List.{AllByRecursion, Contains}
-use Rattle.bolt_format.specs.Elements.{LeafElement}
-use Rattle.bolt_format.specs.declared.meta.Meta.{Meta}
-use Rattle.bolt_check.specs.CheckedFiles.{bytes_of, meta_of}
-use Rattle.bolt_check.specs.Keys.{Key}
-use Rattle.bolt_check.specs.declared.checked_file.Checked.{Checked}
 use Rattle.bolt_tree.specs.BucketViews.{entries_of}
-use Rattle.bolt_tree.specs.Buckets.{bucket_checked, bucket_start}
 use Rattle.bolt_tree.specs.Entries as items
-use Rattle.bolt_tree.specs.Entries.{EntryView, Start, entry_view, item_of, start_of}
-use Rattle.bolt_tree.specs.EntriesLeft.{entries_left}
+use Rattle.bolt_tree.specs.Entries.{item_of}
 use Rattle.bolt_tree.specs.Lookups.{IsBucketAt}
-use Rattle.bolt_tree.specs.Places.{Fresh, On, Past, Place}
+use Rattle.bolt_tree.specs.Places.{Fresh}
 use Rattle.bolt_tree.specs.declared.bucket.Bucket.{Bucket}
-use Rattle.bolt_tree.proofs.Leaving.{the_entries}
-use Rattle.bolt_tree.proofs.Lists.{contains_head, contains_tail}
 use Rattle.bolt_tree.proofs.Named.{entry_once}
-use Rattle.bolt_report.specs.SizeLines.{AreSized, Sized, size_line, size_text, sizes_text}
-use Rattle.bolt_report.specs.StatsOf.{IsStatsOf}
-use Rattle.bolt_report.specs.declared.statistics.Stats.{Stats}
-use Rattle.bolt_report.specs.declared.form.Form.{Form}
+use Rattle.bolt_report.specs.SizeLines.{size_line, size_text}
 use Rattle.bolt_report.proofs.StatsOnce.{one_stats}
 
 abbrev pub buckets_of : List LeafElement → List LeafElement

@@ -1,16 +1,10 @@
 -- The sizes of the buckets in a bucket of a sound file exist, and are one list.
 -- Rests on that each bucket of the tree has one set of figures (StatsExist, StatsOnce), and that a bucket in a bucket of the tree is one of the tree.
 use Rattle.std.proofs.Common.{◌≡◌, ◌∙◌, ℕ, Bool, true, false, List, [], ◌∷◌, ap, map, refl, subst, sym}
-use Rattle.std.specs.List.{AllByRecursion, Contains}
-use Rattle.bolt_format.specs.Elements.{LeafElement}
-use Rattle.bolt_format.specs.declared.meta.Meta.{Meta}
-use Rattle.bolt_check.specs.Sound.{HasSoundTrees}
-use Rattle.bolt_tree.specs.Entries.{AreEntries, IsEntry, IsStart, Root_page, Start, start_of}
-use Rattle.bolt_tree.specs.Paths.{Names, Path}
+use Rattle.bolt_report.proofs.Words.{AllByRecursion, AreSized, Contains, contains_head, contains_tail, HasSoundTrees, IsStart, IsStatsOf, LeafElement, Meta, Path, Root_page, Sized, Start, start_of}
+use Rattle.bolt_tree.specs.Entries.{AreEntries, IsEntry}
+use Rattle.bolt_tree.specs.Paths.{Names}
 use Rattle.bolt_tree.proofs.BucketWays.{root_starts, starts_below, starts_named}
-use Rattle.bolt_tree.proofs.Lists.{contains_head, contains_tail}
-use Rattle.bolt_report.specs.SizeLines.{AreSized, Sized}
-use Rattle.bolt_report.specs.StatsOf.{IsStatsOf}
 use Rattle.bolt_report.proofs.SizeLemmas.{HasStats, by_kind}
 use Rattle.bolt_report.proofs.StatsExist.{some_stats}
 use Rattle.bolt_report.proofs.StatsOnce.{one_stats}

@@ -1,22 +1,13 @@
 -- The figures of a bucket exist, and are those that the reading of its pages returns.
 use Rattle.std.proofs.Common.{◌≡◌, ◌≢◌, ◌∙◌, ℕ, suc, ◌+◌, ◌≤◌, ◌⊎◌, inl, inr, Bool, true, false, List, [], ◌==◌, ◌∷◌, ◌++◌, Option, Some, None, Result, Ok, Err, if◌then◌else◌, sum_by, refl, sym, ap, subst, arith}
-use Rattle.bolt_format.specs.declared.meta.Meta.{Meta}
-use Rattle.bolt_check.specs.Nodes.{Entry, Node, Nodes, node_at}
+use Rattle.bolt_report.proofs.Words.{AreGood, At_page, bucket_figure, capped, depth_of, Enough, Figure, figure, follow, follow_append, HasSoundTrees, Inline_page, IsDepth, IsStart, IsStatsOf, Meta, Node, node_at, Nodes, one_tour, own_figure, PageSpot, reached, Root_page, root_spot, Spot, Start, Stats, step, sum_by-cons, total_of, tour_figure, weight}
+use Rattle.bolt_check.specs.Nodes.{Entry}
 use Rattle.bolt_check.specs.OnWays.{IsOnWay}
-use Rattle.bolt_check.specs.Sound.{HasSoundTrees}
-use Rattle.bolt_check.specs.Subtrees.{Enough, weight}
-use Rattle.bolt_check.specs.Ways.{At_inline, At_page, PageSpot, SpanHas, Spot, follow, reached, root_spot, step, step_at, step_entry}
-use Rattle.std.proofs.lemmas.List.Sums.{sum_by-cons}
-use Rattle.bolt_check.proofs.TourLemmas.{one_tour}
+use Rattle.bolt_check.specs.Ways.{At_inline, SpanHas, step_at, step_entry}
 use Rattle.bolt_check.proofs.TourSums.{bucket_sum, spot_weight}
-use Rattle.bolt_check.proofs.WayFacts.{follow_append, in_own_span}
-use Rattle.bolt_tree.specs.Entries.{Inline_page, IsStart, Root_page, Start}
-use Rattle.bolt_report.specs.Deepest.{depth_of}
-use Rattle.bolt_report.specs.Depths.{IsDepth}
-use Rattle.bolt_report.specs.Figures.{Figure, bucket_figure, capped, figure, inline_figure}
-use Rattle.bolt_report.specs.Readings.{AreGood, own_figure, total_of}
-use Rattle.bolt_report.specs.StatsOf.{IsPagedStats, IsStatsOf, spot_figure, tour_figure}
-use Rattle.bolt_report.specs.declared.statistics.Stats.{Stats}
+use Rattle.bolt_check.proofs.WayFacts.{in_own_span}
+use Rattle.bolt_report.specs.Figures.{inline_figure}
+use Rattle.bolt_report.specs.StatsOf.{IsPagedStats, spot_figure}
 use Rattle.bolt_report.proofs.DepthExists.{AllFilled, depth_is}
 use Rattle.bolt_report.proofs.StatsOnce.{stats_from}
 

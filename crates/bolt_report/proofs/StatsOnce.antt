@@ -1,14 +1,9 @@
 -- The figures of a bucket are one.
 use Rattle.std.proofs.Common.{◌≡◌, ◌∙◌, ℕ, ◌+◌, ◌≤◌, inl, inr, List, sym, ap, refl, arith}
-use Rattle.bolt_format.specs.declared.meta.Meta.{Meta}
-use Rattle.bolt_check.specs.Nodes.{Entry, Nodes, node_at}
-use Rattle.bolt_check.specs.Ways.{reached}
-use Rattle.bolt_check.proofs.TourLemmas.{one_tour}
-use Rattle.bolt_tree.specs.Entries.{Inline_page, Root_page, Start}
-use Rattle.bolt_report.specs.Depths.{IsBucketIn, IsDeepest, IsDepth, IsHeight, inline, paged}
-use Rattle.bolt_report.specs.Figures.{Figure, bucket_figure, buckets, inline_buckets, inline_used, keys, branch_pages, branch_overflow, branch_allocated, branch_used, leaf_pages, leaf_overflow, leaf_allocated, leaf_used, capped, figure}
-use Rattle.bolt_report.specs.StatsOf.{AreSums, IsStatsOf, tour_figure}
-use Rattle.bolt_report.specs.declared.statistics.Stats.{Stats}
+use Rattle.bolt_report.proofs.Words.{bucket_figure, capped, Figure, figure, inline, Inline_page, IsBucketIn, IsDeepest, IsDepth, IsHeight, IsStatsOf, Meta, node_at, Nodes, one_tour, paged, reached, Root_page, Start, Stats, tour_figure}
+use Rattle.bolt_check.specs.Nodes.{Entry}
+use Rattle.bolt_report.specs.Figures.{buckets, inline_buckets, inline_used, keys, branch_pages, branch_overflow, branch_allocated, branch_used, leaf_pages, leaf_overflow, leaf_allocated, leaf_used}
+use Rattle.bolt_report.specs.StatsOf.{AreSums}
 
 one_height : (nodes : Nodes) (root a b : ℕ) → IsHeight nodes root a → IsHeight nodes root b → a ≡ b
 one_height nodes root a b h k =

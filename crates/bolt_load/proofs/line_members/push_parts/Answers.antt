@@ -1,7 +1,6 @@
 -- Each part has half as many bytes as digits.
 use Rattle.std.proofs.Common.{◌∙◌, ap}
-use Rattle.std.proofs.lemmas.List.{map-append}
-use Rattle.bolt_tree.specs.Paths.{path_of}
+use Rattle.bolt_load.proofs.Words.{map-append, path_of}
 use Rattle.bolt_load.proofs.PushedParts.{all_pushed, last_fits, none_pushed, part_fits, part_pushed}
 use Rattle.bolt_load.proofs.line_members.push_parts.Goals as goal
 

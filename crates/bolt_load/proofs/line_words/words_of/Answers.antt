@@ -1,7 +1,7 @@
 -- The words lie between the spaces.
 use Rattle.std.proofs.Common.{◌∙◌, sym, ap}
-use Rattle.std.specs.Prelude.{option_and_then}
-use Rattle.bolt_load.specs.Private.LineWords.{word_item, words_member}
+use Rattle.bolt_load.proofs.Words.{option_and_then, word_item}
+use Rattle.bolt_load.specs.Private.LineWords.{words_member}
 use Rattle.bolt_load.proofs.WordLemmas.{more_words, no_item, one_word, two_words, words_item}
 use Rattle.bolt_load.proofs.line_words.words_of.Goals as goal
 

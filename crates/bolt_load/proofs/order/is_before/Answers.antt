@@ -1,7 +1,7 @@
 -- Paths are compared as their parts are.
 use Rattle.std.proofs.Common.{◌∙◌, Bor, List, ap, sym, ℕ}
 use Rattle.std.specs.Cmp.Derive.Mapped.{lex_map}
-use Rattle.std.specs.Ordering.{is_lt}
+use Rattle.bolt_load.proofs.Words.{is_lt}
 use Rattle.bolt_check.specs.Keys.{key_cmp}
 use Rattle.bolt_load.proofs.order.is_before.Goals as goal
 

@@ -1,8 +1,5 @@
 use Rattle.std.proofs.Common.{◌≡◌, ◌+◌, ◌⊎◌, ℕ, max, sum_by, vec_len}
-use Rattle.bolt_check.specs.Subtrees.{Has}
-use Rattle.bolt_report.specs.Deepest.{greatest}
-use Rattle.bolt_report.specs.Readings.{unread_bucket, roots_of}
-use Rattle.bolt_report.specs.declared.bucket_stats.UnreadBucket.{UnreadBucket}
+use Rattle.bolt_report.proofs.Words.{greatest, Has, roots_of, unread_bucket, UnreadBucket}
 use Rattle.bolt_report.proofs.bucket_stats.add_buckets.Given as goal
 
 -- what is open and what is left are the whole

@@ -1,9 +1,5 @@
 use Rattle.std.proofs.Common.{◌+◌, ℕ, ap}
-use Rattle.bolt_format.specs.ElementPlaces.{branch_view}
-use Rattle.bolt_format.specs.Elements.{BranchElement}
-use Rattle.bolt_format.specs.Shown.{shown}
-use Rattle.bolt_report.specs.Figures.{capped}
-use Rattle.bolt_report.specs.Readings.{unread_page}
+use Rattle.bolt_report.proofs.Words.{branch_view, BranchElement, capped, shown, unread_page}
 use Rattle.bolt_report.proofs.ReadLemmas.{children_next}
 use Rattle.bolt_report.proofs.bucket_stats.add_children.Goals as goal
 

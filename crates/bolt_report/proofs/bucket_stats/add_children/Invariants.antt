@@ -1,8 +1,5 @@
 use Rattle.std.proofs.Common.{◌≡◌, ◌+◌, ◌++◌, map, take}
-use Rattle.bolt_format.specs.Elements.{BranchElement}
-use Rattle.bolt_format.specs.Shown.{shown}
-use Rattle.bolt_report.specs.Figures.{capped}
-use Rattle.bolt_report.specs.Readings.{unread_page}
+use Rattle.bolt_report.proofs.Words.{BranchElement, capped, shown, unread_page}
 use Rattle.bolt_report.proofs.bucket_stats.add_children.Given as goal
 
 -- the children of the elements before this one were opened

@@ -1,9 +1,5 @@
 use Rattle.std.proofs.Common.{◌≡◌, ◌++◌, flat_map, take}
-use Rattle.bolt_format.specs.Elements.{LeafElement}
-use Rattle.bolt_format.specs.Shown.{shown}
-use Rattle.bolt_check.specs.Nodes.{leaf_entry}
-use Rattle.bolt_report.specs.Deepest.{greatest, inline_depth}
-use Rattle.bolt_report.specs.Readings.{root_page_of}
+use Rattle.bolt_report.proofs.Words.{greatest, inline_depth, leaf_entry, LeafElement, root_page_of, shown}
 use Rattle.bolt_report.proofs.bucket_stats.find_buckets.Given as goal
 
 -- the buckets of the elements before this one were found

@@ -1,12 +1,5 @@
 use Rattle.std.proofs.Common.{◌≡◌, ◌∙◌, ◌∷◌, [], ℕ, List, ap, arith}
-use Rattle.std.proofs.Math.Logic.{∥∥₁_elim, ∥∥₁_map, ∥∥₁_prop}
-use Rattle.bolt_check.specs.CheckedFiles.{bytes_of, meta_of}
-use Rattle.bolt_check.specs.Nodes.{node_at}
-use Rattle.bolt_check.specs.Subtrees.{weight}
-use Rattle.bolt_report.specs.Figures.{figure}
-use Rattle.bolt_report.specs.Readings.{own_figure, roots_of}
-use Rattle.bolt_report.specs.declared.statistics.Stats.{Stats}
-use Rattle.bolt_report.specs.declared.bucket_stats.UnreadBucket.{UnreadBucket}
+use Rattle.bolt_report.proofs.Words.{bytes_of, figure, meta_of, node_at, own_figure, roots_of, Stats, UnreadBucket, weight, ∥∥₁_elim, ∥∥₁_map, ∥∥₁_prop}
 use Rattle.bolt_report.proofs.FigureLemmas.{figure_add}
 use Rattle.bolt_report.proofs.ReadDepths.{bucket_end, read_end}
 use Rattle.bolt_report.proofs.ReadSums.{all_good, deepened, first_figure, first_fits, last_good, none_left, unread_popped, total_popped, zero_depth}

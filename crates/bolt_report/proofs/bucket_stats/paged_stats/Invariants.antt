@@ -1,8 +1,5 @@
 use Rattle.std.proofs.Common.{◌≡◌, ◌+◌, ◌-◌, ◌^◌, ◌≤◌, max, [], ◌∷◌}
-use Rattle.bolt_check.specs.CheckedFiles.{bytes_of, meta_of}
-use Rattle.bolt_report.specs.Deepest.{depth_of, greatest}
-use Rattle.bolt_report.specs.Figures.{Figure, bucket_figure, capped, figure}
-use Rattle.bolt_report.specs.Readings.{AreGood, one, own_figure, roots_of, total_of}
+use Rattle.bolt_report.proofs.Words.{AreGood, bucket_figure, bytes_of, capped, depth_of, figure, Figure, greatest, meta_of, one, own_figure, roots_of, total_of}
 use Rattle.bolt_report.proofs.ReadDepths.{bucket_end}
 use Rattle.bolt_report.proofs.bucket_stats.paged_stats.Given as goal
 

@@ -1,11 +1,5 @@
 use Rattle.std.proofs.Common.{◌≡◌, ◌∙◌, ◌+◌, ◌<◌, ◌++◌, ◌∷◌, [], ℕ, List, inl, inr, ap, arith, map, sym}
-use Rattle.std.proofs.Math.Logic.{∥∥₁_elim, ∥∥₁_map, ∥∥₁_prop}
-use Rattle.std.proofs.Props.{props}
-use Rattle.bolt_check.specs.CheckedFiles.{bytes_of, meta_of}
-use Rattle.bolt_check.specs.Nodes.{Node}
-use Rattle.bolt_report.specs.Deepest.{deepest_of, greatest}
-use Rattle.bolt_report.specs.Figures.{capped, figure}
-use Rattle.bolt_report.specs.Readings.{inner_pages, inner_roots, numbers_of, one, unread_page, own_figure, total_of}
+use Rattle.bolt_report.proofs.Words.{bytes_of, capped, deepest_of, figure, greatest, inner_pages, inner_roots, meta_of, Node, numbers_of, one, own_figure, props, total_of, unread_page, ∥∥₁_elim, ∥∥₁_map, ∥∥₁_prop}
 use Rattle.bolt_report.proofs.FigureLemmas.{figure_add}
 use Rattle.bolt_report.proofs.ReadDepths.{first_height, numbers_opened, read_deepest, read_height}
 use Rattle.bolt_report.proofs.ReadSums.{more_found, next_good, none_left, popped, read_good, read_sum, started, zero_figure}

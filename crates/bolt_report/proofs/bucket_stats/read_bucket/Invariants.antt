@@ -1,8 +1,5 @@
 use Rattle.std.proofs.Common.{◌≡◌, ◌⊎◌, ◌+◌, ◌-◌, ◌^◌, ◌<◌, ◌≤◌, ◌++◌, max, [], ◌∷◌}
-use Rattle.bolt_check.specs.CheckedFiles.{bytes_of, meta_of}
-use Rattle.bolt_report.specs.Deepest.{deepest_of, depth_of, greatest, height_of}
-use Rattle.bolt_report.specs.Figures.{Figure, capped, figure}
-use Rattle.bolt_report.specs.Readings.{AreGood, numbers_of, one, own_figure, total_of}
+use Rattle.bolt_report.proofs.Words.{AreGood, bytes_of, capped, deepest_of, depth_of, figure, Figure, greatest, height_of, meta_of, numbers_of, one, own_figure, total_of}
 use Rattle.bolt_report.proofs.ReadDepths.{page_height}
 use Rattle.bolt_report.proofs.bucket_stats.read_bucket.Given as goal
 

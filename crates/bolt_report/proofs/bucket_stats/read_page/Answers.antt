@@ -1,15 +1,7 @@
 use Rattle.std.proofs.Common.{◌∙◌, ◌+◌, ◌++◌, List, ℕ, ap, append-nil, refl, sym}
-use Rattle.std.proofs.Math.Logic.{∥∥₁_elim}
-use Rattle.std.proofs.Props.{props}
-use Rattle.bolt_format.specs.Shown.{shown}
+use Rattle.bolt_report.proofs.Words.{bytes_of, capped, inline_depth, leaf_entry, meta_of, node_is, props, shown, UnreadPage, ∥∥₁_elim}
 use Rattle.bolt_format.specs.declared.kind.Kind.TheVariants as kind
-use Rattle.bolt_check.specs.CheckedFiles.{bytes_of, meta_of}
-use Rattle.bolt_check.specs.Nodes.{leaf_entry}
 use Rattle.bolt_check.proofs.TourSums.{enough_shown}
-use Rattle.bolt_check.proofs.TreePages.{node_is}
-use Rattle.bolt_report.specs.Deepest.{inline_depth}
-use Rattle.bolt_report.specs.Figures.{capped}
-use Rattle.bolt_report.specs.declared.bucket_stats.UnreadPage.{UnreadPage}
 use Rattle.bolt_report.proofs.DepthSums.{greatest_map}
 use Rattle.bolt_report.proofs.ReadLemmas.{branch_kids, leaf_kids, no_freelist, no_meta}
 use Rattle.bolt_report.proofs.bucket_stats.read_page.Goals as goal

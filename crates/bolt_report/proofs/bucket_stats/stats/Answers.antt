@@ -1,7 +1,5 @@
-use Rattle.std.proofs.Math.Logic.{∥∥₁_elim, ∥∥₁_map, ∥∥₁_prop}
-use Rattle.bolt_check.specs.CheckedFiles.{bytes_of, meta_of}
+use Rattle.bolt_report.proofs.Words.{bucket_checked, bytes_of, meta_of, ∥∥₁_elim, ∥∥₁_map, ∥∥₁_prop}
 use Rattle.bolt_check.proofs.CheckedLemmas.{checked_trees}
-use Rattle.bolt_tree.specs.Buckets.{bucket_checked}
 use Rattle.bolt_report.proofs.StatsExist.{are_good, paged_stats_are}
 use Rattle.bolt_report.proofs.bucket_stats.stats.Goals as goal
 

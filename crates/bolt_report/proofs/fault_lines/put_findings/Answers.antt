@@ -1,6 +1,4 @@
-use Rattle.std.proofs.lemmas.Option.{slice_get-get_or}
-use Rattle.bolt_format.proofs.WroteLemmas.{Wrote-element_return}
-use Rattle.bolt_report.specs.FaultWords.{finding_text}
+use Rattle.bolt_report.proofs.Words.{finding_text, slice_get-get_or, Wrote-element_return}
 use Rattle.bolt_report.proofs.fault_lines.put_findings.Goals as goal
 
 pub returns-in_err-finding_text : goal.returns-in_err-finding_text

@@ -1,5 +1,5 @@
 use Rattle.std.proofs.Common.{ℕ, List, arith, ap, get_or}
-use Rattle.hex.specs.Hex.{lower_digits}
+use Rattle.bolt_report.proofs.Words.{lower_digits}
 use Rattle.hex.proofs.Pairs.{encode_done, encode_step}
 use Rattle.bolt_report.proofs.hexadecimal.encode_digits.Goals as goal
 

@@ -1,6 +1,5 @@
 use Rattle.std.proofs.Common.{length}
-use Rattle.hex.specs.Hex.{encode_lower}
-use Rattle.bolt_format.proofs.WroteFronts.{WroteFront}
+use Rattle.bolt_report.proofs.Words.{encode_lower, WroteFront}
 use Rattle.bolt_report.proofs.hexadecimal.put_hex_parts.Given as goal
 
 -- the digits of the rest are still to be written

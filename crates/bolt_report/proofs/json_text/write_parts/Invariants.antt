@@ -1,6 +1,5 @@
 use Rattle.std.proofs.Common.{◌≡◌, ◌++◌, Bor, List, ℕ, flat_map, take}
-use Rattle.json.specs.Tree.{json_tokens}
-use Rattle.bolt_report.specs.Forms.{item_json}
+use Rattle.bolt_report.proofs.Words.{item_json, json_tokens}
 use Rattle.bolt_report.proofs.json_text.write_parts.Given as goal
 
 -- the tokens of the parts before this one were written

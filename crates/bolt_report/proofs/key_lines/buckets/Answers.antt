@@ -1,15 +1,6 @@
 use Rattle.std.proofs.Common.{◌∙◌, [], ap, flat_map, sym, ◌≡◌, ◌++◌, ◌∷◌, List, ℕ, refl, inl, inr}
-use Rattle.std.proofs.lemmas.Bool.{cases_Bool}
-use Rattle.bolt_format.proofs.WroteFronts.{front_more, front_whole}
-use Rattle.bolt_format.proofs.WroteLemmas.{Wrote-none, Wrote-same}
-use Rattle.bolt_tree.specs.Cursors.{cursor_place}
-use Rattle.bolt_tree.specs.EntriesLeft.{entries_left}
-use Rattle.bolt_tree.specs.Places.{Place}
-use Rattle.bolt_tree.proofs.Leaving.{fewer_left, next_shows}
-use Rattle.bolt_format.specs.Elements.{LeafElement}
-use Rattle.bolt_report.specs.Forms.{value_text}
-use Rattle.bolt_report.specs.KeyLines.{bucket_name, buckets_text}
-use Rattle.bolt_report.specs.declared.form.Form.{Form}
+use Rattle.bolt_report.proofs.Words.{bucket_name, cases_Bool, cursor_place, entries_left, fewer_left, Form, front_more, front_whole, LeafElement, next_shows, Place, value_text, Wrote-none, Wrote-same}
+use Rattle.bolt_report.specs.KeyLines.{buckets_text}
 use Rattle.bolt_report.proofs.ReportLemmas.{front_fault}
 use Rattle.bolt_report.proofs.key_lines.buckets.Goals as goal
 

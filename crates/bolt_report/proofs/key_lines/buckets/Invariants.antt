@@ -1,10 +1,5 @@
 use Rattle.std.proofs.Common.{◌≡◌, flat_map, length}
-use Rattle.bolt_format.proofs.WroteFronts.{WroteFront}
-use Rattle.bolt_tree.specs.Buckets.{bucket_checked, bucket_start}
-use Rattle.bolt_tree.specs.Cursors.{cursor_checked, cursor_place, cursor_start}
-use Rattle.bolt_tree.specs.EntriesLeft.{ForEntries, entries_left}
-use Rattle.bolt_tree.proofs.Leaving.{the_entries}
-use Rattle.bolt_report.specs.KeyLines.{bucket_name}
+use Rattle.bolt_report.proofs.Words.{bucket_checked, bucket_name, bucket_start, cursor_checked, cursor_place, cursor_start, entries_left, ForEntries, the_entries, WroteFront}
 use Rattle.bolt_report.proofs.key_lines.buckets.Given as goal
 
 -- of the text of all entries, the text of those that are left is still to be written

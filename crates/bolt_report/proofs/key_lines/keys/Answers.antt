@@ -1,7 +1,6 @@
 -- Every key begins with no bytes.
 use Rattle.std.proofs.Common.{ap}
-use Rattle.bolt_format.proofs.WroteLemmas.{Wrote-same}
-use Rattle.bolt_report.specs.KeyLines.{keys_text}
+use Rattle.bolt_report.proofs.Words.{keys_text, Wrote-same}
 use Rattle.bolt_report.proofs.PrefixLemmas.{with_none}
 use Rattle.bolt_report.proofs.key_lines.keys.Goals as goal
 

@@ -1,16 +1,7 @@
 -- Each entry that begins with the prefix has its line written, and the first that doesn't ends the text.
 use Rattle.std.proofs.Common.{◌∙◌, [], Option, None, suc, ap, sym, arith}
-use Rattle.std.proofs.Math.Logic.{∥∥₁_elim}
-use Rattle.std.proofs.Props.{props}
+use Rattle.bolt_report.proofs.Words.{cursor_bucket, cursor_opened, cursor_place, EntryView, Form, front_more, front_whole, keys_text, props, shown_entry, value_text, Wrote-none, Wrote-same, ∥∥₁_elim}
 use Rattle.std.specs.Option.{option_map}
-use Rattle.bolt_format.proofs.WroteFronts.{front_more, front_whole}
-use Rattle.bolt_format.proofs.WroteLemmas.{Wrote-none, Wrote-same}
-use Rattle.bolt_report.specs.Forms.{value_text}
-use Rattle.bolt_report.specs.KeyLines.{keys_text}
-use Rattle.bolt_report.specs.declared.form.Form.{Form}
-use Rattle.bolt_tree.specs.Cursors.{cursor_bucket, cursor_opened, cursor_place}
-use Rattle.bolt_tree.specs.Entries.{EntryView}
-use Rattle.bolt_tree.specs.ShownEntries.{shown_entry}
 use Rattle.bolt_tree.specs.declared.entry.Entry.{Entry}
 use Rattle.bolt_report.proofs.PrefixLemmas.{from_least}
 use Rattle.bolt_report.proofs.PrefixSteps.{all_opened, cursor_entries, fault_handed_on, fewer_shown, moved, next_first, none_shown, nothing_shown, number_of, other_shown, sought, stage_next, stage_sought}

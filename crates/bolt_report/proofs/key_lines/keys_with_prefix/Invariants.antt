@@ -1,11 +1,6 @@
 use Rattle.std.proofs.Common.{◌≡◌, ◌+◌, ℕ, drop, length}
 use Rattle.std.specs.Option.{option_map}
-use Rattle.bolt_format.proofs.WroteFronts.{WroteFront}
-use Rattle.bolt_tree.specs.Cursors.{cursor_bucket, cursor_checked, cursor_opened, cursor_place, cursor_start}
-use Rattle.bolt_tree.specs.EntriesLeft.{ForEntries, entries_left}
-use Rattle.bolt_tree.specs.ShownEntries.{shown_entry}
-use Rattle.bolt_report.specs.KeyLines.{keys_text}
-use Rattle.bolt_report.specs.KeyPrefixes.{with_prefix}
+use Rattle.bolt_report.proofs.Words.{cursor_bucket, cursor_checked, cursor_opened, cursor_place, cursor_start, entries_left, ForEntries, keys_text, shown_entry, with_prefix, WroteFront}
 use Rattle.bolt_report.proofs.PrefixSteps.{Stage, cursor_entries, number_of}
 use Rattle.bolt_report.proofs.key_lines.keys_with_prefix.Given as goal
 

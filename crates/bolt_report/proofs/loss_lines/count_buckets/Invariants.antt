@@ -1,6 +1,5 @@
 use Rattle.std.proofs.Common.{◌≡◌, ◌≤◌, take}
-use Rattle.bolt_format.specs.Shown.{shown}
-use Rattle.bolt_report.specs.FoundLines.{bucket_count}
+use Rattle.bolt_report.proofs.Words.{bucket_count, shown}
 use Rattle.bolt_report.proofs.loss_lines.count_buckets.Given as goal
 
 -- the buckets among the elements before this one are counted

@@ -1,5 +1,5 @@
 -- The lines of the losses, those of the found pages, and that of the number.
-use Rattle.bolt_format.proofs.WroteLemmas.{Wrote-return, Wrote-then}
+use Rattle.bolt_report.proofs.Words.{Wrote-return, Wrote-then}
 use Rattle.bolt_report.proofs.loss_lines.counted_lost_text.Goals as goal
 
 pub returns-in_err-put_lost : goal.returns-in_err-put_lost

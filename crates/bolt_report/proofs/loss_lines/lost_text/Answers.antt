@@ -1,4 +1,4 @@
-use Rattle.bolt_format.proofs.WroteLemmas.{Wrote-return}
+use Rattle.bolt_report.proofs.Words.{Wrote-return}
 use Rattle.bolt_report.proofs.loss_lines.lost_text.Goals as goal
 
 pub returns-in_err-put_lost : goal.returns-in_err-put_lost

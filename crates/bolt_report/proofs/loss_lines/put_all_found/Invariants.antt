@@ -1,5 +1,5 @@
 use Rattle.std.proofs.Common.{map}
-use Rattle.bolt_report.specs.FoundLines.{found_line, found_view}
+use Rattle.bolt_report.proofs.Words.{found_line, found_view}
 use Rattle.bolt_report.proofs.ReportLemmas.{WroteLines}
 use Rattle.bolt_report.proofs.loss_lines.put_all_found.Given as goal
 

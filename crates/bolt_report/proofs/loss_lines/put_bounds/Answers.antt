@@ -1,8 +1,7 @@
 -- The end of the line comes after the bounds.
 use Rattle.std.proofs.Common.{◌++◌, ◌∷◌, [], List, ℕ, ap, append_assoc, append-nil, sym}
 use Rattle.std.specs.Prelude.{codes}
-use Rattle.hex.specs.Hex.{encode_lower}
-use Rattle.bolt_format.proofs.WroteLemmas.{Wrote-same}
+use Rattle.bolt_report.proofs.Words.{encode_lower, Wrote-same}
 use Rattle.bolt_report.proofs.loss_lines.put_bounds.Goals as goal
 
 pub returns-in-Some-None : goal.returns-in-Some-None

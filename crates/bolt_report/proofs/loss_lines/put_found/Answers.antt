@@ -1,9 +1,7 @@
 -- The pieces are those of the line.
 use Rattle.std.proofs.Common.{◌≡◌, ◌∙◌, ◌-◌, List, [], ℕ, Option, Some, ap, length, option_map, slice_get, sym, unwrap_or}
-use Rattle.bolt_format.specs.ElementPlaces.{leaf_view}
-use Rattle.bolt_format.specs.Elements.{LeafElement}
-use Rattle.bolt_format.specs.Shown.{shown}
-use Rattle.bolt_report.specs.FoundLines.{bucket_count, found_line, key_at}
+use Rattle.bolt_report.proofs.Words.{bucket_count, found_line, leaf_view, LeafElement, shown}
+use Rattle.bolt_report.specs.FoundLines.{key_at}
 use Rattle.bolt_report.proofs.loss_lines.put_found.Goals as goal
 
 -- the key of an element by its place

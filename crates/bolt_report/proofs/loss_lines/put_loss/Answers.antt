@@ -1,7 +1,6 @@
 use Rattle.std.proofs.Common.{Bor, List, ℕ, ap}
-use Rattle.bolt_format.proofs.WroteLemmas.{Wrote-return, Wrote-same, Wrote-then_return}
-use Rattle.bolt_tree.specs.Paths.{path_of}
-use Rattle.bolt_report.specs.LossLines.{bucket_words, loss_text}
+use Rattle.bolt_report.proofs.Words.{loss_text, path_of, Wrote-return, Wrote-same, Wrote-then_return}
+use Rattle.bolt_report.specs.LossLines.{bucket_words}
 use Rattle.bolt_report.proofs.loss_lines.put_loss.Goals as goal
 
 pub returns-in_err-put_sentence : goal.returns-in_err-put_sentence

@@ -1,5 +1,4 @@
-use Rattle.bolt_recover.specs.ShownLosses.{loss_view}
-use Rattle.bolt_report.specs.LossLines.{loss_text}
+use Rattle.bolt_report.proofs.Words.{loss_text, loss_view}
 use Rattle.bolt_report.proofs.ReportLemmas.{view_more, view_return}
 use Rattle.bolt_report.proofs.loss_lines.put_losses.Goals as goal
 

@@ -1,4 +1,4 @@
-use Rattle.std.proofs.lemmas.List.FromFn.{length-range_with_len}
+use Rattle.bolt_report.proofs.Words.{length-range_with_len}
 use Rattle.bolt_report.proofs.maps.page_count.Goals as goal
 
 pub returns : goal.returns

@@ -1,8 +1,6 @@
 use Rattle.std.proofs.Common.{◌≡◌, ◌∙◌, ◌+◌, ◌-◌, ◌≤◌, ◌++◌, ◌∷◌, [], ℕ, List, ap, arith, map, sym}
-use Rattle.std.specs.List.{range_with_len}
+use Rattle.bolt_report.proofs.Words.{page_mark, range_with_len, roles_checked}
 use Rattle.std.proofs.lemmas.List.FromFn.{map-range_with_len_more}
-use Rattle.bolt_check.specs.RoledFiles.{roles_checked}
-use Rattle.bolt_report.specs.PageMaps.{page_mark}
 use Rattle.bolt_report.proofs.PageTableLemmas.{same_role}
 use Rattle.bolt_report.proofs.maps.page_marks.Goals as goal
 

@@ -1,8 +1,5 @@
 use Rattle.std.proofs.Common.{◌≡◌, ◌-◌, ◌≤◌, length, map}
-use Rattle.std.specs.List.{range_with_len}
-use Rattle.bolt_check.specs.RoledFiles.{roles_checked}
-use Rattle.bolt_report.specs.PageMaps.{page_mark}
-use Rattle.bolt_report.specs.PageTables.{ForRoles}
+use Rattle.bolt_report.proofs.Words.{ForRoles, page_mark, range_with_len, roles_checked}
 use Rattle.bolt_report.proofs.maps.page_marks.Given as goal
 
 -- the characters of the pages before this one were added

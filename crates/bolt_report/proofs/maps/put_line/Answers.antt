@@ -1,6 +1,5 @@
 use Rattle.std.proofs.Common.{◌∙◌, append_assoc}
-use Rattle.bolt_format.proofs.WroteLemmas.{Wrote-same}
-use Rattle.bolt_report.specs.PageMaps.{map_line}
+use Rattle.bolt_report.proofs.Words.{map_line, Wrote-same}
 use Rattle.bolt_report.proofs.maps.put_line.Goals as goal
 
 pub returns : goal.returns

@@ -1,10 +1,5 @@
 use Rattle.std.proofs.Common.{◌∙◌, arith}
-use Rattle.std.specs.List.{range_with_len}
-use Rattle.std.proofs.lemmas.List.FromFn.{length-range_with_len}
-use Rattle.bolt_format.proofs.WroteLemmas.{Wrote-element, Wrote-element_return, Wrote-elements, Wrote-same}
-use Rattle.bolt_check.specs.CheckedFiles.{bytes_of, meta_of}
-use Rattle.bolt_check.specs.RoledFiles.{roles_checked}
-use Rattle.bolt_report.specs.PageMaps.{line_at}
+use Rattle.bolt_report.proofs.Words.{bytes_of, length-range_with_len, line_at, meta_of, range_with_len, roles_checked, Wrote-element, Wrote-element_return, Wrote-elements, Wrote-same}
 use Rattle.bolt_report.proofs.PageTableLemmas.{fits_below, next_line, starts_below, positive}
 use Rattle.bolt_report.proofs.maps.put_lines.Goals as goal
 

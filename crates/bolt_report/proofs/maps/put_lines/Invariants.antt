@@ -1,9 +1,5 @@
 use Rattle.std.proofs.Common.{length}
-use Rattle.std.specs.Int.{div_ceil}
-use Rattle.std.specs.List.{range_with_len}
-use Rattle.bolt_check.specs.RoledFiles.{roles_checked}
-use Rattle.bolt_report.specs.PageMaps.{line_at}
-use Rattle.bolt_report.specs.PageTables.{ForRoles}
+use Rattle.bolt_report.proofs.Words.{div_ceil, ForRoles, line_at, range_with_len, roles_checked}
 use Rattle.bolt_report.proofs.PageTableLemmas.{rows_in}
 use Rattle.bolt_report.proofs.ReportLemmas.{WroteLines}
 use Rattle.bolt_report.proofs.maps.put_lines.Given as goal

@@ -1,10 +1,7 @@
 -- All that is left begins with the empty path.
 use Rattle.std.proofs.Common.{◌∙◌, [], ap}
-use Rattle.bolt_format.proofs.WroteLemmas.{Wrote-same}
-use Rattle.bolt_report.specs.ListForms.{listing_lines}
-use Rattle.bolt_report.specs.declared.form.ListForm.{ListForm}
+use Rattle.bolt_report.proofs.Words.{left_of, ListForm, listing_lines, walk_checked, Wrote-same}
 use Rattle.bolt_report.specs.ListLines.{listing_text}
-use Rattle.bolt_tree.specs.Walks.{left_of, walk_checked}
 use Rattle.bolt_report.proofs.ListPartTexts.{front, front_of_root, same_listing}
 use Rattle.bolt_report.proofs.member_lines.list.Goals as goal
 

@@ -1,9 +1,5 @@
 use Rattle.std.proofs.Common.{◌∙◌, ap, sym}
-use Rattle.bolt_format.proofs.WroteLemmas.{Wrote-same}
-use Rattle.bolt_tree.specs.Paths.{path_of}
-use Rattle.bolt_tree.specs.ShownEntries.{item_view}
-use Rattle.bolt_report.specs.Forms.{digits_json}
-use Rattle.bolt_report.specs.JsonLines.{json_line}
+use Rattle.bolt_report.proofs.Words.{digits_json, item_view, json_line, path_of, Wrote-same}
 use Rattle.bolt_report.proofs.HexStrings.{bucket_line, value_line}
 use Rattle.bolt_report.proofs.member_lines.put_hex_json.Goals as goal
 

@@ -1,7 +1,4 @@
-use Rattle.bolt_format.specs.ElementPlaces.{branch_view}
-use Rattle.bolt_format.specs.Shown.{shown}
-use Rattle.bolt_format.proofs.WroteLemmas.{Wrote-element}
-use Rattle.bolt_report.specs.PageLines.{branch_line}
+use Rattle.bolt_report.proofs.Words.{branch_line, branch_view, shown, Wrote-element}
 use Rattle.bolt_report.proofs.page_lines.put_branches.Goals as goal
 
 pub loop-i-preserved : goal.loop-i-preserved

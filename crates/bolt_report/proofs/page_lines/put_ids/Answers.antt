@@ -1,6 +1,4 @@
-use Rattle.bolt_format.specs.ShownIds.{shown_ids}
-use Rattle.bolt_format.proofs.WroteLemmas.{Wrote-element}
-use Rattle.bolt_report.specs.PageLines.{id_line}
+use Rattle.bolt_report.proofs.Words.{id_line, shown_ids, Wrote-element}
 use Rattle.bolt_report.proofs.page_lines.put_ids.Goals as goal
 
 pub loop-i-preserved : goal.loop-i-preserved

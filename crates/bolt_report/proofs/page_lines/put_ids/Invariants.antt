@@ -1,5 +1,4 @@
-use Rattle.bolt_format.specs.ShownIds.{shown_ids}
-use Rattle.bolt_report.specs.PageLines.{id_line}
+use Rattle.bolt_report.proofs.Words.{id_line, shown_ids}
 use Rattle.bolt_report.proofs.ReportLemmas.{WroteLines}
 use Rattle.bolt_report.proofs.page_lines.put_ids.Given as goal
 

@@ -1,7 +1,5 @@
 use Rattle.std.proofs.Common.{◌+◌, arith, length}
-use Rattle.bolt_format.specs.ElementPlaces.{branch_view}
-use Rattle.bolt_format.specs.Elements.{BranchElement}
-use Rattle.bolt_format.specs.Shown.{shown}
+use Rattle.bolt_report.proofs.Words.{branch_view, BranchElement, shown}
 use Rattle.bolt_report.proofs.FigureLemmas.{sum_next}
 use Rattle.bolt_report.proofs.page_stats.branch_used.Goals as goal
 

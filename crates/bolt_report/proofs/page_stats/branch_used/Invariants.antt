@@ -1,7 +1,6 @@
 use Rattle.std.proofs.Common.{◌≡◌, ◌≤◌, ◌+◌, ◌-◌, ◌^◌, drop, length, sum_by}
-use Rattle.bolt_format.specs.Elements.{BranchElement}
-use Rattle.bolt_format.specs.Shown.{shown}
-use Rattle.bolt_report.specs.Figures.{used_by_branches, capped}
+use Rattle.bolt_report.proofs.Words.{BranchElement, capped, shown}
+use Rattle.bolt_report.specs.Figures.{used_by_branches}
 use Rattle.bolt_report.proofs.page_stats.branch_used.Given as goal
 
 -- with what the elements from here on use it is the whole

@@ -1,7 +1,6 @@
 use Rattle.std.proofs.Common.{◌≡◌, ◌≤◌, ◌+◌, ◌-◌, ◌^◌, drop, length, sum_by}
-use Rattle.bolt_format.specs.Elements.{LeafElement}
+use Rattle.bolt_report.proofs.Words.{capped, LeafElement, used_by_leaves}
 use Rattle.bolt_format.specs.ShownInline.{shown_inline}
-use Rattle.bolt_report.specs.Figures.{capped, used_by_leaves}
 use Rattle.bolt_report.proofs.page_stats.inline_used.Given as goal
 
 -- with what the elements from here on use it is the whole

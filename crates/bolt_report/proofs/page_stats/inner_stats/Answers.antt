@@ -1,7 +1,5 @@
 use Rattle.std.proofs.Common.{◌≡◌, ◌∙◌, ◌+◌, ap, arith}
-use Rattle.bolt_format.specs.ElementPlaces.{leaf_view}
-use Rattle.bolt_format.specs.Shown.{shown}
-use Rattle.bolt_report.specs.Figures.{Figure, capped, element_figure, figure}
+use Rattle.bolt_report.proofs.Words.{capped, element_figure, figure, Figure, leaf_view, shown}
 use Rattle.bolt_report.proofs.FigureLemmas.{figure_add, sum_next}
 use Rattle.bolt_report.proofs.page_stats.inner_stats.Goals as goal
 

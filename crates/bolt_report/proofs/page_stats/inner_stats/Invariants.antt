@@ -1,6 +1,5 @@
 use Rattle.std.proofs.Common.{◌≡◌, ◌≤◌, ◌+◌, ◌-◌, ◌^◌, drop, sum_by}
-use Rattle.bolt_format.specs.Shown.{shown}
-use Rattle.bolt_report.specs.Figures.{Figure, capped, element_figure, figure}
+use Rattle.bolt_report.proofs.Words.{capped, element_figure, figure, Figure, shown}
 use Rattle.bolt_report.proofs.page_stats.inner_stats.Given as goal
 
 -- with what the elements from here on add it is the whole

@@ -1,5 +1,5 @@
 use Rattle.std.proofs.Common.{◌∙◌}
-use Rattle.bolt_check.specs.RoledFiles.{roles_checked}
+use Rattle.bolt_report.proofs.Words.{roles_checked}
 use Rattle.bolt_report.proofs.PageTableLemmas.{counts_past, positive}
 use Rattle.bolt_report.proofs.page_table.free_past.Goals as goal
 

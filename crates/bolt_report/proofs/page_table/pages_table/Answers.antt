@@ -1,6 +1,5 @@
 use Rattle.std.proofs.Common.{ap}
-use Rattle.bolt_format.proofs.WroteLemmas.{Wrote-return, Wrote-same, Wrote-then, Wrote-then_return}
-use Rattle.bolt_report.specs.PageTables.{past_line}
+use Rattle.bolt_report.proofs.Words.{past_line, Wrote-return, Wrote-same, Wrote-then, Wrote-then_return}
 use Rattle.bolt_report.proofs.page_table.pages_table.Goals as goal
 
 pub returns-in_err-put_head : goal.returns-in_err-put_head

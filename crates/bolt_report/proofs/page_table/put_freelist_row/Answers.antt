@@ -1,6 +1,4 @@
-use Rattle.std.proofs.Math.Logic.{∥∥₁_elim}
-use Rattle.std.proofs.Props.{props}
-use Rattle.bolt_check.specs.CheckedFiles.{bytes_of, meta_of}
+use Rattle.bolt_report.proofs.Words.{bytes_of, meta_of, props, ∥∥₁_elim}
 use Rattle.bolt_check.proofs.RoleFacts.{freelist_shown}
 use Rattle.bolt_report.proofs.page_table.put_freelist_row.Goals as goal
 

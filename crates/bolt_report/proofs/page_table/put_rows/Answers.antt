@@ -1,7 +1,5 @@
 use Rattle.std.proofs.Common.{◌∙◌, arith}
-use Rattle.std.proofs.lemmas.List.FromFn.{length-range_with_len}
-use Rattle.bolt_format.proofs.WroteLemmas.{Wrote-element, Wrote-element_return, Wrote-elements, Wrote-same}
-use Rattle.bolt_check.specs.RoledFiles.{roles_checked}
+use Rattle.bolt_report.proofs.Words.{length-range_with_len, roles_checked, Wrote-element, Wrote-element_return, Wrote-elements, Wrote-same}
 use Rattle.bolt_report.proofs.PageTableLemmas.{next_row, positive, row_of, rows_in}
 use Rattle.bolt_report.proofs.page_table.put_rows.Goals as goal
 

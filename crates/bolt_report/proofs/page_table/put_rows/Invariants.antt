@@ -1,5 +1,4 @@
-use Rattle.bolt_check.specs.RoledFiles.{roles_checked}
-use Rattle.bolt_report.specs.PageTables.{ForRoles}
+use Rattle.bolt_report.proofs.Words.{ForRoles, roles_checked}
 use Rattle.bolt_report.proofs.PageTableLemmas.{row_of, rows_in}
 use Rattle.bolt_report.proofs.ReportLemmas.{WroteLines}
 use Rattle.bolt_report.proofs.page_table.put_rows.Given as goal

@@ -1,12 +1,7 @@
 -- A walk from the later of the two paths comes to the part first.
 use Rattle.std.proofs.Common.{◌∙◌, ap, sym}
-use Rattle.bolt_format.proofs.WroteLemmas.{Wrote-same}
-use Rattle.bolt_tree.specs.Listing.{rest_from}
-use Rattle.bolt_tree.specs.Paths.{Path, path_of}
-use Rattle.bolt_tree.specs.Walks.{left_of, walk_checked}
+use Rattle.bolt_report.proofs.Words.{left_of, ListForm, listing_lines, Path, path_of, rest_from, walk_checked, Wrote-same}
 use Rattle.bolt_tree.proofs.PartLemmas.{part_from_later}
-use Rattle.bolt_report.specs.ListForms.{listing_lines}
-use Rattle.bolt_report.specs.declared.form.ListForm.{ListForm}
 use Rattle.bolt_report.proofs.ListPartTexts.{same_listing, front}
 use Rattle.bolt_report.proofs.part_lines.list_part.Goals as goal
 

@@ -1,16 +1,7 @@
 -- The bucket at the path comes before all that begins with the path, so nothing is missed before it is found.
 use Rattle.std.proofs.Common.{◌≡◌, ◌∙◌, ◌∷◌, ◌||◌, [], Bool, List, Bor, ap, sym, refl, length, ℕ, ◌==◌}
-use Rattle.std.specs.List.{list_any}
-use Rattle.std.proofs.lemmas.List.{length-map}
-use Rattle.bolt_format.proofs.WroteFronts.{front_more, front_same}
-use Rattle.bolt_format.proofs.WroteLemmas.{Wrote-none, Wrote-same}
-use Rattle.bolt_report.specs.ListForms.{lines_form, list_line, listing_lines}
-use Rattle.bolt_report.specs.declared.form.ListForm.{ListForm}
-use Rattle.bolt_tree.specs.Listing.{Member, member_cmp, rest_from}
-use Rattle.bolt_tree.specs.ListingParts.{is_bucket_at}
-use Rattle.bolt_tree.specs.Order.{Rises}
-use Rattle.bolt_tree.specs.Paths.{path_of}
-use Rattle.bolt_tree.specs.ShownEntries.{item_view}
+use Rattle.bolt_report.proofs.Words.{front_more, is_bucket_at, item_view, length-map, lines_form, list_any, list_line, ListForm, listing_lines, Member, member_cmp, path_of, rest_from, Rises, Wrote-none, Wrote-same}
+use Rattle.bolt_format.proofs.WroteFronts.{front_same}
 use Rattle.bolt_report.proofs.ListPartTexts.{iff_then, before_bucket, has_next, left_part, over_unwanted, with_wanted}
 use Rattle.bolt_report.proofs.ReportLemmas.{front_fault}
 use Rattle.bolt_report.proofs.part_lines.put_bucket_part.Goals as goal

@@ -1,11 +1,6 @@
 use Rattle.std.proofs.Common.{◌≡◌, ◌↔◌, ◌||◌, List}
-use Rattle.std.specs.List.{list_any}
-use Rattle.bolt_format.proofs.WroteFronts.{WroteFront}
-use Rattle.bolt_tree.specs.Listing.{Member, member_cmp, rest_from}
-use Rattle.bolt_tree.specs.ListingParts.{bucket_part, has_bucket, is_bucket_at}
-use Rattle.bolt_tree.specs.Order.{Rises}
-use Rattle.bolt_tree.specs.Paths.{path_of}
-use Rattle.bolt_report.specs.ListForms.{lines_form, listing_lines}
+use Rattle.bolt_report.proofs.Words.{is_bucket_at, lines_form, list_any, listing_lines, Member, member_cmp, path_of, rest_from, Rises, WroteFront}
+use Rattle.bolt_tree.specs.ListingParts.{bucket_part, has_bucket}
 use Rattle.bolt_report.proofs.ListPartTexts.{left_part}
 use Rattle.bolt_report.proofs.part_lines.put_bucket_part.Given as goal
 

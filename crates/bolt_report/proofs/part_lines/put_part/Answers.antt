@@ -1,12 +1,6 @@
 -- Each member that begins with the path has its line written, and the first that doesn't ends the text.
 use Rattle.std.proofs.Common.{◌∙◌, ap, sym, refl}
-use Rattle.bolt_format.proofs.WroteFronts.{front_more, front_none}
-use Rattle.bolt_format.proofs.WroteLemmas.{Wrote-same}
-use Rattle.bolt_report.specs.ListForms.{lines_form, list_line}
-use Rattle.bolt_report.specs.declared.form.ListForm.{ListForm}
-use Rattle.bolt_tree.specs.Listing.{Member}
-use Rattle.bolt_tree.specs.Paths.{path_of}
-use Rattle.bolt_tree.specs.ShownEntries.{item_view}
+use Rattle.bolt_report.proofs.Words.{front_more, front_none, item_view, lines_form, list_line, ListForm, Member, path_of, Wrote-same}
 use Rattle.bolt_report.proofs.ListPartTexts.{iff_then, front_text}
 use Rattle.bolt_report.proofs.ReportLemmas.{front_fault}
 use Rattle.bolt_report.proofs.part_lines.put_part.Goals as goal

@@ -1,10 +1,5 @@
 use Rattle.std.proofs.Common.{◌≡◌, ◌↔◌, List}
-use Rattle.std.specs.List.{take_while}
-use Rattle.bolt_format.proofs.WroteFronts.{WroteFront}
-use Rattle.bolt_tree.specs.Listing.{Member}
-use Rattle.bolt_tree.specs.ListingParts.{begins_with}
-use Rattle.bolt_tree.specs.Paths.{path_of}
-use Rattle.bolt_report.specs.ListForms.{lines_form, listing_lines}
+use Rattle.bolt_report.proofs.Words.{begins_with, lines_form, listing_lines, Member, path_of, take_while, WroteFront}
 use Rattle.bolt_report.proofs.part_lines.put_part.Given as goal
 
 -- of the text of the part of what was left, the text of the part of what is left is still to be written

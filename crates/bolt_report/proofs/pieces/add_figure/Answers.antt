@@ -1,6 +1,6 @@
 use Rattle.std.proofs.Common.{[], ◌∷◌}
-use Rattle.std.specs.Prelude.{decimal}
-use Rattle.bolt_report.specs.Lines.{figure_line, line}
+use Rattle.bolt_report.proofs.Words.{decimal, line}
+use Rattle.bolt_report.specs.Lines.{figure_line}
 use Rattle.bolt_report.proofs.GatherLemmas.{Gathers-return, Gathers-then}
 use Rattle.bolt_report.proofs.pieces.add_figure.Goals as goal
 

@@ -1,6 +1,5 @@
 use Rattle.std.proofs.Common.{◌∷◌, Bor, List, ℕ}
-use Rattle.std.proofs.lemmas.Option.{slice_get-get_or}
-use Rattle.bolt_report.specs.Pieces.{part_text, separator}
+use Rattle.bolt_report.proofs.Words.{part_text, separator, slice_get-get_or}
 use Rattle.bolt_report.proofs.GatherLemmas.{Gathers-element, Gathers-last_element}
 use Rattle.bolt_report.proofs.pieces.add_later_parts.Goals as goal
 

@@ -1,7 +1,5 @@
 use Rattle.std.proofs.Common.{take}
-use Rattle.bolt_format.specs.Endings.{whole}
-use Rattle.bolt_report.specs.Gathers.{Gathers}
-use Rattle.bolt_report.specs.Pieces.{later_parts}
+use Rattle.bolt_report.proofs.Words.{Gathers, later_parts, whole}
 use Rattle.bolt_report.proofs.pieces.add_later_parts.Given as goal
 
 -- the parts before this one were added

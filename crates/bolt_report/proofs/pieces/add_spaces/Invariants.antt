@@ -1,6 +1,5 @@
 use Rattle.std.proofs.Common.{replicate}
-use Rattle.bolt_format.specs.Endings.{whole}
-use Rattle.bolt_report.specs.Gathers.{Gathers}
+use Rattle.bolt_report.proofs.Words.{Gathers, whole}
 use Rattle.bolt_report.proofs.pieces.add_spaces.Given as goal
 
 -- so many spaces were added

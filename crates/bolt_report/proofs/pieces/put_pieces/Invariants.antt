@@ -1,7 +1,5 @@
 use Rattle.std.proofs.Common.{take}
-use Rattle.bolt_format.specs.Endings.{whole}
-use Rattle.bolt_report.specs.Gathers.{Gathers}
-use Rattle.bolt_report.specs.Pieces.{pieces_text}
+use Rattle.bolt_report.proofs.Words.{Gathers, pieces_text, whole}
 use Rattle.bolt_report.proofs.pieces.put_pieces.Given as goal
 
 -- the pieces before this one were added

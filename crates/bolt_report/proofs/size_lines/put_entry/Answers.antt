@@ -1,9 +1,5 @@
 use Rattle.std.proofs.Common.{ap, sym}
-use Rattle.bolt_check.specs.CheckedFiles.{bytes_of, meta_of}
-use Rattle.bolt_format.proofs.WroteLemmas.{Wrote-none, Wrote-same}
-use Rattle.bolt_tree.specs.Buckets.{bucket_checked}
-use Rattle.bolt_tree.specs.Entries.{EntryView}
-use Rattle.bolt_tree.specs.ShownEntries.{item_view, shown_entry}
+use Rattle.bolt_report.proofs.Words.{bucket_checked, bytes_of, EntryView, item_view, meta_of, shown_entry, Wrote-none, Wrote-same}
 use Rattle.bolt_report.proofs.ReportLemmas.{Wrote-unbegun}
 use Rattle.bolt_report.proofs.SizeLemmas.{line_found, no_value_line}
 use Rattle.bolt_report.proofs.size_lines.put_entry.Goals as goal

@@ -1,5 +1,5 @@
 use Rattle.std.proofs.Common.{codes}
-use Rattle.bolt_format.proofs.WroteLemmas.{Wrote-same, Wrote-then}
+use Rattle.bolt_report.proofs.Words.{Wrote-same, Wrote-then}
 use Rattle.bolt_report.proofs.FigureTexts.{sized_item}
 use Rattle.bolt_report.proofs.ReportLemmas.{Wrote-fault, Wrote-passed, Wrote-sink}
 use Rattle.bolt_report.proofs.size_lines.put_object.Goals as goal

@@ -1,14 +1,5 @@
 use Rattle.std.proofs.Common.{◌∙◌, ap, subst, sym}
-use Rattle.bolt_check.specs.CheckedFiles.{bytes_of, meta_of}
-use Rattle.bolt_format.proofs.WroteFronts.{front_more, front_none, front_whole}
-use Rattle.bolt_format.proofs.WroteLemmas.{Wrote-same}
-use Rattle.bolt_tree.specs.Buckets.{bucket_checked}
-use Rattle.bolt_tree.specs.Cursors.{cursor_place}
-use Rattle.bolt_tree.specs.EntriesLeft.{entries_left}
-use Rattle.bolt_tree.specs.Places.{Place}
-use Rattle.bolt_tree.proofs.Leaving.{fewer_left, next_shows}
-use Rattle.bolt_report.specs.declared.form.Form.{Form}
-use Rattle.bolt_report.specs.SizeLines.{AreSized, sizes_text}
+use Rattle.bolt_report.proofs.Words.{AreSized, bucket_checked, bytes_of, cursor_place, entries_left, fewer_left, Form, front_more, front_none, front_whole, meta_of, next_shows, Place, sizes_text, Wrote-same}
 use Rattle.bolt_report.proofs.ReportLemmas.{front_fault}
 use Rattle.bolt_report.proofs.SizeLemmas.{cut, cut_text, first_left, no_line}
 use Rattle.bolt_report.proofs.size_lines.sizes.Goals as goal

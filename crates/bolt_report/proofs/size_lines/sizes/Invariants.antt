@@ -1,11 +1,5 @@
 use Rattle.std.proofs.Common.{◌≡◌, List, length}
-use Rattle.bolt_format.proofs.WroteFronts.{WroteFront}
-use Rattle.bolt_check.specs.CheckedFiles.{bytes_of, meta_of}
-use Rattle.bolt_tree.specs.Buckets.{bucket_checked, bucket_start}
-use Rattle.bolt_tree.specs.Cursors.{cursor_checked, cursor_place, cursor_start}
-use Rattle.bolt_tree.specs.EntriesLeft.{ForEntries, entries_left}
-use Rattle.bolt_tree.proofs.Leaving.{the_entries}
-use Rattle.bolt_report.specs.SizeLines.{AreSized, Sized, sizes_text}
+use Rattle.bolt_report.proofs.Words.{AreSized, bucket_checked, bucket_start, bytes_of, cursor_checked, cursor_place, cursor_start, entries_left, ForEntries, meta_of, Sized, sizes_text, the_entries, WroteFront}
 use Rattle.bolt_report.proofs.size_lines.sizes.Given as goal
 
 -- of the text of all buckets, the text of those that are left is still to be written

@@ -1,6 +1,5 @@
 use Rattle.std.proofs.Common.{append_assoc}
-use Rattle.json.specs.Print.{escape_byte, print_from}
-use Rattle.bolt_format.proofs.WroteLemmas.{Wrote-same}
+use Rattle.bolt_report.proofs.Words.{escape_byte, print_from, Wrote-same}
 use Rattle.bolt_report.specs.Figures.{stats_text}
 use Rattle.bolt_report.proofs.statistics.put_json.Goals as goal
 

@@ -1,12 +1,6 @@
 -- The member of the next line, whose bytes come next.
 use Rattle.std.proofs.Common.{◌∙◌, ◌∷◌, Some, sym, ap, subst}
-use Rattle.bolt_tree.specs.Paths.{Path, path_of}
-use Rattle.bolt_tree.specs.ShownEntries.{item_view}
-use Rattle.bolt_load.specs.HexPaths.{hex_path_in}
-use Rattle.bolt_load.specs.LineMembers.{members_in, text_members}
-use Rattle.bolt_load.specs.Private.Decoding.{GivesLine}
-use Rattle.bolt_load.specs.Private.LineWords.{word_item}
-use Rattle.bolt_load.specs.ShownMembers.{members_left, members_path}
+use Rattle.bolt_load.proofs.Words.{GivesLine, hex_path_in, item_view, members_in, members_left, members_path, Path, path_of, text_members, word_item}
 use Rattle.bolt_load.proofs.NextLines.{gives_line, gives_next, item_begins, no_members, no_words, path_begins, pushed_onto_none, rest_decoded}
 use Rattle.bolt_load.proofs.line_members.LineMembers.advance.Goals as goal
 
