@@ -1,12 +1,6 @@
 -- There is one list of findings of the accounts.
 use Rattle.std.proofs.Common.{◌≡◌, ◌≢◌, ◌⊎◌, ◌∙◌, ℕ, zero, suc, List, [], ◌∷◌, AllPairs, Contains, Option, Some, None, ap, ap₂, sym, refl, subst, inl, inr, arith}
-use Rattle.std.proofs.lemmas.Bool.{cases_eq}
-use Rattle.bolt_format.specs.Freelists.{free_ids_of}
-use Rattle.bolt_format.specs.declared.meta.Meta.{Meta}
-use Rattle.bolt_check.specs.AccountFindings.{AreAccountFindings, IsBefore, IsFreelistFinding}
-use Rattle.bolt_check.specs.declared.finding.Finding.{Finding}
-use Rattle.bolt_check.specs.Sound.{IsUsed}
-use Rattle.bolt_check.specs.Subtrees.{Has}
+use Rattle.bolt_check.proofs.Words.{AreAccountFindings, cases_eq, Finding, free_ids_of, Has, IsBefore, IsFreelistFinding, IsUsed, Meta}
 use Rattle.bolt_check.proofs.AccountLemmas.{unwritten}
 use Rattle.bolt_check.proofs.Rising.{RisesBy, same_lists}
 

@@ -1,18 +1,7 @@
 -- The findings of a listing are those of the accounts.
 use Rattle.std.proofs.Common.{◌≡◌, ◌≢◌, ◌∙◌, ◌==◌, ℕ, suc, ◌≤◌, inl, inr, ◌↔◌, List, [], ◌∷◌, Some, None, min, refl, sym, ap, subst, arith, Contains}
-use Rattle.std.proofs.lemmas.Bool.{cases_lt, cond-false, cond-true, eq-eqb, ne_eqb}
-use Rattle.std.proofs.lemmas.Option.{none-some, same_Some}
-use Rattle.bolt_format.specs.Freelists.{free_ids_at, free_ids_of, freelist_fault, freelist_fault_of}
-use Rattle.bolt_format.specs.declared.meta.Meta.{Meta}
-use Rattle.bolt_format.specs.declared.meta.TheConstants.{NO_FREELIST}
-use Rattle.bolt_check.specs.Accounts.{HasAccounts, IsInFreelist, IsInUse, ListsFree, times_in}
-use Rattle.bolt_check.specs.Findings.{finding}
-use Rattle.bolt_check.specs.Private.Listings.{AreAllFindings, ClaimsFreelist}
-use Rattle.bolt_check.specs.Private.Tables.{IsClaimed}
-use Rattle.bolt_check.specs.AccountFindings.{AreAccountFindings, IsAccountFinding, IsFreelistFinding, IsInRange, IsLost, bad, shared, freed_twice, reached_freed, unreachable, out_of_range}
-use Rattle.bolt_check.specs.declared.finding.Finding.{Finding}
-use Rattle.bolt_check.specs.declared.finding.TheConstants.Finding.{TWICE}
-use Rattle.bolt_check.specs.declared.table.PageUse.{PageUse}
+use Rattle.bolt_check.proofs.Words.{AreAccountFindings, AreAllFindings, bad, cases_lt, ClaimsFreelist, cond-false, cond-true, eq-eqb, finding, Finding, free_ids_of, freed_twice, freelist_fault, freelist_fault_of, HasAccounts, IsAccountFinding, IsClaimed, IsFreelistFinding, IsInFreelist, IsInRange, IsInUse, IsLost, ListsFree, Meta, ne_eqb, NO_FREELIST, none-some, out_of_range, PageUse, reached_freed, same_Some, shared, times_in, TWICE, unreachable}
+use Rattle.bolt_format.specs.Freelists.{free_ids_at}
 
 -- the same pages in use, and counts that differ above 2 alone
 pub record IsAlike (in_use also : ℕ → Type 0) (times counts : ℕ → ℕ) : Type 0 where

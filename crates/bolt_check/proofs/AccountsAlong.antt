@@ -1,9 +1,6 @@
 -- The accounts depend on which pages are used, and not on how that is said.
 use Rattle.std.proofs.Common.{◌↔◌, ℕ, inl, inr, List, refl}
-use Rattle.bolt_format.specs.declared.meta.Meta.{Meta}
-use Rattle.bolt_check.specs.Accounts.{HasAccounts, IsFree, IsInUse, times_in}
-use Rattle.bolt_check.specs.AccountFindings.{AreAccountFindings, IsFreelistFinding, bad, shared}
-use Rattle.bolt_check.specs.declared.finding.Finding.{Finding}
+use Rattle.bolt_check.proofs.Words.{AreAccountFindings, bad, Finding, HasAccounts, IsFree, IsFreelistFinding, IsInUse, Meta, shared, times_in}
 use Rattle.bolt_check.proofs.AccountLemmas.{IsAlike, alike_back, finding_along}
 
 module _ (file : List ℕ) (meta : Meta) where

@@ -1,16 +1,7 @@
 -- What a checked file is known to be.
 use Rattle.std.proofs.Common.{◌≡◌, ℕ, List, Some, subst}
-use Rattle.std.specs.Prelude.{IsSome}
-use Rattle.std.proofs.Math.Logic.{∥∥₁_elim, ∥∥₁_map}
-use Rattle.std.proofs.Props.{props}
-use Rattle.bolt_format.specs.Pages.{page_at}
-use Rattle.bolt_format.specs.declared.meta.Meta.{Meta}
-use Rattle.bolt_check.specs.CheckedFiles.{bytes_of, meta_of}
-use Rattle.bolt_check.specs.Nodes.{node_at}
-use Rattle.bolt_check.specs.OnWays.{IsOnWay}
-use Rattle.bolt_check.specs.Sound.{HasSoundTrees}
-use Rattle.bolt_check.specs.Ways.{At_page, PageSpot, reached}
-use Rattle.bolt_check.specs.declared.checked_file.Checked.{Checked}
+use Rattle.bolt_check.proofs.Words.{At_page, bytes_of, Checked, HasSoundTrees, IsOnWay, IsSome, Meta, meta_of, node_at, page_at, PageSpot, props, ∥∥₁_elim, ∥∥₁_map}
+use Rattle.bolt_check.specs.Ways.{reached}
 use Rattle.bolt_check.proofs.MarkLemmas.{node_shown}
 
 -- a way leads to a good page

@@ -1,18 +1,10 @@
 -- Claiming page after page.
 use Rattle.std.proofs.Common.{◌≡◌, ◌≢◌, ◌∙◌, ℕ, ◌+◌, ◌<◌, ◌≤◌, ◌^◌, ◌⊎◌, List, None, length, set, inl, inr, sym, ap, arith, get_or-set_same, get_or-set_other}
-use Rattle.std.proofs.lemmas.Bool.{cases_eq, cases_lt, false≢true}
+use Rattle.bolt_check.proofs.Words.{cases_eq, cases_lt, claims_file, ClaimsFreelist, false≢true, first_use, freelist_fault_of, HasRoom, is_used, IsClaimed, IsInFreelist, IsUnclaimed, Meta, NO_FREELIST, page_overflow, PageUse, times_of, use_at}
 use Rattle.bolt_format.specs.Bytes.{IsBytes}
-use Rattle.bolt_format.specs.Freelists.{freelist_fault_of}
-use Rattle.bolt_format.specs.Pages.{page_overflow}
-use Rattle.bolt_format.specs.declared.meta.Meta.{Meta}
-use Rattle.bolt_format.specs.declared.meta.TheConstants.{NO_FREELIST}
-use Rattle.bolt_check.specs.Accounts.{IsInFreelist}
-use Rattle.bolt_check.specs.Private.Listings.{ClaimsFreelist}
-use Rattle.bolt_check.specs.Claims.{claims_file, claims_visited}
+use Rattle.bolt_check.specs.Claims.{claims_visited}
 use Rattle.bolt_check.specs.Counts.{counted}
-use Rattle.bolt_check.specs.Private.Tables.{HasRoom, IsClaimed, IsUnclaimed, first_use, is_used, use_at, times_of}
 use Rattle.bolt_check.specs.declared.claims.Claims.{Claims}
-use Rattle.bolt_check.specs.declared.table.PageUse.{PageUse}
 use Rattle.bolt_check.specs.declared.table.PageUse.TheVariants.{Used}
 use Rattle.bolt_check.proofs.FreelistLemmas.{freelist_within}
 use Rattle.bolt_check.proofs.Spans.{outside, still_unlisted}

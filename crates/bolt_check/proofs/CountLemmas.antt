@@ -1,8 +1,6 @@
 -- How often a number is in a sorted list.
 use Rattle.std.proofs.Common.{◌≡◌, ◌∙◌, ◌==◌, ℕ, zero, suc, ◌+◌, ◌<◌, ◌≤◌, List, [], ◌∷◌, length, get_or, cond, refl, ap, arith, inl, inr}
-use Rattle.std.proofs.lemmas.Bool.{cases_eq, eq-eqb, ne_eqb}
-use Rattle.std.proofs.lemmas.List.Sums.{sum_by-cons}
-use Rattle.bolt_check.specs.Accounts.{times_in}
+use Rattle.bolt_check.proofs.Words.{cases_eq, eq-eqb, ne_eqb, sum_by-cons, times_in}
 
 -- one number more
 times_cons : (x n : ℕ) (xs : List ℕ) → times_in (x ∷ xs) n ≡ cond (x == n) 1 0 + times_in xs n

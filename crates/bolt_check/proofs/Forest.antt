@@ -1,12 +1,6 @@
 -- The spots that are still to be visited, as ways: the first number of a way picks the spot, the rest leads on from it.
 use Rattle.std.proofs.Common.{◌≡◌, ℕ, zero, suc, ◌<◌, ◌⊎◌, inl, inr, Bool, List, [], ◌∷◌, ◌++◌, Option, Some, None, Ok, slice_get, refl, sym, ap, subst, arith, ◌∙◌}
-use Rattle.bolt_check.specs.Ways.{PageSpot, Spot, At_page, At_inline, Before, SpanHas, step, step_entry, follow}
-use Rattle.bolt_check.specs.declared.finding.Finding.{Finding}
-use Rattle.bolt_check.specs.Nodes.{Nodes, Node, Entry}
-use Rattle.bolt_check.specs.Keys.{Key}
-use Rattle.bolt_check.specs.Findings.{Tests, IsClaimedBefore, IsCovered, IsClean, IsFirst}
-use Rattle.bolt_check.specs.Private.Pending.{forest, somes}
-use Rattle.bolt_check.specs.EntrySpots.{places}
+use Rattle.bolt_check.proofs.Words.{At_inline, At_page, Before, Entry, Finding, follow, forest, IsClaimedBefore, IsClean, IsCovered, IsFirst, Key, Node, Nodes, PageSpot, places, somes, SpanHas, Spot, step, step_entry, Tests}
 use Rattle.bolt_check.proofs.Judging.{tests_same, span_spot}
 use Rattle.bolt_check.proofs.Visiting.{Visits}
 

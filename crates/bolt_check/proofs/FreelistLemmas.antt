@@ -1,15 +1,10 @@
 -- The span of a freelist whose page is good.
 use Rattle.std.proofs.Common.{◌≡◌, ◌≢◌, ◌∙◌, ◌==◌, ℕ, ◌+◌, ◌*◌, ◌<◌, ◌≤◌, List, Option, Some, None, length, refl, sym}
-use Rattle.std.proofs.lemmas.Bool.{cond-false, ne_eqb}
-use Rattle.bolt_format.specs.Freelists.{freelist_fault, freelist_fault_of, freelist_kind_fault}
+use Rattle.bolt_check.proofs.Words.{cond-false, first_of-none, freelist_fault, freelist_fault_of, Kind, Meta, ne_eqb, NO_FREELIST, page_at, page_fault, page_overflow, span_within}
+use Rattle.bolt_format.specs.Freelists.{freelist_kind_fault}
 use Rattle.bolt_format.specs.Headers.{count_field, flags_field, kind_of}
-use Rattle.bolt_format.specs.Pages.{from_page, page_at, page_fault, page_overflow, span_bytes, span_fault, view_of}
-use Rattle.bolt_format.specs.declared.kind.Kind.{Kind}
+use Rattle.bolt_format.specs.Pages.{from_page, span_bytes, span_fault, view_of}
 use Rattle.bolt_format.specs.declared.kind.Kind.TheVariants as kind
-use Rattle.bolt_format.specs.declared.meta.Meta.{Meta}
-use Rattle.bolt_format.specs.declared.meta.TheConstants.{NO_FREELIST}
-use Rattle.bolt_format.proofs.FaultLemmas.{first_of-none}
-use Rattle.bolt_format.proofs.PageFacts.{span_within}
 
 is_freelist : (k : Option Kind) → freelist_kind_fault k ≡ None → k ≡ Some kind.Freelist
 is_freelist (Some kind.Freelist) e = refl

@@ -1,11 +1,7 @@
 -- The tests at a spot speak of the nodes that were claimed before only as a set.
 use Rattle.std.proofs.Common.{◌≡◌, ℕ, Option, Some, None, Ok, refl}
-use Rattle.bolt_check.specs.Ways.{PageSpot, Spot, At_page, At_inline, SpanHas}
-use Rattle.bolt_check.specs.declared.finding.Finding.{Finding}
-use Rattle.bolt_check.specs.Nodes.{Nodes}
-use Rattle.bolt_check.specs.Private.Uses.{UseAt, UseOf}
-use Rattle.bolt_check.specs.declared.table.PageUse.{PageUse}
-use Rattle.bolt_check.specs.Findings.{early_finding, node_finding, inline_finding, Tests, PageTests, early, twice, late, Passes, PagePasses}
+use Rattle.bolt_check.proofs.Words.{At_inline, At_page, early, early_finding, Finding, inline_finding, late, node_finding, Nodes, PagePasses, PageSpot, PageTests, PageUse, Passes, SpanHas, Spot, Tests, UseAt, UseOf}
+use Rattle.bolt_check.specs.Findings.{twice}
 
 page_same : (nodes : Nodes) (a b : ℕ → Type 0) (s : PageSpot) (x : Finding) → ((n : ℕ) → a n → b n) → ((n : ℕ) → b n → a n)
     → PageTests nodes a s x → PageTests nodes b s x

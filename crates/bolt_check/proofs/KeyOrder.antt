@@ -1,8 +1,7 @@
 -- That the tests of the keys find nothing, in the words of the shape.
 use Rattle.std.proofs.Common.{◌≡◌, ℕ, zero, suc, Bool, true, not, if◌then◌else◌, List, [], ◌∷◌, Option, Some, None, slice_get, refl, sym, arith}
-use Rattle.std.proofs.lemmas.Option.{none-some}
-use Rattle.bolt_format.proofs.FaultLemmas.{first_of-none}
-use Rattle.bolt_check.specs.Keys.{Key, KeysRise, is_above, is_below, is_from, keys_order_fault, key_lt, key_order_fault}
+use Rattle.bolt_check.proofs.Words.{first_of-none, is_above, is_below, is_from, Key, key_lt, keys_order_fault, none-some}
+use Rattle.bolt_check.specs.Keys.{KeysRise, key_order_fault}
 use Rattle.bolt_check.specs.declared.finding.TheConstants.Finding.{ORDER, BELOW_PARENT, ABOVE_NEXT}
 use Rattle.bolt_check.proofs.KeyLaws.{above_more}
 

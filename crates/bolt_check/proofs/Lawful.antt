@@ -1,16 +1,8 @@
 -- If the shape holds, the tests find nothing.
 use Rattle.std.proofs.Common.{◌≡◌, ◌≢◌, ℕ, suc, ◌≤◌, inl, inr, Bool, true, false, not, ◌&&◌, ◌==◌, if◌then◌else◌, nat_lt, List, [], ◌∷◌, ◌++◌, length, Option, Some, None, Result, Ok, Err, slice_get, ap, refl, subst, arith}
-use Rattle.std.proofs.lemmas.Bool.{ne_eqb}
-use Rattle.std.proofs.lemmas.Bool.Decides.{nat_tests}
-use Rattle.std.proofs.lemmas.Option.{cond_some, same_Some}
-use Rattle.bolt_check.specs.Ways.{PageSpot, Spot, At_page, At_inline, SpanHas, step, step_at, step_entry, bucket_spot, child_spot, upper_from, follow, reached, root_spot}
-use Rattle.bolt_check.specs.declared.finding.Finding.{Finding}
-use Rattle.bolt_check.specs.Nodes.{Nodes, Node, Entry, node_at}
-use Rattle.bolt_check.specs.Findings.{keys_of, early_finding, node_finding, Passes, IsClaimedBefore, IsClean, IsMetaPage}
-use Rattle.bolt_check.specs.Keys.{Key, is_below, is_from, keys_order_fault, key_lt}
-use Rattle.bolt_format.specs.declared.meta.Meta.{Meta}
-use Rattle.bolt_check.specs.Shape.{leads, HasShape}
-use Rattle.bolt_check.specs.Sound.{HasSoundTrees, IsFirstFinding}
+use Rattle.bolt_check.proofs.Words.{At_inline, At_page, bucket_spot, child_spot, early_finding, Entry, Finding, follow, HasShape, HasSoundTrees, is_below, is_from, IsClaimedBefore, IsClean, IsFirstFinding, IsMetaPage, Key, key_lt, keys_of, keys_order_fault, leads, Meta, nat_tests, ne_eqb, Node, node_at, node_finding, Nodes, PageSpot, Passes, root_spot, same_Some, SpanHas, Spot, step, step_entry, upper_from}
+use Rattle.std.proofs.lemmas.Option.{cond_some}
+use Rattle.bolt_check.specs.Ways.{step_at, reached}
 use Rattle.bolt_check.proofs.WayOrder.{before_irreflexive}
 use Rattle.bolt_check.proofs.Forest.{follow_some, nothing_is}
 use Rattle.bolt_check.proofs.Judging.{passes_silent}

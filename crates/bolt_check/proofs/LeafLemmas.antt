@@ -2,18 +2,9 @@
 use Rattle.std.proofs.Common.{◌≡◌, ◌≢◌, ◌∙◌, ◌==◌, ◌<◌, ◌+◌, ℕ, true, false, not, List, [], length, Option, Some, None, Result, Ok, sym, ap, subst, arith}
 use Rattle.std.specs.Option.{IfNone}
 use Rattle.std.specs.Prelude.{IsTrue, nat_lt}
-use Rattle.std.proofs.lemmas.Bool.{false≢true, ltb-true}
-use Rattle.std.proofs.lemmas.Bool.Decides.{nat_tests}
-use Rattle.bolt_format.specs.declared.meta.Meta.{Meta}
-use Rattle.bolt_check.specs.Findings.{PagePasses}
+use Rattle.bolt_check.proofs.Words.{At_page, Entry, false≢true, HasRoom, ltb-true, Meta, nat_tests, Node, node_at, Nodes, PagePasses, PageUse, root_spot, shown_node, SpanAt, TreePage}
 use Rattle.bolt_check.specs.LoneLeaves.{IsLoneLeaf}
-use Rattle.bolt_check.specs.Nodes.{Entry, Node, Nodes, node_at}
 use Rattle.bolt_check.specs.Private.LeafTests.{IsFilledLeaf}
-use Rattle.bolt_check.specs.Private.Tables.{HasRoom}
-use Rattle.bolt_check.specs.ShownNodes.{shown_node}
-use Rattle.bolt_check.specs.Ways.{At_page, SpanAt, root_spot}
-use Rattle.bolt_check.specs.declared.table.PageUse.{PageUse}
-use Rattle.bolt_check.specs.declared.tree_page.TreePage.{TreePage}
 use Rattle.bolt_check.proofs.MarkLemmas.{node_within}
 
 -- a filled leaf at which the tests find nothing

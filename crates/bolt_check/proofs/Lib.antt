@@ -39,3 +39,4 @@ pub mod Visited
 pub mod Visiting
 pub mod WayFacts
 pub mod WayOrder
+mod Words

@@ -1,17 +1,9 @@
 -- A listing, page by page.
 use Rattle.std.proofs.Common.{◌≡◌, ◌∙◌, ℕ, suc, ◌+◌, ◌<◌, ◌≤◌, max, inl, inr, List, [], ◌∷◌, ◌++◌, length, get_or, refl, sym, ap, subst, arith, append-nil, add-one, nat_lt, ◌==◌}
-use Rattle.std.proofs.lemmas.Bool.{and_from, and_parts, both_ways, cases_Bool, cases_lt, cond-false, cond-true, eq-eqb, eqb-true, false≢true, lt-ltb, ltb-true}
+use Rattle.bolt_check.proofs.Words.{AreAllFindings, AreFindingsBelow, both_ways, cases_lt, cond-false, cond-true, eq-eqb, false≢true, Finding, finding, Free, FREE_RANGE, FREED_TWICE, FreeTwice, HasFindingsTo, is_in_use, is_used, IsAccountFinding, IsBeyondTo, IsInRange, IsLost, IsPastTo, IsRun, IsSettled, listed_times, Listing, lt-ltb, ltb-true, page_findings, PageUse, run_findings, times_in, times_of, Unused, use_at}
+use Rattle.std.proofs.lemmas.Bool.{and_from, and_parts, cases_Bool, eqb-true}
 use Rattle.std.proofs.lemmas.List.Elements.{All-contains}
-use Rattle.bolt_check.specs.Accounts.{times_in}
-use Rattle.bolt_check.specs.Findings.{finding}
-use Rattle.bolt_check.specs.Private.Listings.{AreAllFindings, AreFindingsBelow, IsBeyondTo, IsPastTo, IsRun, IsSettled, HasFindingsTo, is_in_use, listed_times, is_repeated, page_findings, repeat_findings, run_findings}
-use Rattle.bolt_check.specs.Private.Tables.{is_used, use_at, times_of}
-use Rattle.bolt_check.specs.AccountFindings.{IsAccountFinding, IsInRange, IsLost}
-use Rattle.bolt_check.specs.declared.finding.Finding.{Finding}
-use Rattle.bolt_check.specs.declared.finding.TheConstants.Finding.{FREED_TWICE, FREE_RANGE}
-use Rattle.bolt_check.specs.declared.listing.Listing.{Listing}
-use Rattle.bolt_check.specs.declared.table.PageUse.{PageUse}
-use Rattle.bolt_check.specs.declared.table.PageUse.TheVariants.{Unused, Free, FreeTwice}
+use Rattle.bolt_check.specs.Private.Listings.{is_repeated, repeat_findings}
 use Rattle.bolt_check.proofs.CountLemmas.{place_of, times_none, times_once, times_some, times_twice}
 use Rattle.bolt_check.proofs.TableLemmas.{past_metas, past_unlisted}
 use Rattle.bolt_check.proofs.PageLemmas.{twice, reached, lost, range, not_lost_listed, on_own_page, reports_page, reports_range, reports_twice, reports_well}

@@ -1,17 +1,10 @@
 -- A good page lies below the mark and in the file.
 use Rattle.std.proofs.Common.{◌≡◌, ◌∙◌, ℕ, ◌+◌, ◌*◌, ◌<◌, ◌≤◌, List, Option, Some, None, Result, Ok, Err, length, refl, sym, ap, subst, inl, inr, arith, []}
-use Rattle.std.specs.Prelude.{IsSome}
-use Rattle.std.proofs.lemmas.Bool.{cases_lt}
-use Rattle.bolt_format.specs.Pages.{PageView, page_at, page_fault, page_overflow, shown_as}
-use Rattle.bolt_format.specs.declared.kind.Kind.{Kind}
+use Rattle.bolt_check.proofs.Words.{At_page, cases_lt, HasRoom, IsClean, IsMetaPage, IsSome, Kind, Meta, Node, node_at, node_of, node_seen, page_at, page_fault, page_overflow, PageUse, PageView, root_spot, span_within}
+use Rattle.bolt_format.specs.Pages.{shown_as}
 use Rattle.bolt_format.specs.declared.kind.Kind.TheVariants as kind
-use Rattle.bolt_format.specs.declared.meta.Meta.{Meta}
-use Rattle.bolt_check.specs.Nodes.{Node, node_at, node_of, node_seen}
-use Rattle.bolt_check.specs.Findings.{IsClean, IsMetaPage}
-use Rattle.bolt_check.specs.Private.Tables.{HasRoom}
-use Rattle.bolt_check.specs.Ways.{At_page, reached, root_spot}
-use Rattle.bolt_check.specs.declared.table.PageUse.{PageUse}
-use Rattle.bolt_format.proofs.PageFacts.{span_passes, span_within}
+use Rattle.bolt_check.specs.Ways.{reached}
+use Rattle.bolt_format.proofs.PageFacts.{span_passes}
 
 abbrev node_overflow : Result Node ℕ → ℕ
 node_overflow (Ok node) = node.overflow

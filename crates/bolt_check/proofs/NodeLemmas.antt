@@ -1,18 +1,12 @@
 -- The entries of a page as a node.
 use Rattle.std.proofs.Common.{◌≡◌, ◌∙◌, ℕ, suc, ◌+◌, ◌≤◌, List, true, false, Option, None, Some, length, sym, ap, arith, slice_get}
-use Rattle.std.specs.Option.{option_map}
+use Rattle.bolt_check.proofs.Words.{At_page, branch_entry, BranchElement, child_spot, Entry, Key, keys_of, leaf_entry, LeafElement, none-some, option_map, PageSpot, shown, shown_node, slice_get-map, step_entry, step_on, TreePage, upper_from}
 use Rattle.std.proofs.lemmas.List.{length-map}
-use Rattle.std.proofs.lemmas.Option.{slice_get-map, slice_get_past, none-some}
-use Rattle.bolt_format.specs.Elements.{BranchElement, LeafElement}
-use Rattle.bolt_format.specs.Shown.{shown}
+use Rattle.std.proofs.lemmas.Option.{slice_get_past}
 use Rattle.bolt_format.proofs.PageLaws.{length-shown_branches, length-shown_leaves}
-use Rattle.bolt_check.specs.Findings.{keys_of}
-use Rattle.bolt_check.specs.Nodes.{Entry, branch_entry, leaf_entry}
-use Rattle.bolt_check.specs.ShownNodes.{entries_of, shown_node}
-use Rattle.bolt_check.specs.Keys.{Key}
+use Rattle.bolt_check.specs.ShownNodes.{entries_of}
 use Rattle.bolt_check.specs.TreeKinds.{tree_kind}
-use Rattle.bolt_check.specs.Ways.{At_page, PageSpot, bucket_spots, child_spot, step_entry, step_on, upper_from}
-use Rattle.bolt_check.specs.declared.tree_page.TreePage.{TreePage}
+use Rattle.bolt_check.specs.Ways.{bucket_spots}
 
 -- a leaf has as many entries as elements
 pub length-leaf : (node : TreePage) → node.is_leaf ≡ true → length (shown_node node).entries ≡ (shown node.page).count

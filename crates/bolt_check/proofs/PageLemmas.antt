@@ -1,16 +1,9 @@
 -- What is reported of one page.
 use Rattle.std.proofs.Common.{◌≡◌, ℕ, suc, ◌<◌, ◌≤◌, ◌⊎◌, inl, inr, true, [], ◌∷◌, refl, sym, subst, arith}
-use Rattle.std.proofs.lemmas.Bool.{cases_lt, lt-ltb, le-ltb, false≢true}
-use Rattle.std.proofs.lemmas.List.Elements.{All-cons, All-nil}
+use Rattle.bolt_check.proofs.Words.{All-cons, All-nil, cases_lt, false≢true, finding, Finding, Free, FREE_RANGE, FREED_TWICE, freed_twice, FreeTwice, is_used, IsAccountFinding, IsBefore, IsInRange, IsLost, le-ltb, lt-ltb, out_of_range, page_findings, PageUse, reached_freed, times_of, unreachable, Unused, UsedFree, UsedFreeTwice}
 use Rattle.std.proofs.lemmas.List.Kept.{AllPairs-cons}
-use Rattle.bolt_check.specs.Findings.{finding}
-use Rattle.bolt_check.specs.Private.Listings.{meta_findings, page_findings, use_findings}
-use Rattle.bolt_check.specs.Private.Tables.{is_used, times_of}
-use Rattle.bolt_check.specs.AccountFindings.{IsAccountFinding, IsBefore, IsInRange, IsLost, freed_twice, reached_freed, unreachable, out_of_range}
-use Rattle.bolt_check.specs.declared.finding.Finding.{Finding}
-use Rattle.bolt_check.specs.declared.finding.TheConstants.Finding.{FREED_TWICE, FREE_RANGE, REACHED_FREED}
-use Rattle.bolt_check.specs.declared.table.PageUse.{PageUse}
-use Rattle.bolt_check.specs.declared.table.PageUse.TheVariants.{Unused, Free, FreeTwice, UsedFree, UsedFreeTwice}
+use Rattle.bolt_check.specs.Private.Listings.{meta_findings, use_findings}
+use Rattle.bolt_check.specs.declared.finding.TheConstants.Finding.{REACHED_FREED}
 use Rattle.bolt_check.proofs.AccountFindingLemmas.{Reports, reports_none, reports_one, one_rises}
 
 -- a finding on a page, by its number

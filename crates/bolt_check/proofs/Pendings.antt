@@ -1,11 +1,7 @@
 -- What a node leads to from an entry on.
 use Rattle.std.proofs.Common.{◌≡◌, ℕ, zero, suc, ◌+◌, ◌<◌, ◌≤◌, Bool, List, [], ◌∷◌, ◌++◌, Some, None, length, map, drop, slice_get, refl, ap, arith}
 use Rattle.std.proofs.lemmas.List.{reverse-append, drop_all}
-use Rattle.bolt_check.specs.Nodes.{Entry, Node}
-use Rattle.bolt_check.specs.Private.Pending.{kids, somes, spots_of}
-use Rattle.bolt_check.specs.EntrySpots.{places}
-use Rattle.bolt_check.specs.ShownSpots.{spot_at}
-use Rattle.bolt_check.specs.Ways.{PageSpot, Spot, step_entry, step_on}
+use Rattle.bolt_check.proofs.Words.{Entry, kids, Node, PageSpot, places, somes, Spot, spot_at, spots_of, step_entry, step_on}
 use Rattle.bolt_check.specs.declared.spot.Spot.{Spot as CodeSpot}
 
 pub places_drop : (is_leaf : Bool) (s : PageSpot) (entries : List Entry) (i : ℕ) → i < length entries

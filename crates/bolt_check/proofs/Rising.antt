@@ -1,6 +1,6 @@
 -- A rising list is known by what it has.
 use Rattle.std.proofs.Common.{◌≡◌, ◌∙◌, inl, inr, List, [], ◌∷◌, refl, sym, ap₂, subst}
-use Rattle.bolt_check.specs.Subtrees.{Has}
+use Rattle.bolt_check.proofs.Words.{Has}
 
 module _ {X : Type 0} (lt : X → X → Type 0) where
   abbrev pub RisesBy : List X → Type 0

@@ -1,22 +1,12 @@
 -- In a sound file each page below the mark has a role: the tour says whether a way leads to it.
 use Rattle.std.proofs.Common.{◌≡◌, ℕ, ◌+◌, ◌<◌, ◌≤◌, ◌⊎◌, inl, inr, Bool, true, false, List, [], ◌∷◌, Option, Some, Result, Ok, Err, refl, arith}
-use Rattle.std.proofs.lemmas.Bool.{cases_lt, cases_eq, eq-eqb, ne_eqb}
-use Rattle.bolt_format.specs.Pages.{page_overflow}
-use Rattle.bolt_format.specs.declared.meta.Meta.{Meta}
-use Rattle.bolt_format.specs.declared.meta.TheConstants.{NO_FREELIST}
-use Rattle.bolt_check.specs.Accounts.{IsInFreelist}
-use Rattle.bolt_check.specs.Nodes.{Node, Nodes, node_at}
-use Rattle.bolt_check.specs.Roles.{HasRole}
-use Rattle.bolt_check.specs.Sound.{HasRightAccounts, HasSoundTrees}
-use Rattle.bolt_check.specs.Ways.{At_page, PageSpot, Reach, SpanHas, SpanOf, Spot, reached}
-use Rattle.bolt_check.specs.declared.role_table.Role.{Role}
+use Rattle.bolt_check.proofs.Words.{At_page, cases_eq, cases_lt, eq-eqb, Has, HasRightAccounts, HasRole, HasSoundTrees, IsInFreelist, IsTour, Meta, ne_eqb, NO_FREELIST, Node, node_at, Nodes, page_overflow, PageSpot, Reach, Role, SpanHas, SpanOf, Spot}
+use Rattle.bolt_check.specs.Ways.{reached}
 use Rattle.bolt_check.specs.declared.role_table.Role.TheVariants as role
-use Rattle.bolt_check.specs.Tours.{IsTour}
 use Rattle.bolt_check.proofs.Judging.{span_spot}
 use Rattle.bolt_check.proofs.RoleOnce.{Used, first_role, node_role, spot_role, used_role}
 use Rattle.bolt_check.proofs.TourSums.{bucket_tour}
 use Rattle.bolt_check.proofs.TourLemmas.{Ways}
-use Rattle.bolt_check.specs.Subtrees.{Has}
 
 abbrev Either : Type 0 → Type 0
 Either A = A ⊎ (A → ⊥)

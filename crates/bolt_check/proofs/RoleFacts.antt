@@ -1,19 +1,10 @@
 -- What holds of a page with a role, for the crates above.
 use Rattle.std.proofs.Common.{◌≡◌, ℕ, ◌+◌, ◌*◌, ◌<◌, ◌≤◌, inl, inr, Bool, true, List, [], Ok, length, refl, sym, subst, arith}
-use Rattle.std.specs.Prelude.{IsSome}
-use Rattle.std.proofs.Math.Logic.{∥∥₁_elim, ∥∥₁_map}
+use Rattle.bolt_check.proofs.Words.{bytes_of, cases_lt, Checked, HasRightAccounts, HasRole, HasSoundTrees, IsFirstPage, IsInFreelist, IsSome, IsSound, Meta, meta_of, Node, node_at, page_at, Role, root_spot, ∥∥₁_elim, ∥∥₁_map}
 use Rattle.std.proofs.Math.Nat.{mul-le-mul_right}
-use Rattle.std.proofs.lemmas.Bool.{cases_lt}
-use Rattle.bolt_format.specs.Pages.{page_at}
-use Rattle.bolt_format.specs.declared.meta.Meta.{Meta}
-use Rattle.bolt_check.specs.Accounts.{IsInFreelist}
-use Rattle.bolt_check.specs.CheckedFiles.{bytes_of, has_accounts, meta_of}
-use Rattle.bolt_check.specs.Nodes.{Node, node_at}
-use Rattle.bolt_check.specs.Roles.{AreRoles, HasRole, IsFirstPage}
-use Rattle.bolt_check.specs.Sound.{HasRightAccounts, HasSoundTrees, IsSound}
-use Rattle.bolt_check.specs.Ways.{reached, root_spot}
-use Rattle.bolt_check.specs.declared.checked_file.Checked.{Checked}
-use Rattle.bolt_check.specs.declared.role_table.Role.{Role}
+use Rattle.bolt_check.specs.CheckedFiles.{has_accounts}
+use Rattle.bolt_check.specs.Roles.{AreRoles}
+use Rattle.bolt_check.specs.Ways.{reached}
 use Rattle.bolt_check.specs.declared.role_table.Role.TheVariants as role
 use Rattle.bolt_check.proofs.FreelistLemmas.{freelist_page, freelist_within}
 use Rattle.bolt_check.proofs.MarkLemmas.{node_shown, node_within}

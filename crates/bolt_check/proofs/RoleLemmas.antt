@@ -1,23 +1,13 @@
 -- The role of a page, from the table of uses.
 use Rattle.std.proofs.Common.{◌≡◌, ◌≢◌, ◌∙◌, ℕ, zero, suc, ◌<◌, ◌≤◌, ◌↔◌, inl, inr, Bool, true, false, List, Some, sym, ap, subst, refl, arith}
-use Rattle.std.proofs.lemmas.Bool.{cases_lt, cases_eq, lt-ltb, le-ltb, eq-eqb, ne_eqb, false≢true}
+use Rattle.bolt_check.proofs.Words.{At_inline, At_page, cases_eq, cases_lt, ClaimsUses, eq-eqb, false≢true, HasRightAccounts, HasRole, HasUse, is_used, IsClaimed, IsFirstPage, IsInFreelist, IsMetaUse, IsNoted, IsSound, IsUsed, le-ltb, lt-ltb, Meta, ne_eqb, NO_FREELIST, node_at, Nodes, PageUse, Reach, Slot, Spot, use_at, use_of, UseAt, UsedFree, UsedFreeTwice}
 use Rattle.bolt_format.specs.Metas.{IsInSlot, IsMeta, IsPageSize}
-use Rattle.bolt_format.specs.declared.meta.Meta.{Meta}
-use Rattle.bolt_format.specs.declared.meta.Slot.{Slot}
 use Rattle.bolt_format.specs.declared.meta.Slot.TheVariants.{One, Zero}
-use Rattle.bolt_format.specs.declared.meta.TheConstants.{NO_FREELIST}
-use Rattle.bolt_check.specs.Accounts.{IsInFreelist}
-use Rattle.bolt_check.specs.Private.Listings.{ClaimsUses}
-use Rattle.bolt_check.specs.Nodes.{Nodes, node_at}
 use Rattle.bolt_check.specs.Private.RoleTables.{AreUses, role_by, role_from}
-use Rattle.bolt_check.specs.Roles.{HasRole, IsFirstPage, IsLaterPage}
-use Rattle.bolt_check.specs.Sound.{HasRightAccounts, IsSound, IsUsed}
-use Rattle.bolt_check.specs.Private.Tables.{IsClaimed, is_used, use_at}
-use Rattle.bolt_check.specs.Private.Uses.{HasUse, IsMetaUse, IsNoted, UseAt, use_of}
-use Rattle.bolt_check.specs.Ways.{At_inline, At_page, Reach, Spot, reached}
+use Rattle.bolt_check.specs.Roles.{IsLaterPage}
+use Rattle.bolt_check.specs.Ways.{reached}
 use Rattle.bolt_check.specs.declared.role_table.Role.TheVariants as role
-use Rattle.bolt_check.specs.declared.table.PageUse.{PageUse}
-use Rattle.bolt_check.specs.declared.table.PageUse.TheVariants.{Branch, Leaf, Used, UsedFree, UsedFreeTwice}
+use Rattle.bolt_check.specs.declared.table.PageUse.TheVariants.{Branch, Leaf, Used}
 use Rattle.bolt_check.proofs.Judging.{use_spot}
 
 module _ (file : List ℕ) (meta : Meta) (table : List PageUse) (are : AreUses file meta table) where

@@ -1,13 +1,7 @@
 -- In a sound file a page has at most one role: where it is in use determines the role, and it is free if it isn't in use.
 use Rattle.std.proofs.Common.{◌≡◌, ◌∙◌, ℕ, ◌<◌, ◌==◌, ◌⊎◌, inl, inr, Bool, true, false, List, Option, Some, Result, Ok, Err, cond, sym, ap, refl, arith}
-use Rattle.std.proofs.lemmas.Bool.{eq-eqb, ne_eqb}
-use Rattle.bolt_format.specs.declared.meta.Meta.{Meta}
-use Rattle.bolt_check.specs.Accounts.{IsFree, IsInUse}
-use Rattle.bolt_check.specs.Nodes.{Node, Nodes, node_at}
-use Rattle.bolt_check.specs.Roles.{HasRole, IsFirstPage}
-use Rattle.bolt_check.specs.Sound.{HasRightAccounts, HasSoundTrees, IsUsed}
-use Rattle.bolt_check.specs.Ways.{At_page, Reach, SpanHas, Spot, reached}
-use Rattle.bolt_check.specs.declared.role_table.Role.{Role}
+use Rattle.bolt_check.proofs.Words.{At_page, eq-eqb, HasRightAccounts, HasRole, HasSoundTrees, IsFirstPage, IsFree, IsInUse, IsUsed, Meta, ne_eqb, Node, node_at, Nodes, Reach, Role, SpanHas, Spot}
+use Rattle.bolt_check.specs.Ways.{reached}
 use Rattle.bolt_check.specs.declared.role_table.Role.TheVariants as role
 
 abbrev pub first_role : Bool → Role

@@ -2,18 +2,11 @@
 use Rattle.std.proofs.Common.{◌≡◌, ◌∙◌, ◌==◌, ℕ, ◌<◌, ◌≤◌, Bool, true, List, All, length, Vec, Global, Result, IfOk, cond, not, filter, min, IsPermutation, inl, inr, refl, sym, ap, subst, arith, nat_le}
 use Rattle.std.specs.List.Sorted.{IsNonDecreasing, IsSorted}
 use Rattle.std.specs.Ordering.{nat_cmp}
-use Rattle.std.proofs.lemmas.Bool.{both_ways, cases_lt, le-leb, leb-true, not-true}
-use Rattle.std.proofs.lemmas.List.Elements.{All-weaker, filter_passes}
+use Rattle.bolt_check.proofs.Words.{All-weaker, AllocError, AreAllFindings, both_ways, cases_lt, Finding, IfOk-weaker, is_in_use, is_used, IsClaimed, IsSettled, listed_times, Listing, not-true, PageUse, times_in, times_of, use_at}
+use Rattle.std.proofs.lemmas.Bool.{le-leb, leb-true}
+use Rattle.std.proofs.lemmas.List.Elements.{filter_passes}
 use Rattle.std.proofs.lemmas.List.Sorted.{All-permutation, IsNonDecreasingBy-from_sort, sum_by-IsPermutation}
 use Rattle.std.proofs.lemmas.List.Filters.{sum_by-filter_both}
-use Rattle.bolt_check.specs.Accounts.{times_in}
-use Rattle.std.specs.declared.alloc.AllocError.{AllocError}
-use Rattle.std.proofs.lemmas.Result.{IfOk-weaker}
-use Rattle.bolt_check.specs.declared.finding.Finding.{Finding}
-use Rattle.bolt_check.specs.Private.Listings.{AreAllFindings, IsSettled, is_in_use, listed_times}
-use Rattle.bolt_check.specs.Private.Tables.{IsClaimed, is_used, use_at, times_of}
-use Rattle.bolt_check.specs.declared.listing.Listing.{Listing}
-use Rattle.bolt_check.specs.declared.table.PageUse.{PageUse}
 use Rattle.bolt_check.proofs.CountLemmas.{times_none}
 use Rattle.bolt_check.proofs.ListingLemmas.{times_past, times_table}
 use Rattle.bolt_check.proofs.AccountLemmas.{reported_along}

@@ -1,14 +1,9 @@
 -- If the tests find nothing at any way, the shape holds.
 use Rattle.std.proofs.Common.{◌≡◌, ◌≢◌, ℕ, suc, ◌≤◌, inl, inr, Bool, true, false, not, ◌&&◌, ◌==◌, if◌then◌else◌, nat_lt, List, [], ◌∷◌, ◌++◌, length, Option, Some, None, Result, Ok, slice_get, refl, ap, arith, ◌∙◌}
-use Rattle.std.proofs.lemmas.Bool.{cases_lt, not-true}
-use Rattle.std.proofs.lemmas.Bool.Decides.{nat_tests}
-use Rattle.bolt_check.specs.Ways.{PageSpot, Spot, At_page, At_inline, Reach, SpanHas, SpanAt, SpanOf, child_spot, step, upper_from, follow, reached, root_spot}
+use Rattle.bolt_check.proofs.Words.{At_inline, At_page, cases_lt, child_at, child_spot, early_finding, Entry, finding, Finding, follow, HasShape, is_below, is_from, IsClaimedBefore, IsClean, IsMetaPage, Key, key_lt, keys_of, keys_order_fault, leads, nat_tests, Node, node_finding, Nodes, not-true, PagePasses, PageSpot, Passes, Reach, root_spot, SpanAt, SpanHas, SpanOf, Spot, step, upper_from}
+use Rattle.bolt_check.specs.Ways.{reached}
 use Rattle.bolt_check.specs.declared.finding.TheConstants.Finding.{EMPTY_BRANCH, TOO_DEEP}
-use Rattle.bolt_check.specs.declared.finding.Finding.{Finding}
-use Rattle.bolt_check.specs.Nodes.{Nodes, Node, Entry}
-use Rattle.bolt_check.specs.Findings.{keys_of, early_finding, open_finding, node_finding, finding_of, finding, Passes, PagePasses, IsClaimedBefore, IsClean, IsMetaPage}
-use Rattle.bolt_check.specs.Keys.{Key, is_below, is_from, keys_order_fault, key_lt}
-use Rattle.bolt_check.specs.Shape.{child_at, leads, HasShape}
+use Rattle.bolt_check.specs.Findings.{open_finding, finding_of}
 use Rattle.bolt_check.proofs.WayOrder.{before_total}
 use Rattle.bolt_check.proofs.KeyLaws.{below_less, from_more}
 use Rattle.bolt_check.proofs.KeyOrder.{key_each, key_rise}

@@ -1,13 +1,8 @@
 -- There is at most one first finding.
 use Rattle.std.proofs.Common.{◌≡◌, ℕ, inl, inr, List, Some, sym, ap, ◌∙◌}
-use Rattle.std.proofs.lemmas.Bool.{cases_order}
-use Rattle.bolt_check.specs.Ways.{PageSpot, Spot, At_page, At_inline, Reach, reached}
-use Rattle.bolt_check.specs.declared.finding.TheConstants.Finding.{TWICE}
-use Rattle.bolt_check.specs.declared.finding.Finding.{Finding}
-use Rattle.bolt_format.specs.declared.meta.Meta.{Meta}
-use Rattle.bolt_check.specs.Nodes.{Nodes, Node, node_at}
-use Rattle.bolt_check.specs.Sound.{IsFirstFinding}
-use Rattle.bolt_check.specs.Findings.{finding, node_finding, inline_finding, Tests, PageTests, early, twice, late, IsLowestClaimed, IsClaimedBefore, IsMetaPage}
+use Rattle.bolt_check.proofs.Words.{At_inline, At_page, cases_order, early, finding, Finding, inline_finding, IsClaimedBefore, IsFirstFinding, IsMetaPage, late, Meta, Node, node_at, node_finding, Nodes, PageSpot, PageTests, Reach, Spot, Tests, TWICE}
+use Rattle.bolt_check.specs.Ways.{reached}
+use Rattle.bolt_check.specs.Findings.{twice, IsLowestClaimed}
 use Rattle.bolt_check.proofs.WayOrder.{before_total}
 use Rattle.bolt_format.proofs.ListLemmas.{one_some}
 

@@ -1,18 +1,9 @@
 -- From the search and the test of the accounts to the whole file.
 use Rattle.std.proofs.Common.{◌≡◌, ◌∙◌, ap, ℕ, ◌↔◌, ◌==◌, ◌≢◌, List, [], false, true, length, sym}
-use Rattle.std.proofs.lemmas.Bool.{eq-eqb, false≢true}
+use Rattle.bolt_check.proofs.Words.{AreAccountFindings, eq-eqb, false≢true, Finding, HasAccounts, HasRightAccounts, IsClaimed, IsClean, IsMetaPage, IsSound, IsUsed, Meta, node_at, PageUse, Slot}
 use Rattle.bolt_format.specs.Metas.{IsChosen}
-use Rattle.bolt_format.specs.declared.meta.Meta.{Meta}
-use Rattle.bolt_format.specs.declared.meta.Slot.{Slot}
-use Rattle.bolt_check.specs.Accounts.{HasAccounts}
-use Rattle.bolt_check.specs.Findings.{IsClean, IsMetaPage}
-use Rattle.bolt_check.specs.Nodes.{node_at}
-use Rattle.bolt_check.specs.Sound.{HasRightAccounts, IsSound, IsTested, IsUsed}
-use Rattle.bolt_check.specs.Private.Tables.{IsClaimed}
-use Rattle.bolt_check.specs.AccountFindings.{AreAccountFindings}
+use Rattle.bolt_check.specs.Sound.{IsTested}
 use Rattle.bolt_check.specs.Ways.{reached}
-use Rattle.bolt_check.specs.declared.finding.Finding.{Finding}
-use Rattle.bolt_check.specs.declared.table.PageUse.{PageUse}
 use Rattle.bolt_check.proofs.AccountsAlong.{account_findings_along, has_accounts_along}
 use Rattle.bolt_check.proofs.Shaping.{shape_of}
 

@@ -1,13 +1,8 @@
 -- A table after the pages of a span were claimed.
 use Rattle.std.proofs.Common.{◌≡◌, ◌∙◌, ℕ, ◌+◌, ◌<◌, ◌≤◌, ◌⊎◌, inl, inr, List, Ok, sym, ap, arith}
-use Rattle.std.proofs.lemmas.Bool.{cases_lt, cases_eq}
-use Rattle.bolt_check.specs.Nodes.{IsInSpan, Node, Nodes}
-use Rattle.bolt_check.specs.Private.Listings.{IsUnlisted}
+use Rattle.bolt_check.proofs.Words.{At_page, cases_eq, cases_lt, is_used, IsClaimed, IsUnclaimed, IsUnlisted, Node, Nodes, PageSpot, PageUse, times_of, use_at, use_of}
+use Rattle.bolt_check.specs.Nodes.{IsInSpan}
 use Rattle.bolt_check.specs.Private.Pending.{Claims}
-use Rattle.bolt_check.specs.Private.Tables.{IsClaimed, IsUnclaimed, is_used, times_of, use_at}
-use Rattle.bolt_check.specs.Private.Uses.{use_of}
-use Rattle.bolt_check.specs.Ways.{At_page, PageSpot}
-use Rattle.bolt_check.specs.declared.table.PageUse.{PageUse}
 use Rattle.bolt_check.specs.declared.table.PageUse.TheVariants.{Used}
 
 pub not_both : (t : List PageUse) (k : ℕ) → IsUnclaimed t k → IsClaimed t k → ⊥

@@ -1,12 +1,8 @@
 -- Each visit removes a page number from those that are left.
 use Rattle.std.proofs.Common.{◌≡◌, ◌≢◌, ◌∙◌, ℕ, zero, suc, ◌<◌, inl, inr, List, [], ◌∷◌, ◌++◌, length, Option, Some, Ok, refl, sym, ap, subst, arith}
-use Rattle.std.proofs.lemmas.Bool.{cases_eq}
+use Rattle.bolt_check.proofs.Words.{At_page, Before, cases_eq, follow, Has, HasSoundTrees, Meta, Node, node_at, Nodes, PageSpot, Reach, root_spot, Spot}
 use Rattle.std.proofs.lemmas.List.{append_cancel_left}
-use Rattle.bolt_format.specs.declared.meta.Meta.{Meta}
-use Rattle.bolt_check.specs.Nodes.{Node, Nodes, node_at}
-use Rattle.bolt_check.specs.Sound.{HasSoundTrees}
-use Rattle.bolt_check.specs.Subtrees.{Has}
-use Rattle.bolt_check.specs.Ways.{At_page, Before, PageSpot, Reach, Spot, follow, reached, root_spot}
+use Rattle.bolt_check.specs.Ways.{reached}
 use Rattle.bolt_check.proofs.MarkLemmas.{node_below}
 use Rattle.bolt_check.proofs.Visiting.{Visits, one_of}
 use Rattle.bolt_check.proofs.WayFacts.{follow_append, one_way}

@@ -1,17 +1,8 @@
 -- A sum over the tour of a bucket, page by page: a page's own, and those of the pages that it leads to.
 use Rattle.std.proofs.Common.{◌≡◌, ◌∙◌, ◌==◌, ℕ, zero, suc, ◌+◌, ◌≤◌, inl, inr, Bool, true, false, List, [], ◌∷◌, ◌++◌, Option, Some, None, Result, Ok, cond, length, map, sum_by, refl, sym, ap, subst, arith}
-use Rattle.std.proofs.lemmas.List.Sums.{sum_by-cons}
-use Rattle.std.specs.Prelude.{IsSome}
-use Rattle.bolt_format.specs.Pages.{page_at}
-use Rattle.bolt_format.specs.declared.meta.Meta.{Meta}
-use Rattle.bolt_check.specs.Keys.{Key}
-use Rattle.bolt_check.specs.Nodes.{Entry, Node, Nodes, node_at}
-use Rattle.bolt_check.specs.Private.Pending.{forest, somes}
-use Rattle.bolt_check.specs.EntrySpots.{places}
-use Rattle.bolt_check.specs.Sound.{HasSoundTrees}
-use Rattle.bolt_check.specs.Subtrees.{Enough, Has, kid_pages, kids_at, root_page, weight}
-use Rattle.bolt_check.specs.Tours.{IsTour}
-use Rattle.bolt_check.specs.Ways.{At_inline, At_page, PageSpot, Reach, Spot, reached, root_spot}
+use Rattle.bolt_check.proofs.Words.{At_inline, At_page, Entry, forest, Has, HasSoundTrees, IsSome, IsTour, Key, Meta, Node, node_at, Nodes, page_at, PageSpot, places, Reach, root_spot, somes, Spot, sum_by-cons}
+use Rattle.bolt_check.specs.Subtrees.{Enough, kid_pages, kids_at, root_page, weight}
+use Rattle.bolt_check.specs.Ways.{reached}
 use Rattle.bolt_check.proofs.Forest.{forest_empty, inline_visits, nothing_is, page_visits, root_visits, tail}
 use Rattle.bolt_check.proofs.MarkLemmas.{node_shown}
 use Rattle.bolt_check.proofs.TourExists.{Fits, bucket_fits, fits_page, fits_visited, numbers, shorter, without}

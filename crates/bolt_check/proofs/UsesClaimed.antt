@@ -1,12 +1,6 @@
 -- The table of pages, after the freelist's span was claimed and its ids were listed.
 use Rattle.std.proofs.Common.{◌≡◌, ◌≢◌, ◌∙◌, ℕ, inl, inr, List, ap, arith, sym}
-use Rattle.std.proofs.lemmas.Bool.{cases_lt}
-use Rattle.bolt_format.specs.declared.meta.Meta.{Meta}
-use Rattle.bolt_format.specs.declared.meta.TheConstants.{NO_FREELIST}
-use Rattle.bolt_check.specs.Accounts.{IsInUse, ListsFree, times_in}
-use Rattle.bolt_check.specs.Private.Listings.{ClaimsFreelist, ClaimsUses}
-use Rattle.bolt_check.specs.Private.Tables.{IsClaimed, is_used, use_at}
-use Rattle.bolt_check.specs.declared.table.PageUse.{PageUse}
+use Rattle.bolt_check.proofs.Words.{cases_lt, ClaimsFreelist, ClaimsUses, is_used, IsClaimed, IsInUse, ListsFree, Meta, NO_FREELIST, PageUse, times_in, use_at}
 
 -- no freelist was written
 pub uses_unwritten : (file : List ℕ) (meta : Meta) (table : List PageUse) → (meta.freelist ≢ NO_FREELIST → ⊥) → ClaimsUses file meta table table

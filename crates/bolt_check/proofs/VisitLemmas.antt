@@ -1,13 +1,7 @@
 -- A page that is in the file has its place in the table, and what a visit claims.
 use Rattle.std.proofs.Common.{◌≡◌, ◌+◌, ◌*◌, ◌<◌, ◌≤◌, ℕ, List, length, arith, refl, subst}
-use Rattle.bolt_format.specs.Pages.{IsInFile, PageView}
-use Rattle.bolt_format.specs.Shown.{shown}
-use Rattle.bolt_format.specs.declared.meta.Meta.{Meta}
-use Rattle.bolt_check.specs.ShownNodes.{shown_node}
-use Rattle.bolt_check.specs.Private.Tables.{HasRoom}
-use Rattle.bolt_check.specs.Private.Uses.{use_of}
-use Rattle.bolt_check.specs.declared.table.PageUse.{PageUse}
-use Rattle.bolt_check.specs.declared.tree_page.TreePage.{TreePage}
+use Rattle.bolt_check.proofs.Words.{HasRoom, Meta, PageUse, PageView, shown, shown_node, TreePage, use_of}
+use Rattle.bolt_format.specs.Pages.{IsInFile}
 
 pub in_room : (file : List ℕ) (meta : Meta) (id : ℕ) (view : PageView) (table : List PageUse) → IsInFile file meta id view → HasRoom file meta table
     → id + view.overflow < length table

@@ -2,21 +2,11 @@
 use Rattle.std.proofs.Common.{◌≡◌, ℕ, ◌-◌, ◌↔◌, inl, List, [], ◌∷◌, ◌++◌, None, Result, Ok, Err, Vec, Global, length, take, drop, sym, ap, subst, arith}
 use Rattle.std.specs.Prelude.{IfErr, IsErrAnd}
 use Rattle.std.proofs.lemmas.List.{take_at}
-use Rattle.bolt_check.specs.Findings.{IsClean, IsCovered, IsFirst, IsMetaPage, PagePasses, inline_finding}
-use Rattle.bolt_check.specs.Keys.{Key}
-use Rattle.bolt_check.specs.Nodes.{Nodes, Node}
-use Rattle.bolt_check.specs.Private.Carries.{Carries}
-use Rattle.bolt_check.specs.Private.Pending.{Claims, forest, kids, spots_of}
-use Rattle.bolt_check.specs.Private.SearchFaults.{IsSearchFault}
-use Rattle.bolt_check.specs.Private.Tables.{IsClaimed}
-use Rattle.bolt_check.specs.Private.Uses.{IsMetaUse, IsNoted}
-use Rattle.bolt_check.specs.ShownSpots.{spot_at}
-use Rattle.bolt_check.specs.Ways.{At_inline, At_page, PageSpot, Reach, Spot, reached, root_spot}
+use Rattle.bolt_check.proofs.Words.{At_inline, At_page, Carries, Finding, forest, inline_finding, IsClaimed, IsClean, IsCovered, IsFirst, IsMetaPage, IsMetaUse, IsNoted, IsSearchFault, Key, kids, Node, Nodes, PagePasses, PageSpot, PageUse, Reach, root_spot, Spot, spot_at, spots_of, Structure}
+use Rattle.bolt_check.specs.Private.Pending.{Claims}
+use Rattle.bolt_check.specs.Ways.{reached}
 use Rattle.bolt_check.specs.declared.fault.CheckFault.{CheckFault}
-use Rattle.bolt_check.specs.declared.fault.CheckFault.TheVariants.{Structure}
-use Rattle.bolt_check.specs.declared.finding.Finding.{Finding}
 use Rattle.bolt_check.specs.declared.spot.Spot.{Spot as CodeSpot}
-use Rattle.bolt_check.specs.declared.table.PageUse.{PageUse}
 use Rattle.bolt_check.proofs.Forest.{clean_end, covered_end, inline_visits, page_visits, root_visits}
 use Rattle.bolt_check.proofs.Pendings.{spots_push}
 use Rattle.bolt_check.proofs.Visiting.{carries}

@@ -1,11 +1,7 @@
 -- A search for findings goes on from what a visited spot leads to.
 use Rattle.std.proofs.Common.{◌≡◌, ℕ, ◌⊎◌, inl, inr, List, Option, Some, None, subst}
-use Rattle.bolt_check.specs.Nodes.{Nodes}
-use Rattle.bolt_check.specs.Ways.{Spot, Reach, Before, SpanHas}
-use Rattle.bolt_check.specs.Findings.{Tests, Passes, IsClaimedBefore, IsCovered}
-use Rattle.bolt_check.specs.Private.Carries.{Carries, Takes}
-use Rattle.bolt_check.specs.Private.Uses.{HasUse, UseOf}
-use Rattle.bolt_check.specs.declared.table.PageUse.{PageUse}
+use Rattle.bolt_check.proofs.Words.{Before, Carries, HasUse, IsClaimedBefore, IsCovered, Nodes, PageUse, Passes, Reach, SpanHas, Spot, Tests, UseOf}
+use Rattle.bolt_check.specs.Private.Carries.{Takes}
 use Rattle.bolt_check.proofs.WayOrder.{before_irreflexive, before_strict, before_total}
 use Rattle.bolt_check.proofs.Judging.{tests_same, passes_fewer, passes_silent, span_spot, span_at, use_back, use_spot}
 

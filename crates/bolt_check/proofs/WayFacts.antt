@@ -1,15 +1,9 @@
 -- Ways, addresses and the pages that they lead to, for the crates above too.
 use Rattle.std.proofs.Common.{◌≡◌, ◌∙◌, ℕ, suc, Bool, true, false, List, [], ◌∷◌, ◌++◌, map, Option, Some, None, Result, Ok, Err, slice_get, refl, sym, ap, subst, arith}
-use Rattle.std.proofs.lemmas.Option.{same_Some, slice_get-map, none-some}
-use Rattle.std.specs.Option.{option_map}
-use Rattle.bolt_format.specs.Pages.{PageView, page_at, page_fault}
-use Rattle.bolt_format.specs.declared.kind.Kind.{Kind}
+use Rattle.bolt_check.proofs.Words.{At_page, child_at, child_in, child_spot, Entry, follow, HasShape, keys_of, Kind, leads, leaf_entry, Meta, Node, node_at, node_of, node_seen, Nodes, none-some, option_map, page_at, page_fault, PageSpot, PageView, same_Some, slice_get-map, SpanHas, SpanOf, Spot, step, upper_from}
 use Rattle.bolt_format.specs.declared.kind.Kind.TheVariants as kind
-use Rattle.bolt_format.specs.declared.meta.Meta.{Meta}
-use Rattle.bolt_check.specs.Findings.{keys_of}
-use Rattle.bolt_check.specs.Nodes.{Entry, Node, Nodes, leaf_entry, node_at, node_of, node_seen}
-use Rattle.bolt_check.specs.Shape.{HasShape, child_at, child_in, child_of, leads}
-use Rattle.bolt_check.specs.Ways.{At_page, PageSpot, SpanHas, SpanOf, Spot, child_spot, follow, reached, step, upper_from}
+use Rattle.bolt_check.specs.Shape.{child_of}
+use Rattle.bolt_check.specs.Ways.{reached}
 
 -- one way after another
 pub follow_append : (nodes : Nodes) (here : Option Spot) (v w : List ℕ) → follow nodes here (v ++ w) ≡ follow nodes (follow nodes here v) w

@@ -1,7 +1,6 @@
 -- The order of ways is strict and total.
 use Rattle.std.proofs.Common.{◌≡◌, ℕ, ◌⊎◌, inl, inr, List, [], ◌∷◌, refl, sym, arith}
-use Rattle.std.proofs.lemmas.Bool.{cases_order}
-use Rattle.bolt_check.specs.Ways.{Before}
+use Rattle.bolt_check.proofs.Words.{Before, cases_order}
 
 pub before_irreflexive : (v : List ℕ) → Before v v → ⊥
 before_irreflexive [] h = h

@@ -1,16 +1,6 @@
 use Rattle.std.proofs.Common.{◌≡◌, ◌≢◌, ◌∷◌, ℕ, [], List, None, Some, Vec, Global, Result, Ok, Err, IfOk, OnOk, sym}
-use Rattle.std.specs.declared.alloc.AllocError.{AllocError}
-use Rattle.std.proofs.lemmas.Result.{IfOk-weaker}
-use Rattle.bolt_format.specs.Freelists.{free_ids_of, freelist_fault_of}
-use Rattle.bolt_format.specs.ShownIds.{shown_ids}
-use Rattle.bolt_check.specs.Accounts.{HasAccounts, times_in}
-use Rattle.bolt_check.specs.Private.Listings.{AreAllFindings, ClaimsFreelist, ClaimsUses}
-use Rattle.bolt_check.specs.Private.Tables.{IsClaimed, is_used, use_at}
-use Rattle.bolt_format.specs.declared.meta.Meta.{Meta}
-use Rattle.bolt_check.specs.declared.table.PageUse.{PageUse}
+use Rattle.bolt_check.proofs.Words.{AllocError, AreAccountFindings, AreAllFindings, ClaimsFreelist, ClaimsUses, Finding, free_ids_of, freelist_fault_of, HasAccounts, IfOk-weaker, is_used, IsClaimed, Meta, PageUse, shown_ids, times_in, use_at}
 use Rattle.bolt_check.proofs.UsesClaimed.{uses_listed}
-use Rattle.bolt_check.specs.AccountFindings.{AreAccountFindings}
-use Rattle.bolt_check.specs.declared.finding.Finding.{Finding}
 use Rattle.bolt_check.proofs.AccountLemmas.{accounts_right, accounts_reported, accounts_wrong, claims_reported, reported_fault, reported_shared}
 use Rattle.bolt_check.proofs.accounts.test_accounts.Goals as goal
 

@@ -1,6 +1,5 @@
 use Rattle.std.proofs.Common.{◌≡◌, None, drop}
-use Rattle.bolt_check.specs.Keys.{keys_order_fault}
-use Rattle.bolt_check.specs.ShownSpots.{bound_of, inline_keys}
+use Rattle.bolt_check.proofs.Words.{bound_of, inline_keys, keys_order_fault}
 use Rattle.bolt_check.proofs.keys.test_inline_keys.Given as goal
 
 -- the first fault from here on is that of all keys

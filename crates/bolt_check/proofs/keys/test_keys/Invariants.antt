@@ -1,8 +1,5 @@
 use Rattle.std.proofs.Common.{◌≡◌, None, drop}
-use Rattle.bolt_check.specs.Findings.{keys_of}
-use Rattle.bolt_check.specs.Keys.{keys_order_fault}
-use Rattle.bolt_check.specs.ShownSpots.{bound_of}
-use Rattle.bolt_check.specs.ShownNodes.{shown_node}
+use Rattle.bolt_check.proofs.Words.{bound_of, keys_of, keys_order_fault, shown_node}
 use Rattle.bolt_check.proofs.keys.test_keys.Given as goal
 
 -- the first fault from here on is that of all keys

@@ -1,9 +1,6 @@
 use Rattle.std.proofs.Common.{ℕ, suc, ◌+◌, ◌≡◌, [], refl, subst, arith}
-use Rattle.std.proofs.lemmas.Bool.{ne_eqb}
-use Rattle.bolt_format.specs.Elements.{head_root}
+use Rattle.bolt_check.proofs.Words.{head_root, IsOnWay, ne_eqb, root_spot}
 use Rattle.bolt_format.specs.declared.kind.Kind.TheVariants as kind
-use Rattle.bolt_check.specs.OnWays.{IsOnWay}
-use Rattle.bolt_check.specs.Ways.{root_spot}
 use Rattle.bolt_check.proofs.TreePages.{node_is, on_bucket, on_child}
 use Rattle.bolt_check.proofs.laws.ways_go_on.Goals as goal
 

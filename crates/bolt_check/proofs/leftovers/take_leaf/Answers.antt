@@ -1,9 +1,5 @@
 use Rattle.std.proofs.Common.{◌≡◌, ◌∙◌, ap, arith, get_or, refl, sym}
-use Rattle.std.proofs.lemmas.Bool.{false≢true}
-use Rattle.std.proofs.lemmas.List.{get_or_default}
-use Rattle.bolt_check.specs.Nodes.{node_at}
-use Rattle.bolt_check.specs.Private.Tables.{IsClaimed, first_use, times_of}
-use Rattle.bolt_check.specs.declared.table.PageUse.TheVariants.{Unused}
+use Rattle.bolt_check.proofs.Words.{false≢true, first_use, get_or_default, IsClaimed, node_at, times_of, Unused}
 use Rattle.bolt_check.proofs.LeafLemmas.{filled_lone, listed_none, node_in_table}
 use Rattle.bolt_check.proofs.leftovers.take_leaf.Goals as goal
 use Rattle.bolt_check.proofs.leftovers.take_leaf.Goals.{then-table-number-via-then-table-number, then-table-number-via-else-table-number+then-is_listed}

@@ -1,7 +1,5 @@
 use Rattle.std.proofs.Common.{◌≡◌, ℕ, ◌<◌, filter, length, min, nat_le, take}
-use Rattle.bolt_format.specs.ShownIds.{shown_ids}
-use Rattle.bolt_check.specs.Accounts.{times_in}
-use Rattle.bolt_check.specs.Private.Tables.{is_used, use_at, times_of}
+use Rattle.bolt_check.proofs.Words.{is_used, shown_ids, times_in, times_of, use_at}
 use Rattle.bolt_check.proofs.listing.list_ids.Given as goal
 
 -- the ids so far are listed

@@ -1,4 +1,4 @@
-use Rattle.bolt_check.specs.Private.Listings.{IsBeyondTo}
+use Rattle.bolt_check.proofs.Words.{IsBeyondTo}
 use Rattle.bolt_check.proofs.listing_findings.report_beyond.Given as goal
 
 abbrev pub invariant-loop-i : goal.invariant-loop-i

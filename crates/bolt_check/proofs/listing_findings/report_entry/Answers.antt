@@ -1,8 +1,5 @@
 use Rattle.std.proofs.Common.{◌∙◌, add-one, get_or, sym}
-use Rattle.std.proofs.lemmas.Bool.{false≢true}
-use Rattle.std.proofs.lemmas.List.{get_or_default}
-use Rattle.bolt_check.specs.Private.Tables.{first_use}
-use Rattle.bolt_check.specs.declared.table.PageUse.TheVariants.{Unused}
+use Rattle.bolt_check.proofs.Words.{false≢true, first_use, get_or_default, Unused}
 use Rattle.bolt_check.proofs.ListingLemmas.{table_lost, table_reported}
 use Rattle.bolt_check.proofs.listing_findings.report_entry.Goals as goal
 

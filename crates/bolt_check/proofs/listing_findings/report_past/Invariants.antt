@@ -1,5 +1,5 @@
 use Rattle.std.proofs.Common.{◌≤◌}
-use Rattle.bolt_check.specs.Private.Listings.{IsPastTo}
+use Rattle.bolt_check.proofs.Words.{IsPastTo}
 use Rattle.bolt_check.proofs.listing_findings.report_past.Given as goal
 
 abbrev pub invariant-loop-i : goal.invariant-loop-i

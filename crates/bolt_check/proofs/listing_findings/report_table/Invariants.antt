@@ -1,5 +1,5 @@
 use Rattle.std.proofs.Common.{◌≤◌}
-use Rattle.bolt_check.specs.Private.Listings.{HasFindingsTo}
+use Rattle.bolt_check.proofs.Words.{HasFindingsTo}
 use Rattle.bolt_check.proofs.listing_findings.report_table.Given as goal
 
 -- all before the run of lost pages that ends here is reported

@@ -1,7 +1,5 @@
 use Rattle.std.proofs.Common.{◌≡◌, ◌≤◌, ◌+◌, ◌++◌, length, vec_len}
-use Rattle.bolt_check.specs.Private.Pending.{spots_of}
-use Rattle.bolt_check.specs.ShownSpots.{page_spot}
-use Rattle.bolt_check.specs.ShownNodes.{shown_node}
+use Rattle.bolt_check.proofs.Words.{page_spot, shown_node, spots_of}
 use Rattle.bolt_check.proofs.Pendings.{kids_from}
 use Rattle.bolt_check.proofs.search.push_kids.Given as goal
 

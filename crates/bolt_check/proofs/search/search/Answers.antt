@@ -1,10 +1,5 @@
 use Rattle.std.proofs.Common.{◌∙◌, ◌∷◌, ap, inl, length, vec_len}
-use Rattle.bolt_check.specs.Findings.{IsMetaPage}
-use Rattle.bolt_check.specs.Nodes.{node_at}
-use Rattle.bolt_check.specs.Private.Pending.{forest, spots_of}
-use Rattle.bolt_check.specs.ShownSpots.{spot_at}
-use Rattle.bolt_check.specs.Private.SearchFaults.{IsSearchFault}
-use Rattle.bolt_check.specs.Private.Tables.{IsClaimed}
+use Rattle.bolt_check.proofs.Words.{forest, IsClaimed, IsMetaPage, IsSearchFault, node_at, spot_at, spots_of}
 use Rattle.bolt_check.specs.Ways.{reached}
 use Rattle.bolt_check.proofs.Visited.{begin_carries, ended, none_left, passed_on, reported_back, spots_pop, stored}
 use Rattle.bolt_check.proofs.Visiting.{carries_on}

@@ -1,11 +1,5 @@
 use Rattle.std.proofs.Common.{◌≡◌, ◌+◌, ◌*◌, length, vec_len}
-use Rattle.bolt_check.specs.Findings.{IsMetaPage}
-use Rattle.bolt_check.specs.Nodes.{node_at}
-use Rattle.bolt_check.specs.Private.Carries.{Carries}
-use Rattle.bolt_check.specs.Private.Listings.{IsUnlisted}
-use Rattle.bolt_check.specs.Private.Pending.{forest, spots_of}
-use Rattle.bolt_check.specs.Private.Tables.{HasRoom, IsClaimed, unclaimed}
-use Rattle.bolt_check.specs.Private.Uses.{IsMetaUse, IsNoted}
+use Rattle.bolt_check.proofs.Words.{Carries, forest, HasRoom, IsClaimed, IsMetaPage, IsMetaUse, IsNoted, IsUnlisted, node_at, spots_of, unclaimed}
 use Rattle.bolt_check.specs.TableLengths.{table_length}
 use Rattle.bolt_check.specs.Ways.{reached}
 use Rattle.bolt_check.proofs.search.search.Given as goal

@@ -1,12 +1,5 @@
 use Rattle.std.proofs.Common.{sym, ◌∷◌}
-use Rattle.bolt_check.specs.Nodes.{node_at}
-use Rattle.bolt_check.specs.Private.Pending.{forest, spots_of}
-use Rattle.bolt_check.specs.Private.SearchFaults.{IsSearchFault}
-use Rattle.bolt_check.specs.ShownSpots.{inline_keys, page_spot}
-use Rattle.bolt_check.specs.ShownNodes.{shown_node}
-use Rattle.bolt_check.specs.Private.Tables.{IsClaimed}
-use Rattle.bolt_check.specs.Ways.{At_inline, At_page}
-use Rattle.bolt_check.specs.declared.fault.CheckFault.TheVariants.{Structure}
+use Rattle.bolt_check.proofs.Words.{At_inline, At_page, forest, inline_keys, IsClaimed, IsSearchFault, node_at, page_spot, shown_node, spots_of, Structure}
 use Rattle.bolt_check.proofs.Forest.{found_step}
 use Rattle.bolt_check.proofs.Visited.{inline_carries, page_carries, passed_on}
 use Rattle.bolt_check.proofs.search.step.Goals as goal

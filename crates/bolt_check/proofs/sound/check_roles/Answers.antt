@@ -1,8 +1,6 @@
 use Rattle.std.proofs.Common.{◌≡◌, ◌≢◌, ◌∙◌, sym, [], arith}
-use Rattle.std.proofs.lemmas.Grind.{common_steps, merely}
-use Rattle.bolt_check.specs.RoledFiles.{roles_checked}
-use Rattle.bolt_check.specs.CheckedFiles.{meta_of}
-use Rattle.bolt_check.specs.Nodes.{node_at}
+use Rattle.bolt_check.proofs.Words.{merely, meta_of, node_at, roles_checked}
+use Rattle.std.proofs.lemmas.Grind.{common_steps}
 use Rattle.bolt_check.proofs.RoleLemmas.{uses_with}
 use Rattle.bolt_check.proofs.Shaping.{shape_of}
 use Rattle.bolt_check.proofs.SoundLemmas.{right_of, some_items, sound_of, findings_of_file, tested_of, wrong_of}

@@ -1,6 +1,4 @@
-use Rattle.std.proofs.lemmas.Bool.{false≢true}
-use Rattle.std.proofs.lemmas.Grind.{merely}
-use Rattle.bolt_check.specs.Nodes.{node_at}
+use Rattle.bolt_check.proofs.Words.{false≢true, merely, node_at}
 use Rattle.bolt_check.proofs.Shaping.{shape_of}
 use Rattle.bolt_check.proofs.sound.check_under.Goals as goal
 

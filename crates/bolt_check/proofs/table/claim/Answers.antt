@@ -1,6 +1,5 @@
 use Rattle.std.proofs.Common.{◌≡◌, ◌+◌, ◌<◌, length, true, refl, arith, length-set}
-use Rattle.bolt_check.specs.Private.Tables.{is_used, times_of}
-use Rattle.bolt_check.specs.declared.table.PageUse.{PageUse}
+use Rattle.bolt_check.proofs.Words.{is_used, PageUse, times_of}
 use Rattle.bolt_check.specs.declared.table.PageUse.TheVariants.{Used}
 use Rattle.bolt_check.proofs.TableLemmas.{other_kept, unclaimed_set}
 use Rattle.bolt_check.proofs.ClaimLemmas.{more_of}

@@ -1,5 +1,5 @@
 use Rattle.std.proofs.Common.{◌≡◌, ℕ, ◌+◌, ◌<◌, ◌≤◌}
-use Rattle.bolt_check.specs.Private.Tables.{IsClaimed, times_of, unclaimed, use_at}
+use Rattle.bolt_check.proofs.Words.{IsClaimed, times_of, unclaimed, use_at}
 use Rattle.bolt_check.specs.declared.table.PageUse.TheVariants.{Used}
 use Rattle.bolt_check.proofs.table.claim.Given as goal
 

@@ -1,5 +1,5 @@
 use Rattle.std.proofs.Common.{ℕ, ◌<◌, ◌≤◌}
-use Rattle.bolt_check.specs.Private.Tables.{IsUnclaimed}
+use Rattle.bolt_check.proofs.Words.{IsUnclaimed}
 use Rattle.bolt_check.proofs.table.first_claimed.Given as goal
 
 -- none of the pages so far is claimed

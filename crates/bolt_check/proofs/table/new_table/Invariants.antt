@@ -1,6 +1,6 @@
 use Rattle.std.proofs.Common.{◌≡◌, ℕ, ◌<◌, ◌≤◌, length}
-use Rattle.bolt_check.specs.Private.Tables.{use_at}
-use Rattle.bolt_check.specs.declared.table.PageUse.TheVariants.{Unused, Used}
+use Rattle.bolt_check.proofs.Words.{Unused, use_at}
+use Rattle.bolt_check.specs.declared.table.PageUse.TheVariants.{Used}
 use Rattle.bolt_check.proofs.table.new_table.Given as goal
 
 -- the pages so far are used, and the others aren't

@@ -1,5 +1,5 @@
 use Rattle.std.proofs.Common.{◌≡◌, ℕ, ◌<◌}
-use Rattle.bolt_check.specs.Private.Tables.{first_use, use_at}
+use Rattle.bolt_check.proofs.Words.{first_use, use_at}
 use Rattle.bolt_check.proofs.table.reset.Given as goal
 
 -- the entries so far are as at the start

@@ -1,6 +1,5 @@
 use Rattle.std.proofs.Common.{refl}
-use Rattle.std.proofs.Math.Logic.{∥∥₁_elim}
-use Rattle.std.proofs.Props.{props}
+use Rattle.bolt_check.proofs.Words.{props, ∥∥₁_elim}
 use Rattle.bolt_check.proofs.uses.claim_written.Goals as goal
 
 pub claim_freelist-requires-clause-good : goal.claim_freelist-requires-clause-good

@@ -1,5 +1,4 @@
-use Rattle.std.proofs.Math.Logic.{∥∥₁_elim}
-use Rattle.std.proofs.Props.{props}
+use Rattle.bolt_check.proofs.Words.{props, ∥∥₁_elim}
 use Rattle.bolt_check.proofs.Lawful.{sound_reports_nothing}
 use Rattle.bolt_check.proofs.RoleLemmas.{page_positive}
 use Rattle.bolt_check.proofs.uses.search_sound.Goals as goal

@@ -1,9 +1,6 @@
 use Rattle.std.proofs.Common.{◌∙◌, sym, refl, arith}
-use Rattle.bolt_check.specs.Findings.{PageTests, late, twice}
-use Rattle.bolt_check.specs.Nodes.{node_at}
-use Rattle.bolt_check.specs.ShownSpots.{page_spot}
-use Rattle.bolt_check.specs.Private.Tables.{IsClaimed}
-use Rattle.bolt_check.specs.ShownNodes.{shown_node}
+use Rattle.bolt_check.proofs.Words.{IsClaimed, late, node_at, page_spot, PageTests, shown_node}
+use Rattle.bolt_check.specs.Findings.{twice}
 use Rattle.bolt_check.proofs.Lawful.{early_passes}
 use Rattle.bolt_check.proofs.Spans.{not_both, span_claimed}
 use Rattle.bolt_check.proofs.Visited.{passed_on}

@@ -1,4 +1,5 @@
-use Rattle.bolt_check.specs.Claims.{claims_file, claims_meta, is_claimed}
+use Rattle.bolt_check.proofs.Words.{claims_file}
+use Rattle.bolt_check.specs.Claims.{claims_meta, is_claimed}
 use Rattle.bolt_check.proofs.claims.Claims.visit.Goals as goal
 
 pub returns-clause-found : goal.returns-clause-found

@@ -1,8 +1,5 @@
 use Rattle.std.proofs.Common.{◌∙◌, ap, arith}
-use Rattle.std.proofs.Math.Logic.{∥∥₁_map}
-use Rattle.bolt_check.specs.CheckedFiles.{bytes_of, meta_of}
-use Rattle.bolt_check.specs.Private.Tables.{use_at}
-use Rattle.bolt_check.specs.RoledFiles.{roles_checked}
+use Rattle.bolt_check.proofs.Words.{bytes_of, meta_of, roles_checked, use_at, ∥∥₁_map}
 use Rattle.bolt_check.proofs.RoleLemmas.{right_role}
 use Rattle.bolt_check.proofs.role_table.Roles.role.Goals as goal
 

@@ -1,7 +1,5 @@
 use Rattle.std.proofs.Common.{◌∙◌, sym}
-use Rattle.bolt_format.specs.ElementPlaces.{leaf_view}
-use Rattle.bolt_check.specs.Nodes.{leaf_entry}
-use Rattle.bolt_check.specs.ShownSpots.{page_spot}
+use Rattle.bolt_check.proofs.Words.{leaf_entry, leaf_view, page_spot}
 use Rattle.bolt_check.proofs.NodeLemmas.{leaf-entry, step-leaf}
 use Rattle.bolt_check.proofs.tree_page.TreePage.spot.Goals as goal
 
