@@ -1,4 +1,4 @@
-use Rattle.bolt_format.specs.contracts.mem_sink.MemSinkSink.TheImpl as mem
+use Rattle.bolt_format.specs.contracts.sinks.MemSinkSink.TheImpl as mem
 use Rattle.bolt_cli.proofs.HeldJobs.{shown}
 use Rattle.bolt_cli.proofs.HeldLines.{held_line}
 use Rattle.bolt_cli.proofs.Telling.{Does-after}
