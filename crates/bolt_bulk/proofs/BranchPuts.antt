@@ -1,22 +1,15 @@
 -- A branch page, written piece by piece.
 use Rattle.std.proofs.Common.{◌≡◌, ℕ, ◌+◌, ◌-◌, ◌*◌, ◌<◌, ◌≤◌, List, [], ◌∷◌, ◌++◌, length, map, drop, get_or, refl, ap, arith}
 use Rattle.std.proofs.lemmas.List.{append-nil, at_drop_more, drop_all, length-map}
-use Rattle.bolt_format.specs.ElementPlaces.{branch_view}
-use Rattle.bolt_format.specs.declared.element.Branch.{Branch}
-use Rattle.bolt_layout.specs.Layout.{placed_bytes}
-use Rattle.bolt_layout.specs.Levels.{overflow_of}
+use Rattle.bolt_format.specs.{ElementPlaces.branch_view, declared.element.Branch.Branch, Written.branch_header, Written.header_bytes}
+use Rattle.bolt_layout.specs.{Layout.placed_bytes, Levels.overflow_of}
 use Rattle.bolt_layout.specs.PageBytes.{branch_bytes, branch_data, branch_headers, page_bytes}
-use Rattle.bolt_format.specs.Written.{branch_header, header_bytes}
 use Rattle.bolt_layout.proofs.BranchLemmas.{length-branch_headers}
 use Rattle.bolt_format.proofs.WrittenHeaders.{length-header_bytes}
 use Rattle.bolt_format.specs.declared.kind.Kind.TheVariants as kind
-use Rattle.bolt_bulk.specs.Private.{IsSizedRun, run_page, run_view}
-use Rattle.bolt_bulk.specs.declared.branch_run.BranchRun.{BranchRun}
-use Rattle.bolt_format.specs.Endings.{Ending}
-use Rattle.bolt_format.specs.Wrote.{Wrote}
-use Rattle.bolt_bulk.proofs.ElementPuts.{ArePacked}
-use Rattle.bolt_bulk.proofs.FilledTexts.{zeros, filled_pieces}
-use Rattle.bolt_format.specs.declared.sink.Sink.{Ghosts}
+use Rattle.bolt_bulk.specs.{Private.IsSizedRun, Private.run_page, Private.run_view, declared.branch_run.BranchRun.BranchRun}
+use Rattle.bolt_format.specs.{Endings.Ending, Wrote.Wrote, declared.sink.Sink.Ghosts}
+use Rattle.bolt_bulk.proofs.{ElementPuts.ArePacked, FilledTexts.zeros, FilledTexts.filled_pieces}
 
 abbrev pub no_branch : Branch
 no_branch = record { key = record { ref_ptr = (0, 0); now = [] }; child = 0 }

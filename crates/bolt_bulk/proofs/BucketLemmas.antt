@@ -2,24 +2,14 @@
 use Rattle.std.proofs.Common.{◌≡◌, ◌≢◌, ◌∙◌, ℕ, ◌+◌, ◌<◌, ◌≤◌, true, false, List, [], ◌∷◌, ◌++◌, length, OnErr, Option, Result, Ok, Err, ap, arith}
 use Rattle.std.proofs.lemmas.Bool.{leb-true, ltb-true}
 use Rattle.std.proofs.lemmas.List.{length-map}
-use Rattle.bolt_format.specs.Elements.{BranchElement, LeafElement}
-use Rattle.bolt_format.specs.Sinks.{AppendsProperPrefix}
-use Rattle.bolt_format.specs.declared.element.Leaf.{Leaf}
-use Rattle.bolt_layout.specs.Layout.{placed_bytes}
-use Rattle.bolt_layout.specs.Levels.{overflow_of}
-use Rattle.bolt_layout.specs.PageBytes.{page_bytes}
+use Rattle.bolt_format.specs.{Elements.BranchElement, Elements.LeafElement, Sinks.AppendsProperPrefix, declared.element.Leaf.Leaf, Wrote.Wrote}
+use Rattle.bolt_format.specs.{Endings.Ending, Endings.whole, declared.sink.Sink.Ghosts}
+use Rattle.bolt_layout.specs.{Layout.placed_bytes, Levels.overflow_of, PageBytes.page_bytes}
 use Rattle.bolt_bulk.specs.Private.{AreHeld, bucket_end_next, BucketRunsView, HasRoomFor, held_views, IsLeafRun, leaf_closed, leaf_key, leaf_page, leaves_have_room, leaves_of, runs_close_put, runs_end_put, runs_push, runs_put, runs_room, runs_room_put, runs_taking}
-use Rattle.bolt_bulk.specs.declared.fault.BulkFault.{BulkFault}
-use Rattle.bolt_bulk.specs.declared.held.Held.{Held}
-use Rattle.bolt_bulk.specs.declared.leaf_run.LeafRun.{LeafRun}
-use Rattle.bolt_bulk.proofs.ClimbLemmas.{next_grows, end_grows}
-use Rattle.bolt_bulk.proofs.HeldRuns.{none_small}
-use Rattle.bolt_bulk.proofs.RunLemmas.{few_or_fits}
+use Rattle.bolt_bulk.specs.{declared.fault.BulkFault.BulkFault, declared.held.Held.Held, declared.leaf_run.LeafRun.LeafRun}
+use Rattle.bolt_bulk.proofs.{ClimbLemmas.next_grows, ClimbLemmas.end_grows, HeldRuns.none_small, RunLemmas.few_or_fits}
 use Rattle.bolt_bulk.proofs.PutsLemmas.{proper_same, pages_some, short_then}
 use Rattle.bolt_format.proofs.WroteLemmas.{Wrote-then, Wrote-same}
-use Rattle.bolt_format.specs.Wrote.{Wrote}
-use Rattle.bolt_format.specs.Endings.{Ending, whole}
-use Rattle.bolt_format.specs.declared.sink.Sink.{Ghosts}
 
 -- if a run has room on its page, an item can be added
 pub room_fits : (page_size size : ℕ) (run : LeafRun) → page_size ≤ 33554432 → IsLeafRun run → size < 4294967280 → leaves_have_room page_size (leaves_of run) size ≡ true → HasRoomFor run size

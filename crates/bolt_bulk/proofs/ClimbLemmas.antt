@@ -1,27 +1,17 @@
 -- A bucket's open runs, one after another: the climb over them, and the end of the bucket, at which each closes.
 use Rattle.std.proofs.Common.{◌≡◌, ◌∙◌, ℕ, suc, ◌+◌, ◌<◌, ◌≤◌, true, false, List, [], ◌∷◌, ◌++◌, length, map, take, drop, get_or, set, if◌then◌else◌, zero, add-one, Option, Some, None, option_map, refl, sym, ap, subst, arith, append_assoc}
-use Rattle.std.specs.List.{AllByRecursion}
 use Rattle.std.proofs.lemmas.List.{length-map, drop_more, drop-set-lt, set_split, take_more_set}
 use Rattle.std.proofs.Math.ListN.{get_or-map}
 use Rattle.std.proofs.lemmas.Option.{none-some, same_Some}
-use Rattle.bolt_format.specs.ElementPlaces.{branch_view}
-use Rattle.bolt_format.specs.Elements.{BranchElement}
-use Rattle.bolt_format.specs.Sinks.{AppendsProperPrefix}
-use Rattle.bolt_format.specs.declared.element.Branch.{Branch}
+use Rattle.std.specs.List.{AllByRecursion}
+use Rattle.bolt_format.specs.{ElementPlaces.branch_view, Elements.BranchElement, Sinks.AppendsProperPrefix, declared.element.Branch.Branch, Wrote.Wrote}
+use Rattle.bolt_format.specs.{Endings.whole, declared.sink.Sink.Ghosts}
 use Rattle.bolt_bulk.specs.declared.branch_run.BranchRun.{BranchRun}
-use Rattle.bolt_layout.specs.Laid.{Placed}
-use Rattle.bolt_layout.specs.Levels.{overflow_of}
-use Rattle.bolt_layout.specs.Limits.{one_less}
-use Rattle.bolt_layout.specs.Layout.{placed_bytes}
 use Rattle.bolt_bulk.specs.Private.{element_up, IsStanding, key_size, no_run, one_closed, run_kept, run_page, run_push, run_stays, run_view, runs_above, runs_climb, runs_close_put, runs_end_next, runs_next, runs_put, runs_root, RunView, taking_next, taking_puts, taking_up}
-use Rattle.bolt_bulk.specs.declared.fault.BulkFault.{BulkFault}
-use Rattle.bolt_bulk.proofs.RunLemmas.{key_pushed}
-use Rattle.bolt_bulk.proofs.PutsLemmas.{bytes-append, short_stop, Wrote-stops}
+use Rattle.bolt_bulk.specs.{declared.fault.BulkFault.BulkFault, BulkEndings.fault_ending}
+use Rattle.bolt_layout.specs.{Laid.Placed, Levels.overflow_of, Limits.one_less, Layout.placed_bytes}
+use Rattle.bolt_bulk.proofs.{RunLemmas.key_pushed, PutsLemmas.bytes-append, PutsLemmas.short_stop, PutsLemmas.Wrote-stops}
 use Rattle.bolt_format.proofs.WroteFronts.{WroteFront, front_none, front_more, front_stop, front_whole}
-use Rattle.bolt_format.specs.Wrote.{Wrote}
-use Rattle.bolt_format.specs.Endings.{whole}
-use Rattle.bolt_bulk.specs.BulkEndings.{fault_ending}
-use Rattle.bolt_format.specs.declared.sink.Sink.{Ghosts}
 
 -- The whole climb, from an element, a number and runs; and the climb that is left, from the runs from number i on.
 pub record Climbing {S : Type 0} (page_size : ℕ) (new : Option ℕ) (key : List ℕ) (e0 : BranchElement) (n0 : ℕ) (runs0 : List RunView) (sink : Ghosts S) (old later : S)

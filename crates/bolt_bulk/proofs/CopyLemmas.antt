@@ -3,22 +3,16 @@ use Rattle.std.proofs.Common.{◌≡◌, ◌≢◌, ℕ, [], Result, ◌≤◌, 
 use Rattle.std.proofs.KnownBytes.{Appends-trans}
 use Rattle.bolt_format.specs.Sinks.{AppendsProperPrefix}
 use Rattle.bolt_tree.specs.Tree.{Tree}
-use Rattle.bolt_bulk.specs.Compacting.{Copies, too_many}
-use Rattle.bolt_layout.specs.Laid.{Placed}
-use Rattle.bolt_layout.specs.Layout.{layout_mark, layout_of, layout_pages, layout_root, placed_bytes}
-use Rattle.bolt_bulk.specs.Private.{first_pages, stopped_by}
-use Rattle.bolt_bulk.specs.declared.fault.BulkFault.{BulkFault}
+use Rattle.bolt_bulk.specs.{Compacting.Copies, Compacting.too_many, Private.first_pages, Private.stopped_by, declared.fault.BulkFault.BulkFault}
+use Rattle.bolt_layout.specs.{Laid.Placed, Layout.layout_mark, Layout.layout_of, Layout.layout_pages, Layout.layout_root, Layout.placed_bytes}
 use Rattle.bolt_bulk.specs.declared.fault.BulkFault.TheVariants as bulk
 use Rattle.bolt_bulk.specs.declared.fault.PlanFault.{PlanFault}
 use Rattle.bolt_bulk.specs.declared.fault.PlanFault.TheVariants as planned
-use Rattle.bolt_bulk.specs.declared.outcome.Done.{Done}
+use Rattle.bolt_bulk.specs.{declared.outcome.Done.Done, BulkEndings.fault_ending}
 use Rattle.bolt_layout.specs.declared.layout.Layout.{Layout}
 use Rattle.bolt_bulk.proofs.PutsLemmas.{Wrote-failed, Wrote-sound, proper_none, proper_same}
 use Rattle.bolt_format.proofs.SinkLemmas.{AppendsProperPrefix-first, AppendsProperPrefix-second}
-use Rattle.bolt_format.specs.Wrote.{Wrote}
-use Rattle.bolt_format.specs.Endings.{whole, cut}
-use Rattle.bolt_bulk.specs.BulkEndings.{fault_ending}
-use Rattle.bolt_format.specs.declared.sink.Sink.{Ghosts}
+use Rattle.bolt_format.specs.{Wrote.Wrote, Endings.whole, Endings.cut, declared.sink.Sink.Ghosts}
 
 pub layout_parts : (which : Layout) (page_size : ℕ) (tree : Tree) (sequence root mark : ℕ) → root ≡ layout_root which page_size tree → mark ≡ layout_mark which page_size tree
     → layout_of which page_size tree sequence ≡ first_pages page_size root sequence mark ++ placed_bytes page_size (layout_pages which page_size tree)

@@ -1,14 +1,12 @@
 -- The headers and the data of a page's elements, written one after another: the same for branch and leaf elements, whatever the code keeps
 -- of them.
 use Rattle.std.proofs.Common.{◌≡◌, ◌∙◌, ℕ, suc, ◌+◌, ◌*◌, ◌<◌, ◌≤◌, List, [], ◌∷◌, ◌++◌, length, drop, get_or, Result, Ok, Err, ap, arith, append_assoc, append-nil, sym}
-use Rattle.std.specs.Prelude.{IsErr}
 use Rattle.std.proofs.lemmas.List.{drop_all, drop_more, length-append, length-drop}
+use Rattle.std.specs.Prelude.{IsErr}
 use Rattle.bolt_bulk.specs.Private.{Adds}
 use Rattle.bolt_format.proofs.WroteFronts.{WroteFront, front_more, front_return}
 use Rattle.bolt_format.proofs.WroteLemmas.{Wrote-none, Wrote-same, Wrote-then}
-use Rattle.bolt_format.specs.Wrote.{Wrote}
-use Rattle.bolt_format.specs.Endings.{Ending, page_ending}
-use Rattle.bolt_format.specs.declared.sink.Sink.{Ghosts}
+use Rattle.bolt_format.specs.{Wrote.Wrote, Endings.Ending, Endings.page_ending, declared.sink.Sink.Ghosts}
 
 -- The headers and the data of what the code keeps are those of its first element, by the place of its key, and then of the others.
 pub record ArePacked {X : Type 0} (headers : ℕ → List X → List ℕ) (contents : List X → List ℕ) (header : ℕ → X → List ℕ) (datum : X → List ℕ) : Type 0 where

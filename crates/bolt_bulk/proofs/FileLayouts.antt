@@ -2,19 +2,15 @@
 use Rattle.std.proofs.Common.{◌≡◌, ◌≢◌, ◌<◌, ◌≤◌, ◌+◌, ◌*◌, ◌/◌, ℕ, List, [], length, refl, subst, arith}
 use Rattle.std.proofs.Math.Logic.{∥∥₁_elim, ∥∥₁_map}
 use Rattle.std.proofs.Math.Nat.{div-lt_iff_lt-mul, div-mul-le_self, mul-le-mul_right}
-use Rattle.std.specs.List.{AllByRecursion}
 use Rattle.std.proofs.Props.{props}
+use Rattle.std.specs.List.{AllByRecursion}
 use Rattle.bolt_format.specs.Metas.{IsPageSize}
-use Rattle.bolt_tree.specs.Listing.{Member}
-use Rattle.bolt_tree.specs.Tree.{Tree, listing_of, tree_of}
-use Rattle.bolt_bulk.specs.Compacting.{too_many}
-use Rattle.bolt_layout.specs.Copies.{IsOfOneTree}
-use Rattle.bolt_layout.specs.Layout.{layout_mark}
-use Rattle.bolt_bulk.specs.Private.{IsFitMember}
+use Rattle.bolt_tree.specs.{Listing.Member, Tree.Tree, Tree.listing_of, Tree.tree_of}
+use Rattle.bolt_bulk.specs.{Compacting.too_many, Private.IsFitMember}
+use Rattle.bolt_layout.specs.{Copies.IsOfOneTree, Layout.layout_mark, declared.layout.Layout.TheVariants.Balanced, declared.layout.Layout.TheVariants.Plain}
+use Rattle.bolt_layout.specs.Items.{root_of}
 use Rattle.bolt_format.proofs.PageSizes.{size_bounds}
 use Rattle.bolt_bulk.proofs.PassEnds.{members_fit}
-use Rattle.bolt_layout.specs.declared.layout.Layout.TheVariants.{Balanced, Plain}
-use Rattle.bolt_layout.specs.Items.{root_of}
 use Rattle.bolt_layout.proofs.NotMuchLarger.{plain_not_much_larger}
 
 -- it has a byte

@@ -3,9 +3,7 @@ use Rattle.std.proofs.Common.{ℕ, List, ◌++◌}
 use Rattle.bolt_layout.specs.PageBytes.{copy_meta, filled, freelist_page, meta_page}
 use Rattle.bolt_format.specs.Written.{header_bytes, meta_bytes}
 use Rattle.bolt_format.specs.declared.kind.Kind.TheVariants as kind
-use Rattle.bolt_format.specs.Endings.{Ending}
-use Rattle.bolt_format.specs.Wrote.{Wrote}
-use Rattle.bolt_format.specs.declared.sink.Sink.{Ghosts}
+use Rattle.bolt_format.specs.{Endings.Ending, Wrote.Wrote, declared.sink.Sink.Ghosts}
 use Rattle.bolt_bulk.specs.Private.{first_pages}
 
 -- a meta page, and the freelist page

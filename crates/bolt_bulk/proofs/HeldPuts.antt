@@ -1,10 +1,8 @@
 -- What is known of the items of an open leaf when they are written.
 use Rattle.std.proofs.Common.{false, ◌≡◌, ◌∙◌, ℕ, zero, suc, ◌+◌, ◌≤◌, ◌<◌, List, [], ◌∷◌, ◌++◌, length, map, drop, get_or, append_assoc, sym, ap, arith}
 use Rattle.std.proofs.lemmas.List.{at_drop_more, drop_all, length-drop, length-take-le, length-map}
-use Rattle.bolt_format.specs.ElementPlaces.{leaf_view}
-use Rattle.bolt_format.specs.declared.element.Leaf.{Leaf}
-use Rattle.bolt_bulk.specs.declared.held.Held.{Held}
-use Rattle.bolt_bulk.specs.declared.held.Stored.{Stored}
+use Rattle.bolt_format.specs.{ElementPlaces.leaf_view, declared.element.Leaf.Leaf}
+use Rattle.bolt_bulk.specs.{declared.held.Held.Held, declared.held.Stored.Stored}
 use Rattle.bolt_bulk.specs.declared.held.Stored.TheVariants as stored
 use Rattle.bolt_bulk.specs.Private.{AreHeld, held_views, IsHeld, IsStored, stored_value}
 use Rattle.bolt_layout.specs.PageBytes.{leaf_data}

@@ -1,21 +1,15 @@
 -- A run of items that takes one more, and the entries of the inline buckets among them.
 use Rattle.std.proofs.Common.{Bor, ◌∙◌, Global, Vec, subst, ◌≡◌, ℕ, ◌+◌, ◌<◌, ◌≤◌, false, List, [], ◌∷◌, ◌++◌, length, map, refl, sym, ap, arith}
-use Rattle.std.specs.List.{AllByRecursion}
 use Rattle.std.proofs.Math.Seq.{drop-append_seam, take-length}
 use Rattle.std.proofs.lemmas.List.{drop-append-le, length-append, length-drop, length-map, take-append-le, map-append}
-use Rattle.bolt_format.specs.ElementPlaces.{leaf_view}
-use Rattle.bolt_format.specs.Elements.{LeafElement}
-use Rattle.bolt_format.specs.declared.element.Leaf.{Leaf}
+use Rattle.std.specs.List.{AllByRecursion}
+use Rattle.bolt_format.specs.{ElementPlaces.leaf_view, Elements.LeafElement, declared.element.Leaf.Leaf}
 use Rattle.bolt_layout.specs.PageBytes.{inline_value, leaf_data}
 use Rattle.bolt_bulk.specs.Private.{AreHeld, entries_in, entries_size, HasRoomFor, held_view, held_views, inline_element, inline_size, inlined_by, inlined_in, is_stored_bucket, IsHeld, IsInlined, IsOpenBucket, IsStored, page_size_of, stored_value, value_item}
-use Rattle.bolt_bulk.specs.declared.bucket_runs.BucketRuns.{BucketRuns}
-use Rattle.bolt_bulk.specs.declared.leaf_run.LeafRun.{LeafRun}
-use Rattle.bolt_bulk.specs.declared.held.Held.{Held}
-use Rattle.bolt_bulk.specs.declared.held.Stored.{Stored}
+use Rattle.bolt_bulk.specs.{declared.bucket_runs.BucketRuns.BucketRuns, declared.leaf_run.LeafRun.LeafRun, declared.held.Held.Held, declared.held.Stored.Stored}
 use Rattle.bolt_bulk.specs.declared.held.Stored.TheVariants as stored
-use Rattle.bolt_layout.proofs.ListLemmas.{all_append}
+use Rattle.bolt_layout.proofs.{ListLemmas.all_append, SpanLemmas.length-leaf_bytes}
 use Rattle.bolt_format.proofs.WrittenHeaders.{length-header_bytes, length-head_bytes}
-use Rattle.bolt_layout.proofs.SpanLemmas.{length-leaf_bytes}
 
 -- what is known of a run of items
 pub record IsRun (inlined : List Leaf) (items : List Held) (size : ℕ) : Type 0 where

@@ -1,22 +1,14 @@
 -- The format can hold what is recovered of a damaged file, and what is found of it.
 use Rattle.std.proofs.Common.{inl, inr, ℕ, List, [], ◌∷◌, ◌++◌, length, arith, subst, sym}
-use Rattle.std.specs.List.{Contains}
 use Rattle.std.proofs.lemmas.List.{same_from_push}
-use Rattle.bolt_format.specs.Bytes.{IsBytes}
-use Rattle.bolt_format.specs.ElementLengths.{IsKeyLength}
-use Rattle.bolt_format.specs.declared.meta.Meta.{Meta}
+use Rattle.std.specs.List.{Contains}
+use Rattle.bolt_format.specs.{Bytes.IsBytes, ElementLengths.IsKeyLength, declared.meta.Meta.Meta}
 use Rattle.bolt_check.specs.Keys.{Key}
-use Rattle.bolt_tree.specs.Entries.{Bucket, Item}
-use Rattle.bolt_tree.specs.Listing.{Member}
-use Rattle.bolt_tree.specs.Paths.{Path}
+use Rattle.bolt_tree.specs.{Entries.Bucket, Entries.Item, Listing.Member, Paths.Path}
 use Rattle.bolt_layout.specs.Storable.{IsFitMember}
 use Rattle.bolt_layout.proofs.FileTrees.{good_fits, good_inner, good_shown, held_fits}
-use Rattle.bolt_recover.specs.Joined.{IsFoundMember, IsJoined, lost_and_found}
-use Rattle.bolt_recover.specs.PageKeys.{page_key}
-use Rattle.bolt_recover.specs.Recovered.{IsRecovered}
-use Rattle.bolt_recover.proofs.HeldMembers.{held, shows_entry}
-use Rattle.bolt_recover.proofs.JoinedContents.{joined_contents}
-use Rattle.bolt_recover.proofs.PageNames.{digits_long}
+use Rattle.bolt_recover.specs.{Joined.IsFoundMember, Joined.IsJoined, Joined.lost_and_found, PageKeys.page_key, Recovered.IsRecovered}
+use Rattle.bolt_recover.proofs.{HeldMembers.held, HeldMembers.shows_entry, JoinedContents.joined_contents, PageNames.digits_long}
 
 abbrev Fits : Member → Type 0
 Fits m = IsFitMember m.0 m.1

@@ -1,17 +1,13 @@
 -- The open runs that the code keeps of a bucket are those that the pass has open.
 use Rattle.std.proofs.Common.{◌≡◌, ◌∙◌, ℕ, ◌+◌, ◌||◌, Bool, Option, List, [], ◌∷◌, ◌++◌, length, refl, ap, arith, suc}
-use Rattle.std.specs.List.{AllByRecursion}
 use Rattle.std.proofs.lemmas.List.Sums.{sum_by_push}
+use Rattle.std.specs.List.{AllByRecursion}
 use Rattle.bolt_format.specs.Elements.{BranchElement, LeafElement}
-use Rattle.bolt_layout.specs.Laid.{Laid, Placed, elements_of, first_key, numbers_of}
-use Rattle.bolt_layout.specs.Limits.{is_out}
+use Rattle.bolt_layout.specs.{Laid.Laid, Laid.Placed, Laid.elements_of, Laid.first_key, Laid.numbers_of, Limits.is_out}
 use Rattle.bolt_layout.specs.Levels.{branch_page_view, overflow_of, page_over, run_overflow, leaf_page_view}
 use Rattle.bolt_bulk.specs.Private.{AreOpenRuns, AreUppers, bucket_end_next, bucket_limit, BucketRunsView, climb, climb_puts, close, close_puts, element_up, end_of, end_puts, has_room, IsKeyed, IsKeyedItem, IsUpper, kept, key_size, Known, leaf_closed, leaf_key, leaf_page, making_room, no_leaves, nothing_open, numbers_in, Open, own_page, pushed_on, pushing, put_in, room_puts, run_has_room, run_kept, run_key, run_page, run_push, run_stays, runs_climb, runs_close_put, runs_end, runs_end_next, runs_end_put, runs_next, runs_push, runs_put, runs_room, runs_room_put, runs_root, RunView, stays_open, Upper}
-use Rattle.bolt_layout.proofs.ListLemmas.{all_append}
-use Rattle.bolt_layout.proofs.OverRows.{numbers-append}
 use Rattle.bolt_bulk.specs.declared.limits.BucketLimits.{BucketLimits}
-use Rattle.bolt_layout.proofs.LaidItems.{length-elements}
-use Rattle.bolt_layout.proofs.BranchLemmas.{same_branch}
+use Rattle.bolt_layout.proofs.{ListLemmas.all_append, OverRows.numbers-append, LaidItems.length-elements, BranchLemmas.same_branch}
 
 pub elements-append : {E : Type 0} (xs ys : List (Laid E)) (n : ℕ) → elements_of (xs ++ ys) n ≡ elements_of xs n ++ elements_of ys (n + numbers_of xs)
 elements-append [] ys n = ap (λ (m : ℕ). elements_of ys m) (let e : n ≡ n + 0 = omega arith in e)

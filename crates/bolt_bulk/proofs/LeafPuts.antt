@@ -1,21 +1,16 @@
 -- A leaf page, and an inline value, written piece by piece, whatever the code keeps of their elements: `view` is the element that it keeps.
 use Rattle.std.proofs.Common.{◌≡◌, ℕ, ◌+◌, ◌-◌, ◌*◌, List, ◌++◌, length, map, refl, sym, arith, append_assoc}
 use Rattle.std.proofs.lemmas.List.{length-append, length-map}
-use Rattle.bolt_format.specs.Elements.{LeafElement}
+use Rattle.bolt_format.specs.{Elements.LeafElement, Written.header_bytes, Written.leaf_header, Written.head_bytes}
 use Rattle.bolt_layout.specs.Levels.{overflow_of}
-use Rattle.bolt_format.specs.Written.{header_bytes, leaf_header, head_bytes}
 use Rattle.bolt_layout.specs.PageBytes.{inline_value, leaf_bytes, leaf_data, leaf_headers, page_bytes}
 use Rattle.bolt_layout.proofs.LeafLemmas.{length-leaf_headers}
 use Rattle.bolt_format.proofs.WrittenHeaders.{length-header_bytes}
 use Rattle.bolt_format.specs.declared.kind.Kind.TheVariants as kind
-use Rattle.bolt_bulk.specs.Private.{held_views, leaf_page, leaves_of, page_size_of}
-use Rattle.bolt_bulk.specs.declared.leaf_run.LeafRun.{LeafRun}
-use Rattle.bolt_bulk.proofs.ElementPuts.{ArePacked}
+use Rattle.bolt_bulk.specs.{Private.held_views, Private.leaf_page, Private.leaves_of, Private.page_size_of, declared.leaf_run.LeafRun.LeafRun}
+use Rattle.bolt_bulk.proofs.{ElementPuts.ArePacked, FilledTexts.zeros, FilledTexts.filled_pieces}
 use Rattle.bolt_format.proofs.WroteLemmas.{Wrote-same}
-use Rattle.bolt_format.specs.Endings.{Ending}
-use Rattle.bolt_format.specs.Wrote.{Wrote}
-use Rattle.bolt_bulk.proofs.FilledTexts.{zeros, filled_pieces}
-use Rattle.bolt_format.specs.declared.sink.Sink.{Ghosts}
+use Rattle.bolt_format.specs.{Endings.Ending, Wrote.Wrote, declared.sink.Sink.Ghosts}
 
 abbrev pub head_of : {X : Type 0} → (X → LeafElement) → ℕ → X → List ℕ
 head_of view pos x = leaf_header (view x).is_bucket pos (length (view x).key) (length (view x).value)

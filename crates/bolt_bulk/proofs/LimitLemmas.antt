@@ -6,8 +6,7 @@ use Rattle.std.proofs.lemmas.Map.Lookups.{exact_unsigned}
 use Rattle.std.specs.BTreeMap.{BTreeMap, Updates, get}
 use Rattle.std.specs.Ordering.{is_eq}
 use Rattle.bolt_layout.specs.Limits.{limit_at, limits_from_ends}
-use Rattle.bolt_bulk.specs.Private.{IsOtherRow, limit_in, row_cmp}
-use Rattle.bolt_bulk.specs.declared.limits.Limits.{Limits}
+use Rattle.bolt_bulk.specs.{Private.IsOtherRow, Private.limit_in, Private.row_cmp, declared.limits.Limits.Limits}
 
 apart : (bucket level b l : ℕ) → IsOtherRow bucket level b l → is_eq (row_cmp (bucket, level) (b, l)) ≡ false
 apart bucket level b l other = grind (arith, exact_unsigned)

@@ -3,9 +3,7 @@
 use Rattle.std.proofs.Common.{◌≡◌, ◌∙◌, ℕ, suc, ◌≤◌, ◌<◌, List, [], ◌∷◌, ◌++◌, length, refl, sym, ap, arith, append_assoc, subst}
 use Rattle.std.proofs.lemmas.List.{append-nil, length-append}
 use Rattle.bolt_check.specs.Keys.{Key}
-use Rattle.bolt_tree.specs.Entries.{Bucket, Item, Value}
-use Rattle.bolt_tree.specs.Listing.{Member}
-use Rattle.bolt_tree.specs.Paths.{Path}
+use Rattle.bolt_tree.specs.{Entries.Bucket, Entries.Item, Entries.Value, Listing.Member, Paths.Path}
 use Rattle.bolt_tree.specs.Tree.{Tree, end, listing_below, listing_of, with_bucket, with_value}
 use Rattle.bolt_bulk.specs.Private.{behind_in, left_in, Level, path_in}
 

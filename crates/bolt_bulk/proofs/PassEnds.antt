@@ -1,42 +1,27 @@
 -- The next member of a listing in a pass, the beginning of a pass, and its end.
 use Rattle.bolt_layout.proofs.ListLemmas.{all_append}
 use Rattle.std.specs.Prelude.{IsErrAnd}
+use Rattle.std.specs.List.{AllByRecursion}
 use Rattle.std.proofs.lemmas.Result.{err_from_is_err_and}
 use Rattle.std.proofs.Common.{◌≡◌, ◌≢◌, ◌∙◌, ℕ, suc, true, ◌+◌, ◌≤◌, List, [], ◌∷◌, ◌++◌, length, map, Option, Some, None, Result, Ok, Err, OnErr, refl, sym, ap, subst, arith, append_assoc}
-use Rattle.std.specs.List.{AllByRecursion}
 use Rattle.std.proofs.lemmas.List.{length-append}
 use Rattle.bolt_check.specs.Keys.{Key}
-use Rattle.bolt_format.specs.Sinks.{AppendsProperPrefix}
-use Rattle.bolt_tree.specs.Entries.{Item}
-use Rattle.bolt_tree.specs.Listing.{Member}
-use Rattle.bolt_tree.specs.Paths.{Path}
+use Rattle.bolt_format.specs.{Sinks.AppendsProperPrefix, declared.sink.Sink.Ghosts}
+use Rattle.bolt_tree.specs.{Entries.Item, Listing.Member, Paths.Path}
 use Rattle.bolt_tree.specs.Tree.{Tree, end, listing_below, listing_of, with_bucket, with_value}
 use Rattle.bolt_layout.specs.Laid.{Placed}
 use Rattle.bolt_layout.specs.Layout.{first_page, layout_held, layout_mark, layout_pages, layout_root, placed_bytes}
-use Rattle.bolt_layout.specs.Storable.{HasLengths}
+use Rattle.bolt_layout.specs.{Storable.HasLengths, Openings.leaf_pages, Openings.opened_in, declared.layout.Layout.Layout}
+use Rattle.bolt_layout.specs.{declared.layout.Layout.TheVariants.Balanced, declared.layout.Layout.TheVariants.Plain, Items.items_of, Items.root_of}
 use Rattle.bolt_bulk.specs.Private.{AreComingAround, AreOpenRuns, bucket_end_next, bucket_runs, BucketEnds, BucketRunsView, capped, depth_of, end_of, Ends, FitLimits, Frame, HasLeft, HasNoted, held_so_far, IsAt, IsFitMember, IsOn, Known, last_part, Level, level_of, limit_in, limits_by, limits_with, no_leaves, nothing_open, Open, open_in, path_in, pending_depth, runs_end, runs_end_put, Steps, Wanted}
-use Rattle.bolt_layout.specs.Openings.{leaf_pages, opened_in}
-use Rattle.bolt_layout.specs.declared.layout.Layout.{Layout}
-use Rattle.bolt_layout.specs.declared.layout.Layout.TheVariants.{Balanced, Plain}
-use Rattle.bolt_layout.specs.Items.{items_of, root_of}
-use Rattle.bolt_bulk.specs.declared.page_setup.PageSetup.{PageSetup}
-use Rattle.bolt_bulk.specs.declared.fault.BulkFault.{BulkFault}
-use Rattle.bolt_bulk.specs.declared.pass.Ended.{Ended}
-use Rattle.bolt_bulk.specs.declared.pass.Pass.{Pass}
-use Rattle.bolt_bulk.specs.declared.waiting_bucket.PendingBucket.{PendingBucket}
-use Rattle.bolt_bulk.specs.declared.limits.NotedLimits.{NotedLimits}
-use Rattle.bolt_bulk.proofs.PassSteps.{pass_begins, pass_ends}
-use Rattle.bolt_bulk.proofs.HeldSteps.{end_held}
+use Rattle.bolt_bulk.specs.{declared.page_setup.PageSetup.PageSetup, declared.fault.BulkFault.BulkFault, declared.pass.Ended.Ended, declared.pass.Pass.Pass}
+use Rattle.bolt_bulk.specs.{declared.waiting_bucket.PendingBucket.PendingBucket, declared.limits.NotedLimits.NotedLimits}
+use Rattle.bolt_bulk.proofs.{PassSteps.pass_begins, PassSteps.pass_ends, HeldSteps.end_held}
 use Rattle.bolt_bulk.proofs.Members.{all_left, left_after, next_entry, next_short, none_at_all, with_item}
-use Rattle.bolt_bulk.proofs.KeptRuns.{nothing_runs, runs_ended}
-use Rattle.bolt_bulk.proofs.OpenRunLemmas.{ends}
-use Rattle.bolt_bulk.proofs.Openings.{all_coming, root_notes}
-use Rattle.bolt_bulk.proofs.PassAt.{on_of}
-use Rattle.bolt_bulk.proofs.PassLeft.{depth_levels}
-use Rattle.bolt_bulk.proofs.Tables.{none_noted, noted_leaves, opened_most, table_fits}
+use Rattle.bolt_bulk.proofs.{KeptRuns.nothing_runs, KeptRuns.runs_ended, OpenRunLemmas.ends, Openings.all_coming, Openings.root_notes, PassAt.on_of}
+use Rattle.bolt_bulk.proofs.{PassLeft.depth_levels, Tables.none_noted, Tables.noted_leaves, Tables.opened_most, Tables.table_fits}
 use Rattle.bolt_bulk.proofs.PutsLemmas.{bytes-append, pages_some, short_then}
 use Rattle.bolt_format.proofs.WroteLemmas.{Wrote-same, Wrote-then}
-use Rattle.bolt_format.specs.declared.sink.Sink.{Ghosts}
 
 -- ---- the next member
 

@@ -1,18 +1,13 @@
 -- A pass and the members of the listing that are left to it.
 use Rattle.std.proofs.Common.{◌≡◌, ℕ, suc, ◌+◌, ◌≤◌, ◌<◌, List, [], ◌∷◌, length, Option, Some, None, Ok, refl, ap, arith, subst}
-use Rattle.std.specs.Prelude.{⊤}
 use Rattle.std.proofs.lemmas.List.{length-map, length-reverse}
-use Rattle.bolt_format.specs.declared.element.Leaf.{Leaf}
-use Rattle.bolt_tree.specs.Listing.{Member}
-use Rattle.bolt_tree.specs.Tree.{Tree, end}
+use Rattle.std.specs.Prelude.{⊤}
+use Rattle.bolt_format.specs.{declared.element.Leaf.Leaf, declared.sink.Sink.Ghosts}
+use Rattle.bolt_tree.specs.{Listing.Member, Tree.Tree, Tree.end}
 use Rattle.bolt_layout.specs.Laid.{Placed}
 use Rattle.bolt_bulk.specs.Private.{AreWaiting, depth_of, Frame, HasLeft, IsAt, IsNoDeeper, IsPending, left_in, Level, pending_depth, Steps, Wanted}
-use Rattle.bolt_bulk.specs.declared.pass.Pass.{Pass}
-use Rattle.bolt_bulk.specs.declared.waiting_bucket.PendingBucket.{PendingBucket}
-use Rattle.bolt_bulk.specs.declared.waiting_bucket.WaitingBucket.{WaitingBucket}
-use Rattle.bolt_bulk.proofs.Members.{none_at_all, none_further}
-use Rattle.bolt_bulk.proofs.PassAt.{steps_none}
-use Rattle.bolt_format.specs.declared.sink.Sink.{Ghosts}
+use Rattle.bolt_bulk.specs.{declared.pass.Pass.Pass, declared.waiting_bucket.PendingBucket.PendingBucket, declared.waiting_bucket.WaitingBucket.WaitingBucket}
+use Rattle.bolt_bulk.proofs.{Members.none_at_all, Members.none_further, PassAt.steps_none}
 
 -- The depth that the code counts is that of the levels.
 waiting_frames : (waiting : List WaitingBucket) (frames : List Frame) → AreWaiting waiting frames → length waiting ≡ length frames

@@ -1,16 +1,12 @@
 -- What is known of a pass without its tree, after a step.
 use Rattle.std.proofs.Common.{◌⊎◌, ◌≡◌, ℕ, ◌+◌, ◌/◌, ◌≤◌, ◌<◌, false, List, [], ◌∷◌, ◌++◌, length, map, Option, Some, subst, arith}
-use Rattle.std.specs.List.{AllByRecursion}
 use Rattle.std.proofs.lemmas.List.{length-append, length-map, map-append}
-use Rattle.bolt_format.specs.ElementPlaces.{leaf_view}
-use Rattle.bolt_format.specs.declared.element.Leaf.{Leaf}
+use Rattle.std.specs.List.{AllByRecursion}
+use Rattle.bolt_format.specs.{ElementPlaces.leaf_view, declared.element.Leaf.Leaf}
 use Rattle.bolt_tree.specs.Tree.{Tree, with_value}
-use Rattle.bolt_layout.specs.declared.layout.Layout.{Layout}
-use Rattle.bolt_layout.specs.PageBytes.{inline_value}
-use Rattle.bolt_bulk.specs.Private.{HasRoot, IsPendingSmall, IsSmall, onto}
-use Rattle.bolt_bulk.specs.declared.waiting_bucket.PendingBucket.{PendingBucket}
-use Rattle.bolt_bulk.proofs.Ontos.{value_too_large}
-use Rattle.bolt_bulk.proofs.HeldRuns.{data_push, length-inline_value}
+use Rattle.bolt_layout.specs.{declared.layout.Layout.Layout, PageBytes.inline_value}
+use Rattle.bolt_bulk.specs.{Private.HasRoot, Private.IsPendingSmall, Private.IsSmall, Private.onto, declared.waiting_bucket.PendingBucket.PendingBucket}
+use Rattle.bolt_bulk.proofs.{Ontos.value_too_large, HeldRuns.data_push, HeldRuns.length-inline_value}
 use Rattle.bolt_layout.proofs.ListLemmas.{all_append}
 
 -- the bucket that may be inline

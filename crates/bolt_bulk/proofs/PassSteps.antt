@@ -2,24 +2,18 @@
 -- those of the layout. Its steps, over the open runs and what the code keeps of them.
 use Rattle.std.proofs.Common.{◌≡◌, ℕ, ◌+◌, List, [], ◌∷◌, ◌++◌, length, refl, append_assoc, arith, subst, ◌∙◌, ◌/◌, ◌≤◌, ◌<◌, Bool, true, false, sym, ap}
 use Rattle.std.proofs.lemmas.List.{append-nil, length-append}
-use Rattle.bolt_format.specs.Elements.{BranchElement, LeafElement}
-use Rattle.bolt_tree.specs.Tree.{Tree, end}
-use Rattle.bolt_layout.specs.Items.{bucket_item, items_of, root_of, leaf_item, stored_bucket}
-use Rattle.bolt_layout.specs.Laid.{Laid, Placed, size_of}
-use Rattle.bolt_layout.specs.Levels.{root_over}
-use Rattle.bolt_layout.specs.Limits.{HaveRightLimits}
-use Rattle.bolt_layout.specs.Layout.{first_page, layout_pages, layout_mark}
-use Rattle.bolt_bulk.specs.Private.{all_put, base_in, bucket_limit, end_of, end_puts, Frame, HasBegun, held_item, IsOpen, IsPass, Known, leaves_coming, making_room, nothing_open, Open, pushing, room_puts, taking, AreOpenRuns, bucket_end_next, BucketRunsView, entries_size, frames_put, HasRoot, IsOn, onto, root_element, runs_end, runs_end_put, runs_push, runs_room, runs_room_put, runs_taking, StandsBefore}
-use Rattle.bolt_bulk.proofs.OpenRunLemmas.{ends, ends_put, opens, pushed_put, room_put, takes}
-use Rattle.bolt_layout.specs.declared.layout.Layout.{Layout}
-use Rattle.std.specs.List.{AllByRecursion}
 use Rattle.std.proofs.lemmas.Bool.{le-leb, lt-ltb}
 use Rattle.std.proofs.lemmas.List.Sums.{sum_by_push}
-use Rattle.bolt_layout.specs.Cut.{run_size}
-use Rattle.bolt_layout.specs.PageBytes.{inline_value, leaf_data}
+use Rattle.bolt_format.specs.Elements.{BranchElement, LeafElement}
+use Rattle.bolt_tree.specs.Tree.{Tree, end}
+use Rattle.bolt_layout.specs.{Items.bucket_item, Items.items_of, Items.root_of, Items.leaf_item, Items.stored_bucket, Laid.Laid, Laid.Placed, Laid.size_of}
+use Rattle.bolt_layout.specs.{Levels.root_over, Limits.HaveRightLimits, Layout.first_page, Layout.layout_pages, Layout.layout_mark}
+use Rattle.bolt_layout.specs.{declared.layout.Layout.Layout, Cut.run_size, PageBytes.inline_value, PageBytes.leaf_data}
+use Rattle.bolt_bulk.specs.Private.{all_put, base_in, bucket_limit, end_of, end_puts, Frame, HasBegun, held_item, IsOpen, IsPass, Known, leaves_coming, making_room, nothing_open, Open, pushing, room_puts, taking, AreOpenRuns, bucket_end_next, BucketRunsView, entries_size, frames_put, HasRoot, IsOn, onto, root_element, runs_end, runs_end_put, runs_push, runs_room, runs_room_put, runs_taking, StandsBefore}
+use Rattle.bolt_bulk.proofs.OpenRunLemmas.{ends, ends_put, opens, pushed_put, room_put, takes}
 use Rattle.bolt_bulk.proofs.Ontos.{IsValue, ends_inline, onto_items, value_items, values_elements, values_keyed, values_numbers, values_pages, values_size}
-use Rattle.bolt_bulk.proofs.KeptRuns.{runs_ended, runs_have_room, runs_pushed}
-use Rattle.bolt_bulk.proofs.PutBefore.{pass_before}
+use Rattle.bolt_bulk.proofs.{KeptRuns.runs_ended, KeptRuns.runs_have_room, KeptRuns.runs_pushed, PutBefore.pass_before}
+use Rattle.std.specs.List.{AllByRecursion}
 
 -- a run with an item isn't empty
 no_push : (run : List (Laid LeafElement)) (item : Laid LeafElement) → run ++ item ∷ [] ≡ [] → ⊥

@@ -3,9 +3,7 @@ use Rattle.std.proofs.Common.{div-add-mod', add-mul, ◌≡◌, ◌∙◌, ◌�
 use Rattle.std.proofs.lemmas.Bool.{leb-true, ltb-true}
 use Rattle.std.proofs.lemmas.List.{length-append, append-nil}
 use Rattle.bolt_format.specs.Elements.{BranchElement}
-use Rattle.bolt_layout.specs.Levels.{overflow_of}
-use Rattle.bolt_layout.specs.Limits.{is_out}
-use Rattle.bolt_layout.specs.PageBytes.{branch_data}
+use Rattle.bolt_layout.specs.{Levels.overflow_of, Limits.is_out, PageBytes.branch_data}
 use Rattle.bolt_bulk.specs.Private.{IsPushed, IsSizedRun, IsStanding, run_kept, run_key, run_push, run_stays, RunView}
 use Rattle.bolt_layout.proofs.PageRows.{overflow_room, overflow_small}
 

@@ -1,30 +1,19 @@
 -- The numbers of the open buckets, what their open runs say of each row at their end, and the limits that were noted of those that have ended.
 use Rattle.std.proofs.Common.{ℕ, suc, Option, List, [], ◌∷◌, ◌++◌, length, map, ap, arith, ◌≡◌, ◌∙◌, ◌+◌, ◌<◌, ◌≤◌, false, None, refl, sym, subst}
 use Rattle.std.proofs.lemmas.List.{length-append, length-map}
-use Rattle.bolt_format.specs.Elements.{BranchElement}
-use Rattle.bolt_layout.specs.Laid.{Laid, Placed, size_of}
-use Rattle.bolt_layout.specs.Levels.{branch_page_view, leaf_page_view, page_over}
-use Rattle.bolt_layout.specs.Limits.{AreRowEnds, limit_at, limits_from_ends}
-use Rattle.bolt_layout.specs.declared.layout.Layout.TheVariants.{Plain, Balanced}
-use Rattle.bolt_bulk.specs.Private.{bucket_limit, Comes, IsOpen, Open, Upper, upper_end, AreComingAround, AreNumbered, AreUppers, bucket_runs, BucketEnds, capped, FitLimits, Frame, HasNoted, IsOn, IsTable, IsToCome, Known, limit_in, limits_with, Notes, run_end, runs_above, Wanted}
-use Rattle.bolt_layout.proofs.LastItem.{last_append}
-use Rattle.std.specs.List.{AllByRecursion}
 use Rattle.std.proofs.lemmas.Bool.{cases_lt}
+use Rattle.bolt_format.specs.Elements.{BranchElement}
+use Rattle.bolt_layout.specs.{Laid.Laid, Laid.Placed, Laid.size_of, Levels.branch_page_view, Levels.leaf_page_view, Levels.page_over}
+use Rattle.bolt_layout.specs.Limits.{AreRowEnds, limit_at, limits_from_ends}
+use Rattle.bolt_layout.specs.{declared.layout.Layout.TheVariants.Plain, declared.layout.Layout.TheVariants.Balanced, Cut.branch_cut, Layout.layout_mark}
+use Rattle.bolt_layout.specs.{Openings.limits_for, Openings.opened_in, Openings.row_ends_of, declared.layout.Layout.Layout}
+use Rattle.bolt_bulk.specs.Private.{bucket_limit, Comes, IsOpen, Open, Upper, upper_end, AreComingAround, AreNumbered, AreUppers, bucket_runs, BucketEnds, capped, FitLimits, Frame, HasNoted, IsOn, IsTable, IsToCome, Known, limit_in, limits_with, Notes, run_end, runs_above, Wanted}
+use Rattle.bolt_bulk.specs.{declared.branch_run.BranchRun.BranchRun, declared.limits.BucketLimits.BucketLimits, declared.limits.Limits.Limits}
+use Rattle.bolt_bulk.specs.{declared.limits.NotedLimits.NotedLimits, declared.bucket_runs.BucketRuns.BucketRuns}
+use Rattle.bolt_layout.proofs.{LastItem.last_append, BalancedRows.right_from_ends, BalancedRows.from_ends_right, OpenedBuckets.opened_few}
+use Rattle.bolt_layout.proofs.{LimitsFromEnds.from_ends_by, RowEnds.row_ends_are_one, Tops.shorter}
+use Rattle.std.specs.List.{AllByRecursion}
 use Rattle.bolt_tree.specs.Tree.{Tree, end}
-use Rattle.bolt_layout.specs.Cut.{branch_cut}
-use Rattle.bolt_layout.specs.Layout.{layout_mark}
-use Rattle.bolt_layout.specs.Openings.{limits_for, opened_in, row_ends_of}
-use Rattle.bolt_layout.specs.declared.layout.Layout.{Layout}
-use Rattle.bolt_layout.proofs.BalancedRows.{right_from_ends, from_ends_right}
-use Rattle.bolt_layout.proofs.OpenedBuckets.{opened_few}
-use Rattle.bolt_layout.proofs.LimitsFromEnds.{from_ends_by}
-use Rattle.bolt_layout.proofs.RowEnds.{row_ends_are_one}
-use Rattle.bolt_layout.proofs.Tops.{shorter}
-use Rattle.bolt_bulk.specs.declared.branch_run.BranchRun.{BranchRun}
-use Rattle.bolt_bulk.specs.declared.limits.BucketLimits.{BucketLimits}
-use Rattle.bolt_bulk.specs.declared.limits.Limits.{Limits}
-use Rattle.bolt_bulk.specs.declared.limits.NotedLimits.{NotedLimits}
-use Rattle.bolt_bulk.specs.declared.bucket_runs.BucketRuns.{BucketRuns}
 use Rattle.bolt_bulk.proofs.HeldSteps.{run_length}
 
 uppers_end : (page_size : ℕ) (limits : ℕ → Option ℕ) (uppers : List Upper) (q : Laid BranchElement) (all : List (Laid BranchElement)) (root : Laid BranchElement)

@@ -1,13 +1,10 @@
 -- A pass goes along members: those that are left to both are the same.
 use Rattle.std.proofs.Common.{◌≡◌, ◌≤◌, List, ◌∷◌, length, subst, arith}
-use Rattle.std.specs.List.{AllByRecursion}
 use Rattle.std.proofs.Math.Logic.{∥∥₁_elim, ∥∥₁_map}
 use Rattle.std.proofs.Props.{props}
-use Rattle.bolt_tree.specs.Entries.{Bucket, Item, Value}
-use Rattle.bolt_tree.specs.Listing.{Member}
-use Rattle.bolt_tree.specs.Paths.{Path}
-use Rattle.bolt_bulk.specs.Private.{IsFitItem, IsFitMember, last_part}
-use Rattle.bolt_bulk.specs.WholeListings.{IsAgain, IsWhole}
+use Rattle.std.specs.List.{AllByRecursion}
+use Rattle.bolt_tree.specs.{Entries.Bucket, Entries.Item, Entries.Value, Listing.Member, Paths.Path}
+use Rattle.bolt_bulk.specs.{Private.IsFitItem, Private.IsFitMember, Private.last_part, WholeListings.IsAgain, WholeListings.IsWhole}
 use Rattle.bolt_bulk.proofs.FileLayouts.{listing_fits}
 
 fit_prop : (path : Path) (item : Item) → IsProp ((1 ≤ length path) × (length (last_part path) ≤ 1073741824) × IsFitItem item)

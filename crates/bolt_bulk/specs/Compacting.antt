@@ -3,18 +3,14 @@
 use Rattle.std.specs.Prelude.{◌≡◌, ◌<◌, ◌≤◌, ◌^◌, ℕ, List, length, Option, Result, IfErr, IfOk, IsErr, OnErr, OnOk}
 use Rattle.std.specs.Io.KnownBytes.{Appends, Keeps}
 use Rattle.bolt_format.specs.Sinks.{AppendsProperPrefix}
-use Rattle.bolt_check.specs.CheckedFiles.{meta_of}
-use Rattle.bolt_check.specs.declared.checked_file.Checked.{Checked}
-use Rattle.bolt_tree.specs.Listing.{Member}
-use Rattle.bolt_tree.specs.Tree.{tree_of}
-use Rattle.bolt_layout.specs.Copies.{layout_of_listing}
-use Rattle.bolt_layout.specs.Layout.{layout_mark, layout_root}
+use Rattle.bolt_check.specs.{CheckedFiles.meta_of, declared.checked_file.Checked.Checked}
+use Rattle.bolt_tree.specs.{Listing.Member, Tree.tree_of}
+use Rattle.bolt_layout.specs.{Copies.layout_of_listing, Layout.layout_mark, Layout.layout_root}
 use Rattle.bolt_bulk.specs.declared.fault.BulkFault.{BulkFault}
 use Rattle.bolt_bulk.specs.declared.fault.BulkFault.TheVariants as bulk
 use Rattle.bolt_bulk.specs.declared.fault.PlanFault.{PlanFault}
 use Rattle.bolt_bulk.specs.declared.fault.PlanFault.TheVariants as planned
-use Rattle.bolt_bulk.specs.declared.outcome.Done.{Done}
-use Rattle.bolt_bulk.specs.declared.outcome.Plan.{Plan}
+use Rattle.bolt_bulk.specs.{declared.outcome.Done.Done, declared.outcome.Plan.Plan}
 use Rattle.bolt_layout.specs.declared.layout.Layout.{Layout}
 
 -- the layout that a copy of a checked file has

@@ -1,13 +1,8 @@
 //! An open run of pages above a bucket's leaves, and the branch page that it becomes.
 ghost use Rattle.std.specs.Prelude.{◌≡◌, ◌+◌, ◌<◌, ◌≤◌, true, false, [], ◌∷◌, IfErr, IfOk, OnOk, length, option_map, ◌*◌, map};
-ghost use Rattle.bolt_format.specs.ElementPlaces.{branch_view};
-ghost use Rattle.bolt_layout.specs.Levels.{overflow_of};
+ghost use Rattle.bolt_format.specs.{ElementPlaces.branch_view, Endings.page_ending, Wrote.Wrote};
+ghost use Rattle.bolt_layout.specs.{Levels.overflow_of, Limits.one_less, Layout.placed_bytes, PageBytes.branch_data, PageBytes.branch_headers};
 ghost use Rattle.bolt_bulk.specs.Private.{element_up, IsPushed, IsStanding, key_size, LeavesOut, longest_key, no_run, one_closed, OnlyAbove, own_element, Puts, run_has_room, run_kept, run_page, run_push, run_stays, run_taking, run_view, taking_next, taking_puts, taking_up, IsSizedRun, length_end};
-ghost use Rattle.bolt_layout.specs.Limits.{one_less};
-ghost use Rattle.bolt_layout.specs.Layout.{placed_bytes};
-ghost use Rattle.bolt_layout.specs.PageBytes.{branch_data, branch_headers};
-ghost use Rattle.bolt_format.specs.Endings.{page_ending};
-ghost use Rattle.bolt_format.specs.Wrote.{Wrote};
 ghost use Rattle.bolt_bulk.specs.declared.fault.BulkFault.TheVariants as fault;
 
 use crate::fault::BulkFault;

@@ -1,9 +1,7 @@
 //! The open runs of a bucket: the run of items of its leaf under way, and the runs of pages above.
 ghost use Rattle.std.specs.Prelude.{◌≡◌, ◌+◌, ◌<◌, ◌≤◌, true, false, ℕ, [], IfErr, IfOk, OnOk, length, map, vec_capacity, vec_len};
 ghost use Rattle.std.specs.List.{AllByRecursion};
-ghost use Rattle.bolt_format.specs.ElementLengths.{IsValueLength};
-ghost use Rattle.bolt_format.specs.ElementPlaces.{leaf_view};
-ghost use Rattle.bolt_format.specs.declared.element.Leaf.{Leaf};
+ghost use Rattle.bolt_format.specs.{ElementLengths.IsValueLength, ElementPlaces.leaf_view, declared.element.Leaf.Leaf};
 ghost use Rattle.bolt_bulk.specs.Private.{bucket_end_next, bucket_runs, capped, entries_size, HasRoomFor, held_view, inline_element, inline_size, inlined_by, IsHeld, IsOpenBucket, IsWaiting, items_in, leaves_have_room, leaves_of, LeavesOut, length_end, longest_key, no_leaves, OnlyAbove, pending_element, pending_size, Puts, root_size, runs_end, runs_end_put, runs_push, runs_room, runs_room_put, runs_taking, stored_value, value_element, value_item, value_size};
 ghost use Rattle.bolt_bulk.specs.declared.fault.BulkFault.TheVariants as fault;
 

@@ -2,12 +2,9 @@
 ghost use Rattle.std.specs.Prelude.{◌≡◌, ◌<◌, ◌≤◌, IfOk, OnOk, length};
 ghost use Rattle.bolt_check.specs.CheckedFiles.{meta_of};
 ghost use Rattle.bolt_format.specs.Metas.{IsPageSize};
-ghost use Rattle.bolt_tree.specs.FileListings.{ForListing};
-ghost use Rattle.bolt_tree.specs.Tree.{tree_of};
+ghost use Rattle.bolt_tree.specs.{FileListings.ForListing, Tree.tree_of};
 ghost use Rattle.bolt_bulk.specs.Compacting.{Copies, Plans, layout_for, too_many};
-ghost use Rattle.bolt_layout.specs.Copies.{IsSoundCopy, RefusesPrefixes};
-ghost use Rattle.bolt_layout.specs.Held.{most_held};
-ghost use Rattle.bolt_layout.specs.Layout.{layout_held, layout_root};
+ghost use Rattle.bolt_layout.specs.{Copies.IsSoundCopy, Copies.RefusesPrefixes, Held.most_held, Layout.layout_held, Layout.layout_root};
 ghost use Rattle.bolt_layout.specs.declared.layout.Layout.TheVariants.{Plain};
 
 use crate::fault::{BulkFault, PlanFault};

@@ -2,8 +2,7 @@
 ghost use Rattle.std.specs.Prelude.{◌≡◌, ◌≤◌, length};
 ghost use Rattle.bolt_layout.specs.PageBytes.{filled, copy_meta};
 ghost use Rattle.bolt_bulk.specs.Private.{first_pages};
-ghost use Rattle.bolt_format.specs.Endings.{page_ending};
-ghost use Rattle.bolt_format.specs.Wrote.{Wrote};
+ghost use Rattle.bolt_format.specs.{Endings.page_ending, Wrote.Wrote};
 
 use crate::copy::Shape;
 use crate::outcome::Plan;

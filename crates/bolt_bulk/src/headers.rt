@@ -1,9 +1,7 @@
 //! The headers of a page's elements, which are gathered and then written five at a time.
 ghost use Rattle.std.specs.Prelude.{◌≡◌, ◌+◌, ◌*◌, ◌<◌, ◌≤◌, [], OnOk, length};
-ghost use Rattle.bolt_format.specs.Written.{branch_header, leaf_header};
+ghost use Rattle.bolt_format.specs.{Written.branch_header, Written.leaf_header, Endings.page_ending, Wrote.Wrote};
 ghost use Rattle.bolt_bulk.specs.Private.{Adds, Gathers, length_end};
-ghost use Rattle.bolt_format.specs.Endings.{page_ending};
-ghost use Rattle.bolt_format.specs.Wrote.{Wrote};
 
 use crate::pieces::put;
 use arrayvec::ArrayVec;

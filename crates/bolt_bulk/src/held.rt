@@ -2,9 +2,7 @@
 //! anew, or with the root page of a bucket.
 ghost use Rattle.std.specs.Prelude.{◌≡◌, List, length, ◌+◌, ◌*◌, ◌<◌, ◌++◌, map};
 ghost use Rattle.bolt_bulk.specs.Private.{is_stored_bucket, IsStored, stored_value, length_end};
-ghost use Rattle.bolt_format.specs.Endings.{page_ending};
-ghost use Rattle.bolt_format.specs.Wrote.{Wrote};
-ghost use Rattle.bolt_format.specs.ElementPlaces.{leaf_view};
+ghost use Rattle.bolt_format.specs.{Endings.page_ending, Wrote.Wrote, ElementPlaces.leaf_view};
 ghost use Rattle.bolt_layout.specs.PageBytes.{inline_value, leaf_data, leaf_headers};
 
 use crate::headers::Headers;

@@ -1,19 +1,12 @@
 //! What can be copied: members of which none was returned yet are those of one tree. And what holds of every copy.
 ghost use Rattle.std.specs.Prelude.{◌≡◌, ◌≤◌, ◌<◌, ◌*◌, ◌^◌, List, length};
 ghost use Rattle.bolt_recover.specs.JoinedMembers.{ForJoined, joined_file, joined_left, joined_meta};
-ghost use Rattle.bolt_recover.specs.Recovered.{ForRecovered};
-ghost use Rattle.bolt_recover.specs.Recoveries.{recovery_file, recovery_left, recovery_meta};
-ghost use Rattle.bolt_tree.specs.FileListings.{ForListing};
-ghost use Rattle.bolt_tree.specs.Walks.{left_of, walk_checked};
-ghost use Rattle.bolt_bulk.specs.WholeListings.{IsWholeJoined, IsWholeRecovery, IsWholeWalk};
+ghost use Rattle.bolt_recover.specs.{Recovered.ForRecovered, Recoveries.recovery_file, Recoveries.recovery_left, Recoveries.recovery_meta};
+ghost use Rattle.bolt_tree.specs.{FileListings.ForListing, Walks.left_of, Walks.walk_checked, Listing.Member, Tree.tree_of};
+ghost use Rattle.bolt_bulk.specs.{WholeListings.IsWholeJoined, WholeListings.IsWholeRecovery, WholeListings.IsWholeWalk, Compacting.too_many};
 ghost use Rattle.bolt_format.specs.Metas.{IsPageSize};
-ghost use Rattle.bolt_tree.specs.Listing.{Member};
-ghost use Rattle.bolt_tree.specs.Tree.{tree_of};
-ghost use Rattle.bolt_bulk.specs.Compacting.{too_many};
-ghost use Rattle.bolt_layout.specs.Copies.{IsOfOneTree, IsSoundCopy, RefusesPrefixes, layout_of_listing};
-ghost use Rattle.bolt_layout.specs.Held.{most_held};
-ghost use Rattle.bolt_layout.specs.Layout.{layout_held, layout_mark, layout_root};
-ghost use Rattle.bolt_layout.specs.declared.layout.Layout.{Layout};
+ghost use Rattle.bolt_layout.specs.{Copies.IsOfOneTree, Copies.IsSoundCopy, Copies.RefusesPrefixes, Copies.layout_of_listing, Held.most_held};
+ghost use Rattle.bolt_layout.specs.{Layout.layout_held, Layout.layout_mark, Layout.layout_root, declared.layout.Layout.Layout};
 
 use bolt_layout::laws::{
     a_copy_lists_the_same, a_files_listing_is_of_one_tree, a_fit_listing_is_of_one_tree,

@@ -1,13 +1,9 @@
 //! The run of items of a bucket's leaf under way, and the leaf page that it becomes.
 ghost use Rattle.std.specs.Prelude.{◌≡◌, ◌+◌, ◌<◌, ◌≤◌, IfOk, OnErr, OnOk, ◌*◌, ◌++◌, length};
-ghost use Rattle.bolt_format.specs.ElementPlaces.{branch_view};
-ghost use Rattle.bolt_format.specs.Sinks.{AppendsProperPrefix};
-ghost use Rattle.bolt_layout.specs.Levels.{overflow_of};
-ghost use Rattle.bolt_layout.specs.PageBytes.{page_bytes, leaf_data, leaf_headers};
+ghost use Rattle.bolt_format.specs.{ElementPlaces.branch_view, Sinks.AppendsProperPrefix, Wrote.Wrote, Endings.page_ending};
+ghost use Rattle.bolt_layout.specs.{Levels.overflow_of, PageBytes.page_bytes, PageBytes.leaf_data, PageBytes.leaf_headers};
 ghost use Rattle.bolt_bulk.specs.Private.{IsLeafRun, leaf_closed, leaf_page, leaves_have_room, leaves_of, no_leaves, OnlyAbove, AreHeld, held_views, IsHeld, length_end, stored_value};
-ghost use Rattle.bolt_format.specs.Wrote.{Wrote};
 ghost use Rattle.bolt_bulk.specs.BulkEndings.{bulk_ending};
-ghost use Rattle.bolt_format.specs.Endings.{page_ending};
 
 use crate::fault::BulkFault;
 use crate::headers::Headers;

@@ -1,16 +1,11 @@
 //! The copy of all members that are given one after another, in a few passes over them.
 ghost use Rattle.std.specs.Prelude.{◌≡◌, ◌*◌, ◌≤◌, ◌<◌, ◌/◌, IfErr, IfOk, List, OnOk, length, ◌↔◌, [], None};
 ghost use Rattle.bolt_format.specs.Metas.{IsPageSize};
-ghost use Rattle.bolt_tree.specs.Listing.{Member};
-ghost use Rattle.bolt_tree.specs.Tree.{tree_of};
+ghost use Rattle.bolt_tree.specs.{Listing.Member, Tree.tree_of};
 ghost use Rattle.bolt_bulk.specs.Compacting.{Copies, Plans, too_many};
-ghost use Rattle.bolt_layout.specs.Copies.{IsSoundCopy, RefusesPrefixes, layout_of_listing};
-ghost use Rattle.bolt_layout.specs.Held.{most_held};
-ghost use Rattle.bolt_layout.specs.Layout.{layout_held, layout_root};
-ghost use Rattle.bolt_layout.specs.declared.layout.Layout.{Layout};
-ghost use Rattle.bolt_layout.specs.declared.layout.Layout.TheVariants.{Balanced};
-ghost use Rattle.bolt_bulk.specs.Private.{FitAll, Ends, FitLimits, limits_with};
-ghost use Rattle.bolt_bulk.specs.WholeListings.{IsAgain, IsWhole};
+ghost use Rattle.bolt_bulk.specs.{Private.FitAll, Private.Ends, Private.FitLimits, Private.limits_with, WholeListings.IsAgain, WholeListings.IsWhole};
+ghost use Rattle.bolt_layout.specs.{Copies.IsSoundCopy, Copies.RefusesPrefixes, Copies.layout_of_listing, Held.most_held};
+ghost use Rattle.bolt_layout.specs.{Layout.layout_held, Layout.layout_root, declared.layout.Layout.Layout, declared.layout.Layout.TheVariants.Balanced};
 ghost use Rattle.bolt_bulk.specs.declared.fault.PlanFault.TheVariants as planned;
 
 use crate::copy::Shape;

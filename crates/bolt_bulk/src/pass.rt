@@ -49,14 +49,10 @@ pub(crate) struct Pass<'a> {
 }
 
 impl<'a> Pass<'a> {
-    ghost use Rattle.bolt_tree.specs.Tree.{Tree, with_bucket, with_value};
+    ghost use Rattle.bolt_tree.specs.{Tree.Tree, Tree.with_bucket, Tree.with_value, Listing.Member, Paths.path_of, ShownEntries.item_view};
     ghost use Rattle.bolt_layout.specs.Laid.{Placed};
     ghost use Rattle.bolt_bulk.specs.Private.{BeginsAll, capped, Counts, depth_of, Ends, EntersBucket, HasLeft, HasRoot, IsAt, IsFitMember, IsNoDeeper, IsReady, items_by, LeavesBucket, Level, longest_key, onto, Steps, TakesValue, Wanted};
-    ghost use Rattle.bolt_format.specs.ElementLengths.{IsValueLength};
-    ghost use Rattle.bolt_format.specs.ElementPlaces.{leaf_view};
-    ghost use Rattle.bolt_tree.specs.Listing.{Member};
-    ghost use Rattle.bolt_tree.specs.Paths.{path_of};
-    ghost use Rattle.bolt_tree.specs.ShownEntries.{item_view};
+    ghost use Rattle.bolt_format.specs.{ElementLengths.IsValueLength, ElementPlaces.leaf_view};
 
     /// A pass before the first page. If `notes` is set, it notes the limits of the balanced
     /// layout's rows.

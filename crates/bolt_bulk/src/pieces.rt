@@ -1,8 +1,6 @@
 //! Bytes that are written piece by piece: zeros, and the header of a page.
 ghost use Rattle.std.specs.Prelude.{replicate, ◌≡◌, ◌+◌, ◌-◌, ◌*◌, ◌<◌, IfOk};
-ghost use Rattle.bolt_format.specs.Endings.{page_ending};
-ghost use Rattle.bolt_format.specs.Wrote.{Wrote};
-ghost use Rattle.bolt_format.specs.Written.{header_bytes};
+ghost use Rattle.bolt_format.specs.{Endings.page_ending, Wrote.Wrote, Written.header_bytes};
 ghost use Rattle.bolt_layout.specs.Levels.{overflow_of};
 ghost use Rattle.bolt_bulk.specs.Private.{length_end};
 

@@ -1,9 +1,9 @@
 -- Findings reported page by page.
 use Rattle.std.proofs.Common.{◌≡◌, ℕ, suc, ◌-◌, ◌<◌, ◌≤◌, inl, inr, List, [], ◌∷◌, ◌++◌, length, refl, sym, subst, arith, length-append, All, AllPairs, Contains}
-use Rattle.bolt_check.proofs.Words.{All-cons, All-nil, All-weaker, AreFindingsBelow, cases_lt, cases_order, Finding, freed_twice, IsAccountFinding, IsBefore, IsLost, IsRun, le-ltb, lt-ltb, out_of_range, reached_freed, run_findings, unreachable}
 use Rattle.std.proofs.lemmas.List.{get_or_append_left}
 use Rattle.std.proofs.Math.Seq.{get_or-append_right}
 use Rattle.std.proofs.lemmas.List.Elements.{All-append, Contains-append_left, Contains-append_right}
+use Rattle.bolt_check.proofs.Words.{All-cons, All-nil, All-weaker, AreFindingsBelow, cases_lt, cases_order, Finding, freed_twice, IsAccountFinding, IsBefore, IsLost, IsRun, le-ltb, lt-ltb, out_of_range, reached_freed, run_findings, unreachable}
 use Rattle.bolt_check.specs.declared.finding.TheConstants.Finding.{UNREACHABLE}
 
 -- what is reported of the pages from one to before another

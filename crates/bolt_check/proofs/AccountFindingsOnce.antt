@@ -1,8 +1,7 @@
 -- There is one list of findings of the accounts.
 use Rattle.std.proofs.Common.{◌≡◌, ◌≢◌, ◌⊎◌, ◌∙◌, ℕ, zero, suc, List, [], ◌∷◌, AllPairs, Contains, Option, Some, None, ap, ap₂, sym, refl, subst, inl, inr, arith}
 use Rattle.bolt_check.proofs.Words.{AreAccountFindings, cases_eq, Finding, free_ids_of, Has, IsBefore, IsFreelistFinding, IsUsed, Meta}
-use Rattle.bolt_check.proofs.AccountLemmas.{unwritten}
-use Rattle.bolt_check.proofs.Rising.{RisesBy, same_lists}
+use Rattle.bolt_check.proofs.{AccountLemmas.unwritten, Rising.RisesBy, Rising.same_lists}
 
 same_finding : (x y : Finding) → x.number ≡ y.number → x.page ≡ y.page → x.last ≡ y.last → x ≡ y
 same_finding x y number page last =

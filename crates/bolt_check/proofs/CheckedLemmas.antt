@@ -1,8 +1,8 @@
 -- What a checked file is known to be.
 use Rattle.std.proofs.Common.{◌≡◌, ℕ, List, Some, subst}
 use Rattle.bolt_check.proofs.Words.{At_page, bytes_of, Checked, HasSoundTrees, IsOnWay, IsSome, Meta, meta_of, node_at, page_at, PageSpot, props, ∥∥₁_elim, ∥∥₁_map}
-use Rattle.bolt_check.specs.Ways.{reached}
 use Rattle.bolt_check.proofs.MarkLemmas.{node_shown}
+use Rattle.bolt_check.specs.Ways.{reached}
 
 -- a way leads to a good page
 pub good_page : (file : List ℕ) (meta : Meta) (way : List ℕ) (s : PageSpot) → HasSoundTrees file meta

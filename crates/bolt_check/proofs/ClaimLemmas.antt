@@ -1,13 +1,9 @@
 -- Claiming page after page.
 use Rattle.std.proofs.Common.{◌≡◌, ◌≢◌, ◌∙◌, ℕ, ◌+◌, ◌<◌, ◌≤◌, ◌^◌, ◌⊎◌, List, None, length, set, inl, inr, sym, ap, arith, get_or-set_same, get_or-set_other}
 use Rattle.bolt_check.proofs.Words.{cases_eq, cases_lt, claims_file, ClaimsFreelist, false≢true, first_use, freelist_fault_of, HasRoom, is_used, IsClaimed, IsInFreelist, IsUnclaimed, Meta, NO_FREELIST, page_overflow, PageUse, times_of, use_at}
+use Rattle.bolt_check.proofs.{FreelistLemmas.freelist_within, Spans.outside, Spans.still_unlisted}
 use Rattle.bolt_format.specs.Bytes.{IsBytes}
-use Rattle.bolt_check.specs.Claims.{claims_visited}
-use Rattle.bolt_check.specs.Counts.{counted}
-use Rattle.bolt_check.specs.declared.claims.Claims.{Claims}
-use Rattle.bolt_check.specs.declared.table.PageUse.TheVariants.{Used}
-use Rattle.bolt_check.proofs.FreelistLemmas.{freelist_within}
-use Rattle.bolt_check.proofs.Spans.{outside, still_unlisted}
+use Rattle.bolt_check.specs.{Claims.claims_visited, Counts.counted, declared.claims.Claims.Claims, declared.table.PageUse.TheVariants.Used}
 
 -- what holds of Used and of the pages so far holds of one page more
 pub more_of : (P : PageUse → Type 0) → P Used → (t : List PageUse) (from n : ℕ) → n < length t → ((k : ℕ) → from ≤ k → k < n → P (use_at t k))

@@ -1,8 +1,7 @@
 -- The spots that are still to be visited, as ways: the first number of a way picks the spot, the rest leads on from it.
 use Rattle.std.proofs.Common.{◌≡◌, ℕ, zero, suc, ◌<◌, ◌⊎◌, inl, inr, Bool, List, [], ◌∷◌, ◌++◌, Option, Some, None, Ok, slice_get, refl, sym, ap, subst, arith, ◌∙◌}
 use Rattle.bolt_check.proofs.Words.{At_inline, At_page, Before, Entry, Finding, follow, forest, IsClaimedBefore, IsClean, IsCovered, IsFirst, Key, Node, Nodes, PageSpot, places, somes, SpanHas, Spot, step, step_entry, Tests}
-use Rattle.bolt_check.proofs.Judging.{tests_same, span_spot}
-use Rattle.bolt_check.proofs.Visiting.{Visits}
+use Rattle.bolt_check.proofs.{Judging.tests_same, Judging.span_spot, Visiting.Visits}
 
 pub follow_none : (nodes : Nodes) (way : List ℕ) → follow nodes None way ≡ None
 follow_none nodes [] = refl

@@ -1,13 +1,10 @@
 -- If the shape holds, the tests find nothing.
 use Rattle.std.proofs.Common.{◌≡◌, ◌≢◌, ℕ, suc, ◌≤◌, inl, inr, Bool, true, false, not, ◌&&◌, ◌==◌, if◌then◌else◌, nat_lt, List, [], ◌∷◌, ◌++◌, length, Option, Some, None, Result, Ok, Err, slice_get, ap, refl, subst, arith}
-use Rattle.bolt_check.proofs.Words.{At_inline, At_page, bucket_spot, child_spot, early_finding, Entry, Finding, follow, HasShape, HasSoundTrees, is_below, is_from, IsClaimedBefore, IsClean, IsFirstFinding, IsMetaPage, Key, key_lt, keys_of, keys_order_fault, leads, Meta, nat_tests, ne_eqb, Node, node_at, node_finding, Nodes, PageSpot, Passes, root_spot, same_Some, SpanHas, Spot, step, step_entry, upper_from}
 use Rattle.std.proofs.lemmas.Option.{cond_some}
-use Rattle.bolt_check.specs.Ways.{step_at, reached}
-use Rattle.bolt_check.proofs.WayOrder.{before_irreflexive}
-use Rattle.bolt_check.proofs.Forest.{follow_some, nothing_is}
-use Rattle.bolt_check.proofs.Judging.{passes_silent}
-use Rattle.bolt_check.proofs.KeyOrder.{key_passes}
+use Rattle.bolt_check.proofs.Words.{At_inline, At_page, bucket_spot, child_spot, early_finding, Entry, Finding, follow, HasShape, HasSoundTrees, is_below, is_from, IsClaimedBefore, IsClean, IsFirstFinding, IsMetaPage, Key, key_lt, keys_of, keys_order_fault, leads, Meta, nat_tests, ne_eqb, Node, node_at, node_finding, Nodes, PageSpot, Passes, root_spot, same_Some, SpanHas, Spot, step, step_entry, upper_from}
+use Rattle.bolt_check.proofs.{WayOrder.before_irreflexive, Forest.follow_some, Forest.nothing_is, Judging.passes_silent, KeyOrder.key_passes}
 use Rattle.bolt_check.proofs.Shaping.{snoc_reached}
+use Rattle.bolt_check.specs.Ways.{step_at, reached}
 
 -- the bounds of a spot hold of all keys below it in its bucket
 abbrev pub Bounded : Nodes → Spot → Type 0

@@ -3,9 +3,8 @@ use Rattle.std.proofs.Common.{◌≡◌, ◌≢◌, ◌∙◌, ◌==◌, ◌<◌
 use Rattle.std.specs.Option.{IfNone}
 use Rattle.std.specs.Prelude.{IsTrue, nat_lt}
 use Rattle.bolt_check.proofs.Words.{At_page, Entry, false≢true, HasRoom, ltb-true, Meta, nat_tests, Node, node_at, Nodes, PagePasses, PageUse, root_spot, shown_node, SpanAt, TreePage}
-use Rattle.bolt_check.specs.LoneLeaves.{IsLoneLeaf}
-use Rattle.bolt_check.specs.Private.LeafTests.{IsFilledLeaf}
 use Rattle.bolt_check.proofs.MarkLemmas.{node_within}
+use Rattle.bolt_check.specs.{LoneLeaves.IsLoneLeaf, Private.LeafTests.IsFilledLeaf}
 
 -- a filled leaf at which the tests find nothing
 pub filled_lone : (nodes : Nodes) (before : ℕ → Type 0) (n : ℕ) → IsFilledLeaf (nodes n) → PagePasses nodes before (root_spot n) → IsLoneLeaf nodes before n

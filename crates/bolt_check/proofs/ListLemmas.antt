@@ -1,9 +1,9 @@
 -- Ids listed one after another.
 use Rattle.std.proofs.Common.{◌≡◌, ◌≢◌, ◌∙◌, ◌==◌, ℕ, ◌+◌, ◌<◌, Bool, List, [], ◌∷◌, ◌++◌, Some, slice_get, length, get_or, cond, take, filter, min, sym, ap, arith}
-use Rattle.bolt_check.proofs.Words.{eq-eqb, times_in}
 use Rattle.std.proofs.lemmas.List.Elements.{filter_more}
 use Rattle.std.proofs.lemmas.List.Sums.{sum_by_more}
 use Rattle.std.proofs.lemmas.Option.{slice_get-get_or}
+use Rattle.bolt_check.proofs.Words.{eq-eqb, times_in}
 
 -- the id at place i
 id_at : (ids : List ℕ) (i id : ℕ) → i < length ids → slice_get ids i ≡ Some id → get_or ids i 0 ≡ id

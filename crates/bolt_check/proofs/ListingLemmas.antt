@@ -1,13 +1,13 @@
 -- A listing, page by page.
 use Rattle.std.proofs.Common.{◌≡◌, ◌∙◌, ℕ, suc, ◌+◌, ◌<◌, ◌≤◌, max, inl, inr, List, [], ◌∷◌, ◌++◌, length, get_or, refl, sym, ap, subst, arith, append-nil, add-one, nat_lt, ◌==◌}
-use Rattle.bolt_check.proofs.Words.{AreAllFindings, AreFindingsBelow, both_ways, cases_lt, cond-false, cond-true, eq-eqb, false≢true, Finding, finding, Free, FREE_RANGE, FREED_TWICE, FreeTwice, HasFindingsTo, is_in_use, is_used, IsAccountFinding, IsBeyondTo, IsInRange, IsLost, IsPastTo, IsRun, IsSettled, listed_times, Listing, lt-ltb, ltb-true, page_findings, PageUse, run_findings, times_in, times_of, Unused, use_at}
 use Rattle.std.proofs.lemmas.Bool.{and_from, and_parts, cases_Bool, eqb-true}
 use Rattle.std.proofs.lemmas.List.Elements.{All-contains}
-use Rattle.bolt_check.specs.Private.Listings.{is_repeated, repeat_findings}
+use Rattle.bolt_check.proofs.Words.{AreAllFindings, AreFindingsBelow, both_ways, cases_lt, cond-false, cond-true, eq-eqb, false≢true, Finding, finding, Free, FREE_RANGE, FREED_TWICE, FreeTwice, HasFindingsTo, is_in_use, is_used, IsAccountFinding, IsBeyondTo, IsInRange, IsLost, IsPastTo, IsRun, IsSettled, listed_times, Listing, lt-ltb, ltb-true, page_findings, PageUse, run_findings, times_in, times_of, Unused, use_at}
 use Rattle.bolt_check.proofs.CountLemmas.{place_of, times_none, times_once, times_some, times_twice}
 use Rattle.bolt_check.proofs.TableLemmas.{past_metas, past_unlisted}
 use Rattle.bolt_check.proofs.PageLemmas.{twice, reached, lost, range, not_lost_listed, on_own_page, reports_page, reports_range, reports_twice, reports_well}
 use Rattle.bolt_check.proofs.AccountFindingLemmas.{Reports, reported_append, reports_none, reports_run}
+use Rattle.bolt_check.specs.Private.Listings.{is_repeated, repeat_findings}
 
 module _ (listing : Listing) (settled : IsSettled listing) where
   unused_past : (n : ℕ) → length listing.table.now ≤ n → is_in_use listing n → ⊥

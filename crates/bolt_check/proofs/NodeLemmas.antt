@@ -1,12 +1,10 @@
 -- The entries of a page as a node.
 use Rattle.std.proofs.Common.{◌≡◌, ◌∙◌, ℕ, suc, ◌+◌, ◌≤◌, List, true, false, Option, None, Some, length, sym, ap, arith, slice_get}
-use Rattle.bolt_check.proofs.Words.{At_page, branch_entry, BranchElement, child_spot, Entry, Key, keys_of, leaf_entry, LeafElement, none-some, option_map, PageSpot, shown, shown_node, slice_get-map, step_entry, step_on, TreePage, upper_from}
 use Rattle.std.proofs.lemmas.List.{length-map}
 use Rattle.std.proofs.lemmas.Option.{slice_get_past}
+use Rattle.bolt_check.proofs.Words.{At_page, branch_entry, BranchElement, child_spot, Entry, Key, keys_of, leaf_entry, LeafElement, none-some, option_map, PageSpot, shown, shown_node, slice_get-map, step_entry, step_on, TreePage, upper_from}
 use Rattle.bolt_format.proofs.PageLaws.{length-shown_branches, length-shown_leaves}
-use Rattle.bolt_check.specs.ShownNodes.{entries_of}
-use Rattle.bolt_check.specs.TreeKinds.{tree_kind}
-use Rattle.bolt_check.specs.Ways.{bucket_spots}
+use Rattle.bolt_check.specs.{ShownNodes.entries_of, TreeKinds.tree_kind, Ways.bucket_spots}
 
 -- a leaf has as many entries as elements
 pub length-leaf : (node : TreePage) → node.is_leaf ≡ true → length (shown_node node).entries ≡ (shown node.page).count

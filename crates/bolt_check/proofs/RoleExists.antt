@@ -3,10 +3,8 @@ use Rattle.std.proofs.Common.{◌≡◌, ℕ, ◌+◌, ◌<◌, ◌≤◌, ◌�
 use Rattle.bolt_check.proofs.Words.{At_page, cases_eq, cases_lt, eq-eqb, Has, HasRightAccounts, HasRole, HasSoundTrees, IsInFreelist, IsTour, Meta, ne_eqb, NO_FREELIST, Node, node_at, Nodes, page_overflow, PageSpot, Reach, Role, SpanHas, SpanOf, Spot}
 use Rattle.bolt_check.specs.Ways.{reached}
 use Rattle.bolt_check.specs.declared.role_table.Role.TheVariants as role
-use Rattle.bolt_check.proofs.Judging.{span_spot}
-use Rattle.bolt_check.proofs.RoleOnce.{Used, first_role, node_role, spot_role, used_role}
-use Rattle.bolt_check.proofs.TourSums.{bucket_tour}
-use Rattle.bolt_check.proofs.TourLemmas.{Ways}
+use Rattle.bolt_check.proofs.{Judging.span_spot, RoleOnce.Used, RoleOnce.first_role, RoleOnce.node_role, RoleOnce.spot_role, RoleOnce.used_role}
+use Rattle.bolt_check.proofs.{TourSums.bucket_tour, TourLemmas.Ways}
 
 abbrev Either : Type 0 → Type 0
 Either A = A ⊎ (A → ⊥)

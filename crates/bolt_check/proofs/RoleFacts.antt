@@ -1,16 +1,11 @@
 -- What holds of a page with a role, for the crates above.
 use Rattle.std.proofs.Common.{◌≡◌, ℕ, ◌+◌, ◌*◌, ◌<◌, ◌≤◌, inl, inr, Bool, true, List, [], Ok, length, refl, sym, subst, arith}
-use Rattle.bolt_check.proofs.Words.{bytes_of, cases_lt, Checked, HasRightAccounts, HasRole, HasSoundTrees, IsFirstPage, IsInFreelist, IsSome, IsSound, Meta, meta_of, Node, node_at, page_at, Role, root_spot, ∥∥₁_elim, ∥∥₁_map}
 use Rattle.std.proofs.Math.Nat.{mul-le-mul_right}
-use Rattle.bolt_check.specs.CheckedFiles.{has_accounts}
-use Rattle.bolt_check.specs.Roles.{AreRoles}
-use Rattle.bolt_check.specs.Ways.{reached}
+use Rattle.bolt_check.proofs.Words.{bytes_of, cases_lt, Checked, HasRightAccounts, HasRole, HasSoundTrees, IsFirstPage, IsInFreelist, IsSome, IsSound, Meta, meta_of, Node, node_at, page_at, Role, root_spot, ∥∥₁_elim, ∥∥₁_map}
+use Rattle.bolt_check.specs.{CheckedFiles.has_accounts, Roles.AreRoles, Ways.reached}
 use Rattle.bolt_check.specs.declared.role_table.Role.TheVariants as role
-use Rattle.bolt_check.proofs.FreelistLemmas.{freelist_page, freelist_within}
-use Rattle.bolt_check.proofs.MarkLemmas.{node_shown, node_within}
-use Rattle.bolt_check.proofs.RoleExists.{role_exists}
-use Rattle.bolt_check.proofs.RoleLemmas.{page_positive}
-use Rattle.bolt_check.proofs.RoleOnce.{role_once}
+use Rattle.bolt_check.proofs.{FreelistLemmas.freelist_page, FreelistLemmas.freelist_within, MarkLemmas.node_shown, MarkLemmas.node_within}
+use Rattle.bolt_check.proofs.{RoleExists.role_exists, RoleLemmas.page_positive, RoleOnce.role_once}
 
 -- a file whose accounts were tested is sound with its accounts
 pub sound_accounts : (checked : Checked) → has_accounts checked ≡ true → ∥ IsSound (bytes_of checked) (meta_of checked) true ∥₁

@@ -1,11 +1,8 @@
 -- The role of a page, from the table of uses.
 use Rattle.std.proofs.Common.{◌≡◌, ◌≢◌, ◌∙◌, ℕ, zero, suc, ◌<◌, ◌≤◌, ◌↔◌, inl, inr, Bool, true, false, List, Some, sym, ap, subst, refl, arith}
 use Rattle.bolt_check.proofs.Words.{At_inline, At_page, cases_eq, cases_lt, ClaimsUses, eq-eqb, false≢true, HasRightAccounts, HasRole, HasUse, is_used, IsClaimed, IsFirstPage, IsInFreelist, IsMetaUse, IsNoted, IsSound, IsUsed, le-ltb, lt-ltb, Meta, ne_eqb, NO_FREELIST, node_at, Nodes, PageUse, Reach, Slot, Spot, use_at, use_of, UseAt, UsedFree, UsedFreeTwice}
-use Rattle.bolt_format.specs.Metas.{IsInSlot, IsMeta, IsPageSize}
-use Rattle.bolt_format.specs.declared.meta.Slot.TheVariants.{One, Zero}
-use Rattle.bolt_check.specs.Private.RoleTables.{AreUses, role_by, role_from}
-use Rattle.bolt_check.specs.Roles.{IsLaterPage}
-use Rattle.bolt_check.specs.Ways.{reached}
+use Rattle.bolt_format.specs.{Metas.IsInSlot, Metas.IsMeta, Metas.IsPageSize, declared.meta.Slot.TheVariants.One, declared.meta.Slot.TheVariants.Zero}
+use Rattle.bolt_check.specs.{Private.RoleTables.AreUses, Private.RoleTables.role_by, Private.RoleTables.role_from, Roles.IsLaterPage, Ways.reached}
 use Rattle.bolt_check.specs.declared.role_table.Role.TheVariants as role
 use Rattle.bolt_check.specs.declared.table.PageUse.TheVariants.{Branch, Leaf, Used}
 use Rattle.bolt_check.proofs.Judging.{use_spot}

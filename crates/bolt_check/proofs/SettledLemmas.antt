@@ -1,15 +1,13 @@
 -- A table in which the ids are listed, with the ids past it sorted, is a listing of them.
 use Rattle.std.proofs.Common.{◌≡◌, ◌∙◌, ◌==◌, ℕ, ◌<◌, ◌≤◌, Bool, true, List, All, length, Vec, Global, Result, IfOk, cond, not, filter, min, IsPermutation, inl, inr, refl, sym, ap, subst, arith, nat_le}
-use Rattle.std.specs.List.Sorted.{IsNonDecreasing, IsSorted}
-use Rattle.std.specs.Ordering.{nat_cmp}
-use Rattle.bolt_check.proofs.Words.{All-weaker, AllocError, AreAllFindings, both_ways, cases_lt, Finding, IfOk-weaker, is_in_use, is_used, IsClaimed, IsSettled, listed_times, Listing, not-true, PageUse, times_in, times_of, use_at}
 use Rattle.std.proofs.lemmas.Bool.{le-leb, leb-true}
 use Rattle.std.proofs.lemmas.List.Elements.{filter_passes}
 use Rattle.std.proofs.lemmas.List.Sorted.{All-permutation, IsNonDecreasingBy-from_sort, sum_by-IsPermutation}
 use Rattle.std.proofs.lemmas.List.Filters.{sum_by-filter_both}
-use Rattle.bolt_check.proofs.CountLemmas.{times_none}
-use Rattle.bolt_check.proofs.ListingLemmas.{times_past, times_table}
-use Rattle.bolt_check.proofs.AccountLemmas.{reported_along}
+use Rattle.std.specs.List.Sorted.{IsNonDecreasing, IsSorted}
+use Rattle.std.specs.Ordering.{nat_cmp}
+use Rattle.bolt_check.proofs.Words.{All-weaker, AllocError, AreAllFindings, both_ways, cases_lt, Finding, IfOk-weaker, is_in_use, is_used, IsClaimed, IsSettled, listed_times, Listing, not-true, PageUse, times_in, times_of, use_at}
+use Rattle.bolt_check.proofs.{CountLemmas.times_none, ListingLemmas.times_past, ListingLemmas.times_table, AccountLemmas.reported_along}
 
 -- a number that passes a test is as often in what passes
 times_filter : (p : ℕ → Bool) (n : ℕ) → p n ≡ true → (xs : List ℕ) → times_in (filter p xs) n ≡ times_in xs n

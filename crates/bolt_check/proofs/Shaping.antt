@@ -1,13 +1,10 @@
 -- If the tests find nothing at any way, the shape holds.
 use Rattle.std.proofs.Common.{◌≡◌, ◌≢◌, ℕ, suc, ◌≤◌, inl, inr, Bool, true, false, not, ◌&&◌, ◌==◌, if◌then◌else◌, nat_lt, List, [], ◌∷◌, ◌++◌, length, Option, Some, None, Result, Ok, slice_get, refl, ap, arith, ◌∙◌}
 use Rattle.bolt_check.proofs.Words.{At_inline, At_page, cases_lt, child_at, child_spot, early_finding, Entry, finding, Finding, follow, HasShape, is_below, is_from, IsClaimedBefore, IsClean, IsMetaPage, Key, key_lt, keys_of, keys_order_fault, leads, nat_tests, Node, node_finding, Nodes, not-true, PagePasses, PageSpot, Passes, Reach, root_spot, SpanAt, SpanHas, SpanOf, Spot, step, upper_from}
-use Rattle.bolt_check.specs.Ways.{reached}
-use Rattle.bolt_check.specs.declared.finding.TheConstants.Finding.{EMPTY_BRANCH, TOO_DEEP}
-use Rattle.bolt_check.specs.Findings.{open_finding, finding_of}
-use Rattle.bolt_check.proofs.WayOrder.{before_total}
-use Rattle.bolt_check.proofs.KeyLaws.{below_less, from_more}
-use Rattle.bolt_check.proofs.KeyOrder.{key_each, key_rise}
+use Rattle.bolt_check.proofs.{WayOrder.before_total, KeyLaws.below_less, KeyLaws.from_more, KeyOrder.key_each, KeyOrder.key_rise}
 use Rattle.bolt_check.proofs.WayFacts.{follow_append, is_child, key_at, leads_some, step_child}
+use Rattle.bolt_check.specs.{Ways.reached, declared.finding.TheConstants.Finding.EMPTY_BRANCH, declared.finding.TheConstants.Finding.TOO_DEEP}
+use Rattle.bolt_check.specs.Findings.{open_finding, finding_of}
 
 -- the content's tests report nothing
 pub finding_none : (o : Option ℕ) (page : ℕ) → finding_of o page ≡ None → o ≡ None

@@ -1,9 +1,8 @@
 -- There is at most one first finding.
 use Rattle.std.proofs.Common.{◌≡◌, ℕ, inl, inr, List, Some, sym, ap, ◌∙◌}
 use Rattle.bolt_check.proofs.Words.{At_inline, At_page, cases_order, early, finding, Finding, inline_finding, IsClaimedBefore, IsFirstFinding, IsMetaPage, late, Meta, Node, node_at, node_finding, Nodes, PageSpot, PageTests, Reach, Spot, Tests, TWICE}
-use Rattle.bolt_check.specs.Ways.{reached}
-use Rattle.bolt_check.specs.Findings.{twice, IsLowestClaimed}
 use Rattle.bolt_check.proofs.WayOrder.{before_total}
+use Rattle.bolt_check.specs.{Ways.reached, Findings.twice, Findings.IsLowestClaimed}
 use Rattle.bolt_format.proofs.ListLemmas.{one_some}
 
 same_lowest : (before : ℕ → Type 0) (node : Node) (number n m : ℕ) → IsLowestClaimed before node number n → IsLowestClaimed before node number m → n ≡ m

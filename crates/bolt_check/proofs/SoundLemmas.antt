@@ -1,11 +1,9 @@
 -- From the search and the test of the accounts to the whole file.
 use Rattle.std.proofs.Common.{◌≡◌, ◌∙◌, ap, ℕ, ◌↔◌, ◌==◌, ◌≢◌, List, [], false, true, length, sym}
 use Rattle.bolt_check.proofs.Words.{AreAccountFindings, eq-eqb, false≢true, Finding, HasAccounts, HasRightAccounts, IsClaimed, IsClean, IsMetaPage, IsSound, IsUsed, Meta, node_at, PageUse, Slot}
+use Rattle.bolt_check.proofs.{AccountsAlong.account_findings_along, AccountsAlong.has_accounts_along, Shaping.shape_of}
 use Rattle.bolt_format.specs.Metas.{IsChosen}
-use Rattle.bolt_check.specs.Sound.{IsTested}
-use Rattle.bolt_check.specs.Ways.{reached}
-use Rattle.bolt_check.proofs.AccountsAlong.{account_findings_along, has_accounts_along}
-use Rattle.bolt_check.proofs.Shaping.{shape_of}
+use Rattle.bolt_check.specs.{Sound.IsTested, Ways.reached}
 
 pub right_of : (file : List ℕ) (meta : Meta) (table : List PageUse) → ((n : ℕ) → IsClaimed table n ↔ IsUsed file meta n)
     → HasAccounts file meta (IsClaimed table) → HasRightAccounts file meta

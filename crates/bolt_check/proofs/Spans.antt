@@ -1,9 +1,7 @@
 -- A table after the pages of a span were claimed.
 use Rattle.std.proofs.Common.{◌≡◌, ◌∙◌, ℕ, ◌+◌, ◌<◌, ◌≤◌, ◌⊎◌, inl, inr, List, Ok, sym, ap, arith}
 use Rattle.bolt_check.proofs.Words.{At_page, cases_eq, cases_lt, is_used, IsClaimed, IsUnclaimed, IsUnlisted, Node, Nodes, PageSpot, PageUse, times_of, use_at, use_of}
-use Rattle.bolt_check.specs.Nodes.{IsInSpan}
-use Rattle.bolt_check.specs.Private.Pending.{Claims}
-use Rattle.bolt_check.specs.declared.table.PageUse.TheVariants.{Used}
+use Rattle.bolt_check.specs.{Nodes.IsInSpan, Private.Pending.Claims, declared.table.PageUse.TheVariants.Used}
 
 pub not_both : (t : List PageUse) (k : ℕ) → IsUnclaimed t k → IsClaimed t k → ⊥
 not_both t k a b = cc

@@ -1,12 +1,9 @@
 -- Each visit removes a page number from those that are left.
 use Rattle.std.proofs.Common.{◌≡◌, ◌≢◌, ◌∙◌, ℕ, zero, suc, ◌<◌, inl, inr, List, [], ◌∷◌, ◌++◌, length, Option, Some, Ok, refl, sym, ap, subst, arith}
-use Rattle.bolt_check.proofs.Words.{At_page, Before, cases_eq, follow, Has, HasSoundTrees, Meta, Node, node_at, Nodes, PageSpot, Reach, root_spot, Spot}
 use Rattle.std.proofs.lemmas.List.{append_cancel_left}
+use Rattle.bolt_check.proofs.Words.{At_page, Before, cases_eq, follow, Has, HasSoundTrees, Meta, Node, node_at, Nodes, PageSpot, Reach, root_spot, Spot}
+use Rattle.bolt_check.proofs.{MarkLemmas.node_below, Visiting.Visits, Visiting.one_of, WayFacts.follow_append, WayFacts.one_way, WayOrder.before_irreflexive}
 use Rattle.bolt_check.specs.Ways.{reached}
-use Rattle.bolt_check.proofs.MarkLemmas.{node_below}
-use Rattle.bolt_check.proofs.Visiting.{Visits, one_of}
-use Rattle.bolt_check.proofs.WayFacts.{follow_append, one_way}
-use Rattle.bolt_check.proofs.WayOrder.{before_irreflexive}
 
 -- the page numbers that are left, without one
 abbrev pub without : (n : ℕ) (xs : List ℕ) → Has n xs → List ℕ

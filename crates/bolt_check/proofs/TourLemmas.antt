@@ -1,10 +1,8 @@
 -- Tours: there is at most one, and a visit puts a way before those of what is left.
 use Rattle.std.proofs.Common.{◌≡◌, ◌∙◌, ℕ, inl, inr, List, [], ◌∷◌, map, Option, Some, None, refl, sym, ap, subst}
-use Rattle.bolt_check.proofs.Words.{Before, Has, IsTour, none-some, Reach, Spot}
+use Rattle.bolt_check.proofs.{Words.Before, Words.Has, Words.IsTour, Words.none-some, Words.Reach, Words.Spot, Visiting.Visits}
+use Rattle.bolt_check.proofs.{Rising.RisesBy, Rising.same_lists, WayOrder.before_strict}
 use Rattle.bolt_check.specs.Tours.{IsBeforeAll, Rises}
-use Rattle.bolt_check.proofs.Visiting.{Visits}
-use Rattle.bolt_check.proofs.Rising.{RisesBy, same_lists}
-use Rattle.bolt_check.proofs.WayOrder.{before_strict}
 
 abbrev pub Ways : Type 0
 Ways = List (List ℕ)

@@ -1,13 +1,11 @@
 -- A sum over the tour of a bucket, page by page: a page's own, and those of the pages that it leads to.
 use Rattle.std.proofs.Common.{◌≡◌, ◌∙◌, ◌==◌, ℕ, zero, suc, ◌+◌, ◌≤◌, inl, inr, Bool, true, false, List, [], ◌∷◌, ◌++◌, Option, Some, None, Result, Ok, cond, length, map, sum_by, refl, sym, ap, subst, arith}
 use Rattle.bolt_check.proofs.Words.{At_inline, At_page, Entry, forest, Has, HasSoundTrees, IsSome, IsTour, Key, Meta, Node, node_at, Nodes, page_at, PageSpot, places, Reach, root_spot, somes, Spot, sum_by-cons}
-use Rattle.bolt_check.specs.Subtrees.{Enough, kid_pages, kids_at, root_page, weight}
-use Rattle.bolt_check.specs.Ways.{reached}
 use Rattle.bolt_check.proofs.Forest.{forest_empty, inline_visits, nothing_is, page_visits, root_visits, tail}
 use Rattle.bolt_check.proofs.MarkLemmas.{node_shown}
 use Rattle.bolt_check.proofs.TourExists.{Fits, bucket_fits, fits_page, fits_visited, numbers, shorter, without}
-use Rattle.bolt_check.proofs.TourLemmas.{Ways, tour_map, tour_step}
-use Rattle.bolt_check.proofs.Visiting.{Visits}
+use Rattle.bolt_check.proofs.{TourLemmas.Ways, TourLemmas.tour_map, TourLemmas.tour_step, Visiting.Visits}
+use Rattle.bolt_check.specs.{Subtrees.Enough, Subtrees.kid_pages, Subtrees.kids_at, Subtrees.root_page, Subtrees.weight, Ways.reached}
 
 -- the pages among spots
 abbrev pub pages_of : List Spot → List ℕ

@@ -1,9 +1,9 @@
 -- A search for findings goes on from what a visited spot leads to.
 use Rattle.std.proofs.Common.{◌≡◌, ℕ, ◌⊎◌, inl, inr, List, Option, Some, None, subst}
 use Rattle.bolt_check.proofs.Words.{Before, Carries, HasUse, IsClaimedBefore, IsCovered, Nodes, PageUse, Passes, Reach, SpanHas, Spot, Tests, UseOf}
-use Rattle.bolt_check.specs.Private.Carries.{Takes}
 use Rattle.bolt_check.proofs.WayOrder.{before_irreflexive, before_strict, before_total}
 use Rattle.bolt_check.proofs.Judging.{tests_same, passes_fewer, passes_silent, span_spot, span_at, use_back, use_spot}
+use Rattle.bolt_check.specs.Private.Carries.{Takes}
 
 -- the ways of `old` are `first`, if o is a spot, and after it and in the same order those of `new`
 pub record Visits (old new : Reach) (o : Option Spot) (first : List ℕ) (f : List ℕ → List ℕ) : Type 0 where

@@ -1,11 +1,7 @@
 -- What is reported if the freelist doesn't have exactly the free pages: docs/SOUND.md, "Accounts".
 use Rattle.std.specs.Prelude.{◌≡◌, ◌≢◌, ◌≤◌, ◌<◌, ◌⊎◌, ◌↔◌, ℕ, suc, List, [], ◌∷◌, AllPairs, Contains, Some}
-use Rattle.bolt_format.specs.Freelists.{free_ids_of, freelist_fault_of}
-use Rattle.bolt_format.specs.declared.meta.Meta.{Meta}
-use Rattle.bolt_format.specs.declared.meta.TheConstants.{NO_FREELIST}
-use Rattle.bolt_check.specs.Accounts.{IsFree, IsInFreelist, IsInUse, times_in}
-use Rattle.bolt_check.specs.Findings.{finding}
-use Rattle.bolt_check.specs.declared.finding.Finding.{Finding}
+use Rattle.bolt_format.specs.{Freelists.free_ids_of, Freelists.freelist_fault_of, declared.meta.Meta.Meta, declared.meta.TheConstants.NO_FREELIST}
+use Rattle.bolt_check.specs.{Accounts.IsFree, Accounts.IsInFreelist, Accounts.IsInUse, Accounts.times_in, Findings.finding, declared.finding.Finding.Finding}
 use Rattle.bolt_check.specs.declared.finding.TheConstants.Finding.{FREED_TWICE, FREE_RANGE, REACHED_FREED, TWICE, UNREACHABLE}
 
 -- what is wrong with the freelist's own page: its first fault, or the lowest page of its span that is used

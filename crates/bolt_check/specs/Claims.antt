@@ -1,8 +1,7 @@
 -- What the claimed pages show.
 use Rattle.std.specs.Prelude.{ℕ, Bool, List, length}
 use Rattle.bolt_format.specs.declared.meta.Meta.{Meta}
-use Rattle.bolt_check.specs.Private.Tables.{is_used, unclaimed, use_at}
-use Rattle.bolt_check.specs.declared.claims.Claims.{Claims}
+use Rattle.bolt_check.specs.{Private.Tables.is_used, Private.Tables.unclaimed, Private.Tables.use_at, declared.claims.Claims.Claims}
 
 -- the file whose pages they are, and the meta that it is read under
 unfoldable pub claims_file : Claims → List ℕ

@@ -1,7 +1,6 @@
 -- Where each entry of a page leads: docs/SOUND.md, "Ways".
 use Rattle.std.specs.Prelude.{Bool, List, [], ◌∷◌, Option, slice_get}
-use Rattle.bolt_check.specs.Nodes.{Entry}
-use Rattle.bolt_check.specs.Ways.{PageSpot, Spot, spot_of, upper_from}
+use Rattle.bolt_check.specs.{Nodes.Entry, Ways.PageSpot, Ways.Spot, Ways.spot_of, Ways.upper_from}
 
 abbrev pub places : Bool → PageSpot → List Entry → List (Option Spot)
 places is_leaf s [] = []

@@ -1,11 +1,7 @@
 -- Intact leaves that nothing needs to lead to: docs/RECOVERY.md, "Found pages".
 use Rattle.std.specs.Prelude.{◌≡◌, ◌≢◌, ◌≤◌, ℕ, List, [], None, Some, IsTrue}
-use Rattle.bolt_format.specs.Freelists.{free_ids_of, freelist_fault_of}
-use Rattle.bolt_format.specs.declared.meta.Meta.{Meta}
-use Rattle.bolt_check.specs.Accounts.{times_in}
-use Rattle.bolt_check.specs.Findings.{PagePasses}
-use Rattle.bolt_check.specs.Nodes.{Nodes}
-use Rattle.bolt_check.specs.Ways.{root_spot}
+use Rattle.bolt_format.specs.{Freelists.free_ids_of, Freelists.freelist_fault_of, declared.meta.Meta.Meta}
+use Rattle.bolt_check.specs.{Accounts.times_in, Findings.PagePasses, Nodes.Nodes, Ways.root_spot}
 
 -- Page n is a good leaf with an element, its keys rise, and its span shares no page with those that were claimed before: the tests of a bucket's
 -- root page find nothing at it.

@@ -1,9 +1,7 @@
 -- What the rules of soundness see of a page: a branch or a leaf with its entries, or why it is none. docs/SOUND.md, "Structure".
 use Rattle.std.specs.Prelude.{◌≤◌, ℕ, ◌+◌, Bool, true, false, List, [], map, Option, Some, None, Result, Ok, Err}
 use Rattle.bolt_format.specs.Elements.{BranchElement, LeafElement, head_root, inline_elements}
-use Rattle.bolt_format.specs.Pages.{PageView, page_at, page_fault}
-use Rattle.bolt_format.specs.declared.meta.Meta.{Meta}
-use Rattle.bolt_format.specs.declared.kind.Kind.{Kind}
+use Rattle.bolt_format.specs.{Pages.PageView, Pages.page_at, Pages.page_fault, declared.meta.Meta.Meta, declared.kind.Kind.Kind}
 use Rattle.bolt_format.specs.declared.kind.Kind.TheVariants as kind
 use Rattle.bolt_format.specs.declared.fault.TheConstants.PageFault.{PAGE_KIND}
 

@@ -1,8 +1,7 @@
 -- The pages that ways lead to: docs/SOUND.md, "Ways".
 use Rattle.std.specs.Prelude.{◌≡◌, ℕ, List, Some}
 use Rattle.bolt_format.specs.declared.meta.Meta.{Meta}
-use Rattle.bolt_check.specs.Nodes.{node_at}
-use Rattle.bolt_check.specs.Ways.{At_page, PageSpot, reached}
+use Rattle.bolt_check.specs.{Nodes.node_at, Ways.At_page, Ways.PageSpot, Ways.reached}
 
 -- A way leads to this page, at this depth in its bucket.
 pub record IsOnWay (file : List ℕ) (meta : Meta) (number depth : ℕ) : Type 0 where

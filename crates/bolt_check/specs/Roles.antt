@@ -1,11 +1,8 @@
 -- What each page below the mark is for: docs/SOUND.md, "Roles".
 use Rattle.std.specs.Prelude.{◌≡◌, ◌<◌, ◌⊎◌, ℕ, Bool, true, false, List, Ok, Some}
 use Rattle.bolt_format.specs.declared.meta.Meta.{Meta}
-use Rattle.bolt_check.specs.Accounts.{IsFree, IsInFreelist, IsInUse}
-use Rattle.bolt_check.specs.Nodes.{IsInSpan, Node, Nodes, node_at}
-use Rattle.bolt_check.specs.Sound.{IsUsed}
-use Rattle.bolt_check.specs.Ways.{At_page, PageSpot, Reach, reached}
-use Rattle.bolt_check.specs.declared.role_table.Role.{Role}
+use Rattle.bolt_check.specs.{Accounts.IsFree, Accounts.IsInFreelist, Accounts.IsInUse, Nodes.IsInSpan, Nodes.Node, Nodes.Nodes, Nodes.node_at, Sound.IsUsed}
+use Rattle.bolt_check.specs.{Ways.At_page, Ways.PageSpot, Ways.Reach, Ways.reached, declared.role_table.Role.Role}
 use Rattle.bolt_check.specs.declared.role_table.Role.TheVariants as role
 
 -- a way leads to page n, which is a leaf, or a branch

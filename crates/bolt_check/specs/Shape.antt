@@ -1,8 +1,6 @@
 -- The structure of a sound file, over all ways and all pairs of ways: docs/SOUND.md, "Structure".
 use Rattle.std.specs.Prelude.{◌≡◌, ◌≢◌, ◌≤◌, ℕ, suc, List, [], ◌∷◌, Bool, true, false, IsTrue, Option, Some, None, Result, Ok, Err, slice_get}
-use Rattle.bolt_check.specs.Findings.{keys_of}
-use Rattle.bolt_check.specs.Keys.{Key, KeysRise, key_lt}
-use Rattle.bolt_check.specs.Nodes.{Entry, Node, Nodes}
+use Rattle.bolt_check.specs.{Findings.keys_of, Keys.Key, Keys.KeysRise, Keys.key_lt, Nodes.Entry, Nodes.Node, Nodes.Nodes}
 use Rattle.bolt_check.specs.Ways.{At_inline, At_page, PageSpot, SpanHas, reached}
 
 -- An address is a list of branch steps inside one bucket; this is the page that it leads to.

@@ -1,9 +1,7 @@
 -- A page of the code as a node.
 use Rattle.std.specs.Prelude.{Bool, true, false, List, map}
-use Rattle.bolt_format.specs.Pages.{PageView}
-use Rattle.bolt_format.specs.Shown.{shown}
-use Rattle.bolt_check.specs.Nodes.{Entry, Node, branch_entry, leaf_entry}
-use Rattle.bolt_check.specs.declared.tree_page.TreePage.{TreePage}
+use Rattle.bolt_format.specs.{Pages.PageView, Shown.shown}
+use Rattle.bolt_check.specs.{Nodes.Entry, Nodes.Node, Nodes.branch_entry, Nodes.leaf_entry, declared.tree_page.TreePage.TreePage}
 
 abbrev pub entries_of : Bool → PageView → List Entry
 entries_of true view = map leaf_entry view.leaves

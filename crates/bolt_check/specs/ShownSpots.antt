@@ -1,14 +1,9 @@
 -- A spot of the code as the definitions have it: docs/SOUND.md, "Ways".
 use Rattle.std.specs.Prelude.{◌≡◌, ℕ, List, map, Option, Some, None}
 use Rattle.std.specs.Borrow.{Bor}
-use Rattle.bolt_format.specs.ShownInline.{shown_inline}
-use Rattle.bolt_format.specs.Elements.{LeafElement, inline_elements}
-use Rattle.bolt_format.specs.declared.bucket.Inline.{Inline}
-use Rattle.bolt_check.specs.Keys.{Key}
-use Rattle.bolt_check.specs.Ways.{At_inline, At_page, PageSpot, Spot}
-use Rattle.bolt_check.specs.declared.spot.PageSpot.{PageSpot as CodePageSpot}
-use Rattle.bolt_check.specs.declared.spot.Spot.{Spot as CodeSpot}
-use Rattle.bolt_check.specs.declared.spot.Spot.TheVariants.{Page, Bucket}
+use Rattle.bolt_format.specs.{ShownInline.shown_inline, Elements.LeafElement, Elements.inline_elements, declared.bucket.Inline.Inline}
+use Rattle.bolt_check.specs.{Keys.Key, Ways.At_inline, Ways.At_page, Ways.PageSpot, Ways.Spot, declared.spot.PageSpot.PageSpot as CodePageSpot}
+use Rattle.bolt_check.specs.{declared.spot.Spot.Spot as CodeSpot, declared.spot.Spot.TheVariants.Page, declared.spot.Spot.TheVariants.Bucket}
 
 abbrev pub bound_of : Option (Bor (List ℕ)) → Option (List ℕ)
 bound_of None = None

@@ -1,7 +1,6 @@
 -- The tour of a bucket: all ways that lead somewhere, in their order.
 use Rattle.std.specs.Prelude.{◌≡◌, ℕ, List, [], ◌∷◌, Some}
-use Rattle.bolt_check.specs.Ways.{Before, Reach, Spot}
-use Rattle.bolt_check.specs.Subtrees.{Has}
+use Rattle.bolt_check.specs.{Ways.Before, Ways.Reach, Ways.Spot, Subtrees.Has}
 
 -- a way comes before each of these
 abbrev pub IsBeforeAll : List ℕ → List (List ℕ) → Type 0

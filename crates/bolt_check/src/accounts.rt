@@ -1,10 +1,7 @@
 //! Does the freelist have exactly the free pages? (docs/SOUND.md, "Accounts").
 ghost use Rattle.std.specs.Prelude.{◌≡◌, ◌≢◌, ◌≤◌, ◌<◌, ◌+◌, ◌∷◌, ℕ, [], IfOk, IfSome, MatchOption, None, OnOk, length};
-ghost use Rattle.bolt_format.specs.Freelists.{freelist_fault_of};
-ghost use Rattle.bolt_format.specs.declared.meta.TheConstants.{NO_FREELIST};
-ghost use Rattle.bolt_format.specs.ShownIds.{shown_ids};
-ghost use Rattle.bolt_check.specs.AccountFindings.{AreAccountFindings};
-ghost use Rattle.bolt_check.specs.Accounts.{HasAccounts, IsInFreelist, times_in};
+ghost use Rattle.bolt_format.specs.{Freelists.freelist_fault_of, declared.meta.TheConstants.NO_FREELIST, ShownIds.shown_ids};
+ghost use Rattle.bolt_check.specs.{AccountFindings.AreAccountFindings, Accounts.HasAccounts, Accounts.IsInFreelist, Accounts.times_in};
 ghost use Rattle.bolt_check.specs.Private.Listings.{AreAllFindings, ClaimsFreelist, ClaimsUses, IsUnlisted};
 ghost use Rattle.bolt_check.specs.Private.Tables.{HasRoom, IsClaimed, is_used, use_at};
 

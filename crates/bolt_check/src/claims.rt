@@ -1,17 +1,8 @@
 //! The claimed pages of a file, and the tests of one more page.
 ghost use Rattle.std.specs.Prelude.{◌≡◌, ◌↔◌, ◌⊎◌, ◌<◌, ◌≤◌, ◌^◌, ℕ, true, IfErr, IfOk, Ok, OnErr, OnOk, Some};
-ghost use Rattle.bolt_format.specs.Bytes.{IsBytes};
-ghost use Rattle.bolt_format.specs.Pages.{page_at};
-ghost use Rattle.bolt_format.specs.Shown.{shown};
-ghost use Rattle.bolt_check.specs.Counts.{counted};
-ghost use Rattle.bolt_check.specs.Findings.{IsMetaPage, PagePasses, PageTests};
-ghost use Rattle.bolt_check.specs.Nodes.{node_at};
-ghost use Rattle.bolt_check.specs.Private.Listings.{IsUnlisted};
-ghost use Rattle.bolt_check.specs.Private.Tables.{HasRoom};
-ghost use Rattle.bolt_check.specs.ShownNodes.{shown_node};
-ghost use Rattle.bolt_check.specs.ShownSpots.{page_spot};
-ghost use Rattle.bolt_check.specs.TableLengths.{table_length};
-ghost use Rattle.bolt_check.specs.Ways.{At_page, SpanAt};
+ghost use Rattle.bolt_format.specs.{Bytes.IsBytes, Pages.page_at, Shown.shown};
+ghost use Rattle.bolt_check.specs.{Counts.counted, Findings.IsMetaPage, Findings.PagePasses, Findings.PageTests, Nodes.node_at, Private.Listings.IsUnlisted};
+ghost use Rattle.bolt_check.specs.{Private.Tables.HasRoom, ShownNodes.shown_node, ShownSpots.page_spot, TableLengths.table_length, Ways.At_page, Ways.SpanAt};
 
 use crate::fault::NoMemory;
 use crate::finding::Finding;

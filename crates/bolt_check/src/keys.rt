@@ -2,9 +2,7 @@
 ghost use Rattle.std.specs.Prelude.{◌≡◌, ◌<◌, None, Some, length, slice_get};
 ghost use Rattle.std.specs.Result.{result_err};
 ghost use Rattle.bolt_format.specs.ShownInline.{shown_inline};
-ghost use Rattle.bolt_check.specs.Findings.{keys_of};
-ghost use Rattle.bolt_check.specs.Keys.{key_lt, key_order_fault, keys_order_fault};
-ghost use Rattle.bolt_check.specs.ShownSpots.{bound_of, inline_keys};
+ghost use Rattle.bolt_check.specs.{Findings.keys_of, Keys.key_lt, Keys.key_order_fault, Keys.keys_order_fault, ShownSpots.bound_of, ShownSpots.inline_keys};
 ghost use Rattle.bolt_check.specs.ShownNodes.{shown_node};
 
 use crate::finding::Finding;

@@ -1,17 +1,12 @@
 //! What is left over of a file once all ways were followed: pages that no kept way takes in.
 ghost use Rattle.std.specs.Option.{IfNone};
 ghost use Rattle.std.specs.Prelude.{◌≡◌, ◌↔◌, ◌⊎◌, ◌≤◌, ◌<◌, ℕ, false, true, IfSome, Ok, Some, length};
-ghost use Rattle.bolt_format.specs.Pages.{page_at};
-ghost use Rattle.bolt_format.specs.Shown.{shown};
-ghost use Rattle.bolt_check.specs.Claims.{claims_file, claims_meta, is_claimed};
-ghost use Rattle.bolt_check.specs.LoneLeaves.{IsListedFree, IsLoneLeaf};
-ghost use Rattle.bolt_check.specs.Nodes.{Node, node_at};
-ghost use Rattle.bolt_check.specs.Private.LeafTests.{IsFilledLeaf};
-ghost use Rattle.bolt_check.specs.Private.Listings.{IsUnlisted};
+ghost use Rattle.bolt_format.specs.{Pages.page_at, Shown.shown};
+ghost use Rattle.bolt_check.specs.{Claims.claims_file, Claims.claims_meta, Claims.is_claimed, LoneLeaves.IsListedFree, LoneLeaves.IsLoneLeaf};
+ghost use Rattle.bolt_check.specs.{Nodes.Node, Nodes.node_at, Private.LeafTests.IsFilledLeaf, Private.Listings.IsUnlisted};
 ghost use Rattle.bolt_check.specs.Private.Pending.{Claims as TableClaims};
 ghost use Rattle.bolt_check.specs.Private.Tables.{HasRoom, IsClaimed, IsUnclaimed, is_used, times_of, use_at};
-ghost use Rattle.bolt_check.specs.ShownNodes.{shown_node};
-ghost use Rattle.bolt_check.specs.Ways.{At_page, SpanAt, root_spot};
+ghost use Rattle.bolt_check.specs.{ShownNodes.shown_node, Ways.At_page, Ways.SpanAt, Ways.root_spot};
 
 use crate::claims::Claims;
 use crate::listing::list_ids_within;

@@ -1,9 +1,7 @@
 //! What the freelist lists: the table of pages, and the ids after it.
 ghost use Rattle.std.specs.Prelude.{◌≡◌, ◌≢◌, ◌==◌, ◌<◌, ◌+◌, ◌++◌, ◌∷◌, ℕ, [], IfOk, OnOk, filter, if◌then◌else◌, length, min, nat_le};
 ghost use Rattle.bolt_format.specs.ShownIds.{shown_ids};
-ghost use Rattle.bolt_check.specs.Accounts.{times_in};
-ghost use Rattle.bolt_check.specs.Private.Listings.{IsUnlisted};
-ghost use Rattle.bolt_check.specs.Private.Tables.{is_used, times_of, use_at};
+ghost use Rattle.bolt_check.specs.{Accounts.times_in, Private.Listings.IsUnlisted, Private.Tables.is_used, Private.Tables.times_of, Private.Tables.use_at};
 
 use crate::table::PageUse;
 use bolt_format::FreeIds;

@@ -1,9 +1,7 @@
 //! A page as a node of the tree: a branch or a leaf, and where its elements lead.
 ghost use Rattle.std.specs.Prelude.{◌≡◌, ◌<◌, MatchResult, IfOk, Ok, Err, Some};
-ghost use Rattle.bolt_format.specs.Pages.{IsInFile, page_at};
-ghost use Rattle.bolt_format.specs.Shown.{shown};
-ghost use Rattle.bolt_check.specs.Nodes.{node_at};
-ghost use Rattle.bolt_check.specs.ShownNodes.{shown_node};
+ghost use Rattle.bolt_format.specs.{Pages.IsInFile, Pages.page_at, Shown.shown};
+ghost use Rattle.bolt_check.specs.{Nodes.node_at, ShownNodes.shown_node};
 
 use crate::tree_page::TreePage;
 use bolt_format::{Kind, Meta, PageFault, page};

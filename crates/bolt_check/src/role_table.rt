@@ -1,8 +1,6 @@
 //! The roles of all pages of a file, as a table.
 ghost use Rattle.std.specs.Prelude.{◌≡◌, ◌<◌};
-ghost use Rattle.bolt_check.specs.CheckedFiles.{bytes_of, meta_of};
-ghost use Rattle.bolt_check.specs.Private.RoleTables.{AreUses, role_by};
-ghost use Rattle.bolt_check.specs.Private.Tables.{use_at};
+ghost use Rattle.bolt_check.specs.{CheckedFiles.bytes_of, CheckedFiles.meta_of, Private.RoleTables.AreUses, Private.RoleTables.role_by, Private.Tables.use_at};
 ghost use Rattle.bolt_check.specs.Roles.{HasRole};
 
 use crate::checked_file::Checked;

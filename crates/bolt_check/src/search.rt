@@ -1,18 +1,11 @@
 //! The search of all ways, in order, for the first finding. It isn't recursive: what is nested deep
 //! needs memory for the spots that are pending, but no stack.
 ghost use Rattle.std.specs.Prelude.{◌≡◌, ℕ, ◌<◌, ◌≤◌, ◌+◌, ◌*◌, ◌++◌, ◌∷◌, ◌↔◌, [], IfErr, IfOk, OnOk, Ok, length, vec_len};
-ghost use Rattle.bolt_check.specs.Findings.{IsClean, IsCovered, IsMetaPage};
-ghost use Rattle.bolt_check.specs.Nodes.{node_at};
-ghost use Rattle.bolt_check.specs.Private.Carries.{Carries};
-ghost use Rattle.bolt_check.specs.Private.Listings.{IsUnlisted};
-ghost use Rattle.bolt_check.specs.Private.Pending.{forest, kids, spots_of};
-ghost use Rattle.bolt_check.specs.ShownSpots.{page_spot, spot_at};
-ghost use Rattle.bolt_check.specs.Private.SearchFaults.{IsSearchFault};
-ghost use Rattle.bolt_check.specs.ShownNodes.{shown_node};
-ghost use Rattle.bolt_check.specs.Private.Tables.{HasRoom, IsClaimed, unclaimed};
-ghost use Rattle.bolt_check.specs.TableLengths.{table_length};
-ghost use Rattle.bolt_check.specs.Private.Uses.{HasUse, IsMetaUse, IsNoted};
-ghost use Rattle.bolt_check.specs.Ways.{At_page, reached, root_spot};
+ghost use Rattle.bolt_check.specs.{Findings.IsClean, Findings.IsCovered, Findings.IsMetaPage, Nodes.node_at, Private.Carries.Carries};
+ghost use Rattle.bolt_check.specs.{Private.Listings.IsUnlisted, Private.Pending.forest, Private.Pending.kids, Private.Pending.spots_of};
+ghost use Rattle.bolt_check.specs.{ShownSpots.page_spot, ShownSpots.spot_at, Private.SearchFaults.IsSearchFault, ShownNodes.shown_node};
+ghost use Rattle.bolt_check.specs.{Private.Tables.HasRoom, Private.Tables.IsClaimed, Private.Tables.unclaimed, TableLengths.table_length};
+ghost use Rattle.bolt_check.specs.{Private.Uses.HasUse, Private.Uses.IsMetaUse, Private.Uses.IsNoted, Ways.At_page, Ways.reached, Ways.root_spot};
 ghost use Rattle.bolt_check.specs.declared.table.PageUse.{PageUse};
 
 use crate::fault::CheckFault;

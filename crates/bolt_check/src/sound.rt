@@ -1,10 +1,8 @@
 //! Is a whole file sound, and are the trees of one meta?
 ghost use Rattle.std.specs.Prelude.{◌≡◌, ◌<◌, false, true, IfErr, IfOk, OnOk, ◌↔◌, ◌*◌, ℕ};
 ghost use Rattle.bolt_format.specs.Metas.{IsChosen, IsInSlot};
-ghost use Rattle.bolt_check.specs.CheckedFiles.{bytes_of, has_accounts, meta_of};
-ghost use Rattle.bolt_check.specs.RoledFiles.{roles_checked};
-ghost use Rattle.bolt_check.specs.Sound.{AreTreesRefused, HasSoundTrees, IsRefused, IsSlotRefused, IsSound};
-ghost use Rattle.bolt_check.specs.Assumed.{assumed_meta};
+ghost use Rattle.bolt_check.specs.{CheckedFiles.bytes_of, CheckedFiles.has_accounts, CheckedFiles.meta_of, RoledFiles.roles_checked};
+ghost use Rattle.bolt_check.specs.{Sound.AreTreesRefused, Sound.HasSoundTrees, Sound.IsRefused, Sound.IsSlotRefused, Sound.IsSound, Assumed.assumed_meta};
 
 use crate::accounts::test_accounts;
 use crate::checked_file::Checked;

@@ -1,8 +1,7 @@
 //! Spots: what is still to be visited.
 ghost use Rattle.std.specs.Prelude.{◌≡◌};
 ghost use Rattle.std.specs.Result.{result_err};
-ghost use Rattle.bolt_check.specs.Findings.{inline_finding};
-ghost use Rattle.bolt_check.specs.ShownSpots.{inline_keys};
+ghost use Rattle.bolt_check.specs.{Findings.inline_finding, ShownSpots.inline_keys};
 
 use crate::finding::Finding;
 use crate::keys::test_inline_keys;

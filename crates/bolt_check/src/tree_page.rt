@@ -2,14 +2,9 @@
 ghost use Rattle.std.specs.Prelude.{◌≡◌, ◌<◌, ◌≤◌, IfSome, IsTrue, false, suc, Some, length, slice_get};
 ghost use Rattle.std.specs.Option.{option_map};
 ghost use Rattle.std.proofs.Props.{props};
-ghost use Rattle.bolt_format.specs.ElementPlaces.{leaf_view};
-ghost use Rattle.bolt_format.specs.Elements.{IsBucketValue, LeafElement};
-ghost use Rattle.bolt_format.specs.Shown.{shown};
-ghost use Rattle.bolt_check.specs.Findings.{keys_of};
-ghost use Rattle.bolt_check.specs.Nodes.{leaf_entry};
-ghost use Rattle.bolt_check.specs.ShownSpots.{IsInner, bound_of, page_spot, spot_at};
-ghost use Rattle.bolt_check.specs.TreeKinds.{tree_kind};
-ghost use Rattle.bolt_check.specs.Ways.{At_page, bucket_spots, step_on, upper_from};
+ghost use Rattle.bolt_format.specs.{ElementPlaces.leaf_view, Elements.IsBucketValue, Elements.LeafElement, Shown.shown};
+ghost use Rattle.bolt_check.specs.{Findings.keys_of, Nodes.leaf_entry, ShownSpots.IsInner, ShownSpots.bound_of, ShownSpots.page_spot, ShownSpots.spot_at};
+ghost use Rattle.bolt_check.specs.{TreeKinds.tree_kind, Ways.At_page, Ways.bucket_spots, Ways.step_on, Ways.upper_from};
 
 use crate::spot::{BucketSpot, PageSpot, Spot};
 use bolt_format::{Leaf, Page, head, inline};

@@ -1,15 +1,9 @@
 //! The roles of all pages of a sound file. The search runs again, and now finds nothing.
 ghost use Rattle.std.specs.Prelude.{◌≡◌, ◌↔◌, ◌⊎◌, ℕ, IfOk, true};
 ghost use Rattle.bolt_format.specs.declared.meta.TheConstants.{NO_FREELIST};
-ghost use Rattle.bolt_check.specs.CheckedFiles.{has_accounts};
-ghost use Rattle.bolt_check.specs.Nodes.{node_at};
-ghost use Rattle.bolt_check.specs.Private.Listings.{ClaimsUses};
-ghost use Rattle.bolt_check.specs.Private.RoleTables.{AreUses};
-ghost use Rattle.bolt_check.specs.Private.Tables.{HasRoom, IsClaimed};
-ghost use Rattle.bolt_check.specs.Private.Uses.{HasUse, IsMetaUse, IsNoted};
-ghost use Rattle.bolt_check.specs.RoledFiles.{roles_checked};
-ghost use Rattle.bolt_check.specs.Sound.{IsSound, IsUsed};
-ghost use Rattle.bolt_check.specs.Ways.{reached};
+ghost use Rattle.bolt_check.specs.{CheckedFiles.has_accounts, Nodes.node_at, Private.Listings.ClaimsUses, Private.RoleTables.AreUses};
+ghost use Rattle.bolt_check.specs.{Private.Tables.HasRoom, Private.Tables.IsClaimed, Private.Uses.HasUse, Private.Uses.IsMetaUse, Private.Uses.IsNoted};
+ghost use Rattle.bolt_check.specs.{RoledFiles.roles_checked, Sound.IsSound, Sound.IsUsed, Ways.reached};
 
 use crate::accounts::claim_freelist;
 use crate::checked_file::Checked;

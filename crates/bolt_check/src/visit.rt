@@ -1,17 +1,11 @@
 //! The visit of one page: its tests, and the claim of its span.
 ghost use Rattle.std.specs.Prelude.{◌≡◌, ◌<◌, ◌≤◌, ℕ, IfErr, IfOk, Ok, OnErr, OnOk, Some};
 ghost use Rattle.std.specs.Result.{result_err};
-ghost use Rattle.bolt_format.specs.Pages.{page_at};
-ghost use Rattle.bolt_format.specs.Shown.{shown};
-ghost use Rattle.bolt_check.specs.Findings.{PagePasses, PageTests, node_finding};
-ghost use Rattle.bolt_check.specs.Nodes.{node_at};
-ghost use Rattle.bolt_check.specs.Private.Listings.{IsUnlisted};
-ghost use Rattle.bolt_check.specs.Private.Pending.{Claims};
-ghost use Rattle.bolt_check.specs.ShownSpots.{page_spot};
-ghost use Rattle.bolt_check.specs.ShownNodes.{shown_node};
+ghost use Rattle.bolt_format.specs.{Pages.page_at, Shown.shown};
+ghost use Rattle.bolt_check.specs.{Findings.PagePasses, Findings.PageTests, Findings.node_finding, Nodes.node_at, Private.Listings.IsUnlisted};
+ghost use Rattle.bolt_check.specs.{Private.Pending.Claims, ShownSpots.page_spot, ShownNodes.shown_node};
 ghost use Rattle.bolt_check.specs.Private.Tables.{HasRoom, IsClaimed, IsUnclaimed, unclaimed, use_at};
-ghost use Rattle.bolt_check.specs.Private.Uses.{use_of};
-ghost use Rattle.bolt_check.specs.Ways.{At_page};
+ghost use Rattle.bolt_check.specs.{Private.Uses.use_of, Ways.At_page};
 
 use crate::finding::Finding;
 use crate::keys::test_keys;

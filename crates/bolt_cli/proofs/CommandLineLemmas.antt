@@ -2,13 +2,9 @@
 use Rattle.std.proofs.Common.{◌≡◌, ◌⊎◌, ◌∙◌, List, [], ◌∷◌, ◌++◌, ℕ, ◌+◌, ◌<◌, true, false, add-one, get_or, length, map, take, refl, sym, ap, ap₂, subst, inl, inr, rules, ◌||◌, Option, None, Some, Result, Ok, Err, IfOk, IfErr, option_map, slice_get, unwrap_or}
 use Rattle.bolt_cli.proofs.Vocabulary.{AddsArg, AddsSubcommand, App, Asked, Asks, Box, Command, Gives, HasKindOf, HasMatchesOf, Help, IsAmong, IsCommand, IsRefusedBy, Job, Kinds, Memory, Refusal, Row, Rule, Usage, Version, Word, asked, asked_by, asked_by_subcommand, asked_of, command_with, fault_of, first_of, is_simple, is_simple_and_free, map-append, option_and_then, program, rule_of, subcommand_of, subcommand_rows_of, take-suc, values_in, with_rule, with_subcommand}
 use Rattle.std.specs.Box.{box_value}
-use Rattle.clap.specs.Words.{Text}
-use Rattle.clap.specs.declared.parser.ArgMatches.{ArgMatches}
+use Rattle.clap.specs.{Words.Text, declared.parser.ArgMatches.ArgMatches}
 use Rattle.clap.specs.declared.parser.matches.ArgMatches.TheViews.{out-ArgMatches, out-SubCommand}
-use Rattle.clap.specs.declared.parser.matches.SubCommand.{SubCommand}
-use Rattle.clap.specs.Matches.{subcommand_name_of}
-use Rattle.clap.specs.Simple.{subcommand_rows}
-use Rattle.clap.specs.declared.builder.Arg.{Arg}
+use Rattle.clap.specs.{declared.parser.matches.SubCommand.SubCommand, Matches.subcommand_name_of, Simple.subcommand_rows, declared.builder.Arg.Arg}
 use Rattle.clap.specs.declared.error.ErrorKind.{ErrorKind}
 use Rattle.clap.specs.declared.error.ErrorKind.TheVariants as kind
 

@@ -1,14 +1,11 @@
 -- What is answered of the entries of the bucket at a path, or of their sizes.
 use Rattle.std.proofs.Common.{◌⊎◌, ◌≡◌, ℕ, IfErr, List, Ok, Option, Result, ap, inl, subst, sym}
 use Rattle.bolt_cli.proofs.Vocabulary.{Answer, Bucket, Checked, Does, Ending, Failure, ForEntries, Ghosts, HasSoundTrees, IsEntriesAnswer, IsErrAnd, IsReadAnswer, IsReadUnder, IsSizesAnswer, Json, LeadsTo, LeafElement, Meta, MetaChoice, Path, ReportFault, Start, Wrote, bucket_checked, bucket_start, bytes_of, meta_of, refused, report_ending}
-use Rattle.bolt_report.specs.SizeLines.{AreSized, Sized, sizes_text}
-use Rattle.bolt_report.specs.declared.form.Form.{Form}
+use Rattle.bolt_report.specs.{SizeLines.AreSized, SizeLines.Sized, SizeLines.sizes_text, declared.form.Form.Form}
 use Rattle.bolt_report.specs.declared.fault.ReportFault.TheVariants as report
 use Rattle.bolt_report.proofs.SizesExist.{named_sizes}
 use Rattle.bolt_cli.specs.declared.failure.Failure.TheVariants as failure
-use Rattle.bolt_cli.proofs.AtPaths.{at_path}
-use Rattle.bolt_cli.proofs.CutTexts.{EndsAfter, ended_put, text_put}
-use Rattle.bolt_cli.proofs.Doing.{Does-nothing}
+use Rattle.bolt_cli.proofs.{AtPaths.at_path, CutTexts.EndsAfter, CutTexts.ended_put, CutTexts.text_put, Doing.Does-nothing}
 use Rattle.bolt_cli.proofs.ReadFiles.{of_read, own_trees}
 
 module _ (file : List ℕ) (choice : MetaChoice) (path : Path) (checked : Checked) (same : bytes_of checked ≡ file) (under : IsReadUnder file choice (meta_of checked)) where

@@ -1,14 +1,10 @@
 -- The answer of `check --lost-and-found`.
 use Rattle.std.proofs.Common.{◌≡◌, ◌≢◌, ◌∙◌, ℕ, Bool, true, false, List, [], ◌∷◌, Option, ap, ap₂, inl, inr, map, refl, subst, subst₂, sym}
-use Rattle.bolt_cli.proofs.Vocabulary.{All, Answer, AnswersFound, AreFoundPages, FileFaults, Finding, ForRecovered, Found, FoundView, IsFoundAnswer, IsFoundLeaf, IsFoundPagesAnswer, IsJoined, IsSalvaged, LacksBucketKey, LossView, LostAndFound, LostView, Member, Meta, MetaChoice, all_lost, everything, false≢true, found_page, found_view, has_losses, is_nothing, leaf_entry, leaves_of, lost_and_found, parts}
 use Rattle.std.proofs.lemmas.List.Elements.{All-head, All-tail}
-use Rattle.bolt_check.specs.ShownNodes.{entries_of, shown_node}
-use Rattle.bolt_check.specs.TreeKinds.{tree_kind}
-use Rattle.bolt_format.specs.Pages.{PageView}
-use Rattle.bolt_format.specs.Shown.{shown}
-use Rattle.bolt_recover.specs.Found.{AreFound, numbers_of}
-use Rattle.bolt_recover.specs.Lost.{IsAllLost}
-use Rattle.bolt_recover.specs.ShownFound.{IsFoundView}
+use Rattle.bolt_cli.proofs.Vocabulary.{All, Answer, AnswersFound, AreFoundPages, FileFaults, Finding, ForRecovered, Found, FoundView, IsFoundAnswer, IsFoundLeaf, IsFoundPagesAnswer, IsJoined, IsSalvaged, LacksBucketKey, LossView, LostAndFound, LostView, Member, Meta, MetaChoice, all_lost, everything, false≢true, found_page, found_view, has_losses, is_nothing, leaf_entry, leaves_of, lost_and_found, parts}
+use Rattle.bolt_check.specs.{ShownNodes.entries_of, ShownNodes.shown_node, TreeKinds.tree_kind}
+use Rattle.bolt_format.specs.{Pages.PageView, Shown.shown}
+use Rattle.bolt_recover.specs.{Found.AreFound, Found.numbers_of, Lost.IsAllLost, ShownFound.IsFoundView}
 
 module _ (file : List ℕ) (meta : Meta) where
   -- ---- what is shown of the found pages

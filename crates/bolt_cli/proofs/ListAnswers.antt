@@ -3,8 +3,7 @@ use Rattle.std.proofs.Common.{◌≡◌, ◌⊎◌, ℕ, true, IfErr, List, Resu
 use Rattle.bolt_cli.proofs.Vocabulary.{Answer, Checked, Does, Ending, ForListing, Ghosts, HasSoundTrees, IsListAnswer, IsListing, LeadsTo, ListForm, Member, Path, ReportFault, Start, Wrote, bytes_of, has_bucket, has_listing, listing_lines, meta_of, part_below, part_ending, part_text, props, refused, report_ending, rest_from, ∥∥₁_elim}
 use Rattle.bolt_report.specs.declared.fault.ReportFault.TheVariants as report
 use Rattle.bolt_cli.specs.declared.failure.Failure.TheVariants as failure
-use Rattle.bolt_cli.proofs.CutTexts.{EndsAfter, ended_put}
-use Rattle.bolt_cli.proofs.ListedBuckets.{has_named, none_named}
+use Rattle.bolt_cli.proofs.{CutTexts.EndsAfter, CutTexts.ended_put, ListedBuckets.has_named, ListedBuckets.none_named}
 
 module _ (file : List ℕ) (checked : Checked) (form : ListForm) (path from : Path) (same : bytes_of checked ≡ file) (trees : HasSoundTrees file (meta_of checked)) where
   own_listing : (listing : List Member) × IsListing file (meta_of checked) listing

@@ -1,15 +1,12 @@
 -- What `list` prints of a file is loaded as the listing of the file.
 use Rattle.std.proofs.Common.{◌≡◌, ◌∙◌, ℕ, Bool, List, [], ◌∷◌, Option, Ok, ap, false, inl, inr, refl, subst, sym}
 use Rattle.bolt_cli.proofs.Vocabulary.{Answer, Ending, First, HasSoundTrees, IsFirstFault, IsListAnswer, IsListedAnswer, IsListing, IsListingText, IsOfOneTree, IsReadUnder, Layout, Loads, LoadsListing, Member, Meta, MetaChoice, Path, Rises, filter_all, listing_lines, member_cmp, not, part_below, part_text, path_cmp, rest_from, text_members}
+use Rattle.bolt_cli.proofs.ReadFiles.{read_trees}
 use Rattle.std.specs.Ordering.{is_lt}
 use Rattle.bolt_format.specs.Bytes.{IsBytes}
-use Rattle.bolt_load.specs.ByteMembers.{AreOfBytes}
-use Rattle.bolt_load.specs.Lines.{Text}
-use Rattle.bolt_load.specs.declared.fault.LineFault.{LineFault}
+use Rattle.bolt_load.specs.{ByteMembers.AreOfBytes, Lines.Text, declared.fault.LineFault.LineFault}
 use Rattle.bolt_load.specs.declared.fault.LoadFault.TheVariants.{Line, Memory}
-use Rattle.bolt_report.specs.ListLines.{listing_text}
-use Rattle.bolt_report.specs.declared.form.ListForm.TheVariants.{Hex}
-use Rattle.bolt_cli.proofs.ReadFiles.{read_trees}
+use Rattle.bolt_report.specs.{ListLines.listing_text, declared.form.ListForm.TheVariants.Hex}
 
 pub record Below : Type 0 where
   pub below_root : (listing : List Member) → part_below [] listing ≡ listing

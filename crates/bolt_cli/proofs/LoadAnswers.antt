@@ -1,12 +1,10 @@
 -- The answer of `load`.
 use Rattle.std.proofs.Common.{◌≡◌, ◌∙◌, ℕ, List, Option, Ok, Err, ap, inl, inr, length, refl, subst, sym}
 use Rattle.bolt_cli.proofs.Vocabulary.{Answer, BulkFault, Does, Ending, EndsCopy, HasGoodCopies, IsErrAnd, IsListingText, IsOfOneTree, Loads, Member, copied, done, is_snapshot, layout_for, layout_of_listing, lengths_line, text_members, ∥∥₁_map}
-use Rattle.bolt_bulk.specs.WholeListings.{IsWhole}
-use Rattle.bolt_load.specs.Lines.{Text}
-use Rattle.bolt_load.specs.ShownMembers.{members_left, members_text}
-use Rattle.bolt_load.specs.declared.line_members.LineMembers.{LineMembers}
-use Rattle.bolt_cli.specs.declared.job.LoadJob.{LoadJob}
 use Rattle.bolt_cli.proofs.CopyAnswers.{copy_reported, copy_stopped}
+use Rattle.bolt_bulk.specs.WholeListings.{IsWhole}
+use Rattle.bolt_load.specs.{Lines.Text, ShownMembers.members_left, ShownMembers.members_text, declared.line_members.LineMembers.LineMembers}
+use Rattle.bolt_cli.specs.declared.job.LoadJob.{LoadJob}
 
 -- what the lines of a right text tell are all members of a listing that is of one tree
 pub whole_members : (members : LineMembers) (text : Text) → members_text members ≡ text → members_left members ≡ text → ∥ IsListingText text ∥₁

@@ -2,8 +2,7 @@
 use Rattle.std.proofs.Common.{◌≡◌, ◌∙◌, ◌++◌, ◌&&◌, ◌==◌, ℕ, List, Bool, true, false, Result, Ok, ap, codes, drop, nat_le, not, refl, sym, take}
 use Rattle.bolt_cli.proofs.Vocabulary.{and_parts, bytes_eq, bytes_eq-Decides, hex_bytes, if◌then◌else◌, mixed_bytes, not-true, not_true, or_bad_hex, pointwise, result_ok}
 use Rattle.hex.proofs.HexLemmas.{decode_of-encode_lower}
-use Rattle.hex.specs.Hex.{IsBytes, encode_lower}
-use Rattle.hex.specs.declared.error.FromHexError.{FromHexError}
+use Rattle.hex.specs.{Hex.IsBytes, Hex.encode_lower, declared.error.FromHexError.FromHexError}
 use Rattle.bolt_report.specs.Forms.{is_marked, is_printable, mixed_text}
 use Rattle.bolt_report.proofs.HexStrings.{digits_pass}
 

@@ -1,8 +1,7 @@
 -- A part of a listing that the members of a damaged file list, and how the job then ends.
 use Rattle.std.proofs.Common.{◌≡◌, ◌∙◌, ◌⊎◌, ℕ, Bool, IfErr, IfOk, List, Result, Ok, Err, ap, inl, inr, subst, subst₂, sym}
 use Rattle.bolt_cli.proofs.Vocabulary.{Answer, Does, Ending, ForJoined, ForRecovered, FoundView, Ghosts, IsEndedOrCut, IsErrAnd, IsFileRefusal, IsJoined, IsJoinedList, IsMetaOf, IsRecovered, IsRecoveredAnswer, IsRecoveredList, IsRecoveredUnder, IsSalvaged, ListForm, LostAndFound, LostView, Member, Meta, MetaChoice, Path, ReportFault, Rises, Wrote, all_lost_ending, has_bucket, has_losses, has_recovered, if◌then◌else◌, joined_file, joined_left, joined_meta, lost_ending, member_cmp, part_ending, part_text, recovery_file, recovery_left, recovery_meta, report_ending, reported}
-use Rattle.bolt_recover.specs.declared.joined.Joined.{Joined}
-use Rattle.bolt_recover.specs.declared.recovery.Recovery.{Recovery}
+use Rattle.bolt_recover.specs.{declared.joined.Joined.Joined, declared.recovery.Recovery.Recovery}
 use Rattle.bolt_recover.proofs.LeftMembers.{left_rises}
 use Rattle.bolt_report.specs.declared.fault.ReportFault.TheVariants as report
 use Rattle.bolt_cli.specs.declared.failure.Failure.TheVariants as failure

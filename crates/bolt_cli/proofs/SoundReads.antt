@@ -1,8 +1,7 @@
 -- Where the trees are sound for the one meta that a choice names, only memory can be wanting.
 use Rattle.std.proofs.Common.{◌≡◌, ℕ, List, [], inl, refl, subst, sym, true}
 use Rattle.bolt_cli.proofs.Vocabulary.{Active, Assumed, CheckFault, Finding, HasSoundTrees, InSlot, IsClaimedBefore, IsFirstFinding, IsMetaOf, IsMetaPage, IsReadUnder, IsRefusedUnder, IsSound, IsUnrecoverableUnder, Meta, MetaChoice, assumed_for, node_at}
-use Rattle.bolt_check.proofs.Judging.{passes_fewer, passes_silent}
-use Rattle.bolt_check.proofs.Lawful.{shape_passes, sound_reports_nothing}
+use Rattle.bolt_check.proofs.{Judging.passes_fewer, Judging.passes_silent, Lawful.shape_passes, Lawful.sound_reports_nothing}
 use Rattle.bolt_check.specs.Ways.{At_page, reached, root_spot}
 use Rattle.bolt_check.specs.declared.fault.CheckFault.TheVariants as check
 use Rattle.bolt_recover.specs.Refusals.{KeepsRoot, LosesRoot}

@@ -2,8 +2,7 @@
 use Rattle.std.proofs.Common.{◌≡◌, ◌≢◌, ◌↔◌, ℕ, Bool, false, List, [], Option, inl, inr, refl, subst, sym, ◌∙◌}
 use Rattle.bolt_cli.proofs.Vocabulary.{Active, Answer, AreLosses, Assumed, CheckFault, Ending, Extent, First, HasSoundTrees, InSlot, IsChosen, IsEndedOrCut, IsInSlot, IsListedAnswer, IsListing, IsMetaOf, IsReadUnder, IsRecovered, IsRefusedUnder, IsUnrecoverableUnder, Layout, ListForm, LossView, Losses, MakesCopy, Member, Meta, MetaChoice, PageSize, Path, Slot, false≢true, has_losses, hash_differs, lost_ending, part_ending, part_text}
 use Rattle.bolt_check.specs.declared.fault.CheckFault.TheVariants as check
-use Rattle.bolt_cli.proofs.ReadFiles.{read_meta}
-use Rattle.bolt_cli.proofs.SoundReads.{NamesOne, keeps_root, unread, unrecovered}
+use Rattle.bolt_cli.proofs.{ReadFiles.read_meta, SoundReads.NamesOne, SoundReads.keeps_root, SoundReads.unread, SoundReads.unrecovered}
 
 -- what the laws of the crates below say
 pub record Below : Type 0 where

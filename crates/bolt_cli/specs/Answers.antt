@@ -3,71 +3,40 @@ use Rattle.std.specs.Prelude.{◌≡◌, ◌≢◌, ◌<◌, ◌≤◌, ◌-◌,
 use Rattle.std.specs.Io.KnownBytes.{Appends, Keeps}
 use Rattle.bolt_bulk.specs.Compacting.{too_many}
 use Rattle.bolt_layout.specs.Copies.{layout_of_listing}
-use Rattle.bolt_check.specs.Roles.{AreRoles}
-use Rattle.bolt_check.specs.Sound.{AreTreesRefused, HasSoundTrees, IsRefused, IsSlotRefused, IsSound}
+use Rattle.bolt_check.specs.{Roles.AreRoles, Sound.AreTreesRefused, Sound.HasSoundTrees, Sound.IsRefused, Sound.IsSlotRefused, Sound.IsSound}
 use Rattle.bolt_check.specs.declared.fault.CheckFault.{CheckFault}
 use Rattle.bolt_check.specs.declared.fault.CheckFault.TheVariants as check
-use Rattle.bolt_check.specs.declared.finding.Finding.{Finding}
-use Rattle.bolt_check.specs.declared.role_table.Role.{Role}
-use Rattle.bolt_format.specs.Elements.{LeafElement}
-use Rattle.bolt_format.specs.Metas.{HasMetaFault, HasSlotFault, IsChosen, IsInSlot}
-use Rattle.bolt_format.specs.Pages.{page_at}
-use Rattle.bolt_format.specs.Sinks.{AppendsPrefix, AppendsProperPrefix}
-use Rattle.bolt_format.specs.declared.fault.PageFault.{PageFault}
-use Rattle.bolt_format.specs.declared.meta.Meta.{Meta}
-use Rattle.bolt_format.specs.declared.meta.MetaFault.{MetaFault}
-use Rattle.bolt_format.specs.declared.meta.Slot.{Slot}
-use Rattle.bolt_load.specs.LineFaults.{IsListingText, IsLoadFault}
-use Rattle.bolt_load.specs.LineMembers.{text_members}
-use Rattle.bolt_load.specs.declared.fault.LoadFault.{LoadFault}
-use Rattle.bolt_recover.specs.Found.{AreFound}
-use Rattle.bolt_recover.specs.JoinRefusals.{IsJoinRefusal}
-use Rattle.bolt_recover.specs.Joined.{IsJoined, LacksBucketKey}
-use Rattle.bolt_recover.specs.Losses.{AreLosses, LossView, LostView, everything, parts}
-use Rattle.bolt_recover.specs.Lost.{IsAllLost}
-use Rattle.bolt_recover.specs.Places.{leaves_of}
+use Rattle.bolt_check.specs.{declared.finding.Finding.Finding, declared.role_table.Role.Role}
+use Rattle.bolt_format.specs.{Elements.LeafElement, Metas.HasMetaFault, Metas.HasSlotFault, Metas.IsChosen, Metas.IsInSlot, Pages.page_at}
+use Rattle.bolt_format.specs.{Sinks.AppendsPrefix, Sinks.AppendsProperPrefix, declared.fault.PageFault.PageFault, declared.meta.Meta.Meta}
+use Rattle.bolt_format.specs.{declared.meta.MetaFault.MetaFault, declared.meta.Slot.Slot}
+use Rattle.bolt_load.specs.{LineFaults.IsListingText, LineFaults.IsLoadFault, LineMembers.text_members, declared.fault.LoadFault.LoadFault}
+use Rattle.bolt_recover.specs.{Found.AreFound, JoinRefusals.IsJoinRefusal, Joined.IsJoined, Joined.LacksBucketKey}
+use Rattle.bolt_recover.specs.{Losses.AreLosses, Losses.LossView, Losses.LostView, Losses.everything, Losses.parts, Lost.IsAllLost, Places.leaves_of}
 use Rattle.bolt_recover.specs.Recovered.{ForRecovered, IsRecovered}
 use Rattle.bolt_recover.specs.Refusals.{IsRefusedRoot, IsSlotUnrecoverable, IsUnrecoverable, KeepsRoot, LosesRoot}
 use Rattle.bolt_recover.specs.declared.joined.JoinFault.{JoinFault}
-use Rattle.bolt_report.specs.FaultWords.{findings_text}
-use Rattle.bolt_report.specs.FoundLines.{FoundView, counted_lost_text, lost_text}
-use Rattle.bolt_report.specs.Forms.{item_text, value_text}
-use Rattle.bolt_report.specs.Figures.{add_stats, stats_text}
-use Rattle.bolt_report.specs.KeyLines.{buckets_text, keys_text}
-use Rattle.bolt_report.specs.KeyPrefixes.{with_prefix}
-use Rattle.bolt_report.specs.ListForms.{listing_lines}
-use Rattle.bolt_report.specs.MetaLines.{info_text}
-use Rattle.bolt_report.specs.PageMaps.{map_text}
-use Rattle.bolt_report.specs.PageTables.{pages_text}
-use Rattle.bolt_report.specs.PageTexts.{page_text, page_text_fault}
-use Rattle.bolt_report.specs.SizeLines.{AreSized, Sized, sizes_text}
-use Rattle.bolt_report.specs.StatsOf.{IsStatsOf}
-use Rattle.bolt_report.specs.declared.statistics.Stats.{Stats}
-use Rattle.bolt_report.specs.declared.form.FigureForm.{FigureForm}
-use Rattle.bolt_report.specs.declared.form.Form.{Form}
-use Rattle.bolt_report.specs.declared.form.Form.TheVariants.{Json}
-use Rattle.bolt_report.specs.declared.form.ListForm.{ListForm}
+use Rattle.bolt_report.specs.{FaultWords.findings_text, FoundLines.FoundView, FoundLines.counted_lost_text, FoundLines.lost_text}
+use Rattle.bolt_report.specs.{Forms.item_text, Forms.value_text, Figures.add_stats, Figures.stats_text, KeyLines.buckets_text, KeyLines.keys_text}
+use Rattle.bolt_report.specs.{KeyPrefixes.with_prefix, ListForms.listing_lines, MetaLines.info_text, PageMaps.map_text, PageTables.pages_text}
+use Rattle.bolt_report.specs.{PageTexts.page_text, PageTexts.page_text_fault, SizeLines.AreSized, SizeLines.Sized, SizeLines.sizes_text, StatsOf.IsStatsOf}
+use Rattle.bolt_report.specs.{declared.statistics.Stats.Stats, declared.form.FigureForm.FigureForm, declared.form.Form.Form}
+use Rattle.bolt_report.specs.{declared.form.Form.TheVariants.Json, declared.form.ListForm.ListForm}
 use Rattle.bolt_tree.specs.Entries.{AreEntries, IsEntry, Item, Root_page, Start, Value, start_of}
-use Rattle.bolt_tree.specs.Listing.{IsListing, Member, rest_from}
-use Rattle.bolt_tree.specs.ListingParts.{bucket_part, has_bucket}
+use Rattle.bolt_tree.specs.{Listing.IsListing, Listing.Member, Listing.rest_from, ListingParts.bucket_part, ListingParts.has_bucket}
 use Rattle.bolt_tree.specs.Paths.{Holds, Names, Path}
-use Rattle.bolt_cli.specs.CopyKinds.{is_snapshot, layout_for}
-use Rattle.bolt_cli.specs.Failures.{IsFailureOf, failure_line, unjoined, unloaded}
-use Rattle.bolt_cli.specs.FileFaults.{AreFileFaults, errors_in, fault_lines, is_fine}
-use Rattle.bolt_cli.specs.GoodCopies.{IsGoodCopy}
+use Rattle.bolt_cli.specs.{CopyKinds.is_snapshot, CopyKinds.layout_for, Failures.IsFailureOf, Failures.failure_line, Failures.unjoined, Failures.unloaded}
+use Rattle.bolt_cli.specs.{FileFaults.AreFileFaults, FileFaults.errors_in, FileFaults.fault_lines, FileFaults.is_fine, GoodCopies.IsGoodCopy}
 use Rattle.bolt_cli.specs.MetaChoices.{HasNoMetaOf, IsMetaOf, assumed_for}
-use Rattle.bolt_cli.specs.SnapshotAnswers.{copy_of, differing_line, hash_differs}
-use Rattle.bolt_cli.specs.declared.choices.Extent.{Extent}
+use Rattle.bolt_cli.specs.{SnapshotAnswers.copy_of, SnapshotAnswers.differing_line, SnapshotAnswers.hash_differs, declared.choices.Extent.Extent}
 use Rattle.bolt_cli.specs.declared.choices.Extent.TheVariants.{First, LostAndFound, Losses}
 use Rattle.bolt_cli.specs.declared.failure.Failure.{Failure}
 use Rattle.bolt_cli.specs.declared.failure.Failure.TheVariants as failure
-use Rattle.bolt_cli.specs.declared.file_faults.FileFaults.{FileFaults}
-use Rattle.bolt_cli.specs.declared.job.Job.{Job}
+use Rattle.bolt_cli.specs.{declared.file_faults.FileFaults.FileFaults, declared.job.Job.Job}
 use Rattle.bolt_cli.specs.declared.job.Job.TheVariants as job
 use Rattle.bolt_cli.specs.declared.choices.MetaChoice.{MetaChoice}
 use Rattle.bolt_cli.specs.declared.choices.MetaChoice.TheVariants.{Active, Assumed, InSlot}
-use Rattle.bolt_cli.specs.declared.choices.PageSize.{PageSize}
-use Rattle.bolt_cli.specs.PlainWords.{path_in}
+use Rattle.bolt_cli.specs.{declared.choices.PageSize.PageSize, PlainWords.path_in}
 use Rattle.bolt_layout.specs.declared.layout.Layout.{Layout}
 
 -- How a job ends: with a status, or with a failure that is reported.

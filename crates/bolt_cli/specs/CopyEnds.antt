@@ -1,16 +1,13 @@
 -- How the writing of a copy ends: docs/COMMANDS.md, "What a run writes".
 use Rattle.std.specs.Prelude.{◌≡◌, ◌<◌, ℕ, List, length, Bool, Option, Result, Ok, Err}
 use Rattle.std.specs.Io.KnownBytes.{Appends}
-use Rattle.bolt_bulk.specs.Compacting.{too_many}
-use Rattle.bolt_bulk.specs.declared.fault.BulkFault.{BulkFault}
+use Rattle.bolt_bulk.specs.{Compacting.too_many, declared.fault.BulkFault.BulkFault}
 use Rattle.bolt_format.specs.declared.meta.Meta.{Meta}
 use Rattle.bolt_layout.specs.Copies.{layout_of_listing}
 use Rattle.bolt_tree.specs.Listing.{Member}
 use Rattle.bolt_cli.specs.Answers.{StopsShort, copy_page_size}
 use Rattle.bolt_cli.specs.CopyKinds as kinds
-use Rattle.bolt_cli.specs.Failures.{copied}
-use Rattle.bolt_cli.specs.SnapshotAnswers.{copy_of}
-use Rattle.bolt_cli.specs.declared.job.CompactJob.{CompactJob}
+use Rattle.bolt_cli.specs.{Failures.copied, SnapshotAnswers.copy_of, declared.job.CompactJob.CompactJob}
 
 -- the layout that is asked for of a listing, if the file has this meta
 abbrev pub asked_layout : CompactJob → Meta → List Member → List ℕ

@@ -1,7 +1,6 @@
 -- The kinds of copies: docs/COMMANDS.md, "What a run writes".
 use Rattle.std.specs.Prelude.{Bool, true, false}
-use Rattle.bolt_layout.specs.declared.layout.Layout.{Layout}
-use Rattle.bolt_layout.specs.declared.layout.Layout.TheVariants.{Balanced, Plain}
+use Rattle.bolt_layout.specs.{declared.layout.Layout.Layout, declared.layout.Layout.TheVariants.Balanced, declared.layout.Layout.TheVariants.Plain}
 use Rattle.bolt_cli.specs.declared.choices.CopyKind.{CopyKind}
 use Rattle.bolt_cli.specs.declared.choices.CopyKind.TheVariants as kind
 

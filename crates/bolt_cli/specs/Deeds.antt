@@ -1,11 +1,7 @@
 -- What the program does to what lies outside of it: the files and the streams.
 use Rattle.std.specs.Prelude.{ℕ, List, [], ◌∷◌, ◌++◌, Bool, Result}
-use Rattle.bolt_cli.specs.declared.source.Source.{Source}
-use Rattle.bolt_cli.specs.declared.source.ReadFault.{ReadFault}
-use Rattle.bolt_cli.specs.declared.source.CreateFault.{CreateFault}
-use Rattle.bolt_cli.specs.declared.source.EndFault.{EndFault}
-use Rattle.bolt_cli.specs.declared.source.OpenFault.{OpenFault}
-use Rattle.bolt_cli.specs.declared.source.OutputFault.{OutputFault}
+use Rattle.bolt_cli.specs.{declared.source.Source.Source, declared.source.ReadFault.ReadFault, declared.source.CreateFault.CreateFault}
+use Rattle.bolt_cli.specs.{declared.source.EndFault.EndFault, declared.source.OpenFault.OpenFault, declared.source.OutputFault.OutputFault}
 
 -- A deed is what is asked for, and the answer. OUT is a T, and standard output an O, each in its state at that time.
 pub data Deed (T O : Type 0) : Type 0 where

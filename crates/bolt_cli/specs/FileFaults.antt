@@ -1,17 +1,12 @@
 -- What is wrong with a file apart from its pages: docs/COMMANDS.md, "Snapshots" and "Both metas".
 use Rattle.std.specs.Prelude.{◌≡◌, ◌⊎◌, ◌&&◌, ◌++◌, ◌+◌, ℕ, List, [], Bool, Option, None, Some, is_none}
-use Rattle.bolt_format.specs.Metas.{HasSlotFault, IsChosen, IsInSlot, other_slot}
-use Rattle.bolt_format.specs.declared.meta.Meta.{Meta}
-use Rattle.bolt_format.specs.declared.meta.MetaFault.{MetaFault}
+use Rattle.bolt_format.specs.{Metas.HasSlotFault, Metas.IsChosen, Metas.IsInSlot, Metas.other_slot, declared.meta.Meta.Meta, declared.meta.MetaFault.MetaFault}
 use Rattle.bolt_format.specs.declared.meta.Slot.{Slot}
-use Rattle.bolt_report.specs.FaultWords.{snapshot_fault_text}
-use Rattle.bolt_report.specs.MetaLines.{slot_fault_text}
+use Rattle.bolt_report.specs.{FaultWords.snapshot_fault_text, MetaLines.slot_fault_text}
 use Rattle.bolt_snapshot.specs.declared.hash_check.SnapshotFault.{SnapshotFault}
-use Rattle.bolt_cli.specs.SnapshotAnswers.{hash_found}
-use Rattle.bolt_cli.specs.declared.choices.Extent.{Extent}
+use Rattle.bolt_cli.specs.{SnapshotAnswers.hash_found, declared.choices.Extent.Extent}
 use Rattle.bolt_cli.specs.declared.choices.Extent.TheVariants.{First, LostAndFound, Losses}
-use Rattle.bolt_cli.specs.declared.file_faults.FileFaults.{FileFaults}
-use Rattle.bolt_cli.specs.declared.choices.MetaChoice.{MetaChoice}
+use Rattle.bolt_cli.specs.{declared.file_faults.FileFaults.FileFaults, declared.choices.MetaChoice.MetaChoice}
 use Rattle.bolt_cli.specs.declared.choices.MetaChoice.TheVariants.{Active, Assumed, InSlot}
 
 -- ---- what it is

@@ -1,16 +1,11 @@
 -- What holds of a copy that is whole: docs/LAYOUT.md, "What holds of both layouts", and docs/COMMANDS.md, "Snapshots".
 use Rattle.std.specs.Prelude.{◌≡◌, ◌≢◌, ◌≤◌, ◌<◌, ℕ, List, Bool, true, IsTrue, Some, length, take}
 use Rattle.bolt_bulk.specs.Compacting.{too_many}
-use Rattle.bolt_check.specs.Sound.{IsRefused, IsSound}
-use Rattle.bolt_check.specs.declared.fault.CheckFault.{CheckFault}
+use Rattle.bolt_check.specs.{Sound.IsRefused, Sound.IsSound, declared.fault.CheckFault.CheckFault}
 use Rattle.bolt_check.specs.declared.fault.CheckFault.TheVariants as check
-use Rattle.bolt_format.specs.Metas.{HasBothMetas, IsChosen, IsPageSize}
-use Rattle.bolt_format.specs.declared.meta.Meta.{Meta}
-use Rattle.bolt_format.specs.declared.meta.Slot.{Slot}
-use Rattle.bolt_layout.specs.Copies.{layout_of_listing}
-use Rattle.bolt_layout.specs.declared.layout.Layout.{Layout}
-use Rattle.bolt_snapshot.specs.SnapshotFaults.{IsSnapshot}
-use Rattle.bolt_snapshot.specs.declared.hash_check.SnapshotFault.TheVariants.{HashMissing}
+use Rattle.bolt_format.specs.{Metas.HasBothMetas, Metas.IsChosen, Metas.IsPageSize, declared.meta.Meta.Meta, declared.meta.Slot.Slot}
+use Rattle.bolt_layout.specs.{Copies.layout_of_listing, declared.layout.Layout.Layout}
+use Rattle.bolt_snapshot.specs.{SnapshotFaults.IsSnapshot, declared.hash_check.SnapshotFault.TheVariants.HashMissing}
 use Rattle.bolt_tree.specs.Listing.{IsListing, Member}
 use Rattle.bolt_cli.specs.SnapshotAnswers.{copy_of, hash_found}
 

@@ -1,12 +1,9 @@
 -- The meta that a file is read under: docs/COMMANDS.md, "A named meta" and "An assumed meta".
 use Rattle.std.specs.Prelude.{◌≡◌, ℕ, List, length}
 use Rattle.bolt_check.specs.Assumed.{assumed_meta}
-use Rattle.bolt_format.specs.Metas.{HasMetaFault, HasSlotFault, IsChosen, IsInSlot}
-use Rattle.bolt_format.specs.declared.meta.Meta.{Meta}
-use Rattle.bolt_format.specs.declared.meta.MetaFault.{MetaFault}
-use Rattle.bolt_format.specs.declared.meta.Slot.{Slot}
-use Rattle.bolt_cli.specs.declared.choices.AssumedMeta.{AssumedMeta}
-use Rattle.bolt_cli.specs.declared.choices.MetaChoice.{MetaChoice}
+use Rattle.bolt_format.specs.{Metas.HasMetaFault, Metas.HasSlotFault, Metas.IsChosen, Metas.IsInSlot, declared.meta.Meta.Meta}
+use Rattle.bolt_format.specs.{declared.meta.MetaFault.MetaFault, declared.meta.Slot.Slot}
+use Rattle.bolt_cli.specs.{declared.choices.AssumedMeta.AssumedMeta, declared.choices.MetaChoice.MetaChoice}
 use Rattle.bolt_cli.specs.declared.choices.MetaChoice.TheVariants.{Active, Assumed, InSlot}
 
 -- the meta that is assumed of a file

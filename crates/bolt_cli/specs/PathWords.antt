@@ -4,8 +4,7 @@ use Rattle.std.specs.Str.{bytes_eq}
 use Rattle.bolt_check.specs.Keys.{Key}
 use Rattle.bolt_tree.specs.Paths.{Path}
 use Rattle.bolt_load.specs.HexPaths.{hex_bytes_in, hex_path_in}
-use Rattle.bolt_cli.specs.LineWords.{Text}
-use Rattle.bolt_cli.specs.declared.path_words.Parts.{Parts}
+use Rattle.bolt_cli.specs.{LineWords.Text, declared.path_words.Parts.Parts}
 use Rattle.bolt_cli.specs.declared.path_words.Parts.TheVariants as parts
 
 module _ {A B : Type 0} where

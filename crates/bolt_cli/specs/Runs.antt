@@ -4,22 +4,15 @@ use Rattle.std.specs.Io.KnownBytes.{Appends, IsAtEnd}
 use Rattle.bolt_format.specs.Sinks.{AppendsPrefix}
 use Rattle.bolt_cli.specs.Answers.{DoesJob, Ending, error_text}
 use Rattle.bolt_cli.specs.CommandLine.{Asks, IsRefusedBy, asked_by, program}
-use Rattle.bolt_cli.specs.Deeds.{Deed, Read, Made, Ended, Opened, Closed, Said}
-use Rattle.bolt_cli.specs.Failures.{failure_line}
-use Rattle.bolt_cli.specs.LineWords.{Text}
-use Rattle.bolt_cli.specs.Needs.{needs_metas_alone}
-use Rattle.bolt_cli.specs.PlainWords.{file_name, target_name}
-use Rattle.bolt_cli.specs.Sources.{is_changed}
-use Rattle.bolt_cli.specs.declared.failure.Failure.TheVariants.{Memory, Write}
-use Rattle.bolt_cli.specs.declared.job.Job.{Job}
+use Rattle.bolt_cli.specs.{Deeds.Deed, Deeds.Read, Deeds.Made, Deeds.Ended, Deeds.Opened, Deeds.Closed, Deeds.Said, Failures.failure_line, LineWords.Text}
+use Rattle.bolt_cli.specs.{Needs.needs_metas_alone, PlainWords.file_name, PlainWords.target_name, Sources.is_changed}
+use Rattle.bolt_cli.specs.{declared.failure.Failure.TheVariants.Memory, declared.failure.Failure.TheVariants.Write, declared.job.Job.Job}
 use Rattle.bolt_cli.specs.declared.refusal.Refusal.{Refusal}
 use Rattle.bolt_cli.specs.declared.refusal.Refusal.TheVariants as refusal
 use Rattle.bolt_cli.specs.declared.source.CreateFault.{CreateFault}
 use Rattle.bolt_cli.specs.declared.source.CreateFault.TheVariants as create
-use Rattle.bolt_cli.specs.declared.source.EndFault.{EndFault}
-use Rattle.bolt_cli.specs.declared.source.OutputFault.{OutputFault}
-use Rattle.bolt_cli.specs.declared.source.OutputFault.TheVariants.{ReaderLeft, Failed}
-use Rattle.bolt_cli.specs.declared.source.Source.{Source}
+use Rattle.bolt_cli.specs.{declared.source.EndFault.EndFault, declared.source.OutputFault.OutputFault}
+use Rattle.bolt_cli.specs.{declared.source.OutputFault.TheVariants.ReaderLeft, declared.source.OutputFault.TheVariants.Failed, declared.source.Source.Source}
 use Rattle.clap.specs.Words.{fault_of}
 
 -- ---- lines for standard error

@@ -1,7 +1,6 @@
 //! The command `buckets`.
 ghost use Rattle.std.specs.Prelude.{false, true};
-ghost use Rattle.bolt_cli.specs.Answers.{Answer, Does};
-ghost use Rattle.bolt_cli.specs.Private.Printing.{IsBucketsPrint};
+ghost use Rattle.bolt_cli.specs.{Answers.Answer, Answers.Does, Private.Printing.IsBucketsPrint};
 
 use crate::failure::Failure;
 use crate::job::BucketsJob;

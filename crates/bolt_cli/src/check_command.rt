@@ -1,9 +1,9 @@
 //! The command `check`.
 ghost use Rattle.std.specs.Prelude.{◌≡◌, OnOk, ◌<◌, map};
-ghost use Rattle.bolt_recover.specs.Recoveries.{ForLosses, recovery_file, recovery_losses, recovery_meta};
-ghost use Rattle.bolt_cli.specs.Answers.{Answer, Does, IsCheckAnswer, IsCheckAnswerAfter, IsFoundAnswer, all_refusal, check_refusal, found, none_found, IsFoundPagesAnswer, IsLostAndFoundAnswer, lost_and_found};
 ghost use Rattle.std.specs.List.{All};
+ghost use Rattle.bolt_recover.specs.Recoveries.{ForLosses, recovery_file, recovery_losses, recovery_meta};
 ghost use Rattle.bolt_recover.specs.ShownLosses.{lost_view};
+ghost use Rattle.bolt_cli.specs.Answers.{Answer, Does, IsCheckAnswer, IsCheckAnswerAfter, IsFoundAnswer, all_refusal, check_refusal, found, none_found, IsFoundPagesAnswer, IsLostAndFoundAnswer, lost_and_found};
 ghost use Rattle.bolt_report.specs.FoundLines.{IsFoundLeaf, found_view};
 ghost use Rattle.bolt_check.specs.declared.fault.CheckFault.TheVariants as check;
 

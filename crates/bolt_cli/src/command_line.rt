@@ -3,10 +3,9 @@ ghost use Rattle.std.specs.Prelude.{◌≡◌, ◌∷◌, ◌++◌, [], List, So
 ghost use Rattle.clap.specs.declared.builder.action.ArgAction.TheVariants.{Set};
 ghost use Rattle.bolt_cli.specs.LineWords as plain;
 ghost use Rattle.bolt_cli.specs.LineWords.{given_word};
-ghost use Rattle.clap.specs.Words.{new_app, rule_of};
 ghost use Rattle.bolt_cli.specs.CommandLine.{IsCommand, command_of, operand_rule, option_rule, program, program_of};
-ghost use Rattle.bolt_cli.specs.Private.CommandLines.{AddsLines};
-ghost use Rattle.bolt_cli.specs.Syntaxes.{choice_view, operand_view, syntax_view};
+ghost use Rattle.bolt_cli.specs.{Private.CommandLines.AddsLines, Syntaxes.choice_view, Syntaxes.operand_view, Syntaxes.syntax_view};
+ghost use Rattle.clap.specs.Words.{new_app, rule_of};
 
 use crate::commands::{Choice, Flag, Operand, Syntax, VERSION, reading, writing};
 use clap::{Arg, ArgAction, Command};

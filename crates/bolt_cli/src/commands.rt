@@ -1,7 +1,6 @@
 //! The commands: their operands and options, and their help.
 ghost use Rattle.std.specs.Prelude.{◌≡◌, drop, map, take};
-ghost use Rattle.bolt_cli.specs.PlainWords.{syntaxes};
-ghost use Rattle.bolt_cli.specs.Syntaxes.{syntax_view};
+ghost use Rattle.bolt_cli.specs.{PlainWords.syntaxes, Syntaxes.syntax_view};
 
 /// An operand of a command.
 #[derive(Clone, Copy, Debug)]

@@ -2,14 +2,11 @@
 ghost use Rattle.std.specs.List.{All};
 ghost use Rattle.std.specs.Prelude.{◌≡◌, List, OnOk};
 ghost use Rattle.bolt_bulk.specs.WholeListings.{IsWhole};
-ghost use Rattle.bolt_format.specs.Endings.{ending};
-ghost use Rattle.bolt_format.specs.Metas.{IsPageSize};
-ghost use Rattle.bolt_format.specs.Wrote.{Wrote};
+ghost use Rattle.bolt_format.specs.{Endings.ending, Metas.IsPageSize, Wrote.Wrote};
 ghost use Rattle.bolt_recover.specs.ShownLosses.{lost_view};
 ghost use Rattle.bolt_report.specs.FoundLines.{IsFoundLeaf};
 ghost use Rattle.bolt_tree.specs.Listing.{Member};
-ghost use Rattle.bolt_cli.specs.Answers.{Does, copy_page_size, copy_status, lengths_line};
-ghost use Rattle.bolt_cli.specs.CopyEnds.{EndsCopy, asked_layout};
+ghost use Rattle.bolt_cli.specs.{Answers.Does, Answers.copy_page_size, Answers.copy_status, Answers.lengths_line, CopyEnds.EndsCopy, CopyEnds.asked_layout};
 ghost use Rattle.bolt_cli.specs.CopyKinds.{is_snapshot, layout_for};
 ghost use Rattle.bolt_cli.specs.Private.Copying.{CompactsTo, IsGoodAsked, report_answer};
 ghost use Rattle.bolt_cli.specs.SnapshotAnswers.{differing_line, hash_differs};

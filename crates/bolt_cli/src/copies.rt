@@ -1,12 +1,9 @@
 //! Copies on a target: a layout and, in a snapshot, its hash after it.
 ghost use Rattle.std.specs.Prelude.{◌≡◌, ℕ, List, IsOk, OnOk, true, Option, None};
-ghost use Rattle.bolt_bulk.specs.Compacting.{Copies};
-ghost use Rattle.bolt_bulk.specs.WholeListings.{IsWhole};
-ghost use Rattle.bolt_tree.specs.Listing.{Member};
-ghost use Rattle.bolt_cli.specs.CopyEnds.{EndsCopy};
-ghost use Rattle.bolt_cli.specs.Hashes.{HashesSince};
-ghost use Rattle.bolt_cli.specs.Private.Copying.{shaped_layout};
 ghost use Rattle.std.specs.Borrow.{GName};
+ghost use Rattle.bolt_bulk.specs.{Compacting.Copies, WholeListings.IsWhole};
+ghost use Rattle.bolt_tree.specs.Listing.{Member};
+ghost use Rattle.bolt_cli.specs.{CopyEnds.EndsCopy, Hashes.HashesSince, Private.Copying.shaped_layout};
 
 use crate::copy_source::CopySource;
 use bolt_bulk::{BulkFault, Done, Shape};

@@ -1,19 +1,13 @@
 //! What a copy is made of. `Members` has a lifetime, so a function that is generic over them can't be
 //! handed which borrow it hashes; this trait has none.
 ghost use Rattle.std.specs.Prelude.{◌≡◌, List, OnOk};
-ghost use Rattle.bolt_bulk.specs.Compacting.{Copies};
-ghost use Rattle.bolt_bulk.specs.WholeListings.{IsWhole};
+ghost use Rattle.bolt_bulk.specs.{Compacting.Copies, WholeListings.IsWhole};
 ghost use Rattle.bolt_check.specs.CheckedFiles.{bytes_of, meta_of};
-ghost use Rattle.bolt_load.specs.LineMembers.{text_members};
-ghost use Rattle.bolt_load.specs.ShownMembers.{members_left, members_text};
-ghost use Rattle.bolt_recover.specs.Joined.{IsJoined};
-ghost use Rattle.bolt_recover.specs.JoinedMembers.{joined_file, joined_left, joined_meta};
-ghost use Rattle.bolt_recover.specs.Recovered.{IsRecovered};
+ghost use Rattle.bolt_load.specs.{LineMembers.text_members, ShownMembers.members_left, ShownMembers.members_text};
+ghost use Rattle.bolt_recover.specs.{Joined.IsJoined, JoinedMembers.joined_file, JoinedMembers.joined_left, JoinedMembers.joined_meta, Recovered.IsRecovered};
 ghost use Rattle.bolt_recover.specs.Recoveries.{ForLosses, recovery_file, recovery_left, recovery_losses, recovery_meta};
-ghost use Rattle.bolt_tree.specs.Listing.{IsListing, Member};
-ghost use Rattle.bolt_tree.specs.Walks.{left_of, walk_checked};
-ghost use Rattle.bolt_cli.specs.Private.Copying.{shaped_layout};
-ghost use Rattle.bolt_cli.specs.GoodCopies.{HasGoodCopies};
+ghost use Rattle.bolt_tree.specs.{Listing.IsListing, Listing.Member, Walks.left_of, Walks.walk_checked};
+ghost use Rattle.bolt_cli.specs.{Private.Copying.shaped_layout, GoodCopies.HasGoodCopies};
 
 use crate::laws::whole_copies_are_good;
 use bolt_bulk::{BulkFault, Done, Shape, compact_members};

@@ -1,7 +1,6 @@
 //! Why a job isn't done, and the line that says so.
 ghost use Rattle.std.specs.Prelude.{◌≡◌, ◌++◌, codes, decimal};
-ghost use Rattle.bolt_format.specs.Endings.{ending};
-ghost use Rattle.bolt_format.specs.Wrote.{Wrote};
+ghost use Rattle.bolt_format.specs.{Endings.ending, Wrote.Wrote};
 ghost use Rattle.bolt_report.specs.FaultWords.{finding_text};
 ghost use Rattle.bolt_load.specs.FaultWords.{line_fault_words};
 ghost use Rattle.bolt_cli.specs.Failures.{HasFinding, IsFailureOf, copied, failure_line, failure_text, reported, unjoined, unloaded};

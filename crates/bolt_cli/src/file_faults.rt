@@ -1,7 +1,6 @@
 //! What is wrong with a file apart from its pages.
 ghost use Rattle.std.specs.Prelude.{◌≡◌, ◌≤◌, IfOk};
-ghost use Rattle.bolt_format.specs.Endings.{ending};
-ghost use Rattle.bolt_format.specs.Wrote.{Wrote};
+ghost use Rattle.bolt_format.specs.{Endings.ending, Wrote.Wrote};
 ghost use Rattle.bolt_cli.specs.FileFaults.{AreFileFaults, IsMetasFault, IsOtherFault, counted, errors_in, fault_lines, hash_lines, other_lines};
 ghost use Rattle.bolt_cli.specs.SnapshotAnswers.{hash_found};
 

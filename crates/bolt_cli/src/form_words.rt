@@ -1,7 +1,6 @@
 //! Reads the form that a command line names.
 ghost use Rattle.std.specs.Prelude.{option_map};
-ghost use Rattle.bolt_cli.specs.CommandLine.{Gives};
-ghost use Rattle.bolt_cli.specs.FormWords.{figure_form_by, form_by, list_form_by};
+ghost use Rattle.bolt_cli.specs.{CommandLine.Gives, FormWords.figure_form_by, FormWords.form_by, FormWords.list_form_by};
 
 use crate::refusal::Refusal;
 use bolt_report::{FigureForm, Form, ListForm};

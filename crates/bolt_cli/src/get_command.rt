@@ -4,8 +4,7 @@ ghost use Rattle.bolt_check.specs.CheckedFiles.{bytes_of, meta_of};
 ghost use Rattle.bolt_tree.specs.Entries.{Value};
 ghost use Rattle.bolt_format.specs.Wrote.{Wrote};
 ghost use Rattle.bolt_report.specs.ReportEndings.{report_ending};
-ghost use Rattle.bolt_cli.specs.Answers.{Answer, Does, HoldsIn, HoldsNone, value_shown};
-ghost use Rattle.bolt_cli.specs.PlainWords.{path_in};
+ghost use Rattle.bolt_cli.specs.{Answers.Answer, Answers.Does, Answers.HoldsIn, Answers.HoldsNone, Answers.value_shown, PlainWords.path_in};
 ghost use Rattle.bolt_cli.specs.Private.Printing.{IsGetPrint};
 
 use crate::failure::Failure;

@@ -136,8 +136,7 @@ pub struct LoadJob {
 
 impl Job {
     ghost use Rattle.std.specs.Prelude.{◌≡◌, option_map};
-    ghost use Rattle.bolt_cli.specs.Needs.{needs_metas_alone};
-    ghost use Rattle.bolt_cli.specs.PlainWords.{file_name, target_name};
+    ghost use Rattle.bolt_cli.specs.{Needs.needs_metas_alone, PlainWords.file_name, PlainWords.target_name};
 
     /// The name of FILE.
     pub fn file(&self) -> &str

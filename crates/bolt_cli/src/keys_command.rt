@@ -1,6 +1,5 @@
 //! The command `keys`.
-ghost use Rattle.bolt_cli.specs.Answers.{Answer, Does};
-ghost use Rattle.bolt_cli.specs.Private.Printing.{IsKeysPrint};
+ghost use Rattle.bolt_cli.specs.{Answers.Answer, Answers.Does, Private.Printing.IsKeysPrint};
 
 use crate::failure::Failure;
 use crate::job::KeysJob;

@@ -3,12 +3,8 @@ ghost use Rattle.std.specs.Prelude.{◌≡◌, ◌⊎◌, IfErr, IfOk, List, OnO
 ghost use Rattle.bolt_recover.specs.ShownLosses.{lost_view};
 ghost use Rattle.bolt_format.specs.Wrote.{Wrote};
 ghost use Rattle.bolt_report.specs.ReportEndings.{report_ending};
-ghost use Rattle.bolt_tree.specs.FileListings.{ForListing};
-ghost use Rattle.bolt_tree.specs.Listing.{Member, member_cmp};
-ghost use Rattle.bolt_tree.specs.Order.{Rises};
-ghost use Rattle.bolt_tree.specs.Paths.{path_of};
-ghost use Rattle.bolt_cli.specs.Answers.{Answer, Does, all_lost_ending};
-ghost use Rattle.bolt_cli.specs.PlainWords.{path_in};
+ghost use Rattle.bolt_tree.specs.{FileListings.ForListing, Listing.Member, Listing.member_cmp, Order.Rises, Paths.path_of};
+ghost use Rattle.bolt_cli.specs.{Answers.Answer, Answers.Does, Answers.all_lost_ending, PlainWords.path_in};
 ghost use Rattle.bolt_cli.specs.Private.Printing.{IsListPrint, finds, job_part, sound_part};
 
 use crate::choices::Extent;

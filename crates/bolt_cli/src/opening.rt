@@ -2,12 +2,10 @@
 ghost use Rattle.std.specs.Prelude.{◌≡◌, IfErr, IfOk, []};
 ghost use Rattle.bolt_check.specs.CheckedFiles.{bytes_of, meta_of};
 ghost use Rattle.bolt_cli.specs.Answers.{IsReadUnder, IsRefusedUnder, IsRecoveredUnder, IsUnrecoverableUnder, LeadsTo};
+ghost use Rattle.bolt_cli.specs.{PlainWords.path_in, declared.failure.Failure.TheVariants.NoBucket};
 ghost use Rattle.bolt_recover.specs.Recovered.{ForRecovered};
 ghost use Rattle.bolt_recover.specs.Recoveries.{recovery_file, recovery_left, recovery_losses, recovery_meta};
-ghost use Rattle.bolt_tree.specs.Buckets.{bucket_checked, bucket_start};
-ghost use Rattle.bolt_tree.specs.Entries.{Start};
-ghost use Rattle.bolt_cli.specs.PlainWords.{path_in};
-ghost use Rattle.bolt_cli.specs.declared.failure.Failure.TheVariants.{NoBucket};
+ghost use Rattle.bolt_tree.specs.{Buckets.bucket_checked, Buckets.bucket_start, Entries.Start};
 
 use crate::choices::MetaChoice;
 use crate::failure::Failure;

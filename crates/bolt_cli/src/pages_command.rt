@@ -1,9 +1,7 @@
 //! The command `pages`.
 ghost use Rattle.std.specs.Prelude.{◌≡◌, true};
-ghost use Rattle.bolt_check.specs.CheckedFiles.{has_accounts};
-ghost use Rattle.bolt_check.specs.RoledFiles.{roles_checked};
-ghost use Rattle.bolt_format.specs.Endings.{ending};
-ghost use Rattle.bolt_format.specs.Wrote.{Wrote};
+ghost use Rattle.bolt_check.specs.{CheckedFiles.has_accounts, RoledFiles.roles_checked};
+ghost use Rattle.bolt_format.specs.{Endings.ending, Wrote.Wrote};
 ghost use Rattle.bolt_report.specs.PageTables.{ForRoles};
 ghost use Rattle.bolt_cli.specs.Answers.{Answer, Does, IsCheckedAnswer, IsFileRefusal, IsPagesAnswer};
 ghost use Rattle.bolt_cli.specs.Private.Printing.{checked_pages};

@@ -1,15 +1,10 @@
 //! The command `stats`.
 ghost use Rattle.std.specs.Prelude.{◌≡◌, ◌⊎◌, IfErr, IfOk};
-ghost use Rattle.bolt_check.specs.CheckedFiles.{bytes_of, meta_of};
-ghost use Rattle.bolt_check.specs.Sound.{HasSoundTrees};
+ghost use Rattle.bolt_check.specs.{CheckedFiles.bytes_of, CheckedFiles.meta_of, Sound.HasSoundTrees};
 ghost use Rattle.bolt_format.specs.Elements.{LeafElement};
-ghost use Rattle.bolt_tree.specs.Buckets.{bucket_checked, bucket_start};
-ghost use Rattle.bolt_tree.specs.BucketViews.{entries_of};
-ghost use Rattle.bolt_tree.specs.Entries.{Start};
-ghost use Rattle.bolt_tree.specs.EntriesLeft.{ForEntries};
+ghost use Rattle.bolt_tree.specs.{Buckets.bucket_checked, Buckets.bucket_start, BucketViews.entries_of, Entries.Start, EntriesLeft.ForEntries};
 ghost use Rattle.bolt_cli.specs.Answers.{AddsEntry, Answer, Does, HasStats, IsReadAnswer, IsStatsAnswer, IsTotal, LeadsTo, no_stats};
-ghost use Rattle.bolt_cli.specs.PlainWords.{path_in};
-ghost use Rattle.bolt_cli.specs.declared.failure.Failure.TheVariants.{Memory, NoBucket};
+ghost use Rattle.bolt_cli.specs.{PlainWords.path_in, declared.failure.Failure.TheVariants.Memory, declared.failure.Failure.TheVariants.NoBucket};
 
 use crate::failure::Failure;
 use crate::job::StatsJob;

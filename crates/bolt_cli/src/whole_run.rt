@@ -1,9 +1,6 @@
 //! A whole run of the program: from its words to its status.
 ghost use Rattle.std.specs.Prelude.{◌≡◌, ◌<◌, ℕ, List, None, Some, map, string_bytes};
-ghost use Rattle.bolt_cli.specs.Answers.{Ending, status_of};
-ghost use Rattle.bolt_cli.specs.Deeds.{Does, joined};
-ghost use Rattle.bolt_cli.specs.Failures.{failure_line};
-ghost use Rattle.bolt_cli.specs.PlainWords.{target_name};
+ghost use Rattle.bolt_cli.specs.{Answers.Ending, Answers.status_of, Deeds.Does, Deeds.joined, Failures.failure_line, PlainWords.target_name};
 ghost use Rattle.bolt_cli.specs.Runs.{Closes, Copies, Fails, Goes, IsHeldLine, IsRun, IsUnendedLine, Makes, Prints, Reads, Refuses, Shows, is_again, unmade_line};
 ghost use Rattle.bolt_cli.specs.declared.failure.Failure.TheVariants.{Memory};
 

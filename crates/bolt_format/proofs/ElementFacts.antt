@@ -1,16 +1,14 @@
 -- The elements of good pages have lengths that the format allows, and their values are bytes of the file.
 use Rattle.std.proofs.Common.{◌≡◌, ℕ, ◌+◌, ◌-◌, ◌<◌, ◌≤◌, ◌==◌, ◌||◌, nat_lt, List, length, take, drop, Option, None, Some, sym, ap, subst, inl, inr, arith}
-use Rattle.std.specs.List.{Contains, slice_range}
 use Rattle.std.proofs.lemmas.Bool.{cases_lt, eqb-false, ltb-false, or_parts}
 use Rattle.std.proofs.lemmas.List.{get_or-drop, get_or-take, get_or_past, length-drop, length-take}
-use Rattle.bolt_format.specs.Bytes.{IsBytes}
-use Rattle.bolt_format.specs.ElementLengths.{HasFitLengths, IsKeyLength, IsValueLength}
+use Rattle.std.specs.List.{Contains, slice_range}
+use Rattle.bolt_format.specs.{Bytes.IsBytes, ElementLengths.HasFitLengths, ElementLengths.IsKeyLength, ElementLengths.IsValueLength}
 use Rattle.bolt_format.specs.Elements.{IsBucketValue, LeafElement, element_at, head_root, inline_bytes, inline_elements, key_length_fault, leaf_element, leaf_end, leaf_flags, leaf_flags_fault, leaf_key_length, leaf_key_start, leaf_value_length, leaf_value_start, leaves_fault, plain_leaf_fault, table_fault, value_length_fault}
 use Rattle.bolt_format.specs.Pages.{PageView, page_at, span_bytes}
 use Rattle.bolt_format.specs.declared.kind.Kind.TheVariants as kind
 use Rattle.bolt_format.specs.declared.meta.Meta.{Meta}
-use Rattle.bolt_format.proofs.FaultLemmas.{first_of-none}
-use Rattle.bolt_format.proofs.GoodPages.{faults_from-none, guard-none, plain-none}
+use Rattle.bolt_format.proofs.{FaultLemmas.first_of-none, GoodPages.faults_from-none, GoodPages.guard-none, GoodPages.plain-none}
 use Rattle.bolt_format.proofs.PageFacts.{in_inline, on_leaf}
 
 key_fits : (n : ℕ) → key_length_fault n ≡ None → IsKeyLength n

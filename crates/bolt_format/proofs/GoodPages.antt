@@ -1,19 +1,16 @@
 -- What follows of the elements of a page that passed its tests.
 use Rattle.std.proofs.Common.{◌≡◌, ◌∙◌, ℕ, zero, suc, ◌+◌, ◌-◌, ◌<◌, ◌≤◌, List, Bool, true, false, Option, None, Some, IsSome, is_some, length, not, zero-add, ◌||◌, eq-eqb, ◌*◌, ◌==◌, nat_le, map, arith, ap, refl, sym, subst, cond, nat_lt, slice_get, inl, inr, take, drop}
-use Rattle.std.specs.List.{list_any, range_with_len}
 use Rattle.std.proofs.lemmas.Bool.{cases_lt, ltb-false, not-false, or_parts}
 use Rattle.std.proofs.lemmas.Bool.Decides.{nat_tests}
 use Rattle.std.proofs.lemmas.List.FromFn.{get_or-map-range_with_len, get_or-range_with_len, length-map-range_with_len, length-range_with_len}
 use Rattle.std.proofs.lemmas.List.{take_rest}
 use Rattle.std.proofs.lemmas.List.Folds.{list_any_at}
 use Rattle.std.proofs.lemmas.Option.{slice_get-get_or}
+use Rattle.std.specs.List.{list_any, range_with_len}
 use Rattle.bolt_format.specs.Elements.{IsBucketValue, branch_element, branch_elements, branch_end, branch_fault, branch_key_length, branch_key_start, branches_fault, data_fault, element_at, faults_from, has_bucket, head_fault, head_root, inline_bytes, inline_fault, inline_page_fault, is_bucket_at, key_length_fault, leaf_element, leaf_elements, leaf_end, leaf_flags, leaf_flags_fault, leaf_key_length, leaf_key_start, leaf_value, leaf_value_length, leaves_fault, plain_leaf_fault, table_fault, value_fault, value_length_fault}
 use Rattle.bolt_format.specs.Headers.{count_field, flags_field, id_field, kind_of}
 use Rattle.bolt_format.specs.Pages.{content_fault, fault_as, from_page, page_at, page_fault, page_overflow, shown_as, span_bytes, span_fault}
-use Rattle.bolt_format.specs.Private.Spans.{IsSpan, IsWithin}
-use Rattle.bolt_format.specs.declared.meta.Meta.{Meta}
-use Rattle.bolt_format.specs.declared.open_page.Span.{Span}
-use Rattle.bolt_format.specs.declared.kind.Kind.{Kind}
+use Rattle.bolt_format.specs.{Private.Spans.IsSpan, Private.Spans.IsWithin, declared.meta.Meta.Meta, declared.open_page.Span.Span, declared.kind.Kind.Kind}
 use Rattle.bolt_format.proofs.FaultLemmas.{first_of-none}
 
 -- a test that found nothing

@@ -1,7 +1,6 @@
 -- A byte has one fault.
 use Rattle.std.proofs.Common.{◌≡◌, ℕ, List, inl, inr, refl}
-use Rattle.bolt_format.specs.declared.meta.Meta.{Meta}
-use Rattle.bolt_format.specs.declared.meta.MetaFault.{MetaFault}
+use Rattle.bolt_format.specs.{declared.meta.Meta.Meta, declared.meta.MetaFault.MetaFault}
 use Rattle.bolt_format.specs.declared.meta.MetaFault.TheVariants.{Cut, Magic, Version, Sum, PageSize}
 use Rattle.bolt_format.specs.Metas.{HasMetaFault, IsMeta}
 

@@ -1,15 +1,12 @@
 -- The metas of a file lie in a prefix of it.
 use Rattle.std.proofs.Common.{◌≡◌, ◌∙◌, ℕ, ◌+◌, ◌-◌, ◌≤◌, List, take, drop, arith, sym, ap, inl, inr, subst, refl}
 use Rattle.std.proofs.lemmas.List.{drop-take, length-take, take-take}
-use Rattle.byteorder.specs.Endian.{little_number}
-use Rattle.byteorder.specs.Numbers.{little_from-take}
+use Rattle.byteorder.specs.{Endian.little_number, Numbers.little_from-take}
 use Rattle.bolt_format.specs.Bytes.{fnv_of, number_at}
 use Rattle.bolt_format.specs.Metas.{HasMetaFault, HasSlotFault, IsChosen, IsInOne, IsInSlot, IsLoneMeta, IsMeta, IsMetasEnd, IsPageSize, IsPlaced, IsWhole, meta_fields, other_slot, size_at}
-use Rattle.bolt_format.specs.declared.meta.Meta.{Meta}
-use Rattle.bolt_format.specs.declared.meta.MetaFault.{MetaFault}
+use Rattle.bolt_format.specs.{declared.meta.Meta.Meta, declared.meta.MetaFault.MetaFault}
 use Rattle.bolt_format.specs.declared.meta.MetaFault.TheVariants.{Cut, Magic, Version, Sum, PageSize}
-use Rattle.bolt_format.specs.declared.meta.Slot.{Slot}
-use Rattle.bolt_format.specs.declared.meta.Slot.TheVariants.{Zero, One}
+use Rattle.bolt_format.specs.{declared.meta.Slot.Slot, declared.meta.Slot.TheVariants.Zero, declared.meta.Slot.TheVariants.One}
 use Rattle.bolt_format.proofs.PageSizes.{size_bounds}
 
 -- ---- two files with the same record at a byte

@@ -1,10 +1,8 @@
 -- Numbers that were written as bytes are read back, one after another.
 use Rattle.std.proofs.Common.{◌≡◌, ◌∙◌, ℕ, ◌+◌, ◌^◌, ◌<◌, ◌≤◌, List, ◌++◌, length, drop, take, refl, sym, ap, arith}
 use Rattle.std.proofs.lemmas.List.{drop-drop, drop_at, take_at, length-append, length-drop}
-use Rattle.byteorder.specs.Numbers.{little_number-reads_back, length-bytes_low_first}
-use Rattle.byteorder.specs.Endian.{little_number}
-use Rattle.bolt_format.specs.Bytes.{number_at}
-use Rattle.bolt_format.specs.Written.{number_bytes}
+use Rattle.byteorder.specs.{Numbers.little_number-reads_back, Numbers.length-bytes_low_first, Endian.little_number}
+use Rattle.bolt_format.specs.{Bytes.number_at, Written.number_bytes}
 
 pub length-number_bytes : (n x : ℕ) → length (number_bytes n x) ≡ n
 unfolding number_bytes

@@ -1,8 +1,8 @@
 -- One text after another on a sink: a caller of several puts joins their clauses by these.
 use Rattle.std.proofs.Common.{◌∙◌, ℕ, List, [], ◌∷◌, ◌++◌, Option, ap, append_assoc, append-nil, refl, sym}
+use Rattle.std.proofs.KnownBytes.{Appends-nil, Appends-trans}
 use Rattle.std.specs.Prelude.{◌≢◌}
 use Rattle.std.specs.Io.KnownBytes.{Appends}
-use Rattle.std.proofs.KnownBytes.{Appends-nil, Appends-trans}
 use Rattle.bolt_format.specs.Sinks.{AppendsPrefix, AppendsProperPrefix}
 
 -- a text that was taken whole is a prefix of itself

@@ -8,8 +8,7 @@ use Rattle.bolt_format.specs.ReadBack.{IsBranchHeader, IsBranchHeaderFit, IsHead
 use Rattle.bolt_format.specs.Written.{branch_header, head_bytes, header_bytes, leaf_flag, leaf_header, number_bytes}
 use Rattle.bolt_format.specs.declared.kind.Kind.{Kind}
 use Rattle.bolt_format.specs.declared.kind.Kind.TheVariants as kind
-use Rattle.bolt_format.proofs.FaultLemmas.{first_of-both}
-use Rattle.bolt_format.proofs.NumberLemmas.{length-number_bytes, number_next, number_read}
+use Rattle.bolt_format.proofs.{FaultLemmas.first_of-both, NumberLemmas.length-number_bytes, NumberLemmas.number_next, NumberLemmas.number_read}
 
 -- The header of a page.
 flags_small : (k : Kind) → flags_of k < 256 ^ 2

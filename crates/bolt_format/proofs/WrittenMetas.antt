@@ -3,16 +3,13 @@ use Rattle.std.proofs.Common.{◌≡◌, ◌∙◌, ◌⊎◌, ℕ, ◌+◌, ◌
 use Rattle.std.proofs.lemmas.List.{length-append}
 use Rattle.std.proofs.Math.Nat.{mod-lt}
 use Rattle.bolt_format.specs.Bytes.{fnv_from, fnv_of, fnv_step}
-use Rattle.bolt_format.specs.Metas.{IsChosen, IsMeta, IsPageSize, magic, meta_fields, size_at, version}
-use Rattle.bolt_format.specs.ReadBack.{IsMetaFit}
+use Rattle.bolt_format.specs.{Metas.IsChosen, Metas.IsMeta, Metas.IsPageSize, Metas.magic, Metas.meta_fields, Metas.size_at, Metas.version, ReadBack.IsMetaFit}
 use Rattle.bolt_format.specs.Written.{header_bytes, meta_bytes, meta_record, number_bytes}
 use Rattle.bolt_format.specs.declared.kind.Kind.TheVariants as kind
-use Rattle.bolt_format.specs.declared.meta.Meta.{Meta}
-use Rattle.bolt_format.specs.declared.meta.Slot.TheVariants.{One}
+use Rattle.bolt_format.specs.{declared.meta.Meta.Meta, declared.meta.Slot.TheVariants.One}
 use Rattle.bolt_format.proofs.MetaLemmas.{newer_one}
 use Rattle.bolt_format.proofs.NumberLemmas.{length-number_bytes, number_next, number_read, part_next, part_read, part_within}
-use Rattle.bolt_format.proofs.PageSizes.{size_bounds}
-use Rattle.bolt_format.proofs.WrittenHeaders.{length-header_bytes}
+use Rattle.bolt_format.proofs.{PageSizes.size_bounds, WrittenHeaders.length-header_bytes}
 
 -- a checksum has 64 bits
 fnv_step-small : (hash byte : ℕ) → fnv_step hash byte < 2 ^ 64

@@ -1,9 +1,7 @@
 -- A text written piece by piece.
 use Rattle.std.proofs.Common.{◌≡◌, ◌∙◌, ℕ, List, [], ◌++◌, refl, sym, ap, append_assoc, append-nil}
 use Rattle.std.specs.Prelude.{IsErr, Result}
-use Rattle.bolt_format.specs.Endings.{Ending, cut, page_ending, whole}
-use Rattle.bolt_format.specs.Wrote.{Wrote}
-use Rattle.bolt_format.specs.declared.sink.Sink.{Ghosts}
+use Rattle.bolt_format.specs.{Endings.Ending, Endings.cut, Endings.page_ending, Endings.whole, Wrote.Wrote, declared.sink.Sink.Ghosts}
 use Rattle.bolt_format.proofs.WroteLemmas.{Wrote-none, Wrote-return_cut, Wrote-same, Wrote-then}
 
 -- a text of which a front was written: what is left

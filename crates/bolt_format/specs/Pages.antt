@@ -2,8 +2,7 @@
 use Rattle.std.specs.Prelude.{◌==◌, ◌<◌, ◌≤◌, ℕ, ◌+◌, ◌*◌, not, nat_lt, nat_le, List, [], length, drop, Option, Some, None, if◌then◌else◌, is_some, slice_range}
 use Rattle.bolt_format.specs.Headers.{id_field, flags_field, count_field, overflow_field, kind_of}
 use Rattle.bolt_format.specs.Elements.{BranchElement, LeafElement, first_of, branch_elements, branches_fault, leaf_elements, leaves_fault, value_fault}
-use Rattle.bolt_format.specs.declared.meta.Meta.{Meta}
-use Rattle.bolt_format.specs.declared.kind.Kind.{Kind}
+use Rattle.bolt_format.specs.{declared.meta.Meta.Meta, declared.kind.Kind.Kind}
 use Rattle.bolt_format.specs.declared.kind.Kind.TheVariants as kind
 use Rattle.bolt_format.specs.declared.fault.TheConstants.PageFault.{RANGE, CUT, ID, PAGE_KIND}
 

@@ -1,8 +1,7 @@
 -- What a call that writes a text leaves on its sink.
 use Rattle.std.specs.Prelude.{◌≡◌, ◌<◌, ℕ, List}
 use Rattle.std.specs.Io.KnownBytes.{Appends}
-use Rattle.bolt_format.specs.Endings.{Ending, whole, cut, broken, halted}
-use Rattle.bolt_format.specs.Sinks.{AppendsPrefix, AppendsProperPrefix}
+use Rattle.bolt_format.specs.{Endings.Ending, Endings.whole, Endings.cut, Endings.broken, Endings.halted, Sinks.AppendsPrefix, Sinks.AppendsProperPrefix}
 use Rattle.bolt_format.specs.declared.sink.Sink.{Ghosts}
 
 -- how much of the text the sink accepted: all of it, if the call wrote it whole

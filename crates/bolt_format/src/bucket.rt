@@ -1,8 +1,7 @@
 //! What the value of a bucket's element contains: its head and, if it is inline, its leaf page.
 ghost use Rattle.std.specs.Prelude.{◌≡◌, ◌<◌, ◌==◌, None, Some, false, length, slice_get};
 ghost use Rattle.std.proofs.Props.{props};
-ghost use Rattle.bolt_format.specs.Elements.{has_bucket, head_fault, leaves_fault};
-ghost use Rattle.bolt_format.specs.ElementPlaces.{leaf_view};
+ghost use Rattle.bolt_format.specs.{Elements.has_bucket, Elements.head_fault, Elements.leaves_fault, ElementPlaces.leaf_view};
 
 use crate::element::{Leaf, leaf_at};
 

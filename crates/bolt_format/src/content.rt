@@ -2,8 +2,7 @@
 ghost use Rattle.std.specs.Prelude.{◌≡◌, ◌≤◌, length, IfOk, OnOk};
 ghost use Rattle.std.specs.Result.{result_err};
 ghost use Rattle.bolt_format.specs.Elements.{branches_fault, element_at, has_bucket, head_fault, inline_fault, inline_page_fault, leaves_fault, value_fault};
-ghost use Rattle.bolt_format.specs.Headers.{count_field};
-ghost use Rattle.bolt_format.specs.Pages.{content_fault};
+ghost use Rattle.bolt_format.specs.{Headers.count_field, Pages.content_fault};
 
 use crate::bucket::HEAD_LEN;
 use crate::bytes::u64_at;

@@ -1,9 +1,7 @@
 //! A page that passed its tests and is read in place.
 ghost use Rattle.std.specs.Prelude.{◌≡◌, ◌<◌, None, Some, IsTrue, length, slice_get};
 ghost use Rattle.std.proofs.Props.{props};
-ghost use Rattle.bolt_format.specs.Elements.{IsBucketValue};
-ghost use Rattle.bolt_format.specs.ElementPlaces.{branch_view, leaf_view};
-ghost use Rattle.bolt_format.specs.Pages.{content_fault};
+ghost use Rattle.bolt_format.specs.{Elements.IsBucketValue, ElementPlaces.branch_view, ElementPlaces.leaf_view, Pages.content_fault};
 
 use crate::element::{Branch, Leaf, branch_at, leaf_at};
 use crate::kind::Kind;

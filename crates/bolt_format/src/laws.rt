@@ -1,7 +1,6 @@
 //! What the definitions of metas and of pages imply, and that what is written reads back.
 ghost use Rattle.std.specs.Prelude.{◌≡◌, ◌⊎◌, ◌↔◌, ◌<◌, ◌≤◌, ◌^◌, ℕ, ◌+◌, ◌++◌, Bool, false, IsTrue, List, Some, Contains, drop, length, take};
-ghost use Rattle.bolt_format.specs.Bytes.{IsBytes};
-ghost use Rattle.bolt_format.specs.ElementLengths.{HasFitLengths};
+ghost use Rattle.bolt_format.specs.{Bytes.IsBytes, ElementLengths.HasFitLengths};
 ghost use Rattle.bolt_format.specs.Elements.{IsBucketValue, LeafElement, element_at, head_root, inline_elements};
 ghost use Rattle.bolt_format.specs.Metas.{HasMetaFault, HasSlotFault, IsChosen, IsInSlot, IsMeta, IsMetasEnd};
 ghost use Rattle.bolt_format.specs.Pages.{PageView, page_at};
@@ -9,9 +8,7 @@ ghost use Rattle.bolt_format.specs.ReadBack.{IsBranchHeader, IsBranchHeaderFit, 
 ghost use Rattle.bolt_format.specs.Written.{branch_header, head_bytes, header_bytes, leaf_header, meta_bytes};
 ghost use Rattle.bolt_format.specs.declared.kind.Kind.{Kind};
 ghost use Rattle.bolt_format.specs.declared.kind.Kind.TheVariants as kind;
-ghost use Rattle.bolt_format.specs.declared.meta.Meta.{Meta};
-ghost use Rattle.bolt_format.specs.declared.meta.MetaFault.{MetaFault};
-ghost use Rattle.bolt_format.specs.declared.meta.Slot.{Slot};
+ghost use Rattle.bolt_format.specs.{declared.meta.Meta.Meta, declared.meta.MetaFault.MetaFault, declared.meta.Slot.Slot};
 
 /// A page has at most one meta fault, and none if its meta is valid.
 pub fn meta_fault_is_one()

@@ -1,7 +1,6 @@
 //! Reads the value of a bucket's element.
 ghost use Rattle.std.specs.Prelude.{◌≡◌};
-ghost use Rattle.bolt_format.specs.Elements.{IsBucketValue, head_root, head_sequence, inline_elements};
-ghost use Rattle.bolt_format.specs.ShownInline.{shown_inline};
+ghost use Rattle.bolt_format.specs.{Elements.IsBucketValue, Elements.head_root, Elements.head_sequence, Elements.inline_elements, ShownInline.shown_inline};
 
 use crate::bucket::{HEAD_LEN, Head, Inline};
 use crate::bytes::u64_at;

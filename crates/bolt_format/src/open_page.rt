@@ -1,8 +1,7 @@
 //! Opens a page: tests its number, its header, its span and its content.
 ghost use Rattle.std.specs.Prelude.{◌≡◌, ◌+◌, ◌*◌, ◌<◌, ◌^◌, IfErr, IfOk, IsSome, None, OnErr, OnOk, Some};
 ghost use Rattle.std.specs.Result.{result_err};
-ghost use Rattle.bolt_format.specs.Pages.{IsInFile, page_at, page_fault, span_fault};
-ghost use Rattle.bolt_format.specs.Shown.{shown};
+ghost use Rattle.bolt_format.specs.{Pages.IsInFile, Pages.page_at, Pages.page_fault, Pages.span_fault, Shown.shown};
 ghost use Rattle.bolt_format.specs.Private.Spans.{IsSpan, IsWithin};
 
 use crate::content::test_content;

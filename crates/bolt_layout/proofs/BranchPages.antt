@@ -1,17 +1,15 @@
 -- A branch page over pages, and by the height the page over a row of items.
 use Rattle.std.proofs.Common.{◌≡◌, ◌∙◌, ℕ, zero, suc, ◌+◌, ◌*◌, ◌<◌, ◌≤◌, ◌==◌, true, false, List, [], ◌∷◌, ◌++◌, length, map, Option, Some, None, slice_get, refl, sym, ap, subst, arith, sum_by}
 use Rattle.bolt_layout.proofs.Words.{AllByRecursion, At_page, branch_data, branch_page_view, BranchElement, elements_of, Entry, is_below, is_from, Key, keys_of, keys_order_fault, Laid, LeafElement, length-append, ne_eqb, Node, node_finding, node_of, Nodes, numbers_of, page_over, pages_of, PageSpot, Placed, places, run_overflow, size_of, sum_by-cons}
-use Rattle.bolt_check.specs.Nodes.{branch_entry}
-use Rattle.bolt_check.specs.Ways.{child_spot, upper_from}
 use Rattle.bolt_layout.proofs.BranchLemmas.{IsBranchFit}
 use Rattle.bolt_layout.proofs.KeyLaws.{AreBelow, IsAbove, IsBelowItem, IsWithin, Rise, key_step, lt_not, rise_split}
-use Rattle.bolt_layout.proofs.ListLemmas.{all_split, all_weaker}
-use Rattle.bolt_layout.proofs.OverRows.{IsOver, IsRun, Pieces}
+use Rattle.bolt_layout.proofs.{ListLemmas.all_split, ListLemmas.all_weaker, OverRows.IsOver, OverRows.IsRun, OverRows.Pieces}
 use Rattle.bolt_layout.proofs.Parts.{IsPart, kids_at, more_kids, no_kids}
 use Rattle.bolt_layout.proofs.PageRows.{HasRoom, IsPageFit, branch_room, overflow_room, overflow_small}
 use Rattle.bolt_layout.proofs.LaidPages.{AreNodes, HasPages, limit, own_page, page_has}
 use Rattle.bolt_layout.proofs.LaidItems.{IsItem, length-elements}
 use Rattle.bolt_layout.proofs.LeafPages.{IsPage, above_after, above_none, leaf_page, page_part}
+use Rattle.bolt_check.specs.{Nodes.branch_entry, Ways.child_spot, Ways.upper_from}
 
 -- A branch.
 pub pieces_have : (page_size height : ℕ) (kids : List (Laid BranchElement)) (leaves : List (Laid LeafElement)) → Pieces (IsPage page_size height) kids leaves → AllByRecursion (HasPages page_size) kids

@@ -1,8 +1,8 @@
 -- The cuts of both layouts divide a row as the soundness of a layout asks.
 use Rattle.std.proofs.Common.{◌≡◌, ◌∙◌, ℕ, suc, ◌*◌, ◌≤◌, List, [], ◌∷◌, ◌++◌, length, flat_map, refl, ap, arith, append_assoc}
 use Rattle.bolt_layout.proofs.Words.{AllByRecursion, append-nil, Balanced, branch_cut, cut_of, IsDivided, IsPageRun, join_last, Layout, length-append, max_items, Plain}
-use Rattle.bolt_layout.specs.Divisions.{IsHalved}
 use Rattle.bolt_layout.proofs.OneCut.{AreRuns, cut_runs, cut_whole}
+use Rattle.bolt_layout.specs.Divisions.{IsHalved}
 
 divided_each : {X : Type 0} (page_size least wide spare : ℕ) (size : X → ℕ) (runs : List (List X)) → least ≤ wide → AreRuns page_size least size runs
     → AllByRecursion (IsPageRun page_size wide spare size) runs

@@ -1,22 +1,19 @@
 -- What a file holds can be stored: the tree of a listing that rises, and whose members are held under their paths.
 use Rattle.std.proofs.Common.{◌≡◌, ◌∙◌, ℕ, ◌^◌, ◌<◌, Bool, true, false, IsTrue, List, [], ◌∷◌, ◌++◌, length, drop, refl, sym, ap, subst, subst₂, inl, inr, arith}
+use Rattle.std.proofs.lemmas.List.{same_from_push}
 use Rattle.bolt_layout.proofs.Words.{Contains, Contains-append_left, Contains-append_right, contains_cases, contains_head, contains_none, contains_tail, end, HasLengths, HasSoundTrees, head_root, head_sequence, inline_elements, Inline_page, IsBelow, IsEntry, IsOfOneTree, IsStorable, IsTreeOf, Key, key_cmp, keys_in, LeafElement, Less, listing_below, listing_of, Member, Meta, Path, Rises, RisesInside, Root_page, Start, start_of, Tree, tree_of, with_bucket, with_value}
+use Rattle.bolt_layout.proofs.SoundCopies.{TreeLists}
 use Rattle.std.specs.Ordering.{ordering_then}
 use Rattle.std.specs.declared.cmp.Ordering.{Ordering}
 use Rattle.std.specs.declared.cmp.Ordering.TheVariants.{Equal}
-use Rattle.std.proofs.lemmas.List.{same_from_push}
 use Rattle.byteorder.specs.Numbers.{little_from-lt}
-use Rattle.bolt_format.specs.Bytes.{IsBytes, number_at}
-use Rattle.bolt_format.specs.ElementLengths.{HasFitLengths, IsKeyLength}
-use Rattle.bolt_format.specs.Elements.{IsBucketValue}
+use Rattle.bolt_format.specs.{Bytes.IsBytes, Bytes.number_at, ElementLengths.HasFitLengths, ElementLengths.IsKeyLength, Elements.IsBucketValue}
 use Rattle.bolt_format.proofs.ElementFacts.{drop_bytes, entry_fits, inline_fits, value_bytes}
 use Rattle.bolt_format.proofs.PageFacts.{bucket_value, flat_inline}
-use Rattle.bolt_tree.specs.Entries.{Bucket, Item, ShowsEntry, Value, item_of}
-use Rattle.bolt_tree.specs.Listing.{IsListing, member_cmp}
+use Rattle.bolt_tree.specs.{Entries.Bucket, Entries.Item, Entries.ShowsEntry, Entries.Value, Entries.item_of, Listing.IsListing, Listing.member_cmp}
 use Rattle.bolt_tree.specs.Paths.{Holds, path_cmp}
 use Rattle.bolt_tree.proofs.PathOrder.{same_front}
 use Rattle.bolt_layout.specs.Storable.{IsFitItem, IsFitListing, IsFitMember}
-use Rattle.bolt_layout.proofs.SoundCopies.{TreeLists}
 
 -- the sequence of a bucket's value has 64 bits
 sequence_fits : (value : List ℕ) → IsBytes value → head_sequence value < 2 ^ 64

@@ -1,12 +1,9 @@
 -- How many items are held at one time, at the most: four page sizes for each bucket of a path, and never more than the pages have bytes.
 use Rattle.std.proofs.Common.{◌≡◌, ◌∙◌, ℕ, zero, suc, ◌+◌, ◌*◌, ◌/◌, ◌^◌, ◌<◌, ◌≤◌, Bool, List, [], ◌∷◌, ◌++◌, length, map, flat_map, max, refl, sym, ap, subst, inl, inr, arith, sum_by}
 use Rattle.bolt_layout.proofs.Words.{AllByRecursion, branch_cut, branch_page_view, BranchElement, cases_lt, cut_of, end, is_inline, IsDivided, IsPageRun, IsPageSize, IsStorable, items_of, Laid, Layout, layout_held, layout_of, leaf_level, leaf_page_view, LeafElement, length-append, length-map, listing_below, listing_of, Member, next_level, numbers_of, page_over, PageView, Path, root_of, root_over, size_bounds, size_of, stored_bucket, sum_by-cons, top_in, Tree, with_bucket, with_value}
-use Rattle.bolt_layout.specs.Held.{longest, most_held}
-use Rattle.bolt_layout.specs.Laid.{held_in}
-use Rattle.bolt_layout.proofs.Cutting.{branches_divide, branches_halve, cut_divides}
-use Rattle.bolt_layout.proofs.ListLemmas.{all_split}
-use Rattle.bolt_layout.proofs.OverRows.{pages_count, runs_numbers, runs_some}
-use Rattle.bolt_layout.proofs.Soundness.{layout_length}
+use Rattle.bolt_layout.proofs.{Cutting.branches_divide, Cutting.branches_halve, Cutting.cut_divides, ListLemmas.all_split}
+use Rattle.bolt_layout.proofs.{OverRows.pages_count, OverRows.runs_numbers, OverRows.runs_some, Soundness.layout_length}
+use Rattle.bolt_layout.specs.{Held.longest, Held.most_held, Laid.held_in}
 
 -- An item takes 16 bytes at least. While the pages below it are written, `most` items are held, and no more than these pages have bytes.
 record IsHeldBelow {E : Type 0} (page_size most : ℕ) (item : Laid E) : Type 0 where

@@ -1,12 +1,10 @@
 -- The entries of a bucket whose pages were placed: the elements of its items, in order.
 use Rattle.std.proofs.Common.{◌≡◌, ◌∙◌, ℕ, zero, suc, ◌+◌, ◌≤◌, List, [], ◌∷◌, ◌++◌, Option, Some, slice_get, refl, sym, subst, inl, inr, arith}
-use Rattle.bolt_layout.proofs.Words.{AllByRecursion, branch_page_view, BranchElement, Contains, Contains-append_left, Contains-append_right, elements_of, IsEntry, Laid, leaf_page_view, LeafElement, Meta, node_at, numbers_of, page_at, page_over, pages_of, PageView, Placed, Root_page, run_overflow}
 use Rattle.std.proofs.lemmas.List.Elements.{Contains-append_cases}
+use Rattle.bolt_layout.proofs.Words.{AllByRecursion, branch_page_view, BranchElement, Contains, Contains-append_left, Contains-append_right, elements_of, IsEntry, Laid, leaf_page_view, LeafElement, Meta, node_at, numbers_of, page_at, page_over, pages_of, PageView, Placed, Root_page, run_overflow}
 use Rattle.bolt_format.specs.declared.kind.Kind.TheVariants as kind
 use Rattle.bolt_check.proofs.TreePages.{branch_step, leads_child, leaf_ends, node_is}
-use Rattle.bolt_layout.proofs.LaidPages.{limit}
-use Rattle.bolt_layout.proofs.ListLemmas.{all_split}
-use Rattle.bolt_layout.proofs.OverRows.{IsOver, Pieces}
+use Rattle.bolt_layout.proofs.{LaidPages.limit, ListLemmas.all_split, OverRows.IsOver, OverRows.Pieces}
 
 module _ (file : List ℕ) (meta : Meta) where
   -- these pages are shown

@@ -1,14 +1,13 @@
 -- What holds of the page over a row of leaf items, where it holds of the items; and a leaf page over them.
 use Rattle.std.proofs.Common.{◌≡◌, ◌∙◌, ℕ, zero, suc, ◌+◌, ◌<◌, ◌≤◌, nat_lt, Bool, true, false, List, [], ◌∷◌, ◌++◌, length, map, Option, Some, None, Ok, slice_get, refl, sym, ap, subst, arith}
 use Rattle.bolt_layout.proofs.Words.{AllByRecursion, At_page, BranchElement, bucket_spots, elements_of, Entry, finding_of, follow, follow_none, Key, key_lt, keys_of, keys_order_fault, Laid, le-ltb, leaf_entry, leaf_page_view, LeafElement, Node, node_finding, node_of, Nodes, numbers_of, page_over, pages_of, PageSpot, Placed, places, run_overflow, Spot}
-use Rattle.bolt_check.specs.Ways.{step_entry}
 use Rattle.bolt_layout.proofs.KeyLaws.{IsAbove, IsBelowItem, IsWithin, Rise, key_step}
-use Rattle.bolt_layout.proofs.ListLemmas.{all_split, all_weaker}
-use Rattle.bolt_layout.proofs.OverRows.{IsRun}
+use Rattle.bolt_layout.proofs.{ListLemmas.all_split, ListLemmas.all_weaker, OverRows.IsRun}
 use Rattle.bolt_layout.proofs.Parts.{IsFinePage, IsPart, kids_at, more_kids, no_kids, part_page}
-use Rattle.bolt_layout.specs.Laid.{first_key}
 use Rattle.bolt_layout.proofs.LaidPages.{AreNodes, HasPages, limit, page_has}
 use Rattle.bolt_layout.proofs.LaidItems.{IsItem, leaf_own, leaf_own_room}
+use Rattle.bolt_check.specs.Ways.{step_entry}
+use Rattle.bolt_layout.specs.Laid.{first_key}
 
 -- What holds of the page over a row.
 pub record IsPage (page_size height : ℕ) (page : Laid BranchElement) (leaves : List (Laid LeafElement)) : Type 0 where

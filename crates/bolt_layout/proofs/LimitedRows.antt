@@ -1,8 +1,8 @@
 -- How a row is cut with a limit: without one as in the plain layout, and with the right one as in the balanced.
 use Rattle.std.proofs.Common.{◌≡◌, ◌∙◌, ◌⊎◌, ◌++◌, ◌+◌, ◌-◌, ◌≤◌, ℕ, zero, suc, List, [], ◌∷◌, length, Option, Some, None, refl, sym, ap, inl, inr, arith}
 use Rattle.bolt_layout.proofs.Words.{Balanced, branch_cut, cases_Bool, cut_from, cut_of, cut_row, join_last, joins, last_length, length_push}
-use Rattle.bolt_layout.specs.Limits.{cut_left}
 use Rattle.bolt_layout.proofs.LastItem.{join_behind, join_none, last_behind, some_runs}
+use Rattle.bolt_layout.specs.Limits.{cut_left}
 
 -- Without a limit a row is cut as the plain one.
 left_free : {X : Type 0} (page_size : ℕ) (size : X → ℕ) (run items : List X) → cut_left page_size size None run items ≡ cut_from page_size 2 size run items

@@ -1,11 +1,7 @@
 -- How many buckets a pass opens: as many in both layouts, and no more than there are page numbers.
 use Rattle.std.proofs.Common.{◌≡◌, ◌≤◌, ◌+◌, ℕ, suc, false, List, [], ◌∷◌, length, refl, arith}
 use Rattle.bolt_layout.proofs.Words.{Balanced, end, is_inline, items_of, Laid, Layout, leaf_pages, LeafElement, length-map, numbers_of, opened_by, opened_in, Plain, root_of, root_over, stored_bucket, Tree, with_bucket, with_value}
-use Rattle.bolt_layout.proofs.HeldBounds.{level_numbers}
-use Rattle.bolt_layout.proofs.LastItem.{some_runs}
-use Rattle.bolt_layout.proofs.PlainNumbers.{leaves_numbers}
-use Rattle.bolt_layout.proofs.SameFaces.{inline_alike}
-use Rattle.bolt_layout.proofs.Weights.{own_numbers}
+use Rattle.bolt_layout.proofs.{HeldBounds.level_numbers, LastItem.some_runs, PlainNumbers.leaves_numbers, SameFaces.inline_alike, Weights.own_numbers}
 
 -- The same buckets have a root page.
 one_same : (page_size : ℕ) (inside : Tree) → opened_in Plain page_size inside ≡ opened_in Balanced page_size inside → opened_by Plain page_size inside ≡ opened_by Balanced page_size inside

@@ -1,9 +1,8 @@
 -- The root page over a row of leaf items: a leaf page, or a branch page over pages that stand over pieces of the row.
 use Rattle.std.proofs.Common.{◌≡◌, ◌∙◌, ℕ, zero, suc, ◌+◌, ◌*◌, ◌^◌, ◌<◌, ◌≤◌, List, [], ◌∷◌, ◌++◌, length, map, flat_map, refl, sym, ap, subst, arith, append_assoc, sum_by}
 use Rattle.bolt_layout.proofs.Words.{AllByRecursion, append-nil, branch_cut, branch_page_view, BranchElement, cut_of, IsDivided, IsPageRun, Laid, Layout, leaf_level, leaf_page_view, LeafElement, length-map, max_items, mul-le-mul_right, next_level, numbers_of, page_over, PageView, root_over, run_size, size_of, sum_by-append, sum_by-cons, top_in}
+use Rattle.bolt_layout.proofs.{Cutting.branches_divide, Cutting.branches_halve, Cutting.cut_divides, ListLemmas.all_split}
 use Rattle.bolt_layout.specs.Divisions.{FitsBut}
-use Rattle.bolt_layout.proofs.Cutting.{branches_divide, branches_halve, cut_divides}
-use Rattle.bolt_layout.proofs.ListLemmas.{all_split}
 
 abbrev pub Over : Type 1
 Over = Laid BranchElement → List (Laid LeafElement) → Type 0

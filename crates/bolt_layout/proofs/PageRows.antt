@@ -1,11 +1,10 @@
 -- Pages in a row: each begins where the span of the one before it ends. In the file each shows what was written.
 use Rattle.std.proofs.Common.{◌≡◌, ◌∙◌, ◌⊎◌, ℕ, ◌+◌, ◌-◌, ◌*◌, ◌^◌, ◌<◌, ◌≤◌, List, [], ◌∷◌, ◌++◌, length, drop, refl, sym, ap, subst, arith, append_assoc}
-use Rattle.bolt_layout.proofs.Words.{AllByRecursion, branch_bytes, branch_data, branch_page_view, BranchElement, header_bytes, Kind, leaf_bytes, leaf_data, leaf_page_view, LeafElement, length-append, length-header_bytes, Meta, overflow_of, page_bytes, PageView, part_next, part_within, Placed, placed_bytes, value_fault}
 use Rattle.std.proofs.Math.Nat.{div-le_self}
-use Rattle.bolt_layout.specs.PageBytes.{content_bytes}
-use Rattle.bolt_layout.proofs.LeafLemmas.{IsLeafFit}
-use Rattle.bolt_layout.proofs.BranchLemmas.{IsBranchFit}
+use Rattle.bolt_layout.proofs.Words.{AllByRecursion, branch_bytes, branch_data, branch_page_view, BranchElement, header_bytes, Kind, leaf_bytes, leaf_data, leaf_page_view, LeafElement, length-append, length-header_bytes, Meta, overflow_of, page_bytes, PageView, part_next, part_within, Placed, placed_bytes, value_fault}
+use Rattle.bolt_layout.proofs.{LeafLemmas.IsLeafFit, BranchLemmas.IsBranchFit}
 use Rattle.bolt_layout.proofs.SpanLemmas.{IsShown, branch_shown, leaf_shown, length-branch_bytes, length-filled, length-leaf_bytes}
+use Rattle.bolt_layout.specs.PageBytes.{content_bytes}
 
 -- Room on a page: the least overflow.
 pub overflow_room : (page_size size : ℕ) → 0 < page_size → 0 < size → size ≤ (1 + overflow_of page_size size) * page_size

@@ -1,17 +1,13 @@
 -- A layout that is cut short is refused.
 use Rattle.std.proofs.Common.{◌≡◌, ◌∙◌, ℕ, ◌+◌, ◌-◌, ◌*◌, ◌^◌, ◌<◌, ◌≤◌, List, [], ◌∷◌, ◌++◌, length, drop, take, Some, Err, refl, ap, subst, inl, inr, arith}
-use Rattle.bolt_layout.proofs.Words.{AllByRecursion, At_page, cases_lt, chosen_of, copy_meta, eq-eqb, header_bytes, header_written, IsAsked, IsChosen, IsHeaderFit, IsMeta, IsPageSize, Kind, Layout, layout_mark, layout_of, layout_root, le-ltb, length-header_bytes, length-meta_bytes, Meta, meta_bytes, meta_written, node_at, One, page_at, page_fault, Placed, placed_bytes, root_spot, span_fault, Tree, Zero}
 use Rattle.std.proofs.Math.Seq.{take-append-add}
 use Rattle.std.proofs.lemmas.List.{drop-take, length-take}
-use Rattle.bolt_format.specs.Metas.{IsInOne, IsInSlot}
-use Rattle.bolt_format.specs.declared.fault.TheConstants.PageFault.{CUT}
-use Rattle.bolt_format.specs.declared.meta.Slot.{Slot}
-use Rattle.bolt_check.specs.Findings.{PageTests, finding}
-use Rattle.bolt_check.specs.Sound.{IsFirstFinding, IsRefused}
-use Rattle.bolt_check.specs.declared.fault.CheckFault.TheVariants.{Structure}
-use Rattle.bolt_layout.specs.Copies.{RefusesPrefixes}
+use Rattle.bolt_layout.proofs.Words.{AllByRecursion, At_page, cases_lt, chosen_of, copy_meta, eq-eqb, header_bytes, header_written, IsAsked, IsChosen, IsHeaderFit, IsMeta, IsPageSize, Kind, Layout, layout_mark, layout_of, layout_root, le-ltb, length-header_bytes, length-meta_bytes, Meta, meta_bytes, meta_written, node_at, One, page_at, page_fault, Placed, placed_bytes, root_spot, span_fault, Tree, Zero}
 use Rattle.bolt_layout.proofs.PageRows.{IsInARow, IsPageFit, last_written, page_headed, row_last}
 use Rattle.bolt_layout.proofs.Soundness.{IsLaidOut, laid_out}
+use Rattle.bolt_format.specs.{Metas.IsInOne, Metas.IsInSlot, declared.fault.TheConstants.PageFault.CUT, declared.meta.Slot.Slot}
+use Rattle.bolt_check.specs.{Findings.PageTests, Findings.finding, Sound.IsFirstFinding, Sound.IsRefused, declared.fault.CheckFault.TheVariants.Structure}
+use Rattle.bolt_layout.specs.Copies.{RefusesPrefixes}
 
 -- a part before the cut is there
 cut_front : (file part rest : List ℕ) (at n : ℕ) → drop at file ≡ part ++ rest → at + length part ≤ n → drop at (take n file) ≡ part ++ take (n - (at + length part)) rest

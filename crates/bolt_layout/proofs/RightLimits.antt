@@ -1,14 +1,12 @@
 -- The limits that follow from what is noted of the plain rows are those of the balanced ones. For this the keys and sizes of the pages are
 -- compared, row by row.
 use Rattle.std.proofs.Common.{◌≡◌, ◌≢◌, ◌∙◌, ◌⊎◌, ◌++◌, ◌-◌, ◌≤◌, ◌==◌, ◌&&◌, ℕ, zero, suc, nat_lt, Bool, true, false, List, [], ◌∷◌, length, map, Option, Some, None, refl, sym, ap, subst, inl, inr, arith}
-use Rattle.bolt_layout.proofs.Words.{AllByRecursion, and_parts, AreRowEnds, Balanced, branch_cut, BranchElement, cases_Bool, cut_of, cut_row, eq-eqb, HaveRightLimits, IsPageRun, join_last, Laid, last_length, length-map, length_push, limit_at, limits_from_ends, ltb-false, ltb-true, map-append, ne_eqb, next_level, Plain, size_of}
 use Rattle.std.proofs.lemmas.Bool.{and_cases, eqb-false, eqb-true}
-use Rattle.bolt_layout.specs.Limits.{level_up}
-use Rattle.bolt_layout.proofs.Cutting.{cut_divides}
-use Rattle.bolt_layout.proofs.Faces.{Face, face, face_size, map_cut, map_last, next_faces, top_face}
+use Rattle.bolt_layout.proofs.Words.{AllByRecursion, and_parts, AreRowEnds, Balanced, branch_cut, BranchElement, cases_Bool, cut_of, cut_row, eq-eqb, HaveRightLimits, IsPageRun, join_last, Laid, last_length, length-map, length_push, limit_at, limits_from_ends, ltb-false, ltb-true, map-append, ne_eqb, next_level, Plain, size_of}
+use Rattle.bolt_layout.proofs.{Cutting.cut_divides, Faces.Face, Faces.face, Faces.face_size, Faces.map_cut, Faces.map_last, Faces.next_faces, Faces.top_face}
 use Rattle.bolt_layout.proofs.LastItem.{HasItem, IsPushed, cut_pushed, join_none, join_tops, last_append, last_some, push_counts, push_last, push_tops, some_runs}
-use Rattle.bolt_layout.proofs.ListLemmas.{all_weaker}
-use Rattle.bolt_layout.proofs.LimitedRows.{IsLimit, row_free, row_limited}
+use Rattle.bolt_layout.proofs.{ListLemmas.all_weaker, LimitedRows.IsLimit, LimitedRows.row_free, LimitedRows.row_limited}
+use Rattle.bolt_layout.specs.Limits.{level_up}
 
 -- A row of the balanced layout is that of the plain one, or lacks its last page.
 abbrev Lost : Bool → (plain balanced : List Face) → Type 0

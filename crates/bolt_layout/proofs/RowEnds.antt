@@ -1,8 +1,7 @@
 -- The ends of the plain rows over a level of pages are found in as many steps as there are pages, and there are no others.
 use Rattle.std.proofs.Common.{◌≡◌, ◌≤◌, ℕ, zero, suc, List, [], ◌∷◌, length, refl, arith}
-use Rattle.bolt_layout.proofs.Words.{AreRowEnds, BranchElement, Laid, next_level, Plain, row_ends_of}
+use Rattle.bolt_layout.proofs.{Words.AreRowEnds, Words.BranchElement, Words.Laid, Words.next_level, Words.Plain, Words.row_ends_of, Tops.shorter}
 use Rattle.bolt_layout.specs.Openings.{row_ends}
-use Rattle.bolt_layout.proofs.Tops.{shorter}
 
 steps_to_ends : (steps page_size : ℕ) (pages : List (Laid BranchElement)) → length pages ≤ suc steps → AreRowEnds page_size pages (row_ends steps page_size pages)
 steps_to_ends steps page_size [] fuel = omega arith

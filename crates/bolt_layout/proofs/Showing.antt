@@ -1,16 +1,11 @@
 -- The pages of a tree show it: the entries of each bucket are its items' elements.
 use Rattle.std.proofs.Common.{◌≡◌, ◌∙◌, ℕ, ◌+◌, ◌^◌, ◌<◌, ◌≤◌, ◌==◌, Bool, true, false, List, [], ◌∷◌, refl, sym, ap, subst, inl, inr, arith}
 use Rattle.bolt_layout.proofs.Words.{AllByRecursion, append-nil, bucket_item, contains_cases, contains_none, elements_of, end, eq-eqb, HasLengths, head_bytes, head_root, head_sequence, head_written, holds_bucket, inline_elements, Inline_page, inline_value, is_inline, IsBelow, IsEntry, IsTreeOf, items_of, Key, key_cmp, keys_in, Laid, largest_page, Layout, LeafElement, Less, Meta, ne_eqb, Rises, RisesInside, root_over, Root_page, Start, start_of, stored_bucket, Tree, with_bucket, with_value}
-use Rattle.bolt_check.proofs.KeyLaws.{less_of}
-use Rattle.bolt_tree.specs.Entries.{AreEntries, entry_cmp}
-use Rattle.bolt_tree.specs.Tree.{Shows}
-use Rattle.bolt_layout.proofs.Holding.{AreOf, ArePages, Holds, over_holds}
-use Rattle.bolt_layout.proofs.KeyLaws.{IsBelowItem, Rise}
-use Rattle.bolt_layout.proofs.LaidItems.{IsItem}
-use Rattle.bolt_layout.proofs.LaidPages.{limit}
-use Rattle.bolt_layout.proofs.ListLemmas.{all_weaker}
-use Rattle.bolt_layout.proofs.OverRows.{HasShortKey, IsAtMost, root_is_over}
+use Rattle.bolt_layout.proofs.{Holding.AreOf, Holding.ArePages, Holding.Holds, Holding.over_holds, KeyLaws.IsBelowItem, KeyLaws.Rise, LaidItems.IsItem}
+use Rattle.bolt_layout.proofs.{LaidPages.limit, ListLemmas.all_weaker, OverRows.HasShortKey, OverRows.IsAtMost, OverRows.root_is_over}
 use Rattle.bolt_layout.proofs.TreeItems.{inline_read, root_page, tree_items, tree_rise}
+use Rattle.bolt_check.proofs.KeyLaws.{less_of}
+use Rattle.bolt_tree.specs.{Entries.AreEntries, Entries.entry_cmp, Tree.Shows}
 
 module _ (file : List ℕ) (meta : Meta) where
   -- Elements of items whose keys rise, rise.

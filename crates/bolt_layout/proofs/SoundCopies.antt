@@ -1,13 +1,10 @@
 -- The layout of a tree is sound, and lists what the tree lists.
 use Rattle.std.proofs.Common.{◌≡◌, ◌<◌, ◌^◌, ℕ, List, Some, length, arith}
 use Rattle.bolt_layout.proofs.Words.{IsAsked, IsEntry, IsOfOneTree, IsPageSize, IsStorable, IsTreeOf, Layout, layout_meta, layout_of, layout_pages, layout_root, listing_of, Member, Meta, One, page_at, Placed, root_of, Root_page, size_bounds, Start, Tree, tree_of}
+use Rattle.bolt_layout.proofs.{Holding.ArePages, ListLemmas.all_weaker, Showing.root_tree}
+use Rattle.bolt_layout.proofs.{Soundness.IsSoundLayout, Soundness.PassingIsSound, Soundness.laid_out, Soundness.layout_sound, SpanLemmas.IsShown}
 use Rattle.bolt_tree.specs.Listing.{Lists}
 use Rattle.bolt_layout.specs.Copies.{IsSoundCopy, layout_of_listing}
-use Rattle.bolt_layout.proofs.Holding.{ArePages}
-use Rattle.bolt_layout.proofs.ListLemmas.{all_weaker}
-use Rattle.bolt_layout.proofs.Showing.{root_tree}
-use Rattle.bolt_layout.proofs.Soundness.{IsSoundLayout, PassingIsSound, laid_out, layout_sound}
-use Rattle.bolt_layout.proofs.SpanLemmas.{IsShown}
 
 -- what a bucket's tree lists is the bucket's listing
 abbrev pub TreeLists : Type 0

@@ -1,8 +1,8 @@
 -- The top of a level is that of the next, and a page's overflow is the least.
 use Rattle.std.proofs.Common.{◌≡◌, ℕ, zero, suc, ◌≤◌, List, [], ◌∷◌, length, refl, arith}
 use Rattle.bolt_layout.proofs.Words.{branch_cut, branch_page_view, BranchElement, Laid, Layout, length-map, next_level, overflow_of, page_over, size_of, top_in}
-use Rattle.bolt_layout.specs.Levels.{IsOverflow, TopIsAbove}
 use Rattle.bolt_layout.proofs.Cutting.{branches_halve}
+use Rattle.bolt_layout.specs.Levels.{IsOverflow, TopIsAbove}
 
 -- a level of two pages or more has more than the next
 pub shorter : (which : Layout) (page_size : ℕ) (level : List (Laid BranchElement)) → 2 ≤ length level → suc (length (next_level which page_size level)) ≤ length level

@@ -1,18 +1,13 @@
 -- The items of a tree are read back, have room, and are parts of a sound tree of pages.
 use Rattle.std.proofs.Common.{◌≡◌, ◌∙◌, ℕ, ◌+◌, ◌*◌, ◌/◌, ◌^◌, ◌<◌, ◌≤◌, ◌==◌, not, nat_le, Bool, true, false, List, [], ◌∷◌, length, map, Option, Some, None, refl, sym, ap, subst, arith}
-use Rattle.bolt_layout.proofs.Words.{AllByRecursion, and_parts, append-nil, At_inline, At_page, bucket_item, bucket_spots, common_steps, contains_head, contains_tail, elements_of, end, eq-eqb, finding_of, follow, HasLengths, head_bytes, head_root, head_sequence, head_written, holds_bucket, inline_elements, inline_finding, inline_value, is_inline, IsBelow, items_of, Key, key_cmp, keys_in, keys_of, Laid, largest_page, Layout, leaf_data, leaf_entry, leaf_item, LeafElement, length-append, length-header_bytes, max_items, ne_eqb, Rises, RisesInside, root_over, root_spot, run_size, size_of, Spot, stored_bucket, Tree, value_fault, with_bucket, with_value}
 use Rattle.std.proofs.lemmas.Bool.{leb-true, not-true}
-use Rattle.bolt_layout.proofs.InlineLemmas.{IsFlat, inline_written}
+use Rattle.bolt_layout.proofs.Words.{AllByRecursion, and_parts, append-nil, At_inline, At_page, bucket_item, bucket_spots, common_steps, contains_head, contains_tail, elements_of, end, eq-eqb, finding_of, follow, HasLengths, head_bytes, head_root, head_sequence, head_written, holds_bucket, inline_elements, inline_finding, inline_value, is_inline, IsBelow, items_of, Key, key_cmp, keys_in, keys_of, Laid, largest_page, Layout, leaf_data, leaf_entry, leaf_item, LeafElement, length-append, length-header_bytes, max_items, ne_eqb, Rises, RisesInside, root_over, root_spot, run_size, size_of, Spot, stored_bucket, Tree, value_fault, with_bucket, with_value}
+use Rattle.bolt_layout.proofs.{InlineLemmas.IsFlat, InlineLemmas.inline_written, SpanLemmas.length-leaf_bytes}
+use Rattle.bolt_layout.proofs.{KeyLaws.IsBelowItem, KeyLaws.IsWithin, KeyLaws.Rise, ListLemmas.all_weaker}
+use Rattle.bolt_layout.proofs.{OverRows.HasShortKey, OverRows.IsAtMost, OverRows.root_is_over, Parts.IsPart, Parts.part_inline, Parts.part_none}
+use Rattle.bolt_layout.proofs.{LaidPages.limit, LaidItems.IsItem, LaidItems.items_size, LaidItems.length-elements}
+use Rattle.bolt_layout.proofs.{LeafPages.IsPage, LeafPages.above_none, LeafPages.items_keys, BranchPages.over_page}
 use Rattle.bolt_format.proofs.WrittenHeaders.{length-head_bytes, root_passes}
-use Rattle.bolt_layout.proofs.SpanLemmas.{length-leaf_bytes}
-use Rattle.bolt_layout.proofs.KeyLaws.{IsBelowItem, IsWithin, Rise}
-use Rattle.bolt_layout.proofs.ListLemmas.{all_weaker}
-use Rattle.bolt_layout.proofs.OverRows.{HasShortKey, IsAtMost, root_is_over}
-use Rattle.bolt_layout.proofs.Parts.{IsPart, part_inline, part_none}
-use Rattle.bolt_layout.proofs.LaidPages.{limit}
-use Rattle.bolt_layout.proofs.LaidItems.{IsItem, items_size, length-elements}
-use Rattle.bolt_layout.proofs.LeafPages.{IsPage, above_none, items_keys}
-use Rattle.bolt_layout.proofs.BranchPages.{over_page}
 
 -- a value
 value_item : (page_size : ℕ) (key value : List ℕ) → 1 ≤ length key → length key ≤ 0x40000000 → length value ≤ 0x7FFFFFFE → IsItem page_size (leaf_item key value false)

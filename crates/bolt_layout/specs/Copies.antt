@@ -1,17 +1,11 @@
 -- What a layout promises: docs/LAYOUT.md, "What holds of both layouts".
 use Rattle.std.specs.Prelude.{◌≡◌, ◌≤◌, ◌<◌, ◌^◌, ℕ, true, List, length, take}
-use Rattle.bolt_format.specs.Metas.{HasBothMetas, IsChosen, IsPageSize}
-use Rattle.bolt_format.specs.declared.fault.TheConstants.PageFault.{CUT}
-use Rattle.bolt_format.specs.declared.meta.MetaFault.TheVariants.{Cut}
-use Rattle.bolt_format.specs.declared.meta.Slot.TheVariants.{One}
-use Rattle.bolt_check.specs.Findings.{finding}
-use Rattle.bolt_check.specs.Sound.{IsRefused, IsSound}
+use Rattle.bolt_format.specs.{Metas.HasBothMetas, Metas.IsChosen, Metas.IsPageSize, declared.fault.TheConstants.PageFault.CUT}
+use Rattle.bolt_format.specs.{declared.meta.MetaFault.TheVariants.Cut, declared.meta.Slot.TheVariants.One}
+use Rattle.bolt_check.specs.{Findings.finding, Sound.IsRefused, Sound.IsSound}
 use Rattle.bolt_check.specs.declared.fault.CheckFault.TheVariants.{Open, Structure}
-use Rattle.bolt_tree.specs.Listing.{IsListing, Member}
-use Rattle.bolt_tree.specs.Tree.{Tree, listing_of, tree_of}
-use Rattle.bolt_layout.specs.Layout.{layout_meta, layout_of}
-use Rattle.bolt_layout.specs.Storable.{IsStorable}
-use Rattle.bolt_layout.specs.declared.layout.Layout.{Layout}
+use Rattle.bolt_tree.specs.{Listing.IsListing, Listing.Member, Tree.Tree, Tree.listing_of, Tree.tree_of}
+use Rattle.bolt_layout.specs.{Layout.layout_meta, Layout.layout_of, Storable.IsStorable, declared.layout.Layout.Layout}
 
 -- both metas are valid, and that of slot one is active in the layout, which is sound for it, trees and accounts, and has this listing
 pub record IsSoundCopy (which : Layout) (page_size : ℕ) (tree : Tree) (sequence : ℕ) (listing : List Member) : Type 0 where

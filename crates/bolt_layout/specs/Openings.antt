@@ -3,12 +3,9 @@
 use Rattle.std.specs.Prelude.{suc, zero, ◌≡◌, ◌==◌, ◌+◌, ℕ, false, nat_lt, List, [], ◌∷◌, length, map, Option, None, if◌then◌else◌}
 use Rattle.bolt_format.specs.Elements.{BranchElement, LeafElement}
 use Rattle.bolt_tree.specs.Tree.{Tree, end, with_bucket, with_value}
-use Rattle.bolt_layout.specs.Cut.{cut_from, cut_of}
-use Rattle.bolt_layout.specs.Items.{is_inline, items_of}
-use Rattle.bolt_layout.specs.Laid.{Laid, size_of}
+use Rattle.bolt_layout.specs.{Cut.cut_from, Cut.cut_of, Items.is_inline, Items.items_of, Laid.Laid, Laid.size_of}
 use Rattle.bolt_layout.specs.Levels.{leaf_page_view, next_level, page_over}
-use Rattle.bolt_layout.specs.Limits.{HaveRightLimits, last_length, limit_at, limits_from_ends}
-use Rattle.bolt_layout.specs.declared.layout.Layout.{Layout}
+use Rattle.bolt_layout.specs.{Limits.HaveRightLimits, Limits.last_length, Limits.limit_at, Limits.limits_from_ends, declared.layout.Layout.Layout}
 use Rattle.bolt_layout.specs.declared.layout.Layout.TheVariants.{Plain}
 
 -- all leaf pages of a bucket with these items: one empty page where it has none

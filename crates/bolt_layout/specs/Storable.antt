@@ -2,10 +2,7 @@
 use Rattle.std.specs.Prelude.{◌≡◌, ◌<◌, ◌^◌, List, [], ◌∷◌, ◌++◌, Contains, length}
 use Rattle.bolt_format.specs.ElementLengths.{IsKeyLength, IsValueLength}
 use Rattle.bolt_check.specs.Keys.{Key, key_cmp}
-use Rattle.bolt_tree.specs.Entries.{Bucket, Item, Value}
-use Rattle.bolt_tree.specs.Listing.{Member, member_cmp}
-use Rattle.bolt_tree.specs.Order.{Rises}
-use Rattle.bolt_tree.specs.Paths.{Path}
+use Rattle.bolt_tree.specs.{Entries.Bucket, Entries.Item, Entries.Value, Listing.Member, Listing.member_cmp, Order.Rises, Paths.Path}
 use Rattle.bolt_tree.specs.Tree.{Tree, end, listing_of, with_value, with_bucket}
 
 -- the keys of the outermost bucket

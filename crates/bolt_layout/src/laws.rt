@@ -1,24 +1,15 @@
 //! What holds of the layout of a tree: docs/LAYOUT.md, "What holds of both layouts".
 ghost use Rattle.std.specs.Prelude.{◌≡◌, ◌≤◌, ◌<◌, ◌*◌, ◌^◌, ℕ, List, length};
 ghost use Rattle.std.specs.List.{AllByRecursion};
-ghost use Rattle.bolt_format.specs.Elements.{BranchElement, LeafElement};
-ghost use Rattle.bolt_format.specs.Bytes.{IsBytes};
-ghost use Rattle.bolt_format.specs.Metas.{IsPageSize};
-ghost use Rattle.bolt_format.specs.declared.meta.Meta.{Meta};
+ghost use Rattle.bolt_format.specs.{Elements.BranchElement, Elements.LeafElement, Bytes.IsBytes, Metas.IsPageSize, declared.meta.Meta.Meta};
 ghost use Rattle.bolt_check.specs.Sound.{HasSoundTrees};
-ghost use Rattle.bolt_tree.specs.Entries.{IsEntry, Item, Root_page};
-ghost use Rattle.bolt_tree.specs.Listing.{IsListing, Member};
-ghost use Rattle.bolt_tree.specs.Paths.{Holds, Path};
+ghost use Rattle.bolt_tree.specs.{Entries.IsEntry, Entries.Item, Entries.Root_page, Listing.IsListing, Listing.Member, Paths.Holds, Paths.Path};
 ghost use Rattle.bolt_tree.specs.Tree.{IsTreeOf, Tree, listing_of, tree_of};
-ghost use Rattle.bolt_layout.specs.Copies.{IsAsked, IsOfOneTree, IsSoundCopy, RefusesPrefixes, layout_of_listing};
-ghost use Rattle.bolt_layout.specs.Cut.{CutIsOne};
-ghost use Rattle.bolt_layout.specs.Laid.{Laid};
-ghost use Rattle.bolt_layout.specs.Held.{most_held};
+ghost use Rattle.bolt_layout.specs.{Copies.IsAsked, Copies.IsOfOneTree, Copies.IsSoundCopy, Copies.RefusesPrefixes, Copies.layout_of_listing, Cut.CutIsOne};
+ghost use Rattle.bolt_layout.specs.{Laid.Laid, Held.most_held};
 ghost use Rattle.bolt_layout.specs.Layout.{HasTwoIfBranch, layout_held, layout_mark, layout_of, layout_pages, layout_root};
-ghost use Rattle.bolt_layout.specs.Levels.{IsOverflow, TopIsAbove, overflow_of};
-ghost use Rattle.bolt_layout.specs.Storable.{IsFitListing, IsFitMember, IsStorable};
-ghost use Rattle.bolt_layout.specs.declared.layout.Layout.{Layout};
-ghost use Rattle.bolt_layout.specs.declared.layout.Layout.TheVariants.{Balanced};
+ghost use Rattle.bolt_layout.specs.{Levels.IsOverflow, Levels.TopIsAbove, Levels.overflow_of, Storable.IsFitListing, Storable.IsFitMember, Storable.IsStorable};
+ghost use Rattle.bolt_layout.specs.{declared.layout.Layout.Layout, declared.layout.Layout.TheVariants.Balanced};
 
 use bolt_check::laws::sound_trees_pass_the_tests;
 use bolt_tree::laws::{a_tree_is_of_its_listing, a_tree_lists_its_bucket, listing_is_of_a_tree};

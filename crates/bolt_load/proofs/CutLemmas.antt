@@ -1,7 +1,7 @@
 -- A text is cut at a byte as `slice_split` cuts it.
 use Rattle.std.proofs.Common.{◌≡◌, ◌∙◌, ◌==◌, ◌<◌, ℕ, [], ◌∷◌, true, length, ap, arith, length-append}
-use Rattle.bolt_load.proofs.Words.{IsCut, IsWithout, nat_tests, slice_split, slice_split_at, slice_split_none, Text}
 use Rattle.std.proofs.lemmas.List.Splits.{length-slice_split}
+use Rattle.bolt_load.proofs.Words.{IsCut, IsWithout, nat_tests, slice_split, slice_split_at, slice_split_none, Text}
 
 itself : (n : ℕ) → (n == n) ≡ true
 itself n = grind (arith, nat_tests)

@@ -1,18 +1,15 @@
 -- What a file lists has bytes of the file in its keys and its values.
 use Rattle.std.proofs.Common.{◌≡◌, ◌<◌, ◌-◌, ◌==◌, ℕ, Bool, true, false, List, [], ◌∷◌, sym, refl, subst, drop, take, inl, inr, arith}
-use Rattle.bolt_load.proofs.Words.{ArePartsBytes, Bucket, cases_Bool, cases_lt, Contains, IsFitItem, Item, Member, Path, Value}
-use Rattle.std.specs.List.{slice_range}
 use Rattle.std.proofs.lemmas.Bool.{eqb-true}
 use Rattle.std.proofs.lemmas.List.{get_or-take, get_or_past, length-take}
+use Rattle.bolt_load.proofs.Words.{ArePartsBytes, Bucket, cases_Bool, cases_lt, Contains, IsFitItem, Item, Member, Path, Value}
+use Rattle.std.specs.List.{slice_range}
 use Rattle.bolt_format.specs.Bytes.{IsBytes}
 use Rattle.bolt_format.specs.Elements.{IsBucketValue, LeafElement, head_root, head_sequence, inline_bytes, inline_elements, leaf_element, leaf_end, leaf_key_start, leaf_value_start}
-use Rattle.bolt_format.specs.Pages.{span_bytes}
-use Rattle.bolt_format.specs.declared.meta.Meta.{Meta}
-use Rattle.bolt_format.proofs.ElementFacts.{drop_bytes}
-use Rattle.bolt_format.proofs.PageFacts.{bucket_value, flat_inline, in_inline, on_leaf}
+use Rattle.bolt_format.specs.{Pages.span_bytes, declared.meta.Meta.Meta}
+use Rattle.bolt_format.proofs.{ElementFacts.drop_bytes, PageFacts.bucket_value, PageFacts.flat_inline, PageFacts.in_inline, PageFacts.on_leaf}
 use Rattle.bolt_report.specs.JsonReadings.{IsItemOfBytes}
-use Rattle.bolt_tree.specs.Entries.{Inline_page, IsEntry, Root_page, Start, item_of, start_of}
-use Rattle.bolt_tree.specs.Listing.{IsListing}
+use Rattle.bolt_tree.specs.{Entries.Inline_page, Entries.IsEntry, Entries.Root_page, Entries.Start, Entries.item_of, Entries.start_of, Listing.IsListing}
 use Rattle.bolt_tree.specs.Paths.{Holds}
 use Rattle.bolt_layout.specs.Storable.{IsFitMember}
 use Rattle.bolt_load.specs.ByteMembers.{AreOfBytes}

@@ -1,17 +1,14 @@
 -- The buckets of the members so far in which a further member may be are those of the last path: paths rise, and each has its bucket before it.
 use Rattle.std.proofs.Common.{◌≡◌, ◌∙◌, ◌⊎◌, inl, inr, ◌<◌, ◌+◌, ◌-◌, ◌==◌, ◌&&◌, ◌||◌, Bool, true, false, List, [], ◌∷◌, ◌++◌, Option, Some, length, take, drop, slice_get, refl, sym, ap, subst, arith, append_assoc, append-nil, length-append, length-drop}
-use Rattle.std.specs.Cmp.Lexicographic.{pointwise}
-use Rattle.bolt_load.proofs.Words.{and_parts, begins_of, begins_with, bytes_eq, bytes_eq-Decides, fault_after, fault_by, Has, has_bucket, has_split, is_above_last, is_bucket, is_lt, is_open, Item, Key, Less, less_lt, list_any, Member, nat_tests, option_map_or, Path, path_above, path_cmp, path_total, place_fault, take-append-drop}
-use Rattle.std.specs.Prelude.{nat_lt}
 use Rattle.std.proofs.lemmas.Bool.{or_cases}
 use Rattle.std.proofs.lemmas.List.Folds.{list_any-append}
 use Rattle.std.proofs.lemmas.Slice.Eq.{slice_eq-Decides}
 use Rattle.std.proofs.Math.Seq.{take-append-add}
+use Rattle.std.specs.Cmp.Lexicographic.{pointwise}
+use Rattle.std.specs.Prelude.{nat_lt}
+use Rattle.bolt_load.proofs.Words.{and_parts, begins_of, begins_with, bytes_eq, bytes_eq-Decides, fault_after, fault_by, Has, has_bucket, has_split, is_above_last, is_bucket, is_lt, is_open, Item, Key, Less, less_lt, list_any, Member, nat_tests, option_map_or, Path, path_above, path_cmp, path_total, place_fault, take-append-drop}
 use Rattle.bolt_tree.specs.ListingParts.{is_bucket_at}
-use Rattle.bolt_tree.proofs.ListLemmas.{get_behind}
-use Rattle.bolt_tree.proofs.Lists.{asymmetric}
-use Rattle.bolt_tree.proofs.PartLemmas.{begins_by}
-use Rattle.bolt_tree.proofs.PathOrder.{beyond_less, beyond_or_longer}
+use Rattle.bolt_tree.proofs.{ListLemmas.get_behind, Lists.asymmetric, PartLemmas.begins_by, PathOrder.beyond_less, PathOrder.beyond_or_longer}
 
 -- ---- tests
 

@@ -1,8 +1,8 @@
 -- The first line of a text ends at the first line feed, or with the text.
 use Rattle.std.proofs.Common.{◌≡◌, ◌∙◌, ◌==◌, ◌<◌, ℕ, List, [], ◌∷◌, ◌++◌, true, false, length, refl, sym, ap, arith, append_assoc, append-nil}
 use Rattle.bolt_load.proofs.Words.{IsCut, IsFirstLine, IsWithout, lines_of, nat_tests, slice_split, Text}
-use Rattle.bolt_load.specs.Lines.{without_empty_end}
 use Rattle.bolt_load.proofs.CutLemmas.{cut_is_shorter, parts_cut, parts_whole, some_parts}
+use Rattle.bolt_load.specs.Lines.{without_empty_end}
 
 -- before other parts, a part is a line also if it is empty
 first_part : (line : Text) (parts : List Text) → 0 < length parts → without_empty_end (line ∷ parts) ≡ line ∷ without_empty_end parts

@@ -1,8 +1,8 @@
 -- What the words of a line tell, and what their bytes are.
 use Rattle.std.proofs.Common.{◌≡◌, ◌∙◌, ℕ, Bool, true, false, List, [], ◌++◌, Option, Some, None, length, refl, sym, ap, append_assoc, append-nil}
 use Rattle.bolt_load.proofs.Words.{Adds, Bucket, hex_bytes_in, is_long_item, is_long_key, is_some, Item, item_bytes, KeyTooLong, length_fault, line_member, list_any, Member, member_bytes, NotALine, option_and_then, option_map, Path, path_bytes, shape_fault, Text, Value, ValueTooLong}
-use Rattle.std.specs.Prelude.{◌/◌, nat_lt}
 use Rattle.bolt_load.proofs.PathLemmas.{halved}
+use Rattle.std.specs.Prelude.{◌/◌, nat_lt}
 
 abbrev pub member_of : Option Path → Option Item → Option Member
 member_of path item = option_and_then (λ path. option_map (λ item. (path, item)) item) path

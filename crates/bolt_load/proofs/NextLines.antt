@@ -1,9 +1,9 @@
 -- The next line tells the member whose bytes come next.
 use Rattle.std.proofs.Common.{◌≡◌, ◌∙◌, ℕ, List, [], ◌∷◌, ◌++◌, Option, Some, None, length, drop, take, refl, sym, ap, ap₂, subst, arith, append_assoc}
 use Rattle.bolt_load.proofs.Words.{All, AreDecoded, BeginsWith, drop-append_seam, GivesLine, IsFirstLine, IsSome, Item, item_bytes, line_member, lines_of, Member, member_bytes, members_in, Path, path_bytes, take-append-drop, take-append_seam, Text, text_members}
+use Rattle.bolt_load.proofs.MemberLemmas.{member_of}
 use Rattle.std.specs.Prelude.{true, false, suc, IsSomeAnd}
 use Rattle.bolt_load.specs.Private.Decoding.{listing_bytes}
-use Rattle.bolt_load.proofs.MemberLemmas.{member_of}
 
 cancelled : (front a b : List ℕ) → front ++ a ≡ front ++ b → a ≡ b
 cancelled front a b is = sym (drop-append_seam front a) ∙ ap (drop (length front)) is ∙ drop-append_seam front b

@@ -1,8 +1,8 @@
 -- The parts of a path are found again in the bytes that were decoded.
 use Rattle.std.proofs.Common.{◌≡◌, ◌∙◌, ◌≤◌, ℕ, List, [], ◌∷◌, ◌++◌, Option, Some, None, length, take, drop, refl, sym, ap, arith, append_assoc, append-nil, length-append}
 use Rattle.bolt_load.proofs.Words.{BeginsWith, drop-append_seam, hex_bytes_in, hex_path_in, IsCut, IsWithout, item_bytes, Key, option_map, part_in, Path, path_bytes, take-append_seam, Text, Value}
-use Rattle.std.specs.Prelude.{◌/◌, IsSomeAnd}
 use Rattle.bolt_load.proofs.PathLemmas.{first_part, halved, last_part, part_is, path_bytes_push, with_some}
+use Rattle.std.specs.Prelude.{◌/◌, IsSomeAnd}
 
 module _ {A : Type 0} (front after whole : List A) (n : ℕ) (is : whole ≡ front ++ after) (many : n ≡ length front) where
   pub front_fits : n ≤ length whole

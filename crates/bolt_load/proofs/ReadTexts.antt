@@ -3,8 +3,7 @@ use Rattle.std.proofs.Common.{◌≡◌, ◌∙◌, ◌+◌, ℕ, List, [], ◌�
 use Rattle.bolt_load.proofs.Words.{IfSome, IsFirstFault, IsLoadFault, line_member, LineFault, lines_of, members_in, option_and_then, option_or, place_fault, RightAfter, StopsAt, Text}
 use Rattle.std.specs.Option.{IfNone}
 use Rattle.std.specs.Prelude.{IfErr, IsErrAnd, Result, Err, Ok}
-use Rattle.bolt_load.specs.declared.fault.LoadFault.{LoadFault}
-use Rattle.bolt_load.specs.declared.fault.LoadFault.TheVariants.{Line, Memory}
+use Rattle.bolt_load.specs.{declared.fault.LoadFault.LoadFault, declared.fault.LoadFault.TheVariants.Line, declared.fault.LoadFault.TheVariants.Memory}
 
 module _ (text decoded : Text) where
   goes_on : (fault : Option LineFault) → IfNone fault (decoded ≡ text) → IfSome fault (StopsAt text decoded) → (more : List Text) × (lines_of text ≡ lines_of decoded ++ more)

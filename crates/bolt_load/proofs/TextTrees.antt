@@ -1,14 +1,13 @@
 -- What the lines of a text tell is what one tree lists: each member is put at the end of its bucket.
 use Rattle.std.proofs.Common.{◌≡◌, ◌∙◌, inl, inr, ◌<◌, ◌==◌, ◌||◌, Bool, true, false, List, [], ◌∷◌, ◌++◌, Option, Some, None, drop, length, refl, sym, ap, ap₂, subst, arith, append_assoc, append-nil}
 use Rattle.bolt_load.proofs.Words.{and_parts, begins_of, begins_with, Bucket, contains_from_has, end, Has, has_bucket, has_from_contains, has_split, is_bucket, is_lt, is_open, IsListingText, Item, Less, less_lt, line_member, LineFault, lines_of, listing_of, Member, member_cmp, members_in, nat_tests, option_and_then, option_or, Path, path_above, path_cmp, path_total, place_fault, RightAfter, Rises, shape_fault, Text, text_members, Tree, Value}
-use Rattle.std.specs.Prelude.{nat_lt}
-use Rattle.std.specs.declared.cmp.Ordering.{Ordering}
-use Rattle.bolt_tree.proofs.Lists.{contains_none}
 use Rattle.bolt_load.proofs.DecodedLines.{member_alone, shaped_member}
 use Rattle.bolt_load.proofs.EdgeTrees.{OnEdge, front_on_edge, new_on_edge, put_last, put_lists}
 use Rattle.bolt_load.proofs.LastPaths.{IsLast, above_append, next_last, none_last, place_same, split_last}
-use Rattle.bolt_load.proofs.NextLines.{members_first}
-use Rattle.bolt_load.proofs.PlacedLines.{fault_parts, line_path_some}
+use Rattle.bolt_load.proofs.{NextLines.members_first, PlacedLines.fault_parts, PlacedLines.line_path_some}
+use Rattle.std.specs.Prelude.{nat_lt}
+use Rattle.std.specs.declared.cmp.Ordering.{Ordering}
+use Rattle.bolt_tree.proofs.Lists.{contains_none}
 
 -- ---- lists that rise
 

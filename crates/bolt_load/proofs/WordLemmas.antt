@@ -1,9 +1,9 @@
 -- A line of three words tells the member of these words, and no other line tells one.
 use Rattle.std.proofs.Common.{◌≡◌, ◌∙◌, ◌==◌, ◌<◌, List, [], ◌∷◌, Option, Some, None, true, false, length, refl, ap, arith}
 use Rattle.bolt_load.proofs.Words.{hex_path_in, is_some, IsCut, IsWithout, Item, item_in, line_member, Member, member_in, option_and_then, option_map, Path, slice_split, Text}
+use Rattle.bolt_load.proofs.CutLemmas.{parts_cut, parts_whole, some_parts}
 use Rattle.std.specs.Borrow.{Bor}
 use Rattle.std.specs.Prelude.{MatchOption}
-use Rattle.bolt_load.proofs.CutLemmas.{parts_cut, parts_whole, some_parts}
 
 pub one_word : (line : Text) → IsWithout 32 line → line_member line ≡ None
 unfolding line_member

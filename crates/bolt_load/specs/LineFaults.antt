@@ -4,15 +4,9 @@ use Rattle.std.specs.List.{list_any}
 use Rattle.std.specs.Option.{option_map_or, option_or}
 use Rattle.std.specs.Ordering.{is_lt}
 use Rattle.bolt_check.specs.Keys.{Key}
-use Rattle.bolt_tree.specs.Entries.{Bucket, Item, Value}
-use Rattle.bolt_tree.specs.Listing.{Member}
-use Rattle.bolt_tree.specs.ListingParts.{has_bucket}
-use Rattle.bolt_tree.specs.Paths.{Path, path_cmp}
-use Rattle.bolt_load.specs.LineMembers.{line_member, members_in}
-use Rattle.bolt_load.specs.Lines.{Text, lines_of}
-use Rattle.bolt_load.specs.declared.fault.LineFault.{LineFault}
-use Rattle.bolt_load.specs.declared.fault.LoadFault.{LoadFault}
-use Rattle.bolt_load.specs.declared.fault.LoadFault.TheVariants.{Line, Memory}
+use Rattle.bolt_tree.specs.{Entries.Bucket, Entries.Item, Entries.Value, Listing.Member, ListingParts.has_bucket, Paths.Path, Paths.path_cmp}
+use Rattle.bolt_load.specs.{LineMembers.line_member, LineMembers.members_in, Lines.Text, Lines.lines_of, declared.fault.LineFault.LineFault}
+use Rattle.bolt_load.specs.{declared.fault.LoadFault.LoadFault, declared.fault.LoadFault.TheVariants.Line, declared.fault.LoadFault.TheVariants.Memory}
 use Rattle.bolt_load.specs.declared.fault.LineFault.TheVariants.{KeyTooLong, NoBucketAbove, NotALine, PathNotRising, ValueTooLong}
 
 -- more bytes than a key can have, or a value

@@ -2,11 +2,8 @@
 use Rattle.std.specs.Prelude.{◌==◌, List, [], ◌∷◌, Option, None, codes, option_and_then, option_map, if◌then◌else◌}
 use Rattle.std.specs.List.{filter_map, slice_split}
 use Rattle.std.specs.Str.{bytes_eq}
-use Rattle.bolt_tree.specs.Entries.{Bucket, Item, Value}
-use Rattle.bolt_tree.specs.Listing.{Member}
-use Rattle.bolt_load.specs.HexPaths.{hex_bytes_in, hex_path_in}
-use Rattle.bolt_load.specs.Lines.{Text, lines_of}
-use Rattle.bolt_load.specs.Numbers.{number_in}
+use Rattle.bolt_tree.specs.{Entries.Bucket, Entries.Item, Entries.Value, Listing.Member}
+use Rattle.bolt_load.specs.{HexPaths.hex_bytes_in, HexPaths.hex_path_in, Lines.Text, Lines.lines_of, Numbers.number_in}
 
 -- a value in hexadecimal after `=`, or the sequence of a bucket after `bucket`
 abbrev pub item_in : (mark word : Text) → Option Item

@@ -1,15 +1,13 @@
 //! Decodes what a text has in hexadecimal.
 ghost use Rattle.std.specs.Prelude.{◌≡◌, ◌++◌, ◌∷◌, All, IfNone, IfOk, IfSome, OnOk, List, None, Some, is_some, option_map, ◌<◌, ◌*◌, MatchResult, false, length, true};
 ghost use Rattle.std.specs.List.{list_any};
-ghost use Rattle.bolt_tree.specs.Paths.{Path};
-ghost use Rattle.bolt_load.specs.HexPaths.{hex_bytes_in, hex_path_in, part_in};
-ghost use Rattle.bolt_load.specs.LineFaults.{is_long_key, shape_fault};
-ghost use Rattle.bolt_load.specs.LineMembers.{line_member};
-ghost use Rattle.bolt_load.specs.Lines.{Text, lines_of};
-ghost use Rattle.bolt_load.specs.Private.Decoding.{Adds, AreDecoded, StopsAt, member_bytes, path_bytes};
-ghost use Rattle.bolt_load.specs.Private.LineWords.{word_item, words_member};
 ghost use Rattle.std.specs.Bool.{OnTrue};
 ghost use Rattle.std.specs.Char.{is_ascii_hexdigit};
+ghost use Rattle.bolt_tree.specs.Paths.{Path};
+ghost use Rattle.bolt_load.specs.{HexPaths.hex_bytes_in, HexPaths.hex_path_in, HexPaths.part_in, LineFaults.is_long_key, LineFaults.shape_fault};
+ghost use Rattle.bolt_load.specs.{LineMembers.line_member, Lines.Text, Lines.lines_of};
+ghost use Rattle.bolt_load.specs.Private.Decoding.{Adds, AreDecoded, StopsAt, member_bytes, path_bytes};
+ghost use Rattle.bolt_load.specs.Private.LineWords.{word_item, words_member};
 ghost use Rattle.hex.specs.Hex.{decode_sized, hex_digit_value};
 ghost use Rattle.bolt_tree.specs.Entries as entries;
 ghost use Rattle.bolt_load.specs.LineFaults as faults;

@@ -1,17 +1,11 @@
 //! What the definitions of a listing's text imply.
 ghost use Rattle.std.specs.Prelude.{◌≡◌, ℕ, List};
-ghost use Rattle.bolt_format.specs.Bytes.{IsBytes};
-ghost use Rattle.bolt_format.specs.declared.meta.Meta.{Meta};
+ghost use Rattle.bolt_format.specs.{Bytes.IsBytes, declared.meta.Meta.Meta};
 ghost use Rattle.bolt_layout.specs.Copies.{IsOfOneTree};
 ghost use Rattle.bolt_report.specs.ListLines.{listing_text};
-ghost use Rattle.bolt_tree.specs.Listing.{IsListing, Member, member_cmp};
-ghost use Rattle.bolt_tree.specs.Order.{Rises};
-ghost use Rattle.bolt_load.specs.ByteMembers.{AreOfBytes};
-ghost use Rattle.bolt_load.specs.LineFaults.{IsFirstFault, IsListingText};
-ghost use Rattle.bolt_load.specs.LineMembers.{text_members};
-ghost use Rattle.bolt_load.specs.Lines.{Text};
-ghost use Rattle.bolt_load.specs.PlainTexts.{plain_text};
-ghost use Rattle.bolt_load.specs.declared.fault.LineFault.{LineFault};
+ghost use Rattle.bolt_tree.specs.{Listing.IsListing, Listing.Member, Listing.member_cmp, Order.Rises};
+ghost use Rattle.bolt_load.specs.{ByteMembers.AreOfBytes, LineFaults.IsFirstFault, LineFaults.IsListingText, LineMembers.text_members, Lines.Text};
+ghost use Rattle.bolt_load.specs.{PlainTexts.plain_text, declared.fault.LineFault.LineFault};
 
 use bolt_layout::laws::{a_fit_listing_is_of_one_tree, held_members_fit};
 

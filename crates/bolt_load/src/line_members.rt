@@ -1,12 +1,8 @@
 //! The members that the lines of a text tell.
 ghost use Rattle.std.specs.Option.{option_map};
 ghost use Rattle.std.specs.Prelude.{◌≡◌, ◌<◌, ◌++◌, [], IfOk, IfNone, IfSome, IsSomeAnd, OnErr, Some, length};
-ghost use Rattle.bolt_tree.specs.Paths.{Path, path_of};
-ghost use Rattle.bolt_tree.specs.ShownEntries.{item_view};
-ghost use Rattle.bolt_tree.specs.Walks.{GivesNext};
-ghost use Rattle.bolt_load.specs.HexPaths.{hex_path_in};
-ghost use Rattle.bolt_load.specs.LineMembers.{text_members};
-ghost use Rattle.bolt_load.specs.Lines.{lines_of};
+ghost use Rattle.bolt_tree.specs.{Paths.Path, Paths.path_of, ShownEntries.item_view, Walks.GivesNext};
+ghost use Rattle.bolt_load.specs.{HexPaths.hex_path_in, LineMembers.text_members, Lines.lines_of};
 ghost use Rattle.bolt_load.specs.Private.Decoding.{AreDecoded, BeginsWith, GivesLine, item_bytes, path_bytes};
 ghost use Rattle.bolt_load.specs.Private.LineWords.{word_item};
 

@@ -1,9 +1,7 @@
 //! The words of a line.
 ghost use Rattle.std.specs.Prelude.{◌≡◌, option_and_then, option_map, ◌∷◌, [], MatchOption};
 ghost use Rattle.bolt_tree.specs.Entries.{Bucket};
-ghost use Rattle.bolt_load.specs.LineMembers.{item_in, line_member};
-ghost use Rattle.bolt_load.specs.Numbers.{number_in};
-ghost use Rattle.bolt_load.specs.Private.LineWords.{word_item, words_member};
+ghost use Rattle.bolt_load.specs.{LineMembers.item_in, LineMembers.line_member, Numbers.number_in, Private.LineWords.word_item, Private.LineWords.words_member};
 ghost use Rattle.bolt_load.specs.Private.Cuts.{IsCut, IsFirstLine, IsWithout};
 
 use memchr::memchr;

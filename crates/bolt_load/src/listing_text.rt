@@ -1,8 +1,6 @@
 //! The text of a listing.
 ghost use Rattle.std.specs.Prelude.{◌≡◌, [], IfErr, IfOk, OnOk};
-ghost use Rattle.bolt_load.specs.LineFaults.{IsListingText, IsLoadFault};
-ghost use Rattle.bolt_load.specs.Lines.{lines_of};
-ghost use Rattle.bolt_load.specs.Private.Decoding.{AreDecoded};
+ghost use Rattle.bolt_load.specs.{LineFaults.IsListingText, LineFaults.IsLoadFault, Lines.lines_of, Private.Decoding.AreDecoded};
 
 use crate::decode::decode;
 use crate::fault::LoadFault;

@@ -2,12 +2,9 @@
 ghost use Rattle.std.specs.List.{All};
 ghost use Rattle.std.specs.Ordering.{is_lt};
 ghost use Rattle.std.specs.Prelude.{◌≡◌, ◌<◌, ◌≤◌, [], IfErr, IfOk, OnOk, None, length};
-ghost use Rattle.bolt_tree.specs.ListingParts.{begins_with};
-ghost use Rattle.bolt_tree.specs.Paths.{path_cmp, path_of};
+ghost use Rattle.bolt_tree.specs.{ListingParts.begins_with, Paths.path_cmp, Paths.path_of};
 ghost use Rattle.bolt_load.specs.LineFaults as faults;
-ghost use Rattle.bolt_load.specs.LineFaults.{IsLoadFault, RightAfter, shape_fault};
-ghost use Rattle.bolt_load.specs.Lines.{lines_of};
-ghost use Rattle.bolt_load.specs.Private.Decoding.{AreDecoded};
+ghost use Rattle.bolt_load.specs.{LineFaults.IsLoadFault, LineFaults.RightAfter, LineFaults.shape_fault, Lines.lines_of, Private.Decoding.AreDecoded};
 ghost use Rattle.bolt_load.specs.Private.OpenPaths.{fault_after};
 ghost use Rattle.bolt_load.specs.Private.OpenPaths as open_paths;
 

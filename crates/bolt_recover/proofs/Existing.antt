@@ -1,10 +1,7 @@
 -- Each file has a survey, one recovered listing and losses, under each meta: a run from the root page returns that listing.
 use Rattle.std.proofs.Common.{◌≡◌, [], ℕ, List, refl, subst, sym}
 use Rattle.bolt_recover.proofs.Words.{AreLosses, further, IsRecovered, IsRecoveredMember, IsSurvey, losses_of, LossView, Member, member_total, Meta, rises_once, RunsAll, Visit, Visited, Way}
-use Rattle.bolt_recover.proofs.RunExists.{run_exists}
-use Rattle.bolt_recover.proofs.RunOrder.{visits_of}
-use Rattle.bolt_recover.proofs.RunPaths.{members_rise}
-use Rattle.bolt_recover.proofs.RunSurveys.{all_members, surveyed}
+use Rattle.bolt_recover.proofs.{RunExists.run_exists, RunOrder.visits_of, RunPaths.members_rise, RunSurveys.all_members, RunSurveys.surveyed}
 use Rattle.bolt_recover.proofs.SurveyIsOne.{same_survey}
 
 pub recovers : (file : List ℕ) (meta : Meta) (visits : List (Visited Way)) (members : List Member) → RunsAll file meta further [] visits members → IsRecovered file meta members

@@ -1,8 +1,7 @@
 -- The first loss is the first finding: all preceding ways are kept, so the tests there look at all preceding ways.
 use Rattle.std.proofs.Common.{◌≡◌, ℕ, inl, inr, List, [], ◌∷◌, ◌++◌, Option, Some, None}
 use Rattle.bolt_recover.proofs.Words.{Before, before_trans, Finding, follow, Has, IsClaimedBefore, IsClaimedIn, IsFirst, IsMetaPage, Nodes, passes_silent, Spot, Surveys, tests_same, Visit}
-use Rattle.bolt_recover.proofs.KeptWays.{claimed_in, kept_passes}
-use Rattle.bolt_recover.proofs.SoundSurveys.{claimed_before}
+use Rattle.bolt_recover.proofs.{KeptWays.claimed_in, KeptWays.kept_passes, SoundSurveys.claimed_before}
 
 -- what begins a way before another comes before it too
 begin_before : (front rest way : List ℕ) → Before (front ++ rest) way → Before front way

@@ -3,11 +3,8 @@ use Rattle.std.proofs.Common.{◌≡◌, ◌∙◌, ◌↔◌, ◌⊎◌, ◌+�
 use Rattle.bolt_recover.proofs.Words.{AreFound, AreKeptPages, AreLosses, At_page, claims_meta, claims_of, Contains, contains_cases, contains_head, contains_none, contains_tail, done, Finding, FoundBelow, further, Has, HasSoundTrees, IsFoundPage, IsKeptPage, IsListedFree, IsLoneLeaf, IsMetaPage, IsRecovered, IsSurvey, kept, LosesNothing, LosesRoot, lost, Member, Meta, meta_pages, nat_tests, node_at, node_below, props, Recovery, recovery_meta, root_place, root_spot, RunsAll, SpanAt, Visit, visit, ∥∥₁_elim}
 use Rattle.bolt_recover.proofs.Existing.{has_survey, one_recovered, recovers}
 use Rattle.bolt_recover.proofs.FoundLemmas.{found_one, found_same, passed}
-use Rattle.bolt_recover.proofs.Deciding.{Decided, decided_as, decided_by, either_decided, lowest}
-use Rattle.bolt_recover.proofs.LostWays.{nothing_lost}
-use Rattle.bolt_recover.proofs.NothingLost.{sound}
-use Rattle.bolt_recover.proofs.Recovering.{claimed_all, claimed_at_end}
-use Rattle.bolt_recover.proofs.RunSurveys.{claims_in, surveyed}
+use Rattle.bolt_recover.proofs.{Deciding.Decided, Deciding.decided_as, Deciding.decided_by, Deciding.either_decided, Deciding.lowest, LostWays.nothing_lost}
+use Rattle.bolt_recover.proofs.{NothingLost.sound, Recovering.claimed_all, Recovering.claimed_at_end, RunSurveys.claims_in, RunSurveys.surveyed}
 use Rattle.bolt_recover.proofs.SurveyIsOne.{gives_same, same_survey}
 
 pub if_ok : {X E : Type 0} {P Q : X → Type 0} (result : Result X E) → ((x : X) → P x → Q x) → IfOk result P → IfOk result Q

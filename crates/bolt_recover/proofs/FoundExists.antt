@@ -1,11 +1,10 @@
 -- Each file has found pages: whether a page is found can be told.
 use Rattle.std.proofs.Common.{◌≡◌, ◌∙◌, ◌≢◌, ◌⊎◌, ◌+◌, ◌≤◌, true, inl, inr, ℕ, zero, suc, List, [], ◌∷◌, ◌++◌, Option, Some, None, Result, Ok, Err, refl, sym, ap, subst, arith}
 use Rattle.bolt_recover.proofs.Words.{AreFound, cases_lt, early_finding, Entry, Finding, FoundBelow, IsFoundNext, IsFoundPage, IsKeptPage, IsListedFree, IsLoneLeaf, IsSurvey, Meta, Node, node_at, node_finding, Nodes, root_spot, Visit}
+use Rattle.bolt_recover.proofs.{Existing.has_survey, FoundAll.are_none, FoundAll.are_some, FoundAll.either_or_not, FoundAll.lost_or_none}
+use Rattle.bolt_recover.proofs.Deciding.{Decided, both_decided, decided_as, decided_by, lowest, not_decided}
 use Rattle.bolt_format.specs.Freelists.{free_ids_of, freelist_fault_of}
 use Rattle.bolt_check.specs.Accounts.{times_in}
-use Rattle.bolt_recover.proofs.Existing.{has_survey}
-use Rattle.bolt_recover.proofs.FoundAll.{are_none, are_some, either_or_not, lost_or_none}
-use Rattle.bolt_recover.proofs.Deciding.{Decided, both_decided, decided_as, decided_by, lowest, not_decided}
 
 nothing_or_not : (o : Option Finding) → Decided (o ≡ None)
 nothing_or_not None = inl refl

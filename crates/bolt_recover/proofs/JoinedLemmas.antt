@@ -1,13 +1,9 @@
 -- The joined listing is the recovered one with the bucket of what is found in its place.
 use Rattle.std.proofs.Common.{◌≡◌, ◌∙◌, ◌⊎◌, inl, inr, ℕ, Bool, true, false, not, List, [], ◌∷◌, ◌++◌, filter, map, refl, sym, ap, subst}
 use Rattle.bolt_recover.proofs.Words.{append-nil, AreFound, Bucket, cases_Bool, Contains, Contains-append_cases, contains_cases, contains_head, contains_tail, end, Equal, filter-append, filter_all, filter_none, first_cmp, found_tree, further, Greater, is_eq, is_found_path, is_lt, IsJoined, IsRecovered, joined_listing, key_cmp, key_lt, key_total, LacksBucketKey, LeafElement, leaves_of, Less, less_of, listing_below, listing_of, lost_and_found, Member, member_cmp, member_total, Meta, Ordering, page_at, Path, path_cmp, put_bucket, put_members, Rises, Tree, tree_of, Value, with_bucket, with_value}
+use Rattle.bolt_recover.proofs.{Existing.has_recovered, Existing.one_recovered, Existing.recovers, FoundAll.one_found, FoundExists.has_found}
+use Rattle.bolt_recover.proofs.{RunExists.run_exists, RunTrees.run_tree, TreeOrder.Ordered, TreeOrder.ordered_rises, TreeOrder.rises_both, TreeOrder.under}
 use Rattle.bolt_tree.proofs.ReadBack.{tree_back}
-use Rattle.bolt_recover.proofs.Existing.{has_recovered, one_recovered, recovers}
-use Rattle.bolt_recover.proofs.FoundAll.{one_found}
-use Rattle.bolt_recover.proofs.FoundExists.{has_found}
-use Rattle.bolt_recover.proofs.RunExists.{run_exists}
-use Rattle.bolt_recover.proofs.RunTrees.{run_tree}
-use Rattle.bolt_recover.proofs.TreeOrder.{Ordered, ordered_rises, rises_both, under}
 
 abbrev pub stays : Member → Bool
 stays m = not (is_found_path m.0)

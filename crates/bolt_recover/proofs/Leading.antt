@@ -2,9 +2,7 @@
 use Rattle.std.proofs.Common.{◌≡◌, ◌∙◌, ℕ, ◌<◌, Bool, true, false, List, Option, Some, None, Ok, IfSome, length, slice_get, refl, sym, ap, arith, inl, inr}
 use Rattle.bolt_recover.proofs.Words.{At_inline, content_place, Entry, Key, LeafElement, length-leaf, Meta, node_at, option_map, Page, page_spot, PageSpot, Path, place_on, shown, shown_node, slice_get_cases, spot_at, spot_place, step_entry, step_on, step_path, step_place, tree_kind, TreePage}
 use Rattle.bolt_format.proofs.PageLaws.{length-shown_leaves}
-use Rattle.bolt_check.specs.ShownSpots.{IsInner}
-use Rattle.bolt_check.specs.declared.spot.PageSpot.{PageSpot as CodePageSpot}
-use Rattle.bolt_check.specs.declared.spot.Spot.{Spot}
+use Rattle.bolt_check.specs.{ShownSpots.IsInner, declared.spot.PageSpot.PageSpot as CodePageSpot, declared.spot.Spot.Spot}
 use Rattle.bolt_check.specs.declared.spot.Spot.TheVariants as spots
 
 -- only an element of a leaf leads to an inline bucket

@@ -1,18 +1,12 @@
 -- A recovery between its calls: what of the recovered listing is left, and which losses are still to be reported.
 use Rattle.std.proofs.Common.{◌≡◌, ◌∙◌, ◌≤◌, ◌<◌, ◌^◌, inl, inr, ℕ, Bool, true, false, ◌↔◌, List, [], ◌∷◌, ◌++◌, length, take, Option, Some, None, Result, Ok, Err, IfErr, IfOk, OnErr, filter, if◌then◌else◌, refl, sym, ap, subst, arith, append_assoc}
 use Rattle.bolt_recover.proofs.Words.{Accounts, Advances, after_visit, after_visits, ahead_tasks, All-contains, All-contains_itself, All-filter, append-nil, AreFirst, AreKeptPages, AreLosses, AreOpen, ArePageWays, cases_Bool, ComesTo, Contains, contains_cases, contains_head, Content, counted, Ends, filter_all, filter_first, filter_passes, filter_rises, flip_less, further, GivesHead, GoesOn, HasOpen, is_lt, is_over, IsAllLeft, IsGoodContent, IsGoodPage, IsKeptPage, IsLeft, IsOn, IsRecovered, IsRefusedRoot, IsSlotUnrecoverable, IsSurvey, IsUnrecoverable, item_of, Key, leaf_view, LeafElement, left_by, less_lt, losses_of, LossView, lost_at, lt_of, Member, member_cmp, member_total, Memory, Meta, NextVisit, node_at, Nodes, not_lt_of, NoWay, Open, open_tasks, OpenPage, Outcome, outcome_of, over_by, Page, page_ways, Path, path_cmp, path_total, props, reached, rest_after, Rises, Runs, RunsAll, State, stay, StaysOn, Structure, take-append-le, take_all, tally_of, Task, tied_itself, Visit, Visited, Way}
+use Rattle.bolt_recover.proofs.{Existing.one_recovered, Existing.recovers, RunExists.run_exists, RunOrder.visits_of, RunSteps.ends}
+use Rattle.bolt_recover.proofs.{RunSurveys.all_claimed, RunSurveys.surveyed, RunSurveys.tally, SurveyIsOne.same_survey}
 use Rattle.bolt_tree.proofs.Filters.{kept as passing}
-use Rattle.bolt_format.specs.declared.element.Leaf.{Leaf}
+use Rattle.bolt_format.specs.{declared.element.Leaf.Leaf, Metas.IsChosen, Metas.IsInSlot, declared.meta.Slot.Slot}
 use Rattle.bolt_check.specs.declared.fault.CheckFault.{CheckFault}
-use Rattle.bolt_format.specs.Metas.{IsChosen, IsInSlot}
-use Rattle.bolt_format.specs.declared.meta.Slot.{Slot}
 use Rattle.bolt_recover.specs.declared.content.Content.TheVariants.{Bucket}
-use Rattle.bolt_recover.proofs.Existing.{one_recovered, recovers}
-use Rattle.bolt_recover.proofs.RunExists.{run_exists}
-use Rattle.bolt_recover.proofs.RunOrder.{visits_of}
-use Rattle.bolt_recover.proofs.RunSteps.{ends}
-use Rattle.bolt_recover.proofs.RunSurveys.{all_claimed, surveyed, tally}
-use Rattle.bolt_recover.proofs.SurveyIsOne.{same_survey}
 
 -- that pages are open in good order is known or not, and no more
 content_prop : (file : List ℕ) (meta : Meta) (content : Content) (x y : IsGoodContent file meta content) → x ≡ y

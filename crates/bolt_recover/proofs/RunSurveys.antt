@@ -1,12 +1,12 @@
 -- What a run visits is a survey, and what it returns are the elements at the kept ways.
 use Rattle.std.proofs.Common.{◌≡◌, ◌∙◌, ◌⊎◌, ◌↔◌, ◌≤◌, ◌<◌, inl, inr, ℕ, ◌+◌, Bool, true, ◌||◌, ◌&&◌, List, [], ◌∷◌, ◌++◌, length, nat_le, Option, Some, None, Result, Ok, Err, refl, sym, ap, subst, arith, append_assoc, cond}
 use Rattle.bolt_recover.proofs.Words.{after_visit, after_visits, and_parts, append-nil, At_inline, At_page, claimed_after, claims_of, Contains, contains_at, contains_cases, contains_head, contains_none, contains_tail, counted, done, false≢true, Finding, further, give, Gives, Has, has_left, has_right, has_split, in_span, is_at_page, IsClaimedIn, IsKeptPage, IsMetaPage, IsOpen, IsRecoveredMember, IsSurvey, Item, item_of, kept, LeafElement, loss_at, losses_of, LossView, lost_at, Member, Meta, meta_pages, nat_tests, Node, node_at, Nodes, or_cases, or_left, or_right, Outcome, outcome_of, page_visit, page_ways, Passes, Path, Place, place_at, place_size, Reach, reached, root_place, Runs, RunsAll, span_of, SpanAt, SpanHas, SpanOf, Spot, step_place, sum_by-cons, Task, tasks_after, To_give, To_visit, Visit, visit, Visited, Way}
-use Rattle.bolt_check.specs.Tours.{Rises}
-use Rattle.bolt_tree.proofs.ListLemmas.{Has as Among}
 use Rattle.bolt_recover.proofs.PlaceFacts.{elements_is, leads_within, place_further, place_is, size_enough, slice_of, spot_is, step_spot}
 use Rattle.bolt_recover.proofs.RunOrder.{rises_run, visits_of}
 use Rattle.bolt_recover.proofs.SurveyIsOne.{Suffix, earlier, gives_same, next_suffix, ways}
 use Rattle.bolt_recover.proofs.TaskLists.{IsAt, after_at, at_from}
+use Rattle.bolt_check.specs.Tours.{Rises}
+use Rattle.bolt_tree.proofs.ListLemmas.{Has as Among}
 
 -- the claims of a spot are its span
 span_in : (r : Result Node ℕ) (number n : ℕ) → (in_span r number n ≡ true) ↔ SpanOf r number n

@@ -1,9 +1,7 @@
 -- What a run returns is what a tree lists: each place that is visited comes to a tree, in which a bucket holds what its own place comes to.
 use Rattle.std.proofs.Common.{◌≡◌, ◌∙◌, inl, inr, ℕ, zero, suc, Bool, true, List, [], ◌∷◌, ◌++◌, Option, Some, None, slice_get, refl, sym, ap, subst, append_assoc}
 use Rattle.bolt_recover.proofs.Words.{append-nil, Bucket, cases_Bool, done, Each, end, entry_tasks, Finding, give, Gives, gives_at, head_sequence, Item, item_of, Key, LeafElement, listing_below, listing_of, Member, Meta, node_at, none-some, Path, Place, root_place, Runs, RunsAll, same_Some, step_place, Task, tasks_after, tasks_from, To_give, To_visit, Tree, Value, visit, Visited, visits_at, with_bucket, with_value}
-use Rattle.bolt_recover.proofs.PlaceKeys.{Keyed, keyed}
-use Rattle.bolt_recover.proofs.PlaceSteps.{IsTidy}
-use Rattle.bolt_recover.proofs.RunPaths.{IsTidyTask, root_tidy, tidy_after}
+use Rattle.bolt_recover.proofs.{PlaceKeys.Keyed, PlaceKeys.keyed, PlaceSteps.IsTidy, RunPaths.IsTidyTask, RunPaths.root_tidy, RunPaths.tidy_after}
 
 -- one tree after another
 abbrev both : Tree → Tree → Tree

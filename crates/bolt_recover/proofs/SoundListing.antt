@@ -1,12 +1,11 @@
 -- If nothing is lost, each way is kept, and what a path holds is an element at a way.
 use Rattle.std.proofs.Common.{◌≡◌, ◌∙◌, ◌⊎◌, inl, inr, ℕ, suc, Bool, true, false, IsTrue, eqb, eqb-true, List, [], ◌∷◌, ◌++◌, Option, Some, None, Result, Ok, Err, slice_get, refl, sym, ap, subst, append_assoc}
 use Rattle.bolt_recover.proofs.Words.{At_inline, At_page, cases_Bool, child_in, child_of, child_spot, Contains, contains_at, Entry, Has, HasSoundTrees, head_root, Holds, inline_elements, Inline_page, IsEntry, IsListing, IsRecovered, IsRecoveredMember, Item, item_of, kept, Key, leads, leads_none, leaf_node, LeafElement, leaves_of, Member, Meta, Node, node_at, Nodes, none-some, page_at, PageSpot, Path, Place, place_at, reached, Root_page, root_place, root_spot, same_Some, ShowsEntry, Spot, Start, start_of, step_place, upper_from, Visit}
-use Rattle.bolt_tree.proofs.BucketWays.{flat}
 use Rattle.bolt_recover.proofs.PlaceFacts.{place_further, slice_of, spot_is}
 use Rattle.bolt_recover.proofs.HeldMembers.{held, shows_entry, well_at}
 use Rattle.bolt_recover.proofs.PlaceSteps.{IsBranchPage, IsLeafPage, IsTidy, IsTidyAt, bucket_place, on_page}
-use Rattle.bolt_recover.proofs.NothingLost.{all_kept}
-use Rattle.bolt_recover.proofs.SoundSurveys.{none_lost}
+use Rattle.bolt_recover.proofs.{NothingLost.all_kept, SoundSurveys.none_lost}
+use Rattle.bolt_tree.proofs.BucketWays.{flat}
 
 module _ (file : List ℕ) (meta : Meta) where
   abbrev nodes : Nodes

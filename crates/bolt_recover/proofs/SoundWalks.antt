@@ -1,16 +1,10 @@
 -- The walk over sound trees returns what is recovered of them, and nothing of them is lost.
 use Rattle.std.proofs.Common.{◌≡◌, ◌∙◌, ℕ, Err, IfOk, List, Ok, OnErr, Option, Result, [], inl, refl, sym}
 use Rattle.bolt_recover.proofs.Words.{All-nil, AreLosses, At_page, bytes_of, Checked, ForRecovered, Found, GivesNext, HasSoundTrees, IsClaimedBefore, IsFoundView, IsListing, IsMetaPage, IsRecovered, IsSearched, item_view, KeepsRoot, left_of, LossView, Member, Meta, meta_of, node_at, option_map, passes_fewer, props, reached, root_spot, shape_passes, Sound, walk_checked, walk_path, ∥∥₁_elim, ∥∥₁_map}
-use Rattle.bolt_check.proofs.CheckedLemmas.{checked_trees}
-use Rattle.bolt_tree.specs.FileListings.{ForListing}
-use Rattle.bolt_tree.specs.declared.entry.Item.{Item}
-use Rattle.bolt_tree.specs.declared.walk.Walk.{Walk}
-use Rattle.bolt_recover.proofs.FoundAll.{are_none}
-use Rattle.bolt_recover.proofs.Existing.{has_survey}
-use Rattle.bolt_recover.proofs.JoinSteps.{gives_prop}
-use Rattle.bolt_recover.proofs.LostWays.{no_losses}
-use Rattle.bolt_recover.proofs.SoundListing.{sound_listing}
+use Rattle.bolt_recover.proofs.{FoundAll.are_none, Existing.has_survey, JoinSteps.gives_prop, LostWays.no_losses, SoundListing.sound_listing}
 use Rattle.bolt_recover.proofs.SoundSurveys.{none_lost}
+use Rattle.bolt_check.proofs.CheckedLemmas.{checked_trees}
+use Rattle.bolt_tree.specs.{FileListings.ForListing, declared.entry.Item.Item, declared.walk.Walk.Walk}
 
 pub no_loss : (file : List ℕ) (meta : Meta) (losses : List LossView) → HasSoundTrees file meta → AreLosses file meta losses → losses ≡ []
 no_loss file meta losses trees (survey, is, are) =

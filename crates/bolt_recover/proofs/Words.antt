@@ -2,54 +2,38 @@
 pub use Rattle.bolt_check.proofs.ClaimLemmas.{claims_bytes, counted_none, visited_fits}
 pub use Rattle.bolt_check.proofs.Judging.{passes_fewer, passes_silent, span_spot, tests_same}
 pub use Rattle.bolt_check.proofs.KeyLaws.{below_less, from_more, less_of, lt_not_trans, lt_trans, not_true}
-pub use Rattle.bolt_check.proofs.KeyOrder.{key_each, key_rise}
-pub use Rattle.bolt_check.proofs.Lawful.{shape_passes, sound_reports_nothing}
-pub use Rattle.bolt_check.proofs.MarkLemmas.{node_below, node_within}
-pub use Rattle.bolt_check.proofs.NodeLemmas.{length-leaf}
-pub use Rattle.bolt_check.proofs.Shaping.{finding_none, shape_of}
-pub use Rattle.bolt_check.proofs.Visited.{passed_on}
-pub use Rattle.bolt_check.proofs.WayFacts.{follow_append, key_at, leads_none, leaf_node}
+pub use Rattle.bolt_check.proofs.{KeyOrder.key_each, KeyOrder.key_rise, Lawful.shape_passes, Lawful.sound_reports_nothing}
+pub use Rattle.bolt_check.proofs.{MarkLemmas.node_below, MarkLemmas.node_within, NodeLemmas.length-leaf, Shaping.finding_none, Shaping.shape_of}
+pub use Rattle.bolt_check.proofs.{Visited.passed_on, WayFacts.follow_append, WayFacts.key_at, WayFacts.leads_none, WayFacts.leaf_node}
 pub use Rattle.bolt_check.proofs.WayOrder.{before_irreflexive, before_strict, before_total, before_trans}
 unfoldable pub use Rattle.bolt_check.specs.CheckedFiles.{bytes_of, meta_of}
 unfoldable pub use Rattle.bolt_check.specs.Claims.{claims_file, claims_meta, claims_visited, is_claimed}
+unfoldable pub use Rattle.bolt_check.specs.Leftovers.{is_listed, is_taken, leftovers_file, leftovers_length, leftovers_meta}
+unfoldable pub use Rattle.bolt_check.specs.{Nodes.node_at, ShownNodes.shown_node}
 pub use Rattle.bolt_check.specs.Counts.{counted}
 pub use Rattle.bolt_check.specs.Findings.{IsClaimedBefore, IsFirst, IsMetaPage, Passes, Tests, early, early_finding, finding, finding_of, inline_finding}
 pub use Rattle.bolt_check.specs.Findings.{keys_of, late, node_finding, open_finding, twice}
 pub use Rattle.bolt_check.specs.Keys.{Key, KeysRise, is_below, is_from, key_cmp, key_lt, keys_order_fault}
-unfoldable pub use Rattle.bolt_check.specs.Leftovers.{is_listed, is_taken, leftovers_file, leftovers_length, leftovers_meta}
 pub use Rattle.bolt_check.specs.LoneLeaves.{IsListedFree, IsLoneLeaf}
 pub use Rattle.bolt_check.specs.Nodes.{Entry, IsInSpan, Node, Nodes, leaf_entry, node_seen}
-unfoldable pub use Rattle.bolt_check.specs.Nodes.{node_at}
-pub use Rattle.bolt_check.specs.Shape.{child_at, child_in, child_of, leads}
-pub use Rattle.bolt_check.specs.ShownNodes.{entries_of}
-unfoldable pub use Rattle.bolt_check.specs.ShownNodes.{shown_node}
-pub use Rattle.bolt_check.specs.ShownSpots.{page_spot, spot_at}
-pub use Rattle.bolt_check.specs.Sound.{HasSoundTrees}
-pub use Rattle.bolt_check.specs.Tours.{IsBeforeAll}
-pub use Rattle.bolt_check.specs.TreeKinds.{tree_kind}
+pub use Rattle.bolt_check.specs.{Shape.child_at, Shape.child_in, Shape.child_of, Shape.leads, ShownNodes.entries_of, ShownSpots.page_spot, ShownSpots.spot_at}
+pub use Rattle.bolt_check.specs.{Sound.HasSoundTrees, Tours.IsBeforeAll, TreeKinds.tree_kind}
 pub use Rattle.bolt_check.specs.Ways.{At_inline, At_page, Before, PageSpot, Reach, SpanAt, SpanHas, SpanOf, Spot, bucket_spot, bucket_spots, child_spot, follow}
 pub use Rattle.bolt_check.specs.Ways.{reached, root_spot, step, step_at, step_entry, step_from, step_on, upper_from}
 pub use Rattle.bolt_check.specs.declared.checked_file.Checked.{Checked}
 pub use Rattle.bolt_check.specs.declared.fault.CheckFault.TheVariants.{Accounts, Memory, Open, Structure}
-pub use Rattle.bolt_check.specs.declared.finding.Finding.{Finding}
-pub use Rattle.bolt_check.specs.declared.tree_page.TreePage.{TreePage}
-pub use Rattle.bolt_format.specs.ElementPlaces.{leaf_view}
-pub use Rattle.bolt_format.specs.Elements.{LeafElement, head_root, head_sequence, inline_elements}
+pub use Rattle.bolt_check.specs.{declared.finding.Finding.Finding, declared.tree_page.TreePage.TreePage}
+pub use Rattle.bolt_format.specs.{ElementPlaces.leaf_view, Elements.LeafElement, Elements.head_root, Elements.head_sequence, Elements.inline_elements}
 pub use Rattle.bolt_format.specs.Headers.{count_field, flags_field, kind_of}
 pub use Rattle.bolt_format.specs.Pages.{PageView, from_page, page_overflow, shown_as, shown_leaves, span_bytes}
-unfoldable pub use Rattle.bolt_format.specs.Pages.{page_at, page_fault}
-unfoldable pub use Rattle.bolt_format.specs.Shown.{shown}
-pub use Rattle.bolt_format.specs.declared.kind.Kind.{Kind}
-pub use Rattle.bolt_format.specs.declared.meta.Meta.{Meta}
+pub use Rattle.bolt_format.specs.{declared.kind.Kind.Kind, declared.meta.Meta.Meta}
+unfoldable pub use Rattle.bolt_format.specs.{Pages.page_at, Pages.page_fault, Shown.shown}
 pub use Rattle.bolt_recover.specs.Found.{AreFound, FoundBelow, IsFoundNext, IsFoundPage, numbers_of}
 pub use Rattle.bolt_recover.specs.Joined.{HasBucketKey, IsElement, IsFoundMember, IsInner, IsJoined, LacksBucketKey, LeavesRoom, found_tree, inside_of}
 pub use Rattle.bolt_recover.specs.Joined.{is_found_path, joined_listing, lost_and_found, put_bucket, tree_with}
-unfoldable pub use Rattle.bolt_recover.specs.JoinedMembers.{joined_file, joined_left, joined_meta, joined_path}
 pub use Rattle.bolt_recover.specs.KeptPages.{AreKeptPages, IsKeptPage}
 pub use Rattle.bolt_recover.specs.Losses.{AreLosses, LossView, everything, loss_at, loss_of, losses_of, lower_of, parts, upper_of}
-unfoldable pub use Rattle.bolt_recover.specs.LostAndFound.{all_lost}
-pub use Rattle.bolt_recover.specs.PageKeys.{last_digits, page_key}
-pub use Rattle.bolt_recover.specs.PageWays.{ArePageWays, is_at_page, page_ways}
+pub use Rattle.bolt_recover.specs.{PageKeys.last_digits, PageKeys.page_key, PageWays.ArePageWays, PageWays.is_at_page, PageWays.page_ways}
 pub use Rattle.bolt_recover.specs.Places.{Place, elements_at, follow_places, leaves_of, next_place, place_at, place_on, root_place, step_place}
 pub use Rattle.bolt_recover.specs.Private.FoundLeft.{below_bucket, bucket_members, pages_of}
 pub use Rattle.bolt_recover.specs.Private.Frames.{Advances, AreOpen, ComesTo, Ends, GivesHead, GoesOn, HasOpen, IsAllLeft, IsContent, IsGoodContent, IsGoodPage}
@@ -63,38 +47,28 @@ pub use Rattle.bolt_recover.specs.Private.Runs.{claims_of, entry_count, entry_ta
 pub use Rattle.bolt_recover.specs.Private.Runs.{place_size, place_tasks, span_of, tasks_after, tasks_from, visits_at}
 pub use Rattle.bolt_recover.specs.Private.Runs.Runs.{done, give, visit}
 pub use Rattle.bolt_recover.specs.Private.TreesLeft.{AreTreesOf, IsSearched, lost_of}
-pub use Rattle.bolt_recover.specs.Recovered.{ForRecovered, IsRecovered, IsRecoveredMember}
-pub use Rattle.bolt_recover.specs.Recoveries.{AreFirst, ForLosses}
+pub use Rattle.bolt_recover.specs.{Recovered.ForRecovered, Recovered.IsRecovered, Recovered.IsRecoveredMember, Recoveries.AreFirst, Recoveries.ForLosses}
+pub use Rattle.bolt_recover.specs.Refusals.{IsRefusedRoot, IsSlotUnrecoverable, IsUnrecoverable, KeepsRoot, LosesRoot}
+pub use Rattle.bolt_recover.specs.{ShownFound.IsFoundView, ShownLosses.loss_view}
+pub use Rattle.bolt_recover.specs.Surveys.{Gives, Has, IsClaimedIn, IsOpen, IsSurvey, LosesNothing, Surveys, Visit, kept, lost}
+pub use Rattle.bolt_recover.specs.{declared.content.Content.Content, declared.content.Content.TheVariants.Page, declared.content.OpenPage.OpenPage}
+pub use Rattle.bolt_recover.specs.{declared.found.Found.Found, declared.kept.Kept.Kept}
+pub use Rattle.bolt_recover.specs.declared.lost_and_found.Trees.TheVariants.{Damaged, Rootless, Sound}
+pub use Rattle.bolt_recover.specs.{declared.recovery.Recovery.Recovery, declared.steps.NextVisit.NextVisit}
+unfoldable pub use Rattle.bolt_recover.specs.JoinedMembers.{joined_file, joined_left, joined_meta, joined_path}
+unfoldable pub use Rattle.bolt_recover.specs.LostAndFound.{all_lost}
 unfoldable pub use Rattle.bolt_recover.specs.Recoveries.{recovery_begun, recovery_claimed, recovery_file, recovery_left, recovery_losses, recovery_meta}
 unfoldable pub use Rattle.bolt_recover.specs.Recoveries.{recovery_path, recovery_visited, recovery_work}
-pub use Rattle.bolt_recover.specs.Refusals.{IsRefusedRoot, IsSlotUnrecoverable, IsUnrecoverable, KeepsRoot, LosesRoot}
-pub use Rattle.bolt_recover.specs.ShownFound.{IsFoundView}
-pub use Rattle.bolt_recover.specs.ShownLosses.{loss_view}
-pub use Rattle.bolt_recover.specs.Surveys.{Gives, Has, IsClaimedIn, IsOpen, IsSurvey, LosesNothing, Surveys, Visit, kept, lost}
-pub use Rattle.bolt_recover.specs.declared.content.Content.{Content}
-pub use Rattle.bolt_recover.specs.declared.content.Content.TheVariants.{Page}
-pub use Rattle.bolt_recover.specs.declared.content.OpenPage.{OpenPage}
-pub use Rattle.bolt_recover.specs.declared.found.Found.{Found}
-pub use Rattle.bolt_recover.specs.declared.kept.Kept.{Kept}
-pub use Rattle.bolt_recover.specs.declared.lost_and_found.Trees.TheVariants.{Damaged, Rootless, Sound}
-pub use Rattle.bolt_recover.specs.declared.recovery.Recovery.{Recovery}
-pub use Rattle.bolt_recover.specs.declared.steps.NextVisit.{NextVisit}
-pub use Rattle.bolt_tree.proofs.EntryOrder.{contains_at}
-pub use Rattle.bolt_tree.proofs.Filters.{filter_all, filter_first, filter_none, lt_of, not_lt_of}
+pub use Rattle.bolt_tree.proofs.{EntryOrder.contains_at, Filters.filter_all, Filters.filter_first, Filters.filter_none, Filters.lt_of, Filters.not_lt_of}
 pub use Rattle.bolt_tree.proofs.ListLemmas.{Each, RisesBy, contains_from_has, get_before, has_at, has_from_contains, has_left, has_right, has_split, map_has}
 pub use Rattle.bolt_tree.proofs.ListLemmas.{rises_append, rises_map}
-pub use Rattle.bolt_tree.proofs.Lists.{contains_cases, contains_head, contains_none, contains_tail, rises_once}
-pub use Rattle.bolt_tree.proofs.PartLemmas.{filter_rises}
+pub use Rattle.bolt_tree.proofs.{Lists.contains_cases, Lists.contains_head, Lists.contains_none, Lists.contains_tail, Lists.rises_once, PartLemmas.filter_rises}
 pub use Rattle.bolt_tree.proofs.PathOrder.{before_longer, flip_less, key_same, key_total, less_lt, path_total, same_front}
 pub use Rattle.bolt_tree.proofs.Single.{lists_once, member_total}
 pub use Rattle.bolt_tree.specs.Entries.{Bucket, Inline_page, IsEntry, Item, Root_page, ShowsEntry, Start, Value, item_of, start_of}
-pub use Rattle.bolt_tree.specs.Listing.{IsListing, Member, member_cmp}
-pub use Rattle.bolt_tree.specs.Order.{Rises}
-pub use Rattle.bolt_tree.specs.Paths.{Holds, Names, Path, path_cmp, path_of}
-pub use Rattle.bolt_tree.specs.RestAfter.{rest_after}
-pub use Rattle.bolt_tree.specs.ShownEntries.{item_view}
-pub use Rattle.bolt_tree.specs.Tree.{Tree, end, listing_below, listing_of, tree_of, with_bucket, with_value}
-pub use Rattle.bolt_tree.specs.Walks.{GivesNext}
+pub use Rattle.bolt_tree.specs.{Listing.IsListing, Listing.Member, Listing.member_cmp, Order.Rises}
+pub use Rattle.bolt_tree.specs.{Paths.Holds, Paths.Names, Paths.Path, Paths.path_cmp, Paths.path_of, RestAfter.rest_after, ShownEntries.item_view}
+pub use Rattle.bolt_tree.specs.{Tree.Tree, Tree.end, Tree.listing_below, Tree.listing_of, Tree.tree_of, Tree.with_bucket, Tree.with_value, Walks.GivesNext}
 unfoldable pub use Rattle.bolt_tree.specs.Walks.{left_of, walk_checked, walk_path}
 pub use Rattle.std.proofs.Math.Logic.{∥∥₁_elim, ∥∥₁_map, ∥∥₁_prop}
 pub use Rattle.std.proofs.Math.Nat.{div-lt_iff_lt-mul, lt_of_mul-lt-mul_right}

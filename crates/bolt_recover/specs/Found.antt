@@ -1,12 +1,9 @@
 -- The pages that are found though nothing leads to them: docs/RECOVERY.md, "Found pages".
 use Rattle.std.specs.Prelude.{◌≡◌, ℕ, zero, suc, ◌⊎◌, List, [], ◌∷◌, ◌++◌, Contains, map}
 use Rattle.bolt_format.specs.declared.meta.Meta.{Meta}
-use Rattle.bolt_check.specs.LoneLeaves.{IsListedFree, IsLoneLeaf}
-use Rattle.bolt_check.specs.Nodes.{node_at}
-use Rattle.bolt_check.specs.Ways.{At_page, SpanAt, root_spot}
+use Rattle.bolt_check.specs.{LoneLeaves.IsListedFree, LoneLeaves.IsLoneLeaf, Nodes.node_at, Ways.At_page, Ways.SpanAt, Ways.root_spot}
 use Rattle.bolt_check.specs.declared.finding.Finding.{Finding}
-use Rattle.bolt_recover.specs.KeptPages.{IsKeptPage}
-use Rattle.bolt_recover.specs.Surveys.{Has, IsSurvey, LosesNothing, Visit, lost}
+use Rattle.bolt_recover.specs.{KeptPages.IsKeptPage, Surveys.Has, Surveys.IsSurvey, Surveys.LosesNothing, Surveys.Visit, Surveys.lost}
 use Rattle.bolt_recover.specs.declared.found.Found.{Found}
 
 module _ (file : List ℕ) (meta : Meta) where

@@ -1,10 +1,7 @@
 -- Why there is no joined listing: docs/RECOVERY.md, "The joined listing".
 use Rattle.std.specs.Prelude.{◌≡◌, ◌≢◌, ℕ, List, []}
 use Rattle.bolt_format.specs.declared.meta.Meta.{Meta}
-use Rattle.bolt_recover.specs.Joined.{HasBucketKey}
-use Rattle.bolt_recover.specs.Recovered.{ForRecovered}
-use Rattle.bolt_recover.specs.Refusals.{LosesRoot}
-use Rattle.bolt_recover.specs.declared.joined.JoinFault.{JoinFault}
+use Rattle.bolt_recover.specs.{Joined.HasBucketKey, Recovered.ForRecovered, Refusals.LosesRoot, declared.joined.JoinFault.JoinFault}
 use Rattle.bolt_recover.specs.declared.joined.JoinFault.TheVariants.{Exists, Memory, Root}
 
 -- Why there is none of a file of which these pages are found. Nothing is said of memory.

@@ -2,15 +2,9 @@
 use Rattle.std.specs.Prelude.{◌≡◌, ℕ, List, Option}
 use Rattle.std.specs.Option.{option_map}
 use Rattle.bolt_format.specs.declared.meta.Meta.{Meta}
-use Rattle.bolt_tree.specs.Listing.{Member}
-use Rattle.bolt_tree.specs.Paths.{Path}
-use Rattle.bolt_tree.specs.ShownEntries.{item_view}
-use Rattle.bolt_tree.specs.Walks.{GivesNext}
-use Rattle.bolt_tree.specs.declared.entry.Item.{Item}
-use Rattle.bolt_recover.specs.Joined.{IsJoined}
-use Rattle.bolt_recover.specs.Private.Joining.{left_at, path_at, recovered_in, work_at}
-use Rattle.bolt_recover.specs.Private.KeptMembers.{kept_file, kept_meta}
-use Rattle.bolt_recover.specs.declared.joined.Joined.{Joined}
+use Rattle.bolt_tree.specs.{Listing.Member, Paths.Path, ShownEntries.item_view, Walks.GivesNext, declared.entry.Item.Item}
+use Rattle.bolt_recover.specs.{Joined.IsJoined, Private.Joining.left_at, Private.Joining.path_at, Private.Joining.recovered_in, Private.Joining.work_at}
+use Rattle.bolt_recover.specs.{Private.KeptMembers.kept_file, Private.KeptMembers.kept_meta, declared.joined.Joined.Joined}
 
 unfoldable pub joined_file : Joined → List ℕ
 joined_file joined = kept_file joined.kept

@@ -1,9 +1,7 @@
 -- The pages that kept ways take in: docs/RECOVERY.md, "Found pages".
 use Rattle.std.specs.Prelude.{◌≡◌, ◌↔◌, ℕ, ◌⊎◌, Bool, true, List}
 use Rattle.bolt_format.specs.declared.meta.Meta.{Meta}
-use Rattle.bolt_check.specs.Findings.{IsMetaPage}
-use Rattle.bolt_check.specs.Nodes.{node_at}
-use Rattle.bolt_check.specs.Ways.{SpanHas, reached}
+use Rattle.bolt_check.specs.{Findings.IsMetaPage, Nodes.node_at, Ways.SpanHas, Ways.reached}
 use Rattle.bolt_recover.specs.Surveys.{Has, IsSurvey, Visit, kept}
 
 -- page n is a meta page, or lies in the span of a kept way

@@ -1,12 +1,9 @@
 -- What is reported of a lost way: docs/RECOVERY.md, "Losses".
 use Rattle.std.specs.Prelude.{◌≡◌, ℕ, Bool, true, false, List, [], ◌∷◌, ◌++◌, Option, Some, None}
 use Rattle.bolt_format.specs.declared.meta.Meta.{Meta}
-use Rattle.bolt_check.specs.Keys.{Key}
-use Rattle.bolt_check.specs.Ways.{At_inline, At_page, Spot}
-use Rattle.bolt_check.specs.declared.finding.Finding.{Finding}
+use Rattle.bolt_check.specs.{Keys.Key, Ways.At_inline, Ways.At_page, Ways.Spot, declared.finding.Finding.Finding}
 use Rattle.bolt_tree.specs.Paths.{Path}
-use Rattle.bolt_recover.specs.Places.{Place, place_at}
-use Rattle.bolt_recover.specs.Surveys.{IsSurvey, Visit}
+use Rattle.bolt_recover.specs.{Places.Place, Places.place_at, Surveys.IsSurvey, Surveys.Visit}
 
 -- The finding, the path of the bucket that the way lies in, and the bounds that were handed down to a page below a branch.
 pub record LossView : Type 0 where

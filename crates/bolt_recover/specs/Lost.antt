@@ -1,9 +1,7 @@
 -- What is lost of a damaged file: docs/RECOVERY.md, "Losses".
 use Rattle.std.specs.Prelude.{◌≡◌, ℕ, List}
 use Rattle.bolt_format.specs.declared.meta.Meta.{Meta}
-use Rattle.bolt_recover.specs.Losses.{LostView, everything, parts}
-use Rattle.bolt_recover.specs.Recoveries.{ForLosses}
-use Rattle.bolt_recover.specs.Refusals.{KeepsRoot, LosesRoot}
+use Rattle.bolt_recover.specs.{Losses.LostView, Losses.everything, Losses.parts, Recoveries.ForLosses, Refusals.KeepsRoot, Refusals.LosesRoot}
 
 -- that is all that is lost of a file
 abbrev pub IsAllLost : List ℕ → Meta → LostView → Type 0

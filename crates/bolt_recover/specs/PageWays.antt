@@ -1,8 +1,7 @@
 -- How many pages are visited: docs/RECOVERY.md, "The recovering walk".
 use Rattle.std.specs.Prelude.{◌≡◌, ℕ, Bool, true, false, List, Option, Some, None, count_by}
 use Rattle.bolt_format.specs.declared.meta.Meta.{Meta}
-use Rattle.bolt_check.specs.Nodes.{node_at}
-use Rattle.bolt_check.specs.Ways.{At_inline, At_page, Reach, Spot, reached}
+use Rattle.bolt_check.specs.{Nodes.node_at, Ways.At_inline, Ways.At_page, Ways.Reach, Ways.Spot, Ways.reached}
 use Rattle.bolt_recover.specs.Surveys.{IsSurvey, Visit}
 
 -- a way leads to a page number; an inline page has none

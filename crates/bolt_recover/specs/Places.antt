@@ -1,10 +1,7 @@
 -- What a way leads to, with the path of its bucket and the elements there: docs/RECOVERY.md, "Ways".
 use Rattle.std.specs.Prelude.{ℕ, List, [], ◌∷◌, ◌++◌, Option, Some, None, slice_get}
-use Rattle.bolt_format.specs.Elements.{LeafElement, inline_elements}
-use Rattle.bolt_format.specs.Pages.{PageView, page_at}
-use Rattle.bolt_format.specs.declared.meta.Meta.{Meta}
-use Rattle.bolt_check.specs.Nodes.{node_at}
-use Rattle.bolt_check.specs.Ways.{At_inline, At_page, Spot, root_spot, step_from}
+use Rattle.bolt_format.specs.{Elements.LeafElement, Elements.inline_elements, Pages.PageView, Pages.page_at, declared.meta.Meta.Meta}
+use Rattle.bolt_check.specs.{Nodes.node_at, Ways.At_inline, Ways.At_page, Ways.Spot, Ways.root_spot, Ways.step_from}
 use Rattle.bolt_tree.specs.Paths.{Path}
 
 -- The spot, the path of the bucket that it lies in, and the elements of the leaf page or inline page there; a branch has none.

@@ -1,13 +1,9 @@
 -- What a damaged file still holds: docs/RECOVERY.md, "The recovered listing".
 use Rattle.std.specs.Prelude.{◌≡◌, ◌↔◌, ℕ, List, [], ◌∷◌, ◌++◌, Contains, Some}
-use Rattle.bolt_format.specs.Elements.{LeafElement}
-use Rattle.bolt_format.specs.declared.meta.Meta.{Meta}
-use Rattle.bolt_tree.specs.Entries.{IsEntry, Item, Root_page, item_of}
-use Rattle.bolt_tree.specs.Listing.{Member, member_cmp}
-use Rattle.bolt_tree.specs.Order.{Rises}
+use Rattle.bolt_format.specs.{Elements.LeafElement, declared.meta.Meta.Meta}
+use Rattle.bolt_tree.specs.{Entries.IsEntry, Entries.Item, Entries.Root_page, Entries.item_of, Listing.Member, Listing.member_cmp, Order.Rises}
 use Rattle.bolt_tree.specs.Paths.{Holds, Path}
-use Rattle.bolt_recover.specs.Places.{Place, place_at}
-use Rattle.bolt_recover.specs.Surveys.{Has, IsSurvey, Visit, kept}
+use Rattle.bolt_recover.specs.{Places.Place, Places.place_at, Surveys.Has, Surveys.IsSurvey, Surveys.Visit, Surveys.kept}
 
 -- an element of the leaf page or inline page at a kept way, under the path of its bucket
 pub record IsRecoveredMember (file : List ℕ) (meta : Meta) (survey : List Visit) (path : Path) (item : Item) : Type 0 where

@@ -3,15 +3,9 @@ use Rattle.std.specs.Prelude.{◌≡◌, ◌≤◌, ℕ, Bool, List, Option, len
 use Rattle.std.specs.Option.{option_map}
 use Rattle.bolt_format.specs.declared.meta.Meta.{Meta}
 use Rattle.bolt_check.specs.Counts.{counted}
-use Rattle.bolt_tree.specs.Listing.{Member}
-use Rattle.bolt_tree.specs.Paths.{Path}
-use Rattle.bolt_tree.specs.ShownEntries.{item_view}
-use Rattle.bolt_tree.specs.Walks.{GivesNext}
-use Rattle.bolt_tree.specs.declared.entry.Item.{Item}
-use Rattle.bolt_recover.specs.Losses.{AreLosses, LossView}
-use Rattle.bolt_recover.specs.PageWays.{ForPageWays}
-use Rattle.bolt_recover.specs.Private.Frames.{left_by, state_of, steps_weight}
-use Rattle.bolt_recover.specs.Recovered.{ForRecovered}
+use Rattle.bolt_tree.specs.{Listing.Member, Paths.Path, ShownEntries.item_view, Walks.GivesNext, declared.entry.Item.Item}
+use Rattle.bolt_recover.specs.{Losses.AreLosses, Losses.LossView, PageWays.ForPageWays}
+use Rattle.bolt_recover.specs.{Private.Frames.left_by, Private.Frames.state_of, Private.Frames.steps_weight, Recovered.ForRecovered}
 use Rattle.bolt_recover.specs.declared.recovery.Recovery.{Recovery}
 
 unfoldable pub recovery_file : Recovery → List ℕ

@@ -1,10 +1,7 @@
 -- A found page of the code: the page that the file has under its number, a leaf with an element.
 use Rattle.std.specs.Prelude.{◌≡◌, ◌≢◌, ℕ, List, [], IsTrue, Ok, Some}
-use Rattle.bolt_format.specs.Pages.{page_at}
-use Rattle.bolt_format.specs.Shown.{shown}
-use Rattle.bolt_format.specs.declared.meta.Meta.{Meta}
-use Rattle.bolt_check.specs.Nodes.{node_at}
-use Rattle.bolt_check.specs.ShownNodes.{shown_node}
+use Rattle.bolt_format.specs.{Pages.page_at, Shown.shown, declared.meta.Meta.Meta}
+use Rattle.bolt_check.specs.{Nodes.node_at, ShownNodes.shown_node}
 use Rattle.bolt_recover.specs.declared.found.Found.{Found}
 
 pub record IsFoundView (file : List ℕ) (meta : Meta) (found : Found) : Type 0 where

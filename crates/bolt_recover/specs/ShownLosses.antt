@@ -2,9 +2,7 @@
 use Rattle.std.specs.Prelude.{map}
 use Rattle.bolt_check.specs.ShownSpots.{bound_of}
 use Rattle.bolt_tree.specs.Paths.{path_of}
-use Rattle.bolt_recover.specs.Losses.{LossView, LostView, everything, parts}
-use Rattle.bolt_recover.specs.declared.loss.Loss.{Loss}
-use Rattle.bolt_recover.specs.declared.loss.Lost.{Lost}
+use Rattle.bolt_recover.specs.{Losses.LossView, Losses.LostView, Losses.everything, Losses.parts, declared.loss.Loss.Loss, declared.loss.Lost.Lost}
 use Rattle.bolt_recover.specs.declared.loss.Lost.TheVariants.{Everything, Parts}
 
 abbrev pub loss_view : Loss → LossView

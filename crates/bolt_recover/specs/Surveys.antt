@@ -1,11 +1,8 @@
 -- What is kept and what is lost of a damaged file: docs/RECOVERY.md, "Kept and lost".
 use Rattle.std.specs.Prelude.{◌≡◌, ℕ, ◌⊎◌, List, [], ◌∷◌, ◌++◌, Option, Some, None, map}
 use Rattle.bolt_format.specs.declared.meta.Meta.{Meta}
-use Rattle.bolt_check.specs.Findings.{IsMetaPage, Passes, Tests}
-use Rattle.bolt_check.specs.Nodes.{Nodes, node_at}
-use Rattle.bolt_check.specs.Tours.{Rises}
-use Rattle.bolt_check.specs.Ways.{Before, Reach, SpanHas, Spot, reached}
-use Rattle.bolt_check.specs.declared.finding.Finding.{Finding}
+use Rattle.bolt_check.specs.{Findings.IsMetaPage, Findings.Passes, Findings.Tests, Nodes.Nodes, Nodes.node_at, Tours.Rises}
+use Rattle.bolt_check.specs.{Ways.Before, Ways.Reach, Ways.SpanHas, Ways.Spot, Ways.reached, declared.finding.Finding.Finding}
 
 -- A way and what the tests find at it: nothing if the way is kept, and a finding if it is lost.
 pub record Visit : Type 0 where

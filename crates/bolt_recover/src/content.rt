@@ -1,12 +1,9 @@
 //! A kept page, and how many of its elements are done.
 ghost use Rattle.std.specs.Prelude.{◌≡◌, ◌≤◌, ◌<◌, ◌+◌, ℕ, List, true, IfErr, IfOk, IfSome, OnErr, OnOk, IsTrue, slice_get, None, Some};
 ghost use Rattle.std.specs.Option.{option_map};
-ghost use Rattle.bolt_format.specs.Elements.{IsBucketValue};
-ghost use Rattle.bolt_format.specs.ElementPlaces.{leaf_view};
-ghost use Rattle.bolt_check.specs.Claims.{claims_file, claims_meta, claims_visited, is_claimed, pages_left};
-ghost use Rattle.bolt_check.specs.Counts.{counted};
-ghost use Rattle.bolt_check.specs.Findings.{Passes, Tests};
-ghost use Rattle.bolt_check.specs.ShownSpots.{spot_at};
+ghost use Rattle.bolt_format.specs.{Elements.IsBucketValue, ElementPlaces.leaf_view};
+ghost use Rattle.bolt_check.specs.{Claims.claims_file, Claims.claims_meta, Claims.claims_visited, Claims.is_claimed, Claims.pages_left, Counts.counted};
+ghost use Rattle.bolt_check.specs.{Findings.Passes, Findings.Tests, ShownSpots.spot_at};
 ghost use Rattle.bolt_recover.specs.Private.Frames.{IsContent, IsShallow, LeadsTo, claims_nodes, claims_with, content_elements, content_size, pages_in};
 ghost use Rattle.bolt_recover.specs.Private.Runs.{page_visit};
 ghost use Rattle.bolt_recover.specs.Private.ElementsLeft.{GivesElement, elements_left, elements_of};

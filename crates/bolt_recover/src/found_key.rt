@@ -1,8 +1,7 @@
 //! The key of the bucket of what is found.
 ghost use Rattle.std.specs.Prelude.{◌≡◌};
 ghost use Rattle.bolt_tree.specs.Paths.{path_of};
-ghost use Rattle.bolt_recover.specs.Joined.{lost_and_found};
-ghost use Rattle.bolt_recover.specs.Private.Joining.{first_cmp};
+ghost use Rattle.bolt_recover.specs.{Joined.lost_and_found, Private.Joining.first_cmp};
 
 use std::cmp::Ordering;
 

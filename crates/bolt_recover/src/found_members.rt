@@ -2,12 +2,8 @@
 //! elements, and what the inline buckets among them hold.
 ghost use Rattle.std.specs.Prelude.{◌≡◌, ◌≤◌, ◌∷◌, [], IsTrue, None, false};
 ghost use Rattle.std.specs.Option.{option_map};
-ghost use Rattle.bolt_format.specs.ElementPlaces.{leaf_view};
-ghost use Rattle.bolt_format.specs.Elements.{IsBucketValue, LeafElement};
-ghost use Rattle.bolt_format.specs.Shown.{shown};
-ghost use Rattle.bolt_tree.specs.Paths.{path_of};
-ghost use Rattle.bolt_tree.specs.ShownEntries.{item_view};
-ghost use Rattle.bolt_tree.specs.Tree.{end};
+ghost use Rattle.bolt_format.specs.{ElementPlaces.leaf_view, Elements.IsBucketValue, Elements.LeafElement, Shown.shown};
+ghost use Rattle.bolt_tree.specs.{Paths.path_of, ShownEntries.item_view, Tree.end};
 ghost use Rattle.bolt_recover.specs.Joined.{inside_of, lost_and_found, tree_with};
 ghost use Rattle.bolt_recover.specs.Private.ElementsLeft.{elements_left, elements_of};
 

@@ -3,12 +3,8 @@
 ghost use Rattle.std.specs.Prelude.{◌≡◌, ◌≢◌, ◌<◌, ◌*◌, ◌^◌, [], List, None, IfErr, IfOk, IfSome, OnErr, OnOk, length};
 ghost use Rattle.bolt_check.specs.declared.finding.Finding.{Finding};
 ghost use Rattle.bolt_tree.specs.Listing.{Member};
-ghost use Rattle.bolt_recover.specs.Found.{numbers_of};
-ghost use Rattle.bolt_recover.specs.Joined.{IsJoined, LacksBucketKey};
-ghost use Rattle.bolt_recover.specs.JoinRefusals.{IsJoinRefusal};
-ghost use Rattle.bolt_recover.specs.Losses.{everything};
-ghost use Rattle.bolt_recover.specs.LostAndFound.{all_lost};
-ghost use Rattle.bolt_recover.specs.Private.Joining.{AreJoinable, IsHeldWell};
+ghost use Rattle.bolt_recover.specs.{Found.numbers_of, Joined.IsJoined, Joined.LacksBucketKey, JoinRefusals.IsJoinRefusal, Losses.everything};
+ghost use Rattle.bolt_recover.specs.{LostAndFound.all_lost, Private.Joining.AreJoinable, Private.Joining.IsHeldWell};
 ghost use Rattle.bolt_recover.specs.Private.KeptMembers.{kept_file, kept_left, kept_meta, kept_path};
 ghost use Rattle.bolt_recover.specs.Recovered.{ForRecovered};
 ghost use Rattle.bolt_recover.specs.declared.joined.JoinFault.TheVariants as faults;

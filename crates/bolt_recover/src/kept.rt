@@ -3,8 +3,7 @@ ghost use Rattle.std.specs.Prelude.{◌≡◌, ◌<◌, IfOk, IfSome, OnErr, OnO
 ghost use Rattle.bolt_format.specs.Bytes.{IsBytes};
 ghost use Rattle.bolt_check.specs.declared.finding.Finding.{Finding};
 ghost use Rattle.bolt_tree.specs.Paths.{path_of};
-ghost use Rattle.bolt_recover.specs.Recovered.{ForRecovered};
-ghost use Rattle.bolt_recover.specs.Refusals.{LosesRoot};
+ghost use Rattle.bolt_recover.specs.{Recovered.ForRecovered, Refusals.LosesRoot};
 
 use crate::recovery::Recovery;
 use bolt_check::NoMemory;

@@ -1,26 +1,15 @@
 //! What the definitions of recovery imply.
 ghost use Rattle.std.specs.List.{Contains, count_by};
 ghost use Rattle.std.specs.Prelude.{◌≡◌, ◌≢◌, ◌<◌, ◌⊎◌, ◌*◌, ◌^◌, ◌∷◌, ℕ, [], true, List, None, Some, filter, is_some, length, not};
-ghost use Rattle.bolt_format.specs.Bytes.{IsBytes};
-ghost use Rattle.bolt_format.specs.declared.meta.Meta.{Meta};
-ghost use Rattle.bolt_check.specs.LoneLeaves.{IsListedFree, IsLoneLeaf};
-ghost use Rattle.bolt_check.specs.Nodes.{node_at};
-ghost use Rattle.bolt_check.specs.Sound.{HasSoundTrees, IsFirstFinding};
-ghost use Rattle.bolt_check.specs.Ways.{At_page, Before, SpanAt, root_spot};
-ghost use Rattle.bolt_check.specs.declared.finding.Finding.{Finding};
-ghost use Rattle.bolt_tree.specs.Entries.{Bucket};
-ghost use Rattle.bolt_tree.specs.Listing.{IsListing, Member, member_cmp};
-ghost use Rattle.bolt_tree.specs.Order.{Rises};
-ghost use Rattle.bolt_tree.specs.Tree.{Tree, listing_of};
+ghost use Rattle.bolt_format.specs.{Bytes.IsBytes, declared.meta.Meta.Meta};
+ghost use Rattle.bolt_check.specs.{LoneLeaves.IsListedFree, LoneLeaves.IsLoneLeaf, Nodes.node_at, Sound.HasSoundTrees, Sound.IsFirstFinding};
+ghost use Rattle.bolt_check.specs.{Ways.At_page, Ways.Before, Ways.SpanAt, Ways.root_spot, declared.finding.Finding.Finding};
+ghost use Rattle.bolt_tree.specs.{Entries.Bucket, Listing.IsListing, Listing.Member, Listing.member_cmp, Order.Rises, Tree.Tree, Tree.listing_of};
 ghost use Rattle.bolt_recover.specs.Found.{AreFound, IsFoundPage};
 ghost use Rattle.bolt_recover.specs.Joined.{IsFoundMember, IsJoined, LacksBucketKey, LeavesRoom, is_found_path, lost_and_found};
-ghost use Rattle.bolt_recover.specs.JoinedMembers.{ForJoined, joined_file, joined_meta};
-ghost use Rattle.bolt_recover.specs.KeptPages.{IsKeptPage};
-ghost use Rattle.bolt_recover.specs.Losses.{AreLosses, LossView, loss_of, losses_of};
-ghost use Rattle.bolt_recover.specs.PageWays.{ArePageWays};
-ghost use Rattle.bolt_recover.specs.Places.{Place, place_at};
-ghost use Rattle.bolt_recover.specs.Recovered.{AreHeld, IsRecovered};
-ghost use Rattle.bolt_recover.specs.Recoveries.{recovery_file};
+ghost use Rattle.bolt_recover.specs.{JoinedMembers.ForJoined, JoinedMembers.joined_file, JoinedMembers.joined_meta, KeptPages.IsKeptPage};
+ghost use Rattle.bolt_recover.specs.{Losses.AreLosses, Losses.LossView, Losses.loss_of, Losses.losses_of, PageWays.ArePageWays, Places.Place, Places.place_at};
+ghost use Rattle.bolt_recover.specs.{Recovered.AreHeld, Recovered.IsRecovered, Recoveries.recovery_file};
 ghost use Rattle.bolt_recover.specs.Surveys.{Has, IsSurvey, LosesNothing, Visit, lost};
 
 use crate::joined::Joined;

@@ -1,11 +1,8 @@
 //! Intact leaves that nothing leads to.
 ghost use Rattle.std.specs.List.{All};
 ghost use Rattle.std.specs.Prelude.{◌<◌, IfOk};
-ghost use Rattle.bolt_check.specs.Leftovers.{leftovers_file, leftovers_meta};
-ghost use Rattle.bolt_check.specs.declared.finding.Finding.{Finding};
-ghost use Rattle.bolt_recover.specs.Found.{AreFound, numbers_of};
-ghost use Rattle.bolt_recover.specs.Private.LeavesLeft.{AreAmong, NotesFree};
-ghost use Rattle.bolt_recover.specs.Refusals.{LosesRoot};
+ghost use Rattle.bolt_check.specs.{Leftovers.leftovers_file, Leftovers.leftovers_meta, declared.finding.Finding.Finding};
+ghost use Rattle.bolt_recover.specs.{Found.AreFound, Found.numbers_of, Private.LeavesLeft.AreAmong, Private.LeavesLeft.NotesFree, Refusals.LosesRoot};
 ghost use Rattle.bolt_recover.specs.ShownFound.{IsFoundView};
 
 use crate::found::Found;

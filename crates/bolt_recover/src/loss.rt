@@ -2,8 +2,7 @@
 ghost use Rattle.std.specs.Prelude.{◌≡◌};
 ghost use Rattle.bolt_check.specs.ShownSpots.{spot_at};
 ghost use Rattle.bolt_tree.specs.Paths.{path_of};
-ghost use Rattle.bolt_recover.specs.Losses.{loss_on, is_nothing};
-ghost use Rattle.bolt_recover.specs.ShownLosses.{loss_view, lost_view};
+ghost use Rattle.bolt_recover.specs.{Losses.loss_on, Losses.is_nothing, ShownLosses.loss_view, ShownLosses.lost_view};
 
 use bolt_check::{Finding, Spot};
 

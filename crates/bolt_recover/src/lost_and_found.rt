@@ -3,10 +3,7 @@ ghost use Rattle.std.specs.List.{All};
 ghost use Rattle.std.specs.Prelude.{◌≡◌, ◌<◌, IfOk};
 ghost use Rattle.bolt_check.specs.Sound.{HasSoundTrees};
 ghost use Rattle.bolt_format.specs.Bytes.{IsBytes};
-ghost use Rattle.bolt_recover.specs.Found.{AreFound, numbers_of};
-ghost use Rattle.bolt_recover.specs.Lost.{IsAllLost};
-ghost use Rattle.bolt_recover.specs.Private.TreesLeft.{IsSearched};
-ghost use Rattle.bolt_recover.specs.ShownFound.{IsFoundView};
+ghost use Rattle.bolt_recover.specs.{Found.AreFound, Found.numbers_of, Lost.IsAllLost, Private.TreesLeft.IsSearched, ShownFound.IsFoundView};
 ghost use Rattle.bolt_recover.specs.ShownLosses.{lost_view};
 
 use crate::found::Found;

@@ -1,17 +1,12 @@
 //! A walk over everything that is kept of a damaged file.
 ghost use Rattle.std.specs.Option.{IfNone};
 ghost use Rattle.std.specs.Prelude.{◌≡◌, ◌<◌, ◌≤◌, ◌↔◌, ◌^◌, ℕ, [], true, IfErr, IfOk, IfSome, OnErr, OnOk, map};
-ghost use Rattle.bolt_check.specs.Claims.{claims_file, claims_meta, claims_visited, is_claimed};
-ghost use Rattle.bolt_check.specs.Counts.{counted};
-ghost use Rattle.bolt_check.specs.Findings.{IsMetaPage};
+ghost use Rattle.bolt_check.specs.{Claims.claims_file, Claims.claims_meta, Claims.claims_visited, Claims.is_claimed, Counts.counted, Findings.IsMetaPage};
 ghost use Rattle.bolt_check.specs.Sound.{HasSoundTrees};
 ghost use Rattle.bolt_format.specs.Metas.{IsChosen, IsInSlot};
 ghost use Rattle.bolt_tree.specs.Paths.{path_of};
-ghost use Rattle.bolt_recover.specs.KeptPages.{AreKeptPages};
-ghost use Rattle.bolt_recover.specs.Private.Frames.{IsOn, state_of};
-ghost use Rattle.bolt_recover.specs.Recovered.{ForRecovered, IsRecovered};
-ghost use Rattle.bolt_recover.specs.Refusals.{IsRefusedRoot, IsSlotUnrecoverable, IsUnrecoverable, KeepsRoot};
-ghost use Rattle.bolt_recover.specs.ShownLosses.{loss_view};
+ghost use Rattle.bolt_recover.specs.{KeptPages.AreKeptPages, Private.Frames.IsOn, Private.Frames.state_of, Recovered.ForRecovered, Recovered.IsRecovered};
+ghost use Rattle.bolt_recover.specs.{Refusals.IsRefusedRoot, Refusals.IsSlotUnrecoverable, Refusals.IsUnrecoverable, Refusals.KeepsRoot, ShownLosses.loss_view};
 
 use crate::found::Found;
 use crate::found_key::compare_first;
@@ -41,8 +36,7 @@ pub struct Recovery<'a> {
 
 #[tactic(auto, unfolding(crate::specs::Recoveries::recovery_begun, crate::specs::Recoveries::recovery_claimed, crate::specs::Recoveries::recovery_file, crate::specs::Recoveries::recovery_left, crate::specs::Recoveries::recovery_losses, crate::specs::Recoveries::recovery_meta, crate::specs::Recoveries::recovery_path, crate::specs::Recoveries::recovery_visited, crate::specs::Recoveries::recovery_work))]
 impl<'a> Recovery<'a> {
-    ghost use Rattle.bolt_recover.specs.Private.Joining.{TellsBucketKey};
-    ghost use Rattle.bolt_recover.specs.Private.TreesLeft.{IsSearched};
+    ghost use Rattle.bolt_recover.specs.{Private.Joining.TellsBucketKey, Private.TreesLeft.IsSearched};
     ghost use Rattle.bolt_recover.specs.declared.lost_and_found.Trees.TheVariants as Trees;
     ghost use Rattle.bolt_recover.specs.Recoveries.{AreFirst, ForLosses, GivesRecovered, HasReportedAll, HasVisitedAll, IsWithinWays, LeavesRecovered, recovery_begun, recovery_claimed, recovery_file, recovery_left, recovery_losses, recovery_meta, recovery_path, recovery_visited, recovery_work};
 

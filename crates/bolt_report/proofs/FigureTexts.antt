@@ -3,11 +3,8 @@ use Rattle.std.proofs.Common.{◌≡◌, ◌∙◌, ◌++◌, ◌∷◌, [], ℕ
 use Rattle.bolt_report.proofs.Words.{bytes_allocated, bytes_used, decimal, end_object, escape_byte, Form, json_text, json_tokens, line, print_from, size_json, Stats}
 use Rattle.std.specs.Prelude.{fold}
 use Rattle.json.proofs.Printed.Tokens.{print_from-append}
-use Rattle.json.specs.Json.{Json}
-use Rattle.json.specs.Print.{ends}
-use Rattle.bolt_report.specs.FigureForms.{figures_text, number_text}
-use Rattle.bolt_report.specs.Forms.{is_json, item_text, json_in}
-use Rattle.bolt_report.specs.SizeLines.{size_members}
+use Rattle.json.specs.{Json.Json, Print.ends}
+use Rattle.bolt_report.specs.{FigureForms.figures_text, FigureForms.number_text, Forms.is_json, Forms.item_text, Forms.json_in, SizeLines.size_members}
 use Rattle.bolt_report.specs.declared.form.FigureForm.TheVariants as figure_form
 use Rattle.bolt_report.specs.declared.form.Form.TheVariants as form
 

@@ -2,10 +2,8 @@
 use Rattle.std.proofs.Common.{◌≡◌, ◌∙◌, ◌+◌, ℕ, suc, List, [], ◌∷◌, ◌++◌, Bor, Some, Result, add-one, ap, append_assoc, append-nil, drop, flat_map, refl, slice_get, sym, take}
 use Rattle.bolt_report.proofs.Words.{broken, ending, flat_map-take_more, Gathers, Ghosts, IsErr, later_parts, part_text, path_of, path_text, separator, SinkFault, whole, Wrote, Wrote-none, Wrote-return, Wrote-same, Wrote-then}
 use Rattle.bolt_format.specs.Endings.{Ending, cut, halted}
-use Rattle.bolt_report.specs.Gathers.{left_held}
-use Rattle.bolt_report.specs.declared.pieces.PathForm.{PathForm}
-use Rattle.bolt_format.proofs.ListLemmas.{flat_map-cut_at}
-use Rattle.bolt_format.proofs.WroteLemmas.{broken_by}
+use Rattle.bolt_report.specs.{Gathers.left_held, declared.pieces.PathForm.PathForm}
+use Rattle.bolt_format.proofs.{ListLemmas.flat_map-cut_at, WroteLemmas.broken_by}
 
 none_held : (end : Ending) {holds : List ℕ} → holds ≡ [] → left_held end holds ≡ []
 none_held whole none = none

@@ -1,18 +1,16 @@
 -- Hexadecimal digits, written part by part, and as JSON strings, which need no escapes.
 use Rattle.std.proofs.Common.{◌≡◌, ◌∙◌, ℕ, ◌+◌, ◌-◌, ◌*◌, ◌/◌, ◌%◌, ◌<◌, List, [], ◌∷◌, ◌++◌, length, map, get_or, take, drop, bit_and, w16, ap, refl, sym, take-append-drop, suc, Bool, true, false, ◌&&◌, ◌==◌, not, nat_le, arith, append_assoc, codes}
+use Rattle.std.proofs.lemmas.List.{take_rest}
+use Rattle.std.proofs.lemmas.List.FromFn.{get_or-map-range_with_len}
+use Rattle.std.proofs.lemmas.Bool.{eqb-false, leb-true, not-true}
 use Rattle.bolt_report.proofs.Words.{AllPass-from_list_all, and_parts, decimal, digits_json, encode_lower, end_json, escape_byte, front_more, front_none, IsBytes, items_tokens, json_line, line, list_all, lower_digits, parts_json, Path, path_text, print_from, range_with_len, Token, Value}
 use Rattle.std.specs.Prelude.{slice_index}
 use Rattle.std.specs.Int.{to_le_bytes}
-use Rattle.std.proofs.lemmas.List.{take_rest}
-use Rattle.std.proofs.lemmas.List.FromFn.{get_or-map-range_with_len}
 use Rattle.hex.specs.Hex.{encode_with}
-use Rattle.std.proofs.lemmas.Bool.{eqb-false, leb-true, not-true}
 use Rattle.json.proofs.Printed.Strings.{escape_byte_plain}
-use Rattle.json.specs.Print.{escape}
-use Rattle.json.specs.Tree.{members_tokens}
+use Rattle.json.specs.{Print.escape, Tree.members_tokens}
 use Rattle.bolt_tree.specs.Entries.{Bucket}
-use Rattle.bolt_report.specs.Pieces.{hex_string}
-use Rattle.bolt_report.specs.declared.pieces.PathForm.TheVariants.{Strings}
+use Rattle.bolt_report.specs.{Pieces.hex_string, declared.pieces.PathForm.TheVariants.Strings}
 
 encode_with-append : (digits xs ys : List ℕ) → encode_with digits (xs ++ ys) ≡ encode_with digits xs ++ encode_with digits ys
 unfolding encode_with

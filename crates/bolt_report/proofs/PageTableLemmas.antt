@@ -6,9 +6,7 @@ use mathlib.Core.Sum.{⊎_set}
 use Rattle.std.proofs.Math.Nat.{mul-le-mul_right}
 use Rattle.std.proofs.lemmas.Grind.{div_ceil_times}
 use Rattle.std.proofs.lemmas.List.FromFn.{get_or-range_with_len}
-use Rattle.bolt_check.specs.CheckedFiles.{has_accounts}
-use Rattle.bolt_check.specs.Roles.{AreRoles, HasRole}
-use Rattle.bolt_check.specs.declared.role_table.Role.{Role}
+use Rattle.bolt_check.specs.{CheckedFiles.has_accounts, Roles.AreRoles, Roles.HasRole, declared.role_table.Role.Role}
 use Rattle.bolt_check.specs.declared.role_table.Role.TheVariants as role
 use Rattle.bolt_check.proofs.RoleFacts.{one_role, past_is_free, size_positive, with_accounts}
 use Rattle.bolt_report.specs.PageTables.{begun, is_free, page_row, pages_in, pages_past}

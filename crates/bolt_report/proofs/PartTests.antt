@@ -1,8 +1,8 @@
 -- Paths are compared part by part, as the slices are that hold them.
 use Rattle.std.proofs.Common.{◌≡◌, ◌∙◌, Bor, List, ap, ℕ, length, take}
+use Rattle.std.proofs.lemmas.List.{take-map}
 use Rattle.bolt_report.proofs.Words.{begins_with, bytes_eq, length-map, path_of, pointwise, starts_with}
 use Rattle.std.specs.Cmp.Derive.Mapped.{lex_map, pointwise-map}
-use Rattle.std.proofs.lemmas.List.{take-map}
 
 pub same_path : (xs ys : List (Bor (List ℕ))) → pointwise bytes_eq (path_of xs) (path_of ys) ≡ pointwise (λ (a b : Bor (List ℕ)). bytes_eq a.now b.now) xs ys
 same_path xs ys = pointwise-map (λ (part : Bor (List ℕ)). part.now) bytes_eq xs ys

@@ -4,8 +4,7 @@ use Rattle.std.proofs.lemmas.Bool.Decides.{nat_tests}
 use Rattle.bolt_report.proofs.Words.{begins, Contains, entry_cmp, Key, key_lt, LeafElement, least_from, not_true, Rises, starts_with, with_prefix}
 use Rattle.bolt_check.specs.Keys.{key_cmp}
 use Rattle.bolt_check.proofs.KeyLaws.{lt_trans}
-use Rattle.bolt_tree.proofs.Filters.{filter_none, lt_of}
-use Rattle.bolt_tree.proofs.Lists.{contains_cases, contains_none}
+use Rattle.bolt_tree.proofs.{Filters.filter_none, Filters.lt_of, Lists.contains_cases, Lists.contains_none}
 
 abbrev pub key_begins : Key → Key → Bool
 key_begins key prefix = starts_with (λ a b. a == b) key prefix

@@ -2,22 +2,16 @@
 -- Rests on that a bucket's entries in order exist, and are one.
 use Rattle.std.proofs.Common.{◌≡◌, ◌∙◌, ◌<◌, ◌⊎◌, inl, inr, ◌+◌, ℕ, zero, suc, Bool, true, false, List, [], ◌∷◌, Option, Some, None, Result, Ok, Err, cond, drop, length, nat_lt, refl, slice_get, sym, ap, subst, arith, add-one}
 use Rattle.bolt_report.proofs.Words.{begins, bytes_of, cond-true, Contains, contains_head, contains_tail, cursor_checked, cursor_start, drop_all, drop_next, entries_left, entry_cmp, entry_view, EntryView, Form, Key, key_lt, LeafElement, least_from, meta_of, On, Past, Place, ReportFault, Rises, same_Some, shown_entry, with_prefix, ∥∥₁_elim}
+use Rattle.bolt_report.proofs.PrefixLemmas.{after_least, from_least, key_begins, none_later}
 use Rattle.std.specs.Option.{option_map}
 use Rattle.std.specs.Prelude.{⊤, IfErr, IsErrAnd}
-use Rattle.bolt_tree.specs.BucketViews.{AreSorted, BucketView}
-use Rattle.bolt_tree.specs.CursorBounds.{OpensByNext, OpensSeek}
+use Rattle.bolt_tree.specs.{BucketViews.AreSorted, BucketViews.BucketView, CursorBounds.OpensByNext, CursorBounds.OpensSeek}
 use Rattle.bolt_tree.specs.Openings.{IsGap, IsSeekCount, sum_to}
-use Rattle.bolt_check.specs.Counts.{counted}
-use Rattle.bolt_tree.specs.Places.{next_move, nothing_at, onto, place_in, seek_move}
-use Rattle.bolt_tree.specs.declared.cursor.Cursor.{Cursor}
+use Rattle.bolt_tree.specs.{Places.next_move, Places.nothing_at, Places.onto, Places.place_in, Places.seek_move, declared.cursor.Cursor.Cursor}
 use Rattle.bolt_tree.specs.declared.entry.Entry.{Entry}
-use Rattle.bolt_tree.proofs.AllEntries.{sorted_at}
-use Rattle.bolt_tree.proofs.CursorMoves.{none_past, not_below}
-use Rattle.bolt_tree.proofs.Leaving.{TheEntries, the_one}
-use Rattle.bolt_tree.proofs.PagerLemmas.{counted_more}
-use Rattle.bolt_report.specs.declared.fault.ReportFault.TheVariants.{NoMemory, Sink}
-use Rattle.bolt_report.specs.declared.form.Form.TheVariants.{Json}
-use Rattle.bolt_report.proofs.PrefixLemmas.{after_least, from_least, key_begins, none_later}
+use Rattle.bolt_check.specs.Counts.{counted}
+use Rattle.bolt_tree.proofs.{AllEntries.sorted_at, CursorMoves.none_past, CursorMoves.not_below, Leaving.TheEntries, Leaving.the_one, PagerLemmas.counted_more}
+use Rattle.bolt_report.specs.{declared.fault.ReportFault.TheVariants.NoMemory, declared.fault.ReportFault.TheVariants.Sink, declared.form.Form.TheVariants.Json}
 
 -- ---- the entries of a cursor's bucket
 

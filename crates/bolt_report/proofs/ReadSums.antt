@@ -1,9 +1,9 @@
 -- Sums over what is still to be read, through the reading of a page.
 use Rattle.std.proofs.Common.{◌≡◌, ◌∙◌, ◌+◌, ◌-◌, ◌≤◌, ◌⊎◌, ℕ, inl, inr, Bool, true, false, List, [], ◌∷◌, ◌++◌, Ok, map, take, sum_by, refl, sym, ap, subst, arith}
 use Rattle.bolt_report.proofs.Words.{AreGood, bucket_figure, Enough, enough_kids, Figure, figure, Has, has_right, inner_pages, inner_roots, kid_pages, map-append, Meta, Node, node_at, numbers_of, pages_in_bucket, roots_in_bucket, roots_of, Stats, sum_by-cons, total_of, UnreadBucket, UnreadPage, weight, ∥∥₁_map}
+use Rattle.bolt_report.proofs.DepthSums.{page_has, root_has}
 use Rattle.bolt_check.specs.Nodes.{Entry}
 use Rattle.bolt_check.proofs.TourSums.{has_either, has_left, sum_append, weight_kids}
-use Rattle.bolt_report.proofs.DepthSums.{page_has, root_has}
 
 -- the last page was taken
 pub popped : (old new : List UnreadPage) (p : UnreadPage) → old ≡ new ++ p ∷ [] → numbers_of old ≡ numbers_of new ++ p.number ∷ []

@@ -1,10 +1,9 @@
 -- What was written, if a call also fails for other reasons than its sink.
 use Rattle.std.proofs.Common.{◌≡◌, ◌∙◌, ◌<◌, List, ℕ, ◌++◌, Result, Ok, Err, Some, ap, get_or, length, map, option_map, slice_get, sym, ◌+◌, flat_map, take}
+use Rattle.std.proofs.lemmas.Option.{slice_get-map}
 use Rattle.std.specs.Result.{IsErrAnd}
 use Rattle.bolt_report.proofs.Words.{broken, ending, Ghosts, IsErr, length-map, ReportFault, SinkFault, slice_get-get_or, whole, Wrote, Wrote-element, Wrote-element_return, Wrote-elements, Wrote-return, Wrote-then, WroteFront}
-use Rattle.std.proofs.lemmas.Option.{slice_get-map}
-use Rattle.bolt_format.proofs.WroteFronts.{front_stop}
-use Rattle.bolt_format.proofs.WroteLemmas.{Wrote-ends, Wrote-halt, Wrote-stop, Wrote-stop_halted}
+use Rattle.bolt_format.proofs.{WroteFronts.front_stop, WroteLemmas.Wrote-ends, WroteLemmas.Wrote-halt, WroteLemmas.Wrote-stop, WroteLemmas.Wrote-stop_halted}
 use Rattle.bolt_report.specs.ReportEndings.{fault_ending, report_ending}
 use Rattle.bolt_report.specs.declared.fault.ReportFault.TheVariants as fault
 

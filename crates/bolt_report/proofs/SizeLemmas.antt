@@ -1,13 +1,10 @@
 -- The lines of the buckets among entries, entry by entry.
 use Rattle.std.proofs.Common.{◌≡◌, ◌∙◌, ℕ, zero, suc, drop, Bool, true, false, List, [], ◌∷◌, ◌++◌, Some, ap, append-nil, cond, filter, map, refl, subst, sym, rules}
-use Rattle.bolt_report.proofs.Words.{AllByRecursion, AreSized, bucket_checked, bucket_start, bytes_of, Checked, Contains, contains_head, contains_tail, entries_left, entry_view, EntryView, Form, IsStatsOf, Key, LeafElement, Meta, meta_of, On, Past, Place, props, Sized, sizes_text, Start, start_of, Stats, the_entries, ∥∥₁_elim}
 use Rattle.std.proofs.lemmas.Grind.{flat_map-append}
+use Rattle.bolt_report.proofs.Words.{AllByRecursion, AreSized, bucket_checked, bucket_start, bytes_of, Checked, Contains, contains_head, contains_tail, entries_left, entry_view, EntryView, Form, IsStatsOf, Key, LeafElement, Meta, meta_of, On, Past, Place, props, Sized, sizes_text, Start, start_of, Stats, the_entries, ∥∥₁_elim}
 use Rattle.bolt_tree.specs.BucketViews.{entries_of}
 use Rattle.bolt_tree.specs.Entries as items
-use Rattle.bolt_tree.specs.Entries.{item_of}
-use Rattle.bolt_tree.specs.Lookups.{IsBucketAt}
-use Rattle.bolt_tree.specs.Places.{Fresh}
-use Rattle.bolt_tree.specs.declared.bucket.Bucket.{Bucket}
+use Rattle.bolt_tree.specs.{Entries.item_of, Lookups.IsBucketAt, Places.Fresh, declared.bucket.Bucket.Bucket}
 use Rattle.bolt_tree.proofs.Named.{entry_once}
 use Rattle.bolt_report.specs.SizeLines.{size_line, size_text}
 use Rattle.bolt_report.proofs.StatsOnce.{one_stats}

@@ -1,15 +1,10 @@
 -- The figures of a bucket exist, and are those that the reading of its pages returns.
 use Rattle.std.proofs.Common.{◌≡◌, ◌≢◌, ◌∙◌, ℕ, suc, ◌+◌, ◌≤◌, ◌⊎◌, inl, inr, Bool, true, false, List, [], ◌==◌, ◌∷◌, ◌++◌, Option, Some, None, Result, Ok, Err, if◌then◌else◌, sum_by, refl, sym, ap, subst, arith}
 use Rattle.bolt_report.proofs.Words.{AreGood, At_page, bucket_figure, capped, depth_of, Enough, Figure, figure, follow, follow_append, HasSoundTrees, Inline_page, IsDepth, IsStart, IsStatsOf, Meta, Node, node_at, Nodes, one_tour, own_figure, PageSpot, reached, Root_page, root_spot, Spot, Start, Stats, step, sum_by-cons, total_of, tour_figure, weight}
-use Rattle.bolt_check.specs.Nodes.{Entry}
-use Rattle.bolt_check.specs.OnWays.{IsOnWay}
-use Rattle.bolt_check.specs.Ways.{At_inline, SpanHas, step_at, step_entry}
-use Rattle.bolt_check.proofs.TourSums.{bucket_sum, spot_weight}
-use Rattle.bolt_check.proofs.WayFacts.{in_own_span}
-use Rattle.bolt_report.specs.Figures.{inline_figure}
-use Rattle.bolt_report.specs.StatsOf.{IsPagedStats, spot_figure}
-use Rattle.bolt_report.proofs.DepthExists.{AllFilled, depth_is}
-use Rattle.bolt_report.proofs.StatsOnce.{stats_from}
+use Rattle.bolt_report.proofs.{DepthExists.AllFilled, DepthExists.depth_is, StatsOnce.stats_from}
+use Rattle.bolt_check.specs.{Nodes.Entry, OnWays.IsOnWay, Ways.At_inline, Ways.SpanHas, Ways.step_at, Ways.step_entry}
+use Rattle.bolt_check.proofs.{TourSums.bucket_sum, TourSums.spot_weight, WayFacts.in_own_span}
+use Rattle.bolt_report.specs.{Figures.inline_figure, StatsOf.IsPagedStats, StatsOf.spot_figure}
 
 -- A page that a way leads to is its bucket's root page, or at depth 2 or more.
 abbrev IsRootOrBelow : PageSpot → Type 0

@@ -1,12 +1,9 @@
 -- The figures of buckets: docs/COMMANDS.md, "What is printed".
 use Rattle.std.specs.Prelude.{◌==◌, ℕ, ◌+◌, ◌-◌, ◌*◌, ◌^◌, codes, min, max, List, [], ◌∷◌, length, sum_by, Option, Some, None, if◌then◌else◌}
-use Rattle.bolt_format.specs.Elements.{BranchElement, LeafElement, head_root, inline_elements}
-use Rattle.bolt_format.specs.Pages.{PageView}
+use Rattle.bolt_format.specs.{Elements.BranchElement, Elements.LeafElement, Elements.head_root, Elements.inline_elements, Pages.PageView}
 use Rattle.bolt_format.specs.declared.kind.Kind.{Kind}
 use Rattle.bolt_format.specs.declared.kind.Kind.TheVariants as kind
-use Rattle.bolt_report.specs.FigureForms.{Named, figures_text}
-use Rattle.bolt_report.specs.declared.form.FigureForm.{FigureForm}
-use Rattle.bolt_report.specs.declared.statistics.Stats.{Stats}
+use Rattle.bolt_report.specs.{FigureForms.Named, FigureForms.figures_text, declared.form.FigureForm.FigureForm, declared.statistics.Stats.Stats}
 
 -- which figure; depth is none of them, as it is no sum
 pub data Figure : Type 0 where

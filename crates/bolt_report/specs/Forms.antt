@@ -4,9 +4,7 @@ use Rattle.std.specs.Char.{is_control}
 use Rattle.std.specs.List.{list_all, starts_with}
 use Rattle.std.specs.Str.{chars, is_utf8}
 use Rattle.hex.specs.Hex.{encode_lower}
-use Rattle.json.specs.Json.{Json, member, no_members, object, string}
-use Rattle.json.specs.Print.{print}
-use Rattle.json.specs.Tree.{json_tokens}
+use Rattle.json.specs.{Json.Json, Json.member, Json.no_members, Json.object, Json.string, Print.print, Tree.json_tokens}
 use Rattle.bolt_report.specs.Lines.{line}
 use Rattle.bolt_report.specs.declared.form.Form as form
 

@@ -2,15 +2,11 @@
 use Rattle.std.specs.Prelude.{◌≡◌, ◌≢◌, ◌+◌, ◌-◌, ℕ, List, [], ◌++◌, codes, decimal, flat_map, length, option_map, slice_get, unwrap_or}
 use Rattle.std.specs.List.{filter}
 use Rattle.hex.specs.Hex.{encode_lower}
-use Rattle.bolt_format.specs.Elements.{LeafElement}
-use Rattle.bolt_format.specs.Shown.{shown}
+use Rattle.bolt_format.specs.{Elements.LeafElement, Shown.shown}
 use Rattle.bolt_format.specs.declared.kind.Kind.TheVariants as kind
 use Rattle.bolt_check.specs.Keys.{Key}
-use Rattle.bolt_recover.specs.Losses.{LostView}
-use Rattle.bolt_recover.specs.declared.found.Found.{Found}
-use Rattle.bolt_report.specs.FaultWords.{count_line}
-use Rattle.bolt_report.specs.Lines.{line}
-use Rattle.bolt_report.specs.LossLines.{lost_count, lost_lines}
+use Rattle.bolt_recover.specs.{Losses.LostView, declared.found.Found.Found}
+use Rattle.bolt_report.specs.{FaultWords.count_line, Lines.line, LossLines.lost_count, LossLines.lost_lines}
 
 -- a leaf page by its number and its elements
 pub record FoundView : Type 0 where

@@ -4,11 +4,8 @@ use Rattle.std.specs.Prelude.{ℕ, List, [], ◌∷◌, codes, decimal}
 use Rattle.hex.specs.Hex.{encode_lower}
 use Rattle.json.specs.Token.{Token, begin_object, end_object, key, string}
 use Rattle.json.specs.Json.{Items, Json, Members, array, item, member, no_items, no_members, number, object}
-use Rattle.bolt_tree.specs.Entries.{Bucket, Item, Value}
-use Rattle.bolt_tree.specs.Listing.{Member}
-use Rattle.bolt_tree.specs.Paths.{Path}
-use Rattle.bolt_report.specs.Forms.{json_text}
-use Rattle.bolt_report.specs.Lines.{line}
+use Rattle.bolt_tree.specs.{Entries.Bucket, Entries.Item, Entries.Value, Listing.Member, Paths.Path}
+use Rattle.bolt_report.specs.{Forms.json_text, Lines.line}
 
 -- by the JSON value of a key or a value
 module _ (shown : List ℕ → Json) where

@@ -5,12 +5,8 @@ use Rattle.std.specs.Str.{bytes_eq}
 use Rattle.std.specs.Str.Parse.{digits_value}
 use Rattle.hex.specs.Hex.{IsBytes, decode_of}
 use Rattle.json.specs.Json.{Items, Json, Members, array, boolean, item, member, no_items, no_members, null, number, object, string}
-use Rattle.bolt_tree.specs.Entries.{Bucket, Item, Value}
-use Rattle.bolt_tree.specs.Listing.{Member}
-use Rattle.bolt_tree.specs.Paths.{Path}
-use Rattle.bolt_report.specs.FigureForms.{Named}
-use Rattle.bolt_report.specs.SizeLines.{bytes_allocated, bytes_used}
-use Rattle.bolt_report.specs.declared.statistics.Stats.{Stats}
+use Rattle.bolt_tree.specs.{Entries.Bucket, Entries.Item, Entries.Value, Listing.Member, Paths.Path}
+use Rattle.bolt_report.specs.{FigureForms.Named, SizeLines.bytes_allocated, SizeLines.bytes_used, declared.statistics.Stats.Stats}
 
 abbrev pub string_of : Json → Option (List ℕ)
 string_of null = None

@@ -2,11 +2,8 @@
 use Rattle.std.specs.Prelude.{◌≡◌, ◌==◌, ◌+◌, ℕ, suc, Bool, List, filter, length}
 use Rattle.std.specs.List.{starts_with}
 use Rattle.bolt_format.specs.Elements.{LeafElement}
-use Rattle.bolt_check.specs.Keys.{Key}
-use Rattle.bolt_tree.specs.BucketViews.{AreSorted, BucketView}
-use Rattle.bolt_tree.specs.Openings.{IsGap, IsSeekCount, sum_to}
-use Rattle.bolt_check.specs.Counts.{counted}
-use Rattle.bolt_tree.specs.Places.{least_from}
+use Rattle.bolt_check.specs.{Keys.Key, Counts.counted}
+use Rattle.bolt_tree.specs.{BucketViews.AreSorted, BucketViews.BucketView, Openings.IsGap, Openings.IsSeekCount, Openings.sum_to, Places.least_from}
 
 abbrev pub begins : Key → LeafElement → Bool
 begins prefix e = starts_with (λ a b. a == b) e.key prefix

@@ -2,13 +2,8 @@
 use Rattle.std.specs.Prelude.{ℕ, List, flat_map}
 use Rattle.std.specs.Borrow.{Bor}
 use Rattle.std.specs.List.{take_while}
-use Rattle.bolt_tree.specs.Listing.{Member, rest_from}
-use Rattle.bolt_tree.specs.ListingParts.{begins_with, bucket_part, part_below}
-use Rattle.bolt_tree.specs.Paths.{path_of}
-use Rattle.bolt_report.specs.Forms.{digits_json, item_json}
-use Rattle.bolt_report.specs.JsonLines.{json_line}
-use Rattle.bolt_report.specs.ListLines.{member_line}
-use Rattle.bolt_report.specs.declared.form.ListForm.{ListForm}
+use Rattle.bolt_tree.specs.{Listing.Member, Listing.rest_from, ListingParts.begins_with, ListingParts.bucket_part, ListingParts.part_below, Paths.path_of}
+use Rattle.bolt_report.specs.{Forms.digits_json, Forms.item_json, JsonLines.json_line, ListLines.member_line, declared.form.ListForm.ListForm}
 use Rattle.bolt_report.specs.declared.form.ListForm.TheVariants.{Hex, Json, JsonHex}
 use Rattle.bolt_report.specs.declared.member_lines.LineWriter.{LineWriter}
 use Rattle.bolt_report.specs.declared.member_lines.LineWriter.TheVariants as writer

@@ -4,11 +4,8 @@ use Rattle.std.specs.Prelude.{ℕ, List, ◌++◌, codes, decimal, flat_map, map
 use Rattle.std.specs.Borrow.{Bor}
 use Rattle.std.specs.List.{join_with_byte}
 use Rattle.hex.specs.Hex.{encode_lower}
-use Rattle.bolt_tree.specs.Entries.{Bucket, Item, Value}
-use Rattle.bolt_tree.specs.Listing.{Member, rest_from}
-use Rattle.bolt_tree.specs.Paths.{Path, path_of}
-use Rattle.bolt_report.specs.Lines.{line}
-use Rattle.bolt_report.specs.PageLines.{value_end}
+use Rattle.bolt_tree.specs.{Entries.Bucket, Entries.Item, Entries.Value, Listing.Member, Listing.rest_from, Paths.Path, Paths.path_of}
+use Rattle.bolt_report.specs.{Lines.line, PageLines.value_end}
 
 -- the parts of a path in hexadecimal, joined by slashes
 abbrev pub hex_path : Path → List ℕ

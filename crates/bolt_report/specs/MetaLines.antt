@@ -1,13 +1,8 @@
 -- The seven figures of a meta, and the line of a slot without one: docs/COMMANDS.md, "What is printed".
 use Rattle.std.specs.Prelude.{◌==◌, ℕ, List, [], ◌∷◌, ◌++◌, Option, Some, None, codes, decimal, if◌then◌else◌}
-use Rattle.bolt_format.specs.declared.meta.Meta.{Meta}
-use Rattle.bolt_format.specs.declared.meta.MetaFault.{MetaFault}
-use Rattle.bolt_format.specs.declared.meta.Slot.{Slot}
-use Rattle.bolt_format.specs.declared.meta.Slot.TheVariants.{Zero, One}
-use Rattle.bolt_format.specs.declared.meta.TheConstants.{NO_FREELIST}
-use Rattle.bolt_report.specs.FaultWords.{meta_fault_text}
-use Rattle.bolt_report.specs.FigureForms.{Named, figures_text}
-use Rattle.bolt_report.specs.declared.form.FigureForm.{FigureForm}
+use Rattle.bolt_format.specs.{declared.meta.Meta.Meta, declared.meta.MetaFault.MetaFault, declared.meta.Slot.Slot}
+use Rattle.bolt_format.specs.{declared.meta.Slot.TheVariants.Zero, declared.meta.Slot.TheVariants.One, declared.meta.TheConstants.NO_FREELIST}
+use Rattle.bolt_report.specs.{FaultWords.meta_fault_text, FigureForms.Named, FigureForms.figures_text, declared.form.FigureForm.FigureForm}
 
 abbrev pub slot_number : Slot → ℕ
 slot_number Zero = 0

@@ -1,9 +1,7 @@
 -- A page as a text: docs/COMMANDS.md, "What is printed".
 use Rattle.std.specs.Prelude.{ℕ, List, [], ◌++◌, codes, decimal, flat_map, length, if◌then◌else◌, Option, Some, None}
 use Rattle.hex.specs.Hex.{encode_lower}
-use Rattle.bolt_format.specs.Elements.{BranchElement, LeafElement, head_root, head_sequence}
-use Rattle.bolt_format.specs.Pages.{PageView}
-use Rattle.bolt_format.specs.declared.kind.Kind.{Kind}
+use Rattle.bolt_format.specs.{Elements.BranchElement, Elements.LeafElement, Elements.head_root, Elements.head_sequence, Pages.PageView, declared.kind.Kind.Kind}
 use Rattle.bolt_format.specs.declared.kind.Kind.TheVariants as kind
 use Rattle.bolt_report.specs.Lines.{figure_line, line}
 

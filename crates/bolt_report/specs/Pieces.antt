@@ -5,11 +5,9 @@ use Rattle.std.specs.Borrow.{Bor}
 use Rattle.hex.specs.Hex.{encode_lower}
 use Rattle.json.specs.Print.{quoted}
 use Rattle.bolt_tree.specs.Paths.{Path, path_of}
-use Rattle.bolt_report.specs.Lines.{column, figure_line}
-use Rattle.bolt_report.specs.declared.pieces.Piece.{Piece}
+use Rattle.bolt_report.specs.{Lines.column, Lines.figure_line, declared.pieces.Piece.Piece}
 use Rattle.bolt_report.specs.declared.pieces.Piece.TheVariants.{Bytes, Number, Hex, HexString, HexPath, Figure, Column, NumberColumn}
-use Rattle.bolt_report.specs.declared.pieces.PathForm.{PathForm}
-use Rattle.bolt_report.specs.declared.pieces.PathForm.TheVariants.{Slashes, Strings}
+use Rattle.bolt_report.specs.{declared.pieces.PathForm.PathForm, declared.pieces.PathForm.TheVariants.Slashes, declared.pieces.PathForm.TheVariants.Strings}
 
 -- bytes in hexadecimal as a JSON string
 abbrev pub hex_string : List ℕ → List ℕ

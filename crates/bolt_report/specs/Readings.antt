@@ -1,15 +1,9 @@
 -- What is still to be read of a bucket, and sums over it.
 use Rattle.std.specs.Prelude.{◌==◌, ℕ, Bool, true, false, List, [], ◌∷◌, map, sum_by, if◌then◌else◌}
-use Rattle.bolt_format.specs.Elements.{LeafElement, head_root}
-use Rattle.bolt_format.specs.Pages.{page_at}
-use Rattle.bolt_format.specs.declared.meta.Meta.{Meta}
-use Rattle.bolt_check.specs.CheckedFiles.{bytes_of, meta_of}
-use Rattle.bolt_check.specs.Nodes.{Entry, Node, node_at}
-use Rattle.bolt_check.specs.Subtrees.{Enough, Has, kid_pages, weight}
-use Rattle.bolt_check.specs.declared.checked_file.Checked.{Checked}
-use Rattle.bolt_report.specs.Figures.{Figure, page_figure}
-use Rattle.bolt_report.specs.declared.bucket_stats.UnreadBucket.{UnreadBucket}
-use Rattle.bolt_report.specs.declared.bucket_stats.UnreadPage.{UnreadPage}
+use Rattle.bolt_format.specs.{Elements.LeafElement, Elements.head_root, Pages.page_at, declared.meta.Meta.Meta}
+use Rattle.bolt_check.specs.{CheckedFiles.bytes_of, CheckedFiles.meta_of, Nodes.Entry, Nodes.Node, Nodes.node_at}
+use Rattle.bolt_check.specs.{Subtrees.Enough, Subtrees.Has, Subtrees.kid_pages, Subtrees.weight, declared.checked_file.Checked.Checked}
+use Rattle.bolt_report.specs.{Figures.Figure, Figures.page_figure, declared.bucket_stats.UnreadBucket.UnreadBucket, declared.bucket_stats.UnreadPage.UnreadPage}
 
 -- the pages and the buckets of the code, by their numbers
 abbrev pub numbers_of : List UnreadPage → List ℕ

@@ -1,18 +1,11 @@
 -- The figures of a bucket with all buckets below it: docs/COMMANDS.md, "What is printed".
 -- They are sums over the set of its ways, stated as the rising list of exactly these.
 use Rattle.std.specs.Prelude.{◌≡◌, ℕ, ◌+◌, List, sum_by, Option, Some, None}
-use Rattle.bolt_format.specs.Elements.{LeafElement}
-use Rattle.bolt_format.specs.Pages.{page_at}
-use Rattle.bolt_format.specs.declared.meta.Meta.{Meta}
-use Rattle.bolt_check.specs.CheckedFiles.{bytes_of, meta_of}
-use Rattle.bolt_check.specs.Nodes.{node_at}
-use Rattle.bolt_check.specs.Tours.{IsTour}
+use Rattle.bolt_format.specs.{Elements.LeafElement, Pages.page_at, declared.meta.Meta.Meta}
+use Rattle.bolt_check.specs.{CheckedFiles.bytes_of, CheckedFiles.meta_of, Nodes.node_at, Tours.IsTour}
 use Rattle.bolt_check.specs.Ways.{At_inline, At_page, Reach, Spot, reached}
-use Rattle.bolt_tree.specs.Buckets.{bucket_checked, bucket_start}
-use Rattle.bolt_tree.specs.declared.bucket.Bucket.{Bucket}
-use Rattle.bolt_tree.specs.Entries.{Inline_page, Root_page, Start}
-use Rattle.bolt_report.specs.Depths.{IsDepth}
-use Rattle.bolt_report.specs.Figures.{Figure, bucket_figure, capped, figure, inline_figure, page_figure}
+use Rattle.bolt_tree.specs.{Buckets.bucket_checked, Buckets.bucket_start, declared.bucket.Bucket.Bucket, Entries.Inline_page, Entries.Root_page, Entries.Start}
+use Rattle.bolt_report.specs.{Depths.IsDepth, Figures.Figure, Figures.bucket_figure, Figures.capped, Figures.figure, Figures.inline_figure, Figures.page_figure}
 use Rattle.bolt_report.specs.declared.statistics.Stats.{Stats}
 
 -- the figures of where a way leads; an inline bucket's are those of the page that holds it

@@ -2,17 +2,12 @@
 //! recursive: lists have the buckets that are still to be read, and the pages of the one that is
 //! being read.
 ghost use Rattle.std.specs.Prelude.{◌≡◌, ◌<◌, ◌+◌, ◌∷◌, ◌++◌, ◌⊎◌, ℕ, [], IfOk, IsTrue, Ok, OnOk, flat_map, map, max, sum_by};
-ghost use Rattle.bolt_format.specs.ElementPlaces.{leaf_view};
-ghost use Rattle.bolt_format.specs.Elements.{IsBucketValue};
-ghost use Rattle.bolt_format.specs.Shown.{shown};
-ghost use Rattle.bolt_check.specs.CheckedFiles.{bytes_of, meta_of};
-ghost use Rattle.bolt_check.specs.Nodes.{Node, leaf_entry, node_at};
-ghost use Rattle.bolt_check.specs.Subtrees.{Enough, Has};
+ghost use Rattle.bolt_format.specs.{ElementPlaces.leaf_view, Elements.IsBucketValue, Shown.shown};
+ghost use Rattle.bolt_check.specs.{CheckedFiles.bytes_of, CheckedFiles.meta_of, Nodes.Node, Nodes.leaf_entry, Nodes.node_at, Subtrees.Enough, Subtrees.Has};
 ghost use Rattle.bolt_report.specs.Deepest.{deepest_in, depth_in, depth_of, greatest, height_of, inline_depth, inner_inline, leaf_depth};
 ghost use Rattle.bolt_report.specs.Figures.{Figure, bucket_figure, capped, figure};
 ghost use Rattle.bolt_report.specs.Readings.{AreGood, figure_in, pages_below, inner_pages, inner_roots, one, unread_bucket, unread_page, own_figure, root_page_of, roots_of};
-ghost use Rattle.bolt_report.specs.StatsOf.{AreStats};
-ghost use Rattle.bolt_report.specs.declared.bucket_stats.UnreadBucket.{UnreadBucket};
+ghost use Rattle.bolt_report.specs.{StatsOf.AreStats, declared.bucket_stats.UnreadBucket.UnreadBucket};
 
 use crate::page_stats::{inline_stats, page_stats};
 use crate::statistics::{Stats, add};

@@ -1,8 +1,7 @@
 //! Keys and values in a form.
 ghost use Rattle.std.specs.Prelude.{◌≡◌, ◌⊎◌, IfErr, if◌then◌else◌};
 ghost use Rattle.hex.specs.Hex.{encode_lower};
-ghost use Rattle.bolt_format.specs.Endings.{ending};
-ghost use Rattle.bolt_format.specs.Wrote.{Wrote};
+ghost use Rattle.bolt_format.specs.{Endings.ending, Wrote.Wrote};
 ghost use Rattle.bolt_report.specs.Forms.{digits_json, is_printable, is_text, item_text, json_text, mixed_text, value_text};
 ghost use Rattle.bolt_report.specs.ReportEndings.{report_ending};
 

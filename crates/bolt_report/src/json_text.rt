@@ -2,12 +2,9 @@
 ghost use Rattle.std.specs.Prelude.{◌≡◌, [], IfOk, ◌∷◌, ◌++◌, OnOk, flat_map};
 ghost use Rattle.bolt_report.specs.Forms.{item_json, json_text};
 ghost use Rattle.bolt_report.specs.JsonLines.{digits_tokens, json_line, end_json, member_json, parts_json};
-ghost use Rattle.bolt_tree.specs.Paths.{path_of};
-ghost use Rattle.bolt_tree.specs.ShownEntries.{item_view};
+ghost use Rattle.bolt_tree.specs.{Paths.path_of, ShownEntries.item_view};
 ghost use Rattle.hex.specs.Hex.{encode_lower};
-ghost use Rattle.json.specs.Json.{array};
-ghost use Rattle.json.specs.Token.{key};
-ghost use Rattle.json.specs.Tree.{json_tokens, members_tokens};
+ghost use Rattle.json.specs.{Json.array, Token.key, Tree.json_tokens, Tree.members_tokens};
 
 use crate::hexadecimal::encode_digits;
 use bolt_tree::{Item, NoMemory};

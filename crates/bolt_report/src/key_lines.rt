@@ -1,13 +1,10 @@
 //! The keys of a bucket as a text.
 ghost use Rattle.std.specs.Prelude.{◌≡◌, ◌⊎◌, IfErr, OnOk};
-ghost use Rattle.bolt_format.specs.Elements.{LeafElement};
-ghost use Rattle.bolt_format.specs.Wrote.{Wrote};
-ghost use Rattle.bolt_tree.specs.Entries.{entry_view};
-ghost use Rattle.bolt_tree.specs.ShownEntries.{shown_entry};
-ghost use Rattle.bolt_report.specs.KeyLines.{ForBucket, ForCursor, bucket_name, buckets_text, keys_text};
-ghost use Rattle.bolt_report.specs.ReportEndings.{report_ending};
-ghost use Rattle.bolt_report.specs.KeyPrefixes.{OpensPrefix, with_prefix};
+ghost use Rattle.bolt_format.specs.{Elements.LeafElement, Wrote.Wrote};
+ghost use Rattle.bolt_tree.specs.{Entries.entry_view, ShownEntries.shown_entry};
 ghost use Rattle.bolt_tree.specs.Cursors.{cursor_bucket, cursor_checked, cursor_opened, cursor_start};
+ghost use Rattle.bolt_report.specs.KeyLines.{ForBucket, ForCursor, bucket_name, buckets_text, keys_text};
+ghost use Rattle.bolt_report.specs.{ReportEndings.report_ending, KeyPrefixes.OpensPrefix, KeyPrefixes.with_prefix};
 
 use crate::fault::ReportFault;
 use crate::form::Form;

@@ -2,21 +2,15 @@
 ghost use Rattle.std.specs.Prelude.{◌≡◌, ◌<◌, ◌^◌, ℕ, List, Some, map, option_and_then};
 ghost use Rattle.hex.specs.Hex.{IsBytes};
 ghost use Rattle.json.specs.Json.{document};
-ghost use Rattle.bolt_format.specs.Elements.{LeafElement};
-ghost use Rattle.bolt_format.specs.declared.meta.Meta.{Meta};
+ghost use Rattle.bolt_format.specs.{Elements.LeafElement, declared.meta.Meta.Meta};
 ghost use Rattle.bolt_check.specs.Sound.{HasSoundTrees};
-ghost use Rattle.bolt_report.specs.FigureForms.{Named, figures_json, json_name};
-ghost use Rattle.bolt_report.specs.Forms.{digits_json, item_json, json_text};
+ghost use Rattle.bolt_report.specs.{FigureForms.Named, FigureForms.figures_json, FigureForms.json_name, Forms.digits_json, Forms.item_json, Forms.json_text};
 ghost use Rattle.bolt_report.specs.JsonLines.{member_json};
 ghost use Rattle.bolt_report.specs.JsonReadings.{named_size, HaveWords, IsMemberOfBytes, digits_of, figures_of, item_of, member_of, size_of};
-ghost use Rattle.bolt_report.specs.ListForms.{listing_lines};
-ghost use Rattle.bolt_report.specs.ListLines.{listing_text};
-ghost use Rattle.bolt_report.specs.SizeLines.{AreSized, Sized, size_json};
-ghost use Rattle.bolt_report.specs.StatsOf.{IsStatsOf};
-ghost use Rattle.bolt_report.specs.declared.statistics.Stats.{Stats};
+ghost use Rattle.bolt_report.specs.{ListForms.listing_lines, ListLines.listing_text, SizeLines.AreSized, SizeLines.Sized, SizeLines.size_json};
+ghost use Rattle.bolt_report.specs.{StatsOf.IsStatsOf, declared.statistics.Stats.Stats};
 ghost use Rattle.bolt_report.specs.declared.form.ListForm.TheVariants as ListForm;
-ghost use Rattle.bolt_tree.specs.Entries.{AreEntries, IsEntry, IsStart, Start};
-ghost use Rattle.bolt_tree.specs.Listing.{Member};
+ghost use Rattle.bolt_tree.specs.{Entries.AreEntries, Entries.IsEntry, Entries.IsStart, Entries.Start, Listing.Member};
 
 /// A bucket has at most one set of figures.
 #[tactic(auto, using(crate::proofs::StatsOnce::one_stats))]

@@ -1,13 +1,11 @@
 //! The lines of what is lost of a damaged file.
 ghost use Rattle.std.specs.Prelude.{◌≡◌, ◌++◌, map, ◌≤◌};
-ghost use Rattle.bolt_format.specs.Endings.{ending};
-ghost use Rattle.bolt_format.specs.Wrote.{Wrote};
+ghost use Rattle.std.specs.List.{All};
+ghost use Rattle.bolt_format.specs.{Endings.ending, Wrote.Wrote, Shown.shown};
 ghost use Rattle.bolt_recover.specs.ShownLosses.{loss_view, lost_view};
 ghost use Rattle.bolt_tree.specs.Paths.{path_of};
 ghost use Rattle.bolt_report.specs.Lines.{line};
 ghost use Rattle.bolt_report.specs.LossLines.{bounds_line, bucket_words, loss_text, losses_text, lost_count, lost_lines};
-ghost use Rattle.std.specs.List.{All};
-ghost use Rattle.bolt_format.specs.Shown.{shown};
 ghost use Rattle.bolt_report.specs.FoundLines.{IsFoundLeaf, bucket_count, counted_lost_text, found_line, found_text, found_view, lost_text};
 
 use crate::fault_lines::{put_count, put_sentence};

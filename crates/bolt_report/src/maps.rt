@@ -1,12 +1,9 @@
 //! The map of all pages of a file.
 ghost use Rattle.std.specs.Prelude.{◌≡◌, ◌+◌, ◌-◌, ◌≤◌, ◌<◌, length, map, true};
 ghost use Rattle.std.specs.List.{range_with_len};
-ghost use Rattle.bolt_format.specs.Endings.{ending};
-ghost use Rattle.bolt_format.specs.Wrote.{Wrote};
-ghost use Rattle.bolt_check.specs.CheckedFiles.{bytes_of, has_accounts, meta_of};
-ghost use Rattle.bolt_check.specs.RoledFiles.{roles_checked};
-ghost use Rattle.bolt_report.specs.PageMaps.{lines_of, map_line, map_of, page_mark};
-ghost use Rattle.bolt_report.specs.PageTables.{ForRoles, pages_in};
+ghost use Rattle.bolt_format.specs.{Endings.ending, Wrote.Wrote};
+ghost use Rattle.bolt_check.specs.{CheckedFiles.bytes_of, CheckedFiles.has_accounts, CheckedFiles.meta_of, RoledFiles.roles_checked};
+ghost use Rattle.bolt_report.specs.{PageMaps.lines_of, PageMaps.map_line, PageMaps.map_of, PageMaps.page_mark, PageTables.ForRoles, PageTables.pages_in};
 
 use crate::page_table::{free_past, pages_begun, put_past};
 use crate::pieces::{Piece, put_pieces};

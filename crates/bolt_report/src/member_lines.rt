@@ -1,15 +1,9 @@
 //! The lines of members of a listing.
 ghost use Rattle.std.specs.Prelude.{◌≡◌, ◌⊎◌, IfErr};
-ghost use Rattle.bolt_format.specs.Wrote.{Wrote};
-ghost use Rattle.bolt_report.specs.ListForms.{lines_form, list_line};
-ghost use Rattle.bolt_report.specs.ReportEndings.{report_ending};
-ghost use Rattle.bolt_tree.specs.Paths.{path_of};
-ghost use Rattle.bolt_tree.specs.ShownEntries.{item_view};
-ghost use Rattle.bolt_format.specs.Endings.{ending};
-ghost use Rattle.bolt_report.specs.Forms.{digits_json};
-ghost use Rattle.bolt_report.specs.JsonLines.{json_line};
-ghost use Rattle.bolt_tree.specs.FileListings.{ForListing};
+ghost use Rattle.bolt_format.specs.{Wrote.Wrote, Endings.ending};
+ghost use Rattle.bolt_report.specs.{ListForms.lines_form, ListForms.list_line, ReportEndings.report_ending, Forms.digits_json, JsonLines.json_line};
 ghost use Rattle.bolt_report.specs.ListLines.{member_line, rest_text};
+ghost use Rattle.bolt_tree.specs.{Paths.path_of, ShownEntries.item_view, FileListings.ForListing};
 
 use crate::fault::ReportFault;
 use crate::form::ListForm;

@@ -1,10 +1,8 @@
 //! A meta as a text, and a slot without one.
 ghost use Rattle.std.specs.Prelude.{◌≡◌, codes};
-ghost use Rattle.bolt_format.specs.Endings.{ending};
-ghost use Rattle.bolt_format.specs.Wrote.{Wrote};
+ghost use Rattle.bolt_format.specs.{Endings.ending, Wrote.Wrote};
 ghost use Rattle.bolt_report.specs.FigureForms.{named_line, number_text};
-ghost use Rattle.bolt_report.specs.MetaLines.{freelist_of, info_text, slot_fault_text, slot_number};
-ghost use Rattle.bolt_report.specs.Pieces.{piece_text};
+ghost use Rattle.bolt_report.specs.{MetaLines.freelist_of, MetaLines.info_text, MetaLines.slot_fault_text, MetaLines.slot_number, Pieces.piece_text};
 
 use crate::fault_lines::meta_fault_line;
 use crate::form::FigureForm;

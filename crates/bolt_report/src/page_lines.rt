@@ -2,18 +2,11 @@
 ghost use Rattle.std.specs.Prelude.{◌≡◌, ◌≢◌, ◌↔◌, Err, IfOk, Some, ◌++◌, IsTrue, flat_map};
 ghost use Rattle.std.specs.Option.{option_map};
 ghost use Rattle.std.specs.Result.{result_err};
-ghost use Rattle.bolt_format.specs.Endings.{ending};
-ghost use Rattle.bolt_format.specs.Freelists.{free_ids_at};
-ghost use Rattle.bolt_format.specs.Pages.{page_at};
-ghost use Rattle.bolt_format.specs.Shown.{shown};
-ghost use Rattle.bolt_format.specs.ShownIds.{shown_ids};
-ghost use Rattle.bolt_format.specs.Wrote.{Wrote};
+ghost use Rattle.bolt_format.specs.{Endings.ending, Freelists.free_ids_at, Pages.page_at, Shown.shown, ShownIds.shown_ids, Wrote.Wrote};
+ghost use Rattle.bolt_format.specs.{ElementPlaces.branch_view, ElementPlaces.leaf_view, Elements.IsBucketValue};
 ghost use Rattle.bolt_report.specs.PageLines.{head_lines, head_of, item_lines, items_on, kind_text, known_ids, page_lines, branch_line, bucket_end, id_line, leaf_line, value_end};
-ghost use Rattle.bolt_report.specs.PageTexts.{page_text, page_text_fault};
-ghost use Rattle.bolt_report.specs.ReportEndings.{report_ending};
+ghost use Rattle.bolt_report.specs.{PageTexts.page_text, PageTexts.page_text_fault, ReportEndings.report_ending};
 ghost use Rattle.hex.specs.Hex.{encode_lower};
-ghost use Rattle.bolt_format.specs.ElementPlaces.{branch_view, leaf_view};
-ghost use Rattle.bolt_format.specs.Elements.{IsBucketValue};
 
 use crate::fault::ReportFault;
 use crate::pieces::{Piece, put_pieces};

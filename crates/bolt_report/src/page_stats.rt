@@ -1,9 +1,6 @@
 //! The figures of one page: its own, and those of the inline buckets in it.
 ghost use Rattle.std.specs.Prelude.{◌≡◌, ◌+◌, IsTrue, length, sum_by};
-ghost use Rattle.bolt_format.specs.Elements.{IsBucketValue};
-ghost use Rattle.bolt_format.specs.ElementPlaces.{leaf_view};
-ghost use Rattle.bolt_format.specs.Shown.{shown};
-ghost use Rattle.bolt_format.specs.ShownInline.{shown_inline};
+ghost use Rattle.bolt_format.specs.{Elements.IsBucketValue, ElementPlaces.leaf_view, Shown.shown, ShownInline.shown_inline};
 ghost use Rattle.bolt_report.specs.Figures.{Figure, allocated, used_by_branches, branch_figure, capped, element_figure, figure, inline_figure, kind_figure, used_by_leaves, leaf_figure};
 
 use crate::statistics::{Stats, add};

@@ -1,16 +1,9 @@
 //! The table of all pages of a file.
 ghost use Rattle.std.specs.Prelude.{◌≡◌, ◌<◌, ◌⊎◌, IfErr, IsSome, length, true, [], codes, decimal};
-ghost use Rattle.bolt_format.specs.Endings.{ending};
-ghost use Rattle.bolt_format.specs.Freelists.{free_ids_at};
-ghost use Rattle.bolt_format.specs.Pages.{page_at};
-ghost use Rattle.bolt_format.specs.Wrote.{Wrote};
-ghost use Rattle.bolt_check.specs.CheckedFiles.{bytes_of, has_accounts, meta_of};
-ghost use Rattle.bolt_check.specs.RoledFiles.{roles_checked};
-ghost use Rattle.bolt_check.specs.Roles.{HasRole};
+ghost use Rattle.bolt_format.specs.{Endings.ending, Freelists.free_ids_at, Pages.page_at, Wrote.Wrote};
+ghost use Rattle.bolt_check.specs.{CheckedFiles.bytes_of, CheckedFiles.has_accounts, CheckedFiles.meta_of, RoledFiles.roles_checked, Roles.HasRole};
 ghost use Rattle.bolt_report.specs.PageTables.{ForRoles, begun, free_past, head_rows, items_row, overflow_text, page_row, past_line, row, table_rows, table_text};
-ghost use Rattle.bolt_report.specs.ReportEndings.{report_ending};
-ghost use Rattle.bolt_report.specs.Lines.{column};
-ghost use Rattle.bolt_report.specs.Pieces.{piece_text};
+ghost use Rattle.bolt_report.specs.{ReportEndings.report_ending, Lines.column, Pieces.piece_text};
 
 use crate::fault::ReportFault;
 use crate::pieces::{Piece, put, put_pieces};

@@ -2,12 +2,9 @@
 ghost use Rattle.std.specs.Prelude.{◌≡◌, ◌&&◌, ◌⊎◌, IfErr, IfOk, List, OnOk, not};
 ghost use Rattle.std.specs.Ordering.{is_lt};
 ghost use Rattle.bolt_format.specs.Wrote.{Wrote};
-ghost use Rattle.bolt_tree.specs.FileListings.{ForListing};
-ghost use Rattle.bolt_tree.specs.Listing.{Member, member_cmp};
-ghost use Rattle.bolt_tree.specs.ListingParts.{begins_with, has_bucket, is_bucket_at, later_path};
-ghost use Rattle.bolt_tree.specs.Order.{Rises};
-ghost use Rattle.bolt_tree.specs.Paths.{path_cmp, path_of};
-ghost use Rattle.bolt_tree.specs.ShownEntries.{item_view};
+ghost use Rattle.bolt_tree.specs.{FileListings.ForListing, Listing.Member, Listing.member_cmp};
+ghost use Rattle.bolt_tree.specs.{ListingParts.begins_with, ListingParts.has_bucket, ListingParts.is_bucket_at, ListingParts.later_path, Order.Rises};
+ghost use Rattle.bolt_tree.specs.{Paths.path_cmp, Paths.path_of, ShownEntries.item_view};
 ghost use Rattle.bolt_report.specs.ListForms.{bucket_lines, lines_below, lines_form, lines_while_below};
 ghost use Rattle.bolt_report.specs.ReportEndings.{report_ending};
 

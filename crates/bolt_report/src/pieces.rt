@@ -1,11 +1,9 @@
 //! Writes a line as a list of pieces, gathered in a buffer of fixed length before they are written.
 ghost use Rattle.std.specs.Prelude.{◌≡◌, ◌∷◌, [], OnOk, decimal, replicate};
 ghost use Rattle.hex.specs.Hex.{encode_lower};
-ghost use Rattle.bolt_format.specs.Endings.{ending};
-ghost use Rattle.bolt_format.specs.Wrote.{Wrote};
+ghost use Rattle.bolt_format.specs.{Endings.ending, Wrote.Wrote};
 ghost use Rattle.bolt_tree.specs.Paths.{path_of};
-ghost use Rattle.bolt_report.specs.Gathers.{Gathers};
-ghost use Rattle.bolt_report.specs.Lines.{column, figure_line};
+ghost use Rattle.bolt_report.specs.{Gathers.Gathers, Lines.column, Lines.figure_line};
 ghost use Rattle.bolt_report.specs.Pieces.{hex_string, later_parts, part_text, path_text, piece_text, pieces_text, separator};
 
 use crate::hexadecimal::{put_hex, write_digits};

@@ -1,16 +1,10 @@
 //! The sizes of the buckets in a bucket as a text.
 ghost use Rattle.std.specs.Prelude.{◌≡◌, ◌∷◌, ◌++◌, ◌⊎◌, [], IfErr, List, true};
-ghost use Rattle.bolt_format.specs.Elements.{LeafElement};
-ghost use Rattle.bolt_format.specs.Endings.{ending};
-ghost use Rattle.bolt_format.specs.Wrote.{Wrote};
+ghost use Rattle.bolt_format.specs.{Elements.LeafElement, Endings.ending, Wrote.Wrote};
 ghost use Rattle.bolt_check.specs.CheckedFiles.{bytes_of, meta_of};
-ghost use Rattle.bolt_tree.specs.BucketViews.{entries_of};
-ghost use Rattle.bolt_tree.specs.Buckets.{bucket_checked, bucket_start};
-ghost use Rattle.bolt_tree.specs.Entries.{entry_view};
-ghost use Rattle.bolt_tree.specs.EntriesLeft.{ForEntries};
+ghost use Rattle.bolt_tree.specs.{BucketViews.entries_of, Buckets.bucket_checked, Buckets.bucket_start, Entries.entry_view, EntriesLeft.ForEntries};
 ghost use Rattle.bolt_tree.specs.ShownEntries.{shown_entry};
-ghost use Rattle.bolt_report.specs.Forms.{value_text, is_json, json_in, json_text};
-ghost use Rattle.bolt_report.specs.ReportEndings.{report_ending};
+ghost use Rattle.bolt_report.specs.{Forms.value_text, Forms.is_json, Forms.json_in, Forms.json_text, ReportEndings.report_ending};
 ghost use Rattle.bolt_report.specs.SizeLines.{AreSized, Sized, bytes_allocated, bytes_used, size_columns, size_text, sizes_text, size_json, size_members};
 ghost use Rattle.bolt_report.specs.Lines.{line};
 

@@ -1,7 +1,6 @@
 //! The figures of buckets, and their sums.
 ghost use Rattle.std.specs.Prelude.{◌≡◌};
-ghost use Rattle.bolt_format.specs.Endings.{ending};
-ghost use Rattle.bolt_format.specs.Wrote.{Wrote};
+ghost use Rattle.bolt_format.specs.{Endings.ending, Wrote.Wrote};
 ghost use Rattle.bolt_report.specs.Figures.{add_stats, stats_text};
 
 use crate::form::FigureForm;

@@ -2,16 +2,11 @@
 use Rattle.std.proofs.Common.{◌≡◌, ◌≢◌, ◌∙◌, ◌↔◌, ◌+◌, ◌==◌, ◌≤◌, ℕ, List, ◌++◌, Bool, true, false, Option, Some, None, cond, inl, inr, ap, refl, subst, sym}
 use Rattle.std.proofs.lemmas.Bool.{eq-eqb, ne_eqb}
 use Rattle.bolt_format.specs.Freelists.{free_ids_at, free_ids_of, freelist_fault, freelist_fault_of}
-use Rattle.bolt_format.specs.Pages.{page_overflow, span_fault}
-use Rattle.bolt_format.specs.declared.meta.Meta.{Meta}
-use Rattle.bolt_format.specs.declared.meta.TheConstants.{NO_FREELIST}
+use Rattle.bolt_format.specs.{Pages.page_overflow, Pages.span_fault, declared.meta.Meta.Meta, declared.meta.TheConstants.NO_FREELIST}
 use Rattle.bolt_format.proofs.FaultLemmas.{first_of-none}
 use Rattle.bolt_check.specs.Accounts.{IsFree, IsInFreelist, IsInUse, ListsFree, times_in}
-use Rattle.bolt_check.specs.Findings.{IsCovered, IsMetaPage}
-use Rattle.bolt_check.specs.Nodes.{Nodes}
-use Rattle.bolt_check.specs.Shape.{HasShape}
-use Rattle.bolt_check.specs.Sound.{HasRightAccounts, HasSoundTrees, IsSound, IsUsed}
-use Rattle.bolt_check.specs.Ways.{reached}
+use Rattle.bolt_check.specs.{Findings.IsCovered, Findings.IsMetaPage, Nodes.Nodes, Shape.HasShape}
+use Rattle.bolt_check.specs.{Sound.HasRightAccounts, Sound.HasSoundTrees, Sound.IsSound, Sound.IsUsed, Ways.reached}
 use Rattle.bolt_snapshot.specs.Marks.{HasAllPages}
 use Rattle.bolt_snapshot.proofs.TrailingBytes.{below_of, bytes_more, count_more, flags_more, nodes_more, overflow_more, span_more}
 use Rattle.bolt_snapshot.proofs.TrailingMetas.{in_slot_more}

@@ -2,18 +2,11 @@
 use Rattle.std.proofs.Common.{◌≡◌, ◌∙◌, ◌+◌, ◌*◌, ◌<◌, ◌≤◌, ℕ, List, [], ◌++◌, drop, take, length, inl, inr, arith, ap, refl, sym}
 use Rattle.std.proofs.Math.Nat.{mul-le-mul_right}
 use Rattle.std.proofs.lemmas.List.{drop-append-le, length-append, length-drop, take-append-le}
-use Rattle.bolt_format.specs.Metas.{IsChosen, IsInSlot, IsMeta, other_slot}
-use Rattle.bolt_format.specs.declared.meta.Meta.{Meta}
-use Rattle.bolt_format.specs.declared.meta.Slot.{Slot}
+use Rattle.bolt_format.specs.{Metas.IsChosen, Metas.IsInSlot, Metas.IsMeta, Metas.other_slot, declared.meta.Meta.Meta, declared.meta.Slot.Slot}
 use Rattle.bolt_format.specs.declared.meta.Slot.TheVariants.{Zero, One}
-use Rattle.bolt_format.proofs.MetaPrefix.{SameRecord, meta_same, same_back}
-use Rattle.bolt_format.proofs.PageFacts.{span_passes}
-use Rattle.bolt_format.proofs.PageSizes.{size_bounds}
-use Rattle.bolt_check.specs.Nodes.{node_at}
-use Rattle.bolt_check.specs.Sound.{HasSoundTrees}
-use Rattle.bolt_check.specs.Ways.{root_spot}
-use Rattle.bolt_check.proofs.TreePages.{IsTreePage, a_branch, a_leaf, tree_page}
-use Rattle.bolt_check.proofs.WayFacts.{in_own_span}
+use Rattle.bolt_format.proofs.{MetaPrefix.SameRecord, MetaPrefix.meta_same, MetaPrefix.same_back, PageFacts.span_passes, PageSizes.size_bounds}
+use Rattle.bolt_check.specs.{Nodes.node_at, Sound.HasSoundTrees, Ways.root_spot}
+use Rattle.bolt_check.proofs.{TreePages.IsTreePage, TreePages.a_branch, TreePages.a_leaf, TreePages.tree_page, WayFacts.in_own_span}
 use Rattle.bolt_snapshot.specs.Marks.{HasAllPages}
 use Rattle.bolt_snapshot.proofs.TrailingBytes.{below_of, number_more}
 

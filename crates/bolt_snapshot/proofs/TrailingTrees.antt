@@ -1,15 +1,12 @@
 -- Bytes after the last page below the high-water mark: the entries of each bucket are as they were.
 use Rattle.std.proofs.Common.{◌≡◌, ◌∙◌, ◌↔◌, ℕ, List, ◌++◌, Option, Some, refl, subst, sym, ap₂}
-use Rattle.std.specs.List.{Contains}
 use Rattle.std.proofs.Math.Path.{fun_ext}
-use Rattle.bolt_format.specs.Elements.{LeafElement}
-use Rattle.bolt_format.specs.Pages.{PageView, page_at}
+use Rattle.std.specs.List.{Contains}
+use Rattle.bolt_format.specs.{Elements.LeafElement, Pages.PageView, Pages.page_at}
 use Rattle.bolt_format.specs.declared.kind.Kind.TheVariants as kind
 use Rattle.bolt_format.specs.declared.meta.Meta.{Meta}
-use Rattle.bolt_check.specs.Nodes.{Nodes, node_at}
-use Rattle.bolt_check.specs.Shape.{leads}
-use Rattle.bolt_tree.specs.Entries.{IsEntry, Inline_page, Root_page, Start}
-use Rattle.bolt_tree.specs.Listing.{IsListing, Lists, Member}
+use Rattle.bolt_check.specs.{Nodes.Nodes, Nodes.node_at, Shape.leads}
+use Rattle.bolt_tree.specs.{Entries.IsEntry, Entries.Inline_page, Entries.Root_page, Entries.Start, Listing.IsListing, Listing.Lists, Listing.Member}
 use Rattle.bolt_snapshot.specs.Marks.{HasAllPages}
 use Rattle.bolt_snapshot.proofs.TrailingBytes.{nodes_more, pages_more}
 

@@ -1,7 +1,6 @@
 -- Files with all their pages: docs/FORMAT.md, "Meta pages".
 use Rattle.std.specs.Prelude.{◌≤◌, ◌*◌, ℕ, List, length}
-use Rattle.bolt_format.specs.Metas.{IsPageSize}
-use Rattle.bolt_format.specs.declared.meta.Meta.{Meta}
+use Rattle.bolt_format.specs.{Metas.IsPageSize, declared.meta.Meta.Meta}
 
 -- each page below the high-water mark lies in the file
 pub record HasAllPages (file : List ℕ) (meta : Meta) : Type 0 where

@@ -1,11 +1,8 @@
 //! What holds of a snapshot: of the bytes after the database, and of their hash.
 ghost use Rattle.std.specs.Prelude.{◌≡◌, ◌↔◌, ◌<◌, ◌+◌, ◌%◌, ◌++◌, ℕ, Bool, List, Some, length, take};
 ghost use Rattle.bolt_check.specs.Sound.{IsSound};
-ghost use Rattle.bolt_format.specs.Metas.{HasBothMetas, IsChosen};
-ghost use Rattle.bolt_format.specs.declared.meta.Meta.{Meta};
-ghost use Rattle.bolt_format.specs.declared.meta.Slot.{Slot};
-ghost use Rattle.bolt_snapshot.specs.Marks.{HasAllPages};
-ghost use Rattle.bolt_snapshot.specs.SnapshotFaults.{IsSnapshot, hash_fault, snapshot_of};
+ghost use Rattle.bolt_format.specs.{Metas.HasBothMetas, Metas.IsChosen, declared.meta.Meta.Meta, declared.meta.Slot.Slot};
+ghost use Rattle.bolt_snapshot.specs.{Marks.HasAllPages, SnapshotFaults.IsSnapshot, SnapshotFaults.hash_fault, SnapshotFaults.snapshot_of};
 ghost use Rattle.bolt_snapshot.specs.declared.hash_check.SnapshotFault.TheVariants.{HashMissing};
 ghost use Rattle.bolt_tree.specs.Listing.{IsListing, Member};
 

@@ -2,8 +2,7 @@
 -- Rests on the law that a bucket of the tree has them, and on that each such bucket is one of the tree (BucketWays).
 use Rattle.std.proofs.Common.{ℕ, List}
 use Rattle.bolt_tree.proofs.Words.{AreEntries, Checked, HasEntries, HasSoundTrees, IsEntry, IsStart, LeafElement, Meta, Root_page, Start, bytes_of, elements_of, entries_of, meta_of, pages_at, root_start, with_trees, ∥∥₁_prop}
-use Rattle.bolt_tree.proofs.SortedLemmas.{sorted}
-use Rattle.bolt_tree.proofs.BucketWays.{root_starts, starts_named}
+use Rattle.bolt_tree.proofs.{SortedLemmas.sorted, BucketWays.root_starts, BucketWays.starts_named}
 
 pub sorted_at : (file : List ℕ) (meta : Meta) → HasSoundTrees file meta → (start : Start) → IsStart file meta start → (entries : List LeafElement) × AreEntries (IsEntry file meta) start entries
 sorted_at file meta sound start is = (elements_of (pages_at file meta start), sorted file meta sound start is)

@@ -3,8 +3,7 @@ use Rattle.std.proofs.Common.{◌≡◌, ◌∙◌, ◌⊎◌, IsTrue, Bool, inl
 use Rattle.bolt_tree.proofs.Words.{AreOpen, Bucket, Checked, CursorView, Equal, Greater, HasEntries, IsInside, Key, LeafElement, Less, Lists, Member, Names, Opens, Ordering, Path, Start, beyond, bucket_checked, bucket_start, entries_of, fresh_view, is_end, is_lt, key_cmp, least_from, less_of, ordering_reverse, props, rest_from, root_start, seek_move, start_of, ∥∥₁_elim}
 use Rattle.bolt_tree.proofs.CursorMoves.{by_key}
 use Rattle.bolt_tree.proofs.Entering.{Fresh_at, MovesBy, comes_by, leads_by, leads_in, leads_inside, made, opens_by, placed_in}
-use Rattle.bolt_tree.proofs.EntryOrder.{contains_at, seek_from}
-use Rattle.bolt_tree.proofs.PathOrder.{key_exact, key_total}
+use Rattle.bolt_tree.proofs.{EntryOrder.contains_at, EntryOrder.seek_from, PathOrder.key_exact, PathOrder.key_total}
 use Rattle.bolt_tree.proofs.Seeking.{rest_greater, rest_none, rest_past_value}
 
 pub neither : (a b : Key) (o : Ordering) → key_cmp a b ≡ o → is_lt (key_cmp a b) ≡ false → is_lt (key_cmp b a) ≡ false → a ≡ b

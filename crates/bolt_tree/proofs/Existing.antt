@@ -2,10 +2,7 @@
 -- Rests on the tree of the root bucket (Nesting) and on what trees list (TreeListing).
 use Rattle.std.proofs.Common.{◌≡◌, ◌∙◌, ◌<◌, ap, ℕ, List, Some, sym}
 use Rattle.bolt_tree.proofs.Words.{At_page, HasSoundTrees, IsEntry, IsListing, IsTreeOf, Member, Meta, PageSpot, Root_page, Tree, below_mark, file_tree, good_page, listing_of, node_at, reached, tree_of}
-use Rattle.bolt_tree.proofs.Nesting.{root_tree}
-use Rattle.bolt_tree.proofs.ReadBack.{tree_back}
-use Rattle.bolt_tree.proofs.Single.{lists_once}
-use Rattle.bolt_tree.proofs.TreeListing.{tree_lists}
+use Rattle.bolt_tree.proofs.{Nesting.root_tree, ReadBack.tree_back, Single.lists_once, TreeListing.tree_lists}
 
 below : (file : List ℕ) (meta : Meta) → HasSoundTrees file meta → (w : List ℕ) (s : PageSpot) → reached (node_at file meta) meta.root w ≡ Some (At_page s) → s.number < meta.high_water
 below file meta sound w s at = below_mark file meta s.number (good_page file meta w s sound at)

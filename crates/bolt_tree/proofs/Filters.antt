@@ -1,9 +1,8 @@
 -- What a filter keeps of a list: all, nothing, as much as another; and of a rising list first the least that it keeps.
 use Rattle.std.proofs.Common.{◌≡◌, ◌∙◌, ◌⊎◌, ◌<◌, inl, inr, Bool, true, false, List, [], ◌∷◌, length, cond, filter, refl, sym, ap, subst, arith, not}
-use Rattle.bolt_tree.proofs.Words.{Contains, Greater, IsTotalOrder, Less, Ordering, Rises, false_from_ne_true, is_lt, tied_itself}
-use Rattle.bolt_tree.proofs.Lists.{contains_cases, contains_head, contains_none, contains_tail}
-use Rattle.bolt_tree.proofs.PathOrder.{flip_less}
 use Rattle.std.proofs.lemmas.List.Filters.{length-filter_both}
+use Rattle.bolt_tree.proofs.Words.{Contains, Greater, IsTotalOrder, Less, Ordering, Rises, false_from_ne_true, is_lt, tied_itself}
+use Rattle.bolt_tree.proofs.{Lists.contains_cases, Lists.contains_head, Lists.contains_none, Lists.contains_tail, PathOrder.flip_less}
 
 pub filter_same : {A : Type 0} (f g : A → Bool) (xs : List A) → ((x : A) → Contains xs x → f x ≡ g x) → filter f xs ≡ filter g xs
 filter_same f g [] same = refl

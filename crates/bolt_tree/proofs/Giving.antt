@@ -3,8 +3,7 @@
 use Rattle.std.proofs.Common.{◌≡◌, ◌∙◌, ◌⊎◌, ◌≤◌, inl, inr, Bool, true, false, not, ℕ, suc, List, [], ◌∷◌, ◌++◌, length, filter, Some, slice_get, refl, sym, ap, subst, append-nil}
 use Rattle.bolt_tree.proofs.Words.{AreEntries, Equal, Greater, HasEntries, Holds, Item, Key, LeafElement, Less, Lists, Member, Names, Ordering, Path, Start, append_cancel_left, beyond, both_ways, false_from_ne_true, is_beyond, is_lt, item_of, key_cmp, less_of, ordering_then, path_cmp, rest_after, rest_from}
 use Rattle.bolt_tree.proofs.EntryOrder.{contains_at, first_least, last_greatest, next_least, next_less}
-use Rattle.bolt_tree.proofs.Filters.{filter_first, filter_same, lt_of}
-use Rattle.bolt_tree.proofs.Lists.{contains_none, irreflexive}
+use Rattle.bolt_tree.proofs.{Filters.filter_first, Filters.filter_same, Filters.lt_of, Lists.contains_none, Lists.irreflexive}
 use Rattle.bolt_tree.proofs.Named.{first_of_held, held_below, held_down, held_here}
 use Rattle.bolt_tree.proofs.PathOrder.{before_longer, beyond_here, beyond_less, beyond_longer, beyond_or_longer, beyond_push, beyond_up, flip_less, path_same, path_total, same_front}
 use Rattle.bolt_tree.proofs.Single.{member_total}

@@ -4,9 +4,7 @@ use Rattle.std.proofs.Common.{◌≡◌, ◌∙◌, ◌<◌, ℕ, suc, List, [],
 use Rattle.bolt_tree.proofs.Words.{AreEntries, Bucket, Checked, EntryView, Fresh, LeafElement, On, Past, Place, ShowsMove, Start, bucket_checked, bucket_start, bytes_of, drop_all, drop_at, entries_of, entry_view, meta_of, next_move, option_map, place_in, props, ∥∥₁_elim, ∥∥₁_prop}
 use mathlib.Core.HLevel.{Σ_prop_path}
 use Rattle.bolt_tree.specs.EntriesLeft.{ForEntries, entries_left}
-use Rattle.bolt_tree.proofs.CursorMoves.{ComesTo, by_length, comes_first}
-use Rattle.bolt_tree.proofs.Looking.{own_entries}
-use Rattle.bolt_tree.proofs.SortedLemmas.{sorted_one}
+use Rattle.bolt_tree.proofs.{CursorMoves.ComesTo, CursorMoves.by_length, CursorMoves.comes_first, Looking.own_entries, SortedLemmas.sorted_one}
 
 -- the entries of a bucket in order, taken out of what is only known to be
 abbrev pub TheEntries : Checked → Start → Type 0

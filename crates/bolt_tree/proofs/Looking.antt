@@ -1,13 +1,8 @@
 -- What a seek says of a bucket's entry with a key.
 use Rattle.std.proofs.Common.{◌≡◌, ◌∙◌, true, false, List, Option, Some, None, refl, sym, ap, subst}
 use Rattle.bolt_tree.proofs.Words.{AreEntries, Checked, Cursor, HasStart, Key, LeafElement, Moves, Start, bytes_of, cursor_checked, cursor_place, cursor_start, entries_of, is_lt, key_cmp, least_from, meta_of, props, seek_move, start_of, with_trees, ∥∥₁_elim, ∥∥₁_map, ∥∥₁_prop}
-use Rattle.bolt_tree.proofs.AllEntries.{sorted_at}
-use Rattle.bolt_tree.proofs.BucketWays.{starts_below}
-use Rattle.bolt_tree.proofs.Coming.{neither}
-use Rattle.bolt_tree.proofs.CursorMoves.{comes_from}
-use Rattle.bolt_tree.proofs.EntryOrder.{contains_at, seek_from, seek_least, seek_none}
-use Rattle.bolt_tree.proofs.Named.{entry_once}
-use Rattle.bolt_tree.proofs.PathOrder.{key_same}
+use Rattle.bolt_tree.proofs.{AllEntries.sorted_at, BucketWays.starts_below, Coming.neither, CursorMoves.comes_from}
+use Rattle.bolt_tree.proofs.{EntryOrder.contains_at, EntryOrder.seek_from, EntryOrder.seek_least, EntryOrder.seek_none, Named.entry_once, PathOrder.key_same}
 
 not_less_itself : (a b : Key) → a ≡ b → is_lt (key_cmp a b) ≡ false
 not_less_itself a b e = rw e (ap is_lt (key_same b))

@@ -1,12 +1,11 @@
 -- Buckets nest only finitely deep: each has a root page of its own, and the pages are so many. So each has the tree that is computed.
 -- Rests on the shape of a sound file: two ways to one page are one.
 use Rattle.std.proofs.Common.{◌≡◌, ◌∙◌, ◌≤◌, ◌<◌, Bool, true, false, not, ℕ, zero, suc, eqb, eq-eqb, eqb-true, List, [], ◌∷◌, ◌++◌, length, filter, Option, Some, refl, sym, ap, subst, arith, length-append}
+use Rattle.std.proofs.lemmas.List.FromFn.{get_or-range_with_len, length-range_with_len}
 use Rattle.bolt_tree.proofs.Words.{At_page, Contains, HasSoundTrees, Inline_page, IsEntry, IsStart, IsTreeOf, LeafElement, Meta, PageSpot, Root_page, Shows, ShowsEntry, Spot, Start, Tree, file_entries, file_tree, follow, follow_append, head_root, head_sequence, if◌then◌else◌, inline_elements, node_at, one_way, range_with_len, reached, root_spot, start_of, tree_with, tree_within, with_bucket, with_value}
 use Rattle.bolt_tree.proofs.Lists.{contains_head, contains_tail}
 use Rattle.bolt_tree.proofs.BucketWays.{at_root, bucket_way, flat, in_itself, root_starts, starts_named}
-use Rattle.bolt_tree.proofs.SortedLemmas.{sorted}
-use Rattle.bolt_tree.proofs.Filters.{filter_less, kept}
-use Rattle.std.proofs.lemmas.List.FromFn.{get_or-range_with_len, length-range_with_len}
+use Rattle.bolt_tree.proofs.{SortedLemmas.sorted, Filters.filter_less, Filters.kept}
 
 -- Numbers without one of them.
 abbrev without : ℕ → List ℕ → List ℕ

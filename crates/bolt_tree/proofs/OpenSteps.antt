@@ -1,10 +1,8 @@
 -- How open buckets change: a cursor is removed and added again, or opened after the others and makes its first move.
 use Rattle.std.proofs.Common.{◌≡◌, ◌∙◌, ◌-◌, ℕ, suc, List, [], ◌∷◌, ◌++◌, take, Option, Some, None, MatchOption, refl, sym, ap, subst, append_assoc, append-nil, Bor, slice_get}
 use Rattle.bolt_tree.proofs.Words.{AreEntries, AreOpen, Bucket, Checked, CursorView, Fresh, HasEntries, Keeps, Key, LeafElement, Lists, Member, Move, Moves, MovesLast, Names, Opens, Path, Place, Start, beyond, bucket_checked, bucket_start, entries_of, first_move, fresh_view, item_of, next_move, option_to_list, path_of, rest_after, root_start, same_from_push}
+use Rattle.bolt_tree.proofs.{CursorMoves.ComesTo, CursorMoves.comes_next, EntryOrder.contains_at, Giving.give_after_last, Giving.give_next}
 use Rattle.bolt_tree.specs.Private.OpenBuckets.{StandsOn}
-use Rattle.bolt_tree.proofs.CursorMoves.{ComesTo, comes_next}
-use Rattle.bolt_tree.proofs.EntryOrder.{contains_at}
-use Rattle.bolt_tree.proofs.Giving.{give_after_last, give_next}
 
 pub no_snoc : {A : Type 0} (xs : List A) (x : A) → [] ≡ xs ++ x ∷ [] → ⊥
 no_snoc [] x e = cc

@@ -4,8 +4,7 @@ use Rattle.bolt_tree.proofs.Words.{BucketView, Content, Contents, Finds, Frame, 
 use Rattle.bolt_tree.proofs.CountLemmas.{Cut, IsAt, all_exact, cut_size, exact_is, upto_is, after_exact, seek_exact}
 use Rattle.bolt_tree.proofs.ListLemmas.{at_has, get_exists}
 use Rattle.bolt_tree.proofs.PlaceMoves.{on_rests, split, ahead_number, current, the_entries, get_next}
-use Rattle.bolt_tree.proofs.NearestLeaf.{one_near}
-use Rattle.bolt_tree.proofs.StackLemmas.{stack_short}
+use Rattle.bolt_tree.proofs.{NearestLeaf.one_near, StackLemmas.stack_short}
 
 -- the page of a leaf on a stack among the pages of the bucket
 abbrev pub leaf_cut : (bucket : BucketView) (es : List LeafElement) (below : List Frame)

@@ -2,11 +2,10 @@
 -- come before the other.
 use Rattle.std.proofs.Common.{◌≡◌, ◌∙◌, inl, inr, Bool, true, false, not, List, [], ◌∷◌, ◌++◌, length, drop, cond, filter, refl, sym, ap, append-nil}
 use Rattle.bolt_tree.proofs.Words.{All-contains, All-contains_itself, All-filter, Contains, Equal, Greater, Item, Less, Member, Ordering, Path, Rises, bytes_eq-Decides, false_from_ne_true, filter_passes, if◌then◌else◌, is_beyond, is_lt, less_of, member_cmp, not-true, ordering_reverse, path_cmp, rest_from, starts_is, take_while, take_while-cons}
-use Rattle.bolt_tree.specs.ListingParts.{begins_with, later_path, part_below}
-use Rattle.bolt_tree.proofs.Filters.{filter_all, filter_first, filter_none}
-use Rattle.bolt_tree.proofs.Single.{member_total}
+use Rattle.bolt_tree.proofs.{Filters.filter_all, Filters.filter_first, Filters.filter_none, Single.member_total}
 use Rattle.bolt_tree.proofs.Lists.{contains_head, contains_tail, irreflexive}
 use Rattle.bolt_tree.proofs.PathOrder.{before_longer, beyond_less, beyond_or_longer, beyond_up, flip_less, path_exact, path_same, path_total}
+use Rattle.bolt_tree.specs.ListingParts.{begins_with, later_path, part_below}
 
 -- a path that begins with another, by its parts
 pub begins_of : (below path : Path) → begins_with below path ≡ true → path ≡ below ++ drop (length below) path

@@ -2,9 +2,8 @@
 -- Over any relation that says which elements a bucket has.
 use Rattle.std.proofs.Common.{◌≡◌, ◌∙◌, ◌⊎◌, inl, inr, true, false, IsTrue, List, [], ◌∷◌, ◌++◌, refl, sym, ap, subst, rules}
 use Rattle.bolt_tree.proofs.Words.{Contains, HasEntries, Holds, Item, Key, LeafElement, Names, Path, Start, bytes_eq-Decides, cases_Bool, item_of, props, start_of, ∥∥₁_elim}
+use Rattle.bolt_tree.proofs.{Lists.contains_cases, Lists.contains_head, Lists.contains_none, Lists.contains_tail, Named.entries_below, Named.entry_once}
 use Rattle.std.specs.Str.{bytes_eq}
-use Rattle.bolt_tree.proofs.Lists.{contains_cases, contains_head, contains_none, contains_tail}
-use Rattle.bolt_tree.proofs.Named.{entries_below, entry_once}
 
 -- the element of a list with this key, or none has it
 abbrev HasKey : List LeafElement → Key → Type 0

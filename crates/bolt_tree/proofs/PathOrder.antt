@@ -1,9 +1,9 @@
 -- The order of paths, part by part: what comes after a path, and where.
 -- Rests on the order of keys, which is total, and in which only equal keys are tied.
 use Rattle.std.proofs.Common.{◌≡◌, ◌∙◌, ◌⊎◌, inl, inr, Bool, true, false, List, [], ◌∷◌, ◌++◌, refl, ap}
+use Rattle.std.proofs.lemmas.Map.Lookups.{exact_bytes}
 use Rattle.bolt_tree.proofs.Words.{Equal, Greater, IsTotalOrder, Key, Less, Ordering, Path, by_first, is_beyond, is_lt, key_cmp, less_of, lists_total, nat_list_cmp_total, ordering_reverse, ordering_then, path_cmp, tied_itself}
 use Rattle.std.specs.Cmp.Lexicographic.{slice_cmp}
-use Rattle.std.proofs.lemmas.Map.Lookups.{exact_bytes}
 
 pub key_total : IsTotalOrder key_cmp
 key_total = nat_list_cmp_total

@@ -2,10 +2,8 @@
 -- Rests on the order of paths, and on what a named bucket holds (Named).
 use Rattle.std.proofs.Common.{◌≡◌, ◌∙◌, ◌≤◌, inl, inr, true, false, not, List, [], ◌∷◌, ◌++◌, length, Some, slice_get, refl, ap, subst, ◌+◌, ◌<◌, ℕ, zero, suc, take, drop, get_or, eqb, eq-eqb, sym, arith, Bor}
 use Rattle.bolt_tree.proofs.Words.{AreEntries, AreOpen, Checked, CursorView, Equal, Greater, HasEntries, Holds, Item, Key, LeafElement, Less, Lists, Member, Names, Ordering, Path, Start, beyond, both_ways, entries_of, false_from_ne_true, is_beyond, is_end, is_lt, key_cmp, least_from, less_of, nat_tests, not-true, ordering_reverse, path_cmp, path_of, props, rest_after, rest_from, root_start, ∥∥₁_elim}
-use Rattle.bolt_tree.proofs.EntryOrder.{seek_least, seek_none}
-use Rattle.bolt_tree.proofs.Filters.{filter_all, filter_same}
-use Rattle.bolt_tree.proofs.Giving.{not_before, not_before_beyond, after_end}
-use Rattle.bolt_tree.proofs.Named.{first_of_held, held_below, held_down}
+use Rattle.bolt_tree.proofs.{EntryOrder.seek_least, EntryOrder.seek_none, Filters.filter_all, Filters.filter_same}
+use Rattle.bolt_tree.proofs.{Giving.not_before, Giving.not_before_beyond, Giving.after_end, Named.first_of_held, Named.held_below, Named.held_down}
 use Rattle.bolt_tree.proofs.PathOrder.{before_longer, beyond_less, beyond_or_longer, flip_less, path_exact, path_total, same_front}
 
 -- from p < w and not m < w

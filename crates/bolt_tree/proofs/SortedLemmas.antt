@@ -5,8 +5,7 @@ use Rattle.bolt_format.specs.declared.kind.Kind.TheVariants as kind
 use Rattle.bolt_tree.specs.Order as order
 use Rattle.bolt_tree.proofs.ListLemmas.{Has, RisesBy, contains_from_has, flat_has, has_at, has_flat, has_from_contains, one_list, rises_flat, rises_from_gets, rises_weaker}
 use Rattle.bolt_tree.proofs.TourLemmas.{IsApart, IsBelowElement, entries_shown, leaf_of, led_tour, page_rises, tour_led, tour_rises}
-use Rattle.bolt_tree.proofs.WayPages.{content_is}
-use Rattle.bolt_tree.proofs.BucketWays.{none_inside}
+use Rattle.bolt_tree.proofs.{WayPages.content_is, BucketWays.none_inside}
 
 -- a page of a bucket: its elements rise, and it is their home
 pub record IsVisit (file : List ℕ) (meta : Meta) (start : Start) (v : Visit) : Type 0 where

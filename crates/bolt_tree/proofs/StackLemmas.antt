@@ -1,8 +1,7 @@
 -- What a push does to a stack, and the root page of a bucket, alone on a stack.
 use Rattle.std.proofs.Common.{◌≡◌, ℕ, zero, suc, ◌+◌, ◌-◌, ◌≤◌, List, [], ◌∷◌, ◌++◌, Some, slice_get, length, drop, take, refl, sym, ap, ◌∙◌, subst, arith, append_assoc, append-nil}
 use Rattle.bolt_tree.proofs.Words.{BranchElement, BucketView, Checked, Content, Contents, Frame, HasSoundTrees, HasStack, HasStart, Inline_page, IsGoodContent, IsOnWay, IsSoundBucket, IsStack, IsStart, Of_branch, Of_leaf, Root_page, Start, Visit, address_on, ahead_of, all_under, bucket_in, bytes_of, checked_trees, content_at_start, content_length, contents_in, elements_in, elements_of, here_under, left_of, left_under, meta_of, none-some, on_child, pages_in, props, right_of, right_under, root_content, shallow, tour, ∥∥₁_elim, ∥∥₁_map, ∥∥₁_prop}
-use Rattle.bolt_tree.proofs.TourLemmas.{not_deepest}
-use Rattle.bolt_tree.proofs.WayPages.{a_branch, a_leaf, on_way_page, branch_page}
+use Rattle.bolt_tree.proofs.{TourLemmas.not_deepest, WayPages.a_branch, WayPages.a_leaf, WayPages.on_way_page, WayPages.branch_page}
 
 -- what lies under the elements of a branch, cut at one
 pub under_cut : (f : ℕ → ℕ → List Visit) (i k j : ℕ) (elements : List BranchElement) (e : BranchElement) → slice_get elements k ≡ Some e → j ≡ i + k

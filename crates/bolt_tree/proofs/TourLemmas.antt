@@ -4,8 +4,8 @@ use Rattle.bolt_tree.proofs.Words.{Before, BranchElement, Content, Contents, Has
 use Rattle.bolt_format.specs.declared.kind.Kind.TheVariants as kind
 use Rattle.bolt_check.specs.Findings.{keys_of}
 use Rattle.bolt_tree.proofs.ListLemmas.{Has, Each, RisesBy, get_before, has_at, has_left, has_right, has_split, rises_append, rises_from_gets, at_has}
-use Rattle.bolt_check.proofs.TreePages.{leaf_node}
 use Rattle.bolt_tree.proofs.WayPages.{a_branch, a_leaf, on_way_page}
+use Rattle.bolt_check.proofs.TreePages.{leaf_node}
 
 -- what lies under the elements of a branch
 pub under_has : (f : ℕ → ℕ → List Visit) (i : ℕ) (elements : List BranchElement) (v : Visit) → Has (all_under f i elements) v

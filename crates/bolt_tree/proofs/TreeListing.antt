@@ -1,9 +1,8 @@
 -- What a tree lists is the listing of what it shows: each path that is held, with its item, once, in path order.
 use Rattle.std.proofs.Common.{◌≡◌, ◌∙◌, ◌⊎◌, inl, inr, true, false, IsTrue, List, [], ◌∷◌, ◌++◌, refl, sym, ap, subst, append_assoc}
 use Rattle.bolt_tree.proofs.Words.{AreEntries, Contains, Contains-append_cases, Contains-append_left, Contains-append_right, Holds, IsBelow, IsTreeOf, Item, Key, LeafElement, Less, Lists, Member, Ordering, Path, Rises, Shows, Start, Tree, Value, end, entry_cmp, head_sequence, item_of, key_cmp, listing_below, listing_of, member_cmp, path_cmp, start_of, with_bucket, with_value}
+use Rattle.bolt_tree.proofs.{Lists.contains_cases, Lists.contains_head, Lists.contains_none, Lists.contains_tail, PathOrder.before_longer, PathOrder.same_front}
 use Rattle.bolt_tree.specs.Entries.{Bucket}
-use Rattle.bolt_tree.proofs.Lists.{contains_cases, contains_head, contains_none, contains_tail}
-use Rattle.bolt_tree.proofs.PathOrder.{before_longer, same_front}
 
 -- lists that rise, one after the other
 pub rises_append : {A : Type 0} (cmp : A → A → Ordering) (xs ys : List A) → Rises cmp xs → Rises cmp ys → ((x y : A) → Contains xs x → Contains ys y → cmp x y ≡ Less) → Rises cmp (xs ++ ys)

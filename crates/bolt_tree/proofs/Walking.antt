@@ -1,11 +1,10 @@
 -- What is known of a walk's buckets and of what it does next.
 use Rattle.std.proofs.Common.{◌≡◌, ◌∙◌, List, [], ◌∷◌, ◌++◌, sym, ap, subst}
 use Rattle.bolt_tree.proofs.Words.{AreOpen, Checked, CursorView, HasEntries, IsAhead, IsInPlace, IsInside, Lists, Member, Names, Path, Start, cursors_of, entries_of, leaf_view, open_path, path_of, props, rest_after, root_start, start_of, ∥∥₁_elim, ∥∥₁_map}
+use Rattle.bolt_tree.proofs.{AllEntries.checked_entries, Seeking.behind_all}
 use Rattle.bolt_tree.specs.declared.open_buckets.WalkStep.{WalkStep}
 use Rattle.bolt_tree.specs.declared.open_buckets.WalkStep.TheVariants.{Begin, Enter, Give, Leave}
 use Rattle.bolt_tree.specs.declared.open_buckets.OpenBuckets.{OpenBuckets}
-use Rattle.bolt_tree.proofs.AllEntries.{checked_entries}
-use Rattle.bolt_tree.proofs.Seeking.{behind_all}
 
 pub ahead_prop : (buckets : OpenBuckets) (ahead : WalkStep) → IsProp (IsAhead buckets ahead)
 ahead_prop buckets Begin = hlevel props

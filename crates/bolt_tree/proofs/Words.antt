@@ -4,12 +4,8 @@ pub use Rattle.bolt_check.proofs.KeyLaws.{less_of, lt_not_trans, lt_strict, lt_t
 pub use Rattle.bolt_check.proofs.TreePages.{branch_entry_at, branch_key, branch_node, branch_step, inline_reached, leads_child, leaf_ends, leaf_key, node_is}
 pub use Rattle.bolt_check.proofs.TreePages.{on_address, on_child, shallow, spot_node}
 pub use Rattle.bolt_check.proofs.WayFacts.{follow_append, leads_follow, leaf_node, one_way}
-pub use Rattle.bolt_check.specs.CheckedFiles.{bytes_of, meta_of}
-pub use Rattle.bolt_check.specs.Counts.{counted}
-pub use Rattle.bolt_check.specs.Keys.{Key, KeysRise, key_cmp, key_lt}
-pub use Rattle.bolt_check.specs.Nodes.{Entry, Node, Nodes, branch_entry, leaf_entry, node_at}
-pub use Rattle.bolt_check.specs.OnWays.{IsOnWay}
-pub use Rattle.bolt_check.specs.Shape.{leads}
+pub use Rattle.bolt_check.specs.{CheckedFiles.bytes_of, CheckedFiles.meta_of, Counts.counted, Keys.Key, Keys.KeysRise, Keys.key_cmp, Keys.key_lt}
+pub use Rattle.bolt_check.specs.{Nodes.Entry, Nodes.Node, Nodes.Nodes, Nodes.branch_entry, Nodes.leaf_entry, Nodes.node_at, OnWays.IsOnWay, Shape.leads}
 pub use Rattle.bolt_check.specs.Sound.{HasSoundTrees}
 pub use Rattle.bolt_check.specs.Ways.{At_page, Before, PageSpot, Spot, bucket_spots, follow, reached, root_spot, step_at, step_entry}
 pub use Rattle.bolt_check.specs.declared.checked_file.Checked.{Checked}
@@ -18,59 +14,43 @@ pub use Rattle.bolt_format.proofs.PageFacts.{below_mark, bucket_value, flat_inli
 pub use Rattle.bolt_format.proofs.PageLaws.{length-shown_branches, length-shown_leaves}
 pub use Rattle.bolt_format.specs.ElementPlaces.{branch_view, leaf_view}
 pub use Rattle.bolt_format.specs.Elements.{BranchElement, LeafElement, head_root, head_sequence, inline_elements}
-pub use Rattle.bolt_format.specs.Pages.{PageView, page_at}
-pub use Rattle.bolt_format.specs.Shown.{shown}
-pub use Rattle.bolt_format.specs.declared.element.Leaf.{Leaf}
-pub use Rattle.bolt_format.specs.declared.kind.Kind.{Kind}
-pub use Rattle.bolt_format.specs.declared.meta.Meta.{Meta}
+pub use Rattle.bolt_format.specs.{Pages.PageView, Pages.page_at, Shown.shown, declared.element.Leaf.Leaf, declared.kind.Kind.Kind, declared.meta.Meta.Meta}
 pub use Rattle.bolt_tree.specs.BucketViews.{AreSorted, BucketView, bucket_in, entries_of}
-unfoldable pub use Rattle.bolt_tree.specs.Buckets.{bucket_checked, bucket_start}
 pub use Rattle.bolt_tree.specs.CursorBounds.{OpensByNext, OpensGap, OpensSeek, SeeksInBounds}
-unfoldable pub use Rattle.bolt_tree.specs.Cursors.{cursor_checked, cursor_opened, cursor_place, cursor_start}
 pub use Rattle.bolt_tree.specs.Entries.{AreEntries, EntryView, Inline_page, IsEntry, IsStart, Item, Root_page, ShowsEntry, Start, Value, entry_cmp, entry_view}
-pub use Rattle.bolt_tree.specs.Entries.{item_of, start_of}
-pub use Rattle.bolt_tree.specs.FileListings.{ForListing, root_start}
+pub use Rattle.bolt_tree.specs.{Entries.item_of, Entries.start_of, FileListings.ForListing, FileListings.root_start}
 pub use Rattle.bolt_tree.specs.FileTrees.{file_entries, tree_with, tree_within}
-unfoldable pub use Rattle.bolt_tree.specs.FileTrees.{file_tree}
 pub use Rattle.bolt_tree.specs.Listing.{IsListing, Lists, Member, member_cmp, rest_from}
 pub use Rattle.bolt_tree.specs.Openings.{GapsCoverAll, HasCount, IsAddress, IsAfter, IsGap, IsHome, IsNear, IsNearFrom, IsNearest, IsPagesUpTo, IsSeekCount}
-pub use Rattle.bolt_tree.specs.Openings.{IsSeekPage, IsUpTo, sum_to}
-pub use Rattle.bolt_tree.specs.Order.{IsBelow, Rises}
-unfoldable pub use Rattle.bolt_tree.specs.Pagers.{pager_checked, pager_opened}
+pub use Rattle.bolt_tree.specs.{Openings.IsSeekPage, Openings.IsUpTo, Openings.sum_to, Order.IsBelow, Order.Rises}
 pub use Rattle.bolt_tree.specs.Paths.{HasEntries, Holds, Names, Path, path_cmp, path_of}
 pub use Rattle.bolt_tree.specs.Places.{Fresh, Move, Moves, On, Past, Place, ShowsMove, first_move, last_move, least_from, next_move, nothing_at, onto, place_in}
 pub use Rattle.bolt_tree.specs.Places.{prev_move, seek_move}
 pub use Rattle.bolt_tree.specs.Private.BucketPages.{IsSoundBucket, contents_in, elements_in, pages_in, root_content}
 pub use Rattle.bolt_tree.specs.Private.Contents.{Content, Contents, Of_branch, Of_leaf, content_by, content_keys, content_length, content_of, content_seen}
 pub use Rattle.bolt_tree.specs.Private.Contents.{is_tree_kind}
-unfoldable pub use Rattle.bolt_tree.specs.Private.Contents.{content_at}
 pub use Rattle.bolt_tree.specs.Private.CursorViews.{AreOfFile, IsInnermost, Keeps, MovesLast, Opens, cursor_view, fresh_view, innermost_views}
-pub use Rattle.bolt_tree.specs.Private.Entered.{IsEntered, opened_to}
-pub use Rattle.bolt_tree.specs.Private.Held.{IsHeld, place_by, place_on}
+pub use Rattle.bolt_tree.specs.{Private.Entered.IsEntered, Private.Entered.opened_to, Private.Held.IsHeld, Private.Held.place_by, Private.Held.place_on}
 pub use Rattle.bolt_tree.specs.Private.Kept.{AreKept, CursorView, IsKept, kept_view, kept_views}
 pub use Rattle.bolt_tree.specs.Private.OpenBuckets.{AreOpen, IsAhead, IsInPlace, IsInside, IsNamed, is_end, left_by, open_path, reported_path}
-pub use Rattle.bolt_tree.specs.Private.OpenCursors.{cursors_of}
-pub use Rattle.bolt_tree.specs.Private.PageKeys.{IsPlaceOf, doubled, stands_before}
+pub use Rattle.bolt_tree.specs.{Private.OpenCursors.cursors_of, Private.PageKeys.IsPlaceOf, Private.PageKeys.doubled, Private.PageKeys.stands_before}
 pub use Rattle.bolt_tree.specs.Private.Seeks.{AreBelow, IsBetween, IsNearTo, IsNearTop, IsOnWayDown, IsSought, top_address}
 pub use Rattle.bolt_tree.specs.Private.ShownPages.{opened_content}
 pub use Rattle.bolt_tree.specs.Private.Stacks.{Frame, HasStack, IsAtRest, IsBranchContent, IsBranchTop, IsGoodContent, IsLeafContent, IsLeafTop, IsOn, IsStack}
 pub use Rattle.bolt_tree.specs.Private.Stacks.{RestsOn, StandsOn, address_on, ahead_of, before_of, before_under, done_of, done_under, here_of, here_under}
 pub use Rattle.bolt_tree.specs.Private.Stacks.{index_of, left_under, preceding_of, right_of, right_under, under_at}
-unfoldable pub use Rattle.bolt_tree.specs.Private.Stacks.{left_of}
 pub use Rattle.bolt_tree.specs.Private.Tours.{Visit, all_under, content_at_start, elements_of, pages_at, tour}
 pub use Rattle.bolt_tree.specs.Private.Trails.{Finds, FindsBack, HasBucket, HasTrail, IsSameBucket, ahead, before, frame_of, frames_of, preceding, right}
 pub use Rattle.bolt_tree.specs.Private.Trails.{trail_bucket, trail_frames}
-pub use Rattle.bolt_tree.specs.RestAfter.{beyond, by_first, is_beyond, rest_after}
-pub use Rattle.bolt_tree.specs.ShownEntries.{item_view}
+pub use Rattle.bolt_tree.specs.{RestAfter.beyond, RestAfter.by_first, RestAfter.is_beyond, RestAfter.rest_after, ShownEntries.item_view}
 pub use Rattle.bolt_tree.specs.Starts.{HasStart, start_at}
 pub use Rattle.bolt_tree.specs.Tree.{IsTreeOf, Shows, Tree, end, first_tree, later_trees, listing_below, listing_of, put_first, tree_of, trees_by_depth}
-pub use Rattle.bolt_tree.specs.Tree.{with_bucket, with_value}
-pub use Rattle.bolt_tree.specs.Walks.{GivesNext}
+pub use Rattle.bolt_tree.specs.{Tree.with_bucket, Tree.with_value, Walks.GivesNext, declared.bucket.Bucket.Bucket, declared.cursor.Cursor.Cursor}
+pub use Rattle.bolt_tree.specs.{declared.opened.Position.Position, declared.trail.Trail.Trail}
+unfoldable pub use Rattle.bolt_tree.specs.Buckets.{bucket_checked, bucket_start}
+unfoldable pub use Rattle.bolt_tree.specs.{Cursors.cursor_checked, Cursors.cursor_opened, Cursors.cursor_place, Cursors.cursor_start, FileTrees.file_tree}
+unfoldable pub use Rattle.bolt_tree.specs.{Pagers.pager_checked, Pagers.pager_opened, Private.Contents.content_at, Private.Stacks.left_of}
 unfoldable pub use Rattle.bolt_tree.specs.Walks.{walk_checked, walk_path}
-pub use Rattle.bolt_tree.specs.declared.bucket.Bucket.{Bucket}
-pub use Rattle.bolt_tree.specs.declared.cursor.Cursor.{Cursor}
-pub use Rattle.bolt_tree.specs.declared.opened.Position.{Position}
-pub use Rattle.bolt_tree.specs.declared.trail.Trail.{Trail}
 pub use Rattle.std.proofs.Math.Logic.{∥∥₁_elim, ∥∥₁_map, ∥∥₁_prop}
 pub use Rattle.std.proofs.Math.Seq.{drop-append_seam, take-append_seam, take-length, take-nil, take-suc-set}
 pub use Rattle.std.proofs.Props.{props}

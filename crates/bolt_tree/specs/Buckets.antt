@@ -1,9 +1,7 @@
 -- What a bucket of the code shows.
 use Rattle.std.specs.Prelude.{ℕ}
 use Rattle.bolt_check.specs.declared.checked_file.Checked.{Checked}
-use Rattle.bolt_tree.specs.Entries.{Start}
-use Rattle.bolt_tree.specs.Starts.{start_at}
-use Rattle.bolt_tree.specs.declared.bucket.Bucket.{Bucket}
+use Rattle.bolt_tree.specs.{Entries.Start, Starts.start_at, declared.bucket.Bucket.Bucket}
 
 unfoldable pub bucket_checked : Bucket → Checked
 bucket_checked bucket = bucket.checked

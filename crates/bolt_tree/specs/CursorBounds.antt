@@ -1,10 +1,8 @@
 -- What the calls of a cursor open and compare, over the entries of its bucket in order: docs/TREE.md, "Openings".
 use Rattle.std.specs.Prelude.{◌≡◌, ◌≤◌, ◌+◌, ◌*◌, ℕ, suc, List, length}
 use Rattle.bolt_format.specs.Elements.{LeafElement}
-use Rattle.bolt_check.specs.Keys.{Key}
-use Rattle.bolt_tree.specs.BucketViews.{AreSorted, BucketView}
-use Rattle.bolt_tree.specs.Openings.{IsGap, IsNear, IsSeekCount}
-use Rattle.bolt_check.specs.Counts.{counted}
+use Rattle.bolt_check.specs.{Keys.Key, Counts.counted}
+use Rattle.bolt_tree.specs.{BucketViews.AreSorted, BucketViews.BucketView, Openings.IsGap, Openings.IsNear, Openings.IsSeekCount}
 use Rattle.bolt_tree.specs.Places.{Fresh, On, Past, Place}
 
 -- it opens the pages after that of the preceding entry, up to that of entry i or to the bucket's end

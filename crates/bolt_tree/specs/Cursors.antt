@@ -1,14 +1,8 @@
 -- What a cursor shows: its file and bucket, where it is, and its counts.
 use Rattle.std.specs.Prelude.{ℕ}
 use Rattle.bolt_check.specs.declared.checked_file.Checked.{Checked}
-use Rattle.bolt_tree.specs.BucketViews.{BucketView, bucket_in}
-use Rattle.bolt_tree.specs.Private.BucketPages.{contents_in}
-use Rattle.bolt_tree.specs.Entries.{Start}
-use Rattle.bolt_tree.specs.Private.Held.{place_by}
-use Rattle.bolt_tree.specs.Pagers.{pager_checked, pager_opened}
-use Rattle.bolt_tree.specs.Places.{Place}
-use Rattle.bolt_tree.specs.Starts.{start_at}
-use Rattle.bolt_tree.specs.Private.Trails.{trail_bucket, trail_frames}
+use Rattle.bolt_tree.specs.{BucketViews.BucketView, BucketViews.bucket_in, Private.BucketPages.contents_in, Entries.Start, Private.Held.place_by}
+use Rattle.bolt_tree.specs.{Pagers.pager_checked, Pagers.pager_opened, Places.Place, Starts.start_at, Private.Trails.trail_bucket, Private.Trails.trail_frames}
 use Rattle.bolt_tree.specs.declared.cursor.Cursor.{Cursor}
 
 unfoldable pub cursor_checked : Cursor → Checked

@@ -3,9 +3,7 @@
 use Rattle.std.specs.Prelude.{List, [], drop, suc}
 use Rattle.bolt_format.specs.Elements.{LeafElement}
 use Rattle.bolt_check.specs.declared.checked_file.Checked.{Checked}
-use Rattle.bolt_tree.specs.BucketViews.{entries_of}
-use Rattle.bolt_tree.specs.Entries.{AreEntries, Start}
-use Rattle.bolt_tree.specs.Places.{Fresh, On, Past, Place}
+use Rattle.bolt_tree.specs.{BucketViews.entries_of, Entries.AreEntries, Entries.Start, Places.Fresh, Places.On, Places.Past, Places.Place}
 
 -- this holds of the entries in order
 abbrev pub ForEntries : Checked → Start → (List LeafElement → Type 0) → Type 0

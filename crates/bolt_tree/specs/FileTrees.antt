@@ -1,10 +1,8 @@
 -- The tree of a file, as it can be computed from its pages: docs/LISTING.md, "The listing". A bucket has a root page of its own or is inline,
 -- and an inline one has no bucket in it. So buckets nest no deeper than there are pages below the mark, and one.
 use Rattle.std.specs.Prelude.{ℕ, zero, suc, List, [], ◌∷◌, if◌then◌else◌}
-use Rattle.bolt_format.specs.Elements.{LeafElement, head_sequence}
-use Rattle.bolt_format.specs.declared.meta.Meta.{Meta}
-use Rattle.bolt_tree.specs.Entries.{Root_page, Start, start_of}
-use Rattle.bolt_tree.specs.Private.Tours.{elements_of, pages_at}
+use Rattle.bolt_format.specs.{Elements.LeafElement, Elements.head_sequence, declared.meta.Meta.Meta}
+use Rattle.bolt_tree.specs.{Entries.Root_page, Entries.Start, Entries.start_of, Private.Tours.elements_of, Private.Tours.pages_at}
 use Rattle.bolt_tree.specs.Tree.{Tree, end, with_bucket, with_value}
 
 -- the tree of these entries, if this is inside their buckets

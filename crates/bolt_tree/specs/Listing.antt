@@ -3,11 +3,8 @@
 use Rattle.std.specs.Prelude.{◌↔◌, List, ℕ, filter, Contains, not}
 use Rattle.std.specs.Ordering.{is_lt}
 use Rattle.std.specs.declared.cmp.Ordering.{Ordering}
-use Rattle.bolt_format.specs.Elements.{LeafElement}
-use Rattle.bolt_format.specs.declared.meta.Meta.{Meta}
-use Rattle.bolt_tree.specs.Entries.{IsEntry, Item, Root_page, Start}
-use Rattle.bolt_tree.specs.Order.{Rises}
-use Rattle.bolt_tree.specs.Paths.{Holds, Path, path_cmp}
+use Rattle.bolt_format.specs.{Elements.LeafElement, declared.meta.Meta.Meta}
+use Rattle.bolt_tree.specs.{Entries.IsEntry, Entries.Item, Entries.Root_page, Entries.Start, Order.Rises, Paths.Holds, Paths.Path, Paths.path_cmp}
 
 -- a path with its item
 abbrev pub Member : Type 0

@@ -1,16 +1,11 @@
 -- How many pages of a bucket lie between two of its entries: addresses in the order of ways, and their numbers: docs/TREE.md, "Openings".
 use Rattle.std.specs.Prelude.{◌≡◌, ◌<◌, ◌⊎◌, ◌↔◌, ℕ, zero, suc, ◌+◌, ◌-◌, List, [], ◌∷◌, IsTrue, IsFalse, length, Option, Some, None, Contains, slice_get}
 use Rattle.std.specs.List.{AllPairs}
-use Rattle.bolt_format.specs.Elements.{BranchElement, LeafElement}
-use Rattle.bolt_format.specs.Pages.{PageView, page_at}
+use Rattle.bolt_format.specs.{Elements.BranchElement, Elements.LeafElement, Pages.PageView, Pages.page_at}
 use Rattle.bolt_format.specs.declared.kind.Kind.TheVariants as kind
 use Rattle.bolt_format.specs.declared.meta.Meta.{Meta}
-use Rattle.bolt_check.specs.Keys.{Key, key_lt}
-use Rattle.bolt_check.specs.Nodes.{node_at}
-use Rattle.bolt_check.specs.Shape.{leads}
-use Rattle.bolt_check.specs.Ways.{Before}
-use Rattle.bolt_tree.specs.Entries.{Inline_page, Root_page, ShowsEntry, Start}
-use Rattle.bolt_tree.specs.Places.{least_from}
+use Rattle.bolt_check.specs.{Keys.Key, Keys.key_lt, Nodes.node_at, Shape.leads, Ways.Before}
+use Rattle.bolt_tree.specs.{Entries.Inline_page, Entries.Root_page, Entries.ShowsEntry, Entries.Start, Places.least_from}
 
 -- an address of the bucket: it leads to a page; an inline bucket has the empty address alone
 abbrev pub IsAddress : List ℕ → Meta → Start → List ℕ → Type 0

@@ -5,8 +5,7 @@ use Rattle.std.specs.Ordering.{is_lt}
 use Rattle.std.specs.declared.cmp.Ordering.{Ordering}
 use Rattle.std.specs.declared.cmp.Ordering.TheVariants.{Less, Equal, Greater}
 use Rattle.bolt_check.specs.Keys.{key_cmp}
-use Rattle.bolt_tree.specs.Listing.{Member}
-use Rattle.bolt_tree.specs.Paths.{Path, path_cmp}
+use Rattle.bolt_tree.specs.{Listing.Member, Paths.Path, Paths.path_cmp}
 
 abbrev pub by_first : Ordering → Bool → Bool
 by_first Less rest = true

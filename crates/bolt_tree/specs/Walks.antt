@@ -1,12 +1,9 @@
 -- What is left of a walk, and its path: docs/LISTING.md, "The walk". A walk has a part of each listing of its file ahead of it; it doesn't
 -- have the list itself.
 use Rattle.std.specs.Prelude.{◌≡◌, List, [], ◌∷◌, Option, Some, None}
-use Rattle.bolt_tree.specs.Entries.{Item}
+use Rattle.bolt_tree.specs.{Entries.Item, Listing.Member, Paths.Path}
+use Rattle.bolt_tree.specs.{Private.OpenBuckets.left_by, Private.OpenBuckets.reported_path, Private.OpenBuckets.open_path, declared.walk.Walk.Walk}
 use Rattle.bolt_check.specs.declared.checked_file.Checked.{Checked}
-use Rattle.bolt_tree.specs.Listing.{Member}
-use Rattle.bolt_tree.specs.Paths.{Path}
-use Rattle.bolt_tree.specs.Private.OpenBuckets.{left_by, reported_path, open_path}
-use Rattle.bolt_tree.specs.declared.walk.Walk.{Walk}
 
 unfoldable pub walk_checked : Walk → Checked
 walk_checked walk = walk.buckets.cursors.checked

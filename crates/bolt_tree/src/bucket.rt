@@ -2,14 +2,11 @@
 ghost use Rattle.std.specs.Prelude.{◌≡◌, IfSome, IsTrue};
 ghost use Rattle.std.specs.Option.{option_map};
 ghost use Rattle.std.proofs.Props.{props};
-ghost use Rattle.bolt_format.specs.ElementPlaces.{leaf_view};
-ghost use Rattle.bolt_format.specs.Elements.{IsBucketValue, head_root, head_sequence};
+ghost use Rattle.bolt_format.specs.{ElementPlaces.leaf_view, Elements.IsBucketValue, Elements.head_root, Elements.head_sequence};
 ghost use Rattle.bolt_check.specs.CheckedFiles.{meta_of};
 ghost use Rattle.bolt_tree.specs.BucketViews.{entries_of};
 ghost use Rattle.bolt_tree.specs.Cursors.{cursor_checked, cursor_compared, cursor_opened, cursor_place, cursor_start};
-ghost use Rattle.bolt_tree.specs.Entries.{Root_page, start_of};
-ghost use Rattle.bolt_tree.specs.Places.{Fresh};
-ghost use Rattle.bolt_tree.specs.Starts.{HasStart, start_at};
+ghost use Rattle.bolt_tree.specs.{Entries.Root_page, Entries.start_of, Places.Fresh, Starts.HasStart, Starts.start_at};
 
 use crate::cursor::Cursor;
 use crate::pager::Pager;

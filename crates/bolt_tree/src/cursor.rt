@@ -1,17 +1,12 @@
 //! A cursor over the entries of a bucket.
 ghost use Rattle.std.specs.Prelude.{◌≡◌, IsTrue, IfSome};
 ghost use Rattle.std.specs.Option.{option_map};
-ghost use Rattle.bolt_format.specs.ElementPlaces.{leaf_view};
-ghost use Rattle.bolt_format.specs.Elements.{IsBucketValue};
-ghost use Rattle.bolt_tree.specs.BucketViews.{entries_of};
-ghost use Rattle.bolt_tree.specs.CursorBounds.{OpensByNext, OpensGap, OpensSeek, SeeksInBounds};
-ghost use Rattle.bolt_tree.specs.Entries.{entry_view};
-ghost use Rattle.bolt_tree.specs.Private.Held.{IsHeld};
-ghost use Rattle.bolt_tree.specs.Private.Kept.{IsKept, kept_view};
+ghost use Rattle.bolt_format.specs.{ElementPlaces.leaf_view, Elements.IsBucketValue};
+ghost use Rattle.bolt_tree.specs.{BucketViews.entries_of, CursorBounds.OpensByNext, CursorBounds.OpensGap, CursorBounds.OpensSeek, CursorBounds.SeeksInBounds};
+ghost use Rattle.bolt_tree.specs.{Entries.entry_view, Private.Held.IsHeld, Private.Kept.IsKept, Private.Kept.kept_view};
 ghost use Rattle.bolt_tree.specs.Pagers.{pager_checked, pager_opened};
 ghost use Rattle.bolt_tree.specs.Places.{Fresh, Moves, Past, ShowsMove, first_move, last_move, next_move, prev_move, seek_move};
-ghost use Rattle.bolt_tree.specs.ShownEntries.{shown_entry};
-ghost use Rattle.bolt_tree.specs.Starts.{HasStart, start_at};
+ghost use Rattle.bolt_tree.specs.{ShownEntries.shown_entry, Starts.HasStart, Starts.start_at};
 
 use crate::bucket::At;
 use crate::entry::Entry;

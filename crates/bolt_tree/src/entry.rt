@@ -1,7 +1,6 @@
 //! What a cursor returns.
 ghost use Rattle.std.specs.Prelude.{◌≡◌, IsTrue};
-ghost use Rattle.bolt_format.specs.ElementPlaces.{leaf_view};
-ghost use Rattle.bolt_format.specs.Elements.{IsBucketValue};
+ghost use Rattle.bolt_format.specs.{ElementPlaces.leaf_view, Elements.IsBucketValue};
 ghost use Rattle.bolt_tree.specs.Entries.{entry_view, item_of};
 
 use bolt_format::{Leaf, head};

@@ -1,8 +1,7 @@
 //! Binary search on a page.
 ghost use Rattle.std.specs.Prelude.{◌≡◌, ◌≤◌};
 ghost use Rattle.bolt_check.specs.Keys.{KeysRise};
-ghost use Rattle.bolt_tree.specs.Private.PageKeys.{IsPlaceOf, stands_before};
-ghost use Rattle.bolt_tree.specs.Private.ShownPages.{opened_content};
+ghost use Rattle.bolt_tree.specs.{Private.PageKeys.IsPlaceOf, Private.PageKeys.stands_before, Private.ShownPages.opened_content};
 ghost use Rattle.bolt_tree.specs.Private.Contents.{content_keys, content_length};
 
 use crate::opened::Opened;

@@ -1,18 +1,12 @@
 //! What the definitions of a bucket's entries and of its pages imply.
 ghost use Rattle.std.specs.Prelude.{◌≡◌, ◌≢◌, ◌≤◌, ◌+◌, ℕ, IsTrue, List, Some, slice_get, ◌∷◌, []};
-ghost use Rattle.bolt_format.specs.Elements.{LeafElement, head_root, inline_elements};
-ghost use Rattle.bolt_format.specs.Pages.{PageView, page_at};
-ghost use Rattle.bolt_format.specs.declared.meta.Meta.{Meta};
-ghost use Rattle.bolt_check.specs.OnWays.{IsOnWay};
-ghost use Rattle.bolt_check.specs.Sound.{HasSoundTrees};
-ghost use Rattle.bolt_tree.specs.Entries.{AreEntries, Inline_page, IsEntry, IsStart, Root_page, Start, Item};
-ghost use Rattle.bolt_tree.specs.Openings.{GapsCoverAll, IsGap, IsSeekCount};
-ghost use Rattle.bolt_tree.specs.Places.{least_from};
-ghost use Rattle.bolt_tree.specs.Listing.{IsListing, Lists, Member, member_cmp, rest_from};
-ghost use Rattle.bolt_tree.specs.Tree.{IsTreeOf, Tree, listing_of, tree_of};
 ghost use Rattle.std.specs.List.{Contains, take_while};
-ghost use Rattle.bolt_tree.specs.ListingParts.{begins_with, part_below};
-ghost use Rattle.bolt_tree.specs.Order.{Rises};
+ghost use Rattle.bolt_format.specs.{Elements.LeafElement, Elements.head_root, Elements.inline_elements, Pages.PageView, Pages.page_at, declared.meta.Meta.Meta};
+ghost use Rattle.bolt_check.specs.{OnWays.IsOnWay, Sound.HasSoundTrees};
+ghost use Rattle.bolt_tree.specs.Entries.{AreEntries, Inline_page, IsEntry, IsStart, Root_page, Start, Item};
+ghost use Rattle.bolt_tree.specs.{Openings.GapsCoverAll, Openings.IsGap, Openings.IsSeekCount, Places.least_from};
+ghost use Rattle.bolt_tree.specs.Listing.{IsListing, Lists, Member, member_cmp, rest_from};
+ghost use Rattle.bolt_tree.specs.{Tree.IsTreeOf, Tree.Tree, Tree.listing_of, Tree.tree_of, ListingParts.begins_with, ListingParts.part_below, Order.Rises};
 ghost use Rattle.bolt_tree.specs.Paths.{Path};
 ghost use Rattle.bolt_format.specs.declared.kind.Kind.TheVariants as kind;
 

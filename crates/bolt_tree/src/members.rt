@@ -3,11 +3,8 @@
 ghost use Rattle.std.specs.Option.{IfNone, option_map};
 ghost use Rattle.std.specs.Prelude.{◌≡◌, ◌↔◌, ◌<◌, ℕ, IfOk, IfSome, List, OnErr, OnOk};
 ghost use Rattle.bolt_check.specs.CheckedFiles.{bytes_of, meta_of};
-ghost use Rattle.bolt_tree.specs.Listing.{IsListing, Member};
-ghost use Rattle.bolt_tree.specs.Paths.{Path, path_of};
-ghost use Rattle.bolt_tree.specs.ShownEntries.{item_view};
-ghost use Rattle.bolt_tree.specs.Walks.{GivesNext, left_of, walk_checked, walk_path};
-ghost use Rattle.bolt_tree.specs.WalksLeft.{left_number};
+ghost use Rattle.bolt_tree.specs.{Listing.IsListing, Listing.Member, Paths.Path, Paths.path_of, ShownEntries.item_view};
+ghost use Rattle.bolt_tree.specs.{Walks.GivesNext, Walks.left_of, Walks.walk_checked, Walks.walk_path, WalksLeft.left_number};
 
 use crate::entry::Item;
 use crate::walk::Walk;

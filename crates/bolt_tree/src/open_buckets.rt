@@ -3,11 +3,7 @@
 ghost use Rattle.std.specs.Option.{IfNone};
 ghost use Rattle.std.specs.Prelude.{◌≡◌, ◌∷◌, [], IfSome, IfOk, MatchOption, OnOk, OnErr};
 ghost use Rattle.bolt_format.specs.ElementPlaces.{leaf_view};
-ghost use Rattle.bolt_tree.specs.Entries.{item_of};
-ghost use Rattle.bolt_tree.specs.Listing.{rest_from};
-ghost use Rattle.bolt_tree.specs.RestAfter.{rest_after, beyond};
-ghost use Rattle.bolt_tree.specs.FileListings.{ForListing};
-ghost use Rattle.bolt_tree.specs.Paths.{path_of};
+ghost use Rattle.bolt_tree.specs.{Entries.item_of, Listing.rest_from, RestAfter.rest_after, RestAfter.beyond, FileListings.ForListing, Paths.path_of};
 ghost use Rattle.bolt_tree.specs.Private.OpenCursors.{cursors_of};
 
 use crate::bucket::Bucket;

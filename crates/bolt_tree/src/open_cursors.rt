@@ -1,10 +1,8 @@
 //! The cursors of the open buckets of a walk.
 ghost use Rattle.std.specs.Prelude.{◌≡◌, ◌++◌, ◌∷◌, [], List, IfOk, IfSome, IsTrue, OnErr, OnOk};
 ghost use Rattle.std.specs.Option.{option_map};
-ghost use Rattle.bolt_format.specs.ElementPlaces.{leaf_view};
-ghost use Rattle.bolt_format.specs.Elements.{IsBucketValue};
-ghost use Rattle.bolt_tree.specs.Buckets.{bucket_checked};
-ghost use Rattle.bolt_tree.specs.Places.{first_move, next_move, seek_move};
+ghost use Rattle.bolt_format.specs.{ElementPlaces.leaf_view, Elements.IsBucketValue};
+ghost use Rattle.bolt_tree.specs.{Buckets.bucket_checked, Places.first_move, Places.next_move, Places.seek_move};
 ghost use Rattle.bolt_tree.specs.Private.CursorViews.{AreOfFile, Keeps, MovesLast, Opens, fresh_view};
 ghost use Rattle.bolt_tree.specs.Private.Kept.{CursorView};
 

@@ -1,9 +1,7 @@
 //! A page that a cursor has opened.
 ghost use Rattle.std.specs.Prelude.{◌≡◌, ◌+◌, ◌<◌, IsTrue, Some, length, slice_get, ◌≤◌};
 ghost use Rattle.std.proofs.Props.{props};
-ghost use Rattle.bolt_format.specs.ElementPlaces.{branch_view, leaf_view};
-ghost use Rattle.bolt_format.specs.Elements.{IsBucketValue};
-ghost use Rattle.bolt_format.specs.Shown.{shown};
+ghost use Rattle.bolt_format.specs.{ElementPlaces.branch_view, ElementPlaces.leaf_view, Elements.IsBucketValue, Shown.shown};
 ghost use Rattle.bolt_check.specs.declared.spot.TheConstants.{MAX_DEPTH};
 ghost use Rattle.bolt_format.specs.declared.kind.Kind.TheVariants as kind;
 
@@ -59,8 +57,7 @@ impl<'a> LeafPage<'a> {
 
 impl<'a> Opened<'a> {
     ghost use Rattle.bolt_tree.specs.Private.Contents.{content_keys, content_length, content_of, is_tree_kind};
-    ghost use Rattle.bolt_tree.specs.Private.ShownPages.{opened_content};
-    ghost use Rattle.bolt_tree.specs.Private.Stacks.{IsLeafContent, StandsOn};
+    ghost use Rattle.bolt_tree.specs.{Private.ShownPages.opened_content, Private.Stacks.IsLeafContent, Private.Stacks.StandsOn};
 
     /// A page that is a branch or a leaf.
     pub fn of_page(page: Page<'a>) -> Opened<'a>

@@ -1,9 +1,7 @@
 //! Opens the pages of a file, and counts them.
 ghost use Rattle.std.specs.Prelude.{◌≡◌, ◌<◌, ◌^◌, ℕ, Some};
-ghost use Rattle.bolt_format.specs.Pages.{page_at};
-ghost use Rattle.bolt_format.specs.Shown.{shown};
-ghost use Rattle.bolt_check.specs.CheckedFiles.{bytes_of, meta_of};
-ghost use Rattle.bolt_check.specs.OnWays.{IsOnWay};
+ghost use Rattle.bolt_format.specs.{Pages.page_at, Shown.shown};
+ghost use Rattle.bolt_check.specs.{CheckedFiles.bytes_of, CheckedFiles.meta_of, OnWays.IsOnWay};
 
 use bolt_check::Checked;
 use bolt_format::{Page, known};

@@ -1,19 +1,14 @@
 //! A stack of open pages, and its moves from page to page and from entry to entry.
 ghost use Rattle.std.specs.Prelude.{◌≡◌, ◌∷◌, [], ◌<◌, ◌≤◌, ◌+◌, ◌-◌, ◌*◌, ◌++◌, IfSome, IsTrue, MatchOption, Some, drop, length, slice_get};
 ghost use Rattle.std.specs.Option.{option_map};
-ghost use Rattle.bolt_format.specs.ElementPlaces.{leaf_view};
-ghost use Rattle.bolt_format.specs.Elements.{BranchElement, IsBucketValue};
-ghost use Rattle.bolt_format.specs.Shown.{shown};
-ghost use Rattle.bolt_tree.specs.CursorBounds.{OpensSeek, SeeksInBounds};
-ghost use Rattle.bolt_check.specs.Counts.{counted};
-ghost use Rattle.bolt_tree.specs.Pagers.{pager_opened};
-ghost use Rattle.bolt_tree.specs.Places.{least_from};
+ghost use Rattle.bolt_format.specs.{ElementPlaces.leaf_view, Elements.BranchElement, Elements.IsBucketValue, Shown.shown};
+ghost use Rattle.bolt_tree.specs.{CursorBounds.OpensSeek, CursorBounds.SeeksInBounds, Pagers.pager_opened, Places.least_from};
 ghost use Rattle.bolt_tree.specs.Private.BucketPages.{contents_in, elements_in, pages_in, root_content};
 ghost use Rattle.bolt_tree.specs.Private.Contents.{Of_branch, content_length};
 ghost use Rattle.bolt_tree.specs.Private.Entered.{IsEntered, entered_pages, opened_to, taken_at};
-ghost use Rattle.bolt_tree.specs.Private.Seeks.{IsNearTop, IsSought};
-ghost use Rattle.bolt_tree.specs.Private.ShownPages.{opened_content};
+ghost use Rattle.bolt_tree.specs.{Private.Seeks.IsNearTop, Private.Seeks.IsSought, Private.ShownPages.opened_content};
 ghost use Rattle.bolt_tree.specs.Private.Stacks.{HasStack, IsAtRest, IsLeafTop, IsOn, here_of};
+ghost use Rattle.bolt_check.specs.Counts.{counted};
 
 use crate::bucket::At;
 use crate::key_search::keys_before;

@@ -1,9 +1,7 @@
 //! A walk over everything in a file (docs/LISTING.md, "The walk").
 ghost use Rattle.std.specs.Option.{option_map};
 ghost use Rattle.std.specs.Prelude.{◌≡◌, [], IfOk, OnErr};
-ghost use Rattle.bolt_tree.specs.ShownEntries.{item_view};
-ghost use Rattle.bolt_tree.specs.Listing.{rest_from};
-ghost use Rattle.bolt_tree.specs.Private.OpenBuckets.{IsAhead, IsInPlace};
+ghost use Rattle.bolt_tree.specs.{ShownEntries.item_view, Listing.rest_from, Private.OpenBuckets.IsAhead, Private.OpenBuckets.IsInPlace};
 
 use crate::entry::Item;
 use crate::open_buckets::{OpenBuckets, WalkStep};
@@ -21,9 +19,7 @@ pub struct Walk<'a> {
 
 #[tactic(auto, unfolding(crate::specs::Walks::left_of, crate::specs::Walks::walk_checked, crate::specs::Walks::walk_path))]
 impl<'a> Walk<'a> {
-    ghost use Rattle.bolt_tree.specs.FileListings.{ForListing};
-    ghost use Rattle.bolt_tree.specs.Paths.{path_of};
-    ghost use Rattle.bolt_tree.specs.Walks.{GivesNext, left_of, walk_checked, walk_path};
+    ghost use Rattle.bolt_tree.specs.{FileListings.ForListing, Paths.path_of, Walks.GivesNext, Walks.left_of, Walks.walk_checked, Walks.walk_path};
 
     /// A walk that has the whole listing ahead of it. Needs no memory.
     pub fn new(alloc: Global, checked: Checked<'a>) -> Walk<'a>

@@ -2,12 +2,10 @@
 use Rattle.std.specs.Prelude.{◌≡◌, ◌⊎◌, ℕ, List, [], map, Bool, true, false, Option, Some, None, Ok, Err, IsTrue}
 use Rattle.bolt_cli.specs.Deeds.{Deed}
 use Rattle.bolt_cli.specs.Deeds as deeds
-use Rattle.bolt_cli.specs.Sources.{is_changed}
-use Rattle.bolt_cli.specs.declared.source.OutputFault.TheVariants.{ReaderLeft, Failed}
+use Rattle.bolt_cli.specs.{Sources.is_changed, declared.source.OutputFault.TheVariants.ReaderLeft, declared.source.OutputFault.TheVariants.Failed}
 use Rattle.test_outside.specs.declared.log.Kind.{Kind}
 use Rattle.test_outside.specs.declared.log.Kind.TheVariants as kind
-use Rattle.test_outside.specs.declared.log.Record.{Record}
-use Rattle.test_outside.specs.declared.log.Log.{Log}
+use Rattle.test_outside.specs.{declared.log.Record.Record, declared.log.Log.Log}
 
 -- what a log keeps of a deed
 pub record Look : Type 0 where

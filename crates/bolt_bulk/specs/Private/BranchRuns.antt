@@ -1,13 +1,8 @@
 -- The runs of pages above a bucket's leaves, as the code keeps them, and a run that takes the page below it.
 use Rattle.std.specs.Prelude.{◌≡◌, ◌≤◌, ◌<◌, ℕ, ◌+◌, ◌*◌, true, List, [], ◌∷◌, map, length, Option, Some, None, if◌then◌else◌}
-use Rattle.bolt_format.specs.ElementPlaces.{branch_view}
-use Rattle.bolt_format.specs.Elements.{BranchElement}
-use Rattle.bolt_layout.specs.Laid.{Placed}
-use Rattle.bolt_layout.specs.Limits.{is_out, one_less}
-use Rattle.bolt_layout.specs.Levels.{overflow_of}
-use Rattle.bolt_layout.specs.PageBytes.{branch_data}
-use Rattle.bolt_bulk.specs.Private.FormatLimits.{longest_key}
-use Rattle.bolt_bulk.specs.Private.OpenRuns.{key_size}
+use Rattle.bolt_format.specs.{ElementPlaces.branch_view, Elements.BranchElement}
+use Rattle.bolt_layout.specs.{Laid.Placed, Limits.is_out, Limits.one_less, Levels.overflow_of, PageBytes.branch_data}
+use Rattle.bolt_bulk.specs.{Private.FormatLimits.longest_key, Private.OpenRuns.key_size}
 use Rattle.bolt_bulk.specs.Private.RunViews.{RunView, no_run, one_closed, run_kept, run_key, run_page, run_push, run_stays}
 use Rattle.bolt_bulk.specs.declared.branch_run.BranchRun.{BranchRun}
 

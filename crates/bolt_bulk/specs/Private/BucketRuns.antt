@@ -2,8 +2,7 @@
 use Rattle.std.specs.Prelude.{◌≡◌, ℕ, ◌+◌, List, [], ◌∷◌}
 use Rattle.std.specs.List.{AllByRecursion}
 use Rattle.bolt_format.specs.Elements.{BranchElement, LeafElement}
-use Rattle.bolt_layout.specs.Cut.{run_size}
-use Rattle.bolt_layout.specs.Laid.{Laid, elements_of, size_of}
+use Rattle.bolt_layout.specs.{Cut.run_size, Laid.Laid, Laid.elements_of, Laid.size_of}
 use Rattle.bolt_bulk.specs.Private.HeldCounts.{capped}
 use Rattle.bolt_bulk.specs.Private.OpenRuns.{Open, Upper, key_size, next_number, numbers_in}
 use Rattle.bolt_bulk.specs.Private.RunViews.{RunView, BucketRunsView}

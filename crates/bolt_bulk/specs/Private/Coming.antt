@@ -1,11 +1,8 @@
 -- What the open runs of a bucket become, with the items that are still to come; and so of all buckets that a pass has open.
 use Rattle.std.specs.Prelude.{◌≡◌, ◌≤◌, ℕ, suc, List, [], ◌∷◌, ◌++◌, length, Option, map}
 use Rattle.bolt_format.specs.Elements.{BranchElement, LeafElement}
-use Rattle.bolt_layout.specs.Cut.{branch_cut, cut_from}
-use Rattle.bolt_layout.specs.Items.{bucket_item, items_of}
-use Rattle.bolt_layout.specs.Laid.{Laid, size_of}
-use Rattle.bolt_layout.specs.Levels.{branch_page_view, leaf_page_view, page_over, top_of}
-use Rattle.bolt_layout.specs.Limits.{HaveRightLimits, cut_left}
+use Rattle.bolt_layout.specs.{Cut.branch_cut, Cut.cut_from, Items.bucket_item, Items.items_of, Laid.Laid, Laid.size_of}
+use Rattle.bolt_layout.specs.{Levels.branch_page_view, Levels.leaf_page_view, Levels.page_over, Levels.top_of, Limits.HaveRightLimits, Limits.cut_left}
 use Rattle.bolt_layout.specs.declared.layout.Layout.{Layout}
 use Rattle.bolt_bulk.specs.Private.OpenRuns.{Frame, Open, Upper, key_size, pushing}
 use Rattle.bolt_bulk.specs.Private.RowLimits.{bucket_limit}

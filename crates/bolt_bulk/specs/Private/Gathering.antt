@@ -1,8 +1,6 @@
 -- What a buffer gathers before it is written.
 use Rattle.std.specs.Prelude.{◌≡◌, ◌++◌, ℕ, List, OnOk, Result}
-use Rattle.bolt_format.specs.Wrote.{Wrote}
-use Rattle.bolt_format.specs.Endings.{page_ending}
-use Rattle.bolt_format.specs.declared.sink.Sink.{Ghosts}
+use Rattle.bolt_format.specs.{Wrote.Wrote, Endings.page_ending, declared.sink.Sink.Ghosts}
 
 -- the buffer loses at its front what is written
 pub record Gathers {S A E : Type 0} (sink : Ghosts S) (old new : S) (before after : List ℕ) (result : Result A E) : Type 0 where

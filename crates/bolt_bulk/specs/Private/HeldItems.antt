@@ -1,13 +1,9 @@
 -- An item of an open leaf, as the code keeps it, and the element that it is.
 use Rattle.std.specs.Prelude.{◌≡◌, ◌<◌, ◌≤◌, ℕ, ◌+◌, ◌*◌, Bool, true, false, List, [], ◌∷◌, drop, length, map, take}
 use Rattle.std.specs.List.{AllByRecursion}
-use Rattle.bolt_format.specs.ElementPlaces.{leaf_view}
-use Rattle.bolt_format.specs.Elements.{LeafElement}
-use Rattle.bolt_format.specs.declared.element.Leaf.{Leaf}
+use Rattle.bolt_format.specs.{ElementPlaces.leaf_view, Elements.LeafElement, declared.element.Leaf.Leaf, Written.head_bytes}
 use Rattle.bolt_layout.specs.PageBytes.{inline_value, leaf_data}
-use Rattle.bolt_format.specs.Written.{head_bytes}
-use Rattle.bolt_bulk.specs.declared.held.Held.{Held}
-use Rattle.bolt_bulk.specs.declared.held.Stored.{Stored}
+use Rattle.bolt_bulk.specs.{declared.held.Held.Held, declared.held.Stored.Stored}
 use Rattle.bolt_bulk.specs.declared.held.Stored.TheVariants as stored
 use Rattle.bolt_bulk.specs.Private.FormatLimits.{length_end, longest_key}
 

@@ -1,9 +1,7 @@
 -- The buckets around the one that a pass is in, the innermost first: of each the key that leads further in, and the entries after that one.
 use Rattle.std.specs.Prelude.{List, [], ◌∷◌, ◌++◌}
 use Rattle.bolt_check.specs.Keys.{Key}
-use Rattle.bolt_tree.specs.Listing.{Member}
-use Rattle.bolt_tree.specs.Paths.{Path}
-use Rattle.bolt_tree.specs.Tree.{Tree, listing_below}
+use Rattle.bolt_tree.specs.{Listing.Member, Paths.Path, Tree.Tree, Tree.listing_below}
 
 pub record Level : Type 0 where
   pub key : Key

@@ -3,11 +3,9 @@ use Rattle.std.specs.Prelude.{◌≡◌, ◌<◌, ℕ, ◌+◌, length}
 use Rattle.std.specs.List.{AllByRecursion}
 use Rattle.bolt_format.specs.Elements.{BranchElement}
 use Rattle.bolt_layout.specs.Levels.{overflow_of}
-use Rattle.bolt_bulk.specs.Private.FormatLimits.{length_end}
-use Rattle.bolt_bulk.specs.Private.BranchRuns.{IsStanding, runs_above, runs_end_next}
+use Rattle.bolt_bulk.specs.{Private.FormatLimits.length_end, Private.BranchRuns.IsStanding, Private.BranchRuns.runs_above, Private.BranchRuns.runs_end_next}
 use Rattle.bolt_bulk.specs.Private.HeldItems.{AreHeld, held_views, inlined_in, page_size_of}
-use Rattle.bolt_bulk.specs.Private.RunViews.{LeafRunView, BucketRunsView, leaf_key}
-use Rattle.bolt_bulk.specs.declared.leaf_run.LeafRun.{LeafRun}
+use Rattle.bolt_bulk.specs.{Private.RunViews.LeafRunView, Private.RunViews.BucketRunsView, Private.RunViews.leaf_key, declared.leaf_run.LeafRun.LeafRun}
 use Rattle.bolt_bulk.specs.declared.bucket_runs.BucketRuns.{BucketRuns}
 
 -- the view of a run of items

@@ -2,16 +2,12 @@
 -- A run closes before the first page of what no longer joins it is written, so an upper run may be empty: then the page that is under way
 -- below begins the next run.
 use Rattle.std.specs.Prelude.{ℕ, suc, ◌+◌, Bool, ◌||◌, ◌&&◌, nat_lt, nat_le, List, [], ◌∷◌, ◌++◌, length, Option, None, if◌then◌else◌}
-use Rattle.bolt_format.specs.Elements.{BranchElement, LeafElement}
-use Rattle.bolt_format.specs.Pages.{PageView}
-use Rattle.bolt_layout.specs.Layout.{first_page}
-use Rattle.bolt_tree.specs.Tree.{Tree}
-use Rattle.bolt_layout.specs.Cut.{max_items, run_size}
-use Rattle.bolt_layout.specs.Laid.{Laid, Placed, elements_of, numbers_of, pages_of, size_of}
-use Rattle.bolt_layout.specs.Limits.{is_out, one_less}
+use Rattle.bolt_format.specs.{Elements.BranchElement, Elements.LeafElement, Pages.PageView}
+use Rattle.bolt_layout.specs.{Layout.first_page, Cut.max_items, Cut.run_size}
+use Rattle.bolt_layout.specs.{Laid.Laid, Laid.Placed, Laid.elements_of, Laid.numbers_of, Laid.pages_of, Laid.size_of, Limits.is_out, Limits.one_less}
 use Rattle.bolt_layout.specs.Levels.{branch_page_view, leaf_page_view, page_over, run_overflow}
-use Rattle.bolt_bulk.specs.Private.RowLimits.{bucket_limit}
-use Rattle.bolt_bulk.specs.declared.limits.BucketLimits.{BucketLimits}
+use Rattle.bolt_tree.specs.Tree.{Tree}
+use Rattle.bolt_bulk.specs.{Private.RowLimits.bucket_limit, declared.limits.BucketLimits.BucketLimits}
 
 -- an item of this size joins the run
 abbrev pub has_room : {E : Type 0} → ℕ → ℕ → List (Laid E) → ℕ → Bool

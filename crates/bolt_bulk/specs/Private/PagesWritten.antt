@@ -1,12 +1,8 @@
 -- What a call that writes pages leaves on its sink, and when it returns TooLarge.
 use Rattle.std.specs.Prelude.{◌≡◌, ◌<◌, ℕ, List, IfErr, OnErr, Result}
-use Rattle.bolt_format.specs.Sinks.{AppendsProperPrefix}
-use Rattle.bolt_format.specs.Wrote.{Wrote}
-use Rattle.bolt_format.specs.declared.sink.Sink.{Ghosts}
-use Rattle.bolt_layout.specs.Laid.{Placed}
-use Rattle.bolt_layout.specs.Layout.{placed_bytes}
-use Rattle.bolt_bulk.specs.BulkEndings.{bulk_ending}
-use Rattle.bolt_bulk.specs.declared.fault.BulkFault.{BulkFault}
+use Rattle.bolt_format.specs.{Sinks.AppendsProperPrefix, Wrote.Wrote, declared.sink.Sink.Ghosts}
+use Rattle.bolt_layout.specs.{Laid.Placed, Layout.placed_bytes}
+use Rattle.bolt_bulk.specs.{BulkEndings.bulk_ending, declared.fault.BulkFault.BulkFault}
 use Rattle.bolt_bulk.specs.declared.fault.BulkFault.TheVariants as fault
 use Rattle.bolt_bulk.specs.declared.page_setup.PageSetup.{PageSetup}
 

@@ -1,41 +1,24 @@
 -- Where a pass is in the tree that it follows, as the code keeps it, and what a step of it leaves.
 use Rattle.std.specs.Prelude.{◌≡◌, ◌<◌, ◌≤◌, ℕ, suc, ◌+◌, ◌/◌, Bool, true, false, List, [], ◌∷◌, ◌++◌, length, map, reverse, Option, Some, None, Result, IfErr, OnOk}
 use Rattle.std.specs.List.{AllByRecursion}
-use Rattle.bolt_format.specs.ElementPlaces.{leaf_view}
-use Rattle.bolt_format.specs.Elements.{BranchElement, LeafElement}
-use Rattle.bolt_format.specs.declared.element.Leaf.{Leaf}
-use Rattle.bolt_tree.specs.Listing.{Member}
-use Rattle.bolt_tree.specs.Tree.{Tree, end, listing_of, tree_of, with_bucket, with_value}
-use Rattle.bolt_layout.specs.Items.{is_inline, items_of, root_of}
-use Rattle.bolt_layout.specs.Laid.{Laid, Placed}
-use Rattle.bolt_layout.specs.Layout.{layout_mark, layout_pages, placed_bytes}
-use Rattle.bolt_layout.specs.Limits.{HaveRightLimits, limit_at, limits_from_ends}
+use Rattle.bolt_format.specs.{ElementPlaces.leaf_view, Elements.BranchElement, Elements.LeafElement, declared.element.Leaf.Leaf}
+use Rattle.bolt_tree.specs.{Listing.Member, Tree.Tree, Tree.end, Tree.listing_of, Tree.tree_of, Tree.with_bucket, Tree.with_value}
+use Rattle.bolt_layout.specs.{Items.is_inline, Items.items_of, Items.root_of, Laid.Laid, Laid.Placed}
+use Rattle.bolt_layout.specs.{Layout.layout_mark, Layout.layout_pages, Layout.placed_bytes, Limits.HaveRightLimits, Limits.limit_at, Limits.limits_from_ends}
 use Rattle.bolt_layout.specs.Openings.{AreRight, leaf_pages, limits_for, opened_by, opened_in, row_ends_of}
 use Rattle.bolt_layout.specs.declared.layout.Layout.TheVariants.{Plain}
-use Rattle.bolt_bulk.specs.declared.limits.Limits.{Limits}
-use Rattle.bolt_bulk.specs.Private.FormatLimits.{longest_key}
-use Rattle.bolt_bulk.specs.Private.Coming.{IsPass}
-use Rattle.bolt_bulk.specs.Private.RowLimits.{limit_in}
-use Rattle.bolt_bulk.specs.Private.HeldCounts.{AreCounted, capped, items_around}
-use Rattle.bolt_bulk.specs.Private.HeldSoFar.{held_so_far}
-use Rattle.bolt_bulk.specs.Private.Levels.{Level, left_in}
-use Rattle.bolt_bulk.specs.Private.OpenBuckets.{IsOpenBucket, bucket_runs}
+use Rattle.bolt_bulk.specs.{declared.limits.Limits.Limits, Private.FormatLimits.longest_key, Private.Coming.IsPass, Private.RowLimits.limit_in}
+use Rattle.bolt_bulk.specs.{Private.HeldCounts.AreCounted, Private.HeldCounts.capped, Private.HeldCounts.items_around, Private.HeldSoFar.held_so_far}
+use Rattle.bolt_bulk.specs.{Private.Levels.Level, Private.Levels.left_in, Private.OpenBuckets.IsOpenBucket, Private.OpenBuckets.bucket_runs}
 use Rattle.bolt_bulk.specs.Private.BucketRuns.{AreOpenRuns}
 use Rattle.bolt_bulk.specs.Private.OpenRuns.{Frame, Known, Open, all_put, base_in}
-use Rattle.bolt_bulk.specs.Private.RunViews.{BucketRunsView}
-use Rattle.bolt_bulk.specs.Private.TakenItems.{entries_size}
-use Rattle.bolt_bulk.specs.Private.WaitingBuckets.{IsWaiting}
-use Rattle.bolt_bulk.specs.declared.page_setup.PageSetup.{PageSetup}
-use Rattle.bolt_bulk.specs.declared.fault.BulkFault.{BulkFault}
+use Rattle.bolt_bulk.specs.{Private.RunViews.BucketRunsView, Private.TakenItems.entries_size, Private.WaitingBuckets.IsWaiting}
+use Rattle.bolt_bulk.specs.{declared.page_setup.PageSetup.PageSetup, declared.fault.BulkFault.BulkFault}
 use Rattle.bolt_bulk.specs.declared.fault.BulkFault.TheVariants as fault
-use Rattle.bolt_bulk.specs.declared.pass.Pass.{Pass}
-use Rattle.bolt_bulk.specs.declared.waiting_bucket.PendingBucket.{PendingBucket}
-use Rattle.bolt_bulk.specs.declared.waiting_bucket.WaitingBucket.{WaitingBucket}
-use Rattle.bolt_bulk.specs.declared.limits.NotedLimits.{NotedLimits}
+use Rattle.bolt_bulk.specs.{declared.pass.Pass.Pass, declared.waiting_bucket.PendingBucket.PendingBucket, declared.waiting_bucket.WaitingBucket.WaitingBucket}
+use Rattle.bolt_bulk.specs.{declared.limits.NotedLimits.NotedLimits, BulkEndings.bulk_ending}
 use Rattle.bolt_layout.specs.declared.layout.Layout.{Layout}
-use Rattle.bolt_format.specs.Wrote.{Wrote}
-use Rattle.bolt_bulk.specs.BulkEndings.{bulk_ending}
-use Rattle.bolt_format.specs.declared.sink.Sink.{Ghosts}
+use Rattle.bolt_format.specs.{Wrote.Wrote, declared.sink.Sink.Ghosts}
 
 -- entries that are values, in front of a tree
 abbrev pub onto : List LeafElement → Tree → Tree

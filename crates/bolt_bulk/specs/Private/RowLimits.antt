@@ -3,11 +3,8 @@ use Rattle.std.specs.Prelude.{◌≡◌, ◌⊎◌, ℕ, suc, true, false, None,
 use Rattle.std.specs.BTreeMap.{get}
 use Rattle.std.specs.Ordering.{nat_cmp, ordering_then}
 use Rattle.std.specs.declared.cmp.Ordering.{Ordering}
-use Rattle.bolt_bulk.specs.declared.branch_run.BranchRun.{BranchRun}
-use Rattle.bolt_bulk.specs.declared.limits.BucketLimits.{BucketLimits}
-use Rattle.bolt_bulk.specs.declared.limits.Limits.{Limits}
-use Rattle.bolt_bulk.specs.declared.limits.NotedLimits.{NotedLimits}
-use Rattle.bolt_bulk.specs.declared.upper_runs.UpperRuns.{UpperRuns}
+use Rattle.bolt_bulk.specs.{declared.branch_run.BranchRun.BranchRun, declared.limits.BucketLimits.BucketLimits, declared.limits.Limits.Limits}
+use Rattle.bolt_bulk.specs.{declared.limits.NotedLimits.NotedLimits, declared.upper_runs.UpperRuns.UpperRuns}
 use Rattle.bolt_layout.specs.Limits.{limit_at, limits_from_ends}
 
 abbrev pub row_cmp : (ℕ × ℕ) → (ℕ × ℕ) → Ordering

@@ -2,13 +2,8 @@
 -- many runs may still begin in its row.
 use Rattle.std.specs.Prelude.{ℕ, ◌+◌, Bool, ◌||◌, ◌&&◌, nat_lt, nat_le, List, [], ◌∷◌, ◌++◌, length, min, Option, None, if◌then◌else◌}
 use Rattle.bolt_format.specs.Elements.{BranchElement, LeafElement}
-use Rattle.bolt_layout.specs.Cut.{max_items}
-use Rattle.bolt_layout.specs.Laid.{Placed}
-use Rattle.bolt_layout.specs.Limits.{is_out, one_less}
-use Rattle.bolt_layout.specs.Levels.{branch_page_view, leaf_page_view, overflow_of}
-use Rattle.bolt_bulk.specs.Private.OpenRuns.{key_size}
-use Rattle.bolt_bulk.specs.Private.RowLimits.{bucket_limit}
-use Rattle.bolt_bulk.specs.declared.limits.BucketLimits.{BucketLimits}
+use Rattle.bolt_layout.specs.{Cut.max_items, Laid.Placed, Limits.is_out, Limits.one_less, Levels.branch_page_view, Levels.leaf_page_view, Levels.overflow_of}
+use Rattle.bolt_bulk.specs.{Private.OpenRuns.key_size, Private.RowLimits.bucket_limit, declared.limits.BucketLimits.BucketLimits}
 
 pub record RunView : Type 0 where
   pub elements : List BranchElement

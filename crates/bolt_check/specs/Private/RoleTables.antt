@@ -1,14 +1,8 @@
 -- The table of pages as a table of roles.
 use Rattle.std.specs.Prelude.{◌≡◌, ◌==◌, ◌⊎◌, ℕ, if◌then◌else◌, List, None, nat_lt}
-use Rattle.bolt_format.specs.Freelists.{freelist_fault_of}
-use Rattle.bolt_format.specs.declared.meta.Meta.{Meta}
-use Rattle.bolt_check.specs.Accounts.{IsInFreelist, IsInUse}
-use Rattle.bolt_check.specs.Nodes.{node_at}
-use Rattle.bolt_check.specs.Private.Tables.{IsClaimed}
-use Rattle.bolt_check.specs.Private.Uses.{HasUse, IsMetaUse, IsNoted}
-use Rattle.bolt_check.specs.Sound.{IsUsed}
-use Rattle.bolt_check.specs.Ways.{reached}
-use Rattle.bolt_check.specs.declared.role_table.Role.{Role}
+use Rattle.bolt_format.specs.{Freelists.freelist_fault_of, declared.meta.Meta.Meta}
+use Rattle.bolt_check.specs.{Accounts.IsInFreelist, Accounts.IsInUse, Nodes.node_at, Private.Tables.IsClaimed}
+use Rattle.bolt_check.specs.{Private.Uses.HasUse, Private.Uses.IsMetaUse, Private.Uses.IsNoted, Sound.IsUsed, Ways.reached, declared.role_table.Role.Role}
 use Rattle.bolt_check.specs.declared.role_table.Role.TheVariants as role
 use Rattle.bolt_check.specs.declared.table.PageUse.{PageUse}
 use Rattle.bolt_check.specs.declared.table.PageUse.TheVariants.{Unused, Branch, Leaf, Used, Free, FreeTwice, UsedFree, UsedFreeTwice}

@@ -1,9 +1,6 @@
 -- Why the search stops.
 use Rattle.std.specs.Prelude.{ℕ}
-use Rattle.bolt_check.specs.Findings.{IsFirst}
-use Rattle.bolt_check.specs.Nodes.{Nodes}
-use Rattle.bolt_check.specs.Ways.{Reach}
-use Rattle.bolt_check.specs.declared.fault.CheckFault.{CheckFault}
+use Rattle.bolt_check.specs.{Findings.IsFirst, Nodes.Nodes, Ways.Reach, declared.fault.CheckFault.CheckFault}
 use Rattle.bolt_check.specs.declared.fault.CheckFault.TheVariants.{Accounts, Memory, Open, Structure}
 
 -- at the first finding, or because memory ran out

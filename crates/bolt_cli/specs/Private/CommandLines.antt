@@ -1,11 +1,8 @@
 -- What the functions of the command line promise.
 use Rattle.std.specs.Prelude.{◌≡◌, List, ◌++◌, Option, None, Some, Ok, Err, codes}
 use Rattle.clap.specs.declared.builder.Command.{Command}
-use Rattle.bolt_cli.specs.CommandLine.{IsCommand, program_of}
-use Rattle.bolt_cli.specs.LineWords.{Syntax, Text}
-use Rattle.bolt_cli.specs.PlainWords.{assumed_of, meta_in}
-use Rattle.bolt_cli.specs.declared.choices.AssumedMeta.{AssumedMeta}
-use Rattle.bolt_cli.specs.declared.choices.MetaChoice.TheVariants.{Assumed}
+use Rattle.bolt_cli.specs.{CommandLine.IsCommand, CommandLine.program_of, LineWords.Syntax, LineWords.Text, PlainWords.assumed_of, PlainWords.meta_in}
+use Rattle.bolt_cli.specs.{declared.choices.AssumedMeta.AssumedMeta, declared.choices.MetaChoice.TheVariants.Assumed}
 
 -- the second is the first with these commands after those that it has
 abbrev pub AddsLines : Command → List Syntax → Command → Type 0

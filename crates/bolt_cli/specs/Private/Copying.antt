@@ -6,14 +6,9 @@ use Rattle.bolt_layout.specs.Copies.{layout_of_listing}
 use Rattle.bolt_recover.specs.ShownLosses.{lost_view}
 use Rattle.bolt_report.specs.FoundLines.{found_view}
 use Rattle.bolt_tree.specs.Listing.{Member}
-use Rattle.bolt_cli.specs.Answers.{Answer, Ending, Loads, MakesCopy, copy_report}
-use Rattle.bolt_cli.specs.CopyEnds.{asked_layout}
-use Rattle.bolt_cli.specs.CopyKinds.{is_snapshot, layout_for}
-use Rattle.bolt_cli.specs.GoodCopies.{IsGoodCopy}
-use Rattle.bolt_cli.specs.declared.compact_command.CopyReport.{CopyReport}
-use Rattle.bolt_cli.specs.declared.choices.Extent.{Extent}
-use Rattle.bolt_cli.specs.declared.job.CompactJob.{CompactJob}
-use Rattle.bolt_cli.specs.declared.job.LoadJob.{LoadJob}
+use Rattle.bolt_cli.specs.{Answers.Answer, Answers.Ending, Answers.Loads, Answers.MakesCopy, Answers.copy_report, CopyEnds.asked_layout}
+use Rattle.bolt_cli.specs.{CopyKinds.is_snapshot, CopyKinds.layout_for, GoodCopies.IsGoodCopy, declared.compact_command.CopyReport.CopyReport}
+use Rattle.bolt_cli.specs.{declared.choices.Extent.Extent, declared.job.CompactJob.CompactJob, declared.job.LoadJob.LoadJob}
 
 module _ {O T : Type 0} (out_taken : O → Option (List ℕ)) (out_failed : O → ℕ) (out_old out_new : O)
     (target_taken : T → Option (List ℕ)) (target_failed : T → ℕ) (target_old target_new : T) where

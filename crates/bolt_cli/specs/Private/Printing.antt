@@ -1,20 +1,11 @@
 -- What the functions of a command that prints promise of its job.
 use Rattle.std.specs.Prelude.{ℕ, List, Bool}
-use Rattle.bolt_check.specs.CheckedFiles.{bytes_of, meta_of}
-use Rattle.bolt_check.specs.declared.checked_file.Checked.{Checked}
-use Rattle.bolt_check.specs.declared.role_table.Role.{Role}
-use Rattle.bolt_report.specs.KeyLines.{keys_text}
-use Rattle.bolt_report.specs.KeyPrefixes.{with_prefix}
-use Rattle.bolt_report.specs.ListForms.{listing_lines}
-use Rattle.bolt_tree.specs.Listing.{Member, rest_from}
-use Rattle.bolt_tree.specs.ListingParts.{has_bucket, part_below}
+use Rattle.bolt_check.specs.{CheckedFiles.bytes_of, CheckedFiles.meta_of, declared.checked_file.Checked.Checked, declared.role_table.Role.Role}
+use Rattle.bolt_report.specs.{KeyLines.keys_text, KeyPrefixes.with_prefix, ListForms.listing_lines}
+use Rattle.bolt_tree.specs.{Listing.Member, Listing.rest_from, ListingParts.has_bucket, ListingParts.part_below}
 use Rattle.bolt_cli.specs.Answers.{Answer, IsBucketsAnswer, IsEntriesAnswer, IsGetAnswer, IsListedAnswer, IsReadAnswer, pages_shown, part_text}
-use Rattle.bolt_cli.specs.PlainWords.{path_in}
-use Rattle.bolt_cli.specs.declared.choices.Extent.{Extent}
-use Rattle.bolt_cli.specs.declared.job.BucketsJob.{BucketsJob}
-use Rattle.bolt_cli.specs.declared.job.GetJob.{GetJob}
-use Rattle.bolt_cli.specs.declared.job.KeysJob.{KeysJob}
-use Rattle.bolt_cli.specs.declared.job.ListJob.{ListJob}
+use Rattle.bolt_cli.specs.{PlainWords.path_in, declared.choices.Extent.Extent, declared.job.BucketsJob.BucketsJob, declared.job.GetJob.GetJob}
+use Rattle.bolt_cli.specs.{declared.job.KeysJob.KeysJob, declared.job.ListJob.ListJob}
 
 -- ---- the answers to a job
 

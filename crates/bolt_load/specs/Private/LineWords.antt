@@ -1,9 +1,7 @@
 -- The words of a line.
 use Rattle.std.specs.Prelude.{Option, Some, option_and_then, option_map}
-use Rattle.bolt_tree.specs.Entries.{Bucket, Item, Value}
-use Rattle.bolt_tree.specs.Listing.{Member}
-use Rattle.bolt_load.specs.HexPaths.{hex_bytes_in, hex_path_in}
-use Rattle.bolt_load.specs.declared.line_words.ItemWord.{ItemWord}
+use Rattle.bolt_tree.specs.{Entries.Bucket, Entries.Item, Entries.Value, Listing.Member}
+use Rattle.bolt_load.specs.{HexPaths.hex_bytes_in, HexPaths.hex_path_in, declared.line_words.ItemWord.ItemWord}
 use Rattle.bolt_load.specs.declared.line_words.ItemWord.TheVariants.{Digits, Sequence}
 use Rattle.bolt_load.specs.declared.line_words.LineWords.{LineWords}
 

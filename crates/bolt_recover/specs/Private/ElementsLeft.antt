@@ -1,8 +1,7 @@
 -- What is left of the elements of a page.
 use Rattle.std.specs.Prelude.{◌≡◌, List, [], ◌∷◌, Option, Some, None, drop}
 use Rattle.bolt_format.specs.Elements.{LeafElement}
-use Rattle.bolt_recover.specs.Private.Frames.{content_elements}
-use Rattle.bolt_recover.specs.declared.content.Elements.{Elements}
+use Rattle.bolt_recover.specs.{Private.Frames.content_elements, declared.content.Elements.Elements}
 
 abbrev pub elements_left : Elements → List LeafElement
 elements_left elements = drop elements.next (content_elements elements.content)

@@ -1,16 +1,10 @@
 -- What is left of the bucket of what is found.
 use Rattle.std.specs.Prelude.{◌≡◌, ℕ, List, [], ◌∷◌, ◌++◌, Option, Some, None, drop, map, take}
 use Rattle.bolt_check.specs.Keys.{Key}
-use Rattle.bolt_format.specs.Elements.{LeafElement}
-use Rattle.bolt_format.specs.Shown.{shown}
-use Rattle.bolt_tree.specs.Entries.{Bucket, Item}
-use Rattle.bolt_tree.specs.Listing.{Member}
-use Rattle.bolt_tree.specs.Paths.{Path, path_of}
-use Rattle.bolt_tree.specs.Tree.{end, listing_below}
-use Rattle.bolt_recover.specs.Joined.{found_tree, inside_of, lost_and_found, tree_with}
-use Rattle.bolt_recover.specs.Private.ElementsLeft.{elements_of}
-use Rattle.bolt_recover.specs.declared.found.Found.{Found}
-use Rattle.bolt_recover.specs.declared.found_members.FoundMembers.{FoundMembers}
+use Rattle.bolt_format.specs.{Elements.LeafElement, Shown.shown}
+use Rattle.bolt_tree.specs.{Entries.Bucket, Entries.Item, Listing.Member, Paths.Path, Paths.path_of, Tree.end, Tree.listing_below}
+use Rattle.bolt_recover.specs.{Joined.found_tree, Joined.inside_of, Joined.lost_and_found, Joined.tree_with, Private.ElementsLeft.elements_of}
+use Rattle.bolt_recover.specs.{declared.found.Found.Found, declared.found_members.FoundMembers.FoundMembers}
 
 -- found pages of the code with their elements
 abbrev pub pages_of : List Found → List (ℕ × List LeafElement)

@@ -1,36 +1,19 @@
 -- The open pages of the code as what is still to be done.
 use Rattle.std.specs.Prelude.{◌≡◌, ◌≤◌, ◌<◌, IsTrue, ℕ, ◌+◌, ◌-◌, ◌*◌, Bool, true, false, List, [], ◌∷◌, ◌++◌, length, map, take, Option, Some, None, Ok, if◌then◌else◌, slice_get, sum_by}
 use Rattle.std.specs.Option.{option_map}
-use Rattle.bolt_format.specs.ElementPlaces.{leaf_view}
-use Rattle.bolt_format.specs.Elements.{IsBucketValue, LeafElement}
+use Rattle.bolt_format.specs.{ElementPlaces.leaf_view, Elements.IsBucketValue, Elements.LeafElement}
 use Rattle.bolt_format.specs.declared.element.Leaf as element
-use Rattle.bolt_format.specs.Pages.{page_at}
-use Rattle.bolt_format.specs.Shown.{shown}
-use Rattle.bolt_format.specs.ShownInline.{shown_inline}
-use Rattle.bolt_format.specs.declared.meta.Meta.{Meta}
-use Rattle.bolt_check.specs.Claims.{claims_file, claims_meta, claims_visited, is_claimed, pages_left}
-use Rattle.bolt_check.specs.Nodes.{Nodes, node_at}
-use Rattle.bolt_check.specs.ShownNodes.{shown_node}
-use Rattle.bolt_check.specs.ShownSpots.{inline_keys, page_spot, spot_at}
-use Rattle.bolt_check.specs.Ways.{At_inline, At_page, Spot}
-use Rattle.bolt_check.specs.declared.claims.Claims.{Claims}
-use Rattle.bolt_check.specs.declared.finding.Finding.{Finding}
-use Rattle.bolt_check.specs.declared.spot.Spot.{Spot as CodeSpot}
+use Rattle.bolt_format.specs.{Pages.page_at, Shown.shown, ShownInline.shown_inline, declared.meta.Meta.Meta}
+use Rattle.bolt_check.specs.{Claims.claims_file, Claims.claims_meta, Claims.claims_visited, Claims.is_claimed, Claims.pages_left, Nodes.Nodes, Nodes.node_at}
+use Rattle.bolt_check.specs.{ShownNodes.shown_node, ShownSpots.inline_keys, ShownSpots.page_spot, ShownSpots.spot_at, Ways.At_inline, Ways.At_page, Ways.Spot}
+use Rattle.bolt_check.specs.{declared.claims.Claims.Claims, declared.finding.Finding.Finding, declared.spot.Spot.Spot as CodeSpot}
 use Rattle.bolt_check.specs.declared.spot.Spot.TheVariants as spots
-use Rattle.bolt_tree.specs.Entries.{item_of}
-use Rattle.bolt_tree.specs.Listing.{Member}
-use Rattle.bolt_tree.specs.Paths.{Path, path_of}
-use Rattle.bolt_recover.specs.Losses.{LossView, loss_of}
-use Rattle.bolt_recover.specs.Places.{Place, leaves_of, step_place}
+use Rattle.bolt_tree.specs.{Entries.item_of, Listing.Member, Paths.Path, Paths.path_of, RestAfter.rest_after}
+use Rattle.bolt_recover.specs.{Losses.LossView, Losses.loss_of, Places.Place, Places.leaves_of, Places.step_place}
 use Rattle.bolt_recover.specs.Private.Runs.{Outcome, Runs, RunsAll, Task, To_visit, Visited, Way, after_visits, claimed_after, further, outcome_of, tasks_from}
-use Rattle.bolt_tree.specs.RestAfter.{rest_after}
-use Rattle.bolt_recover.specs.ShownLosses.{loss_view}
-use Rattle.bolt_recover.specs.declared.content.Content.{Content}
-use Rattle.bolt_recover.specs.declared.content.Content.TheVariants.{Bucket, Page}
-use Rattle.bolt_recover.specs.declared.content.OpenPage.{OpenPage}
-use Rattle.bolt_recover.specs.declared.steps.NextVisit.{NextVisit}
-use Rattle.bolt_recover.specs.declared.steps.Steps.{Steps}
-use Rattle.bolt_recover.specs.declared.steps.Taken.{Taken}
+use Rattle.bolt_recover.specs.{ShownLosses.loss_view, declared.content.Content.Content}
+use Rattle.bolt_recover.specs.{declared.content.Content.TheVariants.Bucket, declared.content.Content.TheVariants.Page, declared.content.OpenPage.OpenPage}
+use Rattle.bolt_recover.specs.{declared.steps.NextVisit.NextVisit, declared.steps.Steps.Steps, declared.steps.Taken.Taken}
 use Rattle.bolt_recover.specs.declared.steps.Taken.TheVariants.{End, Leaf, Nothing}
 
 -- the code keeps no ways

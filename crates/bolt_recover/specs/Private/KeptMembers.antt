@@ -3,12 +3,8 @@ use Rattle.std.specs.Prelude.{◌≡◌, ℕ, List, [], Option}
 use Rattle.std.specs.Option.{option_map}
 use Rattle.bolt_format.specs.declared.meta.Meta.{Meta}
 use Rattle.bolt_check.specs.CheckedFiles.{bytes_of, meta_of}
-use Rattle.bolt_tree.specs.Listing.{Member}
-use Rattle.bolt_tree.specs.Paths.{Path}
-use Rattle.bolt_tree.specs.ShownEntries.{item_view}
-use Rattle.bolt_tree.specs.Walks.{GivesNext, left_of, walk_checked, walk_path}
-use Rattle.bolt_tree.specs.declared.entry.Item.{Item}
-use Rattle.bolt_tree.specs.WalksLeft.{left_number}
+use Rattle.bolt_tree.specs.{Listing.Member, Paths.Path, ShownEntries.item_view, Walks.GivesNext, Walks.left_of, Walks.walk_checked, Walks.walk_path}
+use Rattle.bolt_tree.specs.{declared.entry.Item.Item, WalksLeft.left_number}
 use Rattle.bolt_recover.specs.Recovered.{ForRecovered}
 use Rattle.bolt_recover.specs.Recoveries.{recovery_file, recovery_left, recovery_meta, recovery_path, recovery_work}
 use Rattle.bolt_recover.specs.declared.kept.Kept.{Kept}

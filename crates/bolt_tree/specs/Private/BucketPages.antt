@@ -2,9 +2,7 @@
 use Rattle.std.specs.Prelude.{List}
 use Rattle.bolt_format.specs.Elements.{LeafElement}
 use Rattle.bolt_check.specs.Sound.{HasSoundTrees}
-use Rattle.bolt_tree.specs.BucketViews.{BucketView}
-use Rattle.bolt_tree.specs.Entries.{IsStart}
-use Rattle.bolt_tree.specs.Private.Contents.{Content, Contents, content_at}
+use Rattle.bolt_tree.specs.{BucketViews.BucketView, Entries.IsStart, Private.Contents.Content, Private.Contents.Contents, Private.Contents.content_at}
 use Rattle.bolt_tree.specs.Private.Tours.{Visit, content_at_start, elements_of, pages_at}
 
 -- it is a bucket of a sound tree

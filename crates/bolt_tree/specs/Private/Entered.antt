@@ -2,8 +2,7 @@
 use Rattle.std.specs.Prelude.{◌≡◌, ℕ, suc, ◌+◌, Bool, true, false, List, ◌∷◌, Option, Some, None, slice_get, length}
 use Rattle.bolt_format.specs.Elements.{BranchElement, LeafElement}
 use Rattle.bolt_tree.specs.Private.Contents.{Content, Contents, Of_branch, Of_leaf, content_length}
-use Rattle.bolt_tree.specs.Private.Stacks.{Frame}
-use Rattle.bolt_tree.specs.Private.Tours.{Visit}
+use Rattle.bolt_tree.specs.{Private.Stacks.Frame, Private.Tours.Visit}
 
 -- how much of a page is done before its first element, or past its last
 abbrev pub taken_at : Bool → Content → ℕ

@@ -1,9 +1,7 @@
 -- What a cursor keeps between its calls, and where it is.
 use Rattle.std.specs.Prelude.{◌≡◌, Bool, true, false, List, [], ◌∷◌}
-use Rattle.bolt_tree.specs.Private.Contents.{Contents}
-use Rattle.bolt_tree.specs.Places.{Fresh, On, Past, Place}
-use Rattle.bolt_tree.specs.Private.Stacks.{Frame, IsAtRest, index_of}
-use Rattle.bolt_tree.specs.Private.Trails.{HasTrail, trail_frames}
+use Rattle.bolt_tree.specs.{Private.Contents.Contents, Places.Fresh, Places.On, Places.Past, Places.Place}
+use Rattle.bolt_tree.specs.{Private.Stacks.Frame, Private.Stacks.IsAtRest, Private.Stacks.index_of, Private.Trails.HasTrail, Private.Trails.trail_frames}
 use Rattle.bolt_tree.specs.declared.trail.Trail.{Trail}
 
 -- It is on an entry of its bucket, or its stack is empty: before the first call, or past the last entry.

@@ -1,17 +1,9 @@
 -- What is kept of the cursors that wait: their positions.
 use Rattle.std.specs.Prelude.{◌≡◌, ◌≤◌, Bool, true, List, [], ◌∷◌, ◌++◌, drop, take, length}
 use Rattle.bolt_check.specs.declared.checked_file.Checked.{Checked}
-use Rattle.bolt_tree.specs.BucketViews.{bucket_in}
-use Rattle.bolt_tree.specs.Entries.{Start}
-use Rattle.bolt_tree.specs.Places.{Place}
-use Rattle.bolt_tree.specs.Private.BucketPages.{contents_in}
-use Rattle.bolt_tree.specs.Private.Held.{place_by}
-use Rattle.bolt_tree.specs.Private.Stacks.{HasStack, IsAtRest}
-use Rattle.bolt_tree.specs.Private.Trails.{frames_of}
-use Rattle.bolt_tree.specs.Starts.{start_at}
-use Rattle.bolt_tree.specs.declared.bucket.At.{At}
-use Rattle.bolt_tree.specs.declared.open_cursors.WaitingCursor.{WaitingCursor}
-use Rattle.bolt_tree.specs.declared.opened.Position.{Position}
+use Rattle.bolt_tree.specs.{BucketViews.bucket_in, Entries.Start, Places.Place, Private.BucketPages.contents_in, Private.Held.place_by}
+use Rattle.bolt_tree.specs.{Private.Stacks.HasStack, Private.Stacks.IsAtRest, Private.Trails.frames_of, Starts.start_at, declared.bucket.At.At}
+use Rattle.bolt_tree.specs.{declared.open_cursors.WaitingCursor.WaitingCursor, declared.opened.Position.Position}
 
 -- a cursor without its counts: its file and bucket, and where it is
 pub record CursorView : Type 0 where

@@ -1,23 +1,12 @@
 -- The open buckets of a walk: docs/LISTING.md, "The walk". A cursor for each, and the keys that the cursors are on: the path of what comes
 -- next, or came last.
 use Rattle.std.specs.Prelude.{◌≡◌, ℕ, Bool, true, false, IsTrue, List, [], ◌∷◌, ◌++◌, Some, slice_get}
-use Rattle.bolt_format.specs.Elements.{IsBucketValue, LeafElement}
-use Rattle.bolt_format.specs.ElementPlaces.{leaf_view}
-use Rattle.bolt_format.specs.declared.element.Leaf.{Leaf}
-use Rattle.bolt_check.specs.Keys.{Key}
-use Rattle.bolt_check.specs.declared.checked_file.Checked.{Checked}
-use Rattle.bolt_tree.specs.Buckets.{bucket_checked, bucket_start}
-use Rattle.bolt_tree.specs.BucketViews.{entries_of}
-use Rattle.bolt_tree.specs.FileListings.{ForListing, root_start}
-use Rattle.bolt_tree.specs.Entries.{AreEntries, Start, start_of}
-use Rattle.bolt_tree.specs.Listing.{Member, rest_from}
-use Rattle.bolt_tree.specs.Paths.{HasEntries, Names, Path, path_of}
-use Rattle.bolt_tree.specs.Places.{On}
-use Rattle.bolt_tree.specs.RestAfter.{rest_after, beyond}
-use Rattle.bolt_tree.specs.Private.Kept.{CursorView}
-use Rattle.bolt_tree.specs.Private.OpenCursors.{cursors_of}
-use Rattle.bolt_tree.specs.declared.bucket.Bucket.{Bucket}
-use Rattle.bolt_tree.specs.declared.open_buckets.WalkStep.{WalkStep}
+use Rattle.bolt_format.specs.{Elements.IsBucketValue, Elements.LeafElement, ElementPlaces.leaf_view, declared.element.Leaf.Leaf}
+use Rattle.bolt_check.specs.{Keys.Key, declared.checked_file.Checked.Checked}
+use Rattle.bolt_tree.specs.{Buckets.bucket_checked, Buckets.bucket_start, BucketViews.entries_of, FileListings.ForListing, FileListings.root_start}
+use Rattle.bolt_tree.specs.{Entries.AreEntries, Entries.Start, Entries.start_of, Listing.Member, Listing.rest_from}
+use Rattle.bolt_tree.specs.{Paths.HasEntries, Paths.Names, Paths.Path, Paths.path_of, Places.On, RestAfter.rest_after, RestAfter.beyond}
+use Rattle.bolt_tree.specs.{Private.Kept.CursorView, Private.OpenCursors.cursors_of, declared.bucket.Bucket.Bucket, declared.open_buckets.WalkStep.WalkStep}
 use Rattle.bolt_tree.specs.declared.open_buckets.WalkStep.TheVariants.{Begin, Enter, Give, Leave}
 use Rattle.bolt_tree.specs.declared.open_buckets.PartResult.{PartResult}
 use Rattle.bolt_tree.specs.declared.open_buckets.PartResult.TheVariants.{Here, Inside}

@@ -1,16 +1,10 @@
 -- The way down to the leaf that is near a key.
 use Rattle.std.specs.Prelude.{◌≡◌, ◌+◌, ℕ, Bool, true, false, List, [], ◌∷◌, ◌++◌, Some, length, drop, slice_get}
-use Rattle.bolt_format.specs.Elements.{LeafElement}
-use Rattle.bolt_format.specs.declared.meta.Meta.{Meta}
-use Rattle.bolt_check.specs.Keys.{Key, key_lt}
-use Rattle.bolt_check.specs.OnWays.{IsOnWay}
-use Rattle.bolt_tree.specs.BucketViews.{BucketView}
-use Rattle.bolt_tree.specs.Private.Contents.{Content, Contents, Of_leaf, content_at}
-use Rattle.bolt_tree.specs.Entries.{Inline_page, Root_page, Start}
-use Rattle.bolt_tree.specs.Openings.{IsNear, IsNearFrom}
-use Rattle.bolt_tree.specs.Places.{least_from}
-use Rattle.bolt_tree.specs.Private.Stacks.{Frame, address_on, left_of, right_of}
-use Rattle.bolt_tree.specs.Private.Tours.{elements_of}
+use Rattle.bolt_format.specs.{Elements.LeafElement, declared.meta.Meta.Meta}
+use Rattle.bolt_check.specs.{Keys.Key, Keys.key_lt, OnWays.IsOnWay}
+use Rattle.bolt_tree.specs.{BucketViews.BucketView, Private.Contents.Content, Private.Contents.Contents, Private.Contents.Of_leaf, Private.Contents.content_at}
+use Rattle.bolt_tree.specs.{Entries.Inline_page, Entries.Root_page, Entries.Start, Openings.IsNear, Openings.IsNearFrom, Places.least_from}
+use Rattle.bolt_tree.specs.{Private.Stacks.Frame, Private.Stacks.address_on, Private.Stacks.left_of, Private.Stacks.right_of, Private.Tours.elements_of}
 
 -- every element of a list has a key below this one, or none has
 abbrev pub AreBelow : Bool → Key → List LeafElement → Type 0

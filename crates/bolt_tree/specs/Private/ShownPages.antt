@@ -1,9 +1,7 @@
 -- What an opened page shows.
 use Rattle.std.specs.Prelude.{[]}
-use Rattle.bolt_format.specs.Shown.{shown}
-use Rattle.bolt_format.specs.ShownInline.{shown_inline}
-use Rattle.bolt_tree.specs.Private.Contents.{Content, Of_branch, Of_leaf}
-use Rattle.bolt_tree.specs.declared.opened.Opened.{Opened}
+use Rattle.bolt_format.specs.{Shown.shown, ShownInline.shown_inline}
+use Rattle.bolt_tree.specs.{Private.Contents.Content, Private.Contents.Of_branch, Private.Contents.Of_leaf, declared.opened.Opened.Opened}
 use Rattle.bolt_tree.specs.declared.opened.Opened.TheVariants.{Branch, Inline, Leaf, Nothing}
 
 abbrev pub opened_content : Opened → Content

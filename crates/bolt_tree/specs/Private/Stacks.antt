@@ -2,8 +2,7 @@
 use Rattle.std.specs.Prelude.{◌≡◌, ◌≤◌, ℕ, suc, ◌+◌, ◌-◌, List, [], ◌∷◌, ◌++◌, drop, take, length, Some, slice_get}
 use Rattle.bolt_format.specs.Elements.{BranchElement, LeafElement}
 use Rattle.bolt_check.specs.OnWays.{IsOnWay}
-use Rattle.bolt_tree.specs.BucketViews.{BucketView}
-use Rattle.bolt_tree.specs.Private.BucketPages.{IsSoundBucket, contents_in, pages_in}
+use Rattle.bolt_tree.specs.{BucketViews.BucketView, Private.BucketPages.IsSoundBucket, Private.BucketPages.contents_in, Private.BucketPages.pages_in}
 use Rattle.bolt_tree.specs.Private.Contents.{Content, Contents, Of_branch, Of_leaf, content_length}
 use Rattle.bolt_tree.specs.Private.Tours.{Visit, all_under, elements_of, tour}
 

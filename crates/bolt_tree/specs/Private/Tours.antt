@@ -1,8 +1,7 @@
 -- The tour of a bucket: its pages in the order of ways, from left to right, which the cursor goes along.
 use Rattle.std.specs.Prelude.{ℕ, zero, suc, List, [], ◌∷◌, ◌++◌}
 use Rattle.std.specs.List.{flat_map}
-use Rattle.bolt_format.specs.Elements.{BranchElement, LeafElement}
-use Rattle.bolt_format.specs.declared.meta.Meta.{Meta}
+use Rattle.bolt_format.specs.{Elements.BranchElement, Elements.LeafElement, declared.meta.Meta.Meta}
 use Rattle.bolt_tree.specs.Private.Contents.{Content, Contents, Of_branch, Of_leaf, content_at}
 use Rattle.bolt_tree.specs.Entries.{Inline_page, Root_page, Start}
 

@@ -1,17 +1,10 @@
 -- What a trail shows: its bucket, and its stack with the top first.
 use Rattle.std.specs.Prelude.{◌≡◌, List, [], ◌∷◌, ◌++◌, MatchOption, Option, map, reverse}
-use Rattle.bolt_format.specs.ElementPlaces.{leaf_view}
-use Rattle.bolt_format.specs.Elements.{LeafElement}
-use Rattle.bolt_format.specs.declared.element.Leaf.{Leaf}
-use Rattle.bolt_tree.specs.BucketViews.{BucketView, bucket_in}
-use Rattle.bolt_tree.specs.Private.BucketPages.{IsSoundBucket, contents_in}
-use Rattle.bolt_tree.specs.Pagers.{pager_checked}
-use Rattle.bolt_tree.specs.Private.ShownPages.{opened_content}
+use Rattle.bolt_format.specs.{ElementPlaces.leaf_view, Elements.LeafElement, declared.element.Leaf.Leaf}
+use Rattle.bolt_tree.specs.{BucketViews.BucketView, BucketViews.bucket_in, Private.BucketPages.IsSoundBucket, Private.BucketPages.contents_in}
+use Rattle.bolt_tree.specs.{Pagers.pager_checked, Private.ShownPages.opened_content}
 use Rattle.bolt_tree.specs.Private.Stacks.{Frame, HasStack, IsOn, ahead_of, before_of, preceding_of, right_of}
-use Rattle.bolt_tree.specs.Starts.{start_at}
-use Rattle.bolt_tree.specs.Private.Tours.{Visit}
-use Rattle.bolt_tree.specs.declared.opened.Position.{Position}
-use Rattle.bolt_tree.specs.declared.trail.Trail.{Trail}
+use Rattle.bolt_tree.specs.{Starts.start_at, Private.Tours.Visit, declared.opened.Position.Position, declared.trail.Trail.Trail}
 
 abbrev pub frame_of : Position → Frame
 frame_of position = record { content = opened_content position.page; taken = position.taken }

@@ -1,7 +1,6 @@
 -- What is added is the next header, and the place of its key has room in 32 bits.
 use Rattle.std.proofs.Common.{arith, refl}
-use Rattle.bolt_bulk.proofs.BranchPuts.{branch_packed, no_branch}
-use Rattle.bolt_bulk.proofs.ElementPuts.{heads_all, heads_more, heads_stop}
+use Rattle.bolt_bulk.proofs.{BranchPuts.branch_packed, BranchPuts.no_branch, ElementPuts.heads_all, ElementPuts.heads_more, ElementPuts.heads_stop}
 use Rattle.bolt_bulk.proofs.branch_run.put_headers.Goals as goal
 
 pub loop-branch-preserved : goal.loop-branch-preserved

@@ -1,6 +1,5 @@
 -- The headers before number i were written, or are in the buffer.
-use Rattle.bolt_bulk.proofs.BranchPuts.{heads_of, keys_of}
-use Rattle.bolt_bulk.proofs.ElementPuts.{HeadsPut}
+use Rattle.bolt_bulk.proofs.{BranchPuts.heads_of, BranchPuts.keys_of, ElementPuts.HeadsPut}
 use Rattle.bolt_bulk.proofs.branch_run.put_headers.Given as goal
 
 abbrev pub invariant-loop-branch : goal.invariant-loop-branch

@@ -1,13 +1,9 @@
 -- The members are those of the file's listing.
 use Rattle.std.proofs.Common.{◌≡◌, ◌<◌, ◌≤◌, IfOk, List, OnOk, length, subst, subst₂}
-use Rattle.bolt_check.specs.CheckedFiles.{bytes_of, meta_of}
-use Rattle.bolt_check.specs.declared.checked_file.Checked.{Checked}
+use Rattle.bolt_check.specs.{CheckedFiles.bytes_of, CheckedFiles.meta_of, declared.checked_file.Checked.Checked}
 use Rattle.bolt_format.specs.declared.meta.Meta.{Meta}
-use Rattle.bolt_layout.specs.Copies.{IsSoundCopy, RefusesPrefixes, layout_of_listing}
-use Rattle.bolt_layout.specs.Held.{most_held}
-use Rattle.bolt_layout.specs.Layout.{layout_held, layout_root}
-use Rattle.bolt_tree.specs.Listing.{IsListing, Member}
-use Rattle.bolt_tree.specs.Tree.{tree_of}
+use Rattle.bolt_layout.specs.{Copies.IsSoundCopy, Copies.RefusesPrefixes, Copies.layout_of_listing, Held.most_held, Layout.layout_held, Layout.layout_root}
+use Rattle.bolt_tree.specs.{Listing.IsListing, Listing.Member, Tree.tree_of}
 use Rattle.bolt_bulk.specs.Compacting.{Copies, too_many}
 use Rattle.bolt_bulk.proofs.copy.compact_as.Goals as goal
 

@@ -1,7 +1,6 @@
 -- The members are those of the file's listing.
 use Rattle.std.proofs.Common.{List, subst₂}
-use Rattle.bolt_check.specs.CheckedFiles.{bytes_of, meta_of}
-use Rattle.bolt_check.specs.declared.checked_file.Checked.{Checked}
+use Rattle.bolt_check.specs.{CheckedFiles.bytes_of, CheckedFiles.meta_of, declared.checked_file.Checked.Checked}
 use Rattle.bolt_format.specs.declared.meta.Meta.{Meta}
 use Rattle.bolt_tree.specs.Listing.{IsListing, Member}
 use Rattle.bolt_bulk.specs.Compacting.{Plans}

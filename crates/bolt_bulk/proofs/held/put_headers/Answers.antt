@@ -2,9 +2,7 @@
 use Rattle.std.proofs.Common.{ℕ, arith, refl}
 use Rattle.std.proofs.lemmas.List.{length-append}
 use Rattle.bolt_format.specs.ElementPlaces.{leaf_view}
-use Rattle.bolt_bulk.proofs.ElementPuts.{heads_all, heads_more, heads_stop}
-use Rattle.bolt_bulk.proofs.HeldPuts.{no_entry}
-use Rattle.bolt_bulk.proofs.LeafPuts.{leaf_packed}
+use Rattle.bolt_bulk.proofs.{ElementPuts.heads_all, ElementPuts.heads_more, ElementPuts.heads_stop, HeldPuts.no_entry, LeafPuts.leaf_packed}
 use Rattle.bolt_bulk.proofs.held.put_headers.Goals as goal
 
 pub loop-entry-preserved : goal.loop-entry-preserved

@@ -1,7 +1,6 @@
 -- The headers before number i were written, or are in the buffer.
 use Rattle.bolt_format.specs.ElementPlaces.{leaf_view}
-use Rattle.bolt_bulk.proofs.ElementPuts.{HeadsPut}
-use Rattle.bolt_bulk.proofs.LeafPuts.{data_by, heads_by}
+use Rattle.bolt_bulk.proofs.{ElementPuts.HeadsPut, LeafPuts.data_by, LeafPuts.heads_by}
 use Rattle.bolt_bulk.proofs.held.put_headers.Given as goal
 
 abbrev pub invariant-loop-entry : goal.invariant-loop-entry

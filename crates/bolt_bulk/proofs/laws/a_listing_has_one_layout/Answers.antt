@@ -3,10 +3,8 @@ use Rattle.std.proofs.Common.{List, subst}
 use Rattle.std.proofs.Math.Logic.{∥∥₁_elim, ∥∥₁_map}
 use Rattle.std.proofs.Props.{props}
 use Rattle.std.specs.Prelude.{◌≤◌}
-use Rattle.bolt_tree.specs.Listing.{Member}
-use Rattle.bolt_tree.specs.Tree.{tree_of}
-use Rattle.bolt_layout.specs.Held.{most_held}
-use Rattle.bolt_layout.specs.Layout.{layout_held}
+use Rattle.bolt_tree.specs.{Listing.Member, Tree.tree_of}
+use Rattle.bolt_layout.specs.{Held.most_held, Layout.layout_held}
 use Rattle.bolt_bulk.proofs.laws.a_listing_has_one_layout.Goals as goal
 
 pub returns-clause-length : goal.returns-clause-length

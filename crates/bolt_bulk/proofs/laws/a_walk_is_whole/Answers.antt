@@ -3,8 +3,7 @@ use Rattle.std.proofs.Math.Logic.{∥∥₁_map}
 use Rattle.bolt_check.proofs.CheckedLemmas.{checked_trees}
 use Rattle.bolt_check.specs.CheckedFiles.{bytes_of, meta_of}
 use Rattle.bolt_tree.proofs.Measured.{is_the_listing}
-use Rattle.bolt_tree.specs.Walks.{walk_checked}
-use Rattle.bolt_tree.specs.WalksLeft.{the_listing}
+use Rattle.bolt_tree.specs.{Walks.walk_checked, WalksLeft.the_listing}
 use Rattle.bolt_bulk.proofs.laws.a_walk_is_whole.Goals as goal
 
 pub returns : goal.returns

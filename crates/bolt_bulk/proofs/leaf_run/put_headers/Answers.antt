@@ -2,10 +2,8 @@
 use Rattle.std.proofs.Common.{ℕ, arith, get_or, Bool, length, ap, ◌∙◌}
 use Rattle.std.proofs.lemmas.List.{length-append}
 use Rattle.bolt_format.specs.Written.{leaf_header}
-use Rattle.bolt_bulk.specs.declared.held.Held.{Held}
-use Rattle.bolt_bulk.specs.Private.{held_view}
-use Rattle.bolt_bulk.proofs.ElementPuts.{heads_all, heads_more, heads_next, heads_stop}
-use Rattle.bolt_bulk.proofs.HeldPuts.{held_at, no_held}
+use Rattle.bolt_bulk.specs.{declared.held.Held.Held, Private.held_view}
+use Rattle.bolt_bulk.proofs.{ElementPuts.heads_all, ElementPuts.heads_more, ElementPuts.heads_next, ElementPuts.heads_stop, HeldPuts.held_at, HeldPuts.no_held}
 use Rattle.bolt_bulk.proofs.LeafPuts.{leaf_packed}
 use Rattle.bolt_bulk.proofs.leaf_run.put_headers.Goals as goal
 

@@ -1,7 +1,6 @@
 -- The headers before number i were written, or are in the buffer.
 use Rattle.bolt_bulk.specs.Private.{held_view}
-use Rattle.bolt_bulk.proofs.ElementPuts.{HeadsPut}
-use Rattle.bolt_bulk.proofs.LeafPuts.{data_by, heads_by}
+use Rattle.bolt_bulk.proofs.{ElementPuts.HeadsPut, LeafPuts.data_by, LeafPuts.heads_by}
 use Rattle.bolt_bulk.proofs.leaf_run.put_headers.Given as goal
 
 abbrev pub invariant-loop-held : goal.invariant-loop-held

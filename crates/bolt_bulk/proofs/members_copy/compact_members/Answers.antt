@@ -3,13 +3,11 @@ use Rattle.std.proofs.Common.{Err, List, rules, subst, ◌≡◌, ◌∙◌, ◌
 use Rattle.std.proofs.Math.Logic.{∥∥₁_elim}
 use Rattle.std.proofs.Props.{props}
 use Rattle.std.proofs.lemmas.Result.{err_from_is_err_and}
-use Rattle.bolt_tree.specs.Listing.{Member}
-use Rattle.bolt_tree.specs.Tree.{tree_of}
+use Rattle.bolt_tree.specs.{Listing.Member, Tree.tree_of}
 use Rattle.bolt_layout.specs.Layout.{layout_held, layout_mark}
 use Rattle.bolt_bulk.proofs.CopyLemmas.{copied, layout_parts, layout_written, stops_first, stops_later, stops_unplanned}
+use Rattle.bolt_bulk.proofs.{FileLayouts.some_bytes, FileLayouts.too_large, FileLayouts.within_limit, WalkLeft.whole_again}
 use Rattle.bolt_bulk.specs.Private.{FitLimits, limits_with, stopped_by}
-use Rattle.bolt_bulk.proofs.FileLayouts.{some_bytes, too_large, within_limit}
-use Rattle.bolt_bulk.proofs.WalkLeft.{whole_again}
 use Rattle.bolt_format.proofs.PageSizes.{size_bounds}
 use Rattle.bolt_bulk.proofs.members_copy.compact_members.Goals as goal
 use Rattle.bolt_bulk.proofs.members_copy.compact_members.Goals.{After-setup_of-setup}

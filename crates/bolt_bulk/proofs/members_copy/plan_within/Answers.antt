@@ -1,9 +1,9 @@
 -- The numbers with which a pass over a sink that keeps nothing ends.
 use Rattle.std.proofs.Common.{◌<◌, ℕ, arith, subst, sym}
-use Rattle.bolt_tree.specs.Tree.{tree_of}
-use Rattle.bolt_bulk.specs.Private.{FitLimits, limits_with}
 use Rattle.std.proofs.Math.Logic.{∥∥₁_elim}
 use Rattle.std.proofs.Props.{props}
+use Rattle.bolt_tree.specs.Tree.{tree_of}
+use Rattle.bolt_bulk.specs.Private.{FitLimits, limits_with}
 use Rattle.bolt_bulk.proofs.PutsLemmas.{Wrote-failed}
 use Rattle.bolt_bulk.proofs.members_copy.plan_within.Goals as goal
 

@@ -1,16 +1,10 @@
 -- Each member is taken, and then the root bucket ends.
 use Rattle.std.proofs.Common.{◌≡◌, ◌∙◌, [], Ok, refl, sym, subst}
 use Rattle.std.specs.Prelude.{⊤}
-use Rattle.bolt_tree.specs.Paths.{path_of}
-use Rattle.bolt_tree.specs.ShownEntries.{item_view}
-use Rattle.bolt_tree.specs.Tree.{tree_of}
-use Rattle.bolt_bulk.specs.Private.{HasLeft, Steps, Wanted}
-use Rattle.bolt_bulk.specs.declared.page_setup.PageSetup.{PageSetup}
-use Rattle.bolt_bulk.proofs.PassAt.{steps_failed, steps_then}
-use Rattle.bolt_bulk.proofs.PassEnds.{ends_after, ends_early}
-use Rattle.bolt_bulk.proofs.PassLeft.{left_same, steps_begun}
-use Rattle.bolt_bulk.proofs.FileLayouts.{listing_is_back}
-use Rattle.bolt_bulk.proofs.WalkLeft.{first_fits, others_fit, whole_fits}
+use Rattle.bolt_tree.specs.{Paths.path_of, ShownEntries.item_view, Tree.tree_of}
+use Rattle.bolt_bulk.specs.{Private.HasLeft, Private.Steps, Private.Wanted, declared.page_setup.PageSetup.PageSetup}
+use Rattle.bolt_bulk.proofs.{PassAt.steps_failed, PassAt.steps_then, PassEnds.ends_after, PassEnds.ends_early, PassLeft.left_same, PassLeft.steps_begun}
+use Rattle.bolt_bulk.proofs.{FileLayouts.listing_is_back, WalkLeft.first_fits, WalkLeft.others_fit, WalkLeft.whole_fits}
 use Rattle.bolt_bulk.proofs.members_copy.put_pages.Goals as goal
 
 pub members-init : goal.members-init

@@ -1,6 +1,5 @@
 use Rattle.std.proofs.Common.{◌≡◌, arith, length}
-use Rattle.bolt_check.proofs.Words.{shown_ids}
-use Rattle.bolt_check.proofs.SettledLemmas.{listing_reported, settled}
+use Rattle.bolt_check.proofs.{Words.shown_ids, SettledLemmas.listing_reported, SettledLemmas.settled}
 use Rattle.bolt_check.proofs.accounts.test_ids.Goals as goal
 
 pub report_listing-requires : goal.report_listing-requires

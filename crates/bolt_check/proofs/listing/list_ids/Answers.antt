@@ -1,6 +1,5 @@
 use Rattle.std.proofs.Common.{◌≡◌, ◌∙◌, ◌<◌, length, nat_le, arith}
-use Rattle.bolt_check.proofs.Words.{shown_ids, times_of, use_at}
-use Rattle.bolt_check.proofs.ListLemmas.{past_more, times_before, times_more}
+use Rattle.bolt_check.proofs.{Words.shown_ids, Words.times_of, Words.use_at, ListLemmas.past_more, ListLemmas.times_before, ListLemmas.times_more}
 use Rattle.bolt_check.proofs.listing.list_ids.Goals as goal
 
 pub loop-i-preserved : goal.loop-i-preserved

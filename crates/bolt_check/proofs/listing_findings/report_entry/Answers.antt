@@ -1,6 +1,5 @@
 use Rattle.std.proofs.Common.{◌∙◌, add-one, get_or, sym}
-use Rattle.bolt_check.proofs.Words.{false≢true, first_use, get_or_default, Unused}
-use Rattle.bolt_check.proofs.ListingLemmas.{table_lost, table_reported}
+use Rattle.bolt_check.proofs.{Words.false≢true, Words.first_use, Words.get_or_default, Words.Unused, ListingLemmas.table_lost, ListingLemmas.table_reported}
 use Rattle.bolt_check.proofs.listing_findings.report_entry.Goals as goal
 
 pub returns-then-is_unused-clause-reported : goal.returns-then-is_unused-clause-reported

@@ -1,6 +1,5 @@
 use Rattle.std.proofs.Common.{◌≡◌, ◌≤◌, ◌+◌, ◌++◌, length, vec_len}
-use Rattle.bolt_check.proofs.Words.{page_spot, shown_node, spots_of}
-use Rattle.bolt_check.proofs.Pendings.{kids_from}
+use Rattle.bolt_check.proofs.{Words.page_spot, Words.shown_node, Words.spots_of, Pendings.kids_from}
 use Rattle.bolt_check.proofs.search.push_kids.Given as goal
 
 -- what the entries from here on lead to lies on top

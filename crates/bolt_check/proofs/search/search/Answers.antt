@@ -1,8 +1,8 @@
 use Rattle.std.proofs.Common.{◌∙◌, ◌∷◌, ap, inl, length, vec_len}
 use Rattle.bolt_check.proofs.Words.{forest, IsClaimed, IsMetaPage, IsSearchFault, node_at, spot_at, spots_of}
-use Rattle.bolt_check.specs.Ways.{reached}
 use Rattle.bolt_check.proofs.Visited.{begin_carries, ended, none_left, passed_on, reported_back, spots_pop, stored}
 use Rattle.bolt_check.proofs.Visiting.{carries_on}
+use Rattle.bolt_check.specs.Ways.{reached}
 use Rattle.bolt_check.proofs.search.search.Goals as goal
 
 pub loop-spot-init : goal.loop-spot-init

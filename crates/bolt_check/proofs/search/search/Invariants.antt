@@ -1,7 +1,6 @@
 use Rattle.std.proofs.Common.{◌≡◌, ◌+◌, ◌*◌, length, vec_len}
 use Rattle.bolt_check.proofs.Words.{Carries, forest, HasRoom, IsClaimed, IsMetaPage, IsMetaUse, IsNoted, IsUnlisted, node_at, spots_of, unclaimed}
-use Rattle.bolt_check.specs.TableLengths.{table_length}
-use Rattle.bolt_check.specs.Ways.{reached}
+use Rattle.bolt_check.specs.{TableLengths.table_length, Ways.reached}
 use Rattle.bolt_check.proofs.search.search.Given as goal
 
 -- what holds of the spots that are left holds of the whole

@@ -1,7 +1,6 @@
 use Rattle.std.proofs.Common.{sym, ◌∷◌}
 use Rattle.bolt_check.proofs.Words.{At_inline, At_page, forest, inline_keys, IsClaimed, IsSearchFault, node_at, page_spot, shown_node, spots_of, Structure}
-use Rattle.bolt_check.proofs.Forest.{found_step}
-use Rattle.bolt_check.proofs.Visited.{inline_carries, page_carries, passed_on}
+use Rattle.bolt_check.proofs.{Forest.found_step, Visited.inline_carries, Visited.page_carries, Visited.passed_on}
 use Rattle.bolt_check.proofs.search.step.Goals as goal
 
 pub returns-in_err-node-in-Page-clause-reported : goal.returns-in_err-node-in-Page-clause-reported

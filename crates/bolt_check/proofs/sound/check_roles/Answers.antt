@@ -1,8 +1,6 @@
 use Rattle.std.proofs.Common.{◌≡◌, ◌≢◌, ◌∙◌, sym, [], arith}
-use Rattle.bolt_check.proofs.Words.{merely, meta_of, node_at, roles_checked}
 use Rattle.std.proofs.lemmas.Grind.{common_steps}
-use Rattle.bolt_check.proofs.RoleLemmas.{uses_with}
-use Rattle.bolt_check.proofs.Shaping.{shape_of}
+use Rattle.bolt_check.proofs.{Words.merely, Words.meta_of, Words.node_at, Words.roles_checked, RoleLemmas.uses_with, Shaping.shape_of}
 use Rattle.bolt_check.proofs.SoundLemmas.{right_of, some_items, sound_of, findings_of_file, tested_of, wrong_of}
 use Rattle.bolt_check.proofs.Visited.{stored}
 use Rattle.bolt_check.proofs.sound.check_roles.Goals as goal

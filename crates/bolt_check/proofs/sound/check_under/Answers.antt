@@ -1,5 +1,4 @@
-use Rattle.bolt_check.proofs.Words.{false≢true, merely, node_at}
-use Rattle.bolt_check.proofs.Shaping.{shape_of}
+use Rattle.bolt_check.proofs.{Words.false≢true, Words.merely, Words.node_at, Shaping.shape_of}
 use Rattle.bolt_check.proofs.sound.check_under.Goals as goal
 
 pub invariant_of-result-clause-sound : goal.invariant_of-result-clause-sound

@@ -1,8 +1,6 @@
 use Rattle.std.proofs.Common.{◌≡◌, ◌+◌, ◌<◌, length, true, refl, arith, length-set}
-use Rattle.bolt_check.proofs.Words.{is_used, PageUse, times_of}
+use Rattle.bolt_check.proofs.{Words.is_used, Words.PageUse, Words.times_of, TableLemmas.other_kept, TableLemmas.unclaimed_set, ClaimLemmas.more_of}
 use Rattle.bolt_check.specs.declared.table.PageUse.TheVariants.{Used}
-use Rattle.bolt_check.proofs.TableLemmas.{other_kept, unclaimed_set}
-use Rattle.bolt_check.proofs.ClaimLemmas.{more_of}
 use Rattle.bolt_check.proofs.table.claim.Goals as goal
 
 pub loop-n-preserved : goal.loop-n-preserved

@@ -1,7 +1,5 @@
 use Rattle.std.proofs.Common.{refl}
-use Rattle.bolt_check.proofs.Words.{∥∥₁_map}
-use Rattle.bolt_check.proofs.RoleLemmas.{uses_with}
-use Rattle.bolt_check.proofs.Visited.{stored}
+use Rattle.bolt_check.proofs.{Words.∥∥₁_map, RoleLemmas.uses_with, Visited.stored}
 use Rattle.bolt_check.proofs.uses.find_uses.Goals as goal
 
 pub returns : goal.returns

@@ -1,6 +1,4 @@
-use Rattle.bolt_check.proofs.Words.{props, ∥∥₁_elim}
-use Rattle.bolt_check.proofs.Lawful.{sound_reports_nothing}
-use Rattle.bolt_check.proofs.RoleLemmas.{page_positive}
+use Rattle.bolt_check.proofs.{Words.props, Words.∥∥₁_elim, Lawful.sound_reports_nothing, RoleLemmas.page_positive}
 use Rattle.bolt_check.proofs.uses.search_sound.Goals as goal
 
 pub search-requires : goal.search-requires

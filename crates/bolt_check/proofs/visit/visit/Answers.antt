@@ -1,10 +1,7 @@
 use Rattle.std.proofs.Common.{◌∙◌, sym, refl, arith}
-use Rattle.bolt_check.proofs.Words.{IsClaimed, late, node_at, page_spot, PageTests, shown_node}
+use Rattle.bolt_check.proofs.{Words.IsClaimed, Words.late, Words.node_at, Words.page_spot, Words.PageTests, Words.shown_node, Lawful.early_passes}
+use Rattle.bolt_check.proofs.{Spans.not_both, Spans.span_claimed, Visited.passed_on, VisitLemmas.leaf-is, VisitLemmas.overflow-is}
 use Rattle.bolt_check.specs.Findings.{twice}
-use Rattle.bolt_check.proofs.Lawful.{early_passes}
-use Rattle.bolt_check.proofs.Spans.{not_both, span_claimed}
-use Rattle.bolt_check.proofs.Visited.{passed_on}
-use Rattle.bolt_check.proofs.VisitLemmas.{leaf-is, overflow-is}
 use Rattle.bolt_check.proofs.visit.visit.Goals as goal
 
 pub returns-in-Some-clause-found : goal.returns-in-Some-clause-found

@@ -1,6 +1,5 @@
 use Rattle.std.proofs.Common.{Err, List, Ok, inr, refl, sym, ℕ}
-use Rattle.bolt_cli.proofs.Vocabulary.{IsEntriesAnswer, buckets_text, path_in, ⊤}
-use Rattle.bolt_cli.proofs.Doing.{Does-unread}
+use Rattle.bolt_cli.proofs.{Vocabulary.IsEntriesAnswer, Vocabulary.buckets_text, Vocabulary.path_in, Vocabulary.⊤, Doing.Does-unread}
 use Rattle.bolt_cli.proofs.EntryAnswers.{bucket_missing, entries_put}
 use Rattle.bolt_cli.proofs.buckets_command.print_names.Goals as goal
 

@@ -1,7 +1,5 @@
 use Rattle.std.proofs.Common.{Err, List, Ok, inr, refl, sym, ℕ}
-use Rattle.bolt_cli.proofs.Vocabulary.{IsSizesAnswer, path_in, ⊤}
-use Rattle.bolt_cli.proofs.Doing.{Does-unread}
-use Rattle.bolt_cli.proofs.EntryAnswers.{bucket_missing, sizes_put}
+use Rattle.bolt_cli.proofs.{Vocabulary.IsSizesAnswer, Vocabulary.path_in, Vocabulary.⊤, Doing.Does-unread, EntryAnswers.bucket_missing, EntryAnswers.sizes_put}
 use Rattle.bolt_cli.proofs.buckets_command.print_sizes.Goals as goal
 
 pub returns-in_err-checked : goal.returns-in_err-checked

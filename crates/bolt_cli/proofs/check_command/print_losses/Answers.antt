@@ -1,8 +1,7 @@
 use Rattle.std.proofs.Common.{arith, ◌≡◌, ◌≢◌, [], List, inl, inr, refl, subst, ℕ}
 use Rattle.bolt_cli.proofs.Vocabulary.{ForLosses, common_steps, recovery_losses, recovery_meta}
 use Rattle.bolt_cli.specs.declared.failure.Failure.TheVariants as failure
-use Rattle.bolt_cli.proofs.Doing.{answer_nothing}
-use Rattle.bolt_cli.proofs.LossAnswers.{lost_none, lost_some}
+use Rattle.bolt_cli.proofs.{Doing.answer_nothing, LossAnswers.lost_none, LossAnswers.lost_some}
 use Rattle.bolt_cli.proofs.check_command.print_losses.Goals as goal
 
 pub returns-in_err-walk_to_end : goal.returns-in_err-walk_to_end

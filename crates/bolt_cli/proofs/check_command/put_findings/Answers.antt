@@ -1,7 +1,6 @@
 -- What is wrong apart from the pages, and then the text of the findings.
-use Rattle.bolt_cli.proofs.Vocabulary.{Wrote-stop, Wrote-then, errors_in, found}
+use Rattle.bolt_cli.proofs.{Vocabulary.Wrote-stop, Vocabulary.Wrote-then, Vocabulary.errors_in, Vocabulary.found, Doing.Does-part, Doing.Does-whole}
 use Rattle.bolt_report.specs.FaultWords.{findings_text}
-use Rattle.bolt_cli.proofs.Doing.{Does-part, Does-whole}
 use Rattle.bolt_cli.proofs.check_command.put_findings.Goals as goal
 
 pub returns-in_err-earlier : goal.returns-in_err-earlier

@@ -1,6 +1,6 @@
 use Rattle.std.proofs.Common.{◌∙◌, ◌++◌, List, ap, append_assoc, append-nil, map, subst, sym, take}
-use Rattle.bolt_cli.proofs.Vocabulary.{App, IsCommand, Syntax, bare_program, command_of, program_of, syntax_view, with_subcommand}
 use Rattle.std.proofs.lemmas.List.Sums.{fold-append}
+use Rattle.bolt_cli.proofs.Vocabulary.{App, IsCommand, Syntax, bare_program, command_of, program_of, syntax_view, with_subcommand}
 use Rattle.bolt_cli.proofs.CommandLineLemmas.{made_more, subcommand_added}
 use Rattle.bolt_cli.proofs.command_line.with_commands.Goals as goal
 

@@ -1,7 +1,6 @@
 -- The shape is the one that is asked for.
 use Rattle.bolt_cli.proofs.Vocabulary.{HasGoodCopies, asked_layout, copy_page_size, is_snapshot, layout_for, ∥∥₁_map}
-use Rattle.bolt_cli.proofs.CopyAnswers.{goods}
-use Rattle.bolt_cli.proofs.ReadFiles.{copy_size}
+use Rattle.bolt_cli.proofs.{CopyAnswers.goods, ReadFiles.copy_size}
 use Rattle.bolt_cli.proofs.compact_command.copy_asked.Goals as goal
 
 pub returns-clause-copied : goal.returns-clause-copied

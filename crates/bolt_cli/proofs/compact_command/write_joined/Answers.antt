@@ -3,9 +3,7 @@ use Rattle.std.proofs.Common.{◌∙◌, inl, inr, length, map, refl}
 use Rattle.bolt_cli.proofs.Vocabulary.{all_lost, asked_layout, copy_report, found_view, hash_differs, is_snapshot, unjoined}
 use Rattle.bolt_recover.specs.declared.joined.JoinFault.TheVariants as join
 use Rattle.bolt_cli.specs.declared.failure.Failure.TheVariants as failure
-use Rattle.bolt_cli.proofs.CopyAnswers.{copy_reported, copy_stopped}
-use Rattle.bolt_cli.proofs.Doing.{ends_as}
-use Rattle.bolt_cli.proofs.FoundAnswers.{are_leaves, salvaged}
+use Rattle.bolt_cli.proofs.{CopyAnswers.copy_reported, CopyAnswers.copy_stopped, Doing.ends_as, FoundAnswers.are_leaves, FoundAnswers.salvaged}
 use Rattle.bolt_cli.proofs.ReadFiles.{some_page_size}
 use Rattle.bolt_cli.proofs.compact_command.write_joined.Goals as goal
 

@@ -1,8 +1,7 @@
 -- The copy is whole and then reported, or it isn't whole, or nothing is recovered.
 use Rattle.std.proofs.Common.{◌≡◌, ◌∙◌, [], inl, inr, length, map, refl}
 use Rattle.bolt_cli.proofs.Vocabulary.{asked_layout, copy_report, has_losses, has_recovered, hash_differs, is_snapshot, loss_view, parts, recovery_meta}
-use Rattle.bolt_cli.proofs.CopyAnswers.{copy_reported, copy_stopped}
-use Rattle.bolt_cli.proofs.ReadFiles.{failure_named, unrecoverable_finding}
+use Rattle.bolt_cli.proofs.{CopyAnswers.copy_reported, CopyAnswers.copy_stopped, ReadFiles.failure_named, ReadFiles.unrecoverable_finding}
 use Rattle.bolt_cli.proofs.compact_command.write_recovered.Goals as goal
 
 pub returns-in_err-recovery : goal.returns-in_err-recovery

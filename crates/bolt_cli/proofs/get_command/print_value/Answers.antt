@@ -1,9 +1,6 @@
 use Rattle.std.proofs.Common.{◌≡◌, Err, List, Ok, inl, inr, refl, ℕ, sym}
 use Rattle.bolt_cli.proofs.Vocabulary.{IsGetAnswer, Json, Value, path_in, refused, value_shown, ⊤}
-use Rattle.bolt_cli.proofs.AtPaths.{held_at}
-use Rattle.bolt_cli.proofs.CutTexts.{text_put}
-use Rattle.bolt_cli.proofs.Doing.{Does-unread, answer_nothing}
-use Rattle.bolt_cli.proofs.ReadFiles.{of_read, own_trees}
+use Rattle.bolt_cli.proofs.{AtPaths.held_at, CutTexts.text_put, Doing.Does-unread, Doing.answer_nothing, ReadFiles.of_read, ReadFiles.own_trees}
 use Rattle.bolt_cli.proofs.get_command.print_value.Goals as goal
 
 pub returns-in_err-checked : goal.returns-in_err-checked

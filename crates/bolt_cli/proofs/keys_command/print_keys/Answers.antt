@@ -1,8 +1,7 @@
 use Rattle.std.proofs.Common.{Err, List, Ok, inr, refl, sym, ℕ}
-use Rattle.bolt_cli.proofs.Vocabulary.{IsEntriesAnswer, keys_text, path_in, ⊤}
-use Rattle.bolt_report.specs.KeyPrefixes.{with_prefix}
-use Rattle.bolt_cli.proofs.Doing.{Does-unread}
+use Rattle.bolt_cli.proofs.{Vocabulary.IsEntriesAnswer, Vocabulary.keys_text, Vocabulary.path_in, Vocabulary.⊤, Doing.Does-unread}
 use Rattle.bolt_cli.proofs.EntryAnswers.{bucket_missing, entries_put}
+use Rattle.bolt_report.specs.KeyPrefixes.{with_prefix}
 use Rattle.bolt_cli.proofs.keys_command.print_keys.Goals as goal
 
 pub returns-in_err-checked : goal.returns-in_err-checked

@@ -3,10 +3,7 @@ use Rattle.std.proofs.Common.{◌∙◌, Err, Ok, ap, inl, inr, refl}
 use Rattle.bolt_cli.proofs.Vocabulary.{all_lost_ending, path_in, unjoined}
 use Rattle.bolt_recover.specs.declared.joined.JoinFault.TheVariants as join
 use Rattle.bolt_cli.specs.declared.failure.Failure.TheVariants as failure
-use Rattle.bolt_cli.proofs.Doing.{answer_nothing}
-use Rattle.bolt_cli.proofs.FoundAnswers.{salvaged}
-use Rattle.bolt_cli.proofs.ReadFiles.{some_page_size}
-use Rattle.bolt_cli.proofs.RestAnswers.{joined_put}
+use Rattle.bolt_cli.proofs.{Doing.answer_nothing, FoundAnswers.salvaged, ReadFiles.some_page_size, RestAnswers.joined_put}
 use Rattle.bolt_cli.proofs.list_command.print_joined.Goals as goal
 
 pub returns-in_err-meta : goal.returns-in_err-meta

@@ -1,9 +1,7 @@
 -- The part is put, as it is of the recovered listing; or memory ran out, or nothing is recovered.
 use Rattle.std.proofs.Common.{◌≡◌, ◌∙◌, Err, Ok, ap, map, refl}
 use Rattle.bolt_cli.proofs.Vocabulary.{has_losses, loss_view, lost_ending, path_in, recovery_meta}
-use Rattle.bolt_cli.proofs.Doing.{Does-refused}
-use Rattle.bolt_cli.proofs.ReadFiles.{unrecoverable_finding}
-use Rattle.bolt_cli.proofs.RestAnswers.{recovered_put}
+use Rattle.bolt_cli.proofs.{Doing.Does-refused, ReadFiles.unrecoverable_finding, RestAnswers.recovered_put}
 use Rattle.bolt_cli.proofs.list_command.print_recovered.Goals as goal
 
 pub returns-in_err-recovery : goal.returns-in_err-recovery

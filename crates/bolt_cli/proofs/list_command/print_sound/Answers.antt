@@ -1,9 +1,7 @@
 use Rattle.std.proofs.Common.{Err, Ok, inl, refl, sym}
 use Rattle.bolt_cli.proofs.Vocabulary.{bucket_start, meta_of, path_in, ⊤}
 use Rattle.bolt_cli.specs.declared.failure.Failure.TheVariants as failure
-use Rattle.bolt_cli.proofs.Doing.{Does-unread, answer_nothing}
-use Rattle.bolt_cli.proofs.ListAnswers.{list_put, no_bucket_listed}
-use Rattle.bolt_cli.proofs.ReadFiles.{read_trees}
+use Rattle.bolt_cli.proofs.{Doing.Does-unread, Doing.answer_nothing, ListAnswers.list_put, ListAnswers.no_bucket_listed, ReadFiles.read_trees}
 use Rattle.bolt_cli.proofs.list_command.print_sound.Goals as goal
 
 pub returns-in_err-checked : goal.returns-in_err-checked

@@ -1,8 +1,7 @@
 -- The database is whole and then reported, or it isn't whole, or a line isn't right.
 use Rattle.std.proofs.Common.{◌∙◌, ap, inr, length, refl, sym}
 use Rattle.bolt_cli.proofs.Vocabulary.{done, lengths_line, text_members, unloaded}
-use Rattle.bolt_cli.proofs.Doing.{Does-part, Does-whole, ends_as}
-use Rattle.bolt_cli.proofs.LoadAnswers.{load_reported, load_stopped, whole_members}
+use Rattle.bolt_cli.proofs.{Doing.Does-part, Doing.Does-whole, Doing.ends_as, LoadAnswers.load_reported, LoadAnswers.load_stopped, LoadAnswers.whole_members}
 use Rattle.bolt_cli.proofs.load_command.write_loaded.Goals as goal
 
 pub returns-in_err-listing : goal.returns-in_err-listing

@@ -1,6 +1,5 @@
 use Rattle.std.proofs.Common.{◌∙◌, ◌+◌, drop, refl, take}
-use Rattle.bolt_cli.proofs.Vocabulary.{bucket_start, path_in}
-use Rattle.bolt_cli.proofs.AtPaths.{leads_further, leads_nowhere, parts_at, parts_more}
+use Rattle.bolt_cli.proofs.{Vocabulary.bucket_start, Vocabulary.path_in, AtPaths.leads_further, AtPaths.leads_nowhere, AtPaths.parts_at, AtPaths.parts_more}
 use Rattle.bolt_cli.proofs.opening.open_bucket.Goals as goal
 
 pub returns-in_default-clause-refused : goal.returns-in_default-clause-refused

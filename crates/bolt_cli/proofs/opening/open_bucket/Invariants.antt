@@ -1,6 +1,5 @@
 use Rattle.std.proofs.Common.{◌≡◌, take}
-use Rattle.bolt_cli.proofs.Vocabulary.{bucket_checked, bucket_start, path_in}
-use Rattle.bolt_cli.proofs.AtPaths.{LeadsIn}
+use Rattle.bolt_cli.proofs.{Vocabulary.bucket_checked, Vocabulary.bucket_start, Vocabulary.path_in, AtPaths.LeadsIn}
 use Rattle.bolt_cli.proofs.opening.open_bucket.Given as goal
 
 -- the parts so far lead to the bucket

@@ -2,8 +2,7 @@ use Rattle.std.proofs.Common.{inl, inr, refl}
 use Rattle.bolt_cli.proofs.Vocabulary.{⊤}
 use Rattle.bolt_report.specs.PageTexts.{page_text}
 use Rattle.bolt_cli.specs.declared.failure.Failure.TheVariants as failure
-use Rattle.bolt_cli.proofs.Doing.{answer_nothing}
-use Rattle.bolt_cli.proofs.PageAnswers.{Does-page_part, Does-page_whole}
+use Rattle.bolt_cli.proofs.{Doing.answer_nothing, PageAnswers.Does-page_part, PageAnswers.Does-page_whole}
 use Rattle.bolt_cli.proofs.page_command.print_page.Goals as goal
 
 pub returns-in_err-meta : goal.returns-in_err-meta

@@ -1,9 +1,8 @@
 use Rattle.std.proofs.Common.{inl, refl}
 use Rattle.bolt_cli.proofs.Vocabulary.{Active, done, meta_of, pages_shown}
+use Rattle.bolt_cli.proofs.{Doing.Does-part, Doing.Does-refused, Doing.Does-whole, ReadFiles.unread_finding}
 use Rattle.bolt_check.proofs.RoleFacts.{some_roles}
 use Rattle.bolt_check.specs.RoledFiles.{roles_checked}
-use Rattle.bolt_cli.proofs.Doing.{Does-part, Does-refused, Does-whole}
-use Rattle.bolt_cli.proofs.ReadFiles.{unread_finding}
 use Rattle.bolt_cli.proofs.pages_command.print_pages.Goals as goal
 
 pub returns-in_err-roles : goal.returns-in_err-roles

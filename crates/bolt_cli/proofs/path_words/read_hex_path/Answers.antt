@@ -1,8 +1,7 @@
 use Rattle.std.proofs.Common.{◌≡◌, ◌∙◌, ◌==◌, Bool, List, inr, refl, ap, length, sym}
 use Rattle.bolt_cli.proofs.Vocabulary.{Bor, Text, each_part, list_any, list_any-map, part_of}
 use Rattle.bolt_cli.specs.declared.path_words.Parts.TheVariants as parts
-use Rattle.bolt_cli.proofs.CommandLineLemmas.{gives_same}
-use Rattle.bolt_cli.proofs.PathReading.{path_cut, texts}
+use Rattle.bolt_cli.proofs.{CommandLineLemmas.gives_same, PathReading.path_cut, PathReading.texts}
 use Rattle.bolt_cli.proofs.path_words.read_hex_path.Goals as goal
 
 -- what the test says of the parts

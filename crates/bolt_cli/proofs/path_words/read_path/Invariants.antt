@@ -1,6 +1,5 @@
 use Rattle.std.proofs.Common.{◌≡◌, drop}
-use Rattle.bolt_cli.proofs.Vocabulary.{each_part, part_of, path_in}
-use Rattle.bolt_cli.proofs.PathReading.{continued, texts}
+use Rattle.bolt_cli.proofs.{Vocabulary.each_part, Vocabulary.part_of, Vocabulary.path_in, PathReading.continued, PathReading.texts}
 use Rattle.bolt_cli.proofs.path_words.read_path.Given as goal
 
 -- the words that are left, after the parts so far, are read as all are

@@ -1,6 +1,5 @@
 use Rattle.std.proofs.Common.{◌∙◌, length, sym}
-use Rattle.bolt_cli.proofs.Vocabulary.{both_ways, eq-eqb, eqb-true}
-use Rattle.bolt_cli.proofs.StatsAnswers.{bucket_stats, root_stats}
+use Rattle.bolt_cli.proofs.{Vocabulary.both_ways, Vocabulary.eq-eqb, Vocabulary.eqb-true, StatsAnswers.bucket_stats, StatsAnswers.root_stats}
 use Rattle.bolt_cli.proofs.stats_command.find_stats.Goals as goal
 
 pub returns-then-is_empty-clause-found : goal.returns-then-is_empty-clause-found

@@ -1,7 +1,6 @@
 use Rattle.std.proofs.Common.{ℕ, List, inl, refl, sym}
 use Rattle.bolt_cli.proofs.Vocabulary.{IsStatsAnswer, done, path_in, refused, stats_text}
-use Rattle.bolt_cli.proofs.Doing.{Does-unread, answer_nothing, answer_part, answer_whole}
-use Rattle.bolt_cli.proofs.ReadFiles.{of_read, own_trees}
+use Rattle.bolt_cli.proofs.{Doing.Does-unread, Doing.answer_nothing, Doing.answer_part, Doing.answer_whole, ReadFiles.of_read, ReadFiles.own_trees}
 use Rattle.bolt_cli.proofs.StatsAnswers.{stats_missing}
 use Rattle.bolt_cli.proofs.stats_command.print_stats.Goals as goal
 

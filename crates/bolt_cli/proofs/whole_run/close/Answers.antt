@@ -1,7 +1,5 @@
 use Rattle.std.proofs.Common.{◌≡◌, ◌≢◌, [], arith, refl}
-use Rattle.bolt_cli.proofs.Vocabulary.{common_steps}
-use Rattle.bolt_cli.proofs.HeldLines.{Reported-line, Reported-nothing}
-use Rattle.bolt_cli.proofs.Telling.{Does-after, Does-one}
+use Rattle.bolt_cli.proofs.{Vocabulary.common_steps, HeldLines.Reported-line, HeldLines.Reported-nothing, Telling.Does-after, Telling.Does-one}
 use Rattle.bolt_cli.proofs.whole_run.close.Goals as goal
 
 pub returns-in-Ok : goal.returns-in-Ok

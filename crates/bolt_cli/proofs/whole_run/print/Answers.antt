@@ -1,5 +1,4 @@
-use Rattle.bolt_cli.proofs.HeldLines.{put_whole}
-use Rattle.bolt_cli.proofs.Telling.{Does-after}
+use Rattle.bolt_cli.proofs.{HeldLines.put_whole, Telling.Does-after}
 use Rattle.bolt_cli.proofs.whole_run.print.Goals as goal
 
 pub returns-in-Ok : goal.returns-in-Ok

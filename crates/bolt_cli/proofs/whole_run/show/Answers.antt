@@ -1,7 +1,5 @@
 use Rattle.bolt_format.specs.contracts.sinks.MemSinkSink.TheImpl as mem
-use Rattle.bolt_cli.proofs.HeldJobs.{shown}
-use Rattle.bolt_cli.proofs.HeldLines.{held_line}
-use Rattle.bolt_cli.proofs.Telling.{Does-after}
+use Rattle.bolt_cli.proofs.{HeldJobs.shown, HeldLines.held_line, Telling.Does-after}
 use Rattle.bolt_cli.proofs.whole_run.show.Goals as goal
 
 pub returns-in-Ok : goal.returns-in-Ok

@@ -1,7 +1,7 @@
 use Rattle.std.proofs.Common.{◌≡◌, ◌∙◌, List, [], Option, Ok, codes, ap, ap₂, map, option_map, sym, unwrap_or}
 use Rattle.bolt_cli.proofs.Vocabulary.{Bor, Row, Text, all_of, each_part, first_of, found_of, part_of, parts_by, path_by, path_in, raw_values-rows, result_and_then, rows_of, values_in}
-use Rattle.bolt_cli.specs.declared.path_words.Parts.{Parts}
 use Rattle.bolt_cli.proofs.CommandLineLemmas.{gives_same}
+use Rattle.bolt_cli.specs.declared.path_words.Parts.{Parts}
 use Rattle.bolt_cli.proofs.words.read_parts_of.Goals as goal
 
 abbrev texts : Option (Bor (List (Bor Text))) → Option (List Text)

@@ -1,7 +1,6 @@
 -- Digits of an accepted page size are read as it.
 use Rattle.std.proofs.Common.{◌∙◌, ap, sym}
-use Rattle.bolt_cli.proofs.Vocabulary.{number_in}
-use Rattle.bolt_cli.proofs.PageSizes.{size_answered}
+use Rattle.bolt_cli.proofs.{Vocabulary.number_in, PageSizes.size_answered}
 use Rattle.bolt_cli.proofs.words.read_size.Goals as goal
 
 pub returns : goal.returns

@@ -1,5 +1,4 @@
-use Rattle.bolt_format.proofs.ElementFacts.{entry_fits, inline_fits, value_bytes}
-use Rattle.bolt_format.proofs.PageFacts.{bucket_value, flat_inline}
+use Rattle.bolt_format.proofs.{ElementFacts.entry_fits, ElementFacts.inline_fits, ElementFacts.value_bytes, PageFacts.bucket_value, PageFacts.flat_inline}
 use Rattle.bolt_format.proofs.laws.good_elements_fit.Goals as goal
 
 pub returns : goal.returns

@@ -1,6 +1,5 @@
 use Rattle.std.proofs.Common.{◌<◌, ℕ, get_or}
-use Rattle.bolt_format.specs.declared.meta.Meta.{Meta}
-use Rattle.bolt_format.specs.Metas.{IsMeta, page_sizes}
+use Rattle.bolt_format.specs.{declared.meta.Meta.Meta, Metas.IsMeta, Metas.page_sizes}
 use Rattle.bolt_format.proofs.meta.lone_meta.Given as goal
 
 -- there is none at the sizes so far

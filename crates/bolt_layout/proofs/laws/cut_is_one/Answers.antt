@@ -1,5 +1,4 @@
-use Rattle.bolt_layout.proofs.Words.{BranchElement, Laid, LeafElement}
-use Rattle.bolt_layout.proofs.OneCut.{cut_is_one}
+use Rattle.bolt_layout.proofs.{Words.BranchElement, Words.Laid, Words.LeafElement, OneCut.cut_is_one}
 use Rattle.bolt_layout.proofs.laws.cut_is_one.Goals as goal
 
 pub returns : goal.returns

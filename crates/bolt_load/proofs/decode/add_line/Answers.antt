@@ -1,7 +1,6 @@
 -- What is wrong with a line, by its words.
 use Rattle.std.proofs.Common.{◌∙◌, sym}
-use Rattle.bolt_load.proofs.Words.{hex_path_in, word_item}
-use Rattle.bolt_load.proofs.MemberLemmas.{shape_is_right, value_is_long}
+use Rattle.bolt_load.proofs.{Words.hex_path_in, Words.word_item, MemberLemmas.shape_is_right, MemberLemmas.value_is_long}
 use Rattle.bolt_load.proofs.decode.add_line.Goals as goal
 
 pub returns-then-is_long_item-clause-fault : goal.returns-then-is_long_item-clause-fault

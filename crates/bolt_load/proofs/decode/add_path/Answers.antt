@@ -1,9 +1,9 @@
 -- A path is one if all of its parts are.
 use Rattle.std.proofs.Common.{◌≡◌, ◌∙◌, Bool, sym, ap, subst}
-use Rattle.bolt_load.proofs.Words.{is_some, option_map, part_in, path_bytes}
-use Rattle.std.specs.Prelude.{IfOk}
 use Rattle.std.proofs.lemmas.Result.{on_ok_weaker}
+use Rattle.bolt_load.proofs.Words.{is_some, option_map, part_in, path_bytes}
 use Rattle.bolt_load.proofs.PathLemmas.{bad_part, is_none, none_added, part_added, path_added, path_good, path_refused}
+use Rattle.std.specs.Prelude.{IfOk}
 use Rattle.bolt_load.proofs.decode.add_path.Goals as goal
 
 pub loop-part-init : goal.loop-part-init

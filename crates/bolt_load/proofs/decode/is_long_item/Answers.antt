@@ -1,7 +1,6 @@
 -- A value has half as many bytes as digits.
 use Rattle.std.proofs.Common.{◌∙◌, sym, ap}
-use Rattle.bolt_load.proofs.Words.{word_item}
-use Rattle.bolt_load.proofs.MemberLemmas.{long_value}
+use Rattle.bolt_load.proofs.{Words.word_item, MemberLemmas.long_value}
 use Rattle.bolt_load.proofs.decode.is_long_item.Goals as goal
 
 pub returns-in-Digits : goal.returns-in-Digits

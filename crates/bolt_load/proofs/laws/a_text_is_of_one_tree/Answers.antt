@@ -1,7 +1,5 @@
 -- The tree grows line by line, and the format can hold it.
-use Rattle.bolt_load.proofs.Words.{text_members}
-use Rattle.bolt_load.proofs.StoredTexts.{text_fits}
-use Rattle.bolt_load.proofs.TextTrees.{text_tree}
+use Rattle.bolt_load.proofs.{Words.text_members, StoredTexts.text_fits, TextTrees.text_tree}
 use Rattle.bolt_load.proofs.laws.a_text_is_of_one_tree.Goals as goal
 
 pub returns-clause-tree : goal.returns-clause-tree

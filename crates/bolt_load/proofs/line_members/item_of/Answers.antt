@@ -1,9 +1,8 @@
 -- A value has half as many bytes as digits.
 use Rattle.std.proofs.Common.{◌∙◌, sym, ap, subst}
 use Rattle.std.specs.Option.{IsSomeAnd}
-use Rattle.bolt_load.proofs.Words.{BeginsWith, item_bytes, word_item}
+use Rattle.bolt_load.proofs.{Words.BeginsWith, Words.item_bytes, Words.word_item, PushedParts.value_fits, PushedParts.value_is}
 use Rattle.bolt_load.specs.declared.line_words.ItemWord.{ItemWord}
-use Rattle.bolt_load.proofs.PushedParts.{value_fits, value_is}
 use Rattle.bolt_load.proofs.line_members.item_of.Goals as goal
 
 pub split_at-requires : goal.split_at-requires

@@ -1,7 +1,6 @@
 -- The parts so far were found.
 use Rattle.std.proofs.Common.{length}
-use Rattle.bolt_load.proofs.Words.{path_of}
-use Rattle.bolt_load.proofs.PushedParts.{PushesParts}
+use Rattle.bolt_load.proofs.{Words.path_of, PushedParts.PushesParts}
 use Rattle.bolt_load.proofs.line_members.push_parts.Given as goal
 
 abbrev pub invariant-loop-part : goal.invariant-loop-part

@@ -1,7 +1,6 @@
 -- Digits alone, of a number of 64 bits, are read as that number, and no other word is.
 use Rattle.std.proofs.Common.{◌≢◌, ◌∙◌, get_or, sym, ap, subst, refl}
-use Rattle.bolt_load.proofs.Words.{number_in, Text}
-use Rattle.bolt_load.proofs.DecimalNumbers.{no_plus, no_text, parsed_number, text_is}
+use Rattle.bolt_load.proofs.{Words.number_in, Words.Text, DecimalNumbers.no_plus, DecimalNumbers.no_text, DecimalNumbers.parsed_number, DecimalNumbers.text_is}
 use Rattle.bolt_load.proofs.line_words.read_number.Goals as goal
 
 pub returns-in_err-ok : goal.returns-in_err-ok

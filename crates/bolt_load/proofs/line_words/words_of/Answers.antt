@@ -1,8 +1,8 @@
 -- The words lie between the spaces.
 use Rattle.std.proofs.Common.{◌∙◌, sym, ap}
 use Rattle.bolt_load.proofs.Words.{option_and_then, word_item}
-use Rattle.bolt_load.specs.Private.LineWords.{words_member}
 use Rattle.bolt_load.proofs.WordLemmas.{more_words, no_item, one_word, two_words, words_item}
+use Rattle.bolt_load.specs.Private.LineWords.{words_member}
 use Rattle.bolt_load.proofs.line_words.words_of.Goals as goal
 
 pub returns-in_err-path : goal.returns-in_err-path

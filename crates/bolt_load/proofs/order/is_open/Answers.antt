@@ -1,7 +1,6 @@
 -- A path has as many parts as the slice that holds it.
 use Rattle.std.proofs.Common.{◌≡◌, length, true, false, nat_lt, arith}
-use Rattle.bolt_load.proofs.Words.{nat_tests}
-use Rattle.bolt_load.proofs.OpenTests.{itself, not_below, through}
+use Rattle.bolt_load.proofs.{Words.nat_tests, OpenTests.itself, OpenTests.not_below, OpenTests.through}
 use Rattle.bolt_load.proofs.order.is_open.Goals as goal
 
 pub returns-else-is_below : goal.returns-else-is_below

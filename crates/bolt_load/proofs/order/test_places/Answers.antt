@@ -1,8 +1,8 @@
 -- Each line is tested after the last one.
 use Rattle.std.proofs.Common.{◌≡◌, ◌∙◌, ◌+◌, Bool, sym, ap, subst}
 use Rattle.bolt_load.proofs.Words.{GivesLine, IfSome, is_bucket, item_view, members_left, members_path, option_map}
-use Rattle.bolt_load.specs.ShownMembers.{members_before}
 use Rattle.bolt_load.proofs.PlacedLines.{HasPlaced, begun, fault_of_slices, line_placed, line_refused, path_some, slices_some}
+use Rattle.bolt_load.specs.ShownMembers.{members_before}
 use Rattle.bolt_load.proofs.order.test_places.Goals as goal
 
 pub loop-members-init : goal.loop-members-init

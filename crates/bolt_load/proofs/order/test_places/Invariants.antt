@@ -1,7 +1,6 @@
 -- The lines so far are right.
 use Rattle.std.proofs.Common.{length}
-use Rattle.bolt_load.proofs.Words.{members_left, members_path}
-use Rattle.bolt_load.proofs.PlacedLines.{HasPlaced}
+use Rattle.bolt_load.proofs.{Words.members_left, Words.members_path, PlacedLines.HasPlaced}
 use Rattle.bolt_load.proofs.order.test_places.Given as goal
 
 abbrev pub invariant-loop-members : goal.invariant-loop-members

@@ -1,5 +1,4 @@
-use Rattle.bolt_recover.proofs.Words.{lost}
-use Rattle.bolt_recover.proofs.LostWays.{loss_there, number_of_losses, place_of, way_there}
+use Rattle.bolt_recover.proofs.{Words.lost, LostWays.loss_there, LostWays.number_of_losses, LostWays.place_of, LostWays.way_there}
 use Rattle.bolt_recover.proofs.laws.each_lost_way_has_one_loss.Goals as goal
 
 pub returns-clause-number : goal.returns-clause-number

@@ -1,6 +1,5 @@
 use Rattle.std.proofs.Common.{Some}
-use Rattle.bolt_recover.proofs.Words.{At_page, node_at, root_spot}
-use Rattle.bolt_recover.proofs.FirstLoss.{first_is}
+use Rattle.bolt_recover.proofs.{Words.At_page, Words.node_at, Words.root_spot, FirstLoss.first_is}
 use Rattle.bolt_recover.proofs.laws.first_loss_is_the_first_finding.Goals as goal
 
 pub returns : goal.returns

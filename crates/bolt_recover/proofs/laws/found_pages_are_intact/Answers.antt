@@ -1,6 +1,4 @@
-use Rattle.bolt_recover.proofs.Words.{IsKeptPage}
-use Rattle.bolt_recover.proofs.FoundAll.{found_in}
-use Rattle.bolt_recover.proofs.FoundLemmas.{found_apart, found_here}
+use Rattle.bolt_recover.proofs.{Words.IsKeptPage, FoundAll.found_in, FoundLemmas.found_apart, FoundLemmas.found_here}
 use Rattle.bolt_recover.proofs.laws.found_pages_are_intact.Goals as goal
 
 pub returns-clause-below : goal.returns-clause-below

@@ -1,6 +1,5 @@
 use Rattle.std.proofs.Common.{refl}
-use Rattle.bolt_recover.proofs.Existing.{has_survey}
-use Rattle.bolt_recover.proofs.Recovering.{one_number}
+use Rattle.bolt_recover.proofs.{Existing.has_survey, Recovering.one_number}
 use Rattle.bolt_recover.proofs.laws.page_ways_are_one.Goals as goal
 
 pub returns-clause-some : goal.returns-clause-some

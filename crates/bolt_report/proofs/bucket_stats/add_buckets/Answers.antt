@@ -1,6 +1,5 @@
 use Rattle.std.proofs.Common.{◌∙◌, arith, inl, refl}
-use Rattle.bolt_report.proofs.ReadDepths.{moved_depth}
-use Rattle.bolt_report.proofs.ReadSums.{moved_from, moved_sum, none_left}
+use Rattle.bolt_report.proofs.{ReadDepths.moved_depth, ReadSums.moved_from, ReadSums.moved_sum, ReadSums.none_left}
 use Rattle.bolt_report.proofs.bucket_stats.add_buckets.Goals as goal
 
 pub roots-preserved : goal.roots-preserved

@@ -1,6 +1,5 @@
 use Rattle.std.proofs.Common.{◌+◌, ℕ, ap}
-use Rattle.bolt_report.proofs.Words.{branch_view, BranchElement, capped, shown, unread_page}
-use Rattle.bolt_report.proofs.ReadLemmas.{children_next}
+use Rattle.bolt_report.proofs.{Words.branch_view, Words.BranchElement, Words.capped, Words.shown, Words.unread_page, ReadLemmas.children_next}
 use Rattle.bolt_report.proofs.bucket_stats.add_children.Goals as goal
 
 pub loop-i-preserved : goal.loop-i-preserved

@@ -1,6 +1,5 @@
 use Rattle.std.proofs.Common.{◌≡◌, arith, max}
-use Rattle.bolt_report.proofs.Words.{leaf_view, shown}
-use Rattle.bolt_report.proofs.ReadLemmas.{inline_next, roots_next}
+use Rattle.bolt_report.proofs.{Words.leaf_view, Words.shown, ReadLemmas.inline_next, ReadLemmas.roots_next}
 use Rattle.bolt_report.proofs.bucket_stats.find_buckets.Goals as goal
 
 pub loop-i-preserved : goal.loop-i-preserved

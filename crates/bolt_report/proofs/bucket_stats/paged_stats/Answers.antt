@@ -1,7 +1,6 @@
 use Rattle.std.proofs.Common.{◌≡◌, ◌∙◌, ◌∷◌, [], ℕ, List, ap, arith}
 use Rattle.bolt_report.proofs.Words.{bytes_of, figure, meta_of, node_at, own_figure, roots_of, Stats, UnreadBucket, weight, ∥∥₁_elim, ∥∥₁_map, ∥∥₁_prop}
-use Rattle.bolt_report.proofs.FigureLemmas.{figure_add}
-use Rattle.bolt_report.proofs.ReadDepths.{bucket_end, read_end}
+use Rattle.bolt_report.proofs.{FigureLemmas.figure_add, ReadDepths.bucket_end, ReadDepths.read_end}
 use Rattle.bolt_report.proofs.ReadSums.{all_good, deepened, first_figure, first_fits, last_good, none_left, unread_popped, total_popped, zero_depth}
 use Rattle.bolt_report.proofs.bucket_stats.paged_stats.Goals as goal
 

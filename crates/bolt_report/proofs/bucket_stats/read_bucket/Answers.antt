@@ -1,7 +1,6 @@
 use Rattle.std.proofs.Common.{◌≡◌, ◌∙◌, ◌+◌, ◌<◌, ◌++◌, ◌∷◌, [], ℕ, List, inl, inr, ap, arith, map, sym}
 use Rattle.bolt_report.proofs.Words.{bytes_of, capped, deepest_of, figure, greatest, inner_pages, inner_roots, meta_of, Node, numbers_of, one, own_figure, props, total_of, unread_page, ∥∥₁_elim, ∥∥₁_map, ∥∥₁_prop}
-use Rattle.bolt_report.proofs.FigureLemmas.{figure_add}
-use Rattle.bolt_report.proofs.ReadDepths.{first_height, numbers_opened, read_deepest, read_height}
+use Rattle.bolt_report.proofs.{FigureLemmas.figure_add, ReadDepths.first_height, ReadDepths.numbers_opened, ReadDepths.read_deepest, ReadDepths.read_height}
 use Rattle.bolt_report.proofs.ReadSums.{more_found, next_good, none_left, popped, read_good, read_sum, started, zero_figure}
 use Rattle.bolt_report.proofs.bucket_stats.read_bucket.Goals as goal
 

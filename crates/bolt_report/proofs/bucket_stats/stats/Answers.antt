@@ -1,6 +1,6 @@
 use Rattle.bolt_report.proofs.Words.{bucket_checked, bytes_of, meta_of, ∥∥₁_elim, ∥∥₁_map, ∥∥₁_prop}
-use Rattle.bolt_check.proofs.CheckedLemmas.{checked_trees}
 use Rattle.bolt_report.proofs.StatsExist.{are_good, paged_stats_are}
+use Rattle.bolt_check.proofs.CheckedLemmas.{checked_trees}
 use Rattle.bolt_report.proofs.bucket_stats.stats.Goals as goal
 
 pub paged_stats-requires : goal.paged_stats-requires

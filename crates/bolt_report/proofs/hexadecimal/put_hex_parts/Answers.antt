@@ -1,8 +1,6 @@
 use Rattle.std.proofs.Common.{arith}
 use Rattle.std.proofs.lemmas.Grind.{common_steps}
-use Rattle.bolt_report.proofs.Words.{front_whole}
-use Rattle.bolt_report.proofs.HexStrings.{next_digits, no_digits}
-use Rattle.bolt_report.proofs.ReportLemmas.{front_broken}
+use Rattle.bolt_report.proofs.{Words.front_whole, HexStrings.next_digits, HexStrings.no_digits, ReportLemmas.front_broken}
 use Rattle.bolt_report.proofs.hexadecimal.put_hex_parts.Goals as goal
 
 pub returns-in_err-put_hex_part : goal.returns-in_err-put_hex_part

@@ -1,10 +1,9 @@
 -- The characters of a text are tested one after another.
 use Rattle.std.proofs.Common.{◌∙◌, Bool, ap, not, rules, sym, tests, ◌&&◌, chars}
-use Rattle.std.specs.Char.{is_control}
-use Rattle.bolt_report.proofs.Words.{is_utf8-from_IsUtf8, list_all}
 use Rattle.std.proofs.lemmas.Iterator.{YieldsList-from_chars}
 use Rattle.std.proofs.lemmas.Iterator.Search.{all_from_yields_List}
-use Rattle.bolt_report.proofs.TokenLemmas.{not_utf8}
+use Rattle.std.specs.Char.{is_control}
+use Rattle.bolt_report.proofs.{Words.is_utf8-from_IsUtf8, Words.list_all, TokenLemmas.not_utf8}
 use Rattle.bolt_report.proofs.item_writer.is_text.Goals as goal
 
 pub returns-in-Ok : goal.returns-in-Ok

@@ -1,6 +1,5 @@
 use Rattle.std.proofs.Common.{arith}
-use Rattle.bolt_report.proofs.Words.{leaf_view, shown}
-use Rattle.bolt_report.proofs.FoundLemmas.{counts_none, counts_one}
+use Rattle.bolt_report.proofs.{Words.leaf_view, Words.shown, FoundLemmas.counts_none, FoundLemmas.counts_one}
 use Rattle.bolt_report.proofs.loss_lines.count_buckets.Goals as goal
 use Rattle.bolt_report.proofs.loss_lines.count_buckets.Goals.{then-leaf, else-leaf}
 

@@ -1,7 +1,6 @@
 use Rattle.std.proofs.Common.{◌≡◌, ◌∙◌, ◌+◌, ◌-◌, ◌≤◌, ◌++◌, ◌∷◌, [], ℕ, List, ap, arith, map, sym}
-use Rattle.bolt_report.proofs.Words.{page_mark, range_with_len, roles_checked}
 use Rattle.std.proofs.lemmas.List.FromFn.{map-range_with_len_more}
-use Rattle.bolt_report.proofs.PageTableLemmas.{same_role}
+use Rattle.bolt_report.proofs.{Words.page_mark, Words.range_with_len, Words.roles_checked, PageTableLemmas.same_role}
 use Rattle.bolt_report.proofs.maps.page_marks.Goals as goal
 
 pub loop-id-preserved : goal.loop-id-preserved

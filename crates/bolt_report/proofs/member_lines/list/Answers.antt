@@ -1,8 +1,8 @@
 -- All that is left begins with the empty path.
 use Rattle.std.proofs.Common.{◌∙◌, [], ap}
 use Rattle.bolt_report.proofs.Words.{left_of, ListForm, listing_lines, walk_checked, Wrote-same}
-use Rattle.bolt_report.specs.ListLines.{listing_text}
 use Rattle.bolt_report.proofs.ListPartTexts.{front, front_of_root, same_listing}
+use Rattle.bolt_report.specs.ListLines.{listing_text}
 use Rattle.bolt_report.proofs.member_lines.list.Goals as goal
 
 pub returns-clause-written : goal.returns-clause-written

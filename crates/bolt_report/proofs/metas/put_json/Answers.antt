@@ -1,6 +1,5 @@
-use Rattle.bolt_report.proofs.Words.{Wrote-same}
+use Rattle.bolt_report.proofs.{Words.Wrote-same, FigureTexts.meta_object}
 use Rattle.bolt_report.specs.MetaLines.{info_text}
-use Rattle.bolt_report.proofs.FigureTexts.{meta_object}
 use Rattle.bolt_report.proofs.metas.put_json.Goals as goal
 
 pub returns : goal.returns

@@ -1,6 +1,5 @@
 use Rattle.std.proofs.Common.{◌+◌, arith, length}
-use Rattle.bolt_report.proofs.Words.{branch_view, BranchElement, shown}
-use Rattle.bolt_report.proofs.FigureLemmas.{sum_next}
+use Rattle.bolt_report.proofs.{Words.branch_view, Words.BranchElement, Words.shown, FigureLemmas.sum_next}
 use Rattle.bolt_report.proofs.page_stats.branch_used.Goals as goal
 
 pub loop-i-preserved : goal.loop-i-preserved

@@ -1,6 +1,5 @@
 use Rattle.std.proofs.Common.{◌∙◌}
-use Rattle.bolt_report.proofs.Words.{roles_checked}
-use Rattle.bolt_report.proofs.PageTableLemmas.{counts_past, positive}
+use Rattle.bolt_report.proofs.{Words.roles_checked, PageTableLemmas.counts_past, PageTableLemmas.positive}
 use Rattle.bolt_report.proofs.page_table.free_past.Goals as goal
 
 pub pages_begun-requires : goal.pages_begun-requires

@@ -1,7 +1,6 @@
 use Rattle.std.proofs.Common.{[], ◌∷◌}
-use Rattle.bolt_report.proofs.Words.{decimal, line}
+use Rattle.bolt_report.proofs.{Words.decimal, Words.line, GatherLemmas.Gathers-return, GatherLemmas.Gathers-then}
 use Rattle.bolt_report.specs.Lines.{figure_line}
-use Rattle.bolt_report.proofs.GatherLemmas.{Gathers-return, Gathers-then}
 use Rattle.bolt_report.proofs.pieces.add_figure.Goals as goal
 
 pub returns-in_err-add_bytes-2 : goal.returns-in_err-add_bytes-2

@@ -1,7 +1,6 @@
 -- Digits need no escapes, so they are what stands between the quotes (34).
 use Rattle.std.proofs.Common.{◌∷◌, []}
-use Rattle.bolt_report.proofs.GatherLemmas.{Gathers-return, Gathers-then}
-use Rattle.bolt_report.proofs.HexStrings.{plain_digits}
+use Rattle.bolt_report.proofs.{GatherLemmas.Gathers-return, GatherLemmas.Gathers-then, HexStrings.plain_digits}
 use Rattle.bolt_report.proofs.pieces.add_hex_string.Goals as goal
 
 pub returns-in_err-add_bytes : goal.returns-in_err-add_bytes

@@ -1,6 +1,5 @@
 use Rattle.std.proofs.Common.{◌∷◌, Bor, List, ℕ}
-use Rattle.bolt_report.proofs.Words.{part_text, separator, slice_get-get_or}
-use Rattle.bolt_report.proofs.GatherLemmas.{Gathers-element, Gathers-last_element}
+use Rattle.bolt_report.proofs.{Words.part_text, Words.separator, Words.slice_get-get_or, GatherLemmas.Gathers-element, GatherLemmas.Gathers-last_element}
 use Rattle.bolt_report.proofs.pieces.add_later_parts.Goals as goal
 
 pub returns-in_err-add_later_part : goal.returns-in_err-add_later_part

@@ -1,8 +1,8 @@
 use Rattle.std.proofs.Common.{ap}
 use Rattle.std.proofs.lemmas.List.{take_all}
 use Rattle.bolt_report.proofs.Words.{pieces_text, slice_get-get_or, Wrote-same}
-use Rattle.bolt_report.specs.Pieces.{piece_text}
 use Rattle.bolt_report.proofs.GatherLemmas.{Gathers-element, Gathers-last_element, Wrote-gathered, Wrote-gathered_fault}
+use Rattle.bolt_report.specs.Pieces.{piece_text}
 use Rattle.bolt_report.proofs.pieces.put_pieces.Goals as goal
 
 pub returns-in_err-add_piece : goal.returns-in_err-add_piece

@@ -1,7 +1,5 @@
 -- Each page is as it was, and so is all that is said of pages.
-use Rattle.bolt_snapshot.proofs.TrailingAccounts.{sound_more}
-use Rattle.bolt_snapshot.proofs.TrailingMetas.{chosen_more, in_slot_more}
-use Rattle.bolt_snapshot.proofs.TrailingTrees.{listing_more}
+use Rattle.bolt_snapshot.proofs.{TrailingAccounts.sound_more, TrailingMetas.chosen_more, TrailingMetas.in_slot_more, TrailingTrees.listing_more}
 use Rattle.bolt_snapshot.proofs.laws.trailing_bytes_change_nothing.Goals as goal
 
 pub returns-clause-metas : goal.returns-clause-metas

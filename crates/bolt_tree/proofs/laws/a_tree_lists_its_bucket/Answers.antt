@@ -1,5 +1,4 @@
-use Rattle.bolt_tree.proofs.Words.{IsEntry}
-use Rattle.bolt_tree.proofs.TreeListing.{tree_lists}
+use Rattle.bolt_tree.proofs.{Words.IsEntry, TreeListing.tree_lists}
 use Rattle.bolt_tree.proofs.laws.a_tree_lists_its_bucket.Goals as goal
 
 pub returns : goal.returns

@@ -1,5 +1,4 @@
-use Rattle.bolt_tree.proofs.Words.{IsEntry, Root_page}
-use Rattle.bolt_tree.proofs.Single.{lists_once}
+use Rattle.bolt_tree.proofs.{Words.IsEntry, Words.Root_page, Single.lists_once}
 use Rattle.bolt_tree.proofs.laws.listing_is_one.Goals as goal
 
 pub returns : goal.returns

@@ -2,8 +2,7 @@
 use Rattle.std.proofs.lemmas.Result.{err_from_is_err_and}
 use Rattle.bolt_format.specs.ElementPlaces.{branch_view}
 use Rattle.bolt_bulk.specs.Private.{bucket_runs}
-use Rattle.bolt_bulk.proofs.BucketLemmas.{closed_short, end_large, end_made, end_short}
-use Rattle.bolt_bulk.proofs.PutsLemmas.{Wrote-stops}
+use Rattle.bolt_bulk.proofs.{BucketLemmas.closed_short, BucketLemmas.end_large, BucketLemmas.end_made, BucketLemmas.end_short, PutsLemmas.Wrote-stops}
 use Rattle.bolt_bulk.proofs.bucket_runs.BucketRuns.close_runs.Goals as goal
 
 pub close_all-requires-clause-closed : goal.close_all-requires-clause-closed

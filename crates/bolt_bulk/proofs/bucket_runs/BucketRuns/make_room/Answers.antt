@@ -1,9 +1,9 @@
 -- If there is no room, the leaf closes, and its element climbs.
 use Rattle.std.proofs.Common.{◌∙◌, sym}
+use Rattle.std.proofs.lemmas.Result.{err_from_is_err_and}
 use Rattle.bolt_format.specs.ElementPlaces.{branch_view}
 use Rattle.bolt_bulk.specs.Private.{bucket_runs}
 use Rattle.bolt_bulk.proofs.BucketLemmas.{closed_short, room_large, room_made}
-use Rattle.std.proofs.lemmas.Result.{err_from_is_err_and}
 use Rattle.bolt_bulk.proofs.bucket_runs.BucketRuns.make_room.Goals as goal
 use Rattle.bolt_bulk.proofs.PutsLemmas.{Wrote-stops}
 

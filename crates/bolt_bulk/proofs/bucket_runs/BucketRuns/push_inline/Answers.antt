@@ -1,8 +1,7 @@
 -- The entries come after the others, and the item names them.
 use Rattle.std.proofs.Common.{rules, ◌≡◌, ◌+◌, ◌++◌, [], ◌∷◌, List, ap, length, refl}
 use Rattle.bolt_format.specs.Elements.{LeafElement}
-use Rattle.bolt_bulk.specs.Private.{BucketRunsView, runs_above}
-use Rattle.bolt_bulk.specs.declared.held.Held.{Held}
+use Rattle.bolt_bulk.specs.{Private.BucketRunsView, Private.runs_above, declared.held.Held.Held}
 use Rattle.bolt_bulk.specs.declared.held.Stored.TheVariants as stored
 use Rattle.bolt_bulk.proofs.HeldRuns.{added_views, inline_pushed}
 use Rattle.bolt_bulk.proofs.bucket_runs.BucketRuns.push_inline.Goals as goal

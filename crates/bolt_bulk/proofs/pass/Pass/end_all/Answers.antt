@@ -1,12 +1,10 @@
 -- What is open of the root bucket ends, which is the rest of the layout.
 use Rattle.std.proofs.Common.{◌∙◌, [], Err, arith, subst, sym}
-use Rattle.std.specs.Prelude.{⊤}
 use Rattle.std.proofs.lemmas.Result.{err_from_is_err_and}
+use Rattle.std.specs.Prelude.{⊤}
 use Rattle.bolt_layout.specs.declared.layout.Layout.TheVariants.{Balanced}
-use Rattle.bolt_bulk.specs.Private.{bucket_runs, FitLimits, limits_with, runs_end_put}
-use Rattle.bolt_bulk.proofs.PassAt.{steps_none}
-use Rattle.bolt_bulk.proofs.PassEnds.{ends_after, ends_early, has_end}
-use Rattle.bolt_bulk.specs.declared.limits.Limits.{Limits}
+use Rattle.bolt_bulk.specs.{Private.bucket_runs, Private.FitLimits, Private.limits_with, Private.runs_end_put, declared.limits.Limits.Limits}
+use Rattle.bolt_bulk.proofs.{PassAt.steps_none, PassEnds.ends_after, PassEnds.ends_early, PassEnds.has_end}
 use Rattle.bolt_bulk.proofs.pass.Pass.end_all.Goals as goal
 
 pub returns-in_err-leave_to : goal.returns-in_err-leave_to

@@ -1,12 +1,9 @@
 -- The bucket around it takes the item of the one that ends.
 use Rattle.std.specs.Prelude.{⊤}
-use Rattle.std.proofs.Common.{List, Err, subst, arith, Ok}
 use Rattle.std.specs.List.{AllByRecursion}
-use Rattle.bolt_bulk.specs.Private.{IsWaiting}
-use Rattle.bolt_bulk.specs.declared.waiting_bucket.WaitingBucket.{WaitingBucket}
-use Rattle.bolt_bulk.proofs.HeldPasses.{waits_less}
-use Rattle.bolt_bulk.proofs.PassAt.{leave_steps, steps_none, steps_stop}
-use Rattle.bolt_bulk.proofs.PassReady.{last_of}
+use Rattle.std.proofs.Common.{List, Err, subst, arith, Ok}
+use Rattle.bolt_bulk.specs.{Private.IsWaiting, declared.waiting_bucket.WaitingBucket.WaitingBucket}
+use Rattle.bolt_bulk.proofs.{HeldPasses.waits_less, PassAt.leave_steps, PassAt.steps_none, PassAt.steps_stop, PassReady.last_of}
 use Rattle.bolt_bulk.proofs.pass.Pass.end_open.Goals as goal
 
 pub end_inner-requires-clause-waits : goal.end_inner-requires-clause-waits

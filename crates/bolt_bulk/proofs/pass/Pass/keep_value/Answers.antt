@@ -1,8 +1,7 @@
 -- The value comes after the others, and none has taken a step in the layout.
 use Rattle.std.proofs.Common.{rules, ◌≡◌, ◌++◌, [], ◌∷◌, false, refl, arith}
 use Rattle.bolt_format.specs.declared.element.Leaf.{Leaf}
-use Rattle.bolt_bulk.proofs.PassAt.{keep_at}
-use Rattle.bolt_bulk.proofs.PassReady.{small_of, small_push}
+use Rattle.bolt_bulk.proofs.{PassAt.keep_at, PassReady.small_of, PassReady.small_push}
 use Rattle.bolt_bulk.proofs.pass.Pass.keep_value.Goals as goal
 
 pub returns-clause-ready : goal.returns-clause-ready

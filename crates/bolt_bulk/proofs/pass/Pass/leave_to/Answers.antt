@@ -1,7 +1,6 @@
 -- One more bucket has ended, and so on until at most `depth` are left.
 use Rattle.std.proofs.Common.{◌∙◌, arith}
-use Rattle.bolt_bulk.proofs.PassAt.{steps_map, steps_stop, steps_then}
-use Rattle.bolt_bulk.proofs.PassLeft.{has_ended, left_out, steps_begun}
+use Rattle.bolt_bulk.proofs.{PassAt.steps_map, PassAt.steps_stop, PassAt.steps_then, PassLeft.has_ended, PassLeft.left_out, PassLeft.steps_begun}
 use Rattle.bolt_bulk.proofs.pass.Pass.leave_to.Goals as goal
 
 pub levels-init : goal.levels-init

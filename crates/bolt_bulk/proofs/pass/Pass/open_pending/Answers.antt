@@ -2,9 +2,8 @@
 use Rattle.std.specs.Prelude.{⊤}
 use Rattle.std.proofs.Common.{rules, ◌≡◌, ◌++◌, ◌∷◌, [], Ok, Err, sym, arith}
 use Rattle.bolt_bulk.specs.declared.fault.BulkFault.TheVariants as fault
-use Rattle.bolt_bulk.proofs.HeldPasses.{more_around, waits_more}
+use Rattle.bolt_bulk.proofs.{HeldPasses.more_around, HeldPasses.waits_more, PassAt.open_steps, PassAt.open_stops, PassAt.steps_none, PassAt.steps_stop}
 use Rattle.bolt_layout.proofs.ListLemmas.{all_append}
-use Rattle.bolt_bulk.proofs.PassAt.{open_steps, open_stops, steps_none, steps_stop}
 use Rattle.bolt_bulk.proofs.pass.Pass.open_pending.Goals as goal
 use Rattle.bolt_bulk.proofs.PutsLemmas.{Wrote-gave_up}
 

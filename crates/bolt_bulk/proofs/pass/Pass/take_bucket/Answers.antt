@@ -2,8 +2,7 @@
 use Rattle.std.proofs.Common.{Ok, map}
 use Rattle.bolt_format.specs.ElementPlaces.{leaf_view}
 use Rattle.bolt_tree.specs.Tree.{with_bucket}
-use Rattle.bolt_bulk.proofs.Ontos.{bucket_has_root}
-use Rattle.bolt_bulk.proofs.PassAt.{steps_none, steps_stop, steps_then}
+use Rattle.bolt_bulk.proofs.{Ontos.bucket_has_root, PassAt.steps_none, PassAt.steps_stop, PassAt.steps_then}
 use Rattle.bolt_bulk.proofs.pass.Pass.take_bucket.Goals as goal
 
 pub returns-in_err-open_pending-clause-steps : goal.returns-in_err-open_pending-clause-steps

@@ -2,12 +2,9 @@
 use Rattle.std.proofs.Common.{◌≤◌, ◌≡◌, ◌++◌, ◌∷◌, [], Bor, ℕ, List, ap, length, arith}
 use Rattle.std.proofs.lemmas.List.{length-map, map-append}
 use Rattle.bolt_tree.specs.Entries as entries
-use Rattle.bolt_tree.specs.Paths.{Path, path_of}
-use Rattle.bolt_tree.specs.ShownEntries.{item_view}
+use Rattle.bolt_tree.specs.{Paths.Path, Paths.path_of, ShownEntries.item_view}
 use Rattle.bolt_bulk.specs.Private.{last_part}
-use Rattle.bolt_bulk.proofs.PassAt.{steps_map, steps_stop, steps_then}
-use Rattle.bolt_bulk.proofs.PassEnds.{has_next, last_pushed}
-use Rattle.bolt_bulk.proofs.PassLeft.{left_same}
+use Rattle.bolt_bulk.proofs.{PassAt.steps_map, PassAt.steps_stop, PassAt.steps_then, PassEnds.has_next, PassEnds.last_pushed, PassLeft.left_same}
 use Rattle.bolt_bulk.proofs.pass.Pass.take_member.Goals as goal
 
 -- the last part of the path is the key

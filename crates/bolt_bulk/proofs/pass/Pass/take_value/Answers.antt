@@ -3,8 +3,7 @@ use Rattle.std.proofs.Common.{map, arith}
 use Rattle.bolt_format.specs.ElementPlaces.{leaf_view}
 use Rattle.bolt_tree.specs.Tree.{Tree, with_value}
 use Rattle.bolt_bulk.specs.Private.{HasRoot, onto, Wanted}
-use Rattle.bolt_bulk.proofs.PassAt.{steps_none, steps_stop, steps_then}
-use Rattle.bolt_bulk.proofs.PassReady.{full_rooted, small_of}
+use Rattle.bolt_bulk.proofs.{PassAt.steps_none, PassAt.steps_stop, PassAt.steps_then, PassReady.full_rooted, PassReady.small_of}
 use Rattle.bolt_bulk.proofs.pass.Pass.take_value.Goals as goal
 use Rattle.bolt_bulk.proofs.pass.Pass.take_value.Goals.{After-open_pending}
 

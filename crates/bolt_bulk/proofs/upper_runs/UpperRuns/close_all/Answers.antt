@@ -2,8 +2,7 @@
 use Rattle.std.proofs.Common.{arith, ap, sym, length}
 use Rattle.std.proofs.lemmas.List.{map-set, length-set}
 use Rattle.std.proofs.lemmas.Result.{err_from_is_err_and}
-use Rattle.bolt_format.specs.ElementPlaces.{branch_view}
-use Rattle.bolt_format.specs.Elements.{BranchElement}
+use Rattle.bolt_format.specs.{ElementPlaces.branch_view, Elements.BranchElement}
 use Rattle.bolt_bulk.specs.Private.{run_view}
 use Rattle.bolt_bulk.proofs.ClimbLemmas.{close_large, close_more, close_short, close_stops, run_at, standing_set, up_key}
 use Rattle.bolt_bulk.proofs.upper_runs.UpperRuns.close_all.Goals as goal

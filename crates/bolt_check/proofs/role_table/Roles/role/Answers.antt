@@ -1,6 +1,5 @@
 use Rattle.std.proofs.Common.{◌∙◌, ap, arith}
-use Rattle.bolt_check.proofs.Words.{bytes_of, meta_of, roles_checked, use_at, ∥∥₁_map}
-use Rattle.bolt_check.proofs.RoleLemmas.{right_role}
+use Rattle.bolt_check.proofs.{Words.bytes_of, Words.meta_of, Words.roles_checked, Words.use_at, Words.∥∥₁_map, RoleLemmas.right_role}
 use Rattle.bolt_check.proofs.role_table.Roles.role.Goals as goal
 
 pub returns : goal.returns

@@ -1,5 +1,4 @@
-use Rattle.bolt_check.proofs.Words.{leaf_view}
-use Rattle.bolt_check.proofs.NodeLemmas.{leaf-entry}
+use Rattle.bolt_check.proofs.{Words.leaf_view, NodeLemmas.leaf-entry}
 use Rattle.bolt_check.proofs.tree_page.TreePage.key.Goals as goal
 use Rattle.bolt_check.proofs.WayFacts.{key_at}
 

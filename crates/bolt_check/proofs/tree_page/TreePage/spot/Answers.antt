@@ -1,6 +1,5 @@
 use Rattle.std.proofs.Common.{◌∙◌, sym}
-use Rattle.bolt_check.proofs.Words.{leaf_entry, leaf_view, page_spot}
-use Rattle.bolt_check.proofs.NodeLemmas.{leaf-entry, step-leaf}
+use Rattle.bolt_check.proofs.{Words.leaf_entry, Words.leaf_view, Words.page_spot, NodeLemmas.leaf-entry, NodeLemmas.step-leaf}
 use Rattle.bolt_check.proofs.tree_page.TreePage.spot.Goals as goal
 
 pub returns-then-self-clause-leads : goal.returns-then-self-clause-leads

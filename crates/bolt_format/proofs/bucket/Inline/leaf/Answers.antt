@@ -1,6 +1,5 @@
 use Rattle.std.proofs.Common.{◌∙◌, ◌<◌, ℕ, List, Some, ap, arith, length, sym}
-use Rattle.bolt_format.specs.Elements.{LeafElement, head_fault, leaf_element, leaf_elements}
-use Rattle.bolt_format.specs.ShownInline.{shown_inline}
+use Rattle.bolt_format.specs.{Elements.LeafElement, Elements.head_fault, Elements.leaf_element, Elements.leaf_elements, ShownInline.shown_inline}
 use Rattle.bolt_format.proofs.GoodPages.{good_leaf, length-leaf_elements, no_bucket-at, slice_get-made}
 use Rattle.bolt_format.proofs.bucket.Inline.leaf.Goals as goal
 

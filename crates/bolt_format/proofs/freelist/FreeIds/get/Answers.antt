@@ -1,8 +1,6 @@
 use Rattle.std.proofs.Common.{◌∙◌, ◌+◌, ◌*◌, Some, ap, arith, sym}
-use Rattle.bolt_format.specs.Bytes.{number_at}
-use Rattle.bolt_format.specs.ShownIds.{shown_ids}
-use Rattle.bolt_format.proofs.FreeLemmas.{below_len}
-use Rattle.bolt_format.proofs.GoodPages.{slice_get-made}
+use Rattle.bolt_format.specs.{Bytes.number_at, ShownIds.shown_ids}
+use Rattle.bolt_format.proofs.{FreeLemmas.below_len, GoodPages.slice_get-made}
 use Rattle.bolt_format.proofs.freelist.FreeIds.get.Goals as goal
 
 pub overflow_mul-i : goal.overflow_mul-i

@@ -1,6 +1,5 @@
 -- A fault of the lines that were decoded is one of the text.
-use Rattle.bolt_load.proofs.Words.{IsLoadFault}
-use Rattle.bolt_load.proofs.ReadTexts.{earlier_fault, reported}
+use Rattle.bolt_load.proofs.{Words.IsLoadFault, ReadTexts.earlier_fault, ReadTexts.reported}
 use Rattle.bolt_load.proofs.listing_text.ListingText.read.Goals as goal
 
 pub returns-in_err-lines-clause-fault : goal.returns-in_err-lines-clause-fault

@@ -1,8 +1,7 @@
 use Rattle.std.proofs.Common.{◌≡◌, [], arith, drop, sym}
-use Rattle.bolt_recover.proofs.Words.{common_steps, content_elements, drop_all, leaf_view}
+use Rattle.bolt_recover.proofs.{Words.common_steps, Words.content_elements, Words.drop_all, Words.leaf_view, ContentLemmas.elements_within}
 use Rattle.bolt_format.proofs.ListLemmas.{drop_next}
 use Rattle.bolt_tree.proofs.CursorMoves.{none_past}
-use Rattle.bolt_recover.proofs.ContentLemmas.{elements_within}
 use Rattle.bolt_recover.proofs.content.Elements.next.Goals as goal
 
 pub returns-then-self-count-clause-given : goal.returns-then-self-count-clause-given

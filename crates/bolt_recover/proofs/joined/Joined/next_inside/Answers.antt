@@ -1,7 +1,6 @@
 use Rattle.std.proofs.Common.{◌≡◌, List, [], sym, subst₂, ℕ}
 use Rattle.bolt_recover.proofs.Words.{AreJoinable, ForRecovered, joined_file, joined_left, joined_meta, joined_path, kept_file, kept_left, kept_meta, kept_path, Meta, props, ∥∥₁_elim, ∥∥₁_map}
-use Rattle.bolt_recover.proofs.Existing.{has_recovered}
-use Rattle.bolt_recover.proofs.JoinSteps.{gives_prop, none_given, of_joined, still_none}
+use Rattle.bolt_recover.proofs.{Existing.has_recovered, JoinSteps.gives_prop, JoinSteps.none_given, JoinSteps.of_joined, JoinSteps.still_none}
 use Rattle.bolt_recover.proofs.StepLemmas.{when_err}
 use Rattle.bolt_recover.proofs.joined.Joined.next_inside.Goals as goal
 

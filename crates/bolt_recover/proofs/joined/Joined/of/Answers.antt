@@ -1,8 +1,7 @@
 -- What is found is joined to what is kept of the same file.
 use Rattle.std.proofs.Common.{◌∙◌, List, subst₂, sym, ℕ}
 use Rattle.bolt_recover.proofs.Words.{AreJoinable, joined_left, joined_path, merely, Meta, props, ∥∥₁_elim}
-use Rattle.bolt_recover.proofs.JoinSteps.{begun_left, begun_path, begun_well}
-use Rattle.bolt_recover.proofs.Searched.{joinable}
+use Rattle.bolt_recover.proofs.{JoinSteps.begun_left, JoinSteps.begun_path, JoinSteps.begun_well, Searched.joinable}
 use Rattle.bolt_recover.proofs.joined.Joined.of.Goals as goal
 
 pub invariant_of-result : goal.invariant_of-result

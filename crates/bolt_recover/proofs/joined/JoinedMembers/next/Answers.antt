@@ -1,7 +1,6 @@
 -- After the bucket of what is found, the members are those that are recovered.
 use Rattle.bolt_recover.proofs.Words.{ForRecovered, GivesNext, item_view, joined_file, joined_left, joined_meta, joined_path, kept_file, kept_left, kept_meta, kept_path, option_map, props, ∥∥₁_elim}
-use Rattle.bolt_recover.proofs.FoundAll.{if_ok}
-use Rattle.bolt_recover.proofs.JoinSteps.{gives_prop, of_joined, when_fault}
+use Rattle.bolt_recover.proofs.{FoundAll.if_ok, JoinSteps.gives_prop, JoinSteps.of_joined, JoinSteps.when_fault}
 use Rattle.bolt_recover.proofs.joined.JoinedMembers.next.Goals as goal
 
 pub returns-in-After-clause-given : goal.returns-in-After-clause-given

@@ -1,8 +1,6 @@
 -- Nothing is recovered if the root page is lost. What sound trees list is recovered.
 use Rattle.std.proofs.Common.{List, sym}
-use Rattle.bolt_recover.proofs.Words.{left_of, Member, props, walk_checked, ∥∥₁_elim}
-use Rattle.bolt_recover.proofs.SoundWalks.{same_left}
-use Rattle.bolt_recover.proofs.FoundAll.{nothing_recovered}
+use Rattle.bolt_recover.proofs.{Words.left_of, Words.Member, Words.props, Words.walk_checked, Words.∥∥₁_elim, SoundWalks.same_left, FoundAll.nothing_recovered}
 use Rattle.bolt_recover.proofs.kept.Kept.restart.Goals as goal
 
 pub returns-in-Nothing-clause-all : goal.returns-in-Nothing-clause-all

@@ -1,7 +1,5 @@
 -- Sound trees lose nothing. The others are searched.
-use Rattle.bolt_recover.proofs.Words.{all_lost, merely, sound_reports_nothing}
-use Rattle.bolt_recover.proofs.FoundAll.{if_ok}
-use Rattle.bolt_recover.proofs.SoundWalks.{sound_searched}
+use Rattle.bolt_recover.proofs.{Words.all_lost, Words.merely, Words.sound_reports_nothing, FoundAll.if_ok, SoundWalks.sound_searched}
 use Rattle.bolt_recover.proofs.lost_and_found.LostAndFound.under.Goals as goal
 
 pub invariant_of-result-clause-bytes : goal.invariant_of-result-clause-bytes

@@ -1,5 +1,4 @@
-use Rattle.bolt_recover.proofs.Words.{leaf_view, state_of}
-use Rattle.bolt_recover.proofs.StepLemmas.{ends_from, gives_from, goes_from, when_err}
+use Rattle.bolt_recover.proofs.{Words.leaf_view, Words.state_of, StepLemmas.ends_from, StepLemmas.gives_from, StepLemmas.goes_from, StepLemmas.when_err}
 use Rattle.bolt_recover.proofs.steps.Steps.advance.Goals as goal
 
 pub returns-in-Leaf-clause-given : goal.returns-in-Leaf-clause-given

@@ -1,6 +1,5 @@
 use Rattle.std.proofs.Common.{◌∙◌}
-use Rattle.bolt_tree.proofs.Words.{bucket_checked, bucket_start, leaf_view, start_at, ∥∥₁_map}
-use Rattle.bolt_tree.proofs.Looking.{begins_inside, same_kind}
+use Rattle.bolt_tree.proofs.{Words.bucket_checked, Words.bucket_start, Words.leaf_view, Words.start_at, Words.∥∥₁_map, Looking.begins_inside, Looking.same_kind}
 use Rattle.bolt_tree.proofs.bucket.Bucket.bucket.Goals as goal
 
 pub returns-then-not-leaf-clause-bucket : goal.returns-then-not-leaf-clause-bucket

@@ -1,6 +1,5 @@
 use Rattle.std.proofs.Common.{◌∙◌, refl}
-use Rattle.bolt_tree.proofs.Words.{bucket_checked, bucket_start, leaf_view, start_at, ∥∥₁_map}
-use Rattle.bolt_tree.proofs.Looking.{same_kind}
+use Rattle.bolt_tree.proofs.{Words.bucket_checked, Words.bucket_start, Words.leaf_view, Words.start_at, Words.∥∥₁_map, Looking.same_kind}
 use Rattle.bolt_tree.proofs.bucket.Bucket.get.Goals as goal
 
 pub returns-then-leaf : goal.returns-then-leaf

@@ -1,5 +1,4 @@
-use Rattle.bolt_tree.proofs.Words.{cursor_checked, cursor_place, cursor_start, last_move}
-use Rattle.bolt_tree.proofs.HeldLemmas.{moves_last, shows_by}
+use Rattle.bolt_tree.proofs.{Words.cursor_checked, Words.cursor_place, Words.cursor_start, Words.last_move, HeldLemmas.moves_last, HeldLemmas.shows_by}
 use Rattle.bolt_tree.proofs.cursor.Cursor.last.Goals as goal
 
 pub returns-clause-moves : goal.returns-clause-moves

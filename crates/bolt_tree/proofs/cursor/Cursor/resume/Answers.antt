@@ -1,6 +1,5 @@
 use Rattle.std.proofs.Common.{refl}
-use Rattle.bolt_tree.proofs.Words.{cursor_checked}
-use Rattle.bolt_tree.proofs.KeptLemmas.{file_of, resumed}
+use Rattle.bolt_tree.proofs.{Words.cursor_checked, KeptLemmas.file_of, KeptLemmas.resumed}
 use Rattle.bolt_tree.proofs.cursor.Cursor.resume.Goals as goal
 
 pub invariant_of-self : goal.invariant_of-self

@@ -1,7 +1,6 @@
 use Rattle.std.proofs.Common.{◌∙◌, not, sym, ap}
-use Rattle.bolt_tree.proofs.Words.{cursor_checked, cursor_place, cursor_start}
 use Rattle.std.proofs.Math.Bool.{not-not}
-use Rattle.bolt_tree.proofs.HeldLemmas.{moves_seek}
+use Rattle.bolt_tree.proofs.{Words.cursor_checked, Words.cursor_place, Words.cursor_start, HeldLemmas.moves_seek}
 use Rattle.bolt_tree.proofs.cursor.Cursor.seek_element.Goals as goal
 
 pub returns-clause-moves : goal.returns-clause-moves

@@ -1,7 +1,6 @@
 use Rattle.std.proofs.Common.{◌≡◌, ◌∙◌, List, [], ◌∷◌, MatchOption, refl, sym, ap, subst}
 use Rattle.bolt_tree.proofs.Words.{IsNamed, Leaf, Member, Path, beyond, cursors_of, item_of, leaf_view, left_by, open_path, path_of, rest_after, root_start, start_of}
-use Rattle.bolt_tree.proofs.Climbing.{listed_in}
-use Rattle.bolt_tree.proofs.Entering.{itself, lies_in, named_by, root_inside}
+use Rattle.bolt_tree.proofs.{Climbing.listed_in, Entering.itself, Entering.lies_in, Entering.named_by, Entering.root_inside}
 use Rattle.bolt_tree.proofs.open_buckets.OpenBuckets.advance.Goals as goal
 use Rattle.bolt_tree.proofs.open_buckets.OpenBuckets.advance.Goals.{in-Begin, in-Enter}
 

@@ -1,5 +1,4 @@
-use Rattle.bolt_tree.proofs.Words.{cursors_of, leaf_view, path_of}
-use Rattle.bolt_tree.proofs.Entering.{leads_inside, past_value}
+use Rattle.bolt_tree.proofs.{Words.cursors_of, Words.leaf_view, Words.path_of, Entering.leads_inside, Entering.past_value}
 use Rattle.bolt_tree.proofs.open_buckets.OpenBuckets.after.Goals as goal
 
 pub returns-then-leaf-clause-ahead : goal.returns-then-leaf-clause-ahead

@@ -1,8 +1,7 @@
 use Rattle.std.proofs.Common.{◌∙◌, ap, arith, refl, sym, vec_len}
 use Rattle.bolt_tree.proofs.Words.{cursors_of, leaf_view, path_of}
 use Rattle.bolt_tree.proofs.Climbing.{all_closed, ends, gives, leads_on, listed_in, none_beyond, opens, popped, popped_len, stays}
-use Rattle.bolt_tree.proofs.Entering.{leads_in, placed_in}
-use Rattle.bolt_tree.proofs.OpenSteps.{path_push}
+use Rattle.bolt_tree.proofs.{Entering.leads_in, Entering.placed_in, OpenSteps.path_push}
 use Rattle.bolt_tree.proofs.open_buckets.OpenBuckets.climb.Goals as goal
 
 pub push_reserved-requires : goal.push_reserved-requires

@@ -1,6 +1,5 @@
 use Rattle.std.proofs.Common.{ap, refl}
-use Rattle.bolt_tree.proofs.Words.{cursors_of, fresh_view, leaf_view, path_of, props, ∥∥₁_elim}
-use Rattle.bolt_tree.proofs.CursorMoves.{by_first}
+use Rattle.bolt_tree.proofs.{Words.cursors_of, Words.fresh_view, Words.leaf_view, Words.path_of, Words.props, Words.∥∥₁_elim, CursorMoves.by_first}
 use Rattle.bolt_tree.proofs.Entering.{first_gives, first_none, leads_by, leads_in, made, opens_by, placed_in}
 use Rattle.bolt_tree.proofs.OpenSteps.{path_put}
 use Rattle.bolt_tree.proofs.open_buckets.OpenBuckets.enter.Goals as goal

@@ -1,7 +1,5 @@
 use Rattle.std.proofs.Common.{◌∙◌, sym}
-use Rattle.bolt_tree.proofs.Words.{cursors_of, leaf_view, path_of}
-use Rattle.bolt_tree.proofs.Climbing.{listed_in}
-use Rattle.bolt_tree.proofs.Entering.{itself}
+use Rattle.bolt_tree.proofs.{Words.cursors_of, Words.leaf_view, Words.path_of, Climbing.listed_in, Entering.itself}
 use Rattle.bolt_tree.proofs.open_buckets.OpenBuckets.next_step.Goals as goal
 
 pub returns-in-Some-clause-left : goal.returns-in-Some-clause-left

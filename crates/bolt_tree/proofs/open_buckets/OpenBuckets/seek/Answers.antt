@@ -1,6 +1,5 @@
 use Rattle.std.proofs.Common.{◌∙◌, ◌++◌, ◌∷◌, [], List, Bor, ℕ, suc, drop, take, length, get_or, refl, ap}
-use Rattle.bolt_tree.proofs.Words.{Path, cursors_of, open_path, path_of, rest_from, take-nil}
-use Rattle.bolt_tree.proofs.Climbing.{listed_in}
+use Rattle.bolt_tree.proofs.{Words.Path, Words.cursors_of, Words.open_path, Words.path_of, Words.rest_from, Words.take-nil, Climbing.listed_in}
 use Rattle.bolt_tree.proofs.Seeking.{ends_at, from_start, none_left, parts_whole}
 use Rattle.bolt_tree.proofs.open_buckets.OpenBuckets.seek.Goals as goal
 

@@ -2,8 +2,7 @@ use Rattle.std.proofs.Common.{◌∙◌, inl, inr, ◌++◌, ◌∷◌, [], refl
 use Rattle.bolt_tree.proofs.Words.{Key, Path, beyond, cursors_of, fresh_view, is_lt, leaf_view, path_of, props, start_of, ∥∥₁_elim}
 use Rattle.bolt_tree.proofs.Climbing.{listed_in}
 use Rattle.bolt_tree.proofs.Coming.{beyond_there, from_none, inside_there, leads_there, placed_there, rest_there, same_there}
-use Rattle.bolt_tree.proofs.Entering.{lies_in, made, named_by, placed_in}
-use Rattle.bolt_tree.proofs.OpenSteps.{path_put}
+use Rattle.bolt_tree.proofs.{Entering.lies_in, Entering.made, Entering.named_by, Entering.placed_in, OpenSteps.path_put}
 use Rattle.bolt_tree.proofs.open_buckets.OpenBuckets.seek_part.Goals as goal
 use Rattle.bolt_tree.proofs.open_buckets.OpenBuckets.seek_part.Goals.{then-is_lt-via-then-is_lt, then-is_lt-via-else-is_lt+then-is_last}
 

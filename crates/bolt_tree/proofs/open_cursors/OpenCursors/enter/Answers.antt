@@ -1,6 +1,5 @@
 use Rattle.std.proofs.Common.{Option, subst}
-use Rattle.bolt_tree.proofs.Words.{Keeps, Leaf, cursors_of, leaf_view, next_move, option_map}
-use Rattle.bolt_tree.proofs.OpenSteps.{enters, opens}
+use Rattle.bolt_tree.proofs.{Words.Keeps, Words.Leaf, Words.cursors_of, Words.leaf_view, Words.next_move, Words.option_map, OpenSteps.enters, OpenSteps.opens}
 use Rattle.bolt_tree.proofs.open_cursors.OpenCursors.enter.Goals as goal
 
 pub returns-clause-opens : goal.returns-clause-opens

@@ -1,6 +1,5 @@
 use Rattle.std.proofs.Common.{Option, subst}
-use Rattle.bolt_tree.proofs.Words.{Keeps, Leaf, cursors_of, leaf_view, option_map, seek_move}
-use Rattle.bolt_tree.proofs.OpenSteps.{opens}
+use Rattle.bolt_tree.proofs.{Words.Keeps, Words.Leaf, Words.cursors_of, Words.leaf_view, Words.option_map, Words.seek_move, OpenSteps.opens}
 use Rattle.bolt_tree.proofs.open_cursors.OpenCursors.seek.Goals as goal
 
 pub returns-clause-opens : goal.returns-clause-opens

@@ -1,8 +1,7 @@
 -- The entries ahead stay the same until one is taken, and each page that is opened is the next to the right.
 use Rattle.std.proofs.Common.{◌≡◌, ◌∙◌, ◌<◌, ◌+◌, ◌-◌, ◌*◌, ℕ, false, length, sym, ap, arith, refl}
 use Rattle.bolt_tree.proofs.Words.{ahead, contents_in, counted, frame_of, frames_of, leaf_view, opened_content, pager_opened, right, trail_bucket, trail_frames}
-use Rattle.bolt_tree.proofs.PagerLemmas.{counted_more, counted_zero}
-use Rattle.bolt_tree.proofs.StackLemmas.{popped, retaken}
+use Rattle.bolt_tree.proofs.{PagerLemmas.counted_more, PagerLemmas.counted_zero, StackLemmas.popped, StackLemmas.retaken}
 use Rattle.bolt_tree.proofs.TrailLemmas.{entered_length, exhausted, frames_pop, length-frames, popped_stack, same_bucket, step_none, step_some}
 use Rattle.bolt_tree.proofs.trail.Trail.advance.Goals as goal
 

@@ -1,5 +1,4 @@
-use Rattle.bolt_tree.proofs.Words.{opened_content, trail_bucket, trail_frames}
-use Rattle.bolt_tree.proofs.StackLemmas.{root_stack}
+use Rattle.bolt_tree.proofs.{Words.opened_content, Words.trail_bucket, Words.trail_frames, StackLemmas.root_stack}
 use Rattle.bolt_tree.proofs.TrailLemmas.{moved_stack, same_bucket}
 use Rattle.bolt_tree.proofs.trail.Trail.begin.Goals as goal
 

@@ -1,9 +1,7 @@
 use Rattle.std.proofs.Common.{◌≡◌, ◌∷◌, ◌∙◌, ◌+◌, ◌-◌, suc, ℕ, length, List, sym, ap, arith, refl, subst}
 use Rattle.bolt_tree.proofs.Words.{BucketView, Frame, HasStack, IsNearTop, IsOnWayDown, IsSought, Of_branch, ahead_of, contents_in, counted, elements_in, opened_content, pager_opened, shown, trail_bucket, trail_frames}
 use Rattle.bolt_tree.proofs.NearLemmas.{begins, branch_filled, landed, moved_between, moved_way, shows_leaf, stack_rises, way_begins, way_down}
-use Rattle.bolt_tree.proofs.PagerLemmas.{counted_more, counted_zero}
-use Rattle.bolt_tree.proofs.StackLemmas.{root_stack, branch_room}
-use Rattle.bolt_tree.proofs.SeekLemmas.{between_down}
+use Rattle.bolt_tree.proofs.{PagerLemmas.counted_more, PagerLemmas.counted_zero, StackLemmas.root_stack, StackLemmas.branch_room, SeekLemmas.between_down}
 use Rattle.bolt_tree.proofs.TrailLemmas.{same_bucket}
 use Rattle.bolt_tree.proofs.trail.Trail.descend.Goals as goal
 

@@ -1,8 +1,6 @@
 use Rattle.std.proofs.Common.{◌≡◌, [], ◌∙◌, ◌+◌, ◌-◌, suc, ℕ, length, sym, ap, arith}
 use Rattle.bolt_tree.proofs.Words.{ahead, counted, elements_in, pager_opened, pages_in, right, trail_bucket, trail_frames}
-use Rattle.bolt_tree.proofs.MoveLemmas.{found_over}
-use Rattle.bolt_tree.proofs.PagerLemmas.{counted_more}
-use Rattle.bolt_tree.proofs.StackLemmas.{root_ahead, root_right}
+use Rattle.bolt_tree.proofs.{MoveLemmas.found_over, PagerLemmas.counted_more, StackLemmas.root_ahead, StackLemmas.root_right}
 use Rattle.bolt_tree.proofs.trail.Trail.first.Goals as goal
 
 all_ahead : (c : goal.After-advance) → elements_in (trail_bucket c.args.self.now) ≡ ahead c.begin.new.self

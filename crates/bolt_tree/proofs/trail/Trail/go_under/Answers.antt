@@ -1,7 +1,6 @@
 use Rattle.std.proofs.Common.{◌≡◌, ◌∷◌, ◌∙◌, ◌+◌, refl, sym, arith}
 use Rattle.bolt_tree.proofs.Words.{HasStack, Of_branch, branch_view, bytes_of, contents_in, meta_of, opened_content, pager_checked, shown, trail_bucket, trail_frames}
-use Rattle.bolt_tree.proofs.StackLemmas.{child_pushed, child_way, retaken}
-use Rattle.bolt_tree.proofs.TrailLemmas.{moved_stack, way_kind}
+use Rattle.bolt_tree.proofs.{StackLemmas.child_pushed, StackLemmas.child_way, StackLemmas.retaken, TrailLemmas.moved_stack, TrailLemmas.way_kind}
 use Rattle.bolt_tree.proofs.WayPages.{content_shown}
 use Rattle.bolt_tree.proofs.trail.Trail.go_under.Goals as goal
 

@@ -1,7 +1,5 @@
 use Rattle.std.proofs.Common.{◌≡◌, []}
-use Rattle.bolt_tree.proofs.Words.{elements_in, preceding, trail_bucket, trail_frames}
-use Rattle.bolt_tree.proofs.BackLemmas.{root_preceding}
-use Rattle.bolt_tree.proofs.MoveLemmas.{back_over}
+use Rattle.bolt_tree.proofs.{Words.elements_in, Words.preceding, Words.trail_bucket, Words.trail_frames, BackLemmas.root_preceding, MoveLemmas.back_over}
 use Rattle.bolt_tree.proofs.trail.Trail.last.Goals as goal
 
 all_preceding : (c : goal.After-retreat) → elements_in (trail_bucket c.args.self.now) ≡ preceding c.begin.new.self

@@ -1,8 +1,6 @@
 use Rattle.std.proofs.Common.{◌≡◌, ◌∙◌, ◌-◌, length, sym, ap, arith}
-use Rattle.bolt_tree.proofs.Words.{contents_in, counted, pager_opened, right, trail_bucket, trail_frames}
-use Rattle.bolt_tree.proofs.MoveLemmas.{alone}
-use Rattle.bolt_tree.proofs.PagerLemmas.{counted_zero}
-use Rattle.bolt_tree.proofs.TrailLemmas.{length-frames}
+use Rattle.bolt_tree.proofs.{Words.contents_in, Words.counted, Words.pager_opened, Words.right, Words.trail_bucket, Words.trail_frames, MoveLemmas.alone}
+use Rattle.bolt_tree.proofs.{PagerLemmas.counted_zero, TrailLemmas.length-frames}
 use Rattle.bolt_tree.proofs.trail.Trail.next.Goals as goal
 
 pub returns-in-Some-clause-opened : goal.returns-in-Some-clause-opened

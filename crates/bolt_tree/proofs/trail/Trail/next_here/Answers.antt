@@ -1,8 +1,7 @@
 -- It rests on a leaf, so what is taken is an element of that leaf.
 use Rattle.std.proofs.Common.{◌+◌, List, Some, take, refl, sym, subst, arith}
 use Rattle.bolt_tree.proofs.Words.{Frame, HasStack, contents_in, frame_of, frames_of, leaf_view, opened_content, trail_bucket, trail_frames}
-use Rattle.bolt_tree.proofs.MoveLemmas.{next_in_leaf, rest_on_top, is, taken_entry, was}
-use Rattle.bolt_tree.proofs.StackLemmas.{retaken}
+use Rattle.bolt_tree.proofs.{MoveLemmas.next_in_leaf, MoveLemmas.rest_on_top, MoveLemmas.is, MoveLemmas.taken_entry, MoveLemmas.was, StackLemmas.retaken}
 use Rattle.bolt_tree.proofs.trail.Trail.next_here.Goals as goal
 
 pub returns-clause-stack : goal.returns-clause-stack

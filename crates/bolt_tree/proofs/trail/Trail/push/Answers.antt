@@ -1,6 +1,5 @@
 use Rattle.std.proofs.Common.{◌≡◌, ◌∷◌, ◌∙◌, ap, subst, sym}
-use Rattle.bolt_tree.proofs.Words.{HasStack, frames_of, opened_content, trail_bucket, trail_frames}
-use Rattle.bolt_tree.proofs.TrailLemmas.{frames_push}
+use Rattle.bolt_tree.proofs.{Words.HasStack, Words.frames_of, Words.opened_content, Words.trail_bucket, Words.trail_frames, TrailLemmas.frames_push}
 use Rattle.bolt_tree.proofs.trail.Trail.push.Goals as goal
 
 pushed : (c : goal.After-push) → frames_of c.push.new.self.items ≡ record { content = opened_content c.args.page; taken = c.args.taken } ∷ trail_frames c.args.self.now

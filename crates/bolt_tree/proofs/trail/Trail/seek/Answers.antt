@@ -1,9 +1,7 @@
 -- What the way down and then the move forward say, all of the bucket as it was.
 use Rattle.std.proofs.Common.{◌≡◌, [], ◌∙◌, ◌+◌, ◌-◌, ℕ, length, drop, sym, ap, arith, subst}
 use Rattle.bolt_tree.proofs.Words.{BucketView, Finds, HasStack, IsNearTop, IsSought, ahead, ahead_of, contents_in, counted, elements_in, least_from, pager_opened, right, right_of, trail_bucket, trail_frames}
-use Rattle.bolt_tree.proofs.MoveLemmas.{found_over}
-use Rattle.bolt_tree.proofs.PagerLemmas.{counted_more}
-use Rattle.bolt_tree.proofs.OpeningMoves.{leaf_nonempty, seek_bounds, seek_opens}
+use Rattle.bolt_tree.proofs.{MoveLemmas.found_over, PagerLemmas.counted_more, OpeningMoves.leaf_nonempty, OpeningMoves.seek_bounds, OpeningMoves.seek_opens}
 use Rattle.bolt_tree.proofs.TrailLemmas.{same_bucket}
 use Rattle.bolt_tree.proofs.trail.Trail.seek.Goals as goal
 

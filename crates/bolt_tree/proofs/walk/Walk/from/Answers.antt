@@ -1,7 +1,5 @@
-use Rattle.bolt_tree.proofs.Words.{∥∥₁_elim, ∥∥₁_prop}
+use Rattle.bolt_tree.proofs.{Words.∥∥₁_elim, Words.∥∥₁_prop, Climbing.listed_in, Walking.begins}
 use Rattle.bolt_tree.specs.Walks.{left_of}
-use Rattle.bolt_tree.proofs.Climbing.{listed_in}
-use Rattle.bolt_tree.proofs.Walking.{begins}
 use Rattle.bolt_tree.proofs.walk.Walk.from.Goals as goal
 
 pub seek-requires-clause-placed : goal.seek-requires-clause-placed

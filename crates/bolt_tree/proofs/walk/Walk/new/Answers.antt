@@ -1,7 +1,6 @@
 use Rattle.std.proofs.Common.{ap}
-use Rattle.bolt_tree.proofs.Words.{path_of}
+use Rattle.bolt_tree.proofs.{Words.path_of, Walking.all_ahead, Walking.begins}
 use Rattle.bolt_tree.specs.Walks.{left_of}
-use Rattle.bolt_tree.proofs.Walking.{all_ahead, begins}
 use Rattle.bolt_tree.proofs.walk.Walk.new.Goals as goal
 
 pub returns-clause-all : goal.returns-clause-all

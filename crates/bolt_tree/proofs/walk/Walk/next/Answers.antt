@@ -1,8 +1,7 @@
 use Rattle.std.proofs.Common.{◌∙◌, List, ◌∷◌, sym, ap}
 use Rattle.bolt_tree.proofs.Words.{Item, Member, Path, item_view, open_path, reported_path, rest_after, walk_checked, walk_path, ∥∥₁_elim, ∥∥₁_map, ∥∥₁_prop}
+use Rattle.bolt_tree.proofs.{Climbing.listed_in, Climbing.none_beyond, Walking.ahead_in, Walking.ahead_prop}
 use Rattle.bolt_tree.specs.Walks.{left_of}
-use Rattle.bolt_tree.proofs.Climbing.{listed_in, none_beyond}
-use Rattle.bolt_tree.proofs.Walking.{ahead_in, ahead_prop}
 use Rattle.bolt_tree.proofs.walk.Walk.next.Goals as goal
 
 pub advance-requires-clause-placed : goal.advance-requires-clause-placed
