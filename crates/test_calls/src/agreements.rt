@@ -1,133 +1,45 @@
 //! What commands say of one file, compared with each other.
 
 use crate::fault::Fault;
-use crate::runs::Ran;
+use crate::jobs::{Jobs, check_job, copy_job, list_job};
+use crate::runs::{Ran, first_line};
 use crate::sweeps::toggle;
 use bolt_check::check_slot;
-use bolt_cli::{
-    BucketsJob, CheckJob, CompactJob, CopyKind, Extent, Job, ListJob, MetaChoice, PageJob,
-    PagesJob, StatsJob,
-};
+use bolt_cli::{CopyKind, Extent, Job};
 use bolt_format::choose;
-use bolt_report::{FigureForm, Form, ListForm};
+use bolt_report::ListForm;
 use std::alloc::{AllocError, Global};
-
-/// The name of a file that is handed over as bytes.
-fn unnamed(alloc: Global) -> String {
-    String::new(alloc)
-}
-
-fn check_job(alloc: Global, extent: Extent) -> Job {
-    Job::Check(CheckJob {
-        file: unnamed(alloc),
-        meta: MetaChoice::Active,
-        extent,
-        snapshot: false,
-    })
-}
-
-fn list_job(alloc: Global, form: ListForm, extent: Extent) -> Job {
-    Job::List(ListJob {
-        file: unnamed(alloc),
-        meta: MetaChoice::Active,
-        form,
-        path: Vec::new(alloc),
-        from: Vec::new(alloc),
-        extent,
-    })
-}
-
-fn copy_job(alloc: Global, kind: CopyKind, extent: Extent) -> Job {
-    Job::Compact(CompactJob {
-        file: unnamed(alloc),
-        meta: MetaChoice::Active,
-        target: unnamed(alloc),
-        page_size: None,
-        kind,
-        extent,
-    })
-}
-
-/// Commands as jobs.
-#[derive(Drop)]
-struct Jobs {
-    check: Job,
-    list: Job,
-    copy: Job,
-    check_all: Job,
-    list_recovered: Job,
-    copy_recovered: Job,
-    list_joined: Job,
-    copy_joined: Job,
-    /// Other commands that check the file first.
-    readers: Vec<Job>,
-    /// `page` of each page, and of the one after the last.
-    pages: Vec<Job>,
-}
-
-impl Jobs {
-    fn new(alloc: Global) -> Result<Jobs, AllocError> {
-        let mut pages = Vec::new(alloc);
-        for id in 0..5 {
-            pages.push(Job::Page(PageJob {
-                file: unnamed(alloc),
-                meta: MetaChoice::Active,
-                id,
-            }))?;
-        }
-        Ok(Jobs {
-            check: check_job(alloc, Extent::First),
-            list: list_job(alloc, ListForm::Hex, Extent::First),
-            copy: copy_job(alloc, CopyKind::Plain, Extent::First),
-            check_all: check_job(alloc, Extent::Losses),
-            list_recovered: list_job(alloc, ListForm::Hex, Extent::Losses),
-            copy_recovered: copy_job(alloc, CopyKind::ForBbolt, Extent::Losses),
-            list_joined: list_job(alloc, ListForm::Hex, Extent::LostAndFound),
-            copy_joined: copy_job(alloc, CopyKind::Plain, Extent::LostAndFound),
-            readers: readers(alloc)?,
-            pages,
-        })
-    }
-}
-
-/// The commands that read a sound file and print it, but for `list`.
-fn readers(alloc: Global) -> Result<Vec<Job>, AllocError> {
-    let mut jobs = Vec::new(alloc);
-    jobs.push(Job::Pages(PagesJob {
-        file: unnamed(alloc),
-        map: false,
-    }))?;
-    for sizes in [false, true] {
-        jobs.push(Job::Buckets(BucketsJob {
-            file: unnamed(alloc),
-            meta: MetaChoice::Active,
-            path: Vec::new(alloc),
-            form: Form::Printable,
-            sizes,
-        }))?;
-    }
-    jobs.push(Job::Stats(StatsJob {
-        file: unnamed(alloc),
-        meta: MetaChoice::Active,
-        form: FigureForm::Lines,
-        path: Vec::new(alloc),
-    }))?;
-    jobs.push(list_job(alloc, ListForm::Json, Extent::First))?;
-    Ok(jobs)
-}
 
 /// What `check --all` says of the pages: its text without the line of a damaged meta, and the number
 /// of such lines, which is counted among the errors.
-fn said_of_pages(all: &Ran) -> (&str, usize) {
-    match all.text().split_once('\n') {
-        Some((first, rest)) if first.starts_with("meta ") => (rest, 1),
-        _ => (all.text(), 0),
+fn said_of_pages(all: &Ran) -> (&[u8], usize) {
+    let text = all.out.bytes();
+    if !text.starts_with(b"meta ") {
+        return (text, 0);
     }
+    let after = first_line(text).len().saturating_add(1);
+    (text.get(after..).unwrap_or(b""), 1)
 }
 
-/// Whether a line of a listing is that of `lost+found`, or of what is below it.
-fn is_found(line: &str) -> bool {
-    line.starts_with("6c6f73742b666f756e64")
+/// How many lines a text has, each of which ends with a line feed.
+fn count_lines(text: &[u8]) -> usize {
+    let mut lines = 0_usize;
+    for byte in text {
+        lines = lines.saturating_add(usize::from(*byte == b'\n'));
+    }
+    lines
+}
+
+/// The lines of a listing without those of `lost+found` and of what is below it.
+fn without_found(alloc: Global, listing: &[u8]) -> Result<Vec<u8>, AllocError> {
+    let mut own = Vec::new(alloc);
+    for line in listing.split(|byte| *byte == b'\n') {
+        if !line.is_empty() && !line.starts_with(b"6c6f73742b666f756e64") {
+            own.extend_from_slice(line)?;
+            own.push(b'\n')?;
+        }
+    }
+    Ok(own)
 }
 
 /// A file, and where it was changed.
@@ -154,7 +66,7 @@ impl Place<'_> {
 
     /// Everything that is said of the file.
     fn compare(&self) -> Result<(), Fault> {
-        let check = self.run(&self.jobs.check);
+        let check = self.run(&check_job(self.alloc, Extent::First));
         self.compare_pages(check.err.bytes())?;
         if check.is(0, b"OK\n", b"") {
             self.compare_sound()?;
@@ -189,9 +101,9 @@ impl Place<'_> {
                 "a reader of a sound file",
             )?;
         }
-        let list = self.run(&self.jobs.list);
+        let list = self.run(&list_job(self.alloc, ListForm::Hex, Extent::First));
         self.require(list.is(0, list.out.bytes(), b""), "list of a sound file")?;
-        let copy = self.run(&self.jobs.copy);
+        let copy = self.run(&copy_job(self.alloc, CopyKind::Plain, Extent::First));
         let (before, after) = (self.file.len(), copy.target.bytes().len());
         let line = format!(in self.alloc; "{before} -> {after} bytes\n")?;
         self.require(copy.is(0, line.as_bytes(), b""), "compact of a sound file")?;
@@ -200,24 +112,29 @@ impl Place<'_> {
 
     /// The copy is sound and has this listing.
     fn compare_copy(&self, copy: &[u8], listing: &[u8]) -> Result<(), Fault> {
-        let check = Ran::on(self.alloc, &self.jobs.check, copy);
+        let check = Ran::on(self.alloc, &check_job(self.alloc, Extent::First), copy);
         self.require(check.is(0, b"OK\n", b""), "check of a copy")?;
-        let list = Ran::on(self.alloc, &self.jobs.list, copy);
+        let list = Ran::on(
+            self.alloc,
+            &list_job(self.alloc, ListForm::Hex, Extent::First),
+            copy,
+        );
         self.require(list.is(0, listing, b""), "list of a copy")
     }
 
     /// Each command refuses the file with the first finding of `check`, or with its fault.
     fn compare_refused(&self, check: &Ran) -> Result<(), Fault> {
-        let found = check.text();
-        let first = found.lines().next().unwrap_or("");
-        let line = format!(in self.alloc; "error: file refused: {first}\n")?;
-        let is_found = first.starts_with("page") && found.ends_with(" errors found\n");
+        let found = check.out.bytes();
+        let is_found = found.starts_with(b"page") && found.ends_with(b" errors found\n");
         let has_fault = !check.err.bytes().is_empty();
         self.require(check.code == 1 && is_found != has_fault, "check of a file")?;
+        let mut line = b"error: file refused: ".to_vec(self.alloc)?;
+        line.extend_from_slice(first_line(found))?;
+        line.push(b'\n')?;
         let error = if has_fault {
             check.err.bytes()
         } else {
-            line.as_bytes()
+            line.as_slice()
         };
         for job in &self.jobs.readers {
             self.require(
@@ -226,10 +143,11 @@ impl Place<'_> {
             )?;
         }
         self.require(
-            self.run(&self.jobs.list).is(1, b"", error),
+            self.run(&list_job(self.alloc, ListForm::Hex, Extent::First))
+                .is(1, b"", error),
             "list of a refused file",
         )?;
-        let copy = self.run(&self.jobs.copy);
+        let copy = self.run(&copy_job(self.alloc, CopyKind::Plain, Extent::First));
         let is_refused = copy.is(1, b"", error) && copy.target.bytes().is_empty();
         self.require(is_refused, "compact of a refused file")
     }
@@ -245,13 +163,13 @@ impl Place<'_> {
     /// Nothing is recovered, or something: then there are losses exactly if the trees aren't sound, and
     /// the copy is sound and lists what is recovered.
     fn compare_recovered(&self, check: &Ran) -> Result<(), Fault> {
-        let copy = self.run(&self.jobs.copy_recovered);
-        let list = self.run(&self.jobs.list_recovered);
-        let all = self.run(&self.jobs.check_all);
+        let copy = self.run(&copy_job(self.alloc, CopyKind::ForBbolt, Extent::Losses));
+        let list = self.run(&list_job(self.alloc, ListForm::Hex, Extent::Losses));
+        let all = self.run(&check_job(self.alloc, Extent::Losses));
         if !copy.err.bytes().is_empty() {
             return self.compare_unrecovered(check, [&copy, &list, &all]);
         }
-        let lost = copy.text().lines().count().saturating_sub(1);
+        let lost = count_lines(copy.out.bytes()).saturating_sub(1);
         self.require(
             (lost == 0) == self.has_sound_trees(),
             "the number of losses",
@@ -270,16 +188,16 @@ impl Place<'_> {
     /// The copy of what is recovered and found is sound and lists what `list` prints, which without the
     /// bucket of what is found is what is recovered. Or both commands refuse the file alike.
     fn compare_joined(&self) -> Result<(), Fault> {
-        let copy = self.run(&self.jobs.copy_joined);
-        let list = self.run(&self.jobs.list_joined);
+        let copy = self.run(&copy_job(self.alloc, CopyKind::Plain, Extent::LostAndFound));
+        let list = self.run(&list_job(self.alloc, ListForm::Hex, Extent::LostAndFound));
         if copy.target.bytes().is_empty() {
             let is_alike = list.is(1, b"", copy.err.bytes()) && copy.code == 1;
             return self.require(is_alike, "a file with nothing found");
         }
         self.compare_copy(copy.target.bytes(), list.out.bytes())?;
-        let recovered = self.run(&self.jobs.list_recovered);
-        let own = list.text().lines().filter(|line| !is_found(line));
-        self.require(own.eq(recovered.text().lines()), "what is recovered")
+        let recovered = self.run(&list_job(self.alloc, ListForm::Hex, Extent::Losses));
+        let own = without_found(self.alloc, list.out.bytes())?;
+        self.require(own.as_slice() == recovered.out.bytes(), "what is recovered")
     }
 
     /// The three commands refuse the file alike.
@@ -293,7 +211,7 @@ impl Place<'_> {
         let (text, others) = said_of_pages(all);
         let errors = others.saturating_add(1);
         let end = format!(in self.alloc; "; lost: everything\n{errors} errors found\n")?;
-        let is_lost = text.ends_with(end.as_str());
+        let is_lost = text.ends_with(end.as_bytes());
         let is_right = if check.err.bytes().is_empty() {
             is_lost
         } else {
@@ -307,16 +225,22 @@ impl Place<'_> {
         let (before, after) = (self.file.len(), copy.target.bytes().len());
         let last = format!(in self.alloc; "{before} -> {after} bytes\n")?;
         let code = u8::from(lost > 0);
-        let losses = copy.text().strip_suffix(last.as_str()).unwrap_or("none");
-        self.require(copy.code == code && losses != "none", "compact --recover")?;
+        let said = copy.out.bytes();
+        let is_copied = copy.code == code && said.ends_with(last.as_bytes());
+        self.require(is_copied, "compact --recover")?;
+        let losses = said
+            .get(..said.len().saturating_sub(last.len()))
+            .unwrap_or(b"");
         if lost == 0 {
             let is_right = losses.is_empty() && list.is(0, list.out.bytes(), b"");
             return self.require(is_right, "list --recover without losses");
         }
         let (text, others) = said_of_pages(all);
         let errors = lost.saturating_add(others);
-        let found = format!(in self.alloc; "{losses}{errors} errors found\n")?;
-        let is_found = all.code == 1 && text == found.as_str() && all.err.bytes().is_empty();
+        let end = format!(in self.alloc; "{errors} errors found\n")?;
+        let mut found = losses.to_vec(self.alloc)?;
+        found.extend_from_slice(end.as_bytes())?;
+        let is_found = all.code == 1 && text == found.as_slice() && all.err.bytes().is_empty();
         self.require(is_found, "check --all with losses")?;
         let error = format!(in self.alloc; "error: pages lost: {lost}\n")?;
         self.require(

@@ -20,7 +20,7 @@ fn shape_of(words: &[String]) -> Result<(Layout, PageSize), Fault> {
         "balanced" => Layout::Balanced,
         _ => return Err(Fault::Unread),
     };
-    let size = PageSize::new(number(page_size.as_str())?).ok_or(Fault::Unread)?;
+    let size = PageSize::new(number(page_size.as_bytes())?).ok_or(Fault::Unread)?;
     Ok((layout, size))
 }
 

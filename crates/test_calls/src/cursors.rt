@@ -19,9 +19,9 @@ fn make_call<'a>(
         "last" => Ok(cursor.last()),
         "next" => Ok(cursor.next()),
         "prev" => Ok(cursor.prev()),
-        _ => match call.split_once('=') {
-            Some(("seek", key)) => Ok(cursor.seek(bytes_of(alloc, key)?.as_slice())),
-            _ => Err(Fault::Unread),
+        _ => match call.as_bytes().strip_prefix(b"seek=") {
+            Some(key) => Ok(cursor.seek(bytes_of(alloc, key)?.as_slice())),
+            None => Err(Fault::Unread),
         },
     }
 }
@@ -50,7 +50,7 @@ pub fn run_calls(
         return Err(Fault::Unread);
     };
     let checked = check(alloc, file)?;
-    let mut cursor = bucket_at(alloc, checked, path.as_str())?.cursor();
+    let mut cursor = bucket_at(alloc, checked, path.as_bytes())?.cursor();
     let mut line = Vec::new(alloc);
     for call in calls {
         let before = cursor.compared();
@@ -103,11 +103,11 @@ pub fn run_prefixes(alloc: Global, file: &[u8], words: &[String]) -> Result<Vec<
         return Err(Fault::Unread);
     };
     let checked = check(alloc, file)?;
-    let mut cursor = bucket_at(alloc, checked, path.as_str())?.cursor();
+    let mut cursor = bucket_at(alloc, checked, path.as_bytes())?.cursor();
     let mut sink = MemSink::new(alloc);
     let mut lines = Vec::new(alloc);
     for word in prefixes {
-        let prefix = bytes_of(alloc, word.as_str())?;
+        let prefix = bytes_of(alloc, word.as_bytes())?;
         let before = cursor.opened();
         keys_with_prefix(
             alloc,

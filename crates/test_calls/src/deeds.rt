@@ -1,7 +1,7 @@
 //! A command line over an outside in memory, whose deeds go wrong from each one on.
 
 use crate::fault::Fault;
-use crate::runs::line_of;
+use crate::runs::{first_line, line_of};
 use crate::words::push_word;
 use bolt_cli::run_program;
 use std::alloc::Global;
@@ -46,8 +46,7 @@ fn push_deed(line: &mut Vec<u8>, record: &Record) -> Result<(), Fault> {
         push_word(line, format!(in alloc; "{bits:o}")?.as_bytes())?;
     }
     if record.kind == Kind::Said {
-        let said = record.bytes.as_slice().split(|byte| *byte == b'\n').next();
-        push_word(line, said.unwrap_or(b""))?;
+        push_word(line, first_line(record.bytes.as_slice()))?;
     } else if !record.bytes.is_empty() {
         let count = record.bytes.len();
         push_word(line, format!(in alloc; "{count}")?.as_bytes())?;

@@ -13,7 +13,7 @@ pub fn listed(alloc: Global, file: &[u8], words: &[String]) -> Result<Vec<u8>, F
         return Err(Fault::Unread);
     };
     let checked = check(alloc, file)?;
-    let parts = keys_of(alloc, from.as_str())?;
+    let parts = keys_of(alloc, from.as_bytes())?;
     let from = slices_of(alloc, parts.as_slice())?;
     let mut sink = MemSink::new(alloc);
     list(alloc, checked, from.as_slice(), &mut sink)?;
@@ -26,7 +26,7 @@ pub fn keys_in(alloc: Global, file: &[u8], words: &[String]) -> Result<Vec<u8>, 
         return Err(Fault::Unread);
     };
     let checked = check(alloc, file)?;
-    let bucket = bucket_at(alloc, checked, path.as_str())?;
+    let bucket = bucket_at(alloc, checked, path.as_bytes())?;
     let mut sink = MemSink::new(alloc);
     keys(alloc, &bucket, Form::Hex, &mut sink)?;
     Ok(sink.bytes().to_vec(alloc)?)

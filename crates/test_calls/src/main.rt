@@ -42,6 +42,7 @@ mod deeds;
 mod failures;
 mod fault;
 mod halting;
+mod jobs;
 mod listings;
 mod numbers;
 mod pagers;

@@ -10,7 +10,7 @@ use std::alloc::Global;
 pub fn checksums(alloc: Global, words: &[String]) -> Result<Vec<u8>, Fault> {
     let mut line = Vec::new(alloc);
     for word in words {
-        let sum = fnv1a(bytes_of(alloc, word.as_str())?.as_slice());
+        let sum = fnv1a(bytes_of(alloc, word.as_bytes())?.as_slice());
         push_word(&mut line, format!(in alloc; "{sum}")?.as_bytes())?;
     }
     Ok(line)

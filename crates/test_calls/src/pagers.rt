@@ -71,7 +71,7 @@ pub fn bucket_cursor(alloc: Global, file: &[u8], words: &[String]) -> Result<Vec
     let [word] = words else {
         return Err(Fault::Unread);
     };
-    let key = bytes_of(alloc, word.as_str())?;
+    let key = bytes_of(alloc, word.as_bytes())?;
     let checked = check(alloc, file)?;
     let mut pager = Pager::new(checked);
     ways_go_on();

@@ -25,7 +25,7 @@ fn next_of<'a>(walk: &mut Walk<'a>) -> Result<(Option<Item<'a>>, bool), Fault> {
 pub fn members_again(alloc: Global, file: &[u8], words: &[String]) -> Result<Vec<u8>, Fault> {
     let all = members(alloc, file, words)?;
     let keys = match words {
-        [path, ..] => keys_of(alloc, path.as_str())?,
+        [path, ..] => keys_of(alloc, path.as_bytes())?,
         [] => Vec::new(alloc),
     };
     let path = slices_of(alloc, keys.as_slice())?;
@@ -75,8 +75,8 @@ pub fn calls_between(alloc: Global, file: &[u8], words: &[String]) -> Result<Vec
         return Err(Fault::Unread);
     };
     let checked = check(alloc, file)?;
-    let bucket = bucket_at(alloc, checked, path.as_str())?;
-    let key = bytes_of(alloc, key.as_str())?;
+    let bucket = bucket_at(alloc, checked, path.as_bytes())?;
+    let key = bytes_of(alloc, key.as_bytes())?;
     let before = request(alloc);
     let moved = call_cursor(bucket.cursor(), key.as_slice());
     let is_held = bucket.get(key.as_slice()).is_some() || bucket.bucket(key.as_slice()).is_some();

@@ -83,9 +83,9 @@ impl Ran {
         self.is(other.code, other.out.bytes(), other.err.bytes())
             && self.target.bytes() == other.target.bytes()
     }
+}
 
-    /// What the run printed, as text.
-    pub fn text(&self) -> &str {
-        std::str::from_utf8(self.out.bytes()).unwrap_or("")
-    }
+/// The first line of a text, without its line feed.
+pub fn first_line(text: &[u8]) -> &[u8] {
+    text.split(|byte| *byte == b'\n').next().unwrap_or(b"")
 }

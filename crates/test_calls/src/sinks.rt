@@ -20,7 +20,7 @@ fn put_pieces<S: Sink>(
         let result = if word.as_str() == "." {
             sink.put(file)
         } else {
-            sink.put(bytes_of(alloc, word.as_str())?.as_slice())
+            sink.put(bytes_of(alloc, word.as_bytes())?.as_slice())
         };
         match result {
             Ok(()) if sink.failures() == 0 => push_word(&mut line, b"ok")?,
@@ -38,7 +38,7 @@ pub fn puts(alloc: Global, file: &[u8], words: &[String]) -> Result<Vec<u8>, Fau
     let [kind, count, pieces @ ..] = words else {
         return Err(Fault::Unread);
     };
-    let count = number(count.as_str())? as usize;
+    let count = number(count.as_bytes())? as usize;
     let refusal = match kind.as_str() {
         "other" => Refusal::Error(ErrorKind::Other),
         "interrupted" => Refusal::Error(ErrorKind::Interrupted),

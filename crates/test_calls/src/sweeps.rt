@@ -1,7 +1,7 @@
 //! One command on many files that are cut short or changed.
 
 use crate::fault::Fault;
-use crate::runs::{Ran, job_of};
+use crate::runs::{Ran, first_line, job_of};
 use crate::words::number;
 use bolt_cli::Job;
 use std::alloc::Global;
@@ -24,8 +24,8 @@ fn sweep_of(alloc: Global, words: &[String]) -> Result<Sweep, Fault> {
     Ok(Sweep {
         alloc,
         job: job_of(alloc, command)?,
-        first: number(first.as_str())? as usize,
-        last: number(last.as_str())? as usize,
+        first: number(first.as_bytes())? as usize,
+        last: number(last.as_bytes())? as usize,
         ran: None,
     })
 }
@@ -88,11 +88,11 @@ pub fn flips(alloc: Global, file: &[u8], words: &[String]) -> Result<Vec<u8>, Fa
     for at in sweep.first..=sweep.last {
         toggle(&mut other, at, 1);
         let ran = Ran::on(alloc, &sweep.job, other.as_slice());
-        let found = ran.text().lines().next().unwrap_or("");
+        let found = first_line(ran.out.bytes());
         if at == sweep.first {
-            line.extend_from_slice(found.as_bytes())?;
+            line.extend_from_slice(found)?;
         }
-        if ran.code != 1 || found.as_bytes() != line.as_slice() {
+        if ran.code != 1 || found != line.as_slice() {
             return Err(Fault::Wrong("another first line or status", at));
         }
         toggle(&mut other, at, 1);

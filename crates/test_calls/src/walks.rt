@@ -15,7 +15,7 @@ fn walk_from<'a>(alloc: Global, file: &'a [u8], words: &[String]) -> Result<Walk
     let [path, ..] = words else {
         return Ok(Walk::new(alloc, checked));
     };
-    let keys = keys_of(alloc, path.as_str())?;
+    let keys = keys_of(alloc, path.as_bytes())?;
     let path = slices_of(alloc, keys.as_slice())?;
     Ok(Walk::from(alloc, checked, path.as_slice())?)
 }
@@ -83,10 +83,10 @@ pub fn look_ups(alloc: Global, file: &[u8], words: &[String]) -> Result<Vec<u8>,
         return Err(Fault::Unread);
     };
     let checked = check(alloc, file)?;
-    let bucket = bucket_at(alloc, checked, path.as_str())?;
+    let bucket = bucket_at(alloc, checked, path.as_bytes())?;
     let mut line = Vec::new(alloc);
     for word in keys {
-        let key = bytes_of(alloc, word.as_str())?;
+        let key = bytes_of(alloc, word.as_bytes())?;
         let value = bucket.get(key.as_slice());
         let inner = bucket.bucket(key.as_slice());
         match (value, inner) {

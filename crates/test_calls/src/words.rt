@@ -4,11 +4,12 @@ ghost use Rattle.std.specs.Prelude.{◌<◌, IfOk, IfSome};
 use crate::fault::Fault;
 use bolt_check::{Checked, assumed_meta};
 use bolt_format::{Meta, Slot};
+use bolt_load::read_number;
 use bolt_tree::Bucket;
 use std::alloc::{AllocError, Global};
 
-pub fn number(word: &str) -> Result<u64, Fault> {
-    word.parse().map_err(|_| Fault::Unread)
+pub fn number(word: &[u8]) -> Result<u64, Fault> {
+    read_number(word).ok_or(Fault::Unread)
 }
 
 /// The slot that the first word names, if there is one.
@@ -28,26 +29,26 @@ pub fn assumed_of(file: &[u8], words: &[String]) -> Result<Option<Meta>, Fault>
     let Some(word) = words.first() else {
         return Ok(None);
     };
-    let Some((size, root)) = word.as_str().split_once(':') else {
+    let mut numbers = word.as_bytes().split(|byte| *byte == b':');
+    let (Some(size), Some(root)) = (numbers.next(), numbers.next()) else {
         return Ok(None);
     };
-    let size: u32 = size.parse().map_err(|_| Fault::Unread)?;
-    if size == 0 {
-        return Err(Fault::Unread);
+    match u32::try_from(number(size)?) {
+        Ok(size) if size > 0 => Ok(Some(assumed_meta(file.len() as u64, size, number(root)?))),
+        _ => Err(Fault::Unread),
     }
-    Ok(Some(assumed_meta(file.len() as u64, size, number(root)?)))
 }
 
 /// The bytes of a word in hexadecimal.
-pub fn bytes_of(alloc: Global, word: &str) -> Result<Vec<u8>, Fault> {
-    Ok(hex::decode(alloc, word.as_bytes())?)
+pub fn bytes_of(alloc: Global, word: &[u8]) -> Result<Vec<u8>, Fault> {
+    Ok(hex::decode(alloc, word)?)
 }
 
 /// The keys of a path in hexadecimal, which are separated by slashes; `.` has none.
-pub fn keys_of(alloc: Global, path: &str) -> Result<Vec<Vec<u8>>, Fault> {
+pub fn keys_of(alloc: Global, path: &[u8]) -> Result<Vec<Vec<u8>>, Fault> {
     let mut keys = Vec::new(alloc);
-    if path != "." {
-        for word in path.split('/') {
+    if path != b".".as_slice() {
+        for word in path.split(|byte| *byte == b'/') {
             keys.push(bytes_of(alloc, word)?)?;
         }
     }
@@ -64,7 +65,11 @@ pub fn slices_of<'a>(alloc: Global, keys: &'a [Vec<u8>]) -> Result<Vec<&'a [u8]>
 }
 
 /// The bucket at a path, from the root bucket down.
-pub fn bucket_at<'a>(alloc: Global, checked: Checked<'a>, path: &str) -> Result<Bucket<'a>, Fault> {
+pub fn bucket_at<'a>(
+    alloc: Global,
+    checked: Checked<'a>,
+    path: &[u8],
+) -> Result<Bucket<'a>, Fault> {
     let mut bucket = Bucket::root(checked);
     for key in &keys_of(alloc, path)? {
         bucket = bucket.bucket(key.as_slice()).ok_or(Fault::Unread)?;
