@@ -6,8 +6,8 @@
 
 mod bucket;
 mod cursor;
+mod descent;
 mod entry;
-mod key_search;
 pub mod laws;
 mod members;
 mod open_buckets;

@@ -1,5 +1,5 @@
 //! A page that a cursor has opened.
-ghost use Rattle.std.specs.Prelude.{◌≡◌, ◌+◌, ◌<◌, IsTrue, Some, length, slice_get, ◌≤◌};
+ghost use Rattle.std.specs.Prelude.{◌≡◌, ◌+◌, ◌<◌, IsTrue, MatchOption, Some, length, slice_get, ◌≤◌};
 ghost use Rattle.std.proofs.Props.{props};
 ghost use Rattle.bolt_format.specs.{ElementPlaces.branch_view, ElementPlaces.leaf_view, Elements.IsBucketValue, Shown.shown};
 ghost use Rattle.bolt_check.specs.declared.spot.TheConstants.{MAX_DEPTH};
@@ -119,6 +119,30 @@ pub(crate) struct Position<'a> {
     /// elements and one means past the end. So one loop serves the end of a leaf, an empty leaf and
     /// a branch.
     pub taken: u32,
+}
+
+impl<'a> Position<'a> {
+    ghost use Rattle.bolt_tree.specs.{Private.Contents.content_length, Private.ShownPages.opened_content};
+    ghost use Rattle.bolt_tree.specs.{Private.Stacks.IsBeside, Private.Stacks.IsLast, Private.Trails.frame_of};
+
+    /// The next element or, if `back` is set, the preceding one.
+    pub fn beside(&self, back: bool) -> Option<u16>
+        requires bound { self.now.taken ≤ content_length (opened_content self.now.page) + 1 }
+        requires fits { self.now.taken ≤ 65536 }
+        ensures { MatchOption result (IsLast back (frame_of self.now)) (IsBeside back (frame_of self.now)) }
+    {
+        if back {
+            if self.taken > 1 {
+                Some((self.taken - 2) as u16)
+            } else {
+                None
+            }
+        } else if self.taken < u32::from(self.page.count()) {
+            Some(self.taken as u16)
+        } else {
+            None
+        }
+    }
 }
 
 /// The pages from the root page to the one that a cursor is on.
