@@ -24,10 +24,7 @@ ids_fault count bytes = if nat_lt (length bytes) (ids_start count + 8 * id_count
 
 abbrev pub freelist_kind_fault : Option Kind → Option ℕ
 freelist_kind_fault (Some kind.Freelist) = None
-freelist_kind_fault (Some kind.Branch) = Some PAGE_KIND
-freelist_kind_fault (Some kind.Leaf) = Some PAGE_KIND
-freelist_kind_fault (Some kind.Meta) = Some PAGE_KIND
-freelist_kind_fault None = Some PAGE_KIND
+freelist_kind_fault _ = Some PAGE_KIND
 
 -- the tests of a page as a freelist: of its number, header and span, its kind and its ids
 unfoldable pub freelist_fault : List ℕ → Meta → ℕ → Option ℕ

@@ -46,15 +46,11 @@ pub record PageView : Type 0 where
 -- the elements that a page of a kind shows
 abbrev pub shown_branches : Kind → ℕ → List ℕ → List BranchElement
 shown_branches kind.Branch count bytes = branch_elements bytes count
-shown_branches kind.Leaf count bytes = []
-shown_branches kind.Meta count bytes = []
-shown_branches kind.Freelist count bytes = []
+shown_branches _ count bytes = []
 
 abbrev pub shown_leaves : Kind → ℕ → List ℕ → List LeafElement
-shown_leaves kind.Branch count bytes = []
 shown_leaves kind.Leaf count bytes = leaf_elements bytes count
-shown_leaves kind.Meta count bytes = []
-shown_leaves kind.Freelist count bytes = []
+shown_leaves _ count bytes = []
 
 abbrev pub view_of : Kind → (count overflow : ℕ) → List ℕ → PageView
 view_of kind count overflow bytes = record {

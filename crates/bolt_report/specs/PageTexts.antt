@@ -20,10 +20,8 @@ fault_of id fault = option_map (λ number. record { number = number; page = id }
 
 -- The ids of a freelist page are tested too.
 abbrev pub kind_fault : Option PageFault → Kind → Option PageFault
-kind_fault ids_fault kind.Branch = None
-kind_fault ids_fault kind.Leaf = None
-kind_fault ids_fault kind.Meta = None
 kind_fault ids_fault kind.Freelist = ids_fault
+kind_fault ids_fault _ = None
 
 -- the fault of the page itself, or that of the ids on a page without one
 abbrev pub shown_fault : Option PageFault → Option PageFault → Option PageView → Option PageFault
