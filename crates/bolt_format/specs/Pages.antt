@@ -2,9 +2,9 @@
 use Rattle.std.specs.Prelude.{◌==◌, ◌<◌, ◌≤◌, ℕ, ◌+◌, ◌*◌, not, nat_lt, nat_le, List, [], length, drop, Option, Some, None, if◌then◌else◌, is_some, slice_range}
 use Rattle.bolt_format.specs.Headers.{id_field, flags_field, count_field, overflow_field, kind_of}
 use Rattle.bolt_format.specs.Elements.{BranchElement, LeafElement, first_of, branch_elements, branches_fault, leaf_elements, leaves_fault, value_fault}
-use Rattle.bolt_format.specs.{declared.meta.Meta.Meta, declared.kind.Kind.Kind}
-use Rattle.bolt_format.specs.declared.kind.Kind.TheVariants as kind
-use Rattle.bolt_format.specs.declared.fault.TheConstants.PageFault.{RANGE, CUT, ID, PAGE_KIND}
+use Rattle.bolt_format.specs.{declared.meta.Meta.Meta, declared.header.Kind.Kind}
+use Rattle.bolt_format.specs.declared.header.Kind.TheVariants as kind
+use Rattle.bolt_format.specs.declared.open_page.TheConstants.PageFault.{RANGE, CUT, ID, PAGE_KIND}
 
 -- the file from the first byte of a page
 abbrev pub from_page : List ℕ → Meta → ℕ → List ℕ

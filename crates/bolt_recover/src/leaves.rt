@@ -1,7 +1,7 @@
 //! Intact leaves that nothing leads to.
 ghost use Rattle.std.specs.List.{All};
 ghost use Rattle.std.specs.Prelude.{◌<◌, IfOk};
-ghost use Rattle.bolt_check.specs.{Leftovers.leftovers_file, Leftovers.leftovers_meta, declared.finding.Finding.Finding};
+ghost use Rattle.bolt_check.specs.{Leftovers.leftovers_file, Leftovers.leftovers_meta, declared.fault.Finding.Finding};
 ghost use Rattle.bolt_recover.specs.{Found.AreFound, Found.numbers_of, Private.LeavesLeft.AreAmong, Private.LeavesLeft.NotesFree, Refusals.LosesRoot};
 ghost use Rattle.bolt_recover.specs.ShownFound.{IsFoundView};
 

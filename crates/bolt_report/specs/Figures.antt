@@ -1,8 +1,8 @@
 -- The figures of buckets: docs/COMMANDS.md, "What is printed".
 use Rattle.std.specs.Prelude.{◌==◌, ℕ, ◌+◌, ◌-◌, ◌*◌, ◌^◌, codes, min, max, List, [], ◌∷◌, length, sum_by, Option, Some, None, if◌then◌else◌}
 use Rattle.bolt_format.specs.{Elements.BranchElement, Elements.LeafElement, Elements.head_root, Elements.inline_elements, Pages.PageView}
-use Rattle.bolt_format.specs.declared.kind.Kind.{Kind}
-use Rattle.bolt_format.specs.declared.kind.Kind.TheVariants as kind
+use Rattle.bolt_format.specs.declared.header.Kind.{Kind}
+use Rattle.bolt_format.specs.declared.header.Kind.TheVariants as kind
 use Rattle.bolt_report.specs.{FigureForms.Named, FigureForms.figures_text, declared.form.FigureForm.FigureForm, declared.statistics.Stats.Stats}
 
 -- which figure; depth is none of them, as it is no sum

@@ -14,7 +14,7 @@ pub use Rattle.bolt_format.proofs.PageFacts.{below_mark, bucket_value, flat_inli
 pub use Rattle.bolt_format.proofs.PageLaws.{length-shown_branches, length-shown_leaves}
 pub use Rattle.bolt_format.specs.ElementPlaces.{branch_view, leaf_view}
 pub use Rattle.bolt_format.specs.Elements.{BranchElement, LeafElement, head_root, head_sequence, inline_elements}
-pub use Rattle.bolt_format.specs.{Pages.PageView, Pages.page_at, Shown.shown, declared.element.Leaf.Leaf, declared.kind.Kind.Kind, declared.meta.Meta.Meta}
+pub use Rattle.bolt_format.specs.{Pages.PageView, Pages.page_at, Shown.shown, declared.element.Leaf.Leaf, declared.header.Kind.Kind, declared.meta.Meta.Meta}
 pub use Rattle.bolt_tree.specs.BucketViews.{AreSorted, BucketView, bucket_in, entries_of}
 pub use Rattle.bolt_tree.specs.CursorBounds.{OpensByNext, OpensGap, OpensSeek, SeeksInBounds}
 pub use Rattle.bolt_tree.specs.Entries.{AreEntries, EntryView, Inline_page, IsEntry, IsStart, Item, Root_page, ShowsEntry, Start, Value, entry_cmp, entry_view}

@@ -10,8 +10,7 @@ ghost use Rattle.bolt_tree.specs.{ShownEntries.shown_entry, Starts.HasStart, Sta
 
 use crate::bucket::At;
 use crate::entry::Entry;
-use crate::opened::{Position, Stack, set_positions};
-use crate::pager::Pager;
+use crate::opened::{Pager, Position, Stack, set_positions};
 use crate::trail::Trail;
 use bolt_format::Leaf;
 

@@ -8,8 +8,7 @@ ghost use Rattle.bolt_tree.specs.{Private.BucketPages.elements_in, Private.Bucke
 ghost use Rattle.bolt_tree.specs.Private.Stacks.{IsAtRest, IsOn, here_of};
 
 use crate::bucket::At;
-use crate::opened::{Stack, set_positions};
-use crate::pager::Pager;
+use crate::opened::{Pager, Stack, set_positions};
 use bolt_format::Leaf;
 
 /// The open pages of a bucket, from its root page on, each with the number of elements up to where

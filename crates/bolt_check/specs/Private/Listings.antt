@@ -4,8 +4,8 @@ use Rattle.std.specs.List.Sorted.{IsNonDecreasing}
 use Rattle.bolt_format.specs.declared.meta.Meta.{Meta}
 use Rattle.bolt_check.specs.{Accounts.IsInFreelist, Accounts.IsInUse, Accounts.times_in, Findings.finding}
 use Rattle.bolt_check.specs.{Private.Tables.IsClaimed, Private.Tables.use_at, Private.Tables.times_of, Private.Uses.IsNoted}
-use Rattle.bolt_check.specs.{AccountFindings.IsAccountFinding, AccountFindings.IsBefore, AccountFindings.IsLost, declared.finding.Finding.Finding}
-use Rattle.bolt_check.specs.declared.finding.TheConstants.Finding.{FREED_TWICE, FREE_RANGE, REACHED_FREED, UNREACHABLE}
+use Rattle.bolt_check.specs.{AccountFindings.IsAccountFinding, AccountFindings.IsBefore, AccountFindings.IsLost, declared.fault.Finding.Finding}
+use Rattle.bolt_check.specs.declared.fault.TheConstants.Finding.{FREED_TWICE, FREE_RANGE, REACHED_FREED, UNREACHABLE}
 use Rattle.bolt_check.specs.{declared.listing.Listing.Listing, declared.table.PageUse.PageUse}
 use Rattle.bolt_check.specs.declared.table.PageUse.TheVariants.{Unused, Branch, Leaf, Used, Free, FreeTwice, UsedFree, UsedFreeTwice}
 

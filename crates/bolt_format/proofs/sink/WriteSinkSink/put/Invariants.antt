@@ -1,6 +1,6 @@
 use Rattle.std.proofs.Common.{◌≡◌, ◌++◌, List, ℕ, length}
 use Rattle.std.specs.Io.KnownBytes.{Appends}
-use Rattle.bolt_format.proofs.sinks.WriteSinkSink.put.Given as goal
+use Rattle.bolt_format.proofs.sink.WriteSinkSink.put.Given as goal
 
 -- nothing has failed, and the bytes before the rest were taken
 abbrev pub invariant-loop-rest : goal.invariant-loop-rest
