@@ -166,7 +166,7 @@ impl<'a> Cursor<'a> {
         ensures compared { cursor_compared self.new ≡ cursor_compared self.old }
     {
         if !self.trail.stack.is_empty() {
-            return entry_of(self.trail.prev(&mut self.spare));
+            return entry_of(self.trail.go_further(&mut self.spare, true));
         }
         let leaf = self.trail.last()?;
         self.is_past = false;

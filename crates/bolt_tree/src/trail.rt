@@ -29,7 +29,7 @@ pub(crate) struct SeekResult<'a> {
 
 #[tactic(auto, using(crate::proofs::StackLemmas::retaken, crate::proofs::PagerLemmas::counted_zero))]
 impl<'a> Trail<'a> {
-    ghost use Rattle.bolt_tree.specs.Private.Trails.{Finds, HasBucket, HasTrail, IsMoved, ahead, entries_left, pages_left, preceding, right, trail_bucket, trail_frames};
+    ghost use Rattle.bolt_tree.specs.Private.Trails.{Finds, Goes, HasBucket, HasTrail, IsMoved, ahead, entries_left, pages_left, preceding, right, trail_bucket, trail_frames};
 
     /// Goes to the first entry or, if there is none, before the first call.
     pub fn first(&mut self) -> Option<Leaf<'a>>
@@ -62,12 +62,7 @@ impl<'a> Trail<'a> {
     pub fn next(&mut self, spare: &mut Stack<'a>) -> Option<Leaf<'a>>
         requires stack { HasTrail self.old }
         requires rest { IsAtRest (trail_frames self.old) }
-        ensures moved { IsMoved self.old self.new }
-        ensures rest { IsAtRest (trail_frames self.new) }
-        ensures found { Finds false result (ahead self.old) (ahead self.new) (trail_frames self.new) (trail_frames self.old) }
-        ensures bucket { IfSome result (λ leaf. IsTrue leaf.is_bucket → IsBucketValue leaf.value.now) }
-        ensures opened { pager_opened self.new.pager
-            ≡ counted (pager_opened self.old.pager) (length (right self.old) - opened_to (option_map leaf_view result) (right self.new)) }
+        ensures { Goes false self.old self.new result }
     {
         if let Some(leaf) = self.next_here() {
             return Some(leaf);
@@ -76,18 +71,6 @@ impl<'a> Trail<'a> {
             return None;
         }
         self.go_further(spare, false)
-    }
-
-    /// Moves to the preceding entry. If there is none, it stays. The content of `spare` is lost.
-    pub fn prev(&mut self, spare: &mut Stack<'a>) -> Option<Leaf<'a>>
-        requires stack { HasTrail self.old }
-        requires rest { IsAtRest (trail_frames self.old) }
-        ensures moved { IsMoved self.old self.new }
-        ensures rest { IsAtRest (trail_frames self.new) }
-        ensures found { Finds true result (preceding self.old) (preceding self.new) (trail_frames self.new) (trail_frames self.old) }
-        ensures bucket { IfSome result (λ leaf. IsTrue leaf.is_bucket → IsBucketValue leaf.value.now) }
-    {
-        self.go_further(spare, true)
     }
 
     /// Goes to the first entry whose key isn't below `key`. If there is none, the stack is empty.
@@ -130,18 +113,13 @@ impl<'a> Trail<'a> {
     }
 
     /// Moves to the next entry or, if `back` is set, to the preceding one, past the end of the leaf
-    /// too. If there is none, the stack is restored.
+    /// too. If there is none, it stays. The content of `spare` is lost.
     #[inline(never)]
     #[tactic(auto, using(crate::proofs::TrailLemmas::kept_stack))]
-    fn go_further(&mut self, spare: &mut Stack<'a>, back: bool) -> Option<Leaf<'a>>
+    pub fn go_further(&mut self, spare: &mut Stack<'a>, back: bool) -> Option<Leaf<'a>>
         requires stack { HasTrail self.old }
         requires rest { IsAtRest (trail_frames self.old) }
-        ensures moved { IsMoved self.old self.new }
-        ensures rest { IsAtRest (trail_frames self.new) }
-        ensures found { Finds back result (entries_left back self.old) (entries_left back self.new) (trail_frames self.new) (trail_frames self.old) }
-        ensures bucket { IfSome result (λ leaf. IsTrue leaf.is_bucket → IsBucketValue leaf.value.now) }
-        ensures opened { pager_opened self.new.pager
-            ≡ counted (pager_opened self.old.pager) (length (pages_left back self.old) - opened_to (option_map leaf_view result) (pages_left back self.new)) }
+        ensures { Goes back self.old self.new result }
     {
         set_positions(spare, self.stack.as_slice());
         match self.go(back) {

@@ -1,9 +1,11 @@
 -- What a trail shows: its bucket, and its stack with the top first.
-use Rattle.std.specs.Prelude.{◌≡◌, Bool, true, false, List, [], ◌∷◌, ◌++◌, MatchOption, Option, map, reverse}
-use Rattle.bolt_format.specs.{ElementPlaces.leaf_view, Elements.LeafElement, declared.element.Leaf.Leaf}
+use Rattle.std.specs.Prelude.{◌≡◌, ◌-◌, Bool, true, false, List, [], ◌∷◌, ◌++◌, IfSome, IsTrue, MatchOption, Option, length, map, reverse}
+use Rattle.std.specs.Option.{option_map}
+use Rattle.bolt_format.specs.{ElementPlaces.leaf_view, Elements.IsBucketValue, Elements.LeafElement, declared.element.Leaf.Leaf}
+use Rattle.bolt_check.specs.Counts.{counted}
 use Rattle.bolt_tree.specs.{BucketViews.BucketView, BucketViews.bucket_in, Private.BucketPages.IsSoundBucket, Private.BucketPages.contents_in}
-use Rattle.bolt_tree.specs.{Pagers.pager_checked, Private.Contents.Contents, Private.ShownPages.opened_content}
-use Rattle.bolt_tree.specs.Private.Stacks.{Frame, HasStack, IsOn, ahead_of, before_of, preceding_of, right_of}
+use Rattle.bolt_tree.specs.{Pagers.pager_checked, Pagers.pager_opened, Private.Entered.opened_to, Private.Contents.Contents, Private.ShownPages.opened_content}
+use Rattle.bolt_tree.specs.Private.Stacks.{Frame, HasStack, IsAtRest, IsOn, ahead_of, before_of, preceding_of, right_of}
 use Rattle.bolt_tree.specs.{Starts.start_at, Private.Tours.Visit, declared.opened.Position.Position, declared.trail.Trail.Trail}
 
 abbrev pub frame_of : Position → Frame
@@ -64,3 +66,12 @@ nearer true e entries = entries ++ e ∷ []
 abbrev pub Finds : Bool → Option Leaf → (before after : List LeafElement) (frames end : List Frame) → Type 0
 Finds back found before after frames end = MatchOption found ((before ≡ []) × (frames ≡ end))
     (λ leaf. (before ≡ nearer back (leaf_view leaf) after) × IsOn frames (leaf_view leaf))
+
+-- a move in a direction from where a trail rests to where it rests: without an entry there, it stays
+pub record Goes (back : Bool) (old new : Trail) (gives : Option Leaf) : Type 0 where
+  pub moved : IsMoved old new
+  pub rest : IsAtRest (trail_frames new)
+  pub found : Finds back gives (entries_left back old) (entries_left back new) (trail_frames new) (trail_frames old)
+  pub bucket : IfSome gives (λ leaf. IsTrue leaf.is_bucket → IsBucketValue leaf.value.now)
+  pub opened : pager_opened new.pager
+      ≡ counted (pager_opened old.pager) (length (pages_left back old) - opened_to (option_map leaf_view gives) (pages_left back new))

@@ -7,13 +7,13 @@ use Rattle.bolt_tree.proofs.cursor.Cursor.prev.Goals as goal
 pub invariant_of-self : goal.invariant_of-self
 invariant_of-self c =
     let here = not_past c.args.self.now.trail c.args.self.now.is_past c.args.self.now.held (nonempty c.args.self.now.trail.stack.items c.is_empty.result c.is_empty.ensures c.if-not-is_empty.true) in
-    record { held = ∣ record { stack = c.prev.ensures.moved.stack; rest = c.prev.ensures.rest; empty = λ e. absurd (cc) } ∣₁ }
+    record { held = ∣ record { stack = c.go_further.ensures.moved.stack; rest = c.go_further.ensures.rest; empty = λ e. absurd (cc) } ∣₁ }
 
 pub returns-then-not-is_empty-clause-moves : goal.returns-then-not-is_empty-clause-moves
 unfolding cursor_checked cursor_place cursor_start
 returns-then-not-is_empty-clause-moves c = shows_by _ _ prev_move (cursor_place c.args.self.now) _ _ _ c.entry_of.ensures.entry
-    (moves_prev c.args.self.now.trail c.prev.new.self c.prev.ensures.moved c.args.self.now.is_past c.args.self.now.held c.prev.result
-    (nonempty c.args.self.now.trail.stack.items c.is_empty.result c.is_empty.ensures c.if-not-is_empty.true) c.prev.ensures.found)
+    (moves_prev c.args.self.now.trail c.go_further.new.self c.go_further.ensures.moved c.args.self.now.is_past c.args.self.now.held c.go_further.result
+    (nonempty c.args.self.now.trail.stack.items c.is_empty.result c.is_empty.ensures c.if-not-is_empty.true) c.go_further.ensures.found)
 
 pub returns-clause-moves : goal.returns-clause-moves
 unfolding cursor_checked cursor_place cursor_start
