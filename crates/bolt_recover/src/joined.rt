@@ -5,7 +5,7 @@ ghost use Rattle.bolt_check.specs.declared.fault.Finding.{Finding};
 ghost use Rattle.bolt_tree.specs.Listing.{Member};
 ghost use Rattle.bolt_recover.specs.{Found.numbers_of, Joined.IsJoined, Joined.LacksBucketKey, JoinRefusals.IsJoinRefusal, Losses.everything};
 ghost use Rattle.bolt_recover.specs.{LostAndFound.all_lost, Private.Joining.AreJoinable, Private.Joining.IsHeldWell};
-ghost use Rattle.bolt_recover.specs.Private.KeptMembers.{kept_file, kept_left, kept_meta, kept_path};
+ghost use Rattle.bolt_recover.specs.Private.KeptMembers.{IsWhole, kept_file, kept_meta};
 ghost use Rattle.bolt_recover.specs.Recovered.{ForRecovered};
 ghost use Rattle.bolt_recover.specs.declared.joined.JoinFault.TheVariants as faults;
 ghost use Rattle.bolt_recover.specs.declared.joined.Stage.TheVariants as stages;
@@ -83,10 +83,7 @@ fn first_stage(found: &[Found<'_>]) -> Stage
 
 /// The recovered members of a file that was searched, if there is a joined listing.
 fn kept_of<'a>(alloc: Global, both: &LostAndFound<'a>) -> Result<Kept<'a>, JoinFault>
-    ensures file { IfOk result (λ kept. kept_file kept ≡ both.now.file.now) }
-    ensures meta { IfOk result (λ kept. kept_meta kept ≡ both.now.meta) }
-    ensures all { IfOk result (λ kept. ForRecovered both.now.file.now both.now.meta (λ listing. kept_left kept listing ≡ listing)) }
-    ensures path { IfOk result (λ kept. kept_path kept ≡ []) }
+    ensures whole { IfOk result (IsWhole both.now.file.now both.now.meta) }
     ensures apart { OnOk result (both.now.found.items ≢ [] → ForRecovered both.now.file.now both.now.meta LacksBucketKey) }
     ensures some { OnOk result ((x : Finding) → all_lost both.now ≡ everything x → both.now.found.items ≢ []) }
     ensures refused { IfErr result (IsJoinRefusal both.now.file.now both.now.meta (numbers_of both.now.found.items)) }
@@ -148,10 +145,7 @@ impl<'a> Joined<'a> {
     /// The members of what is found and of what is recovered, of which nothing was returned yet.
     fn of(kept: Kept<'a>, both: &'a LostAndFound<'_>) -> Joined<'a>
         requires few { length both.now.file.now < 10 ^ 16 * both.now.meta.page_size }
-        requires file { kept_file kept ≡ both.now.file.now }
-        requires meta { kept_meta kept ≡ both.now.meta }
-        requires fresh { ForRecovered both.now.file.now both.now.meta (λ listing. kept_left kept listing ≡ listing) }
-        requires path { kept_path kept ≡ [] }
+        requires whole { IsWhole both.now.file.now both.now.meta kept }
         requires apart { both.now.found.items ≢ [] → ForRecovered both.now.file.now both.now.meta LacksBucketKey }
         ensures file { joined_file result ≡ both.now.file.now }
         ensures meta { joined_meta result ≡ both.now.meta }

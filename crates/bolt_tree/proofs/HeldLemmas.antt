@@ -2,7 +2,7 @@
 use Rattle.std.proofs.Common.{◌≡◌, ◌∙◌, ℕ, ◌-◌, ◌≤◌, Bool, true, false, List, [], ◌∷◌, Option, None, length, drop, ap, refl, sym, subst}
 use Rattle.bolt_tree.proofs.Words.{BucketView, Content, Contents, EntryView, Finds, Frame, HasBucket, HasStack, HasTrail, IsAtRest, IsEntry, IsHeld, IsMoved, Key, Leaf, LeafElement, Move, Moves, Of_branch, Of_leaf, OpensByNext, OpensGap, Place, RestsOn, ShowsMove, Start, Trail, ahead, contents_in, counted, elements_in, entry_view, first_move, is_none, last_move, leaf_view, least_from, next_move, opened_to, option_map, pages_in, place_by, place_in, place_on, preceding, prev_move, props, right, seek_move, trail_bucket, trail_frames, ∥∥₁_elim}
 use Rattle.bolt_tree.proofs.OpeningMoves.{first_opens, next_opens}
-use Rattle.bolt_tree.proofs.PlaceMoves.{Comes, first_moves, last_moves, next_moves, prev_moves, seek_moves, stack_bucket, the_entries}
+use Rattle.bolt_tree.proofs.PlaceMoves.{Comes, first_moves, go_moves, last_moves, seek_moves, stack_bucket, the_entries}
 use Rattle.bolt_tree.proofs.TrailLemmas.{empty_stack, same_bucket}
 
 rest_on_prop : (content : Content) (taken : ℕ) → IsProp (RestsOn content taken)
@@ -112,12 +112,12 @@ module _ (old new : Trail) (moved : IsMoved old new) (is_past : Bool) (held : �
     pub moves_next : Finds false found (ahead old) (ahead new) (trail_frames new) (trail_frames old)
         → MovesTo next_move (place_by is_past (contents_in (trail_bucket old)) (trail_frames old)) (place_by is_past (contents_in (trail_bucket new)) (trail_frames new))
     moves_next h = rw (moved.file, not_past old is_past held some) (moves_by next_move (place_on (contents_in (trail_bucket old)) (trail_frames old)) (place_on (contents_in (trail_bucket old)) (trail_frames new))
-        (next_moves (trail_bucket old) found (trail_frames old) (trail_frames new) (held_stack old is_past held) (held_rest old is_past held) some there (rw moved.file at h)))
+        (go_moves (trail_bucket old) false found (trail_frames old) (trail_frames new) (held_stack old is_past held) (held_rest old is_past held) some there (rw moved.file at h)))
 
     pub moves_prev : Finds true found (preceding old) (preceding new) (trail_frames new) (trail_frames old)
         → MovesTo prev_move (place_by is_past (contents_in (trail_bucket old)) (trail_frames old)) (place_by is_past (contents_in (trail_bucket new)) (trail_frames new))
     moves_prev h = rw (moved.file, not_past old is_past held some) (moves_by prev_move (place_on (contents_in (trail_bucket old)) (trail_frames old)) (place_on (contents_in (trail_bucket old)) (trail_frames new))
-        (prev_moves (trail_bucket old) found (trail_frames old) (trail_frames new) (held_stack old is_past held) (held_rest old is_past held) some there (rw moved.file at h)))
+        (go_moves (trail_bucket old) true found (trail_frames old) (trail_frames new) (held_stack old is_past held) (held_rest old is_past held) some there (rw moved.file at h)))
 
     pub opens_next : (before after : ℕ) → Finds false found (ahead old) (ahead new) (trail_frames new) (trail_frames old)
         → after ≡ counted before (length (right old) - opened_to (option_map leaf_view found) (right new)) → OpensByNext (trail_bucket old) (place_by is_past (contents_in (trail_bucket old)) (trail_frames old)) before after
