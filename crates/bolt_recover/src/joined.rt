@@ -5,7 +5,7 @@ ghost use Rattle.bolt_check.specs.declared.fault.Finding.{Finding};
 ghost use Rattle.bolt_tree.specs.Listing.{Member};
 ghost use Rattle.bolt_recover.specs.{Found.numbers_of, Joined.IsJoined, Joined.LacksBucketKey, JoinRefusals.IsJoinRefusal, Losses.everything};
 ghost use Rattle.bolt_recover.specs.{LostAndFound.all_lost, Private.Joining.AreJoinable, Private.Joining.IsHeldWell};
-ghost use Rattle.bolt_recover.specs.Private.KeptMembers.{IsWhole, kept_file, kept_meta};
+ghost use Rattle.bolt_recover.specs.Private.KeptMembers.{HasSameFile, IsWhole, kept_file, kept_meta};
 ghost use Rattle.bolt_recover.specs.Recovered.{ForRecovered};
 ghost use Rattle.bolt_recover.specs.declared.joined.JoinFault.TheVariants as faults;
 ghost use Rattle.bolt_recover.specs.declared.joined.Stage.TheVariants as stages;
@@ -165,8 +165,7 @@ impl<'a> Joined<'a> {
     /// Returns a recovered member before the bucket of what is found, or that bucket.
     fn next_before(&mut self) -> Result<Option<Item<'a>>, NoMemory>
         requires stage { self.old.stage ≡ stages.Before }
-        ensures file { joined_file self.new ≡ joined_file self.old }
-        ensures meta { joined_meta self.new ≡ joined_meta self.old }
+        ensures reads { HasSameFile self.old.kept self.new.kept }
         ensures given { IfOk result (GivesJoined self.old self.new) }
         ensures fewer { IfOk result (λ given. IfSome given (λ _. joined_work self.new < joined_work self.old)) }
         ensures ended { IfOk result (λ given. given ≡ None → ⊥) }
@@ -186,8 +185,7 @@ impl<'a> Joined<'a> {
     /// Returns a member of the bucket of what is found, or the first recovered one after it.
     fn next_inside(&mut self) -> Result<Option<Item<'a>>, NoMemory>
         requires stage { self.old.stage ≡ stages.Inside }
-        ensures file { joined_file self.new ≡ joined_file self.old }
-        ensures meta { joined_meta self.new ≡ joined_meta self.old }
+        ensures reads { HasSameFile self.old.kept self.new.kept }
         ensures given { IfOk result (GivesJoined self.old self.new) }
         ensures fewer { IfOk result (λ given. IfSome given (λ _. joined_work self.new < joined_work self.old)) }
         ensures same { OnErr result (LeavesJoined self.old self.new) }

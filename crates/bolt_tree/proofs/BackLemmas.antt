@@ -1,6 +1,6 @@
 -- What the moves of a trail back do to its stack.
 use Rattle.std.proofs.Common.{◌≡◌, ℕ, zero, suc, ◌+◌, ◌-◌, ◌≤◌, true, List, [], ◌∷◌, ◌++◌, Some, None, slice_get, length, take, refl, sym, ap, ◌∙◌, subst, arith, append_assoc, append-nil, length-append}
-use Rattle.bolt_tree.proofs.Words.{BranchElement, BucketView, Content, Contents, Frame, HasStack, IsAtRest, IsEntered, IsOn, LeafElement, Of_branch, Of_leaf, RestsOn, Visit, address_on, all_under, before_of, before_under, content_length, contents_in, done_of, done_under, elements_in, elements_of, flat_map-append, index_of, left_of, left_under, length-take, none-some, preceding_of, props, root_content, take_all, take_next, tour, under_at, ∥∥₁_elim}
+use Rattle.bolt_tree.proofs.Words.{BranchElement, BucketView, Content, Contents, Frame, HasStack, IsAtRest, IsEntered, IsOn, LeafElement, Of_branch, Of_leaf, RestsOn, Visit, address_on, all_under, before_of, before_under, content_length, contents_in, done_of, done_under, elements_in, elements_of, flat_map-append, index_of, left_of, left_under, length-take, none-some, pages_in, preceding_of, props, root_content, take_all, take_next, tour, under_at, ∥∥₁_elim}
 use Rattle.bolt_tree.proofs.{StackLemmas.branch_room, TrailLemmas.shown_by_branch}
 
 take_none : {X : Type 0} (xs : List X) → take 0 xs ≡ []
@@ -91,9 +91,9 @@ left_out bucket f below stack h =
     (rw (nothing_done f.content f.taken h, top) (ap (λ (vs : List Visit). elements_of vs ++ []) same), same)
 
 -- behind the root page's last element, everything is behind
-pub root_preceding : (bucket : BucketView) → elements_in bucket
-    ≡ preceding_of (contents_in bucket) (record { content = root_content bucket; taken = suc (content_length (root_content bucket)) } ∷ [])
-root_preceding bucket = (tour_done (contents_in bucket) 63 0 [] (root_content bucket) (λ bs e. refl)).0
+pub root_behind : (bucket : BucketView) → let frames : List Frame = record { content = root_content bucket; taken = suc (content_length (root_content bucket)) } ∷ [] in
+    (elements_in bucket ≡ preceding_of (contents_in bucket) frames) × (length (pages_in bucket) ≡ suc (length (before_of (contents_in bucket) frames)))
+root_behind bucket = tour_done (contents_in bucket) 63 0 [] (root_content bucket) (λ bs e. refl)
 
 -- the pages on the stack have no entries of their own
 left_entries : (contents : Contents) (H : ℕ) (address : List ℕ) (content : Content) (k : ℕ) → elements_of (left_under contents H address content k) ≡ elements_of (before_under contents H address content k)

@@ -1,7 +1,7 @@
 -- Moves from entry to entry. Within a leaf, one element more of the page on top of a stack is taken, in place.
 use Rattle.std.proofs.Common.{◌≡◌, ℕ, ◌<◌, Bool, true, false, List, [], ◌∷◌, ◌++◌, Some, None, Option, length, refl, ◌∙◌, arith, ◌≤◌, ◌+◌, ◌-◌, suc, take, slice_index_or, slice_set, sym, ap, append-nil, subst}
-use Rattle.bolt_tree.proofs.Words.{BucketView, Content, Contents, Finds, Frame, HasStack, IsAtRest, IsBeside, IsEntered, IsLast, IsOn, Leaf, LeafElement, Of_branch, Of_leaf, Position, RestsOn, StandsOn, contents_in, drop_all, entries_to, frame_of, frames_of, get_or_default, length-set, nearer, opened_content, pages_to, refill, right_of, right_under, slice_get_read, take-suc-set, take_all, take_next}
-use Rattle.bolt_tree.proofs.BackLemmas.{back_none, back_some, left_out}
+use Rattle.bolt_tree.proofs.Words.{BucketView, Content, Contents, Finds, Frame, HasStack, IsAtRest, IsBeside, IsEntered, IsLast, IsOn, Leaf, LeafElement, Of_branch, Of_leaf, Position, RestsOn, StandsOn, contents_in, drop_all, elements_in, entries_to, frame_of, frames_of, get_or_default, length-set, nearer, opened_content, pages_in, pages_to, refill, right_of, right_under, root_content, slice_get_read, take-suc-set, take_all, take_next, taken_at}
+use Rattle.bolt_tree.proofs.{BackLemmas.back_none, BackLemmas.back_some, BackLemmas.left_out, BackLemmas.root_behind, StackLemmas.root_ahead, StackLemmas.root_right}
 use Rattle.bolt_tree.proofs.TrailLemmas.{entered_length, entered_none, entered_some, exhausted, frames_push}
 
 pub found_over : (back : Bool) (found : Option Leaf) (whole before after : List LeafElement) (frames end : List Frame) → whole ≡ before → Finds back found before after frames end
@@ -40,6 +40,16 @@ module _ (old now : BucketView) (whole below new : List Frame) (f : Frame) (same
   opens h stack =
       let r = page_opened old f below back i new beside h (subst (λ (b : BucketView). HasStack b new) same stack) in
       (rw (frames, same) r.0, rw (frames, same) r.1, entered_length (contents_in old) back f.content i below new h)
+
+-- at the edge of the root page, everything lies in the direction
+at_root : (back : Bool) (bucket : BucketView) → let frames : List Frame = record { content = root_content bucket; taken = taken_at back (root_content bucket) } ∷ [] in
+    (elements_in bucket ≡ entries_to back (contents_in bucket) frames) × (length (pages_in bucket) ≡ suc (length (pages_to back (contents_in bucket) frames)))
+at_root false bucket = (sym (root_ahead bucket), root_right bucket)
+at_root true bucket = root_behind bucket
+
+pub at_edge : (back : Bool) (bucket now : BucketView) (frames : List Frame) → now ≡ bucket → frames ≡ record { content = root_content bucket; taken = taken_at back (root_content bucket) } ∷ []
+    → (elements_in bucket ≡ entries_to back (contents_in now) frames) × (length (pages_in bucket) ≡ suc (length (pages_to back (contents_in now) frames)))
+at_edge back bucket now frames same at = rw (same, at) (at_root back bucket)
 
 -- Right of the only page of a stack at rest, which is a leaf, there is none; so where all of that leaf is taken, nothing is ahead.
 leaf_alone : (contents : Contents) (height : ℕ) (address : List ℕ) (content : Content) (taken : ℕ) → RestsOn content taken → right_under contents height address content taken ++ [] ≡ []

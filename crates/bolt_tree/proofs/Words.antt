@@ -30,7 +30,7 @@ pub use Rattle.bolt_tree.specs.Private.BucketPages.{IsSoundBucket, contents_in, 
 pub use Rattle.bolt_tree.specs.Private.Contents.{Content, Contents, Of_branch, Of_leaf, content_by, content_keys, content_length, content_of, content_seen}
 pub use Rattle.bolt_tree.specs.Private.Contents.{is_tree_kind}
 pub use Rattle.bolt_tree.specs.Private.CursorViews.{AreOfFile, IsInnermost, Keeps, MovesLast, Opens, cursor_view, fresh_view, innermost_views}
-pub use Rattle.bolt_tree.specs.{Private.Entered.IsEntered, Private.Entered.opened_to, Private.Held.IsHeld, Private.Held.place_by, Private.Held.place_on}
+pub use Rattle.bolt_tree.specs.{Private.Entered.IsEntered, Private.Entered.opened_to, Private.Entered.taken_at, Private.Held.IsHeld, Private.Held.place_by, Private.Held.place_on}
 pub use Rattle.bolt_tree.specs.Private.Kept.{AreKept, CursorView, IsKept, kept_view, kept_views}
 pub use Rattle.bolt_tree.specs.Private.OpenBuckets.{AreOpen, IsAhead, IsInPlace, IsInside, IsNamed, is_end, left_by, open_path, reported_path}
 pub use Rattle.bolt_tree.specs.{Private.OpenCursors.cursors_of, Private.PageKeys.IsPlaceOf, Private.PageKeys.doubled, Private.PageKeys.stands_before}

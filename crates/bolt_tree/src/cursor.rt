@@ -124,7 +124,7 @@ impl<'a> Cursor<'a> {
     {
         self.compared = 0;
         self.is_past = false;
-        entry_of(self.trail.first())
+        entry_of(self.trail.start(false))
     }
 
     /// Moves to the last entry, and returns it. If there are no entries, returns `None`.
@@ -138,7 +138,7 @@ impl<'a> Cursor<'a> {
     {
         self.compared = 0;
         self.is_past = false;
-        entry_of(self.trail.last())
+        entry_of(self.trail.start(true))
     }
 
     /// Moves to the next entry, and returns it. If there is none, it stays where it is, and returns
@@ -168,7 +168,7 @@ impl<'a> Cursor<'a> {
         if !self.trail.stack.is_empty() {
             return entry_of(self.trail.go_further(&mut self.spare, true));
         }
-        let leaf = self.trail.last()?;
+        let leaf = self.trail.start(true)?;
         self.is_past = false;
         Some(Entry::of(&leaf))
     }
@@ -205,7 +205,7 @@ impl<'a> Cursor<'a> {
             return None;
         }
         if self.trail.stack.is_empty() {
-            return self.trail.first();
+            return self.trail.start(false);
         }
         self.trail.next(&mut self.spare)
     }

@@ -31,30 +31,19 @@ pub(crate) struct SeekResult<'a> {
 impl<'a> Trail<'a> {
     ghost use Rattle.bolt_tree.specs.Private.Trails.{Finds, Goes, HasBucket, HasTrail, IsMoved, ahead, entries_left, pages_left, preceding, right, trail_bucket, trail_frames};
 
-    /// Goes to the first entry or, if there is none, before the first call.
-    pub fn first(&mut self) -> Option<Leaf<'a>>
+    /// Goes to the first entry or, if `back` is set, to the last one. If there is none, the stack is
+    /// empty.
+    pub fn start(&mut self, back: bool) -> Option<Leaf<'a>>
         requires { HasBucket self.old }
         ensures moved { IsMoved self.old self.new }
         ensures rest { IsAtRest (trail_frames self.new) }
-        ensures found { Finds false result (elements_in (trail_bucket self.old)) (ahead self.new) (trail_frames self.new) [] }
+        ensures found { Finds back result (elements_in (trail_bucket self.old)) (entries_left back self.new) (trail_frames self.new) [] }
         ensures bucket { IfSome result (λ leaf. IsTrue leaf.is_bucket → IsBucketValue leaf.value.now) }
         ensures opened { pager_opened self.new.pager
-            ≡ counted (pager_opened self.old.pager) (length (pages_in (trail_bucket self.old)) - length (right self.new)) }
+            ≡ counted (pager_opened self.old.pager) (length (pages_in (trail_bucket self.old)) - length (pages_left back self.new)) }
     {
-        self.begin(false);
-        self.go(false)
-    }
-
-    /// Goes to the last entry or, if there is none, before the first call.
-    pub fn last(&mut self) -> Option<Leaf<'a>>
-        requires { HasBucket self.old }
-        ensures moved { IsMoved self.old self.new }
-        ensures rest { IsAtRest (trail_frames self.new) }
-        ensures found { Finds true result (elements_in (trail_bucket self.old)) (preceding self.new) (trail_frames self.new) [] }
-        ensures bucket { IfSome result (λ leaf. IsTrue leaf.is_bucket → IsBucketValue leaf.value.now) }
-    {
-        self.begin(true);
-        self.go(true)
+        self.begin(back);
+        self.go(back)
     }
 
     /// Moves to the next entry. If there is none, it stays. The content of `spare` is lost.

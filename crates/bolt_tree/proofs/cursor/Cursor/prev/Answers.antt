@@ -17,13 +17,13 @@ returns-then-not-is_empty-clause-moves c = shows_by _ _ prev_move (cursor_place 
 
 pub returns-clause-moves : goal.returns-clause-moves
 unfolding cursor_checked cursor_place cursor_start
-returns-clause-moves c = shows_by _ _ prev_move (cursor_place c.args.self.now) _ (option_map leaf_view c.last.result) _ (rw c.in_ok-leaf.was (ap Some c.of.ensures))
-    (moves_prev_last c.args.self.now.trail c.last.new.self c.last.ensures.moved c.args.self.now.is_past c.args.self.now.held c.last.result
-    (no_frames c.args.self.now.trail.stack.items c.is_empty.result c.is_empty.ensures c.if-not-is_empty.false) c.last.ensures.found)
+returns-clause-moves c = shows_by _ _ prev_move (cursor_place c.args.self.now) _ (option_map leaf_view c.start.result) _ (rw c.in_ok-leaf.was (ap Some c.of.ensures))
+    (moves_prev_last c.args.self.now.trail c.start.new.self c.start.ensures.moved c.args.self.now.is_past c.args.self.now.held c.start.result
+    (no_frames c.args.self.now.trail.stack.items c.is_empty.result c.is_empty.ensures c.if-not-is_empty.false) c.start.ensures.found)
 
 pub returns-in_err-leaf-clause-moves : goal.returns-in_err-leaf-clause-moves
 unfolding cursor_checked cursor_place cursor_start
 returns-in_err-leaf-clause-moves c =
-    let found = rw c.in_err-leaf.was at c.last.ensures.found in
-    shows_by _ _ prev_move (cursor_place c.args.self.now) _ (option_map leaf_view c.last.result) _ (rw (c.from_residual.ensures, c.in_err-leaf.was) refl)
-    (moves_nowhere c.args.self.now.trail c.last.new.self c.last.ensures.moved c.args.self.now.is_past c.args.self.now.held c.last.result (cursor_place c.args.self.now) _ c.in_err-leaf.was found.0)
+    let found = rw c.in_err-leaf.was at c.start.ensures.found in
+    shows_by _ _ prev_move (cursor_place c.args.self.now) _ (option_map leaf_view c.start.result) _ (rw (c.from_residual.ensures, c.in_err-leaf.was) refl)
+    (moves_nowhere c.args.self.now.trail c.start.new.self c.start.ensures.moved c.args.self.now.is_past c.args.self.now.held c.start.result (cursor_place c.args.self.now) _ c.in_err-leaf.was found.0)
