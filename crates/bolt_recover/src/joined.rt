@@ -1,17 +1,16 @@
 //! The members of the joined listing: those that are recovered and, in the bucket `lost+found`, what
 //! is found.
-ghost use Rattle.std.specs.Prelude.{◌≡◌, ◌≢◌, ◌<◌, ◌*◌, ◌^◌, [], List, None, IfErr, IfOk, IfSome, OnErr, OnOk, length};
+ghost use Rattle.std.specs.Prelude.{◌≡◌, ◌≢◌, ◌<◌, ◌*◌, ◌^◌, [], None, IfErr, IfOk, IfSome, OnErr, OnOk, length};
 ghost use Rattle.bolt_check.specs.declared.fault.Finding.{Finding};
-ghost use Rattle.bolt_tree.specs.Listing.{Member};
-ghost use Rattle.bolt_recover.specs.{Found.numbers_of, Joined.IsJoined, Joined.LacksBucketKey, JoinRefusals.IsJoinRefusal, Losses.everything};
-ghost use Rattle.bolt_recover.specs.{LostAndFound.all_lost, Private.Joining.AreJoinable, Private.Joining.IsHeldWell};
+ghost use Rattle.bolt_tree.specs.Paths.{path_of};
+ghost use Rattle.bolt_recover.specs.{Found.numbers_of, Joined.IsJoined, Joined.LacksBucketKey, Joined.lost_and_found, JoinRefusals.IsJoinRefusal, Losses.everything};
+ghost use Rattle.bolt_recover.specs.{LostAndFound.all_lost, Private.Joining.AreJoinable, Private.Joining.IsHeldWell, Private.Joining.first_cmp};
 ghost use Rattle.bolt_recover.specs.Private.KeptMembers.{HasSameFile, IsWhole, kept_file, kept_meta};
 ghost use Rattle.bolt_recover.specs.Recovered.{ForRecovered};
 ghost use Rattle.bolt_recover.specs.declared.joined.JoinFault.TheVariants as faults;
 ghost use Rattle.bolt_recover.specs.declared.joined.Stage.TheVariants as stages;
 
 use crate::found::Found;
-use crate::found_key::compare_first;
 use crate::found_members::FoundMembers;
 use crate::kept::{Kept, LostRoot};
 use crate::lost_and_found::{LostAndFound, Trees};
@@ -19,6 +18,7 @@ use crate::recovery::Recovery;
 use bolt_check::{Finding, NoMemory};
 use bolt_tree::{Item, Members, Walk};
 use std::alloc::Global;
+use std::cmp::Ordering;
 
 /// Why there is no joined listing.
 #[derive(Clone, Copy, Debug, PartialEq, Eq)]
@@ -36,6 +36,23 @@ impl From<NoMemory> for JoinFault {
 
     fn from(_fault: NoMemory) -> Self {
         JoinFault::Memory
+    }
+}
+
+/// The key of the bucket of what is found.
+pub(crate) fn lost_and_found<'a>() -> &'a [u8]
+    ensures { result.now ≡ lost_and_found }
+{
+    b"lost+found"
+}
+
+/// How the first part of a path compares with the key of the bucket of what is found.
+pub(crate) fn compare_first(path: &[&[u8]]) -> Ordering
+    ensures { result ≡ first_cmp (path_of path.now) }
+{
+    match path.first() {
+        Some(key) => key.cmp(lost_and_found()),
+        None => Ordering::Less,
     }
 }
 

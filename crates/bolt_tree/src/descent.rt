@@ -17,7 +17,7 @@ use bolt_format::Leaf;
 
 #[tactic(auto, using(crate::proofs::StackLemmas::retaken, crate::proofs::PagerLemmas::counted_zero))]
 impl<'a> Trail<'a> {
-    ghost use Rattle.bolt_tree.specs.Private.Trails.{HasBucket, HasTrail, IsMoved, ahead, trail_bucket, trail_frames};
+    ghost use Rattle.bolt_tree.specs.Private.Trails.{HasBucket, IsMoved, ahead, trail_bucket, trail_frames};
 
     /// Opens the root page, and pushes it before its first element or past its last.
     pub fn begin(&mut self, at_end: bool)

@@ -1,10 +1,9 @@
 //! The open pages of a bucket, and moves from entry to entry.
-ghost use Rattle.std.specs.Prelude.{◌≡◌, ◌∷◌, [], ◌≤◌, ◌-◌, IfSome, IsTrue, MatchOption, drop, false, length, true};
-ghost use Rattle.std.specs.Option.{option_map};
+ghost use Rattle.std.specs.Prelude.{◌≡◌, ◌∷◌, [], ◌≤◌, ◌-◌, IfSome, IsTrue, MatchOption, drop, false, length};
 ghost use Rattle.bolt_format.specs.{ElementPlaces.leaf_view, Elements.IsBucketValue};
 ghost use Rattle.bolt_check.specs.Counts.{counted};
 ghost use Rattle.bolt_tree.specs.{CursorBounds.OpensSeek, CursorBounds.SeeksInBounds, Pagers.pager_opened, Places.least_from};
-ghost use Rattle.bolt_tree.specs.{Private.BucketPages.elements_in, Private.BucketPages.pages_in, Private.Entered.opened_to};
+ghost use Rattle.bolt_tree.specs.{Private.BucketPages.elements_in, Private.BucketPages.pages_in};
 ghost use Rattle.bolt_tree.specs.Private.Stacks.{IsAtRest, IsOn, here_of};
 
 use crate::bucket::At;
