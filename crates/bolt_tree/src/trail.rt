@@ -28,7 +28,8 @@ pub(crate) struct SeekResult<'a> {
 
 #[tactic(auto, using(crate::proofs::StackLemmas::retaken, crate::proofs::PagerLemmas::counted_zero))]
 impl<'a> Trail<'a> {
-    ghost use Rattle.bolt_tree.specs.Private.Trails.{Finds, Goes, HasBucket, HasTrail, IsMoved, ahead, entries_left, pages_left, preceding, right, trail_bucket, trail_frames};
+    ghost use Rattle.bolt_tree.specs.Private.Trails.{Finds, Goes, HasBucket, HasTrail, IsMoved, ahead, entries_left, pages_left, right, trail_bucket};
+    ghost use Rattle.bolt_tree.specs.Private.Trails.{trail_frames};
 
     /// Goes to the first entry or, if `back` is set, to the last one. If there is none, the stack is
     /// empty.

@@ -2,7 +2,8 @@
 use Rattle.std.proofs.Common.{◌≡◌, ◌∙◌, ◌+◌, ◌-◌, ◌*◌, ◌<◌, ℕ, suc, length, sym, ap, arith, refl}
 use Rattle.bolt_tree.proofs.Words.{counted, entries_left, frame_of, frames_of, leaf_view, opened_content, pager_opened, pages_left, trail_bucket, trail_frames}
 use Rattle.bolt_tree.proofs.MoveLemmas.{opens, page_left, takes}
-use Rattle.bolt_tree.proofs.{PagerLemmas.counted_more, PagerLemmas.counted_zero, StackLemmas.popped, StackLemmas.retaken, StackLemmas.taken_bound, StackLemmas.taken_fits}
+use Rattle.bolt_tree.proofs.{PagerLemmas.counted_more, PagerLemmas.counted_zero, StackLemmas.popped, StackLemmas.retaken, StackLemmas.taken_bound}
+use Rattle.bolt_tree.proofs.StackLemmas.{taken_fits}
 use Rattle.bolt_tree.proofs.TrailLemmas.{frames_pop, length-frames, popped_stack, same_bucket}
 use Rattle.bolt_tree.proofs.trail.Trail.go.Goals as goal
 

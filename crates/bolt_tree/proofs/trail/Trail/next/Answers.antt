@@ -1,5 +1,6 @@
 use Rattle.std.proofs.Common.{◌≡◌, ◌∙◌, ◌-◌, length, sym, ap, arith, refl, rules}
-use Rattle.bolt_tree.proofs.{Words.contents_in, Words.counted, Words.pager_opened, Words.right, Words.trail_bucket, Words.trail_frames, Words.leaf_view, MoveLemmas.alone}
+use Rattle.bolt_tree.proofs.Words.{contents_in, counted, pager_opened, right, trail_bucket, trail_frames, leaf_view}
+use Rattle.bolt_tree.proofs.MoveLemmas.{alone}
 use Rattle.bolt_tree.proofs.{PagerLemmas.counted_zero, PlaceMoves.on_rests, TrailLemmas.length-frames}
 use Rattle.bolt_tree.proofs.trail.Trail.next.Goals as goal
 
