@@ -6,7 +6,7 @@ use Rattle.bolt_layout.specs.{Layout.placed_bytes, Levels.overflow_of}
 use Rattle.bolt_layout.specs.PageBytes.{branch_bytes, branch_data, branch_headers, page_bytes}
 use Rattle.bolt_layout.proofs.BranchLemmas.{length-branch_headers}
 use Rattle.bolt_format.proofs.WrittenHeaders.{length-header_bytes}
-use Rattle.bolt_format.specs.declared.kind.Kind.TheVariants as kind
+use Rattle.bolt_format.specs.declared.header.Kind.TheVariants as kind
 use Rattle.bolt_bulk.specs.{Private.IsSizedRun, Private.run_page, Private.run_view, declared.branch_run.BranchRun.BranchRun}
 use Rattle.bolt_format.specs.{Endings.Ending, Wrote.Wrote, declared.sink.Sink.Ghosts}
 use Rattle.bolt_bulk.proofs.{ElementPuts.ArePacked, FilledTexts.zeros, FilledTexts.filled_pieces}

@@ -2,7 +2,7 @@
 use Rattle.std.proofs.Common.{ℕ, List, ◌++◌}
 use Rattle.bolt_layout.specs.PageBytes.{copy_meta, filled, freelist_page, meta_page}
 use Rattle.bolt_format.specs.Written.{header_bytes, meta_bytes}
-use Rattle.bolt_format.specs.declared.kind.Kind.TheVariants as kind
+use Rattle.bolt_format.specs.declared.header.Kind.TheVariants as kind
 use Rattle.bolt_format.specs.{Endings.Ending, Wrote.Wrote, declared.sink.Sink.Ghosts}
 use Rattle.bolt_bulk.specs.Private.{first_pages}
 

@@ -6,7 +6,7 @@ use Rattle.bolt_layout.specs.Levels.{overflow_of}
 use Rattle.bolt_layout.specs.PageBytes.{inline_value, leaf_bytes, leaf_data, leaf_headers, page_bytes}
 use Rattle.bolt_layout.proofs.LeafLemmas.{length-leaf_headers}
 use Rattle.bolt_format.proofs.WrittenHeaders.{length-header_bytes}
-use Rattle.bolt_format.specs.declared.kind.Kind.TheVariants as kind
+use Rattle.bolt_format.specs.declared.header.Kind.TheVariants as kind
 use Rattle.bolt_bulk.specs.{Private.held_views, Private.leaf_page, Private.leaves_of, Private.page_size_of, declared.leaf_run.LeafRun.LeafRun}
 use Rattle.bolt_bulk.proofs.{ElementPuts.ArePacked, FilledTexts.zeros, FilledTexts.filled_pieces}
 use Rattle.bolt_format.proofs.WroteLemmas.{Wrote-same}

@@ -3,7 +3,7 @@ use Rattle.std.proofs.Common.{◌≡◌, ◌≢◌, ◌∙◌, ◌==◌, ℕ, �
 use Rattle.bolt_check.proofs.Words.{cond-false, first_of-none, freelist_fault, freelist_fault_of, Kind, Meta, ne_eqb, NO_FREELIST, page_at, page_fault, page_overflow, span_within}
 use Rattle.bolt_format.specs.{Freelists.freelist_kind_fault, Headers.count_field, Headers.flags_field, Headers.kind_of}
 use Rattle.bolt_format.specs.Pages.{from_page, span_bytes, span_fault, view_of}
-use Rattle.bolt_format.specs.declared.kind.Kind.TheVariants as kind
+use Rattle.bolt_format.specs.declared.header.Kind.TheVariants as kind
 
 is_freelist : (k : Option Kind) → freelist_kind_fault k ≡ None → k ≡ Some kind.Freelist
 is_freelist (Some kind.Freelist) e = refl

@@ -2,7 +2,7 @@
 use Rattle.std.proofs.Common.{◌≡◌, ◌∙◌, ℕ, ◌+◌, ◌*◌, ◌<◌, ◌≤◌, List, Option, Some, None, Result, Ok, Err, length, refl, sym, ap, subst, inl, inr, arith, []}
 use Rattle.bolt_check.proofs.Words.{At_page, cases_lt, HasRoom, IsClean, IsMetaPage, IsSome, Kind, Meta, Node, node_at, node_of, node_seen, page_at, page_fault, page_overflow, PageUse, PageView, root_spot, span_within}
 use Rattle.bolt_format.specs.Pages.{shown_as}
-use Rattle.bolt_format.specs.declared.kind.Kind.TheVariants as kind
+use Rattle.bolt_format.specs.declared.header.Kind.TheVariants as kind
 use Rattle.bolt_check.specs.Ways.{reached}
 use Rattle.bolt_format.proofs.PageFacts.{span_passes}
 

@@ -1,7 +1,7 @@
 -- Ways, addresses and the pages that they lead to, for the crates above too.
 use Rattle.std.proofs.Common.{◌≡◌, ◌∙◌, ℕ, suc, Bool, true, false, List, [], ◌∷◌, ◌++◌, map, Option, Some, None, Result, Ok, Err, slice_get, refl, sym, ap, subst, arith}
 use Rattle.bolt_check.proofs.Words.{At_page, child_at, child_in, child_spot, Entry, follow, HasShape, keys_of, Kind, leads, leaf_entry, Meta, Node, node_at, node_of, node_seen, Nodes, none-some, option_map, page_at, page_fault, PageSpot, PageView, same_Some, slice_get-map, SpanHas, SpanOf, Spot, step, upper_from}
-use Rattle.bolt_format.specs.declared.kind.Kind.TheVariants as kind
+use Rattle.bolt_format.specs.declared.header.Kind.TheVariants as kind
 use Rattle.bolt_check.specs.{Shape.child_of, Ways.reached}
 
 -- one way after another

@@ -5,7 +5,7 @@ ghost use Rattle.bolt_check.specs.{AccountFindings.AreAccountFindings, Accounts.
 ghost use Rattle.bolt_check.specs.Private.Listings.{AreAllFindings, ClaimsFreelist, ClaimsUses, IsUnlisted};
 ghost use Rattle.bolt_check.specs.Private.Tables.{HasRoom, IsClaimed, is_used, use_at};
 
-use crate::finding::Finding;
+use crate::fault::Finding;
 use crate::listing::{Listing, list_ids};
 use crate::listing_findings::report_listing;
 use crate::table::{PageUse, claim, first_claimed};

@@ -4,12 +4,10 @@ ghost use Rattle.bolt_format.specs.{Bytes.IsBytes, Pages.page_at, Shown.shown};
 ghost use Rattle.bolt_check.specs.{Counts.counted, Findings.IsMetaPage, Findings.PagePasses, Findings.PageTests, Nodes.node_at, Private.Listings.IsUnlisted};
 ghost use Rattle.bolt_check.specs.{Private.Tables.HasRoom, ShownNodes.shown_node, ShownSpots.page_spot, TableLengths.table_length, Ways.At_page, Ways.SpanAt};
 
-use crate::fault::NoMemory;
-use crate::finding::Finding;
-use crate::spot::PageSpot;
+use crate::fault::{Finding, NoMemory};
 use crate::table::{PageUse, new_table, reset};
 use crate::tree_page::TreePage;
-use crate::visit::visit;
+use crate::visit::{PageSpot, visit};
 use bolt_format::Meta;
 use std::alloc::Global;
 

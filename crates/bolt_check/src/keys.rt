@@ -5,7 +5,7 @@ ghost use Rattle.bolt_format.specs.ShownInline.{shown_inline};
 ghost use Rattle.bolt_check.specs.{Findings.keys_of, Keys.key_lt, Keys.key_order_fault, Keys.keys_order_fault, ShownSpots.bound_of, ShownSpots.inline_keys};
 ghost use Rattle.bolt_check.specs.ShownNodes.{shown_node};
 
-use crate::finding::Finding;
+use crate::fault::Finding;
 use crate::tree_page::TreePage;
 use bolt_format::Inline;
 

@@ -10,11 +10,9 @@ ghost use Rattle.bolt_check.specs.{ShownNodes.shown_node, Ways.At_page, Ways.Spa
 
 use crate::claims::Claims;
 use crate::listing::list_ids_within;
-use crate::node::open;
-use crate::spot::PageSpot;
 use crate::table::{PageUse, is_listed};
 use crate::tree_page::TreePage;
-use crate::visit::visit;
+use crate::visit::{PageSpot, open, visit};
 use bolt_format::{Meta, free_ids};
 
 /// The pages of a file that were not claimed, and which of them are listed as free. Intact leaves are

@@ -2,7 +2,7 @@
 ghost use Rattle.std.specs.Prelude.{◌≡◌, ◌≤◌, ◌<◌, ◌+◌, ◌++◌, ◌↔◌, [], IfOk, IsTrue, OnOk, length};
 ghost use Rattle.bolt_check.specs.Private.Listings.{AreAllFindings, AreFindingsBelow, HasFindingsTo, IsBeyondTo, IsPastTo, IsSettled, is_in_use, is_repeated, listed_times, meta_findings, page_findings, repeat_findings, run_findings, use_findings};
 
-use crate::finding::Finding;
+use crate::fault::Finding;
 use crate::listing::Listing;
 use crate::table::PageUse;
 use std::alloc::{AllocError, Global};
@@ -65,16 +65,7 @@ fn report_page(findings: &mut Vec<Finding>, page: u64, page_use: PageUse) -> Res
 fn is_unused(page_use: PageUse) -> bool
     ensures { IsTrue result ↔ (page_use ≡ PageUse.Unused) }
 {
-    match page_use {
-        PageUse::Unused => true,
-        PageUse::Branch
-        | PageUse::Leaf
-        | PageUse::Used
-        | PageUse::Free
-        | PageUse::FreeTwice
-        | PageUse::UsedFree
-        | PageUse::UsedFreeTwice => false,
-    }
+    matches!(page_use, PageUse::Unused)
 }
 
 /// Reports one page of the table. If the run of lost pages from `from` on ends before it, that is

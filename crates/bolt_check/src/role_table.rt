@@ -1,4 +1,4 @@
-//! The roles of all pages of a file, as a table.
+//! Roles: what each page of a file is for, as a table of uses says it.
 ghost use Rattle.std.specs.Prelude.{◌≡◌, ◌<◌};
 ghost use Rattle.bolt_check.specs.{CheckedFiles.bytes_of, CheckedFiles.meta_of, Private.RoleTables.AreUses, Private.RoleTables.role_by, Private.Tables.use_at};
 ghost use Rattle.bolt_check.specs.Roles.{HasRole};

@@ -9,10 +9,9 @@ ghost use Rattle.bolt_check.specs.{Private.Uses.HasUse, Private.Uses.IsMetaUse, 
 ghost use Rattle.bolt_check.specs.declared.table.PageUse.{PageUse};
 
 use crate::fault::CheckFault;
-use crate::spot::{PageSpot, Spot};
 use crate::table::{PageUse, new_table};
 use crate::tree_page::TreePage;
-use crate::visit::visit;
+use crate::visit::{PageSpot, Spot, visit};
 use bolt_format::Meta;
 use std::alloc::{AllocError, Global};
 

@@ -1,4 +1,5 @@
-//! Is a whole file sound, and are the trees of one meta?
+//! Is a whole file sound, and are the trees of one meta? That may be the meta of a slot, or one that is
+//! assumed for a file whose own metas are lost.
 ghost use Rattle.std.specs.Prelude.{◌≡◌, ◌<◌, false, true, IfErr, IfOk, OnOk, ◌↔◌, ◌*◌, ℕ};
 ghost use Rattle.bolt_format.specs.Metas.{IsChosen, IsInSlot};
 ghost use Rattle.bolt_check.specs.{CheckedFiles.bytes_of, CheckedFiles.has_accounts, CheckedFiles.meta_of, RoledFiles.roles_checked};

@@ -1,7 +1,7 @@
 -- The answer of `page`, whether the page is good or not.
 use Rattle.std.proofs.Common.{◌≡◌, ◌≢◌, ◌↔◌, ℕ, List, Option, Some, None, Result, Ok, Err, refl}
 use Rattle.bolt_cli.proofs.Vocabulary.{Does, Ending, Ghosts, IsErrAnd, ReportFault, Wrote, done, fault_ending, page_answer, reported, whole}
-use Rattle.bolt_format.specs.declared.fault.PageFault.{PageFault}
+use Rattle.bolt_format.specs.declared.open_page.PageFault.{PageFault}
 use Rattle.bolt_report.specs.declared.fault.ReportFault.TheVariants as report
 use Rattle.bolt_cli.specs.declared.failure.Failure.TheVariants as failure
 use Rattle.bolt_cli.proofs.Doing.{Does-nothing, Does-part, Does-whole}

@@ -2,7 +2,7 @@
 pub use Rattle.bolt_bulk.specs.{Compacting.too_many, declared.fault.BulkFault.BulkFault}
 pub use Rattle.bolt_check.specs.{CheckedFiles.bytes_of, CheckedFiles.meta_of, Findings.IsClaimedBefore, Findings.IsMetaPage, Findings.finding, Keys.Key}
 pub use Rattle.bolt_check.specs.{Nodes.leaf_entry, Nodes.node_at, Sound.HasSoundTrees, Sound.IsFirstFinding, Sound.IsSound}
-pub use Rattle.bolt_check.specs.{declared.checked_file.Checked.Checked, declared.fault.CheckFault.CheckFault, declared.finding.Finding.Finding}
+pub use Rattle.bolt_check.specs.{declared.checked_file.Checked.Checked, declared.fault.CheckFault.CheckFault, declared.fault.Finding.Finding}
 pub use Rattle.bolt_cli.specs.Answers.{AddsEntry, Answer, AnswersFound, AnswersLosses, AreFoundPages, CopiesInPart, CopiesWhole, Does, DoesJob, Ending, HasStats, HoldsIn, HoldsNone}
 pub use Rattle.bolt_cli.specs.Answers.{IsCheckAnswer, IsCheckAnswerAfter, IsEndedOrCut, IsEntriesAnswer, IsFileRefusal, IsFoundAnswer, IsFoundPagesAnswer, IsGetAnswer, IsInfoAnswer}
 pub use Rattle.bolt_cli.specs.Answers.{IsJoinedList, IsListAnswer, IsListedAnswer, IsLossesAnswer, IsReadAnswer, IsReadUnder, IsRecoveredAnswer, IsRecoveredList, IsRecoveredUnder}

@@ -6,9 +6,9 @@ use Rattle.bolt_layout.specs.Copies.{layout_of_listing}
 use Rattle.bolt_check.specs.{Roles.AreRoles, Sound.AreTreesRefused, Sound.HasSoundTrees, Sound.IsRefused, Sound.IsSlotRefused, Sound.IsSound}
 use Rattle.bolt_check.specs.declared.fault.CheckFault.{CheckFault}
 use Rattle.bolt_check.specs.declared.fault.CheckFault.TheVariants as check
-use Rattle.bolt_check.specs.{declared.finding.Finding.Finding, declared.role_table.Role.Role}
+use Rattle.bolt_check.specs.{declared.fault.Finding.Finding, declared.role_table.Role.Role}
 use Rattle.bolt_format.specs.{Elements.LeafElement, Metas.HasMetaFault, Metas.HasSlotFault, Metas.IsChosen, Metas.IsInSlot, Pages.page_at}
-use Rattle.bolt_format.specs.{Sinks.AppendsPrefix, Sinks.AppendsProperPrefix, declared.fault.PageFault.PageFault, declared.meta.Meta.Meta}
+use Rattle.bolt_format.specs.{Sinks.AppendsPrefix, Sinks.AppendsProperPrefix, declared.open_page.PageFault.PageFault, declared.meta.Meta.Meta}
 use Rattle.bolt_format.specs.{declared.meta.MetaFault.MetaFault, declared.meta.Slot.Slot}
 use Rattle.bolt_load.specs.{LineFaults.IsListingText, LineFaults.IsLoadFault, LineMembers.text_members, declared.fault.LoadFault.LoadFault}
 use Rattle.bolt_recover.specs.{Found.AreFound, JoinRefusals.IsJoinRefusal, Joined.IsJoined, Joined.LacksBucketKey}

@@ -4,7 +4,7 @@ use Rattle.bolt_bulk.specs.declared.fault.BulkFault.{BulkFault}
 use Rattle.bolt_bulk.specs.declared.fault.BulkFault.TheVariants as bulk
 use Rattle.bolt_check.specs.declared.fault.CheckFault.{CheckFault}
 use Rattle.bolt_check.specs.declared.fault.CheckFault.TheVariants as check
-use Rattle.bolt_check.specs.declared.finding.Finding.{Finding}
+use Rattle.bolt_check.specs.declared.fault.Finding.{Finding}
 use Rattle.bolt_load.specs.{FaultWords.line_fault_words, declared.fault.LoadFault.LoadFault}
 use Rattle.bolt_load.specs.declared.fault.LoadFault.TheVariants as load
 use Rattle.bolt_recover.specs.declared.joined.JoinFault.{JoinFault}

@@ -6,7 +6,7 @@ use Rattle.std.specs.List.{Contains, slice_range}
 use Rattle.bolt_format.specs.{Bytes.IsBytes, ElementLengths.HasFitLengths, ElementLengths.IsKeyLength, ElementLengths.IsValueLength}
 use Rattle.bolt_format.specs.Elements.{IsBucketValue, LeafElement, element_at, head_root, inline_bytes, inline_elements, key_length_fault, leaf_element, leaf_end, leaf_flags, leaf_flags_fault, leaf_key_length, leaf_key_start, leaf_value_length, leaf_value_start, leaves_fault, plain_leaf_fault, table_fault, value_length_fault}
 use Rattle.bolt_format.specs.Pages.{PageView, page_at, span_bytes}
-use Rattle.bolt_format.specs.declared.kind.Kind.TheVariants as kind
+use Rattle.bolt_format.specs.declared.header.Kind.TheVariants as kind
 use Rattle.bolt_format.specs.declared.meta.Meta.{Meta}
 use Rattle.bolt_format.proofs.{FaultLemmas.first_of-none, GoodPages.faults_from-none, GoodPages.guard-none, GoodPages.plain-none}
 use Rattle.bolt_format.proofs.PageFacts.{in_inline, on_leaf}

@@ -10,7 +10,7 @@ use Rattle.std.specs.List.{list_any, range_with_len}
 use Rattle.bolt_format.specs.Elements.{IsBucketValue, branch_element, branch_elements, branch_end, branch_fault, branch_key_length, branch_key_start, branches_fault, data_fault, element_at, faults_from, has_bucket, head_fault, head_root, inline_bytes, inline_fault, inline_page_fault, is_bucket_at, key_length_fault, leaf_element, leaf_elements, leaf_end, leaf_flags, leaf_flags_fault, leaf_key_length, leaf_key_start, leaf_value, leaf_value_length, leaves_fault, plain_leaf_fault, table_fault, value_fault, value_length_fault}
 use Rattle.bolt_format.specs.Headers.{count_field, flags_field, id_field, kind_of}
 use Rattle.bolt_format.specs.Pages.{content_fault, fault_as, from_page, page_at, page_fault, page_overflow, shown_as, span_bytes, span_fault}
-use Rattle.bolt_format.specs.{Private.Spans.IsSpan, Private.Spans.IsWithin, declared.meta.Meta.Meta, declared.open_page.Span.Span, declared.kind.Kind.Kind}
+use Rattle.bolt_format.specs.{Private.Spans.IsSpan, Private.Spans.IsWithin, declared.meta.Meta.Meta, declared.open_page.Span.Span, declared.header.Kind.Kind}
 use Rattle.bolt_format.proofs.FaultLemmas.{first_of-none}
 
 -- a test that found nothing

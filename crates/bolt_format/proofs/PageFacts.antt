@@ -5,8 +5,8 @@ use Rattle.std.specs.List.{Contains, range_with_len}
 use Rattle.bolt_format.specs.Elements.{IsBucketValue, LeafElement, head_fault, head_root, inline_bytes, inline_elements, leaf_element, leaf_elements, leaves_fault, value_fault}
 use Rattle.bolt_format.specs.Headers.{count_field, flags_field, kind_of}
 use Rattle.bolt_format.specs.Pages.{PageView, fault_as, from_page, page_at, page_fault, page_overflow, shown_as, span_bytes, span_fault, view_of}
-use Rattle.bolt_format.specs.{declared.meta.Meta.Meta, declared.kind.Kind.Kind}
-use Rattle.bolt_format.specs.declared.kind.Kind.TheVariants as kind
+use Rattle.bolt_format.specs.{declared.meta.Meta.Meta, declared.header.Kind.Kind}
+use Rattle.bolt_format.specs.declared.header.Kind.TheVariants as kind
 use Rattle.bolt_format.proofs.FaultLemmas.{first_of-none}
 use Rattle.bolt_format.proofs.GoodPages.{good_fault, good_inline, good_leaf, good_within, no_bucket-at, good_span}
 

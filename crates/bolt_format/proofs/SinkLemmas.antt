@@ -40,23 +40,19 @@ more_some (x ∷ xs) ys some none = absurd (cc)
 pub AppendsProperPrefix-prefix : (old new : Option (List ℕ)) (text : List ℕ) → AppendsProperPrefix old new text → AppendsPrefix old new text
 AppendsProperPrefix-prefix old new text begun = record { front = begun.front; rest = begun.rest; parts = begun.parts; taken = begun.taken }
 
+-- a prefix that leaves some of the text is a proper one,
+proper : (old new : Option (List ℕ)) (text : List ℕ) (begun : AppendsPrefix old new text) → begun.rest ≢ [] → AppendsProperPrefix old new text
+proper old new text begun short = record { front = begun.front; rest = begun.rest; parts = begun.parts; short = short; taken = begun.taken }
+
 -- one of the first text is one of both,
 pub AppendsProperPrefix-first : (old new : Option (List ℕ)) (first second : List ℕ) → AppendsProperPrefix old new first → AppendsProperPrefix old new (first ++ second)
-AppendsProperPrefix-first old new first second begun = record {
-  front = begun.front;
-  rest = begun.rest ++ second;
-  parts = ap (λ text. text ++ second) begun.parts ∙ append_assoc begun.front begun.rest second;
-  short = more_some begun.rest second begun.short;
-  taken = begun.taken;
-}
+unfolding AppendsPrefix-first AppendsProperPrefix-prefix
+AppendsProperPrefix-first old new first second begun = proper old new (first ++ second)
+    (AppendsPrefix-first old new first second (AppendsProperPrefix-prefix old new first begun)) (more_some begun.rest second begun.short)
 
 -- and so is the whole first text with one of the second
 pub AppendsProperPrefix-second : (old mid new : Option (List ℕ)) (first second : List ℕ) → Appends old mid first → AppendsProperPrefix mid new second
     → AppendsProperPrefix old new (first ++ second)
-AppendsProperPrefix-second old mid new first second taken begun = record {
-  front = first ++ begun.front;
-  rest = begun.rest;
-  parts = ap (λ text. first ++ text) begun.parts ∙ sym (append_assoc first begun.front begun.rest);
-  short = begun.short;
-  taken = Appends-trans old mid new first begun.front taken begun.taken;
-}
+unfolding AppendsPrefix-second AppendsProperPrefix-prefix
+AppendsProperPrefix-second old mid new first second taken begun = proper old new (first ++ second)
+    (AppendsPrefix-second old mid new first second taken (AppendsProperPrefix-prefix mid new second begun)) begun.short

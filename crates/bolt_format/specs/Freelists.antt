@@ -3,8 +3,9 @@ use Rattle.std.specs.Prelude.{◌==◌, ℕ, ◌+◌, ◌*◌, nat_lt, List, len
 use Rattle.std.specs.List.{range_with_len}
 use Rattle.bolt_format.specs.{Bytes.number_at, Elements.first_of, Headers.count_field, Headers.flags_field, Headers.kind_of}
 use Rattle.bolt_format.specs.Pages.{from_page, span_bytes, span_fault}
-use Rattle.bolt_format.specs.{declared.fault.TheConstants.PageFault.ELEMENT_CUT, declared.fault.TheConstants.PageFault.PAGE_KIND, declared.kind.Kind.Kind}
-use Rattle.bolt_format.specs.declared.kind.Kind.TheVariants as kind
+use Rattle.bolt_format.specs.declared.open_page.TheConstants.PageFault.{ELEMENT_CUT, PAGE_KIND}
+use Rattle.bolt_format.specs.declared.header.Kind.{Kind}
+use Rattle.bolt_format.specs.declared.header.Kind.TheVariants as kind
 use Rattle.bolt_format.specs.{declared.meta.Meta.Meta, declared.meta.TheConstants.NO_FREELIST}
 
 -- A count of 0xFFFF means that the first 8 bytes are the number of ids, and that the ids follow.
@@ -24,10 +25,7 @@ ids_fault count bytes = if nat_lt (length bytes) (ids_start count + 8 * id_count
 
 abbrev pub freelist_kind_fault : Option Kind → Option ℕ
 freelist_kind_fault (Some kind.Freelist) = None
-freelist_kind_fault (Some kind.Branch) = Some PAGE_KIND
-freelist_kind_fault (Some kind.Leaf) = Some PAGE_KIND
-freelist_kind_fault (Some kind.Meta) = Some PAGE_KIND
-freelist_kind_fault None = Some PAGE_KIND
+freelist_kind_fault _ = Some PAGE_KIND
 
 -- the tests of a page as a freelist: of its number, header and span, its kind and its ids
 unfoldable pub freelist_fault : List ℕ → Meta → ℕ → Option ℕ

@@ -1,7 +1,7 @@
 -- The header at the start of a page: docs/FORMAT.md, "Page header".
 use Rattle.std.specs.Prelude.{◌==◌, ℕ, List, Option, Some, None, if◌then◌else◌}
-use Rattle.bolt_format.specs.{Bytes.number_at, declared.kind.Kind.Kind}
-use Rattle.bolt_format.specs.declared.kind.Kind.TheVariants as kind
+use Rattle.bolt_format.specs.{Bytes.number_at, declared.header.Kind.Kind}
+use Rattle.bolt_format.specs.declared.header.Kind.TheVariants as kind
 
 -- the fields of the header in the first 16 bytes
 abbrev pub id_field : List ℕ → ℕ

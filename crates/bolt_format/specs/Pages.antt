@@ -2,9 +2,9 @@
 use Rattle.std.specs.Prelude.{◌==◌, ◌<◌, ◌≤◌, ℕ, ◌+◌, ◌*◌, not, nat_lt, nat_le, List, [], length, drop, Option, Some, None, if◌then◌else◌, is_some, slice_range}
 use Rattle.bolt_format.specs.Headers.{id_field, flags_field, count_field, overflow_field, kind_of}
 use Rattle.bolt_format.specs.Elements.{BranchElement, LeafElement, first_of, branch_elements, branches_fault, leaf_elements, leaves_fault, value_fault}
-use Rattle.bolt_format.specs.{declared.meta.Meta.Meta, declared.kind.Kind.Kind}
-use Rattle.bolt_format.specs.declared.kind.Kind.TheVariants as kind
-use Rattle.bolt_format.specs.declared.fault.TheConstants.PageFault.{RANGE, CUT, ID, PAGE_KIND}
+use Rattle.bolt_format.specs.{declared.meta.Meta.Meta, declared.header.Kind.Kind}
+use Rattle.bolt_format.specs.declared.header.Kind.TheVariants as kind
+use Rattle.bolt_format.specs.declared.open_page.TheConstants.PageFault.{RANGE, CUT, ID, PAGE_KIND}
 
 -- the file from the first byte of a page
 abbrev pub from_page : List ℕ → Meta → ℕ → List ℕ
@@ -46,15 +46,11 @@ pub record PageView : Type 0 where
 -- the elements that a page of a kind shows
 abbrev pub shown_branches : Kind → ℕ → List ℕ → List BranchElement
 shown_branches kind.Branch count bytes = branch_elements bytes count
-shown_branches kind.Leaf count bytes = []
-shown_branches kind.Meta count bytes = []
-shown_branches kind.Freelist count bytes = []
+shown_branches _ count bytes = []
 
 abbrev pub shown_leaves : Kind → ℕ → List ℕ → List LeafElement
-shown_leaves kind.Branch count bytes = []
 shown_leaves kind.Leaf count bytes = leaf_elements bytes count
-shown_leaves kind.Meta count bytes = []
-shown_leaves kind.Freelist count bytes = []
+shown_leaves _ count bytes = []
 
 abbrev pub view_of : Kind → (count overflow : ℕ) → List ℕ → PageView
 view_of kind count overflow bytes = record {

@@ -1,13 +1,16 @@
-//! The elements of branch and leaf pages. The bytes are those from the page's first byte to the end
-//! of its span or, for an inline page, to the end of the bucket's value.
+//! The elements of branch and leaf pages, and their tests. The bytes are those from the page's first
+//! byte to the end of its span or, for an inline page, to the end of the bucket's value.
 ghost use Rattle.std.specs.Prelude.{◌≡◌, ◌+◌, ◌≤◌, length, IfOk};
 ghost use Rattle.std.specs.Result.{result_err};
-ghost use Rattle.bolt_format.specs.Elements.{branch_child, branch_element, branch_end, branch_fault, branch_key_start, data_fault, element_at, is_bucket_at, key_length_fault, leaf_element, leaf_end, leaf_flags, plain_leaf_fault, table_fault};
-ghost use Rattle.bolt_format.specs.ElementPlaces.{IsBranchPlace, IsLeafPlace, branch_view, leaf_view};
+ghost use Rattle.bolt_format.specs.Elements.{branch_element, branch_end, branch_fault, branch_key_start, branches_fault, data_fault, element_at, is_bucket_at};
+ghost use Rattle.bolt_format.specs.Elements.{key_length_fault, leaf_element, leaf_end, leaf_flags, leaves_fault, plain_leaf_fault, table_fault, value_fault};
+ghost use Rattle.bolt_format.specs.{ElementPlaces.IsBranchPlace, ElementPlaces.IsLeafPlace, ElementPlaces.branch_view, ElementPlaces.leaf_view};
+ghost use Rattle.bolt_format.specs.Pages.{content_fault};
 
+use crate::bucket::test_bucket_value;
 use crate::bytes::{u32_at, u64_at};
-use crate::fault::PageFault;
-use crate::header::HEADER_LEN;
+use crate::header::{HEADER_LEN, Kind};
+use crate::open_page::PageFault;
 
 /// The length of an element's header.
 pub const ELEMENT_LEN: usize = 16;
@@ -109,15 +112,6 @@ fn branch_place(bytes: &[u8], i: u16) -> BranchPlace
     }
 }
 
-/// The page number that branch element `i` leads to.
-#[tactic(auto, unfolding(crate::specs::Elements::branch_child))]
-fn child_at(bytes: &[u8], i: u16) -> u64
-    requires { element_at (i + 1) ≤ length bytes.now }
-    ensures { result ≡ branch_child bytes.now i }
-{
-    u64_at(bytes, element_offset(i) + 8)
-}
-
 /// Tests branch element `i`, and returns where its data ends.
 #[tactic(auto, unfolding(crate::specs::Elements::branch_fault))]
 pub(crate) fn test_branch(bytes: &[u8], free: usize, i: u16) -> Result<usize, u8>
@@ -185,7 +179,46 @@ pub(crate) fn test_leaf(bytes: &[u8], free: usize, i: u16) -> Result<LeafPlace, 
     Ok(place)
 }
 
+/// Tests the content of a page: its elements, if it is a branch or a leaf.
+pub(crate) fn test_content(kind: Kind, bytes: &[u8], count: u16) -> Result<(), u8>
+    ensures { result_err result ≡ content_fault kind count bytes.now }
+{
+    match kind {
+        Kind::Branch => test_branches(bytes, count),
+        Kind::Leaf => test_leaves(bytes, count),
+        Kind::Meta => Ok(()),
+        Kind::Freelist => Ok(()),
+    }
+}
+
+#[tactic(auto, using(crate::proofs::FaultLemmas::faults_from_step, crate::proofs::FaultLemmas::faults_from_end), unfolding(crate::specs::Elements::branches_fault))]
+fn test_branches(bytes: &[u8], count: u16) -> Result<(), u8>
+    ensures { result_err result ≡ branches_fault bytes.now count }
+{
+    let mut free = test_table(bytes, count)?;
+    for i in 0..count {
+        free = test_branch(bytes, free, i)?;
+    }
+    Ok(())
+}
+
+#[tactic(auto, using(crate::proofs::FaultLemmas::faults_from_step, crate::proofs::FaultLemmas::faults_from_end), unfolding(crate::specs::Elements::leaves_fault))]
+fn test_leaves(bytes: &[u8], count: u16) -> Result<(), u8>
+    ensures { result_err result ≡ leaves_fault value_fault bytes.now count }
+{
+    let mut free = test_table(bytes, count)?;
+    for i in 0..count {
+        let place = test_leaf(bytes, free, i)?;
+        if is_bucket(bytes, i) {
+            test_bucket_value(&bytes[place.value..place.end])?;
+        }
+        free = place.end;
+    }
+    Ok(())
+}
+
 /// Branch element `i`.
+#[tactic(auto, unfolding(crate::specs::Elements::branch_child))]
 pub(crate) fn branch_at(bytes: &[u8], i: u16) -> Branch<'_>
     requires table { element_at (i + 1) ≤ length bytes.now }
     requires data { branch_end bytes.now i ≤ length bytes.now }
@@ -194,7 +227,7 @@ pub(crate) fn branch_at(bytes: &[u8], i: u16) -> Branch<'_>
     let place = branch_place(bytes, i);
     Branch {
         key: &bytes[place.key..place.end],
-        child: child_at(bytes, i),
+        child: u64_at(bytes, element_offset(i) + 8),
     }
 }
 

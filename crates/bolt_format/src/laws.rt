@@ -6,8 +6,8 @@ ghost use Rattle.bolt_format.specs.Metas.{HasMetaFault, HasSlotFault, IsChosen, 
 ghost use Rattle.bolt_format.specs.Pages.{PageView, page_at};
 ghost use Rattle.bolt_format.specs.ReadBack.{IsBranchHeader, IsBranchHeaderFit, IsHead, IsHeader, IsHeaderFit, IsLeafHeader, IsLeafHeaderFit, IsMetaFit};
 ghost use Rattle.bolt_format.specs.Written.{branch_header, head_bytes, header_bytes, leaf_header, meta_bytes};
-ghost use Rattle.bolt_format.specs.declared.kind.Kind.{Kind};
-ghost use Rattle.bolt_format.specs.declared.kind.Kind.TheVariants as kind;
+ghost use Rattle.bolt_format.specs.declared.header.Kind.{Kind};
+ghost use Rattle.bolt_format.specs.declared.header.Kind.TheVariants as kind;
 ghost use Rattle.bolt_format.specs.{declared.meta.Meta.Meta, declared.meta.MetaFault.MetaFault, declared.meta.Slot.Slot};
 
 /// A page has at most one meta fault, and none if its meta is valid.

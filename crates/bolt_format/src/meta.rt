@@ -1,9 +1,8 @@
 //! The two meta records of a file, and which of them is active.
 ghost use Rattle.std.specs.Prelude.{◌≡◌, ◌↔◌, IfErr, IfNone, IfOk, IfSome, IsTrue, OnErr};
 ghost use Rattle.bolt_format.specs.Metas.{HasMetaFault, HasSlotFault, IsChosen, IsInSlot, IsLoneMeta, IsMeta, IsMetasEnd, IsPageSize};
-ghost use Rattle.bolt_format.specs.Bytes.{fnv_of};
 
-use crate::bytes::{u32_at, u64_at};
+use crate::bytes::{fnv1a, u32_at, u64_at};
 
 /// The accepted page sizes, in bytes, in rising order.
 const PAGE_SIZES: [u64; 16] = [
@@ -180,20 +179,4 @@ fn lone_meta(file: &[u8]) -> Option<Meta>
         }
     }
     None
-}
-
-const FNV_BASIS: u64 = 0xcbf2_9ce4_8422_2325;
-
-const FNV_PRIME: u64 = 0x0100_0000_01b3;
-
-/// The 64-bit FNV-1a checksum of the bytes (docs/FORMAT.md, "Checksum").
-#[tactic(auto, unfolding(crate::specs::Bytes::fnv_step, crate::specs::Bytes::fnv_of))]
-pub fn fnv1a(bytes: &[u8]) -> u64
-    ensures { result ≡ fnv_of bytes.now }
-{
-    let mut hash = FNV_BASIS;
-    for byte in bytes {
-        hash = (hash ^ u64::from(*byte)).wrapping_mul(FNV_PRIME);
-    }
-    hash
 }

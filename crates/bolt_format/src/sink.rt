@@ -1,7 +1,10 @@
-//! Sinks: what output is written to.
-ghost use Rattle.std.specs.Prelude.{◌≡◌, ◌≢◌, ◌<◌, ℕ, List, [], None, Option, OnErr, OnOk, IsErr, true};
+//! Sinks: what output is written to. One is in memory, and one is over a writer.
+ghost use Rattle.std.specs.Prelude.{◌≡◌, ◌≢◌, ◌<◌, ℕ, List, [], None, Option, OnErr, OnOk, IsErr, Some, true};
 ghost use Rattle.std.specs.Io.KnownBytes.{Appends, Keeps};
 ghost use Rattle.bolt_format.specs.Sinks.{AppendsPrefix, AppendsProperPrefix};
+
+use std::alloc::Global;
+use std::io::Write;
 
 /// A sink has failed. It has accepted a prefix of the bytes at most, and accepts no more from now
 /// on.
@@ -44,5 +47,126 @@ pub trait Sink {
         ensures { result ≡ true → taken self.now ≡ None }
     {
         false
+    }
+}
+
+/// A sink that keeps its bytes in memory. It may have a limit. If memory can't grow, that is a
+/// failure.
+#[derive(Drop)]
+pub struct MemSink {
+    items: Vec<u8>,
+    fuse: usize,
+    failures: u64,
+}
+
+impl MemSink {
+    /// An empty sink without a limit.
+    pub fn new(alloc: Global) -> Self
+        ensures taken { ⟦<MemSink as Sink>⟧.taken result ≡ Some [] }
+        ensures sound { ⟦<MemSink as Sink>⟧.failed result ≡ 0 }
+    {
+        MemSink::with_fuse(alloc, usize::MAX)
+    }
+
+    /// An empty sink with a limit. It accepts `fuse` bytes in all and fails at the next one, after
+    /// it has accepted what still fits. Tests use it to see what a failure leaves behind.
+    pub fn with_fuse(alloc: Global, fuse: usize) -> Self
+        ensures taken { ⟦<MemSink as Sink>⟧.taken result ≡ Some [] }
+        ensures sound { ⟦<MemSink as Sink>⟧.failed result ≡ 0 }
+    {
+        MemSink {
+            items: Vec::new(alloc),
+            fuse,
+            failures: 0,
+        }
+    }
+
+    /// All bytes that it has accepted, in order.
+    pub fn bytes(&self) -> &[u8]
+        ensures { ⟦<MemSink as Sink>⟧.taken self.now ≡ Some result.now }
+    {
+        self.items.as_slice()
+    }
+}
+
+impl Sink for MemSink {
+    ghost taken = { λ s. Some s.items.items };
+
+    ghost failed = { λ s. s.failures };
+
+    fn put(&mut self, bytes: &[u8]) -> Result<(), SinkFault> {
+        if self.failures > 0 {
+            return Err(SinkFault);
+        }
+        let room = self.fuse.saturating_sub(self.items.len());
+        let (front, rest) = bytes.split_at(room.min(bytes.len()));
+        if self.items.extend_from_slice(front).is_err() || !rest.is_empty() {
+            self.failures = 1;
+            return Err(SinkFault);
+        }
+        Ok(())
+    }
+
+    fn failures(&self) -> u64 {
+        self.failures
+    }
+}
+
+/// A sink over a writer. It has failed if a write returns an error of any kind, or 0 bytes for a
+/// piece that isn't empty. It shows its bytes if the writer does.
+#[derive(Drop)]
+pub struct WriteSink<W: Write> {
+    writer: W,
+    failures: u64,
+}
+
+impl<W: Write> WriteSink<W> {
+    /// A sink over a writer that has accepted nothing yet.
+    pub fn new(writer: W) -> Self
+        ensures taken { ⟦<WriteSink<W> as Sink>⟧.taken result ≡ W.contents writer }
+        ensures sound { ⟦<WriteSink<W> as Sink>⟧.failed result ≡ 0 }
+    {
+        WriteSink {
+            writer,
+            failures: 0,
+        }
+    }
+
+    /// The writer, after everything that the sink has accepted.
+    pub fn into_inner(self) -> W
+        ensures { W.contents result ≡ ⟦<WriteSink<W> as Sink>⟧.taken self }
+    {
+        let WriteSink {
+            writer,
+            failures: _,
+        } = self;
+        writer
+    }
+}
+
+impl<W: Write> Sink for WriteSink<W> {
+    ghost taken = { λ s. W.contents s.writer };
+
+    ghost failed = { λ s. s.failures };
+
+    fn put(&mut self, bytes: &[u8]) -> Result<(), SinkFault> {
+        if self.failures > 0 {
+            return Err(SinkFault);
+        }
+        let mut rest = bytes;
+        while !rest.is_empty() {
+            match self.writer.write(rest) {
+                Ok(n) if n > 0 => rest = &rest[n..],
+                _ => {
+                    self.failures = 1;
+                    return Err(SinkFault);
+                }
+            }
+        }
+        Ok(())
+    }
+
+    fn failures(&self) -> u64 {
+        self.failures
     }
 }

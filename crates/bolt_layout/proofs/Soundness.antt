@@ -5,7 +5,7 @@ use Rattle.bolt_layout.proofs.SpanLemmas.{IsEmptyFreelist, IsShown, freelist_sho
 use Rattle.bolt_format.specs.{Metas.HasBothMetas, ReadBack.IsMetaFit}
 use Rattle.bolt_check.specs.{Nodes.node_seen, Sound.HasRightAccounts, Sound.PassesTests}
 use Rattle.bolt_layout.specs.Layout.{file_bytes}
-use Rattle.bolt_format.specs.declared.kind.Kind.TheVariants as kind
+use Rattle.bolt_format.specs.declared.header.Kind.TheVariants as kind
 use Rattle.bolt_layout.proofs.{Parts.IsPart, Parts.part_clean, PageRows.IsInARow, PageRows.IsPageFit, PageRows.length-placed, PageRows.row_shown}
 use Rattle.bolt_layout.proofs.{LeafPages.IsPage, LaidPages.AreNodes, LaidPages.limit}
 use Rattle.bolt_layout.proofs.TreeItems.{root_page, tree_items, tree_rise, within_none}

@@ -14,7 +14,7 @@ unfoldable pub use Rattle.bolt_format.specs.Pages.{page_at, page_fault, span_fau
 unfoldable pub use Rattle.bolt_format.specs.Written.{branch_header, head_bytes, header_bytes, leaf_header, meta_bytes, meta_record, number_bytes}
 pub use Rattle.bolt_format.specs.Elements.{BranchElement, LeafElement, element_at, faults_from, head_root, head_sequence, inline_elements, leaf_element, table_fault}
 pub use Rattle.bolt_format.specs.{Headers.count_field, Headers.flags_field, Metas.IsChosen, Metas.IsMeta, Metas.IsPageSize, Pages.PageView}
-pub use Rattle.bolt_format.specs.{ReadBack.IsHeaderFit, declared.kind.Kind.Kind, declared.meta.Meta.Meta}
+pub use Rattle.bolt_format.specs.{ReadBack.IsHeaderFit, declared.header.Kind.Kind, declared.meta.Meta.Meta}
 pub use Rattle.bolt_format.specs.declared.meta.Slot.TheVariants.{One, Zero}
 pub use Rattle.bolt_layout.specs.Copies.{IsAsked, IsOfOneTree}
 pub use Rattle.bolt_layout.specs.Cut.{branch_cut, cut_from, cut_of, join_last, joins, max_items, run_size}

@@ -1,6 +1,6 @@
 -- The layout of a tree at a page size: its pages, and its bytes: docs/LAYOUT.md, "Numbers" and "Bytes".
 use Rattle.std.specs.Prelude.{◌≡◌, ◌≤◌, ℕ, ◌+◌, List, [], ◌∷◌, ◌++◌, length}
-use Rattle.bolt_format.specs.declared.kind.Kind.TheVariants as kind
+use Rattle.bolt_format.specs.declared.header.Kind.TheVariants as kind
 use Rattle.bolt_format.specs.declared.meta.Meta.{Meta}
 use Rattle.bolt_tree.specs.Tree.{Tree}
 use Rattle.bolt_layout.specs.{Items.root_of, Laid.Placed, PageBytes.freelist_page, PageBytes.meta_page, PageBytes.page_bytes, declared.layout.Layout.Layout}

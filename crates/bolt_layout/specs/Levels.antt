@@ -1,7 +1,7 @@
 -- The pages of a bucket over its items: the leaves, and the branches above, level by level: docs/LAYOUT.md, "Levels" and "Numbers".
 use Rattle.std.specs.Prelude.{◌≡◌, ◌≤◌, ℕ, zero, suc, ◌+◌, ◌-◌, ◌*◌, ◌/◌, List, [], ◌∷◌, ◌++◌, length, map}
 use Rattle.bolt_format.specs.{Elements.BranchElement, Elements.LeafElement, Pages.PageView}
-use Rattle.bolt_format.specs.declared.kind.Kind.TheVariants as kind
+use Rattle.bolt_format.specs.declared.header.Kind.TheVariants as kind
 use Rattle.bolt_layout.specs.Cut.{branch_cut, cut_of, run_size}
 use Rattle.bolt_layout.specs.Laid.{Laid, elements_of, first_key, held_in, numbers_of, pages_of, size_of}
 use Rattle.bolt_layout.specs.declared.layout.Layout.{Layout}

@@ -2,7 +2,7 @@
 use Rattle.std.proofs.Common.{◌≡◌, ◌∙◌, inl, inr, ℕ, suc, Bool, false, eqb, List, [], ◌∷◌, ◌++◌, Option, Some, None, Result, slice_get, refl, sym, ap, subst}
 use Rattle.bolt_recover.proofs.Words.{At_inline, At_page, cases_Bool, child_at, child_in, child_of, Contains, contains_at, contains_none, count_field, Entry, flags_field, follow_places, from_page, head_root, Holds, Inline_page, IsEntry, IsRecoveredMember, Item, Kind, kind_of, leads, LeafElement, leaves_of, Meta, Names, next_place, Node, node_at, Nodes, page_at, page_fault, page_overflow, PageSpot, PageView, Path, Place, place_at, Root_page, root_place, same_Some, shown_as, ShowsEntry, span_bytes, Spot, Start, start_of, step_place, Visit}
 use Rattle.bolt_tree.proofs.Named.{held_here, names_push}
-use Rattle.bolt_format.specs.declared.kind.Kind.TheVariants as kind
+use Rattle.bolt_format.specs.declared.header.Kind.TheVariants as kind
 use Rattle.bolt_recover.proofs.PlaceSteps.{IsTidy, IsTidyAt, bucket_place, child_place, leads_from, tidy_root, tidy_step}
 
 -- a page with leaf elements is a leaf that shows them

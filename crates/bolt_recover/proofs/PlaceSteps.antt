@@ -1,7 +1,7 @@
 -- Where the entries of a page lead: the buckets on a leaf, and the children of a branch.
 use Rattle.std.proofs.Common.{◌≡◌, ◌∙◌, ◌⊎◌, inl, inr, ℕ, suc, Bool, true, false, List, [], ◌∷◌, ◌++◌, map, Option, Some, None, Result, Ok, Err, slice_get, ◌==◌, refl, sym, ap, subst}
 use Rattle.bolt_recover.proofs.Words.{At_inline, At_page, bucket_spot, bucket_spots, cases_Bool, child_spot, cond_both, count_field, elements_at, Entry, flags_field, from_page, head_root, Key, Kind, kind_of, leaf_entry, LeafElement, leaves_of, Meta, Node, node_at, node_seen, option_map, page_at, page_fault, page_overflow, PageSpot, Path, Place, place_on, root_place, root_spot, same_Some, shown_as, slice_get-map, span_bytes, Spot, step_at, step_entry, step_from, step_place, upper_from}
-use Rattle.bolt_format.specs.declared.kind.Kind.TheVariants as kind
+use Rattle.bolt_format.specs.declared.header.Kind.TheVariants as kind
 
 abbrev pub keys_in : List LeafElement → List Key
 keys_in elements = map (λ (e : LeafElement). e.key) elements

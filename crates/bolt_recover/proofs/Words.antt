@@ -22,11 +22,11 @@ pub use Rattle.bolt_check.specs.Ways.{At_inline, At_page, Before, PageSpot, Reac
 pub use Rattle.bolt_check.specs.Ways.{reached, root_spot, step, step_at, step_entry, step_from, step_on, upper_from}
 pub use Rattle.bolt_check.specs.declared.checked_file.Checked.{Checked}
 pub use Rattle.bolt_check.specs.declared.fault.CheckFault.TheVariants.{Accounts, Memory, Open, Structure}
-pub use Rattle.bolt_check.specs.{declared.finding.Finding.Finding, declared.tree_page.TreePage.TreePage}
+pub use Rattle.bolt_check.specs.{declared.fault.Finding.Finding, declared.tree_page.TreePage.TreePage}
 pub use Rattle.bolt_format.specs.{ElementPlaces.leaf_view, Elements.LeafElement, Elements.head_root, Elements.head_sequence, Elements.inline_elements}
 pub use Rattle.bolt_format.specs.Headers.{count_field, flags_field, kind_of}
 pub use Rattle.bolt_format.specs.Pages.{PageView, from_page, page_overflow, shown_as, shown_leaves, span_bytes}
-pub use Rattle.bolt_format.specs.{declared.kind.Kind.Kind, declared.meta.Meta.Meta}
+pub use Rattle.bolt_format.specs.{declared.header.Kind.Kind, declared.meta.Meta.Meta}
 unfoldable pub use Rattle.bolt_format.specs.{Pages.page_at, Pages.page_fault, Shown.shown}
 pub use Rattle.bolt_recover.specs.Found.{AreFound, FoundBelow, IsFoundNext, IsFoundPage, numbers_of}
 pub use Rattle.bolt_recover.specs.Joined.{HasBucketKey, IsElement, IsFoundMember, IsInner, IsJoined, LacksBucketKey, LeavesRoom, found_tree, inside_of}

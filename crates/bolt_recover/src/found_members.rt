@@ -9,7 +9,7 @@ ghost use Rattle.bolt_recover.specs.Private.ElementsLeft.{elements_left, element
 
 use crate::content::{Content, Elements, next_of};
 use crate::found::Found;
-use crate::found_key::lost_and_found;
+use crate::joined::lost_and_found;
 use bolt_check::{BucketSpot, PageSpot, TreePage};
 use bolt_format::{Leaf, head, inline};
 use bolt_tree::Item;

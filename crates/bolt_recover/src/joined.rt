@@ -1,17 +1,16 @@
 //! The members of the joined listing: those that are recovered and, in the bucket `lost+found`, what
 //! is found.
-ghost use Rattle.std.specs.Prelude.{◌≡◌, ◌≢◌, ◌<◌, ◌*◌, ◌^◌, [], List, None, IfErr, IfOk, IfSome, OnErr, OnOk, length};
-ghost use Rattle.bolt_check.specs.declared.finding.Finding.{Finding};
-ghost use Rattle.bolt_tree.specs.Listing.{Member};
-ghost use Rattle.bolt_recover.specs.{Found.numbers_of, Joined.IsJoined, Joined.LacksBucketKey, JoinRefusals.IsJoinRefusal, Losses.everything};
-ghost use Rattle.bolt_recover.specs.{LostAndFound.all_lost, Private.Joining.AreJoinable, Private.Joining.IsHeldWell};
-ghost use Rattle.bolt_recover.specs.Private.KeptMembers.{kept_file, kept_left, kept_meta, kept_path};
+ghost use Rattle.std.specs.Prelude.{◌≡◌, ◌≢◌, ◌<◌, ◌*◌, ◌^◌, [], None, IfErr, IfOk, IfSome, OnErr, OnOk, length};
+ghost use Rattle.bolt_check.specs.declared.fault.Finding.{Finding};
+ghost use Rattle.bolt_tree.specs.Paths.{path_of};
+ghost use Rattle.bolt_recover.specs.{Found.numbers_of, Joined.IsJoined, Joined.LacksBucketKey, Joined.lost_and_found, JoinRefusals.IsJoinRefusal};
+ghost use Rattle.bolt_recover.specs.{Losses.everything, LostAndFound.all_lost, Private.Joining.AreJoinable, Private.Joining.IsHeldWell, Private.Joining.first_cmp};
+ghost use Rattle.bolt_recover.specs.Private.KeptMembers.{HasSameFile, IsWhole, kept_file, kept_meta};
 ghost use Rattle.bolt_recover.specs.Recovered.{ForRecovered};
 ghost use Rattle.bolt_recover.specs.declared.joined.JoinFault.TheVariants as faults;
 ghost use Rattle.bolt_recover.specs.declared.joined.Stage.TheVariants as stages;
 
 use crate::found::Found;
-use crate::found_key::compare_first;
 use crate::found_members::FoundMembers;
 use crate::kept::{Kept, LostRoot};
 use crate::lost_and_found::{LostAndFound, Trees};
@@ -19,6 +18,7 @@ use crate::recovery::Recovery;
 use bolt_check::{Finding, NoMemory};
 use bolt_tree::{Item, Members, Walk};
 use std::alloc::Global;
+use std::cmp::Ordering;
 
 /// Why there is no joined listing.
 #[derive(Clone, Copy, Debug, PartialEq, Eq)]
@@ -36,6 +36,23 @@ impl From<NoMemory> for JoinFault {
 
     fn from(_fault: NoMemory) -> Self {
         JoinFault::Memory
+    }
+}
+
+/// The key of the bucket of what is found.
+pub(crate) fn lost_and_found<'a>() -> &'a [u8]
+    ensures { result.now ≡ lost_and_found }
+{
+    b"lost+found"
+}
+
+/// How the first part of a path compares with the key of the bucket of what is found.
+pub(crate) fn compare_first(path: &[&[u8]]) -> Ordering
+    ensures { result ≡ first_cmp (path_of path.now) }
+{
+    match path.first() {
+        Some(key) => key.cmp(lost_and_found()),
+        None => Ordering::Less,
     }
 }
 
@@ -83,10 +100,7 @@ fn first_stage(found: &[Found<'_>]) -> Stage
 
 /// The recovered members of a file that was searched, if there is a joined listing.
 fn kept_of<'a>(alloc: Global, both: &LostAndFound<'a>) -> Result<Kept<'a>, JoinFault>
-    ensures file { IfOk result (λ kept. kept_file kept ≡ both.now.file.now) }
-    ensures meta { IfOk result (λ kept. kept_meta kept ≡ both.now.meta) }
-    ensures all { IfOk result (λ kept. ForRecovered both.now.file.now both.now.meta (λ listing. kept_left kept listing ≡ listing)) }
-    ensures path { IfOk result (λ kept. kept_path kept ≡ []) }
+    ensures whole { IfOk result (IsWhole both.now.file.now both.now.meta) }
     ensures apart { OnOk result (both.now.found.items ≢ [] → ForRecovered both.now.file.now both.now.meta LacksBucketKey) }
     ensures some { OnOk result ((x : Finding) → all_lost both.now ≡ everything x → both.now.found.items ≢ []) }
     ensures refused { IfErr result (IsJoinRefusal both.now.file.now both.now.meta (numbers_of both.now.found.items)) }
@@ -148,10 +162,7 @@ impl<'a> Joined<'a> {
     /// The members of what is found and of what is recovered, of which nothing was returned yet.
     fn of(kept: Kept<'a>, both: &'a LostAndFound<'_>) -> Joined<'a>
         requires few { length both.now.file.now < 10 ^ 16 * both.now.meta.page_size }
-        requires file { kept_file kept ≡ both.now.file.now }
-        requires meta { kept_meta kept ≡ both.now.meta }
-        requires fresh { ForRecovered both.now.file.now both.now.meta (λ listing. kept_left kept listing ≡ listing) }
-        requires path { kept_path kept ≡ [] }
+        requires whole { IsWhole both.now.file.now both.now.meta kept }
         requires apart { both.now.found.items ≢ [] → ForRecovered both.now.file.now both.now.meta LacksBucketKey }
         ensures file { joined_file result ≡ both.now.file.now }
         ensures meta { joined_meta result ≡ both.now.meta }
@@ -171,8 +182,7 @@ impl<'a> Joined<'a> {
     /// Returns a recovered member before the bucket of what is found, or that bucket.
     fn next_before(&mut self) -> Result<Option<Item<'a>>, NoMemory>
         requires stage { self.old.stage ≡ stages.Before }
-        ensures file { joined_file self.new ≡ joined_file self.old }
-        ensures meta { joined_meta self.new ≡ joined_meta self.old }
+        ensures reads { HasSameFile self.old.kept self.new.kept }
         ensures given { IfOk result (GivesJoined self.old self.new) }
         ensures fewer { IfOk result (λ given. IfSome given (λ _. joined_work self.new < joined_work self.old)) }
         ensures ended { IfOk result (λ given. given ≡ None → ⊥) }
@@ -192,8 +202,7 @@ impl<'a> Joined<'a> {
     /// Returns a member of the bucket of what is found, or the first recovered one after it.
     fn next_inside(&mut self) -> Result<Option<Item<'a>>, NoMemory>
         requires stage { self.old.stage ≡ stages.Inside }
-        ensures file { joined_file self.new ≡ joined_file self.old }
-        ensures meta { joined_meta self.new ≡ joined_meta self.old }
+        ensures reads { HasSameFile self.old.kept self.new.kept }
         ensures given { IfOk result (GivesJoined self.old self.new) }
         ensures fewer { IfOk result (λ given. IfSome given (λ _. joined_work self.new < joined_work self.old)) }
         ensures same { OnErr result (LeavesJoined self.old self.new) }

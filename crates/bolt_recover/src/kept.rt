@@ -1,7 +1,7 @@
 //! What is recovered, also if the root page is lost.
 ghost use Rattle.std.specs.Prelude.{◌≡◌, ◌<◌, IfOk, IfSome, OnErr, OnOk};
 ghost use Rattle.bolt_format.specs.Bytes.{IsBytes};
-ghost use Rattle.bolt_check.specs.declared.finding.Finding.{Finding};
+ghost use Rattle.bolt_check.specs.declared.fault.Finding.{Finding};
 ghost use Rattle.bolt_tree.specs.Paths.{path_of};
 ghost use Rattle.bolt_recover.specs.{Recovered.ForRecovered, Refusals.LosesRoot};
 
@@ -31,13 +31,12 @@ pub(crate) enum Kept<'a> {
 
 #[tactic(auto, unfolding(crate::specs::Recoveries::recovery_file, crate::specs::Recoveries::recovery_meta, crate::specs::Recoveries::recovery_losses))]
 impl<'a> Kept<'a> {
-    ghost use Rattle.bolt_recover.specs.Private.KeptMembers.{GivesKept, LeavesKept, kept_file, kept_left, kept_meta, kept_path, kept_work};
+    ghost use Rattle.bolt_recover.specs.Private.KeptMembers.{GivesKept, HasSameFile, LeavesKept, kept_file, kept_left, kept_meta, kept_path, kept_work};
 
     /// Returns the first member that is left, or `None` if nothing is left.
     #[inline(always)]
     pub fn next(&mut self) -> Result<Option<Item<'a>>, NoMemory>
-        ensures file { kept_file self.new ≡ kept_file self.old }
-        ensures meta { kept_meta self.new ≡ kept_meta self.old }
+        ensures reads { HasSameFile self.old self.new }
         ensures given { IfOk result (GivesKept self.old self.new) }
         ensures fewer { IfOk result (λ given. IfSome given (λ _. kept_work self.new < kept_work self.old)) }
         ensures same { OnErr result (LeavesKept self.old self.new) }
@@ -64,8 +63,7 @@ impl<'a> Kept<'a> {
 
     /// Begins again before the first member.
     pub fn restart(&mut self, alloc: Global) -> Result<(), NoMemory>
-        ensures file { kept_file self.new ≡ kept_file self.old }
-        ensures meta { kept_meta self.new ≡ kept_meta self.old }
+        ensures reads { HasSameFile self.old self.new }
         ensures all { OnOk result (ForRecovered (kept_file self.old) (kept_meta self.old) (λ listing. kept_left self.new listing ≡ listing)) }
     {
         match self {

@@ -4,12 +4,10 @@
 
 mod content;
 mod found;
-mod found_key;
 mod found_members;
 mod joined;
 mod kept;
 pub mod laws;
-mod leaves;
 mod loss;
 mod lost_and_found;
 mod recovery;

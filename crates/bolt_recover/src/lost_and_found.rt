@@ -1,16 +1,15 @@
 //! What is lost of a file, and what is found of it though nothing leads to it.
 ghost use Rattle.std.specs.List.{All};
 ghost use Rattle.std.specs.Prelude.{◌≡◌, ◌<◌, IfOk};
-ghost use Rattle.bolt_check.specs.Sound.{HasSoundTrees};
+ghost use Rattle.bolt_check.specs.{Leftovers.leftovers_file, Leftovers.leftovers_meta, Sound.HasSoundTrees, declared.fault.Finding.Finding};
 ghost use Rattle.bolt_format.specs.Bytes.{IsBytes};
 ghost use Rattle.bolt_recover.specs.{Found.AreFound, Found.numbers_of, Lost.IsAllLost, Private.TreesLeft.IsSearched, ShownFound.IsFoundView};
-ghost use Rattle.bolt_recover.specs.ShownLosses.{lost_view};
+ghost use Rattle.bolt_recover.specs.{Private.LeavesLeft.AreAmong, Private.LeavesLeft.NotesFree, Refusals.LosesRoot, ShownLosses.lost_view};
 
 use crate::found::Found;
-use crate::leaves::found_without_root;
 use crate::loss::{Loss, Lost};
 use crate::recovery::Recovery;
-use bolt_check::{CheckFault, Checked, Finding, NoMemory, check_under};
+use bolt_check::{CheckFault, Checked, Claims, Finding, Leftovers, NoMemory, check_under};
 use bolt_format::Meta;
 use std::alloc::Global;
 
@@ -124,4 +123,39 @@ impl<'a> LostAndFound<'a> {
             Trees::Rootless(finding) => Lost::Everything(*finding),
         }
     }
+}
+
+/// Finds the intact leaves of a file whose root page is lost, by rising number. There is no recovery
+/// of it. It needs a table of pages, and room for what is found.
+fn found_without_root<'a>(
+    alloc: Global,
+    file: &'a [u8],
+    meta: Meta,
+) -> Result<Vec<Found<'a>>, NoMemory>
+    requires size { 0 < meta.page_size }
+    requires lost { (x : Finding) × LosesRoot file.now meta x }
+    ensures found { IfOk result (λ found. AreFound file.now meta (numbers_of found.items)) }
+    ensures views { IfOk result (λ found. All (IsFoundView file.now meta) found.items) }
+{
+    let claims = Claims::new(alloc, file, meta)?;
+    find_leaves(alloc, Leftovers::new(claims))
+}
+
+/// Finds all intact leaves among what is left over, by rising number.
+pub(crate) fn find_leaves<'a>(
+    alloc: Global,
+    mut leftovers: Leftovers<'a>,
+) -> Result<Vec<Found<'a>>, NoMemory>
+    requires { NotesFree leftovers }
+    ensures found { IfOk result (λ found. AreAmong leftovers.entry found.items) }
+    ensures views { IfOk result (λ found. All (IsFoundView (leftovers_file leftovers.entry) (leftovers_meta leftovers.entry)) found.items) }
+{
+    let mut found = Vec::new(alloc);
+    for number in 0..leftovers.end() {
+        found.reserve(1)?;
+        if let Some(page) = leftovers.take(number) {
+            found.push_reserved(Found::new(number, page));
+        }
+    }
+    Ok(found)
 }

@@ -1,7 +1,7 @@
 //! A walk over everything that is kept of a damaged file.
 ghost use Rattle.std.specs.Option.{IfNone};
-ghost use Rattle.std.specs.Prelude.{◌≡◌, ◌<◌, ◌≤◌, ◌↔◌, ◌^◌, ℕ, [], true, IfErr, IfOk, IfSome, OnErr, OnOk, map};
-ghost use Rattle.bolt_check.specs.{Claims.claims_file, Claims.claims_meta, Claims.claims_visited, Claims.is_claimed, Counts.counted, Findings.IsMetaPage};
+ghost use Rattle.std.specs.Prelude.{◌≡◌, ◌<◌, ◌^◌, [], IfErr, IfOk, IfSome, OnErr, OnOk, map};
+ghost use Rattle.bolt_check.specs.{Claims.claims_file, Claims.claims_meta, Counts.counted};
 ghost use Rattle.bolt_check.specs.Sound.{HasSoundTrees};
 ghost use Rattle.bolt_format.specs.Metas.{IsChosen, IsInSlot};
 ghost use Rattle.bolt_tree.specs.Paths.{path_of};
@@ -9,10 +9,9 @@ ghost use Rattle.bolt_recover.specs.{KeptPages.AreKeptPages, Private.Frames.IsOn
 ghost use Rattle.bolt_recover.specs.{Refusals.IsRefusedRoot, Refusals.IsSlotUnrecoverable, Refusals.IsUnrecoverable, Refusals.KeepsRoot, ShownLosses.loss_view};
 
 use crate::found::Found;
-use crate::found_key::compare_first;
-use crate::leaves::find_leaves;
+use crate::joined::compare_first;
 use crate::loss::Loss;
-use crate::lost_and_found::Damage;
+use crate::lost_and_found::{Damage, find_leaves};
 use crate::steps::Steps;
 use bolt_check::{CheckFault, Claims, Leftovers, NoMemory};
 use bolt_format::{Meta, Slot, choose, slot_meta};

@@ -4,7 +4,7 @@ use Rattle.std.proofs.lemmas.List.FromFn.{length-map-range_with_len}
 use Rattle.bolt_report.proofs.Words.{bucket_count, LeafElement, shown}
 use Rattle.bolt_format.specs.Elements.{branch_element, branch_elements, leaf_element, leaf_elements}
 use Rattle.bolt_format.specs.Pages.{shown_branches, shown_leaves}
-use Rattle.bolt_format.specs.declared.kind.Kind.TheVariants as kind
+use Rattle.bolt_format.specs.declared.header.Kind.TheVariants as kind
 use Rattle.bolt_format.specs.declared.good_page.Page.{Page}
 use Rattle.std.specs.Prelude.{cond}
 use Rattle.std.proofs.lemmas.List.Filters.{length-filter_more}

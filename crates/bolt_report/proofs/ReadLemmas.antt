@@ -2,7 +2,7 @@
 use Rattle.std.proofs.Common.{◌≡◌, ◌∙◌, ◌+◌, ℕ, true, false, List, [], ◌∷◌, ◌++◌, Some, flat_map, map, take, slice_get, refl, sym, ap, add-one, append_assoc, arith, max}
 use Rattle.bolt_report.proofs.Words.{BranchElement, Enough, enough_node, flat_map-take_more, greatest, inline_depth, kid_pages, leaf_entry, LeafElement, map-append, Meta, node_at, node_is, page_at, root_page_of, unread_page, UnreadPage}
 use Rattle.bolt_format.specs.Pages.{PageView}
-use Rattle.bolt_format.specs.declared.kind.Kind.TheVariants as kind
+use Rattle.bolt_format.specs.declared.header.Kind.TheVariants as kind
 use Rattle.bolt_check.specs.Nodes.{branch_entry}
 use Rattle.bolt_report.proofs.DepthSums.{greatest_append}
 use Rattle.bolt_format.proofs.ListLemmas.{take_next}

@@ -1,8 +1,8 @@
 -- The figures of buckets: docs/COMMANDS.md, "What is printed".
 use Rattle.std.specs.Prelude.{◌==◌, ℕ, ◌+◌, ◌-◌, ◌*◌, ◌^◌, codes, min, max, List, [], ◌∷◌, length, sum_by, Option, Some, None, if◌then◌else◌}
 use Rattle.bolt_format.specs.{Elements.BranchElement, Elements.LeafElement, Elements.head_root, Elements.inline_elements, Pages.PageView}
-use Rattle.bolt_format.specs.declared.kind.Kind.{Kind}
-use Rattle.bolt_format.specs.declared.kind.Kind.TheVariants as kind
+use Rattle.bolt_format.specs.declared.header.Kind.{Kind}
+use Rattle.bolt_format.specs.declared.header.Kind.TheVariants as kind
 use Rattle.bolt_report.specs.{FigureForms.Named, FigureForms.figures_text, declared.form.FigureForm.FigureForm, declared.statistics.Stats.Stats}
 
 -- which figure; depth is none of them, as it is no sum
@@ -68,29 +68,12 @@ inline_figure buckets elements = 1
 inline_figure inline_buckets elements = 1
 inline_figure inline_used elements = used_by_leaves elements
 inline_figure keys elements = length elements
-inline_figure branch_pages elements = 0
-inline_figure branch_overflow elements = 0
-inline_figure branch_allocated elements = 0
-inline_figure branch_used elements = 0
-inline_figure leaf_pages elements = 0
-inline_figure leaf_overflow elements = 0
-inline_figure leaf_allocated elements = 0
-inline_figure leaf_used elements = 0
+inline_figure _ elements = 0
 
 -- a bucket with a root page, whose pages are counted by themselves
 abbrev pub bucket_figure : Figure → ℕ
 bucket_figure buckets = 1
-bucket_figure inline_buckets = 0
-bucket_figure inline_used = 0
-bucket_figure keys = 0
-bucket_figure branch_pages = 0
-bucket_figure branch_overflow = 0
-bucket_figure branch_allocated = 0
-bucket_figure branch_used = 0
-bucket_figure leaf_pages = 0
-bucket_figure leaf_overflow = 0
-bucket_figure leaf_allocated = 0
-bucket_figure leaf_used = 0
+bucket_figure _ = 0
 
 -- what an element of a leaf adds: the figures of its bucket
 abbrev pub element_figure : Figure → LeafElement → ℕ
@@ -100,39 +83,25 @@ abbrev pub allocated : ℕ → PageView → ℕ
 allocated page_size view = (1 + view.overflow) * page_size
 
 abbrev pub branch_figure : Figure → ℕ → PageView → ℕ
-branch_figure buckets page_size view = 0
-branch_figure inline_buckets page_size view = 0
-branch_figure inline_used page_size view = 0
-branch_figure keys page_size view = 0
 branch_figure branch_pages page_size view = 1
 branch_figure branch_overflow page_size view = view.overflow
 branch_figure branch_allocated page_size view = allocated page_size view
 branch_figure branch_used page_size view = used_by_branches view.branches
-branch_figure leaf_pages page_size view = 0
-branch_figure leaf_overflow page_size view = 0
-branch_figure leaf_allocated page_size view = 0
-branch_figure leaf_used page_size view = 0
+branch_figure _ page_size view = 0
 
 abbrev pub leaf_figure : Figure → ℕ → PageView → ℕ
-leaf_figure buckets page_size view = 0
-leaf_figure inline_buckets page_size view = 0
-leaf_figure inline_used page_size view = 0
 leaf_figure keys page_size view = length view.leaves
-leaf_figure branch_pages page_size view = 0
-leaf_figure branch_overflow page_size view = 0
-leaf_figure branch_allocated page_size view = 0
-leaf_figure branch_used page_size view = 0
 leaf_figure leaf_pages page_size view = 1
 leaf_figure leaf_overflow page_size view = view.overflow
 leaf_figure leaf_allocated page_size view = allocated page_size view
 leaf_figure leaf_used page_size view = used_by_leaves view.leaves
+leaf_figure _ page_size view = 0
 
 -- the figures of a page, with the inline buckets in it
 abbrev pub kind_figure : Kind → Figure → ℕ → PageView → ℕ
 kind_figure kind.Branch f page_size view = branch_figure f page_size view
 kind_figure kind.Leaf f page_size view = leaf_figure f page_size view + sum_by (element_figure f) view.leaves
-kind_figure kind.Meta f page_size view = 0
-kind_figure kind.Freelist f page_size view = 0
+kind_figure _ f page_size view = 0
 
 abbrev pub page_figure : Figure → ℕ → Option PageView → ℕ
 page_figure f page_size None = 0

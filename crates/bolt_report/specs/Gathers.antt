@@ -5,9 +5,7 @@ use Rattle.bolt_format.specs.{Endings.Ending, Endings.whole, Endings.cut, Ending
 -- what was still to be written when the call ended: what is held, or nothing if the call didn't add its text whole
 abbrev pub left_held : Ending → List ℕ → List ℕ
 left_held whole holds = holds
-left_held cut holds = []
-left_held broken holds = []
-left_held halted holds = []
+left_held _ holds = []
 
 -- What was held and the text, in this order, were written or are held; if the sink failed, it accepted a prefix of them.
 pub record Gathers {S : Type 0} (sink : Ghosts S) (old new : S) (held holds text : List ℕ) (end : Ending) : Type 0 where

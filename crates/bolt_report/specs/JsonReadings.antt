@@ -9,20 +9,12 @@ use Rattle.bolt_tree.specs.{Entries.Bucket, Entries.Item, Entries.Value, Listing
 use Rattle.bolt_report.specs.{FigureForms.Named, SizeLines.bytes_allocated, SizeLines.bytes_used, declared.statistics.Stats.Stats}
 
 abbrev pub string_of : Json → Option (List ℕ)
-string_of null = None
-string_of (boolean b) = None
-string_of (number s) = None
 string_of (string s) = Some s
-string_of (array js) = None
-string_of (object ms) = None
+string_of _ = None
 
 abbrev pub members_of : Json → Option Members
-members_of null = None
-members_of (boolean b) = None
-members_of (number s) = None
-members_of (string s) = None
-members_of (array js) = None
 members_of (object ms) = Some ms
+members_of _ = None
 
 -- the member of an object that has a name
 abbrev pub named : List ℕ → Members → Option Json
@@ -39,20 +31,13 @@ digits_of json = option_and_then bytes_of_digits (string_of json)
 
 -- or a string, or an object whose `hex` has hexadecimal digits
 abbrev pub item_of : Json → Option (List ℕ)
-item_of null = None
-item_of (boolean b) = None
-item_of (number s) = None
 item_of (string s) = Some s
-item_of (array js) = None
 item_of (object ms) = option_and_then bytes_of_digits (option_and_then string_of (named (codes "hex") ms))
+item_of _ = None
 
 abbrev pub number_of : Json → Option ℕ
-number_of null = None
-number_of (boolean b) = None
 number_of (number s) = Some (digits_value 10 s)
-number_of (string s) = None
-number_of (array js) = None
-number_of (object ms) = None
+number_of _ = None
 
 -- the number under a name
 abbrev pub figure_in : List ℕ → Members → Option ℕ
@@ -65,12 +50,8 @@ module _ (read : Json → Option (List ℕ)) where
   parts_of (item j js) = option_and_then (λ part. option_map (λ path. part ∷ path) (parts_of js)) (read j)
 
   abbrev pub path_of_json : Json → Option Path
-  path_of_json null = None
-  path_of_json (boolean b) = None
-  path_of_json (number s) = None
-  path_of_json (string s) = None
   path_of_json (array js) = parts_of js
-  path_of_json (object ms) = None
+  path_of_json _ = None
 
   -- `value` is a value; without one, `bucket` is the sequence of a bucket
   abbrev pub end_by : (value bucket : Option Json) → Option Item
@@ -99,11 +80,8 @@ module _ (read : Json → Option (List ℕ)) where
 -- figures by their names, in their order; `null` is no number
 abbrev pub count_of : Json → Option (Option ℕ)
 count_of null = Some None
-count_of (boolean b) = None
 count_of (number s) = Some (Some (digits_value 10 s))
-count_of (string s) = None
-count_of (array js) = None
-count_of (object ms) = None
+count_of _ = None
 
 abbrev pub figures_in : Members → Option (List Named)
 figures_in no_members = Some []

@@ -36,12 +36,8 @@ page_row file meta n role.Inside = []
 page_row file meta n role.Free = row (decimal n) (codes "free") [] []
 
 abbrev pub is_free : Role → Bool
-is_free role.Meta = false
-is_free role.Branch = false
-is_free role.Leaf = false
-is_free role.Freelist = false
-is_free role.Inside = false
 is_free role.Free = true
+is_free _ = false
 
 -- how many pages begin in the file
 abbrev pub begun : List ℕ → Meta → ℕ

@@ -2,8 +2,8 @@
 use Rattle.std.specs.Prelude.{ℕ, List, [], Option, Some, None}
 use Rattle.std.specs.Option.{option_map}
 use Rattle.bolt_format.specs.{Freelists.free_ids_at, Freelists.freelist_fault, Pages.PageView, Pages.page_at, Pages.page_fault}
-use Rattle.bolt_format.specs.{declared.fault.PageFault.PageFault, declared.kind.Kind.Kind}
-use Rattle.bolt_format.specs.declared.kind.Kind.TheVariants as kind
+use Rattle.bolt_format.specs.{declared.open_page.PageFault.PageFault, declared.header.Kind.Kind}
+use Rattle.bolt_format.specs.declared.header.Kind.TheVariants as kind
 use Rattle.bolt_format.specs.declared.meta.Meta.{Meta}
 use Rattle.bolt_report.specs.PageLines.{page_lines}
 
@@ -20,10 +20,8 @@ fault_of id fault = option_map (λ number. record { number = number; page = id }
 
 -- The ids of a freelist page are tested too.
 abbrev pub kind_fault : Option PageFault → Kind → Option PageFault
-kind_fault ids_fault kind.Branch = None
-kind_fault ids_fault kind.Leaf = None
-kind_fault ids_fault kind.Meta = None
 kind_fault ids_fault kind.Freelist = ids_fault
+kind_fault ids_fault _ = None
 
 -- the fault of the page itself, or that of the ids on a page without one
 abbrev pub shown_fault : Option PageFault → Option PageFault → Option PageView → Option PageFault

@@ -1,12 +1,12 @@
 -- The text of pieces.
-use Rattle.std.specs.Prelude.{ℕ, List, ◌∷◌, decimal, flat_map, map}
+use Rattle.std.specs.Prelude.{ℕ, List, ◌∷◌, ◌++◌, decimal, flat_map, map}
 use Rattle.std.specs.List.{join_with_byte}
 use Rattle.std.specs.Borrow.{Bor}
 use Rattle.hex.specs.Hex.{encode_lower}
 use Rattle.json.specs.Print.{quoted}
 use Rattle.bolt_tree.specs.Paths.{Path, path_of}
 use Rattle.bolt_report.specs.{Lines.column, Lines.figure_line, declared.pieces.Piece.Piece}
-use Rattle.bolt_report.specs.declared.pieces.Piece.TheVariants.{Bytes, Number, Hex, HexString, HexPath, Figure, Column, NumberColumn}
+use Rattle.bolt_report.specs.declared.pieces.Piece.TheVariants.{Bytes, Number, Hex, HexString, HexPath, Field, Figure, Column, NumberColumn}
 use Rattle.bolt_report.specs.{declared.pieces.PathForm.PathForm, declared.pieces.PathForm.TheVariants.Slashes, declared.pieces.PathForm.TheVariants.Strings}
 
 -- bytes in hexadecimal as a JSON string
@@ -35,6 +35,7 @@ piece_text (Number n) = decimal n
 piece_text (Hex bytes) = encode_lower bytes.now
 piece_text (HexString bytes) = hex_string bytes.now
 piece_text (HexPath parts form) = path_text form (path_of parts.now)
+piece_text (Field name n) = name.now ++ decimal n
 piece_text (Figure name n) = figure_line name.now n
 piece_text (Column text width) = column width text.now
 piece_text (NumberColumn n width) = column width (decimal n)

@@ -40,8 +40,7 @@ pub fn page_fault_text<S: Sink>(fault: &PageFault, sink: &mut S) -> Result<(), S
 {
     put_pieces(
         &[
-            Piece::Bytes(b"page "),
-            Piece::Number(fault.page),
+            Piece::Field(b"page ", fault.page),
             Piece::Bytes(b": "),
             Piece::Bytes(page_fault_words(fault.number)),
             Piece::Bytes(b"\n"),
@@ -112,8 +111,7 @@ pub(crate) fn put_sentence<S: Sink>(
     if finding.page == finding.last {
         put_pieces(
             &[
-                Piece::Bytes(b"page "),
-                Piece::Number(finding.page),
+                Piece::Field(b"page ", finding.page),
                 Piece::Bytes(b": "),
                 Piece::Bytes(finding_words(finding.number)),
                 Piece::Bytes(words),
@@ -123,10 +121,8 @@ pub(crate) fn put_sentence<S: Sink>(
     } else {
         put_pieces(
             &[
-                Piece::Bytes(b"pages "),
-                Piece::Number(finding.page),
-                Piece::Bytes(b" to "),
-                Piece::Number(finding.last),
+                Piece::Field(b"pages ", finding.page),
+                Piece::Field(b" to ", finding.last),
                 Piece::Bytes(b": "),
                 Piece::Bytes(finding_words(finding.number)),
                 Piece::Bytes(words),

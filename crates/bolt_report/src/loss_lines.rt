@@ -160,10 +160,8 @@ fn put_found<S: Sink>(found: &Found<'_>, sink: &mut S) -> Result<(), SinkFault>
     let page = &found.page.page;
     let count = page.count();
     let pieces = [
-        Piece::Bytes(b"page "),
-        Piece::Number(found.number),
-        Piece::Bytes(b": nothing leads to it; found: "),
-        Piece::Number(u64::from(count)),
+        Piece::Field(b"page ", found.number),
+        Piece::Field(b": nothing leads to it; found: ", u64::from(count)),
         Piece::Bytes(b" entries, "),
         Piece::Number(u64::from(count_buckets(page))),
         Piece::Bytes(b" of them buckets, keys from "),

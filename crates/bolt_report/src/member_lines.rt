@@ -104,8 +104,7 @@ fn put_hex_json<'a, S: Sink>(
             &[
                 begin,
                 path,
-                Piece::Bytes(b"],\"bucket\":"),
-                Piece::Number(*sequence),
+                Piece::Field(b"],\"bucket\":", *sequence),
                 Piece::Bytes(b"}\n"),
             ],
             sink,
@@ -155,8 +154,7 @@ fn put_member<'a, S: Sink>(
         Item::Bucket { sequence } => put_pieces(
             &[
                 Piece::HexPath(path, PathForm::Slashes),
-                Piece::Bytes(b" bucket "),
-                Piece::Number(*sequence),
+                Piece::Field(b" bucket ", *sequence),
                 Piece::Bytes(b"\n"),
             ],
             sink,

@@ -51,20 +51,14 @@ fn put_json<S: Sink>(slot: Slot, meta: &Meta, sink: &mut S) -> Result<(), SinkFa
 {
     put_pieces(
         &[
-            Piece::Bytes(b"{\"page_size\":"),
-            Piece::Number(u64::from(meta.page_size)),
-            Piece::Bytes(b",\"meta\":"),
-            Piece::Number(slot_number(slot)),
-            Piece::Bytes(b",\"txid\":"),
-            Piece::Number(meta.txid),
-            Piece::Bytes(b",\"root\":"),
-            Piece::Number(meta.root),
-            Piece::Bytes(b",\"sequence\":"),
-            Piece::Number(meta.root_sequence),
+            Piece::Field(b"{\"page_size\":", u64::from(meta.page_size)),
+            Piece::Field(b",\"meta\":", slot_number(slot)),
+            Piece::Field(b",\"txid\":", meta.txid),
+            Piece::Field(b",\"root\":", meta.root),
+            Piece::Field(b",\"sequence\":", meta.root_sequence),
             Piece::Bytes(b",\"freelist\":"),
             freelist_value(freelist_of(meta.freelist)),
-            Piece::Bytes(b",\"high_water\":"),
-            Piece::Number(meta.high_water),
+            Piece::Field(b",\"high_water\":", meta.high_water),
             Piece::Bytes(b"}\n"),
         ],
         sink,
@@ -81,8 +75,7 @@ pub fn slot_fault_text<S: Sink>(slot: Slot, fault: MetaFault, sink: &mut S) -> R
 {
     put_pieces(
         &[
-            Piece::Bytes(b"meta "),
-            Piece::Number(slot_number(slot)),
+            Piece::Field(b"meta ", slot_number(slot)),
             Piece::Bytes(b": "),
             Piece::Bytes(meta_fault_line(fault)),
         ],

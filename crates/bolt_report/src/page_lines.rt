@@ -187,8 +187,7 @@ fn put_branch<S: Sink>(branch: &Branch<'_>, sink: &mut S) -> Result<(), SinkFaul
     put_pieces(
         &[
             Piece::Hex(branch.key),
-            Piece::Bytes(b" -> "),
-            Piece::Number(branch.child),
+            Piece::Field(b" -> ", branch.child),
             Piece::Bytes(b"\n"),
         ],
         sink,
@@ -216,10 +215,8 @@ fn put_bucket<S: Sink>(key: &[u8], value: &[u8], sink: &mut S) -> Result<(), Sin
     put_pieces(
         &[
             Piece::Hex(key),
-            Piece::Bytes(b" bucket "),
-            Piece::Number(bucket.root),
-            Piece::Bytes(b" "),
-            Piece::Number(bucket.sequence),
+            Piece::Field(b" bucket ", bucket.root),
+            Piece::Field(b" ", bucket.sequence),
             Piece::Bytes(b"\n"),
         ],
         sink,

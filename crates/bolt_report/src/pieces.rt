@@ -1,5 +1,5 @@
 //! Writes a line as a list of pieces, gathered in a buffer of fixed length before they are written.
-ghost use Rattle.std.specs.Prelude.{◌≡◌, ◌∷◌, [], OnOk, decimal, replicate};
+ghost use Rattle.std.specs.Prelude.{◌≡◌, ◌∷◌, ◌++◌, [], OnOk, decimal, replicate};
 ghost use Rattle.hex.specs.Hex.{encode_lower};
 ghost use Rattle.bolt_format.specs.{Endings.ending, Wrote.Wrote};
 ghost use Rattle.bolt_tree.specs.Paths.{path_of};
@@ -24,6 +24,8 @@ pub(crate) enum Piece<'a> {
     HexString(&'a [u8]),
     /// Parts in lower-case hexadecimal, in a form.
     HexPath(&'a [&'a [u8]], PathForm),
+    /// A name and a number in decimal.
+    Field(&'a [u8], u64),
     /// A line of a name, a space and a number in decimal.
     Figure(&'a [u8], u64),
     /// Bytes, and spaces up to a width.
@@ -71,6 +73,7 @@ fn add_piece<S: Sink>(piece: &Piece<'_>, held: &mut Held, sink: &mut S) -> Resul
         Piece::Hex(bytes) => add_hex(bytes, held, sink),
         Piece::HexString(bytes) => add_hex_string(bytes, held, sink),
         Piece::HexPath(parts, form) => add_path(parts, *form, held, sink),
+        Piece::Field(name, n) => add_field(name, *n, held, sink),
         Piece::Figure(name, n) => add_figure(name, *n, held, sink),
         Piece::Column(text, width) => add_column(text, *width, held, sink),
         Piece::NumberColumn(n, width) => {
@@ -83,6 +86,14 @@ fn add_number<S: Sink>(n: u64, held: &mut Held, sink: &mut S) -> Result<(), Sink
     ensures { Gathers S.Sink sink.old sink.new held.old.items held.new.items (decimal n) (ending result) }
 {
     add_bytes(Buffer::new().format(n).as_bytes(), held, sink)
+}
+
+#[tactic(auto, using(crate::proofs::GatherLemmas::gathers))]
+fn add_field<S: Sink>(name: &[u8], n: u64, held: &mut Held, sink: &mut S) -> Result<(), SinkFault>
+    ensures { Gathers S.Sink sink.old sink.new held.old.items held.new.items (name.now ++ decimal n) (ending result) }
+{
+    add_bytes(name, held, sink)?;
+    add_number(n, held, sink)
 }
 
 #[tactic(auto, using(crate::proofs::GatherLemmas::gathers), unfolding(crate::specs::Lines::figure_line))]

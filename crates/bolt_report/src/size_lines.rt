@@ -116,10 +116,8 @@ fn put_columns<S: Sink>(stats: &Stats, sink: &mut S) -> Result<(), SinkFault>
     put_pieces(
         &[
             Piece::Number(stats.keys),
-            Piece::Bytes(b" "),
-            Piece::Number(bytes_used(stats)),
-            Piece::Bytes(b" "),
-            Piece::Number(bytes_allocated(stats)),
+            Piece::Field(b" ", bytes_used(stats)),
+            Piece::Field(b" ", bytes_allocated(stats)),
             Piece::Bytes(b" "),
         ],
         sink,
@@ -171,12 +169,9 @@ fn put_members<S: Sink>(stats: &Stats, sink: &mut S) -> Result<(), SinkFault>
 {
     put_pieces(
         &[
-            Piece::Bytes(b"{\"keys\":"),
-            Piece::Number(stats.keys),
-            Piece::Bytes(b",\"used\":"),
-            Piece::Number(bytes_used(stats)),
-            Piece::Bytes(b",\"allocated\":"),
-            Piece::Number(bytes_allocated(stats)),
+            Piece::Field(b"{\"keys\":", stats.keys),
+            Piece::Field(b",\"used\":", bytes_used(stats)),
+            Piece::Field(b",\"allocated\":", bytes_allocated(stats)),
             Piece::Bytes(b",\"name\":"),
         ],
         sink,

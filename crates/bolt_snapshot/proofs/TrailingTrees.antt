@@ -3,7 +3,7 @@ use Rattle.std.proofs.Common.{◌≡◌, ◌∙◌, ◌↔◌, ℕ, List, ◌++�
 use Rattle.std.proofs.Math.Path.{fun_ext}
 use Rattle.std.specs.List.{Contains}
 use Rattle.bolt_format.specs.{Elements.LeafElement, Pages.PageView, Pages.page_at}
-use Rattle.bolt_format.specs.declared.kind.Kind.TheVariants as kind
+use Rattle.bolt_format.specs.declared.header.Kind.TheVariants as kind
 use Rattle.bolt_format.specs.declared.meta.Meta.{Meta}
 use Rattle.bolt_check.specs.{Nodes.Nodes, Nodes.node_at, Shape.leads}
 use Rattle.bolt_tree.specs.{Entries.IsEntry, Entries.Inline_page, Entries.Root_page, Entries.Start, Listing.IsListing, Listing.Lists, Listing.Member}

@@ -1,7 +1,7 @@
 -- What the moves of a trail back do to its stack.
 use Rattle.std.proofs.Common.{◌≡◌, ℕ, zero, suc, ◌+◌, ◌-◌, ◌≤◌, true, List, [], ◌∷◌, ◌++◌, Some, None, slice_get, length, take, refl, sym, ap, ◌∙◌, subst, arith, append_assoc, append-nil, length-append}
-use Rattle.bolt_tree.proofs.Words.{BranchElement, BucketView, Content, Contents, Frame, HasStack, IsAtRest, IsBranchContent, IsBranchTop, IsEntered, IsOn, LeafElement, Of_branch, Of_leaf, RestsOn, Visit, address_on, all_under, before_of, before_under, content_length, contents_in, done_of, done_under, elements_in, elements_of, flat_map-append, index_of, left_of, left_under, length-take, none-some, preceding_of, props, root_content, take_all, take_next, tour, under_at, ∥∥₁_elim}
-use Rattle.bolt_tree.proofs.StackLemmas.{branch_room}
+use Rattle.bolt_tree.proofs.Words.{BranchElement, BucketView, Content, Contents, Frame, HasStack, IsAtRest, IsEntered, IsOn, LeafElement, Of_branch, Of_leaf, RestsOn, Visit, address_on, all_under, before_of, before_under, content_length, contents_in, done_of, done_under, elements_in, elements_of, flat_map-append, index_of, left_of, left_under, length-take, none-some, pages_in, preceding_of, props, root_content, take_all, take_next, tour, under_at, ∥∥₁_elim}
+use Rattle.bolt_tree.proofs.{StackLemmas.branch_room, TrailLemmas.shown_by_branch}
 
 take_none : {X : Type 0} (xs : List X) → take 0 xs ≡ []
 take_none [] = refl
@@ -34,12 +34,13 @@ tour_done contents n h address (Of_branch bs) same =
 -- an entry is taken
 pub back_some : (contents : Contents) (content : Content) (i t : ℕ) (below new : List Frame) (e : LeafElement) → t ≡ i + 2 → IsEntered contents true content i below new (Some e)
     → (preceding_of contents (record { content = content; taken = t } ∷ below) ≡ preceding_of contents new ++ e ∷ []) × IsOn new e
+    × (before_of contents (record { content = content; taken = t } ∷ below) ≡ before_of contents new)
 back_some contents (Of_leaf es) i t below new e two h =
     let old : t - 1 ≡ suc i = omega arith in
     let back : (i + 1) - 1 ≡ i = omega arith in
     let cut : take (suc i) es ≡ take i es ++ e ∷ [] = take_next es i e h.0 in
     let on : IsOn (record { content = Of_leaf es; taken = i + 1 } ∷ below) e = (omega arith, rw back h.0) in
-    (rw (h.1, old, back, cut) (sym (append_assoc (elements_of (before_of contents below ++ [])) (take i es) (e ∷ []))), subst (λ (fs : List Frame). IsOn fs e) (sym h.1) on)
+    (rw (h.1, old, back, cut) (sym (append_assoc (elements_of (before_of contents below ++ [])) (take i es) (e ∷ []))), subst (λ (fs : List Frame). IsOn fs e) (sym h.1) on, rw h.1 refl)
 back_some contents (Of_branch bs) i t below new e two h = absurd h
 
 -- a page is opened
@@ -79,39 +80,20 @@ nothing_before : (contents : Contents) (H : ℕ) (address : List ℕ) (content :
 nothing_before contents H address (Of_leaf es) t h = refl
 nothing_before contents H address (Of_branch bs) t h = let z : t - 1 ≡ 0 = omega arith in rw z (ap (under_at contents H address 0) (take_none bs))
 
-by_content : (content : Content) (t : ℕ) → IsBranchContent content → done_under content t ≡ []
-by_content (Of_leaf es) t h = absurd h
-by_content (Of_branch bs) t h = refl
-
-branch_done : (frames : List Frame) → IsBranchTop frames → done_of frames ≡ []
-branch_done [] h = refl
-branch_done (f ∷ below) h = by_content f.content f.taken h
-
 -- a page of which nothing before is taken leaves the stack
 pub left_out : (bucket : BucketView) (f : Frame) (below : List Frame) → HasStack bucket (f ∷ below) → f.taken ≤ 1
     → (preceding_of (contents_in bucket) below ≡ preceding_of (contents_in bucket) (f ∷ below)) × (before_of (contents_in bucket) below ≡ before_of (contents_in bucket) (f ∷ below))
 left_out bucket f below stack h =
     let under = nothing_before (contents_in bucket) (length below) (address_on below) f.content f.taken h in
-    let top : done_of below ≡ [] = ∥∥₁_elim stack (Prim.hlevel props) (λ s. branch_done below s.1.0.branch) in
+    let top : done_of below ≡ [] = ∥∥₁_elim stack (Prim.hlevel props) (λ s. shown_by_branch done_of done_under refl (λ _ _. refl) (λ _ _. refl) below s.1.0.branch) in
     let same : before_of (contents_in bucket) below ≡ before_of (contents_in bucket) below ++ before_under (contents_in bucket) (length below) (address_on below) f.content (f.taken - 1) =
     rw under (sym (append-nil (before_of (contents_in bucket) below))) in
     (rw (nothing_done f.content f.taken h, top) (ap (λ (vs : List Visit). elements_of vs ++ []) same), same)
 
-pub step_back_some : (old now : BucketView) (whole below new : List Frame) (f : Frame) (i : ℕ) (e : LeafElement) → f.taken ≡ i + 2 → now ≡ old → whole ≡ f ∷ below → IsEntered (contents_in old) true f.content i below new (Some e)
-    → (preceding_of (contents_in old) whole ≡ preceding_of (contents_in now) new ++ e ∷ []) × IsOn new e
-step_back_some old now whole below new f i e two same frames h = let r = back_some (contents_in old) f.content i f.taken below new e two h in (rw (frames, same) (r.0), r.1)
-
-pub step_back_none : (old now : BucketView) (whole below new : List Frame) (f : Frame) (i : ℕ) → f.taken ≡ i + 2 → now ≡ old → whole ≡ f ∷ below → IsEntered (contents_in old) true f.content i below new None → HasStack now new
-    → (preceding_of (contents_in old) whole ≡ preceding_of (contents_in now) new) × (length (before_of (contents_in old) whole) ≡ suc (length (before_of (contents_in now) new)))
-step_back_none old now whole below new f i two same frames h stack =
-    let s : HasStack old new = subst (λ (k : BucketView). HasStack k new) same stack in
-    let r = back_none old f.content i f.taken below new two h s in
-    (rw (frames, same) (r.0), rw (frames, same) (r.1))
-
 -- behind the root page's last element, everything is behind
-pub root_preceding : (bucket : BucketView) → elements_in bucket
-    ≡ preceding_of (contents_in bucket) (record { content = root_content bucket; taken = suc (content_length (root_content bucket)) } ∷ [])
-root_preceding bucket = (tour_done (contents_in bucket) 63 0 [] (root_content bucket) (λ bs e. refl)).0
+pub root_behind : (bucket : BucketView) → let frames : List Frame = record { content = root_content bucket; taken = suc (content_length (root_content bucket)) } ∷ [] in
+    (elements_in bucket ≡ preceding_of (contents_in bucket) frames) × (length (pages_in bucket) ≡ suc (length (before_of (contents_in bucket) frames)))
+root_behind bucket = tour_done (contents_in bucket) 63 0 [] (root_content bucket) (λ bs e. refl)
 
 -- the pages on the stack have no entries of their own
 left_entries : (contents : Contents) (H : ℕ) (address : List ℕ) (content : Content) (k : ℕ) → elements_of (left_under contents H address content k) ≡ elements_of (before_under contents H address content k)

@@ -1,29 +1,55 @@
 -- Moves from entry to entry. Within a leaf, one element more of the page on top of a stack is taken, in place.
-use Rattle.std.proofs.Common.{◌≡◌, ℕ, ◌<◌, Bool, false, List, [], ◌∷◌, ◌++◌, Some, None, Option, length, refl, ◌∙◌, arith, ◌≤◌, ◌+◌, ◌-◌, suc, take, slice_index_or, slice_set, sym, ap, append-nil}
-use Rattle.bolt_tree.proofs.Words.{BucketView, Content, Contents, Finds, FindsBack, Frame, IsAtRest, IsEntered, IsOn, Leaf, LeafElement, MatchOption, Of_branch, Of_leaf, Position, RestsOn, StandsOn, ahead_of, contents_in, drop_all, frame_of, frames_of, get_or_default, here_of, leaf_view, length-set, opened_content, option_map, refill, right_of, right_under, slice_get_read, take-suc-set, take_all, take_next}
-use Rattle.bolt_tree.proofs.TrailLemmas.{step_some, frames_push}
+use Rattle.std.proofs.Common.{◌≡◌, ℕ, ◌<◌, Bool, true, false, List, [], ◌∷◌, ◌++◌, Some, None, Option, length, refl, ◌∙◌, arith, ◌≤◌, ◌+◌, ◌-◌, suc, take, slice_index_or, slice_set, sym, ap, append-nil, subst}
+use Rattle.bolt_tree.proofs.Words.{BucketView, Content, Contents, Finds, Frame, HasStack, IsAtRest, IsBeside, IsEntered, IsLast, IsOn, Leaf, LeafElement, Of_branch, Of_leaf, Position, RestsOn, StandsOn, contents_in, drop_all, elements_in, entries_to, frame_of, frames_of, get_or_default, length-set, nearer, opened_content, pages_in, pages_to, refill, right_of, right_under, root_content, slice_get_read, take-suc-set, take_all, take_next, taken_at}
+use Rattle.bolt_tree.proofs.{BackLemmas.back_none, BackLemmas.back_some, BackLemmas.left_out, BackLemmas.root_behind, StackLemmas.root_ahead, StackLemmas.root_right}
+use Rattle.bolt_tree.proofs.TrailLemmas.{entered_length, entered_none, entered_some, exhausted, frames_push}
 
-pub found_over : (found : Option Leaf) (whole before after : List LeafElement) (frames end : List Frame) → whole ≡ before → Finds found before after frames end → Finds found whole after frames end
-found_over None whole before after frames end e h = (e ∙ h.0, h.1)
-found_over (Some leaf) whole before after frames end e h = (e ∙ h.0, h.1)
+pub found_over : (back : Bool) (found : Option Leaf) (whole before after : List LeafElement) (frames end : List Frame) → whole ≡ before → Finds back found before after frames end
+    → Finds back found whole after frames end
+found_over back None whole before after frames end e h = (e ∙ h.0, h.1)
+found_over back (Some leaf) whole before after frames end e h = (e ∙ h.0, h.1)
 
-pub back_over : (found : Option Leaf) (whole before after : List LeafElement) (frames end : List Frame) → whole ≡ before → FindsBack found before after frames end → FindsBack found whole after frames end
-back_over None whole before after frames end e h = (e ∙ h.0, h.1)
-back_over (Some leaf) whole before after frames end e h = (e ∙ h.0, h.1)
+-- One step of a move in a direction, from a stack with this page on top: an entry is taken, or a page is opened, or the page leaves the stack.
+module _ (bucket : BucketView) (f : Frame) (below : List Frame) where
+  abbrev inside : Contents
+  inside = contents_in bucket
 
--- What a step within a leaf finds: where it rests on a leaf, taking an element of that leaf returns it and opens nothing.
-leaf_taken : (contents : Contents) (at_end : Bool) (content : Content) (t i : ℕ) (below new : List Frame) → RestsOn content t → IsEntered contents at_end content i below new None → ⊥
-leaf_taken contents at_end (Of_leaf es) t i below new rest h = h
-leaf_taken contents at_end (Of_branch bs) t i below new rest h = rest
+  pub entry_taken : (back : Bool) (i : ℕ) (new : List Frame) (e : LeafElement) → IsBeside back f i → IsEntered inside back f.content i below new (Some e)
+      → (entries_to back inside (f ∷ below) ≡ nearer back e (entries_to back inside new)) × IsOn new e × (pages_to back inside (f ∷ below) ≡ pages_to back inside new)
+  entry_taken false i new e is h = entered_some inside f.content f.taken below new e (rw (sym is.0) at h)
+  entry_taken true i new e is h = back_some inside f.content i f.taken below new e is.0 h
 
-pub next_in_leaf : (old now : BucketView) (whole below new : List Frame) (f : Frame) (found : Option Leaf) → now ≡ old → whole ≡ f ∷ below → RestsOn f.content f.taken
-    → IsEntered (contents_in old) false f.content f.taken below new (option_map leaf_view found)
-    → MatchOption found ((here_of whole ≡ []) × (new ≡ whole)) (λ leaf. (ahead_of (contents_in old) whole ≡ leaf_view leaf ∷ ahead_of (contents_in now) new) × IsOn new (leaf_view leaf) × (right_of (contents_in old) whole ≡ right_of (contents_in now) new))
-next_in_leaf old now whole below new f None same frames rest h = absurd (leaf_taken (contents_in old) false f.content f.taken f.taken below new rest h)
-next_in_leaf old now whole below new f (Some leaf) same frames rest h = let r = step_some old now whole below new f (leaf_view leaf) same frames h in (r.0, r.2, r.1)
+  pub page_opened : (back : Bool) (i : ℕ) (new : List Frame) → IsBeside back f i → IsEntered inside back f.content i below new None → HasStack bucket new
+      → (entries_to back inside (f ∷ below) ≡ entries_to back inside new) × (length (pages_to back inside (f ∷ below)) ≡ suc (length (pages_to back inside new)))
+  page_opened false i new is h stack = entered_none bucket f.content f.taken below new (rw (sym is.0) at h) stack
+  page_opened true i new is h stack = back_none bucket f.content i f.taken below new is.0 h stack
 
-pub rest_on_top : (whole below : List Frame) (f : Frame) → whole ≡ f ∷ below → IsAtRest whole → RestsOn f.content f.taken
-rest_on_top whole below f e rest = rw e at rest
+  pub page_left : (back : Bool) → HasStack bucket (f ∷ below) → IsLast back f
+      → (entries_to back inside below ≡ entries_to back inside (f ∷ below)) × (pages_to back inside below ≡ pages_to back inside (f ∷ below))
+  page_left false stack last = exhausted bucket f below stack last
+  page_left true stack last = left_out bucket f below stack last
+
+-- The same, as a trail shows it that has gone to element i of the page.
+module _ (old now : BucketView) (whole below new : List Frame) (f : Frame) (same : now ≡ old) (frames : whole ≡ f ∷ below) (back : Bool) (i : ℕ) (beside : IsBeside back f i) where
+  pub takes : (e : LeafElement) → IsEntered (contents_in old) back f.content i below new (Some e)
+      → (entries_to back (contents_in old) whole ≡ nearer back e (entries_to back (contents_in now) new)) × IsOn new e × (pages_to back (contents_in old) whole ≡ pages_to back (contents_in now) new)
+  takes e h = rw (frames, same) (entry_taken old f below back i new e beside h)
+
+  pub opens : IsEntered (contents_in old) back f.content i below new None → HasStack now new
+      → (entries_to back (contents_in old) whole ≡ entries_to back (contents_in now) new) × (length (pages_to back (contents_in old) whole) ≡ suc (length (pages_to back (contents_in now) new))) × (length new ≡ suc (suc (length below)))
+  opens h stack =
+      let r = page_opened old f below back i new beside h (subst (λ (b : BucketView). HasStack b new) same stack) in
+      (rw (frames, same) r.0, rw (frames, same) r.1, entered_length (contents_in old) back f.content i below new h)
+
+-- at the edge of the root page, everything lies in the direction
+at_root : (back : Bool) (bucket : BucketView) → let frames : List Frame = record { content = root_content bucket; taken = taken_at back (root_content bucket) } ∷ [] in
+    (elements_in bucket ≡ entries_to back (contents_in bucket) frames) × (length (pages_in bucket) ≡ suc (length (pages_to back (contents_in bucket) frames)))
+at_root false bucket = (sym (root_ahead bucket), root_right bucket)
+at_root true bucket = root_behind bucket
+
+pub at_edge : (back : Bool) (bucket now : BucketView) (frames : List Frame) → now ≡ bucket → frames ≡ record { content = root_content bucket; taken = taken_at back (root_content bucket) } ∷ []
+    → (elements_in bucket ≡ entries_to back (contents_in now) frames) × (length (pages_in bucket) ≡ suc (length (pages_to back (contents_in now) frames)))
+at_edge back bucket now frames same at = rw (same, at) (at_root back bucket)
 
 -- Right of the only page of a stack at rest, which is a leaf, there is none; so where all of that leaf is taken, nothing is ahead.
 leaf_alone : (contents : Contents) (height : ℕ) (address : List ℕ) (content : Content) (taken : ℕ) → RestsOn content taken → right_under contents height address content taken ++ [] ≡ []

@@ -1,7 +1,7 @@
 -- For each key there is one nearest leaf.
 use Rattle.std.proofs.Common.{◌≡◌, ℕ, zero, suc, ◌+◌, ◌≤◌, ◌<◌, ◌⊎◌, inl, inr, List, [], ◌∷◌, Some, slice_get, length, refl, sym, ap, ◌∙◌, subst, arith, false, true}
 use Rattle.bolt_tree.proofs.Words.{BranchElement, HasSoundTrees, Inline_page, IsAddress, IsNear, IsNearFrom, IsNearest, IsOnWay, IsStart, Key, Kind, Meta, PageView, Root_page, Start, cases_Bool, cases_lt, key_lt, leads, leads_child, node_at, none-some, on_child, one_some, page_at, shallow}
-use Rattle.bolt_format.specs.declared.kind.Kind.TheVariants as kind
+use Rattle.bolt_format.specs.declared.header.Kind.TheVariants as kind
 use Rattle.bolt_tree.proofs.{TourLemmas.filled, TourLemmas.not_deepest, WayPages.a_branch, WayPages.a_leaf, WayPages.on_way_page}
 
 kinds_apart : (k : Kind) → k ≡ kind.Leaf → k ≡ kind.Branch → ⊥

@@ -1,5 +1,5 @@
 -- What the moves of a trail open, counted by the pages up to an entry, and what a seek opens and compares.
-use Rattle.std.proofs.Common.{◌≡◌, ℕ, suc, ◌+◌, ◌-◌, ◌≤◌, List, [], ◌∷◌, ◌++◌, Some, None, Option, slice_get, length, refl, ap, ◌∙◌, subst, arith, ◌*◌, sym, length-append}
+use Rattle.std.proofs.Common.{false, ◌≡◌, ℕ, suc, ◌+◌, ◌-◌, ◌≤◌, List, [], ◌∷◌, ◌++◌, Some, None, Option, slice_get, length, refl, ap, ◌∙◌, subst, arith, ◌*◌, sym, length-append}
 use Rattle.bolt_tree.proofs.Words.{BucketView, Content, Contents, Finds, Frame, HasCount, HasStack, IsAtRest, IsLeafContent, IsLeafTop, IsNear, IsNearTop, IsPagesUpTo, IsSeekPage, IsSought, IsSoundBucket, IsStack, Key, Leaf, LeafElement, Of_branch, Of_leaf, OpensByNext, OpensGap, OpensSeek, RestsOn, SeeksInBounds, StandsOn, address_on, ahead_of, contents_in, counted, elements_in, index_of, leaf_view, least_from, left_of, opened_to, option_map, pages_in, place_on, props, right_of, slice_get_past, top_address, tour, ∥∥₁_elim}
 use Rattle.bolt_tree.proofs.CountLemmas.{Cut, IsAt, all_exact, cut_size, exact_is, upto_is, after_exact, seek_exact}
 use Rattle.bolt_tree.proofs.ListLemmas.{at_has, get_exists}
@@ -45,7 +45,7 @@ module _ (bucket : BucketView) where
 
   -- what a move to the first entry opens
   pub first_opens : (found : Option Leaf) (frames : List Frame) (old new : ℕ) → ∥ IsSoundBucket bucket ∥₁ → HasStack bucket frames
-      → Finds found (elements_in bucket) (ahead_of (contents_in bucket) frames) frames []
+      → Finds false found (elements_in bucket) (ahead_of (contents_in bucket) frames) frames []
       → new ≡ counted old (length (pages_in bucket) - length (right_of (contents_in bucket) frames)) → OpensGap bucket 0 old new
   first_opens None frames old new is stack h opened = λ entries gap are up.
       let g = all_upto gap 0 is (let z = ap length h.0 in omega (arith, z)) (rw (← the_entries bucket entries is are) at up) in
@@ -62,7 +62,7 @@ module _ (bucket : BucketView) where
   -- what a move to the next entry opens
   pub next_opens : (found : Option Leaf) (from frames : List Frame) (old new : ℕ) → ∥ IsSoundBucket bucket ∥₁
       → HasStack bucket from → IsAtRest from → (from ≡ [] → ⊥) → HasStack bucket frames
-      → Finds found (ahead_of (contents_in bucket) from) (ahead_of (contents_in bucket) frames) frames from
+      → Finds false found (ahead_of (contents_in bucket) from) (ahead_of (contents_in bucket) frames) frames from
       → new ≡ counted old (length (right_of (contents_in bucket) from) - opened_to (option_map leaf_view found) (right_of (contents_in bucket) frames))
       → OpensByNext bucket (place_on (contents_in bucket) from) old new
   next_opens found [] frames old new is stack rest some stack2 h opened = absurd (some refl)
@@ -93,7 +93,7 @@ near_is bucket key frames near top is = ∥∥₁_elim top (Prim.hlevel props) (
 further : (bucket : BucketView) (s : IsSoundBucket bucket) (key : Key) (found : Option Leaf) (content : Content) (taken : ℕ) (below frames : List Frame) (n : ℕ)
     → IsStack bucket (record { content = content; taken = taken } ∷ below) → IsLeafContent content
     → IsSought (elements_in bucket) key (ahead_of (contents_in bucket) (record { content = content; taken = taken } ∷ below)) → IsStack bucket frames
-    → Finds found (ahead_of (contents_in bucket) (record { content = content; taken = taken } ∷ below)) (ahead_of (contents_in bucket) frames) frames []
+    → Finds false found (ahead_of (contents_in bucket) (record { content = content; taken = taken } ∷ below)) (ahead_of (contents_in bucket) frames) frames []
     → HasCount (IsSeekPage bucket.file bucket.meta bucket.start (address_on below) (slice_get (elements_in bucket) (least_from key (elements_in bucket)))) n
     → n ≡ length (right_of (contents_in bucket) (record { content = content; taken = taken } ∷ below)) - opened_to (option_map leaf_view found) (right_of (contents_in bucket) frames)
 further bucket s key found (Of_branch bs) taken below frames n stack leaf sought stack2 h count = absurd leaf
@@ -110,14 +110,14 @@ further bucket s key (Some leaf) (Of_leaf es) taken below (g ∷ under) n stack 
     omega (arith, exact_is (seek_exact bucket s (leaf_cut bucket es below stack.0.placed) (leaf_view leaf) at.0) (rw got at count), ap length at.1)
 
 -- nothing is right of where it comes to at the end
-right_end : (contents : Contents) (found : Option Leaf) (before after : List LeafElement) (frames : List Frame) → Finds found before after frames [] → length (right_of contents frames) ≡ opened_to (option_map leaf_view found) (right_of contents frames)
+right_end : (contents : Contents) (found : Option Leaf) (before after : List LeafElement) (frames : List Frame) → Finds false found before after frames [] → length (right_of contents frames) ≡ opened_to (option_map leaf_view found) (right_of contents frames)
 right_end contents None before after frames h = ap (λ (fs : List Frame). length (right_of contents fs)) h.1
 right_end contents (Some leaf) before after frames h = refl
 
 -- what a seek opens
 pub seek_opens : (bucket : BucketView) (key : Key) (found : Option Leaf) (landed frames : List Frame) (old new : ℕ) → ∥ IsSoundBucket bucket ∥₁ → HasStack bucket landed → IsLeafTop landed → IsNearTop bucket key landed
     → IsSought (elements_in bucket) key (ahead_of (contents_in bucket) landed) → HasStack bucket frames
-    → Finds found (ahead_of (contents_in bucket) landed) (ahead_of (contents_in bucket) frames) frames []
+    → Finds false found (ahead_of (contents_in bucket) landed) (ahead_of (contents_in bucket) frames) frames []
     → new ≡ counted old (length landed + (length (right_of (contents_in bucket) landed) - length (right_of (contents_in bucket) frames))) → OpensSeek bucket key old new
 seek_opens bucket key found [] frames old new is stack leaf near sought stack2 h opened = absurd leaf
 seek_opens bucket key found (f ∷ below) frames old new is stack leaf near sought stack2 h opened = λ entries n are count.

@@ -1,6 +1,6 @@
 -- The place of a stack among the entries of its bucket, and what the moves of a trail are to a cursor's place.
-use Rattle.std.proofs.Common.{◌≡◌, ℕ, suc, ◌+◌, ◌-◌, ◌≤◌, ◌<◌, List, [], ◌∷◌, ◌++◌, Some, None, Option, slice_get, length, drop, refl, sym, ap, ◌∙◌, arith, length-append, zero, take, append_assoc}
-use Rattle.bolt_tree.proofs.Words.{AreSorted, BucketView, Content, Contents, Finds, FindsBack, Frame, HasStack, IsAtRest, IsOn, IsSoundBucket, Key, Leaf, LeafElement, Move, Of_branch, Of_leaf, On, Past, Place, RestsOn, StandsOn, Visit, address_on, ahead_of, contents_in, drop-append_seam, elements_in, elements_of, first_move, flat_map-append, index_of, is_none, last_move, le-ltb, leaf_view, least_from, left_of, length-drop, length-take, lt-ltb, next_move, none-some, option_map, pages_in, place_by, place_in, place_on, preceding_of, prev_move, props, right_of, seek_move, slice_get_within, take-append-drop, tour, ∥∥₁_elim, ∥∥₁_map}
+use Rattle.std.proofs.Common.{true, false, Bool, ◌≡◌, ℕ, suc, ◌+◌, ◌-◌, ◌≤◌, ◌<◌, List, [], ◌∷◌, ◌++◌, Some, None, Option, slice_get, length, drop, refl, sym, ap, ◌∙◌, arith, length-append, zero, take, append_assoc}
+use Rattle.bolt_tree.proofs.Words.{AreSorted, BucketView, Content, Contents, Finds, Frame, HasStack, IsAtRest, IsOn, IsSoundBucket, Key, Leaf, LeafElement, Move, Of_branch, Of_leaf, On, Past, Place, RestsOn, StandsOn, Visit, address_on, ahead_of, contents_in, drop-append_seam, elements_in, elements_of, entries_to, first_move, flat_map-append, index_of, is_none, last_move, le-ltb, leaf_view, least_from, left_of, length-drop, length-take, lt-ltb, next_move, none-some, option_map, pages_in, place_by, place_in, place_on, preceding_of, prev_move, props, right_of, seek_move, slice_get_within, take-append-drop, tour, ∥∥₁_elim, ∥∥₁_map}
 use Rattle.bolt_tree.proofs.{BackLemmas.behind_index, ListLemmas.get_behind, ListLemmas.get_front, SortedLemmas.sorted, SortedLemmas.sorted_one}
 
 module _ {X : Type 0} where
@@ -151,7 +151,7 @@ module _ (bucket : BucketView) where
   abbrev here : List Frame → Place
   here frames = place_on (contents_in bucket) frames
 
-  pub first_moves : (found : Option Leaf) (frames : List Frame) → HasStack bucket frames → Finds found (elements_in bucket) (ahead_of (contents_in bucket) frames) frames []
+  pub first_moves : (found : Option Leaf) (frames : List Frame) → HasStack bucket frames → Finds false found (elements_in bucket) (ahead_of (contents_in bucket) frames) frames []
       → Comes (elements_in bucket) (first_move (elements_in bucket)) (here frames) (option_map leaf_view found)
   first_moves None frames stack h = first_none (elements_in bucket) (here frames) h.0
   first_moves (Some leaf) [] stack h = absurd h.1
@@ -161,7 +161,7 @@ module _ (bucket : BucketView) where
       let b = ap length h.0 in
       first_onto (elements_in bucket) (index_of (contents_in bucket) (f ∷ below)) (leaf_view leaf) (omega (arith, a, b)) (current bucket f below (leaf_view leaf) stack h.1)
 
-  pub last_moves : (found : Option Leaf) (frames : List Frame) → HasStack bucket frames → FindsBack found (elements_in bucket) (preceding_of (contents_in bucket) frames) frames []
+  pub last_moves : (found : Option Leaf) (frames : List Frame) → HasStack bucket frames → Finds true found (elements_in bucket) (preceding_of (contents_in bucket) frames) frames []
       → Comes (elements_in bucket) (last_move (elements_in bucket)) (here frames) (option_map leaf_view found)
   last_moves None frames stack h = last_none (elements_in bucket) (here frames) h.0
   last_moves (Some leaf) [] stack h = absurd h.1
@@ -171,15 +171,18 @@ module _ (bucket : BucketView) where
       let l = length-append (preceding_of (contents_in bucket) (f ∷ below)) (leaf_view leaf ∷ []) in
       last_onto (elements_in bucket) (index_of (contents_in bucket) (f ∷ below)) (Some (leaf_view leaf)) (omega (arith, b, m, l)) (current bucket f below (leaf_view leaf) stack h.1)
 
-  pub next_moves : (found : Option Leaf) (from frames : List Frame) → HasStack bucket from → IsAtRest from → (from ≡ [] → ⊥) → HasStack bucket frames
-      → Finds found (ahead_of (contents_in bucket) from) (ahead_of (contents_in bucket) frames) frames from
-      → Comes (elements_in bucket) (next_move (elements_in bucket) (place_in (elements_in bucket) (here from))) (here frames) (option_map leaf_view found)
-  next_moves found [] frames old rest some new h = absurd (some refl)
-  next_moves None (f ∷ below) frames old rest some new h =
+  abbrev go_move : Bool → List LeafElement → Place → Move
+  go_move false = next_move
+  go_move true = prev_move
+
+  pub go_moves : (back : Bool) (found : Option Leaf) (from frames : List Frame) → HasStack bucket from → IsAtRest from → (from ≡ [] → ⊥) → HasStack bucket frames
+      → Finds back found (entries_to back (contents_in bucket) from) (entries_to back (contents_in bucket) frames) frames from
+      → Comes (elements_in bucket) (go_move back (elements_in bucket) (place_in (elements_in bucket) (here from))) (here frames) (option_map leaf_view found)
+  go_moves back found [] frames old rest some new h = absurd (some refl)
+  go_moves false None (f ∷ below) frames old rest some new h =
       let a = ahead_number (elements_in bucket) (contents_in bucket) f below (split bucket f below old rest) in
       rw h.1 (next_stays (elements_in bucket) (index_of (contents_in bucket) (f ∷ below)) (omega (arith, a)) (omega (arith, a, ap length h.0)))
-  next_moves (Some leaf) (f ∷ below) [] old rest some new h = absurd h.1
-  next_moves (Some leaf) (f ∷ below) (g ∷ under) old rest some new h =
+  go_moves false (Some leaf) (f ∷ below) (g ∷ under) old rest some new h =
       let s = split bucket f below old rest in
       let a = ahead_number (elements_in bucket) (contents_in bucket) f below s in
       let b = ahead_number (elements_in bucket) (contents_in bucket) g under (split bucket g under new (on_rests (g ∷ under) (leaf_view leaf) h.1)) in
@@ -187,17 +190,11 @@ module _ (bucket : BucketView) where
       let i = index_of (contents_in bucket) (f ∷ below) in
       next_onto (elements_in bucket) i (index_of (contents_in bucket) (g ∷ under)) (Some (leaf_view leaf)) (omega (arith, a, b, c))
       (get_next (elements_in bucket) (suc i) (leaf_view leaf) (ahead_of (contents_in bucket) (g ∷ under)) (s.after ∙ h.0)) (omega (arith, a, c))
-
-  pub prev_moves : (found : Option Leaf) (from frames : List Frame) → HasStack bucket from → IsAtRest from → (from ≡ [] → ⊥) → HasStack bucket frames
-      → FindsBack found (preceding_of (contents_in bucket) from) (preceding_of (contents_in bucket) frames) frames from
-      → Comes (elements_in bucket) (prev_move (elements_in bucket) (place_in (elements_in bucket) (here from))) (here frames) (option_map leaf_view found)
-  prev_moves found [] frames old rest some new h = absurd (some refl)
-  prev_moves None (f ∷ below) frames old rest some new h =
+  go_moves true None (f ∷ below) frames old rest some new h =
       let a = ahead_number (elements_in bucket) (contents_in bucket) f below (split bucket f below old rest) in
       let b = behind_index (contents_in bucket) f below rest in
       rw h.1 (prev_stays (elements_in bucket) (index_of (contents_in bucket) (f ∷ below)) (omega (arith, b, ap length h.0)) (omega (arith, a)))
-  prev_moves (Some leaf) (f ∷ below) [] old rest some new h = absurd h.1
-  prev_moves (Some leaf) (f ∷ below) (g ∷ under) old rest some new h =
+  go_moves true (Some leaf) (f ∷ below) (g ∷ under) old rest some new h =
       let a = ahead_number (elements_in bucket) (contents_in bucket) f below (split bucket f below old rest) in
       let b = behind_index (contents_in bucket) f below rest in
       let d = behind_index (contents_in bucket) g under (on_rests (g ∷ under) (leaf_view leaf) h.1) in
@@ -205,9 +202,10 @@ module _ (bucket : BucketView) where
       let l = length-append (preceding_of (contents_in bucket) (g ∷ under)) (leaf_view leaf ∷ []) in
       prev_onto (elements_in bucket) (index_of (contents_in bucket) (f ∷ below)) (index_of (contents_in bucket) (g ∷ under)) (Some (leaf_view leaf)) (omega (arith, b, d, m, l))
       (current bucket g under (leaf_view leaf) new h.1) (omega (arith, a))
+  go_moves back (Some leaf) (f ∷ below) [] old rest some new h = absurd h.1
 
   pub seek_moves : (key : Key) (found : Option Leaf) (frames : List Frame) → HasStack bucket frames
-      → Finds found (drop (least_from key (elements_in bucket)) (elements_in bucket)) (ahead_of (contents_in bucket) frames) frames []
+      → Finds false found (drop (least_from key (elements_in bucket)) (elements_in bucket)) (ahead_of (contents_in bucket) frames) frames []
       → least_from key (elements_in bucket) ≤ length (elements_in bucket)
       → Comes (elements_in bucket) (seek_move key (elements_in bucket)) (place_by (is_none found) (contents_in bucket) frames) (option_map leaf_view found)
   seek_moves key None frames stack h number =

@@ -1,11 +1,11 @@
 -- What the moves of a trail do to its stack.
 use Rattle.std.proofs.Common.{◌≡◌, ◌==◌, ℕ, suc, ◌+◌, ◌-◌, ◌≤◌, ◌<◌, Bool, true, false, List, [], ◌∷◌, ◌++◌, Some, None, slice_get, length, map, reverse, drop, refl, sym, ap, ◌∙◌, subst, arith, append_assoc, append-nil}
-use Rattle.bolt_tree.proofs.Words.{BranchElement, BucketView, Checked, Content, Contents, Frame, HasStack, HasTrail, IsBranchContent, IsBranchTop, IsEntered, IsOn, IsOnWay, IsSameBucket, IsTrue, LeafElement, Meta, Of_branch, Of_leaf, PageView, Position, Trail, Visit, address_on, ahead_of, bytes_of, checked_trees, content_length, contents_in, drop_all, drop_at, elements_of, frame_of, frames_of, here_of, here_under, is_tree_kind, length-map, length-reverse, meta_of, nat_tests, one_some, option_to_list, page_at, props, reverse-append, right_of, right_under, tour, trail_bucket, under_at, ∥∥₁_elim}
+use Rattle.bolt_tree.proofs.Words.{BranchElement, BucketView, Checked, Content, Contents, Frame, HasBucket, HasStack, HasTrail, IsBranchContent, IsBranchTop, IsEntered, IsOn, IsOnWay, IsMoved, IsTrue, LeafElement, Meta, Of_branch, Of_leaf, PageView, Position, Trail, Visit, address_on, ahead_of, bytes_of, checked_trees, content_length, contents_in, drop_all, drop_at, elements_of, frame_of, frames_of, here_of, here_under, is_tree_kind, length-map, length-reverse, meta_of, nat_tests, one_some, option_to_list, page_at, props, reverse-append, right_of, right_under, tour, trail_bucket, trail_frames, under_at, ∥∥₁_elim, ∥∥₁_map}
 use Rattle.bolt_tree.proofs.StackLemmas.{branch_room, stack_short, under_next}
 use Rattle.bolt_tree.proofs.WayPages.{IsWayPage, a_branch, a_leaf, on_way_page}
 
 -- one equation moves every fact of a bucket
-pub same_bucket : (old new : Trail) → IsSameBucket old new → trail_bucket new ≡ trail_bucket old
+pub same_bucket : (old new : Trail) → IsMoved old new → trail_bucket new ≡ trail_bucket old
 same_bucket old new same = rw (same.file, same.at) refl
 
 pub frames_push : (items : List Position) (position : Position) → frames_of (items ++ position ∷ []) ≡ frame_of position ∷ frames_of items
@@ -45,13 +45,13 @@ tour_top contents n h address (Of_branch elements) same = ap (λ (m : ℕ). tour
 
 -- an entry is taken
 pub entered_some : (contents : Contents) (content : Content) (i : ℕ) (below new : List Frame) (e : LeafElement) → IsEntered contents false content i below new (Some e)
-    → (ahead_of contents (record { content = content; taken = i } ∷ below) ≡ e ∷ ahead_of contents new) × (right_of contents (record { content = content; taken = i } ∷ below) ≡ right_of contents new) × IsOn new e
+    → (ahead_of contents (record { content = content; taken = i } ∷ below) ≡ e ∷ ahead_of contents new) × IsOn new e × (right_of contents (record { content = content; taken = i } ∷ below) ≡ right_of contents new)
 entered_some contents (Of_leaf elements) i below new e h =
     let next : suc i ≡ i + 1 = omega arith in
     let back : i ≡ (i + 1) - 1 = omega arith in
     let cut : drop i elements ≡ e ∷ drop (i + 1) elements = rw (← next) (drop_at elements i e h.0) in
     let on : IsOn (record { content = Of_leaf elements; taken = i + 1 } ∷ below) e = (omega arith, rw (← back) h.0) in
-    (rw (h.1, cut) refl, rw h.1 refl, subst (λ (fs : List Frame). IsOn fs e) (sym h.1) on)
+    (rw (h.1, cut) refl, subst (λ (fs : List Frame). IsOn fs e) (sym h.1) on, rw h.1 refl)
 entered_some contents (Of_branch elements) i below new e h = absurd h
 
 pub nothing_here : (content : Content) (taken : ℕ) → content_length content ≤ taken → here_under content taken ≡ []
@@ -62,13 +62,14 @@ nothing_under : (contents : Contents) (H : ℕ) (address : List ℕ) (content : 
 nothing_under contents H address (Of_leaf elements) taken h = refl
 nothing_under contents H address (Of_branch elements) taken h = ap (λ (es : List BranchElement). under_at contents H address taken es) (drop_all taken elements h)
 
-by_content : (content : Content) (taken : ℕ) → IsBranchContent content → here_under content taken ≡ []
-by_content (Of_leaf elements) taken h = absurd h
-by_content (Of_branch elements) taken h = refl
-
-branch_here : (frames : List Frame) → IsBranchTop frames → here_of frames ≡ []
-branch_here [] h = refl
-branch_here (f ∷ below) h = by_content f.content f.taken h
+-- what a stack shows of its top page, where that is none for a branch
+pub shown_by_branch : (of : List Frame → List LeafElement) (under : Content → ℕ → List LeafElement) → of [] ≡ [] → ((f : Frame) (below : List Frame) → of (f ∷ below) ≡ under f.content f.taken)
+    → ((bs : List BranchElement) (taken : ℕ) → under (Of_branch bs) taken ≡ []) → (frames : List Frame) → IsBranchTop frames → of frames ≡ []
+shown_by_branch of under none top branch [] h = none
+shown_by_branch of under none top branch (f ∷ below) h = top f below ∙ by_content f.content h where
+  by_content : (content : Content) → IsBranchContent content → under content f.taken ≡ []
+  by_content (Of_leaf es) h = absurd h
+  by_content (Of_branch bs) h = branch bs f.taken
 
 -- what lies to the right, with the page that is opened first
 opened_right : (contents : Contents) (H i : ℕ) (address : List ℕ) (elements : List BranchElement) (b : BranchElement) (rest : List Visit) → slice_get elements i ≡ Some b
@@ -104,23 +105,8 @@ pub exhausted : (bucket : BucketView) (f : Frame) (below : List Frame) → HasSt
     → (ahead_of (contents_in bucket) below ≡ ahead_of (contents_in bucket) (f ∷ below)) × (right_of (contents_in bucket) below ≡ right_of (contents_in bucket) (f ∷ below))
 exhausted bucket f below stack h =
     let under = nothing_under (contents_in bucket) (length below) (address_on below) f.content f.taken h in
-    let top : here_of below ≡ [] = ∥∥₁_elim stack (Prim.hlevel props) (λ s. branch_here below s.1.0.branch) in
+    let top : here_of below ≡ [] = ∥∥₁_elim stack (Prim.hlevel props) (λ s. shown_by_branch here_of here_under refl (λ _ _. refl) (λ _ _. refl) below s.1.0.branch) in
     (rw (nothing_here f.content f.taken h, under, top) refl, rw under refl)
-
--- one step of a move forward
-pub step_some : (old now : BucketView) (whole below new : List Frame) (f : Frame) (e : LeafElement) → now ≡ old → whole ≡ f ∷ below → IsEntered (contents_in old) false f.content f.taken below new (Some e)
-    → (ahead_of (contents_in old) whole ≡ e ∷ ahead_of (contents_in now) new) × (right_of (contents_in old) whole ≡ right_of (contents_in now) new) × IsOn new e
-step_some old now whole below new f e same frames h =
-    let r = entered_some (contents_in old) f.content f.taken below new e h in
-    (rw (frames, same) (r.0), rw (frames, same) (r.1), r.2)
-
-pub step_none : (old now : BucketView) (whole below new : List Frame) (f : Frame) → now ≡ old → whole ≡ f ∷ below → IsEntered (contents_in old) false f.content f.taken below new None
-    → HasStack now new
-    → (ahead_of (contents_in old) whole ≡ ahead_of (contents_in now) new) × (length (right_of (contents_in old) whole) ≡ suc (length (right_of (contents_in now) new)))
-step_none old now whole below new f same frames h stack =
-    let s : HasStack old new = subst (λ (k : BucketView). HasStack k new) same stack in
-    let r = entered_none old f.content f.taken below new h s in
-    (rw (frames, same) (r.0), rw (frames, same) (r.1))
 
 pub frames_pop : (old new : List Position) (top : Position) → old ≡ new ++ option_to_list (Some top) → frames_of old ≡ frame_of top ∷ frames_of new
 frames_pop old new top e = ap frames_of e ∙ frames_push new top
@@ -142,6 +128,10 @@ popped_stack trail items top e stack = subst (HasStack (trail_bucket trail)) (fr
 pub popped_none : (trail : Trail) (items : List Position) → trail.stack.items ≡ items ++ [] → HasTrail trail → HasStack (trail_bucket trail) (frames_of items)
 popped_none trail items e stack = subst (λ (ps : List Position). HasStack (trail_bucket trail) (frames_of ps)) (e ∙ append-nil items) stack
 
+-- an empty stack is one of each bucket
+pub empty_stack : (trail : Trail) → HasBucket trail → trail_frames trail ≡ [] → HasTrail trail
+empty_stack trail is none = subst (HasStack (trail_bucket trail)) (sym none) (∥∥₁_map is (λ s. (s, tt)))
+
 -- a stack that was kept is still one of the bucket
-pub kept_stack : (old new : Trail) (items : List Position) → IsSameBucket old new → items ≡ old.stack.items → HasTrail old → HasStack (trail_bucket new) (frames_of items)
+pub kept_stack : (old new : Trail) (items : List Position) → IsMoved old new → items ≡ old.stack.items → HasTrail old → HasStack (trail_bucket new) (frames_of items)
 kept_stack old new items same e stack = rw (same.file, same.at, e) stack

@@ -1,7 +1,7 @@
 -- The pages that ways lead to, as contents.
 use Rattle.std.proofs.Common.{◌≡◌, ℕ, List, Some, Ok, ap, ◌∙◌, sym}
 use Rattle.bolt_tree.proofs.Words.{BranchElement, HasSoundTrees, IsOnWay, Kind, Meta, Of_branch, Of_leaf, PageView, content_at, content_by, content_of, content_seen, node_at, page_at}
-use Rattle.bolt_format.specs.declared.kind.Kind.TheVariants as kind
+use Rattle.bolt_format.specs.declared.header.Kind.TheVariants as kind
 use Rattle.bolt_check.proofs.TreePages as pages
 
 -- what a page shows, by its number

@@ -14,7 +14,7 @@ pub use Rattle.bolt_format.proofs.PageFacts.{below_mark, bucket_value, flat_inli
 pub use Rattle.bolt_format.proofs.PageLaws.{length-shown_branches, length-shown_leaves}
 pub use Rattle.bolt_format.specs.ElementPlaces.{branch_view, leaf_view}
 pub use Rattle.bolt_format.specs.Elements.{BranchElement, LeafElement, head_root, head_sequence, inline_elements}
-pub use Rattle.bolt_format.specs.{Pages.PageView, Pages.page_at, Shown.shown, declared.element.Leaf.Leaf, declared.kind.Kind.Kind, declared.meta.Meta.Meta}
+pub use Rattle.bolt_format.specs.{Pages.PageView, Pages.page_at, Shown.shown, declared.element.Leaf.Leaf, declared.header.Kind.Kind, declared.meta.Meta.Meta}
 pub use Rattle.bolt_tree.specs.BucketViews.{AreSorted, BucketView, bucket_in, entries_of}
 pub use Rattle.bolt_tree.specs.CursorBounds.{OpensByNext, OpensGap, OpensSeek, SeeksInBounds}
 pub use Rattle.bolt_tree.specs.Entries.{AreEntries, EntryView, Inline_page, IsEntry, IsStart, Item, Root_page, ShowsEntry, Start, Value, entry_cmp, entry_view}
@@ -30,17 +30,21 @@ pub use Rattle.bolt_tree.specs.Private.BucketPages.{IsSoundBucket, contents_in, 
 pub use Rattle.bolt_tree.specs.Private.Contents.{Content, Contents, Of_branch, Of_leaf, content_by, content_keys, content_length, content_of, content_seen}
 pub use Rattle.bolt_tree.specs.Private.Contents.{is_tree_kind}
 pub use Rattle.bolt_tree.specs.Private.CursorViews.{AreOfFile, IsInnermost, Keeps, MovesLast, Opens, cursor_view, fresh_view, innermost_views}
-pub use Rattle.bolt_tree.specs.{Private.Entered.IsEntered, Private.Entered.opened_to, Private.Held.IsHeld, Private.Held.place_by, Private.Held.place_on}
+pub use Rattle.bolt_tree.specs.{Private.Entered.IsEntered, Private.Entered.opened_to, Private.Entered.taken_at, Private.Held.IsHeld, Private.Held.place_by}
+pub use Rattle.bolt_tree.specs.Private.Held.{place_on}
 pub use Rattle.bolt_tree.specs.Private.Kept.{AreKept, CursorView, IsKept, kept_view, kept_views}
 pub use Rattle.bolt_tree.specs.Private.OpenBuckets.{AreOpen, IsAhead, IsInPlace, IsInside, IsNamed, is_end, left_by, open_path, reported_path}
 pub use Rattle.bolt_tree.specs.{Private.OpenCursors.cursors_of, Private.PageKeys.IsPlaceOf, Private.PageKeys.doubled, Private.PageKeys.stands_before}
 pub use Rattle.bolt_tree.specs.Private.Seeks.{AreBelow, IsBetween, IsNearTo, IsNearTop, IsOnWayDown, IsSought, top_address}
 pub use Rattle.bolt_tree.specs.Private.ShownPages.{opened_content}
-pub use Rattle.bolt_tree.specs.Private.Stacks.{Frame, HasStack, IsAtRest, IsBranchContent, IsBranchTop, IsGoodContent, IsLeafContent, IsLeafTop, IsOn, IsStack}
+pub use Rattle.bolt_tree.specs.Private.Stacks.{Frame, HasStack, IsAtRest, IsBeside, IsBranchContent, IsBranchTop, IsGoodContent, IsLast, IsLeafContent}
+pub use Rattle.bolt_tree.specs.Private.Stacks.{IsLeafTop, IsOn}
+pub use Rattle.bolt_tree.specs.Private.Stacks.{IsStack}
 pub use Rattle.bolt_tree.specs.Private.Stacks.{RestsOn, StandsOn, address_on, ahead_of, before_of, before_under, done_of, done_under, here_of, here_under}
 pub use Rattle.bolt_tree.specs.Private.Stacks.{index_of, left_under, preceding_of, right_of, right_under, under_at}
 pub use Rattle.bolt_tree.specs.Private.Tours.{Visit, all_under, content_at_start, elements_of, pages_at, tour}
-pub use Rattle.bolt_tree.specs.Private.Trails.{Finds, FindsBack, HasBucket, HasTrail, IsSameBucket, ahead, before, frame_of, frames_of, preceding, right}
+pub use Rattle.bolt_tree.specs.Private.Trails.{Finds, HasBucket, HasTrail, IsMoved, ahead, entries_left, entries_to, frame_of, frames_of, nearer, pages_left}
+pub use Rattle.bolt_tree.specs.Private.Trails.{pages_to, preceding, right}
 pub use Rattle.bolt_tree.specs.Private.Trails.{trail_bucket, trail_frames}
 pub use Rattle.bolt_tree.specs.{RestAfter.beyond, RestAfter.by_first, RestAfter.is_beyond, RestAfter.rest_after, ShownEntries.item_view}
 pub use Rattle.bolt_tree.specs.Starts.{HasStart, start_at}

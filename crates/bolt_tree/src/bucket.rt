@@ -1,4 +1,5 @@
-//! The buckets of a file, and what is under a key of one (docs/LISTING.md, "A key in a bucket").
+//! The buckets of a file, where their trees begin, and what is under a key of one (docs/LISTING.md,
+//! "A key in a bucket").
 ghost use Rattle.std.specs.Prelude.{◌≡◌, IfSome, IsTrue};
 ghost use Rattle.std.specs.Option.{option_map};
 ghost use Rattle.std.proofs.Props.{props};
@@ -9,7 +10,7 @@ ghost use Rattle.bolt_tree.specs.Cursors.{cursor_checked, cursor_compared, curso
 ghost use Rattle.bolt_tree.specs.{Entries.Root_page, Entries.start_of, Places.Fresh, Starts.HasStart, Starts.start_at};
 
 use crate::cursor::Cursor;
-use crate::pager::Pager;
+use crate::opened::Pager;
 use bolt_check::Checked;
 use bolt_format::{Head, Inline, Leaf, head, inline};
 

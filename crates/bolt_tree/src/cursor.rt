@@ -10,8 +10,7 @@ ghost use Rattle.bolt_tree.specs.{ShownEntries.shown_entry, Starts.HasStart, Sta
 
 use crate::bucket::At;
 use crate::entry::Entry;
-use crate::opened::{Position, Stack, set_positions};
-use crate::pager::Pager;
+use crate::opened::{Pager, Position, Stack, set_positions};
 use crate::trail::Trail;
 use bolt_format::Leaf;
 
@@ -125,7 +124,7 @@ impl<'a> Cursor<'a> {
     {
         self.compared = 0;
         self.is_past = false;
-        entry_of(self.trail.first())
+        entry_of(self.trail.start(false))
     }
 
     /// Moves to the last entry, and returns it. If there are no entries, returns `None`.
@@ -139,7 +138,7 @@ impl<'a> Cursor<'a> {
     {
         self.compared = 0;
         self.is_past = false;
-        entry_of(self.trail.last())
+        entry_of(self.trail.start(true))
     }
 
     /// Moves to the next entry, and returns it. If there is none, it stays where it is, and returns
@@ -167,9 +166,9 @@ impl<'a> Cursor<'a> {
         ensures compared { cursor_compared self.new ≡ cursor_compared self.old }
     {
         if !self.trail.stack.is_empty() {
-            return entry_of(self.trail.prev(&mut self.spare));
+            return entry_of(self.trail.go_further(&mut self.spare, true));
         }
-        let leaf = self.trail.last()?;
+        let leaf = self.trail.start(true)?;
         self.is_past = false;
         Some(Entry::of(&leaf))
     }
@@ -206,7 +205,7 @@ impl<'a> Cursor<'a> {
             return None;
         }
         if self.trail.stack.is_empty() {
-            return self.trail.first();
+            return self.trail.start(false);
         }
         self.trail.next(&mut self.spare)
     }

@@ -8,7 +8,7 @@ ghost use Rattle.bolt_tree.specs.{Openings.GapsCoverAll, Openings.IsGap, Opening
 ghost use Rattle.bolt_tree.specs.Listing.{IsListing, Lists, Member, member_cmp, rest_from};
 ghost use Rattle.bolt_tree.specs.{Tree.IsTreeOf, Tree.Tree, Tree.listing_of, Tree.tree_of, ListingParts.begins_with, ListingParts.part_below, Order.Rises};
 ghost use Rattle.bolt_tree.specs.Paths.{Path};
-ghost use Rattle.bolt_format.specs.declared.kind.Kind.TheVariants as kind;
+ghost use Rattle.bolt_format.specs.declared.header.Kind.TheVariants as kind;
 
 use bolt_check::laws::ways_go_on;
 

@@ -6,14 +6,13 @@
 
 mod bucket;
 mod cursor;
+mod descent;
 mod entry;
-mod key_search;
 pub mod laws;
 mod members;
 mod open_buckets;
 mod open_cursors;
 mod opened;
-mod pager;
 mod trail;
 mod walk;
 
@@ -22,5 +21,5 @@ pub use bucket::{At, Bucket};
 pub use cursor::Cursor;
 pub use entry::{Entry, Item};
 pub use members::Members;
-pub use pager::Pager;
+pub use opened::Pager;
 pub use walk::Walk;

@@ -1,7 +1,7 @@
 //! The deeds of an outside in memory.
 ghost use Rattle.std.specs.Prelude.{◌≡◌, List, [], ◌∷◌, ◌++◌, OnOk};
 ghost use Rattle.bolt_cli.specs.Deeds.{Deed, Adds};
-ghost use Rattle.bolt_format.specs.declared.sinks.MemSink.{MemSink};
+ghost use Rattle.bolt_format.specs.declared.sink.MemSink.{MemSink};
 ghost use Rattle.test_outside.specs.Logs.{Holds, Look, look_of, look};
 
 use bolt_format::{MemSink, Sink};

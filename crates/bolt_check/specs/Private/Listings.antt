@@ -4,8 +4,8 @@ use Rattle.std.specs.List.Sorted.{IsNonDecreasing}
 use Rattle.bolt_format.specs.declared.meta.Meta.{Meta}
 use Rattle.bolt_check.specs.{Accounts.IsInFreelist, Accounts.IsInUse, Accounts.times_in, Findings.finding}
 use Rattle.bolt_check.specs.{Private.Tables.IsClaimed, Private.Tables.use_at, Private.Tables.times_of, Private.Uses.IsNoted}
-use Rattle.bolt_check.specs.{AccountFindings.IsAccountFinding, AccountFindings.IsBefore, AccountFindings.IsLost, declared.finding.Finding.Finding}
-use Rattle.bolt_check.specs.declared.finding.TheConstants.Finding.{FREED_TWICE, FREE_RANGE, REACHED_FREED, UNREACHABLE}
+use Rattle.bolt_check.specs.{AccountFindings.IsAccountFinding, AccountFindings.IsBefore, AccountFindings.IsLost, declared.fault.Finding.Finding}
+use Rattle.bolt_check.specs.declared.fault.TheConstants.Finding.{FREED_TWICE, FREE_RANGE, REACHED_FREED, UNREACHABLE}
 use Rattle.bolt_check.specs.{declared.listing.Listing.Listing, declared.table.PageUse.PageUse}
 use Rattle.bolt_check.specs.declared.table.PageUse.TheVariants.{Unused, Branch, Leaf, Used, Free, FreeTwice, UsedFree, UsedFreeTwice}
 
@@ -41,25 +41,18 @@ repeat_findings ids i = if is_repeated ids i then finding FREED_TWICE (slice_ind
 
 -- what is reported of a page in range
 abbrev pub use_findings : ℕ → PageUse → List Finding
-use_findings page Unused = []
-use_findings page Branch = []
-use_findings page Leaf = []
-use_findings page Used = []
-use_findings page Free = []
 use_findings page FreeTwice = finding FREED_TWICE page ∷ []
 use_findings page UsedFree = finding REACHED_FREED page ∷ []
 use_findings page UsedFreeTwice = finding FREED_TWICE page ∷ finding REACHED_FREED page ∷ []
+use_findings page _ = []
 
 -- what is reported of a meta page
 abbrev pub meta_findings : ℕ → PageUse → List Finding
-meta_findings page Unused = []
-meta_findings page Branch = []
-meta_findings page Leaf = []
-meta_findings page Used = []
 meta_findings page Free = finding FREE_RANGE page ∷ []
 meta_findings page FreeTwice = finding FREE_RANGE page ∷ []
 meta_findings page UsedFree = finding FREE_RANGE page ∷ []
 meta_findings page UsedFreeTwice = finding FREE_RANGE page ∷ []
+meta_findings page _ = []
 
 abbrev pub page_findings : ℕ → PageUse → List Finding
 page_findings page page_use = if nat_lt page 2 then meta_findings page page_use else use_findings page page_use

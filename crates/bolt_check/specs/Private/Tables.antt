@@ -14,24 +14,17 @@ use_at table n = slice_index_or table n (first_use n)
 
 abbrev pub is_used : PageUse → Bool
 is_used Unused = false
-is_used Branch = true
-is_used Leaf = true
-is_used Used = true
 is_used Free = false
 is_used FreeTwice = false
-is_used UsedFree = true
-is_used UsedFreeTwice = true
+is_used _ = true
 
 -- how often a page is listed; 2 means more than once
 abbrev pub times_of : PageUse → ℕ
-times_of Unused = 0
-times_of Branch = 0
-times_of Leaf = 0
-times_of Used = 0
 times_of Free = 1
 times_of UsedFree = 1
 times_of FreeTwice = 2
 times_of UsedFreeTwice = 2
+times_of _ = 0
 
 -- page n is claimed, or not
 abbrev pub IsClaimed : List PageUse → ℕ → Type 0

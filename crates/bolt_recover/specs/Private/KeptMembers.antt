@@ -35,6 +35,18 @@ kept_path (Recovery recovery) = recovery_path recovery
 kept_path (Sound walk) = walk_path walk
 kept_path (Nothing root) = []
 
+-- nothing of the recovered listing of this file was returned yet
+pub record IsWhole (file : List ℕ) (meta : Meta) (kept : Kept) : Type 0 where
+  pub reads : kept_file kept ≡ file
+  pub under : kept_meta kept ≡ meta
+  pub all : ForRecovered file meta (λ listing. kept_left kept listing ≡ listing)
+  pub path : kept_path kept ≡ []
+
+-- it reads the same file, under the same meta
+pub record HasSameFile (old new : Kept) : Type 0 where
+  pub file : kept_file new ≡ kept_file old
+  pub meta : kept_meta new ≡ kept_meta old
+
 -- The first member of the recovered listing that was left is given, with its path, and the others are left; or none was left, and none is.
 abbrev pub GivesKept : Kept → Kept → Option Item → Type 0
 GivesKept old new given =

@@ -67,10 +67,8 @@ left_by Leave path listing = beyond path listing
 
 -- the path of what was returned last
 abbrev pub reported_path : WalkStep → Path → Path
-reported_path Begin path = path
-reported_path (Enter value) path = path
 reported_path (Give leaf) path = []
-reported_path Leave path = path
+reported_path _ path = path
 
 -- nothing of a path is left
 abbrev pub is_end : Path → Bool

@@ -1,5 +1,5 @@
 -- The stack of a cursor: what lies to its left and to its right among the pages of the bucket. Stacks have their top first.
-use Rattle.std.specs.Prelude.{◌≡◌, ◌≤◌, ℕ, suc, ◌+◌, ◌-◌, List, [], ◌∷◌, ◌++◌, drop, take, length, Some, slice_get}
+use Rattle.std.specs.Prelude.{◌≡◌, ◌≤◌, ◌<◌, Bool, true, false, ℕ, suc, ◌+◌, ◌-◌, List, [], ◌∷◌, ◌++◌, drop, take, length, Some, slice_get}
 use Rattle.bolt_format.specs.Elements.{BranchElement, LeafElement}
 use Rattle.bolt_check.specs.OnWays.{IsOnWay}
 use Rattle.bolt_tree.specs.{BucketViews.BucketView, Private.BucketPages.IsSoundBucket, Private.BucketPages.contents_in, Private.BucketPages.pages_in}
@@ -136,3 +136,16 @@ IsLeafContent (Of_branch elements) = ⊥
 abbrev pub IsLeafTop : List Frame → Type 0
 IsLeafTop [] = ⊥
 IsLeafTop (frame ∷ below) = IsLeafContent frame.content
+
+-- Element i of a page is the next in a direction, forward or back.
+abbrev pub taken_before : Bool → ℕ → ℕ
+taken_before false i = i
+taken_before true i = i + 2
+
+abbrev pub IsBeside : Bool → Frame → ℕ → Type 0
+IsBeside back frame i = (frame.taken ≡ taken_before back i) × (i < content_length frame.content)
+
+-- a page has no next element in a direction
+abbrev pub IsLast : Bool → Frame → Type 0
+IsLast false frame = content_length frame.content ≤ frame.taken
+IsLast true frame = frame.taken ≤ 1

@@ -1,9 +1,11 @@
 -- What a trail shows: its bucket, and its stack with the top first.
-use Rattle.std.specs.Prelude.{◌≡◌, List, [], ◌∷◌, ◌++◌, MatchOption, Option, map, reverse}
-use Rattle.bolt_format.specs.{ElementPlaces.leaf_view, Elements.LeafElement, declared.element.Leaf.Leaf}
+use Rattle.std.specs.Prelude.{◌≡◌, ◌-◌, Bool, true, false, List, [], ◌∷◌, ◌++◌, IfSome, IsTrue, MatchOption, Option, length, map, reverse}
+use Rattle.std.specs.Option.{option_map}
+use Rattle.bolt_format.specs.{ElementPlaces.leaf_view, Elements.IsBucketValue, Elements.LeafElement, declared.element.Leaf.Leaf}
+use Rattle.bolt_check.specs.Counts.{counted}
 use Rattle.bolt_tree.specs.{BucketViews.BucketView, BucketViews.bucket_in, Private.BucketPages.IsSoundBucket, Private.BucketPages.contents_in}
-use Rattle.bolt_tree.specs.{Pagers.pager_checked, Private.ShownPages.opened_content}
-use Rattle.bolt_tree.specs.Private.Stacks.{Frame, HasStack, IsOn, ahead_of, before_of, preceding_of, right_of}
+use Rattle.bolt_tree.specs.{Pagers.pager_checked, Pagers.pager_opened, Private.Entered.opened_to, Private.Contents.Contents, Private.ShownPages.opened_content}
+use Rattle.bolt_tree.specs.Private.Stacks.{Frame, HasStack, IsAtRest, IsOn, ahead_of, before_of, preceding_of, right_of}
 use Rattle.bolt_tree.specs.{Starts.start_at, Private.Tours.Visit, declared.opened.Position.Position, declared.trail.Trail.Trail}
 
 abbrev pub frame_of : Position → Frame
@@ -25,31 +27,51 @@ HasBucket trail = ∥ IsSoundBucket (trail_bucket trail) ∥₁
 abbrev pub HasTrail : Trail → Type 0
 HasTrail trail = HasStack (trail_bucket trail) (trail_frames trail)
 
--- still over the same bucket of the same file
-pub record IsSameBucket (old new : Trail) : Type 0 where
+-- it has moved: it is over the same bucket of the same file, and its stack is one of that bucket
+pub record IsMoved (old new : Trail) : Type 0 where
   pub file : pager_checked new.pager ≡ pager_checked old.pager
   pub at : new.at ≡ old.at
+  pub stack : HasTrail new
 
--- the entries ahead of the stack, and the pages to its right
+-- what lies in a direction, forward or back: the entries, and the pages
+abbrev pub entries_to : Bool → Contents → List Frame → List LeafElement
+entries_to false = ahead_of
+entries_to true = preceding_of
+
+abbrev pub pages_to : Bool → Contents → List Frame → List Visit
+pages_to false = right_of
+pages_to true = before_of
+
+abbrev pub entries_left : Bool → Trail → List LeafElement
+entries_left back trail = entries_to back (contents_in (trail_bucket trail)) (trail_frames trail)
+
+abbrev pub pages_left : Bool → Trail → List Visit
+pages_left back trail = pages_to back (contents_in (trail_bucket trail)) (trail_frames trail)
+
 abbrev pub ahead : Trail → List LeafElement
-ahead trail = ahead_of (contents_in (trail_bucket trail)) (trail_frames trail)
+ahead = entries_left false
 
 abbrev pub right : Trail → List Visit
-right trail = right_of (contents_in (trail_bucket trail)) (trail_frames trail)
+right = pages_left false
 
--- the entries that precede the stack's, and the pages to its left
 abbrev pub preceding : Trail → List LeafElement
-preceding trail = preceding_of (contents_in (trail_bucket trail)) (trail_frames trail)
+preceding = entries_left true
 
-abbrev pub before : Trail → List Visit
-before trail = before_of (contents_in (trail_bucket trail)) (trail_frames trail)
+-- the entries of a direction, with one that is nearer
+abbrev pub nearer : Bool → LeafElement → List LeafElement → List LeafElement
+nearer false e entries = e ∷ entries
+nearer true e entries = entries ++ e ∷ []
 
--- a move to the next entry: what it returns, what was ahead and is ahead now, and its stack; without an entry, that stack is `end`
-abbrev pub Finds : Option Leaf → (before after : List LeafElement) (frames end : List Frame) → Type 0
-Finds found before after frames end = MatchOption found ((before ≡ []) × (frames ≡ end))
-    (λ leaf. (before ≡ leaf_view leaf ∷ after) × IsOn frames (leaf_view leaf))
+-- a move in a direction: what it returns, what lay there and lies there now, and its stack; without an entry, that stack is `end`
+abbrev pub Finds : Bool → Option Leaf → (before after : List LeafElement) (frames end : List Frame) → Type 0
+Finds back found before after frames end = MatchOption found ((before ≡ []) × (frames ≡ end))
+    (λ leaf. (before ≡ nearer back (leaf_view leaf) after) × IsOn frames (leaf_view leaf))
 
--- a move to the preceding entry, and what preceded
-abbrev pub FindsBack : Option Leaf → (before after : List LeafElement) (frames end : List Frame) → Type 0
-FindsBack found before after frames end = MatchOption found ((before ≡ []) × (frames ≡ end))
-    (λ leaf. (before ≡ after ++ leaf_view leaf ∷ []) × IsOn frames (leaf_view leaf))
+-- a move in a direction from where a trail rests to where it rests: without an entry there, it stays
+pub record Goes (back : Bool) (old new : Trail) (gives : Option Leaf) : Type 0 where
+  pub moved : IsMoved old new
+  pub rest : IsAtRest (trail_frames new)
+  pub found : Finds back gives (entries_left back old) (entries_left back new) (trail_frames new) (trail_frames old)
+  pub bucket : IfSome gives (λ leaf. IsTrue leaf.is_bucket → IsBucketValue leaf.value.now)
+  pub opened : pager_opened new.pager
+      ≡ counted (pager_opened old.pager) (length (pages_left back old) - opened_to (option_map leaf_view gives) (pages_left back new))

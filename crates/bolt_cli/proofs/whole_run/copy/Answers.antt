@@ -1,6 +1,6 @@
 use Rattle.std.proofs.Common.{◌≡◌, ◌-◌, arith, suc, sym}
 use Rattle.bolt_cli.proofs.Vocabulary.{held_of}
-use Rattle.bolt_format.specs.contracts.sinks.MemSinkSink.TheImpl as mem
+use Rattle.bolt_format.specs.contracts.sink.MemSinkSink.TheImpl as mem
 use Rattle.bolt_cli.proofs.{HeldJobs.held_job, HeldLines.held_line, Telling.Does-after}
 use Rattle.bolt_cli.proofs.whole_run.copy.Goals as goal
 

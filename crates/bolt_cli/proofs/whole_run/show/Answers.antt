@@ -1,4 +1,4 @@
-use Rattle.bolt_format.specs.contracts.sinks.MemSinkSink.TheImpl as mem
+use Rattle.bolt_format.specs.contracts.sink.MemSinkSink.TheImpl as mem
 use Rattle.bolt_cli.proofs.{HeldJobs.shown, HeldLines.held_line, Telling.Does-after}
 use Rattle.bolt_cli.proofs.whole_run.show.Goals as goal
 

@@ -1,23 +1,22 @@
 -- By what is left of the trees.
-use Rattle.std.proofs.Common.{◌≡◌, ◌∙◌, [], List, arith, ap, length, subst₂, sym, ℕ}
+use Rattle.std.proofs.Common.{◌≡◌, ◌∙◌, [], List, arith, ap, length, refl, rules, subst₂, sym, ℕ}
 use Rattle.bolt_recover.proofs.Words.{common_steps, ForRecovered, Found, left_of, length-map, lost_of, Member, Meta, numbers_of, ∥∥₁_map}
 use Rattle.bolt_recover.proofs.Searched.{has_key, lacks_all, lacks_key, none_recovered, not_everything, of_sound, root_lost}
 use Rattle.bolt_recover.proofs.SoundWalks.{same_left}
 use Rattle.bolt_recover.proofs.joined.kept_of.Goals as goal
 use Rattle.bolt_recover.proofs.joined.kept_of.Goals.{else-some-via-else-some, else-some-via-then-some+else-damage}
 
-pub returns-in-Sound-clause-file : goal.returns-in-Sound-clause-file
-returns-in-Sound-clause-file c = rw c.new.ensures.checked (of_sound c.args.both.now c.in-Sound.checked c.in-Sound.is).0
-
-pub returns-in-Sound-clause-meta : goal.returns-in-Sound-clause-meta
-returns-in-Sound-clause-meta c = rw c.new.ensures.checked (of_sound c.args.both.now c.in-Sound.checked c.in-Sound.is).1
-
-pub returns-in-Sound-clause-all : goal.returns-in-Sound-clause-all
-returns-in-Sound-clause-all c =
+pub returns-in-Sound-clause-whole : goal.returns-in-Sound-clause-whole
+returns-in-Sound-clause-whole c =
     let (file, meta, none) = of_sound c.args.both.now c.in-Sound.checked c.in-Sound.is in
     let walk = c.new.result in
-    subst₂ (λ (f : List ℕ) (m : Meta). ForRecovered f m (λ listing. left_of walk listing ≡ listing)) file meta
-    (same_left c.in-Sound.checked (left_of walk) (λ (listing : List Member). listing) c.new.ensures.all)
+    record {
+      reads = rw c.new.ensures.checked file;
+      under = rw c.new.ensures.checked meta;
+      all = subst₂ (λ (f : List ℕ) (m : Meta). ForRecovered f m (λ listing. left_of walk listing ≡ listing)) file meta
+          (same_left c.in-Sound.checked (left_of walk) (λ (listing : List Member). listing) c.new.ensures.all);
+      path = search rules;
+    }
 
 pub returns-in-Sound-clause-apart : goal.returns-in-Sound-clause-apart
 returns-in-Sound-clause-apart c = λ some. absurd (some (of_sound c.args.both.now c.in-Sound.checked c.in-Sound.is).2)
@@ -50,8 +49,13 @@ returns-then-not-some-clause-refused c =
 pub invariant_of-root : goal.invariant_of-root
 invariant_of-root c = record { bytes = c.args.both.now.bytes; lost = ∥∥₁_map (root_lost c.args.both.now c.in-Rootless.finding c.in-Rootless.is) (λ lost. (c.in-Rootless.finding, lost)) }
 
-pub returns-clause-all : goal.returns-clause-all
-returns-clause-all c = λ listing recovers. sym (none_recovered c.args.both.now c.in-Rootless.finding c.in-Rootless.is listing recovers)
+pub returns-clause-whole : goal.returns-clause-whole
+returns-clause-whole c = record {
+  reads = refl;
+  under = refl;
+  all = λ listing recovers. sym (none_recovered c.args.both.now c.in-Rootless.finding c.in-Rootless.is listing recovers);
+  path = refl;
+}
 
 pub returns-clause-apart : goal.returns-clause-apart
 returns-clause-apart c = λ some. lacks_all c.args.both.now c.in-Rootless.finding c.in-Rootless.is

@@ -1,7 +1,7 @@
 use Rattle.std.proofs.Common.{◌≡◌, ◌∙◌, [], arith, ap, refl}
 use Rattle.bolt_recover.proofs.Words.{Kind, length-leaf, shown, shown_leaves, tree_kind}
 use Rattle.bolt_format.specs.declared.good_page.Page.{Page}
-use Rattle.bolt_format.specs.declared.kind.Kind.TheVariants as kind
+use Rattle.bolt_format.specs.declared.header.Kind.TheVariants as kind
 use Rattle.bolt_recover.proofs.content.Content.leaf.Goals as goal
 
 -- a branch shows no leaf elements

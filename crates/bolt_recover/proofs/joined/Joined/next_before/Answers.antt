@@ -26,8 +26,8 @@ returns-then-is_lt-clause-given c = λ listing is.
 
 pub invariant_of-self-2 : goal.invariant_of-self-2
 invariant_of-self-2 c = record {
-  pages = ∥∥₁_map c.args.self.now.pages (λ are. subst₂ (λ (f : List ℕ) (m : Meta). AreJoinable f m c.args.self.now.found.now) (sym c.next.ensures.file) (sym c.next.ensures.meta) are);
-  waits = merely (held_well c.args.self.now.kept c.next.new.self c.in_ok-item.item c.next.ensures.file c.next.ensures.meta c.in_ok-item.ensures.given);
+  pages = ∥∥₁_map c.args.self.now.pages (λ are. subst₂ (λ (f : List ℕ) (m : Meta). AreJoinable f m c.args.self.now.found.now) (sym c.next.ensures.reads.file) (sym c.next.ensures.reads.meta) are);
+  waits = merely (held_well c.args.self.now.kept c.next.new.self c.in_ok-item.item c.next.ensures.reads.file c.next.ensures.reads.meta c.in_ok-item.ensures.given);
 }
 
 pub returns-clause-given : goal.returns-clause-given

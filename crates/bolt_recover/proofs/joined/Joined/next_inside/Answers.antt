@@ -8,9 +8,9 @@ pub invariant_of-self-in-Break-1 : goal.invariant_of-self-in-Break-1
 invariant_of-self-in-Break-1 c =
     let self = c.args.self.now in
     record {
-      pages = ∥∥₁_map self.pages (λ are. subst₂ (λ (f : List ℕ) (m : Meta). AreJoinable f m self.found.now) (sym c.next-2.ensures.file) (sym c.next-2.ensures.meta) are);
+      pages = ∥∥₁_map self.pages (λ are. subst₂ (λ (f : List ℕ) (m : Meta). AreJoinable f m self.found.now) (sym c.next-2.ensures.reads.file) (sym c.next-2.ensures.reads.meta) are);
       waits = rw (c.requires.stage, c.in_default-held.is) (∥∥₁_map (rw (c.requires.stage, c.in_default-held.is) at self.waits) (λ none.
-          still_none self.kept c.next-2.new.self c.next-2.result c.next-2.ensures.file c.next-2.ensures.meta c.next-2.ensures.given c.next-2.ensures.same none));
+          still_none self.kept c.next-2.new.self c.next-2.result c.next-2.ensures.reads.file c.next-2.ensures.reads.meta c.next-2.ensures.given c.next-2.ensures.same none));
     }
 
 pub returns-in_err-item-clause-same : goal.returns-in_err-item-clause-same

@@ -4,4 +4,4 @@ use Rattle.bolt_tree.proofs.cursor.Cursor.last.Goals as goal
 pub returns-clause-moves : goal.returns-clause-moves
 unfolding cursor_checked cursor_place cursor_start
 returns-clause-moves c = shows_by _ _ (λ entries place. last_move entries) (cursor_place c.args.self.now) _ _ _ c.entry_of.ensures.entry
-    (moves_last c.args.self.now.trail c.last.new.self c.last.ensures.same c.args.self.now.is_past c.args.self.now.held c.last.result c.last.ensures.stack (cursor_place c.args.self.now) c.last.ensures.found)
+    (moves_last c.args.self.now.trail c.start.new.self c.start.ensures.moved c.args.self.now.is_past c.args.self.now.held c.start.result (cursor_place c.args.self.now) c.start.ensures.found)

@@ -6,4 +6,4 @@ use Rattle.bolt_tree.proofs.cursor.Cursor.seek_element.Goals as goal
 pub returns-clause-moves : goal.returns-clause-moves
 unfolding cursor_checked cursor_place cursor_start
 returns-clause-moves c = rw (sym (not-not c.is_none-self.result) ∙ sym (ap not c.is_none-self.ensures))
-    (moves_seek c.args.self.now.trail c.seek-sought.new.self c.seek-sought.ensures.same c.args.self.now.is_past c.args.self.now.held c.seek-sought.result.found c.seek-sought.ensures.stack c.args.key.now (cursor_place c.args.self.now) c.seek-sought.ensures.found c.seek-sought.ensures.number)
+    (moves_seek c.args.self.now.trail c.seek-sought.new.self c.seek-sought.ensures.moved c.args.self.now.is_past c.args.self.now.held c.seek-sought.result.found c.args.key.now (cursor_place c.args.self.now) c.seek-sought.ensures.found c.seek-sought.ensures.number)

@@ -1,16 +1,17 @@
 use Rattle.std.proofs.Common.{◌≡◌, ◌∷◌, ◌∙◌, ◌+◌, ◌-◌, suc, ℕ, length, List, sym, ap, arith, refl, subst}
 use Rattle.bolt_tree.proofs.Words.{BucketView, Frame, HasStack, IsNearTop, IsOnWayDown, IsSought, Of_branch, ahead_of, contents_in, counted, elements_in, opened_content, pager_opened, shown, trail_bucket, trail_frames}
 use Rattle.bolt_tree.proofs.NearLemmas.{begins, branch_filled, landed, moved_between, moved_way, shows_leaf, stack_rises, way_begins, way_down}
-use Rattle.bolt_tree.proofs.{PagerLemmas.counted_more, PagerLemmas.counted_zero, StackLemmas.root_stack, StackLemmas.branch_room, SeekLemmas.between_down}
+use Rattle.bolt_tree.proofs.{PagerLemmas.counted_more, PagerLemmas.counted_zero, StackLemmas.popped, StackLemmas.root_stack, StackLemmas.branch_room, SeekLemmas.between_down}
 use Rattle.bolt_tree.proofs.TrailLemmas.{same_bucket}
 use Rattle.bolt_tree.proofs.trail.Trail.descend.Goals as goal
 
 pub loop-opened-init : goal.loop-opened-init
 loop-opened-init c =
     let bucket = trail_bucket c.args.self.now in
+    let stack : HasStack bucket (record { content = opened_content c.args.root; taken = 0 } ∷ trail_frames c.args.self.now) = rw (c.requires.root, c.requires.empty) (root_stack bucket c.requires.bucket) in
     record {
-      same = record { file = refl; at = refl };
-      stack = rw (c.requires.root, c.requires.empty) (root_stack bucket c.requires.bucket);
+      moved = record { file = refl; at = refl; stack = popped bucket _ _ stack };
+      stack = stack;
       between = rw c.requires.empty (begins (contents_in bucket) c.args.key.now);
       way = rw (c.requires.root, c.requires.empty) (way_begins bucket c.args.key.now c.requires.bucket);
       compared = omega arith;
@@ -39,7 +40,7 @@ loop-opened-preserved c =
     let below = trail_frames c.loop-opened.self in
     let inv = c.loop-opened.invariant in
     let done = c.go_under-opened.ensures in
-    let same = same_bucket c.loop-opened.self c.go_under-opened.new.self done.same in
+    let same = same_bucket c.loop-opened.self c.go_under-opened.new.self done.moved in
     let e = done.child in
     let stack : HasStack old (record { content = Of_branch bs; taken = 0 } ∷ below) = rw c.in-Branch.is at inv.stack in
     let way : IsOnWayDown old key below (Of_branch bs) = rw c.in-Branch.is at inv.way in
@@ -48,7 +49,7 @@ loop-opened-preserved c =
     let more : length (trail_frames c.go_under-opened.new.self) ≡ suc (length below) = ap (λ (fs : List Frame). length fs) done.frames in
     let sum : length below + 1 ≡ length (trail_frames c.go_under-opened.new.self) = omega (arith, more) in
     record {
-      same = record { file = done.same.file ∙ inv.same.file; at = done.same.at ∙ inv.same.at };
+      moved = record { file = done.moved.file ∙ inv.moved.file; at = done.moved.at ∙ inv.moved.at; stack = done.moved.stack };
       stack = done.stack;
       between = moved_between old now key (record { content = Of_branch bs; taken = i + 1 } ∷ below) (trail_frames c.go_under-opened.new.self) same done.frames between;
       way = moved_way old now key (record { content = Of_branch bs; taken = i + 1 } ∷ below) (trail_frames c.go_under-opened.new.self) (contents_in old e.0.child) (opened_content c.go_under-opened.result) same done.frames e.2 on;
@@ -68,11 +69,10 @@ returns c =
     c.keys_before-found-2.ensures.place c.keys_before-found-2.ensures.within (omega arith) inv.between inv.way in
     let more : length (trail_frames c.push.new.self) ≡ suc (length below) = ap (λ (fs : List Frame). length fs) frames in
     let less : length below ≡ length (trail_frames c.push.new.self) - 1 = omega (arith, more) in
-    let same = same_bucket c.args.self.now c.loop-opened.self inv.same in
-    let now = same_bucket c.loop-opened.self c.push.new.self c.push.ensures.same in
+    let same = same_bucket c.args.self.now c.loop-opened.self inv.moved in
+    let now = same_bucket c.loop-opened.self c.push.new.self c.push.ensures.moved in
     record {
-      same = record { file = c.push.ensures.same.file ∙ inv.same.file; at = c.push.ensures.same.at ∙ inv.same.at };
-      stack = c.push.ensures.stack;
+      moved = record { file = c.push.ensures.moved.file ∙ inv.moved.file; at = c.push.ensures.moved.at ∙ inv.moved.at; stack = c.push.ensures.moved.stack };
       near = subst (λ (b : BucketView). IsNearTop b key (trail_frames c.push.new.self)) same is.near;
       sought = subst (λ (b : BucketView). IsSought (elements_in (trail_bucket c.args.self.now)) key (ahead_of (contents_in b) (trail_frames c.push.new.self))) (sym now)
           (subst (λ (b : BucketView). IsSought (elements_in b) key (ahead_of (contents_in bucket) (trail_frames c.push.new.self))) same is.sought);

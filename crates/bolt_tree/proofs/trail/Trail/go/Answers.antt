@@ -1,0 +1,84 @@
+-- What lies in the direction stays the same until an entry is taken, and each page that is opened is the next one there.
+use Rattle.std.proofs.Common.{◌≡◌, ◌∙◌, ◌+◌, ◌-◌, ◌*◌, ◌<◌, ℕ, suc, length, sym, ap, arith, refl}
+use Rattle.bolt_tree.proofs.Words.{counted, entries_left, frame_of, frames_of, leaf_view, opened_content, pager_opened, pages_left, trail_bucket, trail_frames}
+use Rattle.bolt_tree.proofs.MoveLemmas.{opens, page_left, takes}
+use Rattle.bolt_tree.proofs.{PagerLemmas.counted_more, PagerLemmas.counted_zero, StackLemmas.popped, StackLemmas.retaken, StackLemmas.taken_bound}
+use Rattle.bolt_tree.proofs.StackLemmas.{taken_fits}
+use Rattle.bolt_tree.proofs.TrailLemmas.{frames_pop, length-frames, popped_stack, same_bucket}
+use Rattle.bolt_tree.proofs.trail.Trail.go.Goals as goal
+
+pub loop-top-init : goal.loop-top-init
+loop-top-init c = record {
+  moved = record { file = refl; at = refl; stack = c.requires };
+  entries = refl;
+  less = omega arith;
+  opened =
+      let none : length (pages_left c.args.back c.args.self.now) - length (pages_left c.args.back c.args.self.now) ≡ 0 = omega arith in
+      rw none (sym (counted_zero c.args.self.now.pager));
+}
+
+pub beside-requires : goal.beside-requires
+beside-requires c =
+    let stack = popped_stack c.loop-top.self c.pop.new.self.items c.in-Some.top c.in-Some.ensures.items c.loop-top.invariant.moved.stack in
+    record {
+      bound = omega (arith, taken_bound (trail_bucket c.loop-top.self) (frame_of c.in-Some.top) (frames_of c.pop.new.self.items) stack);
+      fits = taken_fits (trail_bucket c.loop-top.self) (frame_of c.in-Some.top) (frames_of c.pop.new.self.items) stack;
+    }
+
+pub enter-requires-clause-stack : goal.enter-requires-clause-stack
+enter-requires-clause-stack c = retaken (trail_bucket c.loop-top.self) (opened_content c.in-Some.top.page) c.in-Some.top.taken 0 (frames_of c.pop.new.self.items)
+    (popped_stack c.loop-top.self c.pop.new.self.items c.in-Some.top c.in-Some.ensures.items c.loop-top.invariant.moved.stack) (omega arith) (omega arith)
+
+pub returns-in-Some-enter-clause-found : goal.returns-in-Some-enter-clause-found
+returns-in-Some-enter-clause-found c =
+    let r = takes (trail_bucket c.loop-top.self) (trail_bucket c.enter.new.self) (trail_frames c.loop-top.self) (frames_of c.pop.new.self.items) (trail_frames c.enter.new.self) (frame_of c.in-Some.top)
+    (same_bucket _ c.enter.new.self c.enter.ensures.moved) (frames_pop c.loop-top.self.stack.items c.pop.new.self.items c.in-Some.top c.in-Some.ensures.items) c.args.back c.in-Some-beside.i c.in-Some-beside.ensures
+    (leaf_view c.in-Some-enter.leaf) (rw c.in-Some-enter.is at c.enter.ensures.entered) in
+    (sym c.loop-top.invariant.entries ∙ r.0, r.1)
+
+opened : (c : goal.In_default-enter) → (entries_left c.args.back c.loop-top.self ≡ entries_left c.args.back c.enter.new.self)
+    × (length (pages_left c.args.back c.loop-top.self) ≡ suc (length (pages_left c.args.back c.enter.new.self))) × (length (trail_frames c.enter.new.self) ≡ suc (suc (length (frames_of c.pop.new.self.items))))
+opened c = opens (trail_bucket c.loop-top.self) (trail_bucket c.enter.new.self) (trail_frames c.loop-top.self) (frames_of c.pop.new.self.items) (trail_frames c.enter.new.self) (frame_of c.in-Some.top)
+    (same_bucket _ c.enter.new.self c.enter.ensures.moved) (frames_pop c.loop-top.self.stack.items c.pop.new.self.items c.in-Some.top c.in-Some.ensures.items) c.args.back c.in-Some-beside.i c.in-Some-beside.ensures
+    (rw c.in_default-enter.is at c.enter.ensures.entered) c.enter.ensures.moved.stack
+
+pub loop-top-smaller-in_default-enter : goal.loop-top-smaller-in_default-enter
+loop-top-smaller-in_default-enter c =
+    let r = opened c in
+    let one = c.in-Some.ensures.len in
+    let smaller : 2 * length (pages_left c.args.back c.enter.new.self) + length c.enter.new.self.stack.items < 2 * length (pages_left c.args.back c.loop-top.self) + length c.loop-top.self.stack.items =
+    omega (arith, r, one, length-frames c.enter.new.self.stack.items, length-frames c.pop.new.self.items) in
+    smaller
+
+pub loop-top-preserved-in_default-enter : goal.loop-top-preserved-in_default-enter
+loop-top-preserved-in_default-enter c =
+    let r = opened c in
+    let before = c.loop-top.invariant in
+    let old = pager_opened c.args.self.now.pager in
+    let gone = length (pages_left c.args.back c.args.self.now) - length (pages_left c.args.back c.loop-top.self) in
+    let s = r.1 in
+    let less = before.less in
+    let one : pager_opened c.enter.new.self.pager ≡ counted (pager_opened c.loop-top.self.pager) 1 = rw c.in_default-enter.is at c.enter.ensures.opened in
+    let more : gone + 1 ≡ length (pages_left c.args.back c.args.self.now) - length (pages_left c.args.back c.enter.new.self) = omega (arith, s, less) in
+    record {
+      moved = record { file = c.enter.ensures.moved.file ∙ before.moved.file; at = c.enter.ensures.moved.at ∙ before.moved.at; stack = c.enter.ensures.moved.stack };
+      entries = sym r.0 ∙ before.entries;
+      less = omega (arith, s, less);
+      opened = one ∙ (ap (λ (n : ℕ). counted n 1) before.opened ∙ (counted_more old gone 1 ∙ ap (counted old) more));
+    }
+
+pub loop-top-preserved : goal.loop-top-preserved
+loop-top-preserved c =
+    let f = frame_of c.in-Some.top in
+    let below = frames_of c.pop.new.self.items in
+    let frames = frames_pop c.loop-top.self.stack.items c.pop.new.self.items c.in-Some.top c.in-Some.ensures.items in
+    let stack = popped_stack c.loop-top.self c.pop.new.self.items c.in-Some.top c.in-Some.ensures.items c.loop-top.invariant.moved.stack in
+    let r = page_left (trail_bucket c.loop-top.self) f below c.args.back stack c.in_default-beside.ensures in
+    let same : pages_left c.args.back (record { pager = c.loop-top.self.pager; at = c.loop-top.self.at; stack = c.pop.new.self }) ≡ pages_left c.args.back c.loop-top.self = rw frames r.1 in
+    let before = c.loop-top.invariant in
+    record {
+      moved = record { file = before.moved.file; at = before.moved.at; stack = popped (trail_bucket c.loop-top.self) f below stack };
+      entries = rw (← frames) at r.0 ∙ before.entries;
+      less = rw same before.less;
+      opened = rw same before.opened;
+    }
