@@ -15,6 +15,7 @@ pub mod OpenRuns
 pub mod PagesWritten
 pub mod Passes
 pub mod RowLimits
+pub mod RunSteps
 pub mod RunViews
 pub mod Stops
 pub mod TakenItems
@@ -35,6 +36,7 @@ pub use OpenRuns.*
 pub use PagesWritten.*
 pub use Passes.*
 pub use RowLimits.*
+pub use RunSteps.*
 pub use RunViews.*
 pub use Stops.*
 pub use TakenItems.*

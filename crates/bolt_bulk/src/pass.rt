@@ -257,7 +257,14 @@ impl<'a> Pass<'a> {
             limits,
         )?;
         let outer = mem::replace(&mut self.bucket, inner);
-        let waiting = outer.enter(&self.setup, pending, self.around, &mut self.next, sink)?;
+        let waiting = WaitingBucket::enter(
+            outer,
+            &self.setup,
+            pending,
+            self.around,
+            &mut self.next,
+            sink,
+        )?;
         let around = self.around.saturating_add(waiting.bucket.held());
         self.waiting.push(waiting)?;
         self.around = around;
