@@ -58,18 +58,18 @@ take_runs : (page_size : ℕ) (final made runs : BucketRunsView) (e : LeafElemen
     → final ≡ runs_taking page_size runs e size
 take_runs page_size final made runs e size p q = p ∙ ap (λ (m : BucketRunsView). runs_push m e size m.next) q
 
-module _ {S A B : Type 0} {sink : Ghosts S} {old new : S} {setup : PageSetup} {runs : BucketRunsView} {made after : BucketRuns} {next size : ℕ} (e : LeafElement) (result : Result B BulkFault) (sized : size ≡ element_size e) where
-  pub takes_item : {x : A} → MakesRoom {A = A} sink old new setup runs e.key size next made (Ok x) → IfErr result (λ f. f ≡ fault.Memory) → OnOk result (Pushes made after e size)
-      → TakesItem sink old new setup runs e next after result
+module _ {S A B : Type 0} {sink : Ghosts S} {old new : S} {setup : PageSetup} {before made after : BucketRuns} {number next size : ℕ} (e : LeafElement) (result : Result B BulkFault) (sized : size ≡ element_size e) where
+  pub takes_item : {x : A} → MakesRoom {A = A} sink old new setup before number e.key size made next (Ok x) → IfErr result (λ f. f ≡ fault.Memory) → OnOk result (Pushes made after e size)
+      → TakesItem sink old new setup before number e after next result
   takes_item room memory pushes =
       let here = rw sized at room in
       record {
         writes = writes_on result memory here.writes;
-        runs = on_ok_weaker result (λ more. take_runs setup.page_size _ (bucket_runs made next) runs e (element_size e) (more next next) here.runs) (rw sized at pushes);
+        runs = on_ok_weaker result (λ more. take_runs setup.page_size _ (bucket_runs made next) (bucket_runs before number) e (element_size e) (more next next) here.runs) (rw sized at pushes);
       }
 
   -- there was no room
-  pub takes_none : {f : BulkFault} → IsErrAnd result (λ g. g ≡ f) → MakesRoom {A = A} sink old new setup runs e.key size next made (Err f) → TakesItem sink old new setup runs e next after result
+  pub takes_none : {f : BulkFault} → IsErrAnd result (λ g. g ≡ f) → MakesRoom {A = A} sink old new setup before number e.key size made next (Err f) → TakesItem sink old new setup before number e after next result
   takes_none same room =
       let (_, is, e_is) = err_from_is_err_and result same in
       let here = rw sized at room in

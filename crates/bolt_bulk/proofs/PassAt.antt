@@ -135,7 +135,7 @@ module _ (wanted : Wanted) (pass : Pass) where
       (entries : Vec Leaf Global) (next : ℕ) (result : Result A BulkFault) (is : IsAt wanted pass within left put)
       → IsOn wanted.which P wanted.tree is.frames is.state (leaf_item key value flag ∷ items_of wanted.which P rest) runs_now put → IsToCome wanted P (limits_by pass) is.opened rest is.frames
       → IsPending pending entries.items (map level_of is.frames) rest levels after
-      → TakesItem sink old new pass.setup runs_now (record { key = key; value = value; is_bucket = flag }) next bucket result
+      → TakesItem sink old new pass.setup pass.bucket pass.next (record { key = key; value = value; is_bucket = flag }) bucket next result
       → OnOk result (Counts (record pass { bucket = bucket; pending = pending; entries = entries; next = next }) counted)
       → Steps wanted sink old new pass.setup put (IsAt wanted counted levels after) result
   item_steps {put = put} {counted = counted} key value flag rest pending bucket entries next result is on coming pends takes counts =
@@ -150,7 +150,7 @@ module _ (wanted : Wanted) (pass : Pass) where
   -- a value
   pub value_steps : {S A : Type 0} {sink : Ghosts S} {put : List Placed} {levels : List Level} {old new : S} {counted : Pass} (key value : List ℕ) (after : Tree) (bucket : BucketRuns) (next : ℕ) (result : Result A BulkFault)
       → IsAt wanted pass levels (with_value key value after) put → pass.pending ≡ None
-      → TakesItem sink old new pass.setup runs_now (value_element key value) next bucket result
+      → TakesItem sink old new pass.setup pass.bucket pass.next (value_element key value) bucket next result
       → OnOk result (Counts (record pass { bucket = bucket; next = next }) counted)
       → Steps wanted sink old new pass.setup put (IsAt wanted counted levels after) result
   value_steps key value after bucket next result is none takes counts =
@@ -160,7 +160,7 @@ module _ (wanted : Wanted) (pass : Pass) where
   -- the end of a bucket that is inline
   pub inline_steps : {S A : Type 0} {sink : Ghosts S} {put : List Placed} {levels : List Level} {old new : S} {counted : Pass} (level : Level) (p : PendingBucket) (bucket : BucketRuns) (entries : Vec Leaf Global) (next : ℕ) (result : Result A BulkFault)
       → IsAt wanted pass (level ∷ levels) end put → pass.pending ≡ Some p → IsPendingSmall P pass.pending pass.entries.items
-      → TakesItem sink old new pass.setup runs_now (pending_element p pass.entries.items) next bucket result
+      → TakesItem sink old new pass.setup pass.bucket pass.next (pending_element p pass.entries.items) bucket next result
       → OnOk result (Counts (record pass { bucket = bucket; pending = None; entries = entries; next = next }) counted)
       → Steps wanted sink old new pass.setup put (IsAt wanted counted levels level.after) result
   inline_steps {put = put} {levels = levels} level p bucket entries next result is some pending takes counts =
@@ -250,7 +250,7 @@ module _ (wanted : Wanted) (pass : Pass) where
   -- all went well
   pub open_steps : {S : Type 0} {sink : Ghosts S} {put : List Placed} {levels : List Level} {left : Tree} {old new : S} {counted : Pass} (p : PendingBucket) (bucket : BucketRuns) (w : WaitingBucket) (around : Vec WaitingBucket Global) (entries : Vec Leaf Global) (before next opened held : ℕ)
       → IsAt wanted pass levels left put → pass.pending ≡ Some p → IsPendingSmall P pass.pending pass.entries.items → HasRoot wanted.which P (onto (map leaf_view pass.entries.items) left)
-      → Enters sink old new pass.setup runs_now p before next (Ok w)
+      → Enters sink old new pass.setup pass.bucket pass.next p before next (Ok w)
       → around.items ≡ pass.waiting.items ++ w ∷ [] → bucket_runs bucket next ≡ opened_runs p next
       → opened ≡ min (pass.opened + 1) 18446744073709551615
       → Counts (record pass { waiting = around; bucket = bucket; pending = None; entries = entries; next = next; opened = opened; around = held }) counted

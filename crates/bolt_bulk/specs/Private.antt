@@ -13,6 +13,7 @@ pub mod Levels
 pub mod OpenBuckets
 pub mod OpenRuns
 pub mod PagesWritten
+pub mod PassCalls
 pub mod Passes
 pub mod RowLimits
 pub mod RunSteps
@@ -34,6 +35,7 @@ pub use Levels.*
 pub use OpenBuckets.*
 pub use OpenRuns.*
 pub use PagesWritten.*
+pub use PassCalls.*
 pub use Passes.*
 pub use RowLimits.*
 pub use RunSteps.*

@@ -90,7 +90,7 @@ impl<'a> BranchRun<'a> {
         requires key { length key.now ≤ longest_key }
         requires closed { length closed.key.now ≤ longest_key }
         requires next { next.old ≤ setup.now.limit }
-        ensures takes { TakesPage S.Sink sink.old sink.new setup.now key.now (branch_view closed.entry) next.old next.new (run_view self.old) (run_view self.new) result }
+        ensures takes { TakesPage S.Sink sink.old sink.new setup.now key.now (branch_view closed.entry) next.old next.new self.old self.new result }
         ensures standing { OnOk result (IsStanding (run_view self.new)) }
     {
         self.push_page(closed)?;

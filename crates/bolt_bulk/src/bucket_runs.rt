@@ -98,7 +98,7 @@ impl<'a> BucketRuns<'a> {
         requires key { length key.now ≤ longest_key }
         requires size { size < length_end }
         requires next { next.old ≤ setup.now.limit }
-        ensures makes { MakesRoom S.Sink sink.old sink.new setup.now (bucket_runs self.old next.old) key.now size next.new self.new result }
+        ensures makes { MakesRoom S.Sink sink.old sink.new setup.now self.old next.old key.now size self.new next.new result }
         ensures open { OnOk result (IsOpenBucket self.new) }
         ensures room { OnOk result (leaves_have_room setup.now.page_size (leaves_of self.new.leaves) size ≡ true) }
     {
@@ -198,7 +198,7 @@ impl<'a> BucketRuns<'a> {
         requires key { length key.now ≤ longest_key }
         requires value { IsValueLength (length value.now) }
         requires next { next.old ≤ setup.now.limit }
-        ensures takes { TakesItem S.Sink sink.old sink.new setup.now (bucket_runs self.old next.old) (value_element key.now value.now) next.new self.new result }
+        ensures takes { TakesItem S.Sink sink.old sink.new setup.now self.old next.old (value_element key.now value.now) self.new next.new result }
         ensures open { OnOk result (IsOpenBucket self.new) }
     {
         let size = ELEMENT_LEN + (key.len() + value.len());
@@ -222,7 +222,7 @@ impl<'a> BucketRuns<'a> {
         requires size { pending.size + 16 ≡ inline_size (map leaf_view entries.now) }
         requires small { pending.size < 2147483632 }
         requires next { next.old ≤ setup.now.limit }
-        ensures takes { TakesItem S.Sink sink.old sink.new setup.now (bucket_runs self.old next.old) (pending_element pending.entry entries.now) next.new self.new result }
+        ensures takes { TakesItem S.Sink sink.old sink.new setup.now self.old next.old (pending_element pending.entry entries.now) self.new next.new result }
         ensures open { OnOk result (IsOpenBucket self.new) }
     {
         let key = pending.key;
@@ -241,7 +241,7 @@ impl<'a> BucketRuns<'a> {
     ) -> Result<u64, BulkFault>
         requires open { IsOpenBucket self.old }
         requires next { next.old ≤ setup.now.limit }
-        ensures { ClosesBucket S.Sink sink.old sink.new setup.now (bucket_runs self.old next.old) next.new result }
+        ensures { ClosesBucket S.Sink sink.old sink.new setup.now self.old next.old next.new result }
     {
         let closed = self.leaves.close(setup, next, sink)?;
         self.uppers.close_all(setup, closed, next, sink)

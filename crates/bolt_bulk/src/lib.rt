@@ -9,6 +9,7 @@
 mod branch_run;
 mod bucket_runs;
 mod copy;
+mod entry_steps;
 mod fault;
 mod first_pages;
 mod headers;

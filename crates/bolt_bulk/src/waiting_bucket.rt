@@ -35,7 +35,7 @@ impl<'a> WaitingBucket<'a> {
         requires open { IsOpenBucket outer }
         requires key { length pending.key.now ≤ longest_key }
         requires next { next.old ≤ setup.now.limit }
-        ensures enters { Enters S.Sink sink.old sink.new setup.now (bucket_runs outer.entry next.old) pending.entry around next.new result }
+        ensures enters { Enters S.Sink sink.old sink.new setup.now outer.entry next.old pending.entry around next.new result }
         ensures waits { IfOk result (λ waiting. IsWaiting setup.now.page_size waiting) }
     {
         let mut bucket = outer;
@@ -62,7 +62,7 @@ impl<'a> WaitingBucket<'a> {
         requires open { IsOpenBucket bucket }
         requires waits { IsWaiting setup.now.page_size self }
         requires next { next.old ≤ setup.now.limit }
-        ensures ends { EndsInner S.Sink sink.old sink.new setup.now self.entry (bucket_runs bucket.entry next.old) next.new result }
+        ensures ends { EndsInner S.Sink sink.old sink.new setup.now self.entry bucket.entry next.old next.new result }
         ensures open { IfOk result (λ outer. IsOpenBucket outer) }
     {
         let mut outer = self.bucket;

@@ -3,13 +3,13 @@ use Rattle.std.specs.Prelude.{◌≡◌, ℕ, ◌+◌, List, [], ◌∷◌, Opti
 use Rattle.bolt_format.specs.{ElementPlaces.branch_view, Elements.BranchElement, Elements.LeafElement}
 use Rattle.bolt_format.specs.{declared.element.Branch.Branch, declared.sink.Sink.Ghosts}
 use Rattle.bolt_layout.specs.Levels.{overflow_of}
-use Rattle.bolt_bulk.specs.Private.BranchRuns.{own_element, run_taking, runs_above, runs_end_next, taking_next, taking_puts, taking_up}
+use Rattle.bolt_bulk.specs.Private.BranchRuns.{own_element, run_taking, run_view, runs_above, runs_end_next, taking_next, taking_puts, taking_up}
 use Rattle.bolt_bulk.specs.Private.OpenBuckets.{bucket_end_next, bucket_runs, leaf_closed}
 use Rattle.bolt_bulk.specs.Private.{PagesWritten.Closes, PagesWritten.Writes, RowLimits.bucket_limit}
 use Rattle.bolt_bulk.specs.Private.RunViews.{BucketRunsView, LeafRunView, RunView, leaf_page, run_page, runs_climb, runs_close_put, runs_end, runs_end_put}
 use Rattle.bolt_bulk.specs.Private.RunViews.{runs_next, runs_push, runs_put, runs_room, runs_room_put, runs_root}
 use Rattle.bolt_bulk.specs.Private.TakenItems.{element_size, root_element, root_size, runs_taking}
-use Rattle.bolt_bulk.specs.{declared.bucket_runs.BucketRuns.BucketRuns, declared.fault.BulkFault.BulkFault, declared.page_setup.PageSetup.PageSetup}
+use Rattle.bolt_bulk.specs.{declared.branch_run.BranchRun.BranchRun, declared.bucket_runs.BucketRuns.BucketRuns, declared.fault.BulkFault.BulkFault, declared.page_setup.PageSetup.PageSetup}
 use Rattle.bolt_bulk.specs.{declared.upper_runs.UpperRuns.UpperRuns, declared.waiting_bucket.PendingBucket.PendingBucket}
 use Rattle.bolt_bulk.specs.declared.waiting_bucket.WaitingBucket.{WaitingBucket}
 
@@ -25,11 +25,11 @@ pub record ClosesLeaf {S : Type 0} (sink : Ghosts S) (old new : S) (setup : Page
 
 -- A run takes the element of a page that has closed. The next page has this first key; if the run has no room for it, the run closes.
 pub record TakesPage {S : Type 0} (sink : Ghosts S) (old new : S) (setup : PageSetup) (key : List ℕ) (closed : BranchElement) (number next : ℕ)
-    (before after : RunView) (result : Result (Option Branch) BulkFault) : Type 0 where
-  pub writes : Writes sink old new setup (taking_puts setup.page_size key closed number before) (taking_next setup.page_size key closed number before) next result
-  pub run : OnOk result (after ≡ run_taking setup.page_size key closed before)
-  pub marked : OnOk result (next ≡ taking_next setup.page_size key closed number before)
-  pub up : IfOk result (λ up. option_map branch_view up ≡ taking_up setup.page_size key closed number before)
+    (before after : BranchRun) (result : Result (Option Branch) BulkFault) : Type 0 where
+  pub writes : Writes sink old new setup (taking_puts setup.page_size key closed number (run_view before)) (taking_next setup.page_size key closed number (run_view before)) next result
+  pub run : OnOk result (run_view after ≡ run_taking setup.page_size key closed (run_view before))
+  pub marked : OnOk result (next ≡ taking_next setup.page_size key closed number (run_view before))
+  pub up : IfOk result (λ up. option_map branch_view up ≡ taking_up setup.page_size key closed number (run_view before))
 
 -- the element goes up as long as runs close
 pub record Climbs {S A : Type 0} (sink : Ghosts S) (old new : S) (setup : PageSetup) (key : List ℕ) (closed : BranchElement) (number next : ℕ)
@@ -46,35 +46,43 @@ pub record ClosesAbove {S : Type 0} (sink : Ghosts S) (old new : S) (setup : Pag
   pub root : IfOk result (λ root. root ≡ runs_root setup.page_size closed number runs)
 
 -- and so do all runs of a bucket
-pub record ClosesBucket {S : Type 0} (sink : Ghosts S) (old new : S) (setup : PageSetup) (runs : BucketRunsView) (next : ℕ) (result : Result ℕ BulkFault) : Type 0 where
-  pub closes : Closes sink old new setup (runs_end_put setup.page_size runs) (bucket_end_next setup.page_size runs) next result
-  pub root : IfOk result (λ root. root ≡ runs_end setup.page_size runs)
+pub record ClosesBucket {S : Type 0} (sink : Ghosts S) (old new : S) (setup : PageSetup) (bucket : BucketRuns) (number next : ℕ) (result : Result ℕ BulkFault) : Type 0 where
+  pub closes : Closes sink old new setup (runs_end_put setup.page_size (bucket_runs bucket number)) (bucket_end_next setup.page_size (bucket_runs bucket number)) next result
+  pub root : IfOk result (λ root. root ≡ runs_end setup.page_size (bucket_runs bucket number))
 
 -- a bucket has one item more, whatever the numbers of its pages are
 abbrev pub Pushes : (before after : BucketRuns) → LeafElement → (size : ℕ) → Type 0
 Pushes before after e size = (number next : ℕ) → bucket_runs after next ≡ runs_push (bucket_runs before number) e size next
 
--- there is room for an item of this key and size
-pub record MakesRoom {S A : Type 0} (sink : Ghosts S) (old new : S) (setup : PageSetup) (before : BucketRunsView) (key : List ℕ) (size next : ℕ) (after : BucketRuns) (result : Result A BulkFault) : Type 0 where
-  pub writes : Writes sink old new setup (runs_room_put setup.page_size before key size) (runs_room setup.page_size before key size).next next result
-  pub runs : OnOk result (bucket_runs after next ≡ runs_room setup.page_size before key size)
+-- what is written to make room for an item of this key and size
+abbrev pub WritesRoom : {S A : Type 0} → Ghosts S → (old new : S) → PageSetup → BucketRunsView → (key : List ℕ) → (size next : ℕ) → Result A BulkFault → Type 0
+WritesRoom sink old new setup runs key size next result = Writes sink old new setup (runs_room_put setup.page_size runs key size) (runs_room setup.page_size runs key size).next next result
+
+-- room is made
+pub record MakesRoom {S A : Type 0} (sink : Ghosts S) (old new : S) (setup : PageSetup) (before : BucketRuns) (number : ℕ) (key : List ℕ) (size : ℕ)
+    (after : BucketRuns) (next : ℕ) (result : Result A BulkFault) : Type 0 where
+  pub writes : WritesRoom sink old new setup (bucket_runs before number) key size next result
+  pub runs : OnOk result (bucket_runs after next ≡ runs_room setup.page_size (bucket_runs before number) key size)
 
 -- an item is added, after room was made for it
-pub record TakesItem {S A : Type 0} (sink : Ghosts S) (old new : S) (setup : PageSetup) (before : BucketRunsView) (e : LeafElement) (next : ℕ) (after : BucketRuns) (result : Result A BulkFault) : Type 0 where
-  pub writes : Writes sink old new setup (runs_room_put setup.page_size before e.key (element_size e)) (runs_room setup.page_size before e.key (element_size e)).next next result
-  pub runs : OnOk result (bucket_runs after next ≡ runs_taking setup.page_size before e (element_size e))
+pub record TakesItem {S A : Type 0} (sink : Ghosts S) (old new : S) (setup : PageSetup) (before : BucketRuns) (number : ℕ) (e : LeafElement)
+    (after : BucketRuns) (next : ℕ) (result : Result A BulkFault) : Type 0 where
+  pub writes : WritesRoom sink old new setup (bucket_runs before number) e.key (element_size e) next result
+  pub runs : OnOk result (bucket_runs after next ≡ runs_taking setup.page_size (bucket_runs before number) e (element_size e))
 
 -- a bucket waits for one within it, after it made room for that one
-pub record Enters {S : Type 0} (sink : Ghosts S) (old new : S) (setup : PageSetup) (before : BucketRunsView) (pending : PendingBucket) (around next : ℕ) (result : Result WaitingBucket BulkFault) : Type 0 where
-  pub writes : Writes sink old new setup (runs_room_put setup.page_size before pending.key.now (root_size pending.key.now)) (runs_room setup.page_size before pending.key.now (root_size pending.key.now)).next next result
-  pub runs : IfOk result (λ waiting. bucket_runs waiting.bucket next ≡ runs_room setup.page_size before pending.key.now (root_size pending.key.now))
+pub record Enters {S : Type 0} (sink : Ghosts S) (old new : S) (setup : PageSetup) (before : BucketRuns) (number : ℕ) (pending : PendingBucket)
+    (around next : ℕ) (result : Result WaitingBucket BulkFault) : Type 0 where
+  pub writes : WritesRoom sink old new setup (bucket_runs before number) pending.key.now (root_size pending.key.now) next result
+  pub runs : IfOk result (λ waiting. bucket_runs waiting.bucket next ≡ runs_room setup.page_size (bucket_runs before number) pending.key.now (root_size pending.key.now))
   pub key : IfOk result (λ waiting. waiting.key.now ≡ pending.key.now)
   pub sequence : IfOk result (λ waiting. waiting.sequence ≡ pending.sequence)
   pub around_is : IfOk result (λ waiting. waiting.around ≡ around)
 
 -- the bucket within ends, and the one around it takes its item
-pub record EndsInner {S : Type 0} (sink : Ghosts S) (old new : S) (setup : PageSetup) (waiting : WaitingBucket) (inner : BucketRunsView) (next : ℕ) (result : Result BucketRuns BulkFault) : Type 0 where
-  pub closes : Closes sink old new setup (runs_end_put setup.page_size inner) (bucket_end_next setup.page_size inner) next result
+pub record EndsInner {S : Type 0} (sink : Ghosts S) (old new : S) (setup : PageSetup) (waiting : WaitingBucket) (inner : BucketRuns) (number next : ℕ)
+    (result : Result BucketRuns BulkFault) : Type 0 where
+  pub closes : Closes sink old new setup (runs_end_put setup.page_size (bucket_runs inner number)) (bucket_end_next setup.page_size (bucket_runs inner number)) next result
   pub runs : IfOk result (λ outer. (before : ℕ) → bucket_runs outer next
-      ≡ runs_push (bucket_runs waiting.bucket before) (root_element waiting.key.now (runs_end setup.page_size inner) waiting.sequence)
-      (root_size waiting.key.now) (bucket_end_next setup.page_size inner))
+      ≡ runs_push (bucket_runs waiting.bucket before) (root_element waiting.key.now (runs_end setup.page_size (bucket_runs inner number)) waiting.sequence)
+      (root_size waiting.key.now) (bucket_end_next setup.page_size (bucket_runs inner number)))

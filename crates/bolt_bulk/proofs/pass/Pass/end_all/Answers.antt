@@ -12,14 +12,14 @@ returns-in_err-leave_to g c = λ wanted put has. ends_early c.from_residual.ensu
 
 pub returns-in_err-bucket_ends : goal.returns-in_err-bucket_ends
 returns-in_err-bucket_ends g c = λ wanted put has.
-    ends_after c.in_ok-leave_to.ensures.setup (c.in_ok-leave_to.ensures.steps wanted [] put has tt)
+    ends_after c.in_ok-leave_to.ensures.on.setup (c.in_ok-leave_to.ensures.steps wanted [] put has tt)
     (λ all mid. ends_early c.from_residual-in_err-bucket_ends.ensures.1 (steps_none {A = ⊤} {At = λ _. ⊤} (Err _) mid.at c.in_err-bucket_ends.ensures.fault tt))
 
 pub returns-in_err-root : goal.returns-in_err-root
 returns-in_err-root g c = λ wanted put has.
     let p = err_from_is_err_and c.from_residual-in_err-root.result c.from_residual-in_err-root.ensures.1 in
-    rw (p.1, p.2) (ends_after c.in_ok-leave_to.ensures.setup (c.in_ok-leave_to.ensures.steps wanted [] put has tt)
-    (λ all mid. let end = has_end wanted c.leave_to.new.self all mid c.in_ok-leave_to.ensures.depth in
+    rw (p.1, p.2) (ends_after c.in_ok-leave_to.ensures.on.setup (c.in_ok-leave_to.ensures.steps wanted [] put has tt)
+    (λ all mid. let end = has_end wanted c.leave_to.new.self all mid c.in_ok-leave_to.ensures.on.depth_is in
     record {
       others = runs_end_put c.leave_to.new.self.setup.page_size (bucket_runs c.leave_to.new.self.bucket c.leave_to.new.self.next);
       all = end.pages;
@@ -35,8 +35,8 @@ returns-in_err-root g c = λ wanted put has.
 
 pub returns : goal.returns
 returns g c = λ wanted put has.
-    ends_after c.in_ok-leave_to.ensures.setup (c.in_ok-leave_to.ensures.steps wanted [] put has tt)
-    (λ all mid. let end = has_end wanted c.leave_to.new.self all mid c.in_ok-leave_to.ensures.depth in
+    ends_after c.in_ok-leave_to.ensures.on.setup (c.in_ok-leave_to.ensures.steps wanted [] put has tt)
+    (λ all mid. let end = has_end wanted c.leave_to.new.self all mid c.in_ok-leave_to.ensures.on.depth_is in
     record {
       others = runs_end_put c.leave_to.new.self.setup.page_size (bucket_runs c.leave_to.new.self.bucket c.leave_to.new.self.next);
       all = end.pages;
