@@ -10,6 +10,7 @@ pub mod HeldCounts
 pub mod HeldItems
 pub mod HeldSoFar
 pub mod Levels
+pub mod MemberPasses
 pub mod OpenBuckets
 pub mod OpenRuns
 pub mod PagesWritten
@@ -32,6 +33,7 @@ pub use HeldCounts.*
 pub use HeldItems.*
 pub use HeldSoFar.*
 pub use Levels.*
+pub use MemberPasses.*
 pub use OpenBuckets.*
 pub use OpenRuns.*
 pub use PagesWritten.*

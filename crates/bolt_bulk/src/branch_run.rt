@@ -6,9 +6,8 @@ ghost use Rattle.bolt_bulk.specs.Private.{ClosesRun, IsPushed, IsSizedRun, IsSta
 ghost use Rattle.bolt_bulk.specs.declared.fault.BulkFault.TheVariants as fault;
 
 use crate::fault::BulkFault;
-use crate::headers::Headers;
 use crate::page_setup::{MAX_ITEMS, PageSetup, number_after};
-use crate::pieces::{put, put_page_header, put_zeros};
+use crate::pieces::{Headers, put, put_page_header, put_zeros};
 use bolt_format::{Branch, ELEMENT_LEN, HEADER_LEN, Kind, Sink, SinkFault};
 use std::alloc::Global;
 

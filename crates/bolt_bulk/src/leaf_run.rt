@@ -5,10 +5,9 @@ ghost use Rattle.bolt_layout.specs.{PageBytes.leaf_data, PageBytes.leaf_headers}
 ghost use Rattle.bolt_bulk.specs.Private.{AreHeld, ClosesLeaf, held_views, IsHeld, IsLeafRun, leaf_page, leaves_have_room, leaves_of, length_end, no_leaves, page_text, stored_value};
 
 use crate::fault::BulkFault;
-use crate::headers::Headers;
 use crate::held::Held;
 use crate::page_setup::{MAX_ITEMS, PageSetup, number_after};
-use crate::pieces::{put, put_page_header, put_zeros};
+use crate::pieces::{Headers, put, put_page_header, put_zeros};
 use bolt_format::{Branch, HEADER_LEN, Kind, Leaf, Sink, SinkFault};
 
 /// An open run of items, the entries of the inline buckets among them, and the size of the page

@@ -2,7 +2,7 @@
 use Rattle.std.specs.Prelude.{◌≡◌, ◌<◌, ◌≤◌, ℕ, suc, ◌+◌, ◌/◌, Bool, true, false, List, [], ◌∷◌, ◌++◌, length, map, reverse, Option, Some, None, Result, IfErr, OnOk}
 use Rattle.std.specs.List.{AllByRecursion}
 use Rattle.bolt_format.specs.{ElementPlaces.leaf_view, Elements.BranchElement, Elements.LeafElement, declared.element.Leaf.Leaf}
-use Rattle.bolt_tree.specs.{Listing.Member, Tree.Tree, Tree.end, Tree.tree_of, Tree.with_bucket, Tree.with_value}
+use Rattle.bolt_tree.specs.{Listing.Member, Tree.Tree, Tree.end, Tree.with_bucket, Tree.with_value}
 use Rattle.bolt_layout.specs.{Items.is_inline, Items.items_of, Items.root_of, Laid.Laid, Laid.Placed}
 use Rattle.bolt_layout.specs.{Layout.layout_mark, Layout.layout_pages, Layout.placed_bytes, Limits.HaveRightLimits, Limits.limit_at, Limits.limits_from_ends}
 use Rattle.bolt_layout.specs.Openings.{AreRight, leaf_pages, limits_for, opened_by, opened_in, row_ends_of}
@@ -202,7 +202,3 @@ pub record GoesOn (before after : Pass) (depth : ℕ) : Type 0 where
   pub setup : after.setup ≡ before.setup
   pub ready : IsReady after
   pub depth_is : depth_of after ≤ depth
-
--- the limits are right for each tree that is listed
-abbrev pub FitAll : {M : Type 0} → (M → List Member → Type 0) → M → Layout → (page_size : ℕ) → Limits → Type 0
-FitAll lists members which page_size limits = (listing : List Member) → lists members listing → FitLimits which (tree_of listing) page_size (limits_with limits)
