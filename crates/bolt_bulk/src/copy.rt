@@ -1,4 +1,5 @@
 //! The compact copy of a sound file.
+ghost use Rattle.std.specs.Prelude.{◌≡◌};
 ghost use Rattle.bolt_check.specs.CheckedFiles.{meta_of};
 ghost use Rattle.bolt_format.specs.Metas.{IsPageSize};
 ghost use Rattle.bolt_tree.specs.FileListings.{ForListing};
@@ -31,11 +32,7 @@ pub fn plan_as(
     requires { IsPageSize page_size }
     ensures { ForListing checked.entry (λ listing. Plans layout page_size (meta_of checked.entry).root_sequence listing result) }
 {
-    let shape = Shape {
-        layout,
-        page_size,
-        sequence: checked.meta().root_sequence,
-    };
+    let shape = shape_of(&checked, layout, page_size);
     let mut walk = Walk::new(alloc, checked);
     a_walk_is_whole(&walk);
     plan_members(alloc, &mut walk, &shape)
@@ -75,11 +72,7 @@ pub fn compact_as<S: Sink>(
     requires { IsPageSize page_size }
     ensures { CopiesFile S.taken S.failed sink.old sink.new checked.entry layout page_size result }
 {
-    let shape = Shape {
-        layout,
-        page_size,
-        sequence: checked.meta().root_sequence,
-    };
+    let shape = shape_of(&checked, layout, page_size);
     let mut walk = Walk::new(alloc, checked);
     a_walk_is_whole(&walk);
     compact_members(alloc, &mut walk, &shape, sink)
@@ -112,4 +105,18 @@ pub struct Shape {
     /// The sequence of the root bucket.
     pub sequence: u64,
     pub ghost accepted: { IsPageSize page_size },
+}
+
+/// What the copy of a checked file looks like.
+fn shape_of(checked: &Checked<'_>, layout: Layout, page_size: u64) -> Shape
+    requires { IsPageSize page_size }
+    ensures layout { result.layout ≡ layout }
+    ensures page_size { result.page_size ≡ page_size }
+    ensures sequence { result.sequence ≡ (meta_of checked.now).root_sequence }
+{
+    Shape {
+        layout,
+        page_size,
+        sequence: checked.meta().root_sequence,
+    }
 }

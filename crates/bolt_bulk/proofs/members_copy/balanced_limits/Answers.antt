@@ -13,7 +13,7 @@ pub returns-in-Ok : goal.returns-in-Ok
 returns-in-Ok g c = record {
   fit = λ listing lists.
       let ends = c.in-Ok.ensures.pages Plain listing lists (fit_plain c.noting_setup_of-setup.result.page_size c.none-none.result (tree_of listing) c.none-none.ensures) in
-      subst (λ (n : ℕ). FitLimits Balanced (tree_of listing) n (limits_with c.in-Ok.ended.noted)) c.noting_setup_of-setup.ensures.page_size (ends.noted refl refl);
+      subst (λ (n : ℕ). FitLimits Balanced (tree_of listing) n (limits_with c.in-Ok.ended.noted)) c.noting_setup_of-setup.ensures.page_size (ends.returned.noted refl refl);
   large = tt;
   again = grind (arith, common_steps);
 }
@@ -23,7 +23,7 @@ returns-in-Err-TooLarge g c = record {
   fit = tt;
   large = λ _ listing lists.
       let ends = c.in-Err-TooLarge.ensures.pages Plain listing lists (fit_plain c.noting_setup_of-setup.result.page_size c.none-none.result (tree_of listing) c.none-none.ensures) in
-      let above = ends.large c.in-Err-TooLarge.field-0-is in
+      let above = ends.returned.large c.in-Err-TooLarge.field-0-is in
       let size = ap (λ (n : ℕ). layout_mark Plain n (tree_of listing)) c.noting_setup_of-setup.ensures.page_size in
       let limit = c.noting_setup_of-setup.ensures.limit in
       let one = c.requires.one listing lists in

@@ -25,12 +25,7 @@ returns-in_err-root g c = λ wanted put has.
       all = end.pages;
       puts = c.in_err-root.ensures.closes.writes.pages;
       short = c.in_err-root.ensures.closes.short;
-      root = tt;
-      mark = tt;
-      within = tt;
-      noted = tt;
-      held = tt;
-      large = λ h. let m = c.in_err-root.ensures.closes.writes.large h in let n = end.mark in omega (arith, m, n);
+      returned = record { root = tt; mark = tt; within = tt; noted = tt; held = tt; large = λ h. let m = c.in_err-root.ensures.closes.writes.large h in let n = end.mark in omega (arith, m, n) };
     }))
 
 pub returns : goal.returns
@@ -42,14 +37,16 @@ returns g c = λ wanted put has.
       all = end.pages;
       puts = c.in_ok-root.ensures.closes.writes.pages;
       short = tt;
-      root = c.in_ok-root.ensures.root ∙ end.root;
-      mark = c.in_ok-root.ensures.closes.marked ∙ end.mark;
-      within = c.in_ok-root.ensures.closes.writes.within;
-      noted = λ asked which.
-          let next = c.in_ok-root.ensures.closes.marked in
-          let within = c.in_ok-root.ensures.closes.writes.within in
-          let counted = c.leave_to.new.self.setup.counted in
-          subst (λ (l : Limits). FitLimits Balanced wanted.tree c.leave_to.new.self.setup.page_size (limits_with l)) (sym c.take_limits.ensures) (end.noted c.bucket_ends.new.self c.in_ok-bucket_ends.ensures.ends asked which (omega arith));
-      held = end.held;
-      large = tt;
+      returned = record {
+        root = c.in_ok-root.ensures.root ∙ end.root;
+        mark = c.in_ok-root.ensures.closes.marked ∙ end.mark;
+        within = c.in_ok-root.ensures.closes.writes.within;
+        noted = λ asked which.
+            let next = c.in_ok-root.ensures.closes.marked in
+            let within = c.in_ok-root.ensures.closes.writes.within in
+            let counted = c.leave_to.new.self.setup.counted in
+            subst (λ (l : Limits). FitLimits Balanced wanted.tree c.leave_to.new.self.setup.page_size (limits_with l)) (sym c.take_limits.ensures) (end.noted c.bucket_ends.new.self c.in_ok-bucket_ends.ensures.ends asked which (omega arith));
+        held = end.held;
+        large = tt;
+      };
     })
