@@ -10,6 +10,7 @@ use Rattle.bolt_bulk.proofs.CopyLemmas.{copied, layout_parts, layout_written, st
 use Rattle.bolt_bulk.proofs.{FileLayouts.some_bytes, FileLayouts.too_large, FileLayouts.within_limit, WalkLeft.whole_again}
 use Rattle.bolt_bulk.specs.Private.{first_pages, FitLimits, limits_with, stopped_by}
 use Rattle.bolt_format.proofs.PageSizes.{size_bounds}
+use Rattle.std.specs.Prelude.{IsErrAnd}
 use Rattle.bolt_bulk.proofs.members_copy.compact_members.Goals as goal
 use Rattle.bolt_bulk.proofs.members_copy.compact_members.Goals.{After-a_listing_has_one_layout, After-setup_of-setup}
 
@@ -38,17 +39,19 @@ written g c listing lists others all =
     planned.root planned.high_water c.setup_of-setup.ensures.page_size all
 
 -- what a call promises that stops early
-stopped : (g : _) (c : After-a_listing_has_one_layout g) (new : g.row.S.Denot) (result : Result Done BulkFault) (e : BulkFault) → result ≡ Err e
+stopped : (g : _) (c : After-a_listing_has_one_layout g) (new : g.row.S.Denot) (result : Result Done BulkFault) (e : BulkFault) → IsErrAnd result (λ f. f ≡ e)
     → ((listing : List Member) → g.M.Members.lists c.args.members.now listing
     → Copies g.S.Sink.taken g.S.Sink.failed c.args.sink.now new (layout_of_listing c.args.shape.now.layout c.args.shape.now.page_size listing c.args.shape.now.sequence) (Err e))
     → CopiesEach g.S.Sink.taken g.S.Sink.failed c.args.sink.now new (g.M.Members.lists c.args.members.now) c.args.shape.now.layout c.args.shape.now.page_size c.args.shape.now.sequence result
-stopped g c new result e is copied = rw is (record {
-  copied = copied;
-  accepted = tt;
-  held = tt;
-  bounded = tt;
-  prefixes = λ listing lists. c.a_listing_has_one_layout.ensures.prefixes c.args.shape.now.layout listing (c.requires.one listing lists);
-})
+stopped g c new result e same copied =
+    let (_, is, e_is) = err_from_is_err_and result same in
+    rw (is, e_is) (record {
+      copied = copied;
+      accepted = tt;
+      held = tt;
+      bounded = tt;
+      prefixes = λ listing lists. c.a_listing_has_one_layout.ensures.prefixes c.args.shape.now.layout listing (c.requires.one listing lists);
+    })
 
 pub plan_within-requires : goal.plan_within-requires
 plan_within-requires g c κs = grind (arith, whole_again, fit)
@@ -59,24 +62,23 @@ put_pages-requires g c κs = grind (arith, whole_again)
 pub returns-in_err-limits-clause-copies : goal.returns-in_err-limits-clause-copies
 returns-in_err-limits-clause-copies g c =
     let began : After-a_listing_has_one_layout g = (goal.at.returns-in_err-limits-clause-copies g c).After-a_listing_has_one_layout in
-    stopped g began _ _ (stopped_by c.in_err-limits.field-0.0) (search rules) (λ listing lists.
+    stopped g began _ _ (stopped_by c.in_err-limits.field-0.0) c.from_residual.ensures.1 (λ listing lists.
     stops_unplanned g.S.Sink c.args.sink.now _ c.in_err-limits.field-0.0 (some_bytes _ _ c.args.shape.now.page_size (long g began listing lists) c.args.shape.now.accepted) (λ e. c.in_err-limits.ensures.large e listing lists))
 
 pub returns-in_err-plan-clause-copies : goal.returns-in_err-plan-clause-copies
 returns-in_err-plan-clause-copies g c =
     let began : After-a_listing_has_one_layout g = (goal.at.returns-in_err-plan-clause-copies g c).After-a_listing_has_one_layout in
-    stopped g began _ _ (stopped_by c.in_err-plan.field-0.0) (search rules) (λ listing lists.
+    stopped g began _ _ (stopped_by c.in_err-plan.field-0.0) c.from_residual-in_err-plan.ensures.1 (λ listing lists.
     let planned = c.in_err-plan.ensures.plans listing ((c.in_ok-limits.ensures.again.listing listing).1 lists) in
     stops_unplanned g.S.Sink c.args.sink.now _ c.in_err-plan.field-0.0 (some_bytes _ _ c.args.shape.now.page_size (long g began listing lists) c.args.shape.now.accepted) planned.large)
 
 pub returns-in_err-put_first_pages-clause-copies : goal.returns-in_err-put_first_pages-clause-copies
 returns-in_err-put_first_pages-clause-copies g c =
     let began : After-a_listing_has_one_layout g = (goal.at.returns-in_err-put_first_pages-clause-copies g c).After-a_listing_has_one_layout in
-    let (_, is, e_is) = err_from_is_err_and c.from_residual-in_err-put_first_pages.result c.from_residual-in_err-put_first_pages.ensures.1 in
-    stopped g began c.put_first_pages.new.sink _ _ is (λ listing lists.
+    stopped g began c.put_first_pages.new.sink _ _ c.from_residual-in_err-put_first_pages.ensures.1 (λ listing lists.
     let planned = c.in_ok-plan.ensures.plans listing ((c.in_ok-limits.ensures.again.listing listing).1 lists) in
     let parts = layout_parts c.args.shape.now.layout c.args.shape.now.page_size (tree_of listing) c.args.shape.now.sequence c.in_ok-plan.plan.root c.in_ok-plan.plan.high_water planned.root planned.high_water in
-    rw e_is (stops_first g.S.Sink c.args.sink.now c.put_first_pages.new.sink _ _ _ parts planned.fits c.in_err-put_first_pages.ensures))
+    stops_first g.S.Sink c.args.sink.now c.put_first_pages.new.sink _ _ _ parts planned.fits c.in_err-put_first_pages.ensures)
 
 pub overflow_mul-result : goal.overflow_mul-result
 overflow_mul-result g c = ∥∥₁_elim c.requires.some (Prim.hlevel props) (λ is.
@@ -88,16 +90,15 @@ overflow_mul-result g c = ∥∥₁_elim c.requires.some (Prim.hlevel props) (λ
 pub returns-in_err-ended-clause-copies : goal.returns-in_err-ended-clause-copies
 returns-in_err-ended-clause-copies g c =
     let began : After-a_listing_has_one_layout g = (goal.at.returns-in_err-ended-clause-copies g c).After-a_listing_has_one_layout in
-    let (_, is, e_is) = err_from_is_err_and c.from_residual-in_err-ended.result c.from_residual-in_err-ended.ensures.1 in
-    stopped g began c.put_pages.new.sink _ _ is (λ listing lists.
+    stopped g began c.put_pages.new.sink _ _ c.from_residual-in_err-ended.ensures.1 (λ listing lists.
     let planned = c.in_ok-plan.ensures.plans listing ((c.in_ok-limits.ensures.again.listing listing).1 lists) in
     let ends = c.in_err-ended.ensures.pages c.args.shape.now.layout listing (there g (goal.at.returns-in_err-ended-clause-copies g c).After-setup_of-setup listing lists) (fit g (goal.at.returns-in_err-ended-clause-copies g c).After-setup_of-setup listing lists) in
     let whole = written g (goal.at.returns-in_err-ended-clause-copies g c).After-setup_of-setup listing lists ends.others ends.all in
     let low = (size_bounds c.args.shape.now.page_size c.args.shape.now.accepted).0 in
     let mark : layout_mark c.args.shape.now.layout c.setup_of-setup.result.page_size (tree_of listing) ≡ layout_mark c.args.shape.now.layout c.args.shape.now.page_size (tree_of listing) = ap (λ (n : ℕ). layout_mark c.args.shape.now.layout n (tree_of listing)) c.setup_of-setup.ensures.page_size in
-    rw e_is (stops_later g.S.Sink c.args.sink.now c.put_pages.new.sink _ _ _ whole planned.fits c.put_first_pages.new.sink _
+    stops_later g.S.Sink c.args.sink.now c.put_pages.new.sink _ _ _ whole planned.fits c.put_first_pages.new.sink _
     c.in_ok-put_first_pages.ensures ends.puts ends.short
-    (λ e. let above = ends.returned.large e in too_large c.args.shape.now.page_size c.setup_of-setup.result.limit (layout_mark c.args.shape.now.layout c.args.shape.now.page_size (tree_of listing)) _ (omega arith) c.setup_of-setup.ensures.limit (omega arith) (long g began listing lists))))
+    (λ e. let above = ends.returned.large e in too_large c.args.shape.now.page_size c.setup_of-setup.result.limit (layout_mark c.args.shape.now.layout c.args.shape.now.page_size (tree_of listing)) _ (omega arith) c.setup_of-setup.ensures.limit (omega arith) (long g began listing lists)))
 
 pub returns-clause-copies : goal.returns-clause-copies
 returns-clause-copies g c =
