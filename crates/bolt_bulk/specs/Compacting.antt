@@ -14,10 +14,6 @@ use Rattle.bolt_bulk.specs.declared.fault.PlanFault.TheVariants as planned
 use Rattle.bolt_bulk.specs.{declared.members_copy.Done.Done, declared.members_copy.Plan.Plan}
 use Rattle.bolt_layout.specs.declared.layout.Layout.{Layout}
 
--- the layout that a copy of a checked file has
-abbrev pub layout_for : Layout → Checked → (page_size : ℕ) → List Member → List ℕ
-layout_for which checked page_size listing = layout_of_listing which page_size listing (meta_of checked).root_sequence
-
 -- a layout has fewer bytes than this
 abbrev pub too_many : ℕ
 too_many = 2 ^ 63

@@ -1,5 +1,5 @@
 -- The plan, the first pages, and the pages of all buckets, which are the layout.
-use Rattle.std.proofs.Common.{Err, List, length, Result, rules, subst, ◌≡◌, ◌∙◌, ◌*◌, ◌++◌, ℕ, refl, sym, ap, arith}
+use Rattle.std.proofs.Common.{Err, List, length, Result, subst, ◌≡◌, ◌∙◌, ◌*◌, ◌++◌, ℕ, refl, sym, ap, arith}
 use Rattle.std.proofs.Math.Logic.{∥∥₁_elim}
 use Rattle.std.proofs.Props.{props}
 use Rattle.std.proofs.lemmas.Result.{err_from_is_err_and}
