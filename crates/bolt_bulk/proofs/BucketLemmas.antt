@@ -59,7 +59,7 @@ take_runs : (page_size : ℕ) (final made runs : BucketRunsView) (e : LeafElemen
 take_runs page_size final made runs e size p q = p ∙ ap (λ (m : BucketRunsView). runs_push m e size m.next) q
 
 module _ {S A B : Type 0} {sink : Ghosts S} {old new : S} {setup : PageSetup} {before made after : BucketRuns} {number next size : ℕ} (e : LeafElement) (result : Result B BulkFault) (sized : size ≡ element_size e) where
-  pub takes_item : {x : A} → MakesRoom {A = A} sink old new setup before number e.key size made next (Ok x) → IfErr result (λ f. f ≡ fault.Memory) → OnOk result (Pushes made after e size)
+  pub takes_item : {x : A} → MakesRoom sink old new setup {A = A} before number e.key size made next (Ok x) → IfErr result (λ f. f ≡ fault.Memory) → OnOk result (Pushes made after e size)
       → TakesItem sink old new setup before number e after next result
   takes_item room memory pushes =
       let here = rw sized at room in
@@ -69,7 +69,7 @@ module _ {S A B : Type 0} {sink : Ghosts S} {old new : S} {setup : PageSetup} {b
       }
 
   -- there was no room
-  pub takes_none : {f : BulkFault} → IsErrAnd result (λ g. g ≡ f) → MakesRoom {A = A} sink old new setup before number e.key size made next (Err f) → TakesItem sink old new setup before number e after next result
+  pub takes_none : {f : BulkFault} → IsErrAnd result (λ g. g ≡ f) → MakesRoom sink old new setup {A = A} before number e.key size made next (Err f) → TakesItem sink old new setup before number e after next result
   takes_none same room =
       let (_, is, e_is) = err_from_is_err_and result same in
       let here = rw sized at room in

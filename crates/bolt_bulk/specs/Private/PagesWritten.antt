@@ -22,14 +22,15 @@ OnlyAbove setup mark result = IfErr result (λ e. e ≡ fault.TooLarge → setup
 abbrev pub page_text : PageSetup → Placed → List ℕ
 page_text setup page = placed_bytes setup.page_size (page ∷ [])
 
--- A call writes pages up to this mark. `next` is the number of the next page then, which is within the limit.
-pub record Writes {S A : Type 0} (sink : Ghosts S) (old new : S) (setup : PageSetup) (row : List Placed) (mark next : ℕ) (result : Result A BulkFault) : Type 0 where
-  pub pages : Puts sink old new setup row result
-  pub within : OnOk result (next ≤ setup.limit)
-  pub large : OnlyAbove setup mark result
+module _ {S A : Type 0} (sink : Ghosts S) (old new : S) (setup : PageSetup) (row : List Placed) (mark next : ℕ) (result : Result A BulkFault) where
+  -- A call writes pages up to this mark. `next` is the number of the next page then, which is within the limit.
+  pub record Writes : Type 0 where
+    pub pages : Puts sink old new setup row result
+    pub within : OnOk result (next ≤ setup.limit)
+    pub large : OnlyAbove setup mark result
 
--- Open runs close, which writes these pages. If the call fails, it leaves some of their bytes out.
-pub record Closes {S A : Type 0} (sink : Ghosts S) (old new : S) (setup : PageSetup) (row : List Placed) (mark next : ℕ) (result : Result A BulkFault) : Type 0 where
-  pub writes : Writes sink old new setup row mark next result
-  pub short : LeavesOut sink old new setup row result
-  pub marked : OnOk result (next ≡ mark)
+  -- Open runs close, which writes these pages. If the call fails, it leaves some of their bytes out.
+  pub record Closes : Type 0 where
+    pub writes : Writes
+    pub short : LeavesOut sink old new setup row result
+    pub marked : OnOk result (next ≡ mark)

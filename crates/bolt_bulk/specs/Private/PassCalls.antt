@@ -20,12 +20,14 @@ TakesValue sink old new before after key value result =
 
 -- a value of the bucket that may be inline is kept, and nothing is written
 abbrev pub KeepsValue : {A : Type 0} → (before after : Pass) → (key value : List ℕ) → Result A BulkFault → Type 0
-KeepsValue before after key value result = (wanted : Wanted) (rest : Tree) (levels : List Level) (put : List Placed) → IsAt wanted before levels (with_value key value rest) put
+KeepsValue before after key value result =
+    (wanted : Wanted) (rest : Tree) (levels : List Level) (put : List Placed) → IsAt wanted before levels (with_value key value rest) put
     → OnOk result (IsAt wanted after levels rest put)
 
 -- the next entry is a bucket, which may be inline
 abbrev pub BeginsBucket : (before after : Pass) → (key : List ℕ) → (sequence : ℕ) → Type 0
-BeginsBucket before after key sequence = (wanted : Wanted) (inside rest : Tree) (levels : List Level) (put : List Placed) → IsAt wanted before levels (with_bucket key sequence inside rest) put
+BeginsBucket before after key sequence =
+    (wanted : Wanted) (inside rest : Tree) (levels : List Level) (put : List Placed) → IsAt wanted before levels (with_bucket key sequence inside rest) put
     → IsAt wanted after (record { key = key; after = rest } ∷ levels) inside put
 
 -- the bucket that might have been inline has a root page, and is opened
@@ -35,24 +37,28 @@ OpensPending sink old new before after result = (wanted : Wanted) (left : Tree) 
     → Steps wanted sink old new before.setup put (IsAt wanted after levels left) result
 
 -- the next entry is a bucket, and is entered
-abbrev pub EntersBucket : {S A : Type 0} → Ghosts S → (old new : S) → (before after : Pass) → (key : List ℕ) → (sequence : ℕ) → Result A BulkFault → Type 0
+abbrev pub EntersBucket : {S A : Type 0} → Ghosts S → (old new : S) → (before after : Pass) → (key : List ℕ) → (sequence : ℕ)
+    → Result A BulkFault → Type 0
 EntersBucket sink old new before after key sequence result =
     (wanted : Wanted) (inside rest : Tree) (levels : List Level) (put : List Placed) → IsAt wanted before levels (with_bucket key sequence inside rest) put
     → Steps wanted sink old new before.setup put (IsAt wanted after (record { key = key; after = rest } ∷ levels) inside) result
 
 -- the innermost bucket has no more entries, and is left
 abbrev pub LeavesBucket : {S A : Type 0} → Ghosts S → (old new : S) → (before after : Pass) → Result A BulkFault → Type 0
-LeavesBucket sink old new before after result = (wanted : Wanted) (level : Level) (levels : List Level) (put : List Placed) → IsAt wanted before (level ∷ levels) end put
+LeavesBucket sink old new before after result =
+    (wanted : Wanted) (level : Level) (levels : List Level) (put : List Placed) → IsAt wanted before (level ∷ levels) end put
     → Steps wanted sink old new before.setup put (IsAt wanted after levels level.after) result
 
 -- no further member is in a bucket deeper than this, and those buckets are left
 abbrev pub LeavesTo : {S A : Type 0} → Ghosts S → (old new : S) → (before after : Pass) → (depth : ℕ) → Result A BulkFault → Type 0
-LeavesTo sink old new before after depth result = (wanted : Wanted) (members : List Member) (put : List Placed) → HasLeft wanted before members put → IsNoDeeper depth members
+LeavesTo sink old new before after depth result =
+    (wanted : Wanted) (members : List Member) (put : List Placed) → HasLeft wanted before members put → IsNoDeeper depth members
     → Steps wanted sink old new before.setup put (HasLeft wanted after members) result
 
 -- the next member is taken
 abbrev pub TakesMember : {S A : Type 0} → Ghosts S → (old new : S) → (before after : Pass) → Member → Result A BulkFault → Type 0
-TakesMember sink old new before after member result = (wanted : Wanted) (members : List Member) (put : List Placed) → HasLeft wanted before (member ∷ members) put
+TakesMember sink old new before after member result =
+    (wanted : Wanted) (members : List Member) (put : List Placed) → HasLeft wanted before (member ∷ members) put
     → Steps wanted sink old new before.setup put (HasLeft wanted after members) result
 
 -- no member is left, and the root bucket ends
