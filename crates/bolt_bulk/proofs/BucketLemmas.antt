@@ -5,7 +5,7 @@ use Rattle.std.proofs.lemmas.List.{length-map}
 use Rattle.bolt_format.specs.{Elements.BranchElement, Elements.LeafElement, declared.element.Leaf.Leaf}
 use Rattle.bolt_format.specs.{declared.sink.Sink.Ghosts}
 use Rattle.bolt_layout.specs.{Levels.overflow_of}
-use Rattle.bolt_bulk.specs.Private.{AreHeld, bucket_end_next, BucketRunsView, HasRoomFor, held_views, IsLeafRun, leaf_closed, leaf_key, leaf_page, leaves_have_room, leaves_of, runs_close_put, runs_end_next, runs_end_put, runs_next, runs_push, runs_put, runs_room, runs_room_put, runs_taking, Closes, Writes, bucket_runs, element_size, MakesRoom, Pushes, TakesItem}
+use Rattle.bolt_bulk.specs.Private.{AreHeld, bucket_end_next, BucketRunsView, HasRoomFor, held_views, IsLeafRun, leaf_closed, leaf_key, leaf_page, leaves_have_room, leaves_of, runs_close_put, runs_end_next, runs_end_put, runs_next, runs_push, runs_put, runs_room, runs_room_put, Closes, Writes, element_size, MakesRoom, Pushes, TakesItem}
 use Rattle.bolt_bulk.specs.{declared.fault.BulkFault.BulkFault, declared.held.Held.Held, declared.leaf_run.LeafRun.LeafRun}
 use Rattle.bolt_bulk.proofs.{ClimbLemmas.next_grows, ClimbLemmas.end_grows, HeldRuns.none_small, RunLemmas.few_or_fits}
 use Rattle.bolt_bulk.proofs.PutsLemmas.{closes_stop, closes_then, writes_on, writes_stop, writes_then}
@@ -54,10 +54,6 @@ module _ {S B : Type 0} {sink : Ghosts S} {old new : S} {setup : PageSetup} (run
   end_made closed same one two = rw (same, one.marked) at (closes_then _ one two)
 
 -- an item was taken
-take_runs : (page_size : ℕ) (final made runs : BucketRunsView) (e : LeafElement) (size : ℕ) → final ≡ runs_push made e size made.next → made ≡ runs_room page_size runs e.key size
-    → final ≡ runs_taking page_size runs e size
-take_runs page_size final made runs e size p q = p ∙ ap (λ (m : BucketRunsView). runs_push m e size m.next) q
-
 module _ {S A B : Type 0} {sink : Ghosts S} {old new : S} {setup : PageSetup} {before made after : BucketRuns} {number next size : ℕ} (e : LeafElement) (result : Result B BulkFault) (sized : size ≡ element_size e) where
   pub takes_item : {x : A} → MakesRoom sink old new setup {A = A} before number e.key size made next (Ok x) → IfErr result (λ f. f ≡ fault.Memory) → OnOk result (Pushes made after e size)
       → TakesItem sink old new setup before number e after next result
@@ -65,7 +61,7 @@ module _ {S A B : Type 0} {sink : Ghosts S} {old new : S} {setup : PageSetup} {b
       let here = rw sized at room in
       record {
         writes = writes_on result memory here.writes;
-        runs = on_ok_weaker result (λ more. take_runs setup.page_size _ (bucket_runs made next) (bucket_runs before number) e (element_size e) (more next next) here.runs) (rw sized at pushes);
+        runs = on_ok_weaker result (λ more. more next next ∙ ap (λ (made : BucketRunsView). runs_push made e (element_size e) made.next) here.runs) (rw sized at pushes);
       }
 
   -- there was no room

@@ -32,4 +32,5 @@ PutsMembers sink old new lists members setup limits notes result =
 -- this holds of each layout of a listing that is of one tree, if it has fewer than 2^63 bytes
 abbrev pub ForFitting : (page_size sequence : ℕ) → (Layout → List Member → Type 0) → Type 0
 ForFitting page_size sequence P =
-    (which : Layout) (listing : List Member) → ∥ IsOfOneTree listing ∥₁ → length (layout_of_listing which page_size listing sequence) < too_many → P which listing
+    (which : Layout) (listing : List Member) → ∥ IsOfOneTree listing ∥₁ → length (layout_of_listing which page_size listing sequence) < too_many
+    → P which listing

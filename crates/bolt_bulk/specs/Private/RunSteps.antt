@@ -33,14 +33,16 @@ module _ {S : Type 0} (sink : Ghosts S) (old new : S) (setup : PageSetup) where
     pub up : IfOk result (λ up. branch_view up ≡ leaf_closed run number)
 
   -- A run takes the element of a page that has closed. The next page has this first key; if the run has no room for it, the run closes.
-  pub record TakesPage (key : List ℕ) (closed : BranchElement) (number next : ℕ) (before after : BranchRun) (result : Result (Option Branch) BulkFault) : Type 0 where
+  pub record TakesPage (key : List ℕ) (closed : BranchElement) (number next : ℕ) (before after : BranchRun)
+      (result : Result (Option Branch) BulkFault) : Type 0 where
     pub writes : Writes sink old new setup (taking_puts P key closed number (run_view before)) (taking_next P key closed number (run_view before)) next result
     pub run : OnOk result (run_view after ≡ run_taking P key closed (run_view before))
     pub marked : OnOk result (next ≡ taking_next P key closed number (run_view before))
     pub up : IfOk result (λ up. option_map branch_view up ≡ taking_up P key closed number (run_view before))
 
   -- the element goes up as long as runs close
-  pub record Climbs {A : Type 0} (key : List ℕ) (closed : BranchElement) (number next : ℕ) (before after : UpperRuns) (result : Result A BulkFault) : Type 0 where
+  pub record Climbs {A : Type 0} (key : List ℕ) (closed : BranchElement) (number next : ℕ) (before after : UpperRuns)
+      (result : Result A BulkFault) : Type 0 where
     pub writes : Writes sink old new setup (runs_put P key closed number (runs_above before.runs.items))
         (runs_next P key closed number (runs_above before.runs.items)) next result
     pub runs : OnOk result (runs_above after.runs.items
@@ -68,12 +70,14 @@ module _ {S : Type 0} (sink : Ghosts S) (old new : S) (setup : PageSetup) where
   WritesRoom runs key size next result = Writes sink old new setup (runs_room_put P runs key size) (runs_room P runs key size).next next result
 
   -- room is made
-  pub record MakesRoom {A : Type 0} (before : BucketRuns) (number : ℕ) (key : List ℕ) (size : ℕ) (after : BucketRuns) (next : ℕ) (result : Result A BulkFault) : Type 0 where
+  pub record MakesRoom {A : Type 0} (before : BucketRuns) (number : ℕ) (key : List ℕ) (size : ℕ) (after : BucketRuns) (next : ℕ)
+      (result : Result A BulkFault) : Type 0 where
     pub writes : WritesRoom (bucket_runs before number) key size next result
     pub runs : OnOk result (bucket_runs after next ≡ runs_room P (bucket_runs before number) key size)
 
   -- an item is added, after room was made for it
-  pub record TakesItem {A : Type 0} (before : BucketRuns) (number : ℕ) (e : LeafElement) (after : BucketRuns) (next : ℕ) (result : Result A BulkFault) : Type 0 where
+  pub record TakesItem {A : Type 0} (before : BucketRuns) (number : ℕ) (e : LeafElement) (after : BucketRuns) (next : ℕ)
+      (result : Result A BulkFault) : Type 0 where
     pub writes : WritesRoom (bucket_runs before number) e.key (element_size e) next result
     pub runs : OnOk result (bucket_runs after next ≡ runs_taking P (bucket_runs before number) e (element_size e))
 
