@@ -6,11 +6,10 @@ use Rattle.bolt_format.specs.{Elements.BranchElement, Elements.LeafElement, decl
 use Rattle.bolt_format.specs.{declared.sink.Sink.Ghosts}
 use Rattle.bolt_layout.specs.{Levels.overflow_of}
 use Rattle.bolt_bulk.specs.Private.{AreHeld, bucket_end_next, BucketRunsView, HasRoomFor, held_views, IsLeafRun, leaf_closed, leaf_key, leaf_page, leaves_have_room, leaves_of, runs_close_put, runs_end_next, runs_end_put, runs_next, runs_push, runs_put, runs_room, runs_room_put, Closes, Writes, element_size, MakesRoom, Pushes, TakesItem}
-use Rattle.bolt_bulk.specs.{declared.fault.BulkFault.BulkFault, declared.held.Held.Held, declared.leaf_run.LeafRun.LeafRun}
+use Rattle.bolt_bulk.specs.{declared.bucket_runs.BucketRuns.BucketRuns, declared.fault.BulkFault.BulkFault, declared.held.Held.Held}
+use Rattle.bolt_bulk.specs.{declared.leaf_run.LeafRun.LeafRun, declared.page_setup.PageSetup.PageSetup}
 use Rattle.bolt_bulk.proofs.{ClimbLemmas.next_grows, ClimbLemmas.end_grows, HeldRuns.none_small, RunLemmas.few_or_fits}
 use Rattle.bolt_bulk.proofs.PutsLemmas.{closes_stop, closes_then, writes_on, writes_stop, writes_then}
-use Rattle.bolt_bulk.specs.declared.page_setup.PageSetup.{PageSetup}
-use Rattle.bolt_bulk.specs.declared.bucket_runs.BucketRuns.{BucketRuns}
 use Rattle.bolt_bulk.specs.declared.fault.BulkFault.TheVariants as fault
 use Rattle.std.proofs.lemmas.Result.{err_from_is_err_and, on_ok_weaker}
 use Rattle.std.specs.Prelude.{IfErr, IsErrAnd, OnOk}
