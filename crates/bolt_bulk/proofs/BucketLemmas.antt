@@ -1,15 +1,18 @@
 -- What is open of a bucket: its leaf closes, and then runs above it.
-use Rattle.std.proofs.Common.{◌≡◌, ◌≢◌, ◌∙◌, ℕ, ◌+◌, ◌<◌, ◌≤◌, true, false, List, [], ◌∷◌, ◌++◌, length, OnErr, Option, Result, Ok, Err, ap, arith}
+use Rattle.std.proofs.Common.{◌≡◌, ◌∙◌, ℕ, ◌+◌, ◌<◌, ◌≤◌, true, false, List, [], ◌∷◌, length, Result, Ok, Err, ap, arith}
 use Rattle.std.proofs.lemmas.Bool.{leb-true, ltb-true}
 use Rattle.std.proofs.lemmas.List.{length-map}
-use Rattle.bolt_format.specs.{Elements.BranchElement, Elements.LeafElement, Sinks.AppendsProperPrefix, declared.element.Leaf.Leaf, Wrote.Wrote}
-use Rattle.bolt_format.specs.{Endings.Ending, Endings.whole, declared.sink.Sink.Ghosts}
-use Rattle.bolt_layout.specs.{Layout.placed_bytes, Levels.overflow_of, PageBytes.page_bytes}
-use Rattle.bolt_bulk.specs.Private.{AreHeld, bucket_end_next, BucketRunsView, HasRoomFor, held_views, IsLeafRun, leaf_closed, leaf_key, leaf_page, leaves_have_room, leaves_of, runs_close_put, runs_end_put, runs_push, runs_put, runs_room, runs_room_put, runs_taking}
-use Rattle.bolt_bulk.specs.{declared.fault.BulkFault.BulkFault, declared.held.Held.Held, declared.leaf_run.LeafRun.LeafRun}
+use Rattle.bolt_format.specs.{Elements.BranchElement, Elements.LeafElement, declared.element.Leaf.Leaf}
+use Rattle.bolt_format.specs.{declared.sink.Sink.Ghosts}
+use Rattle.bolt_layout.specs.{Levels.overflow_of}
+use Rattle.bolt_bulk.specs.Private.{AreHeld, bucket_end_next, BucketRunsView, HasRoomFor, held_views, IsLeafRun, leaf_closed, leaf_key, leaf_page, leaves_have_room, leaves_of, runs_close_put, runs_end_next, runs_end_put, runs_next, runs_push, runs_put, runs_room, runs_room_put, Closes, Writes, element_size, MakesRoom, Pushes, TakesItem}
+use Rattle.bolt_bulk.specs.{declared.bucket_runs.BucketRuns.BucketRuns, declared.fault.BulkFault.BulkFault, declared.held.Held.Held}
+use Rattle.bolt_bulk.specs.{declared.leaf_run.LeafRun.LeafRun, declared.page_setup.PageSetup.PageSetup}
 use Rattle.bolt_bulk.proofs.{ClimbLemmas.next_grows, ClimbLemmas.end_grows, HeldRuns.none_small, RunLemmas.few_or_fits}
-use Rattle.bolt_bulk.proofs.PutsLemmas.{proper_same, pages_some, short_then}
-use Rattle.bolt_format.proofs.WroteLemmas.{Wrote-then, Wrote-same}
+use Rattle.bolt_bulk.proofs.PutsLemmas.{closes_stop, closes_then, writes_on, writes_stop, writes_then}
+use Rattle.bolt_bulk.specs.declared.fault.BulkFault.TheVariants as fault
+use Rattle.std.proofs.lemmas.Result.{err_from_is_err_and, on_ok_weaker}
+use Rattle.std.specs.Prelude.{IfErr, IsErrAnd, OnOk}
 
 -- if a run has room on its page, an item can be added
 pub room_fits : (page_size size : ℕ) (run : LeafRun) → page_size ≤ 33554432 → IsLeafRun run → size < 4294967280 → leaves_have_room page_size (leaves_of run) size ≡ true → HasRoomFor run size
@@ -24,50 +27,45 @@ pub closed_short : (inlined : List Leaf) (items : List Held) (size next : ℕ) (
     → closed ≡ leaf_closed (record { elements = held_views inlined items; size = size }) next → length closed.key ≤ 1073741824
 closed_short inlined items size next closed all same = omega (arith, ap (λ (e : BranchElement). length e.key) same, first_short inlined items all)
 
--- a leaf that has no room closes, and its element climbs
-pub room_large : (page_size limit : ℕ) (runs : BucketRunsView) (key : List ℕ) (size : ℕ) → leaves_have_room page_size runs.leaves size ≡ false
-    → limit < runs.next + (1 + overflow_of page_size runs.leaves.size) → limit < (runs_room page_size runs key size).next
-room_large page_size limit runs key size none large = grind (arith, next_grows)
+module _ {S B : Type 0} {sink : Ghosts S} {old new : S} {setup : PageSetup} (runs : BucketRunsView) {next : ℕ} {result : Result B BulkFault} where
+  -- a leaf that has no room for the next item closes, and then its element climbs
+  pub room_stops : {A : Type 0} {after : ℕ} {e : BulkFault} (key : List ℕ) (size : ℕ) → leaves_have_room setup.page_size runs.leaves size ≡ false → IsErrAnd result (λ f. f ≡ e)
+      → Closes {A = A} sink old new setup (leaf_page setup.page_size runs.leaves runs.next ∷ []) (runs.next + (1 + overflow_of setup.page_size runs.leaves.size)) after (Err e)
+      → Writes sink old new setup (runs_room_put setup.page_size runs key size) (runs_room setup.page_size runs key size).next next result
+  room_stops key size none same one = rw none (writes_stop _ same (next_grows setup.page_size key (leaf_closed runs.leaves runs.next) _ runs.uppers) one.writes)
 
-pub room_made : {S : Type 0} {sink : Ghosts S} (page_size : ℕ) (runs : BucketRunsView) (key : List ℕ) (size : ℕ) (old mid new : S) (closed : BranchElement) (after : ℕ) {end : Ending}
-    → leaves_have_room page_size runs.leaves size ≡ false → closed ≡ leaf_closed runs.leaves runs.next → after ≡ runs.next + (1 + overflow_of page_size runs.leaves.size)
-    → Wrote sink old mid (page_bytes page_size runs.next (leaf_page page_size runs.leaves runs.next).view) whole
-    → Wrote sink mid new (placed_bytes page_size (runs_put page_size key closed after runs.uppers)) end
-    → Wrote sink old new (placed_bytes page_size (runs_room_put page_size runs key size)) end
-room_made page_size runs key size old mid new closed after none same number one two = grind (arith, Wrote-same, Wrote-then)
+  pub room_made : {A : Type 0} {after : ℕ} {mid : S} {x : A} (key : List ℕ) (size : ℕ) (closed : BranchElement) → leaves_have_room setup.page_size runs.leaves size ≡ false → closed ≡ leaf_closed runs.leaves runs.next
+      → Closes {A = A} sink old mid setup (leaf_page setup.page_size runs.leaves runs.next ∷ []) (runs.next + (1 + overflow_of setup.page_size runs.leaves.size)) after (Ok x)
+      → Writes sink mid new setup (runs_put setup.page_size key closed after runs.uppers) (runs_next setup.page_size key closed after runs.uppers) next result
+      → Writes sink old new setup (runs_room_put setup.page_size runs key size) (runs_room setup.page_size runs key size).next next result
+  room_made key size closed none same one two = rw none (rw (same, one.marked) at (writes_then _ one.writes two))
 
--- the end: the leaf closes, and then each run above
-pub end_large : (page_size limit : ℕ) (runs : BucketRunsView) → limit < runs.next + (1 + overflow_of page_size runs.leaves.size) → limit < bucket_end_next page_size runs
-end_large page_size limit runs large = omega (arith, end_grows)
+  -- the end: the leaf closes, and then each run above
+  pub end_stops : {A : Type 0} {after : ℕ} {e : BulkFault} → IsErrAnd result (λ f. f ≡ e)
+      → Closes {A = A} sink old new setup (leaf_page setup.page_size runs.leaves runs.next ∷ []) (runs.next + (1 + overflow_of setup.page_size runs.leaves.size)) after (Err e)
+      → Closes sink old new setup (runs_end_put setup.page_size runs) (bucket_end_next setup.page_size runs) next result
+  end_stops same one = closes_stop _ same (end_grows setup.page_size (leaf_closed runs.leaves runs.next) _ runs.uppers) one
 
-end_text : (page_size : ℕ) (runs : BucketRunsView) (closed : BranchElement) (after : ℕ) → closed ≡ leaf_closed runs.leaves runs.next → after ≡ runs.next + (1 + overflow_of page_size runs.leaves.size)
-    → page_bytes page_size runs.next (leaf_page page_size runs.leaves runs.next).view ++ placed_bytes page_size (runs_close_put page_size closed after runs.uppers) ≡ placed_bytes page_size (runs_end_put page_size runs)
-end_text page_size runs closed after same number = grind arith
-
-pub end_made : {S : Type 0} {sink : Ghosts S} (page_size : ℕ) (runs : BucketRunsView) (old mid new : S) (closed : BranchElement) (after : ℕ) {end : Ending}
-    → closed ≡ leaf_closed runs.leaves runs.next → after ≡ runs.next + (1 + overflow_of page_size runs.leaves.size)
-    → Wrote sink old mid (page_bytes page_size runs.next (leaf_page page_size runs.leaves runs.next).view) whole
-    → Wrote sink mid new (placed_bytes page_size (runs_close_put page_size closed after runs.uppers)) end
-    → Wrote sink old new (placed_bytes page_size (runs_end_put page_size runs)) end
-end_made page_size runs old mid new closed after same number one two =
-    Wrote-same (end_text page_size runs closed after same number) (Wrote-then one two)
-
-on_err_same : {A E : Type 0} (old new : Option (List ℕ)) (text same : List ℕ) (r : Result A E) → text ≡ same → OnErr r (AppendsProperPrefix old new text) → OnErr r (AppendsProperPrefix old new same)
-on_err_same old new text same (Ok x) e a = tt
-on_err_same old new text same (Err x) e a = proper_same old new text same e a
-
-pub end_short : {S B : Type 0} {sink : Ghosts S} (page_size : ℕ) (runs : BucketRunsView) (old mid new : S) (closed : BranchElement) (after : ℕ) (result : Result B BulkFault)
-    → closed ≡ leaf_closed runs.leaves runs.next → after ≡ runs.next + (1 + overflow_of page_size runs.leaves.size)
-    → Wrote sink old mid (page_bytes page_size runs.next (leaf_page page_size runs.leaves runs.next).view) whole
-    → OnErr result (AppendsProperPrefix (sink.taken mid) (sink.taken new) (placed_bytes page_size (runs_close_put page_size closed after runs.uppers)))
-    → OnErr result (AppendsProperPrefix (sink.taken old) (sink.taken new) (placed_bytes page_size (runs_end_put page_size runs)))
-end_short page_size runs old mid new closed after result same number one two = grind (arith, on_err_same, end_text, short_then)
-
-pub end_some : (page_size : ℕ) (runs : BucketRunsView) → placed_bytes page_size (runs_end_put page_size runs) ≢ []
-end_some page_size runs =
-    pages_some page_size (leaf_page page_size runs.leaves runs.next) (runs_close_put page_size (leaf_closed runs.leaves runs.next) (runs.next + (1 + overflow_of page_size runs.leaves.size)) runs.uppers)
+  pub end_made : {A : Type 0} {after : ℕ} {mid : S} {x : A} (closed : BranchElement) → closed ≡ leaf_closed runs.leaves runs.next
+      → Closes {A = A} sink old mid setup (leaf_page setup.page_size runs.leaves runs.next ∷ []) (runs.next + (1 + overflow_of setup.page_size runs.leaves.size)) after (Ok x)
+      → Closes sink mid new setup (runs_close_put setup.page_size closed after runs.uppers) (runs_end_next setup.page_size closed after runs.uppers) next result
+      → Closes sink old new setup (runs_end_put setup.page_size runs) (bucket_end_next setup.page_size runs) next result
+  end_made closed same one two = rw (same, one.marked) at (closes_then _ one two)
 
 -- an item was taken
-pub take_runs : (page_size : ℕ) (final made runs : BucketRunsView) (e : LeafElement) (size : ℕ) → final ≡ runs_push made e size made.next → made ≡ runs_room page_size runs e.key size
-    → final ≡ runs_taking page_size runs e size
-take_runs page_size final made runs e size p q = p ∙ ap (λ (m : BucketRunsView). runs_push m e size m.next) q
+module _ {S A B : Type 0} {sink : Ghosts S} {old new : S} {setup : PageSetup} {before made after : BucketRuns} {number next size : ℕ} (e : LeafElement) (result : Result B BulkFault) (sized : size ≡ element_size e) where
+  pub takes_item : {x : A} → MakesRoom sink old new setup {A = A} before number e.key size made next (Ok x) → IfErr result (λ f. f ≡ fault.Memory) → OnOk result (Pushes made after e size)
+      → TakesItem sink old new setup before number e after next result
+  takes_item room memory pushes =
+      let here = rw sized at room in
+      record {
+        writes = writes_on result memory here.writes;
+        runs = on_ok_weaker result (λ more. more next next ∙ ap (λ (made : BucketRunsView). runs_push made e (element_size e) made.next) here.runs) (rw sized at pushes);
+      }
+
+  -- there was no room
+  pub takes_none : {f : BulkFault} → IsErrAnd result (λ g. g ≡ f) → MakesRoom sink old new setup {A = A} before number e.key size made next (Err f) → TakesItem sink old new setup before number e after next result
+  takes_none same room =
+      let (_, is, e_is) = err_from_is_err_and result same in
+      let here = rw sized at room in
+      rw (is, e_is) (record { writes = record { pages = here.writes.pages; within = tt; large = here.writes.large }; runs = tt })

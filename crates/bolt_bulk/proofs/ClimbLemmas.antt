@@ -1,27 +1,26 @@
 -- A bucket's open runs, one after another: the climb over them, and the end of the bucket, at which each closes.
-use Rattle.std.proofs.Common.{◌≡◌, ◌∙◌, ℕ, suc, ◌+◌, ◌<◌, ◌≤◌, true, false, List, [], ◌∷◌, ◌++◌, length, map, take, drop, get_or, set, if◌then◌else◌, zero, add-one, Option, Some, None, option_map, refl, sym, ap, subst, arith, append_assoc}
+use Rattle.std.proofs.Common.{◌≡◌, ◌∙◌, ℕ, suc, ◌+◌, ◌<◌, ◌≤◌, true, false, List, [], ◌∷◌, ◌++◌, length, map, take, drop, get_or, set, if◌then◌else◌, zero, add-one, Option, Some, None, Err, option_map, refl, sym, ap, subst, arith, append_assoc}
 use Rattle.std.proofs.lemmas.List.{length-map, drop_more, drop-set-lt, set_split, take_more_set}
 use Rattle.std.proofs.Math.ListN.{get_or-map}
 use Rattle.std.proofs.lemmas.Option.{none-some, same_Some}
 use Rattle.std.specs.List.{AllByRecursion}
-use Rattle.bolt_format.specs.{ElementPlaces.branch_view, Elements.BranchElement, Sinks.AppendsProperPrefix, declared.element.Branch.Branch, Wrote.Wrote}
+use Rattle.bolt_format.specs.{ElementPlaces.branch_view, Elements.BranchElement, declared.element.Branch.Branch, Wrote.Wrote}
 use Rattle.bolt_format.specs.{Endings.whole, declared.sink.Sink.Ghosts}
-use Rattle.bolt_bulk.specs.declared.branch_run.BranchRun.{BranchRun}
-use Rattle.bolt_bulk.specs.Private.{element_up, IsStanding, key_size, no_run, one_closed, run_kept, run_page, run_push, run_stays, run_view, runs_above, runs_climb, runs_close_put, runs_end_next, runs_next, runs_put, runs_root, RunView, taking_next, taking_puts, taking_up}
-use Rattle.bolt_bulk.specs.{declared.fault.BulkFault.BulkFault, BulkEndings.fault_ending}
+use Rattle.bolt_bulk.specs.Private.{element_up, IsStanding, key_size, no_run, one_closed, run_kept, run_page, run_push, run_stays, run_view, runs_above, runs_climb, runs_close_put, runs_end_next, runs_next, runs_put, runs_root, RunView, taking_next, taking_puts, taking_up, Closes, Writes}
+use Rattle.bolt_bulk.specs.{declared.branch_run.BranchRun.BranchRun, declared.fault.BulkFault.BulkFault, declared.page_setup.PageSetup.PageSetup}
 use Rattle.bolt_layout.specs.{Laid.Placed, Levels.overflow_of, Limits.one_less, Layout.placed_bytes}
 use Rattle.bolt_bulk.proofs.{RunLemmas.key_pushed, PutsLemmas.bytes-append, PutsLemmas.short_stop, PutsLemmas.Wrote-stops}
 use Rattle.bolt_format.proofs.WroteFronts.{WroteFront, front_none, front_more, front_stop, front_whole}
 
 -- The whole climb, from an element, a number and runs; and the climb that is left, from the runs from number i on.
-pub record Climbing {S : Type 0} (page_size : ℕ) (new : Option ℕ) (key : List ℕ) (e0 : BranchElement) (n0 : ℕ) (runs0 : List RunView) (sink : Ghosts S) (old later : S)
+pub record Climbing {S : Type 0} (setup : PageSetup) (new : Option ℕ) (key : List ℕ) (e0 : BranchElement) (n0 : ℕ) (runs0 : List RunView) (sink : Ghosts S) (old later : S)
     (runs : List RunView) (i : ℕ) (e : BranchElement) (next : ℕ) : Type 0 where
-  pub climbs : runs_climb page_size new key e0 n0 runs0 ≡ take i runs ++ runs_climb page_size new key e next (drop i runs)
-  pub nexts : runs_next page_size key e0 n0 runs0 ≡ runs_next page_size key e next (drop i runs)
-  pub front : WroteFront sink old later (placed_bytes page_size (runs_put page_size key e0 n0 runs0)) (placed_bytes page_size (runs_put page_size key e next (drop i runs)))
+  pub climbs : runs_climb setup.page_size new key e0 n0 runs0 ≡ take i runs ++ runs_climb setup.page_size new key e next (drop i runs)
+  pub nexts : runs_next setup.page_size key e0 n0 runs0 ≡ runs_next setup.page_size key e next (drop i runs)
+  pub front : WroteFront sink old later (placed_bytes setup.page_size (runs_put setup.page_size key e0 n0 runs0)) (placed_bytes setup.page_size (runs_put setup.page_size key e next (drop i runs)))
 
-pub climb_begins : {S : Type 0} {sink : Ghosts S} {page_size : ℕ} {new : Option ℕ} {key : List ℕ} {e : BranchElement} {next : ℕ} {runs : List RunView} {old : S} → Climbing page_size new key e next runs sink old old runs 0 e next
-climb_begins {page_size = page_size} {key = key} {e} {next} {runs} {old} = record { climbs = refl; nexts = refl; front = front_none old (placed_bytes page_size (runs_put page_size key e next runs)) }
+pub climb_begins : {S : Type 0} {sink : Ghosts S} {setup : PageSetup} {new : Option ℕ} {key : List ℕ} {e : BranchElement} {next : ℕ} {runs : List RunView} {old : S} → Climbing setup new key e next runs sink old old runs 0 e next
+climb_begins {setup = setup} {key = key} {e} {next} {runs} {old} = record { climbs = refl; nexts = refl; front = front_none old (placed_bytes setup.page_size (runs_put setup.page_size key e next runs)) }
 
 -- what the next run writes, and what is written after it
 abbrev after_put : ℕ → List ℕ → BranchElement → ℕ → RunView → List RunView → List Placed
@@ -45,30 +44,31 @@ pub next_grows : (page_size : ℕ) (key : List ℕ) (e : BranchElement) (next : 
 next_grows page_size key e next [] = omega arith
 next_grows page_size key e next (run ∷ runs) = grind (arith, next_grows page_size key (element_up e next run) (next + (1 + overflow_of page_size (run_push run e).size)) runs)
 
-module _ {S : Type 0} {sink : Ghosts S} {page_size : ℕ} {new : Option ℕ} {key : List ℕ} {e0 : BranchElement} {n0 : ℕ} {runs0 : List RunView} {old mid : S} {runs : List RunView} {i : ℕ} {e : BranchElement} {next : ℕ} {run : RunView}
-    (at : drop i runs ≡ run ∷ drop (i + 1) runs) (c : Climbing page_size new key e0 n0 runs0 sink old mid runs i e next) where
+module _ {S : Type 0} {sink : Ghosts S} {setup : PageSetup} {new : Option ℕ} {key : List ℕ} {e0 : BranchElement} {n0 : ℕ} {runs0 : List RunView} {old mid : S} {runs : List RunView} {i : ℕ} {e : BranchElement} {next : ℕ} {run : RunView}
+    (at : drop i runs ≡ run ∷ drop (i + 1) runs) (c : Climbing setup new key e0 n0 runs0 sink old mid runs i e next) where
   -- the run takes the element and stays: the climb is over
-  pub climb_stays : {later : S} → i < length runs → run_stays page_size (run_push run e) (key_size key) ≡ true → Wrote sink mid later (placed_bytes page_size (taking_puts page_size key e next run)) whole
-      → (runs_climb page_size new key e0 n0 runs0 ≡ set runs i (run_kept page_size (run_push run e) (key_size key))) × (runs_next page_size key e0 n0 runs0 ≡ next)
-      × Wrote sink old later (placed_bytes page_size (runs_put page_size key e0 n0 runs0)) whole
+  pub climb_stays : {later : S} → i < length runs → run_stays setup.page_size (run_push run e) (key_size key) ≡ true → Wrote sink mid later (placed_bytes setup.page_size (taking_puts setup.page_size key e next run)) whole
+      → (runs_climb setup.page_size new key e0 n0 runs0 ≡ set runs i (run_kept setup.page_size (run_push run e) (key_size key))) × (runs_next setup.page_size key e0 n0 runs0 ≡ next)
+      × Wrote sink old later (placed_bytes setup.page_size (runs_put setup.page_size key e0 n0 runs0)) whole
   climb_stays h room one =
-      let nexted : runs_next page_size key e next (run ∷ drop (i + 1) runs) ≡ next = rw room refl in
-      let no_more : after_put page_size key e next run (drop (i + 1) runs) ≡ [] = rw room refl in
-      let f = front_more c.front one (left_split page_size key e next run (drop (i + 1) runs) (drop i runs) at) in
+      let nexted : runs_next setup.page_size key e next (run ∷ drop (i + 1) runs) ≡ next = rw room refl in
+      let no_more : after_put setup.page_size key e next run (drop (i + 1) runs) ≡ [] = rw room refl in
+      let f = front_more c.front one (left_split setup.page_size key e next run (drop (i + 1) runs) (drop i runs) at) in
       grind (arith, set_at, front_whole)
 
   -- it closes: its element climbs on
-  pub climb_closes : {later : S} → i < length runs → run_stays page_size (run_push run e) (key_size key) ≡ false → Wrote sink mid later (placed_bytes page_size (taking_puts page_size key e next run)) whole
-      → Climbing page_size new key e0 n0 runs0 sink old later (set runs i (no_run (one_less run.left) (one_closed run.closed))) (i + 1) (element_up e next run) (next + (1 + overflow_of page_size (run_push run e).size))
+  pub climb_closes : {later : S} → i < length runs → run_stays setup.page_size (run_push run e) (key_size key) ≡ false → Wrote sink mid later (placed_bytes setup.page_size (taking_puts setup.page_size key e next run)) whole
+      → Climbing setup new key e0 n0 runs0 sink old later (set runs i (no_run (one_less run.left) (one_closed run.closed))) (i + 1) (element_up e next run) (next + (1 + overflow_of setup.page_size (run_push run e).size))
   climb_closes h room one = grind (arith, drop-set-lt, take_more_set, front_more, left_split, append_assoc)
 
   -- a fault
-  pub climb_stops : {later : S} (fault : BulkFault) → Wrote sink mid later (placed_bytes page_size (taking_puts page_size key e next run)) (fault_ending fault)
-      → Wrote sink old later (placed_bytes page_size (runs_put page_size key e0 n0 runs0)) (fault_ending fault)
-  climb_stops fault one = front_stop c.front (Wrote-stops _ fault one) (left_split page_size key e next run (drop (i + 1) runs) (drop i runs) at)
-
-  pub climb_large : (limit : ℕ) → limit < taking_next page_size key e next run → limit < runs_next page_size key e0 n0 runs0
-  climb_large limit large = grind (arith, next_grows)
+  pub climb_stops : {A B : Type 0} {later : S} {after last : ℕ} (fault : BulkFault) → Writes {A = A} sink mid later setup (taking_puts setup.page_size key e next run) (taking_next setup.page_size key e next run) after (Err fault)
+      → Writes {A = B} sink old later setup (runs_put setup.page_size key e0 n0 runs0) (runs_next setup.page_size key e0 n0 runs0) last (Err fault)
+  climb_stops fault one = record {
+    pages = front_stop c.front (Wrote-stops _ fault one.pages) (left_split setup.page_size key e next run (drop (i + 1) runs) (drop i runs) at);
+    within = tt;
+    large = λ is. let large = one.large is in grind (arith, next_grows);
+  }
 
 -- the same of the runs that the code keeps
 standing_at : (runs : List BranchRun) (i : ℕ) (run : BranchRun) → i < length runs → run ≡ get_or runs i run → AllByRecursion IsStanding (map run_view runs) → IsStanding (run_view run)
@@ -116,11 +116,11 @@ pub up_key : (e : BranchElement) (next : ℕ) (run : RunView) → IsStanding run
 up_key e next run is key = key_pushed run.elements e is.named key
 
 -- The whole end, from an element, a number and runs; and the end that is left, from the runs from number i on.
-pub record Closing {S : Type 0} (page_size : ℕ) (e0 : BranchElement) (n0 : ℕ) (runs0 : List RunView) (sink : Ghosts S) (old new : S)
+pub record Closing {S : Type 0} (setup : PageSetup) (e0 : BranchElement) (n0 : ℕ) (runs0 : List RunView) (sink : Ghosts S) (old new : S)
     (runs : List RunView) (i : ℕ) (e : BranchElement) (next : ℕ) : Type 0 where
-  pub roots : runs_root page_size e0 n0 runs0 ≡ runs_root page_size e next (drop i runs)
-  pub nexts : runs_end_next page_size e0 n0 runs0 ≡ runs_end_next page_size e next (drop i runs)
-  pub front : WroteFront sink old new (placed_bytes page_size (runs_close_put page_size e0 n0 runs0)) (placed_bytes page_size (runs_close_put page_size e next (drop i runs)))
+  pub roots : runs_root setup.page_size e0 n0 runs0 ≡ runs_root setup.page_size e next (drop i runs)
+  pub nexts : runs_end_next setup.page_size e0 n0 runs0 ≡ runs_end_next setup.page_size e next (drop i runs)
+  pub front : WroteFront sink old new (placed_bytes setup.page_size (runs_close_put setup.page_size e0 n0 runs0)) (placed_bytes setup.page_size (runs_close_put setup.page_size e next (drop i runs)))
 
 -- what the next run writes, and what is written after it
 close_left : (page_size : ℕ) (e : BranchElement) (next : ℕ) (run : RunView) (runs left : List RunView) → left ≡ run ∷ runs
@@ -135,22 +135,21 @@ pub end_grows : (page_size : ℕ) (e : BranchElement) (next : ℕ) (runs : List 
 end_grows page_size e next [] = omega arith
 end_grows page_size e next (run ∷ runs) = let ih = end_grows page_size (element_up e next run) (next + (1 + overflow_of page_size (run_push run e).size)) runs in omega arith
 
-module _ {S : Type 0} {sink : Ghosts S} {page_size : ℕ} {e0 : BranchElement} {n0 : ℕ} {runs0 : List RunView} {old mid : S} {runs : List RunView} {i : ℕ} {e : BranchElement} {next : ℕ} {run : RunView}
-    (at : drop i runs ≡ run ∷ drop (i + 1) runs) (c : Closing page_size e0 n0 runs0 sink old mid runs i e next) where
+module _ {S : Type 0} {sink : Ghosts S} {setup : PageSetup} {e0 : BranchElement} {n0 : ℕ} {runs0 : List RunView} {old mid : S} {runs : List RunView} {i : ℕ} {e : BranchElement} {next : ℕ} {run : RunView}
+    (at : drop i runs ≡ run ∷ drop (i + 1) runs) (c : Closing setup e0 n0 runs0 sink old mid runs i e next) where
   -- a run closes, and its element goes on
-  pub close_more : {later : S} (left : RunView) (up : BranchElement) (after : ℕ) → up ≡ element_up e next run → after ≡ next + (1 + overflow_of page_size (run_push run e).size)
-      → Wrote sink mid later (placed_bytes page_size (run_page page_size (run_push run e) next ∷ [])) whole → Closing page_size e0 n0 runs0 sink old later (set runs i left) (i + 1) up after
+  pub close_more : {later : S} (left : RunView) (up : BranchElement) (after : ℕ) → up ≡ element_up e next run → after ≡ next + (1 + overflow_of setup.page_size (run_push run e).size)
+      → Wrote sink mid later (placed_bytes setup.page_size (run_page setup.page_size (run_push run e) next ∷ [])) whole → Closing setup e0 n0 runs0 sink old later (set runs i left) (i + 1) up after
   close_more left up after up_is after_is one = grind (arith, drop-set-lt, front_more, close_left)
 
   -- a fault
-  pub close_stops : {later : S} (fault : BulkFault) → Wrote sink mid later (placed_bytes page_size (run_page page_size (run_push run e) next ∷ [])) (fault_ending fault)
-      → Wrote sink old later (placed_bytes page_size (runs_close_put page_size e0 n0 runs0)) (fault_ending fault)
-  close_stops fault one = front_stop c.front (Wrote-stops _ fault one) (close_left page_size e next run (drop (i + 1) runs) (drop i runs) at)
-
-  -- and it leaves something out
-  pub close_short : {later : S} → AppendsProperPrefix (sink.taken mid) (sink.taken later) (placed_bytes page_size (run_page page_size (run_push run e) next ∷ []))
-      → AppendsProperPrefix (sink.taken old) (sink.taken later) (placed_bytes page_size (runs_close_put page_size e0 n0 runs0))
-  close_short one = short_stop _ (close_left page_size e next run (drop (i + 1) runs) (drop i runs) at) c.front one
-
-  pub close_large : (limit : ℕ) → limit < next + (1 + overflow_of page_size (run_push run e).size) → limit < runs_end_next page_size e0 n0 runs0
-  close_large limit large = grind (arith, end_grows)
+  pub close_stops : {A B : Type 0} {later : S} {after last : ℕ} (fault : BulkFault)
+      → Closes {A = A} sink mid later setup (run_page setup.page_size (run_push run e) next ∷ []) (next + (1 + overflow_of setup.page_size (run_push run e).size)) after (Err fault)
+      → Closes {A = B} sink old later setup (runs_close_put setup.page_size e0 n0 runs0) (runs_end_next setup.page_size e0 n0 runs0) last (Err fault)
+  close_stops fault one =
+      let left = close_left setup.page_size e next run (drop (i + 1) runs) (drop i runs) at in
+      record {
+        writes = record { pages = front_stop c.front (Wrote-stops _ fault one.writes.pages) left; within = tt; large = λ is. let large = one.writes.large is in grind (arith, end_grows) };
+        short = short_stop _ left c.front one.short;
+        marked = tt;
+      }

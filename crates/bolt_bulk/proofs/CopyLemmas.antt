@@ -1,14 +1,13 @@
 -- The first pages and those of all buckets are the layout, and so a copy is written whole, or stops short.
-use Rattle.std.proofs.Common.{◌≡◌, ◌≢◌, ℕ, [], Result, ◌≤◌, ◌<◌, List, ◌++◌, length, Ok, Err, refl, arith, append_assoc}
+use Rattle.std.proofs.Common.{◌≡◌, ◌≢◌, ℕ, [], ◌≤◌, ◌<◌, List, ◌++◌, length, Ok, Err, refl, arith, append_assoc}
 use Rattle.std.proofs.KnownBytes.{Appends-trans}
 use Rattle.bolt_format.specs.Sinks.{AppendsProperPrefix}
 use Rattle.bolt_tree.specs.Tree.{Tree}
 use Rattle.bolt_bulk.specs.{Compacting.Copies, Compacting.too_many, Private.first_pages, Private.stopped_by, declared.fault.BulkFault.BulkFault}
 use Rattle.bolt_layout.specs.{Laid.Placed, Layout.layout_mark, Layout.layout_of, Layout.layout_pages, Layout.layout_root, Layout.placed_bytes}
 use Rattle.bolt_bulk.specs.declared.fault.BulkFault.TheVariants as bulk
-use Rattle.bolt_bulk.specs.declared.fault.PlanFault.{PlanFault}
+use Rattle.bolt_bulk.specs.{BulkEndings.fault_ending, declared.fault.PlanFault.PlanFault}
 use Rattle.bolt_bulk.specs.declared.fault.PlanFault.TheVariants as planned
-use Rattle.bolt_bulk.specs.{declared.outcome.Done.Done, BulkEndings.fault_ending}
 use Rattle.bolt_layout.specs.declared.layout.Layout.{Layout}
 use Rattle.bolt_bulk.proofs.PutsLemmas.{Wrote-failed, Wrote-sound, proper_none, proper_same}
 use Rattle.bolt_format.proofs.SinkLemmas.{AppendsProperPrefix-first, AppendsProperPrefix-second}
@@ -33,10 +32,9 @@ module _ {S : Type 0} (sink : Ghosts S) (old : S) (layout : List ℕ) where
   stops_early : (e : BulkFault) → (e ≡ bulk.Sink → ⊥) → layout ≢ [] → (e ≡ bulk.TooLarge → too_many ≤ length layout) → Copies sink.taken sink.failed old old layout (Err e)
   stops_early e other some large = grind (arith, proper_none)
 
-  pub stops_unplanned : (plan : PlanFault) (result : Result Done BulkFault) → result ≡ Err (stopped_by plan) → layout ≢ [] → (plan ≡ planned.TooLarge → too_many ≤ length layout)
-      → Copies sink.taken sink.failed old old layout result
-  stops_unplanned planned.Memory result stop some large = rw stop (stops_early bulk.Memory (λ e. cc) some (λ e. absurd cc))
-  stops_unplanned planned.TooLarge result stop some large = rw stop (stops_early bulk.TooLarge (λ e. cc) some (λ _. large refl))
+  pub stops_unplanned : (plan : PlanFault) → layout ≢ [] → (plan ≡ planned.TooLarge → too_many ≤ length layout) → Copies sink.taken sink.failed old old layout (Err (stopped_by plan))
+  stops_unplanned planned.Memory some large = stops_early bulk.Memory (λ e. cc) some (λ e. absurd cc)
+  stops_unplanned planned.TooLarge some large = stops_early bulk.TooLarge (λ e. cc) some (λ _. large refl)
 
 module _ {S : Type 0} (sink : Ghosts S) (old new : S) (layout first pages : List ℕ) (same : layout ≡ first ++ pages) (fits : length layout < too_many) where
   pub copied : (mid : S) (bytes held : ℕ) → Wrote sink old mid first whole → Wrote sink mid new pages whole → bytes ≡ length layout

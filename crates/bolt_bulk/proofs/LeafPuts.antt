@@ -1,8 +1,8 @@
 -- A leaf page, and an inline value, written piece by piece, whatever the code keeps of their elements: `view` is the element that it keeps.
-use Rattle.std.proofs.Common.{◌≡◌, ℕ, ◌+◌, ◌-◌, ◌*◌, List, ◌++◌, length, map, refl, sym, arith, append_assoc}
-use Rattle.std.proofs.lemmas.List.{length-append, length-map}
+use Rattle.std.proofs.Common.{◌≡◌, ℕ, ◌+◌, ◌-◌, ◌*◌, List, [], ◌∷◌, ◌++◌, length, map, refl, sym, arith, append_assoc}
+use Rattle.std.proofs.lemmas.List.{append-nil, length-append, length-map}
 use Rattle.bolt_format.specs.{Elements.LeafElement, Written.header_bytes, Written.leaf_header, Written.head_bytes}
-use Rattle.bolt_layout.specs.Levels.{overflow_of}
+use Rattle.bolt_layout.specs.{Layout.placed_bytes, Levels.overflow_of}
 use Rattle.bolt_layout.specs.PageBytes.{inline_value, leaf_bytes, leaf_data, leaf_headers, page_bytes}
 use Rattle.bolt_layout.proofs.LeafLemmas.{length-leaf_headers}
 use Rattle.bolt_format.proofs.WrittenHeaders.{length-header_bytes}
@@ -31,9 +31,9 @@ leaf_packed view = record { none = λ before. refl; first = λ before x xs. grin
 pub leaf_run_wrote : {S : Type 0} {sink : Ghosts S} {old new : S} (page_size number : ℕ) (run : LeafRun) {end : Ending} → run.size ≡ page_size_of run.inlined.items run.items.items
     → Wrote sink old new (header_bytes number kind.Leaf (length run.items.items) (overflow_of page_size run.size)
     ++ (leaf_headers 0 (held_views run.inlined.items run.items.items) ++ (leaf_data (held_views run.inlined.items run.items.items) ++ zeros ((1 + overflow_of page_size run.size) * page_size - run.size)))) end
-    → Wrote sink old new (page_bytes page_size number (leaf_page page_size (leaves_of run) number).view) end
+    → Wrote sink old new (placed_bytes page_size (leaf_page page_size (leaves_of run) number ∷ [])) end
 unfolding page_bytes leaf_bytes
-leaf_run_wrote page_size number run sized wrote = grind (arith, length-map, length-header_bytes, length-leaf_headers, zeros, filled_pieces)
+leaf_run_wrote page_size number run sized wrote = grind (arith, length-map, length-header_bytes, length-leaf_headers, zeros, filled_pieces, append-nil)
 
 -- The pieces of an inline value.
 inline_pieces : {X : Type 0} (view : X → LeafElement) (sequence : ℕ) (xs : List X)

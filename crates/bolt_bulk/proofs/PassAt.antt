@@ -7,23 +7,22 @@ use Rattle.std.specs.List.{AllByRecursion}
 use Rattle.bolt_format.specs.{ElementPlaces.leaf_view, Elements.LeafElement, declared.element.Leaf.Leaf}
 use Rattle.bolt_tree.specs.Tree.{Tree, end, with_bucket, with_value}
 use Rattle.bolt_layout.specs.{Items.items_of, Items.leaf_item, Items.root_of, Laid.Laid, Laid.Placed, Layout.placed_bytes, PageBytes.inline_value}
-use Rattle.bolt_bulk.specs.Private.{AreOpenRuns, AreWaiting, base_in, bucket_end_next, bucket_limit, bucket_runs, BucketEnds, BucketRunsView, capped, Counts, end_of, Frame, HasNoted, HasRoot, held_item, held_so_far, inline_element, IsAt, IsOn, IsPass, IsPending, IsPendingSmall, IsToCome, items_around, items_in, Known, length_frames, length_open, Level, level_of, limit_in, limits_by, making_room, Notes, onto, Open, open_in, pushing, root_element, runs_end, runs_end_put, runs_push, runs_room, runs_room_put, runs_taking, Steps, taking, value_element, Wanted}
-use Rattle.bolt_bulk.specs.{declared.page_setup.PageSetup.PageSetup, declared.fault.BulkFault.BulkFault}
+use Rattle.bolt_bulk.specs.Private.{AreOpenRuns, AreWaiting, base_in, bucket_end_next, bucket_limit, bucket_runs, BucketEnds, BucketRunsView, capped, Counts, end_of, Frame, HasNoted, HasRoot, held_item, held_so_far, IsAt, IsOn, IsPass, IsPending, IsPendingSmall, IsToCome, items_around, items_in, Known, length_frames, length_open, Level, level_of, limit_in, limits_by, making_room, Notes, onto, Open, open_in, pushing, root_element, runs_end, runs_end_put, runs_push, runs_room, runs_room_put, pending_element, element_size, TakesItem, Enters, Writes, Steps, taking, value_element, Wanted}
+use Rattle.bolt_bulk.specs.{BulkEndings.bulk_ending, declared.page_setup.PageSetup.PageSetup, declared.fault.BulkFault.BulkFault}
 use Rattle.bolt_bulk.specs.declared.fault.BulkFault.TheVariants as fault
 use Rattle.bolt_bulk.specs.{declared.bucket_runs.BucketRuns.BucketRuns, declared.pass.Pass.Pass, declared.waiting_bucket.PendingBucket.PendingBucket}
 use Rattle.bolt_bulk.specs.{declared.waiting_bucket.WaitingBucket.WaitingBucket, declared.limits.NotedLimits.NotedLimits}
-use Rattle.bolt_bulk.specs.BulkEndings.{bulk_ending, fault_ending}
 use Rattle.bolt_bulk.proofs.HeldPasses.{around_reverse}
 use Rattle.bolt_bulk.proofs.HeldSteps.{around_length, enters_held, items_length, leaves_held, takes_held}
 use Rattle.bolt_bulk.proofs.Ontos.{IsValue, ends_inline, onto_items, onto_push, value_items, values_held}
 use Rattle.bolt_bulk.proofs.Tables.{noted_enters, noted_leaves}
 use Rattle.bolt_bulk.proofs.Openings.{around_at, coming_at, coming_onto, opened_inline, opened_onto, opened_rooted}
-use Rattle.bolt_bulk.proofs.PassReady.{inline_long, small_of}
+use Rattle.bolt_bulk.proofs.PassReady.{small_of}
 use Rattle.bolt_bulk.proofs.PassSteps.{inline_item, on_before, on_enters, on_leaves, on_numbers, on_takes, open_values, pass_takes_all, root_item, values_put, values_runs, waiting}
 use Rattle.bolt_bulk.proofs.PutsLemmas.{bytes-append, Wrote-gave_up}
 use Rattle.bolt_layout.specs.{Limits.HaveRightLimits, Openings.leaf_pages, Openings.opened_by}
 use Rattle.bolt_format.proofs.WroteLemmas.{Wrote-halt, Wrote-none}
-use Rattle.bolt_format.specs.{Wrote.Wrote, Endings.whole, declared.sink.Sink.Ghosts}
+use Rattle.bolt_format.specs.{Wrote.Wrote, declared.sink.Sink.Ghosts}
 
 -- ---- results
 
@@ -131,44 +130,39 @@ module _ (wanted : Wanted) (pass : Pass) where
   runs_now = bucket_runs pass.bucket pass.next
 
   -- ---- the open bucket takes an item with no pages below it
-  item_steps : {S A : Type 0} {sink : Ghosts S} {put : List Placed} {within levels : List Level} {left after : Tree} {old new : S} {counted : Pass} (key value : List ℕ) (flag : Bool) (size : ℕ) (rest : Tree) (pending : Option PendingBucket) (bucket : BucketRuns)
-      (entries : Vec Leaf Global) (next : ℕ) (result : Result A BulkFault) (is : IsAt wanted pass within left put) → size ≡ 16 + (length key + length value)
+  item_steps : {S A : Type 0} {sink : Ghosts S} {put : List Placed} {within levels : List Level} {left after : Tree} {old new : S} {counted : Pass} (key value : List ℕ) (flag : Bool) (rest : Tree) (pending : Option PendingBucket) (bucket : BucketRuns)
+      (entries : Vec Leaf Global) (next : ℕ) (result : Result A BulkFault) (is : IsAt wanted pass within left put)
       → IsOn wanted.which P wanted.tree is.frames is.state (leaf_item key value flag ∷ items_of wanted.which P rest) runs_now put → IsToCome wanted P (limits_by pass) is.opened rest is.frames
       → IsPending pending entries.items (map level_of is.frames) rest levels after
-      → Wrote sink old new (placed_bytes P (runs_room_put P runs_now key size)) (bulk_ending result)
-      → OnOk result (bucket_runs bucket next ≡ runs_taking P runs_now (record { key = key; value = value; is_bucket = flag }) size)
-      → IfErr result (λ e. e ≡ fault.TooLarge → pass.setup.limit < (runs_room P runs_now key size).next)
+      → TakesItem sink old new pass.setup pass.bucket pass.next (record { key = key; value = value; is_bucket = flag }) bucket next result
       → OnOk result (Counts (record pass { bucket = bucket; pending = pending; entries = entries; next = next }) counted)
       → Steps wanted sink old new pass.setup put (IsAt wanted counted levels after) result
-  item_steps {put = put} {counted = counted} key value flag size rest pending bucket entries next result is sized on coming pends puts runs large counts =
+  item_steps {put = put} {counted = counted} key value flag rest pending bucket entries next result is on coming pends takes counts =
       let item : Laid LeafElement = leaf_item key value flag in
-      let On : BucketRunsView → ℕ → Type 0 = λ r n. IsOn wanted.which P wanted.tree is.frames (taking P is.state item) (items_of wanted.which P rest) r (put ++ runs_room_put P runs_now key n) in
-      let Taken : ℕ → BucketRunsView = λ n. runs_taking P runs_now (record { key = key; value = value; is_bucket = flag }) n in
-      let then : On (Taken size) size = subst (λ (n : ℕ). On (Taken n) n) (sym sized) (on_takes is.frames is.state key value flag (items_of wanted.which P rest) runs_now put on) in
-      steps_on (runs_room_put P runs_now key size) then puts large (on_ok_both result runs counts (λ e k.
-      at_counted k (subst (λ (r : BucketRunsView). On r size) (sym e) then) is.waits pends (takes_held P is.frames is.state item pass.most counted.most refl is.held) is.opened_is coming is.noted))
+      let e : LeafElement = record { key = key; value = value; is_bucket = flag } in
+      let row : List Placed = runs_room_put P runs_now key (element_size e) in
+      let then = on_takes is.frames is.state key value flag (items_of wanted.which P rest) runs_now put on in
+      steps_on row then takes.writes.pages takes.writes.large (on_ok_both result takes.runs counts (λ same k.
+      at_counted k (subst (λ (r : BucketRunsView). IsOn wanted.which P wanted.tree is.frames (taking P is.state item) (items_of wanted.which P rest) r (put ++ row)) (sym same) then)
+      is.waits pends (takes_held P is.frames is.state item pass.most counted.most refl is.held) is.opened_is coming is.noted))
 
   -- a value
   pub value_steps : {S A : Type 0} {sink : Ghosts S} {put : List Placed} {levels : List Level} {old new : S} {counted : Pass} (key value : List ℕ) (after : Tree) (bucket : BucketRuns) (next : ℕ) (result : Result A BulkFault)
       → IsAt wanted pass levels (with_value key value after) put → pass.pending ≡ None
-      → Wrote sink old new (placed_bytes P (runs_room_put P runs_now key (16 + (length key + length value)))) (bulk_ending result)
-      → OnOk result (bucket_runs bucket next ≡ runs_taking P runs_now (value_element key value) (16 + (length key + length value)))
-      → IfErr result (λ e. e ≡ fault.TooLarge → pass.setup.limit < (runs_room P runs_now key (16 + (length key + length value))).next)
+      → TakesItem sink old new pass.setup pass.bucket pass.next (value_element key value) bucket next result
       → OnOk result (Counts (record pass { bucket = bucket; next = next }) counted)
       → Steps wanted sink old new pass.setup put (IsAt wanted counted levels after) result
-  value_steps key value after bucket next result is none puts runs large counts =
+  value_steps key value after bucket next result is none takes counts =
       let (same, on, coming) = on_of is none in
-      item_steps key value false (16 + (length key + length value)) after pass.pending bucket pass.entries next result is refl on (record { inside = coming.inside; around = coming.around }) (rw none (same, refl)) puts runs large counts
+      item_steps key value false after pass.pending bucket pass.entries next result is on (record { inside = coming.inside; around = coming.around }) (rw none (same, refl)) takes counts
 
   -- the end of a bucket that is inline
   pub inline_steps : {S A : Type 0} {sink : Ghosts S} {put : List Placed} {levels : List Level} {old new : S} {counted : Pass} (level : Level) (p : PendingBucket) (bucket : BucketRuns) (entries : Vec Leaf Global) (next : ℕ) (result : Result A BulkFault)
       → IsAt wanted pass (level ∷ levels) end put → pass.pending ≡ Some p → IsPendingSmall P pass.pending pass.entries.items
-      → Wrote sink old new (placed_bytes P (runs_room_put P runs_now p.key.now (16 + (length p.key.now + (p.size + 16))))) (bulk_ending result)
-      → OnOk result (bucket_runs bucket next ≡ runs_taking P runs_now (inline_element p.key.now p.sequence (map leaf_view pass.entries.items)) (16 + (length p.key.now + (p.size + 16))))
-      → IfErr result (λ e. e ≡ fault.TooLarge → pass.setup.limit < (runs_room P runs_now p.key.now (16 + (length p.key.now + (p.size + 16)))).next)
+      → TakesItem sink old new pass.setup pass.bucket pass.next (pending_element p pass.entries.items) bucket next result
       → OnOk result (Counts (record pass { bucket = bucket; pending = None; entries = entries; next = next }) counted)
       → Steps wanted sink old new pass.setup put (IsAt wanted counted levels level.after) result
-  inline_steps {put = put} {levels = levels} level p bucket entries next result is some pending puts runs large counts =
+  inline_steps {put = put} {levels = levels} level p bucket entries next result is some pending takes counts =
       let small = small_of P pass.pending p pass.entries.items some pending in
       let (after, same, on, coming) = pending_of wanted pass (level ∷ levels) end put p is some in
       let shown : List LeafElement = map leaf_view pass.entries.items in
@@ -178,11 +172,11 @@ module _ (wanted : Wanted) (pass : Pass) where
       let unopened = opened_inline wanted.which P (onto shown end) (ends_inline wanted.which P shown (omega arith) (omega arith)) in
       let first : level ≡ record { key = p.key.now; after = after } = cc in
       let others : levels ≡ map level_of is.frames = cc in
-      item_steps p.key.now (inline_value p.sequence shown) true (16 + (length p.key.now + (p.size + 16))) after None bucket entries next result is (ap (λ (n : ℕ). 16 + (length p.key.now + n)) (inline_long P p pass.entries.items small))
+      item_steps p.key.now (inline_value p.sequence shown) true after None bucket entries next result is
       (subst (λ (i : Laid LeafElement). IsOn wanted.which P wanted.tree is.frames is.state (i ∷ items_of wanted.which P after) runs_now put) item on) (come_at wanted P (limits_by pass) (is.opened + opened_by wanted.which P (onto shown end)) is.opened after after is.frames (omega arith) refl (record {
         inside = coming.inside.1;
         around = around_at wanted P (limits_by pass) _ _ is.frames (omega arith) coming.around;
-      })) (others, ap (λ (l : Level). l.after) (sym first)) puts runs large counts
+      })) (others, ap (λ (l : Level). l.after) (sym first)) takes counts
 
   -- ---- a bucket that has a root page is opened, and the one around it waits
 
@@ -245,35 +239,34 @@ module _ (wanted : Wanted) (pass : Pass) where
       }
 
   -- a fault on the way
-  pub open_stops : {S B : Type 0} {sink : Ghosts S} {put : List Placed} {levels : List Level} {left : Tree} {old new : S} {At : List Placed → Type 0} {e : BulkFault} {result : Result B BulkFault} (p : PendingBucket) → IsErrAnd result (λ f. f ≡ e)
+  pub open_stops : {S B C : Type 0} {sink : Ghosts S} {put : List Placed} {levels : List Level} {left : Tree} {old new : S} {At : List Placed → Type 0} {next : ℕ} {e : BulkFault} {result : Result C BulkFault} (p : PendingBucket) → IsErrAnd result (λ f. f ≡ e)
       → IsAt wanted pass levels left put → pass.pending ≡ Some p → IsPendingSmall P pass.pending pass.entries.items → HasRoot wanted.which P (onto (map leaf_view pass.entries.items) left)
-      → Wrote sink old new (placed_bytes P (runs_room_put P runs_now p.key.now (32 + length p.key.now))) (fault_ending e)
-      → (e ≡ fault.TooLarge → pass.setup.limit < (room_for p).next)
+      → Writes {A = B} sink old new pass.setup (runs_room_put P runs_now p.key.now (32 + length p.key.now)) (room_for p).next next (Err e)
       → Steps wanted sink old new pass.setup put At result
-  open_stops {put = put} {levels = levels} {left = left} p same is some pending rooted puts large =
-      steps_stop {A = ⊤} {Mid = λ _. ⊤} same (steps_on (runs_room_put P runs_now p.key.now (32 + length p.key.now)) (has_opened put levels left p is some pending rooted).on puts large tt)
+  open_stops {put = put} {levels = levels} {left = left} p same is some pending rooted writes =
+      steps_stop {A = ⊤} {Mid = λ _. ⊤} same (steps_on (runs_room_put P runs_now p.key.now (32 + length p.key.now)) (has_opened put levels left p is some pending rooted).on writes.pages writes.large tt)
 
   -- all went well
-  pub open_steps : {S : Type 0} {sink : Ghosts S} {put : List Placed} {levels : List Level} {left : Tree} {old new : S} {counted : Pass} (p : PendingBucket) (bucket : BucketRuns) (w : WaitingBucket) (around : Vec WaitingBucket Global) (entries : Vec Leaf Global) (next opened held : ℕ)
+  pub open_steps : {S : Type 0} {sink : Ghosts S} {put : List Placed} {levels : List Level} {left : Tree} {old new : S} {counted : Pass} (p : PendingBucket) (bucket : BucketRuns) (w : WaitingBucket) (around : Vec WaitingBucket Global) (entries : Vec Leaf Global) (before next opened held : ℕ)
       → IsAt wanted pass levels left put → pass.pending ≡ Some p → IsPendingSmall P pass.pending pass.entries.items → HasRoot wanted.which P (onto (map leaf_view pass.entries.items) left)
-      → Wrote sink old new (placed_bytes P (runs_room_put P runs_now p.key.now (32 + length p.key.now))) whole
-      → around.items ≡ pass.waiting.items ++ w ∷ [] → bucket_runs w.bucket next ≡ room_for p → w.key.now ≡ p.key.now → w.sequence ≡ p.sequence → bucket_runs bucket next ≡ opened_runs p next
+      → Enters sink old new pass.setup pass.bucket pass.next p before next (Ok w)
+      → around.items ≡ pass.waiting.items ++ w ∷ [] → bucket_runs bucket next ≡ opened_runs p next
       → opened ≡ min (pass.opened + 1) 18446744073709551615
       → Counts (record pass { waiting = around; bucket = bucket; pending = None; entries = entries; next = next; opened = opened; around = held }) counted
       → Steps {A = ⊤} wanted sink old new pass.setup put (IsAt wanted counted levels left) (Ok tt)
-  open_steps {put = put} {levels = levels} {left = left} {counted = counted} p bucket w around entries next opened held is some pending rooted puts items runs key sequence values_are one_more k =
+  open_steps {put = put} {levels = levels} {left = left} {counted = counted} p bucket w around entries before next opened held is some pending rooted enters items values_are one_more k =
       let then = has_opened put levels left p is some pending rooted in
       let frame : Frame = frame_of p then.after is.state in
       let frames : List Frame = frame ∷ is.frames in
       let known : Known = known_now is.opened left in
       let values : List (Laid LeafElement) = value_items (map leaf_view pass.entries.items) in
-      let next_is : next ≡ (room_for p).next = ap (λ (r : BucketRunsView). r.next) runs in
-      let at : bucket_runs w.bucket (base_in frames) ≡ room_for p = ap (λ (n : ℕ). bucket_runs w.bucket n) (sym (next_is ∙ then.outer.next_is)) ∙ runs in
+      let next_is : next ≡ (room_for p).next = ap (λ (r : BucketRunsView). r.next) enters.runs in
+      let at : bucket_runs w.bucket (base_in frames) ≡ room_for p = ap (λ (n : ℕ). bucket_runs w.bucket n) (sym (next_is ∙ then.outer.next_is)) ∙ enters.runs in
       let waits : AreWaiting (reverse around.items) frames = subst (λ (ws : List WaitingBucket). AreWaiting ws frames) (sym (ap reverse items ∙ reverse-append pass.waiting.items (w ∷ [])))
-      (subst (λ (r : BucketRunsView). AreOpenRuns r frame.state (base_in is.frames)) (sym at) then.outer, key, sequence, is.waits) in
+      (subst (λ (r : BucketRunsView). AreOpenRuns r frame.state (base_in is.frames)) (sym at) then.outer, enters.key, enters.sequence, is.waits) in
       let on = subst (λ (r : BucketRunsView). IsOn wanted.which P wanted.tree frames (open_values known values) (items_of wanted.which P left) r (put ++ runs_room_put P runs_now p.key.now (32 + length p.key.now)))
       (sym (values_are ∙ ap (opened_runs p) next_is)) then.on in
-      steps_on (runs_room_put P runs_now p.key.now (32 + length p.key.now)) then.on puts tt
+      steps_on (runs_room_put P runs_now p.key.now (32 + length p.key.now)) then.on enters.writes.pages tt
       (at_counted k on waits (then.same, refl)
       (enters_held P known frame is.frames is.state p.key.now (32 + length p.key.now) values pass.most counted.most refl (values_held (map leaf_view pass.entries.items)) is.held)
       (let o = is.opened_is in omega arith) then.coming (noted_enters wanted P pass.noted known (open_in is.state is.frames) is.opened_is then.notes is.noted))
@@ -282,12 +275,11 @@ module _ (wanted : Wanted) (pass : Pass) where
   pub leave_steps : {S A : Type 0} {sink : Ghosts S} {put : List Placed} {levels : List Level} {old new : S} {counted : Pass} (level : Level) (w : WaitingBucket) (bucket : BucketRuns) (around : Vec WaitingBucket Global) (next held : ℕ) (noted : NotedLimits) (result : Result A BulkFault)
       → IsAt wanted pass (level ∷ levels) end put → pass.pending ≡ None → pass.waiting.items ≡ around.items ++ w ∷ []
       → BucketEnds pass.noted noted pass.bucket.uppers
-      → Wrote sink old new (placed_bytes P (runs_end_put P runs_now)) (bulk_ending result)
+      → Writes sink old new pass.setup (runs_end_put P runs_now) (bucket_end_next P runs_now) next result
       → OnOk result ((before : ℕ) → bucket_runs bucket next ≡ runs_push (bucket_runs w.bucket before) (root_element w.key.now (runs_end P runs_now) w.sequence) (32 + length w.key.now) (bucket_end_next P runs_now))
-      → IfErr result (λ e. e ≡ fault.TooLarge → pass.setup.limit < bucket_end_next P runs_now)
       → OnOk result (Counts (record pass { waiting = around; bucket = bucket; next = next; around = held; noted = noted }) counted)
       → Steps wanted sink old new pass.setup put (IsAt wanted counted levels level.after) result
-  leave_steps {put = put} {levels = levels} {counted = counted} level w bucket around next held noted result is none popped ended puts runs large counts =
+  leave_steps {put = put} {levels = levels} {counted = counted} level w bucket around next held noted result is none popped ended writes runs counts =
       let (same, on, coming) = on_of is none in
       let (frame, frames, more_frames, top) = first_frame level levels is.frames same in
       let ws : reverse pass.waiting.items ≡ w ∷ reverse around.items = ap reverse popped ∙ reverse-append around.items (w ∷ []) in
@@ -297,7 +289,7 @@ module _ (wanted : Wanted) (pass : Pass) where
       let base : ℕ = base_in (frame ∷ frames) in
       let On : BucketRunsView → Type 0 = λ r. IsOn wanted.which P wanted.tree frames made (items_of wanted.which P frame.after) r (put ++ runs_end_put P runs_now) in
       let then = on_leaves frame frames is.state runs_now (bucket_runs w.bucket base) put w.key.now w.sequence (subst (λ (fs : List Frame). IsOn wanted.which P wanted.tree fs is.state [] runs_now put) more_frames on) outer refl key sequence in
-      steps_on (runs_end_put P runs_now) then puts large (on_ok_both result runs counts (λ e k.
+      steps_on (runs_end_put P runs_now) then writes.pages writes.large (on_ok_both result runs counts (λ e k.
       at_counted k (subst On (sym (e base)) then) others (subst (λ (p : Option PendingBucket). IsPending p pass.entries.items (map level_of frames) frame.after levels level.after) (sym none) top)
       (leaves_held P frame frames is.state pass.most counted.most is.on.under.begun (is.held ∙ ap (λ (fs : List Frame). capped (held_so_far fs is.state)) more_frames)) is.opened_is
       (come_at wanted P (limits_by pass) (is.opened + 0) is.opened frame.after frame.after frames (omega arith) refl (record { inside = to_come.around.0; around = to_come.around.1 }))

@@ -179,10 +179,5 @@ module _ {S : Type 0} {wanted : Wanted} {sink : Ghosts S} {setup : PageSetup} {o
         all = then.all ∙ append_assoc put one.more then.others;
         puts = Wrote-same bytes (Wrote-then one.puts then.puts);
         short = subst (λ (bs : List ℕ). OnErr result (AppendsProperPrefix (sink.taken old) (sink.taken new) bs)) bytes (short_then old mid new (placed_bytes P one.more) (placed_bytes P then.others) result one.puts then.short);
-        root = then.root;
-        mark = then.mark;
-        within = then.within;
-        noted = then.noted;
-        held = then.held;
-        large = then.large;
+        returned = then.returned;
       }

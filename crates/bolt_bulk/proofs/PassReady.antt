@@ -4,9 +4,9 @@ use Rattle.std.proofs.lemmas.List.{length-append, length-map, map-append}
 use Rattle.std.specs.List.{AllByRecursion}
 use Rattle.bolt_format.specs.{ElementPlaces.leaf_view, declared.element.Leaf.Leaf}
 use Rattle.bolt_tree.specs.Tree.{Tree, with_value}
-use Rattle.bolt_layout.specs.{declared.layout.Layout.Layout, PageBytes.inline_value}
+use Rattle.bolt_layout.specs.declared.layout.Layout.{Layout}
 use Rattle.bolt_bulk.specs.{Private.HasRoot, Private.IsPendingSmall, Private.IsSmall, Private.onto, declared.waiting_bucket.PendingBucket.PendingBucket}
-use Rattle.bolt_bulk.proofs.{Ontos.value_too_large, HeldRuns.data_push, HeldRuns.length-inline_value}
+use Rattle.bolt_bulk.proofs.{Ontos.value_too_large, HeldRuns.data_push}
 use Rattle.bolt_layout.proofs.ListLemmas.{all_append}
 
 -- the bucket that may be inline
@@ -18,9 +18,6 @@ pub small_push : (page_size size : ℕ) (p : PendingBucket) (entries more : List
     → size ≡ p.size + (16 + (length entry.key.now + length entry.value.now)) → size ≤ page_size / 4 → length entries < 65534 → more ≡ entries ++ entry ∷ []
     → IsSmall page_size (record { key = p.key; sequence = p.sequence; size = size }) more
 small_push page_size size p entries more entry is key value sized small few pushed = grind (arith, map-append, data_push, length-append, all_append)
-
-pub inline_long : (page_size : ℕ) (p : PendingBucket) (entries : List Leaf) → IsSmall page_size p entries → p.size + 16 ≡ length (inline_value p.sequence (map leaf_view entries))
-inline_long page_size p entries is = omega (arith, is.sized, length-inline_value p.sequence (map leaf_view entries))
 
 pub last_of : {X : Type 0} (P : X → Type 0) (xs : List X) (x : X) → AllByRecursion P (xs ++ x ∷ []) → P x × AllByRecursion P xs
 last_of P [] x all = (all.0, tt)

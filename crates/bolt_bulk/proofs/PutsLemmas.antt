@@ -7,7 +7,9 @@ use Rattle.bolt_format.proofs.WroteLemmas.{Wrote-halt, Wrote-none, Wrote-return_
 use Rattle.bolt_format.proofs.WrittenHeaders.{length-header_bytes}
 use Rattle.bolt_format.specs.{Endings.whole, Endings.halted, Pages.PageView, Sinks.AppendsProperPrefix, Wrote.Wrote, declared.sink.Sink.Ghosts}
 use Rattle.bolt_layout.specs.{Laid.Placed, Layout.placed_bytes, PageBytes.page_bytes}
-use Rattle.bolt_bulk.specs.{BulkEndings.fault_ending, declared.fault.BulkFault.BulkFault}
+use Rattle.bolt_bulk.specs.{BulkEndings.fault_ending, Private.Closes, Private.Writes, declared.fault.BulkFault.BulkFault, declared.page_setup.PageSetup.PageSetup}
+use Rattle.std.proofs.lemmas.Result.{err_from_is_err_and}
+use Rattle.std.specs.Prelude.{IfErr, IsErrAnd}
 use Rattle.bolt_bulk.specs.declared.fault.BulkFault.TheVariants as fault
 use Rattle.bolt_format.proofs.WroteFronts.{WroteFront}
 
@@ -74,6 +76,50 @@ pub short_then : {S A E : Type 0} {sink : Ghosts S} (old mid new : S) (first sec
     → Wrote sink old mid first whole → OnErr result (AppendsProperPrefix (sink.taken mid) (sink.taken new) second) → OnErr result (AppendsProperPrefix (sink.taken old) (sink.taken new) (first ++ second))
 short_then old mid new first second (Ok y) a b = tt
 short_then {sink} old mid new first second (Err e) a b = AppendsProperPrefix-second (sink.taken old) (sink.taken mid) (sink.taken new) first second a.appends b
+
+module _ {S : Type 0} {sink : Ghosts S} {old new : S} {setup : PageSetup} {first : List Placed} (second : List Placed) where
+  -- a fault is returned on
+  pub writes_stop : {A B : Type 0} {mark last next later : ℕ} {e : BulkFault} {result : Result B BulkFault} → IsErrAnd result (λ f. f ≡ e) → mark ≤ last → Writes {A = A} sink old new setup first mark next (Err e)
+      → Writes sink old new setup (first ++ second) last later result
+  writes_stop {result = result} same more one =
+      let (_, is, e_is) = err_from_is_err_and result same in
+      rw (is, e_is) (record { pages = rw bytes-append (Wrote-stops _ _ one.pages); within = tt; large = λ e. let l = one.large e in omega arith })
+
+  pub closes_stop : {A B : Type 0} {mark last next later : ℕ} {e : BulkFault} {result : Result B BulkFault} → IsErrAnd result (λ f. f ≡ e) → mark ≤ last → Closes {A = A} sink old new setup first mark next (Err e)
+      → Closes sink old new setup (first ++ second) last later result
+  closes_stop {result = result} same more one =
+      let (_, is, e_is) = err_from_is_err_and result same in
+      record { writes = writes_stop same more one.writes; short = rw is (rw bytes-append (AppendsProperPrefix-first _ _ _ _ one.short)); marked = rw is tt }
+
+  -- after pages that were written
+  pub writes_then : {A B : Type 0} {mid : S} {mark last next later : ℕ} {x : A} {result : Result B BulkFault} → Writes {A = A} sink old mid setup first mark next (Ok x) → Writes sink mid new setup second last later result
+      → Writes sink old new setup (first ++ second) last later result
+  writes_then one two = record { pages = rw bytes-append (Wrote-then one.pages two.pages); within = two.within; large = two.large }
+
+  pub closes_then : {A B : Type 0} {mid : S} {mark last next later : ℕ} {x : A} {result : Result B BulkFault} → Closes {A = A} sink old mid setup first mark next (Ok x) → Closes sink mid new setup second last later result
+      → Closes sink old new setup (first ++ second) last later result
+  closes_then {mid = mid} {result = result} one two = record {
+    writes = writes_then one.writes two.writes;
+    short = rw bytes-append (short_then old mid new _ _ result one.writes.pages two.short);
+    marked = two.marked;
+  }
+
+-- nothing was written yet
+pub closes_early : {S A : Type 0} {sink : Ghosts S} {old : S} {setup : PageSetup} {page : Placed} {pages : List Placed} {mark next : ℕ} {e : BulkFault} {result : Result A BulkFault} → IsErrAnd result (λ f. f ≡ e) → e ≡ fault.Memory
+    → Closes sink old old setup (page ∷ pages) mark next result
+closes_early {sink} {old} {setup} {page} {pages} {result = result} same memory =
+    let (_, is, e_is) = err_from_is_err_and result same in
+    record {
+      writes = rw (is, e_is, memory) (record { pages = Wrote-halt old _; within = tt; large = λ e. absurd cc });
+      short = rw is (proper_none (sink.taken old) _ (pages_some setup.page_size page pages));
+      marked = rw is tt;
+    }
+
+-- nothing is written after these pages
+pub writes_on : {S A B : Type 0} {sink : Ghosts S} {old new : S} {setup : PageSetup} {row : List Placed} {mark next : ℕ} {x : A} (result : Result B BulkFault) → IfErr result (λ e. e ≡ fault.Memory)
+    → Writes {A = A} sink old new setup row mark next (Ok x) → Writes sink old new setup row mark next result
+writes_on (Ok y) memory one = record { pages = one.pages; within = one.within; large = tt }
+writes_on (Err e) memory one = rw memory (record { pages = Wrote-gave_up one.pages; within = tt; large = λ is. absurd cc })
 
 pub short_stop : {S : Type 0} {sink : Ghosts S} {old mid new : S} {text piece left : List ℕ} (rest : List ℕ) → left ≡ piece ++ rest
     → WroteFront sink old mid text left → AppendsProperPrefix (sink.taken mid) (sink.taken new) piece → AppendsProperPrefix (sink.taken old) (sink.taken new) text

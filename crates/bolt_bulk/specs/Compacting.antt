@@ -1,21 +1,18 @@
--- What `plan` and `compact` return: docs/LAYOUT.md, "The calls".
+-- What `plan` and `compact` return: docs/LAYOUT.md, "The calls". `CopiesEach` is all that a copy promises.
 -- The layout is that of the listing of the file, at the page size asked for, with the sequence of the file's root bucket.
 use Rattle.std.specs.Prelude.{◌≡◌, ◌<◌, ◌≤◌, ◌^◌, ℕ, List, length, Option, Result, IfErr, IfOk, IsErr, OnErr, OnOk}
 use Rattle.std.specs.Io.KnownBytes.{Appends, Keeps}
 use Rattle.bolt_format.specs.Sinks.{AppendsProperPrefix}
-use Rattle.bolt_check.specs.{CheckedFiles.meta_of, declared.checked_file.Checked.Checked}
-use Rattle.bolt_tree.specs.{Listing.Member, Tree.tree_of}
-use Rattle.bolt_layout.specs.{Copies.layout_of_listing, Layout.layout_mark, Layout.layout_root}
+use Rattle.bolt_check.specs.{CheckedFiles.bytes_of, CheckedFiles.meta_of, declared.checked_file.Checked.Checked}
+use Rattle.bolt_tree.specs.{Listing.IsListing, Listing.Member, Tree.tree_of}
+use Rattle.bolt_layout.specs.{Copies.IsSoundCopy, Copies.RefusesPrefixes, Copies.layout_of_listing, Held.most_held}
+use Rattle.bolt_layout.specs.{Layout.layout_held, Layout.layout_mark, Layout.layout_root}
 use Rattle.bolt_bulk.specs.declared.fault.BulkFault.{BulkFault}
 use Rattle.bolt_bulk.specs.declared.fault.BulkFault.TheVariants as bulk
 use Rattle.bolt_bulk.specs.declared.fault.PlanFault.{PlanFault}
 use Rattle.bolt_bulk.specs.declared.fault.PlanFault.TheVariants as planned
-use Rattle.bolt_bulk.specs.{declared.outcome.Done.Done, declared.outcome.Plan.Plan}
+use Rattle.bolt_bulk.specs.{declared.members_copy.Done.Done, declared.members_copy.Plan.Plan}
 use Rattle.bolt_layout.specs.declared.layout.Layout.{Layout}
-
--- the layout that a copy of a checked file has
-abbrev pub layout_for : Layout → Checked → (page_size : ℕ) → List Member → List ℕ
-layout_for which checked page_size listing = layout_of_listing which page_size listing (meta_of checked).root_sequence
 
 -- a layout has fewer bytes than this
 abbrev pub too_many : ℕ
@@ -42,3 +39,22 @@ pub record Copies {S : Type 0} (taken : S → Option (List ℕ)) (failed : S →
   pub large : IfErr result (λ fault. fault ≡ bulk.TooLarge → too_many ≤ length layout)
   pub refuses : too_many ≤ length layout → IsErr result × Keeps (taken old) (taken new) × (failed new ≡ failed old)
   pub untouched : too_many ≤ length layout → IfErr result (λ fault. fault ≡ bulk.Sink → ⊥)
+
+-- What a call promises that copies members in this layout, at this page size and with this sequence of the root bucket: for each listing that
+-- they have. If it returns Ok, the copy is a sound file with the same listing, and `held` is the greatest number of items that are held at one
+-- time while the layout is written, which is bounded. Every proper prefix of a layout with fewer than 2^63 bytes is refused.
+pub record CopiesEach {S : Type 0} (taken : S → Option (List ℕ)) (failed : S → ℕ) (old new : S) (lists : List Member → Type 0)
+    (which : Layout) (page_size sequence : ℕ) (result : Result Done BulkFault) : Type 0 where
+  pub copied : (listing : List Member) → lists listing → Copies taken failed old new (layout_of_listing which page_size listing sequence) result
+  pub accepted : OnOk result ((listing : List Member) → lists listing → ∥ IsSoundCopy which page_size (tree_of listing) sequence listing ∥₁)
+  pub held : IfOk result (λ done. (listing : List Member) → lists listing → done.held ≡ layout_held which page_size (tree_of listing))
+  pub bounded : IfOk result (λ done. (listing : List Member) → lists listing → done.held ≤ most_held page_size listing)
+  pub prefixes : (listing : List Member) → lists listing → length (layout_of_listing which page_size listing sequence) < too_many
+      → ∥ RefusesPrefixes (layout_of_listing which page_size listing sequence) (layout_root which page_size (tree_of listing)) ∥₁
+
+-- the members of a checked file
+abbrev pub CopiesFile : {S : Type 0} → (taken : S → Option (List ℕ)) → (failed : S → ℕ) → (old new : S) → Checked → Layout → (page_size : ℕ)
+    → Result Done BulkFault → Type 0
+CopiesFile taken failed old new checked which page_size result =
+    CopiesEach taken failed old new (λ (listing : List Member). IsListing (bytes_of checked) (meta_of checked) listing)
+    which page_size (meta_of checked).root_sequence result

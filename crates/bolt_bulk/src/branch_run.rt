@@ -1,14 +1,13 @@
 //! An open run of pages above a bucket's leaves, and the branch page that it becomes.
-ghost use Rattle.std.specs.Prelude.{◌≡◌, ◌+◌, ◌<◌, ◌≤◌, true, false, [], ◌∷◌, IfErr, IfOk, OnOk, length, option_map, ◌*◌, map};
+ghost use Rattle.std.specs.Prelude.{◌≡◌, ◌+◌, ◌<◌, ◌≤◌, true, false, IfErr, OnOk, length, ◌*◌, map};
 ghost use Rattle.bolt_format.specs.{ElementPlaces.branch_view, Endings.page_ending, Wrote.Wrote};
-ghost use Rattle.bolt_layout.specs.{Levels.overflow_of, Limits.one_less, Layout.placed_bytes, PageBytes.branch_data, PageBytes.branch_headers};
-ghost use Rattle.bolt_bulk.specs.Private.{element_up, IsPushed, IsStanding, key_size, LeavesOut, longest_key, no_run, one_closed, OnlyAbove, own_element, Puts, run_has_room, run_kept, run_page, run_push, run_stays, run_taking, run_view, taking_next, taking_puts, taking_up, IsSizedRun, length_end};
+ghost use Rattle.bolt_layout.specs.{Limits.one_less, PageBytes.branch_data, PageBytes.branch_headers};
+ghost use Rattle.bolt_bulk.specs.Private.{ClosesRun, IsPushed, IsSizedRun, IsStanding, key_size, length_end, longest_key, no_run, one_closed, page_text, run_has_room, run_kept, run_page, run_push, run_stays, run_view, TakesPage};
 ghost use Rattle.bolt_bulk.specs.declared.fault.BulkFault.TheVariants as fault;
 
 use crate::fault::BulkFault;
-use crate::headers::Headers;
 use crate::page_setup::{MAX_ITEMS, PageSetup, number_after};
-use crate::pieces::{put, put_page_header, put_zeros};
+use crate::pieces::{Headers, put, put_page_header, put_zeros};
 use bolt_format::{Branch, ELEMENT_LEN, HEADER_LEN, Kind, Sink, SinkFault};
 use std::alloc::Global;
 
@@ -90,13 +89,8 @@ impl<'a> BranchRun<'a> {
         requires key { length key.now ≤ longest_key }
         requires closed { length closed.key.now ≤ longest_key }
         requires next { next.old ≤ setup.now.limit }
-        ensures pages { Puts S.Sink sink.old sink.new setup.now (taking_puts setup.now.page_size key.now (branch_view closed.entry) next.old (run_view self.old)) result }
-        ensures run { OnOk result (run_view self.new ≡ run_taking setup.now.page_size key.now (branch_view closed.entry) (run_view self.old)) }
+        ensures takes { TakesPage S.Sink sink.old sink.new setup.now key.now (branch_view closed.entry) next.old next.new self.old self.new result }
         ensures standing { OnOk result (IsStanding (run_view self.new)) }
-        ensures next { OnOk result (next.new ≡ taking_next setup.now.page_size key.now (branch_view closed.entry) next.old (run_view self.old)) }
-        ensures within { OnOk result (next.new ≤ setup.now.limit) }
-        ensures up { IfOk result (λ up. option_map branch_view up ≡ taking_up setup.now.page_size key.now (branch_view closed.entry) next.old (run_view self.old)) }
-        ensures large { OnlyAbove setup.now (taking_next setup.now.page_size key.now (branch_view closed.entry) next.old (run_view self.old)) result }
     {
         self.push_page(closed)?;
         if self.stays(setup.page_size, key) {
@@ -119,13 +113,8 @@ impl<'a> BranchRun<'a> {
         requires standing { IsStanding (run_view self.old) }
         requires closed { length closed.key.now ≤ longest_key }
         requires next { next.old ≤ setup.now.limit }
-        ensures pages { Puts S.Sink sink.old sink.new setup.now (run_page setup.now.page_size (run_push (run_view self.old) (branch_view closed.entry)) next.old ∷ []) result }
-        ensures short { LeavesOut S.Sink sink.old sink.new setup.now (run_page setup.now.page_size (run_push (run_view self.old) (branch_view closed.entry)) next.old ∷ []) result }
-        ensures up { IfOk result (λ up. branch_view up ≡ element_up (branch_view closed.entry) next.old (run_view self.old)) }
+        ensures closes { ClosesRun S.Sink sink.old sink.new setup.now (run_push (run_view self.old) (branch_view closed.entry)) next.old next.new result }
         ensures standing { OnOk result (IsStanding (run_view self.new)) }
-        ensures next { OnOk result (next.new ≡ next.old + (1 + overflow_of setup.now.page_size (run_push (run_view self.old) (branch_view closed.entry)).size)) }
-        ensures within { OnOk result (next.new ≤ setup.now.limit) }
-        ensures large { OnlyAbove setup.now (next.old + (1 + overflow_of setup.now.page_size (run_push (run_view self.old) (branch_view closed.entry)).size)) result }
     {
         self.push_page(closed)?;
         self.close(setup, next, sink)
@@ -141,13 +130,8 @@ impl<'a> BranchRun<'a> {
     ) -> Result<Branch<'a>, BulkFault>
         requires pushed { IsPushed (run_view self.old) }
         requires next { next.old ≤ setup.now.limit }
-        ensures pages { Puts S.Sink sink.old sink.new setup.now (run_page setup.now.page_size (run_view self.old) next.old ∷ []) result }
-        ensures short { LeavesOut S.Sink sink.old sink.new setup.now (run_page setup.now.page_size (run_view self.old) next.old ∷ []) result }
-        ensures up { IfOk result (λ up. branch_view up ≡ own_element (run_view self.old) next.old) }
+        ensures closes { ClosesRun S.Sink sink.old sink.new setup.now (run_view self.old) next.old next.new result }
         ensures run { OnOk result (run_view self.new ≡ no_run (one_less self.old.left) (one_closed self.old.closed)) }
-        ensures next { OnOk result (next.new ≡ next.old + (1 + overflow_of setup.now.page_size self.old.size)) }
-        ensures within { OnOk result (next.new ≤ setup.now.limit) }
-        ensures large { OnlyAbove setup.now (next.old + (1 + overflow_of setup.now.page_size self.old.size)) result }
     {
         let number = *next;
         let after = number_after(setup, self.size, number)?;
@@ -202,7 +186,7 @@ fn put_branch_page<S: Sink>(
     requires sized { IsSizedRun (run_view run.now) }
     requires small { run.now.size < length_end }
     requires few { length run.now.elements.items < 65536 }
-    ensures { Wrote S.Sink sink.old sink.new (placed_bytes setup.now.page_size (run_page setup.now.page_size (run_view run.now) number ∷ [])) (page_ending result) }
+    ensures { Wrote S.Sink sink.old sink.new (page_text setup.now (run_page setup.now.page_size (run_view run.now) number)) (page_ending result) }
 {
     if sink.keeps_nothing() {
         return Ok(());

@@ -1,8 +1,8 @@
 //! The open runs of a bucket: the run of items of its leaf under way, and the runs of pages above.
-ghost use Rattle.std.specs.Prelude.{◌≡◌, ◌+◌, ◌<◌, ◌≤◌, true, false, ℕ, [], IfErr, IfOk, OnOk, length, map, vec_capacity, vec_len};
+ghost use Rattle.std.specs.Prelude.{◌≡◌, ◌+◌, ◌<◌, ◌≤◌, true, false, ℕ, IfErr, IfOk, OnOk, length, map, vec_capacity, vec_len};
 ghost use Rattle.std.specs.List.{AllByRecursion};
 ghost use Rattle.bolt_format.specs.{ElementLengths.IsValueLength, ElementPlaces.leaf_view, declared.element.Leaf.Leaf};
-ghost use Rattle.bolt_bulk.specs.Private.{bucket_end_next, bucket_runs, capped, entries_size, HasRoomFor, held_view, inline_element, inline_size, inlined_by, IsHeld, IsOpenBucket, IsWaiting, items_in, leaves_have_room, leaves_of, LeavesOut, length_end, longest_key, no_leaves, OnlyAbove, pending_element, pending_size, Puts, root_size, runs_end, runs_end_put, runs_push, runs_room, runs_room_put, runs_taking, stored_value, value_element, value_item, value_size};
+ghost use Rattle.bolt_bulk.specs.Private.{bucket_runs, capped, ClosesBucket, entries_size, first_run, HasRoomFor, held_view, inline_element, inline_size, inlined_by, IsHeld, IsOpenBucket, items_in, leaves_have_room, leaves_of, length_end, longest_key, MakesRoom, no_leaves, pending_element, Pushes, stored_value, TakesItem, value_element, value_item, values_run};
 ghost use Rattle.bolt_bulk.specs.declared.fault.BulkFault.TheVariants as fault;
 
 use crate::fault::BulkFault;
@@ -11,7 +11,7 @@ use crate::leaf_run::LeafRun;
 use crate::limits::BucketLimits;
 use crate::page_setup::PageSetup;
 use crate::upper_runs::UpperRuns;
-use crate::waiting_bucket::{PendingBucket, ROOT_ITEM_LEN, WaitingBucket};
+use crate::waiting_bucket::PendingBucket;
 use bolt_format::{ELEMENT_LEN, HEAD_LEN, HEADER_LEN, Leaf, Sink};
 use std::alloc::Global;
 
@@ -42,7 +42,7 @@ impl<'a> BucketRuns<'a> {
     /// A bucket that has no item yet.
     pub(crate) fn new(alloc: Global, limits: BucketLimits<'a>) -> BucketRuns<'a>
         ensures open { IsOpenBucket result }
-        ensures runs { (next : ℕ) → bucket_runs result next ≡ record { leaves = no_leaves; uppers = []; limits = limits.entry; next = next } }
+        ensures runs { (next : ℕ) → bucket_runs result next ≡ first_run no_leaves limits.entry next }
     {
         BucketRuns {
             leaves: LeafRun {
@@ -68,7 +68,7 @@ impl<'a> BucketRuns<'a> {
         requires keys { AllByRecursion (λ (entry : Leaf). length entry.key.now ≤ longest_key) entries.now }
         requires values { AllByRecursion (λ (entry : Leaf). entry.is_bucket ≡ false) entries.now }
         ensures open { IfOk result (λ bucket. IsOpenBucket bucket) }
-        ensures runs { IfOk result (λ bucket. (next : ℕ) → bucket_runs bucket next ≡ record { leaves = record { elements = map leaf_view entries.now; size = size }; uppers = []; limits = limits.entry; next = next }) }
+        ensures runs { IfOk result (λ bucket. (next : ℕ) → bucket_runs bucket next ≡ first_run (values_run entries.now size) limits.entry next) }
         ensures fault { IfErr result (λ e. e ≡ fault.Memory) }
     {
         let items = value_items(alloc, entries)?;
@@ -86,7 +86,7 @@ impl<'a> BucketRuns<'a> {
     /// Makes room for the next item, which has this key and size. If there is none, the leaf
     /// closes, before any page of the item is written.
     #[inline(always)]
-    fn make_room<S: Sink>(
+    pub(crate) fn make_room<S: Sink>(
         &mut self,
         setup: &PageSetup,
         key: &[u8],
@@ -98,12 +98,9 @@ impl<'a> BucketRuns<'a> {
         requires key { length key.now ≤ longest_key }
         requires size { size < length_end }
         requires next { next.old ≤ setup.now.limit }
-        ensures pages { Puts S.Sink sink.old sink.new setup.now (runs_room_put setup.now.page_size (bucket_runs self.old next.old) key.now size) result }
-        ensures runs { OnOk result (bucket_runs self.new next.new ≡ runs_room setup.now.page_size (bucket_runs self.old next.old) key.now size) }
+        ensures makes { MakesRoom S.Sink sink.old sink.new setup.now self.old next.old key.now size self.new next.new result }
         ensures open { OnOk result (IsOpenBucket self.new) }
         ensures room { OnOk result (leaves_have_room setup.now.page_size (leaves_of self.new.leaves) size ≡ true) }
-        ensures within { OnOk result (next.new ≤ setup.now.limit) }
-        ensures large { OnlyAbove setup.now ((runs_room setup.now.page_size (bucket_runs self.old next.old) key.now size).next) result }
     {
         if self.leaves.has_room(setup.page_size, size) {
             return Ok(());
@@ -132,7 +129,7 @@ impl<'a> BucketRuns<'a> {
         requires size { size ≡ 16 + (length held.key.now + length (stored_value self.old.leaves.inlined.items held.stored)) }
         requires room { HasRoomFor self.old.leaves size }
         requires memory { vec_len self.old.leaves.items < vec_capacity self.old.leaves.items }
-        ensures runs { (before next : ℕ) → bucket_runs self.new next ≡ runs_push (bucket_runs self.old before) (held_view self.old.leaves.inlined.items held.entry) size next }
+        ensures runs { Pushes self.old self.new (held_view self.old.leaves.inlined.items held.entry) size }
         ensures open { IsOpenBucket self.new }
     {
         self.leaves.items.push_reserved(held);
@@ -146,7 +143,7 @@ impl<'a> BucketRuns<'a> {
         requires apart { inlined_by held.stored ≡ 0 }
         requires size { size ≡ 16 + (length held.key.now + length (stored_value self.old.leaves.inlined.items held.stored)) }
         requires room { HasRoomFor self.old.leaves size }
-        ensures runs { OnOk result ((before next : ℕ) → bucket_runs self.new next ≡ runs_push (bucket_runs self.old before) (held_view self.old.leaves.inlined.items held.entry) size next) }
+        ensures runs { OnOk result (Pushes self.old self.new (held_view self.old.leaves.inlined.items held.entry) size) }
         ensures open { OnOk result (IsOpenBucket self.new) }
         ensures fault { IfErr result (λ e. e ≡ fault.Memory) }
     {
@@ -170,7 +167,7 @@ impl<'a> BucketRuns<'a> {
         requires size { size ≡ inline_size (map leaf_view entries.now) }
         requires small { size < length_end }
         requires room { HasRoomFor self.old.leaves (16 + (length key.now + size)) }
-        ensures runs { OnOk result ((before next : ℕ) → bucket_runs self.new next ≡ runs_push (bucket_runs self.old before) (inline_element key.now sequence (map leaf_view entries.now)) (16 + (length key.now + size)) next) }
+        ensures runs { OnOk result (Pushes self.old self.new (inline_element key.now sequence (map leaf_view entries.now)) (16 + (length key.now + size))) }
         ensures open { OnOk result (IsOpenBucket self.new) }
         ensures fault { IfErr result (λ e. e ≡ fault.Memory) }
     {
@@ -201,11 +198,8 @@ impl<'a> BucketRuns<'a> {
         requires key { length key.now ≤ longest_key }
         requires value { IsValueLength (length value.now) }
         requires next { next.old ≤ setup.now.limit }
-        ensures pages { Puts S.Sink sink.old sink.new setup.now (runs_room_put setup.now.page_size (bucket_runs self.old next.old) key.now (value_size key.now value.now)) result }
-        ensures runs { OnOk result (bucket_runs self.new next.new ≡ runs_taking setup.now.page_size (bucket_runs self.old next.old) (value_element key.now value.now) (value_size key.now value.now)) }
+        ensures takes { TakesItem S.Sink sink.old sink.new setup.now self.old next.old (value_element key.now value.now) self.new next.new result }
         ensures open { OnOk result (IsOpenBucket self.new) }
-        ensures within { OnOk result (next.new ≤ setup.now.limit) }
-        ensures large { OnlyAbove setup.now ((runs_room setup.now.page_size (bucket_runs self.old next.old) key.now (value_size key.now value.now)).next) result }
     {
         let size = ELEMENT_LEN + (key.len() + value.len());
         let stored = Stored::Value(value);
@@ -228,49 +222,13 @@ impl<'a> BucketRuns<'a> {
         requires size { pending.size + 16 ≡ inline_size (map leaf_view entries.now) }
         requires small { pending.size < 2147483632 }
         requires next { next.old ≤ setup.now.limit }
-        ensures pages { Puts S.Sink sink.old sink.new setup.now (runs_room_put setup.now.page_size (bucket_runs self.old next.old) pending.entry.key.now (pending_size pending.entry)) result }
-        ensures runs { OnOk result (bucket_runs self.new next.new ≡ runs_taking setup.now.page_size (bucket_runs self.old next.old) (pending_element pending.entry entries.now) (pending_size pending.entry)) }
+        ensures takes { TakesItem S.Sink sink.old sink.new setup.now self.old next.old (pending_element pending.entry entries.now) self.new next.new result }
         ensures open { OnOk result (IsOpenBucket self.new) }
-        ensures within { OnOk result (next.new ≤ setup.now.limit) }
-        ensures large { OnlyAbove setup.now ((runs_room setup.now.page_size (bucket_runs self.old next.old) pending.entry.key.now (pending_size pending.entry)).next) result }
     {
         let key = pending.key;
         let size = pending.size + HEAD_LEN;
         self.make_room(setup, key, ELEMENT_LEN + (key.len() + size), next, sink)?;
         self.push_inline(key, pending.sequence, entries, size)
-    }
-
-    /// Makes room for a bucket with a root page, and waits for it. The buckets around this one hold
-    /// `around` items.
-    pub(crate) fn enter<S: Sink>(
-        self,
-        setup: &PageSetup,
-        pending: PendingBucket<'a>,
-        around: u64,
-        next: &mut u64,
-        sink: &mut S,
-    ) -> Result<WaitingBucket<'a>, BulkFault>
-        requires open { IsOpenBucket self }
-        requires key { length pending.key.now ≤ longest_key }
-        requires next { next.old ≤ setup.now.limit }
-        ensures pages { Puts S.Sink sink.old sink.new setup.now (runs_room_put setup.now.page_size (bucket_runs self.entry next.old) pending.entry.key.now (root_size pending.entry.key.now)) result }
-        ensures runs { IfOk result (λ waiting. bucket_runs waiting.bucket next.new ≡ runs_room setup.now.page_size (bucket_runs self.entry next.old) pending.entry.key.now (root_size pending.entry.key.now)) }
-        ensures waits { IfOk result (λ waiting. IsWaiting setup.now.page_size waiting) }
-        ensures key { IfOk result (λ waiting. waiting.key.now ≡ pending.entry.key.now) }
-        ensures sequence { IfOk result (λ waiting. waiting.sequence ≡ pending.entry.sequence) }
-        ensures around { IfOk result (λ waiting. waiting.around ≡ around) }
-        ensures within { OnOk result (next.new ≤ setup.now.limit) }
-        ensures large { OnlyAbove setup.now ((runs_room setup.now.page_size (bucket_runs self.entry next.old) pending.entry.key.now (root_size pending.entry.key.now)).next) result }
-    {
-        let mut bucket = self;
-        let key = pending.key;
-        bucket.make_room(setup, key, ROOT_ITEM_LEN + key.len(), next, sink)?;
-        Ok(WaitingBucket {
-            bucket,
-            key,
-            sequence: pending.sequence,
-            around,
-        })
     }
 
     /// Closes all runs, up to the root page, and returns the number of that page.
@@ -283,12 +241,7 @@ impl<'a> BucketRuns<'a> {
     ) -> Result<u64, BulkFault>
         requires open { IsOpenBucket self.old }
         requires next { next.old ≤ setup.now.limit }
-        ensures pages { Puts S.Sink sink.old sink.new setup.now (runs_end_put setup.now.page_size (bucket_runs self.old next.old)) result }
-        ensures short { LeavesOut S.Sink sink.old sink.new setup.now (runs_end_put setup.now.page_size (bucket_runs self.old next.old)) result }
-        ensures root { IfOk result (λ root. root ≡ runs_end setup.now.page_size (bucket_runs self.old next.old)) }
-        ensures next { OnOk result (next.new ≡ bucket_end_next setup.now.page_size (bucket_runs self.old next.old)) }
-        ensures within { OnOk result (next.new ≤ setup.now.limit) }
-        ensures large { OnlyAbove setup.now (bucket_end_next setup.now.page_size (bucket_runs self.old next.old)) result }
+        ensures { ClosesBucket S.Sink sink.old sink.new setup.now self.old next.old next.new result }
     {
         let closed = self.leaves.close(setup, next, sink)?;
         self.uppers.close_all(setup, closed, next, sink)

@@ -1,16 +1,14 @@
 //! The compact copy of a sound file.
-ghost use Rattle.std.specs.Prelude.{◌≡◌, ◌<◌, ◌≤◌, IfOk, OnOk, length};
+ghost use Rattle.std.specs.Prelude.{◌≡◌};
 ghost use Rattle.bolt_check.specs.CheckedFiles.{meta_of};
 ghost use Rattle.bolt_format.specs.Metas.{IsPageSize};
-ghost use Rattle.bolt_tree.specs.{FileListings.ForListing, Tree.tree_of};
-ghost use Rattle.bolt_bulk.specs.Compacting.{Copies, Plans, layout_for, too_many};
-ghost use Rattle.bolt_layout.specs.{Copies.IsSoundCopy, Copies.RefusesPrefixes, Held.most_held, Layout.layout_held, Layout.layout_root};
+ghost use Rattle.bolt_tree.specs.FileListings.{ForListing};
+ghost use Rattle.bolt_bulk.specs.Compacting.{CopiesFile, Plans};
 ghost use Rattle.bolt_layout.specs.declared.layout.Layout.TheVariants.{Plain};
 
 use crate::fault::{BulkFault, PlanFault};
 use crate::laws::a_walk_is_whole;
-use crate::members_copy::{compact_members, plan_members};
-use crate::outcome::{Done, Plan};
+use crate::members_copy::{Done, Plan, compact_members, plan_members};
 use bolt_check::Checked;
 use bolt_format::Sink;
 use bolt_layout::Layout;
@@ -34,11 +32,7 @@ pub fn plan_as(
     requires { IsPageSize page_size }
     ensures { ForListing checked.entry (λ listing. Plans layout page_size (meta_of checked.entry).root_sequence listing result) }
 {
-    let shape = Shape {
-        layout,
-        page_size,
-        sequence: checked.meta().root_sequence,
-    };
+    let shape = shape_of(&checked, layout, page_size);
     let mut walk = Walk::new(alloc, checked);
     a_walk_is_whole(&walk);
     plan_members(alloc, &mut walk, &shape)
@@ -76,17 +70,9 @@ pub fn compact_as<S: Sink>(
     sink: &mut S,
 ) -> Result<Done, BulkFault>
     requires { IsPageSize page_size }
-    ensures copied { ForListing checked.entry (λ listing. Copies S.taken S.failed sink.old sink.new (layout_for layout checked.entry page_size listing) result) }
-    ensures accepted { OnOk result (ForListing checked.entry (λ listing. ∥ IsSoundCopy layout page_size (tree_of listing) (meta_of checked.entry).root_sequence listing ∥₁)) }
-    ensures held { IfOk result (λ done. ForListing checked.entry (λ listing. done.held ≡ layout_held layout page_size (tree_of listing))) }
-    ensures bounded { IfOk result (λ done. ForListing checked.entry (λ listing. done.held ≤ most_held page_size listing)) }
-    ensures prefixes { ForListing checked.entry (λ listing. length (layout_for layout checked.entry page_size listing) < too_many → ∥ RefusesPrefixes (layout_for layout checked.entry page_size listing) (layout_root layout page_size (tree_of listing)) ∥₁) }
+    ensures { CopiesFile S.taken S.failed sink.old sink.new checked.entry layout page_size result }
 {
-    let shape = Shape {
-        layout,
-        page_size,
-        sequence: checked.meta().root_sequence,
-    };
+    let shape = shape_of(&checked, layout, page_size);
     let mut walk = Walk::new(alloc, checked);
     a_walk_is_whole(&walk);
     compact_members(alloc, &mut walk, &shape, sink)
@@ -104,11 +90,7 @@ pub fn compact<S: Sink>(
     sink: &mut S,
 ) -> Result<Done, BulkFault>
     requires { IsPageSize page_size }
-    ensures copied { ForListing checked.entry (λ listing. Copies S.taken S.failed sink.old sink.new (layout_for Plain checked.entry page_size listing) result) }
-    ensures accepted { OnOk result (ForListing checked.entry (λ listing. ∥ IsSoundCopy Plain page_size (tree_of listing) (meta_of checked.entry).root_sequence listing ∥₁)) }
-    ensures held { IfOk result (λ done. ForListing checked.entry (λ listing. done.held ≡ layout_held Plain page_size (tree_of listing))) }
-    ensures bounded { IfOk result (λ done. ForListing checked.entry (λ listing. done.held ≤ most_held page_size listing)) }
-    ensures prefixes { ForListing checked.entry (λ listing. length (layout_for Plain checked.entry page_size listing) < too_many → ∥ RefusesPrefixes (layout_for Plain checked.entry page_size listing) (layout_root Plain page_size (tree_of listing)) ∥₁) }
+    ensures { CopiesFile S.taken S.failed sink.old sink.new checked.entry Plain page_size result }
 {
     compact_as(alloc, checked, Layout::Plain, page_size, sink)
 }
@@ -123,4 +105,18 @@ pub struct Shape {
     /// The sequence of the root bucket.
     pub sequence: u64,
     pub ghost accepted: { IsPageSize page_size },
+}
+
+/// What the copy of a checked file looks like.
+fn shape_of(checked: &Checked<'_>, layout: Layout, page_size: u64) -> Shape
+    requires { IsPageSize page_size }
+    ensures layout { result.layout ≡ layout }
+    ensures page_size { result.page_size ≡ page_size }
+    ensures sequence { result.sequence ≡ (meta_of checked.now).root_sequence }
+{
+    Shape {
+        layout,
+        page_size,
+        sequence: checked.meta().root_sequence,
+    }
 }

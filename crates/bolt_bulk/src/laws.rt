@@ -3,7 +3,7 @@ ghost use Rattle.std.specs.Prelude.{◌≡◌, ◌≤◌, ◌<◌, ◌*◌, ◌^
 ghost use Rattle.bolt_recover.specs.JoinedMembers.{ForJoined, joined_file, joined_left, joined_meta};
 ghost use Rattle.bolt_recover.specs.{Recovered.ForRecovered, Recoveries.recovery_file, Recoveries.recovery_left, Recoveries.recovery_meta};
 ghost use Rattle.bolt_tree.specs.{FileListings.ForListing, Walks.left_of, Walks.walk_checked, Listing.Member, Tree.tree_of};
-ghost use Rattle.bolt_bulk.specs.{WholeListings.IsWholeJoined, WholeListings.IsWholeRecovery, WholeListings.IsWholeWalk, Compacting.too_many};
+ghost use Rattle.bolt_bulk.specs.{WholeListings.IsWholeJoined, WholeListings.IsWholeRecovery, WholeListings.IsWholeWalk, Private.ForFitting};
 ghost use Rattle.bolt_format.specs.Metas.{IsPageSize};
 ghost use Rattle.bolt_layout.specs.{Copies.IsOfOneTree, Copies.IsSoundCopy, Copies.RefusesPrefixes, Copies.layout_of_listing, Held.most_held};
 ghost use Rattle.bolt_layout.specs.{Layout.layout_held, Layout.layout_mark, Layout.layout_root, declared.layout.Layout.Layout};
@@ -67,14 +67,12 @@ pub(crate) fn a_listing_has_one_layout(page_size: u64, sequence: u64)
     requires { IsPageSize page_size }
     ensures length { (which : Layout) (listing : List Member) → ∥ IsOfOneTree listing ∥₁
         → length (layout_of_listing which page_size listing sequence) ≡ layout_mark which page_size (tree_of listing) * page_size }
-    ensures accepted { (which : Layout) (listing : List Member) → ∥ IsOfOneTree listing ∥₁ → length (layout_of_listing which page_size listing sequence) < too_many
-        → ∥ IsSoundCopy which page_size (tree_of listing) sequence listing ∥₁ }
-    ensures held { (which : Layout) (listing : List Member) → ∥ IsOfOneTree listing ∥₁ → length (layout_of_listing which page_size listing sequence) < too_many
-        → layout_held which page_size (tree_of listing) ≤ length (layout_of_listing which page_size listing sequence) }
-    ensures bounded { (which : Layout) (listing : List Member) → ∥ IsOfOneTree listing ∥₁ → length (layout_of_listing which page_size listing sequence) < too_many
-        → layout_held which page_size (tree_of listing) ≤ most_held page_size listing }
-    ensures prefixes { (which : Layout) (listing : List Member) → ∥ IsOfOneTree listing ∥₁ → length (layout_of_listing which page_size listing sequence) < too_many
-        → ∥ RefusesPrefixes (layout_of_listing which page_size listing sequence) (layout_root which page_size (tree_of listing)) ∥₁ }
+    ensures accepted { ForFitting page_size sequence (λ which listing. ∥ IsSoundCopy which page_size (tree_of listing) sequence listing ∥₁) }
+    ensures held { ForFitting page_size sequence (λ which listing.
+        layout_held which page_size (tree_of listing) ≤ length (layout_of_listing which page_size listing sequence)) }
+    ensures bounded { ForFitting page_size sequence (λ which listing. layout_held which page_size (tree_of listing) ≤ most_held page_size listing) }
+    ensures prefixes { ForFitting page_size sequence (λ which listing.
+        ∥ RefusesPrefixes (layout_of_listing which page_size listing sequence) (layout_root which page_size (tree_of listing)) ∥₁) }
 {
     fits(sequence);
     layout_has_length();

@@ -1,15 +1,13 @@
 //! The run of items of a bucket's leaf under way, and the leaf page that it becomes.
-ghost use Rattle.std.specs.Prelude.{◌≡◌, ◌+◌, ◌<◌, ◌≤◌, IfOk, OnErr, OnOk, ◌*◌, ◌++◌, length};
-ghost use Rattle.bolt_format.specs.{ElementPlaces.branch_view, Sinks.AppendsProperPrefix, Wrote.Wrote, Endings.page_ending};
-ghost use Rattle.bolt_layout.specs.{Levels.overflow_of, PageBytes.page_bytes, PageBytes.leaf_data, PageBytes.leaf_headers};
-ghost use Rattle.bolt_bulk.specs.Private.{IsLeafRun, leaf_closed, leaf_page, leaves_have_room, leaves_of, no_leaves, OnlyAbove, AreHeld, held_views, IsHeld, length_end, stored_value};
-ghost use Rattle.bolt_bulk.specs.BulkEndings.{bulk_ending};
+ghost use Rattle.std.specs.Prelude.{◌≡◌, ◌+◌, ◌<◌, ◌≤◌, OnOk, ◌*◌, ◌++◌, length};
+ghost use Rattle.bolt_format.specs.{Wrote.Wrote, Endings.page_ending};
+ghost use Rattle.bolt_layout.specs.{PageBytes.leaf_data, PageBytes.leaf_headers};
+ghost use Rattle.bolt_bulk.specs.Private.{AreHeld, ClosesLeaf, held_views, IsHeld, IsLeafRun, leaf_page, leaves_have_room, leaves_of, length_end, no_leaves, page_text, stored_value};
 
 use crate::fault::BulkFault;
-use crate::headers::Headers;
 use crate::held::Held;
 use crate::page_setup::{MAX_ITEMS, PageSetup, number_after};
-use crate::pieces::{put, put_page_header, put_zeros};
+use crate::pieces::{Headers, put, put_page_header, put_zeros};
 use bolt_format::{Branch, HEADER_LEN, Kind, Leaf, Sink, SinkFault};
 
 /// An open run of items, the entries of the inline buckets among them, and the size of the page
@@ -41,14 +39,9 @@ impl<'a> LeafRun<'a> {
     ) -> Result<Branch<'a>, BulkFault>
         requires run { IsLeafRun self.old }
         requires next { next.old ≤ setup.now.limit }
-        ensures page { Wrote S.Sink sink.old sink.new (page_bytes setup.now.page_size next.old (leaf_page setup.now.page_size (leaves_of self.old) next.old).view) (bulk_ending result) }
-        ensures short { OnErr result (AppendsProperPrefix (S.taken sink.old) (S.taken sink.new) (page_bytes setup.now.page_size next.old (leaf_page setup.now.page_size (leaves_of self.old) next.old).view)) }
-        ensures closed { IfOk result (λ closed. branch_view closed ≡ leaf_closed (leaves_of self.old) next.old) }
+        ensures closes { ClosesLeaf S.Sink sink.old sink.new setup.now (leaves_of self.old) next.old next.new result }
         ensures leaves { OnOk result (leaves_of self.new ≡ no_leaves) }
         ensures run { OnOk result (IsLeafRun self.new) }
-        ensures next { OnOk result (next.new ≡ next.old + (1 + overflow_of setup.now.page_size self.old.size)) }
-        ensures within { OnOk result (next.new ≤ setup.now.limit) }
-        ensures large { OnlyAbove setup.now (next.old + (1 + overflow_of setup.now.page_size self.old.size)) result }
     {
         let number = *next;
         let after = number_after(setup, self.size, number)?;
@@ -118,7 +111,7 @@ fn put_leaf_page<S: Sink>(
     sink: &mut S,
 ) -> Result<(), SinkFault>
     requires { IsLeafRun run.now }
-    ensures { Wrote S.Sink sink.old sink.new (page_bytes setup.now.page_size number (leaf_page setup.now.page_size (leaves_of run.now) number).view) (page_ending result) }
+    ensures { Wrote S.Sink sink.old sink.new (page_text setup.now (leaf_page setup.now.page_size (leaves_of run.now) number)) (page_ending result) }
 {
     if sink.keeps_nothing() {
         return Ok(());

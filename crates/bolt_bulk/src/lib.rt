@@ -9,15 +9,13 @@
 mod branch_run;
 mod bucket_runs;
 mod copy;
+mod entry_steps;
 mod fault;
-mod first_pages;
-mod headers;
 mod held;
 pub mod laws;
 mod leaf_run;
 mod limits;
 mod members_copy;
-mod outcome;
 mod page_setup;
 mod pass;
 mod pieces;
@@ -26,5 +24,4 @@ mod waiting_bucket;
 
 pub use copy::{Shape, compact, compact_as, plan, plan_as};
 pub use fault::{BulkFault, PlanFault};
-pub use members_copy::compact_members;
-pub use outcome::{Done, Plan};
+pub use members_copy::{Done, Plan, compact_members};

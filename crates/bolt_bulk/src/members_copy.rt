@@ -1,57 +1,43 @@
 //! The copy of all members that are given one after another, in a few passes over them.
-ghost use Rattle.std.specs.Prelude.{◌≡◌, ◌*◌, ◌≤◌, ◌<◌, ◌/◌, IfErr, IfOk, List, OnOk, length, ◌↔◌, [], None};
-ghost use Rattle.bolt_format.specs.Metas.{IsPageSize};
-ghost use Rattle.bolt_tree.specs.{Listing.Member, Tree.tree_of};
-ghost use Rattle.bolt_bulk.specs.Compacting.{Copies, Plans, too_many};
-ghost use Rattle.bolt_bulk.specs.{Private.FitAll, Private.Ends, Private.FitLimits, Private.limits_with, WholeListings.IsAgain, WholeListings.IsWhole};
-ghost use Rattle.bolt_layout.specs.{Copies.IsSoundCopy, Copies.RefusesPrefixes, Copies.layout_of_listing, Held.most_held};
-ghost use Rattle.bolt_layout.specs.{Layout.layout_held, Layout.layout_root, declared.layout.Layout.Layout, declared.layout.Layout.TheVariants.Balanced};
-ghost use Rattle.bolt_bulk.specs.declared.fault.PlanFault.TheVariants as planned;
+ghost use Rattle.std.specs.Prelude.{◌≡◌, ◌≤◌, IfOk, List, OnOk, length, ◌↔◌, None};
+ghost use Rattle.bolt_format.specs.{Endings.page_ending, Wrote.Wrote};
+ghost use Rattle.bolt_tree.specs.Listing.{Member};
+ghost use Rattle.bolt_bulk.specs.{Compacting.CopiesEach, Compacting.Plans, WholeListings.IsAgain, WholeListings.IsWhole};
+ghost use Rattle.bolt_bulk.specs.Private.{FindsLimits, first_pages, FitAll, PutsMembers};
+ghost use Rattle.bolt_layout.specs.{PageBytes.copy_meta, PageBytes.filled, declared.layout.Layout.TheVariants.Balanced};
 
 use crate::copy::Shape;
 use crate::fault::{BulkFault, PlanFault};
-use crate::first_pages::put_first_pages;
 use crate::laws::a_listing_has_one_layout;
 use crate::limits::Limits;
-use crate::outcome::{Done, Plan};
-use crate::page_setup::PageSetup;
+use crate::page_setup::{PageSetup, noting_setup_of, setup_of};
 use crate::pass::{Ended, Pass};
-use bolt_format::{Sink, SinkFault};
+use crate::pieces::{put, put_zeros};
+use bolt_format::{Kind, Meta, Sink, SinkFault, meta_page, page_header};
 use bolt_layout::Layout;
 use bolt_tree::Members;
 use std::alloc::Global;
 
-/// The most bytes that a copy may have.
-const MAX_LEN: u64 = 0x7FFF_FFFF_FFFF_FFFF;
+/// The page number of the freelist.
+const FREELIST: u64 = 2;
 
-/// What stays the same for all pages of a copy.
-fn setup_of(alloc: Global, page_size: u64) -> PageSetup
-    requires { IsPageSize page_size }
-    ensures page_size { result.page_size ≡ page_size }
-    ensures limit { result.limit ≡ 9223372036854775807 / page_size }
-    ensures room { 3 ≤ result.limit }
-    ensures bytes { result.limit * result.page_size < 9223372036854775808 }
-{
-    PageSetup {
-        alloc,
-        page_size: page_size as usize,
-        limit: MAX_LEN / page_size,
-    }
+/// Where a copy will have its root page, and its high-water mark (docs/LAYOUT.md, "Numbers").
+#[derive(Clone, Copy, Debug, PartialEq, Eq)]
+pub struct Plan {
+    /// The page number of the root bucket's root page.
+    pub root: u64,
+    /// The high-water mark: the number after the last page.
+    pub high_water: u64,
 }
 
-/// The same for a pass over the plain layout that notes the limits of the balanced one, which is
-/// never 28 times smaller.
-fn noting_setup_of(alloc: Global, page_size: u64) -> PageSetup
-    requires { IsPageSize page_size }
-    ensures page_size { result.page_size ≡ page_size }
-    ensures limit { result.limit ≡ 28 * (9223372036854775807 / page_size) }
-    ensures room { 3 ≤ result.limit }
-{
-    PageSetup {
-        alloc,
-        page_size: page_size as usize,
-        limit: 28 * (MAX_LEN / page_size),
-    }
+/// The size of a copy that was written whole, and how much of it was held at one time.
+#[derive(Clone, Copy, Debug, PartialEq, Eq)]
+pub struct Done {
+    /// How many bytes it has.
+    pub bytes: u64,
+    /// The greatest number of items that the open runs held at one time (docs/LAYOUT.md, "Held
+    /// items").
+    pub held: u64,
 }
 
 /// The limits of rows that yield the balanced layout, which a pass over the plain one notes.
@@ -62,10 +48,7 @@ fn balanced_limits<'a, M: Members<'a>>(
     shape: &Shape,
 ) -> Result<Limits, PlanFault>
     requires { IsWhole M.lists M.left members.old }
-    ensures fit { IfOk result (λ limits. FitAll M.lists members.old Balanced shape.now.page_size limits) }
-    ensures large { IfErr result (λ fault. fault ≡ planned.TooLarge → (listing : List Member) → M.lists members.old listing
-        → too_many ≤ length (layout_of_listing Balanced shape.now.page_size listing shape.now.sequence)) }
-    ensures again { IfOk result (λ limits. IsAgain M.lists M.left M.ends_as members.old members.new) }
+    ensures { FindsLimits M.lists M.left M.ends_as members.old members.new Balanced shape.now.page_size shape.now.sequence result }
 {
     a_listing_has_one_layout(shape.page_size, shape.sequence);
     let none = Limits::none(alloc);
@@ -88,10 +71,7 @@ fn limits_of<'a, M: Members<'a>>(
     shape: &Shape,
 ) -> Result<Limits, PlanFault>
     requires { IsWhole M.lists M.left members.old }
-    ensures fit { IfOk result (λ limits. FitAll M.lists members.old shape.now.layout shape.now.page_size limits) }
-    ensures large { IfErr result (λ fault. fault ≡ planned.TooLarge → (listing : List Member) → M.lists members.old listing
-        → too_many ≤ length (layout_of_listing shape.now.layout shape.now.page_size listing shape.now.sequence)) }
-    ensures again { IfOk result (λ limits. IsAgain M.lists M.left M.ends_as members.old members.new) }
+    ensures { FindsLimits M.lists M.left M.ends_as members.old members.new shape.now.layout shape.now.page_size shape.now.sequence result }
 {
     match shape.layout {
         Layout::Plain => Ok(Limits::none(alloc)),
@@ -154,13 +134,8 @@ pub fn compact_members<'a, M: Members<'a>, S: Sink>(
     sink: &mut S,
 ) -> Result<Done, BulkFault>
     requires { IsWhole M.lists M.left members.old }
-    ensures copied { (listing : List Member) → M.lists members.old listing → Copies S.taken S.failed sink.old sink.new (layout_of_listing shape.now.layout shape.now.page_size listing shape.now.sequence) result }
-    ensures accepted { OnOk result ((listing : List Member) → M.lists members.old listing → ∥ IsSoundCopy shape.now.layout shape.now.page_size (tree_of listing) shape.now.sequence listing ∥₁) }
-    ensures held { IfOk result (λ done. (listing : List Member) → M.lists members.old listing → done.held ≡ layout_held shape.now.layout shape.now.page_size (tree_of listing)) }
-    ensures bounded { IfOk result (λ done. (listing : List Member) → M.lists members.old listing → done.held ≤ most_held shape.now.page_size listing) }
+    ensures copies { CopiesEach S.taken S.failed sink.old sink.new (M.lists members.old) shape.now.layout shape.now.page_size shape.now.sequence result }
     ensures end { OnOk result (M.ends_as members.old members.new) }
-    ensures prefixes { (listing : List Member) → M.lists members.old listing → length (layout_of_listing shape.now.layout shape.now.page_size listing shape.now.sequence) < too_many
-        → ∥ RefusesPrefixes (layout_of_listing shape.now.layout shape.now.page_size listing shape.now.sequence) (layout_root shape.now.layout shape.now.page_size (tree_of listing)) ∥₁ }
 {
     a_listing_has_one_layout(shape.page_size, shape.sequence);
     let limits = limits_of(alloc, members, shape)?;
@@ -174,6 +149,42 @@ pub fn compact_members<'a, M: Members<'a>, S: Sink>(
     })
 }
 
+/// The meta of a copy with this transaction id.
+fn meta(shape: &Shape, plan: &Plan, txid: u64) -> Meta
+    ensures { result ≡ copy_meta shape.now.page_size plan.now.root shape.now.sequence plan.now.high_water txid }
+{
+    Meta {
+        page_size: shape.page_size as u32,
+        root: plan.root,
+        root_sequence: shape.sequence,
+        freelist: FREELIST,
+        high_water: plan.high_water,
+        txid,
+    }
+}
+
+/// Writes bytes, and zeros up to the end of a page.
+#[tactic(auto, using(crate::proofs::PutsLemmas::puts))]
+fn put_filled<S: Sink>(bytes: &[u8], page_size: usize, sink: &mut S) -> Result<(), SinkFault>
+    requires { length bytes.now ≤ page_size }
+    ensures { Wrote S.Sink sink.old sink.new (filled page_size bytes.now) (page_ending result) }
+{
+    put(bytes, sink)?;
+    put_zeros(page_size - bytes.len(), sink)
+}
+
+/// Writes both metas, and a freelist without ids.
+#[tactic(auto, using(crate::proofs::PutsLemmas::puts, crate::proofs::FirstPuts::first_wrote))]
+fn put_first_pages<S: Sink>(shape: &Shape, plan: &Plan, sink: &mut S) -> Result<(), SinkFault>
+    ensures { Wrote S.Sink sink.old sink.new (first_pages shape.now.page_size plan.now.root shape.now.sequence plan.now.high_water) (page_ending result) }
+{
+    let page_size = shape.page_size as usize;
+    put_filled(&meta_page(0, &meta(shape, plan, 0)), page_size, sink)?;
+    put_filled(&meta_page(1, &meta(shape, plan, 1)), page_size, sink)?;
+    let freelist = page_header(FREELIST, Kind::Freelist, 0, 0);
+    put_filled(&freelist, page_size, sink)
+}
+
 /// Writes the pages of all members, in the layout whose rows have these limits. If `notes` is set
 /// and this is the plain layout, it returns the limits of the balanced one.
 fn put_pages<'a, M: Members<'a>, S: Sink>(
@@ -185,8 +196,7 @@ fn put_pages<'a, M: Members<'a>, S: Sink>(
 ) -> Result<Ended, BulkFault>
     requires room { 3 ≤ setup.limit }
     requires whole { IsWhole M.lists M.left members.old }
-    ensures pages { (which : Layout) (listing : List Member) → M.lists members.old listing → FitLimits which (tree_of listing) setup.page_size (limits_with limits.now)
-        → Ends (record { which = which; tree = tree_of listing; notes = notes }) S.Sink sink.old sink.new setup [] result }
+    ensures pages { PutsMembers S.Sink sink.old sink.new M.lists members.old setup limits.now notes result }
     ensures end { OnOk result (M.ends_as members.old members.new) }
     ensures listing { (listing : List Member) → M.lists members.new listing ↔ M.lists members.old listing }
     ensures same_end { (end : M) → M.ends_as members.new end → M.ends_as members.old end }

@@ -1,5 +1,6 @@
 //! What stays the same for all pages of a copy, and the numbers of pages.
-ghost use Rattle.std.specs.Prelude.{◌≡◌, ◌+◌, ◌<◌, ◌≤◌, IfErr, IfOk};
+ghost use Rattle.std.specs.Prelude.{◌≡◌, ◌+◌, ◌*◌, ◌/◌, ◌<◌, ◌≤◌, IfErr, IfOk};
+ghost use Rattle.bolt_format.specs.Metas.{IsPageSize};
 ghost use Rattle.bolt_layout.specs.Levels.{overflow_of};
 ghost use Rattle.bolt_bulk.specs.declared.fault.BulkFault.TheVariants as fault;
 
@@ -8,6 +9,9 @@ use std::alloc::Global;
 
 /// The number of items at which a page is full, whatever its size.
 pub(crate) const MAX_ITEMS: usize = 65534;
+
+/// The most bytes that a copy may have.
+const MAX_LEN: u64 = 0x7FFF_FFFF_FFFF_FFFF;
 
 /// What stays the same for all pages of a copy.
 #[derive(Clone, Copy)]
@@ -20,6 +24,36 @@ pub(crate) struct PageSetup {
     ghost low: { 1024 ≤ page_size },
     ghost high: { page_size ≤ 33554432 },
     ghost counted: { limit ≤ 18446744073709551615 },
+}
+
+/// The setup of a copy at this page size.
+pub(crate) fn setup_of(alloc: Global, page_size: u64) -> PageSetup
+    requires { IsPageSize page_size }
+    ensures page_size { result.page_size ≡ page_size }
+    ensures limit { result.limit ≡ 9223372036854775807 / page_size }
+    ensures room { 3 ≤ result.limit }
+    ensures bytes { result.limit * result.page_size < 9223372036854775808 }
+{
+    PageSetup {
+        alloc,
+        page_size: page_size as usize,
+        limit: MAX_LEN / page_size,
+    }
+}
+
+/// The setup of a pass over the plain layout that notes the limits of the balanced one, which is
+/// never 28 times smaller.
+pub(crate) fn noting_setup_of(alloc: Global, page_size: u64) -> PageSetup
+    requires { IsPageSize page_size }
+    ensures page_size { result.page_size ≡ page_size }
+    ensures limit { result.limit ≡ 28 * (9223372036854775807 / page_size) }
+    ensures room { 3 ≤ result.limit }
+{
+    PageSetup {
+        alloc,
+        page_size: page_size as usize,
+        limit: 28 * (MAX_LEN / page_size),
+    }
 }
 
 /// How many further pages a page of this size takes.

@@ -1,15 +1,14 @@
 //! The pass over everything that a file holds. It follows a walk, and writes each page of the copy
-//! as soon as the page is known.
-ghost use Rattle.std.specs.Prelude.{[], ◌≡◌, ◌+◌, ◌/◌, ◌<◌, ◌≤◌, ◌∷◌, Some, None, IfErr, List, OnOk, length, map};
+//! as soon as the page is known. `entry_steps` has what it does at each entry.
+ghost use Rattle.std.specs.Prelude.{◌≡◌, ◌+◌, ◌≤◌, OnOk, length};
 
 use crate::bucket_runs::BucketRuns;
 use crate::fault::BulkFault;
 use crate::limits::{BucketLimits, Limits, NotedLimits};
-use crate::page_setup::{MAX_ITEMS, PageSetup};
+use crate::page_setup::PageSetup;
 use crate::waiting_bucket::{PendingBucket, WaitingBucket};
-use bolt_format::{ELEMENT_LEN, HEADER_LEN, Leaf, Sink};
+use bolt_format::{Leaf, Sink};
 use bolt_tree::Item;
-use std::mem;
 
 /// What a pass returns.
 #[derive(Drop)]
@@ -49,10 +48,8 @@ pub(crate) struct Pass<'a> {
 }
 
 impl<'a> Pass<'a> {
-    ghost use Rattle.bolt_tree.specs.{Tree.Tree, Tree.with_bucket, Tree.with_value, Listing.Member, Paths.path_of, ShownEntries.item_view};
-    ghost use Rattle.bolt_layout.specs.Laid.{Placed};
-    ghost use Rattle.bolt_bulk.specs.Private.{BeginsAll, capped, Counts, depth_of, Ends, EntersBucket, HasLeft, HasRoot, IsAt, IsFitMember, IsNoDeeper, IsReady, items_by, LeavesBucket, Level, longest_key, onto, Steps, TakesValue, Wanted};
-    ghost use Rattle.bolt_format.specs.{ElementLengths.IsValueLength, ElementPlaces.leaf_view};
+    ghost use Rattle.bolt_tree.specs.{Paths.path_of, ShownEntries.item_view};
+    ghost use Rattle.bolt_bulk.specs.Private.{BeginsAll, depth_of, EndsAll, GoesOn, IsFitMember, IsReady, LeavesTo, TakesMember};
 
     /// A pass before the first page. If `notes` is set, it notes the limits of the balanced
     /// layout's rows.
@@ -94,257 +91,12 @@ impl<'a> Pass<'a> {
         }
     }
 
-    /// How many items the open runs of all its buckets hold. Saturates at 2^64 - 1.
-    fn held(&self) -> u64
-        requires { IsReady self.now }
-        ensures { result ≡ capped (items_by self.now) }
-    {
-        self.around.saturating_add(self.bucket.held())
-    }
-
-    /// Counts the items that the open runs hold now. Only an item that joins a leaf can make them
-    /// the most so far: a page that closes replaces its items by one item of the run above.
-    fn count(&mut self)
-        requires { IsReady self.old }
-        ensures counts { Counts self.old self.new }
-        ensures setup { self.new.setup ≡ self.old.setup }
-        ensures ready { IsReady self.new }
-        ensures depth { depth_of self.new ≡ depth_of self.old }
-    {
-        self.most = self.most.max(self.held());
-    }
-
-    /// Takes a value of the innermost bucket.
-    fn take_value<S: Sink>(
-        &mut self,
-        key: &'a [u8],
-        value: &'a [u8],
-        sink: &mut S,
-    ) -> Result<(), BulkFault>
-        requires ready { IsReady self.old }
-        requires key { length key.now ≤ longest_key }
-        requires value { IsValueLength (length value.now) }
-        ensures setup { OnOk result (self.new.setup ≡ self.old.setup) }
-        ensures ready { OnOk result (IsReady self.new) }
-        ensures depth { OnOk result (depth_of self.new ≡ depth_of self.old) }
-        ensures steps { TakesValue S.Sink sink.old sink.new self.old self.new key.now value.now result }
-    {
-        let Some(pending) = self.pending else {
-            return self.put_value(key, value, sink);
-        };
-        let size = pending.size + (ELEMENT_LEN + (key.len() + value.len()));
-        if size <= self.setup.page_size / 4 && self.entries.len() < MAX_ITEMS {
-            return self.keep_value(pending, key, value, size);
-        }
-        self.open_pending(sink)?;
-        self.put_value(key, value, sink)
-    }
-
-    /// Takes a value of the pending bucket, which may still be inline with it.
-    fn keep_value(
-        &mut self,
-        pending: PendingBucket<'a>,
-        key: &'a [u8],
-        value: &'a [u8],
-        size: usize,
-    ) -> Result<(), BulkFault>
-        requires ready { IsReady self.old }
-        requires pending { self.old.pending ≡ Some pending }
-        requires key { length key.now ≤ longest_key }
-        requires size { size ≡ pending.size + (16 + (length key.now + length value.now)) }
-        requires small { size ≤ self.old.setup.page_size / 4 }
-        requires few { length self.old.entries.items < MAX_ITEMS }
-        ensures setup { OnOk result (self.new.setup ≡ self.old.setup) }
-        ensures ready { OnOk result (IsReady self.new) }
-        ensures depth { OnOk result (depth_of self.new ≡ depth_of self.old) }
-        ensures at { (wanted : Wanted) (after : Tree) (levels : List Level) (put : List Placed) → IsAt wanted self.old levels (with_value key.now value.now after) put
-            → OnOk result (IsAt wanted self.new levels after put) }
-        ensures fault { IfErr result (λ e. e ≡ BulkFault.Memory) }
-    {
-        let entry = Leaf {
-            key,
-            value,
-            is_bucket: false,
-        };
-        self.entries.push(entry)?;
-        self.pending = Some(PendingBucket { size, ..pending });
-        Ok(())
-    }
-
-    /// Takes a value of the open bucket.
-    #[inline(always)]
-    fn put_value<S: Sink>(
-        &mut self,
-        key: &'a [u8],
-        value: &'a [u8],
-        sink: &mut S,
-    ) -> Result<(), BulkFault>
-        requires ready { IsReady self.old }
-        requires pending { self.old.pending ≡ None }
-        requires key { length key.now ≤ longest_key }
-        requires value { IsValueLength (length value.now) }
-        ensures setup { OnOk result (self.new.setup ≡ self.old.setup) }
-        ensures ready { OnOk result (IsReady self.new) }
-        ensures depth { OnOk result (depth_of self.new ≡ depth_of self.old) }
-        ensures steps { TakesValue S.Sink sink.old sink.new self.old self.new key.now value.now result }
-    {
-        self.bucket
-            .add_value(&self.setup, key, value, &mut self.next, sink)?;
-        self.count();
-        Ok(())
-    }
-
-    /// Enters a bucket within the innermost one.
-    fn take_bucket<S: Sink>(
-        &mut self,
-        key: &'a [u8],
-        sequence: u64,
-        sink: &mut S,
-    ) -> Result<(), BulkFault>
-        requires ready { IsReady self.old }
-        requires key { length key.now ≤ longest_key }
-        ensures setup { OnOk result (self.new.setup ≡ self.old.setup) }
-        ensures ready { OnOk result (IsReady self.new) }
-        ensures depth { OnOk result (depth_of self.new ≡ depth_of self.old + 1) }
-        ensures steps { EntersBucket S.Sink sink.old sink.new self.old self.new key.now sequence result }
-    {
-        self.open_pending(sink)?;
-        self.begin(key, sequence);
-        Ok(())
-    }
-
-    /// Begins a bucket within the open one. It may be inline.
-    fn begin(&mut self, key: &'a [u8], sequence: u64)
-        requires ready { IsReady self.old }
-        requires pending { self.old.pending ≡ None }
-        requires key { length key.now ≤ longest_key }
-        ensures setup { self.new.setup ≡ self.old.setup }
-        ensures ready { IsReady self.new }
-        ensures depth { depth_of self.new ≡ depth_of self.old + 1 }
-        ensures at { (wanted : Wanted) (inside after : Tree) (levels : List Level) (put : List Placed) → IsAt wanted self.old levels (with_bucket key.now sequence inside after) put
-            → IsAt wanted self.new (record { key = key.now; after = after } ∷ levels) inside put }
-    {
-        self.pending = Some(PendingBucket {
-            key,
-            sequence,
-            size: HEADER_LEN,
-        });
-    }
-
-    /// Opens the pending bucket, if there is one, with its entries so far, as it turns out to have
-    /// a root page. The bucket around it waits.
-    fn open_pending<S: Sink>(&mut self, sink: &mut S) -> Result<(), BulkFault>
-        requires { IsReady self.old }
-        ensures setup { OnOk result (self.new.setup ≡ self.old.setup) }
-        ensures ready { OnOk result (IsReady self.new) }
-        ensures depth { OnOk result (depth_of self.new ≡ depth_of self.old) }
-        ensures pending { OnOk result (self.new.pending ≡ None) }
-        ensures steps { (wanted : Wanted) (left : Tree) (levels : List Level) (put : List Placed) → IsAt wanted self.old levels left put
-            → HasRoot wanted.which self.old.setup.page_size (onto (map leaf_view self.old.entries.items) left)
-            → Steps wanted S.Sink sink.old sink.new self.old.setup put (IsAt wanted self.new levels left) result }
-    {
-        let Some(pending) = self.pending else {
-            return Ok(());
-        };
-        let limits = BucketLimits {
-            all: self.limits,
-            bucket: self.opened,
-        };
-        let inner = BucketRuns::of_values(
-            self.setup.alloc,
-            self.entries.as_slice(),
-            pending.size,
-            limits,
-        )?;
-        let outer = mem::replace(&mut self.bucket, inner);
-        let waiting = outer.enter(&self.setup, pending, self.around, &mut self.next, sink)?;
-        let around = self.around.saturating_add(waiting.bucket.held());
-        self.waiting.push(waiting)?;
-        self.around = around;
-        self.opened = self.opened.saturating_add(1);
-        self.entries.clear();
-        self.pending = None;
-        self.count();
-        Ok(())
-    }
-
-    /// Ends the innermost bucket.
-    #[inline(never)]
-    fn leave_bucket<S: Sink>(&mut self, sink: &mut S) -> Result<(), BulkFault>
-        requires ready { IsReady self.old }
-        requires within { 1 < depth_of self.old }
-        ensures setup { OnOk result (self.new.setup ≡ self.old.setup) }
-        ensures ready { OnOk result (IsReady self.new) }
-        ensures depth { OnOk result (depth_of self.new + 1 ≡ depth_of self.old) }
-        ensures steps { LeavesBucket S.Sink sink.old sink.new self.old self.new result }
-    {
-        match self.pending {
-            Some(pending) => self.end_inline(pending, sink),
-            None => self.end_open(sink),
-        }
-    }
-
-    /// Ends the pending bucket, which is inline.
-    fn end_inline<S: Sink>(
-        &mut self,
-        pending: PendingBucket<'a>,
-        sink: &mut S,
-    ) -> Result<(), BulkFault>
-        requires ready { IsReady self.old }
-        requires pending { self.old.pending ≡ Some pending }
-        ensures setup { OnOk result (self.new.setup ≡ self.old.setup) }
-        ensures ready { OnOk result (IsReady self.new) }
-        ensures depth { OnOk result (depth_of self.new + 1 ≡ depth_of self.old) }
-        ensures steps { LeavesBucket S.Sink sink.old sink.new self.old self.new result }
-    {
-        self.bucket.add_inline(
-            &self.setup,
-            pending,
-            self.entries.as_slice(),
-            &mut self.next,
-            sink,
-        )?;
-        self.entries.clear();
-        self.pending = None;
-        self.count();
-        Ok(())
-    }
-
-    /// Ends the open bucket, and goes on with the one around it.
-    fn end_open<S: Sink>(&mut self, sink: &mut S) -> Result<(), BulkFault>
-        requires ready { IsReady self.old }
-        requires pending { self.old.pending ≡ None }
-        requires waiting { 0 < length self.old.waiting.items }
-        ensures setup { OnOk result (self.new.setup ≡ self.old.setup) }
-        ensures ready { OnOk result (IsReady self.new) }
-        ensures depth { OnOk result (depth_of self.new + 1 ≡ depth_of self.old) }
-        ensures steps { LeavesBucket S.Sink sink.old sink.new self.old self.new result }
-    {
-        self.noted.bucket_ends(&self.bucket.uppers)?;
-        let Some(waiting) = self.waiting.pop() else {
-            unreachable!()
-        };
-        let around = waiting.around;
-        let inner = mem::replace(
-            &mut self.bucket,
-            BucketRuns::new(self.setup.alloc, waiting.bucket.uppers.limits),
-        );
-        let outer = waiting.end_inner(&self.setup, inner, &mut self.next, sink)?;
-        self.bucket = outer;
-        self.around = around;
-        self.count();
-        Ok(())
-    }
-
     /// Ends buckets until at most `depth` are left.
     fn leave_to<S: Sink>(&mut self, depth: usize, sink: &mut S) -> Result<(), BulkFault>
         requires ready { IsReady self.old }
         requires some { 1 ≤ depth }
-        ensures setup { OnOk result (self.new.setup ≡ self.old.setup) }
-        ensures ready { OnOk result (IsReady self.new) }
-        ensures depth { OnOk result (depth_of self.new ≤ depth) }
-        ensures steps { (wanted : Wanted) (members : List Member) (put : List Placed) → HasLeft wanted self.old members put → IsNoDeeper depth members
-            → Steps wanted S.Sink sink.old sink.new self.old.setup put (HasLeft wanted self.new members) result }
+        ensures on { OnOk result (GoesOn self.old self.new depth) }
+        ensures steps { LeavesTo S.Sink sink.old sink.new self.old self.new depth result }
     {
         'levels: while self.depth() > depth {
             self.leave_bucket(sink)?;
@@ -361,11 +113,8 @@ impl<'a> Pass<'a> {
     ) -> Result<(), BulkFault>
         requires ready { IsReady self.old }
         requires fit { IsFitMember (path_of path.now, item_view item) }
-        ensures setup { OnOk result (self.new.setup ≡ self.old.setup) }
-        ensures ready { OnOk result (IsReady self.new) }
-        ensures depth { OnOk result (depth_of self.new ≤ 1 + length path.now) }
-        ensures steps { (wanted : Wanted) (members : List Member) (put : List Placed) → HasLeft wanted self.old ((path_of path.now, item_view item.entry) ∷ members) put
-            → Steps wanted S.Sink sink.old sink.new self.old.setup put (HasLeft wanted self.new members) result }
+        ensures on { OnOk result (GoesOn self.old self.new (1 + length path.now)) }
+        ensures steps { TakesMember S.Sink sink.old sink.new self.old self.new (path_of path.now, item_view item.entry) result }
     {
         let Some((key, _)) = path.split_last() else {
             unreachable!()
@@ -380,7 +129,7 @@ impl<'a> Pass<'a> {
     /// Ends all buckets, up to the root page of the root bucket.
     pub(crate) fn end_all<S: Sink>(&mut self, sink: &mut S) -> Result<Ended, BulkFault>
         requires { IsReady self.old }
-        ensures { (wanted : Wanted) (put : List Placed) → HasLeft wanted self.old [] put → Ends wanted S.Sink sink.old sink.new self.old.setup put result }
+        ensures { EndsAll S.Sink sink.old sink.new self.old result }
     {
         self.leave_to(1, sink)?;
         self.noted.bucket_ends(&self.bucket.uppers)?;

@@ -1,8 +1,8 @@
 //! The open runs of pages above a bucket's leaves.
-ghost use Rattle.std.specs.Prelude.{◌≡◌, ◌<◌, ◌≤◌, [], IfOk, OnOk, length};
+ghost use Rattle.std.specs.Prelude.{◌≡◌, ◌≤◌, [], OnOk, length};
 ghost use Rattle.std.specs.List.{AllByRecursion};
 ghost use Rattle.bolt_format.specs.ElementPlaces.{branch_view};
-ghost use Rattle.bolt_bulk.specs.Private.{bucket_limit, IsStanding, LeavesOut, longest_key, OnlyAbove, Puts, runs_above, runs_climb, runs_close_put, runs_end_next, runs_next, runs_put, runs_root};
+ghost use Rattle.bolt_bulk.specs.Private.{Climbs, ClosesAbove, IsStanding, longest_key, runs_above};
 
 use crate::branch_run::BranchRun;
 use crate::fault::BulkFault;
@@ -46,13 +46,8 @@ impl<'a> UpperRuns<'a> {
         requires key { length key.now ≤ longest_key }
         requires closed { length closed.key.now ≤ longest_key }
         requires next { next.old ≤ setup.now.limit }
-        ensures pages { Puts S.Sink sink.old sink.new setup.now (runs_put setup.now.page_size key.now (branch_view closed.entry) next.old (runs_above self.old.runs.items)) result }
-        ensures runs { OnOk result (runs_above self.new.runs.items ≡ runs_climb setup.now.page_size (bucket_limit self.old.limits (length (runs_above self.old.runs.items))) key.now (branch_view closed.entry) next.old (runs_above self.old.runs.items)) }
-        ensures limits { OnOk result (self.new.limits ≡ self.old.limits) }
+        ensures climbs { Climbs S.Sink sink.old sink.new setup.now key.now (branch_view closed.entry) next.old next.new self.old self.new result }
         ensures standing { OnOk result (AllByRecursion IsStanding (runs_above self.new.runs.items)) }
-        ensures next { OnOk result (next.new ≡ runs_next setup.now.page_size key.now (branch_view closed.entry) next.old (runs_above self.old.runs.items)) }
-        ensures within { OnOk result (next.new ≤ setup.now.limit) }
-        ensures large { OnlyAbove setup.now (runs_next setup.now.page_size key.now (branch_view closed.entry) next.old (runs_above self.old.runs.items)) result }
     {
         let mut closed = closed;
         for i in 0..self.runs.len() {
@@ -78,12 +73,7 @@ impl<'a> UpperRuns<'a> {
         requires standing { AllByRecursion IsStanding (runs_above self.old.runs.items) }
         requires closed { length closed.key.now ≤ longest_key }
         requires next { next.old ≤ setup.now.limit }
-        ensures pages { Puts S.Sink sink.old sink.new setup.now (runs_close_put setup.now.page_size (branch_view closed.entry) next.old (runs_above self.old.runs.items)) result }
-        ensures short { LeavesOut S.Sink sink.old sink.new setup.now (runs_close_put setup.now.page_size (branch_view closed.entry) next.old (runs_above self.old.runs.items)) result }
-        ensures root { IfOk result (λ root. root ≡ runs_root setup.now.page_size (branch_view closed.entry) next.old (runs_above self.old.runs.items)) }
-        ensures next { OnOk result (next.new ≡ runs_end_next setup.now.page_size (branch_view closed.entry) next.old (runs_above self.old.runs.items)) }
-        ensures within { OnOk result (next.new ≤ setup.now.limit) }
-        ensures large { OnlyAbove setup.now (runs_end_next setup.now.page_size (branch_view closed.entry) next.old (runs_above self.old.runs.items)) result }
+        ensures { ClosesAbove S.Sink sink.old sink.new setup.now (branch_view closed.entry) next.old next.new (runs_above self.old.runs.items) result }
     {
         let mut closed = closed;
         for i in 0..self.runs.len() {

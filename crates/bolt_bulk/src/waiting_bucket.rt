@@ -1,6 +1,6 @@
 //! A bucket that waits while one within it is open, and one that may turn out to be inline.
-ghost use Rattle.std.specs.Prelude.{◌≡◌, ◌+◌, ◌<◌, ◌≤◌, ℕ, IfOk, OnOk, length};
-ghost use Rattle.bolt_bulk.specs.Private.{bucket_end_next, bucket_runs, IsOpenBucket, IsWaiting, LeavesOut, OnlyAbove, Puts, root_element, root_size, runs_end, runs_end_put, runs_push};
+ghost use Rattle.std.specs.Prelude.{◌≤◌, IfOk, length};
+ghost use Rattle.bolt_bulk.specs.Private.{bucket_runs, EndsInner, Enters, IsOpenBucket, IsWaiting, longest_key};
 
 use crate::bucket_runs::BucketRuns;
 use crate::fault::BulkFault;
@@ -22,6 +22,33 @@ pub(crate) struct WaitingBucket<'a> {
 }
 
 impl<'a> WaitingBucket<'a> {
+    /// Makes room in an open bucket for a bucket with a root page within it, and waits for that one.
+    /// The buckets around the open one hold `around` items.
+    pub(crate) fn enter<S: Sink>(
+        outer: BucketRuns<'a>,
+        setup: &PageSetup,
+        pending: PendingBucket<'a>,
+        around: u64,
+        next: &mut u64,
+        sink: &mut S,
+    ) -> Result<WaitingBucket<'a>, BulkFault>
+        requires open { IsOpenBucket outer }
+        requires key { length pending.key.now ≤ longest_key }
+        requires next { next.old ≤ setup.now.limit }
+        ensures enters { Enters S.Sink sink.old sink.new setup.now outer.entry next.old pending.entry around next.new result }
+        ensures waits { IfOk result (λ waiting. IsWaiting setup.now.page_size waiting) }
+    {
+        let mut bucket = outer;
+        let key = pending.key;
+        bucket.make_room(setup, key, ROOT_ITEM_LEN + key.len(), next, sink)?;
+        Ok(WaitingBucket {
+            bucket,
+            key,
+            sequence: pending.sequence,
+            around,
+        })
+    }
+
     /// Ends the bucket within, and takes its item. Memory for the item is reserved first, so any
     /// failure leaves some page out.
     #[tactic(auto, using(crate::proofs::PutsLemmas::nothing_put))]
@@ -35,14 +62,8 @@ impl<'a> WaitingBucket<'a> {
         requires open { IsOpenBucket bucket }
         requires waits { IsWaiting setup.now.page_size self }
         requires next { next.old ≤ setup.now.limit }
-        ensures pages { Puts S.Sink sink.old sink.new setup.now (runs_end_put setup.now.page_size (bucket_runs bucket.entry next.old)) result }
-        ensures short { LeavesOut S.Sink sink.old sink.new setup.now (runs_end_put setup.now.page_size (bucket_runs bucket.entry next.old)) result }
-        ensures runs { IfOk result (λ outer. (before : ℕ) → bucket_runs outer next.new
-            ≡ runs_push (bucket_runs self.entry.bucket before) (root_element self.entry.key.now (runs_end setup.now.page_size (bucket_runs bucket.entry next.old)) self.entry.sequence)
-            (root_size self.entry.key.now) (bucket_end_next setup.now.page_size (bucket_runs bucket.entry next.old))) }
+        ensures ends { EndsInner S.Sink sink.old sink.new setup.now self.entry bucket.entry next.old next.new result }
         ensures open { IfOk result (λ outer. IsOpenBucket outer) }
-        ensures within { OnOk result (next.new ≤ setup.now.limit) }
-        ensures large { OnlyAbove setup.now (bucket_end_next setup.now.page_size (bucket_runs bucket.entry next.old)) result }
     {
         let mut outer = self.bucket;
         outer.reserve()?;

@@ -3,7 +3,7 @@ use Rattle.std.proofs.Common.{◌≡◌, ◌≢◌, ◌∙◌, ◌+◌, ◌<◌,
 use Rattle.bolt_cli.proofs.Vocabulary.{Appends, AppendsProperPrefix, AppendsProperPrefix-first, BulkFault, EndsCopy, HashesSince, Holds256, IsErrAnd, IsOk, Keeps, OnOk, Sha256, StopsShort, cases_lt, copied, copy_of, length-sha256, sha256, too_many}
 use Rattle.bolt_bulk.specs.Compacting.{Copies}
 use Rattle.bolt_bulk.specs.declared.fault.BulkFault.TheVariants as bulk
-use Rattle.bolt_bulk.specs.declared.outcome.Done.{Done}
+use Rattle.bolt_bulk.specs.declared.members_copy.Done.{Done}
 use Rattle.bolt_cli.proofs.HashLemmas.{short_with_hash, whole_with_hash}
 
 -- a proper prefix of the layout is one of the copy

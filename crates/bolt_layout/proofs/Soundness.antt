@@ -114,16 +114,20 @@ pub record IsLaidOut (which : Layout) (page_size : ℕ) (tree : Tree) (sequence 
   pub low : height ≤ 63
   pub page : IsPage page_size height (root_over which page_size (items_of which page_size tree)) (items_of which page_size tree)
 
+-- the page at the top over the items of a tree
+tree_page : (which : Layout) (page_size : ℕ) (tree : Tree) → IsPageSize page_size → IsStorable tree
+    → (height : ℕ) × ((root_over which page_size (items_of which page_size tree)).numbers ≤ limit → height ≤ 63) × IsPage page_size height (root_over which page_size (items_of which page_size tree)) (items_of which page_size tree)
+tree_page which page_size tree size storable =
+    let bounds = size_bounds page_size size in
+    let all = tree_items which page_size (omega arith) (omega arith) tree storable.lengths storable.rising_inside in
+    root_page which page_size (items_of which page_size tree) (omega arith) (omega arith) all (tree_rise which page_size tree storable.rising)
+
 -- it has as many bytes as its pages
 pub layout_length : (which : Layout) (page_size : ℕ) (tree : Tree) (sequence : ℕ) → IsPageSize page_size → IsStorable tree
     → length (layout_of which page_size tree sequence) ≡ layout_mark which page_size tree * page_size
 unfolding layout_of root_of
 layout_length which page_size tree sequence size storable =
-    let bounds = size_bounds page_size size in
-    let items = items_of which page_size tree in
-    let all = tree_items which page_size (omega arith) (omega arith) tree storable.lengths storable.rising_inside in
-    let rise = tree_rise which page_size tree storable.rising in
-    let (height, low, page) = root_page which page_size items (omega arith) (omega arith) all rise in
+    let (height, low, page) = tree_page which page_size tree size storable in
     let pages : List Placed = layout_pages which page_size tree in
     let mark : ℕ = layout_mark which page_size tree in
     let exact = length-placed page_size 3 mark pages (page.pages.row 3) (page.pages.room 3) in
@@ -135,10 +139,7 @@ unfolding layout_of root_of
 laid_out which page_size tree sequence size storable sized short =
     let exact = layout_length which page_size tree sequence size storable in
     let bounds = size_bounds page_size size in
-    let items = items_of which page_size tree in
-    let all = tree_items which page_size (omega arith) (omega arith) tree storable.lengths storable.rising_inside in
-    let rise = tree_rise which page_size tree storable.rising in
-    let (height, low, page) = root_page which page_size items (omega arith) (omega arith) all rise in
+    let (height, low, page) = tree_page which page_size tree size storable in
     let pages : List Placed = layout_pages which page_size tree in
     let root : ℕ = layout_root which page_size tree in
     let mark : ℕ = layout_mark which page_size tree in

@@ -1,7 +1,7 @@
 -- The items of a tree are read back, have room, and are parts of a sound tree of pages.
 use Rattle.std.proofs.Common.{◌≡◌, ◌∙◌, ℕ, ◌+◌, ◌*◌, ◌/◌, ◌^◌, ◌<◌, ◌≤◌, ◌==◌, not, nat_le, Bool, true, false, List, [], ◌∷◌, length, map, Option, Some, None, refl, sym, ap, subst, arith}
 use Rattle.std.proofs.lemmas.Bool.{leb-true, not-true}
-use Rattle.bolt_layout.proofs.Words.{AllByRecursion, and_parts, append-nil, At_inline, At_page, bucket_item, bucket_spots, common_steps, contains_head, contains_tail, elements_of, end, eq-eqb, finding_of, follow, HasLengths, head_bytes, head_root, head_sequence, head_written, holds_bucket, inline_elements, inline_finding, inline_value, is_inline, IsBelow, items_of, Key, key_cmp, keys_in, keys_of, Laid, largest_page, Layout, leaf_data, leaf_entry, leaf_item, LeafElement, length-append, length-header_bytes, max_items, ne_eqb, Rises, RisesInside, root_over, root_spot, run_size, size_of, Spot, stored_bucket, Tree, value_fault, with_bucket, with_value}
+use Rattle.bolt_layout.proofs.Words.{AllByRecursion, and_parts, append-nil, At_inline, At_page, bucket_item, bucket_spots, common_steps, contains_head, contains_tail, elements_of, end, eq-eqb, finding_of, follow, HasLengths, head_bytes, head_root, head_sequence, head_written, holds_bucket, inline_elements, inline_finding, inline_value, is_inline, IsBelow, items_of, Key, key_cmp, keys_in, keys_of, Laid, largest_page, Layout, leaf_data, leaf_entry, leaf_item, LeafElement, length-append, length-header_bytes, max_items, ne_eqb, Nodes, Rises, RisesInside, root_over, root_spot, run_size, size_of, Spot, stored_bucket, Tree, value_fault, with_bucket, with_value}
 use Rattle.bolt_layout.proofs.{InlineLemmas.IsFlat, InlineLemmas.inline_written, SpanLemmas.length-leaf_bytes}
 use Rattle.bolt_layout.proofs.{KeyLaws.IsBelowItem, KeyLaws.IsWithin, KeyLaws.Rise, ListLemmas.all_weaker}
 use Rattle.bolt_layout.proofs.{OverRows.HasShortKey, OverRows.IsAtMost, OverRows.root_is_over, Parts.IsPart, Parts.part_inline, Parts.part_none}
@@ -9,18 +9,24 @@ use Rattle.bolt_layout.proofs.{LaidPages.limit, LaidItems.IsItem, LaidItems.item
 use Rattle.bolt_layout.proofs.{LeafPages.IsPage, LeafPages.above_none, LeafPages.items_keys, BranchPages.over_page}
 use Rattle.bolt_format.proofs.WrittenHeaders.{length-head_bytes, root_passes}
 
--- a value
-value_item : (page_size : ℕ) (key value : List ℕ) → 1 ≤ length key → length key ≤ 0x40000000 → length value ≤ 0x7FFFFFFE → IsItem page_size (leaf_item key value false)
-value_item page_size key value some short sized = record {
+-- an item with no pages below it
+flat_item : (page_size : ℕ) (key value : List ℕ) (flag : Bool) → 1 ≤ length key → length key ≤ 0x40000000 → length value ≤ 0x7FFFFFFE → (flag ≡ true → value_fault value ≡ None)
+    → ((nodes : Nodes) (n host : ℕ) → 1 ≤ n → IsPart nodes (follow nodes (bucket_spots host (leaf_entry (record { key = key; value = value; is_bucket = flag })))) n (n + 0))
+    → IsItem page_size (leaf_item key value flag)
+flat_item page_size key value flag some short sized bucket part = record {
   pages = record { row = λ n. omega arith; room = λ n. tt; fits = λ n any h. tt };
   some = some;
   short = short;
   most = omega arith;
   key = λ n. refl;
   size = λ n. refl;
-  fit = λ n any h. record { some = some; key = short; value = sized; bucket = λ e. absurd (cc) };
-  part = λ nodes n host any h shown. part_none nodes n (n + 0) (omega arith);
+  fit = λ n any h. record { some = some; key = short; value = sized; bucket = bucket };
+  part = λ nodes n host any h shown. part nodes n host any;
 }
+
+-- a value
+value_item : (page_size : ℕ) (key value : List ℕ) → 1 ≤ length key → length key ≤ 0x40000000 → length value ≤ 0x7FFFFFFE → IsItem page_size (leaf_item key value false)
+value_item page_size key value some short sized = flat_item page_size key value false some short sized (λ e. absurd (cc)) (λ nodes n host any. part_none nodes n (n + 0) (omega arith))
 
 -- an inline bucket
 flat_elements : (which : Layout) (page_size : ℕ) (tree : Tree) → holds_bucket tree ≡ false → HasLengths tree → (n : ℕ) → AllByRecursion IsFlat (elements_of (items_of which page_size tree) n)
@@ -79,19 +85,10 @@ inline_item which page_size key sequence inside small some short sized lengths a
     let written = inline_read which page_size sequence inside small sized lengths all inline in
     let keys = items_keys page_size items all None None None 0 rise (above_none items) (within_none items) in
     let named : map (λ (i : LeafElement). i.key) (inline_elements value) ≡ keys_of (map leaf_entry es) = ap (λ (x : List LeafElement). map (λ (i : LeafElement). i.key) x) written.3 ∙ sym (keys_same es) in
-    record {
-      pages = record { row = λ n. omega arith; room = λ n. tt; fits = λ n any h. tt };
-      some = some;
-      short = short;
-      most = omega arith;
-      key = λ n. refl;
-      size = λ n. refl;
-      fit = λ n any h. record { some = some; key = short; value = omega arith; bucket = λ e. written.0 };
-      part = λ nodes n host any h shown.
-          let fine : inline_finding host (keys_of (map leaf_entry es)) ≡ None = ap (λ (o : Option ℕ). finding_of o host) keys in
-          subst (λ (o : Option Spot). IsPart nodes (follow nodes o) n (n + 0)) (sym (inline_spot host (record { key = key; value = value; is_bucket = true }) (keys_of (map leaf_entry es)) refl written.1 named))
-          (part_inline nodes host n (n + 0) (keys_of (map leaf_entry es)) (omega arith) fine);
-    }
+    flat_item page_size key value true some short (omega arith) (λ e. written.0) (λ nodes n host any.
+    let fine : inline_finding host (keys_of (map leaf_entry es)) ≡ None = ap (λ (o : Option ℕ). finding_of o host) keys in
+    subst (λ (o : Option Spot). IsPart nodes (follow nodes o) n (n + 0)) (sym (inline_spot host (record { key = key; value = value; is_bucket = true }) (keys_of (map leaf_entry es)) refl written.1 named))
+    (part_inline nodes host n (n + 0) (keys_of (map leaf_entry es)) (omega arith) fine))
 
 -- the root page of a bucket's items
 pub root_page : (which : Layout) (page_size : ℕ) (items : List (Laid LeafElement)) → 0 < page_size → page_size ≤ largest_page → AllByRecursion (IsItem page_size) items → Rise items

@@ -1,4 +1,5 @@
-//! The words of a line.
+//! The words of a line: how a text is cut into lines, and a line into words, and how a number is
+//! read.
 ghost use Rattle.std.specs.Prelude.{◌≡◌, option_and_then, option_map, ◌∷◌, [], MatchOption};
 ghost use Rattle.bolt_tree.specs.Entries.{Bucket};
 ghost use Rattle.bolt_load.specs.{LineMembers.item_in, LineMembers.line_member, Numbers.number_in, Private.LineWords.word_item, Private.LineWords.words_member};

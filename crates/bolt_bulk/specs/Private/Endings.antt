@@ -12,19 +12,23 @@ use Rattle.bolt_bulk.specs.declared.fault.BulkFault.TheVariants as fault
 use Rattle.bolt_bulk.specs.{declared.pass.Ended.Ended, BulkEndings.bulk_ending}
 use Rattle.bolt_format.specs.{Wrote.Wrote, declared.sink.Sink.Ghosts}
 
--- The pages `put` were written earlier. The others of the layout are written, or a proper prefix of their bytes. The root page, the high-water
--- mark and the number of items held are returned and, if they are asked for, the limits that yield the balanced layout.
-pub record Ends {S : Type 0} (wanted : Wanted) (sink : Ghosts S) (old new : S) (setup : PageSetup) (put : List Placed) (result : Result Ended BulkFault) : Type 0 where
-  pub others : List Placed
-  pub all : layout_pages wanted.which setup.page_size wanted.tree ≡ put ++ others
-  pub puts : Wrote sink old new (placed_bytes setup.page_size others) (bulk_ending result)
-  pub short : OnErr result (AppendsProperPrefix (sink.taken old) (sink.taken new) (placed_bytes setup.page_size others))
+-- The root page, the high-water mark and the number of items held are returned and, if they are asked for, the limits that yield the balanced
+-- layout.
+pub record Returns (wanted : Wanted) (setup : PageSetup) (result : Result Ended BulkFault) : Type 0 where
   pub root : IfOk result (λ ended. ended.root ≡ layout_root wanted.which setup.page_size wanted.tree)
   pub mark : IfOk result (λ ended. ended.high_water ≡ layout_mark wanted.which setup.page_size wanted.tree)
   pub within : IfOk result (λ ended. ended.high_water ≤ setup.limit)
   pub noted : IfOk result (λ ended. wanted.notes ≡ true → wanted.which ≡ Plain → FitLimits Balanced wanted.tree setup.page_size (limits_with ended.noted))
   pub held : IfOk result (λ ended. ended.held ≡ capped (layout_held wanted.which setup.page_size wanted.tree))
   pub large : IfErr result (λ e. e ≡ fault.TooLarge → setup.limit < layout_mark wanted.which setup.page_size wanted.tree)
+
+-- The pages `put` were written earlier. The others of the layout are written, or a proper prefix of their bytes.
+pub record Ends {S : Type 0} (wanted : Wanted) (sink : Ghosts S) (old new : S) (setup : PageSetup) (put : List Placed) (result : Result Ended BulkFault) : Type 0 where
+  pub others : List Placed
+  pub all : layout_pages wanted.which setup.page_size wanted.tree ≡ put ++ others
+  pub puts : Wrote sink old new (placed_bytes setup.page_size others) (bulk_ending result)
+  pub short : OnErr result (AppendsProperPrefix (sink.taken old) (sink.taken new) (placed_bytes setup.page_size others))
+  pub returned : Returns wanted setup result
 
 -- the last part of a path
 abbrev pub last_part : Path → Key

@@ -2,7 +2,7 @@
 use Rattle.std.specs.Prelude.{◌≡◌, ◌<◌, ◌≤◌, ℕ, suc, ◌+◌, ◌/◌, Bool, true, false, List, [], ◌∷◌, ◌++◌, length, map, reverse, Option, Some, None, Result, IfErr, OnOk}
 use Rattle.std.specs.List.{AllByRecursion}
 use Rattle.bolt_format.specs.{ElementPlaces.leaf_view, Elements.BranchElement, Elements.LeafElement, declared.element.Leaf.Leaf}
-use Rattle.bolt_tree.specs.{Listing.Member, Tree.Tree, Tree.end, Tree.listing_of, Tree.tree_of, Tree.with_bucket, Tree.with_value}
+use Rattle.bolt_tree.specs.{Listing.Member, Tree.Tree, Tree.end, Tree.with_bucket, Tree.with_value}
 use Rattle.bolt_layout.specs.{Items.is_inline, Items.items_of, Items.root_of, Laid.Laid, Laid.Placed}
 use Rattle.bolt_layout.specs.{Layout.layout_mark, Layout.layout_pages, Layout.placed_bytes, Limits.HaveRightLimits, Limits.limit_at, Limits.limits_from_ends}
 use Rattle.bolt_layout.specs.Openings.{AreRight, leaf_pages, limits_for, opened_by, opened_in, row_ends_of}
@@ -197,26 +197,8 @@ pub record HasLeft (wanted : Wanted) (pass : Pass) (members : List Member) (put 
   pub at : IsAt wanted pass levels left put
   pub members_are : left_in levels left ≡ members
 
--- what a pass knows at its beginning, if these limits of rows are right
-abbrev pub BeginsAll : Limits → (notes : Bool) → (page_size : ℕ) → Pass → Type 0
-BeginsAll limits notes page_size pass = (wanted : Wanted) → wanted.notes ≡ notes → FitLimits wanted.which wanted.tree page_size (limits_with limits) → HasLeft wanted pass (listing_of wanted.tree) []
-
--- the next entry is a value, and is taken
-abbrev pub TakesValue : {S A : Type 0} → Ghosts S → (old new : S) → (before after : Pass) → (key value : List ℕ) → Result A BulkFault → Type 0
-TakesValue sink old new before after key value result = (wanted : Wanted) (rest : Tree) (levels : List Level) (put : List Placed) → IsAt wanted before levels (with_value key value rest) put
-    → Steps wanted sink old new before.setup put (IsAt wanted after levels rest) result
-
--- the next entry is a bucket, and is entered
-abbrev pub EntersBucket : {S A : Type 0} → Ghosts S → (old new : S) → (before after : Pass) → (key : List ℕ) → (sequence : ℕ) → Result A BulkFault → Type 0
-EntersBucket sink old new before after key sequence result =
-    (wanted : Wanted) (inside rest : Tree) (levels : List Level) (put : List Placed) → IsAt wanted before levels (with_bucket key sequence inside rest) put
-    → Steps wanted sink old new before.setup put (IsAt wanted after (record { key = key; after = rest } ∷ levels) inside) result
-
--- the innermost bucket has no more entries, and is left
-abbrev pub LeavesBucket : {S A : Type 0} → Ghosts S → (old new : S) → (before after : Pass) → Result A BulkFault → Type 0
-LeavesBucket sink old new before after result = (wanted : Wanted) (level : Level) (levels : List Level) (put : List Placed) → IsAt wanted before (level ∷ levels) end put
-    → Steps wanted sink old new before.setup put (IsAt wanted after levels level.after) result
-
--- the limits are right for each tree that is listed
-abbrev pub FitAll : {M : Type 0} → (M → List Member → Type 0) → M → Layout → (page_size : ℕ) → Limits → Type 0
-FitAll lists members which page_size limits = (listing : List Member) → lists members listing → FitLimits which (tree_of listing) page_size (limits_with limits)
+-- a pass goes on with the same setup, in at most this many buckets
+pub record GoesOn (before after : Pass) (depth : ℕ) : Type 0 where
+  pub setup : after.setup ≡ before.setup
+  pub ready : IsReady after
+  pub depth_is : depth_of after ≤ depth

@@ -75,6 +75,10 @@ pub record BucketRunsView : Type 0 where
   pub limits : BucketLimits
   pub next : ℕ
 
+-- only the first leaf of a bucket is under way
+abbrev pub first_run : LeafRunView → BucketLimits → (next : ℕ) → BucketRunsView
+first_run leaves limits next = record { leaves = leaves; uppers = []; limits = limits; next = next }
+
 abbrev pub leaves_have_room : ℕ → LeafRunView → ℕ → Bool
 leaves_have_room page_size run size = nat_lt (length run.elements) 1 || (nat_le (run.size + size) page_size && nat_lt (length run.elements) max_items)
 

@@ -2,7 +2,7 @@
 use Rattle.std.specs.Prelude.{ℕ, ◌+◌, ◌*◌, true, false, List, length, map}
 use Rattle.bolt_format.specs.{ElementPlaces.leaf_view, declared.element.Leaf.Leaf, Elements.LeafElement, Written.head_bytes}
 use Rattle.bolt_bulk.specs.declared.waiting_bucket.PendingBucket.{PendingBucket}
-use Rattle.bolt_bulk.specs.Private.RunViews.{BucketRunsView, runs_push, runs_room}
+use Rattle.bolt_bulk.specs.Private.RunViews.{BucketRunsView, LeafRunView, runs_push, runs_room}
 use Rattle.bolt_layout.specs.PageBytes.{inline_value, leaf_data}
 
 abbrev pub value_element : (key value : List ℕ) → LeafElement
@@ -14,18 +14,19 @@ inline_element key sequence entries = record { key = key; value = inline_value s
 abbrev pub root_element : (key : List ℕ) → (root sequence : ℕ) → LeafElement
 root_element key root sequence = record { key = key; value = head_bytes root sequence; is_bucket = true }
 
--- the sizes of these items: of a value, of a bucket with a root page, and of the bucket that may be inline
-abbrev pub value_size : (key value : List ℕ) → ℕ
-value_size key value = 16 + (length key + length value)
+-- the size of an item, and that of a bucket with a root page
+abbrev pub element_size : LeafElement → ℕ
+element_size e = 16 + (length e.key + length e.value)
 
 abbrev pub root_size : (key : List ℕ) → ℕ
 root_size key = 32 + length key
 
-abbrev pub pending_size : PendingBucket → ℕ
-pending_size pending = 16 + (length pending.key.now + (pending.size + 16))
-
 abbrev pub pending_element : PendingBucket → List Leaf → LeafElement
 pending_element pending entries = inline_element pending.key.now pending.sequence (map leaf_view entries)
+
+-- a run of entries that are values, and of this size
+abbrev pub values_run : List Leaf → (size : ℕ) → LeafRunView
+values_run entries size = record { elements = map leaf_view entries; size = size }
 
 -- the sizes of a page over entries, and of the value of an inline bucket that has them
 abbrev pub entries_size : List LeafElement → ℕ

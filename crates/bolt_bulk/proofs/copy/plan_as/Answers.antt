@@ -1,15 +1,8 @@
 -- The members are those of the file's listing.
-use Rattle.std.proofs.Common.{List, subst₂}
-use Rattle.bolt_check.specs.{CheckedFiles.bytes_of, CheckedFiles.meta_of, declared.checked_file.Checked.Checked}
-use Rattle.bolt_format.specs.declared.meta.Meta.{Meta}
-use Rattle.bolt_tree.specs.Listing.{IsListing, Member}
-use Rattle.bolt_bulk.specs.Compacting.{Plans}
 use Rattle.bolt_bulk.proofs.copy.plan_as.Goals as goal
 
 pub a_walk_is_whole-requires : goal.a_walk_is_whole-requires
 a_walk_is_whole-requires c = rw c.new-walk.ensures.checked c.new-walk.ensures.all
 
 pub returns : goal.returns
-returns c = subst₂
-    (λ (file : Checked) (meta : Meta). (listing : List Member) → IsListing (bytes_of file) (meta_of file) listing → Plans c.args.layout c.args.page_size meta.root_sequence listing c.plan_members.result)
-    c.new-walk.ensures.checked c.meta.ensures c.plan_members.ensures
+returns c = rw (c.new-walk.ensures.checked, c.shape_of-shape.ensures.layout, c.shape_of-shape.ensures.page_size, c.shape_of-shape.ensures.sequence) at c.plan_members.ensures

@@ -1,6 +1,7 @@
 -- The plain layout is never 28 times larger than the balanced one, so a pass over it that finds no room notes that neither has any.
 use Rattle.std.proofs.Common.{◌<◌, ℕ, refl, ap, subst, arith}
 use Rattle.std.proofs.Math.Logic.{∥∥₁_elim}
+use Rattle.std.proofs.lemmas.Grind.{common_steps}
 use Rattle.std.proofs.Props.{props}
 use Rattle.bolt_tree.specs.Tree.{tree_of}
 use Rattle.bolt_layout.specs.{Layout.layout_mark, declared.layout.Layout.TheVariants.Balanced, declared.layout.Layout.TheVariants.Plain}
@@ -8,19 +9,27 @@ use Rattle.bolt_bulk.specs.Private.{FitLimits, limits_with}
 use Rattle.bolt_bulk.proofs.{FileLayouts.balanced_too_large, Openings.fit_plain, PutsLemmas.Wrote-failed}
 use Rattle.bolt_bulk.proofs.members_copy.balanced_limits.Goals as goal
 
-pub returns-in-Ok-clause-fit : goal.returns-in-Ok-clause-fit
-returns-in-Ok-clause-fit g c = λ listing lists.
-    let ends = c.in-Ok.ensures.pages Plain listing lists (fit_plain c.noting_setup_of-setup.result.page_size c.none-none.result (tree_of listing) c.none-none.ensures) in
-    subst (λ (n : ℕ). FitLimits Balanced (tree_of listing) n (limits_with c.in-Ok.ended.noted)) c.noting_setup_of-setup.ensures.page_size (ends.noted refl refl)
+pub returns-in-Ok : goal.returns-in-Ok
+returns-in-Ok g c = record {
+  fit = λ listing lists.
+      let ends = c.in-Ok.ensures.pages Plain listing lists (fit_plain c.noting_setup_of-setup.result.page_size c.none-none.result (tree_of listing) c.none-none.ensures) in
+      subst (λ (n : ℕ). FitLimits Balanced (tree_of listing) n (limits_with c.in-Ok.ended.noted)) c.noting_setup_of-setup.ensures.page_size (ends.returned.noted refl refl);
+  large = tt;
+  again = grind (arith, common_steps);
+}
 
-pub returns-in-Err-TooLarge-clause-large : goal.returns-in-Err-TooLarge-clause-large
-returns-in-Err-TooLarge-clause-large g c = λ _ listing lists.
-    let ends = c.in-Err-TooLarge.ensures.pages Plain listing lists (fit_plain c.noting_setup_of-setup.result.page_size c.none-none.result (tree_of listing) c.none-none.ensures) in
-    let above = ends.large c.in-Err-TooLarge.field-0-is in
-    let size = ap (λ (n : ℕ). layout_mark Plain n (tree_of listing)) c.noting_setup_of-setup.ensures.page_size in
-    let limit = c.noting_setup_of-setup.ensures.limit in
-    let one = c.requires.one listing lists in
-    balanced_too_large c.args.shape.now.page_size listing _ c.args.shape.now.accepted one (omega arith) (c.a_listing_has_one_layout.ensures.length Balanced listing one)
+pub returns-in-Err-TooLarge : goal.returns-in-Err-TooLarge
+returns-in-Err-TooLarge g c = record {
+  fit = tt;
+  large = λ _ listing lists.
+      let ends = c.in-Err-TooLarge.ensures.pages Plain listing lists (fit_plain c.noting_setup_of-setup.result.page_size c.none-none.result (tree_of listing) c.none-none.ensures) in
+      let above = ends.returned.large c.in-Err-TooLarge.field-0-is in
+      let size = ap (λ (n : ℕ). layout_mark Plain n (tree_of listing)) c.noting_setup_of-setup.ensures.page_size in
+      let limit = c.noting_setup_of-setup.ensures.limit in
+      let one = c.requires.one listing lists in
+      balanced_too_large c.args.shape.now.page_size listing _ c.args.shape.now.accepted one (omega arith) (c.a_listing_has_one_layout.ensures.length Balanced listing one);
+  again = tt;
+}
 
 pub unreachable-requires : goal.unreachable-requires
 unreachable-requires g c = ∥∥₁_elim c.requires.some (Prim.hlevel props) (λ is.

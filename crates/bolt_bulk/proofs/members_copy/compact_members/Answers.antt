@@ -1,16 +1,18 @@
 -- The plan, the first pages, and the pages of all buckets, which are the layout.
-use Rattle.std.proofs.Common.{Err, List, rules, subst, ◌≡◌, ◌∙◌, ◌*◌, ℕ, refl, sym, ap, arith}
+use Rattle.std.proofs.Common.{Err, List, length, Result, subst, ◌≡◌, ◌∙◌, ◌*◌, ◌++◌, ℕ, refl, sym, ap, arith}
 use Rattle.std.proofs.Math.Logic.{∥∥₁_elim}
 use Rattle.std.proofs.Props.{props}
 use Rattle.std.proofs.lemmas.Result.{err_from_is_err_and}
 use Rattle.bolt_tree.specs.{Listing.Member, Tree.tree_of}
-use Rattle.bolt_layout.specs.Layout.{layout_held, layout_mark}
+use Rattle.bolt_layout.specs.{Copies.layout_of_listing, Layout.layout_held, Layout.layout_mark, Layout.layout_pages, Layout.placed_bytes, Laid.Placed}
+use Rattle.bolt_bulk.specs.{Compacting.Copies, Compacting.CopiesEach, declared.members_copy.Done.Done, declared.fault.BulkFault.BulkFault}
 use Rattle.bolt_bulk.proofs.CopyLemmas.{copied, layout_parts, layout_written, stops_first, stops_later, stops_unplanned}
 use Rattle.bolt_bulk.proofs.{FileLayouts.some_bytes, FileLayouts.too_large, FileLayouts.within_limit, WalkLeft.whole_again}
-use Rattle.bolt_bulk.specs.Private.{FitLimits, limits_with, stopped_by}
+use Rattle.bolt_bulk.specs.Private.{first_pages, FitLimits, limits_with, stopped_by}
 use Rattle.bolt_format.proofs.PageSizes.{size_bounds}
+use Rattle.std.specs.Prelude.{IsErrAnd}
 use Rattle.bolt_bulk.proofs.members_copy.compact_members.Goals as goal
-use Rattle.bolt_bulk.proofs.members_copy.compact_members.Goals.{After-setup_of-setup}
+use Rattle.bolt_bulk.proofs.members_copy.compact_members.Goals.{After-a_listing_has_one_layout, After-setup_of-setup}
 
 -- the limits are those of the layout, also at the setup's page size
 fit : (g : _) (c : After-setup_of-setup g) (listing : List Member) → g.M.Members.lists c.args.members.now listing
@@ -21,70 +23,103 @@ fit g c listing lists = subst (λ (n : ℕ). FitLimits c.args.shape.now.layout (
 there : (g : _) (c : After-setup_of-setup g) (listing : List Member) → g.M.Members.lists c.args.members.now listing → g.M.Members.lists c.plan_within.new.members listing
 there g c listing lists = (c.in_ok-plan.ensures.again.listing listing).1 ((c.in_ok-limits.ensures.again.listing listing).1 lists)
 
+-- the layout has as many bytes as its pages
+long : (g : _) (c : After-a_listing_has_one_layout g) (listing : List Member) → g.M.Members.lists c.args.members.now listing
+    → length (layout_of_listing c.args.shape.now.layout c.args.shape.now.page_size listing c.args.shape.now.sequence) ≡ layout_mark c.args.shape.now.layout c.args.shape.now.page_size (tree_of listing) * c.args.shape.now.page_size
+long g c listing lists = c.a_listing_has_one_layout.ensures.length c.args.shape.now.layout listing (c.requires.one listing lists)
+
+-- the first pages, with these after them, are the layout
+written : (g : _) (c : After-setup_of-setup g) (listing : List Member) → g.M.Members.lists c.args.members.now listing → (others : List Placed)
+    → layout_pages c.args.shape.now.layout c.setup_of-setup.result.page_size (tree_of listing) ≡ others
+    → layout_of_listing c.args.shape.now.layout c.args.shape.now.page_size listing c.args.shape.now.sequence
+    ≡ first_pages c.args.shape.now.page_size c.in_ok-plan.plan.root c.args.shape.now.sequence c.in_ok-plan.plan.high_water ++ placed_bytes c.setup_of-setup.result.page_size others
+written g c listing lists others all =
+    let planned = c.in_ok-plan.ensures.plans listing ((c.in_ok-limits.ensures.again.listing listing).1 lists) in
+    layout_written c.args.shape.now.layout c.args.shape.now.page_size (tree_of listing) c.args.shape.now.sequence c.in_ok-plan.plan.root c.in_ok-plan.plan.high_water c.setup_of-setup.result.page_size others
+    planned.root planned.high_water c.setup_of-setup.ensures.page_size all
+
+-- what a call promises that stops early
+stopped : (g : _) (c : After-a_listing_has_one_layout g) (new : g.row.S.Denot) (result : Result Done BulkFault) (e : BulkFault) → IsErrAnd result (λ f. f ≡ e)
+    → ((listing : List Member) → g.M.Members.lists c.args.members.now listing
+    → Copies g.S.Sink.taken g.S.Sink.failed c.args.sink.now new (layout_of_listing c.args.shape.now.layout c.args.shape.now.page_size listing c.args.shape.now.sequence) (Err e))
+    → CopiesEach g.S.Sink.taken g.S.Sink.failed c.args.sink.now new (g.M.Members.lists c.args.members.now) c.args.shape.now.layout c.args.shape.now.page_size c.args.shape.now.sequence result
+stopped g c new result e same copied =
+    let (_, is, e_is) = err_from_is_err_and result same in
+    rw (is, e_is) (record {
+      copied = copied;
+      accepted = tt;
+      held = tt;
+      bounded = tt;
+      prefixes = λ listing lists. c.a_listing_has_one_layout.ensures.prefixes c.args.shape.now.layout listing (c.requires.one listing lists);
+    })
+
 pub plan_within-requires : goal.plan_within-requires
 plan_within-requires g c κs = grind (arith, whole_again, fit)
 
 pub put_pages-requires : goal.put_pages-requires
 put_pages-requires g c κs = grind (arith, whole_again)
 
-pub returns-in_err-limits-clause-copied : goal.returns-in_err-limits-clause-copied
-returns-in_err-limits-clause-copied g c = λ listing lists.
-    let stop : c.from_residual.result ≡ Err (stopped_by c.in_err-limits.field-0.0) = search rules in
-    stops_unplanned g.S.Sink c.args.sink.now _ c.in_err-limits.field-0.0 c.from_residual.result stop
-    (some_bytes _ _ c.args.shape.now.page_size (c.a_listing_has_one_layout.ensures.length c.args.shape.now.layout listing (c.requires.one listing lists)) c.args.shape.now.accepted) (λ e. c.in_err-limits.ensures.large e listing lists)
+pub returns-in_err-limits-clause-copies : goal.returns-in_err-limits-clause-copies
+returns-in_err-limits-clause-copies g c =
+    let began : After-a_listing_has_one_layout g = (goal.at.returns-in_err-limits-clause-copies g c).After-a_listing_has_one_layout in
+    stopped g began _ _ (stopped_by c.in_err-limits.field-0.0) c.from_residual.ensures.1 (λ listing lists.
+    stops_unplanned g.S.Sink c.args.sink.now _ c.in_err-limits.field-0.0 (some_bytes _ _ c.args.shape.now.page_size (long g began listing lists) c.args.shape.now.accepted) (λ e. c.in_err-limits.ensures.large e listing lists))
 
-pub returns-in_err-plan-clause-copied : goal.returns-in_err-plan-clause-copied
-returns-in_err-plan-clause-copied g c = λ listing lists.
-    let stop : c.from_residual-in_err-plan.result ≡ Err (stopped_by c.in_err-plan.field-0.0) = search rules in
+pub returns-in_err-plan-clause-copies : goal.returns-in_err-plan-clause-copies
+returns-in_err-plan-clause-copies g c =
+    let began : After-a_listing_has_one_layout g = (goal.at.returns-in_err-plan-clause-copies g c).After-a_listing_has_one_layout in
+    stopped g began _ _ (stopped_by c.in_err-plan.field-0.0) c.from_residual-in_err-plan.ensures.1 (λ listing lists.
     let planned = c.in_err-plan.ensures.plans listing ((c.in_ok-limits.ensures.again.listing listing).1 lists) in
-    stops_unplanned g.S.Sink c.args.sink.now _ c.in_err-plan.field-0.0 c.from_residual-in_err-plan.result stop
-    (some_bytes _ _ c.args.shape.now.page_size (c.a_listing_has_one_layout.ensures.length c.args.shape.now.layout listing (c.requires.one listing lists)) c.args.shape.now.accepted) planned.large
+    stops_unplanned g.S.Sink c.args.sink.now _ c.in_err-plan.field-0.0 (some_bytes _ _ c.args.shape.now.page_size (long g began listing lists) c.args.shape.now.accepted) planned.large)
 
-pub returns-in_err-put_first_pages-clause-copied : goal.returns-in_err-put_first_pages-clause-copied
-returns-in_err-put_first_pages-clause-copied g c = λ listing lists.
+pub returns-in_err-put_first_pages-clause-copies : goal.returns-in_err-put_first_pages-clause-copies
+returns-in_err-put_first_pages-clause-copies g c =
+    let began : After-a_listing_has_one_layout g = (goal.at.returns-in_err-put_first_pages-clause-copies g c).After-a_listing_has_one_layout in
+    stopped g began c.put_first_pages.new.sink _ _ c.from_residual-in_err-put_first_pages.ensures.1 (λ listing lists.
     let planned = c.in_ok-plan.ensures.plans listing ((c.in_ok-limits.ensures.again.listing listing).1 lists) in
     let parts = layout_parts c.args.shape.now.layout c.args.shape.now.page_size (tree_of listing) c.args.shape.now.sequence c.in_ok-plan.plan.root c.in_ok-plan.plan.high_water planned.root planned.high_water in
-    let p = err_from_is_err_and c.from_residual-in_err-put_first_pages.result c.from_residual-in_err-put_first_pages.ensures.1 in
-    rw (p.1, p.2) (stops_first g.S.Sink c.args.sink.now c.put_first_pages.new.sink _ _ _ parts planned.fits c.in_err-put_first_pages.ensures)
+    stops_first g.S.Sink c.args.sink.now c.put_first_pages.new.sink _ _ _ parts planned.fits c.in_err-put_first_pages.ensures)
 
 pub overflow_mul-result : goal.overflow_mul-result
 overflow_mul-result g c = ∥∥₁_elim c.requires.some (Prim.hlevel props) (λ is.
     let listing = is.0 in
     let lists = is.1 in
     let ends = c.in_ok-ended.ensures.pages c.args.shape.now.layout listing (there g (goal.at.overflow_mul-result g c).After-setup_of-setup listing lists) (fit g (goal.at.overflow_mul-result g c).After-setup_of-setup listing lists) in
-    let few = within_limit c.args.shape.now.page_size c.setup_of-setup.result.limit c.in_ok-ended.ended.high_water (c.in_ok-ended.ended.high_water * c.args.shape.now.page_size) c.setup_of-setup.ensures.limit ends.within refl in omega arith)
+    let few = within_limit c.args.shape.now.page_size c.setup_of-setup.result.limit c.in_ok-ended.ended.high_water (c.in_ok-ended.ended.high_water * c.args.shape.now.page_size) c.setup_of-setup.ensures.limit ends.returned.within refl in omega arith)
 
-pub returns-in_err-ended-clause-copied : goal.returns-in_err-ended-clause-copied
-returns-in_err-ended-clause-copied g c = λ listing lists.
+pub returns-in_err-ended-clause-copies : goal.returns-in_err-ended-clause-copies
+returns-in_err-ended-clause-copies g c =
+    let began : After-a_listing_has_one_layout g = (goal.at.returns-in_err-ended-clause-copies g c).After-a_listing_has_one_layout in
+    stopped g began c.put_pages.new.sink _ _ c.from_residual-in_err-ended.ensures.1 (λ listing lists.
     let planned = c.in_ok-plan.ensures.plans listing ((c.in_ok-limits.ensures.again.listing listing).1 lists) in
-    let ends = c.in_err-ended.ensures.pages c.args.shape.now.layout listing (there g (goal.at.returns-in_err-ended-clause-copied g c).After-setup_of-setup listing lists) (fit g (goal.at.returns-in_err-ended-clause-copied g c).After-setup_of-setup listing lists) in
-    let whole = layout_written c.args.shape.now.layout c.args.shape.now.page_size (tree_of listing) c.args.shape.now.sequence c.in_ok-plan.plan.root c.in_ok-plan.plan.high_water c.setup_of-setup.result.page_size ends.others
-    planned.root planned.high_water c.setup_of-setup.ensures.page_size ends.all in
+    let ends = c.in_err-ended.ensures.pages c.args.shape.now.layout listing (there g (goal.at.returns-in_err-ended-clause-copies g c).After-setup_of-setup listing lists) (fit g (goal.at.returns-in_err-ended-clause-copies g c).After-setup_of-setup listing lists) in
+    let whole = written g (goal.at.returns-in_err-ended-clause-copies g c).After-setup_of-setup listing lists ends.others ends.all in
     let low = (size_bounds c.args.shape.now.page_size c.args.shape.now.accepted).0 in
     let mark : layout_mark c.args.shape.now.layout c.setup_of-setup.result.page_size (tree_of listing) ≡ layout_mark c.args.shape.now.layout c.args.shape.now.page_size (tree_of listing) = ap (λ (n : ℕ). layout_mark c.args.shape.now.layout n (tree_of listing)) c.setup_of-setup.ensures.page_size in
-    let p = err_from_is_err_and c.from_residual-in_err-ended.result c.from_residual-in_err-ended.ensures.1 in
-    rw (p.1, p.2) (stops_later g.S.Sink c.args.sink.now c.put_pages.new.sink _ _ _ whole planned.fits c.put_first_pages.new.sink _
+    stops_later g.S.Sink c.args.sink.now c.put_pages.new.sink _ _ _ whole planned.fits c.put_first_pages.new.sink _
     c.in_ok-put_first_pages.ensures ends.puts ends.short
-    (λ e. let above = ends.large e in too_large c.args.shape.now.page_size c.setup_of-setup.result.limit (layout_mark c.args.shape.now.layout c.args.shape.now.page_size (tree_of listing)) _ (omega arith) c.setup_of-setup.ensures.limit (omega arith) (c.a_listing_has_one_layout.ensures.length c.args.shape.now.layout listing (c.requires.one listing lists))))
+    (λ e. let above = ends.returned.large e in too_large c.args.shape.now.page_size c.setup_of-setup.result.limit (layout_mark c.args.shape.now.layout c.args.shape.now.page_size (tree_of listing)) _ (omega arith) c.setup_of-setup.ensures.limit (omega arith) (long g began listing lists)))
 
-pub returns-clause-copied : goal.returns-clause-copied
-returns-clause-copied g c = λ listing lists.
-    let planned = c.in_ok-plan.ensures.plans listing ((c.in_ok-limits.ensures.again.listing listing).1 lists) in
-    let ends = c.in_ok-ended.ensures.pages c.args.shape.now.layout listing (there g (goal.at.returns-clause-copied g c).After-setup_of-setup listing lists) (fit g (goal.at.returns-clause-copied g c).After-setup_of-setup listing lists) in
-    let whole = layout_written c.args.shape.now.layout c.args.shape.now.page_size (tree_of listing) c.args.shape.now.sequence c.in_ok-plan.plan.root c.in_ok-plan.plan.high_water c.setup_of-setup.result.page_size ends.others
-    planned.root planned.high_water c.setup_of-setup.ensures.page_size ends.all in
-    let mark : c.in_ok-ended.ended.high_water ≡ layout_mark c.args.shape.now.layout c.args.shape.now.page_size (tree_of listing) = ends.mark ∙ ap (λ (n : ℕ). layout_mark c.args.shape.now.layout n (tree_of listing)) c.setup_of-setup.ensures.page_size in
-    copied g.S.Sink c.args.sink.now c.put_pages.new.sink _ _ _ whole planned.fits c.put_first_pages.new.sink _ _
-    c.in_ok-put_first_pages.ensures ends.puts (ap (λ (n : ℕ). n * c.args.shape.now.page_size) mark ∙ sym (c.a_listing_has_one_layout.ensures.length c.args.shape.now.layout listing (c.requires.one listing lists)))
-
-pub returns-clause-held : goal.returns-clause-held
-returns-clause-held g c = λ listing lists.
-    let ends = c.in_ok-ended.ensures.pages c.args.shape.now.layout listing (there g (goal.at.returns-clause-held g c).After-setup_of-setup listing lists) (fit g (goal.at.returns-clause-held g c).After-setup_of-setup listing lists) in
-    let planned = c.in_ok-plan.ensures.plans listing ((c.in_ok-limits.ensures.again.listing listing).1 lists) in
-    let small = c.a_listing_has_one_layout.ensures.held c.args.shape.now.layout listing (c.requires.one listing lists) planned.fits in
-    let fits = planned.fits in
+pub returns-clause-copies : goal.returns-clause-copies
+returns-clause-copies g c =
+    let began : After-a_listing_has_one_layout g = (goal.at.returns-clause-copies g c).After-a_listing_has_one_layout in
+    let law = c.a_listing_has_one_layout.ensures in
+    let fits = λ (listing : List Member) (lists : g.M.Members.lists c.args.members.now listing). (c.in_ok-plan.ensures.plans listing ((c.in_ok-limits.ensures.again.listing listing).1 lists)).fits in
+    let held : (listing : List Member) → g.M.Members.lists c.args.members.now listing → c.in_ok-ended.ended.held ≡ layout_held c.args.shape.now.layout c.args.shape.now.page_size (tree_of listing) = λ listing lists.
+    let ends = c.in_ok-ended.ensures.pages c.args.shape.now.layout listing (there g (goal.at.returns-clause-copies g c).After-setup_of-setup listing lists) (fit g (goal.at.returns-clause-copies g c).After-setup_of-setup listing lists) in
+    let few = fits listing lists in
+    let small = law.held c.args.shape.now.layout listing (c.requires.one listing lists) few in
     let size = ap (λ (n : ℕ). layout_held c.args.shape.now.layout n (tree_of listing)) c.setup_of-setup.ensures.page_size in
-    let held = ends.held in omega (arith, small, fits, size, held)
-
-pub returns-clause-bounded : goal.returns-clause-bounded
-returns-clause-bounded g c = grind (arith, returns-clause-held)
+    let most = ends.returned.held in omega (arith, small, few, size, most) in
+    record {
+      copied = λ listing lists.
+          let ends = c.in_ok-ended.ensures.pages c.args.shape.now.layout listing (there g (goal.at.returns-clause-copies g c).After-setup_of-setup listing lists) (fit g (goal.at.returns-clause-copies g c).After-setup_of-setup listing lists) in
+          let whole = written g (goal.at.returns-clause-copies g c).After-setup_of-setup listing lists ends.others ends.all in
+          let mark : c.in_ok-ended.ended.high_water ≡ layout_mark c.args.shape.now.layout c.args.shape.now.page_size (tree_of listing) = ends.returned.mark ∙ ap (λ (n : ℕ). layout_mark c.args.shape.now.layout n (tree_of listing)) c.setup_of-setup.ensures.page_size in
+          copied g.S.Sink c.args.sink.now c.put_pages.new.sink _ _ _ whole (fits listing lists) c.put_first_pages.new.sink _ _
+          c.in_ok-put_first_pages.ensures ends.puts (ap (λ (n : ℕ). n * c.args.shape.now.page_size) mark ∙ sym (long g began listing lists));
+      accepted = λ listing lists. law.accepted c.args.shape.now.layout listing (c.requires.one listing lists) (fits listing lists);
+      held = held;
+      bounded = λ listing lists. let h = held listing lists in let b = law.bounded c.args.shape.now.layout listing (c.requires.one listing lists) (fits listing lists) in omega (arith, h, b);
+      prefixes = λ listing lists. law.prefixes c.args.shape.now.layout listing (c.requires.one listing lists);
+    }

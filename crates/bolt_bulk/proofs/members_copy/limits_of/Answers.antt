@@ -1,12 +1,16 @@
 -- Each row of the plain layout may have any number of runs.
-use Rattle.std.proofs.Common.{subst, sym}
+use Rattle.std.proofs.Common.{arith, subst, sym}
+use Rattle.std.proofs.lemmas.Grind.{common_steps}
 use Rattle.bolt_tree.specs.Tree.{tree_of}
 use Rattle.bolt_layout.specs.declared.layout.Layout.{Layout}
 use Rattle.bolt_bulk.specs.Private.{FitLimits, limits_with}
 use Rattle.bolt_bulk.proofs.Openings.{fit_plain}
 use Rattle.bolt_bulk.proofs.members_copy.limits_of.Goals as goal
 
-pub returns-in-Plain-clause-fit : goal.returns-in-Plain-clause-fit
-returns-in-Plain-clause-fit g c = λ listing lists.
-    subst (λ (which : Layout). FitLimits which (tree_of listing) c.args.shape.now.page_size (limits_with c.none.result)) (sym c.in-Plain.is)
-    (fit_plain c.args.shape.now.page_size c.none.result (tree_of listing) c.none.ensures)
+pub returns-in-Plain : goal.returns-in-Plain
+returns-in-Plain g c = record {
+  fit = λ listing lists. subst (λ (which : Layout). FitLimits which (tree_of listing) c.args.shape.now.page_size (limits_with c.none.result)) (sym c.in-Plain.is)
+      (fit_plain c.args.shape.now.page_size c.none.result (tree_of listing) c.none.ensures);
+  large = tt;
+  again = grind (arith, common_steps);
+}

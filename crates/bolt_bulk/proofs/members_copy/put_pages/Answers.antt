@@ -54,8 +54,8 @@ members-preserved g c =
         λ is. (c.next.ensures.listing listing).1 ((c.members.invariant.same listing).1 is),
       );
       end = λ end is. c.members.invariant.end end (c.next.ensures.same_end end is);
-      setup = c.in_ok-take_member.ensures.setup ∙ c.members.invariant.setup;
-      ready = c.in_ok-take_member.ensures.ready;
+      setup = c.in_ok-take_member.ensures.on.setup ∙ c.members.invariant.setup;
+      ready = c.in_ok-take_member.ensures.on.ready;
       fit = others_fit g.M.Members.lists g.M.Members.left c.args.members.now c.members.members c.next.new.self (path_of c.path.result.now) (item_view c.in-Some.item)
           c.members.invariant.fit (λ listing is. given listing ((c.members.invariant.same listing).1 is));
       steps = λ which listing lists fit.

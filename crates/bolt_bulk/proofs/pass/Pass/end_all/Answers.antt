@@ -12,44 +12,41 @@ returns-in_err-leave_to g c = λ wanted put has. ends_early c.from_residual.ensu
 
 pub returns-in_err-bucket_ends : goal.returns-in_err-bucket_ends
 returns-in_err-bucket_ends g c = λ wanted put has.
-    ends_after c.in_ok-leave_to.ensures.setup (c.in_ok-leave_to.ensures.steps wanted [] put has tt)
+    ends_after c.in_ok-leave_to.ensures.on.setup (c.in_ok-leave_to.ensures.steps wanted [] put has tt)
     (λ all mid. ends_early c.from_residual-in_err-bucket_ends.ensures.1 (steps_none {A = ⊤} {At = λ _. ⊤} (Err _) mid.at c.in_err-bucket_ends.ensures.fault tt))
 
 pub returns-in_err-root : goal.returns-in_err-root
 returns-in_err-root g c = λ wanted put has.
     let p = err_from_is_err_and c.from_residual-in_err-root.result c.from_residual-in_err-root.ensures.1 in
-    rw (p.1, p.2) (ends_after c.in_ok-leave_to.ensures.setup (c.in_ok-leave_to.ensures.steps wanted [] put has tt)
-    (λ all mid. let end = has_end wanted c.leave_to.new.self all mid c.in_ok-leave_to.ensures.depth in
+    rw (p.1, p.2) (ends_after c.in_ok-leave_to.ensures.on.setup (c.in_ok-leave_to.ensures.steps wanted [] put has tt)
+    (λ all mid. let end = has_end wanted c.leave_to.new.self all mid c.in_ok-leave_to.ensures.on.depth_is in
     record {
       others = runs_end_put c.leave_to.new.self.setup.page_size (bucket_runs c.leave_to.new.self.bucket c.leave_to.new.self.next);
       all = end.pages;
-      puts = c.in_err-root.ensures.pages;
-      short = c.in_err-root.ensures.short;
-      root = tt;
-      mark = tt;
-      within = tt;
-      noted = tt;
-      held = tt;
-      large = λ h. let m = c.in_err-root.ensures.large h in let n = end.mark in omega (arith, m, n);
+      puts = c.in_err-root.ensures.closes.writes.pages;
+      short = c.in_err-root.ensures.closes.short;
+      returned = record { root = tt; mark = tt; within = tt; noted = tt; held = tt; large = λ h. let m = c.in_err-root.ensures.closes.writes.large h in let n = end.mark in omega (arith, m, n) };
     }))
 
 pub returns : goal.returns
 returns g c = λ wanted put has.
-    ends_after c.in_ok-leave_to.ensures.setup (c.in_ok-leave_to.ensures.steps wanted [] put has tt)
-    (λ all mid. let end = has_end wanted c.leave_to.new.self all mid c.in_ok-leave_to.ensures.depth in
+    ends_after c.in_ok-leave_to.ensures.on.setup (c.in_ok-leave_to.ensures.steps wanted [] put has tt)
+    (λ all mid. let end = has_end wanted c.leave_to.new.self all mid c.in_ok-leave_to.ensures.on.depth_is in
     record {
       others = runs_end_put c.leave_to.new.self.setup.page_size (bucket_runs c.leave_to.new.self.bucket c.leave_to.new.self.next);
       all = end.pages;
-      puts = c.in_ok-root.ensures.pages;
+      puts = c.in_ok-root.ensures.closes.writes.pages;
       short = tt;
-      root = c.in_ok-root.ensures.root ∙ end.root;
-      mark = c.in_ok-root.ensures.next ∙ end.mark;
-      within = c.in_ok-root.ensures.within;
-      noted = λ asked which.
-          let next = c.in_ok-root.ensures.next in
-          let within = c.in_ok-root.ensures.within in
-          let counted = c.leave_to.new.self.setup.counted in
-          subst (λ (l : Limits). FitLimits Balanced wanted.tree c.leave_to.new.self.setup.page_size (limits_with l)) (sym c.take_limits.ensures) (end.noted c.bucket_ends.new.self c.in_ok-bucket_ends.ensures.ends asked which (omega arith));
-      held = end.held;
-      large = tt;
+      returned = record {
+        root = c.in_ok-root.ensures.root ∙ end.root;
+        mark = c.in_ok-root.ensures.closes.marked ∙ end.mark;
+        within = c.in_ok-root.ensures.closes.writes.within;
+        noted = λ asked which.
+            let next = c.in_ok-root.ensures.closes.marked in
+            let within = c.in_ok-root.ensures.closes.writes.within in
+            let counted = c.leave_to.new.self.setup.counted in
+            subst (λ (l : Limits). FitLimits Balanced wanted.tree c.leave_to.new.self.setup.page_size (limits_with l)) (sym c.take_limits.ensures) (end.noted c.bucket_ends.new.self c.in_ok-bucket_ends.ensures.ends asked which (omega arith));
+        held = end.held;
+        large = tt;
+      };
     })

@@ -3,7 +3,7 @@ use Rattle.std.specs.Prelude.{⊤}
 use Rattle.std.specs.List.{AllByRecursion}
 use Rattle.std.proofs.Common.{List, Err, subst, arith, Ok}
 use Rattle.bolt_bulk.specs.{Private.IsWaiting, declared.waiting_bucket.WaitingBucket.WaitingBucket}
-use Rattle.bolt_bulk.proofs.{HeldPasses.waits_less, PassAt.leave_steps, PassAt.steps_none, PassAt.steps_stop, PassReady.last_of}
+use Rattle.bolt_bulk.proofs.{HeldPasses.waits_less, PassAt.leave_steps, PassAt.steps_none, PassAt.steps_stop, PassReady.last_of, PutsLemmas.writes_on}
 use Rattle.bolt_bulk.proofs.pass.Pass.end_open.Goals as goal
 
 pub end_inner-requires-clause-waits : goal.end_inner-requires-clause-waits
@@ -16,13 +16,13 @@ returns-in_err-bucket_ends-clause-steps g c = λ wanted level levels put is. ste
 
 pub returns-in_err-outer-clause-steps : goal.returns-in_err-outer-clause-steps
 returns-in_err-outer-clause-steps g c = λ wanted level levels put is.
-    steps_stop {A = ⊤} c.from_residual-in_err-outer.ensures.1 (leave_steps wanted c.args.self.now {counted = c.args.self.now} level c.in-Some.waiting c.args.self.now.bucket c.pop.new.self c.end_inner.new.next 0 c.bucket_ends.new.self (Err _)
-    is c.requires.pending c.in-Some.ensures.items c.in_ok-bucket_ends.ensures.ends (rw c.replace-inner.ensures.value at c.in_err-outer.ensures.pages) tt (rw c.replace-inner.ensures.value at c.in_err-outer.ensures.large) tt)
+    steps_stop c.from_residual-in_err-outer.ensures.1 (leave_steps wanted c.args.self.now {counted = c.args.self.now} level c.in-Some.waiting c.args.self.now.bucket c.pop.new.self c.end_inner.new.next 0 c.bucket_ends.new.self (Err _)
+    is c.requires.pending c.in-Some.ensures.items c.in_ok-bucket_ends.ensures.ends (rw c.replace-inner.ensures.value at c.in_err-outer.ensures.ends.closes.writes) tt tt)
 
 pub returns-clause-steps : goal.returns-clause-steps
 returns-clause-steps g c = λ wanted level levels put is.
     leave_steps wanted c.args.self.now level c.in-Some.waiting c.in_ok-outer.outer c.pop.new.self c.end_inner.new.next _ c.bucket_ends.new.self (Ok tt)
-    is c.requires.pending c.in-Some.ensures.items c.in_ok-bucket_ends.ensures.ends (rw c.replace-inner.ensures.value at c.in_ok-outer.ensures.pages) (rw c.replace-inner.ensures.value at c.in_ok-outer.ensures.runs) tt c.count.ensures.counts
+    is c.requires.pending c.in-Some.ensures.items c.in_ok-bucket_ends.ensures.ends (writes_on (Ok tt) tt (rw c.replace-inner.ensures.value at c.in_ok-outer.ensures.ends.closes.writes)) (rw c.replace-inner.ensures.value at c.in_ok-outer.ensures.ends.runs) c.count.ensures.counts
 
 pub count-requires : goal.count-requires
 count-requires g c =

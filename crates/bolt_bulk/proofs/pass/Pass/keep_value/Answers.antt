@@ -1,23 +1,17 @@
 -- The value comes after the others, and none has taken a step in the layout.
 use Rattle.std.proofs.Common.{rules, ◌≡◌, ◌++◌, [], ◌∷◌, false, refl, arith}
+use Rattle.std.proofs.lemmas.Grind.{common_steps}
 use Rattle.bolt_format.specs.declared.element.Leaf.{Leaf}
 use Rattle.bolt_bulk.proofs.{PassAt.keep_at, PassReady.small_of, PassReady.small_push}
 use Rattle.bolt_bulk.proofs.pass.Pass.keep_value.Goals as goal
 
-pub returns-clause-ready : goal.returns-clause-ready
-returns-clause-ready c =
+pub returns-clause-on : goal.returns-clause-on
+returns-clause-on c =
     let entry : Leaf = record { key = c.args.key; value = c.args.value; is_bucket = false } in
     let items : c.push.new.self.items ≡ c.args.self.now.entries.items ++ entry ∷ [] = search rules in
-    let ready = c.requires.ready in
-    let small = small_of c.args.self.now.setup.page_size c.args.self.now.pending c.args.pending c.args.self.now.entries.items c.requires.pending ready.pending in
-    record {
-      bucket = ready.bucket;
-      next = ready.next;
-      waiting = ready.waiting;
-      pending = small_push c.args.self.now.setup.page_size c.args.size c.args.pending c.args.self.now.entries.items c.push.new.self.items entry small c.requires.key refl c.requires.size c.requires.small c.requires.few items;
-      counted = ready.counted;
-      around = ready.around;
-    }
+    let small = small_of c.args.self.now.setup.page_size c.args.self.now.pending c.args.pending c.args.self.now.entries.items c.requires.pending c.requires.ready.pending in
+    let more = small_push c.args.self.now.setup.page_size c.args.size c.args.pending c.args.self.now.entries.items c.push.new.self.items entry small c.requires.key refl c.requires.size c.requires.small c.requires.few items in
+    grind (arith, common_steps)
 
-pub returns-clause-at : goal.returns-clause-at
-returns-clause-at c = grind (arith, keep_at)
+pub returns-clause-keeps : goal.returns-clause-keeps
+returns-clause-keeps c = grind (arith, keep_at)

@@ -14,8 +14,8 @@ returns-in_err-leave_bucket-clause-steps g c = λ wanted members put has shallow
 
 pub levels-preserved : goal.levels-preserved
 levels-preserved g c = record {
-  setup = c.in_ok-leave_bucket.ensures.setup ∙ c.levels.invariant.setup;
-  ready = c.in_ok-leave_bucket.ensures.ready;
+  setup = c.in_ok-leave_bucket.ensures.on.setup ∙ c.levels.invariant.setup;
+  ready = c.in_ok-leave_bucket.ensures.on.ready;
   steps = λ wanted members put has shallow.
       steps_then c.levels.invariant.setup (c.levels.invariant.steps wanted members put has shallow)
       (λ all mid. let ended = has_ended c.args.depth wanted c.levels.self members all mid shallow c.requires.some (omega arith) in

@@ -1,11 +1,11 @@
 -- The bucket is opened with its entries so far, and the one around it waits with room for it.
 use Rattle.std.specs.Prelude.{⊤}
-use Rattle.std.proofs.Common.{rules, ◌≡◌, ◌++◌, ◌∷◌, [], Ok, Err, sym, arith}
+use Rattle.std.proofs.Common.{rules, ◌≡◌, ◌++◌, ◌∷◌, [], Ok, Err, refl, sym, arith}
 use Rattle.bolt_bulk.specs.declared.fault.BulkFault.TheVariants as fault
 use Rattle.bolt_bulk.proofs.{HeldPasses.more_around, HeldPasses.waits_more, PassAt.open_steps, PassAt.open_stops, PassAt.steps_none, PassAt.steps_stop}
 use Rattle.bolt_layout.proofs.ListLemmas.{all_append}
 use Rattle.bolt_bulk.proofs.pass.Pass.open_pending.Goals as goal
-use Rattle.bolt_bulk.proofs.PutsLemmas.{Wrote-gave_up}
+use Rattle.bolt_bulk.proofs.PutsLemmas.{writes_on}
 
 pub returns-in_default-clause-steps : goal.returns-in_default-clause-steps
 returns-in_default-clause-steps g c = λ wanted left levels put is rooted. steps_none (Ok tt) is tt is
@@ -16,20 +16,19 @@ returns-in_err-inner-clause-steps g c = λ wanted left levels put is rooted. ste
 pub returns-in_err-waiting-clause-steps : goal.returns-in_err-waiting-clause-steps
 returns-in_err-waiting-clause-steps g c = λ wanted left levels put is rooted.
     open_stops wanted c.args.self.now c.in-Some.pending c.from_residual-in_err-waiting.ensures.1 is c.in-Some.is c.requires.pending rooted
-    (rw c.replace-outer.ensures.value at c.in_err-waiting.ensures.pages) (rw c.replace-outer.ensures.value at c.in_err-waiting.ensures.large)
+    (rw c.replace-outer.ensures.value at c.in_err-waiting.ensures.enters.writes)
 
 pub returns-in_err-push-clause-steps : goal.returns-in_err-push-clause-steps
 returns-in_err-push-clause-steps g c = λ wanted left levels put is rooted.
-    open_stops wanted c.args.self.now {e = fault.Memory} c.in-Some.pending c.from_residual-in_err-push.ensures.1 is c.in-Some.is c.requires.pending rooted
-    (Wrote-gave_up (rw c.replace-outer.ensures.value at c.in_ok-waiting.ensures.pages)) (λ e. absurd cc)
+    open_stops wanted c.args.self.now c.in-Some.pending c.from_residual-in_err-push.ensures.1 is c.in-Some.is c.requires.pending rooted
+    (writes_on {B = ⊤} (Err fault.Memory) refl (rw c.replace-outer.ensures.value at c.in_ok-waiting.ensures.enters.writes))
 
 pub returns-clause-steps : goal.returns-clause-steps
 returns-clause-steps g c = λ wanted left levels put is rooted.
     let items : c.push.new.self.items ≡ c.args.self.now.waiting.items ++ c.in_ok-waiting.waiting ∷ [] = search rules in
     let values = rw (c.as_slice.ensures.value, sym c.replace-outer.ensures.after) at (c.in_ok-inner.ensures.runs c.enter.new.next) in
-    open_steps wanted c.args.self.now c.in-Some.pending c.replace-outer.new.dest c.in_ok-waiting.waiting c.push.new.self c.clear.new.self c.enter.new.next _ _
-    is c.in-Some.is c.requires.pending rooted (rw c.replace-outer.ensures.value at c.in_ok-waiting.ensures.pages) items (rw c.replace-outer.ensures.value at c.in_ok-waiting.ensures.runs)
-    c.in_ok-waiting.ensures.key c.in_ok-waiting.ensures.sequence values c.saturating_add-self.ensures c.count.ensures.counts
+    open_steps wanted c.args.self.now c.in-Some.pending c.replace-outer.new.dest c.in_ok-waiting.waiting c.push.new.self c.clear.new.self _ c.enter.new.next _ _
+    is c.in-Some.is c.requires.pending rooted (rw c.replace-outer.ensures.value at c.in_ok-waiting.ensures.enters) items values c.saturating_add-self.ensures c.count.ensures.counts
 
 pub count-requires : goal.count-requires
 count-requires g c = grind (arith, all_append, waits_more, more_around)

@@ -32,8 +32,8 @@ returns-in-Value-clause-steps g c = λ wanted members put has.
     let item : item_view c.args.item ≡ entries.Value c.in-Value.value.now = ap item_view c.in-Value.is in
     let last = last_is c.args.path.now c.in-Some.field-0-1.now c.in-Some.key.now c.in-Some.ensures.cases.0 in
     let l = length-map c.args.path.now (λ (part : Bor (List ℕ)). part.now) in
-    steps_then c.in_ok-leave_to.ensures.setup (c.in_ok-leave_to.ensures.steps wanted ((path, item_view c.args.item) ∷ members) put has (omega arith))
-    (λ all mid. let deep = c.in_ok-leave_to.ensures.depth in
+    steps_then c.in_ok-leave_to.ensures.on.setup (c.in_ok-leave_to.ensures.steps wanted ((path, item_view c.args.item) ∷ members) put has (omega arith))
+    (λ all mid. let deep = c.in_ok-leave_to.ensures.on.depth_is in
     let next = has_next wanted c.leave_to.new.self path c.in-Some.key.now.now (entries.Value c.in-Value.value.now) members all (left_same (ap (λ (i : entries.Item). (path, i) ∷ members) item) mid) (omega arith) last in
     steps_map (λ then at. record { levels = next.levels; left = next.after; at = at; members_are = next.members_are }) (c.take_value.ensures.steps wanted next.after next.levels all next.at))
 
@@ -43,7 +43,7 @@ returns-in-Bucket-clause-steps g c = λ wanted members put has.
     let item : item_view c.args.item ≡ entries.Bucket c.in-Bucket.sequence = ap item_view c.in-Bucket.is in
     let last = last_is c.args.path.now c.in-Some.field-0-1.now c.in-Some.key.now c.in-Some.ensures.cases.0 in
     let l = length-map c.args.path.now (λ (part : Bor (List ℕ)). part.now) in
-    steps_then c.in_ok-leave_to.ensures.setup (c.in_ok-leave_to.ensures.steps wanted ((path, item_view c.args.item) ∷ members) put has (omega arith))
-    (λ all mid. let deep = c.in_ok-leave_to.ensures.depth in
+    steps_then c.in_ok-leave_to.ensures.on.setup (c.in_ok-leave_to.ensures.steps wanted ((path, item_view c.args.item) ∷ members) put has (omega arith))
+    (λ all mid. let deep = c.in_ok-leave_to.ensures.on.depth_is in
     let next = has_next wanted c.leave_to.new.self path c.in-Some.key.now.now (entries.Bucket c.in-Bucket.sequence) members all (left_same (ap (λ (i : entries.Item). (path, i) ∷ members) item) mid) (omega arith) last in
     steps_map (λ then at. record { levels = _; left = next.inside; at = at; members_are = next.members_are }) (c.take_bucket.ensures.steps wanted next.inside next.after next.levels all next.at))

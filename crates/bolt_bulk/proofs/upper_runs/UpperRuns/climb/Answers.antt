@@ -5,30 +5,26 @@ use Rattle.std.proofs.lemmas.Result.{err_from_is_err_and}
 use Rattle.bolt_format.specs.{ElementPlaces.branch_view, Elements.BranchElement}
 use Rattle.bolt_layout.specs.{Levels.overflow_of, Limits.one_less}
 use Rattle.bolt_bulk.specs.Private.{key_size, no_run, one_closed, run_kept, run_push, run_view}
-use Rattle.bolt_bulk.proofs.ClimbLemmas.{climb_closes, climb_large, climb_stays, climb_stops, no_room_by, room_by, run_at, standing_set, up_key}
+use Rattle.bolt_bulk.proofs.ClimbLemmas.{climb_closes, climb_stays, climb_stops, no_room_by, room_by, run_at, standing_set, up_key}
 use Rattle.bolt_bulk.proofs.upper_runs.UpperRuns.climb.Goals as goal
 
 pub take_page-requires-clause-standing : goal.take_page-requires-clause-standing
 take_page-requires-clause-standing g c = (run_at _ c.loop-i.self.runs.items c.loop-i.i c.index_mut.result.now c.loop-i-test.true (omega arith) c.index_mut.ensures.value c.loop-i.invariant.standing).standing
 
-pub returns-in_err-take_page-clause-pages : goal.returns-in_err-take_page-clause-pages
-returns-in_err-take_page-clause-pages g c =
+pub returns-in_err-take_page-clause-climbs : goal.returns-in_err-take_page-clause-climbs
+returns-in_err-take_page-clause-climbs g c =
     let here = run_at _ c.loop-i.self.runs.items c.loop-i.i c.index_mut.result.now c.loop-i-test.true (omega arith) c.index_mut.ensures.value c.loop-i.invariant.standing in
-    let p = err_from_is_err_and c.from_residual.result c.from_residual.ensures.1 in rw (p.1, p.2) (climb_stops here.at c.loop-i.invariant.climbs _ c.in_err-take_page.ensures.pages)
-
-pub returns-in_err-take_page-clause-large : goal.returns-in_err-take_page-clause-large
-returns-in_err-take_page-clause-large g c =
-    let here = run_at _ c.loop-i.self.runs.items c.loop-i.i c.index_mut.result.now c.loop-i-test.true (omega arith) c.index_mut.ensures.value c.loop-i.invariant.standing in
-    let p = err_from_is_err_and c.from_residual.result c.from_residual.ensures.1 in rw (p.1, p.2) (λ large. climb_large here.at c.loop-i.invariant.climbs _ (c.in_err-take_page.ensures.large large))
+    let p = err_from_is_err_and c.from_residual.result c.from_residual.ensures.1 in
+    rw (p.1, p.2) (record { writes = climb_stops here.at c.loop-i.invariant.climbs _ c.in_err-take_page.ensures.takes.writes; runs = tt; limits = tt; marked = tt })
 
 pub returns-in-None : goal.returns-in-None
 returns-in-None g c =
     let old = run_view c.index_mut.result.now in
     let here = run_at _ c.loop-i.self.runs.items c.loop-i.i c.index_mut.result.now c.loop-i-test.true (omega arith) c.index_mut.ensures.value c.loop-i.invariant.standing in
-    let room = room_by c.args.setup.now.page_size c.args.key.now (branch_view c.loop-i.closed) c.loop-i.next old _ c.in-None.is c.in_ok-take_page.ensures.up in
-    let stays = climb_stays here.at c.loop-i.invariant.climbs here.within room c.in_ok-take_page.ensures.pages in
-    let took : run_view c.take_page.new.self ≡ run_kept c.args.setup.now.page_size (run_push old (branch_view c.loop-i.closed)) (key_size c.args.key.now) = c.in_ok-take_page.ensures.run ∙ (rw room refl) in
-    let next : c.take_page.new.next ≡ c.loop-i.next = c.in_ok-take_page.ensures.next ∙ (rw room refl) in
+    let room = room_by c.args.setup.now.page_size c.args.key.now (branch_view c.loop-i.closed) c.loop-i.next old _ c.in-None.is c.in_ok-take_page.ensures.takes.up in
+    let stays = climb_stays here.at c.loop-i.invariant.climbs here.within room c.in_ok-take_page.ensures.takes.writes.pages in
+    let took : run_view c.take_page.new.self ≡ run_kept c.args.setup.now.page_size (run_push old (branch_view c.loop-i.closed)) (key_size c.args.key.now) = c.in_ok-take_page.ensures.takes.run ∙ (rw room refl) in
+    let next : c.take_page.new.next ≡ c.loop-i.next = c.in_ok-take_page.ensures.takes.marked ∙ (rw room refl) in
     let set_is = map-set run_view c.loop-i.self.runs.items c.loop-i.i c.take_page.new.self in
     grind (arith, standing_set)
 
@@ -37,11 +33,11 @@ loop-i-preserved g c =
     let old = run_view c.index_mut.result.now in
     let e = branch_view c.loop-i.closed in
     let here = run_at _ c.loop-i.self.runs.items c.loop-i.i c.index_mut.result.now c.loop-i-test.true (omega arith) c.index_mut.ensures.value c.loop-i.invariant.standing in
-    let (closed, named) = no_room_by c.args.setup.now.page_size c.args.key.now e c.loop-i.next old _ c.in-Some.up c.in-Some.is c.in_ok-take_page.ensures.up in
-    let took : run_view c.take_page.new.self ≡ no_run (one_less old.left) (one_closed old.closed) = c.in_ok-take_page.ensures.run ∙ (rw closed refl) in
-    let next : c.take_page.new.next ≡ c.loop-i.next + (1 + overflow_of c.args.setup.now.page_size (run_push old e).size) = c.in_ok-take_page.ensures.next ∙ (rw closed refl) in
+    let (closed, named) = no_room_by c.args.setup.now.page_size c.args.key.now e c.loop-i.next old _ c.in-Some.up c.in-Some.is c.in_ok-take_page.ensures.takes.up in
+    let took : run_view c.take_page.new.self ≡ no_run (one_less old.left) (one_closed old.closed) = c.in_ok-take_page.ensures.takes.run ∙ (rw closed refl) in
+    let next : c.take_page.new.next ≡ c.loop-i.next + (1 + overflow_of c.args.setup.now.page_size (run_push old e).size) = c.in_ok-take_page.ensures.takes.marked ∙ (rw closed refl) in
     let set_is = map-set run_view c.loop-i.self.runs.items c.loop-i.i c.take_page.new.self in
-    let closes = climb_closes here.at c.loop-i.invariant.climbs here.within closed c.in_ok-take_page.ensures.pages in
+    let closes = climb_closes here.at c.loop-i.invariant.climbs here.within closed c.in_ok-take_page.ensures.takes.writes.pages in
     let k = up_key e c.loop-i.next old here.standing c.loop-i.invariant.short in
     let kk = ap (λ (x : BranchElement). length x.key) named in
     grind (arith, standing_set, length-set)

@@ -8,7 +8,7 @@ use Rattle.bolt_bulk.proofs.upper_runs.UpperRuns.climb.Given as goal
 
 abbrev pub invariant-loop-i : goal.invariant-loop-i
 invariant-loop-i g l = record {
-  climbs : Climbing l.setup.page_size (bucket_limit l.initial.self.limits (length (runs_above l.initial.self.runs.items))) l.key (branch_view l.closed-2) l.initial.next (runs_above l.initial.self.runs.items) g.S.Sink l.initial.sink l.sink
+  climbs : Climbing l.setup (bucket_limit l.initial.self.limits (length (runs_above l.initial.self.runs.items))) l.key (branch_view l.closed-2) l.initial.next (runs_above l.initial.self.runs.items) g.S.Sink l.initial.sink l.sink
       (runs_above l.self.runs.items) l.i (branch_view l.closed) l.next;
   standing : AllByRecursion IsStanding (runs_above l.self.runs.items);
   count : length l.self.runs.items ≡ length l.initial.self.runs.items;

@@ -4,7 +4,7 @@ use Rattle.std.proofs.lemmas.List.{map-set, length-set}
 use Rattle.std.proofs.lemmas.Result.{err_from_is_err_and}
 use Rattle.bolt_format.specs.{ElementPlaces.branch_view, Elements.BranchElement}
 use Rattle.bolt_bulk.specs.Private.{run_view}
-use Rattle.bolt_bulk.proofs.ClimbLemmas.{close_large, close_more, close_short, close_stops, run_at, standing_set, up_key}
+use Rattle.bolt_bulk.proofs.ClimbLemmas.{close_more, close_stops, run_at, standing_set, up_key}
 use Rattle.bolt_bulk.proofs.upper_runs.UpperRuns.close_all.Goals as goal
 
 pub take_last_page-requires-clause-standing : goal.take_last_page-requires-clause-standing
@@ -14,20 +14,13 @@ pub returns-in_err-closed : goal.returns-in_err-closed
 returns-in_err-closed g c =
     let here = run_at _ c.loop-i.self.runs.items c.loop-i.i c.index_mut.result.now c.loop-i-test.true (omega arith) c.index_mut.ensures.value c.loop-i.invariant.standing in
     let p = err_from_is_err_and c.from_residual.result c.from_residual.ensures.1 in
-    rw (p.1, p.2) (record {
-      pages = close_stops here.at c.loop-i.invariant.closes _ c.in_err-closed.ensures.pages;
-      short = close_short here.at c.loop-i.invariant.closes c.in_err-closed.ensures.short;
-      root = tt;
-      next = tt;
-      within = tt;
-      large = λ large. close_large here.at c.loop-i.invariant.closes _ (c.in_err-closed.ensures.large large);
-    })
+    rw (p.1, p.2) (record { closes = close_stops here.at c.loop-i.invariant.closes _ c.in_err-closed.ensures.closes.closes; root = tt })
 
 pub loop-i-preserved : goal.loop-i-preserved
 loop-i-preserved g c =
     let here = run_at _ c.loop-i.self.runs.items c.loop-i.i c.index_mut.result.now c.loop-i-test.true (omega arith) c.index_mut.ensures.value c.loop-i.invariant.standing in
-    let more = close_more here.at c.loop-i.invariant.closes (run_view c.take_last_page.new.self) (branch_view c.in_ok-closed.closed) c.take_last_page.new.next c.in_ok-closed.ensures.up c.in_ok-closed.ensures.next c.in_ok-closed.ensures.pages in
+    let more = close_more here.at c.loop-i.invariant.closes (run_view c.take_last_page.new.self) (branch_view c.in_ok-closed.closed) c.take_last_page.new.next c.in_ok-closed.ensures.closes.up c.in_ok-closed.ensures.closes.closes.marked c.in_ok-closed.ensures.closes.closes.writes.pages in
     let k = up_key (branch_view c.loop-i.closed) c.loop-i.next (run_view c.index_mut.result.now) here.standing c.loop-i.invariant.short in
-    let kk = ap (λ (x : BranchElement). length x.key) c.in_ok-closed.ensures.up in
+    let kk = ap (λ (x : BranchElement). length x.key) c.in_ok-closed.ensures.closes.up in
     let runs = sym (map-set run_view c.loop-i.self.runs.items c.loop-i.i c.take_last_page.new.self) in
     grind (arith, standing_set, length-set)

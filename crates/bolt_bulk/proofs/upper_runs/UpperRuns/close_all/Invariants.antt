@@ -8,7 +8,7 @@ use Rattle.bolt_bulk.proofs.upper_runs.UpperRuns.close_all.Given as goal
 
 abbrev pub invariant-loop-i : goal.invariant-loop-i
 invariant-loop-i g l = record {
-  closes : Closing l.setup.page_size (branch_view l.closed-2) l.initial.next (runs_above l.initial.self.runs.items) g.S.Sink l.initial.sink l.sink (runs_above l.self.runs.items) l.i (branch_view l.closed) l.next;
+  closes : Closing l.setup (branch_view l.closed-2) l.initial.next (runs_above l.initial.self.runs.items) g.S.Sink l.initial.sink l.sink (runs_above l.self.runs.items) l.i (branch_view l.closed) l.next;
   standing : AllByRecursion IsStanding (runs_above l.self.runs.items);
   count : length l.self.runs.items ≡ length l.initial.self.runs.items;
   short : length l.closed.key.now ≤ 1073741824;

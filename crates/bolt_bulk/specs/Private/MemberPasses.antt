@@ -1,0 +1,36 @@
+-- What a pass over all members of a source finds and writes, of each listing that the source has.
+use Rattle.std.specs.Prelude.{◌≡◌, ◌≤◌, ◌<◌, ℕ, Bool, List, [], length, Result, IfErr, IfOk}
+use Rattle.bolt_format.specs.declared.sink.Sink.{Ghosts}
+use Rattle.bolt_tree.specs.{Listing.Member, Tree.tree_of}
+use Rattle.bolt_layout.specs.{Copies.IsOfOneTree, Copies.layout_of_listing, declared.layout.Layout.Layout}
+use Rattle.bolt_bulk.specs.{Compacting.too_many, WholeListings.IsAgain}
+use Rattle.bolt_bulk.specs.Private.{Endings.Ends, Passes.FitLimits, Passes.limits_with}
+use Rattle.bolt_bulk.specs.{declared.fault.BulkFault.BulkFault, declared.limits.Limits.Limits, declared.page_setup.PageSetup.PageSetup}
+use Rattle.bolt_bulk.specs.declared.pass.Ended.{Ended}
+use Rattle.bolt_bulk.specs.{declared.fault.PlanFault.PlanFault, declared.fault.PlanFault.TheVariants.TooLarge}
+
+-- the limits are right for each tree that is listed
+abbrev pub FitAll : {M : Type 0} → (M → List Member → Type 0) → M → Layout → (page_size : ℕ) → Limits → Type 0
+FitAll lists members which page_size limits =
+    (listing : List Member) → lists members listing → FitLimits which (tree_of listing) page_size (limits_with limits)
+
+-- Such limits are found, and the members begin again. TooLarge is returned only if the layout has 2^63 bytes or more.
+pub record FindsLimits {M : Type 0} (lists : M → List Member → Type 0) (left : M → List Member → List Member) (ends_as : M → M → Type 0) (old new : M)
+    (which : Layout) (page_size sequence : ℕ) (result : Result Limits PlanFault) : Type 0 where
+  pub fit : IfOk result (λ limits. FitAll lists old which page_size limits)
+  pub large : IfErr result (λ fault. fault ≡ TooLarge → (listing : List Member) → lists old listing
+      → too_many ≤ length (layout_of_listing which page_size listing sequence))
+  pub again : IfOk result (λ limits. IsAgain lists left ends_as old new)
+
+-- a pass over all members, with limits that are right for them
+abbrev pub PutsMembers : {S M : Type 0} → Ghosts S → (old new : S) → (M → List Member → Type 0) → M → PageSetup → Limits → (notes : Bool)
+    → Result Ended BulkFault → Type 0
+PutsMembers sink old new lists members setup limits notes result =
+    (which : Layout) (listing : List Member) → lists members listing → FitLimits which (tree_of listing) setup.page_size (limits_with limits)
+    → Ends (record { which = which; tree = tree_of listing; notes = notes }) sink old new setup [] result
+
+-- this holds of each layout of a listing that is of one tree, if it has fewer than 2^63 bytes
+abbrev pub ForFitting : (page_size sequence : ℕ) → (Layout → List Member → Type 0) → Type 0
+ForFitting page_size sequence P =
+    (which : Layout) (listing : List Member) → ∥ IsOfOneTree listing ∥₁ → length (layout_of_listing which page_size listing sequence) < too_many
+    → P which listing

@@ -1,0 +1,66 @@
+-- What each call of a pass does, wherever in the tree the pass is.
+use Rattle.std.specs.Prelude.{◌≡◌, ℕ, Bool, List, [], ◌∷◌, map, Result, OnOk}
+use Rattle.bolt_format.specs.{ElementPlaces.leaf_view, declared.sink.Sink.Ghosts}
+use Rattle.bolt_tree.specs.{Listing.Member, Tree.Tree, Tree.end, Tree.listing_of, Tree.with_bucket, Tree.with_value}
+use Rattle.bolt_layout.specs.Laid.{Placed}
+use Rattle.bolt_bulk.specs.{Private.Endings.Ends, Private.Levels.Level}
+use Rattle.bolt_bulk.specs.Private.Passes.{FitLimits, HasLeft, HasRoot, IsAt, IsNoDeeper, limits_with, onto, Steps, Wanted}
+use Rattle.bolt_bulk.specs.{declared.fault.BulkFault.BulkFault, declared.limits.Limits.Limits, declared.pass.Ended.Ended, declared.pass.Pass.Pass}
+
+-- what a pass knows at its beginning, if these limits of rows are right
+abbrev pub BeginsAll : Limits → (notes : Bool) → (page_size : ℕ) → Pass → Type 0
+BeginsAll limits notes page_size pass = (wanted : Wanted) → wanted.notes ≡ notes
+    → FitLimits wanted.which wanted.tree page_size (limits_with limits) → HasLeft wanted pass (listing_of wanted.tree) []
+
+-- the next entry is a value, and is taken
+abbrev pub TakesValue : {S A : Type 0} → Ghosts S → (old new : S) → (before after : Pass) → (key value : List ℕ) → Result A BulkFault → Type 0
+TakesValue sink old new before after key value result =
+    (wanted : Wanted) (rest : Tree) (levels : List Level) (put : List Placed) → IsAt wanted before levels (with_value key value rest) put
+    → Steps wanted sink old new before.setup put (IsAt wanted after levels rest) result
+
+-- a value of the bucket that may be inline is kept, and nothing is written
+abbrev pub KeepsValue : {A : Type 0} → (before after : Pass) → (key value : List ℕ) → Result A BulkFault → Type 0
+KeepsValue before after key value result =
+    (wanted : Wanted) (rest : Tree) (levels : List Level) (put : List Placed) → IsAt wanted before levels (with_value key value rest) put
+    → OnOk result (IsAt wanted after levels rest put)
+
+-- the next entry is a bucket, which may be inline
+abbrev pub BeginsBucket : (before after : Pass) → (key : List ℕ) → (sequence : ℕ) → Type 0
+BeginsBucket before after key sequence =
+    (wanted : Wanted) (inside rest : Tree) (levels : List Level) (put : List Placed) → IsAt wanted before levels (with_bucket key sequence inside rest) put
+    → IsAt wanted after (record { key = key; after = rest } ∷ levels) inside put
+
+-- the bucket that might have been inline has a root page, and is opened
+abbrev pub OpensPending : {S A : Type 0} → Ghosts S → (old new : S) → (before after : Pass) → Result A BulkFault → Type 0
+OpensPending sink old new before after result = (wanted : Wanted) (left : Tree) (levels : List Level) (put : List Placed) → IsAt wanted before levels left put
+    → HasRoot wanted.which before.setup.page_size (onto (map leaf_view before.entries.items) left)
+    → Steps wanted sink old new before.setup put (IsAt wanted after levels left) result
+
+-- the next entry is a bucket, and is entered
+abbrev pub EntersBucket : {S A : Type 0} → Ghosts S → (old new : S) → (before after : Pass) → (key : List ℕ) → (sequence : ℕ)
+    → Result A BulkFault → Type 0
+EntersBucket sink old new before after key sequence result =
+    (wanted : Wanted) (inside rest : Tree) (levels : List Level) (put : List Placed) → IsAt wanted before levels (with_bucket key sequence inside rest) put
+    → Steps wanted sink old new before.setup put (IsAt wanted after (record { key = key; after = rest } ∷ levels) inside) result
+
+-- the innermost bucket has no more entries, and is left
+abbrev pub LeavesBucket : {S A : Type 0} → Ghosts S → (old new : S) → (before after : Pass) → Result A BulkFault → Type 0
+LeavesBucket sink old new before after result =
+    (wanted : Wanted) (level : Level) (levels : List Level) (put : List Placed) → IsAt wanted before (level ∷ levels) end put
+    → Steps wanted sink old new before.setup put (IsAt wanted after levels level.after) result
+
+-- no further member is in a bucket deeper than this, and those buckets are left
+abbrev pub LeavesTo : {S A : Type 0} → Ghosts S → (old new : S) → (before after : Pass) → (depth : ℕ) → Result A BulkFault → Type 0
+LeavesTo sink old new before after depth result =
+    (wanted : Wanted) (members : List Member) (put : List Placed) → HasLeft wanted before members put → IsNoDeeper depth members
+    → Steps wanted sink old new before.setup put (HasLeft wanted after members) result
+
+-- the next member is taken
+abbrev pub TakesMember : {S A : Type 0} → Ghosts S → (old new : S) → (before after : Pass) → Member → Result A BulkFault → Type 0
+TakesMember sink old new before after member result =
+    (wanted : Wanted) (members : List Member) (put : List Placed) → HasLeft wanted before (member ∷ members) put
+    → Steps wanted sink old new before.setup put (HasLeft wanted after members) result
+
+-- no member is left, and the root bucket ends
+abbrev pub EndsAll : {S : Type 0} → Ghosts S → (old new : S) → Pass → Result Ended BulkFault → Type 0
+EndsAll sink old new pass result = (wanted : Wanted) (put : List Placed) → HasLeft wanted pass [] put → Ends wanted sink old new pass.setup put result
