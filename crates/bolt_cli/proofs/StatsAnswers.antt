@@ -45,8 +45,8 @@ bucket_stats (part ∷ path) checked bucket own some is named stats =
     (bucket_start bucket, ∥∥₁_elim named (hlevel props) (λ led. ∥∥₁_map (rw is at stats) (λ are. (led, are))))
 
 -- why there are none
-pub stats_missing : (checked : Checked) (path : Path) (form : FigureForm) (reason : Failure)
-    → (reason ≡ failure.Memory) ⊎ ((reason ≡ failure.NoBucket) × ((bucket : Start) → LeadsTo (bytes_of checked) (meta_of checked) path bucket → ⊥))
-    → IsStatsAnswer (bytes_of checked) path form (meta_of checked) (refused reason)
-stats_missing checked path form reason (inl full) = inr (inr (ap refused full))
-stats_missing checked path form reason (inr (is, nowhere)) = inr (inl (nowhere, ap refused is))
+pub stats_missing : (file : List ℕ) (path : Path) (form : FigureForm) (meta : Meta) (reason : Failure)
+    → (reason ≡ failure.Memory) ⊎ ((reason ≡ failure.NoBucket) × ((bucket : Start) → LeadsTo file meta path bucket → ⊥))
+    → IsStatsAnswer file path form meta (refused reason)
+stats_missing file path form meta reason (inl full) = inr (inr (ap refused full))
+stats_missing file path form meta reason (inr (is, nowhere)) = inr (inl (nowhere, ap refused is))

@@ -10,7 +10,7 @@ pub use Rattle.bolt_cli.specs.Answers.{IsRefusedUnder, IsSalvaged, IsSizesAnswer
 pub use Rattle.bolt_cli.specs.Answers.{WritesCopy, all_lost_ending, all_refusal, check_refusal, copy_page_size, copy_report, done, error_text, found, found_page, lengths_line}
 pub use Rattle.bolt_cli.specs.Answers.{lost_and_found, lost_ending, no_stats, none_found, page_answer, pages_shown, parents_of, part_ending, part_text, refused, status_of, value_shown}
 pub use Rattle.bolt_cli.specs.CommandLine.{Asks, Gives, HasKindOf, IsCommand, IsRefusedBy, asked_by, asked_by_subcommand, bare_program, command_of, command_with, operand_rule, option_rule}
-pub use Rattle.bolt_cli.specs.{CommandLine.program, CommandLine.program_of, CommandLine.values_in, CopyEnds.EndsCopy, CopyEnds.asked_layout}
+pub use Rattle.bolt_cli.specs.{CommandLine.program, CommandLine.program_of, CommandLine.values_in, CopyEnds.EndsCopy}
 pub use Rattle.bolt_cli.specs.CopyKinds.{is_snapshot, layout_for}
 pub use Rattle.bolt_cli.specs.Deeds.{Adds, Closed, Deed, Ended, Made, Opened, Read, Said}
 pub use Rattle.bolt_cli.specs.Failures.{HasFinding, IsFailureOf, copied, failure_line, reported, unjoined, unloaded}
@@ -25,14 +25,16 @@ pub use Rattle.bolt_cli.specs.{Syntaxes.choice_view, Syntaxes.operand_view, Synt
 pub use Rattle.bolt_cli.specs.{declared.choices.Extent.TheVariants.First, declared.choices.Extent.TheVariants.Losses, declared.failure.Failure.Failure}
 pub use Rattle.bolt_cli.specs.{declared.file_faults.FileFaults.FileFaults, declared.job.Job.Job, declared.choices.MetaChoice.MetaChoice}
 pub use Rattle.bolt_cli.specs.declared.choices.MetaChoice.TheVariants.{Active, Assumed, InSlot}
-pub use Rattle.bolt_cli.specs.{declared.choices.PageSize.PageSize, declared.refusal.Refusal.Refusal}
-pub use Rattle.bolt_cli.specs.declared.refusal.Refusal.TheVariants.{Help, Memory, Usage, Version, Word}
+pub use Rattle.bolt_cli.specs.Private.{Copying.CopiesTo, Copying.IsAskedShape, Copying.shaped_layout, Endings.end_of, Endings.end_of_part, Endings.end_written, Opened.HasNoBucket, Opened.IsBucketOf, Opened.IsJoinedOf}
+pub use Rattle.bolt_cli.specs.Private.{Opened.IsSearchOf, Printing.PrintsAnswer, Reports.EndsCopying, Reports.report_answer}
+pub use Rattle.bolt_cli.specs.{declared.choices.PageSize.PageSize, declared.job.Refusal.Refusal}
+pub use Rattle.bolt_cli.specs.declared.job.Refusal.TheVariants.{Help, Memory, Usage, Version, Word}
 pub use Rattle.bolt_format.proofs.SinkLemmas.{AppendsProperPrefix-first, AppendsProperPrefix-second}
 pub use Rattle.bolt_format.proofs.WroteLemmas.{Wrote-ends, Wrote-return, Wrote-same, Wrote-stop, Wrote-then, broken_by}
-pub use Rattle.bolt_format.specs.{Elements.LeafElement, Elements.head_sequence, Endings.broken, Endings.whole}
+pub use Rattle.bolt_format.specs.{Elements.LeafElement, Elements.head_sequence, Endings.ending, Endings.broken, Endings.whole}
 pub use Rattle.bolt_format.specs.Metas.{HasBothMetas, HasMetaFault, HasSlotFault, IsChosen, IsInSlot, IsMeta, IsPageSize, page_size_count, page_sizes}
 pub use Rattle.bolt_format.specs.{Sinks.AppendsPrefix, Sinks.AppendsProperPrefix, Wrote.Wrote, declared.meta.Meta.Meta, declared.meta.MetaFault.MetaFault}
-pub use Rattle.bolt_format.specs.{declared.meta.Slot.Slot, declared.meta.Slot.TheVariants.One, declared.meta.Slot.TheVariants.Zero, declared.sink.Sink.Ghosts}
+pub use Rattle.bolt_format.specs.{declared.meta.Slot.Slot, declared.meta.Slot.TheVariants.One, declared.meta.Slot.TheVariants.Zero, declared.sink.Sink.Ghosts, declared.sink.SinkFault.SinkFault}
 pub use Rattle.bolt_layout.specs.Copies.{IsAsked, IsOfOneTree, IsSoundCopy, RefusesPrefixes, layout_of_listing}
 pub use Rattle.bolt_layout.specs.declared.layout.Layout.{Layout}
 pub use Rattle.bolt_load.specs.{LineFaults.IsFirstFault, LineFaults.IsListingText, LineMembers.text_members, Numbers.number_in}

@@ -1,0 +1,24 @@
+use Rattle.std.proofs.Common.{inl, inr, refl}
+use Rattle.bolt_cli.proofs.{Vocabulary.path_in, Doing.answer_nothing, Doing.answer_put, Doing.answer_refused, ReadFiles.own_trees, ReadFiles.unread_finding, StatsAnswers.stats_missing}
+use Rattle.bolt_cli.proofs.bucket_commands.print_stats.Goals as goal
+
+pub find_stats-requires : goal.find_stats-requires
+find_stats-requires g c = own_trees c.args.input.file.now c.args.job.now.meta c.in_ok-checked.checked c.in_ok-checked.ensures.bytes c.in_ok-checked.ensures.sound
+
+pub returns-in_err-checked : goal.returns-in_err-checked
+returns-in_err-checked g c =
+    let refused = c.in_err-checked.ensures.refused in
+    answer_refused _ _ (unread_finding c.args.input.file.now c.args.job.now.meta _ refused) (λ failure of. inr (_, refused, (failure, of, refl))) c.from_residual.ensures.1
+
+pub returns-in_err-stats : goal.returns-in_err-stats
+returns-in_err-stats g c =
+    let opened = c.in_ok-checked.ensures in
+    let missing = rw (opened.bytes, c.as_slice.ensures.value) at c.in_err-stats.ensures.missing in
+    let is = stats_missing c.args.input.file.now (path_in c.args.job.now.path.items) c.args.job.now.form _ _ missing in
+    answer_nothing _ _ (inl (_, opened.sound, is)) c.from_residual-in_err-stats.ensures.1
+
+pub returns : goal.returns
+returns g c =
+    let opened = c.in_ok-checked.ensures in
+    let found = rw (opened.bytes, c.as_slice.ensures.value) at c.in_ok-stats.ensures.found in
+    rw c.written.ensures (answer_put _ c.stats_text.result (inl (_, opened.sound, inl (_, found, refl))) c.stats_text.ensures)
