@@ -14,10 +14,12 @@ abbrev IsWholeOrCut : (X : Type 0) → List ℕ → Ending → Answer → Type 0
 IsWholeOrCut X text wanted answer =
     (answer ≡ record { out = text; ending = wanted }) ⊎ (X × (front : List ℕ) × (rest : List ℕ) × (text ≡ front ++ rest) × (answer ≡ cut front))
 
-pub text_put : {S A : Type 0} {sink : Ghosts S} {old new : S} (X : Type 0) (text : List ℕ) (wanted : Ending) (put : Result A ReportFault) → Wrote sink old new text (report_ending put)
+pub text_put : {S A : Type 0} {sink : Ghosts S} {old new : S} (X : Type 0) (text : List ℕ) (wanted : Ending) (put : Result A ReportFault)
+    → Wrote sink old new text (report_ending put)
     → IfErr put (λ e. (e ≡ report.Sink) ⊎ ((e ≡ report.NoMemory) × X)) → PrintsAnswer sink old new (IsWholeOrCut X text wanted) (end_of put wanted)
 text_put X text wanted (Ok x) written fault = record { answer = record { out = text; ending = wanted }; is = inl refl; does = inl (written.appends, written.failures, refl) }
-text_put X text wanted (Err report.Sink) written fault = record { answer = record { out = text; ending = wanted }; is = inl refl; does = inr (written.failures, written.appends, refl) }
+text_put X text wanted (Err report.Sink) written fault =
+    record { answer = record { out = text; ending = wanted }; is = inl refl; does = inr (written.failures, written.appends, refl) }
 text_put X text wanted (Err report.NoMemory) written (inl sink) = absurd cc
 text_put X text wanted (Err report.NoMemory) written (inr (full, x)) =
     let begun = written.appends in
@@ -25,7 +27,8 @@ text_put X text wanted (Err report.NoMemory) written (inr (full, x)) =
 text_put X text wanted (Err (report.Page page)) written (inl sink) = absurd cc
 text_put X text wanted (Err (report.Page page)) written (inr (full, x)) = absurd cc
 
-allowed : {A : Type 0} (put : Result A ReportFault) → IfErr put (λ e. (e ≡ report.Sink) ⊎ (e ≡ report.NoMemory)) → IfErr put (λ e. (e ≡ report.Sink) ⊎ ((e ≡ report.NoMemory) × ⊤))
+allowed : {A : Type 0} (put : Result A ReportFault) → IfErr put (λ e. (e ≡ report.Sink) ⊎ (e ≡ report.NoMemory))
+    → IfErr put (λ e. (e ≡ report.Sink) ⊎ ((e ≡ report.NoMemory) × ⊤))
 allowed (Ok x) fault = tt
 allowed (Err e) (inl sink) = inl sink
 allowed (Err e) (inr full) = inr (full, tt)

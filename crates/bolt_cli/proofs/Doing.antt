@@ -28,7 +28,8 @@ answer_as found step = record { answer = found.answer; is = step found.answer fo
 
 module _ {S : Type 0} {sink : Ghosts S} {old : S} {IsWanted : Answer → Type 0} where
   -- nothing was written
-  pub answer_nothing : (failure : Failure) (result : Ending) → IsWanted (refused failure) → IsErrAnd result (λ said. said ≡ failure) → PrintsAnswer sink old old IsWanted result
+  pub answer_nothing : (failure : Failure) (result : Ending) → IsWanted (refused failure) → IsErrAnd result (λ said. said ≡ failure)
+      → PrintsAnswer sink old old IsWanted result
   answer_nothing failure result is said = record { answer = refused failure; is = is; does = inl (Appends-nil (sink.taken old), refl, ends_as result failure said) }
 
   -- the file is refused, and only the first finding is reported

@@ -1,7 +1,8 @@
 -- What is answered of the entries of the bucket at a path, or of their sizes.
 use Rattle.std.proofs.Common.{◌⊎◌, ◌≡◌, ℕ, Bool, true, false, IfErr, List, Ok, Result, inl, inr, refl}
 use Rattle.bolt_cli.proofs.Vocabulary.{AreEntries, Bucket, ForEntries, Ghosts, IsBucketOf, IsEntriesAnswer, IsEntry, IsReadAnswer, IsSizesAnswer, Json, LeadsTo, LeafElement}
-use Rattle.bolt_cli.proofs.Vocabulary.{Meta, MetaChoice, Path, PrintsAnswer, ReportFault, Start, Wrote, bucket_checked, bucket_start, bytes_of, end_of, meta_of, refused, report_ending}
+use Rattle.bolt_cli.proofs.Vocabulary.{Meta, MetaChoice, Path, PrintsAnswer, ReportFault, Start, Wrote, bucket_checked, bucket_start, bytes_of, end_of, meta_of}
+use Rattle.bolt_cli.proofs.Vocabulary.{refused, report_ending}
 use Rattle.bolt_report.specs.{SizeLines.AreSized, SizeLines.Sized, SizeLines.sizes_text, declared.form.Form.Form}
 use Rattle.bolt_report.specs.declared.fault.ReportFault.TheVariants as report
 use Rattle.bolt_report.proofs.SizesExist.{named_sizes}
@@ -30,7 +31,8 @@ module _ {file : List ℕ} {choice : MetaChoice} {path : Path} {bucket : Bucket}
       (sized : List Sized) → AreSized (bytes_of (bucket_checked bucket)) meta entries sized → Wrote sink old new (sizes_text form sized) (report_ending put)
 
   module _ {S A : Type 0} {sink : Ghosts S} {old new : S} (put : Result A ReportFault) (form : Form) where
-    pub entries_put : (text : List LeafElement → List ℕ) → ForEntries (bucket_checked bucket) (bucket_start bucket) (λ entries. Wrote sink old new (text entries) (report_ending put))
+    pub entries_put : (text : List LeafElement → List ℕ)
+        → ForEntries (bucket_checked bucket) (bucket_start bucket) (λ entries. Wrote sink old new (text entries) (report_ending put))
         → IfErr put (λ e. (e ≡ report.Sink) ⊎ ((e ≡ report.NoMemory) × (form ≡ Json)))
         → PrintsAnswer sink old new (IsReadAnswer file choice (IsEntriesAnswer file path form text)) (end_of put (Ok 0))
     entries_put text written fault =

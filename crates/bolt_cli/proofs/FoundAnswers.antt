@@ -39,12 +39,14 @@ module _ (file : List ℕ) (meta : Meta) where
   -- ---- the answer
 
   module _ (faults : FileFaults) (choice : MetaChoice) (found : List FoundView) (pages : AreFoundPages file meta found) where
-    reported : (losses : List LossView) → IsAllLost file meta (parts losses) → (answer : Answer) → AnswersFound faults file choice losses found answer → IsFoundPagesAnswer faults file choice meta answer
+    reported : (losses : List LossView) → IsAllLost file meta (parts losses) → (answer : Answer) → AnswersFound faults file choice losses found answer
+        → IsFoundPagesAnswer faults file choice meta answer
     reported losses (keeps, all) answer answers =
         let (own, are) = has_losses file meta in
         inl (keeps, own, found, are, pages, subst (λ (ls : List LossView). AnswersFound faults file choice ls found answer) (all own are) answers)
 
-    pub found_none_lost : (lost : LostView) → IsAllLost file meta lost → is_nothing lost ≡ true → (answer : Answer) → IsFoundAnswer faults file choice answer → IsFoundPagesAnswer faults file choice meta answer
+    pub found_none_lost : (lost : LostView) → IsAllLost file meta lost → is_nothing lost ≡ true → (answer : Answer) → IsFoundAnswer faults file choice answer
+        → IsFoundPagesAnswer faults file choice meta answer
     found_none_lost (parts []) is none answer answers = reported [] is answer answers
     found_none_lost lost is none answer answers = absurd (false≢true none)
 

@@ -1,10 +1,12 @@
 -- The answer of `check --all`.
 use Rattle.std.proofs.Common.{◌≡◌, ◌≢◌, ◌∙◌, ℕ, List, [], ◌∷◌, inl, map, refl}
-use Rattle.bolt_cli.proofs.Vocabulary.{Answer, AnswersLosses, AreLosses, FileFaults, ForLosses, IsFoundAnswer, IsLossesAnswer, LossView, Meta, MetaChoice, has_losses, loss_view, lost_and_found, parts}
+use Rattle.bolt_cli.proofs.Vocabulary.{Answer, AnswersLosses, AreLosses, FileFaults, ForLosses, IsFoundAnswer, IsLossesAnswer, LossView, Meta, MetaChoice}
+use Rattle.bolt_cli.proofs.Vocabulary.{has_losses, loss_view, lost_and_found, parts}
 use Rattle.bolt_recover.specs.declared.loss.Loss.{Loss}
 
 -- the losses that a recovery shows at its end are all
-pub all_losses : (file : List ℕ) (meta : Meta) {shown : List LossView} (losses : List LossView) → losses ≡ shown → ForLosses file meta (λ all. shown ≡ all) → AreLosses file meta losses
+pub all_losses : (file : List ℕ) (meta : Meta) {shown : List LossView} (losses : List LossView) → losses ≡ shown → ForLosses file meta (λ all. shown ≡ all)
+    → AreLosses file meta losses
 all_losses file meta losses seen all = let (lost, are) = has_losses file meta in rw (seen ∙ all lost are) are
 
 module _ (faults : FileFaults) (file : List ℕ) (choice : MetaChoice) (meta : Meta) (losses : List Loss) (are : AreLosses file meta (map loss_view losses)) where

@@ -8,7 +8,8 @@ use Rattle.bolt_report.specs.declared.fault.ReportFault.TheVariants as report
 abbrev NamesFault : {A : Type 0} → Result A ReportFault → Option PageFault → Type 0
 NamesFault result found = (fault : PageFault) → (result ≡ Err (report.Page fault)) ↔ (found ≡ Some fault)
 
-pub page_put : {S A : Type 0} {sink : Ghosts S} {old new : S} (found : Option PageFault) (text : List ℕ) (put : Result A ReportFault) → Wrote sink old new text (report_ending put)
+pub page_put : {S A : Type 0} {sink : Ghosts S} {old new : S} (found : Option PageFault) (text : List ℕ) (put : Result A ReportFault)
+    → Wrote sink old new text (report_ending put)
     → put ≢ Err report.NoMemory → NamesFault put found → ((fault : PageFault) → put ≡ Err (report.Page fault) → new ≡ old)
     → Does sink.taken sink.failed old new (page_answer found text) (end_of put (Ok 0))
 page_put None text (Ok x) a memory names untouched = inl (a.appends, a.failures, refl)

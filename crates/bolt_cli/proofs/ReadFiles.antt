@@ -12,7 +12,8 @@ pub read_meta : (file : List ℕ) (choice : MetaChoice) (meta : Meta) → IsRead
 read_meta file Active meta (slot, chosen, sound) = (slot, chosen)
 read_meta file choice meta under = under.0
 
-pub own_trees : (file : List ℕ) (choice : MetaChoice) (checked : Checked) → bytes_of checked ≡ file → IsReadUnder file choice (meta_of checked) → HasSoundTrees (bytes_of checked) (meta_of checked)
+pub own_trees : (file : List ℕ) (choice : MetaChoice) (checked : Checked) → bytes_of checked ≡ file → IsReadUnder file choice (meta_of checked)
+    → HasSoundTrees (bytes_of checked) (meta_of checked)
 own_trees file choice checked same under = subst (λ (f : List ℕ). HasSoundTrees f (meta_of checked)) (sym same) (read_trees file choice (meta_of checked) under)
 
 -- ---- the page size

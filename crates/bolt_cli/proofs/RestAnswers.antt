@@ -2,7 +2,8 @@
 use Rattle.std.proofs.Common.{◌≡◌, ◌⊎◌, ℕ, Bool, IfErr, IfOk, List, Result, Ok, Err, inl, inr, refl}
 use Rattle.bolt_cli.proofs.Vocabulary.{Ending, ForJoined, ForRecovered, Ghosts, IsEndedOrCut, IsFileRefusal, IsJoined, IsJoinedList, IsJoinedOf, IsRecovered}
 use Rattle.bolt_cli.proofs.Vocabulary.{IsRecoveredAnswer, IsRecoveredList, IsRecoveredUnder, IsSearchOf, ListForm, LostAndFound, Member, MetaChoice, OnOk, Path, PrintsAnswer}
-use Rattle.bolt_cli.proofs.Vocabulary.{ReportFault, Rises, Wrote, all_lost, all_lost_ending, end_of_part, has_bucket, has_losses, has_recovered, joined_file, joined_left, joined_meta}
+use Rattle.bolt_cli.proofs.Vocabulary.{ReportFault, Rises, Wrote, all_lost, all_lost_ending, end_of_part, has_bucket, has_losses, has_recovered, joined_file}
+use Rattle.bolt_cli.proofs.Vocabulary.{joined_left, joined_meta}
 use Rattle.bolt_cli.proofs.Vocabulary.{lost_ending, member_cmp, part_ending, part_text, recovery_file, recovery_left, recovery_meta, report_ending}
 use Rattle.bolt_recover.specs.{declared.joined.Joined.Joined, declared.recovery.Recovery.Recovery}
 use Rattle.bolt_report.specs.declared.fault.ReportFault.TheVariants as report

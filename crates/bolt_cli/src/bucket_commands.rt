@@ -45,7 +45,7 @@ pub(crate) fn print_keys<O: Sink>(input: Input<'_>, job: &KeysJob, out: &mut O) 
 pub(crate) fn print_value<O: Sink>(input: Input<'_>, job: &GetJob, out: &mut O) -> Outcome
     ensures { PrintsAnswer O.Sink out.old out.new (IsGetPrint job.now input.entry.file.now) result }
 {
-    let checked = input.check(job.meta)?;
+    let checked = input.read(job.meta)?;
     let value = find_value(checked, job.path.as_slice())?;
     ended(put_value(input.alloc, value, job.form, job.no_newline, out))
 }
@@ -87,7 +87,7 @@ fn find_value<'a>(checked: Checked<'a>, path: &[Vec<u8>]) -> Result<&'a [u8], Fa
 pub(crate) fn print_stats<O: Sink>(input: Input<'_>, job: &StatsJob, out: &mut O) -> Outcome
     ensures { PrintsAnswer O.Sink out.old out.new (IsStatsPrint job.now input.entry.file.now) result }
 {
-    let checked = input.check(job.meta)?;
+    let checked = input.read(job.meta)?;
     let stats = find_stats(input.alloc, checked, job.path.as_slice())?;
     written(stats_text(&stats, job.form, out))
 }

@@ -45,7 +45,7 @@ fn write_sound<O: Sink, T: Sink>(
 ) -> Outcome
     ensures { CompactsTo O.Sink out.old out.new T.Sink target.old target.new Extent.First job.now input.entry.file.now result }
 {
-    let checked = input.check(job.meta)?;
+    let checked = input.read(job.meta)?;
     if hash_differs(job, input.file) {
         return Err(Failure::HashDiffers);
     }
@@ -152,8 +152,9 @@ pub(crate) fn write_loaded<O: Sink, T: Sink>(
     let listing = ListingText::read(input.alloc, input.file)?;
     let mut members = listing.members(input.alloc);
     a_text_is_of_one_tree();
+    let layout = job.kind.layout();
     let shape = Shape {
-        layout: job.kind.layout(),
+        layout,
         page_size: job.page_size.bytes,
         sequence: job.sequence,
     };

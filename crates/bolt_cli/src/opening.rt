@@ -2,7 +2,7 @@
 ghost use Rattle.std.specs.Prelude.{◌≡◌, IfErr, IfOk, []};
 ghost use Rattle.bolt_check.specs.CheckedFiles.{bytes_of, meta_of};
 ghost use Rattle.bolt_cli.specs.Answers.{IsReadUnder, IsRefusedUnder, IsRecoveredUnder, IsUnjoinedUnder, IsUnrecoverableUnder, LeadsTo};
-ghost use Rattle.bolt_cli.specs.{PlainWords.path_in, Private.Opened.HasNoBucket, Private.Opened.IsBucketOf, Private.Opened.IsJoinedOf, Private.Opened.IsSearchOf};
+ghost use Rattle.bolt_cli.specs.{PlainWords.path_in, Private.Opened.HasNoBucket, Private.Opened.IsBucketOf, Private.Opened.IsJoinedOf, Private.Opened.IsSearchOf, Private.Opened.IsUnread};
 ghost use Rattle.bolt_cli.specs.declared.failure.Failure.TheVariants.{NoBucket};
 ghost use Rattle.bolt_recover.specs.Recovered.{ForRecovered};
 ghost use Rattle.bolt_recover.specs.Recoveries.{recovery_file, recovery_left, recovery_losses, recovery_meta};
@@ -40,12 +40,22 @@ impl<'f> Input<'f> {
         }
     }
 
+    /// The same, with the failure that is reported if the file is refused.
+    pub(crate) fn read(self, choice: MetaChoice) -> Result<Checked<'f>, Failure>
+        ensures bytes { IfOk result (λ checked. bytes_of checked ≡ self.entry.file.now) }
+        ensures sound { IfOk result (λ checked. IsReadUnder self.entry.file.now choice (meta_of checked)) }
+        ensures refused { IfErr result (IsUnread self.entry.file.now choice) }
+    {
+        let checked = self.check(choice)?;
+        Ok(checked)
+    }
+
     /// The bucket at a path of the file, which is checked first.
     pub(crate) fn bucket(self, choice: MetaChoice, path: &[Vec<u8>]) -> Result<Bucket<'f>, Failure>
         ensures found { IfOk result (IsBucketOf self.entry.file.now choice (path_in path.now)) }
         ensures refused { IfErr result (HasNoBucket self.entry.file.now choice (path_in path.now)) }
     {
-        let checked = self.check(choice)?;
+        let checked = self.read(choice)?;
         let bucket = open_bucket(checked, path)?;
         Ok(bucket)
     }

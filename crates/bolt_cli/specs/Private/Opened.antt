@@ -17,6 +17,10 @@ pub record IsBucketOf (file : List ℕ) (choice : MetaChoice) (path : Path) (buc
   pub under : IsReadUnder file choice (meta_of (bucket_checked bucket))
   pub led : ∥ LeadsTo file (meta_of (bucket_checked bucket)) path (bucket_start bucket) ∥₁
 
+-- the file is refused, and its first finding is reported
+abbrev pub IsUnread : List ℕ → MetaChoice → Failure → Type 0
+IsUnread file choice failure = (fault : CheckFault) × IsRefusedUnder file choice fault × IsFailureOf fault failure
+
 -- the path leads to no bucket, or the file is refused
 pub record HasNoBucket (file : List ℕ) (choice : MetaChoice) (path : Path) (failure : Failure) : Type 0 where
   pub why : ((meta : Meta) × IsReadUnder file choice meta × ((bucket : Start) → LeadsTo file meta path bucket → ⊥) × (failure ≡ NoBucket))

@@ -1,5 +1,5 @@
 use Rattle.std.proofs.Common.{inl, inr, refl}
-use Rattle.bolt_cli.proofs.{Vocabulary.path_in, Doing.answer_nothing, Doing.answer_put, Doing.answer_refused, ReadFiles.own_trees, ReadFiles.unread_finding, StatsAnswers.stats_missing}
+use Rattle.bolt_cli.proofs.{Vocabulary.path_in, Doing.answer_nothing, Doing.answer_put, ReadFiles.own_trees, StatsAnswers.stats_missing}
 use Rattle.bolt_cli.proofs.bucket_commands.print_stats.Goals as goal
 
 pub find_stats-requires : goal.find_stats-requires
@@ -7,8 +7,8 @@ find_stats-requires g c = own_trees c.args.input.file.now c.args.job.now.meta c.
 
 pub returns-in_err-checked : goal.returns-in_err-checked
 returns-in_err-checked g c =
-    let refused = c.in_err-checked.ensures.refused in
-    answer_refused _ _ (unread_finding c.args.input.file.now c.args.job.now.meta _ refused) (λ failure of. inr (_, refused, (failure, of, refl))) c.from_residual.ensures.1
+    let (fault, refused, of) = c.in_err-checked.ensures.refused in
+    answer_nothing _ _ (inr (fault, refused, (_, of, refl))) c.from_residual.ensures.1
 
 pub returns-in_err-stats : goal.returns-in_err-stats
 returns-in_err-stats g c =

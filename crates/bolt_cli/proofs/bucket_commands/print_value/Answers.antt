@@ -1,12 +1,12 @@
 use Rattle.std.proofs.Common.{◌≡◌, Ok, inl, inr, refl, sym}
 use Rattle.bolt_cli.proofs.Vocabulary.{Json, Value, path_in, value_shown}
-use Rattle.bolt_cli.proofs.{AtPaths.held_at, CutTexts.text_put, Doing.answer_as, Doing.answer_nothing, Doing.answer_refused, ReadFiles.own_trees, ReadFiles.unread_finding}
+use Rattle.bolt_cli.proofs.{AtPaths.held_at, CutTexts.text_put, Doing.answer_as, Doing.answer_nothing, ReadFiles.own_trees}
 use Rattle.bolt_cli.proofs.bucket_commands.print_value.Goals as goal
 
 pub returns-in_err-checked : goal.returns-in_err-checked
 returns-in_err-checked g c =
-    let refused = c.in_err-checked.ensures.refused in
-    answer_refused _ _ (unread_finding c.args.input.file.now c.args.job.now.meta _ refused) (λ failure of. inr (_, refused, (failure, of, refl))) c.from_residual.ensures.1
+    let (fault, refused, of) = c.in_err-checked.ensures.refused in
+    answer_nothing _ _ (inr (fault, refused, (_, of, refl))) c.from_residual.ensures.1
 
 pub returns-in_err-value : goal.returns-in_err-value
 returns-in_err-value g c =

@@ -1,5 +1,6 @@
 use Rattle.std.proofs.Common.{◌≡◌, ◌∙◌, Some, ap, refl, rules, sym}
-use Rattle.bolt_cli.proofs.Vocabulary.{EntryView, bucket_checked, bucket_start, bytes_of, cursor_checked, cursor_place, cursor_start, entries_left, fewer_left, meta_of, next_shows, no_stats}
+use Rattle.bolt_cli.proofs.Vocabulary.{EntryView, bucket_checked, bucket_start, bytes_of, cursor_checked, cursor_place, cursor_start, entries_left, fewer_left}
+use Rattle.bolt_cli.proofs.Vocabulary.{meta_of, next_shows, no_stats}
 use Rattle.bolt_cli.proofs.StatsAnswers.{total_more}
 use Rattle.bolt_tree.specs.ShownEntries.{shown_entry}
 use Rattle.bolt_report.proofs.SizeLemmas.{first_left}

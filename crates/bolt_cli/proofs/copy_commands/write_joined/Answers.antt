@@ -1,7 +1,8 @@
 -- The copy is whole and then reported, or it isn't whole, or there is no joined listing.
 use Rattle.std.proofs.Common.{inl, inr, length, map, refl}
 use Rattle.bolt_cli.proofs.Vocabulary.{all_lost, copy_report, found_view, hash_differs, is_snapshot}
-use Rattle.bolt_cli.proofs.{CopyAnswers.copy_asked, CopyAnswers.copy_written, CopyAnswers.report_as, Doing.ends_as, FoundAnswers.are_leaves, FoundAnswers.salvaged, ReadFiles.choice_page_size}
+use Rattle.bolt_cli.proofs.{CopyAnswers.copy_asked, CopyAnswers.copy_written, CopyAnswers.report_as, Doing.ends_as, FoundAnswers.are_leaves}
+use Rattle.bolt_cli.proofs.{FoundAnswers.salvaged, ReadFiles.choice_page_size}
 use Rattle.bolt_cli.proofs.copy_commands.write_joined.Goals as goal
 
 pub returns-in_err-both : goal.returns-in_err-both

@@ -15,5 +15,5 @@ copy_members-copied-requires g c =
 pub returns : goal.returns
 returns g c =
     let told = ap text_members (sym (c.members-members.ensures.text ∙ c.in_ok-listing.ensures.text)) in
-    let copy = rw c.layout.ensures at (c.copy_members-copied.ensures.copied (text_members c.args.input.file.now) told) in
+    let copy = rw c.layout-layout.ensures at (c.copy_members-copied.ensures.copied (text_members c.args.input.file.now) told) in
     inl (c.in_ok-listing.ensures.right, copy_written _ _ copy c.end_copy.ensures)

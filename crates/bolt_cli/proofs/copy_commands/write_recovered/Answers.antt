@@ -1,6 +1,7 @@
 -- The copy is whole and then reported, or it isn't whole, or nothing is recovered.
 use Rattle.std.proofs.Common.{◌≡◌, ◌∙◌, ℕ, List, [], inl, inr, length, map, refl}
-use Rattle.bolt_cli.proofs.Vocabulary.{Answer, ForLosses, LossView, copy_report, has_losses, has_recovered, hash_differs, is_snapshot, loss_view, parts, recovery_file, recovery_losses, recovery_meta}
+use Rattle.bolt_cli.proofs.Vocabulary.{Answer, ForLosses, LossView, copy_report, has_losses, has_recovered, hash_differs, is_snapshot, loss_view, parts}
+use Rattle.bolt_cli.proofs.Vocabulary.{recovery_file, recovery_losses, recovery_meta}
 use Rattle.bolt_cli.proofs.{CopyAnswers.copy_asked, CopyAnswers.copy_written, CopyAnswers.report_same, Doing.on_ok, ReadFiles.failure_named, ReadFiles.unrecoverable_finding}
 use Rattle.bolt_cli.proofs.copy_commands.write_recovered.Goals as goal
 

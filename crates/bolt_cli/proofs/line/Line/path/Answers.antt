@@ -1,5 +1,6 @@
 use Rattle.std.proofs.Common.{◌≡◌, ◌∙◌, List, [], Option, Ok, codes, ap, ap₂, sym, unwrap_or}
-use Rattle.bolt_cli.proofs.Vocabulary.{Row, Text, all_of, each_part, first_of, found_of, part_of, parts_by, path_by, path_in, raw_values-rows, result_and_then, rows_of, values_in}
+use Rattle.bolt_cli.proofs.Vocabulary.{Row, Text, all_of, each_part, first_of, found_of, part_of, parts_by, path_by, path_in, raw_values-rows, result_and_then}
+use Rattle.bolt_cli.proofs.Vocabulary.{rows_of, values_in}
 use Rattle.bolt_cli.proofs.CommandLineLemmas.{gives_same}
 use Rattle.bolt_cli.specs.declared.path_words.Parts.{Parts}
 use Rattle.bolt_cli.proofs.line.Line.path.Goals as goal

@@ -1,12 +1,9 @@
 use Rattle.std.proofs.Common.{inl, inr}
-use Rattle.bolt_cli.proofs.{Doing.ends_as, ReadFiles.failure_named, ReadFiles.unread_finding}
+use Rattle.bolt_cli.proofs.Doing.{ends_as}
 use Rattle.bolt_cli.proofs.opening.Input.bucket.Goals as goal
 
 pub returns-in_err-checked-clause-refused : goal.returns-in_err-checked-clause-refused
-returns-in_err-checked-clause-refused c =
-    let refused = c.in_err-checked.ensures.refused in
-    let (failure, of, ends) = failure_named c.in_err-checked.field-0.0 _ (unread_finding c.args.self.file.now c.args.choice _ refused) c.from_residual.ensures.1 in
-    rw ends (record { why = inr (_, refused, of) })
+returns-in_err-checked-clause-refused c = rw (ends_as _ c.in_err-checked.field-0.0 c.from_residual.ensures.1) (record { why = inr c.in_err-checked.ensures.refused })
 
 pub returns-in_err-bucket-clause-refused : goal.returns-in_err-bucket-clause-refused
 returns-in_err-bucket-clause-refused c =
