@@ -1,6 +1,6 @@
 -- What jobs do with their text, and how they end.
 use Rattle.std.proofs.Common.{◌≡◌, ℕ, List, Result, Ok, Err, inl, inr, ap, refl}
-use Rattle.bolt_cli.proofs.Vocabulary.{Answer, Appends-nil, CheckFault, Ending, Failure, Ghosts, HasFinding, HasNoBucket, IsErrAnd, IsFailureOf, IsReadUnder, IsRefusedUnder}
+use Rattle.bolt_cli.proofs.Vocabulary.{Answer, Appends-nil, CheckFault, Ending, Failure, Ghosts, HasFinding, HasNoBucket, IsErrAnd, IsFailureOf, IsReadUnder, IsUnread}
 use Rattle.bolt_cli.proofs.Vocabulary.{LeadsTo, Meta, MetaChoice, OnOk, Path, PrintsAnswer, SinkFault, Start, Wrote, end_written, ending, refused}
 use Rattle.bolt_cli.specs.declared.failure.Failure.TheVariants.{NoBucket}
 
@@ -41,9 +41,9 @@ module _ {S : Type 0} {sink : Ghosts S} {old : S} {IsWanted : Answer → Type 0}
   -- the path leads to no bucket, or the file is refused
   pub answer_none : {file : List ℕ} {choice : MetaChoice} {path : Path} (failure : Failure) (result : Ending) → HasNoBucket file choice path failure
       → ((meta : Meta) → IsReadUnder file choice meta → ((bucket : Start) → LeadsTo file meta path bucket → ⊥) → IsWanted (refused NoBucket))
-      → ((fault : CheckFault) → IsRefusedUnder file choice fault → IsFailureOf fault failure → IsWanted (refused failure))
+      → (IsUnread file choice failure → IsWanted (refused failure))
       → IsErrAnd result (λ said. said ≡ failure) → PrintsAnswer sink old old IsWanted result
   answer_none failure result refusal none unread said = elim refusal.why [
     | inl (meta, under, nowhere, is) ↦ answer_nothing failure result (rw is (none meta under nowhere)) said
-    | inr (fault, is, of) ↦ answer_nothing failure result (unread fault is of) said
+    | inr refused ↦ answer_nothing failure result (unread refused) said
   ]

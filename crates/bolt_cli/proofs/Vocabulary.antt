@@ -34,7 +34,7 @@ pub use Rattle.bolt_cli.specs.{declared.file_faults.FileFaults.FileFaults, decla
 pub use Rattle.bolt_cli.specs.declared.choices.MetaChoice.TheVariants.{Active, Assumed, InSlot}
 pub use Rattle.bolt_cli.specs.Private.{Copying.CopiesTo, Copying.IsAskedShape, Copying.shaped_layout, Endings.end_of, Endings.end_of_part, Endings.end_written}
 pub use Rattle.bolt_cli.specs.Private.{Opened.HasNoBucket, Opened.IsBucketOf, Opened.IsJoinedOf}
-pub use Rattle.bolt_cli.specs.Private.{Opened.IsSearchOf, Printing.PrintsAnswer, Reports.EndsCopying, Reports.report_answer}
+pub use Rattle.bolt_cli.specs.Private.{Opened.IsSearchOf, Opened.IsUnread, Printing.PrintsAnswer, Reports.EndsCopying, Reports.report_answer}
 pub use Rattle.bolt_cli.specs.{declared.choices.PageSize.PageSize, declared.job.Refusal.Refusal}
 pub use Rattle.bolt_cli.specs.declared.job.Refusal.TheVariants.{Help, Memory, Usage, Version, Word}
 pub use Rattle.bolt_format.proofs.SinkLemmas.{AppendsProperPrefix-first, AppendsProperPrefix-second}

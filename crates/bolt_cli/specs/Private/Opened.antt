@@ -7,8 +7,8 @@ use Rattle.bolt_recover.specs.{Found.AreFound, Found.numbers_of, Joined.LacksBuc
 use Rattle.bolt_recover.specs.{JoinedMembers.joined_meta, Losses.everything, Lost.IsAllLost, LostAndFound.all_lost, Recovered.ForRecovered, ShownFound.IsFoundView}
 use Rattle.bolt_recover.specs.{declared.joined.Joined.Joined, declared.lost_and_found.LostAndFound.LostAndFound}
 use Rattle.bolt_tree.specs.{Buckets.bucket_checked, Buckets.bucket_start, Entries.Start, Paths.Path, declared.bucket.Bucket.Bucket}
-use Rattle.bolt_cli.specs.Answers.{IsReadUnder, IsRefusedUnder, LeadsTo}
-use Rattle.bolt_cli.specs.{Failures.IsFailureOf, MetaChoices.IsMetaOf, declared.choices.MetaChoice.MetaChoice, declared.failure.Failure.Failure}
+use Rattle.bolt_cli.specs.Answers.{IsFileRefusal, IsReadUnder, IsRefusedUnder, LeadsTo, refused}
+use Rattle.bolt_cli.specs.{MetaChoices.IsMetaOf, declared.choices.MetaChoice.MetaChoice, declared.failure.Failure.Failure}
 use Rattle.bolt_cli.specs.declared.failure.Failure.TheVariants.{NoBucket}
 
 -- the bucket at a path of a file that is read under this choice
@@ -19,12 +19,12 @@ pub record IsBucketOf (file : List ℕ) (choice : MetaChoice) (path : Path) (buc
 
 -- the file is refused, and its first finding is reported
 abbrev pub IsUnread : List ℕ → MetaChoice → Failure → Type 0
-IsUnread file choice failure = (fault : CheckFault) × IsRefusedUnder file choice fault × IsFailureOf fault failure
+IsUnread file choice failure = (fault : CheckFault) × IsRefusedUnder file choice fault × IsFileRefusal fault (refused failure)
 
 -- the path leads to no bucket, or the file is refused
 pub record HasNoBucket (file : List ℕ) (choice : MetaChoice) (path : Path) (failure : Failure) : Type 0 where
   pub why : ((meta : Meta) × IsReadUnder file choice meta × ((bucket : Start) → LeadsTo file meta path bucket → ⊥) × (failure ≡ NoBucket))
-      ⊎ ((fault : CheckFault) × IsRefusedUnder file choice fault × IsFailureOf fault failure)
+      ⊎ IsUnread file choice failure
 
 -- what is lost and found of a file under this choice
 pub record IsSearchOf (file : List ℕ) (choice : MetaChoice) (both : LostAndFound) : Type 0 where

@@ -1,4 +1,4 @@
-use Rattle.std.proofs.Common.{inl, inr, refl}
+use Rattle.std.proofs.Common.{inl, inr}
 use Rattle.bolt_cli.proofs.{Vocabulary.buckets_text, Vocabulary.path_in, Doing.answer_none, EntryAnswers.buckets_missing, EntryAnswers.entries_put, EntryAnswers.sizes_put}
 use Rattle.bolt_cli.proofs.bucket_commands.print_buckets.Goals as goal
 
@@ -6,7 +6,7 @@ pub returns-in_err-bucket : goal.returns-in_err-bucket
 returns-in_err-bucket g c =
     let job = c.args.job.now in
     answer_none _ _ (rw c.as_slice.ensures.value at c.in_err-bucket.ensures.refused)
-    (λ meta under nowhere. inl (meta, under, buckets_missing _ (path_in job.path.items) job.form job.sizes meta nowhere)) (λ fault is of. inr (fault, is, (_, of, refl))) c.from_residual.ensures.1
+    (λ meta under nowhere. inl (meta, under, buckets_missing _ (path_in job.path.items) job.form job.sizes meta nowhere)) inr c.from_residual.ensures.1
 
 pub returns-then-job : goal.returns-then-job
 returns-then-job g c =

@@ -6,7 +6,7 @@ use Rattle.bolt_cli.proofs.bucket_commands.print_keys.Goals as goal
 pub returns-in_err-bucket : goal.returns-in_err-bucket
 returns-in_err-bucket g c =
     answer_none _ _ (rw c.as_slice.ensures.value at c.in_err-bucket.ensures.refused)
-    (λ meta under nowhere. inl (meta, under, inr (nowhere, refl))) (λ fault is of. inr (fault, is, (_, of, refl))) c.from_residual.ensures.1
+    (λ meta under nowhere. inl (meta, under, inr (nowhere, refl))) inr c.from_residual.ensures.1
 
 pub returns : goal.returns
 returns g c =

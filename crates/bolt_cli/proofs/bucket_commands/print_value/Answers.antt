@@ -4,9 +4,7 @@ use Rattle.bolt_cli.proofs.{AtPaths.held_at, CutTexts.text_put, Doing.answer_as,
 use Rattle.bolt_cli.proofs.bucket_commands.print_value.Goals as goal
 
 pub returns-in_err-checked : goal.returns-in_err-checked
-returns-in_err-checked g c =
-    let (fault, refused, of) = c.in_err-checked.ensures.refused in
-    answer_nothing _ _ (inr (fault, refused, (_, of, refl))) c.from_residual.ensures.1
+returns-in_err-checked g c = answer_nothing _ _ (inr c.in_err-checked.ensures.refused) c.from_residual.ensures.1
 
 pub returns-in_err-value : goal.returns-in_err-value
 returns-in_err-value g c =

@@ -1,13 +1,13 @@
 -- The copy is whole and then reported, or it isn't whole, or the file is refused.
-use Rattle.std.proofs.Common.{inl, inr, refl, sym}
-use Rattle.bolt_cli.proofs.{Vocabulary.has_listing, Vocabulary.meta_of, CopyAnswers.copy_asked, CopyAnswers.copy_written}
+use Rattle.std.proofs.Common.{◌∙◌, ap, inl, inr, refl, sym}
+use Rattle.bolt_cli.proofs.{Vocabulary.Answer, Vocabulary.has_listing, Vocabulary.meta_of, CopyAnswers.copy_asked, CopyAnswers.copy_written}
 use Rattle.bolt_cli.proofs.{Doing.ends_as, ReadFiles.read_page_size, ReadFiles.read_trees}
 use Rattle.bolt_cli.proofs.copy_commands.write_sound.Goals as goal
 
 pub returns-in_err-checked : goal.returns-in_err-checked
 returns-in_err-checked g c =
-    let (fault, refused, of) = c.in_err-checked.ensures.refused in
-    inr (inr (fault, _, refused, of, refl, refl, ends_as _ c.in_err-checked.field-0.0 c.from_residual.ensures.1))
+    let (fault, refused, (failure, of, same)) = c.in_err-checked.ensures.refused in
+    inr (inr (fault, failure, refused, of, refl, refl, ends_as _ c.in_err-checked.field-0.0 c.from_residual.ensures.1 ∙ ap (λ (answer : Answer). answer.ending) same))
 
 pub returns-then-hash_differs : goal.returns-then-hash_differs
 returns-then-hash_differs g c = inr (inl (_, c.in_ok-checked.ensures.sound, rw (sym c.hash_differs.ensures) c.if-hash_differs.true, refl, refl, refl))

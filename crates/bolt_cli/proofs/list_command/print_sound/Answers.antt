@@ -1,4 +1,4 @@
-use Rattle.std.proofs.Common.{inl, inr, refl}
+use Rattle.std.proofs.Common.{inl, inr}
 use Rattle.bolt_cli.proofs.{Vocabulary.path_in, Doing.answer_none, ListAnswers.list_put, ListAnswers.no_bucket_listed}
 use Rattle.bolt_cli.proofs.list_command.print_sound.Goals as goal
 
@@ -7,7 +7,7 @@ returns-in_err-bucket g c =
     let job = c.args.job.now in
     let none = no_bucket_listed c.args.input.file.now job.meta job.form (path_in job.path.items) (path_in job.from.items) in
     answer_none _ _ (rw c.as_slice.ensures.value at c.in_err-bucket.ensures.refused)
-    (λ meta under nowhere. inl (meta, under, none meta under nowhere)) (λ fault is of. inr (fault, is, (_, of, refl))) c.from_residual.ensures.1
+    (λ meta under nowhere. inl (meta, under, none meta under nowhere)) inr c.from_residual.ensures.1
 
 pub returns : goal.returns
 returns g c =
