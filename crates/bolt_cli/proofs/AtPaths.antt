@@ -1,5 +1,6 @@
 -- What a path leads to in a sound file, and what it holds.
-use Rattle.std.proofs.Common.{◌≡◌, ◌∙◌, ◌⊎◌, ◌++◌, ◌-◌, ◌+◌, List, [], ◌∷◌, ℕ, Some, None, Result, Ok, Err, IfErr, Vec, drop, get_or, inl, inr, length, take, refl, sym, ap, subst, rules, arith, ◌<◌}
+use Rattle.std.proofs.Common.{◌≡◌, ◌∙◌, ◌⊎◌, ◌++◌, ◌-◌, ◌+◌, List, [], ◌∷◌, ℕ, Some, None, Result, Ok, Err, IfErr, Vec, drop, get_or, inl, inr, length, take}
+use Rattle.std.proofs.Common.{refl, sym, ap, subst, rules, arith, ◌<◌}
 use Rattle.bolt_cli.proofs.Vocabulary.{AreEntries, Bucket, Checked, Failure, ForEntries, HasSoundTrees, HoldsIn, HoldsNone, IsBucketAt, IsErrAnd, IsValueAt, Item, Key, LeadsTo, LeafElement, Path, Start, Value, bucket_checked, bucket_start, bytes_of, drop_more, entries_of, held_down, held_up, length-append, map-append, meta_of, names_push, parents_of, path_in, props, root_start, start_of, take-append-drop, take-append_seam, ∥∥₁_elim, ∥∥₁_map}
 use Rattle.bolt_tree.proofs.AllEntries.{all_entries, checked_entries}
 use Rattle.bolt_cli.specs.declared.failure.Failure.TheVariants as failure
@@ -98,7 +99,8 @@ module _ (checked : Checked) where
     parents_in : parents_of (path_in path) ≡ path_in parents
     parents_in = ap parents_of last_part ∙ parents_are (path_in parents) key.items
 
-    pub reason_named : {X : Type 0} (said : Failure) (result : Result X Failure) → (said ≡ failure.NoBucket) × ((bucket : Start) → LeadsIn checked (path_in parents) bucket → ⊥)
+    pub reason_named : {X : Type 0} (said : Failure) (result : Result X Failure)
+        → (said ≡ failure.NoBucket) × ((bucket : Start) → LeadsIn checked (path_in parents) bucket → ⊥)
         → IsErrAnd result (λ reason. reason ≡ said) → IfErr result (IsReason (path_in path))
     reason_named said (Ok x) refused is = tt
     reason_named said (Err reason) (no_bucket, none) is = inr (is ∙ no_bucket, λ bucket names. none bucket (subst (λ (p : Path). LeadsIn checked p bucket) parents_in names))

@@ -1,5 +1,6 @@
 -- The command line as it is built, and what its matches say.
-use Rattle.std.proofs.Common.{◌≡◌, ◌⊎◌, ◌∙◌, List, [], ◌∷◌, ◌++◌, ℕ, ◌+◌, ◌<◌, true, false, add-one, get_or, length, map, take, refl, sym, ap, ap₂, subst, inl, inr, rules, ◌||◌, Option, None, Some, Result, Ok, Err, IfOk, IfErr, option_map, slice_get, unwrap_or}
+use Rattle.std.proofs.Common.{◌≡◌, ◌⊎◌, ◌∙◌, List, [], ◌∷◌, ◌++◌, ℕ, ◌+◌, ◌<◌, true, false, add-one, get_or, length, map, take, refl, sym, ap, ap₂, subst, inl}
+use Rattle.std.proofs.Common.{inr, rules, ◌||◌, Option, None, Some, Result, Ok, Err, IfOk, IfErr, option_map, slice_get, unwrap_or}
 use Rattle.bolt_cli.proofs.Vocabulary.{AddsArg, AddsSubcommand, App, Asked, Asks, Box, Command, Gives, HasKindOf, HasMatchesOf, Help, IsAmong, IsCommand, IsRefusedBy, Job, Kinds, Memory, Refusal, Row, Rule, Usage, Version, Word, asked, asked_by, asked_by_subcommand, asked_of, command_with, fault_of, first_of, is_simple, is_simple_and_free, map-append, option_and_then, program, rule_of, subcommand_of, subcommand_rows_of, take-suc, values_in, with_rule, with_subcommand}
 use Rattle.std.specs.Box.{box_value}
 use Rattle.clap.specs.{Words.Text, declared.parser.ArgMatches.ArgMatches}
@@ -56,13 +57,15 @@ found_first None = refl
 found_first (Some row) = first_at row.values
 
 named_rows : {Z : Type 0} (sub : Option (Box SubCommand Z)) (name : Text) (rows : List Row)
-    → option_map (λ (b : Box SubCommand Z). (out-SubCommand (box_value b)).name.now) sub ≡ Some name → option_map (λ (p : Text × List Row). p.1) (subcommand_rows sub) ≡ Some rows
+    → option_map (λ (b : Box SubCommand Z). (out-SubCommand (box_value b)).name.now) sub ≡ Some name
+    → option_map (λ (p : Text × List Row). p.1) (subcommand_rows sub) ≡ Some rows
     → subcommand_rows sub ≡ Some (name, rows)
 named_rows None name rows named has = absurd (let bad : None ≡ Some name = named in search (rules, bad))
 named_rows (Some b) name rows named has = ap₂ (λ (n : Text) (r : List Row). Some (n, r)) (search (rules, named)) (search (rules, has))
 
 -- what is asked for, by the name of the subcommand and its rows
-pub asked_named : (m : ArgMatches) (name : Text) (rows : List Row) → subcommand_name_of m ≡ Some name → option_map (λ (p : Text × List Row). p.1) (subcommand_rows_of m) ≡ Some rows
+pub asked_named : (m : ArgMatches) (name : Text) (rows : List Row) → subcommand_name_of m ≡ Some name
+    → option_map (λ (p : Text × List Row). p.1) (subcommand_rows_of m) ≡ Some rows
     → asked_by_subcommand (subcommand_rows_of m) ≡ asked name (values_in rows)
 asked_named m name rows named has = ap asked_by_subcommand (named_rows (out-ArgMatches m).subcommand name rows named has)
 

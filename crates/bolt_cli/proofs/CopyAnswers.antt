@@ -1,24 +1,41 @@
 -- The copy of a listing, and what is then reported of it.
-use Rattle.std.proofs.Common.{◌≡◌, ◌<◌, ℕ, List, Bool, Option, Result, Ok, Err, length, refl, subst}
-use Rattle.bolt_cli.proofs.Vocabulary.{Answer, BulkFault, CopiesInPart, CopiesWhole, Does, Ending, EndsCopy, IsErrAnd, IsGoodCopy, Member, OnOk, copied, too_many}
-use Rattle.bolt_cli.proofs.Doing.{ends_as}
-
-module _ {T O : Type 0} (taken : T → Option (List ℕ)) (failed : T → ℕ) (old new : T) (out_taken : O → Option (List ℕ)) (out_failed : O → ℕ) (out : O)
-    (snapshot : Bool) (layout : List ℕ) where
-  pub copy_stopped : (fault : BulkFault) (ending : Ending) → EndsCopy taken failed old new layout snapshot (Err fault) → IsErrAnd ending (λ said. said ≡ copied fault)
-      → CopiesInPart out_taken out_failed out out taken failed old new snapshot layout ending
-  copy_stopped fault ending stops said = (copied fault, stops, refl, ends_as ending (copied fault) said)
-
-  pub copy_reported : (listing : List Member) (answer : ℕ → Answer) (count : ℕ) (out_after : O) (ending : Ending) → EndsCopy taken failed old new layout snapshot (Ok count)
-      → ∥ IsGoodCopy snapshot layout listing ∥₁ → Does out_taken out_failed out out_after (answer count) ending
-      → CopiesWhole out_taken out_failed out out_after taken failed old new snapshot listing layout answer ending
-  copy_reported listing answer count out_after ending whole good does =
-      (whole.small, good, whole.all, whole.sound, subst (λ (n : ℕ). Does out_taken out_failed out out_after (answer n) ending) whole.long does)
+use Rattle.std.proofs.Common.{◌≡◌, ℕ, List, Bool, Result, Ok, Err, inl, inr, subst}
+use Rattle.bolt_cli.proofs.Vocabulary.{Answer, BulkFault, CopiesTo, Does, Ending, EndsCopy, EndsCopying, Ghosts, Member, OnOk, WritesCopy, copied, copy_page_size}
+use Rattle.bolt_cli.proofs.Vocabulary.{HasGoodCopies, IsAskedShape, Meta, layout_for, layout_of_listing, shaped_layout, ∥∥₁_map}
+use Rattle.bolt_bulk.specs.declared.copy.Shape.{Shape}
+use Rattle.bolt_cli.specs.declared.job.CompactJob.{CompactJob}
 
 -- a copy that is whole is good
-pub goods : {T : Type 0} (taken : T → Option (List ℕ)) (failed : T → ℕ) (old new : T) (lists : List Member → Type 0) (layout : List Member → List ℕ) (snapshot : Bool) (result : Result ℕ BulkFault)
-    → ((listing : List Member) → lists listing → EndsCopy taken failed old new (layout listing) snapshot result)
-    → ((listing : List Member) → lists listing → length (layout listing) < too_many → ∥ IsGoodCopy snapshot (layout listing) listing ∥₁)
-    → OnOk result ((listing : List Member) → lists listing → ∥ IsGoodCopy snapshot (layout listing) listing ∥₁)
-goods taken failed old new lists layout snapshot (Ok count) ends good = λ listing is. good listing is (ends listing is).small
-goods taken failed old new lists layout snapshot (Err fault) ends good = tt
+pub copy_good : {T : Type 0} {target : Ghosts T} {old new : T} (listing : List Member) (shape : Shape) (snapshot : Bool) (result : Result ℕ BulkFault)
+    → EndsCopy target.taken target.failed old new (shaped_layout shape listing) snapshot result → ∥ HasGoodCopies listing shape.sequence ∥₁
+    → CopiesTo target old new (shaped_layout shape listing) listing snapshot result
+copy_good listing shape snapshot (Ok count) ends good =
+    record { ends = ends; good = ∥∥₁_map good (λ (g : HasGoodCopies listing shape.sequence). g shape.layout snapshot shape.page_size shape.accepted ends.small) }
+copy_good listing shape snapshot (Err fault) ends good = record { ends = ends; good = tt }
+
+-- the copy of the shape that is asked for
+pub copy_asked : {T : Type 0} {target : Ghosts T} {old new : T} {listing : List Member} {snapshot : Bool} {result : Result ℕ BulkFault} {job : CompactJob} {meta : Meta} {shape : Shape}
+    → IsAskedShape job meta shape → CopiesTo target old new (shaped_layout shape listing) listing snapshot result
+    → CopiesTo target old new (layout_of_listing (layout_for job.kind) (copy_page_size job.page_size meta) listing meta.root_sequence) listing snapshot result
+copy_asked asked copy = rw (asked.layout, asked.page_size, asked.sequence) at copy
+
+module _ {O : Type 0} {out : Ghosts O} {out_old out_new : O} where
+  -- only if the copy is whole, something is reported of it
+  pub report_same : {first second : ℕ → Answer} (made : Result ℕ BulkFault) (ending : Ending) → OnOk made ((copy : ℕ) → first copy ≡ second copy)
+      → EndsCopying out out_old out_new first made ending → EndsCopying out out_old out_new second made ending
+  report_same (Ok count) ending same ends =
+      record { whole = subst (λ (a : Answer). Does out.taken out.failed out_old out_new a ending) (same count) ends.whole; stopped = tt }
+  report_same (Err fault) ending same ends = record { whole = tt; stopped = ends.stopped }
+
+  pub report_as : {first second : ℕ → Answer} (made : Result ℕ BulkFault) (ending : Ending) → ((copy : ℕ) → first copy ≡ second copy)
+      → EndsCopying out out_old out_new first made ending → EndsCopying out out_old out_new second made ending
+  report_as (Ok count) ending same ends = report_same (Ok count) ending same ends
+  report_as (Err fault) ending same ends = report_same (Err fault) ending tt ends
+
+  pub copy_written : {T : Type 0} {target : Ghosts T} {old new : T} {layout : List ℕ} {listing : List Member} {snapshot : Bool} {answer : ℕ → Answer} (made : Result ℕ BulkFault) (ending : Ending)
+      → CopiesTo target old new layout listing snapshot made → EndsCopying out out_old out_new answer made ending
+      → WritesCopy out.taken out.failed out_old out_new target.taken target.failed old new snapshot listing layout answer ending
+  copy_written {answer = answer} (Ok count) ending copy ends =
+      let whole = copy.ends in
+      inl (whole.small, copy.good, whole.all, whole.sound, subst (λ (n : ℕ). Does out.taken out.failed out_old out_new (answer n) ending) whole.long ends.whole)
+  copy_written (Err fault) ending copy ends = inr (copied fault, copy.ends, ends.stopped.0, ends.stopped.1)

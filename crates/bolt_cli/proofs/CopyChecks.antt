@@ -1,5 +1,6 @@
 -- What `check` answers to a good copy, and to its proper prefixes.
-use Rattle.std.proofs.Common.{◌≡◌, ◌≢◌, ◌∙◌, ◌⊎◌, ◌∷◌, ◌<◌, ℕ, List, [], Bool, true, false, IsTrue, Option, None, Some, Ok, ap, codes, inl, inr, length, refl, subst, sym, take}
+use Rattle.std.proofs.Common.{◌≡◌, ◌≢◌, ◌∙◌, ◌⊎◌, ◌∷◌, ◌<◌, ℕ, List, [], Bool, true, false, IsTrue, Option, None, Some, Ok, ap, codes, inl, inr, length, refl}
+use Rattle.std.proofs.Common.{subst, sym, take}
 use Rattle.bolt_cli.proofs.Vocabulary.{Active, Answer, AnswersFound, AnswersLosses, AreLosses, CheckFault, Extent, FileFaults, First, HasBothMetas, HasSoundTrees, HashMissing, IsCheckAnswer, IsCheckAnswerAfter, IsChosen, IsFoundAnswer, IsGoodCopy, IsMetaOf, IsMetasFault, IsOtherFault, IsSnapshot, IsSound, LossView, Losses, Member, Meta, MetaFault, Place, RefusesFile, Slot, all_refusal, cases_lt, check_refusal, copy_of, done, found, hash_fault, hash_found, loss_at, losses_of, none_found, place_at, refused}
 use Rattle.bolt_check.specs.declared.fault.CheckFault.TheVariants as check
 use Rattle.bolt_snapshot.specs.declared.hash_check.SnapshotFault.{SnapshotFault}
@@ -11,7 +12,8 @@ use Rattle.bolt_cli.proofs.SoundReads.{NamesOne, keeps_not_loses, unread, unreco
 
 -- what the laws of the crates below say
 pub record Laws : Type 0 where
-  pub one : (file : List ℕ) (slot : Slot) (meta : Meta) → IsChosen file slot meta → (other : Slot) (another : Meta) → IsChosen file other another → (other ≡ slot) × (another ≡ meta)
+  pub one : (file : List ℕ) (slot : Slot) (meta : Meta) → IsChosen file slot meta → (other : Slot) (another : Meta) → IsChosen file other another
+      → (other ≡ slot) × (another ≡ meta)
   pub lose : (file : List ℕ) (meta : Meta) (survey : List Visit) (v : Visit) → HasSoundTrees file meta → IsSurvey file meta survey → Has survey v → v.found ≡ None
 
 one_active : Laws → (file : List ℕ) (slot : Slot) (meta : Meta) → IsChosen file slot meta → NamesOne file Active meta
@@ -102,7 +104,8 @@ ends_so said not same = not (sym (ap (λ (a : Answer). a.ending) said) ∙ same)
 module _ (laws : Laws) (faults : FileFaults) (file : List ℕ) (answer : Answer) where
   fails_found : RefusesFile file ⊎ (faults.hash ≡ Some HashMissing) → IsFoundAnswer faults file Active answer → answer.ending ≢ Ok 0
   fails_found why (inr (fault, is, said)) = ends_so said (not_ok faults fault).0
-  fails_found (inl (fault, other, is)) (inl (meta, (slot, chosen, sound), said)) = absurd (other (unread file meta sound.trees Active fault (one_active laws file slot meta chosen) (slot, chosen, sound) is))
+  fails_found (inl (fault, other, is)) (inl (meta, (slot, chosen, sound), said)) =
+      absurd (other (unread file meta sound.trees Active fault (one_active laws file slot meta chosen) (slot, chosen, sound) is))
   fails_found (inr missing) (inl (meta, under, said)) = ends_so (said ∙ wrong_hash faults HashMissing missing) (λ same. cc)
 
   fails_after : (extent : Extent) → RefusesFile file ⊎ (faults.hash ≡ Some HashMissing) → IsCheckAnswerAfter extent faults file Active answer → answer.ending ≢ Ok 0
@@ -117,7 +120,8 @@ module _ (laws : Laws) (faults : FileFaults) (file : List ℕ) (answer : Answer)
   fails_after LostAndFound why (inl (meta, under, inr (inr said))) = ends_so said (λ same. cc)
   fails_after LostAndFound why (inr (fault, has, said)) = ends_so said (λ same. cc)
 
-pub fails : Laws → (extent : Extent) (snapshot : Bool) (layout : List ℕ) (listing : List Member) (n : ℕ) (answer : Answer) → IsGoodCopy snapshot layout listing → n < length (copy_of snapshot layout)
+pub fails : Laws → (extent : Extent) (snapshot : Bool) (layout : List ℕ) (listing : List Member) (n : ℕ) (answer : Answer) → IsGoodCopy snapshot layout listing
+    → n < length (copy_of snapshot layout)
     → IsCheckAnswer extent snapshot (take n (copy_of snapshot layout)) Active answer → answer.ending ≢ Ok 0
 fails laws extent snapshot layout listing n answer good less (faults, are, is) =
     fails_after laws faults (take n (copy_of snapshot layout)) answer extent

@@ -1,51 +1,49 @@
--- What jobs do with their text, and what is reported at the end of a run.
-use Rattle.std.proofs.Common.{◌⊎◌, ◌≡◌, ℕ, List, Option, Ok, Err, inl, inr, ap, refl}
-use Rattle.bolt_cli.proofs.Vocabulary.{Answer, Appends-nil, CheckFault, Does, Ending, Failure, Ghosts, HasFinding, IsErrAnd, IsFailureOf, IsFileRefusal, IsReadAnswer, IsRefusedUnder, Meta, MetaChoice, Wrote, broken, refused, whole}
-use Rattle.bolt_cli.specs.declared.failure.Failure.TheVariants as failure
-use Rattle.bolt_cli.proofs.ReadFiles.{unread_finding}
+-- What jobs do with their text, and how they end.
+use Rattle.std.proofs.Common.{◌≡◌, ℕ, List, Result, Ok, Err, inl, inr, ap, refl}
+use Rattle.bolt_cli.proofs.Vocabulary.{Answer, Appends-nil, CheckFault, Ending, Failure, Ghosts, HasFinding, HasNoBucket, IsErrAnd, IsFailureOf, IsReadUnder, IsUnread}
+use Rattle.bolt_cli.proofs.Vocabulary.{LeadsTo, Meta, MetaChoice, OnOk, Path, PrintsAnswer, SinkFault, Start, Wrote, end_written, ending, refused}
+use Rattle.bolt_cli.specs.declared.failure.Failure.TheVariants.{NoBucket}
 
 -- how a job ends that isn't done
-pub ends_as : (ending : Ending) (why : Failure) → IsErrAnd ending (λ said. said ≡ why) → ending ≡ Err why
+pub ends_as : {A : Type 0} (ending : Result A Failure) (why : Failure) → IsErrAnd ending (λ said. said ≡ why) → ending ≡ Err why
 ends_as (Ok x) why is = absurd is
 ends_as (Err said) why is = ap Err is
 
--- the text was written, and the job ends as its answer says
-pub Does-whole : {S : Type 0} {sink : Ghosts S} (old new : S) (answer : Answer) → Wrote sink old new answer.out whole → Does sink.taken sink.failed old new answer answer.ending
-Does-whole old new answer a = inl (a.appends, a.failures, refl)
-
--- the sink failed
-pub Does-part : {S : Type 0} {sink : Ghosts S} (old new : S) (answer : Answer) (result : Ending) → Wrote sink old new answer.out broken
-    → IsErrAnd result (λ said. said ≡ failure.Write) → Does sink.taken sink.failed old new answer result
-Does-part old new answer result a is = inr (a.failures, a.appends, ends_as result failure.Write is)
-
--- nothing was written
-pub Does-nothing : {S : Type 0} (taken : S → Option (List ℕ)) (failed : S → ℕ) (old : S) (failure : Failure) (result : Ending)
-    → IsErrAnd result (λ said. said ≡ failure) → Does taken failed old old (refused failure) result
-Does-nothing taken failed old failure result is = inl (Appends-nil (taken old), refl, ends_as result failure is)
+-- what follows if a call goes well
+pub on_ok : {A E X Y : Type 0} (result : Result A E) → (X → Y) → OnOk result X → OnOk result Y
+on_ok (Ok a) step x = step x
+on_ok (Err e) step x = tt
 
 -- ---- an answer that is one of those that are wanted
 
-pub answer_whole : {S : Type 0} {sink : Ghosts S} {IsWanted : Answer → Type 0} (old new : S) (answer : Answer) → IsWanted answer → Wrote sink old new answer.out whole
-    → (a : Answer) × IsWanted a × Does sink.taken sink.failed old new a answer.ending
-answer_whole old new answer is put = (answer, is, Does-whole old new answer put)
+-- its text was written, or the sink failed
+pub answer_put : {S A : Type 0} {sink : Ghosts S} {old new : S} {IsWanted : Answer → Type 0} (answer : Answer) (put : Result A SinkFault) → IsWanted answer
+    → Wrote sink old new answer.out (ending put) → PrintsAnswer sink old new IsWanted (end_written put answer.ending)
+answer_put answer (Ok x) is put = record { answer = answer; is = is; does = inl (put.appends, put.failures, refl) }
+answer_put answer (Err fault) is put = record { answer = answer; is = is; does = inr (put.failures, put.appends, refl) }
 
-pub answer_part : {S : Type 0} {sink : Ghosts S} {IsWanted : Answer → Type 0} (old new : S) (answer : Answer) (result : Ending) → IsWanted answer → Wrote sink old new answer.out broken
-    → IsErrAnd result (λ said. said ≡ failure.Write) → (a : Answer) × IsWanted a × Does sink.taken sink.failed old new a result
-answer_part old new answer result is put said = (answer, is, Does-part old new answer result put said)
+pub answer_as : {S : Type 0} {sink : Ghosts S} {old new : S} {IsFound IsWanted : Answer → Type 0} {result : Ending} → PrintsAnswer sink old new IsFound result
+    → ((answer : Answer) → IsFound answer → IsWanted answer) → PrintsAnswer sink old new IsWanted result
+answer_as found step = record { answer = found.answer; is = step found.answer found.is; does = found.does }
 
-pub answer_nothing : {S : Type 0} {IsWanted : Answer → Type 0} (taken : S → Option (List ℕ)) (failed : S → ℕ) (old : S) (failure : Failure) (result : Ending) → IsWanted (refused failure)
-    → IsErrAnd result (λ said. said ≡ failure) → (a : Answer) × IsWanted a × Does taken failed old old a result
-answer_nothing taken failed old failure result is said = (refused failure, is, Does-nothing taken failed old failure result said)
+module _ {S : Type 0} {sink : Ghosts S} {old : S} {IsWanted : Answer → Type 0} where
+  -- nothing was written
+  pub answer_nothing : (failure : Failure) (result : Ending) → IsWanted (refused failure) → IsErrAnd result (λ said. said ≡ failure)
+      → PrintsAnswer sink old old IsWanted result
+  answer_nothing failure result is said = record { answer = refused failure; is = is; does = inl (Appends-nil (sink.taken old), refl, ends_as result failure said) }
 
--- the file is refused, and only the first finding is reported
-pub Does-refused : {S : Type 0} {IsAccepted : Answer → Type 0} {IsRefusal : CheckFault → Type 0} (taken : S → Option (List ℕ)) (failed : S → ℕ) (old : S) (fault : CheckFault) (ending : Ending)
-    → HasFinding fault → IsRefusal fault → IsErrAnd ending (λ said. HasFinding fault → IsFailureOf fault said)
-    → (answer : Answer) × (IsAccepted answer ⊎ ((fault : CheckFault) × IsRefusal fault × IsFileRefusal fault answer)) × Does taken failed old old answer ending
-Does-refused taken failed old fault (Ok x) has is names = absurd names
-Does-refused taken failed old fault (Err said) has is names =
-    (refused said, inr (fault, is, (said, names has, refl)), Does-nothing taken failed old said (Err said) refl)
+  -- the file is refused, and only the first finding is reported
+  pub answer_refused : (fault : CheckFault) (result : Ending) → HasFinding fault → ((failure : Failure) → IsFailureOf fault failure → IsWanted (refused failure))
+      → IsErrAnd result (λ said. HasFinding fault → IsFailureOf fault said) → PrintsAnswer sink old old IsWanted result
+  answer_refused fault (Ok x) has is names = absurd names
+  answer_refused fault (Err said) has is names = answer_nothing said (Err said) (is said (names has)) refl
 
-pub Does-unread : {S : Type 0} {IsAccepted : Meta → Answer → Type 0} (taken : S → Option (List ℕ)) (failed : S → ℕ) (old : S) (file : List ℕ) (choice : MetaChoice) (fault : CheckFault) (ending : Ending)
-    → IsRefusedUnder file choice fault → IsErrAnd ending (λ said. HasFinding fault → IsFailureOf fault said)
-    → (answer : Answer) × IsReadAnswer file choice IsAccepted answer × Does taken failed old old answer ending
-Does-unread taken failed old file choice fault ending is names = Does-refused taken failed old fault ending (unread_finding file choice fault is) is names
+  -- the path leads to no bucket, or the file is refused
+  pub answer_none : {file : List ℕ} {choice : MetaChoice} {path : Path} (failure : Failure) (result : Ending) → HasNoBucket file choice path failure
+      → ((meta : Meta) → IsReadUnder file choice meta → ((bucket : Start) → LeadsTo file meta path bucket → ⊥) → IsWanted (refused NoBucket))
+      → (IsUnread file choice failure → IsWanted (refused failure))
+      → IsErrAnd result (λ said. said ≡ failure) → PrintsAnswer sink old old IsWanted result
+  answer_none failure result refusal none unread said = elim refusal.why [
+    | inl (meta, under, nowhere, is) ↦ answer_nothing failure result (rw is (none meta under nowhere)) said
+    | inr refused ↦ answer_nothing failure result (unread refused) said
+  ]

@@ -1,10 +1,10 @@
 -- The answer of `check --lost-and-found`.
-use Rattle.std.proofs.Common.{◌≡◌, ◌≢◌, ◌∙◌, ℕ, Bool, true, false, List, [], ◌∷◌, Option, ap, ap₂, inl, inr, map, refl, subst, subst₂, sym}
+use Rattle.std.proofs.Common.{◌≡◌, ◌≢◌, ◌∙◌, ℕ, Bool, true, false, List, [], ◌∷◌, Option, ap, ap₂, inl, inr, map, refl, subst, sym}
 use Rattle.std.proofs.lemmas.List.Elements.{All-head, All-tail}
-use Rattle.bolt_cli.proofs.Vocabulary.{All, Answer, AnswersFound, AreFoundPages, FileFaults, Finding, ForRecovered, Found, FoundView, IsFoundAnswer, IsFoundLeaf, IsFoundPagesAnswer, IsJoined, IsSalvaged, LacksBucketKey, LossView, LostAndFound, LostView, Member, Meta, MetaChoice, all_lost, everything, false≢true, found_page, found_view, has_losses, is_nothing, leaf_entry, leaves_of, lost_and_found, parts}
+use Rattle.bolt_cli.proofs.Vocabulary.{All, Answer, AnswersFound, AreFoundPages, FileFaults, Found, FoundView, IsFoundAnswer, IsFoundLeaf, IsFoundPagesAnswer, IsJoined, IsJoinedOf, IsSalvaged, IsSearchOf, LossView, LostAndFound, LostView, Member, Meta, MetaChoice, all_lost, everything, false≢true, found_page, found_view, has_losses, is_nothing, leaf_entry, leaves_of, lost_and_found, parts}
 use Rattle.bolt_check.specs.{ShownNodes.entries_of, ShownNodes.shown_node, TreeKinds.tree_kind}
 use Rattle.bolt_format.specs.{Pages.PageView, Shown.shown}
-use Rattle.bolt_recover.specs.{Found.AreFound, Found.numbers_of, Lost.IsAllLost, ShownFound.IsFoundView}
+use Rattle.bolt_recover.specs.{Found.AreFound, Found.numbers_of, Lost.IsAllLost, ShownFound.IsFoundView, declared.joined.Joined.Joined}
 
 module _ (file : List ℕ) (meta : Meta) where
   -- ---- what is shown of the found pages
@@ -39,12 +39,14 @@ module _ (file : List ℕ) (meta : Meta) where
   -- ---- the answer
 
   module _ (faults : FileFaults) (choice : MetaChoice) (found : List FoundView) (pages : AreFoundPages file meta found) where
-    reported : (losses : List LossView) → IsAllLost file meta (parts losses) → (answer : Answer) → AnswersFound faults file choice losses found answer → IsFoundPagesAnswer faults file choice meta answer
+    reported : (losses : List LossView) → IsAllLost file meta (parts losses) → (answer : Answer) → AnswersFound faults file choice losses found answer
+        → IsFoundPagesAnswer faults file choice meta answer
     reported losses (keeps, all) answer answers =
         let (own, are) = has_losses file meta in
         inl (keeps, own, found, are, pages, subst (λ (ls : List LossView). AnswersFound faults file choice ls found answer) (all own are) answers)
 
-    pub found_none_lost : (lost : LostView) → IsAllLost file meta lost → is_nothing lost ≡ true → (answer : Answer) → IsFoundAnswer faults file choice answer → IsFoundPagesAnswer faults file choice meta answer
+    pub found_none_lost : (lost : LostView) → IsAllLost file meta lost → is_nothing lost ≡ true → (answer : Answer) → IsFoundAnswer faults file choice answer
+        → IsFoundPagesAnswer faults file choice meta answer
     found_none_lost (parts []) is none answer answers = reported [] is answer answers
     found_none_lost lost is none answer answers = absurd (false≢true none)
 
@@ -56,16 +58,14 @@ module _ (file : List ℕ) (meta : Meta) where
 -- ---- the joined listing
 
 -- of a file that was searched
-pub salvaged : (both : LostAndFound) (file : List ℕ) (meta : Meta) (listing : List Member) → IsJoined file meta listing → both.file.now ≡ file → both.meta ≡ meta
-    → IsAllLost file meta (all_lost both) → AreFound file meta (numbers_of both.found.items) → All (IsFoundView file meta) both.found.items
-    → (both.found.items ≢ [] → ForRecovered both.file.now both.meta LacksBucketKey) → ((x : Finding) → all_lost both ≡ everything x → both.found.items ≢ [])
-    → IsSalvaged file meta listing (all_lost both) (map found_view both.found.items)
-salvaged both file meta listing joins same_file same_meta loses are views apart some = record {
-  joins = joins;
-  loses = loses;
-  finds = are_pages file meta both.found.items are views;
-  apart = λ more. subst₂ (λ (f : List ℕ) (m : Meta). ForRecovered f m LacksBucketKey) same_file same_meta (apart (λ none. more (ap (map found_view) none)));
-  some = λ x is none. some x is (none_found both.found.items none);
+pub salvaged : {file : List ℕ} {choice : MetaChoice} {both : LostAndFound} {j : Joined} (searched : IsSearchOf file choice both) (joins : IsJoinedOf both j) (listing : List Member)
+    → IsJoined file both.meta listing → IsSalvaged file both.meta listing (all_lost both) (map found_view both.found.items)
+salvaged {file} {both = both} searched joins listing is = record {
+  joins = is;
+  loses = searched.lost;
+  finds = are_pages file both.meta both.found.items searched.found searched.views;
+  apart = λ more. rw searched.bytes at (joins.apart (λ none. more (ap (map found_view) none)));
+  some = λ x lost none. joins.some x lost (none_found both.found.items none);
 }
   where
     none_found : (fs : List Found) → map found_view fs ≡ [] → fs ≡ []

@@ -1,5 +1,6 @@
 -- A copy of a listing that is that of one tree, and its hash: what holds of both.
-use Rattle.std.proofs.Common.{◌≡◌, ◌∙◌, ◌+◌, ◌*◌, ◌-◌, ◌^◌, ◌%◌, ◌<◌, ◌==◌, ℕ, zero, suc, List, [], ◌∷◌, ◌++◌, map, Bool, true, false, IsTrue, Some, arith, ap, inl, inr, length, length-append, subst, sym, take}
+use Rattle.std.proofs.Common.{◌≡◌, ◌∙◌, ◌+◌, ◌*◌, ◌-◌, ◌^◌, ◌%◌, ◌<◌, ◌==◌, ℕ, zero, suc, List, [], ◌∷◌, ◌++◌, map, Bool, true, false, IsTrue, Some, arith, ap}
+use Rattle.std.proofs.Common.{inl, inr, length, length-append, subst, sym, take}
 use Rattle.std.proofs.Math.Nat.{mul-mod_left, mul_assoc}
 use Rattle.bolt_cli.proofs.Vocabulary.{AllByRecursion, HasBothMetas, HasGoodCopies, HashMissing, IsAsked, IsChosen, IsGoodCopy, IsListing, IsOfOneTree, IsPageSize, IsSnapshot, IsSound, IsSoundCopy, Layout, Member, Meta, One, RefusesFile, RefusesPrefixes, Slot, cases_lt, eqb-true, finding, hash_fault, layout_of_listing, length-sha256, list_any, or_cases, page_size_count, page_sizes, range_with_len, sha256, snapshot_of, take-append-le, too_many}
 use Rattle.bolt_check.specs.declared.fault.CheckFault.TheVariants as check

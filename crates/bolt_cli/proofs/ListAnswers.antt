@@ -1,29 +1,27 @@
 -- The answer of `list`.
-use Rattle.std.proofs.Common.{◌≡◌, ◌⊎◌, ℕ, true, IfErr, List, Result, Ok, inl, subst, sym}
-use Rattle.bolt_cli.proofs.Vocabulary.{Answer, Checked, Does, Ending, ForListing, Ghosts, HasSoundTrees, IsListAnswer, IsListing, LeadsTo, ListForm, Member, Path, ReportFault, Start, Wrote, bytes_of, has_bucket, has_listing, listing_lines, meta_of, part_below, part_ending, part_text, props, refused, report_ending, rest_from, ∥∥₁_elim}
+use Rattle.std.proofs.Common.{◌≡◌, ◌⊎◌, ℕ, true, IfErr, List, Result, Ok, inl, refl}
+use Rattle.bolt_cli.proofs.Vocabulary.{Bucket, ForListing, Ghosts, IsBucketOf, IsListAnswer, IsReadAnswer, IsReadUnder, LeadsTo, ListForm, Meta, MetaChoice}
+use Rattle.bolt_cli.proofs.Vocabulary.{Path, PrintsAnswer, ReportFault, Start, Wrote, bucket_checked, bucket_start, end_of, has_bucket, has_listing, listing_lines, meta_of}
+use Rattle.bolt_cli.proofs.Vocabulary.{part_below, part_ending, part_text, props, refused, report_ending, rest_from, ∥∥₁_elim}
 use Rattle.bolt_report.specs.declared.fault.ReportFault.TheVariants as report
 use Rattle.bolt_cli.specs.declared.failure.Failure.TheVariants as failure
-use Rattle.bolt_cli.proofs.{CutTexts.EndsAfter, CutTexts.ended_put, ListedBuckets.has_named, ListedBuckets.none_named}
+use Rattle.bolt_cli.proofs.{CutTexts.ended_put, Doing.answer_as, ListedBuckets.has_named, ListedBuckets.none_named, ReadFiles.read_trees}
 
-module _ (file : List ℕ) (checked : Checked) (form : ListForm) (path from : Path) (same : bytes_of checked ≡ file) (trees : HasSoundTrees file (meta_of checked)) where
-  own_listing : (listing : List Member) × IsListing file (meta_of checked) listing
-  own_listing = has_listing file (meta_of checked) trees
+-- the path leads to no bucket
+pub no_bucket_listed : (file : List ℕ) (choice : MetaChoice) (form : ListForm) (path from : Path) (meta : Meta) → IsReadUnder file choice meta
+    → ((bucket : Start) → LeadsTo file meta path bucket → ⊥) → IsListAnswer file form path from meta (refused failure.NoBucket)
+no_bucket_listed file choice form path from meta under nowhere =
+    let (listing, is) = has_listing file meta (read_trees file choice meta under) in
+    (listing, is, inl (rw (none_named file meta listing is path nowhere) refl))
 
-  -- the path leads to no bucket
-  pub no_bucket_listed : ((bucket : Start) → LeadsTo (bytes_of checked) (meta_of checked) path bucket → ⊥) → IsListAnswer file form path from (meta_of checked) (refused failure.NoBucket)
-  no_bucket_listed nowhere =
-      let none = none_named file (meta_of checked) own_listing.0 own_listing.1 path (λ bucket leads. nowhere bucket (subst (λ (f : List ℕ). LeadsTo f (meta_of checked) path bucket) (sym same) leads)) in
-      (own_listing.0, own_listing.1, inl (rw none (λ i. refused failure.NoBucket)))
-
-  module _ (bucket : Start) (leads : ∥ LeadsTo (bytes_of checked) (meta_of checked) path bucket ∥₁) where
-    is_there : has_bucket path own_listing.0 ≡ true
-    is_there = ∥∥₁_elim leads (hlevel props) (λ led. has_named file (meta_of checked) own_listing.0 own_listing.1 path bucket (subst (λ (f : List ℕ). LeadsTo f (meta_of checked) path bucket) same led))
-
-    pub list_put : {S A : Type 0} {sink : Ghosts S} (old new : S) (put : Result A ReportFault) (ending : Ending)
-        → ForListing checked (λ listing. Wrote sink old new (listing_lines form (rest_from from (part_below path listing))) (report_ending put))
-        → IfErr put (λ e. (e ≡ report.Sink) ⊎ (e ≡ report.NoMemory)) → EndsAfter put (Ok 0) ending
-        → (answer : Answer) × IsListAnswer file form path from (meta_of checked) answer × Does sink.taken sink.failed old new answer ending
-    list_put {sink = sink} old new put ending written fault ends =
-        let here = written own_listing.0 (subst (λ (f : List ℕ). IsListing f (meta_of checked) own_listing.0) (sym same) own_listing.1) in
-        let (answer, is, does) = ended_put {sink = sink} old new (part_text form path from own_listing.0) (part_ending path own_listing.0 (Ok 0)) put ending (rw is_there here) fault (rw is_there ends) in
-        (answer, (own_listing.0, own_listing.1, is), does)
+pub list_put : {file : List ℕ} {choice : MetaChoice} {path : Path} {bucket : Bucket} (of : IsBucketOf file choice path bucket) (form : ListForm) (from : Path)
+    {S A : Type 0} {sink : Ghosts S} {old new : S} (put : Result A ReportFault)
+    → ForListing (bucket_checked bucket) (λ listing. Wrote sink old new (listing_lines form (rest_from from (part_below path listing))) (report_ending put))
+    → IfErr put (λ e. (e ≡ report.Sink) ⊎ (e ≡ report.NoMemory)) → PrintsAnswer sink old new (IsReadAnswer file choice (IsListAnswer file form path from)) (end_of put (Ok 0))
+list_put {file} {choice} {path} {bucket} of form from {sink = sink} {old} {new} put written fault =
+    let meta = meta_of (bucket_checked bucket) in
+    let (listing, is) = has_listing file meta (read_trees file choice meta of.under) in
+    let there : has_bucket path listing ≡ true = ∥∥₁_elim of.led (hlevel props) (λ led. has_named file meta listing is path (bucket_start bucket) led) in
+    let here = written listing (rw of.bytes is) in
+    let put : PrintsAnswer sink old new _ _ = ended_put (part_text form path from listing) (part_ending path listing (Ok 0)) put (rw there here) fault in
+    answer_as (rw there at put) (λ answer listed. inl (meta, of.under, (listing, is, rw there listed)))

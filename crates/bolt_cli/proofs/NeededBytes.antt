@@ -11,11 +11,14 @@ pub record SameMetas (file other : List ℕ) : Type 0 where
   pub fault : (fault : MetaFault) → HasMetaFault file 0 fault ↔ HasMetaFault other 0 fault
   pub slot_fault : (slot : Slot) (fault : MetaFault) → HasSlotFault file slot fault ↔ HasSlotFault other slot fault
 
-answer_there : (file other : List ℕ) (wanted : Option Slot) (form : FigureForm) (answer : Answer) → SameMetas file other → IsInfoAnswer file wanted form answer → IsInfoAnswer other wanted form answer
+answer_there : (file other : List ℕ) (wanted : Option Slot) (form : FigureForm) (answer : Answer) → SameMetas file other → IsInfoAnswer file wanted form answer
+    → IsInfoAnswer other wanted form answer
 answer_there file other None form answer s (inl (slot, meta, chosen, is)) = inl (slot, meta, (s.chosen slot meta).0 chosen, is)
 answer_there file other (Some named) form answer s (inl (slot, meta, (same, lies), is)) = inl (slot, meta, (same, (s.slot named meta).0 lies), is)
-answer_there file other None form answer s (inr (fault, (has, none), is)) = inr (fault, ((s.fault fault).0 has, λ slot meta valid. none slot meta ((s.slot slot meta).1 valid)), is)
-answer_there file other (Some named) form answer s (inr (fault, (has, none), is)) = inr (fault, ((s.slot_fault named fault).0 has, λ meta valid. none meta ((s.slot named meta).1 valid)), is)
+answer_there file other None form answer s (inr (fault, (has, none), is)) =
+    inr (fault, ((s.fault fault).0 has, λ slot meta valid. none slot meta ((s.slot slot meta).1 valid)), is)
+answer_there file other (Some named) form answer s (inr (fault, (has, none), is)) =
+    inr (fault, ((s.slot_fault named fault).0 has, λ meta valid. none meta ((s.slot named meta).1 valid)), is)
 
 back : (file other : List ℕ) → SameMetas file other → SameMetas other file
 back file other s = record {

@@ -1,9 +1,10 @@
 -- Each run does its deeds in order.
 use Rattle.std.proofs.Common.{◌≡◌, ◌≢◌, inl, inr, arith, ℕ, zero, suc, List, [], ◌∷◌, Bool, true, false, Option, Some, None, Ok, Err}
-use Rattle.bolt_cli.proofs.Vocabulary.{Choose, Closed, Closes, Copies, Deed, Ended, Ending, Ends, Fails, Goes, IsReported, IsRun, Job, Made, Opened, Prints, PrintsHeld, Read, Reads, Refusal, Refuses, Said, Text, is_again, string_bytes, target_name}
+use Rattle.bolt_cli.proofs.Vocabulary.{Choose, Closed, Closes, Copies, Deed, Ended, Ending, Ends, Fails, Goes, IsReported, IsRun, Job, Made, Opened, Prints}
+use Rattle.bolt_cli.proofs.Vocabulary.{PrintsHeld, Read, Reads, Refusal, Refuses, Said, Text, is_again, string_bytes, target_name}
 use Rattle.bolt_cli.specs.Orders.{Copied, Copying, Failing, IsInOrder, Printed, Printing, Reading}
-use Rattle.bolt_cli.specs.declared.refusal.Refusal.TheVariants as refusal
-use Rattle.bolt_cli.specs.{declared.source.OutputFault.TheVariants.ReaderLeft, declared.source.OutputFault.TheVariants.Failed, declared.source.Source.Source}
+use Rattle.bolt_cli.specs.declared.job.Refusal.TheVariants as refusal
+use Rattle.bolt_cli.specs.{declared.outside.OutputFault.TheVariants.ReaderLeft, declared.outside.OutputFault.TheVariants.Failed, declared.outside.Source.Source}
 
 not_0 : (code : ℕ) → code ≡ 1 → code ≢ 0
 not_0 code is none = omega (arith, is, none)
@@ -19,7 +20,8 @@ IsReported-ordered (Err failure) (Said text ∷ []) code are = not_0 code are.1
 IsReported-ordered ending deeds code are = absurd are
 
 module _ {T O : Type 0} (output_taken : O → Option (List ℕ)) (output_failed : O → ℕ) where
-  Closes-ordered : (after : O) (ending : Ending) (deeds : List (Deed T O)) (code : ℕ) → Closes output_taken output_failed after ending deeds code → IsInOrder Printing deeds code
+  Closes-ordered : (after : O) (ending : Ending) (deeds : List (Deed T O)) (code : ℕ) → Closes output_taken output_failed after ending deeds code
+      → IsInOrder Printing deeds code
   Closes-ordered after ending (Closed output (Ok done) ∷ deeds) code are = IsReported-ordered ending deeds code are.2
   Closes-ordered after ending (Closed output (Err ReaderLeft) ∷ deeds) code (is, (none, failed)) = (none, not_0 code failed)
   Closes-ordered after ending (Closed output (Err Failed) ∷ deeds) code are = Fails-ordered _ deeds code are.1
@@ -40,7 +42,8 @@ module _ {T O : Type 0} (output_taken : O → Option (List ℕ)) (output_failed 
 module _ {T O : Type 0} (target_taken : T → Option (List ℕ)) (target_failed : T → ℕ) (output_taken : O → Option (List ℕ)) (output_failed : O → ℕ) where
   Copies-ordered : (before : T) (file : List ℕ) (job : Job) (deeds : List (Deed T O)) (code : ℕ)
       → Copies target_taken target_failed output_taken output_failed before file job deeds code → IsInOrder Copying deeds code
-  Copies-ordered before file job (Ended after (Ok done) ∷ deeds) code (held, ending, does, ends) = Held-ordered output_taken output_failed held.failures held.text ending deeds code ends
+  Copies-ordered before file job (Ended after (Ok done) ∷ deeds) code (held, ending, does, ends) =
+      Held-ordered output_taken output_failed held.failures held.text ending deeds code ends
   Copies-ordered before file job (Ended after (Err fault) ∷ deeds) code (held, ending, does, (line, is, fails)) = Fails-ordered line deeds code fails
   Copies-ordered before file job deeds code are = absurd are
 

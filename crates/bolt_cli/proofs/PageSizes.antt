@@ -1,6 +1,7 @@
 -- Page sizes, alone and in an assumed meta, are read of their words.
 use Rattle.std.proofs.Common.{◌≡◌, ◌∙◌, ◌+◌, ◌&&◌, ◌==◌, Bool, ℕ, [], Option, Some, None, Result, Ok, Err, codes, length, sym, refl, ap, ap₂, arith, subst}
-use Rattle.bolt_cli.proofs.Vocabulary.{IfNone, IfSome, IsPageSize, MatchOption, PageSize, after_first, assumed_of, assumed_when, before_first, drop_all, false_from_ne_true, if◌then◌else◌, is_page_size, list_any, number_in, page_size_of, page_sizes, position_or_len}
+use Rattle.bolt_cli.proofs.Vocabulary.{IfNone, IfSome, IsPageSize, MatchOption, PageSize, after_first, assumed_of, assumed_when, before_first, drop_all}
+use Rattle.bolt_cli.proofs.Vocabulary.{false_from_ne_true, if◌then◌else◌, is_page_size, list_any, number_in, page_size_of, page_sizes, position_or_len}
 use Rattle.clap.specs.Words.{Text}
 use Rattle.bolt_load.proofs.DecimalNumbers.{number_is}
 

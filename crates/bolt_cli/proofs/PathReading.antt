@@ -1,6 +1,7 @@
 -- The parts of a path are read one after another.
 use Rattle.std.proofs.Common.{◌≡◌, ◌∙◌, ◌==◌, Bool, List, [], ◌∷◌, ◌++◌, Result, Ok, Err, codes, length, refl, sym, ap, ap₂, inl, inr, append_assoc, map}
-use Rattle.bolt_cli.proofs.Vocabulary.{Bor, Gives, IsErrAnd, Key, None, Option, Path, Refusal, Some, Text, each_part, false, hex_path_of, if◌then◌else◌, list_any, option_and_then, option_map, or_bad_hex, or_cases, or_parts, part_of, result_and_then, slice_split, true}
+use Rattle.bolt_cli.proofs.Vocabulary.{Bor, Gives, IsErrAnd, Key, None, Option, Path, Refusal, Some, Text, each_part, false, hex_path_of, if◌then◌else◌}
+use Rattle.bolt_cli.proofs.Vocabulary.{list_any, option_and_then, option_map, or_bad_hex, or_cases, or_parts, part_of, result_and_then, slice_split, true}
 use Rattle.bolt_load.specs.HexPaths.{hex_bytes_in, hex_path_in, part_in, parts_in}
 use Rattle.bolt_cli.specs.declared.path_words.Parts.TheVariants as parts
 
@@ -18,7 +19,8 @@ one_continued front part (Ok path) = ap Ok (sym (append_assoc front (part ∷ []
 one_continued front part (Err why) = refl
 
 module _ (read : Text → Result Key Text) (word : Text) (words : List Text) where
-  pub continued_one : (front : Path) (part : Key) → read word ≡ Ok part → continued front (each_part read (word ∷ words)) ≡ continued (front ++ part ∷ []) (each_part read words)
+  pub continued_one : (front : Path) (part : Key) → read word ≡ Ok part
+      → continued front (each_part read (word ∷ words)) ≡ continued (front ++ part ∷ []) (each_part read words)
   continued_one front part is =
       ap (λ r. continued front (result_and_then (λ part. result_and_then (λ path. Ok (part ∷ path)) (each_part read words)) r)) is ∙ one_continued front part (each_part read words)
 

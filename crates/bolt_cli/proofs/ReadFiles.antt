@@ -1,6 +1,6 @@
 -- What is known of a file that is read, under whatever meta.
-use Rattle.std.proofs.Common.{Option, Some, None, ◌≡◌, ◌<◌, arith, ℕ, List, Ok, Err, ap, inl, inr, refl, subst, sym}
-use Rattle.bolt_cli.proofs.Vocabulary.{Active, Answer, Assumed, CheckFault, Checked, Ending, Failure, HasFinding, HasSoundTrees, InSlot, IsErrAnd, IsFailureOf, IsInSlot, IsMeta, IsMetaOf, IsPageSize, IsReadAnswer, IsReadUnder, IsRefusedUnder, IsUnrecoverableUnder, Meta, MetaChoice, One, PageSize, Slot, Zero, bytes_of, copy_page_size, meta_of}
+use Rattle.std.proofs.Common.{Option, Some, None, ◌≡◌, ◌<◌, arith, ℕ, List, Result, Ok, Err, ap, inl, inr, refl, subst, sym}
+use Rattle.bolt_cli.proofs.Vocabulary.{Active, Assumed, CheckFault, Checked, Failure, HasFinding, HasSoundTrees, InSlot, IsErrAnd, IsFailureOf, IsInSlot, IsMeta, IsMetaOf, IsPageSize, IsReadUnder, IsRefusedUnder, IsUnrecoverableUnder, Meta, MetaChoice, One, PageSize, Slot, Zero, bytes_of, copy_page_size, meta_of}
 use Rattle.bolt_format.proofs.PageSizes.{size_bounds}
 use Rattle.bolt_check.specs.declared.fault.CheckFault.TheVariants as check
 
@@ -12,13 +12,9 @@ pub read_meta : (file : List ℕ) (choice : MetaChoice) (meta : Meta) → IsRead
 read_meta file Active meta (slot, chosen, sound) = (slot, chosen)
 read_meta file choice meta under = under.0
 
-pub own_trees : (file : List ℕ) (choice : MetaChoice) (checked : Checked) → bytes_of checked ≡ file → IsReadUnder file choice (meta_of checked) → HasSoundTrees (bytes_of checked) (meta_of checked)
+pub own_trees : (file : List ℕ) (choice : MetaChoice) (checked : Checked) → bytes_of checked ≡ file → IsReadUnder file choice (meta_of checked)
+    → HasSoundTrees (bytes_of checked) (meta_of checked)
 own_trees file choice checked same under = subst (λ (f : List ℕ). HasSoundTrees f (meta_of checked)) (sym same) (read_trees file choice (meta_of checked) under)
-
--- what is answered of its bytes is answered of the file
-pub of_read : (IsAnswer : List ℕ → Meta → Answer → Type 0) (file : List ℕ) (choice : MetaChoice) (checked : Checked) → bytes_of checked ≡ file → IsReadUnder file choice (meta_of checked)
-    → (answer : Answer) → IsAnswer (bytes_of checked) (meta_of checked) answer → IsReadAnswer file choice (IsAnswer file) answer
-of_read IsAnswer file choice checked same under answer said = inl (meta_of checked, under, subst (λ (f : List ℕ). IsAnswer f (meta_of checked) answer) same said)
 
 -- ---- the page size
 
@@ -58,7 +54,7 @@ unrecoverable_finding file choice (check.Accounts findings) is = absurd is
 unrecoverable_finding file choice fault is = tt
 
 -- only the first finding is reported
-pub failure_named : (fault : CheckFault) (ending : Ending) → HasFinding fault → IsErrAnd ending (λ said. HasFinding fault → IsFailureOf fault said)
+pub failure_named : {A : Type 0} (fault : CheckFault) (ending : Result A Failure) → HasFinding fault → IsErrAnd ending (λ said. HasFinding fault → IsFailureOf fault said)
     → (failure : Failure) × IsFailureOf fault failure × (ending ≡ Err failure)
 failure_named fault (Ok x) has names = absurd names
 failure_named fault (Err said) has names = (said, names has, refl)

@@ -1,6 +1,8 @@
 -- A copy, and in a snapshot its hash: what the target accepted of both.
-use Rattle.std.proofs.Common.{◌≡◌, ◌≢◌, ◌∙◌, ◌+◌, ◌<◌, ℕ, List, [], Bool, true, false, arith, length, length-append, Option, Result, Ok, Err, ap, inl, inr, refl, subst, sym, rules}
-use Rattle.bolt_cli.proofs.Vocabulary.{Appends, AppendsProperPrefix, AppendsProperPrefix-first, BulkFault, EndsCopy, HashesSince, Holds256, IsErrAnd, IsOk, Keeps, OnOk, Sha256, StopsShort, cases_lt, copied, copy_of, length-sha256, sha256, too_many}
+use Rattle.std.proofs.Common.{◌≡◌, ◌≢◌, ◌∙◌, ◌+◌, ◌<◌, ℕ, List, [], Bool, true, false, arith, length, length-append, Option, Result, Ok, Err, ap, inl, inr}
+use Rattle.std.proofs.Common.{refl, subst, sym, rules}
+use Rattle.bolt_cli.proofs.Vocabulary.{Appends, AppendsProperPrefix, AppendsProperPrefix-first, BulkFault, EndsCopy, HashesSince, Holds256, IsErrAnd, IsOk}
+use Rattle.bolt_cli.proofs.Vocabulary.{Keeps, OnOk, Sha256, StopsShort, cases_lt, copied, copy_of, length-sha256, sha256, too_many}
 use Rattle.bolt_bulk.specs.Compacting.{Copies}
 use Rattle.bolt_bulk.specs.declared.fault.BulkFault.TheVariants as bulk
 use Rattle.bolt_bulk.specs.declared.members_copy.Done.{Done}

@@ -1,6 +1,7 @@
 -- Where the trees are sound for the one meta that a choice names, only memory can be wanting.
 use Rattle.std.proofs.Common.{◌≡◌, ℕ, List, [], inl, refl, subst, sym, true}
-use Rattle.bolt_cli.proofs.Vocabulary.{Active, Assumed, CheckFault, Finding, HasSoundTrees, InSlot, IsClaimedBefore, IsFirstFinding, IsMetaOf, IsMetaPage, IsReadUnder, IsRefusedUnder, IsSound, IsUnrecoverableUnder, Meta, MetaChoice, assumed_for, node_at}
+use Rattle.bolt_cli.proofs.Vocabulary.{Active, Assumed, CheckFault, Finding, HasSoundTrees, InSlot, IsClaimedBefore, IsFirstFinding, IsMetaOf, IsMetaPage}
+use Rattle.bolt_cli.proofs.Vocabulary.{IsReadUnder, IsRefusedUnder, IsSound, IsUnrecoverableUnder, Meta, MetaChoice, assumed_for, node_at}
 use Rattle.bolt_check.proofs.{Judging.passes_fewer, Judging.passes_silent, Lawful.shape_passes, Lawful.sound_reports_nothing}
 use Rattle.bolt_check.specs.Ways.{At_page, reached, root_spot}
 use Rattle.bolt_check.specs.declared.fault.CheckFault.TheVariants as check
@@ -18,12 +19,14 @@ module _ (file : List ℕ) (meta : Meta) (trees : HasSoundTrees file meta) where
       passes_fewer nodes (IsClaimedBefore nodes (reached nodes meta.root) IsMetaPage []) IsMetaPage root (λ n m. inl m) ((shape_passes nodes meta.root trees).passes [] root refl)
 
   pub keeps_not_loses : (other : Meta) (x : Finding) → other ≡ meta → LosesRoot file other x → ⊥
-  keeps_not_loses other x same loses = passes_silent (node_at file meta) IsMetaPage (At_page (root_spot meta.root)) x keeps_root (subst (λ (m : Meta). LosesRoot file m x) same loses)
+  keeps_not_loses other x same loses =
+      passes_silent (node_at file meta) IsMetaPage (At_page (root_spot meta.root)) x keeps_root (subst (λ (m : Meta). LosesRoot file m x) same loses)
 
   finds_none : (other : Meta) (x : Finding) → other ≡ meta → IsFirstFinding file other x → ⊥
   finds_none other x same first = sound_reports_nothing file meta x trees (subst (λ (m : Meta). IsFirstFinding file m x) same first)
 
-  pub unrecovered : (choice : MetaChoice) (fault : CheckFault) → NamesOne file choice meta → IsMetaOf file choice meta → IsUnrecoverableUnder file choice fault → fault ≡ check.Memory
+  pub unrecovered : (choice : MetaChoice) (fault : CheckFault) → NamesOne file choice meta → IsMetaOf file choice meta → IsUnrecoverableUnder file choice fault
+      → fault ≡ check.Memory
   unrecovered Active (check.Open fault) one (slot, chosen) (has, none) = absurd (none slot meta chosen.valid)
   unrecovered Active (check.Structure x) one shown (slot, other, is, loses) = absurd (keeps_not_loses other x (one other (slot, is)) loses)
   unrecovered (InSlot slot) (check.Open fault) one lies (has, none) = absurd (none meta lies)

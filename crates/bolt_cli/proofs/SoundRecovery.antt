@@ -55,19 +55,22 @@ module _ (b : Below) (file : List ℕ) (meta : Meta) (trees : HasSoundTrees file
   unrecoverable : (fault : CheckFault) → IsRefusedUnder file named fault → IsUnrecoverableUnder file wanted fault
   unrecoverable fault is = subst (IsUnrecoverableUnder file wanted) (sym (unread file meta trees named fault (names_one b file named meta shown_named) under is)) (memory file wanted).0
 
-  listed_there : (form : ListForm) (path from : Path) (answer : Answer) → IsListedAnswer Losses file wanted form path from answer → IsListedAnswer First file named form path from answer
+  listed_there : (form : ListForm) (path from : Path) (answer : Answer) → IsListedAnswer Losses file wanted form path from answer
+      → IsListedAnswer First file named form path from answer
   listed_there form path from answer (inl (other, (is, keeps), (listing, losses, recovered, are, ended))) =
       let (same, lists, empty) = there other listing losses is recovered are in
       let whole = subst (λ (ls : List LossView). IsEndedOrCut (part_text form path from listing) (part_ending path listing (lost_ending ls)) answer) empty ended in
       inl (meta, under, (listing, lists, whole))
   listed_there form path from answer (inr (fault, is, refusal)) = inr (fault, refused fault is, refusal)
 
-  listed_back : (form : ListForm) (path from : Path) (answer : Answer) → IsListedAnswer First file named form path from answer → IsListedAnswer Losses file wanted form path from answer
+  listed_back : (form : ListForm) (path from : Path) (answer : Answer) → IsListedAnswer First file named form path from answer
+      → IsListedAnswer Losses file wanted form path from answer
   listed_back form path from answer (inl (other, read, (listing, lists, ended))) =
       inl (meta, (shown, keeps_root file meta trees), (listing, [], (back other listing read lists).1, no_losses, ended))
   listed_back form path from answer (inr (fault, is, refusal)) = inr (fault, unrecoverable fault is, refusal)
 
-  pub lists_the_same : (form : ListForm) (path from : Path) (answer : Answer) → IsListedAnswer Losses file wanted form path from answer ↔ IsListedAnswer First file named form path from answer
+  pub lists_the_same : (form : ListForm) (path from : Path) (answer : Answer)
+      → IsListedAnswer Losses file wanted form path from answer ↔ IsListedAnswer First file named form path from answer
   lists_the_same form path from answer = (listed_there form path from answer, listed_back form path from answer)
 
   module _ {O T : Type 0} (out_taken : O → Option (List ℕ)) (out_failed : O → ℕ) (target_taken : T → Option (List ℕ)) (target_failed : T → ℕ)

@@ -9,7 +9,8 @@ use Rattle.bolt_cli.specs.declared.failure.Failure.TheVariants as failure
 pub adds_found : (bucket inner : Bucket) (key : Key) (own before sum : Stats) (e : LeafElement) → bucket_checked inner ≡ bucket_checked bucket
     → IsBucketAt (entries_of (bucket_checked bucket)) (bucket_start bucket) key (Some inner)
     → ∥ IsStatsOf (bytes_of (bucket_checked inner)) (meta_of (bucket_checked inner)) (bucket_start inner) own ∥₁ → sum ≡ add_stats before own
-    → entries_of (bucket_checked bucket) (bucket_start bucket) e → e.key ≡ key → ∥ AddsEntry (bytes_of (bucket_checked bucket)) (meta_of (bucket_checked bucket)) e before sum ∥₁
+    → entries_of (bucket_checked bucket) (bucket_start bucket) e → e.key ≡ key
+    → ∥ AddsEntry (bytes_of (bucket_checked bucket)) (meta_of (bucket_checked bucket)) e before sum ∥₁
 adds_found bucket inner key own before sum e same found stats is entry named =
     let (entries, known) = the_entries bucket in
     ∥∥₁_elim known (hlevel props) (λ are. ∥∥₁_elim found (hlevel props) (λ (x, there, key_is, is_bucket, start, sequence). ∥∥₁_map (rw same at stats) (λ own_are.
@@ -17,7 +18,8 @@ adds_found bucket inner key own before sum e same found stats is entry named =
     rw is (subst (λ (y : LeafElement). AddsEntry (bytes_of (bucket_checked bucket)) (meta_of (bucket_checked bucket)) y before (add_stats before own)) one (rw is_bucket (own, rw start at own_are, refl))))))
 
 -- what is left makes the whole, so it does with the next entry
-pub total_more : (file : List ℕ) (meta : Meta) (old new : List LeafElement) (e : LeafElement) (before after total : Stats) → old ≡ e ∷ new → ∥ AddsEntry file meta e before after ∥₁
+pub total_more : (file : List ℕ) (meta : Meta) (old new : List LeafElement) (e : LeafElement) (before after total : Stats) → old ≡ e ∷ new
+    → ∥ AddsEntry file meta e before after ∥₁
     → ∥ IsTotal file meta new after total ∥₁ → ∥ IsTotal file meta old before total ∥₁
 total_more file meta old new e before after total is adds later =
     rw is (∥∥₁_elim adds (hlevel props) (λ one. ∥∥₁_map later (λ rest. (after, one, rest))))
@@ -39,14 +41,15 @@ root_stats path checked root total empty trees is begins promised =
 -- and those of another bucket
 pub bucket_stats : {Z : Type 0} (path : List (Vec ℕ Z)) (checked : Checked) (bucket : Bucket) (own : Stats) → (length path ≡ 0 → ⊥)
     → bucket_checked bucket ≡ checked → ∥ LeadsTo (bytes_of checked) (meta_of checked) (path_in path) (bucket_start bucket) ∥₁
-    → ∥ IsStatsOf (bytes_of (bucket_checked bucket)) (meta_of (bucket_checked bucket)) (bucket_start bucket) own ∥₁ → HasStats (bytes_of checked) (path_in path) (meta_of checked) own
+    → ∥ IsStatsOf (bytes_of (bucket_checked bucket)) (meta_of (bucket_checked bucket)) (bucket_start bucket) own ∥₁
+    → HasStats (bytes_of checked) (path_in path) (meta_of checked) own
 bucket_stats [] checked bucket own some is named stats = absurd (some refl)
 bucket_stats (part ∷ path) checked bucket own some is named stats =
     (bucket_start bucket, ∥∥₁_elim named (hlevel props) (λ led. ∥∥₁_map (rw is at stats) (λ are. (led, are))))
 
 -- why there are none
-pub stats_missing : (checked : Checked) (path : Path) (form : FigureForm) (reason : Failure)
-    → (reason ≡ failure.Memory) ⊎ ((reason ≡ failure.NoBucket) × ((bucket : Start) → LeadsTo (bytes_of checked) (meta_of checked) path bucket → ⊥))
-    → IsStatsAnswer (bytes_of checked) path form (meta_of checked) (refused reason)
-stats_missing checked path form reason (inl full) = inr (inr (ap refused full))
-stats_missing checked path form reason (inr (is, nowhere)) = inr (inl (nowhere, ap refused is))
+pub stats_missing : (file : List ℕ) (path : Path) (form : FigureForm) (meta : Meta) (reason : Failure)
+    → (reason ≡ failure.Memory) ⊎ ((reason ≡ failure.NoBucket) × ((bucket : Start) → LeadsTo file meta path bucket → ⊥))
+    → IsStatsAnswer file path form meta (refused reason)
+stats_missing file path form meta reason (inl full) = inr (inr (ap refused full))
+stats_missing file path form meta reason (inr (is, nowhere)) = inr (inl (nowhere, ap refused is))

@@ -6,8 +6,8 @@ use Rattle.clap.specs.declared.builder.action.ArgAction.TheVariants.{Append, Set
 use Rattle.clap.specs.{declared.builder.range.ValueRange.ValueRange, declared.builder.Command.Command, declared.builder.Command.TheViews.out-Command}
 use Rattle.clap.specs.declared.error.ErrorKind.{ErrorKind}
 use Rattle.clap.specs.declared.error.ErrorKind.TheVariants as kind
-use Rattle.bolt_cli.specs.{declared.job.Job.Job, declared.refusal.Refusal.Refusal}
-use Rattle.bolt_cli.specs.declared.refusal.Refusal.TheVariants.{Memory, Help, Version, Usage, Word}
+use Rattle.bolt_cli.specs.{declared.job.Job.Job, declared.job.Refusal.Refusal}
+use Rattle.bolt_cli.specs.declared.job.Refusal.TheVariants.{Memory, Help, Version, Usage, Word}
 use Rattle.bolt_cli.specs.LineWords.{Choice, Flag, Operand, Syntax, Text, both, given_word, long, short}
 use Rattle.bolt_cli.specs.PlainWords.{Asked, Values, asked, asked_of, syntaxes}
 

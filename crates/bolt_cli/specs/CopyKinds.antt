@@ -7,11 +7,9 @@ use Rattle.bolt_cli.specs.declared.choices.CopyKind.TheVariants as kind
 -- only a plain copy has the plain layout
 abbrev pub layout_for : CopyKind → Layout
 layout_for kind.Plain = Plain
-layout_for kind.ForBbolt = Balanced
-layout_for kind.EtcdSnapshot = Balanced
+layout_for _ = Balanced
 
 -- whether it ends with its hash
 abbrev pub is_snapshot : CopyKind → Bool
-is_snapshot kind.Plain = false
-is_snapshot kind.ForBbolt = false
 is_snapshot kind.EtcdSnapshot = true
+is_snapshot _ = false

@@ -1,7 +1,7 @@
 -- What the program does to what lies outside of it: the files and the streams.
 use Rattle.std.specs.Prelude.{ℕ, List, [], ◌∷◌, ◌++◌, Bool, Result}
-use Rattle.bolt_cli.specs.{declared.source.Source.Source, declared.source.ReadFault.ReadFault, declared.source.CreateFault.CreateFault}
-use Rattle.bolt_cli.specs.{declared.source.EndFault.EndFault, declared.source.OpenFault.OpenFault, declared.source.OutputFault.OutputFault}
+use Rattle.bolt_cli.specs.{declared.outside.Source.Source, declared.outside.ReadFault.ReadFault, declared.outside.CreateFault.CreateFault}
+use Rattle.bolt_cli.specs.{declared.outside.EndFault.EndFault, declared.outside.OpenFault.OpenFault, declared.outside.OutputFault.OutputFault}
 
 -- A deed is what is asked for, and the answer. OUT is a T, and standard output an O, each in its state at that time.
 pub data Deed (T O : Type 0) : Type 0 where

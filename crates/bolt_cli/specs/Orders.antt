@@ -1,7 +1,7 @@
 -- The order of the deeds of a run, whatever its words and its job are.
 use Rattle.std.specs.Prelude.{◌≡◌, ◌≢◌, ℕ, List, [], ◌∷◌, Ok, Err}
 use Rattle.bolt_cli.specs.Deeds.{Deed, Read, Made, Ended, Opened, Closed, Said}
-use Rattle.bolt_cli.specs.declared.source.OutputFault.TheVariants.{ReaderLeft, Failed}
+use Rattle.bolt_cli.specs.declared.outside.OutputFault.TheVariants.{ReaderLeft, Failed}
 
 -- how far a run is
 pub data Stage : Type 0 where

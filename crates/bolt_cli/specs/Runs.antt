@@ -7,12 +7,12 @@ use Rattle.bolt_cli.specs.CommandLine.{Asks, IsRefusedBy, asked_by, program}
 use Rattle.bolt_cli.specs.{Deeds.Deed, Deeds.Read, Deeds.Made, Deeds.Ended, Deeds.Opened, Deeds.Closed, Deeds.Said, Failures.failure_line, LineWords.Text}
 use Rattle.bolt_cli.specs.{Needs.needs_metas_alone, PlainWords.file_name, PlainWords.target_name, Sources.is_changed}
 use Rattle.bolt_cli.specs.{declared.failure.Failure.TheVariants.Memory, declared.failure.Failure.TheVariants.Write, declared.job.Job.Job}
-use Rattle.bolt_cli.specs.declared.refusal.Refusal.{Refusal}
-use Rattle.bolt_cli.specs.declared.refusal.Refusal.TheVariants as refusal
-use Rattle.bolt_cli.specs.declared.source.CreateFault.{CreateFault}
-use Rattle.bolt_cli.specs.declared.source.CreateFault.TheVariants as create
-use Rattle.bolt_cli.specs.{declared.source.EndFault.EndFault, declared.source.OutputFault.OutputFault}
-use Rattle.bolt_cli.specs.{declared.source.OutputFault.TheVariants.ReaderLeft, declared.source.OutputFault.TheVariants.Failed, declared.source.Source.Source}
+use Rattle.bolt_cli.specs.declared.job.Refusal.{Refusal}
+use Rattle.bolt_cli.specs.declared.job.Refusal.TheVariants as refusal
+use Rattle.bolt_cli.specs.declared.outside.CreateFault.{CreateFault}
+use Rattle.bolt_cli.specs.declared.outside.CreateFault.TheVariants as create
+use Rattle.bolt_cli.specs.{declared.outside.EndFault.EndFault, declared.outside.OutputFault.OutputFault}
+use Rattle.bolt_cli.specs.{declared.outside.OutputFault.TheVariants.ReaderLeft, declared.outside.OutputFault.TheVariants.Failed, declared.outside.Source.Source}
 use Rattle.clap.specs.Words.{fault_of}
 
 -- ---- lines for standard error

@@ -1,7 +1,7 @@
 -- Whether FILE was changed while it was read.
 use Rattle.std.specs.Prelude.{Bool, not, ◌&&◌, ◌==◌}
 use Rattle.std.specs.Ordering.{int_eq}
-use Rattle.bolt_cli.specs.{declared.source.Source.Source, declared.source.Stamp.Stamp}
+use Rattle.bolt_cli.specs.{declared.outside.Source.Source, declared.outside.Stamp.Stamp}
 
 abbrev pub is_same : Stamp → Stamp → Bool
 is_same a b = (a.length == b.length) && int_eq a.seconds b.seconds && int_eq a.nanoseconds b.nanoseconds

@@ -1,9 +1,9 @@
 -- The lines of the commands as the code has them.
 use Rattle.std.specs.Prelude.{is_some, map}
 use Rattle.bolt_cli.specs.LineWords as plain
-use Rattle.bolt_cli.specs.{declared.commands.Choice.Choice, declared.commands.Flag.Flag}
-use Rattle.bolt_cli.specs.declared.commands.Flag.TheVariants.{Both, Long, Short}
-use Rattle.bolt_cli.specs.{declared.commands.Operand.Operand, declared.commands.Syntax.Syntax}
+use Rattle.bolt_cli.specs.{declared.options.Choice.Choice, declared.options.Flag.Flag}
+use Rattle.bolt_cli.specs.declared.options.Flag.TheVariants.{Both, Long, Short}
+use Rattle.bolt_cli.specs.{declared.options.Operand.Operand, declared.commands.Syntax.Syntax}
 
 abbrev pub operand_view : Operand → plain.Operand
 operand_view o = record { name = o.name.now; several = o.several; required = o.required }

@@ -7,7 +7,8 @@ ghost use Rattle.bolt_cli.specs.CommandLine.{IsCommand, command_of, operand_rule
 ghost use Rattle.bolt_cli.specs.{Private.CommandLines.AddsLines, Syntaxes.choice_view, Syntaxes.operand_view, Syntaxes.syntax_view};
 ghost use Rattle.clap.specs.Words.{new_app, rule_of};
 
-use crate::commands::{Choice, Flag, Operand, Syntax, VERSION, reading, writing};
+use crate::commands::{Syntax, VERSION, reading, writing};
+use crate::options::{Choice, Flag, Operand};
 use clap::{Arg, ArgAction, Command};
 use std::alloc::{AllocError, Global};
 

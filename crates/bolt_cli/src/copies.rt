@@ -1,21 +1,39 @@
-//! Copies on a target: a layout and, in a snapshot, its hash after it.
+//! Copies on a target: a layout and, in a snapshot, its hash after it. A sink that hashes what it hands
+//! on makes the hash in the same pass.
 ghost use Rattle.std.specs.Prelude.{◌≡◌, ℕ, List, IsOk, OnOk, true, Option, None};
 ghost use Rattle.std.specs.Borrow.{GName};
 ghost use Rattle.bolt_bulk.specs.{Compacting.Copies, WholeListings.IsWhole};
 ghost use Rattle.bolt_tree.specs.Listing.{Member};
-ghost use Rattle.bolt_cli.specs.{CopyEnds.EndsCopy, Hashes.HashesSince, Private.Copying.shaped_layout};
+ghost use Rattle.bolt_cli.specs.{CopyEnds.EndsCopy, CopyKinds.is_snapshot, Hashes.HashesSince, Private.Copying.CopiesTo, Private.Copying.shaped_layout};
 
-use crate::copy_source::CopySource;
-use bolt_bulk::{BulkFault, Done, Shape};
+use crate::choices::CopyKind;
+use crate::copy_source::{Copied, CopySource, sources_have_good_copies};
+use bolt_bulk::{BulkFault, Shape};
 use bolt_format::{Sink, SinkFault};
 use bolt_snapshot::HASH_LEN;
 use sha2::{Digest, Sha256};
 use std::alloc::Global;
 use std::marker::{Brand, PhantomData};
 
-/// Writes the copy of all members of a source, and returns its length. In a snapshot the hash of the
-/// layout comes after it.
-pub(crate) fn copy_all<C: CopySource, T: Sink>(
+/// Writes the copy of all members of a source, which is a good one, and returns its length.
+pub(crate) fn copy_members<C: CopySource, T: Sink>(
+    alloc: Global,
+    source: &mut C,
+    shape: &Shape,
+    kind: CopyKind,
+    target: &mut T,
+) -> Result<u64, BulkFault>
+    requires { IsWhole C.lists C.left source.old }
+    ensures copied { (listing : List Member) → C.lists source.old listing
+        → CopiesTo T.Sink target.old target.new (shaped_layout shape.now listing) listing (is_snapshot kind) result }
+    ensures end { OnOk result (C.ends_as source.old source.new) }
+{
+    sources_have_good_copies(source, shape.sequence);
+    copy_all(alloc, source, shape, kind.is_snapshot(), target)
+}
+
+/// Writes the layout and, in a snapshot, its hash after it.
+fn copy_all<C: CopySource, T: Sink>(
     alloc: Global,
     source: &mut C,
     shape: &Shape,
@@ -44,7 +62,7 @@ pub(crate) fn copy_all<C: CopySource, T: Sink>(
 struct Hashed<'a, T> {
     target: &'a mut T,
     hash: Sha256,
-    result: Result<Done, BulkFault>,
+    result: Copied,
 }
 
 fn hash_all<'a, K: Origin, T: Sink, C: CopySource>(
@@ -81,11 +99,7 @@ fn hash_all<'a, K: Origin, T: Sink, C: CopySource>(
 }
 
 /// Writes the hash of a layout after it, if the layout is whole. Returns the length of both.
-fn put_hash<T: Sink>(
-    copied: Result<Done, BulkFault>,
-    hash: Sha256,
-    target: &mut T,
-) -> Result<u64, BulkFault>
+fn put_hash<T: Sink>(copied: Copied, hash: Sha256, target: &mut T) -> Result<u64, BulkFault>
     ensures whole { OnOk result (IsOk copied) }
     ensures copied { (begun : T) (layout : List ℕ) → Copies T.taken T.failed begun target.old layout copied
         → (T.failed target.old ≡ 0 → ∥ HashesSince (T.taken begun) (T.taken target.old) hash ∥₁)

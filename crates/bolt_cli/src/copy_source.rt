@@ -1,5 +1,6 @@
-//! What a copy is made of. `Members` has a lifetime, so a function that is generic over them can't be
-//! handed which borrow it hashes; this trait has none.
+//! What a copy is made of: the members of a file, of what is left of one, or of lines. `Members` has a
+//! lifetime, so a function that is generic over them can't be handed which borrow it hashes; this
+//! trait has none. And why such a copy is good.
 ghost use Rattle.std.specs.Prelude.{◌≡◌, List, OnOk};
 ghost use Rattle.bolt_bulk.specs.{Compacting.Copies, WholeListings.IsWhole};
 ghost use Rattle.bolt_check.specs.CheckedFiles.{bytes_of, meta_of};
@@ -17,6 +18,9 @@ use bolt_recover::{Joined, Recovery};
 use bolt_tree::Walk;
 use std::alloc::Global;
 
+/// How the writing of a layout ends.
+pub(crate) type Copied = Result<Done, BulkFault>;
+
 /// The members of a listing, of which a copy can be made.
 pub(crate) trait CopySource {
     /// The listing whose members it returns.
@@ -30,12 +34,7 @@ pub(crate) trait CopySource {
 
     /// Writes the copy of all members, of which none may have been returned yet
     /// (`bolt_bulk::compact_members`).
-    fn copy<S: Sink>(
-        &mut self,
-        alloc: Global,
-        shape: &Shape,
-        sink: &mut S,
-    ) -> Result<Done, BulkFault>
+    fn copy<S: Sink>(&mut self, alloc: Global, shape: &Shape, sink: &mut S) -> Copied
         requires { IsWhole lists left self.old }
         ensures copied { (listing : List Member) → lists self.old listing
             → Copies S.taken S.failed sink.old sink.new (shaped_layout shape.now listing) result }
@@ -49,12 +48,7 @@ impl CopySource for Walk<'_> {
 
     ghost ends_as = { λ walk end. Unit {0} };
 
-    fn copy<S: Sink>(
-        &mut self,
-        alloc: Global,
-        shape: &Shape,
-        sink: &mut S,
-    ) -> Result<Done, BulkFault> {
+    fn copy<S: Sink>(&mut self, alloc: Global, shape: &Shape, sink: &mut S) -> Copied {
         compact_members(alloc, self, shape, sink)
     }
 }
@@ -66,12 +60,7 @@ impl CopySource for Recovery<'_> {
 
     ghost ends_as = { λ recovery end. ForLosses (recovery_file recovery) (recovery_meta recovery) (λ losses. recovery_losses end ≡ losses) };
 
-    fn copy<S: Sink>(
-        &mut self,
-        alloc: Global,
-        shape: &Shape,
-        sink: &mut S,
-    ) -> Result<Done, BulkFault> {
+    fn copy<S: Sink>(&mut self, alloc: Global, shape: &Shape, sink: &mut S) -> Copied {
         compact_members(alloc, self, shape, sink)
     }
 }
@@ -83,12 +72,7 @@ impl CopySource for Joined<'_> {
 
     ghost ends_as = { λ joined end. Unit {0} };
 
-    fn copy<S: Sink>(
-        &mut self,
-        alloc: Global,
-        shape: &Shape,
-        sink: &mut S,
-    ) -> Result<Done, BulkFault> {
+    fn copy<S: Sink>(&mut self, alloc: Global, shape: &Shape, sink: &mut S) -> Copied {
         compact_members(alloc, self, shape, sink)
     }
 }
@@ -100,12 +84,7 @@ impl CopySource for LineMembers<'_> {
 
     ghost ends_as = { λ members end. Unit {0} };
 
-    fn copy<S: Sink>(
-        &mut self,
-        alloc: Global,
-        shape: &Shape,
-        sink: &mut S,
-    ) -> Result<Done, BulkFault> {
+    fn copy<S: Sink>(&mut self, alloc: Global, shape: &Shape, sink: &mut S) -> Copied {
         compact_members(alloc, self, shape, sink)
     }
 }

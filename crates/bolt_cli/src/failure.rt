@@ -1,12 +1,12 @@
 //! Why a job isn't done, and the line that says so.
-ghost use Rattle.std.specs.Prelude.{◌≡◌, ◌++◌, codes, decimal};
+ghost use Rattle.std.specs.Prelude.{◌≡◌, ◌++◌, Ok, codes, decimal};
 ghost use Rattle.bolt_format.specs.{Endings.ending, Wrote.Wrote};
 ghost use Rattle.bolt_report.specs.FaultWords.{finding_text};
 ghost use Rattle.bolt_load.specs.FaultWords.{line_fault_words};
 ghost use Rattle.bolt_cli.specs.Failures.{HasFinding, IsFailureOf, copied, failure_line, failure_text, reported, unjoined, unloaded};
 ghost use Rattle.bolt_cli.specs.declared.failure.Failure.TheVariants as failure;
+ghost use Rattle.bolt_cli.specs.Private.Endings.{end_of, end_written};
 
-use crate::decimals::put_number_and;
 use bolt_bulk::BulkFault;
 use bolt_check::{CheckFault, Finding, NoMemory};
 use bolt_format::{MetaFault, PageFault, Sink, SinkFault};
@@ -16,6 +16,7 @@ use bolt_report::{
     ReportFault, finding_text, meta_fault_text, page_fault_text, snapshot_fault_text,
 };
 use bolt_snapshot::SnapshotFault;
+use itoa::Buffer;
 use std::alloc::AllocFailed;
 
 /// Why a job isn't done (docs/COMMANDS.md, "What a run writes").
@@ -46,6 +47,25 @@ pub enum Failure {
     /// The file isn't the text of a listing: the number of its first line that isn't right, and what
     /// is wrong with it.
     Line(u64, LineFault),
+}
+
+/// How a job ends: with its status, or with a failure.
+pub(crate) type Outcome = Result<u8, Failure>;
+
+/// How a job ends that put a text.
+pub(crate) fn ended(put: Result<(), ReportFault>) -> Outcome
+    ensures { result ≡ end_of put (Ok 0) }
+{
+    put?;
+    Ok(0)
+}
+
+/// How a job ends that wrote a text.
+pub(crate) fn written(put: Result<(), SinkFault>) -> Outcome
+    ensures { result ≡ end_written put (Ok 0) }
+{
+    put?;
+    Ok(0)
 }
 
 impl<T: Drop> From<AllocFailed<T>> for Failure {
@@ -198,4 +218,24 @@ fn put_words<E: Sink>(words: &[u8], err: &mut E) -> Result<(), SinkFault>
     ensures { Wrote E.Sink err.old err.new words.now (ending result) }
 {
     err.put(words)
+}
+
+/// Writes a number and the words after it.
+#[tactic(auto, using(bolt_format::proofs::WroteLemmas::wrote))]
+pub(crate) fn put_number_and<O: Sink>(
+    number: u64,
+    words: &[u8],
+    out: &mut O,
+) -> Result<(), SinkFault>
+    ensures { Wrote O.Sink out.old out.new (decimal number ++ words.now) (ending result) }
+{
+    put_digits(number, out)?;
+    out.put(words)
+}
+
+fn put_digits<O: Sink>(number: u64, out: &mut O) -> Result<(), SinkFault>
+    ensures { Wrote O.Sink out.old out.new (decimal number) (ending result) }
+{
+    let mut digits = Buffer::new();
+    out.put(digits.format(number).as_bytes())
 }

@@ -1,8 +1,11 @@
-//! What a command line asks for.
+//! What a command line asks for: a job, or why it asks for none.
+ghost use Rattle.std.specs.Prelude.{◌≡◌};
+ghost use Rattle.bolt_cli.specs.declared.job.Refusal.TheVariants.{Memory};
 
 use crate::choices::{CopyKind, Extent, MetaChoice, PageSize};
 use bolt_format::Slot;
 use bolt_report::{FigureForm, Form, ListForm};
+use std::alloc::{AllocError, AllocFailed};
 
 /// What the words of a command line ask for (docs/COMMANDS.md). Each command has a job of its own.
 #[derive(Debug, Drop)]
@@ -135,7 +138,7 @@ pub struct LoadJob {
 }
 
 impl Job {
-    ghost use Rattle.std.specs.Prelude.{◌≡◌, option_map};
+    ghost use Rattle.std.specs.Prelude.{option_map};
     ghost use Rattle.bolt_cli.specs.{Needs.needs_metas_alone, PlainWords.file_name, PlainWords.target_name};
 
     /// The name of FILE.
@@ -175,5 +178,37 @@ impl Job {
             Job::Load(job) => Some(job.target.as_str()),
             _ => None,
         }
+    }
+}
+
+/// Why words aren't a job.
+#[derive(Debug, Drop)]
+pub enum Refusal {
+    /// Memory ran out.
+    Memory,
+    /// Help was asked for. This is its text.
+    Help(String),
+    /// The version was asked for. This is its line.
+    Version(String),
+    /// The words are no line of a command. This text says why.
+    Usage(String),
+    /// The words are a line of a command, but one of them can't be read. This says what is wrong
+    /// with it.
+    Word(&'static str),
+}
+
+impl From<AllocError> for Refusal {
+    ghost from_gives = { λ _ refusal. refusal ≡ Memory };
+
+    fn from(_error: AllocError) -> Refusal {
+        Refusal::Memory
+    }
+}
+
+impl<T: Drop> From<AllocFailed<T>> for Refusal {
+    ghost from_gives = { λ _ refusal. refusal ≡ Memory };
+
+    fn from(_error: AllocFailed<T>) -> Refusal {
+        Refusal::Memory
     }
 }

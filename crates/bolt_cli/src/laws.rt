@@ -19,7 +19,6 @@ ghost use Rattle.bolt_cli.specs.declared.failure.Failure.TheVariants as failure;
 ghost use Rattle.bolt_cli.specs.declared.choices.MetaChoice.TheVariants as choice;
 
 use crate::outside::Outside;
-use bolt_check::laws::{sound_trees_have_no_finding, sound_trees_pass_the_tests};
 use bolt_format::Sink;
 use bolt_format::laws::{chosen_meta_is_one, metas_lie_in_a_prefix, slot_meta_is_one};
 use bolt_layout::laws::{
@@ -77,7 +76,6 @@ pub fn good_copies_pass_the_check()
         → IsCheckAnswer extent snapshot (take n (copy_of snapshot layout)) choice.Active answer → answer.ending ≢ Ok 0 }
 {
     chosen_meta_is_one();
-    sound_trees_have_no_finding();
     sound_trees_lose_nothing();
 }
 
@@ -116,8 +114,6 @@ pub fn recovering_sound_trees_reads_them<O: Sink, T: Sink>()
 {
     chosen_meta_is_one();
     slot_meta_is_one();
-    sound_trees_pass_the_tests();
-    sound_trees_have_no_finding();
     sound_trees_recover_their_listing();
     sound_trees_recover_what_they_list();
 }

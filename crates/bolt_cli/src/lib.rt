@@ -1,34 +1,27 @@
 //! The command line of `luntsegi`: from words to a job, and from a job to its output and status.
 #![tactic(auto)]
 
-mod buckets_command;
+mod bucket_commands;
 mod check_command;
 mod choices;
 mod command_line;
 mod commands;
-mod compact_command;
 mod copies;
+mod copy_commands;
+mod copy_report;
 mod copy_source;
-mod decimals;
 mod failure;
 mod file_faults;
-mod form_words;
-mod get_command;
-mod info_command;
 mod job;
-mod keys_command;
 pub mod laws;
+mod line;
 mod list_command;
-mod load_command;
 mod opening;
+mod options;
 mod outside;
-mod page_command;
-mod pages_command;
+mod page_commands;
 mod path_words;
-mod refusal;
 mod runs;
-mod source;
-mod stats_command;
 mod whole_run;
 mod words;
 
@@ -36,11 +29,11 @@ pub use choices::{AssumedMeta, CopyKind, Extent, MetaChoice, PageSize};
 pub use failure::Failure;
 pub use job::{
     BucketsJob, CheckJob, CompactJob, GetJob, InfoJob, Job, KeysJob, ListJob, LoadJob, PageJob,
-    PagesJob, StatsJob,
+    PagesJob, Refusal, StatsJob,
 };
-pub use outside::Outside;
-pub use refusal::Refusal;
+pub use outside::{
+    CreateFault, EndFault, OpenFault, OutputFault, Outside, ReadFault, Source, Stamp,
+};
 pub use runs::{Status, run};
-pub use source::{CreateFault, EndFault, OpenFault, OutputFault, ReadFault, Source, Stamp};
 pub use whole_run::{refuse, run_program};
 pub use words::read_words;

@@ -4,92 +4,71 @@ ghost use Rattle.bolt_recover.specs.ShownLosses.{lost_view};
 ghost use Rattle.bolt_format.specs.Wrote.{Wrote};
 ghost use Rattle.bolt_report.specs.ReportEndings.{report_ending};
 ghost use Rattle.bolt_tree.specs.{FileListings.ForListing, Listing.Member, Listing.member_cmp, Order.Rises, Paths.path_of};
-ghost use Rattle.bolt_cli.specs.{Answers.Answer, Answers.Does, Answers.all_lost_ending, PlainWords.path_in};
-ghost use Rattle.bolt_cli.specs.Private.Printing.{IsListPrint, finds, job_part, sound_part};
+ghost use Rattle.bolt_cli.specs.{Answers.all_lost_ending, PlainWords.path_in, Private.Endings.end_of_part};
+ghost use Rattle.bolt_cli.specs.Private.Printing.{IsListPrint, PrintsAnswer, finds, job_part, sound_part};
 
 use crate::choices::Extent;
-use crate::failure::Failure;
+use crate::failure::{Failure, Outcome, ended};
 use crate::job::ListJob;
-use crate::opening::{open_bucket, open_read, open_recovery};
+use crate::opening::{Input, join};
 use bolt_check::Checked;
 use bolt_format::Sink;
-use bolt_recover::laws::{
-    each_file_has_a_joined_listing, each_file_has_found_pages, joined_members_rise,
-};
-use bolt_recover::{Joined, Lost, LostAndFound};
+use bolt_recover::Lost;
+use bolt_recover::laws::{each_file_has_a_joined_listing, joined_members_rise};
 use bolt_report::{ReportFault, list_members_part, list_part};
 use bolt_tree::Members;
 use std::alloc::Global;
 
 /// Writes a part of the listing: that of a sound file, of what is recovered of a damaged one, or of that
 /// joined with what is found of it.
-pub(crate) fn print_list<O: Sink>(
-    alloc: Global,
-    file: &[u8],
-    job: &ListJob,
-    out: &mut O,
-) -> Result<u8, Failure>
-    ensures { (answer : Answer) × IsListPrint job.now.extent job.now file.now answer
-        × Does O.taken O.failed out.old out.new answer result }
+pub(crate) fn print_list<O: Sink>(input: Input<'_>, job: &ListJob, out: &mut O) -> Outcome
+    ensures { PrintsAnswer O.Sink out.old out.new (IsListPrint job.now.extent job.now input.entry.file.now) result }
 {
     match job.extent {
-        Extent::First => print_sound(alloc, file, job, out),
-        Extent::Losses => print_recovered(alloc, file, job, out),
-        Extent::LostAndFound => print_joined(alloc, file, job, out),
+        Extent::First => print_sound(input, job, out),
+        Extent::Losses => print_recovered(input, job, out),
+        Extent::LostAndFound => print_joined(input, job, out),
     }
 }
 
-fn print_sound<O: Sink>(
-    alloc: Global,
-    file: &[u8],
-    job: &ListJob,
-    out: &mut O,
-) -> Result<u8, Failure>
-    ensures { (answer : Answer) × IsListPrint Extent.First job.now file.now answer
-        × Does O.taken O.failed out.old out.new answer result }
+fn print_sound<O: Sink>(input: Input<'_>, job: &ListJob, out: &mut O) -> Outcome
+    ensures { PrintsAnswer O.Sink out.old out.new (IsListPrint Extent.First job.now input.entry.file.now) result }
 {
-    let checked = open_read(alloc, file, job.meta)?;
-    // Only for the error if there is no such bucket.
-    open_bucket(checked, job.path.as_slice())?;
-    put_sound_part(alloc, checked, job, out)?;
-    Ok(0)
+    let bucket = input.bucket(job.meta, job.path.as_slice())?;
+    ended(put_sound_part(input.alloc, bucket.checked(), job, out))
 }
 
-fn print_recovered<O: Sink>(
-    alloc: Global,
-    file: &[u8],
-    job: &ListJob,
-    out: &mut O,
-) -> Result<u8, Failure>
-    ensures { (answer : Answer) × IsListPrint Extent.Losses job.now file.now answer
-        × Does O.taken O.failed out.old out.new answer result }
+fn print_recovered<O: Sink>(input: Input<'_>, job: &ListJob, out: &mut O) -> Outcome
+    ensures { PrintsAnswer O.Sink out.old out.new (IsListPrint Extent.Losses job.now input.entry.file.now) result }
 {
-    let mut recovery = open_recovery(alloc, file, job.meta)?;
-    if !put_members_part(alloc, &mut recovery, job, out)? {
-        return Err(Failure::NoBucket);
-    }
-    ending_of(Lost::Parts(recovery.losses()))
+    let mut recovery = input.recover(job.meta)?;
+    let found = put_members_part(input.alloc, &mut recovery, job, out);
+    end_part(found, Lost::Parts(recovery.losses()))
 }
 
-fn print_joined<O: Sink>(
-    alloc: Global,
-    file: &[u8],
-    job: &ListJob,
-    out: &mut O,
-) -> Result<u8, Failure>
-    ensures { (answer : Answer) × IsListPrint Extent.LostAndFound job.now file.now answer
-        × Does O.taken O.failed out.old out.new answer result }
+fn print_joined<O: Sink>(input: Input<'_>, job: &ListJob, out: &mut O) -> Outcome
+    ensures { PrintsAnswer O.Sink out.old out.new (IsListPrint Extent.LostAndFound job.now input.entry.file.now) result }
 {
-    each_file_has_found_pages();
     each_file_has_a_joined_listing();
-    let meta = job.meta.find(file)?;
-    let both = LostAndFound::under(alloc, file, meta)?;
-    let mut joined = Joined::new(alloc, &both)?;
+    let both = input.search(job.meta)?;
+    let mut joined = join(input, job.meta, &both)?;
     joined_members_rise(&joined);
-    if !put_members_part(alloc, &mut joined, job, out)? {
+    let found = put_members_part(input.alloc, &mut joined, job, out);
+    end_part(found, both.lost())
+}
+
+/// How a job ends that put a part of a listing, if this is lost.
+fn end_part(found: Result<bool, ReportFault>, lost: Lost<'_>) -> Outcome
+    ensures { result ≡ end_of_part found (all_lost_ending (lost_view lost.entry)) }
+{
+    if !found? {
         return Err(Failure::NoBucket);
     }
-    ending_of(both.lost())
+    match lost {
+        Lost::Everything(_) => Err(Failure::Lost(1)),
+        Lost::Parts([]) => Ok(0),
+        Lost::Parts(losses) => Err(Failure::Lost(losses.len() as u64)),
+    }
 }
 
 /// Writes the part that is wanted of a sound file.
@@ -137,17 +116,6 @@ fn put_members_part<'a, M: Members<'a>, O: Sink>(
         job.form,
         out,
     )
-}
-
-/// How the job ends if this is lost.
-fn ending_of(lost: Lost<'_>) -> Result<u8, Failure>
-    ensures { result ≡ all_lost_ending (lost_view lost.entry) }
-{
-    match lost {
-        Lost::Everything(_) => Err(Failure::Lost(1)),
-        Lost::Parts([]) => Ok(0),
-        Lost::Parts(losses) => Err(Failure::Lost(losses.len() as u64)),
-    }
 }
 
 /// The parts of a path as slices.

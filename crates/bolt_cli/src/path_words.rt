@@ -2,24 +2,12 @@
 ghost use Rattle.std.specs.Prelude.{◌≡◌, ◌==◌, IfOk, length, map, option_map};
 ghost use Rattle.std.specs.List.{list_any, slice_split};
 ghost use Rattle.bolt_cli.specs.CommandLine.{Gives};
-ghost use Rattle.bolt_cli.specs.PathWords.{each_part, hex_bytes, hex_path_by, hex_path_of, mixed_bytes, part_of, parts_by, prefix_of};
+ghost use Rattle.bolt_cli.specs.PathWords.{each_part, hex_bytes, hex_path_by, hex_path_of, mixed_bytes, part_of, prefix_of};
 ghost use Rattle.bolt_cli.specs.PlainWords.{path_in};
 
-use crate::refusal::Refusal;
+use crate::job::Refusal;
 use hex::FromHexError;
 use std::alloc::{AllocError, Global};
-
-/// How parts are written, by the value of `--parts`.
-pub(crate) fn read_parts(word: Option<&str>) -> Result<Parts, Refusal>
-    ensures { Gives (λ parts. parts) (parts_by (option_map (λ text. text.now) word.entry)) result }
-{
-    match word {
-        None | Some("text") => Ok(Parts::Text),
-        Some("hex") => Ok(Parts::Hex),
-        Some("mixed") => Ok(Parts::Mixed),
-        Some(_) => Err(Refusal::Word("bad parts: use text, hex or mixed")),
-    }
-}
 
 /// The path whose parts are these words.
 pub(crate) fn read_path(

@@ -2,19 +2,14 @@
 ghost use Rattle.std.specs.Prelude.{◌≡◌, Result};
 ghost use Rattle.bolt_cli.specs.Answers.{DoesJob, Ending, Accepts, error_text, status_of};
 
-use crate::buckets_command::print_buckets;
+use crate::bucket_commands::{print_buckets, print_keys, print_stats, print_value};
 use crate::check_command::print_check;
-use crate::compact_command::write_copy;
-use crate::failure::{Failure, put_failure};
-use crate::get_command::print_value;
-use crate::info_command::print_info;
+use crate::copy_commands::{write_copy, write_loaded};
+use crate::failure::{Failure, Outcome, put_failure};
 use crate::job::Job;
-use crate::keys_command::print_keys;
 use crate::list_command::print_list;
-use crate::load_command::write_loaded;
-use crate::page_command::print_page;
-use crate::pages_command::print_pages;
-use crate::stats_command::print_stats;
+use crate::opening::Input;
+use crate::page_commands::{print_info, print_page, print_pages};
 use bolt_format::Sink;
 use std::alloc::Global;
 
@@ -40,7 +35,7 @@ pub fn run<O: Sink, E: Sink, T: Sink>(
         × DoesJob O.taken O.failed out.old out.new T.taken T.failed target.old target.new file.now job.now ending
         × (result.code ≡ status_of ending) × Accepts E.taken E.failed err.old err.new (error_text ending) }
 {
-    match do_job(alloc, job, file, out, target) {
+    match do_job(Input { alloc, file }, job, out, target) {
         Ok(code) => Status { code },
         Err(failure) => report(&failure, err),
     }
@@ -56,26 +51,20 @@ fn report<E: Sink>(failure: &Failure, err: &mut E) -> Status
 }
 
 /// Does a job, and returns its status.
-fn do_job<O: Sink, T: Sink>(
-    alloc: Global,
-    job: &Job,
-    file: &[u8],
-    out: &mut O,
-    target: &mut T,
-) -> Result<u8, Failure>
-    ensures { DoesJob O.taken O.failed out.old out.new T.taken T.failed target.old target.new file.now job.now result }
+fn do_job<O: Sink, T: Sink>(input: Input<'_>, job: &Job, out: &mut O, target: &mut T) -> Outcome
+    ensures { DoesJob O.taken O.failed out.old out.new T.taken T.failed target.old target.new input.entry.file.now job.now result }
 {
     match job {
-        Job::Info(job) => print_info(file, job, out),
-        Job::Page(job) => print_page(file, job, out),
-        Job::Pages(job) => print_pages(alloc, file, job, out),
-        Job::Check(job) => print_check(alloc, file, job, out),
-        Job::Buckets(job) => print_buckets(alloc, file, job, out),
-        Job::Stats(job) => print_stats(alloc, file, job, out),
-        Job::Keys(job) => print_keys(alloc, file, job, out),
-        Job::Get(job) => print_value(alloc, file, job, out),
-        Job::List(job) => print_list(alloc, file, job, out),
-        Job::Compact(job) => write_copy(alloc, file, job, out, target),
-        Job::Load(job) => write_loaded(alloc, file, job, out, target),
+        Job::Info(job) => print_info(input, job, out),
+        Job::Page(job) => print_page(input, job, out),
+        Job::Pages(job) => print_pages(input, job, out),
+        Job::Check(job) => print_check(input, job, out),
+        Job::Buckets(job) => print_buckets(input, job, out),
+        Job::Stats(job) => print_stats(input, job, out),
+        Job::Keys(job) => print_keys(input, job, out),
+        Job::Get(job) => print_value(input, job, out),
+        Job::List(job) => print_list(input, job, out),
+        Job::Compact(job) => write_copy(input, job, out, target),
+        Job::Load(job) => write_loaded(input, job, out, target),
     }
 }

@@ -1,14 +1,12 @@
 //! A whole run of the program: from its words to its status.
 ghost use Rattle.std.specs.Prelude.{◌≡◌, ◌<◌, ℕ, List, None, Some, map, string_bytes};
 ghost use Rattle.bolt_cli.specs.{Answers.Ending, Answers.status_of, Deeds.Does, Deeds.joined, Failures.failure_line, PlainWords.target_name};
-ghost use Rattle.bolt_cli.specs.Runs.{Closes, Copies, Fails, Goes, IsHeldLine, IsRun, IsUnendedLine, Makes, Prints, Reads, Refuses, Shows, is_again, unmade_line};
+ghost use Rattle.bolt_cli.specs.Runs.{Closes, Copies, Fails, Goes, IsEnded, IsHeldLine, IsRun, IsUnendedLine, Makes, Prints, Reads, Refuses, Shows, held_of, is_again, unmade_line};
 ghost use Rattle.bolt_cli.specs.declared.failure.Failure.TheVariants.{Memory};
 
-use crate::job::Job;
-use crate::outside::Outside;
-use crate::refusal::Refusal;
+use crate::job::{Job, Refusal};
+use crate::outside::{CreateFault, EndFault, OutputFault, Outside, Source};
 use crate::runs::run;
-use crate::source::{CreateFault, OutputFault, Source};
 use crate::words::read_words;
 use bolt_format::{MemSink, Sink};
 use std::alloc::Global;
@@ -133,12 +131,33 @@ fn copy<O: Outside>(
     let mut out = MemSink::new(alloc);
     let mut err = MemSink::new(alloc);
     let status = run(alloc, job, file, &mut out, &mut err, &mut target);
-    let text = out.bytes();
-    let line = line_of(&err);
     let failures = out.failures();
-    match outside.end(target) {
+    let ended = outside.end(target);
+    print_held(
+        outside,
+        ended,
+        failures,
+        out.bytes(),
+        line_of(&err),
+        status.code,
+    )
+}
+
+/// Prints what was held, if OUT is on the disk and there was memory for it.
+fn print_held<O: Outside>(
+    outside: &mut O,
+    ended: Result<(), EndFault>,
+    failures: u64,
+    text: &[u8],
+    line: &[u8],
+    code: u8,
+) -> u8
+    ensures { (ending : Ending) → IsHeldLine ending line.now → code ≡ status_of ending → Does (O.done outside.old) (O.done outside.new)
+        (λ deeds. IsEnded O.Output.taken O.Output.failed ended (held_of text.now failures) ending deeds result) }
+{
+    match ended {
         Ok(()) if failures > 0 => fail(outside, &[NO_MEMORY]),
-        Ok(()) => print(outside, text, line, status.code),
+        Ok(()) => print(outside, text, line, code),
         Err(_) => report_unended(outside, line),
     }
 }

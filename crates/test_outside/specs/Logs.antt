@@ -2,7 +2,7 @@
 use Rattle.std.specs.Prelude.{◌≡◌, ◌⊎◌, ℕ, List, [], map, Bool, true, false, Option, Some, None, Ok, Err, IsTrue}
 use Rattle.bolt_cli.specs.Deeds.{Deed}
 use Rattle.bolt_cli.specs.Deeds as deeds
-use Rattle.bolt_cli.specs.{Sources.is_changed, declared.source.OutputFault.TheVariants.ReaderLeft, declared.source.OutputFault.TheVariants.Failed}
+use Rattle.bolt_cli.specs.{Sources.is_changed, declared.outside.OutputFault.TheVariants.ReaderLeft, declared.outside.OutputFault.TheVariants.Failed}
 use Rattle.test_outside.specs.declared.log.Kind.{Kind}
 use Rattle.test_outside.specs.declared.log.Kind.TheVariants as kind
 use Rattle.test_outside.specs.{declared.log.Record.Record, declared.log.Log.Log}

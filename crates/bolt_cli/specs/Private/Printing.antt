@@ -3,14 +3,21 @@ use Rattle.std.specs.Prelude.{ℕ, List, Bool}
 use Rattle.bolt_check.specs.{CheckedFiles.bytes_of, CheckedFiles.meta_of, declared.checked_file.Checked.Checked, declared.role_table.Role.Role}
 use Rattle.bolt_report.specs.{KeyLines.keys_text, KeyPrefixes.with_prefix, ListForms.listing_lines}
 use Rattle.bolt_tree.specs.{Listing.Member, Listing.rest_from, ListingParts.has_bucket, ListingParts.part_below}
-use Rattle.bolt_cli.specs.Answers.{Answer, IsBucketsAnswer, IsEntriesAnswer, IsGetAnswer, IsListedAnswer, IsReadAnswer, pages_shown, part_text}
+use Rattle.bolt_format.specs.declared.sink.Sink.{Ghosts}
+use Rattle.bolt_cli.specs.Answers.{Answer, Does, Ending, IsBucketsAnswer, IsEntriesAnswer, IsGetAnswer, IsListedAnswer, IsReadAnswer, IsStatsAnswer, pages_shown, part_text}
 use Rattle.bolt_cli.specs.{PlainWords.path_in, declared.choices.Extent.Extent, declared.job.BucketsJob.BucketsJob, declared.job.GetJob.GetJob}
-use Rattle.bolt_cli.specs.{declared.job.KeysJob.KeysJob, declared.job.ListJob.ListJob}
+use Rattle.bolt_cli.specs.{declared.job.KeysJob.KeysJob, declared.job.ListJob.ListJob, declared.job.StatsJob.StatsJob}
+
+-- standard output accepts the text of one of the answers that are wanted, and the job ends as it says
+pub record PrintsAnswer {S : Type 0} (sink : Ghosts S) (old new : S) (IsWanted : Answer → Type 0) (ending : Ending) : Type 0 where
+  pub answer : Answer
+  pub is : IsWanted answer
+  pub does : Does sink.taken sink.failed old new answer ending
 
 -- ---- the answers to a job
 
-abbrev pub IsBucketsPrint : (sizes : Bool) → BucketsJob → List ℕ → Answer → Type 0
-IsBucketsPrint sizes job file answer = IsReadAnswer file job.meta (IsBucketsAnswer file (path_in job.path.items) job.form sizes) answer
+abbrev pub IsBucketsPrint : BucketsJob → List ℕ → Answer → Type 0
+IsBucketsPrint job file answer = IsReadAnswer file job.meta (IsBucketsAnswer file (path_in job.path.items) job.form job.sizes) answer
 
 abbrev pub IsKeysPrint : KeysJob → List ℕ → Answer → Type 0
 IsKeysPrint job file answer =
@@ -18,6 +25,9 @@ IsKeysPrint job file answer =
 
 abbrev pub IsGetPrint : GetJob → List ℕ → Answer → Type 0
 IsGetPrint job file answer = IsReadAnswer file job.meta (IsGetAnswer file (path_in job.path.items) job.form job.no_newline) answer
+
+abbrev pub IsStatsPrint : StatsJob → List ℕ → Answer → Type 0
+IsStatsPrint job file answer = IsReadAnswer file job.meta (IsStatsAnswer file (path_in job.path.items) job.form) answer
 
 abbrev pub IsListPrint : Extent → ListJob → List ℕ → Answer → Type 0
 IsListPrint extent job file answer = IsListedAnswer extent file job.meta job.form (path_in job.path.items) (path_in job.from.items) answer

@@ -4,7 +4,8 @@ use Rattle.bolt_cli.proofs.Vocabulary.{Command, IsCommand, Syntax, bare_program,
 use Rattle.bolt_cli.proofs.command_line.program.Goals as goal
 
 has_all : {E : Type 0} (begun : Command) (first second : List Syntax) (result : Result Command E) → IsCommand (program_of first) begun
-    → IfOk result (λ more. (before : List Syntax) → IsCommand (program_of before) begun → IsCommand (program_of (before ++ second)) more) → first ++ second ≡ syntaxes → IfOk result (IsCommand program)
+    → IfOk result (λ more. (before : List Syntax) → IsCommand (program_of before) begun → IsCommand (program_of (before ++ second)) more)
+    → first ++ second ≡ syntaxes → IfOk result (IsCommand program)
 has_all begun first second (Ok more) is goes_on all = subst (λ (lines : List Syntax). IsCommand (program_of lines) more) all (goes_on first is)
 has_all begun first second (Err e) is goes_on all = tt
 
