@@ -1,9 +1,9 @@
 -- The lines of the commands as the code has them.
 use Rattle.std.specs.Prelude.{is_some, map}
 use Rattle.bolt_cli.specs.LineWords as plain
-use Rattle.bolt_cli.specs.{declared.options.Choice.Choice, declared.options.Flag.Flag}
-use Rattle.bolt_cli.specs.declared.options.Flag.TheVariants.{Both, Long, Short}
-use Rattle.bolt_cli.specs.{declared.options.Operand.Operand, declared.commands.Syntax.Syntax}
+use Rattle.bolt_cli.specs.{declared.command_line.Choice.Choice, declared.command_line.Flag.Flag}
+use Rattle.bolt_cli.specs.declared.command_line.Flag.TheVariants.{Both, Long, Short}
+use Rattle.bolt_cli.specs.{declared.command_line.Operand.Operand, declared.command_line.Syntax.Syntax}
 
 abbrev pub operand_view : Operand → plain.Operand
 operand_view o = record { name = o.name.now; several = o.several; required = o.required }

@@ -7,7 +7,7 @@ use bolt_format::{Meta, MetaFault, Slot, choose, page_size_ok, slot_meta};
 use bolt_layout::Layout;
 
 /// An accepted page size.
-#[derive(Clone, Copy, Debug)]
+#[derive(Clone, Copy)]
 pub struct PageSize {
     pub bytes: u64,
     pub ghost accepted: { IsPageSize bytes },
@@ -31,7 +31,7 @@ impl PageSize {
 }
 
 /// The meta that a file is read under.
-#[derive(Clone, Copy, Debug)]
+#[derive(Clone, Copy)]
 pub enum MetaChoice {
     /// The active meta.
     Active,
@@ -42,7 +42,7 @@ pub enum MetaChoice {
 }
 
 /// A meta that is assumed, by what has to be known of it (docs/COMMANDS.md, "An assumed meta").
-#[derive(Clone, Copy, Debug)]
+#[derive(Clone, Copy)]
 pub struct AssumedMeta {
     pub page_size: PageSize,
     /// The number of the root page.
@@ -86,7 +86,7 @@ impl AssumedMeta {
 }
 
 /// What a compact copy is for.
-#[derive(Clone, Copy, Debug, PartialEq, Eq)]
+#[derive(Clone, Copy, PartialEq, Eq)]
 pub enum CopyKind {
     /// For reading: the plain layout.
     Plain,
@@ -121,7 +121,7 @@ impl CopyKind {
 }
 
 /// How far a command goes in a file with damaged trees.
-#[derive(Clone, Copy, Debug, PartialEq, Eq)]
+#[derive(Clone, Copy, PartialEq, Eq)]
 pub enum Extent {
     /// Up to the first finding: what the file holds is read only if it is sound.
     First,

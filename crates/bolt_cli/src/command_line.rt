@@ -1,4 +1,4 @@
-//! The description of the command line for `clap`.
+//! What a command is made of, and the description of all commands for `clap`.
 ghost use Rattle.std.specs.Prelude.{◌≡◌, ◌∷◌, ◌++◌, [], List, Some, false, IfOk, map};
 ghost use Rattle.clap.specs.declared.builder.action.ArgAction.TheVariants.{Set};
 ghost use Rattle.bolt_cli.specs.LineWords as plain;
@@ -7,10 +7,59 @@ ghost use Rattle.bolt_cli.specs.CommandLine.{IsCommand, command_of, operand_rule
 ghost use Rattle.bolt_cli.specs.{Private.CommandLines.AddsLines, Syntaxes.choice_view, Syntaxes.operand_view, Syntaxes.syntax_view};
 ghost use Rattle.clap.specs.Words.{new_app, rule_of};
 
-use crate::commands::{Syntax, VERSION, reading, writing};
-use crate::options::{Choice, Flag, Operand};
+use crate::reading_commands::reading;
+use crate::writing_commands::writing;
 use clap::{Arg, ArgAction, Command};
 use std::alloc::{AllocError, Global};
+
+/// An operand of a command.
+#[derive(Clone, Copy)]
+pub(crate) struct Operand {
+    pub name: &'static str,
+    /// What help calls it.
+    pub shown: &'static str,
+    /// Whether it is one word, or as many as follow.
+    pub several: bool,
+    pub required: bool,
+    pub help: &'static str,
+}
+
+/// How an option is written.
+#[derive(Clone, Copy)]
+pub(crate) enum Flag {
+    /// As `--name`.
+    Long(&'static str),
+    /// By one letter, as `-o`.
+    Short(char),
+    /// In either way, as `-n` or `--no-newline`.
+    Both(char, &'static str),
+}
+
+/// An option of a command.
+#[derive(Clone, Copy)]
+pub(crate) struct Choice {
+    pub name: &'static str,
+    pub flag: Flag,
+    /// The name of its value in help, if it has one.
+    pub value: Option<&'static str>,
+    pub help: &'static str,
+    pub required: bool,
+}
+
+/// A command.
+#[derive(Clone, Copy)]
+pub(crate) struct Syntax {
+    pub name: &'static str,
+    pub about: &'static str,
+    pub operands: &'static [Operand],
+    /// In the order of help. On a command line the order is free.
+    pub options: &'static [Choice],
+    /// What help prints after the options.
+    pub note: Option<&'static str>,
+}
+
+/// The version that `--version` prints.
+const VERSION: &str = "0.1.0";
 
 fn operand_arg<'a>(alloc: Global, operand: &'a Operand) -> Arg<'a>
     ensures rule { rule_of result ≡ operand_rule (operand_view operand.now) }

@@ -8,7 +8,7 @@ use bolt_report::{FigureForm, Form, ListForm};
 use std::alloc::{AllocError, AllocFailed};
 
 /// What the words of a command line ask for (docs/COMMANDS.md). Each command has a job of its own.
-#[derive(Debug, Drop)]
+#[derive(Drop)]
 pub enum Job {
     Info(InfoJob),
     Page(PageJob),
@@ -24,7 +24,7 @@ pub enum Job {
 }
 
 /// Print the meta in a slot, or the active one.
-#[derive(Debug, Drop)]
+#[derive(Drop)]
 pub struct InfoJob {
     pub file: String,
     pub slot: Option<Slot>,
@@ -32,7 +32,7 @@ pub struct InfoJob {
 }
 
 /// Print one page.
-#[derive(Debug, Drop)]
+#[derive(Drop)]
 pub struct PageJob {
     pub file: String,
     pub meta: MetaChoice,
@@ -40,7 +40,7 @@ pub struct PageJob {
 }
 
 /// Print all pages.
-#[derive(Debug, Drop)]
+#[derive(Drop)]
 pub struct PagesJob {
     pub file: String,
     /// Whether to print a map of them, and not their table.
@@ -48,7 +48,7 @@ pub struct PagesJob {
 }
 
 /// Check whether the file is sound.
-#[derive(Debug, Drop)]
+#[derive(Drop)]
 pub struct CheckJob {
     pub file: String,
     pub meta: MetaChoice,
@@ -58,7 +58,7 @@ pub struct CheckJob {
 }
 
 /// Print the buckets in the bucket at a path.
-#[derive(Debug, Drop)]
+#[derive(Drop)]
 pub struct BucketsJob {
     pub file: String,
     pub meta: MetaChoice,
@@ -70,7 +70,7 @@ pub struct BucketsJob {
 
 /// Print the figures of the bucket at a path and of all in it. At the empty path they are those of
 /// the root's buckets, added up.
-#[derive(Debug, Drop)]
+#[derive(Drop)]
 pub struct StatsJob {
     pub file: String,
     pub meta: MetaChoice,
@@ -79,7 +79,7 @@ pub struct StatsJob {
 }
 
 /// Print the keys of the bucket at a path that begin with a prefix.
-#[derive(Debug, Drop)]
+#[derive(Drop)]
 pub struct KeysJob {
     pub file: String,
     pub meta: MetaChoice,
@@ -89,7 +89,7 @@ pub struct KeysJob {
 }
 
 /// Print the value at a path.
-#[derive(Debug, Drop)]
+#[derive(Drop)]
 pub struct GetJob {
     pub file: String,
     pub meta: MetaChoice,
@@ -101,7 +101,7 @@ pub struct GetJob {
 
 /// Print the part of the listing at and below a path, without what comes before another path. Both
 /// are empty if the whole listing is wanted.
-#[derive(Debug, Drop)]
+#[derive(Drop)]
 pub struct ListJob {
     pub file: String,
     pub meta: MetaChoice,
@@ -112,7 +112,7 @@ pub struct ListJob {
 }
 
 /// Write a compact copy to another file.
-#[derive(Debug, Drop)]
+#[derive(Drop)]
 pub struct CompactJob {
     pub file: String,
     pub meta: MetaChoice,
@@ -125,7 +125,7 @@ pub struct CompactJob {
 }
 
 /// Write a database of the lines of a listing to another file.
-#[derive(Debug, Drop)]
+#[derive(Drop)]
 pub struct LoadJob {
     /// The name of the file that has the lines.
     pub file: String,
@@ -182,7 +182,7 @@ impl Job {
 }
 
 /// Why words aren't a job.
-#[derive(Debug, Drop)]
+#[derive(Drop)]
 pub enum Refusal {
     /// Memory ran out.
     Memory,

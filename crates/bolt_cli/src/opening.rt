@@ -68,7 +68,8 @@ impl<'f> Input<'f> {
     pub(crate) fn recover(self, choice: MetaChoice) -> Result<Recovery<'f>, CheckFault>
         ensures file { IfOk result (λ recovery. recovery_file recovery ≡ self.entry.file.now) }
         ensures meta { IfOk result (λ recovery. IsRecoveredUnder self.entry.file.now choice (recovery_meta recovery)) }
-        ensures all { IfOk result (λ recovery. ForRecovered self.entry.file.now (recovery_meta recovery) (λ listing. recovery_left recovery listing ≡ listing)) }
+        ensures all { IfOk result (λ recovery.
+            ForRecovered self.entry.file.now (recovery_meta recovery) (λ listing. recovery_left recovery listing ≡ listing)) }
         ensures losses { IfOk result (λ recovery. recovery_losses recovery ≡ []) }
         ensures refused { IfErr result (IsUnrecoverableUnder self.entry.file.now choice) }
     {

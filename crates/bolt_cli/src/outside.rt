@@ -64,7 +64,7 @@ pub struct Source {
 }
 
 /// What the file system changes whenever a file is written.
-#[derive(Clone, Copy, Debug)]
+#[derive(Clone, Copy)]
 pub struct Stamp {
     /// In bytes.
     pub length: u64,

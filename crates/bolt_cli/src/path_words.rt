@@ -102,7 +102,7 @@ fn read_hex(alloc: Global, word: &[u8]) -> Result<Vec<u8>, Refusal>
 }
 
 /// How the parts of a path are written on a command line.
-#[derive(Clone, Copy, Debug, PartialEq, Eq)]
+#[derive(Clone, Copy, PartialEq, Eq)]
 pub(crate) enum Parts {
     /// As they are.
     Text,

@@ -12,7 +12,7 @@ use bolt_format::{Sink, SinkFault};
 use itoa::Buffer;
 
 /// A piece of a text.
-#[derive(Clone, Copy, Debug, PartialEq, Eq)]
+#[derive(Clone, Copy)]
 pub(crate) enum Piece<'a> {
     /// Bytes as they are.
     Bytes(&'a [u8]),
@@ -35,7 +35,7 @@ pub(crate) enum Piece<'a> {
 }
 
 /// How the parts of a path are written in hexadecimal.
-#[derive(Clone, Copy, Debug, PartialEq, Eq)]
+#[derive(Clone, Copy)]
 pub(crate) enum PathForm {
     /// As they are, joined by slashes.
     Slashes,

@@ -1,8 +1,8 @@
 //! A command whose standard output, copy or standard error fails at each byte, or at each call.
 
 use crate::fault::Fault;
-use crate::halting::{Halting, Refusal};
 use crate::runs::{Ran, job_of, status_of};
+use crate::sinks::{Halting, Refusal};
 use bolt_cli::Job;
 use bolt_format::{MemSink, Sink, WriteSink};
 use std::alloc::Global;

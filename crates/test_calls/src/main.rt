@@ -41,9 +41,7 @@ mod cursors;
 mod deeds;
 mod failures;
 mod fault;
-mod halting;
 mod jobs;
-mod listings;
 mod numbers;
 mod pagers;
 mod recoveries;
@@ -124,8 +122,8 @@ fn result_of(alloc: Global, verb: &str, file: &[u8], words: &[String]) -> Result
         "begins" => cursors::run_prefixes(alloc, file, words),
         "under" => walks::look_ups(alloc, file, words),
         "walk" => walks::members(alloc, file, words),
-        "listed" => listings::listed(alloc, file, words),
-        "keys" => listings::keys_in(alloc, file, words),
+        "listed" => walks::listed(alloc, file, words),
+        "keys" => walks::keys_in(alloc, file, words),
         "depths" => walks::depths(alloc, file, words),
         "recovered" => recoveries::recovered(alloc, file, words),
         "found" => recoveries::found(alloc, file, words),

@@ -1,11 +1,11 @@
-//! Walks over a file, and what is under a key.
+//! What a file holds: walks, listings, keys, and what is under a key.
 
 use crate::fault::Fault;
 use crate::words::{bucket_at, bytes_of, keys_of, push_word, slices_of};
 use bolt_check::check;
 use bolt_format::{MemSink, Sink};
 use bolt_load::ListingText;
-use bolt_report::{ListForm, MemberLines, ReportFault};
+use bolt_report::{Form, ListForm, MemberLines, ReportFault, keys, list};
 use bolt_tree::{Members, Walk};
 use std::alloc::Global;
 
@@ -103,4 +103,29 @@ pub fn look_ups(alloc: Global, file: &[u8], words: &[String]) -> Result<Vec<u8>,
         }
     }
     Ok(line)
+}
+
+/// The listing from the path that the first word is.
+pub fn listed(alloc: Global, file: &[u8], words: &[String]) -> Result<Vec<u8>, Fault> {
+    let [from, ..] = words else {
+        return Err(Fault::Unread);
+    };
+    let checked = check(alloc, file)?;
+    let parts = keys_of(alloc, from.as_bytes())?;
+    let from = slices_of(alloc, parts.as_slice())?;
+    let mut sink = MemSink::new(alloc);
+    list(alloc, checked, from.as_slice(), &mut sink)?;
+    Ok(sink.bytes().to_vec(alloc)?)
+}
+
+/// The keys of the bucket at a path, in hexadecimal.
+pub fn keys_in(alloc: Global, file: &[u8], words: &[String]) -> Result<Vec<u8>, Fault> {
+    let [path, ..] = words else {
+        return Err(Fault::Unread);
+    };
+    let checked = check(alloc, file)?;
+    let bucket = bucket_at(alloc, checked, path.as_bytes())?;
+    let mut sink = MemSink::new(alloc);
+    keys(alloc, &bucket, Form::Hex, &mut sink)?;
+    Ok(sink.bytes().to_vec(alloc)?)
 }

@@ -2,7 +2,7 @@ use Rattle.std.proofs.Common.{◌∙◌, ◌++◌, List, map, take, ap, ap₂, a
 use Rattle.std.proofs.lemmas.Simd.{map-map}
 use Rattle.bolt_cli.proofs.Vocabulary.{IsCommand, Rule, choice_view, command_with, operand_rule, operand_view, option_rule, take_all}
 use Rattle.bolt_cli.proofs.CommandLineLemmas.{argument_added, made_more}
-use Rattle.bolt_cli.specs.{declared.options.Choice.Choice, declared.options.Operand.Operand}
+use Rattle.bolt_cli.specs.{declared.command_line.Choice.Choice, declared.command_line.Operand.Operand}
 use Rattle.bolt_cli.proofs.command_line.command.Goals as goal
 
 abbrev rule_of_operand : Operand → Rule

@@ -1,38 +1,8 @@
-//! The operands and options of the commands, and their help.
+//! The commands that only read: which operands and options each has, and their help.
+ghost use Rattle.std.specs.Prelude.{◌≡◌, take, map};
+ghost use Rattle.bolt_cli.specs.{PlainWords.syntaxes, Syntaxes.syntax_view};
 
-/// An operand of a command.
-#[derive(Clone, Copy, Debug)]
-pub(crate) struct Operand {
-    pub name: &'static str,
-    /// What help calls it.
-    pub shown: &'static str,
-    /// Whether it is one word, or as many as follow.
-    pub several: bool,
-    pub required: bool,
-    pub help: &'static str,
-}
-
-/// How an option is written.
-#[derive(Clone, Copy, Debug)]
-pub(crate) enum Flag {
-    /// As `--name`.
-    Long(&'static str),
-    /// By one letter, as `-o`.
-    Short(char),
-    /// In either way, as `-n` or `--no-newline`.
-    Both(char, &'static str),
-}
-
-/// An option of a command.
-#[derive(Clone, Copy, Debug)]
-pub(crate) struct Choice {
-    pub name: &'static str,
-    pub flag: Flag,
-    /// The name of its value in help, if it has one.
-    pub value: Option<&'static str>,
-    pub help: &'static str,
-    pub required: bool,
-}
+use crate::command_line::{Choice, Flag, Operand, Syntax};
 
 pub(crate) const FILE: Operand = Operand {
     name: "FILE",
@@ -42,15 +12,7 @@ pub(crate) const FILE: Operand = Operand {
     help: "The database file, which is never written to",
 };
 
-pub(crate) const LISTING: Operand = Operand {
-    name: "FILE",
-    shown: "FILE",
-    several: false,
-    required: true,
-    help: "The lines of a listing, as list prints them",
-};
-
-pub(crate) const ID: Operand = Operand {
+const ID: Operand = Operand {
     name: "ID",
     shown: "ID",
     several: false,
@@ -58,7 +20,7 @@ pub(crate) const ID: Operand = Operand {
     help: "The page number, in decimal",
 };
 
-pub(crate) const BUCKET_PART: Operand = Operand {
+const BUCKET_PART: Operand = Operand {
     name: "PART",
     shown: "BUCKET",
     several: true,
@@ -66,7 +28,7 @@ pub(crate) const BUCKET_PART: Operand = Operand {
     help: "The path to the bucket: the names of buckets, from the root bucket down",
 };
 
-pub(crate) const KEY_PART: Operand = Operand {
+const KEY_PART: Operand = Operand {
     name: "PART",
     shown: "KEY",
     several: true,
@@ -74,7 +36,7 @@ pub(crate) const KEY_PART: Operand = Operand {
     help: "The path to the key: the names of buckets, from the root bucket down, and then the key",
 };
 
-pub(crate) const BUCKET_IN: Operand = Operand {
+const BUCKET_IN: Operand = Operand {
     name: "PART",
     shown: "BUCKET",
     several: true,
@@ -82,7 +44,7 @@ pub(crate) const BUCKET_IN: Operand = Operand {
     help: "The path to a bucket: the names of buckets, from the root bucket down [default: the root bucket]",
 };
 
-pub(crate) const FORM: Choice = Choice {
+const FORM: Choice = Choice {
     name: "form",
     flag: Flag::Long("form"),
     value: Some("F"),
@@ -90,7 +52,7 @@ pub(crate) const FORM: Choice = Choice {
     required: false,
 };
 
-pub(crate) const LIST_FORM: Choice = Choice {
+const LIST_FORM: Choice = Choice {
     name: "form",
     flag: Flag::Long("form"),
     value: Some("F"),
@@ -98,7 +60,7 @@ pub(crate) const LIST_FORM: Choice = Choice {
     required: false,
 };
 
-pub(crate) const FIGURE_FORM: Choice = Choice {
+const FIGURE_FORM: Choice = Choice {
     name: "form",
     flag: Flag::Long("form"),
     value: Some("F"),
@@ -106,7 +68,7 @@ pub(crate) const FIGURE_FORM: Choice = Choice {
     required: false,
 };
 
-pub(crate) const SIZES: Choice = Choice {
+const SIZES: Choice = Choice {
     name: "sizes",
     flag: Flag::Long("sizes"),
     value: None,
@@ -114,7 +76,7 @@ pub(crate) const SIZES: Choice = Choice {
     required: false,
 };
 
-pub(crate) const PREFIX: Choice = Choice {
+const PREFIX: Choice = Choice {
     name: "prefix",
     flag: Flag::Long("prefix"),
     value: Some("K"),
@@ -122,7 +84,7 @@ pub(crate) const PREFIX: Choice = Choice {
     required: false,
 };
 
-pub(crate) const NO_NEWLINE: Choice = Choice {
+const NO_NEWLINE: Choice = Choice {
     name: "no-newline",
     flag: Flag::Both('n', "no-newline"),
     value: None,
@@ -130,7 +92,7 @@ pub(crate) const NO_NEWLINE: Choice = Choice {
     required: false,
 };
 
-pub(crate) const PARTS: Choice = Choice {
+const PARTS: Choice = Choice {
     name: "parts",
     flag: Flag::Long("parts"),
     value: Some("P"),
@@ -138,7 +100,7 @@ pub(crate) const PARTS: Choice = Choice {
     required: false,
 };
 
-pub(crate) const FROM: Choice = Choice {
+const FROM: Choice = Choice {
     name: "from",
     flag: Flag::Long("from"),
     value: Some("HEXPATH"),
@@ -162,7 +124,7 @@ pub(crate) const ASSUME_META: Choice = Choice {
     required: false,
 };
 
-pub(crate) const INFO_META: Choice = Choice {
+const INFO_META: Choice = Choice {
     name: "meta",
     flag: Flag::Long("meta"),
     value: Some("M"),
@@ -170,55 +132,7 @@ pub(crate) const INFO_META: Choice = Choice {
     required: false,
 };
 
-pub(crate) const OUTPUT: Choice = Choice {
-    name: "output",
-    flag: Flag::Short('o'),
-    value: Some("OUT"),
-    help: "The database file to write; it must not exist",
-    required: true,
-};
-
-pub(crate) const PAGE_SIZE: Choice = Choice {
-    name: "page-size",
-    flag: Flag::Long("page-size"),
-    value: Some("N"),
-    help: "The copy's page size in bytes, a power of two from 1024 to 33554432 [default: the file's]",
-    required: false,
-};
-
-pub(crate) const LOAD_PAGE_SIZE: Choice = Choice {
-    name: "page-size",
-    flag: Flag::Long("page-size"),
-    value: Some("N"),
-    help: "The database's page size in bytes, a power of two from 1024 to 33554432 [default: 4096]",
-    required: false,
-};
-
-pub(crate) const SEQUENCE: Choice = Choice {
-    name: "sequence",
-    flag: Flag::Long("sequence"),
-    value: Some("S"),
-    help: "The sequence of the root bucket, in decimal [default: 0]",
-    required: false,
-};
-
-pub(crate) const FOR_BBOLT: Choice = Choice {
-    name: "for-bbolt",
-    flag: Flag::Long("for-bbolt"),
-    value: None,
-    help: "Give each branch page at least two children, so that bbolt can write to OUT",
-    required: false,
-};
-
-pub(crate) const COPY_SNAPSHOT: Choice = Choice {
-    name: "etcd-snapshot",
-    flag: Flag::Long("etcd-snapshot"),
-    value: None,
-    help: "Write a snapshot that etcd restores: as with --for-bbolt, and then the SHA-256 of that",
-    required: false,
-};
-
-pub(crate) const CHECK_SNAPSHOT: Choice = Choice {
+const CHECK_SNAPSHOT: Choice = Choice {
     name: "etcd-snapshot",
     flag: Flag::Long("etcd-snapshot"),
     value: None,
@@ -226,7 +140,7 @@ pub(crate) const CHECK_SNAPSHOT: Choice = Choice {
     required: false,
 };
 
-pub(crate) const MAP: Choice = Choice {
+const MAP: Choice = Choice {
     name: "map",
     flag: Flag::Long("map"),
     value: None,
@@ -234,7 +148,7 @@ pub(crate) const MAP: Choice = Choice {
     required: false,
 };
 
-pub(crate) const ALL: Choice = Choice {
+const ALL: Choice = Choice {
     name: "all",
     flag: Flag::Long("all"),
     value: None,
@@ -242,7 +156,7 @@ pub(crate) const ALL: Choice = Choice {
     required: false,
 };
 
-pub(crate) const LOST_AND_FOUND: Choice = Choice {
+const LOST_AND_FOUND: Choice = Choice {
     name: "lost-and-found",
     flag: Flag::Long("lost-and-found"),
     value: None,
@@ -266,7 +180,77 @@ pub(crate) const JOIN: Choice = Choice {
     required: false,
 };
 
-pub(crate) const COPY_NOTE: &str =
-    "Use --for-bbolt if bbolt or etcd will write to OUT. bbolt assumes that \
-    each branch page has at least two children, and can panic when it deletes below one that has a \
-    single child. Without the option OUT may have such pages.";
+/// The commands that only read, in the order of help. There are two tables, since the check of one
+/// table of all commands would pass the prover's limits.
+static READING: [Syntax; 9] = [
+    Syntax {
+        name: "info",
+        about: "Print the active meta: page size, transaction id, root, freelist, high-water mark",
+        operands: &[FILE],
+        options: &[FIGURE_FORM, INFO_META],
+        note: None,
+    },
+    Syntax {
+        name: "page",
+        about: "Print one page: its type and its items, keys and values in hex",
+        operands: &[FILE, ID],
+        options: &[ASSUME_META],
+        note: None,
+    },
+    Syntax {
+        name: "pages",
+        about: "Print what each page is for, and count free pages past the end of the file",
+        operands: &[FILE],
+        options: &[MAP],
+        note: None,
+    },
+    Syntax {
+        name: "check",
+        about: "Check whether the file is sound; if it isn't, print what is wrong",
+        operands: &[FILE],
+        options: &[ALL, LOST_AND_FOUND, CHECK_SNAPSHOT, META, ASSUME_META],
+        note: None,
+    },
+    Syntax {
+        name: "buckets",
+        about: "Print the names of the buckets in a bucket",
+        operands: &[FILE, BUCKET_IN],
+        options: &[SIZES, FORM, PARTS, META, ASSUME_META],
+        note: None,
+    },
+    Syntax {
+        name: "keys",
+        about: "Print the keys of a bucket, and the names of the buckets in it",
+        operands: &[FILE, BUCKET_PART],
+        options: &[PREFIX, FORM, PARTS, META, ASSUME_META],
+        note: None,
+    },
+    Syntax {
+        name: "get",
+        about: "Print the value of a key",
+        operands: &[FILE, KEY_PART],
+        options: &[NO_NEWLINE, FORM, PARTS, META, ASSUME_META],
+        note: None,
+    },
+    Syntax {
+        name: "stats",
+        about: "Print figures of all buckets, or of one and all in it: their number, keys, depth and pages",
+        operands: &[FILE, BUCKET_IN],
+        options: &[FIGURE_FORM, PARTS, META, ASSUME_META],
+        note: None,
+    },
+    Syntax {
+        name: "list",
+        about: "Print everything in the file or in a bucket, one line for each path, in hex or as JSON",
+        operands: &[FILE, BUCKET_IN],
+        options: &[FROM, LIST_FORM, PARTS, RECOVER, JOIN, META, ASSUME_META],
+        note: None,
+    },
+];
+
+/// The first commands, in the order of help.
+pub(crate) fn reading() -> &'static [Syntax]
+    ensures { map syntax_view result.now ≡ take 9 syntaxes }
+{
+    &READING
+}
