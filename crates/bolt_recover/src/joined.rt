@@ -4,9 +4,9 @@ ghost use Rattle.std.specs.Prelude.{◌≡◌, ◌≢◌, ◌<◌, ◌*◌, ◌^
 ghost use Rattle.bolt_check.specs.declared.fault.Finding.{Finding};
 ghost use Rattle.bolt_tree.specs.Paths.{path_of};
 ghost use Rattle.bolt_recover.specs.{Found.numbers_of, Joined.IsJoined, Joined.LacksBucketKey, Joined.lost_and_found, JoinRefusals.IsJoinRefusal};
-ghost use Rattle.bolt_recover.specs.{Losses.everything, LostAndFound.all_lost, Private.Joining.AreJoinable, Private.Joining.IsHeldWell, Private.Joining.first_cmp};
+ghost use Rattle.bolt_recover.specs.{Losses.everything, LostAndFound.all_lost, Private.Joining.AreJoinable, Private.Joining.IsHeldWell};
 ghost use Rattle.bolt_recover.specs.Private.KeptMembers.{HasSameFile, IsWhole, kept_file, kept_meta};
-ghost use Rattle.bolt_recover.specs.Recovered.{ForRecovered};
+ghost use Rattle.bolt_recover.specs.{Private.Joining.first_cmp, Recovered.ForRecovered};
 ghost use Rattle.bolt_recover.specs.declared.joined.JoinFault.TheVariants as faults;
 ghost use Rattle.bolt_recover.specs.declared.joined.Stage.TheVariants as stages;
 
