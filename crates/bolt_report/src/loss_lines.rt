@@ -1,4 +1,4 @@
-//! The lines of what is lost of a damaged file.
+//! The lines of what is lost of a damaged file, and of what is found in it though nothing leads to it.
 ghost use Rattle.std.specs.Prelude.{◌≡◌, ◌++◌, map, ◌≤◌};
 ghost use Rattle.std.specs.List.{All};
 ghost use Rattle.bolt_format.specs.{Endings.ending, Wrote.Wrote, Shown.shown};
