@@ -6,7 +6,7 @@ use Rattle.bolt_check.specs.declared.fault.CheckFault.TheVariants as check
 use Rattle.bolt_snapshot.specs.declared.hash_check.SnapshotFault.{SnapshotFault}
 use Rattle.bolt_snapshot.proofs.SnapshotLemmas.{no_fault_iff}
 use Rattle.bolt_recover.specs.Surveys.{Has, IsSurvey, Visit}
-use Rattle.bolt_cli.specs.declared.choices.Extent.TheVariants.{LostAndFound}
+use Rattle.bolt_job.specs.declared.choices.Extent.TheVariants.{LostAndFound}
 use Rattle.bolt_cli.specs.declared.failure.Failure.TheVariants as failure
 use Rattle.bolt_cli.proofs.SoundReads.{NamesOne, keeps_not_loses, unread, unrecovered}
 

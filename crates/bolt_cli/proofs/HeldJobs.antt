@@ -1,8 +1,8 @@
 -- What a job does, whatever its standard output and its target are.
 use Rattle.std.proofs.Common.{◌≡◌, ◌<◌, ◌∙◌, ap, inl, inr, ℕ, List, [], Option, None, Some, Bool, length, refl, subst, sym}
 use Rattle.bolt_cli.proofs.Vocabulary.{Answer, Does, DoesJob, Ending, Extent, First, Ghosts, Job, Layout, Losses, MakesCopy, Member, Meta, MetaChoice, PageSize, WritesCopy, copy_page_size, copy_report, done, hash_differs, held_failures, held_of, held_text, layout_of_listing, lengths_line, parts, target_name, text_members}
-use Rattle.bolt_cli.specs.declared.choices.Extent.TheVariants.{LostAndFound}
-use Rattle.bolt_cli.specs.declared.job.Job.TheVariants as job
+use Rattle.bolt_job.specs.declared.choices.Extent.TheVariants.{LostAndFound}
+use Rattle.bolt_job.specs.declared.job.Job.TheVariants as job
 
 module _ {O T : Type 0} (out_taken : O → Option (List ℕ)) (out_failed : O → ℕ) (out_old out_new : O)
     (target_taken : T → Option (List ℕ)) (target_failed : T → ℕ) (target_old target_new : T) where

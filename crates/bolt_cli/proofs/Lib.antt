@@ -1,5 +1,4 @@
 pub mod AtPaths
-pub mod CommandLineLemmas
 pub mod CopyAnswers
 pub mod CopyChecks
 pub mod CutTexts
@@ -15,12 +14,9 @@ pub mod ListedBuckets
 pub mod ListedLoads
 pub mod LoadAnswers
 pub mod LossAnswers
-pub mod MixedParts
 pub mod NeededBytes
 pub mod Ordering
 pub mod PageAnswers
-pub mod PageSizes
-pub mod PathReading
 pub mod ReadFiles
 pub mod RestAnswers
 pub mod SnapshotCopies

@@ -25,18 +25,21 @@ use Rattle.bolt_report.specs.{declared.form.Form.TheVariants.Json, declared.form
 use Rattle.bolt_tree.specs.Entries.{AreEntries, IsEntry, Item, Root_page, Start, Value, start_of}
 use Rattle.bolt_tree.specs.{Listing.IsListing, Listing.Member, Listing.rest_from, ListingParts.bucket_part, ListingParts.has_bucket}
 use Rattle.bolt_tree.specs.Paths.{Holds, Names, Path}
-use Rattle.bolt_cli.specs.{CopyKinds.is_snapshot, CopyKinds.layout_for, Failures.IsFailureOf, Failures.failure_line, Failures.unjoined, Failures.unloaded}
+use Rattle.bolt_job.specs.CopyKinds.{is_snapshot, layout_for}
+use Rattle.bolt_cli.specs.Failures.{IsFailureOf, failure_line, unjoined, unloaded}
 use Rattle.bolt_cli.specs.{FileFaults.AreFileFaults, FileFaults.errors_in, FileFaults.fault_lines, FileFaults.is_fine, GoodCopies.IsGoodCopy}
-use Rattle.bolt_cli.specs.MetaChoices.{HasNoMetaOf, IsMetaOf, assumed_for}
-use Rattle.bolt_cli.specs.{SnapshotAnswers.copy_of, SnapshotAnswers.differing_line, SnapshotAnswers.hash_differs, declared.choices.Extent.Extent}
-use Rattle.bolt_cli.specs.declared.choices.Extent.TheVariants.{First, LostAndFound, Losses}
+use Rattle.bolt_job.specs.MetaChoices.{HasNoMetaOf, IsMetaOf, assumed_for}
+use Rattle.bolt_cli.specs.SnapshotAnswers.{copy_of, differing_line, hash_differs}
+use Rattle.bolt_job.specs.declared.choices.Extent.{Extent}
+use Rattle.bolt_job.specs.declared.choices.Extent.TheVariants.{First, LostAndFound, Losses}
 use Rattle.bolt_cli.specs.declared.failure.Failure.{Failure}
 use Rattle.bolt_cli.specs.declared.failure.Failure.TheVariants as failure
-use Rattle.bolt_cli.specs.{declared.file_faults.FileFaults.FileFaults, declared.job.Job.Job}
-use Rattle.bolt_cli.specs.declared.job.Job.TheVariants as job
-use Rattle.bolt_cli.specs.declared.choices.MetaChoice.{MetaChoice}
-use Rattle.bolt_cli.specs.declared.choices.MetaChoice.TheVariants.{Active, Assumed, InSlot}
-use Rattle.bolt_cli.specs.{declared.choices.PageSize.PageSize, PlainWords.path_in}
+use Rattle.bolt_cli.specs.declared.file_faults.FileFaults.{FileFaults}
+use Rattle.bolt_job.specs.declared.job.Job.{Job}
+use Rattle.bolt_job.specs.declared.job.Job.TheVariants as job
+use Rattle.bolt_job.specs.declared.choices.MetaChoice.{MetaChoice}
+use Rattle.bolt_job.specs.declared.choices.MetaChoice.TheVariants.{Active, Assumed, InSlot}
+use Rattle.bolt_job.specs.{declared.choices.PageSize.PageSize, PlainWords.path_in}
 use Rattle.bolt_layout.specs.declared.layout.Layout.{Layout}
 
 -- How a job ends: with a status, or with a failure that is reported.

@@ -4,10 +4,12 @@ use Rattle.bolt_format.specs.{Metas.HasSlotFault, Metas.IsChosen, Metas.IsInSlot
 use Rattle.bolt_format.specs.declared.meta.Slot.{Slot}
 use Rattle.bolt_report.specs.{FaultWords.snapshot_fault_text, MetaLines.slot_fault_text}
 use Rattle.bolt_snapshot.specs.declared.hash_check.SnapshotFault.{SnapshotFault}
-use Rattle.bolt_cli.specs.{SnapshotAnswers.hash_found, declared.choices.Extent.Extent}
-use Rattle.bolt_cli.specs.declared.choices.Extent.TheVariants.{First, LostAndFound, Losses}
-use Rattle.bolt_cli.specs.{declared.file_faults.FileFaults.FileFaults, declared.choices.MetaChoice.MetaChoice}
-use Rattle.bolt_cli.specs.declared.choices.MetaChoice.TheVariants.{Active, Assumed, InSlot}
+use Rattle.bolt_cli.specs.SnapshotAnswers.{hash_found}
+use Rattle.bolt_job.specs.declared.choices.Extent.{Extent}
+use Rattle.bolt_job.specs.declared.choices.Extent.TheVariants.{First, LostAndFound, Losses}
+use Rattle.bolt_cli.specs.declared.file_faults.FileFaults.{FileFaults}
+use Rattle.bolt_job.specs.declared.choices.MetaChoice.{MetaChoice}
+use Rattle.bolt_job.specs.declared.choices.MetaChoice.TheVariants.{Active, Assumed, InSlot}
 
 -- ---- what it is
 

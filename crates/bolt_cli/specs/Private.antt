@@ -1,6 +1,5 @@
 -- What private contracts and proofs cite, and no public one.
 pub mod Checks
-pub mod CommandLines
 pub mod Copying
 pub mod Endings
 pub mod Opened

@@ -3,17 +3,19 @@ use Rattle.std.specs.Prelude.{◌≡◌, ◌⊎◌, ℕ, zero, suc, List, [], �
 use Rattle.std.specs.Io.KnownBytes.{Appends, IsAtEnd}
 use Rattle.bolt_format.specs.Sinks.{AppendsPrefix}
 use Rattle.bolt_cli.specs.Answers.{DoesJob, Ending, error_text}
-use Rattle.bolt_cli.specs.CommandLine.{Asks, IsRefusedBy, asked_by, program}
-use Rattle.bolt_cli.specs.{Deeds.Deed, Deeds.Read, Deeds.Made, Deeds.Ended, Deeds.Opened, Deeds.Closed, Deeds.Said, Failures.failure_line, LineWords.Text}
-use Rattle.bolt_cli.specs.{Needs.needs_metas_alone, PlainWords.file_name, PlainWords.target_name, Sources.is_changed}
-use Rattle.bolt_cli.specs.{declared.failure.Failure.TheVariants.Memory, declared.failure.Failure.TheVariants.Write, declared.job.Job.Job}
-use Rattle.bolt_cli.specs.declared.job.Refusal.{Refusal}
-use Rattle.bolt_cli.specs.declared.job.Refusal.TheVariants as refusal
+use Rattle.bolt_job.specs.CommandLine.{Asks, IsRefusalOf}
+use Rattle.bolt_cli.specs.{Deeds.Deed, Deeds.Read, Deeds.Made, Deeds.Ended, Deeds.Opened, Deeds.Closed, Deeds.Said, Failures.failure_line}
+use Rattle.bolt_job.specs.LineWords.{Text}
+use Rattle.bolt_job.specs.{Needs.needs_metas_alone, PlainWords.file_name, PlainWords.target_name}
+use Rattle.bolt_cli.specs.Sources.{is_changed}
+use Rattle.bolt_cli.specs.declared.failure.Failure.TheVariants.{Memory, Write}
+use Rattle.bolt_job.specs.declared.job.Job.{Job}
+use Rattle.bolt_job.specs.declared.job.Refusal.{Refusal}
+use Rattle.bolt_job.specs.declared.job.Refusal.TheVariants as refusal
 use Rattle.bolt_cli.specs.declared.outside.CreateFault.{CreateFault}
 use Rattle.bolt_cli.specs.declared.outside.CreateFault.TheVariants as create
 use Rattle.bolt_cli.specs.{declared.outside.EndFault.EndFault, declared.outside.OutputFault.OutputFault}
 use Rattle.bolt_cli.specs.{declared.outside.OutputFault.TheVariants.ReaderLeft, declared.outside.OutputFault.TheVariants.Failed, declared.outside.Source.Source}
-use Rattle.clap.specs.Words.{fault_of}
 
 -- ---- lines for standard error
 
@@ -167,4 +169,4 @@ module _ {T O : Type 0} (target_taken : T → Option (List ℕ)) (target_failed 
   abbrev pub IsRun : List Text → List (Deed T O) → ℕ → Type 0
   IsRun words deeds code =
       ((job : Job) × Asks words job × Reads 3 job deeds code)
-      ⊎ ((refusal : Refusal) × IsRefusedBy (fault_of program words) (asked_by words) refusal × Refuses refusal deeds code)
+      ⊎ ((refusal : Refusal) × IsRefusalOf words refusal × Refuses refusal deeds code)

@@ -6,13 +6,14 @@ ghost use Rattle.bolt_report.specs.ReportEndings.{report_ending};
 ghost use Rattle.bolt_tree.specs.{Buckets.bucket_checked, Buckets.bucket_start, BucketViews.entries_of, Entries.Start, Entries.Value, EntriesLeft.ForEntries};
 ghost use Rattle.bolt_cli.specs.Answers.{AddsEntry, HasStats, HoldsIn, HoldsNone, IsTotal, LeadsTo, no_stats, value_shown};
 ghost use Rattle.bolt_cli.specs.Private.Printing.{IsBucketsPrint, IsGetPrint, IsKeysPrint, IsStatsPrint, PrintsAnswer};
-ghost use Rattle.bolt_cli.specs.{PlainWords.path_in, declared.failure.Failure.TheVariants.Memory, declared.failure.Failure.TheVariants.NoBucket};
+ghost use Rattle.bolt_job.specs.PlainWords.{path_in};
+ghost use Rattle.bolt_cli.specs.declared.failure.Failure.TheVariants.{Memory, NoBucket};
 
 use crate::failure::{Failure, Outcome, ended, written};
-use crate::job::{BucketsJob, GetJob, KeysJob, StatsJob};
 use crate::opening::{Input, open_bucket};
 use bolt_check::{Checked, NoMemory};
 use bolt_format::Sink;
+use bolt_job::{BucketsJob, GetJob, KeysJob, StatsJob};
 use bolt_report::{
     Form, ReportFault, Stats, add, buckets, item, keys_with_prefix, sizes, stats, stats_text, value,
 };

@@ -8,13 +8,12 @@ ghost use Rattle.bolt_report.specs.FoundLines.{IsFoundLeaf, found_view};
 ghost use Rattle.bolt_cli.specs.Private.{Checks.ChecksTo, Printing.PrintsAnswer};
 ghost use Rattle.bolt_check.specs.declared.fault.CheckFault.TheVariants as check;
 
-use crate::choices::{Extent, MetaChoice};
 use crate::failure::{Failure, Outcome};
 use crate::file_faults::{FileFaults, put_file_faults};
-use crate::job::CheckJob;
 use crate::opening::Input;
 use bolt_check::{CheckFault, Finding, NoMemory};
 use bolt_format::{Meta, MetaFault, Sink};
+use bolt_job::{CheckJob, Extent, MetaChoice};
 use bolt_recover::{Found, Lost, LostAndFound, Recovery};
 use bolt_report::{counted_lost_text, findings_text};
 use std::slice;

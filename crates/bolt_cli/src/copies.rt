@@ -4,12 +4,13 @@ ghost use Rattle.std.specs.Prelude.{◌≡◌, ℕ, List, IsOk, OnOk, true, Opti
 ghost use Rattle.std.specs.Borrow.{GName};
 ghost use Rattle.bolt_bulk.specs.{Compacting.Copies, WholeListings.IsWhole};
 ghost use Rattle.bolt_tree.specs.Listing.{Member};
-ghost use Rattle.bolt_cli.specs.{CopyEnds.EndsCopy, CopyKinds.is_snapshot, Hashes.HashesSince, Private.Copying.CopiesTo, Private.Copying.shaped_layout};
+ghost use Rattle.bolt_cli.specs.{CopyEnds.EndsCopy, Hashes.HashesSince, Private.Copying.CopiesTo, Private.Copying.shaped_layout};
+ghost use Rattle.bolt_job.specs.CopyKinds.{is_snapshot};
 
-use crate::choices::CopyKind;
 use crate::copy_source::{Copied, CopySource, sources_have_good_copies};
 use bolt_bulk::{BulkFault, Shape};
 use bolt_format::{Sink, SinkFault};
+use bolt_job::CopyKind;
 use bolt_snapshot::HASH_LEN;
 use sha2::{Digest, Sha256};
 use std::alloc::Global;

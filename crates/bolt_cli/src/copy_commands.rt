@@ -2,17 +2,17 @@
 ghost use Rattle.std.specs.Prelude.{◌≡◌};
 ghost use Rattle.bolt_format.specs.Metas.{IsPageSize};
 ghost use Rattle.bolt_cli.specs.Private.Copying.{CompactsTo, LoadsJob, IsAskedShape};
-ghost use Rattle.bolt_cli.specs.{CopyKinds.is_snapshot, SnapshotAnswers.hash_differs};
+ghost use Rattle.bolt_job.specs.CopyKinds.{is_snapshot};
+ghost use Rattle.bolt_cli.specs.SnapshotAnswers.{hash_differs};
 
-use crate::choices::Extent;
 use crate::copies::copy_members;
 use crate::copy_report::{CopyReport, end_copy};
 use crate::failure::{Failure, Outcome};
-use crate::job::{CompactJob, LoadJob};
 use crate::opening::{Input, join};
 use bolt_bulk::Shape;
 use bolt_bulk::laws::{a_recovery_is_whole, a_walk_is_whole, joined_members_are_whole};
 use bolt_format::{Meta, Sink};
+use bolt_job::{CompactJob, Extent, LoadJob};
 use bolt_load::ListingText;
 use bolt_load::laws::a_text_is_of_one_tree;
 use bolt_recover::Lost;

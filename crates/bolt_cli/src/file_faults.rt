@@ -4,9 +4,8 @@ ghost use Rattle.bolt_format.specs.{Endings.ending, Wrote.Wrote};
 ghost use Rattle.bolt_cli.specs.FileFaults.{AreFileFaults, IsMetasFault, IsOtherFault, counted, errors_in, fault_lines, hash_lines, other_lines};
 ghost use Rattle.bolt_cli.specs.SnapshotAnswers.{hash_found};
 
-use crate::choices::{Extent, MetaChoice};
-use crate::job::CheckJob;
 use bolt_format::{MetaFault, Sink, SinkFault, Slot, choose, slot_meta};
+use bolt_job::{CheckJob, Extent, MetaChoice};
 use bolt_report::{slot_fault_text, snapshot_fault_text};
 use bolt_snapshot::{SnapshotFault, snapshot_fault};
 

@@ -4,19 +4,20 @@ ghost use Rattle.bolt_check.specs.Sound.{HasSoundTrees};
 ghost use Rattle.bolt_format.specs.{Metas.IsMetasEnd, declared.meta.Meta.Meta};
 ghost use Rattle.bolt_layout.specs.{Copies.IsOfOneTree, declared.layout.Layout.Layout};
 ghost use Rattle.hex.specs.Hex.{IsBytes};
-ghost use Rattle.bolt_report.specs.{Forms.is_printable, Forms.item_text, declared.form.ListForm.ListForm};
+ghost use Rattle.bolt_report.specs.declared.form.ListForm.{ListForm};
 ghost use Rattle.bolt_tree.specs.{Listing.IsListing, Listing.Member, Paths.Path};
 ghost use Rattle.bolt_cli.specs.Answers.{Answer, DoesJob, Ending, IsCheckAnswer, IsListedAnswer, IsReadUnder, Loads, LoadsListing, MakesCopy, done, refused};
-ghost use Rattle.bolt_cli.specs.{GoodCopies.HasGoodCopies, GoodCopies.IsGoodCopy, MetaChoices.IsMetaOf, Needs.needs_metas_alone, PathWords.part_of};
-ghost use Rattle.bolt_cli.specs.{SnapshotAnswers.copy_of, SnapshotAnswers.hash_differs, declared.choices.Extent.Extent, declared.job.Job.Job};
-ghost use Rattle.bolt_cli.specs.{declared.choices.MetaChoice.MetaChoice, declared.choices.PageSize.PageSize, Deeds.Deed, Orders.IsInOrder, Orders.Reading};
+ghost use Rattle.bolt_cli.specs.GoodCopies.{HasGoodCopies, IsGoodCopy};
+ghost use Rattle.bolt_job.specs.{MetaChoices.IsMetaOf, Needs.needs_metas_alone};
+ghost use Rattle.bolt_cli.specs.SnapshotAnswers.{copy_of, hash_differs};
+ghost use Rattle.bolt_job.specs.{declared.choices.Extent.Extent, declared.job.Job.Job};
+ghost use Rattle.bolt_job.specs.{declared.choices.MetaChoice.MetaChoice, declared.choices.PageSize.PageSize};
+ghost use Rattle.bolt_cli.specs.{Deeds.Deed, Orders.IsInOrder, Orders.Reading};
 ghost use Rattle.bolt_cli.specs.Runs.{IsRun};
-ghost use Rattle.bolt_report.specs.declared.form.Form.TheVariants as Form;
 ghost use Rattle.bolt_report.specs.declared.form.ListForm.TheVariants as form;
-ghost use Rattle.bolt_cli.specs.declared.path_words.Parts.TheVariants as Parts;
-ghost use Rattle.bolt_cli.specs.declared.choices.Extent.TheVariants as extent;
+ghost use Rattle.bolt_job.specs.declared.choices.Extent.TheVariants as extent;
 ghost use Rattle.bolt_cli.specs.declared.failure.Failure.TheVariants as failure;
-ghost use Rattle.bolt_cli.specs.declared.choices.MetaChoice.TheVariants as choice;
+ghost use Rattle.bolt_job.specs.declared.choices.MetaChoice.TheVariants as choice;
 
 use crate::outside::Outside;
 use bolt_format::Sink;
@@ -44,13 +45,6 @@ pub fn needed_bytes_are_enough<O: Sink, T: Sink>()
 {
     metas_lie_in_a_prefix();
 }
-
-/// What `--form mixed` prints of a key or a value is printable ASCII and, as a part under
-/// `--parts mixed`, that key or value.
-pub fn mixed_items_read_back()
-    ensures printable { (bytes : List ℕ) → IsBytes bytes → is_printable (item_text Form.Mixed bytes) ≡ true }
-    ensures same { (bytes : List ℕ) → IsBytes bytes → part_of Parts.Mixed (item_text Form.Mixed bytes) ≡ Ok bytes }
-{}
 
 /// The copies of a listing that is that of one tree are good: `check` accepts each, hash and all; it
 /// has the same listing; a snapshot has its hash; and each proper prefix is refused, or lacks a part

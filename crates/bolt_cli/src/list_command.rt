@@ -4,15 +4,15 @@ ghost use Rattle.bolt_recover.specs.ShownLosses.{lost_view};
 ghost use Rattle.bolt_format.specs.Wrote.{Wrote};
 ghost use Rattle.bolt_report.specs.ReportEndings.{report_ending};
 ghost use Rattle.bolt_tree.specs.{FileListings.ForListing, Listing.Member, Listing.member_cmp, Order.Rises, Paths.path_of};
-ghost use Rattle.bolt_cli.specs.{Answers.all_lost_ending, PlainWords.path_in, Private.Endings.end_of_part};
+ghost use Rattle.bolt_cli.specs.{Answers.all_lost_ending, Private.Endings.end_of_part};
+ghost use Rattle.bolt_job.specs.PlainWords.{path_in};
 ghost use Rattle.bolt_cli.specs.Private.Printing.{IsListPrint, PrintsAnswer, finds, job_part, sound_part};
 
-use crate::choices::Extent;
 use crate::failure::{Failure, Outcome, ended};
-use crate::job::ListJob;
 use crate::opening::{Input, join};
 use bolt_check::Checked;
 use bolt_format::Sink;
+use bolt_job::{Extent, ListJob};
 use bolt_recover::Lost;
 use bolt_recover::laws::{each_file_has_a_joined_listing, joined_members_rise};
 use bolt_report::{ReportFault, list_members_part, list_part};

@@ -2,15 +2,16 @@
 ghost use Rattle.std.specs.Prelude.{◌≡◌, IfErr, IfOk, []};
 ghost use Rattle.bolt_check.specs.CheckedFiles.{bytes_of, meta_of};
 ghost use Rattle.bolt_cli.specs.Answers.{IsReadUnder, IsRefusedUnder, IsRecoveredUnder, IsUnjoinedUnder, IsUnrecoverableUnder, LeadsTo};
-ghost use Rattle.bolt_cli.specs.{PlainWords.path_in, Private.Opened.HasNoBucket, Private.Opened.IsBucketOf, Private.Opened.IsJoinedOf, Private.Opened.IsSearchOf, Private.Opened.IsUnread};
+ghost use Rattle.bolt_job.specs.PlainWords.{path_in};
+ghost use Rattle.bolt_cli.specs.Private.Opened.{HasNoBucket, IsBucketOf, IsJoinedOf, IsSearchOf, IsUnread};
 ghost use Rattle.bolt_cli.specs.declared.failure.Failure.TheVariants.{NoBucket};
 ghost use Rattle.bolt_recover.specs.Recovered.{ForRecovered};
 ghost use Rattle.bolt_recover.specs.Recoveries.{recovery_file, recovery_left, recovery_losses, recovery_meta};
 ghost use Rattle.bolt_tree.specs.{Buckets.bucket_checked, Buckets.bucket_start, Entries.Start};
 
-use crate::choices::MetaChoice;
 use crate::failure::Failure;
 use bolt_check::{CheckFault, Checked, check, check_slot, check_under};
+use bolt_job::MetaChoice;
 use bolt_recover::laws::each_file_has_found_pages;
 use bolt_recover::{Joined, LostAndFound, Recovery};
 use bolt_tree::Bucket;

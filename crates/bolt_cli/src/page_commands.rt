@@ -7,10 +7,10 @@ ghost use Rattle.bolt_cli.specs.Answers.{HasNoMeta, IsCheckedAnswer, IsFileRefus
 ghost use Rattle.bolt_cli.specs.Private.Printing.{PrintsAnswer, checked_pages};
 
 use crate::failure::{Outcome, ended, written};
-use crate::job::{InfoJob, PageJob, PagesJob};
 use crate::opening::Input;
 use bolt_check::{Roles, check_roles};
 use bolt_format::{Meta, MetaFault, Sink, SinkFault, Slot, choose, slot_meta};
+use bolt_job::{InfoJob, PageJob, PagesJob};
 use bolt_report::{info, page_map, page_text, pages_table};
 
 /// Writes the figures of the meta in a slot or, without one, of the active meta.

@@ -6,11 +6,11 @@ use crate::bucket_commands::{print_buckets, print_keys, print_stats, print_value
 use crate::check_command::print_check;
 use crate::copy_commands::{write_copy, write_loaded};
 use crate::failure::{Failure, Outcome, put_failure};
-use crate::job::Job;
 use crate::list_command::print_list;
 use crate::opening::Input;
 use crate::page_commands::{print_info, print_page, print_pages};
 use bolt_format::Sink;
+use bolt_job::Job;
 use std::alloc::Global;
 
 /// How a run ended.

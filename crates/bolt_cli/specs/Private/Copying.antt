@@ -5,8 +5,9 @@ use Rattle.bolt_format.specs.{declared.meta.Meta.Meta, declared.sink.Sink.Ghosts
 use Rattle.bolt_layout.specs.Copies.{layout_of_listing}
 use Rattle.bolt_tree.specs.Listing.{Member}
 use Rattle.bolt_cli.specs.{Answers.Ending, Answers.Loads, Answers.MakesCopy, Answers.copy_page_size, CopyEnds.EndsCopy}
-use Rattle.bolt_cli.specs.{CopyKinds.is_snapshot, CopyKinds.layout_for, GoodCopies.IsGoodCopy}
-use Rattle.bolt_cli.specs.{declared.choices.Extent.Extent, declared.job.CompactJob.CompactJob, declared.job.LoadJob.LoadJob}
+use Rattle.bolt_job.specs.CopyKinds.{is_snapshot, layout_for}
+use Rattle.bolt_cli.specs.GoodCopies.{IsGoodCopy}
+use Rattle.bolt_job.specs.{declared.choices.Extent.Extent, declared.job.CompactJob.CompactJob, declared.job.LoadJob.LoadJob}
 
 module _ {O T : Type 0} (out : Ghosts O) (out_old out_new : O) (target : Ghosts T) (target_old target_new : T) where
   abbrev pub CompactsTo : Extent → CompactJob → List ℕ → Ending → Type 0

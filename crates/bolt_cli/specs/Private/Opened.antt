@@ -8,7 +8,8 @@ use Rattle.bolt_recover.specs.{JoinedMembers.joined_meta, Losses.everything, Los
 use Rattle.bolt_recover.specs.{declared.joined.Joined.Joined, declared.lost_and_found.LostAndFound.LostAndFound}
 use Rattle.bolt_tree.specs.{Buckets.bucket_checked, Buckets.bucket_start, Entries.Start, Paths.Path, declared.bucket.Bucket.Bucket}
 use Rattle.bolt_cli.specs.Answers.{IsFileRefusal, IsReadUnder, IsRefusedUnder, LeadsTo, refused}
-use Rattle.bolt_cli.specs.{MetaChoices.IsMetaOf, declared.choices.MetaChoice.MetaChoice, declared.failure.Failure.Failure}
+use Rattle.bolt_job.specs.{MetaChoices.IsMetaOf, declared.choices.MetaChoice.MetaChoice}
+use Rattle.bolt_cli.specs.declared.failure.Failure.{Failure}
 use Rattle.bolt_cli.specs.declared.failure.Failure.TheVariants.{NoBucket}
 
 -- the bucket at a path of a file that is read under this choice

@@ -1,0 +1,96 @@
+-- The command line as it is built, and what its matches say.
+use Rattle.std.proofs.Common.{◌≡◌, ◌⊎◌, ◌∙◌, List, [], ◌∷◌, ◌++◌, ℕ, ◌+◌, ◌<◌, true, false, add-one, get_or, length, map, take, refl, sym, ap, ap₂, subst, inl}
+use Rattle.std.proofs.Common.{inr, rules, ◌||◌, Option, None, Some, Result, Ok, Err, IfOk, IfErr, option_map, slice_get, unwrap_or}
+use Rattle.bolt_job.proofs.Vocabulary.{AddsArg, AddsSubcommand, App, Asked, Asks, Box, Command, Gives, HasKindOf, HasMatchesOf, Help, IsAmong, IsCommand, IsRefusedBy, Job, Kinds, Memory, Refusal, Row, Rule, Usage, Version, Word, asked, asked_by, asked_by_subcommand, asked_of, command_with, fault_of, first_of, is_simple, is_simple_and_free, map-append, option_and_then, program, rule_of, subcommand_of, subcommand_rows_of, take-suc, values_in, with_rule, with_subcommand}
+use Rattle.std.specs.Box.{box_value}
+use Rattle.clap.specs.{Words.Text, declared.parser.ArgMatches.ArgMatches}
+use Rattle.clap.specs.declared.parser.matches.ArgMatches.TheViews.{out-ArgMatches, out-SubCommand}
+use Rattle.clap.specs.{declared.parser.matches.SubCommand.SubCommand, Matches.subcommand_name_of, Simple.subcommand_rows, declared.builder.Arg.Arg}
+use Rattle.clap.specs.declared.error.ErrorKind.{ErrorKind}
+use Rattle.clap.specs.declared.error.ErrorKind.TheVariants as kind
+
+pub program_is_simple : is_simple program ≡ true
+program_is_simple = refl
+
+pub program_is_free : is_simple_and_free program ≡ true
+program_is_free = refl
+
+-- what was made of a list so far, with one more
+pub made_more : {X Y : Type 0} (f : X → Y) (xs : List X) (i : ℕ) (d : X) → i < length xs → map f (take (i + 1) xs) ≡ map f (take i xs) ++ f (get_or xs i d) ∷ []
+made_more f xs i d within = ap (λ n. map f (take n xs)) (add-one i) ∙ ap (map f) (take-suc xs i d within) ∙ map-append f (take i xs) (get_or xs i d ∷ [])
+
+-- a command with one more argument
+pub argument_added : (name : Text) (before : List Rule) (rule : Rule) (old new : Command) (arg : Arg) → IsCommand (command_with name before) old
+    → rule_of arg ≡ rule → arg.global ≡ false → AddsArg old arg new → IsCommand (command_with name (before ++ rule ∷ [])) new
+argument_added name before rule old new arg above is local adds = (
+  adds.shape local ∙ ap₂ with_rule above.0 is,
+  adds.globals ∙ ap₂ (λ x y. x || y) above.1 local,
+)
+
+-- a command with one more subcommand
+pub subcommand_added : (a b : App) (old sub new : Command) → IsCommand a old → IsCommand b sub
+    → AddsSubcommand old sub new → IsCommand (with_subcommand a b.top) new
+subcommand_added a b old sub new above below adds = (
+  adds.shape below.1 ∙ ap₂ with_subcommand above.0 (ap (λ (x : App). x.top) below.0),
+  adds.globals ∙ ap₂ (λ x y. x || y) above.1 below.1,
+)
+
+-- the subcommand that matches have is the one that the words name
+pub subcommand_met : (a b : App) (ws vs : List Text) (m : ArgMatches) → a ≡ b → ws ≡ vs → is_simple b ≡ true
+    → HasMatchesOf a ws m → subcommand_rows_of m ≡ subcommand_of b vs
+subcommand_met a b ws vs m same words simple matches =
+    (matches (ap is_simple same ∙ simple)).1 ∙ ap₂ subcommand_of same words
+
+module _ {T X : Type 0} where
+  pub gives_same : (view : T → X) (a b : Result X Text) (r : Result T Refusal) → a ≡ b → Gives view b r → Gives view a r
+  gives_same view a b r same gives = subst (λ (x : Result X Text). Gives view x r) (sym same) gives
+
+-- ---- matches
+
+first_at : (words : List Text) → slice_get words 0 ≡ first_of words
+first_at [] = refl
+first_at (word ∷ words) = refl
+
+-- the first word that a row has
+pub found_first : (row : Option Row) → option_and_then (λ (r : Row). slice_get r.values 0) row ≡ first_of (unwrap_or (option_map (λ (r : Row). r.values) row) [])
+found_first None = refl
+found_first (Some row) = first_at row.values
+
+named_rows : {Z : Type 0} (sub : Option (Box SubCommand Z)) (name : Text) (rows : List Row)
+    → option_map (λ (b : Box SubCommand Z). (out-SubCommand (box_value b)).name.now) sub ≡ Some name
+    → option_map (λ (p : Text × List Row). p.1) (subcommand_rows sub) ≡ Some rows
+    → subcommand_rows sub ≡ Some (name, rows)
+named_rows None name rows named has = absurd (let bad : None ≡ Some name = named in search (rules, bad))
+named_rows (Some b) name rows named has = ap₂ (λ (n : Text) (r : List Row). Some (n, r)) (search (rules, named)) (search (rules, has))
+
+-- what is asked for, by the name of the subcommand and its rows
+pub asked_named : (m : ArgMatches) (name : Text) (rows : List Row) → subcommand_name_of m ≡ Some name
+    → option_map (λ (p : Text × List Row). p.1) (subcommand_rows_of m) ≡ Some rows
+    → asked_by_subcommand (subcommand_rows_of m) ≡ asked name (values_in rows)
+asked_named m name rows named has = ap asked_by_subcommand (named_rows (out-ArgMatches m).subcommand name rows named has)
+
+-- ---- answers
+
+pub job_answered : (texts : List Text) (r : Result Job Refusal) → Gives asked_of (asked_by texts) r
+    → fault_of program texts ≡ [] → IfOk r (Asks texts)
+job_answered texts (Ok job) gives taken = (gives, taken)
+job_answered texts (Err e) gives taken = tt
+
+pub word_refused : (kinds : Kinds) (wanted : Result Asked Text) (r : Result Job Refusal) → Gives asked_of wanted r
+    → kinds ≡ [] → IfErr r (IsRefusedBy kinds wanted)
+word_refused kinds wanted (Ok job) gives taken = tt
+word_refused kinds wanted (Err e) gives taken = elim gives [
+  | inl full ↦ subst (λ (x : Refusal). IsRefusedBy kinds wanted x) (sym full) tt
+  | inr p ↦ subst (λ (x : Refusal). IsRefusedBy kinds wanted x) (sym p.1) (taken, p.2)
+]
+
+pub fault_refused : (k : ErrorKind) (kinds : Kinds) (wanted : Result Asked Text) (e : Refusal) → HasKindOf k e
+    → (k ≡ kind.OutOfMemory) ⊎ IsAmong k kinds → IsRefusedBy kinds wanted e
+fault_refused k kinds wanted Memory by found = tt
+fault_refused k kinds wanted (Help text) by (inl full) = absurd (cc)
+fault_refused k kinds wanted (Help text) by (inr among) = subst (λ (x : ErrorKind). IsAmong x kinds) by among
+fault_refused k kinds wanted (Version text) by (inl full) = absurd (cc)
+fault_refused k kinds wanted (Version text) by (inr among) = subst (λ (x : ErrorKind). IsAmong x kinds) by among
+fault_refused k kinds wanted (Usage text) by (inl full) = absurd (by.1 full)
+fault_refused k kinds wanted (Usage text) by (inr among) = (k, among, by.0)
+fault_refused k kinds wanted (Word why) by found = absurd by

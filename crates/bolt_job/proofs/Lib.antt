@@ -1,0 +1,5 @@
+pub mod CommandLineLemmas
+pub mod MixedParts
+pub mod PageSizes
+pub mod PathReading
+pub mod Vocabulary

@@ -1,0 +1,135 @@
+-- The command line as it is described to `clap`, and what its matches ask for.
+use Rattle.std.specs.Prelude.{◌≡◌, ◌≢◌, ◌⊎◌, ℕ, List, [], ◌∷◌, ◌++◌, Option, Some, None, Ok, Err, Result, Bool, false, true, codes, map, fold, unwrap_or, MatchResult, if◌then◌else◌}
+use Rattle.clap.specs.Words.{App, IsAmong, Kinds, Row, Rule, all_of, app_of, fault_of, new_app, new_rule, subcommand_of, with_subcommand}
+use Rattle.clap.specs.declared.builder.action.ArgAction.{ArgAction}
+use Rattle.clap.specs.declared.builder.action.ArgAction.TheVariants.{Append, Set}
+use Rattle.clap.specs.{declared.builder.range.ValueRange.ValueRange, declared.builder.Command.Command, declared.builder.Command.TheViews.out-Command}
+use Rattle.clap.specs.declared.error.ErrorKind.{ErrorKind}
+use Rattle.clap.specs.declared.error.ErrorKind.TheVariants as kind
+use Rattle.bolt_job.specs.{declared.job.Job.Job, declared.job.Refusal.Refusal}
+use Rattle.bolt_job.specs.declared.job.Refusal.TheVariants.{Memory, Help, Version, Usage, Word}
+use Rattle.bolt_job.specs.LineWords.{Choice, Flag, Operand, Syntax, Text, both, given_word, long, short}
+use Rattle.bolt_job.specs.PlainWords.{Asked, Values, asked, asked_of, syntaxes}
+
+-- ---- what the command line may hold
+
+-- each of several words of an operand is added to those before it
+abbrev pub action_of : Bool → Option ArgAction
+action_of several = if several then Some Append else None
+
+abbrev pub operand_rule : Operand → Rule
+operand_rule o = record (new_rule o.name) { required = o.required; action = action_of o.several; value_names = 1 }
+
+abbrev long_of : Flag → Option Text
+long_of (long name) = Some name
+long_of (short letter) = None
+long_of (both letter name) = Some name
+
+abbrev short_of : Flag → Option ℕ
+short_of (long name) = None
+short_of (short letter) = Some letter
+short_of (both letter name) = Some letter
+
+-- an option takes one value, or none, and then stands for a word
+abbrev option_action : (has_value : Bool) → Option ArgAction
+option_action has_value = if has_value then None else Some Set
+
+abbrev option_range : (has_value : Bool) → Option ValueRange
+option_range has_value = if has_value then None else Some (record { start_inclusive = 0; end_inclusive = 0 })
+
+abbrev option_names : (has_value : Bool) → ℕ
+option_names has_value = if has_value then 1 else 0
+
+abbrev option_missing : (has_value : Bool) → List Text
+option_missing has_value = if has_value then [] else given_word ∷ []
+
+abbrev pub option_rule : Choice → Rule
+option_rule o = record (new_rule o.name) {
+  long = long_of o.flag;
+  short = short_of o.flag;
+  action = option_action o.has_value;
+  range = option_range o.has_value;
+  value_names = option_names o.has_value;
+  missing = option_missing o.has_value;
+  required = o.required;
+}
+
+abbrev pub rules_for : Syntax → List Rule
+rules_for s = map operand_rule s.operands ++ map option_rule s.options
+
+-- a command with these arguments
+abbrev pub command_with : Text → List Rule → App
+command_with name rules = let bare = new_app name in record bare { top = record bare.top { rules = rules } }
+
+abbrev pub command_of : Syntax → App
+command_of s = command_with s.name (rules_for s)
+
+-- the program's own level: it has no arguments, needs a subcommand and prints its version
+abbrev pub bare_program : App
+bare_program = let bare = new_app (codes "luntsegi") in record bare {
+  top = record bare.top { has_version = true; subcommand_required = true; disable_help_subcommand = true };
+}
+
+abbrev pub program_of : List Syntax → App
+program_of lines = fold (λ app s. with_subcommand app (command_of s).top) bare_program lines
+
+abbrev pub program : App
+program = program_of syntaxes
+
+-- the command is described so, and none of its arguments is global
+abbrev pub IsCommand : App → Command → Type 0
+IsCommand app command = (app_of command ≡ app) × ((out-Command command).has_globals ≡ false)
+
+-- ---- what matches ask for
+
+-- the words that the matches have by a name
+abbrev pub values_in : List Row → Values
+values_in rows name = unwrap_or (all_of name rows) []
+
+-- by the subcommand that was met, and the matches of its arguments
+abbrev pub asked_by_subcommand : Option (Text × List Row) → Result Asked Text
+asked_by_subcommand (Some met) = asked met.0 (values_in met.1)
+asked_by_subcommand None = Err (codes "command missing")
+
+-- by the words
+abbrev pub asked_by : List Text → Result Asked Text
+asked_by words = asked_by_subcommand (subcommand_of program words)
+
+-- ---- answers
+
+-- the result is what is wanted, and an error says that memory ran out or what is wrong
+abbrev pub Gives : {T X : Type 0} → (T → X) → Result X Text → Result T Refusal → Type 0
+Gives view wanted answer = MatchResult answer (λ value. wanted ≡ Ok (view value))
+    (λ refusal. (refusal ≡ Memory) ⊎ (why : _) × (refusal ≡ Word why) × (wanted ≡ Err why.now))
+
+-- the words ask for the job, and `clap` finds no fault in them
+abbrev pub Asks : List Text → Job → Type 0
+Asks words job = (asked_by words ≡ Ok (asked_of job)) × (fault_of program words ≡ [])
+
+-- a fault that asks neither for help nor for the version
+abbrev pub IsUsage : ErrorKind → Type 0
+IsUsage fault = (fault ≢ kind.DisplayHelp) × (fault ≢ kind.DisplayVersion)
+
+-- one of the faults is such
+abbrev pub IsAmongUsage : Kinds → Type 0
+IsAmongUsage kinds = (fault : ErrorKind) × IsAmong fault kinds × IsUsage fault
+
+-- the refusal is one for words with these faults, which ask for this
+abbrev pub IsRefusedBy : Kinds → Result Asked Text → Refusal → Type 0
+IsRefusedBy kinds wanted Memory = Unit {0}
+IsRefusedBy kinds wanted (Help text) = IsAmong kind.DisplayHelp kinds
+IsRefusedBy kinds wanted (Version text) = IsAmong kind.DisplayVersion kinds
+IsRefusedBy kinds wanted (Usage text) = IsAmongUsage kinds
+IsRefusedBy kinds wanted (Word why) = (kinds ≡ []) × (wanted ≡ Err why.now)
+
+-- the refusal is one for these words
+abbrev pub IsRefusalOf : List Text → Refusal → Type 0
+IsRefusalOf words = IsRefusedBy (fault_of program words) (asked_by words)
+
+-- the refusal is the one for an error of `clap`'s of this kind
+abbrev pub HasKindOf : ErrorKind → Refusal → Type 0
+HasKindOf fault Memory = fault ≡ kind.OutOfMemory
+HasKindOf fault (Help text) = fault ≡ kind.DisplayHelp
+HasKindOf fault (Version text) = fault ≡ kind.DisplayVersion
+HasKindOf fault (Usage text) = IsUsage fault × (fault ≢ kind.OutOfMemory)
+HasKindOf fault (Word why) = ⊥

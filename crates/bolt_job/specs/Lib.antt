@@ -1,0 +1,10 @@
+pub mod CommandLine
+pub mod CopyKinds
+pub mod FormWords
+pub mod LineWords
+pub mod MetaChoices
+pub mod Needs
+pub mod PathWords
+pub mod PlainWords
+pub mod Private
+pub mod Syntaxes

@@ -1,0 +1,62 @@
+-- How a path is written on a command line: a word for each part, or all parts in hexadecimal in one word: docs/COMMANDS.md, "Words".
+use Rattle.std.specs.Prelude.{List, [], ◌∷◌, Option, Some, None, Result, Ok, Err, codes, drop, take, if◌then◌else◌}
+use Rattle.std.specs.Str.{bytes_eq}
+use Rattle.bolt_check.specs.Keys.{Key}
+use Rattle.bolt_tree.specs.Paths.{Path}
+use Rattle.bolt_load.specs.HexPaths.{hex_bytes_in, hex_path_in}
+use Rattle.bolt_job.specs.{LineWords.Text, declared.path_words.Parts.Parts}
+use Rattle.bolt_job.specs.declared.path_words.Parts.TheVariants as parts
+
+module _ {A B : Type 0} where
+  abbrev pub result_and_then : (A → Result B Text) → Result A Text → Result B Text
+  result_and_then next (Ok a) = next a
+  result_and_then next (Err why) = Err why
+
+-- how the words of a path are written, by the value of an option; without one they are text
+abbrev pub parts_of : Text → Result Parts Text
+parts_of word =
+    if bytes_eq word (codes "text") then Ok parts.Text
+    else if bytes_eq word (codes "hex") then Ok parts.Hex
+    else if bytes_eq word (codes "mixed") then Ok parts.Mixed
+    else Err (codes "bad parts: use text, hex or mixed")
+
+abbrev pub parts_by : Option Text → Result Parts Text
+parts_by (Some word) = parts_of word
+parts_by None = Ok parts.Text
+
+abbrev pub or_bad_hex : {A : Type 0} → Option A → Result A Text
+or_bad_hex (Some found) = Ok found
+or_bad_hex None = Err (codes "bad hex")
+
+-- bytes in hexadecimal, two digits of either case for each
+abbrev pub hex_bytes : Text → Result Key Text
+hex_bytes word = or_bad_hex (hex_bytes_in word)
+
+-- what follows `0x` is in hexadecimal, and any other word is text
+abbrev pub mixed_bytes : Text → Result Key Text
+mixed_bytes word = if bytes_eq (take 2 word) (codes "0x") then hex_bytes (drop 2 word) else Ok word
+
+-- a part of a path by its word
+abbrev pub part_of : Parts → Text → Result Key Text
+part_of parts.Text word = Ok word
+part_of parts.Hex word = hex_bytes word
+part_of parts.Mixed word = mixed_bytes word
+
+-- the bytes that keys are to begin with, written as a part is; without a word each key does
+abbrev pub prefix_of : Parts → Option Text → Result Key Text
+prefix_of how (Some word) = part_of how word
+prefix_of how None = Ok []
+
+-- each of the words is a part
+abbrev pub each_part : (Text → Result Key Text) → List Text → Result Path Text
+each_part read [] = Ok []
+each_part read (word ∷ words) = result_and_then (λ part. result_and_then (λ path. Ok (part ∷ path)) (each_part read words)) (read word)
+
+-- a path in hexadecimal
+abbrev pub hex_path_of : Text → Result Path Text
+hex_path_of word = or_bad_hex (hex_path_in word)
+
+-- the path at which the rest of a listing begins; without one it is the whole
+abbrev pub hex_path_by : Option Text → Result Path Text
+hex_path_by (Some word) = hex_path_of word
+hex_path_by None = Ok []

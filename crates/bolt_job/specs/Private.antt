@@ -1,0 +1,2 @@
+-- What private contracts and proofs cite, and no public one.
+pub mod CommandLines

@@ -1,0 +1,132 @@
+//! What the words of a command choose: a meta, a page size, a form of the copy, and how far a command goes in a damaged file.
+ghost use Rattle.std.specs.Prelude.{◌≡◌, IfNone, IfSome, IfErr, IfOk};
+ghost use Rattle.bolt_format.specs.Metas.{IsPageSize};
+
+use bolt_check::assumed_meta;
+use bolt_format::{Meta, MetaFault, Slot, choose, page_size_ok, slot_meta};
+use bolt_layout::Layout;
+
+/// An accepted page size.
+#[derive(Clone, Copy)]
+pub struct PageSize {
+    pub bytes: u64,
+    pub ghost accepted: { IsPageSize bytes },
+}
+
+impl PageSize {
+    /// That of most files, since most systems have pages of this size.
+    pub const USUAL: PageSize = PageSize { bytes: 4096 };
+
+    /// The page size of this many bytes, if it is accepted.
+    pub fn new(bytes: u64) -> Option<PageSize>
+        ensures same { IfSome result (λ size. size.bytes ≡ bytes) }
+        ensures refused { IfNone result (¬ IsPageSize bytes) }
+    {
+        if page_size_ok(bytes) {
+            Some(PageSize { bytes })
+        } else {
+            None
+        }
+    }
+}
+
+/// The meta that a file is read under.
+#[derive(Clone, Copy)]
+pub enum MetaChoice {
+    /// The active meta.
+    Active,
+    /// The meta in this slot, active or not.
+    InSlot(Slot),
+    /// A meta that is assumed. Those of the file are ignored.
+    Assumed(AssumedMeta),
+}
+
+/// A meta that is assumed, by what has to be known of it (docs/COMMANDS.md, "An assumed meta").
+#[derive(Clone, Copy)]
+pub struct AssumedMeta {
+    pub page_size: PageSize,
+    /// The number of the root page.
+    pub root: u64,
+}
+
+impl MetaChoice {
+    ghost use Rattle.bolt_job.specs.MetaChoices.{HasNoMetaOf, IsMetaOf};
+
+    /// The meta of a file that is chosen.
+    ///
+    /// # Errors
+    ///
+    /// The fault of byte 0 if no meta is valid, or that of the slot if it has no valid meta. There is
+    /// none if the meta is assumed.
+    pub fn find(self, file: &[u8]) -> Result<Meta, MetaFault>
+        ensures found { IfOk result (IsMetaOf file.now self) }
+        ensures none { IfErr result (HasNoMetaOf file.now self) }
+    {
+        match self {
+            MetaChoice::Active => {
+                let (_, meta) = choose(file)?;
+                Ok(meta)
+            }
+            MetaChoice::InSlot(slot) => slot_meta(file, slot),
+            MetaChoice::Assumed(assumed) => Ok(assumed.for_file(file)),
+        }
+    }
+}
+
+impl AssumedMeta {
+    ghost use Rattle.bolt_job.specs.MetaChoices.{assumed_for};
+
+    /// The meta that is assumed of a file.
+    pub fn for_file(self, file: &[u8]) -> Meta
+        ensures meta { result ≡ assumed_for file.now self }
+        ensures accepted { IsPageSize result.page_size }
+    {
+        assumed_meta(file.len() as u64, self.page_size.bytes as u32, self.root)
+    }
+}
+
+/// What a compact copy is for.
+#[derive(Clone, Copy, PartialEq, Eq)]
+pub enum CopyKind {
+    /// For reading: the plain layout.
+    Plain,
+    /// For bbolt to write to: the balanced layout.
+    ForBbolt,
+    /// For `etcdctl snapshot restore`: the balanced layout, and then the SHA-256 of its bytes.
+    EtcdSnapshot,
+}
+
+impl CopyKind {
+    ghost use Rattle.bolt_job.specs.CopyKinds.{is_snapshot, layout_for};
+
+    /// The layout of the copy.
+    pub fn layout(self) -> Layout
+        ensures { result ≡ layout_for self }
+    {
+        match self {
+            CopyKind::Plain => Layout::Plain,
+            CopyKind::ForBbolt | CopyKind::EtcdSnapshot => Layout::Balanced,
+        }
+    }
+
+    /// Whether the copy ends with its hash.
+    pub fn is_snapshot(self) -> bool
+        ensures { result ≡ is_snapshot self }
+    {
+        match self {
+            CopyKind::EtcdSnapshot => true,
+            CopyKind::Plain | CopyKind::ForBbolt => false,
+        }
+    }
+}
+
+/// How far a command goes in a file with damaged trees.
+#[derive(Clone, Copy, PartialEq, Eq)]
+pub enum Extent {
+    /// Up to the first finding: what the file holds is read only if it is sound.
+    First,
+    /// To each loss: what is kept is read.
+    Losses,
+    /// To each loss, and to each page that is found though nothing leads to it: both are read.
+    LostAndFound,
+}

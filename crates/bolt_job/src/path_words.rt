@@ -1,0 +1,113 @@
+//! Reads paths from the words of a command line.
+ghost use Rattle.std.specs.Prelude.{◌≡◌, ◌==◌, IfOk, length, map, option_map};
+ghost use Rattle.std.specs.List.{list_any, slice_split};
+ghost use Rattle.bolt_job.specs.CommandLine.{Gives};
+ghost use Rattle.bolt_job.specs.PathWords.{each_part, hex_bytes, hex_path_by, hex_path_of, mixed_bytes, part_of, prefix_of};
+ghost use Rattle.bolt_job.specs.PlainWords.{path_in};
+
+use crate::job::Refusal;
+use hex::FromHexError;
+use std::alloc::{AllocError, Global};
+
+/// The path whose parts are these words.
+pub(crate) fn read_path(
+    alloc: Global,
+    parts: Parts,
+    words: &[&str],
+) -> Result<Vec<Vec<u8>>, Refusal>
+    ensures { Gives (λ path. path_in path.items) (each_part (part_of parts) (map (λ word. word.now) words.now)) result }
+{
+    let mut path = Vec::new(alloc);
+    for word in words {
+        path.push(read_part(alloc, parts, word)?)?;
+    }
+    Ok(path)
+}
+
+fn read_part(alloc: Global, parts: Parts, word: &str) -> Result<Vec<u8>, Refusal>
+    ensures { Gives (λ part. part.items) (part_of parts word.now) result }
+{
+    match parts {
+        Parts::Text => Ok(word.as_bytes().to_vec(alloc)?),
+        Parts::Hex => read_hex(alloc, word.as_bytes()),
+        Parts::Mixed => read_mixed(alloc, word.as_bytes()),
+    }
+}
+
+/// A part that is in hexadecimal after `0x`, and otherwise as it is.
+fn read_mixed(alloc: Global, word: &[u8]) -> Result<Vec<u8>, Refusal>
+    ensures { Gives (λ part. part.items) (mixed_bytes word.now) result }
+{
+    match word.strip_prefix(b"0x") {
+        Some(digits) => read_hex(alloc, digits),
+        None => Ok(word.to_vec(alloc)?),
+    }
+}
+
+/// The bytes that keys begin with, by the value of `--prefix`.
+pub(crate) fn read_prefix(
+    alloc: Global,
+    parts: Parts,
+    word: Option<&str>,
+) -> Result<Vec<u8>, Refusal>
+    ensures { Gives (λ prefix. prefix.items) (prefix_of parts (option_map (λ text. text.now) word.entry)) result }
+{
+    match word {
+        Some(word) => read_part(alloc, parts, word),
+        None => Ok(Vec::new(alloc)),
+    }
+}
+
+/// The path at which a listing begins, by the value of `--from`.
+pub(crate) fn read_from(alloc: Global, word: Option<&str>) -> Result<Vec<Vec<u8>>, Refusal>
+    ensures { Gives (λ path. path_in path.items) (hex_path_by (option_map (λ text. text.now) word.entry)) result }
+{
+    match word {
+        Some(word) => read_hex_path(alloc, word),
+        None => Ok(Vec::new(alloc)),
+    }
+}
+
+/// The path whose parts are in hexadecimal, between slashes.
+fn read_hex_path(alloc: Global, word: &str) -> Result<Vec<Vec<u8>>, Refusal>
+    ensures { Gives (λ path. path_in path.items) (hex_path_of word.now) result }
+{
+    let parts = cut_at_slashes(alloc, word)?;
+    if has_empty(parts.as_slice()) {
+        return Err(Refusal::Word("bad hex"));
+    }
+    read_path(alloc, Parts::Hex, parts.as_slice())
+}
+
+fn cut_at_slashes(alloc: Global, word: &str) -> Result<Vec<&str>, AllocError>
+    ensures { IfOk result (λ parts. map (λ part. part.now) parts.items ≡ slice_split (λ byte. byte == 47) word.now) }
+{
+    word.split('/').collect(alloc)
+}
+
+fn has_empty(parts: &[&str]) -> bool
+    ensures { result ≡ list_any (λ part. length part.now == 0) parts.now }
+{
+    parts.iter().any(|part| part.is_empty())
+}
+
+fn read_hex(alloc: Global, word: &[u8]) -> Result<Vec<u8>, Refusal>
+    ensures { Gives (λ bytes. bytes.items) (hex_bytes word.now) result }
+{
+    match hex::decode(alloc, word) {
+        Ok(bytes) => Ok(bytes),
+        Err(FromHexError::OutOfMemory) => Err(Refusal::Memory),
+        Err(_) => Err(Refusal::Word("bad hex")),
+    }
+}
+
+/// How the parts of a path are written on a command line.
+#[derive(Clone, Copy, PartialEq, Eq)]
+pub(crate) enum Parts {
+    /// As they are.
+    Text,
+    /// In hexadecimal.
+    Hex,
+    /// In hexadecimal after `0x`, and otherwise as they are.
+    Mixed,
+}
