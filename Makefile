@@ -68,10 +68,9 @@ fuzz-wrong: $(PROGRAM)
 wrong-bodies:
 	RT_JOBS=$(JOBS) python3 -B tools/wrong_bodies/try_others.py $(CRATES)
 
-# How many crates the gate proves side by side: what the machine has room for, with a processor and 6.5 GB each. rt
-# would otherwise split one crate over several processors, which ends sooner and takes a third more processor time.
-JOBS ?= $(shell awk -v most=$$(nproc) '/MemTotal/ { room = int($$2 / 6500000); \
-	if (room > most) room = most; print (room < 1 ? 1 : room) }' /proc/meminfo)
+# How many crates the gate proves side by side: two, if the machine has room for them, with 6.5 GB each. With more,
+# each takes a third more processor time, as if rt splits one crate over several processors, and little time is won.
+JOBS ?= $(shell awk '/MemTotal/ { print ($$2 < 13000000 ? 1 : 2) }' /proc/meminfo)
 
 # Installs what the gate needs beyond the toolchain, where it can, and says what it leaves out.
 set-up:

@@ -1,7 +1,7 @@
 -- The line that is held for standard error once a job has ended.
 use Rattle.std.proofs.Common.{◌≡◌, ◌≢◌, ◌<◌, ◌⊎◌, ◌∙◌, inl, inr, arith, ℕ, List, [], ◌∷◌, Option, Some, Result, Ok, Err, OnOk, OnErr}
 use Rattle.bolt_cli.proofs.Vocabulary.{Appends, AppendsPrefix, Deed, Ending, Fails, IsHeldLine, IsReported, Said, error_text, failure_line, status_of}
-use Rattle.bolt_cli.specs.declared.failure.Failure.TheVariants.{Memory}
+use Rattle.bolt_commands.specs.declared.failure.Failure.TheVariants.{Memory}
 
 -- what a fresh sink accepted of the line of an ending, or the line of memory if it failed
 pub held_line : {was now : Option (List ℕ)} {failed fails : ℕ} (ending : Ending) (line : List ℕ)

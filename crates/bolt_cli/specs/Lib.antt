@@ -1,12 +1,4 @@
-pub mod Answers
-pub mod CopyEnds
 pub mod Deeds
-pub mod Failures
-pub mod FileFaults
-pub mod GoodCopies
-pub mod Hashes
 pub mod Orders
-pub mod Private
 pub mod Runs
-pub mod SnapshotAnswers
 pub mod Sources

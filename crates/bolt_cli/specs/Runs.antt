@@ -2,13 +2,14 @@
 use Rattle.std.specs.Prelude.{◌≡◌, ◌⊎◌, ℕ, zero, suc, List, [], ◌∷◌, ◌++◌, Bool, true, false, Option, Some, None, Result, Ok, Err, codes, string_bytes, if◌then◌else◌}
 use Rattle.std.specs.Io.KnownBytes.{Appends, IsAtEnd}
 use Rattle.bolt_format.specs.Sinks.{AppendsPrefix}
-use Rattle.bolt_cli.specs.Answers.{DoesJob, Ending, error_text}
+use Rattle.bolt_commands.specs.Answers.{DoesJob, Ending, error_text}
 use Rattle.bolt_job.specs.CommandLine.{Asks, IsRefusalOf}
-use Rattle.bolt_cli.specs.{Deeds.Deed, Deeds.Read, Deeds.Made, Deeds.Ended, Deeds.Opened, Deeds.Closed, Deeds.Said, Failures.failure_line}
+use Rattle.bolt_cli.specs.Deeds.{Deed, Read, Made, Ended, Opened, Closed, Said}
+use Rattle.bolt_commands.specs.Failures.{failure_line}
 use Rattle.bolt_job.specs.LineWords.{Text}
 use Rattle.bolt_job.specs.{Needs.needs_metas_alone, PlainWords.file_name, PlainWords.target_name}
 use Rattle.bolt_cli.specs.Sources.{is_changed}
-use Rattle.bolt_cli.specs.declared.failure.Failure.TheVariants.{Memory, Write}
+use Rattle.bolt_commands.specs.declared.failure.Failure.TheVariants.{Memory, Write}
 use Rattle.bolt_job.specs.declared.job.Job.{Job}
 use Rattle.bolt_job.specs.declared.job.Refusal.{Refusal}
 use Rattle.bolt_job.specs.declared.job.Refusal.TheVariants as refusal

@@ -1,12 +1,13 @@
 //! A whole run of the program: from its words to its status.
 ghost use Rattle.std.specs.Prelude.{◌≡◌, ◌<◌, ℕ, List, None, Some, map, string_bytes};
-ghost use Rattle.bolt_cli.specs.{Answers.Ending, Answers.status_of, Deeds.Does, Deeds.joined, Failures.failure_line};
+ghost use Rattle.bolt_commands.specs.{Answers.Ending, Answers.status_of, Failures.failure_line};
+ghost use Rattle.bolt_cli.specs.Deeds.{Does, joined};
 ghost use Rattle.bolt_job.specs.PlainWords.{target_name};
 ghost use Rattle.bolt_cli.specs.Runs.{Closes, Copies, Fails, Goes, IsEnded, IsHeldLine, IsRun, IsUnendedLine, Makes, Prints, Reads, Refuses, Shows, held_of, is_again, unmade_line};
-ghost use Rattle.bolt_cli.specs.declared.failure.Failure.TheVariants.{Memory};
+ghost use Rattle.bolt_commands.specs.declared.failure.Failure.TheVariants.{Memory};
 
 use crate::outside::{CreateFault, EndFault, OutputFault, Outside, Source};
-use crate::runs::run;
+use bolt_commands::run;
 use bolt_format::{MemSink, Sink};
 use bolt_job::{Job, Refusal, read_words};
 use std::alloc::Global;

@@ -1,0 +1,128 @@
+-- What `check` answers to a good copy, and to its proper prefixes.
+use Rattle.std.proofs.Common.{◌≡◌, ◌≢◌, ◌∙◌, ◌⊎◌, ◌∷◌, ◌<◌, ℕ, List, [], Bool, true, false, IsTrue, Option, None, Some, Ok, ap, codes, inl, inr, length, refl}
+use Rattle.std.proofs.Common.{subst, sym, take}
+use Rattle.bolt_commands.proofs.Vocabulary.{Active, Answer, AnswersFound, AnswersLosses, AreLosses, CheckFault, Extent, FileFaults, First, HasBothMetas, HasSoundTrees, HashMissing, IsCheckAnswer, IsCheckAnswerAfter, IsChosen, IsFoundAnswer, IsGoodCopy, IsMetaOf, IsMetasFault, IsOtherFault, IsSnapshot, IsSound, LossView, Losses, Member, Meta, MetaFault, Place, RefusesFile, Slot, all_refusal, cases_lt, check_refusal, copy_of, done, found, hash_fault, hash_found, loss_at, losses_of, none_found, place_at, refused}
+use Rattle.bolt_check.specs.declared.fault.CheckFault.TheVariants as check
+use Rattle.bolt_snapshot.specs.declared.hash_check.SnapshotFault.{SnapshotFault}
+use Rattle.bolt_snapshot.proofs.SnapshotLemmas.{no_fault_iff}
+use Rattle.bolt_recover.specs.Surveys.{Has, IsSurvey, Visit}
+use Rattle.bolt_job.specs.declared.choices.Extent.TheVariants.{LostAndFound}
+use Rattle.bolt_commands.specs.declared.failure.Failure.TheVariants as failure
+use Rattle.bolt_commands.proofs.SoundReads.{NamesOne, keeps_not_loses, unread, unrecovered}
+
+-- what the laws of the crates below say
+pub record Laws : Type 0 where
+  pub one : (file : List ℕ) (slot : Slot) (meta : Meta) → IsChosen file slot meta → (other : Slot) (another : Meta) → IsChosen file other another
+      → (other ≡ slot) × (another ≡ meta)
+  pub lose : (file : List ℕ) (meta : Meta) (survey : List Visit) (v : Visit) → HasSoundTrees file meta → IsSurvey file meta survey → Has survey v → v.found ≡ None
+
+one_active : Laws → (file : List ℕ) (slot : Slot) (meta : Meta) → IsChosen file slot meta → NamesOne file Active meta
+one_active laws file slot meta chosen other (another, is) = (laws.one file slot meta chosen another other is).1
+
+-- ---- ways that aren't lost have no losses
+
+none_at : (o : Option Place) → loss_at o None ≡ []
+none_at None = refl
+none_at (Some p) = refl
+
+none_of : (file : List ℕ) (meta : Meta) (survey : List Visit) → ((v : Visit) → Has survey v → v.found ≡ None) → losses_of file meta survey ≡ []
+none_of file meta [] each = refl
+none_of file meta (v ∷ survey) each = rw (each v (inl refl), none_at (place_at file meta v.way)) (none_of file meta survey (λ w has. each w (inr has)))
+
+-- ---- what is wrong with a file apart from its pages
+
+abbrev no_faults : FileFaults
+no_faults = record { hash = None; other = None }
+
+no_hash_fault : (snapshot : Bool) (file : List ℕ) → (IsTrue snapshot → IsSnapshot file) → hash_found snapshot file ≡ None
+no_hash_fault false file hash = refl
+no_hash_fault true file hash = (no_fault_iff file (hash_fault file) refl).1 (hash refl)
+
+no_other : (file : List ℕ) → HasBothMetas file → (other : Option (Slot × MetaFault)) → IsOtherFault file other → other ≡ None
+no_other file both None is = refl
+no_other file both (Some (other, fault)) (inl (slot, meta, chosen, (same, has, none))) = let (unused, valid) = both other in absurd (none unused valid)
+no_other file both (Some found) (inr (none, same)) = same
+
+no_other_fault : (extent : Extent) (file : List ℕ) → HasBothMetas file → (other : Option (Slot × MetaFault)) → IsMetasFault extent file Active other → other ≡ None
+no_other_fault First file both other is = is
+no_other_fault extent file both other is = no_other file both other is
+
+wrong_hash : (faults : FileFaults) (fault : SnapshotFault) → faults.hash ≡ Some fault → none_found faults ≡ found faults []
+wrong_hash faults fault is = rw is refl
+
+-- ---- a file that `check` accepts, and nothing else is wrong with it
+
+abbrev IsFine : Answer → Type 0
+IsFine answer = (answer ≡ done (codes "OK\n")) ⊎ (answer ≡ refused failure.Memory)
+
+module _ (laws : Laws) (faults : FileFaults) (file : List ℕ) (slot : Slot) (meta : Meta) (answer : Answer) (right : faults ≡ no_faults) (chosen : IsChosen file slot meta)
+    (sound : IsSound file meta true) where
+  one : NamesOne file Active meta
+  one = one_active laws file slot meta chosen
+
+  fine_found : IsFoundAnswer faults file Active answer → IsFine answer
+  fine_found (inl (own, under, said)) = inl (said ∙ ap none_found right)
+  fine_found (inr (fault, is, said)) = inr (said ∙ ap (check_refusal faults) (unread file meta sound.trees Active fault one (slot, chosen, sound) is))
+
+  none_lost : (own : Meta) (losses : List LossView) → IsMetaOf file Active own → AreLosses file own losses → losses ≡ []
+  none_lost own losses is (survey, surveys, same) =
+      let trees = subst (HasSoundTrees file) (sym (one own is)) sound.trees in
+      same ∙ none_of file own survey (λ v has. laws.lose file own survey v trees surveys has)
+
+  fine : (extent : Extent) → IsCheckAnswerAfter extent faults file Active answer → IsFine answer
+  fine First is = fine_found is
+  fine Losses (inl (own, (is, keeps), inl (losses, are, answers))) =
+      fine_found (subst (λ (ls : List LossView). AnswersLosses faults file Active ls answer) (none_lost own losses is are) answers)
+  fine Losses (inl (own, under, inr said)) = inr said
+  fine Losses (inr (fault, is, said)) = inr (said ∙ ap (all_refusal faults) (unrecovered file meta sound.trees Active fault one (slot, chosen) is))
+  fine LostAndFound (inl (own, is, inl (keeps, losses, pages, are, finds, answers))) =
+      fine_found (subst (λ (ls : List LossView). AnswersFound faults file Active ls pages answer) (none_lost own losses is are) answers)
+  fine LostAndFound (inl (own, is, inr (inl (x, pages, loses, finds, said)))) =
+      absurd (keeps_not_loses file meta sound.trees own x (one own is) loses)
+  fine LostAndFound (inl (own, is, inr (inr said))) = inr said
+  fine LostAndFound (inr (fault, (bad, none), said)) = absurd (none slot meta chosen.valid)
+
+pub passes : Laws → (extent : Extent) (snapshot : Bool) (layout : List ℕ) (listing : List Member) (answer : Answer) → IsGoodCopy snapshot layout listing
+    → IsCheckAnswer extent snapshot (copy_of snapshot layout) Active answer → (answer ≡ done (codes "OK\n")) ⊎ (answer ≡ refused failure.Memory)
+passes laws extent snapshot layout listing answer good (faults, are, is) =
+    let (slot, meta, chosen, sound, lists) = good.accepted in
+    let file = copy_of snapshot layout in
+    let hash = are.hash ∙ no_hash_fault snapshot file good.hash in
+    let other = no_other_fault extent file good.metas faults.other are.metas in
+    fine laws faults file slot meta answer (rw (hash, other) refl) chosen sound extent is
+
+-- ---- a file that `check` refuses, or whose hash is missing
+
+-- no refusal says that the file is sound
+not_ok : (faults : FileFaults) (fault : CheckFault) → ((check_refusal faults fault).ending ≢ Ok 0) × ((all_refusal faults fault).ending ≢ Ok 0)
+not_ok faults (check.Open fault) = (λ same. cc, λ same. cc)
+not_ok faults fault = (λ same. cc, λ same. cc)
+
+ends_so : {answer other : Answer} → answer ≡ other → other.ending ≢ Ok 0 → answer.ending ≢ Ok 0
+ends_so said not same = not (sym (ap (λ (a : Answer). a.ending) said) ∙ same)
+
+module _ (laws : Laws) (faults : FileFaults) (file : List ℕ) (answer : Answer) where
+  fails_found : RefusesFile file ⊎ (faults.hash ≡ Some HashMissing) → IsFoundAnswer faults file Active answer → answer.ending ≢ Ok 0
+  fails_found why (inr (fault, is, said)) = ends_so said (not_ok faults fault).0
+  fails_found (inl (fault, other, is)) (inl (meta, (slot, chosen, sound), said)) =
+      absurd (other (unread file meta sound.trees Active fault (one_active laws file slot meta chosen) (slot, chosen, sound) is))
+  fails_found (inr missing) (inl (meta, under, said)) = ends_so (said ∙ wrong_hash faults HashMissing missing) (λ same. cc)
+
+  fails_after : (extent : Extent) → RefusesFile file ⊎ (faults.hash ≡ Some HashMissing) → IsCheckAnswerAfter extent faults file Active answer → answer.ending ≢ Ok 0
+  fails_after First why is = fails_found why is
+  fails_after Losses why (inl (meta, under, inl ([], are, answers))) = fails_found why answers
+  fails_after Losses why (inl (meta, under, inl (loss ∷ losses, are, said))) = ends_so said (λ same. cc)
+  fails_after Losses why (inl (meta, under, inr said)) = ends_so said (λ same. cc)
+  fails_after Losses why (inr (fault, is, said)) = ends_so said (not_ok faults fault).1
+  fails_after LostAndFound why (inl (meta, under, inl (keeps, [], pages, are, finds, answers))) = fails_found why answers
+  fails_after LostAndFound why (inl (meta, under, inl (keeps, loss ∷ losses, pages, are, finds, said))) = ends_so said (λ same. cc)
+  fails_after LostAndFound why (inl (meta, under, inr (inl (x, pages, loses, finds, said)))) = ends_so said (λ same. cc)
+  fails_after LostAndFound why (inl (meta, under, inr (inr said))) = ends_so said (λ same. cc)
+  fails_after LostAndFound why (inr (fault, has, said)) = ends_so said (λ same. cc)
+
+pub fails : Laws → (extent : Extent) (snapshot : Bool) (layout : List ℕ) (listing : List Member) (n : ℕ) (answer : Answer) → IsGoodCopy snapshot layout listing
+    → n < length (copy_of snapshot layout)
+    → IsCheckAnswer extent snapshot (take n (copy_of snapshot layout)) Active answer → answer.ending ≢ Ok 0
+fails laws extent snapshot layout listing n answer good less (faults, are, is) =
+    fails_after laws faults (take n (copy_of snapshot layout)) answer extent
+    (elim (cases_lt n (length layout)) [ inl early ↦ inl (good.cut_layout n early) | inr late ↦ inr (are.hash ∙ good.cut_hash n late less) ]) is

@@ -1,0 +1,48 @@
+-- What is answered of the entries of the bucket at a path, or of their sizes.
+use Rattle.std.proofs.Common.{◌⊎◌, ◌≡◌, ℕ, Bool, true, false, IfErr, List, Ok, Result, inl, inr, refl}
+use Rattle.bolt_commands.proofs.Vocabulary.{AreEntries, Bucket, ForEntries, Ghosts, IsBucketOf, IsEntriesAnswer, IsEntry, IsReadAnswer, IsSizesAnswer, Json, LeadsTo, LeafElement}
+use Rattle.bolt_commands.proofs.Vocabulary.{Meta, MetaChoice, Path, PrintsAnswer, ReportFault, Start, Wrote, bucket_checked, bucket_start, bytes_of, end_of, meta_of}
+use Rattle.bolt_commands.proofs.Vocabulary.{refused, report_ending}
+use Rattle.bolt_report.specs.{SizeLines.AreSized, SizeLines.Sized, SizeLines.sizes_text, declared.form.Form.Form}
+use Rattle.bolt_report.specs.declared.fault.ReportFault.TheVariants as report
+use Rattle.bolt_report.proofs.SizesExist.{named_sizes}
+use Rattle.bolt_commands.specs.{Answers.IsBucketsAnswer, declared.failure.Failure.TheVariants.NoBucket}
+use Rattle.bolt_commands.proofs.{AtPaths.at_path, CutTexts.ended_put, CutTexts.text_put, Doing.answer_as, ReadFiles.own_trees, ReadFiles.read_trees}
+
+-- the path leads to no bucket, whether names are asked for or sizes
+pub buckets_missing : (file : List ℕ) (path : Path) (form : Form) (sizes : Bool) (meta : Meta) → ((bucket : Start) → LeadsTo file meta path bucket → ⊥)
+    → IsBucketsAnswer file path form sizes meta (refused NoBucket)
+buckets_missing file path form false meta nowhere = inr (nowhere, refl)
+buckets_missing file path form true meta nowhere = inr (nowhere, refl)
+
+module _ {file : List ℕ} {choice : MetaChoice} {path : Path} {bucket : Bucket} (of : IsBucketOf file choice path bucket) where
+  abbrev meta : Meta
+  meta = meta_of (bucket_checked bucket)
+
+  -- what is promised of the entries of the bucket
+  promised : (P : List LeafElement → Type 0) → ForEntries (bucket_checked bucket) (bucket_start bucket) P
+      → (start : Start) × (entries : List LeafElement) × LeadsTo file meta path start × AreEntries (IsEntry file meta) start entries × P entries
+  promised P all =
+      let trees = own_trees file choice (bucket_checked bucket) of.bytes of.under in
+      rw of.bytes at (at_path (bucket_checked bucket) path bucket P trees refl (rw of.bytes of.led) all)
+
+  abbrev PutsSizes : {S A : Type 0} (sink : Ghosts S) (old new : S) (put : Result A ReportFault) (form : Form) → List LeafElement → Type 0
+  PutsSizes sink old new put form entries =
+      (sized : List Sized) → AreSized (bytes_of (bucket_checked bucket)) meta entries sized → Wrote sink old new (sizes_text form sized) (report_ending put)
+
+  module _ {S A : Type 0} {sink : Ghosts S} {old new : S} (put : Result A ReportFault) (form : Form) where
+    pub entries_put : (text : List LeafElement → List ℕ)
+        → ForEntries (bucket_checked bucket) (bucket_start bucket) (λ entries. Wrote sink old new (text entries) (report_ending put))
+        → IfErr put (λ e. (e ≡ report.Sink) ⊎ ((e ≡ report.NoMemory) × (form ≡ Json)))
+        → PrintsAnswer sink old new (IsReadAnswer file choice (IsEntriesAnswer file path form text)) (end_of put (Ok 0))
+    entries_put text written fault =
+        let (start, entries, names, are, here) = promised (λ entries. Wrote sink old new (text entries) (report_ending put)) written in
+        answer_as (text_put (form ≡ Json) (text entries) (Ok 0) put here fault) (λ answer shown. inl (meta, of.under, inl (start, entries, names, are, shown)))
+
+    pub sizes_put : ForEntries (bucket_checked bucket) (bucket_start bucket) (PutsSizes sink old new put form) → IfErr put (λ e. (e ≡ report.Sink) ⊎ (e ≡ report.NoMemory))
+        → PrintsAnswer sink old new (IsReadAnswer file choice (IsSizesAnswer file path form)) (end_of put (Ok 0))
+    sizes_put written fault =
+        let (start, entries, names, are, here) = promised (PutsSizes sink old new put form) written in
+        let (sized, sizes) = named_sizes file meta (read_trees file choice meta of.under) path start entries names are in
+        answer_as (ended_put (sizes_text form sized) (Ok 0) put (here sized (rw of.bytes sizes)) fault)
+        (λ answer whole. inl (meta, of.under, inl (start, entries, sized, names, are, sizes, whole)))

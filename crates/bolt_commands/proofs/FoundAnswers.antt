@@ -1,0 +1,73 @@
+-- The answer of `check --lost-and-found`.
+use Rattle.std.proofs.Common.{◌≡◌, ◌≢◌, ◌∙◌, ℕ, Bool, true, false, List, [], ◌∷◌, Option, ap, ap₂, inl, inr, map, refl, subst, sym}
+use Rattle.std.proofs.lemmas.List.Elements.{All-head, All-tail}
+use Rattle.bolt_commands.proofs.Vocabulary.{All, Answer, AnswersFound, AreFoundPages, FileFaults, Found, FoundView, IsFoundAnswer, IsFoundLeaf, IsFoundPagesAnswer, IsJoined, IsJoinedOf, IsSalvaged, IsSearchOf, LossView, LostAndFound, LostView, Member, Meta, MetaChoice, all_lost, everything, false≢true, found_page, found_view, has_losses, is_nothing, leaf_entry, leaves_of, lost_and_found, parts}
+use Rattle.bolt_check.specs.{ShownNodes.entries_of, ShownNodes.shown_node, TreeKinds.tree_kind}
+use Rattle.bolt_format.specs.{Pages.PageView, Shown.shown}
+use Rattle.bolt_recover.specs.{Found.AreFound, Found.numbers_of, Lost.IsAllLost, ShownFound.IsFoundView, declared.joined.Joined.Joined}
+
+module _ (file : List ℕ) (meta : Meta) where
+  -- ---- what is shown of the found pages
+
+  view_is : (f : Found) → IsFoundView file meta f → found_view f ≡ found_page file meta f.number
+  view_is f is = ap (λ (o : Option PageView). record { number = f.number; elements = leaves_of o }) (sym is.page)
+
+  views_are : (found : List Found) → All (IsFoundView file meta) found → map found_view found ≡ map (found_page file meta) (numbers_of found)
+  views_are [] all = refl
+  views_are (f ∷ found) all =
+      ap₂ (λ (v : FoundView) (vs : List FoundView). v ∷ vs) (view_is f (All-head (IsFoundView file meta) f found all)) (views_are found (All-tail (IsFoundView file meta) f found all))
+
+  pub are_pages : (found : List Found) → AreFound file meta (numbers_of found) → All (IsFoundView file meta) found → AreFoundPages file meta (map found_view found)
+  are_pages found are all = (numbers_of found, are, views_are found all)
+
+  -- ---- each of them is a leaf of at least one element
+
+  is_leaf : (f : Found) → IsFoundView file meta f → f.page.is_leaf ≡ true
+  unfolding shown_node
+  is_leaf f is = is.leaf
+
+  some_elements : (f : Found) → IsFoundView file meta f → (shown f.page.page).leaves ≢ []
+  unfolding shown_node
+  some_elements f is none = is.some (ap (λ (b : Bool). entries_of b (shown f.page.page)) (is_leaf f is) ∙ ap (map leaf_entry) none)
+
+  leaf_view : (f : Found) → IsFoundView file meta f → IsFoundLeaf f
+  leaf_view f is = record { kind = f.page.kind ∙ ap tree_kind (is_leaf f is); some = some_elements f is }
+
+  pub are_leaves : (found : List Found) → All (IsFoundView file meta) found → All IsFoundLeaf found
+  are_leaves found all k d within = leaf_view _ (all k d within)
+
+  -- ---- the answer
+
+  module _ (faults : FileFaults) (choice : MetaChoice) (found : List FoundView) (pages : AreFoundPages file meta found) where
+    reported : (losses : List LossView) → IsAllLost file meta (parts losses) → (answer : Answer) → AnswersFound faults file choice losses found answer
+        → IsFoundPagesAnswer faults file choice meta answer
+    reported losses (keeps, all) answer answers =
+        let (own, are) = has_losses file meta in
+        inl (keeps, own, found, are, pages, subst (λ (ls : List LossView). AnswersFound faults file choice ls found answer) (all own are) answers)
+
+    pub found_none_lost : (lost : LostView) → IsAllLost file meta lost → is_nothing lost ≡ true → (answer : Answer) → IsFoundAnswer faults file choice answer
+        → IsFoundPagesAnswer faults file choice meta answer
+    found_none_lost (parts []) is none answer answers = reported [] is answer answers
+    found_none_lost lost is none answer answers = absurd (false≢true none)
+
+    pub found_some_lost : (lost : LostView) → IsAllLost file meta lost → is_nothing lost ≡ false → IsFoundPagesAnswer faults file choice meta (lost_and_found faults lost found)
+    found_some_lost (everything x) loses some = inr (inl (x, found, loses, pages, refl))
+    found_some_lost (parts []) is some = absurd (false≢true (sym some))
+    found_some_lost (parts (loss ∷ losses)) is some = reported (loss ∷ losses) is (lost_and_found faults (parts (loss ∷ losses)) found) refl
+
+-- ---- the joined listing
+
+-- of a file that was searched
+pub salvaged : {file : List ℕ} {choice : MetaChoice} {both : LostAndFound} {j : Joined} (searched : IsSearchOf file choice both) (joins : IsJoinedOf both j) (listing : List Member)
+    → IsJoined file both.meta listing → IsSalvaged file both.meta listing (all_lost both) (map found_view both.found.items)
+salvaged {file} {both = both} searched joins listing is = record {
+  joins = is;
+  loses = searched.lost;
+  finds = are_pages file both.meta both.found.items searched.found searched.views;
+  apart = λ more. rw searched.bytes at (joins.apart (λ none. more (ap (map found_view) none)));
+  some = λ x lost none. joins.some x lost (none_found both.found.items none);
+}
+  where
+    none_found : (fs : List Found) → map found_view fs ≡ [] → fs ≡ []
+    none_found [] is = refl
+    none_found (f ∷ fs) is = absurd (cc)

@@ -1,0 +1,58 @@
+-- What `list` prints of a file is loaded as the listing of the file.
+use Rattle.std.proofs.Common.{◌≡◌, ◌∙◌, ℕ, Bool, List, [], ◌∷◌, Option, Ok, ap, false, inl, inr, refl, subst, sym}
+use Rattle.bolt_commands.proofs.Vocabulary.{Answer, Ending, First, HasSoundTrees, IsFirstFault, IsListAnswer, IsListedAnswer, IsListing, IsListingText, IsOfOneTree, IsReadUnder, Layout, Loads, LoadsListing, Member, Meta, MetaChoice, Path, Rises, filter_all, listing_lines, member_cmp, not, part_below, part_text, path_cmp, rest_from, text_members}
+use Rattle.bolt_commands.proofs.ReadFiles.{read_trees}
+use Rattle.std.specs.Ordering.{is_lt}
+use Rattle.bolt_format.specs.Bytes.{IsBytes}
+use Rattle.bolt_load.specs.{ByteMembers.AreOfBytes, Lines.Text, declared.fault.LineFault.LineFault}
+use Rattle.bolt_load.specs.declared.fault.LoadFault.TheVariants.{Line, Memory}
+use Rattle.bolt_report.specs.{ListLines.listing_text, declared.form.ListForm.TheVariants.Hex}
+
+pub record Below : Type 0 where
+  pub below_root : (listing : List Member) → part_below [] listing ≡ listing
+  pub hex_lines : (listing : List Member) → listing_lines Hex listing ≡ listing_text listing
+  pub one_tree : (file : List ℕ) (meta : Meta) (listing : List Member) → IsBytes file → HasSoundTrees file meta → IsListing file meta listing → IsOfOneTree listing
+  pub of_bytes : (file : List ℕ) (meta : Meta) (listing : List Member) → IsBytes file → IsListing file meta listing → AreOfBytes listing
+  pub right : (listing : List Member) → IsOfOneTree listing → Rises member_cmp listing → AreOfBytes listing → IsListingText (listing_text listing)
+  pub read_back : (listing : List Member) → IsOfOneTree listing → Rises member_cmp listing → AreOfBytes listing → text_members (listing_text listing) ≡ listing
+  pub no_fault : (text : Text) (number : ℕ) (fault : LineFault) → IsListingText text → IsFirstFault text number fault → ⊥
+
+-- no path comes before the empty one
+none_before : (path : Path) → is_lt (path_cmp path []) ≡ false
+none_before [] = refl
+none_before (part ∷ path) = refl
+
+module _ (below : Below) where
+  rest_all : (listing : List Member) → rest_from [] listing ≡ listing
+  rest_all listing = filter_all (λ m. not (is_lt (path_cmp m.0 []))) listing (λ m has. ap not (none_before m.0))
+
+  whole_text : (listing : List Member) → part_text Hex [] [] listing ≡ listing_text listing
+  whole_text listing = ap (λ part. listing_lines Hex (rest_from [] part)) (below.below_root listing) ∙ ap (listing_lines Hex) (rest_all listing) ∙ below.hex_lines listing
+
+  -- what is printed with status 0 is the whole text
+  printed : (file : List ℕ) (meta : Meta) (answer : Answer) → IsListAnswer file Hex [] [] meta answer → answer.ending ≡ Ok 0
+      → (listing : List Member) × IsListing file meta listing × (answer.out ≡ listing_text listing)
+  printed file meta answer (listing, lists, inl is) good = (listing, lists, ap (λ (a : Answer). a.out) is ∙ whole_text listing)
+  printed file meta answer (listing, lists, inr (front, rest, parts, is)) good = absurd (let bad = rw is at good in cc)
+
+  module _ {O T : Type 0} (out_taken : O → Option (List ℕ)) (out_failed : O → ℕ) (target_taken : T → Option (List ℕ)) (target_failed : T → ℕ) where
+    abbrev Told : List Member → List ℕ → Type 0
+    Told listing text = (out_old out_new : O) (target_old target_new : T) (page_size sequence : ℕ) (layout : Layout) (snapshot : Bool) (ending : Ending)
+        → Loads out_taken out_failed out_old out_new target_taken target_failed target_old target_new text page_size sequence layout snapshot ending
+        → LoadsListing out_taken out_failed out_old out_new target_taken target_failed target_old target_new listing text page_size sequence layout snapshot ending
+
+    told : (listing : List Member) (text : List ℕ) → IsListingText text → text_members text ≡ listing → Told listing text
+    told listing text right same out_old out_new target_old target_new page_size sequence layout snapshot ending (inl (is, writes)) =
+        inl (rw same at writes)
+    told listing text right same out_old out_new target_old target_new page_size sequence layout snapshot ending (inr (Memory, is, out, target, ends)) = inr (out, target, ends)
+    told listing text right same out_old out_new target_old target_new page_size sequence layout snapshot ending (inr (Line number fault, is, out, target, ends)) = absurd (below.no_fault text number fault right is)
+
+    pub listed_loads : (file : List ℕ) (choice : MetaChoice) (answer : Answer) → IsBytes file → IsListedAnswer First file choice Hex [] [] answer → answer.ending ≡ Ok 0
+        → (meta : Meta) × (listing : List Member) × IsReadUnder file choice meta × IsListing file meta listing × Told listing answer.out
+    listed_loads file choice answer bytes (inl (meta, under, is)) good =
+        let (listing, lists, out) = printed file meta answer is good in
+        let one = below.one_tree file meta listing bytes (read_trees file choice meta under) lists in
+        let own = below.of_bytes file meta listing bytes lists in
+        let loads = subst (Told listing) (sym out) (told listing (listing_text listing) (below.right listing one lists.rises own) (below.read_back listing one lists.rises own)) in
+        (meta, listing, under, lists, loads)
+    listed_loads file choice answer bytes (inr (fault, refused, (failure, of, is))) good = absurd (let bad = rw is at good in cc)

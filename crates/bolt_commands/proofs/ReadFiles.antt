@@ -1,0 +1,60 @@
+-- What is known of a file that is read, under whatever meta.
+use Rattle.std.proofs.Common.{Option, Some, None, ◌≡◌, ◌<◌, arith, ℕ, List, Result, Ok, Err, ap, inl, inr, refl, subst, sym}
+use Rattle.bolt_commands.proofs.Vocabulary.{Active, Assumed, CheckFault, Checked, Failure, HasFinding, HasSoundTrees, InSlot, IsErrAnd, IsFailureOf, IsInSlot, IsMeta, IsMetaOf, IsPageSize, IsReadUnder, IsRefusedUnder, IsUnrecoverableUnder, Meta, MetaChoice, One, PageSize, Slot, Zero, bytes_of, copy_page_size, meta_of}
+use Rattle.bolt_format.proofs.PageSizes.{size_bounds}
+use Rattle.bolt_check.specs.declared.fault.CheckFault.TheVariants as check
+
+pub read_trees : (file : List ℕ) (choice : MetaChoice) (meta : Meta) → IsReadUnder file choice meta → HasSoundTrees file meta
+read_trees file Active meta (slot, chosen, sound) = sound.trees
+read_trees file choice meta under = under.1
+
+pub read_meta : (file : List ℕ) (choice : MetaChoice) (meta : Meta) → IsReadUnder file choice meta → IsMetaOf file choice meta
+read_meta file Active meta (slot, chosen, sound) = (slot, chosen)
+read_meta file choice meta under = under.0
+
+pub own_trees : (file : List ℕ) (choice : MetaChoice) (checked : Checked) → bytes_of checked ≡ file → IsReadUnder file choice (meta_of checked)
+    → HasSoundTrees (bytes_of checked) (meta_of checked)
+own_trees file choice checked same under = subst (λ (f : List ℕ). HasSoundTrees f (meta_of checked)) (sym same) (read_trees file choice (meta_of checked) under)
+
+-- ---- the page size
+
+meta_page_size : (file : List ℕ) (at : ℕ) (meta : Meta) → IsMeta file at meta → IsPageSize meta.page_size
+meta_page_size file at meta is = subst IsPageSize (sym (ap (λ (m : Meta). m.page_size) is.fields)) is.size
+
+slot_page_size : (file : List ℕ) (slot : Slot) (meta : Meta) → IsInSlot file slot meta → IsPageSize meta.page_size
+slot_page_size file Zero meta is = meta_page_size file 0 meta is
+slot_page_size file One meta (inl is) = meta_page_size file _ meta is.2
+slot_page_size file One meta (inr is) = meta_page_size file is.1.at meta is.1.valid
+
+pub choice_page_size : (file : List ℕ) (choice : MetaChoice) (meta : Meta) → IsMetaOf file choice meta → IsPageSize meta.page_size
+choice_page_size file Active meta (slot, chosen) = slot_page_size file slot meta chosen.valid
+choice_page_size file (InSlot slot) meta is = slot_page_size file slot meta is
+choice_page_size file (Assumed assumed) meta same = subst (λ (m : Meta). IsPageSize m.page_size) (sym same) assumed.page_size.accepted
+
+pub read_page_size : (file : List ℕ) (choice : MetaChoice) (meta : Meta) → IsReadUnder file choice meta → IsPageSize meta.page_size
+read_page_size file choice meta under = choice_page_size file choice meta (read_meta file choice meta under)
+
+pub some_page_size : (file : List ℕ) (choice : MetaChoice) (meta : Meta) → IsMetaOf file choice meta → 0 < meta.page_size
+some_page_size file choice meta is = let (least, most) = size_bounds meta.page_size (choice_page_size file choice meta is) in omega (arith, least)
+
+pub copy_size : (size : Option PageSize) (meta : Meta) → IsPageSize meta.page_size → IsPageSize (copy_page_size size meta)
+copy_size (Some size) meta is = size.accepted
+copy_size None meta is = is
+
+-- ---- why the file is refused, or nothing of it is recovered
+
+pub unread_finding : (file : List ℕ) (choice : MetaChoice) (fault : CheckFault) → IsRefusedUnder file choice fault → HasFinding fault
+unread_finding file Active (check.Accounts findings) (slot, meta, chosen, trees, wrong, are, some) = some
+unread_finding file choice (check.Accounts findings) is = absurd is
+unread_finding file choice fault is = tt
+
+pub unrecoverable_finding : (file : List ℕ) (choice : MetaChoice) (fault : CheckFault) → IsUnrecoverableUnder file choice fault → HasFinding fault
+unrecoverable_finding file Active (check.Accounts findings) is = absurd is
+unrecoverable_finding file choice (check.Accounts findings) is = absurd is
+unrecoverable_finding file choice fault is = tt
+
+-- only the first finding is reported
+pub failure_named : {A : Type 0} (fault : CheckFault) (ending : Result A Failure) → HasFinding fault → IsErrAnd ending (λ said. HasFinding fault → IsFailureOf fault said)
+    → (failure : Failure) × IsFailureOf fault failure × (ending ≡ Err failure)
+failure_named fault (Ok x) has names = absurd names
+failure_named fault (Err said) has names = (said, names has, refl)

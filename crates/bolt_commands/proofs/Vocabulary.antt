@@ -1,0 +1,81 @@
+-- The words that the proofs of this crate cite, passed on from the modules that define them.
+pub use Rattle.bolt_bulk.specs.{Compacting.too_many, declared.fault.BulkFault.BulkFault}
+pub use Rattle.bolt_check.specs.CheckedFiles.{bytes_of, meta_of}
+pub use Rattle.bolt_check.specs.Findings.{IsClaimedBefore, IsMetaPage, finding}
+pub use Rattle.bolt_check.specs.Nodes.{leaf_entry, node_at}
+pub use Rattle.bolt_check.specs.Sound.{HasSoundTrees, IsFirstFinding, IsSound}
+pub use Rattle.bolt_check.specs.{Keys.Key, declared.checked_file.Checked.Checked, declared.fault.CheckFault.CheckFault, declared.fault.Finding.Finding}
+pub use Rattle.bolt_commands.specs.Answers.{AddsEntry, Answer, AnswersFound, AnswersLosses, AreFoundPages, Does, DoesJob, Ending, HasStats, HoldsIn, HoldsNone}
+pub use Rattle.bolt_commands.specs.Answers.{IsCheckAnswer, IsCheckAnswerAfter, IsEndedOrCut, IsEntriesAnswer, IsFileRefusal, IsFoundAnswer, IsFoundPagesAnswer}
+pub use Rattle.bolt_commands.specs.Answers.{IsInfoAnswer, IsJoinedList, IsListAnswer, IsListedAnswer, IsLossesAnswer, IsReadAnswer, IsReadUnder}
+pub use Rattle.bolt_commands.specs.Answers.{IsRecoveredAnswer, IsRecoveredList, IsRecoveredUnder, IsRefusedUnder, IsSalvaged, IsSizesAnswer, IsStatsAnswer}
+pub use Rattle.bolt_commands.specs.Answers.{IsTotal, IsUnrecoverableUnder, LeadsTo, Loads, LoadsListing, MakesCopy, StopsShort, WritesCopy, all_lost_ending}
+pub use Rattle.bolt_commands.specs.Answers.{all_refusal, check_refusal, copy_page_size, copy_report, done, found, found_page, lost_and_found, lost_ending}
+pub use Rattle.bolt_commands.specs.Answers.{no_stats, none_found, page_answer, parents_of, part_ending, part_text, refused, value_shown}
+pub use Rattle.bolt_commands.specs.Failures.{HasFinding, IsFailureOf, copied, unjoined}
+pub use Rattle.bolt_commands.specs.FileFaults.{IsMetasFault, IsOtherFault, errors_in, other_lines}
+pub use Rattle.bolt_commands.specs.GoodCopies.{HasGoodCopies, IsGoodCopy, RefusesFile}
+pub use Rattle.bolt_commands.specs.Private.Copying.{CopiesTo, IsAskedShape, shaped_layout}
+pub use Rattle.bolt_commands.specs.Private.Endings.{end_of, end_of_part, end_written}
+pub use Rattle.bolt_commands.specs.Private.Opened.{HasNoBucket, IsBucketOf, IsJoinedOf, IsSearchOf, IsUnread}
+pub use Rattle.bolt_commands.specs.SnapshotAnswers.{copy_of, hash_differs, hash_found}
+pub use Rattle.bolt_commands.specs.{CopyEnds.EndsCopy, Hashes.HashesSince, declared.failure.Failure.Failure, declared.file_faults.FileFaults.FileFaults}
+pub use Rattle.bolt_commands.specs.{Private.Printing.PrintsAnswer, Private.Reports.EndsCopying}
+pub use Rattle.bolt_format.proofs.SinkLemmas.{AppendsProperPrefix-first, AppendsProperPrefix-second}
+pub use Rattle.bolt_format.proofs.WroteLemmas.{Wrote-ends, Wrote-return, Wrote-same, Wrote-stop, Wrote-then, broken_by}
+pub use Rattle.bolt_format.specs.Elements.{LeafElement, head_sequence}
+pub use Rattle.bolt_format.specs.Metas.{HasBothMetas, HasMetaFault, HasSlotFault, IsChosen, IsInSlot, IsMeta, IsPageSize, page_size_count, page_sizes}
+pub use Rattle.bolt_format.specs.declared.meta.Slot.TheVariants.{One, Zero}
+pub use Rattle.bolt_format.specs.{Sinks.AppendsProperPrefix, Endings.ending, Wrote.Wrote, declared.meta.Meta.Meta, declared.meta.MetaFault.MetaFault}
+pub use Rattle.bolt_format.specs.{declared.meta.Slot.Slot, declared.sink.Sink.Ghosts, declared.sink.SinkFault.SinkFault}
+pub use Rattle.bolt_job.specs.CopyKinds.{is_snapshot, layout_for}
+pub use Rattle.bolt_job.specs.MetaChoices.{IsMetaOf, assumed_for}
+pub use Rattle.bolt_job.specs.declared.choices.Extent.TheVariants.{First, Losses}
+pub use Rattle.bolt_job.specs.declared.choices.MetaChoice.TheVariants.{Active, Assumed, InSlot}
+pub use Rattle.bolt_job.specs.{PlainWords.path_in, declared.choices.Extent.Extent, declared.job.Job.Job, declared.choices.MetaChoice.MetaChoice}
+pub use Rattle.bolt_job.specs.{declared.choices.PageSize.PageSize}
+pub use Rattle.bolt_layout.specs.Copies.{IsAsked, IsOfOneTree, IsSoundCopy, RefusesPrefixes, layout_of_listing}
+pub use Rattle.bolt_layout.specs.{declared.layout.Layout.Layout}
+pub use Rattle.bolt_load.specs.LineFaults.{IsFirstFault, IsListingText}
+pub use Rattle.bolt_load.specs.{LineMembers.text_members}
+pub use Rattle.bolt_recover.proofs.Existing.{has_losses, has_recovered}
+pub use Rattle.bolt_recover.specs.JoinedMembers.{ForJoined, joined_file, joined_left, joined_meta}
+pub use Rattle.bolt_recover.specs.Losses.{AreLosses, LossView, LostView, everything, is_nothing, loss_at, losses_of, parts}
+pub use Rattle.bolt_recover.specs.Places.{Place, leaves_of, place_at}
+pub use Rattle.bolt_recover.specs.Recovered.{ForRecovered, IsRecovered}
+pub use Rattle.bolt_recover.specs.Recoveries.{ForLosses, recovery_file, recovery_left, recovery_losses, recovery_meta, recovery_work}
+pub use Rattle.bolt_recover.specs.ShownLosses.{loss_view, lost_view}
+pub use Rattle.bolt_recover.specs.{Joined.IsJoined, LostAndFound.all_lost, declared.found.Found.Found, declared.lost_and_found.LostAndFound.LostAndFound}
+pub use Rattle.bolt_report.specs.FoundLines.{FoundView, IsFoundLeaf, counted_lost_text, found_view}
+pub use Rattle.bolt_report.specs.KeyLines.{buckets_text, keys_text}
+pub use Rattle.bolt_report.specs.{Figures.add_stats, ListForms.listing_lines, ReportEndings.report_ending, declared.fault.ReportFault.ReportFault}
+pub use Rattle.bolt_report.specs.{declared.form.FigureForm.FigureForm, declared.form.Form.TheVariants.Json, declared.form.ListForm.ListForm}
+pub use Rattle.bolt_report.specs.{declared.statistics.Stats.Stats}
+pub use Rattle.bolt_snapshot.specs.SnapshotFaults.{IsSnapshot, hash_fault, snapshot_of}
+pub use Rattle.bolt_snapshot.specs.{declared.hash_check.SnapshotFault.TheVariants.HashMissing}
+pub use Rattle.bolt_tree.proofs.Leaving.{fewer_left, next_shows, the_entries}
+pub use Rattle.bolt_tree.proofs.Named.{entry_once, held_down, held_up, names_push}
+pub use Rattle.bolt_tree.proofs.{Existing.has_listing, Filters.filter_all}
+pub use Rattle.bolt_tree.specs.Buckets.{bucket_checked, bucket_start}
+pub use Rattle.bolt_tree.specs.Cursors.{cursor_checked, cursor_place, cursor_start}
+pub use Rattle.bolt_tree.specs.Entries.{AreEntries, EntryView, IsEntry, Item, Root_page, Start, Value, item_of, start_of}
+pub use Rattle.bolt_tree.specs.EntriesLeft.{ForEntries, entries_left}
+pub use Rattle.bolt_tree.specs.FileListings.{ForListing, root_start}
+pub use Rattle.bolt_tree.specs.Listing.{IsListing, Member, member_cmp, rest_from}
+pub use Rattle.bolt_tree.specs.ListingParts.{has_bucket, is_bucket, is_bucket_at, part_below}
+pub use Rattle.bolt_tree.specs.Lookups.{IsBucketAt, IsValueAt}
+pub use Rattle.bolt_tree.specs.Paths.{Holds, Names, Path, path_cmp, path_of}
+pub use Rattle.bolt_tree.specs.{BucketViews.entries_of, Order.Rises, declared.bucket.Bucket.Bucket}
+pub use Rattle.sha2.proofs.{Facts256.length-sha256}
+pub use Rattle.sha2.specs.{Hashers.Holds256, Sha256.sha256, declared.Sha256.Sha256}
+pub use Rattle.std.proofs.KnownBytes.{Appends-kept, Appends-nil, Appends-trans}
+pub use Rattle.std.proofs.Math.Logic.{∥∥₁_elim, ∥∥₁_map}
+pub use Rattle.std.proofs.Math.Seq.{drop-append_seam, take-append_seam}
+pub use Rattle.std.proofs.lemmas.Bool.{and_parts, both_ways, cases_Bool, cases_lt, eq-eqb, eqb-true, false≢true, or_cases, or_left, or_right}
+pub use Rattle.std.proofs.lemmas.List.{drop_more, length-append, map-append, take-append-drop, take-append-le}
+pub use Rattle.std.proofs.lemmas.Slice.Eq.{bytes_eq-Decides, slice_eq-Decides}
+pub use Rattle.std.proofs.{Props.props, lemmas.Grind.common_steps}
+pub use Rattle.std.specs.Io.KnownBytes.{Appends, Keeps}
+pub use Rattle.std.specs.List.{All, AllByRecursion, Contains, list_any, range_with_len}
+pub use Rattle.std.specs.Prelude.{IsOk, OnErr, OnOk, not, ⊤}
+pub use Rattle.std.specs.{Cmp.Lexicographic.pointwise, Result.IsErrAnd, Str.bytes_eq}

@@ -1,0 +1,17 @@
+-- The target has accepted what the hashing sink has.
+use Rattle.bolt_commands.proofs.copies.hash_all.Goals as goal
+
+pub returns-clause-copied : goal.returns-clause-copied
+returns-clause-copied g c = λ listing is.
+    let a = c.copy-result.ensures.copied listing is in
+    record {
+      all = a.all;
+      bytes = a.bytes;
+      sound = a.sound;
+      short = a.short;
+      failure = a.failure;
+      other = a.other;
+      large = a.large;
+      refuses = a.refuses;
+      untouched = a.untouched;
+    }

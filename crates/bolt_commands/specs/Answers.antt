@@ -1,0 +1,536 @@
+-- What the program answers to each command, and what its sinks accept: docs/COMMANDS.md, "What a run writes".
+use Rattle.std.specs.Prelude.{◌≡◌, ◌≢◌, ◌<◌, ◌≤◌, ◌-◌, ◌⊎◌, ℕ, List, [], ◌∷◌, ◌++◌, Bool, true, false, codes, decimal, length, map, take, Option, Some, None, Result, Ok, Err, if◌then◌else◌}
+use Rattle.std.specs.Io.KnownBytes.{Appends, Keeps}
+use Rattle.bolt_bulk.specs.Compacting.{too_many}
+use Rattle.bolt_layout.specs.Copies.{layout_of_listing}
+use Rattle.bolt_check.specs.{Roles.AreRoles, Sound.AreTreesRefused, Sound.HasSoundTrees, Sound.IsRefused, Sound.IsSlotRefused, Sound.IsSound}
+use Rattle.bolt_check.specs.declared.fault.CheckFault.{CheckFault}
+use Rattle.bolt_check.specs.declared.fault.CheckFault.TheVariants as check
+use Rattle.bolt_check.specs.{declared.fault.Finding.Finding, declared.role_table.Role.Role}
+use Rattle.bolt_format.specs.{Elements.LeafElement, Metas.HasMetaFault, Metas.HasSlotFault, Metas.IsChosen, Metas.IsInSlot, Pages.page_at}
+use Rattle.bolt_format.specs.{Sinks.AppendsPrefix, Sinks.AppendsProperPrefix, declared.open_page.PageFault.PageFault, declared.meta.Meta.Meta}
+use Rattle.bolt_format.specs.{declared.meta.MetaFault.MetaFault, declared.meta.Slot.Slot}
+use Rattle.bolt_load.specs.{LineFaults.IsListingText, LineFaults.IsLoadFault, LineMembers.text_members, declared.fault.LoadFault.LoadFault}
+use Rattle.bolt_recover.specs.{Found.AreFound, JoinRefusals.IsJoinRefusal, Joined.IsJoined, Joined.LacksBucketKey}
+use Rattle.bolt_recover.specs.{Losses.AreLosses, Losses.LossView, Losses.LostView, Losses.everything, Losses.parts, Lost.IsAllLost, Places.leaves_of}
+use Rattle.bolt_recover.specs.Recovered.{ForRecovered, IsRecovered}
+use Rattle.bolt_recover.specs.Refusals.{IsRefusedRoot, IsSlotUnrecoverable, IsUnrecoverable, KeepsRoot, LosesRoot}
+use Rattle.bolt_recover.specs.declared.joined.JoinFault.{JoinFault}
+use Rattle.bolt_report.specs.{FaultWords.findings_text, FoundLines.FoundView, FoundLines.counted_lost_text, FoundLines.lost_text}
+use Rattle.bolt_report.specs.{Forms.item_text, Forms.value_text, Figures.add_stats, Figures.stats_text, KeyLines.buckets_text, KeyLines.keys_text}
+use Rattle.bolt_report.specs.{KeyPrefixes.with_prefix, ListForms.listing_lines, MetaLines.info_text, PageMaps.map_text, PageTables.pages_text}
+use Rattle.bolt_report.specs.{PageTexts.page_text, PageTexts.page_text_fault, SizeLines.AreSized, SizeLines.Sized, SizeLines.sizes_text, StatsOf.IsStatsOf}
+use Rattle.bolt_report.specs.{declared.statistics.Stats.Stats, declared.form.FigureForm.FigureForm, declared.form.Form.Form}
+use Rattle.bolt_report.specs.{declared.form.Form.TheVariants.Json, declared.form.ListForm.ListForm}
+use Rattle.bolt_tree.specs.Entries.{AreEntries, IsEntry, Item, Root_page, Start, Value, start_of}
+use Rattle.bolt_tree.specs.{Listing.IsListing, Listing.Member, Listing.rest_from, ListingParts.bucket_part, ListingParts.has_bucket}
+use Rattle.bolt_tree.specs.Paths.{Holds, Names, Path}
+use Rattle.bolt_job.specs.CopyKinds.{is_snapshot, layout_for}
+use Rattle.bolt_commands.specs.Failures.{IsFailureOf, failure_line, unjoined, unloaded}
+use Rattle.bolt_commands.specs.{FileFaults.AreFileFaults, FileFaults.errors_in, FileFaults.fault_lines, FileFaults.is_fine, GoodCopies.IsGoodCopy}
+use Rattle.bolt_job.specs.MetaChoices.{HasNoMetaOf, IsMetaOf, assumed_for}
+use Rattle.bolt_commands.specs.SnapshotAnswers.{copy_of, differing_line, hash_differs}
+use Rattle.bolt_job.specs.declared.choices.Extent.{Extent}
+use Rattle.bolt_job.specs.declared.choices.Extent.TheVariants.{First, LostAndFound, Losses}
+use Rattle.bolt_commands.specs.declared.failure.Failure.{Failure}
+use Rattle.bolt_commands.specs.declared.failure.Failure.TheVariants as failure
+use Rattle.bolt_commands.specs.declared.file_faults.FileFaults.{FileFaults}
+use Rattle.bolt_job.specs.declared.job.Job.{Job}
+use Rattle.bolt_job.specs.declared.job.Job.TheVariants as job
+use Rattle.bolt_job.specs.declared.choices.MetaChoice.{MetaChoice}
+use Rattle.bolt_job.specs.declared.choices.MetaChoice.TheVariants.{Active, Assumed, InSlot}
+use Rattle.bolt_job.specs.{declared.choices.PageSize.PageSize, PlainWords.path_in}
+use Rattle.bolt_layout.specs.declared.layout.Layout.{Layout}
+
+-- How a job ends: with a status, or with a failure that is reported.
+abbrev pub Ending : Type 0
+Ending = Result ℕ Failure
+
+-- the text for standard output, and how the job ends
+pub record Answer : Type 0 where
+  pub out : List ℕ
+  pub ending : Ending
+
+abbrev pub done : List ℕ → Answer
+done text = record { out = text; ending = Ok 0 }
+
+abbrev pub refused : Failure → Answer
+refused failure = record { out = []; ending = Err failure }
+
+-- ---- `page` and `info`, which open the file by its metas alone
+
+abbrev pub page_answer : Option PageFault → List ℕ → Answer
+page_answer None text = done text
+page_answer (Some fault) text = refused (failure.Page fault)
+
+-- the meta that is shown: that of the slot that is named, or the active one
+abbrev pub IsShownMeta : List ℕ → Option Slot → Slot → Meta → Type 0
+IsShownMeta file None slot meta = IsChosen file slot meta
+IsShownMeta file (Some named) slot meta = (slot ≡ named) × IsInSlot file named meta
+
+-- why there is none
+abbrev pub HasNoMeta : List ℕ → Option Slot → MetaFault → Type 0
+HasNoMeta file None fault = HasMetaFault file 0 fault × ((slot : Slot) (meta : Meta) → IsInSlot file slot meta → ⊥)
+HasNoMeta file (Some slot) fault = HasSlotFault file slot fault × ((meta : Meta) → IsInSlot file slot meta → ⊥)
+
+abbrev pub IsInfoAnswer : List ℕ → Option Slot → FigureForm → Answer → Type 0
+IsInfoAnswer file wanted form answer =
+    ((slot : Slot) × (meta : Meta) × IsShownMeta file wanted slot meta × (answer ≡ done (info_text form slot meta)))
+    ⊎ ((fault : MetaFault) × HasNoMeta file wanted fault × (answer ≡ refused (failure.Metas fault)))
+
+abbrev pub IsPageAnswer : List ℕ → MetaChoice → ℕ → Answer → Type 0
+IsPageAnswer file choice id answer =
+    ((meta : Meta) × IsMetaOf file choice meta × (answer ≡ page_answer (page_text_fault file meta id) (page_text file meta id)))
+    ⊎ ((fault : MetaFault) × HasNoMetaOf file choice fault × (answer ≡ refused (failure.Metas fault)))
+
+-- ---- the other commands, which check the file
+
+-- what was found goes to standard output; what is wrong with the file apart from its pages comes first, and each of that is an error too
+abbrev pub found : FileFaults → List Finding → Answer
+found faults findings = record { out = fault_lines faults ++ findings_text (errors_in faults) findings; ending = Ok 1 }
+
+-- nothing else is wrong
+abbrev pub none_found : FileFaults → Answer
+none_found faults = if is_fine faults then done (codes "OK\n") else found faults []
+
+abbrev pub check_refusal : FileFaults → CheckFault → Answer
+check_refusal faults (check.Open fault) = record { out = fault_lines faults; ending = Err (failure.Metas fault) }
+check_refusal faults (check.Structure x) = found faults (x ∷ [])
+check_refusal faults (check.Accounts findings) = found faults findings.items
+check_refusal faults check.Memory = refused failure.Memory
+
+-- a path leads from the root bucket to this one; and what it holds
+abbrev pub LeadsTo : List ℕ → Meta → Path → Start → Type 0
+LeadsTo file meta path bucket = Names (IsEntry file meta) (Root_page meta.root) path bucket
+
+abbrev pub HoldsIn : List ℕ → Meta → Path → Item → Type 0
+HoldsIn file meta path item = Holds (IsEntry file meta) (Root_page meta.root) path item
+
+-- all parts but the last
+abbrev pub parents_of : Path → Path
+parents_of path = take (length path - 1) path
+
+-- a prefix of the text, since memory ran out
+abbrev pub IsCut : List ℕ → Answer → Type 0
+IsCut text answer = (front rest : List ℕ) × (text ≡ front ++ rest) × (answer ≡ record { out = front; ending = Err failure.Memory })
+
+-- the whole text, and this ending; or a prefix of it, if memory ran out
+abbrev pub IsEndedOrCut : List ℕ → Ending → Answer → Type 0
+IsEndedOrCut text ending answer = (answer ≡ record { out = text; ending = ending }) ⊎ IsCut text answer
+
+abbrev pub IsWholeOrCut : List ℕ → Answer → Type 0
+IsWholeOrCut text answer = IsEndedOrCut text (Ok 0) answer
+
+-- the whole text; or a prefix of it, if memory ran out, which JSON alone needs
+abbrev pub IsShownText : Form → List ℕ → Answer → Type 0
+IsShownText form text answer =
+    (answer ≡ done text)
+    ⊎ ((form ≡ Json) × (front : List ℕ) × (rest : List ℕ) × (text ≡ front ++ rest) × (answer ≡ record { out = front; ending = Err failure.Memory }))
+
+-- a text of the entries of the bucket that the path leads to; or it leads to none
+abbrev pub IsEntriesAnswer : List ℕ → Path → Form → (List LeafElement → List ℕ) → Meta → Answer → Type 0
+IsEntriesAnswer file path form text meta answer =
+    ((bucket : Start) × (entries : List LeafElement) × LeadsTo file meta path bucket × AreEntries (IsEntry file meta) bucket entries × IsShownText form (text entries) answer)
+    ⊎ (((bucket : Start) → LeadsTo file meta path bucket → ⊥) × (answer ≡ refused failure.NoBucket))
+
+-- The path holds no value: all of its parts but the last lead to a bucket, or they lead to none.
+abbrev pub HoldsNone : List ℕ → Path → Meta → Failure → Type 0
+HoldsNone file path meta reason =
+    ((reason ≡ failure.NoKey) × ((value : List ℕ) → HoldsIn file meta path (Value value) → ⊥) × ((bucket : Start) × ∥ LeadsTo file meta (parents_of path) bucket ∥₁))
+    ⊎ ((reason ≡ failure.NoBucket) × ((bucket : Start) → LeadsTo file meta (parents_of path) bucket → ⊥))
+
+-- a value in a form, with a line feed or without one
+abbrev pub value_shown : (no_newline : Bool) → Form → List ℕ → List ℕ
+value_shown false form value = value_text form value
+value_shown true form value = item_text form value
+
+-- the value that the path holds; or why it holds none
+abbrev pub IsGetAnswer : List ℕ → Path → Form → (no_newline : Bool) → Meta → Answer → Type 0
+IsGetAnswer file path form no_newline meta answer =
+    ((value : List ℕ) × HoldsIn file meta path (Value value) × IsShownText form (value_shown no_newline form value) answer)
+    ⊎ ((reason : Failure) × HoldsNone file path meta reason × (answer ≡ refused reason))
+
+-- The sizes of the buckets in the bucket that the path leads to, or memory ran out, and a prefix of the text was written; or the path leads to
+-- no bucket.
+abbrev pub IsSizesAnswer : List ℕ → Path → Form → Meta → Answer → Type 0
+IsSizesAnswer file path form meta answer =
+    ((bucket : Start) × (entries : List LeafElement) × (sized : List Sized) × LeadsTo file meta path bucket × AreEntries (IsEntry file meta) bucket entries
+    × AreSized file meta entries sized × IsWholeOrCut (sizes_text form sized) answer)
+    ⊎ (((bucket : Start) → LeadsTo file meta path bucket → ⊥) × (answer ≡ refused failure.NoBucket))
+
+-- the names of the buckets, or their sizes
+abbrev pub IsBucketsAnswer : List ℕ → Path → Form → (sizes : Bool) → Meta → Answer → Type 0
+IsBucketsAnswer file path form false meta answer = IsEntriesAnswer file path form (buckets_text form) meta answer
+IsBucketsAnswer file path form true meta answer = IsSizesAnswer file path form meta answer
+
+-- a line for each member of a listing at and below the bucket at a path that doesn't come before another path
+abbrev pub part_text : ListForm → (path from : Path) → List Member → List ℕ
+part_text form path from listing = listing_lines form (rest_from from (bucket_part path listing))
+
+-- if the listing doesn't have that bucket, this is reported
+abbrev pub part_ending : Path → List Member → Ending → Ending
+part_ending path listing ending = if has_bucket path listing then ending else Err failure.NoBucket
+
+-- a part of the listing; or memory ran out, and a prefix of it was written
+abbrev pub IsListAnswer : List ℕ → ListForm → (path from : Path) → Meta → Answer → Type 0
+IsListAnswer file form path from meta answer =
+    (listing : List Member) × IsListing file meta listing × IsEndedOrCut (part_text form path from listing) (part_ending path listing (Ok 0)) answer
+
+-- the table of all pages by their roles, or the map of them
+abbrev pub pages_shown : (as_map : Bool) → List ℕ → Meta → (ℕ → Role) → List ℕ
+pages_shown false file meta roles = pages_text file meta roles
+pages_shown true file meta roles = map_text file meta roles
+
+-- the text of the pages
+abbrev pub IsPagesAnswer : List ℕ → (as_map : Bool) → Meta → Answer → Type 0
+IsPagesAnswer file as_map meta answer = (roles : ℕ → Role) × AreRoles file meta roles × (answer ≡ done (pages_shown as_map file meta roles))
+
+abbrev pub no_stats : Stats
+no_stats = record {
+  buckets = 0;
+  inline_buckets = 0;
+  inline_used = 0;
+  keys = 0;
+  depth = 0;
+  branch_pages = 0;
+  branch_overflow = 0;
+  branch_allocated = 0;
+  branch_used = 0;
+  leaf_pages = 0;
+  leaf_overflow = 0;
+  leaf_allocated = 0;
+  leaf_used = 0;
+}
+
+-- what an entry adds to the figures so far: those of its bucket, if it is one
+abbrev pub AddsBy : Bool → List ℕ → Meta → LeafElement → (before after : Stats) → Type 0
+AddsBy true file meta e before after = (own : Stats) × IsStatsOf file meta (start_of e.value) own × (after ≡ add_stats before own)
+AddsBy false file meta e before after = after ≡ before
+
+abbrev pub AddsEntry : List ℕ → Meta → LeafElement → (before after : Stats) → Type 0
+AddsEntry file meta e before after = AddsBy e.is_bucket file meta e before after
+
+-- the figures of the buckets among these entries, added to those so far
+abbrev pub IsTotal : List ℕ → Meta → List LeafElement → (before total : Stats) → Type 0
+IsTotal file meta [] before total = total ≡ before
+IsTotal file meta (e ∷ entries) before total = (after : Stats) × AddsEntry file meta e before after × IsTotal file meta entries after total
+
+-- the figures of the bucket that the path leads to, with all in it; the root bucket's are the sum over its buckets
+abbrev pub HasStats : List ℕ → Path → Meta → Stats → Type 0
+HasStats file [] meta stats =
+    (entries : List LeafElement) × ∥ AreEntries (IsEntry file meta) (Root_page meta.root) entries × IsTotal file meta entries no_stats stats ∥₁
+HasStats file (part ∷ path) meta stats = (bucket : Start) × ∥ LeadsTo file meta (part ∷ path) bucket × IsStatsOf file meta bucket stats ∥₁
+
+-- the figures; or the path leads to no bucket; or memory ran out before anything was written
+abbrev pub IsStatsAnswer : List ℕ → Path → FigureForm → Meta → Answer → Type 0
+IsStatsAnswer file path form meta answer =
+    ((stats : Stats) × HasStats file path meta stats × (answer ≡ done (stats_text form stats)))
+    ⊎ (((bucket : Start) → LeadsTo file meta path bucket → ⊥) × (answer ≡ refused failure.NoBucket))
+    ⊎ (answer ≡ refused failure.Memory)
+
+-- the answer if the file is sound, or if it is refused
+abbrev pub IsCheckedAnswer : List ℕ → (Meta → Answer → Type 0) → (CheckFault → Answer → Type 0) → Answer → Type 0
+IsCheckedAnswer file IsAccepted IsRefusal answer =
+    ((slot : Slot) × (meta : Meta) × IsChosen file slot meta × IsSound file meta true × IsAccepted meta answer)
+    ⊎ ((fault : CheckFault) × IsRefused file fault × IsRefusal fault answer)
+
+-- only the first finding is reported
+abbrev pub IsFileRefusal : CheckFault → Answer → Type 0
+IsFileRefusal fault answer = (failure : Failure) × IsFailureOf fault failure × (answer ≡ refused failure)
+
+-- the meta that the file is read under; of the active one the accounts count too
+abbrev pub IsReadUnder : List ℕ → MetaChoice → Meta → Type 0
+IsReadUnder file Active meta = (slot : Slot) × IsChosen file slot meta × IsSound file meta true
+IsReadUnder file (InSlot slot) meta = IsInSlot file slot meta × HasSoundTrees file meta
+IsReadUnder file (Assumed assumed) meta = (meta ≡ assumed_for file assumed) × HasSoundTrees file meta
+
+abbrev pub IsRefusedUnder : List ℕ → MetaChoice → CheckFault → Type 0
+IsRefusedUnder file Active fault = IsRefused file fault
+IsRefusedUnder file (InSlot slot) fault = IsSlotRefused file slot fault
+IsRefusedUnder file (Assumed assumed) fault = AreTreesRefused file (assumed_for file assumed) fault
+
+abbrev pub IsReadAnswer : List ℕ → MetaChoice → (Meta → Answer → Type 0) → Answer → Type 0
+IsReadAnswer file choice IsAccepted answer =
+    ((meta : Meta) × IsReadUnder file choice meta × IsAccepted meta answer)
+    ⊎ ((fault : CheckFault) × IsRefusedUnder file choice fault × IsFileRefusal fault answer)
+
+-- ---- `check`
+
+abbrev pub IsFoundAnswer : FileFaults → List ℕ → MetaChoice → Answer → Type 0
+IsFoundAnswer faults file choice answer =
+    ((meta : Meta) × IsReadUnder file choice meta × (answer ≡ none_found faults))
+    ⊎ ((fault : CheckFault) × IsRefusedUnder file choice fault × (answer ≡ check_refusal faults fault))
+
+-- ---- what is recovered of a damaged file
+
+-- the meta under which it is read, where its root page is kept; or why nothing is recovered
+abbrev pub IsRecoveredUnder : List ℕ → MetaChoice → Meta → Type 0
+IsRecoveredUnder file choice meta = IsMetaOf file choice meta × KeepsRoot file meta
+
+abbrev pub IsUnrecoverableUnder : List ℕ → MetaChoice → CheckFault → Type 0
+IsUnrecoverableUnder file Active fault = IsUnrecoverable file fault
+IsUnrecoverableUnder file (InSlot slot) fault = IsSlotUnrecoverable file slot fault
+IsUnrecoverableUnder file (Assumed assumed) fault = IsRefusedRoot file (assumed_for file assumed) fault
+
+abbrev pub IsRecoveredAnswer : List ℕ → MetaChoice → (Meta → Answer → Type 0) → (CheckFault → Answer → Type 0) → Answer → Type 0
+IsRecoveredAnswer file choice IsAccepted IsRefusal answer =
+    ((meta : Meta) × IsRecoveredUnder file choice meta × IsAccepted meta answer)
+    ⊎ ((fault : CheckFault) × IsUnrecoverableUnder file choice fault × IsRefusal fault answer)
+
+-- if something was lost, the number of losses is reported on standard error
+abbrev pub lost_ending : List LossView → Ending
+lost_ending [] = Ok 0
+lost_ending (loss ∷ losses) = Err (failure.Lost (length (loss ∷ losses)))
+
+-- a part of the recovered listing; or a prefix of it, if memory ran out
+abbrev pub IsRecoveredList : List ℕ → ListForm → (path from : Path) → Meta → Answer → Type 0
+IsRecoveredList file form path from meta answer =
+    (listing : List Member) × (losses : List LossView) × IsRecovered file meta listing × AreLosses file meta losses
+    × IsEndedOrCut (part_text form path from listing) (part_ending path listing (lost_ending losses)) answer
+
+-- each loss and each page that is found; what is wrong with the file apart from its pages comes first
+abbrev pub lost_and_found : FileFaults → LostView → List FoundView → Answer
+lost_and_found faults lost found = record { out = fault_lines faults ++ counted_lost_text (errors_in faults) lost found; ending = Ok 1 }
+
+-- each loss; if nothing is lost, what `check` writes; or nothing, if memory ran out
+abbrev pub AnswersLosses : FileFaults → List ℕ → MetaChoice → List LossView → Answer → Type 0
+AnswersLosses faults file choice [] answer = IsFoundAnswer faults file choice answer
+AnswersLosses faults file choice (loss ∷ losses) answer = answer ≡ lost_and_found faults (parts (loss ∷ losses)) []
+
+abbrev pub IsLossesAnswer : FileFaults → List ℕ → MetaChoice → Meta → Answer → Type 0
+IsLossesAnswer faults file choice meta answer = ((losses : List LossView) × AreLosses file meta losses × AnswersLosses faults file choice losses answer) ⊎ (answer ≡ refused failure.Memory)
+
+abbrev pub all_refusal : FileFaults → CheckFault → Answer
+all_refusal faults (check.Structure x) = lost_and_found faults (everything x) []
+all_refusal faults (check.Open fault) = check_refusal faults (check.Open fault)
+all_refusal faults (check.Accounts findings) = check_refusal faults (check.Accounts findings)
+all_refusal faults check.Memory = check_refusal faults check.Memory
+
+-- ---- the pages that are found though nothing leads to them
+
+abbrev pub found_page : List ℕ → Meta → ℕ → FoundView
+found_page file meta n = record { number = n; elements = leaves_of (page_at file meta n) }
+
+abbrev pub AreFoundPages : List ℕ → Meta → List FoundView → Type 0
+AreFoundPages file meta found = (numbers : List ℕ) × AreFound file meta numbers × (found ≡ map (found_page file meta) numbers)
+
+-- if nothing is lost, what `check` writes
+abbrev pub AnswersFound : FileFaults → List ℕ → MetaChoice → List LossView → List FoundView → Answer → Type 0
+AnswersFound faults file choice [] found answer = IsFoundAnswer faults file choice answer
+AnswersFound faults file choice (loss ∷ losses) found answer = answer ≡ lost_and_found faults (parts (loss ∷ losses)) found
+
+-- of a file whose root page is lost; or nothing, if memory ran out
+abbrev pub IsRootlessAnswer : FileFaults → List ℕ → Meta → Answer → Type 0
+IsRootlessAnswer faults file meta answer =
+    ((x : Finding) × (found : List FoundView) × LosesRoot file meta x × AreFoundPages file meta found × (answer ≡ lost_and_found faults (everything x) found))
+    ⊎ (answer ≡ refused failure.Memory)
+
+-- of a file whose root page is kept, or lost
+abbrev pub IsFoundPagesAnswer : FileFaults → List ℕ → MetaChoice → Meta → Answer → Type 0
+IsFoundPagesAnswer faults file choice meta answer =
+    (KeepsRoot file meta × (losses : List LossView) × (found : List FoundView) × AreLosses file meta losses × AreFoundPages file meta found × AnswersFound faults file choice losses found answer)
+    ⊎ IsRootlessAnswer faults file meta answer
+
+abbrev pub IsLostAndFoundAnswer : FileFaults → List ℕ → MetaChoice → Answer → Type 0
+IsLostAndFoundAnswer faults file choice answer =
+    ((meta : Meta) × IsMetaOf file choice meta × IsFoundPagesAnswer faults file choice meta answer)
+    ⊎ ((fault : MetaFault) × HasNoMetaOf file choice fault × (answer ≡ check_refusal faults (check.Open fault)))
+
+-- ---- the joined listing
+
+-- the joined listing of a file, what is lost and what is found; if everything is lost, a page is found
+pub record IsSalvaged (file : List ℕ) (meta : Meta) (listing : List Member) (lost : LostView) (found : List FoundView) : Type 0 where
+  pub joins : IsJoined file meta listing
+  pub loses : IsAllLost file meta lost
+  pub finds : AreFoundPages file meta found
+  pub apart : found ≢ [] → ForRecovered file meta LacksBucketKey
+  pub some : (x : Finding) → lost ≡ everything x → found ≢ []
+
+-- why there is none
+abbrev pub IsUnjoined : List ℕ → Meta → Failure → Type 0
+IsUnjoined file meta why =
+    (found : List ℕ) × (fault : JoinFault) × AreFound file meta found × IsJoinRefusal file meta found fault × (why ≡ unjoined fault)
+
+abbrev pub IsUnjoinedUnder : List ℕ → MetaChoice → Failure → Type 0
+IsUnjoinedUnder file choice why =
+    ((meta : Meta) × IsMetaOf file choice meta × IsUnjoined file meta why)
+    ⊎ ((fault : MetaFault) × HasNoMetaOf file choice fault × (why ≡ failure.Metas fault))
+
+-- all that is lost is reported too
+abbrev pub all_lost_ending : LostView → Ending
+all_lost_ending (everything x) = Err (failure.Lost 1)
+all_lost_ending (parts losses) = lost_ending losses
+
+-- a part of the joined listing; or a prefix of it, if memory ran out; or why there is none
+abbrev pub IsJoinedList : List ℕ → MetaChoice → ListForm → (path from : Path) → Answer → Type 0
+IsJoinedList file choice form path from answer =
+    ((meta : Meta) × (listing : List Member) × (lost : LostView) × (found : List FoundView) × IsMetaOf file choice meta × IsSalvaged file meta listing lost found
+    × (answer ≡ record { out = part_text form path from listing; ending = part_ending path listing (all_lost_ending lost) }))
+    ⊎ ((meta : Meta) × (listing : List Member) × IsMetaOf file choice meta × IsJoined file meta listing × IsCut (part_text form path from listing) answer)
+    ⊎ ((why : Failure) × IsUnjoinedUnder file choice why × (answer ≡ refused why))
+
+-- `check`, `check --all` and `check --lost-and-found` of a file of which is known what else is wrong with it
+abbrev pub IsCheckAnswerAfter : Extent → FileFaults → List ℕ → MetaChoice → Answer → Type 0
+IsCheckAnswerAfter First faults file choice answer = IsFoundAnswer faults file choice answer
+IsCheckAnswerAfter LostAndFound faults file choice answer = IsLostAndFoundAnswer faults file choice answer
+IsCheckAnswerAfter Losses faults file choice answer = IsRecoveredAnswer file choice (IsLossesAnswer faults file choice) (λ fault answer. answer ≡ all_refusal faults fault) answer
+
+-- `check` to any extent, and of a snapshot; `list` to any extent
+abbrev pub IsCheckAnswer : Extent → (snapshot : Bool) → List ℕ → MetaChoice → Answer → Type 0
+IsCheckAnswer extent snapshot file choice answer =
+    (faults : FileFaults) × AreFileFaults extent snapshot file choice faults × IsCheckAnswerAfter extent faults file choice answer
+
+abbrev pub IsListedAnswer : Extent → List ℕ → MetaChoice → ListForm → (path from : Path) → Answer → Type 0
+IsListedAnswer First file choice form path from answer = IsReadAnswer file choice (IsListAnswer file form path from) answer
+IsListedAnswer Losses file choice form path from answer = IsRecoveredAnswer file choice (IsRecoveredList file form path from) IsFileRefusal answer
+IsListedAnswer LostAndFound file choice form path from answer = IsJoinedList file choice form path from answer
+
+-- From its state `old` to `new` standard output accepted the text of the answer without a failure, and the job ends so; or it failed,
+-- accepted a prefix, and the job ends with that.
+abbrev pub Does : {S : Type 0} → (taken : S → Option (List ℕ)) (failed : S → ℕ) (old new : S) → Answer → Ending → Type 0
+Does taken failed old new answer ending =
+    (Appends (taken old) (taken new) answer.out × (failed new ≡ failed old) × (ending ≡ answer.ending))
+    ⊎ ((0 < failed new) × AppendsPrefix (taken old) (taken new) answer.out × (ending ≡ Err failure.Write))
+
+-- ---- `compact`
+
+-- the line with the lengths of the file and of its copy
+abbrev pub lengths_line : (source copy : ℕ) → List ℕ
+lengths_line source copy = (decimal source ++ codes " -> ") ++ (decimal copy ++ codes " bytes\n")
+
+-- the page size of the copy: the one that is asked for, or that of the file if none is
+abbrev pub copy_page_size : Option PageSize → Meta → ℕ
+copy_page_size (Some size) meta = size.bytes
+copy_page_size None meta = meta.page_size
+
+-- why a copy isn't whole: memory ran out, the layout has 2^63 bytes or more, or the target failed
+abbrev pub StopsCopy : {T : Type 0} → (failed : T → ℕ) (old new : T) → (layout : List ℕ) → Failure → Type 0
+StopsCopy failed old new layout failure.Memory = failed new ≡ failed old
+StopsCopy failed old new layout failure.TooLarge = (too_many ≤ length layout) × (failed new ≡ failed old)
+StopsCopy failed old new layout failure.Write = 0 < failed new
+StopsCopy failed old new layout _ = ⊥
+
+-- The target accepted a prefix of the copy that isn't the whole, and the failure says why. Of a layout with 2^63 bytes or more it
+-- accepted nothing.
+pub record StopsShort {T : Type 0} (taken : T → Option (List ℕ)) (failed : T → ℕ) (old new : T) (layout copy : List ℕ) (failure : Failure) : Type 0 where
+  pub short : AppendsProperPrefix (taken old) (taken new) copy
+  pub why : StopsCopy failed old new layout failure
+  pub large : too_many ≤ length layout → Keeps (taken old) (taken new)
+
+-- the status of a copy if this is reported beside it, and whether the hash of its file differs
+abbrev pub copy_status : (differs : Bool) → LostView → ℕ
+copy_status true lost = 1
+copy_status false (everything x) = 1
+copy_status false (parts []) = 0
+copy_status false (parts (loss ∷ losses)) = 1
+
+-- what is reported of a copy: that the hash of its file differs, each loss, each found page, and the lengths of the file and of the copy
+abbrev pub copy_report : (differs : Bool) → LostView → List FoundView → (source copy : ℕ) → Answer
+copy_report differs lost found source copy =
+    record { out = differing_line differs ++ (lost_text lost found ++ lengths_line source copy); ending = Ok (copy_status differs lost) }
+
+-- ---- all commands
+
+-- standard output and the target, each from its state `old` to `new`
+module _ {O T : Type 0} (out_taken : O → Option (List ℕ)) (out_failed : O → ℕ) (out_old out_new : O)
+    (target_taken : T → Option (List ℕ)) (target_failed : T → ℕ) (target_old target_new : T) where
+  -- standard output accepts the text of the answer, and the target isn't touched
+  abbrev pub Prints : (Answer → Type 0) → Ending → Type 0
+  Prints IsWanted ending = (answer : Answer) × IsWanted answer × Does out_taken out_failed out_old out_new answer ending × (target_new ≡ target_old)
+
+  -- The target accepted the whole copy without a failure, which is the layout and, in a snapshot, its hash. The layout has fewer than 2^63
+  -- bytes, and what the target accepted is a good copy of this listing. Then standard output is to accept the text of the answer to its
+  -- length.
+  abbrev pub CopiesWhole : (snapshot : Bool) → (listing : List Member) → (layout : List ℕ) → (ℕ → Answer) → Ending → Type 0
+  CopiesWhole snapshot listing layout answer ending =
+      let copy = copy_of snapshot layout in
+      (length layout < too_many) × ∥ IsGoodCopy snapshot layout listing ∥₁
+      × Appends (target_taken target_old) (target_taken target_new) copy × (target_failed target_new ≡ target_failed target_old)
+      × Does out_taken out_failed out_old out_new (answer (length copy)) ending
+
+  -- the target stopped short, standard output isn't touched, and the job ends with the failure
+  abbrev pub CopiesInPart : (snapshot : Bool) → (layout : List ℕ) → Ending → Type 0
+  CopiesInPart snapshot layout ending =
+      (failure : Failure) × StopsShort target_taken target_failed target_old target_new layout (copy_of snapshot layout) failure × (out_new ≡ out_old) × (ending ≡ Err failure)
+
+  abbrev pub WritesCopy : (snapshot : Bool) → (listing : List Member) → (layout : List ℕ) → (ℕ → Answer) → Ending → Type 0
+  WritesCopy snapshot listing layout answer ending = CopiesWhole snapshot listing layout answer ending ⊎ CopiesInPart snapshot layout ending
+
+  -- The target accepts the layout that is asked for of the file's listing, at the copy's page size, and for a snapshot then its hash: a good
+  -- copy of that listing. Or the hash of the file differs, or the file is refused, and neither is touched.
+  abbrev pub Compacts : List ℕ → MetaChoice → Option PageSize → Layout → (snapshot : Bool) → Ending → Type 0
+  Compacts file choice size which snapshot ending =
+      ((meta : Meta) × (listing : List Member) × IsReadUnder file choice meta × (hash_differs snapshot file ≡ false) × IsListing file meta listing
+      × WritesCopy snapshot listing (layout_of_listing which (copy_page_size size meta) listing meta.root_sequence) (λ copy. done (lengths_line (length file) copy)) ending)
+      ⊎ ((meta : Meta) × IsReadUnder file choice meta × (hash_differs snapshot file ≡ true)
+      × (out_new ≡ out_old) × (target_new ≡ target_old) × (ending ≡ Err failure.HashDiffers))
+      ⊎ ((fault : CheckFault) × (failure : Failure) × IsRefusedUnder file choice fault × IsFailureOf fault failure
+      × (out_new ≡ out_old) × (target_new ≡ target_old) × (ending ≡ Err failure))
+
+  -- the same of the recovered listing, and it is reported if the hash differs, and each loss; or nothing is recovered
+  abbrev pub Recovers : List ℕ → MetaChoice → Option PageSize → Layout → (snapshot : Bool) → Ending → Type 0
+  Recovers file choice size which snapshot ending =
+      ((meta : Meta) × (listing : List Member) × (losses : List LossView) × IsRecoveredUnder file choice meta × IsRecovered file meta listing × AreLosses file meta losses
+      × WritesCopy snapshot listing (layout_of_listing which (copy_page_size size meta) listing meta.root_sequence) (λ copy. copy_report (hash_differs snapshot file) (parts losses) [] (length file) copy) ending)
+      ⊎ ((fault : CheckFault) × (failure : Failure) × IsUnrecoverableUnder file choice fault × IsFailureOf fault failure
+      × (out_new ≡ out_old) × (target_new ≡ target_old) × (ending ≡ Err failure))
+
+  -- the same of the joined listing, and each found page is reported too; or why there is none
+  abbrev pub Joins : List ℕ → MetaChoice → Option PageSize → Layout → (snapshot : Bool) → Ending → Type 0
+  Joins file choice size which snapshot ending =
+      ((meta : Meta) × (listing : List Member) × (lost : LostView) × (found : List FoundView) × IsMetaOf file choice meta × IsSalvaged file meta listing lost found
+      × CopiesWhole snapshot listing (layout_of_listing which (copy_page_size size meta) listing meta.root_sequence) (λ copy. copy_report (hash_differs snapshot file) lost found (length file) copy) ending)
+      ⊎ ((meta : Meta) × (listing : List Member) × IsMetaOf file choice meta × IsJoined file meta listing
+      × CopiesInPart snapshot (layout_of_listing which (copy_page_size size meta) listing meta.root_sequence) ending)
+      ⊎ ((why : Failure) × IsUnjoinedUnder file choice why × (out_new ≡ out_old) × (target_new ≡ target_old) × (ending ≡ Err why))
+
+  -- `compact` to any extent
+  abbrev pub MakesCopy : List ℕ → MetaChoice → Option PageSize → Layout → (snapshot : Bool) → Extent → Ending → Type 0
+  MakesCopy file choice size which snapshot First ending = Compacts file choice size which snapshot ending
+  MakesCopy file choice size which snapshot Losses ending = Recovers file choice size which snapshot ending
+  MakesCopy file choice size which snapshot LostAndFound ending = Joins file choice size which snapshot ending
+
+  -- `load`: The target accepts the layout that is asked for of the listing that the lines of the file tell, with this root sequence, and for a
+  -- snapshot then its hash: a good copy of that listing. Or a line isn't right, or memory ran out, and neither is touched.
+  abbrev pub Loads : List ℕ → (page_size sequence : ℕ) → Layout → (snapshot : Bool) → Ending → Type 0
+  Loads file page_size sequence which snapshot ending =
+      (IsListingText file
+      × WritesCopy snapshot (text_members file) (layout_of_listing which page_size (text_members file) sequence) (λ copy. done (lengths_line (length file) copy)) ending)
+      ⊎ ((fault : LoadFault) × IsLoadFault file fault × (out_new ≡ out_old) × (target_new ≡ target_old) × (ending ≡ Err (unloaded fault)))
+
+  -- the same of the text of this listing, which has no line that isn't right
+  abbrev pub LoadsListing : List Member → List ℕ → (page_size sequence : ℕ) → Layout → (snapshot : Bool) → Ending → Type 0
+  LoadsListing listing file page_size sequence which snapshot ending =
+      WritesCopy snapshot listing (layout_of_listing which page_size listing sequence) (λ copy. done (lengths_line (length file) copy)) ending
+      ⊎ ((out_new ≡ out_old) × (target_new ≡ target_old) × (ending ≡ Err failure.Memory))
+
+  -- what a job does, and how it ends
+  abbrev pub DoesJob : List ℕ → Job → Ending → Type 0
+  DoesJob file (job.Info j) = Prints (IsInfoAnswer file j.slot j.form)
+  DoesJob file (job.Page j) = Prints (IsPageAnswer file j.meta j.id)
+  DoesJob file (job.Pages j) = Prints (IsCheckedAnswer file (IsPagesAnswer file j.map) IsFileRefusal)
+  DoesJob file (job.Check j) = Prints (IsCheckAnswer j.extent j.snapshot file j.meta)
+  DoesJob file (job.Buckets j) = Prints (IsReadAnswer file j.meta (IsBucketsAnswer file (path_in j.path.items) j.form j.sizes))
+  DoesJob file (job.Stats j) = Prints (IsReadAnswer file j.meta (IsStatsAnswer file (path_in j.path.items) j.form))
+  DoesJob file (job.Keys j) = Prints (IsReadAnswer file j.meta (IsEntriesAnswer file (path_in j.path.items) j.form (λ entries. keys_text j.form (with_prefix j.prefix.items entries))))
+  DoesJob file (job.Get j) = Prints (IsReadAnswer file j.meta (IsGetAnswer file (path_in j.path.items) j.form j.no_newline))
+  DoesJob file (job.List j) = Prints (IsListedAnswer j.extent file j.meta j.form (path_in j.path.items) (path_in j.from.items))
+  DoesJob file (job.Compact j) = MakesCopy file j.meta j.page_size (layout_for j.kind) (is_snapshot j.kind) j.extent
+  DoesJob file (job.Load j) = Loads file j.page_size.bytes j.sequence (layout_for j.kind) (is_snapshot j.kind)
+
+-- ---- the end of a run
+
+abbrev pub status_of : Ending → ℕ
+status_of (Ok status) = status
+status_of (Err failure) = 1
+
+-- what is printed on standard error
+abbrev pub error_text : Ending → List ℕ
+error_text (Ok status) = []
+error_text (Err failure) = failure_line failure
+
+-- a sink accepted a text without a failure, or it failed and accepted a prefix of it
+abbrev pub Accepts : {S : Type 0} → (taken : S → Option (List ℕ)) (failed : S → ℕ) (old new : S) → List ℕ → Type 0
+Accepts taken failed old new text =
+    (Appends (taken old) (taken new) text × (failed new ≡ failed old))
+    ⊎ ((0 < failed new) × AppendsPrefix (taken old) (taken new) text)

@@ -1,0 +1,64 @@
+-- What is wrong with a file apart from its pages: docs/COMMANDS.md, "Snapshots" and "Both metas".
+use Rattle.std.specs.Prelude.{◌≡◌, ◌⊎◌, ◌&&◌, ◌++◌, ◌+◌, ℕ, List, [], Bool, Option, None, Some, is_none}
+use Rattle.bolt_format.specs.{Metas.HasSlotFault, Metas.IsChosen, Metas.IsInSlot, Metas.other_slot, declared.meta.Meta.Meta, declared.meta.MetaFault.MetaFault}
+use Rattle.bolt_format.specs.declared.meta.Slot.{Slot}
+use Rattle.bolt_report.specs.{FaultWords.snapshot_fault_text, MetaLines.slot_fault_text}
+use Rattle.bolt_snapshot.specs.declared.hash_check.SnapshotFault.{SnapshotFault}
+use Rattle.bolt_commands.specs.SnapshotAnswers.{hash_found}
+use Rattle.bolt_job.specs.declared.choices.Extent.{Extent}
+use Rattle.bolt_job.specs.declared.choices.Extent.TheVariants.{First, LostAndFound, Losses}
+use Rattle.bolt_commands.specs.declared.file_faults.FileFaults.{FileFaults}
+use Rattle.bolt_job.specs.declared.choices.MetaChoice.{MetaChoice}
+use Rattle.bolt_job.specs.declared.choices.MetaChoice.TheVariants.{Active, Assumed, InSlot}
+
+-- ---- what it is
+
+-- the slot that isn't in use, and its fault, if it has no valid meta
+abbrev pub IsUnusedFault : List ℕ → Slot → Option (Slot × MetaFault) → Type 0
+IsUnusedFault file slot None = (meta : Meta) × IsInSlot file (other_slot slot) meta
+IsUnusedFault file slot (Some (other, fault)) = (other ≡ other_slot slot) × HasSlotFault file other fault × ((meta : Meta) → IsInSlot file other meta → ⊥)
+
+-- the same, of a file with an active meta; without one there is nothing more to say
+abbrev pub IsOtherFault : List ℕ → Option (Slot × MetaFault) → Type 0
+IsOtherFault file other =
+    ((slot : Slot) × (meta : Meta) × IsChosen file slot meta × IsUnusedFault file slot other)
+    ⊎ (((slot : Slot) (meta : Meta) → IsInSlot file slot meta → ⊥) × (other ≡ None))
+
+-- Both metas are looked at if all of a file is asked for, under its active meta.
+abbrev pub IsMetasFault : Extent → List ℕ → MetaChoice → Option (Slot × MetaFault) → Type 0
+IsMetasFault First file choice other = other ≡ None
+IsMetasFault Losses file Active other = IsOtherFault file other
+IsMetasFault Losses file (InSlot slot) other = other ≡ None
+IsMetasFault Losses file (Assumed assumed) other = other ≡ None
+IsMetasFault LostAndFound file Active other = IsOtherFault file other
+IsMetasFault LostAndFound file (InSlot slot) other = other ≡ None
+IsMetasFault LostAndFound file (Assumed assumed) other = other ≡ None
+
+pub record AreFileFaults (extent : Extent) (snapshot : Bool) (file : List ℕ) (choice : MetaChoice) (faults : FileFaults) : Type 0 where
+  pub hash : faults.hash ≡ hash_found snapshot file
+  pub metas : IsMetasFault extent file choice faults.other
+
+abbrev pub is_fine : FileFaults → Bool
+is_fine faults = is_none faults.hash && is_none faults.other
+
+-- ---- how it is printed
+
+-- the line of the hash, and nothing if nothing is wrong with it
+abbrev pub hash_lines : Option SnapshotFault → List ℕ
+hash_lines None = []
+hash_lines (Some fault) = snapshot_fault_text fault
+
+abbrev pub other_lines : Option (Slot × MetaFault) → List ℕ
+other_lines None = []
+other_lines (Some (slot, fault)) = slot_fault_text slot fault
+
+abbrev pub fault_lines : FileFaults → List ℕ
+fault_lines faults = hash_lines faults.hash ++ other_lines faults.other
+
+-- how many errors these are
+abbrev pub counted : {A : Type 0} → Option A → ℕ
+counted None = 0
+counted (Some x) = 1
+
+abbrev pub errors_in : FileFaults → ℕ
+errors_in faults = counted faults.hash + counted faults.other

@@ -1,0 +1,36 @@
+-- What holds of a copy that is whole: docs/LAYOUT.md, "What holds of both layouts", and docs/COMMANDS.md, "Snapshots".
+use Rattle.std.specs.Prelude.{◌≡◌, ◌≢◌, ◌≤◌, ◌<◌, ℕ, List, Bool, true, IsTrue, Some, length, take}
+use Rattle.bolt_bulk.specs.Compacting.{too_many}
+use Rattle.bolt_check.specs.{Sound.IsRefused, Sound.IsSound, declared.fault.CheckFault.CheckFault}
+use Rattle.bolt_check.specs.declared.fault.CheckFault.TheVariants as check
+use Rattle.bolt_format.specs.{Metas.HasBothMetas, Metas.IsChosen, Metas.IsPageSize, declared.meta.Meta.Meta, declared.meta.Slot.Slot}
+use Rattle.bolt_layout.specs.{Copies.layout_of_listing, declared.layout.Layout.Layout}
+use Rattle.bolt_snapshot.specs.{SnapshotFaults.IsSnapshot, declared.hash_check.SnapshotFault.TheVariants.HashMissing}
+use Rattle.bolt_tree.specs.Listing.{IsListing, Member}
+use Rattle.bolt_commands.specs.SnapshotAnswers.{copy_of, hash_found}
+
+-- `check` accepts a file that holds these bytes, and its listing is this one
+abbrev pub AcceptsListing : List ℕ → List Member → Type 0
+AcceptsListing file listing = (slot : Slot) × (meta : Meta) × IsChosen file slot meta × IsSound file meta true × IsListing file meta listing
+
+-- `check` refuses a file that holds these bytes, and not for want of memory
+abbrev pub RefusesFile : List ℕ → Type 0
+RefusesFile file = (fault : CheckFault) × (fault ≢ check.Memory) × IsRefused file fault
+
+pub record IsGoodCopy (snapshot : Bool) (layout : List ℕ) (listing : List Member) : Type 0 where
+  -- `check` accepts the copy, hash and all, and it has this listing
+  pub accepted : AcceptsListing (copy_of snapshot layout) listing
+  -- both of its metas are valid
+  pub metas : HasBothMetas (copy_of snapshot layout)
+  -- if it is to be a snapshot, it is one
+  pub hash : IsTrue snapshot → IsSnapshot (copy_of snapshot layout)
+  -- if it is cut short in its layout, `check` refuses it
+  pub cut_layout : (n : ℕ) → n < length layout → RefusesFile (take n (copy_of snapshot layout))
+  -- if it is cut short in its hash, that is missing
+  pub cut_hash : (n : ℕ) → length layout ≤ n → n < length (copy_of snapshot layout) → hash_found snapshot (take n (copy_of snapshot layout)) ≡ Some HashMissing
+
+-- each copy of this listing that has fewer than 2^63 bytes is a good one
+abbrev pub HasGoodCopies : List Member → (sequence : ℕ) → Type 0
+HasGoodCopies listing sequence =
+    (which : Layout) (snapshot : Bool) (page_size : ℕ) → IsPageSize page_size → length (layout_of_listing which page_size listing sequence) < too_many
+    → IsGoodCopy snapshot (layout_of_listing which page_size listing sequence) listing

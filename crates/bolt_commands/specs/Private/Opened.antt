@@ -1,0 +1,44 @@
+-- What a command has opened.
+use Rattle.std.specs.Prelude.{◌≡◌, ◌≢◌, ◌⊎◌, List, [], ℕ}
+use Rattle.std.specs.List.{All}
+use Rattle.bolt_check.specs.{CheckedFiles.bytes_of, CheckedFiles.meta_of, declared.fault.CheckFault.CheckFault, declared.fault.Finding.Finding}
+use Rattle.bolt_format.specs.declared.meta.Meta.{Meta}
+use Rattle.bolt_recover.specs.{Found.AreFound, Found.numbers_of, Joined.LacksBucketKey, JoinedMembers.ForJoined, JoinedMembers.joined_file, JoinedMembers.joined_left}
+use Rattle.bolt_recover.specs.{JoinedMembers.joined_meta, Losses.everything, Lost.IsAllLost, LostAndFound.all_lost, Recovered.ForRecovered, ShownFound.IsFoundView}
+use Rattle.bolt_recover.specs.{declared.joined.Joined.Joined, declared.lost_and_found.LostAndFound.LostAndFound}
+use Rattle.bolt_tree.specs.{Buckets.bucket_checked, Buckets.bucket_start, Entries.Start, Paths.Path, declared.bucket.Bucket.Bucket}
+use Rattle.bolt_commands.specs.Answers.{IsFileRefusal, IsReadUnder, IsRefusedUnder, LeadsTo, refused}
+use Rattle.bolt_job.specs.{MetaChoices.IsMetaOf, declared.choices.MetaChoice.MetaChoice}
+use Rattle.bolt_commands.specs.declared.failure.Failure.{Failure}
+use Rattle.bolt_commands.specs.declared.failure.Failure.TheVariants.{NoBucket}
+
+-- the bucket at a path of a file that is read under this choice
+pub record IsBucketOf (file : List ℕ) (choice : MetaChoice) (path : Path) (bucket : Bucket) : Type 0 where
+  pub bytes : bytes_of (bucket_checked bucket) ≡ file
+  pub under : IsReadUnder file choice (meta_of (bucket_checked bucket))
+  pub led : ∥ LeadsTo file (meta_of (bucket_checked bucket)) path (bucket_start bucket) ∥₁
+
+-- the file is refused, and its first finding is reported
+abbrev pub IsUnread : List ℕ → MetaChoice → Failure → Type 0
+IsUnread file choice failure = (fault : CheckFault) × IsRefusedUnder file choice fault × IsFileRefusal fault (refused failure)
+
+-- the path leads to no bucket, or the file is refused
+pub record HasNoBucket (file : List ℕ) (choice : MetaChoice) (path : Path) (failure : Failure) : Type 0 where
+  pub why : ((meta : Meta) × IsReadUnder file choice meta × ((bucket : Start) → LeadsTo file meta path bucket → ⊥) × (failure ≡ NoBucket))
+      ⊎ IsUnread file choice failure
+
+-- what is lost and found of a file under this choice
+pub record IsSearchOf (file : List ℕ) (choice : MetaChoice) (both : LostAndFound) : Type 0 where
+  pub under : IsMetaOf file choice both.meta
+  pub bytes : both.file.now ≡ file
+  pub lost : IsAllLost file both.meta (all_lost both)
+  pub found : AreFound file both.meta (numbers_of both.found.items)
+  pub views : All (IsFoundView file both.meta) both.found.items
+
+-- the members of both, of which none was returned yet
+pub record IsJoinedOf (both : LostAndFound) (joined : Joined) : Type 0 where
+  pub file : joined_file joined ≡ both.file.now
+  pub meta : joined_meta joined ≡ both.meta
+  pub all : ForJoined both.file.now both.meta (λ listing. joined_left joined listing ≡ listing)
+  pub apart : both.found.items ≢ [] → ForRecovered both.file.now both.meta LacksBucketKey
+  pub some : (x : Finding) → all_lost both ≡ everything x → both.found.items ≢ []

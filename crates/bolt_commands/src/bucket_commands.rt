@@ -1,0 +1,137 @@
+//! The commands on the bucket at a path: `buckets`, `keys`, `get` and `stats`.
+ghost use Rattle.std.specs.Prelude.{◌≡◌, ◌⊎◌, IfErr, IfOk};
+ghost use Rattle.bolt_check.specs.{CheckedFiles.bytes_of, CheckedFiles.meta_of, Sound.HasSoundTrees};
+ghost use Rattle.bolt_format.specs.{Elements.LeafElement, Wrote.Wrote};
+ghost use Rattle.bolt_report.specs.ReportEndings.{report_ending};
+ghost use Rattle.bolt_tree.specs.{Buckets.bucket_checked, Buckets.bucket_start, BucketViews.entries_of, Entries.Start, Entries.Value, EntriesLeft.ForEntries};
+ghost use Rattle.bolt_commands.specs.Answers.{AddsEntry, HasStats, HoldsIn, HoldsNone, IsTotal, LeadsTo, no_stats, value_shown};
+ghost use Rattle.bolt_commands.specs.Private.Printing.{IsBucketsPrint, IsGetPrint, IsKeysPrint, IsStatsPrint, PrintsAnswer};
+ghost use Rattle.bolt_job.specs.PlainWords.{path_in};
+ghost use Rattle.bolt_commands.specs.declared.failure.Failure.TheVariants.{Memory, NoBucket};
+
+use crate::failure::{Failure, Outcome, ended, written};
+use crate::opening::{Input, open_bucket};
+use bolt_check::{Checked, NoMemory};
+use bolt_format::Sink;
+use bolt_job::{BucketsJob, GetJob, KeysJob, StatsJob};
+use bolt_report::{
+    Form, ReportFault, Stats, add, buckets, item, keys_with_prefix, sizes, stats, stats_text, value,
+};
+use bolt_tree::Bucket;
+use std::alloc::Global;
+
+/// Writes the names of the buckets in the bucket at a path, or also their sizes.
+pub(crate) fn print_buckets<O: Sink>(input: Input<'_>, job: &BucketsJob, out: &mut O) -> Outcome
+    ensures { PrintsAnswer O.Sink out.old out.new (IsBucketsPrint job.now input.entry.file.now) result }
+{
+    let bucket = input.bucket(job.meta, job.path.as_slice())?;
+    if job.sizes {
+        ended(sizes(input.alloc, &bucket, job.form, out))
+    } else {
+        ended(buckets(input.alloc, &bucket, job.form, out))
+    }
+}
+
+/// Writes the keys of the bucket at a path that begin with a prefix.
+pub(crate) fn print_keys<O: Sink>(input: Input<'_>, job: &KeysJob, out: &mut O) -> Outcome
+    ensures { PrintsAnswer O.Sink out.old out.new (IsKeysPrint job.now input.entry.file.now) result }
+{
+    let bucket = input.bucket(job.meta, job.path.as_slice())?;
+    let mut cursor = bucket.cursor();
+    let prefix = job.prefix.as_slice();
+    ended(keys_with_prefix(input.alloc, &mut cursor, prefix, job.form, out))
+}
+
+/// Writes the value at a path, and a line feed unless none is wanted.
+pub(crate) fn print_value<O: Sink>(input: Input<'_>, job: &GetJob, out: &mut O) -> Outcome
+    ensures { PrintsAnswer O.Sink out.old out.new (IsGetPrint job.now input.entry.file.now) result }
+{
+    let checked = input.read(job.meta)?;
+    let value = find_value(checked, job.path.as_slice())?;
+    ended(put_value(input.alloc, value, job.form, job.no_newline, out))
+}
+
+fn put_value<O: Sink>(
+    alloc: Global,
+    bytes: &[u8],
+    form: Form,
+    no_newline: bool,
+    out: &mut O,
+) -> Result<(), ReportFault>
+    ensures written { Wrote O.Sink out.old out.new (value_shown no_newline form bytes.now) (report_ending result) }
+    ensures fault { IfErr result (λ fault. (fault ≡ ReportFault.Sink) ⊎ ((fault ≡ ReportFault.NoMemory) × (form ≡ Form.Json))) }
+{
+    if no_newline {
+        item(alloc, bytes, form, out)
+    } else {
+        value(alloc, bytes, form, out)
+    }
+}
+
+/// The value at a path. The last part is its key.
+fn find_value<'a>(checked: Checked<'a>, path: &[Vec<u8>]) -> Result<&'a [u8], Failure>
+    ensures held { IfOk result (λ value. ∥ HoldsIn (bytes_of checked.entry) (meta_of checked.entry) (path_in path.now) (Value value.now) ∥₁) }
+    ensures refused { IfErr result (HoldsNone (bytes_of checked.entry) (path_in path.now) (meta_of checked.entry)) }
+{
+    let Some((key, parents)) = path.split_last() else {
+        return Err(Failure::NoKey);
+    };
+    let bucket = open_bucket(checked, parents)?;
+    match bucket.get(key.as_slice()) {
+        Some(value) => Ok(value),
+        None => Err(Failure::NoKey),
+    }
+}
+
+/// Writes the figures of the bucket at a path with all in it. At the empty path they are those of
+/// the root's buckets, added up.
+pub(crate) fn print_stats<O: Sink>(input: Input<'_>, job: &StatsJob, out: &mut O) -> Outcome
+    ensures { PrintsAnswer O.Sink out.old out.new (IsStatsPrint job.now input.entry.file.now) result }
+{
+    let checked = input.read(job.meta)?;
+    let stats = find_stats(input.alloc, checked, job.path.as_slice())?;
+    written(stats_text(&stats, job.form, out))
+}
+
+/// The figures of the bucket at a path.
+fn find_stats(alloc: Global, checked: Checked<'_>, path: &[Vec<u8>]) -> Result<Stats, Failure>
+    requires { HasSoundTrees (bytes_of checked) (meta_of checked) }
+    ensures found { IfOk result (HasStats (bytes_of checked.entry) (path_in path.now) (meta_of checked.entry)) }
+    ensures missing { IfErr result (λ failure. (failure ≡ Memory) ⊎ ((failure ≡ NoBucket)
+        × ((bucket : Start) → LeadsTo (bytes_of checked.entry) (meta_of checked.entry) (path_in path.now) bucket → ⊥))) }
+{
+    if path.is_empty() {
+        return Ok(sum_buckets(alloc, &Bucket::root(checked))?);
+    }
+    let bucket = open_bucket(checked, path)?;
+    Ok(stats(alloc, &bucket)?)
+}
+
+/// The figures of the buckets in a bucket, added up.
+fn sum_buckets(alloc: Global, bucket: &Bucket<'_>) -> Result<Stats, NoMemory>
+    ensures { IfOk result (λ total. ForEntries (bucket_checked bucket.now) (bucket_start bucket.now) (λ entries.
+        ∥ IsTotal (bytes_of (bucket_checked bucket.now)) (meta_of (bucket_checked bucket.now)) entries no_stats total ∥₁)) }
+{
+    let mut total = Stats::default();
+    let mut cursor = bucket.cursor();
+    'rest: while let Some(entry) = cursor.next() {
+        total = add_entry(alloc, bucket, entry.key, total)?;
+    }
+    Ok(total)
+}
+
+/// Adds the figures of the entry with this key, if it is a bucket.
+fn add_entry(
+    alloc: Global,
+    bucket: &Bucket<'_>,
+    key: &[u8],
+    total: Stats,
+) -> Result<Stats, NoMemory>
+    ensures { IfOk result (λ sum. (e : LeafElement) → entries_of (bucket_checked bucket.now) (bucket_start bucket.now) e → e.key ≡ key.now
+        → ∥ AddsEntry (bytes_of (bucket_checked bucket.now)) (meta_of (bucket_checked bucket.now)) e total sum ∥₁) }
+{
+    match bucket.bucket(key) {
+        Some(inner) => Ok(add(total, stats(alloc, &inner)?)),
+        None => Ok(total),
+    }
+}

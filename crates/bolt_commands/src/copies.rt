@@ -1,0 +1,153 @@
+//! Copies on a target: a layout and, in a snapshot, its hash after it. A sink that hashes what it hands
+//! on makes the hash in the same pass.
+ghost use Rattle.std.specs.Prelude.{◌≡◌, ℕ, List, IsOk, OnOk, true, Option, None};
+ghost use Rattle.std.specs.Borrow.{GName};
+ghost use Rattle.bolt_bulk.specs.{Compacting.Copies, WholeListings.IsWhole};
+ghost use Rattle.bolt_tree.specs.Listing.{Member};
+ghost use Rattle.bolt_commands.specs.{CopyEnds.EndsCopy, Hashes.HashesSince, Private.Copying.CopiesTo, Private.Copying.shaped_layout};
+ghost use Rattle.bolt_job.specs.CopyKinds.{is_snapshot};
+
+use crate::copy_source::{Copied, CopySource, sources_have_good_copies};
+use bolt_bulk::{BulkFault, Shape};
+use bolt_format::{Sink, SinkFault};
+use bolt_job::CopyKind;
+use bolt_snapshot::HASH_LEN;
+use sha2::{Digest, Sha256};
+use std::alloc::Global;
+use std::marker::{Brand, PhantomData};
+
+/// Writes the copy of all members of a source, which is a good one, and returns its length.
+pub(crate) fn copy_members<C: CopySource, T: Sink>(
+    alloc: Global,
+    source: &mut C,
+    shape: &Shape,
+    kind: CopyKind,
+    target: &mut T,
+) -> Result<u64, BulkFault>
+    requires { IsWhole C.lists C.left source.old }
+    ensures copied { (listing : List Member) → C.lists source.old listing
+        → CopiesTo T.Sink target.old target.new (shaped_layout shape.now listing) listing (is_snapshot kind) result }
+    ensures end { OnOk result (C.ends_as source.old source.new) }
+{
+    sources_have_good_copies(source, shape.sequence);
+    copy_all(alloc, source, shape, kind.is_snapshot(), target)
+}
+
+/// Writes the layout and, in a snapshot, its hash after it.
+fn copy_all<C: CopySource, T: Sink>(
+    alloc: Global,
+    source: &mut C,
+    shape: &Shape,
+    snapshot: bool,
+    target: &mut T,
+) -> Result<u64, BulkFault>
+    requires { IsWhole C.lists C.left source.old }
+    ensures copied { (listing : List Member) → C.lists source.old listing
+        → EndsCopy T.taken T.failed target.old target.new (shaped_layout shape.now listing) snapshot result }
+    ensures end { OnOk result (C.ends_as source.old source.new) }
+{
+    if !snapshot {
+        let done = source.copy(alloc, shape, target)?;
+        return Ok(done.bytes);
+    }
+    let Hashed {
+        target,
+        hash,
+        result,
+    } = hash_all::<Brand, T, C>(alloc, source, shape, target);
+    put_hash(result, hash, target)
+}
+
+/// A layout on its target, and its hash.
+#[derive(Drop)]
+struct Hashed<'a, T> {
+    target: &'a mut T,
+    hash: Sha256,
+    result: Copied,
+}
+
+fn hash_all<'a, K: Origin, T: Sink, C: CopySource>(
+    alloc: Global,
+    source: &mut C,
+    shape: &Shape,
+    target: &'a mut T,
+) -> Hashed<'a, T>
+    requires whole { IsWhole C.lists C.left source.old }
+    requires name { target.ghost_name ≡ K.name }
+    requires start { T.taken target.old ≡ K.start }
+    ensures same { result.target.ghost_name ≡ target.entry.ghost_name }
+    ensures copied { (listing : List Member) → C.lists source.old listing
+        → Copies T.taken T.failed target.old result.target.now (shaped_layout shape.now listing) result.result }
+    ensures end { OnOk result.result (C.ends_as source.old source.new) }
+    ensures hashed { T.failed result.target.now ≡ 0 → ∥ HashesSince (T.taken target.old) (T.taken result.target.now) result.hash ∥₁ }
+{
+    let mut hashing: Hashing<'a, T, K> = Hashing {
+        target,
+        hash: Sha256::new(),
+        of: PhantomData,
+    };
+    let result = source.copy(alloc, shape, &mut hashing);
+    let Hashing {
+        target,
+        hash,
+        of: _,
+    } = hashing;
+    Hashed {
+        target,
+        hash,
+        result,
+    }
+}
+
+/// Writes the hash of a layout after it, if the layout is whole. Returns the length of both.
+fn put_hash<T: Sink>(copied: Copied, hash: Sha256, target: &mut T) -> Result<u64, BulkFault>
+    ensures whole { OnOk result (IsOk copied) }
+    ensures copied { (begun : T) (layout : List ℕ) → Copies T.taken T.failed begun target.old layout copied
+        → (T.failed target.old ≡ 0 → ∥ HashesSince (T.taken begun) (T.taken target.old) hash ∥₁)
+        → EndsCopy T.taken T.failed begun target.new layout true result }
+{
+    let done = copied?;
+    target.put(&hash.finalize())?;
+    Ok(done.bytes.saturating_add(HASH_LEN))
+}
+
+/// What a hash began with, for proofs alone.
+pub(crate) trait Origin {
+    /// Which borrow of the target it is.
+    ghost name: { GName };
+
+    /// What the target had accepted.
+    ghost start: { Option (List ℕ) };
+}
+
+impl Origin for Brand {
+    ghost name = { 0 };
+
+    ghost start = { None };
+}
+
+/// Hands on each byte to the target, and hashes it. The hash is right as long as the target hasn't
+/// failed.
+#[derive(Drop)]
+pub(crate) struct Hashing<'a, T: Sink, K: Origin> {
+    pub target: &'a mut T,
+    pub hash: Sha256,
+    pub of: PhantomData<K>,
+    pub ghost same: { target.ghost_name ≡ K.name },
+    pub ghost hashed: { T.failed target.now ≡ 0 → ∥ HashesSince K.start (T.taken target.now) hash ∥₁ },
+}
+
+impl<'a, T: Sink, K: Origin> Sink for Hashing<'a, T, K> {
+    ghost taken = { λ s. T.taken s.target.now };
+
+    ghost failed = { λ s. T.failed s.target.now };
+
+    fn put(&mut self, bytes: &[u8]) -> Result<(), SinkFault> {
+        self.hash.update(bytes);
+        self.target.put(bytes)
+    }
+
+    fn failures(&self) -> u64 {
+        self.target.failures()
+    }
+}

@@ -1,0 +1,100 @@
+//! What is wrong with a file apart from its pages.
+ghost use Rattle.std.specs.Prelude.{◌≡◌, ◌≤◌, IfOk};
+ghost use Rattle.bolt_format.specs.{Endings.ending, Wrote.Wrote};
+ghost use Rattle.bolt_commands.specs.FileFaults.{AreFileFaults, IsMetasFault, IsOtherFault, counted, errors_in, fault_lines, hash_lines, other_lines};
+ghost use Rattle.bolt_commands.specs.SnapshotAnswers.{hash_found};
+
+use bolt_format::{MetaFault, Sink, SinkFault, Slot, choose, slot_meta};
+use bolt_job::{CheckJob, Extent, MetaChoice};
+use bolt_report::{slot_fault_text, snapshot_fault_text};
+use bolt_snapshot::{SnapshotFault, snapshot_fault};
+
+/// What is wrong with a file apart from its pages.
+#[derive(Clone, Copy, PartialEq, Eq)]
+pub(crate) struct FileFaults {
+    /// What is wrong with the hash, if the file is to be a snapshot.
+    pub hash: Option<SnapshotFault>,
+    /// The slot that isn't in use, and its fault, if it is looked at and has no valid meta.
+    pub other: Option<(Slot, MetaFault)>,
+}
+
+impl FileFaults {
+    /// What a check looks at before the pages of the file.
+    pub(crate) fn find(file: &[u8], job: &CheckJob) -> FileFaults
+        ensures { AreFileFaults job.now.extent job.now.snapshot file.now job.now.meta result }
+    {
+        FileFaults {
+            hash: hash_found(job.snapshot, file),
+            other: metas_fault(job.extent, file, job.meta),
+        }
+    }
+}
+
+/// What is wrong with the hash, if the file is to be a snapshot.
+fn hash_found(snapshot: bool, file: &[u8]) -> Option<SnapshotFault>
+    ensures { result ≡ hash_found snapshot file.now }
+{
+    if snapshot { snapshot_fault(file) } else { None }
+}
+
+/// Looks at both metas if all of the file is asked for, under its active meta.
+fn metas_fault(extent: Extent, file: &[u8], choice: MetaChoice) -> Option<(Slot, MetaFault)>
+    ensures { IsMetasFault extent file.now choice result }
+{
+    match (extent, choice) {
+        (Extent::Losses | Extent::LostAndFound, MetaChoice::Active) => other_fault(file),
+        _ => None,
+    }
+}
+
+/// The slot that isn't in use, and its fault, if it has no valid meta.
+fn other_fault(file: &[u8]) -> Option<(Slot, MetaFault)>
+    ensures { IsOtherFault file.now result }
+{
+    let Ok((slot, _)) = choose(file) else {
+        return None;
+    };
+    let other = match slot {
+        Slot::Zero => Slot::One,
+        Slot::One => Slot::Zero,
+    };
+    match slot_meta(file, other) {
+        Ok(_) => None,
+        Err(fault) => Some((other, fault)),
+    }
+}
+
+/// Writes a line for each of these faults, and returns how many they are.
+pub(crate) fn put_file_faults<O: Sink>(faults: FileFaults, out: &mut O) -> Result<u64, SinkFault>
+    ensures lines { Wrote O.Sink out.old out.new (fault_lines faults) (ending result) }
+    ensures errors { IfOk result (λ errors. errors ≡ errors_in faults) }
+    ensures few { IfOk result (λ errors. errors ≤ 2) }
+{
+    let hash = put_hash_fault(faults.hash, out)?;
+    let other = put_other_fault(faults.other, out)?;
+    Ok(hash + other)
+}
+
+fn put_hash_fault<O: Sink>(hash: Option<SnapshotFault>, out: &mut O) -> Result<u64, SinkFault>
+    ensures line { Wrote O.Sink out.old out.new (hash_lines hash) (ending result) }
+    ensures errors { IfOk result (λ errors. errors ≡ counted hash) }
+    ensures few { IfOk result (λ errors. errors ≤ 1) }
+{
+    let Some(fault) = hash else {
+        return Ok(0);
+    };
+    snapshot_fault_text(fault, out)?;
+    Ok(1)
+}
+
+fn put_other_fault<O: Sink>(other: Option<(Slot, MetaFault)>, out: &mut O) -> Result<u64, SinkFault>
+    ensures line { Wrote O.Sink out.old out.new (other_lines other) (ending result) }
+    ensures errors { IfOk result (λ errors. errors ≡ counted other) }
+    ensures few { IfOk result (λ errors. errors ≤ 1) }
+{
+    let Some((slot, fault)) = other else {
+        return Ok(0);
+    };
+    slot_fault_text(slot, fault, out)?;
+    Ok(1)
+}

@@ -1,0 +1,128 @@
+//! Opens what a command reads: a file under the meta that is chosen, what is left of a damaged one, what is lost and found of it, or a bucket by its path.
+ghost use Rattle.std.specs.Prelude.{◌≡◌, IfErr, IfOk, []};
+ghost use Rattle.bolt_check.specs.CheckedFiles.{bytes_of, meta_of};
+ghost use Rattle.bolt_commands.specs.Answers.{IsReadUnder, IsRefusedUnder, IsRecoveredUnder, IsUnjoinedUnder, IsUnrecoverableUnder, LeadsTo};
+ghost use Rattle.bolt_job.specs.PlainWords.{path_in};
+ghost use Rattle.bolt_commands.specs.Private.Opened.{HasNoBucket, IsBucketOf, IsJoinedOf, IsSearchOf, IsUnread};
+ghost use Rattle.bolt_commands.specs.declared.failure.Failure.TheVariants.{NoBucket};
+ghost use Rattle.bolt_recover.specs.Recovered.{ForRecovered};
+ghost use Rattle.bolt_recover.specs.Recoveries.{recovery_file, recovery_left, recovery_losses, recovery_meta};
+ghost use Rattle.bolt_tree.specs.{Buckets.bucket_checked, Buckets.bucket_start, Entries.Start};
+
+use crate::failure::Failure;
+use bolt_check::{CheckFault, Checked, check, check_slot, check_under};
+use bolt_job::MetaChoice;
+use bolt_recover::laws::each_file_has_found_pages;
+use bolt_recover::{Joined, LostAndFound, Recovery};
+use bolt_tree::Bucket;
+use std::alloc::Global;
+
+/// The bytes of FILE, and where a job gets memory.
+#[derive(Clone, Copy)]
+pub(crate) struct Input<'f> {
+    pub alloc: Global,
+    pub file: &'f [u8],
+}
+
+impl<'f> Input<'f> {
+    /// Checks the file under the meta that is chosen. Its trees must be sound and, under the active
+    /// meta, its accounts too.
+    pub(crate) fn check(self, choice: MetaChoice) -> Result<Checked<'f>, CheckFault>
+        ensures bytes { IfOk result (λ checked. bytes_of checked ≡ self.entry.file.now) }
+        ensures sound { IfOk result (λ checked. IsReadUnder self.entry.file.now choice (meta_of checked)) }
+        ensures refused { IfErr result (IsRefusedUnder self.entry.file.now choice) }
+    {
+        match choice {
+            MetaChoice::Active => check(self.alloc, self.file),
+            MetaChoice::InSlot(slot) => check_slot(self.alloc, self.file, slot),
+            MetaChoice::Assumed(assumed) => {
+                check_under(self.alloc, self.file, assumed.for_file(self.file))
+            }
+        }
+    }
+
+    /// The same, with the failure that is reported if the file is refused.
+    pub(crate) fn read(self, choice: MetaChoice) -> Result<Checked<'f>, Failure>
+        ensures bytes { IfOk result (λ checked. bytes_of checked ≡ self.entry.file.now) }
+        ensures sound { IfOk result (λ checked. IsReadUnder self.entry.file.now choice (meta_of checked)) }
+        ensures refused { IfErr result (IsUnread self.entry.file.now choice) }
+    {
+        let checked = self.check(choice)?;
+        Ok(checked)
+    }
+
+    /// The bucket at a path of the file, which is checked first.
+    pub(crate) fn bucket(self, choice: MetaChoice, path: &[Vec<u8>]) -> Result<Bucket<'f>, Failure>
+        ensures found { IfOk result (IsBucketOf self.entry.file.now choice (path_in path.now)) }
+        ensures refused { IfErr result (HasNoBucket self.entry.file.now choice (path_in path.now)) }
+    {
+        let checked = self.read(choice)?;
+        let bucket = open_bucket(checked, path)?;
+        Ok(bucket)
+    }
+
+    /// A recovery under the meta that is chosen.
+    ///
+    /// # Errors
+    ///
+    /// What `Recovery::new`, `Recovery::of_slot` and `Recovery::under` return.
+    pub(crate) fn recover(self, choice: MetaChoice) -> Result<Recovery<'f>, CheckFault>
+        ensures file { IfOk result (λ recovery. recovery_file recovery ≡ self.entry.file.now) }
+        ensures meta { IfOk result (λ recovery. IsRecoveredUnder self.entry.file.now choice (recovery_meta recovery)) }
+        ensures all { IfOk result (λ recovery.
+            ForRecovered self.entry.file.now (recovery_meta recovery) (λ listing. recovery_left recovery listing ≡ listing)) }
+        ensures losses { IfOk result (λ recovery. recovery_losses recovery ≡ []) }
+        ensures refused { IfErr result (IsUnrecoverableUnder self.entry.file.now choice) }
+    {
+        match choice {
+            MetaChoice::Active => Recovery::new(self.alloc, self.file),
+            MetaChoice::InSlot(slot) => Recovery::of_slot(self.alloc, self.file, slot),
+            MetaChoice::Assumed(assumed) => {
+                Recovery::under(self.alloc, self.file, assumed.for_file(self.file))
+            }
+        }
+    }
+
+    /// What is lost and found of the file under the meta that is chosen.
+    pub(crate) fn search(self, choice: MetaChoice) -> Result<LostAndFound<'f>, Failure>
+        ensures searched { IfOk result (IsSearchOf self.entry.file.now choice) }
+        ensures refused { IfErr result (IsUnjoinedUnder self.entry.file.now choice) }
+    {
+        each_file_has_found_pages();
+        let meta = choice.find(self.file)?;
+        let both = LostAndFound::under(self.alloc, self.file, meta)?;
+        Ok(both)
+    }
+}
+
+/// The members of a file that was searched under the meta that is chosen: of what is recovered and
+/// of what is found.
+pub(crate) fn join<'a>(
+    input: Input<'_>,
+    choice: MetaChoice,
+    both: &'a LostAndFound<'_>,
+) -> Result<Joined<'a>, Failure>
+    requires { IsSearchOf input.file.now choice both.now }
+    ensures joined { IfOk result (IsJoinedOf both.now) }
+    ensures refused { IfErr result (IsUnjoinedUnder input.entry.file.now choice) }
+{
+    let joined = Joined::new(input.alloc, both)?;
+    Ok(joined)
+}
+
+/// The bucket at a path, from the root bucket down. The empty path is the root bucket's.
+pub(crate) fn open_bucket<'a>(checked: Checked<'a>, path: &[Vec<u8>]) -> Result<Bucket<'a>, Failure>
+    ensures file { IfOk result (λ bucket. bucket_checked bucket ≡ checked.entry) }
+    ensures named { IfOk result (λ bucket. ∥ LeadsTo (bytes_of checked.entry) (meta_of checked.entry) (path_in path.now) (bucket_start bucket) ∥₁) }
+    ensures refused { IfErr result (λ failure. (failure ≡ NoBucket)
+        × ((bucket : Start) → LeadsTo (bytes_of checked.entry) (meta_of checked.entry) (path_in path.now) bucket → ⊥)) }
+{
+    let mut bucket = Bucket::root(checked);
+    for part in path {
+        let Some(inner) = bucket.bucket(part.as_slice()) else {
+            return Err(Failure::NoBucket);
+        };
+        bucket = inner;
+    }
+    Ok(bucket)
+}
