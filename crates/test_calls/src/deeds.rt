@@ -1,11 +1,12 @@
 //! A command line over an outside in memory, whose deeds go wrong from each one on.
 
 use crate::fault::Fault;
+use crate::log::{Kind, Record};
+use crate::memory::{Memory, Turn};
 use crate::runs::{first_line, line_of};
 use crate::words::push_word;
 use bolt_cli::run_program;
 use std::alloc::Global;
-use test_outside::{Kind, Memory, Record, Turn};
 
 /// The status and the deeds of a command line: a line for each deed from which on they go wrong, and
 /// then one if none does. The first word says how: they fail, or they differ.

@@ -42,6 +42,8 @@ mod deeds;
 mod failures;
 mod fault;
 mod jobs;
+mod log;
+mod memory;
 mod numbers;
 mod pagers;
 mod recoveries;

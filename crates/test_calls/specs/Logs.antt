@@ -3,9 +3,9 @@ use Rattle.std.specs.Prelude.{◌≡◌, ◌⊎◌, ℕ, List, [], map, Bool, tr
 use Rattle.bolt_cli.specs.Deeds.{Deed}
 use Rattle.bolt_cli.specs.Deeds as deeds
 use Rattle.bolt_cli.specs.{Sources.is_changed, declared.outside.OutputFault.TheVariants.ReaderLeft, declared.outside.OutputFault.TheVariants.Failed}
-use Rattle.test_outside.specs.declared.log.Kind.{Kind}
-use Rattle.test_outside.specs.declared.log.Kind.TheVariants as kind
-use Rattle.test_outside.specs.{declared.log.Record.Record, declared.log.Log.Log}
+use Rattle.test_calls.specs.declared.log.Kind.{Kind}
+use Rattle.test_calls.specs.declared.log.Kind.TheVariants as kind
+use Rattle.test_calls.specs.{declared.log.Record.Record, declared.log.Log.Log}
 
 -- what a log keeps of a deed
 pub record Look : Type 0 where

@@ -1,7 +1,7 @@
 //! An outside in memory.
 ghost use Rattle.std.specs.Prelude.{◌≡◌, IfOk, flat_map};
 ghost use Rattle.bolt_cli.specs.Sources.{is_changed};
-ghost use Rattle.test_outside.specs.Logs.{read_kind};
+ghost use Rattle.test_calls.specs.Logs.{read_kind};
 
 use crate::log::{Kind, Log};
 use bolt_cli::{CreateFault, EndFault, OpenFault, OutputFault, Outside, ReadFault, Source, Stamp};
@@ -9,7 +9,7 @@ use bolt_format::{MemSink, Sink};
 use std::alloc::{AllocError, Global};
 
 /// How an answer goes.
-#[derive(Clone, Copy, Debug, PartialEq, Eq)]
+#[derive(Clone, Copy, PartialEq, Eq)]
 pub enum Turn {
     Good,
     /// It fails.
@@ -68,7 +68,7 @@ impl Memory {
 const PERMISSIONS: u32 = 0o640;
 
 impl Outside for Memory {
-    ghost use Rattle.test_outside.specs.Logs.{Holds};
+    ghost use Rattle.test_calls.specs.Logs.{Holds};
 
     type Target = MemSink;
 

@@ -2,13 +2,13 @@
 ghost use Rattle.std.specs.Prelude.{◌≡◌, List, [], ◌∷◌, ◌++◌, OnOk};
 ghost use Rattle.bolt_cli.specs.Deeds.{Deed, Adds};
 ghost use Rattle.bolt_format.specs.declared.sink.MemSink.{MemSink};
-ghost use Rattle.test_outside.specs.Logs.{Holds, Look, look_of, look};
+ghost use Rattle.test_calls.specs.Logs.{Holds, Look, look_of, look};
 
 use bolt_format::{MemSink, Sink};
 use std::alloc::{AllocError, Global};
 
 /// The kind of a deed, and how it went.
-#[derive(Clone, Copy, Debug, PartialEq, Eq)]
+#[derive(Clone, Copy, PartialEq, Eq)]
 pub enum Kind {
     Read,
     ReadMetas,

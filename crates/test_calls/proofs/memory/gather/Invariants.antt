@@ -1,5 +1,5 @@
 use Rattle.std.proofs.Common.{◌≡◌, flat_map, take}
-use Rattle.test_outside.proofs.memory.gather.Given as goal
+use Rattle.test_calls.proofs.memory.gather.Given as goal
 
 -- the pieces so far
 abbrev pub invariant-loop-piece : goal.invariant-loop-piece

@@ -1,7 +1,7 @@
 use Rattle.std.proofs.Common.{refl, rules}
 use Rattle.std.proofs.lemmas.Grind.{common_steps}
-use Rattle.test_outside.specs.declared.log.Record.{Record}
-use Rattle.test_outside.proofs.log.push.Goals as goal
+use Rattle.test_calls.specs.declared.log.Record.{Record}
+use Rattle.test_calls.proofs.log.push.Goals as goal
 
 pub returns : goal.returns
 returns c =
