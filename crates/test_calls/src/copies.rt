@@ -1,12 +1,15 @@
-//! Plans and copies through their calls.
+//! Plans and copies through their calls, and listings that are read back.
 
 use crate::fault::Fault;
+use crate::walks::lines_of;
 use crate::words::number;
 use bolt_bulk::{Plan, compact, compact_as, plan, plan_as};
 use bolt_check::check;
 use bolt_cli::PageSize;
 use bolt_format::WriteSink;
 use bolt_layout::Layout;
+use bolt_load::ListingText;
+use bolt_tree::Members;
 use std::alloc::Global;
 use std::io::{self, Write};
 
@@ -66,4 +69,17 @@ pub fn copied(alloc: Global, file: &[u8], words: &[String]) -> Result<Vec<u8>, F
     let (bytes, held, taken) = (done.bytes, done.held, sink.into_inner().taken);
     let line = format!(in alloc; "{bytes} {taken} {held}")?;
     Ok(line.as_bytes().to_vec(alloc)?)
+}
+
+/// The line of each member that the text of a listing tells, twice the same.
+pub fn loaded(alloc: Global, text: &[u8]) -> Result<Vec<u8>, Fault> {
+    let listing = ListingText::read(alloc, text)?;
+    let mut members = listing.members(alloc);
+    let lines = lines_of(alloc, &mut members)?;
+    members.restart(alloc)?;
+    let again = lines_of(alloc, &mut members)?;
+    if lines.bytes() != again.bytes() {
+        return Err(Fault::Wrong("other members", lines.bytes().len()));
+    }
+    Ok(lines.bytes().to_vec(alloc)?)
 }

@@ -11,7 +11,7 @@ use std::alloc::{AllocError, AllocFailed};
 use std::{fmt, io};
 
 /// Why a call gives no result.
-#[derive(Clone, Copy, Debug)]
+#[derive(Clone, Copy)]
 pub enum Fault {
     Memory,
     /// An unknown word, or a file that can't be read or isn't sound.

@@ -12,8 +12,7 @@ fn unnamed(alloc: Global) -> String {
     String::new(alloc)
 }
 
-/// `check`, or with `--all`.
-pub fn check_job(alloc: Global, extent: Extent) -> Job {
+fn check_job(alloc: Global, extent: Extent) -> Job {
     Job::Check(CheckJob {
         file: unnamed(alloc),
         meta: MetaChoice::Active,
@@ -22,8 +21,7 @@ pub fn check_job(alloc: Global, extent: Extent) -> Job {
     })
 }
 
-/// `list`, or with `--recover` or `--lost-and-found`.
-pub fn list_job(alloc: Global, form: ListForm, extent: Extent) -> Job {
+fn list_job(alloc: Global, form: ListForm, extent: Extent) -> Job {
     Job::List(ListJob {
         file: unnamed(alloc),
         meta: MetaChoice::Active,
@@ -34,8 +32,7 @@ pub fn list_job(alloc: Global, form: ListForm, extent: Extent) -> Job {
     })
 }
 
-/// `compact`, or with `--recover` or `--lost-and-found`.
-pub fn copy_job(alloc: Global, kind: CopyKind, extent: Extent) -> Job {
+fn copy_job(alloc: Global, kind: CopyKind, extent: Extent) -> Job {
     Job::Compact(CompactJob {
         file: unnamed(alloc),
         meta: MetaChoice::Active,
@@ -46,33 +43,76 @@ pub fn copy_job(alloc: Global, kind: CopyKind, extent: Extent) -> Job {
     })
 }
 
-/// Commands that are tried on each file, but for those that a function above makes.
+/// `compact` and `list` to one extent.
+#[derive(Drop)]
+pub struct CopyJobs {
+    pub copy: Job,
+    pub list: Job,
+}
+
+/// Commands that are tried on each file.
 #[derive(Drop)]
 pub struct Jobs {
+    pub check: Job,
+    pub list: Job,
     /// Those that check the file first and print it.
     pub readers: Vec<Job>,
     /// `page` of each page, and of the one after the last.
     pub pages: Vec<Job>,
+    /// `check` to each greater extent.
+    pub checks: Vec<Job>,
+    /// Copies to each extent.
+    pub copies: Vec<CopyJobs>,
 }
 
 impl Jobs {
     pub fn new(alloc: Global) -> Result<Jobs, AllocError> {
-        let mut pages = Vec::new(alloc);
-        for id in 0..5 {
-            pages.push(Job::Page(PageJob {
-                file: unnamed(alloc),
-                meta: MetaChoice::Active,
-                id,
-            }))?;
-        }
         Ok(Jobs {
+            check: check_job(alloc, Extent::First),
+            list: list_job(alloc, ListForm::Hex, Extent::First),
             readers: readers(alloc)?,
-            pages,
+            pages: pages(alloc)?,
+            checks: checks(alloc)?,
+            copies: copies(alloc)?,
         })
     }
 }
 
-/// The commands that read a sound file and print it, but for `list`.
+fn pages(alloc: Global) -> Result<Vec<Job>, AllocError> {
+    let mut jobs = Vec::new(alloc);
+    for id in 0..5 {
+        jobs.push(Job::Page(PageJob {
+            file: unnamed(alloc),
+            meta: MetaChoice::Active,
+            id,
+        }))?;
+    }
+    Ok(jobs)
+}
+
+fn checks(alloc: Global) -> Result<Vec<Job>, AllocError> {
+    let mut jobs = Vec::new(alloc);
+    for extent in [Extent::Losses, Extent::LostAndFound] {
+        jobs.push(check_job(alloc, extent))?;
+    }
+    Ok(jobs)
+}
+
+fn copies(alloc: Global) -> Result<Vec<CopyJobs>, AllocError> {
+    let mut jobs = Vec::new(alloc);
+    for (kind, extent) in [
+        (CopyKind::Plain, Extent::First),
+        (CopyKind::ForBbolt, Extent::Losses),
+        (CopyKind::Plain, Extent::LostAndFound),
+    ] {
+        jobs.push(CopyJobs {
+            copy: copy_job(alloc, kind, extent),
+            list: list_job(alloc, ListForm::Hex, extent),
+        })?;
+    }
+    Ok(jobs)
+}
+
 fn readers(alloc: Global) -> Result<Vec<Job>, AllocError> {
     let mut jobs = Vec::new(alloc);
     jobs.push(Job::Pages(PagesJob {
@@ -94,6 +134,8 @@ fn readers(alloc: Global) -> Result<Vec<Job>, AllocError> {
         form: FigureForm::Lines,
         path: Vec::new(alloc),
     }))?;
-    jobs.push(list_job(alloc, ListForm::Json, Extent::First))?;
+    for form in [ListForm::Hex, ListForm::Json] {
+        jobs.push(list_job(alloc, form, Extent::First))?;
+    }
     Ok(jobs)
 }

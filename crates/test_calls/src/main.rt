@@ -36,6 +36,7 @@
 #![tactic(auto)]
 
 mod agreements;
+mod checks;
 mod copies;
 mod cursors;
 mod deeds;
@@ -44,11 +45,9 @@ mod fault;
 mod jobs;
 mod log;
 mod memory;
-mod numbers;
 mod pagers;
 mod recoveries;
 mod refusals;
-mod roles;
 mod runs;
 mod sinks;
 mod sweeps;
@@ -130,11 +129,11 @@ fn result_of(alloc: Global, verb: &str, file: &[u8], words: &[String]) -> Result
         "recovered" => recoveries::recovered(alloc, file, words),
         "found" => recoveries::found(alloc, file, words),
         "joined" => recoveries::joined(alloc, file, words),
-        "loaded" => walks::loaded(alloc, file),
+        "loaded" => copies::loaded(alloc, file),
         "plan" => copies::planned(alloc, file, words),
         "copy" => copies::copied(alloc, file, words),
-        "roles" => roles::roles_of(alloc, file),
-        "checked" => roles::checked(alloc, file, words),
+        "roles" => checks::roles_of(alloc, file),
+        "checked" => checks::checked(alloc, file, words),
         "pager" => pagers::opened_pages(alloc, file),
         "root" => pagers::root_cursor(alloc, file),
         "bucket" => pagers::bucket_cursor(alloc, file, words),
@@ -153,8 +152,8 @@ fn other_result_of(
         "again" => refusals::members_again(alloc, file, words),
         "between" => refusals::calls_between(alloc, file, words),
         "names" => runs::names_of(alloc, words),
-        "checksums" => numbers::checksums(alloc, words),
-        "faults" => numbers::faults(alloc),
+        "checksums" => checks::checksums(alloc, words),
+        "faults" => checks::faults(alloc),
         "flips" => sweeps::flips(alloc, file, words),
         "fails" => failures::fails(alloc, file, words),
         "halts" => failures::halts(alloc, file, words),

@@ -4,7 +4,6 @@ use crate::fault::Fault;
 use crate::words::{bucket_at, bytes_of, keys_of, push_word, slices_of};
 use bolt_check::check;
 use bolt_format::{MemSink, Sink};
-use bolt_load::ListingText;
 use bolt_report::{Form, ListForm, MemberLines, ReportFault, keys, list};
 use bolt_tree::{Members, Walk};
 use std::alloc::Global;
@@ -44,19 +43,6 @@ pub fn lines_of<'a, M: Members<'a>>(
 pub fn members(alloc: Global, file: &[u8], words: &[String]) -> Result<Vec<u8>, Fault> {
     let mut walk = walk_from(alloc, file, words)?;
     Ok(lines_of(alloc, &mut walk)?.bytes().to_vec(alloc)?)
-}
-
-/// The line of each member that the text of a listing tells, twice the same.
-pub fn loaded(alloc: Global, text: &[u8]) -> Result<Vec<u8>, Fault> {
-    let listing = ListingText::read(alloc, text)?;
-    let mut members = listing.members(alloc);
-    let lines = lines_of(alloc, &mut members)?;
-    members.restart(alloc)?;
-    let again = lines_of(alloc, &mut members)?;
-    if lines.bytes() != again.bytes() {
-        return Err(Fault::Wrong("other members", lines.bytes().len()));
-    }
-    Ok(lines.bytes().to_vec(alloc)?)
 }
 
 /// The number of items that a walk returns, the number of keys of the longest of their paths, and

@@ -1,8 +1,9 @@
-//! What a checked file shows, and what each of its pages is.
+//! What a checked file shows, what each of its pages is, and the checksums and the numbers of faults.
 
 use crate::fault::Fault;
-use crate::words::{assumed_of, push_word, slot_of};
-use bolt_check::{Checked, Role, check, check_slot, check_under, roles};
+use crate::words::{assumed_of, bytes_of, push_word, slot_of};
+use bolt_check::{Checked, Finding, Role, check, check_slot, check_under, roles};
+use bolt_format::{PageFault, fnv1a};
 use std::alloc::Global;
 
 fn name_of(role: Role) -> &'static [u8] {
@@ -49,4 +50,49 @@ pub fn checked(alloc: Global, file: &[u8], words: &[String]) -> Result<Vec<u8>, 
     let (txid, length) = (found.meta().txid, found.bytes().len());
     let line = format!(in alloc; "{txid} {length} {tested}")?;
     Ok(line.as_bytes().to_vec(alloc)?)
+}
+
+/// The checksum of each word.
+pub fn checksums(alloc: Global, words: &[String]) -> Result<Vec<u8>, Fault> {
+    let mut line = Vec::new(alloc);
+    for word in words {
+        let sum = fnv1a(bytes_of(alloc, word.as_bytes())?.as_slice());
+        push_word(&mut line, format!(in alloc; "{sum}")?.as_bytes())?;
+    }
+    Ok(line)
+}
+
+/// The faults of pages, and then the findings, in the order of docs/COMMANDS.md.
+const FAULTS: [u8; 22] = [
+    PageFault::RANGE,
+    PageFault::CUT,
+    PageFault::ID,
+    PageFault::PAGE_KIND,
+    PageFault::ELEMENT_CUT,
+    PageFault::DATA_ORDER,
+    PageFault::KEY_LENGTH,
+    PageFault::VALUE_LENGTH,
+    PageFault::LEAF_FLAGS,
+    PageFault::BUCKET_SHORT,
+    PageFault::INLINE_PAGE,
+    PageFault::INLINE_NESTED,
+    Finding::TWICE,
+    Finding::ORDER,
+    Finding::BELOW_PARENT,
+    Finding::ABOVE_NEXT,
+    Finding::EMPTY_BRANCH,
+    Finding::TOO_DEEP,
+    Finding::FREED_TWICE,
+    Finding::REACHED_FREED,
+    Finding::UNREACHABLE,
+    Finding::FREE_RANGE,
+];
+
+/// The numbers of the faults.
+pub fn faults(alloc: Global) -> Result<Vec<u8>, Fault> {
+    let mut line = Vec::new(alloc);
+    for number in FAULTS {
+        push_word(&mut line, format!(in alloc; "{number}")?.as_bytes())?;
+    }
+    Ok(line)
 }
