@@ -1,24 +1,11 @@
 //! What commands say of one file, compared with each other.
 
 use crate::fault::Fault;
-use crate::jobs::{CopyJobs, Jobs};
+use crate::jobs::{Jobs, Trial};
 use crate::runs::{Ran, first_line};
 use crate::sweeps::toggle;
 use bolt_cli::Job;
 use std::alloc::Global;
-
-/// The line with which other commands refuse a file that `check` refuses: its fault or first finding.
-/// There is none if it accepts the file.
-fn refusal_of(alloc: Global, check: &Ran) -> Result<Vec<u8>, Fault> {
-    let found = check.out.bytes();
-    if check.err.bytes().is_empty() && found.starts_with(b"page") {
-        let mut line = b"error: file refused: ".to_vec(alloc)?;
-        line.extend_from_slice(first_line(found))?;
-        line.push(b'\n')?;
-        return Ok(line);
-    }
-    Ok(check.err.bytes().to_vec(alloc)?)
-}
 
 /// A file, and where it was changed.
 #[derive(Clone, Copy)]
@@ -45,78 +32,89 @@ impl Place<'_> {
     /// Everything that is said of the file.
     fn compare(&self) -> Result<(), Fault> {
         let check = self.run(&self.jobs.check);
-        let error = refusal_of(self.alloc, &check)?;
-        if error.is_empty() {
-            self.require(check.is(0, b"OK\n", b""), "check of a file")?;
-        } else {
-            self.require(check.code == 1, "check of a file")?;
-        }
-        self.compare_pages(check.err.bytes())?;
-        self.compare_readers(error.as_slice())?;
-        for job in &self.jobs.checks {
-            let is_right = self.run(job).code == 1 || check.code == 0;
-            self.require(is_right, "check to a greater extent")?;
-        }
-        for jobs in &self.jobs.copies {
-            self.compare_copy(jobs)?;
+        for trial in &self.jobs.trials {
+            self.require(self.is_right(trial, &check), "a command and check")?;
         }
         Ok(())
     }
 
-    /// `page` prints a page, or refuses it; if the file has this fault, it reports the same.
-    fn compare_pages(&self, fault: &[u8]) -> Result<(), Fault> {
-        for job in &self.jobs.pages {
-            let ran = self.run(job);
-            let (out, err) = (ran.out.bytes(), ran.err.bytes());
-            let is_printed = ran.code == 0 && !out.is_empty() && err.is_empty();
-            let is_error = if fault.is_empty() {
-                err.starts_with(b"error: page ")
-            } else {
-                err == fault
-            };
-            let is_refused = ran.code == 1 && out.is_empty() && is_error;
-            self.require(is_printed || is_refused, "page")?;
+    /// Whether a command prints what it has to, after what `check` prints of the file.
+    fn is_right(&self, trial: &Trial, check: &Ran) -> bool {
+        match trial {
+            Trial::Page(job) => is_page(&self.run(job), check.err.bytes()),
+            Trial::Reader(job) => is_read(&self.run(job), check),
+            Trial::Check(job) => self.run(job).code == 1 || check.code == 0,
+            Trial::Copy { copy, list } => self.is_copied(&self.run(copy), &self.run(list)),
         }
-        Ok(())
-    }
-
-    /// Each command reads the file, or refuses it with this line.
-    fn compare_readers(&self, error: &[u8]) -> Result<(), Fault> {
-        for job in &self.jobs.readers {
-            let ran = self.run(job);
-            let is_right = if error.is_empty() {
-                ran.code == 0 && ran.err.bytes().is_empty()
-            } else {
-                ran.is(1, b"", error)
-            };
-            self.require(is_right, "a reader")?;
-        }
-        Ok(())
     }
 
     /// The copy is sound and lists what `list` prints, and the statuses are the same. Without a copy
     /// both refuse the file alike.
-    fn compare_copy(&self, jobs: &CopyJobs) -> Result<(), Fault> {
-        let copy = self.run(&jobs.copy);
-        let list = self.run(&jobs.list);
+    fn is_copied(&self, copy: &Ran, list: &Ran) -> bool {
         let target = copy.target.bytes();
         if target.is_empty() {
-            let is_alike = list.is(1, b"", copy.err.bytes()) && copy.is(1, b"", list.err.bytes());
-            return self.require(is_alike, "a file without a copy");
+            return list.is(1, b"", copy.err.bytes()) && copy.is(1, b"", list.err.bytes());
         }
-        let is_told = copy.code == list.code && copy.err.bytes().is_empty();
-        self.require(is_told, "the status of a copy")?;
         let check = Ran::on(self.alloc, &self.jobs.check, target);
-        self.require(check.is(0, b"OK\n", b""), "check of a copy")?;
         let again = Ran::on(self.alloc, &self.jobs.list, target);
-        self.require(again.is(0, list.out.bytes(), b""), "list of a copy")
+        copy.code == list.code
+            && copy.err.bytes().is_empty()
+            && check.is(0, b"OK\n", b"")
+            && again.is(0, list.out.bytes(), b"")
     }
+}
+
+/// `page` prints a page, or refuses it; if the file has this fault, it reports the same.
+fn is_page(ran: &Ran, fault: &[u8]) -> bool {
+    let (out, err) = (ran.out.bytes(), ran.err.bytes());
+    if ran.code == 0 {
+        return !out.is_empty() && err.is_empty();
+    }
+    let is_error = if fault.is_empty() {
+        err.starts_with(b"error: page ")
+    } else {
+        err == fault
+    };
+    ran.is(1, b"", err) && is_error
+}
+
+/// The command reads a file that `check` accepts. Another one it refuses with the fault of `check`, or
+/// with its first finding.
+fn is_read(ran: &Ran, check: &Ran) -> bool {
+    let (found, fault) = (check.out.bytes(), check.err.bytes());
+    if check.is(0, b"OK\n", b"") {
+        return ran.code == 0 && ran.err.bytes().is_empty();
+    }
+    let is_refused = if fault.is_empty() {
+        ran.err.bytes().strip_prefix(b"error: file refused: ") == found_line(found)
+    } else {
+        ran.err.bytes() == fault
+    };
+    check.code == 1 && is_refused && ran.is(1, b"", ran.err.bytes())
+}
+
+/// The first line of findings, with its line feed.
+fn found_line(text: &[u8]) -> Option<&[u8]> {
+    if !text.starts_with(b"page") {
+        return None;
+    }
+    text.get(..first_line(text).len().saturating_add(1))
 }
 
 /// The number of files that are compared: a file of four pages with each byte changed to each other
 /// value in turn. It is also compared with its end cut off at each byte.
 pub fn compared(alloc: Global, file: &[u8]) -> Result<Vec<u8>, Fault> {
-    let jobs = &Jobs::new(alloc)?;
+    let count = count_compared(alloc, file)?;
+    let line = format!(in alloc; "{count}")?;
+    Ok(line.as_bytes().to_vec(alloc)?)
+}
+
+fn count_compared(alloc: Global, file: &[u8]) -> Result<u64, Fault> {
+    let jobs = Jobs::new(alloc)?;
+    compare_each(alloc, &jobs, file)
+}
+
+fn compare_each(alloc: Global, jobs: &Jobs, file: &[u8]) -> Result<u64, Fault> {
     let mut other = file.to_vec(alloc)?;
     let mut count = 0_u64;
     for at in 0..file.len() {
@@ -128,8 +126,7 @@ pub fn compared(alloc: Global, file: &[u8]) -> Result<Vec<u8>, Fault> {
             count = count.saturating_add(1);
         }
     }
-    let line = format!(in alloc; "{count}")?;
-    Ok(line.as_bytes().to_vec(alloc)?)
+    Ok(count)
 }
 
 fn compare_at(alloc: Global, jobs: &Jobs, file: &[u8], at: usize) -> Result<(), Fault> {

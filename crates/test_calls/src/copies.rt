@@ -1,7 +1,7 @@
 //! Plans and copies through their calls, and listings that are read back.
 
 use crate::fault::Fault;
-use crate::walks::lines_of;
+use crate::walks::twice;
 use crate::words::number;
 use bolt_bulk::{Plan, compact, compact_as, plan, plan_as};
 use bolt_check::check;
@@ -9,7 +9,6 @@ use bolt_cli::PageSize;
 use bolt_format::WriteSink;
 use bolt_layout::Layout;
 use bolt_load::ListingText;
-use bolt_tree::Members;
 use std::alloc::Global;
 use std::io::{self, Write};
 
@@ -71,15 +70,9 @@ pub fn copied(alloc: Global, file: &[u8], words: &[String]) -> Result<Vec<u8>, F
     Ok(line.as_bytes().to_vec(alloc)?)
 }
 
-/// The line of each member that the text of a listing tells, twice the same.
+/// The line of each member that the text of a listing tells, which a second pass returns again.
 pub fn loaded(alloc: Global, text: &[u8]) -> Result<Vec<u8>, Fault> {
     let listing = ListingText::read(alloc, text)?;
-    let mut members = listing.members(alloc);
-    let lines = lines_of(alloc, &mut members)?;
-    members.restart(alloc)?;
-    let again = lines_of(alloc, &mut members)?;
-    if lines.bytes() != again.bytes() {
-        return Err(Fault::Wrong("other members", lines.bytes().len()));
-    }
+    let lines = twice(alloc, &mut listing.members(alloc))?;
     Ok(lines.bytes().to_vec(alloc)?)
 }

@@ -161,17 +161,18 @@ const REFUSALS: [Refusal; 4] = [
 pub fn fails(alloc: Global, file: &[u8], words: &[String]) -> Result<Vec<u8>, Fault> {
     let job = job_of(alloc, words)?;
     let ran = Ran::on(alloc, &job, file);
-    let (out, copy, err) = (
-        ran.out.bytes().len(),
-        ran.target.bytes().len(),
-        ran.err.bytes().len(),
-    );
-    let whole = Whole {
+    fail_each(&Whole {
         alloc,
         job: &job,
         file,
         ran: &ran,
-    };
+    })
+}
+
+fn fail_each(whole: &Whole<'_>) -> Result<Vec<u8>, Fault> {
+    let ran = whole.ran;
+    let (out, copy) = (ran.out.bytes().len(), ran.target.bytes().len());
+    let err = ran.err.bytes().len();
     for fuse in 0..out {
         whole.fail_output(fuse)?;
     }
@@ -182,8 +183,8 @@ pub fn fails(alloc: Global, file: &[u8], words: &[String]) -> Result<Vec<u8>, Fa
         whole.fail_error(fuse)?;
     }
     whole.fail_both()?;
-    let line = format!(in alloc; "{out} {copy} {err}")?;
-    Ok(line.as_bytes().to_vec(alloc)?)
+    let line = format!(in whole.alloc; "{out} {copy} {err}")?;
+    Ok(line.as_bytes().to_vec(whole.alloc)?)
 }
 
 /// The number of bytes that a command prints and copies, through writers that refuse each of their
@@ -191,18 +192,21 @@ pub fn fails(alloc: Global, file: &[u8], words: &[String]) -> Result<Vec<u8>, Fa
 pub fn halts(alloc: Global, file: &[u8], words: &[String]) -> Result<Vec<u8>, Fault> {
     let job = job_of(alloc, words)?;
     let ran = Ran::on(alloc, &job, file);
-    let (out, copy) = (ran.out.bytes().len(), ran.target.bytes().len());
-    let whole = Whole {
+    halt_each(&Whole {
         alloc,
         job: &job,
         file,
         ran: &ran,
-    };
+    })
+}
+
+fn halt_each(whole: &Whole<'_>) -> Result<Vec<u8>, Fault> {
+    let (out, copy) = (whole.ran.out.bytes().len(), whole.ran.target.bytes().len());
     for refusal in REFUSALS {
         if whole.output_calls(refusal)? < out / 7 || whole.copy_calls(refusal)? < copy / 7 {
             return Err(Fault::Wrong("the number of calls", out));
         }
     }
-    let line = format!(in alloc; "{out} {copy}")?;
-    Ok(line.as_bytes().to_vec(alloc)?)
+    let line = format!(in whole.alloc; "{out} {copy}")?;
+    Ok(line.as_bytes().to_vec(whole.alloc)?)
 }

@@ -43,99 +43,96 @@ fn copy_job(alloc: Global, kind: CopyKind, extent: Extent) -> Job {
     })
 }
 
-/// `compact` and `list` to one extent.
+/// A command that is tried on each file, by how its result is judged.
 #[derive(Drop)]
-pub struct CopyJobs {
-    pub copy: Job,
-    pub list: Job,
+pub enum Trial {
+    /// It opens one page.
+    Page(Job),
+    /// It checks the file first, and prints it.
+    Reader(Job),
+    /// It checks the file to a greater extent than `check`.
+    Check(Job),
+    /// A copy, and the listing to the same extent.
+    Copy { copy: Job, list: Job },
 }
 
-/// Commands that are tried on each file.
+/// Commands that are tried on each file, and on each copy of it.
 #[derive(Drop)]
 pub struct Jobs {
     pub check: Job,
     pub list: Job,
-    /// Those that check the file first and print it.
-    pub readers: Vec<Job>,
-    /// `page` of each page, and of the one after the last.
-    pub pages: Vec<Job>,
-    /// `check` to each greater extent.
-    pub checks: Vec<Job>,
-    /// Copies to each extent.
-    pub copies: Vec<CopyJobs>,
+    pub trials: Vec<Trial>,
 }
 
 impl Jobs {
     pub fn new(alloc: Global) -> Result<Jobs, AllocError> {
+        let mut trials = Vec::new(alloc);
+        add_trials(alloc, &mut trials)?;
         Ok(Jobs {
             check: check_job(alloc, Extent::First),
             list: list_job(alloc, ListForm::Hex, Extent::First),
-            readers: readers(alloc)?,
-            pages: pages(alloc)?,
-            checks: checks(alloc)?,
-            copies: copies(alloc)?,
+            trials,
         })
     }
 }
 
-fn pages(alloc: Global) -> Result<Vec<Job>, AllocError> {
-    let mut jobs = Vec::new(alloc);
+fn add_trials(alloc: Global, trials: &mut Vec<Trial>) -> Result<(), AllocError> {
+    add_pages(alloc, trials)?;
+    add_readers(alloc, trials)?;
+    for extent in [Extent::Losses, Extent::LostAndFound] {
+        trials.push(Trial::Check(check_job(alloc, extent)))?;
+    }
+    add_copy(alloc, CopyKind::Plain, Extent::First, trials)?;
+    add_copy(alloc, CopyKind::ForBbolt, Extent::Losses, trials)?;
+    add_copy(alloc, CopyKind::Plain, Extent::LostAndFound, trials)
+}
+
+/// `page` of each page, and of the one after the last.
+fn add_pages(alloc: Global, trials: &mut Vec<Trial>) -> Result<(), AllocError> {
     for id in 0..5 {
-        jobs.push(Job::Page(PageJob {
+        trials.push(Trial::Page(Job::Page(PageJob {
             file: unnamed(alloc),
             meta: MetaChoice::Active,
             id,
-        }))?;
+        })))?;
     }
-    Ok(jobs)
+    Ok(())
 }
 
-fn checks(alloc: Global) -> Result<Vec<Job>, AllocError> {
-    let mut jobs = Vec::new(alloc);
-    for extent in [Extent::Losses, Extent::LostAndFound] {
-        jobs.push(check_job(alloc, extent))?;
-    }
-    Ok(jobs)
-}
-
-fn copies(alloc: Global) -> Result<Vec<CopyJobs>, AllocError> {
-    let mut jobs = Vec::new(alloc);
-    for (kind, extent) in [
-        (CopyKind::Plain, Extent::First),
-        (CopyKind::ForBbolt, Extent::Losses),
-        (CopyKind::Plain, Extent::LostAndFound),
-    ] {
-        jobs.push(CopyJobs {
-            copy: copy_job(alloc, kind, extent),
-            list: list_job(alloc, ListForm::Hex, extent),
-        })?;
-    }
-    Ok(jobs)
-}
-
-fn readers(alloc: Global) -> Result<Vec<Job>, AllocError> {
-    let mut jobs = Vec::new(alloc);
-    jobs.push(Job::Pages(PagesJob {
+fn add_readers(alloc: Global, trials: &mut Vec<Trial>) -> Result<(), AllocError> {
+    trials.push(Trial::Reader(Job::Pages(PagesJob {
         file: unnamed(alloc),
         map: false,
-    }))?;
+    })))?;
     for sizes in [false, true] {
-        jobs.push(Job::Buckets(BucketsJob {
+        trials.push(Trial::Reader(Job::Buckets(BucketsJob {
             file: unnamed(alloc),
             meta: MetaChoice::Active,
             path: Vec::new(alloc),
             form: Form::Printable,
             sizes,
-        }))?;
+        })))?;
     }
-    jobs.push(Job::Stats(StatsJob {
+    trials.push(Trial::Reader(Job::Stats(StatsJob {
         file: unnamed(alloc),
         meta: MetaChoice::Active,
         form: FigureForm::Lines,
         path: Vec::new(alloc),
-    }))?;
+    })))?;
     for form in [ListForm::Hex, ListForm::Json] {
-        jobs.push(list_job(alloc, form, Extent::First))?;
+        trials.push(Trial::Reader(list_job(alloc, form, Extent::First)))?;
     }
-    Ok(jobs)
+    Ok(())
+}
+
+fn add_copy(
+    alloc: Global,
+    kind: CopyKind,
+    extent: Extent,
+    trials: &mut Vec<Trial>,
+) -> Result<(), AllocError> {
+    let copy = copy_job(alloc, kind, extent);
+    let list = list_job(alloc, ListForm::Hex, extent);
+    trials.push(Trial::Copy { copy, list })?;
+    Ok(())
 }

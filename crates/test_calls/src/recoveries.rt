@@ -2,12 +2,11 @@
 ghost use Rattle.std.specs.Prelude.{◌<◌, IfOk};
 
 use crate::fault::Fault;
-use crate::walks::lines_of;
+use crate::walks::{lines_of, twice};
 use crate::words::{assumed_of, slot_of};
 use bolt_format::{Meta, choose, slot_meta};
 use bolt_recover::{Found, Joined, Lost, LostAndFound, Recovery};
 use bolt_report::lost_text;
-use bolt_tree::Members;
 use std::alloc::Global;
 
 /// The line of each member that is recovered, and then that of each loss. The first word may name
@@ -72,14 +71,12 @@ fn push_found(alloc: Global, found: &Found<'_>, lines: &mut Vec<u8>) -> Result<(
 /// The line of each member of the joined listing, which a second pass returns again. The first word
 /// may assume a meta.
 pub fn joined(alloc: Global, file: &[u8], words: &[String]) -> Result<Vec<u8>, Fault> {
-    let meta = meta_of(file, words)?;
-    let both = LostAndFound::under(alloc, file, meta)?;
-    let mut members = Joined::new(alloc, &both)?;
-    let first = lines_of(alloc, &mut members)?;
-    members.restart(alloc)?;
-    let again = lines_of(alloc, &mut members)?;
-    if first.bytes() != again.bytes() {
-        return Err(Fault::Wrong("a second pass", 0));
-    }
-    Ok(first.bytes().to_vec(alloc)?)
+    let both = LostAndFound::under(alloc, file, meta_of(file, words)?)?;
+    members_of(alloc, &both)
+}
+
+fn members_of(alloc: Global, both: &LostAndFound<'_>) -> Result<Vec<u8>, Fault> {
+    let mut members = Joined::new(alloc, both)?;
+    let lines = twice(alloc, &mut members)?;
+    Ok(lines.bytes().to_vec(alloc)?)
 }

@@ -83,11 +83,15 @@ pub fn changes(alloc: Global, file: &[u8], words: &[String]) -> Result<Ran, Faul
 /// changed in turn. The status is 1.
 pub fn flips(alloc: Global, file: &[u8], words: &[String]) -> Result<Vec<u8>, Fault> {
     let sweep = sweep_of(alloc, words)?;
-    let mut other = file.to_vec(alloc)?;
-    let mut line = Vec::new(alloc);
+    flip_each(&sweep, file)
+}
+
+fn flip_each(sweep: &Sweep, file: &[u8]) -> Result<Vec<u8>, Fault> {
+    let mut other = file.to_vec(sweep.alloc)?;
+    let mut line = Vec::new(sweep.alloc);
     for at in sweep.first..=sweep.last {
         toggle(&mut other, at, 1);
-        let ran = Ran::on(alloc, &sweep.job, other.as_slice());
+        let ran = Ran::on(sweep.alloc, &sweep.job, other.as_slice());
         let found = first_line(ran.out.bytes());
         if at == sweep.first {
             line.extend_from_slice(found)?;

@@ -39,6 +39,17 @@ pub fn lines_of<'a, M: Members<'a>>(
     Ok(sink)
 }
 
+/// The line of each member. A second pass returns them again; otherwise a last line says so.
+pub fn twice<'a, M: Members<'a>>(alloc: Global, members: &mut M) -> Result<MemSink, ReportFault> {
+    let mut lines = lines_of(alloc, members)?;
+    members.restart(alloc)?;
+    let again = lines_of(alloc, members)?;
+    if lines.bytes() != again.bytes() {
+        lines.put(b"another second pass\n")?;
+    }
+    Ok(lines)
+}
+
 /// The line of each member that a walk returns.
 pub fn members(alloc: Global, file: &[u8], words: &[String]) -> Result<Vec<u8>, Fault> {
     let mut walk = walk_from(alloc, file, words)?;
