@@ -121,7 +121,6 @@ impl<'a> BranchRun<'a> {
     }
 
     /// Writes the page over the run, and begins the next run. Returns the page's element.
-    #[tactic(auto, using(crate::proofs::PutsLemmas::nothing_put))]
     fn close<S: Sink>(
         &mut self,
         setup: &PageSetup,
@@ -165,7 +164,6 @@ fn put_headers<S: Sink>(branches: &[Branch<'_>], sink: &mut S) -> Result<(), Sin
 }
 
 /// Writes the keys of elements.
-#[tactic(auto, using(bolt_format::proofs::WroteFronts::fronts, crate::proofs::BranchPuts::keys_left, crate::proofs::BranchPuts::keys_none))]
 fn put_keys<S: Sink>(branches: &[Branch<'_>], sink: &mut S) -> Result<(), SinkFault>
     ensures { Wrote S.Sink sink.old sink.new (branch_data (map branch_view branches.now)) (page_ending result) }
 {
@@ -176,7 +174,6 @@ fn put_keys<S: Sink>(branches: &[Branch<'_>], sink: &mut S) -> Result<(), SinkFa
 }
 
 /// Writes the branch page over a run.
-#[tactic(auto, using(crate::proofs::PutsLemmas::puts, crate::proofs::BranchPuts::branch_run_wrote))]
 fn put_branch_page<S: Sink>(
     run: &BranchRun<'_>,
     setup: &PageSetup,

@@ -97,7 +97,6 @@ fn put_entry<S: Sink>(entry: &Leaf<'_>, sink: &mut S) -> Result<(), SinkFault>
 }
 
 /// Writes the data of entries.
-#[tactic(auto, using(bolt_format::proofs::WroteFronts::fronts, crate::proofs::HeldPuts::entries_left, crate::proofs::HeldPuts::entries_none))]
 fn put_data<S: Sink>(entries: &[Leaf<'_>], sink: &mut S) -> Result<(), SinkFault>
     ensures { Wrote S.Sink sink.old sink.new (leaf_data (map leaf_view entries.now)) (page_ending result) }
 {
@@ -108,7 +107,6 @@ fn put_data<S: Sink>(entries: &[Leaf<'_>], sink: &mut S) -> Result<(), SinkFault
 }
 
 /// Writes the value of an inline bucket, packed anew.
-#[tactic(auto, using(crate::proofs::PutsLemmas::puts, crate::proofs::LeafPuts::inline_wrote))]
 fn put_inline_value<S: Sink>(
     sequence: u64,
     entries: &[Leaf<'_>],

@@ -30,7 +30,6 @@ impl<'a> LeafRun<'a> {
 
     /// Writes the page over the run, and begins the next run. Returns the page's element.
     #[inline(never)]
-    #[tactic(auto, using(crate::proofs::PutsLemmas::nothing_put))]
     pub(crate) fn close<S: Sink>(
         &mut self,
         setup: &PageSetup,
@@ -87,7 +86,6 @@ fn put_item<S: Sink>(held: &Held<'_>, inlined: &[Leaf<'_>], sink: &mut S) -> Res
 }
 
 /// Writes the data of items.
-#[tactic(auto, using(bolt_format::proofs::WroteFronts::fronts, crate::proofs::HeldPuts::held_left, crate::proofs::HeldPuts::held_none))]
 fn put_data<S: Sink>(
     items: &[Held<'_>],
     inlined: &[Leaf<'_>],
@@ -103,7 +101,6 @@ fn put_data<S: Sink>(
 }
 
 /// Writes the leaf page over a run.
-#[tactic(auto, using(crate::proofs::PutsLemmas::puts, crate::proofs::LeafPuts::leaf_run_wrote))]
 fn put_leaf_page<S: Sink>(
     run: &LeafRun<'_>,
     setup: &PageSetup,

@@ -174,7 +174,6 @@ fn put_filled<S: Sink>(bytes: &[u8], page_size: usize, sink: &mut S) -> Result<(
 }
 
 /// Writes both metas, and a freelist without ids.
-#[tactic(auto, using(crate::proofs::PutsLemmas::puts, crate::proofs::FirstPuts::first_wrote))]
 fn put_first_pages<S: Sink>(shape: &Shape, plan: &Plan, sink: &mut S) -> Result<(), SinkFault>
     ensures { Wrote S.Sink sink.old sink.new (first_pages shape.now.page_size plan.now.root shape.now.sequence plan.now.high_water) (page_ending result) }
 {

@@ -29,7 +29,6 @@ pub(crate) fn put<S: Sink>(bytes: &[u8], sink: &mut S) -> Result<(), SinkFault>
 }
 
 /// Writes `count` zeros.
-#[tactic(auto, using(bolt_format::proofs::WroteFronts::fronts, crate::proofs::FilledTexts::zeros_left, crate::proofs::FilledTexts::zeros_none))]
 pub(crate) fn put_zeros<S: Sink>(count: usize, sink: &mut S) -> Result<(), SinkFault>
     ensures { Wrote S.Sink sink.old sink.new (replicate count 0) (page_ending result) }
 {
@@ -44,7 +43,6 @@ pub(crate) fn put_zeros<S: Sink>(count: usize, sink: &mut S) -> Result<(), SinkF
 
 /// Writes the header of a page with `count` elements, which take `size` bytes with the header.
 /// Returns how many zeros fill the page after them.
-#[tactic(auto, using(crate::proofs::RunLemmas::run_fits))]
 pub(crate) fn put_page_header<S: Sink>(
     setup: &PageSetup,
     number: u64,
