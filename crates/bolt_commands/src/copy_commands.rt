@@ -2,6 +2,7 @@
 ghost use Rattle.std.specs.Prelude.{◌≡◌};
 ghost use Rattle.bolt_format.specs.Metas.{IsPageSize};
 ghost use Rattle.bolt_commands.specs.Private.Copying.{CompactsTo, LoadsJob, IsAskedShape};
+ghost use Rattle.bolt_commands.specs.Private.Opened.{IsSearchOf};
 ghost use Rattle.bolt_job.specs.CopyKinds.{is_snapshot};
 ghost use Rattle.bolt_commands.specs.SnapshotAnswers.{hash_differs};
 
@@ -15,8 +16,8 @@ use bolt_format::{Meta, Sink};
 use bolt_job::{CompactJob, Extent, LoadJob};
 use bolt_load::ListingText;
 use bolt_load::laws::a_text_is_of_one_tree;
-use bolt_recover::Lost;
 use bolt_recover::laws::each_file_has_a_joined_listing;
+use bolt_recover::{Lost, LostAndFound};
 use bolt_snapshot::{SnapshotFault, snapshot_fault};
 use bolt_tree::Walk;
 
@@ -94,10 +95,24 @@ fn write_joined<O: Sink, T: Sink>(
 ) -> Outcome
     ensures { CompactsTo O.Sink out.old out.new T.Sink target.old target.new Extent.LostAndFound job.now input.entry.file.now result }
 {
-    each_file_has_a_joined_listing();
     let both = input.search(job.meta)?;
+    write_found(input, job, &both, out, target)
+}
+
+/// The same of a file that was searched.
+fn write_found<O: Sink, T: Sink>(
+    input: Input<'_>,
+    job: &CompactJob,
+    both: &LostAndFound<'_>,
+    out: &mut O,
+    target: &mut T,
+) -> Outcome
+    requires { IsSearchOf input.file.now job.now.meta both.now }
+    ensures { CompactsTo O.Sink out.old out.new T.Sink target.old target.new Extent.LostAndFound job.now input.entry.file.now result }
+{
+    each_file_has_a_joined_listing();
     let shape = shape_of(job, &both.meta);
-    let mut joined = join(input, job.meta, &both)?;
+    let mut joined = join(input, job.meta, both)?;
     joined_members_are_whole(&joined);
     let copied = copy_members(input.alloc, &mut joined, &shape, job.kind, target);
     let report = CopyReport {

@@ -7,7 +7,8 @@ ghost use Rattle.bolt_job.specs.CommandLine.{IsCommand, command_of, operand_rule
 ghost use Rattle.bolt_job.specs.{Private.CommandLines.AddsLines, Syntaxes.choice_view, Syntaxes.operand_view, Syntaxes.syntax_view};
 ghost use Rattle.clap.specs.Words.{new_app, rule_of};
 
-use crate::reading_commands::reading;
+use crate::bucket_commands::bucket_commands;
+use crate::page_commands::page_commands;
 use crate::writing_commands::writing;
 use clap::{Arg, ArgAction, Command};
 use std::alloc::{AllocError, Global};
@@ -141,7 +142,8 @@ pub(crate) fn program<'a>(alloc: Global) -> Result<Command<'a>, AllocError>
         .version(VERSION)
         .subcommand_required(true)
         .disable_help_subcommand(true);
-    let program = with_commands(alloc, program, reading())?;
+    let program = with_commands(alloc, program, page_commands())?;
+    let program = with_commands(alloc, program, bucket_commands())?;
     with_commands(alloc, program, writing())
 }
 

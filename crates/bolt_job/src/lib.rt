@@ -1,13 +1,14 @@
 //! A job: what the words of a command line ask for.
 #![tactic(auto)]
 
+mod bucket_commands;
 mod choices;
 mod command_line;
 mod job;
 pub mod laws;
 mod line;
+mod page_commands;
 mod path_words;
-mod reading_commands;
 mod words;
 mod writing_commands;
 

@@ -1,5 +1,5 @@
 //! The line of a command: what its operands and options are given, and how each of their words is read.
-ghost use Rattle.std.specs.Prelude.{◌≡◌, Err, MatchOption, Ok, codes, option_map, string_bytes};
+ghost use Rattle.std.specs.Prelude.{◌≡◌, Err, MatchOption, Ok, Some, codes, option_map, string_bytes};
 ghost use Rattle.bolt_job.specs.CommandLine.{Gives};
 ghost use Rattle.bolt_job.specs.FormWords.{figure_form_by, form_by, list_form_by};
 ghost use Rattle.bolt_job.specs.PathWords.{hex_path_by, parts_by, result_and_then};
@@ -89,16 +89,8 @@ impl Line<'_, '_> {
         ensures { Gives (λ form. form) (form_by (first_of (values_of self.now (codes "form")))) result }
     {
         match self.choice("form") {
-            None | Some("printable") => Ok(Form::Printable),
-            Some("hex") => Ok(Form::Hex),
-            Some("bytes") => Ok(Form::Bytes),
-            Some("text") => Ok(Form::Text),
-            Some("mixed") => Ok(Form::Mixed),
-            Some("json") => Ok(Form::Json),
-            Some("json-hex") => Ok(Form::JsonHex),
-            Some(_) => Err(Refusal::Word(
-                "bad form: use printable, hex, bytes, text, mixed, json or json-hex",
-            )),
+            Some(word) => form_of(word),
+            None => Ok(Form::Printable),
         }
     }
 
@@ -214,6 +206,23 @@ impl Line<'_, '_> {
             (Some(_), None) => Extent::Losses,
             (None, None) => Extent::First,
         }
+    }
+}
+
+fn form_of(word: &str) -> Result<Form, Refusal>
+    ensures { Gives (λ form. form) (form_by (Some word.now)) result }
+{
+    match word {
+        "printable" => Ok(Form::Printable),
+        "hex" => Ok(Form::Hex),
+        "bytes" => Ok(Form::Bytes),
+        "text" => Ok(Form::Text),
+        "mixed" => Ok(Form::Mixed),
+        "json" => Ok(Form::Json),
+        "json-hex" => Ok(Form::JsonHex),
+        _ => Err(Refusal::Word(
+            "bad form: use printable, hex, bytes, text, mixed, json or json-hex",
+        )),
     }
 }
 

@@ -2,8 +2,9 @@
 ghost use Rattle.std.specs.Prelude.{◌≡◌, drop, map};
 ghost use Rattle.bolt_job.specs.{PlainWords.syntaxes, Syntaxes.syntax_view};
 
+use crate::bucket_commands::{JOIN, RECOVER};
 use crate::command_line::{Choice, Flag, Operand, Syntax};
-use crate::reading_commands::{ASSUME_META, FILE, JOIN, META, RECOVER};
+use crate::page_commands::{ASSUME_META, FILE, META};
 
 const LISTING: Operand = Operand {
     name: "FILE",
@@ -65,7 +66,7 @@ const COPY_NOTE: &str = "Use --for-bbolt if bbolt or etcd will write to OUT. bbo
     each branch page has at least two children, and can panic when it deletes below one that has a \
     single child. Without the option OUT may have such pages.";
 
-/// Those that write a database, which come after them.
+/// Those that write a database, which come last.
 static WRITING: [Syntax; 2] = [
     Syntax {
         name: "compact",
@@ -92,7 +93,7 @@ static WRITING: [Syntax; 2] = [
     },
 ];
 
-/// The commands after them.
+/// The last commands.
 pub(crate) fn writing() -> &'static [Syntax]
     ensures { map syntax_view result.now ≡ drop 9 syntaxes }
 {
