@@ -4,6 +4,7 @@ use crate::fault::Fault;
 use crate::jobs::{Jobs, Trial};
 use crate::runs::{Ran, first_line};
 use crate::sweeps::toggle;
+use crate::words::{Input, push_number};
 use bolt_cli::Job;
 use std::alloc::Global;
 
@@ -103,18 +104,13 @@ fn found_line(text: &[u8]) -> Option<&[u8]> {
 
 /// The number of files that are compared: a file of four pages with each byte changed to each other
 /// value in turn. It is also compared with its end cut off at each byte.
-pub fn compared(alloc: Global, file: &[u8]) -> Result<Vec<u8>, Fault> {
-    let count = count_compared(alloc, file)?;
-    let line = format!(in alloc; "{count}")?;
-    Ok(line.as_bytes().to_vec(alloc)?)
-}
-
-fn count_compared(alloc: Global, file: &[u8]) -> Result<u64, Fault> {
+pub fn compared(input: Input<'_>, line: &mut Vec<u8>) -> Result<(), Fault> {
+    let Input { alloc, file, .. } = input;
     let jobs = Jobs::new(alloc)?;
-    compare_each(alloc, &jobs, file)
+    compare_each(alloc, &jobs, file, line)
 }
 
-fn compare_each(alloc: Global, jobs: &Jobs, file: &[u8]) -> Result<u64, Fault> {
+fn compare_each(alloc: Global, jobs: &Jobs, file: &[u8], line: &mut Vec<u8>) -> Result<(), Fault> {
     let mut other = file.to_vec(alloc)?;
     let mut count = 0_u64;
     for at in 0..file.len() {
@@ -126,7 +122,7 @@ fn compare_each(alloc: Global, jobs: &Jobs, file: &[u8]) -> Result<u64, Fault> {
             count = count.saturating_add(1);
         }
     }
-    Ok(count)
+    push_number(line, count)
 }
 
 fn compare_at(alloc: Global, jobs: &Jobs, file: &[u8], at: usize) -> Result<(), Fault> {

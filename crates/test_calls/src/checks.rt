@@ -1,10 +1,11 @@
 //! What a checked file shows, what each of its pages is, and the checksums and the numbers of faults.
 
 use crate::fault::Fault;
-use crate::words::{assumed_of, bytes_of, push_word, slot_of};
+use crate::words::{Input, assumed_of, bytes_of, push_number, push_word, slot_of};
 use bolt_check::{Checked, Finding, Role, check, check_slot, check_under, roles};
 use bolt_format::{PageFault, fnv1a};
 use std::alloc::Global;
+use std::io::Write;
 
 fn name_of(role: Role) -> &'static [u8] {
     match role {
@@ -18,16 +19,17 @@ fn name_of(role: Role) -> &'static [u8] {
 }
 
 /// The role of each page below the high-water mark.
-pub fn roles_of(alloc: Global, file: &[u8]) -> Result<Vec<u8>, Fault> {
+pub fn roles_of(input: Input<'_>, line: &mut Vec<u8>) -> Result<(), Fault> {
+    let Input { alloc, file, .. } = input;
     let found = roles(alloc, check(alloc, file)?)?;
-    let mut line = Vec::new(alloc);
     for id in 0..found.checked().meta().high_water {
-        push_word(&mut line, name_of(found.role(id)))?;
+        push_word(line, name_of(found.role(id)))?;
     }
-    Ok(line)
+    Ok(())
 }
 
-fn checked_of<'a>(alloc: Global, file: &'a [u8], words: &[String]) -> Result<Checked<'a>, Fault> {
+fn checked_of<'a>(input: Input<'a>) -> Result<Checked<'a>, Fault> {
+    let Input { alloc, file, words } = input;
     let checked = match slot_of(words)? {
         None => check(alloc, file)?,
         Some(slot) => check_slot(alloc, file, slot)?,
@@ -37,10 +39,11 @@ fn checked_of<'a>(alloc: Global, file: &'a [u8], words: &[String]) -> Result<Che
 
 /// The transaction of the meta under which a file is checked, the number of its bytes, and whether the
 /// accounts were tested. The first word may name the slot of the meta, or assume one.
-pub fn checked(alloc: Global, file: &[u8], words: &[String]) -> Result<Vec<u8>, Fault> {
+pub fn checked(input: Input<'_>, line: &mut Vec<u8>) -> Result<(), Fault> {
+    let Input { alloc, file, words } = input;
     let found = match assumed_of(file, words)? {
         Some(meta) => check_under(alloc, file, meta)?,
-        None => checked_of(alloc, file, words)?,
+        None => checked_of(input)?,
     };
     let tested = if found.accounts() {
         "accounts"
@@ -48,18 +51,17 @@ pub fn checked(alloc: Global, file: &[u8], words: &[String]) -> Result<Vec<u8>, 
         "trees"
     };
     let (txid, length) = (found.meta().txid, found.bytes().len());
-    let line = format!(in alloc; "{txid} {length} {tested}")?;
-    Ok(line.as_bytes().to_vec(alloc)?)
+    Ok(write!(line, "{txid} {length} {tested}")?)
 }
 
 /// The checksum of each word.
-pub fn checksums(alloc: Global, words: &[String]) -> Result<Vec<u8>, Fault> {
-    let mut line = Vec::new(alloc);
+pub fn checksums(input: Input<'_>, line: &mut Vec<u8>) -> Result<(), Fault> {
+    let Input { alloc, words, .. } = input;
     for word in words {
         let sum = fnv1a(bytes_of(alloc, word.as_bytes())?.as_slice());
-        push_word(&mut line, format!(in alloc; "{sum}")?.as_bytes())?;
+        push_number(line, sum)?;
     }
-    Ok(line)
+    Ok(())
 }
 
 /// The faults of pages, and then the findings, in the order of docs/COMMANDS.md.
@@ -89,10 +91,9 @@ const FAULTS: [u8; 22] = [
 ];
 
 /// The numbers of the faults.
-pub fn faults(alloc: Global) -> Result<Vec<u8>, Fault> {
-    let mut line = Vec::new(alloc);
+pub fn faults(line: &mut Vec<u8>) -> Result<(), Fault> {
     for number in FAULTS {
-        push_word(&mut line, format!(in alloc; "{number}")?.as_bytes())?;
+        push_number(line, u64::from(number))?;
     }
-    Ok(line)
+    Ok(())
 }

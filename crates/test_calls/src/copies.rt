@@ -1,8 +1,8 @@
 //! Plans and copies through their calls, and listings that are read back.
 
 use crate::fault::Fault;
-use crate::walks::twice;
-use crate::words::number;
+use crate::walks::push_twice;
+use crate::words::{Input, number};
 use bolt_bulk::{Plan, compact, compact_as, plan, plan_as};
 use bolt_check::check;
 use bolt_cli::PageSize;
@@ -27,15 +27,15 @@ fn shape_of(words: &[String]) -> Result<(Layout, PageSize), Fault> {
 }
 
 /// The root page and the high-water mark of a plan.
-pub fn planned(alloc: Global, file: &[u8], words: &[String]) -> Result<Vec<u8>, Fault> {
+pub fn planned(input: Input<'_>, line: &mut Vec<u8>) -> Result<(), Fault> {
+    let Input { alloc, file, words } = input;
     let (layout, size) = shape_of(words)?;
     let checked = check(alloc, file)?;
     let Plan { root, high_water } = match layout {
         Layout::Plain => plan(alloc, checked, size.bytes)?,
         Layout::Balanced => plan_as(alloc, checked, layout, size.bytes)?,
     };
-    let line = format!(in alloc; "{root} {high_water}")?;
-    Ok(line.as_bytes().to_vec(alloc)?)
+    Ok(write!(line, "{root} {high_water}")?)
 }
 
 /// Accepts all bytes, and keeps only their number.
@@ -57,7 +57,8 @@ impl Write for Counting {
 
 /// The number of bytes of a copy, the number that its sink accepted, and how many items were held at
 /// one time.
-pub fn copied(alloc: Global, file: &[u8], words: &[String]) -> Result<Vec<u8>, Fault> {
+pub fn copied(input: Input<'_>, line: &mut Vec<u8>) -> Result<(), Fault> {
+    let Input { alloc, file, words } = input;
     let (layout, size) = shape_of(words)?;
     let checked = check(alloc, file)?;
     let mut sink = WriteSink::new(Counting { taken: 0 });
@@ -66,13 +67,12 @@ pub fn copied(alloc: Global, file: &[u8], words: &[String]) -> Result<Vec<u8>, F
         Layout::Balanced => compact_as(alloc, checked, layout, size.bytes, &mut sink)?,
     };
     let (bytes, held, taken) = (done.bytes, done.held, sink.into_inner().taken);
-    let line = format!(in alloc; "{bytes} {taken} {held}")?;
-    Ok(line.as_bytes().to_vec(alloc)?)
+    Ok(write!(line, "{bytes} {taken} {held}")?)
 }
 
 /// The line of each member that the text of a listing tells, which a second pass returns again.
-pub fn loaded(alloc: Global, text: &[u8]) -> Result<Vec<u8>, Fault> {
-    let listing = ListingText::read(alloc, text)?;
-    let lines = twice(alloc, &mut listing.members(alloc))?;
-    Ok(lines.bytes().to_vec(alloc)?)
+pub fn loaded(input: Input<'_>, lines: &mut Vec<u8>) -> Result<(), Fault> {
+    let Input { alloc, file, .. } = input;
+    let listing = ListingText::read(alloc, file)?;
+    Ok(push_twice(&mut listing.members(alloc), lines)?)
 }

@@ -1,12 +1,13 @@
 //! Calls on a cursor, and their results.
 
 use crate::fault::Fault;
-use crate::words::{bucket_at, bytes_of, push_word};
+use crate::words::{Input, bucket_at, bytes_of, push_number, push_word};
 use bolt_check::check;
-use bolt_format::MemSink;
+use bolt_format::WriteSink;
 use bolt_report::{Form, keys_with_prefix};
 use bolt_tree::{Cursor, Entry};
 use std::alloc::Global;
+use std::io::Write;
 
 /// The result of a call: `first`, `last`, `next`, `prev`, or `seek=KEY`.
 fn make_call<'a>(
@@ -40,24 +41,18 @@ pub enum Printed {
 
 /// The results of calls on a new cursor of a bucket, one after another. The first word is the
 /// bucket's path.
-pub fn run_calls(
-    alloc: Global,
-    file: &[u8],
-    words: &[String],
-    printed: Printed,
-) -> Result<Vec<u8>, Fault> {
+pub fn run_calls(input: Input<'_>, printed: Printed, line: &mut Vec<u8>) -> Result<(), Fault> {
+    let Input { alloc, file, words } = input;
     let [path, calls @ ..] = words else {
         return Err(Fault::Unread);
     };
-    let checked = check(alloc, file)?;
-    let mut cursor = bucket_at(alloc, checked, path.as_bytes())?.cursor();
-    let mut line = Vec::new(alloc);
+    let mut cursor = bucket_at(alloc, check(alloc, file)?, path.as_bytes())?.cursor();
     for call in calls {
         let before = cursor.compared();
         let found = make_call(alloc, &mut cursor, call.as_str())?;
-        push_result(&mut line, &cursor, before, found, printed)?;
+        push_result(line, &cursor, before, found, printed)?;
     }
-    Ok(line)
+    Ok(())
 }
 
 fn push_result(
@@ -79,8 +74,7 @@ fn push_result(
         Printed::Moves => push_word(line, key)?,
         Printed::Openings => {
             push_word(line, key)?;
-            let count = format!(in *line.allocator(); ":{opened}")?;
-            line.extend_from_slice(count.as_bytes())?;
+            write!(line, ":{opened}")?;
         }
         Printed::Comparisons => push_word(line, amount(before, compared))?,
     }
@@ -98,28 +92,31 @@ fn amount(before: u64, compared: u64) -> &'static [u8] {
 
 /// For each of the words after the path, how many pages are opened for the keys that begin with it;
 /// and these keys, as they are.
-pub fn run_prefixes(alloc: Global, file: &[u8], words: &[String]) -> Result<Vec<u8>, Fault> {
+pub fn run_prefixes(input: Input<'_>, lines: &mut Vec<u8>) -> Result<(), Fault> {
+    let Input { alloc, file, words } = input;
     let [path, prefixes @ ..] = words else {
         return Err(Fault::Unread);
     };
-    let checked = check(alloc, file)?;
-    let mut cursor = bucket_at(alloc, checked, path.as_bytes())?.cursor();
-    let mut sink = MemSink::new(alloc);
-    let mut lines = Vec::new(alloc);
+    let mut cursor = bucket_at(alloc, check(alloc, file)?, path.as_bytes())?.cursor();
+    let mut keys = Vec::new(alloc);
     for word in prefixes {
-        let prefix = bytes_of(alloc, word.as_bytes())?;
-        let before = cursor.opened();
-        keys_with_prefix(
-            alloc,
-            &mut cursor,
-            prefix.as_slice(),
-            Form::Bytes,
-            &mut sink,
-        )?;
-        let count = cursor.opened().saturating_sub(before);
-        push_word(&mut lines, format!(in alloc; "{count}")?.as_bytes())?;
+        run_prefix(&mut cursor, word, &mut keys, lines)?;
     }
     lines.push(b'\n')?;
-    lines.extend_from_slice(sink.bytes())?;
-    Ok(lines)
+    Ok(lines.extend_from_slice(keys.as_slice())?)
+}
+
+/// Adds the keys that begin with a prefix, and to a line of numbers how many pages are opened for them.
+fn run_prefix(
+    cursor: &mut Cursor<'_>,
+    prefix: &str,
+    keys: &mut Vec<u8>,
+    line: &mut Vec<u8>,
+) -> Result<(), Fault> {
+    let alloc = *line.allocator();
+    let prefix = bytes_of(alloc, prefix.as_bytes())?;
+    let before = cursor.opened();
+    let mut sink = WriteSink::new(keys);
+    keys_with_prefix(alloc, cursor, prefix.as_slice(), Form::Bytes, &mut sink)?;
+    push_number(line, cursor.opened().saturating_sub(before))
 }

@@ -1,16 +1,18 @@
 //! A command line over an outside in memory, whose deeds go wrong from each one on.
 
 use crate::fault::Fault;
-use crate::log::{Kind, Record};
+use crate::log::{Kind, Log, Record};
 use crate::memory::{Memory, Turn};
 use crate::runs::{first_line, line_of};
-use crate::words::push_word;
+use crate::words::{Input, push_number, push_word};
 use bolt_cli::run_program;
 use std::alloc::Global;
+use std::io::Write;
 
 /// The status and the deeds of a command line: a line for each deed from which on they go wrong, and
 /// then one if none does. The first word says how: they fail, or they differ.
-pub fn deeds_of(alloc: Global, file: &[u8], words: &[String]) -> Result<Vec<u8>, Fault> {
+pub fn deeds_of(input: Input<'_>, lines: &mut Vec<u8>) -> Result<(), Fault> {
+    let Input { alloc, file, words } = input;
     let [how, words @ ..] = words else {
         return Err(Fault::Unread);
     };
@@ -19,38 +21,39 @@ pub fn deeds_of(alloc: Global, file: &[u8], words: &[String]) -> Result<Vec<u8>,
         "differ" => Turn::Other,
         _ => return Err(Fault::Unread),
     };
-    let mut lines = Vec::new(alloc);
     for before in 0..u32::MAX {
         let mut memory = Memory::new(alloc, file.to_vec(alloc)?, before, turn);
         let code = run_program(&mut memory, alloc, line_of(alloc, words)?);
-        lines.extend_from_slice(format!(in alloc; "{code}:")?.as_bytes())?;
-        for record in memory.log().records.as_slice() {
-            push_deed(&mut lines, record)?;
-        }
-        lines.push(b'\n')?;
+        push_deeds(code, memory.log(), lines)?;
         if !memory.has_turned() {
             break;
         }
     }
-    Ok(lines)
+    Ok(())
+}
+
+/// Adds the line of a run's status and its deeds.
+fn push_deeds(code: u8, log: &Log, line: &mut Vec<u8>) -> Result<(), Fault> {
+    write!(line, "{code}:")?;
+    for record in log.records.as_slice() {
+        push_deed(line, record)?;
+    }
+    Ok(line.push(b'\n')?)
 }
 
 /// Adds a deed: its kind, a name and permission bits, and what was said or the number of other bytes.
 fn push_deed(line: &mut Vec<u8>, record: &Record) -> Result<(), Fault> {
-    let alloc = *line.allocator();
     push_word(line, word_of(record.kind).as_bytes())?;
     if !record.name.is_empty() {
         push_word(line, record.name.as_slice())?;
     }
     if record.permissions > 0 {
-        let bits = record.permissions;
-        push_word(line, format!(in alloc; "{bits:o}")?.as_bytes())?;
+        write!(line, " {:o}", record.permissions)?;
     }
     if record.kind == Kind::Said {
         push_word(line, first_line(record.bytes.as_slice()))?;
     } else if !record.bytes.is_empty() {
-        let count = record.bytes.len();
-        push_word(line, format!(in alloc; "{count}")?.as_bytes())?;
+        push_number(line, record.bytes.len() as u64)?;
     }
     Ok(())
 }

@@ -3,10 +3,11 @@
 use crate::fault::Fault;
 use crate::runs::{Ran, job_of, status_of};
 use crate::sinks::{Halting, Refusal};
+use crate::words::Input;
 use bolt_cli::Job;
 use bolt_format::{MemSink, Sink, WriteSink};
 use std::alloc::Global;
-use std::io::ErrorKind;
+use std::io::{ErrorKind, Write};
 
 const WRITE_FAILED: &[u8] = b"error: write failed\n";
 
@@ -158,18 +159,20 @@ const REFUSALS: [Refusal; 4] = [
 ];
 
 /// The number of bytes that a command prints, copies and reports, each of which fails in turn.
-pub fn fails(alloc: Global, file: &[u8], words: &[String]) -> Result<Vec<u8>, Fault> {
+pub fn fails(input: Input<'_>, line: &mut Vec<u8>) -> Result<(), Fault> {
+    let Input { alloc, file, words } = input;
     let job = job_of(alloc, words)?;
     let ran = Ran::on(alloc, &job, file);
-    fail_each(&Whole {
+    let whole = Whole {
         alloc,
         job: &job,
         file,
         ran: &ran,
-    })
+    };
+    fail_each(&whole, line)
 }
 
-fn fail_each(whole: &Whole<'_>) -> Result<Vec<u8>, Fault> {
+fn fail_each(whole: &Whole<'_>, line: &mut Vec<u8>) -> Result<(), Fault> {
     let ran = whole.ran;
     let (out, copy) = (ran.out.bytes().len(), ran.target.bytes().len());
     let err = ran.err.bytes().len();
@@ -183,30 +186,30 @@ fn fail_each(whole: &Whole<'_>) -> Result<Vec<u8>, Fault> {
         whole.fail_error(fuse)?;
     }
     whole.fail_both()?;
-    let line = format!(in whole.alloc; "{out} {copy} {err}")?;
-    Ok(line.as_bytes().to_vec(whole.alloc)?)
+    Ok(write!(line, "{out} {copy} {err}")?)
 }
 
 /// The number of bytes that a command prints and copies, through writers that refuse each of their
 /// calls in turn. A call writes at most seven bytes.
-pub fn halts(alloc: Global, file: &[u8], words: &[String]) -> Result<Vec<u8>, Fault> {
+pub fn halts(input: Input<'_>, line: &mut Vec<u8>) -> Result<(), Fault> {
+    let Input { alloc, file, words } = input;
     let job = job_of(alloc, words)?;
     let ran = Ran::on(alloc, &job, file);
-    halt_each(&Whole {
+    let whole = Whole {
         alloc,
         job: &job,
         file,
         ran: &ran,
-    })
+    };
+    halt_each(&whole, line)
 }
 
-fn halt_each(whole: &Whole<'_>) -> Result<Vec<u8>, Fault> {
+fn halt_each(whole: &Whole<'_>, line: &mut Vec<u8>) -> Result<(), Fault> {
     let (out, copy) = (whole.ran.out.bytes().len(), whole.ran.target.bytes().len());
     for refusal in REFUSALS {
         if whole.output_calls(refusal)? < out / 7 || whole.copy_calls(refusal)? < copy / 7 {
             return Err(Fault::Wrong("the number of calls", out));
         }
     }
-    let line = format!(in whole.alloc; "{out} {copy}")?;
-    Ok(line.as_bytes().to_vec(whole.alloc)?)
+    Ok(write!(line, "{out} {copy}")?)
 }

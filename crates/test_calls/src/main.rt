@@ -57,10 +57,10 @@ mod words;
 use cursors::Printed;
 use fault::Fault;
 use runs::Ran;
-use std::alloc::Global;
 use std::io::Write;
 use std::process::ExitCode;
 use std::{env, fs, io};
+use words::Input;
 
 fn main(rt: HostRuntime) -> ExitCode {
     match print_result(&rt) {
@@ -82,20 +82,30 @@ fn print_result(rt: &HostRuntime) -> Result<u8, Fault> {
         return Err(Fault::Unread);
     };
     let file = fs::read(rt, name.as_str())?;
-    match run_of(rt.alloc(), verb.as_str(), file.as_slice(), words) {
-        Some(ran) => print_run(rt, &ran?),
-        None => {
-            let mut text = result_of(rt.alloc(), verb.as_str(), file.as_slice(), words)?;
-            if text.last().is_some_and(|last| *last != b'\n') {
-                text.push(b'\n')?;
-            }
-            io::writer(rt).write_all(text.as_slice())?;
-            Ok(0)
-        }
+    let input = Input {
+        alloc: rt.alloc(),
+        file: file.as_slice(),
+        words,
+    };
+    match verb.as_str() {
+        "cuts" | "changes" => print_sweep(rt, verb.as_str(), input),
+        _ => print_lines(rt, verb.as_str(), input),
     }
 }
 
-/// Prints what a run printed, and returns its status. Its copy is written to OUT.
+/// Prints what a command comes to on many files, and returns its status. Its copy is written to OUT.
+fn print_sweep(rt: &HostRuntime, verb: &str, input: Input<'_>) -> Result<u8, Fault> {
+    let mut ran = None;
+    match verb {
+        "cuts" => sweeps::cuts(input, &mut ran)?,
+        _ => sweeps::changes(input, &mut ran)?,
+    }
+    match &ran {
+        Some(ran) => print_run(rt, ran),
+        None => Err(Fault::Unread),
+    }
+}
+
 fn print_run(rt: &HostRuntime, ran: &Ran) -> Result<u8, Fault> {
     io::writer(rt).write_all(ran.out.bytes())?;
     rt.stderr().write_all(ran.err.bytes())?;
@@ -105,60 +115,56 @@ fn print_run(rt: &HostRuntime, ran: &Ran) -> Result<u8, Fault> {
     Ok(ran.code)
 }
 
-/// What a command comes to on many files, if this is what the verb asks for.
-fn run_of(alloc: Global, verb: &str, file: &[u8], words: &[String]) -> Option<Result<Ran, Fault>> {
+/// Prints the lines of another verb.
+fn print_lines(rt: &HostRuntime, verb: &str, input: Input<'_>) -> Result<u8, Fault> {
+    let mut lines = Vec::new(rt.alloc());
+    push_result(verb, input, &mut lines)?;
+    if lines.last().is_some_and(|last| *last != b'\n') {
+        lines.push(b'\n')?;
+    }
+    io::writer(rt).write_all(lines.as_slice())?;
+    Ok(0)
+}
+
+fn push_result(verb: &str, input: Input<'_>, lines: &mut Vec<u8>) -> Result<(), Fault> {
     match verb {
-        "cuts" => Some(sweeps::cuts(alloc, file, words)),
-        "changes" => Some(sweeps::changes(alloc, file, words)),
-        _ => None,
+        "moves" => cursors::run_calls(input, Printed::Moves, lines),
+        "opens" => cursors::run_calls(input, Printed::Openings, lines),
+        "compares" => cursors::run_calls(input, Printed::Comparisons, lines),
+        "begins" => cursors::run_prefixes(input, lines),
+        "under" => walks::look_ups(input, lines),
+        "walk" => walks::members(input, lines),
+        "listed" => walks::listed(input, lines),
+        "keys" => walks::keys_in(input, lines),
+        "depths" => walks::depths(input, lines),
+        "recovered" => recoveries::recovered(input, lines),
+        "found" => recoveries::found(input, lines),
+        "joined" => recoveries::joined(input, lines),
+        "loaded" => copies::loaded(input, lines),
+        "plan" => copies::planned(input, lines),
+        "copy" => copies::copied(input, lines),
+        "roles" => checks::roles_of(input, lines),
+        "checked" => checks::checked(input, lines),
+        "pager" => pagers::opened_pages(input, lines),
+        "root" => pagers::root_cursor(input, lines),
+        "bucket" => pagers::bucket_cursor(input, lines),
+        _ => push_other_result(verb, input, lines),
     }
 }
 
-/// What another verb prints.
-fn result_of(alloc: Global, verb: &str, file: &[u8], words: &[String]) -> Result<Vec<u8>, Fault> {
+fn push_other_result(verb: &str, input: Input<'_>, lines: &mut Vec<u8>) -> Result<(), Fault> {
     match verb {
-        "moves" => cursors::run_calls(alloc, file, words, Printed::Moves),
-        "opens" => cursors::run_calls(alloc, file, words, Printed::Openings),
-        "compares" => cursors::run_calls(alloc, file, words, Printed::Comparisons),
-        "begins" => cursors::run_prefixes(alloc, file, words),
-        "under" => walks::look_ups(alloc, file, words),
-        "walk" => walks::members(alloc, file, words),
-        "listed" => walks::listed(alloc, file, words),
-        "keys" => walks::keys_in(alloc, file, words),
-        "depths" => walks::depths(alloc, file, words),
-        "recovered" => recoveries::recovered(alloc, file, words),
-        "found" => recoveries::found(alloc, file, words),
-        "joined" => recoveries::joined(alloc, file, words),
-        "loaded" => copies::loaded(alloc, file),
-        "plan" => copies::planned(alloc, file, words),
-        "copy" => copies::copied(alloc, file, words),
-        "roles" => checks::roles_of(alloc, file),
-        "checked" => checks::checked(alloc, file, words),
-        "pager" => pagers::opened_pages(alloc, file),
-        "root" => pagers::root_cursor(alloc, file),
-        "bucket" => pagers::bucket_cursor(alloc, file, words),
-        _ => other_result_of(alloc, verb, file, words),
-    }
-}
-
-fn other_result_of(
-    alloc: Global,
-    verb: &str,
-    file: &[u8],
-    words: &[String],
-) -> Result<Vec<u8>, Fault> {
-    match verb {
-        "puts" => sinks::puts(alloc, file, words),
-        "again" => refusals::members_again(alloc, file, words),
-        "between" => refusals::calls_between(alloc, file, words),
-        "names" => runs::names_of(alloc, words),
-        "checksums" => checks::checksums(alloc, words),
-        "faults" => checks::faults(alloc),
-        "flips" => sweeps::flips(alloc, file, words),
-        "fails" => failures::fails(alloc, file, words),
-        "halts" => failures::halts(alloc, file, words),
-        "deeds" => deeds::deeds_of(alloc, file, words),
-        "agree" => agreements::compared(alloc, file),
+        "puts" => sinks::puts(input, lines),
+        "again" => refusals::members_again(input, lines),
+        "between" => refusals::calls_between(input, lines),
+        "names" => runs::names_of(input, lines),
+        "checksums" => checks::checksums(input, lines),
+        "faults" => checks::faults(lines),
+        "flips" => sweeps::flips(input, lines),
+        "fails" => failures::fails(input, lines),
+        "halts" => failures::halts(input, lines),
+        "deeds" => deeds::deeds_of(input, lines),
+        "agree" => agreements::compared(input, lines),
         _ => Err(Fault::Unread),
     }
 }

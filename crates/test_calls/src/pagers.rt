@@ -2,13 +2,14 @@
 //! caller may open, and which buckets it may go over.
 
 use crate::fault::Fault;
-use crate::words::{bytes_of, push_word};
+use crate::words::{Input, bytes_of};
 use bolt_check::check;
 use bolt_check::laws::ways_go_on;
 use bolt_format::{Kind, Page, head, inline};
 use bolt_tree::laws::buckets_begin_on_ways;
 use bolt_tree::{At, Cursor, Pager};
 use std::alloc::Global;
+use std::io::Write;
 
 /// The key of the first element of a leaf that has one.
 fn first_key<'a>(page: &Page<'a>) -> Result<&'a [u8], Fault> {
@@ -20,7 +21,8 @@ fn first_key<'a>(page: &Page<'a>) -> Result<&'a [u8], Fault> {
 
 /// The first key on the second page below the root page, which is a branch, and how many pages a
 /// pager has opened and noted before, between and after these calls.
-pub fn opened_pages(alloc: Global, file: &[u8]) -> Result<Vec<u8>, Fault> {
+pub fn opened_pages(input: Input<'_>, line: &mut Vec<u8>) -> Result<(), Fault> {
+    let Input { alloc, file, .. } = input;
     let checked = check(alloc, file)?;
     let mut pager = Pager::new(checked);
     let none = pager.opened();
@@ -37,37 +39,32 @@ pub fn opened_pages(alloc: Global, file: &[u8]) -> Result<Vec<u8>, Fault> {
     let two = pager.opened();
     pager.note();
     let three = pager.opened();
-    let mut line = Vec::new(alloc);
-    push_word(&mut line, key)?;
-    push_word(
-        &mut line,
-        format!(in alloc; "{none} {one} {two} {three}")?.as_bytes(),
-    )?;
-    Ok(line)
+    line.extend_from_slice(key)?;
+    Ok(write!(line, " {none} {one} {two} {three}")?)
 }
 
 /// The first key of the root bucket by a cursor over a pager, and how many pages it opened.
-pub fn root_cursor(alloc: Global, file: &[u8]) -> Result<Vec<u8>, Fault> {
+pub fn root_cursor(input: Input<'_>, line: &mut Vec<u8>) -> Result<(), Fault> {
+    let Input { alloc, file, .. } = input;
     let checked = check(alloc, file)?;
     buckets_begin_on_ways();
     let cursor = Cursor::new(Pager::new(checked), At::Page(checked.meta().root));
-    first_of(alloc, cursor, b"")
+    push_first(cursor, b"", line)
 }
 
 /// The key that a seek finds, and how many pages the cursor opened before and after it.
-fn first_of(alloc: Global, mut cursor: Cursor<'_>, key: &[u8]) -> Result<Vec<u8>, Fault> {
+fn push_first(mut cursor: Cursor<'_>, key: &[u8], line: &mut Vec<u8>) -> Result<(), Fault> {
     let before = cursor.opened();
     let entry = cursor.seek(key).ok_or(Fault::Unread)?;
     let after = cursor.opened();
-    let mut line = Vec::new(alloc);
-    push_word(&mut line, entry.key)?;
-    push_word(&mut line, format!(in alloc; "{before} {after}")?.as_bytes())?;
-    Ok(line)
+    line.extend_from_slice(entry.key)?;
+    Ok(write!(line, " {before} {after}")?)
 }
 
 /// The same by a cursor of the first bucket on the root page, which is a leaf. The pager has opened
 /// one page by then.
-pub fn bucket_cursor(alloc: Global, file: &[u8], words: &[String]) -> Result<Vec<u8>, Fault> {
+pub fn bucket_cursor(input: Input<'_>, line: &mut Vec<u8>) -> Result<(), Fault> {
+    let Input { alloc, file, words } = input;
     let [word] = words else {
         return Err(Fault::Unread);
     };
@@ -86,10 +83,10 @@ pub fn bucket_cursor(alloc: Global, file: &[u8], words: &[String]) -> Result<Vec
             buckets_begin_on_ways();
             if head.root == 0 {
                 let cursor = Cursor::new(pager, At::Inline(inline(bucket.value)));
-                return first_of(alloc, cursor, key.as_slice());
+                return push_first(cursor, key.as_slice(), line);
             }
             let cursor = Cursor::new(pager, At::Page(head.root));
-            first_of(alloc, cursor, key.as_slice())
+            push_first(cursor, key.as_slice(), line)
         }
         _ => Err(Fault::Unread),
     }

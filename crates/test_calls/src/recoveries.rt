@@ -2,42 +2,43 @@
 ghost use Rattle.std.specs.Prelude.{◌<◌, IfOk};
 
 use crate::fault::Fault;
-use crate::walks::{lines_of, twice};
-use crate::words::{assumed_of, slot_of};
-use bolt_format::{Meta, choose, slot_meta};
+use crate::walks::{push_members, push_twice};
+use crate::words::{Input, assumed_of, slot_of};
+use bolt_format::{Meta, WriteSink, choose, slot_meta};
 use bolt_recover::{Found, Joined, Lost, LostAndFound, Recovery};
 use bolt_report::lost_text;
 use std::alloc::Global;
+use std::io::Write;
 
 /// The line of each member that is recovered, and then that of each loss. The first word may name
 /// the slot of the meta, or assume one.
-pub fn recovered(alloc: Global, file: &[u8], words: &[String]) -> Result<Vec<u8>, Fault> {
-    let mut recovery = match assumed_of(file, words)? {
-        Some(meta) => Recovery::under(alloc, file, meta)?,
-        None => recovery_of(alloc, file, words)?,
-    };
-    let mut sink = lines_of(alloc, &mut recovery)?;
-    lost_text(Lost::Parts(recovery.losses()), &[], &mut sink)?;
-    Ok(sink.bytes().to_vec(alloc)?)
+pub fn recovered(input: Input<'_>, lines: &mut Vec<u8>) -> Result<(), Fault> {
+    let mut recovery = recovery_of(input)?;
+    push_members(&mut recovery, lines)?;
+    let lost = Lost::Parts(recovery.losses());
+    Ok(lost_text(lost, &[], &mut WriteSink::new(lines))?)
 }
 
-fn recovery_of<'a>(alloc: Global, file: &'a [u8], words: &[String]) -> Result<Recovery<'a>, Fault> {
-    let recovery = match slot_of(words)? {
-        None => Recovery::new(alloc, file)?,
-        Some(slot) => Recovery::of_slot(alloc, file, slot)?,
+fn recovery_of<'a>(input: Input<'a>) -> Result<Recovery<'a>, Fault> {
+    let Input { alloc, file, words } = input;
+    let recovery = match (assumed_of(file, words)?, slot_of(words)) {
+        (Some(meta), _) => Recovery::under(alloc, file, meta)?,
+        (None, Ok(None)) => Recovery::new(alloc, file)?,
+        (None, Ok(Some(slot))) => Recovery::of_slot(alloc, file, slot)?,
+        (None, Err(fault)) => return Err(fault),
     };
     Ok(recovery)
 }
 
 /// A line for each page that is found: its number, and its keys in hexadecimal. The first word may
 /// name the slot of the meta, or assume one.
-pub fn found(alloc: Global, file: &[u8], words: &[String]) -> Result<Vec<u8>, Fault> {
+pub fn found(input: Input<'_>, lines: &mut Vec<u8>) -> Result<(), Fault> {
+    let Input { alloc, file, words } = input;
     let both = LostAndFound::under(alloc, file, meta_of(file, words)?)?;
-    let mut lines = Vec::new(alloc);
     for page in &both.found {
-        push_found(alloc, page, &mut lines)?;
+        push_found(page, lines)?;
     }
-    Ok(lines)
+    Ok(())
 }
 
 /// The active meta of a file, that of the slot that the first word names, or the one that it assumes.
@@ -57,26 +58,24 @@ fn meta_of(file: &[u8], words: &[String]) -> Result<Meta, Fault>
     }
 }
 
-fn push_found(alloc: Global, found: &Found<'_>, lines: &mut Vec<u8>) -> Result<(), Fault> {
-    let number = found.number;
-    lines.extend_from_slice(format!(in alloc; "{number}")?.as_bytes())?;
+fn push_found(found: &Found<'_>, lines: &mut Vec<u8>) -> Result<(), Fault> {
+    write!(lines, "{}", found.number)?;
     for i in 0..found.page.count() {
-        lines.push(b' ')?;
-        lines.extend_from_slice(hex::encode(alloc, found.page.key(i))?.as_bytes())?;
+        let key = hex::encode(*lines.allocator(), found.page.key(i))?;
+        write!(lines, " {key}")?;
     }
-    lines.push(b'\n')?;
-    Ok(())
+    Ok(lines.push(b'\n')?)
 }
 
 /// The line of each member of the joined listing, which a second pass returns again. The first word
 /// may assume a meta.
-pub fn joined(alloc: Global, file: &[u8], words: &[String]) -> Result<Vec<u8>, Fault> {
+pub fn joined(input: Input<'_>, lines: &mut Vec<u8>) -> Result<(), Fault> {
+    let Input { alloc, file, words } = input;
     let both = LostAndFound::under(alloc, file, meta_of(file, words)?)?;
-    members_of(alloc, &both)
+    push_joined(&both, lines)
 }
 
-fn members_of(alloc: Global, both: &LostAndFound<'_>) -> Result<Vec<u8>, Fault> {
-    let mut members = Joined::new(alloc, both)?;
-    let lines = twice(alloc, &mut members)?;
-    Ok(lines.bytes().to_vec(alloc)?)
+fn push_joined(both: &LostAndFound<'_>, lines: &mut Vec<u8>) -> Result<(), Fault> {
+    let mut members = Joined::new(*lines.allocator(), both)?;
+    Ok(push_twice(&mut members, lines)?)
 }

@@ -3,11 +3,11 @@
 
 use crate::fault::Fault;
 use crate::walks::members;
-use crate::words::{bucket_at, bytes_of, keys_of, slices_of};
+use crate::words::{Input, bucket_at, bytes_of, keys_of, slices_of};
 use bolt_check::{Checked, check};
-use bolt_format::MemSink;
+use bolt_format::WriteSink;
 use bolt_report::{ListForm, MemberLines};
-use bolt_tree::{Cursor, Item, NoMemory, Walk};
+use bolt_tree::{Bucket, Cursor, Item, NoMemory, Walk};
 use std::alloc::{AllocError, Global};
 
 /// The next item, asked for once more if memory ran out; the path is then as before. And whether it
@@ -22,77 +22,101 @@ fn next_of<'a>(walk: &mut Walk<'a>) -> Result<(Option<Item<'a>>, bool), Fault> {
 }
 
 /// The line of each member from the path of the first word on, also if a request of the walk is refused.
-pub fn members_again(alloc: Global, file: &[u8], words: &[String]) -> Result<Vec<u8>, Fault> {
-    let all = members(alloc, file, words)?;
+pub fn members_again(input: Input<'_>, lines: &mut Vec<u8>) -> Result<(), Fault> {
+    let Input { alloc, file, words } = input;
+    members(input, lines)?;
     let keys = match words {
         [path, ..] => keys_of(alloc, path.as_bytes())?,
         [] => Vec::new(alloc),
     };
     let path = slices_of(alloc, keys.as_slice())?;
-    let checked = check(alloc, file)?;
-    let begun = Walk::from(alloc, checked, path.as_slice());
-    let was_begun = begun.is_ok();
-    let mut walk = match begun {
-        Ok(walk) => walk,
-        Err(NoMemory) => Walk::from(alloc, checked, path.as_slice())?,
-    };
-    let went_on = goes_on(alloc, &mut walk, all.as_slice())?;
-    if !was_begun {
-        return Err(Fault::Refused("a walk begins again, and gives the rest"));
+    walk_again(
+        alloc,
+        check(alloc, file)?,
+        path.as_slice(),
+        lines.as_slice(),
+    )
+}
+
+/// A walk from a path on gives these lines, also if a request is refused. It then says which one was.
+fn walk_again(
+    alloc: Global,
+    checked: Checked<'_>,
+    path: &[&[u8]],
+    lines: &[u8],
+) -> Result<(), Fault> {
+    match Walk::from(alloc, checked, path) {
+        Ok(mut walk) => match goes_on(alloc, &mut walk, lines)? {
+            true => Err(Fault::Refused("a walk goes on, and gives the rest")),
+            false => Ok(()),
+        },
+        Err(NoMemory) => {
+            goes_on(alloc, &mut Walk::from(alloc, checked, path)?, lines)?;
+            Err(Fault::Refused("a walk begins again, and gives the rest"))
+        }
     }
-    if went_on {
-        return Err(Fault::Refused("a walk goes on, and gives the rest"));
-    }
-    Ok(all)
 }
 
 /// Whether a request of the walk was refused. It gives exactly these lines all the same.
 fn goes_on(alloc: Global, walk: &mut Walk<'_>, all: &[u8]) -> Result<bool, Fault> {
-    let mut lines = MemberLines::new(alloc, ListForm::Hex);
-    let mut sink = MemSink::new(alloc);
+    let mut lines = Vec::new(alloc);
+    let was_refused = push_rest(walk, &mut lines)?;
+    if lines.as_slice() != all {
+        return Err(Fault::Wrong("other members", lines.len()));
+    }
+    Ok(was_refused)
+}
+
+/// Adds the line of each further item, and returns whether a request of the walk was refused.
+fn push_rest(walk: &mut Walk<'_>, lines: &mut Vec<u8>) -> Result<bool, Fault> {
+    let mut form = MemberLines::new(*lines.allocator(), ListForm::Hex);
+    let mut sink = WriteSink::new(lines);
     let mut went_on = false;
     for _ in 0..usize::MAX {
         let (given, was_refused) = next_of(walk)?;
         went_on = went_on || was_refused;
         let Some(item) = given else { break };
-        lines.put(walk.path(), &item, &mut sink)?;
-    }
-    if sink.bytes() != all {
-        return Err(Fault::Wrong("other members", sink.bytes().len()));
+        form.put(walk.path(), &item, &mut sink)?;
     }
     Ok(went_on)
 }
 
-/// A request for memory.
-fn request(alloc: Global) -> Result<Vec<u8>, AllocError> {
-    Vec::with_capacity(alloc, 1)
-}
-
 /// Makes each call that needs no memory, from each entry of the bucket at the path of the first word,
 /// in which the second word is a key. Between two requests there are only those calls.
-pub fn calls_between(alloc: Global, file: &[u8], words: &[String]) -> Result<Vec<u8>, Fault> {
+pub fn calls_between(input: Input<'_>, line: &mut Vec<u8>) -> Result<(), Fault> {
+    let Input { alloc, file, words } = input;
     let [path, key] = words else {
         return Err(Fault::Unread);
     };
     let checked = check(alloc, file)?;
     let bucket = bucket_at(alloc, checked, path.as_bytes())?;
     let key = bytes_of(alloc, key.as_bytes())?;
-    let before = request(alloc);
-    let moved = call_cursor(bucket.cursor(), key.as_slice());
-    let is_held = bucket.get(key.as_slice()).is_some() || bucket.bucket(key.as_slice()).is_some();
-    let has_path = has_path(alloc, checked);
-    let after = request(alloc);
-    if !moved || !is_held || has_path {
-        return Err(Fault::Wrong("what a call returned", 0));
+    let before = has_memory(alloc);
+    let are_right = make_calls(&bucket, key.as_slice()) && !has_path(alloc, checked);
+    let after = has_memory(alloc);
+    match (are_right, before, after) {
+        (false, _, _) => Err(Fault::Wrong("what a call returned", 0)),
+        (_, false, _) => Err(Fault::Refused("before the calls")),
+        (_, _, false) => Err(Fault::Refused("after the calls")),
+        _ => Ok(line.extend_from_slice(b"no request")?),
     }
-    let _block = before.map_err(|_| Fault::Refused("before the calls"))?;
-    let _block = after.map_err(|_| Fault::Refused("after the calls"))?;
-    Ok(b"no request".to_vec(alloc)?)
+}
+
+/// Whether a request for memory is met.
+fn has_memory(alloc: Global) -> bool {
+    let block: Result<Vec<u8>, AllocError> = Vec::with_capacity(alloc, 1);
+    block.is_ok()
 }
 
 /// Whether a new walk has a path.
 fn has_path(alloc: Global, checked: Checked<'_>) -> bool {
     !Walk::new(alloc, checked).path().is_empty()
+}
+
+/// Makes each call of a bucket and its cursor. Whether each returned an entry when it had to.
+fn make_calls(bucket: &Bucket<'_>, key: &[u8]) -> bool {
+    let is_held = bucket.get(key).is_some() || bucket.bucket(key).is_some();
+    call_cursor(bucket.cursor(), key) && is_held
 }
 
 /// Makes each call of a cursor. Whether each returned an entry when it had to.

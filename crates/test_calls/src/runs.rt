@@ -1,9 +1,11 @@
 //! What a job comes to on a file in memory.
 
 use crate::fault::Fault;
+use crate::words::Input;
 use bolt_cli::{Job, read_words, run};
 use bolt_format::{MemSink, Sink};
 use std::alloc::Global;
+use std::io::Write;
 
 /// The words of a command line, after the program's name.
 pub fn line_of(alloc: Global, words: &[String]) -> Result<Vec<String>, Fault> {
@@ -21,11 +23,11 @@ pub fn job_of(alloc: Global, words: &[String]) -> Result<Job, Fault> {
 }
 
 /// The names of the job's FILE and OUT, which may be `none`.
-pub fn names_of(alloc: Global, words: &[String]) -> Result<Vec<u8>, Fault> {
+pub fn names_of(input: Input<'_>, lines: &mut Vec<u8>) -> Result<(), Fault> {
+    let Input { alloc, file, words } = input;
     let job = job_of(alloc, words)?;
     let (file, target) = (job.file(), job.target().unwrap_or("none"));
-    let lines = format!(in alloc; "{file}\n{target}\n")?;
-    Ok(lines.as_bytes().to_vec(alloc)?)
+    Ok(writeln!(lines, "{file}\n{target}")?)
 }
 
 /// The status of a run over these sinks. Other proofs don't read the contract of `run`, which is most

@@ -1,7 +1,7 @@
 //! Sinks, to which pieces are written, and a writer that fails.
 
 use crate::fault::Fault;
-use crate::words::{bytes_of, number, push_word};
+use crate::words::{Input, bytes_of, number, push_number, push_word};
 use bolt_format::{MemSink, Sink, WriteSink};
 use std::alloc::Global;
 use std::io::{self, Cursor, ErrorKind, Write};
@@ -58,34 +58,34 @@ impl Write for Halting {
     }
 }
 
-/// Writes pieces, of which `.` is the whole file. Returns which of them the sink accepted.
+/// Writes pieces, of which `.` is the whole file. Adds which of them the sink accepted.
 fn put_pieces<S: Sink>(
-    alloc: Global,
     file: &[u8],
     pieces: &[String],
     sink: &mut S,
-) -> Result<Vec<u8>, Fault> {
-    let mut line = Vec::new(alloc);
+    line: &mut Vec<u8>,
+) -> Result<(), Fault> {
     for word in pieces {
         let before = sink.failures();
         let result = if word.as_str() == "." {
             sink.put(file)
         } else {
-            sink.put(bytes_of(alloc, word.as_bytes())?.as_slice())
+            sink.put(bytes_of(*line.allocator(), word.as_bytes())?.as_slice())
         };
         match result {
-            Ok(()) if sink.failures() == 0 => push_word(&mut line, b"ok")?,
-            Err(_) if sink.failures() >= before.max(1) => push_word(&mut line, b"failed")?,
+            Ok(()) if sink.failures() == 0 => push_word(line, b"ok")?,
+            Err(_) if sink.failures() >= before.max(1) => push_word(line, b"failed")?,
             _ => return Err(Fault::Wrong("the number of failures", line.len())),
         }
     }
-    Ok(line)
+    Ok(())
 }
 
 /// The sink that a word names, with a number: over a writer that refuses the call of this number, with
 /// an error of a kind or without one; over a `Vec` or a cursor of one; or in memory, `fuse` with room
 /// for this many bytes. Of which pieces it accepts, how many calls the writer had, and all bytes.
-pub fn puts(alloc: Global, file: &[u8], words: &[String]) -> Result<Vec<u8>, Fault> {
+pub fn puts(input: Input<'_>, line: &mut Vec<u8>) -> Result<(), Fault> {
+    let Input { alloc, file, words } = input;
     let [kind, count, pieces @ ..] = words else {
         return Err(Fault::Unread);
     };
@@ -95,58 +95,52 @@ pub fn puts(alloc: Global, file: &[u8], words: &[String]) -> Result<Vec<u8>, Fau
         "interrupted" => Refusal::Error(ErrorKind::Interrupted),
         "block" => Refusal::Error(ErrorKind::WouldBlock),
         "nothing" => Refusal::Nothing,
-        _ => return puts_in_memory(alloc, kind.as_str(), count, file, pieces),
+        _ => return puts_in_memory(kind.as_str(), count, file, pieces, line),
     };
     let mut sink = WriteSink::new(Halting::new(alloc, count, refusal));
-    let line = put_pieces(alloc, file, pieces, &mut sink)?;
+    put_pieces(file, pieces, &mut sink, line)?;
     let writer = sink.into_inner();
-    shown(line, Some(writer.calls), writer.taken.as_slice(), file)
+    push_number(line, writer.calls as u64)?;
+    push_taken(writer.taken.as_slice(), file, line)
 }
 
 fn puts_in_memory(
-    alloc: Global,
     kind: &str,
     count: usize,
     file: &[u8],
     pieces: &[String],
-) -> Result<Vec<u8>, Fault> {
+    line: &mut Vec<u8>,
+) -> Result<(), Fault> {
+    let alloc = *line.allocator();
     match kind {
         "vec" => {
             let mut sink = WriteSink::new(Vec::new(alloc));
-            let line = put_pieces(alloc, file, pieces, &mut sink)?;
-            shown(line, None, sink.into_inner().as_slice(), file)
+            put_pieces(file, pieces, &mut sink, line)?;
+            push_taken(sink.into_inner().as_slice(), file, line)
         }
         "cursor" => {
             let mut sink = WriteSink::new(Cursor::new(Vec::new(alloc)));
-            let line = put_pieces(alloc, file, pieces, &mut sink)?;
-            shown(line, None, sink.into_inner().into_inner().as_slice(), file)
+            put_pieces(file, pieces, &mut sink, line)?;
+            push_taken(sink.into_inner().into_inner().as_slice(), file, line)
         }
-        "memory" => {
-            let mut sink = MemSink::new(alloc);
-            let line = put_pieces(alloc, file, pieces, &mut sink)?;
-            shown(line, None, sink.bytes(), file)
-        }
-        "fuse" => {
-            let mut sink = MemSink::with_fuse(alloc, count);
-            let line = put_pieces(alloc, file, pieces, &mut sink)?;
-            shown(line, None, sink.bytes(), file)
-        }
+        "memory" => put_in_memory(file, pieces, MemSink::new(alloc), line),
+        "fuse" => put_in_memory(file, pieces, MemSink::with_fuse(alloc, count), line),
         _ => Err(Fault::Unread),
     }
 }
 
-/// Adds a number of calls, and bytes; those of the file are `.`.
-fn shown(
-    mut line: Vec<u8>,
-    calls: Option<usize>,
-    bytes: &[u8],
+fn put_in_memory(
     file: &[u8],
-) -> Result<Vec<u8>, Fault> {
-    let alloc = *line.allocator();
-    if let Some(calls) = calls {
-        push_word(&mut line, format!(in alloc; "{calls}")?.as_bytes())?;
-    }
+    pieces: &[String],
+    mut sink: MemSink,
+    line: &mut Vec<u8>,
+) -> Result<(), Fault> {
+    put_pieces(file, pieces, &mut sink, line)?;
+    push_taken(sink.bytes(), file, line)
+}
+
+/// Adds the bytes that a sink accepted; those of the file are `.`.
+fn push_taken(bytes: &[u8], file: &[u8], line: &mut Vec<u8>) -> Result<(), Fault> {
     let is_file = !file.is_empty() && bytes == file;
-    push_word(&mut line, if is_file { b"." } else { bytes })?;
-    Ok(line)
+    Ok(push_word(line, if is_file { b"." } else { bytes })?)
 }

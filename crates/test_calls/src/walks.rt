@@ -1,15 +1,17 @@
 //! What a file holds: walks, listings, keys, and what is under a key.
 
 use crate::fault::Fault;
-use crate::words::{bucket_at, bytes_of, keys_of, push_word, slices_of};
+use crate::words::{Input, bucket_at, bytes_of, keys_of, push_word, slices_of};
 use bolt_check::check;
-use bolt_format::{MemSink, Sink};
+use bolt_format::{Sink, WriteSink};
 use bolt_report::{Form, ListForm, MemberLines, ReportFault, keys, list};
-use bolt_tree::{Members, Walk};
+use bolt_tree::{Bucket, Members, Walk};
 use std::alloc::Global;
+use std::io::Write;
 
 /// A walk from the path that the first word is, or from the start if there is none.
-fn walk_from<'a>(alloc: Global, file: &'a [u8], words: &[String]) -> Result<Walk<'a>, Fault> {
+fn walk_from<'a>(input: Input<'a>) -> Result<Walk<'a>, Fault> {
+    let Input { alloc, file, words } = input;
     let checked = check(alloc, file)?;
     let [path, ..] = words else {
         return Ok(Walk::new(alloc, checked));
@@ -21,45 +23,50 @@ fn walk_from<'a>(alloc: Global, file: &'a [u8], words: &[String]) -> Result<Walk
 
 /// The line of each member. There is no path before the first one and after the last one, and no
 /// member if asked again; otherwise a last line says so.
-pub fn lines_of<'a, M: Members<'a>>(
-    alloc: Global,
+pub fn push_members<'a, M: Members<'a>>(
     members: &mut M,
-) -> Result<MemSink, ReportFault> {
-    let mut lines = MemberLines::new(alloc, ListForm::Hex);
-    let mut sink = MemSink::new(alloc);
+    lines: &mut Vec<u8>,
+) -> Result<(), ReportFault> {
+    let mut form = MemberLines::new(*lines.allocator(), ListForm::Hex);
+    let mut sink = WriteSink::new(lines);
     let has_path = !members.path().is_empty();
     for _ in 0..usize::MAX {
         let Some(item) = members.next()? else { break };
-        lines.put(members.path(), &item, &mut sink)?;
+        form.put(members.path(), &item, &mut sink)?;
     }
     let goes_on = members.next()?.is_some();
     if has_path || goes_on || !members.path().is_empty() {
         sink.put(b"a member or a path too many\n")?;
     }
-    Ok(sink)
+    Ok(())
 }
 
 /// The line of each member. A second pass returns them again; otherwise a last line says so.
-pub fn twice<'a, M: Members<'a>>(alloc: Global, members: &mut M) -> Result<MemSink, ReportFault> {
-    let mut lines = lines_of(alloc, members)?;
+pub fn push_twice<'a, M: Members<'a>>(
+    members: &mut M,
+    lines: &mut Vec<u8>,
+) -> Result<(), ReportFault> {
+    let alloc = *lines.allocator();
+    push_members(members, lines)?;
     members.restart(alloc)?;
-    let again = lines_of(alloc, members)?;
-    if lines.bytes() != again.bytes() {
-        lines.put(b"another second pass\n")?;
+    let mut again = Vec::new(alloc);
+    push_members(members, &mut again)?;
+    if lines.as_slice() != again.as_slice() {
+        WriteSink::new(lines).put(b"another second pass\n")?;
     }
-    Ok(lines)
+    Ok(())
 }
 
 /// The line of each member that a walk returns.
-pub fn members(alloc: Global, file: &[u8], words: &[String]) -> Result<Vec<u8>, Fault> {
-    let mut walk = walk_from(alloc, file, words)?;
-    Ok(lines_of(alloc, &mut walk)?.bytes().to_vec(alloc)?)
+pub fn members(input: Input<'_>, lines: &mut Vec<u8>) -> Result<(), Fault> {
+    let mut walk = walk_from(input)?;
+    Ok(push_members(&mut walk, lines)?)
 }
 
 /// The number of items that a walk returns, the number of keys of the longest of their paths, and
 /// the number of keys of all of them.
-pub fn depths(alloc: Global, file: &[u8], words: &[String]) -> Result<Vec<u8>, Fault> {
-    let mut walk = walk_from(alloc, file, words)?;
+pub fn depths(input: Input<'_>, line: &mut Vec<u8>) -> Result<(), Fault> {
+    let mut walk = walk_from(input)?;
     let (mut items, mut longest, mut all) = (0_u64, 0, 0_usize);
     for _ in 0..u64::MAX {
         if walk.next()?.is_none() {
@@ -70,59 +77,59 @@ pub fn depths(alloc: Global, file: &[u8], words: &[String]) -> Result<Vec<u8>, F
         longest = keys.max(longest);
         all = all.saturating_add(keys);
     }
-    let text = format!(in alloc; "{items} items, {longest} keys at most, {all} in all")?;
-    Ok(text.as_bytes().to_vec(alloc)?)
+    write!(line, "{items} items, {longest} keys at most, {all} in all")?;
+    Ok(())
 }
 
 /// What is under each of the keys in the bucket at a path: a value, a bucket's sequence, or `-`.
-pub fn look_ups(alloc: Global, file: &[u8], words: &[String]) -> Result<Vec<u8>, Fault> {
+pub fn look_ups(input: Input<'_>, line: &mut Vec<u8>) -> Result<(), Fault> {
+    let Input { alloc, file, words } = input;
     let [path, keys @ ..] = words else {
         return Err(Fault::Unread);
     };
-    let checked = check(alloc, file)?;
-    let bucket = bucket_at(alloc, checked, path.as_bytes())?;
-    let mut line = Vec::new(alloc);
+    let bucket = bucket_at(alloc, check(alloc, file)?, path.as_bytes())?;
     for word in keys {
         let key = bytes_of(alloc, word.as_bytes())?;
-        let value = bucket.get(key.as_slice());
-        let inner = bucket.bucket(key.as_slice());
-        match (value, inner) {
-            (Some(value), None) => {
-                push_word(&mut line, b"=")?;
-                line.extend_from_slice(value)?;
-            }
-            (None, Some(inner)) => {
-                let sequence = inner.sequence();
-                push_word(&mut line, format!(in alloc; ":{sequence}")?.as_bytes())?;
-            }
-            (None, None) => push_word(&mut line, b"-")?,
-            _ => return Err(Fault::Wrong("a value and a bucket", line.len())),
-        }
+        look_up(&bucket, key.as_slice(), line)?;
     }
-    Ok(line)
+    Ok(())
+}
+
+fn look_up(bucket: &Bucket<'_>, key: &[u8], line: &mut Vec<u8>) -> Result<(), Fault> {
+    match (bucket.get(key), bucket.bucket(key)) {
+        (Some(value), None) => {
+            push_word(line, b"=")?;
+            line.extend_from_slice(value)?;
+        }
+        (None, Some(inner)) => {
+            push_word(line, b":")?;
+            write!(line, "{}", inner.sequence())?;
+        }
+        (None, None) => push_word(line, b"-")?,
+        _ => return Err(Fault::Wrong("a value and a bucket", line.len())),
+    }
+    Ok(())
 }
 
 /// The listing from the path that the first word is.
-pub fn listed(alloc: Global, file: &[u8], words: &[String]) -> Result<Vec<u8>, Fault> {
+pub fn listed(input: Input<'_>, lines: &mut Vec<u8>) -> Result<(), Fault> {
+    let Input { alloc, file, words } = input;
     let [from, ..] = words else {
         return Err(Fault::Unread);
     };
-    let checked = check(alloc, file)?;
-    let parts = keys_of(alloc, from.as_bytes())?;
-    let from = slices_of(alloc, parts.as_slice())?;
-    let mut sink = MemSink::new(alloc);
-    list(alloc, checked, from.as_slice(), &mut sink)?;
-    Ok(sink.bytes().to_vec(alloc)?)
+    let keys = keys_of(alloc, from.as_bytes())?;
+    let from = slices_of(alloc, keys.as_slice())?;
+    let mut sink = WriteSink::new(lines);
+    Ok(list(alloc, check(alloc, file)?, from.as_slice(), &mut sink)?)
 }
 
 /// The keys of the bucket at a path, in hexadecimal.
-pub fn keys_in(alloc: Global, file: &[u8], words: &[String]) -> Result<Vec<u8>, Fault> {
+pub fn keys_in(input: Input<'_>, lines: &mut Vec<u8>) -> Result<(), Fault> {
+    let Input { alloc, file, words } = input;
     let [path, ..] = words else {
         return Err(Fault::Unread);
     };
-    let checked = check(alloc, file)?;
-    let bucket = bucket_at(alloc, checked, path.as_bytes())?;
-    let mut sink = MemSink::new(alloc);
-    keys(alloc, &bucket, Form::Hex, &mut sink)?;
-    Ok(sink.bytes().to_vec(alloc)?)
+    let bucket = bucket_at(alloc, check(alloc, file)?, path.as_bytes())?;
+    let mut sink = WriteSink::new(lines);
+    Ok(keys(alloc, &bucket, Form::Hex, &mut sink)?)
 }

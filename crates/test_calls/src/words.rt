@@ -7,6 +7,15 @@ use bolt_format::{Meta, Slot};
 use bolt_load::read_number;
 use bolt_tree::Bucket;
 use std::alloc::{AllocError, Global};
+use std::io::Write;
+
+/// What a verb is given, and where it gets memory.
+#[derive(Clone, Copy)]
+pub struct Input<'a> {
+    pub alloc: Global,
+    pub file: &'a [u8],
+    pub words: &'a [String],
+}
 
 pub fn number(word: &[u8]) -> Result<u64, Fault> {
     read_number(word).ok_or(Fault::Unread)
@@ -70,11 +79,12 @@ pub fn bucket_at<'a>(
     checked: Checked<'a>,
     path: &[u8],
 ) -> Result<Bucket<'a>, Fault> {
-    let mut bucket = Bucket::root(checked);
-    for key in &keys_of(alloc, path)? {
-        bucket = bucket.bucket(key.as_slice()).ok_or(Fault::Unread)?;
+    let keys = keys_of(alloc, path)?;
+    let mut bucket = Some(Bucket::root(checked));
+    for key in &keys {
+        bucket = bucket.and_then(|outer| outer.bucket(key.as_slice()));
     }
-    Ok(bucket)
+    bucket.ok_or(Fault::Unread)
 }
 
 /// Adds a word to a line of them.
@@ -83,4 +93,11 @@ pub fn push_word(line: &mut Vec<u8>, word: &[u8]) -> Result<(), AllocError> {
         line.push(b' ')?;
     }
     line.extend_from_slice(word)
+}
+
+/// Adds a number to a line of words.
+pub fn push_number(line: &mut Vec<u8>, number: u64) -> Result<(), Fault> {
+    push_word(line, b"")?;
+    write!(line, "{number}")?;
+    Ok(())
 }
