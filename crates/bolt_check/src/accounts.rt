@@ -53,7 +53,6 @@ fn alone(alloc: Global, finding: Finding) -> Result<Vec<Finding>, AllocError>
 
 /// Claims the freelist's span, unless a page of it is claimed. Then it returns the lowest such
 /// page.
-#[tactic(auto, using(crate::proofs::ClaimLemmas::span_within, crate::proofs::MarkLemmas::page_overflows, crate::proofs::FreelistLemmas::freelist_page, crate::proofs::ClaimLemmas::lowest_shared, crate::proofs::ClaimLemmas::claims_freelist, crate::proofs::ClaimLemmas::all_used))]
 pub(crate) fn claim_freelist(file: &[u8], meta: &Meta, table: &mut [PageUse]) -> Option<u64>
     requires written { meta.now.freelist ≢ NO_FREELIST }
     requires good { freelist_fault_of file.now meta.now ≡ None }
