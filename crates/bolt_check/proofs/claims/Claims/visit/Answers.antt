@@ -1,16 +1,9 @@
 use Rattle.std.proofs.Common.{◌≡◌, ◌∙◌, Err, inl, inr, List, Ok, OnErr, OnOk, Result, ap, arith, length}
+use Rattle.std.proofs.lemmas.Result.{on_err_weaker, on_ok_weaker}
 use Rattle.bolt_check.proofs.Words.{claims_file, is_used, IsUnlisted, PageUse, unclaimed, use_at}
 use Rattle.bolt_check.proofs.Visited.{stored}
 use Rattle.bolt_check.specs.Claims.{claims_length, claims_meta, is_claimed, pages_left}
 use Rattle.bolt_check.proofs.claims.Claims.visit.Goals as goal
-
-on_err : {T E P Q : Type 0} (r : Result T E) → (P → Q) → OnErr r P → OnErr r Q
-on_err (Ok x) to h = h
-on_err (Err e) to h = to h
-
-on_ok : {T E P Q : Type 0} (r : Result T E) → (P → Q) → OnOk r P → OnOk r Q
-on_ok (Ok x) to h = to h
-on_ok (Err e) to h = h
 
 still_unlisted : {T E : Type 0} (r : Result T E) (old new : List PageUse) → OnOk r (IsUnlisted old → IsUnlisted new) → OnErr r (new ≡ old) → IsUnlisted old → IsUnlisted new
 still_unlisted (Ok x) old new kept same plain = kept plain
@@ -39,16 +32,16 @@ returns-clause-found c = rw c.deref_mut.ensures.value at c.visit.ensures.found
 pub returns-clause-same : goal.returns-clause-same
 unfolding is_claimed
 returns-clause-same c = rw (stored c.args.self.now.table _ _ c.deref_mut.ensures.value c.visit.auto.table)
-    (on_err c.visit.result (λ same n. ap (λ (t : List PageUse). is_used (use_at t n)) same) (rw c.deref_mut.ensures.value at c.visit.ensures.same))
+    (on_err_weaker c.visit.result (λ same n. ap (λ (t : List PageUse). is_used (use_at t n)) same) (rw c.deref_mut.ensures.value at c.visit.ensures.same))
 
 pub returns-clause-left : goal.returns-clause-left
 unfolding pages_left
-returns-clause-left c = rw (stored c.args.self.now.table _ _ c.deref_mut.ensures.value c.visit.auto.table) (on_err c.visit.result (ap unclaimed) (rw c.deref_mut.ensures.value at c.visit.ensures.same))
+returns-clause-left c = rw (stored c.args.self.now.table _ _ c.deref_mut.ensures.value c.visit.auto.table) (on_err_weaker c.visit.result (ap unclaimed) (rw c.deref_mut.ensures.value at c.visit.ensures.same))
 
 pub returns-clause-claims : goal.returns-clause-claims
 unfolding claims_file claims_meta is_claimed
 returns-clause-claims c = rw (stored c.args.self.now.table _ _ c.deref_mut.ensures.value c.visit.auto.table)
-    (on_ok c.visit.result (λ claims n. (claims.split n, λ either. elim either [ inl before ↦ claims.kept n before | inr at ↦ claims.span n at ])) (rw c.deref_mut.ensures.value at c.visit.ensures.claims))
+    (on_ok_weaker c.visit.result (λ claims n. (claims.split n, λ either. elim either [ inl before ↦ claims.kept n before | inr at ↦ claims.span n at ])) (rw c.deref_mut.ensures.value at c.visit.ensures.claims))
 
 pub returns-clause-fewer : goal.returns-clause-fewer
 unfolding pages_left
