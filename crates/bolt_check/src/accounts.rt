@@ -14,7 +14,6 @@ use std::alloc::{AllocError, Global};
 
 /// Tests the accounts of a file. The table has the pages that ways lead to. Returns the findings,
 /// of which there are none if the accounts are right. Then the table has the freelist's pages too.
-#[tactic(auto, using(crate::proofs::AccountLemmas::unwritten, crate::proofs::UsesClaimed::uses_unwritten))]
 pub(crate) fn test_accounts(
     alloc: Global,
     file: &[u8],
