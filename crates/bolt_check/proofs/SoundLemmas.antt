@@ -1,5 +1,6 @@
 -- From the search and the test of the accounts to the whole file.
 use Rattle.std.proofs.Common.{◌≡◌, ◌∙◌, ap, ℕ, ◌↔◌, ◌==◌, ◌≢◌, List, [], false, true, length, sym}
+use Rattle.std.proofs.lemmas.{Bool.eqb-true, List.nil_from_length}
 use Rattle.bolt_check.proofs.Words.{AreAccountFindings, eq-eqb, false≢true, Finding, HasAccounts, HasRightAccounts, IsClaimed, IsClean, IsMetaPage, IsSound, IsUsed, Meta, node_at, PageUse, Slot}
 use Rattle.bolt_check.proofs.{AccountsAlong.account_findings_along, AccountsAlong.has_accounts_along, Shaping.shape_of}
 use Rattle.bolt_format.specs.Metas.{IsChosen}
@@ -33,6 +34,9 @@ pub tested_of : (file : List ℕ) (slot : Slot) (meta : Meta) (table : List Page
 tested_of file slot meta table chosen clean same accounts =
     let sound = sound_of file slot meta table chosen clean same accounts in
     record { trees = sound.trees; whole = λ _. sound }
+
+pub no_items : (reported : List Finding) (n : ℕ) → n ≡ length reported → (n == 0) ≡ true → reported ≡ []
+no_items reported n long none = nil_from_length reported (sym long ∙ eqb-true n 0 none)
 
 pub some_items : (reported : List Finding) (n : ℕ) → n ≡ length reported → (n == 0) ≡ false → reported ≢ []
 some_items reported n long not e = false≢true (sym not ∙ eq-eqb n 0 (long ∙ ap length e))

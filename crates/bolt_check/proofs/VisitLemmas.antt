@@ -18,5 +18,3 @@ overflow-is node n e = e
 pub leaf-is : (node : TreePage) → use_of node.is_leaf ≡ use_of (shown_node node).is_leaf
 unfolding shown_node
 leaf-is node = refl
-
-pub ruleset visit_rules = (in_room, overflow-is, leaf-is)

@@ -14,7 +14,6 @@ use std::alloc::{AllocError, Global};
 
 /// Tests the accounts of a file. The table has the pages that ways lead to. Returns the findings,
 /// of which there are none if the accounts are right. Then the table has the freelist's pages too.
-#[tactic(auto, using(crate::proofs::AccountLemmas::unwritten, crate::proofs::UsesClaimed::uses_unwritten))]
 pub(crate) fn test_accounts(
     alloc: Global,
     file: &[u8],
@@ -53,7 +52,6 @@ fn alone(alloc: Global, finding: Finding) -> Result<Vec<Finding>, AllocError>
 
 /// Claims the freelist's span, unless a page of it is claimed. Then it returns the lowest such
 /// page.
-#[tactic(auto, using(crate::proofs::ClaimLemmas::span_within, crate::proofs::MarkLemmas::page_overflows, crate::proofs::FreelistLemmas::freelist_page, crate::proofs::ClaimLemmas::lowest_shared, crate::proofs::ClaimLemmas::claims_freelist, crate::proofs::ClaimLemmas::all_used))]
 pub(crate) fn claim_freelist(file: &[u8], meta: &Meta, table: &mut [PageUse]) -> Option<u64>
     requires written { meta.now.freelist ≢ NO_FREELIST }
     requires good { freelist_fault_of file.now meta.now ≡ None }

@@ -129,7 +129,6 @@ fn report_repeated(findings: &mut Vec<Finding>, ids: &[u64], i: usize) -> Result
 
 /// Reports the id at place `i` if it is below the mark and not reported yet, and the lost pages
 /// before it.
-#[tactic(auto, using(crate::proofs::ListingLemmas::past_reported))]
 fn report_id(
     listing: &Listing<'_>,
     i: usize,

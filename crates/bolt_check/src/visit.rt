@@ -66,7 +66,6 @@ pub enum Spot<'a> {
 }
 
 /// Tests a page, and claims its span if the tests find nothing.
-#[tactic(auto, using(crate::proofs::VisitLemmas::visit_rules, crate::proofs::Spans::outside_span))]
 pub(crate) fn visit<'a>(
     file: &'a [u8],
     meta: &Meta,

@@ -1,4 +1,4 @@
-use Rattle.std.proofs.Common.{sym, ◌∷◌}
+use Rattle.std.proofs.Common.{◌∷◌, arith, sym}
 use Rattle.bolt_check.proofs.Words.{At_inline, At_page, forest, inline_keys, IsClaimed, IsSearchFault, node_at, page_spot, shown_node, spots_of, Structure}
 use Rattle.bolt_check.proofs.{Forest.found_step, Visited.inline_carries, Visited.page_carries, Visited.passed_on}
 use Rattle.bolt_check.proofs.search.step.Goals as goal
@@ -36,3 +36,6 @@ returns-in_ok-test-in-Bucket-clause-carried c =
     rw c.in-Bucket.is
     (inline_carries (node_at c.args.file.now c.args.meta.now) c.in-Bucket.spot.host (inline_keys c.in-Bucket.spot.page)
     (spots_of c.args.pending.now.items) c.args.table.now (sym c.in_ok-test-in-Bucket.ensures))
+
+pub returns-in_ok-push_kids-in-Page-clause-less : goal.returns-in_ok-push_kids-in-Page-clause-less
+returns-in_ok-push_kids-in-Page-clause-less c = omega (arith, c.in_ok-node-in-Page.ensures.fewer, c.in_ok-push_kids-in-Page.ensures.few)

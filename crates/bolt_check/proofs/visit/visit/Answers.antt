@@ -1,6 +1,6 @@
 use Rattle.std.proofs.Common.{◌∙◌, sym, refl, arith}
 use Rattle.bolt_check.proofs.{Words.IsClaimed, Words.late, Words.node_at, Words.page_spot, Words.PageTests, Words.shown_node, Lawful.early_passes}
-use Rattle.bolt_check.proofs.{Spans.not_both, Spans.span_claimed, Visited.passed_on, VisitLemmas.leaf-is, VisitLemmas.overflow-is}
+use Rattle.bolt_check.proofs.{Spans.not_both, Spans.outside_span, Spans.span_claimed, Spans.still_unlisted, Visited.passed_on, VisitLemmas.in_room, VisitLemmas.leaf-is, VisitLemmas.overflow-is}
 use Rattle.bolt_check.specs.Findings.{twice}
 use Rattle.bolt_check.proofs.visit.visit.Goals as goal
 
@@ -40,3 +40,18 @@ returns-clause-claims c =
     span_claimed (node_at c.args.file.now c.args.meta.now) (page_spot c.args.spot.now) (shown_node node) c.args.table.now c.claim.new.table _
     (omega (arith, last)) c.in_ok-node.ensures.node
     (c.claim.ensures.first ∙ c.first_use.ensures ∙ leaf-is node) c.claim.ensures.later c.claim.ensures.span c.claim.ensures.below c.claim.ensures.above
+
+pub overflow_add-last : goal.overflow_add-last
+overflow_add-last c = let room = in_room _ _ _ _ _ c.in_ok-node.ensures.within c.requires in omega (arith, room, c.overflow.ensures)
+
+pub first_claimed-requires-clause-within : goal.first_claimed-requires-clause-within
+first_claimed-requires-clause-within c = let room = in_room _ _ _ _ _ c.in_ok-node.ensures.within c.requires in omega (arith, room, c.overflow.ensures)
+
+pub claim-requires-clause-within : goal.claim-requires-clause-within
+claim-requires-clause-within c = let room = in_room _ _ _ _ _ c.in_ok-node.ensures.within c.requires in omega (arith, room, c.overflow.ensures)
+
+pub returns-clause-outside : goal.returns-clause-outside
+returns-clause-outside c = outside_span c.args.table.now c.claim.new.table _ _ c.claim.ensures.below c.claim.ensures.above c.claim.ensures.span
+
+pub returns-clause-unlisted : goal.returns-clause-unlisted
+returns-clause-unlisted c = still_unlisted c.args.table.now c.claim.new.table _ _ c.claim.ensures.below c.claim.ensures.above c.claim.ensures.unlisted

@@ -1,6 +1,23 @@
-use Rattle.bolt_check.specs.Leftovers.{is_listed, is_taken, leftovers_file, leftovers_meta}
-use Rattle.bolt_check.proofs.LeafLemmas.{if_none, none_listed}
+use Rattle.std.proofs.Common.{◌∙◌, ◌==◌, inl, inr, List, None, Option, Some, ap, arith, length, not}
+use Rattle.std.specs.Prelude.{IfSome}
+use Rattle.bolt_check.proofs.Words.{is_used, PageUse, times_of, use_at}
+use Rattle.bolt_check.specs.Leftovers.{is_listed, is_taken, leftovers_file, leftovers_length, leftovers_meta}
+use Rattle.bolt_check.proofs.{LeafLemmas.if_none, LeafLemmas.none_listed, Visited.stored}
 use Rattle.bolt_check.proofs.leftovers.Leftovers.take.Goals as goal
+
+if_some : {X : Type 0} {P Q : Type 0} (o : Option X) → (P → Q) → IfSome o (λ _. P) → IfSome o (λ _. Q)
+if_some None to h = h
+if_some (Some x) to h = to h
+
+pub invariant_of-self : goal.invariant_of-self
+invariant_of-self c =
+    let was = c.deref_mut.ensures.value in
+    let now = stored c.args.self.now.table _ _ c.deref_mut.ensures.value c.take_leaf.auto.table in
+    record { room = λ n inside below. rw now (omega (arith, c.args.self.now.room n inside below, c.take_leaf.auto.table, ap length was)) }
+
+pub returns-clause-length : goal.returns-clause-length
+unfolding leftovers_length
+returns-clause-length c = ap length (stored c.args.self.now.table _ _ c.deref_mut.ensures.value c.take_leaf.auto.table) ∙ c.take_leaf.auto.table ∙ ap length c.deref_mut.ensures.value
 
 pub returns-clause-leaf : goal.returns-clause-leaf
 unfolding is_taken leftovers_file leftovers_meta
@@ -9,3 +26,18 @@ returns-clause-leaf c = rw c.deref_mut.ensures.value at c.take_leaf.ensures.leaf
 pub returns-clause-none : goal.returns-clause-none
 unfolding is_listed is_taken leftovers_file leftovers_meta
 returns-clause-none c = if_none c.take_leaf.result (λ no lone free. no lone (none_listed _ free)) (rw c.deref_mut.ensures.value at c.take_leaf.ensures.none)
+
+pub returns-clause-taken : goal.returns-clause-taken
+unfolding is_taken leftovers_file leftovers_meta
+returns-clause-taken c = rw (stored c.args.self.now.table _ _ c.deref_mut.ensures.value c.take_leaf.auto.table)
+    (if_some c.take_leaf.result (λ claims n. (claims.split n, λ either. elim either [ inl before ↦ claims.kept n before | inr at ↦ claims.span n at ])) (rw c.deref_mut.ensures.value at c.take_leaf.ensures.claims))
+
+pub returns-clause-same : goal.returns-clause-same
+unfolding is_taken
+returns-clause-same c = rw (stored c.args.self.now.table _ _ c.deref_mut.ensures.value c.take_leaf.auto.table)
+    (if_none c.take_leaf.result (λ same n. ap (λ (t : List PageUse). is_used (use_at t n)) same) (rw c.deref_mut.ensures.value at c.take_leaf.ensures.same))
+
+pub returns-clause-noted : goal.returns-clause-noted
+unfolding is_listed is_taken
+returns-clause-noted c = rw (stored c.args.self.now.table _ _ c.deref_mut.ensures.value c.take_leaf.auto.table)
+    (λ n free. ap (λ (u : PageUse). not (times_of u == 0)) ((rw c.deref_mut.ensures.value at c.take_leaf.ensures.outside) n free))

@@ -1,7 +1,17 @@
-use Rattle.std.proofs.Common.{arith, ◌∙◌, [], ◌∷◌, ◌++◌, List, None, ap, map, refl, sym, subst}
-use Rattle.bolt_recover.proofs.Words.{claims_file, claims_meta, claims_visited, GoesOn, is_claimed, loss_view, lost_state, OpenPage, State, state_of}
+use Rattle.std.proofs.Common.{arith, ◌+◌, ◌*◌, ◌<◌, ◌≤◌, ◌∙◌, [], ◌∷◌, ◌++◌, List, None, ℕ, ap, map, refl, sum_by, sym, subst}
+use Rattle.bolt_recover.proofs.Words.{ahead_weight, claims_file, claims_meta, claims_visited, Content, GoesOn, is_claimed, IsContent, loss_view, lost_state, Meta, OpenPage, page_weight, State, state_of, sum_by-append}
 use Rattle.bolt_recover.proofs.StepLemmas.{as_state, entered_lost, entered_page}
+use Rattle.bolt_check.specs.declared.visit.Spot.TheVariants as spots
+use Rattle.bolt_check.specs.declared.visit.Spot.{Spot}
+use Rattle.bolt_recover.specs.{Private.Frames.pages_in, Private.Frames.spot_weight, declared.content.Content.TheVariants.Bucket, declared.content.Content.TheVariants.Page}
 use Rattle.bolt_recover.proofs.steps.Steps.enter.Goals as goal
+
+-- an open page weighs no more than what led to it and the pages that it claims
+entered_weight : (file : List ℕ) (meta : Meta) (content : Content) (spot : Spot) (level count : ℕ) → IsContent file meta spot content → count < 65536
+    → page_weight (record { content = content; level = level; count = count; next = 0 }) ≤ pages_in content * 4295163904 + spot_weight spot
+entered_weight file meta (Page page t) spot level count is few = omega arith
+entered_weight file meta (Bucket t) (spots.Bucket s) level count is few = omega arith
+entered_weight file meta (Bucket t) (spots.Page s) level count is few = absurd (let same = is.spot in cc)
 
 pub returns-in-Err-clause-on : goal.returns-in-Err-clause-on
 returns-in-Err-clause-on c =
@@ -29,3 +39,13 @@ returns-clause-on c =
     (sym (c.push_reserved.ensures.items ∙ ap (λ (ps : List OpenPage). ps ++ record { content = c.in-Ok.content; level = c.in-Some.ahead.level; count = c.count.result; next = 0 } ∷ []) c.reserve.ensures.items))
     refl (sym (ap (map loss_view) c.reserve-2.ensures.items))
     (entered_page s c.in-Some.ahead c.in-Ok.content c.count.result (is_claimed c.visit.new.claims) (claims_visited c.visit.new.claims) c.requires c.in-Some.is c.in-Ok.ensures.passes c.in-Ok.ensures.content c.in-Ok.ensures.claims c.in-Ok.ensures.visited c.count.ensures (omega arith))
+
+pub returns-clause-weight : goal.returns-clause-weight
+returns-clause-weight c =
+    let old = c.args.self.now in
+    let page : OpenPage = record { content = c.in-Ok.content; level = c.in-Some.ahead.level; count = c.count.result; next = 0 } in
+    let pages = ap (sum_by page_weight) c.push_reserved.ensures.items ∙ sum_by-append page_weight c.reserve.new.self.items (page ∷ []) in
+    let below = ap (sum_by page_weight) c.reserve.ensures.items in
+    let ahead = ap ahead_weight c.in-Some.is in
+    let weight = entered_weight (claims_file old.claims) (claims_meta old.claims) c.in-Ok.content c.in-Some.ahead.spot page.level page.count c.in-Ok.ensures.content (omega arith) in
+    omega (arith, pages, below, ahead, weight, c.in-Ok.ensures.fewer)

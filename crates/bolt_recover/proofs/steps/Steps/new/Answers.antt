@@ -28,3 +28,6 @@ returns-clause-all c =
 
 pub returns-clause-root : goal.returns-clause-root
 returns-clause-root c = root_gives c.args.claims None c.requires (rw (c.root_of-root.ensures, c.meta.ensures) at c.in_ok-content.ensures.passes)
+
+pub returns-clause-more : goal.returns-clause-more
+returns-clause-more c = rw (c.push_reserved.ensures.items, c.reserve.ensures.items, c.new-open.ensures.items) refl

@@ -30,3 +30,6 @@ returns-clause-all c =
     (subst₂ (λ (f : List ℕ) (m : Meta). IsAllLeft f m begun s) c.restart.ensures.file c.restart.ensures.meta
     (begins (claims_file claims) (claims_meta claims) (is_claimed claims) (is_claimed new) begun (claims_visited new) c.in-Ok.content c.count.result
     (of_metas (is_claimed claims) c.restart.ensures.metas) visit.passes visit.content visit.claims (rw c.restart.ensures.visited at visit.visited) c.count.ensures (omega arith)))
+
+pub returns-clause-more : goal.returns-clause-more
+returns-clause-more c = rw (c.push_reserved.ensures.items, c.clear.ensures.items) refl

@@ -1,0 +1,18 @@
+use Rattle.std.proofs.Common.{◌≡◌, ◌∙◌, ℕ, arith, sym}
+use Rattle.bolt_check.proofs.Words.{first_use, use_at}
+use Rattle.bolt_check.proofs.TableLemmas.{first_claimed, first_noted, first_unlisted, starts}
+use Rattle.bolt_check.proofs.table.new_table.Goals as goal
+use Rattle.bolt_check.proofs.table.new_table.Goals.{After-loop-n}
+
+-- each page is used as it is from the start
+begun : (c : After-loop-n) (n : ℕ) → use_at c.loop-n.table.items n ≡ first_use n
+begun c = starts c.loop-n.table.items c.loop-n.n c.loop-n.invariant.metas c.loop-n.invariant.others (omega arith) (omega arith)
+
+pub returns-clause-metas : goal.returns-clause-metas
+returns-clause-metas c = λ n. rw (begun c n) (first_claimed n)
+
+pub returns-clause-uses : goal.returns-clause-uses
+returns-clause-uses c = λ n u noted. first_noted n u (sym (begun c n) ∙ noted.0) noted.1
+
+pub returns-clause-unlisted : goal.returns-clause-unlisted
+returns-clause-unlisted c = λ n. rw (begun c n) (first_unlisted n)
