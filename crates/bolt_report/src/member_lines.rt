@@ -69,12 +69,12 @@ impl MemberLines {
         ensures written { Wrote S.Sink sink.old sink.new (list_line (lines_form self.old) (path_of path.now, item_view item.now)) (report_ending result) }
         ensures fault { IfErr result (λ fault. (fault ≡ ReportFault.Sink) ⊎ ((fault ≡ ReportFault.NoMemory) × (lines_form self.old ≡ ListForm.Json))) }
     {
-        match &mut self.writer {
-            LineWriter::Hex => put_member(path, item, sink)?,
-            LineWriter::Json(json) => put(json.line(path, item)?, sink)?,
-            LineWriter::JsonHex => put_hex_json(path, item, sink)?,
-        }
-        Ok(())
+        let written = match &mut self.writer {
+            LineWriter::Hex => put_member(path, item, sink),
+            LineWriter::Json(json) => put(json.line(path, item)?, sink),
+            LineWriter::JsonHex => put_hex_json(path, item, sink),
+        };
+        Ok(written?)
     }
 }
 
