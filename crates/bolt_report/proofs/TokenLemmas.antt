@@ -51,6 +51,3 @@ part_more path i part old mid new found before one =
     let f : Bor (List ℕ) → List Token = λ p. json_tokens (item_json p.now) in
     one ∙ ap (λ (ts : List Token). ts ++ f part) before ∙ append_assoc old (flat_map f (take i path)) (f part)
     ∙ ap (λ (ts : List Token). old ++ ts) (sym (ap (λ k. flat_map f (take k path)) (add-one i) ∙ flat_map-take_more f path i part found))
-
--- for the search
-pub ruleset tokens = (text_tokens, digits_tokens)

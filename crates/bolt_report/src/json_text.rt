@@ -64,7 +64,6 @@ impl JsonText {
 }
 
 /// Writes a key or a value.
-#[tactic(auto, using(crate::proofs::TokenLemmas::tokens))]
 fn write_item(writer: &mut Writer, bytes: &[u8], digits: &mut Vec<u8>) -> Result<(), NoMemory>
     ensures before { writer.new.before ≡ writer.old.before }
     ensures tokens { OnOk result (writer.new.tokens ≡ writer.old.tokens ++ json_tokens (item_json bytes.now)) }
