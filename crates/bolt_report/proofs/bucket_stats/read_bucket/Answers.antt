@@ -84,14 +84,6 @@ pages-smaller c =
 pub returns-clause-good : goal.returns-clause-good
 returns-clause-good c = rw (none_left c.in_default.ensures.cases.0 c.in_default.ensures.rest c.in_default.ensures.items) at c.pages.invariant.good
 
-pub returns-clause-fewer : goal.returns-clause-fewer
-returns-clause-fewer c =
-    let fewer = rw (none_left c.in_default.ensures.cases.0 c.in_default.ensures.rest c.in_default.ensures.items) at c.pages.invariant.fewer in
-    elim fewer [
-      | inl none ↦ absurd (let root = none.0 in cc)
-      | inr less ↦ omega (arith, less)
-    ]
-
 pub returns-clause-stats : goal.returns-clause-stats
 returns-clause-stats c = λ f.
     let whole = rw (none_left c.in_default.ensures.cases.0 c.in_default.ensures.rest c.in_default.ensures.items) at (c.pages.invariant.stats f) in
