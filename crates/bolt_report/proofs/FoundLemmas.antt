@@ -2,24 +2,17 @@
 use Rattle.std.proofs.Common.{◌≡◌, length, subst, sym, ◌≢◌, ◌∙◌, ◌+◌, ◌<◌, ℕ, Bool, true, false, List, [], ◌∷◌, Some, ap, arith, refl, slice_get, take}
 use Rattle.std.proofs.lemmas.List.FromFn.{length-map-range_with_len}
 use Rattle.bolt_report.proofs.Words.{bucket_count, LeafElement, shown}
-use Rattle.bolt_format.specs.Elements.{branch_element, branch_elements, leaf_element, leaf_elements}
-use Rattle.bolt_format.specs.Pages.{shown_branches, shown_leaves}
+use Rattle.bolt_format.specs.Elements.{leaf_element, leaf_elements}
+use Rattle.bolt_format.specs.Pages.{shown_leaves}
 use Rattle.bolt_format.specs.declared.header.Kind.TheVariants as kind
 use Rattle.bolt_format.specs.declared.good_page.Page.{Page}
 use Rattle.std.specs.Prelude.{cond}
 use Rattle.std.proofs.lemmas.List.Filters.{length-filter_more}
 use Rattle.std.proofs.lemmas.Option.{get_or_from_slice_get, slice_get_within}
 
-pub length-branches : (page : Page) → (shown page).kind ≡ kind.Branch → length (shown page).branches ≡ (shown page).count
-unfolding shown branch_elements
-length-branches page is = subst (λ k. length (shown_branches k page.count page.span.now) ≡ page.count) (sym is) (length-map-range_with_len (branch_element page.span.now) 0 page.count)
-
-pub length-leaves : (page : Page) → (shown page).kind ≡ kind.Leaf → length (shown page).leaves ≡ (shown page).count
+length-leaves : (page : Page) → (shown page).kind ≡ kind.Leaf → length (shown page).leaves ≡ (shown page).count
 unfolding shown leaf_elements
 length-leaves page is = subst (λ k. length (shown_leaves k page.count page.span.now) ≡ page.count) (sym is) (length-map-range_with_len (leaf_element page.span.now) 0 page.count)
-
--- for the search
-pub ruleset lengths = (length-branches, length-leaves)
 
 module _ (elements : List LeafElement) (i : ℕ) (e : LeafElement) (found : slice_get elements i ≡ Some e) where
   counted : (is : Bool) → e.is_bucket ≡ is → bucket_count (take (i + 1) elements) ≡ bucket_count (take i elements) + cond is 1 0

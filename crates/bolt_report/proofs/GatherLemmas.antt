@@ -1,6 +1,6 @@
 -- One text after another, gathered.
 use Rattle.std.proofs.Common.{◌≡◌, ◌∙◌, ◌+◌, ℕ, suc, List, [], ◌∷◌, ◌++◌, Bor, Some, Result, add-one, ap, append_assoc, append-nil, drop, flat_map, refl, slice_get, sym, take}
-use Rattle.bolt_report.proofs.Words.{broken, ending, flat_map-take_more, Gathers, Ghosts, IsErr, later_parts, part_text, path_of, path_text, separator, SinkFault, whole, Wrote, Wrote-none, Wrote-return, Wrote-same, Wrote-then}
+use Rattle.bolt_report.proofs.Words.{broken, ending, flat_map-take_more, Gathers, Ghosts, IsErr, later_parts, part_text, path_of, path_text, separator, SinkFault, whole, Wrote, Wrote-return, Wrote-same, Wrote-then}
 use Rattle.bolt_format.specs.Endings.{Ending, cut, halted}
 use Rattle.bolt_report.specs.{Gathers.left_held, declared.pieces.PathForm.PathForm}
 use Rattle.bolt_format.proofs.{ListLemmas.flat_map-cut_at, WroteLemmas.broken_by}
@@ -15,10 +15,6 @@ fault_held : {B : Type 0} (result : Result B SinkFault) (holds : List ℕ) → I
 fault_held result holds err = ap (λ end. left_held end holds) (sym (broken_by result err))
 
 module _ {S : Type 0} {sink : Ghosts S} where
-  -- there is no text
-  pub Gathers-none : (old : S) (held : List ℕ) → Gathers sink old old held held [] whole
-  Gathers-none old held = record { front = []; parts = append-nil held; wrote = Wrote-none old }
-
   -- the same text in other words
   pub Gathers-same : {old new : S} {held holds text same : List ℕ} {end : Ending} → text ≡ same → Gathers sink old new held holds text end → Gathers sink old new held holds same end
   Gathers-same {held} e a = record { front = a.front; parts = ap (λ l. held ++ l) (sym e) ∙ a.parts; wrote = a.wrote }
@@ -82,6 +78,3 @@ module _ {S : Type 0} {sink : Ghosts S} where
 pub path_parts : (form : PathForm) (first : Bor (List ℕ)) (rest : List (Bor (List ℕ))) → part_text form first.now ++ later_parts form rest ≡ path_text form (path_of (first ∷ rest))
 path_parts form first [] = append-nil (part_text form first.now)
 path_parts form first (next ∷ rest) = ap (λ (text : List ℕ). part_text form first.now ++ (separator form ∷ text)) (path_parts form next rest)
-
--- for the search
-pub ruleset gathers = (Gathers-none, Gathers-then, Gathers-return, Gathers-put, Gathers-fault)

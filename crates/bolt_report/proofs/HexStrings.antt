@@ -3,7 +3,7 @@ use Rattle.std.proofs.Common.{◌≡◌, ◌∙◌, ℕ, ◌+◌, ◌-◌, ◌*�
 use Rattle.std.proofs.lemmas.List.{take_rest}
 use Rattle.std.proofs.lemmas.List.FromFn.{get_or-map-range_with_len}
 use Rattle.std.proofs.lemmas.Bool.{eqb-false, leb-true, not-true}
-use Rattle.bolt_report.proofs.Words.{AllPass-from_list_all, and_parts, decimal, digits_json, encode_lower, end_json, escape_byte, front_more, front_none, IsBytes, items_tokens, json_line, line, list_all, lower_digits, parts_json, Path, path_text, print_from, range_with_len, Token, Value}
+use Rattle.bolt_report.proofs.Words.{AllPass-from_list_all, and_parts, decimal, digits_json, encode_lower, end_json, escape_byte, IsBytes, items_tokens, json_line, line, list_all, lower_digits, parts_json, Path, path_text, print_from, range_with_len, Token, Value}
 use Rattle.std.specs.Prelude.{slice_index}
 use Rattle.std.specs.Int.{to_le_bytes}
 use Rattle.hex.specs.Hex.{encode_with}
@@ -26,9 +26,6 @@ next_digits rest k =
 pub no_digits : (rest : List ℕ) → rest ≡ [] → encode_lower rest ≡ []
 unfolding encode_with
 no_digits rest none = ap encode_lower none
-
--- for the search
-pub ruleset digits = (front_none, front_more, next_digits)
 
 -- ---- both digits of a byte in one number
 

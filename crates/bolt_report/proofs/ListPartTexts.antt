@@ -1,13 +1,13 @@
 -- The text of the part of a listing below a path, or from a bucket on, member by member.
 -- The members are read once, in order: what begins with the path comes after the bucket at that path, if there is one.
-use Rattle.std.proofs.Common.{◌≡◌, ◌↔◌, List, subst, sym, ◌∙◌, ◌++◌, ◌∷◌, [], Bool, true, ap, refl, cond, ◌&&◌, ◌||◌, false, not, inl, inr}
+use Rattle.std.proofs.Common.{◌≡◌, ◌↔◌, List, subst, sym, ◌∙◌, ◌++◌, ◌∷◌, [], Bool, true, ap, refl, ◌&&◌, ◌||◌, false, not, inl, inr}
 use Rattle.std.proofs.lemmas.List.Sums.{take_while-cons}
 use Rattle.std.proofs.Math.Bool.{or_assoc}
 use Rattle.std.proofs.lemmas.Bool.{cond-false, or_cases}
 use Rattle.std.proofs.lemmas.Slice.Eq.{bytes_eq-Decides, slice_eq-Decides}
 use Rattle.bolt_report.proofs.Words.{and_parts, begins_with, bytes_eq, bytes_of, Checked, cond-true, Contains, contains_head, contains_tail, is_bucket_at, list_any, list_line, ListForm, listing_lines, Member, member_cmp, meta_of, not_true, Path, pointwise, rest_from, Rises, take_while}
 use Rattle.bolt_tree.specs.{Listing.IsListing, ListingParts.is_bucket, ListingParts.part_below, Paths.path_cmp}
-use Rattle.bolt_tree.proofs.PartLemmas.{begins_by, begins_after}
+use Rattle.bolt_tree.proofs.PartLemmas.{begins_after}
 use Rattle.std.specs.Prelude.{if◌then◌else◌}
 use Rattle.std.specs.Ordering.{is_lt}
 use Rattle.std.specs.declared.cmp.Ordering.TheVariants.{Less}
@@ -29,13 +29,6 @@ module _ (below : Path) where
   front_text form old new m given begins =
       ap (λ (ms : List Member). listing_lines form (front ms)) given
       ∙ ap (listing_lines form) (take_while-cons (λ (x : Member). begins_with below x.0) m new ∙ cond-true _ _ _ begins)
-
--- all members begin with the empty path
-pub front_of_root : (members : List Member) → front [] members ≡ members
-front_of_root [] = refl
-front_of_root (m ∷ members) =
-    take_while-cons (λ (x : Member). begins_with [] x.0) m members ∙ ap (λ (b : Bool). cond b (m ∷ front [] members) []) (begins_by [] m.0 m.0 refl)
-    ∙ ap (λ (ms : List Member). m ∷ ms) (front_of_root members)
 
 module _ (below : Path) where
   -- the part of what is left, if the bucket was found or is among it

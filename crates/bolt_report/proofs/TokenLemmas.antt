@@ -6,7 +6,7 @@ use Rattle.std.proofs.lemmas.Str.{IsUtf8-from_ascii, IsUtf8-from_is_utf8}
 use Rattle.std.proofs.lemmas.Str.Ascii.{IsAscii-from_all}
 use Rattle.std.specs.Prelude.{IsOk, MatchResult}
 use Rattle.std.specs.Str.{IsAscii, IsUtf8}
-use Rattle.bolt_report.proofs.Words.{AllPass-from_list_all, encode_lower, end_object, flat_map-take_more, is_utf8, is_utf8-from_IsUtf8, item_json, items_tokens, json_tokens, lower_digits, parts_json, path_of, slice_get-get_or, Token}
+use Rattle.bolt_report.proofs.Words.{AllPass-from_list_all, encode_lower, end_object, flat_map-take_more, is_utf8, is_utf8-from_IsUtf8, item_json, items_tokens, json_tokens, lower_digits, parts_json, path_of, Token}
 use Rattle.hex.proofs.HexLemmas.{IsAscii-encode_with}
 use Rattle.json.specs.Token.{begin_object, end_array, key, string}
 
@@ -51,6 +51,3 @@ part_more path i part old mid new found before one =
     let f : Bor (List ℕ) → List Token = λ p. json_tokens (item_json p.now) in
     one ∙ ap (λ (ts : List Token). ts ++ f part) before ∙ append_assoc old (flat_map f (take i path)) (f part)
     ∙ ap (λ (ts : List Token). old ++ ts) (sym (ap (λ k. flat_map f (take k path)) (add-one i) ∙ flat_map-take_more f path i part found))
-
--- for the search
-pub ruleset tokens = (text_tokens, digits_tokens, part_more, slice_get-get_or)

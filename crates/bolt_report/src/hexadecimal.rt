@@ -33,7 +33,6 @@ fn put_long_hex<S: Sink>(bytes: &[u8], sink: &mut S) -> Result<(), SinkFault>
 }
 
 /// Writes bytes in hexadecimal, as many at a time as the buffer has room for.
-#[tactic(auto, using(crate::proofs::HexStrings::digits))]
 fn put_hex_parts<S: Sink>(bytes: &[u8], buffer: &mut [u8], sink: &mut S) -> Result<(), SinkFault>
     requires { 2 ≤ length buffer.old }
     ensures { Wrote S.Sink sink.old sink.new (encode_lower bytes.now) (ending result) }

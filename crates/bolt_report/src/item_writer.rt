@@ -39,7 +39,6 @@ impl ItemWriter {
     }
 
     /// Writes a key or a value, and a line feed.
-    #[tactic(auto, using(crate::proofs::ReportLemmas::reports))]
     pub(crate) fn put_line<S: Sink>(
         &mut self,
         bytes: &[u8],
@@ -60,16 +59,16 @@ impl ItemWriter {
         ensures written { Wrote S.Sink sink.old sink.new (item_text self.old.form bytes.now) (report_ending result) }
         ensures fault { IfErr result (λ fault. (fault ≡ ReportFault.Sink) ⊎ ((fault ≡ ReportFault.NoMemory) × (self.old.form ≡ Form.Json))) }
     {
-        match self.form {
-            Form::Printable => put_or_hex(bytes, can_be_printed(bytes), sink)?,
-            Form::Hex => put_hex(bytes, sink)?,
-            Form::Bytes => put(bytes, sink)?,
-            Form::Text => put_or_hex(bytes, is_text(bytes), sink)?,
-            Form::Mixed => put_mixed(bytes, sink)?,
-            Form::Json => put(self.json.item(bytes)?, sink)?,
-            Form::JsonHex => put_hex_string(bytes, sink)?,
-        }
-        Ok(())
+        let written = match self.form {
+            Form::Printable => put_or_hex(bytes, can_be_printed(bytes), sink),
+            Form::Hex => put_hex(bytes, sink),
+            Form::Bytes => put(bytes, sink),
+            Form::Text => put_or_hex(bytes, is_text(bytes), sink),
+            Form::Mixed => put_mixed(bytes, sink),
+            Form::Json => put(self.json.item(bytes)?, sink),
+            Form::JsonHex => put_hex_string(bytes, sink),
+        };
+        Ok(written?)
     }
 }
 

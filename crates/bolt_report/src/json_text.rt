@@ -64,7 +64,6 @@ impl JsonText {
 }
 
 /// Writes a key or a value.
-#[tactic(auto, using(crate::proofs::TokenLemmas::tokens))]
 fn write_item(writer: &mut Writer, bytes: &[u8], digits: &mut Vec<u8>) -> Result<(), NoMemory>
     ensures before { writer.new.before ≡ writer.old.before }
     ensures tokens { OnOk result (writer.new.tokens ≡ writer.old.tokens ++ json_tokens (item_json bytes.now)) }
@@ -125,7 +124,6 @@ fn write_path(writer: &mut Writer, path: &[&[u8]], digits: &mut Vec<u8>) -> Resu
 }
 
 /// Writes the parts of a path.
-#[tactic(auto, using(crate::proofs::TokenLemmas::tokens))]
 fn write_parts(writer: &mut Writer, path: &[&[u8]], digits: &mut Vec<u8>) -> Result<(), NoMemory>
     ensures before { writer.new.before ≡ writer.old.before }
     ensures tokens { OnOk result (writer.new.tokens ≡ writer.old.tokens ++ flat_map (λ part. json_tokens (item_json part.now)) path.now) }

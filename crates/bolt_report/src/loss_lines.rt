@@ -126,7 +126,6 @@ pub fn lost_text<S: Sink>(
 /// # Errors
 ///
 /// `SinkFault` if the sink failed. It has then accepted a prefix of the text.
-#[tactic(auto, using(bolt_format::proofs::WroteLemmas::wrote))]
 pub fn counted_lost_text<S: Sink>(
     lost: Lost<'_>,
     found: &[Found<'_>],

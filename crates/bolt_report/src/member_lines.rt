@@ -8,11 +8,11 @@ ghost use Rattle.bolt_tree.specs.{Paths.path_of, ShownEntries.item_view, FileLis
 use crate::fault::ReportFault;
 use crate::form::ListForm;
 use crate::json_text::JsonText;
-use crate::part_lines::put_part;
+use crate::part_lines::list_part;
 use crate::pieces::{PathForm, Piece, put, put_pieces};
 use bolt_check::Checked;
 use bolt_format::{Sink, SinkFault};
-use bolt_tree::{Item, Walk};
+use bolt_tree::Item;
 use std::alloc::Global;
 
 /// Writes lines of members in a form. Only `Json` needs memory, which is kept from line to line.
@@ -42,15 +42,6 @@ impl MemberLines {
         MemberLines { writer }
     }
 
-    /// Lines in hexadecimal.
-    pub fn hex() -> MemberLines
-        ensures { lines_form result ≡ ListForm.Hex }
-    {
-        MemberLines {
-            writer: LineWriter::Hex,
-        }
-    }
-
     /// Writes the line of a member: its path, and then its value or the sequence of its bucket
     /// (docs/COMMANDS.md, "What is printed"). The form stays.
     ///
@@ -69,12 +60,12 @@ impl MemberLines {
         ensures written { Wrote S.Sink sink.old sink.new (list_line (lines_form self.old) (path_of path.now, item_view item.now)) (report_ending result) }
         ensures fault { IfErr result (λ fault. (fault ≡ ReportFault.Sink) ⊎ ((fault ≡ ReportFault.NoMemory) × (lines_form self.old ≡ ListForm.Json))) }
     {
-        match &mut self.writer {
-            LineWriter::Hex => put_member(path, item, sink)?,
-            LineWriter::Json(json) => put(json.line(path, item)?, sink)?,
-            LineWriter::JsonHex => put_hex_json(path, item, sink)?,
-        }
-        Ok(())
+        let written = match &mut self.writer {
+            LineWriter::Hex => put_member(path, item, sink),
+            LineWriter::Json(json) => put(json.line(path, item)?, sink),
+            LineWriter::JsonHex => put_hex_json(path, item, sink),
+        };
+        Ok(written?)
     }
 }
 
@@ -128,8 +119,7 @@ pub fn list<S: Sink>(
     ensures written { ForListing checked.entry (λ listing. Wrote S.Sink sink.old sink.new (rest_text from.now listing) (report_ending result)) }
     ensures fault { IfErr result (λ fault. (fault ≡ ReportFault.Sink) ⊎ (fault ≡ ReportFault.NoMemory)) }
 {
-    let mut walk = Walk::from(alloc, checked, from)?;
-    put_part(&mut walk, &[], &mut MemberLines::hex(), sink)
+    list_part(alloc, checked, &[], from, ListForm::Hex, sink)
 }
 
 /// Writes the line of a member at a path.

@@ -67,7 +67,6 @@ fn find<'a>(file: &'a [u8], meta: &Meta, id: u64) -> Result<PageWithIds<'a>, Pag
     }
 }
 
-#[tactic(auto, using(bolt_format::proofs::WroteLemmas::wrote))]
 fn put_page<S: Sink>(
     id: u64,
     page: &Page<'_>,
@@ -146,7 +145,6 @@ fn put_items<S: Sink>(
 }
 
 /// Writes a line for each element of a branch page.
-#[tactic(auto, using(crate::proofs::ReportLemmas::elements, crate::proofs::FoundLemmas::lengths))]
 fn put_branches<S: Sink>(page: &Page<'_>, sink: &mut S) -> Result<(), SinkFault>
     requires { (shown page.now).kind ≡ Kind.Branch }
     ensures { Wrote S.Sink sink.old sink.new (flat_map branch_line (shown page.now).branches) (ending result) }
@@ -158,7 +156,6 @@ fn put_branches<S: Sink>(page: &Page<'_>, sink: &mut S) -> Result<(), SinkFault>
 }
 
 /// Writes a line for each element of a leaf page.
-#[tactic(auto, using(crate::proofs::ReportLemmas::elements, crate::proofs::FoundLemmas::lengths))]
 fn put_leaves<S: Sink>(page: &Page<'_>, sink: &mut S) -> Result<(), SinkFault>
     requires { (shown page.now).kind ≡ Kind.Leaf }
     ensures { Wrote S.Sink sink.old sink.new (flat_map leaf_line (shown page.now).leaves) (ending result) }
@@ -170,7 +167,6 @@ fn put_leaves<S: Sink>(page: &Page<'_>, sink: &mut S) -> Result<(), SinkFault>
 }
 
 /// Writes a line for each id of a freelist.
-#[tactic(auto, using(crate::proofs::ReportLemmas::elements))]
 fn put_ids<S: Sink>(ids: &FreeIds<'_>, sink: &mut S) -> Result<(), SinkFault>
     ensures { Wrote S.Sink sink.old sink.new (flat_map id_line (shown_ids ids.now)) (ending result) }
 {

@@ -144,7 +144,6 @@ fn inner_stats(page: &Page<'_>) -> Stats
 }
 
 /// The figures of a leaf with the inline buckets in it.
-#[tactic(auto, using(crate::proofs::FigureLemmas::sums))]
 fn leaf_stats(page: &Page<'_>, page_size: u32) -> Stats
     requires { (shown page.now).kind ≡ Kind.Leaf }
     ensures { (f : Figure) → figure f result ≡ capped (leaf_figure f page_size (shown page.now) + sum_by (element_figure f) (shown page.now).leaves) }

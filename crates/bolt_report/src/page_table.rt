@@ -18,7 +18,6 @@ use std::alloc::Global;
 ///
 /// `Sink` if the sink failed; `NoMemory` if memory ran out for the roles of the pages, and the sink
 /// had not failed. The sink has then accepted a prefix of the text. There is no other error.
-#[tactic(auto, using(crate::proofs::ReportLemmas::reports))]
 pub fn pages<S: Sink>(alloc: Global, checked: Checked<'_>, sink: &mut S) -> Result<(), ReportFault>
     requires { has_accounts checked ≡ true }
     ensures written { ForRoles checked.entry (λ roles. Wrote S.Sink sink.old sink.new (table_text checked.entry roles) (report_ending result)) }
@@ -147,7 +146,6 @@ fn put_head<S: Sink>(sink: &mut S) -> Result<(), SinkFault>
 }
 
 /// Writes the row of a page that has items. An overflow of 0 is left out.
-#[tactic(auto, unfolding(crate::specs::PageTables::row))]
 fn put_items_row<S: Sink>(
     id: u64,
     kind: &[u8],
@@ -183,7 +181,6 @@ fn overflow_column(overflow: u32) -> Piece<'static>
 }
 
 /// Writes the row of a free page.
-#[tactic(auto, unfolding(crate::specs::PageTables::row))]
 fn put_free_row<S: Sink>(id: u64, sink: &mut S) -> Result<(), SinkFault>
     ensures { Wrote S.Sink sink.old sink.new (row (decimal id) (codes "free") [] []) (ending result) }
 {

@@ -68,7 +68,7 @@ pub fn list_members_part<'a, M: Members<'a>, S: Sink>(
 
 /// Writes a line for each member that is left, up to the first whose path doesn't begin with
 /// `below`.
-pub(crate) fn put_part<'a, M: Members<'a>, S: Sink>(
+fn put_part<'a, M: Members<'a>, S: Sink>(
     members: &mut M,
     below: &[&[u8]],
     lines: &mut MemberLines,

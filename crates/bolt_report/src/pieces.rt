@@ -76,9 +76,7 @@ fn add_piece<S: Sink>(piece: &Piece<'_>, held: &mut Held, sink: &mut S) -> Resul
         Piece::Field(name, n) => add_field(name, *n, held, sink),
         Piece::Figure(name, n) => add_figure(name, *n, held, sink),
         Piece::Column(text, width) => add_column(text, *width, held, sink),
-        Piece::NumberColumn(n, width) => {
-            add_column(Buffer::new().format(*n).as_bytes(), *width, held, sink)
-        }
+        Piece::NumberColumn(n, width) => add_number_column(*n, *width, held, sink),
     }
 }
 
@@ -88,7 +86,6 @@ fn add_number<S: Sink>(n: u64, held: &mut Held, sink: &mut S) -> Result<(), Sink
     add_bytes(Buffer::new().format(n).as_bytes(), held, sink)
 }
 
-#[tactic(auto, using(crate::proofs::GatherLemmas::gathers))]
 fn add_field<S: Sink>(name: &[u8], n: u64, held: &mut Held, sink: &mut S) -> Result<(), SinkFault>
     ensures { Gathers S.Sink sink.old sink.new held.old.items held.new.items (name.now ++ decimal n) (ending result) }
 {
@@ -96,7 +93,6 @@ fn add_field<S: Sink>(name: &[u8], n: u64, held: &mut Held, sink: &mut S) -> Res
     add_number(n, held, sink)
 }
 
-#[tactic(auto, using(crate::proofs::GatherLemmas::gathers), unfolding(crate::specs::Lines::figure_line))]
 fn add_figure<S: Sink>(name: &[u8], n: u64, held: &mut Held, sink: &mut S) -> Result<(), SinkFault>
     ensures { Gathers S.Sink sink.old sink.new held.old.items held.new.items (figure_line name.now n) (ending result) }
 {
@@ -106,7 +102,6 @@ fn add_figure<S: Sink>(name: &[u8], n: u64, held: &mut Held, sink: &mut S) -> Re
     add_bytes(b"\n", held, sink)
 }
 
-#[tactic(auto, using(crate::proofs::GatherLemmas::gathers), unfolding(crate::specs::Lines::column))]
 fn add_column<S: Sink>(
     text: &[u8],
     width: usize,
@@ -119,6 +114,17 @@ fn add_column<S: Sink>(
     add_spaces(width.saturating_sub(text.len()), held, sink)
 }
 
+fn add_number_column<S: Sink>(
+    n: u64,
+    width: usize,
+    held: &mut Held,
+    sink: &mut S,
+) -> Result<(), SinkFault>
+    ensures { Gathers S.Sink sink.old sink.new held.old.items held.new.items (column width (decimal n)) (ending result) }
+{
+    add_column(Buffer::new().format(n).as_bytes(), width, held, sink)
+}
+
 fn add_spaces<S: Sink>(count: usize, held: &mut Held, sink: &mut S) -> Result<(), SinkFault>
     ensures { Gathers S.Sink sink.old sink.new held.old.items held.new.items (replicate count 0x20) (ending result) }
 {
@@ -128,7 +134,6 @@ fn add_spaces<S: Sink>(count: usize, held: &mut Held, sink: &mut S) -> Result<()
     Ok(())
 }
 
-#[tactic(auto, using(crate::proofs::GatherLemmas::gathers))]
 fn add_path<S: Sink>(
     parts: &[&[u8]],
     form: PathForm,
@@ -204,7 +209,6 @@ fn add_hex_string<S: Sink>(bytes: &[u8], held: &mut Held, sink: &mut S) -> Resul
 }
 
 /// Adds bytes in hexadecimal; long ones are written part by part, and not held.
-#[tactic(auto, using(crate::proofs::GatherLemmas::gathers))]
 fn add_hex<S: Sink>(bytes: &[u8], held: &mut Held, sink: &mut S) -> Result<(), SinkFault>
     ensures { Gathers S.Sink sink.old sink.new held.old.items held.new.items (encode_lower bytes.now) (ending result) }
 {
@@ -228,7 +232,6 @@ fn add_bytes<S: Sink>(bytes: &[u8], held: &mut Held, sink: &mut S) -> Result<(),
     }
 }
 
-#[tactic(auto, using(crate::proofs::GatherLemmas::gathers))]
 fn add_after_put<S: Sink>(bytes: &[u8], held: &mut Held, sink: &mut S) -> Result<(), SinkFault>
     ensures { Gathers S.Sink sink.old sink.new held.old.items held.new.items bytes.now (ending result) }
 {

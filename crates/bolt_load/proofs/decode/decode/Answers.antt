@@ -1,8 +1,14 @@
 -- The text up to a line that is wrong has the lines before it.
-use Rattle.std.proofs.Common.{◌∙◌, ℕ, List, [], sym, subst}
+use Rattle.std.proofs.Common.{◌≡◌, ◌∙◌, ℕ, List, [], None, Option, Some, sym, subst, true}
+use Rattle.std.specs.Prelude.{IfNone}
 use Rattle.bolt_load.proofs.DecodedLines.{HasDecoded, all_decoded, all_shaped, front_decoded, front_shaped, head_is, line_decoded, none_decoded, stops}
-use Rattle.bolt_load.proofs.PathLemmas.{is_none}
+use Rattle.bolt_load.proofs.{PathLemmas.is_none, Words.is_some}
 use Rattle.bolt_load.proofs.decode.decode.Goals as goal
+
+-- what is said of no fault is said of none
+if_some : {A : Type 0} (P : Type 0) (fault : Option A) → is_some fault ≡ true → IfNone fault P
+if_some P None some = absurd (cc)
+if_some P (Some x) some = tt
 
 pub loop-line-init : goal.loop-line-init
 loop-line-init c = subst (λ (bytes : List ℕ). HasDecoded c.args.text.now c.args.text.now bytes) (sym c.new-bytes.ensures.items) (none_decoded c.args.text.now)
@@ -33,3 +39,6 @@ returns-clause-decoded c = all_decoded c.args.text.now c.loop-line.rest.now c.lo
 
 pub returns-clause-shaped : goal.returns-clause-shaped
 returns-clause-shaped c = all_shaped c.args.text.now c.loop-line.rest.now c.loop-line.bytes.items [] c.loop-line.invariant c.in_default.ensures
+
+pub returns-then-is_some-clause-all : goal.returns-then-is_some-clause-all
+returns-then-is_some-clause-all c = if_some _ c.in_ok-fault.fault (sym c.if-is_some.ensures)

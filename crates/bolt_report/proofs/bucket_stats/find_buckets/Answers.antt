@@ -1,4 +1,5 @@
 use Rattle.std.proofs.Common.{◌≡◌, arith, max}
+use Rattle.std.proofs.lemmas.List.{take_all}
 use Rattle.bolt_report.proofs.{Words.leaf_view, Words.shown, ReadLemmas.inline_next, ReadLemmas.roots_next}
 use Rattle.bolt_report.proofs.bucket_stats.find_buckets.Goals as goal
 
@@ -12,3 +13,11 @@ loop-i-preserved c = record {
       inline_next c.loop-i.deepest c.max-deepest.result c.inline_depth.result (shown c.args.page.now).leaves c.loop-i.i (leaf_view c.leaf-leaf.result)
       c.inline_depth.ensures most c.leaf-leaf.ensures.element c.loop-i.invariant.depth;
 }
+
+pub returns-clause-roots : goal.returns-clause-roots
+returns-clause-roots c =
+    rw (take_all c.loop-i.i (shown c.args.page.now).leaves (omega (arith, c.count-i-end.ensures.leaves c.requires))) at c.loop-i.invariant.roots
+
+pub returns-clause-depth : goal.returns-clause-depth
+returns-clause-depth c =
+    rw (take_all c.loop-i.i (shown c.args.page.now).leaves (omega (arith, c.count-i-end.ensures.leaves c.requires))) at c.loop-i.invariant.depth

@@ -1,5 +1,5 @@
 use Rattle.std.proofs.Common.{◌≡◌, ◌∙◌, ◌∷◌, [], ℕ, List, ap, arith}
-use Rattle.bolt_report.proofs.Words.{bytes_of, figure, meta_of, node_at, own_figure, roots_of, Stats, UnreadBucket, weight, ∥∥₁_elim, ∥∥₁_map, ∥∥₁_prop}
+use Rattle.bolt_report.proofs.Words.{bytes_of, figure, meta_of, node_at, one, own_figure, roots_of, Stats, UnreadBucket, weight, ∥∥₁_elim, ∥∥₁_map, ∥∥₁_prop}
 use Rattle.bolt_report.proofs.{FigureLemmas.figure_add, ReadDepths.bucket_end, ReadDepths.read_end}
 use Rattle.bolt_report.proofs.ReadSums.{all_good, deepened, first_figure, first_fits, last_good, none_left, unread_popped, total_popped, zero_depth}
 use Rattle.bolt_report.proofs.bucket_stats.paged_stats.Goals as goal
@@ -56,6 +56,21 @@ buckets-preserved c =
           let whole = c.buckets.invariant.depth in
           omega (arith, added, step, whole);
     }
+
+pub buckets-smaller : goal.buckets-smaller
+buckets-smaller c =
+    let file : List ℕ = bytes_of c.args.checked.now in
+    let meta = meta_of c.args.checked.now in
+    let rest : List ℕ = roots_of c.pop.new.self.items in
+    let taken = unread_popped file meta c.buckets.buckets.items c.pop.new.self.items c.in-Some.bucket c.in-Some.ensures.items in
+    let sums = c.in_ok-add_buckets.ensures.sums (weight (node_at file meta) one meta.high_water) in
+    let before = total_popped file meta one (roots_of c.buckets.buckets.items) rest c.in-Some.bucket.root taken in
+    omega (arith, sums, before, c.in_ok-read.ensures.fewer)
+
+pub returns-clause-stats : goal.returns-clause-stats
+returns-clause-stats c = λ f.
+    let whole = rw (none_left c.in_default.ensures.cases.0 c.in_default.ensures.rest c.in_default.ensures.items) at (c.buckets.invariant.stats f) in
+    omega (arith, whole, c.buckets.invariant.fits f)
 
 pub returns-clause-depth : goal.returns-clause-depth
 returns-clause-depth c =

@@ -84,6 +84,11 @@ pages-smaller c =
 pub returns-clause-good : goal.returns-clause-good
 returns-clause-good c = rw (none_left c.in_default.ensures.cases.0 c.in_default.ensures.rest c.in_default.ensures.items) at c.pages.invariant.good
 
+pub returns-clause-stats : goal.returns-clause-stats
+returns-clause-stats c = λ f.
+    let whole = rw (none_left c.in_default.ensures.cases.0 c.in_default.ensures.rest c.in_default.ensures.items) at (c.pages.invariant.stats f) in
+    omega (arith, whole, c.pages.invariant.fits f)
+
 pub returns-clause-height : goal.returns-clause-height
 returns-clause-height c = let whole = rw (none_left c.in_default.ensures.cases.0 c.in_default.ensures.rest c.in_default.ensures.items) at c.pages.invariant.height in omega (arith, whole)
 

@@ -7,3 +7,6 @@ returns-in_err-put_lost g c = Wrote-return _ _ c.in_err-put_lost.ensures c.from_
 
 pub returns-in_err-put_all_found : goal.returns-in_err-put_all_found
 returns-in_err-put_all_found g c = Wrote-then c.in_ok-put_lost.ensures (Wrote-return _ _ c.in_err-put_all_found.ensures c.from_residual-in_err-put_all_found.ensures.0)
+
+pub returns : goal.returns
+returns g c = Wrote-then c.in_ok-put_lost.ensures (Wrote-then c.in_ok-put_all_found.ensures (rw c.count_of.ensures at c.put_count.ensures))

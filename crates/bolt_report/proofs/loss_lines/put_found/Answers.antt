@@ -1,5 +1,6 @@
 -- The pieces are those of the line.
-use Rattle.std.proofs.Common.{◌≡◌, ◌∙◌, ◌-◌, List, [], ℕ, Option, Some, ap, length, option_map, slice_get, sym, unwrap_or}
+use Rattle.std.proofs.Common.{◌≡◌, ◌∙◌, ◌-◌, List, [], ℕ, Option, Some, ap, arith, length, option_map, slice_get, sym, unwrap_or}
+use Rattle.bolt_report.proofs.FoundLemmas.{some_elements}
 use Rattle.bolt_report.proofs.Words.{bucket_count, found_line, leaf_view, LeafElement, shown}
 use Rattle.bolt_report.specs.FoundLines.{key_at}
 use Rattle.bolt_report.proofs.loss_lines.put_found.Goals as goal
@@ -7,6 +8,9 @@ use Rattle.bolt_report.proofs.loss_lines.put_found.Goals as goal
 -- the key of an element by its place
 key_of : (elements : List LeafElement) (i : ℕ) (e : LeafElement) → slice_get elements i ≡ Some e → e.key ≡ key_at elements i
 key_of elements i e found = sym (ap (λ (o : Option LeafElement). unwrap_or (option_map (λ (x : LeafElement). x.key) o) []) found)
+
+pub overflow_sub-count : goal.overflow_sub-count
+overflow_sub-count g c = let some = some_elements c.args.found.now.page.page c.requires.kind c.requires.some in omega (arith, some, c.count-count.ensures.count)
 
 pub returns : goal.returns
 unfolding found_line

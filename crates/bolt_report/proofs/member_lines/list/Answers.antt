@@ -1,12 +1,10 @@
--- All that is left begins with the empty path.
-use Rattle.std.proofs.Common.{◌∙◌, [], ap}
-use Rattle.bolt_report.proofs.Words.{left_of, ListForm, listing_lines, walk_checked, Wrote-same}
-use Rattle.bolt_report.proofs.ListPartTexts.{front, front_of_root, same_listing}
-use Rattle.bolt_report.specs.ListLines.{listing_text}
+-- The part below the empty path is all of a listing.
+use Rattle.std.proofs.Common.{List, ap}
+use Rattle.bolt_report.proofs.Words.{Member, Wrote-same}
+use Rattle.bolt_report.specs.ListLines.{rest_text}
+use Rattle.bolt_tree.proofs.PartLemmas.{part_of_root}
 use Rattle.bolt_report.proofs.member_lines.list.Goals as goal
 
 pub returns-clause-written : goal.returns-clause-written
 returns-clause-written g c = λ listing lists.
-    let here = same_listing (walk_checked c.in_ok-walk.walk) c.args.checked listing c.in_ok-walk.ensures.checked lists in
-    let left = left_of c.in_ok-walk.walk listing in
-    Wrote-same (ap (λ (form : ListForm). listing_lines form (front [] left)) c.hex.ensures ∙ ap listing_text (front_of_root left ∙ c.in_ok-walk.ensures.rest listing lists)) (c.put_part.ensures.written listing here)
+    Wrote-same (ap (λ (members : List Member). rest_text c.args.from.now members) (part_of_root listing)) (c.list_part.ensures.written listing lists)

@@ -1,9 +1,12 @@
 -- A walk from the later of the two paths comes to the part first.
 use Rattle.std.proofs.Common.{◌∙◌, ap, sym}
 use Rattle.bolt_report.proofs.Words.{left_of, ListForm, listing_lines, Path, path_of, rest_from, walk_checked, Wrote-same}
-use Rattle.bolt_report.proofs.ListPartTexts.{same_listing, front}
+use Rattle.bolt_report.proofs.{ListPartTexts.same_listing, ListPartTexts.front, ReportLemmas.Wrote-unbegun}
 use Rattle.bolt_tree.proofs.PartLemmas.{part_from_later}
 use Rattle.bolt_report.proofs.part_lines.list_part.Goals as goal
+
+pub returns-in_err-walk-clause-written : goal.returns-in_err-walk-clause-written
+returns-in_err-walk-clause-written g c = λ listing lists. Wrote-unbegun _ _ _ c.from_residual.ensures.1
 
 pub returns-clause-written : goal.returns-clause-written
 returns-clause-written g c = λ listing lists.

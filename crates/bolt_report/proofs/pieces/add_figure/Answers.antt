@@ -3,6 +3,10 @@ use Rattle.bolt_report.proofs.{Words.decimal, Words.line, GatherLemmas.Gathers-r
 use Rattle.bolt_report.specs.Lines.{figure_line}
 use Rattle.bolt_report.proofs.pieces.add_figure.Goals as goal
 
+pub returns-in_err-add_bytes : goal.returns-in_err-add_bytes
+unfolding figure_line
+returns-in_err-add_bytes g c = Gathers-return _ _ c.in_err-add_bytes.ensures c.from_residual.ensures.0
+
 pub returns-in_err-add_bytes-2 : goal.returns-in_err-add_bytes-2
 unfolding figure_line
 returns-in_err-add_bytes-2 g c =
