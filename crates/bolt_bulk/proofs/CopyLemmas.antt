@@ -8,7 +8,7 @@ use Rattle.bolt_layout.specs.{Laid.Placed, Layout.layout_mark, Layout.layout_of,
 use Rattle.bolt_bulk.specs.declared.fault.BulkFault.TheVariants as bulk
 use Rattle.bolt_bulk.specs.{BulkEndings.fault_ending, declared.fault.PlanFault.PlanFault}
 use Rattle.bolt_bulk.specs.declared.fault.PlanFault.TheVariants as planned
-use Rattle.bolt_layout.specs.declared.layout.Layout.{Layout}
+use Rattle.bolt_layout.specs.declared.Layout.{Layout}
 use Rattle.bolt_bulk.proofs.PutsLemmas.{Wrote-failed, Wrote-sound, proper_none, proper_same}
 use Rattle.bolt_format.proofs.SinkLemmas.{AppendsProperPrefix-first, AppendsProperPrefix-second}
 use Rattle.bolt_format.specs.{Wrote.Wrote, Endings.whole, Endings.cut, declared.sink.Sink.Ghosts}

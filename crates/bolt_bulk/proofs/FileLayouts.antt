@@ -7,7 +7,7 @@ use Rattle.std.specs.List.{AllByRecursion}
 use Rattle.bolt_format.specs.Metas.{IsPageSize}
 use Rattle.bolt_tree.specs.{Listing.Member, Tree.Tree, Tree.listing_of, Tree.tree_of}
 use Rattle.bolt_bulk.specs.{Compacting.too_many, Private.IsFitMember}
-use Rattle.bolt_layout.specs.{Copies.IsOfOneTree, Layout.layout_mark, declared.layout.Layout.TheVariants.Balanced, declared.layout.Layout.TheVariants.Plain}
+use Rattle.bolt_layout.specs.{Copies.IsOfOneTree, Layout.layout_mark, declared.Layout.TheVariants.Balanced, declared.Layout.TheVariants.Plain}
 use Rattle.bolt_layout.specs.Items.{root_of}
 use Rattle.bolt_format.proofs.PageSizes.{size_bounds}
 use Rattle.bolt_bulk.proofs.PassEnds.{members_fit}

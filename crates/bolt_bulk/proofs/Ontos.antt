@@ -8,7 +8,7 @@ use Rattle.bolt_format.specs.Elements.{LeafElement}
 use Rattle.bolt_tree.specs.Tree.{Tree, end, with_bucket, with_value}
 use Rattle.bolt_layout.specs.{Cut.run_size, Items.holds_bucket, Items.is_inline, Items.items_of, Items.leaf_item}
 use Rattle.bolt_layout.specs.{Laid.Laid, Laid.elements_of, Laid.held_in, Laid.numbers_of, Laid.pages_of, Laid.size_of, PageBytes.leaf_data}
-use Rattle.bolt_layout.specs.declared.layout.Layout.{Layout}
+use Rattle.bolt_layout.specs.declared.Layout.{Layout}
 use Rattle.bolt_bulk.specs.Private.{entries_size, IsKeyedItem, onto}
 
 abbrev pub IsValue : LeafElement → Type 0

@@ -6,7 +6,7 @@ use Rattle.std.proofs.lemmas.List.Sums.{sum_by_push}
 use Rattle.bolt_format.specs.Elements.{BranchElement, LeafElement}
 use Rattle.bolt_layout.specs.{Cut.branch_cut, Cut.cut_from, Cut.joins, Laid.Laid, Laid.Placed, Laid.numbers_of, Laid.pages_of, Laid.size_of}
 use Rattle.bolt_layout.specs.Levels.{branch_page_view, leaf_page_view, page_over, root_over}
-use Rattle.bolt_layout.specs.{Limits.HaveRightLimits, Limits.cut_left, Limits.one_less, declared.layout.Layout.Layout}
+use Rattle.bolt_layout.specs.{Limits.HaveRightLimits, Limits.cut_left, Limits.one_less, declared.Layout.Layout}
 use Rattle.bolt_bulk.specs.Private.{bucket_limit, climb, climb_puts, close, close_puts, Comes, end_of, end_puts, has_room, IsOpen, IsSized, IsUnder, kept, key_size, Known, leaves_coming, making_room, next_number, nothing_open, numbers_in, Open, own_page, pages_put, pushed_on, pushing, put_in, room_puts, stays_open, taking, Upper}
 use Rattle.bolt_layout.proofs.Tops.{top_above}
 

@@ -4,7 +4,7 @@ use Rattle.bolt_format.specs.Elements.{LeafElement}
 use Rattle.bolt_tree.specs.Tree.{Tree, end, with_bucket, with_value}
 use Rattle.bolt_layout.specs.{Items.is_inline, Items.items_of, Items.root_of, Laid.numbers_of, Layout.layout_mark, Limits.limit_at, Limits.limits_from_ends}
 use Rattle.bolt_layout.specs.Openings.{row_ends_of, AreRight, AreFromEnds, leaf_pages, limits_for, opened_by, opened_in}
-use Rattle.bolt_layout.specs.{declared.layout.Layout.Layout, declared.layout.Layout.TheVariants.Plain}
+use Rattle.bolt_layout.specs.{declared.Layout.Layout, declared.Layout.TheVariants.Plain}
 use Rattle.bolt_layout.proofs.{OpenedBuckets.items_below, OpenedBuckets.leaves_few, PlainRows.plain_right, PlainRows.plain_rows}
 use Rattle.bolt_layout.proofs.LimitsFromEnds.{root_from_ends, from_ends_are}
 use Rattle.bolt_bulk.specs.Private.{AreComing, AreComingAround, capped, FitLimits, Frame, HasRoot, limit_in, limits_with, Notes, onto, Wanted}

@@ -11,8 +11,8 @@ use Rattle.bolt_tree.specs.{Entries.Item, Listing.Member, Paths.Path}
 use Rattle.bolt_tree.specs.Tree.{Tree, end, listing_below, listing_of, with_bucket, with_value}
 use Rattle.bolt_layout.specs.Laid.{Placed}
 use Rattle.bolt_layout.specs.Layout.{first_page, layout_held, layout_mark, layout_pages, layout_root, placed_bytes}
-use Rattle.bolt_layout.specs.{Storable.HasLengths, Openings.leaf_pages, Openings.opened_in, declared.layout.Layout.Layout}
-use Rattle.bolt_layout.specs.{declared.layout.Layout.TheVariants.Balanced, declared.layout.Layout.TheVariants.Plain, Items.items_of, Items.root_of}
+use Rattle.bolt_layout.specs.{Storable.HasLengths, Openings.leaf_pages, Openings.opened_in, declared.Layout.Layout}
+use Rattle.bolt_layout.specs.{declared.Layout.TheVariants.Balanced, declared.Layout.TheVariants.Plain, Items.items_of, Items.root_of}
 use Rattle.bolt_bulk.specs.Private.{AreComingAround, AreOpenRuns, bucket_end_next, bucket_runs, BucketEnds, BucketRunsView, capped, depth_of, end_of, Ends, FitLimits, Frame, HasLeft, HasNoted, held_so_far, IsAt, IsFitMember, IsOn, Known, last_part, Level, level_of, limit_in, limits_by, limits_with, no_leaves, nothing_open, Open, open_in, path_in, pending_depth, runs_end, runs_end_put, Steps, Wanted}
 use Rattle.bolt_bulk.specs.{declared.page_setup.PageSetup.PageSetup, declared.fault.BulkFault.BulkFault, declared.pass.Ended.Ended, declared.pass.Pass.Pass}
 use Rattle.bolt_bulk.specs.{declared.waiting_bucket.PendingBucket.PendingBucket, declared.limits.NotedLimits.NotedLimits}

@@ -8,7 +8,7 @@ use Rattle.bolt_format.specs.Elements.{BranchElement, LeafElement}
 use Rattle.bolt_tree.specs.Tree.{Tree, end}
 use Rattle.bolt_layout.specs.{Items.bucket_item, Items.items_of, Items.root_of, Items.leaf_item, Items.stored_bucket, Laid.Laid, Laid.Placed, Laid.size_of}
 use Rattle.bolt_layout.specs.{Levels.root_over, Limits.HaveRightLimits, Layout.first_page, Layout.layout_pages, Layout.layout_mark}
-use Rattle.bolt_layout.specs.{declared.layout.Layout.Layout, Cut.run_size, PageBytes.inline_value, PageBytes.leaf_data}
+use Rattle.bolt_layout.specs.{declared.Layout.Layout, Cut.run_size, PageBytes.inline_value, PageBytes.leaf_data}
 use Rattle.bolt_bulk.specs.Private.{all_put, base_in, bucket_limit, end_of, end_puts, Frame, HasBegun, held_item, IsOpen, IsPass, Known, leaves_coming, making_room, nothing_open, Open, pushing, room_puts, taking, AreOpenRuns, bucket_end_next, BucketRunsView, entries_size, frames_put, HasRoot, IsOn, onto, root_element, runs_end, runs_end_put, runs_push, runs_room, runs_room_put, runs_taking, StandsBefore}
 use Rattle.bolt_bulk.proofs.OpenRunLemmas.{ends, ends_put, opens, pushed_put, room_put, takes}
 use Rattle.bolt_bulk.proofs.Ontos.{IsValue, ends_inline, onto_items, value_items, values_elements, values_keyed, values_numbers, values_pages, values_size}

@@ -6,7 +6,7 @@ use Rattle.std.proofs.lemmas.List.{append-nil, length-append}
 use Rattle.bolt_format.specs.{Elements.BranchElement, Elements.LeafElement, Pages.PageView}
 use Rattle.bolt_layout.specs.{Cut.branch_cut, Cut.cut_from, Cut.join_last, Items.items_of, Laid.Laid, Laid.Placed, Laid.numbers_of, Laid.pages_of, Laid.size_of}
 use Rattle.bolt_layout.specs.{Levels.branch_page_view, Levels.leaf_page_view, Levels.next_level, Levels.page_over, Levels.top_in, Layout.first_page}
-use Rattle.bolt_layout.specs.{declared.layout.Layout.Layout, declared.layout.Layout.TheVariants.Plain, declared.layout.Layout.TheVariants.Balanced}
+use Rattle.bolt_layout.specs.{declared.Layout.Layout, declared.Layout.TheVariants.Plain, declared.Layout.TheVariants.Balanced}
 use Rattle.bolt_bulk.specs.Private.{all_put, base_in, bucket_limit, Comes, Frame, frames_put, held_item, IsOpen, IsPass, IsStack, next_number, numbers_in, Open, pages_put, pushing, put_in, Upper}
 use Rattle.bolt_layout.proofs.OverRows.{numbers-append}
 use Rattle.bolt_bulk.proofs.OpenRunLemmas.{cut_step, left_begins, pages-append, pages_push, pushed_put}

@@ -5,8 +5,8 @@ use Rattle.std.proofs.lemmas.Bool.{cases_lt}
 use Rattle.bolt_format.specs.Elements.{BranchElement}
 use Rattle.bolt_layout.specs.{Laid.Laid, Laid.Placed, Laid.size_of, Levels.branch_page_view, Levels.leaf_page_view, Levels.page_over}
 use Rattle.bolt_layout.specs.Limits.{AreRowEnds, limit_at, limits_from_ends}
-use Rattle.bolt_layout.specs.{declared.layout.Layout.TheVariants.Plain, declared.layout.Layout.TheVariants.Balanced, Cut.branch_cut, Layout.layout_mark}
-use Rattle.bolt_layout.specs.{Openings.limits_for, Openings.opened_in, Openings.row_ends_of, declared.layout.Layout.Layout}
+use Rattle.bolt_layout.specs.{declared.Layout.TheVariants.Plain, declared.Layout.TheVariants.Balanced, Cut.branch_cut, Layout.layout_mark}
+use Rattle.bolt_layout.specs.{Openings.limits_for, Openings.opened_in, Openings.row_ends_of, declared.Layout.Layout}
 use Rattle.bolt_bulk.specs.Private.{bucket_limit, Comes, IsOpen, Open, Upper, upper_end, AreComingAround, AreNumbered, AreUppers, bucket_runs, BucketEnds, capped, FitLimits, Frame, HasNoted, IsOn, IsTable, IsToCome, Known, limit_in, limits_with, Notes, run_end, runs_above, Wanted}
 use Rattle.bolt_bulk.specs.{declared.branch_run.BranchRun.BranchRun, declared.limits.BucketLimits.BucketLimits, declared.limits.Limits.Limits}
 use Rattle.bolt_bulk.specs.{declared.limits.NotedLimits.NotedLimits, declared.bucket_runs.BucketRuns.BucketRuns}

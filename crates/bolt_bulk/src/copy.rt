@@ -4,7 +4,7 @@ ghost use Rattle.bolt_check.specs.CheckedFiles.{meta_of};
 ghost use Rattle.bolt_format.specs.Metas.{IsPageSize};
 ghost use Rattle.bolt_tree.specs.FileListings.{ForListing};
 ghost use Rattle.bolt_bulk.specs.Compacting.{CopiesFile, Plans};
-ghost use Rattle.bolt_layout.specs.declared.layout.Layout.TheVariants.{Plain};
+ghost use Rattle.bolt_layout.specs.declared.Layout.TheVariants.{Plain};
 
 use crate::fault::{BulkFault, PlanFault};
 use crate::laws::a_walk_is_whole;

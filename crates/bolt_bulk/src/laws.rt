@@ -6,7 +6,7 @@ ghost use Rattle.bolt_tree.specs.{FileListings.ForListing, Walks.left_of, Walks.
 ghost use Rattle.bolt_bulk.specs.{WholeListings.IsWholeJoined, WholeListings.IsWholeRecovery, WholeListings.IsWholeWalk, Private.ForFitting};
 ghost use Rattle.bolt_format.specs.Metas.{IsPageSize};
 ghost use Rattle.bolt_layout.specs.{Copies.IsOfOneTree, Copies.IsSoundCopy, Copies.RefusesPrefixes, Copies.layout_of_listing, Held.most_held};
-ghost use Rattle.bolt_layout.specs.{Layout.layout_held, Layout.layout_mark, Layout.layout_root, declared.layout.Layout.Layout};
+ghost use Rattle.bolt_layout.specs.{Layout.layout_held, Layout.layout_mark, Layout.layout_root, declared.Layout.Layout};
 
 use bolt_layout::laws::{
     a_copy_lists_the_same, a_files_listing_is_of_one_tree, a_fit_listing_is_of_one_tree,

@@ -4,7 +4,7 @@ ghost use Rattle.bolt_format.specs.{Endings.page_ending, Wrote.Wrote};
 ghost use Rattle.bolt_tree.specs.Listing.{Member};
 ghost use Rattle.bolt_bulk.specs.{Compacting.CopiesEach, Compacting.Plans, WholeListings.IsAgain, WholeListings.IsWhole};
 ghost use Rattle.bolt_bulk.specs.Private.{FindsLimits, first_pages, FitAll, PutsMembers};
-ghost use Rattle.bolt_layout.specs.{PageBytes.copy_meta, PageBytes.filled, declared.layout.Layout.TheVariants.Balanced};
+ghost use Rattle.bolt_layout.specs.{PageBytes.copy_meta, PageBytes.filled, declared.Layout.TheVariants.Balanced};
 
 use crate::copy::Shape;
 use crate::fault::{BulkFault, PlanFault};

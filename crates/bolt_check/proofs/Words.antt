@@ -14,7 +14,7 @@ pub use Rattle.bolt_check.specs.{Roles.HasRole, Roles.IsFirstPage, Shape.HasShap
 pub use Rattle.bolt_check.specs.ShownSpots.{bound_of, inline_keys, page_spot, spot_at}
 pub use Rattle.bolt_check.specs.{Sound.HasRightAccounts, Sound.HasSoundTrees, Sound.IsFirstFinding, Sound.IsSound, Sound.IsUsed, Subtrees.Has, Tours.IsTour}
 pub use Rattle.bolt_check.specs.Ways.{At_inline, At_page, Before, PageSpot, Reach, SpanAt, SpanHas, SpanOf, Spot, bucket_spot, child_spot, follow, root_spot, step, step_entry, step_on, upper_from}
-pub use Rattle.bolt_check.specs.{declared.checked_file.Checked.Checked, declared.fault.CheckFault.TheVariants.Structure, declared.fault.Finding.Finding}
+pub use Rattle.bolt_check.specs.{declared.Checked.Checked, declared.fault.CheckFault.TheVariants.Structure, declared.fault.Finding.Finding}
 pub use Rattle.bolt_check.specs.declared.fault.TheConstants.Finding.{FREED_TWICE, FREE_RANGE, TWICE}
 pub use Rattle.bolt_check.specs.{declared.listing.Listing.Listing, declared.role_table.Role.Role, declared.table.PageUse.PageUse}
 pub use Rattle.bolt_check.specs.declared.table.PageUse.TheVariants.{Free, FreeTwice, Unused, UsedFree, UsedFreeTwice}

@@ -10,7 +10,7 @@ pub use Rattle.bolt_job.specs.declared.choices.Extent.TheVariants.{First, Losses
 pub use Rattle.bolt_job.specs.declared.job.Refusal.TheVariants.{Help, Version}
 pub use Rattle.bolt_job.specs.{PlainWords.target_name, LineWords.Text, declared.choices.Extent.Extent, declared.job.Job.Job}
 pub use Rattle.bolt_job.specs.{declared.choices.MetaChoice.MetaChoice, declared.choices.PageSize.PageSize, declared.job.Refusal.Refusal}
-pub use Rattle.bolt_layout.specs.{Copies.layout_of_listing, declared.layout.Layout.Layout}
+pub use Rattle.bolt_layout.specs.{Copies.layout_of_listing, declared.Layout.Layout}
 pub use Rattle.bolt_load.specs.{LineMembers.text_members}
 pub use Rattle.bolt_recover.specs.{Losses.parts}
 pub use Rattle.bolt_tree.specs.{Listing.Member}

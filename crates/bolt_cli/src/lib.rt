@@ -1,7 +1,6 @@
 //! A whole run of `luntsegi`: from the words of its command line to what it does to files and streams.
 #![tactic(auto)]
 
-pub mod laws;
 mod outside;
 mod whole_run;
 
@@ -13,4 +12,4 @@ pub use bolt_job::{
 pub use outside::{
     CreateFault, EndFault, OpenFault, OutputFault, Outside, ReadFault, Source, Stamp,
 };
-pub use whole_run::{refuse, run_program};
+pub use whole_run::{refuse, run_program, runs_are_in_order};

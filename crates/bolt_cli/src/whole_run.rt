@@ -1,7 +1,7 @@
-//! A whole run of the program: from its words to its status.
+//! A whole run of the program: from its words to its status. And a law: its deeds are in order.
 ghost use Rattle.std.specs.Prelude.{◌≡◌, ◌<◌, ℕ, List, None, Some, map, string_bytes};
 ghost use Rattle.bolt_commands.specs.{Answers.Ending, Answers.status_of, Failures.failure_line};
-ghost use Rattle.bolt_cli.specs.Deeds.{Does, joined};
+ghost use Rattle.bolt_cli.specs.{Deeds.Deed, Deeds.Does, Deeds.joined, Orders.IsInOrder, Orders.Reading};
 ghost use Rattle.bolt_job.specs.PlainWords.{target_name};
 ghost use Rattle.bolt_cli.specs.Runs.{Closes, Copies, Fails, Goes, IsEnded, IsHeldLine, IsRun, IsUnendedLine, Makes, Prints, Reads, Refuses, Shows, held_of, is_again, unmade_line};
 ghost use Rattle.bolt_commands.specs.declared.failure.Failure.TheVariants.{Memory};
@@ -240,3 +240,12 @@ fn fail<O: Outside>(outside: &mut O, pieces: &[&[u8]]) -> u8
     outside.say(pieces);
     FAILED
 }
+
+/// A run does its deeds in order. FILE is read before anything else. OUT is made at most once, and
+/// standard output is opened at most once, and never while there is an OUT that isn't on the disk. At
+/// most one text goes to standard error, and it comes last; there is none if a reader has left. The
+/// status is 0 only if all went well.
+pub fn runs_are_in_order<O: Outside>()
+    ensures { (words : List (List ℕ)) (deeds : List (Deed O.Target O.Output)) (code : ℕ)
+        → IsRun O.Target.taken O.Target.failed O.Output.taken O.Output.failed words deeds code → IsInOrder Reading deeds code }
+{}

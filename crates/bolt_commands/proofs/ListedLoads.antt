@@ -6,7 +6,7 @@ use Rattle.std.specs.Ordering.{is_lt}
 use Rattle.bolt_format.specs.Bytes.{IsBytes}
 use Rattle.bolt_load.specs.{ByteMembers.AreOfBytes, Lines.Text, declared.fault.LineFault.LineFault}
 use Rattle.bolt_load.specs.declared.fault.LoadFault.TheVariants.{Line, Memory}
-use Rattle.bolt_report.specs.{ListLines.listing_text, declared.form.ListForm.TheVariants.Hex}
+use Rattle.bolt_report.specs.{ListLines.listing_text, declared.ListForm.TheVariants.Hex}
 
 pub record Below : Type 0 where
   pub below_root : (listing : List Member) → part_below [] listing ≡ listing

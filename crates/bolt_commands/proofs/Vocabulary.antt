@@ -4,7 +4,7 @@ pub use Rattle.bolt_check.specs.CheckedFiles.{bytes_of, meta_of}
 pub use Rattle.bolt_check.specs.Findings.{IsClaimedBefore, IsMetaPage, finding}
 pub use Rattle.bolt_check.specs.Nodes.{leaf_entry, node_at}
 pub use Rattle.bolt_check.specs.Sound.{HasSoundTrees, IsFirstFinding, IsSound}
-pub use Rattle.bolt_check.specs.{Keys.Key, declared.checked_file.Checked.Checked, declared.fault.CheckFault.CheckFault, declared.fault.Finding.Finding}
+pub use Rattle.bolt_check.specs.{Keys.Key, declared.Checked.Checked, declared.fault.CheckFault.CheckFault, declared.fault.Finding.Finding}
 pub use Rattle.bolt_commands.specs.Answers.{AddsEntry, Answer, AnswersFound, AnswersLosses, AreFoundPages, Does, DoesJob, Ending, HasStats, HoldsIn, HoldsNone}
 pub use Rattle.bolt_commands.specs.Answers.{IsCheckAnswer, IsCheckAnswerAfter, IsEndedOrCut, IsEntriesAnswer, IsFileRefusal, IsFoundAnswer, IsFoundPagesAnswer}
 pub use Rattle.bolt_commands.specs.Answers.{IsInfoAnswer, IsJoinedList, IsListAnswer, IsListedAnswer, IsLossesAnswer, IsReadAnswer, IsReadUnder}
@@ -35,7 +35,7 @@ pub use Rattle.bolt_job.specs.declared.choices.MetaChoice.TheVariants.{Active, A
 pub use Rattle.bolt_job.specs.{PlainWords.path_in, declared.choices.Extent.Extent, declared.job.Job.Job, declared.choices.MetaChoice.MetaChoice}
 pub use Rattle.bolt_job.specs.{declared.choices.PageSize.PageSize}
 pub use Rattle.bolt_layout.specs.Copies.{IsAsked, IsOfOneTree, IsSoundCopy, RefusesPrefixes, layout_of_listing}
-pub use Rattle.bolt_layout.specs.{declared.layout.Layout.Layout}
+pub use Rattle.bolt_layout.specs.{declared.Layout.Layout}
 pub use Rattle.bolt_load.specs.LineFaults.{IsFirstFault, IsListingText}
 pub use Rattle.bolt_load.specs.{LineMembers.text_members}
 pub use Rattle.bolt_recover.proofs.Existing.{has_losses, has_recovered}
@@ -45,14 +45,14 @@ pub use Rattle.bolt_recover.specs.Places.{Place, leaves_of, place_at}
 pub use Rattle.bolt_recover.specs.Recovered.{ForRecovered, IsRecovered}
 pub use Rattle.bolt_recover.specs.Recoveries.{ForLosses, recovery_file, recovery_left, recovery_losses, recovery_meta, recovery_work}
 pub use Rattle.bolt_recover.specs.ShownLosses.{loss_view, lost_view}
-pub use Rattle.bolt_recover.specs.{Joined.IsJoined, LostAndFound.all_lost, declared.found.Found.Found, declared.lost_and_found.LostAndFound.LostAndFound}
+pub use Rattle.bolt_recover.specs.{Joined.IsJoined, LostAndFound.all_lost, declared.Found.Found, declared.lost_and_found.LostAndFound.LostAndFound}
 pub use Rattle.bolt_report.specs.FoundLines.{FoundView, IsFoundLeaf, counted_lost_text, found_view}
 pub use Rattle.bolt_report.specs.KeyLines.{buckets_text, keys_text}
-pub use Rattle.bolt_report.specs.{Figures.add_stats, ListForms.listing_lines, ReportEndings.report_ending, declared.fault.ReportFault.ReportFault}
-pub use Rattle.bolt_report.specs.{declared.form.FigureForm.FigureForm, declared.form.Form.TheVariants.Json, declared.form.ListForm.ListForm}
+pub use Rattle.bolt_report.specs.{Figures.add_stats, ListForms.listing_lines, ReportEndings.report_ending, declared.ReportFault.ReportFault}
+pub use Rattle.bolt_report.specs.{declared.FigureForm.FigureForm, declared.Form.TheVariants.Json, declared.ListForm.ListForm}
 pub use Rattle.bolt_report.specs.{declared.statistics.Stats.Stats}
 pub use Rattle.bolt_snapshot.specs.SnapshotFaults.{IsSnapshot, hash_fault, snapshot_of}
-pub use Rattle.bolt_snapshot.specs.{declared.hash_check.SnapshotFault.TheVariants.HashMissing}
+pub use Rattle.bolt_snapshot.specs.{declared.SnapshotFault.TheVariants.HashMissing}
 pub use Rattle.bolt_tree.proofs.Leaving.{fewer_left, next_shows, the_entries}
 pub use Rattle.bolt_tree.proofs.Named.{entry_once, held_down, held_up, names_push}
 pub use Rattle.bolt_tree.proofs.{Existing.has_listing, Filters.filter_all}

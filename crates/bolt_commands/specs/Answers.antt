@@ -20,8 +20,8 @@ use Rattle.bolt_report.specs.{FaultWords.findings_text, FoundLines.FoundView, Fo
 use Rattle.bolt_report.specs.{Forms.item_text, Forms.value_text, Figures.add_stats, Figures.stats_text, KeyLines.buckets_text, KeyLines.keys_text}
 use Rattle.bolt_report.specs.{KeyPrefixes.with_prefix, ListForms.listing_lines, MetaLines.info_text, PageMaps.map_text, PageTables.pages_text}
 use Rattle.bolt_report.specs.{PageTexts.page_text, PageTexts.page_text_fault, SizeLines.AreSized, SizeLines.Sized, SizeLines.sizes_text, StatsOf.IsStatsOf}
-use Rattle.bolt_report.specs.{declared.statistics.Stats.Stats, declared.form.FigureForm.FigureForm, declared.form.Form.Form}
-use Rattle.bolt_report.specs.{declared.form.Form.TheVariants.Json, declared.form.ListForm.ListForm}
+use Rattle.bolt_report.specs.{declared.statistics.Stats.Stats, declared.FigureForm.FigureForm, declared.Form.Form}
+use Rattle.bolt_report.specs.{declared.Form.TheVariants.Json, declared.ListForm.ListForm}
 use Rattle.bolt_tree.specs.Entries.{AreEntries, IsEntry, Item, Root_page, Start, Value, start_of}
 use Rattle.bolt_tree.specs.{Listing.IsListing, Listing.Member, Listing.rest_from, ListingParts.bucket_part, ListingParts.has_bucket}
 use Rattle.bolt_tree.specs.Paths.{Holds, Names, Path}
@@ -40,7 +40,7 @@ use Rattle.bolt_job.specs.declared.job.Job.TheVariants as job
 use Rattle.bolt_job.specs.declared.choices.MetaChoice.{MetaChoice}
 use Rattle.bolt_job.specs.declared.choices.MetaChoice.TheVariants.{Active, Assumed, InSlot}
 use Rattle.bolt_job.specs.{declared.choices.PageSize.PageSize, PlainWords.path_in}
-use Rattle.bolt_layout.specs.declared.layout.Layout.{Layout}
+use Rattle.bolt_layout.specs.declared.Layout.{Layout}
 
 -- How a job ends: with a status, or with a failure that is reported.
 abbrev pub Ending : Type 0

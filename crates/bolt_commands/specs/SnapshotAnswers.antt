@@ -2,8 +2,8 @@
 use Rattle.std.specs.Prelude.{ℕ, List, [], ◌++◌, Bool, true, false, Option, None, Some}
 use Rattle.sha2.specs.Sha256.{sha256}
 use Rattle.bolt_report.specs.FaultWords.{snapshot_fault_text}
-use Rattle.bolt_snapshot.specs.{SnapshotFaults.hash_fault, declared.hash_check.SnapshotFault.SnapshotFault}
-use Rattle.bolt_snapshot.specs.declared.hash_check.SnapshotFault.TheVariants.{HashDiffers, HashMissing}
+use Rattle.bolt_snapshot.specs.{SnapshotFaults.hash_fault, declared.SnapshotFault.SnapshotFault}
+use Rattle.bolt_snapshot.specs.declared.SnapshotFault.TheVariants.{HashDiffers, HashMissing}
 
 -- what is wrong with the hash, if a snapshot is asked for
 abbrev pub hash_found : (snapshot : Bool) → List ℕ → Option SnapshotFault

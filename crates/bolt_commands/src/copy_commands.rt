@@ -6,16 +6,14 @@ ghost use Rattle.bolt_commands.specs.Private.Opened.{IsSearchOf};
 ghost use Rattle.bolt_job.specs.CopyKinds.{is_snapshot};
 ghost use Rattle.bolt_commands.specs.SnapshotAnswers.{hash_differs};
 
-use crate::copies::copy_members;
-use crate::copy_report::{CopyReport, end_copy};
+use crate::copies::{CopyReport, copy_members, end_copy};
 use crate::failure::{Failure, Outcome};
 use crate::opening::{Input, join};
 use bolt_bulk::Shape;
 use bolt_bulk::laws::{a_recovery_is_whole, a_walk_is_whole, joined_members_are_whole};
 use bolt_format::{Meta, Sink};
 use bolt_job::{CompactJob, Extent, LoadJob};
-use bolt_load::ListingText;
-use bolt_load::laws::a_text_is_of_one_tree;
+use bolt_load::{ListingText, a_text_is_of_one_tree};
 use bolt_recover::laws::each_file_has_a_joined_listing;
 use bolt_recover::{Lost, LostAndFound};
 use bolt_snapshot::{SnapshotFault, snapshot_fault};

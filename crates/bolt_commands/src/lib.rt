@@ -1,19 +1,85 @@
 //! The commands: what a job prints or writes, and its status.
 #![tactic(auto)]
 
-mod bucket_commands;
+ghost use Rattle.std.specs.Prelude.{◌≡◌, Result};
+ghost use Rattle.bolt_commands.specs.Answers.{DoesJob, Ending, Accepts, error_text, status_of};
+
 mod check_command;
 mod copies;
 mod copy_commands;
-mod copy_report;
 mod copy_source;
 mod failure;
 mod file_faults;
 pub mod laws;
 mod list_command;
 mod opening;
-mod page_commands;
-mod runs;
+mod printing_commands;
 
+use crate::check_command::print_check;
+use crate::copy_commands::{write_copy, write_loaded};
+use crate::failure::{Outcome, put_failure};
+use crate::list_command::print_list;
+use crate::opening::Input;
+use crate::printing_commands::{
+    print_buckets, print_info, print_keys, print_page, print_pages, print_stats, print_value,
+};
+use bolt_format::Sink;
+use bolt_job::Job;
 pub use failure::Failure;
-pub use runs::{Status, run};
+use std::alloc::Global;
+
+/// How a run ended.
+#[derive(Clone, Copy, PartialEq, Eq)]
+pub struct Status {
+    /// 0 if the job is done; 1 if there was a fault, or if `check` found something.
+    pub code: u8,
+}
+
+/// Does a job on the bytes of its file, and returns its status (docs/COMMANDS.md, "What a run
+/// writes"). It writes the text to `out`, the line of a failure to `err`, and a copy to `target`;
+/// other jobs don't touch `target`.
+pub fn run<O: Sink, E: Sink, T: Sink>(
+    alloc: Global,
+    job: &Job,
+    file: &[u8],
+    out: &mut O,
+    err: &mut E,
+    target: &mut T,
+) -> Status
+    ensures { (ending : Ending)
+        × DoesJob O.taken O.failed out.old out.new T.taken T.failed target.old target.new file.now job.now ending
+        × (result.code ≡ status_of ending) × Accepts E.taken E.failed err.old err.new (error_text ending) }
+{
+    match do_job(Input { alloc, file }, job, out, target) {
+        Ok(code) => Status { code },
+        Err(failure) => report(&failure, err),
+    }
+}
+
+/// Reports a failure. The status is the same if its line can't be written.
+fn report<E: Sink>(failure: &Failure, err: &mut E) -> Status
+    ensures status { result.code ≡ 1 }
+    ensures line { Accepts E.taken E.failed err.old err.new (error_text (Err failure.now)) }
+{
+    let _ = put_failure(failure, err);
+    Status { code: 1 }
+}
+
+/// Does a job, and returns its status.
+fn do_job<O: Sink, T: Sink>(input: Input<'_>, job: &Job, out: &mut O, target: &mut T) -> Outcome
+    ensures { DoesJob O.taken O.failed out.old out.new T.taken T.failed target.old target.new input.entry.file.now job.now result }
+{
+    match job {
+        Job::Info(job) => print_info(input, job, out),
+        Job::Page(job) => print_page(input, job, out),
+        Job::Pages(job) => print_pages(input, job, out),
+        Job::Check(job) => print_check(input, job, out),
+        Job::Buckets(job) => print_buckets(input, job, out),
+        Job::Stats(job) => print_stats(input, job, out),
+        Job::Keys(job) => print_keys(input, job, out),
+        Job::Get(job) => print_value(input, job, out),
+        Job::List(job) => print_list(input, job, out),
+        Job::Compact(job) => write_copy(input, job, out, target),
+        Job::Load(job) => write_loaded(input, job, out, target),
+    }
+}

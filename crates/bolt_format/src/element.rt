@@ -8,9 +8,9 @@ ghost use Rattle.bolt_format.specs.{ElementPlaces.IsBranchPlace, ElementPlaces.I
 ghost use Rattle.bolt_format.specs.Pages.{content_fault};
 
 use crate::bucket::test_bucket_value;
-use crate::bytes::{u32_at, u64_at};
 use crate::header::{HEADER_LEN, Kind};
 use crate::open_page::PageFault;
+use crate::{u32_at, u64_at};
 
 /// The length of an element's header.
 pub const ELEMENT_LEN: usize = 16;

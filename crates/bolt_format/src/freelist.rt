@@ -5,11 +5,11 @@ ghost use Rattle.std.specs.Result.{result_err};
 ghost use Rattle.bolt_format.specs.Freelists.{free_ids_at, free_ids_of, freelist_fault, freelist_fault_of, ids_fault, ids_from, ids_start, id_count};
 ghost use Rattle.bolt_format.specs.ShownIds.{shown_ids};
 
-use crate::bytes::u64_at;
 use crate::good_page::FreeIds;
 use crate::header::{HEADER_LEN, Kind};
 use crate::meta::{Meta, NO_FREELIST};
 use crate::open_page::{PageFault, known_span, test_span};
+use crate::u64_at;
 
 /// The count in the header if the number of ids is in the first 8 bytes.
 const LONG_COUNT: u16 = 0xFFFF;

@@ -3,9 +3,9 @@ ghost use Rattle.std.specs.Prelude.{◌≡◌, ◌+◌, ◌*◌, ◌<◌, ◌≤
 ghost use Rattle.std.proofs.Props.{props};
 ghost use Rattle.bolt_format.specs.{ElementPlaces.branch_view, ElementPlaces.leaf_view, Elements.IsBucketValue, Pages.content_fault};
 
-use crate::bytes::u64_at;
 use crate::element::{Branch, Leaf, branch_at, leaf_at};
 use crate::header::Kind;
+use crate::u64_at;
 
 /// A page that passed all tests. Its elements are read in place, each in constant time.
 #[derive(Clone, Copy)]

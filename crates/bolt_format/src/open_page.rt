@@ -7,11 +7,11 @@ ghost use Rattle.bolt_format.specs.{Elements.IsBucketValue, Elements.head_root, 
 ghost use Rattle.bolt_format.specs.Private.Spans.{IsSpan, IsWithin};
 
 use crate::bucket::{HEAD_LEN, Head, Inline};
-use crate::bytes::u64_at;
 use crate::element::test_content;
 use crate::good_page::Page;
 use crate::header::{Header, Kind};
 use crate::meta::Meta;
+use crate::u64_at;
 
 /// The first test that a page fails (docs/FORMAT.md, "The tests of a page").
 #[derive(Clone, Copy, Debug, PartialEq, Eq)]

@@ -5,8 +5,8 @@ ghost use Rattle.std.specs.Prelude.{◌≡◌, ◌≤◌, ◌++◌, drop, length
 ghost use Rattle.bolt_format.specs.Written.{branch_header, head_bytes, header_bytes, leaf_header, meta_bytes, meta_record};
 
 use crate::bucket::HEAD_LEN;
-use crate::bytes::fnv1a;
 use crate::element::{BUCKET_FLAGS, ELEMENT_LEN};
+use crate::fnv1a;
 use crate::header::{HEADER_LEN, Kind};
 use crate::meta::{MAGIC, META_LEN, Meta, VERSION};
 use byteorder::{ByteOrder, LittleEndian};

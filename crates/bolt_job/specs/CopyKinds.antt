@@ -1,6 +1,6 @@
 -- The kinds of copies: docs/COMMANDS.md, "What a run writes".
 use Rattle.std.specs.Prelude.{Bool, true, false}
-use Rattle.bolt_layout.specs.{declared.layout.Layout.Layout, declared.layout.Layout.TheVariants.Balanced, declared.layout.Layout.TheVariants.Plain}
+use Rattle.bolt_layout.specs.{declared.Layout.Layout, declared.Layout.TheVariants.Balanced, declared.Layout.TheVariants.Plain}
 use Rattle.bolt_job.specs.declared.choices.CopyKind.{CopyKind}
 use Rattle.bolt_job.specs.declared.choices.CopyKind.TheVariants as kind
 

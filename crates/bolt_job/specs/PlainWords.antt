@@ -6,7 +6,7 @@ use Rattle.bolt_check.specs.Keys.{Key}
 use Rattle.bolt_tree.specs.Paths.{Path}
 use Rattle.bolt_format.specs.{Metas.page_sizes, declared.meta.Slot.Slot, declared.meta.Slot.TheVariants.One, declared.meta.Slot.TheVariants.Zero}
 use Rattle.bolt_load.specs.Numbers.{decimal_value, is_number, number_in}
-use Rattle.bolt_report.specs.{declared.form.FigureForm.FigureForm, declared.form.Form.Form, declared.form.ListForm.ListForm}
+use Rattle.bolt_report.specs.{declared.FigureForm.FigureForm, declared.Form.Form, declared.ListForm.ListForm}
 use Rattle.bolt_job.specs.FormWords.{figure_form_by, form_by, list_form_by}
 use Rattle.bolt_job.specs.LineWords.{Choice, Operand, Syntax, Text, both, long, short}
 use Rattle.bolt_job.specs.PathWords.{each_part, hex_path_by, part_of, parts_by, prefix_of, result_and_then}

@@ -5,7 +5,6 @@ mod bucket_commands;
 mod choices;
 mod command_line;
 mod job;
-pub mod laws;
 mod line;
 mod page_commands;
 mod path_words;
@@ -17,4 +16,5 @@ pub use job::{
     BucketsJob, CheckJob, CompactJob, GetJob, InfoJob, Job, KeysJob, ListJob, LoadJob, PageJob,
     PagesJob, Refusal, StatsJob,
 };
+pub use path_words::mixed_items_read_back;
 pub use words::read_words;

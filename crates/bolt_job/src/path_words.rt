@@ -1,6 +1,9 @@
-//! Reads paths from the words of a command line.
-ghost use Rattle.std.specs.Prelude.{◌≡◌, ◌==◌, IfOk, length, map, option_map};
+//! Reads paths from the words of a command line. And a law: what `--form mixed` prints is read back.
+ghost use Rattle.std.specs.Prelude.{◌≡◌, ◌==◌, ℕ, IfOk, List, Ok, length, map, option_map, true};
 ghost use Rattle.std.specs.List.{list_any, slice_split};
+ghost use Rattle.hex.specs.Hex.{IsBytes};
+ghost use Rattle.bolt_report.specs.{Forms.is_printable, Forms.item_text};
+ghost use Rattle.bolt_report.specs.declared.Form.TheVariants as Form;
 ghost use Rattle.bolt_job.specs.CommandLine.{Gives};
 ghost use Rattle.bolt_job.specs.PathWords.{each_part, hex_bytes, hex_path_by, hex_path_of, mixed_bytes, part_of, prefix_of};
 ghost use Rattle.bolt_job.specs.PlainWords.{path_in};
@@ -111,3 +114,10 @@ pub(crate) enum Parts {
     /// In hexadecimal after `0x`, and otherwise as they are.
     Mixed,
 }
+
+/// What `--form mixed` prints of a key or a value is printable ASCII and, as a part under
+/// `--parts mixed`, that key or value.
+pub fn mixed_items_read_back()
+    ensures printable { (bytes : List ℕ) → IsBytes bytes → is_printable (item_text Form.Mixed bytes) ≡ true }
+    ensures same { (bytes : List ℕ) → IsBytes bytes → part_of Parts.Mixed (item_text Form.Mixed bytes) ≡ Ok bytes }
+{}

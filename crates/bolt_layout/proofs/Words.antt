@@ -26,8 +26,8 @@ pub use Rattle.bolt_layout.specs.Levels.{branch_page_view, leaf_level, leaf_page
 pub use Rattle.bolt_layout.specs.Limits.{AreRowEnds, HaveRightLimits, cut_row, last_length, limit_at, limits_from_ends}
 pub use Rattle.bolt_layout.specs.Openings.{AreFromEnds, AreRight, leaf_pages, opened_by, opened_in, row_ends_of}
 pub use Rattle.bolt_layout.specs.PageBytes.{branch_data, branch_headers, copy_meta, key_pos, leaf_data, leaf_headers}
-pub use Rattle.bolt_layout.specs.{Storable.HasLengths, Storable.IsStorable, Storable.RisesInside, Storable.keys_in, declared.layout.Layout.Layout}
-pub use Rattle.bolt_layout.specs.declared.layout.Layout.TheVariants.{Balanced, Plain}
+pub use Rattle.bolt_layout.specs.{Storable.HasLengths, Storable.IsStorable, Storable.RisesInside, Storable.keys_in, declared.Layout.Layout}
+pub use Rattle.bolt_layout.specs.declared.Layout.TheVariants.{Balanced, Plain}
 unfoldable pub use Rattle.bolt_layout.specs.{Items.root_of, Layout.layout_of, Levels.overflow_of, Levels.root_over}
 unfoldable pub use Rattle.bolt_layout.specs.PageBytes.{branch_bytes, freelist_page, inline_value, leaf_bytes, meta_page, page_bytes}
 pub use Rattle.bolt_tree.proofs.Lists.{contains_cases, contains_head, contains_none, contains_tail}

@@ -5,7 +5,7 @@ use Rattle.bolt_format.specs.{declared.meta.MetaFault.TheVariants.Cut, declared.
 use Rattle.bolt_check.specs.{Findings.finding, Sound.IsRefused, Sound.IsSound}
 use Rattle.bolt_check.specs.declared.fault.CheckFault.TheVariants.{Open, Structure}
 use Rattle.bolt_tree.specs.{Listing.IsListing, Listing.Member, Tree.Tree, Tree.listing_of, Tree.tree_of}
-use Rattle.bolt_layout.specs.{Layout.layout_meta, Layout.layout_of, Storable.IsStorable, declared.layout.Layout.Layout}
+use Rattle.bolt_layout.specs.{Layout.layout_meta, Layout.layout_of, Storable.IsStorable, declared.Layout.Layout}
 
 -- both metas are valid, and that of slot one is active in the layout, which is sound for it, trees and accounts, and has this listing
 pub record IsSoundCopy (which : Layout) (page_size : ℕ) (tree : Tree) (sequence : ℕ) (listing : List Member) : Type 0 where

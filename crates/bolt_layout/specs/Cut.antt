@@ -1,7 +1,7 @@
 -- The cut of a row of items into the runs that share a page: docs/LAYOUT.md, "The cut".
 -- Over items of any kind, by their sizes.
 use Rattle.std.specs.Prelude.{suc, ◌≡◌, ◌≢◌, ◌≤◌, ◌<◌, ◌⊎◌, ◌↔◌, ℕ, ◌+◌, Bool, ◌||◌, ◌&&◌, nat_lt, nat_le, List, [], ◌∷◌, ◌++◌, length, sum_by, flat_map, Some, slice_get, if◌then◌else◌}
-use Rattle.bolt_layout.specs.{declared.layout.Layout.Layout, declared.layout.Layout.TheVariants.Plain, declared.layout.Layout.TheVariants.Balanced}
+use Rattle.bolt_layout.specs.{declared.Layout.Layout, declared.Layout.TheVariants.Plain, declared.Layout.TheVariants.Balanced}
 
 -- the most items that a page may have
 abbrev pub max_items : ℕ

@@ -3,7 +3,7 @@ use Rattle.std.specs.Prelude.{◌≡◌, ◌≤◌, ℕ, ◌+◌, List, [], ◌�
 use Rattle.bolt_format.specs.declared.header.Kind.TheVariants as kind
 use Rattle.bolt_format.specs.declared.meta.Meta.{Meta}
 use Rattle.bolt_tree.specs.Tree.{Tree}
-use Rattle.bolt_layout.specs.{Items.root_of, Laid.Placed, PageBytes.freelist_page, PageBytes.meta_page, PageBytes.page_bytes, declared.layout.Layout.Layout}
+use Rattle.bolt_layout.specs.{Items.root_of, Laid.Placed, PageBytes.freelist_page, PageBytes.meta_page, PageBytes.page_bytes, declared.Layout.Layout}
 
 -- the first page after the metas and the freelist
 abbrev pub first_page : ℕ

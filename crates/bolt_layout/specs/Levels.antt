@@ -4,7 +4,7 @@ use Rattle.bolt_format.specs.{Elements.BranchElement, Elements.LeafElement, Page
 use Rattle.bolt_format.specs.declared.header.Kind.TheVariants as kind
 use Rattle.bolt_layout.specs.Cut.{branch_cut, cut_of, run_size}
 use Rattle.bolt_layout.specs.Laid.{Laid, elements_of, first_key, held_in, numbers_of, pages_of, size_of}
-use Rattle.bolt_layout.specs.declared.layout.Layout.{Layout}
+use Rattle.bolt_layout.specs.declared.Layout.{Layout}
 
 -- the least number of further pages with which a page has room for this many bytes, of which there is one at least
 unfoldable pub overflow_of : (page_size size : ℕ) → ℕ

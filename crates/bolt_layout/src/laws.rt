@@ -9,7 +9,7 @@ ghost use Rattle.bolt_layout.specs.{Copies.IsAsked, Copies.IsOfOneTree, Copies.I
 ghost use Rattle.bolt_layout.specs.{Laid.Laid, Held.most_held};
 ghost use Rattle.bolt_layout.specs.Layout.{HasTwoIfBranch, layout_held, layout_mark, layout_of, layout_pages, layout_root};
 ghost use Rattle.bolt_layout.specs.{Levels.IsOverflow, Levels.TopIsAbove, Levels.overflow_of, Storable.IsFitListing, Storable.IsFitMember, Storable.IsStorable};
-ghost use Rattle.bolt_layout.specs.{declared.layout.Layout.Layout, declared.layout.Layout.TheVariants.Balanced};
+ghost use Rattle.bolt_layout.specs.{declared.Layout.Layout, declared.Layout.TheVariants.Balanced};
 
 use bolt_check::laws::sound_trees_pass_the_tests;
 use bolt_tree::laws::{a_tree_is_of_its_listing, a_tree_lists_its_bucket, listing_is_of_a_tree};

@@ -1,11 +1,23 @@
-//! The text of a listing.
-ghost use Rattle.std.specs.Prelude.{◌≡◌, [], IfErr, IfOk, OnOk};
-ghost use Rattle.bolt_load.specs.{LineFaults.IsListingText, LineFaults.IsLoadFault, Lines.lines_of, Private.Decoding.AreDecoded};
+//! The text of a listing: its lines are tested, also that their paths rise and that each stands below
+//! the line of its bucket. And the laws of such texts.
+ghost use Rattle.std.specs.List.{All};
+ghost use Rattle.std.specs.Ordering.{is_lt};
+ghost use Rattle.std.specs.Prelude.{◌≡◌, ◌<◌, ◌≤◌, ℕ, [], IfErr, IfOk, List, None, OnOk, length};
+ghost use Rattle.bolt_format.specs.{Bytes.IsBytes, declared.meta.Meta.Meta};
+ghost use Rattle.bolt_tree.specs.{Listing.IsListing, Listing.Member, Listing.member_cmp, ListingParts.begins_with, Order.Rises, Paths.path_cmp, Paths.path_of};
+ghost use Rattle.bolt_layout.specs.Copies.{IsOfOneTree};
+ghost use Rattle.bolt_report.specs.ListLines.{listing_text};
+ghost use Rattle.bolt_load.specs.LineFaults as faults;
+ghost use Rattle.bolt_load.specs.LineFaults.{IsFirstFault, IsListingText, IsLoadFault, RightAfter, shape_fault};
+ghost use Rattle.bolt_load.specs.{ByteMembers.AreOfBytes, LineMembers.text_members, Lines.Text, Lines.lines_of, PlainTexts.plain_text};
+ghost use Rattle.bolt_load.specs.{Private.Decoding.AreDecoded, Private.OpenPaths.fault_after, declared.fault.LineFault.LineFault};
+ghost use Rattle.bolt_load.specs.Private.OpenPaths as open_paths;
 
 use crate::decode::decode;
-use crate::fault::LoadFault;
+use crate::fault::{LineFault, LoadFault};
 use crate::line_members::LineMembers;
-use crate::order::test_places;
+use bolt_layout::laws::{a_fit_listing_is_of_one_tree, held_members_fit};
+use bolt_tree::{Item, Members};
 use std::alloc::Global;
 
 /// The text of a listing, each line of which was tested.
@@ -58,3 +70,104 @@ impl<'a> ListingText<'a> {
         LineMembers::new(alloc, self.text, self.bytes.as_slice())
     }
 }
+
+/// Whether a path begins with another.
+fn is_below(path: &[&[u8]], below: &[&[u8]]) -> bool
+    ensures { result ≡ begins_with (path_of below.now) (path_of path.now) }
+{
+    path.starts_with(below)
+}
+
+/// Whether a path comes before another.
+fn is_before(path: &[&[u8]], other: &[&[u8]]) -> bool
+    ensures { result ≡ is_lt (path_cmp (path_of path.now) (path_of other.now)) }
+{
+    path.cmp(other).is_lt()
+}
+
+/// The path of the bucket that a path is in.
+fn path_above<'p, 'a>(path: &'p [&'a [u8]]) -> &'p [&'a [u8]]
+    requires { 0 < length path.now }
+    ensures { path_of result.now ≡ faults.path_above (path_of path.now) }
+{
+    &path[..path.len() - 1]
+}
+
+/// Whether a member may be in the bucket at a path: one that the last path goes through, or that it
+/// is the path of.
+fn is_open(last: &[&[u8]], is_bucket: bool, above: &[&[u8]]) -> bool
+    ensures { result ≡ open_paths.is_open (path_of last.now) is_bucket (path_of above.now) }
+{
+    is_below(last, above) && (above.len() < last.len() || is_bucket)
+}
+
+/// What is wrong with the place of a path after the last one.
+fn place_fault(last: &[&[u8]], is_bucket: bool, path: &[&[u8]]) -> Option<LineFault>
+    requires { 0 < length path.now }
+    ensures { result ≡ fault_after (path_of last.now) is_bucket (path_of path.now) }
+{
+    if !is_before(last, path) {
+        return Some(LineFault::PathNotRising);
+    }
+    if !is_open(last, is_bucket, path_above(path)) {
+        return Some(LineFault::NoBucketAbove);
+    }
+    None
+}
+
+/// Tests the place of each of these lines, whose bytes these are. Returns the number of lines.
+pub(crate) fn test_places(alloc: Global, text: &[u8], bytes: &[u8]) -> Result<u64, LoadFault>
+    requires decoded { AreDecoded (lines_of text.now) bytes.now }
+    requires shaped { All (λ line. shape_fault line ≡ None) (lines_of text.now) }
+    ensures lines { IfOk result (λ lines. lines ≡ length (lines_of text.now)) }
+    ensures few { IfOk result (λ lines. lines ≤ length text.now) }
+    ensures right { OnOk result (RightAfter [] (lines_of text.now)) }
+    ensures fault { IfErr result (IsLoadFault text.now) }
+{
+    let mut members = LineMembers::new(alloc, text, bytes);
+    let mut line: u64 = 0;
+    let mut is_bucket = true;
+    while let Some(item) = members.advance()? {
+        line += 1;
+        if let Some(fault) = place_fault(members.path_before(), is_bucket, members.path()) {
+            return Err(LoadFault::Line { line, fault });
+        }
+        is_bucket = matches!(item, Item::Bucket { .. });
+    }
+    Ok(line)
+}
+
+/// What a text without a fault tells is the listing of exactly one tree, which can be computed from
+/// it and can be stored; and its members rise.
+pub fn a_text_is_of_one_tree()
+    ensures tree { (text : Text) → IsListingText text → IsOfOneTree (text_members text) }
+    ensures rises { (text : Text) → IsListingText text → Rises member_cmp (text_members text) }
+{
+    a_fit_listing_is_of_one_tree();
+}
+
+/// A text without a fault has no first fault.
+pub fn a_right_text_has_no_first_fault()
+    ensures { (text : Text) (number : ℕ) (fault : LineFault) → IsListingText text → ¬ IsFirstFault text number fault }
+{}
+
+/// A file's listing is of bytes.
+pub fn a_files_listing_is_of_bytes()
+    ensures { (file : List ℕ) (meta : Meta) (listing : List Member) → IsBytes file → IsListing file meta listing → AreOfBytes listing }
+{
+    held_members_fit();
+}
+
+/// The text of a listing that is of one tree, its members rising and of bytes, has no fault, and tells
+/// that listing.
+pub fn a_listings_text_is_read_back()
+    ensures right { (listing : List Member) → IsOfOneTree listing → Rises member_cmp listing → AreOfBytes listing → IsListingText (listing_text listing) }
+    ensures listing { (listing : List Member) → IsOfOneTree listing → Rises member_cmp listing → AreOfBytes listing
+        → text_members (listing_text listing) ≡ listing }
+{}
+
+/// A text without a fault is the text of what it tells, but for the case of its letters, leading zeros of
+/// its numbers and the line feed at its end.
+pub fn a_text_is_that_of_its_listing()
+    ensures { (text : Text) → IsListingText text → plain_text text ≡ listing_text (text_members text) }
+{}

@@ -2,9 +2,9 @@
 use Rattle.std.proofs.Common.{◌≡◌, ◌≢◌, ◌∙◌, ℕ, true, false, List, [], ◌∷◌, ◌++◌, ◌⊎◌, inl, inr, Option, Some, None, Result, Ok, Err, IfOk, IfSome, OnErr, OnOk, filter, is_some, not, refl, sym, ap, subst, subst₂}
 use Rattle.bolt_recover.proofs.Words.{All, All-head, All-tail, AreJoinable, below_bucket, Bucket, bucket_members, contains_cases, contains_head, contains_none, contains_tail, first_cmp, ForRecovered, Found, GivesKept, GivesNext, HasBucketKey, held_members, holds_key, is_eq, is_found_path, is_lt, IsFoundView, IsHeldWell, IsJoined, IsRecovered, item_view, joined_listing, Kept, kept_file, kept_left, kept_meta, kept_path, LacksBucketKey, LeafElement, leaves_of, LeavesKept, left_at, lost_and_found, Member, Meta, numbers_of, option_map, or_cases, or_parts, page_at, pages_of, Path, path_at, props, put_members, recovered_in, shown}
 use Rattle.bolt_recover.proofs.JoinedLemmas.{joined_keeps, joined_of, put_recovered, stays, with_elements}
-use Rattle.bolt_recover.specs.{declared.joined.Joined.Joined, declared.found_members.FoundMembers.FoundMembers, declared.joined.Stage.Stage}
+use Rattle.bolt_recover.specs.{declared.joined.Joined.Joined, declared.joined_parts.FoundMembers.FoundMembers, declared.joined.Stage.Stage}
 use Rattle.bolt_recover.specs.declared.joined.Stage.TheVariants.{After, Before, Inside}
-use Rattle.bolt_tree.specs.declared.entry.Item.{Item as CodeItem}
+use Rattle.bolt_tree.specs.declared.Item.{Item as CodeItem}
 
 pub first_found : (path : Path) → is_eq (first_cmp path) ≡ is_found_path path
 first_found [] = refl

@@ -20,7 +20,7 @@ pub use Rattle.bolt_check.specs.{Shape.child_at, Shape.child_in, Shape.child_of,
 pub use Rattle.bolt_check.specs.{Sound.HasSoundTrees, Tours.IsBeforeAll, TreeKinds.tree_kind}
 pub use Rattle.bolt_check.specs.Ways.{At_inline, At_page, Before, PageSpot, Reach, SpanAt, SpanHas, SpanOf, Spot, bucket_spot, bucket_spots, child_spot, follow}
 pub use Rattle.bolt_check.specs.Ways.{reached, root_spot, step, step_at, step_entry, step_from, step_on, upper_from}
-pub use Rattle.bolt_check.specs.declared.checked_file.Checked.{Checked}
+pub use Rattle.bolt_check.specs.declared.Checked.{Checked}
 pub use Rattle.bolt_check.specs.declared.fault.CheckFault.TheVariants.{Accounts, Memory, Open, Structure}
 pub use Rattle.bolt_check.specs.{declared.fault.Finding.Finding, declared.tree_page.TreePage.TreePage}
 pub use Rattle.bolt_format.specs.{ElementPlaces.leaf_view, Elements.LeafElement, Elements.head_root, Elements.head_sequence, Elements.inline_elements}
@@ -52,7 +52,7 @@ pub use Rattle.bolt_recover.specs.Refusals.{IsRefusedRoot, IsSlotUnrecoverable, 
 pub use Rattle.bolt_recover.specs.{ShownFound.IsFoundView, ShownLosses.loss_view}
 pub use Rattle.bolt_recover.specs.Surveys.{Gives, Has, IsClaimedIn, IsOpen, IsSurvey, LosesNothing, Surveys, Visit, kept, lost}
 pub use Rattle.bolt_recover.specs.{declared.content.Content.Content, declared.content.Content.TheVariants.Page, declared.content.OpenPage.OpenPage}
-pub use Rattle.bolt_recover.specs.{declared.found.Found.Found, declared.kept.Kept.Kept}
+pub use Rattle.bolt_recover.specs.{declared.Found.Found, declared.joined_parts.Kept.Kept}
 pub use Rattle.bolt_recover.specs.declared.lost_and_found.Trees.TheVariants.{Damaged, Rootless, Sound}
 pub use Rattle.bolt_recover.specs.{declared.recovery.Recovery.Recovery, declared.steps.NextVisit.NextVisit}
 unfoldable pub use Rattle.bolt_recover.specs.JoinedMembers.{joined_file, joined_left, joined_meta, joined_path}

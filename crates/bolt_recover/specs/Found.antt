@@ -4,7 +4,7 @@ use Rattle.bolt_format.specs.declared.meta.Meta.{Meta}
 use Rattle.bolt_check.specs.{LoneLeaves.IsListedFree, LoneLeaves.IsLoneLeaf, Nodes.node_at, Ways.At_page, Ways.SpanAt, Ways.root_spot}
 use Rattle.bolt_check.specs.declared.fault.Finding.{Finding}
 use Rattle.bolt_recover.specs.{KeptPages.IsKeptPage, Surveys.Has, Surveys.IsSurvey, Surveys.LosesNothing, Surveys.Visit, Surveys.lost}
-use Rattle.bolt_recover.specs.declared.found.Found.{Found}
+use Rattle.bolt_recover.specs.declared.Found.{Found}
 
 module _ (file : List ℕ) (meta : Meta) where
   -- page n lies in the span of one of these pages

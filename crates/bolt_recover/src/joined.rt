@@ -10,9 +10,8 @@ ghost use Rattle.bolt_recover.specs.{Private.Joining.first_cmp, Recovered.ForRec
 ghost use Rattle.bolt_recover.specs.declared.joined.JoinFault.TheVariants as faults;
 ghost use Rattle.bolt_recover.specs.declared.joined.Stage.TheVariants as stages;
 
-use crate::found::Found;
-use crate::found_members::FoundMembers;
-use crate::kept::{Kept, LostRoot};
+use crate::Found;
+use crate::joined_parts::{FoundMembers, Kept, LostRoot};
 use crate::lost_and_found::{LostAndFound, Trees};
 use crate::recovery::Recovery;
 use bolt_check::{Finding, NoMemory};

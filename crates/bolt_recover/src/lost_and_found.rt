@@ -6,9 +6,8 @@ ghost use Rattle.bolt_format.specs.Bytes.{IsBytes};
 ghost use Rattle.bolt_recover.specs.{Found.AreFound, Found.numbers_of, Lost.IsAllLost, Private.TreesLeft.IsSearched, ShownFound.IsFoundView};
 ghost use Rattle.bolt_recover.specs.{Private.LeavesLeft.AreAmong, Private.LeavesLeft.NotesFree, Refusals.LosesRoot, ShownLosses.lost_view};
 
-use crate::found::Found;
-use crate::loss::{Loss, Lost};
 use crate::recovery::Recovery;
+use crate::{Found, Loss, Lost};
 use bolt_check::{CheckFault, Checked, Claims, Finding, Leftovers, NoMemory, check_under};
 use bolt_format::Meta;
 use std::alloc::Global;

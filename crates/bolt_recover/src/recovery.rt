@@ -8,11 +8,10 @@ ghost use Rattle.bolt_tree.specs.Paths.{path_of};
 ghost use Rattle.bolt_recover.specs.{KeptPages.AreKeptPages, Private.Frames.IsOn, Private.Frames.state_of, Recovered.ForRecovered, Recovered.IsRecovered};
 ghost use Rattle.bolt_recover.specs.{Refusals.IsRefusedRoot, Refusals.IsSlotUnrecoverable, Refusals.IsUnrecoverable, Refusals.KeepsRoot, ShownLosses.loss_view};
 
-use crate::found::Found;
 use crate::joined::compare_first;
-use crate::loss::Loss;
 use crate::lost_and_found::{Damage, find_leaves};
 use crate::steps::Steps;
+use crate::{Found, Loss};
 use bolt_check::{CheckFault, Claims, Leftovers, NoMemory};
 use bolt_format::{Meta, Slot, choose, slot_meta};
 use bolt_tree::{Item, Members};

@@ -8,8 +8,8 @@ ghost use Rattle.bolt_tree.specs.Paths.{path_of};
 ghost use Rattle.bolt_recover.specs.Private.Frames.{Advances, GoesOn, HasOpen, IsAllLeft, Takes, TakesBucket, is_over, lost_state, state_of, steps_weight, taken_weight};
 ghost use Rattle.bolt_recover.specs.Refusals.{IsRefusedRoot, KeepsRoot};
 
+use crate::Loss;
 use crate::content::{Content, OpenPage};
-use crate::loss::Loss;
 use bolt_check::{CheckFault, Claims, Finding, NoMemory, PageSpot, Spot};
 use bolt_format::{Leaf, Meta};
 use std::alloc::Global;

@@ -4,7 +4,7 @@ pub use Rattle.bolt_check.proofs.WayFacts.{follow_append}
 pub use Rattle.bolt_check.specs.{CheckedFiles.bytes_of, CheckedFiles.meta_of, Keys.Key, Keys.key_lt, Nodes.Node, Nodes.Nodes, Nodes.leaf_entry, Nodes.node_at}
 pub use Rattle.bolt_check.specs.{RoledFiles.roles_checked, Sound.HasSoundTrees, Subtrees.Enough, Subtrees.Has, Subtrees.kid_pages, Subtrees.weight}
 pub use Rattle.bolt_check.specs.Ways.{At_page, PageSpot, Spot, follow, reached, root_spot, step}
-pub use Rattle.bolt_check.specs.declared.checked_file.Checked.{Checked}
+pub use Rattle.bolt_check.specs.declared.Checked.{Checked}
 pub use Rattle.bolt_format.proofs.ListLemmas.{drop_next, flat_map-take_more}
 pub use Rattle.bolt_format.proofs.WroteFronts.{WroteFront, front_more, front_none, front_whole}
 pub use Rattle.bolt_format.proofs.WroteLemmas.{Wrote-element, Wrote-element_return, Wrote-elements, Wrote-none, Wrote-return, Wrote-same, Wrote-then, Wrote-then_return}
@@ -25,8 +25,8 @@ pub use Rattle.bolt_report.specs.Pieces.{later_parts, part_text, path_text, piec
 pub use Rattle.bolt_report.specs.Readings.{AreGood, inner_pages, inner_roots, numbers_of, one, own_figure, pages_in_bucket, root_page_of, roots_in_bucket, roots_of, total_of, unread_bucket, unread_page}
 pub use Rattle.bolt_report.specs.SizeLines.{AreSized, Sized, bytes_allocated, bytes_used, size_json, sizes_text}
 pub use Rattle.bolt_report.specs.{StatsOf.IsStatsOf, StatsOf.tour_figure, declared.bucket_stats.UnreadBucket.UnreadBucket}
-pub use Rattle.bolt_report.specs.{declared.bucket_stats.UnreadPage.UnreadPage, declared.fault.ReportFault.ReportFault, declared.form.Form.Form}
-pub use Rattle.bolt_report.specs.{declared.form.ListForm.ListForm, declared.statistics.Stats.Stats}
+pub use Rattle.bolt_report.specs.{declared.Form.Form, declared.ReportFault.ReportFault, declared.bucket_stats.UnreadPage.UnreadPage}
+pub use Rattle.bolt_report.specs.{declared.ListForm.ListForm, declared.statistics.Stats.Stats}
 unfoldable pub use Rattle.bolt_report.specs.{FoundLines.found_line, JsonLines.json_line, LossLines.loss_text, PageMaps.map_line}
 pub use Rattle.bolt_tree.proofs.{Filters.not_true, Leaving.fewer_left, Leaving.next_shows, Leaving.the_entries, Lists.contains_head, Lists.contains_tail}
 pub use Rattle.bolt_tree.specs.{Buckets.bucket_checked, Buckets.bucket_start, Cursors.cursor_bucket, Cursors.cursor_opened, Cursors.cursor_place}

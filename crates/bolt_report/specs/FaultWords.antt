@@ -9,8 +9,8 @@ use Rattle.bolt_check.specs.declared.fault.Finding.{Finding}
 use Rattle.bolt_check.specs.declared.fault.TheConstants.Finding.{TWICE, ORDER, BELOW_PARENT, ABOVE_NEXT, EMPTY_BRANCH, TOO_DEEP, FREED_TWICE, REACHED_FREED}
 use Rattle.bolt_check.specs.declared.fault.TheConstants.Finding.{UNREACHABLE, FREE_RANGE}
 use Rattle.bolt_report.specs.Lines.{line}
-use Rattle.bolt_snapshot.specs.declared.hash_check.SnapshotFault.{SnapshotFault}
-use Rattle.bolt_snapshot.specs.declared.hash_check.SnapshotFault.TheVariants.{HashMissing, HashDiffers}
+use Rattle.bolt_snapshot.specs.declared.SnapshotFault.{SnapshotFault}
+use Rattle.bolt_snapshot.specs.declared.SnapshotFault.TheVariants.{HashMissing, HashDiffers}
 
 -- why a file without a valid meta is refused
 abbrev pub meta_fault_text : MetaFault → List ℕ

@@ -3,7 +3,7 @@ use Rattle.std.specs.Prelude.{◌==◌, ℕ, ◌+◌, ◌-◌, ◌*◌, ◌^◌,
 use Rattle.bolt_format.specs.{Elements.BranchElement, Elements.LeafElement, Elements.head_root, Elements.inline_elements, Pages.PageView}
 use Rattle.bolt_format.specs.declared.header.Kind.{Kind}
 use Rattle.bolt_format.specs.declared.header.Kind.TheVariants as kind
-use Rattle.bolt_report.specs.{FigureForms.Named, FigureForms.figures_text, declared.form.FigureForm.FigureForm, declared.statistics.Stats.Stats}
+use Rattle.bolt_report.specs.{FigureForms.Named, FigureForms.figures_text, declared.FigureForm.FigureForm, declared.statistics.Stats.Stats}
 
 -- which figure; depth is none of them, as it is no sum
 pub data Figure : Type 0 where

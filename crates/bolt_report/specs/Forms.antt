@@ -6,7 +6,7 @@ use Rattle.std.specs.Str.{chars, is_utf8}
 use Rattle.hex.specs.Hex.{encode_lower}
 use Rattle.json.specs.{Json.Json, Json.member, Json.no_members, Json.object, Json.string, Print.print, Tree.json_tokens}
 use Rattle.bolt_report.specs.Lines.{line}
-use Rattle.bolt_report.specs.declared.form.Form as form
+use Rattle.bolt_report.specs.declared.Form as form
 
 -- all bytes are printable ASCII characters
 abbrev pub is_printable : List ℕ → Bool

@@ -3,8 +3,8 @@ use Rattle.std.specs.Prelude.{ℕ, List, flat_map}
 use Rattle.std.specs.Borrow.{Bor}
 use Rattle.std.specs.List.{take_while}
 use Rattle.bolt_tree.specs.{Listing.Member, Listing.rest_from, ListingParts.begins_with, ListingParts.bucket_part, ListingParts.part_below, Paths.path_of}
-use Rattle.bolt_report.specs.{Forms.digits_json, Forms.item_json, JsonLines.json_line, ListLines.member_line, declared.form.ListForm.ListForm}
-use Rattle.bolt_report.specs.declared.form.ListForm.TheVariants.{Hex, Json, JsonHex}
+use Rattle.bolt_report.specs.{Forms.digits_json, Forms.item_json, JsonLines.json_line, ListLines.member_line, declared.ListForm.ListForm}
+use Rattle.bolt_report.specs.declared.ListForm.TheVariants.{Hex, Json, JsonHex}
 use Rattle.bolt_report.specs.declared.member_lines.LineWriter.{LineWriter}
 use Rattle.bolt_report.specs.declared.member_lines.LineWriter.TheVariants as writer
 use Rattle.bolt_report.specs.declared.member_lines.MemberLines.{MemberLines}

@@ -1,8 +1,8 @@
 -- How a call ends that may stop for reasons other than its sink.
 use Rattle.std.specs.Prelude.{Result, Ok, Err}
 use Rattle.bolt_format.specs.Endings.{Ending, whole, broken, halted}
-use Rattle.bolt_report.specs.declared.fault.ReportFault.{ReportFault}
-use Rattle.bolt_report.specs.declared.fault.ReportFault.TheVariants.{NoMemory, Page, Sink}
+use Rattle.bolt_report.specs.declared.ReportFault.{ReportFault}
+use Rattle.bolt_report.specs.declared.ReportFault.TheVariants.{NoMemory, Page, Sink}
 
 -- the fault is Sink exactly if the sink failed
 abbrev pub fault_ending : ReportFault → Ending

@@ -6,7 +6,7 @@ use Rattle.json.specs.Json.{member, no_members, object}
 use Rattle.bolt_format.specs.{Elements.LeafElement, declared.meta.Meta.Meta}
 use Rattle.bolt_tree.specs.Entries.{start_of}
 use Rattle.bolt_report.specs.{Figures.capped, FigureForms.figures_then, Forms.is_json, Forms.json_in, Forms.json_text, Forms.value_text, Lines.line}
-use Rattle.bolt_report.specs.{StatsOf.IsStatsOf, declared.statistics.Stats.Stats, declared.form.Form.Form}
+use Rattle.bolt_report.specs.{StatsOf.IsStatsOf, declared.statistics.Stats.Stats, declared.Form.Form}
 
 -- the bytes used and allocated; a sum above 2^64 - 1 saturates there
 abbrev pub bytes_used : Stats → ℕ

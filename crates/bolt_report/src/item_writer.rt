@@ -5,11 +5,10 @@ ghost use Rattle.bolt_format.specs.{Endings.ending, Wrote.Wrote};
 ghost use Rattle.bolt_report.specs.Forms.{digits_json, is_printable, is_text, item_text, json_text, mixed_text, value_text};
 ghost use Rattle.bolt_report.specs.ReportEndings.{report_ending};
 
-use crate::fault::ReportFault;
-use crate::form::Form;
 use crate::hexadecimal::put_hex;
 use crate::json_text::JsonText;
 use crate::pieces::{Piece, put, put_pieces};
+use crate::{Form, ReportFault};
 use bolt_format::{Sink, SinkFault};
 use std::alloc::Global;
 use std::str;

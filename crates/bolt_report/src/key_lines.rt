@@ -6,9 +6,8 @@ ghost use Rattle.bolt_tree.specs.Cursors.{cursor_bucket, cursor_checked, cursor_
 ghost use Rattle.bolt_report.specs.KeyLines.{ForBucket, ForCursor, bucket_name, buckets_text, keys_text};
 ghost use Rattle.bolt_report.specs.{ReportEndings.report_ending, KeyPrefixes.OpensPrefix, KeyPrefixes.with_prefix};
 
-use crate::fault::ReportFault;
-use crate::form::Form;
 use crate::item_writer::ItemWriter;
+use crate::{Form, ReportFault};
 use bolt_format::Sink;
 use bolt_tree::{Bucket, Cursor, Entry, Item};
 use std::alloc::Global;

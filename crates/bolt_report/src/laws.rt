@@ -9,7 +9,7 @@ ghost use Rattle.bolt_report.specs.JsonLines.{member_json};
 ghost use Rattle.bolt_report.specs.JsonReadings.{named_size, HaveWords, IsMemberOfBytes, digits_of, figures_of, item_of, member_of, size_of};
 ghost use Rattle.bolt_report.specs.{ListForms.listing_lines, ListLines.listing_text, SizeLines.AreSized, SizeLines.Sized, SizeLines.size_json};
 ghost use Rattle.bolt_report.specs.{StatsOf.IsStatsOf, declared.statistics.Stats.Stats};
-ghost use Rattle.bolt_report.specs.declared.form.ListForm.TheVariants as ListForm;
+ghost use Rattle.bolt_report.specs.declared.ListForm.TheVariants as ListForm;
 ghost use Rattle.bolt_tree.specs.{Entries.AreEntries, Entries.IsEntry, Entries.IsStart, Entries.Start, Listing.Member};
 
 /// A bucket has at most one set of figures.

@@ -5,11 +5,10 @@ ghost use Rattle.bolt_report.specs.{ListForms.lines_form, ListForms.list_line, R
 ghost use Rattle.bolt_report.specs.ListLines.{member_line, rest_text};
 ghost use Rattle.bolt_tree.specs.{Paths.path_of, ShownEntries.item_view, FileListings.ForListing};
 
-use crate::fault::ReportFault;
-use crate::form::ListForm;
 use crate::json_text::JsonText;
 use crate::part_lines::list_part;
 use crate::pieces::{PathForm, Piece, put, put_pieces};
+use crate::{ListForm, ReportFault};
 use bolt_check::Checked;
 use bolt_format::{Sink, SinkFault};
 use bolt_tree::Item;

@@ -4,8 +4,8 @@ ghost use Rattle.bolt_format.specs.{Endings.ending, Wrote.Wrote};
 ghost use Rattle.bolt_report.specs.FigureForms.{named_line, number_text};
 ghost use Rattle.bolt_report.specs.{MetaLines.freelist_of, MetaLines.info_text, MetaLines.slot_fault_text, MetaLines.slot_number, Pieces.piece_text};
 
+use crate::FigureForm;
 use crate::fault_lines::meta_fault_line;
-use crate::form::FigureForm;
 use crate::pieces::{Piece, put_pieces};
 use bolt_format::{Meta, MetaFault, NO_FREELIST, Sink, SinkFault, Slot};
 

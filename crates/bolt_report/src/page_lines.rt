@@ -8,7 +8,7 @@ ghost use Rattle.bolt_report.specs.PageLines.{head_lines, head_of, item_lines, i
 ghost use Rattle.bolt_report.specs.{PageTexts.page_text, PageTexts.page_text_fault, ReportEndings.report_ending};
 ghost use Rattle.hex.specs.Hex.{encode_lower};
 
-use crate::fault::ReportFault;
+use crate::ReportFault;
 use crate::pieces::{Piece, put_pieces};
 use bolt_format::{
     Branch, FreeIds, Kind, Leaf, Meta, Page, PageFault, Sink, SinkFault, free_ids_at, head, page,

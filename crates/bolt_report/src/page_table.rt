@@ -5,7 +5,7 @@ ghost use Rattle.bolt_check.specs.{CheckedFiles.bytes_of, CheckedFiles.has_accou
 ghost use Rattle.bolt_report.specs.PageTables.{ForRoles, begun, free_past, head_rows, items_row, overflow_text, page_row, past_line, row, table_rows, table_text};
 ghost use Rattle.bolt_report.specs.{ReportEndings.report_ending, Lines.column, Pieces.piece_text};
 
-use crate::fault::ReportFault;
+use crate::ReportFault;
 use crate::pieces::{Piece, put, put_pieces};
 use bolt_check::{Checked, Role, Roles, roles};
 use bolt_format::{Sink, SinkFault, free_ids, known};

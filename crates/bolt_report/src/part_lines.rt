@@ -8,9 +8,8 @@ ghost use Rattle.bolt_tree.specs.{Paths.path_cmp, Paths.path_of, ShownEntries.it
 ghost use Rattle.bolt_report.specs.ListForms.{bucket_lines, lines_below, lines_form, lines_while_below};
 ghost use Rattle.bolt_report.specs.ReportEndings.{report_ending};
 
-use crate::fault::ReportFault;
-use crate::form::ListForm;
 use crate::member_lines::MemberLines;
+use crate::{ListForm, ReportFault};
 use bolt_check::Checked;
 use bolt_format::Sink;
 use bolt_tree::{Item, Members, Walk};

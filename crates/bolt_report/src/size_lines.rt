@@ -9,11 +9,10 @@ ghost use Rattle.bolt_report.specs.SizeLines.{AreSized, Sized, bytes_allocated, 
 ghost use Rattle.bolt_report.specs.Lines.{line};
 
 use crate::bucket_stats::stats;
-use crate::fault::ReportFault;
-use crate::form::Form;
 use crate::item_writer::ItemWriter;
 use crate::pieces::{Piece, put, put_pieces};
 use crate::statistics::Stats;
+use crate::{Form, ReportFault};
 use bolt_format::{Sink, SinkFault};
 use bolt_tree::{Bucket, Entry, Item};
 use std::alloc::Global;

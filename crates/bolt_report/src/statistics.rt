@@ -3,7 +3,7 @@ ghost use Rattle.std.specs.Prelude.{◌≡◌};
 ghost use Rattle.bolt_format.specs.{Endings.ending, Wrote.Wrote};
 ghost use Rattle.bolt_report.specs.Figures.{add_stats, stats_text};
 
-use crate::form::FigureForm;
+use crate::FigureForm;
 use crate::pieces::{Piece, put_pieces};
 use bolt_format::{Sink, SinkFault};
 

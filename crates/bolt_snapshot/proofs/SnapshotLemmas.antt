@@ -7,7 +7,7 @@ use Rattle.std.specs.Str.{bytes_eq}
 use Rattle.sha2.specs.Sha256.{sha256}
 use Rattle.sha2.proofs.Facts256.{length-sha256}
 use Rattle.bolt_snapshot.specs.SnapshotFaults.{IsSnapshot, body_of, fault_by, hash_fault, hash_of}
-use Rattle.bolt_snapshot.specs.declared.hash_check.SnapshotFault.{SnapshotFault}
+use Rattle.bolt_snapshot.specs.declared.SnapshotFault.{SnapshotFault}
 
 -- where the hash begins
 seam : (body : List ℕ) → length (body ++ sha256 body) - 32 ≡ length body

@@ -2,8 +2,8 @@
 use Rattle.std.specs.Prelude.{◌≡◌, ◌==◌, ◌-◌, ◌%◌, ℕ, List, ◌++◌, Bool, true, false, drop, length, take, Option, None, Some}
 use Rattle.std.specs.Str.{bytes_eq}
 use Rattle.sha2.specs.Sha256.{sha256}
-use Rattle.bolt_snapshot.specs.declared.hash_check.SnapshotFault.{SnapshotFault}
-use Rattle.bolt_snapshot.specs.declared.hash_check.SnapshotFault.TheVariants.{HashMissing, HashDiffers}
+use Rattle.bolt_snapshot.specs.declared.SnapshotFault.{SnapshotFault}
+use Rattle.bolt_snapshot.specs.declared.SnapshotFault.TheVariants.{HashMissing, HashDiffers}
 
 -- a file, and its hash after it
 abbrev pub snapshot_of : List ℕ → List ℕ

@@ -1,8 +1,64 @@
 //! etcd's snapshots: a database file, and then 32 bytes, the SHA-256 of all bytes before them. This
-//! crate has the check of a snapshot's hash, and what holds of a snapshot.
+//! crate has the check of a snapshot's hash, and the laws of what holds of a snapshot: of the bytes
+//! after the database, and of their hash.
 #![tactic(auto)]
 
-mod hash_check;
-pub mod laws;
+ghost use Rattle.std.specs.Prelude.{◌≡◌, ◌↔◌, ◌<◌, ◌+◌, ◌%◌, ◌++◌, ℕ, Bool, List, None, Some, length, take};
+ghost use Rattle.bolt_check.specs.Sound.{IsSound};
+ghost use Rattle.bolt_format.specs.{Metas.HasBothMetas, Metas.IsChosen, declared.meta.Meta.Meta, declared.meta.Slot.Slot};
+ghost use Rattle.bolt_snapshot.specs.{Marks.HasAllPages, SnapshotFaults.IsSnapshot, SnapshotFaults.hash_fault, SnapshotFaults.snapshot_of};
+ghost use Rattle.bolt_snapshot.specs.declared.SnapshotFault.TheVariants.{HashMissing};
+ghost use Rattle.bolt_tree.specs.Listing.{IsListing, Member};
 
-pub use hash_check::{HASH_LEN, SnapshotFault, snapshot_fault};
+use sha2::{Digest, Sha256};
+
+/// The number of bytes in a hash.
+pub const HASH_LEN: u64 = 32;
+/// A database file has whole blocks of this many bytes.
+const BLOCK_LEN: u64 = 512;
+
+/// Why a file is no snapshot (docs/COMMANDS.md, "Snapshots").
+#[derive(Clone, Copy, Debug, PartialEq, Eq)]
+pub enum SnapshotFault {
+    /// The length of the file isn't 32 more than a multiple of 512.
+    HashMissing,
+    /// The last 32 bytes aren't the SHA-256 of all bytes before them.
+    HashDiffers,
+}
+
+/// Returns what is wrong with the hash at the end of a snapshot, or `None` if it is right. Nothing
+/// is said of the database before it.
+pub fn snapshot_fault(file: &[u8]) -> Option<SnapshotFault>
+    ensures fault { result ≡ hash_fault file.now }
+    ensures snapshot { result ≡ None ↔ IsSnapshot file.now }
+{
+    let length = file.len() as u64;
+    if length % BLOCK_LEN != HASH_LEN {
+        return Some(SnapshotFault::HashMissing);
+    }
+    let (body, hash) = file.split_at((length - HASH_LEN) as usize);
+    if Sha256::digest(body).as_slice() != hash {
+        return Some(SnapshotFault::HashDiffers);
+    }
+    None
+}
+
+/// Bytes after the last page below the high-water mark change nothing: metas stay valid, the same
+/// one is active, the file stays sound, and it lists the same.
+pub fn trailing_bytes_change_nothing()
+    ensures metas { (file more : List ℕ) → HasBothMetas file → HasBothMetas (file ++ more) }
+    ensures chosen { (file more : List ℕ) (slot : Slot) (meta : Meta) (accounts : Bool) → HasAllPages file meta
+        → IsSound file meta accounts → IsChosen file slot meta → IsChosen (file ++ more) slot meta }
+    ensures sound { (file more : List ℕ) (meta : Meta) (accounts : Bool) → HasAllPages file meta
+        → IsSound file meta accounts → IsSound (file ++ more) meta accounts }
+    ensures listing { (file more : List ℕ) (meta : Meta) (listing : List Member) → HasAllPages file meta
+        → IsListing file meta listing ↔ IsListing (file ++ more) meta listing }
+{}
+
+/// A file of whole blocks of 512 bytes and its hash are a snapshot. If a part of the hash is left
+/// out, the hash is missing.
+pub fn hashed_blocks_are_a_snapshot()
+    ensures snapshot { (file : List ℕ) → length file % 512 ≡ 0 → IsSnapshot (snapshot_of file) }
+    ensures cut { (file : List ℕ) (n : ℕ) → length file % 512 ≡ 0 → n < 32
+        → hash_fault (take (length file + n) (snapshot_of file)) ≡ Some HashMissing }
+{}

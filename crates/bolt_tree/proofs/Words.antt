@@ -8,7 +8,7 @@ pub use Rattle.bolt_check.specs.{CheckedFiles.bytes_of, CheckedFiles.meta_of, Co
 pub use Rattle.bolt_check.specs.{Nodes.Entry, Nodes.Node, Nodes.Nodes, Nodes.branch_entry, Nodes.leaf_entry, Nodes.node_at, OnWays.IsOnWay, Shape.leads}
 pub use Rattle.bolt_check.specs.Sound.{HasSoundTrees}
 pub use Rattle.bolt_check.specs.Ways.{At_page, Before, PageSpot, Spot, bucket_spots, follow, reached, root_spot, step_at, step_entry}
-pub use Rattle.bolt_check.specs.declared.checked_file.Checked.{Checked}
+pub use Rattle.bolt_check.specs.declared.Checked.{Checked}
 pub use Rattle.bolt_format.proofs.ListLemmas.{drop_at, one_some, take_next}
 pub use Rattle.bolt_format.proofs.PageFacts.{below_mark, bucket_value, flat_inline}
 pub use Rattle.bolt_format.proofs.PageLaws.{length-shown_branches, length-shown_leaves}

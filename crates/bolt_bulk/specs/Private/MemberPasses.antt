@@ -2,7 +2,7 @@
 use Rattle.std.specs.Prelude.{◌≡◌, ◌≤◌, ◌<◌, ℕ, Bool, List, [], length, Result, IfErr, IfOk}
 use Rattle.bolt_format.specs.declared.sink.Sink.{Ghosts}
 use Rattle.bolt_tree.specs.{Listing.Member, Tree.tree_of}
-use Rattle.bolt_layout.specs.{Copies.IsOfOneTree, Copies.layout_of_listing, declared.layout.Layout.Layout}
+use Rattle.bolt_layout.specs.{Copies.IsOfOneTree, Copies.layout_of_listing, declared.Layout.Layout}
 use Rattle.bolt_bulk.specs.{Compacting.too_many, WholeListings.IsAgain}
 use Rattle.bolt_bulk.specs.Private.{Endings.Ends, Passes.FitLimits, Passes.limits_with}
 use Rattle.bolt_bulk.specs.{declared.fault.BulkFault.BulkFault, declared.limits.Limits.Limits, declared.page_setup.PageSetup.PageSetup}

@@ -6,7 +6,7 @@ use Rattle.bolt_tree.specs.{Listing.Member, Tree.Tree, Tree.end, Tree.with_bucke
 use Rattle.bolt_layout.specs.{Items.is_inline, Items.items_of, Items.root_of, Laid.Laid, Laid.Placed}
 use Rattle.bolt_layout.specs.{Layout.layout_mark, Layout.layout_pages, Layout.placed_bytes, Limits.HaveRightLimits, Limits.limit_at, Limits.limits_from_ends}
 use Rattle.bolt_layout.specs.Openings.{AreRight, leaf_pages, limits_for, opened_by, opened_in, row_ends_of}
-use Rattle.bolt_layout.specs.declared.layout.Layout.TheVariants.{Plain}
+use Rattle.bolt_layout.specs.declared.Layout.TheVariants.{Plain}
 use Rattle.bolt_bulk.specs.{declared.limits.Limits.Limits, Private.FormatLimits.longest_key, Private.Coming.IsPass, Private.RowLimits.limit_in}
 use Rattle.bolt_bulk.specs.{Private.HeldCounts.AreCounted, Private.HeldCounts.capped, Private.HeldCounts.items_around, Private.HeldSoFar.held_so_far}
 use Rattle.bolt_bulk.specs.{Private.Levels.Level, Private.Levels.left_in, Private.OpenBuckets.IsOpenBucket, Private.OpenBuckets.bucket_runs}
@@ -17,7 +17,7 @@ use Rattle.bolt_bulk.specs.{declared.page_setup.PageSetup.PageSetup, declared.fa
 use Rattle.bolt_bulk.specs.declared.fault.BulkFault.TheVariants as fault
 use Rattle.bolt_bulk.specs.{declared.pass.Pass.Pass, declared.waiting_bucket.PendingBucket.PendingBucket, declared.waiting_bucket.WaitingBucket.WaitingBucket}
 use Rattle.bolt_bulk.specs.{declared.limits.NotedLimits.NotedLimits, BulkEndings.bulk_ending}
-use Rattle.bolt_layout.specs.declared.layout.Layout.{Layout}
+use Rattle.bolt_layout.specs.declared.Layout.{Layout}
 use Rattle.bolt_format.specs.{Wrote.Wrote, declared.sink.Sink.Ghosts}
 
 -- entries that are values, in front of a tree

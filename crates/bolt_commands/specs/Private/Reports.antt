@@ -4,7 +4,7 @@ use Rattle.bolt_bulk.specs.declared.fault.BulkFault.{BulkFault}
 use Rattle.bolt_format.specs.declared.sink.Sink.{Ghosts}
 use Rattle.bolt_recover.specs.ShownLosses.{lost_view}
 use Rattle.bolt_report.specs.FoundLines.{found_view}
-use Rattle.bolt_commands.specs.{Answers.Answer, Answers.Does, Answers.Ending, Answers.copy_report, Failures.copied, declared.copy_report.CopyReport.CopyReport}
+use Rattle.bolt_commands.specs.{Answers.Answer, Answers.Does, Answers.Ending, Answers.copy_report, Failures.copied, declared.copies.CopyReport.CopyReport}
 
 -- what is written of a report, if the copy has this length
 abbrev pub report_answer : CopyReport → (copy : ℕ) → Answer

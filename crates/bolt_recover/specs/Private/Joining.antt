@@ -6,14 +6,14 @@ use Rattle.std.specs.declared.cmp.Ordering.{Ordering}
 use Rattle.std.specs.declared.cmp.Ordering.TheVariants.{Less}
 use Rattle.bolt_check.specs.Keys.{key_cmp}
 use Rattle.bolt_format.specs.declared.meta.Meta.{Meta}
-use Rattle.bolt_tree.specs.{Listing.Member, Paths.Path, ShownEntries.item_view, declared.entry.Item.Item}
+use Rattle.bolt_tree.specs.{Listing.Member, Paths.Path, ShownEntries.item_view, declared.Item.Item}
 use Rattle.bolt_recover.specs.{Found.AreFound, Found.numbers_of, Joined.LacksBucketKey, Joined.is_found_path, Joined.lost_and_found, Recovered.ForRecovered}
 use Rattle.bolt_recover.specs.ShownFound.{IsFoundView}
 use Rattle.bolt_recover.specs.Private.FoundLeft.{below_bucket, bucket_left, bucket_members, bucket_path}
 use Rattle.bolt_recover.specs.Private.KeptMembers.{kept_file, kept_left, kept_meta, kept_path, kept_work}
-use Rattle.bolt_recover.specs.{declared.found.Found.Found, declared.found_members.FoundMembers.FoundMembers, declared.joined.Stage.Stage}
+use Rattle.bolt_recover.specs.{declared.Found.Found, declared.joined.Stage.Stage, declared.joined_parts.FoundMembers.FoundMembers}
 use Rattle.bolt_recover.specs.declared.joined.Stage.TheVariants.{After, Before, Inside}
-use Rattle.bolt_recover.specs.declared.kept.Kept.{Kept}
+use Rattle.bolt_recover.specs.declared.joined_parts.Kept.{Kept}
 
 -- how the first part of a path compares with the key of the bucket of what is found
 abbrev pub first_cmp : Path → Ordering

@@ -4,7 +4,7 @@ use Rattle.std.proofs.Math.Logic.{∥∥₁_elim}
 use Rattle.std.proofs.lemmas.Grind.{common_steps}
 use Rattle.std.proofs.Props.{props}
 use Rattle.bolt_tree.specs.Tree.{tree_of}
-use Rattle.bolt_layout.specs.{Layout.layout_mark, declared.layout.Layout.TheVariants.Balanced, declared.layout.Layout.TheVariants.Plain}
+use Rattle.bolt_layout.specs.{Layout.layout_mark, declared.Layout.TheVariants.Balanced, declared.Layout.TheVariants.Plain}
 use Rattle.bolt_bulk.specs.Private.{FitLimits, limits_with}
 use Rattle.bolt_bulk.proofs.{FileLayouts.balanced_too_large, Openings.fit_plain, PutsLemmas.Wrote-failed}
 use Rattle.bolt_bulk.proofs.members_copy.balanced_limits.Goals as goal

@@ -2,7 +2,7 @@
 use Rattle.std.proofs.Common.{arith, subst, sym}
 use Rattle.std.proofs.lemmas.Grind.{common_steps}
 use Rattle.bolt_tree.specs.Tree.{tree_of}
-use Rattle.bolt_layout.specs.declared.layout.Layout.{Layout}
+use Rattle.bolt_layout.specs.declared.Layout.{Layout}
 use Rattle.bolt_bulk.specs.Private.{FitLimits, limits_with}
 use Rattle.bolt_bulk.proofs.Openings.{fit_plain}
 use Rattle.bolt_bulk.proofs.members_copy.limits_of.Goals as goal

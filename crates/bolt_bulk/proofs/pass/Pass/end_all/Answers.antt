@@ -2,7 +2,7 @@
 use Rattle.std.proofs.Common.{◌∙◌, [], Err, arith, subst, sym}
 use Rattle.std.proofs.lemmas.Result.{err_from_is_err_and}
 use Rattle.std.specs.Prelude.{⊤}
-use Rattle.bolt_layout.specs.declared.layout.Layout.TheVariants.{Balanced}
+use Rattle.bolt_layout.specs.declared.Layout.TheVariants.{Balanced}
 use Rattle.bolt_bulk.specs.{Private.bucket_runs, Private.FitLimits, Private.limits_with, Private.runs_end_put, declared.limits.Limits.Limits}
 use Rattle.bolt_bulk.proofs.{PassAt.steps_none, PassEnds.ends_after, PassEnds.ends_early, PassEnds.has_end}
 use Rattle.bolt_bulk.proofs.pass.Pass.end_all.Goals as goal

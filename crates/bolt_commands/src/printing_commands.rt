@@ -1,0 +1,185 @@
+//! The commands that print figures, pages and what a bucket holds: `info`, `page`, `pages`, `buckets`,
+//! `keys`, `get` and `stats`.
+ghost use Rattle.std.specs.Prelude.{◌≡◌, ◌⊎◌, IfErr, IfOk, true};
+ghost use Rattle.bolt_check.specs.{CheckedFiles.bytes_of, CheckedFiles.has_accounts, CheckedFiles.meta_of, RoledFiles.roles_checked, Sound.HasSoundTrees};
+ghost use Rattle.bolt_format.specs.{Elements.LeafElement, Endings.ending, Wrote.Wrote};
+ghost use Rattle.bolt_report.specs.{PageTables.ForRoles, ReportEndings.report_ending};
+ghost use Rattle.bolt_tree.specs.{Buckets.bucket_checked, Buckets.bucket_start, BucketViews.entries_of, Entries.Start, Entries.Value, EntriesLeft.ForEntries};
+ghost use Rattle.bolt_commands.specs.Answers.{AddsEntry, HasNoMeta, HasStats, HoldsIn, HoldsNone, IsCheckedAnswer, IsFileRefusal, IsInfoAnswer};
+ghost use Rattle.bolt_commands.specs.Answers.{IsPageAnswer, IsPagesAnswer, IsShownMeta, IsTotal, LeadsTo, no_stats, value_shown};
+ghost use Rattle.bolt_commands.specs.Private.Printing.{IsBucketsPrint, IsGetPrint, IsKeysPrint, IsStatsPrint, PrintsAnswer, checked_pages};
+ghost use Rattle.bolt_job.specs.PlainWords.{path_in};
+ghost use Rattle.bolt_commands.specs.declared.failure.Failure.TheVariants.{Memory, NoBucket};
+
+use crate::failure::{Failure, Outcome, ended, written};
+use crate::opening::{Input, open_bucket};
+use bolt_check::{Checked, NoMemory, Roles, check_roles};
+use bolt_format::{Meta, MetaFault, Sink, SinkFault, Slot, choose, slot_meta};
+use bolt_job::{BucketsJob, GetJob, InfoJob, KeysJob, PageJob, PagesJob, StatsJob};
+use bolt_report::{
+    Form, ReportFault, Stats, add, buckets, info, item, keys_with_prefix, page_map, page_text,
+    pages_table, sizes, stats, stats_text, value,
+};
+use bolt_tree::Bucket;
+use std::alloc::Global;
+
+/// Writes the figures of the meta in a slot or, without one, of the active meta.
+pub(crate) fn print_info<O: Sink>(input: Input<'_>, job: &InfoJob, out: &mut O) -> Outcome
+    ensures { PrintsAnswer O.Sink out.old out.new (IsInfoAnswer input.entry.file.now job.now.slot job.now.form) result }
+{
+    let (slot, meta) = find_meta(input.file, job.slot)?;
+    written(info(slot, &meta, job.form, out))
+}
+
+fn find_meta(file: &[u8], slot: Option<Slot>) -> Result<(Slot, Meta), MetaFault>
+    ensures found { IfOk result (λ found. IsShownMeta file.now slot found.0 found.1) }
+    ensures none { IfErr result (HasNoMeta file.now slot) }
+{
+    match slot {
+        None => choose(file),
+        Some(slot) => Ok((slot, slot_meta(file, slot)?)),
+    }
+}
+
+/// Writes the text of a page.
+pub(crate) fn print_page<O: Sink>(input: Input<'_>, job: &PageJob, out: &mut O) -> Outcome
+    ensures { PrintsAnswer O.Sink out.old out.new (IsPageAnswer input.entry.file.now job.now.meta job.now.id) result }
+{
+    let meta = job.meta.find(input.file)?;
+    ended(page_text(input.file, &meta, job.id, out))
+}
+
+/// Writes the table of all pages or, if it is asked for, a map of them.
+pub(crate) fn print_pages<O: Sink>(input: Input<'_>, job: &PagesJob, out: &mut O) -> Outcome
+    ensures { PrintsAnswer O.Sink out.old out.new (IsCheckedAnswer input.entry.file.now (IsPagesAnswer input.entry.file.now job.now.map) IsFileRefusal) result }
+{
+    let roles = check_roles(input.alloc, input.file)?;
+    written(put_pages(&roles, job.map, out))
+}
+
+fn put_pages<O: Sink>(roles: &Roles<'_>, map: bool, out: &mut O) -> Result<(), SinkFault>
+    requires { has_accounts (roles_checked roles.now) ≡ true }
+    ensures { ForRoles (roles_checked roles.now) (λ own. Wrote O.Sink out.old out.new (checked_pages map (roles_checked roles.now) own) (ending result)) }
+{
+    if map {
+        page_map(roles, out)
+    } else {
+        pages_table(roles, out)
+    }
+}
+
+/// Writes the names of the buckets in the bucket at a path, or also their sizes.
+pub(crate) fn print_buckets<O: Sink>(input: Input<'_>, job: &BucketsJob, out: &mut O) -> Outcome
+    ensures { PrintsAnswer O.Sink out.old out.new (IsBucketsPrint job.now input.entry.file.now) result }
+{
+    let bucket = input.bucket(job.meta, job.path.as_slice())?;
+    if job.sizes {
+        ended(sizes(input.alloc, &bucket, job.form, out))
+    } else {
+        ended(buckets(input.alloc, &bucket, job.form, out))
+    }
+}
+
+/// Writes the keys of the bucket at a path that begin with a prefix.
+pub(crate) fn print_keys<O: Sink>(input: Input<'_>, job: &KeysJob, out: &mut O) -> Outcome
+    ensures { PrintsAnswer O.Sink out.old out.new (IsKeysPrint job.now input.entry.file.now) result }
+{
+    let bucket = input.bucket(job.meta, job.path.as_slice())?;
+    let mut cursor = bucket.cursor();
+    let prefix = job.prefix.as_slice();
+    ended(keys_with_prefix(input.alloc, &mut cursor, prefix, job.form, out))
+}
+
+/// Writes the value at a path, and a line feed unless none is wanted.
+pub(crate) fn print_value<O: Sink>(input: Input<'_>, job: &GetJob, out: &mut O) -> Outcome
+    ensures { PrintsAnswer O.Sink out.old out.new (IsGetPrint job.now input.entry.file.now) result }
+{
+    let checked = input.read(job.meta)?;
+    let value = find_value(checked, job.path.as_slice())?;
+    ended(put_value(input.alloc, value, job.form, job.no_newline, out))
+}
+
+fn put_value<O: Sink>(
+    alloc: Global,
+    bytes: &[u8],
+    form: Form,
+    no_newline: bool,
+    out: &mut O,
+) -> Result<(), ReportFault>
+    ensures written { Wrote O.Sink out.old out.new (value_shown no_newline form bytes.now) (report_ending result) }
+    ensures fault { IfErr result (λ fault. (fault ≡ ReportFault.Sink) ⊎ ((fault ≡ ReportFault.NoMemory) × (form ≡ Form.Json))) }
+{
+    if no_newline {
+        item(alloc, bytes, form, out)
+    } else {
+        value(alloc, bytes, form, out)
+    }
+}
+
+/// The value at a path. The last part is its key.
+fn find_value<'a>(checked: Checked<'a>, path: &[Vec<u8>]) -> Result<&'a [u8], Failure>
+    ensures held { IfOk result (λ value. ∥ HoldsIn (bytes_of checked.entry) (meta_of checked.entry) (path_in path.now) (Value value.now) ∥₁) }
+    ensures refused { IfErr result (HoldsNone (bytes_of checked.entry) (path_in path.now) (meta_of checked.entry)) }
+{
+    let Some((key, parents)) = path.split_last() else {
+        return Err(Failure::NoKey);
+    };
+    let bucket = open_bucket(checked, parents)?;
+    match bucket.get(key.as_slice()) {
+        Some(value) => Ok(value),
+        None => Err(Failure::NoKey),
+    }
+}
+
+/// Writes the figures of the bucket at a path with all in it. At the empty path they are those of
+/// the root's buckets, added up.
+pub(crate) fn print_stats<O: Sink>(input: Input<'_>, job: &StatsJob, out: &mut O) -> Outcome
+    ensures { PrintsAnswer O.Sink out.old out.new (IsStatsPrint job.now input.entry.file.now) result }
+{
+    let checked = input.read(job.meta)?;
+    let stats = find_stats(input.alloc, checked, job.path.as_slice())?;
+    written(stats_text(&stats, job.form, out))
+}
+
+/// The figures of the bucket at a path.
+fn find_stats(alloc: Global, checked: Checked<'_>, path: &[Vec<u8>]) -> Result<Stats, Failure>
+    requires { HasSoundTrees (bytes_of checked) (meta_of checked) }
+    ensures found { IfOk result (HasStats (bytes_of checked.entry) (path_in path.now) (meta_of checked.entry)) }
+    ensures missing { IfErr result (λ failure. (failure ≡ Memory) ⊎ ((failure ≡ NoBucket)
+        × ((bucket : Start) → LeadsTo (bytes_of checked.entry) (meta_of checked.entry) (path_in path.now) bucket → ⊥))) }
+{
+    if path.is_empty() {
+        return Ok(sum_buckets(alloc, &Bucket::root(checked))?);
+    }
+    let bucket = open_bucket(checked, path)?;
+    Ok(stats(alloc, &bucket)?)
+}
+
+/// The figures of the buckets in a bucket, added up.
+fn sum_buckets(alloc: Global, bucket: &Bucket<'_>) -> Result<Stats, NoMemory>
+    ensures { IfOk result (λ total. ForEntries (bucket_checked bucket.now) (bucket_start bucket.now) (λ entries.
+        ∥ IsTotal (bytes_of (bucket_checked bucket.now)) (meta_of (bucket_checked bucket.now)) entries no_stats total ∥₁)) }
+{
+    let mut total = Stats::default();
+    let mut cursor = bucket.cursor();
+    'rest: while let Some(entry) = cursor.next() {
+        total = add_entry(alloc, bucket, entry.key, total)?;
+    }
+    Ok(total)
+}
+
+/// Adds the figures of the entry with this key, if it is a bucket.
+fn add_entry(
+    alloc: Global,
+    bucket: &Bucket<'_>,
+    key: &[u8],
+    total: Stats,
+) -> Result<Stats, NoMemory>
+    ensures { IfOk result (λ sum. (e : LeafElement) → entries_of (bucket_checked bucket.now) (bucket_start bucket.now) e → e.key ≡ key.now
+        → ∥ AddsEntry (bytes_of (bucket_checked bucket.now)) (meta_of (bucket_checked bucket.now)) e total sum ∥₁) }
+{
+    match bucket.bucket(key) {
+        Some(inner) => Ok(add(total, stats(alloc, &inner)?)),
+        None => Ok(total),
+    }
+}
