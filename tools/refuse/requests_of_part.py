@@ -3,9 +3,10 @@
 
     requests_of_part.py PROGRAM LIBRARY
 
-LIBRARY refuses requests (refuse.c). A walk asks for memory for each open bucket. So a list of the part below a bucket
-must ask as often, beyond what the keys of that bucket need, whether a deep bucket lies beside it or not: one that also
-walked the whole file would ask more often, as the list of the whole file must. The status is 1 if that isn't so."""
+LIBRARY refuses requests (refuse.c). A check asks for memory as often as a file is deep, and so does a walk of it. If a
+deep bucket is put beside a small one, the keys of the small one take more requests by the check alone, and the list of
+its part must take exactly as many more. The list of everything takes more than that, and so would a list of a part that
+also walked the whole file. The status is 1 if that isn't so."""
 
 import os
 import subprocess
@@ -45,22 +46,23 @@ def requests(program, library, folder, words):
     return low
 
 
-def requests_of_lists(program, library, depth):
-    """The requests of the list of `a` and of the list of everything, beyond those of the keys of `a`."""
+def requests_beside(program, library, depth):
+    """How many requests the keys of `a`, the list of `a` and the list of everything make on such a file."""
     with tempfile.TemporaryDirectory() as folder:
         with open(os.path.join(folder, "FILE"), "wb") as file:
             file.write(nested(depth))
         commands = [["keys", "FILE", "a"], ["list", "FILE", "a"], ["list", "FILE"]]
-        keys, part, whole = (requests(program, library, folder, words) for words in commands)
-    return part - keys, whole - keys
+        return [requests(program, library, folder, words) for words in commands]
 
 
 def main():
     program, library = (os.path.abspath(it) for it in sys.argv[1:])
-    part, whole = requests_of_lists(program, library, SHALLOW)
-    deep_part, deep_whole = requests_of_lists(program, library, DEEP)
-    print(f"requests of a part: {part}, beside {DEEP} nested buckets {deep_part}; of everything: {whole}, {deep_whole}")
-    sys.exit(0 if part == deep_part and whole < deep_whole else 1)
+    shallow = requests_beside(program, library, SHALLOW)
+    deep = requests_beside(program, library, DEEP)
+    for depth, (keys, part, whole) in [(SHALLOW, shallow), (DEEP, deep)]:
+        print(f"beside {depth} nested buckets, requests for keys: {keys}, for a part: {part}, for everything: {whole}")
+    keys, part, whole = (after - before for before, after in zip(shallow, deep))
+    sys.exit(0 if keys == part < whole else 1)
 
 
 if __name__ == "__main__":

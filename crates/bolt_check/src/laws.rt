@@ -1,4 +1,5 @@
-//! What the definitions of sound files imply.
+//! What the definitions of sound files imply. docs/SOUND.md says what findings, accounts, roles, ways
+//! and tours are.
 ghost use Rattle.std.specs.Prelude.{◌≡◌, ◌≢◌, ◌↔◌, ◌<◌, ◌+◌, ℕ, IsTrue, List, Some, slice_get};
 ghost use Rattle.bolt_format.specs.{Elements.BranchElement, Elements.LeafElement, Elements.head_root, Pages.PageView, Pages.page_at};
 ghost use Rattle.bolt_format.specs.declared.header.Kind.TheVariants as kind;
@@ -13,17 +14,20 @@ pub fn sound_trees_pass_the_tests()
     ensures { (file : List ℕ) (meta : Meta) → HasSoundTrees file meta ↔ PassesTests file meta }
 {}
 
-/// Sound trees have no finding.
+/// Sound trees have no finding. So if a file has a first finding under a meta, its trees aren't
+/// sound for it.
 pub fn sound_trees_have_no_finding()
     ensures { (file : List ℕ) (meta : Meta) (x : Finding) → HasSoundTrees file meta → IsFirstFinding file meta x → ⊥ }
 {}
 
-/// There is at most one first finding.
+/// There is at most one first finding, so which one is reported doesn't depend on how it is searched
+/// for.
 pub fn first_finding_is_one()
     ensures { (file : List ℕ) (meta : Meta) (x y : Finding) → IsFirstFinding file meta x → IsFirstFinding file meta y → x ≡ y }
 {}
 
-/// There is one list of findings of the accounts.
+/// There is one list of findings of the accounts, so what is reported of them, and in which order,
+/// doesn't depend on how it is searched for.
 pub fn account_findings_are_one()
     ensures { (file : List ℕ) (meta : Meta) (a b : List Finding) → AreAccountFindings file meta (IsUsed file meta) a
         → AreAccountFindings file meta (IsUsed file meta) b → a ≡ b }
@@ -43,7 +47,8 @@ pub fn role_exists()
         → n < meta.high_water → (role : Role) × HasRole file meta n role }
 {}
 
-/// In a sound file there is an assignment of roles to all pages.
+/// In a sound file there is an assignment of roles to pages: one role for each page below the
+/// high-water mark, which it has.
 #[tactic(auto, using(crate::proofs::RoleFacts::some_roles))]
 pub fn roles_exist()
     ensures { (file : List ℕ) (meta : Meta) → HasSoundTrees file meta → HasRightAccounts file meta → (roles : ℕ → Role) × AreRoles file meta roles }
@@ -61,14 +66,15 @@ pub fn ways_go_on()
         → IsOnWay file meta (head_root e.value) 1 }
 {}
 
-/// In sound trees each bucket has a tour.
+/// In sound trees each bucket with a root page has a tour: the list of all ways in it, in order.
 #[tactic(auto, using(crate::proofs::TourSums::bucket_tour))]
 pub fn tour_exists()
     ensures { (file : List ℕ) (meta : Meta) (way : List ℕ) (root : ℕ) → HasSoundTrees file meta
         → reached (node_at file meta) meta.root way ≡ Some (At_page (root_spot root)) → (tour : _) × IsTour (reached (node_at file meta) root) tour }
 {}
 
-/// There is at most one tour.
+/// There is at most one tour: it lists exactly the ways that lead somewhere, and these have one
+/// order.
 pub fn tour_is_one()
     ensures { (reach : Reach) (a b : List (List ℕ)) → IsTour reach a → IsTour reach b → a ≡ b }
 {}

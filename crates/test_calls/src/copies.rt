@@ -12,7 +12,8 @@ use bolt_load::ListingText;
 use std::alloc::Global;
 use std::io::{self, Write};
 
-/// The layout and the page size that two words ask for.
+/// The layout and the page size that two words ask for: `plain` or `balanced`, and a number of
+/// bytes.
 fn shape_of(words: &[String]) -> Result<(Layout, PageSize), Fault> {
     let [layout, page_size] = words else {
         return Err(Fault::Unread);
@@ -26,7 +27,8 @@ fn shape_of(words: &[String]) -> Result<(Layout, PageSize), Fault> {
     Ok((layout, size))
 }
 
-/// The root page and the high-water mark of a plan.
+/// The root page and the high-water mark of a plan. The plain layout is planned by `plan`, the other by
+/// `plan_as`.
 pub fn planned(input: Input<'_>, line: &mut Vec<u8>) -> Result<(), Fault> {
     let Input { alloc, file, words } = input;
     let (layout, size) = shape_of(words)?;
@@ -56,7 +58,7 @@ impl Write for Counting {
 }
 
 /// The number of bytes of a copy, the number that its sink accepted, and how many items were held at
-/// one time.
+/// one time. The plain layout is made by `compact`, the other by `compact_as`.
 pub fn copied(input: Input<'_>, line: &mut Vec<u8>) -> Result<(), Fault> {
     let Input { alloc, file, words } = input;
     let (layout, size) = shape_of(words)?;

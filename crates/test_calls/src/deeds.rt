@@ -32,7 +32,8 @@ pub fn deeds_of(input: Input<'_>, lines: &mut Vec<u8>) -> Result<(), Fault> {
     Ok(())
 }
 
-/// Adds the line of a run's status and its deeds.
+/// Adds the line of a run's status and its deeds: the status, a colon, and the words of each deed in
+/// turn.
 fn push_deeds(code: u8, log: &Log, line: &mut Vec<u8>) -> Result<(), Fault> {
     write!(line, "{code}:")?;
     for record in log.records.as_slice() {
@@ -58,6 +59,7 @@ fn push_deed(line: &mut Vec<u8>, record: &Record) -> Result<(), Fault> {
     Ok(())
 }
 
+/// What a deed of this kind is called in test cases.
 fn word_of(kind: Kind) -> &'static str {
     match kind {
         Kind::Read => "read",
