@@ -51,13 +51,11 @@ impl fmt::Display for LineFault {
 impl Error for LineFault {}
 
 /// Why a text isn't read.
-#[derive(Clone, Copy, Debug, PartialEq, Eq, thiserror::Error)]
+#[derive(Clone, Copy, Debug, PartialEq, Eq)]
 pub enum LoadFault {
     /// Memory ran out.
-    #[error("out of memory")]
     Memory,
     /// The first line that isn't right.
-    #[error("line {line}: {fault}")]
     Line {
         /// Its number, from 1.
         line: u64,
@@ -65,6 +63,17 @@ pub enum LoadFault {
         fault: LineFault,
     },
 }
+
+impl fmt::Display for LoadFault {
+    fn fmt<W: fmt::Write>(&self, f: &mut fmt::Formatter<W>) -> fmt::Result {
+        match self {
+            LoadFault::Memory => f.write_str("out of memory"),
+            LoadFault::Line { line, fault } => write!(f, "line {line}: {fault}"),
+        }
+    }
+}
+
+impl Error for LoadFault {}
 
 impl From<AllocError> for LoadFault {
     ghost from_gives = { λ _ fault. fault ≡ load.Memory };
