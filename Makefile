@@ -5,7 +5,7 @@ MAKER = PYTHONPATH=tools/format python3 -B
 PROGRAM = crates/luntsegi/out/luntsegi
 CALLS = crates/test_calls/out/test_calls
 
-.PHONY: build fmt demo set-up cases examples manual failures bbolt fuzz fuzz-wrong wrong-bodies test bench memory install dist deb clean
+.PHONY: build fmt demo set-up cases examples manual failures memory work bbolt fuzz fuzz-wrong wrong-bodies test bench install dist deb clean
 
 # Proves the libraries and the program, and builds it.
 build:
@@ -47,9 +47,12 @@ failures: $(PROGRAM) out/refuse.so out/listed_long.db out/damaged.db out/many_lo
 memory: $(PROGRAM) $(CALLS) out/refuse.so out/nested.db out/deep.db out/damaged.db
 	tools/try/memory.sh $(PROGRAM) $(CALLS)
 
+# Counts requests for memory and instructions: no command does more work than it has to.
+work: $(PROGRAM) $(CALLS) out/refuse.so
+	tools/try/work.sh $(PROGRAM) $(CALLS)
+
 SECONDS ?= 60
 SEED ?= $(shell date +%s)
-
 # Compares what the program prints of random files. SEED=N repeats the files of another run.
 fuzz: $(PROGRAM)
 	$(MAKER) tools/fuzz/fuzz.py $(PROGRAM) --seed $(SEED) --seconds $(SECONDS)
@@ -76,12 +79,11 @@ JOBS ?= $(shell awk '/MemTotal/ { print ($$2 < 13000000 ? 1 : 2) }' /proc/meminf
 set-up:
 	tools/set_up.sh
 
-# The merge gate: every proof from nothing, the wrong bodies of crates/*/must-fail, and the programs, which this
-# builds; and then, of the programs, the test cases, real databases, the manual, failures, refused memory, random files
-# that are the same each time, and a few rounds beside bbolt, where that can be built.
+# The merge gate: every proof from nothing, the wrong bodies of crates/*/must-fail, the built programs, and then what
+# these targets try, random files that are the same each time, and a few rounds beside bbolt, if that can be built.
 test: set-up
 	RT_JOBS=$(JOBS) rt ci
-	$(MAKE) cases examples manual failures memory
+	$(MAKE) cases examples manual failures memory work
 	$(MAKER) tools/fuzz/fuzz.py $(PROGRAM) --seed 1 --files 36
 	tools/bbolt/try.sh $(PROGRAM) 3
 

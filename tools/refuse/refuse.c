@@ -2,8 +2,9 @@
    before the C library.
 
    REFUSED_CALL says of which kind (memory, read, write or sync) and REFUSED_NUMBER which one of
-   these, from 1. REFUSED_MARK names a file that is made when it is refused: so whoever set these
-   knows whether it was called at all. Where a write was refused the device is full: all later ones
+   these, from 1. With REFUSED_LEAST only requests for at least so many bytes of memory count.
+   REFUSED_MARK names a file that is made when it is refused: so whoever set these knows whether it was
+   called at all. Where a write was refused the device is full: all later ones
    to the same file are refused too. With REFUSED_MOST a write moves so many bytes at most.
 
    With REFUSED_CALL touch or append nothing is refused: each of the first REFUSED_NUMBER times that
@@ -29,6 +30,7 @@ void *__libc_realloc(void *block, size_t size);
 static const char *refused_call = "";
 static long refused_number;
 static size_t most_moved = (size_t)-1;
+static size_t least_asked;
 static long made;
 static int full_file = -1;
 static ssize_t (*next_read)(int, void *, size_t);
@@ -40,6 +42,7 @@ __attribute__((constructor)) static void begin(void)
 	const char *call = getenv("REFUSED_CALL");
 	const char *number = getenv("REFUSED_NUMBER");
 	const char *most = getenv("REFUSED_MOST");
+	const char *least = getenv("REFUSED_LEAST");
 
 	next_read = dlsym(RTLD_NEXT, "read");
 	next_write = dlsym(RTLD_NEXT, "write");
@@ -47,6 +50,7 @@ __attribute__((constructor)) static void begin(void)
 	refused_call = call ? call : "";
 	refused_number = number ? atol(number) : 0;
 	most_moved = most ? (size_t)atol(most) : most_moved;
+	least_asked = least ? (size_t)atol(least) : 0;
 }
 
 /* Counts a call of this kind, and says whether it is the one; the error is then this one. */
@@ -62,19 +66,24 @@ static int is_refused(const char *call, int error)
 	return 1;
 }
 
+static int is_memory_refused(size_t size)
+{
+	return size >= least_asked && is_refused("memory", ENOMEM);
+}
+
 void *malloc(size_t size)
 {
-	return is_refused("memory", ENOMEM) ? NULL : __libc_malloc(size);
+	return is_memory_refused(size) ? NULL : __libc_malloc(size);
 }
 
 void *calloc(size_t count, size_t size)
 {
-	return is_refused("memory", ENOMEM) ? NULL : __libc_calloc(count, size);
+	return is_memory_refused(count * size) ? NULL : __libc_calloc(count, size);
 }
 
 void *realloc(void *block, size_t size)
 {
-	return is_refused("memory", ENOMEM) ? NULL : __libc_realloc(block, size);
+	return is_memory_refused(size) ? NULL : __libc_realloc(block, size);
 }
 
 static void touch(int file, const struct stat *status)

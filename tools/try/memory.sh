@@ -7,7 +7,7 @@
 # commands that make few requests (`check` fewer than a hundred: the 200th of the process, which makes more than a
 # hundred before it reads FILE, isn't reached); of the many that a copy of these makes, each 1500th; and under the
 # commands that recover a damaged file. Then it refuses each request of a walk, which is called again and goes on, and
-# of calls that need no memory; and it counts those of a listing's part. make has made the files in out.
+# of calls that need no memory. make has made the files in out.
 set -eux
 . tools/try/commands.sh
 program=$1
@@ -32,6 +32,5 @@ REFUSED_CALL=memory REFUSED_NUMBER=200 LD_PRELOAD=out/refuse.so "$program" check
 sweep 1500 $deep "compact -o OUT"
 with_lines recoveries.txt -- sweep 1 $damaged "check --all" "check --lost-and-found"
 with_lines recoveries.txt -- sweep 1 $nested "check --all" "check --all --etcd-snapshot" "list b b --recover"
-PYTHONPATH=tests:tools/format python3 -B tools/refuse/requests_of_part.py "$program" out/refuse.so
 PYTHONPATH=tests:tools/format python3 -B tools/refuse/try_calls.py "$calls" out/refuse.so \
 	tests/cases/call_again_and_between.cases

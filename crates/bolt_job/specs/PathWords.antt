@@ -1,11 +1,11 @@
 -- How a path is written on a command line: a word for each part, or all parts in hexadecimal in one word: docs/COMMANDS.md, "Words".
-use Rattle.std.specs.Prelude.{List, [], ◌∷◌, Option, Some, None, Result, Ok, Err, codes, drop, take, if◌then◌else◌}
+use Rattle.std.specs.Prelude.{List, [], ◌∷◌, Option, Some, None, Result, Ok, Err, codes, if◌then◌else◌}
 use Rattle.std.specs.Str.{bytes_eq}
 use Rattle.bolt_check.specs.Keys.{Key}
 use Rattle.bolt_tree.specs.Paths.{Path}
-use Rattle.bolt_load.specs.HexPaths.{hex_bytes_in, hex_path_in}
-use Rattle.bolt_job.specs.{LineWords.Text, declared.path_words.Parts.Parts}
-use Rattle.bolt_job.specs.declared.path_words.Parts.TheVariants as parts
+use Rattle.bolt_load.specs.{HexPaths.hex_path_in, PartWords.part_by, declared.line_words.Parts.Parts}
+use Rattle.bolt_load.specs.declared.line_words.Parts.TheVariants as parts
+use Rattle.bolt_job.specs.LineWords.{Text}
 
 module _ {A B : Type 0} where
   abbrev pub result_and_then : (A → Result B Text) → Result A Text → Result B Text
@@ -28,19 +28,9 @@ abbrev pub or_bad_hex : {A : Type 0} → Option A → Result A Text
 or_bad_hex (Some found) = Ok found
 or_bad_hex None = Err (codes "bad hex")
 
--- bytes in hexadecimal, two digits of either case for each
-abbrev pub hex_bytes : Text → Result Key Text
-hex_bytes word = or_bad_hex (hex_bytes_in word)
-
--- what follows `0x` is in hexadecimal, and any other word is text
-abbrev pub mixed_bytes : Text → Result Key Text
-mixed_bytes word = if bytes_eq (take 2 word) (codes "0x") then hex_bytes (drop 2 word) else Ok word
-
 -- a part of a path by its word
 abbrev pub part_of : Parts → Text → Result Key Text
-part_of parts.Text word = Ok word
-part_of parts.Hex word = hex_bytes word
-part_of parts.Mixed word = mixed_bytes word
+part_of how word = or_bad_hex (part_by how word)
 
 -- the bytes that keys are to begin with, written as a part is; without a word each key does
 abbrev pub prefix_of : Parts → Option Text → Result Key Text

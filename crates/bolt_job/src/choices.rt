@@ -6,7 +6,7 @@ use bolt_check::assumed_meta;
 use bolt_format::{Meta, MetaFault, Slot, choose, page_size_ok, slot_meta};
 use bolt_layout::Layout;
 
-/// An accepted page size.
+/// An accepted page size. By this type `run` requires nothing of its job.
 #[derive(Clone, Copy)]
 pub struct PageSize {
     pub bytes: u64,

@@ -16,5 +16,4 @@ pub use job::{
     BucketsJob, CheckJob, CompactJob, GetJob, InfoJob, Job, KeysJob, ListJob, LoadJob, PageJob,
     PagesJob, Refusal, StatsJob,
 };
-pub use path_words::mixed_items_read_back;
 pub use words::read_words;

@@ -8,9 +8,9 @@ ghost use Rattle.bolt_job.specs.Private.CommandLines.{IsAssumedBy, values_of};
 
 use crate::choices::{AssumedMeta, CopyKind, Extent, MetaChoice, PageSize};
 use crate::job::Refusal;
-use crate::path_words::{Parts, read_from, read_path, read_prefix};
+use crate::path_words::{read_from, read_path, read_prefix};
 use bolt_format::Slot;
-use bolt_load::read_number;
+use bolt_load::{Parts, read_number};
 use bolt_report::{FigureForm, Form, ListForm};
 use clap::ArgMatches;
 use std::alloc::Global;

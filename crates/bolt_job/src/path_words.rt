@@ -1,14 +1,12 @@
-//! Reads paths from the words of a command line. And a law: what `--form mixed` prints is read back.
-ghost use Rattle.std.specs.Prelude.{◌≡◌, ◌==◌, ℕ, IfOk, List, Ok, length, map, option_map, true};
+//! Reads paths from the words of a command line.
+ghost use Rattle.std.specs.Prelude.{◌≡◌, ◌==◌, IfOk, length, map, option_map};
 ghost use Rattle.std.specs.List.{list_any, slice_split};
-ghost use Rattle.hex.specs.Hex.{IsBytes};
-ghost use Rattle.bolt_report.specs.{Forms.is_printable, Forms.item_text};
-ghost use Rattle.bolt_report.specs.declared.Form.TheVariants as Form;
 ghost use Rattle.bolt_job.specs.CommandLine.{Gives};
-ghost use Rattle.bolt_job.specs.PathWords.{each_part, hex_bytes, hex_path_by, hex_path_of, mixed_bytes, part_of, prefix_of};
+ghost use Rattle.bolt_job.specs.PathWords.{each_part, hex_path_by, hex_path_of, part_of, prefix_of};
 ghost use Rattle.bolt_job.specs.PlainWords.{path_in};
 
 use crate::job::Refusal;
+use bolt_load::Parts;
 use hex::FromHexError;
 use std::alloc::{AllocError, Global};
 
@@ -30,20 +28,10 @@ pub(crate) fn read_path(
 fn read_part(alloc: Global, parts: Parts, word: &str) -> Result<Vec<u8>, Refusal>
     ensures { Gives (λ part. part.items) (part_of parts word.now) result }
 {
-    match parts {
-        Parts::Text => Ok(word.as_bytes().to_vec(alloc)?),
-        Parts::Hex => read_hex(alloc, word.as_bytes()),
-        Parts::Mixed => read_mixed(alloc, word.as_bytes()),
-    }
-}
-
-/// A part that is in hexadecimal after `0x`, and otherwise as it is.
-fn read_mixed(alloc: Global, word: &[u8]) -> Result<Vec<u8>, Refusal>
-    ensures { Gives (λ part. part.items) (mixed_bytes word.now) result }
-{
-    match word.strip_prefix(b"0x") {
-        Some(digits) => read_hex(alloc, digits),
-        None => Ok(word.to_vec(alloc)?),
+    match parts.read(alloc, word) {
+        Ok(part) => Ok(part),
+        Err(FromHexError::OutOfMemory) => Err(Refusal::Memory),
+        Err(_) => Err(Refusal::Word("bad hex")),
     }
 }
 
@@ -93,31 +81,3 @@ fn has_empty(parts: &[&str]) -> bool
 {
     parts.iter().any(|part| part.is_empty())
 }
-
-fn read_hex(alloc: Global, word: &[u8]) -> Result<Vec<u8>, Refusal>
-    ensures { Gives (λ bytes. bytes.items) (hex_bytes word.now) result }
-{
-    match hex::decode(alloc, word) {
-        Ok(bytes) => Ok(bytes),
-        Err(FromHexError::OutOfMemory) => Err(Refusal::Memory),
-        Err(_) => Err(Refusal::Word("bad hex")),
-    }
-}
-
-/// How the parts of a path are written on a command line.
-#[derive(Clone, Copy, PartialEq, Eq)]
-pub(crate) enum Parts {
-    /// As they are.
-    Text,
-    /// In hexadecimal.
-    Hex,
-    /// In hexadecimal after `0x`, and otherwise as they are.
-    Mixed,
-}
-
-/// What `--form mixed` prints of a key or a value is printable ASCII and, as a part under
-/// `--parts mixed`, that key or value.
-pub fn mixed_items_read_back()
-    ensures printable { (bytes : List ℕ) → IsBytes bytes → is_printable (item_text Form.Mixed bytes) ≡ true }
-    ensures same { (bytes : List ℕ) → IsBytes bytes → part_of Parts.Mixed (item_text Form.Mixed bytes) ≡ Ok bytes }
-{}

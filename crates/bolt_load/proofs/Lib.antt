@@ -9,6 +9,7 @@ pub mod LastPaths
 pub mod LineLemmas
 pub mod ListingTexts
 pub mod MemberLemmas
+pub mod MixedParts
 pub mod NextLines
 pub mod OpenTests
 pub mod PathLemmas

@@ -5,6 +5,7 @@ pub mod LineFaults
 pub mod LineMembers
 pub mod Lines
 pub mod Numbers
+pub mod PartWords
 pub mod PlainTexts
 pub mod Private
 pub mod ShownMembers

@@ -123,7 +123,7 @@ pub fn listed(input: Input<'_>, lines: &mut Vec<u8>) -> Result<(), Fault> {
     Ok(list(alloc, check(alloc, file)?, from.as_slice(), &mut sink)?)
 }
 
-/// The keys of the bucket at a path, in hexadecimal.
+/// The keys of the bucket at a path, as they are.
 pub fn keys_in(input: Input<'_>, lines: &mut Vec<u8>) -> Result<(), Fault> {
     let Input { alloc, file, words } = input;
     let [path, ..] = words else {
@@ -131,5 +131,5 @@ pub fn keys_in(input: Input<'_>, lines: &mut Vec<u8>) -> Result<(), Fault> {
     };
     let bucket = bucket_at(alloc, check(alloc, file)?, path.as_bytes())?;
     let mut sink = WriteSink::new(lines);
-    Ok(keys(alloc, &bucket, Form::Hex, &mut sink)?)
+    Ok(keys(alloc, &bucket, Form::Bytes, &mut sink)?)
 }

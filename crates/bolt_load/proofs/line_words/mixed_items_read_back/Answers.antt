@@ -1,5 +1,5 @@
-use Rattle.bolt_job.proofs.MixedParts.{mixed_back, mixed_word}
-use Rattle.bolt_job.proofs.path_words.mixed_items_read_back.Goals as goal
+use Rattle.bolt_load.proofs.MixedParts.{mixed_back, mixed_word}
+use Rattle.bolt_load.proofs.line_words.mixed_items_read_back.Goals as goal
 
 pub returns-clause-printable : goal.returns-clause-printable
 returns-clause-printable c = λ bytes are. mixed_word bytes are

@@ -1,0 +1,12 @@
+#!/bin/sh
+# Counts what tells that a command does no more work than it has to, for `make work`.
+#
+#     work.sh PROGRAM CALLS
+#
+# It counts requests for memory and, if valgrind is there, instructions. make has made out/refuse.so.
+set -eux
+export PYTHONPATH=tests:tools/format
+python3 -B tools/work/count_requests.py "$1" out/refuse.so
+if command -v valgrind >/dev/null; then
+	python3 -B tools/work/count_instructions.py "$1" "$2"
+fi
