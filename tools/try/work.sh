@@ -6,7 +6,7 @@
 # It counts requests for memory and, if valgrind is there, instructions. make has made out/refuse.so.
 set -eux
 export PYTHONPATH=tests:tools/format
-python3 -B tools/work/count_requests.py "$1" out/refuse.so
+python3 -B tools/counts/count_requests.py "$1" out/refuse.so
 if command -v valgrind >/dev/null; then
-	python3 -B tools/work/count_instructions.py "$1" "$2"
+	python3 -B tools/counts/count_instructions.py "$1" "$2"
 fi
