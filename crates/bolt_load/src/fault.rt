@@ -1,6 +1,6 @@
 //! Why a text isn't that of a listing.
 ghost use Rattle.std.specs.Prelude.{◌≡◌};
-ghost use Rattle.bolt_load.specs.FaultWords.{line_fault_words};
+ghost use Rattle.bolt_load.specs.FaultWords.{line_fault_words, load_fault_words};
 ghost use Rattle.bolt_load.specs.declared.fault.LoadFault.TheVariants as load;
 
 use bolt_tree::NoMemory;
@@ -65,6 +65,10 @@ pub enum LoadFault {
 }
 
 impl fmt::Display for LoadFault {
+    ghost use Rattle.std.specs.Prelude.{Some};
+
+    ghost output = { λ fault. Some (load_fault_words fault) };
+
     fn fmt<W: fmt::Write>(&self, f: &mut fmt::Formatter<W>) -> fmt::Result {
         match self {
             LoadFault::Memory => f.write_str("out of memory"),

@@ -3,7 +3,7 @@
 use bolt_bulk::{BulkFault, PlanFault};
 use bolt_check::{CheckFault, NoMemory};
 use bolt_format::SinkFault;
-use bolt_load::{LineFault, LoadFault};
+use bolt_load::LoadFault;
 use bolt_recover::JoinFault;
 use bolt_report::ReportFault;
 use hex::FromHexError;
@@ -20,8 +20,8 @@ pub enum Fault {
     Unwritten,
     /// What must not happen, and at which byte, call or length.
     Wrong(&'static str, usize),
-    /// A line that isn't right in the text of a listing.
-    Line(u64, LineFault),
+    /// The text of a listing isn't right.
+    Load(LoadFault),
     /// A request for memory was refused, and what went on after it.
     Refused(&'static str),
 }
@@ -33,7 +33,7 @@ impl fmt::Display for Fault {
             Fault::Unread => write!(f, "can't be read"),
             Fault::Unwritten => write!(f, "can't be written"),
             Fault::Wrong(what, at) => write!(f, "wrong at {at}: {what}"),
-            Fault::Line(line, fault) => write!(f, "line {line}: {fault}"),
+            Fault::Load(fault) => write!(f, "{fault}"),
             Fault::Refused(what) => write!(f, "refused: {what}"),
         }
     }
@@ -97,7 +97,7 @@ impl From<LoadFault> for Fault {
     fn from(fault: LoadFault) -> Fault {
         match fault {
             LoadFault::Memory => Fault::Memory,
-            LoadFault::Line { line, fault } => Fault::Line(line, fault),
+            LoadFault::Line { .. } => Fault::Load(fault),
         }
     }
 }
