@@ -13,12 +13,11 @@ The call `keys_with_prefix` is handed one, and its contract bounds what is opene
 The status is 1 if that isn't so."""
 
 import os
-import re
-import subprocess
 import sys
 import tempfile
 
 from draft import make
+from instructions import instructions
 
 LEAVES, KEYS = 100, 150
 # What else two runs may differ by, in hundredths.
@@ -34,29 +33,22 @@ def sorted_keys():
     return make("\n".join(lines))
 
 
-def instructions(folder, *words):
-    """How many instructions a command takes on FILE, and what it prints."""
-    valgrind = ["valgrind", "--tool=callgrind", "--callgrind-out-file=/dev/null"]
-    ran = subprocess.run([*valgrind, *words], cwd=folder, capture_output=True, timeout=300, check=True)
-    return int(re.search(rb"Collected : (\d+)", ran.stderr)[1]), ran.stdout
-
-
 def is_within(name, count, most):
     print(f"{name}: {count} instructions, at most {most}")
     return 100 * count <= (100 + SLACK) * most
 
 
 def call_reads_once(calls, folder):
-    called, keys = instructions(folder, calls, "keys", "FILE", "61")
-    counted, begun = instructions(folder, calls, "begins", "FILE", "61", "")
+    called, _, keys = instructions(folder, calls, "keys", "FILE", "61")
+    counted, _, begun = instructions(folder, calls, "begins", "FILE", "61", "")
     is_right = begun == b"%d\n%b" % (LEAVES + 1, keys)
     return is_within("the call keys", called, counted) and is_right
 
 
 def command_reads_once(program, folder):
-    checked, _ = instructions(folder, program, "check", "FILE")
-    whole, keys = instructions(folder, program, "keys", "FILE", "a")
-    [(none, no_keys), (low, low_keys), (high, high_keys)] = [
+    checked, *_ = instructions(folder, program, "check", "FILE")
+    whole, _, keys = instructions(folder, program, "keys", "FILE", "a")
+    [(none, _, no_keys), (low, _, low_keys), (high, _, high_keys)] = [
         instructions(folder, program, "keys", "FILE", "a", "--prefix", prefix) for prefix in ("2", "0", "1")
     ]
     is_right = no_keys == b"" and keys == low_keys + high_keys

@@ -9,4 +9,5 @@ export PYTHONPATH=tests:tools/format
 python3 -B tools/counts/count_requests.py "$1" out/refuse.so
 if command -v valgrind >/dev/null; then
 	python3 -B tools/counts/count_instructions.py "$1" "$2"
+	python3 -B tools/counts/count_growth.py "$1"
 fi
