@@ -9,8 +9,8 @@ LIBRARY refuses requests (tools/refuse). The status is 1 if a count isn't as it 
   one, the keys of the small one take more requests by the check alone, and the list of its part must take exactly as
   many more. The list of everything takes more than that, and so would a list of a part that also walked the whole file.
 - A table of pages has a byte for each page. In a file of 70,001 pages only FILE, tables and the buffer of OUT are
-  requests for so many bytes. Each command must make as many tables as it walks over ways, and
-  one to find leaves if the root page is lost; however many items there are."""
+  requests for so many bytes. Of a sound file each command makes one table, when it checks the file. Of a damaged one it
+  makes as many as it walks over ways, and one to find leaves if the root page is lost; however many items there are."""
 
 import os
 import subprocess
@@ -37,6 +37,21 @@ TABLES = {
 }
 
 
+# Those that read a sound file.
+READERS = [
+    "check FILE",
+    "pages FILE",
+    "keys FILE a",
+    "buckets FILE --sizes",
+    "stats FILE",
+    "list FILE",
+    "list FILE a",
+    "list FILE --lost-and-found",
+    "compact FILE --for-bbolt -o OUT",
+    "compact FILE --lost-and-found -o OUT",
+]
+
+
 def nested(depth):
     """A file with the small bucket `a` and, beside it, the bucket `b` with buckets to this depth."""
     last = 4 + depth
@@ -57,6 +72,12 @@ def damaged(root):
         "leaf 7 0..9=v",
     ]
     return make("\n".join(lines))
+
+
+def sound():
+    """A file of as many pages, without a freelist, with buckets on pages of their own."""
+    lines = [f"meta page_size=1024 mark={PAGES} freelist={2**64 - 1}", "size 1024", f"pages {PAGES}", "leaf 3 a>4/0 b>5/0 c>6/0"]
+    return make("\n".join([*lines, *(f"leaf {page} 0..9=v" for page in (4, 5, 6))]))
 
 
 class Counted:
@@ -107,22 +128,25 @@ def reads_only_its_part(program, library):
     return keys == part < whole
 
 
-def tables(program, library, root):
-    """How many tables each command makes of the file with this root page."""
+def tables(program, library, file, commands):
+    """How many tables each command makes of a file."""
     with tempfile.TemporaryDirectory() as folder:
-        counted = Counted(program, library, folder, damaged(root), PAGES)
-        made = {words: counted.requests(words) for words in TABLES}
+        counted = Counted(program, library, folder, file, PAGES)
+        made = {words: counted.requests(words) for words in commands}
     # (a check makes one table, so its other requests are for FILE; OUT has a buffer)
     of_file = made["check FILE"] - 1
     return {words: count - of_file - words.endswith("OUT") for words, count in made.items()}
 
 
 def makes_no_table_too_many(program, library):
-    kept, lost = (tables(program, library, root) for root in (3, 5))
+    kept, lost = (tables(program, library, damaged(root), TABLES) for root in (3, 5))
     made = {words: (kept[words], lost[words]) for words in TABLES}
     for words, counts in made.items():
-        print(f"tables of {words}: {counts}, wanted {TABLES[words]}")
-    return made == TABLES
+        print(f"tables of {words}, damaged: {counts}, wanted {TABLES[words]}")
+    whole = tables(program, library, sound(), READERS)
+    for words, count in whole.items():
+        print(f"tables of {words}, sound: {count}, wanted 1")
+    return made == TABLES and set(whole.values()) == {1}
 
 
 def main():
