@@ -47,7 +47,7 @@ failures: $(PROGRAM) out/refuse.so out/listed_long.db out/damaged.db out/many_lo
 memory: $(PROGRAM) $(CALLS) out/refuse.so out/nested.db out/deep.db out/damaged.db
 	tools/try/memory.sh $(PROGRAM) $(CALLS)
 
-# Counts requests for memory and instructions: no command does more work than it has to, or work that grows too fast.
+# Counts requests for memory and instructions, which tell of work that isn't needed or grows too fast.
 work: $(PROGRAM) $(CALLS) out/refuse.so
 	tools/try/work.sh $(PROGRAM) $(CALLS)
 
