@@ -7,20 +7,16 @@ Text = List ℕ
 
 -- ---- how the line of a command is written
 
--- an operand, by its name: one word, or as many as come; it may be required
-pub record Operand : Type 0 where
-  pub name : Text
-  pub several : Bool
-  pub required : Bool
-
--- an option is written `--name`, or by one letter, as `-o`, or in either way
+-- an argument is an operand, written as it is: one word, or as many as come; or an option, written `--name`, or by one letter, as `-o`, or in either way
 pub data Flag : Type 0 where
+  operand : Flag
+  operands : Flag
   long : Text → Flag
   short : (letter : ℕ) → Flag
   both : (letter : ℕ) → Text → Flag
 
--- an option with a value, by the value's name; or one without, which is given or not
-pub record Choice : Type 0 where
+-- an argument, by its name; an option has a value, or none, and is then given or not; it may be required
+pub record Argument : Type 0 where
   pub name : Text
   pub flag : Flag
   pub has_value : Bool
@@ -29,8 +25,7 @@ pub record Choice : Type 0 where
 -- a command's line: its name, its operands in order, and among them its options in any order
 pub record Syntax : Type 0 where
   pub name : Text
-  pub operands : List Operand
-  pub options : List Choice
+  pub arguments : List Argument
 
 -- what an option without a value counts as, if it is given
 abbrev pub given_word : Text

@@ -8,7 +8,7 @@ use Rattle.bolt_format.specs.{Metas.page_sizes, declared.meta.Slot.Slot, declare
 use Rattle.bolt_load.specs.Numbers.{decimal_value, is_number, number_in}
 use Rattle.bolt_report.specs.{declared.FigureForm.FigureForm, declared.Form.Form, declared.ListForm.ListForm}
 use Rattle.bolt_job.specs.FormWords.{figure_form_by, form_by, list_form_by}
-use Rattle.bolt_job.specs.LineWords.{Choice, Operand, Syntax, Text, both, long, short}
+use Rattle.bolt_job.specs.LineWords.{Argument, Syntax, Text, both, long, operand, operands, short}
 use Rattle.bolt_job.specs.PathWords.{each_part, hex_path_by, part_of, parts_by, prefix_of, result_and_then}
 use Rattle.bolt_job.specs.declared.choices.CopyKind.{CopyKind}
 use Rattle.bolt_job.specs.declared.choices.CopyKind.TheVariants as kind
@@ -20,109 +20,109 @@ use Rattle.bolt_job.specs.declared.choices.MetaChoice.{MetaChoice}
 use Rattle.bolt_job.specs.declared.choices.MetaChoice.TheVariants as choice
 use Rattle.bolt_job.specs.declared.choices.PageSize.{PageSize}
 
-abbrev pub file_operand : Operand
-file_operand = record { name = codes "FILE"; several = false; required = true }
+abbrev pub file_operand : Argument
+file_operand = record { name = codes "FILE"; flag = operand; has_value = true; required = true }
 
-abbrev id_operand : Operand
-id_operand = record { name = codes "ID"; several = false; required = true }
+abbrev id_operand : Argument
+id_operand = record { name = codes "ID"; flag = operand; has_value = true; required = true }
 
 -- the parts of a path
-abbrev pub part_operand : (required : Bool) → Operand
-part_operand required = record { name = codes "PART"; several = true; required = required }
+abbrev pub part_operand : (required : Bool) → Argument
+part_operand required = record { name = codes "PART"; flag = operands; has_value = true; required = required }
 
 -- options that may be given, each by its name: with a value, and without one
-abbrev valued_option : Text → Choice
+abbrev valued_option : Text → Argument
 valued_option name = record { name = name; flag = long name; has_value = true; required = false }
 
-abbrev lone_option : Text → Choice
+abbrev lone_option : Text → Argument
 lone_option name = record { name = name; flag = long name; has_value = false; required = false }
 
-abbrev pub form_option : Choice
+abbrev pub form_option : Argument
 form_option = valued_option (codes "form")
 
-abbrev pub parts_option : Choice
+abbrev pub parts_option : Argument
 parts_option = valued_option (codes "parts")
 
-abbrev pub from_option : Choice
+abbrev pub from_option : Argument
 from_option = valued_option (codes "from")
 
-abbrev pub meta_option : Choice
+abbrev pub meta_option : Argument
 meta_option = valued_option (codes "meta")
 
-abbrev pub assumed_option : Choice
+abbrev pub assumed_option : Argument
 assumed_option = valued_option (codes "assume-meta")
 
 -- the file of a copy, by `-o` (111)
-abbrev pub output_option : Choice
+abbrev pub output_option : Argument
 output_option = record { name = codes "output"; flag = short 111; has_value = true; required = true }
 
-abbrev pub page_size_option : Choice
+abbrev pub page_size_option : Argument
 page_size_option = valued_option (codes "page-size")
 
-abbrev pub for_bbolt_option : Choice
+abbrev pub for_bbolt_option : Argument
 for_bbolt_option = lone_option (codes "for-bbolt")
 
-abbrev pub snapshot_option : Choice
+abbrev pub snapshot_option : Argument
 snapshot_option = lone_option (codes "etcd-snapshot")
 
-abbrev pub sequence_option : Choice
+abbrev pub sequence_option : Argument
 sequence_option = valued_option (codes "sequence")
 
-abbrev pub sizes_option : Choice
+abbrev pub sizes_option : Argument
 sizes_option = lone_option (codes "sizes")
 
-abbrev pub prefix_option : Choice
+abbrev pub prefix_option : Argument
 prefix_option = valued_option (codes "prefix")
 
 -- also by `-n` (110)
-abbrev pub no_newline_option : Choice
+abbrev pub no_newline_option : Argument
 no_newline_option = record { name = codes "no-newline"; flag = both 110 (codes "no-newline"); has_value = false; required = false }
 
-abbrev pub map_option : Choice
+abbrev pub map_option : Argument
 map_option = lone_option (codes "map")
 
-abbrev pub all_option : Choice
+abbrev pub all_option : Argument
 all_option = lone_option (codes "all")
 
-abbrev pub lost_and_found_option : Choice
+abbrev pub lost_and_found_option : Argument
 lost_and_found_option = lone_option (codes "lost-and-found")
 
-abbrev pub recover_option : Choice
+abbrev pub recover_option : Argument
 recover_option = lone_option (codes "recover")
 
 -- the lines of the commands
 abbrev pub info_line : Syntax
-info_line = record { name = codes "info"; operands = file_operand ∷ []; options = form_option ∷ meta_option ∷ [] }
+info_line = record { name = codes "info"; arguments = file_operand ∷ form_option ∷ meta_option ∷ [] }
 
 abbrev pub page_line : Syntax
-page_line = record { name = codes "page"; operands = file_operand ∷ id_operand ∷ []; options = assumed_option ∷ [] }
+page_line = record { name = codes "page"; arguments = file_operand ∷ id_operand ∷ assumed_option ∷ [] }
 
 abbrev pub pages_line : Syntax
-pages_line = record { name = codes "pages"; operands = file_operand ∷ []; options = map_option ∷ [] }
+pages_line = record { name = codes "pages"; arguments = file_operand ∷ map_option ∷ [] }
 
 abbrev pub check_line : Syntax
-check_line = record { name = codes "check"; operands = file_operand ∷ []; options = all_option ∷ lost_and_found_option ∷ snapshot_option ∷ meta_option ∷ assumed_option ∷ [] }
+check_line = record { name = codes "check"; arguments = file_operand ∷ all_option ∷ lost_and_found_option ∷ snapshot_option ∷ meta_option ∷ assumed_option ∷ [] }
 
 abbrev pub buckets_line : Syntax
-buckets_line = record { name = codes "buckets"; operands = file_operand ∷ part_operand false ∷ []; options = sizes_option ∷ form_option ∷ parts_option ∷ meta_option ∷ assumed_option ∷ [] }
+buckets_line = record { name = codes "buckets"; arguments = file_operand ∷ part_operand false ∷ sizes_option ∷ form_option ∷ parts_option ∷ meta_option ∷ assumed_option ∷ [] }
 
 abbrev pub keys_line : Syntax
-keys_line = record { name = codes "keys"; operands = file_operand ∷ part_operand true ∷ []; options = prefix_option ∷ form_option ∷ parts_option ∷ meta_option ∷ assumed_option ∷ [] }
+keys_line = record { name = codes "keys"; arguments = file_operand ∷ part_operand true ∷ prefix_option ∷ form_option ∷ parts_option ∷ meta_option ∷ assumed_option ∷ [] }
 
 abbrev pub get_line : Syntax
-get_line = record { name = codes "get"; operands = file_operand ∷ part_operand true ∷ []; options = no_newline_option ∷ form_option ∷ parts_option ∷ meta_option ∷ assumed_option ∷ [] }
+get_line = record { name = codes "get"; arguments = file_operand ∷ part_operand true ∷ no_newline_option ∷ form_option ∷ parts_option ∷ meta_option ∷ assumed_option ∷ [] }
 
 abbrev pub stats_line : Syntax
-stats_line = record { name = codes "stats"; operands = file_operand ∷ part_operand false ∷ []; options = form_option ∷ parts_option ∷ meta_option ∷ assumed_option ∷ [] }
+stats_line = record { name = codes "stats"; arguments = file_operand ∷ part_operand false ∷ form_option ∷ parts_option ∷ meta_option ∷ assumed_option ∷ [] }
 
 abbrev pub list_line : Syntax
-list_line = record { name = codes "list"; operands = file_operand ∷ part_operand false ∷ []; options = from_option ∷ form_option ∷ parts_option ∷ recover_option ∷ lost_and_found_option ∷ meta_option ∷ assumed_option ∷ [] }
+list_line = record { name = codes "list"; arguments = file_operand ∷ part_operand false ∷ from_option ∷ form_option ∷ parts_option ∷ recover_option ∷ lost_and_found_option ∷ meta_option ∷ assumed_option ∷ [] }
 
 abbrev pub compact_line : Syntax
-compact_line = record { name = codes "compact"; operands = file_operand ∷ []; options = output_option ∷ page_size_option ∷ for_bbolt_option ∷ snapshot_option ∷ recover_option ∷ lost_and_found_option ∷ meta_option ∷ assumed_option ∷ [] }
+compact_line = record { name = codes "compact"; arguments = file_operand ∷ output_option ∷ page_size_option ∷ for_bbolt_option ∷ snapshot_option ∷ recover_option ∷ lost_and_found_option ∷ meta_option ∷ assumed_option ∷ [] }
 
 abbrev pub load_line : Syntax
-load_line = record { name = codes "load"; operands = file_operand ∷ []; options = output_option ∷ page_size_option ∷ for_bbolt_option ∷ snapshot_option ∷ sequence_option ∷ [] }
+load_line = record { name = codes "load"; arguments = file_operand ∷ output_option ∷ page_size_option ∷ for_bbolt_option ∷ snapshot_option ∷ sequence_option ∷ [] }
 
 -- ---- what a line asks for
 

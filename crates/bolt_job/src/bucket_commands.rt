@@ -1,35 +1,33 @@
-//! The commands that print what buckets hold: which operands and options each has, and their help.
-ghost use Rattle.std.specs.Prelude.{◌≡◌, drop, take, map};
-ghost use Rattle.bolt_job.specs.{PlainWords.syntaxes, Syntaxes.syntax_view};
+//! The commands that print what buckets hold: which arguments each has, and their help.
 
-use crate::command_line::{Choice, Flag, Operand, Syntax};
+use crate::command_line::{Argument, Flag, Syntax};
 use crate::page_commands::{ASSUME_META, FIGURE_FORM, FILE, META};
 
-const BUCKET_PART: Operand = Operand {
+const BUCKET_PART: Argument = Argument {
     name: "PART",
-    shown: "BUCKET",
-    several: true,
-    required: true,
+    flag: Flag::Operands,
+    value: Some("BUCKET"),
     help: "The path to the bucket: the names of buckets, from the root bucket down",
-};
-
-const KEY_PART: Operand = Operand {
-    name: "PART",
-    shown: "KEY",
-    several: true,
     required: true,
-    help: "The path to the key: the names of buckets, from the root bucket down, and then the key",
 };
 
-const BUCKET_IN: Operand = Operand {
+const KEY_PART: Argument = Argument {
     name: "PART",
-    shown: "BUCKET",
-    several: true,
-    required: false,
-    help: "The path to a bucket: the names of buckets, from the root bucket down [default: the root bucket]",
+    flag: Flag::Operands,
+    value: Some("KEY"),
+    help: "The path to the key: the names of buckets, from the root bucket down, and then the key",
+    required: true,
 };
 
-const FORM: Choice = Choice {
+const BUCKET_IN: Argument = Argument {
+    name: "PART",
+    flag: Flag::Operands,
+    value: Some("BUCKET"),
+    help: "The path to a bucket: the names of buckets, from the root bucket down [default: the root bucket]",
+    required: false,
+};
+
+const FORM: Argument = Argument {
     name: "form",
     flag: Flag::Long("form"),
     value: Some("F"),
@@ -37,7 +35,7 @@ const FORM: Choice = Choice {
     required: false,
 };
 
-const LIST_FORM: Choice = Choice {
+const LIST_FORM: Argument = Argument {
     name: "form",
     flag: Flag::Long("form"),
     value: Some("F"),
@@ -45,7 +43,7 @@ const LIST_FORM: Choice = Choice {
     required: false,
 };
 
-const SIZES: Choice = Choice {
+const SIZES: Argument = Argument {
     name: "sizes",
     flag: Flag::Long("sizes"),
     value: None,
@@ -53,7 +51,7 @@ const SIZES: Choice = Choice {
     required: false,
 };
 
-const PREFIX: Choice = Choice {
+const PREFIX: Argument = Argument {
     name: "prefix",
     flag: Flag::Long("prefix"),
     value: Some("K"),
@@ -61,7 +59,7 @@ const PREFIX: Choice = Choice {
     required: false,
 };
 
-const NO_NEWLINE: Choice = Choice {
+const NO_NEWLINE: Argument = Argument {
     name: "no-newline",
     flag: Flag::Both('n', "no-newline"),
     value: None,
@@ -69,7 +67,7 @@ const NO_NEWLINE: Choice = Choice {
     required: false,
 };
 
-const PARTS: Choice = Choice {
+const PARTS: Argument = Argument {
     name: "parts",
     flag: Flag::Long("parts"),
     value: Some("P"),
@@ -77,7 +75,7 @@ const PARTS: Choice = Choice {
     required: false,
 };
 
-const FROM: Choice = Choice {
+const FROM: Argument = Argument {
     name: "from",
     flag: Flag::Long("from"),
     value: Some("HEXPATH"),
@@ -85,7 +83,7 @@ const FROM: Choice = Choice {
     required: false,
 };
 
-pub(crate) const RECOVER: Choice = Choice {
+pub(crate) const RECOVER: Argument = Argument {
     name: "recover",
     flag: Flag::Long("recover"),
     value: None,
@@ -93,7 +91,7 @@ pub(crate) const RECOVER: Choice = Choice {
     required: false,
 };
 
-pub(crate) const JOIN: Choice = Choice {
+pub(crate) const JOIN: Argument = Argument {
     name: "lost-and-found",
     flag: Flag::Long("lost-and-found"),
     value: None,
@@ -101,48 +99,47 @@ pub(crate) const JOIN: Choice = Choice {
     required: false,
 };
 
-/// The commands of buckets, which come after those of pages.
-static BUCKET_COMMANDS: [Syntax; 5] = [
-    Syntax {
-        name: "buckets",
-        about: "Print the names of the buckets in a bucket",
-        operands: &[FILE, BUCKET_IN],
-        options: &[SIZES, FORM, PARTS, META, ASSUME_META],
-        note: None,
-    },
-    Syntax {
-        name: "keys",
-        about: "Print the keys of a bucket, and the names of the buckets in it",
-        operands: &[FILE, BUCKET_PART],
-        options: &[PREFIX, FORM, PARTS, META, ASSUME_META],
-        note: None,
-    },
-    Syntax {
-        name: "get",
-        about: "Print the value of a key",
-        operands: &[FILE, KEY_PART],
-        options: &[NO_NEWLINE, FORM, PARTS, META, ASSUME_META],
-        note: None,
-    },
-    Syntax {
-        name: "stats",
-        about: "Print figures of all buckets, or of one and all in it: their number, keys, depth and pages",
-        operands: &[FILE, BUCKET_IN],
-        options: &[FIGURE_FORM, PARTS, META, ASSUME_META],
-        note: None,
-    },
-    Syntax {
-        name: "list",
-        about: "Print everything in the file or in a bucket, one line for each path, in hex or as JSON",
-        operands: &[FILE, BUCKET_IN],
-        options: &[FROM, LIST_FORM, PARTS, RECOVER, JOIN, META, ASSUME_META],
-        note: None,
-    },
-];
+pub(crate) static BUCKETS: Syntax = Syntax {
+    name: "buckets",
+    about: "Print the names of the buckets in a bucket",
+    arguments: &[FILE, BUCKET_IN, SIZES, FORM, PARTS, META, ASSUME_META],
+    note: None,
+};
 
-/// The commands after those of pages.
-pub(crate) fn bucket_commands() -> &'static [Syntax]
-    ensures { map syntax_view result.now ≡ take 5 (drop 4 syntaxes) }
-{
-    &BUCKET_COMMANDS
-}
+pub(crate) static KEYS: Syntax = Syntax {
+    name: "keys",
+    about: "Print the keys of a bucket, and the names of the buckets in it",
+    arguments: &[FILE, BUCKET_PART, PREFIX, FORM, PARTS, META, ASSUME_META],
+    note: None,
+};
+
+pub(crate) static GET: Syntax = Syntax {
+    name: "get",
+    about: "Print the value of a key",
+    arguments: &[FILE, KEY_PART, NO_NEWLINE, FORM, PARTS, META, ASSUME_META],
+    note: None,
+};
+
+pub(crate) static STATS: Syntax = Syntax {
+    name: "stats",
+    about: "Print figures of all buckets, or of one and all in it: their number, keys, depth and pages",
+    arguments: &[FILE, BUCKET_IN, FIGURE_FORM, PARTS, META, ASSUME_META],
+    note: None,
+};
+
+pub(crate) static LIST: Syntax = Syntax {
+    name: "list",
+    about: "Print everything in the file or in a bucket, one line for each path, in hex or as JSON",
+    arguments: &[
+        FILE,
+        BUCKET_IN,
+        FROM,
+        LIST_FORM,
+        PARTS,
+        RECOVER,
+        JOIN,
+        META,
+        ASSUME_META,
+    ],
+    note: None,
+};

@@ -3,45 +3,38 @@ ghost use Rattle.std.specs.Prelude.{◌≡◌, ◌∷◌, ◌++◌, [], List, So
 ghost use Rattle.clap.specs.declared.builder.action.ArgAction.TheVariants.{Set};
 ghost use Rattle.bolt_job.specs.LineWords as plain;
 ghost use Rattle.bolt_job.specs.LineWords.{given_word};
-ghost use Rattle.bolt_job.specs.CommandLine.{IsCommand, command_of, operand_rule, option_rule, program, program_of};
-ghost use Rattle.bolt_job.specs.{Private.CommandLines.AddsLines, Syntaxes.choice_view, Syntaxes.operand_view, Syntaxes.syntax_view};
+ghost use Rattle.bolt_job.specs.CommandLine.{IsCommand, argument_rule, bare_program, command_of, program, program_of};
+ghost use Rattle.bolt_job.specs.PlainWords.{syntaxes};
+ghost use Rattle.bolt_job.specs.Syntaxes.{argument_view, syntax_view};
 ghost use Rattle.clap.specs.Words.{new_app, rule_of};
 
-use crate::bucket_commands::bucket_commands;
-use crate::page_commands::page_commands;
-use crate::writing_commands::writing;
+use crate::bucket_commands::{BUCKETS, GET, KEYS, LIST, STATS};
+use crate::page_commands::{CHECK, INFO, PAGE, PAGES};
+use crate::writing_commands::{COMPACT, LOAD};
 use clap::{Arg, ArgAction, Command};
 use std::alloc::{AllocError, Global};
 
-/// An operand of a command.
-#[derive(Clone, Copy)]
-pub(crate) struct Operand {
-    pub name: &'static str,
-    /// What help calls it.
-    pub shown: &'static str,
-    /// Whether it is one word, or as many as follow.
-    pub several: bool,
-    pub required: bool,
-    pub help: &'static str,
-}
-
-/// How an option is written.
+/// How an argument of a command is written.
 #[derive(Clone, Copy)]
 pub(crate) enum Flag {
-    /// As `--name`.
+    /// As it is: an operand, which is one word.
+    Operand,
+    /// The same, as many words as follow.
+    Operands,
+    /// An option, as `--name`.
     Long(&'static str),
-    /// By one letter, as `-o`.
+    /// One by one letter, as `-o`.
     Short(char),
-    /// In either way, as `-n` or `--no-newline`.
+    /// One in either way, as `-n` or `--no-newline`.
     Both(char, &'static str),
 }
 
-/// An option of a command.
+/// An operand or an option of a command.
 #[derive(Clone, Copy)]
-pub(crate) struct Choice {
+pub(crate) struct Argument {
     pub name: &'static str,
     pub flag: Flag,
-    /// The name of its value in help, if it has one.
+    /// The name of its value in help. An option without a value has none.
     pub value: Option<&'static str>,
     pub help: &'static str,
     pub required: bool,
@@ -52,9 +45,8 @@ pub(crate) struct Choice {
 pub(crate) struct Syntax {
     pub name: &'static str,
     pub about: &'static str,
-    pub operands: &'static [Operand],
-    /// In the order of help. On a command line the order is free.
-    pub options: &'static [Choice],
+    /// Operands in their order, and options in that of help. On a command line options come anywhere.
+    pub arguments: &'static [Argument],
     /// What help prints after the options.
     pub note: Option<&'static str>,
 }
@@ -62,33 +54,20 @@ pub(crate) struct Syntax {
 /// The version that `--version` prints.
 const VERSION: &str = "0.1.0";
 
-fn operand_arg<'a>(alloc: Global, operand: &'a Operand) -> Arg<'a>
-    ensures rule { rule_of result ≡ operand_rule (operand_view operand.now) }
+fn arg_of<'a>(alloc: Global, argument: &'a Argument) -> Arg<'a>
+    ensures rule { rule_of result ≡ argument_rule (argument_view argument.now) }
     ensures local { result.global ≡ false }
 {
-    let arg = Arg::new(alloc, operand.name)
-        .value_name(operand.shown)
-        .required(operand.required)
-        .help(operand.help);
-    if operand.several {
-        arg.action(ArgAction::Append)
-    } else {
-        arg
-    }
-}
-
-fn option_arg<'a>(alloc: Global, option: &'a Choice) -> Arg<'a>
-    ensures rule { rule_of result ≡ option_rule (choice_view option.now) }
-    ensures local { result.global ≡ false }
-{
-    let arg = Arg::new(alloc, option.name)
-        .required(option.required)
-        .help(option.help);
-    let arg = match option.value {
+    let arg = Arg::new(alloc, argument.name)
+        .required(argument.required)
+        .help(argument.help);
+    let arg = match argument.value {
         Some(name) => arg.value_name(name),
         None => alone(arg),
     };
-    match option.flag {
+    match argument.flag {
+        Flag::Operand => arg,
+        Flag::Operands => arg.action(ArgAction::Append),
         Flag::Long(name) => arg.long(name),
         Flag::Short(letter) => arg.short(letter),
         Flag::Both(letter, name) => arg.short(letter).long(name),
@@ -124,36 +103,46 @@ fn command<'a>(alloc: Global, syntax: &'a Syntax) -> Result<Command<'a>, AllocEr
     ensures { IfOk result (IsCommand (command_of (syntax_view syntax.now))) }
 {
     let mut command = bare_command(alloc, syntax);
-    for operand in syntax.operands {
-        command = command.arg(operand_arg(alloc, operand))?;
-    }
-    for option in syntax.options {
-        command = command.arg(option_arg(alloc, option))?;
+    for argument in syntax.arguments {
+        command = command.arg(arg_of(alloc, argument))?;
     }
     Ok(command)
+}
+
+/// The commands, in the order of help. Each is a `static` of its own, since the check of a table takes the
+/// square of its length.
+fn commands<'a>() -> [&'a Syntax; 11]
+    ensures { map (λ syntax. syntax_view syntax.now) result ≡ syntaxes }
+{
+    [
+        &INFO, &PAGE, &PAGES, &CHECK, &BUCKETS, &KEYS, &GET, &STATS, &LIST, &COMPACT, &LOAD,
+    ]
+}
+
+/// The program without its commands.
+fn bare_program<'a>(alloc: Global) -> Command<'a>
+    ensures { IsCommand bare_program result }
+{
+    Command::new(alloc, "luntsegi")
+        .about("Inspect, check and compact bbolt database files, the format etcd uses")
+        .version(VERSION)
+        .subcommand_required(true)
+        .disable_help_subcommand(true)
 }
 
 /// The whole command line.
 pub(crate) fn program<'a>(alloc: Global) -> Result<Command<'a>, AllocError>
     ensures { IfOk result (IsCommand program) }
 {
-    let program = Command::new(alloc, "luntsegi")
-        .about("Inspect, check and compact bbolt database files, the format etcd uses")
-        .version(VERSION)
-        .subcommand_required(true)
-        .disable_help_subcommand(true);
-    let program = with_commands(alloc, program, page_commands())?;
-    let program = with_commands(alloc, program, bucket_commands())?;
-    with_commands(alloc, program, writing())
+    with_commands(alloc, bare_program(alloc), &commands())
 }
 
-/// The command line with these commands after those that it has.
 fn with_commands<'a>(
     alloc: Global,
     program: Command<'a>,
-    syntaxes: &'a [Syntax],
+    syntaxes: &[&'a Syntax],
 ) -> Result<Command<'a>, AllocError>
-    ensures { IfOk result (AddsLines program.entry (map syntax_view syntaxes.now)) }
+    ensures { IsCommand bare_program program.entry → IfOk result (IsCommand (program_of (map (λ syntax. syntax_view syntax.now) syntaxes.now))) }
 {
     let mut program = program;
     for syntax in syntaxes {

@@ -1,27 +1,25 @@
-//! The commands that print pages and what is wrong with a file: which operands and options each has, and
+//! The commands that print pages and what is wrong with a file: which arguments each has, and
 //! their help.
-ghost use Rattle.std.specs.Prelude.{◌≡◌, take, map};
-ghost use Rattle.bolt_job.specs.{PlainWords.syntaxes, Syntaxes.syntax_view};
 
-use crate::command_line::{Choice, Flag, Operand, Syntax};
+use crate::command_line::{Argument, Flag, Syntax};
 
-pub(crate) const FILE: Operand = Operand {
+pub(crate) const FILE: Argument = Argument {
     name: "FILE",
-    shown: "FILE",
-    several: false,
-    required: true,
+    flag: Flag::Operand,
+    value: Some("FILE"),
     help: "The database file, which is never written to",
-};
-
-const ID: Operand = Operand {
-    name: "ID",
-    shown: "ID",
-    several: false,
     required: true,
-    help: "The page number, in decimal",
 };
 
-pub(crate) const FIGURE_FORM: Choice = Choice {
+const ID: Argument = Argument {
+    name: "ID",
+    flag: Flag::Operand,
+    value: Some("ID"),
+    help: "The page number, in decimal",
+    required: true,
+};
+
+pub(crate) const FIGURE_FORM: Argument = Argument {
     name: "form",
     flag: Flag::Long("form"),
     value: Some("F"),
@@ -29,7 +27,7 @@ pub(crate) const FIGURE_FORM: Choice = Choice {
     required: false,
 };
 
-pub(crate) const META: Choice = Choice {
+pub(crate) const META: Argument = Argument {
     name: "meta",
     flag: Flag::Long("meta"),
     value: Some("M"),
@@ -37,7 +35,7 @@ pub(crate) const META: Choice = Choice {
     required: false,
 };
 
-pub(crate) const ASSUME_META: Choice = Choice {
+pub(crate) const ASSUME_META: Argument = Argument {
     name: "assume-meta",
     flag: Flag::Long("assume-meta"),
     value: Some("A"),
@@ -45,7 +43,7 @@ pub(crate) const ASSUME_META: Choice = Choice {
     required: false,
 };
 
-const INFO_META: Choice = Choice {
+const INFO_META: Argument = Argument {
     name: "meta",
     flag: Flag::Long("meta"),
     value: Some("M"),
@@ -53,7 +51,7 @@ const INFO_META: Choice = Choice {
     required: false,
 };
 
-const CHECK_SNAPSHOT: Choice = Choice {
+const CHECK_SNAPSHOT: Argument = Argument {
     name: "etcd-snapshot",
     flag: Flag::Long("etcd-snapshot"),
     value: None,
@@ -61,7 +59,7 @@ const CHECK_SNAPSHOT: Choice = Choice {
     required: false,
 };
 
-const MAP: Choice = Choice {
+const MAP: Argument = Argument {
     name: "map",
     flag: Flag::Long("map"),
     value: None,
@@ -69,7 +67,7 @@ const MAP: Choice = Choice {
     required: false,
 };
 
-const ALL: Choice = Choice {
+const ALL: Argument = Argument {
     name: "all",
     flag: Flag::Long("all"),
     value: None,
@@ -77,7 +75,7 @@ const ALL: Choice = Choice {
     required: false,
 };
 
-const LOST_AND_FOUND: Choice = Choice {
+const LOST_AND_FOUND: Argument = Argument {
     name: "lost-and-found",
     flag: Flag::Long("lost-and-found"),
     value: None,
@@ -85,42 +83,30 @@ const LOST_AND_FOUND: Choice = Choice {
     required: false,
 };
 
-/// The commands of pages, in the order of help. There are three tables, since the check of one table of
-/// all commands would pass the prover's limits.
-static PAGE_COMMANDS: [Syntax; 4] = [
-    Syntax {
-        name: "info",
-        about: "Print the active meta: page size, transaction id, root, freelist, high-water mark",
-        operands: &[FILE],
-        options: &[FIGURE_FORM, INFO_META],
-        note: None,
-    },
-    Syntax {
-        name: "page",
-        about: "Print one page: its type and its items, keys and values in hex",
-        operands: &[FILE, ID],
-        options: &[ASSUME_META],
-        note: None,
-    },
-    Syntax {
-        name: "pages",
-        about: "Print what each page is for, and count free pages past the end of the file",
-        operands: &[FILE],
-        options: &[MAP],
-        note: None,
-    },
-    Syntax {
-        name: "check",
-        about: "Check whether the file is sound; if it isn't, print what is wrong",
-        operands: &[FILE],
-        options: &[ALL, LOST_AND_FOUND, CHECK_SNAPSHOT, META, ASSUME_META],
-        note: None,
-    },
-];
+pub(crate) static INFO: Syntax = Syntax {
+    name: "info",
+    about: "Print the active meta: page size, transaction id, root, freelist, high-water mark",
+    arguments: &[FILE, FIGURE_FORM, INFO_META],
+    note: None,
+};
 
-/// The first commands, in the order of help.
-pub(crate) fn page_commands() -> &'static [Syntax]
-    ensures { map syntax_view result.now ≡ take 4 syntaxes }
-{
-    &PAGE_COMMANDS
-}
+pub(crate) static PAGE: Syntax = Syntax {
+    name: "page",
+    about: "Print one page: its type and its items, keys and values in hex",
+    arguments: &[FILE, ID, ASSUME_META],
+    note: None,
+};
+
+pub(crate) static PAGES: Syntax = Syntax {
+    name: "pages",
+    about: "Print what each page is for, and count free pages past the end of the file",
+    arguments: &[FILE, MAP],
+    note: None,
+};
+
+pub(crate) static CHECK: Syntax = Syntax {
+    name: "check",
+    about: "Check whether the file is sound; if it isn't, print what is wrong",
+    arguments: &[FILE, ALL, LOST_AND_FOUND, CHECK_SNAPSHOT, META, ASSUME_META],
+    note: None,
+};

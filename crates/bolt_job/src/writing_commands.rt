@@ -1,20 +1,18 @@
-//! The commands that write a database: which operands and options each has, and their help.
-ghost use Rattle.std.specs.Prelude.{◌≡◌, drop, map};
-ghost use Rattle.bolt_job.specs.{PlainWords.syntaxes, Syntaxes.syntax_view};
+//! The commands that write a database: which arguments each has, and their help.
 
 use crate::bucket_commands::{JOIN, RECOVER};
-use crate::command_line::{Choice, Flag, Operand, Syntax};
+use crate::command_line::{Argument, Flag, Syntax};
 use crate::page_commands::{ASSUME_META, FILE, META};
 
-const LISTING: Operand = Operand {
+const LISTING: Argument = Argument {
     name: "FILE",
-    shown: "FILE",
-    several: false,
-    required: true,
+    flag: Flag::Operand,
+    value: Some("FILE"),
     help: "The lines of a listing, as list prints them",
+    required: true,
 };
 
-const OUTPUT: Choice = Choice {
+const OUTPUT: Argument = Argument {
     name: "output",
     flag: Flag::Short('o'),
     value: Some("OUT"),
@@ -22,7 +20,7 @@ const OUTPUT: Choice = Choice {
     required: true,
 };
 
-const PAGE_SIZE: Choice = Choice {
+const PAGE_SIZE: Argument = Argument {
     name: "page-size",
     flag: Flag::Long("page-size"),
     value: Some("N"),
@@ -30,7 +28,7 @@ const PAGE_SIZE: Choice = Choice {
     required: false,
 };
 
-const LOAD_PAGE_SIZE: Choice = Choice {
+const LOAD_PAGE_SIZE: Argument = Argument {
     name: "page-size",
     flag: Flag::Long("page-size"),
     value: Some("N"),
@@ -38,7 +36,7 @@ const LOAD_PAGE_SIZE: Choice = Choice {
     required: false,
 };
 
-const SEQUENCE: Choice = Choice {
+const SEQUENCE: Argument = Argument {
     name: "sequence",
     flag: Flag::Long("sequence"),
     value: Some("S"),
@@ -46,7 +44,7 @@ const SEQUENCE: Choice = Choice {
     required: false,
 };
 
-const FOR_BBOLT: Choice = Choice {
+const FOR_BBOLT: Argument = Argument {
     name: "for-bbolt",
     flag: Flag::Long("for-bbolt"),
     value: None,
@@ -54,7 +52,7 @@ const FOR_BBOLT: Choice = Choice {
     required: false,
 };
 
-const COPY_SNAPSHOT: Choice = Choice {
+const COPY_SNAPSHOT: Argument = Argument {
     name: "etcd-snapshot",
     flag: Flag::Long("etcd-snapshot"),
     value: None,
@@ -66,36 +64,33 @@ const COPY_NOTE: &str = "Use --for-bbolt if bbolt or etcd will write to OUT. bbo
     each branch page has at least two children, and can panic when it deletes below one that has a \
     single child. Without the option OUT may have such pages.";
 
-/// Those that write a database, which come last.
-static WRITING: [Syntax; 2] = [
-    Syntax {
-        name: "compact",
-        about: "Write a compact copy: everything in the file, and no free pages",
-        operands: &[FILE],
-        options: &[
-            OUTPUT,
-            PAGE_SIZE,
-            FOR_BBOLT,
-            COPY_SNAPSHOT,
-            RECOVER,
-            JOIN,
-            META,
-            ASSUME_META,
-        ],
-        note: Some(COPY_NOTE),
-    },
-    Syntax {
-        name: "load",
-        about: "Write a database of a listing: what list printed, or lines that were edited",
-        operands: &[LISTING],
-        options: &[OUTPUT, LOAD_PAGE_SIZE, FOR_BBOLT, COPY_SNAPSHOT, SEQUENCE],
-        note: Some(COPY_NOTE),
-    },
-];
+pub(crate) static COMPACT: Syntax = Syntax {
+    name: "compact",
+    about: "Write a compact copy: everything in the file, and no free pages",
+    arguments: &[
+        FILE,
+        OUTPUT,
+        PAGE_SIZE,
+        FOR_BBOLT,
+        COPY_SNAPSHOT,
+        RECOVER,
+        JOIN,
+        META,
+        ASSUME_META,
+    ],
+    note: Some(COPY_NOTE),
+};
 
-/// The last commands.
-pub(crate) fn writing() -> &'static [Syntax]
-    ensures { map syntax_view result.now ≡ drop 9 syntaxes }
-{
-    &WRITING
-}
+pub(crate) static LOAD: Syntax = Syntax {
+    name: "load",
+    about: "Write a database of a listing: what list printed, or lines that were edited",
+    arguments: &[
+        LISTING,
+        OUTPUT,
+        LOAD_PAGE_SIZE,
+        FOR_BBOLT,
+        COPY_SNAPSHOT,
+        SEQUENCE,
+    ],
+    note: Some(COPY_NOTE),
+};

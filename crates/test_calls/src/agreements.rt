@@ -1,67 +1,104 @@
 //! What commands say of one file, compared with each other.
 
-use crate::fault::Fault;
-use crate::jobs::{Jobs, Trial};
-use crate::runs::{Ran, first_line};
+use crate::fault::{Fault, require};
+use crate::runs::{Ran, Task, first_line, job_from};
 use crate::sweeps::toggle;
 use crate::words::{Input, push_number};
 use bolt_cli::Job;
 use std::alloc::Global;
 
-/// A file, and where it was changed.
+/// How the result of a command is judged.
 #[derive(Clone, Copy)]
-struct Place<'a> {
-    alloc: Global,
-    jobs: &'a Jobs,
-    file: &'a [u8],
-    at: usize,
+enum Kind {
+    /// It opens one page.
+    Page,
+    /// It checks the file first, and prints it.
+    Reader,
+    /// It checks the file to a greater extent than `check`.
+    Check,
+    /// It lists what the copy after it has.
+    List,
+    /// It makes a copy.
+    Copy,
 }
 
-impl Place<'_> {
-    fn run(&self, job: &Job) -> Ran {
-        Ran::on(self.alloc, job, self.file)
+/// Commands that are tried on each file: first `check` and `list`. There is no page 4. A copy comes after
+/// the listing to the same extent.
+const TRIALS: [(Kind, &str); 19] = [
+    (Kind::Check, "check FILE"),
+    (Kind::Reader, "list FILE"),
+    (Kind::Copy, "compact -o OUT FILE"),
+    (Kind::List, "list --recover FILE"),
+    (Kind::Copy, "compact -o OUT --for-bbolt --recover FILE"),
+    (Kind::List, "list --lost-and-found FILE"),
+    (Kind::Copy, "compact -o OUT --lost-and-found FILE"),
+    (Kind::Check, "check --all FILE"),
+    (Kind::Check, "check --lost-and-found FILE"),
+    (Kind::Page, "page FILE 0"),
+    (Kind::Page, "page FILE 1"),
+    (Kind::Page, "page FILE 2"),
+    (Kind::Page, "page FILE 3"),
+    (Kind::Page, "page FILE 4"),
+    (Kind::Reader, "pages FILE"),
+    (Kind::Reader, "buckets FILE"),
+    (Kind::Reader, "buckets --sizes FILE"),
+    (Kind::Reader, "stats FILE"),
+    (Kind::Reader, "list --form json FILE"),
+];
+
+/// The jobs of these commands.
+fn jobs_of(alloc: Global) -> Result<Vec<Job>, Fault> {
+    let mut jobs = Vec::new(alloc);
+    for (_, line) in TRIALS {
+        jobs.push(job_from(alloc, line)?)?;
+    }
+    Ok(jobs)
+}
+
+/// The jobs of the trials, those of `check` and `list` among them.
+#[derive(Clone, Copy)]
+struct Trials<'a> {
+    alloc: Global,
+    check: &'a Job,
+    list: &'a Job,
+    jobs: &'a [Job],
+}
+
+impl Trials<'_> {
+    fn run(self, job: &Job, file: &[u8]) -> Ran {
+        let alloc = self.alloc;
+        Task { alloc, job, file }.run()
     }
 
-    fn require(&self, holds: bool, what: &'static str) -> Result<(), Fault> {
-        if holds {
-            Ok(())
-        } else {
-            Err(Fault::Wrong(what, self.at))
-        }
-    }
-
-    /// Everything that is said of the file.
-    fn compare(&self) -> Result<(), Fault> {
-        let check = self.run(&self.jobs.check);
-        for trial in &self.jobs.trials {
-            self.require(self.is_right(trial, &check), "a command and check")?;
+    /// Everything that is said of a file, which was changed at this place.
+    fn compare(self, file: &[u8], at: usize) -> Result<(), Fault> {
+        let check = self.run(self.check, file);
+        let mut list = self.list;
+        for ((kind, _), job) in TRIALS.iter().zip(self.jobs) {
+            let is_right = match kind {
+                Kind::Page => is_page(&self.run(job, file), check.err.bytes()),
+                Kind::Reader => is_read(&self.run(job, file), &check),
+                Kind::Check => self.run(job, file).code == 1 || check.code == 0,
+                Kind::List => true,
+                Kind::Copy => self.is_copied(&self.run(job, file), &self.run(list, file)),
+            };
+            require(is_right, "a command and check", at)?;
+            list = job;
         }
         Ok(())
     }
 
-    /// Whether a command prints what it has to, after what `check` prints of the file.
-    fn is_right(&self, trial: &Trial, check: &Ran) -> bool {
-        match trial {
-            Trial::Page(job) => is_page(&self.run(job), check.err.bytes()),
-            Trial::Reader(job) => is_read(&self.run(job), check),
-            Trial::Check(job) => self.run(job).code == 1 || check.code == 0,
-            Trial::Copy { copy, list } => self.is_copied(&self.run(copy), &self.run(list)),
-        }
-    }
-
     /// The copy is sound and lists what `list` prints, and the statuses are the same. Without a copy
     /// both refuse the file alike.
-    fn is_copied(&self, copy: &Ran, list: &Ran) -> bool {
+    fn is_copied(self, copy: &Ran, list: &Ran) -> bool {
         let target = copy.target.bytes();
         if target.is_empty() {
             return list.is(1, b"", copy.err.bytes()) && copy.is(1, b"", list.err.bytes());
         }
-        let check = Ran::on(self.alloc, &self.jobs.check, target);
-        let again = Ran::on(self.alloc, &self.jobs.list, target);
         copy.code == list.code
             && copy.err.bytes().is_empty()
-            && check.is(0, b"OK\n", b"")
-            && again.is(0, list.out.bytes(), b"")
+            && self.run(self.check, target).is(0, b"OK\n", b"")
+            && self.run(self.list, target).is(0, list.out.bytes(), b"")
     }
 }
 
@@ -106,31 +143,30 @@ fn found_line(text: &[u8]) -> Option<&[u8]> {
 /// value in turn. It is also compared with its end cut off at each byte.
 pub fn compared(input: Input<'_>, line: &mut Vec<u8>) -> Result<(), Fault> {
     let Input { alloc, file, .. } = input;
-    let jobs = Jobs::new(alloc)?;
-    compare_each(alloc, &jobs, file, line)
+    let jobs = jobs_of(alloc)?;
+    compare_each(alloc, jobs.as_slice(), file, line)
 }
 
-fn compare_each(alloc: Global, jobs: &Jobs, file: &[u8], line: &mut Vec<u8>) -> Result<(), Fault> {
+fn compare_each(alloc: Global, jobs: &[Job], file: &[u8], line: &mut Vec<u8>) -> Result<(), Fault> {
+    let [check, list, ..] = jobs else {
+        return Err(Fault::UNREAD);
+    };
+    let trials = Trials {
+        alloc,
+        check,
+        list,
+        jobs,
+    };
     let mut other = file.to_vec(alloc)?;
     let mut count = 0_u64;
     for at in 0..file.len() {
-        compare_at(alloc, jobs, file.get(..at).unwrap_or(b""), at)?;
+        trials.compare(file.get(..at).unwrap_or(b""), at)?;
         for bits in 1..=u8::MAX {
             toggle(&mut other, at, bits);
-            compare_at(alloc, jobs, other.as_slice(), at)?;
+            trials.compare(other.as_slice(), at)?;
             toggle(&mut other, at, bits);
             count = count.saturating_add(1);
         }
     }
     push_number(line, count)
-}
-
-fn compare_at(alloc: Global, jobs: &Jobs, file: &[u8], at: usize) -> Result<(), Fault> {
-    Place {
-        alloc,
-        jobs,
-        file,
-        at,
-    }
-    .compare()
 }

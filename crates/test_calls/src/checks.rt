@@ -1,11 +1,10 @@
 //! What a checked file shows, what each of its pages is, and the checksums and the numbers of faults.
 
 use crate::fault::Fault;
-use crate::words::{Input, assumed_of, bytes_of, push_number, push_word, slot_of};
+use crate::words::{Input, assumed_of, bytes_of, push_number, push_numbers, push_word, slot_of};
 use bolt_check::{Checked, Finding, Role, check, check_slot, check_under, roles};
 use bolt_format::{PageFault, fnv1a};
 use std::alloc::Global;
-use std::io::Write;
 
 fn name_of(role: Role) -> &'static [u8] {
     match role {
@@ -46,12 +45,12 @@ pub fn checked(input: Input<'_>, line: &mut Vec<u8>) -> Result<(), Fault> {
         None => checked_of(input)?,
     };
     let tested = if found.accounts() {
-        "accounts"
+        b"accounts".as_slice()
     } else {
-        "trees"
+        b"trees"
     };
-    let (txid, length) = (found.meta().txid, found.bytes().len());
-    Ok(write!(line, "{txid} {length} {tested}")?)
+    push_numbers(line, &[found.meta().txid, found.bytes().len() as u64])?;
+    Ok(push_word(line, tested)?)
 }
 
 /// The checksum of each word.

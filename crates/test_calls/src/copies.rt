@@ -2,13 +2,13 @@
 
 use crate::fault::Fault;
 use crate::walks::push_twice;
-use crate::words::{Input, number};
+use crate::words::{Input, number, push_numbers};
 use bolt_bulk::{Plan, compact, compact_as, plan, plan_as};
 use bolt_check::check;
 use bolt_cli::PageSize;
 use bolt_format::WriteSink;
 use bolt_layout::Layout;
-use bolt_load::ListingText;
+use bolt_load::{ListingText, LoadFault};
 use std::alloc::Global;
 use std::io::{self, Write};
 
@@ -16,14 +16,14 @@ use std::io::{self, Write};
 /// bytes.
 fn shape_of(words: &[String]) -> Result<(Layout, PageSize), Fault> {
     let [layout, page_size] = words else {
-        return Err(Fault::Unread);
+        return Err(Fault::UNREAD);
     };
     let layout = match layout.as_str() {
         "plain" => Layout::Plain,
         "balanced" => Layout::Balanced,
-        _ => return Err(Fault::Unread),
+        _ => return Err(Fault::UNREAD),
     };
-    let size = PageSize::new(number(page_size.as_bytes())?).ok_or(Fault::Unread)?;
+    let size = PageSize::new(number(page_size.as_bytes())?).ok_or(Fault::UNREAD)?;
     Ok((layout, size))
 }
 
@@ -37,7 +37,7 @@ pub fn planned(input: Input<'_>, line: &mut Vec<u8>) -> Result<(), Fault> {
         Layout::Plain => plan(alloc, checked, size.bytes)?,
         Layout::Balanced => plan_as(alloc, checked, layout, size.bytes)?,
     };
-    Ok(write!(line, "{root} {high_water}")?)
+    push_numbers(line, &[root, high_water])
 }
 
 /// Accepts all bytes, and keeps only their number.
@@ -68,13 +68,17 @@ pub fn copied(input: Input<'_>, line: &mut Vec<u8>) -> Result<(), Fault> {
         Layout::Plain => compact(alloc, checked, size.bytes, &mut sink)?,
         Layout::Balanced => compact_as(alloc, checked, layout, size.bytes, &mut sink)?,
     };
-    let (bytes, held, taken) = (done.bytes, done.held, sink.into_inner().taken);
-    Ok(write!(line, "{bytes} {taken} {held}")?)
+    push_numbers(line, &[done.bytes, sink.into_inner().taken, done.held])
 }
 
-/// The line of each member that the text of a listing tells, which a second pass returns again.
+/// The line of each member that the text of a listing tells, which a second pass returns again; or
+/// which line of the text is wrong.
 pub fn loaded(input: Input<'_>, lines: &mut Vec<u8>) -> Result<(), Fault> {
     let Input { alloc, file, .. } = input;
-    let listing = ListingText::read(alloc, file)?;
+    let listing = match ListingText::read(alloc, file) {
+        Ok(listing) => listing,
+        Err(LoadFault::Memory) => return Err(Fault::MEMORY),
+        Err(fault) => return Ok(write!(lines, "{fault}")?),
+    };
     Ok(push_twice(&mut listing.members(alloc), lines)?)
 }

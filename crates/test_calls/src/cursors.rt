@@ -1,13 +1,12 @@
 //! Calls on a cursor, and their results.
 
 use crate::fault::Fault;
-use crate::words::{Input, bucket_at, bytes_of, push_number, push_word};
+use crate::words::{Input, bucket_at, bytes_of, push_decimal, push_number, push_word};
 use bolt_check::check;
 use bolt_format::WriteSink;
 use bolt_report::{Form, keys_with_prefix};
 use bolt_tree::{Cursor, Entry};
 use std::alloc::Global;
-use std::io::Write;
 
 /// The result of a call: `first`, `last`, `next`, `prev`, or `seek=KEY`.
 fn make_call<'a>(
@@ -22,7 +21,7 @@ fn make_call<'a>(
         "prev" => Ok(cursor.prev()),
         _ => match call.as_bytes().strip_prefix(b"seek=") {
             Some(key) => Ok(cursor.seek(bytes_of(alloc, key)?.as_slice())),
-            None => Err(Fault::Unread),
+            None => Err(Fault::UNREAD),
         },
     }
 }
@@ -44,7 +43,7 @@ pub enum Printed {
 pub fn run_calls(input: Input<'_>, printed: Printed, line: &mut Vec<u8>) -> Result<(), Fault> {
     let Input { alloc, file, words } = input;
     let [path, calls @ ..] = words else {
-        return Err(Fault::Unread);
+        return Err(Fault::UNREAD);
     };
     let mut cursor = bucket_at(alloc, check(alloc, file)?, path.as_bytes())?.cursor();
     for call in calls {
@@ -64,7 +63,7 @@ fn push_result(
 ) -> Result<(), Fault> {
     let (opened, compared) = (cursor.opened(), cursor.compared());
     if compared > 1024 {
-        return Err(Fault::Wrong("more than 1024 comparisons", line.len()));
+        return Err(Fault::wrong("more than 1024 comparisons", line.len()));
     }
     let key = match found {
         Some(entry) => entry.key,
@@ -74,7 +73,8 @@ fn push_result(
         Printed::Moves => push_word(line, key)?,
         Printed::Openings => {
             push_word(line, key)?;
-            write!(line, ":{opened}")?;
+            line.push(b':')?;
+            push_decimal(line, opened)?;
         }
         Printed::Comparisons => push_word(line, amount(before, compared))?,
     }
@@ -95,7 +95,7 @@ fn amount(before: u64, compared: u64) -> &'static [u8] {
 pub fn run_prefixes(input: Input<'_>, lines: &mut Vec<u8>) -> Result<(), Fault> {
     let Input { alloc, file, words } = input;
     let [path, prefixes @ ..] = words else {
-        return Err(Fault::Unread);
+        return Err(Fault::UNREAD);
     };
     let mut cursor = bucket_at(alloc, check(alloc, file)?, path.as_bytes())?.cursor();
     let mut keys = Vec::new(alloc);

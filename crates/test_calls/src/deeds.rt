@@ -4,7 +4,7 @@ use crate::fault::Fault;
 use crate::log::{Kind, Log, Record};
 use crate::memory::{Memory, Turn};
 use crate::runs::{first_line, line_of};
-use crate::words::{Input, push_number, push_word};
+use crate::words::{Input, push_decimal, push_number, push_word};
 use bolt_cli::run_program;
 use std::alloc::Global;
 use std::io::Write;
@@ -14,12 +14,12 @@ use std::io::Write;
 pub fn deeds_of(input: Input<'_>, lines: &mut Vec<u8>) -> Result<(), Fault> {
     let Input { alloc, file, words } = input;
     let [how, words @ ..] = words else {
-        return Err(Fault::Unread);
+        return Err(Fault::UNREAD);
     };
     let turn = match how.as_str() {
         "fail" => Turn::Bad,
         "differ" => Turn::Other,
-        _ => return Err(Fault::Unread),
+        _ => return Err(Fault::UNREAD),
     };
     for before in 0..u32::MAX {
         let mut memory = Memory::new(alloc, file.to_vec(alloc)?, before, turn);
@@ -35,7 +35,8 @@ pub fn deeds_of(input: Input<'_>, lines: &mut Vec<u8>) -> Result<(), Fault> {
 /// Adds the line of a run's status and its deeds: the status, a colon, and the words of each deed in
 /// turn.
 fn push_deeds(code: u8, log: &Log, line: &mut Vec<u8>) -> Result<(), Fault> {
-    write!(line, "{code}:")?;
+    push_decimal(line, u64::from(code))?;
+    line.push(b':')?;
     for record in log.records.as_slice() {
         push_deed(line, record)?;
     }

@@ -3,65 +3,91 @@
 use bolt_bulk::{BulkFault, PlanFault};
 use bolt_check::{CheckFault, NoMemory};
 use bolt_format::SinkFault;
-use bolt_load::LoadFault;
 use bolt_recover::JoinFault;
 use bolt_report::ReportFault;
 use hex::FromHexError;
 use std::alloc::{AllocError, AllocFailed};
 use std::{fmt, io};
 
-/// Why a call gives no result.
+/// Why a call gives no result, in words.
 #[derive(Clone, Copy)]
-pub enum Fault {
-    Memory,
+pub struct Fault {
+    what: &'static str,
+    /// At which byte, call or length something happened that must not happen.
+    at: Option<usize>,
+}
+
+impl Fault {
+    pub const MEMORY: Fault = Fault {
+        what: "out of memory",
+        at: None,
+    };
+
     /// An unknown word, or a file that can't be read or isn't sound.
-    Unread,
+    pub const UNREAD: Fault = Fault {
+        what: "can't be read",
+        at: None,
+    };
+
     /// Standard output can't be written.
-    Unwritten,
+    pub const UNWRITTEN: Fault = Fault {
+        what: "can't be written",
+        at: None,
+    };
+
     /// What must not happen, and at which byte, call or length.
-    Wrong(&'static str, usize),
-    /// The text of a listing isn't right.
-    Load(LoadFault),
+    pub fn wrong(what: &'static str, at: usize) -> Fault {
+        Fault { what, at: Some(at) }
+    }
+
     /// A request for memory was refused, and what went on after it.
-    Refused(&'static str),
+    pub fn refused(what: &'static str) -> Fault {
+        Fault { what, at: None }
+    }
 }
 
 impl fmt::Display for Fault {
     fn fmt<W: fmt::Write>(&self, f: &mut fmt::Formatter<W>) -> fmt::Result {
-        match self {
-            Fault::Memory => write!(f, "out of memory"),
-            Fault::Unread => write!(f, "can't be read"),
-            Fault::Unwritten => write!(f, "can't be written"),
-            Fault::Wrong(what, at) => write!(f, "wrong at {at}: {what}"),
-            Fault::Load(fault) => write!(f, "{fault}"),
-            Fault::Refused(what) => write!(f, "refused: {what}"),
+        f.write_str(self.what)?;
+        match self.at {
+            Some(at) => write!(f, ": wrong at {at}"),
+            None => Ok(()),
         }
+    }
+}
+
+/// A fault unless this holds.
+pub fn require(holds: bool, what: &'static str, at: usize) -> Result<(), Fault> {
+    if holds {
+        Ok(())
+    } else {
+        Err(Fault::wrong(what, at))
     }
 }
 
 impl From<AllocError> for Fault {
     fn from(_: AllocError) -> Fault {
-        Fault::Memory
+        Fault::MEMORY
     }
 }
 
 impl<T: Drop> From<AllocFailed<T>> for Fault {
     fn from(_: AllocFailed<T>) -> Fault {
-        Fault::Memory
+        Fault::MEMORY
     }
 }
 
 impl From<NoMemory> for Fault {
     fn from(_: NoMemory) -> Fault {
-        Fault::Memory
+        Fault::MEMORY
     }
 }
 
 impl From<JoinFault> for Fault {
     fn from(fault: JoinFault) -> Fault {
         match fault {
-            JoinFault::Root(_) | JoinFault::Exists => Fault::Unread,
-            JoinFault::Memory => Fault::Memory,
+            JoinFault::Root(_) | JoinFault::Exists => Fault::UNREAD,
+            JoinFault::Memory => Fault::MEMORY,
         }
     }
 }
@@ -69,8 +95,8 @@ impl From<JoinFault> for Fault {
 impl From<CheckFault> for Fault {
     fn from(fault: CheckFault) -> Fault {
         match fault {
-            CheckFault::Memory => Fault::Memory,
-            _ => Fault::Unread,
+            CheckFault::Memory => Fault::MEMORY,
+            _ => Fault::UNREAD,
         }
     }
 }
@@ -78,8 +104,8 @@ impl From<CheckFault> for Fault {
 impl From<PlanFault> for Fault {
     fn from(fault: PlanFault) -> Fault {
         match fault {
-            PlanFault::Memory => Fault::Memory,
-            PlanFault::TooLarge => Fault::Unread,
+            PlanFault::Memory => Fault::MEMORY,
+            PlanFault::TooLarge => Fault::UNREAD,
         }
     }
 }
@@ -87,17 +113,8 @@ impl From<PlanFault> for Fault {
 impl From<BulkFault> for Fault {
     fn from(fault: BulkFault) -> Fault {
         match fault {
-            BulkFault::Memory => Fault::Memory,
-            _ => Fault::Unwritten,
-        }
-    }
-}
-
-impl From<LoadFault> for Fault {
-    fn from(fault: LoadFault) -> Fault {
-        match fault {
-            LoadFault::Memory => Fault::Memory,
-            LoadFault::Line { .. } => Fault::Load(fault),
+            BulkFault::Memory => Fault::MEMORY,
+            _ => Fault::UNWRITTEN,
         }
     }
 }
@@ -105,23 +122,23 @@ impl From<LoadFault> for Fault {
 impl From<ReportFault> for Fault {
     fn from(fault: ReportFault) -> Fault {
         match fault {
-            ReportFault::NoMemory => Fault::Memory,
-            _ => Fault::Unwritten,
+            ReportFault::NoMemory => Fault::MEMORY,
+            _ => Fault::UNWRITTEN,
         }
     }
 }
 
 impl From<SinkFault> for Fault {
     fn from(_: SinkFault) -> Fault {
-        Fault::Unwritten
+        Fault::UNWRITTEN
     }
 }
 
 impl From<FromHexError> for Fault {
     fn from(fault: FromHexError) -> Fault {
         match fault {
-            FromHexError::OutOfMemory => Fault::Memory,
-            _ => Fault::Unread,
+            FromHexError::OutOfMemory => Fault::MEMORY,
+            _ => Fault::UNREAD,
         }
     }
 }
@@ -129,8 +146,8 @@ impl From<FromHexError> for Fault {
 impl From<io::Error> for Fault {
     fn from(error: io::Error) -> Fault {
         match error.kind() {
-            io::ErrorKind::OutOfMemory => Fault::Memory,
-            _ => Fault::Unread,
+            io::ErrorKind::OutOfMemory => Fault::MEMORY,
+            _ => Fault::UNREAD,
         }
     }
 }

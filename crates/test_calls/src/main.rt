@@ -10,7 +10,7 @@
 //! | `under PATH KEY ..` | what is under the keys |
 //! | `walk`, `walk PATH` | the line of each member of a walk |
 //! | `listed PATH`, `keys PATH` | what `list` writes from a path, and `keys` of a bucket |
-//! | `depths`, `depths PATH` | the numbers of items and keys of a walk |
+//! | `depths`, `depths PATH` | how many items a walk returns, and how many keys its longest path and all paths have |
 //! | `recovered`, `recovered META` | the line of each member that is recovered, and of each loss |
 //! | `found`, `found META` | the number of each page that is found, and its keys |
 //! | `joined`, `joined META` | the line of each member of the joined listing |
@@ -42,7 +42,6 @@ mod cursors;
 mod deeds;
 mod failures;
 mod fault;
-mod jobs;
 mod log;
 mod memory;
 mod pagers;
@@ -55,6 +54,7 @@ mod walks;
 mod words;
 
 use cursors::Printed;
+use failures::Failures;
 use fault::Fault;
 use runs::Ran;
 use std::io::Write;
@@ -79,7 +79,7 @@ fn print_result(rt: &HostRuntime) -> Result<u8, Fault> {
         words.push(word)?;
     }
     let [_, verb, name, words @ ..] = words.as_slice() else {
-        return Err(Fault::Unread);
+        return Err(Fault::UNREAD);
     };
     let file = fs::read(rt, name.as_str())?;
     let input = Input {
@@ -88,24 +88,12 @@ fn print_result(rt: &HostRuntime) -> Result<u8, Fault> {
         words,
     };
     match verb.as_str() {
-        "cuts" | "changes" => print_sweep(rt, verb.as_str(), input),
+        "cuts" | "changes" => print_run(rt, &sweeps::run_sweep(verb.as_str(), input)?),
         _ => print_lines(rt, verb.as_str(), input),
     }
 }
 
-/// Prints what a command comes to on many files, and returns its status. Its copy is written to OUT.
-fn print_sweep(rt: &HostRuntime, verb: &str, input: Input<'_>) -> Result<u8, Fault> {
-    let mut ran = None;
-    match verb {
-        "cuts" => sweeps::cuts(input, &mut ran)?,
-        _ => sweeps::changes(input, &mut ran)?,
-    }
-    match &ran {
-        Some(ran) => print_run(rt, ran),
-        None => Err(Fault::Unread),
-    }
-}
-
+/// Prints what a command comes to, and returns its status. Its copy is written to OUT.
 fn print_run(rt: &HostRuntime, ran: &Ran) -> Result<u8, Fault> {
     io::writer(rt).write_all(ran.out.bytes())?;
     rt.stderr().write_all(ran.err.bytes())?;
@@ -161,10 +149,10 @@ fn push_other_result(verb: &str, input: Input<'_>, lines: &mut Vec<u8>) -> Resul
         "checksums" => checks::checksums(input, lines),
         "faults" => checks::faults(lines),
         "flips" => sweeps::flips(input, lines),
-        "fails" => failures::fails(input, lines),
-        "halts" => failures::halts(input, lines),
+        "fails" => failures::fail(input, Failures::Bytes, lines),
+        "halts" => failures::fail(input, Failures::Calls, lines),
         "deeds" => deeds::deeds_of(input, lines),
         "agree" => agreements::compared(input, lines),
-        _ => Err(Fault::Unread),
+        _ => Err(Fault::UNREAD),
     }
 }

@@ -2,20 +2,19 @@
 //! caller may open, and which buckets it may go over.
 
 use crate::fault::Fault;
-use crate::words::{Input, bytes_of};
+use crate::words::{Input, bytes_of, push_numbers};
 use bolt_check::check;
 use bolt_check::laws::ways_go_on;
 use bolt_format::{Kind, Page, head, inline};
 use bolt_tree::laws::buckets_begin_on_ways;
 use bolt_tree::{At, Cursor, Pager};
 use std::alloc::Global;
-use std::io::Write;
 
 /// The key of the first element of a leaf that has one.
 fn first_key<'a>(page: &Page<'a>) -> Result<&'a [u8], Fault> {
     match page.kind() {
         Kind::Leaf if page.count() > 0 => Ok(page.leaf(0).key),
-        _ => Err(Fault::Unread),
+        _ => Err(Fault::UNREAD),
     }
 }
 
@@ -34,13 +33,13 @@ pub fn opened_pages(input: Input<'_>, line: &mut Vec<u8>) -> Result<(), Fault> {
             let child = pager.open(root.branch(1).child);
             first_key(&child)?
         }
-        _ => return Err(Fault::Unread),
+        _ => return Err(Fault::UNREAD),
     };
     let two = pager.opened();
     pager.note();
     let three = pager.opened();
     line.extend_from_slice(key)?;
-    Ok(write!(line, " {none} {one} {two} {three}")?)
+    push_numbers(line, &[none, one, two, three])
 }
 
 /// The first key of the root bucket by a cursor over a pager, and how many pages it opened.
@@ -55,10 +54,10 @@ pub fn root_cursor(input: Input<'_>, line: &mut Vec<u8>) -> Result<(), Fault> {
 /// The key that a seek finds, and how many pages the cursor opened before and after it.
 fn push_first(mut cursor: Cursor<'_>, key: &[u8], line: &mut Vec<u8>) -> Result<(), Fault> {
     let before = cursor.opened();
-    let entry = cursor.seek(key).ok_or(Fault::Unread)?;
+    let entry = cursor.seek(key).ok_or(Fault::UNREAD)?;
     let after = cursor.opened();
     line.extend_from_slice(entry.key)?;
-    Ok(write!(line, " {before} {after}")?)
+    push_numbers(line, &[before, after])
 }
 
 /// The same by a cursor of the first bucket on the root page, which is a leaf. The pager has opened
@@ -66,7 +65,7 @@ fn push_first(mut cursor: Cursor<'_>, key: &[u8], line: &mut Vec<u8>) -> Result<
 pub fn bucket_cursor(input: Input<'_>, line: &mut Vec<u8>) -> Result<(), Fault> {
     let Input { alloc, file, words } = input;
     let [word] = words else {
-        return Err(Fault::Unread);
+        return Err(Fault::UNREAD);
     };
     let key = bytes_of(alloc, word.as_bytes())?;
     let checked = check(alloc, file)?;
@@ -77,7 +76,7 @@ pub fn bucket_cursor(input: Input<'_>, line: &mut Vec<u8>) -> Result<(), Fault> 
         Kind::Leaf if root.count() > 0 => {
             let bucket = root.leaf(0);
             if !bucket.is_bucket {
-                return Err(Fault::Unread);
+                return Err(Fault::UNREAD);
             }
             let head = head(bucket.value);
             buckets_begin_on_ways();
@@ -88,6 +87,6 @@ pub fn bucket_cursor(input: Input<'_>, line: &mut Vec<u8>) -> Result<(), Fault> 
             let cursor = Cursor::new(pager, At::Page(head.root));
             push_first(cursor, key.as_slice(), line)
         }
-        _ => Err(Fault::Unread),
+        _ => Err(Fault::UNREAD),
     }
 }

@@ -3,12 +3,11 @@ ghost use Rattle.std.specs.Prelude.{◌<◌, IfOk};
 
 use crate::fault::Fault;
 use crate::walks::{push_members, push_twice};
-use crate::words::{Input, assumed_of, slot_of};
+use crate::words::{Input, assumed_of, push_decimal, push_word, slot_of};
 use bolt_format::{Meta, WriteSink, choose, slot_meta};
 use bolt_recover::{Found, Joined, Lost, LostAndFound, Recovery};
 use bolt_report::lost_text;
 use std::alloc::Global;
-use std::io::Write;
 
 /// The line of each member that is recovered, and then that of each loss. The first word may name
 /// the slot of the meta, or assume one.
@@ -54,15 +53,15 @@ fn meta_of(file: &[u8], words: &[String]) -> Result<Meta, Fault>
     };
     match found {
         Ok(meta) if meta.page_size > 0 => Ok(meta),
-        _ => Err(Fault::Unread),
+        _ => Err(Fault::UNREAD),
     }
 }
 
 fn push_found(found: &Found<'_>, lines: &mut Vec<u8>) -> Result<(), Fault> {
-    write!(lines, "{}", found.number)?;
+    push_decimal(lines, found.number)?;
     for i in 0..found.page.count() {
         let key = hex::encode(*lines.allocator(), found.page.key(i))?;
-        write!(lines, " {key}")?;
+        push_word(lines, key.as_bytes())?;
     }
     Ok(lines.push(b'\n')?)
 }

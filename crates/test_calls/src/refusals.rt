@@ -17,7 +17,7 @@ fn next_of<'a>(walk: &mut Walk<'a>) -> Result<(Option<Item<'a>>, bool), Fault> {
     match walk.next() {
         Ok(given) => Ok((given, false)),
         Err(NoMemory) if walk.path().len() == before => Ok((walk.next()?, true)),
-        Err(NoMemory) => Err(Fault::Wrong("another path after a refusal", before)),
+        Err(NoMemory) => Err(Fault::wrong("another path after a refusal", before)),
     }
 }
 
@@ -47,12 +47,12 @@ fn walk_again(
 ) -> Result<(), Fault> {
     match Walk::from(alloc, checked, path) {
         Ok(mut walk) => match goes_on(alloc, &mut walk, lines)? {
-            true => Err(Fault::Refused("a walk goes on, and gives the rest")),
+            true => Err(Fault::refused("refused: a walk goes on, and gives the rest")),
             false => Ok(()),
         },
         Err(NoMemory) => {
             goes_on(alloc, &mut Walk::from(alloc, checked, path)?, lines)?;
-            Err(Fault::Refused("a walk begins again, and gives the rest"))
+            Err(Fault::refused("refused: a walk begins again, and gives the rest"))
         }
     }
 }
@@ -62,7 +62,7 @@ fn goes_on(alloc: Global, walk: &mut Walk<'_>, all: &[u8]) -> Result<bool, Fault
     let mut lines = Vec::new(alloc);
     let was_refused = push_rest(walk, &mut lines)?;
     if lines.as_slice() != all {
-        return Err(Fault::Wrong("other members", lines.len()));
+        return Err(Fault::wrong("other members", lines.len()));
     }
     Ok(was_refused)
 }
@@ -86,7 +86,7 @@ fn push_rest(walk: &mut Walk<'_>, lines: &mut Vec<u8>) -> Result<bool, Fault> {
 pub fn calls_between(input: Input<'_>, line: &mut Vec<u8>) -> Result<(), Fault> {
     let Input { alloc, file, words } = input;
     let [path, key] = words else {
-        return Err(Fault::Unread);
+        return Err(Fault::UNREAD);
     };
     let checked = check(alloc, file)?;
     let bucket = bucket_at(alloc, checked, path.as_bytes())?;
@@ -95,9 +95,9 @@ pub fn calls_between(input: Input<'_>, line: &mut Vec<u8>) -> Result<(), Fault> 
     let are_right = make_calls(&bucket, key.as_slice()) && !has_path(alloc, checked);
     let after = has_memory(alloc);
     match (are_right, before, after) {
-        (false, _, _) => Err(Fault::Wrong("what a call returned", 0)),
-        (_, false, _) => Err(Fault::Refused("before the calls")),
-        (_, _, false) => Err(Fault::Refused("after the calls")),
+        (false, _, _) => Err(Fault::wrong("what a call returned", 0)),
+        (_, false, _) => Err(Fault::refused("refused: before the calls")),
+        (_, _, false) => Err(Fault::refused("refused: after the calls")),
         _ => Ok(line.extend_from_slice(b"no request")?),
     }
 }

@@ -75,7 +75,7 @@ fn put_pieces<S: Sink>(
         match result {
             Ok(()) if sink.failures() == 0 => push_word(line, b"ok")?,
             Err(_) if sink.failures() >= before.max(1) => push_word(line, b"failed")?,
-            _ => return Err(Fault::Wrong("the number of failures", line.len())),
+            _ => return Err(Fault::wrong("the number of failures", line.len())),
         }
     }
     Ok(())
@@ -87,7 +87,7 @@ fn put_pieces<S: Sink>(
 pub fn puts(input: Input<'_>, line: &mut Vec<u8>) -> Result<(), Fault> {
     let Input { alloc, file, words } = input;
     let [kind, count, pieces @ ..] = words else {
-        return Err(Fault::Unread);
+        return Err(Fault::UNREAD);
     };
     let count = number(count.as_bytes())? as usize;
     let refusal = match kind.as_str() {
@@ -125,7 +125,7 @@ fn puts_in_memory(
         }
         "memory" => put_in_memory(file, pieces, MemSink::new(alloc), line),
         "fuse" => put_in_memory(file, pieces, MemSink::with_fuse(alloc, count), line),
-        _ => Err(Fault::Unread),
+        _ => Err(Fault::UNREAD),
     }
 }
 

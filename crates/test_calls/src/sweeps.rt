@@ -1,95 +1,79 @@
 //! One command on many files that are cut short or changed.
 
-use crate::fault::Fault;
-use crate::runs::{Ran, first_line, job_of};
+use crate::fault::{Fault, require};
+use crate::runs::{Ran, Task, first_line, job_of};
 use crate::words::{Input, number};
 use bolt_cli::Job;
 use std::alloc::Global;
 
-/// A job on many files.
-#[derive(Drop)]
-struct Sweep {
+/// A job on many files, which differ at a place of this range.
+#[derive(Clone, Copy)]
+struct Sweep<'a> {
     alloc: Global,
-    job: Job,
+    job: &'a Job,
     first: usize,
     last: usize,
 }
 
-/// A sweep from the place that the first word is to that of the second. The others are a command.
-fn sweep_of(alloc: Global, words: &[String]) -> Result<Sweep, Fault> {
-    let [first, last, command @ ..] = words else {
-        return Err(Fault::Unread);
-    };
-    Ok(Sweep {
-        alloc,
-        job: job_of(alloc, command)?,
-        first: number(first.as_bytes())? as usize,
-        last: number(last.as_bytes())? as usize,
-    })
-}
-
-impl Sweep {
-    /// The job on one more file. Its result is the first one, or like it.
-    fn run(&self, first: &mut Option<Ran>, file: &[u8], at: usize) -> Result<(), Fault> {
-        let ran = Ran::on(self.alloc, &self.job, file);
-        match first {
-            None => *first = Some(ran),
-            Some(first) if first.is_like(&ran) => {}
-            Some(_) => return Err(Fault::Wrong("another result than before", at)),
-        }
-        Ok(())
+impl Sweep<'_> {
+    fn run(self, file: &[u8]) -> Ran {
+        let Sweep { alloc, job, .. } = self;
+        Task { alloc, job, file }.run()
     }
 
-    /// The job on each prefix of the file with a length in the range.
-    fn cut_each(&self, first: &mut Option<Ran>, file: &[u8]) -> Result<(), Fault> {
+    /// The job on the file with some bits of the byte at a place changed.
+    fn run_changed(self, file: &mut [u8], at: usize, bits: u8) -> Ran {
+        toggle(file, at, bits);
+        let ran = self.run(file);
+        toggle(file, at, bits);
+        ran
+    }
+
+    /// The job on many files, by the verb.
+    fn run_each(self, verb: &str, file: &[u8]) -> Result<Ran, Fault> {
+        let mut other = file.to_vec(self.alloc)?;
+        match verb {
+            "cuts" => self.cut_each(file),
+            "changes" => self.change_each(&mut other),
+            _ => self.flip_each(&mut other),
+        }
+    }
+
+    /// The job on each prefix of the file with a length in the range. It comes to the same each time.
+    fn cut_each(self, file: &[u8]) -> Result<Ran, Fault> {
+        let first = self.run(file.get(..self.first).ok_or(Fault::UNREAD)?);
         for length in self.first..=self.last {
-            let cut = file.get(..length).ok_or(Fault::Unread)?;
-            self.run(first, cut, length)?;
+            let ran = self.run(file.get(..length).ok_or(Fault::UNREAD)?);
+            require(first.is_like(&ran), "another result than before", length)?;
         }
-        Ok(())
+        Ok(first)
     }
 
-    /// The job on the file with each byte of the range changed to each other value in turn.
-    fn change_each(&self, first: &mut Option<Ran>, file: &mut [u8]) -> Result<(), Fault> {
+    /// The job on the file with each byte of the range changed to each other value in turn. It comes to
+    /// the same each time.
+    fn change_each(self, file: &mut [u8]) -> Result<Ran, Fault> {
+        let first = self.run_changed(file, self.first, 1);
         for at in self.first..=self.last {
             for bits in 1..=u8::MAX {
-                toggle(file, at, bits);
-                self.run(first, file, at)?;
-                toggle(file, at, bits);
+                let ran = self.run_changed(file, at, bits);
+                require(first.is_like(&ran), "another result than before", at)?;
             }
         }
-        Ok(())
+        Ok(first)
     }
 
-    /// The job on the file with the lowest bit of each byte of the range changed in turn.
-    fn flip_each(&self, file: &mut [u8], line: &mut Vec<u8>) -> Result<(), Fault> {
+    /// The job on the file with the lowest bit of each byte of the range changed in turn. Its status is
+    /// 1, and it prints the same first line each time.
+    fn flip_each(self, file: &mut [u8]) -> Result<Ran, Fault> {
+        let first = self.run_changed(file, self.first, 1);
+        let line = first_line(first.out.bytes());
         for at in self.first..=self.last {
-            toggle(file, at, 1);
-            self.find(file, at, line)?;
-            toggle(file, at, 1);
+            let ran = self.run_changed(file, at, 1);
+            let is_same = ran.code == 1 && first_line(ran.out.bytes()) == line;
+            require(is_same, "another first line or status", at)?;
         }
-        Ok(())
+        Ok(first)
     }
-
-    /// The first line that the job prints of one more file. It is that of the first file.
-    fn find(&self, file: &[u8], at: usize, line: &mut Vec<u8>) -> Result<(), Fault> {
-        let ran = Ran::on(self.alloc, &self.job, file);
-        let found = first_line(ran.out.bytes());
-        if at == self.first {
-            line.extend_from_slice(found)?;
-        }
-        if ran.code != 1 || found != line.as_slice() {
-            return Err(Fault::Wrong("another first line or status", at));
-        }
-        Ok(())
-    }
-}
-
-/// The result of a command on each prefix of the file with a length in a range.
-pub fn cuts(input: Input<'_>, ran: &mut Option<Ran>) -> Result<(), Fault> {
-    let Input { alloc, file, words } = input;
-    let sweep = sweep_of(alloc, words)?;
-    sweep.cut_each(ran, file)
 }
 
 /// Changes some bits of the byte at a place.
@@ -99,19 +83,28 @@ pub fn toggle(file: &mut [u8], at: usize, bits: u8) {
     }
 }
 
-/// The result of a command on the file with each byte of a range changed to each other value in turn.
-pub fn changes(input: Input<'_>, ran: &mut Option<Ran>) -> Result<(), Fault> {
+/// What a command comes to on the first of many files. They differ at each place from the first word to
+/// the second: the file is cut off there (`cuts`), each bit there is changed (`changes`), or the lowest
+/// one (`flips`).
+pub fn run_sweep(verb: &str, input: Input<'_>) -> Result<Ran, Fault> {
     let Input { alloc, file, words } = input;
-    let mut other = file.to_vec(alloc)?;
-    let sweep = sweep_of(alloc, words)?;
-    sweep.change_each(ran, other.as_mut_slice())
+    let [first, last, command @ ..] = words else {
+        return Err(Fault::UNREAD);
+    };
+    let first = number(first.as_bytes())? as usize;
+    let last = number(last.as_bytes())? as usize;
+    let job = &job_of(alloc, command)?;
+    let sweep = Sweep {
+        alloc,
+        job,
+        first,
+        last,
+    };
+    sweep.run_each(verb, file)
 }
 
-/// The first line of what a command prints of the file with the lowest bit of each byte of a range
-/// changed in turn. The status is 1.
+/// The first line of what a sweep comes to.
 pub fn flips(input: Input<'_>, line: &mut Vec<u8>) -> Result<(), Fault> {
-    let Input { alloc, file, words } = input;
-    let mut other = file.to_vec(alloc)?;
-    let sweep = sweep_of(alloc, words)?;
-    sweep.flip_each(other.as_mut_slice(), line)
+    let ran = run_sweep("flips", input)?;
+    Ok(line.extend_from_slice(first_line(ran.out.bytes()))?)
 }

@@ -1,13 +1,14 @@
 //! What a file holds: walks, listings, keys, and what is under a key.
 
 use crate::fault::Fault;
-use crate::words::{Input, bucket_at, bytes_of, keys_of, push_word, slices_of};
+use crate::words::{
+    Input, bucket_at, bytes_of, keys_of, push_decimal, push_numbers, push_word, slices_of,
+};
 use bolt_check::check;
 use bolt_format::{Sink, WriteSink};
 use bolt_report::{Form, ListForm, MemberLines, ReportFault, keys, list};
 use bolt_tree::{Bucket, Members, Walk};
 use std::alloc::Global;
-use std::io::Write;
 
 /// A walk from the path that the first word is, or from the start if there is none.
 fn walk_from<'a>(input: Input<'a>) -> Result<Walk<'a>, Fault> {
@@ -77,15 +78,14 @@ pub fn depths(input: Input<'_>, line: &mut Vec<u8>) -> Result<(), Fault> {
         longest = keys.max(longest);
         all = all.saturating_add(keys);
     }
-    write!(line, "{items} items, {longest} keys at most, {all} in all")?;
-    Ok(())
+    push_numbers(line, &[items, longest as u64, all as u64])
 }
 
 /// What is under each of the keys in the bucket at a path: a value, a bucket's sequence, or `-`.
 pub fn look_ups(input: Input<'_>, line: &mut Vec<u8>) -> Result<(), Fault> {
     let Input { alloc, file, words } = input;
     let [path, keys @ ..] = words else {
-        return Err(Fault::Unread);
+        return Err(Fault::UNREAD);
     };
     let bucket = bucket_at(alloc, check(alloc, file)?, path.as_bytes())?;
     for word in keys {
@@ -103,10 +103,10 @@ fn look_up(bucket: &Bucket<'_>, key: &[u8], line: &mut Vec<u8>) -> Result<(), Fa
         }
         (None, Some(inner)) => {
             push_word(line, b":")?;
-            write!(line, "{}", inner.sequence())?;
+            push_decimal(line, inner.sequence())?;
         }
         (None, None) => push_word(line, b"-")?,
-        _ => return Err(Fault::Wrong("a value and a bucket", line.len())),
+        _ => return Err(Fault::wrong("a value and a bucket", line.len())),
     }
     Ok(())
 }
@@ -115,7 +115,7 @@ fn look_up(bucket: &Bucket<'_>, key: &[u8], line: &mut Vec<u8>) -> Result<(), Fa
 pub fn listed(input: Input<'_>, lines: &mut Vec<u8>) -> Result<(), Fault> {
     let Input { alloc, file, words } = input;
     let [from, ..] = words else {
-        return Err(Fault::Unread);
+        return Err(Fault::UNREAD);
     };
     let keys = keys_of(alloc, from.as_bytes())?;
     let from = slices_of(alloc, keys.as_slice())?;
@@ -127,7 +127,7 @@ pub fn listed(input: Input<'_>, lines: &mut Vec<u8>) -> Result<(), Fault> {
 pub fn keys_in(input: Input<'_>, lines: &mut Vec<u8>) -> Result<(), Fault> {
     let Input { alloc, file, words } = input;
     let [path, ..] = words else {
-        return Err(Fault::Unread);
+        return Err(Fault::UNREAD);
     };
     let bucket = bucket_at(alloc, check(alloc, file)?, path.as_bytes())?;
     let mut sink = WriteSink::new(lines);

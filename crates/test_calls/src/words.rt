@@ -18,7 +18,7 @@ pub struct Input<'a> {
 }
 
 pub fn number(word: &[u8]) -> Result<u64, Fault> {
-    read_number(word).ok_or(Fault::Unread)
+    read_number(word).ok_or(Fault::UNREAD)
 }
 
 /// The slot that the first word names, if there is one.
@@ -27,7 +27,7 @@ pub fn slot_of(words: &[String]) -> Result<Option<Slot>, Fault> {
         [] => Ok(None),
         [slot, ..] if slot.as_str() == "0" => Ok(Some(Slot::Zero)),
         [slot, ..] if slot.as_str() == "1" => Ok(Some(Slot::One)),
-        _ => Err(Fault::Unread),
+        _ => Err(Fault::UNREAD),
     }
 }
 
@@ -44,7 +44,7 @@ pub fn assumed_of(file: &[u8], words: &[String]) -> Result<Option<Meta>, Fault>
     };
     match u32::try_from(number(size)?) {
         Ok(size) if size > 0 => Ok(Some(assumed_meta(file.len() as u64, size, number(root)?))),
-        _ => Err(Fault::Unread),
+        _ => Err(Fault::UNREAD),
     }
 }
 
@@ -84,7 +84,7 @@ pub fn bucket_at<'a>(
     for key in &keys {
         bucket = bucket.and_then(|outer| outer.bucket(key.as_slice()));
     }
-    bucket.ok_or(Fault::Unread)
+    bucket.ok_or(Fault::UNREAD)
 }
 
 /// Adds a word to a line of them.
@@ -98,6 +98,18 @@ pub fn push_word(line: &mut Vec<u8>, word: &[u8]) -> Result<(), AllocError> {
 /// Adds a number to a line of words.
 pub fn push_number(line: &mut Vec<u8>, number: u64) -> Result<(), Fault> {
     push_word(line, b"")?;
-    write!(line, "{number}")?;
+    push_decimal(line, number)
+}
+
+/// Adds a number to the last word of a line.
+pub fn push_decimal(line: &mut Vec<u8>, number: u64) -> Result<(), Fault> {
+    Ok(write!(line, "{number}")?)
+}
+
+/// Adds numbers to a line of words.
+pub fn push_numbers(line: &mut Vec<u8>, numbers: &[u64]) -> Result<(), Fault> {
+    for number in numbers {
+        push_number(line, *number)?;
+    }
     Ok(())
 }

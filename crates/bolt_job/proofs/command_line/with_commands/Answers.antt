@@ -1,18 +1,21 @@
-use Rattle.std.proofs.Common.{◌∙◌, ◌++◌, List, ap, append_assoc, append-nil, map, subst, sym, take}
+use Rattle.std.proofs.Common.{◌∙◌, ap, map, subst, sym, take}
 use Rattle.std.proofs.lemmas.List.Sums.{fold-append}
-use Rattle.bolt_job.proofs.Vocabulary.{App, IsCommand, Syntax, bare_program, command_of, program_of, syntax_view, with_subcommand}
+use Rattle.bolt_job.proofs.Vocabulary.{App, Bor, IsCommand, Syntax, bare_program, command_of, program_of, syntax_view, with_subcommand}
 use Rattle.bolt_job.proofs.CommandLineLemmas.{made_more, subcommand_added}
+use Rattle.bolt_job.specs.declared.command_line.Syntax as declared
 use Rattle.bolt_job.proofs.command_line.with_commands.Goals as goal
 
+abbrev view_of : Bor declared.Syntax → Syntax
+view_of syntax = syntax_view syntax.now
+
 pub loop-syntax-init : goal.loop-syntax-init
-loop-syntax-init c = λ before is. subst (λ (all : List Syntax). IsCommand (program_of all) c.args.program) (sym (append-nil before)) is
+loop-syntax-init c = λ is. is
 
 pub loop-syntax-preserved : goal.loop-syntax-preserved
-loop-syntax-preserved c = λ before is.
+loop-syntax-preserved c = λ is.
     let i = c.loop-syntax.syntax-index in
-    let so_far = before ++ map syntax_view (take i c.args.syntaxes.now) in
+    let so_far = map view_of (take i c.args.syntaxes.now) in
     let more = λ (app : App) (s : Syntax). with_subcommand app (command_of s).top in
     subst (λ (app : App). IsCommand app c.in_ok-program.program)
-    (sym (ap (λ (all : List Syntax). program_of (before ++ all)) (made_more syntax_view c.args.syntaxes.now i _ c.loop-syntax-test.true)
-    ∙ sym (ap program_of (append_assoc before (map syntax_view (take i c.args.syntaxes.now)) _)) ∙ fold-append more bare_program so_far _))
-    (subcommand_added _ _ _ _ _ (c.loop-syntax.invariant before is) c.in_ok-command.ensures c.in_ok-program.ensures)
+    (sym (ap program_of (made_more view_of c.args.syntaxes.now i _ c.loop-syntax-test.true) ∙ fold-append more bare_program so_far _))
+    (subcommand_added _ _ _ _ _ (c.loop-syntax.invariant is) c.in_ok-command.ensures c.in_ok-program.ensures)
