@@ -46,22 +46,29 @@ const TRIALS: [(Kind, &str); 19] = [
     (Kind::Reader, "list --form json FILE"),
 ];
 
-/// The jobs of these commands.
-fn jobs_of(alloc: Global) -> Result<Vec<Job>, Fault> {
-    let mut jobs = Vec::new(alloc);
-    for (_, line) in TRIALS {
-        jobs.push(job_from(alloc, line)?)?;
-    }
-    Ok(jobs)
+/// One of these commands.
+#[derive(Drop)]
+struct Trial {
+    kind: Kind,
+    job: Job,
 }
 
-/// The jobs of the trials, those of `check` and `list` among them.
+fn trials_of(alloc: Global) -> Result<Vec<Trial>, Fault> {
+    let mut trials = Vec::new(alloc);
+    for (kind, line) in TRIALS {
+        let job = job_from(alloc, line)?;
+        trials.push(Trial { kind, job })?;
+    }
+    Ok(trials)
+}
+
+/// All of them, `check` and `list` among them.
 #[derive(Clone, Copy)]
 struct Trials<'a> {
     alloc: Global,
     check: &'a Job,
     list: &'a Job,
-    jobs: &'a [Job],
+    all: &'a [Trial],
 }
 
 impl Trials<'_> {
@@ -74,7 +81,7 @@ impl Trials<'_> {
     fn compare(self, file: &[u8], at: usize) -> Result<(), Fault> {
         let check = self.run(self.check, file);
         let mut list = self.list;
-        for ((kind, _), job) in TRIALS.iter().zip(self.jobs) {
+        for Trial { kind, job } in self.all {
             let is_right = match kind {
                 Kind::Page => is_page(&self.run(job, file), check.err.bytes()),
                 Kind::Reader => is_read(&self.run(job, file), &check),
@@ -143,21 +150,24 @@ fn found_line(text: &[u8]) -> Option<&[u8]> {
 /// value in turn. It is also compared with its end cut off at each byte.
 pub fn compared(input: Input<'_>, line: &mut Vec<u8>) -> Result<(), Fault> {
     let Input { alloc, file, .. } = input;
-    let jobs = jobs_of(alloc)?;
-    compare_each(alloc, jobs.as_slice(), file, line)
+    let trials = trials_of(alloc)?;
+    match trials.as_slice() {
+        all @ [check, list, ..] => {
+            let (check, list) = (&check.job, &list.job);
+            let trials = Trials {
+                alloc,
+                check,
+                list,
+                all,
+            };
+            compare_each(trials, file, line)
+        }
+        _ => Err(Fault::UNREAD),
+    }
 }
 
-fn compare_each(alloc: Global, jobs: &[Job], file: &[u8], line: &mut Vec<u8>) -> Result<(), Fault> {
-    let [check, list, ..] = jobs else {
-        return Err(Fault::UNREAD);
-    };
-    let trials = Trials {
-        alloc,
-        check,
-        list,
-        jobs,
-    };
-    let mut other = file.to_vec(alloc)?;
+fn compare_each(trials: Trials<'_>, file: &[u8], line: &mut Vec<u8>) -> Result<(), Fault> {
+    let mut other = file.to_vec(trials.alloc)?;
     let mut count = 0_u64;
     for at in 0..file.len() {
         trials.compare(file.get(..at).unwrap_or(b""), at)?;
