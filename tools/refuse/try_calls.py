@@ -4,10 +4,11 @@
     try_calls.py CALLS LIBRARY CASES
 
 CALLS is the program test_calls, LIBRARY refuses the requests (refuse.c), and CASES has test cases (tests/run_cases.py)
-of the verbs `again` and `between`. Each run must end with the full result, or with status 3 and what was refused: the
-walk of `again` goes on or begins again with the same members; or memory ran out before or after it. In `between` the
-calls that need no memory are between two requests, so these must be neighbours. Prints how many runs ended in which
-way. The status is 1 if one ends otherwise, if no walk is refused, or if there is a request between the calls."""
+of the verbs `again` and `between`. Each run must end with the full result, or with status 3 and what was refused. The
+walk of `again` goes on or begins again, and a line after the full result says so; or memory ran out before or after
+it. In `between` the calls that need no memory are between two requests, so these must be neighbours. Prints how many
+runs ended in which way. The status is 1 if one ends otherwise, if no walk is refused, or if there is a request between
+the calls."""
 
 import os
 import subprocess
@@ -22,8 +23,8 @@ from words import halves
 SECONDS = 60
 # A sink in memory fails if memory runs out.
 MEMORY = {b"out of memory\n", b"can't be written\n"}
-GOES_ON = b"refused: a walk goes on, and gives the rest\n"
-BEGINS_AGAIN = b"refused: a walk begins again, and gives the rest\n"
+GOES_ON = b"refused: a walk goes on\n"
+BEGINS_AGAIN = b"refused: a walk begins again\n"
 BEFORE, AFTER = b"refused: before the calls\n", b"refused: after the calls\n"
 # What may be said of a call, and what must be.
 ENDS = {"again": MEMORY | {GOES_ON, BEGINS_AGAIN}, "between": MEMORY | {BEFORE, AFTER}}
@@ -40,12 +41,17 @@ def outcomes_of(calls, library, folder, words):
         ran = subprocess.run([calls, *words], cwd=folder, capture_output=True, timeout=SECONDS, env=refusal)
         return ran.returncode, ran.stdout, ran.stderr
 
-    full = run(0)
+    _, full, _ = run(0)
+
+    def said_of(status, out, err):
+        if (status, out) == (3, b""):
+            return err
+        return out.removeprefix(full) if (status, err) == (0, b"") and out.startswith(full) else b"another end"
+
     said = []
     result = run(1)
     while os.path.exists(mark):
-        status, out, err = result
-        said.append(b"" if result == full else err if (status, out) == (3, b"") else b"another end")
+        said.append(said_of(*result))
         result = run(len(said) + 1)
     return said
 
@@ -56,7 +62,7 @@ def is_right(verb, path, said):
         return False
     if verb == "between":
         return said.count(BEFORE) == said.count(AFTER) == 1 and said.index(BEFORE) + 1 == said.index(AFTER)
-    return BEGINS_AGAIN in said if path else said.count(GOES_ON) > 1
+    return said.count(GOES_ON) > 1 if path == ["."] else BEGINS_AGAIN in said
 
 
 def try_block(calls, library, folder, block):

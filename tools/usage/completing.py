@@ -20,7 +20,7 @@ PROMPT=
 TMOUT=20
 fpath=($COMPLETIONS $fpath)
 autoload -Uz compinit
-compinit -D -u
+compinit -C -d $ZDOTDIR/functions
 bindkey '^I' complete-word
 zstyle ':completion:*' insert-tab false
 compadd() {
@@ -36,6 +36,9 @@ compadd() {
 comppostfuncs=(exit)
 """
 
+# The home of each zsh, in which the first one leaves the names of its functions, since they take long to find.
+HOME = tempfile.TemporaryDirectory()
+
 
 def offered_by_bash(folder, words):
     run = subprocess.run(
@@ -46,22 +49,20 @@ def offered_by_bash(folder, words):
 
 def offered_by_zsh(folder, words):
     """Types the words and a tab to a zsh on a terminal, and reads what it noted."""
-    with tempfile.TemporaryDirectory() as own:
-        offered = os.path.join(own, "offered")
-        with open(os.path.join(own, ".zshrc"), "w", encoding="utf-8") as file:
-            file.write(ZSH)
-        with open(offered, "w", encoding="utf-8"):
-            pass
-        places = {"ZDOTDIR": own, "OFFERED": offered, "COMPLETIONS": os.path.abspath("completions")}
-        child, terminal = pty.fork()
-        if child == 0:
-            os.chdir(folder)
-            os.execvpe("zsh", ["zsh", "-d", "-i"], {**os.environ, **places})
-        os.write(terminal, (" ".join(words) + "\t").encode())
-        read_to_end(terminal)
-        os.waitpid(child, 0)
-        with open(offered, encoding="utf-8") as file:
-            return sorted(set(file.read().split()))
+    offered = os.path.join(HOME.name, "offered")
+    for name, text in (".zshrc", ZSH), ("offered", ""):
+        with open(os.path.join(HOME.name, name), "w", encoding="utf-8") as file:
+            file.write(text)
+    places = {"ZDOTDIR": HOME.name, "OFFERED": offered, "COMPLETIONS": os.path.abspath("completions")}
+    child, terminal = pty.fork()
+    if child == 0:
+        os.chdir(folder)
+        os.execvpe("zsh", ["zsh", "-d", "-i"], {**os.environ, **places})
+    os.write(terminal, (" ".join(words) + "\t").encode())
+    read_to_end(terminal)
+    os.waitpid(child, 0)
+    with open(offered, encoding="utf-8") as file:
+        return sorted(set(file.read().split()))
 
 
 def read_to_end(terminal):

@@ -22,7 +22,7 @@ enum Kind {
     Copy,
 }
 
-/// Commands that are tried on each file: first `check` and `list`. There is no page 4. A copy comes after
+/// Commands that are tried on each file: first `check`, then `list`. There is no page 4. A copy comes after
 /// the listing to the same extent.
 const TRIALS: [(Kind, &str); 19] = [
     (Kind::Check, "check FILE"),
@@ -62,13 +62,13 @@ fn trials_of(alloc: Global) -> Result<Vec<Trial>, Fault> {
     Ok(trials)
 }
 
-/// All of them, `check` and `list` among them.
+/// `check`, `list` and the others.
 #[derive(Clone, Copy)]
 struct Trials<'a> {
     alloc: Global,
     check: &'a Job,
     list: &'a Job,
-    all: &'a [Trial],
+    others: &'a [Trial],
 }
 
 impl Trials<'_> {
@@ -77,22 +77,29 @@ impl Trials<'_> {
         Task { alloc, job, file }.run()
     }
 
-    /// Everything that is said of a file, which was changed at this place.
-    fn compare(self, file: &[u8], at: usize) -> Result<(), Fault> {
+    /// Whether everything that is said of a file fits together.
+    fn agree(self, file: &[u8]) -> bool {
         let check = self.run(self.check, file);
-        let mut list = self.list;
-        for Trial { kind, job } in self.all {
-            let is_right = match kind {
-                Kind::Page => is_page(&self.run(job, file), check.err.bytes()),
-                Kind::Reader => is_read(&self.run(job, file), &check),
-                Kind::Check => self.run(job, file).code == 1 || check.code == 0,
-                Kind::List => true,
-                Kind::Copy => self.is_copied(&self.run(job, file), &self.run(list, file)),
-            };
-            require(is_right, "a command and check", at)?;
-            list = job;
+        let mut last = self.run(self.list, file);
+        let mut are_right = is_read(&last, &check);
+        for trial in self.others {
+            are_right &= self.is_next(trial, file, &check, &mut last);
         }
-        Ok(())
+        are_right
+    }
+
+    /// Whether a command is right, by what `check` and the command before it said.
+    fn is_next(self, trial: &Trial, file: &[u8], check: &Ran, last: &mut Ran) -> bool {
+        let ran = self.run(&trial.job, file);
+        let is_right = match trial.kind {
+            Kind::Page => is_page(&ran, check.err.bytes()),
+            Kind::Reader => is_read(&ran, check),
+            Kind::Check => ran.code == 1 || check.code == 0,
+            Kind::List => true,
+            Kind::Copy => self.is_copied(&ran, last),
+        };
+        *last = ran;
+        is_right
     }
 
     /// The copy is sound and lists what `list` prints, and the statuses are the same. Without a copy
@@ -152,13 +159,13 @@ pub fn compared(input: Input<'_>, line: &mut Vec<u8>) -> Result<(), Fault> {
     let Input { alloc, file, .. } = input;
     let trials = trials_of(alloc)?;
     match trials.as_slice() {
-        all @ [check, list, ..] => {
+        [check, list, others @ ..] => {
             let (check, list) = (&check.job, &list.job);
             let trials = Trials {
                 alloc,
                 check,
                 list,
-                all,
+                others,
             };
             compare_each(trials, file, line)
         }
@@ -170,10 +177,15 @@ fn compare_each(trials: Trials<'_>, file: &[u8], line: &mut Vec<u8>) -> Result<(
     let mut other = file.to_vec(trials.alloc)?;
     let mut count = 0_u64;
     for at in 0..file.len() {
-        trials.compare(file.get(..at).unwrap_or(b""), at)?;
+        let cut = file.get(..at).unwrap_or(b"");
+        require(trials.agree(cut), "commands on a file that is cut off", at)?;
         for bits in 1..=u8::MAX {
             toggle(&mut other, at, bits);
-            trials.compare(other.as_slice(), at)?;
+            require(
+                trials.agree(other.as_slice()),
+                "commands on a changed file",
+                at,
+            )?;
             toggle(&mut other, at, bits);
             count = count.saturating_add(1);
         }

@@ -1,56 +1,43 @@
-//! What a checked file shows, what each of its pages is, and the checksums and the numbers of faults.
+//! What a checked file shows, the table of its pages, and the checksums and the numbers of faults.
 
 use crate::fault::Fault;
-use crate::words::{Input, assumed_of, bytes_of, push_number, push_numbers, push_word, slot_of};
-use bolt_check::{Checked, Finding, Role, check, check_slot, check_under, roles};
-use bolt_format::{PageFault, fnv1a};
-use std::alloc::Global;
+use crate::words::{Input, bytes_of, push_number, push_numbers, push_word};
+use bolt_check::{Finding, check, check_slot};
+use bolt_format::{PageFault, Slot, WriteSink, fnv1a};
+use bolt_report::pages;
 
-fn name_of(role: Role) -> &'static [u8] {
-    match role {
-        Role::Meta => b"meta",
-        Role::Freelist => b"freelist",
-        Role::Branch => b"branch",
-        Role::Leaf => b"leaf",
-        Role::Inside => b"inside",
-        Role::Free => b"free",
-    }
-}
-
-/// The role of each page below the high-water mark.
-pub fn roles_of(input: Input<'_>, line: &mut Vec<u8>) -> Result<(), Fault> {
+/// The table of all pages of a file.
+pub fn page_table(input: Input<'_>, lines: &mut Vec<u8>) -> Result<(), Fault> {
     let Input { alloc, file, .. } = input;
-    let found = roles(alloc, check(alloc, file)?)?;
-    for id in 0..found.checked().meta().high_water {
-        push_word(line, name_of(found.role(id)))?;
-    }
-    Ok(())
-}
-
-fn checked_of<'a>(input: Input<'a>) -> Result<Checked<'a>, Fault> {
-    let Input { alloc, file, words } = input;
-    let checked = match slot_of(words)? {
-        None => check(alloc, file)?,
-        Some(slot) => check_slot(alloc, file, slot)?,
-    };
-    Ok(checked)
+    let checked = check(alloc, file)?;
+    Ok(pages(alloc, checked, &mut WriteSink::new(lines))?)
 }
 
 /// The transaction of the meta under which a file is checked, the number of its bytes, and whether the
-/// accounts were tested. The first word may name the slot of the meta, or assume one.
+/// accounts were tested. The first word may name the slot of the meta.
 pub fn checked(input: Input<'_>, line: &mut Vec<u8>) -> Result<(), Fault> {
     let Input { alloc, file, words } = input;
-    let found = match assumed_of(file, words)? {
-        Some(meta) => check_under(alloc, file, meta)?,
-        None => checked_of(input)?,
+    let found = match slot_of(words)? {
+        None => check(alloc, file)?,
+        Some(slot) => check_slot(alloc, file, slot)?,
     };
+    push_numbers(line, &[found.meta().txid, found.bytes().len() as u64])?;
     let tested = if found.accounts() {
         b"accounts".as_slice()
     } else {
         b"trees"
     };
-    push_numbers(line, &[found.meta().txid, found.bytes().len() as u64])?;
     Ok(push_word(line, tested)?)
+}
+
+/// The slot that the first word names, if there is one.
+fn slot_of(words: &[String]) -> Result<Option<Slot>, Fault> {
+    match words {
+        [] => Ok(None),
+        [slot, ..] if slot.as_str() == "0" => Ok(Some(Slot::Zero)),
+        [slot, ..] if slot.as_str() == "1" => Ok(Some(Slot::One)),
+        _ => Err(Fault::UNREAD),
+    }
 }
 
 /// The checksum of each word.

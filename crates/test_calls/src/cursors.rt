@@ -1,8 +1,7 @@
 //! Calls on a cursor, and their results.
 
 use crate::fault::Fault;
-use crate::words::{Input, bucket_at, bytes_of, push_decimal, push_number, push_word};
-use bolt_check::check;
+use crate::words::{Input, bucket_of, bytes_of, push_decimal, push_number, push_word};
 use bolt_format::WriteSink;
 use bolt_report::{Form, keys_with_prefix};
 use bolt_tree::{Cursor, Entry};
@@ -41,14 +40,11 @@ pub enum Printed {
 /// The results of calls on a new cursor of a bucket, one after another. The first word is the
 /// bucket's path.
 pub fn run_calls(input: Input<'_>, printed: Printed, line: &mut Vec<u8>) -> Result<(), Fault> {
-    let Input { alloc, file, words } = input;
-    let [path, calls @ ..] = words else {
-        return Err(Fault::UNREAD);
-    };
-    let mut cursor = bucket_at(alloc, check(alloc, file)?, path.as_bytes())?.cursor();
+    let (bucket, calls) = bucket_of(input)?;
+    let mut cursor = bucket.cursor();
     for call in calls {
         let before = cursor.compared();
-        let found = make_call(alloc, &mut cursor, call.as_str())?;
+        let found = make_call(input.alloc, &mut cursor, call.as_str())?;
         push_result(line, &cursor, before, found, printed)?;
     }
     Ok(())
@@ -93,12 +89,9 @@ fn amount(before: u64, compared: u64) -> &'static [u8] {
 /// For each of the words after the path, how many pages are opened for the keys that begin with it;
 /// and these keys, as they are.
 pub fn run_prefixes(input: Input<'_>, lines: &mut Vec<u8>) -> Result<(), Fault> {
-    let Input { alloc, file, words } = input;
-    let [path, prefixes @ ..] = words else {
-        return Err(Fault::UNREAD);
-    };
-    let mut cursor = bucket_at(alloc, check(alloc, file)?, path.as_bytes())?.cursor();
-    let mut keys = Vec::new(alloc);
+    let (bucket, prefixes) = bucket_of(input)?;
+    let mut cursor = bucket.cursor();
+    let mut keys = Vec::new(input.alloc);
     for word in prefixes {
         run_prefix(&mut cursor, word, &mut keys, lines)?;
     }

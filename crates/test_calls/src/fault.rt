@@ -3,7 +3,6 @@
 use bolt_bulk::{BulkFault, PlanFault};
 use bolt_check::{CheckFault, NoMemory};
 use bolt_format::SinkFault;
-use bolt_recover::JoinFault;
 use bolt_report::ReportFault;
 use hex::FromHexError;
 use std::alloc::{AllocError, AllocFailed};
@@ -80,15 +79,6 @@ impl<T: Drop> From<AllocFailed<T>> for Fault {
 impl From<NoMemory> for Fault {
     fn from(_: NoMemory) -> Fault {
         Fault::MEMORY
-    }
-}
-
-impl From<JoinFault> for Fault {
-    fn from(fault: JoinFault) -> Fault {
-        match fault {
-            JoinFault::Root(_) | JoinFault::Exists => Fault::UNREAD,
-            JoinFault::Memory => Fault::MEMORY,
-        }
     }
 }
 

@@ -8,21 +8,18 @@
 //! | `compares PATH CALL ..` | whether keys were compared |
 //! | `begins PATH PREFIX ..` | how many pages are opened for the keys that begin with each prefix, and these |
 //! | `under PATH KEY ..` | what is under the keys |
-//! | `walk`, `walk PATH` | the line of each member of a walk |
+//! | `walk PATH` | the line of each member of a walk |
+//! | `depths PATH` | how many items a walk returns, and how many keys its longest path and all paths have |
 //! | `listed PATH`, `keys PATH` | what `list` writes from a path, and `keys` of a bucket |
-//! | `depths`, `depths PATH` | how many items a walk returns, and how many keys its longest path and all paths have |
-//! | `recovered`, `recovered META` | the line of each member that is recovered, and of each loss |
-//! | `found`, `found META` | the number of each page that is found, and its keys |
-//! | `joined`, `joined META` | the line of each member of the joined listing |
 //! | `loaded` | the line of each member that the file tells, which is the text of a listing |
 //! | `plan LAYOUT SIZE` | the root page and the high-water mark of a copy |
 //! | `copy LAYOUT SIZE` | the bytes of a copy, those that were accepted, and the items held at one time |
-//! | `roles` | the role of each page |
-//! | `checked`, `checked META` | the transaction, the length, and whether the accounts were tested |
+//! | `pages` | the table of all pages |
+//! | `checked`, `checked SLOT` | the transaction, the length, and whether the accounts were tested |
 //! | `pager`, `root`, `bucket KEY` | keys that are found over a pager, and what it opened |
 //! | `checksums WORD ..`, `faults` | the checksum of each word, and the numbers of faults |
 //! | `puts SINK NUMBER PIECE ..` | what sinks accept |
-//! | `again`, `again PATH`, `between PATH KEY` | what comes after a refused request for memory |
+//! | `again PATH`, `between PATH KEY` | what comes after a refused request for memory |
 //! | `names COMMAND ..` | the names of a command's FILE and OUT |
 //! | `cuts FIRST LAST COMMAND ..` | what a command prints of each prefix with a length in a range |
 //! | `changes FIRST LAST COMMAND ..` | the same if each byte of a range is changed to each other value |
@@ -31,8 +28,7 @@
 //! | `deeds fail COMMAND ..`, `deeds differ COMMAND ..` | what a command does to files and streams, if deeds go wrong from each one on |
 //! | `agree` | how many changed files were compared |
 //!
-//! META is the slot of a meta, or assumes one by its page size and its root page, as `4096:3`. If a
-//! result is none, the reason is on standard error, and the status is 3.
+//! SLOT is 0 or 1. If a result is none, the reason is on standard error, and the status is 3.
 #![tactic(auto)]
 
 mod agreements;
@@ -45,7 +41,6 @@ mod fault;
 mod log;
 mod memory;
 mod pagers;
-mod recoveries;
 mod refusals;
 mod runs;
 mod sinks;
@@ -60,6 +55,7 @@ use runs::Ran;
 use std::io::Write;
 use std::process::ExitCode;
 use std::{env, fs, io};
+use walks::Walked;
 use words::Input;
 
 fn main(rt: HostRuntime) -> ExitCode {
@@ -121,17 +117,15 @@ fn push_result(verb: &str, input: Input<'_>, lines: &mut Vec<u8>) -> Result<(), 
         "compares" => cursors::run_calls(input, Printed::Comparisons, lines),
         "begins" => cursors::run_prefixes(input, lines),
         "under" => walks::look_ups(input, lines),
-        "walk" => walks::members(input, lines),
-        "listed" => walks::listed(input, lines),
+        "walk" => walks::walk(input, Walked::Members, lines),
+        "again" => walks::walk(input, Walked::Again, lines),
+        "depths" => walks::walk(input, Walked::Depths, lines),
+        "listed" => walks::walk(input, Walked::Listing, lines),
         "keys" => walks::keys_in(input, lines),
-        "depths" => walks::depths(input, lines),
-        "recovered" => recoveries::recovered(input, lines),
-        "found" => recoveries::found(input, lines),
-        "joined" => recoveries::joined(input, lines),
         "loaded" => copies::loaded(input, lines),
         "plan" => copies::planned(input, lines),
         "copy" => copies::copied(input, lines),
-        "roles" => checks::roles_of(input, lines),
+        "pages" => checks::page_table(input, lines),
         "checked" => checks::checked(input, lines),
         "pager" => pagers::opened_pages(input, lines),
         "root" => pagers::root_cursor(input, lines),
@@ -143,7 +137,6 @@ fn push_result(verb: &str, input: Input<'_>, lines: &mut Vec<u8>) -> Result<(), 
 fn push_other_result(verb: &str, input: Input<'_>, lines: &mut Vec<u8>) -> Result<(), Fault> {
     match verb {
         "puts" => sinks::puts(input, lines),
-        "again" => refusals::members_again(input, lines),
         "between" => refusals::calls_between(input, lines),
         "names" => runs::names_of(input, lines),
         "checksums" => checks::checksums(input, lines),

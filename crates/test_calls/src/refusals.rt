@@ -2,13 +2,42 @@
 //! and looks for what is said here. If none is refused, the results are like those of other calls.
 
 use crate::fault::Fault;
-use crate::walks::members;
-use crate::words::{Input, bucket_at, bytes_of, keys_of, slices_of};
-use bolt_check::{Checked, check};
-use bolt_format::WriteSink;
+use crate::words::{Input, bucket_of, bytes_of};
+use bolt_check::Checked;
+use bolt_format::{Sink, WriteSink};
 use bolt_report::{ListForm, MemberLines};
 use bolt_tree::{Bucket, Cursor, Item, NoMemory, Walk};
 use std::alloc::{AllocError, Global};
+
+/// The line of each member from a path on. If a request of the walk is refused, it goes on or begins
+/// again, and a last line says so.
+pub fn push_again(checked: Checked<'_>, path: &[&[u8]], lines: &mut Vec<u8>) -> Result<(), Fault> {
+    let alloc = *lines.allocator();
+    match Walk::from(alloc, checked, path) {
+        Ok(mut walk) => push_rest(&mut walk, lines),
+        Err(NoMemory) => {
+            push_rest(&mut Walk::from(alloc, checked, path)?, lines)?;
+            Ok(lines.extend_from_slice(b"refused: a walk begins again\n")?)
+        }
+    }
+}
+
+/// Adds the line of each further item, and one more if a request of the walk was refused.
+fn push_rest(walk: &mut Walk<'_>, lines: &mut Vec<u8>) -> Result<(), Fault> {
+    let mut form = MemberLines::new(*lines.allocator(), ListForm::Hex);
+    let mut sink = WriteSink::new(lines);
+    let mut went_on = false;
+    for _ in 0..usize::MAX {
+        let (given, was_refused) = next_of(walk)?;
+        went_on = went_on || was_refused;
+        let Some(item) = given else { break };
+        form.put(walk.path(), &item, &mut sink)?;
+    }
+    if went_on {
+        sink.put(b"refused: a walk goes on\n")?;
+    }
+    Ok(())
+}
 
 /// The next item, asked for once more if memory ran out; the path is then as before. And whether it
 /// was asked for once more.
@@ -21,78 +50,17 @@ fn next_of<'a>(walk: &mut Walk<'a>) -> Result<(Option<Item<'a>>, bool), Fault> {
     }
 }
 
-/// The line of each member from the path of the first word on, also if a request of the walk is refused.
-pub fn members_again(input: Input<'_>, lines: &mut Vec<u8>) -> Result<(), Fault> {
-    let Input { alloc, file, words } = input;
-    members(input, lines)?;
-    let keys = match words {
-        [path, ..] => keys_of(alloc, path.as_bytes())?,
-        [] => Vec::new(alloc),
-    };
-    let path = slices_of(alloc, keys.as_slice())?;
-    walk_again(
-        alloc,
-        check(alloc, file)?,
-        path.as_slice(),
-        lines.as_slice(),
-    )
-}
-
-/// A walk from a path on gives these lines, also if a request is refused. It then says which one was.
-fn walk_again(
-    alloc: Global,
-    checked: Checked<'_>,
-    path: &[&[u8]],
-    lines: &[u8],
-) -> Result<(), Fault> {
-    match Walk::from(alloc, checked, path) {
-        Ok(mut walk) => match goes_on(alloc, &mut walk, lines)? {
-            true => Err(Fault::refused("refused: a walk goes on, and gives the rest")),
-            false => Ok(()),
-        },
-        Err(NoMemory) => {
-            goes_on(alloc, &mut Walk::from(alloc, checked, path)?, lines)?;
-            Err(Fault::refused("refused: a walk begins again, and gives the rest"))
-        }
-    }
-}
-
-/// Whether a request of the walk was refused. It gives exactly these lines all the same.
-fn goes_on(alloc: Global, walk: &mut Walk<'_>, all: &[u8]) -> Result<bool, Fault> {
-    let mut lines = Vec::new(alloc);
-    let was_refused = push_rest(walk, &mut lines)?;
-    if lines.as_slice() != all {
-        return Err(Fault::wrong("other members", lines.len()));
-    }
-    Ok(was_refused)
-}
-
-/// Adds the line of each further item, and returns whether a request of the walk was refused.
-fn push_rest(walk: &mut Walk<'_>, lines: &mut Vec<u8>) -> Result<bool, Fault> {
-    let mut form = MemberLines::new(*lines.allocator(), ListForm::Hex);
-    let mut sink = WriteSink::new(lines);
-    let mut went_on = false;
-    for _ in 0..usize::MAX {
-        let (given, was_refused) = next_of(walk)?;
-        went_on = went_on || was_refused;
-        let Some(item) = given else { break };
-        form.put(walk.path(), &item, &mut sink)?;
-    }
-    Ok(went_on)
-}
-
 /// Makes each call that needs no memory, from each entry of the bucket at the path of the first word,
 /// in which the second word is a key. Between two requests there are only those calls.
 pub fn calls_between(input: Input<'_>, line: &mut Vec<u8>) -> Result<(), Fault> {
-    let Input { alloc, file, words } = input;
-    let [path, key] = words else {
+    let alloc = input.alloc;
+    let (bucket, words) = bucket_of(input)?;
+    let [key] = words else {
         return Err(Fault::UNREAD);
     };
-    let checked = check(alloc, file)?;
-    let bucket = bucket_at(alloc, checked, path.as_bytes())?;
     let key = bytes_of(alloc, key.as_bytes())?;
     let before = has_memory(alloc);
-    let are_right = make_calls(&bucket, key.as_slice()) && !has_path(alloc, checked);
+    let are_right = make_calls(&bucket, key.as_slice()) && !has_path(alloc, bucket.checked());
     let after = has_memory(alloc);
     match (are_right, before, after) {
         (false, _, _) => Err(Fault::wrong("what a call returned", 0)),

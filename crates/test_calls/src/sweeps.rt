@@ -41,12 +41,20 @@ impl Sweep<'_> {
 
     /// The job on each prefix of the file with a length in the range. It comes to the same each time.
     fn cut_each(self, file: &[u8]) -> Result<Ran, Fault> {
-        let first = self.run(file.get(..self.first).ok_or(Fault::UNREAD)?);
+        let first = self.run_cut(file, self.first)?;
         for length in self.first..=self.last {
-            let ran = self.run(file.get(..length).ok_or(Fault::UNREAD)?);
-            require(first.is_like(&ran), "another result than before", length)?;
+            self.compare_cut(file, length, &first)?;
         }
         Ok(first)
+    }
+
+    fn run_cut(self, file: &[u8], length: usize) -> Result<Ran, Fault> {
+        Ok(self.run(file.get(..length).ok_or(Fault::UNREAD)?))
+    }
+
+    fn compare_cut(self, file: &[u8], length: usize, first: &Ran) -> Result<(), Fault> {
+        let ran = self.run_cut(file, length)?;
+        require(first.is_like(&ran), "another result than before", length)
     }
 
     /// The job on the file with each byte of the range changed to each other value in turn. It comes to
@@ -55,8 +63,8 @@ impl Sweep<'_> {
         let first = self.run_changed(file, self.first, 1);
         for at in self.first..=self.last {
             for bits in 1..=u8::MAX {
-                let ran = self.run_changed(file, at, bits);
-                require(first.is_like(&ran), "another result than before", at)?;
+                let is_like = first.is_like(&self.run_changed(file, at, bits));
+                require(is_like, "another result than before", at)?;
             }
         }
         Ok(first)
@@ -66,14 +74,16 @@ impl Sweep<'_> {
     /// 1, and it prints the same first line each time.
     fn flip_each(self, file: &mut [u8]) -> Result<Ran, Fault> {
         let first = self.run_changed(file, self.first, 1);
-        let line = first_line(first.out.bytes());
         for at in self.first..=self.last {
-            let ran = self.run_changed(file, at, 1);
-            let is_same = ran.code == 1 && first_line(ran.out.bytes()) == line;
+            let is_same = begins_like(&first, &self.run_changed(file, at, 1));
             require(is_same, "another first line or status", at)?;
         }
         Ok(first)
     }
+}
+
+fn begins_like(first: &Ran, ran: &Ran) -> bool {
+    ran.code == 1 && first_line(ran.out.bytes()) == first_line(first.out.bytes())
 }
 
 /// Changes some bits of the byte at a place.

@@ -1,25 +1,65 @@
 //! What a file holds: walks, listings, keys, and what is under a key.
 
 use crate::fault::Fault;
+use crate::refusals::push_again;
 use crate::words::{
-    Input, bucket_at, bytes_of, keys_of, push_decimal, push_numbers, push_word, slices_of,
+    Input, bucket_of, bytes_of, keys_of, push_decimal, push_numbers, push_word, slices_of,
 };
-use bolt_check::check;
+use bolt_check::{Checked, check};
 use bolt_format::{Sink, WriteSink};
-use bolt_report::{Form, ListForm, MemberLines, ReportFault, keys, list};
-use bolt_tree::{Bucket, Members, Walk};
+use bolt_report::{Form, ListForm, ReportFault, keys, list, list_members_part};
+use bolt_tree::{Bucket, Members, NoMemory, Walk};
 use std::alloc::Global;
 
-/// A walk from the path that the first word is, or from the start if there is none.
-fn walk_from<'a>(input: Input<'a>) -> Result<Walk<'a>, Fault> {
+/// What is made of a path.
+#[derive(Clone, Copy)]
+pub enum Walked {
+    /// The line of each member that a walk from there returns.
+    Members,
+    /// The same, also if a request of the walk is refused.
+    Again,
+    /// How many items the walk returns, and how many keys their paths have.
+    Depths,
+    /// The listing from there.
+    Listing,
+}
+
+/// What is made of the path that the word is.
+pub fn walk(input: Input<'_>, walked: Walked, lines: &mut Vec<u8>) -> Result<(), Fault> {
     let Input { alloc, file, words } = input;
-    let checked = check(alloc, file)?;
-    let [path, ..] = words else {
-        return Ok(Walk::new(alloc, checked));
+    let [path] = words else {
+        return Err(Fault::UNREAD);
     };
     let keys = keys_of(alloc, path.as_bytes())?;
     let path = slices_of(alloc, keys.as_slice())?;
-    Ok(Walk::from(alloc, checked, path.as_slice())?)
+    push_walked(check(alloc, file)?, path.as_slice(), walked, lines)
+}
+
+fn push_walked(
+    checked: Checked<'_>,
+    path: &[&[u8]],
+    walked: Walked,
+    lines: &mut Vec<u8>,
+) -> Result<(), Fault> {
+    let alloc = *lines.allocator();
+    match walked {
+        Walked::Members => Ok(push_members(&mut walk_from(alloc, checked, path)?, lines)?),
+        Walked::Again => push_again(checked, path, lines),
+        Walked::Depths => push_depths(&mut walk_from(alloc, checked, path)?, lines),
+        Walked::Listing => Ok(list(alloc, checked, path, &mut WriteSink::new(lines))?),
+    }
+}
+
+fn walk_from<'a>(
+    alloc: Global,
+    checked: Checked<'a>,
+    path: &[&[u8]],
+) -> Result<Walk<'a>, NoMemory> {
+    if path.is_empty() {
+        Ok(Walk::new(alloc, checked))
+    } else {
+        Walk::from(alloc, checked, path)
+    }
 }
 
 /// The line of each member. There is no path before the first one and after the last one, and no
@@ -28,13 +68,10 @@ pub fn push_members<'a, M: Members<'a>>(
     members: &mut M,
     lines: &mut Vec<u8>,
 ) -> Result<(), ReportFault> {
-    let mut form = MemberLines::new(*lines.allocator(), ListForm::Hex);
+    let alloc = *lines.allocator();
     let mut sink = WriteSink::new(lines);
     let has_path = !members.path().is_empty();
-    for _ in 0..usize::MAX {
-        let Some(item) = members.next()? else { break };
-        form.put(members.path(), &item, &mut sink)?;
-    }
+    list_members_part(alloc, members, &[], &[], ListForm::Hex, &mut sink)?;
     let goes_on = members.next()?.is_some();
     if has_path || goes_on || !members.path().is_empty() {
         sink.put(b"a member or a path too many\n")?;
@@ -58,16 +95,9 @@ pub fn push_twice<'a, M: Members<'a>>(
     Ok(())
 }
 
-/// The line of each member that a walk returns.
-pub fn members(input: Input<'_>, lines: &mut Vec<u8>) -> Result<(), Fault> {
-    let mut walk = walk_from(input)?;
-    Ok(push_members(&mut walk, lines)?)
-}
-
 /// The number of items that a walk returns, the number of keys of the longest of their paths, and
 /// the number of keys of all of them.
-pub fn depths(input: Input<'_>, line: &mut Vec<u8>) -> Result<(), Fault> {
-    let mut walk = walk_from(input)?;
+fn push_depths(walk: &mut Walk<'_>, line: &mut Vec<u8>) -> Result<(), Fault> {
     let (mut items, mut longest, mut all) = (0_u64, 0, 0_usize);
     for _ in 0..u64::MAX {
         if walk.next()?.is_none() {
@@ -83,13 +113,9 @@ pub fn depths(input: Input<'_>, line: &mut Vec<u8>) -> Result<(), Fault> {
 
 /// What is under each of the keys in the bucket at a path: a value, a bucket's sequence, or `-`.
 pub fn look_ups(input: Input<'_>, line: &mut Vec<u8>) -> Result<(), Fault> {
-    let Input { alloc, file, words } = input;
-    let [path, keys @ ..] = words else {
-        return Err(Fault::UNREAD);
-    };
-    let bucket = bucket_at(alloc, check(alloc, file)?, path.as_bytes())?;
+    let (bucket, keys) = bucket_of(input)?;
     for word in keys {
-        let key = bytes_of(alloc, word.as_bytes())?;
+        let key = bytes_of(input.alloc, word.as_bytes())?;
         look_up(&bucket, key.as_slice(), line)?;
     }
     Ok(())
@@ -111,25 +137,9 @@ fn look_up(bucket: &Bucket<'_>, key: &[u8], line: &mut Vec<u8>) -> Result<(), Fa
     Ok(())
 }
 
-/// The listing from the path that the first word is.
-pub fn listed(input: Input<'_>, lines: &mut Vec<u8>) -> Result<(), Fault> {
-    let Input { alloc, file, words } = input;
-    let [from, ..] = words else {
-        return Err(Fault::UNREAD);
-    };
-    let keys = keys_of(alloc, from.as_bytes())?;
-    let from = slices_of(alloc, keys.as_slice())?;
-    let mut sink = WriteSink::new(lines);
-    Ok(list(alloc, check(alloc, file)?, from.as_slice(), &mut sink)?)
-}
-
 /// The keys of the bucket at a path, as they are.
 pub fn keys_in(input: Input<'_>, lines: &mut Vec<u8>) -> Result<(), Fault> {
-    let Input { alloc, file, words } = input;
-    let [path, ..] = words else {
-        return Err(Fault::UNREAD);
-    };
-    let bucket = bucket_at(alloc, check(alloc, file)?, path.as_bytes())?;
+    let (bucket, _) = bucket_of(input)?;
     let mut sink = WriteSink::new(lines);
-    Ok(keys(alloc, &bucket, Form::Bytes, &mut sink)?)
+    Ok(keys(input.alloc, &bucket, Form::Bytes, &mut sink)?)
 }

@@ -1,9 +1,7 @@
 //! Words of a call, and words of its result.
-ghost use Rattle.std.specs.Prelude.{◌<◌, IfOk, IfSome};
 
 use crate::fault::Fault;
-use bolt_check::{Checked, assumed_meta};
-use bolt_format::{Meta, Slot};
+use bolt_check::check;
 use bolt_load::read_number;
 use bolt_tree::Bucket;
 use std::alloc::{AllocError, Global};
@@ -19,33 +17,6 @@ pub struct Input<'a> {
 
 pub fn number(word: &[u8]) -> Result<u64, Fault> {
     read_number(word).ok_or(Fault::UNREAD)
-}
-
-/// The slot that the first word names, if there is one.
-pub fn slot_of(words: &[String]) -> Result<Option<Slot>, Fault> {
-    match words {
-        [] => Ok(None),
-        [slot, ..] if slot.as_str() == "0" => Ok(Some(Slot::Zero)),
-        [slot, ..] if slot.as_str() == "1" => Ok(Some(Slot::One)),
-        _ => Err(Fault::UNREAD),
-    }
-}
-
-/// The meta that is assumed, if the first word is a page size and a root page, as `4096:3`.
-pub fn assumed_of(file: &[u8], words: &[String]) -> Result<Option<Meta>, Fault>
-    ensures { IfOk result (λ assumed. IfSome assumed (λ meta. 0 < meta.page_size)) }
-{
-    let Some(word) = words.first() else {
-        return Ok(None);
-    };
-    let mut numbers = word.as_bytes().split(|byte| *byte == b':');
-    let (Some(size), Some(root)) = (numbers.next(), numbers.next()) else {
-        return Ok(None);
-    };
-    match u32::try_from(number(size)?) {
-        Ok(size) if size > 0 => Ok(Some(assumed_meta(file.len() as u64, size, number(root)?))),
-        _ => Err(Fault::UNREAD),
-    }
 }
 
 /// The bytes of a word in hexadecimal.
@@ -73,18 +44,21 @@ pub fn slices_of<'a>(alloc: Global, keys: &'a [Vec<u8>]) -> Result<Vec<&'a [u8]>
     Ok(slices)
 }
 
-/// The bucket at a path, from the root bucket down.
-pub fn bucket_at<'a>(
-    alloc: Global,
-    checked: Checked<'a>,
-    path: &[u8],
-) -> Result<Bucket<'a>, Fault> {
-    let keys = keys_of(alloc, path)?;
-    let mut bucket = Some(Bucket::root(checked));
+/// The bucket at the path that the first word is, and the other words.
+pub fn bucket_of<'a>(input: Input<'a>) -> Result<(Bucket<'a>, &'a [String]), Fault> {
+    let Input { alloc, file, words } = input;
+    let [path, others @ ..] = words else {
+        return Err(Fault::UNREAD);
+    };
+    let keys = keys_of(alloc, path.as_bytes())?;
+    let mut bucket = Some(Bucket::root(check(alloc, file)?));
     for key in &keys {
         bucket = bucket.and_then(|outer| outer.bucket(key.as_slice()));
     }
-    bucket.ok_or(Fault::UNREAD)
+    match bucket {
+        Some(bucket) => Ok((bucket, others)),
+        None => Err(Fault::UNREAD),
+    }
 }
 
 /// Adds a word to a line of them.
