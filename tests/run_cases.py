@@ -19,7 +19,7 @@ of these other lines is the verb:
 | `changes` | the same with each byte of this range changed to each other value in turn |
 
 Other verbs are calls, which crates/test_calls/src/main.rt lists, and their results. In their words keys are written
-as in `file`. Walks and recoveries print lines in hexadecimal, as `list` does; other calls print keys as they are.
+as in `file`. Walks print lines in hexadecimal, as `list` does; other calls print keys as they are.
 
 Prints each test case that doesn't hold, after its comment and what its file is, and how many of each file do. The
 status is 1 unless all hold, and unless a file of test cases holds some. With `--none` before the FILEs no test case

@@ -39,7 +39,7 @@ impl Fault {
         Fault { what, at: Some(at) }
     }
 
-    /// A request for memory was refused, and what went on after it.
+    /// A request for memory was refused, and when.
     pub fn refused(what: &'static str) -> Fault {
         Fault { what, at: None }
     }

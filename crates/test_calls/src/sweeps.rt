@@ -94,8 +94,8 @@ pub fn toggle(file: &mut [u8], at: usize, bits: u8) {
 }
 
 /// What a command comes to on the first of many files. They differ at each place from the first word to
-/// the second: the file is cut off there (`cuts`), each bit there is changed (`changes`), or the lowest
-/// one (`flips`).
+/// the second: the file is cut off there (`cuts`), the byte there has each other value in turn
+/// (`changes`), or its lowest bit is changed (`flips`).
 pub fn run_sweep(verb: &str, input: Input<'_>) -> Result<Ran, Fault> {
     let Input { alloc, file, words } = input;
     let [first, last, command @ ..] = words else {
