@@ -79,10 +79,10 @@ JOBS ?= $(shell awk '/MemTotal/ { print ($$2 < 13000000 ? 1 : 2) }' /proc/meminf
 set-up:
 	tools/set_up.sh
 
-# The merge gate: every proof from nothing, the wrong bodies of crates/*/must-fail, the built programs, and then what
-# these targets try, random files that are the same each time, and a few rounds beside bbolt, if that can be built.
+# The merge gate: every proof from nothing, the wrong bodies of crates/*/must-fail, the built programs, what these targets
+# try, the same random files each time, and rounds beside bbolt. The prover keeps freed memory for 10 s: fewer page faults.
 test: set-up
-	RT_JOBS=$(JOBS) rt ci
+	RT_JOBS=$(JOBS) MIMALLOC_PURGE_DELAY=10000 rt ci
 	$(MAKE) cases examples manual failures memory work
 	$(MAKER) tools/fuzz/fuzz.py $(PROGRAM) --seed 1 --files 36
 	tools/bbolt/try.sh $(PROGRAM) 3
