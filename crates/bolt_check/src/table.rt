@@ -10,7 +10,7 @@ use bolt_format::Meta;
 use std::alloc::{AllocError, Global};
 
 /// What a page is used for, and whether it is listed as free.
-#[derive(Clone, Copy, PartialEq, Eq)]
+#[derive(Clone, Copy)]
 #[repr(u8)]
 pub(crate) enum PageUse {
     /// Neither used nor listed so far.

@@ -20,7 +20,7 @@ use itoa::Buffer;
 use std::alloc::AllocFailed;
 
 /// Why a job isn't done (docs/COMMANDS.md, "What a run writes").
-#[derive(Clone, Copy, Debug, PartialEq, Eq)]
+#[derive(Clone, Copy)]
 pub enum Failure {
     /// There is no valid meta.
     Metas(MetaFault),

@@ -10,7 +10,7 @@ use bolt_report::{slot_fault_text, snapshot_fault_text};
 use bolt_snapshot::{SnapshotFault, snapshot_fault};
 
 /// What is wrong with a file apart from its pages.
-#[derive(Clone, Copy, PartialEq, Eq)]
+#[derive(Clone, Copy)]
 pub(crate) struct FileFaults {
     /// What is wrong with the hash, if the file is to be a snapshot.
     pub hash: Option<SnapshotFault>,

@@ -29,7 +29,7 @@ pub use failure::Failure;
 use std::alloc::Global;
 
 /// How a run ended.
-#[derive(Clone, Copy, PartialEq, Eq)]
+#[derive(Clone, Copy)]
 pub struct Status {
     /// 0 if the job is done; 1 if there was a fault, or if `check` found something.
     pub code: u8,

@@ -266,19 +266,19 @@ abbrev pub meta_by : Values → Result AskedMeta Text
 meta_by values = meta_asked (first_of (values (codes "meta"))) (first_of (values (codes "assume-meta")))
 
 abbrev pub asks_info : Values → Result Asked Text
-asks_info values = result_and_then (λ file. result_and_then (λ slot. result_and_then (λ form. Ok (info file slot form))
-    (figure_form_by (first_of (values (codes "form"))))) (slot_by (first_of (values (codes "meta"))))) (text_by (codes "FILE") values)
+asks_info values = result_and_then (λ slot. result_and_then (λ form. result_and_then (λ file. Ok (info file slot form)) (text_by (codes "FILE") values))
+    (figure_form_by (first_of (values (codes "form"))))) (slot_by (first_of (values (codes "meta"))))
 
 abbrev pub asks_page : Values → Result Asked Text
-asks_page values = result_and_then (λ file. result_and_then (λ meta. result_and_then (λ id. Ok (page file meta id))
-    (result_and_then page_id (text_by (codes "ID") values))) (meta_by values)) (text_by (codes "FILE") values)
+asks_page values = result_and_then (λ meta. result_and_then (λ id. result_and_then (λ file. Ok (page file meta id)) (text_by (codes "FILE") values))
+    (result_and_then page_id (text_by (codes "ID") values))) (meta_by values)
 
 abbrev pub asks_pages : Values → Result Asked Text
 asks_pages values = result_and_then (λ file. Ok (pages file (is_given (first_of (values (codes "map")))))) (text_by (codes "FILE") values)
 
 abbrev pub asks_check : Values → Result Asked Text
-asks_check values = result_and_then (λ file. result_and_then (λ meta. Ok (check file meta (extent_by (first_of (values (codes "all"))) (first_of (values (codes "lost-and-found")))) (is_given (first_of (values (codes "etcd-snapshot"))))))
-    (meta_by values)) (text_by (codes "FILE") values)
+asks_check values = result_and_then (λ meta. result_and_then (λ file. Ok (check file meta (extent_by (first_of (values (codes "all"))) (first_of (values (codes "lost-and-found")))) (is_given (first_of (values (codes "etcd-snapshot"))))))
+    (text_by (codes "FILE") values)) (meta_by values)
 
 -- a path by its words
 abbrev pub path_by : Values → Result Path Text
@@ -288,37 +288,37 @@ path_by values = result_and_then (λ how. each_part (part_of how) (values (codes
 abbrev pub prefix_by : Values → Result Key Text
 prefix_by values = result_and_then (λ how. prefix_of how (first_of (values (codes "prefix")))) (parts_by (first_of (values (codes "parts"))))
 
-abbrev pub asks_at : (Text → AskedMeta → Path → Form → Result Asked Text) → Values → Result Asked Text
-asks_at wanted values = result_and_then (λ file. result_and_then (λ meta. result_and_then (λ form. result_and_then (λ path. wanted file meta path form) (path_by values))
-    (form_by (first_of (values (codes "form"))))) (meta_by values)) (text_by (codes "FILE") values)
+abbrev pub asks_at : (AskedMeta → Path → Form → Result Asked Text) → Values → Result Asked Text
+asks_at wanted values = result_and_then (λ meta. result_and_then (λ form. result_and_then (λ path. wanted meta path form) (path_by values))
+    (form_by (first_of (values (codes "form"))))) (meta_by values)
 
 abbrev pub asks_buckets : Values → Result Asked Text
-asks_buckets values = asks_at (λ file meta path form. Ok (buckets file meta path form (is_given (first_of (values (codes "sizes")))))) values
+asks_buckets values = asks_at (λ meta path form. result_and_then (λ file. Ok (buckets file meta path form (is_given (first_of (values (codes "sizes")))))) (text_by (codes "FILE") values)) values
 
 abbrev pub asks_keys : Values → Result Asked Text
-asks_keys values = asks_at (λ file meta path form. result_and_then (λ prefix. Ok (keys file meta path prefix form)) (prefix_by values)) values
+asks_keys values = asks_at (λ meta path form. result_and_then (λ prefix. result_and_then (λ file. Ok (keys file meta path prefix form)) (text_by (codes "FILE") values)) (prefix_by values)) values
 
 abbrev pub asks_get : Values → Result Asked Text
-asks_get values = asks_at (λ file meta path form. Ok (get file meta path form (is_given (first_of (values (codes "no-newline")))))) values
+asks_get values = asks_at (λ meta path form. result_and_then (λ file. Ok (get file meta path form (is_given (first_of (values (codes "no-newline")))))) (text_by (codes "FILE") values)) values
 
 abbrev pub asks_stats : Values → Result Asked Text
-asks_stats values = result_and_then (λ file. result_and_then (λ meta. result_and_then (λ form. result_and_then (λ path. Ok (stats file meta form path)) (path_by values))
-    (figure_form_by (first_of (values (codes "form"))))) (meta_by values)) (text_by (codes "FILE") values)
+asks_stats values = result_and_then (λ meta. result_and_then (λ form. result_and_then (λ path. result_and_then (λ file. Ok (stats file meta form path)) (text_by (codes "FILE") values))
+    (path_by values)) (figure_form_by (first_of (values (codes "form"))))) (meta_by values)
 
 abbrev pub asks_list : Values → Result Asked Text
-asks_list values = result_and_then (λ file. result_and_then (λ meta. result_and_then (λ form. result_and_then (λ path. result_and_then (λ from.
-    Ok (list file meta form path from (extent_by (first_of (values (codes "recover"))) (first_of (values (codes "lost-and-found"))))))
-    (hex_path_by (first_of (values (codes "from"))))) (path_by values)) (list_form_by (first_of (values (codes "form"))))) (meta_by values)) (text_by (codes "FILE") values)
+asks_list values = result_and_then (λ meta. result_and_then (λ form. result_and_then (λ path. result_and_then (λ from. result_and_then (λ file.
+    Ok (list file meta form path from (extent_by (first_of (values (codes "recover"))) (first_of (values (codes "lost-and-found")))))) (text_by (codes "FILE") values))
+    (hex_path_by (first_of (values (codes "from"))))) (path_by values)) (list_form_by (first_of (values (codes "form"))))) (meta_by values)
 
 abbrev pub asks_compact : Values → Result Asked Text
-asks_compact values = result_and_then (λ file. result_and_then (λ meta. result_and_then (λ target. result_and_then (λ size.
+asks_compact values = result_and_then (λ meta. result_and_then (λ size. result_and_then (λ target. result_and_then (λ file.
     Ok (compact file meta target size (copy_kind_by (first_of (values (codes "for-bbolt"))) (first_of (values (codes "etcd-snapshot")))) (extent_by (first_of (values (codes "recover"))) (first_of (values (codes "lost-and-found"))))))
-    (page_size_by (first_of (values (codes "page-size"))))) (text_by (codes "output") values)) (meta_by values)) (text_by (codes "FILE") values)
+    (text_by (codes "FILE") values)) (text_by (codes "output") values)) (page_size_by (first_of (values (codes "page-size"))))) (meta_by values)
 
 abbrev pub asks_load : Values → Result Asked Text
-asks_load values = result_and_then (λ file. result_and_then (λ target. result_and_then (λ sequence. result_and_then (λ size.
+asks_load values = result_and_then (λ sequence. result_and_then (λ size. result_and_then (λ target. result_and_then (λ file.
     Ok (load file target sequence size (copy_kind_by (first_of (values (codes "for-bbolt"))) (first_of (values (codes "etcd-snapshot"))))))
-    (load_size_by (first_of (values (codes "page-size"))))) (sequence_by (first_of (values (codes "sequence"))))) (text_by (codes "output") values)) (text_by (codes "FILE") values)
+    (text_by (codes "FILE") values)) (text_by (codes "output") values)) (load_size_by (first_of (values (codes "page-size"))))) (sequence_by (first_of (values (codes "sequence"))))
 
 -- a command by its line, and what the words of that line ask for, or which of them can't be read and why
 pub record Command : Type 0 where

@@ -86,7 +86,7 @@ impl AssumedMeta {
 }
 
 /// What a compact copy is for.
-#[derive(Clone, Copy, PartialEq, Eq)]
+#[derive(Clone, Copy)]
 pub enum CopyKind {
     /// For reading: the plain layout.
     Plain,
@@ -121,7 +121,7 @@ impl CopyKind {
 }
 
 /// How far a command goes in a file with damaged trees.
-#[derive(Clone, Copy, PartialEq, Eq)]
+#[derive(Clone, Copy)]
 pub enum Extent {
     /// Up to the first finding: what the file holds is read only if it is sound.
     First,

@@ -77,13 +77,15 @@ fn read_command(name: &str, line: &Line<'_, '_>) -> Result<Job, Refusal>
     }
 }
 
+// A job's names are copied last: until then there is nothing to drop if a word can't be read.
+
 fn read_info(line: &Line<'_, '_>) -> Result<Job, Refusal>
     ensures { Gives asked_of (asks_info (values_of line.now)) result }
 {
     Ok(Job::Info(InfoJob {
-        file: line.text("FILE")?,
         slot: line.slot()?,
         form: line.figure_form()?,
+        file: line.text("FILE")?,
     }))
 }
 
@@ -91,9 +93,9 @@ fn read_page(line: &Line<'_, '_>) -> Result<Job, Refusal>
     ensures { Gives asked_of (asks_page (values_of line.now)) result }
 {
     Ok(Job::Page(PageJob {
-        file: line.text("FILE")?,
         meta: line.meta()?,
         id: line.page_id()?,
+        file: line.text("FILE")?,
     }))
 }
 
@@ -101,8 +103,8 @@ fn read_pages(line: &Line<'_, '_>) -> Result<Job, Refusal>
     ensures { Gives asked_of (asks_pages (values_of line.now)) result }
 {
     Ok(Job::Pages(PagesJob {
-        file: line.text("FILE")?,
         map: line.is_given("map"),
+        file: line.text("FILE")?,
     }))
 }
 
@@ -110,10 +112,10 @@ fn read_check(line: &Line<'_, '_>) -> Result<Job, Refusal>
     ensures { Gives asked_of (asks_check (values_of line.now)) result }
 {
     Ok(Job::Check(CheckJob {
-        file: line.text("FILE")?,
         meta: line.meta()?,
         extent: line.extent("all"),
         snapshot: line.is_given("etcd-snapshot"),
+        file: line.text("FILE")?,
     }))
 }
 
@@ -121,11 +123,11 @@ fn read_buckets(line: &Line<'_, '_>) -> Result<Job, Refusal>
     ensures { Gives asked_of (asks_buckets (values_of line.now)) result }
 {
     Ok(Job::Buckets(BucketsJob {
-        file: line.text("FILE")?,
         meta: line.meta()?,
         form: line.form()?,
         path: line.path()?,
         sizes: line.is_given("sizes"),
+        file: line.text("FILE")?,
     }))
 }
 
@@ -133,11 +135,11 @@ fn read_keys(line: &Line<'_, '_>) -> Result<Job, Refusal>
     ensures { Gives asked_of (asks_keys (values_of line.now)) result }
 {
     Ok(Job::Keys(KeysJob {
-        file: line.text("FILE")?,
         meta: line.meta()?,
         form: line.form()?,
         path: line.path()?,
         prefix: line.prefix()?,
+        file: line.text("FILE")?,
     }))
 }
 
@@ -145,11 +147,11 @@ fn read_get(line: &Line<'_, '_>) -> Result<Job, Refusal>
     ensures { Gives asked_of (asks_get (values_of line.now)) result }
 {
     Ok(Job::Get(GetJob {
-        file: line.text("FILE")?,
         meta: line.meta()?,
         form: line.form()?,
         path: line.path()?,
         no_newline: line.is_given("no-newline"),
+        file: line.text("FILE")?,
     }))
 }
 
@@ -157,10 +159,10 @@ fn read_stats(line: &Line<'_, '_>) -> Result<Job, Refusal>
     ensures { Gives asked_of (asks_stats (values_of line.now)) result }
 {
     Ok(Job::Stats(StatsJob {
-        file: line.text("FILE")?,
         meta: line.meta()?,
         form: line.figure_form()?,
         path: line.path()?,
+        file: line.text("FILE")?,
     }))
 }
 
@@ -168,12 +170,12 @@ fn read_list(line: &Line<'_, '_>) -> Result<Job, Refusal>
     ensures { Gives asked_of (asks_list (values_of line.now)) result }
 {
     Ok(Job::List(ListJob {
-        file: line.text("FILE")?,
         meta: line.meta()?,
         form: line.list_form()?,
         path: line.path()?,
         from: line.from()?,
         extent: line.extent("recover"),
+        file: line.text("FILE")?,
     }))
 }
 
@@ -181,12 +183,12 @@ fn read_compact(line: &Line<'_, '_>) -> Result<Job, Refusal>
     ensures { Gives asked_of (asks_compact (values_of line.now)) result }
 {
     Ok(Job::Compact(CompactJob {
-        file: line.text("FILE")?,
         meta: line.meta()?,
-        target: line.text("output")?,
         page_size: line.page_size()?,
         kind: line.copy_kind(),
         extent: line.extent("recover"),
+        target: line.text("output")?,
+        file: line.text("FILE")?,
     }))
 }
 
@@ -194,10 +196,10 @@ fn read_load(line: &Line<'_, '_>) -> Result<Job, Refusal>
     ensures { Gives asked_of (asks_load (values_of line.now)) result }
 {
     Ok(Job::Load(LoadJob {
-        file: line.text("FILE")?,
-        target: line.text("output")?,
         sequence: line.sequence()?,
         page_size: line.load_size()?,
         kind: line.copy_kind(),
+        target: line.text("output")?,
+        file: line.text("FILE")?,
     }))
 }
