@@ -7,7 +7,7 @@ use Rattle.std.proofs.lemmas.List.Folds.{Any-from_list_any, list_any_at}
 use Rattle.std.proofs.lemmas.List.FromFn.{get_or-map-range_with_len}
 use Rattle.bolt_format.specs.{declared.meta.Meta.Meta, declared.meta.MetaFault.MetaFault, declared.meta.Slot.Slot}
 use Rattle.bolt_format.specs.declared.meta.Slot.TheVariants.{Zero, One}
-use Rattle.bolt_format.specs.Metas.{IsChosen, IsInOne, IsInSlot, IsLoneMeta, IsMeta, IsPageSize, page_size_count, page_sizes}
+use Rattle.bolt_format.specs.Metas.{IsChosen, IsInOne, IsInSlot, IsLoneMeta, IsMeta, IsPageSize, other_slot, page_size_count, page_sizes}
 
 -- a page has one record
 pub IsMeta-one : (file : List ℕ) (at : ℕ) (a b : Meta) → IsMeta file at a → IsMeta file at b → a ≡ b
@@ -82,11 +82,11 @@ no_newer file zero one first second older = record {
       ];
 }
 
--- slot one is active if slot zero has none
-pub lone_one : (file : List ℕ) (one : Meta) → ((zero : Meta) → IsInSlot file Zero zero → ⊥) → IsInSlot file One one → IsChosen file One one
-lone_one file one none second = record {
-  valid = second;
-  newest = λ other valid. absurd (none other valid);
+-- a meta is active if the other slot has none
+pub lone_chosen : (file : List ℕ) (slot : Slot) (meta : Meta) → ((other : Meta) → IsInSlot file (other_slot slot) other → ⊥) → IsInSlot file slot meta → IsChosen file slot meta
+lone_chosen file slot meta none valid = record {
+  valid = valid;
+  newest = λ other is. absurd (none other is);
 }
 
 -- no slot has one
