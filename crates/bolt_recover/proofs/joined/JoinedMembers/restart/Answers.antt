@@ -14,3 +14,6 @@ returns-clause-all c =
 pub returns-clause-listing : goal.returns-clause-listing
 unfolding joined_file joined_meta
 returns-clause-listing c = λ listing. rw (c.restart.ensures.reads.file, c.restart.ensures.reads.meta) (λ is. is, λ is. is)
+
+pub invariant_of-self-clause-pages : goal.invariant_of-self-clause-pages
+invariant_of-self-clause-pages c = rw (c.restart.ensures.reads.file, c.restart.ensures.reads.meta) c.args.self.now.pages

@@ -27,3 +27,6 @@ returns c =
 
 pub returns-in_err-has_bucket_key : goal.returns-in_err-has_bucket_key
 returns-in_err-has_bucket_key c = IfOk-from_err c.from_residual.result _ c.from_residual.ensures.0
+
+pub find_leaves-requires : goal.find_leaves-requires
+find_leaves-requires c = rw (c.new.ensures.file, c.new.ensures.meta) c.new.ensures.listed
