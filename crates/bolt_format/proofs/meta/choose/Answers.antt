@@ -3,6 +3,9 @@ use Rattle.bolt_format.specs.declared.meta.Slot.TheVariants.{One, Zero}
 use Rattle.bolt_format.proofs.MetaLemmas.{IsChosen-one, IsInSlot-none, lone_chosen, newer_one, no_newer}
 use Rattle.bolt_format.proofs.meta.choose.Goals as goal
 
+pub returns-in-Ok-slot_meta-clause-chosen : goal.returns-in-Ok-slot_meta-clause-chosen
+returns-in-Ok-slot_meta-clause-chosen c = newer_one c.args.file.now c.in-Ok.zero c.in-Ok-slot_meta.one c.in-Ok.ensures.valid c.in-Ok-slot_meta.ensures.valid c.if-one-zero.true
+
 pub returns-in-Ok-slot_meta-clause-only : goal.returns-in-Ok-slot_meta-clause-only
 returns-in-Ok-slot_meta-clause-only c =
     IsChosen-one c.args.file.now One c.in-Ok-slot_meta.one
