@@ -102,7 +102,6 @@ impl<'a> BranchRun<'a> {
 
     /// Takes the element of the last page below, and closes the run: its page is written, and the
     /// element of that page is returned.
-    #[tactic(auto, using(crate::proofs::PutsLemmas::nothing_put))]
     pub(crate) fn take_last_page<S: Sink>(
         &mut self,
         setup: &PageSetup,

@@ -88,7 +88,6 @@ fn put_headers<S: Sink>(entries: &[Leaf<'_>], sink: &mut S) -> Result<(), SinkFa
 }
 
 /// Writes the key and the value of an entry.
-#[tactic(auto, using(crate::proofs::PutsLemmas::puts))]
 fn put_entry<S: Sink>(entry: &Leaf<'_>, sink: &mut S) -> Result<(), SinkFault>
     ensures { Wrote S.Sink sink.old sink.new (entry.now.key.now ++ entry.now.value.now) (page_ending result) }
 {

@@ -76,7 +76,6 @@ fn put_headers<S: Sink>(
 }
 
 /// Writes the key and the value of an item.
-#[tactic(auto, using(crate::proofs::PutsLemmas::puts))]
 fn put_item<S: Sink>(held: &Held<'_>, inlined: &[Leaf<'_>], sink: &mut S) -> Result<(), SinkFault>
     requires { IsHeld inlined.now held.now }
     ensures { Wrote S.Sink sink.old sink.new (held.now.key.now ++ stored_value inlined.now held.now.stored) (page_ending result) }

@@ -164,7 +164,6 @@ fn meta(shape: &Shape, plan: &Plan, txid: u64) -> Meta
 }
 
 /// Writes bytes, and zeros up to the end of a page.
-#[tactic(auto, using(crate::proofs::PutsLemmas::puts))]
 fn put_filled<S: Sink>(bytes: &[u8], page_size: usize, sink: &mut S) -> Result<(), SinkFault>
     requires { length bytes.now ≤ page_size }
     ensures { Wrote S.Sink sink.old sink.new (filled page_size bytes.now) (page_ending result) }
