@@ -1,9 +1,9 @@
 //! What commands say of one file, compared with each other.
 
 use crate::fault::{Fault, require};
-use crate::runs::{Ran, Task, first_line, job_from};
+use crate::runs::{Ran, Task, first_line, job_of};
 use crate::sweeps::toggle;
-use crate::words::{Input, push_number};
+use crate::words::{Input, Text};
 use bolt_cli::Job;
 use std::alloc::Global;
 
@@ -24,26 +24,32 @@ enum Kind {
 
 /// Commands that are tried on each file: first `check`, then `list`. There is no page 4. A copy comes after
 /// the listing to the same extent.
-const TRIALS: [(Kind, &str); 19] = [
-    (Kind::Check, "check FILE"),
-    (Kind::Reader, "list FILE"),
-    (Kind::Copy, "compact -o OUT FILE"),
-    (Kind::List, "list --recover FILE"),
-    (Kind::Copy, "compact -o OUT --for-bbolt --recover FILE"),
-    (Kind::List, "list --lost-and-found FILE"),
-    (Kind::Copy, "compact -o OUT --lost-and-found FILE"),
-    (Kind::Check, "check --all FILE"),
-    (Kind::Check, "check --lost-and-found FILE"),
-    (Kind::Page, "page FILE 0"),
-    (Kind::Page, "page FILE 1"),
-    (Kind::Page, "page FILE 2"),
-    (Kind::Page, "page FILE 3"),
-    (Kind::Page, "page FILE 4"),
-    (Kind::Reader, "pages FILE"),
-    (Kind::Reader, "buckets FILE"),
-    (Kind::Reader, "buckets --sizes FILE"),
-    (Kind::Reader, "stats FILE"),
-    (Kind::Reader, "list --form json FILE"),
+const TRIALS: [(Kind, &[&str]); 19] = [
+    (Kind::Check, &["check", "FILE"]),
+    (Kind::Reader, &["list", "FILE"]),
+    (Kind::Copy, &["compact", "-o", "OUT", "FILE"]),
+    (Kind::List, &["list", "--recover", "FILE"]),
+    (
+        Kind::Copy,
+        &["compact", "-o", "OUT", "--for-bbolt", "--recover", "FILE"],
+    ),
+    (Kind::List, &["list", "--lost-and-found", "FILE"]),
+    (
+        Kind::Copy,
+        &["compact", "-o", "OUT", "--lost-and-found", "FILE"],
+    ),
+    (Kind::Check, &["check", "--all", "FILE"]),
+    (Kind::Check, &["check", "--lost-and-found", "FILE"]),
+    (Kind::Page, &["page", "FILE", "0"]),
+    (Kind::Page, &["page", "FILE", "1"]),
+    (Kind::Page, &["page", "FILE", "2"]),
+    (Kind::Page, &["page", "FILE", "3"]),
+    (Kind::Page, &["page", "FILE", "4"]),
+    (Kind::Reader, &["pages", "FILE"]),
+    (Kind::Reader, &["buckets", "FILE"]),
+    (Kind::Reader, &["buckets", "--sizes", "FILE"]),
+    (Kind::Reader, &["stats", "FILE"]),
+    (Kind::Reader, &["list", "--form", "json", "FILE"]),
 ];
 
 /// One of these commands.
@@ -55,8 +61,8 @@ struct Trial {
 
 fn trials_of(alloc: Global) -> Result<Vec<Trial>, Fault> {
     let mut trials = Vec::new(alloc);
-    for (kind, line) in TRIALS {
-        let job = job_from(alloc, line)?;
+    for (kind, words) in TRIALS {
+        let job = job_of(alloc, words)?;
         trials.push(Trial { kind, job })?;
     }
     Ok(trials)
@@ -84,6 +90,17 @@ impl Trials<'_> {
         let mut are_right = is_read(&last, &check);
         for trial in self.others {
             are_right &= self.is_next(trial, file, &check, &mut last);
+        }
+        are_right
+    }
+
+    /// The same of the file with the byte at a place changed to each other value in turn.
+    fn agree_on_changes(self, file: &mut [u8], at: usize) -> bool {
+        let mut are_right = true;
+        for bits in 1..=u8::MAX {
+            toggle(file, at, bits);
+            are_right &= self.agree(file);
+            toggle(file, at, bits);
         }
         are_right
     }
@@ -155,40 +172,34 @@ fn found_line(text: &[u8]) -> Option<&[u8]> {
 
 /// The number of files that are compared: a file of four pages with each byte changed to each other
 /// value in turn. It is also compared with its end cut off at each byte.
-pub fn compared(input: Input<'_>, line: &mut Vec<u8>) -> Result<(), Fault> {
+pub fn compared(input: Input<'_>, text: &mut Text) -> Result<(), Fault> {
     let Input { alloc, file, .. } = input;
     let trials = trials_of(alloc)?;
-    match trials.as_slice() {
-        [check, list, others @ ..] => {
-            let (check, list) = (&check.job, &list.job);
-            let trials = Trials {
-                alloc,
-                check,
-                list,
-                others,
-            };
-            compare_each(trials, file, line)
-        }
-        _ => Err(Fault::UNREAD),
-    }
+    let [check, list, others @ ..] = trials.as_slice() else {
+        return Err(Fault::UNREAD);
+    };
+    let trials = Trials {
+        alloc,
+        check: &check.job,
+        list: &list.job,
+        others,
+    };
+    compare_each(trials, file, text)
 }
 
-fn compare_each(trials: Trials<'_>, file: &[u8], line: &mut Vec<u8>) -> Result<(), Fault> {
+fn compare_each(trials: Trials<'_>, file: &[u8], text: &mut Text) -> Result<(), Fault> {
     let mut other = file.to_vec(trials.alloc)?;
     let mut count = 0_u64;
     for at in 0..file.len() {
         let cut = file.get(..at).unwrap_or(b"");
         require(trials.agree(cut), "commands on a file that is cut off", at)?;
-        for bits in 1..=u8::MAX {
-            toggle(&mut other, at, bits);
-            require(
-                trials.agree(other.as_slice()),
-                "commands on a changed file",
-                at,
-            )?;
-            toggle(&mut other, at, bits);
-            count = count.saturating_add(1);
-        }
+        require(
+            trials.agree_on_changes(&mut other, at),
+            "commands on a changed file",
+            at,
+        )?;
+        count = count.saturating_add(u64::from(u8::MAX));
     }
-    push_number(line, count)
+    text.numbers(&[count]);
+    Ok(())
 }

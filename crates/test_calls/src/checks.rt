@@ -1,51 +1,98 @@
-//! What a checked file shows, the table of its pages, and the checksums and the numbers of faults.
+//! Verbs on a sound file; and the checksums and the numbers of faults.
+ghost use Rattle.std.specs.Prelude.{◌≡◌, true};
+ghost use Rattle.bolt_check.specs.CheckedFiles.{has_accounts};
 
 use crate::fault::Fault;
-use crate::words::{Input, bytes_of, push_number, push_numbers, push_word};
-use bolt_check::{Finding, check, check_slot};
-use bolt_format::{PageFault, Slot, WriteSink, fnv1a};
+use crate::words::{Input, Text, bytes_of, keys_of, slices_of};
+use crate::{buckets, copies, pagers, walks};
+use bolt_check::{Checked, Finding, check, check_slot};
+use bolt_format::{PageFault, Slot, fnv1a};
 use bolt_report::pages;
 
-/// The table of all pages of a file.
-pub fn page_table(input: Input<'_>, lines: &mut Vec<u8>) -> Result<(), Fault> {
-    let Input { alloc, file, .. } = input;
-    let checked = check(alloc, file)?;
-    Ok(pages(alloc, checked, &mut WriteSink::new(lines))?)
-}
-
-/// The transaction of the meta under which a file is checked, the number of its bytes, and whether the
-/// accounts were tested. The first word may name the slot of the meta.
-pub fn checked(input: Input<'_>, line: &mut Vec<u8>) -> Result<(), Fault> {
-    let Input { alloc, file, words } = input;
-    let found = match slot_of(words)? {
-        None => check(alloc, file)?,
-        Some(slot) => check_slot(alloc, file, slot)?,
-    };
-    push_numbers(line, &[found.meta().txid, found.bytes().len() as u64])?;
-    let tested = if found.accounts() {
-        b"accounts".as_slice()
-    } else {
-        b"trees"
-    };
-    Ok(push_word(line, tested)?)
-}
-
-/// The slot that the first word names, if there is one.
-fn slot_of(words: &[String]) -> Result<Option<Slot>, Fault> {
-    match words {
-        [] => Ok(None),
-        [slot, ..] if slot.as_str() == "0" => Ok(Some(Slot::Zero)),
-        [slot, ..] if slot.as_str() == "1" => Ok(Some(Slot::One)),
-        _ => Err(Fault::UNREAD),
+/// The result of a verb on a sound file. Its accounts were tested, which `pages` requires.
+pub fn put_checked(
+    verb: &str,
+    checked: Checked<'_>,
+    input: Input<'_>,
+    text: &mut Text,
+) -> Result<(), Fault>
+    requires { has_accounts checked ≡ true }
+{
+    let Input { alloc, words, .. } = input;
+    match verb {
+        "pages" => Ok(pages(alloc, checked, &mut text.sink)?),
+        "plan" | "copy" => copies::put_copy(verb, alloc, checked, words, text),
+        "pager" => pagers::opened_pages(checked, text),
+        "root" => pagers::root_cursor(checked, text),
+        _ => {
+            let [word, words @ ..] = words else {
+                return Err(Fault::UNREAD);
+            };
+            put_at(verb, checked, word.as_str(), Input { words, ..input }, text)
+        }
     }
 }
 
-/// The checksum of each word.
-pub fn checksums(input: Input<'_>, line: &mut Vec<u8>) -> Result<(), Fault> {
+/// The result of a verb on a sound file and a path in it. For `bucket` this is the key that is sought.
+fn put_at(
+    verb: &str,
+    checked: Checked<'_>,
+    path: &str,
+    input: Input<'_>,
+    text: &mut Text,
+) -> Result<(), Fault> {
+    let alloc = input.alloc;
+    let keys = keys_of(alloc, path)?;
+    let path = slices_of(alloc, keys.as_slice())?;
+    put_on(verb, checked, path.as_slice(), input, text)
+}
+
+fn put_on(
+    verb: &str,
+    checked: Checked<'_>,
+    path: &[&[u8]],
+    input: Input<'_>,
+    text: &mut Text,
+) -> Result<(), Fault> {
     let Input { alloc, words, .. } = input;
-    for word in words {
-        let sum = fnv1a(bytes_of(alloc, word.as_bytes())?.as_slice());
-        push_number(line, sum)?;
+    match (verb, path) {
+        ("bucket", [key]) => pagers::bucket_cursor(checked, key, text),
+        ("walk" | "again" | "depths" | "listed", _) => {
+            walks::put_from(verb, alloc, checked, path, text)
+        }
+        _ => {
+            let bucket = buckets::bucket_at(checked, path)?;
+            buckets::put_bucket(verb, alloc, &bucket, words, text)
+        }
+    }
+}
+
+/// The transaction of the meta under which a file is checked, the number of its bytes, and whether the
+/// accounts were tested. The first word may name the slot of the meta: 0, or else 1.
+pub fn checked(input: Input<'_>, text: &mut Text) -> Result<(), Fault> {
+    let Input { alloc, file, words } = input;
+    let found = match words {
+        [] => check(alloc, file),
+        [slot, ..] => check_slot(alloc, file, slot_of(slot.as_str())),
+    }?;
+    text.numbers(&[found.meta().txid, found.bytes().len() as u64]);
+    text.word(if found.accounts() {
+        b"accounts"
+    } else {
+        b"trees"
+    });
+    Ok(())
+}
+
+fn slot_of(word: &str) -> Slot {
+    if word == "0" { Slot::Zero } else { Slot::One }
+}
+
+/// The checksum of each word.
+pub fn checksums(input: Input<'_>, text: &mut Text) -> Result<(), Fault> {
+    for word in input.words {
+        let bytes = bytes_of(input.alloc, word.as_str())?;
+        text.numbers(&[fnv1a(bytes.as_slice())]);
     }
     Ok(())
 }
@@ -77,9 +124,8 @@ const FAULTS: [u8; 22] = [
 ];
 
 /// The numbers of the faults.
-pub fn faults(line: &mut Vec<u8>) -> Result<(), Fault> {
+pub fn faults(text: &mut Text) {
     for number in FAULTS {
-        push_number(line, u64::from(number))?;
+        text.numbers(&[u64::from(number)]);
     }
-    Ok(())
 }

@@ -1,11 +1,44 @@
 //! Calls on a cursor, and their results.
 
-use crate::fault::Fault;
-use crate::words::{Input, bucket_of, bytes_of, push_decimal, push_number, push_word};
-use bolt_format::WriteSink;
+use crate::fault::{Fault, require};
+use crate::words::{Text, bytes_of};
+use bolt_format::{MemSink, Sink};
 use bolt_report::{Form, keys_with_prefix};
-use bolt_tree::{Cursor, Entry};
+use bolt_tree::{Bucket, Cursor, Entry};
 use std::alloc::Global;
+
+/// The results of calls on a new cursor of a bucket, one after another: the key of each result
+/// (`moves`); the same, and how many pages were opened until then (`opens`); or whether keys were
+/// compared (`compares`).
+pub fn run_calls(
+    verb: &str,
+    alloc: Global,
+    bucket: &Bucket<'_>,
+    calls: &[String],
+    text: &mut Text,
+) -> Result<(), Fault> {
+    let mut cursor = bucket.cursor();
+    for call in calls {
+        let before = cursor.compared();
+        let found = make_call(alloc, &mut cursor, call.as_str())?;
+        let compared = cursor.compared();
+        require(
+            compared <= 1024,
+            "more than 1024 comparisons",
+            text.sink.bytes().len(),
+        )?;
+        if verb == "compares" {
+            text.word(amount(before, compared));
+        } else {
+            put_key(found, text);
+        }
+        if verb == "opens" {
+            text.add(b":");
+            text.digits(cursor.opened());
+        }
+    }
+    Ok(())
+}
 
 /// The result of a call: `first`, `last`, `next`, `prev`, or `seek=KEY`.
 fn make_call<'a>(
@@ -18,65 +51,22 @@ fn make_call<'a>(
         "last" => Ok(cursor.last()),
         "next" => Ok(cursor.next()),
         "prev" => Ok(cursor.prev()),
-        _ => match call.as_bytes().strip_prefix(b"seek=") {
+        _ => match call.strip_prefix("seek=") {
             Some(key) => Ok(cursor.seek(bytes_of(alloc, key)?.as_slice())),
             None => Err(Fault::UNREAD),
         },
     }
 }
 
-/// What is printed of each call on a cursor.
-#[derive(Clone, Copy)]
-pub enum Printed {
-    /// The key of its result.
-    Moves,
-    /// The same, and how many pages were opened until then.
-    Openings,
-    /// Whether keys were compared: `none`, as many as were printed before (`same`), `some`, which a way
-    /// of two pages allows, or `many`.
-    Comparisons,
+fn put_key(found: Option<Entry<'_>>, text: &mut Text) {
+    match found {
+        Some(entry) => text.word(entry.key),
+        None => text.word(b"-"),
+    }
 }
 
-/// The results of calls on a new cursor of a bucket, one after another. The first word is the
-/// bucket's path.
-pub fn run_calls(input: Input<'_>, printed: Printed, line: &mut Vec<u8>) -> Result<(), Fault> {
-    let (bucket, calls) = bucket_of(input)?;
-    let mut cursor = bucket.cursor();
-    for call in calls {
-        let before = cursor.compared();
-        let found = make_call(input.alloc, &mut cursor, call.as_str())?;
-        push_result(line, &cursor, before, found, printed)?;
-    }
-    Ok(())
-}
-
-fn push_result(
-    line: &mut Vec<u8>,
-    cursor: &Cursor<'_>,
-    before: u64,
-    found: Option<Entry<'_>>,
-    printed: Printed,
-) -> Result<(), Fault> {
-    let (opened, compared) = (cursor.opened(), cursor.compared());
-    if compared > 1024 {
-        return Err(Fault::wrong("more than 1024 comparisons", line.len()));
-    }
-    let key = match found {
-        Some(entry) => entry.key,
-        None => b"-",
-    };
-    match printed {
-        Printed::Moves => push_word(line, key)?,
-        Printed::Openings => {
-            push_word(line, key)?;
-            line.push(b':')?;
-            push_decimal(line, opened)?;
-        }
-        Printed::Comparisons => push_word(line, amount(before, compared))?,
-    }
-    Ok(())
-}
-
+/// Whether keys were compared: `none`, as many as were printed before (`same`), `some`, which a way of
+/// two pages allows, or `many`.
 fn amount(before: u64, compared: u64) -> &'static [u8] {
     match compared {
         0 => b"none",
@@ -86,30 +76,29 @@ fn amount(before: u64, compared: u64) -> &'static [u8] {
     }
 }
 
-/// For each of the words after the path, how many pages are opened for the keys that begin with it;
-/// and these keys, as they are.
-pub fn run_prefixes(input: Input<'_>, lines: &mut Vec<u8>) -> Result<(), Fault> {
-    let (bucket, prefixes) = bucket_of(input)?;
-    let mut cursor = bucket.cursor();
-    let mut keys = Vec::new(input.alloc);
-    for word in prefixes {
-        run_prefix(&mut cursor, word, &mut keys, lines)?;
-    }
-    lines.push(b'\n')?;
-    Ok(lines.extend_from_slice(keys.as_slice())?)
-}
-
-/// Adds the keys that begin with a prefix, and to a line of numbers how many pages are opened for them.
-fn run_prefix(
-    cursor: &mut Cursor<'_>,
-    prefix: &str,
-    keys: &mut Vec<u8>,
-    line: &mut Vec<u8>,
+/// For each of the words, how many pages are opened for the keys that begin with it; and these keys, as
+/// they are.
+pub fn run_prefixes(
+    alloc: Global,
+    bucket: &Bucket<'_>,
+    prefixes: &[String],
+    text: &mut Text,
 ) -> Result<(), Fault> {
-    let alloc = *line.allocator();
-    let prefix = bytes_of(alloc, prefix.as_bytes())?;
-    let before = cursor.opened();
-    let mut sink = WriteSink::new(keys);
-    keys_with_prefix(alloc, cursor, prefix.as_slice(), Form::Bytes, &mut sink)?;
-    push_number(line, cursor.opened().saturating_sub(before))
+    let mut cursor = bucket.cursor();
+    let mut keys = MemSink::new(alloc);
+    for word in prefixes {
+        let before = cursor.opened();
+        let prefix = bytes_of(alloc, word.as_str())?;
+        keys_with_prefix(
+            alloc,
+            &mut cursor,
+            prefix.as_slice(),
+            Form::Bytes,
+            &mut keys,
+        )?;
+        text.numbers(&[cursor.opened().saturating_sub(before)]);
+    }
+    text.add(b"\n");
+    text.add(keys.bytes());
+    Ok(())
 }

@@ -4,27 +4,26 @@ use crate::fault::Fault;
 use crate::log::{Kind, Log, Record};
 use crate::memory::{Memory, Turn};
 use crate::runs::{first_line, line_of};
-use crate::words::{Input, push_decimal, push_number, push_word};
+use crate::words::{Input, Text};
 use bolt_cli::run_program;
 use std::alloc::Global;
-use std::io::Write;
 
 /// The status and the deeds of a command line: a line for each deed from which on they go wrong, and
-/// then one if none does. The first word says how: they fail, or they differ.
-pub fn deeds_of(input: Input<'_>, lines: &mut Vec<u8>) -> Result<(), Fault> {
+/// then one if none does. The first word says how: they fail (`fail`), or else they differ.
+pub fn deeds_of(input: Input<'_>, text: &mut Text) -> Result<(), Fault> {
     let Input { alloc, file, words } = input;
     let [how, words @ ..] = words else {
         return Err(Fault::UNREAD);
     };
-    let turn = match how.as_str() {
-        "fail" => Turn::Bad,
-        "differ" => Turn::Other,
-        _ => return Err(Fault::UNREAD),
+    let turn = if how.as_str() == "fail" {
+        Turn::Bad
+    } else {
+        Turn::Other
     };
     for before in 0..u32::MAX {
-        let mut memory = Memory::new(alloc, file.to_vec(alloc)?, before, turn);
+        let mut memory = Memory::new(alloc, file, before, turn);
         let code = run_program(&mut memory, alloc, line_of(alloc, words)?);
-        push_deeds(code, memory.log(), lines)?;
+        put_deeds(code, memory.log(), text);
         if !memory.has_turned() {
             break;
         }
@@ -34,30 +33,29 @@ pub fn deeds_of(input: Input<'_>, lines: &mut Vec<u8>) -> Result<(), Fault> {
 
 /// Adds the line of a run's status and its deeds: the status, a colon, and the words of each deed in
 /// turn.
-fn push_deeds(code: u8, log: &Log, line: &mut Vec<u8>) -> Result<(), Fault> {
-    push_decimal(line, u64::from(code))?;
-    line.push(b':')?;
+fn put_deeds(code: u8, log: &Log, text: &mut Text) {
+    text.digits(u64::from(code));
+    text.add(b":");
     for record in log.records.as_slice() {
-        push_deed(line, record)?;
+        put_deed(record, text);
     }
-    Ok(line.push(b'\n')?)
+    text.add(b"\n");
 }
 
 /// Adds a deed: its kind, a name and permission bits, and what was said or the number of other bytes.
-fn push_deed(line: &mut Vec<u8>, record: &Record) -> Result<(), Fault> {
-    push_word(line, word_of(record.kind).as_bytes())?;
+fn put_deed(record: &Record, text: &mut Text) {
+    text.word(word_of(record.kind).as_bytes());
     if !record.name.is_empty() {
-        push_word(line, record.name.as_slice())?;
+        text.word(record.name.as_slice());
     }
     if record.permissions > 0 {
-        write!(line, " {:o}", record.permissions)?;
+        text.made(format!(in text.alloc; " {:o}", record.permissions));
     }
     if record.kind == Kind::Said {
-        push_word(line, first_line(record.bytes.as_slice()))?;
+        text.word(first_line(record.bytes.as_slice()));
     } else if !record.bytes.is_empty() {
-        push_number(line, record.bytes.len() as u64)?;
+        text.numbers(&[record.bytes.len() as u64]);
     }
-    Ok(())
 }
 
 /// What a deed of this kind is called in test cases.

@@ -3,7 +3,7 @@
 use crate::fault::{Fault, require};
 use crate::runs::{Ran, Task, job_of};
 use crate::sinks::{Halting, Refusal};
-use crate::words::{Input, push_numbers};
+use crate::words::{Input, Text};
 use bolt_format::{MemSink, Sink, WriteSink};
 use std::io::ErrorKind;
 
@@ -54,60 +54,49 @@ impl Whole<'_> {
         require(is_right, "standard output and error that fail", 1)
     }
 
-    /// Standard output goes to a writer that refuses this call; the first is 1. Whether it made the call.
-    fn halt_output(&self, refused: usize, refusal: Refusal) -> Result<bool, Fault> {
-        let mut out = WriteSink::new(Halting::new(self.task.alloc, refused, refusal));
-        let mut err = MemSink::new(self.task.alloc);
-        let mut target = MemSink::new(self.task.alloc);
-        let code = self.task.status_of(&mut out, &mut err, &mut target);
-        let is_reported = code == 1 && err.bytes() == WRITE_FAILED;
-        is_halted(out, refused, self.ran.out.bytes(), is_reported)
-    }
-
     /// How many calls a stream is written in, each of which is refused in turn.
     fn calls(&self, stream: Stream, refusal: Refusal) -> Result<usize, Fault> {
         for refused in 1..usize::MAX {
-            let is_made = match stream {
-                Stream::Output => self.halt_output(refused, refusal)?,
-                Stream::Copy => self.halt_copy(refused, refusal)?,
-            };
-            if !is_made {
+            if !self.halt(stream, Halting::new(self.task.alloc, refused, refusal))? {
                 return Ok(refused - 1);
             }
         }
         Ok(0)
     }
 
-    /// The copy goes to a writer that refuses this call; the first is 1. Whether it made the call.
-    fn halt_copy(&self, refused: usize, refusal: Refusal) -> Result<bool, Fault> {
-        let mut out = MemSink::new(self.task.alloc);
+    /// A stream goes to a writer that refuses a call. Whether it made that call. If it is the copy,
+    /// nothing is printed.
+    fn halt(&self, stream: Stream, writer: Halting) -> Result<bool, Fault> {
+        let mut halted = WriteSink::new(writer);
+        let mut other = MemSink::new(self.task.alloc);
         let mut err = MemSink::new(self.task.alloc);
-        let mut target = WriteSink::new(Halting::new(self.task.alloc, refused, refusal));
-        let code = self.task.status_of(&mut out, &mut err, &mut target);
-        let is_reported = code == 1 && out.bytes().is_empty() && err.bytes() == WRITE_FAILED;
-        is_halted(target, refused, self.ran.target.bytes(), is_reported)
+        let code = match stream {
+            Stream::Output => self.task.status_of(&mut halted, &mut err, &mut other),
+            Stream::Copy => self.task.status_of(&mut other, &mut err, &mut halted),
+        };
+        let (whole, is_reported) = match stream {
+            Stream::Output => (self.ran.out.bytes(), true),
+            Stream::Copy => (self.ran.target.bytes(), other.bytes().is_empty()),
+        };
+        let is_reported = is_reported && code == 1 && err.bytes() == WRITE_FAILED;
+        is_halted(halted, whole, is_reported)
     }
 }
 
 /// Whether a writer's call was refused. If so, this was reported, it has a proper prefix of the whole,
 /// and it wasn't called again, nor is it by another `put`. Otherwise it has the whole.
-fn is_halted(
-    mut sink: WriteSink<Halting>,
-    refused: usize,
-    whole: &[u8],
-    is_reported: bool,
-) -> Result<bool, Fault> {
+fn is_halted(mut sink: WriteSink<Halting>, whole: &[u8], is_reported: bool) -> Result<bool, Fault> {
     let has_failed = sink.failures() > 0;
     let is_over = sink.put(b"more").is_err();
     let writer = sink.into_inner();
     let taken = writer.taken.as_slice();
     let is_right = if has_failed {
         let is_prefix = whole.starts_with(taken) && taken.len() < whole.len();
-        is_reported && is_over && writer.calls == refused && is_prefix
+        is_reported && is_over && writer.calls == writer.refused && is_prefix
     } else {
         taken.starts_with(whole)
     };
-    require(is_right, "a writer that refuses a call", refused)?;
+    require(is_right, "a writer that refuses a call", writer.refused)?;
     Ok(has_failed)
 }
 
@@ -125,36 +114,38 @@ const REFUSALS: [Refusal; 4] = [
     Refusal::Nothing,
 ];
 
-/// What fails in turn.
-#[derive(Clone, Copy)]
-pub enum Failures {
-    /// Each byte that a command prints, copies and reports.
-    Bytes,
-    /// Each call of the writers that it prints and copies to. A call writes at most seven bytes.
-    Calls,
-}
-
-/// The number of bytes that a command prints, copies and reports, each of which fails in turn; or the
-/// number of those that it prints and copies by calls that fail in turn.
-pub fn fail(input: Input<'_>, failures: Failures, line: &mut Vec<u8>) -> Result<(), Fault> {
+/// The number of bytes that a command prints, copies and reports, each of which fails in turn (`fails`).
+/// Or the number of those that it prints and copies by calls that fail in turn; a call writes at most
+/// seven bytes (`halts`).
+pub fn fail(verb: &str, input: Input<'_>, text: &mut Text) -> Result<(), Fault> {
     let Input { alloc, file, words } = input;
-    let job = &job_of(alloc, words)?;
-    fail_task(Task { alloc, job, file }, failures, line)
+    let job = job_of(alloc, words)?;
+    let task = Task {
+        alloc,
+        job: &job,
+        file,
+    };
+    fail_task(verb, task, text)
 }
 
-fn fail_task(task: Task<'_>, failures: Failures, line: &mut Vec<u8>) -> Result<(), Fault> {
-    let ran = &task.run();
-    let whole = Whole { task, ran };
-    match failures {
-        Failures::Bytes => fail_each(&whole, line),
-        Failures::Calls => halt_each(&whole, line),
+fn fail_task(verb: &str, task: Task<'_>, text: &mut Text) -> Result<(), Fault> {
+    let ran = task.run();
+    let whole = Whole { task, ran: &ran };
+    if verb == "fails" {
+        fail_each(&whole, text)
+    } else {
+        halt_each(&whole, text)
     }
 }
 
-fn fail_each(whole: &Whole<'_>, line: &mut Vec<u8>) -> Result<(), Fault> {
-    let ran = whole.ran;
-    let (out, copy) = (ran.out.bytes().len(), ran.target.bytes().len());
-    let err = ran.err.bytes().len();
+fn fail_each(whole: &Whole<'_>, text: &mut Text) -> Result<(), Fault> {
+    let Ran {
+        out,
+        err,
+        target,
+        ..
+    } = whole.ran;
+    let (out, copy, err) = (out.bytes().len(), target.bytes().len(), err.bytes().len());
     for fuse in 0..out {
         whole.fail_output(fuse)?;
     }
@@ -165,19 +156,18 @@ fn fail_each(whole: &Whole<'_>, line: &mut Vec<u8>) -> Result<(), Fault> {
         whole.fail_error(fuse)?;
     }
     whole.fail_both()?;
-    push_numbers(line, &[out as u64, copy as u64, err as u64])
+    text.numbers(&[out as u64, copy as u64, err as u64]);
+    Ok(())
 }
 
-fn halt_each(whole: &Whole<'_>, line: &mut Vec<u8>) -> Result<(), Fault> {
+fn halt_each(whole: &Whole<'_>, text: &mut Text) -> Result<(), Fault> {
     let (out, copy) = (whole.ran.out.bytes().len(), whole.ran.target.bytes().len());
     for refusal in REFUSALS {
         let printed = whole.calls(Stream::Output, refusal)?;
         let copied = whole.calls(Stream::Copy, refusal)?;
-        require(
-            printed >= out / 7 && copied >= copy / 7,
-            "the number of calls",
-            out,
-        )?;
+        let are_enough = printed >= out / 7 && copied >= copy / 7;
+        require(are_enough, "the number of calls", out)?;
     }
-    push_numbers(line, &[out as u64, copy as u64])
+    text.numbers(&[out as u64, copy as u64]);
+    Ok(())
 }

@@ -1,19 +1,17 @@
 //! Why a call gives no result.
 
-use bolt_bulk::{BulkFault, PlanFault};
 use bolt_check::{CheckFault, NoMemory};
-use bolt_format::SinkFault;
 use bolt_report::ReportFault;
 use hex::FromHexError;
 use std::alloc::{AllocError, AllocFailed};
-use std::{fmt, io};
+use std::io;
 
 /// Why a call gives no result, in words.
 #[derive(Clone, Copy)]
 pub struct Fault {
-    what: &'static str,
+    pub what: &'static str,
     /// At which byte, call or length something happened that must not happen.
-    at: Option<usize>,
+    pub at: Option<usize>,
 }
 
 impl Fault {
@@ -28,40 +26,18 @@ impl Fault {
         at: None,
     };
 
-    /// Standard output can't be written.
-    pub const UNWRITTEN: Fault = Fault {
-        what: "can't be written",
-        at: None,
-    };
-
-    /// What must not happen, and at which byte, call or length.
-    pub fn wrong(what: &'static str, at: usize) -> Fault {
-        Fault { what, at: Some(at) }
-    }
-
     /// A request for memory was refused, and when.
     pub fn refused(what: &'static str) -> Fault {
         Fault { what, at: None }
     }
 }
 
-impl fmt::Display for Fault {
-    fn fmt<W: fmt::Write>(&self, f: &mut fmt::Formatter<W>) -> fmt::Result {
-        f.write_str(self.what)?;
-        match self.at {
-            Some(at) => write!(f, ": wrong at {at}"),
-            None => Ok(()),
-        }
-    }
-}
-
-/// A fault unless this holds.
+/// A fault at this byte, call or length, unless what must hold there does.
 pub fn require(holds: bool, what: &'static str, at: usize) -> Result<(), Fault> {
     if holds {
-        Ok(())
-    } else {
-        Err(Fault::wrong(what, at))
+        return Ok(());
     }
+    Err(Fault { what, at: Some(at) })
 }
 
 impl From<AllocError> for Fault {
@@ -91,36 +67,10 @@ impl From<CheckFault> for Fault {
     }
 }
 
-impl From<PlanFault> for Fault {
-    fn from(fault: PlanFault) -> Fault {
-        match fault {
-            PlanFault::Memory => Fault::MEMORY,
-            PlanFault::TooLarge => Fault::UNREAD,
-        }
-    }
-}
-
-impl From<BulkFault> for Fault {
-    fn from(fault: BulkFault) -> Fault {
-        match fault {
-            BulkFault::Memory => Fault::MEMORY,
-            _ => Fault::UNWRITTEN,
-        }
-    }
-}
-
+/// The libraries write their texts to memory, which is all that can run out.
 impl From<ReportFault> for Fault {
-    fn from(fault: ReportFault) -> Fault {
-        match fault {
-            ReportFault::NoMemory => Fault::MEMORY,
-            _ => Fault::UNWRITTEN,
-        }
-    }
-}
-
-impl From<SinkFault> for Fault {
-    fn from(_: SinkFault) -> Fault {
-        Fault::UNWRITTEN
+    fn from(_: ReportFault) -> Fault {
+        Fault::MEMORY
     }
 }
 

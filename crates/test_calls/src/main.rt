@@ -32,6 +32,7 @@
 #![tactic(auto)]
 
 mod agreements;
+mod buckets;
 mod checks;
 mod copies;
 mod cursors;
@@ -41,28 +42,29 @@ mod fault;
 mod log;
 mod memory;
 mod pagers;
-mod refusals;
 mod runs;
 mod sinks;
 mod sweeps;
 mod walks;
 mod words;
 
-use cursors::Printed;
-use failures::Failures;
+use bolt_check::check;
+use bolt_format::Sink;
 use fault::Fault;
-use runs::Ran;
 use std::io::Write;
 use std::process::ExitCode;
 use std::{env, fs, io};
-use walks::Walked;
-use words::Input;
+use sweeps::Sweep;
+use words::{Input, Text};
 
 fn main(rt: HostRuntime) -> ExitCode {
     match print_result(&rt) {
         Ok(code) => ExitCode::from(code),
-        Err(fault) => {
-            let _ = eprintln!(rt; "{fault}");
+        Err(Fault { what, at }) => {
+            let _ = match at {
+                Some(at) => eprintln!(rt; "{what}: wrong at {at}"),
+                None => eprintln!(rt; "{what}"),
+            };
             ExitCode::from(3)
         }
     }
@@ -70,11 +72,12 @@ fn main(rt: HostRuntime) -> ExitCode {
 
 /// Prints the result of a call, and returns the status.
 fn print_result(rt: &HostRuntime) -> Result<u8, Fault> {
-    let mut words = Vec::new(rt.alloc());
-    for word in env::args(rt)? {
-        words.push(word)?;
-    }
-    let [_, verb, name, words @ ..] = words.as_slice() else {
+    let words: Vec<String> = env::args(rt)?.collect(rt.alloc())?;
+    print_call(rt, words.as_slice())
+}
+
+fn print_call(rt: &HostRuntime, words: &[String]) -> Result<u8, Fault> {
+    let [_, verb, name, words @ ..] = words else {
         return Err(Fault::UNREAD);
     };
     let file = fs::read(rt, name.as_str())?;
@@ -84,13 +87,15 @@ fn print_result(rt: &HostRuntime) -> Result<u8, Fault> {
         words,
     };
     match verb.as_str() {
-        "cuts" | "changes" => print_run(rt, &sweeps::run_sweep(verb.as_str(), input)?),
-        _ => print_lines(rt, verb.as_str(), input),
+        "cuts" => print_sweep(rt, Sweep::Cuts, input),
+        "changes" => print_sweep(rt, Sweep::Changes, input),
+        verb => print_text(rt, verb, input),
     }
 }
 
-/// Prints what a command comes to, and returns its status. Its copy is written to OUT.
-fn print_run(rt: &HostRuntime, ran: &Ran) -> Result<u8, Fault> {
+/// Prints what a command comes to on many files, and returns its status. Its copy is written to OUT.
+fn print_sweep(rt: &HostRuntime, sweep: Sweep, input: Input<'_>) -> Result<u8, Fault> {
+    let ran = sweeps::run_sweep(sweep, input)?;
     io::writer(rt).write_all(ran.out.bytes())?;
     rt.stderr().write_all(ran.err.bytes())?;
     if !ran.target.bytes().is_empty() {
@@ -99,53 +104,36 @@ fn print_run(rt: &HostRuntime, ran: &Ran) -> Result<u8, Fault> {
     Ok(ran.code)
 }
 
-/// Prints the lines of another verb.
-fn print_lines(rt: &HostRuntime, verb: &str, input: Input<'_>) -> Result<u8, Fault> {
-    let mut lines = Vec::new(rt.alloc());
-    push_result(verb, input, &mut lines)?;
-    if lines.last().is_some_and(|last| *last != b'\n') {
-        lines.push(b'\n')?;
+/// Prints the text of another verb, and returns the status.
+fn print_text(rt: &HostRuntime, verb: &str, input: Input<'_>) -> Result<u8, Fault> {
+    let mut text = Text::new(rt.alloc());
+    put_result(verb, input, &mut text)?;
+    let bytes = text.sink.bytes();
+    if !bytes.is_empty() && !bytes.ends_with(b"\n") {
+        text.add(b"\n");
     }
-    io::writer(rt).write_all(lines.as_slice())?;
+    if !text.is_whole {
+        return Err(Fault::MEMORY);
+    }
+    io::writer(rt).write_all(text.sink.bytes())?;
     Ok(0)
 }
 
-fn push_result(verb: &str, input: Input<'_>, lines: &mut Vec<u8>) -> Result<(), Fault> {
+fn put_result(verb: &str, input: Input<'_>, text: &mut Text) -> Result<(), Fault> {
     match verb {
-        "moves" => cursors::run_calls(input, Printed::Moves, lines),
-        "opens" => cursors::run_calls(input, Printed::Openings, lines),
-        "compares" => cursors::run_calls(input, Printed::Comparisons, lines),
-        "begins" => cursors::run_prefixes(input, lines),
-        "under" => walks::look_ups(input, lines),
-        "walk" => walks::walk(input, Walked::Members, lines),
-        "again" => walks::walk(input, Walked::Again, lines),
-        "depths" => walks::walk(input, Walked::Depths, lines),
-        "listed" => walks::walk(input, Walked::Listing, lines),
-        "keys" => walks::keys_in(input, lines),
-        "loaded" => copies::loaded(input, lines),
-        "plan" => copies::planned(input, lines),
-        "copy" => copies::copied(input, lines),
-        "pages" => checks::page_table(input, lines),
-        "checked" => checks::checked(input, lines),
-        "pager" => pagers::opened_pages(input, lines),
-        "root" => pagers::root_cursor(input, lines),
-        "bucket" => pagers::bucket_cursor(input, lines),
-        _ => push_other_result(verb, input, lines),
-    }
-}
-
-fn push_other_result(verb: &str, input: Input<'_>, lines: &mut Vec<u8>) -> Result<(), Fault> {
-    match verb {
-        "puts" => sinks::puts(input, lines),
-        "between" => refusals::calls_between(input, lines),
-        "names" => runs::names_of(input, lines),
-        "checksums" => checks::checksums(input, lines),
-        "faults" => checks::faults(lines),
-        "flips" => sweeps::flips(input, lines),
-        "fails" => failures::fail(input, Failures::Bytes, lines),
-        "halts" => failures::fail(input, Failures::Calls, lines),
-        "deeds" => deeds::deeds_of(input, lines),
-        "agree" => agreements::compared(input, lines),
-        _ => Err(Fault::UNREAD),
+        "loaded" => copies::loaded(input, text),
+        "checked" => checks::checked(input, text),
+        "checksums" => checks::checksums(input, text),
+        "faults" => {
+            checks::faults(text);
+            Ok(())
+        }
+        "puts" => sinks::puts(input, text),
+        "names" => runs::names_of(input, text),
+        "flips" => sweeps::flips(input, text),
+        "fails" | "halts" => failures::fail(verb, input, text),
+        "deeds" => deeds::deeds_of(input, text),
+        "agree" => agreements::compared(input, text),
+        _ => checks::put_checked(verb, check(input.alloc, input.file)?, input, text),
     }
 }

@@ -21,9 +21,9 @@ pub enum Turn {
 
 /// An outside in memory, in which answers go wrong from one on.
 #[derive(Drop)]
-pub struct Memory {
+pub struct Memory<'a> {
     alloc: Global,
-    file: Vec<u8>,
+    file: &'a [u8],
     /// The number of answers that go well.
     before: u32,
     turn: Turn,
@@ -31,8 +31,8 @@ pub struct Memory {
     log: Log,
 }
 
-impl Memory {
-    pub fn new(alloc: Global, file: Vec<u8>, before: u32, turn: Turn) -> Self {
+impl<'a> Memory<'a> {
+    pub fn new(alloc: Global, file: &'a [u8], before: u32, turn: Turn) -> Self {
         Memory {
             alloc,
             file,
@@ -67,7 +67,7 @@ impl Memory {
 
 const PERMISSIONS: u32 = 0o640;
 
-impl Outside for Memory {
+impl Outside for Memory<'_> {
     ghost use Rattle.test_calls.specs.Logs.{Holds};
 
     type Target = MemSink;
@@ -79,7 +79,7 @@ impl Outside for Memory {
     fn read(&mut self, name: &str, metas_alone: bool) -> Result<Source, ReadFault> {
         let turn = self.next_turn();
         let text = name.as_bytes();
-        match self.file.as_slice().to_vec(self.alloc) {
+        match self.file.to_vec(self.alloc) {
             Ok(bytes) if turn != Turn::Bad => {
                 let changes = turn == Turn::Other;
                 let kind = read_kind(metas_alone, changes);

@@ -2,13 +2,12 @@
 //! caller may open, and which buckets it may go over.
 
 use crate::fault::Fault;
-use crate::words::{Input, bytes_of, push_numbers};
-use bolt_check::check;
+use crate::words::Text;
+use bolt_check::Checked;
 use bolt_check::laws::ways_go_on;
 use bolt_format::{Kind, Page, head, inline};
 use bolt_tree::laws::buckets_begin_on_ways;
 use bolt_tree::{At, Cursor, Pager};
-use std::alloc::Global;
 
 /// The key of the first element of a leaf that has one.
 fn first_key<'a>(page: &Page<'a>) -> Result<&'a [u8], Fault> {
@@ -20,9 +19,7 @@ fn first_key<'a>(page: &Page<'a>) -> Result<&'a [u8], Fault> {
 
 /// The first key on the second page below the root page, which is a branch, and how many pages a
 /// pager has opened and noted before, between and after these calls.
-pub fn opened_pages(input: Input<'_>, line: &mut Vec<u8>) -> Result<(), Fault> {
-    let Input { alloc, file, .. } = input;
-    let checked = check(alloc, file)?;
+pub fn opened_pages(checked: Checked<'_>, text: &mut Text) -> Result<(), Fault> {
     let mut pager = Pager::new(checked);
     let none = pager.opened();
     ways_go_on();
@@ -38,37 +35,31 @@ pub fn opened_pages(input: Input<'_>, line: &mut Vec<u8>) -> Result<(), Fault> {
     let two = pager.opened();
     pager.note();
     let three = pager.opened();
-    line.extend_from_slice(key)?;
-    push_numbers(line, &[none, one, two, three])
+    text.add(key);
+    text.numbers(&[none, one, two, three]);
+    Ok(())
 }
 
 /// The first key of the root bucket by a cursor over a pager, and how many pages it opened.
-pub fn root_cursor(input: Input<'_>, line: &mut Vec<u8>) -> Result<(), Fault> {
-    let Input { alloc, file, .. } = input;
-    let checked = check(alloc, file)?;
+pub fn root_cursor(checked: Checked<'_>, text: &mut Text) -> Result<(), Fault> {
     buckets_begin_on_ways();
     let cursor = Cursor::new(Pager::new(checked), At::Page(checked.meta().root));
-    push_first(cursor, b"", line)
+    put_first(cursor, b"", text)
 }
 
 /// The key that a seek finds, and how many pages the cursor opened before and after it.
-fn push_first(mut cursor: Cursor<'_>, key: &[u8], line: &mut Vec<u8>) -> Result<(), Fault> {
+fn put_first(mut cursor: Cursor<'_>, key: &[u8], text: &mut Text) -> Result<(), Fault> {
     let before = cursor.opened();
     let entry = cursor.seek(key).ok_or(Fault::UNREAD)?;
     let after = cursor.opened();
-    line.extend_from_slice(entry.key)?;
-    push_numbers(line, &[before, after])
+    text.add(entry.key);
+    text.numbers(&[before, after]);
+    Ok(())
 }
 
 /// The same by a cursor of the first bucket on the root page, which is a leaf. The pager has opened
 /// one page by then.
-pub fn bucket_cursor(input: Input<'_>, line: &mut Vec<u8>) -> Result<(), Fault> {
-    let Input { alloc, file, words } = input;
-    let [word] = words else {
-        return Err(Fault::UNREAD);
-    };
-    let key = bytes_of(alloc, word.as_bytes())?;
-    let checked = check(alloc, file)?;
+pub fn bucket_cursor(checked: Checked<'_>, key: &[u8], text: &mut Text) -> Result<(), Fault> {
     let mut pager = Pager::new(checked);
     ways_go_on();
     let root = pager.open(checked.meta().root);
@@ -82,10 +73,10 @@ pub fn bucket_cursor(input: Input<'_>, line: &mut Vec<u8>) -> Result<(), Fault> 
             buckets_begin_on_ways();
             if head.root == 0 {
                 let cursor = Cursor::new(pager, At::Inline(inline(bucket.value)));
-                return push_first(cursor, key.as_slice(), line);
+                return put_first(cursor, key, text);
             }
             let cursor = Cursor::new(pager, At::Page(head.root));
-            push_first(cursor, key.as_slice(), line)
+            put_first(cursor, key, text)
         }
         _ => Err(Fault::UNREAD),
     }

@@ -1,46 +1,36 @@
 //! What a job comes to on a file in memory.
 
 use crate::fault::Fault;
-use crate::words::Input;
+use crate::words::{Input, Text};
 use bolt_cli::{Job, read_words, run};
 use bolt_format::{MemSink, Sink};
 use std::alloc::Global;
+use std::convert::AsStr;
 
-/// The words of a command line, after the program's name.
-pub fn line_of(alloc: Global, words: &[String]) -> Result<Vec<String>, Fault> {
+/// The words of a command line: the program's name, and then these.
+pub fn line_of<S: AsStr>(alloc: Global, words: &[S]) -> Result<Vec<String>, Fault> {
     let mut line = Vec::new(alloc);
     line.push(String::from_str(alloc, "luntsegi")?)?;
     for word in words {
-        line.push(word.clone()?)?;
+        line.push(String::from_str(alloc, word.as_str())?)?;
     }
     Ok(line)
 }
 
 /// The job that these words ask for.
-pub fn job_of(alloc: Global, words: &[String]) -> Result<Job, Fault> {
-    read_words(alloc, line_of(alloc, words)?).map_err(|_| Fault::UNREAD)
-}
-
-/// The job that a line of words asks for, which have single spaces between them.
-pub fn job_from(alloc: Global, line: &str) -> Result<Job, Fault> {
-    let mut words = Vec::new(alloc);
-    for word in line.split(' ') {
-        words.push(String::from_str(alloc, word)?)?;
-    }
-    job_of(alloc, words.as_slice())
+pub fn job_of<S: AsStr>(alloc: Global, words: &[S]) -> Result<Job, Fault> {
+    let line = line_of(alloc, words)?;
+    read_words(alloc, line).ok().ok_or(Fault::UNREAD)
 }
 
 /// The names of the job's FILE and OUT, which may be `none`.
-pub fn names_of(input: Input<'_>, lines: &mut Vec<u8>) -> Result<(), Fault> {
+pub fn names_of(input: Input<'_>, text: &mut Text) -> Result<(), Fault> {
     let job = job_of(input.alloc, input.words)?;
-    push_names(&job, lines)
-}
-
-fn push_names(job: &Job, lines: &mut Vec<u8>) -> Result<(), Fault> {
-    lines.extend_from_slice(job.file().as_bytes())?;
-    lines.push(b'\n')?;
-    lines.extend_from_slice(job.target().unwrap_or("none").as_bytes())?;
-    Ok(lines.push(b'\n')?)
+    text.add(job.file().as_bytes());
+    text.add(b"\n");
+    text.add(job.target().unwrap_or("none").as_bytes());
+    text.add(b"\n");
+    Ok(())
 }
 
 /// A job on a file in memory.

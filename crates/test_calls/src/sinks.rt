@@ -1,7 +1,7 @@
 //! Sinks, to which pieces are written, and a writer that fails.
 
 use crate::fault::Fault;
-use crate::words::{Input, bytes_of, number, push_number, push_word};
+use crate::words::{Input, Text, bytes_of, number};
 use bolt_format::{MemSink, Sink, WriteSink};
 use std::alloc::Global;
 use std::io::{self, Cursor, ErrorKind, Write};
@@ -23,7 +23,7 @@ pub struct Halting {
     /// The number of its calls.
     pub calls: usize,
     /// The number of the refused call; the first is 1.
-    refused: usize,
+    pub refused: usize,
     refusal: Refusal,
 }
 
@@ -58,89 +58,100 @@ impl Write for Halting {
     }
 }
 
-/// Writes pieces, of which `.` is the whole file. Adds which of them the sink accepted.
-fn put_pieces<S: Sink>(
-    file: &[u8],
-    pieces: &[String],
-    sink: &mut S,
-    line: &mut Vec<u8>,
-) -> Result<(), Fault> {
-    for word in pieces {
-        let before = sink.failures();
-        let result = if word.as_str() == "." {
-            sink.put(file)
-        } else {
-            sink.put(bytes_of(*line.allocator(), word.as_bytes())?.as_slice())
-        };
-        match result {
-            Ok(()) if sink.failures() == 0 => push_word(line, b"ok")?,
-            Err(_) if sink.failures() >= before.max(1) => push_word(line, b"failed")?,
-            _ => return Err(Fault::wrong("the number of failures", line.len())),
-        }
-    }
-    Ok(())
+/// Pieces that are written to a sink.
+#[derive(Clone, Copy)]
+struct Pieces<'a> {
+    alloc: Global,
+    /// The piece that the word `.` is.
+    file: &'a [u8],
+    words: &'a [String],
 }
 
-/// The sink that a word names, with a number: over a writer that refuses the call of this number, with
-/// an error of a kind or without one; over a `Vec` or a cursor of one; or in memory, `fuse` with room
-/// for this many bytes. Of which pieces it accepts, how many calls the writer had, and all bytes.
-pub fn puts(input: Input<'_>, line: &mut Vec<u8>) -> Result<(), Fault> {
+impl Pieces<'_> {
+    /// Writes the pieces. Adds which of them the sink accepted.
+    fn put<S: Sink>(self, sink: &mut S, text: &mut Text) -> Result<(), Fault> {
+        for word in self.words {
+            let before = sink.failures();
+            let is_taken = if word.as_str() == "." {
+                sink.put(self.file).is_ok()
+            } else {
+                let piece = bytes_of(self.alloc, word.as_str())?;
+                sink.put(piece.as_slice()).is_ok()
+            };
+            text.word(outcome(is_taken, before, sink.failures()));
+        }
+        Ok(())
+    }
+
+    /// Writes the pieces to memory.
+    fn put_in_memory(self, mut sink: MemSink, text: &mut Text) -> Result<(), Fault> {
+        self.put(&mut sink, text)?;
+        self.add(sink.bytes(), text);
+        Ok(())
+    }
+
+    /// Adds the bytes that a sink accepted; those of the file are `.`.
+    fn add(self, bytes: &[u8], text: &mut Text) {
+        let is_file = !self.file.is_empty() && bytes == self.file;
+        text.word(if is_file { b"." } else { bytes });
+    }
+}
+
+/// Whether a piece was accepted. A sink that accepts pieces has no failure. One that doesn't has at least
+/// one, and no fewer than before.
+fn outcome(is_taken: bool, before: u64, failures: u64) -> &'static [u8] {
+    match is_taken {
+        true if failures == 0 => b"ok",
+        false if failures >= before.max(1) => b"failed",
+        _ => b"a wrong number of failures",
+    }
+}
+
+/// The sink that a word names, with a number: over a `Vec` or a cursor of one; in memory, `fuse` with
+/// room for this many bytes; or over a writer that refuses the call of this number in some way. Of which
+/// pieces it accepts, how many calls the writer had, and all bytes.
+pub fn puts(input: Input<'_>, text: &mut Text) -> Result<(), Fault> {
     let Input { alloc, file, words } = input;
-    let [kind, count, pieces @ ..] = words else {
+    let [kind, count, words @ ..] = words else {
         return Err(Fault::UNREAD);
     };
-    let count = number(count.as_bytes())? as usize;
-    let refusal = match kind.as_str() {
-        "other" => Refusal::Error(ErrorKind::Other),
-        "interrupted" => Refusal::Error(ErrorKind::Interrupted),
-        "block" => Refusal::Error(ErrorKind::WouldBlock),
-        "nothing" => Refusal::Nothing,
-        _ => return puts_in_memory(kind.as_str(), count, file, pieces, line),
-    };
-    let mut sink = WriteSink::new(Halting::new(alloc, count, refusal));
-    put_pieces(file, pieces, &mut sink, line)?;
-    let writer = sink.into_inner();
-    push_number(line, writer.calls as u64)?;
-    push_taken(writer.taken.as_slice(), file, line)
-}
-
-fn puts_in_memory(
-    kind: &str,
-    count: usize,
-    file: &[u8],
-    pieces: &[String],
-    line: &mut Vec<u8>,
-) -> Result<(), Fault> {
-    let alloc = *line.allocator();
-    match kind {
+    let count = number(count.as_str())? as usize;
+    let pieces = Pieces { alloc, file, words };
+    match kind.as_str() {
         "vec" => {
             let mut sink = WriteSink::new(Vec::new(alloc));
-            put_pieces(file, pieces, &mut sink, line)?;
-            push_taken(sink.into_inner().as_slice(), file, line)
+            pieces.put(&mut sink, text)?;
+            pieces.add(sink.into_inner().as_slice(), text);
+            Ok(())
         }
         "cursor" => {
             let mut sink = WriteSink::new(Cursor::new(Vec::new(alloc)));
-            put_pieces(file, pieces, &mut sink, line)?;
-            push_taken(sink.into_inner().into_inner().as_slice(), file, line)
+            pieces.put(&mut sink, text)?;
+            pieces.add(sink.into_inner().into_inner().as_slice(), text);
+            Ok(())
         }
-        "memory" => put_in_memory(file, pieces, MemSink::new(alloc), line),
-        "fuse" => put_in_memory(file, pieces, MemSink::with_fuse(alloc, count), line),
+        "memory" => pieces.put_in_memory(MemSink::new(alloc), text),
+        "fuse" => pieces.put_in_memory(MemSink::with_fuse(alloc, count), text),
+        way => put_refused(pieces, Halting::new(alloc, count, refusal_of(way)?), text),
+    }
+}
+
+/// The way that a word names.
+fn refusal_of(way: &str) -> Result<Refusal, Fault> {
+    match way {
+        "other" => Ok(Refusal::Error(ErrorKind::Other)),
+        "interrupted" => Ok(Refusal::Error(ErrorKind::Interrupted)),
+        "block" => Ok(Refusal::Error(ErrorKind::WouldBlock)),
+        "nothing" => Ok(Refusal::Nothing),
         _ => Err(Fault::UNREAD),
     }
 }
 
-fn put_in_memory(
-    file: &[u8],
-    pieces: &[String],
-    mut sink: MemSink,
-    line: &mut Vec<u8>,
-) -> Result<(), Fault> {
-    put_pieces(file, pieces, &mut sink, line)?;
-    push_taken(sink.bytes(), file, line)
-}
-
-/// Adds the bytes that a sink accepted; those of the file are `.`.
-fn push_taken(bytes: &[u8], file: &[u8], line: &mut Vec<u8>) -> Result<(), Fault> {
-    let is_file = !file.is_empty() && bytes == file;
-    Ok(push_word(line, if is_file { b"." } else { bytes })?)
+fn put_refused(pieces: Pieces<'_>, writer: Halting, text: &mut Text) -> Result<(), Fault> {
+    let mut sink = WriteSink::new(writer);
+    pieces.put(&mut sink, text)?;
+    let writer = sink.into_inner();
+    text.numbers(&[writer.calls as u64]);
+    pieces.add(writer.taken.as_slice(), text);
+    Ok(())
 }

@@ -2,88 +2,67 @@
 
 use crate::fault::{Fault, require};
 use crate::runs::{Ran, Task, first_line, job_of};
-use crate::words::{Input, number};
+use crate::words::{Input, Text, number};
 use bolt_cli::Job;
 use std::alloc::Global;
 
-/// A job on many files, which differ at a place of this range.
-#[derive(Clone, Copy)]
-struct Sweep<'a> {
-    alloc: Global,
-    job: &'a Job,
-    first: usize,
-    last: usize,
+/// How files differ from the one that is given.
+#[derive(Clone, Copy, PartialEq, Eq)]
+pub enum Sweep {
+    /// A file is cut off at each place.
+    Cuts,
+    /// The byte at each place is changed to each other value in turn.
+    Changes,
+    /// The lowest bit of the byte at each place is changed.
+    Flips,
 }
 
-impl Sweep<'_> {
-    fn run(self, file: &[u8]) -> Ran {
-        let Sweep { alloc, job, .. } = self;
-        Task { alloc, job, file }.run()
+impl Sweep {
+    /// A byte is changed once by each of the numbers from 1 to this one, whose bits are changed.
+    fn last_bits(self) -> u8 {
+        match self {
+            Sweep::Changes => u8::MAX,
+            Sweep::Cuts | Sweep::Flips => 1,
+        }
     }
 
-    /// The job on the file with some bits of the byte at a place changed.
-    fn run_changed(self, file: &mut [u8], at: usize, bits: u8) -> Ran {
+    /// What the job comes to on the file that differs at a place. The file is then as before.
+    fn run(self, alloc: Global, job: &Job, file: &mut [u8], at: usize, bits: u8) -> Ran {
+        if self == Sweep::Cuts {
+            let file = file.get(..at).unwrap_or(b"");
+            return Task { alloc, job, file }.run();
+        }
         toggle(file, at, bits);
-        let ran = self.run(file);
+        let ran = Task { alloc, job, file }.run();
         toggle(file, at, bits);
         ran
     }
 
-    /// The job on many files, by the verb.
-    fn run_each(self, verb: &str, file: &[u8]) -> Result<Ran, Fault> {
-        let mut other = file.to_vec(self.alloc)?;
-        match verb {
-            "cuts" => self.cut_each(file),
-            "changes" => self.change_each(&mut other),
-            _ => self.flip_each(&mut other),
-        }
-    }
-
-    /// The job on each prefix of the file with a length in the range. It comes to the same each time.
-    fn cut_each(self, file: &[u8]) -> Result<Ran, Fault> {
-        let first = self.run_cut(file, self.first)?;
-        for length in self.first..=self.last {
-            self.compare_cut(file, length, &first)?;
-        }
-        Ok(first)
-    }
-
-    fn run_cut(self, file: &[u8], length: usize) -> Result<Ran, Fault> {
-        Ok(self.run(file.get(..length).ok_or(Fault::UNREAD)?))
-    }
-
-    fn compare_cut(self, file: &[u8], length: usize, first: &Ran) -> Result<(), Fault> {
-        let ran = self.run_cut(file, length)?;
-        require(first.is_like(&ran), "another result than before", length)
-    }
-
-    /// The job on the file with each byte of the range changed to each other value in turn. It comes to
-    /// the same each time.
-    fn change_each(self, file: &mut [u8]) -> Result<Ran, Fault> {
-        let first = self.run_changed(file, self.first, 1);
-        for at in self.first..=self.last {
-            for bits in 1..=u8::MAX {
-                let is_like = first.is_like(&self.run_changed(file, at, bits));
+    /// The job comes to the same on each file.
+    fn compare_each(
+        self,
+        task: Task<'_>,
+        file: &mut [u8],
+        places: [usize; 2],
+        first: &Ran,
+    ) -> Result<(), Fault> {
+        for at in places[0]..=places[1] {
+            for bits in 1..=self.last_bits() {
+                let is_like = self.is_like(first, &self.run(task.alloc, task.job, file, at, bits));
                 require(is_like, "another result than before", at)?;
             }
         }
-        Ok(first)
+        Ok(())
     }
 
-    /// The job on the file with the lowest bit of each byte of the range changed in turn. Its status is
-    /// 1, and it prints the same first line each time.
-    fn flip_each(self, file: &mut [u8]) -> Result<Ran, Fault> {
-        let first = self.run_changed(file, self.first, 1);
-        for at in self.first..=self.last {
-            let is_same = begins_like(&first, &self.run_changed(file, at, 1));
-            require(is_same, "another first line or status", at)?;
+    /// Whether a run came to the same as the first. If bits are flipped, only the first line is the same,
+    /// and the status is 1.
+    fn is_like(self, first: &Ran, ran: &Ran) -> bool {
+        if self == Sweep::Flips {
+            return ran.code == 1 && first_line(ran.out.bytes()) == first_line(first.out.bytes());
         }
-        Ok(first)
+        first.is_like(ran)
     }
-}
-
-fn begins_like(first: &Ran, ran: &Ran) -> bool {
-    ran.code == 1 && first_line(ran.out.bytes()) == first_line(first.out.bytes())
 }
 
 /// Changes some bits of the byte at a place.
@@ -94,27 +73,34 @@ pub fn toggle(file: &mut [u8], at: usize, bits: u8) {
 }
 
 /// What a command comes to on the first of many files. They differ at each place from the first word to
-/// the second: the file is cut off there (`cuts`), the byte there has each other value in turn
-/// (`changes`), or its lowest bit is changed (`flips`).
-pub fn run_sweep(verb: &str, input: Input<'_>) -> Result<Ran, Fault> {
+/// the second, and it comes to the same each time.
+pub fn run_sweep(sweep: Sweep, input: Input<'_>) -> Result<Ran, Fault> {
     let Input { alloc, file, words } = input;
     let [first, last, command @ ..] = words else {
         return Err(Fault::UNREAD);
     };
-    let first = number(first.as_bytes())? as usize;
-    let last = number(last.as_bytes())? as usize;
-    let job = &job_of(alloc, command)?;
-    let sweep = Sweep {
+    let first = number(first.as_str())? as usize;
+    let last = number(last.as_str())? as usize;
+    require(last <= file.len(), "a file that is too short", last)?;
+    let job = job_of(alloc, command)?;
+    let task = Task {
         alloc,
-        job,
-        first,
-        last,
+        job: &job,
+        file,
     };
-    sweep.run_each(verb, file)
+    run_each(sweep, task, first, last)
 }
 
-/// The first line of what a sweep comes to.
-pub fn flips(input: Input<'_>, line: &mut Vec<u8>) -> Result<(), Fault> {
-    let ran = run_sweep("flips", input)?;
-    Ok(line.extend_from_slice(first_line(ran.out.bytes()))?)
+fn run_each(sweep: Sweep, task: Task<'_>, first: usize, last: usize) -> Result<Ran, Fault> {
+    let mut file = task.file.to_vec(task.alloc)?;
+    let ran = sweep.run(task.alloc, task.job, &mut file, first, 1);
+    sweep.compare_each(task, &mut file, [first, last], &ran)?;
+    Ok(ran)
+}
+
+/// The first line of what a command comes to if bits are flipped.
+pub fn flips(input: Input<'_>, text: &mut Text) -> Result<(), Fault> {
+    let ran = run_sweep(Sweep::Flips, input)?;
+    text.add(first_line(ran.out.bytes()));
+    Ok(())
 }
