@@ -137,12 +137,14 @@ pub(crate) fn program<'a>(alloc: Global) -> Result<Command<'a>, AllocError>
     with_commands(alloc, bare_program(alloc), &commands())
 }
 
+/// The program with these commands.
 fn with_commands<'a>(
     alloc: Global,
     program: Command<'a>,
     syntaxes: &[&'a Syntax],
 ) -> Result<Command<'a>, AllocError>
-    ensures { IsCommand bare_program program.entry → IfOk result (IsCommand (program_of (map (λ syntax. syntax_view syntax.now) syntaxes.now))) }
+    requires { IsCommand bare_program program }
+    ensures { IfOk result (IsCommand (program_of (map (λ syntax. syntax_view syntax.now) syntaxes.now))) }
 {
     let mut program = program;
     for syntax in syntaxes {

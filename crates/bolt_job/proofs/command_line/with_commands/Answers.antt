@@ -9,13 +9,13 @@ abbrev view_of : Bor declared.Syntax → Syntax
 view_of syntax = syntax_view syntax.now
 
 pub loop-syntax-init : goal.loop-syntax-init
-loop-syntax-init c = λ is. is
+loop-syntax-init c = c.requires
 
 pub loop-syntax-preserved : goal.loop-syntax-preserved
-loop-syntax-preserved c = λ is.
+loop-syntax-preserved c =
     let i = c.loop-syntax.syntax-index in
     let so_far = map view_of (take i c.args.syntaxes.now) in
     let more = λ (app : App) (s : Syntax). with_subcommand app (command_of s).top in
     subst (λ (app : App). IsCommand app c.in_ok-program.program)
     (sym (ap program_of (made_more view_of c.args.syntaxes.now i _ c.loop-syntax-test.true) ∙ fold-append more bare_program so_far _))
-    (subcommand_added _ _ _ _ _ (c.loop-syntax.invariant is) c.in_ok-command.ensures c.in_ok-program.ensures)
+    (subcommand_added _ _ _ _ _ c.loop-syntax.invariant c.in_ok-command.ensures c.in_ok-program.ensures)

@@ -1,7 +1,7 @@
 use Rattle.std.proofs.Common.{map, take}
-use Rattle.bolt_job.proofs.Vocabulary.{IsCommand, bare_program, program_of, syntax_view}
+use Rattle.bolt_job.proofs.Vocabulary.{IsCommand, program_of, syntax_view}
 use Rattle.bolt_job.proofs.command_line.with_commands.Given as goal
 
 -- the program has the commands so far
 abbrev pub invariant-loop-syntax : goal.invariant-loop-syntax
-invariant-loop-syntax l = IsCommand bare_program l.fn.program → IsCommand (program_of (map (λ syntax. syntax_view syntax.now) (take l.syntax-index l.syntaxes))) l.program
+invariant-loop-syntax l = IsCommand (program_of (map (λ syntax. syntax_view syntax.now) (take l.syntax-index l.syntaxes))) l.program
