@@ -1,4 +1,5 @@
 //! A command line over an outside in memory, whose deeds go wrong from each one on.
+//! The cases say what it must do then, deed by deed.
 
 use crate::fault::Fault;
 use crate::log::{Kind, Log, Record};
@@ -9,16 +10,16 @@ use bolt_cli::run_program;
 use std::alloc::Global;
 
 /// The status and the deeds of a command line: a line for each deed from which on they go wrong, and
-/// then one if none does. The first word says how: they fail (`fail`), or else they differ.
+/// then one if none does. The first word says how: they fail, or they differ.
 pub fn deeds_of(input: Input<'_>, text: &mut Text) -> Result<(), Fault> {
     let Input { alloc, file, words } = input;
     let [how, words @ ..] = words else {
         return Err(Fault::UNREAD);
     };
-    let turn = if how.as_str() == "fail" {
-        Turn::Bad
-    } else {
-        Turn::Other
+    let turn = match how.as_str() {
+        "fail" => Turn::Bad,
+        "differ" => Turn::Other,
+        _ => return Err(Fault::UNREAD),
     };
     for before in 0..u32::MAX {
         let mut memory = Memory::new(alloc, file, before, turn);
