@@ -2,7 +2,7 @@
 ghost use Rattle.std.specs.Prelude.{◌≡◌, ◌+◌, ◌<◌, ◌≤◌, true, false, ℕ, IfErr, IfOk, OnOk, length, map, vec_capacity, vec_len};
 ghost use Rattle.std.specs.List.{AllByRecursion};
 ghost use Rattle.bolt_format.specs.{ElementLengths.IsValueLength, ElementPlaces.leaf_view, declared.element.Leaf.Leaf};
-ghost use Rattle.bolt_bulk.specs.Private.{bucket_runs, capped, ClosesBucket, entries_size, first_run, HasRoomFor, held_view, inline_element, inline_size, inlined_by, IsHeld, IsOpenBucket, items_in, leaves_have_room, leaves_of, length_end, longest_key, MakesRoom, no_leaves, pending_element, Pushes, stored_value, TakesItem, value_element, value_item, values_run};
+ghost use Rattle.bolt_bulk.specs.Private.{bucket_runs, capped, ClosesBucket, EndsInner, entries_size, first_run, HasRoomFor, held_view, inline_element, inline_size, inlined_by, IsHeld, IsOpenBucket, items_in, leaves_have_room, leaves_of, length_end, longest_key, MakesRoom, no_leaves, pending_element, Pushes, stored_value, TakesItem, value_element, value_item, values_run};
 ghost use Rattle.bolt_bulk.specs.declared.fault.BulkFault.TheVariants as fault;
 
 use crate::fault::BulkFault;
@@ -11,7 +11,7 @@ use crate::leaf_run::LeafRun;
 use crate::limits::BucketLimits;
 use crate::page_setup::PageSetup;
 use crate::upper_runs::UpperRuns;
-use crate::waiting_bucket::PendingBucket;
+use crate::waiting_bucket::{PendingBucket, ROOT_ITEM_LEN};
 use bolt_format::{ELEMENT_LEN, HEAD_LEN, HEADER_LEN, Leaf, Sink};
 use std::alloc::Global;
 
@@ -110,7 +110,7 @@ impl<'a> BucketRuns<'a> {
     }
 
     /// Reserves memory for one more item. The open runs stay the same.
-    pub(crate) fn reserve(&mut self) -> Result<(), BulkFault>
+    fn reserve(&mut self) -> Result<(), BulkFault>
         requires open { IsOpenBucket self.old }
         ensures runs { (next : ℕ) → bucket_runs self.new next ≡ bucket_runs self.old next }
         ensures open { OnOk result (IsOpenBucket self.new) }
@@ -122,7 +122,7 @@ impl<'a> BucketRuns<'a> {
     }
 
     /// Adds an item of this size, for which there is room and memory. It isn't an inline bucket.
-    pub(crate) fn push_reserved(&mut self, held: Held<'a>, size: usize)
+    fn push_reserved(&mut self, held: Held<'a>, size: usize)
         requires open { IsOpenBucket self.old }
         requires held { IsHeld self.old.leaves.inlined.items held }
         requires apart { inlined_by held.stored ≡ 0 }
@@ -245,6 +245,36 @@ impl<'a> BucketRuns<'a> {
     {
         let closed = self.leaves.close(setup, next, sink)?;
         self.uppers.close_all(setup, closed, next, sink)
+    }
+
+    /// Ends the bucket within, which has this key and sequence, and takes its item, for which there
+    /// is room. Memory for the item is reserved first, so any failure leaves some page out.
+    #[tactic(auto, using(crate::proofs::PutsLemmas::nothing_put))]
+    pub(crate) fn end_inner<S: Sink>(
+        &mut self,
+        setup: &PageSetup,
+        key: &'a [u8],
+        sequence: u64,
+        inner: &mut BucketRuns<'a>,
+        next: &mut u64,
+        sink: &mut S,
+    ) -> Result<(), BulkFault>
+        requires outer { IsOpenBucket self.old }
+        requires inner { IsOpenBucket inner.old }
+        requires key { length key.now ≤ longest_key }
+        requires room { leaves_have_room setup.now.page_size (leaves_of self.old.leaves) (32 + length key.now) ≡ true }
+        requires next { next.old ≤ setup.now.limit }
+        ensures ends { EndsInner S.Sink sink.old sink.new setup.now self.old key.now sequence inner.old next.old next.new self.new result }
+        ensures open { OnOk result (IsOpenBucket self.new) }
+    {
+        self.reserve()?;
+        let root = inner.close_runs(setup, next, sink)?;
+        let stored = Stored::Root {
+            page: root,
+            sequence,
+        };
+        self.push_reserved(Held { key, stored }, ROOT_ITEM_LEN + key.len());
+        Ok(())
     }
 
     /// How many items its runs hold. Saturates at 2^64 - 1.

@@ -228,14 +228,16 @@ impl<'a> Pass<'a> {
         let Some(waiting) = self.waiting.pop() else {
             unreachable!()
         };
-        let around = waiting.around;
-        let inner = mem::replace(
-            &mut self.bucket,
-            BucketRuns::new(self.setup.alloc, waiting.bucket.uppers.limits),
-        );
-        let outer = waiting.end_inner(&self.setup, inner, &mut self.next, sink)?;
-        self.bucket = outer;
-        self.around = around;
+        self.around = waiting.around;
+        let mut inner = mem::replace(&mut self.bucket, waiting.bucket);
+        self.bucket.end_inner(
+            &self.setup,
+            waiting.key,
+            waiting.sequence,
+            &mut inner,
+            &mut self.next,
+            sink,
+        )?;
         self.count();
         Ok(())
     }

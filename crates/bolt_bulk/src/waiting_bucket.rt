@@ -1,10 +1,9 @@
 //! A bucket that waits while one within it is open, and one that may turn out to be inline.
 ghost use Rattle.std.specs.Prelude.{◌≤◌, IfOk, length};
-ghost use Rattle.bolt_bulk.specs.Private.{bucket_runs, EndsInner, Enters, IsOpenBucket, IsWaiting, longest_key};
+ghost use Rattle.bolt_bulk.specs.Private.{Enters, IsOpenBucket, IsWaiting, longest_key};
 
 use crate::bucket_runs::BucketRuns;
 use crate::fault::BulkFault;
-use crate::held::{Held, Stored};
 use crate::page_setup::PageSetup;
 use bolt_format::{ELEMENT_LEN, HEAD_LEN, Sink};
 
@@ -47,35 +46,6 @@ impl<'a> WaitingBucket<'a> {
             sequence: pending.sequence,
             around,
         })
-    }
-
-    /// Ends the bucket within, and takes its item. Memory for the item is reserved first, so any
-    /// failure leaves some page out.
-    #[tactic(auto, using(crate::proofs::PutsLemmas::nothing_put))]
-    pub(crate) fn end_inner<S: Sink>(
-        self,
-        setup: &PageSetup,
-        bucket: BucketRuns<'a>,
-        next: &mut u64,
-        sink: &mut S,
-    ) -> Result<BucketRuns<'a>, BulkFault>
-        requires open { IsOpenBucket bucket }
-        requires waits { IsWaiting setup.now.page_size self }
-        requires next { next.old ≤ setup.now.limit }
-        ensures ends { EndsInner S.Sink sink.old sink.new setup.now self.entry bucket.entry next.old next.new result }
-        ensures open { IfOk result (λ outer. IsOpenBucket outer) }
-    {
-        let mut outer = self.bucket;
-        outer.reserve()?;
-        let mut bucket = bucket;
-        let root = bucket.close_runs(setup, next, sink)?;
-        let stored = Stored::Root {
-            page: root,
-            sequence: self.sequence,
-        };
-        let key = self.key;
-        outer.push_reserved(Held { key, stored }, ROOT_ITEM_LEN + key.len());
-        Ok(outer)
     }
 }
 

@@ -90,8 +90,9 @@ module _ {S : Type 0} (sink : Ghosts S) (old new : S) (setup : PageSetup) where
     pub around_is : IfOk result (λ waiting. waiting.around ≡ around)
 
   -- the bucket within ends, and the one around it takes its item
-  pub record EndsInner (waiting : WaitingBucket) (inner : BucketRuns) (number next : ℕ) (result : Result BucketRuns BulkFault) : Type 0 where
+  pub record EndsInner {A : Type 0} (outer : BucketRuns) (key : List ℕ) (sequence : ℕ) (inner : BucketRuns) (number next : ℕ) (after : BucketRuns)
+      (result : Result A BulkFault) : Type 0 where
     pub closes : ClosesRuns inner number next result
-    pub runs : IfOk result (λ outer. (before : ℕ) → bucket_runs outer next
-        ≡ runs_push (bucket_runs waiting.bucket before) (root_element waiting.key.now (runs_end P (bucket_runs inner number)) waiting.sequence)
-        (root_size waiting.key.now) (bucket_end_next P (bucket_runs inner number)))
+    pub runs : OnOk result ((before : ℕ) → bucket_runs after next
+        ≡ runs_push (bucket_runs outer before) (root_element key (runs_end P (bucket_runs inner number)) sequence)
+        (root_size key) (bucket_end_next P (bucket_runs inner number)))

@@ -1,28 +1,28 @@
 -- The bucket around it takes the item of the one that ends.
 use Rattle.std.specs.Prelude.{⊤}
-use Rattle.std.specs.List.{AllByRecursion}
-use Rattle.std.proofs.Common.{List, Err, subst, arith, Ok}
-use Rattle.bolt_bulk.specs.{Private.IsWaiting, declared.waiting_bucket.WaitingBucket.WaitingBucket}
+use Rattle.std.proofs.Common.{Err, arith, Ok}
+use Rattle.bolt_bulk.specs.Private.{IsWaiting}
 use Rattle.bolt_bulk.proofs.{HeldPasses.waits_less, PassAt.leave_steps, PassAt.steps_none, PassAt.steps_stop, PassReady.last_of, PutsLemmas.writes_on}
 use Rattle.bolt_bulk.proofs.pass.Pass.end_open.Goals as goal
 
-pub end_inner-requires-clause-waits : goal.end_inner-requires-clause-waits
-end_inner-requires-clause-waits g c =
-    (last_of (IsWaiting c.args.self.now.setup.page_size) c.pop.new.self.items c.in-Some.waiting
-    (subst (λ (ws : List WaitingBucket). AllByRecursion (IsWaiting c.args.self.now.setup.page_size) ws) c.in-Some.ensures.items c.requires.ready.waiting)).0
+pub end_inner-requires : goal.end_inner-requires
+end_inner-requires g c =
+    let ready = c.requires.ready in
+    let waits = (last_of (IsWaiting c.args.self.now.setup.page_size) c.pop.new.self.items c.in-Some.waiting (rw c.in-Some.ensures.items at ready.waiting)).0 in
+    rw (c.replace-inner.ensures.after, c.replace-inner.ensures.value) (record { outer = waits.bucket; inner = ready.bucket; key = waits.key; room = waits.room; next = ready.next })
 
 pub returns-in_err-bucket_ends-clause-steps : goal.returns-in_err-bucket_ends-clause-steps
 returns-in_err-bucket_ends-clause-steps g c = λ wanted level levels put is. steps_stop {A = ⊤} {Mid = λ _. ⊤} c.from_residual.ensures.1 (steps_none (Err _) is c.in_err-bucket_ends.ensures.fault tt)
 
-pub returns-in_err-outer-clause-steps : goal.returns-in_err-outer-clause-steps
-returns-in_err-outer-clause-steps g c = λ wanted level levels put is.
-    steps_stop c.from_residual-in_err-outer.ensures.1 (leave_steps wanted c.args.self.now {counted = c.args.self.now} level c.in-Some.waiting c.args.self.now.bucket c.pop.new.self c.end_inner.new.next 0 c.bucket_ends.new.self (Err _)
-    is c.requires.pending c.in-Some.ensures.items c.in_ok-bucket_ends.ensures.ends (rw c.replace-inner.ensures.value at c.in_err-outer.ensures.ends.closes.writes) tt tt)
+pub returns-in_err-end_inner-clause-steps : goal.returns-in_err-end_inner-clause-steps
+returns-in_err-end_inner-clause-steps g c = λ wanted level levels put is.
+    steps_stop c.from_residual-in_err-end_inner.ensures.1 (leave_steps wanted c.args.self.now {counted = c.args.self.now} level c.in-Some.waiting c.args.self.now.bucket c.pop.new.self c.end_inner.new.next 0 c.bucket_ends.new.self (Err _)
+    is c.requires.pending c.in-Some.ensures.items c.in_ok-bucket_ends.ensures.ends (rw c.replace-inner.ensures.value at c.in_err-end_inner.ensures.ends.closes.writes) tt tt)
 
 pub returns-clause-steps : goal.returns-clause-steps
 returns-clause-steps g c = λ wanted level levels put is.
-    leave_steps wanted c.args.self.now level c.in-Some.waiting c.in_ok-outer.outer c.pop.new.self c.end_inner.new.next _ c.bucket_ends.new.self (Ok tt)
-    is c.requires.pending c.in-Some.ensures.items c.in_ok-bucket_ends.ensures.ends (writes_on (Ok tt) tt (rw c.replace-inner.ensures.value at c.in_ok-outer.ensures.ends.closes.writes)) (rw c.replace-inner.ensures.value at c.in_ok-outer.ensures.ends.runs) c.count.ensures.counts
+    leave_steps wanted c.args.self.now level c.in-Some.waiting c.end_inner.new.self c.pop.new.self c.end_inner.new.next _ c.bucket_ends.new.self (Ok tt)
+    is c.requires.pending c.in-Some.ensures.items c.in_ok-bucket_ends.ensures.ends (writes_on (Ok tt) tt (rw c.replace-inner.ensures.value at c.in_ok-end_inner.ensures.ends.closes.writes)) (rw (c.replace-inner.ensures.value, c.replace-inner.ensures.after) at c.in_ok-end_inner.ensures.ends.runs) c.count.ensures.counts
 
 pub count-requires : goal.count-requires
 count-requires g c =
