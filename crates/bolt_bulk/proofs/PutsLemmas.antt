@@ -3,11 +3,11 @@ use Rattle.std.proofs.Common.{◌≡◌, ◌≢◌, ℕ, ◌<◌, ◌≤◌, Lis
 use Rattle.std.proofs.KnownBytes.{Appends-nil}
 use Rattle.std.proofs.lemmas.List.{length-append}
 use Rattle.bolt_format.proofs.SinkLemmas.{AppendsPrefix-whole, AppendsProperPrefix-first, AppendsProperPrefix-second, more_some}
-use Rattle.bolt_format.proofs.WroteLemmas.{Wrote-halt, Wrote-none, Wrote-return_cut, Wrote-stop, Wrote-stop_cut, Wrote-stop_halted, Wrote-then, Wrote-unkept}
+use Rattle.bolt_format.proofs.WroteLemmas.{Wrote-cut, Wrote-halt, Wrote-none, Wrote-return_cut, Wrote-stop, Wrote-stop_cut, Wrote-stop_halted, Wrote-then, Wrote-unkept}
 use Rattle.bolt_format.proofs.WrittenHeaders.{length-header_bytes}
-use Rattle.bolt_format.specs.{Endings.whole, Endings.halted, Pages.PageView, Sinks.AppendsProperPrefix, Wrote.Wrote, declared.sink.Sink.Ghosts}
+use Rattle.bolt_format.specs.{Endings.cut, Endings.whole, Endings.halted, Pages.PageView, Sinks.AppendsProperPrefix, Wrote.Wrote, declared.sink.Sink.Ghosts}
 use Rattle.bolt_layout.specs.{Laid.Placed, Layout.placed_bytes, PageBytes.page_bytes}
-use Rattle.bolt_bulk.specs.{BulkEndings.fault_ending, Private.Closes, Private.Writes, declared.fault.BulkFault.BulkFault, declared.page_setup.PageSetup.PageSetup}
+use Rattle.bolt_bulk.specs.{BulkEndings.fault_ending, Private.Closes, Private.page_text, Private.Writes, declared.fault.BulkFault.BulkFault, declared.page_setup.PageSetup.PageSetup}
 use Rattle.std.proofs.lemmas.Result.{err_from_is_err_and}
 use Rattle.std.specs.Prelude.{IfErr, IsErrAnd}
 use Rattle.bolt_bulk.specs.declared.fault.BulkFault.TheVariants as fault
@@ -114,6 +114,24 @@ closes_early {sink} {old} {setup} {page} {pages} {result = result} same memory =
       short = rw is (proper_none (sink.taken old) _ (pages_some setup.page_size page pages));
       marked = rw is tt;
     }
+
+-- there is no number for a page,
+pub closes_above : {S A : Type 0} {sink : Ghosts S} {old : S} {setup : PageSetup} {page : Placed} {pages : List Placed} {mark next : ℕ} {e : BulkFault} {result : Result A BulkFault} → IsErrAnd result (λ f. f ≡ e) → e ≡ fault.TooLarge
+    → setup.limit < mark → Closes sink old old setup (page ∷ pages) mark next result
+closes_above {sink} {old} {setup} {page} {pages} {result = result} same large above =
+    let (_, is, e_is) = err_from_is_err_and result same in
+    record {
+      writes = rw (is, e_is, large) (record { pages = Wrote-halt old _; within = tt; large = λ e. above });
+      short = rw is (proper_none (sink.taken old) _ (pages_some setup.page_size page pages));
+      marked = rw is tt;
+    }
+
+-- or its sink fails
+pub closes_cut : {S A : Type 0} {sink : Ghosts S} {old new : S} {setup : PageSetup} {page : Placed} {mark next : ℕ} {result : Result A BulkFault} → IsErrAnd result (λ f. f ≡ fault.Sink)
+    → Wrote sink old new (page_text setup page) cut → Closes sink old new setup (page ∷ []) mark next result
+closes_cut {result = result} same one =
+    let (_, is, e_is) = err_from_is_err_and result same in
+    record { writes = rw (is, e_is) (record { pages = Wrote-cut one; within = tt; large = λ e. absurd cc }); short = rw is one.appends; marked = rw is tt }
 
 -- nothing is written after these pages
 pub writes_on : {S A B : Type 0} {sink : Ghosts S} {old new : S} {setup : PageSetup} {row : List Placed} {mark next : ℕ} {x : A} (result : Result B BulkFault) → IfErr result (λ e. e ≡ fault.Memory)
