@@ -28,16 +28,13 @@ page_length page_size number view = grind (arith, length-append, length-header_b
 none_length : (xs : List ℕ) → xs ≡ [] → length xs ≡ 0
 none_length xs e = ap (λ (ys : List ℕ). length ys) e
 
-pub page_some : (page_size number : ℕ) (view : PageView) → page_bytes page_size number view ≢ []
+page_some : (page_size number : ℕ) (view : PageView) → page_bytes page_size number view ≢ []
 page_some page_size number view e =
     let l = page_length page_size number view in
     let n = none_length (page_bytes page_size number view) e in absurd (omega arith)
 
 pub pages_some : (page_size : ℕ) (page : Placed) (pages : List Placed) → placed_bytes page_size (page ∷ pages) ≢ []
 pages_some page_size page pages = more_some (page_bytes page_size page.number page.view) (placed_bytes page_size pages) (page_some page_size page.number page.view)
-
-pub one_some : (page_size number : ℕ) (view : PageView) → page_bytes page_size number view ++ [] ≢ []
-one_some page_size number view = more_some (page_bytes page_size number view) [] (page_some page_size number view)
 
 -- the bytes of two rows of pages are those of the first and then those of the second
 pub bytes-append : (page_size : ℕ) (xs ys : List Placed) → placed_bytes page_size (xs ++ ys) ≡ placed_bytes page_size xs ++ placed_bytes page_size ys
@@ -65,11 +62,6 @@ pub Wrote-sound : {S : Type 0} {sink : Ghosts S} {old new : S} {text : List ℕ}
 Wrote-sound fault.Memory a other = a.failures
 Wrote-sound fault.TooLarge a other = a.failures
 Wrote-sound fault.Sink a other = absurd (other refl)
-
--- what always holds, holds after an error
-pub after_error : {A E : Type 0} (P : Type 0) (r : Result A E) → P → OnErr r P
-after_error P (Ok x) p = tt
-after_error P (Err e) p = p
 
 -- if the second call leaves something out, so do both
 pub short_then : {S A E : Type 0} {sink : Ghosts S} (old mid new : S) (first second : List ℕ) (result : Result A E)
@@ -145,12 +137,6 @@ short_stop {sink} {old} {mid} {new} {text} {piece} {left} rest same before one =
     proper_same (sink.taken old) (sink.taken new) (before.front ++ left) text (sym before.parts)
     (AppendsProperPrefix-second (sink.taken old) (sink.taken mid) (sink.taken new) before.front left before.wrote.appends
     (proper_same (sink.taken mid) (sink.taken new) (piece ++ rest) left (sym same) (AppendsProperPrefix-first (sink.taken mid) (sink.taken new) piece rest one)))
-
--- for the search: a call that gives up before it puts a page
-pub ruleset nothing_put = (after_error, proper_none, page_some, one_some, Wrote-halt)
-
--- a fault is passed on
-pub ruleset stops = (Wrote-stops, AppendsProperPrefix-first)
 
 -- one text after another
 pub ruleset puts = (Wrote-then, Wrote-return_cut, Wrote-stop_cut, Wrote-none, Wrote-unkept)

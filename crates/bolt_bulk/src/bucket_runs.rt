@@ -232,7 +232,6 @@ impl<'a> BucketRuns<'a> {
     }
 
     /// Closes all runs, up to the root page, and returns the number of that page.
-    #[tactic(auto, using(crate::proofs::PutsLemmas::stops))]
     pub(crate) fn close_runs<S: Sink>(
         &mut self,
         setup: &PageSetup,
@@ -249,7 +248,6 @@ impl<'a> BucketRuns<'a> {
 
     /// Ends the bucket within, which has this key and sequence, and takes its item, for which there
     /// is room. Memory for the item is reserved first, so any failure leaves some page out.
-    #[tactic(auto, using(crate::proofs::PutsLemmas::nothing_put))]
     pub(crate) fn end_inner<S: Sink>(
         &mut self,
         setup: &PageSetup,
