@@ -1,9 +1,9 @@
 -- A bucket's open runs, one after another: the climb over them, and the end of the bucket, at which each closes.
-use Rattle.std.proofs.Common.{◌≡◌, ◌∙◌, ℕ, suc, ◌+◌, ◌<◌, ◌≤◌, true, false, List, [], ◌∷◌, ◌++◌, length, map, take, drop, get_or, set, if◌then◌else◌, zero, add-one, Option, Some, None, Err, option_map, refl, sym, ap, subst, arith, append_assoc}
-use Rattle.std.proofs.lemmas.List.{length-map, drop_more, drop-set-lt, set_split, take_more_set}
+use Rattle.std.proofs.Common.{◌≡◌, ◌∙◌, ℕ, suc, ◌+◌, ◌<◌, ◌≤◌, true, false, List, [], ◌∷◌, ◌++◌, length, map, take, drop, get_or, set, if◌then◌else◌, zero, add-one, Option, Some, None, Ok, Err, option_map, refl, sym, ap, subst, arith, append_assoc}
+use Rattle.std.proofs.lemmas.List.{length-map, drop_all, drop_more, drop-set-lt, set_split, take_all, take_more_set}
 use Rattle.std.proofs.Math.ListN.{get_or-map}
 use Rattle.std.proofs.lemmas.Option.{none-some, same_Some}
-use Rattle.std.specs.List.{AllByRecursion}
+use Rattle.std.specs.{List.AllByRecursion, Prelude.⊤}
 use Rattle.bolt_format.specs.{ElementPlaces.branch_view, Elements.BranchElement, declared.element.Branch.Branch, Wrote.Wrote}
 use Rattle.bolt_format.specs.{Endings.whole, declared.sink.Sink.Ghosts}
 use Rattle.bolt_bulk.specs.Private.{element_up, IsStanding, key_size, no_run, one_closed, run_kept, run_page, run_push, run_stays, run_view, runs_above, runs_climb, runs_close_put, runs_end_next, runs_next, runs_put, runs_root, RunView, taking_next, taking_puts, taking_up, Closes, Writes}
@@ -69,6 +69,20 @@ module _ {S : Type 0} {sink : Ghosts S} {setup : PageSetup} {new : Option ℕ} {
     within = tt;
     large = λ is. let large = one.large is in grind (arith, next_grows);
   }
+
+-- no run is left: a new one takes the element
+pub climb_over : {S : Type 0} {sink : Ghosts S} {setup : PageSetup} {new : Option ℕ} {key : List ℕ} {e0 e : BranchElement} {n0 next i : ℕ} {runs0 : List RunView} {old later : S} (runs : List BranchRun)
+    → Climbing setup new key e0 n0 runs0 sink old later (runs_above runs) i e next → length runs ≤ i → next ≤ setup.limit
+    → Writes {A = ⊤} sink old later setup (runs_put setup.page_size key e0 n0 runs0) (runs_next setup.page_size key e0 n0 runs0) next (Ok tt)
+    × (runs_climb setup.page_size new key e0 n0 runs0 ≡ runs_above runs ++ run_push (no_run new 0) e ∷ []) × (next ≡ runs_next setup.page_size key e0 n0 runs0)
+climb_over {setup = setup} {key = key} {e = e} {next = next} {i = i} runs c h within =
+    let l = length-map runs run_view in
+    let none : drop i (runs_above runs) ≡ [] = drop_all i (runs_above runs) (omega arith) in
+    let whole : take i (runs_above runs) ≡ runs_above runs = take_all i (runs_above runs) (omega arith) in (
+      record { pages = front_whole c.front (ap (λ (rs : List RunView). placed_bytes setup.page_size (runs_put setup.page_size key e next rs)) none); within = within; large = tt },
+      rw (none, whole) at c.climbs,
+      sym (rw none at c.nexts),
+    )
 
 -- the same of the runs that the code keeps
 standing_at : (runs : List BranchRun) (i : ℕ) (run : BranchRun) → i < length runs → run ≡ get_or runs i run → AllByRecursion IsStanding (map run_view runs) → IsStanding (run_view run)

@@ -1,11 +1,12 @@
 -- Each run that closes is one step on; a run that stays, or the first new one, ends the climb.
-use Rattle.std.proofs.Common.{◌≡◌, ◌∙◌, ◌+◌, arith, ap, refl, length}
-use Rattle.std.proofs.lemmas.List.{map-set, length-set}
+use Rattle.std.proofs.Common.{Err, ◌≡◌, ◌∙◌, ◌+◌, arith, ap, refl, length}
+use Rattle.std.proofs.lemmas.List.{map-append, map-set, length-map, length-set}
 use Rattle.std.proofs.lemmas.Result.{err_from_is_err_and}
 use Rattle.bolt_format.specs.{ElementPlaces.branch_view, Elements.BranchElement}
 use Rattle.bolt_layout.specs.{Levels.overflow_of, Limits.one_less}
 use Rattle.bolt_bulk.specs.Private.{key_size, no_run, one_closed, run_kept, run_push, run_view}
-use Rattle.bolt_bulk.proofs.ClimbLemmas.{climb_closes, climb_stays, climb_stops, no_room_by, room_by, run_at, standing_set, up_key}
+use Rattle.bolt_bulk.proofs.ClimbLemmas.{climb_closes, climb_over, climb_stays, climb_stops, no_room_by, room_by, run_at, standing_set, up_key}
+use Rattle.bolt_bulk.proofs.PutsLemmas.{writes_on}
 use Rattle.bolt_bulk.proofs.upper_runs.UpperRuns.climb.Goals as goal
 
 pub take_page-requires-clause-standing : goal.take_page-requires-clause-standing
@@ -41,3 +42,20 @@ loop-i-preserved g c =
     let k = up_key e c.loop-i.next old here.standing c.loop-i.invariant.short in
     let kk = ap (λ (x : BranchElement). length x.key) named in
     grind (arith, standing_set, length-set)
+
+pub returns-in_err-push_page-clause-climbs : goal.returns-in_err-push_page-clause-climbs
+returns-in_err-push_page-clause-climbs g c =
+    let over = climb_over c.loop-i.self.runs.items c.loop-i.invariant.climbs (omega arith) c.loop-i.invariant.within in
+    let p = err_from_is_err_and c.from_residual-in_err-push_page.result c.from_residual-in_err-push_page.ensures.1 in
+    rw (p.1, p.2) (record { writes = writes_on (Err _) c.in_err-push_page.ensures.fault over.0; runs = tt; limits = tt; marked = tt })
+
+pub returns-in_err-push-clause-climbs : goal.returns-in_err-push-clause-climbs
+returns-in_err-push-clause-climbs g c =
+    let over = climb_over c.loop-i.self.runs.items c.loop-i.invariant.climbs (omega arith) c.loop-i.invariant.within in
+    let p = err_from_is_err_and c.from_residual-in_err-push.result c.from_residual-in_err-push.ensures.1 in
+    rw (p.1, p.2) (record { writes = writes_on (Err _) refl over.0; runs = tt; limits = tt; marked = tt })
+
+pub returns-clause-climbs : goal.returns-clause-climbs
+returns-clause-climbs g c =
+    let over = climb_over c.loop-i.self.runs.items c.loop-i.invariant.climbs (omega arith) c.loop-i.invariant.within in
+    record { writes = over.0; runs = grind (arith, map-append, length-map); limits = c.loop-i.invariant.limits; marked = over.2 }
