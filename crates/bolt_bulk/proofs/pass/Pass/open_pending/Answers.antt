@@ -1,6 +1,7 @@
 -- The bucket is opened with its entries so far, and the one around it waits with room for it.
 use Rattle.std.specs.Prelude.{⊤}
-use Rattle.std.proofs.Common.{rules, ◌≡◌, ◌++◌, ◌∷◌, [], Ok, Err, refl, sym, arith}
+use Rattle.std.proofs.Common.{Ok, Err, refl, sym}
+use Rattle.bolt_bulk.specs.Private.{IsWaiting}
 use Rattle.bolt_bulk.specs.declared.fault.BulkFault.TheVariants as fault
 use Rattle.bolt_bulk.proofs.{HeldPasses.more_around, HeldPasses.waits_more, PassAt.open_steps, PassAt.open_stops, PassAt.steps_none, PassAt.steps_stop}
 use Rattle.bolt_layout.proofs.ListLemmas.{all_append}
@@ -25,10 +26,18 @@ returns-in_err-push-clause-steps g c = λ wanted left levels put is rooted.
 
 pub returns-clause-steps : goal.returns-clause-steps
 returns-clause-steps g c = λ wanted left levels put is rooted.
-    let items : c.push.new.self.items ≡ c.args.self.now.waiting.items ++ c.in_ok-waiting.waiting ∷ [] = search rules in
     let values = rw (c.as_slice.ensures.value, sym c.replace-outer.ensures.after) at (c.in_ok-inner.ensures.runs c.enter.new.next) in
     open_steps wanted c.args.self.now c.in-Some.pending c.replace-outer.new.dest c.in_ok-waiting.waiting c.push.new.self c.clear.new.self _ c.enter.new.next _ _
-    is c.in-Some.is c.requires.pending rooted (rw c.replace-outer.ensures.value at c.in_ok-waiting.ensures.enters) items values c.saturating_add-self.ensures c.count.ensures.counts
+    is c.in-Some.is c.requires.pending rooted (rw c.replace-outer.ensures.value at c.in_ok-waiting.ensures.enters) c.in_ok-push.ensures.items values c.saturating_add-self.ensures c.count.ensures.counts
 
 pub count-requires : goal.count-requires
-count-requires g c = grind (arith, all_append, waits_more, more_around)
+count-requires g c =
+    let items = c.in_ok-push.ensures.items in
+    record {
+      bucket = rw c.replace-outer.ensures.after c.in_ok-inner.ensures.open;
+      next = c.in_ok-waiting.ensures.enters.writes.within;
+      waiting = rw items (all_append (IsWaiting c.args.self.now.setup.page_size) _ _ c.requires.waiting (c.in_ok-waiting.ensures.waits, tt));
+      pending = c.clear.ensures.items;
+      counted = waits_more _ _ c.in_ok-waiting.waiting _ c.requires.counted c.in_ok-waiting.ensures.enters.around_is c.requires.around items;
+      around = more_around _ _ _ _ _ c.in_ok-waiting.waiting c.requires.around c.held.ensures c.saturating_add-around.ensures items;
+    }
