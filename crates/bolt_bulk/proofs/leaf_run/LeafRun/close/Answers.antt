@@ -11,7 +11,4 @@ pub returns-in_err-put_leaf_page-clause-closes : goal.returns-in_err-put_leaf_pa
 returns-in_err-put_leaf_page-clause-closes g c = record { closes = closes_cut c.from_residual-in_err-put_leaf_page.ensures.1 c.in_err-put_leaf_page.ensures; up = search rules }
 
 pub returns-clause-closes : goal.returns-clause-closes
-returns-clause-closes g c = record {
-  closes = record { writes = record { pages = c.in_ok-put_leaf_page.ensures; within = c.in_ok-after.ensures.within; large = tt }; short = tt; marked = c.in_ok-after.ensures.number };
-  up = grind (arith, common_steps);
-}
+returns-clause-closes g c = record { closes = record { writes = record { pages = c.in_ok-put_leaf_page.ensures; within = c.in_ok-after.ensures.within; large = tt }; short = tt; marked = c.in_ok-after.ensures.number }; up = grind (arith, common_steps) }
