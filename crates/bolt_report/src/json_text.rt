@@ -9,7 +9,7 @@ ghost use Rattle.json.specs.{Json.array, Token.key, Tree.json_tokens, Tree.membe
 use crate::hexadecimal::encode_digits;
 use bolt_tree::{Item, NoMemory};
 use json::Writer;
-use std::alloc::Global;
+use std::alloc::{AllocError, Global};
 use std::{mem, str};
 
 /// JSON texts, gathered one at a time in buffers that are kept from text to text.
@@ -64,30 +64,29 @@ impl JsonText {
 }
 
 /// Writes a key or a value.
-fn write_item(writer: &mut Writer, bytes: &[u8], digits: &mut Vec<u8>) -> Result<(), NoMemory>
+fn write_item(writer: &mut Writer, bytes: &[u8], digits: &mut Vec<u8>) -> Result<(), AllocError>
     ensures before { writer.new.before ≡ writer.old.before }
     ensures tokens { OnOk result (writer.new.tokens ≡ writer.old.tokens ++ json_tokens (item_json bytes.now)) }
 {
     match str::from_utf8(bytes) {
-        Ok(text) => Ok(writer.string(text)?),
+        Ok(text) => writer.string(text),
         Err(_) => write_digits(writer, bytes, digits),
     }
 }
 
 /// Writes an object with the hexadecimal digits of a key or a value.
-fn write_digits(writer: &mut Writer, bytes: &[u8], digits: &mut Vec<u8>) -> Result<(), NoMemory>
+fn write_digits(writer: &mut Writer, bytes: &[u8], digits: &mut Vec<u8>) -> Result<(), AllocError>
     ensures before { writer.new.before ≡ writer.old.before }
     ensures tokens { OnOk result (writer.new.tokens ≡ writer.old.tokens ++ digits_tokens bytes.now) }
 {
     writer.begin_object()?;
     writer.key("hex")?;
     writer.string(hex_digits(bytes, digits)?)?;
-    writer.end_object()?;
-    Ok(())
+    writer.end_object()
 }
 
 /// The hexadecimal digits of bytes, written into a buffer.
-fn hex_digits<'a>(bytes: &[u8], buffer: &'a mut Vec<u8>) -> Result<&'a str, NoMemory>
+fn hex_digits<'a>(bytes: &[u8], buffer: &'a mut Vec<u8>) -> Result<&'a str, AllocError>
     ensures { IfOk result (λ text. text.now ≡ encode_lower bytes.now) }
 {
     buffer.resize(2 * bytes.len(), 0)?;
@@ -102,7 +101,7 @@ fn write_member(
     path: &[&[u8]],
     item: &Item<'_>,
     digits: &mut Vec<u8>,
-) -> Result<(), NoMemory>
+) -> Result<(), AllocError>
     ensures before { writer.new.before ≡ writer.old.before }
     ensures tokens { OnOk result (writer.new.tokens ≡ writer.old.tokens ++ json_tokens (member_json item_json (path_of path.now, item_view item.now))) }
 {
@@ -113,18 +112,17 @@ fn write_member(
 }
 
 /// Writes the parts of a path as an array.
-fn write_path(writer: &mut Writer, path: &[&[u8]], digits: &mut Vec<u8>) -> Result<(), NoMemory>
+fn write_path(writer: &mut Writer, path: &[&[u8]], digits: &mut Vec<u8>) -> Result<(), AllocError>
     ensures before { writer.new.before ≡ writer.old.before }
     ensures tokens { OnOk result (writer.new.tokens ≡ writer.old.tokens ++ json_tokens (array (parts_json item_json (path_of path.now)))) }
 {
     writer.begin_array()?;
     write_parts(writer, path, digits)?;
-    writer.end_array()?;
-    Ok(())
+    writer.end_array()
 }
 
 /// Writes the parts of a path.
-fn write_parts(writer: &mut Writer, path: &[&[u8]], digits: &mut Vec<u8>) -> Result<(), NoMemory>
+fn write_parts(writer: &mut Writer, path: &[&[u8]], digits: &mut Vec<u8>) -> Result<(), AllocError>
     ensures before { writer.new.before ≡ writer.old.before }
     ensures tokens { OnOk result (writer.new.tokens ≡ writer.old.tokens ++ flat_map (λ part. json_tokens (item_json part.now)) path.now) }
 {
@@ -135,7 +133,7 @@ fn write_parts(writer: &mut Writer, path: &[&[u8]], digits: &mut Vec<u8>) -> Res
 }
 
 /// Writes the value of a member, or the sequence of its bucket, and the end of the object.
-fn write_end(writer: &mut Writer, item: &Item<'_>, digits: &mut Vec<u8>) -> Result<(), NoMemory>
+fn write_end(writer: &mut Writer, item: &Item<'_>, digits: &mut Vec<u8>) -> Result<(), AllocError>
     ensures before { writer.new.before ≡ writer.old.before }
     ensures tokens { OnOk result (writer.new.tokens ≡ writer.old.tokens ++ members_tokens (end_json item_json (item_view item.now))) }
 {
@@ -149,6 +147,5 @@ fn write_end(writer: &mut Writer, item: &Item<'_>, digits: &mut Vec<u8>) -> Resu
             writer.u64(*sequence)?;
         }
     }
-    writer.end_object()?;
-    Ok(())
+    writer.end_object()
 }

@@ -8,7 +8,7 @@ ghost use Rattle.bolt_report.specs.{ReportEndings.report_ending, Lines.column, P
 use crate::ReportFault;
 use crate::pieces::{Piece, put, put_pieces};
 use bolt_check::{Checked, Role, Roles, roles};
-use bolt_format::{Sink, SinkFault, free_ids, known};
+use bolt_format::{Sink, SinkFault, free_ids_at, known};
 use std::alloc::Global;
 
 /// Writes the table of all pages of a file, as `pages_table` does, after it has found their roles.
@@ -127,9 +127,8 @@ fn free_count(checked: &Checked<'_>, id: u64) -> u64
     requires { ∥ HasRole (bytes_of checked.now) (meta_of checked.now) id Role.Freelist ∥₁ }
     ensures { result ≡ length (free_ids_at (bytes_of checked.now) (meta_of checked.now) id) }
 {
-    match free_ids(checked.bytes(), &checked.meta()) {
-        Ok(Some(ids)) => ids.len() as u64,
-        Ok(None) => unreachable!(),
+    match free_ids_at(checked.bytes(), &checked.meta(), id) {
+        Ok(ids) => ids.len() as u64,
         Err(_) => unreachable!(),
     }
 }

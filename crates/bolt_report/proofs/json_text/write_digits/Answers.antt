@@ -3,4 +3,4 @@ use Rattle.bolt_report.proofs.json_text.write_digits.Goals as goal
 
 pub returns-clause-tokens : goal.returns-clause-tokens
 returns-clause-tokens c =
-    rw (c.in_ok-end_object.ensures.ok, c.in_ok-string.ensures.ok, c.in_ok-key.ensures.ok, c.in_ok-begin_object.ensures.ok, c.in_ok-hex_digits.ensures) (simp append_assoc)
+    simp (c.in_ok-string.ensures.ok, c.in_ok-key.ensures.ok, c.in_ok-begin_object.ensures.ok, c.in_ok-hex_digits.ensures, append_assoc) at c.end_object.ensures.ok

@@ -4,6 +4,6 @@ use Rattle.bolt_report.proofs.json_text.write_end.Goals.{in-Bucket+in_ok-key-in-
 
 pub returns-clause-tokens : goal.returns-clause-tokens
 returns-clause-tokens c = elim c.match-item.branch [
-  | in-Value+in_ok-key-in-Value+in_ok-write_item-in-Value w ↦ rw (c.in_ok-end_object.ensures.ok, w.writer-is, w.in_ok-write_item-in-Value.ensures.tokens, w.in_ok-key-in-Value.ensures.ok, w.in-Value.is) (simp append_assoc)
-  | in-Bucket+in_ok-key-in-Bucket+in_ok-u64-in-Bucket w ↦ rw (c.in_ok-end_object.ensures.ok, w.writer-is, w.in_ok-u64-in-Bucket.ensures.ok, w.in_ok-key-in-Bucket.ensures.ok, w.in-Bucket.is) (simp append_assoc)
+  | in-Value+in_ok-key-in-Value+in_ok-write_item-in-Value w ↦ rw w.in-Value.is (simp (w.writer-is, w.in_ok-write_item-in-Value.ensures.tokens, w.in_ok-key-in-Value.ensures.ok, append_assoc) at c.end_object.ensures.ok)
+  | in-Bucket+in_ok-key-in-Bucket+in_ok-u64-in-Bucket w ↦ rw w.in-Bucket.is (simp (w.writer-is, w.in_ok-u64-in-Bucket.ensures.ok, w.in_ok-key-in-Bucket.ensures.ok, append_assoc) at c.end_object.ensures.ok)
 ]

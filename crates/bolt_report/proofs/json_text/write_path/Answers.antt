@@ -5,4 +5,4 @@ use Rattle.bolt_report.proofs.json_text.write_path.Goals as goal
 
 pub returns-clause-tokens : goal.returns-clause-tokens
 returns-clause-tokens c =
-    rw (c.in_ok-end_array.ensures.ok, c.in_ok-write_parts.ensures.tokens, c.in_ok-begin_array.ensures.ok, parts_tokens c.args.path.now) (simp append_assoc)
+    rw (parts_tokens c.args.path.now) (simp (c.in_ok-write_parts.ensures.tokens, c.in_ok-begin_array.ensures.ok, append_assoc) at c.end_array.ensures.ok)
