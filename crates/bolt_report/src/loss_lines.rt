@@ -136,8 +136,7 @@ pub fn counted_lost_text<S: Sink>(
     requires leaves { All IsFoundLeaf found.now }
     ensures { Wrote S.Sink sink.old sink.new (counted_lost_text earlier (lost_view lost.entry) (map found_view found.now)) (ending result) }
 {
-    put_lost(lost, sink)?;
-    put_all_found(found, sink)?;
+    lost_text(lost, found, sink)?;
     put_count(earlier + count_of(lost), sink)
 }
 

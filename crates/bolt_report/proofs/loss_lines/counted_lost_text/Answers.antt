@@ -1,12 +1,16 @@
--- The lines of the losses, those of the found pages, and that of the number.
-use Rattle.bolt_report.proofs.Words.{Wrote-return, Wrote-then}
+-- The lines of the losses and of the found pages, and that of the number.
+use Rattle.std.proofs.Common.{◌≡◌, ◌+◌, ◌++◌, List, ℕ, append_assoc, map}
+use Rattle.bolt_recover.specs.{Losses.LostView, ShownLosses.lost_view}
+use Rattle.bolt_report.proofs.Words.{found_view, Wrote-return, Wrote-same, Wrote-then}
+use Rattle.bolt_report.specs.{FaultWords.count_line, FoundLines.FoundView, FoundLines.counted_lost_text, FoundLines.found_text, FoundLines.lost_text, LossLines.lost_count, LossLines.lost_lines}
 use Rattle.bolt_report.proofs.loss_lines.counted_lost_text.Goals as goal
 
-pub returns-in_err-put_lost : goal.returns-in_err-put_lost
-returns-in_err-put_lost g c = Wrote-return _ _ c.in_err-put_lost.ensures c.from_residual.ensures.0
+counted : (earlier : ℕ) (lost : LostView) (found : List FoundView) → lost_text lost found ++ count_line (earlier + lost_count lost) ≡ counted_lost_text earlier lost found
+counted earlier lost found = append_assoc (lost_lines lost) (found_text found) (count_line (earlier + lost_count lost))
 
-pub returns-in_err-put_all_found : goal.returns-in_err-put_all_found
-returns-in_err-put_all_found g c = Wrote-then c.in_ok-put_lost.ensures (Wrote-return _ _ c.in_err-put_all_found.ensures c.from_residual-in_err-put_all_found.ensures.0)
+pub returns-in_err-lost_text : goal.returns-in_err-lost_text
+returns-in_err-lost_text g c = Wrote-same (counted c.args.earlier (lost_view c.args.lost) (map found_view c.args.found.now)) (Wrote-return _ _ c.in_err-lost_text.ensures c.from_residual.ensures.0)
 
 pub returns : goal.returns
-returns g c = Wrote-then c.in_ok-put_lost.ensures (Wrote-then c.in_ok-put_all_found.ensures (rw c.count_of.ensures at c.put_count.ensures))
+returns g c =
+    Wrote-same (counted c.args.earlier (lost_view c.args.lost) (map found_view c.args.found.now)) (Wrote-then c.in_ok-lost_text.ensures (rw c.count_of.ensures at c.put_count.ensures))
