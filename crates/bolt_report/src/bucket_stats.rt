@@ -65,8 +65,10 @@ fn paged_stats(alloc: Global, checked: &Checked<'_>, root: u64) -> Result<Stats,
     ensures stats { IfOk result (λ stats. (f : Figure) → figure f stats ≡ capped (bucket_figure f + figure_in checked.now f (root ∷ []))) }
     ensures depth { IfOk result (λ stats. stats.depth ≡ capped (depth_of (bytes_of checked.now) (meta_of checked.now) root)) }
 {
-    let mut total = Stats::default();
-    total.buckets = 1;
+    let mut total = Stats {
+        buckets: 1,
+        ..Stats::default()
+    };
     let mut buckets = Vec::new(alloc);
     let mut pages = Vec::new(alloc);
     let mut roots = Vec::new(alloc);
@@ -74,9 +76,14 @@ fn paged_stats(alloc: Global, checked: &Checked<'_>, root: u64) -> Result<Stats,
     'buckets: while let Some(bucket) = buckets.pop() {
         let read = read_bucket(checked, bucket.root, &mut pages, &mut roots)?;
         let above = bucket.above.saturating_add(read.height);
-        let mut stats = read.stats;
-        stats.depth = above.saturating_add(read.inline_depth);
-        total = add(total, stats);
+        let depth = above.saturating_add(read.inline_depth);
+        total = add(
+            total,
+            Stats {
+                depth,
+                ..read.stats
+            },
+        );
         add_buckets(&mut roots, above, &mut buckets)?;
     }
     Ok(total)

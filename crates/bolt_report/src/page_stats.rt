@@ -37,12 +37,14 @@ fn inline_used(page: &Inline<'_>) -> u64
 pub(crate) fn inline_stats(page: &Inline<'_>) -> Stats
     ensures { (f : Figure) → figure f result ≡ capped (inline_figure f (shown_inline page.now)) }
 {
-    let mut stats = Stats::default();
-    stats.buckets = 1;
-    stats.inline_buckets = 1;
-    stats.inline_used = inline_used(page);
-    stats.keys = u64::from(page.count());
-    stats
+    let used = inline_used(page);
+    Stats {
+        buckets: 1,
+        inline_buckets: 1,
+        inline_used: used,
+        keys: u64::from(page.count()),
+        ..Stats::default()
+    }
 }
 
 /// What a leaf element adds besides its bytes: the figures of its bucket, if it is one.
@@ -56,9 +58,10 @@ fn element_stats(leaf: &Leaf<'_>) -> Stats
     if head(leaf.value).is_inline() {
         return inline_stats(&inline(leaf.value));
     }
-    let mut stats = Stats::default();
-    stats.buckets = 1;
-    stats
+    Stats {
+        buckets: 1,
+        ..Stats::default()
+    }
 }
 
 /// The bytes of a page's span.
@@ -88,12 +91,14 @@ fn branch_stats(page: &Page<'_>, page_size: u32) -> Stats
     requires { (shown page.now).kind ≡ Kind.Branch }
     ensures { (f : Figure) → figure f result ≡ capped (branch_figure f page_size (shown page.now)) }
 {
-    let mut stats = Stats::default();
-    stats.branch_pages = 1;
-    stats.branch_overflow = u64::from(page.overflow());
-    stats.branch_allocated = allocated(page, page_size);
-    stats.branch_used = branch_used(page);
-    stats
+    let used = branch_used(page);
+    Stats {
+        branch_pages: 1,
+        branch_overflow: u64::from(page.overflow()),
+        branch_allocated: allocated(page, page_size),
+        branch_used: used,
+        ..Stats::default()
+    }
 }
 
 /// The bytes used of a leaf: its header and its elements.
@@ -114,13 +119,15 @@ fn own_stats(page: &Page<'_>, page_size: u32) -> Stats
     requires { (shown page.now).kind ≡ Kind.Leaf }
     ensures { (f : Figure) → figure f result ≡ capped (leaf_figure f page_size (shown page.now)) }
 {
-    let mut stats = Stats::default();
-    stats.keys = u64::from(page.count());
-    stats.leaf_pages = 1;
-    stats.leaf_overflow = u64::from(page.overflow());
-    stats.leaf_allocated = allocated(page, page_size);
-    stats.leaf_used = leaf_used(page);
-    stats
+    let used = leaf_used(page);
+    Stats {
+        keys: u64::from(page.count()),
+        leaf_pages: 1,
+        leaf_overflow: u64::from(page.overflow()),
+        leaf_allocated: allocated(page, page_size),
+        leaf_used: used,
+        ..Stats::default()
+    }
 }
 
 /// What the elements of a leaf add.

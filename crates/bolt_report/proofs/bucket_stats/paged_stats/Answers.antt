@@ -12,10 +12,10 @@ buckets-init c =
       pages = c.new-pages.ensures.items;
       roots = c.new-roots.ensures.items;
       good = rw items c.requires;
-      fits = λ f. let z = first_figure f c.default-total.result c.default-total.ensures in let few = first_fits f in omega (arith, z, few);
-      stats = λ f. let z = first_figure f c.default-total.result c.default-total.ensures in rw items (omega (arith, z));
-      depth_fits = let z = zero_depth c.default-total.result c.default-total.ensures in omega (arith, z);
-      depth = let z = zero_depth c.default-total.result c.default-total.ensures in rw items (omega (arith, z));
+      fits = λ f. let z = first_figure f c.default.result c.default.ensures in let few = first_fits f in omega (arith, z, few);
+      stats = λ f. let z = first_figure f c.default.result c.default.ensures in rw items (omega (arith, z));
+      depth_fits = let z = zero_depth c.default.result c.default.ensures in omega (arith, z);
+      depth = let z = zero_depth c.default.result c.default.ensures in rw items (omega (arith, z));
     }
 
 pub read_bucket-requires-clause-good : goal.read_bucket-requires-clause-good
@@ -41,18 +41,18 @@ buckets-preserved c =
       stats = λ f.
           let own : ℕ → ℕ = own_figure file meta f in
           let added = ap (figure f) c.add-total.ensures ∙ figure_add f c.buckets.total _ in
-          let same = deepened f c.in_ok-read.read.stats c.saturating_add.result in
+          let same = deepened f c.in_ok-read.read.stats c.saturating_add-depth.result in
           let read = c.in_ok-read.ensures.stats f in
           let sums = c.in_ok-add_buckets.ensures.sums (weight (node_at file meta) own meta.high_water) in
           let before = total_popped file meta own (roots_of c.buckets.buckets.items) rest c.in-Some.bucket.root taken in
           let whole = c.buckets.invariant.stats f in
           omega (arith, added, same, read, sums, before, whole);
-      depth_fits = let added = ap (λ (s : Stats). s.depth) c.add-total.ensures in let end = c.saturating_add.ensures in let before = c.buckets.invariant.depth_fits in omega (arith, added, end, before);
+      depth_fits = let added = ap (λ (s : Stats). s.depth) c.add-total.ensures in let end = c.saturating_add-depth.ensures in let before = c.buckets.invariant.depth_fits in omega (arith, added, end, before);
       depth =
           let added = ap (λ (s : Stats). s.depth) c.add-total.ensures in
           let step = read_end file meta c.buckets.buckets.items c.pop.new.self.items c.add_buckets.new.buckets.items c.in-Some.bucket found c.in_ok-read.read.height
-          c.saturating_add-above.result c.in_ok-read.read.inline_depth c.saturating_add.result c.in_ok-read.ensures.height c.in_ok-read.ensures.deepest
-          c.saturating_add-above.ensures c.saturating_add.ensures c.in-Some.ensures.items (c.in_ok-add_buckets.ensures.deepest (bucket_end file meta)) in
+          c.saturating_add-above.result c.in_ok-read.read.inline_depth c.saturating_add-depth.result c.in_ok-read.ensures.height c.in_ok-read.ensures.deepest
+          c.saturating_add-above.ensures c.saturating_add-depth.ensures c.in-Some.ensures.items (c.in_ok-add_buckets.ensures.deepest (bucket_end file meta)) in
           let whole = c.buckets.invariant.depth in
           omega (arith, added, step, whole);
     }
