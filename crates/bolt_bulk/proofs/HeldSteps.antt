@@ -7,7 +7,7 @@ use Rattle.bolt_layout.specs.Laid.{Laid, elements_of, held_in}
 use Rattle.bolt_layout.specs.Levels as levels
 use Rattle.bolt_bulk.specs.Private.{AreOpenRuns, AreUppers, AreWaiting, bucket_runs, capped, climb, close, end_of, Frame, has_room, held_frames, held_item, held_on, held_open, held_over, held_so_far, items_above, items_around, items_in, Known, length_frames, length_open, length_over, making_room, Open, pushing, run_view, runs_above, taking, Upper}
 use Rattle.bolt_bulk.specs.{declared.branch_run.BranchRun.BranchRun, declared.bucket_runs.BucketRuns.BucketRuns}
-use Rattle.bolt_bulk.specs.declared.waiting_bucket.WaitingBucket.{WaitingBucket}
+use Rattle.bolt_bulk.specs.declared.pass.WaitingBucket.{WaitingBucket}
 use Rattle.bolt_layout.proofs.LaidItems.{length-elements}
 
 -- ---- runs

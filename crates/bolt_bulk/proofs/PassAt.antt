@@ -10,8 +10,8 @@ use Rattle.bolt_layout.specs.{Items.items_of, Items.leaf_item, Items.root_of, La
 use Rattle.bolt_bulk.specs.Private.{AreOpenRuns, AreWaiting, base_in, bucket_end_next, bucket_limit, bucket_runs, BucketEnds, BucketRunsView, capped, Counts, end_of, Frame, HasNoted, HasRoot, held_item, held_so_far, IsAt, IsOn, IsPass, IsPending, IsPendingSmall, IsToCome, items_around, items_in, Known, length_frames, length_open, Level, level_of, limit_in, limits_by, making_room, Notes, onto, Open, open_in, pushing, root_element, runs_end, runs_end_put, runs_push, runs_room, runs_room_put, pending_element, element_size, TakesItem, Enters, Writes, Steps, taking, value_element, Wanted}
 use Rattle.bolt_bulk.specs.{BulkEndings.bulk_ending, declared.page_setup.PageSetup.PageSetup, declared.fault.BulkFault.BulkFault}
 use Rattle.bolt_bulk.specs.declared.fault.BulkFault.TheVariants as fault
-use Rattle.bolt_bulk.specs.{declared.bucket_runs.BucketRuns.BucketRuns, declared.pass.Pass.Pass, declared.waiting_bucket.PendingBucket.PendingBucket}
-use Rattle.bolt_bulk.specs.{declared.waiting_bucket.WaitingBucket.WaitingBucket, declared.limits.NotedLimits.NotedLimits}
+use Rattle.bolt_bulk.specs.{declared.bucket_runs.BucketRuns.BucketRuns, declared.pass.Pass.Pass, declared.pass.PendingBucket.PendingBucket}
+use Rattle.bolt_bulk.specs.{declared.pass.WaitingBucket.WaitingBucket, declared.limits.NotedLimits.NotedLimits}
 use Rattle.bolt_bulk.proofs.HeldPasses.{around_reverse}
 use Rattle.bolt_bulk.proofs.HeldSteps.{around_length, enters_held, items_length, leaves_held, takes_held}
 use Rattle.bolt_bulk.proofs.Ontos.{IsValue, ends_inline, onto_items, onto_push, value_items, values_held}

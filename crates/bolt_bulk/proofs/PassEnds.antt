@@ -15,7 +15,7 @@ use Rattle.bolt_layout.specs.{Storable.HasLengths, Openings.leaf_pages, Openings
 use Rattle.bolt_layout.specs.{declared.Layout.TheVariants.Balanced, declared.Layout.TheVariants.Plain, Items.items_of, Items.root_of}
 use Rattle.bolt_bulk.specs.Private.{AreComingAround, AreOpenRuns, bucket_end_next, bucket_runs, BucketEnds, BucketRunsView, capped, depth_of, end_of, Ends, FitLimits, Frame, HasLeft, HasNoted, held_so_far, IsAt, IsFitMember, IsOn, Known, last_part, Level, level_of, limit_in, limits_by, limits_with, no_leaves, nothing_open, Open, open_in, path_in, pending_depth, runs_end, runs_end_put, Steps, Wanted}
 use Rattle.bolt_bulk.specs.{declared.page_setup.PageSetup.PageSetup, declared.fault.BulkFault.BulkFault, declared.pass.Ended.Ended, declared.pass.Pass.Pass}
-use Rattle.bolt_bulk.specs.{declared.waiting_bucket.PendingBucket.PendingBucket, declared.limits.NotedLimits.NotedLimits}
+use Rattle.bolt_bulk.specs.{declared.pass.PendingBucket.PendingBucket, declared.limits.NotedLimits.NotedLimits}
 use Rattle.bolt_bulk.proofs.{PassSteps.pass_begins, PassSteps.pass_ends, HeldSteps.end_held}
 use Rattle.bolt_bulk.proofs.Members.{all_left, left_after, next_entry, next_short, none_at_all, with_item}
 use Rattle.bolt_bulk.proofs.{KeptRuns.nothing_runs, KeptRuns.runs_ended, OpenRunLemmas.ends, Openings.all_coming, Openings.root_notes, PassAt.on_of}

@@ -6,7 +6,7 @@ use Rattle.bolt_format.specs.{declared.element.Leaf.Leaf, declared.sink.Sink.Gho
 use Rattle.bolt_tree.specs.{Listing.Member, Tree.Tree, Tree.end}
 use Rattle.bolt_layout.specs.Laid.{Placed}
 use Rattle.bolt_bulk.specs.Private.{AreWaiting, depth_of, Frame, HasLeft, IsAt, IsNoDeeper, IsPending, left_in, Level, pending_depth, Steps, Wanted}
-use Rattle.bolt_bulk.specs.{declared.pass.Pass.Pass, declared.waiting_bucket.PendingBucket.PendingBucket, declared.waiting_bucket.WaitingBucket.WaitingBucket}
+use Rattle.bolt_bulk.specs.{declared.pass.Pass.Pass, declared.pass.PendingBucket.PendingBucket, declared.pass.WaitingBucket.WaitingBucket}
 use Rattle.bolt_bulk.proofs.{Members.none_at_all, Members.none_further, PassAt.steps_none}
 
 -- The depth that the code counts is that of the levels.

@@ -10,10 +10,13 @@ use crate::held::{Held, Stored};
 use crate::leaf_run::LeafRun;
 use crate::limits::BucketLimits;
 use crate::page_setup::PageSetup;
+use crate::pass::PendingBucket;
 use crate::upper_runs::UpperRuns;
-use crate::waiting_bucket::{PendingBucket, ROOT_ITEM_LEN};
 use bolt_format::{ELEMENT_LEN, HEAD_LEN, HEADER_LEN, Leaf, Sink};
 use std::alloc::Global;
+
+/// How many bytes the item of a bucket with a root page takes, its key left out.
+pub(crate) const ROOT_ITEM_LEN: usize = ELEMENT_LEN + HEAD_LEN;
 
 /// The open runs of a bucket.
 #[derive(Drop)]

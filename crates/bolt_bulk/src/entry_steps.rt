@@ -6,8 +6,7 @@ use crate::bucket_runs::BucketRuns;
 use crate::fault::BulkFault;
 use crate::limits::BucketLimits;
 use crate::page_setup::MAX_ITEMS;
-use crate::pass::Pass;
-use crate::waiting_bucket::{PendingBucket, WaitingBucket};
+use crate::pass::{Pass, PendingBucket, WaitingBucket};
 use bolt_format::{ELEMENT_LEN, HEADER_LEN, Leaf, Sink};
 use std::mem;
 

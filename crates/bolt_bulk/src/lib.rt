@@ -20,7 +20,6 @@ mod page_setup;
 mod pass;
 mod pieces;
 mod upper_runs;
-mod waiting_bucket;
 
 pub use copy::{Shape, compact, compact_as, plan, plan_as};
 pub use fault::{BulkFault, PlanFault};

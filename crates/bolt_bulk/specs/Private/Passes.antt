@@ -15,7 +15,7 @@ use Rattle.bolt_bulk.specs.Private.OpenRuns.{Frame, Known, Open, all_put, base_i
 use Rattle.bolt_bulk.specs.{Private.RunViews.BucketRunsView, Private.TakenItems.entries_size, Private.WaitingBuckets.IsWaiting}
 use Rattle.bolt_bulk.specs.{declared.page_setup.PageSetup.PageSetup, declared.fault.BulkFault.BulkFault}
 use Rattle.bolt_bulk.specs.declared.fault.BulkFault.TheVariants as fault
-use Rattle.bolt_bulk.specs.{declared.pass.Pass.Pass, declared.waiting_bucket.PendingBucket.PendingBucket, declared.waiting_bucket.WaitingBucket.WaitingBucket}
+use Rattle.bolt_bulk.specs.{declared.pass.Pass.Pass, declared.pass.PendingBucket.PendingBucket, declared.pass.WaitingBucket.WaitingBucket}
 use Rattle.bolt_bulk.specs.{declared.limits.NotedLimits.NotedLimits, BulkEndings.bulk_ending}
 use Rattle.bolt_layout.specs.declared.Layout.{Layout}
 use Rattle.bolt_format.specs.{Wrote.Wrote, declared.sink.Sink.Ghosts}
