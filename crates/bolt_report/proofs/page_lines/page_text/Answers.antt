@@ -1,4 +1,4 @@
--- A page is refused with the fault that was found, and otherwise has none.
+-- A page that is shown has no fault.
 use Rattle.std.proofs.Common.{◌≡◌, ◌↔◌, Err, None, Ok, Option, Result, Some}
 use Rattle.std.specs.Result.{IsErrAnd}
 use Rattle.bolt_format.specs.declared.open_page.PageFault.{PageFault}
@@ -6,18 +6,10 @@ use Rattle.bolt_report.proofs.Words.{ReportFault}
 use Rattle.bolt_report.specs.declared.ReportFault.TheVariants as fault
 use Rattle.bolt_report.proofs.page_lines.page_text.Goals as goal
 
-refused : {A : Type 0} {found : Option PageFault} (result : Result A ReportFault) (f : PageFault) → Some f ≡ found → IsErrAnd result (λ r. r ≡ fault.Page f)
-    → (other : PageFault) → (result ≡ Err (fault.Page other)) ↔ (found ≡ Some other)
-refused (Ok x) f same is other = absurd is
-refused (Err r) f same is other = (λ e. cc, λ e. cc)
-
 shown : {A : Type 0} {found : Option PageFault} (result : Result A ReportFault) → None ≡ found → IsErrAnd result (λ r. r ≡ fault.Sink)
     → (other : PageFault) → (result ≡ Err (fault.Page other)) ↔ (found ≡ Some other)
 shown (Ok x) same is other = absurd is
 shown (Err r) same is other = (λ e. cc, λ e. cc)
-
-pub returns-in_err-found-clause-page : goal.returns-in_err-found-clause-page
-returns-in_err-found-clause-page g c = refused _ _ c.in_err-found.ensures.fault c.from_residual.ensures.1
 
 pub returns-in_err-put_page-clause-page : goal.returns-in_err-put_page-clause-page
 returns-in_err-put_page-clause-page g c = shown _ c.in_ok-found.ensures.fault c.from_residual-in_err-put_page.ensures.1
