@@ -1,6 +1,6 @@
 -- What a call that gathers bytes leaves on its sink and in its buffer.
 use Rattle.std.specs.Prelude.{◌≡◌, ℕ, List, [], ◌++◌}
-use Rattle.bolt_format.specs.{Endings.Ending, Endings.whole, Endings.cut, Endings.broken, Endings.halted, Wrote.Wrote, declared.sink.Sink.Ghosts}
+use Rattle.bolt_format.specs.{Endings.Ending, Endings.whole, Wrote.Wrote, declared.sink.Sink.Ghosts}
 
 -- what was still to be written when the call ended: what is held, or nothing if the call didn't add its text whole
 abbrev pub left_held : Ending → List ℕ → List ℕ

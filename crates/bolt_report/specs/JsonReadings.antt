@@ -4,7 +4,7 @@ use Rattle.std.specs.Result.{result_ok}
 use Rattle.std.specs.Str.{bytes_eq}
 use Rattle.std.specs.Str.Parse.{digits_value}
 use Rattle.hex.specs.Hex.{IsBytes, decode_of}
-use Rattle.json.specs.Json.{Items, Json, Members, array, boolean, item, member, no_items, no_members, null, number, object, string}
+use Rattle.json.specs.Json.{Items, Json, Members, array, item, member, no_items, no_members, null, number, object, string}
 use Rattle.bolt_tree.specs.{Entries.Bucket, Entries.Item, Entries.Value, Listing.Member, Paths.Path}
 use Rattle.bolt_report.specs.{FigureForms.Named, SizeLines.bytes_allocated, SizeLines.bytes_used, declared.statistics.Stats.Stats}
 
