@@ -155,27 +155,14 @@ impl<'a> Joined<'a> {
             return Err(JoinFault::Memory);
         }
         let kept = kept_of(alloc, both)?;
-        Ok(Joined::of(kept, both))
-    }
-
-    /// The members of what is found and of what is recovered, of which nothing was returned yet.
-    fn of(kept: Kept<'a>, both: &'a LostAndFound<'_>) -> Joined<'a>
-        requires few { length both.now.file.now < 10 ^ 16 * both.now.meta.page_size }
-        requires whole { IsWhole both.now.file.now both.now.meta kept }
-        requires apart { both.now.found.items ≢ [] → ForRecovered both.now.file.now both.now.meta LacksBucketKey }
-        ensures file { joined_file result ≡ both.now.file.now }
-        ensures meta { joined_meta result ≡ both.now.meta }
-        ensures all { ForJoined both.now.file.now both.now.meta (λ listing. joined_left result listing ≡ listing) }
-        ensures path { joined_path result ≡ [] }
-    {
         let found = both.found.as_slice();
-        Joined {
+        Ok(Joined {
             kept,
             found,
             stage: first_stage(found),
             bucket: FoundMembers::new(found),
             held: None,
-        }
+        })
     }
 
     /// Returns a recovered member before the bucket of what is found, or that bucket.
