@@ -27,7 +27,7 @@ fn read_args(rt: &HostRuntime) -> Result<Vec<String>, Refusal> {
         Err(_) => return Err(Refusal::Word("arguments are not text")),
     };
     for arg in args {
-        words.push(arg).map_err(|_| Refusal::Memory)?;
+        words.push(arg)?;
     }
     Ok(words)
 }
