@@ -1,10 +1,10 @@
 -- What lies in the direction stays the same until an entry is taken, and each page that is opened is the next one there.
-use Rattle.std.proofs.Common.{◌≡◌, ◌∙◌, ◌+◌, ◌-◌, ◌*◌, ◌<◌, ℕ, suc, length, sym, ap, arith, refl}
-use Rattle.bolt_tree.proofs.Words.{counted, entries_left, frame_of, frames_of, leaf_view, opened_content, pager_opened, pages_left, trail_bucket, trail_frames}
+use Rattle.std.proofs.Common.{◌≡◌, ◌∙◌, ◌+◌, ◌-◌, ◌*◌, ◌<◌, ℕ, suc, length, sym, ap, arith, refl, rules, List, ◌++◌, Option, Some, None, option_to_list}
+use Rattle.bolt_tree.proofs.Words.{HasStack, HasTrail, Position, Trail, counted, entries_left, frame_of, frames_of, leaf_view, opened_content, pager_opened, pages_left, trail_bucket, trail_frames}
 use Rattle.bolt_tree.proofs.MoveLemmas.{opens, page_left, takes}
 use Rattle.bolt_tree.proofs.{PagerLemmas.counted_more, PagerLemmas.counted_zero, StackLemmas.popped, StackLemmas.retaken, StackLemmas.taken_bound}
 use Rattle.bolt_tree.proofs.StackLemmas.{taken_fits}
-use Rattle.bolt_tree.proofs.TrailLemmas.{frames_pop, length-frames, popped_stack, same_bucket}
+use Rattle.bolt_tree.proofs.TrailLemmas.{frames_pop, length-frames, popped_none, popped_stack, same_bucket}
 use Rattle.bolt_tree.proofs.trail.Trail.go.Goals as goal
 
 pub loop-top-init : goal.loop-top-init
@@ -82,3 +82,13 @@ loop-top-preserved c =
       less = rw same before.less;
       opened = rw same before.opened;
     }
+
+pub returns-clause-found : goal.returns-clause-found
+returns-clause-found c = search rules
+
+left : (t : Trail) (items : List Position) (o : Option Position) → t.stack.items ≡ items ++ option_to_list o → HasTrail t → HasStack (trail_bucket t) (frames_of items)
+left t items None e stack = popped_none t items e stack
+left t items (Some top) e stack = popped (trail_bucket t) (frame_of top) (frames_of items) (popped_stack t items top e stack)
+
+pub returns-clause-moved : goal.returns-clause-moved
+returns-clause-moved c = let was = c.loop-top.invariant.moved in record { file = was.file; at = was.at; stack = left c.loop-top.self c.pop.new.self.items c.pop.result c.pop.ensures.items was.stack }
