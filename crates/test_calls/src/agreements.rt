@@ -24,7 +24,7 @@ enum Kind {
 
 /// Commands that are tried on each file: first `check`, then `list`. There is no page 4. A copy comes after
 /// the listing to the same extent.
-const TRIALS: [(Kind, &[&str]); 19] = [
+static TRIALS: [(Kind, &[&str]); 19] = [
     (Kind::Check, &["check", "FILE"]),
     (Kind::Reader, &["list", "FILE"]),
     (Kind::Copy, &["compact", "-o", "OUT", "FILE"]),
@@ -61,9 +61,9 @@ struct Trial {
 
 fn trials_of(alloc: Global) -> Result<Vec<Trial>, Fault> {
     let mut trials = Vec::new(alloc);
-    for (kind, words) in TRIALS {
+    for (kind, words) in &TRIALS {
         let job = job_of(alloc, words)?;
-        trials.push(Trial { kind, job })?;
+        trials.push(Trial { kind: *kind, job })?;
     }
     Ok(trials)
 }

@@ -90,6 +90,13 @@ impl Pieces<'_> {
         Ok(())
     }
 
+    /// Writes the pieces to a writer, and returns it.
+    fn put_in<W: Write + Drop>(self, writer: W, text: &mut Text) -> Result<W, Fault> {
+        let mut sink = WriteSink::new(writer);
+        self.put(&mut sink, text)?;
+        Ok(sink.into_inner())
+    }
+
     /// Adds the bytes that a sink accepted; those of the file are `.`.
     fn add(self, bytes: &[u8], text: &mut Text) {
         let is_file = !self.file.is_empty() && bytes == self.file;
@@ -119,15 +126,13 @@ pub fn puts(input: Input<'_>, text: &mut Text) -> Result<(), Fault> {
     let pieces = Pieces { alloc, file, words };
     match kind.as_str() {
         "vec" => {
-            let mut sink = WriteSink::new(Vec::new(alloc));
-            pieces.put(&mut sink, text)?;
-            pieces.add(sink.into_inner().as_slice(), text);
+            let taken = pieces.put_in(Vec::new(alloc), text)?;
+            pieces.add(taken.as_slice(), text);
             Ok(())
         }
         "cursor" => {
-            let mut sink = WriteSink::new(Cursor::new(Vec::new(alloc)));
-            pieces.put(&mut sink, text)?;
-            pieces.add(sink.into_inner().into_inner().as_slice(), text);
+            let cursor = pieces.put_in(Cursor::new(Vec::new(alloc)), text)?;
+            pieces.add(cursor.into_inner().as_slice(), text);
             Ok(())
         }
         "memory" => pieces.put_in_memory(MemSink::new(alloc), text),
@@ -148,9 +153,7 @@ fn refusal_of(way: &str) -> Result<Refusal, Fault> {
 }
 
 fn put_refused(pieces: Pieces<'_>, writer: Halting, text: &mut Text) -> Result<(), Fault> {
-    let mut sink = WriteSink::new(writer);
-    pieces.put(&mut sink, text)?;
-    let writer = sink.into_inner();
+    let writer = pieces.put_in(writer, text)?;
     text.numbers(&[writer.calls as u64]);
     pieces.add(writer.taken.as_slice(), text);
     Ok(())

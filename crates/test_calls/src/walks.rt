@@ -18,12 +18,18 @@ pub fn put_from(
     text: &mut Text,
 ) -> Result<(), Fault> {
     match verb {
-        "walk" => put_members(alloc, &mut Walk::from(alloc, checked, path)?, text)?,
-        "listed" => list(alloc, checked, path, &mut text.sink)?,
-        "depths" => put_depths(&mut Walk::from(alloc, checked, path)?, text)?,
-        _ => put_again(alloc, checked, path, text)?,
+        "again" => put_again(alloc, checked, path, text),
+        "listed" => Ok(list(alloc, checked, path, &mut text.sink)?),
+        _ => put_walk(verb, Walk::from(alloc, checked, path)?, text),
     }
-    Ok(())
+}
+
+/// What a walk returns, or how long it and its paths are (`depths`).
+fn put_walk(verb: &str, mut walk: Walk<'_>, text: &mut Text) -> Result<(), Fault> {
+    if verb == "depths" {
+        return put_depths(&mut walk, text);
+    }
+    Ok(put_members(text.alloc, &mut walk, text)?)
 }
 
 /// The line of each member. There is no path before the first one and after the last one, and no
@@ -44,7 +50,7 @@ pub fn put_members<'a, M: Members<'a>>(
 
 /// The number of items that a walk returns, the number of keys of the longest of their paths, and
 /// the number of keys of all of them.
-fn put_depths(walk: &mut Walk<'_>, text: &mut Text) -> Result<(), NoMemory> {
+fn put_depths(walk: &mut Walk<'_>, text: &mut Text) -> Result<(), Fault> {
     let (mut items, mut longest, mut all) = (0_u64, 0, 0_usize);
     for _ in 0..u64::MAX {
         if walk.next()?.is_none() {

@@ -36,6 +36,7 @@ returns-in-Some-enter-clause-found c =
     (leaf_view c.in-Some-enter.leaf) (rw c.in-Some-enter.is at c.enter.ensures.entered) in
     (sym c.loop-top.invariant.entries ∙ r.0, r.1)
 
+-- the page that is opened is the next one that lies in the direction
 opened : (c : goal.In_default-enter) → (entries_left c.args.back c.loop-top.self ≡ entries_left c.args.back c.enter.new.self)
     × (length (pages_left c.args.back c.loop-top.self) ≡ suc (length (pages_left c.args.back c.enter.new.self))) × (length (trail_frames c.enter.new.self) ≡ suc (suc (length (frames_of c.pop.new.self.items))))
 opened c = opens (trail_bucket c.loop-top.self) (trail_bucket c.enter.new.self) (trail_frames c.loop-top.self) (frames_of c.pop.new.self.items) (trail_frames c.enter.new.self) (frame_of c.in-Some.top)
@@ -86,6 +87,7 @@ loop-top-preserved c =
 pub returns-clause-found : goal.returns-clause-found
 returns-clause-found c = search rules
 
+-- what pop leaves is a stack, whether or not it took something
 left : (t : Trail) (items : List Position) (o : Option Position) → t.stack.items ≡ items ++ option_to_list o → HasTrail t → HasStack (trail_bucket t) (frames_of items)
 left t items None e stack = popped_none t items e stack
 left t items (Some top) e stack = popped (trail_bucket t) (frame_of top) (frames_of items) (popped_stack t items top e stack)

@@ -36,6 +36,7 @@ returns-in-None-clause-given c = λ listing lists.
     let ended = rw c.in-None.is at c.in_ok-leaf.ensures.ended in
     (came listing lists, none_beyond (open_path c.advance.new.self) listing ended, ended)
 
+-- what always holds also holds of an error
 when_err : {X E P : Type 0} (result : Result X E) → P → OnErr result P
 when_err (Ok x) p = tt
 when_err (Err e) p = p
