@@ -1,10 +1,9 @@
 -- From the search and the test of the accounts to the whole file.
-use Rattle.std.proofs.Common.{◌≡◌, ◌∙◌, ap, ℕ, ◌↔◌, ◌==◌, ◌≢◌, List, [], false, true, length, sym}
-use Rattle.std.proofs.lemmas.{Bool.eqb-true, List.nil_from_length}
-use Rattle.bolt_check.proofs.Words.{AreAccountFindings, eq-eqb, false≢true, Finding, HasAccounts, HasRightAccounts, IsClaimed, IsClean, IsMetaPage, IsSound, IsUsed, Meta, node_at, PageUse, Slot}
+use Rattle.std.proofs.Common.{◌≡◌, ap, arith, ℕ, ◌↔◌, ◌≢◌, List, [], Option, Some, None, MatchOption, true, length, subst}
+use Rattle.bolt_check.proofs.Words.{AreAccountFindings, Finding, HasAccounts, HasRightAccounts, IsClaimed, IsClean, IsMetaPage, IsSound, IsUsed, Meta, node_at, PageUse, Slot}
 use Rattle.bolt_check.proofs.{AccountsAlong.account_findings_along, AccountsAlong.has_accounts_along, Shaping.shape_of}
 use Rattle.bolt_format.specs.Metas.{IsChosen}
-use Rattle.bolt_check.specs.{Sound.IsTested, Ways.reached}
+use Rattle.bolt_check.specs.{ShownFindings.findings_in, Sound.IsTested, Ways.reached, declared.finding_list.Findings.Findings}
 
 pub right_of : (file : List ℕ) (meta : Meta) (table : List PageUse) → ((n : ℕ) → IsClaimed table n ↔ IsUsed file meta n)
     → HasAccounts file meta (IsClaimed table) → HasRightAccounts file meta
@@ -35,8 +34,15 @@ tested_of file slot meta table chosen clean same accounts =
     let sound = sound_of file slot meta table chosen clean same accounts in
     record { trees = sound.trees; whole = λ _. sound }
 
-pub no_items : (reported : List Finding) (n : ℕ) → n ≡ length reported → (n == 0) ≡ true → reported ≡ []
-no_items reported n long none = nil_from_length reported (sym long ∙ eqb-true n 0 none)
+pub none_of : (found : Option Findings) (items : List Finding) → found ≡ None → MatchOption found (items ≡ []) (λ findings. findings_in findings ≡ items) → items ≡ []
+none_of None items none is = is
+none_of (Some findings) items none is = absurd (let f : Some findings ≡ None = none in cc)
 
-pub some_items : (reported : List Finding) (n : ℕ) → n ≡ length reported → (n == 0) ≡ false → reported ≢ []
-some_items reported n long not e = false≢true (sym not ∙ eq-eqb n 0 (long ∙ ap length e))
+pub some_of : (found : Option Findings) (items : List Finding) {findings : Findings} → found ≡ Some findings
+    → MatchOption found (items ≡ []) (λ findings. findings_in findings ≡ items) → findings_in findings ≡ items
+some_of None items {findings} some is = absurd (let f : None ≡ Some findings = some in cc)
+some_of (Some found) items {findings} some is = let f : Some found ≡ Some findings = some in let same : found ≡ findings = cc in subst (λ (f : Findings). findings_in f ≡ items) same is
+
+pub some_in : (findings : Findings) → findings_in findings ≢ []
+unfolding findings_in
+some_in findings none = let some = findings.some in let l = ap length none in omega (arith, some, l)

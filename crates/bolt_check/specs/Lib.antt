@@ -15,6 +15,7 @@ pub mod Private
 pub mod RoledFiles
 pub mod Roles
 pub mod Shape
+pub mod ShownFindings
 pub mod ShownNodes
 pub mod ShownSpots
 pub mod Sound

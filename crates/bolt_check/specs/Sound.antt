@@ -2,7 +2,7 @@
 use Rattle.std.specs.Prelude.{◌≢◌, ℕ, List, [], Bool, true, IsTrue}
 use Rattle.bolt_format.specs.{Metas.HasMetaFault, Metas.HasSlotFault, Metas.IsChosen, Metas.IsInSlot, declared.meta.Meta.Meta, declared.meta.Slot.Slot}
 use Rattle.bolt_check.specs.{Accounts.HasAccounts, Findings.IsClean, Findings.IsCovered, Findings.IsFirst, Findings.IsMetaPage, Nodes.node_at, Shape.HasShape}
-use Rattle.bolt_check.specs.{AccountFindings.AreAccountFindings, Ways.reached, declared.fault.CheckFault.CheckFault}
+use Rattle.bolt_check.specs.{AccountFindings.AreAccountFindings, ShownFindings.findings_in, Ways.reached, declared.fault.CheckFault.CheckFault}
 use Rattle.bolt_check.specs.declared.fault.CheckFault.TheVariants.{Accounts, Memory, Open, Structure}
 use Rattle.bolt_check.specs.declared.fault.Finding.{Finding}
 
@@ -44,7 +44,7 @@ IsRefused file (Open fault) = HasMetaFault file 0 fault × ((slot : Slot) (meta 
 IsRefused file (Structure x) = (slot : Slot) × (meta : Meta) × IsChosen file slot meta × IsFirstFinding file meta x
 IsRefused file (Accounts reported) =
     (slot : Slot) × (meta : Meta) × IsChosen file slot meta × HasSoundTrees file meta × (HasRightAccounts file meta → ⊥)
-    × AreAccountFindings file meta (IsUsed file meta) reported.items × (reported.items ≢ [])
+    × AreAccountFindings file meta (IsUsed file meta) (findings_in reported) × (findings_in reported ≢ [])
 IsRefused file Memory = Unit {0}
 
 -- why the trees of the file aren't sound for this meta

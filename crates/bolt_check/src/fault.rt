@@ -3,6 +3,7 @@ ghost use Rattle.std.specs.Prelude.{◌≡◌};
 ghost use Rattle.bolt_check.specs.Findings.{finding};
 ghost use Rattle.bolt_check.specs.declared.fault.CheckFault.TheVariants as refused;
 
+use crate::finding_list::Findings;
 use bolt_format::{MetaFault, PageFault};
 use std::alloc::AllocError;
 use std::error::Error;
@@ -73,7 +74,7 @@ pub enum CheckFault {
     Structure(Finding),
     /// The trees are sound, but the accounts are wrong: all findings. Only `check` returns it.
     #[error("accounts")]
-    Accounts(Vec<Finding>),
+    Accounts(Findings),
     /// Memory ran out.
     #[error("out of memory")]
     Memory,

@@ -11,6 +11,7 @@ ghost use Rattle.bolt_check.specs.Sound.{AreTreesRefused, HasSoundTrees, IsRefus
 use crate::Checked;
 use crate::accounts::{claim_freelist, test_accounts};
 use crate::fault::{CheckFault, NoMemory};
+use crate::finding_list::Findings;
 use crate::role_table::Roles;
 use crate::search::search;
 use crate::table::PageUse;
@@ -54,7 +55,7 @@ pub fn check_roles<'a>(alloc: Global, file: &'a [u8]) -> Result<Roles<'a>, Check
     let (_, meta) = choose(file)?;
     let mut table = search(alloc, file, &meta)?;
     let findings = test_accounts(alloc, file, &meta, &mut table)?;
-    if !findings.is_empty() {
+    if let Some(findings) = Findings::of(findings) {
         return Err(CheckFault::Accounts(findings));
     }
     let checked = Checked {
