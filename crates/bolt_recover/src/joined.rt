@@ -26,7 +26,9 @@ pub enum JoinFault {
     Root(Finding),
     /// A page is found, and the recovered root bucket has an entry `lost+found`.
     Exists,
-    /// Memory ran out. So it does for a file of more pages than numbers of sixteen digits can name.
+    /// The file has more pages than numbers of sixteen digits can name.
+    TooLarge,
+    /// Memory ran out.
     Memory,
 }
 
@@ -141,7 +143,8 @@ impl<'a> Joined<'a> {
     /// # Errors
     ///
     /// `Root` if the root page is lost and no page is found; `Exists` if a page is found and the
-    /// recovered root bucket has an entry `lost+found`; `Memory` if memory runs out.
+    /// recovered root bucket has an entry `lost+found`; `TooLarge` if the file has 10^16 pages or more;
+    /// `Memory` if memory runs out.
     pub fn new(alloc: Global, both: &'a LostAndFound<'_>) -> Result<Joined<'a>, JoinFault>
         ensures file { IfOk result (λ joined. joined_file joined ≡ both.now.file.now) }
         ensures meta { IfOk result (λ joined. joined_meta joined ≡ both.now.meta) }
@@ -149,10 +152,11 @@ impl<'a> Joined<'a> {
         ensures path { IfOk result (λ joined. joined_path joined ≡ []) }
         ensures apart { OnOk result (both.now.found.items ≢ [] → ForRecovered both.now.file.now both.now.meta LacksBucketKey) }
         ensures some { OnOk result ((x : Finding) → all_lost both.now ≡ everything x → both.now.found.items ≢ []) }
+        ensures few { OnOk result (length both.now.file.now < 10 ^ 16 * both.now.meta.page_size) }
         ensures refused { IfErr result (IsJoinRefusal both.now.file.now both.now.meta (numbers_of both.now.found.items)) }
     {
         if both.file.len() as u64 / u64::from(both.meta.page_size) >= NAMES {
-            return Err(JoinFault::Memory);
+            return Err(JoinFault::TooLarge);
         }
         let kept = kept_of(alloc, both)?;
         let found = both.found.as_slice();

@@ -1,11 +1,14 @@
 -- What is found is joined to what is kept of the same file, which has few enough pages.
-use Rattle.std.proofs.Common.{◌≡◌, ◌∙◌, ◌<◌, ◌*◌, ◌^◌, ◌/◌, List, ℕ, length, subst, subst₂, sym}
-use Rattle.bolt_recover.proofs.Words.{AreJoinable, div-lt_iff_lt-mul, joined_left, joined_path, merely, Meta, props, ∥∥₁_elim}
+use Rattle.std.proofs.Common.{◌≡◌, ◌∙◌, ◌<◌, ◌≤◌, ◌*◌, ◌^◌, ◌/◌, List, ℕ, length, subst, subst₂, sym}
+use Rattle.bolt_recover.proofs.Words.{AreJoinable, div-lt_iff_lt-mul, joined_left, le-div_iff_mul-le, joined_path, merely, Meta, props, ∥∥₁_elim}
 use Rattle.bolt_recover.proofs.{JoinSteps.begun_left, JoinSteps.begun_path, JoinSteps.begun_well, Searched.joinable}
 use Rattle.bolt_recover.proofs.joined.Joined.new.Goals as goal
 
 few : (n size divisor : ℕ) → divisor ≡ size → 0 < size → n / divisor < 10 ^ 16 → n < 10 ^ 16 * size
 few n size divisor same some less = (div-lt_iff_lt-mul some).0 (subst (λ (d : ℕ). n / d < 10 ^ 16) same less)
+
+many : (n size divisor : ℕ) → divisor ≡ size → 0 < size → 10 ^ 16 ≤ n / divisor → 10 ^ 16 * size ≤ n
+many n size divisor same some more = (le-div_iff_mul-le some).0 (subst (λ (d : ℕ). 10 ^ 16 ≤ n / d) same more)
 
 pub invariant_of-result : goal.invariant_of-result
 invariant_of-result c =
@@ -31,3 +34,9 @@ pub returns-clause-path : goal.returns-clause-path
 unfolding joined_path
 returns-clause-path c =
     begun_path c.first_stage.result c.in_ok-kept.kept c.as_slice-found.result.now c.new.result (c.first_stage.ensures.none, c.first_stage.ensures.some) ∙ c.in_ok-kept.ensures.whole.path
+
+pub returns-clause-few : goal.returns-clause-few
+returns-clause-few c = let both = c.args.both.now in few (length both.file.now) both.meta.page_size c.from.result c.from.ensures both.sized c.if-both-from-ge-NAMES.false
+
+pub returns-then-both-from-ge-NAMES-clause-refused : goal.returns-then-both-from-ge-NAMES-clause-refused
+returns-then-both-from-ge-NAMES-clause-refused c = let both = c.args.both.now in many (length both.file.now) both.meta.page_size c.from.result c.from.ensures both.sized c.if-both-from-ge-NAMES.true
