@@ -10,7 +10,7 @@ use Rattle.bolt_check.specs.declared.fault.TheConstants.Finding.{TWICE, ORDER, B
 use Rattle.bolt_check.specs.declared.fault.TheConstants.Finding.{UNREACHABLE, FREE_RANGE}
 use Rattle.bolt_report.specs.Lines.{line}
 use Rattle.bolt_snapshot.specs.declared.SnapshotFault.{SnapshotFault}
-use Rattle.bolt_snapshot.specs.declared.SnapshotFault.TheVariants.{HashMissing, HashDiffers}
+use Rattle.bolt_snapshot.specs.declared.SnapshotFault.TheVariants.{HashMissing, HashCutOff, HashDiffers}
 
 -- why a file without a valid meta is refused
 abbrev pub meta_fault_text : MetaFault → List ℕ
@@ -23,6 +23,7 @@ meta_fault_text PageSize = line (codes "page size refused")
 -- why a file is no snapshot
 abbrev pub snapshot_fault_text : SnapshotFault → List ℕ
 snapshot_fault_text HashMissing = line (codes "snapshot hash missing")
+snapshot_fault_text HashCutOff = line (codes "snapshot hash cut off")
 snapshot_fault_text HashDiffers = line (codes "snapshot hash differs")
 
 -- A number of a fault, and its words.

@@ -149,6 +149,7 @@ fn snapshot_fault_line(fault: SnapshotFault) -> &'static [u8]
 {
     match fault {
         SnapshotFault::HashMissing => b"snapshot hash missing\n",
+        SnapshotFault::HashCutOff => b"snapshot hash cut off\n",
         SnapshotFault::HashDiffers => b"snapshot hash differs\n",
     }
 }

@@ -1,9 +1,9 @@
 -- etcd's snapshots: docs/COMMANDS.md, "Snapshots".
-use Rattle.std.specs.Prelude.{◌≡◌, ◌==◌, ◌-◌, ◌%◌, ℕ, List, ◌++◌, Bool, true, false, drop, length, take, Option, None, Some}
+use Rattle.std.specs.Prelude.{◌≡◌, ◌==◌, ◌-◌, ◌%◌, ℕ, List, ◌++◌, Bool, drop, length, take, Option, None, Some, not, if◌then◌else◌}
 use Rattle.std.specs.Str.{bytes_eq}
 use Rattle.sha2.specs.Sha256.{sha256}
 use Rattle.bolt_snapshot.specs.declared.SnapshotFault.{SnapshotFault}
-use Rattle.bolt_snapshot.specs.declared.SnapshotFault.TheVariants.{HashMissing, HashDiffers}
+use Rattle.bolt_snapshot.specs.declared.SnapshotFault.TheVariants.{HashMissing, HashCutOff, HashDiffers}
 
 -- a file, and its hash after it
 abbrev pub snapshot_of : List ℕ → List ℕ
@@ -22,12 +22,19 @@ body_of file = take (length file - 32) file
 abbrev pub hash_of : List ℕ → List ℕ
 hash_of file = drop (length file - 32) file
 
-abbrev pub fault_by : (has_hash is_right : Bool) → Option SnapshotFault
-fault_by false is_right = Some HashMissing
-fault_by true false = Some HashDiffers
-fault_by true true = None
+-- by the number of bytes after the last whole block, and whether they are the hash of all before them
+abbrev pub fault_by : (extra : ℕ) (is_right : Bool) → Option SnapshotFault
+fault_by extra is_right =
+    if extra == 0 then Some HashMissing
+    else if not (extra == 32) then Some HashCutOff
+    else if is_right then None
+    else Some HashDiffers
 
--- The hash is missing if the file doesn't end 32 bytes after a block of 512. It differs if the file does, and those 32 bytes aren't the
--- hash of all bytes before them.
+-- The hash is missing if the file has whole blocks of 512 bytes alone. It is cut off if the file ends anywhere else than 32 bytes after a
+-- block. It differs if the file ends there, and those 32 bytes aren't the hash of all bytes before them.
 abbrev pub hash_fault : List ℕ → Option SnapshotFault
-hash_fault file = fault_by (length file % 512 == 32) (bytes_eq (sha256 (body_of file)) (hash_of file))
+hash_fault file = fault_by (length file % 512) (bytes_eq (sha256 (body_of file)) (hash_of file))
+
+-- what is wrong if only this many bytes of a hash are there
+abbrev pub cut_hash_fault : ℕ → SnapshotFault
+cut_hash_fault n = if n == 0 then HashMissing else HashCutOff

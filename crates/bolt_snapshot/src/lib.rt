@@ -6,8 +6,7 @@
 ghost use Rattle.std.specs.Prelude.{◌≡◌, ◌↔◌, ◌<◌, ◌+◌, ◌%◌, ◌++◌, ℕ, Bool, List, None, Some, length, take};
 ghost use Rattle.bolt_check.specs.Sound.{IsSound};
 ghost use Rattle.bolt_format.specs.{Metas.HasBothMetas, Metas.IsChosen, declared.meta.Meta.Meta, declared.meta.Slot.Slot};
-ghost use Rattle.bolt_snapshot.specs.{Marks.HasAllPages, SnapshotFaults.IsSnapshot, SnapshotFaults.hash_fault, SnapshotFaults.snapshot_of};
-ghost use Rattle.bolt_snapshot.specs.declared.SnapshotFault.TheVariants.{HashMissing};
+ghost use Rattle.bolt_snapshot.specs.{Marks.HasAllPages, SnapshotFaults.IsSnapshot, SnapshotFaults.cut_hash_fault, SnapshotFaults.hash_fault, SnapshotFaults.snapshot_of};
 ghost use Rattle.bolt_tree.specs.Listing.{IsListing, Member};
 
 use sha2::{Digest, Sha256};
@@ -20,8 +19,10 @@ const BLOCK_LEN: u64 = 512;
 /// Why a file is no snapshot (docs/COMMANDS.md, "Snapshots").
 #[derive(Clone, Copy, Debug, PartialEq, Eq)]
 pub enum SnapshotFault {
-    /// The length of the file isn't 32 more than a multiple of 512.
+    /// The length of the file is a multiple of 512, so nothing comes after the database.
     HashMissing,
+    /// The length of the file is neither a multiple of 512 nor 32 more than one.
+    HashCutOff,
     /// The last 32 bytes aren't the SHA-256 of all bytes before them.
     HashDiffers,
 }
@@ -33,8 +34,12 @@ pub fn snapshot_fault(file: &[u8]) -> Option<SnapshotFault>
     ensures snapshot { result ≡ None ↔ IsSnapshot file.now }
 {
     let length = file.len() as u64;
-    if length % BLOCK_LEN != HASH_LEN {
+    let extra = length % BLOCK_LEN;
+    if extra == 0 {
         return Some(SnapshotFault::HashMissing);
+    }
+    if extra != HASH_LEN {
+        return Some(SnapshotFault::HashCutOff);
     }
     let (body, hash) = file.split_at((length - HASH_LEN) as usize);
     if Sha256::digest(body).as_slice() != hash {
@@ -55,10 +60,10 @@ pub fn trailing_bytes_change_nothing()
         → IsListing file meta listing ↔ IsListing (file ++ more) meta listing }
 {}
 
-/// A file of whole blocks of 512 bytes and its hash are a snapshot. If a part of the hash is left
-/// out, the hash is missing.
+/// A file of whole blocks of 512 bytes and its hash are a snapshot. Without the hash, it is missing; if a
+/// part of the hash is left out, it is cut off.
 pub fn hashed_blocks_are_a_snapshot()
     ensures snapshot { (file : List ℕ) → length file % 512 ≡ 0 → IsSnapshot (snapshot_of file) }
     ensures cut { (file : List ℕ) (n : ℕ) → length file % 512 ≡ 0 → n < 32
-        → hash_fault (take (length file + n) (snapshot_of file)) ≡ Some HashMissing }
+        → hash_fault (take (length file + n) (snapshot_of file)) ≡ Some (cut_hash_fault n) }
 {}
