@@ -4,7 +4,6 @@ pub mod DecodedLines
 pub mod DigitLemmas
 pub mod EdgeTrees
 pub mod FileBytes
-pub mod FirstFaults
 pub mod LastPaths
 pub mod LineLemmas
 pub mod ListingTexts
@@ -17,6 +16,7 @@ pub mod PlacedLines
 pub mod PlainLines
 pub mod PushedParts
 pub mod ReadTexts
+pub mod RightTexts
 pub mod StoredTexts
 pub mod TextTrees
 pub mod WordLemmas

@@ -1,10 +1,14 @@
 -- The text of a listing that is of one tree is read back as that listing.
-use Rattle.std.proofs.Common.{◌≡◌, ◌∙◌, ◌<◌, ◌-◌, true, List, [], ◌∷◌, ◌++◌, Option, Some, None, length, map, slice_get, take, inl, inr, refl, sym, ap, ap₂, subst, arith, append_assoc, append-nil, length-append}
+use Rattle.std.proofs.Common.{◌≡◌, ◌∙◌, ◌==◌, ◌<◌, ◌-◌, ℕ, true, false, List, [], ◌∷◌, ◌++◌, Option, Some, None, length, map, slice_get, take, inl, inr, refl, sym, ap, ap₂, subst, arith, append_assoc, append-nil, length-append}
 use Rattle.std.proofs.lemmas.List.Elements.{Contains-append_left}
-use Rattle.bolt_load.proofs.Words.{Bucket, Contains, contains_from_has, end, filter_map-append, Has, has_bucket, is_above_last, is_lt, IsListingText, IsMemberOfBytes, Item, Key, Less, line_fault, line_member, lines_of, listing_below, listing_of, listing_text, Member, member_cmp, members_in, option_map_or, Path, path_above, path_cmp, place_fault, RightAfter, Rises, take-append_seam, Text, text_members, Tree, Value, with_bucket, with_value}
+use Rattle.bolt_load.proofs.Words.{Bucket, Contains, contains_from_has, end, filter_map-append, Has, has_bucket, if◌then◌else◌, is_above_last, is_lt, IsListingText, IsLoadFault, IsMemberOfBytes, Item, Key, Less, line_fault, line_member, LineFault, lines_of, listing_below, listing_of, listing_text, Member, member_cmp, member_line, members_in, option_map_or, Path, path_above, path_cmp, place_fault, RightAfter, Rises, take-append_seam, Text, text_members, Tree, Value, with_bucket, with_value}
 use Rattle.bolt_load.proofs.{DecodedLines.member_alone, LastPaths.has_more, LastPaths.has_new, LineLemmas.lines_cut, LineLemmas.no_lines}
 use Rattle.bolt_load.proofs.{NextLines.members_first, PlacedLines.fault_is_of_place, StoredTexts.AreKeys, StoredTexts.FitsMember}
 use Rattle.bolt_load.proofs.WrittenLines.{line_back, line_is, line_shaped, member_words, words_without}
+use Rattle.bolt_load.specs.LineFaults.{is_whole}
+use Rattle.bolt_load.specs.declared.fault.LineFault.TheVariants.{CutOff}
+use Rattle.bolt_load.specs.declared.fault.LoadFault.TheVariants.{Line}
+use Rattle.std.proofs.lemmas.{Bool.Decides.Decides-eqb, Slice.Eq.ends_is}
 use Rattle.bolt_tree.specs.Tree.{tree_of}
 use Rattle.bolt_tree.proofs.ListLemmas.{at_has, has_left, has_right}
 use Rattle.bolt_layout.specs.{Copies.IsOfOneTree, Storable.HasLengths}
@@ -158,6 +162,34 @@ right_below before front (with_bucket key sequence inside after) plain has rises
           (subst (λ (ms : List Member). RightAfter (now ++ ms) (map member_words behind)) (sym (members_back (front ++ key ∷ []) inside plain_inside)) right_later))),
     )
 
+-- ---- the end of the text
+
+ends_so : (front : Text) → is_whole (front ++ 10 ∷ []) ≡ true
+ends_so front = (ends_is Decides-eqb (front ++ 10 ∷ []) (10 ∷ []) (is_whole (front ++ 10 ∷ [])) refl).1 front refl
+
+-- a text of a member or more is lines before a last one, and that one's line feed
+front_of : (member : Member) (listing : List Member) → (front : Text) × (listing_text (member ∷ listing) ≡ front ++ 10 ∷ [])
+front_of member [] = (member_words member, append-nil (member_line member) ∙ line_is member)
+front_of member (next ∷ listing) =
+    let (front, is) = front_of next listing in
+    (member_line member ++ front, ap (λ text. member_line member ++ text) is ∙ sym (append_assoc (member_line member) front (10 ∷ [])))
+
+text_is_whole : (listing : List Member) → 0 < length listing → is_whole (listing_text listing) ≡ true
+text_is_whole [] some = absurd (omega (arith, some))
+text_is_whole (member ∷ listing) some = let (front, is) = front_of member listing in ap is_whole is ∙ ends_so front
+
+pub no_text_is_right : IsListingText [] → ⊥
+no_text_is_right is = let f : false ≡ true = is.whole in cc
+
+-- no line, so none that isn't right
+pub no_text_is_cut : (number : ℕ) (fault : LineFault) → IsLoadFault [] (Line number fault) → (number ≡ 1) × (fault ≡ CutOff)
+no_text_is_cut number fault (inl is) = absurd (no_line is.front is.line is.rest (sym no_lines ∙ is.lines))
+  where
+    no_line : (front : List Text) (line : Text) (rest : List Text) → [] ≡ front ++ line ∷ rest → ⊥
+    no_line [] line rest same = cc
+    no_line (first ∷ front) line rest same = cc
+no_text_is_cut number fault (inr (same, cut)) = (cut.number_is ∙ ap (λ lines. if length lines == 0 then 1 else length lines) no_lines, same)
+
 -- ---- the whole text
 
 module _ (listing : List Member) (one : IsOfOneTree listing) (rises : Rises member_cmp listing) (bytes : (member : Member) → Contains listing member → IsMemberOfBytes member) where
@@ -170,8 +202,11 @@ module _ (listing : List Member) (one : IsOfOneTree listing) (rises : Rises memb
   lines : lines_of (listing_text listing) ≡ map member_words (listing_of (tree_of listing))
   lines = lines_are listing good ∙ ap (map member_words) (sym one.lists)
 
-  pub text_is_right : IsListingText (listing_text listing)
-  text_is_right = subst (RightAfter []) (sym lines) (right_below [] [] (tree_of listing) plain refl (subst (Rises member_cmp) (sym one.lists) rises))
+  pub text_is_right : 0 < length listing → IsListingText (listing_text listing)
+  text_is_right some = record {
+    right = subst (RightAfter []) (sym lines) (right_below [] [] (tree_of listing) plain refl (subst (Rises member_cmp) (sym one.lists) rises));
+    whole = text_is_whole listing some;
+  }
 
   pub text_is_read_back : text_members (listing_text listing) ≡ listing
   text_is_read_back = ap members_in lines ∙ members_back [] (tree_of listing) plain ∙ one.lists

@@ -156,4 +156,4 @@ lines_plain (line ∷ lines) before right =
     ∙ ap listing_text (sym (members_first line lines told.0 told.1))
 
 pub text_plain : (text : Text) → IsListingText text → plain_text text ≡ listing_text (text_members text)
-text_plain text right = lines_plain (lines_of text) [] right
+text_plain text is = lines_plain (lines_of text) [] is.right

@@ -1,6 +1,6 @@
 -- What holds of the lines that were decoded holds of the text.
-use Rattle.std.proofs.Common.{◌≡◌, ◌∙◌, ◌+◌, ℕ, List, [], ◌∷◌, ◌++◌, Option, Some, None, length, subst, sym, ap, append_assoc, append-nil}
-use Rattle.bolt_load.proofs.Words.{IfSome, IsFirstFault, IsLoadFault, line_member, LineFault, lines_of, members_in, option_and_then, option_or, place_fault, RightAfter, StopsAt, Text}
+use Rattle.std.proofs.Common.{◌≡◌, ◌∙◌, ◌+◌, ℕ, List, [], ◌∷◌, ◌++◌, Option, Some, None, length, inl, subst, sym, ap, append_assoc, append-nil}
+use Rattle.bolt_load.proofs.Words.{IfSome, IsFaultOfLines, IsFirstFault, IsLoadFault, line_member, LineFault, lines_of, members_in, option_and_then, option_or, place_fault, RightAfter, StopsAt, Text}
 use Rattle.std.specs.Option.{IfNone}
 use Rattle.std.specs.Prelude.{IfErr, IsErrAnd, Result, Err, Ok}
 use Rattle.bolt_load.specs.{declared.fault.LoadFault.LoadFault, declared.fault.LoadFault.TheVariants.Line, declared.fault.LoadFault.TheVariants.Memory}
@@ -10,11 +10,11 @@ module _ (text decoded : Text) where
   goes_on None same stops = ([], ap lines_of (sym same) ∙ sym (append-nil (lines_of decoded)))
   goes_on (Some fault) same stops = (stops.line ∷ stops.rest, stops.lines)
 
-  pub earlier_fault : (stop : Option LineFault) → IfNone stop (decoded ≡ text) → IfSome stop (StopsAt text decoded) → (fault : LoadFault) → IsLoadFault decoded fault → IsLoadFault text fault
+  pub earlier_fault : (stop : Option LineFault) → IfNone stop (decoded ≡ text) → IfSome stop (StopsAt text decoded) → (fault : LoadFault) → IsFaultOfLines decoded fault → IsLoadFault text fault
   earlier_fault stop same stops Memory is = tt
   earlier_fault stop same stops (Line number fault) is =
       let more = goes_on stop same stops in
-      record {
+      inl (record {
         front = is.front;
         line = is.line;
         rest = is.rest ++ more.0;
@@ -22,7 +22,7 @@ module _ (text decoded : Text) where
         number_is = is.number_is;
         right = is.right;
         fault_is = is.fault_is;
-      }
+      })
 
   pub next_fault : (lines : ℕ) (fault : LineFault) → lines ≡ length (lines_of decoded) → RightAfter [] (lines_of decoded) → StopsAt text decoded fault → IsFirstFault text (lines + 1) fault
   next_fault lines fault many right stops = record {

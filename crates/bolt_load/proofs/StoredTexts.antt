@@ -109,13 +109,13 @@ last_key (part ∷ front) key are = last_key front key are.1
 
 -- what the lines of a right text tell is a listing that the format can hold
 pub text_fits : (text : Text) → IsListingText text → IsFitListing (text_members text)
-text_fits text right =
-    let (tree, lists, rises) = text_tree text right in
+text_fits text is =
+    let (tree, lists, rises) = text_tree text is in
     record {
       tree = tree;
       lists = sym lists;
       rises = rises;
       fit = λ path item has.
-          let fits = lines_fit (lines_of text) [] right (path, item) (has_from_contains (text_members text) (path, item) has) in
+          let fits = lines_fit (lines_of text) [] is.right (path, item) (has_from_contains (text_members text) (path, item) has) in
           ((λ front key is. last_key front key (subst AreKeys is fits.0)), fits.1);
     }

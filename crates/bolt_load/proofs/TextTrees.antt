@@ -111,4 +111,4 @@ grows (line ∷ lines) before tree last bucket so_far right =
     (rest.0, rest.1 ∙ same, subst (Rises member_cmp) same rest.2)
 
 pub text_tree : (text : Text) → IsListingText text → (tree : Tree) × (listing_of tree ≡ text_members text) × Rises member_cmp (text_members text)
-text_tree text right = grows (lines_of text) [] end [] true none_grown right
+text_tree text is = grows (lines_of text) [] end [] true none_grown is.right

@@ -2,7 +2,7 @@
 pub use Rattle.bolt_check.specs.Keys.{Key}
 pub use Rattle.bolt_layout.specs.Storable.{IsFitItem}
 pub use Rattle.bolt_load.specs.HexPaths.{hex_bytes_in, part_in, parts_in}
-pub use Rattle.bolt_load.specs.LineFaults.{IsFirstFault, IsListingText, IsLoadFault, RightAfter, is_above_last, is_long_item, is_long_key, length_fault, line_fault, path_above, place_fault, shape_fault}
+pub use Rattle.bolt_load.specs.LineFaults.{IsCutOff, IsFaultOfLines, IsFirstFault, IsListingText, IsLoadFault, RightAfter, is_above_last, is_long_item, is_long_key, length_fault, line_fault, path_above, place_fault, shape_fault}
 pub use Rattle.bolt_load.specs.{LineMembers.item_in, LineMembers.member_in, LineMembers.members_in, LineMembers.text_members, Lines.Text, Numbers.number_in}
 pub use Rattle.bolt_load.specs.Private.Cuts.{IsCut, IsFirstLine, IsWithout}
 pub use Rattle.bolt_load.specs.Private.Decoding.{Adds, AreDecoded, BeginsWith, GivesLine, StopsAt, item_bytes, member_bytes, path_bytes}

@@ -4,7 +4,7 @@ use Rattle.std.specs.Fmt.{decimal}
 use Rattle.bolt_load.specs.declared.fault.LineFault.{LineFault}
 use Rattle.bolt_load.specs.declared.fault.LoadFault.{LoadFault}
 use Rattle.bolt_load.specs.declared.fault.LoadFault.TheVariants as load
-use Rattle.bolt_load.specs.declared.fault.LineFault.TheVariants.{KeyTooLong, NoBucketAbove, NotALine, PathNotRising, ValueTooLong}
+use Rattle.bolt_load.specs.declared.fault.LineFault.TheVariants.{CutOff, KeyTooLong, NoBucketAbove, NotALine, PathNotRising, ValueTooLong}
 
 abbrev pub line_fault_words : LineFault → List ℕ
 line_fault_words NotALine = codes "not a line of a listing"
@@ -12,6 +12,7 @@ line_fault_words KeyTooLong = codes "key too long"
 line_fault_words ValueTooLong = codes "value too long"
 line_fault_words PathNotRising = codes "path not rising"
 line_fault_words NoBucketAbove = codes "no bucket above"
+line_fault_words CutOff = codes "cut off"
 
 abbrev pub load_fault_words : LoadFault → List ℕ
 load_fault_words load.Memory = codes "out of memory"

@@ -1,13 +1,13 @@
 -- What is wrong with a line, and which texts are right: docs/LISTING.md, "A listing as text".
-use Rattle.std.specs.Prelude.{◌≡◌, ◌+◌, ◌-◌, ℕ, Bool, true, false, List, [], ◌∷◌, ◌++◌, Option, Some, None, length, nat_lt, not, option_and_then, slice_get, take, if◌then◌else◌}
-use Rattle.std.specs.List.{list_any}
+use Rattle.std.specs.Prelude.{◌≡◌, ◌+◌, ◌-◌, ◌⊎◌, ℕ, Bool, true, false, ◌==◌, List, [], ◌∷◌, ◌++◌, Option, Some, None, codes, length, nat_lt, not, option_and_then, slice_get, take, if◌then◌else◌}
+use Rattle.std.specs.List.{ends_with, list_any}
 use Rattle.std.specs.Option.{option_map_or, option_or}
 use Rattle.std.specs.Ordering.{is_lt}
 use Rattle.bolt_check.specs.Keys.{Key}
 use Rattle.bolt_tree.specs.{Entries.Bucket, Entries.Item, Entries.Value, Listing.Member, ListingParts.has_bucket, Paths.Path, Paths.path_cmp}
 use Rattle.bolt_load.specs.{LineMembers.line_member, LineMembers.members_in, Lines.Text, Lines.lines_of, declared.fault.LineFault.LineFault}
 use Rattle.bolt_load.specs.{declared.fault.LoadFault.LoadFault, declared.fault.LoadFault.TheVariants.Line, declared.fault.LoadFault.TheVariants.Memory}
-use Rattle.bolt_load.specs.declared.fault.LineFault.TheVariants.{KeyTooLong, NoBucketAbove, NotALine, PathNotRising, ValueTooLong}
+use Rattle.bolt_load.specs.declared.fault.LineFault.TheVariants.{CutOff, KeyTooLong, NoBucketAbove, NotALine, PathNotRising, ValueTooLong}
 
 -- more bytes than a key can have, or a value
 abbrev pub is_long_key : Key → Bool
@@ -48,9 +48,18 @@ abbrev pub RightAfter : List Member → List Text → Type 0
 RightAfter before [] = Unit {0}
 RightAfter before (line ∷ lines) = (line_fault before line ≡ None) × RightAfter (before ++ members_in (line ∷ [])) lines
 
--- all lines are right
-abbrev pub IsListingText : Text → Type 0
-IsListingText text = RightAfter [] (lines_of text)
+-- the text ends with a line feed, so that its last line is whole
+abbrev pub is_whole : Text → Bool
+is_whole text = ends_with (λ a b. a == b) text (codes "\n")
+
+-- the number of the last line, or 1 if there is none
+abbrev pub last_number : Text → ℕ
+last_number text = if length (lines_of text) == 0 then 1 else length (lines_of text)
+
+-- all lines are right, and the last one is whole
+pub record IsListingText (text : Text) : Type 0 where
+  pub right : RightAfter [] (lines_of text)
+  pub whole : is_whole text ≡ true
 
 -- the first line that isn't right has this number, from 1, and this fault
 pub record IsFirstFault (text : Text) (number : ℕ) (fault : LineFault) : Type 0 where
@@ -62,7 +71,18 @@ pub record IsFirstFault (text : Text) (number : ℕ) (fault : LineFault) : Type 
   pub right : RightAfter [] front
   pub fault_is : line_fault (members_in front) line ≡ Some fault
 
+-- All lines are right, but the text is cut off within the last of them, or before line 1 if it is empty.
+pub record IsCutOff (text : Text) (number : ℕ) : Type 0 where
+  pub right : RightAfter [] (lines_of text)
+  pub cut : is_whole text ≡ false
+  pub number_is : number ≡ last_number text
+
+-- Why the lines of a text are refused. Nothing is said of memory.
+abbrev pub IsFaultOfLines : Text → LoadFault → Type 0
+IsFaultOfLines text Memory = Unit {0}
+IsFaultOfLines text (Line number fault) = IsFirstFault text number fault
+
 -- Why a text isn't read. Nothing is said of memory.
 abbrev pub IsLoadFault : Text → LoadFault → Type 0
 IsLoadFault text Memory = Unit {0}
-IsLoadFault text (Line number fault) = IsFirstFault text number fault
+IsLoadFault text (Line number fault) = IsFirstFault text number fault ⊎ ((fault ≡ CutOff) × IsCutOff text number)

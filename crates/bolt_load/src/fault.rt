@@ -21,6 +21,8 @@ pub enum LineFault {
     PathNotRising,
     /// No line before is that of the bucket that the path is in.
     NoBucketAbove,
+    /// The text ends within the line: no line feed ends it. So it ends before line 1 if it is empty.
+    CutOff,
 }
 
 impl LineFault {
@@ -34,6 +36,7 @@ impl LineFault {
             LineFault::ValueTooLong => "value too long",
             LineFault::PathNotRising => "path not rising",
             LineFault::NoBucketAbove => "no bucket above",
+            LineFault::CutOff => "cut off",
         }
     }
 }

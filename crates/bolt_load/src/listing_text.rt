@@ -8,7 +8,9 @@ ghost use Rattle.bolt_tree.specs.{Listing.IsListing, Listing.Member, Listing.mem
 ghost use Rattle.bolt_layout.specs.Copies.{IsOfOneTree};
 ghost use Rattle.bolt_report.specs.ListLines.{listing_text};
 ghost use Rattle.bolt_load.specs.LineFaults as faults;
-ghost use Rattle.bolt_load.specs.LineFaults.{IsFirstFault, IsListingText, IsLoadFault, RightAfter, shape_fault};
+ghost use Rattle.bolt_load.specs.LineFaults.{IsFaultOfLines, IsListingText, IsLoadFault, RightAfter, shape_fault};
+ghost use Rattle.bolt_load.specs.declared.fault.LineFault.TheVariants.{CutOff};
+ghost use Rattle.bolt_load.specs.declared.fault.LoadFault.TheVariants.{Line};
 ghost use Rattle.bolt_load.specs.{ByteMembers.AreOfBytes, LineMembers.text_members, Lines.Text, Lines.lines_of, PlainTexts.plain_text};
 ghost use Rattle.bolt_load.specs.{Private.Decoding.AreDecoded, Private.OpenPaths.fault_after, declared.fault.LineFault.LineFault};
 ghost use Rattle.bolt_load.specs.Private.OpenPaths as open_paths;
@@ -48,16 +50,22 @@ impl<'a> ListingText<'a> {
     {
         let decoded = decode(alloc, text)?;
         let lines = test_places(alloc, decoded.text, decoded.bytes.as_slice())?;
-        match decoded.fault {
-            Some(fault) => Err(LoadFault::Line {
+        if let Some(fault) = decoded.fault {
+            return Err(LoadFault::Line {
                 line: lines + 1,
                 fault,
-            }),
-            None => Ok(ListingText {
-                text,
-                bytes: decoded.bytes,
-            }),
+            });
         }
+        if !text.ends_with(b"\n") {
+            return Err(LoadFault::Line {
+                line: lines.max(1),
+                fault: LineFault::CutOff,
+            });
+        }
+        Ok(ListingText {
+            text,
+            bytes: decoded.bytes,
+        })
     }
 
     /// The members that the lines tell, in the order of their paths.
@@ -122,7 +130,7 @@ pub(crate) fn test_places(alloc: Global, text: &[u8], bytes: &[u8]) -> Result<u6
     ensures lines { IfOk result (λ lines. lines ≡ length (lines_of text.now)) }
     ensures few { IfOk result (λ lines. lines ≤ length text.now) }
     ensures right { OnOk result (RightAfter [] (lines_of text.now)) }
-    ensures fault { IfErr result (IsLoadFault text.now) }
+    ensures fault { IfErr result (IsFaultOfLines text.now) }
 {
     let mut members = LineMembers::new(alloc, text, bytes);
     let mut line: u64 = 0;
@@ -146,9 +154,9 @@ pub fn a_text_is_of_one_tree()
     a_fit_listing_is_of_one_tree();
 }
 
-/// A text without a fault has no first fault.
-pub fn a_right_text_has_no_first_fault()
-    ensures { (text : Text) (number : ℕ) (fault : LineFault) → IsListingText text → ¬ IsFirstFault text number fault }
+/// A text without a fault has none.
+pub fn a_right_text_has_no_fault()
+    ensures { (text : Text) (line : ℕ) (fault : LineFault) → IsListingText text → ¬ IsLoadFault text (Line line fault) }
 {}
 
 /// A file's listing is of bytes.
@@ -158,16 +166,19 @@ pub fn a_files_listing_is_of_bytes()
     held_members_fit();
 }
 
-/// The text of a listing that is of one tree, its members rising and of bytes, has no fault, and tells
-/// that listing.
+/// The text of a listing that has a member and is of one tree, its members rising and of bytes, has no
+/// fault, and tells that listing. The text of a listing without a member is cut off before line 1.
 pub fn a_listings_text_is_read_back()
-    ensures right { (listing : List Member) → IsOfOneTree listing → Rises member_cmp listing → AreOfBytes listing → IsListingText (listing_text listing) }
+    ensures right { (listing : List Member) → 0 < length listing → IsOfOneTree listing → Rises member_cmp listing → AreOfBytes listing
+        → IsListingText (listing_text listing) }
+    ensures none { (line : ℕ) (fault : LineFault) → IsLoadFault (listing_text []) (Line line fault) → (line ≡ 1) × (fault ≡ CutOff) }
+    ensures empty { ¬ IsListingText (listing_text []) }
     ensures listing { (listing : List Member) → IsOfOneTree listing → Rises member_cmp listing → AreOfBytes listing
         → text_members (listing_text listing) ≡ listing }
 {}
 
-/// A text without a fault is the text of what it tells, but for the case of its letters, leading zeros of
-/// its numbers and the line feed at its end.
+/// A text without a fault is the text of what it tells, but for the case of its letters and leading zeros
+/// of its numbers.
 pub fn a_text_is_that_of_its_listing()
     ensures { (text : Text) → IsListingText text → plain_text text ≡ listing_text (text_members text) }
 {}

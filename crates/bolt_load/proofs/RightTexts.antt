@@ -1,0 +1,17 @@
+-- A right text has no fault.
+use Rattle.std.proofs.Common.{◌≡◌, ◌∙◌, ℕ, List, [], ◌∷◌, ◌++◌, Some, None, true, false, inl, inr, ap, sym, subst, append_assoc, append-nil}
+use Rattle.bolt_load.proofs.Words.{filter_map-append, IsListingText, IsLoadFault, line_fault, line_member, LineFault, Member, members_in, RightAfter, Text}
+use Rattle.bolt_load.specs.declared.fault.LoadFault.TheVariants.{Line}
+
+right_at : (before : List Member) (front : List Text) (line : Text) (rest : List Text) → RightAfter before (front ++ line ∷ rest) → line_fault (before ++ members_in front) line ≡ None
+right_at before [] line rest right = ap (λ ms. line_fault ms line) (append-nil before) ∙ right.0
+right_at before (first ∷ front) line rest right =
+    ap (λ ms. line_fault ms line)
+    (ap (λ ms. before ++ ms) (filter_map-append line_member (first ∷ []) front) ∙ sym (append_assoc before (members_in (first ∷ [])) (members_in front)))
+    ∙ right_at (before ++ members_in (first ∷ [])) front line rest right.1
+
+pub no_fault : (text : Text) (number : ℕ) (fault : LineFault) → IsListingText text → IsLoadFault text (Line number fault) → ⊥
+no_fault text number fault right (inl is) =
+    let here = right_at [] is.front is.line is.rest (subst (RightAfter []) is.lines right.right) in
+    let f : None ≡ Some fault = sym here ∙ is.fault_is in cc
+no_fault text number fault right (inr (same, cut)) = let f : true ≡ false = sym right.whole ∙ cut.cut in cc
