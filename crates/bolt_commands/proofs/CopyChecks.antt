@@ -1,7 +1,7 @@
 -- What `check` answers to a good copy, and to its proper prefixes.
 use Rattle.std.proofs.Common.{◌≡◌, ◌≢◌, ◌∙◌, ◌⊎◌, ◌∷◌, ◌<◌, ℕ, List, [], Bool, true, false, IsTrue, Option, None, Some, Ok, ap, codes, inl, inr, length, refl}
 use Rattle.std.proofs.Common.{subst, sym, take}
-use Rattle.bolt_commands.proofs.Vocabulary.{Active, Answer, AnswersFound, AnswersLosses, AreLosses, CheckFault, Extent, FileFaults, First, HasBothMetas, HasSoundTrees, HashMissing, IsCheckAnswer, IsCheckAnswerAfter, IsChosen, IsFoundAnswer, IsGoodCopy, IsMetaOf, IsMetasFault, IsOtherFault, IsSnapshot, IsSound, LossView, Losses, Member, Meta, MetaFault, Place, RefusesFile, Slot, all_refusal, cases_lt, check_refusal, copy_of, done, found, hash_fault, hash_found, loss_at, losses_of, none_found, place_at, refused}
+use Rattle.bolt_commands.proofs.Vocabulary.{Active, Answer, AnswersFound, AnswersLosses, AreLosses, CheckFault, Extent, FileFaults, First, HasBothMetas, HasSoundTrees, IsCheckAnswer, IsCheckAnswerAfter, IsChosen, IsFoundAnswer, IsGoodCopy, IsMetaOf, IsMetasFault, IsOtherFault, IsSnapshot, IsSound, LossView, Losses, Member, Meta, MetaFault, Place, RefusesFile, Slot, all_refusal, cases_lt, check_refusal, copy_of, done, found, hash_fault, hash_found, loss_at, losses_of, none_found, place_at, refused}
 use Rattle.bolt_check.specs.declared.fault.CheckFault.TheVariants as check
 use Rattle.bolt_snapshot.specs.declared.SnapshotFault.{SnapshotFault}
 use Rattle.bolt_snapshot.proofs.SnapshotLemmas.{no_fault_iff}
@@ -91,7 +91,7 @@ passes laws extent snapshot layout listing answer good (faults, are, is) =
     let other = no_other_fault extent file good.metas faults.other are.metas in
     fine laws faults file slot meta answer (rw (hash, other) refl) chosen sound extent is
 
--- ---- a file that `check` refuses, or whose hash is missing
+-- ---- a file that `check` refuses, or whose hash isn't right
 
 -- no refusal says that the file is sound
 not_ok : (faults : FileFaults) (fault : CheckFault) → ((check_refusal faults fault).ending ≢ Ok 0) × ((all_refusal faults fault).ending ≢ Ok 0)
@@ -102,13 +102,13 @@ ends_so : {answer other : Answer} → answer ≡ other → other.ending ≢ Ok 0
 ends_so said not same = not (sym (ap (λ (a : Answer). a.ending) said) ∙ same)
 
 module _ (laws : Laws) (faults : FileFaults) (file : List ℕ) (answer : Answer) where
-  fails_found : RefusesFile file ⊎ (faults.hash ≡ Some HashMissing) → IsFoundAnswer faults file Active answer → answer.ending ≢ Ok 0
+  fails_found : RefusesFile file ⊎ ((fault : SnapshotFault) × (faults.hash ≡ Some fault)) → IsFoundAnswer faults file Active answer → answer.ending ≢ Ok 0
   fails_found why (inr (fault, is, said)) = ends_so said (not_ok faults fault).0
   fails_found (inl (fault, other, is)) (inl (meta, (slot, chosen, sound), said)) =
       absurd (other (unread file meta sound.trees Active fault (one_active laws file slot meta chosen) (slot, chosen, sound) is))
-  fails_found (inr missing) (inl (meta, under, said)) = ends_so (said ∙ wrong_hash faults HashMissing missing) (λ same. cc)
+  fails_found (inr (fault, wrong)) (inl (meta, under, said)) = ends_so (said ∙ wrong_hash faults fault wrong) (λ same. cc)
 
-  fails_after : (extent : Extent) → RefusesFile file ⊎ (faults.hash ≡ Some HashMissing) → IsCheckAnswerAfter extent faults file Active answer → answer.ending ≢ Ok 0
+  fails_after : (extent : Extent) → RefusesFile file ⊎ ((fault : SnapshotFault) × (faults.hash ≡ Some fault)) → IsCheckAnswerAfter extent faults file Active answer → answer.ending ≢ Ok 0
   fails_after First why is = fails_found why is
   fails_after Losses why (inl (meta, under, inl ([], are, answers))) = fails_found why answers
   fails_after Losses why (inl (meta, under, inl (loss ∷ losses, are, said))) = ends_so said (λ same. cc)
@@ -125,4 +125,4 @@ pub fails : Laws → (extent : Extent) (snapshot : Bool) (layout : List ℕ) (li
     → IsCheckAnswer extent snapshot (take n (copy_of snapshot layout)) Active answer → answer.ending ≢ Ok 0
 fails laws extent snapshot layout listing n answer good less (faults, are, is) =
     fails_after laws faults (take n (copy_of snapshot layout)) answer extent
-    (elim (cases_lt n (length layout)) [ inl early ↦ inl (good.cut_layout n early) | inr late ↦ inr (are.hash ∙ good.cut_hash n late less) ]) is
+    (elim (cases_lt n (length layout)) [ inl early ↦ inl (good.cut_layout n early) | inr late ↦ inr (_, are.hash ∙ good.cut_hash n late less) ]) is

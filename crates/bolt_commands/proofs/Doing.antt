@@ -1,6 +1,6 @@
 -- What jobs do with their text, and how they end.
 use Rattle.std.proofs.Common.{◌≡◌, ℕ, List, Result, Ok, Err, inl, inr, ap, refl}
-use Rattle.bolt_commands.proofs.Vocabulary.{Answer, Appends-nil, CheckFault, Ending, Failure, Ghosts, HasFinding, HasNoBucket, IsErrAnd, IsFailureOf, IsReadUnder, IsUnread}
+use Rattle.bolt_commands.proofs.Vocabulary.{Answer, Appends-nil, CheckFault, Ending, Failure, Ghosts, HasNoBucket, IsErrAnd, IsFailureOf, IsReadUnder, IsUnread}
 use Rattle.bolt_commands.proofs.Vocabulary.{LeadsTo, Meta, MetaChoice, OnOk, Path, PrintsAnswer, SinkFault, Start, Wrote, end_written, ending, refused}
 use Rattle.bolt_commands.specs.declared.failure.Failure.TheVariants.{NoBucket}
 
@@ -33,10 +33,10 @@ module _ {S : Type 0} {sink : Ghosts S} {old : S} {IsWanted : Answer → Type 0}
   answer_nothing failure result is said = record { answer = refused failure; is = is; does = inl (Appends-nil (sink.taken old), refl, ends_as result failure said) }
 
   -- the file is refused, and only the first finding is reported
-  pub answer_refused : (fault : CheckFault) (result : Ending) → HasFinding fault → ((failure : Failure) → IsFailureOf fault failure → IsWanted (refused failure))
-      → IsErrAnd result (λ said. HasFinding fault → IsFailureOf fault said) → PrintsAnswer sink old old IsWanted result
-  answer_refused fault (Ok x) has is names = absurd names
-  answer_refused fault (Err said) has is names = answer_nothing said (Err said) (is said (names has)) refl
+  pub answer_refused : (fault : CheckFault) (result : Ending) → ((failure : Failure) → IsFailureOf fault failure → IsWanted (refused failure))
+      → IsErrAnd result (λ said. IsFailureOf fault said) → PrintsAnswer sink old old IsWanted result
+  answer_refused fault (Ok x) is names = absurd names
+  answer_refused fault (Err said) is names = answer_nothing said (Err said) (is said names) refl
 
   -- the path leads to no bucket, or the file is refused
   pub answer_none : {file : List ℕ} {choice : MetaChoice} {path : Path} (failure : Failure) (result : Ending) → HasNoBucket file choice path failure

@@ -2,7 +2,7 @@
 use Rattle.std.proofs.Common.{◌≡◌, ◌∙◌, ◌+◌, ◌*◌, ◌-◌, ◌^◌, ◌%◌, ◌<◌, ◌==◌, ℕ, zero, suc, List, [], ◌∷◌, ◌++◌, map, Bool, true, false, IsTrue, Some, arith, ap}
 use Rattle.std.proofs.Common.{inl, inr, length, length-append, subst, sym, take}
 use Rattle.std.proofs.Math.Nat.{mul-mod_left, mul_assoc}
-use Rattle.bolt_commands.proofs.Vocabulary.{AllByRecursion, HasBothMetas, HasGoodCopies, HashMissing, IsAsked, IsChosen, IsGoodCopy, IsListing, IsOfOneTree, IsPageSize, IsSnapshot, IsSound, IsSoundCopy, Layout, Member, Meta, One, RefusesFile, RefusesPrefixes, Slot, cases_lt, eqb-true, finding, hash_fault, layout_of_listing, length-sha256, list_any, or_cases, page_size_count, page_sizes, range_with_len, sha256, snapshot_of, take-append-le, too_many}
+use Rattle.bolt_commands.proofs.Vocabulary.{AllByRecursion, HasBothMetas, HasGoodCopies, IsAsked, IsChosen, IsGoodCopy, IsListing, IsOfOneTree, IsPageSize, IsSnapshot, IsSound, IsSoundCopy, Layout, Member, Meta, One, RefusesFile, RefusesPrefixes, Slot, cases_lt, cut_hash_fault, eqb-true, finding, hash_fault, layout_of_listing, length-sha256, list_any, or_cases, page_size_count, page_sizes, range_with_len, sha256, snapshot_of, take-append-le, too_many}
 use Rattle.bolt_check.specs.declared.fault.CheckFault.TheVariants as check
 use Rattle.bolt_format.specs.{declared.open_page.TheConstants.PageFault.CUT, declared.meta.MetaFault.TheVariants.Cut}
 use Rattle.bolt_layout.specs.{Layout.layout_mark, Layout.layout_meta, Layout.layout_of, Layout.layout_root, Storable.IsStorable}
@@ -45,7 +45,7 @@ pub record Laws : Type 0 where
   pub sound_more : (file more : List ℕ) (meta : Meta) (accounts : Bool) → HasAllPages file meta → IsSound file meta accounts → IsSound (file ++ more) meta accounts
   pub listing_more : (file more : List ℕ) (meta : Meta) (listing : List Member) → HasAllPages file meta → IsListing file meta listing → IsListing (file ++ more) meta listing
   pub snapshot : (file : List ℕ) → length file % 512 ≡ 0 → IsSnapshot (snapshot_of file)
-  pub cut : (file : List ℕ) (n : ℕ) → length file % 512 ≡ 0 → n < 32 → hash_fault (take (length file + n) (snapshot_of file)) ≡ Some HashMissing
+  pub cut : (file : List ℕ) (n : ℕ) → length file % 512 ≡ 0 → n < 32 → hash_fault (take (length file + n) (snapshot_of file)) ≡ Some (cut_hash_fault n)
 
 module _ (laws : Laws) (listing : List Member) (sequence : ℕ) (one : IsOfOneTree listing) (fits : sequence < 2 ^ 64) (which : Layout) (page_size : ℕ) (size : IsPageSize page_size)
     (few : length (layout_of_listing which page_size listing sequence) < too_many) where
@@ -96,7 +96,7 @@ module _ (laws : Laws) (listing : List Member) (sequence : ℕ) (one : IsOfOneTr
     cut_layout = λ n less. subst RefusesFile (sym (take-append-le n layout (sha256 layout) (omega (arith, less)))) (refuses n less);
     cut_hash = λ n from less.
         let part : n - length layout < 32 = omega (arith, from, less, length-append layout (sha256 layout), length-sha256 layout) in
-        subst (λ k. hash_fault (take k (snapshot_of layout)) ≡ Some HashMissing) (omega (arith, from)) (laws.cut layout (n - length layout) blocks part);
+        subst (λ k. hash_fault (take k (snapshot_of layout)) ≡ Some (cut_hash_fault (n - length layout))) (omega (arith, from)) (laws.cut layout (n - length layout) blocks part);
   }
 
 pub good_copies : Laws → (listing : List Member) (sequence : ℕ) → IsOfOneTree listing → sequence < 2 ^ 64 → HasGoodCopies listing sequence

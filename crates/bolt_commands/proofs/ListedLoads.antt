@@ -1,10 +1,11 @@
 -- What `list` prints of a file is loaded as the listing of the file.
-use Rattle.std.proofs.Common.{◌≡◌, ◌∙◌, ℕ, Bool, List, [], ◌∷◌, Option, Ok, ap, false, inl, inr, refl, subst, sym}
-use Rattle.bolt_commands.proofs.Vocabulary.{Answer, Ending, First, HasSoundTrees, IsFirstFault, IsListAnswer, IsListedAnswer, IsListing, IsListingText, IsOfOneTree, IsReadUnder, Layout, Loads, LoadsListing, Member, Meta, MetaChoice, Path, Rises, filter_all, listing_lines, member_cmp, not, part_below, part_text, path_cmp, rest_from, text_members}
+use Rattle.std.proofs.Common.{◌≡◌, ◌∙◌, ◌<◌, ℕ, Bool, List, [], ◌∷◌, Option, Ok, ap, arith, false, inl, inr, length, refl, subst, sym}
+use Rattle.bolt_commands.proofs.Vocabulary.{Answer, Ending, First, HasSoundTrees, IsListAnswer, IsListedAnswer, IsListing, IsListingText, IsLoadFault, IsOfOneTree, IsReadUnder, Layout, Loads, LoadsListing, Member, Meta, MetaChoice, Path, Rises, filter_all, listing_lines, member_cmp, not, part_below, part_text, path_cmp, rest_from, text_members}
 use Rattle.bolt_commands.proofs.ReadFiles.{read_trees}
 use Rattle.std.specs.Ordering.{is_lt}
 use Rattle.bolt_format.specs.Bytes.{IsBytes}
 use Rattle.bolt_load.specs.{ByteMembers.AreOfBytes, Lines.Text, declared.fault.LineFault.LineFault}
+use Rattle.bolt_load.specs.declared.fault.LineFault.TheVariants.{CutOff}
 use Rattle.bolt_load.specs.declared.fault.LoadFault.TheVariants.{Line, Memory}
 use Rattle.bolt_report.specs.{ListLines.listing_text, declared.ListForm.TheVariants.Hex}
 
@@ -13,9 +14,11 @@ pub record Below : Type 0 where
   pub hex_lines : (listing : List Member) → listing_lines Hex listing ≡ listing_text listing
   pub one_tree : (file : List ℕ) (meta : Meta) (listing : List Member) → IsBytes file → HasSoundTrees file meta → IsListing file meta listing → IsOfOneTree listing
   pub of_bytes : (file : List ℕ) (meta : Meta) (listing : List Member) → IsBytes file → IsListing file meta listing → AreOfBytes listing
-  pub right : (listing : List Member) → IsOfOneTree listing → Rises member_cmp listing → AreOfBytes listing → IsListingText (listing_text listing)
+  pub right : (listing : List Member) → 0 < length listing → IsOfOneTree listing → Rises member_cmp listing → AreOfBytes listing → IsListingText (listing_text listing)
   pub read_back : (listing : List Member) → IsOfOneTree listing → Rises member_cmp listing → AreOfBytes listing → text_members (listing_text listing) ≡ listing
-  pub no_fault : (text : Text) (number : ℕ) (fault : LineFault) → IsListingText text → IsFirstFault text number fault → ⊥
+  pub no_text : (number : ℕ) (fault : LineFault) → IsLoadFault (listing_text []) (Line number fault) → (number ≡ 1) × (fault ≡ CutOff)
+  pub no_listing : IsListingText (listing_text []) → ⊥
+  pub no_fault : (text : Text) (number : ℕ) (fault : LineFault) → IsListingText text → IsLoadFault text (Line number fault) → ⊥
 
 -- no path comes before the empty one
 none_before : (path : Path) → is_lt (path_cmp path []) ≡ false
@@ -41,11 +44,23 @@ module _ (below : Below) where
         → Loads out_taken out_failed out_old out_new target_taken target_failed target_old target_new text page_size sequence layout snapshot ending
         → LoadsListing out_taken out_failed out_old out_new target_taken target_failed target_old target_new listing text page_size sequence layout snapshot ending
 
-    told : (listing : List Member) (text : List ℕ) → IsListingText text → text_members text ≡ listing → Told listing text
-    told listing text right same out_old out_new target_old target_new page_size sequence layout snapshot ending (inl (is, writes)) =
+    told : (member : Member) (listing : List Member) (text : List ℕ) → IsListingText text → text_members text ≡ member ∷ listing → Told (member ∷ listing) text
+    told member listing text right same out_old out_new target_old target_new page_size sequence layout snapshot ending (inl (is, writes)) =
         inl (rw same at writes)
-    told listing text right same out_old out_new target_old target_new page_size sequence layout snapshot ending (inr (Memory, is, out, target, ends)) = inr (out, target, ends)
-    told listing text right same out_old out_new target_old target_new page_size sequence layout snapshot ending (inr (Line number fault, is, out, target, ends)) = absurd (below.no_fault text number fault right is)
+    told member listing text right same out_old out_new target_old target_new page_size sequence layout snapshot ending (inr (Memory, is, out, target, ends)) = inr (out, target, inl ends)
+    told member listing text right same out_old out_new target_old target_new page_size sequence layout snapshot ending (inr (Line number fault, is, out, target, ends)) =
+        absurd (below.no_fault text number fault right is)
+
+    told_none : Told [] (listing_text [])
+    told_none out_old out_new target_old target_new page_size sequence layout snapshot ending (inl (is, writes)) = absurd (below.no_listing is)
+    told_none out_old out_new target_old target_new page_size sequence layout snapshot ending (inr (Memory, is, out, target, ends)) = (out, target, inr ends)
+    told_none out_old out_new target_old target_new page_size sequence layout snapshot ending (inr (Line number fault, is, out, target, ends)) =
+        let (line, cut) = below.no_text number fault is in (out, target, inl (rw (line, cut) at ends))
+
+    told_of : (listing : List Member) → IsOfOneTree listing → Rises member_cmp listing → AreOfBytes listing → Told listing (listing_text listing)
+    told_of [] one rises own = told_none
+    told_of (member ∷ listing) one rises own =
+        told member listing (listing_text (member ∷ listing)) (below.right (member ∷ listing) (omega arith) one rises own) (below.read_back (member ∷ listing) one rises own)
 
     pub listed_loads : (file : List ℕ) (choice : MetaChoice) (answer : Answer) → IsBytes file → IsListedAnswer First file choice Hex [] [] answer → answer.ending ≡ Ok 0
         → (meta : Meta) × (listing : List Member) × IsReadUnder file choice meta × IsListing file meta listing × Told listing answer.out
@@ -53,6 +68,6 @@ module _ (below : Below) where
         let (listing, lists, out) = printed file meta answer is good in
         let one = below.one_tree file meta listing bytes (read_trees file choice meta under) lists in
         let own = below.of_bytes file meta listing bytes lists in
-        let loads = subst (Told listing) (sym out) (told listing (listing_text listing) (below.right listing one lists.rises own) (below.read_back listing one lists.rises own)) in
+        let loads = subst (Told listing) (sym out) (told_of listing one lists.rises own) in
         (meta, listing, under, lists, loads)
     listed_loads file choice answer bytes (inr (fault, refused, (failure, of, is))) good = absurd (let bad = rw is at good in cc)

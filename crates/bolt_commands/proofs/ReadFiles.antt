@@ -1,8 +1,7 @@
 -- What is known of a file that is read, under whatever meta.
 use Rattle.std.proofs.Common.{Option, Some, None, ◌≡◌, ◌<◌, arith, ℕ, List, Result, Ok, Err, ap, inl, inr, refl, subst, sym}
-use Rattle.bolt_commands.proofs.Vocabulary.{Active, Assumed, CheckFault, Checked, Failure, HasFinding, HasSoundTrees, InSlot, IsErrAnd, IsFailureOf, IsInSlot, IsMeta, IsMetaOf, IsPageSize, IsReadUnder, IsRefusedUnder, IsUnrecoverableUnder, Meta, MetaChoice, One, PageSize, Slot, Zero, bytes_of, copy_page_size, meta_of}
+use Rattle.bolt_commands.proofs.Vocabulary.{Active, Assumed, CheckFault, Checked, Failure, HasSoundTrees, InSlot, IsErrAnd, IsFailureOf, IsInSlot, IsMeta, IsMetaOf, IsPageSize, IsReadUnder, Meta, MetaChoice, One, PageSize, Slot, Zero, bytes_of, copy_page_size, meta_of}
 use Rattle.bolt_format.proofs.PageSizes.{size_bounds}
-use Rattle.bolt_check.specs.declared.fault.CheckFault.TheVariants as check
 
 pub read_trees : (file : List ℕ) (choice : MetaChoice) (meta : Meta) → IsReadUnder file choice meta → HasSoundTrees file meta
 read_trees file Active meta (slot, chosen, sound) = sound.trees
@@ -43,18 +42,8 @@ copy_size None meta is = is
 
 -- ---- why the file is refused, or nothing of it is recovered
 
-pub unread_finding : (file : List ℕ) (choice : MetaChoice) (fault : CheckFault) → IsRefusedUnder file choice fault → HasFinding fault
-unread_finding file Active (check.Accounts findings) (slot, meta, chosen, trees, wrong, are, some) = some
-unread_finding file choice (check.Accounts findings) is = absurd is
-unread_finding file choice fault is = tt
-
-pub unrecoverable_finding : (file : List ℕ) (choice : MetaChoice) (fault : CheckFault) → IsUnrecoverableUnder file choice fault → HasFinding fault
-unrecoverable_finding file Active (check.Accounts findings) is = absurd is
-unrecoverable_finding file choice (check.Accounts findings) is = absurd is
-unrecoverable_finding file choice fault is = tt
-
 -- only the first finding is reported
-pub failure_named : {A : Type 0} (fault : CheckFault) (ending : Result A Failure) → HasFinding fault → IsErrAnd ending (λ said. HasFinding fault → IsFailureOf fault said)
+pub failure_named : {A : Type 0} (fault : CheckFault) (ending : Result A Failure) → IsErrAnd ending (λ said. IsFailureOf fault said)
     → (failure : Failure) × IsFailureOf fault failure × (ending ≡ Err failure)
-failure_named fault (Ok x) has names = absurd names
-failure_named fault (Err said) has names = (said, names has, refl)
+failure_named fault (Ok x) names = absurd names
+failure_named fault (Err said) names = (said, names, refl)

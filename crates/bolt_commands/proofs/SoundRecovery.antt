@@ -74,7 +74,7 @@ module _ (b : Below) (file : List ℕ) (meta : Meta) (trees : HasSoundTrees file
   lists_the_same form path from answer = (listed_there form path from answer, listed_back form path from answer)
 
   module _ {O T : Type 0} (out_taken : O → Option (List ℕ)) (out_failed : O → ℕ) (target_taken : T → Option (List ℕ)) (target_failed : T → ℕ)
-      (out_old out_new : O) (target_old target_new : T) (size : Option PageSize) (which : Layout) (snapshot : Bool) (ending : Ending) (right : hash_differs snapshot file ≡ false) where
+      (out_old out_new : O) (target_old target_new : T) (size : Option PageSize) (which : Layout) (snapshot : Bool) (ending : Ending) (right : bad_hash snapshot file ≡ None) where
     abbrev Copy : (extent : Extent) → MetaChoice → Type 0
     Copy extent choice = MakesCopy out_taken out_failed out_old out_new target_taken target_failed target_old target_new file choice size which snapshot extent ending
 
@@ -88,7 +88,7 @@ module _ (b : Below) (file : List ℕ) (meta : Meta) (trees : HasSoundTrees file
     copied_back (inl (other, listing, read, same_hash, lists, writes)) =
         let (same, recovered) = back other listing read lists in
         inl (meta, listing, [], (shown, keeps_root file meta trees), recovered, no_losses, rw right (rw same at writes))
-    copied_back (inr (inl (other, sound, differs, out, target, ends))) = absurd (false≢true (sym right ∙ differs))
+    copied_back (inr (inl (other, fault, sound, bad, out, target, ends))) = absurd (let f : None ≡ Some fault = sym right ∙ bad in cc)
     copied_back (inr (inr (fault, failure, is, why, out, target, ends))) = inr (fault, failure, unrecoverable fault is, why, out, target, ends)
 
     pub copies_the_same : Copy Losses wanted ↔ Copy First named

@@ -12,13 +12,13 @@ pub use Rattle.bolt_commands.specs.Answers.{IsRecoveredAnswer, IsRecoveredList, 
 pub use Rattle.bolt_commands.specs.Answers.{IsTotal, IsUnrecoverableUnder, LeadsTo, Loads, LoadsListing, MakesCopy, StopsShort, WritesCopy, all_lost_ending}
 pub use Rattle.bolt_commands.specs.Answers.{all_refusal, check_refusal, copy_page_size, copy_report, done, found, found_page, lost_and_found, lost_ending}
 pub use Rattle.bolt_commands.specs.Answers.{no_stats, none_found, page_answer, parents_of, part_ending, part_text, refused, value_shown}
-pub use Rattle.bolt_commands.specs.Failures.{HasFinding, IsFailureOf, copied, unjoined}
+pub use Rattle.bolt_commands.specs.Failures.{IsFailureOf, copied, unjoined}
 pub use Rattle.bolt_commands.specs.FileFaults.{IsMetasFault, IsOtherFault, errors_in, other_lines}
 pub use Rattle.bolt_commands.specs.GoodCopies.{HasGoodCopies, IsGoodCopy, RefusesFile}
 pub use Rattle.bolt_commands.specs.Private.Copying.{CopiesTo, IsAskedShape, shaped_layout}
 pub use Rattle.bolt_commands.specs.Private.Endings.{end_of, end_of_part, end_written}
 pub use Rattle.bolt_commands.specs.Private.Opened.{HasNoBucket, IsBucketOf, IsJoinedOf, IsSearchOf, IsUnread}
-pub use Rattle.bolt_commands.specs.SnapshotAnswers.{copy_of, hash_differs, hash_found}
+pub use Rattle.bolt_commands.specs.SnapshotAnswers.{bad_hash, copy_of, hash_found}
 pub use Rattle.bolt_commands.specs.{CopyEnds.EndsCopy, Hashes.HashesSince, declared.failure.Failure.Failure, declared.file_faults.FileFaults.FileFaults}
 pub use Rattle.bolt_commands.specs.{Private.Printing.PrintsAnswer, Private.Reports.EndsCopying}
 pub use Rattle.bolt_format.proofs.SinkLemmas.{AppendsProperPrefix-first, AppendsProperPrefix-second}
@@ -36,7 +36,7 @@ pub use Rattle.bolt_job.specs.{PlainWords.path_in, declared.choices.Extent.Exten
 pub use Rattle.bolt_job.specs.{declared.choices.PageSize.PageSize}
 pub use Rattle.bolt_layout.specs.Copies.{IsAsked, IsOfOneTree, IsSoundCopy, RefusesPrefixes, layout_of_listing}
 pub use Rattle.bolt_layout.specs.{declared.Layout.Layout}
-pub use Rattle.bolt_load.specs.LineFaults.{IsFirstFault, IsListingText}
+pub use Rattle.bolt_load.specs.LineFaults.{IsListingText, IsLoadFault}
 pub use Rattle.bolt_load.specs.{LineMembers.text_members}
 pub use Rattle.bolt_recover.proofs.Existing.{has_losses, has_recovered}
 pub use Rattle.bolt_recover.specs.JoinedMembers.{ForJoined, joined_file, joined_left, joined_meta}
@@ -51,8 +51,7 @@ pub use Rattle.bolt_report.specs.KeyLines.{buckets_text, keys_text}
 pub use Rattle.bolt_report.specs.{Figures.add_stats, ListForms.listing_lines, ReportEndings.report_ending, declared.ReportFault.ReportFault}
 pub use Rattle.bolt_report.specs.{declared.FigureForm.FigureForm, declared.Form.TheVariants.Json, declared.ListForm.ListForm}
 pub use Rattle.bolt_report.specs.{declared.statistics.Stats.Stats}
-pub use Rattle.bolt_snapshot.specs.SnapshotFaults.{IsSnapshot, hash_fault, snapshot_of}
-pub use Rattle.bolt_snapshot.specs.{declared.SnapshotFault.TheVariants.HashMissing}
+pub use Rattle.bolt_snapshot.specs.SnapshotFaults.{IsSnapshot, cut_hash_fault, hash_fault, snapshot_of}
 pub use Rattle.bolt_tree.proofs.Leaving.{fewer_left, next_shows, the_entries}
 pub use Rattle.bolt_tree.proofs.Named.{entry_once, held_down, held_up, names_push}
 pub use Rattle.bolt_tree.proofs.{Existing.has_listing, Filters.filter_all}

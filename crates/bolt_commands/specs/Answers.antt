@@ -27,14 +27,17 @@ use Rattle.bolt_tree.specs.{Listing.IsListing, Listing.Member, Listing.rest_from
 use Rattle.bolt_tree.specs.Paths.{Holds, Names, Path}
 use Rattle.bolt_job.specs.CopyKinds.{is_snapshot, layout_for}
 use Rattle.bolt_commands.specs.Failures.{IsFailureOf, failure_line, unjoined, unloaded}
-use Rattle.bolt_commands.specs.{FileFaults.AreFileFaults, FileFaults.errors_in, FileFaults.fault_lines, FileFaults.is_fine, GoodCopies.IsGoodCopy}
+use Rattle.bolt_commands.specs.{FileFaults.AreFileFaults, FileFaults.errors_in, FileFaults.fault_lines, FileFaults.hash_lines, FileFaults.is_fine, GoodCopies.IsGoodCopy}
 use Rattle.bolt_job.specs.MetaChoices.{HasNoMetaOf, IsMetaOf, assumed_for}
-use Rattle.bolt_commands.specs.SnapshotAnswers.{copy_of, differing_line, hash_differs}
+use Rattle.bolt_commands.specs.SnapshotAnswers.{bad_hash, copy_of}
 use Rattle.bolt_job.specs.declared.choices.Extent.{Extent}
 use Rattle.bolt_job.specs.declared.choices.Extent.TheVariants.{First, LostAndFound, Losses}
 use Rattle.bolt_commands.specs.declared.failure.Failure.{Failure}
 use Rattle.bolt_commands.specs.declared.failure.Failure.TheVariants as failure
 use Rattle.bolt_commands.specs.declared.file_faults.FileFaults.{FileFaults}
+use Rattle.bolt_check.specs.ShownFindings.{findings_in}
+use Rattle.bolt_load.specs.declared.fault.LineFault.TheVariants.{CutOff}
+use Rattle.bolt_snapshot.specs.declared.SnapshotFault.{SnapshotFault}
 use Rattle.bolt_job.specs.declared.job.Job.{Job}
 use Rattle.bolt_job.specs.declared.job.Job.TheVariants as job
 use Rattle.bolt_job.specs.declared.choices.MetaChoice.{MetaChoice}
@@ -96,7 +99,7 @@ none_found faults = if is_fine faults then done (codes "OK\n") else found faults
 abbrev pub check_refusal : FileFaults → CheckFault → Answer
 check_refusal faults (check.Open fault) = record { out = fault_lines faults; ending = Err (failure.Metas fault) }
 check_refusal faults (check.Structure x) = found faults (x ∷ [])
-check_refusal faults (check.Accounts findings) = found faults findings.items
+check_refusal faults (check.Accounts findings) = found faults (findings_in findings)
 check_refusal faults check.Memory = refused failure.Memory
 
 -- a path leads from the root bucket to this one; and what it holds
@@ -417,17 +420,17 @@ pub record StopsShort {T : Type 0} (taken : T → Option (List ℕ)) (failed : T
   pub why : StopsCopy failed old new layout failure
   pub large : too_many ≤ length layout → Keeps (taken old) (taken new)
 
--- the status of a copy if this is reported beside it, and whether the hash of its file differs
-abbrev pub copy_status : (differs : Bool) → LostView → ℕ
-copy_status true lost = 1
-copy_status false (everything x) = 1
-copy_status false (parts []) = 0
-copy_status false (parts (loss ∷ losses)) = 1
+-- the status of a copy if this is reported beside it, and this is wrong with the hash of its file
+abbrev pub copy_status : Option SnapshotFault → LostView → ℕ
+copy_status (Some fault) lost = 1
+copy_status None (everything x) = 1
+copy_status None (parts []) = 0
+copy_status None (parts (loss ∷ losses)) = 1
 
--- what is reported of a copy: that the hash of its file differs, each loss, each found page, and the lengths of the file and of the copy
-abbrev pub copy_report : (differs : Bool) → LostView → List FoundView → (source copy : ℕ) → Answer
-copy_report differs lost found source copy =
-    record { out = differing_line differs ++ (lost_text lost found ++ lengths_line source copy); ending = Ok (copy_status differs lost) }
+-- what is reported of a copy: what is wrong with the hash of its file, each loss, each found page, and the lengths of the file and of the copy
+abbrev pub copy_report : Option SnapshotFault → LostView → List FoundView → (source copy : ℕ) → Answer
+copy_report hash lost found source copy =
+    record { out = hash_lines hash ++ (lost_text lost found ++ lengths_line source copy); ending = Ok (copy_status hash lost) }
 
 -- ---- all commands
 
@@ -457,21 +460,21 @@ module _ {O T : Type 0} (out_taken : O → Option (List ℕ)) (out_failed : O �
   WritesCopy snapshot listing layout answer ending = CopiesWhole snapshot listing layout answer ending ⊎ CopiesInPart snapshot layout ending
 
   -- The target accepts the layout that is asked for of the file's listing, at the copy's page size, and for a snapshot then its hash: a good
-  -- copy of that listing. Or the hash of the file differs, or the file is refused, and neither is touched.
+  -- copy of that listing. Or the file has a hash that isn't right, or the file is refused, and neither is touched.
   abbrev pub Compacts : List ℕ → MetaChoice → Option PageSize → Layout → (snapshot : Bool) → Ending → Type 0
   Compacts file choice size which snapshot ending =
-      ((meta : Meta) × (listing : List Member) × IsReadUnder file choice meta × (hash_differs snapshot file ≡ false) × IsListing file meta listing
+      ((meta : Meta) × (listing : List Member) × IsReadUnder file choice meta × (bad_hash snapshot file ≡ None) × IsListing file meta listing
       × WritesCopy snapshot listing (layout_of_listing which (copy_page_size size meta) listing meta.root_sequence) (λ copy. done (lengths_line (length file) copy)) ending)
-      ⊎ ((meta : Meta) × IsReadUnder file choice meta × (hash_differs snapshot file ≡ true)
-      × (out_new ≡ out_old) × (target_new ≡ target_old) × (ending ≡ Err failure.HashDiffers))
+      ⊎ ((meta : Meta) × (fault : SnapshotFault) × IsReadUnder file choice meta × (bad_hash snapshot file ≡ Some fault)
+      × (out_new ≡ out_old) × (target_new ≡ target_old) × (ending ≡ Err (failure.Hash fault)))
       ⊎ ((fault : CheckFault) × (failure : Failure) × IsRefusedUnder file choice fault × IsFailureOf fault failure
       × (out_new ≡ out_old) × (target_new ≡ target_old) × (ending ≡ Err failure))
 
-  -- the same of the recovered listing, and it is reported if the hash differs, and each loss; or nothing is recovered
+  -- the same of the recovered listing, and it is reported if the file has a hash that isn't right, and each loss; or nothing is recovered
   abbrev pub Recovers : List ℕ → MetaChoice → Option PageSize → Layout → (snapshot : Bool) → Ending → Type 0
   Recovers file choice size which snapshot ending =
       ((meta : Meta) × (listing : List Member) × (losses : List LossView) × IsRecoveredUnder file choice meta × IsRecovered file meta listing × AreLosses file meta losses
-      × WritesCopy snapshot listing (layout_of_listing which (copy_page_size size meta) listing meta.root_sequence) (λ copy. copy_report (hash_differs snapshot file) (parts losses) [] (length file) copy) ending)
+      × WritesCopy snapshot listing (layout_of_listing which (copy_page_size size meta) listing meta.root_sequence) (λ copy. copy_report (bad_hash snapshot file) (parts losses) [] (length file) copy) ending)
       ⊎ ((fault : CheckFault) × (failure : Failure) × IsUnrecoverableUnder file choice fault × IsFailureOf fault failure
       × (out_new ≡ out_old) × (target_new ≡ target_old) × (ending ≡ Err failure))
 
@@ -479,7 +482,7 @@ module _ {O T : Type 0} (out_taken : O → Option (List ℕ)) (out_failed : O �
   abbrev pub Joins : List ℕ → MetaChoice → Option PageSize → Layout → (snapshot : Bool) → Ending → Type 0
   Joins file choice size which snapshot ending =
       ((meta : Meta) × (listing : List Member) × (lost : LostView) × (found : List FoundView) × IsMetaOf file choice meta × IsSalvaged file meta listing lost found
-      × CopiesWhole snapshot listing (layout_of_listing which (copy_page_size size meta) listing meta.root_sequence) (λ copy. copy_report (hash_differs snapshot file) lost found (length file) copy) ending)
+      × CopiesWhole snapshot listing (layout_of_listing which (copy_page_size size meta) listing meta.root_sequence) (λ copy. copy_report (bad_hash snapshot file) lost found (length file) copy) ending)
       ⊎ ((meta : Meta) × (listing : List Member) × IsMetaOf file choice meta × IsJoined file meta listing
       × CopiesInPart snapshot (layout_of_listing which (copy_page_size size meta) listing meta.root_sequence) ending)
       ⊎ ((why : Failure) × IsUnjoinedUnder file choice why × (out_new ≡ out_old) × (target_new ≡ target_old) × (ending ≡ Err why))
@@ -498,11 +501,16 @@ module _ {O T : Type 0} (out_taken : O → Option (List ℕ)) (out_failed : O �
       × WritesCopy snapshot (text_members file) (layout_of_listing which page_size (text_members file) sequence) (λ copy. done (lengths_line (length file) copy)) ending)
       ⊎ ((fault : LoadFault) × IsLoadFault file fault × (out_new ≡ out_old) × (target_new ≡ target_old) × (ending ≡ Err (unloaded fault)))
 
-  -- the same of the text of this listing, which has no line that isn't right
+  -- nothing is written, and the job ends with this failure or for want of memory
+  abbrev pub StopsAt : Failure → Ending → Type 0
+  StopsAt why ending = (out_new ≡ out_old) × (target_new ≡ target_old) × ((ending ≡ Err why) ⊎ (ending ≡ Err failure.Memory))
+
+  -- the same of the text of this listing, which has no line that isn't right; a text without a line is cut off
   abbrev pub LoadsListing : List Member → List ℕ → (page_size sequence : ℕ) → Layout → (snapshot : Bool) → Ending → Type 0
-  LoadsListing listing file page_size sequence which snapshot ending =
-      WritesCopy snapshot listing (layout_of_listing which page_size listing sequence) (λ copy. done (lengths_line (length file) copy)) ending
-      ⊎ ((out_new ≡ out_old) × (target_new ≡ target_old) × (ending ≡ Err failure.Memory))
+  LoadsListing [] file page_size sequence which snapshot ending = StopsAt (failure.Line 1 CutOff) ending
+  LoadsListing (member ∷ listing) file page_size sequence which snapshot ending =
+      WritesCopy snapshot (member ∷ listing) (layout_of_listing which page_size (member ∷ listing) sequence) (λ copy. done (lengths_line (length file) copy)) ending
+      ⊎ StopsAt failure.Memory ending
 
   -- what a job does, and how it ends
   abbrev pub DoesJob : List ℕ → Job → Ending → Type 0

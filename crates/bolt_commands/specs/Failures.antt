@@ -1,10 +1,10 @@
 -- Why a job isn't done, and what is reported of it: docs/COMMANDS.md, "What a run writes".
-use Rattle.std.specs.Prelude.{◌≡◌, ◌≢◌, ℕ, List, [], ◌∷◌, ◌++◌, codes, decimal}
+use Rattle.std.specs.Prelude.{◌≡◌, List, ◌++◌, ℕ, Some, codes, decimal, option_map, slice_get}
 use Rattle.bolt_bulk.specs.declared.fault.BulkFault.{BulkFault}
 use Rattle.bolt_bulk.specs.declared.fault.BulkFault.TheVariants as bulk
 use Rattle.bolt_check.specs.declared.fault.CheckFault.{CheckFault}
 use Rattle.bolt_check.specs.declared.fault.CheckFault.TheVariants as check
-use Rattle.bolt_check.specs.declared.fault.Finding.{Finding}
+use Rattle.bolt_check.specs.ShownFindings.{findings_in}
 use Rattle.bolt_load.specs.{FaultWords.line_fault_words, declared.fault.LoadFault.LoadFault}
 use Rattle.bolt_load.specs.declared.fault.LoadFault.TheVariants as load
 use Rattle.bolt_recover.specs.declared.joined.JoinFault.{JoinFault}
@@ -12,9 +12,8 @@ use Rattle.bolt_recover.specs.declared.joined.JoinFault.TheVariants as join
 use Rattle.bolt_report.specs.FaultWords.{finding_text, meta_fault_text, page_fault_text, snapshot_fault_text}
 use Rattle.bolt_report.specs.declared.ReportFault.{ReportFault}
 use Rattle.bolt_report.specs.declared.ReportFault.TheVariants as report
-use Rattle.bolt_snapshot.specs.declared.SnapshotFault.TheVariants as snapshot
 use Rattle.bolt_commands.specs.declared.failure.Failure.{Failure}
-use Rattle.bolt_commands.specs.declared.failure.Failure.TheVariants.{Exists, File, HashDiffers, Line, Lost, Memory, Metas, NoBucket, NoKey, Page, TooLarge, Write}
+use Rattle.bolt_commands.specs.declared.failure.Failure.TheVariants.{Exists, File, Hash, Line, Lost, Memory, Metas, NoBucket, NoKey, Page, TooLarge, Write}
 
 abbrev pub failure_text : Failure → List ℕ
 failure_text (Metas fault) = meta_fault_text fault
@@ -25,7 +24,7 @@ failure_text NoKey = codes "key not found\n"
 failure_text Memory = codes "out of memory\n"
 failure_text TooLarge = codes "layout too large\n"
 failure_text Write = codes "write failed\n"
-failure_text HashDiffers = snapshot_fault_text snapshot.HashDiffers
+failure_text (Hash fault) = snapshot_fault_text fault
 failure_text Exists = codes "lost+found exists\n"
 failure_text (Lost count) = codes "pages lost: " ++ (decimal count ++ codes "\n")
 failure_text (Line number fault) = codes "line " ++ ((decimal number ++ codes ": ") ++ (line_fault_words fault ++ codes "\n"))
@@ -55,23 +54,12 @@ unloaded (load.Line number fault) = Line number fault
 abbrev pub unjoined : JoinFault → Failure
 unjoined (join.Root x) = File x
 unjoined join.Exists = Exists
+unjoined join.TooLarge = TooLarge
 unjoined join.Memory = Memory
 
--- of the findings the first is reported
-abbrev pub IsOfFirst : List Finding → Failure → Type 0
-IsOfFirst [] failure = ⊥
-IsOfFirst (x ∷ more) failure = failure ≡ File x
-
--- the failure of a job whose file is refused
+-- the failure of a job whose file is refused; of the findings of the accounts the first is reported
 abbrev pub IsFailureOf : CheckFault → Failure → Type 0
 IsFailureOf (check.Open fault) failure = failure ≡ Metas fault
 IsFailureOf (check.Structure x) failure = failure ≡ File x
-IsFailureOf (check.Accounts findings) failure = IsOfFirst findings.items failure
+IsFailureOf (check.Accounts findings) failure = option_map File (slice_get (findings_in findings) 0) ≡ Some failure
 IsFailureOf check.Memory failure = failure ≡ Memory
-
--- if accounts are reported, there is a finding
-abbrev pub HasFinding : CheckFault → Type 0
-HasFinding (check.Open fault) = Unit {0}
-HasFinding (check.Structure x) = Unit {0}
-HasFinding (check.Accounts findings) = findings.items ≢ []
-HasFinding check.Memory = Unit {0}

@@ -1,11 +1,11 @@
 -- What holds of a copy that is whole: docs/LAYOUT.md, "What holds of both layouts", and docs/COMMANDS.md, "Snapshots".
-use Rattle.std.specs.Prelude.{◌≡◌, ◌≢◌, ◌≤◌, ◌<◌, ℕ, List, Bool, true, IsTrue, Some, length, take}
+use Rattle.std.specs.Prelude.{◌≡◌, ◌≢◌, ◌≤◌, ◌<◌, ◌-◌, ℕ, List, Bool, true, IsTrue, Some, length, take}
 use Rattle.bolt_bulk.specs.Compacting.{too_many}
 use Rattle.bolt_check.specs.{Sound.IsRefused, Sound.IsSound, declared.fault.CheckFault.CheckFault}
 use Rattle.bolt_check.specs.declared.fault.CheckFault.TheVariants as check
 use Rattle.bolt_format.specs.{Metas.HasBothMetas, Metas.IsChosen, Metas.IsPageSize, declared.meta.Meta.Meta, declared.meta.Slot.Slot}
 use Rattle.bolt_layout.specs.{Copies.layout_of_listing, declared.Layout.Layout}
-use Rattle.bolt_snapshot.specs.{SnapshotFaults.IsSnapshot, declared.SnapshotFault.TheVariants.HashMissing}
+use Rattle.bolt_snapshot.specs.SnapshotFaults.{IsSnapshot, cut_hash_fault}
 use Rattle.bolt_tree.specs.Listing.{IsListing, Member}
 use Rattle.bolt_commands.specs.SnapshotAnswers.{copy_of, hash_found}
 
@@ -26,8 +26,8 @@ pub record IsGoodCopy (snapshot : Bool) (layout : List ℕ) (listing : List Memb
   pub hash : IsTrue snapshot → IsSnapshot (copy_of snapshot layout)
   -- if it is cut short in its layout, `check` refuses it
   pub cut_layout : (n : ℕ) → n < length layout → RefusesFile (take n (copy_of snapshot layout))
-  -- if it is cut short in its hash, that is missing
-  pub cut_hash : (n : ℕ) → length layout ≤ n → n < length (copy_of snapshot layout) → hash_found snapshot (take n (copy_of snapshot layout)) ≡ Some HashMissing
+  -- if its hash is missing or cut short, that is found
+  pub cut_hash : (n : ℕ) → length layout ≤ n → n < length (copy_of snapshot layout) → hash_found snapshot (take n (copy_of snapshot layout)) ≡ Some (cut_hash_fault (n - length layout))
 
 -- each copy of this listing that has fewer than 2^63 bytes is a good one
 abbrev pub HasGoodCopies : List Member → (sequence : ℕ) → Type 0

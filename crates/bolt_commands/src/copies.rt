@@ -9,18 +9,19 @@ ghost use Rattle.bolt_format.specs.{Endings.ending, Wrote.Wrote};
 ghost use Rattle.bolt_recover.specs.ShownLosses.{lost_view};
 ghost use Rattle.bolt_report.specs.FoundLines.{IsFoundLeaf};
 ghost use Rattle.bolt_tree.specs.Listing.{Member};
-ghost use Rattle.bolt_commands.specs.{Answers.copy_status, Answers.lengths_line, SnapshotAnswers.differing_line};
+ghost use Rattle.bolt_commands.specs.{Answers.copy_status, Answers.lengths_line, FileFaults.hash_lines};
 ghost use Rattle.bolt_commands.specs.{CopyEnds.EndsCopy, Hashes.HashesSince, Private.Copying.CopiesTo, Private.Copying.shaped_layout};
 ghost use Rattle.bolt_commands.specs.Private.Reports.{EndsCopying, report_answer, report_text};
 ghost use Rattle.bolt_job.specs.CopyKinds.{is_snapshot};
 
 use crate::copy_source::{Copied, CopySource, sources_have_good_copies};
 use crate::failure::{Outcome, put_number_and};
+use crate::file_faults::put_hash_line;
 use bolt_bulk::{BulkFault, Shape};
 use bolt_format::{Sink, SinkFault};
 use bolt_job::CopyKind;
 use bolt_recover::{Found, Lost};
-use bolt_report::{lost_text, snapshot_fault_text};
+use bolt_report::lost_text;
 use bolt_snapshot::{HASH_LEN, SnapshotFault};
 use sha2::{Digest, Sha256};
 use std::alloc::Global;
@@ -165,8 +166,8 @@ impl<'a, T: Sink, K: Origin> Sink for Hashing<'a, T, K> {
 /// What is reported of a copy beside its length.
 #[derive(Clone, Copy)]
 pub(crate) struct CopyReport<'l, 'f> {
-    /// Whether the hash of the file differs.
-    pub differs: bool,
+    /// What is wrong with the hash of the file, if a snapshot is made of one.
+    pub hash: Option<SnapshotFault>,
     pub lost: Lost<'l>,
     pub found: &'f [Found<'f>],
     /// The length of the file.
@@ -183,7 +184,7 @@ pub(crate) fn end_copy<O: Sink>(
     ensures { EndsCopying O.Sink out.old out.new (report_answer report.now) copied result }
 {
     put_report(report, copied?, out)?;
-    Ok(status_of(report.differs, report.lost))
+    Ok(status_of(report.hash, report.lost))
 }
 
 #[tactic(auto, using(bolt_format::proofs::WroteLemmas::wrote))]
@@ -191,27 +192,17 @@ fn put_report<O: Sink>(report: &CopyReport<'_, '_>, copy: u64, out: &mut O) -> R
     requires { All IsFoundLeaf report.now.found.now }
     ensures { Wrote O.Sink out.old out.new (report_text report.now copy) (ending result) }
 {
-    put_differing(report.differs, out)?;
+    put_hash_line(report.hash, out)?;
     lost_text(report.lost, report.found, out)?;
     put_lengths(report.source, copy, out)
 }
 
-/// Writes that the hash differs, if it does.
-fn put_differing<O: Sink>(differs: bool, out: &mut O) -> Result<(), SinkFault>
-    ensures { Wrote O.Sink out.old out.new (differing_line differs) (ending result) }
-{
-    if differs {
-        return snapshot_fault_text(SnapshotFault::HashDiffers, out);
-    }
-    Ok(())
-}
-
 /// The status if this is lost.
-fn status_of(differs: bool, lost: Lost<'_>) -> u8
-    ensures { result ≡ copy_status differs (lost_view lost.entry) }
+fn status_of(hash: Option<SnapshotFault>, lost: Lost<'_>) -> u8
+    ensures { result ≡ copy_status hash (lost_view lost.entry) }
 {
-    match lost {
-        Lost::Parts([]) if !differs => 0,
+    match (hash, lost) {
+        (None, Lost::Parts([])) => 0,
         _ => 1,
     }
 }

@@ -4,7 +4,7 @@ ghost use Rattle.bolt_format.specs.Metas.{IsPageSize};
 ghost use Rattle.bolt_commands.specs.Private.Copying.{CompactsTo, LoadsJob, IsAskedShape};
 ghost use Rattle.bolt_commands.specs.Private.Opened.{IsSearchOf};
 ghost use Rattle.bolt_job.specs.CopyKinds.{is_snapshot};
-ghost use Rattle.bolt_commands.specs.SnapshotAnswers.{hash_differs};
+ghost use Rattle.bolt_commands.specs.SnapshotAnswers.{bad_hash};
 
 use crate::copies::{CopyReport, copy_members, end_copy};
 use crate::failure::{Failure, Outcome};
@@ -45,15 +45,15 @@ fn write_sound<O: Sink, T: Sink>(
     ensures { CompactsTo O.Sink out.old out.new T.Sink target.old target.new Extent.First job.now input.entry.file.now result }
 {
     let checked = input.read(job.meta)?;
-    if hash_differs(job, input.file) {
-        return Err(Failure::HashDiffers);
+    if let Some(fault) = bad_hash(job, input.file) {
+        return Err(Failure::Hash(fault));
     }
     let shape = shape_of(job, &checked.meta());
     let mut walk = Walk::new(input.alloc, checked);
     a_walk_is_whole(&walk);
     let copied = copy_members(input.alloc, &mut walk, &shape, job.kind, target);
     let report = CopyReport {
-        differs: false,
+        hash: None,
         lost: Lost::Parts(&[]),
         found: &[],
         source: input.file.len() as u64,
@@ -75,7 +75,7 @@ fn write_recovered<O: Sink, T: Sink>(
     a_recovery_is_whole(&recovery);
     let copied = copy_members(input.alloc, &mut recovery, &shape, job.kind, target);
     let report = CopyReport {
-        differs: hash_differs(job, input.file),
+        hash: bad_hash(job, input.file),
         lost: Lost::Parts(recovery.losses()),
         found: &[],
         source: input.file.len() as u64,
@@ -114,7 +114,7 @@ fn write_found<O: Sink, T: Sink>(
     joined_members_are_whole(&joined);
     let copied = copy_members(input.alloc, &mut joined, &shape, job.kind, target);
     let report = CopyReport {
-        differs: hash_differs(job, input.file),
+        hash: bad_hash(job, input.file),
         lost: both.lost(),
         found: both.found.as_slice(),
         source: input.file.len() as u64,
@@ -138,17 +138,17 @@ fn shape_of(job: &CompactJob, meta: &Meta) -> Shape
     }
 }
 
-/// Whether a snapshot is to be made of a file that is one by its length, but whose hash differs. Its
-/// copy would have a right hash.
-fn hash_differs(job: &CompactJob, file: &[u8]) -> bool
-    ensures { result ≡ hash_differs (is_snapshot job.now.kind) file.now }
+/// What is wrong with the hash that a file has, if a snapshot is to be made of the file. The copy would
+/// have a right hash.
+fn bad_hash(job: &CompactJob, file: &[u8]) -> Option<SnapshotFault>
+    ensures { result ≡ bad_hash (is_snapshot job.now.kind) file.now }
 {
     if !job.kind.is_snapshot() {
-        return false;
+        return None;
     }
     match snapshot_fault(file) {
-        Some(SnapshotFault::HashDiffers) => true,
-        Some(SnapshotFault::HashMissing) | None => false,
+        Some(SnapshotFault::HashMissing) => None,
+        fault => fault,
     }
 }
 
@@ -173,7 +173,7 @@ pub(crate) fn write_loaded<O: Sink, T: Sink>(
     };
     let copied = copy_members(input.alloc, &mut members, &shape, job.kind, target);
     let report = CopyReport {
-        differs: false,
+        hash: None,
         lost: Lost::Parts(&[]),
         found: &[],
         source: input.file.len() as u64,

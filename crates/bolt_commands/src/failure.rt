@@ -3,7 +3,7 @@ ghost use Rattle.std.specs.Prelude.{◌≡◌, ◌++◌, Ok, codes, decimal};
 ghost use Rattle.bolt_format.specs.{Endings.ending, Wrote.Wrote};
 ghost use Rattle.bolt_report.specs.FaultWords.{finding_text};
 ghost use Rattle.bolt_load.specs.FaultWords.{line_fault_words};
-ghost use Rattle.bolt_commands.specs.Failures.{HasFinding, IsFailureOf, copied, failure_line, failure_text, reported, unjoined, unloaded};
+ghost use Rattle.bolt_commands.specs.Failures.{IsFailureOf, copied, failure_line, failure_text, reported, unjoined, unloaded};
 ghost use Rattle.bolt_commands.specs.declared.failure.Failure.TheVariants as failure;
 ghost use Rattle.bolt_commands.specs.Private.Endings.{end_of, end_written};
 
@@ -34,10 +34,10 @@ pub enum Failure {
     NoKey,
     /// Memory ran out.
     Memory,
-    /// The copy would have 2^63 bytes or more.
+    /// The copy would have 2^63 bytes or more, or the file has more pages than can be named.
     TooLarge,
-    /// A snapshot was to be made of a file that is one by its length, but whose hash differs.
-    HashDiffers,
+    /// A snapshot was to be made of a file whose own hash is cut off or differs.
+    Hash(SnapshotFault),
     /// There is an entry `lost+found`, so what is found can't be put there.
     Exists,
     /// Standard output or the copy couldn't be written.
@@ -93,17 +93,14 @@ impl From<MetaFault> for Failure {
 }
 
 impl From<CheckFault> for Failure {
-    ghost from_gives = { λ fault result. HasFinding fault → IsFailureOf fault result };
+    ghost from_gives = { λ fault result. IsFailureOf fault result };
 
-    /// Of the findings only the first is reported. No file is refused for accounts without a finding.
+    /// Of the findings only the first is reported.
     fn from(fault: CheckFault) -> Failure {
         match fault {
             CheckFault::Open(fault) => Failure::Metas(fault),
             CheckFault::Structure(finding) => Failure::File(finding),
-            CheckFault::Accounts(findings) => match findings.first() {
-                Some(finding) => Failure::File(*finding),
-                None => Failure::Memory,
-            },
+            CheckFault::Accounts(findings) => Failure::File(findings.first()),
             CheckFault::Memory => Failure::Memory,
         }
     }
@@ -116,6 +113,7 @@ impl From<JoinFault> for Failure {
         match fault {
             JoinFault::Root(finding) => Failure::File(finding),
             JoinFault::Exists => Failure::Exists,
+            JoinFault::TooLarge => Failure::TooLarge,
             JoinFault::Memory => Failure::Memory,
         }
     }
@@ -183,7 +181,7 @@ fn put_text<E: Sink>(failure: &Failure, err: &mut E) -> Result<(), SinkFault>
         Failure::NoKey => put_words(b"key not found\n", err),
         Failure::Memory => put_words(b"out of memory\n", err),
         Failure::TooLarge => put_words(b"layout too large\n", err),
-        Failure::HashDiffers => snapshot_fault_text(SnapshotFault::HashDiffers, err),
+        Failure::Hash(fault) => snapshot_fault_text(*fault, err),
         Failure::Exists => put_words(b"lost+found exists\n", err),
         Failure::Write => put_words(b"write failed\n", err),
         Failure::Lost(count) => put_pages_lost(*count, err),

@@ -70,31 +70,29 @@ pub(crate) fn put_file_faults<O: Sink>(faults: FileFaults, out: &mut O) -> Resul
     ensures errors { IfOk result (λ errors. errors ≡ errors_in faults) }
     ensures few { IfOk result (λ errors. errors ≤ 2) }
 {
-    let hash = put_hash_fault(faults.hash, out)?;
-    let other = put_other_fault(faults.other, out)?;
-    Ok(hash + other)
+    put_hash_line(faults.hash, out)?;
+    put_other_line(faults.other, out)?;
+    Ok(u64::from(faults.hash.is_some()) + u64::from(faults.other.is_some()))
 }
 
-fn put_hash_fault<O: Sink>(hash: Option<SnapshotFault>, out: &mut O) -> Result<u64, SinkFault>
-    ensures line { Wrote O.Sink out.old out.new (hash_lines hash) (ending result) }
-    ensures errors { IfOk result (λ errors. errors ≡ counted hash) }
-    ensures few { IfOk result (λ errors. errors ≤ 1) }
+/// Writes what is wrong with the hash, if anything is.
+pub(crate) fn put_hash_line<O: Sink>(
+    hash: Option<SnapshotFault>,
+    out: &mut O,
+) -> Result<(), SinkFault>
+    ensures { Wrote O.Sink out.old out.new (hash_lines hash) (ending result) }
 {
-    let Some(fault) = hash else {
-        return Ok(0);
-    };
-    snapshot_fault_text(fault, out)?;
-    Ok(1)
+    match hash {
+        Some(fault) => snapshot_fault_text(fault, out),
+        None => Ok(()),
+    }
 }
 
-fn put_other_fault<O: Sink>(other: Option<(Slot, MetaFault)>, out: &mut O) -> Result<u64, SinkFault>
-    ensures line { Wrote O.Sink out.old out.new (other_lines other) (ending result) }
-    ensures errors { IfOk result (λ errors. errors ≡ counted other) }
-    ensures few { IfOk result (λ errors. errors ≤ 1) }
+fn put_other_line<O: Sink>(other: Option<(Slot, MetaFault)>, out: &mut O) -> Result<(), SinkFault>
+    ensures { Wrote O.Sink out.old out.new (other_lines other) (ending result) }
 {
-    let Some((slot, fault)) = other else {
-        return Ok(0);
-    };
-    slot_fault_text(slot, fault, out)?;
-    Ok(1)
+    match other {
+        Some((slot, fault)) => slot_fault_text(slot, fault, out),
+        None => Ok(()),
+    }
 }

@@ -9,7 +9,7 @@ ghost use Rattle.bolt_tree.specs.{Listing.IsListing, Listing.Member, Paths.Path}
 ghost use Rattle.bolt_commands.specs.Answers.{Answer, DoesJob, Ending, IsCheckAnswer, IsListedAnswer, IsReadUnder, Loads, LoadsListing, MakesCopy, done, refused};
 ghost use Rattle.bolt_commands.specs.GoodCopies.{HasGoodCopies, IsGoodCopy};
 ghost use Rattle.bolt_job.specs.{MetaChoices.IsMetaOf, Needs.needs_metas_alone};
-ghost use Rattle.bolt_commands.specs.SnapshotAnswers.{copy_of, hash_differs};
+ghost use Rattle.bolt_commands.specs.SnapshotAnswers.{bad_hash, copy_of};
 ghost use Rattle.bolt_job.specs.{declared.choices.Extent.Extent, declared.job.Job.Job};
 ghost use Rattle.bolt_job.specs.{declared.choices.MetaChoice.MetaChoice, declared.choices.PageSize.PageSize};
 ghost use Rattle.bolt_report.specs.declared.ListForm.TheVariants as form;
@@ -23,7 +23,7 @@ use bolt_layout::laws::{
     a_copy_lists_the_same, a_files_listing_is_of_one_tree, layout_has_length, prefixes_are_refused,
 };
 use bolt_load::{
-    a_files_listing_is_of_bytes, a_listings_text_is_read_back, a_right_text_has_no_first_fault,
+    a_files_listing_is_of_bytes, a_listings_text_is_read_back, a_right_text_has_no_fault,
 };
 use bolt_recover::laws::{
     sound_trees_lose_nothing, sound_trees_recover_their_listing, sound_trees_recover_what_they_list,
@@ -71,7 +71,8 @@ pub fn good_copies_pass_the_check()
 }
 
 /// If `list` prints a whole file, `load` of what it prints writes the copy of the file's listing, as
-/// `compact` does at the same page size, with the same sequence; unless memory runs out before.
+/// `compact` does at the same page size, with the same sequence; unless memory runs out before. If the
+/// file holds nothing, `load` refuses the empty text as cut off.
 pub fn loading_a_listing_copies_it<O: Sink, T: Sink>()
     ensures { (file : List ℕ) (choice : MetaChoice) (answer : Answer)
         → IsBytes file → IsListedAnswer extent.First file choice form.Hex [] [] answer → answer.ending ≡ Ok 0
@@ -85,12 +86,12 @@ pub fn loading_a_listing_copies_it<O: Sink, T: Sink>()
     a_files_listing_is_of_one_tree();
     a_files_listing_is_of_bytes();
     a_listings_text_is_read_back();
-    a_right_text_has_no_first_fault();
+    a_right_text_has_no_fault();
 }
 
 /// With sound trees, `list --recover` and `compact --recover` do exactly what they do without it under
 /// the same meta, chosen so that its accounts don't count: by its slot, or as an assumed one. The
-/// exception is a snapshot that is to be made of one whose hash differs.
+/// exception is a snapshot that is to be made of a file with a hash that isn't right.
 pub fn recovering_sound_trees_reads_them<O: Sink, T: Sink>()
     ensures list { (file : List ℕ) (meta : Meta) → HasSoundTrees file meta
         → (wanted named : MetaChoice) → IsMetaOf file wanted meta → IsMetaOf file named meta → named ≢ choice.Active
@@ -99,7 +100,7 @@ pub fn recovering_sound_trees_reads_them<O: Sink, T: Sink>()
     ensures compact { (file : List ℕ) (meta : Meta) → HasSoundTrees file meta
         → (wanted named : MetaChoice) → IsMetaOf file wanted meta → IsMetaOf file named meta → named ≢ choice.Active
         → (out_old out_new : O) (target_old target_new : T) (size : Option PageSize) (layout : Layout) (snapshot : Bool) (ending : Ending)
-        → hash_differs snapshot file ≡ false
+        → bad_hash snapshot file ≡ None
         → MakesCopy O.taken O.failed out_old out_new T.taken T.failed target_old target_new file wanted size layout snapshot extent.Losses ending
         ↔ MakesCopy O.taken O.failed out_old out_new T.taken T.failed target_old target_new file named size layout snapshot extent.First ending }
 {

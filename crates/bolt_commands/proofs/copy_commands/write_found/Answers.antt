@@ -1,6 +1,6 @@
 -- The copy is whole and then reported, or it isn't whole, or there is no joined listing.
 use Rattle.std.proofs.Common.{inl, inr, length, map, refl}
-use Rattle.bolt_commands.proofs.Vocabulary.{all_lost, copy_report, found_view, hash_differs, is_snapshot}
+use Rattle.bolt_commands.proofs.Vocabulary.{all_lost, copy_report, found_view, bad_hash, is_snapshot}
 use Rattle.bolt_commands.proofs.{CopyAnswers.copy_asked, CopyAnswers.copy_written, CopyAnswers.report_as, Doing.ends_as, FoundAnswers.are_leaves}
 use Rattle.bolt_commands.proofs.{FoundAnswers.salvaged, ReadFiles.choice_page_size}
 use Rattle.bolt_commands.proofs.copy_commands.write_found.Goals as goal
@@ -26,8 +26,8 @@ returns g c =
     let searched = c.requires in
     let (own, is) = c.each_file_has_a_joined_listing.ensures c.args.input.file.now c.args.both.now.meta in
     let copy = copy_asked c.shape_of-shape.ensures (c.copy_members-copied.ensures.copied own (rw (joins.file, joins.meta, searched.bytes) is)) in
-    let told = copy_report (hash_differs (is_snapshot c.args.job.now.kind) c.args.input.file.now) (all_lost c.args.both.now) (map found_view c.args.both.now.found.items) (length c.args.input.file.now) in
-    let ends = report_as {second = told} _ _ (λ copy. rw (c.hash_differs.ensures, c.lost.ensures, c.as_slice.ensures.value) refl) c.end_copy.ensures in
+    let told = copy_report (bad_hash (is_snapshot c.args.job.now.kind) c.args.input.file.now) (all_lost c.args.both.now) (map found_view c.args.both.now.found.items) (length c.args.input.file.now) in
+    let ends = report_as {second = told} _ _ (λ copy. rw (c.bad_hash.ensures, c.lost.ensures, c.as_slice.ensures.value) refl) c.end_copy.ensures in
     elim (copy_written _ _ copy ends) [
       | inl whole ↦ inl (_, own, _, _, searched.under, salvaged searched joins own is, whole)
       | inr part ↦ inr (inl (_, own, searched.under, is, part))

@@ -10,5 +10,7 @@ returns g c = listed_loads (record {
   of_bytes = c.a_files_listing_is_of_bytes.ensures;
   right = c.a_listings_text_is_read_back.ensures.right;
   read_back = c.a_listings_text_is_read_back.ensures.listing;
-  no_fault = c.a_right_text_has_no_first_fault.ensures;
+  no_text = c.a_listings_text_is_read_back.ensures.none;
+  no_listing = c.a_listings_text_is_read_back.ensures.empty;
+  no_fault = c.a_right_text_has_no_fault.ensures;
 }) g.O.Sink.taken g.O.Sink.failed g.T.Sink.taken g.T.Sink.failed

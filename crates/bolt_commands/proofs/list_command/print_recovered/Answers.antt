@@ -1,13 +1,13 @@
 -- The part is put, as it is of the recovered listing; or nothing is recovered.
 use Rattle.std.proofs.Common.{◌≡◌, ◌∙◌, ap, inr, map, refl}
 use Rattle.bolt_commands.proofs.Vocabulary.{ForLosses, has_losses, loss_view, lost_ending, path_in, recovery_file, recovery_losses, recovery_meta}
-use Rattle.bolt_commands.proofs.{Doing.answer_refused, Doing.on_ok, ReadFiles.unrecoverable_finding, RestAnswers.end_same, RestAnswers.recovered_put}
+use Rattle.bolt_commands.proofs.{Doing.answer_refused, Doing.on_ok, RestAnswers.end_same, RestAnswers.recovered_put}
 use Rattle.bolt_commands.proofs.list_command.print_recovered.Goals as goal
 
 pub returns-in_err-recovery : goal.returns-in_err-recovery
 returns-in_err-recovery g c =
     let refused = c.in_err-recovery.ensures.refused in
-    answer_refused _ _ (unrecoverable_finding c.args.input.file.now c.args.job.now.meta _ refused) (λ failure of. inr (_, refused, (failure, of, refl))) c.from_residual.ensures.1
+    answer_refused _ _ (λ failure of. inr (_, refused, (failure, of, refl))) c.from_residual.ensures.1
 
 pub returns : goal.returns
 returns g c =

@@ -1,5 +1,5 @@
 use Rattle.std.proofs.Common.{inl, inr, refl}
-use Rattle.bolt_commands.proofs.{Vocabulary.Active, Vocabulary.meta_of, Doing.answer_put, Doing.answer_refused, ReadFiles.unread_finding}
+use Rattle.bolt_commands.proofs.{Vocabulary.meta_of, Doing.answer_put, Doing.answer_refused}
 use Rattle.bolt_check.proofs.RoleFacts.{some_roles}
 use Rattle.bolt_check.specs.RoledFiles.{roles_checked}
 use Rattle.bolt_commands.proofs.printing_commands.print_pages.Goals as goal
@@ -7,7 +7,7 @@ use Rattle.bolt_commands.proofs.printing_commands.print_pages.Goals as goal
 pub returns-in_err-roles : goal.returns-in_err-roles
 returns-in_err-roles g c =
     let refused = c.in_err-roles.ensures.refused in
-    answer_refused _ _ (unread_finding c.args.input.file.now Active _ refused) (λ failure of. inr (_, refused, (failure, of, refl))) c.from_residual.ensures.1
+    answer_refused _ _ (λ failure of. inr (_, refused, (failure, of, refl))) c.from_residual.ensures.1
 
 pub returns : goal.returns
 returns g c =
