@@ -20,6 +20,7 @@ sweep() {
 
 with_lines printing.txt -- sh tools/streams/try_failures.sh "$program" $app $leaked out/listed_long.db
 sh tools/streams/try_changes.sh "$program" out/refuse.so $app
+bash tools/streams/try_reading.sh "$PWD/$program" "$PWD/out/refuse.so" $app
 
 with_lines printing.txt not_printing.txt -- sweep write 1 $app
 sweep write 1 $leaked check list

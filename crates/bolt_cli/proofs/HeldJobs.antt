@@ -1,6 +1,6 @@
 -- What a job does, whatever its standard output and its target are.
 use Rattle.std.proofs.Common.{◌≡◌, ◌<◌, ◌∙◌, ap, inl, inr, ℕ, List, [], Option, None, Some, Bool, length, refl, subst, sym}
-use Rattle.bolt_cli.proofs.Vocabulary.{Answer, Does, DoesJob, Ending, Extent, First, Ghosts, Job, Layout, Losses, MakesCopy, Member, Meta, MetaChoice, PageSize, WritesCopy, copy_page_size, copy_report, done, hash_differs, held_failures, held_of, held_text, layout_of_listing, lengths_line, parts, target_name, text_members}
+use Rattle.bolt_cli.proofs.Vocabulary.{Answer, Does, DoesJob, Ending, Extent, First, Ghosts, Job, Layout, Losses, MakesCopy, Member, Meta, MetaChoice, PageSize, WritesCopy, copy_page_size, copy_report, done, bad_hash, held_failures, held_of, held_text, layout_of_listing, lengths_line, parts, target_name, text_members}
 use Rattle.bolt_job.specs.declared.choices.Extent.TheVariants.{LostAndFound}
 use Rattle.bolt_job.specs.declared.job.Job.TheVariants as job
 
@@ -48,10 +48,10 @@ module _ {O T : Type 0} (out : Ghosts O) (target : Ghosts T) (out_old out_new : 
         → MakesCopy held_text held_failures (held_of [] 0) (held_of text failures) target.taken target.failed target_old target_new file choice size which snapshot extent ending
     copied First ending (inl (meta, listing, read, hash, lists, writes)) =
         inl (meta, listing, read, hash, lists, written snapshot listing (layout meta listing) (λ copy. done (lengths_line (length file) copy)) ending writes)
-    copied First ending (inr (inl (meta, read, differs, same, target, is))) = inr (inl (meta, read, differs, untouched same, target, is))
+    copied First ending (inr (inl (meta, fault, read, bad, same, target, is))) = inr (inl (meta, fault, read, bad, untouched same, target, is))
     copied First ending (inr (inr (fault, failure, refused, of, same, target, is))) = inr (inr (fault, failure, refused, of, untouched same, target, is))
     copied Losses ending (inl (meta, listing, losses, under, recovered, are, writes)) =
-        let report = copy_report (hash_differs snapshot file) (parts losses) [] (length file) in
+        let report = copy_report (bad_hash snapshot file) (parts losses) [] (length file) in
         inl (meta, listing, losses, under, recovered, are, written snapshot listing (layout meta listing) report ending writes)
     copied Losses ending (inr (fault, failure, refused, of, same, target, is)) = inr (fault, failure, refused, of, untouched same, target, is)
     copied LostAndFound ending (inl (meta, listing, lost, found, own, salvaged, (small, good, put, sound, does))) =

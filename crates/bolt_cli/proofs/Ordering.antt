@@ -1,6 +1,6 @@
 -- Each run does its deeds in order.
 use Rattle.std.proofs.Common.{◌≡◌, ◌≢◌, inl, inr, arith, ℕ, zero, suc, List, [], ◌∷◌, Bool, true, false, Option, Some, None, Ok, Err}
-use Rattle.bolt_cli.proofs.Vocabulary.{Choose, Closed, Closes, Copies, Deed, Ended, Ending, Ends, Fails, Goes, IsReported, IsRun, Job, Made, Opened, Prints}
+use Rattle.bolt_cli.proofs.Vocabulary.{Choose, Closed, Closes, Copies, Deed, Ended, Ending, Ends, Fails, FailsNaming, Goes, IsReported, IsRun, Job, Made, Opened, Prints}
 use Rattle.bolt_cli.proofs.Vocabulary.{PrintsHeld, Read, Reads, Refusal, Refuses, Said, Text, is_again, string_bytes, target_name}
 use Rattle.bolt_cli.specs.Orders.{Copied, Copying, Failing, IsInOrder, Printed, Printing, Reading}
 use Rattle.bolt_job.specs.declared.job.Refusal.TheVariants as refusal
@@ -12,6 +12,10 @@ not_0 code is none = omega (arith, is, none)
 Fails-ordered : {T O : Type 0} (line : List ℕ) (deeds : List (Deed T O)) (code : ℕ) → Fails line deeds code → IsInOrder Failing deeds code
 Fails-ordered line (Said text ∷ []) code (is, failed) = not_0 code failed
 Fails-ordered line deeds code fails = absurd fails.0
+
+FailsNaming-ordered : {T O : Type 0} (line : List ℕ) (deeds : List (Deed T O)) (code : ℕ) → FailsNaming line deeds code → IsInOrder Failing deeds code
+FailsNaming-ordered line deeds code (inl fails) = Fails-ordered line deeds code fails
+FailsNaming-ordered line deeds code (inr fails) = Fails-ordered _ deeds code fails
 
 IsReported-ordered : {T O : Type 0} (ending : Ending) (deeds : List (Deed T O)) (code : ℕ) → IsReported ending deeds code → IsInOrder Printed deeds code
 IsReported-ordered (Ok status) [] code are = tt
@@ -50,7 +54,7 @@ module _ {T O : Type 0} (target_taken : T → Option (List ℕ)) (target_failed 
   Goes-ordered : (target : Option Text) (source : Source) (job : Job) (deeds : List (Deed T O)) (code : ℕ)
       → Goes target_taken target_failed output_taken output_failed target source job deeds code → IsInOrder Reading deeds code
   Goes-ordered (Some out) source job (Made name permissions (Ok target) ∷ deeds) code (is, bits, empty, copies) = Copies-ordered target source.bytes.items job deeds code copies
-  Goes-ordered (Some out) source job (Made name permissions (Err fault) ∷ deeds) code (is, bits, fails) = Fails-ordered _ deeds code fails
+  Goes-ordered (Some out) source job (Made name permissions (Err fault) ∷ deeds) code (is, bits, fails) = FailsNaming-ordered _ deeds code fails
   Goes-ordered None source job (Opened (Ok before) ∷ deeds) code (empty, after, ending, does, closes) = Closes-ordered output_taken output_failed after ending deeds code closes
   Goes-ordered None source job (Opened (Err fault) ∷ deeds) code are = Fails-ordered _ deeds code are
   Goes-ordered target source job deeds code are = absurd are
@@ -65,7 +69,7 @@ module _ {T O : Type 0} (target_taken : T → Option (List ℕ)) (target_failed 
   Reads-ordered zero job deeds code are = absurd are.0
   Reads-ordered (suc left) job (Read name metas_alone (Ok source) ∷ deeds) code (is, alone, goes) =
       Choose-either (is_again job source) (Reads-ordered left job deeds code) (Goes-ordered (target_name job) source job deeds code) goes
-  Reads-ordered (suc left) job (Read name metas_alone (Err fault) ∷ deeds) code (is, alone, fails) = Fails-ordered _ deeds code fails
+  Reads-ordered (suc left) job (Read name metas_alone (Err fault) ∷ deeds) code (is, alone, fails) = FailsNaming-ordered _ deeds code fails
   Reads-ordered (suc left) job deeds code are = absurd are
 
   Ends-ordered : (line : List ℕ) (deeds : List (Deed T O)) (code : ℕ) → Ends line deeds → code ≢ 0 → IsInOrder Reading deeds code

@@ -1,4 +1,5 @@
 pub mod Deeds
+pub mod Names
 pub mod Orders
 pub mod Runs
 pub mod Sources

@@ -5,6 +5,7 @@ use Rattle.bolt_format.specs.Sinks.{AppendsPrefix}
 use Rattle.bolt_commands.specs.Answers.{DoesJob, Ending, error_text}
 use Rattle.bolt_job.specs.CommandLine.{Asks, IsRefusalOf}
 use Rattle.bolt_cli.specs.Deeds.{Deed, Read, Made, Ended, Opened, Closed, Said}
+use Rattle.bolt_cli.specs.Names.{shown_name}
 use Rattle.bolt_commands.specs.Failures.{failure_line}
 use Rattle.bolt_job.specs.LineWords.{Text}
 use Rattle.bolt_job.specs.{Needs.needs_metas_alone, PlainWords.file_name, PlainWords.target_name}
@@ -15,6 +16,8 @@ use Rattle.bolt_job.specs.declared.job.Refusal.{Refusal}
 use Rattle.bolt_job.specs.declared.job.Refusal.TheVariants as refusal
 use Rattle.bolt_cli.specs.declared.outside.CreateFault.{CreateFault}
 use Rattle.bolt_cli.specs.declared.outside.CreateFault.TheVariants as create
+use Rattle.bolt_cli.specs.declared.outside.ReadFault.{ReadFault}
+use Rattle.bolt_cli.specs.declared.outside.ReadFault.TheVariants as read
 use Rattle.bolt_cli.specs.{declared.outside.EndFault.EndFault, declared.outside.OutputFault.OutputFault}
 use Rattle.bolt_cli.specs.{declared.outside.OutputFault.TheVariants.ReaderLeft, declared.outside.OutputFault.TheVariants.Failed, declared.outside.Source.Source}
 
@@ -25,11 +28,12 @@ error_line text = codes "error: " ++ (text ++ codes "\n")
 
 abbrev pub unmade_line : Text → CreateFault → List ℕ
 unmade_line name create.Exists = error_line (codes "output exists")
-unmade_line name create.Refused = codes "error: cannot make " ++ (name ++ codes "\n")
+unmade_line name create.Refused = codes "error: cannot make " ++ (shown_name name ++ codes "\n")
 unmade_line name create.Memory = failure_line Memory
 
-abbrev pub unread_line : Text → List ℕ
-unread_line name = codes "error: cannot read " ++ (name ++ codes "\n")
+abbrev pub unread_line : Text → ReadFault → List ℕ
+unread_line name read.Refused = codes "error: cannot read " ++ (shown_name name ++ codes "\n")
+unread_line name read.Memory = failure_line Memory
 
 -- the line that an ending asks for, or that of memory, if there was none for the line
 abbrev pub IsLineOf : Ending → List ℕ → Type 0
@@ -88,6 +92,10 @@ module _ {T O : Type 0} where
   abbrev pub Fails : List ℕ → List (Deed T O) → ℕ → Type 0
   Fails line deeds code = Ends line deeds × (code ≡ 1)
 
+  -- the same with a line that needs memory, or with that of memory, if there was none for the line
+  abbrev pub FailsNaming : List ℕ → List (Deed T O) → ℕ → Type 0
+  FailsNaming line deeds code = Fails line deeds code ⊎ Fails (failure_line Memory) deeds code
+
   -- a job that ended so is over: with its line, if it has one
   abbrev pub IsReported : Ending → List (Deed T O) → ℕ → Type 0
   IsReported (Ok status) [] code = code ≡ status
@@ -140,7 +148,7 @@ module _ {T O : Type 0} (target_taken : T → Option (List ℕ)) (target_failed 
   Makes out source job (Made name permissions (Ok target) ∷ deeds) code =
       (name ≡ out) × (permissions ≡ source.permissions) × IsAtEnd (target_taken target) × Copies target source.bytes.items job deeds code
   Makes out source job (Made name permissions (Err fault) ∷ deeds) code =
-      (name ≡ out) × (permissions ≡ source.permissions) × Fails (unmade_line out fault) deeds code
+      (name ≡ out) × (permissions ≡ source.permissions) × FailsNaming (unmade_line out fault) deeds code
   Makes out source job deeds code = ⊥
 
   -- the job is done: with an OUT, if it has one
@@ -155,7 +163,7 @@ module _ {T O : Type 0} (target_taken : T → Option (List ℕ)) (target_failed 
       (name ≡ file_name job) × (metas_alone ≡ needs_metas_alone job)
       × Choose (is_again job source) (Reads left job deeds code) (Goes (target_name job) source job deeds code)
   Reads (suc left) job (Read name metas_alone (Err fault) ∷ deeds) code =
-      (name ≡ file_name job) × (metas_alone ≡ needs_metas_alone job) × Fails (unread_line (file_name job)) deeds code
+      (name ≡ file_name job) × (metas_alone ≡ needs_metas_alone job) × FailsNaming (unread_line (file_name job) fault) deeds code
   Reads (suc left) job deeds code = ⊥
 
   -- words are refused: nothing is read or made

@@ -1,6 +1,7 @@
 //! A whole run of `luntsegi`: from the words of its command line to what it does to files and streams.
 #![tactic(auto)]
 
+mod names;
 mod outside;
 mod whole_run;
 

@@ -88,9 +88,14 @@ impl Source {
     }
 }
 
-/// FILE can't be read.
+/// Why FILE can't be read.
 #[derive(Clone, Copy, Debug)]
-pub struct ReadFault;
+pub enum ReadFault {
+    /// The file system refused it.
+    Refused,
+    /// Memory ran out.
+    Memory,
+}
 
 /// Why OUT can't be made.
 #[derive(Clone, Copy, Debug)]

@@ -1,12 +1,15 @@
 //! A whole run of the program: from its words to its status. And a law: its deeds are in order.
-ghost use Rattle.std.specs.Prelude.{◌≡◌, ◌<◌, ℕ, List, None, Some, map, string_bytes};
+ghost use Rattle.std.specs.Prelude.{◌≡◌, ◌<◌, ◌++◌, ℕ, List, None, Some, codes, map, string_bytes};
 ghost use Rattle.bolt_commands.specs.{Answers.Ending, Answers.status_of, Failures.failure_line};
 ghost use Rattle.bolt_cli.specs.{Deeds.Deed, Deeds.Does, Deeds.joined, Orders.IsInOrder, Orders.Reading};
 ghost use Rattle.bolt_job.specs.PlainWords.{target_name};
-ghost use Rattle.bolt_cli.specs.Runs.{Closes, Copies, Fails, Goes, IsEnded, IsHeldLine, IsRun, IsUnendedLine, Makes, Prints, Reads, Refuses, Shows, held_of, is_again, unmade_line};
+ghost use Rattle.bolt_cli.specs.Names.{shown_name};
+ghost use Rattle.bolt_cli.specs.Runs.{Closes, Copies, Fails, FailsNaming, Goes, IsEnded, IsHeldLine, IsRun, IsUnendedLine, Makes, Prints, Reads, Refuses, Shows};
+ghost use Rattle.bolt_cli.specs.Runs.{held_of, is_again, unmade_line, unread_line};
 ghost use Rattle.bolt_commands.specs.declared.failure.Failure.TheVariants.{Memory};
 
-use crate::outside::{CreateFault, EndFault, OutputFault, Outside, Source};
+use crate::names::shown_name;
+use crate::outside::{CreateFault, EndFault, OutputFault, Outside, ReadFault, Source};
 use bolt_commands::run;
 use bolt_format::{MemSink, Sink};
 use bolt_job::{Job, Refusal, read_words};
@@ -66,14 +69,23 @@ fn read_file<O: Outside>(outside: &mut O, alloc: Global, job: &Job, left: u32) -
     match outside.read(job.file(), job.needs_metas_alone()) {
         Ok(source) => {
             if is_again(job, &source) {
+                // So that there are never two readings in memory.
+                drop(source);
                 return read_file(outside, alloc, job, left - 1);
             }
             do_job(outside, alloc, job, &source)
         }
-        Err(_) => fail(
-            outside,
-            &[b"error: cannot read ", job.file().as_bytes(), b"\n"],
-        ),
+        Err(fault) => report_unread(outside, alloc, fault, job.file()),
+    }
+}
+
+fn report_unread<O: Outside>(outside: &mut O, alloc: Global, fault: ReadFault, name: &str) -> u8
+    ensures { Does (O.done outside.old) (O.done outside.new)
+        (λ deeds. FailsNaming (unread_line name.now fault) deeds result) }
+{
+    match fault {
+        ReadFault::Refused => fail_naming(outside, alloc, b"error: cannot read ", name),
+        ReadFault::Memory => fail(outside, &[NO_MEMORY]),
     }
 }
 
@@ -103,17 +115,17 @@ fn make<O: Outside>(outside: &mut O, alloc: Global, job: &Job, source: &Source, 
 {
     match outside.create(name, source.permissions) {
         Ok(target) => copy(outside, alloc, job, source.bytes.as_slice(), target),
-        Err(fault) => report_unmade(outside, fault, name),
+        Err(fault) => report_unmade(outside, alloc, fault, name),
     }
 }
 
-fn report_unmade<O: Outside>(outside: &mut O, fault: CreateFault, name: &str) -> u8
+fn report_unmade<O: Outside>(outside: &mut O, alloc: Global, fault: CreateFault, name: &str) -> u8
     ensures { Does (O.done outside.old) (O.done outside.new)
-        (λ deeds. Fails (unmade_line name.now fault) deeds result) }
+        (λ deeds. FailsNaming (unmade_line name.now fault) deeds result) }
 {
     match fault {
         CreateFault::Exists => fail(outside, &[b"error: output exists\n"]),
-        CreateFault::Refused => fail(outside, &[b"error: cannot make ", name.as_bytes(), b"\n"]),
+        CreateFault::Refused => fail_naming(outside, alloc, b"error: cannot make ", name),
         CreateFault::Memory => fail(outside, &[NO_MEMORY]),
     }
 }
@@ -239,6 +251,17 @@ fn fail<O: Outside>(outside: &mut O, pieces: &[&[u8]]) -> u8
 {
     outside.say(pieces);
     FAILED
+}
+
+/// Prints the line of a fault that names a file, and returns the status.
+fn fail_naming<O: Outside>(outside: &mut O, alloc: Global, words: &[u8], name: &str) -> u8
+    ensures { Does (O.done outside.old) (O.done outside.new)
+        (λ deeds. FailsNaming (words.now ++ (shown_name name.now ++ codes "\n")) deeds result) }
+{
+    match shown_name(alloc, name) {
+        Ok(shown) => fail(outside, &[words, shown.as_bytes(), b"\n"]),
+        Err(_) => fail(outside, &[NO_MEMORY]),
+    }
 }
 
 /// A run does its deeds in order. FILE is read before anything else. OUT is made at most once, and

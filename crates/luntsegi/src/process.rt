@@ -28,6 +28,9 @@ impl Process<'_> {
         if metas_alone {
             read_metas(&mut file, &mut bytes)?;
         } else {
+            if before.is_file() {
+                bytes.reserve_exact(room_for(before.len()))?;
+            }
             file.read_to_end(&mut bytes)?;
         }
         Ok(Source {
@@ -38,6 +41,13 @@ impl Process<'_> {
             after: stamp_of(&file.metadata()?),
         })
     }
+}
+
+/// The room that a file of this length needs: a byte more, so that its end is seen without more room.
+fn room_for(length: u64) -> usize {
+    usize::try_from(length)
+        .unwrap_or(usize::MAX)
+        .saturating_add(1)
 }
 
 /// Reads the first bytes of a file, up to the end of its metas.
@@ -88,7 +98,11 @@ impl Outside for Process<'_> {
     ghost done = { λ _ _. ⊤ };
 
     fn read(&mut self, name: &str, metas_alone: bool) -> Result<Source, ReadFault> {
-        self.read_source(name, metas_alone).map_err(|_| ReadFault)
+        match self.read_source(name, metas_alone) {
+            Ok(source) => Ok(source),
+            Err(error) if error.kind() == io::ErrorKind::OutOfMemory => Err(ReadFault::Memory),
+            Err(_) => Err(ReadFault::Refused),
+        }
     }
 
     /// `create_new` follows no link and truncates nothing, so OUT is never FILE, under any name. The

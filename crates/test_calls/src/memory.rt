@@ -88,7 +88,7 @@ impl Outside for Memory<'_> {
             }
             _ => {
                 self.log.note(Kind::Unread, text, &[], 0);
-                Err(ReadFault)
+                Err(ReadFault::Refused)
             }
         }
     }

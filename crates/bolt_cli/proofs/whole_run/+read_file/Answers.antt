@@ -15,5 +15,4 @@ returns-else-is_again g t c =
 pub returns-in-Err : goal.returns-in-Err
 returns-in-Err g t c =
     let left : c.args.left ≡ suc (c.args.left - 1) = omega (arith, c.if-left-eq0.false) in
-    Does-after _ c.in-Err.ensures c.fail-in-Err.ensures
-    (λ deeds fails. rw left (c.file.ensures, c.needs_metas_alone.ensures, rw (c.as_bytes.ensures.value ∙ c.file-in-Err.ensures) at fails))
+    Does-after _ c.in-Err.ensures c.report_unread.ensures (λ deeds fails. rw left (c.file.ensures, c.needs_metas_alone.ensures, rw c.file-in-Err.ensures at fails))

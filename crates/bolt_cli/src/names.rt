@@ -1,0 +1,31 @@
+//! Names of files in the lines of faults.
+ghost use Rattle.std.specs.Prelude.{◌≡◌, ◌++◌, IfOk, OnOk, encode_utf8_all, string_bytes};
+ghost use Rattle.std.specs.Char.Escape.{escape_default};
+ghost use Rattle.bolt_cli.specs.Names.{shown_name};
+
+use std::alloc::{AllocError, Global};
+
+/// A name as the line of a fault has it: each control character is escaped. So the line stays one line,
+/// and a terminal shows it as it is.
+pub(crate) fn shown_name(alloc: Global, name: &str) -> Result<String, AllocError>
+    ensures { IfOk result (λ shown. string_bytes shown ≡ shown_name name.now) }
+{
+    let mut shown = String::new(alloc);
+    for c in name.chars() {
+        if c.is_control() {
+            push_escaped(c, &mut shown)?;
+        } else {
+            shown.push(c)?;
+        }
+    }
+    Ok(shown)
+}
+
+fn push_escaped(c: char, shown: &mut String) -> Result<(), AllocError>
+    ensures { OnOk result (string_bytes shown.new ≡ string_bytes shown.old ++ encode_utf8_all (escape_default c)) }
+{
+    for escaped in c.escape_default() {
+        shown.push(escaped)?;
+    }
+    Ok(())
+}
