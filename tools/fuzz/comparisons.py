@@ -2,6 +2,7 @@
 
 import os
 
+from assumed import compare_assumed
 from copies import compare_copy, compare_prefixes, compare_slot
 from findings import ACCOUNT_FAULTS, compare_accounts, compare_bad_page, findings_of
 from listings import compare_keys, compare_missing, compare_order, compare_rests, compare_values
@@ -113,6 +114,7 @@ def compare(file):
     if not checked.err:
         compare_limits(file)
         compare_recovery(file, checked)
+    compare_assumed(file)
     if listing is not None:
         compare_pages_lost(file, listing)
     want(read(file.path) == before, "the file was changed")

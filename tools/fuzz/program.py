@@ -8,7 +8,8 @@ SECONDS = 10
 HEX = rb"[0-9a-f]"
 ENTRY = rb"%b+(?:/%b+)*(?: = %b*| bucket \d+)\n" % (HEX, HEX, HEX)
 JSON_ENTRY = rb'\{"path":\[.+\],(?:"value":.+|"bucket":\d+)\}\n'
-HASH_FAULT = rb"snapshot hash (?:missing|differs)\n"
+BAD_HASH = rb"snapshot hash (?:cut off|differs)"
+HASH_FAULT = rb"(?:snapshot hash missing|%b)\n" % BAD_HASH
 ITEM = rb"(?:%b+ -> \d+|%b+ = %b*|%b+ bucket \d+ \d+|\d+)\n" % (HEX, HEX, HEX, HEX)
 FINDING = rb"pages? \d+(?: to \d+)?: [a-z ]+"
 LOSS = rb"%b; lost: (?:everything|(?:root bucket|bucket %b+(?:/%b+)*)(?:, keys from %b*(?: to below %b+)?)?)\n" % (
@@ -57,8 +58,8 @@ FAULTS = {
     "get": REFUSED + rb"|bucket not found|key not found",
     "stats": REFUSED + rb"|bucket not found",
     "list": REFUSED + rb"|bucket not found|lost\+found exists",
-    "compact": REFUSED + rb"|lost\+found exists",
-    "load": rb"line \d+: (?:not a line of a listing|path not rising|no bucket above)",
+    "compact": REFUSED + rb"|lost\+found exists|" + BAD_HASH,
+    "load": rb"line \d+: (?:not a line of a listing|path not rising|no bucket above|cut off)",
 }
 
 
@@ -67,10 +68,10 @@ FAILED = {
     "check": (FINDINGS, b""),
     "check --all": (rb"(?:%b)?(?:%b|%b\d+ errors found\n)|%b\d+ errors found\n" % (OTHER_META, FINDINGS, LOSSES, OTHER_META), b""),
     "list --recover": (TEXTS["list"] + b"|" + JSON_TEXTS["list"], rb"error: pages lost: \d+\n"),
-    "compact --recover": (LOSSES + TEXTS["compact"], b""),
+    "compact --recover": (rb"(?:%b\n)?(?:%b)?%b" % (BAD_HASH, LOSSES, TEXTS["compact"]), b""),
     "check --lost-and-found": (rb"(?:%b)?(?:%b|%b%b\d+ errors found\n)|%b\d+ errors found\n" % (OTHER_META, FINDINGS, LOSSES, FOUND, OTHER_META), b""),
     "list --lost-and-found": (TEXTS["list"], rb"error: pages lost: \d+\n"),
-    "compact --lost-and-found": (LOSSES + FOUND + TEXTS["compact"], b""),
+    "compact --lost-and-found": (rb"(?:%b\n)?(?:%b)?%b%b" % (BAD_HASH, LOSSES, FOUND, TEXTS["compact"]), b""),
 }
 
 

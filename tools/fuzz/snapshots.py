@@ -11,8 +11,10 @@ BLOCK, HASH = 512, 32
 
 def hash_lines(data):
     """What is wrong with the hash at the end of these bytes."""
-    if len(data) % BLOCK != HASH:
+    if len(data) % BLOCK == 0:
         return b"snapshot hash missing\n"
+    if len(data) % BLOCK != HASH:
+        return b"snapshot hash cut off\n"
     if hashlib.sha256(data[:-HASH]).digest() != data[-HASH:]:
         return b"snapshot hash differs\n"
     return b""
@@ -54,16 +56,24 @@ def compare_changed(file, snapshot):
 
 
 def compare_snapshot(file, listing, *words):
-    """A snapshot is the copy for bbolt and its hash, is right and lists the same."""
+    """A snapshot is the copy for bbolt and its hash, is right and lists the same. Of a file whose own hash isn't
+    right one is made only by a recovery, which says so first."""
     copy, snapshot, again = (file.copy(name) for name in ("copy.db", "snapshot.db", "again.db"))
     copied = file.run("compact", "--for-bbolt", "-o", copy, *words)
     made = file.run("compact", "--etcd-snapshot", "-o", snapshot, *words)
     data = read(copy)
+    own = hash_lines(read(file.path))
+    bad = b"" if own == b"snapshot hash missing\n" else own
+    if bad and "--recover" not in words:
+        want((made.status, made.out, made.err) == (1, b"", b"error: " + bad), "a snapshot is laundered:", made)
+        want(read(snapshot) == b"", "OUT of a snapshot that is refused isn't empty")
+        return
     want(read(snapshot) == data + hashlib.sha256(data).digest(), "a snapshot isn't the copy and its hash")
     *losses, _ = copied.out.splitlines(keepends=True)
     lengths = b"%d -> %d bytes\n" % (os.path.getsize(file.path), len(data) + HASH)
-    want(made.out == b"".join(losses) + lengths, "compact --etcd-snapshot prints", made)
-    want((made.status, made.err) == (copied.status, copied.err), "compact --etcd-snapshot:", made)
+    want(made.out == bad + b"".join(losses) + lengths, "compact --etcd-snapshot prints", made)
+    status = 1 if bad else copied.status
+    want((made.status, made.err) == (status, copied.err), "compact --etcd-snapshot:", made)
     program = file.program
     want(program.text("check", "--etcd-snapshot", snapshot) == b"OK\n", "a snapshot isn't right")
     want(program.text("list", snapshot) == listing, "a snapshot lists other things")

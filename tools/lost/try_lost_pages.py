@@ -115,10 +115,13 @@ def main():
     parser.add_argument("files", nargs="+")
     parser.add_argument("--bbolt")
     words = parser.parse_args()
+    all_exact = 0
     with tempfile.TemporaryDirectory() as folder:
         for path in words.files:
             tried, exact = try_file(words.program, words.bbolt, path, folder)
             print(f"{path}: {tried} damaged files, and what is found of each; of {exact} exactly the leaves of a branch")
+            all_exact += exact
+    want(all_exact > 0, "no file had a branch whose leaves are known")
 
 
 if __name__ == "__main__":

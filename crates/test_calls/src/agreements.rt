@@ -18,12 +18,17 @@ enum Kind {
     Check,
     /// It lists what the copy after it has.
     List,
+    /// It does so, and what it lists beside the bucket of found pages is what the listing before has.
+    Joined,
     /// It makes a copy.
     Copy,
 }
 
+/// The name of the bucket of found pages in hexadecimal, with which its lines begin.
+const FOUND: &[u8] = b"6c6f73742b666f756e64";
+
 /// Commands that are tried on each file: first `check`, then `list`. There is no page 4. A copy comes after
-/// the listing to the same extent.
+/// the listing to the same extent, and that of what is joined after that of what is recovered.
 static TRIALS: [(Kind, &[&str]); 19] = [
     (Kind::Check, &["check", "FILE"]),
     (Kind::Reader, &["list", "FILE"]),
@@ -33,7 +38,7 @@ static TRIALS: [(Kind, &[&str]); 19] = [
         Kind::Copy,
         &["compact", "-o", "OUT", "--for-bbolt", "--recover", "FILE"],
     ),
-    (Kind::List, &["list", "--lost-and-found", "FILE"]),
+    (Kind::Joined, &["list", "--lost-and-found", "FILE"]),
     (
         Kind::Copy,
         &["compact", "-o", "OUT", "--lost-and-found", "FILE"],
@@ -86,10 +91,10 @@ impl Trials<'_> {
     /// Whether everything that is said of a file fits together.
     fn agree(self, file: &[u8]) -> bool {
         let check = self.run(self.check, file);
-        let mut last = self.run(self.list, file);
-        let mut are_right = is_read(&last, &check);
+        let mut listed = self.run(self.list, file);
+        let mut are_right = is_read(&listed, &check);
         for trial in self.others {
-            are_right &= self.is_next(trial, file, &check, &mut last);
+            are_right &= self.is_next(trial, file, &check, &mut listed);
         }
         are_right
     }
@@ -105,17 +110,20 @@ impl Trials<'_> {
         are_right
     }
 
-    /// Whether a command is right, by what `check` and the command before it said.
-    fn is_next(self, trial: &Trial, file: &[u8], check: &Ran, last: &mut Ran) -> bool {
+    /// Whether a command is right, by what `check` and the last listing before it said.
+    fn is_next(self, trial: &Trial, file: &[u8], check: &Ran, listed: &mut Ran) -> bool {
         let ran = self.run(&trial.job, file);
         let is_right = match trial.kind {
             Kind::Page => is_page(&ran, check.err.bytes()),
             Kind::Reader => is_read(&ran, check),
             Kind::Check => ran.code == 1 || check.code == 0,
             Kind::List => true,
-            Kind::Copy => self.is_copied(&ran, last),
+            Kind::Joined => is_joined(ran.out.bytes(), listed.out.bytes()),
+            Kind::Copy => self.is_copied(&ran, listed),
         };
-        *last = ran;
+        if matches!(trial.kind, Kind::List | Kind::Joined) {
+            *listed = ran;
+        }
         is_right
     }
 
@@ -131,6 +139,21 @@ impl Trials<'_> {
             && self.run(self.check, target).is(0, b"OK\n", b"")
             && self.run(self.list, target).is(0, list.out.bytes(), b"")
     }
+}
+
+/// The lines of a joined listing are those of what is recovered, but for the bucket of found pages.
+fn is_joined(joined: &[u8], recovered: &[u8]) -> bool {
+    let mut rest = recovered;
+    for line in joined.split_inclusive(|byte| *byte == b'\n') {
+        if line.starts_with(FOUND) {
+            continue;
+        }
+        let Some(after) = rest.strip_prefix(line) else {
+            return false;
+        };
+        rest = after;
+    }
+    rest.is_empty()
 }
 
 /// `page` prints a page, or refuses it; if the file has this fault, it reports the same.
