@@ -71,9 +71,10 @@ fuzz-wrong: $(PROGRAM)
 wrong-bodies:
 	RT_JOBS=$(JOBS) python3 -B tools/wrong_bodies/try_others.py $(CRATES)
 
-# How many crates the gate proves side by side: two, if the machine has room for them, with 6.5 GB each. With more,
-# each takes a third more processor time, as if rt splits one crate over several processors, and little time is won.
-JOBS ?= $(shell awk '/MemTotal/ { print ($$2 < 13000000 ? 1 : 2) }' /proc/meminfo)
+# How many crates the gate proves side by side: two, if the machine has two processors and room for both, with 6.5 GB
+# each. With more, each takes a third more processor time, as if rt splits one crate over several processors, and little
+# time is won.
+JOBS ?= $(shell awk -v processors=$$(nproc) '/MemTotal/ { print ($$2 < 13000000 || processors < 2 ? 1 : 2) }' /proc/meminfo)
 
 # Installs what the gate needs beyond the toolchain, where it can, and says what it leaves out.
 set-up:
@@ -88,9 +89,13 @@ test: set-up
 	tools/bbolt/try.sh $(PROGRAM) 3
 
 # Times the program on large files and, if it can be built, bbolt's library.
-bench: $(PROGRAM) out/large.db out/wide.db out/long.db out/sparse.db out/very_deep.db out/lost_leaves.db \
+bench: $(PROGRAM) out/measured out/large.db out/wide.db out/long.db out/sparse.db out/very_deep.db out/lost_leaves.db \
 		out/lost_branch.db out/half_freed.db out/freed.db
 	tools/bench/bench.sh $(PROGRAM)
+
+out/measured: tools/bench/measured.c
+	mkdir -p $(@D)
+	$(CC) -O2 -Wall -o $@ $<
 
 out/refuse.so: tools/refuse/refuse.c
 	mkdir -p $(@D)
@@ -132,12 +137,15 @@ out/many_lost.db: tools/bench/make_large.py tools/bench/zero_leaves.py
 
 # The folder where zsh looks for completions.
 ZSH_COMPLETIONS ?= $(PREFIX)/share/zsh/site-functions
+# And that of fish.
+FISH_COMPLETIONS ?= $(PREFIX)/share/fish/vendor_completions.d
 
 install: $(PROGRAM)
 	install -D -m 755 $(PROGRAM) $(DESTDIR)$(PREFIX)/bin/luntsegi
 	install -D -m 644 docs/luntsegi.1 $(DESTDIR)$(PREFIX)/share/man/man1/luntsegi.1
 	install -D -m 644 completions/luntsegi.bash $(DESTDIR)$(PREFIX)/share/bash-completion/completions/luntsegi
 	install -D -m 644 completions/_luntsegi $(DESTDIR)$(ZSH_COMPLETIONS)/_luntsegi
+	install -D -m 644 completions/luntsegi.fish $(DESTDIR)$(FISH_COMPLETIONS)/luntsegi.fish
 
 # Packages: an archive of the installed files and the documents, and a Debian package.
 dist: $(PROGRAM)

@@ -13,22 +13,24 @@ Prints a row for each command. The status is 1 if a command fails.
 import os
 import subprocess
 import sys
-import time
+import tempfile
 from statistics import median
 
+# What runs each command: out/measured, which is smaller than any of them.
+MEASURED = "out/measured"
 ROUNDS = 5
 TRANSACTIONS = (65536, 16 << 20)
 
 
 def run(words):
-    """How long the command took, which must succeed, and the most memory that it needed."""
-    begin = time.perf_counter()
-    child = subprocess.Popen(words, stdout=subprocess.DEVNULL, stderr=subprocess.DEVNULL)
-    _, status, usage = os.wait4(child.pid, 0)
-    child.returncode = os.waitstatus_to_exitcode(status)
-    if child.returncode != 0:
-        sys.exit(f"{' '.join(words)}: status {child.returncode}")
-    return time.perf_counter() - begin, usage.ru_maxrss / 1024
+    """How long the command took, which must succeed, and the most MB that it needed."""
+    with tempfile.NamedTemporaryFile() as result:
+        quiet = {"stdout": subprocess.DEVNULL, "stderr": subprocess.DEVNULL}
+        status = subprocess.run([MEASURED, result.name, *words], check=False, **quiet).returncode
+        if status != 0:
+            sys.exit(f"{' '.join(words)}: status {status}")
+        seconds, kib = result.read().split()
+    return float(seconds), int(kib) * 1024 / 1e6
 
 
 def fresh(path):

@@ -5,8 +5,8 @@
 
 A COMMAND may have several words; those after the first come after FILE. Prints the seconds that each
 command took, and the most memory that one needed. The status is 1 if a command fails or takes 2
-seconds or more, or if one needs more memory than the file's size, a byte for each of its pages, and
-16 MiB.
+seconds or more, if another form of `list` takes more than twice as long as `list`, or if a command
+needs more memory than the file's size, a byte for each of its pages, and 16 MiB.
 """
 
 import os
@@ -18,6 +18,8 @@ import time
 PAGE_SIZE = 4096
 SECONDS = 2.0
 ROOM = 16 * 2**20
+LIST = "list"
+TIMES = 2.0
 
 
 def timed(words):
@@ -36,13 +38,17 @@ def main():
     program, file, *commands = sys.argv[1:]
     length = os.path.getsize(file)
     most = length + length // PAGE_SIZE + ROOM
-    good = True
+    good, taken = True, {}
     for command in commands:
         name, *operands = command.split()
         status, seconds = timed([program, name, file, *operands])
         peak = peak_memory()
         print(f"{command}: status {status}, {seconds:.2f} s of {SECONDS:.2f}, at most {peak} bytes of {most}")
         good = good and status == 0 and seconds < SECONDS and peak <= most
+        taken[command] = seconds
+    for form in (it for it in taken if it.startswith(LIST + " --form ") and LIST in taken):
+        print(f"{form}: {taken[form] / taken[LIST]:.2f} times `{LIST}`, of {TIMES}")
+        good = good and taken[form] <= TIMES * taken[LIST]
     sys.exit(0 if good else 1)
 
 
