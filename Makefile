@@ -5,7 +5,7 @@ MAKER = PYTHONPATH=tools/format python3 -B
 PROGRAM = crates/luntsegi/out/luntsegi
 CALLS = crates/test_calls/out/test_calls
 
-.PHONY: build fmt demo set-up cases examples manual failures memory work bbolt fuzz fuzz-wrong wrong-bodies test bench install dist deb clean
+.PHONY: build quick fmt demo set-up cases examples manual failures memory work bbolt fuzz fuzz-wrong wrong-bodies test bench install dist deb clean
 
 # Proves the libraries and the program, and builds it.
 build:
@@ -17,6 +17,10 @@ $(PROGRAM):
 # Proves and builds the program that makes calls of the libraries for tests.
 $(CALLS):
 	cd crates/test_calls && rt run -- faults ../../README.md > /dev/null
+
+# Tries the program without its proofs, in two minutes after any edit. It says what that doesn't show.
+quick:
+	PYTHONPATH=tests:tools/fuzz:tools/format python3 -B tools/quick/quick.py out/try
 
 # Formats every crate. The gate refuses a file that isn't formatted.
 fmt:

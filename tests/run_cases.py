@@ -171,12 +171,12 @@ class Differs(Exception):
         return f"standard output {out!r:.600}\nstandard error {err!r:.300}\nstatus {status}, {len(copy)} bytes in OUT"
 
 
-def try_file(name, program, calls):
-    """Tries the test cases of a file. Returns how many hold and how many don't."""
+def try_file(name, program, calls, kind=Bench):
+    """Tries the test cases of a file on a bench of this kind. Returns how many hold and how many don't."""
     with open(name, encoding="utf-8", newline="\n") as it:
         blocks = it.read().rstrip("\n").split("\n\n")
     with tempfile.TemporaryDirectory() as folder:
-        bench = Bench(program, calls, folder)
+        bench = kind(program, calls, folder)
         for block in blocks:
             bench.try_block(block)
     print(f"{name}: {bench.held} hold, {bench.failed} don't", flush=True)
