@@ -36,7 +36,8 @@ def run_job(words):
     start = time.monotonic()
     ran = subprocess.run(words, stdout=subprocess.PIPE, stderr=subprocess.STDOUT, text=True, errors="replace")
     lines = ran.stdout.rstrip("\n").split("\n")
-    print("\n".join(lines[-1:] if ran.returncode == 0 else lines), f"({time.monotonic() - start:.0f} s)", flush=True)
+    shown = lines[-1:] if ran.returncode == 0 else [it for it in lines if not it.endswith(" hold, 0 don't")]
+    print("\n".join(shown), f"({time.monotonic() - start:.0f} s)", flush=True)
     return ran.returncode == 0
 
 
@@ -46,7 +47,7 @@ def main():
     print(f"The program is compiled ({time.monotonic() - start:.0f} s)", flush=True)
     with ThreadPoolExecutor(len(os.sched_getaffinity(0))) as processors:
         held = [*processors.map(run_job, jobs(program))]
-    print(f"quick: {sum(held)} of {len(held)} hold, in {time.monotonic() - start:.0f} s. {NOT_SHOWN}")
+    print(f"quick: {sum(held)} of {len(held)} jobs hold, in {time.monotonic() - start:.0f} s. {NOT_SHOWN}")
     sys.exit(not all(held))
 
 
