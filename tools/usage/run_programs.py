@@ -4,8 +4,8 @@
     run_programs.py README..
 
 In a README a program is a block of Rust between lines of backquotes, and what it prints is the block after it. The
-sentence between them names the file that the program's first word is, or how many of its first bytes. All programs are
-compiled into one, without their proofs, in a copy of the crates. The status is 1 if one prints anything else."""
+sentence between them names the file that the program's first word is, if it reads one, or how many of its first bytes. All
+programs are compiled into one, without their proofs, in a copy of the crates. The status is 1 if one prints anything else."""
 
 import os
 import re
@@ -14,8 +14,8 @@ import subprocess
 import sys
 import tempfile
 
-PROGRAM = re.compile(r"```rust\n(.*?)```\n\n([^`]*`[^`]*`:)\n\n```\n(.*?)```", re.S)
-INPUT = re.compile(r"It prints of (?:the first ([\d,]+) bytes of )?`([^`]+)`:")
+PROGRAM = re.compile(r"```rust\n(.*?)```\n\n(It prints[^\n]*:)\n\n```\n(.*?)```", re.S)
+INPUT = re.compile(r"It prints(?: of (?:the first ([\d,]+) bytes of )?`([^`]+)`)?:")
 NAME = "readme_programs"
 MAIN = """use std::{{env, io}};
 
@@ -41,7 +41,7 @@ class Shown:
             sys.exit(f"{name}: no program with what it prints")
         self.crate = name.split("/")[-2]
         self.text, _, self.printed = found[0]
-        with open(read[2], "rb") as it:
+        with open(read[2] or os.devnull, "rb") as it:
             self.file = it.read(int(read[1].replace(",", "")) if read[1] else -1)
 
     def uses(self):
@@ -87,7 +87,7 @@ def main():
             it.write(MAIN.format(modules=modules, arms=arms))
         words = ["rt", "try", "--cases", cases, "--", "{}"]
         ran = subprocess.run(words, cwd=folder, stdout=subprocess.PIPE, stderr=subprocess.STDOUT, text=True)
-    ended = len(re.findall(r"^case=\S+ run=ended status=0 ", ran.stdout, re.M))
+    ended = len(re.findall(r"^case=\S+ run=ended status=0 .*output=expected", ran.stdout, re.M))
     is_right = ran.returncode == 0 and ended == len(programs) > 0
     print("" if is_right else ran.stdout, end="")
     print(f"{len(programs)} programs of READMEs: {ended} ended well, unproved, with status {ran.returncode} of rt try")
