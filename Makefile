@@ -5,7 +5,7 @@ MAKER = PYTHONPATH=tools/format python3 -B
 PROGRAM = crates/luntsegi/out/luntsegi
 CALLS = crates/test_calls/out/test_calls
 
-.PHONY: build fmt demo set-up cases examples manual failures memory work bbolt fuzz fuzz-wrong wrong-bodies test bench install dist deb clean
+.PHONY: build quick fmt demo set-up cases examples programs manual failures memory work bbolt huge fuzz fuzz-wrong wrong-bodies test bench install dist deb clean
 
 # Proves the libraries and the program, and builds it.
 build:
@@ -18,14 +18,17 @@ $(PROGRAM):
 $(CALLS):
 	cd crates/test_calls && rt run -- faults ../../README.md > /dev/null
 
+# Tries the program without its proofs, in two minutes after any edit. It says what that doesn't show.
+quick:
+	PYTHONPATH=tests:tools/fuzz:tools/format python3 -B tools/quick/quick.py out/try
+
 # Formats every crate. The gate refuses a file that isn't formatted.
 fmt:
 	for crate in crates/*/; do (cd $$crate && rt fmt) || exit 1; done
 
-# Lists a real database with the program, which is compiled here without its proofs.
+# Shows what the program does with half of a real database. It is compiled here without its proofs.
 demo:
-	cd crates/luntsegi && rt try --data app.db=$(abspath examples/app.db) -- list app.db
-	@echo "That was the program before any proof: make build proves it and builds it."
+	@tools/try/demo.sh
 
 # Runs the test cases: command lines by the program, and calls by test_calls.
 cases: $(PROGRAM) $(CALLS)
@@ -34,6 +37,11 @@ cases: $(PROGRAM) $(CALLS)
 # Compares what is printed of real databases and of their copies with what bbolt finds, and what documents show.
 examples: $(PROGRAM)
 	tools/try/examples.sh $(PROGRAM)
+
+# Runs the programs that the READMEs of crates show, without their proofs.
+PROGRAMS = $(wildcard $(patsubst %,crates/bolt_%/README.md,bulk check commands format job load recover report tree))
+programs:
+	python3 -B tools/usage/run_programs.py $(PROGRAMS)
 
 # Compares the manual page and the completions with help. What documents and sources refer to must exist.
 manual: $(PROGRAM)
@@ -62,7 +70,12 @@ fuzz: $(PROGRAM)
 bbolt: $(PROGRAM)
 	tools/bbolt/try.sh $(PROGRAM) 30
 
-# Alters the program's output in many ways. The comparisons must find each alteration.
+# Tries sparse files of more than 4 GB, if there is memory for them.
+huge: $(PROGRAM)
+	mkdir -p out
+	PYTHONPATH=tests:tools/format python3 -B tools/try/huge.py $(PROGRAM) out
+
+# Alters the program's output in ten ways. The comparisons must find each alteration.
 fuzz-wrong: $(PROGRAM)
 	$(MAKER) tools/fuzz/try_wrong.py $(PROGRAM)
 
@@ -82,11 +95,11 @@ set-up:
 
 # The merge gate: every proof from nothing, the wrong bodies of crates/*/must-fail, the built programs, what these targets
 # try, the same random files each time, and rounds beside bbolt. The prover keeps freed memory for 10 s: fewer page faults.
+# It ends with its processor minutes.
 test: set-up
-	RT_JOBS=$(JOBS) MIMALLOC_PURGE_DELAY=10000 rt ci
-	$(MAKE) cases examples manual failures memory work
-	$(MAKER) tools/fuzz/fuzz.py $(PROGRAM) --seed 1 --files 36
-	tools/bbolt/try.sh $(PROGRAM) 3
+	python3 -B tools/try/gate.py "RT_JOBS=$(JOBS) MIMALLOC_PURGE_DELAY=10000 rt ci" \
+		"make cases examples programs manual failures memory work" \
+		"$(MAKER) tools/fuzz/fuzz.py $(PROGRAM) --seed 1 --files 36" "tools/bbolt/try.sh $(PROGRAM) 3"
 
 # Times the program on large files and, if it can be built, bbolt's library.
 bench: $(PROGRAM) out/measured out/large.db out/wide.db out/long.db out/sparse.db out/very_deep.db out/lost_leaves.db \

@@ -7,7 +7,7 @@
 | `pages N` | this many pages, with the metas and an empty freelist at page 2; later lines may overwrite them |
 | `inline SEQUENCE ELEMENT ..` | an inline bucket, to which `@0`, `@1` and so on refer |
 | `leaf PAGE ELEMENT ..`, `branch PAGE KEY>CHILD ..` | a page; `PAGE+1` is one with overflow 1 |
-| `free PAGE 4 7-9 ..`, `long PAGE COUNT 4 7-9 ..` | a freelist in the short form, or in the long one |
+| `free PAGE 4 7-9 ..`, `long PAGE COUNT 4 7-9 ..` | a freelist in the short form, or in the long one; `10-20/2*3` is each second page, thrice |
 | `at OFFSET BYTES ..` | bytes over those at a place |
 | `cut LENGTH` | the file ends there |
 | `nested COUNT` | this many buckets `b`, each in the preceding one, in pages of 1,024 bytes |

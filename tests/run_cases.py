@@ -17,6 +17,7 @@ of these other lines is the verb:
 | `$` | a command line and its result (wanted.py) |
 | `cuts` | `FIRST-LAST` and a command line, which has this result on each prefix of the file with a length in this range |
 | `changes` | the same with each byte of this range changed to each other value in turn |
+| `flips` | `FIRST-LAST` and a command line, which ends with status 1 and this first line with one bit of each byte in this range changed in turn |
 
 Other verbs are calls, which crates/test_calls/src/main.rt lists, and their results. In their words keys are written
 as in `file`. Walks print lines in hexadecimal, as `list` does; other calls print keys as they are.
@@ -132,8 +133,23 @@ class Bench:
                 self.file, self.kept = self.kept, self.file
             case "":
                 pass
+            case "flips":
+                self.flip_each(words.split(), Wanted(lines))
             case _:
                 self.compare(self.result(verb, words.split()), Wanted(it for it in lines if it))
+
+    def flip_each(self, words, wanted):
+        """Runs a command line with the lowest bit of each byte in a range changed, one after the other."""
+        bounds, *line = words
+        first, last = bounds.split("-")
+        whole = self.file
+        for at in range(int(first), int(last) + 1):
+            self.file = whole[:at] + bytes([whole[at] ^ 1]) + whole[at + 1 :]
+            result = self.run(self.program, *(bytes_of(word) for word in line))
+            self.file = whole
+            if (result[0].partition(b"\n")[0] + b"\n", result[2]) != (wanted.out, 1):
+                raise Differs(result)
+        self.held += 1
 
     def result(self, verb, words):
         if verb == "$":
@@ -171,12 +187,12 @@ class Differs(Exception):
         return f"standard output {out!r:.600}\nstandard error {err!r:.300}\nstatus {status}, {len(copy)} bytes in OUT"
 
 
-def try_file(name, program, calls):
-    """Tries the test cases of a file. Returns how many hold and how many don't."""
+def try_file(name, program, calls, kind=Bench):
+    """Tries the test cases of a file on a bench of this kind. Returns how many hold and how many don't."""
     with open(name, encoding="utf-8", newline="\n") as it:
         blocks = it.read().rstrip("\n").split("\n\n")
     with tempfile.TemporaryDirectory() as folder:
-        bench = Bench(program, calls, folder)
+        bench = kind(program, calls, folder)
         for block in blocks:
             bench.try_block(block)
     print(f"{name}: {bench.held} hold, {bench.failed} don't", flush=True)

@@ -6,7 +6,8 @@ r"""What a test case requires.
 | `>- TEXT` | a text on standard output without a line feed |
 | `>* WORD ..` | a line of words, each of which may repeat its text, with nothing between |
 | `>> FIRST LAST` | a line for each of these numbers |
-| `>x FIRST LAST BEFORE AFTER` | the same with five digits in hexadecimal, between two texts |
+| `># FIRST LAST TEXT\|TEXT ..` | the same with a text, of these in turn, in which `#` is the number |
+| `>x FIRST LAST BEFORE AFTER` | a line for each with five digits in hexadecimal, between two texts |
 | `= STATUS` | the status, if it isn't 0; a word after it says why |
 | `+ COPY` | what the copy must be: `FILE` itself, the file that is `kept`, or a `new` one, which is the file of the next test cases |
 
@@ -34,6 +35,8 @@ class Wanted:
             case ">>":
                 first, last = text.split()
                 self.out += b"".join(b"%d\n" % n for n in range(int(first), int(last) + 1))
+            case ">#":
+                self.out += texts_in_turn(*text.split(" ", 2))
             case ">x":
                 self.out += digits_between(*text.split(" ", 3))
             case "!":
@@ -44,6 +47,13 @@ class Wanted:
                 self.copy = text
             case _:
                 raise Unread(mark)
+
+
+def texts_in_turn(first, last, text):
+    """A line for each number: the next text, with the number in the place of each `#`."""
+    texts = text.split("|")
+    numbers = range(int(first), int(last) + 1)
+    return b"".join(text_bytes(texts[i % len(texts)].replace("#", str(n))) + b"\n" for i, n in enumerate(numbers))
 
 
 def digits_between(first, last, before="", after=""):

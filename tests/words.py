@@ -36,7 +36,11 @@ def path_of(word):
 
 
 def numbers_of(words):
-    """The numbers of words such as `4` or `7-9`."""
+    """The numbers of words such as `4`, `7-9`, `4-10/2`, which is each second one, and `4-10/2*3`, which is each thrice."""
     for word in words:
-        first, last = word.split("-") if "-" in word else (word, word)
-        yield from range(int(first), int(last) + 1)
+        found = re.fullmatch(r"(\d+)(?:-(\d+)(?:/(\d+))?)?(?:\*(\d+))?", word)
+        if found is None:
+            raise Unread(word)
+        first, last, step, times = found.groups()
+        for number in range(int(first), int(last or first) + 1, int(step or 1)):
+            yield from [number] * int(times or 1)

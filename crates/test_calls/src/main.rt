@@ -23,7 +23,6 @@
 //! | `names COMMAND ..` | the names of a command's FILE and OUT |
 //! | `cuts FIRST LAST COMMAND ..` | what a command prints of each prefix with a length in a range |
 //! | `changes FIRST LAST COMMAND ..` | the same if each byte of a range is changed to each other value |
-//! | `flips FIRST LAST COMMAND ..` | the first line if one bit of each byte is changed |
 //! | `fails COMMAND ..`, `halts COMMAND ..` | how many bytes, and how many calls, fail in turn |
 //! | `deeds fail COMMAND ..`, `deeds differ COMMAND ..` | what a command does to files and streams, if deeds go wrong from each one on |
 //! | `agree` | how many changed files were compared |
@@ -130,7 +129,6 @@ fn put_result(verb: &str, input: Input<'_>, text: &mut Text) -> Result<(), Fault
         }
         "puts" => sinks::puts(input, text),
         "names" => runs::names_of(input, text),
-        "flips" => sweeps::flips(input, text),
         "fails" | "halts" => failures::fail(verb, input, text),
         "deeds" => deeds::deeds_of(input, text),
         "agree" => agreements::compared(input, text),

@@ -1,8 +1,8 @@
 //! One command on many files that are cut short or changed.
 
 use crate::fault::{Fault, require};
-use crate::runs::{Ran, Task, first_line, job_of};
-use crate::words::{Input, Text, number};
+use crate::runs::{Ran, Task, job_of};
+use crate::words::{Input, number};
 use bolt_cli::Job;
 use std::alloc::Global;
 
@@ -13,8 +13,6 @@ pub enum Sweep {
     Cuts,
     /// The byte at each place is changed to each other value in turn.
     Changes,
-    /// The lowest bit of the byte at each place is changed.
-    Flips,
 }
 
 impl Sweep {
@@ -22,7 +20,7 @@ impl Sweep {
     fn last_bits(self) -> u8 {
         match self {
             Sweep::Changes => u8::MAX,
-            Sweep::Cuts | Sweep::Flips => 1,
+            Sweep::Cuts => 1,
         }
     }
 
@@ -48,20 +46,11 @@ impl Sweep {
     ) -> Result<(), Fault> {
         for at in places[0]..=places[1] {
             for bits in 1..=self.last_bits() {
-                let is_like = self.is_like(first, &self.run(task.alloc, task.job, file, at, bits));
-                require(is_like, "another result than before", at)?;
+                let ran = self.run(task.alloc, task.job, file, at, bits);
+                require(first.is_like(&ran), "another result than before", at)?;
             }
         }
         Ok(())
-    }
-
-    /// Whether a run came to the same as the first. If bits are flipped, only the first line is the same,
-    /// and the status is 1.
-    fn is_like(self, first: &Ran, ran: &Ran) -> bool {
-        if self == Sweep::Flips {
-            return ran.code == 1 && first_line(ran.out.bytes()) == first_line(first.out.bytes());
-        }
-        first.is_like(ran)
     }
 }
 
@@ -96,11 +85,4 @@ fn run_each(sweep: Sweep, task: Task<'_>, first: usize, last: usize) -> Result<R
     let ran = sweep.run(task.alloc, task.job, &mut file, first, 1);
     sweep.compare_each(task, &mut file, [first, last], &ran)?;
     Ok(ran)
-}
-
-/// The first line of what a command comes to if bits are flipped.
-pub fn flips(input: Input<'_>, text: &mut Text) -> Result<(), Fault> {
-    let ran = run_sweep(Sweep::Flips, input)?;
-    text.add(first_line(ran.out.bytes()));
-    Ok(())
 }

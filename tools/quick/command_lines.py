@@ -1,0 +1,41 @@
+"""Tries the command lines of files of test cases on files of at most 1 MB, and no calls.
+
+    command_lines.py PROGRAM FILE.."""
+
+import os
+import sys
+
+from run_cases import Bench, parted, try_file
+from words import halves
+
+MOST_BYTES = 2**20
+left_out = 0
+
+
+class Lines(Bench):
+    """A bench that leaves the other test cases out. A file that one of them would make is none."""
+
+    def is_small(self, wanted):
+        known = self.file is not None and ("+ kept" not in wanted or self.kept is not None)
+        return known and len(self.file) <= MOST_BYTES
+
+    def take(self, block):
+        global left_out
+        head, *wanted = parted(block)[1].split("\n")
+        verb, _ = halves(head, " ")
+        if verb in ("file", "text", "swap", "") or (verb in ("$", "cut") and self.is_small(wanted)):
+            super().take(block)
+        elif verb != "cut" or self.file is not None:
+            left_out += verb == "$"
+            self.file = None if "+ new" in wanted else self.file
+
+
+def main():
+    program, *names = sys.argv[1:]
+    counts = [try_file(name, os.path.abspath(program), "-", Lines) for name in names]
+    held, failed = (sum(it) for it in zip(*counts))
+    print(f"{held} command lines hold, {failed} don't, {left_out} on larger files are left out")
+    sys.exit(held == 0 or failed != 0)
+
+
+main()
