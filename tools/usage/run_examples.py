@@ -5,21 +5,19 @@
 
 In a document an example is a block that is indented by four spaces or, on a manual page, literal.
 Each line of it that begins with `$ ` is a command, and the lines below it are all that it prints,
-on both streams. The commands are run in order in the current folder, where `luntsegi` is PROGRAM and
-`bbolt` is out/bbolt; if that isn't built, the commands that begin with `bbolt` are left out. Files
-that they write go to out/examples, which is emptied first. Prints what differs; the status is 1 then,
-and if a document has no command.
+on both streams. The commands are run by bash in order in the current folder, where `luntsegi` is PROGRAM
+and `bbolt` is out/bbolt; if that isn't built, the commands that begin with `bbolt` are left out. Files
+that they write go to out/examples, which the commands of a document make anew: so they can be run again,
+and after those of others. Prints what differs; the status is 1 then, and if a document has no command.
 """
 
 import difflib
 import os
 import re
-import shutil
 import subprocess
 import sys
 import tempfile
 
-WRITTEN = "out/examples"
 BBOLT = "out/bbolt"
 
 
@@ -39,7 +37,7 @@ def printed(command, folder):
     """What a command prints. Programs are looked for in a folder first."""
     environment = dict(os.environ, PATH=folder + os.pathsep + os.environ["PATH"], LC_ALL="C")
     run = subprocess.run(
-        ["sh", "-c", command],
+        ["bash", "-c", command],
         env=environment,
         stdin=subprocess.DEVNULL,
         stdout=subprocess.PIPE,
@@ -61,8 +59,6 @@ def run_document(name, folder):
     """Runs a document's commands, and says whether it has any and all print what is shown."""
     with open(name, encoding="utf-8") as file:
         shown = commands(file.read())
-    shutil.rmtree(WRITTEN, ignore_errors=True)
-    os.makedirs(WRITTEN)
     run = [(command, wanted) for command, wanted in shown if can_run(command)]
     different = [differs(name, command, wanted, printed(command, folder)) for command, wanted in run]
     left_out = len(shown) - len(run)
