@@ -96,7 +96,8 @@ module _ (laws : Laws) (listing : List Member) (sequence : ℕ) (one : IsOfOneTr
     cut_layout = λ n less. subst RefusesFile (sym (take-append-le n layout (sha256 layout) (omega (arith, less)))) (refuses n less);
     cut_hash = λ n from less.
         let part : n - length layout < 32 = omega (arith, from, less, length-append layout (sha256 layout), length-sha256 layout) in
-        subst (λ k. hash_fault (take k (snapshot_of layout)) ≡ Some (cut_hash_fault (n - length layout))) (omega (arith, from)) (laws.cut layout (n - length layout) blocks part);
+        let sum : length layout + (n - length layout) ≡ n = omega (arith, from) in
+        subst (λ k. hash_fault (take k (snapshot_of layout)) ≡ Some (cut_hash_fault (n - length layout))) sum (laws.cut layout (n - length layout) blocks part);
   }
 
 pub good_copies : Laws → (listing : List Member) (sequence : ℕ) → IsOfOneTree listing → sequence < 2 ^ 64 → HasGoodCopies listing sequence

@@ -1,6 +1,6 @@
 -- With sound trees, `--recover` does what is done without it under the same meta, if the accounts don't count there.
-use Rattle.std.proofs.Common.{◌≡◌, ◌≢◌, ◌↔◌, ℕ, Bool, false, List, [], Option, inl, inr, refl, subst, sym, ◌∙◌}
-use Rattle.bolt_commands.proofs.Vocabulary.{Active, Answer, AreLosses, Assumed, CheckFault, Ending, Extent, First, HasSoundTrees, InSlot, IsChosen, IsEndedOrCut, IsInSlot, IsListedAnswer, IsListing, IsMetaOf, IsReadUnder, IsRecovered, IsRefusedUnder, IsUnrecoverableUnder, Layout, ListForm, LossView, Losses, MakesCopy, Member, Meta, MetaChoice, PageSize, Path, Slot, false≢true, has_losses, hash_differs, lost_ending, part_ending, part_text}
+use Rattle.std.proofs.Common.{◌≡◌, ◌≢◌, ◌↔◌, ℕ, Bool, List, [], Option, inl, inr, refl, subst, sym, ◌∙◌, None, Some}
+use Rattle.bolt_commands.proofs.Vocabulary.{Active, Answer, AreLosses, Assumed, CheckFault, Ending, Extent, First, HasSoundTrees, InSlot, IsChosen, IsEndedOrCut, IsInSlot, IsListedAnswer, IsListing, IsMetaOf, IsReadUnder, IsRecovered, IsRefusedUnder, IsUnrecoverableUnder, Layout, ListForm, LossView, Losses, MakesCopy, Member, Meta, MetaChoice, PageSize, Path, Slot, has_losses, bad_hash, lost_ending, part_ending, part_text}
 use Rattle.bolt_check.specs.declared.fault.CheckFault.TheVariants as check
 use Rattle.bolt_commands.proofs.{ReadFiles.read_meta, SoundReads.NamesOne, SoundReads.keeps_root, SoundReads.unread, SoundReads.unrecovered}
 

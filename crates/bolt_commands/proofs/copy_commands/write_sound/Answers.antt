@@ -9,8 +9,8 @@ returns-in_err-checked g c =
     let (fault, refused, (failure, of, same)) = c.in_err-checked.ensures.refused in
     inr (inr (fault, failure, refused, of, refl, refl, ends_as _ c.in_err-checked.field-0.0 c.from_residual.ensures.1 ∙ ap (λ (answer : Answer). answer.ending) same))
 
-pub returns-in-Some-bad_hash : goal.returns-in-Some-bad_hash
-returns-in-Some-bad_hash g c = inr (inl (_, _, c.in_ok-checked.ensures.sound, sym c.bad_hash.ensures ∙ c.in-Some-bad_hash.is, refl, refl, refl))
+pub returns-in-Some : goal.returns-in-Some
+returns-in-Some g c = inr (inl (_, _, c.in_ok-checked.ensures.sound, sym c.bad_hash.ensures ∙ c.in-Some.is, refl, refl, refl))
 
 pub shape_of-shape-requires : goal.shape_of-shape-requires
 shape_of-shape-requires g c = rw c.meta.ensures (read_page_size _ _ _ c.in_ok-checked.ensures.sound)
@@ -24,4 +24,4 @@ returns g c =
     let (own, is) = has_listing c.args.input.file.now (meta_of c.in_ok-checked.checked) (read_trees _ _ _ checked.sound) in
     let copy = c.copy_members-copied.ensures.copied own (rw (c.new-walk.ensures.checked, checked.bytes) is) in
     let written = copy_written _ _ (copy_asked (rw c.meta.ensures at c.shape_of-shape.ensures) copy) c.end_copy.ensures in
-    inl (_, own, checked.sound, sym c.bad_hash.ensures ∙ c.in_default-bad_hash.is, is, written)
+    inl (_, own, checked.sound, sym c.bad_hash.ensures ∙ c.in_default.is, is, written)
