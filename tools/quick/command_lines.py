@@ -1,4 +1,4 @@
-"""Tries the command lines of files of test cases on files of at most 1 MB, and no calls.
+"""Tries the command lines of files of test cases on files of at most 512 KB, and no calls.
 
     command_lines.py PROGRAM FILE.."""
 
@@ -8,7 +8,7 @@ import sys
 from run_cases import Bench, parted, try_file
 from words import halves
 
-MOST_BYTES = 2**20
+MOST_BYTES = 2**19
 left_out = 0
 
 
