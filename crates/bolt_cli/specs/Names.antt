@@ -1,6 +1,6 @@
 -- Names of files in the lines of faults: docs/COMMANDS.md, "Faults".
-use Rattle.std.specs.Prelude.{ℕ, List, [], ◌∷◌, encode_utf8_all, flat_map, if◌then◌else◌}
-use Rattle.std.specs.Char.{is_control}
+use Rattle.std.specs.Prelude.{ℕ, List, [], ◌∷◌, flat_map, if◌then◌else◌}
+use Rattle.std.specs.Char.{encode_utf8, is_control}
 use Rattle.std.specs.Char.Escape.{escape_default}
 use Rattle.std.specs.Str.{chars}
 
@@ -9,4 +9,4 @@ abbrev pub shown_char : ℕ → List ℕ
 shown_char c = if is_control c then escape_default c else c ∷ []
 
 abbrev pub shown_name : List ℕ → List ℕ
-shown_name name = encode_utf8_all (flat_map shown_char (chars name))
+shown_name name = flat_map encode_utf8 (flat_map shown_char (chars name))

@@ -1,5 +1,6 @@
 //! Names of files in the lines of faults.
-ghost use Rattle.std.specs.Prelude.{◌≡◌, ◌++◌, IfOk, OnOk, encode_utf8_all, string_bytes};
+ghost use Rattle.std.specs.Prelude.{◌≡◌, ◌++◌, IfOk, OnOk, flat_map, string_bytes};
+ghost use Rattle.std.specs.Char.{encode_utf8};
 ghost use Rattle.std.specs.Char.Escape.{escape_default};
 ghost use Rattle.bolt_cli.specs.Names.{shown_name};
 
@@ -22,7 +23,7 @@ pub(crate) fn shown_name(alloc: Global, name: &str) -> Result<String, AllocError
 }
 
 fn push_escaped(c: char, shown: &mut String) -> Result<(), AllocError>
-    ensures { OnOk result (string_bytes shown.new ≡ string_bytes shown.old ++ encode_utf8_all (escape_default c)) }
+    ensures { OnOk result (string_bytes shown.new ≡ string_bytes shown.old ++ flat_map encode_utf8 (escape_default c)) }
 {
     for escaped in c.escape_default() {
         shown.push(escaped)?;
