@@ -13,19 +13,19 @@ use Rattle.bolt_job.specs.PlainWords.{Asked, Values, asked, asked_of, syntaxes}
 
 -- ---- what the command line may hold
 
-abbrev long_of : Flag → Option Text
-long_of operand = None
-long_of operands = None
-long_of (long name) = Some name
-long_of (short letter) = None
-long_of (both letter name) = Some name
+abbrev long_of : Flag → (name : Text) → Option Text
+long_of operand name = None
+long_of operands name = None
+long_of long name = Some name
+long_of (short letter) name = None
+long_of (both letter) name = Some name
 
 abbrev short_of : Flag → Option ℕ
 short_of operand = None
 short_of operands = None
-short_of (long name) = None
+short_of long = None
 short_of (short letter) = Some letter
-short_of (both letter name) = Some letter
+short_of (both letter) = Some letter
 
 -- an option takes one value, or none, and then stands for a word; each of several words of an operand is added to those before it
 abbrev option_action : (has_value : Bool) → Option ArgAction
@@ -34,9 +34,9 @@ option_action has_value = if has_value then None else Some Set
 abbrev action_of : Flag → (has_value : Bool) → Option ArgAction
 action_of operand has_value = option_action has_value
 action_of operands has_value = Some Append
-action_of (long name) has_value = option_action has_value
+action_of long has_value = option_action has_value
 action_of (short letter) has_value = option_action has_value
-action_of (both letter name) has_value = option_action has_value
+action_of (both letter) has_value = option_action has_value
 
 abbrev option_range : (has_value : Bool) → Option ValueRange
 option_range has_value = if has_value then None else Some (record { start_inclusive = 0; end_inclusive = 0 })
@@ -49,7 +49,7 @@ option_missing has_value = if has_value then [] else given_word ∷ []
 
 abbrev pub argument_rule : Argument → Rule
 argument_rule a = record (new_rule a.name) {
-  long = long_of a.flag;
+  long = long_of a.flag a.name;
   short = short_of a.flag;
   action = action_of a.flag a.has_value;
   range = option_range a.has_value;
@@ -68,10 +68,10 @@ command_with name rules = let bare = new_app name in record bare { top = record 
 abbrev pub command_of : Syntax → App
 command_of s = command_with s.name (rules_for s)
 
--- the program's own level: it has no arguments, needs a subcommand and prints its version
+-- the program's own level: it has no arguments, needs a subcommand and prints its version; `clap` adds the command `help`
 abbrev pub bare_program : App
 bare_program = let bare = new_app (codes "luntsegi") in record bare {
-  top = record bare.top { has_version = true; subcommand_required = true; disable_help_subcommand = true };
+  top = record bare.top { has_version = true; subcommand_required = true };
 }
 
 abbrev pub program_of : List Syntax → App

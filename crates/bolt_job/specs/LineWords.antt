@@ -7,13 +7,13 @@ Text = List ℕ
 
 -- ---- how the line of a command is written
 
--- an argument is an operand, written as it is: one word, or as many as come; or an option, written `--name`, or by one letter, as `-o`, or in either way
+-- an argument is an operand, written as it is: one word, or as many as come; or an option, written as `--` and its name, or by one letter, as `-o`, or in either way
 pub data Flag : Type 0 where
   operand : Flag
   operands : Flag
-  long : Text → Flag
+  long : Flag
   short : (letter : ℕ) → Flag
-  both : (letter : ℕ) → Text → Flag
+  both : (letter : ℕ) → Flag
 
 -- an argument, by its name; an option has a value, or none, and is then given or not; it may be required
 pub record Argument : Type 0 where

@@ -7,9 +7,9 @@ use Rattle.bolt_job.specs.declared.command_line.Flag.TheVariants.{Both, Long, Op
 abbrev pub flag_view : Flag → plain.Flag
 flag_view Operand = plain.operand
 flag_view Operands = plain.operands
-flag_view (Long name) = plain.long name.now
+flag_view Long = plain.long
 flag_view (Short letter) = plain.short letter
-flag_view (Both letter name) = plain.both letter name.now
+flag_view (Both letter) = plain.both letter
 
 abbrev pub argument_view : Argument → plain.Argument
 argument_view a = record { name = a.name.now; flag = flag_view a.flag; has_value = is_some a.value; required = a.required }

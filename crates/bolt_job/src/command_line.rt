@@ -1,16 +1,12 @@
-//! What a command is made of, and the description of all commands for `clap`.
+//! What a command is made of, and its description for `clap`.
 ghost use Rattle.std.specs.Prelude.{◌≡◌, ◌∷◌, ◌++◌, [], List, Some, false, IfOk, map};
 ghost use Rattle.clap.specs.declared.builder.action.ArgAction.TheVariants.{Set};
 ghost use Rattle.bolt_job.specs.LineWords as plain;
 ghost use Rattle.bolt_job.specs.LineWords.{given_word};
-ghost use Rattle.bolt_job.specs.CommandLine.{IsCommand, argument_rule, bare_program, command_of, program, program_of};
-ghost use Rattle.bolt_job.specs.PlainWords.{syntaxes};
+ghost use Rattle.bolt_job.specs.CommandLine.{IsCommand, argument_rule, bare_program, command_of, program_of};
 ghost use Rattle.bolt_job.specs.Syntaxes.{argument_view, syntax_view};
 ghost use Rattle.clap.specs.Words.{new_app, rule_of};
 
-use crate::bucket_commands::{BUCKETS, GET, KEYS, LIST, STATS};
-use crate::page_commands::{CHECK, INFO, PAGE, PAGES};
-use crate::writing_commands::{COMPACT, LOAD};
 use clap::{Arg, ArgAction, Command};
 use std::alloc::{AllocError, Global};
 
@@ -21,12 +17,12 @@ pub(crate) enum Flag {
     Operand,
     /// The same, as many words as follow.
     Operands,
-    /// An option, as `--name`.
-    Long(&'static str),
+    /// An option, as `--` and its name.
+    Long,
     /// One by one letter, as `-o`.
     Short(char),
     /// One in either way, as `-n` or `--no-newline`.
-    Both(char, &'static str),
+    Both(char),
 }
 
 /// An operand or an option of a command.
@@ -68,9 +64,9 @@ fn arg_of<'a>(alloc: Global, argument: &'a Argument) -> Arg<'a>
     match argument.flag {
         Flag::Operand => arg,
         Flag::Operands => arg.action(ArgAction::Append),
-        Flag::Long(name) => arg.long(name),
+        Flag::Long => arg.long(argument.name),
         Flag::Short(letter) => arg.short(letter),
-        Flag::Both(letter, name) => arg.short(letter).long(name),
+        Flag::Both(letter) => arg.short(letter).long(argument.name),
     }
 }
 
@@ -109,36 +105,18 @@ fn command<'a>(alloc: Global, syntax: &'a Syntax) -> Result<Command<'a>, AllocEr
     Ok(command)
 }
 
-/// The commands, in the order of help. Each is a `static` of its own, since the check of a table takes the
-/// square of its length.
-fn commands<'a>() -> [&'a Syntax; 11]
-    ensures { map (λ syntax. syntax_view syntax.now) result ≡ syntaxes }
-{
-    [
-        &INFO, &PAGE, &PAGES, &CHECK, &BUCKETS, &KEYS, &GET, &STATS, &LIST, &COMPACT, &LOAD,
-    ]
-}
-
-/// The program without its commands.
-fn bare_program<'a>(alloc: Global) -> Command<'a>
+/// The program without its commands. `clap` adds the command `help`.
+pub(crate) fn bare_program<'a>(alloc: Global) -> Command<'a>
     ensures { IsCommand bare_program result }
 {
     Command::new(alloc, "luntsegi")
         .about("Inspect, check and compact bbolt database files, the format etcd uses")
         .version(VERSION)
         .subcommand_required(true)
-        .disable_help_subcommand(true)
-}
-
-/// The whole command line.
-pub(crate) fn program<'a>(alloc: Global) -> Result<Command<'a>, AllocError>
-    ensures { IfOk result (IsCommand program) }
-{
-    with_commands(alloc, bare_program(alloc), &commands())
 }
 
 /// The program with these commands.
-fn with_commands<'a>(
+pub(crate) fn with_commands<'a>(
     alloc: Global,
     program: Command<'a>,
     syntaxes: &[&'a Syntax],

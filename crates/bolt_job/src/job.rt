@@ -2,9 +2,9 @@
 ghost use Rattle.std.specs.Prelude.{◌≡◌};
 ghost use Rattle.bolt_job.specs.declared.job.Refusal.TheVariants.{Memory};
 
-use crate::choices::{CopyKind, Extent, MetaChoice, PageSize};
-use bolt_format::Slot;
-use bolt_report::{FigureForm, Form, ListForm};
+use crate::bucket_commands::{BucketsJob, GetJob, KeysJob, ListJob, StatsJob};
+use crate::page_commands::{CheckJob, InfoJob, PageJob, PagesJob};
+use crate::writing_commands::{CompactJob, LoadJob};
 use std::alloc::{AllocError, AllocFailed};
 
 /// What the words of a command line ask for (docs/COMMANDS.md). Each command has a job of its own.
@@ -21,120 +21,6 @@ pub enum Job {
     List(ListJob),
     Compact(CompactJob),
     Load(LoadJob),
-}
-
-/// Print the meta in a slot, or the active one.
-#[derive(Drop)]
-pub struct InfoJob {
-    pub file: String,
-    pub slot: Option<Slot>,
-    pub form: FigureForm,
-}
-
-/// Print one page.
-#[derive(Drop)]
-pub struct PageJob {
-    pub file: String,
-    pub meta: MetaChoice,
-    pub id: u64,
-}
-
-/// Print all pages.
-#[derive(Drop)]
-pub struct PagesJob {
-    pub file: String,
-    /// Whether to print a map of them, and not their table.
-    pub map: bool,
-}
-
-/// Check whether the file is sound.
-#[derive(Drop)]
-pub struct CheckJob {
-    pub file: String,
-    pub meta: MetaChoice,
-    pub extent: Extent,
-    /// Whether to check first that the file ends with the SHA-256 of what is before it.
-    pub snapshot: bool,
-}
-
-/// Print the buckets in the bucket at a path.
-#[derive(Drop)]
-pub struct BucketsJob {
-    pub file: String,
-    pub meta: MetaChoice,
-    pub form: Form,
-    pub path: Vec<Vec<u8>>,
-    /// Whether to print the sizes of each with its name.
-    pub sizes: bool,
-}
-
-/// Print the figures of the bucket at a path and of all in it. At the empty path they are those of
-/// the root's buckets, added up.
-#[derive(Drop)]
-pub struct StatsJob {
-    pub file: String,
-    pub meta: MetaChoice,
-    pub form: FigureForm,
-    pub path: Vec<Vec<u8>>,
-}
-
-/// Print the keys of the bucket at a path that begin with a prefix.
-#[derive(Drop)]
-pub struct KeysJob {
-    pub file: String,
-    pub meta: MetaChoice,
-    pub form: Form,
-    pub path: Vec<Vec<u8>>,
-    pub prefix: Vec<u8>,
-}
-
-/// Print the value at a path.
-#[derive(Drop)]
-pub struct GetJob {
-    pub file: String,
-    pub meta: MetaChoice,
-    pub form: Form,
-    pub path: Vec<Vec<u8>>,
-    /// Whether to print no line feed after it.
-    pub no_newline: bool,
-}
-
-/// Print the part of the listing at and below a path, without what comes before another path. Both
-/// are empty if the whole listing is wanted.
-#[derive(Drop)]
-pub struct ListJob {
-    pub file: String,
-    pub meta: MetaChoice,
-    pub form: ListForm,
-    pub path: Vec<Vec<u8>>,
-    pub from: Vec<Vec<u8>>,
-    pub extent: Extent,
-}
-
-/// Write a compact copy to another file.
-#[derive(Drop)]
-pub struct CompactJob {
-    pub file: String,
-    pub meta: MetaChoice,
-    /// The name of OUT.
-    pub target: String,
-    /// The page size of the copy. Without one it is that of the file.
-    pub page_size: Option<PageSize>,
-    pub kind: CopyKind,
-    pub extent: Extent,
-}
-
-/// Write a database of the lines of a listing to another file.
-#[derive(Drop)]
-pub struct LoadJob {
-    /// The name of the file that has the lines.
-    pub file: String,
-    /// The name of OUT.
-    pub target: String,
-    /// The sequence of the root bucket.
-    pub sequence: u64,
-    pub page_size: PageSize,
-    pub kind: CopyKind,
 }
 
 impl Job {
