@@ -8,7 +8,8 @@ use Rattle.bolt_format.specs.{Metas.page_sizes, declared.meta.Slot.Slot, declare
 use Rattle.bolt_load.specs.Numbers.{decimal_value, is_number, number_in}
 use Rattle.bolt_report.specs.{declared.FigureForm.FigureForm, declared.Form.Form, declared.ListForm.ListForm}
 use Rattle.bolt_job.specs.FormWords.{figure_form_by, form_by, list_form_by}
-use Rattle.bolt_job.specs.LineWords.{Argument, Syntax, Text, both, long, operand, operands, short}
+use Rattle.clap.specs.Words.{Rule, new_rule}
+use Rattle.bolt_job.specs.LineWords.{Text, alone, by_letter, by_name, needed, several, valued}
 use Rattle.bolt_job.specs.PathWords.{◌>>=◌, each_part, hex_path_by, part_of, parts_by, prefix_of}
 use Rattle.bolt_job.specs.declared.choices.CopyKind.{CopyKind}
 use Rattle.bolt_job.specs.declared.choices.CopyKind.TheVariants as kind
@@ -22,29 +23,26 @@ use Rattle.bolt_job.specs.declared.choices.PageSize.{PageSize}
 
 -- ---- the arguments of the commands
 
--- FILE and ID, and the parts of a path
-abbrev operand_called : Text → Argument
-operand_called name = record { name = name; flag = operand; has_value = true; required = true }
+abbrev operand : Text → Rule
+operand name = valued (new_rule name)
 
-abbrev parts_operand : (required : Bool) → Argument
-parts_operand required = record { name = codes "PART"; flag = operands; has_value = true; required = required }
+-- an option with a value, and one without
+abbrev option : Text → Rule
+option name = by_name (valued (new_rule name))
 
--- options that may be given: with a value, and without one
-abbrev valued : Text → Argument
-valued name = record { name = name; flag = long; has_value = true; required = false }
+abbrev switch : Text → Rule
+switch name = by_name (alone (new_rule name))
 
-abbrev alone : Text → Argument
-alone name = record { name = name; flag = long; has_value = false; required = false }
+-- the words of a path
+abbrev parts : Rule
+parts = several (operand (codes "PART"))
 
--- the file of a copy, only by `-o` (111); and an option that is also written `-n` (110)
-abbrev output_option : Argument
-output_option = record { name = codes "output"; flag = short 111; has_value = true; required = true }
+-- OUT, by `-o` (111)
+abbrev output : Rule
+output = needed (by_letter 111 (valued (new_rule (codes "output"))))
 
-abbrev newline_option : Argument
-newline_option = record { name = codes "no-newline"; flag = both 110; has_value = false; required = false }
-
-abbrev metas : List Argument
-metas = valued (codes "meta") ∷ valued (codes "assume-meta") ∷ []
+abbrev metas : List Rule
+metas = option (codes "meta") ∷ option (codes "assume-meta") ∷ []
 
 -- ---- what a line asks for
 
@@ -253,36 +251,38 @@ asks_load values =
 
 -- ---- the commands
 
--- a command by its line, and what the words of that line ask for, or which of them can't be read and why
+-- a command by its name and its arguments, and what the words of its line ask for, or which of them can't be read and why
 pub record Command : Type 0 where
-  pub syntax : Syntax
+  pub name : Text
+  pub rules : List Rule
   pub asks : Values → Result Asked Text
 
 -- FILE is the first operand of each
-abbrev command : Text → List Argument → (Values → Result Asked Text) → Command
-command name others asks = record { syntax = record { name = name; arguments = operand_called (codes "FILE") ∷ others }; asks = asks }
+abbrev command : Text → List Rule → (Values → Result Asked Text) → Command
+command name others asks = record { name = name; rules = needed (operand (codes "FILE")) ∷ others; asks = asks }
 
+-- `-n` (110) is also written by its name
 abbrev pub commands : List Command
 commands =
-    command (codes "info") (valued (codes "form") ∷ valued (codes "meta") ∷ []) asks_info
-    ∷ command (codes "page") (operand_called (codes "ID") ∷ valued (codes "assume-meta") ∷ []) asks_page
-    ∷ command (codes "pages") (alone (codes "map") ∷ []) asks_pages
-    ∷ command (codes "check") (alone (codes "all") ∷ alone (codes "lost-and-found") ∷ alone (codes "etcd-snapshot") ∷ metas) asks_check
-    ∷ command (codes "buckets") (parts_operand false ∷ alone (codes "sizes") ∷ valued (codes "form") ∷ valued (codes "parts") ∷ metas) asks_buckets
-    ∷ command (codes "keys") (parts_operand true ∷ valued (codes "prefix") ∷ valued (codes "form") ∷ valued (codes "parts") ∷ metas) asks_keys
-    ∷ command (codes "get") (parts_operand true ∷ newline_option ∷ valued (codes "form") ∷ valued (codes "parts") ∷ metas) asks_get
-    ∷ command (codes "stats") (parts_operand false ∷ valued (codes "form") ∷ valued (codes "parts") ∷ metas) asks_stats
-    ∷ command (codes "list") (parts_operand false ∷ valued (codes "from") ∷ valued (codes "form") ∷ valued (codes "parts") ∷ alone (codes "recover") ∷ alone (codes "lost-and-found") ∷ metas) asks_list
-    ∷ command (codes "compact") (output_option ∷ valued (codes "page-size") ∷ alone (codes "for-bbolt") ∷ alone (codes "etcd-snapshot") ∷ alone (codes "recover") ∷ alone (codes "lost-and-found") ∷ metas) asks_compact
-    ∷ command (codes "load") (output_option ∷ valued (codes "page-size") ∷ alone (codes "for-bbolt") ∷ alone (codes "etcd-snapshot") ∷ valued (codes "sequence") ∷ []) asks_load
+    command (codes "info") (option (codes "form") ∷ option (codes "meta") ∷ []) asks_info
+    ∷ command (codes "page") (needed (operand (codes "ID")) ∷ option (codes "assume-meta") ∷ []) asks_page
+    ∷ command (codes "pages") (switch (codes "map") ∷ []) asks_pages
+    ∷ command (codes "check") (switch (codes "all") ∷ switch (codes "lost-and-found") ∷ switch (codes "etcd-snapshot") ∷ metas) asks_check
+    ∷ command (codes "buckets") (parts ∷ switch (codes "sizes") ∷ option (codes "form") ∷ option (codes "parts") ∷ metas) asks_buckets
+    ∷ command (codes "keys") (needed parts ∷ option (codes "prefix") ∷ option (codes "form") ∷ option (codes "parts") ∷ metas) asks_keys
+    ∷ command (codes "get") (needed parts ∷ by_letter 110 (switch (codes "no-newline")) ∷ option (codes "form") ∷ option (codes "parts") ∷ metas) asks_get
+    ∷ command (codes "stats") (parts ∷ option (codes "form") ∷ option (codes "parts") ∷ metas) asks_stats
+    ∷ command (codes "list") (parts ∷ option (codes "from") ∷ option (codes "form") ∷ option (codes "parts") ∷ switch (codes "recover") ∷ switch (codes "lost-and-found") ∷ metas) asks_list
+    ∷ command (codes "compact") (output ∷ option (codes "page-size") ∷ switch (codes "for-bbolt") ∷ switch (codes "etcd-snapshot") ∷ switch (codes "recover") ∷ switch (codes "lost-and-found") ∷ metas) asks_compact
+    ∷ command (codes "load") (output ∷ option (codes "page-size") ∷ switch (codes "for-bbolt") ∷ switch (codes "etcd-snapshot") ∷ option (codes "sequence") ∷ []) asks_load
     ∷ []
 
-abbrev pub syntaxes : List Syntax
-syntaxes = map (λ (c : Command). c.syntax) commands
+abbrev pub lines : List (Text × List Rule)
+lines = map (λ (c : Command). (c.name, c.rules)) commands
 
 abbrev pub asked_among : List Command → Text → Values → Result Asked Text
 asked_among [] name values = Err (codes "command missing")
-asked_among (c ∷ later) name values = if bytes_eq name c.syntax.name then c.asks values else asked_among later name values
+asked_among (c ∷ later) name values = if bytes_eq name c.name then c.asks values else asked_among later name values
 
 -- by the name of the command
 abbrev pub asked : Text → Values → Result Asked Text

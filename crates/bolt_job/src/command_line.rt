@@ -1,10 +1,8 @@
 //! What a command is made of, and its description for `clap`.
-ghost use Rattle.std.specs.Prelude.{◌≡◌, ◌∷◌, ◌++◌, [], List, Some, false, IfOk, map};
-ghost use Rattle.clap.specs.declared.builder.action.ArgAction.TheVariants.{Set};
-ghost use Rattle.bolt_job.specs.LineWords as plain;
-ghost use Rattle.bolt_job.specs.LineWords.{given_word};
-ghost use Rattle.bolt_job.specs.CommandLine.{IsCommand, argument_rule, bare_program, command_of, program_of};
-ghost use Rattle.bolt_job.specs.Syntaxes.{argument_view, syntax_view};
+ghost use Rattle.std.specs.Prelude.{◌≡◌, false, IfOk, map};
+ghost use Rattle.bolt_job.specs.LineWords.{alone};
+ghost use Rattle.bolt_job.specs.CommandLine.{IsCommand, bare_program, command_with, program_of};
+ghost use Rattle.bolt_job.specs.Syntaxes.{argument_rule, line_of};
 ghost use Rattle.clap.specs.Words.{new_app, rule_of};
 
 use clap::{Arg, ArgAction, Command};
@@ -51,7 +49,7 @@ pub(crate) struct Syntax {
 const VERSION: &str = "0.1.0";
 
 fn arg_of<'a>(alloc: Global, argument: &'a Argument) -> Arg<'a>
-    ensures rule { rule_of result ≡ argument_rule (argument_view argument.now) }
+    ensures rule { rule_of result ≡ argument_rule argument.now }
     ensures local { result.global ≡ false }
 {
     let arg = Arg::new(alloc, argument.name)
@@ -72,11 +70,7 @@ fn arg_of<'a>(alloc: Global, argument: &'a Argument) -> Arg<'a>
 
 /// An option without a value. If it is given, it counts as one word.
 fn alone<'a>(arg: Arg<'a>) -> Arg<'a>
-    ensures rule { rule_of result ≡ record (rule_of arg.entry) {
-      action = Some Set;
-      range = Some (record { start_inclusive = 0; end_inclusive = 0 });
-      missing = given_word ∷ [];
-    } }
+    ensures rule { rule_of result ≡ alone (rule_of arg.entry) }
     ensures local { result.global ≡ arg.entry.global }
 {
     arg.action(ArgAction::Set)
@@ -96,7 +90,7 @@ fn bare_command<'a>(alloc: Global, syntax: &'a Syntax) -> Command<'a>
 }
 
 fn command<'a>(alloc: Global, syntax: &'a Syntax) -> Result<Command<'a>, AllocError>
-    ensures { IfOk result (IsCommand (command_of (syntax_view syntax.now))) }
+    ensures { IfOk result (IsCommand (command_with syntax.now.name.now (map argument_rule syntax.now.arguments.now))) }
 {
     let mut command = bare_command(alloc, syntax);
     for argument in syntax.arguments {
@@ -122,7 +116,7 @@ pub(crate) fn with_commands<'a>(
     syntaxes: &[&'a Syntax],
 ) -> Result<Command<'a>, AllocError>
     requires { IsCommand bare_program program }
-    ensures { IfOk result (IsCommand (program_of (map (λ syntax. syntax_view syntax.now) syntaxes.now))) }
+    ensures { IfOk result (IsCommand (program_of (map (λ syntax. line_of syntax.now) syntaxes.now))) }
 {
     let mut program = program;
     for syntax in syntaxes {

@@ -1,10 +1,22 @@
-//! What a command line asks for: a job, or why it asks for none.
-ghost use Rattle.std.specs.Prelude.{◌≡◌};
+//! What a command line asks for: a job, or why it asks for none. Here each command is named.
+ghost use Rattle.std.specs.Prelude.{◌≡◌, map};
+ghost use Rattle.bolt_job.specs.CommandLine.{Gives};
+ghost use Rattle.bolt_job.specs.PlainWords.{asked, asked_of, lines};
+ghost use Rattle.bolt_job.specs.Private.CommandLines.{values_of};
+ghost use Rattle.bolt_job.specs.Syntaxes.{line_of};
 ghost use Rattle.bolt_job.specs.declared.job.Refusal.TheVariants.{Memory};
 
-use crate::bucket_commands::{BucketsJob, GetJob, KeysJob, ListJob, StatsJob};
-use crate::page_commands::{CheckJob, InfoJob, PageJob, PagesJob};
-use crate::writing_commands::{CompactJob, LoadJob};
+use crate::bucket_commands::{
+    BUCKETS, BucketsJob, GET, GetJob, KEYS, KeysJob, LIST, ListJob, STATS, StatsJob, read_buckets,
+    read_get, read_keys, read_list, read_stats,
+};
+use crate::command_line::Syntax;
+use crate::line::Line;
+use crate::page_commands::{
+    CHECK, CheckJob, INFO, InfoJob, PAGE, PAGES, PageJob, PagesJob, read_check, read_info,
+    read_page, read_pages,
+};
+use crate::writing_commands::{COMPACT, CompactJob, LOAD, LoadJob, read_compact, read_load};
 use std::alloc::{AllocError, AllocFailed};
 
 /// What the words of a command line ask for (docs/COMMANDS.md). Each command has a job of its own.
@@ -64,6 +76,36 @@ impl Job {
             Job::Load(job) => Some(job.target.as_str()),
             _ => None,
         }
+    }
+}
+
+/// The commands, in the order of help. Each is a `static` of its own, since the check of a table takes the
+/// square of its length.
+pub(crate) fn commands<'a>() -> [&'a Syntax; 11]
+    ensures { map (λ syntax. line_of syntax.now) result ≡ lines }
+{
+    [
+        &INFO, &PAGE, &PAGES, &CHECK, &BUCKETS, &KEYS, &GET, &STATS, &LIST, &COMPACT, &LOAD,
+    ]
+}
+
+/// The job of a command by its name, and the words that its operands and options are given.
+pub(crate) fn read_command(name: &str, line: &Line<'_, '_>) -> Result<Job, Refusal>
+    ensures { Gives asked_of (asked name.now (values_of line.now)) result }
+{
+    match name {
+        "info" => read_info(line),
+        "page" => read_page(line),
+        "pages" => read_pages(line),
+        "check" => read_check(line),
+        "buckets" => read_buckets(line),
+        "keys" => read_keys(line),
+        "get" => read_get(line),
+        "stats" => read_stats(line),
+        "list" => read_list(line),
+        "compact" => read_compact(line),
+        "load" => read_load(line),
+        _ => Err(Refusal::Word("command missing")),
     }
 }
 

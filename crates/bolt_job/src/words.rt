@@ -1,21 +1,12 @@
 //! Reads the words of a command line: which job they ask for.
-ghost use Rattle.std.specs.Prelude.{◌≡◌, IfErr, IfOk, map, string_bytes};
+ghost use Rattle.std.specs.Prelude.{IfErr, IfOk, map, string_bytes};
 ghost use Rattle.clap.specs.Words.{kind_of, subcommand_rows_of};
 ghost use Rattle.bolt_job.specs.CommandLine.{Asks, Gives, HasKindOf, IsCommand, IsRefusalOf, asked_by_subcommand, program};
-ghost use Rattle.bolt_job.specs.PlainWords.{asked, asked_of, syntaxes};
-ghost use Rattle.bolt_job.specs.Private.CommandLines.{values_of};
-ghost use Rattle.bolt_job.specs.Syntaxes.{syntax_view};
+ghost use Rattle.bolt_job.specs.PlainWords.{asked_of};
 
-use crate::bucket_commands::{
-    BUCKETS, GET, KEYS, LIST, STATS, read_buckets, read_get, read_keys, read_list, read_stats,
-};
-use crate::command_line::{Syntax, bare_program, with_commands};
-use crate::job::{Job, Refusal};
+use crate::command_line::{bare_program, with_commands};
+use crate::job::{Job, Refusal, commands, read_command};
 use crate::line::Line;
-use crate::page_commands::{
-    CHECK, INFO, PAGE, PAGES, read_check, read_info, read_page, read_pages,
-};
-use crate::writing_commands::{COMPACT, LOAD, read_compact, read_load};
 use clap::error::ErrorKind;
 use clap::{ArgMatches, Command, Error};
 use std::alloc::{AllocError, Global};
@@ -50,16 +41,6 @@ fn program<'a>(alloc: Global) -> Result<Command<'a>, AllocError>
     with_commands(alloc, bare_program(alloc), &commands())
 }
 
-/// The commands, in the order of help. Each is a `static` of its own, since the check of a table takes the
-/// square of its length.
-fn commands<'a>() -> [&'a Syntax; 11]
-    ensures { map (λ syntax. syntax_view syntax.now) result ≡ syntaxes }
-{
-    [
-        &INFO, &PAGE, &PAGES, &CHECK, &BUCKETS, &KEYS, &GET, &STATS, &LIST, &COMPACT, &LOAD,
-    ]
-}
-
 fn refusal_of(alloc: Global, error: &Error) -> Result<Refusal, AllocError>
     ensures { IfOk result (HasKindOf (kind_of error.now)) }
 {
@@ -77,24 +58,5 @@ fn read_matches(alloc: Global, matches: &ArgMatches<'_>) -> Result<Job, Refusal>
     match matches.subcommand() {
         Some((name, matches)) => read_command(name, &Line { alloc, matches }),
         None => Err(Refusal::Word("command missing")),
-    }
-}
-
-fn read_command(name: &str, line: &Line<'_, '_>) -> Result<Job, Refusal>
-    ensures { Gives asked_of (asked name.now (values_of line.now)) result }
-{
-    match name {
-        "info" => read_info(line),
-        "page" => read_page(line),
-        "pages" => read_pages(line),
-        "check" => read_check(line),
-        "buckets" => read_buckets(line),
-        "keys" => read_keys(line),
-        "get" => read_get(line),
-        "stats" => read_stats(line),
-        "list" => read_list(line),
-        "compact" => read_compact(line),
-        "load" => read_load(line),
-        _ => Err(Refusal::Word("command missing")),
     }
 }
