@@ -1,32 +1,53 @@
 # Completion for bash: the commands of luntsegi, their options and values, and file names.
 
-# The options of a command, except those of help.
+# ---- made from help by tools/usage/words.py
+_luntsegi_commands=(info page pages check buckets keys get stats list compact load help)
+
+# The options of a command or, without one, of the program.
 _luntsegi_options() {
     case $1 in
-        info) echo --form --meta ;;
-        page) echo --assume-meta ;;
-        pages) echo --map ;;
-        check) echo --all --lost-and-found --etcd-snapshot --meta --assume-meta ;;
-        buckets) echo --sizes --form --parts --meta --assume-meta ;;
-        keys) echo --prefix --form --parts --meta --assume-meta ;;
-        get) echo --no-newline -n --form --parts --meta --assume-meta ;;
-        stats) echo --form --parts --meta --assume-meta ;;
-        list) echo --from --form --parts --recover --lost-and-found --meta --assume-meta ;;
-        compact) echo -o --page-size --for-bbolt --etcd-snapshot --recover --lost-and-found --meta --assume-meta ;;
-        load) echo -o --page-size --for-bbolt --etcd-snapshot --sequence ;;
+        "") echo "-h --help -V --version" ;;
+        info) echo "--form --meta -h --help" ;;
+        page) echo "--assume-meta -h --help" ;;
+        pages) echo "--map -h --help" ;;
+        check) echo "--all --lost-and-found --etcd-snapshot --meta --assume-meta -h --help" ;;
+        buckets) echo "--sizes --form --parts --meta --assume-meta -h --help" ;;
+        keys) echo "--prefix --form --parts --meta --assume-meta -h --help" ;;
+        get) echo "-n --no-newline --form --parts --meta --assume-meta -h --help" ;;
+        stats) echo "--form --parts --meta --assume-meta -h --help" ;;
+        list) echo "--from --form --parts --recover --lost-and-found --meta --assume-meta -h --help" ;;
+        compact) echo "-o --page-size --for-bbolt --etcd-snapshot --recover --lost-and-found --meta --assume-meta -h --help" ;;
+        load) echo "-o --page-size --for-bbolt --etcd-snapshot --sequence -h --help" ;;
     esac
 }
 
-# The values of a command's option that has only a few. The value of -o is completed as a file name.
+# The values of a command's option that has only a few.
 _luntsegi_values() {
     case "$1 $2" in
-        "list --form") echo hex json json-hex ;;
-        "info --form" | "stats --form") echo lines json ;;
-        *" --form") echo printable hex bytes text mixed json json-hex ;;
-        *" --parts") echo text hex mixed ;;
-        *" --meta") echo 0 1 ;;
+        "info --form" | "stats --form") echo "lines json" ;;
+        "info --meta" | "check --meta" | "buckets --meta" | "keys --meta" | "get --meta" | "stats --meta" | "list --meta" | "compact --meta") echo "0 1" ;;
+        "buckets --form" | "keys --form" | "get --form") echo "printable hex bytes text mixed json json-hex" ;;
+        "buckets --parts" | "keys --parts" | "get --parts" | "stats --parts" | "list --parts") echo "text hex mixed" ;;
+        "list --form") echo "hex json json-hex" ;;
     esac
 }
+
+# Whether an option has a value.
+_luntsegi_has_value() {
+    case $1 in
+        --form | --meta | --assume-meta | --parts | --prefix | --from | -o | --page-size | --sequence) return 0 ;;
+        *) return 1 ;;
+    esac
+}
+
+# Whether that is a file.
+_luntsegi_has_file() {
+    case $1 in
+        -o) return 0 ;;
+        *) return 1 ;;
+    esac
+}
+# ---- end
 
 # Whether there is no operand before the cursor yet, so that FILE is next.
 # An = between an option and its value is a word of its own.
@@ -34,15 +55,14 @@ _luntsegi_wants_file() {
     local at word
     for ((at = 2; at < COMP_CWORD; at++)); do
         word=${COMP_WORDS[at]}
-        case $word in
-            --) ;;
-            --form | --parts | --meta | --assume-meta | --from | --prefix | --page-size | --sequence | -o)
-                [[ ${COMP_WORDS[at + 1]} == = ]] && ((at++))
-                ((at++))
-                ;;
-            -?*) ;;
-            *) return 1 ;;
-        esac
+        if [[ $word == -- ]]; then
+            continue
+        elif _luntsegi_has_value "$word"; then
+            [[ ${COMP_WORDS[at + 1]} == = ]] && ((at++))
+            ((at++))
+        elif [[ $word != -?* ]]; then
+            return 1
+        fi
     done
 }
 
@@ -65,15 +85,15 @@ _luntsegi_option() {
 # Completes the first word.
 _luntsegi_command() {
     case $1 in
-        -*) _luntsegi_words "-h --help -V --version" "$1" ;;
-        *) _luntsegi_words "info page pages check buckets keys get stats list compact load" "$1" ;;
+        -*) _luntsegi_words "$(_luntsegi_options)" "$1" ;;
+        *) _luntsegi_words "${_luntsegi_commands[*]}" "$1" ;;
     esac
 }
 
 # Completes an option or FILE. Only the user knows the other operands.
 _luntsegi_option_or_operand() {
     if [[ $1 == -* && " ${COMP_WORDS[*]:0:COMP_CWORD} " != *" -- "* ]]; then
-        _luntsegi_words "$(_luntsegi_options "${COMP_WORDS[1]}") -h --help" "$1"
+        _luntsegi_words "$(_luntsegi_options "${COMP_WORDS[1]}")" "$1"
     elif _luntsegi_wants_file; then
         _luntsegi_files "$1"
     fi
@@ -82,14 +102,13 @@ _luntsegi_option_or_operand() {
 _luntsegi_argument() {
     local option
     option=$(_luntsegi_option)
-    case $option in
-        -o) _luntsegi_files "$1" ;;
-        --form | --parts | --meta)
-            _luntsegi_words "$(_luntsegi_values "${COMP_WORDS[1]}" "$option")" "$1"
-            ;;
-        --from | --prefix | --page-size | --sequence | --assume-meta) ;;
-        *) _luntsegi_option_or_operand "$1" ;;
-    esac
+    if _luntsegi_has_file "$option"; then
+        _luntsegi_files "$1"
+    elif _luntsegi_has_value "$option"; then
+        _luntsegi_words "$(_luntsegi_values "${COMP_WORDS[1]}" "$option")" "$1"
+    else
+        _luntsegi_option_or_operand "$1"
+    fi
 }
 
 _luntsegi() {
@@ -97,8 +116,10 @@ _luntsegi() {
     COMPREPLY=()
     if ((COMP_CWORD == 1)); then
         _luntsegi_command "$current"
-    else
+    elif [[ ${COMP_WORDS[1]} != help ]]; then
         _luntsegi_argument "${current#=}"
+    elif ((COMP_CWORD == 2)); then
+        _luntsegi_words "${_luntsegi_commands[*]}" "$current"
     fi
 }
 

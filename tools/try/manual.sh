@@ -1,5 +1,5 @@
 #!/bin/sh
-# Compares the manual page, and what bash and zsh complete, with help, for `make manual`.
+# Compares the manual page, the synopses, and what bash, zsh and fish complete, with help, for `make manual`.
 #
 #     manual.sh PROGRAM
 #
@@ -8,7 +8,7 @@
 set -eux
 program=$1
 if command -v mandoc >/dev/null; then mandoc -Tlint docs/luntsegi.1; fi
-python3 -B tools/usage/compare_manual.py "$program" docs/luntsegi.1
+python3 -B tools/usage/words.py --check "$program"
 python3 -B tools/usage/compare_completions.py "$program"
 set +x
 echo "check_links.py on all documents, and on the sources that refer to them" >&2

@@ -1,4 +1,4 @@
-"""What a shell completes for the last word of a line, with the files in completions."""
+"""What a shell offers for the last word of a line, with the files in completions."""
 
 import os
 import pty
@@ -45,6 +45,16 @@ def offered_by_bash(folder, words):
         ["bash", "--norc", "-c", BASH, "bash", folder, *words], capture_output=True, text=True, check=True
     )
     return sorted(set(run.stdout.split()))
+
+
+def offered_by_fish(folder, words):
+    """Asks fish; after each thing that it offers it has a tab and what help says of it."""
+    line = " ".join(["luntsegi", *words[1:]])
+    script = f"source {os.path.abspath('completions/luntsegi.fish')}; cd $argv[1]; complete -C $argv[2]"
+    run = subprocess.run(
+        ["fish", "--no-config", "-c", script, folder, line], capture_output=True, text=True, check=True
+    )
+    return sorted({offered.split("\t")[0] for offered in run.stdout.splitlines()})
 
 
 def offered_by_zsh(folder, words):

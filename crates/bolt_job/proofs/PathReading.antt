@@ -1,7 +1,7 @@
 -- The parts of a path are read one after another.
 use Rattle.std.proofs.Common.{◌≡◌, ◌∙◌, ◌==◌, Bool, List, [], ◌∷◌, ◌++◌, Result, Ok, Err, codes, length, refl, sym, ap, ap₂, inl, inr, append_assoc, map}
 use Rattle.bolt_job.proofs.Vocabulary.{Bor, Gives, IsErrAnd, Key, None, Option, Path, Refusal, Some, Text, each_part, false, hex_path_of, if◌then◌else◌}
-use Rattle.bolt_job.proofs.Vocabulary.{list_any, option_and_then, option_map, or_bad_hex, or_cases, or_parts, part_of, result_and_then, slice_split, true}
+use Rattle.bolt_job.proofs.Vocabulary.{◌>>=◌, list_any, option_and_then, option_map, or_bad_hex, or_cases, or_parts, part_of, slice_split, true}
 use Rattle.bolt_load.specs.HexPaths.{hex_bytes_in, hex_path_in, part_in, parts_in}
 use Rattle.bolt_load.specs.declared.line_words.Parts.TheVariants as parts
 
@@ -11,10 +11,10 @@ texts words = map (λ (word : Bor Text). word.now) words
 
 -- what is read of the words that are left, after the parts so far
 abbrev pub continued : Path → Result Path Text → Result Path Text
-continued front = result_and_then (λ path. Ok (front ++ path))
+continued front left = left >>= λ path. Ok (front ++ path)
 
 one_continued : (front : Path) (part : Key) (rest : Result Path Text)
-    → continued front (result_and_then (λ path. Ok (part ∷ path)) rest) ≡ continued (front ++ part ∷ []) rest
+    → continued front (rest >>= λ path. Ok (part ∷ path)) ≡ continued (front ++ part ∷ []) rest
 one_continued front part (Ok path) = ap Ok (sym (append_assoc front (part ∷ []) path))
 one_continued front part (Err why) = refl
 
@@ -22,10 +22,10 @@ module _ (read : Text → Result Key Text) (word : Text) (words : List Text) whe
   pub continued_one : (front : Path) (part : Key) → read word ≡ Ok part
       → continued front (each_part read (word ∷ words)) ≡ continued (front ++ part ∷ []) (each_part read words)
   continued_one front part is =
-      ap (λ r. continued front (result_and_then (λ part. result_and_then (λ path. Ok (part ∷ path)) (each_part read words)) r)) is ∙ one_continued front part (each_part read words)
+      ap (λ r. continued front (r >>= λ part. each_part read words >>= λ path. Ok (part ∷ path))) is ∙ one_continued front part (each_part read words)
 
   pub continued_bad : (front : Path) (why : Text) → read word ≡ Err why → continued front (each_part read (word ∷ words)) ≡ Err why
-  continued_bad front why is = ap (λ r. continued front (result_and_then (λ part. result_and_then (λ path. Ok (part ∷ path)) (each_part read words)) r)) is
+  continued_bad front why is = ap (λ r. continued front (r >>= λ part. each_part read words >>= λ path. Ok (part ∷ path))) is
 
   -- a part that can't be read is reported of the whole
   pub part_refused : {T U : Type 0} (view : T → Path) (part_view : U → Key) (front : Path) (whole : Result Path Text) (refusal : Refusal) (result : Result T Refusal)
@@ -43,7 +43,7 @@ empties words = list_any (λ part. length part == 0) words
 
 -- the path of the words, if no part is empty and all are in hexadecimal
 with_rest : (part : Option Key) (rest : Option Path)
-    → or_bad_hex (option_and_then (λ part. option_map (λ parts. part ∷ parts) rest) part) ≡ result_and_then (λ part. result_and_then (λ path. Ok (part ∷ path)) (or_bad_hex rest)) (or_bad_hex part)
+    → or_bad_hex (option_and_then (λ part. option_map (λ parts. part ∷ parts) rest) part) ≡ (or_bad_hex part >>= λ part. or_bad_hex rest >>= λ path. Ok (part ∷ path))
 with_rest None rest = refl
 with_rest (Some part) None = refl
 with_rest (Some part) (Some path) = refl
@@ -53,7 +53,7 @@ all_parts [] none = refl
 all_parts (word ∷ words) none =
     let both = or_parts (length word == 0) (empties words) none in
     with_rest (part_in word) (parts_in words)
-    ∙ ap₂ (λ (part : Option Key) (rest : Result Path Text). result_and_then (λ part. result_and_then (λ path. Ok (part ∷ path)) rest) (or_bad_hex part))
+    ∙ ap₂ (λ (part : Option Key) (rest : Result Path Text). or_bad_hex part >>= λ part. rest >>= λ path. Ok (part ∷ path))
     (ap (λ b. if b then None else hex_bytes_in word) both.0) (all_parts words both.1)
 
 no_path : (part : Option Key) → option_and_then {U = Path} (λ part. option_map (λ parts. part ∷ parts) None) part ≡ None

@@ -1,84 +1,31 @@
 -- The command line as it is described to `clap`, and what its matches ask for.
-use Rattle.std.specs.Prelude.{◌≡◌, ◌≢◌, ◌⊎◌, ℕ, List, [], ◌∷◌, Option, Some, None, Ok, Err, Result, Bool, false, true, codes, map, fold, unwrap_or, MatchResult, if◌then◌else◌}
-use Rattle.clap.specs.Words.{App, IsAmong, Kinds, Row, Rule, all_of, app_of, fault_of, new_app, new_rule, subcommand_of, with_subcommand}
-use Rattle.clap.specs.declared.builder.action.ArgAction.{ArgAction}
-use Rattle.clap.specs.declared.builder.action.ArgAction.TheVariants.{Append, Set}
-use Rattle.clap.specs.{declared.builder.range.ValueRange.ValueRange, declared.builder.Command.Command, declared.builder.Command.TheViews.out-Command}
+use Rattle.std.specs.Prelude.{◌≡◌, ◌≢◌, ◌⊎◌, List, [], Option, Some, None, Ok, Err, Result, false, true, codes, fold, unwrap_or, MatchResult}
+use Rattle.clap.specs.Words.{App, IsAmong, Kinds, Row, Rule, all_of, app_of, fault_of, new_app, subcommand_of, with_subcommand}
+use Rattle.clap.specs.{declared.builder.Command.Command, declared.builder.Command.TheViews.out-Command}
 use Rattle.clap.specs.declared.error.ErrorKind.{ErrorKind}
 use Rattle.clap.specs.declared.error.ErrorKind.TheVariants as kind
 use Rattle.bolt_job.specs.{declared.job.Job.Job, declared.job.Refusal.Refusal}
 use Rattle.bolt_job.specs.declared.job.Refusal.TheVariants.{Memory, Help, Version, Usage, Word}
-use Rattle.bolt_job.specs.LineWords.{Argument, Flag, Syntax, Text, both, given_word, long, operand, operands, short}
-use Rattle.bolt_job.specs.PlainWords.{Asked, Values, asked, asked_of, syntaxes}
+use Rattle.bolt_job.specs.LineWords.{Text}
+use Rattle.bolt_job.specs.PlainWords.{Asked, Values, asked, asked_of, lines}
 
 -- ---- what the command line may hold
-
-abbrev long_of : Flag → Option Text
-long_of operand = None
-long_of operands = None
-long_of (long name) = Some name
-long_of (short letter) = None
-long_of (both letter name) = Some name
-
-abbrev short_of : Flag → Option ℕ
-short_of operand = None
-short_of operands = None
-short_of (long name) = None
-short_of (short letter) = Some letter
-short_of (both letter name) = Some letter
-
--- an option takes one value, or none, and then stands for a word; each of several words of an operand is added to those before it
-abbrev option_action : (has_value : Bool) → Option ArgAction
-option_action has_value = if has_value then None else Some Set
-
-abbrev action_of : Flag → (has_value : Bool) → Option ArgAction
-action_of operand has_value = option_action has_value
-action_of operands has_value = Some Append
-action_of (long name) has_value = option_action has_value
-action_of (short letter) has_value = option_action has_value
-action_of (both letter name) has_value = option_action has_value
-
-abbrev option_range : (has_value : Bool) → Option ValueRange
-option_range has_value = if has_value then None else Some (record { start_inclusive = 0; end_inclusive = 0 })
-
-abbrev option_names : (has_value : Bool) → ℕ
-option_names has_value = if has_value then 1 else 0
-
-abbrev option_missing : (has_value : Bool) → List Text
-option_missing has_value = if has_value then [] else given_word ∷ []
-
-abbrev pub argument_rule : Argument → Rule
-argument_rule a = record (new_rule a.name) {
-  long = long_of a.flag;
-  short = short_of a.flag;
-  action = action_of a.flag a.has_value;
-  range = option_range a.has_value;
-  value_names = option_names a.has_value;
-  missing = option_missing a.has_value;
-  required = a.required;
-}
-
-abbrev pub rules_for : Syntax → List Rule
-rules_for s = map argument_rule s.arguments
 
 -- a command with these arguments
 abbrev pub command_with : Text → List Rule → App
 command_with name rules = let bare = new_app name in record bare { top = record bare.top { rules = rules } }
 
-abbrev pub command_of : Syntax → App
-command_of s = command_with s.name (rules_for s)
-
--- the program's own level: it has no arguments, needs a subcommand and prints its version
+-- the program's own level: it has no arguments, needs a subcommand and prints its version; `clap` adds the command `help`
 abbrev pub bare_program : App
 bare_program = let bare = new_app (codes "luntsegi") in record bare {
-  top = record bare.top { has_version = true; subcommand_required = true; disable_help_subcommand = true };
+  top = record bare.top { has_version = true; subcommand_required = true };
 }
 
-abbrev pub program_of : List Syntax → App
-program_of lines = fold (λ app s. with_subcommand app (command_of s).top) bare_program lines
+abbrev pub program_of : List (Text × List Rule) → App
+program_of lines = fold (λ app line. with_subcommand app (command_with line.0 line.1).top) bare_program lines
 
 abbrev pub program : App
-program = program_of syntaxes
+program = program_of lines
 
 -- the command is described so, and none of its arguments is global
 abbrev pub IsCommand : App → Command → Type 0

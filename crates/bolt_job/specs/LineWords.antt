@@ -1,32 +1,34 @@
--- How the lines of the commands are written: docs/COMMANDS.md, "Words".
-use Rattle.std.specs.Prelude.{ℕ, Bool, List, codes}
+-- How an operand or an option is described to `clap`: docs/COMMANDS.md, "Words".
+use Rattle.std.specs.Prelude.{ℕ, true, List, [], ◌∷◌, Some, codes}
+use Rattle.clap.specs.Words.{Rule}
+use Rattle.clap.specs.declared.builder.action.ArgAction.TheVariants.{Append, Set}
 
 -- a word, by its bytes
 abbrev pub Text : Type 0
 Text = List ℕ
 
--- ---- how the line of a command is written
+-- it is one word, an operand or the value of an option
+abbrev pub valued : Rule → Rule
+valued rule = record rule { value_names = 1 }
 
--- an argument is an operand, written as it is: one word, or as many as come; or an option, written `--name`, or by one letter, as `-o`, or in either way
-pub data Flag : Type 0 where
-  operand : Flag
-  operands : Flag
-  long : Text → Flag
-  short : (letter : ℕ) → Flag
-  both : (letter : ℕ) → Text → Flag
-
--- an argument, by its name; an option has a value, or none, and is then given or not; it may be required
-pub record Argument : Type 0 where
-  pub name : Text
-  pub flag : Flag
-  pub has_value : Bool
-  pub required : Bool
-
--- a command's line: its name, its operands in order, and among them its options in any order
-pub record Syntax : Type 0 where
-  pub name : Text
-  pub arguments : List Argument
-
--- what an option without a value counts as, if it is given
+-- it has no value, and counts as a word if it is given
 abbrev pub given_word : Text
 given_word = codes "true"
+
+abbrev pub alone : Rule → Rule
+alone rule = record rule { action = Some Set; range = Some (record { start_inclusive = 0; end_inclusive = 0 }); missing = given_word ∷ [] }
+
+-- it is as many words as come, each of which is added to those before it
+abbrev pub several : Rule → Rule
+several rule = record rule { action = Some Append }
+
+-- it is an option: `--` and its name, or a letter, as `-o`
+abbrev pub by_name : Rule → Rule
+by_name rule = record rule { long = Some rule.id }
+
+abbrev pub by_letter : ℕ → Rule → Rule
+by_letter letter rule = record rule { short = Some letter }
+
+-- a line must have it
+abbrev pub needed : Rule → Rule
+needed rule = record rule { required = true }

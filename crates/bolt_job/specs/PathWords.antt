@@ -7,10 +7,11 @@ use Rattle.bolt_load.specs.{HexPaths.hex_path_in, PartWords.part_by, declared.li
 use Rattle.bolt_load.specs.declared.line_words.Parts.TheVariants as parts
 use Rattle.bolt_job.specs.LineWords.{Text}
 
-module _ {A B : Type 0} where
-  abbrev pub result_and_then : (A → Result B Text) → Result A Text → Result B Text
-  result_and_then next (Ok a) = next a
-  result_and_then next (Err why) = Err why
+-- what comes next of what was read, or what is wrong with it
+infixl 10 ◌>>=◌
+abbrev pub ◌>>=◌ : {A B : Type 0} → Result A Text → (A → Result B Text) → Result B Text
+Ok a >>= next = next a
+Err why >>= next = Err why
 
 -- how the words of a path are written, by the value of an option; without one they are text
 abbrev pub parts_of : Text → Result Parts Text
@@ -40,7 +41,7 @@ prefix_of how None = Ok []
 -- each of the words is a part
 abbrev pub each_part : (Text → Result Key Text) → List Text → Result Path Text
 each_part read [] = Ok []
-each_part read (word ∷ words) = result_and_then (λ part. result_and_then (λ path. Ok (part ∷ path)) (each_part read words)) (read word)
+each_part read (word ∷ words) = read word >>= λ part. each_part read words >>= λ path. Ok (part ∷ path)
 
 -- a path in hexadecimal
 abbrev pub hex_path_of : Text → Result Path Text

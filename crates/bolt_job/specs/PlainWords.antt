@@ -8,8 +8,9 @@ use Rattle.bolt_format.specs.{Metas.page_sizes, declared.meta.Slot.Slot, declare
 use Rattle.bolt_load.specs.Numbers.{decimal_value, is_number, number_in}
 use Rattle.bolt_report.specs.{declared.FigureForm.FigureForm, declared.Form.Form, declared.ListForm.ListForm}
 use Rattle.bolt_job.specs.FormWords.{figure_form_by, form_by, list_form_by}
-use Rattle.bolt_job.specs.LineWords.{Argument, Syntax, Text, both, long, operand, operands, short}
-use Rattle.bolt_job.specs.PathWords.{each_part, hex_path_by, part_of, parts_by, prefix_of, result_and_then}
+use Rattle.clap.specs.Words.{Rule, new_rule}
+use Rattle.bolt_job.specs.LineWords.{Text, alone, by_letter, by_name, needed, several, valued}
+use Rattle.bolt_job.specs.PathWords.{◌>>=◌, each_part, hex_path_by, part_of, parts_by, prefix_of}
 use Rattle.bolt_job.specs.declared.choices.CopyKind.{CopyKind}
 use Rattle.bolt_job.specs.declared.choices.CopyKind.TheVariants as kind
 use Rattle.bolt_job.specs.declared.choices.Extent.{Extent}
@@ -20,109 +21,28 @@ use Rattle.bolt_job.specs.declared.choices.MetaChoice.{MetaChoice}
 use Rattle.bolt_job.specs.declared.choices.MetaChoice.TheVariants as choice
 use Rattle.bolt_job.specs.declared.choices.PageSize.{PageSize}
 
-abbrev pub file_operand : Argument
-file_operand = record { name = codes "FILE"; flag = operand; has_value = true; required = true }
+-- ---- the arguments of the commands
 
-abbrev id_operand : Argument
-id_operand = record { name = codes "ID"; flag = operand; has_value = true; required = true }
+abbrev operand : Text → Rule
+operand name = valued (new_rule name)
 
--- the parts of a path
-abbrev pub part_operand : (required : Bool) → Argument
-part_operand required = record { name = codes "PART"; flag = operands; has_value = true; required = required }
+-- an option with a value, and one without
+abbrev option : Text → Rule
+option name = by_name (valued (new_rule name))
 
--- options that may be given, each by its name: with a value, and without one
-abbrev valued_option : Text → Argument
-valued_option name = record { name = name; flag = long name; has_value = true; required = false }
+abbrev switch : Text → Rule
+switch name = by_name (alone (new_rule name))
 
-abbrev lone_option : Text → Argument
-lone_option name = record { name = name; flag = long name; has_value = false; required = false }
+-- the words of a path
+abbrev parts : Rule
+parts = several (operand (codes "PART"))
 
-abbrev pub form_option : Argument
-form_option = valued_option (codes "form")
+-- OUT, by `-o` (111)
+abbrev output : Rule
+output = needed (by_letter 111 (valued (new_rule (codes "output"))))
 
-abbrev pub parts_option : Argument
-parts_option = valued_option (codes "parts")
-
-abbrev pub from_option : Argument
-from_option = valued_option (codes "from")
-
-abbrev pub meta_option : Argument
-meta_option = valued_option (codes "meta")
-
-abbrev pub assumed_option : Argument
-assumed_option = valued_option (codes "assume-meta")
-
--- the file of a copy, by `-o` (111)
-abbrev pub output_option : Argument
-output_option = record { name = codes "output"; flag = short 111; has_value = true; required = true }
-
-abbrev pub page_size_option : Argument
-page_size_option = valued_option (codes "page-size")
-
-abbrev pub for_bbolt_option : Argument
-for_bbolt_option = lone_option (codes "for-bbolt")
-
-abbrev pub snapshot_option : Argument
-snapshot_option = lone_option (codes "etcd-snapshot")
-
-abbrev pub sequence_option : Argument
-sequence_option = valued_option (codes "sequence")
-
-abbrev pub sizes_option : Argument
-sizes_option = lone_option (codes "sizes")
-
-abbrev pub prefix_option : Argument
-prefix_option = valued_option (codes "prefix")
-
--- also by `-n` (110)
-abbrev pub no_newline_option : Argument
-no_newline_option = record { name = codes "no-newline"; flag = both 110 (codes "no-newline"); has_value = false; required = false }
-
-abbrev pub map_option : Argument
-map_option = lone_option (codes "map")
-
-abbrev pub all_option : Argument
-all_option = lone_option (codes "all")
-
-abbrev pub lost_and_found_option : Argument
-lost_and_found_option = lone_option (codes "lost-and-found")
-
-abbrev pub recover_option : Argument
-recover_option = lone_option (codes "recover")
-
--- the lines of the commands
-abbrev pub info_line : Syntax
-info_line = record { name = codes "info"; arguments = file_operand ∷ form_option ∷ meta_option ∷ [] }
-
-abbrev pub page_line : Syntax
-page_line = record { name = codes "page"; arguments = file_operand ∷ id_operand ∷ assumed_option ∷ [] }
-
-abbrev pub pages_line : Syntax
-pages_line = record { name = codes "pages"; arguments = file_operand ∷ map_option ∷ [] }
-
-abbrev pub check_line : Syntax
-check_line = record { name = codes "check"; arguments = file_operand ∷ all_option ∷ lost_and_found_option ∷ snapshot_option ∷ meta_option ∷ assumed_option ∷ [] }
-
-abbrev pub buckets_line : Syntax
-buckets_line = record { name = codes "buckets"; arguments = file_operand ∷ part_operand false ∷ sizes_option ∷ form_option ∷ parts_option ∷ meta_option ∷ assumed_option ∷ [] }
-
-abbrev pub keys_line : Syntax
-keys_line = record { name = codes "keys"; arguments = file_operand ∷ part_operand true ∷ prefix_option ∷ form_option ∷ parts_option ∷ meta_option ∷ assumed_option ∷ [] }
-
-abbrev pub get_line : Syntax
-get_line = record { name = codes "get"; arguments = file_operand ∷ part_operand true ∷ no_newline_option ∷ form_option ∷ parts_option ∷ meta_option ∷ assumed_option ∷ [] }
-
-abbrev pub stats_line : Syntax
-stats_line = record { name = codes "stats"; arguments = file_operand ∷ part_operand false ∷ form_option ∷ parts_option ∷ meta_option ∷ assumed_option ∷ [] }
-
-abbrev pub list_line : Syntax
-list_line = record { name = codes "list"; arguments = file_operand ∷ part_operand false ∷ from_option ∷ form_option ∷ parts_option ∷ recover_option ∷ lost_and_found_option ∷ meta_option ∷ assumed_option ∷ [] }
-
-abbrev pub compact_line : Syntax
-compact_line = record { name = codes "compact"; arguments = file_operand ∷ output_option ∷ page_size_option ∷ for_bbolt_option ∷ snapshot_option ∷ recover_option ∷ lost_and_found_option ∷ meta_option ∷ assumed_option ∷ [] }
-
-abbrev pub load_line : Syntax
-load_line = record { name = codes "load"; arguments = file_operand ∷ output_option ∷ page_size_option ∷ for_bbolt_option ∷ snapshot_option ∷ sequence_option ∷ [] }
+abbrev metas : List Rule
+metas = option (codes "meta") ∷ option (codes "assume-meta") ∷ []
 
 -- ---- what a line asks for
 
@@ -185,15 +105,21 @@ abbrev pub or_missing : Option Text → Result Text Text
 or_missing (Some word) = Ok word
 or_missing None = Err (codes "value missing")
 
+abbrev pub given : Values → (name : Text) → Option Text
+given values name = first_of (values name)
+
 abbrev pub text_by : Text → Values → Result Text Text
-text_by name values = or_missing (first_of (values name))
+text_by name values = or_missing (given values name)
+
+abbrev file_by : Values → Result Text Text
+file_by values = text_by (codes "FILE") values
 
 -- a number by its word, or what is wrong with it
 abbrev pub number_or : (why word : Text) → Result ℕ Text
 number_or why word = if is_number word then Ok (decimal_value word) else Err why
 
-abbrev pub page_id : Text → Result ℕ Text
-page_id word = number_or (codes "bad page id") word
+abbrev pub id_by : Values → Result ℕ Text
+id_by values = text_by (codes "ID") values >>= λ word. number_or (codes "bad page id") word
 
 -- of these numbers some are page sizes
 abbrev pub is_page_size : Text → Bool
@@ -204,7 +130,7 @@ page_size_of word = if is_page_size word then Ok (decimal_value word) else Err (
 
 -- the page size of a copy by its word; without one it is that of the file
 abbrev pub page_size_by : Option Text → Result (Option ℕ) Text
-page_size_by (Some word) = result_and_then (λ size. Ok (Some size)) (page_size_of word)
+page_size_by (Some word) = page_size_of word >>= λ size. Ok (Some size)
 page_size_by None = Ok None
 
 -- the page size of a database that is made of a listing, and the sequence of its root bucket
@@ -222,11 +148,17 @@ copy_kind_by for_bbolt (Some word) = kind.EtcdSnapshot
 copy_kind_by (Some word) None = kind.ForBbolt
 copy_kind_by None None = kind.Plain
 
--- how far a check goes, by the words of `--all` and `--lost-and-found` if they are given
+abbrev kind_in : Values → CopyKind
+kind_in values = copy_kind_by (given values (codes "for-bbolt")) (given values (codes "etcd-snapshot"))
+
+-- how far a command goes, by the words of `--all` or `--recover` and of `--lost-and-found` if they are given
 abbrev pub extent_by : (losses lost_and_found : Option Text) → Extent
 extent_by losses (Some word) = extent.LostAndFound
 extent_by (Some word) None = extent.Losses
 extent_by None None = extent.First
+
+abbrev extent_in : (losses : Text) → Values → Extent
+extent_in losses values = extent_by (given values losses) (given values (codes "lost-and-found"))
 
 -- whether an option without a value is given
 abbrev pub is_given : Option Text → Bool
@@ -241,7 +173,7 @@ slot_of word =
     else Err (codes "bad meta: use 0 or 1")
 
 abbrev pub slot_by : Option Text → Result (Option Slot) Text
-slot_by (Some word) = result_and_then (λ slot. Ok (Some slot)) (slot_of word)
+slot_by (Some word) = slot_of word >>= λ slot. Ok (Some slot)
 slot_by None = Ok None
 
 -- an assumed meta by its page size, and its root page after a colon (58)
@@ -258,87 +190,99 @@ assumed_of word = assumed_when (page_size_of (before_first (λ byte. byte == 58)
 -- the meta by the words of `--meta` and `--assume-meta`, of which only one may be given
 abbrev pub meta_asked : (named assumed : Option Text) → Result AskedMeta Text
 meta_asked None None = Ok active
-meta_asked (Some word) None = result_and_then (λ slot. Ok (in_slot slot)) (slot_of word)
+meta_asked (Some word) None = slot_of word >>= λ slot. Ok (in_slot slot)
 meta_asked None (Some word) = assumed_of word
 meta_asked (Some word) (Some other) = Err bad_assumed
 
 abbrev pub meta_by : Values → Result AskedMeta Text
-meta_by values = meta_asked (first_of (values (codes "meta"))) (first_of (values (codes "assume-meta")))
+meta_by values = meta_asked (given values (codes "meta")) (given values (codes "assume-meta"))
 
+-- a path by its words, and the bytes that keys are to begin with, written as these are
+abbrev pub path_by : Values → Result Path Text
+path_by values = parts_by (given values (codes "parts")) >>= λ how. each_part (part_of how) (values (codes "PART"))
+
+abbrev pub prefix_by : Values → Result Key Text
+prefix_by values = parts_by (given values (codes "parts")) >>= λ how. prefix_of how (given values (codes "prefix"))
+
+abbrev asks_at : Values → (AskedMeta → Form → Path → Result Asked Text) → Result Asked Text
+asks_at values wanted = meta_by values >>= λ meta. form_by (given values (codes "form")) >>= λ form. path_by values >>= λ path. wanted meta form path
+
+-- of several words that can't be read the first one that is read here is wrong
 abbrev pub asks_info : Values → Result Asked Text
-asks_info values = result_and_then (λ slot. result_and_then (λ form. result_and_then (λ file. Ok (info file slot form)) (text_by (codes "FILE") values))
-    (figure_form_by (first_of (values (codes "form"))))) (slot_by (first_of (values (codes "meta"))))
+asks_info values =
+    slot_by (given values (codes "meta")) >>= λ slot. figure_form_by (given values (codes "form")) >>= λ form. file_by values >>= λ file. Ok (info file slot form)
 
 abbrev pub asks_page : Values → Result Asked Text
-asks_page values = result_and_then (λ meta. result_and_then (λ id. result_and_then (λ file. Ok (page file meta id)) (text_by (codes "FILE") values))
-    (result_and_then page_id (text_by (codes "ID") values))) (meta_by values)
+asks_page values = meta_by values >>= λ meta. id_by values >>= λ id. file_by values >>= λ file. Ok (page file meta id)
 
 abbrev pub asks_pages : Values → Result Asked Text
-asks_pages values = result_and_then (λ file. Ok (pages file (is_given (first_of (values (codes "map")))))) (text_by (codes "FILE") values)
+asks_pages values = file_by values >>= λ file. Ok (pages file (is_given (given values (codes "map"))))
 
 abbrev pub asks_check : Values → Result Asked Text
-asks_check values = result_and_then (λ meta. result_and_then (λ file. Ok (check file meta (extent_by (first_of (values (codes "all"))) (first_of (values (codes "lost-and-found")))) (is_given (first_of (values (codes "etcd-snapshot"))))))
-    (text_by (codes "FILE") values)) (meta_by values)
-
--- a path by its words
-abbrev pub path_by : Values → Result Path Text
-path_by values = result_and_then (λ how. each_part (part_of how) (values (codes "PART"))) (parts_by (first_of (values (codes "parts"))))
-
--- the bytes that keys are to begin with, written as the words of the path are
-abbrev pub prefix_by : Values → Result Key Text
-prefix_by values = result_and_then (λ how. prefix_of how (first_of (values (codes "prefix")))) (parts_by (first_of (values (codes "parts"))))
-
-abbrev pub asks_at : (AskedMeta → Path → Form → Result Asked Text) → Values → Result Asked Text
-asks_at wanted values = result_and_then (λ meta. result_and_then (λ form. result_and_then (λ path. wanted meta path form) (path_by values))
-    (form_by (first_of (values (codes "form"))))) (meta_by values)
+asks_check values = meta_by values >>= λ meta. file_by values >>= λ file. Ok (check file meta (extent_in (codes "all") values) (is_given (given values (codes "etcd-snapshot"))))
 
 abbrev pub asks_buckets : Values → Result Asked Text
-asks_buckets values = asks_at (λ meta path form. result_and_then (λ file. Ok (buckets file meta path form (is_given (first_of (values (codes "sizes")))))) (text_by (codes "FILE") values)) values
+asks_buckets values = asks_at values (λ meta form path. file_by values >>= λ file. Ok (buckets file meta path form (is_given (given values (codes "sizes")))))
 
 abbrev pub asks_keys : Values → Result Asked Text
-asks_keys values = asks_at (λ meta path form. result_and_then (λ prefix. result_and_then (λ file. Ok (keys file meta path prefix form)) (text_by (codes "FILE") values)) (prefix_by values)) values
+asks_keys values = asks_at values (λ meta form path. prefix_by values >>= λ prefix. file_by values >>= λ file. Ok (keys file meta path prefix form))
 
 abbrev pub asks_get : Values → Result Asked Text
-asks_get values = asks_at (λ meta path form. result_and_then (λ file. Ok (get file meta path form (is_given (first_of (values (codes "no-newline")))))) (text_by (codes "FILE") values)) values
+asks_get values = asks_at values (λ meta form path. file_by values >>= λ file. Ok (get file meta path form (is_given (given values (codes "no-newline")))))
 
 abbrev pub asks_stats : Values → Result Asked Text
-asks_stats values = result_and_then (λ meta. result_and_then (λ form. result_and_then (λ path. result_and_then (λ file. Ok (stats file meta form path)) (text_by (codes "FILE") values))
-    (path_by values)) (figure_form_by (first_of (values (codes "form"))))) (meta_by values)
+asks_stats values =
+    meta_by values >>= λ meta. figure_form_by (given values (codes "form")) >>= λ form. path_by values >>= λ path. file_by values >>= λ file. Ok (stats file meta form path)
 
 abbrev pub asks_list : Values → Result Asked Text
-asks_list values = result_and_then (λ meta. result_and_then (λ form. result_and_then (λ path. result_and_then (λ from. result_and_then (λ file.
-    Ok (list file meta form path from (extent_by (first_of (values (codes "recover"))) (first_of (values (codes "lost-and-found")))))) (text_by (codes "FILE") values))
-    (hex_path_by (first_of (values (codes "from"))))) (path_by values)) (list_form_by (first_of (values (codes "form"))))) (meta_by values)
+asks_list values =
+    meta_by values >>= λ meta. list_form_by (given values (codes "form")) >>= λ form. path_by values >>= λ path. hex_path_by (given values (codes "from")) >>= λ from.
+    file_by values >>= λ file. Ok (list file meta form path from (extent_in (codes "recover") values))
 
 abbrev pub asks_compact : Values → Result Asked Text
-asks_compact values = result_and_then (λ meta. result_and_then (λ size. result_and_then (λ target. result_and_then (λ file.
-    Ok (compact file meta target size (copy_kind_by (first_of (values (codes "for-bbolt"))) (first_of (values (codes "etcd-snapshot")))) (extent_by (first_of (values (codes "recover"))) (first_of (values (codes "lost-and-found"))))))
-    (text_by (codes "FILE") values)) (text_by (codes "output") values)) (page_size_by (first_of (values (codes "page-size"))))) (meta_by values)
+asks_compact values =
+    meta_by values >>= λ meta. page_size_by (given values (codes "page-size")) >>= λ size. text_by (codes "output") values >>= λ target. file_by values >>= λ file.
+    Ok (compact file meta target size (kind_in values) (extent_in (codes "recover") values))
 
 abbrev pub asks_load : Values → Result Asked Text
-asks_load values = result_and_then (λ sequence. result_and_then (λ size. result_and_then (λ target. result_and_then (λ file.
-    Ok (load file target sequence size (copy_kind_by (first_of (values (codes "for-bbolt"))) (first_of (values (codes "etcd-snapshot"))))))
-    (text_by (codes "FILE") values)) (text_by (codes "output") values)) (load_size_by (first_of (values (codes "page-size"))))) (sequence_by (first_of (values (codes "sequence"))))
+asks_load values =
+    sequence_by (given values (codes "sequence")) >>= λ sequence. load_size_by (given values (codes "page-size")) >>= λ size. text_by (codes "output") values >>= λ target.
+    file_by values >>= λ file. Ok (load file target sequence size (kind_in values))
 
--- a command by its line, and what the words of that line ask for, or which of them can't be read and why
+-- ---- the commands
+
+-- a command by its name and its arguments, and what the words of its line ask for, or which of them can't be read and why
 pub record Command : Type 0 where
-  pub syntax : Syntax
+  pub name : Text
+  pub rules : List Rule
   pub asks : Values → Result Asked Text
 
-abbrev command : Syntax → (Values → Result Asked Text) → Command
-command syntax asks = record { syntax = syntax; asks = asks }
+-- FILE is the first operand of each
+abbrev command : Text → List Rule → (Values → Result Asked Text) → Command
+command name others asks = record { name = name; rules = needed (operand (codes "FILE")) ∷ others; asks = asks }
 
+-- `-n` (110) is also written by its name
 abbrev pub commands : List Command
 commands =
-    command info_line asks_info ∷ command page_line asks_page ∷ command pages_line asks_pages ∷ command check_line asks_check ∷ command buckets_line asks_buckets ∷ command keys_line asks_keys
-    ∷ command get_line asks_get ∷ command stats_line asks_stats ∷ command list_line asks_list ∷ command compact_line asks_compact ∷ command load_line asks_load ∷ []
+    command (codes "info") (option (codes "form") ∷ option (codes "meta") ∷ []) asks_info
+    ∷ command (codes "page") (needed (operand (codes "ID")) ∷ option (codes "assume-meta") ∷ []) asks_page
+    ∷ command (codes "pages") (switch (codes "map") ∷ []) asks_pages
+    ∷ command (codes "check") (switch (codes "all") ∷ switch (codes "lost-and-found") ∷ switch (codes "etcd-snapshot") ∷ metas) asks_check
+    ∷ command (codes "buckets") (parts ∷ switch (codes "sizes") ∷ option (codes "form") ∷ option (codes "parts") ∷ metas) asks_buckets
+    ∷ command (codes "keys") (needed parts ∷ option (codes "prefix") ∷ option (codes "form") ∷ option (codes "parts") ∷ metas) asks_keys
+    ∷ command (codes "get") (needed parts ∷ by_letter 110 (switch (codes "no-newline")) ∷ option (codes "form") ∷ option (codes "parts") ∷ metas) asks_get
+    ∷ command (codes "stats") (parts ∷ option (codes "form") ∷ option (codes "parts") ∷ metas) asks_stats
+    ∷ command (codes "list") (parts ∷ option (codes "from") ∷ option (codes "form") ∷ option (codes "parts") ∷ switch (codes "recover") ∷ switch (codes "lost-and-found") ∷ metas) asks_list
+    ∷ command (codes "compact") (output ∷ option (codes "page-size") ∷ switch (codes "for-bbolt") ∷ switch (codes "etcd-snapshot") ∷ switch (codes "recover") ∷ switch (codes "lost-and-found") ∷ metas) asks_compact
+    ∷ command (codes "load") (output ∷ option (codes "page-size") ∷ switch (codes "for-bbolt") ∷ switch (codes "etcd-snapshot") ∷ option (codes "sequence") ∷ []) asks_load
+    ∷ []
 
-abbrev pub syntaxes : List Syntax
-syntaxes = map (λ (c : Command). c.syntax) commands
+abbrev pub lines : List (Text × List Rule)
+lines = map (λ (c : Command). (c.name, c.rules)) commands
 
 abbrev pub asked_among : List Command → Text → Values → Result Asked Text
 asked_among [] name values = Err (codes "command missing")
-asked_among (c ∷ later) name values = if bytes_eq name c.syntax.name then c.asks values else asked_among later name values
+asked_among (c ∷ later) name values = if bytes_eq name c.name then c.asks values else asked_among later name values
 
 -- by the name of the command
 abbrev pub asked : Text → Values → Result Asked Text

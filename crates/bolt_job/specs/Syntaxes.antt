@@ -1,18 +1,23 @@
 -- The lines of the commands as the code has them.
-use Rattle.std.specs.Prelude.{is_some, map}
-use Rattle.bolt_job.specs.LineWords as plain
+use Rattle.std.specs.Prelude.{List, Option, Some, None, map}
+use Rattle.clap.specs.Words.{Rule, new_rule}
+use Rattle.bolt_job.specs.LineWords.{Text, alone, by_letter, by_name, several, valued}
 use Rattle.bolt_job.specs.{declared.command_line.Argument.Argument, declared.command_line.Flag.Flag, declared.command_line.Syntax.Syntax}
 use Rattle.bolt_job.specs.declared.command_line.Flag.TheVariants.{Both, Long, Operand, Operands, Short}
 
-abbrev pub flag_view : Flag → plain.Flag
-flag_view Operand = plain.operand
-flag_view Operands = plain.operands
-flag_view (Long name) = plain.long name.now
-flag_view (Short letter) = plain.short letter
-flag_view (Both letter name) = plain.both letter name.now
+abbrev pub with_flag : Flag → Rule → Rule
+with_flag Operand rule = rule
+with_flag Operands rule = several rule
+with_flag Long rule = by_name rule
+with_flag (Short letter) rule = by_letter letter rule
+with_flag (Both letter) rule = by_name (by_letter letter rule)
 
-abbrev pub argument_view : Argument → plain.Argument
-argument_view a = record { name = a.name.now; flag = flag_view a.flag; has_value = is_some a.value; required = a.required }
+abbrev pub with_value : {X : Type 0} → Option X → Rule → Rule
+with_value (Some name) rule = valued rule
+with_value None rule = alone rule
 
-abbrev pub syntax_view : Syntax → plain.Syntax
-syntax_view s = record { name = s.name.now; arguments = map argument_view s.arguments.now }
+abbrev pub argument_rule : Argument → Rule
+argument_rule a = with_flag a.flag (with_value a.value (record (new_rule a.name.now) { required = a.required }))
+
+abbrev pub line_of : Syntax → Text × List Rule
+line_of s = (s.name.now, map argument_rule s.arguments.now)

@@ -1,7 +1,15 @@
-//! The commands that print what buckets hold: which arguments each has, and their help.
+//! The commands that print what buckets hold: which arguments each has and their help, its job, and how that is
+//! read. A job's names are copied last: until then there is nothing to drop if a word can't be read.
+ghost use Rattle.bolt_job.specs.CommandLine.{Gives};
+ghost use Rattle.bolt_job.specs.PlainWords.{asked_of, asks_buckets, asks_get, asks_keys, asks_list, asks_stats};
+ghost use Rattle.bolt_job.specs.Private.CommandLines.{values_of};
 
+use crate::choices::{Extent, MetaChoice};
 use crate::command_line::{Argument, Flag, Syntax};
+use crate::job::{Job, Refusal};
+use crate::line::Line;
 use crate::page_commands::{ASSUME_META, FIGURE_FORM, FILE, META};
+use bolt_report::{FigureForm, Form, ListForm};
 
 const BUCKET_PART: Argument = Argument {
     name: "PART",
@@ -29,7 +37,7 @@ const BUCKET_IN: Argument = Argument {
 
 const FORM: Argument = Argument {
     name: "form",
-    flag: Flag::Long("form"),
+    flag: Flag::Long,
     value: Some("F"),
     help: "How to print names, keys and values: printable (as they are if plain ASCII, otherwise in hex), hex, bytes, text (as they are if UTF-8 without control characters, otherwise in hex), mixed (as they are if plain ASCII, otherwise in hex after 0x, as --parts mixed reads them), json or json-hex (hex in JSON strings) [default: printable]",
     required: false,
@@ -37,7 +45,7 @@ const FORM: Argument = Argument {
 
 const LIST_FORM: Argument = Argument {
     name: "form",
-    flag: Flag::Long("form"),
+    flag: Flag::Long,
     value: Some("F"),
     help: "How to print each line: hex, json (an object for each line) or json-hex (with hex in its strings) [default: hex]",
     required: false,
@@ -45,7 +53,7 @@ const LIST_FORM: Argument = Argument {
 
 const SIZES: Argument = Argument {
     name: "sizes",
-    flag: Flag::Long("sizes"),
+    flag: Flag::Long,
     value: None,
     help: "Also print each bucket's number of keys, its bytes used and its bytes allocated, with all buckets in it: before the name, or as JSON in an object with it",
     required: false,
@@ -53,7 +61,7 @@ const SIZES: Argument = Argument {
 
 const PREFIX: Argument = Argument {
     name: "prefix",
-    flag: Flag::Long("prefix"),
+    flag: Flag::Long,
     value: Some("K"),
     help: "Print only the keys that begin with K, which is written as the path is",
     required: false,
@@ -61,7 +69,7 @@ const PREFIX: Argument = Argument {
 
 const NO_NEWLINE: Argument = Argument {
     name: "no-newline",
-    flag: Flag::Both('n', "no-newline"),
+    flag: Flag::Both('n'),
     value: None,
     help: "Print no line feed after the value",
     required: false,
@@ -69,7 +77,7 @@ const NO_NEWLINE: Argument = Argument {
 
 const PARTS: Argument = Argument {
     name: "parts",
-    flag: Flag::Long("parts"),
+    flag: Flag::Long,
     value: Some("P"),
     help: "How the path is written: text, hex or mixed (hex after 0x, otherwise text) [default: text]",
     required: false,
@@ -77,7 +85,7 @@ const PARTS: Argument = Argument {
 
 const FROM: Argument = Argument {
     name: "from",
-    flag: Flag::Long("from"),
+    flag: Flag::Long,
     value: Some("HEXPATH"),
     help: "The path to begin at: keys in hex, joined by slashes, as list prints them",
     required: false,
@@ -85,7 +93,7 @@ const FROM: Argument = Argument {
 
 pub(crate) const RECOVER: Argument = Argument {
     name: "recover",
-    flag: Flag::Long("recover"),
+    flag: Flag::Long,
     value: None,
     help: "Read everything that a damaged file still holds, and say what is lost",
     required: false,
@@ -93,7 +101,7 @@ pub(crate) const RECOVER: Argument = Argument {
 
 pub(crate) const JOIN: Argument = Argument {
     name: "lost-and-found",
-    flag: Flag::Long("lost-and-found"),
+    flag: Flag::Long,
     value: None,
     help: "As with --recover, and read each intact leaf that nothing leads to, in a bucket lost+found",
     required: false,
@@ -106,12 +114,57 @@ pub(crate) static BUCKETS: Syntax = Syntax {
     note: None,
 };
 
+/// Print the buckets in the bucket at a path.
+#[derive(Drop)]
+pub struct BucketsJob {
+    pub file: String,
+    pub meta: MetaChoice,
+    pub form: Form,
+    pub path: Vec<Vec<u8>>,
+    /// Whether to print the sizes of each with its name.
+    pub sizes: bool,
+}
+
+pub(crate) fn read_buckets(line: &Line<'_, '_>) -> Result<Job, Refusal>
+    ensures { Gives asked_of (asks_buckets (values_of line.now)) result }
+{
+    Ok(Job::Buckets(BucketsJob {
+        meta: line.meta()?,
+        form: line.form()?,
+        path: line.path()?,
+        sizes: line.is_given("sizes"),
+        file: line.text("FILE")?,
+    }))
+}
+
 pub(crate) static KEYS: Syntax = Syntax {
     name: "keys",
     about: "Print the keys of a bucket, and the names of the buckets in it",
     arguments: &[FILE, BUCKET_PART, PREFIX, FORM, PARTS, META, ASSUME_META],
     note: None,
 };
+
+/// Print the keys of the bucket at a path that begin with a prefix.
+#[derive(Drop)]
+pub struct KeysJob {
+    pub file: String,
+    pub meta: MetaChoice,
+    pub form: Form,
+    pub path: Vec<Vec<u8>>,
+    pub prefix: Vec<u8>,
+}
+
+pub(crate) fn read_keys(line: &Line<'_, '_>) -> Result<Job, Refusal>
+    ensures { Gives asked_of (asks_keys (values_of line.now)) result }
+{
+    Ok(Job::Keys(KeysJob {
+        meta: line.meta()?,
+        form: line.form()?,
+        path: line.path()?,
+        prefix: line.prefix()?,
+        file: line.text("FILE")?,
+    }))
+}
 
 pub(crate) static GET: Syntax = Syntax {
     name: "get",
@@ -120,12 +173,56 @@ pub(crate) static GET: Syntax = Syntax {
     note: None,
 };
 
+/// Print the value at a path.
+#[derive(Drop)]
+pub struct GetJob {
+    pub file: String,
+    pub meta: MetaChoice,
+    pub form: Form,
+    pub path: Vec<Vec<u8>>,
+    /// Whether to print no line feed after it.
+    pub no_newline: bool,
+}
+
+pub(crate) fn read_get(line: &Line<'_, '_>) -> Result<Job, Refusal>
+    ensures { Gives asked_of (asks_get (values_of line.now)) result }
+{
+    Ok(Job::Get(GetJob {
+        meta: line.meta()?,
+        form: line.form()?,
+        path: line.path()?,
+        no_newline: line.is_given("no-newline"),
+        file: line.text("FILE")?,
+    }))
+}
+
 pub(crate) static STATS: Syntax = Syntax {
     name: "stats",
     about: "Print figures of all buckets, or of one and all in it: their number, keys, depth and pages",
     arguments: &[FILE, BUCKET_IN, FIGURE_FORM, PARTS, META, ASSUME_META],
     note: None,
 };
+
+/// Print the figures of the bucket at a path and of all in it. At the empty path they are those of
+/// the root's buckets, added up.
+#[derive(Drop)]
+pub struct StatsJob {
+    pub file: String,
+    pub meta: MetaChoice,
+    pub form: FigureForm,
+    pub path: Vec<Vec<u8>>,
+}
+
+pub(crate) fn read_stats(line: &Line<'_, '_>) -> Result<Job, Refusal>
+    ensures { Gives asked_of (asks_stats (values_of line.now)) result }
+{
+    Ok(Job::Stats(StatsJob {
+        meta: line.meta()?,
+        form: line.figure_form()?,
+        path: line.path()?,
+        file: line.text("FILE")?,
+    }))
+}
 
 pub(crate) static LIST: Syntax = Syntax {
     name: "list",
@@ -143,3 +240,28 @@ pub(crate) static LIST: Syntax = Syntax {
     ],
     note: None,
 };
+
+/// Print the part of the listing at and below a path, without what comes before another path. Both
+/// are empty if the whole listing is wanted.
+#[derive(Drop)]
+pub struct ListJob {
+    pub file: String,
+    pub meta: MetaChoice,
+    pub form: ListForm,
+    pub path: Vec<Vec<u8>>,
+    pub from: Vec<Vec<u8>>,
+    pub extent: Extent,
+}
+
+pub(crate) fn read_list(line: &Line<'_, '_>) -> Result<Job, Refusal>
+    ensures { Gives asked_of (asks_list (values_of line.now)) result }
+{
+    Ok(Job::List(ListJob {
+        meta: line.meta()?,
+        form: line.list_form()?,
+        path: line.path()?,
+        from: line.from()?,
+        extent: line.extent("recover"),
+        file: line.text("FILE")?,
+    }))
+}

@@ -1,16 +1,10 @@
-//! What a command is made of, and the description of all commands for `clap`.
-ghost use Rattle.std.specs.Prelude.{◌≡◌, ◌∷◌, ◌++◌, [], List, Some, false, IfOk, map};
-ghost use Rattle.clap.specs.declared.builder.action.ArgAction.TheVariants.{Set};
-ghost use Rattle.bolt_job.specs.LineWords as plain;
-ghost use Rattle.bolt_job.specs.LineWords.{given_word};
-ghost use Rattle.bolt_job.specs.CommandLine.{IsCommand, argument_rule, bare_program, command_of, program, program_of};
-ghost use Rattle.bolt_job.specs.PlainWords.{syntaxes};
-ghost use Rattle.bolt_job.specs.Syntaxes.{argument_view, syntax_view};
+//! What a command is made of, and its description for `clap`.
+ghost use Rattle.std.specs.Prelude.{◌≡◌, false, IfOk, map};
+ghost use Rattle.bolt_job.specs.LineWords.{alone};
+ghost use Rattle.bolt_job.specs.CommandLine.{IsCommand, bare_program, command_with, program_of};
+ghost use Rattle.bolt_job.specs.Syntaxes.{argument_rule, line_of};
 ghost use Rattle.clap.specs.Words.{new_app, rule_of};
 
-use crate::bucket_commands::{BUCKETS, GET, KEYS, LIST, STATS};
-use crate::page_commands::{CHECK, INFO, PAGE, PAGES};
-use crate::writing_commands::{COMPACT, LOAD};
 use clap::{Arg, ArgAction, Command};
 use std::alloc::{AllocError, Global};
 
@@ -21,12 +15,12 @@ pub(crate) enum Flag {
     Operand,
     /// The same, as many words as follow.
     Operands,
-    /// An option, as `--name`.
-    Long(&'static str),
+    /// An option, as `--` and its name.
+    Long,
     /// One by one letter, as `-o`.
     Short(char),
     /// One in either way, as `-n` or `--no-newline`.
-    Both(char, &'static str),
+    Both(char),
 }
 
 /// An operand or an option of a command.
@@ -55,7 +49,7 @@ pub(crate) struct Syntax {
 const VERSION: &str = "0.1.0";
 
 fn arg_of<'a>(alloc: Global, argument: &'a Argument) -> Arg<'a>
-    ensures rule { rule_of result ≡ argument_rule (argument_view argument.now) }
+    ensures rule { rule_of result ≡ argument_rule argument.now }
     ensures local { result.global ≡ false }
 {
     let arg = Arg::new(alloc, argument.name)
@@ -68,19 +62,15 @@ fn arg_of<'a>(alloc: Global, argument: &'a Argument) -> Arg<'a>
     match argument.flag {
         Flag::Operand => arg,
         Flag::Operands => arg.action(ArgAction::Append),
-        Flag::Long(name) => arg.long(name),
+        Flag::Long => arg.long(argument.name),
         Flag::Short(letter) => arg.short(letter),
-        Flag::Both(letter, name) => arg.short(letter).long(name),
+        Flag::Both(letter) => arg.short(letter).long(argument.name),
     }
 }
 
 /// An option without a value. If it is given, it counts as one word.
 fn alone<'a>(arg: Arg<'a>) -> Arg<'a>
-    ensures rule { rule_of result ≡ record (rule_of arg.entry) {
-      action = Some Set;
-      range = Some (record { start_inclusive = 0; end_inclusive = 0 });
-      missing = given_word ∷ [];
-    } }
+    ensures rule { rule_of result ≡ alone (rule_of arg.entry) }
     ensures local { result.global ≡ arg.entry.global }
 {
     arg.action(ArgAction::Set)
@@ -100,7 +90,7 @@ fn bare_command<'a>(alloc: Global, syntax: &'a Syntax) -> Command<'a>
 }
 
 fn command<'a>(alloc: Global, syntax: &'a Syntax) -> Result<Command<'a>, AllocError>
-    ensures { IfOk result (IsCommand (command_of (syntax_view syntax.now))) }
+    ensures { IfOk result (IsCommand (command_with syntax.now.name.now (map argument_rule syntax.now.arguments.now))) }
 {
     let mut command = bare_command(alloc, syntax);
     for argument in syntax.arguments {
@@ -109,42 +99,24 @@ fn command<'a>(alloc: Global, syntax: &'a Syntax) -> Result<Command<'a>, AllocEr
     Ok(command)
 }
 
-/// The commands, in the order of help. Each is a `static` of its own, since the check of a table takes the
-/// square of its length.
-fn commands<'a>() -> [&'a Syntax; 11]
-    ensures { map (λ syntax. syntax_view syntax.now) result ≡ syntaxes }
-{
-    [
-        &INFO, &PAGE, &PAGES, &CHECK, &BUCKETS, &KEYS, &GET, &STATS, &LIST, &COMPACT, &LOAD,
-    ]
-}
-
-/// The program without its commands.
-fn bare_program<'a>(alloc: Global) -> Command<'a>
+/// The program without its commands. `clap` adds the command `help`.
+pub(crate) fn bare_program<'a>(alloc: Global) -> Command<'a>
     ensures { IsCommand bare_program result }
 {
     Command::new(alloc, "luntsegi")
         .about("Inspect, check and compact bbolt database files, the format etcd uses")
         .version(VERSION)
         .subcommand_required(true)
-        .disable_help_subcommand(true)
-}
-
-/// The whole command line.
-pub(crate) fn program<'a>(alloc: Global) -> Result<Command<'a>, AllocError>
-    ensures { IfOk result (IsCommand program) }
-{
-    with_commands(alloc, bare_program(alloc), &commands())
 }
 
 /// The program with these commands.
-fn with_commands<'a>(
+pub(crate) fn with_commands<'a>(
     alloc: Global,
     program: Command<'a>,
     syntaxes: &[&'a Syntax],
 ) -> Result<Command<'a>, AllocError>
     requires { IsCommand bare_program program }
-    ensures { IfOk result (IsCommand (program_of (map (λ syntax. syntax_view syntax.now) syntaxes.now))) }
+    ensures { IfOk result (IsCommand (program_of (map (λ syntax. line_of syntax.now) syntaxes.now))) }
 {
     let mut program = program;
     for syntax in syntaxes {

@@ -11,9 +11,9 @@ mod path_words;
 mod words;
 mod writing_commands;
 
+pub use bucket_commands::{BucketsJob, GetJob, KeysJob, ListJob, StatsJob};
 pub use choices::{AssumedMeta, CopyKind, Extent, MetaChoice, PageSize};
-pub use job::{
-    BucketsJob, CheckJob, CompactJob, GetJob, InfoJob, Job, KeysJob, ListJob, LoadJob, PageJob,
-    PagesJob, Refusal, StatsJob,
-};
+pub use job::{Job, Refusal};
+pub use page_commands::{CheckJob, InfoJob, PageJob, PagesJob};
 pub use words::read_words;
+pub use writing_commands::{CompactJob, LoadJob};

@@ -2,8 +2,8 @@
 ghost use Rattle.std.specs.Prelude.{◌≡◌, Err, MatchOption, Ok, Some, codes, option_map, string_bytes};
 ghost use Rattle.bolt_job.specs.CommandLine.{Gives};
 ghost use Rattle.bolt_job.specs.FormWords.{figure_form_by, form_by, list_form_by};
-ghost use Rattle.bolt_job.specs.PathWords.{hex_path_by, parts_by, result_and_then};
-ghost use Rattle.bolt_job.specs.PlainWords.{assumed_of, copy_kind_by, extent_by, first_of, is_given, load_size_by, meta_by, meta_in, number_or, page_id, page_size_by, page_size_of, path_by, path_in, prefix_by, sequence_by, size_in, slot_by, slot_of, text_by};
+ghost use Rattle.bolt_job.specs.PathWords.{hex_path_by, parts_by};
+ghost use Rattle.bolt_job.specs.PlainWords.{assumed_of, copy_kind_by, extent_by, first_of, id_by, is_given, load_size_by, meta_by, meta_in, number_or, page_size_by, page_size_of, path_by, path_in, prefix_by, sequence_by, size_in, slot_by, slot_of, text_by};
 ghost use Rattle.bolt_job.specs.Private.CommandLines.{IsAssumedBy, values_of};
 
 use crate::choices::{AssumedMeta, CopyKind, Extent, MetaChoice, PageSize};
@@ -57,7 +57,7 @@ impl Line<'_, '_> {
 
     /// The number of a page.
     pub(crate) fn page_id(&self) -> Result<u64, Refusal>
-        ensures { Gives (λ id. id) (result_and_then page_id (text_by (codes "ID") (values_of self.now))) result }
+        ensures { Gives (λ id. id) (id_by (values_of self.now)) result }
     {
         number_or("bad page id", self.value("ID")?)
     }

@@ -1,7 +1,15 @@
-//! The commands that print pages and what is wrong with a file: which arguments each has, and
-//! their help.
+//! The commands that print pages and what is wrong with a file: which arguments each has and their help, its job,
+//! and how that is read. A job's names are copied last: until then there is nothing to drop if a word can't be read.
+ghost use Rattle.bolt_job.specs.CommandLine.{Gives};
+ghost use Rattle.bolt_job.specs.PlainWords.{asked_of, asks_check, asks_info, asks_page, asks_pages};
+ghost use Rattle.bolt_job.specs.Private.CommandLines.{values_of};
 
+use crate::choices::{Extent, MetaChoice};
 use crate::command_line::{Argument, Flag, Syntax};
+use crate::job::{Job, Refusal};
+use crate::line::Line;
+use bolt_format::Slot;
+use bolt_report::FigureForm;
 
 pub(crate) const FILE: Argument = Argument {
     name: "FILE",
@@ -21,7 +29,7 @@ const ID: Argument = Argument {
 
 pub(crate) const FIGURE_FORM: Argument = Argument {
     name: "form",
-    flag: Flag::Long("form"),
+    flag: Flag::Long,
     value: Some("F"),
     help: "How to print the figures: lines, or json (an object) [default: lines]",
     required: false,
@@ -29,7 +37,7 @@ pub(crate) const FIGURE_FORM: Argument = Argument {
 
 pub(crate) const META: Argument = Argument {
     name: "meta",
-    flag: Flag::Long("meta"),
+    flag: Flag::Long,
     value: Some("M"),
     help: "Read the file under the meta in slot 0 or 1, active or not, and ignore the freelist",
     required: false,
@@ -37,7 +45,7 @@ pub(crate) const META: Argument = Argument {
 
 pub(crate) const ASSUME_META: Argument = Argument {
     name: "assume-meta",
-    flag: Flag::Long("assume-meta"),
+    flag: Flag::Long,
     value: Some("A"),
     help: "Read the file as under a meta with page size and root page A, such as 4096:3, and ignore its metas and freelist",
     required: false,
@@ -45,7 +53,7 @@ pub(crate) const ASSUME_META: Argument = Argument {
 
 const INFO_META: Argument = Argument {
     name: "meta",
-    flag: Flag::Long("meta"),
+    flag: Flag::Long,
     value: Some("M"),
     help: "Print the meta in slot 0 or 1, active or not",
     required: false,
@@ -53,7 +61,7 @@ const INFO_META: Argument = Argument {
 
 const CHECK_SNAPSHOT: Argument = Argument {
     name: "etcd-snapshot",
-    flag: Flag::Long("etcd-snapshot"),
+    flag: Flag::Long,
     value: None,
     help: "First check that the file ends with the SHA-256 of what is before it, as an etcd snapshot does",
     required: false,
@@ -61,7 +69,7 @@ const CHECK_SNAPSHOT: Argument = Argument {
 
 const MAP: Argument = Argument {
     name: "map",
-    flag: Flag::Long("map"),
+    flag: Flag::Long,
     value: None,
     help: "Print a map instead: a character for each page, 64 a line (M meta, F freelist, B branch, L leaf, + a later page of one before it, . free)",
     required: false,
@@ -69,7 +77,7 @@ const MAP: Argument = Argument {
 
 const ALL: Argument = Argument {
     name: "all",
-    flag: Flag::Long("all"),
+    flag: Flag::Long,
     value: None,
     help: "Go on after the first error of the trees, and say what is lost with each",
     required: false,
@@ -77,7 +85,7 @@ const ALL: Argument = Argument {
 
 const LOST_AND_FOUND: Argument = Argument {
     name: "lost-and-found",
-    flag: Flag::Long("lost-and-found"),
+    flag: Flag::Long,
     value: None,
     help: "As with --all, and name each intact leaf that nothing leads to, if something is lost",
     required: false,
@@ -90,12 +98,48 @@ pub(crate) static INFO: Syntax = Syntax {
     note: None,
 };
 
+/// Print the meta in a slot, or the active one.
+#[derive(Drop)]
+pub struct InfoJob {
+    pub file: String,
+    pub slot: Option<Slot>,
+    pub form: FigureForm,
+}
+
+pub(crate) fn read_info(line: &Line<'_, '_>) -> Result<Job, Refusal>
+    ensures { Gives asked_of (asks_info (values_of line.now)) result }
+{
+    Ok(Job::Info(InfoJob {
+        slot: line.slot()?,
+        form: line.figure_form()?,
+        file: line.text("FILE")?,
+    }))
+}
+
 pub(crate) static PAGE: Syntax = Syntax {
     name: "page",
     about: "Print one page: its type and its items, keys and values in hex",
     arguments: &[FILE, ID, ASSUME_META],
     note: None,
 };
+
+/// Print one page.
+#[derive(Drop)]
+pub struct PageJob {
+    pub file: String,
+    pub meta: MetaChoice,
+    pub id: u64,
+}
+
+pub(crate) fn read_page(line: &Line<'_, '_>) -> Result<Job, Refusal>
+    ensures { Gives asked_of (asks_page (values_of line.now)) result }
+{
+    Ok(Job::Page(PageJob {
+        meta: line.meta()?,
+        id: line.page_id()?,
+        file: line.text("FILE")?,
+    }))
+}
 
 pub(crate) static PAGES: Syntax = Syntax {
     name: "pages",
@@ -104,9 +148,47 @@ pub(crate) static PAGES: Syntax = Syntax {
     note: None,
 };
 
+/// Print all pages.
+#[derive(Drop)]
+pub struct PagesJob {
+    pub file: String,
+    /// Whether to print a map of them, and not their table.
+    pub map: bool,
+}
+
+pub(crate) fn read_pages(line: &Line<'_, '_>) -> Result<Job, Refusal>
+    ensures { Gives asked_of (asks_pages (values_of line.now)) result }
+{
+    Ok(Job::Pages(PagesJob {
+        map: line.is_given("map"),
+        file: line.text("FILE")?,
+    }))
+}
+
 pub(crate) static CHECK: Syntax = Syntax {
     name: "check",
     about: "Check whether the file is sound; if it isn't, print what is wrong",
     arguments: &[FILE, ALL, LOST_AND_FOUND, CHECK_SNAPSHOT, META, ASSUME_META],
     note: None,
 };
+
+/// Check whether the file is sound.
+#[derive(Drop)]
+pub struct CheckJob {
+    pub file: String,
+    pub meta: MetaChoice,
+    pub extent: Extent,
+    /// Whether to check first that the file ends with the SHA-256 of what is before it.
+    pub snapshot: bool,
+}
+
+pub(crate) fn read_check(line: &Line<'_, '_>) -> Result<Job, Refusal>
+    ensures { Gives asked_of (asks_check (values_of line.now)) result }
+{
+    Ok(Job::Check(CheckJob {
+        meta: line.meta()?,
+        extent: line.extent("all"),
+        snapshot: line.is_given("etcd-snapshot"),
+        file: line.text("FILE")?,
+    }))
+}

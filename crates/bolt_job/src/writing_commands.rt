@@ -1,7 +1,14 @@
-//! The commands that write a database: which arguments each has, and their help.
+//! The commands that write a database: which arguments each has and their help, its job, and how that is read. A
+//! job's names are copied last: until then there is nothing to drop if a word can't be read.
+ghost use Rattle.bolt_job.specs.CommandLine.{Gives};
+ghost use Rattle.bolt_job.specs.PlainWords.{asked_of, asks_compact, asks_load};
+ghost use Rattle.bolt_job.specs.Private.CommandLines.{values_of};
 
 use crate::bucket_commands::{JOIN, RECOVER};
+use crate::choices::{CopyKind, Extent, MetaChoice, PageSize};
 use crate::command_line::{Argument, Flag, Syntax};
+use crate::job::{Job, Refusal};
+use crate::line::Line;
 use crate::page_commands::{ASSUME_META, FILE, META};
 
 const LISTING: Argument = Argument {
@@ -22,7 +29,7 @@ const OUTPUT: Argument = Argument {
 
 const PAGE_SIZE: Argument = Argument {
     name: "page-size",
-    flag: Flag::Long("page-size"),
+    flag: Flag::Long,
     value: Some("N"),
     help: "The copy's page size in bytes, a power of two from 1024 to 33554432 [default: the file's]",
     required: false,
@@ -30,7 +37,7 @@ const PAGE_SIZE: Argument = Argument {
 
 const LOAD_PAGE_SIZE: Argument = Argument {
     name: "page-size",
-    flag: Flag::Long("page-size"),
+    flag: Flag::Long,
     value: Some("N"),
     help: "The database's page size in bytes, a power of two from 1024 to 33554432 [default: 4096]",
     required: false,
@@ -38,7 +45,7 @@ const LOAD_PAGE_SIZE: Argument = Argument {
 
 const SEQUENCE: Argument = Argument {
     name: "sequence",
-    flag: Flag::Long("sequence"),
+    flag: Flag::Long,
     value: Some("S"),
     help: "The sequence of the root bucket, in decimal [default: 0]",
     required: false,
@@ -46,7 +53,7 @@ const SEQUENCE: Argument = Argument {
 
 const FOR_BBOLT: Argument = Argument {
     name: "for-bbolt",
-    flag: Flag::Long("for-bbolt"),
+    flag: Flag::Long,
     value: None,
     help: "Give each branch page at least two children, so that bbolt can write to OUT",
     required: false,
@@ -54,7 +61,7 @@ const FOR_BBOLT: Argument = Argument {
 
 const COPY_SNAPSHOT: Argument = Argument {
     name: "etcd-snapshot",
-    flag: Flag::Long("etcd-snapshot"),
+    flag: Flag::Long,
     value: None,
     help: "Write a snapshot that etcd restores: as with --for-bbolt, and then the SHA-256 of that",
     required: false,
@@ -81,6 +88,32 @@ pub(crate) static COMPACT: Syntax = Syntax {
     note: Some(COPY_NOTE),
 };
 
+/// Write a compact copy to another file.
+#[derive(Drop)]
+pub struct CompactJob {
+    pub file: String,
+    pub meta: MetaChoice,
+    /// The name of OUT.
+    pub target: String,
+    /// The page size of the copy. Without one it is that of the file.
+    pub page_size: Option<PageSize>,
+    pub kind: CopyKind,
+    pub extent: Extent,
+}
+
+pub(crate) fn read_compact(line: &Line<'_, '_>) -> Result<Job, Refusal>
+    ensures { Gives asked_of (asks_compact (values_of line.now)) result }
+{
+    Ok(Job::Compact(CompactJob {
+        meta: line.meta()?,
+        page_size: line.page_size()?,
+        kind: line.copy_kind(),
+        extent: line.extent("recover"),
+        target: line.text("output")?,
+        file: line.text("FILE")?,
+    }))
+}
+
 pub(crate) static LOAD: Syntax = Syntax {
     name: "load",
     about: "Write a database of a listing: what list printed, or lines that were edited",
@@ -94,3 +127,28 @@ pub(crate) static LOAD: Syntax = Syntax {
     ],
     note: Some(COPY_NOTE),
 };
+
+/// Write a database of the lines of a listing to another file.
+#[derive(Drop)]
+pub struct LoadJob {
+    /// The name of the file that has the lines.
+    pub file: String,
+    /// The name of OUT.
+    pub target: String,
+    /// The sequence of the root bucket.
+    pub sequence: u64,
+    pub page_size: PageSize,
+    pub kind: CopyKind,
+}
+
+pub(crate) fn read_load(line: &Line<'_, '_>) -> Result<Job, Refusal>
+    ensures { Gives asked_of (asks_load (values_of line.now)) result }
+{
+    Ok(Job::Load(LoadJob {
+        sequence: line.sequence()?,
+        page_size: line.load_size()?,
+        kind: line.copy_kind(),
+        target: line.text("output")?,
+        file: line.text("FILE")?,
+    }))
+}

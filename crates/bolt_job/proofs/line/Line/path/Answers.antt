@@ -1,5 +1,5 @@
 use Rattle.std.proofs.Common.{◌≡◌, ◌∙◌, List, [], Option, Ok, codes, ap, ap₂, sym, unwrap_or}
-use Rattle.bolt_job.proofs.Vocabulary.{Row, Text, all_of, each_part, first_of, found_of, part_of, parts_by, path_by, path_in, raw_values-rows, result_and_then}
+use Rattle.bolt_job.proofs.Vocabulary.{◌>>=◌, Row, Text, all_of, each_part, first_of, found_of, part_of, parts_by, path_by, path_in, raw_values-rows}
 use Rattle.bolt_job.proofs.Vocabulary.{rows_of, values_in}
 use Rattle.bolt_job.proofs.CommandLineLemmas.{gives_same}
 use Rattle.bolt_load.specs.declared.line_words.Parts.{Parts}
@@ -8,7 +8,7 @@ use Rattle.bolt_job.proofs.line.Line.path.Goals as goal
 -- the path by how its parts are written and the words that were found
 path_found : (rows : List Row) (how : Parts) (words : Option (List Text)) → parts_by (first_of (values_in rows (codes "parts"))) ≡ Ok how → words ≡ all_of (codes "PART") rows
     → path_by (values_in rows) ≡ each_part (part_of how) (unwrap_or words [])
-path_found rows how words is found = ap₂ (λ r ws. result_and_then (λ how. each_part (part_of how) (unwrap_or ws [])) r) is (sym found)
+path_found rows how words is found = ap₂ (λ r ws. r >>= λ how. each_part (part_of how) (unwrap_or ws [])) is (sym found)
 
 pub returns-in-Some : goal.returns-in-Some
 returns-in-Some c =
