@@ -104,7 +104,7 @@ pub(crate) fn bare_program<'a>(alloc: Global) -> Command<'a>
     ensures { IsCommand bare_program result }
 {
     Command::new(alloc, "luntsegi")
-        .about("Inspect, check and compact bbolt database files, the format etcd uses")
+        .about("Inspect, check, compact and recover bbolt database files, the format etcd uses")
         .version(VERSION)
         .subcommand_required(true)
 }
