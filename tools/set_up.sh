@@ -11,6 +11,7 @@ missing() {
 	command -v cc >/dev/null || echo gcc libc6-dev
 	command -v mandoc >/dev/null || echo mandoc
 	command -v zsh >/dev/null || echo zsh
+	command -v fish >/dev/null || echo fish
 	command -v valgrind >/dev/null || echo valgrind
 	command -v go >/dev/null || echo golang-go
 	[ -d "$bbolt" ] || echo golang-github-coreos-bbolt-dev
@@ -26,7 +27,7 @@ for package in $(missing); do
 	case $package in
 	python3 | gcc) echo "set-up: $package is missing: the gate can't run" && status=1 ;;
 	mandoc) echo "set-up: mandoc is missing: the manual page is compared with help, but not linted" ;;
-	zsh) echo "set-up: zsh is missing: its completions are not tried" ;;
+	zsh | fish) echo "set-up: $package is missing: its completions are not tried" ;;
 	valgrind) echo "set-up: valgrind is missing: no instructions are counted" ;;
 	golang-*) echo "set-up: $package is missing: nothing is compared with bbolt" ;;
 	esac

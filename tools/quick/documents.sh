@@ -10,6 +10,6 @@ done
 for found in examples/*.list; do
 	[ "$found" = examples/leaked.list ] || "$program" list "${found%.list}.db" | cmp - "$found"
 done
-python3 -B tools/usage/compare_manual.py "$program" docs/luntsegi.1
+python3 -B tools/usage/words.py --check "$program"
 python3 -B tools/usage/check_links.py README.md docs/*.md crates/*/README.md docs/luntsegi.1
 python3 -B tools/usage/run_examples.py "$program" README.md docs/GUIDE.md docs/COMMANDS.md docs/luntsegi.1
