@@ -1,0 +1,12 @@
+pub mod Compacted
+pub mod Newest
+pub mod Passes
+pub mod Records
+pub mod Returns
+pub mod RevisionKeys
+pub mod Revisions
+pub mod RevisionsLeft
+pub mod Shown
+pub mod ShownRevisions
+pub mod Stores
+pub mod Wire

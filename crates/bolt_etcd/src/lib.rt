@@ -1,0 +1,21 @@
+//! What etcd keeps in a database file: the revisions of its keys, each a record under a revision
+//! key, in a bucket `key`. This crate knows no page. It reads the entries of buckets.
+#![tactic(auto)]
+
+mod compaction;
+pub mod laws;
+mod newest;
+mod record;
+mod revision;
+mod revision_key;
+mod revisions;
+#[cfg(test)]
+mod tests;
+mod wire;
+
+pub use crate::compaction::compacted;
+pub use crate::newest::Newest;
+pub use crate::record::Record;
+pub use crate::revision::{Decoded, Revision};
+pub use crate::revision_key::RevisionKey;
+pub use crate::revisions::Revisions;
