@@ -1,7 +1,10 @@
+pub mod Currents
 pub mod Fields
+pub mod Filtered
 pub mod Keys
 pub mod LastOfAll
 pub mod Messages
+pub mod NewestOfNames
 pub mod Passing
 pub mod RevisionLoops
 pub mod RevisionSteps

@@ -1,4 +1,5 @@
 pub mod Compacted
+pub mod Current
 pub mod Newest
 pub mod Passes
 pub mod Records

@@ -3,6 +3,7 @@
 #![tactic(auto)]
 
 mod compaction;
+mod current;
 pub mod laws;
 mod newest;
 mod record;
@@ -14,6 +15,7 @@ mod tests;
 mod wire;
 
 pub use crate::compaction::compacted;
+pub use crate::current::Current;
 pub use crate::newest::Newest;
 pub use crate::record::Record;
 pub use crate::revision::{Decoded, Revision};

@@ -19,13 +19,13 @@ pub struct Newest<'a> {
 }
 
 impl<'a> Newest<'a> {
-    ghost use Rattle.bolt_etcd.specs.Newest.{newest};
+    ghost use Rattle.bolt_etcd.specs.Newest.{newest, until};
 
     /// Finds the newest revision of a name in a bucket, of those of no later transaction than
     /// `up_to`. Goes over all entries of the bucket once, keeps nothing of the others, and needs no
     /// memory.
     pub fn find(bucket: &Bucket<'a>, name: &[u8], up_to: u64) -> Newest<'a>
-        ensures revision { ForBucket bucket.now (λ entries. option_map shown_revision result.revision ≡ newest name.now up_to (revisions entries)) }
+        ensures revision { ForBucket bucket.now (λ entries. option_map shown_revision result.revision ≡ newest name.now (until up_to (revisions entries))) }
         ensures others { ForBucket bucket.now (λ entries. result.others ≡ counted 0 (length (others entries))) }
     {
         let mut revisions = Revisions::of(bucket);

@@ -62,6 +62,13 @@ impl<'a> Revision<'a> {
         RevisionKey::read(self.key).unwrap()
     }
 
+    /// Its key as it is stored. Revisions are ordered by it.
+    pub(crate) fn place(&self) -> &'a [u8]
+        ensures { result.now ≡ (shown_revision self.now).place }
+    {
+        self.key
+    }
+
     /// What it says.
     pub fn decode(&self) -> Decoded<'a>
         ensures { shown_decoded (shown_revision self.now).place result ≡ shown_revision self.now }

@@ -2,8 +2,8 @@ use Rattle.std.proofs.Common.{◌≡◌, ◌∙◌, List, None, ap, filter, sym}
 use Rattle.std.specs.List.{last_or}
 use Rattle.std.specs.Option.{option_map}
 use Rattle.bolt_format.specs.Elements.{LeafElement}
-use Rattle.bolt_etcd.specs.{Newest.is_of, Newest.newest, Revisions.RevisionView, RevisionsLeft.ahead_of, ShownRevisions.shown_revision, Stores.revisions}
-use Rattle.bolt_etcd.proofs.{LastOfAll.skips, LastOfAll.takes_last, RevisionSteps.moved_to}
+use Rattle.bolt_etcd.specs.{Newest.is_named, Newest.is_of, Newest.is_until, Newest.newest, Revisions.RevisionView, RevisionsLeft.ahead_of, ShownRevisions.shown_revision, Stores.revisions}
+use Rattle.bolt_etcd.proofs.{Filtered.filter_both, LastOfAll.skips, LastOfAll.takes_last, RevisionSteps.moved_to}
 use Rattle.bolt_etcd.proofs.RevisionLoops.{counted_all, given_in, passed_more, passed_none}
 use Rattle.bolt_etcd.proofs.newest.Newest.find.Goals as goal
 
@@ -41,6 +41,7 @@ returns-clause-revision c = λ entries are.
     let given = given_in c.args.bucket.now _ _ _ c.rest.invariant.passed c.next.ensures.given c.next.ensures.counts in
     let (none, end) = rw c.in_default.is at (given entries are) in
     sym (ap (λ (rs : List RevisionView). last_or (option_map shown_revision c.rest.revision) (filter (is_of c.args.name.now c.args.up_to) rs)) none) ∙ c.rest.invariant.last entries are
+    ∙ ap (last_or None) (sym (filter_both (is_named c.args.name.now) (is_until c.args.up_to) (revisions entries)))
 
 pub returns-clause-others : goal.returns-clause-others
 returns-clause-others c =
