@@ -4,6 +4,7 @@ pub mod Filtered
 pub mod Keys
 pub mod LastOfAll
 pub mod Messages
+pub mod MissingSteps
 pub mod NewestOfNames
 pub mod Passing
 pub mod RevisionLoops

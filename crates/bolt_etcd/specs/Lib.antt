@@ -1,5 +1,7 @@
 pub mod Compacted
 pub mod Current
+pub mod MissingLeft
+pub mod MissingNumbers
 pub mod Newest
 pub mod Passes
 pub mod Records

@@ -5,6 +5,7 @@
 mod compaction;
 mod current;
 pub mod laws;
+mod missing;
 mod newest;
 mod record;
 mod revision;
@@ -16,6 +17,7 @@ mod wire;
 
 pub use crate::compaction::compacted;
 pub use crate::current::Current;
+pub use crate::missing::{Missing, MissingNumbers};
 pub use crate::newest::Newest;
 pub use crate::record::Record;
 pub use crate::revision::{Decoded, Revision};

@@ -3,7 +3,7 @@ ghost use Rattle.std.specs.Prelude.{◌≡◌, Some, None};
 ghost use Rattle.std.specs.Option.{option_map};
 ghost use Rattle.std.proofs.Props.{props};
 ghost use Rattle.bolt_tree.specs.ShownEntries.{shown_entry};
-ghost use Rattle.bolt_etcd.specs.{Returns.Returns, Revisions.name_of, Revisions.revision_in, Revisions.revision_of, Shown.shown_record};
+ghost use Rattle.bolt_etcd.specs.{Returns.Returns, RevisionKeys.IsSpelled, Revisions.name_of, Revisions.revision_in, Revisions.revision_of, Shown.shown_record};
 
 use crate::record::Record;
 use crate::revision_key::RevisionKey;
@@ -57,7 +57,8 @@ impl<'a> Revision<'a> {
 
     /// Its key.
     pub fn key(&self) -> RevisionKey
-        ensures { result ≡ (shown_revision self.now).key }
+        ensures key { result ≡ (shown_revision self.now).key }
+        ensures numbers { IsSpelled result }
     {
         RevisionKey::read(self.key).unwrap()
     }

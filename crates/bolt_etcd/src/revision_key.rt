@@ -1,6 +1,6 @@
 //! The key of a revision.
-ghost use Rattle.std.specs.Prelude.{◌≡◌};
-ghost use Rattle.bolt_etcd.specs.RevisionKeys.{revision_key};
+ghost use Rattle.std.specs.Prelude.{◌≡◌, IfSome};
+ghost use Rattle.bolt_etcd.specs.RevisionKeys.{IsSpelled, revision_key};
 
 use byteorder::{BigEndian, ByteOrder};
 
@@ -27,7 +27,8 @@ impl RevisionKey {
     /// below 2^63.
     #[tactic(auto, unfolding(crate::specs::RevisionKeys::revision_key))]
     pub fn read(bytes: &[u8]) -> Option<RevisionKey>
-        ensures { result ≡ revision_key bytes.now }
+        ensures key { result ≡ revision_key bytes.now }
+        ensures numbers { IfSome result IsSpelled }
     {
         let deleted = bytes.len() > LEN;
         if bytes.len() != LEN && (bytes.len() != LEN + 1 || bytes[LEN] != b't') {
