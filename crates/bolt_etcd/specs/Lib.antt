@@ -1,8 +1,10 @@
 pub mod Compacted
 pub mod Current
+pub mod Misplaced
 pub mod MissingLeft
 pub mod MissingNumbers
 pub mod Newest
+pub mod Others
 pub mod Passes
 pub mod Records
 pub mod Returns
@@ -10,6 +12,7 @@ pub mod RevisionKeys
 pub mod Revisions
 pub mod RevisionsLeft
 pub mod Shown
+pub mod ShownOthers
 pub mod ShownRevisions
 pub mod Stores
 pub mod Wire

@@ -1,5 +1,7 @@
 -- The keys of revisions: `main`, `_` and `sub`, and for a deletion `t`. Both numbers have eight bytes, the highest first.
 use Rattle.std.specs.Prelude.{◌<◌, ℕ, ◌^◌, Bool, true, false, List, [], ◌∷◌, ◌++◌, drop, length, slice_index, Option, Some, None, nat_lt, ◌==◌, ◌&&◌, if◌then◌else◌}
+use Rattle.std.specs.Ordering.{bool_cmp, nat_cmp, ordering_then}
+use Rattle.std.specs.declared.cmp.Ordering.{Ordering}
 use Rattle.byteorder.specs.Endian.{big_bytes, big_number}
 use Rattle.bolt_etcd.specs.declared.revision_key.RevisionKey.{RevisionKey}
 
@@ -24,3 +26,7 @@ spelling k = big_bytes 8 k.main ++ (0x5F ∷ (big_bytes 8 k.sub ++ (if k.deleted
 -- what has a spelling
 abbrev pub IsSpelled : RevisionKey → Type 0
 IsSpelled k = (k.main < 2 ^ 63) × (k.sub < 2 ^ 63)
+
+-- by their numbers, and a deletion after what has the same
+abbrev pub numbers_cmp : RevisionKey → RevisionKey → Ordering
+numbers_cmp a b = ordering_then (nat_cmp a.main b.main) (ordering_then (nat_cmp a.sub b.sub) (bool_cmp a.deleted b.deleted))

@@ -1,7 +1,11 @@
 //! What the definitions imply.
-ghost use Rattle.std.specs.Prelude.{◌≡◌, ◌<◌, ℕ, List, Some, length};
-ghost use Rattle.bolt_format.specs.Bytes.{IsBytes};
-ghost use Rattle.bolt_etcd.specs.{RevisionKeys.IsSpelled, RevisionKeys.revision_key, RevisionKeys.spelling, Wire.field_and_later, Wire.fields};
+ghost use Rattle.std.specs.Prelude.{◌≡◌, ◌<◌, ℕ, List, Some, length, not};
+ghost use Rattle.std.specs.Option.{is_some};
+ghost use Rattle.bolt_check.specs.Keys.{key_cmp};
+ghost use Rattle.bolt_format.specs.{Bytes.IsBytes, Elements.LeafElement};
+ghost use Rattle.bolt_tree.specs.Entries.{EntryView};
+ghost use Rattle.bolt_etcd.specs.{Others.other_of, Others.others_of, Revisions.revision_of, Stores.others};
+ghost use Rattle.bolt_etcd.specs.{RevisionKeys.IsSpelled, RevisionKeys.numbers_cmp, RevisionKeys.revision_key, RevisionKeys.spelling, Wire.field_and_later, Wire.fields};
 ghost use Rattle.bolt_etcd.specs.declared.revision_key.RevisionKey.{RevisionKey};
 
 /// A message is a field, and then a message, up to its end.
@@ -16,4 +20,19 @@ pub fn a_message_is_a_field_and_a_message()
 pub fn revision_keys_have_one_spelling()
     ensures spelled { (bytes : List ℕ) (key : RevisionKey) → IsBytes bytes → revision_key bytes ≡ Some key → (bytes ≡ spelling key) × IsSpelled key }
     ensures read { (key : RevisionKey) → IsSpelled key → revision_key (spelling key) ≡ Some key }
+{}
+
+/// Revision keys are in the order of their numbers: by `main`, then by `sub`, and a deletion after
+/// what has the same two.
+#[tactic(auto, using(crate::proofs::KeyNumbers::spellings_cmp))]
+pub fn revision_keys_are_in_the_order_of_their_numbers()
+    ensures { (a b : RevisionKey) → IsSpelled a → IsSpelled b → key_cmp (spelling a) (spelling b) ≡ numbers_cmp a b }
+{}
+
+/// An entry is a revision, or it is listed with why it isn't one: so as many are listed as are
+/// counted.
+#[tactic(auto, using(crate::proofs::OtherCounts::as_many, crate::proofs::OtherCounts::one_of_two))]
+pub fn an_entry_is_a_revision_or_another()
+    ensures one { (e : EntryView) → is_some (other_of e) ≡ not (is_some (revision_of e)) }
+    ensures number { (entries : List LeafElement) → length (others_of entries) ≡ length (others entries) }
 {}

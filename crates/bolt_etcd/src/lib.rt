@@ -5,8 +5,10 @@
 mod compaction;
 mod current;
 pub mod laws;
+mod misplaced;
 mod missing;
 mod newest;
+mod other;
 mod record;
 mod revision;
 mod revision_key;
@@ -19,6 +21,7 @@ pub use crate::compaction::compacted;
 pub use crate::current::Current;
 pub use crate::missing::{Missing, MissingNumbers};
 pub use crate::newest::Newest;
+pub use crate::other::Other;
 pub use crate::record::Record;
 pub use crate::revision::{Decoded, Revision};
 pub use crate::revision_key::RevisionKey;

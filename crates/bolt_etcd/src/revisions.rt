@@ -80,7 +80,7 @@ impl<'a> Revisions<'a> {
     }
 
     /// The next entry.
-    fn advance(&mut self) -> Option<Entry<'a>>
+    pub(crate) fn advance(&mut self) -> Option<Entry<'a>>
         ensures checked { pass_checked self.new ≡ pass_checked self.old }
         ensures start { pass_start self.new ≡ pass_start self.old }
         ensures first { ForPass self.old (λ entries. ShowsFirst (ahead_of self.old entries) (ahead_of self.new entries) (option_map shown_entry result)) }
