@@ -14,10 +14,10 @@ use Rattle.bolt_check.specs.Keys.{key_cmp}
 use Rattle.bolt_etcd.specs.RevisionKeys.{IsSpelled, numbers_cmp, spelling}
 use Rattle.bolt_etcd.specs.declared.revision_key.RevisionKey.{RevisionKey}
 
-less : (a b : ℕ) → a < b → nat_cmp a b ≡ Less
+pub less : (a b : ℕ) → a < b → nat_cmp a b ≡ Less
 less a b lt = cond-true (nat_lt a b) _ _ (lt-ltb a b lt)
 
-greater : (a b : ℕ) → b < a → nat_cmp a b ≡ Greater
+pub greater : (a b : ℕ) → b < a → nat_cmp a b ≡ Greater
 greater a b lt = cond-false (nat_lt a b) _ _ (le-ltb a b (omega arith)) ∙ cond-false (a == b) _ _ (ne_eqb a b (λ e. omega (arith, lt, e)))
 
 equal : (a b : ℕ) → a ≡ b → nat_cmp a b ≡ Equal

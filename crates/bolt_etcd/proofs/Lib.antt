@@ -5,6 +5,7 @@ pub mod KeyNumbers
 pub mod Keys
 pub mod LastOfAll
 pub mod Messages
+pub mod MissingExact
 pub mod MissingSteps
 pub mod NewestOfNames
 pub mod OtherCounts

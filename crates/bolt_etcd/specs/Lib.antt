@@ -1,5 +1,6 @@
 pub mod Compacted
 pub mod Current
+pub mod Follows
 pub mod Misplaced
 pub mod MissingLeft
 pub mod MissingNumbers
@@ -15,4 +16,5 @@ pub mod Shown
 pub mod ShownOthers
 pub mod ShownRevisions
 pub mod Stores
+pub mod Told
 pub mod Wire

@@ -1,9 +1,10 @@
 //! What the definitions imply.
-ghost use Rattle.std.specs.Prelude.{◌≡◌, ◌<◌, ℕ, List, Some, length, not};
+ghost use Rattle.std.specs.Prelude.{◌≡◌, ◌<◌, ◌↔◌, ℕ, List, Some, length, not};
 ghost use Rattle.std.specs.Option.{is_some};
 ghost use Rattle.bolt_check.specs.Keys.{key_cmp};
 ghost use Rattle.bolt_format.specs.{Bytes.IsBytes, Elements.LeafElement};
-ghost use Rattle.bolt_tree.specs.Entries.{EntryView};
+ghost use Rattle.bolt_tree.specs.{Entries.EntryView, Order.Rises};
+ghost use Rattle.bolt_etcd.specs.{MissingNumbers.missing_numbers, Revisions.RevisionView, Told.IsMissing, Told.IsTold, Told.number_cmp};
 ghost use Rattle.bolt_etcd.specs.{Others.other_of, Others.others_of, Revisions.revision_of, Stores.others};
 ghost use Rattle.bolt_etcd.specs.{RevisionKeys.IsSpelled, RevisionKeys.numbers_cmp, RevisionKeys.revision_key, RevisionKeys.spelling, Wire.field_and_later, Wire.fields};
 ghost use Rattle.bolt_etcd.specs.declared.revision_key.RevisionKey.{RevisionKey};
@@ -35,4 +36,11 @@ pub fn revision_keys_are_in_the_order_of_their_numbers()
 pub fn an_entry_is_a_revision_or_another()
     ensures one { (e : EntryView) → is_some (other_of e) ≡ not (is_some (revision_of e)) }
     ensures number { (entries : List LeafElement) → length (others_of entries) ≡ length (others entries) }
+{}
+
+/// If revisions are in the order of their numbers, the missing numbers tell that a transaction is
+/// missing exactly if it is: it is after the compaction, a later one is there, and none of its
+/// revisions is.
+pub fn missing_transactions_are_told_exactly()
+    ensures { (compacted t : ℕ) (rs : List RevisionView) → Rises number_cmp rs → IsTold t (missing_numbers compacted rs) ↔ IsMissing compacted t rs }
 {}

@@ -4,6 +4,7 @@
 
 mod compaction;
 mod current;
+mod follows;
 pub mod laws;
 mod misplaced;
 mod missing;
