@@ -1,0 +1,157 @@
+-- The keys that there are are the newest revisions that aren't deletions.
+use Rattle.std.proofs.Common.{◌≡◌, ◌∙◌, ◌<◌, ◌+◌, ◌++◌, inl, inr, Bool, true, false, List, [], ◌∷◌, cond, filter, length, map, not, Option, Some, None, Result, Ok, Err, refl, slice_index_or, sym, ap, subst, arith, if◌then◌else◌}
+use Rattle.std.proofs.lemmas.Bool.{not-true}
+use Rattle.std.proofs.lemmas.List.{append_assoc, get_or-map, length-map, map-append}
+use Rattle.std.proofs.lemmas.List.Kept.{IsStrictlySortedBy-filter}
+use Rattle.std.proofs.lemmas.List.Sorted.{IsPermutation-map}
+use Rattle.std.proofs.lemmas.Option.{same_Some}
+use Rattle.std.specs.List.{Contains, cons_option, dedup, dedup_from}
+use Rattle.std.specs.List.Sorted.{IsPermutation, IsSortedBy, IsStrictlySortedBy}
+use Rattle.std.specs.Cmp.{IsStrictWeakOrder}
+use Rattle.std.specs.Ordering.{is_lt}
+use Rattle.std.specs.Result.{is_err, is_ok}
+use Rattle.std.specs.Str.{bytes_eq}
+use Rattle.std.specs.declared.cmp.Ordering.TheVariants.{Less}
+use Rattle.bolt_format.specs.Elements.{LeafElement}
+use Rattle.bolt_tree.proofs.{Filters.kept, Lists.contains_cases, Lists.contains_head, Lists.contains_none, Lists.contains_tail}
+use Rattle.bolt_tree.specs.{Entries.EntryView, Entries.entry_cmp, Entries.entry_view, Order.Rises}
+use Rattle.bolt_etcd.specs.{Current.AreCurrent, Current.is_there, Current.name_cmp, Current.newest_first_cmp, Current.place_cmp, Newest.newest, Revisions.RevisionView, Revisions.name_of, Revisions.revision_in, Revisions.revision_of, Revisions.value_of}
+use Rattle.bolt_etcd.specs.{RevisionKeys.revision_key, Records.record_of, ShownRevisions.shown_revision, Stores.revisions, Wire.◌>>=◌}
+use Rattle.bolt_etcd.specs.declared.revision.Revision.{Revision}
+use Rattle.bolt_etcd.proofs.Filtered.{kept_from}
+use Rattle.bolt_etcd.proofs.NewestOfNames.{all_at, kept_last, last_kept, names_rise, newest_ranks}
+
+-- ---- one more is pushed
+
+pub was_pushed : {X E : Type 0} {A : Type 0} (r : Result X E) (a b : List A) → is_err r ≡ false → (if is_ok r then a else b) ≡ a
+was_pushed (Ok x) a b e = refl
+was_pushed (Err x) a b e = cc
+
+pub pushed : (items more : List Revision) (r : Revision) (left new total : List RevisionView) → more ≡ items ++ r ∷ [] → left ≡ shown_revision r ∷ new
+    → map shown_revision items ++ left ≡ total → map shown_revision more ++ new ≡ total
+pushed items more r left new total is first before =
+    ap (λ l. map shown_revision l ++ new) is
+    ∙ ap (λ (l : List RevisionView). l ++ new) (map-append shown_revision items (r ∷ []))
+    ∙ append_assoc (map shown_revision items) (shown_revision r ∷ []) new
+    ∙ ap (λ (l : List RevisionView). map shown_revision items ++ l) (sym first)
+    ∙ before
+
+-- ---- revisions rise by their places, as entries do by their keys
+
+bind_some : {A B : Type 0} (o : Option A) (f : A → Option B) (y : B) → (o >>= f) ≡ Some y → (x : A) × (o ≡ Some x) × (f x ≡ Some y)
+bind_some None f y e = cc
+bind_some (Some x) f y e = (x, refl, e)
+
+place_is : (v : EntryView) (r : RevisionView) → revision_of v ≡ Some r → r.place ≡ v.key
+unfolding revision_of
+place_is v r e =
+    let (value, _, inner) = bind_some (value_of v.item) (revision_in v.key) r e in
+    let (k, _, later) = bind_some (revision_key v.key) _ r inner in
+    let (content, _, made) = bind_some (record_of value) _ r later in
+    sym (ap (λ (x : RevisionView). x.place) (same_Some _ r made))
+
+from_step : (o : Option RevisionView) (e : LeafElement) (es : List LeafElement) (r : RevisionView) → revision_of (entry_view e) ≡ o
+    → (Contains (revisions es) r → (f : LeafElement) × Contains es f × (revision_of (entry_view f) ≡ Some r)) → Contains (cons_option o (revisions es)) r
+    → (f : LeafElement) × Contains (e ∷ es) f × (revision_of (entry_view f) ≡ Some r)
+from_step None e es r is later has = let (f, there, found) = later has in (f, contains_tail e f es there, found)
+from_step (Some s) e es r is later has = elim (contains_cases s r (revisions es) has) [
+  | inl same ↦ (e, contains_head e es, is ∙ ap Some same)
+  | inr more ↦ (let (f, there, found) = later more in (f, contains_tail e f es there, found))
+]
+
+from_entry : (es : List LeafElement) (r : RevisionView) → Contains (revisions es) r → (f : LeafElement) × Contains es f × (revision_of (entry_view f) ≡ Some r)
+from_entry [] r has = absurd (contains_none r has)
+from_entry (e ∷ es) r has = from_step (revision_of (entry_view e)) e es r refl (from_entry es r) has
+
+rise_step : (o : Option RevisionView) (e : LeafElement) (es : List LeafElement) → revision_of (entry_view e) ≡ o → Rises entry_cmp (e ∷ es) → Rises place_cmp (revisions es)
+    → Rises place_cmp (cons_option o (revisions es))
+rise_step None e es is rises later = later
+rise_step (Some r) e es is rises later = (
+  λ s has.
+      let (f, there, found) = from_entry es s has in
+      rw (place_is (entry_view e) r is, place_is (entry_view f) s found) (rises.0 f there),
+  later,
+)
+
+pub revisions_rise : (es : List LeafElement) → Rises entry_cmp es → Rises place_cmp (revisions es)
+revisions_rise [] rises = tt
+revisions_rise (e ∷ es) rises = rise_step (revision_of (entry_view e)) e es refl rises (revisions_rise es rises.1)
+
+-- ---- what is kept, as it is shown
+
+abbrev pub code_newest_first : Revision → Revision → Bool
+code_newest_first a b = is_lt (newest_first_cmp (shown_revision a) (shown_revision b))
+
+abbrev pub code_same_name : Revision → Revision → Bool
+code_same_name a b = bytes_eq (name_of (shown_revision a)) (name_of (shown_revision b))
+
+abbrev view_same_name : RevisionView → RevisionView → Bool
+view_same_name a b = bytes_eq (name_of a) (name_of b)
+
+pub code_ranks : IsStrictWeakOrder code_newest_first
+code_ranks = newest_ranks (λ r. name_of (shown_revision r)) (λ r. (shown_revision r).place)
+
+sorted_shown : (ys : List Revision) → IsSortedBy code_newest_first ys → IsSortedBy (λ a b. is_lt (newest_first_cmp a b)) (map shown_revision ys)
+sorted_shown [] up k d low high = absurd (omega arith)
+sorted_shown (y ∷ ys) up k d low high =
+    let long = length-map (y ∷ ys) shown_revision in
+    let lt : k + 1 < length (y ∷ ys) = omega (arith, long) in
+    ap (λ (x : RevisionView). is_lt (newest_first_cmp x (slice_index_or (map shown_revision (y ∷ ys)) k d))) (get_or-map shown_revision (y ∷ ys) (k + 1) y d lt)
+    ∙ ap (λ (x : RevisionView). is_lt (newest_first_cmp (shown_revision (slice_index_or (y ∷ ys) (k + 1) y)) x)) (get_or-map shown_revision (y ∷ ys) k y d (omega arith))
+    ∙ up k y low lt
+
+dedup_step : (k z : Revision) (zs : List Revision) (b : Bool) → ((k' : Revision) → map shown_revision (dedup_from code_same_name k' zs) ≡ dedup_from view_same_name (shown_revision k') (map shown_revision zs))
+    → map shown_revision (cond b (dedup_from code_same_name k zs) (k ∷ dedup_from code_same_name z zs))
+    ≡ cond b (dedup_from view_same_name (shown_revision k) (map shown_revision zs)) (shown_revision k ∷ dedup_from view_same_name (shown_revision z) (map shown_revision zs))
+dedup_step k z zs true later = later k
+dedup_step k z zs false later = ap (λ l. shown_revision k ∷ l) (later z)
+
+dedup_from_shown : (k : Revision) (zs : List Revision) → map shown_revision (dedup_from code_same_name k zs) ≡ dedup_from view_same_name (shown_revision k) (map shown_revision zs)
+dedup_from_shown k [] = refl
+dedup_from_shown k (z ∷ zs) = dedup_step k z zs (code_same_name z k) (λ k'. dedup_from_shown k' zs)
+
+dedup_shown : (ys : List Revision) → map shown_revision (dedup code_same_name ys) ≡ dedup view_same_name (map shown_revision ys)
+dedup_shown [] = refl
+dedup_shown (y ∷ ys) = dedup_from_shown y ys
+
+abbrev pub code_is_there : Revision → Bool
+code_is_there r = is_there (shown_revision r)
+
+filter_step : (y : Revision) (ys : List Revision) (b : Bool) → map shown_revision (filter code_is_there ys) ≡ filter is_there (map shown_revision ys)
+    → map shown_revision (cond b (y ∷ filter code_is_there ys) (filter code_is_there ys)) ≡ cond b (shown_revision y ∷ filter is_there (map shown_revision ys)) (filter is_there (map shown_revision ys))
+filter_step y ys true later = ap (λ l. shown_revision y ∷ l) later
+filter_step y ys false later = later
+
+filter_shown : (ys : List Revision) → map shown_revision (filter code_is_there ys) ≡ filter is_there (map shown_revision ys)
+filter_shown [] = refl
+filter_shown (y ∷ ys) = filter_step y ys (code_is_there y) (filter_shown ys)
+
+strict_rises : (rs : List RevisionView) → IsStrictlySortedBy name_cmp rs → Rises name_cmp rs
+unfolding IsStrictlySortedBy
+strict_rises [] strict = tt
+strict_rises (r ∷ rs) strict = (λ s has. all_at (λ w. name_cmp r w ≡ Less) rs s strict.0 has, strict_rises rs strict.1)
+
+module _ (old sorted left new : List Revision) (moved : IsPermutation old sorted) (up : IsSortedBy code_newest_first sorted)
+    (once : left ≡ dedup code_same_name sorted) (there : new ≡ filter code_is_there left) (rises : Rises place_cmp (map shown_revision old)) where
+  shown : map shown_revision new ≡ filter is_there (dedup view_same_name (map shown_revision sorted))
+  shown = ap (map shown_revision) there ∙ filter_shown left ∙ ap (filter is_there) (ap (map shown_revision) once ∙ dedup_shown sorted)
+
+  moved_shown : IsPermutation (map shown_revision old) (map shown_revision sorted)
+  moved_shown = IsPermutation-map shown_revision old sorted moved
+
+  views : List RevisionView
+  views = dedup view_same_name (map shown_revision sorted)
+
+  pub are_current : AreCurrent (map shown_revision old) (map shown_revision new)
+  unfolding newest
+  are_current = record {
+    rises = rw shown (strict_rises _ (IsStrictlySortedBy-filter name_cmp is_there _ (names_rise name_of (λ r. r.place) (map shown_revision sorted) (sorted_shown sorted up))));
+    exact = λ r. (
+      λ has.
+          let (kept_one, live) = kept_from is_there _ r (subst (λ (l : List RevisionView). Contains l r) shown has) in
+          (kept_last name_of (λ r. r.place) _ _ rises moved_shown (sorted_shown sorted up) r kept_one, not-true r.key.deleted live),
+      λ (last, live).
+          subst (λ (l : List RevisionView). Contains l r) (sym shown)
+          (kept is_there _ r (last_kept name_of (λ r. r.place) _ _ rises moved_shown (sorted_shown sorted up) r last) (ap not live)),
+    );
+  }

@@ -1,0 +1,16 @@
+pub mod Currents
+pub mod Fields
+pub mod Filtered
+pub mod KeyNumbers
+pub mod Keys
+pub mod LastOfAll
+pub mod Messages
+pub mod MissingExact
+pub mod MissingSteps
+pub mod NewestOfNames
+pub mod OtherCounts
+pub mod OtherSteps
+pub mod Passing
+pub mod RevisionLoops
+pub mod RevisionSteps
+pub mod Varints

@@ -1,0 +1,86 @@
+-- A pass over the entries of a bucket: each step takes the first of those ahead.
+use Rattle.std.proofs.Common.{◌≡◌, ◌∙◌, ◌<◌, ℕ, suc, List, [], ◌∷◌, cond, drop, length, not, Option, Some, None, refl, sym, ap, arith}
+use Rattle.std.proofs.Math.Logic.{∥∥₁_elim, ∥∥₁_prop}
+use Rattle.std.proofs.lemmas.List.{drop_all}
+use Rattle.std.proofs.lemmas.Option.{same_Some}
+use Rattle.std.specs.List.{cons_option}
+use Rattle.std.specs.Option.{is_some, option_map}
+use Rattle.bolt_format.proofs.ListLemmas.{drop_at}
+use Rattle.bolt_check.specs.{CheckedFiles.bytes_of, CheckedFiles.meta_of, Keys.Key}
+use Rattle.bolt_format.specs.Elements.{LeafElement}
+use Rattle.bolt_tree.proofs.{CursorMoves.ComesTo, CursorMoves.comes_from, Leaving.TakesFirst, Leaving.next_takes, SortedLemmas.sorted}
+use Rattle.bolt_tree.specs.{BucketViews.entries_of, Cursors.cursor_checked, Cursors.cursor_start, Entries.AreEntries, Entries.EntryView, Entries.entry_view, ShownEntries.shown_entry}
+use Rattle.bolt_tree.specs.{EntriesLeft.entries_left, FileTrees.file_entries, Places.Past, Places.Place, Places.least_from, Places.next_move, Places.place_in, Places.seek_move}
+use Rattle.bolt_tree.specs.declared.{cursor.Cursor.Cursor, Entry.Entry}
+use Rattle.bolt_etcd.specs.{Passes.ShowsFirst, Revisions.RevisionView, Revisions.revision_of, Stores.entries_from, Stores.others, Stores.revisions}
+
+pub nothing_shown : (o : Option Entry) → option_map shown_entry o ≡ None → o ≡ None
+nothing_shown None is = refl
+nothing_shown (Some entry) is = cc
+
+shows : (old new : List LeafElement) (x : Option EntryView) (o : Option LeafElement) → x ≡ option_map entry_view o → TakesFirst old new o → (x ≡ None → new ≡ []) → ShowsFirst old new x
+shows old new None None is taken none = (taken, none refl)
+shows old new None (Some e) is taken none = cc
+shows old new (Some x) None is taken none = cc
+shows old new (Some x) (Some e) is taken none = (e, same_Some x (entry_view e) is, taken)
+
+nothing_left : (entries : List LeafElement) (before after : Place) (x : Option EntryView) (o : Option LeafElement) → x ≡ option_map entry_view o
+    → TakesFirst (entries_left entries before) (entries_left entries after) o → (x ≡ None → after ≡ before) → x ≡ None → entries_left entries after ≡ []
+nothing_left entries before after None None is taken stays none = ap (entries_left entries) (stays refl) ∙ taken
+nothing_left entries before after None (Some e) is taken stays none = cc
+nothing_left entries before after (Some x) o is taken stays none = cc
+
+-- after `next`
+pub next_shows : (entries : List LeafElement) (before after : Place) (x : Option EntryView)
+    → (place_in entries after ≡ (next_move entries (place_in entries before)).place) × (x ≡ option_map entry_view (next_move entries (place_in entries before)).answer)
+    → (x ≡ None → after ≡ before) → ShowsFirst (entries_left entries before) (entries_left entries after) x
+next_shows entries before after x (p, a) stays =
+    let taken = next_takes entries before after (next_move entries (place_in entries before)).answer (p, refl) in
+    shows _ _ x _ a taken (nothing_left entries before after x _ a taken stays)
+
+takes : (entries : List LeafElement) (n : ℕ) (place : Place) (o : Option LeafElement) → ComesTo entries n place o → TakesFirst (drop n entries) (entries_left entries place) o
+takes entries n place None past = drop_all n entries past
+takes entries n place (Some e) (on, at) = drop_at entries n e at ∙ ap (λ (q : Place). e ∷ entries_left entries q) (sym on)
+
+-- after `seek`
+pub seek_shows : (key : Key) (entries : List LeafElement) (after : Place) (x : Option EntryView)
+    → (place_in entries after ≡ (seek_move key entries).place) × (x ≡ option_map entry_view (seek_move key entries).answer)
+    → (x ≡ None → after ≡ Past) → ShowsFirst (entries_from key entries) (entries_left entries after) x
+seek_shows key entries after x (p, a) past =
+    shows _ _ x _ a (takes entries (least_from key entries) after _ (comes_from key entries after (seek_move key entries).answer (p, refl)))
+    (λ none. ap (entries_left entries) (past none))
+
+-- ---- what is left of a pass
+
+pub are_entries : (cursor : Cursor) → ∥ AreEntries (entries_of (cursor_checked cursor)) (cursor_start cursor)
+    (file_entries (bytes_of (cursor_checked cursor)) (meta_of (cursor_checked cursor)) (cursor_start cursor)) ∥₁
+unfolding cursor_checked cursor_start
+are_entries cursor =
+    let checked = cursor_checked cursor in
+    ∥∥₁_elim cursor.held ∥∥₁_prop (λ held. ∥∥₁_elim held.stack ∥∥₁_prop (λ (sound, stack).
+    ∣ sorted (bytes_of checked) (meta_of checked) sound.trees (cursor_start cursor) sound.start ∣₁))
+
+-- ---- revisions among those ahead
+
+passed : (o : Option RevisionView) (r : RevisionView) (rest : List RevisionView) → o ≡ Some r → cons_option o rest ≡ r ∷ rest
+passed o r rest is = rw is refl
+
+-- the first of those ahead is a revision
+pub gives : (old new : List LeafElement) (v : EntryView) (r : RevisionView) → ShowsFirst old new (Some v) → revision_of v ≡ Some r → revisions old ≡ r ∷ revisions new
+gives old new v r (e, shown, first) is = ap revisions first ∙ passed (revision_of (entry_view e)) r (revisions new) (sym (ap revision_of shown) ∙ is)
+
+-- or it isn't
+pub passes : (old new : List LeafElement) (v : EntryView) → ShowsFirst old new (Some v) → revision_of v ≡ None → revisions old ≡ revisions new
+passes old new v (e, shown, first) is = ap revisions first ∙ ap (λ (o : Option RevisionView). cons_option o (revisions new)) (sym (ap revision_of shown) ∙ is)
+
+others_if : (o x : Option RevisionView) (e : LeafElement) (rest : List LeafElement) → o ≡ x → cond (not (is_some o)) (e ∷ rest) rest ≡ cond (not (is_some x)) (e ∷ rest) rest
+others_if o x e rest is = ap (λ (z : Option RevisionView). cond (not (is_some z)) (e ∷ rest) rest) is
+
+pub counts_none : (old new : List LeafElement) (v : EntryView) (r : RevisionView) → ShowsFirst old new (Some v) → revision_of v ≡ Some r → others old ≡ others new
+counts_none old new v r (e, shown, first) is = ap others first ∙ others_if _ _ e (others new) (sym (ap revision_of shown) ∙ is)
+
+pub counts_one : (old new : List LeafElement) (v : EntryView) → ShowsFirst old new (Some v) → revision_of v ≡ None → length (others old) ≡ suc (length (others new))
+counts_one old new v (e, shown, first) is = ap length (ap others first ∙ others_if _ _ e (others new) (sym (ap revision_of shown) ∙ is))
+
+pub fewer : (old new : List LeafElement) (v : EntryView) → ShowsFirst old new (Some v) → length new < length old
+fewer old new v (e, shown, first) = let n = ap length first in omega (arith, n)

@@ -1,0 +1,51 @@
+-- A loop over the revisions of a bucket.
+use Rattle.std.proofs.Common.{◌≡◌, ◌∙◌, ◌<◌, ◌^◌, ℕ, List, length, Option, None, ap, arith}
+use Rattle.bolt_check.specs.Counts.{counted}
+use Rattle.bolt_format.specs.Elements.{LeafElement}
+use Rattle.bolt_tree.specs.{Buckets.bucket_checked, Buckets.bucket_start, declared.bucket.Bucket.Bucket}
+use Rattle.bolt_etcd.specs.{Revisions.RevisionView, Stores.ForBucket, Stores.others}
+use Rattle.bolt_etcd.specs.RevisionsLeft.{CountsOthers, ForPass, GivesFirst, ahead_of, pass_checked, pass_others, pass_start}
+use Rattle.bolt_etcd.specs.declared.revisions.Revisions.{Revisions}
+use Rattle.bolt_etcd.proofs.RevisionSteps.{moved_to}
+
+-- the pass is over this bucket, and has counted the entries that it has gone over
+pub record Passed (bucket : Bucket) (pass : Revisions) : Type 0 where
+  pub checked : pass_checked pass ≡ bucket_checked bucket
+  pub start : pass_start pass ≡ bucket_start bucket
+  pub counts : ForBucket bucket (λ entries. CountsOthers entries (ahead_of pass entries) 0 (pass_others pass))
+
+pub passed_none : (bucket : Bucket) (pass : Revisions) → pass_checked pass ≡ bucket_checked bucket → pass_start pass ≡ bucket_start bucket
+    → ForPass pass (λ entries. ahead_of pass entries ≡ entries) → pass_others pass ≡ 0 → Passed bucket pass
+passed_none bucket pass checked start all none = record {
+  checked = checked;
+  start = start;
+  counts = λ entries are.
+      ap (λ (k : ℕ). counted k (length (others (ahead_of pass entries)))) none
+      ∙ ap (λ (es : List LeafElement). counted 0 (length (others es))) (moved_to _ _ _ _ (λ es. ahead_of pass es ≡ es) checked start all entries are);
+}
+
+module _ (bucket : Bucket) (here next : Revisions) (x : Option RevisionView) (passed : Passed bucket here)
+    (given : ForPass here (λ entries. GivesFirst (ahead_of here entries) (ahead_of next entries) x))
+    (counts : ForPass here (λ entries. CountsOthers (ahead_of here entries) (ahead_of next entries) (pass_others here) (pass_others next))) where
+  pub given_in : ForBucket bucket (λ entries. GivesFirst (ahead_of here entries) (ahead_of next entries) x)
+  given_in = moved_to _ _ _ _ (λ entries. GivesFirst (ahead_of here entries) (ahead_of next entries) x) passed.checked passed.start given
+
+  counts_in : ForBucket bucket (λ entries. CountsOthers (ahead_of here entries) (ahead_of next entries) (pass_others here) (pass_others next))
+  counts_in =
+      moved_to _ _ _ _ (λ entries. CountsOthers (ahead_of here entries) (ahead_of next entries) (pass_others here) (pass_others next)) passed.checked passed.start counts
+
+  pub passed_more : pass_checked next ≡ pass_checked here → pass_start next ≡ pass_start here → Passed bucket next
+  passed_more checked start = record {
+    checked = checked ∙ passed.checked;
+    start = start ∙ passed.start;
+    counts = λ entries are. counts_in entries are ∙ passed.counts entries are;
+  }
+
+  -- at its end it has counted all of them
+  pub counted_all : (n : ℕ) → x ≡ None → n ≡ pass_others next → n < 2 ^ 64 → ForBucket bucket (λ entries. n ≡ counted 0 (length (others entries)))
+  counted_all n none is fits = λ entries are.
+      let (no_more, end) = rw none at (given_in entries are) in
+      let all = counts_in entries are ∙ passed.counts entries are in
+      let last = ap (λ (es : List LeafElement). counted (pass_others next) (length (others es))) end in
+      let small : n ≡ counted n 0 = omega arith in
+      small ∙ ap (λ (k : ℕ). counted k 0) is ∙ omega (arith, last, all)

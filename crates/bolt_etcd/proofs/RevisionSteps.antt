@@ -1,0 +1,91 @@
+-- A pass goes over entries that aren't revisions, up to the next revision.
+use Rattle.std.proofs.Common.{◌≡◌, ◌∙◌, ◌<◌, ◌≤◌, ℕ, List, length, Option, Some, None, refl, sym, ap, subst, arith}
+use Rattle.std.proofs.Math.Logic.{∥∥₁_elim}
+use Rattle.std.proofs.Props.{props}
+use Rattle.bolt_check.specs.{CheckedFiles.bytes_of, CheckedFiles.meta_of, Counts.counted, declared.Checked.Checked}
+use Rattle.bolt_format.specs.Elements.{LeafElement}
+use Rattle.bolt_tree.proofs.PagerLemmas.{counted_more}
+use Rattle.bolt_tree.specs.{Entries.EntryView, Entries.Start, EntriesLeft.ForEntries, FileTrees.file_entries}
+use Rattle.bolt_etcd.specs.{Passes.ShowsFirst, Revisions.RevisionView, Revisions.revision_of, Stores.others, Stores.revisions}
+use Rattle.bolt_etcd.specs.RevisionsLeft.{CountsOthers, ForPass, GivesFirst, ahead_of, number_ahead, pass_checked, pass_entries, pass_others, pass_start}
+use Rattle.bolt_etcd.specs.declared.revisions.Revisions.{Revisions}
+use Rattle.bolt_etcd.proofs.Passing.{are_entries, counts_none, counts_one, fewer, gives, passes}
+
+-- from one pass to another in the same bucket no revision was gone over, and the other entries were counted
+pub record Goes (old here : Revisions) : Type 0 where
+  pub checked : pass_checked here ≡ pass_checked old
+  pub start : pass_start here ≡ pass_start old
+  pub same : ForPass old (λ entries. revisions (ahead_of old entries) ≡ revisions (ahead_of here entries))
+  pub counts : ForPass old (λ entries. CountsOthers (ahead_of old entries) (ahead_of here entries) (pass_others old) (pass_others here))
+  pub behind : length (ahead_of here (pass_entries old)) ≤ length (ahead_of old (pass_entries old))
+
+pub goes_none : (pass : Revisions) → Goes pass pass
+goes_none pass = record { checked = refl; start = refl; same = λ entries are. refl; counts = λ entries are. refl; behind = omega arith }
+
+pub moved_to : (a b : Checked) (s t : Start) (P : List LeafElement → Type 0) → a ≡ b → s ≡ t → ForEntries a s P → ForEntries b t P
+moved_to a b s t P file start all = subst (λ (q : Start). ForEntries b q P) start (subst (λ (c : Checked). ForEntries c s P) file all)
+
+-- the same pass, after one more of the entries that aren't revisions
+abbrev pub with_others : Revisions → ℕ → Revisions
+with_others pass n = record { cursor = pass.cursor; from = pass.from; others = n }
+
+module _ (old here next : Revisions) (x : Option EntryView) (goes : Goes old here)
+    (first : ForPass here (λ entries. ShowsFirst (ahead_of here entries) (ahead_of next entries) x)) where
+  first_here : ForPass old (λ entries. ShowsFirst (ahead_of here entries) (ahead_of next entries) x)
+  first_here = moved_to _ _ _ _ (λ entries. ShowsFirst (ahead_of here entries) (ahead_of next entries) x) goes.checked goes.start first
+
+  -- fewer entries are left
+  pub falls : (v : EntryView) → x ≡ Some v → length (ahead_of next (pass_entries old)) < length (ahead_of here (pass_entries old))
+  unfolding pass_checked pass_start
+  falls v is = ∥∥₁_elim (are_entries old.cursor) (hlevel props) (λ are. fewer _ _ v (rw is at (first_here (pass_entries old) are)))
+
+  pub goes_on : (v : EntryView) (n : ℕ) → x ≡ Some v → revision_of v ≡ None → pass_checked next ≡ pass_checked here → pass_start next ≡ pass_start here
+      → n ≡ counted (pass_others here) 1 → Goes old (with_others next n)
+  unfolding ahead_of pass_checked pass_others pass_start
+  goes_on v n is other file start more = record {
+    checked = file ∙ goes.checked;
+    start = start ∙ goes.start;
+    same = λ entries are. goes.same entries are ∙ passes _ _ v (rw is at (first_here entries are)) other;
+    counts = λ entries are.
+        let one = counts_one _ _ v (rw is at (first_here entries are)) other in
+        ap (λ (k : ℕ). counted k (length (others (ahead_of next entries)))) more
+        ∙ counted_more (pass_others here) 1 (length (others (ahead_of next entries)))
+        ∙ ap (counted (pass_others here)) (omega (arith, one))
+        ∙ goes.counts entries are;
+    behind = let less = falls v is in let before = goes.behind in omega (arith, less, before);
+  }
+
+  pub some_given : (v : EntryView) (r : RevisionView) → x ≡ Some v → revision_of v ≡ Some r → ForPass old (λ entries. GivesFirst (ahead_of old entries) (ahead_of next entries) (Some r))
+  some_given v r is found = λ entries are. goes.same entries are ∙ gives _ _ v r (rw is at (first_here entries are)) found
+
+  pub some_counts : (v : EntryView) (r : RevisionView) → x ≡ Some v → revision_of v ≡ Some r → pass_others next ≡ pass_others here
+      → ForPass old (λ entries. CountsOthers (ahead_of old entries) (ahead_of next entries) (pass_others old) (pass_others next))
+  some_counts v r is found same = λ entries are.
+      let none = counts_none _ _ v r (rw is at (first_here entries are)) found in
+      ap (λ (k : ℕ). counted k (length (others (ahead_of next entries)))) same
+      ∙ ap (λ (es : List LeafElement). counted (pass_others here) (length es)) (sym none)
+      ∙ goes.counts entries are
+
+  pub none_given : x ≡ None → ForPass old (λ entries. GivesFirst (ahead_of old entries) (ahead_of next entries) None)
+  none_given is = λ entries are.
+      let (none, end) = rw is at (first_here entries are) in
+      (goes.same entries are ∙ ap revisions none, end)
+
+  pub none_counts : x ≡ None → pass_others next ≡ pass_others here
+      → ForPass old (λ entries. CountsOthers (ahead_of old entries) (ahead_of next entries) (pass_others old) (pass_others next))
+  none_counts is same = λ entries are.
+      let (none, end) = rw is at (first_here entries are) in
+      ap (λ (k : ℕ). counted k (length (others (ahead_of next entries)))) same
+      ∙ ap (λ (es : List LeafElement). counted (pass_others here) (length (others es))) (end ∙ sym none)
+      ∙ goes.counts entries are
+
+  -- and so fewer than at first
+  pub number_falls : (v : EntryView) → x ≡ Some v → pass_checked next ≡ pass_checked here → pass_start next ≡ pass_start here → number_ahead next < number_ahead old
+  unfolding number_ahead
+  number_falls v is file start =
+      let same : pass_entries next ≡ pass_entries old =
+      ap (λ (c : Checked). file_entries (bytes_of c) (meta_of c) (pass_start next)) (file ∙ goes.checked)
+      ∙ ap (file_entries (bytes_of (pass_checked old)) (meta_of (pass_checked old))) (start ∙ goes.start) in
+      let less = falls v is in
+      let before = goes.behind in
+      rw same (omega (arith, less, before))

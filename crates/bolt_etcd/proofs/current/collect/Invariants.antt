@@ -1,0 +1,14 @@
+use Rattle.std.proofs.Common.{◌≡◌, ◌++◌, map}
+use Rattle.bolt_etcd.specs.{Newest.until, RevisionsLeft.ahead_of, RevisionsLeft.number_ahead, ShownRevisions.shown_revision, Stores.ForBucket, Stores.revisions}
+use Rattle.bolt_etcd.proofs.RevisionLoops.{Passed}
+use Rattle.bolt_etcd.proofs.current.collect.Given as goal
+
+-- those so far, and those ahead, are all
+abbrev pub invariant-rest : goal.invariant-rest
+invariant-rest l = record {
+  passed : Passed l.bucket l.revisions;
+  all : ForBucket l.bucket (λ entries. map shown_revision l.collected.items ++ until l.up_to (revisions (ahead_of l.revisions entries)) ≡ until l.up_to (revisions entries));
+}
+
+abbrev pub decreases-rest : goal.decreases-rest
+decreases-rest l = number_ahead l.revisions

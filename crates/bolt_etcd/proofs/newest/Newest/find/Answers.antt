@@ -1,0 +1,49 @@
+use Rattle.std.proofs.Common.{◌≡◌, ◌∙◌, List, None, ap, filter, sym}
+use Rattle.std.specs.List.{last_or}
+use Rattle.std.specs.Option.{option_map}
+use Rattle.bolt_format.specs.Elements.{LeafElement}
+use Rattle.bolt_etcd.specs.{Newest.is_named, Newest.is_of, Newest.is_until, Newest.newest, Revisions.RevisionView, RevisionsLeft.ahead_of, ShownRevisions.shown_revision, Stores.revisions}
+use Rattle.bolt_etcd.proofs.{Filtered.filter_both, LastOfAll.skips, LastOfAll.takes_last, RevisionSteps.moved_to}
+use Rattle.bolt_etcd.proofs.RevisionLoops.{counted_all, given_in, passed_more, passed_none}
+use Rattle.bolt_etcd.proofs.newest.Newest.find.Goals as goal
+
+pub rest-init : goal.rest-init
+rest-init c = record {
+  passed = passed_none c.args.bucket.now c.of-revisions.result c.of-revisions.ensures.checked c.of-revisions.ensures.start c.of-revisions.ensures.all c.of-revisions.ensures.others;
+  last = λ entries are.
+      ap (λ (es : List LeafElement). last_or None (filter (is_of c.args.name.now c.args.up_to) (revisions es)))
+      (moved_to _ _ _ _ (λ es. ahead_of c.of-revisions.result es ≡ es) c.of-revisions.ensures.checked c.of-revisions.ensures.start c.of-revisions.ensures.all entries are);
+}
+
+pub rest-preserved-then-is_of : goal.rest-preserved-then-is_of
+rest-preserved-then-is_of c =
+    let given = given_in c.args.bucket.now _ _ _ c.rest.invariant.passed c.next.ensures.given c.next.ensures.counts in
+    record {
+      passed = passed_more c.args.bucket.now _ _ _ c.rest.invariant.passed c.next.ensures.given c.next.ensures.counts c.next.ensures.checked c.next.ensures.start;
+      last = λ entries are.
+          takes_last (is_of c.args.name.now c.args.up_to) (option_map shown_revision c.rest.revision) _ (revisions (ahead_of c.rest.revisions entries)) _ (shown_revision c.in-Some.next)
+          (rw c.in-Some.is at (given entries are)) (c.rest.invariant.last entries are) (sym c.is_of.ensures ∙ c.if-is_of.true);
+    }
+
+pub rest-preserved : goal.rest-preserved
+rest-preserved c =
+    let given = given_in c.args.bucket.now _ _ _ c.rest.invariant.passed c.next.ensures.given c.next.ensures.counts in
+    record {
+      passed = passed_more c.args.bucket.now _ _ _ c.rest.invariant.passed c.next.ensures.given c.next.ensures.counts c.next.ensures.checked c.next.ensures.start;
+      last = λ entries are.
+          skips (is_of c.args.name.now c.args.up_to) (option_map shown_revision c.rest.revision) _ (revisions (ahead_of c.rest.revisions entries)) _ (shown_revision c.in-Some.next)
+          (rw c.in-Some.is at (given entries are)) (c.rest.invariant.last entries are) (sym c.is_of.ensures ∙ c.if-is_of.false);
+    }
+
+pub returns-clause-revision : goal.returns-clause-revision
+unfolding newest
+returns-clause-revision c = λ entries are.
+    let given = given_in c.args.bucket.now _ _ _ c.rest.invariant.passed c.next.ensures.given c.next.ensures.counts in
+    let (none, end) = rw c.in_default.is at (given entries are) in
+    sym (ap (λ (rs : List RevisionView). last_or (option_map shown_revision c.rest.revision) (filter (is_of c.args.name.now c.args.up_to) rs)) none) ∙ c.rest.invariant.last entries are
+    ∙ ap (last_or None) (sym (filter_both (is_named c.args.name.now) (is_until c.args.up_to) (revisions entries)))
+
+pub returns-clause-others : goal.returns-clause-others
+returns-clause-others c =
+    counted_all c.args.bucket.now _ _ _ c.rest.invariant.passed c.next.ensures.given c.next.ensures.counts c.others.result (ap (option_map shown_revision) c.in_default.is)
+    c.others.ensures c.others.type_inv

@@ -1,0 +1,19 @@
+-- Up to which transaction a store was compacted: what its bucket `meta` says.
+use Rattle.std.specs.Prelude.{◌≡◌, ℕ, List, Option, Some, None, codes, length, ◌==◌, if◌then◌else◌}
+use Rattle.bolt_format.specs.Elements.{LeafElement}
+use Rattle.bolt_tree.specs.{Entries.Start, Lookups.IsValueAt}
+use Rattle.bolt_etcd.specs.RevisionKeys.{revision_key}
+use Rattle.bolt_etcd.specs.declared.revision_key.RevisionKey.{RevisionKey}
+
+abbrev pub main_of : Option RevisionKey → ℕ
+main_of (Some k) = k.main
+main_of None = 0
+
+-- by this value: the transaction's number, if it is a revision key of 17 bytes, and otherwise 0
+abbrev pub compacted_by : Option (List ℕ) → ℕ
+compacted_by (Some value) = if length value == 17 then main_of (revision_key value) else 0
+compacted_by None = 0
+
+-- by the value under `scheduledCompactRev` in a bucket
+abbrev pub IsCompacted : (Start → LeafElement → Type 0) → Start → ℕ → Type 0
+IsCompacted Entry meta n = (value : Option (List ℕ)) × IsValueAt Entry meta (codes "scheduledCompactRev") value × (n ≡ compacted_by value)

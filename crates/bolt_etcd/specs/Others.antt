@@ -1,0 +1,34 @@
+-- Why an entry isn't a revision: it is a bucket or its key is no revision key, or its value is no record.
+use Rattle.std.specs.Prelude.{◌≡◌, ℕ, List, [], ◌∷◌, Option, Some, None}
+use Rattle.std.specs.List.{filter_map}
+use Rattle.bolt_check.specs.Keys.{Key}
+use Rattle.bolt_format.specs.Elements.{LeafElement}
+use Rattle.bolt_tree.specs.Entries.{EntryView, entry_view}
+use Rattle.bolt_etcd.specs.{Records.RecordView, Records.record_of, RevisionKeys.revision_key, Revisions.value_of}
+use Rattle.bolt_etcd.specs.declared.revision_key.RevisionKey.{RevisionKey}
+
+pub data OtherView : Type 0 where
+  Other_key : Key → OtherView
+  No_record : RevisionKey → OtherView
+
+abbrev pub other_at : Key → Option RevisionKey → Option RecordView → Option OtherView
+other_at key None content = Some (Other_key key)
+other_at key (Some k) None = Some (No_record k)
+other_at key (Some k) (Some content) = None
+
+abbrev pub other_by : Key → Option (List ℕ) → Option OtherView
+other_by key None = Some (Other_key key)
+other_by key (Some value) = other_at key (revision_key key) (record_of value)
+
+-- what an entry is, if it isn't a revision
+unfoldable pub other_of : EntryView → Option OtherView
+other_of e = other_by e.key (value_of e.item)
+
+-- the entries that aren't revisions, in their order
+abbrev pub others_of : List LeafElement → List OtherView
+others_of entries = filter_map (λ e. other_of (entry_view e)) entries
+
+-- the first is returned, and the others are left; or none is left
+abbrev pub GivesOther : (old new : List LeafElement) → Option OtherView → Type 0
+GivesOther old new (Some o) = others_of old ≡ o ∷ others_of new
+GivesOther old new None = (others_of old ≡ []) × (new ≡ [])

@@ -1,0 +1,24 @@
+-- What a bucket has of revisions: those among its entries, in the order of the entries, which is that of their keys.
+use Rattle.std.specs.Prelude.{List, drop, filter, not}
+use Rattle.std.specs.List.{filter_map}
+use Rattle.std.specs.Option.{is_some}
+use Rattle.bolt_format.specs.Elements.{LeafElement}
+use Rattle.bolt_check.specs.Keys.{Key}
+use Rattle.bolt_tree.specs.{Buckets.bucket_checked, Buckets.bucket_start, Entries.entry_view, EntriesLeft.ForEntries, Places.least_from, declared.bucket.Bucket.Bucket}
+use Rattle.bolt_etcd.specs.Revisions.{RevisionView, revision_of}
+
+-- this holds of a bucket's entries
+abbrev pub ForBucket : Bucket → (List LeafElement → Type 0) → Type 0
+ForBucket bucket P = ForEntries (bucket_checked bucket) (bucket_start bucket) P
+
+-- the revisions among entries
+abbrev pub revisions : List LeafElement → List RevisionView
+revisions entries = filter_map (λ e. revision_of (entry_view e)) entries
+
+-- the entries that aren't revisions
+abbrev pub others : List LeafElement → List LeafElement
+others entries = filter (λ e. not (is_some (revision_of (entry_view e)))) entries
+
+-- the entries whose keys aren't below this one
+abbrev pub entries_from : Key → List LeafElement → List LeafElement
+entries_from key entries = drop (least_from key entries) entries

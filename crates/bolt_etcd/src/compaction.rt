@@ -1,0 +1,34 @@
+//! Up to which transaction a store was compacted.
+ghost use Rattle.std.specs.Prelude.{◌≡◌, Some};
+ghost use Rattle.bolt_tree.specs.{BucketViews.entries_of, Buckets.bucket_checked, Buckets.bucket_start};
+ghost use Rattle.bolt_etcd.specs.Compacted.{IsCompacted, compacted_by};
+
+use crate::revision_key::{LEN, RevisionKey};
+use bolt_tree::Bucket;
+
+/// The key under which etcd keeps the revision of the last compaction.
+const SCHEDULED: &[u8] = b"scheduledCompactRev";
+
+/// The number of the transaction up to which a store was compacted, by its bucket `meta`. It is 0
+/// if the bucket doesn't say. Needs no memory.
+pub fn compacted(meta: &Bucket<'_>) -> u64
+    ensures { IsCompacted (entries_of (bucket_checked meta.now)) (bucket_start meta.now) result }
+{
+    match meta.get(SCHEDULED) {
+        Some(value) => main_in(value),
+        None => 0,
+    }
+}
+
+/// The number of the transaction, if the value is a revision key that isn't a deletion's.
+fn main_in(value: &[u8]) -> u64
+    ensures { result ≡ compacted_by (Some value.now) }
+{
+    if value.len() != LEN {
+        return 0;
+    }
+    match RevisionKey::read(value) {
+        Some(key) => key.main,
+        None => 0,
+    }
+}

@@ -1,0 +1,97 @@
+//! Which keys there are at a revision, and what each is.
+ghost use Rattle.std.specs.Prelude.{◌≡◌, IfOk, length, map};
+ghost use Rattle.bolt_check.specs.Counts.{counted};
+ghost use Rattle.bolt_tree.specs.Order.{Rises};
+ghost use Rattle.bolt_etcd.specs.{Current.AreCurrent, Current.newest_first_cmp, Current.place_cmp, Newest.is_until, Newest.until};
+ghost use Rattle.bolt_etcd.specs.{ShownRevisions.shown_revision, Stores.ForBucket, Stores.others, Stores.revisions};
+
+use crate::revision::Revision;
+use crate::revisions::Revisions;
+use bolt_tree::{Bucket, NoMemory};
+use std::alloc::Global;
+use std::cmp::Ordering;
+
+/// The keys that there are at a transaction.
+#[derive(Drop)]
+pub struct Current<'a> {
+    /// The newest revision of each key, by rising name. None is a deletion.
+    pub revisions: Vec<Revision<'a>>,
+    /// The number of entries that aren't revisions. One of them may have been newer. It saturates
+    /// at 2^64 - 1.
+    pub others: u64,
+}
+
+impl<'a> Current<'a> {
+    /// Finds the keys that there are in a bucket at a transaction. Goes over all entries of the
+    /// bucket twice. Keeps 48 bytes for each revision of no later transaction than `up_to`.
+    ///
+    /// # Errors
+    ///
+    /// `NoMemory` if memory runs out for these.
+    pub fn find(alloc: Global, bucket: &Bucket<'a>, up_to: u64) -> Result<Current<'a>, NoMemory>
+        ensures keys { IfOk result (λ current. ForBucket bucket.now (λ entries.
+            AreCurrent (until up_to (revisions entries)) (map shown_revision current.revisions.items))) }
+        ensures others { IfOk result (λ current. ForBucket bucket.now (λ entries. current.others ≡ counted 0 (length (others entries)))) }
+    {
+        let mut current = collect(alloc, bucket, up_to)?;
+        keep_newest(&mut current.revisions);
+        Ok(current)
+    }
+}
+
+/// The revisions of a bucket of no later transaction than `up_to`.
+fn collect<'a>(alloc: Global, bucket: &Bucket<'a>, up_to: u64) -> Result<Current<'a>, NoMemory>
+    ensures revisions { IfOk result (λ all. ForBucket bucket.now (λ entries.
+        map shown_revision all.revisions.items ≡ until up_to (revisions entries))) }
+    ensures others { IfOk result (λ all. ForBucket bucket.now (λ entries. all.others ≡ counted 0 (length (others entries)))) }
+{
+    let mut collected = Vec::with_capacity(alloc, count(bucket, up_to))?;
+    let mut revisions = Revisions::of(bucket);
+    'rest: while let Some(revision) = revisions.next() {
+        if is_until(&revision, up_to) && collected.push(revision).is_err() {
+            return Err(NoMemory);
+        }
+    }
+    Ok(Current {
+        revisions: collected,
+        others: revisions.others(),
+    })
+}
+
+/// The number of revisions of a bucket of no later transaction than `up_to`.
+fn count(bucket: &Bucket<'_>, up_to: u64) -> usize
+    ensures { ForBucket bucket.now (λ entries. result ≡ counted 0 (length (until up_to (revisions entries)))) }
+{
+    let mut n = 0_usize;
+    let mut revisions = Revisions::of(bucket);
+    'rest: while let Some(revision) = revisions.next() {
+        if is_until(&revision, up_to) {
+            n = n.saturating_add(1);
+        }
+    }
+    n
+}
+
+/// Whether it is of no later transaction.
+fn is_until(revision: &Revision<'_>, up_to: u64) -> bool
+    ensures { result ≡ is_until up_to (shown_revision revision.now) }
+{
+    revision.key().main <= up_to
+}
+
+/// Keeps the newest revision of each name, if it isn't a deletion, by rising name.
+fn keep_newest(revisions: &mut Vec<Revision<'_>>)
+    ensures { Rises place_cmp (map shown_revision revisions.old.items)
+        → AreCurrent (map shown_revision revisions.old.items) (map shown_revision revisions.new.items) }
+{
+    revisions.sort_unstable_by(newest_first);
+    revisions.dedup_by(|older, newest| older.name() == newest.name());
+    revisions.retain(|newest| !newest.key().deleted);
+}
+
+/// By name, and of one name the newer ones first.
+fn newest_first(a: &Revision<'_>, b: &Revision<'_>) -> Ordering
+    ensures { result ≡ newest_first_cmp (shown_revision a.now) (shown_revision b.now) }
+{
+    a.name().cmp(b.name()).then(b.place().cmp(a.place()))
+}

@@ -1,0 +1,46 @@
+//! What the definitions imply.
+ghost use Rattle.std.specs.Prelude.{◌≡◌, ◌<◌, ◌↔◌, ℕ, List, Some, length, not};
+ghost use Rattle.std.specs.Option.{is_some};
+ghost use Rattle.bolt_check.specs.Keys.{key_cmp};
+ghost use Rattle.bolt_format.specs.{Bytes.IsBytes, Elements.LeafElement};
+ghost use Rattle.bolt_tree.specs.{Entries.EntryView, Order.Rises};
+ghost use Rattle.bolt_etcd.specs.{MissingNumbers.missing_numbers, Revisions.RevisionView, Told.IsMissing, Told.IsTold, Told.number_cmp};
+ghost use Rattle.bolt_etcd.specs.{Others.other_of, Others.others_of, Revisions.revision_of, Stores.others};
+ghost use Rattle.bolt_etcd.specs.{RevisionKeys.IsSpelled, RevisionKeys.numbers_cmp, RevisionKeys.revision_key, RevisionKeys.spelling, Wire.field_and_later, Wire.fields};
+ghost use Rattle.bolt_etcd.specs.declared.revision_key.RevisionKey.{RevisionKey};
+
+/// A message is a field, and then a message, up to its end.
+#[tactic(auto, using(crate::proofs::Messages::first_and_later))]
+pub fn a_message_is_a_field_and_a_message()
+    ensures { (bytes : List ℕ) → 0 < length bytes → fields bytes ≡ field_and_later bytes }
+{}
+
+/// A revision key is spelled in exactly one way: what is read as one is its spelling, and each key
+/// with numbers below 2^63 is read from its spelling.
+#[tactic(auto, using(crate::proofs::Keys::read_back))]
+pub fn revision_keys_have_one_spelling()
+    ensures spelled { (bytes : List ℕ) (key : RevisionKey) → IsBytes bytes → revision_key bytes ≡ Some key → (bytes ≡ spelling key) × IsSpelled key }
+    ensures read { (key : RevisionKey) → IsSpelled key → revision_key (spelling key) ≡ Some key }
+{}
+
+/// Revision keys are in the order of their numbers: by `main`, then by `sub`, and a deletion after
+/// what has the same two.
+#[tactic(auto, using(crate::proofs::KeyNumbers::spellings_cmp))]
+pub fn revision_keys_are_in_the_order_of_their_numbers()
+    ensures { (a b : RevisionKey) → IsSpelled a → IsSpelled b → key_cmp (spelling a) (spelling b) ≡ numbers_cmp a b }
+{}
+
+/// An entry is a revision, or it is listed with why it isn't one: so as many are listed as are
+/// counted.
+#[tactic(auto, using(crate::proofs::OtherCounts::as_many, crate::proofs::OtherCounts::one_of_two))]
+pub fn an_entry_is_a_revision_or_another()
+    ensures one { (e : EntryView) → is_some (other_of e) ≡ not (is_some (revision_of e)) }
+    ensures number { (entries : List LeafElement) → length (others_of entries) ≡ length (others entries) }
+{}
+
+/// If revisions are in the order of their numbers, the missing numbers tell that a transaction is
+/// missing exactly if it is: it is after the compaction, a later one is there, and none of its
+/// revisions is.
+pub fn missing_transactions_are_told_exactly()
+    ensures { (compacted t : ℕ) (rs : List RevisionView) → Rises number_cmp rs → IsTold t (missing_numbers compacted rs) ↔ IsMissing compacted t rs }
+{}

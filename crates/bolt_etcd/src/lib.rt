@@ -1,0 +1,29 @@
+//! What etcd keeps in a database file: the revisions of its keys, each a record under a revision
+//! key, in a bucket `key`. This crate knows no page. It reads the entries of buckets.
+#![tactic(auto)]
+
+mod compaction;
+mod current;
+mod follows;
+pub mod laws;
+mod misplaced;
+mod missing;
+mod newest;
+mod other;
+mod record;
+mod revision;
+mod revision_key;
+mod revisions;
+#[cfg(test)]
+mod tests;
+mod wire;
+
+pub use crate::compaction::compacted;
+pub use crate::current::Current;
+pub use crate::missing::{Missing, MissingNumbers};
+pub use crate::newest::Newest;
+pub use crate::other::Other;
+pub use crate::record::Record;
+pub use crate::revision::{Decoded, Revision};
+pub use crate::revision_key::RevisionKey;
+pub use crate::revisions::Revisions;

@@ -1,0 +1,95 @@
+//! A revision of a key, as the bucket `key` keeps it.
+ghost use Rattle.std.specs.Prelude.{◌≡◌, Some, None};
+ghost use Rattle.std.specs.Option.{option_map};
+ghost use Rattle.std.proofs.Props.{props};
+ghost use Rattle.bolt_tree.specs.ShownEntries.{shown_entry};
+ghost use Rattle.bolt_etcd.specs.{Returns.Returns, RevisionKeys.IsSpelled, Revisions.name_of, Revisions.revision_in, Revisions.revision_of, Shown.shown_record};
+
+use crate::record::Record;
+use crate::revision_key::RevisionKey;
+use bolt_tree::{Entry, Item};
+
+/// A revision: the key and the value of an entry that is one, and the name of the key that it is a
+/// revision of. It takes 48 bytes. What else it says is decoded again when it is asked for.
+#[derive(Clone, Copy)]
+pub struct Revision<'a> {
+    key: &'a [u8],
+    value: &'a [u8],
+    name: &'a [u8],
+    ghost decodes: { option_map name_of (revision_in key.now value.now) ≡ Some name.now },
+}
+
+/// What a revision says: its key, and its record.
+#[derive(Clone, Copy, Debug, PartialEq, Eq)]
+pub struct Decoded<'a> {
+    /// Its key.
+    pub key: RevisionKey,
+    /// Its record. Of a deletion it has the name and the revision alone.
+    pub content: Record<'a>,
+}
+
+#[tactic(auto, unfolding(crate::specs::ShownRevisions::shown_revision, crate::specs::Revisions::revision_of))]
+impl<'a> Revision<'a> {
+    ghost use Rattle.bolt_etcd.specs.ShownRevisions.{shown_decoded, shown_revision};
+
+    /// The entry of the bucket `key` as a revision. Returns `None` if it isn't one: if it is a
+    /// bucket, or its key isn't a revision key, or its value isn't a record. Needs no memory.
+    pub fn of(entry: &Entry<'a>) -> Option<Revision<'a>>
+        ensures { Returns shown_revision result (revision_of (shown_entry entry.now)) }
+    {
+        let Item::Value(value) = entry.item else {
+            return None;
+        };
+        let decoded = Decoded::of(entry.key, value)?;
+        Some(Revision {
+            key: entry.key,
+            value,
+            name: decoded.content.name,
+        })
+    }
+
+    /// The name of the key that it is a revision of.
+    pub fn name(&self) -> &'a [u8]
+        ensures { result.now ≡ name_of (shown_revision self.now) }
+    {
+        self.name
+    }
+
+    /// Its key.
+    pub fn key(&self) -> RevisionKey
+        ensures key { result ≡ (shown_revision self.now).key }
+        ensures numbers { IsSpelled result }
+    {
+        RevisionKey::read(self.key).unwrap()
+    }
+
+    /// Its key as it is stored. Revisions are ordered by it.
+    pub(crate) fn place(&self) -> &'a [u8]
+        ensures { result.now ≡ (shown_revision self.now).place }
+    {
+        self.key
+    }
+
+    /// What it says.
+    pub fn decode(&self) -> Decoded<'a>
+        ensures { shown_decoded (shown_revision self.now).place result ≡ shown_revision self.now }
+    {
+        Decoded::of(self.key, self.value).unwrap()
+    }
+}
+
+impl<'a> Decoded<'a> {
+    ghost use Rattle.bolt_etcd.specs.ShownRevisions.{shown_decoded};
+
+    /// Decodes the revision under a key with a value, if it is one.
+    fn of(key: &'a [u8], value: &'a [u8]) -> Option<Decoded<'a>>
+        ensures { Returns (shown_decoded key.now) result (revision_in key.now value.now) }
+    {
+        let key = RevisionKey::read(key)?;
+        let mut content = Record::decode(value)?;
+        if key.deleted {
+            content.forget_value();
+        }
+        Some(Decoded { key, content })
+    }
+}

@@ -1,0 +1,94 @@
+//! The revisions of a bucket, one after another.
+ghost use Rattle.std.specs.Prelude.{◌≡◌, ◌<◌, IfSome, None};
+ghost use Rattle.std.specs.Int.{to_be_bytes, w64};
+ghost use Rattle.std.specs.Option.{option_map};
+ghost use Rattle.bolt_tree.specs.{Buckets.bucket_checked, Buckets.bucket_start, ShownEntries.shown_entry};
+ghost use Rattle.bolt_etcd.specs.{ShownRevisions.shown_revision, Stores.entries_from};
+
+use crate::revision::Revision;
+use bolt_tree::{Bucket, Cursor, Entry};
+
+/// A pass over the revisions of a bucket, in the order of their keys. It keeps nothing of those that
+/// it has returned, and needs no memory.
+#[derive(Drop)]
+pub struct Revisions<'a> {
+    cursor: Cursor<'a>,
+    /// The key to seek, until it was sought.
+    from: Option<[u8; 8]>,
+    others: u64,
+}
+
+#[tactic(auto, unfolding(crate::specs::RevisionsLeft::ahead_of, crate::specs::RevisionsLeft::pass_checked, crate::specs::RevisionsLeft::pass_others, crate::specs::RevisionsLeft::pass_start))]
+impl<'a> Revisions<'a> {
+    ghost use Rattle.bolt_etcd.specs.Passes.{ShowsFirst};
+    ghost use Rattle.bolt_etcd.specs.RevisionsLeft.{CountsOthers, ForPass, GivesFirst, ahead_of, number_ahead, pass_checked, pass_others, pass_start};
+
+    /// All revisions of a bucket.
+    pub fn of(bucket: &Bucket<'a>) -> Revisions<'a>
+        ensures checked { pass_checked result ≡ bucket_checked bucket.now }
+        ensures start { pass_start result ≡ bucket_start bucket.now }
+        ensures all { ForPass result (λ entries. ahead_of result entries ≡ entries) }
+        ensures others { pass_others result ≡ 0 }
+    {
+        Revisions {
+            cursor: bucket.cursor(),
+            from: None,
+            others: 0,
+        }
+    }
+
+    /// The revisions of a bucket from a transaction on: those whose keys aren't below its number in
+    /// eight bytes. The first one is found by a seek, and no other entry is looked at.
+    pub fn from(bucket: &Bucket<'a>, main: u64) -> Revisions<'a>
+        ensures checked { pass_checked result ≡ bucket_checked bucket.now }
+        ensures start { pass_start result ≡ bucket_start bucket.now }
+        ensures rest { ForPass result (λ entries. ahead_of result entries ≡ entries_from (to_be_bytes w64 main) entries) }
+        ensures others { pass_others result ≡ 0 }
+    {
+        Revisions {
+            cursor: bucket.cursor(),
+            from: Some(main.to_be_bytes()),
+            others: 0,
+        }
+    }
+
+    /// Returns the next revision, or `None` if there is none. Entries that aren't revisions are
+    /// passed over and counted.
+    pub fn next(&mut self) -> Option<Revision<'a>>
+        ensures checked { pass_checked self.new ≡ pass_checked self.old }
+        ensures start { pass_start self.new ≡ pass_start self.old }
+        ensures given { ForPass self.old (λ entries. GivesFirst (ahead_of self.old entries) (ahead_of self.new entries) (option_map shown_revision result)) }
+        ensures counts { ForPass self.old (λ entries.
+            CountsOthers (ahead_of self.old entries) (ahead_of self.new entries) (pass_others self.old) (pass_others self.new)) }
+        ensures fewer { IfSome result (λ _. number_ahead self.new < number_ahead self.old) }
+    {
+        'rest: while let Some(entry) = self.advance() {
+            if let Some(revision) = Revision::of(&entry) {
+                return Some(revision);
+            }
+            self.others = self.others.saturating_add(1);
+        }
+        None
+    }
+
+    /// The number of entries that it has passed over since they aren't revisions. It saturates at
+    /// 2^64 - 1.
+    pub fn others(&self) -> u64
+        ensures { result ≡ pass_others self.now }
+    {
+        self.others
+    }
+
+    /// The next entry.
+    pub(crate) fn advance(&mut self) -> Option<Entry<'a>>
+        ensures checked { pass_checked self.new ≡ pass_checked self.old }
+        ensures start { pass_start self.new ≡ pass_start self.old }
+        ensures first { ForPass self.old (λ entries. ShowsFirst (ahead_of self.old entries) (ahead_of self.new entries) (option_map shown_entry result)) }
+        ensures others { pass_others self.new ≡ pass_others self.old }
+    {
+        match self.from.take() {
+            Some(key) => self.cursor.seek(&key),
+            None => self.cursor.next(),
+        }
+    }
+}
