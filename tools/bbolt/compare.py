@@ -78,6 +78,10 @@ class Programs:
         want(self.lone_children(copy) == 0, file, "the copy for bbolt has a branch of one child")
         return copy
 
+    def has_entries(self, file):
+        """Whether bbolt's cursor finds anything. If not, there are no lines to load."""
+        return ended(self.bbolt, "list", file)[1] != b""
+
     def load_for_bbolt(self, file, out):
         """A file for bbolt of the lines that bbolt's cursor prints of another one."""
         text = ended(self.bbolt, "list", file)[1]
@@ -112,7 +116,10 @@ def compare_file(programs, file, folder):
         return
     programs.compare(file)
     out = os.path.join(folder, "copy.db")
-    for copy in programs.copy, programs.copy_for_bbolt, programs.load_for_bbolt:
+    copies = [programs.copy, programs.copy_for_bbolt]
+    if programs.has_entries(file):
+        copies.append(programs.load_for_bbolt)
+    for copy in copies:
         want(programs.is_sound(copy(file, out)), file, "a copy isn't accepted")
         programs.compare(out)
 
