@@ -9,8 +9,7 @@ In each document (.md, and the manual page) these must hold:
 - a file that is named with its folder (docs/.., crates/.., tools/.., examples/.., completions/..)
   exists, and so does a module that is named as specs/.., proofs/.. or src/.. of some crate;
 - a section that is quoted after a document's name, as in docs/SOUND.md, "Ways", is a heading there;
-- a name in code type that only a program has, as `HasShape`, `free_ids` or `Page::leaf`, is in some source, and a word
-  of a table's column `clauses` is in the sources of the crate that the heading above names.
+- a name in code type that only a program has, as `HasShape`, `free_ids` or `Page::leaf`, is in some source.
 
 In other files, sources, each document that is named exists and has the sections that are quoted.
 
@@ -31,7 +30,6 @@ DOCUMENT = re.compile(r"docs/\w+\.(?:md|1)\b")
 QUOTED = re.compile(r"(docs/\w+\.md)\)?,? \(?\"([^\"]+)\"(?: and \"([^\"]+)\")?")
 CODE = re.compile(r"`([^`\n]+)`")
 PROGRAM_NAME = re.compile(r"(?:\w+::)?(?:[A-Z][a-z]+(?:[A-Z][a-z]*)+|[a-z]+(?:_[a-z]+)+)(?:::\w+)?|[A-Z]\w+::\w+")
-HEADING_WITH_CRATES = re.compile(r"#+ .*\((`\w+`(?:, `\w+`)*)\)")
 SOURCES = ("crates/*/src/*.rt", "crates/*/specs/**/*.antt", "crates/*/proofs/**/*.antt", "tests/*.py", "tools/*/*.py", "tools/*/*.c")
 # The mark of a comment that goes on in the next line.
 MARK = re.compile(r"\n[ \t]*(?:///|//!|//|--|#)?[ \t]*")
@@ -85,21 +83,6 @@ def names(prose):
             yield f"`{name}`", is_in_sources(name)
 
 
-def clauses(prose):
-    """The words in the columns of clauses, each with whether it is in the crates of the heading."""
-    crates, in_table = [], False
-    for line in prose.split("\n"):
-        heading = HEADING_WITH_CRATES.match(line)
-        if line.startswith("#"):
-            crates = re.findall(r"\w+", heading[1]) if heading else []
-        cells = line.split(" | ")
-        in_table = line.startswith("|") and (in_table or cells[-1] == "clauses |")
-        named = re.findall(r"`(bolt_\w+)`", line)
-        for word in re.findall(r"`(\w+)`", cells[-1]) if in_table and crates else ():
-            patterns = [f"crates/{crate}/{kind}" for crate in crates + named for kind in ("src/*.rt", "specs/**/*.antt")]
-            yield f"`{word}`", any(word in words_of(pattern) for pattern in patterns)
-
-
 def is_module(name):
     return bool(glob.glob(f"crates/*/{name}") + glob.glob(f"crates/*/{name}.antt"))
 
@@ -135,7 +118,6 @@ def references(document):
         yield name, is_module(name)
     yield from sections(prose)
     yield from names(prose)
-    yield from clauses(prose)
 
 
 def check(name):
