@@ -43,8 +43,8 @@ PROGRAMS = $(wildcard $(patsubst %,crates/bolt_%/README.md,bulk check commands f
 programs:
 	python3 -B tools/usage/run_programs.py $(PROGRAMS)
 
-# Compares the manual page and the completions with help. What documents and sources refer to must exist.
-manual: $(PROGRAM)
+# Makes the manual page, and compares the completions with help. What documents and sources refer to must exist.
+manual: $(PROGRAM) out/luntsegi.1
 	tools/try/manual.sh $(PROGRAM)
 
 # Makes files and streams fail, and each read, write and sync in turn, under every command.
@@ -153,9 +153,14 @@ ZSH_COMPLETIONS ?= $(PREFIX)/share/zsh/site-functions
 # And that of fish.
 FISH_COMPLETIONS ?= $(PREFIX)/share/fish/vendor_completions.d
 
-install: $(PROGRAM)
+# The manual page, made of help and docs/COMMANDS.md. It has the date of the last commit.
+out/luntsegi.1: docs/COMMANDS.md tools/usage/manual.py $(PROGRAM)
+	mkdir -p $(@D)
+	python3 -B tools/usage/manual.py $(PROGRAM) $< "$$(git log -1 --format=%cs)" > $@
+
+install: $(PROGRAM) out/luntsegi.1
 	install -D -m 755 $(PROGRAM) $(DESTDIR)$(PREFIX)/bin/luntsegi
-	install -D -m 644 docs/luntsegi.1 $(DESTDIR)$(PREFIX)/share/man/man1/luntsegi.1
+	install -D -m 644 out/luntsegi.1 $(DESTDIR)$(PREFIX)/share/man/man1/luntsegi.1
 	install -D -m 644 completions/luntsegi.bash $(DESTDIR)$(PREFIX)/share/bash-completion/completions/luntsegi
 	install -D -m 644 completions/_luntsegi $(DESTDIR)$(ZSH_COMPLETIONS)/_luntsegi
 	install -D -m 644 completions/luntsegi.fish $(DESTDIR)$(FISH_COMPLETIONS)/luntsegi.fish

@@ -26,7 +26,7 @@ status=0
 for package in $(missing); do
 	case $package in
 	python3 | gcc) echo "set-up: $package is missing: the gate can't run" && status=1 ;;
-	mandoc) echo "set-up: mandoc is missing: the manual page is compared with help, but not linted" ;;
+	mandoc) echo "set-up: mandoc is missing: the manual page isn't linted" ;;
 	zsh | fish) echo "set-up: $package is missing: its completions are not tried" ;;
 	valgrind) echo "set-up: valgrind is missing: no instructions are counted" ;;
 	golang-*) echo "set-up: $package is missing: nothing is compared with bbolt" ;;

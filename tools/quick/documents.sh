@@ -11,5 +11,5 @@ for found in examples/*.list; do
 	[ "$found" = examples/leaked.list ] || "$program" list "${found%.list}.db" | cmp - "$found"
 done
 python3 -B tools/usage/words.py --check "$program"
-python3 -B tools/usage/check_links.py README.md docs/*.md crates/*/README.md docs/luntsegi.1
-python3 -B tools/usage/run_examples.py "$program" README.md docs/GUIDE.md docs/COMMANDS.md docs/luntsegi.1
+python3 -B tools/usage/check_links.py README.md docs/*.md crates/*/README.md
+python3 -B tools/usage/run_examples.py "$program" README.md docs/GUIDE.md docs/COMMANDS.md

@@ -1,5 +1,5 @@
 #!/usr/bin/env python3
-"""Tries the program without its proofs, for `make quick`: command lines, documents, the manual page and random files.
+"""Tries the program without its proofs, for `make quick`: command lines, documents and random files.
 
     quick.py FOLDER
 

@@ -46,4 +46,4 @@ status=0
 
 tools/bbolt/build.sh
 python3 -B tools/lost/try_lost_pages.py "$program" $(ls examples/*.buckets | sed 's/\.buckets$/.db/')
-python3 -B tools/usage/run_examples.py "$program" README.md docs/GUIDE.md docs/COMMANDS.md docs/luntsegi.1
+python3 -B tools/usage/run_examples.py "$program" README.md docs/GUIDE.md docs/COMMANDS.md

@@ -1,17 +1,17 @@
 #!/bin/sh
-# Compares the manual page, the synopses, and what bash, zsh and fish complete, with help, for `make manual`.
+# Compares the synopses, and what bash, zsh and fish complete, with help, for `make manual`.
 #
 #     manual.sh PROGRAM
 #
-# If mandoc is installed, it must find nothing in the page. What documents and sources refer to must exist; a document
+# If mandoc is installed, it must find nothing in the manual page. What documents and sources refer to must exist; a document
 # of broken links shows that such links are found.
 set -eux
 program=$1
-if command -v mandoc >/dev/null; then mandoc -Tlint docs/luntsegi.1; fi
+if command -v mandoc >/dev/null; then mandoc -Tlint -Wwarning out/luntsegi.1; fi
 python3 -B tools/usage/words.py --check "$program"
 python3 -B tools/usage/compare_completions.py "$program"
 set +x
 echo "check_links.py on all documents, and on the sources that refer to them" >&2
-python3 -B tools/usage/check_links.py README.md docs/*.md crates/*/README.md docs/luntsegi.1 \
+python3 -B tools/usage/check_links.py README.md docs/*.md crates/*/README.md \
 	Makefile tools/*/*.sh crates/*/src/*.rt crates/*/specs/*.antt crates/*/specs/*/*.antt crates/*/proofs/*.antt
 python3 -B tools/usage/check_links.py tools/usage/broken_links.md | cmp - tools/usage/broken_links.found

@@ -3,7 +3,7 @@
 
     check_links.py FILE..
 
-In each document (.md, and the manual page) these must hold:
+In each document (.md) these must hold:
 
 - a relative link leads to a file, and its anchor to a heading of that file;
 - a file that is named with its folder (docs/.., crates/.., tools/.., examples/.., completions/..)
@@ -26,7 +26,7 @@ from functools import cache
 LINK = re.compile(r"\[[^\]]*\]\(([^)\s]+)\)")
 NAMED = re.compile(r"(?<![\w/.(-])((?:docs|crates|tools|examples|completions)/[\w./*-]*[\w*])")
 MODULE = re.compile(r"(?<![\w/])((?:specs|proofs)/[A-Z][\w/]*|src/\w+\.rt)")
-DOCUMENT = re.compile(r"docs/\w+\.(?:md|1)\b")
+DOCUMENT = re.compile(r"docs/\w+\.md\b")
 QUOTED = re.compile(r"(docs/\w+\.md)\)?,? \(?\"([^\"]+)\"(?: and \"([^\"]+)\")?")
 CODE = re.compile(r"`([^`\n]+)`")
 PROGRAM_NAME = re.compile(r"(?:\w+::)?(?:[A-Z][a-z]+(?:[A-Z][a-z]*)+|[a-z]+(?:_[a-z]+)+)(?:::\w+)?|[A-Z]\w+::\w+")
@@ -122,7 +122,7 @@ def references(document):
 
 def check(name):
     """Checks one file: everything that it refers to exists, and a document refers to something."""
-    is_document = name.endswith((".md", ".1"))
+    is_document = name.endswith(".md")
     found = list(references(name) if is_document else references_of_source(text_of(name)))
     broken = [what for what, is_there in found if not is_there]
     for what in broken:

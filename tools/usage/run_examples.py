@@ -3,8 +3,7 @@
 
     run_examples.py PROGRAM DOCUMENT..
 
-In a document an example is a block that is indented by four spaces or, on a manual page, literal.
-Each line of it that begins with `$ ` is a command, and the lines below it are all that it prints,
+In a document an example is a block that is indented by four spaces. Each line of it that begins with `$ ` is a command, and the lines below it are all that it prints,
 on both streams. The commands are run by bash in order in the current folder, where `luntsegi` is PROGRAM
 and `bbolt` is out/bbolt; if that isn't built, the commands that begin with `bbolt` are left out. Files
 that they write go to out/examples, which the commands of a document make anew: so they can be run again,
@@ -23,8 +22,7 @@ BBOLT = "out/bbolt"
 
 def blocks(text):
     """The examples of a document, without their indent."""
-    indented = [re.sub(r"(?m)^ {4}", "", block) for block in re.findall(r"(?m)(?:^ {4}.*\n)+", text)]
-    return indented + re.findall(r"(?ms)^\.Bd -literal.*?\n(.*?)^\.Ed", text)
+    return [re.sub(r"(?m)^ {4}", "", block) for block in re.findall(r"(?m)(?:^ {4}.*\n)+", text)]
 
 
 def commands(text):

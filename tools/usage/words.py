@@ -1,12 +1,11 @@
 #!/usr/bin/env python3
-"""Makes what repeats the help of `luntsegi`: the completions of bash, zsh and fish, and the synopses of the manual page
-and of docs/COMMANDS.md.
+"""Makes what repeats the help of `luntsegi`: the completions of bash, zsh and fish, and the synopses of
+docs/COMMANDS.md.
 
     words.py --write|--check PROGRAM
 
 Run it at the top of the sources. With --write it writes those parts of the files. With --check it writes nothing: it
-prints how they differ from what it would write, and the status is 1 then. The lists of commands and of options on the
-manual page are written by hand: in both cases each command and each option must be in them.
+prints how they differ from what it would write, and the status is 1 then.
 """
 
 import difflib
@@ -18,14 +17,12 @@ import help_words
 import shells
 import synopses
 
-MANUAL = "docs/luntsegi.1"
 MADE = r"(?ms)^(# ---- made from help by tools/usage/words\.py\n).*?^(# ---- end\n)"
 # What is made: the file, the pattern of that part of it with what is before and after it, and the maker.
 PARTS = [
     ("completions/luntsegi.bash", MADE, shells.bash),
     ("completions/_luntsegi", MADE, shells.zsh),
     ("completions/luntsegi.fish", MADE, shells.fish),
-    (MANUAL, r"(?ms)^(\.Sh SYNOPSIS\n).*?^(\.Sh )", synopses.manual),
     ("docs/COMMANDS.md", r"(?m)()(?:^    luntsegi .*\n)+()", synopses.plain),
 ]
 
@@ -64,11 +61,8 @@ def main():
         if text != wanted:
             different.append(name)
             action(name, text, wanted)
-    lacking = list(synopses.undescribed(program, text_of(MANUAL)))
-    for line in lacking:
-        print(f"{MANUAL}: {line}")
     print(f"words.py: {len(PARTS)} parts are made from help, {len(different)} differed")
-    sys.exit(bool(lacking) or (bool(different) and action is check))
+    sys.exit(bool(different) and action is check)
 
 
 main()

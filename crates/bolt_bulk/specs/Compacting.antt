@@ -1,4 +1,4 @@
--- What `plan` and `compact` return: docs/LAYOUT.md, "The calls". `CopiesEach` is all that a copy promises.
+-- What `plan` and `compact` return: docs/LAYOUT.md, "What holds of both layouts". `CopiesEach` is all that a copy promises.
 -- The layout is that of the listing of the file, at the page size asked for, with the sequence of the file's root bucket.
 use Rattle.std.specs.Prelude.{◌≡◌, ◌<◌, ◌≤◌, ◌^◌, ℕ, List, length, Option, Result, IfErr, IfOk, IsErr, OnErr, OnOk}
 use Rattle.std.specs.Io.KnownBytes.{Appends, Keeps}
