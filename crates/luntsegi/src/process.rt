@@ -14,7 +14,7 @@ const COPIED: usize = 1 << 20;
 /// The bits of a file's mode that say who may read, write and execute it.
 const PERMISSIONS: u32 = 0o777;
 
-/// The files and the streams of the process. It tells nothing of its deeds.
+/// The files and the streams of the process. It keeps no record of what it did.
 #[derive(Drop)]
 pub struct Process<'a> {
     pub rt: &'a HostRuntime,
