@@ -1,9 +1,9 @@
--- What a path holds, and what is at ways: each element at a way is held under its path and, if all ways are kept, nothing else is held.
+-- What a path holds, and what is at ways: a path holds each element at a way under it and, if all ways are kept, nothing else.
 use Rattle.std.proofs.Common.{◌≡◌, ◌∙◌, inl, inr, ℕ, suc, Bool, false, eqb, List, [], ◌∷◌, ◌++◌, Option, Some, None, Result, slice_get, refl, sym, ap, subst}
-use Rattle.bolt_recover.proofs.Words.{At_inline, At_page, cases_Bool, child_at, child_in, child_of, Contains, contains_at, contains_none, count_field, Entry, flags_field, follow_places, from_page, head_root, Holds, Inline_page, IsEntry, IsRecoveredMember, Item, Kind, kind_of, leads, LeafElement, leaves_of, Meta, Names, next_place, Node, node_at, Nodes, page_at, page_fault, page_overflow, PageSpot, PageView, Path, Place, place_at, Root_page, root_place, same_Some, shown_as, ShowsEntry, span_bytes, Spot, Start, start_of, step_place, Visit}
+use Rattle.bolt_recover.proofs.Words.{At_inline, At_page, cases_Bool, child_at, child_in, child_of, Contains, contains_at, contains_none, count_field, Entry, flags_field, follow_sites, from_page, head_root, Holds, Inline_page, IsEntry, IsRecoveredMember, Item, Kind, kind_of, leads, LeafElement, leaves_of, Meta, Names, next_site, Node, node_at, Nodes, page_at, page_fault, page_overflow, PageSpot, PageView, Path, Site, site_at, Root_page, root_site, same_Some, shown_as, ShowsEntry, span_bytes, Spot, Start, start_of, step_site, SurveyedWay}
 use Rattle.bolt_tree.proofs.Named.{held_here, names_push}
 use Rattle.bolt_format.specs.declared.header.Kind.TheVariants as kind
-use Rattle.bolt_recover.proofs.PlaceSteps.{IsTidy, IsTidyAt, bucket_place, child_place, leads_from, tidy_root, tidy_step}
+use Rattle.bolt_recover.proofs.SiteSteps.{IsTidy, IsTidyAt, bucket_site, child_site, leads_from, tidy_root, tidy_step}
 
 -- a page with leaf elements is a leaf that shows them
 by_kind : (fault : Option ℕ) (k : Option Kind) (count overflow : ℕ) (bytes : List ℕ) (e : LeafElement) → Contains (leaves_of (shown_as fault k count overflow bytes)) e
@@ -41,22 +41,22 @@ module _ (file : List ℕ) (meta : Meta) where
   entry_at (Inline_page own) (At_page s) elements e of tidy has = absurd of
   entry_at (Inline_page own) (At_inline host keys) elements e of tidy has = subst (λ (xs : List LeafElement). Contains xs e) (sym of) has
 
-  -- a place lies in the bucket that its path names
-  abbrev IsNamed : Place → Type 0
+  -- a site lies in the bucket that its path names
+  abbrev IsNamed : Site → Type 0
   IsNamed p = (from : Start) × Names (IsEntry file meta) (Root_page meta.root) p.path from × OfStart from p.spot p.elements
 
   -- a bucket on a leaf
-  bucket_named : (path : Path) (s : PageSpot) (e : LeafElement) → Names (IsEntry file meta) (Root_page meta.root) (path ++ e.key ∷ []) (start_of e.value) → IsNamed (bucket_place file meta path s e)
+  bucket_named : (path : Path) (s : PageSpot) (e : LeafElement) → Names (IsEntry file meta) (Root_page meta.root) (path ++ e.key ∷ []) (start_of e.value) → IsNamed (bucket_site file meta path s e)
   bucket_named path s e names = (start_of e.value, names, elim (cases_Bool (eqb (head_root e.value) 0)) [ inl zero ↦ rw zero refl | inr more ↦ rw more ([], refl) ])
 
   -- a child of a branch
   child_named : (from : Start) (path : Path) (s : PageSpot) (elements : List LeafElement) (x : Entry) (next : Option Entry) (i : ℕ) → Names (IsEntry file meta) (Root_page meta.root) path from
-      → OfStart from (At_page s) elements → child_in (nodes s.number) i ≡ Some x.child → IsNamed (child_place file meta path s x next)
+      → OfStart from (At_page s) elements → child_in (nodes s.number) i ≡ Some x.child → IsNamed (child_site file meta path s x next)
   child_named (Inline_page own) path s elements x next i names of child = absurd of
   child_named (Root_page r) path s elements x next i names (address, lead) child =
       (Root_page r, names, (address ++ i ∷ [], leads_further nodes (Some r) address i ∙ ap (λ (o : Option ℕ). child_at nodes o i) lead ∙ child))
 
-  named_step : (from : Start) (p t : Place) (i : ℕ) → Names (IsEntry file meta) (Root_page meta.root) p.path from → OfStart from p.spot p.elements → IsTidy file meta p → step_place file meta p i ≡ Some t → IsNamed t
+  named_step : (from : Start) (p t : Site) (i : ℕ) → Names (IsEntry file meta) (Root_page meta.root) p.path from → OfStart from p.spot p.elements → IsTidy file meta p → step_site file meta p i ≡ Some t → IsNamed t
   named_step from p t i names of tidy is =
       let on = leads_from file meta p t i tidy is in
       elim on.form [
@@ -70,25 +70,25 @@ module _ (file : List ℕ) (meta : Meta) where
             (ap (λ (r : Result Node ℕ). child_in r i) on.page ∙ ap (λ (b : Bool). child_of b (slice_get on.node.entries i)) branch.branch ∙ ap (child_of false) get))
       ]
 
-  abbrev pub IsWell : Place → Type 0
+  abbrev pub IsWell : Site → Type 0
   IsWell p = IsNamed p × IsTidy file meta p
 
-  well_next : (here : Option Place) (i : ℕ) (t : Place) → ((q : Place) → here ≡ Some q → IsWell q) → next_place file meta here i ≡ Some t → IsWell t
+  well_next : (here : Option Site) (i : ℕ) (t : Site) → ((q : Site) → here ≡ Some q → IsWell q) → next_site file meta here i ≡ Some t → IsWell t
   well_next None i t well is = absurd (cc)
   well_next (Some q) i t well is =
       let ((from, names, of), tidy) = well q refl in (named_step from q t i names of tidy is, tidy_step file meta q t i tidy is)
 
-  well_follow : (here : Option Place) (way : List ℕ) (p : Place) → ((q : Place) → here ≡ Some q → IsWell q) → follow_places file meta here way ≡ Some p → IsWell p
+  well_follow : (here : Option Site) (way : List ℕ) (p : Site) → ((q : Site) → here ≡ Some q → IsWell q) → follow_sites file meta here way ≡ Some p → IsWell p
   well_follow here [] p well is = well p is
-  well_follow here (i ∷ way) p well is = well_follow (next_place file meta here i) way p (λ t next. well_next here i t well next) is
+  well_follow here (i ∷ way) p well is = well_follow (next_site file meta here i) way p (λ t next. well_next here i t well next) is
 
-  pub well_at : (way : List ℕ) (p : Place) → place_at file meta way ≡ Some p → IsWell p
+  pub well_at : (way : List ℕ) (p : Site) → site_at file meta way ≡ Some p → IsWell p
   well_at way p is =
-      well_follow (Some (root_place file meta)) way p (λ q here. subst IsWell (same_Some (root_place file meta) q here) ((Root_page meta.root, refl, ([], refl)), tidy_root file meta)) is
+      well_follow (Some (root_site file meta)) way p (λ q here. subst IsWell (same_Some (root_site file meta) q here) ((Root_page meta.root, refl, ([], refl)), tidy_root file meta)) is
 
-  -- each recovered member is held
-  pub held : (survey : List Visit) (path : Path) (item : Item) → IsRecoveredMember file meta survey path item → Holds (IsEntry file meta) (Root_page meta.root) path item
-  held survey path item is =
-      let ((from, names, of), tidy) = well_at is.way is.place is.leads in
-      let here = held_here (IsEntry file meta) (Root_page meta.root) is.place.path from is.element names (entry_at from is.place.spot is.place.elements is.element of tidy is.has) in
-      subst (λ (m : Path). Holds (IsEntry file meta) (Root_page meta.root) m item) (sym is.named) (subst (λ (x : Item). Holds (IsEntry file meta) (Root_page meta.root) (is.place.path ++ is.element.key ∷ []) x) (sym is.is) here)
+  -- a path holds each recovered member
+  pub path_holds : (survey : List SurveyedWay) (path : Path) (item : Item) → IsRecoveredMember file meta survey path item → Holds (IsEntry file meta) (Root_page meta.root) path item
+  path_holds survey path item is =
+      let ((from, names, of), tidy) = well_at is.way is.site is.leads in
+      let here = held_here (IsEntry file meta) (Root_page meta.root) is.site.path from is.element names (entry_at from is.site.spot is.site.elements is.element of tidy is.has) in
+      subst (λ (m : Path). Holds (IsEntry file meta) (Root_page meta.root) m item) (sym is.named) (subst (λ (x : Item). Holds (IsEntry file meta) (Root_page meta.root) (is.site.path ++ is.element.key ∷ []) x) (sym is.is) here)

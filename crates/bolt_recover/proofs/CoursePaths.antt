@@ -1,16 +1,16 @@
--- A run returns its members in the order of their paths: the tasks lead to separate sets of paths, each before the next.
+-- A course returns its members in the order of their paths: the tasks lead to separate sets of paths, each before the next.
 use Rattle.std.proofs.Common.{◌≡◌, ◌∙◌, ◌<◌, inl, inr, ℕ, suc, Bool, true, false, List, [], ◌∷◌, ◌++◌, Option, Some, None, slice_get, refl, sym, ap, subst, arith, append_assoc}
-use Rattle.bolt_recover.proofs.Words.{before_longer, below_less, cases_lt, cases_order, Contains, contains_cases, contains_none, done, Each, Finding, from_more, get_before, give, Gives, has_split, is_below, is_from, is_lt, item_of, Key, key_cmp, key_lt, key_same, LeafElement, Less, less_of, lower_of, lt_not_trans, lt_trans, Member, member_cmp, Meta, node_at, none-some, not_true, Path, path_cmp, Place, place_tasks, Rises, rises_append, RisesBy, root_place, Runs, RunsAll, same_front, same_Some, step_place, Task, tasks_after, To_give, To_visit, upper_of, visit, Visited}
-use Rattle.bolt_recover.proofs.{TaskLists.IsAt, TaskLists.after_at, TaskLists.after_rises, PlaceKeys.IsChild, PlaceKeys.Keyed, PlaceKeys.keyed}
-use Rattle.bolt_recover.proofs.PlaceSteps.{IsTidy, tidy_root, tidy_step}
+use Rattle.bolt_recover.proofs.Words.{before_longer, below_less, cases_lt, cases_order, Contains, contains_cases, contains_none, done, Each, Finding, from_more, get_before, give, Gives, has_split, is_below, is_from, is_lt, item_of, Key, key_cmp, key_lt, key_same, LeafElement, Less, less_of, lower_of, lt_not_trans, lt_trans, Member, member_cmp, Meta, node_at, none-some, not_true, Path, path_cmp, Site, site_tasks, Rises, rises_append, RisesBy, root_site, Course, WholeCourse, same_front, same_Some, step_site, Task, tasks_after, To_give, To_visit, upper_of, visit, Visited}
+use Rattle.bolt_recover.proofs.{TaskLists.IsAt, TaskLists.after_at, TaskLists.after_rises, SiteKeys.IsChild, SiteKeys.Keyed, SiteKeys.keyed}
+use Rattle.bolt_recover.proofs.SiteSteps.{IsTidy, tidy_root, tidy_step}
 use Rattle.bolt_tree.proofs.ListLemmas.{Has as Among}
 
--- a path that a place may lead to
-abbrev InVisit : Place → Path → Type 0
+-- a path that a site may lead to
+abbrev InVisit : Site → Path → Type 0
 InVisit p a = (key : Key) × (rest : Path) × (a ≡ p.path ++ key ∷ rest) × (is_from (lower_of p.spot) key ≡ true) × (is_below (upper_of p.spot) key ≡ true)
 
--- a path that entry i of a place may lead to
-record InEntry (p : Place) (keys : List Key) (i : ℕ) (a : Path) : Type 0 where
+-- a path that entry i of a site may lead to
+record InEntry (p : Site) (keys : List Key) (i : ℕ) (a : Path) : Type 0 where
   key : Key
   rest : Path
   own : Key
@@ -21,7 +21,7 @@ record InEntry (p : Place) (keys : List Key) (i : ℕ) (a : Path) : Type 0 where
   from_lower : is_from (lower_of p.spot) key ≡ true
   below_upper : is_below (upper_of p.spot) key ≡ true
 
-module _ (file : List ℕ) (meta : Meta) (p : Place) (keys : List Key) (known : Keyed file meta p keys) where
+module _ (file : List ℕ) (meta : Meta) (p : Site) (keys : List Key) (known : Keyed file meta p keys) where
   -- an element, and what it leads to in a leaf
   inside_entry : (i : ℕ) (e : LeafElement) (rest a : Path) → slice_get p.elements i ≡ Some e → a ≡ p.path ++ e.key ∷ rest → InEntry p keys i a
   inside_entry i e rest a at is =
@@ -46,7 +46,7 @@ module _ (file : List ℕ) (meta : Meta) (p : Place) (keys : List Key) (known : 
       ]
 
   -- what a child of a branch leads to
-  child_entry : (t : Place) (i : ℕ) (a : Path) → IsChild p t i keys → InVisit t a → InEntry p keys i a
+  child_entry : (t : Site) (i : ℕ) (a : Path) → IsChild p t i keys → InVisit t a → InEntry p keys i a
   child_entry t i a child (key, rest, is, low, high) = record {
     key = key;
     rest = rest;
@@ -78,7 +78,7 @@ module _ (file : List ℕ) (meta : Meta) (p : Place) (keys : List Key) (known : 
       below_upper (Some k) next = below_less (upper_of p.spot) k key (known.each (suc i) k next).1 (less k next)
 
   -- where an entry leads
-  visit_entry : (t : Place) (i : ℕ) (a : Path) → step_place file meta p i ≡ Some t → InVisit t a → InEntry p keys i a
+  visit_entry : (t : Site) (i : ℕ) (a : Path) → step_site file meta p i ≡ Some t → InVisit t a → InEntry p keys i a
   visit_entry t i a is inside =
       elim (known.kids i t is) [
         | inl (e, at, path, bucket) ↦
@@ -101,11 +101,11 @@ module _ (file : List ℕ) (meta : Meta) {W : Type 0} (further : W → ℕ → W
   IsTidyTask (To_give q e) = Unit {0}
   IsTidyTask (To_visit w p) = IsTidy file meta p
 
-  tidy_at : (w : W) (p : Place) (i : ℕ) (task : Task W) → IsTidy file meta p → IsAt file meta further w p i task → IsTidyTask task
+  tidy_at : (w : W) (p : Site) (i : ℕ) (task : Task W) → IsTidy file meta p → IsAt file meta further w p i task → IsTidyTask task
   tidy_at w p i (To_give path e) tidy at = tt
   tidy_at w p i (To_visit v t) tidy (is, next) = tidy_step file meta p t i tidy next
 
-  pub tidy_after : (w : W) (p : Place) (found : Option Finding) (tasks : List (Task W)) → Each IsTidyTask (To_visit w p ∷ tasks) → Each IsTidyTask (tasks_after file meta further w p found ++ tasks)
+  pub tidy_after : (w : W) (p : Site) (found : Option Finding) (tasks : List (Task W)) → Each IsTidyTask (To_visit w p ∷ tasks) → Each IsTidyTask (tasks_after file meta further w p found ++ tasks)
   tidy_after w p found tasks tidy task h =
       elim (has_split (tasks_after file meta further w p found) tasks task h) [
         | inl child ↦ let (none, i, at) = after_at file meta further w p found task child in tidy_at w p i task (tidy (To_visit w p) (inl refl)) at
@@ -120,13 +120,13 @@ module _ (file : List ℕ) (meta : Meta) {W : Type 0} (further : W → ℕ → W
   abbrev Apart : Task W → Task W → Type 0
   Apart a b = (x y : Path) → InTask a x → InTask b y → path_cmp x y ≡ Less
 
-  module _ (w : W) (p : Place) (keys : List Key) (known : Keyed file meta p keys) where
+  module _ (w : W) (p : Site) (keys : List Key) (known : Keyed file meta p keys) where
     in_task : (i : ℕ) (task : Task W) (a : Path) → IsAt file meta further w p i task → InTask task a → InEntry p keys i a
     in_task i (To_give q e) a (get, named) same = inside_entry file meta p keys known i e [] a get (same ∙ named)
     in_task i (To_visit v t) a (is, next) inside = visit_entry file meta p keys known t i a next inside
 
     -- an element comes before what it leads to
-    before_inside : (i : ℕ) (path : Path) (e : LeafElement) (v : W) (t : Place) → IsAt file meta further w p i (To_give path e) → IsAt file meta further w p i (To_visit v t) → Apart (To_give path e) (To_visit v t)
+    before_inside : (i : ℕ) (path : Path) (e : LeafElement) (v : W) (t : Site) → IsAt file meta further w p i (To_give path e) → IsAt file meta further w p i (To_visit v t) → Apart (To_give path e) (To_visit v t)
     before_inside i path e v t (get, named) (is, next) x y same (key, rest, long, low, high) =
         elim (known.kids i t next) [
           | inl (other, at, deep, bucket) ↦
@@ -136,12 +136,12 @@ module _ (file : List ℕ) (meta : Meta) {W : Type 0} (further : W → ℕ → W
           | inr child ↦ absurd (none-some e (sym child.none ∙ get))
         ]
 
-    kept_apart : RisesBy Apart (place_tasks file meta further w p)
+    kept_apart : RisesBy Apart (site_tasks file meta further w p)
     kept_apart =
         after_rises file meta further w p Apart before_inside
         (λ i j a b lt at_a at_b x y in_a in_b. entries_apart file meta p keys known i j x y lt (in_task i a x at_a in_a) (in_task j b y at_b in_b)) None
 
-  visit_apart : (w : W) (p : Place) (found : Option Finding) (before : ℕ → Type 0) → IsTidy file meta p → Gives (node_at file meta) before p.spot found
+  visit_apart : (w : W) (p : Site) (found : Option Finding) (before : ℕ → Type 0) → IsTidy file meta p → Gives (node_at file meta) before p.spot found
       → RisesBy Apart (tasks_after file meta further w p found) × ((task : Task W) (a : Path) → Among (tasks_after file meta further w p found) task → InTask task a → InVisit p a)
   visit_apart w p None before tidy passes =
       let (keys, known) = keyed file meta before p tidy passes in (
@@ -150,21 +150,21 @@ module _ (file : List ℕ) (meta : Meta) {W : Type 0} (further : W → ℕ → W
       )
   visit_apart w p (Some x) before tidy gives = (tt, λ task a h inside. absurd h)
 
-  sorted_run : (claimed : ℕ → Bool) (tasks : List (Task W)) (visits : List (Visited W)) (members : List Member) → Runs file meta further claimed tasks visits members → Each IsTidyTask tasks
+  sorted_course : (claimed : ℕ → Bool) (tasks : List (Task W)) (visits : List (Visited W)) (members : List Member) → Course file meta further claimed tasks visits members → Each IsTidyTask tasks
       → RisesBy Apart tasks → Rises member_cmp members × ((m : Member) → Contains members m → (task : Task W) × Among tasks task × InTask task m.0)
-  sorted_run claimed tasks visits members done tidy sorted = (tt, λ m has. absurd (contains_none m has))
-  sorted_run claimed tasks visits members (give {path = path} {e = e} {tasks = more} {members = rest} run) tidy sorted =
-      let later = sorted_run claimed more visits rest run (λ task h. tidy task (inr h)) sorted.1 in (
+  sorted_course claimed tasks visits members done tidy sorted = (tt, λ m has. absurd (contains_none m has))
+  sorted_course claimed tasks visits members (give {path = path} {e = e} {tasks = more} {members = rest} course) tidy sorted =
+      let later = sorted_course claimed more visits rest course (λ task h. tidy task (inr h)) sorted.1 in (
         (λ m has. let (task, there, inside) = later.1 m has in sorted.0 task there path m.0 refl inside, later.0),
         λ m has. elim (contains_cases (path, item_of e) m rest has) [
           | inl same ↦ (To_give path e, inl refl, ap (λ (n : Member). n.0) (sym same))
           | inr inside ↦ let (task, there, is) = later.1 m inside in (task, inr there, is)
         ],
       )
-  sorted_run claimed tasks visits members (visit {way = w} {p = p} {found = found} {tasks = more} {visits = rest} gives run) tidy sorted =
+  sorted_course claimed tasks visits members (visit {way = w} {p = p} {found = found} {tasks = more} {visits = rest} gives course) tidy sorted =
       let (own, within) = visit_apart w p found (λ n. claimed n ≡ true) (tidy (To_visit w p) (inl refl)) gives in
       let first = tasks_after file meta further w p found in
-      let later = sorted_run _ (first ++ more) rest members run (tidy_after w p found more tidy)
+      let later = sorted_course _ (first ++ more) rest members course (tidy_after w p found more tidy)
       (rises_append Apart first more own sorted.1 (λ a b child there x y in_a in_b. sorted.0 b there x y (within a x child in_a) in_b)) in (
         later.0,
         λ m has. let (task, inside, is) = later.1 m has in elim (has_split first more task inside) [
@@ -173,8 +173,8 @@ module _ (file : List ℕ) (meta : Meta) {W : Type 0} (further : W → ℕ → W
         ],
       )
 
-  pub root_tidy : (way : W) → Each IsTidyTask (To_visit way (root_place file meta) ∷ [])
+  pub root_tidy : (way : W) → Each IsTidyTask (To_visit way (root_site file meta) ∷ [])
   root_tidy way task h = elim h [ inl same ↦ subst IsTidyTask same (tidy_root file meta) | inr none ↦ absurd none ]
 
-  pub members_rise : (way : W) (visits : List (Visited W)) (members : List Member) → RunsAll file meta further way visits members → Rises member_cmp members
-  members_rise way visits members run = (sorted_run _ (To_visit way (root_place file meta) ∷ []) visits members run (root_tidy way) (λ b h. absurd h, tt)).0
+  pub members_rise : (way : W) (visits : List (Visited W)) (members : List Member) → WholeCourse file meta further way visits members → Rises member_cmp members
+  members_rise way visits members course = (sorted_course _ (To_visit way (root_site file meta) ∷ []) visits members course (root_tidy way) (λ b h. absurd h, tt)).0

@@ -1,8 +1,8 @@
 use Rattle.std.proofs.Common.{◌≡◌, ◌∙◌, ◌⊎◌, ◌↔◌, ◌<◌, ◌+◌, ◌-◌, ◌++◌, ◌∷◌, inl, ℕ, true, List, [], ap, arith, subst, sym}
 use Rattle.bolt_recover.proofs.Words.{All, All-push, false≢true, Found, FoundBelow, is_listed, is_taken, IsFoundPage, IsFoundView, leftovers_file, leftovers_length, leftovers_meta, map-append, numbers_of}
 use Rattle.bolt_recover.proofs.FoundLemmas.{found_next, found_not, found_up, not_true, taken_more, view_of}
-use Rattle.bolt_recover.proofs.lost_and_found.find_leaves.Goals as goal
-use Rattle.bolt_recover.proofs.lost_and_found.find_leaves.Goals.{in-Some, in_default}
+use Rattle.bolt_recover.proofs.found_leaves.find_leaves.Goals as goal
+use Rattle.bolt_recover.proofs.found_leaves.find_leaves.Goals.{in-Some, in_default}
 
 pub loop-number-preserved : goal.loop-number-preserved
 loop-number-preserved c =

@@ -3,7 +3,7 @@ use Rattle.std.specs.Prelude.{◌≡◌, ℕ, zero, suc, ◌+◌, Bool, true, fa
 use Rattle.bolt_format.specs.{Elements.LeafElement, declared.meta.Meta.Meta}
 use Rattle.bolt_check.specs.{Counts.counted, Nodes.Node, Nodes.Nodes, Nodes.node_at, Ways.At_inline, Ways.At_page, Ways.Spot, declared.fault.Finding.Finding}
 use Rattle.bolt_tree.specs.{Entries.item_of, Listing.Member, Paths.Path}
-use Rattle.bolt_recover.specs.{Losses.LossView, Losses.loss_of, Places.Place, Places.root_place, Places.step_place, Surveys.Gives}
+use Rattle.bolt_recover.specs.{Losses.LossView, Losses.loss_of, Sites.Site, Sites.root_site, Sites.step_site, Surveys.Gives}
 
 abbrev pub Way : Type 0
 Way = List ℕ
@@ -11,25 +11,25 @@ Way = List ℕ
 abbrev pub further : Way → ℕ → Way
 further way i = way ++ i ∷ []
 
--- a place to be visited, or an element to be returned under its path
+-- a site to be visited, or an element to be returned under its path
 pub data Task (W : Type 0) : Type 0 where
-  To_visit : W → Place → Task W
+  To_visit : W → Site → Task W
   To_give : Path → LeafElement → Task W
 
--- a place that was visited, and what was found there
+-- a site that was visited, and what was found there
 pub record Visited (W : Type 0) : Type 0 where
   pub way : W
-  pub place : Place
+  pub site : Site
   pub found : Option Finding
 
--- how many entries there are at a place
+-- how many entries there are at a site
 abbrev pub entry_count : Result Node ℕ → ℕ
 entry_count (Ok node) = length node.entries
 entry_count (Err fault) = 0
 
-abbrev pub place_size : Nodes → Spot → List LeafElement → ℕ
-place_size nodes (At_page s) elements = entry_count (nodes s.number)
-place_size nodes (At_inline host keys) elements = length elements
+abbrev pub site_size : Nodes → Spot → List LeafElement → ℕ
+site_size nodes (At_page s) elements = entry_count (nodes s.number)
+site_size nodes (At_inline host keys) elements = length elements
 
 -- the pages that are claimed once this spot is
 abbrev pub in_span : Result Node ℕ → ℕ → ℕ → Bool
@@ -44,7 +44,7 @@ claims_of nodes (At_inline host keys) n = false
 abbrev pub meta_pages : ℕ → Bool
 meta_pages n = nat_lt n 2
 
-abbrev pub lost_at : Place → Option Finding → List LossView
+abbrev pub lost_at : Site → Option Finding → List LossView
 lost_at p None = []
 lost_at p (Some x) = loss_of p x ∷ []
 
@@ -69,9 +69,9 @@ pub record Outcome : Type 0 where
 
 abbrev pub after_visit : {W : Type 0} → Nodes → Outcome → Visited W → Outcome
 after_visit nodes o v = record {
-  losses = o.losses ++ lost_at v.place v.found;
-  visited = counted o.visited (page_visit v.place.spot);
-  claimed = claimed_after nodes o.claimed v.place.spot v.found;
+  losses = o.losses ++ lost_at v.site v.found;
+  visited = counted o.visited (page_visit v.site.spot);
+  claimed = claimed_after nodes o.claimed v.site.spot v.found;
 }
 
 abbrev pub after_visits : {W : Type 0} → Nodes → Outcome → List (Visited W) → Outcome
@@ -87,38 +87,38 @@ module _ (file : List ℕ) (meta : Meta) {W : Type 0} (further : W → ℕ → W
   gives_at path None = []
   gives_at path (Some e) = To_give (path ++ e.key ∷ []) e ∷ []
 
-  abbrev pub visits_at : W → Option Place → List (Task W)
+  abbrev pub visits_at : W → Option Site → List (Task W)
   visits_at way None = []
   visits_at way (Some p) = To_visit way p ∷ []
 
-  -- what there is to do at one entry of a place: its element is returned, and where it leads is visited
-  abbrev pub entry_tasks : W → Place → ℕ → List (Task W)
-  entry_tasks way p i = gives_at p.path (slice_get p.elements i) ++ visits_at (further way i) (step_place file meta p i)
+  -- what there is to do at one entry of a site: its element is returned, and where it leads is visited
+  abbrev pub entry_tasks : W → Site → ℕ → List (Task W)
+  entry_tasks way p i = gives_at p.path (slice_get p.elements i) ++ visits_at (further way i) (step_site file meta p i)
 
   -- what there is to do at `k` entries, from entry i on
-  abbrev pub tasks_from : W → Place → ℕ → ℕ → List (Task W)
+  abbrev pub tasks_from : W → Site → ℕ → ℕ → List (Task W)
   tasks_from way p i zero = []
   tasks_from way p i (suc k) = entry_tasks way p i ++ tasks_from way p (suc i) k
 
-  abbrev pub place_tasks : W → Place → List (Task W)
-  place_tasks way p = tasks_from way p 0 (place_size (node_at file meta) p.spot p.elements)
+  abbrev pub site_tasks : W → Site → List (Task W)
+  site_tasks way p = tasks_from way p 0 (site_size (node_at file meta) p.spot p.elements)
 
   -- and after a visit
-  abbrev pub tasks_after : W → Place → Option Finding → List (Task W)
-  tasks_after way p None = place_tasks way p
+  abbrev pub tasks_after : W → Site → Option Finding → List (Task W)
+  tasks_after way p None = site_tasks way p
   tasks_after way p (Some x) = []
 
   -- from these claims these tasks come to these visits and these members
-  pub data Runs : (ℕ → Bool) → List (Task W) → List (Visited W) → List Member → Type 0 where
-    done : {claimed : ℕ → Bool} → Runs claimed [] [] []
+  pub data Course : (ℕ → Bool) → List (Task W) → List (Visited W) → List Member → Type 0 where
+    done : {claimed : ℕ → Bool} → Course claimed [] [] []
     give : {claimed : ℕ → Bool} {path : Path} {e : LeafElement} {tasks : List (Task W)} {visits : List (Visited W)} {members : List Member}
-        → Runs claimed tasks visits members
-        → Runs claimed (To_give path e ∷ tasks) visits ((path, item_of e) ∷ members)
-    visit : {claimed : ℕ → Bool} {way : W} {p : Place} {found : Option Finding} {tasks : List (Task W)} {visits : List (Visited W)} {members : List Member}
+        → Course claimed tasks visits members
+        → Course claimed (To_give path e ∷ tasks) visits ((path, item_of e) ∷ members)
+    visit : {claimed : ℕ → Bool} {way : W} {p : Site} {found : Option Finding} {tasks : List (Task W)} {visits : List (Visited W)} {members : List Member}
         → Gives (node_at file meta) (λ n. claimed n ≡ true) p.spot found
-        → Runs (claimed_after (node_at file meta) claimed p.spot found) (tasks_after way p found ++ tasks) visits members
-        → Runs claimed (To_visit way p ∷ tasks) (record { way = way; place = p; found = found } ∷ visits) members
+        → Course (claimed_after (node_at file meta) claimed p.spot found) (tasks_after way p found ++ tasks) visits members
+        → Course claimed (To_visit way p ∷ tasks) (record { way = way; site = p; found = found } ∷ visits) members
 
-  -- the run from the root page on
-  abbrev pub RunsAll : W → List (Visited W) → List Member → Type 0
-  RunsAll way visits members = Runs meta_pages (To_visit way (root_place file meta) ∷ []) visits members
+  -- the course from the root page on
+  abbrev pub WholeCourse : W → List (Visited W) → List Member → Type 0
+  WholeCourse way visits members = Course meta_pages (To_visit way (root_site file meta) ∷ []) visits members

@@ -1,7 +1,7 @@
--- What a run returns is what a tree lists: each place that is visited comes to a tree, in which a bucket holds what its own place comes to.
+-- What a course returns is what a tree lists: each site that is visited comes to a tree, in which a bucket holds what its own site comes to.
 use Rattle.std.proofs.Common.{◌≡◌, ◌∙◌, inl, inr, ℕ, zero, suc, Bool, true, List, [], ◌∷◌, ◌++◌, Option, Some, None, slice_get, refl, sym, ap, subst, append_assoc}
-use Rattle.bolt_recover.proofs.Words.{append-nil, Bucket, cases_Bool, done, Each, end, entry_tasks, Finding, give, Gives, gives_at, head_sequence, Item, item_of, Key, LeafElement, listing_below, listing_of, Member, Meta, node_at, none-some, Path, Place, root_place, Runs, RunsAll, same_Some, step_place, Task, tasks_after, tasks_from, To_give, To_visit, Tree, Value, visit, Visited, visits_at, with_bucket, with_value}
-use Rattle.bolt_recover.proofs.{PlaceKeys.Keyed, PlaceKeys.keyed, PlaceSteps.IsTidy, RunPaths.IsTidyTask, RunPaths.root_tidy, RunPaths.tidy_after}
+use Rattle.bolt_recover.proofs.Words.{append-nil, Bucket, cases_Bool, done, Each, end, entry_tasks, Finding, give, Gives, gives_at, head_sequence, Item, item_of, Key, LeafElement, listing_below, listing_of, Member, Meta, node_at, none-some, Path, Site, root_site, Course, WholeCourse, same_Some, step_site, Task, tasks_after, tasks_from, To_give, To_visit, Tree, Value, visit, Visited, visits_at, with_bucket, with_value}
+use Rattle.bolt_recover.proofs.{SiteKeys.Keyed, SiteKeys.keyed, SiteSteps.IsTidy, CoursePaths.IsTidyTask, CoursePaths.root_tidy, CoursePaths.tidy_after}
 
 -- one tree after another
 abbrev both : Tree → Tree → Tree
@@ -17,17 +17,17 @@ both_list path (with_bucket key sequence inside rest) b =
     ∙ ap (λ (ms : List Member). (path ++ key ∷ [], Bucket sequence) ∷ ms) (sym (append_assoc (listing_below (path ++ key ∷ []) inside) (listing_below path rest) (listing_below path b)))
 
 module _ (file : List ℕ) (meta : Meta) {W : Type 0} (further : W → ℕ → W) where
-  -- each place to be visited comes to a tree
+  -- each site to be visited comes to a tree
   abbrev Pieces : List (Task W) → List Member → Type 0
   Pieces [] members = members ≡ []
   Pieces (To_give path e ∷ tasks) members = (rest : List Member) × (members ≡ (path, item_of e) ∷ rest) × Pieces tasks rest
   Pieces (To_visit w p ∷ tasks) members = (tree : Tree) × (rest : List Member) × (members ≡ listing_below p.path tree ++ rest) × Pieces tasks rest
 
-  -- the tree that the entries of a place come to, from one on
+  -- the tree that the entries of a site come to, from one on
   abbrev HasTree : Path → List (Task W) → List Member → Type 0
   HasTree path rest members = (tree : Tree) × (more : List Member) × (members ≡ listing_below path tree ++ more) × Pieces rest more
 
-  put_child : (path : Path) (t : Place) (tree : Tree) (rest : List (Task W)) (members more : List Member) → t.path ≡ path → members ≡ listing_below t.path tree ++ more → HasTree path rest more → HasTree path rest members
+  put_child : (path : Path) (t : Site) (tree : Tree) (rest : List (Task W)) (members more : List Member) → t.path ≡ path → members ≡ listing_below t.path tree ++ more → HasTree path rest more → HasTree path rest members
   put_child path t tree rest members more named first (after, last, same, pieces) = (
     both tree after,
     last,
@@ -57,8 +57,8 @@ module _ (file : List ℕ) (meta : Meta) {W : Type 0} (further : W → ℕ → W
         (with_value e.key e.value tree, last, first ∙ ap (λ (i : Item). (path ++ e.key ∷ [], i) ∷ more) item ∙ ap (λ (ms : List Member). (path ++ e.key ∷ [], Value e.value) ∷ ms) same, pieces)
   ]
 
-  module _ (w : W) (p : Place) (keys : List Key) (known : Keyed file meta p keys) where
-    entry_tree : (i : ℕ) (o : Option LeafElement) (q : Option Place) (later rest : List (Task W)) (members : List Member) → slice_get p.elements i ≡ o → step_place file meta p i ≡ q
+  module _ (w : W) (p : Site) (keys : List Key) (known : Keyed file meta p keys) where
+    entry_tree : (i : ℕ) (o : Option LeafElement) (q : Option Site) (later rest : List (Task W)) (members : List Member) → slice_get p.elements i ≡ o → step_site file meta p i ≡ q
         → Pieces ((gives_at file meta further p.path o ++ visits_at file meta further (further w i) q) ++ later) members → ((ms : List Member) → Pieces later ms → HasTree p.path rest ms) → HasTree p.path rest members
     entry_tree i None None later rest members get next pieces onward = onward members pieces
     entry_tree i (Some e) None later rest members get next (more, first, pieces) onward = put_element p.path e rest members more first (onward more pieces)
@@ -73,29 +73,29 @@ module _ (file : List ℕ) (meta : Meta) {W : Type 0} (further : W → ℕ → W
       | inr child ↦ absurd (none-some e (sym child.none ∙ get))
     ]
 
-    place_tree : (i k : ℕ) (rest : List (Task W)) (members : List Member) → Pieces (tasks_from file meta further w p i k ++ rest) members → HasTree p.path rest members
-    place_tree i zero rest members pieces = (end, members, refl, pieces)
-    place_tree i (suc k) rest members pieces =
+    site_tree : (i k : ℕ) (rest : List (Task W)) (members : List Member) → Pieces (tasks_from file meta further w p i k ++ rest) members → HasTree p.path rest members
+    site_tree i zero rest members pieces = (end, members, refl, pieces)
+    site_tree i (suc k) rest members pieces =
         let later = tasks_from file meta further w p (suc i) k in
-        entry_tree i (slice_get p.elements i) (step_place file meta p i) (later ++ rest) rest members refl refl
+        entry_tree i (slice_get p.elements i) (step_site file meta p i) (later ++ rest) rest members refl refl
         (subst (λ (ts : List (Task W)). Pieces ts members) (append_assoc (entry_tasks file meta further w p i) later rest) pieces)
-        (λ ms more. place_tree (suc i) k rest ms more)
+        (λ ms more. site_tree (suc i) k rest ms more)
 
-  visit_tree : (w : W) (p : Place) (found : Option Finding) (before : ℕ → Type 0) (rest : List (Task W)) (members : List Member) → IsTidy file meta p → Gives (node_at file meta) before p.spot found
+  visit_tree : (w : W) (p : Site) (found : Option Finding) (before : ℕ → Type 0) (rest : List (Task W)) (members : List Member) → IsTidy file meta p → Gives (node_at file meta) before p.spot found
       → Pieces (tasks_after file meta further w p found ++ rest) members → HasTree p.path rest members
-  visit_tree w p None before rest members tidy passes pieces = let (keys, known) = keyed file meta before p tidy passes in place_tree w p keys known 0 _ rest members pieces
+  visit_tree w p None before rest members tidy passes pieces = let (keys, known) = keyed file meta before p tidy passes in site_tree w p keys known 0 _ rest members pieces
   visit_tree w p (Some x) before rest members tidy gives pieces = (end, members, refl, pieces)
 
-  pieces_run : (claimed : ℕ → Bool) (tasks : List (Task W)) (visits : List (Visited W)) (members : List Member) → Runs file meta further claimed tasks visits members
+  pieces_course : (claimed : ℕ → Bool) (tasks : List (Task W)) (visits : List (Visited W)) (members : List Member) → Course file meta further claimed tasks visits members
       → Each (IsTidyTask file meta further) tasks → Pieces tasks members
-  pieces_run claimed tasks visits members done tidy = refl
-  pieces_run claimed tasks visits members (give {tasks = more} {members = rest} run) tidy = (rest, refl, pieces_run claimed more visits rest run (λ task h. tidy task (inr h)))
-  pieces_run claimed tasks visits members (visit {way = w} {p = p} {found = found} {tasks = more} {visits = rest} gives run) tidy =
+  pieces_course claimed tasks visits members done tidy = refl
+  pieces_course claimed tasks visits members (give {tasks = more} {members = rest} course) tidy = (rest, refl, pieces_course claimed more visits rest course (λ task h. tidy task (inr h)))
+  pieces_course claimed tasks visits members (visit {way = w} {p = p} {found = found} {tasks = more} {visits = rest} gives course) tidy =
       visit_tree w p found (λ n. claimed n ≡ true) more members (tidy (To_visit w p) (inl refl)) gives
-      (pieces_run _ (tasks_after file meta further w p found ++ more) rest members run (tidy_after file meta further w p found more tidy))
+      (pieces_course _ (tasks_after file meta further w p found ++ more) rest members course (tidy_after file meta further w p found more tidy))
 
-  -- what a run from the root page returns is what a tree lists
-  pub run_tree : (way : W) (visits : List (Visited W)) (members : List Member) → RunsAll file meta further way visits members → (tree : Tree) × (members ≡ listing_of tree)
-  run_tree way visits members run =
-      let (tree, rest, same, none) = pieces_run _ (To_visit way (root_place file meta) ∷ []) visits members run (root_tidy file meta further way) in
+  -- what a course from the root page returns is what a tree lists
+  pub course_tree : (way : W) (visits : List (Visited W)) (members : List Member) → WholeCourse file meta further way visits members → (tree : Tree) × (members ≡ listing_of tree)
+  course_tree way visits members course =
+      let (tree, rest, same, none) = pieces_course _ (To_visit way (root_site file meta) ∷ []) visits members course (root_tidy file meta further way) in
       (tree, same ∙ ap (λ (ms : List Member). listing_below [] tree ++ ms) none ∙ append-nil (listing_below [] tree))

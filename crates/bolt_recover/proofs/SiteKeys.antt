@@ -1,13 +1,13 @@
--- The keys of a place that is kept: they rise between its bounds, its elements have them, and each child has its bounds from them.
+-- The keys of a site that is kept: they rise between its bounds, its elements have them, and each child has its bounds from them.
 use Rattle.std.proofs.Common.{◌≡◌, ◌∙◌, ◌⊎◌, inl, inr, ℕ, suc, Bool, true, false, List, [], ◌∷◌, ◌++◌, Option, Some, None, slice_get, if◌then◌else◌, refl, sym, ap}
-use Rattle.bolt_recover.proofs.Words.{At_inline, At_page, Entry, Finding, finding_none, finding_of, is_below, is_from, Key, key_at, key_each, key_rise, keys_of, keys_order_fault, KeysRise, leaf_entry, LeafElement, lower_of, Meta, Node, node_at, none-some, option_map, PageSpot, Passes, Path, Place, slice_get-map, Spot, step_place, upper_from, upper_of}
-use Rattle.bolt_recover.proofs.PlaceSteps.{IsBranchPage, IsLeafPage, IsTidy, IsTidyAt, keys_in, on_page}
+use Rattle.bolt_recover.proofs.Words.{At_inline, At_page, Entry, Finding, finding_none, finding_of, is_below, is_from, Key, key_at, key_each, key_rise, keys_of, keys_order_fault, KeysRise, leaf_entry, LeafElement, lower_of, Meta, Node, node_at, none-some, option_map, PageSpot, Passes, Path, Site, slice_get-map, Spot, step_site, upper_from, upper_of}
+use Rattle.bolt_recover.proofs.SiteSteps.{IsBranchPage, IsLeafPage, IsTidy, IsTidyAt, keys_in, on_page}
 
 -- a bucket of a leaf has a path of its own, and a child of a branch has the keys from its element to the next
-abbrev pub IsInside : Place → Place → ℕ → Type 0
+abbrev pub IsInside : Site → Site → ℕ → Type 0
 IsInside p t i = (e : LeafElement) × (slice_get p.elements i ≡ Some e) × (t.path ≡ p.path ++ e.key ∷ []) × (e.is_bucket ≡ true)
 
-pub record IsChild (p t : Place) (i : ℕ) (keys : List Key) : Type 0 where
+pub record IsChild (p t : Site) (i : ℕ) (keys : List Key) : Type 0 where
   pub path : t.path ≡ p.path
   pub none : slice_get p.elements i ≡ None
   pub key : Key
@@ -16,12 +16,12 @@ pub record IsChild (p t : Place) (i : ℕ) (keys : List Key) : Type 0 where
   pub next : (k : Key) → slice_get keys (suc i) ≡ Some k → upper_of t.spot ≡ Some k
   pub last : slice_get keys (suc i) ≡ None → upper_of t.spot ≡ upper_of p.spot
 
--- what the keys of a kept place are
-pub record Keyed (file : List ℕ) (meta : Meta) (p : Place) (keys : List Key) : Type 0 where
+-- what the keys of a kept site are
+pub record Keyed (file : List ℕ) (meta : Meta) (p : Site) (keys : List Key) : Type 0 where
   pub rise : KeysRise keys
   pub each : (j : ℕ) (q : Key) → slice_get keys j ≡ Some q → (is_from (lower_of p.spot) q ≡ true) × (is_below (upper_of p.spot) q ≡ true)
   pub own : (i : ℕ) (e : LeafElement) → slice_get p.elements i ≡ Some e → slice_get keys i ≡ Some e.key
-  pub kids : (i : ℕ) (t : Place) → step_place file meta p i ≡ Some t → IsInside p t i ⊎ IsChild p t i keys
+  pub kids : (i : ℕ) (t : Site) → step_site file meta p i ≡ Some t → IsInside p t i ⊎ IsChild p t i keys
 
 no_late : (b : Bool) (x : Finding) (o : Option ℕ) (page : ℕ) → (if b then Some x else finding_of o page) ≡ None → o ≡ None
 no_late true x o page e = absurd (cc)
@@ -39,23 +39,23 @@ upper_same : (next : Option Entry) (upper : Option Key) → option_map (λ (e : 
 upper_same None upper e = refl
 upper_same (Some x) upper e = absurd (cc)
 
-on_page_kids : (file : List ℕ) (meta : Meta) (p : Place) (s : PageSpot) (node : Node) (i : ℕ) (t : Place) → p.spot ≡ At_page s → IsLeafPage file meta p s node ⊎ IsBranchPage file meta p s node
-    → step_place file meta p i ≡ Some t → IsInside p t i ⊎ IsChild p t i (keys_of node.entries)
-on_page_kids file meta p s node i t spot (inl leaf) is = let (e, get, bucket, same) = leaf.from i t is in inl (e, get, ap (λ (q : Place). q.path) same, bucket)
+on_page_kids : (file : List ℕ) (meta : Meta) (p : Site) (s : PageSpot) (node : Node) (i : ℕ) (t : Site) → p.spot ≡ At_page s → IsLeafPage file meta p s node ⊎ IsBranchPage file meta p s node
+    → step_site file meta p i ≡ Some t → IsInside p t i ⊎ IsChild p t i (keys_of node.entries)
+on_page_kids file meta p s node i t spot (inl leaf) is = let (e, get, bucket, same) = leaf.from i t is in inl (e, get, ap (λ (q : Site). q.path) same, bucket)
 on_page_kids file meta p s node i t spot (inr branch) is =
     let (x, get, same) = branch.from i t is in
     let next = slice_get-map (λ (e : Entry). e.key) node.entries (suc i) in
     inr (record {
-      path = ap (λ (q : Place). q.path) same;
+      path = ap (λ (q : Site). q.path) same;
       none = ap (λ (xs : List LeafElement). slice_get xs i) branch.none;
       key = x.key;
       at = key_at node.entries i x get;
-      lower = ap (λ (q : Place). lower_of q.spot) same;
-      next = λ k e. ap (λ (q : Place). upper_of q.spot) same ∙ upper_next (slice_get node.entries (suc i)) s.upper k (sym next ∙ e);
-      last = λ e. ap (λ (q : Place). upper_of q.spot) same ∙ upper_same (slice_get node.entries (suc i)) s.upper (sym next ∙ e) ∙ ap upper_of (sym spot);
+      lower = ap (λ (q : Site). lower_of q.spot) same;
+      next = λ k e. ap (λ (q : Site). upper_of q.spot) same ∙ upper_next (slice_get node.entries (suc i)) s.upper k (sym next ∙ e);
+      last = λ e. ap (λ (q : Site). upper_of q.spot) same ∙ upper_same (slice_get node.entries (suc i)) s.upper (sym next ∙ e) ∙ ap upper_of (sym spot);
     })
 
-own_key : (file : List ℕ) (meta : Meta) (p : Place) (s : PageSpot) (node : Node) (i : ℕ) (e : LeafElement) → IsLeafPage file meta p s node ⊎ IsBranchPage file meta p s node
+own_key : (file : List ℕ) (meta : Meta) (p : Site) (s : PageSpot) (node : Node) (i : ℕ) (e : LeafElement) → IsLeafPage file meta p s node ⊎ IsBranchPage file meta p s node
     → slice_get p.elements i ≡ Some e → slice_get (keys_of node.entries) i ≡ Some e.key
 own_key file meta p s node i e (inl leaf) at =
     key_at node.entries i (leaf_entry e) (ap (λ (es : List Entry). slice_get es i) leaf.entries ∙ slice_get-map leaf_entry p.elements i ∙ ap (option_map leaf_entry) at)
@@ -77,7 +77,7 @@ keyed_at file meta before (At_page s) path elements tidy passes =
     let node = passes.node in
     let keys = keys_of node.entries in
     let none = no_late _ _ (keys_order_fault None s.lower s.upper keys) s.number passes.content in
-    let p : Place = record { spot = At_page s; path = path; elements = elements } in
+    let p : Site = record { spot = At_page s; path = path; elements = elements } in
     let form = on_page file meta p s node tidy refl passes.page in (
       keys,
       record {
@@ -88,5 +88,5 @@ keyed_at file meta before (At_page s) path elements tidy passes =
       },
     )
 
-pub keyed : (file : List ℕ) (meta : Meta) (before : ℕ → Type 0) (p : Place) → IsTidy file meta p → Passes (node_at file meta) before p.spot → (keys : List Key) × Keyed file meta p keys
+pub keyed : (file : List ℕ) (meta : Meta) (before : ℕ → Type 0) (p : Site) → IsTidy file meta p → Passes (node_at file meta) before p.spot → (keys : List Key) × Keyed file meta p keys
 keyed file meta before p tidy passes = keyed_at file meta before p.spot p.path p.elements tidy passes

@@ -1,6 +1,6 @@
 use Rattle.std.proofs.Common.{◌≡◌, ◌⊎◌, ◌↔◌, ℕ, true, false}
 use Rattle.bolt_recover.proofs.Words.{All, FoundBelow, is_listed, is_taken, IsFoundPage, IsFoundView, leftovers_file, leftovers_length, leftovers_meta, numbers_of}
-use Rattle.bolt_recover.proofs.lost_and_found.find_leaves.Given as goal
+use Rattle.bolt_recover.proofs.found_leaves.find_leaves.Given as goal
 
 -- the pages so far are found, and they are taken
 abbrev pub invariant-loop-number : goal.invariant-loop-number

@@ -1,6 +1,6 @@
 use Rattle.std.proofs.Common.{◌≡◌, ◌-◌, ◌++◌, drop, length}
 use Rattle.bolt_recover.proofs.Words.{last_digits}
-use Rattle.bolt_recover.proofs.digits_of.Given as goal
+use Rattle.bolt_recover.proofs.found.digits_of.Given as goal
 
 -- the last digits stand, and the others are those of the rest
 abbrev pub invariant-loop-i : goal.invariant-loop-i
