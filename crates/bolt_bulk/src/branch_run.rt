@@ -35,7 +35,7 @@ impl<'a> BranchRun<'a> {
         }
     }
 
-    /// AddsToBuffer the element of a page.
+    /// Adds the element of a page.
     pub(crate) fn push_page(&mut self, page: Branch<'a>) -> Result<(), BulkFault>
         requires size { self.old.size + length page.key.now < 9223372036854775808 }
         ensures run { OnOk result (run_view self.new ≡ run_push (run_view self.old) (branch_view page.entry)) }

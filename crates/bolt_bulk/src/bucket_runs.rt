@@ -124,7 +124,7 @@ impl<'a> BucketRuns<'a> {
         Ok(())
     }
 
-    /// AddsToBuffer an item of this size, for which there is room and memory. It isn't an inline bucket.
+    /// Adds an item of this size, for which there is room and memory. It isn't an inline bucket.
     fn push_reserved(&mut self, held: Held<'a>, size: usize)
         requires open { IsOpenBucket self.old }
         requires held { IsHeld self.old.leaves.inlined.items held }
@@ -139,7 +139,7 @@ impl<'a> BucketRuns<'a> {
         self.leaves.size += size;
     }
 
-    /// AddsToBuffer an item of this size, for which there is room. It isn't an inline bucket.
+    /// Adds an item of this size, for which there is room. It isn't an inline bucket.
     fn push_item(&mut self, held: Held<'a>, size: usize) -> Result<(), BulkFault>
         requires open { IsOpenBucket self.old }
         requires held { IsHeld self.old.leaves.inlined.items held }
@@ -155,7 +155,7 @@ impl<'a> BucketRuns<'a> {
         Ok(())
     }
 
-    /// AddsToBuffer an inline bucket with these entries, for which there is room. Its value has `size`
+    /// Adds an inline bucket with these entries, for which there is room. Its value has `size`
     /// bytes.
     fn push_inline(
         &mut self,
@@ -187,7 +187,7 @@ impl<'a> BucketRuns<'a> {
         Ok(())
     }
 
-    /// AddsToBuffer a value, after it made room for it.
+    /// Adds a value, after it made room for it.
     #[inline(always)]
     pub(crate) fn add_value<S: Sink>(
         &mut self,
@@ -210,7 +210,7 @@ impl<'a> BucketRuns<'a> {
         self.push_item(Held { key, stored }, size)
     }
 
-    /// AddsToBuffer a bucket that is inline, with these entries, after it made room for it.
+    /// Adds a bucket that is inline, with these entries, after it made room for it.
     pub(crate) fn add_inline<S: Sink>(
         &mut self,
         setup: &PageSetup,

@@ -99,7 +99,7 @@ impl Headers {
         }
     }
 
-    /// AddsToBuffer the header of the next element, a branch's. Its key has `key` bytes.
+    /// Adds the header of the next element, a branch's. Its key has `key` bytes.
     #[inline(always)]
     pub fn put_branch<S: Sink>(
         &mut self,
@@ -119,7 +119,7 @@ impl Headers {
         Ok(())
     }
 
-    /// AddsToBuffer the header of the next element, a leaf's. Its key has `key` bytes, and its value `value`.
+    /// Adds the header of the next element, a leaf's. Its key has `key` bytes, and its value `value`.
     #[inline(always)]
     pub fn put_leaf<S: Sink>(
         &mut self,

@@ -29,8 +29,8 @@ IsUnrecoverable file IsMeta HasNone (Accounts reported) = ⊥
 IsUnrecoverable file IsMeta HasNone Memory = Unit {0}
 
 -- the active meta, and why there is none
-abbrev pub IsActive : List ℕ → Meta → Type 0
-IsActive file meta = (slot : Slot) × IsChosen file slot meta
+abbrev pub HasActive : List ℕ → Meta → Type 0
+HasActive file meta = (slot : Slot) × IsChosen file slot meta
 
 abbrev pub HasNoActive : List ℕ → MetaFault → Type 0
 HasNoActive file fault = HasMetaFault file 0 fault × ((slot : Slot) (meta : Meta) → IsInSlot file slot meta → ⊥)

@@ -6,7 +6,7 @@ ghost use Rattle.bolt_check.specs.Sound.{HasSoundTrees};
 ghost use Rattle.bolt_format.specs.Metas.{IsInSlot};
 ghost use Rattle.bolt_tree.specs.Paths.{path_of};
 ghost use Rattle.bolt_recover.specs.{KeptPages.AreKeptPages, Private.Frames.IsOn, Private.Frames.state_of, Recovered.ForRecovered, Recovered.IsRecovered};
-ghost use Rattle.bolt_recover.specs.Refusals.{HasNoActive, HasNoneInSlot, IsActive, IsRefusedRoot, IsUnrecoverable, KeepsRoot};
+ghost use Rattle.bolt_recover.specs.Refusals.{HasActive, HasNoActive, HasNoneInSlot, IsRefusedRoot, IsUnrecoverable, KeepsRoot};
 ghost use Rattle.bolt_recover.specs.ShownLosses.{loss_view};
 
 use crate::bucket_key::compare_first;
@@ -48,14 +48,14 @@ impl<'a> Recovery<'a> {
     /// and nothing is recovered; `Memory` if memory runs out. Never `Accounts`.
     pub fn new(alloc: Global, file: &'a [u8]) -> Result<Recovery<'a>, CheckFault>
         ensures file { IfOk result (λ recovery. recovery_file recovery ≡ file.now) }
-        ensures meta { IfOk result (λ recovery. IsActive file.now (recovery_meta recovery)) }
+        ensures meta { IfOk result (λ recovery. HasActive file.now (recovery_meta recovery)) }
         ensures all { IfOk result (λ recovery. ForRecovered file.now (recovery_meta recovery) (λ listing. recovery_left recovery listing ≡ listing)) }
         ensures path { IfOk result (λ recovery. recovery_path recovery ≡ []) }
         ensures losses { IfOk result (λ recovery. recovery_losses recovery ≡ []) }
         ensures begun { IfOk result (λ recovery. recovery_begun recovery ≡ 0) }
         ensures visited { IfOk result (λ recovery. recovery_visited recovery ≡ 1) }
         ensures root { IfOk result (λ recovery. KeepsRoot file.now (recovery_meta recovery)) }
-        ensures refused { IfErr result (IsUnrecoverable file.now (IsActive file.now) (HasNoActive file.now)) }
+        ensures refused { IfErr result (IsUnrecoverable file.now (HasActive file.now) (HasNoActive file.now)) }
     {
         let (_, meta) = choose(file)?;
         Recovery::under(alloc, file, meta)
