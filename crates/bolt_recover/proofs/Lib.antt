@@ -20,6 +20,7 @@ mod SiteFacts
 mod SiteKeys
 mod SiteSteps
 mod Recovering
+pub mod Refused
 mod CourseExists
 mod CourseForgets
 mod CourseOrder

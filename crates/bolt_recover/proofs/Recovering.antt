@@ -1,11 +1,10 @@
 -- A recovery between its calls: what of the recovered listing is left, and which losses are still to be reported.
-use Rattle.std.proofs.Common.{◌≡◌, ◌∙◌, ◌≤◌, ◌<◌, ◌^◌, inl, inr, ℕ, Bool, true, false, ◌↔◌, List, [], ◌∷◌, ◌++◌, length, take, Option, Some, None, Result, Ok, Err, IfErr, IfOk, OnErr, filter, if◌then◌else◌, refl, sym, ap, subst, arith, append_assoc}
-use Rattle.bolt_recover.proofs.Words.{Accounts, Advances, after_visit, after_visits, ahead_tasks, All-contains, All-contains_itself, All-filter, append-nil, AreFirst, AreKeptPages, AreLosses, AreOpen, ArePageWays, cases_Bool, ComesTo, Contains, contains_cases, contains_head, Content, counted, Ends, filter_all, filter_first, filter_passes, filter_rises, flip_less, further, GivesHead, GoesOn, HasOpen, is_lt, is_over, IsAllLeft, IsGoodContent, IsGoodPage, IsKeptPage, IsLeft, IsOn, IsRecovered, IsRefusedRoot, IsSurvey, IsUnrecoverable, item_of, Key, leaf_view, LeafElement, left_by, less_lt, losses_of, LossView, lost_at, lt_of, Member, member_cmp, member_total, Memory, Meta, NextVisit, node_at, Nodes, not_lt_of, NoWay, Open, open_tasks, OpenPage, Outcome, outcome_of, over_by, Page, page_ways, Path, path_cmp, path_total, props, reached, rest_after, Rises, Course, WholeCourse, State, stay, StaysOn, Structure, take-append-le, take_all, tally_of, Task, tied_itself, SurveyedWay, Visited, Way}
+use Rattle.std.proofs.Common.{◌≡◌, ◌∙◌, ◌≤◌, ◌<◌, ◌^◌, inl, inr, ℕ, Bool, true, false, ◌↔◌, List, [], ◌∷◌, ◌++◌, length, take, Option, Some, None, Result, Ok, Err, IfOk, OnErr, filter, if◌then◌else◌, refl, sym, ap, subst, arith, append_assoc}
+use Rattle.bolt_recover.proofs.Words.{Advances, after_visit, after_visits, ahead_tasks, All-contains, All-contains_itself, All-filter, append-nil, AreFirst, AreKeptPages, AreLosses, AreOpen, ArePageWays, cases_Bool, ComesTo, Contains, contains_cases, contains_head, Content, counted, Ends, filter_all, filter_first, filter_passes, filter_rises, flip_less, further, GivesHead, GoesOn, HasOpen, is_lt, is_over, IsAllLeft, IsGoodContent, IsGoodPage, IsKeptPage, IsLeft, IsOn, IsRecovered, IsSurvey, item_of, Key, leaf_view, LeafElement, left_by, less_lt, losses_of, LossView, lost_at, lt_of, Member, member_cmp, member_total, Meta, NextVisit, node_at, Nodes, not_lt_of, NoWay, open_tasks, OpenPage, Outcome, outcome_of, over_by, Page, page_ways, Path, path_cmp, path_total, props, reached, rest_after, Rises, Course, WholeCourse, State, stay, StaysOn, take-append-le, take_all, tally_of, Task, tied_itself, SurveyedWay, Visited, Way}
 use Rattle.bolt_recover.proofs.{Existing.one_recovered, Existing.recovers, CourseExists.course_exists, CourseOrder.visits_of, CourseSteps.ends}
 use Rattle.bolt_recover.proofs.{CourseSurveys.all_claimed, CourseSurveys.surveyed, CourseSurveys.tally, SurveyIsOne.same_survey}
 use Rattle.bolt_tree.proofs.Filters.{kept as passing}
-use Rattle.bolt_format.specs.{declared.element.Leaf.Leaf, declared.meta.MetaFault.MetaFault}
-use Rattle.bolt_check.specs.declared.fault.CheckFault.{CheckFault}
+use Rattle.bolt_format.specs.declared.element.Leaf.{Leaf}
 use Rattle.bolt_recover.specs.declared.content.Content.TheVariants.{Bucket}
 
 -- that pages are open in good order is known or not, and no more
@@ -247,15 +246,3 @@ visited_within s meta before on fits ways are =
     let pages = all.pages in
     let number = one_number s.file meta ways _ are (all.survey, all.surveys, refl) in
     omega (arith, more, same, pages, number, fits)
-
-pub if_err : {X E : Type 0} {P Q : E → Type 0} (result : Result X E) → ((e : E) → P e → Q e) → IfErr result P → IfErr result Q
-if_err (Ok x) to h = h
-if_err (Err e) to h = to e h
-
--- refused under a meta that was looked for
-pub refused_under : (file : List ℕ) (IsMeta : Meta → Type 0) (HasNone : MetaFault → Type 0) (meta : Meta) → IsMeta meta → (fault : CheckFault)
-    → IsRefusedRoot file meta fault → IsUnrecoverable file IsMeta HasNone fault
-refused_under file IsMeta HasNone meta is (Structure x) h = (meta, is, h)
-refused_under file IsMeta HasNone meta is Memory h = tt
-refused_under file IsMeta HasNone meta is (Open fault) h = absurd h
-refused_under file IsMeta HasNone meta is (Accounts findings) h = absurd h

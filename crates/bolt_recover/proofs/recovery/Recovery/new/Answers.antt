@@ -1,4 +1,4 @@
-use Rattle.bolt_recover.proofs.Recovering.{if_err, refused_under}
+use Rattle.bolt_recover.proofs.Refused.{if_err, refused_under}
 use Rattle.bolt_recover.specs.Refusals.{HasNoActive, HasActive}
 use Rattle.bolt_recover.proofs.recovery.Recovery.new.Goals as goal
 
