@@ -1,5 +1,5 @@
 use Rattle.bolt_commands.proofs.Vocabulary.{Wrote-return, Wrote-then}
-use Rattle.bolt_commands.proofs.failure.put_failure.Goals as goal
+use Rattle.bolt_commands.proofs.failure_line.put_failure.Goals as goal
 
 pub returns-in_err-put_words : goal.returns-in_err-put_words
 returns-in_err-put_words g c = Wrote-return _ _ c.in_err-put_words.ensures c.from_residual.ensures.0

@@ -1,6 +1,6 @@
 use Rattle.std.proofs.Common.{◌∙◌}
 use Rattle.bolt_commands.proofs.Vocabulary.{Wrote-return, Wrote-same, Wrote-then}
-use Rattle.bolt_commands.proofs.failure.put_line_fault.Goals as goal
+use Rattle.bolt_commands.proofs.failure_line.put_line_fault.Goals as goal
 
 pub returns-in_err-put_words : goal.returns-in_err-put_words
 returns-in_err-put_words g c = Wrote-return _ _ c.in_err-put_words.ensures c.from_residual.ensures.0
