@@ -58,7 +58,7 @@ module _ {S : Type 0} {sink : Ghosts S} {setup : PageSetup} {new : Option ℕ} {
 
   -- it closes: its element climbs on
   pub climb_closes : {later : S} → i < length runs → run_stays setup.page_size (run_push run e) (key_size key) ≡ false → Wrote sink mid later (placed_bytes setup.page_size (taking_puts setup.page_size key e next run)) whole
-      → Climbing setup new key e0 n0 runs0 sink old later (set runs i (no_run (one_less run.left) (one_closed run.closed))) (i + 1) (element_up e next run) (next + (1 + overflow_of setup.page_size (run_push run e).size))
+      → Climbing setup new key e0 n0 runs0 sink old later (set runs i (no_run (one_less run.allowed) (one_closed run.closed))) (i + 1) (element_up e next run) (next + (1 + overflow_of setup.page_size (run_push run e).size))
   climb_closes h room one = grind (arith, drop-set-lt, take_more_set, front_more, left_split, append_assoc)
 
   -- a fault
@@ -72,7 +72,7 @@ module _ {S : Type 0} {sink : Ghosts S} {setup : PageSetup} {new : Option ℕ} {
 
 -- no run is left: a new one takes the element
 pub climb_over : {S : Type 0} {sink : Ghosts S} {setup : PageSetup} {new : Option ℕ} {key : List ℕ} {e0 e : BranchElement} {n0 next i : ℕ} {runs0 : List RunView} {old later : S} (runs : List BranchRun)
-    → Climbing setup new key e0 n0 runs0 sink old later (runs_above runs) i e next → length runs ≤ i → next ≤ setup.limit
+    → Climbing setup new key e0 n0 runs0 sink old later (runs_above runs) i e next → length runs ≤ i → next ≤ setup.highest_mark
     → Writes {A = ⊤} sink old later setup (runs_put setup.page_size key e0 n0 runs0) (runs_next setup.page_size key e0 n0 runs0) next (Ok tt)
     × (runs_climb setup.page_size new key e0 n0 runs0 ≡ runs_above runs ++ run_push (no_run new 0) e ∷ []) × (next ≡ runs_next setup.page_size key e0 n0 runs0)
 climb_over {setup = setup} {key = key} {e = e} {next = next} {i = i} runs c h within =

@@ -3,7 +3,7 @@
 use Rattle.std.proofs.Common.{◌≡◌, ◌∙◌, ℕ, suc, ◌+◌, ◌*◌, ◌<◌, ◌≤◌, List, [], ◌∷◌, ◌++◌, length, drop, get_or, Result, Ok, Err, ap, arith, append_assoc, append-nil, sym}
 use Rattle.std.proofs.lemmas.List.{drop_all, drop_more, length-append, length-drop}
 use Rattle.std.specs.Prelude.{IsErr}
-use Rattle.bolt_bulk.specs.Private.{Adds}
+use Rattle.bolt_bulk.specs.Private.{AddsToBuffer}
 use Rattle.bolt_format.proofs.WroteFronts.{WroteFront, front_more, front_return}
 use Rattle.bolt_format.proofs.WroteLemmas.{Wrote-none, Wrote-same, Wrote-then}
 use Rattle.bolt_format.specs.{Wrote.Wrote, Endings.Ending, Endings.page_ending, declared.sink.Sink.Ghosts}
@@ -30,7 +30,7 @@ heads_none {headers = headers} {old = old} {xs = xs} none first =
     record { before = 0; front = record { front = []; parts = ap (λ (r : List ℕ). r ++ headers 0 xs) (sym none); wrote = Wrote-none old }; place = omega (arith, first); room = omega arith }
 
 module _ {S X : Type 0} {headers : ℕ → List X → List ℕ} {contents : List X → List ℕ} {sink : Ghosts S} {old mid : S} {buffer : List ℕ} {xs : List X} {i pos : ℕ} where
-  pub heads_stop : {new : S} {A E B F : Type 0} {text after : List ℕ} {e : E} (result : Result B F) → HeadsPut headers contents sink old mid buffer xs i pos → Adds {A = A} sink mid new buffer text after (Err e) → IsErr result
+  pub heads_stop : {new : S} {A E B F : Type 0} {text after : List ℕ} {e : E} (result : Result B F) → HeadsPut headers contents sink old mid buffer xs i pos → AddsToBuffer {A = A} sink mid new buffer text after (Err e) → IsErr result
       → Wrote sink old new (headers 0 xs) (page_ending result)
   heads_stop result heads adds err = front_return _ result heads.front adds.gathers.puts (gathered_left buffer adds.kept adds.gathers.put (headers heads.before (drop i xs)) adds.gathers.parts) err
 
@@ -44,7 +44,7 @@ module _ {S X : Type 0} {headers : ℕ → List X → List ℕ} {contents : List
     heads_next none h = let at = drop_more xs i none h in grind (arith, packed.more, length-append, length-drop)
 
     pub heads_more : {new : S} {A E : Type 0} {text after : List ℕ} {a : A} (none : X) (next : ℕ) → i < length xs → next + 16 ≡ pos + length (datum (get_or xs i none)) → text ≡ header pos (get_or xs i none)
-        → Adds {A = A} {E = E} sink mid new buffer text after (Ok a) → HeadsPut headers contents sink old new after xs (i + 1) next
+        → AddsToBuffer {A = A} {E = E} sink mid new buffer text after (Ok a) → HeadsPut headers contents sink old new after xs (i + 1) next
     heads_more {after = after} none next h step same adds =
         let at = drop_more xs i none h in
         let x : X = get_or xs i none in

@@ -27,15 +27,15 @@ listing_is_back listing one = members_same (listing_of (tree_of listing)) listin
 pub listing_fits : (listing : List Member) → ∥ IsOfOneTree listing ∥₁ → ∥ AllByRecursion IsFitMember listing ∥₁
 listing_fits listing one = ∥∥₁_map one (λ is. subst (AllByRecursion IsFitMember) is.lists (members_fit [] (tree_of listing) is.storable.lengths))
 
--- a high-water mark above the limit is that of a layout that is too large,
-pub too_large : (page_size limit mark bytes : ℕ) → 1 ≤ page_size → limit ≡ 9223372036854775807 / page_size → limit < mark → bytes ≡ mark * page_size → too_many ≤ bytes
-too_large page_size limit mark bytes low limit_is above bytes_are = omega (arith, (div-lt_iff_lt-mul {k = page_size} {x = 9223372036854775807} {y = mark} low).0 (omega arith))
+-- a high-water mark above the highest one is that of a layout that is too large,
+pub too_large : (page_size highest_mark mark bytes : ℕ) → 1 ≤ page_size → highest_mark ≡ 9223372036854775807 / page_size → highest_mark < mark → bytes ≡ mark * page_size → too_many ≤ bytes
+too_large page_size highest_mark mark bytes low mark_is above bytes_are = omega (arith, (div-lt_iff_lt-mul {k = page_size} {x = 9223372036854775807} {y = mark} low).0 (omega arith))
 
 -- and one within it is not
-pub within_limit : (page_size limit mark bytes : ℕ) → limit ≡ 9223372036854775807 / page_size → mark ≤ limit → bytes ≡ mark * page_size → bytes < too_many
-within_limit page_size limit mark bytes limit_is within bytes_are = grind (arith, div-mul-le_self, mul-le-mul_right)
+pub within_mark : (page_size highest_mark mark bytes : ℕ) → highest_mark ≡ 9223372036854775807 / page_size → mark ≤ highest_mark → bytes ≡ mark * page_size → bytes < too_many
+within_mark page_size highest_mark mark bytes mark_is within bytes_are = grind (arith, div-mul-le_self, mul-le-mul_right)
 
--- The balanced layout is too large if the plain one is beyond 28 times the limit.
+-- The balanced layout is too large if the plain one is beyond 28 times the highest mark.
 pub balanced_too_large : (page_size : ℕ) (listing : List Member) (bytes : ℕ) → IsPageSize page_size → ∥ IsOfOneTree listing ∥₁
     → 28 * (9223372036854775807 / page_size) < layout_mark Plain page_size (tree_of listing) → bytes ≡ layout_mark Balanced page_size (tree_of listing) * page_size → too_many ≤ bytes
 balanced_too_large page_size listing bytes size one above bytes_are =

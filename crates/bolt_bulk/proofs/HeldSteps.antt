@@ -4,10 +4,10 @@ use Rattle.std.proofs.lemmas.List.{length-append, length-map}
 use Rattle.std.proofs.lemmas.List.Sums.{sum_by-cons}
 use Rattle.bolt_format.specs.{ElementPlaces.branch_view, Elements.BranchElement, Elements.LeafElement}
 use Rattle.bolt_layout.specs.Laid.{Laid, elements_of, held_in}
-use Rattle.bolt_layout.specs.Levels as levels
-use Rattle.bolt_bulk.specs.Private.{AreOpenRuns, AreUppers, AreWaiting, bucket_runs, capped, climb, close, end_of, Frame, has_room, held_frames, held_item, held_on, held_open, held_over, held_so_far, items_above, items_around, items_in, Known, length_frames, length_open, length_over, making_room, Open, pushing, run_view, runs_above, taking, Upper}
+use Rattle.bolt_layout.specs.Levels as parents
+use Rattle.bolt_bulk.specs.Private.{AreOpenRuns, AreUppers, AreWaiting, bucket_runs, saturated, climb, close, end_of, BucketFrame, has_room, held_frames, held_item, held_on, held_open, held_over, held_so_far, items_above, items_around, items_in, Known, length_frames, length_open, length_over, making_room, Open, pushing, run_view, runs_above, taking, Upper}
 use Rattle.bolt_bulk.specs.{declared.branch_run.BranchRun.BranchRun, declared.bucket_runs.BucketRuns.BucketRuns}
-use Rattle.bolt_bulk.specs.declared.pass.WaitingBucket.{WaitingBucket}
+use Rattle.bolt_bulk.specs.declared.waiting_bucket.WaitingBucket.{WaitingBucket}
 use Rattle.bolt_layout.proofs.LaidItems.{length-elements}
 
 -- ---- runs
@@ -32,7 +32,7 @@ over_max (upper ∷ uppers) inner = omega (arith, on_max, over_max uppers (held_
 open_max : (state : Open) (inner : ℕ) → held_open state inner ≡ max (held_open state 0) (length_open state + inner)
 open_max state inner = omega (arith, over_max, on_max)
 
-frames_max : (frames : List Frame) (inner : ℕ) → held_frames frames inner ≡ max (held_frames frames 0) (length_frames frames + inner)
+frames_max : (frames : List BucketFrame) (inner : ℕ) → held_frames frames inner ≡ max (held_frames frames 0) (length_frames frames + inner)
 frames_max [] inner = omega arith
 frames_max (frame ∷ frames) inner = omega (arith, open_max, frames_max frames (held_open frame.state inner), frames_max frames (held_open frame.state 0))
 
@@ -59,13 +59,13 @@ closed : (page_size : ℕ) (q : Laid BranchElement) (uppers : List Upper) → 1 
 closed page_size q [] some = refl
 closed page_size q (upper ∷ uppers) some =
     let run : List (Laid BranchElement) = upper.run in
-    let up : Laid BranchElement = levels.page_over levels.branch_page_view page_size (run ++ q ∷ []) in
+    let up : Laid BranchElement = parents.page_over parents.branch_page_view page_size (run ++ q ∷ []) in
     let same : up.held ≡ held_on run q.held = on_page (run ++ q ∷ []) ∙ joined run q some in
     let m = on_max run q.held in
     closed page_size up uppers (omega arith) ∙ ap (λ (n : ℕ). held_over uppers n) same
 
 ended_over : (page_size : ℕ) (run : List (Laid LeafElement)) (uppers : List Upper) → (run ≡ [] → uppers ≡ [])
-    → (close page_size (levels.page_over levels.leaf_page_view page_size run) uppers).held ≡ held_over uppers (held_on run 0)
+    → (close page_size (parents.page_over parents.leaf_page_view page_size run) uppers).held ≡ held_over uppers (held_on run 0)
 ended_over page_size run uppers begun = grind (arith, on_page, closed)
 
 pub end_held : (page_size : ℕ) (state : Open) → (state.run ≡ [] → state.uppers ≡ []) → (end_of page_size state).held ≡ held_open state 0
@@ -74,12 +74,12 @@ end_held page_size state begun = ended_over page_size state.run state.uppers beg
 -- ---- steps
 
 -- an item joins
-pushed : (frames : List Frame) (state : Open) (item : Laid LeafElement)
+pushed : (frames : List BucketFrame) (state : Open) (item : Laid LeafElement)
     → held_so_far frames (pushing state item) ≡ max (held_frames frames (held_open state item.held)) (length_frames frames + length_open (pushing state item))
 pushed frames state item = grind (arith, on_push, open_max, frames_max, length-append)
 
-pub takes_held : (page_size : ℕ) (frames : List Frame) (state : Open) (item : Laid LeafElement) (before after : ℕ) → item.held ≡ 0 → before ≡ capped (held_so_far frames state)
-    → after ≡ max before (capped (length_frames frames + length_open (taking page_size state item))) → after ≡ capped (held_so_far frames (taking page_size state item))
+pub takes_held : (page_size : ℕ) (frames : List BucketFrame) (state : Open) (item : Laid LeafElement) (before after : ℕ) → item.held ≡ 0 → before ≡ saturated (held_so_far frames state)
+    → after ≡ max before (saturated (length_frames frames + length_open (taking page_size state item))) → after ≡ saturated (held_so_far frames (taking page_size state item))
 takes_held page_size frames state item before after flat old counted =
     let room : Open = making_room page_size state item.key item.size in
     let same = made page_size state item.key item.size in
@@ -88,18 +88,18 @@ takes_held page_size frames state item before after flat old counted =
     let still = ap (λ (n : ℕ). held_frames frames n) same in omega arith
 
 -- a bucket that ended joins
-pub leaves_held : (page_size : ℕ) (frame : Frame) (frames : List Frame) (state : Open) (before after : ℕ) → (state.run ≡ [] → state.uppers ≡ []) → before ≡ capped (held_so_far (frame ∷ frames) state)
-    → after ≡ max before (capped (length_frames frames + length_open (pushing frame.state (held_item frame (end_of page_size state)))))
-    → after ≡ capped (held_so_far frames (pushing frame.state (held_item frame (end_of page_size state))))
+pub leaves_held : (page_size : ℕ) (frame : BucketFrame) (frames : List BucketFrame) (state : Open) (before after : ℕ) → (state.run ≡ [] → state.uppers ≡ []) → before ≡ saturated (held_so_far (frame ∷ frames) state)
+    → after ≡ max before (saturated (length_frames frames + length_open (pushing frame.state (held_item frame (end_of page_size state)))))
+    → after ≡ saturated (held_so_far frames (pushing frame.state (held_item frame (end_of page_size state))))
 leaves_held page_size frame frames state before after begun old counted = grind (arith, end_held, pushed)
 
 -- a bucket is opened with items that have no pages below them, and the one around it waits with room for it
 flat_run : {E : Type 0} (run : List (Laid E)) → held_in run ≤ length run → held_on run 0 ≡ length run
 flat_run run flat = let e = on_page run in let m = on_max run 0 in omega arith
 
-pub enters_held : (page_size : ℕ) (known : Known) (frame : Frame) (frames : List Frame) (state : Open) (key : List ℕ) (size : ℕ) (run : List (Laid LeafElement)) (before after : ℕ) → frame.state ≡ making_room page_size state key size
-    → held_in run ≤ length run → before ≡ capped (held_so_far frames state)
-    → after ≡ max before (capped (length_frames (frame ∷ frames) + length_open (record { uppers = []; run = run; known = known }))) → after ≡ capped (held_so_far (frame ∷ frames) (record { uppers = []; run = run; known = known }))
+pub enters_held : (page_size : ℕ) (known : Known) (frame : BucketFrame) (frames : List BucketFrame) (state : Open) (key : List ℕ) (size : ℕ) (run : List (Laid LeafElement)) (before after : ℕ) → frame.state ≡ making_room page_size state key size
+    → held_in run ≤ length run → before ≡ saturated (held_so_far frames state)
+    → after ≡ max before (saturated (length_frames (frame ∷ frames) + length_open (record { uppers = []; run = run; known = known }))) → after ≡ saturated (held_so_far (frame ∷ frames) (record { uppers = []; run = run; known = known }))
 enters_held page_size known frame frames state key size run before after room flat old counted =
     let same = ap (λ (s : Open). held_open s 0) room ∙ made page_size state key size in
     let values = flat_run run flat in
@@ -122,7 +122,7 @@ above_length runs uppers b are = absurd are
 pub items_length : (bucket : BucketRuns) (next b : ℕ) (state : Open) → AreOpenRuns (bucket_runs bucket next) state b → items_in bucket ≡ length_open state
 items_length bucket next b state runs = grind (arith, above_length, length-map, length-elements)
 
-pub around_length : (ws : List WaitingBucket) (frames : List Frame) → AreWaiting ws frames → items_around ws ≡ length_frames frames
+pub around_length : (ws : List WaitingBucket) (frames : List BucketFrame) → AreWaiting ws frames → items_around ws ≡ length_frames frames
 around_length [] [] waits = refl
 around_length (w ∷ ws) (frame ∷ frames) waits =
     let (runs, key, sequence, others) = waits in

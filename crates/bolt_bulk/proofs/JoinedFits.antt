@@ -9,7 +9,7 @@ use Rattle.bolt_layout.specs.{Copies.IsOfOneTree, Storable.IsFitListing, Storabl
 use Rattle.bolt_bulk.specs.WholeListings.{IsWhole}
 use Rattle.bolt_layout.proofs.FileTrees.{good_fits, good_inner, good_shown, held_fits}
 use Rattle.bolt_recover.specs.{Joined.IsFoundMember, Joined.IsJoined, Joined.lost_and_found, PageKeys.page_key, Recovered.IsRecovered}
-use Rattle.bolt_recover.proofs.{HeldMembers.held, HeldMembers.shows_entry, JoinedContents.joined_contents, PageNames.digits_long}
+use Rattle.bolt_recover.proofs.{MembersInBuckets.path_holds, MembersInBuckets.shows_entry, JoinedContents.joined_contents, PageNames.digits_long}
 
 -- Members of a listing that fits are whole, if all are left.
 pub whole_if_fit : {M : Type 0} {lists : M → List Member → Type 0} {left : M → List Member → List Member} {members : M} → (listing : List Member) × lists members listing
@@ -29,7 +29,7 @@ named_fits n = let long = digits_long 16 n in (omega (arith, long), omega (arith
 
 module _ (file : List ℕ) (meta : Meta) (bytes : IsBytes file) where
   pub recovered_fits : (listing : List Member) → IsRecovered file meta listing → (path : Path) (item : Item) → Contains listing (path, item) → IsFitMember path item
-  recovered_fits listing is path item has = held_fits file meta bytes meta.root path item (held file meta is.survey path item ((is.exact path item).0 has))
+  recovered_fits listing is path item has = held_fits file meta bytes meta.root path item (path_holds file meta is.survey path item ((is.exact path item).0 has))
 
   found_fits : (found : List ℕ) (m : Member) → IsFoundMember file meta found m → Fits m
   found_fits found m (n, (has, inl same)) = subst Fits (sym same) (bucket_fits (lost_and_found ∷ []) (page_key n) (named_fits n))

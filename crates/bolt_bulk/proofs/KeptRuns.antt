@@ -21,7 +21,7 @@ pub room_same : (page_size : ℕ) (kept_run : RunView) (upper : Upper) (n size :
 room_same page_size kept_run upper n size is = grind (arith, length-elements)
 
 pub stays_same : (page_size : ℕ) (kept_run : RunView) (upper : Upper) (n size : ℕ) → IsUpper kept_run upper n → run_stays page_size kept_run size ≡ stays_open page_size upper size
-stays_same page_size kept_run upper n size is = ap (λ (b : Bool). b || is_out kept_run.left) (room_same page_size kept_run upper n size is) ∙ ap (λ (l : Option ℕ). has_room page_size 2 upper.run size || is_out l) is.left_is
+stays_same page_size kept_run upper n size is = ap (λ (b : Bool). b || is_out kept_run.allowed) (room_same page_size kept_run upper n size is) ∙ ap (λ (l : Option ℕ). has_room page_size 2 upper.run size || is_out l) is.allowed_is
 
 pub kept_same : (page_size : ℕ) (kept_run : RunView) (upper : Upper) (n size : ℕ) → IsUpper kept_run upper n → IsUpper (run_kept page_size kept_run size) (kept page_size upper size) n
 kept_same page_size kept_run upper n size is = grind (arith, room_same)
@@ -69,7 +69,7 @@ runs_climbed page_size new key e next b q (kept_run ∷ kept_runs) (upper ∷ up
     let more = numbers-append (put_in uppers) (upper.run ++ q ∷ []) in
     let none = numbers-append (put_in (climb page_size new key q2 uppers)) [] in
     let stays = kept_same page_size (run_push kept_run e) (pushed_on upper q) m (key_size key) over.pushed in
-    let left = are.0.left_is in
+    let left = are.0.allowed_is in
     let closed = are.0.closed_is in
     grind arith
 runs_climbed page_size new key e next b q kept_runs uppers are keyed same number = absurd are

@@ -11,9 +11,9 @@ use Rattle.bolt_bulk.specs.{Private.IsOtherRow, Private.limit_in, Private.row_cm
 apart : (bucket level b l : ℕ) → IsOtherRow bucket level b l → is_eq (row_cmp (bucket, level) (b, l)) ≡ false
 apart bucket level b l other = grind (arith, exact_unsigned)
 
-pub others_stay : (old new : BTreeMap (ℕ × ℕ) ℕ) (bucket level left : ℕ) → Updates row_cmp old new (bucket, level) (Some left) → (b l : ℕ) → IsOtherRow bucket level b l
+pub others_stay : (old new : BTreeMap (ℕ × ℕ) ℕ) (bucket level allowed : ℕ) → Updates row_cmp old new (bucket, level) (Some allowed) → (b l : ℕ) → IsOtherRow bucket level b l
     → get row_cmp new (b, l) ≡ get row_cmp old (b, l)
-others_stay old new bucket level left updates b l other = updates.2 (b, l) (apart bucket level b l other)
+others_stay old new bucket level allowed updates b l other = updates.2 (b, l) (apart bucket level b l other)
 
 -- One row after another gets its limit.
 noted_step : (rows : List (ℕ × ℕ)) (lost loses : Bool) (i : ℕ) (row : ℕ × ℕ) (limit : Option ℕ) (old new : ℕ → Option ℕ) → drop i rows ≡ row ∷ drop (i + 1) rows

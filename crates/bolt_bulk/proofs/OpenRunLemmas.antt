@@ -6,7 +6,7 @@ use Rattle.std.proofs.lemmas.List.Sums.{sum_by_push}
 use Rattle.bolt_format.specs.Elements.{BranchElement, LeafElement}
 use Rattle.bolt_layout.specs.{Cut.branch_cut, Cut.cut_from, Cut.joins, Laid.Laid, Laid.Placed, Laid.numbers_of, Laid.pages_of, Laid.size_of}
 use Rattle.bolt_layout.specs.Levels.{branch_page_view, leaf_page_view, page_over, root_over}
-use Rattle.bolt_layout.specs.{Limits.HaveRightLimits, Limits.cut_left, Limits.one_less, declared.Layout.Layout}
+use Rattle.bolt_layout.specs.{Limits.HaveRightLimits, Limits.cut_within, Limits.one_less, declared.Layout.Layout}
 use Rattle.bolt_bulk.specs.Private.{bucket_limit, climb, climb_puts, close, close_puts, Comes, end_of, end_puts, has_room, IsOpen, IsSized, IsUnder, kept, key_size, Known, leaves_coming, making_room, next_number, nothing_open, numbers_in, Open, own_page, pages_put, pushed_on, pushing, put_in, room_puts, stays_open, taking, Upper}
 use Rattle.bolt_layout.proofs.Tops.{top_above}
 
@@ -29,45 +29,45 @@ cut_step page_size least run next items = grind (arith, cut_joined, cut_begun)
 
 -- A run that stays open takes the next page,
 left_stays : (page_size : ℕ) (upper : Upper) (next : Laid BranchElement) (size : ℕ) (pages : List (Laid BranchElement)) → next.size ≡ size → stays_open page_size upper size ≡ true
-    → cut_left page_size size_of upper.left upper.run (next ∷ pages) ≡ cut_left page_size size_of (kept page_size upper size).left (upper.run ++ next ∷ []) pages
+    → cut_within page_size size_of upper.allowed upper.run (next ∷ pages) ≡ cut_within page_size size_of (kept page_size upper size).allowed (upper.run ++ next ∷ []) pages
 left_stays page_size upper next size pages named stays = grind (arith, room_joins)
 
 -- and any other ends before it.
 left_closes : (page_size : ℕ) (upper : Upper) (next : Laid BranchElement) (size : ℕ) (pages : List (Laid BranchElement)) → next.size ≡ size → stays_open page_size upper size ≡ false
-    → cut_left page_size size_of upper.left upper.run (next ∷ pages) ≡ upper.run ∷ cut_left page_size size_of (one_less upper.left) (next ∷ []) pages
+    → cut_within page_size size_of upper.allowed upper.run (next ∷ pages) ≡ upper.run ∷ cut_within page_size size_of (one_less upper.allowed) (next ∷ []) pages
 left_closes page_size upper next size pages named closes = grind (arith, or_parts, room_joins)
 
 -- the first run of a cut begins with the run that was open
 pub left_begins : (page_size : ℕ) (left : Option ℕ) (run pages : List (Laid BranchElement))
-    → (more : List (Laid BranchElement)) × (rest : List (List (Laid BranchElement))) × (cut_left page_size size_of left run pages ≡ (run ++ more) ∷ rest)
+    → (more : List (Laid BranchElement)) × (rest : List (List (Laid BranchElement))) × (cut_within page_size size_of left run pages ≡ (run ++ more) ∷ rest)
 left_begins page_size left run [] = ([], [], ap (λ (r : List (Laid BranchElement)). r ∷ []) (sym (append-nil run)))
 left_begins page_size left run (next ∷ pages) =
-    let upper : Upper = record { run = run; left = left; closed = 0 } in
+    let upper : Upper = record { run = run; allowed = left; closed = 0 } in
     elim (cases_Bool (stays_open page_size upper next.size)) [
       | inl t ↦
-          let (more, rest, e) = left_begins page_size (kept page_size upper next.size).left (run ++ next ∷ []) pages in
+          let (more, rest, e) = left_begins page_size (kept page_size upper next.size).allowed (run ++ next ∷ []) pages in
           (next ∷ more, rest, left_stays page_size upper next next.size pages refl t ∙ (e ∙ ap (λ (r : List (Laid BranchElement)). r ∷ rest) (append_assoc run (next ∷ []) more)))
       | inr f ↦ (
         [],
-        cut_left page_size size_of (one_less left) (next ∷ []) pages,
-        left_closes page_size upper next next.size pages refl f ∙ ap (λ (r : List (Laid BranchElement)). r ∷ cut_left page_size size_of (one_less left) (next ∷ []) pages) (sym (append-nil run)),
+        cut_within page_size size_of (one_less left) (next ∷ []) pages,
+        left_closes page_size upper next next.size pages refl f ∙ ap (λ (r : List (Laid BranchElement)). r ∷ cut_within page_size size_of (one_less left) (next ∷ []) pages) (sym (append-nil run)),
       )
     ]
 
 -- the second page of a row is in the first run
 pair_step : (page_size : ℕ) (left : Option ℕ) (q p : Laid BranchElement) (pages : List (Laid BranchElement))
-    → cut_left page_size size_of left (q ∷ []) (p ∷ pages) ≡ cut_left page_size size_of left (q ∷ p ∷ []) pages
+    → cut_within page_size size_of left (q ∷ []) (p ∷ pages) ≡ cut_within page_size size_of left (q ∷ p ∷ []) pages
 pair_step page_size left q p pages = refl
 
 -- A climb keeps what the runs become.
 run_right : (which : Layout) (page_size : ℕ) (limits : ℕ → Option ℕ) (q p : Laid BranchElement) (pages all : List (Laid BranchElement)) (root : Laid BranchElement)
     → Comes which page_size limits [] all (q ∷ p ∷ pages) root
-    → Comes which page_size limits (record { run = q ∷ []; left = limits 0; closed = 0 } ∷ []) all (p ∷ pages) root
+    → Comes which page_size limits (record { run = q ∷ []; allowed = limits 0; closed = 0 } ∷ []) all (p ∷ pages) root
 run_right which page_size limits q p pages all root (all_is, is) =
     let M : List (List (Laid BranchElement)) → List (Laid BranchElement) = λ runs. map (page_over branch_page_view page_size) runs in
-    let same : cut_left page_size size_of (limits 0) (q ∷ []) (p ∷ pages) ≡ branch_cut which page_size size_of (q ∷ p ∷ pages) = is.right 0 in
-    let step : cut_left page_size size_of (limits 0) (q ∷ []) (p ∷ pages) ≡ cut_left page_size size_of (limits 0) ((q ∷ []) ++ p ∷ []) pages = pair_step page_size (limits 0) q p pages in
-    let cut : branch_cut which page_size size_of all ≡ cut_left page_size size_of (limits 0) ((q ∷ []) ++ p ∷ []) pages =
+    let same : cut_within page_size size_of (limits 0) (q ∷ []) (p ∷ pages) ≡ branch_cut which page_size size_of (q ∷ p ∷ pages) = is.right 0 in
+    let step : cut_within page_size size_of (limits 0) (q ∷ []) (p ∷ pages) ≡ cut_within page_size size_of (limits 0) ((q ∷ []) ++ p ∷ []) pages = pair_step page_size (limits 0) q p pages in
+    let cut : branch_cut which page_size size_of all ≡ cut_within page_size size_of (limits 0) ((q ∷ []) ++ p ∷ []) pages =
     ap (λ (xs : List (Laid BranchElement)). branch_cut which page_size size_of xs) (sym all_is) ∙ (sym same ∙ step) in
     let long = ap (λ (xs : List (Laid BranchElement)). length xs) all_is in (
       record { runs = []; count = refl; cut = cut; some = omega arith },
@@ -96,7 +96,7 @@ climb_same which page_size limits key q (upper ∷ uppers) p pages all root name
       | inr f ↦
           let step = left_closes page_size pushed p (key_size key) pages size f in
           let split = subst C step is in
-          let (more, rest, e) = left_begins page_size (one_less upper.left) (p ∷ []) pages in
+          let (more, rest, e) = left_begins page_size (one_less upper.allowed) (p ∷ []) pages in
           let q2 : Laid BranchElement = page_over branch_page_view page_size (upper.run ++ q ∷ []) in
           let p2 : Laid BranchElement = page_over branch_page_view page_size (p ∷ more) in
           let both = subst (λ (runs : List (List (Laid BranchElement))). Comes which page_size above uppers (M whole) (q2 ∷ M runs) root) e split in
@@ -105,7 +105,7 @@ climb_same which page_size limits key q (upper ∷ uppers) p pages all root name
             record {
               runs = stands.runs ++ (upper.run ++ q ∷ []) ∷ [];
               count = omega arith;
-              cut = stands.cut ∙ (ap (λ (rs : List (List (Laid BranchElement))). stands.runs ++ rs) step ∙ sym (append_assoc stands.runs ((upper.run ++ q ∷ []) ∷ []) (cut_left page_size size_of (one_less upper.left) (p ∷ []) pages)));
+              cut = stands.cut ∙ (ap (λ (rs : List (List (Laid BranchElement))). stands.runs ++ rs) step ∙ sym (append_assoc stands.runs ((upper.run ++ q ∷ []) ∷ []) (cut_within page_size size_of (one_less upper.allowed) (p ∷ []) pages)));
               some = stands.some;
             },
             subst (λ (runs : List (List (Laid BranchElement))). Comes which page_size above (climb page_size (above (length uppers)) key q2 uppers) (M whole) (M runs) root) (sym e)

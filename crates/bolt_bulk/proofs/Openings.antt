@@ -7,7 +7,7 @@ use Rattle.bolt_layout.specs.Openings.{row_ends_of, AreRight, AreFromEnds, leaf_
 use Rattle.bolt_layout.specs.{declared.Layout.Layout, declared.Layout.TheVariants.Plain}
 use Rattle.bolt_layout.proofs.{OpenedBuckets.items_below, OpenedBuckets.leaves_few, PlainRows.plain_right, PlainRows.plain_rows}
 use Rattle.bolt_layout.proofs.LimitsFromEnds.{root_from_ends, from_ends_are}
-use Rattle.bolt_bulk.specs.Private.{AreComing, AreComingAround, capped, FitLimits, Frame, HasRoot, limit_in, limits_with, Notes, onto, Wanted}
+use Rattle.bolt_bulk.specs.Private.{AreComing, AreComingAround, saturated, FitLimits, BucketFrame, HasRoot, limit_in, limits_with, Notes, onto, Wanted}
 use Rattle.bolt_bulk.specs.declared.limits.Limits.{Limits}
 
 module _ (which : Layout) (page_size : ℕ) where
@@ -31,14 +31,14 @@ module _ (wanted : Wanted) (page_size : ℕ) (limits : ℕ → ℕ → Option �
   pub coming_at : (m n : ℕ) (tree : Tree) → m ≡ n → AreComing wanted page_size limits m tree → AreComing wanted page_size limits n tree
   coming_at m n tree same are = subst (λ (k : ℕ). AreComing wanted page_size limits k tree) same are
 
-  pub around_at : (m n : ℕ) (frames : List Frame) → m ≡ n → AreComingAround wanted page_size limits m frames → AreComingAround wanted page_size limits n frames
+  pub around_at : (m n : ℕ) (frames : List BucketFrame) → m ≡ n → AreComingAround wanted page_size limits m frames → AreComingAround wanted page_size limits n frames
   around_at m n frames same are = subst (λ (k : ℕ). AreComingAround wanted page_size limits k frames) same are
 
 -- no limits are right for the plain layout
 pub fit_plain : (page_size : ℕ) (limits : Limits) (tree : Tree) → ((bucket level : ℕ) → limit_in limits bucket level ≡ None) → FitLimits Plain tree page_size (limits_with limits)
 fit_plain page_size limits tree none = record {
-  root = plain_rows page_size (limits_with limits) (λ bucket level. none (capped bucket) level) 0 (leaf_pages page_size (items_of Plain page_size tree));
-  others = plain_right page_size (limits_with limits) (λ bucket level. none (capped bucket) level) 1 tree;
+  root = plain_rows page_size (limits_with limits) (λ bucket level. none (saturated bucket) level) 0 (leaf_pages page_size (items_of Plain page_size tree));
+  others = plain_right page_size (limits_with limits) (λ bucket level. none (saturated bucket) level) 1 tree;
 }
 
 -- At the beginning it is known of all.

@@ -13,13 +13,13 @@ use Rattle.bolt_layout.specs.Laid.{Placed}
 use Rattle.bolt_layout.specs.Layout.{first_page, layout_held, layout_mark, layout_pages, layout_root, placed_bytes}
 use Rattle.bolt_layout.specs.{Storable.HasLengths, Openings.leaf_pages, Openings.opened_in, declared.Layout.Layout}
 use Rattle.bolt_layout.specs.{declared.Layout.TheVariants.Balanced, declared.Layout.TheVariants.Plain, Items.items_of, Items.root_of}
-use Rattle.bolt_bulk.specs.Private.{AreComingAround, AreOpenRuns, bucket_end_next, bucket_runs, BucketEnds, BucketRunsView, capped, depth_of, end_of, Ends, FitLimits, Frame, HasLeft, HasNoted, held_so_far, IsAt, IsFitMember, IsOn, Known, last_part, Level, level_of, limit_in, limits_by, limits_with, no_leaves, nothing_open, Open, open_in, path_in, pending_depth, runs_end, runs_end_put, Steps, Wanted}
+use Rattle.bolt_bulk.specs.Private.{AreComingAround, AreOpenRuns, bucket_end_next, bucket_runs, BucketEnds, BucketRunsView, saturated, depth_of, end_of, Ends, FitLimits, BucketFrame, HasLeft, HasNoted, held_so_far, IsAt, IsFitMember, IsOn, Known, last_part, Parent, parent_of, limit_in, limits_by, limits_with, no_leaves, nothing_open, Open, open_in, path_in, pending_depth, runs_end, runs_end_put, Steps, Wanted}
 use Rattle.bolt_bulk.specs.{declared.page_setup.PageSetup.PageSetup, declared.fault.BulkFault.BulkFault, declared.pass.Ended.Ended, declared.pass.Pass.Pass}
-use Rattle.bolt_bulk.specs.{declared.pass.PendingBucket.PendingBucket, declared.limits.NotedLimits.NotedLimits}
+use Rattle.bolt_bulk.specs.{declared.pending_bucket.PendingBucket.PendingBucket, declared.noted_limits.NotedLimits.NotedLimits}
 use Rattle.bolt_bulk.proofs.{PassSteps.pass_begins, PassSteps.pass_ends, HeldSteps.end_held}
 use Rattle.bolt_bulk.proofs.Members.{all_left, left_after, next_entry, next_short, none_at_all, with_item}
 use Rattle.bolt_bulk.proofs.{KeptRuns.nothing_runs, KeptRuns.runs_ended, OpenRunLemmas.ends, Openings.all_coming, Openings.root_notes, PassAt.on_of}
-use Rattle.bolt_bulk.proofs.{PassLeft.depth_levels, Tables.none_noted, Tables.noted_leaves, Tables.opened_most, Tables.table_fits}
+use Rattle.bolt_bulk.proofs.{PassLeft.depth_parents, Tables.none_noted, Tables.noted_leaves, Tables.opened_most, Tables.table_fits}
 use Rattle.bolt_bulk.proofs.PutsLemmas.{bytes-append, pages_some, short_then}
 use Rattle.bolt_format.proofs.WroteLemmas.{Wrote-same, Wrote-then}
 
@@ -31,25 +31,25 @@ last_pushed (part ∷ []) key = refl
 last_pushed (part ∷ next ∷ path) key = last_pushed (next ∷ path) key
 
 pub record HasNext (wanted : Wanted) (pass : Pass) (key : Key) (item : Item) (members : List Member) (put : List Placed) : Type 0 where
-  pub levels : List Level
+  pub parents : List Parent
   pub inside : Tree
   pub after : Tree
-  pub at : IsAt wanted pass levels (with_item key item inside after) put
-  pub members_are : left_after levels key item inside after ≡ members
+  pub at : IsAt wanted pass parents (with_item key item inside after) put
+  pub members_are : left_after parents key item inside after ≡ members
 
 pub has_next : (wanted : Wanted) (pass : Pass) (path : Path) (key : Key) (item : Item) (members : List Member) (put : List Placed) → HasLeft wanted pass ((path, item) ∷ members) put → depth_of pass ≤ length path → last_part path ≡ key
     → HasNext wanted pass key item members put
 has_next wanted pass path key item members put has deep last =
-    let d = depth_levels wanted pass has.levels has.left put has.at in
-    let short = next_short has.levels has.left (path, item) members has.members_are in
-    let next = next_entry has.levels has.left path item members has.members_are (omega arith) in
-    let same : next.key ≡ key = sym (last_pushed (path_in has.levels) next.key) ∙ (ap last_part (sym next.path_is) ∙ last) in
+    let d = depth_parents wanted pass has.parents has.left put has.at in
+    let short = next_short has.parents has.left (path, item) members has.members_are in
+    let next = next_entry has.parents has.left path item members has.members_are (omega arith) in
+    let same : next.key ≡ key = sym (last_pushed (path_in has.parents) next.key) ∙ (ap last_part (sym next.path_is) ∙ last) in
     record {
-      levels = has.levels;
+      parents = has.parents;
       inside = next.inside;
       after = next.after;
-      at = subst (λ (k : Key). IsAt wanted pass has.levels (with_item k item next.inside next.after) put) same (subst (λ (t : Tree). IsAt wanted pass has.levels t put) next.rest_is has.at);
-      members_are = ap (λ (k : Key). left_after has.levels k item next.inside next.after) (sym same) ∙ sym next.more_is;
+      at = subst (λ (k : Key). IsAt wanted pass has.parents (with_item k item next.inside next.after) put) same (subst (λ (t : Tree). IsAt wanted pass has.parents t put) next.rest_is has.at);
+      members_are = ap (λ (k : Key). left_after has.parents k item next.inside next.after) (sym same) ∙ sym next.more_is;
     }
 
 -- The members of the listing of a tree that can be stored fit.
@@ -74,7 +74,7 @@ has_begun wanted pass none nothing runs fresh first asked unnoted fit =
     let P : ℕ = pass.setup.page_size in
     let known : Known = record { number = 0; limits = record { all = pass.limits; bucket = 0 }; leaves = leaf_pages P (items_of wanted.which P wanted.tree) } in
     record {
-      levels = [];
+      parents = [];
       left = wanted.tree;
       at = record {
         frames = [];
@@ -98,11 +98,11 @@ has_begun wanted pass none nothing runs fresh first asked unnoted fit =
 
 -- ---- the end
 
-no_levels : (levels : List Level) → suc (length levels) ≤ 1 → levels ≡ []
-no_levels [] h = refl
-no_levels (level ∷ levels) h = absurd (omega arith)
+no_parents : (parents : List Parent) → suc (length parents) ≤ 1 → parents ≡ []
+no_parents [] h = refl
+no_parents (parent ∷ parents) h = absurd (omega arith)
 
-no_frames : (frames : List Frame) → [] ≡ map level_of frames → frames ≡ []
+no_frames : (frames : List BucketFrame) → [] ≡ map parent_of frames → frames ≡ []
 no_frames [] e = refl
 no_frames (frame ∷ frames) e = absurd cc
 
@@ -117,7 +117,7 @@ pub record HasEnd (wanted : Wanted) (pass : Pass) (put : List Placed) : Type 0 w
   pub pages : layout_pages wanted.which pass.setup.page_size wanted.tree ≡ put ++ runs_end_put pass.setup.page_size (bucket_runs pass.bucket pass.next)
   pub root : runs_end pass.setup.page_size (bucket_runs pass.bucket pass.next) ≡ layout_root wanted.which pass.setup.page_size wanted.tree
   pub mark : bucket_end_next pass.setup.page_size (bucket_runs pass.bucket pass.next) ≡ layout_mark wanted.which pass.setup.page_size wanted.tree
-  pub held : pass.most ≡ capped (layout_held wanted.which pass.setup.page_size wanted.tree)
+  pub held : pass.most ≡ saturated (layout_held wanted.which pass.setup.page_size wanted.tree)
   pub noted : (noted : NotedLimits) → BucketEnds pass.noted noted pass.bucket.uppers → wanted.notes ≡ true → wanted.which ≡ Plain
       → layout_mark wanted.which pass.setup.page_size wanted.tree ≤ 18446744073709551615 → FitLimits Balanced wanted.tree pass.setup.page_size (limits_with noted.limits)
 
@@ -131,23 +131,23 @@ root_ended page_size wanted state runs put on =
 
 pub has_end : (wanted : Wanted) (pass : Pass) (put : List Placed) → HasLeft wanted pass [] put → depth_of pass ≤ 1 → HasEnd wanted pass put
 has_end wanted pass put has shallow =
-    let d = depth_levels wanted pass has.levels has.left put has.at in
-    let none = no_levels has.levels (omega arith) in
-    let left : has.left ≡ end = none_at_all has.levels has.left has.members_are in
-    let at = subst (λ (t : Tree). IsAt wanted pass [] t put) left (subst (λ (ls : List Level). IsAt wanted pass ls has.left put) none has.at) in
+    let d = depth_parents wanted pass has.parents has.left put has.at in
+    let none = no_parents has.parents (omega arith) in
+    let left : has.left ≡ end = none_at_all has.parents has.left has.members_are in
+    let at = subst (λ (t : Tree). IsAt wanted pass [] t put) left (subst (λ (ls : List Parent). IsAt wanted pass ls has.left put) none has.at) in
     let (same, on, coming) = on_of at (no_pending pass shallow) in
     let frames = no_frames at.frames same in
     let (pages, root, mark, held) = root_ended pass.setup.page_size wanted at.state (bucket_runs pass.bucket pass.next) put
-    (subst (λ (fs : List Frame). IsOn wanted.which pass.setup.page_size wanted.tree fs at.state [] (bucket_runs pass.bucket pass.next) put) frames on) in
+    (subst (λ (fs : List BucketFrame). IsOn wanted.which pass.setup.page_size wanted.tree fs at.state [] (bucket_runs pass.bucket pass.next) put) frames on) in
     record {
       pages = pages;
       root = root;
       mark = mark;
-      held = at.held ∙ ap capped (ap (λ (fs : List Frame). held_so_far fs at.state) frames ∙ held);
+      held = at.held ∙ ap saturated (ap (λ (fs : List BucketFrame). held_so_far fs at.state) frames ∙ held);
       noted = λ noted ended asked which fits.
           let P : ℕ = pass.setup.page_size in
-          let last = noted_leaves pass.bucket [] (subst (λ (fs : List Frame). HasNoted wanted P pass.noted at.opened (open_in at.state fs)) frames at.noted) coming on ended in
-          let all = subst (λ (fs : List Frame). AreComingAround wanted P (limits_by pass) (at.opened + 0) fs) frames coming.around in
+          let last = noted_leaves pass.bucket [] (subst (λ (fs : List BucketFrame). HasNoted wanted P pass.noted at.opened (open_in at.state fs)) frames at.noted) coming on ended in
+          let all = subst (λ (fs : List BucketFrame). AreComingAround wanted P (limits_by pass) (at.opened + 0) fs) frames coming.around in
           let most = opened_most wanted P (limits_by pass) (at.opened + 0) at.frames coming.around in
           let count : suc (opened_in wanted.which P wanted.tree) ≡ suc (opened_in Plain P wanted.tree) = ap (λ (w : Layout). suc (opened_in w P wanted.tree)) which in
           table_fits P wanted.tree noted.limits at.opened (last.table asked which fits) (omega arith) (omega arith);

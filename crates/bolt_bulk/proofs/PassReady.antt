@@ -5,7 +5,7 @@ use Rattle.std.specs.List.{AllByRecursion}
 use Rattle.bolt_format.specs.{ElementPlaces.leaf_view, declared.element.Leaf.Leaf}
 use Rattle.bolt_tree.specs.Tree.{Tree, with_value}
 use Rattle.bolt_layout.specs.declared.Layout.{Layout}
-use Rattle.bolt_bulk.specs.{Private.HasRoot, Private.IsPendingSmall, Private.IsSmall, Private.onto, declared.pass.PendingBucket.PendingBucket}
+use Rattle.bolt_bulk.specs.{Private.HasRoot, Private.IsPendingSmall, Private.IsSmall, Private.onto, declared.pending_bucket.PendingBucket.PendingBucket}
 use Rattle.bolt_bulk.proofs.{Ontos.value_too_large, HeldRuns.data_push}
 use Rattle.bolt_layout.proofs.ListLemmas.{all_append}
 

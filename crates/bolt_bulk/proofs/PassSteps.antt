@@ -9,7 +9,7 @@ use Rattle.bolt_tree.specs.Tree.{Tree, end}
 use Rattle.bolt_layout.specs.{Items.bucket_item, Items.items_of, Items.root_of, Items.leaf_item, Items.stored_bucket, Laid.Laid, Laid.Placed, Laid.size_of}
 use Rattle.bolt_layout.specs.{Levels.root_over, Limits.HaveRightLimits, Layout.first_page, Layout.layout_pages, Layout.layout_mark}
 use Rattle.bolt_layout.specs.{declared.Layout.Layout, Cut.run_size, PageBytes.inline_value, PageBytes.leaf_data}
-use Rattle.bolt_bulk.specs.Private.{all_put, base_in, bucket_limit, end_of, end_puts, Frame, HasBegun, held_item, IsOpen, IsPass, Known, leaves_coming, making_room, nothing_open, Open, pushing, room_puts, taking, AreOpenRuns, bucket_end_next, BucketRunsView, entries_size, frames_put, HasRoot, IsOn, onto, root_element, runs_end, runs_end_put, runs_push, runs_room, runs_room_put, runs_taking, StandsBefore}
+use Rattle.bolt_bulk.specs.Private.{all_put, base_in, bucket_limit, end_of, end_puts, BucketFrame, HasBegun, held_item, IsOpen, IsPass, Known, leaves_coming, making_room, nothing_open, Open, pushing, room_puts, taking, AreOpenRuns, bucket_end_next, BucketRunsView, entries_size, frames_put, HasRoot, IsOn, onto, root_element, runs_end, runs_end_put, runs_push, runs_room, runs_room_put, runs_taking, StandsBefore}
 use Rattle.bolt_bulk.proofs.OpenRunLemmas.{ends, ends_put, opens, pushed_put, room_put, takes}
 use Rattle.bolt_bulk.proofs.Ontos.{IsValue, ends_inline, onto_items, value_items, values_elements, values_keyed, values_numbers, values_pages, values_size}
 use Rattle.bolt_bulk.proofs.{KeptRuns.runs_ended, KeptRuns.runs_have_room, KeptRuns.runs_pushed, PutBefore.pass_before}
@@ -36,19 +36,19 @@ pass_begins which page_size known tree leaves right = record {
 }
 
 -- An item with no pages below it: room is made, and it is taken.
-pub pass_takes : (which : Layout) (page_size : ℕ) (frames : List Frame) (state : Open) (item : Laid LeafElement) (items : List (Laid LeafElement)) (whole : Laid BranchElement)
+pub pass_takes : (which : Layout) (page_size : ℕ) (frames : List BucketFrame) (state : Open) (item : Laid LeafElement) (items : List (Laid LeafElement)) (whole : Laid BranchElement)
     → IsPass which page_size frames state (item ∷ items) whole → IsPass which page_size frames (taking page_size state item) items whole
 pass_takes which page_size frames state item items whole pass = grind (arith, takes, pushed_begun)
 
-pub put_takes : (page_size : ℕ) (frames : List Frame) (state : Open) (item : Laid LeafElement) → ((n : ℕ) → item.pages n ≡ [])
+pub put_takes : (page_size : ℕ) (frames : List BucketFrame) (state : Open) (item : Laid LeafElement) → ((n : ℕ) → item.pages n ≡ [])
     → all_put frames (taking page_size state item) ≡ all_put frames state ++ room_puts page_size state item.key item.size (base_in frames)
 put_takes page_size frames state item none = grind (arith, pushed_put, append-nil, room_put, append_assoc)
 
 -- A bucket with a root page: room is made, and a bucket within begins.
-abbrev pub waiting : ℕ → Open → List ℕ → ℕ → Tree → Frame
+abbrev pub waiting : ℕ → Open → List ℕ → ℕ → Tree → BucketFrame
 waiting page_size state key sequence after = record { state = making_room page_size state key (32 + length key); key = key; sequence = sequence; after = after }
 
-pub pass_enters : (which : Layout) (page_size : ℕ) (known : Known) (frames : List Frame) (state : Open) (key : List ℕ) (sequence : ℕ) (inner : List (Laid LeafElement)) (after : Tree) (whole : Laid BranchElement)
+pub pass_enters : (which : Layout) (page_size : ℕ) (known : Known) (frames : List BucketFrame) (state : Open) (key : List ℕ) (sequence : ℕ) (inner : List (Laid LeafElement)) (after : Tree) (whole : Laid BranchElement)
     → known.leaves ≡ leaves_coming page_size [] inner → HaveRightLimits which page_size (bucket_limit known.limits) (leaves_coming page_size [] inner)
     → IsPass which page_size frames state (bucket_item key sequence (root_over which page_size inner) ∷ items_of which page_size after) whole
     → IsPass which page_size (waiting page_size state key sequence after ∷ frames) (nothing_open known) inner whole
@@ -66,16 +66,16 @@ pass_enters which page_size known frames state key sequence inner after whole le
       );
     }
 
-pub put_enters : (page_size : ℕ) (known : Known) (frames : List Frame) (state : Open) (key : List ℕ) (sequence : ℕ) (after : Tree)
+pub put_enters : (page_size : ℕ) (known : Known) (frames : List BucketFrame) (state : Open) (key : List ℕ) (sequence : ℕ) (after : Tree)
     → all_put (waiting page_size state key sequence after ∷ frames) (nothing_open known) ≡ all_put frames state ++ room_puts page_size state key (32 + length key) (base_in frames)
 put_enters page_size known frames state key sequence after = grind (arith, append-nil, room_put, append_assoc)
 
 -- The end of a bucket within: its runs close, and the bucket that waits takes its item.
-pub pass_leaves : (which : Layout) (page_size : ℕ) (frame : Frame) (frames : List Frame) (state : Open) (whole : Laid BranchElement) → IsPass which page_size (frame ∷ frames) state [] whole
+pub pass_leaves : (which : Layout) (page_size : ℕ) (frame : BucketFrame) (frames : List BucketFrame) (state : Open) (whole : Laid BranchElement) → IsPass which page_size (frame ∷ frames) state [] whole
     → IsPass which page_size frames (pushing frame.state (held_item frame (end_of page_size state))) (items_of which page_size frame.after) whole
 pass_leaves which page_size frame frames state whole pass = grind (arith, ends, pushed_begun)
 
-pub put_leaves : (page_size : ℕ) (frame : Frame) (frames : List Frame) (state : Open)
+pub put_leaves : (page_size : ℕ) (frame : BucketFrame) (frames : List BucketFrame) (state : Open)
     → all_put frames (pushing frame.state (held_item frame (end_of page_size state))) ≡ all_put (frame ∷ frames) state ++ end_puts page_size state (base_in (frame ∷ frames))
 put_leaves page_size frame frames state = grind (arith, pushed_put, ends_put, append_assoc)
 
@@ -86,16 +86,16 @@ pass_ends which page_size tree state pass = grind (arith, ends, ends_put)
 
 module _ {which : Layout} {page_size : ℕ} {tree : Tree} where
   -- what was written comes before the root page, and its numbers are below the high-water mark
-  pub on_before : {frames : List Frame} {state : Open} {items : List (Laid LeafElement)} {runs : BucketRunsView} {put : List Placed} → IsOn which page_size tree frames state items runs put → StandsBefore put (layout_pages which page_size tree)
+  pub on_before : {frames : List BucketFrame} {state : Open} {items : List (Laid LeafElement)} {runs : BucketRunsView} {put : List Placed} → IsOn which page_size tree frames state items runs put → StandsBefore put (layout_pages which page_size tree)
   on_before {frames} {state} {items} on =
       let is = pass_before which page_size frames state items (root_of which page_size tree) on.under in
       record { rest = is.rest; parts = is.parts ∙ ap (λ (ps : List Placed). ps ++ is.rest) (sym on.put_is); some = is.some }
 
-  pub on_numbers : {frames : List Frame} {state : Open} {items : List (Laid LeafElement)} {runs : BucketRunsView} {put : List Placed} → IsOn which page_size tree frames state items runs put → runs.next ≤ layout_mark which page_size tree
+  pub on_numbers : {frames : List BucketFrame} {state : Open} {items : List (Laid LeafElement)} {runs : BucketRunsView} {put : List Placed} → IsOn which page_size tree frames state items runs put → runs.next ≤ layout_mark which page_size tree
   on_numbers {frames} {state} {items} on = omega (arith, (pass_before which page_size frames state items (root_of which page_size tree) on.under).fewer, on.kept.next_is)
 
   -- an item without pages below it is taken
-  pub on_takes : (frames : List Frame) (state : Open) (key value : List ℕ) (flag : Bool) (items : List (Laid LeafElement)) (runs : BucketRunsView) (put : List Placed)
+  pub on_takes : (frames : List BucketFrame) (state : Open) (key value : List ℕ) (flag : Bool) (items : List (Laid LeafElement)) (runs : BucketRunsView) (put : List Placed)
       → IsOn which page_size tree frames state (leaf_item key value flag ∷ items) runs put
       → IsOn which page_size tree frames (taking page_size state (leaf_item key value flag)) items (runs_taking page_size runs (record { key = key; value = value; is_bucket = flag }) (16 + (length key + length value)))
       (put ++ runs_room_put page_size runs key (16 + (length key + length value)))
@@ -109,7 +109,7 @@ module _ {which : Layout} {page_size : ℕ} {tree : Tree} where
       }
 
   -- a bucket with a root page is entered
-  pub on_enters : (known : Known) (frames : List Frame) (state : Open) (key : List ℕ) (sequence : ℕ) (inner : List (Laid LeafElement)) (after : Tree) (runs : BucketRunsView) (put : List Placed)
+  pub on_enters : (known : Known) (frames : List BucketFrame) (state : Open) (key : List ℕ) (sequence : ℕ) (inner : List (Laid LeafElement)) (after : Tree) (runs : BucketRunsView) (put : List Placed)
       → known.leaves ≡ leaves_coming page_size [] inner → HaveRightLimits which page_size (bucket_limit known.limits) (leaves_coming page_size [] inner)
       → IsOn which page_size tree frames state (bucket_item key sequence (root_over which page_size inner) ∷ items_of which page_size after) runs put
       → IsPass which page_size (waiting page_size state key sequence after ∷ frames) (nothing_open known) inner (root_of which page_size tree)
@@ -123,7 +123,7 @@ module _ {which : Layout} {page_size : ℕ} {tree : Tree} where
       )
 
   -- it ends, and the bucket around it goes on
-  pub on_leaves : (frame : Frame) (frames : List Frame) (state : Open) (inner outer : BucketRunsView) (put : List Placed) (key : List ℕ) (sequence : ℕ) → IsOn which page_size tree (frame ∷ frames) state [] inner put
+  pub on_leaves : (frame : BucketFrame) (frames : List BucketFrame) (state : Open) (inner outer : BucketRunsView) (put : List Placed) (key : List ℕ) (sequence : ℕ) → IsOn which page_size tree (frame ∷ frames) state [] inner put
       → AreOpenRuns outer frame.state (base_in frames) → outer.next ≡ base_in (frame ∷ frames) → key ≡ frame.key → sequence ≡ frame.sequence
       → IsOn which page_size tree frames (pushing frame.state (held_item frame (end_of page_size state))) (items_of which page_size frame.after)
       (runs_push outer (root_element key (runs_end page_size inner) sequence) (32 + length key) (bucket_end_next page_size inner)) (put ++ runs_end_put page_size inner)
@@ -147,7 +147,7 @@ room_left : (page_size : ℕ) (known : Known) (run : List (Laid LeafElement)) (i
     → taking page_size (open_values known run) item ≡ open_values known (run ++ item ∷ [])
 room_left page_size known run item fits few = grind (arith, le-leb, lt-ltb)
 
-pub pass_takes_all : (which : Layout) (page_size : ℕ) (known : Known) (frames : List Frame) (run : List (Laid LeafElement)) (entries : List LeafElement) (items : List (Laid LeafElement)) (whole : Laid BranchElement)
+pub pass_takes_all : (which : Layout) (page_size : ℕ) (known : Known) (frames : List BucketFrame) (run : List (Laid LeafElement)) (entries : List LeafElement) (items : List (Laid LeafElement)) (whole : Laid BranchElement)
     → run_size size_of run + entries_size entries ≤ page_size + 16 → length run + length entries ≤ 65534
     → IsPass which page_size frames (open_values known run) (value_items entries ++ items) whole → IsPass which page_size frames (open_values known (run ++ value_items entries)) items whole
 pass_takes_all which page_size known frames run [] items whole fits few pass = subst (λ (r : List (Laid LeafElement)). IsPass which page_size frames (open_values known r) items whole) (sym (append-nil run)) pass
@@ -163,7 +163,7 @@ pass_takes_all which page_size known frames run (e ∷ entries) items whole fits
     subst (λ (r : List (Laid LeafElement)). IsPass which page_size frames (open_values known r) items whole) (append_assoc run (item ∷ []) (value_items entries)) all
 
 -- they write nothing
-pub values_put : (known : Known) (frames : List Frame) (entries : List LeafElement) → all_put frames (nothing_open known) ≡ all_put frames (open_values known (value_items entries))
+pub values_put : (known : Known) (frames : List BucketFrame) (entries : List LeafElement) → all_put frames (nothing_open known) ≡ all_put frames (open_values known (value_items entries))
 values_put known frames entries = ap (λ (ps : List Placed). frames_put frames ++ ps) (sym (values_pages entries (base_in frames + 0)))
 
 -- and are in the first run

@@ -7,7 +7,7 @@ use Rattle.bolt_format.specs.{Elements.BranchElement, Elements.LeafElement, Page
 use Rattle.bolt_layout.specs.{Cut.branch_cut, Cut.cut_from, Cut.join_last, Items.items_of, Laid.Laid, Laid.Placed, Laid.numbers_of, Laid.pages_of, Laid.size_of}
 use Rattle.bolt_layout.specs.{Levels.branch_page_view, Levels.leaf_page_view, Levels.next_level, Levels.page_over, Levels.top_in, Layout.first_page}
 use Rattle.bolt_layout.specs.{declared.Layout.Layout, declared.Layout.TheVariants.Plain, declared.Layout.TheVariants.Balanced}
-use Rattle.bolt_bulk.specs.Private.{all_put, base_in, bucket_limit, Comes, Frame, frames_put, held_item, IsOpen, IsPass, IsStack, next_number, numbers_in, Open, pages_put, pushing, put_in, Upper}
+use Rattle.bolt_bulk.specs.Private.{all_put, base_in, bucket_limit, Comes, BucketFrame, frames_put, held_item, IsOpen, IsPass, IsStack, next_number, numbers_in, Open, pages_put, pushing, put_in, Upper}
 use Rattle.bolt_layout.proofs.OverRows.{numbers-append}
 use Rattle.bolt_bulk.proofs.OpenRunLemmas.{cut_step, left_begins, pages-append, pages_push, pushed_put}
 
@@ -82,7 +82,7 @@ coming_begins which page_size limits [] p pages all root is b = let top = top_be
 coming_begins which page_size limits (upper ∷ uppers) p pages all root is b =
     let others : List (Laid BranchElement) = map (page_over branch_page_view page_size) (branch_cut which page_size size_of all) in
     let run : List (Laid BranchElement) = upper.run in
-    let (more, rest, e) = left_begins page_size upper.left (run ++ p ∷ []) pages in
+    let (more, rest, e) = left_begins page_size upper.allowed (run ++ p ∷ []) pages in
     let up : Laid BranchElement = page_over branch_page_view page_size ((run ++ p ∷ []) ++ more) in
     let m : ℕ = b + numbers_in uppers in
     let above = subst (λ (rs : List (List (Laid BranchElement))). Comes which page_size (λ k. limits (suc k)) uppers others (map (page_over branch_page_view page_size) rs) root) e is.1 in
@@ -108,7 +108,7 @@ put_before which page_size state items root b is =
     let two = begins_behind (pages_of (put_in state.uppers) b) (numbers_in state.uppers) (over_before leaf_page_view page_size state.run more m) in
     begins_by (omega arith) two one
 
-stack_before : (which : Layout) (page_size : ℕ) (frames : List Frame) (root whole : Laid BranchElement) (front : List Placed) (few : ℕ) → IsStack which page_size frames root whole → Begins 1 front few (root.pages (base_in frames)) root.numbers
+stack_before : (which : Layout) (page_size : ℕ) (frames : List BucketFrame) (root whole : Laid BranchElement) (front : List Placed) (few : ℕ) → IsStack which page_size frames root whole → Begins 1 front few (root.pages (base_in frames)) root.numbers
     → Begins 1 (frames_put frames ++ front) (base_in frames + few) (whole.pages first_page) (first_page + whole.numbers)
 stack_before which page_size [] root whole front few stack is = grind arith
 stack_before which page_size (frame ∷ frames) root whole front few stack is =
@@ -126,7 +126,7 @@ stack_before which page_size (frame ∷ frames) root whole front few stack is =
     grind (arith, append_assoc)
 
 -- at any moment of a pass
-pub pass_before : (which : Layout) (page_size : ℕ) (frames : List Frame) (state : Open) (items : List (Laid LeafElement)) (whole : Laid BranchElement) → IsPass which page_size frames state items whole
+pub pass_before : (which : Layout) (page_size : ℕ) (frames : List BucketFrame) (state : Open) (items : List (Laid LeafElement)) (whole : Laid BranchElement) → IsPass which page_size frames state items whole
     → Begins 1 (all_put frames state) (next_number state (base_in frames)) (whole.pages first_page) (first_page + whole.numbers)
 pass_before which page_size frames state items whole pass =
     let few : ℕ = numbers_in state.uppers + numbers_of state.run in

@@ -109,7 +109,7 @@ closes_early {sink} {old} {setup} {page} {pages} {result = result} same memory =
 
 -- there is no number for a page,
 pub closes_above : {S A : Type 0} {sink : Ghosts S} {old : S} {setup : PageSetup} {page : Placed} {pages : List Placed} {mark next : ℕ} {e : BulkFault} {result : Result A BulkFault} → IsErrAnd result (λ f. f ≡ e) → e ≡ fault.TooLarge
-    → setup.limit < mark → Closes sink old old setup (page ∷ pages) mark next result
+    → setup.highest_mark < mark → Closes sink old old setup (page ∷ pages) mark next result
 closes_above {sink} {old} {setup} {page} {pages} {result = result} same large above =
     let (_, is, e_is) = err_from_is_err_and result same in
     record { writes = rw (is, e_is, large) (record { pages = Wrote-halt old _; within = tt; large = λ e. above }); short = rw is (proper_none (sink.taken old) _ (pages_some setup.page_size page pages)); marked = rw is tt }

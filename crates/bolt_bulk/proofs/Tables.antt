@@ -7,9 +7,9 @@ use Rattle.bolt_layout.specs.{Laid.Laid, Laid.Placed, Laid.size_of, Levels.branc
 use Rattle.bolt_layout.specs.Limits.{AreRowEnds, limit_at, limits_from_ends}
 use Rattle.bolt_layout.specs.{declared.Layout.TheVariants.Plain, declared.Layout.TheVariants.Balanced, Cut.branch_cut, Layout.layout_mark}
 use Rattle.bolt_layout.specs.{Openings.limits_for, Openings.opened_in, Openings.row_ends_of, declared.Layout.Layout}
-use Rattle.bolt_bulk.specs.Private.{bucket_limit, Comes, IsOpen, Open, Upper, upper_end, AreComingAround, AreNumbered, AreUppers, bucket_runs, BucketEnds, capped, FitLimits, Frame, HasNoted, IsOn, IsTable, IsToCome, Known, limit_in, limits_with, Notes, run_end, runs_above, Wanted}
+use Rattle.bolt_bulk.specs.Private.{bucket_limit, Comes, IsOpen, Open, Upper, upper_end, AreComingAround, AreNumbered, AreUppers, bucket_runs, BucketEnds, saturated, FitLimits, BucketFrame, HasNoted, IsOn, IsTable, IsToCome, Known, limit_in, limits_with, Notes, run_end, runs_above, Wanted}
 use Rattle.bolt_bulk.specs.{declared.branch_run.BranchRun.BranchRun, declared.limits.BucketLimits.BucketLimits, declared.limits.Limits.Limits}
-use Rattle.bolt_bulk.specs.{declared.limits.NotedLimits.NotedLimits, declared.bucket_runs.BucketRuns.BucketRuns}
+use Rattle.bolt_bulk.specs.{declared.noted_limits.NotedLimits.NotedLimits, declared.bucket_runs.BucketRuns.BucketRuns}
 use Rattle.bolt_layout.proofs.{LastItem.last_append, BalancedRows.right_from_ends, BalancedRows.from_ends_right, OpenedBuckets.opened_few}
 use Rattle.bolt_layout.proofs.{LimitsFromEnds.from_ends_by, RowEnds.row_ends_are_one, Tops.shorter}
 use Rattle.std.specs.List.{AllByRecursion}
@@ -26,7 +26,7 @@ bucket_rows_end page_size state root is = uppers_end page_size (bucket_limit sta
 
 -- ---- a bucket is opened
 
-pub noted_enters : (wanted : Wanted) (page_size : ℕ) (noted : NotedLimits) (known : Known) (buckets : List Known) → known.limits.bucket ≡ capped known.number → Notes wanted page_size known.number known.leaves
+pub noted_enters : (wanted : Wanted) (page_size : ℕ) (noted : NotedLimits) (known : Known) (buckets : List Known) → known.limits.bucket ≡ saturated known.number → Notes wanted page_size known.number known.leaves
     → HasNoted wanted page_size noted known.number buckets → HasNoted wanted page_size noted (suc known.number) (known ∷ buckets)
 noted_enters wanted page_size noted known buckets number notes has = grind (arith, cases_lt)
 
@@ -48,17 +48,17 @@ run_ends page_size limits (run ∷ runs) (upper ∷ uppers) q all root b (row, a
 run_ends page_size limits runs uppers q all root b are comes few = absurd are
 
 -- no more buckets are opened than the layout has page numbers
-around_most : (wanted : Wanted) (page_size : ℕ) (limits : ℕ → ℕ → Option ℕ) (n : ℕ) (frames : List Frame) → AreComingAround wanted page_size limits n frames → n ≤ suc (opened_in wanted.which page_size wanted.tree)
+around_most : (wanted : Wanted) (page_size : ℕ) (limits : ℕ → ℕ → Option ℕ) (n : ℕ) (frames : List BucketFrame) → AreComingAround wanted page_size limits n frames → n ≤ suc (opened_in wanted.which page_size wanted.tree)
 around_most wanted page_size limits n [] are = omega arith
 around_most wanted page_size limits n (frame ∷ frames) are = let rest = around_most wanted page_size limits (n + opened_in wanted.which page_size frame.after) frames are.1 in omega arith
 
-pub opened_most : (wanted : Wanted) (page_size : ℕ) (limits : ℕ → ℕ → Option ℕ) (n : ℕ) (frames : List Frame) → AreComingAround wanted page_size limits n frames → n ≤ layout_mark wanted.which page_size wanted.tree
+pub opened_most : (wanted : Wanted) (page_size : ℕ) (limits : ℕ → ℕ → Option ℕ) (n : ℕ) (frames : List BucketFrame) → AreComingAround wanted page_size limits n frames → n ≤ layout_mark wanted.which page_size wanted.tree
 opened_most wanted page_size limits n frames are = omega (arith, around_most, opened_few)
 
 -- the numbers of those around it are lower
-all_lower : (wanted : Wanted) (page_size below limit : ℕ) (buckets : List Known) → below ≤ limit → AreNumbered wanted page_size below buckets → AllByRecursion (λ (known : Known). known.number < limit) buckets
-all_lower wanted page_size below limit [] low are = tt
-all_lower wanted page_size below limit (known ∷ buckets) low (is, are) = let e = is.earlier in (omega arith, all_lower wanted page_size known.number limit buckets (omega arith) are)
+all_lower : (wanted : Wanted) (page_size below high : ℕ) (buckets : List Known) → below ≤ high → AreNumbered wanted page_size below buckets → AllByRecursion (λ (known : Known). known.number < high) buckets
+all_lower wanted page_size below high [] low are = tt
+all_lower wanted page_size below high (known ∷ buckets) low (is, are) = let e = is.earlier in (omega arith, all_lower wanted page_size known.number high buckets (omega arith) are)
 
 all_map : {A : Type 0} {P Q R : A → Type 0} (xs : List A) → ((x : A) → P x → Q x → R x) → AllByRecursion P xs → AllByRecursion Q xs → AllByRecursion R xs
 all_map [] f p q = tt
@@ -75,7 +75,7 @@ numbered_below : (wanted : Wanted) (page_size low high : ℕ) (buckets : List Kn
 numbered_below wanted page_size low high [] less are = tt
 numbered_below wanted page_size low high (known ∷ buckets) less (is, are) = grind arith
 
-pub noted_leaves : {wanted : Wanted} {page_size next opened : ℕ} {limits : ℕ → ℕ → Option ℕ} {old new : NotedLimits} {frames : List Frame} {state : Open} {put : List Placed} (bucket : BucketRuns) (others : List Known)
+pub noted_leaves : {wanted : Wanted} {page_size next opened : ℕ} {limits : ℕ → ℕ → Option ℕ} {old new : NotedLimits} {frames : List BucketFrame} {state : Open} {put : List Placed} (bucket : BucketRuns) (others : List Known)
     → HasNoted wanted page_size old opened (state.known ∷ others) → IsToCome wanted page_size limits opened end frames
     → IsOn wanted.which page_size wanted.tree frames state [] (bucket_runs bucket next) put → BucketEnds old new bucket.uppers → HasNoted wanted page_size new opened others
 noted_leaves {wanted} {page_size} {next} {opened} {limits} {old} {new} {frames} {state} bucket others has come on ended =
@@ -109,7 +109,7 @@ pub table_fits : (page_size : ℕ) (tree : Tree) (limits : Limits) (opened : ℕ
     → FitLimits Balanced tree page_size (limits_with limits)
 table_fits page_size tree limits opened table count few =
     let noted : (n level : ℕ) → n < suc (opened_in Plain page_size tree) → limits_with limits n level ≡ limits_for page_size tree n level =
-    λ n level less. (let same : capped n ≡ n = omega arith in ap (λ (m : ℕ). limit_in limits m level) same ∙ table.ended n level (omega arith) tt) in
+    λ n level less. (let same : saturated n ≡ n = omega arith in ap (λ (m : ℕ). limit_in limits m level) same ∙ table.ended n level (omega arith) tt) in
     record {
       root = right_from_ends page_size (limits_with limits 0) tree (λ level. noted 0 level (omega arith));
       others = from_ends_right page_size (limits_with limits) 1 tree (from_ends_by page_size tree (limits_with limits) noted);

@@ -5,11 +5,11 @@ pub mod Coming
 pub mod Endings
 pub mod FirstPages
 pub mod FormatLimits
-pub mod Gathering
+pub mod Buffering
 pub mod HeldCounts
 pub mod HeldItems
 pub mod HeldSoFar
-pub mod Levels
+pub mod Parents
 pub mod MemberPasses
 pub mod OpenBuckets
 pub mod OpenRuns
@@ -28,11 +28,11 @@ pub use Coming.*
 pub use Endings.*
 pub use FirstPages.*
 pub use FormatLimits.*
-pub use Gathering.*
+pub use Buffering.*
 pub use HeldCounts.*
 pub use HeldItems.*
 pub use HeldSoFar.*
-pub use Levels.*
+pub use Parents.*
 pub use MemberPasses.*
 pub use OpenBuckets.*
 pub use OpenRuns.*

@@ -17,20 +17,20 @@ pub(crate) struct BranchRun<'a> {
     pub elements: Vec<Branch<'a>>,
     pub size: usize,
     /// How many runs may still begin in its row. `None` if any number may.
-    pub left: Option<u64>,
+    pub allowed: Option<u64>,
     /// How many runs of its row have closed. Saturates at 2^64 - 1.
     pub closed: u64,
 }
 
 impl<'a> BranchRun<'a> {
     /// A run without pages.
-    pub(crate) fn new(alloc: Global, left: Option<u64>) -> BranchRun<'a>
-        ensures { run_view result ≡ no_run left 0 }
+    pub(crate) fn new(alloc: Global, allowed: Option<u64>) -> BranchRun<'a>
+        ensures { run_view result ≡ no_run allowed 0 }
     {
         BranchRun {
             elements: Vec::new(alloc),
             size: HEADER_LEN,
-            left,
+            allowed,
             closed: 0,
         }
     }
@@ -67,8 +67,8 @@ impl<'a> BranchRun<'a> {
         if self.has_room(page_size, key) {
             return true;
         }
-        if let Some(0) = self.left {
-            self.left = None;
+        if let Some(0) = self.allowed {
+            self.allowed = None;
             return true;
         }
         false
@@ -88,7 +88,7 @@ impl<'a> BranchRun<'a> {
         requires standing { IsStanding (run_view self.old) }
         requires key { length key.now ≤ longest_key }
         requires closed { length closed.key.now ≤ longest_key }
-        requires next { next.old ≤ setup.now.limit }
+        requires next { next.old ≤ setup.now.highest_mark }
         ensures takes { TakesPage S.Sink sink.old sink.new setup.now key.now (branch_view closed.entry) next.old next.new self.old self.new result }
         ensures standing { OnOk result (IsStanding (run_view self.new)) }
     {
@@ -111,7 +111,7 @@ impl<'a> BranchRun<'a> {
     ) -> Result<Branch<'a>, BulkFault>
         requires standing { IsStanding (run_view self.old) }
         requires closed { length closed.key.now ≤ longest_key }
-        requires next { next.old ≤ setup.now.limit }
+        requires next { next.old ≤ setup.now.highest_mark }
         ensures closes { ClosesRun S.Sink sink.old sink.new setup.now (run_push (run_view self.old) (branch_view closed.entry)) next.old next.new result }
         ensures standing { OnOk result (IsStanding (run_view self.new)) }
     {
@@ -127,9 +127,9 @@ impl<'a> BranchRun<'a> {
         sink: &mut S,
     ) -> Result<Branch<'a>, BulkFault>
         requires pushed { IsPushed (run_view self.old) }
-        requires next { next.old ≤ setup.now.limit }
+        requires next { next.old ≤ setup.now.highest_mark }
         ensures closes { ClosesRun S.Sink sink.old sink.new setup.now (run_view self.old) next.old next.new result }
-        ensures run { OnOk result (run_view self.new ≡ no_run (one_less self.old.left) (one_closed self.old.closed)) }
+        ensures run { OnOk result (run_view self.new ≡ no_run (one_less self.old.allowed) (one_closed self.old.closed)) }
     {
         let number = *next;
         let after = number_after(setup, self.size, number)?;
@@ -140,8 +140,8 @@ impl<'a> BranchRun<'a> {
         };
         self.elements.clear();
         self.size = HEADER_LEN;
-        self.left = match self.left {
-            Some(left) => Some(left.saturating_sub(1)),
+        self.allowed = match self.allowed {
+            Some(allowed) => Some(allowed.saturating_sub(1)),
             None => None,
         };
         self.closed = self.closed.saturating_add(1);

@@ -2,7 +2,7 @@
 ghost use Rattle.std.specs.Prelude.{◌≡◌, ◌+◌, ◌<◌, ◌≤◌, true, false, ℕ, IfErr, IfOk, OnOk, length, map, vec_capacity, vec_len};
 ghost use Rattle.std.specs.List.{AllByRecursion};
 ghost use Rattle.bolt_format.specs.{ElementLengths.IsValueLength, ElementPlaces.leaf_view, declared.element.Leaf.Leaf};
-ghost use Rattle.bolt_bulk.specs.Private.{bucket_runs, capped, ClosesBucket, EndsInner, entries_size, first_run, HasRoomFor, held_view, inline_element, inline_size, inlined_by, IsHeld, IsOpenBucket, items_in, leaves_have_room, leaves_of, length_end, longest_key, MakesRoom, no_leaves, pending_element, Pushes, stored_value, TakesItem, value_element, value_item, values_run};
+ghost use Rattle.bolt_bulk.specs.Private.{bucket_runs, saturated, ClosesBucket, EndsInner, entries_size, first_run, HasRoomFor, held_view, inline_element, inline_size, inlined_by, IsHeld, IsOpenBucket, items_in, leaves_have_room, leaves_of, length_end, longest_key, MakesRoom, no_leaves, pending_element, Pushes, stored_value, TakesItem, value_element, value_item, values_run};
 ghost use Rattle.bolt_bulk.specs.declared.fault.BulkFault.TheVariants as fault;
 
 use crate::fault::BulkFault;
@@ -10,7 +10,7 @@ use crate::held::{Held, Stored};
 use crate::leaf_run::LeafRun;
 use crate::limits::BucketLimits;
 use crate::page_setup::PageSetup;
-use crate::pass::PendingBucket;
+use crate::pending_bucket::PendingBucket;
 use crate::upper_runs::UpperRuns;
 use bolt_format::{ELEMENT_LEN, HEAD_LEN, HEADER_LEN, Leaf, Sink};
 use std::alloc::Global;
@@ -100,7 +100,7 @@ impl<'a> BucketRuns<'a> {
         requires open { IsOpenBucket self.old }
         requires key { length key.now ≤ longest_key }
         requires size { size < length_end }
-        requires next { next.old ≤ setup.now.limit }
+        requires next { next.old ≤ setup.now.highest_mark }
         ensures makes { MakesRoom S.Sink sink.old sink.new setup.now self.old next.old key.now size self.new next.new result }
         ensures open { OnOk result (IsOpenBucket self.new) }
         ensures room { OnOk result (leaves_have_room setup.now.page_size (leaves_of self.new.leaves) size ≡ true) }
@@ -200,7 +200,7 @@ impl<'a> BucketRuns<'a> {
         requires open { IsOpenBucket self.old }
         requires key { length key.now ≤ longest_key }
         requires value { IsValueLength (length value.now) }
-        requires next { next.old ≤ setup.now.limit }
+        requires next { next.old ≤ setup.now.highest_mark }
         ensures takes { TakesItem S.Sink sink.old sink.new setup.now self.old next.old (value_element key.now value.now) self.new next.new result }
         ensures open { OnOk result (IsOpenBucket self.new) }
     {
@@ -224,7 +224,7 @@ impl<'a> BucketRuns<'a> {
         requires few { length entries.now < 65535 }
         requires size { pending.size + 16 ≡ inline_size (map leaf_view entries.now) }
         requires small { pending.size < 2147483632 }
-        requires next { next.old ≤ setup.now.limit }
+        requires next { next.old ≤ setup.now.highest_mark }
         ensures takes { TakesItem S.Sink sink.old sink.new setup.now self.old next.old (pending_element pending.entry entries.now) self.new next.new result }
         ensures open { OnOk result (IsOpenBucket self.new) }
     {
@@ -242,7 +242,7 @@ impl<'a> BucketRuns<'a> {
         sink: &mut S,
     ) -> Result<u64, BulkFault>
         requires open { IsOpenBucket self.old }
-        requires next { next.old ≤ setup.now.limit }
+        requires next { next.old ≤ setup.now.highest_mark }
         ensures { ClosesBucket S.Sink sink.old sink.new setup.now self.old next.old next.new result }
     {
         let closed = self.leaves.close(setup, next, sink)?;
@@ -264,7 +264,7 @@ impl<'a> BucketRuns<'a> {
         requires inner { IsOpenBucket inner.old }
         requires key { length key.now ≤ longest_key }
         requires room { leaves_have_room setup.now.page_size (leaves_of self.old.leaves) (32 + length key.now) ≡ true }
-        requires next { next.old ≤ setup.now.limit }
+        requires next { next.old ≤ setup.now.highest_mark }
         ensures ends { EndsInner S.Sink sink.old sink.new setup.now self.old key.now sequence inner.old next.old next.new self.new result }
         ensures open { OnOk result (IsOpenBucket self.new) }
     {
@@ -280,7 +280,7 @@ impl<'a> BucketRuns<'a> {
 
     /// How many items its runs hold. Saturates at 2^64 - 1.
     pub(crate) fn held(&self) -> u64
-        ensures { result ≡ capped (items_in self.now) }
+        ensures { result ≡ saturated (items_in self.now) }
     {
         let mut held = self.leaves.items.len() as u64;
         for run in &self.uppers.runs {

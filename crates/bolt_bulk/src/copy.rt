@@ -1,4 +1,4 @@
-//! The compact copy of a sound file.
+//! The compact copy of a sound file, and its plan.
 ghost use Rattle.std.specs.Prelude.{◌≡◌};
 ghost use Rattle.bolt_check.specs.CheckedFiles.{meta_of};
 ghost use Rattle.bolt_format.specs.Metas.{IsPageSize};
@@ -6,6 +6,7 @@ ghost use Rattle.bolt_tree.specs.FileListings.{ForListing};
 ghost use Rattle.bolt_bulk.specs.Compacting.{CopiesFile, Plans};
 ghost use Rattle.bolt_layout.specs.declared.Layout.TheVariants.{Plain};
 
+use crate::blueprint::Blueprint;
 use crate::fault::{BulkFault, PlanFault};
 use crate::laws::a_walk_is_whole;
 use crate::members_copy::{Done, Plan, compact_members, plan_members};
@@ -32,10 +33,10 @@ pub fn plan_as(
     requires { IsPageSize page_size }
     ensures { ForListing checked.entry (λ listing. Plans layout page_size (meta_of checked.entry).root_sequence listing result) }
 {
-    let shape = shape_of(&checked, layout, page_size);
+    let blueprint = blueprint_of(&checked, layout, page_size);
     let mut walk = Walk::new(alloc, checked);
     a_walk_is_whole(&walk);
-    plan_members(alloc, &mut walk, &shape)
+    plan_members(alloc, &mut walk, &blueprint)
 }
 
 /// Returns where a copy in the plain layout will have its root page and its high-water mark:
@@ -72,10 +73,10 @@ pub fn compact_as<S: Sink>(
     requires { IsPageSize page_size }
     ensures { CopiesFile S.taken S.failed sink.old sink.new checked.entry layout page_size result }
 {
-    let shape = shape_of(&checked, layout, page_size);
+    let blueprint = blueprint_of(&checked, layout, page_size);
     let mut walk = Walk::new(alloc, checked);
     a_walk_is_whole(&walk);
-    compact_members(alloc, &mut walk, &shape, sink)
+    compact_members(alloc, &mut walk, &blueprint, sink)
 }
 
 /// Writes the compact copy of a file in the plain layout: `compact_as` for that layout.
@@ -95,26 +96,14 @@ pub fn compact<S: Sink>(
     compact_as(alloc, checked, Layout::Plain, page_size, sink)
 }
 
-/// What a copy looks like, apart from its members.
-#[derive(Clone, Copy)]
-pub struct Shape {
-    /// Its layout.
-    pub layout: Layout,
-    /// The size of its pages.
-    pub page_size: u64,
-    /// The sequence of the root bucket.
-    pub sequence: u64,
-    pub ghost accepted: { IsPageSize page_size },
-}
-
 /// What the copy of a checked file looks like.
-fn shape_of(checked: &Checked<'_>, layout: Layout, page_size: u64) -> Shape
+fn blueprint_of(checked: &Checked<'_>, layout: Layout, page_size: u64) -> Blueprint
     requires { IsPageSize page_size }
     ensures layout { result.layout ≡ layout }
     ensures page_size { result.page_size ≡ page_size }
     ensures sequence { result.sequence ≡ (meta_of checked.now).root_sequence }
 {
-    Shape {
+    Blueprint {
         layout,
         page_size,
         sequence: checked.meta().root_sequence,

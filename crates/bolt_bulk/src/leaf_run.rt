@@ -37,7 +37,7 @@ impl<'a> LeafRun<'a> {
         sink: &mut S,
     ) -> Result<Branch<'a>, BulkFault>
         requires run { IsLeafRun self.old }
-        requires next { next.old ≤ setup.now.limit }
+        requires next { next.old ≤ setup.now.highest_mark }
         ensures closes { ClosesLeaf S.Sink sink.old sink.new setup.now (leaves_of self.old) next.old next.new result }
         ensures leaves { OnOk result (leaves_of self.new ≡ no_leaves) }
         ensures run { OnOk result (IsLeafRun self.new) }

@@ -6,21 +6,25 @@
 //! that aren't full yet are held.
 #![tactic(auto)]
 
+mod blueprint;
 mod branch_run;
 mod bucket_runs;
 mod copy;
-mod entry_steps;
 mod fault;
 mod held;
 pub mod laws;
 mod leaf_run;
 mod limits;
 mod members_copy;
+mod noted_limits;
 mod page_setup;
 mod pass;
+mod pending_bucket;
 mod pieces;
 mod upper_runs;
+mod waiting_bucket;
 
-pub use copy::{Shape, compact, compact_as, plan, plan_as};
+pub use blueprint::Blueprint;
+pub use copy::{compact, compact_as, plan, plan_as};
 pub use fault::{BulkFault, PlanFault};
 pub use members_copy::{Done, Plan, compact_members};

@@ -6,7 +6,7 @@ ghost use Rattle.bolt_bulk.specs.{Compacting.CopiesEach, Compacting.Plans, Whole
 ghost use Rattle.bolt_bulk.specs.Private.{FindsLimits, first_pages, FitAll, PutsMembers};
 ghost use Rattle.bolt_layout.specs.{PageBytes.copy_meta, PageBytes.filled, declared.Layout.TheVariants.Balanced};
 
-use crate::copy::Shape;
+use crate::blueprint::Blueprint;
 use crate::fault::{BulkFault, PlanFault};
 use crate::laws::a_listing_has_one_layout;
 use crate::limits::Limits;
@@ -45,14 +45,14 @@ pub struct Done {
 fn balanced_limits<'a, M: Members<'a>>(
     alloc: Global,
     members: &mut M,
-    shape: &Shape,
+    blueprint: &Blueprint,
 ) -> Result<Limits, PlanFault>
     requires { IsWhole M.lists M.left members.old }
-    ensures { FindsLimits M.lists M.left M.ends_as members.old members.new Balanced shape.now.page_size shape.now.sequence result }
+    ensures { FindsLimits M.lists M.left M.ends_as members.old members.new Balanced blueprint.now.page_size blueprint.now.sequence result }
 {
-    a_listing_has_one_layout(shape.page_size, shape.sequence);
+    a_listing_has_one_layout(blueprint.page_size, blueprint.sequence);
     let none = Limits::none(alloc);
-    let setup = noting_setup_of(alloc, shape.page_size);
+    let setup = noting_setup_of(alloc, blueprint.page_size);
     match put_pages(setup, &none, true, members, &mut NoSink) {
         Ok(ended) => {
             members.restart(alloc)?;
@@ -68,14 +68,14 @@ fn balanced_limits<'a, M: Members<'a>>(
 fn limits_of<'a, M: Members<'a>>(
     alloc: Global,
     members: &mut M,
-    shape: &Shape,
+    blueprint: &Blueprint,
 ) -> Result<Limits, PlanFault>
     requires { IsWhole M.lists M.left members.old }
-    ensures { FindsLimits M.lists M.left M.ends_as members.old members.new shape.now.layout shape.now.page_size shape.now.sequence result }
+    ensures { FindsLimits M.lists M.left M.ends_as members.old members.new blueprint.now.layout blueprint.now.page_size blueprint.now.sequence result }
 {
-    match shape.layout {
+    match blueprint.layout {
         Layout::Plain => Ok(Limits::none(alloc)),
-        Layout::Balanced => balanced_limits(alloc, members, shape),
+        Layout::Balanced => balanced_limits(alloc, members, blueprint),
     }
 }
 
@@ -84,15 +84,15 @@ fn plan_within<'a, M: Members<'a>>(
     alloc: Global,
     members: &mut M,
     limits: &Limits,
-    shape: &Shape,
+    blueprint: &Blueprint,
 ) -> Result<Plan, PlanFault>
     requires whole { IsWhole M.lists M.left members.old }
-    requires fit { FitAll M.lists members.old shape.now.layout shape.now.page_size limits.now }
-    ensures plans { (listing : List Member) → M.lists members.old listing → Plans shape.now.layout shape.now.page_size shape.now.sequence listing result }
+    requires fit { FitAll M.lists members.old blueprint.now.layout blueprint.now.page_size limits.now }
+    ensures plans { (listing : List Member) → M.lists members.old listing → Plans blueprint.now.layout blueprint.now.page_size blueprint.now.sequence listing result }
     ensures again { IfOk result (λ plan. IsAgain M.lists M.left M.ends_as members.old members.new) }
 {
-    a_listing_has_one_layout(shape.page_size, shape.sequence);
-    let setup = setup_of(alloc, shape.page_size);
+    a_listing_has_one_layout(blueprint.page_size, blueprint.sequence);
+    let setup = setup_of(alloc, blueprint.page_size);
     match put_pages(setup, limits, false, members, &mut NoSink) {
         Ok(ended) => {
             members.restart(alloc)?;
@@ -111,13 +111,13 @@ fn plan_within<'a, M: Members<'a>>(
 pub(crate) fn plan_members<'a, M: Members<'a>>(
     alloc: Global,
     members: &mut M,
-    shape: &Shape,
+    blueprint: &Blueprint,
 ) -> Result<Plan, PlanFault>
     requires { IsWhole M.lists M.left members.old }
-    ensures { (listing : List Member) → M.lists members.old listing → Plans shape.now.layout shape.now.page_size shape.now.sequence listing result }
+    ensures { (listing : List Member) → M.lists members.old listing → Plans blueprint.now.layout blueprint.now.page_size blueprint.now.sequence listing result }
 {
-    let limits = limits_of(alloc, members, shape)?;
-    plan_within(alloc, members, &limits, shape)
+    let limits = limits_of(alloc, members, blueprint)?;
+    plan_within(alloc, members, &limits, blueprint)
 }
 
 /// Writes the copy of all members of a listing that is of one tree: its one layout, written as
@@ -130,33 +130,33 @@ pub(crate) fn plan_members<'a, M: Members<'a>>(
 pub fn compact_members<'a, M: Members<'a>, S: Sink>(
     alloc: Global,
     members: &mut M,
-    shape: &Shape,
+    blueprint: &Blueprint,
     sink: &mut S,
 ) -> Result<Done, BulkFault>
     requires { IsWhole M.lists M.left members.old }
-    ensures copies { CopiesEach S.taken S.failed sink.old sink.new (M.lists members.old) shape.now.layout shape.now.page_size shape.now.sequence result }
+    ensures copies { CopiesEach S.taken S.failed sink.old sink.new (M.lists members.old) blueprint.now.layout blueprint.now.page_size blueprint.now.sequence result }
     ensures end { OnOk result (M.ends_as members.old members.new) }
 {
-    a_listing_has_one_layout(shape.page_size, shape.sequence);
-    let limits = limits_of(alloc, members, shape)?;
-    let plan = plan_within(alloc, members, &limits, shape)?;
-    put_first_pages(shape, &plan, sink)?;
-    let setup = setup_of(alloc, shape.page_size);
+    a_listing_has_one_layout(blueprint.page_size, blueprint.sequence);
+    let limits = limits_of(alloc, members, blueprint)?;
+    let plan = plan_within(alloc, members, &limits, blueprint)?;
+    put_first_pages(blueprint, &plan, sink)?;
+    let setup = setup_of(alloc, blueprint.page_size);
     let ended = put_pages(setup, &limits, false, members, sink)?;
     Ok(Done {
-        bytes: ended.high_water * shape.page_size,
+        bytes: ended.high_water * blueprint.page_size,
         held: ended.held,
     })
 }
 
 /// The meta of a copy with this transaction id.
-fn meta(shape: &Shape, plan: &Plan, txid: u64) -> Meta
-    ensures { result ≡ copy_meta shape.now.page_size plan.now.root shape.now.sequence plan.now.high_water txid }
+fn meta(blueprint: &Blueprint, plan: &Plan, txid: u64) -> Meta
+    ensures { result ≡ copy_meta blueprint.now.page_size plan.now.root blueprint.now.sequence plan.now.high_water txid }
 {
     Meta {
-        page_size: shape.page_size as u32,
+        page_size: blueprint.page_size as u32,
         root: plan.root,
-        root_sequence: shape.sequence,
+        root_sequence: blueprint.sequence,
         freelist: FREELIST,
         high_water: plan.high_water,
         txid,
@@ -173,12 +173,16 @@ fn put_filled<S: Sink>(bytes: &[u8], page_size: usize, sink: &mut S) -> Result<(
 }
 
 /// Writes both metas, and a freelist without ids.
-fn put_first_pages<S: Sink>(shape: &Shape, plan: &Plan, sink: &mut S) -> Result<(), SinkFault>
-    ensures { Wrote S.Sink sink.old sink.new (first_pages shape.now.page_size plan.now.root shape.now.sequence plan.now.high_water) (page_ending result) }
+fn put_first_pages<S: Sink>(
+    blueprint: &Blueprint,
+    plan: &Plan,
+    sink: &mut S,
+) -> Result<(), SinkFault>
+    ensures { Wrote S.Sink sink.old sink.new (first_pages blueprint.now.page_size plan.now.root blueprint.now.sequence plan.now.high_water) (page_ending result) }
 {
-    let page_size = shape.page_size as usize;
-    put_filled(&meta_page(0, &meta(shape, plan, 0)), page_size, sink)?;
-    put_filled(&meta_page(1, &meta(shape, plan, 1)), page_size, sink)?;
+    let page_size = blueprint.page_size as usize;
+    put_filled(&meta_page(0, &meta(blueprint, plan, 0)), page_size, sink)?;
+    put_filled(&meta_page(1, &meta(blueprint, plan, 1)), page_size, sink)?;
     let freelist = page_header(FREELIST, Kind::Freelist, 0, 0);
     put_filled(&freelist, page_size, sink)
 }
@@ -192,7 +196,7 @@ fn put_pages<'a, M: Members<'a>, S: Sink>(
     members: &mut M,
     sink: &mut S,
 ) -> Result<Ended, BulkFault>
-    requires room { 3 ≤ setup.limit }
+    requires room { 3 ≤ setup.highest_mark }
     requires whole { IsWhole M.lists M.left members.old }
     ensures pages { PutsMembers S.Sink sink.old sink.new M.lists members.old setup limits.now notes result }
     ensures end { OnOk result (M.ends_as members.old members.new) }

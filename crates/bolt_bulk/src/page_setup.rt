@@ -20,24 +20,24 @@ pub(crate) struct PageSetup {
     /// The size of a page in bytes.
     pub page_size: usize,
     /// The highest high-water mark that the copy may have.
-    pub limit: u64,
+    pub highest_mark: u64,
     ghost low: { 1024 ≤ page_size },
     ghost high: { page_size ≤ 33554432 },
-    ghost counted: { limit ≤ 18446744073709551615 },
+    ghost fits: { highest_mark ≤ 18446744073709551615 },
 }
 
 /// The setup of a copy at this page size.
 pub(crate) fn setup_of(alloc: Global, page_size: u64) -> PageSetup
     requires { IsPageSize page_size }
     ensures page_size { result.page_size ≡ page_size }
-    ensures limit { result.limit ≡ 9223372036854775807 / page_size }
-    ensures room { 3 ≤ result.limit }
-    ensures bytes { result.limit * result.page_size < 9223372036854775808 }
+    ensures highest_mark { result.highest_mark ≡ 9223372036854775807 / page_size }
+    ensures room { 3 ≤ result.highest_mark }
+    ensures bytes { result.highest_mark * result.page_size < 9223372036854775808 }
 {
     PageSetup {
         alloc,
         page_size: page_size as usize,
-        limit: MAX_LEN / page_size,
+        highest_mark: MAX_LEN / page_size,
     }
 }
 
@@ -46,13 +46,13 @@ pub(crate) fn setup_of(alloc: Global, page_size: u64) -> PageSetup
 pub(crate) fn noting_setup_of(alloc: Global, page_size: u64) -> PageSetup
     requires { IsPageSize page_size }
     ensures page_size { result.page_size ≡ page_size }
-    ensures limit { result.limit ≡ 28 * (9223372036854775807 / page_size) }
-    ensures room { 3 ≤ result.limit }
+    ensures highest_mark { result.highest_mark ≡ 28 * (9223372036854775807 / page_size) }
+    ensures room { 3 ≤ result.highest_mark }
 {
     PageSetup {
         alloc,
         page_size: page_size as usize,
-        limit: 28 * (MAX_LEN / page_size),
+        highest_mark: 28 * (MAX_LEN / page_size),
     }
 }
 
@@ -70,14 +70,14 @@ pub(crate) fn overflow(page_size: usize, size: usize) -> usize
 /// above the highest mark allowed.
 pub(crate) fn number_after(setup: &PageSetup, size: usize, next: u64) -> Result<u64, BulkFault>
     requires size { 0 < size }
-    requires next { next ≤ setup.now.limit }
+    requires next { next ≤ setup.now.highest_mark }
     ensures number { IfOk result (λ n. n ≡ next + (1 + overflow_of setup.now.page_size size)) }
-    ensures within { IfOk result (λ n. n ≤ setup.now.limit) }
-    ensures large { IfErr result (λ _. setup.now.limit < next + (1 + overflow_of setup.now.page_size size)) }
+    ensures within { IfOk result (λ n. n ≤ setup.now.highest_mark) }
+    ensures large { IfErr result (λ _. setup.now.highest_mark < next + (1 + overflow_of setup.now.page_size size)) }
     ensures fault { IfErr result (λ e. e ≡ fault.TooLarge) }
 {
     let further = overflow(setup.page_size, size) as u64;
-    if further >= setup.limit - next {
+    if further >= setup.highest_mark - next {
         return Err(BulkFault::TooLarge);
     }
     Ok(next + (1 + further))

@@ -1,63 +1,17 @@
 //! The pass over everything that a file holds. It follows a walk, and writes each page of the copy
-//! as soon as the page is known. `entry_steps` has what it does at each entry.
-ghost use Rattle.std.specs.Prelude.{◌≡◌, ◌+◌, ◌≤◌, IfOk, OnOk, length};
-ghost use Rattle.bolt_bulk.specs.Private.{Enters, IsOpenBucket, IsWaiting, longest_key};
+//! as soon as the page is known. At each entry it takes a value, or enters or leaves a bucket.
+ghost use Rattle.std.specs.Prelude.{◌≡◌, ◌+◌, ◌-◌, ◌/◌, ◌<◌, ◌≤◌, Some, None, IfErr, OnOk, length};
 
-use crate::bucket_runs::{BucketRuns, ROOT_ITEM_LEN};
+use crate::bucket_runs::BucketRuns;
 use crate::fault::BulkFault;
-use crate::limits::{BucketLimits, Limits, NotedLimits};
-use crate::page_setup::PageSetup;
-use bolt_format::{Leaf, Sink};
+use crate::limits::{BucketLimits, Limits};
+use crate::noted_limits::NotedLimits;
+use crate::page_setup::{MAX_ITEMS, PageSetup};
+use crate::pending_bucket::PendingBucket;
+use crate::waiting_bucket::WaitingBucket;
+use bolt_format::{ELEMENT_LEN, HEADER_LEN, Leaf, Sink};
 use bolt_tree::Item;
-
-/// A bucket that waits for a bucket within it, which has this key and sequence.
-#[derive(Drop)]
-pub(crate) struct WaitingBucket<'a> {
-    pub bucket: BucketRuns<'a>,
-    pub key: &'a [u8],
-    pub sequence: u64,
-    /// How many items the buckets around it hold. Saturates at 2^64 - 1.
-    pub around: u64,
-}
-
-impl<'a> WaitingBucket<'a> {
-    /// Makes room in an open bucket for a bucket with a root page within it, and waits for that one.
-    /// The buckets around the open one hold `around` items.
-    pub(crate) fn enter<S: Sink>(
-        outer: BucketRuns<'a>,
-        setup: &PageSetup,
-        pending: PendingBucket<'a>,
-        around: u64,
-        next: &mut u64,
-        sink: &mut S,
-    ) -> Result<WaitingBucket<'a>, BulkFault>
-        requires open { IsOpenBucket outer }
-        requires key { length pending.key.now ≤ longest_key }
-        requires next { next.old ≤ setup.now.limit }
-        ensures enters { Enters S.Sink sink.old sink.new setup.now outer.entry next.old pending.entry around next.new result }
-        ensures waits { IfOk result (λ waiting. IsWaiting setup.now.page_size waiting) }
-    {
-        let mut bucket = outer;
-        let key = pending.key;
-        bucket.make_room(setup, key, ROOT_ITEM_LEN + key.len(), next, sink)?;
-        Ok(WaitingBucket {
-            bucket,
-            key,
-            sequence: pending.sequence,
-            around,
-        })
-    }
-}
-
-/// A bucket that has only values so far, which take at most a quarter of a page. If it ends so, it
-/// is inline; if it has more, it has a root page.
-#[derive(Clone, Copy)]
-pub(crate) struct PendingBucket<'a> {
-    pub key: &'a [u8],
-    pub sequence: u64,
-    /// The size of the leaf page over its entries so far.
-    pub size: usize,
-}
+use std::mem;
 
 /// What a pass returns.
 #[derive(Drop)]
@@ -97,13 +51,14 @@ pub(crate) struct Pass<'a> {
 }
 
 impl<'a> Pass<'a> {
+    ghost use Rattle.bolt_format.specs.ElementLengths.{IsValueLength};
     ghost use Rattle.bolt_tree.specs.{Paths.path_of, ShownEntries.item_view};
-    ghost use Rattle.bolt_bulk.specs.Private.{BeginsAll, depth_of, EndsAll, GoesOn, IsFitMember, IsReady, LeavesTo, TakesMember};
+    ghost use Rattle.bolt_bulk.specs.Private.{BeginsAll, BeginsBucket, Counts, depth_of, EndsAll, EntersBucket, GoesOn, IsFitMember, IsReady, items_by, KeepsValue, LeavesBucket, LeavesTo, longest_key, OpensPending, saturated, TakesMember, TakesValue};
 
     /// A pass before the first page. If `notes` is set, it notes the limits of the balanced
     /// layout's rows.
     pub(crate) fn new(setup: PageSetup, limits: &'a Limits, notes: bool) -> Pass<'a>
-        requires { 3 ≤ setup.limit }
+        requires { 3 ≤ setup.highest_mark }
         ensures setup { result.setup ≡ setup }
         ensures ready { IsReady result }
         ensures at { BeginsAll limits.now notes setup.page_size result }
@@ -147,7 +102,7 @@ impl<'a> Pass<'a> {
         ensures on { OnOk result (GoesOn self.old self.new depth) }
         ensures steps { LeavesTo S.Sink sink.old sink.new self.old self.new depth result }
     {
-        'levels: while self.depth() > depth {
+        'buckets: while self.depth() > depth {
             self.leave_bucket(sink)?;
         }
         Ok(())
@@ -173,6 +128,233 @@ impl<'a> Pass<'a> {
             Item::Value(value) => self.take_value(key, value, sink),
             Item::Bucket { sequence } => self.take_bucket(key, sequence, sink),
         }
+    }
+
+    /// How many items the open runs of all its buckets hold. Saturates at 2^64 - 1.
+    fn held(&self) -> u64
+        requires { IsReady self.now }
+        ensures { result ≡ saturated (items_by self.now) }
+    {
+        self.around.saturating_add(self.bucket.held())
+    }
+
+    /// Counts the items that the open runs hold now. Only an item that joins a leaf can make them
+    /// the most so far: a page that closes replaces its items by one item of the run above.
+    fn count(&mut self)
+        requires { IsReady self.old }
+        ensures counts { Counts self.old self.new }
+        ensures on { GoesOn self.old self.new (depth_of self.old) }
+    {
+        self.most = self.most.max(self.held());
+    }
+
+    /// Takes a value of the innermost bucket.
+    pub(crate) fn take_value<S: Sink>(
+        &mut self,
+        key: &'a [u8],
+        value: &'a [u8],
+        sink: &mut S,
+    ) -> Result<(), BulkFault>
+        requires ready { IsReady self.old }
+        requires key { length key.now ≤ longest_key }
+        requires value { IsValueLength (length value.now) }
+        ensures on { OnOk result (GoesOn self.old self.new (depth_of self.old)) }
+        ensures steps { TakesValue S.Sink sink.old sink.new self.old self.new key.now value.now result }
+    {
+        let Some(pending) = self.pending else {
+            return self.put_value(key, value, sink);
+        };
+        let size = pending.size + (ELEMENT_LEN + (key.len() + value.len()));
+        if size <= self.setup.page_size / 4 && self.entries.len() < MAX_ITEMS {
+            return self.keep_value(pending, key, value, size);
+        }
+        self.open_pending(sink)?;
+        self.put_value(key, value, sink)
+    }
+
+    /// Takes a value of the pending bucket, which may still be inline with it.
+    fn keep_value(
+        &mut self,
+        pending: PendingBucket<'a>,
+        key: &'a [u8],
+        value: &'a [u8],
+        size: usize,
+    ) -> Result<(), BulkFault>
+        requires ready { IsReady self.old }
+        requires pending { self.old.pending ≡ Some pending }
+        requires key { length key.now ≤ longest_key }
+        requires size { size ≡ pending.size + (16 + (length key.now + length value.now)) }
+        requires small { size ≤ self.old.setup.page_size / 4 }
+        requires few { length self.old.entries.items < MAX_ITEMS }
+        ensures on { OnOk result (GoesOn self.old self.new (depth_of self.old)) }
+        ensures keeps { KeepsValue self.old self.new key.now value.now result }
+        ensures fault { IfErr result (λ e. e ≡ BulkFault.Memory) }
+    {
+        let entry = Leaf {
+            key,
+            value,
+            is_bucket: false,
+        };
+        self.entries.push(entry)?;
+        self.pending = Some(PendingBucket { size, ..pending });
+        Ok(())
+    }
+
+    /// Takes a value of the open bucket.
+    #[inline(always)]
+    fn put_value<S: Sink>(
+        &mut self,
+        key: &'a [u8],
+        value: &'a [u8],
+        sink: &mut S,
+    ) -> Result<(), BulkFault>
+        requires ready { IsReady self.old }
+        requires pending { self.old.pending ≡ None }
+        requires key { length key.now ≤ longest_key }
+        requires value { IsValueLength (length value.now) }
+        ensures on { OnOk result (GoesOn self.old self.new (depth_of self.old)) }
+        ensures steps { TakesValue S.Sink sink.old sink.new self.old self.new key.now value.now result }
+    {
+        self.bucket
+            .add_value(&self.setup, key, value, &mut self.next, sink)?;
+        self.count();
+        Ok(())
+    }
+
+    /// Enters a bucket within the innermost one.
+    pub(crate) fn take_bucket<S: Sink>(
+        &mut self,
+        key: &'a [u8],
+        sequence: u64,
+        sink: &mut S,
+    ) -> Result<(), BulkFault>
+        requires ready { IsReady self.old }
+        requires key { length key.now ≤ longest_key }
+        ensures on { OnOk result (GoesOn self.old self.new (depth_of self.old + 1)) }
+        ensures steps { EntersBucket S.Sink sink.old sink.new self.old self.new key.now sequence result }
+    {
+        self.open_pending(sink)?;
+        self.begin(key, sequence);
+        Ok(())
+    }
+
+    /// Begins a bucket within the open one. It may be inline.
+    fn begin(&mut self, key: &'a [u8], sequence: u64)
+        requires ready { IsReady self.old }
+        requires pending { self.old.pending ≡ None }
+        requires key { length key.now ≤ longest_key }
+        ensures on { GoesOn self.old self.new (depth_of self.old + 1) }
+        ensures begins { BeginsBucket self.old self.new key.now sequence }
+    {
+        self.pending = Some(PendingBucket {
+            key,
+            sequence,
+            size: HEADER_LEN,
+        });
+    }
+
+    /// Opens the pending bucket, if there is one, with its entries so far, as it turns out to have
+    /// a root page. The bucket around it waits.
+    fn open_pending<S: Sink>(&mut self, sink: &mut S) -> Result<(), BulkFault>
+        requires { IsReady self.old }
+        ensures on { OnOk result (GoesOn self.old self.new (depth_of self.old)) }
+        ensures pending { OnOk result (self.new.pending ≡ None) }
+        ensures steps { OpensPending S.Sink sink.old sink.new self.old self.new result }
+    {
+        let Some(pending) = self.pending else {
+            return Ok(());
+        };
+        let limits = BucketLimits {
+            all: self.limits,
+            bucket: self.opened,
+        };
+        let inner = BucketRuns::of_values(
+            self.setup.alloc,
+            self.entries.as_slice(),
+            pending.size,
+            limits,
+        )?;
+        let outer = mem::replace(&mut self.bucket, inner);
+        let waiting = WaitingBucket::enter(
+            outer,
+            &self.setup,
+            pending,
+            self.around,
+            &mut self.next,
+            sink,
+        )?;
+        let around = self.around.saturating_add(waiting.bucket.held());
+        self.waiting.push(waiting)?;
+        self.around = around;
+        self.opened = self.opened.saturating_add(1);
+        self.entries.clear();
+        self.pending = None;
+        self.count();
+        Ok(())
+    }
+
+    /// Ends the innermost bucket.
+    #[inline(never)]
+    pub(crate) fn leave_bucket<S: Sink>(&mut self, sink: &mut S) -> Result<(), BulkFault>
+        requires ready { IsReady self.old }
+        requires within { 1 < depth_of self.old }
+        ensures on { OnOk result (GoesOn self.old self.new (depth_of self.old - 1)) }
+        ensures steps { LeavesBucket S.Sink sink.old sink.new self.old self.new result }
+    {
+        match self.pending {
+            Some(pending) => self.end_inline(pending, sink),
+            None => self.end_open(sink),
+        }
+    }
+
+    /// Ends the pending bucket, which is inline.
+    fn end_inline<S: Sink>(
+        &mut self,
+        pending: PendingBucket<'a>,
+        sink: &mut S,
+    ) -> Result<(), BulkFault>
+        requires ready { IsReady self.old }
+        requires pending { self.old.pending ≡ Some pending }
+        ensures on { OnOk result (GoesOn self.old self.new (depth_of self.old - 1)) }
+        ensures steps { LeavesBucket S.Sink sink.old sink.new self.old self.new result }
+    {
+        self.bucket.add_inline(
+            &self.setup,
+            pending,
+            self.entries.as_slice(),
+            &mut self.next,
+            sink,
+        )?;
+        self.entries.clear();
+        self.pending = None;
+        self.count();
+        Ok(())
+    }
+
+    /// Ends the open bucket, and goes on with the one around it.
+    fn end_open<S: Sink>(&mut self, sink: &mut S) -> Result<(), BulkFault>
+        requires ready { IsReady self.old }
+        requires pending { self.old.pending ≡ None }
+        requires waiting { 0 < length self.old.waiting.items }
+        ensures on { OnOk result (GoesOn self.old self.new (depth_of self.old - 1)) }
+        ensures steps { LeavesBucket S.Sink sink.old sink.new self.old self.new result }
+    {
+        self.noted.bucket_ends(&self.bucket.uppers)?;
+        let Some(waiting) = self.waiting.pop() else {
+            unreachable!()
+        };
+        self.around = waiting.around;
+        let mut inner = mem::replace(&mut self.bucket, waiting.bucket);
+        self.bucket.end_inner(
+            &self.setup,
+            waiting.key,
+            waiting.sequence,
+            &mut inner,
+            &mut self.next,
+            sink,
+        )?;
+        self.count();
+        Ok(())
     }
 
     /// Ends all buckets, up to the root page of the root bucket.

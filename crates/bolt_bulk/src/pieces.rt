@@ -3,7 +3,7 @@
 ghost use Rattle.std.specs.Prelude.{replicate, ◌≡◌, ◌+◌, ◌-◌, ◌*◌, ◌<◌, ◌≤◌, [], IfOk, OnOk, length};
 ghost use Rattle.bolt_format.specs.{Endings.page_ending, Wrote.Wrote, Written.branch_header, Written.header_bytes, Written.leaf_header};
 ghost use Rattle.bolt_layout.specs.Levels.{overflow_of};
-ghost use Rattle.bolt_bulk.specs.Private.{Adds, Gathers, length_end};
+ghost use Rattle.bolt_bulk.specs.Private.{AddsToBuffer, Buffers, length_end};
 
 use crate::page_setup::{PageSetup, overflow};
 use arrayvec::ArrayVec;
@@ -66,7 +66,7 @@ pub(crate) fn put_page_header<S: Sink>(
 /// Makes room in the buffer for one more header. If it has none, it is written and emptied.
 #[inline(always)]
 fn put_full<S: Sink>(buffer: &mut Buffer, sink: &mut S) -> Result<(), SinkFault>
-    ensures gathers { Gathers S.Sink sink.old sink.new buffer.old.items buffer.new.items result }
+    ensures gathers { Buffers S.Sink sink.old sink.new buffer.old.items buffer.new.items result }
     ensures room { length buffer.new.items + ELEMENT_LEN ≤ BUFFER_LEN }
 {
     if buffer.len() + ELEMENT_LEN <= BUFFER_LEN {
@@ -109,7 +109,7 @@ impl Headers {
     ) -> Result<(), SinkFault>
         requires low { 16 ≤ self.old.pos }
         requires small { self.old.pos + key < length_end }
-        ensures adds { Adds S.Sink sink.old sink.new self.old.buffer.items (branch_header self.old.pos key child) self.new.buffer.items result }
+        ensures adds { AddsToBuffer S.Sink sink.old sink.new self.old.buffer.items (branch_header self.old.pos key child) self.new.buffer.items result }
         ensures pos { OnOk result (self.new.pos + 16 ≡ self.old.pos + key) }
     {
         put_full(&mut self.buffer, sink)?;
@@ -130,7 +130,7 @@ impl Headers {
     ) -> Result<(), SinkFault>
         requires low { 16 ≤ self.old.pos }
         requires small { self.old.pos + (key + value) < length_end }
-        ensures adds { Adds S.Sink sink.old sink.new self.old.buffer.items (leaf_header is_bucket self.old.pos key value) self.new.buffer.items result }
+        ensures adds { AddsToBuffer S.Sink sink.old sink.new self.old.buffer.items (leaf_header is_bucket self.old.pos key value) self.new.buffer.items result }
         ensures pos { OnOk result (self.new.pos + 16 ≡ self.old.pos + (key + value)) }
     {
         put_full(&mut self.buffer, sink)?;

@@ -45,7 +45,7 @@ impl<'a> UpperRuns<'a> {
         requires standing { AllByRecursion IsStanding (runs_above self.old.runs.items) }
         requires key { length key.now ≤ longest_key }
         requires closed { length closed.key.now ≤ longest_key }
-        requires next { next.old ≤ setup.now.limit }
+        requires next { next.old ≤ setup.now.highest_mark }
         ensures climbs { Climbs S.Sink sink.old sink.new setup.now key.now (branch_view closed.entry) next.old next.new self.old self.new result }
         ensures standing { OnOk result (AllByRecursion IsStanding (runs_above self.new.runs.items)) }
     {
@@ -72,7 +72,7 @@ impl<'a> UpperRuns<'a> {
     ) -> Result<u64, BulkFault>
         requires standing { AllByRecursion IsStanding (runs_above self.old.runs.items) }
         requires closed { length closed.key.now ≤ longest_key }
-        requires next { next.old ≤ setup.now.limit }
+        requires next { next.old ≤ setup.now.highest_mark }
         ensures { ClosesAbove S.Sink sink.old sink.new setup.now (branch_view closed.entry) next.old next.new (runs_above self.old.runs.items) result }
     {
         let mut closed = closed;

@@ -1,5 +1,5 @@
-pub mod HeldJobs
-pub mod HeldLines
+pub mod BufferedJobs
+pub mod BufferedLines
 pub mod Ordering
 pub mod Telling
 pub mod Vocabulary

@@ -1,7 +1,7 @@
 -- Each run does its deeds in order.
 use Rattle.std.proofs.Common.{◌≡◌, ◌≢◌, inl, inr, arith, ℕ, zero, suc, List, [], ◌∷◌, Bool, true, false, Option, Some, None, Ok, Err}
-use Rattle.bolt_cli.proofs.Vocabulary.{Choose, Closed, Closes, Copies, Deed, Ended, Ending, Ends, Fails, FailsNaming, Goes, IsReported, IsRun, Job, Made, Opened, Prints}
-use Rattle.bolt_cli.proofs.Vocabulary.{PrintsHeld, Read, Reads, Refusal, Refuses, Said, Text, is_again, string_bytes, target_name}
+use Rattle.bolt_cli.proofs.Vocabulary.{Choose, Closed, Closes, WritesOut, Deed, Ended, Ending, Ends, Fails, FailsNaming, Goes, IsReported, IsRun, Job, Made, Opened, PrintsText}
+use Rattle.bolt_cli.proofs.Vocabulary.{PrintsBuffered, Read, Reads, Refusal, Refuses, Said, Text, is_again, string_bytes, target_name}
 use Rattle.bolt_cli.specs.Orders.{Copied, Copying, Failing, IsInOrder, Printed, Printing, Reading}
 use Rattle.bolt_job.specs.declared.job.Refusal.TheVariants as refusal
 use Rattle.bolt_cli.specs.{declared.outside.OutputFault.TheVariants.ReaderLeft, declared.outside.OutputFault.TheVariants.Failed, declared.outside.Source.Source}
@@ -31,29 +31,29 @@ module _ {T O : Type 0} (output_taken : O → Option (List ℕ)) (output_failed 
   Closes-ordered after ending (Closed output (Err Failed) ∷ deeds) code are = Fails-ordered _ deeds code are.1
   Closes-ordered after ending deeds code are = absurd are
 
-  Prints-ordered : (text : List ℕ) (ending : Ending) (deeds : List (Deed T O)) (code : ℕ) → Prints output_taken output_failed text ending deeds code
+  PrintsText-ordered : (text : List ℕ) (ending : Ending) (deeds : List (Deed T O)) (code : ℕ) → PrintsText output_taken output_failed text ending deeds code
       → IsInOrder Reading deeds code × IsInOrder Copied deeds code
-  Prints-ordered text ending (Opened (Ok before) ∷ deeds) code (empty, after, takes, closes) = let is = Closes-ordered after ending deeds code closes in (is, is)
-  Prints-ordered text ending (Opened (Err fault) ∷ deeds) code are = let is = Fails-ordered _ deeds code are in (is, is)
-  Prints-ordered text ending deeds code are = absurd are
+  PrintsText-ordered text ending (Opened (Ok before) ∷ deeds) code (empty, after, takes, closes) = let is = Closes-ordered after ending deeds code closes in (is, is)
+  PrintsText-ordered text ending (Opened (Err fault) ∷ deeds) code are = let is = Fails-ordered _ deeds code are in (is, is)
+  PrintsText-ordered text ending deeds code are = absurd are
 
-  Held-ordered : (failures : ℕ) (text : List ℕ) (ending : Ending) (deeds : List (Deed T O)) (code : ℕ)
-      → PrintsHeld output_taken output_failed failures text ending deeds code → IsInOrder Copied deeds code
-  Held-ordered zero text ending deeds code are = (Prints-ordered text ending deeds code are).1
-  Held-ordered (suc more) text ending (Said said ∷ []) code (is, failed) = not_0 code failed
-  Held-ordered (suc more) text ending deeds code are = absurd are.0
+  Buffered-ordered : (failures : ℕ) (text : List ℕ) (ending : Ending) (deeds : List (Deed T O)) (code : ℕ)
+      → PrintsBuffered output_taken output_failed failures text ending deeds code → IsInOrder Copied deeds code
+  Buffered-ordered zero text ending deeds code are = (PrintsText-ordered text ending deeds code are).1
+  Buffered-ordered (suc more) text ending (Said said ∷ []) code (is, failed) = not_0 code failed
+  Buffered-ordered (suc more) text ending deeds code are = absurd are.0
 
 module _ {T O : Type 0} (target_taken : T → Option (List ℕ)) (target_failed : T → ℕ) (output_taken : O → Option (List ℕ)) (output_failed : O → ℕ) where
-  Copies-ordered : (before : T) (file : List ℕ) (job : Job) (deeds : List (Deed T O)) (code : ℕ)
-      → Copies target_taken target_failed output_taken output_failed before file job deeds code → IsInOrder Copying deeds code
-  Copies-ordered before file job (Ended after (Ok done) ∷ deeds) code (held, ending, does, ends) =
-      Held-ordered output_taken output_failed held.failures held.text ending deeds code ends
-  Copies-ordered before file job (Ended after (Err fault) ∷ deeds) code (held, ending, does, (line, is, fails)) = Fails-ordered line deeds code fails
-  Copies-ordered before file job deeds code are = absurd are
+  WritesOut-ordered : (before : T) (file : List ℕ) (job : Job) (deeds : List (Deed T O)) (code : ℕ)
+      → WritesOut target_taken target_failed output_taken output_failed before file job deeds code → IsInOrder Copying deeds code
+  WritesOut-ordered before file job (Ended after (Ok done) ∷ deeds) code (buffered, ending, does, ends) =
+      Buffered-ordered output_taken output_failed buffered.failures buffered.text ending deeds code ends
+  WritesOut-ordered before file job (Ended after (Err fault) ∷ deeds) code (buffered, ending, does, (line, is, fails)) = Fails-ordered line deeds code fails
+  WritesOut-ordered before file job deeds code are = absurd are
 
   Goes-ordered : (target : Option Text) (source : Source) (job : Job) (deeds : List (Deed T O)) (code : ℕ)
       → Goes target_taken target_failed output_taken output_failed target source job deeds code → IsInOrder Reading deeds code
-  Goes-ordered (Some out) source job (Made name permissions (Ok target) ∷ deeds) code (is, bits, empty, copies) = Copies-ordered target source.bytes.items job deeds code copies
+  Goes-ordered (Some out) source job (Made name permissions (Ok target) ∷ deeds) code (is, bits, empty, copies) = WritesOut-ordered target source.bytes.items job deeds code copies
   Goes-ordered (Some out) source job (Made name permissions (Err fault) ∷ deeds) code (is, bits, fails) = FailsNaming-ordered _ deeds code fails
   Goes-ordered None source job (Opened (Ok before) ∷ deeds) code (empty, after, ending, does, closes) = Closes-ordered output_taken output_failed after ending deeds code closes
   Goes-ordered None source job (Opened (Err fault) ∷ deeds) code are = Fails-ordered _ deeds code are
@@ -79,8 +79,8 @@ module _ {T O : Type 0} (target_taken : T → Option (List ℕ)) (target_failed 
   Refuses-ordered : (why : Refusal) (deeds : List (Deed T O)) (code : ℕ)
       → Refuses target_taken target_failed output_taken output_failed why deeds code → IsInOrder Reading deeds code
   Refuses-ordered refusal.Memory deeds code (is, failed) = Ends-ordered _ deeds code is (not_0 code failed)
-  Refuses-ordered (refusal.Help text) deeds code are = (Prints-ordered output_taken output_failed (string_bytes text) (Ok 0) deeds code are).0
-  Refuses-ordered (refusal.Version text) deeds code are = (Prints-ordered output_taken output_failed (string_bytes text) (Ok 0) deeds code are).0
+  Refuses-ordered (refusal.Help text) deeds code are = (PrintsText-ordered output_taken output_failed (string_bytes text) (Ok 0) deeds code are).0
+  Refuses-ordered (refusal.Version text) deeds code are = (PrintsText-ordered output_taken output_failed (string_bytes text) (Ok 0) deeds code are).0
   Refuses-ordered (refusal.Usage text) deeds code (is, refused) = Ends-ordered _ deeds code is (λ none. omega (arith, refused, none))
   Refuses-ordered (refusal.Word why) deeds code (is, refused) = Ends-ordered _ deeds code is (λ none. omega (arith, refused, none))
 

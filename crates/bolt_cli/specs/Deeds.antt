@@ -23,7 +23,7 @@ abbrev pub Adds : {D : Type 0} → (List D → Type 0) → (List D → Type 0) �
 Adds Before After deeds = (earlier : List _) → Before earlier → After (earlier ++ deeds)
 
 -- some deeds of this kind were added, and no others
-pub record Does {D : Type 0} (Before After : List D → Type 0) (Are : List D → Type 0) : Type 0 where
+pub record DoesDeeds {D : Type 0} (Before After : List D → Type 0) (Are : List D → Type 0) : Type 0 where
   pub deeds : List D
   pub added : Adds Before After deeds
   pub are : Are deeds

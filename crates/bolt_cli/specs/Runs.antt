@@ -40,9 +40,9 @@ abbrev pub IsLineOf : Ending → List ℕ → Type 0
 IsLineOf (Ok status) line = line ≡ failure_line Memory
 IsLineOf (Err failure) line = (line ≡ failure_line failure) ⊎ (line ≡ failure_line Memory)
 
--- what is held for standard error once a job has ended so
-abbrev pub IsHeldLine : Ending → List ℕ → Type 0
-IsHeldLine ending line = (line ≡ error_text ending) ⊎ (line ≡ failure_line Memory)
+-- what is buffered for standard error once a job has ended so
+abbrev pub IsBufferedLine : Ending → List ℕ → Type 0
+IsBufferedLine ending line = (line ≡ error_text ending) ⊎ (line ≡ failure_line Memory)
 
 -- the line if OUT isn't on the disk: that of the failure before or, if there was none, of a failed write
 abbrev pub IsUnendedLine : Ending → List ℕ → Type 0
@@ -50,18 +50,18 @@ IsUnendedLine (Ok status) line = (line ≡ failure_line Write) ⊎ (line ≡ fai
 IsUnendedLine (Err failure) line = IsLineOf (Err failure) line
 
 -- what a sink in memory holds, and how often it failed
-pub record Held : Type 0 where
+pub record Buffered : Type 0 where
   pub text : List ℕ
   pub failures : ℕ
 
-abbrev pub held_of : List ℕ → ℕ → Held
-held_of text failures = record { text = text; failures = failures }
+abbrev pub buffered_of : List ℕ → ℕ → Buffered
+buffered_of text failures = record { text = text; failures = failures }
 
-abbrev pub held_text : Held → Option (List ℕ)
-held_text held = Some held.text
+abbrev pub buffered_text : Buffered → Option (List ℕ)
+buffered_text buffered = Some buffered.text
 
-abbrev pub held_failures : Held → ℕ
-held_failures held = held.failures
+abbrev pub buffered_failures : Buffered → ℕ
+buffered_failures buffered = buffered.failures
 
 -- FILE is read again if it was changed; its metas are taken as they are
 abbrev pub is_again : Job → Source → Bool
@@ -115,10 +115,10 @@ module _ {T O : Type 0} (output_taken : O → Option (List ℕ)) (output_failed 
   Closes after ending deeds code = ⊥
 
   -- standard output is opened, takes the text, and is closed
-  abbrev pub Prints : List ℕ → Ending → List (Deed T O) → ℕ → Type 0
-  Prints text ending (Opened (Ok before) ∷ deeds) code = IsAtEnd (output_taken before) × (after : O) × Takes output_taken output_failed text before after × Closes after ending deeds code
-  Prints text ending (Opened (Err fault) ∷ deeds) code = Fails (failure_line Memory) deeds code
-  Prints text ending deeds code = ⊥
+  abbrev pub PrintsText : List ℕ → Ending → List (Deed T O) → ℕ → Type 0
+  PrintsText text ending (Opened (Ok before) ∷ deeds) code = IsAtEnd (output_taken before) × (after : O) × Takes output_taken output_failed text before after × Closes after ending deeds code
+  PrintsText text ending (Opened (Err fault) ∷ deeds) code = Fails (failure_line Memory) deeds code
+  PrintsText text ending deeds code = ⊥
 
   -- standard output is opened, the job is done on it, and it is closed
   abbrev pub Shows : List ℕ → Job → List (Deed T O) → ℕ → Type 0
@@ -127,26 +127,26 @@ module _ {T O : Type 0} (output_taken : O → Option (List ℕ)) (output_failed 
   Shows file job (Opened (Err fault) ∷ deeds) code = Fails (failure_line Memory) deeds code
   Shows file job deeds code = ⊥
 
-  -- if OUT is on the disk, what was held is printed, provided there was memory for it; otherwise none of it is
-  abbrev pub PrintsHeld : (failures : ℕ) → List ℕ → Ending → List (Deed T O) → ℕ → Type 0
-  PrintsHeld zero text ending deeds code = Prints text ending deeds code
-  PrintsHeld (suc more) text ending deeds code = Fails (failure_line Memory) deeds code
+  -- if OUT is on the disk, what was buffered is printed, provided there was memory for it; otherwise none of it is
+  abbrev pub PrintsBuffered : (failures : ℕ) → List ℕ → Ending → List (Deed T O) → ℕ → Type 0
+  PrintsBuffered zero text ending deeds code = PrintsText text ending deeds code
+  PrintsBuffered (suc more) text ending deeds code = Fails (failure_line Memory) deeds code
 
-  abbrev pub IsEnded : Result (Unit {0}) EndFault → Held → Ending → List (Deed T O) → ℕ → Type 0
-  IsEnded (Ok done) held ending deeds code = PrintsHeld held.failures held.text ending deeds code
-  IsEnded (Err fault) held ending deeds code = (line : List ℕ) × IsUnendedLine ending line × Fails line deeds code
+  abbrev pub IsEnded : Result (Unit {0}) EndFault → Buffered → Ending → List (Deed T O) → ℕ → Type 0
+  IsEnded (Ok done) buffered ending deeds code = PrintsBuffered buffered.failures buffered.text ending deeds code
+  IsEnded (Err fault) buffered ending deeds code = (line : List ℕ) × IsUnendedLine ending line × Fails line deeds code
 
 module _ {T O : Type 0} (target_taken : T → Option (List ℕ)) (target_failed : T → ℕ) (output_taken : O → Option (List ℕ)) (output_failed : O → ℕ) where
-  -- the job is done on OUT, while what it prints is held, and then OUT is ended
-  abbrev pub Copies : T → List ℕ → Job → List (Deed T O) → ℕ → Type 0
-  Copies before file job (Ended after result ∷ deeds) code =
-      (held : Held) × (ending : Ending) × DoesJob held_text held_failures (held_of [] 0) held target_taken target_failed before after file job ending × IsEnded output_taken output_failed result held ending deeds code
-  Copies before file job deeds code = ⊥
+  -- the job is done on OUT, while what it prints is buffered, and then OUT is ended
+  abbrev pub WritesOut : T → List ℕ → Job → List (Deed T O) → ℕ → Type 0
+  WritesOut before file job (Ended after result ∷ deeds) code =
+      (buffered : Buffered) × (ending : Ending) × DoesJob buffered_text buffered_failures (buffered_of [] 0) buffered target_taken target_failed before after file job ending × IsEnded output_taken output_failed result buffered ending deeds code
+  WritesOut before file job deeds code = ⊥
 
   -- OUT is made, with FILE's permission bits, and the job is done on it
   abbrev pub Makes : Text → Source → Job → List (Deed T O) → ℕ → Type 0
   Makes out source job (Made name permissions (Ok target) ∷ deeds) code =
-      (name ≡ out) × (permissions ≡ source.permissions) × IsAtEnd (target_taken target) × Copies target source.bytes.items job deeds code
+      (name ≡ out) × (permissions ≡ source.permissions) × IsAtEnd (target_taken target) × WritesOut target source.bytes.items job deeds code
   Makes out source job (Made name permissions (Err fault) ∷ deeds) code =
       (name ≡ out) × (permissions ≡ source.permissions) × FailsNaming (unmade_line out fault) deeds code
   Makes out source job deeds code = ⊥
@@ -169,8 +169,8 @@ module _ {T O : Type 0} (target_taken : T → Option (List ℕ)) (target_failed 
   -- words are refused: nothing is read or made
   abbrev pub Refuses : Refusal → List (Deed T O) → ℕ → Type 0
   Refuses refusal.Memory deeds code = Fails (failure_line Memory) deeds code
-  Refuses (refusal.Help text) deeds code = Prints output_taken output_failed (string_bytes text) (Ok 0) deeds code
-  Refuses (refusal.Version text) deeds code = Prints output_taken output_failed (string_bytes text) (Ok 0) deeds code
+  Refuses (refusal.Help text) deeds code = PrintsText output_taken output_failed (string_bytes text) (Ok 0) deeds code
+  Refuses (refusal.Version text) deeds code = PrintsText output_taken output_failed (string_bytes text) (Ok 0) deeds code
   Refuses (refusal.Usage text) deeds code = Ends (string_bytes text) deeds × (code ≡ 2)
   Refuses (refusal.Word why) deeds code = Ends (error_line why.now) deeds × (code ≡ 2)
 

@@ -1,11 +1,11 @@
 //! A whole run of the program: from its words to its status. And a law: its deeds are in order.
 ghost use Rattle.std.specs.Prelude.{◌≡◌, ◌<◌, ◌++◌, ℕ, List, None, Some, codes, map, string_bytes};
 ghost use Rattle.bolt_commands.specs.{Answers.Ending, Answers.status_of, Failures.failure_line};
-ghost use Rattle.bolt_cli.specs.{Deeds.Deed, Deeds.Does, Deeds.joined, Orders.IsInOrder, Orders.Reading};
+ghost use Rattle.bolt_cli.specs.{Deeds.Deed, Deeds.DoesDeeds, Deeds.joined, Orders.IsInOrder, Orders.Reading};
 ghost use Rattle.bolt_job.specs.PlainWords.{target_name};
 ghost use Rattle.bolt_cli.specs.Names.{shown_name};
-ghost use Rattle.bolt_cli.specs.Runs.{Closes, Copies, Fails, FailsNaming, Goes, IsEnded, IsHeldLine, IsRun, IsUnendedLine, Makes, Prints, Reads, Refuses, Shows};
-ghost use Rattle.bolt_cli.specs.Runs.{held_of, is_again, unmade_line, unread_line};
+ghost use Rattle.bolt_cli.specs.Runs.{Closes, WritesOut, Fails, FailsNaming, Goes, IsEnded, IsBufferedLine, IsRun, IsUnendedLine, Makes, PrintsText, Reads, Refuses, Shows};
+ghost use Rattle.bolt_cli.specs.Runs.{buffered_of, is_again, unmade_line, unread_line};
 ghost use Rattle.bolt_commands.specs.declared.failure.Failure.TheVariants.{Memory};
 
 use crate::names::shown_name;
@@ -29,7 +29,7 @@ const UNWRITTEN: &[u8] = b"error: write failed\n";
 /// Reads the words, of which the first is the program's name, does what they ask for, and returns the
 /// status (docs/COMMANDS.md).
 pub fn run_program<O: Outside>(outside: &mut O, alloc: Global, words: Vec<String>) -> u8
-    ensures { let texts = map string_bytes words.items in Does (O.done outside.old) (O.done outside.new)
+    ensures { let texts = map string_bytes words.items in DoesDeeds (O.done outside.old) (O.done outside.new)
         (λ deeds. IsRun O.Target.taken O.Target.failed O.Output.taken O.Output.failed texts deeds result) }
 {
     match read_words(alloc, words) {
@@ -40,7 +40,7 @@ pub fn run_program<O: Outside>(outside: &mut O, alloc: Global, words: Vec<String
 
 /// Prints why the words are no job, and returns the status.
 pub fn refuse<O: Outside>(outside: &mut O, refusal: &Refusal) -> u8
-    ensures { Does (O.done outside.old) (O.done outside.new)
+    ensures { DoesDeeds (O.done outside.old) (O.done outside.new)
         (λ deeds. Refuses O.Target.taken O.Target.failed O.Output.taken O.Output.failed refusal.now deeds result) }
 {
     match refusal {
@@ -60,7 +60,7 @@ pub fn refuse<O: Outside>(outside: &mut O, refusal: &Refusal) -> u8
 /// Reads FILE, at most so many times: again if it was changed meanwhile, so that what is judged is one
 /// state of it. Then does the job.
 fn read_file<O: Outside>(outside: &mut O, alloc: Global, job: &Job, left: u32) -> u8
-    ensures { Does (O.done outside.old) (O.done outside.new)
+    ensures { DoesDeeds (O.done outside.old) (O.done outside.new)
         (λ deeds. Reads O.Target.taken O.Target.failed O.Output.taken O.Output.failed left job.now deeds result) }
 {
     if left == 0 {
@@ -80,7 +80,7 @@ fn read_file<O: Outside>(outside: &mut O, alloc: Global, job: &Job, left: u32) -
 }
 
 fn report_unread<O: Outside>(outside: &mut O, alloc: Global, fault: ReadFault, name: &str) -> u8
-    ensures { Does (O.done outside.old) (O.done outside.new)
+    ensures { DoesDeeds (O.done outside.old) (O.done outside.new)
         (λ deeds. FailsNaming (unread_line name.now fault) deeds result) }
 {
     match fault {
@@ -98,7 +98,7 @@ fn is_again(job: &Job, source: &Source) -> bool
 
 /// Does a job on what was read.
 fn do_job<O: Outside>(outside: &mut O, alloc: Global, job: &Job, source: &Source) -> u8
-    ensures { Does (O.done outside.old) (O.done outside.new)
+    ensures { DoesDeeds (O.done outside.old) (O.done outside.new)
         (λ deeds. Goes O.Target.taken O.Target.failed O.Output.taken O.Output.failed (target_name job.now) source.now job.now deeds result) }
 {
     match job.target() {
@@ -110,7 +110,7 @@ fn do_job<O: Outside>(outside: &mut O, alloc: Global, job: &Job, source: &Source
 /// Makes OUT with the permission bits of FILE, and does the job on it. The bits are set as it is made,
 /// so at no time can anybody open OUT who can't read FILE.
 fn make<O: Outside>(outside: &mut O, alloc: Global, job: &Job, source: &Source, name: &str) -> u8
-    ensures { Does (O.done outside.old) (O.done outside.new)
+    ensures { DoesDeeds (O.done outside.old) (O.done outside.new)
         (λ deeds. Makes O.Target.taken O.Target.failed O.Output.taken O.Output.failed name.now source.now job.now deeds result) }
 {
     match outside.create(name, source.permissions) {
@@ -120,7 +120,7 @@ fn make<O: Outside>(outside: &mut O, alloc: Global, job: &Job, source: &Source, 
 }
 
 fn report_unmade<O: Outside>(outside: &mut O, alloc: Global, fault: CreateFault, name: &str) -> u8
-    ensures { Does (O.done outside.old) (O.done outside.new)
+    ensures { DoesDeeds (O.done outside.old) (O.done outside.new)
         (λ deeds. FailsNaming (unmade_line name.now fault) deeds result) }
 {
     match fault {
@@ -130,7 +130,7 @@ fn report_unmade<O: Outside>(outside: &mut O, alloc: Global, fault: CreateFault,
     }
 }
 
-/// Does a job on OUT. What it prints is held in memory, however long it is, until OUT is on the disk.
+/// Does a job on OUT. What it prints is buffered in memory, however long it is, until OUT is on the disk.
 fn copy<O: Outside>(
     outside: &mut O,
     alloc: Global,
@@ -138,15 +138,15 @@ fn copy<O: Outside>(
     file: &[u8],
     mut target: O::Target,
 ) -> u8
-    ensures { Does (O.done outside.old) (O.done outside.new)
-        (λ deeds. Copies O.Target.taken O.Target.failed O.Output.taken O.Output.failed target file.now job.now deeds result) }
+    ensures { DoesDeeds (O.done outside.old) (O.done outside.new)
+        (λ deeds. WritesOut O.Target.taken O.Target.failed O.Output.taken O.Output.failed target file.now job.now deeds result) }
 {
     let mut out = MemSink::new(alloc);
     let mut err = MemSink::new(alloc);
     let status = run(alloc, job, file, &mut out, &mut err, &mut target);
     let failures = out.failures();
     let ended = outside.end(target);
-    print_held(
+    print_buffered(
         outside,
         ended,
         failures,
@@ -156,8 +156,8 @@ fn copy<O: Outside>(
     )
 }
 
-/// Prints what was held, if OUT is on the disk and there was memory for it.
-fn print_held<O: Outside>(
+/// Prints what was buffered, if OUT is on the disk and there was memory for it.
+fn print_buffered<O: Outside>(
     outside: &mut O,
     ended: Result<(), EndFault>,
     failures: u64,
@@ -165,8 +165,8 @@ fn print_held<O: Outside>(
     line: &[u8],
     code: u8,
 ) -> u8
-    ensures { (ending : Ending) → IsHeldLine ending line.now → code ≡ status_of ending → Does (O.done outside.old) (O.done outside.new)
-        (λ deeds. IsEnded O.Output.taken O.Output.failed ended (held_of text.now failures) ending deeds result) }
+    ensures { (ending : Ending) → IsBufferedLine ending line.now → code ≡ status_of ending → DoesDeeds (O.done outside.old) (O.done outside.new)
+        (λ deeds. IsEnded O.Output.taken O.Output.failed ended (buffered_of text.now failures) ending deeds result) }
 {
     match ended {
         Ok(()) if failures > 0 => fail(outside, &[NO_MEMORY]),
@@ -175,7 +175,7 @@ fn print_held<O: Outside>(
     }
 }
 
-/// The line that is held, or that of memory, if there was none for it.
+/// The line that is buffered, or that of memory, if there was none for it.
 fn line_of(err: &MemSink) -> &[u8]
     ensures sound { ⟦<MemSink as Sink>⟧.failed err.now ≡ 0 → ⟦<MemSink as Sink>⟧.taken err.now ≡ Some result.now }
     ensures failed { 0 < ⟦<MemSink as Sink>⟧.failed err.now → result.now ≡ failure_line Memory }
@@ -189,7 +189,7 @@ fn line_of(err: &MemSink) -> &[u8]
 
 /// Reports that OUT isn't on the disk, unless there is a line of a failure before that.
 fn report_unended<O: Outside>(outside: &mut O, line: &[u8]) -> u8
-    ensures { (ending : Ending) → IsHeldLine ending line.now → Does (O.done outside.old) (O.done outside.new)
+    ensures { (ending : Ending) → IsBufferedLine ending line.now → DoesDeeds (O.done outside.old) (O.done outside.new)
         (λ deeds. (said : List ℕ) × IsUnendedLine ending said × Fails said deeds result) }
 {
     if line.is_empty() {
@@ -202,7 +202,7 @@ fn report_unended<O: Outside>(outside: &mut O, line: &[u8]) -> u8
 /// Opens standard output, and does a job without an OUT, which is printed as it comes.
 fn show<O: Outside>(outside: &mut O, alloc: Global, job: &Job, file: &[u8]) -> u8
     requires { target_name job.now ≡ None }
-    ensures { Does (O.done outside.old) (O.done outside.new)
+    ensures { DoesDeeds (O.done outside.old) (O.done outside.new)
         (λ deeds. Shows O.Output.taken O.Output.failed file.now job.now deeds result) }
 {
     match outside.open() {
@@ -218,8 +218,8 @@ fn show<O: Outside>(outside: &mut O, alloc: Global, job: &Job, file: &[u8]) -> u
 
 /// Prints a text, and then the line of a failure, if it isn't empty.
 fn print<O: Outside>(outside: &mut O, text: &[u8], line: &[u8], code: u8) -> u8
-    ensures { (ending : Ending) → IsHeldLine ending line.now → code ≡ status_of ending → Does (O.done outside.old) (O.done outside.new)
-        (λ deeds. Prints O.Output.taken O.Output.failed text.now ending deeds result) }
+    ensures { (ending : Ending) → IsBufferedLine ending line.now → code ≡ status_of ending → DoesDeeds (O.done outside.old) (O.done outside.new)
+        (λ deeds. PrintsText O.Output.taken O.Output.failed text.now ending deeds result) }
 {
     match outside.open() {
         Ok(mut output) => {
@@ -233,7 +233,7 @@ fn print<O: Outside>(outside: &mut O, text: &[u8], line: &[u8], code: u8) -> u8
 /// Closes standard output. Then prints the line of a failure, if it isn't empty. If the reader of
 /// standard output has left, nothing is printed: it wanted no more.
 fn close<O: Outside>(outside: &mut O, output: O::Output, line: &[u8], code: u8) -> u8
-    ensures { (ending : Ending) → IsHeldLine ending line.now → code ≡ status_of ending → Does (O.done outside.old) (O.done outside.new)
+    ensures { (ending : Ending) → IsBufferedLine ending line.now → code ≡ status_of ending → DoesDeeds (O.done outside.old) (O.done outside.new)
         (λ deeds. Closes O.Output.taken O.Output.failed output ending deeds result) }
 {
     match outside.close(output) {
@@ -246,7 +246,7 @@ fn close<O: Outside>(outside: &mut O, output: O::Output, line: &[u8], code: u8) 
 
 /// Prints the line of a fault, and returns the status.
 fn fail<O: Outside>(outside: &mut O, pieces: &[&[u8]]) -> u8
-    ensures { Does (O.done outside.old) (O.done outside.new)
+    ensures { DoesDeeds (O.done outside.old) (O.done outside.new)
         (λ deeds. Fails (joined (map (λ piece. piece.now) pieces.now)) deeds result) }
 {
     outside.say(pieces);
@@ -255,7 +255,7 @@ fn fail<O: Outside>(outside: &mut O, pieces: &[&[u8]]) -> u8
 
 /// Prints the line of a fault that names a file, and returns the status.
 fn fail_naming<O: Outside>(outside: &mut O, alloc: Global, words: &[u8], name: &str) -> u8
-    ensures { Does (O.done outside.old) (O.done outside.new)
+    ensures { DoesDeeds (O.done outside.old) (O.done outside.new)
         (λ deeds. FailsNaming (words.now ++ (shown_name name.now ++ codes "\n")) deeds result) }
 {
     match shown_name(alloc, name) {

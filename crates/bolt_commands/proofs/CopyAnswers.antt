@@ -1,21 +1,21 @@
 -- The copy of a listing, and what is then reported of it.
 use Rattle.std.proofs.Common.{◌≡◌, ℕ, List, Bool, Result, Ok, Err, inl, inr, subst}
 use Rattle.bolt_commands.proofs.Vocabulary.{Answer, BulkFault, CopiesTo, Does, Ending, EndsCopy, EndsCopying, Ghosts, Member, OnOk, WritesCopy, copied, copy_page_size}
-use Rattle.bolt_commands.proofs.Vocabulary.{HasGoodCopies, IsAskedShape, Meta, layout_for, layout_of_listing, shaped_layout, ∥∥₁_map}
-use Rattle.bolt_bulk.specs.declared.copy.Shape.{Shape}
+use Rattle.bolt_commands.proofs.Vocabulary.{HasGoodCopies, IsAskedBlueprint, Meta, layout_for, layout_of_listing, blueprint_layout, ∥∥₁_map}
+use Rattle.bolt_bulk.specs.declared.blueprint.Blueprint.{Blueprint}
 use Rattle.bolt_job.specs.declared.writing_commands.CompactJob.{CompactJob}
 
 -- a copy that is whole is good
-pub copy_good : {T : Type 0} {target : Ghosts T} {old new : T} (listing : List Member) (shape : Shape) (snapshot : Bool) (result : Result ℕ BulkFault)
-    → EndsCopy target.taken target.failed old new (shaped_layout shape listing) snapshot result → ∥ HasGoodCopies listing shape.sequence ∥₁
-    → CopiesTo target old new (shaped_layout shape listing) listing snapshot result
-copy_good listing shape snapshot (Ok count) ends good =
-    record { ends = ends; good = ∥∥₁_map good (λ (g : HasGoodCopies listing shape.sequence). g shape.layout snapshot shape.page_size shape.accepted ends.small) }
-copy_good listing shape snapshot (Err fault) ends good = record { ends = ends; good = tt }
+pub copy_good : {T : Type 0} {target : Ghosts T} {old new : T} (listing : List Member) (blueprint : Blueprint) (snapshot : Bool) (result : Result ℕ BulkFault)
+    → EndsCopy target.taken target.failed old new (blueprint_layout blueprint listing) snapshot result → ∥ HasGoodCopies listing blueprint.sequence ∥₁
+    → CopiesTo target old new (blueprint_layout blueprint listing) listing snapshot result
+copy_good listing blueprint snapshot (Ok count) ends good =
+    record { ends = ends; good = ∥∥₁_map good (λ (g : HasGoodCopies listing blueprint.sequence). g blueprint.layout snapshot blueprint.page_size blueprint.accepted ends.small) }
+copy_good listing blueprint snapshot (Err fault) ends good = record { ends = ends; good = tt }
 
--- the copy of the shape that is asked for
-pub copy_asked : {T : Type 0} {target : Ghosts T} {old new : T} {listing : List Member} {snapshot : Bool} {result : Result ℕ BulkFault} {job : CompactJob} {meta : Meta} {shape : Shape}
-    → IsAskedShape job meta shape → CopiesTo target old new (shaped_layout shape listing) listing snapshot result
+-- the copy of the blueprint that is asked for
+pub copy_asked : {T : Type 0} {target : Ghosts T} {old new : T} {listing : List Member} {snapshot : Bool} {result : Result ℕ BulkFault} {job : CompactJob} {meta : Meta} {blueprint : Blueprint}
+    → IsAskedBlueprint job meta blueprint → CopiesTo target old new (blueprint_layout blueprint listing) listing snapshot result
     → CopiesTo target old new (layout_of_listing (layout_for job.kind) (copy_page_size job.page_size meta) listing meta.root_sequence) listing snapshot result
 copy_asked asked copy = rw (asked.layout, asked.page_size, asked.sequence) at copy
 

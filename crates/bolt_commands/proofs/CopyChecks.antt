@@ -1,33 +1,34 @@
 -- What `check` answers to a good copy, and to its proper prefixes.
 use Rattle.std.proofs.Common.{◌≡◌, ◌≢◌, ◌∙◌, ◌⊎◌, ◌∷◌, ◌<◌, ℕ, List, [], Bool, true, false, IsTrue, Option, None, Some, Ok, ap, codes, inl, inr, length, refl}
 use Rattle.std.proofs.Common.{subst, sym, take}
-use Rattle.bolt_commands.proofs.Vocabulary.{Active, Answer, AnswersFound, AnswersLosses, AreLosses, CheckFault, Extent, FileFaults, First, HasBothMetas, HasSoundTrees, IsCheckAnswer, IsCheckAnswerAfter, IsChosen, IsFoundAnswer, IsGoodCopy, IsMetaOf, IsMetasFault, IsOtherFault, IsSnapshot, IsSound, LossView, Losses, Member, Meta, MetaFault, Place, RefusesFile, Slot, all_refusal, cases_lt, check_refusal, copy_of, done, found, hash_fault, hash_found, loss_at, losses_of, none_found, place_at, refused}
+use Rattle.bolt_commands.proofs.Vocabulary.{Active, Answer, AnswersFound, AnswersLosses, AreLosses, CheckFault, Extent, FileFaults, First, HasBothMetas, HasSoundTrees, IsCheckAnswer, IsCheckAnswerAfter, IsChosen, IsFoundAnswer, IsGoodCopy, IsMetaOf, IsMetasFault, IsOtherFault, IsSnapshot, IsSound, LossView, Losses, Member, Meta, MetaFault, Site, RefusesFile, Slot, all_refusal, cases_lt, check_refusal, copy_of, done, found, hash_fault, hash_found, loss_at, losses_of, none_found, site_at, refused}
 use Rattle.bolt_check.specs.declared.fault.CheckFault.TheVariants as check
 use Rattle.bolt_snapshot.specs.declared.SnapshotFault.{SnapshotFault}
 use Rattle.bolt_snapshot.proofs.SnapshotLemmas.{no_fault_iff}
-use Rattle.bolt_recover.specs.Surveys.{Has, IsSurvey, Visit}
+use Rattle.bolt_recover.specs.Surveys.{Has, IsSurvey, SurveyedWay}
 use Rattle.bolt_job.specs.declared.choices.Extent.TheVariants.{LostAndFound}
 use Rattle.bolt_commands.specs.declared.failure.Failure.TheVariants as failure
+use Rattle.bolt_commands.proofs.ReadFiles.{read_active, refused_active}
 use Rattle.bolt_commands.proofs.SoundReads.{NamesOne, keeps_not_loses, unread, unrecovered}
 
 -- what the laws of the crates below say
 pub record Laws : Type 0 where
   pub one : (file : List ℕ) (slot : Slot) (meta : Meta) → IsChosen file slot meta → (other : Slot) (another : Meta) → IsChosen file other another
       → (other ≡ slot) × (another ≡ meta)
-  pub lose : (file : List ℕ) (meta : Meta) (survey : List Visit) (v : Visit) → HasSoundTrees file meta → IsSurvey file meta survey → Has survey v → v.found ≡ None
+  pub lose : (file : List ℕ) (meta : Meta) (survey : List SurveyedWay) (v : SurveyedWay) → HasSoundTrees file meta → IsSurvey file meta survey → Has survey v → v.found ≡ None
 
 one_active : Laws → (file : List ℕ) (slot : Slot) (meta : Meta) → IsChosen file slot meta → NamesOne file Active meta
 one_active laws file slot meta chosen other (another, is) = (laws.one file slot meta chosen another other is).1
 
 -- ---- ways that aren't lost have no losses
 
-none_at : (o : Option Place) → loss_at o None ≡ []
+none_at : (o : Option Site) → loss_at o None ≡ []
 none_at None = refl
 none_at (Some p) = refl
 
-none_of : (file : List ℕ) (meta : Meta) (survey : List Visit) → ((v : Visit) → Has survey v → v.found ≡ None) → losses_of file meta survey ≡ []
+none_of : (file : List ℕ) (meta : Meta) (survey : List SurveyedWay) → ((v : SurveyedWay) → Has survey v → v.found ≡ None) → losses_of file meta survey ≡ []
 none_of file meta [] each = refl
-none_of file meta (v ∷ survey) each = rw (each v (inl refl), none_at (place_at file meta v.way)) (none_of file meta survey (λ w has. each w (inr has)))
+none_of file meta (v ∷ survey) each = rw (each v (inl refl), none_at (site_at file meta v.way)) (none_of file meta survey (λ w has. each w (inr has)))
 
 -- ---- what is wrong with a file apart from its pages
 
@@ -62,7 +63,7 @@ module _ (laws : Laws) (faults : FileFaults) (file : List ℕ) (slot : Slot) (me
 
   fine_found : IsFoundAnswer faults file Active answer → IsFine answer
   fine_found (inl (own, under, said)) = inl (said ∙ ap none_found right)
-  fine_found (inr (fault, is, said)) = inr (said ∙ ap (check_refusal faults) (unread file meta sound.trees Active fault one (slot, chosen, sound) is))
+  fine_found (inr (fault, is, said)) = inr (said ∙ ap (check_refusal faults) (unread file meta sound.trees Active fault one (read_active file slot meta chosen sound) is))
 
   none_lost : (own : Meta) (losses : List LossView) → IsMetaOf file Active own → AreLosses file own losses → losses ≡ []
   none_lost own losses is (survey, surveys, same) =
@@ -104,8 +105,8 @@ ends_so said not same = not (sym (ap (λ (a : Answer). a.ending) said) ∙ same)
 module _ (laws : Laws) (faults : FileFaults) (file : List ℕ) (answer : Answer) where
   fails_found : RefusesFile file ⊎ ((fault : SnapshotFault) × (faults.hash ≡ Some fault)) → IsFoundAnswer faults file Active answer → answer.ending ≢ Ok 0
   fails_found why (inr (fault, is, said)) = ends_so said (not_ok faults fault).0
-  fails_found (inl (fault, other, is)) (inl (meta, (slot, chosen, sound), said)) =
-      absurd (other (unread file meta sound.trees Active fault (one_active laws file slot meta chosen) (slot, chosen, sound) is))
+  fails_found (inl (fault, other, is)) (inl (meta, ((slot, chosen), sound, right), said)) =
+      absurd (other (unread file meta sound Active fault (one_active laws file slot meta chosen) ((slot, chosen), sound, right) (refused_active file fault is)))
   fails_found (inr (fault, wrong)) (inl (meta, under, said)) = ends_so (said ∙ wrong_hash faults fault wrong) (λ same. cc)
 
   fails_after : (extent : Extent) → RefusesFile file ⊎ ((fault : SnapshotFault) × (faults.hash ≡ Some fault)) → IsCheckAnswerAfter extent faults file Active answer → answer.ending ≢ Ok 0

@@ -2,7 +2,7 @@
 use Rattle.std.proofs.Common.{◌≡◌, ◌≢◌, ◌∙◌, ℕ, List, [], ◌∷◌, inl, map, refl}
 use Rattle.bolt_commands.proofs.Vocabulary.{Answer, AnswersLosses, AreLosses, FileFaults, ForLosses, IsFoundAnswer, IsLossesAnswer, LossView, Meta, MetaChoice}
 use Rattle.bolt_commands.proofs.Vocabulary.{has_losses, loss_view, lost_and_found, parts}
-use Rattle.bolt_recover.specs.declared.Loss.{Loss}
+use Rattle.bolt_recover.specs.declared.losses.Loss.{Loss}
 
 -- the losses that a recovery shows at its end are all
 pub all_losses : (file : List ℕ) (meta : Meta) {shown : List LossView} (losses : List LossView) → losses ≡ shown → ForLosses file meta (λ all. shown ≡ all)

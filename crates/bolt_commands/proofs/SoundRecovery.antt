@@ -1,8 +1,8 @@
 -- With sound trees, `--recover` does what is done without it under the same meta, if the accounts don't count there.
-use Rattle.std.proofs.Common.{◌≡◌, ◌≢◌, ◌↔◌, ℕ, Bool, List, [], Option, inl, inr, refl, subst, sym, ◌∙◌, None, Some}
+use Rattle.std.proofs.Common.{◌≡◌, ◌≢◌, ◌↔◌, ℕ, Bool, List, [], Option, inl, inr, subst, sym, ◌∙◌, None, Some}
 use Rattle.bolt_commands.proofs.Vocabulary.{Active, Answer, AreLosses, Assumed, CheckFault, Ending, Extent, First, HasSoundTrees, InSlot, IsChosen, IsEndedOrCut, IsInSlot, IsListedAnswer, IsListing, IsMetaOf, IsReadUnder, IsRecovered, IsRefusedUnder, IsUnrecoverableUnder, Layout, ListForm, LossView, Losses, MakesCopy, Member, Meta, MetaChoice, PageSize, Path, Slot, has_losses, bad_hash, lost_ending, part_ending, part_text}
 use Rattle.bolt_check.specs.declared.fault.CheckFault.TheVariants as check
-use Rattle.bolt_commands.proofs.{ReadFiles.read_meta, SoundReads.NamesOne, SoundReads.keeps_root, SoundReads.unread, SoundReads.unrecovered}
+use Rattle.bolt_commands.proofs.{ReadFiles.no_accounts, ReadFiles.read_meta, SoundReads.NamesOne, SoundReads.keeps_root, SoundReads.unread, SoundReads.unrecovered}
 
 -- what the laws of the crates below say
 pub record Below : Type 0 where
@@ -20,12 +20,10 @@ names_one b file (Assumed assumed) meta same other is = is ∙ sym same
 
 -- a fault that any file may be refused for
 memory : (file : List ℕ) (choice : MetaChoice) → IsUnrecoverableUnder file choice check.Memory × IsRefusedUnder file choice check.Memory
-memory file Active = (tt, tt)
 memory file choice = (tt, tt)
 
 read_under : (file : List ℕ) (meta : Meta) (choice : MetaChoice) → HasSoundTrees file meta → choice ≢ Active → IsMetaOf file choice meta → IsReadUnder file choice meta
-read_under file meta Active trees alone shown = absurd (alone refl)
-read_under file meta choice trees alone shown = (shown, trees)
+read_under file meta choice trees alone shown = (shown, trees, no_accounts file choice meta alone)
 
 module _ (b : Below) (file : List ℕ) (meta : Meta) (trees : HasSoundTrees file meta) (wanted named : MetaChoice) (shown : IsMetaOf file wanted meta)
     (shown_named : IsMetaOf file named meta) (alone : named ≢ Active) where

@@ -3,19 +3,19 @@ pub use Rattle.bolt_bulk.specs.{Compacting.too_many, declared.fault.BulkFault.Bu
 pub use Rattle.bolt_check.specs.CheckedFiles.{bytes_of, meta_of}
 pub use Rattle.bolt_check.specs.Findings.{IsClaimedBefore, IsMetaPage, finding}
 pub use Rattle.bolt_check.specs.Nodes.{leaf_entry, node_at}
-pub use Rattle.bolt_check.specs.Sound.{HasSoundTrees, IsFirstFinding, IsSound}
+pub use Rattle.bolt_check.specs.Sound.{HasRightAccounts, HasSoundTrees, IsFirstFinding, IsRefused, IsSound}
 pub use Rattle.bolt_check.specs.{Keys.Key, declared.Checked.Checked, declared.fault.CheckFault.CheckFault, declared.fault.Finding.Finding}
 pub use Rattle.bolt_commands.specs.Answers.{AddsEntry, Answer, AnswersFound, AnswersLosses, AreFoundPages, Does, DoesJob, Ending, HasStats, HoldsIn, HoldsNone}
 pub use Rattle.bolt_commands.specs.Answers.{IsCheckAnswer, IsCheckAnswerAfter, IsEndedOrCut, IsEntriesAnswer, IsFileRefusal, IsFoundAnswer, IsFoundPagesAnswer}
 pub use Rattle.bolt_commands.specs.Answers.{IsInfoAnswer, IsJoinedList, IsListAnswer, IsListedAnswer, IsLossesAnswer, IsReadAnswer, IsReadUnder}
 pub use Rattle.bolt_commands.specs.Answers.{IsRecoveredAnswer, IsRecoveredList, IsRecoveredUnder, IsRefusedUnder, IsSalvaged, IsSizesAnswer, IsStatsAnswer}
-pub use Rattle.bolt_commands.specs.Answers.{IsTotal, IsUnrecoverableUnder, LeadsTo, Loads, LoadsListing, MakesCopy, StopsShort, WritesCopy, all_lost_ending}
+pub use Rattle.bolt_commands.specs.Answers.{IsTotal, IsUnrecoverableUnder, LeadsTo, Loads, LoadsListing, MakesCopy, StopsShort, WritesCopy, all_lost_ending, counts_accounts}
 pub use Rattle.bolt_commands.specs.Answers.{all_refusal, check_refusal, copy_page_size, copy_report, done, found, found_page, lost_and_found, lost_ending}
 pub use Rattle.bolt_commands.specs.Answers.{no_stats, none_found, page_answer, parents_of, part_ending, part_text, refused, value_shown}
 pub use Rattle.bolt_commands.specs.Failures.{IsFailureOf, copied, unjoined}
 pub use Rattle.bolt_commands.specs.FileFaults.{IsMetasFault, IsOtherFault, errors_in, other_lines}
 pub use Rattle.bolt_commands.specs.GoodCopies.{HasGoodCopies, IsGoodCopy, RefusesFile}
-pub use Rattle.bolt_commands.specs.Private.Copying.{CopiesTo, IsAskedShape, shaped_layout}
+pub use Rattle.bolt_commands.specs.Private.Copying.{CopiesTo, IsAskedBlueprint, blueprint_layout}
 pub use Rattle.bolt_commands.specs.Private.Endings.{end_of, end_of_part, end_written}
 pub use Rattle.bolt_commands.specs.Private.Opened.{HasNoBucket, IsBucketOf, IsJoinedOf, IsSearchOf, IsUnread}
 pub use Rattle.bolt_commands.specs.SnapshotAnswers.{bad_hash, copy_of, hash_found}
@@ -41,11 +41,11 @@ pub use Rattle.bolt_load.specs.{LineMembers.text_members}
 pub use Rattle.bolt_recover.proofs.Existing.{has_losses, has_recovered}
 pub use Rattle.bolt_recover.specs.JoinedMembers.{ForJoined, joined_file, joined_left, joined_meta}
 pub use Rattle.bolt_recover.specs.Losses.{AreLosses, LossView, LostView, everything, is_nothing, loss_at, losses_of, parts}
-pub use Rattle.bolt_recover.specs.Places.{Place, leaves_of, place_at}
+pub use Rattle.bolt_recover.specs.Sites.{Site, leaves_of, site_at}
 pub use Rattle.bolt_recover.specs.Recovered.{ForRecovered, IsRecovered}
 pub use Rattle.bolt_recover.specs.Recoveries.{ForLosses, recovery_file, recovery_left, recovery_losses, recovery_meta, recovery_work}
 pub use Rattle.bolt_recover.specs.ShownLosses.{loss_view, lost_view}
-pub use Rattle.bolt_recover.specs.{Joined.IsJoined, LostAndFound.all_lost, declared.Found.Found, declared.lost_and_found.LostAndFound.LostAndFound}
+pub use Rattle.bolt_recover.specs.{Joined.IsJoined, LostAndFound.all_lost, declared.found.Found.Found, declared.lost_and_found.LostAndFound.LostAndFound}
 pub use Rattle.bolt_report.specs.FoundLines.{FoundView, IsFoundLeaf, counted_lost_text, found_view}
 pub use Rattle.bolt_report.specs.KeyLines.{buckets_text, keys_text}
 pub use Rattle.bolt_report.specs.{Figures.add_stats, ListForms.listing_lines, ReportEndings.report_ending, declared.ReportFault.ReportFault}

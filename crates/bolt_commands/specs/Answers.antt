@@ -1,9 +1,9 @@
 -- What the program answers to each command, and what its sinks accept: docs/COMMANDS.md, "What a run writes".
-use Rattle.std.specs.Prelude.{◌≡◌, ◌≢◌, ◌<◌, ◌≤◌, ◌-◌, ◌⊎◌, ℕ, List, [], ◌∷◌, ◌++◌, Bool, true, false, codes, decimal, length, map, take, Option, Some, None, Result, Ok, Err, if◌then◌else◌}
+use Rattle.std.specs.Prelude.{◌≡◌, ◌≢◌, ◌<◌, ◌≤◌, ◌-◌, ◌⊎◌, ℕ, List, [], ◌∷◌, ◌++◌, Bool, true, false, IsTrue, codes, decimal, length, map, take, Option, Some, None, Result, Ok, Err, if◌then◌else◌}
 use Rattle.std.specs.Io.KnownBytes.{Appends, Keeps}
 use Rattle.bolt_bulk.specs.Compacting.{too_many}
 use Rattle.bolt_layout.specs.Copies.{layout_of_listing}
-use Rattle.bolt_check.specs.{Roles.AreRoles, Sound.AreTreesRefused, Sound.HasSoundTrees, Sound.IsRefused, Sound.IsSlotRefused, Sound.IsSound}
+use Rattle.bolt_check.specs.{AccountFindings.AreAccountFindings, Roles.AreRoles, Sound.HasRightAccounts, Sound.HasSoundTrees, Sound.IsFirstFinding, Sound.IsUsed}
 use Rattle.bolt_check.specs.declared.fault.CheckFault.{CheckFault}
 use Rattle.bolt_check.specs.declared.fault.CheckFault.TheVariants as check
 use Rattle.bolt_check.specs.{declared.fault.Finding.Finding, declared.role_table.Role.Role}
@@ -12,9 +12,9 @@ use Rattle.bolt_format.specs.{Sinks.AppendsPrefix, Sinks.AppendsProperPrefix, de
 use Rattle.bolt_format.specs.{declared.meta.MetaFault.MetaFault, declared.meta.Slot.Slot}
 use Rattle.bolt_load.specs.{LineFaults.IsListingText, LineFaults.IsLoadFault, LineMembers.text_members, declared.fault.LoadFault.LoadFault}
 use Rattle.bolt_recover.specs.{Found.AreFound, JoinRefusals.IsJoinRefusal, Joined.IsJoined, Joined.LacksBucketKey}
-use Rattle.bolt_recover.specs.{Losses.AreLosses, Losses.LossView, Losses.LostView, Losses.everything, Losses.parts, Lost.IsAllLost, Places.leaves_of}
+use Rattle.bolt_recover.specs.{Losses.AreLosses, Losses.LossView, Losses.LostView, Losses.everything, Losses.parts, Lost.IsAllLost, Sites.leaves_of}
 use Rattle.bolt_recover.specs.Recovered.{ForRecovered, IsRecovered}
-use Rattle.bolt_recover.specs.Refusals.{IsRefusedRoot, IsSlotUnrecoverable, IsUnrecoverable, KeepsRoot, LosesRoot}
+use Rattle.bolt_recover.specs.Refusals.{IsUnrecoverable, KeepsRoot, LosesRoot}
 use Rattle.bolt_recover.specs.declared.joined.JoinFault.{JoinFault}
 use Rattle.bolt_report.specs.{FaultWords.findings_text, FoundLines.FoundView, FoundLines.counted_lost_text, FoundLines.lost_text}
 use Rattle.bolt_report.specs.{Forms.item_text, Forms.value_text, Figures.add_stats, Figures.stats_text, KeyLines.buckets_text, KeyLines.keys_text}
@@ -28,7 +28,7 @@ use Rattle.bolt_tree.specs.Paths.{Holds, Names, Path}
 use Rattle.bolt_job.specs.CopyKinds.{is_snapshot, layout_for}
 use Rattle.bolt_commands.specs.Failures.{IsFailureOf, failure_line, unjoined, unloaded}
 use Rattle.bolt_commands.specs.{FileFaults.AreFileFaults, FileFaults.errors_in, FileFaults.fault_lines, FileFaults.hash_lines, FileFaults.is_fine, GoodCopies.IsGoodCopy}
-use Rattle.bolt_job.specs.MetaChoices.{HasNoMetaOf, IsMetaOf, assumed_for}
+use Rattle.bolt_job.specs.MetaChoices.{HasNoMetaOf, IsMetaOf}
 use Rattle.bolt_commands.specs.SnapshotAnswers.{bad_hash, copy_of}
 use Rattle.bolt_job.specs.declared.choices.Extent.{Extent}
 use Rattle.bolt_job.specs.declared.choices.Extent.TheVariants.{First, LostAndFound, Losses}
@@ -114,12 +114,12 @@ abbrev pub parents_of : Path → Path
 parents_of path = take (length path - 1) path
 
 -- a prefix of the text, since memory ran out
-abbrev pub IsCut : List ℕ → Answer → Type 0
-IsCut text answer = (front rest : List ℕ) × (text ≡ front ++ rest) × (answer ≡ record { out = front; ending = Err failure.Memory })
+abbrev pub IsCutShort : List ℕ → Answer → Type 0
+IsCutShort text answer = (front rest : List ℕ) × (text ≡ front ++ rest) × (answer ≡ record { out = front; ending = Err failure.Memory })
 
 -- the whole text, and this ending; or a prefix of it, if memory ran out
 abbrev pub IsEndedOrCut : List ℕ → Ending → Answer → Type 0
-IsEndedOrCut text ending answer = (answer ≡ record { out = text; ending = ending }) ⊎ IsCut text answer
+IsEndedOrCut text ending answer = (answer ≡ record { out = text; ending = ending }) ⊎ IsCutShort text answer
 
 abbrev pub IsWholeOrCut : List ℕ → Answer → Type 0
 IsWholeOrCut text answer = IsEndedOrCut text (Ok 0) answer
@@ -231,26 +231,32 @@ IsStatsAnswer file path form meta answer =
     ⊎ (((bucket : Start) → LeadsTo file meta path bucket → ⊥) × (answer ≡ refused failure.NoBucket))
     ⊎ (answer ≡ refused failure.Memory)
 
--- the answer if the file is sound, or if it is refused
-abbrev pub IsCheckedAnswer : List ℕ → (Meta → Answer → Type 0) → (CheckFault → Answer → Type 0) → Answer → Type 0
-IsCheckedAnswer file IsAccepted IsRefusal answer =
-    ((slot : Slot) × (meta : Meta) × IsChosen file slot meta × IsSound file meta true × IsAccepted meta answer)
-    ⊎ ((fault : CheckFault) × IsRefused file fault × IsRefusal fault answer)
-
 -- only the first finding is reported
 abbrev pub IsFileRefusal : CheckFault → Answer → Type 0
 IsFileRefusal fault answer = (failure : Failure) × IsFailureOf fault failure × (answer ≡ refused failure)
 
--- the meta that the file is read under; of the active one the accounts count too
-abbrev pub IsReadUnder : List ℕ → MetaChoice → Meta → Type 0
-IsReadUnder file Active meta = (slot : Slot) × IsChosen file slot meta × IsSound file meta true
-IsReadUnder file (InSlot slot) meta = IsInSlot file slot meta × HasSoundTrees file meta
-IsReadUnder file (Assumed assumed) meta = (meta ≡ assumed_for file assumed) × HasSoundTrees file meta
+-- only under the active meta the accounts count
+abbrev pub counts_accounts : MetaChoice → Bool
+counts_accounts Active = true
+counts_accounts (InSlot slot) = false
+counts_accounts (Assumed assumed) = false
 
+-- The meta that the file is read under is the one that is chosen. Its trees are sound and, if they count, its accounts are right.
+abbrev pub IsReadUnder : List ℕ → MetaChoice → Meta → Type 0
+IsReadUnder file choice meta = IsMetaOf file choice meta × HasSoundTrees file meta × (IsTrue (counts_accounts choice) → HasRightAccounts file meta)
+
+-- its trees are sound and its accounts aren't right: these are all findings of them
+abbrev pub HasWrongAccounts : List ℕ → List Finding → Meta → Type 0
+HasWrongAccounts file findings meta =
+    HasSoundTrees file meta × (HasRightAccounts file meta → ⊥) × AreAccountFindings file meta (IsUsed file meta) findings × (findings ≢ [])
+
+-- why it isn't read
 abbrev pub IsRefusedUnder : List ℕ → MetaChoice → CheckFault → Type 0
-IsRefusedUnder file Active fault = IsRefused file fault
-IsRefusedUnder file (InSlot slot) fault = IsSlotRefused file slot fault
-IsRefusedUnder file (Assumed assumed) fault = AreTreesRefused file (assumed_for file assumed) fault
+IsRefusedUnder file choice (check.Open fault) = HasNoMetaOf file choice fault
+IsRefusedUnder file choice (check.Structure x) = (meta : Meta) × IsMetaOf file choice meta × IsFirstFinding file meta x
+IsRefusedUnder file choice (check.Accounts reported) = IsTrue (counts_accounts choice)
+    × ((meta : Meta) × IsMetaOf file choice meta × HasWrongAccounts file (findings_in reported) meta)
+IsRefusedUnder file choice check.Memory = Unit {0}
 
 abbrev pub IsReadAnswer : List ℕ → MetaChoice → (Meta → Answer → Type 0) → Answer → Type 0
 IsReadAnswer file choice IsAccepted answer =
@@ -271,9 +277,7 @@ abbrev pub IsRecoveredUnder : List ℕ → MetaChoice → Meta → Type 0
 IsRecoveredUnder file choice meta = IsMetaOf file choice meta × KeepsRoot file meta
 
 abbrev pub IsUnrecoverableUnder : List ℕ → MetaChoice → CheckFault → Type 0
-IsUnrecoverableUnder file Active fault = IsUnrecoverable file fault
-IsUnrecoverableUnder file (InSlot slot) fault = IsSlotUnrecoverable file slot fault
-IsUnrecoverableUnder file (Assumed assumed) fault = IsRefusedRoot file (assumed_for file assumed) fault
+IsUnrecoverableUnder file choice fault = IsUnrecoverable file (IsMetaOf file choice) (HasNoMetaOf file choice) fault
 
 abbrev pub IsRecoveredAnswer : List ℕ → MetaChoice → (Meta → Answer → Type 0) → (CheckFault → Answer → Type 0) → Answer → Type 0
 IsRecoveredAnswer file choice IsAccepted IsRefusal answer =
@@ -369,7 +373,7 @@ abbrev pub IsJoinedList : List ℕ → MetaChoice → ListForm → (path from : 
 IsJoinedList file choice form path from answer =
     ((meta : Meta) × (listing : List Member) × (lost : LostView) × (found : List FoundView) × IsMetaOf file choice meta × IsSalvaged file meta listing lost found
     × (answer ≡ record { out = part_text form path from listing; ending = part_ending path listing (all_lost_ending lost) }))
-    ⊎ ((meta : Meta) × (listing : List Member) × IsMetaOf file choice meta × IsJoined file meta listing × IsCut (part_text form path from listing) answer)
+    ⊎ ((meta : Meta) × (listing : List Member) × IsMetaOf file choice meta × IsJoined file meta listing × IsCutShort (part_text form path from listing) answer)
     ⊎ ((why : Failure) × IsUnjoinedUnder file choice why × (answer ≡ refused why))
 
 -- `check`, `check --all` and `check --lost-and-found` of a file of which is known what else is wrong with it
@@ -516,7 +520,7 @@ module _ {O T : Type 0} (out_taken : O → Option (List ℕ)) (out_failed : O �
   abbrev pub DoesJob : List ℕ → Job → Ending → Type 0
   DoesJob file (job.Info j) = Prints (IsInfoAnswer file j.slot j.form)
   DoesJob file (job.Page j) = Prints (IsPageAnswer file j.meta j.id)
-  DoesJob file (job.Pages j) = Prints (IsCheckedAnswer file (IsPagesAnswer file j.map) IsFileRefusal)
+  DoesJob file (job.Pages j) = Prints (IsReadAnswer file Active (IsPagesAnswer file j.map))
   DoesJob file (job.Check j) = Prints (IsCheckAnswer j.extent j.snapshot file j.meta)
   DoesJob file (job.Buckets j) = Prints (IsReadAnswer file j.meta (IsBucketsAnswer file (path_in j.path.items) j.form j.sizes))
   DoesJob file (job.Stats j) = Prints (IsReadAnswer file j.meta (IsStatsAnswer file (path_in j.path.items) j.form))

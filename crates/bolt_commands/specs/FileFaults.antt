@@ -56,9 +56,9 @@ abbrev pub fault_lines : FileFaults → List ℕ
 fault_lines faults = hash_lines faults.hash ++ other_lines faults.other
 
 -- how many errors these are
-abbrev pub counted : {A : Type 0} → Option A → ℕ
-counted None = 0
-counted (Some x) = 1
+abbrev pub errors_of : {A : Type 0} → Option A → ℕ
+errors_of None = 0
+errors_of (Some x) = 1
 
 abbrev pub errors_in : FileFaults → ℕ
-errors_in faults = counted faults.hash + counted faults.other
+errors_in faults = errors_of faults.hash + errors_of faults.other

@@ -10,14 +10,15 @@ ghost use Rattle.bolt_recover.specs.ShownLosses.{lost_view};
 ghost use Rattle.bolt_report.specs.FoundLines.{IsFoundLeaf};
 ghost use Rattle.bolt_tree.specs.Listing.{Member};
 ghost use Rattle.bolt_commands.specs.{Answers.copy_status, Answers.lengths_line, FileFaults.hash_lines};
-ghost use Rattle.bolt_commands.specs.{CopyEnds.EndsCopy, Hashes.HashesSince, Private.Copying.CopiesTo, Private.Copying.shaped_layout};
+ghost use Rattle.bolt_commands.specs.{CopyEnds.EndsCopy, Hashes.HashesSince, Private.Copying.CopiesTo, Private.Copying.blueprint_layout};
 ghost use Rattle.bolt_commands.specs.Private.Reports.{EndsCopying, report_answer, report_text};
 ghost use Rattle.bolt_job.specs.CopyKinds.{is_snapshot};
 
 use crate::copy_source::{Copied, CopySource, sources_have_good_copies};
-use crate::failure::{Outcome, put_number_and};
+use crate::failure::Outcome;
 use crate::file_faults::put_hash_line;
-use bolt_bulk::{BulkFault, Shape};
+use crate::words::put_number_and;
+use bolt_bulk::{Blueprint, BulkFault};
 use bolt_format::{Sink, SinkFault};
 use bolt_job::CopyKind;
 use bolt_recover::{Found, Lost};
@@ -31,41 +32,41 @@ use std::marker::{Brand, PhantomData};
 pub(crate) fn copy_members<C: CopySource, T: Sink>(
     alloc: Global,
     source: &mut C,
-    shape: &Shape,
+    blueprint: &Blueprint,
     kind: CopyKind,
     target: &mut T,
 ) -> Result<u64, BulkFault>
     requires { IsWhole C.lists C.left source.old }
     ensures copied { (listing : List Member) → C.lists source.old listing
-        → CopiesTo T.Sink target.old target.new (shaped_layout shape.now listing) listing (is_snapshot kind) result }
+        → CopiesTo T.Sink target.old target.new (blueprint_layout blueprint.now listing) listing (is_snapshot kind) result }
     ensures end { OnOk result (C.ends_as source.old source.new) }
 {
-    sources_have_good_copies(source, shape.sequence);
-    copy_all(alloc, source, shape, kind.is_snapshot(), target)
+    sources_have_good_copies(source, blueprint.sequence);
+    copy_all(alloc, source, blueprint, kind.is_snapshot(), target)
 }
 
 /// Writes the layout and, in a snapshot, its hash after it.
 fn copy_all<C: CopySource, T: Sink>(
     alloc: Global,
     source: &mut C,
-    shape: &Shape,
+    blueprint: &Blueprint,
     snapshot: bool,
     target: &mut T,
 ) -> Result<u64, BulkFault>
     requires { IsWhole C.lists C.left source.old }
     ensures copied { (listing : List Member) → C.lists source.old listing
-        → EndsCopy T.taken T.failed target.old target.new (shaped_layout shape.now listing) snapshot result }
+        → EndsCopy T.taken T.failed target.old target.new (blueprint_layout blueprint.now listing) snapshot result }
     ensures end { OnOk result (C.ends_as source.old source.new) }
 {
     if !snapshot {
-        let done = source.copy(alloc, shape, target)?;
+        let done = source.copy(alloc, blueprint, target)?;
         return Ok(done.bytes);
     }
     let Hashed {
         target,
         hash,
         result,
-    } = hash_all::<Brand, T, C>(alloc, source, shape, target);
+    } = hash_all::<Brand, T, C>(alloc, source, blueprint, target);
     put_hash(result, hash, target)
 }
 
@@ -80,7 +81,7 @@ struct Hashed<'a, T> {
 fn hash_all<'a, K: Origin, T: Sink, C: CopySource>(
     alloc: Global,
     source: &mut C,
-    shape: &Shape,
+    blueprint: &Blueprint,
     target: &'a mut T,
 ) -> Hashed<'a, T>
     requires whole { IsWhole C.lists C.left source.old }
@@ -88,7 +89,7 @@ fn hash_all<'a, K: Origin, T: Sink, C: CopySource>(
     requires start { T.taken target.old ≡ K.start }
     ensures same { result.target.ghost_name ≡ target.entry.ghost_name }
     ensures copied { (listing : List Member) → C.lists source.old listing
-        → Copies T.taken T.failed target.old result.target.now (shaped_layout shape.now listing) result.result }
+        → Copies T.taken T.failed target.old result.target.now (blueprint_layout blueprint.now listing) result.result }
     ensures end { OnOk result.result (C.ends_as source.old source.new) }
     ensures hashed { T.failed result.target.now ≡ 0 → ∥ HashesSince (T.taken target.old) (T.taken result.target.now) result.hash ∥₁ }
 {
@@ -97,7 +98,7 @@ fn hash_all<'a, K: Origin, T: Sink, C: CopySource>(
         hash: Sha256::new(),
         of: PhantomData,
     };
-    let result = source.copy(alloc, shape, &mut hashing);
+    let result = source.copy(alloc, blueprint, &mut hashing);
     let Hashing {
         target,
         hash,

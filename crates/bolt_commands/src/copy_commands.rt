@@ -1,21 +1,20 @@
 //! The commands that write a copy: `compact` and `load`.
 ghost use Rattle.std.specs.Prelude.{◌≡◌};
 ghost use Rattle.bolt_format.specs.Metas.{IsPageSize};
-ghost use Rattle.bolt_commands.specs.Private.Copying.{CompactsTo, LoadsJob, IsAskedShape};
-ghost use Rattle.bolt_commands.specs.Private.Opened.{IsSearchOf};
+ghost use Rattle.bolt_commands.specs.Private.Copying.{CompactsTo, LoadsJob, IsAskedBlueprint};
 ghost use Rattle.bolt_job.specs.CopyKinds.{is_snapshot};
 ghost use Rattle.bolt_commands.specs.SnapshotAnswers.{bad_hash};
 
 use crate::copies::{CopyReport, copy_members, end_copy};
 use crate::failure::{Failure, Outcome};
 use crate::opening::{Input, join};
-use bolt_bulk::Shape;
+use bolt_bulk::Blueprint;
 use bolt_bulk::laws::{a_recovery_is_whole, a_walk_is_whole, joined_members_are_whole};
 use bolt_format::{Meta, Sink};
 use bolt_job::{CompactJob, Extent, LoadJob};
 use bolt_load::{ListingText, a_text_is_of_one_tree};
+use bolt_recover::Lost;
 use bolt_recover::laws::each_file_has_a_joined_listing;
-use bolt_recover::{Lost, LostAndFound};
 use bolt_snapshot::{SnapshotFault, snapshot_fault};
 use bolt_tree::Walk;
 
@@ -48,10 +47,10 @@ fn write_sound<O: Sink, T: Sink>(
     if let Some(fault) = bad_hash(job, input.file) {
         return Err(Failure::Hash(fault));
     }
-    let shape = shape_of(job, &checked.meta());
+    let blueprint = blueprint_of(job, &checked.meta());
     let mut walk = Walk::new(input.alloc, checked);
     a_walk_is_whole(&walk);
-    let copied = copy_members(input.alloc, &mut walk, &shape, job.kind, target);
+    let copied = copy_members(input.alloc, &mut walk, &blueprint, job.kind, target);
     let report = CopyReport {
         hash: None,
         lost: Lost::Parts(&[]),
@@ -71,9 +70,9 @@ fn write_recovered<O: Sink, T: Sink>(
     ensures { CompactsTo O.Sink out.old out.new T.Sink target.old target.new Extent.Losses job.now input.entry.file.now result }
 {
     let mut recovery = input.recover(job.meta)?;
-    let shape = shape_of(job, &recovery.meta());
+    let blueprint = blueprint_of(job, &recovery.meta());
     a_recovery_is_whole(&recovery);
-    let copied = copy_members(input.alloc, &mut recovery, &shape, job.kind, target);
+    let copied = copy_members(input.alloc, &mut recovery, &blueprint, job.kind, target);
     let report = CopyReport {
         hash: bad_hash(job, input.file),
         lost: Lost::Parts(recovery.losses()),
@@ -93,26 +92,12 @@ fn write_joined<O: Sink, T: Sink>(
 ) -> Outcome
     ensures { CompactsTo O.Sink out.old out.new T.Sink target.old target.new Extent.LostAndFound job.now input.entry.file.now result }
 {
-    let both = input.search(job.meta)?;
-    write_found(input, job, &both, out, target)
-}
-
-/// The same of a file that was searched.
-fn write_found<O: Sink, T: Sink>(
-    input: Input<'_>,
-    job: &CompactJob,
-    both: &LostAndFound<'_>,
-    out: &mut O,
-    target: &mut T,
-) -> Outcome
-    requires { IsSearchOf input.file.now job.now.meta both.now }
-    ensures { CompactsTo O.Sink out.old out.new T.Sink target.old target.new Extent.LostAndFound job.now input.entry.file.now result }
-{
     each_file_has_a_joined_listing();
-    let shape = shape_of(job, &both.meta);
-    let mut joined = join(input, job.meta, both)?;
+    let both = input.search(job.meta)?;
+    let blueprint = blueprint_of(job, &both.meta);
+    let mut joined = join(input, job.meta, &both)?;
     joined_members_are_whole(&joined);
-    let copied = copy_members(input.alloc, &mut joined, &shape, job.kind, target);
+    let copied = copy_members(input.alloc, &mut joined, &blueprint, job.kind, target);
     let report = CopyReport {
         hash: bad_hash(job, input.file),
         lost: both.lost(),
@@ -123,15 +108,15 @@ fn write_found<O: Sink, T: Sink>(
 }
 
 /// What the copy of a file with this meta looks like.
-fn shape_of(job: &CompactJob, meta: &Meta) -> Shape
+fn blueprint_of(job: &CompactJob, meta: &Meta) -> Blueprint
     requires { IsPageSize meta.now.page_size }
-    ensures { IsAskedShape job.now meta.now result }
+    ensures { IsAskedBlueprint job.now meta.now result }
 {
     let page_size = match job.page_size {
         Some(size) => size.bytes,
         None => u64::from(meta.page_size),
     };
-    Shape {
+    Blueprint {
         layout: job.kind.layout(),
         page_size,
         sequence: meta.root_sequence,
@@ -166,12 +151,12 @@ pub(crate) fn write_loaded<O: Sink, T: Sink>(
     let mut members = listing.members(input.alloc);
     a_text_is_of_one_tree();
     let layout = job.kind.layout();
-    let shape = Shape {
+    let blueprint = Blueprint {
         layout,
         page_size: job.page_size.bytes,
         sequence: job.sequence,
     };
-    let copied = copy_members(input.alloc, &mut members, &shape, job.kind, target);
+    let copied = copy_members(input.alloc, &mut members, &blueprint, job.kind, target);
     let report = CopyReport {
         hash: None,
         lost: Lost::Parts(&[]),

@@ -8,10 +8,10 @@ ghost use Rattle.bolt_load.specs.{LineMembers.text_members, ShownMembers.members
 ghost use Rattle.bolt_recover.specs.{Joined.IsJoined, JoinedMembers.joined_file, JoinedMembers.joined_left, JoinedMembers.joined_meta, Recovered.IsRecovered};
 ghost use Rattle.bolt_recover.specs.Recoveries.{ForLosses, recovery_file, recovery_left, recovery_losses, recovery_meta};
 ghost use Rattle.bolt_tree.specs.{Listing.IsListing, Listing.Member, Walks.left_of, Walks.walk_checked};
-ghost use Rattle.bolt_commands.specs.{Private.Copying.shaped_layout, GoodCopies.HasGoodCopies};
+ghost use Rattle.bolt_commands.specs.{Private.Copying.blueprint_layout, GoodCopies.HasGoodCopies};
 
 use crate::laws::whole_copies_are_good;
-use bolt_bulk::{BulkFault, Done, Shape, compact_members};
+use bolt_bulk::{Blueprint, BulkFault, Done, compact_members};
 use bolt_format::Sink;
 use bolt_load::LineMembers;
 use bolt_recover::{Joined, Recovery};
@@ -34,10 +34,10 @@ pub(crate) trait CopySource {
 
     /// Writes the copy of all members, of which none may have been returned yet
     /// (`bolt_bulk::compact_members`).
-    fn copy<S: Sink>(&mut self, alloc: Global, shape: &Shape, sink: &mut S) -> Copied
+    fn copy<S: Sink>(&mut self, alloc: Global, blueprint: &Blueprint, sink: &mut S) -> Copied
         requires { IsWhole lists left self.old }
         ensures copied { (listing : List Member) → lists self.old listing
-            → Copies S.taken S.failed sink.old sink.new (shaped_layout shape.now listing) result }
+            → Copies S.taken S.failed sink.old sink.new (blueprint_layout blueprint.now listing) result }
         ensures end { OnOk result (ends_as self.old self.new) };
 }
 
@@ -48,8 +48,8 @@ impl CopySource for Walk<'_> {
 
     ghost ends_as = { λ walk end. Unit {0} };
 
-    fn copy<S: Sink>(&mut self, alloc: Global, shape: &Shape, sink: &mut S) -> Copied {
-        compact_members(alloc, self, shape, sink)
+    fn copy<S: Sink>(&mut self, alloc: Global, blueprint: &Blueprint, sink: &mut S) -> Copied {
+        compact_members(alloc, self, blueprint, sink)
     }
 }
 
@@ -60,8 +60,8 @@ impl CopySource for Recovery<'_> {
 
     ghost ends_as = { λ recovery end. ForLosses (recovery_file recovery) (recovery_meta recovery) (λ losses. recovery_losses end ≡ losses) };
 
-    fn copy<S: Sink>(&mut self, alloc: Global, shape: &Shape, sink: &mut S) -> Copied {
-        compact_members(alloc, self, shape, sink)
+    fn copy<S: Sink>(&mut self, alloc: Global, blueprint: &Blueprint, sink: &mut S) -> Copied {
+        compact_members(alloc, self, blueprint, sink)
     }
 }
 
@@ -72,8 +72,8 @@ impl CopySource for Joined<'_> {
 
     ghost ends_as = { λ joined end. Unit {0} };
 
-    fn copy<S: Sink>(&mut self, alloc: Global, shape: &Shape, sink: &mut S) -> Copied {
-        compact_members(alloc, self, shape, sink)
+    fn copy<S: Sink>(&mut self, alloc: Global, blueprint: &Blueprint, sink: &mut S) -> Copied {
+        compact_members(alloc, self, blueprint, sink)
     }
 }
 
@@ -84,8 +84,8 @@ impl CopySource for LineMembers<'_> {
 
     ghost ends_as = { λ members end. Unit {0} };
 
-    fn copy<S: Sink>(&mut self, alloc: Global, shape: &Shape, sink: &mut S) -> Copied {
-        compact_members(alloc, self, shape, sink)
+    fn copy<S: Sink>(&mut self, alloc: Global, blueprint: &Blueprint, sink: &mut S) -> Copied {
+        compact_members(alloc, self, blueprint, sink)
     }
 }
 

@@ -9,15 +9,18 @@ mod copies;
 mod copy_commands;
 mod copy_source;
 mod failure;
+mod failure_line;
 mod file_faults;
 pub mod laws;
 mod list_command;
 mod opening;
 mod printing_commands;
+mod words;
 
 use crate::check_command::print_check;
 use crate::copy_commands::{write_copy, write_loaded};
-use crate::failure::{Outcome, put_failure};
+use crate::failure::Outcome;
+use crate::failure_line::put_failure;
 use crate::list_command::print_list;
 use crate::opening::Input;
 use crate::printing_commands::{

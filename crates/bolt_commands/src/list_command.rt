@@ -4,7 +4,7 @@ ghost use Rattle.bolt_recover.specs.ShownLosses.{lost_view};
 ghost use Rattle.bolt_format.specs.Wrote.{Wrote};
 ghost use Rattle.bolt_report.specs.ReportEndings.{report_ending};
 ghost use Rattle.bolt_tree.specs.{FileListings.ForListing, Listing.Member, Listing.member_cmp, Order.Rises, Paths.path_of};
-ghost use Rattle.bolt_commands.specs.{Answers.all_lost_ending, Private.Endings.end_of_part, Private.Opened.IsSearchOf};
+ghost use Rattle.bolt_commands.specs.{Answers.all_lost_ending, Private.Endings.end_of_part};
 ghost use Rattle.bolt_job.specs.PlainWords.{path_in};
 ghost use Rattle.bolt_commands.specs.Private.Printing.{IsListPrint, PrintsAnswer, finds, job_part, sound_part};
 
@@ -13,8 +13,8 @@ use crate::opening::{Input, join};
 use bolt_check::Checked;
 use bolt_format::Sink;
 use bolt_job::{Extent, ListJob};
+use bolt_recover::Lost;
 use bolt_recover::laws::{each_file_has_a_joined_listing, joined_members_rise};
-use bolt_recover::{Lost, LostAndFound};
 use bolt_report::{ReportFault, list_members_part, list_part};
 use bolt_tree::Members;
 use std::alloc::Global;
@@ -49,22 +49,9 @@ fn print_recovered<O: Sink>(input: Input<'_>, job: &ListJob, out: &mut O) -> Out
 fn print_joined<O: Sink>(input: Input<'_>, job: &ListJob, out: &mut O) -> Outcome
     ensures { PrintsAnswer O.Sink out.old out.new (IsListPrint Extent.LostAndFound job.now input.entry.file.now) result }
 {
-    let both = input.search(job.meta)?;
-    print_found(input, job, &both, out)
-}
-
-/// Writes the part that is wanted of a file that was searched.
-fn print_found<O: Sink>(
-    input: Input<'_>,
-    job: &ListJob,
-    both: &LostAndFound<'_>,
-    out: &mut O,
-) -> Outcome
-    requires { IsSearchOf input.file.now job.now.meta both.now }
-    ensures { PrintsAnswer O.Sink out.old out.new (IsListPrint Extent.LostAndFound job.now input.entry.file.now) result }
-{
     each_file_has_a_joined_listing();
-    let mut joined = join(input, job.meta, both)?;
+    let both = input.search(job.meta)?;
+    let mut joined = join(input, job.meta, &both)?;
     joined_members_rise(&joined);
     let found = put_members_part(input.alloc, &mut joined, job, out);
     end_part(found, both.lost())

@@ -10,7 +10,7 @@ ghost use Rattle.bolt_recover.specs.Recoveries.{recovery_file, recovery_left, re
 ghost use Rattle.bolt_tree.specs.{Buckets.bucket_checked, Buckets.bucket_start, Entries.Start};
 
 use crate::failure::Failure;
-use bolt_check::{CheckFault, Checked, check, check_slot, check_under};
+use bolt_check::{CheckFault, Checked, check, check_under};
 use bolt_job::MetaChoice;
 use bolt_recover::laws::each_file_has_found_pages;
 use bolt_recover::{Joined, LostAndFound, Recovery};
@@ -32,13 +32,11 @@ impl<'f> Input<'f> {
         ensures sound { IfOk result (λ checked. IsReadUnder self.entry.file.now choice (meta_of checked)) }
         ensures refused { IfErr result (IsRefusedUnder self.entry.file.now choice) }
     {
-        match choice {
-            MetaChoice::Active => check(self.alloc, self.file),
-            MetaChoice::InSlot(slot) => check_slot(self.alloc, self.file, slot),
-            MetaChoice::Assumed(assumed) => {
-                check_under(self.alloc, self.file, assumed.for_file(self.file))
-            }
+        if let MetaChoice::Active = choice {
+            return check(self.alloc, self.file);
         }
+        let meta = choice.find(self.file)?;
+        check_under(self.alloc, self.file, meta)
     }
 
     /// The same, with the failure that is reported if the file is refused.
@@ -65,7 +63,7 @@ impl<'f> Input<'f> {
     ///
     /// # Errors
     ///
-    /// What `Recovery::new`, `Recovery::of_slot` and `Recovery::under` return.
+    /// `Open` if the file has no such meta, and what `Recovery::under` returns.
     pub(crate) fn recover(self, choice: MetaChoice) -> Result<Recovery<'f>, CheckFault>
         ensures file { IfOk result (λ recovery. recovery_file recovery ≡ self.entry.file.now) }
         ensures meta { IfOk result (λ recovery. IsRecoveredUnder self.entry.file.now choice (recovery_meta recovery)) }
@@ -74,13 +72,8 @@ impl<'f> Input<'f> {
         ensures losses { IfOk result (λ recovery. recovery_losses recovery ≡ []) }
         ensures refused { IfErr result (IsUnrecoverableUnder self.entry.file.now choice) }
     {
-        match choice {
-            MetaChoice::Active => Recovery::new(self.alloc, self.file),
-            MetaChoice::InSlot(slot) => Recovery::of_slot(self.alloc, self.file, slot),
-            MetaChoice::Assumed(assumed) => {
-                Recovery::under(self.alloc, self.file, assumed.for_file(self.file))
-            }
-        }
+        let meta = choice.find(self.file)?;
+        Recovery::under(self.alloc, self.file, meta)
     }
 
     /// What is lost and found of the file under the meta that is chosen.

@@ -5,10 +5,10 @@ ghost use Rattle.bolt_check.specs.{CheckedFiles.bytes_of, CheckedFiles.has_accou
 ghost use Rattle.bolt_format.specs.{Elements.LeafElement, Endings.ending, Wrote.Wrote};
 ghost use Rattle.bolt_report.specs.{PageTables.ForRoles, ReportEndings.report_ending};
 ghost use Rattle.bolt_tree.specs.{Buckets.bucket_checked, Buckets.bucket_start, BucketViews.entries_of, Entries.Start, Entries.Value, EntriesLeft.ForEntries};
-ghost use Rattle.bolt_commands.specs.Answers.{AddsEntry, HasNoMeta, HasStats, HoldsIn, HoldsNone, IsCheckedAnswer, IsFileRefusal, IsInfoAnswer};
-ghost use Rattle.bolt_commands.specs.Answers.{IsPageAnswer, IsPagesAnswer, IsShownMeta, IsTotal, LeadsTo, no_stats, value_shown};
+ghost use Rattle.bolt_commands.specs.Answers.{AddsEntry, HasNoMeta, HasStats, HoldsIn, HoldsNone, IsInfoAnswer};
+ghost use Rattle.bolt_commands.specs.Answers.{IsPageAnswer, IsPagesAnswer, IsReadAnswer, IsShownMeta, IsTotal, LeadsTo, no_stats, value_shown};
 ghost use Rattle.bolt_commands.specs.Private.Printing.{IsBucketsPrint, IsGetPrint, IsKeysPrint, IsStatsPrint, PrintsAnswer, checked_pages};
-ghost use Rattle.bolt_job.specs.PlainWords.{path_in};
+ghost use Rattle.bolt_job.specs.{PlainWords.path_in, declared.choices.MetaChoice.TheVariants.Active};
 ghost use Rattle.bolt_commands.specs.declared.failure.Failure.TheVariants.{Memory, NoBucket};
 
 use crate::failure::{Failure, Outcome, ended, written};
@@ -51,7 +51,7 @@ pub(crate) fn print_page<O: Sink>(input: Input<'_>, job: &PageJob, out: &mut O) 
 
 /// Writes the table of all pages or, if it is asked for, a map of them.
 pub(crate) fn print_pages<O: Sink>(input: Input<'_>, job: &PagesJob, out: &mut O) -> Outcome
-    ensures { PrintsAnswer O.Sink out.old out.new (IsCheckedAnswer input.entry.file.now (IsPagesAnswer input.entry.file.now job.now.map) IsFileRefusal) result }
+    ensures { PrintsAnswer O.Sink out.old out.new (IsReadAnswer input.entry.file.now Active (IsPagesAnswer input.entry.file.now job.now.map)) result }
 {
     let roles = check_roles(input.alloc, input.file)?;
     written(put_pages(&roles, job.map, out))
@@ -118,7 +118,7 @@ fn put_value<O: Sink>(
 
 /// The value at a path. The last part is its key.
 fn find_value<'a>(checked: Checked<'a>, path: &[Vec<u8>]) -> Result<&'a [u8], Failure>
-    ensures held { IfOk result (λ value. ∥ HoldsIn (bytes_of checked.entry) (meta_of checked.entry) (path_in path.now) (Value value.now) ∥₁) }
+    ensures holds { IfOk result (λ value. ∥ HoldsIn (bytes_of checked.entry) (meta_of checked.entry) (path_in path.now) (Value value.now) ∥₁) }
     ensures refused { IfErr result (HoldsNone (bytes_of checked.entry) (path_in path.now) (meta_of checked.entry)) }
 {
     let Some((key, parents)) = path.split_last() else {

@@ -4,14 +4,14 @@ use Rattle.bolt_layout.proofs.Words.{AllByRecursion, append-nil, Balanced, branc
 use Rattle.bolt_layout.proofs.OneCut.{AreRuns, cut_runs, cut_whole}
 use Rattle.bolt_layout.specs.Divisions.{IsHalved}
 
-divided_each : {X : Type 0} (page_size least wide spare : ℕ) (size : X → ℕ) (runs : List (List X)) → least ≤ wide → AreRuns page_size least size runs
-    → AllByRecursion (IsPageRun page_size wide spare size) runs
-divided_each page_size least wide spare size [] h are = tt
-divided_each page_size least wide spare size (run ∷ runs) h are = grind (arith, append-nil, divided_each page_size least wide spare size runs h are.2)
+divided_each : {X : Type 0} (page_size least wide extra : ℕ) (size : X → ℕ) (runs : List (List X)) → least ≤ wide → AreRuns page_size least size runs
+    → AllByRecursion (IsPageRun page_size wide extra size) runs
+divided_each page_size least wide extra size [] h are = tt
+divided_each page_size least wide extra size (run ∷ runs) h are = grind (arith, append-nil, divided_each page_size least wide extra size runs h are.2)
 
-pub cut_divides : {X : Type 0} (page_size least wide spare : ℕ) (size : X → ℕ) (items : List X) → 1 ≤ least → least ≤ max_items → least ≤ wide
-    → IsDivided page_size wide spare size items (cut_of page_size least size items)
-cut_divides page_size least wide spare size items some cap h = grind (arith, cut_whole, divided_each, cut_runs)
+pub cut_divides : {X : Type 0} (page_size least wide extra : ℕ) (size : X → ℕ) (items : List X) → 1 ≤ least → least ≤ max_items → least ≤ wide
+    → IsDivided page_size wide extra size items (cut_of page_size least size items)
+cut_divides page_size least wide extra size items some cap h = grind (arith, cut_whole, divided_each, cut_runs)
 
 -- Each run but the last has two items at least.
 halved : {X : Type 0} (page_size : ℕ) (size : X → ℕ) (runs : List (List X)) → AreRuns page_size 2 size runs → 2 * length runs ≤ suc (length (flat_map (λ run. run) runs))

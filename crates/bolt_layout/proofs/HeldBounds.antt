@@ -26,9 +26,9 @@ run_sized page_size most [] all = omega arith
 run_sized page_size most (item ∷ run) all = omega (arith, sum_by-cons, run_sized page_size most run all.1)
 
 -- a page has few items
-thin : {E : Type 0} (page_size wide spare most : ℕ) (run : List (Laid E)) → 16 * wide ≤ page_size → spare ≤ 1 → IsPageRun page_size wide spare size_of run → AllByRecursion (IsHeldBelow page_size most) run
+thin : {E : Type 0} (page_size wide extra most : ℕ) (run : List (Laid E)) → 16 * wide ≤ page_size → extra ≤ 1 → IsPageRun page_size wide extra size_of run → AllByRecursion (IsHeldBelow page_size most) run
     → 16 * length run ≤ page_size
-thin {E = E} page_size wide spare most run room one is all =
+thin {E = E} page_size wide extra most run room one is all =
     elim (cases_lt wide (length run)) [
       | inl many ↦
           (let but = is.fits many in
@@ -47,14 +47,14 @@ over_held view page_size most run room all = grind (arith, run_few, run_small)
 
 -- ---- a level
 
-level_held : {E : Type 0} (view : ℕ → List E → PageView) (page_size wide spare most : ℕ) (runs : List (List (Laid E))) (items : List (Laid E)) → 16 * wide ≤ page_size → spare ≤ 1
-    → flat_map (λ run. run) runs ≡ items → AllByRecursion (IsPageRun page_size wide spare size_of) runs → AllByRecursion (IsHeldBelow page_size most) items
+level_held : {E : Type 0} (view : ℕ → List E → PageView) (page_size wide extra most : ℕ) (runs : List (List (Laid E))) (items : List (Laid E)) → 16 * wide ≤ page_size → extra ≤ 1
+    → flat_map (λ run. run) runs ≡ items → AllByRecursion (IsPageRun page_size wide extra size_of) runs → AllByRecursion (IsHeldBelow page_size most) items
     → AllByRecursion (IsHeldBelow page_size (most + page_size / 16)) (map (page_over view page_size) runs)
-level_held view page_size wide spare most [] items room one whole each all = tt
-level_held view page_size wide spare most (run ∷ runs) items room one whole each all =
+level_held view page_size wide extra most [] items room one whole each all = tt
+level_held view page_size wide extra most (run ∷ runs) items room one whole each all =
     let both = all_split (IsHeldBelow page_size most) run (flat_map (λ run. run) runs) (subst (AllByRecursion (IsHeldBelow page_size most)) (sym whole) all) in
-    let few = thin page_size wide spare most run room one each.0 both.0 in
-    (over_held view page_size most run few both.0, level_held view page_size wide spare most runs (flat_map (λ run. run) runs) room one refl each.1 both.1)
+    let few = thin page_size wide extra most run room one each.0 both.0 in
+    (over_held view page_size most run few both.0, level_held view page_size wide extra most runs (flat_map (λ run. run) runs) room one refl each.1 both.1)
 
 weaker : {E : Type 0} (page_size most more : ℕ) (item : Laid E) → most ≤ more → IsHeldBelow page_size most item → IsHeldBelow page_size more item
 weaker page_size most more item h is = let few = is.few in record { sized = is.sized; few = omega arith; small = is.small }

@@ -2,10 +2,10 @@
 use Rattle.std.proofs.Common.{◌≡◌, ◌∙◌, ◌⊎◌, ◌++◌, ◌+◌, ◌-◌, ◌≤◌, ℕ, zero, suc, List, [], ◌∷◌, length, Option, Some, None, refl, sym, ap, inl, inr, arith}
 use Rattle.bolt_layout.proofs.Words.{Balanced, branch_cut, cases_Bool, cut_from, cut_of, cut_row, join_last, joins, last_length, length_push}
 use Rattle.bolt_layout.proofs.LastItem.{join_behind, join_none, last_behind, some_runs}
-use Rattle.bolt_layout.specs.Limits.{cut_left}
+use Rattle.bolt_layout.specs.Limits.{cut_within}
 
 -- Without a limit a row is cut as the plain one.
-left_free : {X : Type 0} (page_size : ℕ) (size : X → ℕ) (run items : List X) → cut_left page_size size None run items ≡ cut_from page_size 2 size run items
+left_free : {X : Type 0} (page_size : ℕ) (size : X → ℕ) (run items : List X) → cut_within page_size size None run items ≡ cut_from page_size 2 size run items
 left_free page_size size run [] = refl
 left_free page_size size run (next ∷ items) = grind (arith, left_free page_size size (run ++ next ∷ []) items, left_free page_size size (next ∷ []) items)
 
@@ -28,13 +28,13 @@ one_run page_size size run (next ∷ items) one = elim (cases_Bool (joins page_s
 
 -- an item that is the last of its row joins where no run may begin
 last_joined : {X : Type 0} (page_size : ℕ) (size : X → ℕ) (run : List X) (next : X) (items : List X) → length items ≡ 0
-    → cut_left page_size size None (run ++ next ∷ []) items ≡ join_last (run ∷ cut_from page_size 2 size (next ∷ []) items)
+    → cut_within page_size size None (run ++ next ∷ []) items ≡ join_last (run ∷ cut_from page_size 2 size (next ∷ []) items)
 last_joined page_size size run next [] none = refl
 last_joined page_size size run next (more ∷ items) none = absurd (omega arith)
 
 -- Where the last run has one item, and one run less may begin, it joins the run before.
 left_joined : {X : Type 0} (page_size : ℕ) (size : X → ℕ) (n : ℕ) (run items : List X) → length (cut_from page_size 2 size run items) ≡ n + 2
-    → last_length (cut_from page_size 2 size run items) ≡ 1 → cut_left page_size size (Some n) run items ≡ join_last (cut_from page_size 2 size run items)
+    → last_length (cut_from page_size 2 size run items) ≡ 1 → cut_within page_size size (Some n) run items ≡ join_last (cut_from page_size 2 size run items)
 left_joined page_size size n run [] many one = absurd (omega arith)
 left_joined {X = X} page_size size zero run (next ∷ items) many one = elim (cases_Bool (joins page_size 2 size run next)) [
   | inl t ↦
@@ -60,7 +60,7 @@ left_joined {X = X} page_size size (suc n) run (next ∷ items) many one = elim 
       let one2 : last_length (run ∷ more) ≡ 1 = rw f at one in
       let same = last_behind run more (omega arith) in
       let fewer : suc n - 1 ≡ n = omega arith in
-      let ih : cut_left page_size size (Some n) (next ∷ []) items ≡ join_last more = left_joined page_size size n (next ∷ []) items (omega arith) (omega arith) in
+      let ih : cut_within page_size size (Some n) (next ∷ []) items ≡ join_last more = left_joined page_size size n (next ∷ []) items (omega arith) (omega arith) in
       rw (f, fewer) (ap (λ (rs : List (List X)). run ∷ rs) ih ∙ sym (join_behind run more (omega arith))))
 ]
 

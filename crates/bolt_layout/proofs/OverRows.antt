@@ -66,18 +66,18 @@ sum_at_most bound [] h = omega arith
 sum_at_most bound (x ∷ run) h = omega (arith, sum_by-cons, sum_at_most bound run h.1)
 
 -- A run that a page can hold, of items that are not too large, has room on its page.
-run_fits : {E : Type 0} (page_size spare bound : ℕ) (run : List (Laid E)) → page_size + spare * bound < 0x100000000 → FitsBut page_size spare size_of run
+run_fits : {E : Type 0} (page_size extra bound : ℕ) (run : List (Laid E)) → page_size + extra * bound < 0x100000000 → FitsBut page_size extra size_of run
     → AllByRecursion (IsAtMost bound) run → run_size size_of run < 0x100000000
-run_fits {E = E} page_size spare bound run small is sizes =
+run_fits {E = E} page_size extra bound run small is sizes =
     let both = all_split (IsAtMost bound) is.front is.last (subst (AllByRecursion (IsAtMost bound)) is.whole sizes) in
     let sum = ap (λ (xs : List (Laid E)). sum_by size_of xs) is.whole ∙ sum_by-append size_of is.front is.last in
     let a = sum_at_most bound is.last both.1 in
-    let b : length is.last * bound ≤ spare * bound = mul-le-mul_right bound is.few in
+    let b : length is.last * bound ≤ extra * bound = mul-le-mul_right bound is.few in
     let fits = is.fits in omega arith
 
-run_of : {E : Type 0} (page_size wide spare bound : ℕ) (run : List (Laid E)) → spare ≤ 1 → page_size + spare * bound < 0x100000000 → 16 + wide * bound < 0x100000000
-    → IsPageRun page_size wide spare size_of run → AllByRecursion (IsAtMost bound) run → IsRun run
-run_of page_size wide spare bound run one small room is sizes = grind (arith, run_fits, sum_at_most, mul-le-mul_right)
+run_of : {E : Type 0} (page_size wide extra bound : ℕ) (run : List (Laid E)) → extra ≤ 1 → page_size + extra * bound < 0x100000000 → 16 + wide * bound < 0x100000000
+    → IsPageRun page_size wide extra size_of run → AllByRecursion (IsAtMost bound) run → IsRun run
+run_of page_size wide extra bound run one small room is sizes = grind (arith, run_fits, sum_at_most, mul-le-mul_right)
 
 -- The leaf pages over a row of items that is divided.
 pub leaves_over : (page_size : ℕ) (runs : List (List (Laid LeafElement))) (leaves : List (Laid LeafElement)) → page_size < 0x80000000

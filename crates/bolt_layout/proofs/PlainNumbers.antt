@@ -13,8 +13,8 @@ doubled zero n = n
 doubled (suc times) n = doubled times (2 * n)
 
 -- the runs of a divided row have items
-runs_have : {X : Type 0} (page_size wide spare : ℕ) (size : X → ℕ) (runs : List (List X)) → AllByRecursion (IsPageRun page_size wide spare size) runs → AllByRecursion HasItem runs
-runs_have page_size wide spare size runs each = all_weaker (IsPageRun page_size wide spare size) HasItem (λ run is. is.some) runs each
+runs_have : {X : Type 0} (page_size wide extra : ℕ) (size : X → ℕ) (runs : List (List X)) → AllByRecursion (IsPageRun page_size wide extra size) runs → AllByRecursion HasItem runs
+runs_have page_size wide extra size runs each = all_weaker (IsPageRun page_size wide extra size) HasItem (λ run is. is.some) runs each
 
 -- a page's item has its header and its key
 rooms_kept : {E : Type 0} (view : ℕ → List E → PageView) (page_size : ℕ) (runs : List (List (Laid E))) → AllByRecursion HasKeyRoom (map (page_over view page_size) runs)

@@ -16,17 +16,17 @@ one_less None = None
 one_less (Some n) = Some (n - 1)
 
 -- From the left, as the cut goes; but an item that doesn't join, where no run may begin, joins all the same, and the rest is cut freely.
-abbrev pub cut_left : {X : Type 0} → (page_size : ℕ) → (X → ℕ) → (left : Option ℕ) → List X → List X → List (List X)
-cut_left page_size size left run [] = run ∷ []
-cut_left page_size size left run (next ∷ items) =
-    let joined = cut_left page_size size left (run ++ next ∷ []) items in
-    let forced = cut_left page_size size None (run ++ next ∷ []) items in
-    let begun = run ∷ cut_left page_size size (one_less left) (next ∷ []) items in
-    if joins page_size 2 size run next then joined else (if is_out left then forced else begun)
+abbrev pub cut_within : {X : Type 0} → (page_size : ℕ) → (X → ℕ) → (allowed : Option ℕ) → List X → List X → List (List X)
+cut_within page_size size allowed run [] = run ∷ []
+cut_within page_size size allowed run (next ∷ items) =
+    let joined = cut_within page_size size allowed (run ++ next ∷ []) items in
+    let forced = cut_within page_size size None (run ++ next ∷ []) items in
+    let begun = run ∷ cut_within page_size size (one_less allowed) (next ∷ []) items in
+    if joins page_size 2 size run next then joined else (if is_out allowed then forced else begun)
 
-abbrev pub cut_row : {X : Type 0} → (page_size : ℕ) → (X → ℕ) → (left : Option ℕ) → List X → List (List X)
-cut_row page_size size left [] = []
-cut_row page_size size left (first ∷ items) = cut_left page_size size left (first ∷ []) items
+abbrev pub cut_row : {X : Type 0} → (page_size : ℕ) → (X → ℕ) → (allowed : Option ℕ) → List X → List (List X)
+cut_row page_size size allowed [] = []
+cut_row page_size size allowed (first ∷ items) = cut_within page_size size allowed (first ∷ []) items
 
 -- the k-th level above a level of pages
 abbrev pub level_up : Layout → (page_size k : ℕ) → List (Laid BranchElement) → List (Laid BranchElement)

@@ -1,10 +1,10 @@
 -- The found pages of a whole file.
 use Rattle.std.proofs.Common.{◌≡◌, ◌∙◌, ◌↔◌, ◌⊎◌, ◌+◌, inl, inr, ℕ, Bool, true, arith, List, [], ◌∷◌, Option, Some, None, Result, Ok, Err, IfOk, refl, sym, ap, subst}
-use Rattle.bolt_recover.proofs.Words.{AreFound, AreKeptPages, AreLosses, At_page, claims_meta, claims_of, Contains, contains_cases, contains_head, contains_none, contains_tail, done, Finding, FoundBelow, further, Has, HasSoundTrees, IsFoundPage, IsKeptPage, IsListedFree, IsLoneLeaf, IsMetaPage, IsRecovered, IsSurvey, kept, LosesNothing, LosesRoot, lost, Member, Meta, meta_pages, nat_tests, node_at, node_below, props, Recovery, recovery_meta, root_place, root_spot, RunsAll, SpanAt, Visit, visit, ∥∥₁_elim}
+use Rattle.bolt_recover.proofs.Words.{AreFound, AreKeptPages, AreLosses, At_page, claims_meta, claims_of, Contains, contains_cases, contains_head, contains_none, contains_tail, done, Finding, FoundBelow, further, Has, HasSoundTrees, IsFoundPage, IsKeptPage, IsListedFree, IsLoneLeaf, IsMetaPage, IsRecovered, IsSurvey, kept, LosesNothing, LosesRoot, lost, Member, Meta, meta_pages, nat_tests, node_at, node_below, props, Recovery, recovery_meta, root_site, root_spot, WholeCourse, SpanAt, SurveyedWay, visit, ∥∥₁_elim}
 use Rattle.bolt_recover.proofs.Existing.{has_survey, one_recovered, recovers}
 use Rattle.bolt_recover.proofs.FoundLemmas.{found_one, found_same, passed}
 use Rattle.bolt_recover.proofs.{Deciding.Decided, Deciding.decided_as, Deciding.decided_by, Deciding.either_decided, Deciding.lowest, LostWays.nothing_lost}
-use Rattle.bolt_recover.proofs.{NothingLost.sound, Recovering.claimed_all, Recovering.claimed_at_end, RunSurveys.claims_in, RunSurveys.surveyed}
+use Rattle.bolt_recover.proofs.{NothingLost.sound, Recovering.claimed_all, Recovering.claimed_at_end, CourseSurveys.claims_in, CourseSurveys.surveyed}
 use Rattle.bolt_recover.proofs.SurveyIsOne.{gives_same, same_survey}
 
 pub if_ok : {X E : Type 0} {P Q : X → Type 0} (result : Result X E) → ((x : X) → P x → Q x) → IfOk result P → IfOk result Q
@@ -17,20 +17,20 @@ unfolding recovery_meta
 recovery_under recovery = ∥∥₁_elim recovery.on (hlevel props) (λ on. on.meta)
 
 -- a way of a survey is lost, or none is
-pub lost_or_none : (survey : List Visit) → LosesNothing survey ⊎ ((way : List ℕ) × (x : Finding) × Has survey (lost way x))
+pub lost_or_none : (survey : List SurveyedWay) → LosesNothing survey ⊎ ((way : List ℕ) × (x : Finding) × Has survey (lost way x))
 lost_or_none [] = inl (λ v has. absurd has)
 lost_or_none (v ∷ survey) = first v survey v.found refl (lost_or_none survey)
   where
-    first : (v : Visit) (survey : List Visit) (f : Option Finding) → v.found ≡ f
+    first : (v : SurveyedWay) (survey : List SurveyedWay) (f : Option Finding) → v.found ≡ f
         → LosesNothing survey ⊎ ((way : List ℕ) × (x : Finding) × Has survey (lost way x))
         → LosesNothing (v ∷ survey) ⊎ ((way : List ℕ) × (x : Finding) × Has (v ∷ survey) (lost way x))
     first v survey (Some x) e rest = inr (v.way, x, inl (λ i. record { way = v.way; found = sym e i }))
     first v survey None e (inr (way, x, has)) = inr (way, x, inr has)
-    first v survey None e (inl none) = inl (λ u has. elim has [ inl same ↦ ap (λ (z : Visit). z.found) same ∙ e | inr later ↦ none u later ])
+    first v survey None e (inl none) = inl (λ u has. elim has [ inl same ↦ ap (λ (z : SurveyedWay). z.found) same ∙ e | inr later ↦ none u later ])
 
 module _ (file : List ℕ) (meta : Meta) where
   -- if nothing is lost, nothing is found; otherwise what is found next to the kept pages
-  pub are_none : (survey : List Visit) → IsSurvey file meta survey → LosesNothing survey → AreFound file meta []
+  pub are_none : (survey : List SurveyedWay) → IsSurvey file meta survey → LosesNothing survey → AreFound file meta []
   are_none survey is none = record {
     survey = survey;
     surveys = is;
@@ -38,7 +38,7 @@ module _ (file : List ℕ) (meta : Meta) where
     some = λ way x has. absurd (let f : Some x ≡ None = none (lost way x) has in cc);
   }
 
-  pub are_some : (found : List ℕ) (survey : List Visit) (way : List ℕ) (x : Finding) → IsSurvey file meta survey → Has survey (lost way x)
+  pub are_some : (found : List ℕ) (survey : List SurveyedWay) (way : List ℕ) (x : Finding) → IsSurvey file meta survey → Has survey (lost way x)
       → FoundBelow file meta (IsKeptPage file meta survey) meta.high_water found → AreFound file meta found
   are_some found survey way x is has below = record {
     survey = survey;
@@ -58,12 +58,12 @@ module _ (file : List ℕ) (meta : Meta) where
       ]
 
   -- the found pages next to the kept ones of the survey
-  pub below_of : (found : List ℕ) (survey : List Visit) (way : List ℕ) (x : Finding) → AreFound file meta found → IsSurvey file meta survey → Has survey (lost way x)
+  pub below_of : (found : List ℕ) (survey : List SurveyedWay) (way : List ℕ) (x : Finding) → AreFound file meta found → IsSurvey file meta survey → Has survey (lost way x)
       → FoundBelow file meta (IsKeptPage file meta survey) meta.high_water found
   below_of found survey way x are is has =
       let same = same_survey file meta are.survey survey are.surveys is in
-      subst (λ (s : List Visit). FoundBelow file meta (IsKeptPage file meta s) meta.high_water found) same
-      (are.some way x (subst (λ (s : List Visit). Has s (lost way x)) (sym same) has))
+      subst (λ (s : List SurveyedWay). FoundBelow file meta (IsKeptPage file meta s) meta.high_water found) same
+      (are.some way x (subst (λ (s : List SurveyedWay). Has s (lost way x)) (sym same) has))
 
   pub one_found : (a b : List ℕ) → AreFound file meta a → AreFound file meta b → a ≡ b
   one_found a b h k =
@@ -77,7 +77,7 @@ module _ (file : List ℕ) (meta : Meta) where
       are.none (subst LosesNothing (same_survey file meta survey are.survey is are.surveys) (nothing_lost file meta survey is (sym none)))
 
   -- if a page is found, a way is lost
-  pub found_in : (found : List ℕ) (survey : List Visit) (n : ℕ) → AreFound file meta found → IsSurvey file meta survey → Contains found n
+  pub found_in : (found : List ℕ) (survey : List SurveyedWay) (n : ℕ) → AreFound file meta found → IsSurvey file meta survey → Contains found n
       → FoundBelow file meta (IsKeptPage file meta survey) meta.high_water found
   found_in found survey n are is has =
       elim (lost_or_none survey) [
@@ -98,11 +98,11 @@ module _ (file : List ℕ) (meta : Meta) where
       (either_decided (decided_by (claims_of (node_at file meta) (At_page (root_spot m)) k) (claims_in (node_at file meta) (At_page (root_spot m)) k)) (found_or_not found k))
 
   -- whether a page is kept or found can be told
-  pub either_or_not : (found : List ℕ) (survey : List Visit) → IsSurvey file meta survey → (k : ℕ) → Decided (IsKeptPage file meta survey k ⊎ IsFoundPage file meta found k)
+  pub either_or_not : (found : List ℕ) (survey : List SurveyedWay) → IsSurvey file meta survey → (k : ℕ) → Decided (IsKeptPage file meta survey k ⊎ IsFoundPage file meta found k)
   either_or_not found survey is k = either_decided (decided_by (claimed_at_end file meta 0 k) (claimed_all file meta 0 survey is k)) (found_or_not found k)
 
   -- an intact leaf that isn't listed as free shares a page
-  pub shares : (found : List ℕ) (survey : List Visit) (way : List ℕ) (x : Finding) (n : ℕ) → AreFound file meta found → IsSurvey file meta survey → Has survey (lost way x)
+  pub shares : (found : List ℕ) (survey : List SurveyedWay) (way : List ℕ) (x : Finding) (n : ℕ) → AreFound file meta found → IsSurvey file meta survey → Has survey (lost way x)
       → IsLoneLeaf (node_at file meta) (λ k. ⊥) n → (IsListedFree file meta n → ⊥)
       → (k : ℕ) × SpanAt (node_at file meta) (At_page (root_spot n)) k × (IsKeptPage file meta survey k ⊎ IsFoundPage file meta found k)
   shares found survey way x n are is has lone unlisted =
@@ -118,22 +118,22 @@ module _ (file : List ℕ) (meta : Meta) where
 
 -- a file whose root page is lost: that page alone is visited
 module _ (file : List ℕ) (meta : Meta) (x : Finding) (loses : LosesRoot file meta x) where
-  abbrev alone : List Visit
+  abbrev alone : List SurveyedWay
   alone = lost [] x ∷ []
 
-  root_run : RunsAll file meta further [] (record { way = []; place = root_place file meta; found = Some x } ∷ []) []
-  root_run =
+  root_course : WholeCourse file meta further [] (record { way = []; site = root_site file meta; found = Some x } ∷ []) []
+  root_course =
       visit (gives_same (node_at file meta) IsMetaPage (λ n. meta_pages n ≡ true) (At_page (root_spot meta.root)) (Some x) (λ n low. grind (arith, nat_tests)) (λ n is. grind (arith, nat_tests)) loses) done
 
   not_kept : (way : List ℕ) → Has alone (kept way) → ⊥
-  not_kept way (inl same) = let f : None ≡ Some x = ap (λ (v : Visit). v.found) same in cc
+  not_kept way (inl same) = let f : None ≡ Some x = ap (λ (v : SurveyedWay). v.found) same in cc
   not_kept way (inr has) = has
 
   pub found_rootless : (taken : ℕ → Bool) (found : List ℕ) → ((n : ℕ) → (taken n ≡ true) ↔ IsMetaPage n)
       → FoundBelow file meta (λ n. taken n ≡ true) meta.high_water found → AreFound file meta found
-  found_rootless taken found metas below = are_some file meta found alone [] x (surveyed file meta _ [] root_run) (inl refl)
+  found_rootless taken found metas below = are_some file meta found alone [] x (surveyed file meta _ [] root_course) (inl refl)
       (found_same file meta (λ n. taken n ≡ true) (IsKeptPage file meta alone) (λ k was. inl ((metas k).0 was))
       (λ k is. elim is [ inl low ↦ (metas k).1 low | inr (v, (there, span)) ↦ absurd (not_kept v there) ]) meta.high_water found below)
 
   pub nothing_recovered : (listing : List Member) → IsRecovered file meta listing → listing ≡ []
-  nothing_recovered listing is = one_recovered file meta listing [] is (recovers file meta _ [] root_run)
+  nothing_recovered listing is = one_recovered file meta listing [] is (recovers file meta _ [] root_course)

@@ -1,6 +1,6 @@
 -- Each file has found pages: whether a page is found can be told.
 use Rattle.std.proofs.Common.{◌≡◌, ◌∙◌, ◌≢◌, ◌⊎◌, ◌+◌, ◌≤◌, true, inl, inr, ℕ, zero, suc, List, [], ◌∷◌, ◌++◌, Option, Some, None, Result, Ok, Err, refl, sym, ap, subst, arith}
-use Rattle.bolt_recover.proofs.Words.{AreFound, cases_lt, early_finding, Entry, Finding, FoundBelow, IsFoundNext, IsFoundPage, IsKeptPage, IsListedFree, IsLoneLeaf, IsSurvey, Meta, Node, node_at, node_finding, Nodes, root_spot, Visit}
+use Rattle.bolt_recover.proofs.Words.{AreFound, cases_lt, early_finding, Entry, Finding, FoundBelow, IsFoundNext, IsFoundPage, IsKeptPage, IsListedFree, IsLoneLeaf, IsSurvey, Meta, Node, node_at, node_finding, Nodes, root_spot, SurveyedWay}
 use Rattle.bolt_recover.proofs.{Existing.has_survey, FoundAll.are_none, FoundAll.are_some, FoundAll.either_or_not, FoundAll.lost_or_none}
 use Rattle.bolt_recover.proofs.Deciding.{Decided, both_decided, decided_as, decided_by, lowest, not_decided}
 use Rattle.bolt_format.specs.Freelists.{free_ids_of, freelist_fault_of}
@@ -59,12 +59,12 @@ module _ (file : List ℕ) (meta : Meta) where
             omega (arith, none, times, here))
       ]
 
-  next_decided : (survey : List Visit) → IsSurvey file meta survey → (found : List ℕ) (n : ℕ) → Decided (IsFoundNext file meta (IsKeptPage file meta survey) found n)
+  next_decided : (survey : List SurveyedWay) → IsSurvey file meta survey → (found : List ℕ) (n : ℕ) → Decided (IsFoundNext file meta (IsKeptPage file meta survey) found n)
   next_decided survey is found n = decided_as (λ (leaf, unlisted). record { leaf = leaf; unlisted = unlisted }) (λ next. (next.leaf, next.unlisted))
       (both_decided (seen_decided (node_at file meta) (λ k. IsKeptPage file meta survey k ⊎ IsFoundPage file meta found k) (either_or_not file meta found survey is) n (node_at file meta n) refl)
       (λ leaf. not_decided (ids_decided n (freelist_fault_of file meta) (free_ids_of file meta) refl refl)))
 
-  below_exists : (survey : List Visit) → IsSurvey file meta survey → (mark : ℕ) → (found : List ℕ) × FoundBelow file meta (IsKeptPage file meta survey) mark found
+  below_exists : (survey : List SurveyedWay) → IsSurvey file meta survey → (mark : ℕ) → (found : List ℕ) × FoundBelow file meta (IsKeptPage file meta survey) mark found
   below_exists survey is zero = ([], refl)
   below_exists survey is (suc n) =
       let (found, below) = below_exists survey is n in

@@ -1,6 +1,6 @@
 -- The members of the joined listing, one after another.
 use Rattle.std.proofs.Common.{◌≡◌, ◌≢◌, ◌∙◌, ℕ, true, false, List, [], ◌∷◌, ◌++◌, ◌⊎◌, inl, inr, Option, Some, None, Result, Ok, Err, IfOk, IfSome, OnErr, OnOk, filter, is_some, not, refl, sym, ap, subst, subst₂}
-use Rattle.bolt_recover.proofs.Words.{All, All-head, All-tail, AreJoinable, below_bucket, Bucket, bucket_members, contains_cases, contains_head, contains_none, contains_tail, first_cmp, ForRecovered, Found, GivesKept, GivesNext, HasBucketKey, held_members, holds_key, is_eq, is_found_path, is_lt, IsFoundView, IsHeldWell, IsJoined, IsRecovered, item_view, joined_listing, Kept, kept_file, kept_left, kept_meta, kept_path, LacksBucketKey, LeafElement, leaves_of, LeavesKept, left_at, lost_and_found, Member, Meta, numbers_of, option_map, or_cases, or_parts, page_at, pages_of, Path, path_at, props, put_members, recovered_in, shown}
+use Rattle.bolt_recover.proofs.Words.{All, All-head, All-tail, AreJoinable, below_bucket, Bucket, bucket_members, contains_cases, contains_head, contains_none, contains_tail, first_cmp, ForRecovered, Found, GivesKept, GivesNext, HasBucketKey, next_kept_members, holds_key, is_eq, is_found_path, is_lt, IsFoundView, HasNextKept, IsJoined, IsRecovered, item_view, joined_listing, Kept, kept_file, kept_left, kept_meta, kept_path, LacksBucketKey, LeafElement, leaves_of, LeavesKept, left_at, lost_and_found, Member, Meta, numbers_of, option_map, or_cases, or_parts, page_at, pages_of, Path, path_at, props, put_members, recovered_in, shown}
 use Rattle.bolt_recover.proofs.JoinedLemmas.{joined_keeps, joined_of, put_recovered, stays, with_elements}
 use Rattle.bolt_recover.specs.{declared.joined.Joined.Joined, declared.joined_parts.FoundMembers.FoundMembers, declared.joined.Stage.Stage}
 use Rattle.bolt_recover.specs.declared.joined.Stage.TheVariants.{After, Before, Inside}
@@ -64,28 +64,28 @@ module _ (stage : Stage) (kept : Kept) where
   some_found : (f : Found) (found : List Found) → (f ∷ found) ≢ []
   some_found f found e = cc
 
-  pub begun_well : (found : List Found) (held : Option CodeItem) → Begins found → IsHeldWell stage kept held
-  begun_well [] held (none, some) = subst (λ (s : Stage). IsHeldWell s kept held) (sym (none refl)) tt
-  begun_well (f ∷ found) held (none, some) = subst (λ (s : Stage). IsHeldWell s kept held) (sym (some (some_found f found))) tt
+  pub begun_well : (found : List Found) (next_kept : Option CodeItem) → Begins found → HasNextKept stage kept next_kept
+  begun_well [] next_kept (none, some) = subst (λ (s : Stage). HasNextKept s kept next_kept) (sym (none refl)) tt
+  begun_well (f ∷ found) next_kept (none, some) = subst (λ (s : Stage). HasNextKept s kept next_kept) (sym (some (some_found f found))) tt
 
   pub begun_path : (found : List Found) (bucket : FoundMembers) → Begins found → path_at stage kept bucket ≡ kept_path kept
   begun_path [] bucket (none, some) = rw (none refl) refl
   begun_path (f ∷ found) bucket (none, some) = rw (some (some_found f found)) refl
 
-  all_at : (file : List ℕ) (meta : Meta) (found : List Found) (bucket : FoundMembers) (held : Option CodeItem) (listing recovered : List Member) → Begins found → IsParted file meta found listing recovered
-      → kept_left kept recovered ≡ recovered → left_at stage kept found bucket held recovered ≡ listing
-  all_at file meta [] bucket held listing recovered (none, some) is fresh = rw (none refl) (fresh ∙ sym is.joined)
-  all_at file meta (f ∷ found) bucket held listing recovered (none, some) is fresh =
+  all_at : (file : List ℕ) (meta : Meta) (found : List Found) (bucket : FoundMembers) (next_kept : Option CodeItem) (listing recovered : List Member) → Begins found → IsParted file meta found listing recovered
+      → kept_left kept recovered ≡ recovered → left_at stage kept found bucket next_kept recovered ≡ listing
+  all_at file meta [] bucket next_kept listing recovered (none, some) is fresh = rw (none refl) (fresh ∙ sym is.joined)
+  all_at file meta (f ∷ found) bucket next_kept listing recovered (none, some) is fresh =
       rw (some (some_found f found)) (ap (put_members (bucket_members (f ∷ found))) fresh
       ∙ put_recovered file meta (pages_of (f ∷ found)) recovered is.recovers
       ∙ sym is.joined)
 
-  pub begun_left : (file : List ℕ) (meta : Meta) (found : List Found) (bucket : FoundMembers) (held : Option CodeItem) → Begins found → AreJoinable file meta found
+  pub begun_left : (file : List ℕ) (meta : Meta) (found : List Found) (bucket : FoundMembers) (next_kept : Option CodeItem) → Begins found → AreJoinable file meta found
       → ForRecovered file meta (λ recovered. kept_left kept recovered ≡ recovered)
-      → (listing : List Member) → IsJoined file meta listing → left_at stage kept found bucket held (recovered_in found listing) ≡ listing
-  begun_left file meta found bucket held begins are fresh listing is =
+      → (listing : List Member) → IsJoined file meta listing → left_at stage kept found bucket next_kept (recovered_in found listing) ≡ listing
+  begun_left file meta found bucket next_kept begins are fresh listing is =
       let part = parted file meta found listing are is in
-      all_at file meta found bucket held listing (recovered_in found listing) begins part (fresh (recovered_in found listing) part.recovers)
+      all_at file meta found bucket next_kept listing (recovered_in found listing) begins part (fresh (recovered_in found listing) part.recovers)
 
 -- a recovered member before the bucket
 pub before_given : (put old new : List Member) (path : Path) (given : Option CodeItem) → GivesNext old new path (option_map item_view given) → is_some given ≡ true → is_lt (first_cmp path) ≡ true
@@ -95,15 +95,15 @@ before_given put old new path (Some item) gives some less = ap (put_members put)
 
 -- the bucket before a recovered member, or after all of them
 pub bucket_given : (found : List Found) (old new : List Member) (path : Path) (given : Option CodeItem) → GivesNext old new path (option_map item_view given) → (is_some given ≡ false) ⊎ (is_lt (first_cmp path) ≡ false)
-    → put_members (bucket_members found) old ≡ (lost_and_found ∷ [], Bucket 0) ∷ (below_bucket found ++ (held_members path given ++ new))
+    → put_members (bucket_members found) old ≡ (lost_and_found ∷ [], Bucket 0) ∷ (below_bucket found ++ (next_kept_members path given ++ new))
 bucket_given found old new path None (none, rest, ended) over = rw (none, rest) refl
 bucket_given found old new path (Some item) gives (inl none) = absurd (let f : true ≡ false = none in cc)
 bucket_given found old new path (Some item) gives (inr over) = ap (put_members (bucket_members found)) gives ∙ rw over refl
 
--- if no recovered member is held, none is left
-pub held_well : (old new : Kept) (given : Option CodeItem) → kept_file new ≡ kept_file old → kept_meta new ≡ kept_meta old → GivesKept old new given → IsHeldWell Inside new given
-held_well old new (Some item) file meta gives = tt
-held_well old new None file meta gives = λ recovered is. (gives recovered (subst₂ (λ (f : List ℕ) (m : Meta). IsRecovered f m recovered) file meta is)).1
+-- if no recovered member was returned, none is left
+pub next_kept_well : (old new : Kept) (given : Option CodeItem) → kept_file new ≡ kept_file old → kept_meta new ≡ kept_meta old → GivesKept old new given → HasNextKept Inside new given
+next_kept_well old new (Some item) file meta gives = tt
+next_kept_well old new None file meta gives = λ recovered is. (gives recovered (subst₂ (λ (f : List ℕ) (m : Meta). IsRecovered f m recovered) file meta is)).1
 
 pub gives_prop : (old new : List Member) (path : Path) (given : Option CodeItem) → IsProp (GivesNext old new path (option_map item_view given))
 gives_prop old new path None = hlevel props
@@ -115,8 +115,8 @@ when_ok (Err e) further holds = tt
 
 -- if no recovered member was left, none is
 pub still_none : {E : Type 0} (old new : Kept) (result : Result (Option CodeItem) E) → kept_file new ≡ kept_file old → kept_meta new ≡ kept_meta old
-    → IfOk result (GivesKept old new) → OnErr result (LeavesKept old new) → IsHeldWell Inside old None → IsHeldWell Inside new None
-still_none old new (Ok None) file meta gives same none = held_well old new None file meta gives
+    → IfOk result (GivesKept old new) → OnErr result (LeavesKept old new) → HasNextKept Inside old None → HasNextKept Inside new None
+still_none old new (Ok None) file meta gives same none = next_kept_well old new None file meta gives
 still_none old new (Ok (Some item)) file meta gives same none = λ recovered is.
     let before = subst₂ (λ (f : List ℕ) (m : Meta). IsRecovered f m recovered) file meta is in
     absurd (let some = sym (none recovered before) ∙ gives recovered before in cc)

@@ -1,10 +1,10 @@
 -- Ways of a survey that loses none of some ways: those that lead somewhere are kept, and the tests find nothing at them, whatever ways come before.
 use Rattle.std.proofs.Common.{◌≡◌, ◌∙◌, ℕ, inl, inr, List, [], ◌∷◌, ◌++◌, Option, Some, None, refl, sym, subst, append_assoc}
-use Rattle.bolt_recover.proofs.Words.{append-nil, Before, Finding, follow, follow_append, Gives, Has, IsClaimedBefore, IsClaimedIn, IsMetaPage, kept, Nodes, Passes, passes_fewer, span_spot, Spot, Surveys, Visit}
+use Rattle.bolt_recover.proofs.Words.{append-nil, Before, Finding, follow, follow_append, Gives, Has, IsClaimedBefore, IsClaimedIn, IsMetaPage, kept, Nodes, Passes, passes_fewer, span_spot, Spot, Surveys, SurveyedWay}
 use Rattle.bolt_check.proofs.Forest.{follow_some}
 
-module _ (nodes : Nodes) (root : Option Spot) (survey : List Visit) (surveys : Surveys nodes (follow nodes root) survey) (P : List ℕ → Type 0) (closed : (front rest : List ℕ) → P (front ++ rest) → P front)
-    (none : (v : Visit) → Has survey v → P v.way → v.found ≡ None) where
+module _ (nodes : Nodes) (root : Option Spot) (survey : List SurveyedWay) (surveys : Surveys nodes (follow nodes root) survey) (P : List ℕ → Type 0) (closed : (front rest : List ℕ) → P (front ++ rest) → P front)
+    (none : (v : SurveyedWay) → Has survey v → P v.way → v.found ≡ None) where
   keeps_one : (way : List ℕ) (found : Option Finding) → Has survey (record { way = way; found = found }) → P way → Has survey (kept way)
   keeps_one way found has is = subst (λ (f : Option Finding). Has survey (record { way = way; found = f })) (none (record { way = way; found = found }) has is) has
 

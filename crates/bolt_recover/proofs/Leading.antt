@@ -1,6 +1,6 @@
--- Where an element of an open page leads, as a place.
+-- Where an element of an open page leads, as a site.
 use Rattle.std.proofs.Common.{◌≡◌, ◌∙◌, ℕ, ◌<◌, Bool, true, false, List, Option, Some, None, Ok, IfSome, length, slice_get, refl, sym, ap, arith, inl, inr}
-use Rattle.bolt_recover.proofs.Words.{At_inline, content_place, Entry, Key, LeafElement, length-leaf, Meta, node_at, option_map, Page, page_spot, PageSpot, Path, place_on, shown, shown_node, slice_get_cases, spot_at, spot_place, step_entry, step_on, step_path, step_place, tree_kind, TreePage}
+use Rattle.bolt_recover.proofs.Words.{At_inline, content_site, Entry, Key, LeafElement, length-leaf, Meta, node_at, option_map, Page, page_spot, PageSpot, Path, site_on, shown, shown_node, slice_get_cases, spot_at, spot_site, step_entry, step_on, step_path, step_site, tree_kind, TreePage}
 use Rattle.bolt_format.proofs.PageLaws.{length-shown_leaves}
 use Rattle.bolt_check.specs.{ShownSpots.IsInner, declared.visit.PageSpot.PageSpot as CodePageSpot, declared.visit.Spot.Spot}
 use Rattle.bolt_check.specs.declared.visit.Spot.TheVariants as spots
@@ -18,24 +18,24 @@ no_leaf page i is below none =
       | inr (past, h) ↦ absurd (omega (arith, past, below, length-leaf page is, length-shown_leaves page.page (page.kind ∙ ap tree_kind is)))
     ]
 
-place_of : (file : List ℕ) (meta : Meta) (path : Path) (o : Option LeafElement) (r : Option Spot)
+site_of : (file : List ℕ) (meta : Meta) (path : Path) (o : Option LeafElement) (r : Option Spot)
     → ((s : Spot) → r ≡ Some s → o ≡ None → (host : ℕ) (keys : List Key) → spot_at s ≡ At_inline host keys → ⊥)
     → IfSome r (λ (s : Spot). (e : LeafElement) → o ≡ Some e → IsInner e.value s)
-    → place_on file meta path o (option_map spot_at r) ≡ option_map (spot_place file meta (step_path path o)) r
-place_of file meta path o None not inner = refl
-place_of file meta path None (Some (spots.Page s)) not inner = refl
-place_of file meta path None (Some (spots.Bucket s)) not inner = absurd (not (spots.Bucket s) refl refl _ _ refl)
-place_of file meta path (Some e) (Some (spots.Page s)) not inner = refl
-place_of file meta path (Some e) (Some (spots.Bucket s)) not inner = rw (inner e refl) refl
+    → site_on file meta path o (option_map spot_at r) ≡ option_map (spot_site file meta (step_path path o)) r
+site_of file meta path o None not inner = refl
+site_of file meta path None (Some (spots.Page s)) not inner = refl
+site_of file meta path None (Some (spots.Bucket s)) not inner = absurd (not (spots.Bucket s) refl refl _ _ refl)
+site_of file meta path (Some e) (Some (spots.Page s)) not inner = refl
+site_of file meta path (Some e) (Some (spots.Bucket s)) not inner = rw (inner e refl) refl
 
 pub leads_to : (file : List ℕ) (meta : Meta) (path : Path) (page : TreePage) (s : CodePageSpot) (i : ℕ) (r : Option Spot)
     → node_at file meta s.number ≡ Ok (shown_node page) → i < length (shown_node page).entries
     → option_map spot_at r ≡ step_on (shown_node page) (page_spot s) i
     → IfSome r (λ (spot : Spot). (e : LeafElement) → slice_get (shown page.page).leaves i ≡ Some e → IsInner e.value spot)
-    → step_place file meta (content_place path (Page page s)) i ≡ option_map (spot_place file meta (step_path path (slice_get (shown page.page).leaves i))) r
+    → step_site file meta (content_site path (Page page s)) i ≡ option_map (spot_site file meta (step_path path (slice_get (shown page.page).leaves i))) r
 unfolding shown_node
 leads_to file meta path page s i r node below leads inner =
-    rw (node, ← leads) (place_of file meta path (slice_get (shown page.page).leaves i) r
+    rw (node, ← leads) (site_of file meta path (slice_get (shown page.page).leaves i) r
     (λ t is none host keys at.
     let led : Some (At_inline host keys) ≡ step_on (shown_node page) (page_spot s) i = ap Some (sym at) ∙ ap (option_map spot_at) (sym is) ∙ leads in
     no_leaf page i (from_leaf (shown_node page).is_leaf _ _ _ host keys led) below none)

@@ -5,7 +5,7 @@ mod FirstLoss
 mod FoundAll
 mod FoundExists
 mod FoundLemmas
-pub mod HeldMembers
+pub mod MembersInBuckets
 mod JoinSteps
 pub mod JoinedContents
 mod JoinedLemmas
@@ -16,17 +16,18 @@ pub mod LeftMembers
 mod LostWays
 mod NothingLost
 pub mod PageNames
-mod PlaceFacts
-mod PlaceKeys
-mod PlaceSteps
+mod SiteFacts
+mod SiteKeys
+mod SiteSteps
 mod Recovering
-mod RunExists
-mod RunForgets
-mod RunOrder
-mod RunPaths
-mod RunSteps
-mod RunSurveys
-mod RunTrees
+pub mod Refused
+mod CourseExists
+mod CourseForgets
+mod CourseOrder
+mod CoursePaths
+mod CourseSteps
+mod CourseSurveys
+mod CourseTrees
 mod Searched
 mod SoundListing
 mod SoundSurveys

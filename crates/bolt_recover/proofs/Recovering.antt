@@ -1,11 +1,10 @@
 -- A recovery between its calls: what of the recovered listing is left, and which losses are still to be reported.
-use Rattle.std.proofs.Common.{◌≡◌, ◌∙◌, ◌≤◌, ◌<◌, ◌^◌, inl, inr, ℕ, Bool, true, false, ◌↔◌, List, [], ◌∷◌, ◌++◌, length, take, Option, Some, None, Result, Ok, Err, IfErr, IfOk, OnErr, filter, if◌then◌else◌, refl, sym, ap, subst, arith, append_assoc}
-use Rattle.bolt_recover.proofs.Words.{Accounts, Advances, after_visit, after_visits, ahead_tasks, All-contains, All-contains_itself, All-filter, append-nil, AreFirst, AreKeptPages, AreLosses, AreOpen, ArePageWays, cases_Bool, ComesTo, Contains, contains_cases, contains_head, Content, counted, Ends, filter_all, filter_first, filter_passes, filter_rises, flip_less, further, GivesHead, GoesOn, HasOpen, is_lt, is_over, IsAllLeft, IsGoodContent, IsGoodPage, IsKeptPage, IsLeft, IsOn, IsRecovered, IsRefusedRoot, IsSlotUnrecoverable, IsSurvey, IsUnrecoverable, item_of, Key, leaf_view, LeafElement, left_by, less_lt, losses_of, LossView, lost_at, lt_of, Member, member_cmp, member_total, Memory, Meta, NextVisit, node_at, Nodes, not_lt_of, NoWay, Open, open_tasks, OpenPage, Outcome, outcome_of, over_by, Page, page_ways, Path, path_cmp, path_total, props, reached, rest_after, Rises, Runs, RunsAll, State, stay, StaysOn, Structure, take-append-le, take_all, tally_of, Task, tied_itself, Visit, Visited, Way}
-use Rattle.bolt_recover.proofs.{Existing.one_recovered, Existing.recovers, RunExists.run_exists, RunOrder.visits_of, RunSteps.ends}
-use Rattle.bolt_recover.proofs.{RunSurveys.all_claimed, RunSurveys.surveyed, RunSurveys.tally, SurveyIsOne.same_survey}
+use Rattle.std.proofs.Common.{◌≡◌, ◌∙◌, ◌≤◌, ◌<◌, ◌^◌, inl, inr, ℕ, Bool, true, false, ◌↔◌, List, [], ◌∷◌, ◌++◌, length, take, Option, Some, None, Result, Ok, Err, IfOk, OnErr, filter, if◌then◌else◌, refl, sym, ap, subst, arith, append_assoc}
+use Rattle.bolt_recover.proofs.Words.{Advances, after_visit, after_visits, ahead_tasks, All-contains, All-contains_itself, All-filter, append-nil, AreFirst, AreKeptPages, AreLosses, AreOpen, ArePageWays, cases_Bool, ComesTo, Contains, contains_cases, contains_head, Content, counted, Ends, filter_all, filter_first, filter_passes, filter_rises, flip_less, further, GivesHead, GoesOn, HasOpen, is_lt, is_over, IsAllLeft, IsGoodContent, IsGoodPage, IsKeptPage, IsLeft, IsOn, IsRecovered, IsSurvey, item_of, Key, leaf_view, LeafElement, left_by, less_lt, losses_of, LossView, lost_at, lt_of, Member, member_cmp, member_total, Meta, NextVisit, node_at, Nodes, not_lt_of, NoWay, open_tasks, OpenPage, Outcome, outcome_of, over_by, Page, page_ways, Path, path_cmp, path_total, props, reached, rest_after, Rises, Course, WholeCourse, State, stay, StaysOn, take-append-le, take_all, tally_of, Task, tied_itself, SurveyedWay, Visited, Way}
+use Rattle.bolt_recover.proofs.{Existing.one_recovered, Existing.recovers, CourseExists.course_exists, CourseOrder.visits_of, CourseSteps.ends}
+use Rattle.bolt_recover.proofs.{CourseSurveys.all_claimed, CourseSurveys.surveyed, CourseSurveys.tally, SurveyIsOne.same_survey}
 use Rattle.bolt_tree.proofs.Filters.{kept as passing}
-use Rattle.bolt_format.specs.{declared.element.Leaf.Leaf, Metas.IsChosen, Metas.IsInSlot, declared.meta.Slot.Slot}
-use Rattle.bolt_check.specs.declared.fault.CheckFault.{CheckFault}
+use Rattle.bolt_format.specs.declared.element.Leaf.{Leaf}
 use Rattle.bolt_recover.specs.declared.content.Content.TheVariants.{Bucket}
 
 -- that pages are open in good order is known or not, and no more
@@ -18,37 +17,37 @@ good_prop file meta page = hlevel (props, content_prop)
 
 open_prop : (file : List ℕ) (meta : Meta) (low : ℕ) (pages : List OpenPage) (high : ℕ) (x y : AreOpen file meta low pages high) → x ≡ y
 open_prop file meta low [] high = hlevel props
-open_prop file meta low (page ∷ pages) high = hlevel (props, good_prop file meta page, open_prop file meta page.level pages high)
+open_prop file meta low (page ∷ pages) high = hlevel (props, good_prop file meta page, open_prop file meta page.path_len pages high)
 
 pub has_open_prop : (s : State) (x y : HasOpen s) → x ≡ y
 has_open_prop s = hlevel (props, open_prop)
 
 -- all that comes of a file, if so many visits were made before
 pub record Whole (file : List ℕ) (meta : Meta) (begun : ℕ) : Type 0 where
-  pub survey : List Visit
+  pub survey : List SurveyedWay
   pub surveys : IsSurvey file meta survey
   pub members : List Member
   pub recovered : IsRecovered file meta members
   pub visits : List (Visited Way)
-  pub run : RunsAll file meta further [] visits members
+  pub course : WholeCourse file meta further [] visits members
   pub losses : (outcome_of (node_at file meta) begun visits).losses ≡ losses_of file meta survey
   pub pages : counted (outcome_of (node_at file meta) begun visits).visited 0 ≡ counted begun (page_ways (reached (node_at file meta) meta.root) survey)
   pub claimed : (n : ℕ) → ((outcome_of (node_at file meta) begun visits).claimed n ≡ true) ↔ IsKeptPage file meta survey n
 
 pub whole : (file : List ℕ) (meta : Meta) (begun : ℕ) → Whole file meta begun
 whole file meta begun =
-    let (visits, members, run) = run_exists file meta further [] in
-    let all = tally file meta visits members run begun in
+    let (visits, members, course) = course_exists file meta further [] in
+    let all = tally file meta visits members course begun in
     record {
       survey = visits_of visits;
-      surveys = surveyed file meta visits members run;
+      surveys = surveyed file meta visits members course;
       members = members;
-      recovered = recovers file meta visits members run;
+      recovered = recovers file meta visits members course;
       visits = visits;
-      run = run;
+      course = course;
       losses = all.losses;
       pages = all.pages;
-      claimed = all_claimed file meta visits members run begun;
+      claimed = all_claimed file meta visits members course begun;
     }
 
 -- the pages that are claimed at the end
@@ -58,7 +57,7 @@ claimed_at_end file meta begun = (outcome_of (node_at file meta) begun (whole fi
 pub claimed_all : (file : List ℕ) (meta : Meta) (begun : ℕ) → AreKeptPages file meta (claimed_at_end file meta begun)
 claimed_all file meta begun survey is n =
     let all = whole file meta begun in
-    subst (λ (s : List Visit). (claimed_at_end file meta begun n ≡ true) ↔ IsKeptPage file meta s n) (same_survey file meta all.survey survey all.surveys is) (all.claimed n)
+    subst (λ (s : List SurveyedWay). (claimed_at_end file meta begun n ≡ true) ↔ IsKeptPage file meta s n) (same_survey file meta all.survey survey all.surveys is) (all.claimed n)
 
 pub one_losses : (file : List ℕ) (meta : Meta) (a b : List LossView) → AreLosses file meta a → AreLosses file meta b → a ≡ b
 one_losses file meta a b (s, is_s, of_s) (t, is_t, of_t) = of_s ∙ ap (losses_of file meta) (same_survey file meta s t is_s is_t) ∙ sym of_t
@@ -72,7 +71,7 @@ grows : {W : Type 0} (nodes : Nodes) (o : Outcome) (visits : List (Visited W))
 grows nodes o [] = (([], sym (append-nil o.losses)), λ fits. omega arith)
 grows nodes o (v ∷ visits) =
     let ((rest, same), up) = grows nodes (after_visit nodes o v) visits in
-    ((lost_at v.place v.found ++ rest, same ∙ append_assoc o.losses (lost_at v.place v.found) rest), λ fits. let more = up (omega (arith, fits)) in omega (arith, more, fits))
+    ((lost_at v.site v.found ++ rest, same ∙ append_assoc o.losses (lost_at v.site v.found) rest), λ fits. let more = up (omega (arith, fits)) in omega (arith, more, fits))
 
 -- all members come after the empty path
 behind_nothing : (path rest : Path) (key : Key) → is_lt (path_cmp [] (path ++ key ∷ rest)) ≡ true
@@ -83,7 +82,7 @@ behind_start : (file : List ℕ) (meta : Meta) (listing : List Member) → IsRec
 behind_start file meta listing recovered =
     filter_all (λ (m : Member). is_lt (path_cmp [] m.0)) listing (λ m has.
     let is = (recovered.exact m.0 m.1).0 has in
-    subst (λ (path : Path). is_lt (path_cmp [] path) ≡ true) (sym is.named) (behind_nothing is.place.path [] is.element.key))
+    subst (λ (path : Path). is_lt (path_cmp [] path) ≡ true) (sym is.named) (behind_nothing is.site.path [] is.element.key))
 
 left_more : (s : State) (listing : List Member) → is_over s ≡ false → left_by s listing ≡ rest_after s.path listing
 left_more s listing more = ap (λ (b : Bool). if b then [] else rest_after s.path listing) more
@@ -100,8 +99,8 @@ pub begun : (s : State) (file : List ℕ) (meta : Meta) (before : ℕ) → s.fil
 begun s file meta before of_file of_meta placed more path all = record {
   meta = of_meta;
   placed = placed;
-  comes = subst (λ (f : List ℕ). IsLeft f meta before (left_by s) s) (sym of_file) (λ visits members run.
-      subst (λ (ms : List Member). ComesTo s ms (outcome_of (node_at file meta) before visits)) (sym (left_all s file meta members more path (recovers file meta visits members run))) (all visits members run));
+  comes = subst (λ (f : List ℕ). IsLeft f meta before (left_by s) s) (sym of_file) (λ visits members course.
+      subst (λ (ms : List Member). ComesTo s ms (outcome_of (node_at file meta) before visits)) (sym (left_all s file meta members more path (recovers file meta visits members course))) (all visits members course));
 }
 
 -- the rest of what was left comes after what was returned, which is the least of it
@@ -130,9 +129,9 @@ left_given s listing m rest rises e =
 -- if nothing is left to be done, everything is reported
 reported_all : (s : State) (members : List Member) (outcome : Outcome) → s.ahead ≡ None → s.pages ≡ [] → ComesTo s members outcome → (members ≡ []) × (outcome ≡ tally_of s)
 reported_all s members outcome ahead pages comes =
-    let run = subst (λ (ts : List (Task NoWay)). Runs s.file s.meta stay s.claimed ts comes.visits members)
-    (ap (λ (o : Option NextVisit). ahead_tasks s.file s.meta s.path o (open_tasks s.file s.meta s.path s.pages [])) ahead ∙ ap (λ (ps : List OpenPage). open_tasks s.file s.meta s.path ps []) pages) comes.run in
-    let over = ends s.file s.meta stay s.claimed comes.visits members run in
+    let course = subst (λ (ts : List (Task NoWay)). Course s.file s.meta stay s.claimed ts comes.visits members)
+    (ap (λ (o : Option NextVisit). ahead_tasks s.file s.meta s.path o (open_tasks s.file s.meta s.path s.pages [])) ahead ∙ ap (λ (ps : List OpenPage). open_tasks s.file s.meta s.path ps []) pages) comes.course in
+    let over = ends s.file s.meta stay s.claimed comes.visits members course in
     (over.1, comes.all ∙ ap (after_visits (node_at s.file s.meta) (tally_of s)) over.0)
 
 over_parts : (o : Option NextVisit) (pages : List OpenPage) → over_by o pages ≡ true → (o ≡ None) × (pages ≡ [])
@@ -145,7 +144,7 @@ module _ {old : State} {meta : Meta} {before : ℕ} (on : IsOn old meta before) 
   all = whole old.file meta before
 
   comes_all : ComesTo old (left_by old all.members) (outcome_of (node_at old.file meta) before all.visits)
-  comes_all = on.comes all.visits all.members all.run
+  comes_all = on.comes all.visits all.members all.course
 
   of_recovered : (P : List Member → Type 0) → P all.members → (listing : List Member) → IsRecovered old.file meta listing → P listing
   of_recovered P holds listing recovered = subst P (one_recovered old.file meta all.members listing all.recovered recovered) holds
@@ -156,26 +155,26 @@ module _ {old : State} {meta : Meta} {before : ℕ} (on : IsOn old meta before) 
     on_new stays left = record { meta = stays.meta ∙ on.meta; placed = stays.placed; comes = subst (λ (f : List ℕ). IsLeft f meta before (left_by new) new) (sym stays.file) left }
 
     -- after an element was returned
-    given_next : (e : LeafElement) → GivesHead old new e → (visits : List (Visited Way)) (members : List Member) → RunsAll old.file meta further [] visits members
+    given_next : (e : LeafElement) → GivesHead old new e → (visits : List (Visited Way)) (members : List Member) → WholeCourse old.file meta further [] visits members
         → (left_by old members ≡ (new.path, item_of e) ∷ left_by new members) × ComesTo new (left_by new members) (outcome_of (node_at old.file meta) before visits)
-    given_next e gives visits members run =
-        let (rest, was, comes) = gives.head (left_by old members) _ (on.comes visits members run) in
-        let same : left_by new members ≡ rest = left_more new members gives.more ∙ left_given old members (new.path, item_of e) rest (recovers old.file meta visits members run).rises was in
+    given_next e gives visits members course =
+        let (rest, was, comes) = gives.head (left_by old members) _ (on.comes visits members course) in
+        let same : left_by new members ≡ rest = left_more new members gives.more ∙ left_given old members (new.path, item_of e) rest (recovers old.file meta visits members course).rises was in
         (was ∙ ap (λ (ms : List Member). (new.path, item_of e) ∷ ms) (sym same), subst (λ (ms : List Member). ComesTo new ms (outcome_of (node_at old.file meta) before visits)) (sym same) comes)
 
     on_given : (e : LeafElement) → GivesHead old new e → IsOn new meta before
-    on_given e gives = on_new gives.on (λ visits members run. (given_next e gives visits members run).1)
+    on_given e gives = on_new gives.on (λ visits members course. (given_next e gives visits members course).1)
 
     pub left_next : (e : LeafElement) → GivesHead old new e → (listing : List Member) → IsRecovered old.file meta listing → left_by old listing ≡ (new.path, item_of e) ∷ left_by new listing
-    left_next e gives = of_recovered (λ ms. left_by old ms ≡ (new.path, item_of e) ∷ left_by new ms) (given_next e gives all.visits all.members all.run).0
+    left_next e gives = of_recovered (λ ms. left_by old ms ≡ (new.path, item_of e) ∷ left_by new ms) (given_next e gives all.visits all.members all.course).0
 
     -- after the end
     over_new : Ends old new → is_over new ≡ true
     over_new h = ap (λ (o : Option NextVisit). over_by o new.pages) h.ended.ahead ∙ ap (over_by None) h.ended.pages
 
     on_ended : Ends old new → IsOn new meta before
-    on_ended h = on_new h.on (λ visits members run.
-        subst (λ (ms : List Member). ComesTo new ms (outcome_of (node_at old.file meta) before visits)) (sym (left_over new members (over_new h))) (h.none (left_by old members) _ (on.comes visits members run)).1)
+    on_ended h = on_new h.on (λ visits members course.
+        subst (λ (ms : List Member). ComesTo new ms (outcome_of (node_at old.file meta) before visits)) (sym (left_over new members (over_new h))) (h.none (left_by old members) _ (on.comes visits members course)).1)
 
     pub left_none : Ends old new → (listing : List Member) → IsRecovered old.file meta listing → (left_by old listing ≡ []) × (left_by new listing ≡ []) × (new.path ≡ [])
     left_none h listing recovered = (of_recovered (λ ms. left_by old ms ≡ []) (h.none (left_by old all.members) _ comes_all).0 listing recovered, left_over new listing (over_new h), h.ended.path)
@@ -207,8 +206,8 @@ module _ {old : State} {meta : Meta} {before : ℕ} (on : IsOn old meta before) 
         ]
 
     on_same : GoesOn old new → IsOn new meta before
-    on_same h = on_new h.on (λ visits members run.
-        let here = h.same (left_by old members) _ (on.comes visits members run) in
+    on_same h = on_new h.on (λ visits members course.
+        let here = h.same (left_by old members) _ (on.comes visits members course) in
         subst (λ (ms : List Member). ComesTo new ms (outcome_of (node_at old.file meta) before visits)) (sym (left_still h members _ here)) here)
 
     pub left_same : GoesOn old new → (listing : List Member) → IsRecovered old.file meta listing → left_by new listing ≡ left_by old listing
@@ -230,7 +229,7 @@ file_advanced old new (Err e) given same = same.on.file
 pub reported_first : (s : State) (meta : Meta) (before : ℕ) → IsOn s meta before → (losses : List LossView) → AreLosses s.file meta losses → AreFirst s.losses losses
 reported_first s meta before on losses reported =
     let all = whole s.file meta before in
-    let comes = on.comes all.visits all.members all.run in
+    let comes = on.comes all.visits all.members all.course in
     let ((rest, same), up) = grows (node_at s.file s.meta) (tally_of s) comes.visits in
     let more : losses ≡ s.losses ++ rest = one_losses s.file meta losses _ reported (all.survey, all.surveys, refl) ∙ sym all.losses ∙ ap (λ (o : Outcome). o.losses) comes.all ∙ same in
     let short : length s.losses ≤ length s.losses = omega arith in
@@ -240,26 +239,10 @@ reported_first s meta before on losses reported =
 pub visited_within : (s : State) (meta : Meta) (before : ℕ) → IsOn s meta before → s.visited < 2 ^ 64 → (ways : ℕ) → ArePageWays s.file meta ways → s.visited ≤ counted before ways
 visited_within s meta before on fits ways are =
     let all = whole s.file meta before in
-    let comes = on.comes all.visits all.members all.run in
+    let comes = on.comes all.visits all.members all.course in
     let (lost, up) = grows (node_at s.file s.meta) (tally_of s) comes.visits in
     let more = up fits in
     let same = ap (λ (o : Outcome). o.visited) comes.all in
     let pages = all.pages in
     let number = one_number s.file meta ways _ are (all.survey, all.surveys, refl) in
     omega (arith, more, same, pages, number, fits)
-
-pub if_err : {X E : Type 0} {P Q : E → Type 0} (result : Result X E) → ((e : E) → P e → Q e) → IfErr result P → IfErr result Q
-if_err (Ok x) to h = h
-if_err (Err e) to h = to e h
-
-pub refused_chosen : (file : List ℕ) (slot : Slot) (meta : Meta) → IsChosen file slot meta → (fault : CheckFault) → IsRefusedRoot file meta fault → IsUnrecoverable file fault
-refused_chosen file slot meta chosen (Structure x) h = (slot, meta, chosen, h)
-refused_chosen file slot meta chosen Memory h = tt
-refused_chosen file slot meta chosen (Open fault) h = absurd h
-refused_chosen file slot meta chosen (Accounts findings) h = absurd h
-
-pub refused_in_slot : (file : List ℕ) (slot : Slot) (meta : Meta) → IsInSlot file slot meta → (fault : CheckFault) → IsRefusedRoot file meta fault → IsSlotUnrecoverable file slot fault
-refused_in_slot file slot meta valid (Structure x) h = (meta, valid, h)
-refused_in_slot file slot meta valid Memory h = tt
-refused_in_slot file slot meta valid (Open fault) h = absurd h
-refused_in_slot file slot meta valid (Accounts findings) h = absurd h

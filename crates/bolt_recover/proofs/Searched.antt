@@ -2,7 +2,7 @@
 use Rattle.std.proofs.Common.{◌≡◌, ◌≢◌, ◌∙◌, ◌<◌, ◌*◌, ◌^◌, true, false, List, [], ap, length, subst, sym}
 use Rattle.bolt_recover.proofs.Words.{all_lost, AreJoinable, AreTreesOf, bytes_of, Checked, Contains, contains_none, Damaged, everything, Finding, ForRecovered, Found, HasBucketKey, IsSearched, LacksBucketKey, LosesRoot, LossView, lost_of, Member, meta_of, parts, props, Rootless, Sound, ∥∥₁_elim, ∥∥₁_map}
 use Rattle.bolt_recover.proofs.{FoundAll.nothing_recovered, JoinSteps.key_held, JoinSteps.key_lacks}
-use Rattle.bolt_recover.specs.{Lost.IsAllLost, declared.lost_and_found.Damage.Damage, declared.lost_and_found.LostAndFound.LostAndFound}
+use Rattle.bolt_recover.specs.{Lost.IsAllLost, declared.losses.Damage.Damage, declared.lost_and_found.LostAndFound.LostAndFound}
 use Rattle.bolt_recover.specs.declared.lost_and_found.Trees.{Trees}
 
 parts_some : (losses : List LossView) (x : Finding) → parts losses ≡ everything x → ⊥

@@ -1,9 +1,9 @@
 -- If nothing is lost, each way is kept, and what a path holds is an element at a way.
 use Rattle.std.proofs.Common.{◌≡◌, ◌∙◌, ◌⊎◌, inl, inr, ℕ, suc, Bool, true, false, IsTrue, eqb, eqb-true, List, [], ◌∷◌, ◌++◌, Option, Some, None, Result, Ok, Err, slice_get, refl, sym, ap, subst, append_assoc}
-use Rattle.bolt_recover.proofs.Words.{At_inline, At_page, cases_Bool, child_in, child_of, child_spot, Contains, contains_at, Entry, Has, HasSoundTrees, head_root, Holds, inline_elements, Inline_page, IsEntry, IsListing, IsRecovered, IsRecoveredMember, Item, item_of, kept, Key, leads, leads_none, leaf_node, LeafElement, leaves_of, Member, Meta, Node, node_at, Nodes, none-some, page_at, PageSpot, Path, Place, place_at, reached, Root_page, root_place, root_spot, same_Some, ShowsEntry, Spot, Start, start_of, step_place, upper_from, Visit}
-use Rattle.bolt_recover.proofs.PlaceFacts.{place_further, slice_of, spot_is}
-use Rattle.bolt_recover.proofs.HeldMembers.{held, shows_entry, well_at}
-use Rattle.bolt_recover.proofs.PlaceSteps.{IsBranchPage, IsLeafPage, IsTidy, IsTidyAt, bucket_place, on_page}
+use Rattle.bolt_recover.proofs.Words.{At_inline, At_page, cases_Bool, child_in, child_of, child_spot, Contains, contains_at, Entry, Has, HasSoundTrees, head_root, Holds, inline_elements, Inline_page, IsEntry, IsListing, IsRecovered, IsRecoveredMember, Item, item_of, kept, Key, leads, leads_none, leaf_node, LeafElement, leaves_of, Member, Meta, Node, node_at, Nodes, none-some, page_at, PageSpot, Path, Site, site_at, reached, Root_page, root_site, root_spot, same_Some, ShowsEntry, Spot, Start, start_of, step_site, upper_from, SurveyedWay}
+use Rattle.bolt_recover.proofs.SiteFacts.{site_further, slice_of, spot_is}
+use Rattle.bolt_recover.proofs.MembersInBuckets.{path_holds, shows_entry, well_at}
+use Rattle.bolt_recover.proofs.SiteSteps.{IsBranchPage, IsLeafPage, IsTidy, IsTidyAt, bucket_site, on_page}
 use Rattle.bolt_recover.proofs.{NothingLost.all_kept, SoundSurveys.none_lost}
 use Rattle.bolt_tree.proofs.BucketWays.{flat}
 
@@ -11,8 +11,8 @@ module _ (file : List ℕ) (meta : Meta) where
   abbrev nodes : Nodes
   nodes = node_at file meta
 
-  -- a bucket begins at a way with this place; an inline one is in a leaf
-  abbrev AtStart : Start → Place → Type 0
+  -- a bucket begins at a way with this site; an inline one is in a leaf
+  abbrev AtStart : Start → Site → Type 0
   AtStart (Root_page r) p = p.spot ≡ At_page (root_spot r)
   AtStart (Inline_page own) p = (p.elements ≡ own)
       × ((n : ℕ) × (outer : LeafElement) × ShowsEntry file meta n outer × IsTrue outer.is_bucket × (head_root outer.value ≡ 0) × (own ≡ inline_elements outer.value))
@@ -23,19 +23,19 @@ module _ (file : List ℕ) (meta : Meta) where
 
   record IsThere (path : Path) (e : LeafElement) : Type 0 where
     way : List ℕ
-    place : Place
+    site : Site
     i : ℕ
-    at : place_at file meta way ≡ Some place
-    same : place.path ≡ path
-    get : slice_get place.elements i ≡ Some e
-    has : Contains place.elements e
-    on : IsOnPage place.spot ⊎ (e.is_bucket ≡ false)
+    at : site_at file meta way ≡ Some site
+    same : site.path ≡ path
+    get : slice_get site.elements i ≡ Some e
+    has : Contains site.elements e
+    on : IsOnPage site.spot ⊎ (e.is_bucket ≡ false)
 
   -- a child of a branch
-  abbrev HasChild : Place → ℕ → ℕ → Type 0
-  HasChild p i child = (t : Place) × (u : PageSpot) × (step_place file meta p i ≡ Some t) × (t.spot ≡ At_page u) × (u.number ≡ child) × (t.path ≡ p.path)
+  abbrev HasChild : Site → ℕ → ℕ → Type 0
+  HasChild p i child = (t : Site) × (u : PageSpot) × (step_site file meta p i ≡ Some t) × (t.spot ≡ At_page u) × (u.number ≡ child) × (t.path ≡ p.path)
 
-  child_step : (p : Place) (s : PageSpot) (i child : ℕ) → IsTidy file meta p → p.spot ≡ At_page s → child_in (nodes s.number) i ≡ Some child → HasChild p i child
+  child_step : (p : Site) (s : PageSpot) (i child : ℕ) → IsTidy file meta p → p.spot ≡ At_page s → child_in (nodes s.number) i ≡ Some child → HasChild p i child
   child_step p s i child tidy at is = by (nodes s.number) refl
     where
       on_entry : (node : Node) (o : Option Entry) → IsBranchPage file meta p s node → slice_get node.entries i ≡ o → child_of false o ≡ Some child → HasChild p i child
@@ -52,33 +52,33 @@ module _ (file : List ℕ) (meta : Meta) where
 
   -- an address is a way on
   abbrev HasPage : Path → ℕ → Type 0
-  HasPage path n = (way : List ℕ) × (p : Place) × (s : PageSpot) × (place_at file meta way ≡ Some p) × (p.spot ≡ At_page s) × (s.number ≡ n) × (p.path ≡ path)
+  HasPage path n = (way : List ℕ) × (p : Site) × (s : PageSpot) × (site_at file meta way ≡ Some p) × (p.spot ≡ At_page s) × (s.number ≡ n) × (p.path ≡ path)
 
-  tidy_page : (way : List ℕ) (p : Place) (s : PageSpot) → place_at file meta way ≡ Some p → p.spot ≡ At_page s → IsTidyAt file meta p.elements (At_page s)
+  tidy_page : (way : List ℕ) (p : Site) (s : PageSpot) → site_at file meta way ≡ Some p → p.spot ≡ At_page s → IsTidyAt file meta p.elements (At_page s)
   tidy_page way p s at is = subst (λ (t : Spot). IsTidyAt file meta p.elements t) is (well_at file meta way p at).1
 
-  down : (address way : List ℕ) (p : Place) (s : PageSpot) (n : ℕ) → place_at file meta way ≡ Some p → p.spot ≡ At_page s → leads nodes (Some s.number) address ≡ Some n → HasPage p.path n
+  down : (address way : List ℕ) (p : Site) (s : PageSpot) (n : ℕ) → site_at file meta way ≡ Some p → p.spot ≡ At_page s → leads nodes (Some s.number) address ≡ Some n → HasPage p.path n
   down [] way p s n at is lead = (way, p, s, at, is, same_Some s.number n lead, refl)
   down (i ∷ address) way p s n at is lead = by (child_in (nodes s.number) i) refl (λ w q t there stands onward. down address w q t n there stands onward)
     where
       by : (o : Option ℕ) → child_in (nodes s.number) i ≡ o
-          → ((w : List ℕ) (q : Place) (t : PageSpot) → place_at file meta w ≡ Some q → q.spot ≡ At_page t → leads nodes (Some t.number) address ≡ Some n → HasPage q.path n) → HasPage p.path n
+          → ((w : List ℕ) (q : Site) (t : PageSpot) → site_at file meta w ≡ Some q → q.spot ≡ At_page t → leads nodes (Some t.number) address ≡ Some n → HasPage q.path n) → HasPage p.path n
       by None none onward = absurd (let gone : None ≡ Some n = sym (ap (λ (o : Option ℕ). leads nodes o address) none ∙ leads_none nodes address) ∙ lead in cc)
       by (Some child) there onward =
           let (t, u, next, spot, number, path) = child_step p s i child (well_at file meta way p at).1 is there in
-          let (w, q, v, found, stands, same, named) = onward (way ++ i ∷ []) t u (place_further file meta way i p at ∙ next) spot
+          let (w, q, v, found, stands, same, named) = onward (way ++ i ∷ []) t u (site_further file meta way i p at ∙ next) spot
           (ap (λ (x : ℕ). leads nodes (Some x) address) number ∙ ap (λ (o : Option ℕ). leads nodes o address) (sym there) ∙ lead) in
           (w, q, v, found, stands, same, named ∙ path)
 
   -- an entry of a bucket is at a way
-  entry_there : (from : Start) (way : List ℕ) (p : Place) (e : LeafElement) → place_at file meta way ≡ Some p → AtStart from p → IsEntry file meta from e → IsThere p.path e
+  entry_there : (from : Start) (way : List ℕ) (p : Site) (e : LeafElement) → site_at file meta way ≡ Some p → AtStart from p → IsEntry file meta from e → IsThere p.path e
   entry_there (Inline_page own) way p e at (elements, inner) is =
       let has = subst (λ (xs : List LeafElement). Contains xs e) (sym elements) is in
       let (i, lt, get) = slice_of p.elements e has in
       let (n, outer, shows, bucket, root, same) = inner in
       record {
         way = way;
-        place = p;
+        site = p;
         i = i;
         at = at;
         same = refl;
@@ -91,34 +91,34 @@ module _ (file : List ℕ) (meta : Meta) where
       let elements : q.elements ≡ view.leaves = tidy_page w q s found stands ∙ ap (λ (m : ℕ). leaves_of (page_at file meta m)) number ∙ ap leaves_of page in
       let has = subst (λ (xs : List LeafElement). Contains xs e) (sym elements) is in
       let (i, lt, get) = slice_of q.elements e has in
-      record { way = w; place = q; i = i; at = found; same = named; get = get; has = has; on = inl (subst IsOnPage (sym stands) tt) }
+      record { way = w; site = q; i = i; at = found; same = named; get = get; has = has; on = inl (subst IsOnPage (sym stands) tt) }
 
   -- a bucket among the entries begins one step further
-  bucket_starts : (path : Path) (s : PageSpot) (e : LeafElement) (n : ℕ) → e.is_bucket ≡ true → ShowsEntry file meta n e → AtStart (start_of e.value) (bucket_place file meta path s e)
+  bucket_starts : (path : Path) (s : PageSpot) (e : LeafElement) (n : ℕ) → e.is_bucket ≡ true → ShowsEntry file meta n e → AtStart (start_of e.value) (bucket_site file meta path s e)
   bucket_starts path s e n bucket shows = elim (cases_Bool (eqb (head_root e.value) 0)) [
     | inl zero ↦ rw zero (refl, (n, e, shows, bucket, eqb-true (head_root e.value) 0 zero, refl))
     | inr more ↦ rw more refl
   ]
 
-  bucket_step : (p : Place) (spot : Spot) (i : ℕ) (e : LeafElement) → IsTidy file meta p → p.spot ≡ spot → slice_get p.elements i ≡ Some e → e.is_bucket ≡ true → IsOnPage spot
-      → (t : Place) × (step_place file meta p i ≡ Some t) × AtStart (start_of e.value) t × (t.path ≡ p.path ++ e.key ∷ [])
+  bucket_step : (p : Site) (spot : Spot) (i : ℕ) (e : LeafElement) → IsTidy file meta p → p.spot ≡ spot → slice_get p.elements i ≡ Some e → e.is_bucket ≡ true → IsOnPage spot
+      → (t : Site) × (step_site file meta p i ≡ Some t) × AtStart (start_of e.value) t × (t.path ≡ p.path ++ e.key ∷ [])
   bucket_step p (At_inline host keys) i e tidy at get bucket on = absurd on
   bucket_step p (At_page s) i e tidy at get bucket on =
       let has : Contains (leaves_of (page_at file meta s.number)) e = subst (λ (xs : List LeafElement). Contains xs e) (subst (IsTidyAt file meta p.elements) at tidy) (contains_at p.elements i e get) in
       let shows = shows_entry file meta s.number e has in
       let (view, page, leaf, inside) = shows in
       elim (on_page file meta p s _ tidy at (leaf_node file meta s.number view page leaf)) [
-        | inl form ↦ (bucket_place file meta p.path s e, form.to i e get bucket, bucket_starts p.path s e s.number bucket shows, refl)
+        | inl form ↦ (bucket_site file meta p.path s e, form.to i e get bucket, bucket_starts p.path s e s.number bucket shows, refl)
         | inr branch ↦ absurd (none-some e (ap (λ (xs : List LeafElement). slice_get xs i) (sym branch.none) ∙ get))
       ]
 
-  module _ (survey : List Visit) (all : (way : List ℕ) (s : Spot) → reached nodes meta.root way ≡ Some s → Has survey (kept way)) where
+  module _ (survey : List SurveyedWay) (all : (way : List ℕ) (s : Spot) → reached nodes meta.root way ≡ Some s → Has survey (kept way)) where
     member_there : (path full : Path) (e : LeafElement) (item : Item) → IsThere path e → full ≡ path ++ e.key ∷ [] → item ≡ item_of e → IsRecoveredMember file meta survey full item
     member_there path full e item there named is = record {
       way = there.way;
-      place = there.place;
+      site = there.site;
       element = e;
-      keeps = all there.way there.place.spot (spot_is file meta there.way there.place there.at);
+      keeps = all there.way there.site.spot (spot_is file meta there.way there.site there.at);
       leads = there.at;
       has = there.has;
       named = named ∙ ap (λ (q : Path). q ++ e.key ∷ []) (sym there.same);
@@ -128,17 +128,17 @@ module _ (file : List ℕ) (meta : Meta) where
     not_value : (b : Bool) → b ≡ true → b ≡ false → ⊥
     not_value b e f = cc
 
-    start_there : (path : Path) (e : LeafElement) → IsThere path e → e.is_bucket ≡ true → (way : List ℕ) × (t : Place) × (place_at file meta way ≡ Some t) × AtStart (start_of e.value) t × (t.path ≡ path ++ e.key ∷ [])
+    start_there : (path : Path) (e : LeafElement) → IsThere path e → e.is_bucket ≡ true → (way : List ℕ) × (t : Site) × (site_at file meta way ≡ Some t) × AtStart (start_of e.value) t × (t.path ≡ path ++ e.key ∷ [])
     start_there path e there bucket =
         elim there.on [
           | inr value ↦ absurd (not_value e.is_bucket bucket value)
           | inl on ↦
-              let tidy = (well_at file meta there.way there.place there.at).1 in
-              let (t, step, begins, named) = bucket_step there.place there.place.spot there.i e tidy refl there.get bucket on in
-              (there.way ++ there.i ∷ [], t, place_further file meta there.way there.i there.place there.at ∙ step, begins, named ∙ ap (λ (q : Path). q ++ e.key ∷ []) there.same)
+              let tidy = (well_at file meta there.way there.site there.at).1 in
+              let (t, step, begins, named) = bucket_step there.site there.site.spot there.i e tidy refl there.get bucket on in
+              (there.way ++ there.i ∷ [], t, site_further file meta there.way there.i there.site there.at ∙ step, begins, named ∙ ap (λ (q : Path). q ++ e.key ∷ []) there.same)
         ]
 
-    member_held : (path front : Path) (from : Start) (way : List ℕ) (p : Place) (item : Item) → place_at file meta way ≡ Some p → AtStart from p → p.path ≡ front → Holds (IsEntry file meta) from path item
+    member_held : (path front : Path) (from : Start) (way : List ℕ) (p : Site) (item : Item) → site_at file meta way ≡ Some p → AtStart from p → p.path ≡ front → Holds (IsEntry file meta) from path item
         → IsRecoveredMember file meta survey (front ++ path) item
     member_held [] front from way p item at begins named held = absurd held
     member_held (key ∷ []) front from way p item at begins named (e, is, same, item_is) =
@@ -158,7 +158,7 @@ sound_listing file meta listing trees recovered =
     record {
       rises = recovered.rises;
       exact = λ path item. (
-        λ has. held file meta recovered.survey path item ((recovered.exact path item).0 has),
-        λ holds. (recovered.exact path item).1 (member_held file meta recovered.survey all path [] (Root_page meta.root) [] (root_place file meta) item refl refl refl holds),
+        λ has. path_holds file meta recovered.survey path item ((recovered.exact path item).0 has),
+        λ holds. (recovered.exact path item).1 (member_held file meta recovered.survey all path [] (Root_page meta.root) [] (root_site file meta) item refl refl refl holds),
       );
     }

@@ -1,14 +1,14 @@
 -- Sound trees lose nothing: the tests pass at each way, so they also pass if fewer pages were claimed earlier.
 use Rattle.std.proofs.Common.{ℕ, inl, inr, List, None}
-use Rattle.bolt_recover.proofs.Words.{HasSoundTrees, IsClaimedBefore, IsClaimedIn, IsMetaPage, IsSurvey, LosesNothing, Meta, node_at, Nodes, passes_fewer, Reach, reached, shape_passes, Visit}
+use Rattle.bolt_recover.proofs.Words.{HasSoundTrees, IsClaimedBefore, IsClaimedIn, IsMetaPage, IsSurvey, LosesNothing, Meta, node_at, Nodes, passes_fewer, Reach, reached, shape_passes, SurveyedWay}
 use Rattle.bolt_recover.proofs.SurveyIsOne.{gives_one}
 
-pub claimed_before : (nodes : Nodes) (reach : Reach) (survey : List Visit) (way : List ℕ) (n : ℕ)
+pub claimed_before : (nodes : Nodes) (reach : Reach) (survey : List SurveyedWay) (way : List ℕ) (n : ℕ)
     → IsClaimedIn nodes reach survey way n → IsClaimedBefore nodes reach IsMetaPage way n
 claimed_before nodes reach survey way n (inl h) = inl h
 claimed_before nodes reach survey way n (inr (v, (has, lt, span))) = inr (v, (lt, span))
 
-pub none_lost : (file : List ℕ) (meta : Meta) (survey : List Visit) → HasSoundTrees file meta → IsSurvey file meta survey → LosesNothing survey
+pub none_lost : (file : List ℕ) (meta : Meta) (survey : List SurveyedWay) → HasSoundTrees file meta → IsSurvey file meta survey → LosesNothing survey
 none_lost file meta survey trees surveys v has =
     let nodes = node_at file meta in
     let reach = reached nodes meta.root in

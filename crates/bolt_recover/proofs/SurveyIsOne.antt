@@ -1,28 +1,28 @@
 -- There is at most one survey. Where two first differ, the preceding kept ways are the same, and so is what the tests find.
 use Rattle.std.proofs.Common.{◌≡◌, ◌∙◌, ℕ, ◌⊎◌, inl, inr, List, [], ◌∷◌, ◌++◌, map, Option, Some, None, refl, sym, ap, subst}
-use Rattle.bolt_recover.proofs.Words.{Before, before_irreflexive, before_strict, before_total, before_trans, Finding, Gives, Has, IsBeforeAll, IsClaimedIn, IsOpen, IsSurvey, kept, Meta, node_at, Nodes, passes_fewer, passes_silent, Reach, reached, Spot, Surveys, tests_same, Visit}
+use Rattle.bolt_recover.proofs.Words.{Before, before_irreflexive, before_strict, before_total, before_trans, Finding, Gives, Has, IsBeforeAll, IsClaimedIn, IsOpen, IsSurvey, kept, Meta, node_at, Nodes, passes_fewer, passes_silent, Reach, reached, Spot, Surveys, tests_same, SurveyedWay}
 use Rattle.bolt_check.specs.Tours.{Rises}
 use Rattle.bolt_check.proofs.Single.{tests_one}
 
-abbrev pub ways : List Visit → List (List ℕ)
-ways visits = map (λ (v : Visit). v.way) visits
+abbrev pub ways : List SurveyedWay → List (List ℕ)
+ways visits = map (λ (v : SurveyedWay). v.way) visits
 
--- a survey from some place on: what is in front, which may be said of visits of another survey too, and the rest
-pub record Suffix (survey : List Visit) (InFront : Visit → Type 0) (rest : List Visit) : Type 0 where
-  pub split : (v : Visit) → Has survey v → InFront v ⊎ Has rest v
-  pub inside : (v : Visit) → Has rest v → Has survey v
-  pub front : (v : Visit) → InFront v → Has survey v
-  pub after : (v w : Visit) → InFront v → Has rest w → Before v.way w.way
+-- a survey from some way on: what is in front, which may be said of visits of another survey too, and the rest
+pub record Suffix (survey : List SurveyedWay) (InFront : SurveyedWay → Type 0) (rest : List SurveyedWay) : Type 0 where
+  pub split : (v : SurveyedWay) → Has survey v → InFront v ⊎ Has rest v
+  pub inside : (v : SurveyedWay) → Has rest v → Has survey v
+  pub front : (v : SurveyedWay) → InFront v → Has survey v
+  pub after : (v w : SurveyedWay) → InFront v → Has rest w → Before v.way w.way
   pub rises : Rises (ways rest)
 
-before_each : (way : List ℕ) (rest : List Visit) → IsBeforeAll way (ways rest) → (w : Visit) → Has rest w → Before way w.way
+before_each : (way : List ℕ) (rest : List SurveyedWay) → IsBeforeAll way (ways rest) → (w : SurveyedWay) → Has rest w → Before way w.way
 before_each way [] h w has = absurd has
 before_each way (x ∷ rest) h w (inl e) = rw e h.0
 before_each way (x ∷ rest) h w (inr has) = before_each way rest h.1 w has
 
 -- before the first of them, before all
-before_all : (x y : Visit) (rest : List Visit) → Rises (ways (y ∷ rest)) → Before x.way y.way → (w : Visit) → Has (y ∷ rest) w → Before x.way w.way
-before_all x y rest rises lt w (inl e) = subst (λ (z : Visit). Before x.way z.way) (sym e) lt
+before_all : (x y : SurveyedWay) (rest : List SurveyedWay) → Rises (ways (y ∷ rest)) → Before x.way y.way → (w : SurveyedWay) → Has (y ∷ rest) w → Before x.way w.way
+before_all x y rest rises lt w (inl e) = subst (λ (z : SurveyedWay). Before x.way z.way) (sym e) lt
 before_all x y rest rises lt w (inr has) = before_trans x.way y.way w.way lt (before_each y.way rest rises.0 w has)
 
 pub parent_before : (parent : List ℕ) (i : ℕ) → Before parent (parent ++ i ∷ [])
@@ -30,18 +30,18 @@ parent_before [] i = tt
 parent_before (j ∷ parent) i = inr (refl, parent_before parent i)
 
 -- a visit before the first of the rest is in front
-pub earlier : (survey : List Visit) (InFront : Visit → Type 0) (x : Visit) (rest : List Visit) → Suffix survey InFront (x ∷ rest)
-    → (v : Visit) → Has survey v → Before v.way x.way → InFront v
+pub earlier : (survey : List SurveyedWay) (InFront : SurveyedWay → Type 0) (x : SurveyedWay) (rest : List SurveyedWay) → Suffix survey InFront (x ∷ rest)
+    → (v : SurveyedWay) → Has survey v → Before v.way x.way → InFront v
 earlier survey InFront x rest suffix v has lt =
     elim (suffix.split v has) [
       | inl f ↦ f
       | inr h ↦ elim h [
-        | inl e ↦ absurd (before_irreflexive x.way (subst (λ (z : Visit). Before z.way x.way) e lt))
+        | inl e ↦ absurd (before_irreflexive x.way (subst (λ (z : SurveyedWay). Before z.way x.way) e lt))
         | inr k ↦ absurd (before_strict v.way x.way lt (before_each x.way rest suffix.rises.0 v k))
       ]
     ]
 
-open_over : (a b : List Visit) (InFront : Visit → Type 0) (x : Visit) (xs ys : List Visit) → Suffix a InFront (x ∷ xs) → Suffix b InFront ys
+open_over : (a b : List SurveyedWay) (InFront : SurveyedWay → Type 0) (x : SurveyedWay) (xs ys : List SurveyedWay) → Suffix a InFront (x ∷ xs) → Suffix b InFront ys
     → IsOpen a x.way → IsOpen b x.way
 open_over a b InFront x xs ys at_a at_b (inl e) = inl e
 open_over a b InFront x xs ys at_a at_b (inr (parent, i, e, has)) =
@@ -59,23 +59,23 @@ gives_one nodes a s (Some x) (Some y) h k = ap Some (tests_one nodes a s x y h k
 
 module _ (nodes : Nodes) (reach : Reach) where
   -- the other survey can't pass over the first visit of the rest
-  not_missing : (a b : List Visit) → Surveys nodes reach a → Surveys nodes reach b → (InFront : Visit → Type 0) (x : Visit) (xs ys : List Visit)
-      → Suffix a InFront (x ∷ xs) → Suffix b InFront ys → ((w : Visit) → Has ys w → Before x.way w.way) → ⊥
+  not_missing : (a b : List SurveyedWay) → Surveys nodes reach a → Surveys nodes reach b → (InFront : SurveyedWay → Type 0) (x : SurveyedWay) (xs ys : List SurveyedWay)
+      → Suffix a InFront (x ∷ xs) → Suffix b InFront ys → ((w : SurveyedWay) → Has ys w → Before x.way w.way) → ⊥
   not_missing a b of_a of_b InFront x xs ys at_a at_b later =
       let only = of_a.only x (at_a.inside x (inl refl)) in
       let p = of_b.all x.way only.1.0 (open_over a b InFront x xs ys at_a at_b only.0) only.1.1 in
-      let v : Visit = record { way = x.way; found = p.0 } in
+      let v : SurveyedWay = record { way = x.way; found = p.0 } in
       elim (at_b.split v p.1) [
         | inl f ↦ before_irreflexive x.way (at_a.after v x f (inl refl))
         | inr h ↦ before_irreflexive x.way (later v h)
       ]
 
-  claims_over : (a b : List Visit) (InFront : Visit → Type 0) (x : Visit) (xs ys : List Visit) → Suffix a InFront (x ∷ xs) → Suffix b InFront ys
+  claims_over : (a b : List SurveyedWay) (InFront : SurveyedWay → Type 0) (x : SurveyedWay) (xs ys : List SurveyedWay) → Suffix a InFront (x ∷ xs) → Suffix b InFront ys
       → (n : ℕ) → IsClaimedIn nodes reach a x.way n → IsClaimedIn nodes reach b x.way n
   claims_over a b InFront x xs ys at_a at_b n (inl h) = inl h
   claims_over a b InFront x xs ys at_a at_b n (inr (v, (has, lt, span))) = inr (v, (at_b.front (kept v) (earlier a InFront x xs at_a (kept v) has lt), lt, span))
 
-  same_found : (a b : List Visit) → Surveys nodes reach a → Surveys nodes reach b → (InFront : Visit → Type 0) (way : List ℕ) (f g : Option Finding) (xs ys : List Visit)
+  same_found : (a b : List SurveyedWay) → Surveys nodes reach a → Surveys nodes reach b → (InFront : SurveyedWay → Type 0) (way : List ℕ) (f g : Option Finding) (xs ys : List SurveyedWay)
       → Suffix a InFront (record { way = way; found = f } ∷ xs) → Suffix b InFront (record { way = way; found = g } ∷ ys) → f ≡ g
   same_found a b of_a of_b InFront way f g xs ys at_a at_b =
       let (s, led, gives) = (of_a.only _ (at_a.inside _ (inl refl))).1 in
@@ -85,7 +85,7 @@ module _ (nodes : Nodes) (reach : Reach) where
       (gives_same nodes (IsClaimedIn nodes reach a way) (IsClaimedIn nodes reach b way) s f (claims_over a b InFront _ xs (_ ∷ ys) at_a at_b) (claims_over b a InFront _ ys (_ ∷ xs) at_b at_a) gives)
       (subst (λ (z : Spot). Gives nodes (IsClaimedIn nodes reach b way) z g) same gives_too)
 
-  pub next_suffix : (a : List Visit) (InFront : Visit → Type 0) (x z : Visit) (xs : List Visit) → z ≡ x → Suffix a InFront (x ∷ xs)
+  pub next_suffix : (a : List SurveyedWay) (InFront : SurveyedWay → Type 0) (x z : SurveyedWay) (xs : List SurveyedWay) → z ≡ x → Suffix a InFront (x ∷ xs)
       → Suffix a (λ v. InFront v ⊎ (v ≡ z)) xs
   next_suffix a InFront x z xs same at = record {
     split = λ v has. elim (at.split v has) [ inl f ↦ inl (inl f) | inr h ↦ elim h [ inl e ↦ inl (inr (e ∙ sym same)) | inr k ↦ inr k ] ];
@@ -93,12 +93,12 @@ module _ (nodes : Nodes) (reach : Reach) where
     front = λ v f. elim f [ inl g ↦ at.front v g | inr e ↦ at.inside v (inl (e ∙ same)) ];
     after = λ v w f has. elim f [
       | inl g ↦ at.after v w g (inr has)
-      | inr e ↦ subst (λ (u : Visit). Before u.way w.way) (sym (e ∙ same)) (before_each x.way xs at.rises.0 w has)
+      | inr e ↦ subst (λ (u : SurveyedWay). Before u.way w.way) (sym (e ∙ same)) (before_each x.way xs at.rises.0 w has)
     ];
     rises = at.rises.1;
   }
 
-  same_from : (a b : List Visit) → Surveys nodes reach a → Surveys nodes reach b → (InFront : Visit → Type 0) (xs ys : List Visit)
+  same_from : (a b : List SurveyedWay) → Surveys nodes reach a → Surveys nodes reach b → (InFront : SurveyedWay → Type 0) (xs ys : List SurveyedWay)
       → Suffix a InFront xs → Suffix b InFront ys → xs ≡ ys
   same_from a b of_a of_b InFront [] [] at_a at_b = refl
   same_from a b of_a of_b InFront [] (y ∷ ys) at_a at_b = absurd (not_missing b a of_b of_a InFront y ys [] at_b at_a (λ w h. absurd h))
@@ -116,7 +116,7 @@ module _ (nodes : Nodes) (reach : Reach) where
         ]
       ]
 
-  whole : (a : List Visit) → Surveys nodes reach a → Suffix a (λ v. ⊥) a
+  whole : (a : List SurveyedWay) → Surveys nodes reach a → Suffix a (λ v. ⊥) a
   whole a of_a = record {
     split = λ v has. inr has;
     inside = λ v has. has;
@@ -125,9 +125,9 @@ module _ (nodes : Nodes) (reach : Reach) where
     rises = of_a.rises;
   }
 
-  one_survey : (a b : List Visit) → Surveys nodes reach a → Surveys nodes reach b → a ≡ b
+  one_survey : (a b : List SurveyedWay) → Surveys nodes reach a → Surveys nodes reach b → a ≡ b
   one_survey a b of_a of_b = same_from a b of_a of_b (λ v. ⊥) a b (whole a of_a) (whole b of_b)
 
 -- a file has at most one
-pub same_survey : (file : List ℕ) (meta : Meta) (a b : List Visit) → IsSurvey file meta a → IsSurvey file meta b → a ≡ b
+pub same_survey : (file : List ℕ) (meta : Meta) (a b : List SurveyedWay) → IsSurvey file meta a → IsSurvey file meta b → a ≡ b
 same_survey file meta = one_survey (node_at file meta) (reached (node_at file meta) meta.root)

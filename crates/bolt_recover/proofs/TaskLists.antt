@@ -1,16 +1,16 @@
--- What there is to do at a place, entry by entry.
+-- What there is to do at a site, entry by entry.
 use Rattle.std.proofs.Common.{◌≡◌, ◌≤◌, ◌<◌, inl, inr, ℕ, zero, suc, ◌+◌, List, [], ◌∷◌, ◌++◌, Option, Some, None, slice_get, refl, sym, ap, subst, arith}
-use Rattle.bolt_recover.proofs.Words.{cases_lt, entry_tasks, Finding, gives_at, has_left, has_right, has_split, LeafElement, Meta, Path, Place, rises_append, RisesBy, step_place, Task, tasks_after, tasks_from, To_give, To_visit, visits_at}
+use Rattle.bolt_recover.proofs.Words.{cases_lt, entry_tasks, Finding, gives_at, has_left, has_right, has_split, LeafElement, Meta, Path, Site, rises_append, RisesBy, step_site, Task, tasks_after, tasks_from, To_give, To_visit, visits_at}
 use Rattle.bolt_tree.proofs.ListLemmas.{Has as Among}
 
 module _ (file : List ℕ) (meta : Meta) {W : Type 0} (further : W → ℕ → W) where
-  -- this is to be done at entry i of a place
-  abbrev pub IsAt : W → Place → ℕ → Task W → Type 0
+  -- this is to be done at entry i of a site
+  abbrev pub IsAt : W → Site → ℕ → Task W → Type 0
   IsAt w p i (To_give path e) = (slice_get p.elements i ≡ Some e) × (path ≡ p.path ++ e.key ∷ [])
-  IsAt w p i (To_visit v t) = (v ≡ further w i) × (step_place file meta p i ≡ Some t)
+  IsAt w p i (To_visit v t) = (v ≡ further w i) × (step_site file meta p i ≡ Some t)
 
-  module _ (w : W) (p : Place) where
-    by_entry : (i : ℕ) (o : Option LeafElement) (q : Option Place) (task : Task W) → slice_get p.elements i ≡ o → step_place file meta p i ≡ q
+  module _ (w : W) (p : Site) where
+    by_entry : (i : ℕ) (o : Option LeafElement) (q : Option Site) (task : Task W) → slice_get p.elements i ≡ o → step_site file meta p i ≡ q
         → Among (gives_at file meta further p.path o ++ visits_at file meta further (further w i) q) task → IsAt w p i task
     by_entry i None None task get next h = absurd h
     by_entry i (Some e) None task get next (inl same) = subst (IsAt w p i) same (get, refl)
@@ -22,12 +22,12 @@ module _ (file : List ℕ) (meta : Meta) {W : Type 0} (further : W → ℕ → W
     by_entry i (Some e) (Some t) task get next (inr (inr h)) = absurd h
 
     entry_at : (i : ℕ) (task : Task W) → Among (entry_tasks file meta further w p i) task → IsAt w p i task
-    entry_at i task h = by_entry i (slice_get p.elements i) (step_place file meta p i) task refl refl h
+    entry_at i task h = by_entry i (slice_get p.elements i) (step_site file meta p i) task refl refl h
 
     at_entry : (i : ℕ) (task : Task W) → IsAt w p i task → Among (entry_tasks file meta further w p i) task
     at_entry i (To_give path e) (get, named) = rw get (inl (ap (λ (q : Path). To_give q e) (sym named)))
     at_entry i (To_visit v t) (is, next) =
-        has_right (gives_at file meta further p.path (slice_get p.elements i)) (visits_at file meta further (further w i) (step_place file meta p i)) (To_visit v t)
+        has_right (gives_at file meta further p.path (slice_get p.elements i)) (visits_at file meta further (further w i) (step_site file meta p i)) (To_visit v t)
         (rw next (inl (ap (λ (u : W). To_visit u t) (sym is))))
 
     from_at : (i k : ℕ) (task : Task W) → Among (tasks_from file meta further w p i k) task → (j : ℕ) × (i ≤ j) × IsAt w p j task
@@ -48,15 +48,15 @@ module _ (file : List ℕ) (meta : Meta) {W : Type 0} (further : W → ℕ → W
               has_left (entry_tasks file meta further w p i) (tasks_from file meta further w p (suc i) k) task (at_entry i task (subst (λ (n : ℕ). IsAt w p n task) same at))
         ]
 
-    -- after a visit there is something to be done only if the place is kept
+    -- after a visit there is something to be done only if the site is kept
     pub after_at : (found : Option Finding) (task : Task W) → Among (tasks_after file meta further w p found) task → (found ≡ None) × (j : ℕ) × IsAt w p j task
     after_at None task h = let (j, le, at) = from_at 0 _ task h in (refl, j, at)
     after_at (Some x) task h = absurd h
 
     -- entries stand in an order, if each stands before later ones, and each element before what it leads to
-    module _ (R : Task W → Task W → Type 0) (inside : (i : ℕ) (path : Path) (e : LeafElement) (v : W) (t : Place) → IsAt w p i (To_give path e) → IsAt w p i (To_visit v t) → R (To_give path e) (To_visit v t))
+    module _ (R : Task W → Task W → Type 0) (inside : (i : ℕ) (path : Path) (e : LeafElement) (v : W) (t : Site) → IsAt w p i (To_give path e) → IsAt w p i (To_visit v t) → R (To_give path e) (To_visit v t))
         (across : (i j : ℕ) (a b : Task W) → i < j → IsAt w p i a → IsAt w p j b → R a b) where
-      entry_rises : (i : ℕ) (o : Option LeafElement) (q : Option Place) → slice_get p.elements i ≡ o → step_place file meta p i ≡ q
+      entry_rises : (i : ℕ) (o : Option LeafElement) (q : Option Site) → slice_get p.elements i ≡ o → step_site file meta p i ≡ q
           → RisesBy R (gives_at file meta further p.path o ++ visits_at file meta further (further w i) q)
       entry_rises i None None get next = tt
       entry_rises i (Some e) None get next = (λ b h. absurd h, tt)
@@ -69,7 +69,7 @@ module _ (file : List ℕ) (meta : Meta) {W : Type 0} (further : W → ℕ → W
       from_rises : (i k : ℕ) → RisesBy R (tasks_from file meta further w p i k)
       from_rises i zero = tt
       from_rises i (suc k) =
-          rises_append R (entry_tasks file meta further w p i) (tasks_from file meta further w p (suc i) k) (entry_rises i (slice_get p.elements i) (step_place file meta p i) refl refl) (from_rises (suc i) k)
+          rises_append R (entry_tasks file meta further w p i) (tasks_from file meta further w p (suc i) k) (entry_rises i (slice_get p.elements i) (step_site file meta p i) refl refl) (from_rises (suc i) k)
           (λ a b ha hb. let (j, le, at) = from_at (suc i) k b hb in across i j a b (omega (arith, le)) (entry_at i a ha) at)
 
       pub after_rises : (found : Option Finding) → RisesBy R (tasks_after file meta further w p found)

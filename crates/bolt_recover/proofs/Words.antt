@@ -34,25 +34,25 @@ pub use Rattle.bolt_recover.specs.Joined.{is_found_path, joined_listing, lost_an
 pub use Rattle.bolt_recover.specs.KeptPages.{AreKeptPages, IsKeptPage}
 pub use Rattle.bolt_recover.specs.Losses.{AreLosses, LossView, everything, loss_at, loss_of, losses_of, lower_of, parts, upper_of}
 pub use Rattle.bolt_recover.specs.{PageKeys.last_digits, PageKeys.page_key, PageWays.ArePageWays, PageWays.is_at_page, PageWays.page_ways}
-pub use Rattle.bolt_recover.specs.Places.{Place, elements_at, follow_places, leaves_of, next_place, place_at, place_on, root_place, step_place}
+pub use Rattle.bolt_recover.specs.Sites.{Site, elements_at, follow_sites, leaves_of, next_site, site_at, site_on, root_site, step_site}
 pub use Rattle.bolt_recover.specs.Private.FoundLeft.{below_bucket, bucket_members, pages_of}
 pub use Rattle.bolt_recover.specs.Private.Frames.{Advances, AreOpen, ComesTo, Ends, GivesHead, GoesOn, HasOpen, IsAllLeft, IsContent, IsGoodContent, IsGoodPage}
-pub use Rattle.bolt_recover.specs.Private.Frames.{IsLeft, IsOn, IsShallow, NoWay, State, StaysOn, ahead_level, ahead_tasks, ahead_weight, claims_nodes}
-pub use Rattle.bolt_recover.specs.Private.Frames.{content_elements, content_place, content_size, content_spot, is_over, left_by, lost_state, open_tasks}
-pub use Rattle.bolt_recover.specs.Private.Frames.{over_by, page_tasks, page_weight, spot_place, state_of, state_tasks, stay, step_path, steps_weight, tally_of}
-pub use Rattle.bolt_recover.specs.Private.Joining.{AreJoinable, IsHeldWell, first_cmp, held_members, holds_key, left_at, path_at, put_members, recovered_in}
+pub use Rattle.bolt_recover.specs.Private.Frames.{IsLeft, IsOn, IsShallow, NoWay, State, StaysOn, ahead_path_len, ahead_tasks, ahead_weight, claims_nodes}
+pub use Rattle.bolt_recover.specs.Private.Frames.{content_elements, content_site, content_size, content_spot, is_over, left_by, lost_state, open_tasks}
+pub use Rattle.bolt_recover.specs.Private.Frames.{over_by, page_tasks, page_weight, spot_site, state_of, state_tasks, stay, step_path, steps_weight, tally_of}
+pub use Rattle.bolt_recover.specs.Private.Joining.{AreJoinable, HasNextKept, first_cmp, next_kept_members, holds_key, left_at, path_at, put_members, recovered_in}
 pub use Rattle.bolt_recover.specs.Private.KeptMembers.{GivesKept, LeavesKept, kept_file, kept_left, kept_meta, kept_path}
-pub use Rattle.bolt_recover.specs.Private.Runs.{Outcome, Runs, RunsAll, Task, To_give, To_visit, Visited, Way, after_visit, after_visits, claimed_after}
-pub use Rattle.bolt_recover.specs.Private.Runs.{claims_of, entry_count, entry_tasks, further, gives_at, in_span, lost_at, meta_pages, outcome_of, page_visit}
-pub use Rattle.bolt_recover.specs.Private.Runs.{place_size, place_tasks, span_of, tasks_after, tasks_from, visits_at}
-pub use Rattle.bolt_recover.specs.Private.Runs.Runs.{done, give, visit}
+pub use Rattle.bolt_recover.specs.Private.Courses.{Outcome, Course, WholeCourse, Task, To_give, To_visit, Visited, Way, after_visit, after_visits, claimed_after}
+pub use Rattle.bolt_recover.specs.Private.Courses.{claims_of, entry_count, entry_tasks, further, gives_at, in_span, lost_at, meta_pages, outcome_of, page_visit}
+pub use Rattle.bolt_recover.specs.Private.Courses.{site_size, site_tasks, span_of, tasks_after, tasks_from, visits_at}
+pub use Rattle.bolt_recover.specs.Private.Courses.Course.{done, give, visit}
 pub use Rattle.bolt_recover.specs.Private.TreesLeft.{AreTreesOf, IsSearched, lost_of}
 pub use Rattle.bolt_recover.specs.{Recovered.ForRecovered, Recovered.IsRecovered, Recovered.IsRecoveredMember, Recoveries.AreFirst, Recoveries.ForLosses}
-pub use Rattle.bolt_recover.specs.Refusals.{IsRefusedRoot, IsSlotUnrecoverable, IsUnrecoverable, KeepsRoot, LosesRoot}
+pub use Rattle.bolt_recover.specs.Refusals.{IsRefusedRoot, IsUnrecoverable, KeepsRoot, LosesRoot}
 pub use Rattle.bolt_recover.specs.{ShownFound.IsFoundView, ShownLosses.loss_view}
-pub use Rattle.bolt_recover.specs.Surveys.{Gives, Has, IsClaimedIn, IsOpen, IsSurvey, LosesNothing, Surveys, Visit, kept, lost}
+pub use Rattle.bolt_recover.specs.Surveys.{Gives, Has, IsClaimedIn, IsOpen, IsSurvey, LosesNothing, Surveys, SurveyedWay, kept, lost}
 pub use Rattle.bolt_recover.specs.{declared.content.Content.Content, declared.content.Content.TheVariants.Page, declared.content.OpenPage.OpenPage}
-pub use Rattle.bolt_recover.specs.{declared.Found.Found, declared.joined_parts.Kept.Kept}
+pub use Rattle.bolt_recover.specs.{declared.found.Found.Found, declared.joined_parts.Kept.Kept}
 pub use Rattle.bolt_recover.specs.declared.lost_and_found.Trees.TheVariants.{Damaged, Rootless, Sound}
 pub use Rattle.bolt_recover.specs.{declared.recovery.Recovery.Recovery, declared.steps.NextVisit.NextVisit}
 unfoldable pub use Rattle.bolt_recover.specs.JoinedMembers.{joined_file, joined_left, joined_meta, joined_path}

@@ -3,8 +3,8 @@ use Rattle.std.specs.Prelude.{◌≡◌, ℕ, zero, suc, ◌⊎◌, List, [], �
 use Rattle.bolt_format.specs.declared.meta.Meta.{Meta}
 use Rattle.bolt_check.specs.{LoneLeaves.IsListedFree, LoneLeaves.IsLoneLeaf, Nodes.node_at, Ways.At_page, Ways.SpanAt, Ways.root_spot}
 use Rattle.bolt_check.specs.declared.fault.Finding.{Finding}
-use Rattle.bolt_recover.specs.{KeptPages.IsKeptPage, Surveys.Has, Surveys.IsSurvey, Surveys.LosesNothing, Surveys.Visit, Surveys.lost}
-use Rattle.bolt_recover.specs.declared.Found.{Found}
+use Rattle.bolt_recover.specs.{KeptPages.IsKeptPage, Surveys.Has, Surveys.IsSurvey, Surveys.LosesNothing, Surveys.SurveyedWay, Surveys.lost}
+use Rattle.bolt_recover.specs.declared.found.Found.{Found}
 
 module _ (file : List ℕ) (meta : Meta) where
   -- page n lies in the span of one of these pages
@@ -26,7 +26,7 @@ module _ (file : List ℕ) (meta : Meta) where
 
   -- The found pages of a file under a meta. If no way is lost, there are none.
   pub record AreFound (found : List ℕ) : Type 0 where
-    pub survey : List Visit
+    pub survey : List SurveyedWay
     pub surveys : IsSurvey file meta survey
     pub none : LosesNothing survey → found ≡ []
     pub some : (way : List ℕ) (x : Finding) → Has survey (lost way x) → FoundBelow (IsKeptPage file meta survey) meta.high_water found

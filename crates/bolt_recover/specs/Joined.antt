@@ -6,7 +6,7 @@ use Rattle.bolt_format.specs.declared.meta.Meta.{Meta}
 use Rattle.bolt_check.specs.Keys.{Key, key_cmp, key_lt, keys_order_fault}
 use Rattle.bolt_tree.specs.{Entries.Bucket, Entries.item_of, Listing.Member, Paths.Path}
 use Rattle.bolt_tree.specs.Tree.{Tree, end, listing_of, tree_of, with_bucket, with_value}
-use Rattle.bolt_recover.specs.{Found.AreFound, PageKeys.page_key, Places.leaves_of, Recovered.IsRecovered}
+use Rattle.bolt_recover.specs.{Found.AreFound, PageKeys.page_key, Sites.leaves_of, Recovered.IsRecovered}
 
 -- the bucket of what is found
 abbrev pub lost_and_found : Key

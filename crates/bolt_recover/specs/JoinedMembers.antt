@@ -14,11 +14,11 @@ joined_meta joined = kept_meta joined.kept
 
 -- the part of a joined listing that is left
 unfoldable pub joined_left : Joined → List Member → List Member
-joined_left joined listing = left_at joined.stage joined.kept joined.found.now joined.bucket joined.held (recovered_in joined.found.now listing)
+joined_left joined listing = left_at joined.stage joined.kept joined.found.now joined.bucket joined.next_kept (recovered_in joined.found.now listing)
 
 -- how much it has to do at most, until it has returned everything
 unfoldable pub joined_work : Joined → ℕ
-joined_work joined = work_at joined.stage joined.kept joined.found.now joined.bucket joined.held
+joined_work joined = work_at joined.stage joined.kept joined.found.now joined.bucket joined.next_kept
 
 -- the path of the last member that it returned
 unfoldable pub joined_path : Joined → Path

@@ -2,12 +2,12 @@
 use Rattle.std.specs.Prelude.{◌≡◌, ◌↔◌, ℕ, ◌⊎◌, Bool, true, List}
 use Rattle.bolt_format.specs.declared.meta.Meta.{Meta}
 use Rattle.bolt_check.specs.{Findings.IsMetaPage, Nodes.node_at, Ways.SpanHas, Ways.reached}
-use Rattle.bolt_recover.specs.Surveys.{Has, IsSurvey, Visit, kept}
+use Rattle.bolt_recover.specs.Surveys.{Has, IsSurvey, SurveyedWay, kept}
 
 -- page n is a meta page, or lies in the span of a kept way
-abbrev pub IsKeptPage : List ℕ → Meta → List Visit → ℕ → Type 0
+abbrev pub IsKeptPage : List ℕ → Meta → List SurveyedWay → ℕ → Type 0
 IsKeptPage file meta survey n = IsMetaPage n ⊎ ((way : List ℕ) × (Has survey (kept way) × SpanHas (node_at file meta) (reached (node_at file meta) meta.root way) n))
 
 -- these are the pages that kept ways take in, for the one survey of the file (`laws`)
 abbrev pub AreKeptPages : List ℕ → Meta → (ℕ → Bool) → Type 0
-AreKeptPages file meta claimed = (survey : List Visit) → IsSurvey file meta survey → (n : ℕ) → (claimed n ≡ true) ↔ IsKeptPage file meta survey n
+AreKeptPages file meta claimed = (survey : List SurveyedWay) → IsSurvey file meta survey → (n : ℕ) → (claimed n ≡ true) ↔ IsKeptPage file meta survey n

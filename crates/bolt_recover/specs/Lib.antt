@@ -8,7 +8,7 @@ pub mod Lost
 pub mod LostAndFound
 pub mod PageKeys
 pub mod PageWays
-pub mod Places
+pub mod Sites
 pub mod Private
 pub mod Recovered
 pub mod Recoveries

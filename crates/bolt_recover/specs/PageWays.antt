@@ -2,7 +2,7 @@
 use Rattle.std.specs.Prelude.{◌≡◌, ℕ, Bool, true, false, List, Option, Some, None, count_by}
 use Rattle.bolt_format.specs.declared.meta.Meta.{Meta}
 use Rattle.bolt_check.specs.{Nodes.node_at, Ways.At_inline, Ways.At_page, Ways.Reach, Ways.Spot, Ways.reached}
-use Rattle.bolt_recover.specs.Surveys.{IsSurvey, Visit}
+use Rattle.bolt_recover.specs.Surveys.{IsSurvey, SurveyedWay}
 
 -- a way leads to a page number; an inline page has none
 abbrev pub is_at_page : Option Spot → Bool
@@ -11,12 +11,12 @@ is_at_page (Some (At_page s)) = true
 is_at_page (Some (At_inline host keys)) = false
 
 -- how many ways of a survey lead to page numbers
-abbrev pub page_ways : Reach → List Visit → ℕ
-page_ways reach survey = count_by (λ (v : Visit). is_at_page (reach v.way)) survey
+abbrev pub page_ways : Reach → List SurveyedWay → ℕ
+page_ways reach survey = count_by (λ (v : SurveyedWay). is_at_page (reach v.way)) survey
 
 -- the number of ways to page numbers of a file under a meta
 abbrev pub ArePageWays : List ℕ → Meta → ℕ → Type 0
-ArePageWays file meta n = (survey : List Visit) × IsSurvey file meta survey × (n ≡ page_ways (reached (node_at file meta) meta.root) survey)
+ArePageWays file meta n = (survey : List SurveyedWay) × IsSurvey file meta survey × (n ≡ page_ways (reached (node_at file meta) meta.root) survey)
 
 -- What is promised of this number is promised for each; there is exactly one, as there is one survey (`laws`).
 abbrev pub ForPageWays : List ℕ → Meta → (ℕ → Type 0) → Type 0

@@ -5,5 +5,5 @@ pub mod Frames
 pub mod Joining
 pub mod KeptMembers
 pub mod LeavesLeft
-pub mod Runs
+pub mod Courses
 pub mod TreesLeft

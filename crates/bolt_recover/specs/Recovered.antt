@@ -3,26 +3,26 @@ use Rattle.std.specs.Prelude.{◌≡◌, ◌↔◌, ℕ, List, [], ◌∷◌, �
 use Rattle.bolt_format.specs.{Elements.LeafElement, declared.meta.Meta.Meta}
 use Rattle.bolt_tree.specs.{Entries.IsEntry, Entries.Item, Entries.Root_page, Entries.item_of, Listing.Member, Listing.member_cmp, Order.Rises}
 use Rattle.bolt_tree.specs.Paths.{Holds, Path}
-use Rattle.bolt_recover.specs.{Places.Place, Places.place_at, Surveys.Has, Surveys.IsSurvey, Surveys.Visit, Surveys.kept}
+use Rattle.bolt_recover.specs.{Sites.Site, Sites.site_at, Surveys.Has, Surveys.IsSurvey, Surveys.SurveyedWay, Surveys.kept}
 
 -- an element of the leaf page or inline page at a kept way, under the path of its bucket
-pub record IsRecoveredMember (file : List ℕ) (meta : Meta) (survey : List Visit) (path : Path) (item : Item) : Type 0 where
+pub record IsRecoveredMember (file : List ℕ) (meta : Meta) (survey : List SurveyedWay) (path : Path) (item : Item) : Type 0 where
   pub way : List ℕ
-  pub place : Place
+  pub site : Site
   pub element : LeafElement
   pub keeps : Has survey (kept way)
-  pub leads : place_at file meta way ≡ Some place
-  pub has : Contains place.elements element
-  pub named : path ≡ place.path ++ element.key ∷ []
+  pub leads : site_at file meta way ≡ Some site
+  pub has : Contains site.elements element
+  pub named : path ≡ site.path ++ element.key ∷ []
   pub is : item ≡ item_of element
 
 -- Each of these is what its path holds: an entry of the bucket that the path names.
-abbrev pub AreHeld : List ℕ → Meta → List Visit → Type 0
-AreHeld file meta survey = (path : Path) (item : Item) → IsRecoveredMember file meta survey path item → Holds (IsEntry file meta) (Root_page meta.root) path item
+abbrev pub AreInTheirBuckets : List ℕ → Meta → List SurveyedWay → Type 0
+AreInTheirBuckets file meta survey = (path : Path) (item : Item) → IsRecoveredMember file meta survey path item → Holds (IsEntry file meta) (Root_page meta.root) path item
 
 -- the rising list of exactly these
 pub record IsRecovered (file : List ℕ) (meta : Meta) (listing : List Member) : Type 0 where
-  pub survey : List Visit
+  pub survey : List SurveyedWay
   pub surveys : IsSurvey file meta survey
   pub rises : Rises member_cmp listing
   pub exact : (path : Path) (item : Item) → Contains listing (path, item) ↔ IsRecoveredMember file meta survey path item

@@ -1,6 +1,7 @@
 -- Why nothing of a file is recovered: docs/RECOVERY.md, "The recovering walk".
 use Rattle.std.specs.Prelude.{ℕ, List}
-use Rattle.bolt_format.specs.{Metas.HasMetaFault, Metas.HasSlotFault, Metas.IsChosen, Metas.IsInSlot, declared.meta.Meta.Meta, declared.meta.Slot.Slot}
+use Rattle.bolt_format.specs.Metas.{HasMetaFault, HasSlotFault, IsChosen, IsInSlot}
+use Rattle.bolt_format.specs.{declared.meta.Meta.Meta, declared.meta.MetaFault.MetaFault, declared.meta.Slot.Slot}
 use Rattle.bolt_check.specs.{Findings.IsMetaPage, Findings.Passes, Findings.Tests, Nodes.node_at, Ways.At_page, Ways.root_spot}
 use Rattle.bolt_check.specs.declared.fault.CheckFault.{CheckFault}
 use Rattle.bolt_check.specs.declared.fault.CheckFault.TheVariants.{Accounts, Memory, Open, Structure}
@@ -20,16 +21,20 @@ IsRefusedRoot file meta Memory = Unit {0}
 IsRefusedRoot file meta (Open fault) = ⊥
 IsRefusedRoot file meta (Accounts reported) = ⊥
 
--- under the active meta
-abbrev pub IsUnrecoverable : List ℕ → CheckFault → Type 0
-IsUnrecoverable file (Open fault) = HasMetaFault file 0 fault × ((slot : Slot) (meta : Meta) → IsInSlot file slot meta → ⊥)
-IsUnrecoverable file (Structure x) = (slot : Slot) × (meta : Meta) × IsChosen file slot meta × LosesRoot file meta x
-IsUnrecoverable file (Accounts reported) = ⊥
-IsUnrecoverable file Memory = Unit {0}
+-- Why nothing is recovered under a meta that is looked for: there is none, for this reason; or the root page is lost under the one that is found.
+abbrev pub IsUnrecoverable : List ℕ → (IsMeta : Meta → Type 0) → (HasNone : MetaFault → Type 0) → CheckFault → Type 0
+IsUnrecoverable file IsMeta HasNone (Open fault) = HasNone fault
+IsUnrecoverable file IsMeta HasNone (Structure x) = (meta : Meta) × IsMeta meta × LosesRoot file meta x
+IsUnrecoverable file IsMeta HasNone (Accounts reported) = ⊥
+IsUnrecoverable file IsMeta HasNone Memory = Unit {0}
 
--- and under the meta of this slot
-abbrev pub IsSlotUnrecoverable : List ℕ → Slot → CheckFault → Type 0
-IsSlotUnrecoverable file slot (Open fault) = HasSlotFault file slot fault × ((meta : Meta) → IsInSlot file slot meta → ⊥)
-IsSlotUnrecoverable file slot (Structure x) = (meta : Meta) × IsInSlot file slot meta × LosesRoot file meta x
-IsSlotUnrecoverable file slot (Accounts reported) = ⊥
-IsSlotUnrecoverable file slot Memory = Unit {0}
+-- the active meta, and why there is none
+abbrev pub HasActive : List ℕ → Meta → Type 0
+HasActive file meta = (slot : Slot) × IsChosen file slot meta
+
+abbrev pub HasNoActive : List ℕ → MetaFault → Type 0
+HasNoActive file fault = HasMetaFault file 0 fault × ((slot : Slot) (meta : Meta) → IsInSlot file slot meta → ⊥)
+
+-- why this slot has no valid meta
+abbrev pub HasNoneInSlot : List ℕ → Slot → MetaFault → Type 0
+HasNoneInSlot file slot fault = HasSlotFault file slot fault × ((meta : Meta) → IsInSlot file slot meta → ⊥)

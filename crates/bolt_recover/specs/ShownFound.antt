@@ -2,7 +2,7 @@
 use Rattle.std.specs.Prelude.{◌≡◌, ◌≢◌, ℕ, List, [], IsTrue, Ok, Some}
 use Rattle.bolt_format.specs.{Pages.page_at, Shown.shown, declared.meta.Meta.Meta}
 use Rattle.bolt_check.specs.{Nodes.node_at, ShownNodes.shown_node}
-use Rattle.bolt_recover.specs.declared.Found.{Found}
+use Rattle.bolt_recover.specs.declared.found.Found.{Found}
 
 pub record IsFoundView (file : List ℕ) (meta : Meta) (found : Found) : Type 0 where
   pub page : page_at file meta found.number ≡ Some (shown found.page.page)

@@ -2,8 +2,8 @@
 use Rattle.std.specs.Prelude.{map}
 use Rattle.bolt_check.specs.ShownSpots.{bound_of}
 use Rattle.bolt_tree.specs.Paths.{path_of}
-use Rattle.bolt_recover.specs.{Losses.LossView, Losses.LostView, Losses.everything, Losses.parts, declared.Loss.Loss, declared.Lost.Lost}
-use Rattle.bolt_recover.specs.declared.Lost.TheVariants.{Everything, Parts}
+use Rattle.bolt_recover.specs.{Losses.LossView, Losses.LostView, Losses.everything, Losses.parts, declared.losses.Loss.Loss, declared.losses.Lost.Lost}
+use Rattle.bolt_recover.specs.declared.losses.Lost.TheVariants.{Everything, Parts}
 
 abbrev pub loss_view : Loss → LossView
 loss_view loss = record { finding = loss.finding; bucket = path_of loss.bucket.items; lower = bound_of loss.lower; upper = bound_of loss.upper }

@@ -5,27 +5,27 @@ use Rattle.bolt_check.specs.{Findings.IsMetaPage, Findings.Passes, Findings.Test
 use Rattle.bolt_check.specs.{Ways.Before, Ways.Reach, Ways.SpanHas, Ways.Spot, Ways.reached, declared.fault.Finding.Finding}
 
 -- A way and what the tests find at it: nothing if the way is kept, and a finding if it is lost.
-pub record Visit : Type 0 where
+pub record SurveyedWay : Type 0 where
   pub way : List ℕ
   pub found : Option Finding
 
-abbrev pub kept : List ℕ → Visit
+abbrev pub kept : List ℕ → SurveyedWay
 kept way = record { way = way; found = None }
 
-abbrev pub lost : List ℕ → Finding → Visit
+abbrev pub lost : List ℕ → Finding → SurveyedWay
 lost way x = record { way = way; found = Some x }
 
 -- a survey has this visit
-abbrev pub Has : List Visit → Visit → Type 0
+abbrev pub Has : List SurveyedWay → SurveyedWay → Type 0
 Has [] v = ⊥
 Has (x ∷ survey) v = (v ≡ x) ⊎ Has survey v
 
 -- the empty way, or one whose parent is kept
-abbrev pub IsOpen : List Visit → List ℕ → Type 0
+abbrev pub IsOpen : List SurveyedWay → List ℕ → Type 0
 IsOpen survey way = (way ≡ []) ⊎ ((parent : List ℕ) × (i : ℕ) × (way ≡ parent ++ i ∷ []) × Has survey (kept parent))
 
 -- page n is a meta page, or lies in the span of a kept way before this one
-abbrev pub IsClaimedIn : Nodes → Reach → List Visit → List ℕ → ℕ → Type 0
+abbrev pub IsClaimedIn : Nodes → Reach → List SurveyedWay → List ℕ → ℕ → Type 0
 IsClaimedIn nodes reach survey way n = IsMetaPage n ⊎ ((v : List ℕ) × (Has survey (kept v) × Before v way × SpanHas nodes (reach v) n))
 
 -- what the tests of a spot find, if these pages were claimed before
@@ -34,16 +34,16 @@ Gives nodes before spot None = Passes nodes before spot
 Gives nodes before spot (Some x) = Tests nodes before spot x
 
 -- The ways whose parents are kept, and the empty way, each with what the tests find there; test 18 looks at the kept ways before.
-pub record Surveys (nodes : Nodes) (reach : Reach) (survey : List Visit) : Type 0 where
-  pub rises : Rises (map (λ (v : Visit). v.way) survey)
-  pub only : (v : Visit) → Has survey v
+pub record Surveys (nodes : Nodes) (reach : Reach) (survey : List SurveyedWay) : Type 0 where
+  pub rises : Rises (map (λ (v : SurveyedWay). v.way) survey)
+  pub only : (v : SurveyedWay) → Has survey v
       → IsOpen survey v.way × ((spot : Spot) × (reach v.way ≡ Some spot) × Gives nodes (IsClaimedIn nodes reach survey v.way) spot v.found)
   pub all : (way : List ℕ) (spot : Spot) → IsOpen survey way → reach way ≡ Some spot → (found : Option Finding) × Has survey (record { way = way; found = found })
 
 -- the survey of a file under a meta
-abbrev pub IsSurvey : List ℕ → Meta → List Visit → Type 0
+abbrev pub IsSurvey : List ℕ → Meta → List SurveyedWay → Type 0
 IsSurvey file meta survey = Surveys (node_at file meta) (reached (node_at file meta) meta.root) survey
 
 -- no way of a survey is lost
-abbrev pub LosesNothing : List Visit → Type 0
-LosesNothing survey = (v : Visit) → Has survey v → v.found ≡ None
+abbrev pub LosesNothing : List SurveyedWay → Type 0
+LosesNothing survey = (v : SurveyedWay) → Has survey v → v.found ≡ None

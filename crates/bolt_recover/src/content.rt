@@ -4,8 +4,8 @@ ghost use Rattle.std.specs.Option.{option_map};
 ghost use Rattle.bolt_format.specs.{Elements.IsBucketValue, ElementPlaces.leaf_view};
 ghost use Rattle.bolt_check.specs.{Claims.claims_file, Claims.claims_meta, Claims.claims_visited, Claims.is_claimed, Claims.pages_left, Counts.counted};
 ghost use Rattle.bolt_check.specs.{Findings.Passes, Findings.Tests, ShownSpots.spot_at};
-ghost use Rattle.bolt_recover.specs.Private.Frames.{IsContent, IsShallow, LeadsTo, claims_nodes, claims_with, content_elements, content_size, pages_in};
-ghost use Rattle.bolt_recover.specs.Private.Runs.{page_visit};
+ghost use Rattle.bolt_recover.specs.Private.Frames.{IsContent, IsShallow, ElementLeads, claims_nodes, claims_with, content_elements, content_size, pages_in};
+ghost use Rattle.bolt_recover.specs.Private.Courses.{page_visit};
 ghost use Rattle.bolt_recover.specs.Private.ElementsLeft.{GivesElement, elements_left, elements_of};
 
 use bolt_check::{BucketSpot, Claims, Finding, PageSpot, Spot, TreePage};
@@ -23,7 +23,7 @@ pub(crate) enum Content<'a> {
 pub(crate) struct OpenPage<'a> {
     pub content: Content<'a>,
     /// The number of parts of its bucket's path.
-    pub level: usize,
+    pub path_len: usize,
     /// The number of its elements.
     pub count: u16,
     /// The next element.
@@ -80,7 +80,7 @@ impl<'a> Content<'a> {
     pub fn spot(&self, i: u16) -> Option<Spot<'a>>
         requires shallow { IsShallow self.now }
         requires below { i < content_size self.now }
-        ensures { LeadsTo self.now i result }
+        ensures { ElementLeads self.now i result }
     {
         match self {
             Content::Page(page, spot) => page.spot(i, spot),

@@ -2,22 +2,21 @@
 //! is found.
 ghost use Rattle.std.specs.Prelude.{◌≡◌, ◌≢◌, ◌<◌, ◌*◌, ◌^◌, [], None, IfErr, IfOk, IfSome, OnErr, OnOk, length};
 ghost use Rattle.bolt_check.specs.declared.fault.Finding.{Finding};
-ghost use Rattle.bolt_tree.specs.Paths.{path_of};
-ghost use Rattle.bolt_recover.specs.{Found.numbers_of, Joined.IsJoined, Joined.LacksBucketKey, Joined.lost_and_found, JoinRefusals.IsJoinRefusal};
-ghost use Rattle.bolt_recover.specs.{Losses.everything, LostAndFound.all_lost, Private.Joining.AreJoinable, Private.Joining.IsHeldWell};
+ghost use Rattle.bolt_recover.specs.{Found.numbers_of, Joined.IsJoined, Joined.LacksBucketKey, JoinRefusals.IsJoinRefusal};
+ghost use Rattle.bolt_recover.specs.{Losses.everything, LostAndFound.all_lost, Private.Joining.AreJoinable, Private.Joining.HasNextKept};
 ghost use Rattle.bolt_recover.specs.Private.KeptMembers.{HasSameFile, IsWhole, kept_file, kept_meta};
-ghost use Rattle.bolt_recover.specs.{Private.Joining.first_cmp, Recovered.ForRecovered};
+ghost use Rattle.bolt_recover.specs.Recovered.{ForRecovered};
 ghost use Rattle.bolt_recover.specs.declared.joined.JoinFault.TheVariants as faults;
 ghost use Rattle.bolt_recover.specs.declared.joined.Stage.TheVariants as stages;
 
-use crate::Found;
+use crate::bucket_key::compare_first;
+use crate::found::Found;
 use crate::joined_parts::{FoundMembers, Kept, LostRoot};
 use crate::lost_and_found::{LostAndFound, Trees};
 use crate::recovery::Recovery;
 use bolt_check::{Finding, NoMemory};
 use bolt_tree::{Item, Members, Walk};
 use std::alloc::Global;
-use std::cmp::Ordering;
 
 /// Why there is no joined listing.
 #[derive(Clone, Copy, Debug, PartialEq, Eq)]
@@ -37,23 +36,6 @@ impl From<NoMemory> for JoinFault {
 
     fn from(_fault: NoMemory) -> Self {
         JoinFault::Memory
-    }
-}
-
-/// The key of the bucket of what is found.
-pub(crate) fn lost_and_found<'a>() -> &'a [u8]
-    ensures { result.now ≡ lost_and_found }
-{
-    b"lost+found"
-}
-
-/// How the first part of a path compares with the key of the bucket of what is found.
-pub(crate) fn compare_first(path: &[&[u8]]) -> Ordering
-    ensures { result ≡ first_cmp (path_of path.now) }
-{
-    match path.first() {
-        Some(key) => key.cmp(lost_and_found()),
-        None => Ordering::Less,
     }
 }
 
@@ -79,9 +61,9 @@ pub struct Joined<'a> {
     stage: Stage,
     bucket: FoundMembers<'a>,
     /// While the bucket's members are returned, the recovered member that comes after them.
-    held: Option<Item<'a>>,
+    next_kept: Option<Item<'a>>,
     ghost pages: { ∥ AreJoinable (kept_file kept) (kept_meta kept) found.now ∥₁ },
-    ghost waits: { ∥ IsHeldWell stage kept held ∥₁ },
+    ghost waits: { ∥ HasNextKept stage kept next_kept ∥₁ },
 }
 
 /// Numbers of sixteen digits name so many pages.
@@ -165,7 +147,7 @@ impl<'a> Joined<'a> {
             found,
             stage: first_stage(found),
             bucket: FoundMembers::new(found),
-            held: None,
+            next_kept: None,
         })
     }
 
@@ -183,7 +165,7 @@ impl<'a> Joined<'a> {
         if item.is_some() && compare_first(self.kept.path()).is_lt() {
             return Ok(item);
         }
-        self.held = item;
+        self.next_kept = item;
         self.bucket = FoundMembers::new(self.found);
         self.stage = Stage::Inside;
         Ok(Some(Item::Bucket { sequence: 0 }))
@@ -201,7 +183,7 @@ impl<'a> Joined<'a> {
         if let Some(item) = self.bucket.next() {
             return Ok(Some(item));
         }
-        if let Some(item) = self.held {
+        if let Some(item) = self.next_kept {
             self.stage = Stage::After;
             return Ok(Some(item));
         }

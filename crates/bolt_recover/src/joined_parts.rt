@@ -9,9 +9,9 @@ ghost use Rattle.bolt_tree.specs.{Paths.path_of, ShownEntries.item_view, Tree.en
 ghost use Rattle.bolt_recover.specs.Joined.{inside_of, lost_and_found, tree_with};
 ghost use Rattle.bolt_recover.specs.{Private.ElementsLeft.elements_left, Private.ElementsLeft.elements_of, Recovered.ForRecovered, Refusals.LosesRoot};
 
-use crate::Found;
+use crate::bucket_key::lost_and_found;
 use crate::content::{Content, Elements, next_of};
-use crate::joined::lost_and_found;
+use crate::found::Found;
 use crate::recovery::Recovery;
 use bolt_check::{BucketSpot, NoMemory, PageSpot, TreePage};
 use bolt_format::{Leaf, Meta, head, inline};

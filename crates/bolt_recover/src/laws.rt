@@ -8,22 +8,22 @@ ghost use Rattle.bolt_tree.specs.{Entries.Bucket, Listing.IsListing, Listing.Mem
 ghost use Rattle.bolt_recover.specs.Found.{AreFound, IsFoundPage};
 ghost use Rattle.bolt_recover.specs.Joined.{IsFoundMember, IsJoined, LacksBucketKey, LeavesRoom, is_found_path, lost_and_found};
 ghost use Rattle.bolt_recover.specs.{JoinedMembers.ForJoined, JoinedMembers.joined_file, JoinedMembers.joined_meta, KeptPages.IsKeptPage};
-ghost use Rattle.bolt_recover.specs.{Losses.AreLosses, Losses.LossView, Losses.loss_of, Losses.losses_of, PageWays.ArePageWays, Places.Place, Places.place_at};
-ghost use Rattle.bolt_recover.specs.{Recovered.AreHeld, Recovered.IsRecovered, Recoveries.recovery_file};
-ghost use Rattle.bolt_recover.specs.Surveys.{Has, IsSurvey, LosesNothing, Visit, lost};
+ghost use Rattle.bolt_recover.specs.{Losses.AreLosses, Losses.LossView, Losses.loss_of, Losses.losses_of, PageWays.ArePageWays, Sites.Site, Sites.site_at};
+ghost use Rattle.bolt_recover.specs.{Recovered.AreInTheirBuckets, Recovered.IsRecovered, Recoveries.recovery_file};
+ghost use Rattle.bolt_recover.specs.Surveys.{Has, IsSurvey, LosesNothing, SurveyedWay, lost};
 
 use crate::joined::Joined;
 use crate::recovery::Recovery;
 
 /// A file has at most one survey.
 pub fn survey_is_one()
-    ensures { (file : List ℕ) (meta : Meta) (a b : List Visit) → IsSurvey file meta a → IsSurvey file meta b → a ≡ b }
+    ensures { (file : List ℕ) (meta : Meta) (a b : List SurveyedWay) → IsSurvey file meta a → IsSurvey file meta b → a ≡ b }
 {}
 
 /// Each file has a survey.
 #[tactic(auto, using(crate::proofs::Existing::has_survey))]
 pub fn each_file_has_a_survey()
-    ensures { (file : List ℕ) (meta : Meta) → (survey : List Visit) × IsSurvey file meta survey }
+    ensures { (file : List ℕ) (meta : Meta) → (survey : List SurveyedWay) × IsSurvey file meta survey }
 {}
 
 /// A file has at most one recovered listing.
@@ -44,7 +44,7 @@ pub fn recovered_listing_is_of_a_tree()
 
 /// Each recovered member is what its path holds: an entry of the bucket that the path names.
 pub fn recovered_members_are_held()
-    ensures { (file : List ℕ) (meta : Meta) (survey : List Visit) → AreHeld file meta survey }
+    ensures { (file : List ℕ) (meta : Meta) (survey : List SurveyedWay) → AreInTheirBuckets file meta survey }
 {}
 
 /// A file has at most one list of losses.
@@ -54,7 +54,7 @@ pub fn losses_are_one()
 
 /// Sound trees lose nothing.
 pub fn sound_trees_lose_nothing()
-    ensures { (file : List ℕ) (meta : Meta) (all : List Visit) (v : Visit) → HasSoundTrees file meta → IsSurvey file meta all → Has all v → v.found ≡ None }
+    ensures { (file : List ℕ) (meta : Meta) (all : List SurveyedWay) (v : SurveyedWay) → HasSoundTrees file meta → IsSurvey file meta all → Has all v → v.found ≡ None }
 {}
 
 /// The recovered listing of sound trees is their listing.
@@ -64,25 +64,25 @@ pub fn sound_trees_recover_their_listing()
 
 /// The finding at the first lost way is the first finding of the trees.
 pub fn first_loss_is_the_first_finding()
-    ensures { (file : List ℕ) (meta : Meta) (survey : List Visit) (way : List ℕ) (x : Finding) → IsSurvey file meta survey → Has survey (lost way x)
-        → ((v : Visit) → Has survey v → Before v.way way → v.found ≡ None) → IsFirstFinding file meta x }
+    ensures { (file : List ℕ) (meta : Meta) (survey : List SurveyedWay) (way : List ℕ) (x : Finding) → IsSurvey file meta survey → Has survey (lost way x)
+        → ((v : SurveyedWay) → Has survey v → Before v.way way → v.found ≡ None) → IsFirstFinding file meta x }
 {}
 
 /// The trees are sound if no way is lost, and so if there is no loss.
 pub fn nothing_lost_means_sound_trees()
-    ensures ways { (file : List ℕ) (meta : Meta) (survey : List Visit) → IsSurvey file meta survey → LosesNothing survey → HasSoundTrees file meta }
+    ensures ways { (file : List ℕ) (meta : Meta) (survey : List SurveyedWay) → IsSurvey file meta survey → LosesNothing survey → HasSoundTrees file meta }
     ensures losses { (file : List ℕ) (meta : Meta) → AreLosses file meta [] → HasSoundTrees file meta }
 {}
 
-/// Each lost way has one loss, that of the place that it leads to. There are as many losses as lost
+/// Each lost way has one loss, that of the site that it leads to. There are as many losses as lost
 /// ways, and each loss is that of a lost way.
 pub fn each_lost_way_has_one_loss()
-    ensures number { (file : List ℕ) (meta : Meta) (survey : List Visit) → IsSurvey file meta survey
-        → length (losses_of file meta survey) ≡ count_by (λ (v : Visit). is_some v.found) survey }
-    ensures loss { (file : List ℕ) (meta : Meta) (survey : List Visit) (way : List ℕ) (x : Finding) → IsSurvey file meta survey → Has survey (lost way x)
-        → (place : Place) × (place_at file meta way ≡ Some place) × Contains (losses_of file meta survey) (loss_of place x) }
-    ensures way { (file : List ℕ) (meta : Meta) (survey : List Visit) (l : LossView) → IsSurvey file meta survey → Contains (losses_of file meta survey) l
-        → (way : List ℕ) × (x : Finding) × (place : Place) × Has survey (lost way x) × (place_at file meta way ≡ Some place) × (l ≡ loss_of place x) }
+    ensures number { (file : List ℕ) (meta : Meta) (survey : List SurveyedWay) → IsSurvey file meta survey
+        → length (losses_of file meta survey) ≡ count_by (λ (v : SurveyedWay). is_some v.found) survey }
+    ensures loss { (file : List ℕ) (meta : Meta) (survey : List SurveyedWay) (way : List ℕ) (x : Finding) → IsSurvey file meta survey → Has survey (lost way x)
+        → (site : Site) × (site_at file meta way ≡ Some site) × Contains (losses_of file meta survey) (loss_of site x) }
+    ensures way { (file : List ℕ) (meta : Meta) (survey : List SurveyedWay) (l : LossView) → IsSurvey file meta survey → Contains (losses_of file meta survey) l
+        → (way : List ℕ) × (x : Finding) × (site : Site) × Has survey (lost way x) × (site_at file meta way ≡ Some site) × (l ≡ loss_of site x) }
 {}
 
 /// What is recovered of sound trees is what they list, and there is no loss.
@@ -122,7 +122,7 @@ pub fn nothing_lost_finds_nothing()
 /// page with a kept way or with another found page.
 pub fn found_pages_are_intact()
     ensures below { (file : List ℕ) (meta : Meta) (found : List ℕ) (n : ℕ) → AreFound file meta found → Contains found n → n < meta.high_water }
-    ensures leaf { (file : List ℕ) (meta : Meta) (found : List ℕ) (survey : List Visit) (n : ℕ)
+    ensures leaf { (file : List ℕ) (meta : Meta) (found : List ℕ) (survey : List SurveyedWay) (n : ℕ)
         → AreFound file meta found → IsSurvey file meta survey → Contains found n
         → IsLoneLeaf (node_at file meta) (IsKeptPage file meta survey) n }
     ensures unlisted { (file : List ℕ) (meta : Meta) (found : List ℕ) (n : ℕ) → AreFound file meta found → Contains found n → IsListedFree file meta n → ⊥ }
@@ -133,7 +133,7 @@ pub fn found_pages_are_intact()
 /// No intact leaf is left behind: if something is lost, each one that isn't listed as free shares a
 /// page with a kept way or with a found page.
 pub fn no_intact_leaf_is_left_behind()
-    ensures { (file : List ℕ) (meta : Meta) (found : List ℕ) (survey : List Visit) (way : List ℕ) (x : Finding) (n : ℕ)
+    ensures { (file : List ℕ) (meta : Meta) (found : List ℕ) (survey : List SurveyedWay) (way : List ℕ) (x : Finding) (n : ℕ)
         → AreFound file meta found → IsSurvey file meta survey → Has survey (lost way x)
         → IsLoneLeaf (node_at file meta) (λ k. ⊥) n → (IsListedFree file meta n → ⊥)
         → (k : ℕ) × SpanAt (node_at file meta) (At_page (root_spot n)) k × (IsKeptPage file meta survey k ⊎ IsFoundPage file meta found k) }

@@ -1,13 +1,15 @@
 //! What is lost of a file, and what is found of it though nothing leads to it.
 ghost use Rattle.std.specs.List.{All};
 ghost use Rattle.std.specs.Prelude.{◌≡◌, ◌<◌, IfOk};
-ghost use Rattle.bolt_check.specs.{Leftovers.leftovers_file, Leftovers.leftovers_meta, Sound.HasSoundTrees, declared.fault.Finding.Finding};
+ghost use Rattle.bolt_check.specs.{Sound.HasSoundTrees, declared.fault.Finding.Finding};
 ghost use Rattle.bolt_format.specs.Bytes.{IsBytes};
 ghost use Rattle.bolt_recover.specs.{Found.AreFound, Found.numbers_of, Lost.IsAllLost, Private.TreesLeft.IsSearched, ShownFound.IsFoundView};
-ghost use Rattle.bolt_recover.specs.{Private.LeavesLeft.AreAmong, Private.LeavesLeft.NotesFree, Refusals.LosesRoot, ShownLosses.lost_view};
+ghost use Rattle.bolt_recover.specs.{Refusals.LosesRoot, ShownLosses.lost_view};
 
+use crate::found::Found;
+use crate::found_leaves::find_leaves;
+use crate::losses::{Damage, Lost};
 use crate::recovery::Recovery;
-use crate::{Found, Loss, Lost};
 use bolt_check::{CheckFault, Checked, Claims, Finding, Leftovers, NoMemory, check_under};
 use bolt_format::Meta;
 use std::alloc::Global;
@@ -21,14 +23,6 @@ pub(crate) enum Trees<'a> {
     Damaged(Damage<'a>),
     /// Nothing: the root page is lost, with this finding.
     Rootless(Finding),
-}
-
-/// What is known of damaged trees whose root page is kept.
-#[derive(Drop)]
-pub(crate) struct Damage<'a> {
-    pub losses: Vec<Loss<'a>>,
-    /// Whether the recovered root bucket has an entry with the key of the bucket of what is found.
-    pub has_bucket_key: bool,
 }
 
 /// What is lost of a file under a meta, and the intact leaves that are found of it though nothing
@@ -138,23 +132,4 @@ fn found_without_root<'a>(
 {
     let claims = Claims::new(alloc, file, meta)?;
     find_leaves(alloc, Leftovers::new(claims))
-}
-
-/// Finds all intact leaves among what is left over, by rising number.
-pub(crate) fn find_leaves<'a>(
-    alloc: Global,
-    mut leftovers: Leftovers<'a>,
-) -> Result<Vec<Found<'a>>, NoMemory>
-    requires { NotesFree leftovers }
-    ensures found { IfOk result (λ found. AreAmong leftovers.entry found.items) }
-    ensures views { IfOk result (λ found. All (IsFoundView (leftovers_file leftovers.entry) (leftovers_meta leftovers.entry)) found.items) }
-{
-    let mut found = Vec::new(alloc);
-    for number in 0..leftovers.end() {
-        found.reserve(1)?;
-        if let Some(page) = leftovers.take(number) {
-            found.push_reserved(Found::new(number, page));
-        }
-    }
-    Ok(found)
 }

@@ -3,15 +3,17 @@ ghost use Rattle.std.specs.Option.{IfNone};
 ghost use Rattle.std.specs.Prelude.{◌≡◌, ◌<◌, ◌^◌, [], IfErr, IfOk, IfSome, OnErr, OnOk, map};
 ghost use Rattle.bolt_check.specs.{Claims.claims_file, Claims.claims_meta, Counts.counted};
 ghost use Rattle.bolt_check.specs.Sound.{HasSoundTrees};
-ghost use Rattle.bolt_format.specs.Metas.{IsChosen, IsInSlot};
+ghost use Rattle.bolt_format.specs.Metas.{IsInSlot};
 ghost use Rattle.bolt_tree.specs.Paths.{path_of};
 ghost use Rattle.bolt_recover.specs.{KeptPages.AreKeptPages, Private.Frames.IsOn, Private.Frames.state_of, Recovered.ForRecovered, Recovered.IsRecovered};
-ghost use Rattle.bolt_recover.specs.{Refusals.IsRefusedRoot, Refusals.IsSlotUnrecoverable, Refusals.IsUnrecoverable, Refusals.KeepsRoot, ShownLosses.loss_view};
+ghost use Rattle.bolt_recover.specs.Refusals.{HasActive, HasNoActive, HasNoneInSlot, IsRefusedRoot, IsUnrecoverable, KeepsRoot};
+ghost use Rattle.bolt_recover.specs.ShownLosses.{loss_view};
 
-use crate::joined::compare_first;
-use crate::lost_and_found::{Damage, find_leaves};
+use crate::bucket_key::compare_first;
+use crate::found::Found;
+use crate::found_leaves::find_leaves;
+use crate::losses::{Damage, Loss};
 use crate::steps::Steps;
-use crate::{Found, Loss};
 use bolt_check::{CheckFault, Claims, Leftovers, NoMemory};
 use bolt_format::{Meta, Slot, choose, slot_meta};
 use bolt_tree::{Item, Members};
@@ -46,14 +48,14 @@ impl<'a> Recovery<'a> {
     /// and nothing is recovered; `Memory` if memory runs out. Never `Accounts`.
     pub fn new(alloc: Global, file: &'a [u8]) -> Result<Recovery<'a>, CheckFault>
         ensures file { IfOk result (λ recovery. recovery_file recovery ≡ file.now) }
-        ensures meta { IfOk result (λ recovery. (slot : _) × IsChosen file.now slot (recovery_meta recovery)) }
+        ensures meta { IfOk result (λ recovery. HasActive file.now (recovery_meta recovery)) }
         ensures all { IfOk result (λ recovery. ForRecovered file.now (recovery_meta recovery) (λ listing. recovery_left recovery listing ≡ listing)) }
         ensures path { IfOk result (λ recovery. recovery_path recovery ≡ []) }
         ensures losses { IfOk result (λ recovery. recovery_losses recovery ≡ []) }
         ensures begun { IfOk result (λ recovery. recovery_begun recovery ≡ 0) }
         ensures visited { IfOk result (λ recovery. recovery_visited recovery ≡ 1) }
         ensures root { IfOk result (λ recovery. KeepsRoot file.now (recovery_meta recovery)) }
-        ensures refused { IfErr result (IsUnrecoverable file.now) }
+        ensures refused { IfErr result (IsUnrecoverable file.now (HasActive file.now) (HasNoActive file.now)) }
     {
         let (_, meta) = choose(file)?;
         Recovery::under(alloc, file, meta)
@@ -73,7 +75,7 @@ impl<'a> Recovery<'a> {
         ensures begun { IfOk result (λ recovery. recovery_begun recovery ≡ 0) }
         ensures visited { IfOk result (λ recovery. recovery_visited recovery ≡ 1) }
         ensures root { IfOk result (λ recovery. KeepsRoot file.now (recovery_meta recovery)) }
-        ensures refused { IfErr result (IsSlotUnrecoverable file.now slot) }
+        ensures refused { IfErr result (IsUnrecoverable file.now (IsInSlot file.now slot) (HasNoneInSlot file.now slot)) }
     {
         let meta = slot_meta(file, slot)?;
         Recovery::under(alloc, file, meta)

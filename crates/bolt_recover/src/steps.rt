@@ -8,8 +8,8 @@ ghost use Rattle.bolt_tree.specs.Paths.{path_of};
 ghost use Rattle.bolt_recover.specs.Private.Frames.{Advances, GoesOn, HasOpen, IsAllLeft, Takes, TakesBucket, is_over, lost_state, state_of, steps_weight, taken_weight};
 ghost use Rattle.bolt_recover.specs.Refusals.{IsRefusedRoot, KeepsRoot};
 
-use crate::Loss;
 use crate::content::{Content, OpenPage};
+use crate::losses::Loss;
 use bolt_check::{CheckFault, Claims, Finding, NoMemory, PageSpot, Spot};
 use bolt_format::{Leaf, Meta};
 use std::alloc::Global;
@@ -20,16 +20,16 @@ use std::mem::replace;
 pub(crate) struct NextVisit<'a> {
     pub spot: Spot<'a>,
     /// The number of parts of its bucket's path.
-    pub level: usize,
+    pub path_len: usize,
 }
 
 impl<'a> NextVisit<'a> {
     /// What an element leads to, if anything.
-    fn of(spot: Option<Spot<'a>>, level: usize) -> Option<NextVisit<'a>>
-        ensures { result ≡ option_map (λ spot. record { spot = spot; level = level }) spot.entry }
+    fn of(spot: Option<Spot<'a>>, path_len: usize) -> Option<NextVisit<'a>>
+        ensures { result ≡ option_map (λ spot. record { spot = spot; path_len = path_len }) spot.entry }
     {
         match spot {
-            Some(spot) => Some(NextVisit { spot, level }),
+            Some(spot) => Some(NextVisit { spot, path_len }),
             None => None,
         }
     }
@@ -58,7 +58,7 @@ pub(crate) struct Steps<'a> {
     pub path: Vec<&'a [u8]>,
     pub losses: Vec<Loss<'a>>,
     /// Room for the path of one more loss.
-    pub spare: Vec<&'a [u8]>,
+    pub loss_path: Vec<&'a [u8]>,
 }
 
 /// The spot at the root page, to which the empty way leads.
@@ -98,7 +98,7 @@ impl<'a> Steps<'a> {
         open.reserve(1)?;
         open.push_reserved(OpenPage {
             content,
-            level: 0,
+            path_len: 0,
             count: content.count(),
             next: 0,
         });
@@ -109,7 +109,7 @@ impl<'a> Steps<'a> {
             open,
             path: Vec::new(alloc),
             losses: Vec::new(alloc),
-            spare: Vec::new(alloc),
+            loss_path: Vec::new(alloc),
         })
     }
 
@@ -141,7 +141,7 @@ impl<'a> Steps<'a> {
         self.open.clear();
         self.open.push_reserved(OpenPage {
             content,
-            level: 0,
+            path_len: 0,
             count: content.count(),
             next: 0,
         });
@@ -152,17 +152,17 @@ impl<'a> Steps<'a> {
 
     /// Records the loss of what was ahead, with this finding. There is room for it.
     fn lose(&mut self, finding: Finding, ahead: &NextVisit<'a>)
-        requires within { ahead.now.level ≤ length self.old.path.items }
+        requires within { ahead.now.path_len ≤ length self.old.path.items }
         requires losses { vec_len self.old.losses < vec_capacity self.old.losses }
-        requires empty { vec_len self.old.spare ≡ 0 }
-        requires spare { ahead.now.level ≤ vec_capacity self.old.spare }
+        requires empty { vec_len self.old.loss_path ≡ 0 }
+        requires room { ahead.now.path_len ≤ vec_capacity self.old.loss_path }
         ensures claims { self.new.claims ≡ self.old.claims }
         ensures open { self.new.open.items ≡ self.old.open.items }
         ensures ahead { self.new.ahead ≡ None }
         ensures reported { state_of self.new ≡ lost_state (state_of self.old) ahead.now finding }
     {
-        let mut bucket = replace(&mut self.spare, Vec::new(self.alloc));
-        match bucket.extend_from_slice(&self.path.as_slice()[..ahead.level]) {
+        let mut bucket = replace(&mut self.loss_path, Vec::new(self.alloc));
+        match bucket.extend_from_slice(&self.path.as_slice()[..ahead.path_len]) {
             Ok(()) => {}
             Err(_) => unreachable!(),
         }
@@ -184,8 +184,8 @@ impl<'a> Steps<'a> {
         };
         self.open.reserve(1)?;
         self.losses.reserve(1)?;
-        self.spare.clear();
-        self.spare.reserve(ahead.level)?;
+        self.loss_path.clear();
+        self.loss_path.reserve(ahead.path_len)?;
         let content = match Content::visit(&mut self.claims, ahead.spot) {
             Ok(content) => content,
             Err(finding) => {
@@ -195,7 +195,7 @@ impl<'a> Steps<'a> {
         };
         self.open.push_reserved(OpenPage {
             content,
-            level: ahead.level,
+            path_len: ahead.path_len,
             count: content.count(),
             next: 0,
         });
@@ -226,12 +226,12 @@ impl<'a> Steps<'a> {
         });
         let spot = top.content.spot(top.next);
         let Some(leaf) = top.content.leaf(top.next) else {
-            self.ahead = NextVisit::of(spot, top.level);
+            self.ahead = NextVisit::of(spot, top.path_len);
             return Ok(Taken::Nothing);
         };
-        self.path.truncate(top.level);
+        self.path.truncate(top.path_len);
         self.path.push_reserved(leaf.key);
-        self.ahead = NextVisit::of(spot, top.level + 1);
+        self.ahead = NextVisit::of(spot, top.path_len + 1);
         Ok(Taken::Leaf(leaf))
     }
 

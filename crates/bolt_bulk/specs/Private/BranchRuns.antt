@@ -8,7 +8,7 @@ use Rattle.bolt_bulk.specs.declared.branch_run.BranchRun.{BranchRun}
 
 -- the view of a run
 abbrev pub run_view : BranchRun → RunView
-run_view run = record { elements = map branch_view run.elements.items; size = run.size; left = run.left; closed = run.closed }
+run_view run = record { elements = map branch_view run.elements.items; size = run.size; allowed = run.allowed; closed = run.closed }
 
 abbrev pub runs_above : List BranchRun → List RunView
 runs_above runs = map run_view runs
@@ -27,7 +27,7 @@ pub record IsStanding (run : RunView) : Type 0 where
   pub small : run.size ≤ 2147483696
   pub few : length run.elements < 65535
   pub named : length (run_key run.elements) ≤ longest_key
-  pub slack : is_out run.left ≡ true → HasSlack run
+  pub slack : is_out run.allowed ≡ true → HasSlack run
 
 -- A run that has taken one more element than it may stand with still fits a page.
 pub record IsPushed (run : RunView) : Type 0 where
@@ -39,7 +39,7 @@ pub record IsPushed (run : RunView) : Type 0 where
 -- A run takes the element of a page that has closed, and the next page has this first key: the run, what is written, the next number, and
 -- the element of the run's own page if it closes.
 abbrev pub run_taking : ℕ → List ℕ → BranchElement → RunView → RunView
-run_taking page_size key e run = if run_stays page_size (run_push run e) (key_size key) then run_kept page_size (run_push run e) (key_size key) else no_run (one_less run.left) (one_closed run.closed)
+run_taking page_size key e run = if run_stays page_size (run_push run e) (key_size key) then run_kept page_size (run_push run e) (key_size key) else no_run (one_less run.allowed) (one_closed run.closed)
 
 abbrev pub taking_puts : ℕ → List ℕ → BranchElement → ℕ → RunView → List Placed
 taking_puts page_size key e next run = if run_stays page_size (run_push run e) (key_size key) then [] else run_page page_size (run_push run e) next ∷ []

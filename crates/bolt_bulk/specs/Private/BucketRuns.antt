@@ -3,7 +3,7 @@ use Rattle.std.specs.Prelude.{◌≡◌, ℕ, ◌+◌, List, [], ◌∷◌}
 use Rattle.std.specs.List.{AllByRecursion}
 use Rattle.bolt_format.specs.Elements.{BranchElement, LeafElement}
 use Rattle.bolt_layout.specs.{Cut.run_size, Laid.Laid, Laid.elements_of, Laid.size_of}
-use Rattle.bolt_bulk.specs.Private.HeldCounts.{capped}
+use Rattle.bolt_bulk.specs.Private.HeldCounts.{saturated}
 use Rattle.bolt_bulk.specs.Private.OpenRuns.{Open, Upper, key_size, next_number, numbers_in}
 use Rattle.bolt_bulk.specs.Private.RunViews.{RunView, BucketRunsView}
 
@@ -15,8 +15,8 @@ pub record IsUpper (run : RunView) (upper : Upper) (n : ℕ) : Type 0 where
   pub same : run.elements ≡ elements_of upper.run n
   pub size_is : run.size ≡ run_size size_of upper.run
   pub keyed : AllByRecursion IsKeyed upper.run
-  pub left_is : run.left ≡ upper.left
-  pub closed_is : run.closed ≡ capped upper.closed
+  pub allowed_is : run.allowed ≡ upper.allowed
+  pub closed_is : run.closed ≡ saturated upper.closed
 
 abbrev pub AreUppers : List RunView → List Upper → ℕ → Type 0
 AreUppers [] [] b = Unit {0}

@@ -2,9 +2,9 @@
 use Rattle.std.specs.Prelude.{◌≡◌, ◌≤◌, ℕ, suc, List, [], ◌∷◌, ◌++◌, length, Option, map}
 use Rattle.bolt_format.specs.Elements.{BranchElement, LeafElement}
 use Rattle.bolt_layout.specs.{Cut.branch_cut, Cut.cut_from, Items.bucket_item, Items.items_of, Laid.Laid, Laid.size_of}
-use Rattle.bolt_layout.specs.{Levels.branch_page_view, Levels.leaf_page_view, Levels.page_over, Levels.top_of, Limits.HaveRightLimits, Limits.cut_left}
+use Rattle.bolt_layout.specs.{Levels.branch_page_view, Levels.leaf_page_view, Levels.page_over, Levels.top_of, Limits.HaveRightLimits, Limits.cut_within}
 use Rattle.bolt_layout.specs.declared.Layout.{Layout}
-use Rattle.bolt_bulk.specs.Private.OpenRuns.{Frame, Open, Upper, key_size, pushing}
+use Rattle.bolt_bulk.specs.Private.OpenRuns.{BucketFrame, Open, Upper, key_size, pushing}
 use Rattle.bolt_bulk.specs.Private.RowLimits.{bucket_limit}
 
 -- These are all pages of a level. This is the page at the top over them, and the limits give the rows above as the layout has them.
@@ -17,7 +17,7 @@ pub record IsUnder (which : Layout) (page_size : ℕ) (limits : ℕ → Option �
 pub record Stands (which : Layout) (page_size : ℕ) (upper : Upper) (all : List (Laid BranchElement)) (page : Laid BranchElement) (pages : List (Laid BranchElement)) : Type 0 where
   pub runs : List (List (Laid BranchElement))
   pub count : length runs ≡ upper.closed
-  pub cut : branch_cut which page_size size_of all ≡ runs ++ cut_left page_size size_of upper.left (upper.run ++ page ∷ []) pages
+  pub cut : branch_cut which page_size size_of all ≡ runs ++ cut_within page_size size_of upper.allowed (upper.run ++ page ∷ []) pages
   pub some : 2 ≤ length all
 
 abbrev pub Comes : Layout → ℕ → (ℕ → Option ℕ) → List Upper → List (Laid BranchElement) → List (Laid BranchElement) → Laid BranchElement → Type 0
@@ -25,7 +25,7 @@ Comes which page_size limits [] all pages root = (pages ≡ all) × IsUnder whic
 Comes which page_size limits (upper ∷ uppers) all [] root = ⊥
 Comes which page_size limits (upper ∷ uppers) all (page ∷ pages) root = Stands which page_size upper all page pages
     × Comes which page_size (λ k. limits (suc k)) uppers (map (page_over branch_page_view page_size) (branch_cut which page_size size_of all))
-    (map (page_over branch_page_view page_size) (cut_left page_size size_of upper.left (upper.run ++ page ∷ []) pages)) root
+    (map (page_over branch_page_view page_size) (cut_within page_size size_of upper.allowed (upper.run ++ page ∷ []) pages)) root
 
 -- the leaves of an open bucket, with the items that are still to come
 abbrev pub leaves_coming : ℕ → List (Laid LeafElement) → List (Laid LeafElement) → List (Laid BranchElement)
@@ -44,16 +44,16 @@ abbrev pub IsSized : Laid BranchElement → Type 0
 IsSized page = page.size ≡ key_size page.key
 
 -- the item of the bucket within, if it becomes this root page
-abbrev pub held_item : Frame → Laid BranchElement → Laid LeafElement
+abbrev pub held_item : BucketFrame → Laid BranchElement → Laid LeafElement
 held_item frame root = bucket_item frame.key frame.sequence root
 
 -- if the innermost bucket becomes `root`, all of them become `whole`
-abbrev pub IsStack : Layout → ℕ → List Frame → Laid BranchElement → Laid BranchElement → Type 0
+abbrev pub IsStack : Layout → ℕ → List BucketFrame → Laid BranchElement → Laid BranchElement → Type 0
 IsStack which page_size [] root whole = root ≡ whole
 IsStack which page_size (frame ∷ frames) root whole = (outer : Laid BranchElement)
     × IsOpen which page_size (pushing frame.state (held_item frame root)) (items_of which page_size frame.after) outer × IsStack which page_size frames outer whole
 
-pub record IsPass (which : Layout) (page_size : ℕ) (frames : List Frame) (state : Open) (items : List (Laid LeafElement)) (whole : Laid BranchElement) : Type 0 where
+pub record IsPass (which : Layout) (page_size : ℕ) (frames : List BucketFrame) (state : Open) (items : List (Laid LeafElement)) (whole : Laid BranchElement) : Type 0 where
   pub root : Laid BranchElement
   pub current : IsOpen which page_size state items root
   pub begun : HasBegun state

@@ -5,7 +5,7 @@ use Rattle.bolt_format.specs.{ElementLengths.IsValueLength, Sinks.AppendsProperP
 use Rattle.bolt_tree.specs.{Entries.Bucket, Entries.Item, Entries.Value, Listing.Member, Paths.Path}
 use Rattle.bolt_layout.specs.{Laid.Placed, Layout.layout_held, Layout.layout_mark, Layout.layout_pages, Layout.layout_root, Layout.placed_bytes}
 use Rattle.bolt_layout.specs.declared.Layout.TheVariants.{Balanced, Plain}
-use Rattle.bolt_bulk.specs.{Private.FormatLimits.longest_key, Private.HeldCounts.capped}
+use Rattle.bolt_bulk.specs.{Private.FormatLimits.longest_key, Private.HeldCounts.saturated}
 use Rattle.bolt_bulk.specs.{Private.Passes.FitLimits, Private.Passes.Wanted, Private.Passes.limits_with, declared.page_setup.PageSetup.PageSetup}
 use Rattle.bolt_bulk.specs.declared.fault.BulkFault.{BulkFault}
 use Rattle.bolt_bulk.specs.declared.fault.BulkFault.TheVariants as fault
@@ -17,10 +17,10 @@ use Rattle.bolt_format.specs.{Wrote.Wrote, declared.sink.Sink.Ghosts}
 pub record Returns (wanted : Wanted) (setup : PageSetup) (result : Result Ended BulkFault) : Type 0 where
   pub root : IfOk result (λ ended. ended.root ≡ layout_root wanted.which setup.page_size wanted.tree)
   pub mark : IfOk result (λ ended. ended.high_water ≡ layout_mark wanted.which setup.page_size wanted.tree)
-  pub within : IfOk result (λ ended. ended.high_water ≤ setup.limit)
+  pub within : IfOk result (λ ended. ended.high_water ≤ setup.highest_mark)
   pub noted : IfOk result (λ ended. wanted.notes ≡ true → wanted.which ≡ Plain → FitLimits Balanced wanted.tree setup.page_size (limits_with ended.noted))
-  pub held : IfOk result (λ ended. ended.held ≡ capped (layout_held wanted.which setup.page_size wanted.tree))
-  pub large : IfErr result (λ e. e ≡ fault.TooLarge → setup.limit < layout_mark wanted.which setup.page_size wanted.tree)
+  pub held : IfOk result (λ ended. ended.held ≡ saturated (layout_held wanted.which setup.page_size wanted.tree))
+  pub large : IfErr result (λ e. e ≡ fault.TooLarge → setup.highest_mark < layout_mark wanted.which setup.page_size wanted.tree)
 
 -- The pages `put` were written earlier. The others of the layout are written, or a proper prefix of their bytes.
 pub record Ends {S : Type 0} (wanted : Wanted) (sink : Ghosts S) (old new : S) (setup : PageSetup) (put : List Placed) (result : Result Ended BulkFault) : Type 0 where

@@ -2,7 +2,7 @@
 -- of a pass are the runs of each waiting bucket, and of the open one.
 use Rattle.std.specs.Prelude.{◌≡◌, ℕ, ◌+◌, List, [], ◌∷◌, length, max, min, sum_by}
 use Rattle.bolt_bulk.specs.{declared.branch_run.BranchRun.BranchRun, declared.bucket_runs.BucketRuns.BucketRuns, declared.pass.Pass.Pass}
-use Rattle.bolt_bulk.specs.declared.pass.WaitingBucket.{WaitingBucket}
+use Rattle.bolt_bulk.specs.declared.waiting_bucket.WaitingBucket.{WaitingBucket}
 
 abbrev pub items_above : List BranchRun → ℕ
 items_above uppers = sum_by (λ run. length run.elements.items) uppers
@@ -18,15 +18,15 @@ abbrev pub items_by : Pass → ℕ
 items_by pass = items_around pass.waiting.items + items_in pass.bucket
 
 -- the code's count, which saturates
-abbrev pub capped : ℕ → ℕ
-capped n = min n 18446744073709551615
+abbrev pub saturated : ℕ → ℕ
+saturated n = min n 18446744073709551615
 
 -- the code knows of each waiting bucket how many items the buckets around it hold; the outermost comes first, with `before` around it
 abbrev pub AreCounted : ℕ → List WaitingBucket → Type 0
 AreCounted before [] = Unit {0}
-AreCounted before (waiting ∷ others) = (waiting.around ≡ capped before) × AreCounted (before + items_in waiting.bucket) others
+AreCounted before (waiting ∷ others) = (waiting.around ≡ saturated before) × AreCounted (before + items_in waiting.bucket) others
 
 -- what a pass holds now is counted, and nothing else of it changes
 pub record Counts (old new : Pass) : Type 0 where
-  pub most : new.most ≡ max old.most (capped (items_by old))
+  pub most : new.most ≡ max old.most (saturated (items_by old))
   pub rest : new ≡ record old { most = new.most }

@@ -2,7 +2,7 @@
 -- does on the page that the run becomes (`held_in` of bolt_layout); `inner` is the number for the page under way further in.
 use Rattle.std.specs.Prelude.{ℕ, ◌+◌, max, List, [], ◌∷◌, length}
 use Rattle.bolt_layout.specs.Laid.{Laid}
-use Rattle.bolt_bulk.specs.Private.OpenRuns.{Frame, Open, Upper}
+use Rattle.bolt_bulk.specs.Private.OpenRuns.{BucketFrame, Open, Upper}
 
 -- the items of a run are held while `inner` items at the most are held further in
 abbrev pub held_on : {E : Type 0} → List (Laid E) → (inner : ℕ) → ℕ
@@ -18,11 +18,11 @@ abbrev pub held_open : Open → (inner : ℕ) → ℕ
 held_open state inner = held_over state.uppers (held_on state.run inner)
 
 -- the buckets that wait, the innermost first
-abbrev pub held_frames : List Frame → (inner : ℕ) → ℕ
+abbrev pub held_frames : List BucketFrame → (inner : ℕ) → ℕ
 held_frames [] inner = inner
 held_frames (frame ∷ frames) inner = held_frames frames (held_open frame.state inner)
 
-abbrev pub held_so_far : List Frame → Open → ℕ
+abbrev pub held_so_far : List BucketFrame → Open → ℕ
 held_so_far frames state = held_frames frames (held_open state 0)
 
 -- and how many are held now
@@ -33,6 +33,6 @@ length_over (upper ∷ uppers) = length_over uppers + length upper.run
 abbrev pub length_open : Open → ℕ
 length_open state = length_over state.uppers + length state.run
 
-abbrev pub length_frames : List Frame → ℕ
+abbrev pub length_frames : List BucketFrame → ℕ
 length_frames [] = 0
 length_frames (frame ∷ frames) = length_frames frames + length_open frame.state

@@ -20,22 +20,22 @@ key_size key = 16 + length key
 -- A run of pages above, how many runs may still begin in its row (None if any number may), and how many runs of the row have closed.
 pub record Upper : Type 0 where
   pub run : List (Laid BranchElement)
-  pub left : Option ℕ
+  pub allowed : Option ℕ
   pub closed : ℕ
 
 -- A page of the run has closed, and one with an item of this size comes next. The run stays open for that one if it has room, or if no
 -- run may begin in its row: then that one is the last of the row, or any further run may begin.
 abbrev pub stays_open : ℕ → Upper → ℕ → Bool
-stays_open page_size upper size = has_room page_size 2 upper.run size || is_out upper.left
+stays_open page_size upper size = has_room page_size 2 upper.run size || is_out upper.allowed
 
 abbrev pub pushed_on : Upper → Laid BranchElement → Upper
-pushed_on upper q = record { run = upper.run ++ q ∷ []; left = upper.left; closed = upper.closed }
+pushed_on upper q = record { run = upper.run ++ q ∷ []; allowed = upper.allowed; closed = upper.closed }
 
 abbrev pub kept : ℕ → Upper → ℕ → Upper
-kept page_size upper size = record { run = upper.run; left = if has_room page_size 2 upper.run size then upper.left else None; closed = upper.closed }
+kept page_size upper size = record { run = upper.run; allowed = if has_room page_size 2 upper.run size then upper.allowed else None; closed = upper.closed }
 
 abbrev pub begun_after : Upper → Upper
-begun_after upper = record { run = []; left = one_less upper.left; closed = suc upper.closed }
+begun_after upper = record { run = []; allowed = one_less upper.allowed; closed = suc upper.closed }
 
 -- what an open run says of its row at the bucket's end, when it takes the page that is under way: how many runs the row has, and how many
 -- items the last one has
@@ -53,7 +53,7 @@ numbers_in uppers = numbers_of (put_in uppers)
 -- A page q has closed, and the next page has this first key. Each upper run takes the page that closed below it, and closes if the next page
 -- doesn't join it. A new run at the top has the first page of its row; after it `new` runs may begin there, or any number if that is None.
 abbrev pub climb : ℕ → (new : Option ℕ) → List ℕ → Laid BranchElement → List Upper → List Upper
-climb page_size new key q [] = record { run = q ∷ []; left = new; closed = 0 } ∷ []
+climb page_size new key q [] = record { run = q ∷ []; allowed = new; closed = 0 } ∷ []
 climb page_size new key q (upper ∷ uppers) =
     let stays = kept page_size (pushed_on upper q) (key_size key) ∷ uppers in
     let closes = begun_after upper ∷ climb page_size new key (page_over branch_page_view page_size (upper.run ++ q ∷ [])) uppers in
@@ -133,21 +133,21 @@ end_puts page_size state number =
     own_page leaf_page_view page_size state.run (number + numbers_in state.uppers) ∷ close_puts page_size (page_over leaf_page_view page_size state.run) state.uppers number
 
 -- A bucket that waits for one within it, of this key and sequence; what comes after that one; and its state, which has room for it.
-pub record Frame : Type 0 where
+pub record BucketFrame : Type 0 where
   pub state : Open
   pub key : List ℕ
   pub sequence : ℕ
   pub after : Tree
 
 -- the buckets that wait, the innermost first: where the pages of the bucket within them begin, and the pages that they have written
-abbrev pub base_in : List Frame → ℕ
+abbrev pub base_in : List BucketFrame → ℕ
 base_in [] = first_page
 base_in (frame ∷ frames) = next_number frame.state (base_in frames)
 
-abbrev pub frames_put : List Frame → List Placed
+abbrev pub frames_put : List BucketFrame → List Placed
 frames_put [] = []
 frames_put (frame ∷ frames) = frames_put frames ++ pages_put frame.state (base_in frames)
 
 -- all pages that were written
-abbrev pub all_put : List Frame → Open → List Placed
+abbrev pub all_put : List BucketFrame → Open → List Placed
 all_put frames state = frames_put frames ++ pages_put state (base_in frames)

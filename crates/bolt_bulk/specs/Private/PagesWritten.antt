@@ -14,19 +14,19 @@ Puts sink old new setup pages result = Wrote sink old new (placed_bytes setup.pa
 abbrev pub LeavesOut : {S A : Type 0} → Ghosts S → (old new : S) → PageSetup → List Placed → Result A BulkFault → Type 0
 LeavesOut sink old new setup pages result = OnErr result (AppendsProperPrefix (sink.taken old) (sink.taken new) (placed_bytes setup.page_size pages))
 
--- TooLarge is returned only if the mark after these pages is above the limit
+-- TooLarge is returned only if the mark after these pages is above the highest one
 abbrev pub OnlyAbove : {A : Type 0} → PageSetup → (mark : ℕ) → Result A BulkFault → Type 0
-OnlyAbove setup mark result = IfErr result (λ e. e ≡ fault.TooLarge → setup.limit < mark)
+OnlyAbove setup mark result = IfErr result (λ e. e ≡ fault.TooLarge → setup.highest_mark < mark)
 
 -- the bytes of one page
 abbrev pub page_text : PageSetup → Placed → List ℕ
 page_text setup page = placed_bytes setup.page_size (page ∷ [])
 
 module _ {S A : Type 0} (sink : Ghosts S) (old new : S) (setup : PageSetup) (row : List Placed) (mark next : ℕ) (result : Result A BulkFault) where
-  -- A call writes pages up to this mark. `next` is the number of the next page then, which is within the limit.
+  -- A call writes pages up to this mark. `next` is the number of the next page then, which is at most the highest mark.
   pub record Writes : Type 0 where
     pub pages : Puts sink old new setup row result
-    pub within : OnOk result (next ≤ setup.limit)
+    pub within : OnOk result (next ≤ setup.highest_mark)
     pub large : OnlyAbove setup mark result
 
   -- Open runs close, which writes these pages. If the call fails, it leaves some of their bytes out.

@@ -8,15 +8,15 @@ use Rattle.bolt_layout.specs.{Layout.layout_mark, Layout.layout_pages, Layout.pl
 use Rattle.bolt_layout.specs.Openings.{AreRight, leaf_pages, limits_for, opened_by, opened_in, row_ends_of}
 use Rattle.bolt_layout.specs.declared.Layout.TheVariants.{Plain}
 use Rattle.bolt_bulk.specs.{declared.limits.Limits.Limits, Private.FormatLimits.longest_key, Private.Coming.IsPass, Private.RowLimits.limit_in}
-use Rattle.bolt_bulk.specs.{Private.HeldCounts.AreCounted, Private.HeldCounts.capped, Private.HeldCounts.items_around, Private.HeldSoFar.held_so_far}
-use Rattle.bolt_bulk.specs.{Private.Levels.Level, Private.Levels.left_in, Private.OpenBuckets.IsOpenBucket, Private.OpenBuckets.bucket_runs}
+use Rattle.bolt_bulk.specs.{Private.HeldCounts.AreCounted, Private.HeldCounts.saturated, Private.HeldCounts.items_around, Private.HeldSoFar.held_so_far}
+use Rattle.bolt_bulk.specs.{Private.Parents.Parent, Private.Parents.left_in, Private.OpenBuckets.IsOpenBucket, Private.OpenBuckets.bucket_runs}
 use Rattle.bolt_bulk.specs.Private.BucketRuns.{AreOpenRuns}
-use Rattle.bolt_bulk.specs.Private.OpenRuns.{Frame, Known, Open, all_put, base_in}
+use Rattle.bolt_bulk.specs.Private.OpenRuns.{BucketFrame, Known, Open, all_put, base_in}
 use Rattle.bolt_bulk.specs.{Private.RunViews.BucketRunsView, Private.TakenItems.entries_size, Private.WaitingBuckets.IsWaiting}
 use Rattle.bolt_bulk.specs.{declared.page_setup.PageSetup.PageSetup, declared.fault.BulkFault.BulkFault}
 use Rattle.bolt_bulk.specs.declared.fault.BulkFault.TheVariants as fault
-use Rattle.bolt_bulk.specs.{declared.pass.Pass.Pass, declared.pass.PendingBucket.PendingBucket, declared.pass.WaitingBucket.WaitingBucket}
-use Rattle.bolt_bulk.specs.{declared.limits.NotedLimits.NotedLimits, BulkEndings.bulk_ending}
+use Rattle.bolt_bulk.specs.{declared.pass.Pass.Pass, declared.pending_bucket.PendingBucket.PendingBucket, declared.waiting_bucket.WaitingBucket.WaitingBucket}
+use Rattle.bolt_bulk.specs.{declared.noted_limits.NotedLimits.NotedLimits, BulkEndings.bulk_ending}
 use Rattle.bolt_layout.specs.declared.Layout.{Layout}
 use Rattle.bolt_format.specs.{Wrote.Wrote, declared.sink.Sink.Ghosts}
 
@@ -25,11 +25,11 @@ abbrev pub onto : List LeafElement → Tree → Tree
 onto [] tree = tree
 onto (e ∷ entries) tree = with_value e.key e.value (onto entries tree)
 
-abbrev pub level_of : Frame → Level
-level_of frame = record { key = frame.key; after = frame.after }
+abbrev pub parent_of : BucketFrame → Parent
+parent_of frame = record { key = frame.key; after = frame.after }
 
 -- the waiting buckets of the code, the innermost first, are the frames
-abbrev pub AreWaiting : List WaitingBucket → List Frame → Type 0
+abbrev pub AreWaiting : List WaitingBucket → List BucketFrame → Type 0
 AreWaiting [] [] = Unit {0}
 AreWaiting [] (frame ∷ frames) = ⊥
 AreWaiting (waiting ∷ others) [] = ⊥
@@ -37,11 +37,11 @@ AreWaiting (waiting ∷ others) (frame ∷ frames) =
     AreOpenRuns (bucket_runs waiting.bucket (base_in (frame ∷ frames))) frame.state (base_in frames)
     × (waiting.key.now ≡ frame.key) × (waiting.sequence ≡ frame.sequence) × AreWaiting others frames
 
--- A bucket that may be inline is the next entry of the open one: it is entered as a level, but not opened yet.
-abbrev pub IsPending : Option PendingBucket → List Leaf → (outer : List Level) → (rest : Tree) → (levels : List Level) → (left : Tree) → Type 0
-IsPending None entries outer rest levels left = (levels ≡ outer) × (rest ≡ left)
-IsPending (Some pending) entries outer rest levels left = (after : Tree)
-    × (levels ≡ record { key = pending.key.now; after = after } ∷ outer)
+-- A bucket that may be inline is the next entry of the open one: it is entered, but not opened yet.
+abbrev pub IsPending : Option PendingBucket → List Leaf → (outer : List Parent) → (rest : Tree) → (parents : List Parent) → (left : Tree) → Type 0
+IsPending None entries outer rest parents left = (parents ≡ outer) × (rest ≡ left)
+IsPending (Some pending) entries outer rest parents left = (after : Tree)
+    × (parents ≡ record { key = pending.key.now; after = after } ∷ outer)
     × (rest ≡ with_bucket pending.key.now pending.sequence (onto (map leaf_view entries) left) after)
 
 -- what is asked of a pass: the layout of a tree, and whether it notes the limits of its rows
@@ -52,7 +52,7 @@ pub record Wanted : Type 0 where
 
 -- the limits of a bucket's rows, as a pass looks them up by the bucket's number
 abbrev pub limits_with : Limits → (bucket level : ℕ) → Option ℕ
-limits_with limits bucket level = limit_in limits (capped bucket) level
+limits_with limits bucket level = limit_in limits (saturated bucket) level
 
 abbrev pub limits_by : Pass → (bucket level : ℕ) → Option ℕ
 limits_by pass = limits_with pass.limits.now
@@ -81,19 +81,19 @@ AreComing wanted page_size limits n (with_bucket key sequence inside after) =
     × AreComing wanted page_size limits (n + opened_by wanted.which page_size inside) after
 
 -- and of those after the waiting buckets, up to the last of all
-abbrev pub AreComingAround : (wanted : Wanted) → (page_size : ℕ) → (limits : ℕ → ℕ → Option ℕ) → (n : ℕ) → List Frame → Type 0
+abbrev pub AreComingAround : (wanted : Wanted) → (page_size : ℕ) → (limits : ℕ → ℕ → Option ℕ) → (n : ℕ) → List BucketFrame → Type 0
 AreComingAround wanted page_size limits n [] = n ≡ suc (opened_in wanted.which page_size wanted.tree)
 AreComingAround wanted page_size limits n (frame ∷ frames) =
     AreComing wanted page_size limits n frame.after × AreComingAround wanted page_size limits (n + opened_in wanted.which page_size frame.after) frames
 
-pub record IsToCome (wanted : Wanted) (page_size : ℕ) (limits : ℕ → ℕ → Option ℕ) (n : ℕ) (left : Tree) (frames : List Frame) : Type 0 where
+pub record IsToCome (wanted : Wanted) (page_size : ℕ) (limits : ℕ → ℕ → Option ℕ) (n : ℕ) (left : Tree) (frames : List BucketFrame) : Type 0 where
   pub inside : AreComing wanted page_size limits n left
   pub around : AreComingAround wanted page_size limits (n + opened_in wanted.which page_size left) frames
 
 -- The open buckets, the innermost first, each have a lower number than the one before it.
 pub record IsNumbered (wanted : Wanted) (page_size below : ℕ) (known : Known) : Type 0 where
   pub earlier : known.number < below
-  pub number_is : known.limits.bucket ≡ capped known.number
+  pub number_is : known.limits.bucket ≡ saturated known.number
   pub notes : Notes wanted page_size known.number known.leaves
 
 abbrev pub AreNumbered : (wanted : Wanted) → (page_size below : ℕ) → List Known → Type 0
@@ -114,26 +114,26 @@ pub record HasNoted (wanted : Wanted) (page_size : ℕ) (noted : NotedLimits) (o
   pub table : wanted.notes ≡ true → wanted.which ≡ Plain → layout_mark wanted.which page_size wanted.tree ≤ 18446744073709551615
       → IsTable page_size wanted.tree noted.limits opened buckets
 
-abbrev pub open_in : Open → List Frame → List Known
-open_in state frames = state.known ∷ map (λ (frame : Frame). frame.state.known) frames
+abbrev pub open_in : Open → List BucketFrame → List Known
+open_in state frames = state.known ∷ map (λ (frame : BucketFrame). frame.state.known) frames
 
 -- Where the pass is in the layout.
-pub record IsOn (which : Layout) (page_size : ℕ) (tree : Tree) (frames : List Frame) (state : Open) (items : List (Laid LeafElement)) (runs : BucketRunsView) (put : List Placed) : Type 0 where
+pub record IsOn (which : Layout) (page_size : ℕ) (tree : Tree) (frames : List BucketFrame) (state : Open) (items : List (Laid LeafElement)) (runs : BucketRunsView) (put : List Placed) : Type 0 where
   pub under : IsPass which page_size frames state items (root_of which page_size tree)
   pub kept : AreOpenRuns runs state (base_in frames)
   pub put_is : put ≡ all_put frames state
 
 -- The pass has written these pages, and these entries of the innermost bucket are left.
-pub record IsAt (wanted : Wanted) (pass : Pass) (levels : List Level) (left : Tree) (put : List Placed) : Type 0 where
-  pub frames : List Frame
+pub record IsAt (wanted : Wanted) (pass : Pass) (parents : List Parent) (left : Tree) (put : List Placed) : Type 0 where
+  pub frames : List BucketFrame
   pub state : Open
   pub rest : Tree
   pub on : IsOn wanted.which pass.setup.page_size wanted.tree frames state (items_of wanted.which pass.setup.page_size rest) (bucket_runs pass.bucket pass.next) put
   pub waits : AreWaiting (reverse pass.waiting.items) frames
-  pub pends : IsPending pass.pending pass.entries.items (map level_of frames) rest levels left
-  pub held : pass.most ≡ capped (held_so_far frames state)
+  pub pends : IsPending pass.pending pass.entries.items (map parent_of frames) rest parents left
+  pub held : pass.most ≡ saturated (held_so_far frames state)
   pub opened : ℕ
-  pub opened_is : pass.opened ≡ capped opened
+  pub opened_is : pass.opened ≡ saturated opened
   pub coming : IsToCome wanted pass.setup.page_size (limits_by pass) opened rest frames
   pub noted : HasNoted wanted pass.setup.page_size pass.noted opened (open_in state frames)
 
@@ -152,11 +152,11 @@ IsPendingSmall page_size (Some pending) entries = IsSmall page_size pending entr
 
 pub record IsReady (pass : Pass) : Type 0 where
   pub bucket : IsOpenBucket pass.bucket
-  pub next : pass.next ≤ pass.setup.limit
+  pub next : pass.next ≤ pass.setup.highest_mark
   pub waiting : AllByRecursion (IsWaiting pass.setup.page_size) pass.waiting.items
   pub pending : IsPendingSmall pass.setup.page_size pass.pending pass.entries.items
   pub counted : AreCounted 0 pass.waiting.items
-  pub around : pass.around ≡ capped (items_around pass.waiting.items)
+  pub around : pass.around ≡ saturated (items_around pass.waiting.items)
 
 -- how many buckets are around what is left
 abbrev pub pending_depth : Option PendingBucket → ℕ
@@ -183,7 +183,7 @@ pub record Steps {S A : Type 0} (wanted : Wanted) (sink : Ghosts S) (old new : S
   pub puts : Wrote sink old new (placed_bytes setup.page_size more) (bulk_ending result)
   pub at : OnOk result (At (put ++ more))
   pub before : StandsBefore (put ++ more) (layout_pages wanted.which setup.page_size wanted.tree)
-  pub large : IfErr result (λ e. e ≡ fault.TooLarge → setup.limit < layout_mark wanted.which setup.page_size wanted.tree)
+  pub large : IfErr result (λ e. e ≡ fault.TooLarge → setup.highest_mark < layout_mark wanted.which setup.page_size wanted.tree)
 
 -- no path of the next member is longer
 abbrev pub IsNoDeeper : ℕ → List Member → Type 0
@@ -192,10 +192,10 @@ IsNoDeeper depth (member ∷ members) = length member.0 ≤ depth
 
 -- the pass is where these members are left
 pub record HasLeft (wanted : Wanted) (pass : Pass) (members : List Member) (put : List Placed) : Type 0 where
-  pub levels : List Level
+  pub parents : List Parent
   pub left : Tree
-  pub at : IsAt wanted pass levels left put
-  pub members_are : left_in levels left ≡ members
+  pub at : IsAt wanted pass parents left put
+  pub members_are : left_in parents left ≡ members
 
 -- a pass goes on with the same setup, in at most this many buckets
 pub record GoesOn (before after : Pass) (depth : ℕ) : Type 0 where

@@ -11,8 +11,8 @@ use Rattle.bolt_bulk.specs.Private.RunViews.{runs_next, runs_push, runs_put, run
 use Rattle.bolt_bulk.specs.Private.TakenItems.{element_size, root_element, root_size, runs_taking}
 use Rattle.bolt_bulk.specs.{declared.branch_run.BranchRun.BranchRun, declared.bucket_runs.BucketRuns.BucketRuns, declared.fault.BulkFault.BulkFault}
 use Rattle.bolt_bulk.specs.declared.page_setup.PageSetup.{PageSetup}
-use Rattle.bolt_bulk.specs.{declared.upper_runs.UpperRuns.UpperRuns, declared.pass.PendingBucket.PendingBucket}
-use Rattle.bolt_bulk.specs.declared.pass.WaitingBucket.{WaitingBucket}
+use Rattle.bolt_bulk.specs.{declared.upper_runs.UpperRuns.UpperRuns, declared.pending_bucket.PendingBucket.PendingBucket}
+use Rattle.bolt_bulk.specs.declared.waiting_bucket.WaitingBucket.{WaitingBucket}
 
 -- a bucket has one item more, whatever the numbers of its pages are
 abbrev pub Pushes : (before after : BucketRuns) → LeafElement → (size : ℕ) → Type 0

@@ -8,28 +8,28 @@ use Rattle.bolt_bulk.specs.{Private.OpenRuns.key_size, Private.RowLimits.bucket_
 pub record RunView : Type 0 where
   pub elements : List BranchElement
   pub size : ℕ
-  pub left : Option ℕ
+  pub allowed : Option ℕ
   pub closed : ℕ
 
-abbrev pub no_run : (left : Option ℕ) → (closed : ℕ) → RunView
-no_run left closed = record { elements = []; size = 16; left = left; closed = closed }
+abbrev pub no_run : (allowed : Option ℕ) → (closed : ℕ) → RunView
+no_run allowed closed = record { elements = []; size = 16; allowed = allowed; closed = closed }
 
 -- one more run of a row has closed; the count saturates at 2^64 - 1
 abbrev pub one_closed : ℕ → ℕ
 one_closed closed = min (closed + 1) 18446744073709551615
 
 abbrev pub run_push : RunView → BranchElement → RunView
-run_push run e = record { elements = run.elements ++ e ∷ []; size = run.size + key_size e.key; left = run.left; closed = run.closed }
+run_push run e = record { elements = run.elements ++ e ∷ []; size = run.size + key_size e.key; allowed = run.allowed; closed = run.closed }
 
 abbrev pub run_has_room : ℕ → RunView → ℕ → Bool
 run_has_room page_size run size = nat_lt (length run.elements) 2 || (nat_le (run.size + size) page_size && nat_lt (length run.elements) max_items)
 
 -- whether it stays open for the page that comes next, and as what
 abbrev pub run_stays : ℕ → RunView → ℕ → Bool
-run_stays page_size run size = run_has_room page_size run size || is_out run.left
+run_stays page_size run size = run_has_room page_size run size || is_out run.allowed
 
 abbrev pub run_kept : ℕ → RunView → ℕ → RunView
-run_kept page_size run size = record { elements = run.elements; size = run.size; left = if run_has_room page_size run size then run.left else None; closed = run.closed }
+run_kept page_size run size = record { elements = run.elements; size = run.size; allowed = if run_has_room page_size run size then run.allowed else None; closed = run.closed }
 
 abbrev pub run_key : List BranchElement → List ℕ
 run_key [] = []
@@ -43,7 +43,7 @@ run_page page_size run next = record { number = next; view = branch_page_view (o
 abbrev pub runs_climb : ℕ → (new : Option ℕ) → List ℕ → BranchElement → ℕ → List RunView → List RunView
 runs_climb page_size new key e next [] = run_push (no_run new 0) e ∷ []
 runs_climb page_size new key e next (run ∷ runs) =
-    let closes = no_run (one_less run.left) (one_closed run.closed) ∷ runs_climb page_size new key (record { key = run_key (run_push run e).elements; child = next }) (next + (1 + overflow_of page_size (run_push run e).size)) runs in
+    let closes = no_run (one_less run.allowed) (one_closed run.closed) ∷ runs_climb page_size new key (record { key = run_key (run_push run e).elements; child = next }) (next + (1 + overflow_of page_size (run_push run e).size)) runs in
     let stays = run_kept page_size (run_push run e) (key_size key) ∷ runs in
     if run_stays page_size (run_push run e) (key_size key) then stays else closes
 

@@ -1,7 +1,7 @@
 -- The buckets that wait while one within them is open, as the code keeps them.
 use Rattle.std.specs.Prelude.{◌≡◌, ◌≤◌, ◌+◌, ℕ, true, length}
 use Rattle.bolt_bulk.specs.{Private.FormatLimits.longest_key, Private.OpenBuckets.IsOpenBucket, Private.OpenBuckets.leaves_of}
-use Rattle.bolt_bulk.specs.{Private.RunViews.leaves_have_room, declared.pass.WaitingBucket.WaitingBucket}
+use Rattle.bolt_bulk.specs.{Private.RunViews.leaves_have_room, declared.waiting_bucket.WaitingBucket.WaitingBucket}
 
 -- it has room for the bucket that it waits for
 pub record IsWaiting (page_size : ℕ) (waiting : WaitingBucket) : Type 0 where

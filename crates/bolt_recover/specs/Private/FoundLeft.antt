@@ -4,7 +4,7 @@ use Rattle.bolt_check.specs.Keys.{Key}
 use Rattle.bolt_format.specs.{Elements.LeafElement, Shown.shown}
 use Rattle.bolt_tree.specs.{Entries.Bucket, Entries.Item, Listing.Member, Paths.Path, Paths.path_of, Tree.end, Tree.listing_below}
 use Rattle.bolt_recover.specs.{Joined.found_tree, Joined.inside_of, Joined.lost_and_found, Joined.tree_with, Private.ElementsLeft.elements_of}
-use Rattle.bolt_recover.specs.{declared.Found.Found, declared.joined_parts.FoundMembers.FoundMembers}
+use Rattle.bolt_recover.specs.{declared.found.Found.Found, declared.joined_parts.FoundMembers.FoundMembers}
 
 -- found pages of the code with their elements
 abbrev pub pages_of : List Found → List (ℕ × List LeafElement)

@@ -9,8 +9,8 @@ use Rattle.bolt_check.specs.{ShownNodes.shown_node, ShownSpots.inline_keys, Show
 use Rattle.bolt_check.specs.{declared.claims.Claims.Claims, declared.fault.Finding.Finding, declared.visit.Spot.Spot as CodeSpot}
 use Rattle.bolt_check.specs.declared.visit.Spot.TheVariants as spots
 use Rattle.bolt_tree.specs.{Entries.item_of, Listing.Member, Paths.Path, Paths.path_of, RestAfter.rest_after}
-use Rattle.bolt_recover.specs.{Losses.LossView, Losses.loss_of, Places.Place, Places.leaves_of, Places.step_place}
-use Rattle.bolt_recover.specs.Private.Runs.{Outcome, Runs, RunsAll, Task, To_visit, Visited, Way, after_visits, claimed_after, further, outcome_of, tasks_from}
+use Rattle.bolt_recover.specs.{Losses.LossView, Losses.loss_of, Sites.Site, Sites.leaves_of, Sites.step_site}
+use Rattle.bolt_recover.specs.Private.Courses.{Outcome, Course, WholeCourse, Task, To_visit, Visited, Way, after_visits, claimed_after, further, outcome_of, tasks_from}
 use Rattle.bolt_recover.specs.{ShownLosses.loss_view, declared.content.Content.Content}
 use Rattle.bolt_recover.specs.{declared.content.Content.TheVariants.Bucket, declared.content.Content.TheVariants.Page, declared.content.OpenPage.OpenPage}
 use Rattle.bolt_recover.specs.{declared.steps.NextVisit.NextVisit, declared.steps.Steps.Steps, declared.steps.Taken.Taken}
@@ -31,10 +31,10 @@ abbrev pub spot_elements : List ℕ → Meta → CodeSpot → List LeafElement
 spot_elements file meta (spots.Page s) = leaves_of (page_at file meta s.number)
 spot_elements file meta (spots.Bucket s) = shown_inline s.page
 
-abbrev pub spot_place : List ℕ → Meta → Path → CodeSpot → Place
-spot_place file meta path s = record { spot = spot_at s; path = path; elements = spot_elements file meta s }
+abbrev pub spot_site : List ℕ → Meta → Path → CodeSpot → Site
+spot_site file meta path s = record { spot = spot_at s; path = path; elements = spot_elements file meta s }
 
--- an open page as a place
+-- an open page as a site
 abbrev pub content_spot : Content → Spot
 content_spot (Page page s) = At_page (page_spot s)
 content_spot (Bucket s) = At_inline s.host (inline_keys s.page)
@@ -47,8 +47,8 @@ abbrev pub content_size : Content → ℕ
 content_size (Page page s) = length (shown_node page).entries
 content_size (Bucket s) = length (shown_inline s.page)
 
-abbrev pub content_place : Path → Content → Place
-content_place path content = record { spot = content_spot content; path = path; elements = content_elements content }
+abbrev pub content_site : Path → Content → Site
+content_site path content = record { spot = content_spot content; path = path; elements = content_elements content }
 
 -- the page is the one that the file has under its number, no more than 64 pages deep in its bucket
 abbrev pub IsGoodContent : List ℕ → Meta → Content → Type 0
@@ -65,9 +65,9 @@ step_path path None = path
 step_path path (Some e) = path ++ e.key ∷ []
 
 -- where element i of an open page leads, in whatever bucket that is
-abbrev pub LeadsTo : Content → ℕ → Option CodeSpot → Type 0
-LeadsTo content i to = (file : List ℕ) (meta : Meta) (path : Path) → IsGoodContent file meta content
-    → step_place file meta (content_place path content) i ≡ option_map (spot_place file meta (step_path path (slice_get (content_elements content) i))) to
+abbrev pub ElementLeads : Content → ℕ → Option CodeSpot → Type 0
+ElementLeads content i to = (file : List ℕ) (meta : Meta) (path : Path) → IsGoodContent file meta content
+    → step_site file meta (content_site path content) i ≡ option_map (spot_site file meta (step_path path (slice_get (content_elements content) i))) to
 
 -- the pages that are claimed once a spot is kept
 abbrev pub claims_with : Claims → Spot → ℕ → Bool
@@ -104,7 +104,7 @@ state_of steps = record {
 
 -- what was ahead is lost, with this finding
 abbrev pub lost_state : State → NextVisit → Finding → State
-lost_state s ahead x = record s { ahead = None; losses = s.losses ++ loss_of (spot_place s.file s.meta (take ahead.level s.path) ahead.spot) x ∷ [] }
+lost_state s ahead x = record s { ahead = None; losses = s.losses ++ loss_of (spot_site s.file s.meta (take ahead.path_len s.path) ahead.spot) x ∷ [] }
 
 pub record IsGoodPage (file : List ℕ) (meta : Meta) (page : OpenPage) : Type 0 where
   pub content : IsGoodContent file meta page.content
@@ -112,22 +112,22 @@ pub record IsGoodPage (file : List ℕ) (meta : Meta) (page : OpenPage) : Type 0
   pub fits : page.count < 65536
   pub taken : page.next ≤ page.count
 
--- Good pages from a level on, each as deep as the one before or deeper, up to a level.
+-- Good pages, each in a bucket whose path is as long as that of the one before or longer, from one length to another.
 abbrev pub AreOpen : List ℕ → Meta → (low : ℕ) → List OpenPage → (high : ℕ) → Type 0
 AreOpen file meta low [] high = low ≤ high
-AreOpen file meta low (page ∷ pages) high = (low ≤ page.level) × IsGoodPage file meta page × AreOpen file meta page.level pages high
+AreOpen file meta low (page ∷ pages) high = (low ≤ page.path_len) × IsGoodPage file meta page × AreOpen file meta page.path_len pages high
 
-abbrev pub ahead_level : Option NextVisit → ℕ → ℕ
-ahead_level None high = high
-ahead_level (Some ahead) high = ahead.level
+abbrev pub ahead_path_len : Option NextVisit → ℕ → ℕ
+ahead_path_len None high = high
+ahead_path_len (Some ahead) high = ahead.path_len
 
 pub record HasOpen (s : State) : Type 0 where
-  pub pages : AreOpen s.file s.meta 0 s.pages (ahead_level s.ahead (length s.path))
-  pub within : ahead_level s.ahead (length s.path) ≤ length s.path
+  pub pages : AreOpen s.file s.meta 0 s.pages (ahead_path_len s.ahead (length s.path))
+  pub within : ahead_path_len s.ahead (length s.path) ≤ length s.path
 
 -- what is left of an open page, and of all of them, the innermost first
 abbrev pub page_tasks : List ℕ → Meta → Path → OpenPage → List (Task NoWay)
-page_tasks file meta path page = tasks_from file meta stay tt (content_place (take page.level path) page.content) page.next (page.count - page.next)
+page_tasks file meta path page = tasks_from file meta stay tt (content_site (take page.path_len path) page.content) page.next (page.count - page.next)
 
 abbrev pub open_tasks : List ℕ → Meta → Path → List OpenPage → List (Task NoWay) → List (Task NoWay)
 open_tasks file meta path [] rest = rest
@@ -135,7 +135,7 @@ open_tasks file meta path (page ∷ pages) rest = open_tasks file meta path page
 
 abbrev pub ahead_tasks : List ℕ → Meta → Path → Option NextVisit → List (Task NoWay) → List (Task NoWay)
 ahead_tasks file meta path None rest = rest
-ahead_tasks file meta path (Some ahead) rest = To_visit tt (spot_place file meta (take ahead.level path) ahead.spot) ∷ rest
+ahead_tasks file meta path (Some ahead) rest = To_visit tt (spot_site file meta (take ahead.path_len path) ahead.spot) ∷ rest
 
 abbrev pub state_tasks : State → List (Task NoWay)
 state_tasks s = ahead_tasks s.file s.meta s.path s.ahead (open_tasks s.file s.meta s.path s.pages [])
@@ -146,12 +146,12 @@ tally_of s = record { losses = s.losses; visited = s.visited; claimed = s.claime
 -- these members are left, and what is still to be visited comes to this outcome
 pub record ComesTo (s : State) (members : List Member) (outcome : Outcome) : Type 0 where
   pub visits : List (Visited NoWay)
-  pub run : Runs s.file s.meta stay s.claimed (state_tasks s) visits members
+  pub course : Course s.file s.meta stay s.claimed (state_tasks s) visits members
   pub all : outcome ≡ after_visits (node_at s.file s.meta) (tally_of s) visits
 
--- Of each run over a file this part of the members is left, if so many visits were made before.
+-- Of each course over a file this part of the members is left, if so many visits were made before.
 abbrev pub IsLeft : List ℕ → Meta → ℕ → (List Member → List Member) → State → Type 0
-IsLeft file meta begun left s = (visits : List (Visited Way)) (members : List Member) → RunsAll file meta further [] visits members
+IsLeft file meta begun left s = (visits : List (Visited Way)) (members : List Member) → WholeCourse file meta further [] visits members
     → ComesTo s (left members) (outcome_of (node_at file meta) begun visits)
 
 abbrev pub IsAllLeft : List ℕ → Meta → ℕ → State → Type 0
@@ -206,7 +206,7 @@ Takes old new End = Ends old new
 abbrev pub left_by : State → List Member → List Member
 left_by s listing = if is_over s then [] else rest_after s.path listing
 
--- Good steps over a file under this meta, begun after so many visits: what is left of them is what is left of what a run returns, and they come
+-- Good steps over a file under this meta, begun after so many visits: what is left of them is what is left of what a course returns, and they come
 -- to what comes of all its visits.
 pub record IsOn (s : State) (under : Meta) (begun : ℕ) : Type 0 where
   pub meta : s.meta ≡ under

@@ -11,7 +11,7 @@ use Rattle.bolt_recover.specs.{Found.AreFound, Found.numbers_of, Joined.LacksBuc
 use Rattle.bolt_recover.specs.ShownFound.{IsFoundView}
 use Rattle.bolt_recover.specs.Private.FoundLeft.{below_bucket, bucket_left, bucket_members, bucket_path}
 use Rattle.bolt_recover.specs.Private.KeptMembers.{kept_file, kept_left, kept_meta, kept_path, kept_work}
-use Rattle.bolt_recover.specs.{declared.Found.Found, declared.joined.Stage.Stage, declared.joined_parts.FoundMembers.FoundMembers}
+use Rattle.bolt_recover.specs.{declared.found.Found.Found, declared.joined.Stage.Stage, declared.joined_parts.FoundMembers.FoundMembers}
 use Rattle.bolt_recover.specs.declared.joined.Stage.TheVariants.{After, Before, Inside}
 use Rattle.bolt_recover.specs.declared.joined_parts.Kept.{Kept}
 
@@ -25,24 +25,24 @@ abbrev pub put_members : List Member → List Member → List Member
 put_members put [] = put ++ []
 put_members put (m ∷ listing) = if is_lt (first_cmp m.0) then m ∷ put_members put listing else put ++ m ∷ listing
 
-abbrev pub held_members : Path → Option Item → List Member
-held_members path None = []
-held_members path (Some item) = (path, item_view item) ∷ []
+abbrev pub next_kept_members : Path → Option Item → List Member
+next_kept_members path None = []
+next_kept_members path (Some item) = (path, item_view item) ∷ []
 
 -- what is left of the joined listing, if this is the recovered one
 abbrev pub left_at : Stage → Kept → List Found → FoundMembers → Option Item → List Member → List Member
-left_at Before kept found bucket held recovered = put_members (bucket_members found) (kept_left kept recovered)
-left_at Inside kept found bucket held recovered = bucket_left bucket ++ (held_members (kept_path kept) held ++ kept_left kept recovered)
-left_at After kept found bucket held recovered = kept_left kept recovered
+left_at Before kept found bucket next_kept recovered = put_members (bucket_members found) (kept_left kept recovered)
+left_at Inside kept found bucket next_kept recovered = bucket_left bucket ++ (next_kept_members (kept_path kept) next_kept ++ kept_left kept recovered)
+left_at After kept found bucket next_kept recovered = kept_left kept recovered
 
-abbrev pub held_work : Kept → Option Item → ℕ
-held_work kept None = 0
-held_work kept (Some item) = suc (kept_work kept)
+abbrev pub next_kept_work : Kept → Option Item → ℕ
+next_kept_work kept None = 0
+next_kept_work kept (Some item) = suc (kept_work kept)
 
 abbrev pub work_at : Stage → Kept → List Found → FoundMembers → Option Item → ℕ
-work_at Before kept found bucket held = suc (length (below_bucket found) + kept_work kept)
-work_at Inside kept found bucket held = length (bucket_left bucket) + held_work kept held
-work_at After kept found bucket held = kept_work kept
+work_at Before kept found bucket next_kept = suc (length (below_bucket found) + kept_work kept)
+work_at Inside kept found bucket next_kept = length (bucket_left bucket) + next_kept_work kept next_kept
+work_at After kept found bucket next_kept = kept_work kept
 
 abbrev pub path_at : Stage → Kept → FoundMembers → Path
 path_at Before kept bucket = kept_path kept
@@ -65,12 +65,12 @@ pub record AreJoinable (file : List ℕ) (meta : Meta) (found : List Found) : Ty
   pub views : All (IsFoundView file meta) found
   pub apart : found ≢ [] → ForRecovered file meta LacksBucketKey
 
--- if no member is held while the members of the bucket are returned, no recovered one is left
-abbrev pub IsHeldWell : Stage → Kept → Option Item → Type 0
-IsHeldWell Inside kept None = ForRecovered (kept_file kept) (kept_meta kept) (λ listing. kept_left kept listing ≡ [])
-IsHeldWell Inside kept (Some item) = Unit {0}
-IsHeldWell Before kept held = Unit {0}
-IsHeldWell After kept held = Unit {0}
+-- if no recovered member comes after those of the bucket, none is left
+abbrev pub HasNextKept : Stage → Kept → Option Item → Type 0
+HasNextKept Inside kept None = ForRecovered (kept_file kept) (kept_meta kept) (λ listing. kept_left kept listing ≡ [])
+HasNextKept Inside kept (Some item) = Unit {0}
+HasNextKept Before kept next_kept = Unit {0}
+HasNextKept After kept next_kept = Unit {0}
 
 -- the recovered listing in the joined one
 abbrev pub recovered_in : List Found → List Member → List Member

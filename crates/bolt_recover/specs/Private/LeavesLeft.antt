@@ -2,7 +2,7 @@
 use Rattle.std.specs.Prelude.{◌≡◌, ◌<◌, ◌↔◌, ℕ, List, true}
 use Rattle.bolt_check.specs.Leftovers.{is_listed, is_taken, leftovers_file, leftovers_length, leftovers_meta}
 use Rattle.bolt_check.specs.{LoneLeaves.IsListedFree, declared.leftovers.Leftovers.Leftovers}
-use Rattle.bolt_recover.specs.{Found.FoundBelow, Found.numbers_of, declared.Found.Found}
+use Rattle.bolt_recover.specs.{Found.FoundBelow, Found.numbers_of, declared.found.Found.Found}
 
 -- the pages that are listed as free are noted
 abbrev pub NotesFree : Leftovers → Type 0

@@ -25,9 +25,9 @@ returns-in-Err-TooLarge g c = record {
       let ends = c.in-Err-TooLarge.ensures.pages Plain listing lists (fit_plain c.noting_setup_of-setup.result.page_size c.none-none.result (tree_of listing) c.none-none.ensures) in
       let above = ends.returned.large c.in-Err-TooLarge.field-0-is in
       let size = ap (λ (n : ℕ). layout_mark Plain n (tree_of listing)) c.noting_setup_of-setup.ensures.page_size in
-      let limit = c.noting_setup_of-setup.ensures.limit in
+      let mark = c.noting_setup_of-setup.ensures.highest_mark in
       let one = c.requires.one listing lists in
-      balanced_too_large c.args.shape.now.page_size listing _ c.args.shape.now.accepted one (omega arith) (c.a_listing_has_one_layout.ensures.length Balanced listing one);
+      balanced_too_large c.args.blueprint.now.page_size listing _ c.args.blueprint.now.accepted one (omega arith) (c.a_listing_has_one_layout.ensures.length Balanced listing one);
   again = tt;
 }
 

@@ -7,7 +7,7 @@ use Rattle.bolt_tree.specs.{Listing.Member, Tree.tree_of}
 use Rattle.bolt_layout.specs.{Copies.layout_of_listing, Layout.layout_held, Layout.layout_mark, Layout.layout_pages, Layout.placed_bytes, Laid.Placed}
 use Rattle.bolt_bulk.specs.{Compacting.Copies, Compacting.CopiesEach, declared.members_copy.Done.Done, declared.fault.BulkFault.BulkFault}
 use Rattle.bolt_bulk.proofs.CopyLemmas.{copied, layout_parts, layout_written, stops_first, stops_later, stops_unplanned}
-use Rattle.bolt_bulk.proofs.{FileLayouts.some_bytes, FileLayouts.too_large, FileLayouts.within_limit, WalkLeft.whole_again}
+use Rattle.bolt_bulk.proofs.{FileLayouts.some_bytes, FileLayouts.too_large, FileLayouts.within_mark, WalkLeft.whole_again}
 use Rattle.bolt_bulk.specs.Private.{first_pages, FitLimits, limits_with, stopped_by}
 use Rattle.bolt_format.proofs.PageSizes.{size_bounds}
 use Rattle.std.specs.Prelude.{IsErrAnd}
@@ -16,8 +16,8 @@ use Rattle.bolt_bulk.proofs.members_copy.compact_members.Goals.{After-a_listing_
 
 -- the limits are those of the layout, also at the setup's page size
 fit : (g : _) (c : After-setup_of-setup g) (listing : List Member) → g.M.Members.lists c.args.members.now listing
-    → FitLimits c.args.shape.now.layout (tree_of listing) c.setup_of-setup.result.page_size (limits_with c.in_ok-limits.limits)
-fit g c listing lists = subst (λ (n : ℕ). FitLimits c.args.shape.now.layout (tree_of listing) n (limits_with c.in_ok-limits.limits)) (sym c.setup_of-setup.ensures.page_size) (c.in_ok-limits.ensures.fit listing lists)
+    → FitLimits c.args.blueprint.now.layout (tree_of listing) c.setup_of-setup.result.page_size (limits_with c.in_ok-limits.limits)
+fit g c listing lists = subst (λ (n : ℕ). FitLimits c.args.blueprint.now.layout (tree_of listing) n (limits_with c.in_ok-limits.limits)) (sym c.setup_of-setup.ensures.page_size) (c.in_ok-limits.ensures.fit listing lists)
 
 -- after both passes they are the members of the same listing
 there : (g : _) (c : After-setup_of-setup g) (listing : List Member) → g.M.Members.lists c.args.members.now listing → g.M.Members.lists c.plan_within.new.members listing
@@ -25,24 +25,24 @@ there g c listing lists = (c.in_ok-plan.ensures.again.listing listing).1 ((c.in_
 
 -- the layout has as many bytes as its pages
 long : (g : _) (c : After-a_listing_has_one_layout g) (listing : List Member) → g.M.Members.lists c.args.members.now listing
-    → length (layout_of_listing c.args.shape.now.layout c.args.shape.now.page_size listing c.args.shape.now.sequence) ≡ layout_mark c.args.shape.now.layout c.args.shape.now.page_size (tree_of listing) * c.args.shape.now.page_size
-long g c listing lists = c.a_listing_has_one_layout.ensures.length c.args.shape.now.layout listing (c.requires.one listing lists)
+    → length (layout_of_listing c.args.blueprint.now.layout c.args.blueprint.now.page_size listing c.args.blueprint.now.sequence) ≡ layout_mark c.args.blueprint.now.layout c.args.blueprint.now.page_size (tree_of listing) * c.args.blueprint.now.page_size
+long g c listing lists = c.a_listing_has_one_layout.ensures.length c.args.blueprint.now.layout listing (c.requires.one listing lists)
 
 -- the first pages, with these after them, are the layout
 written : (g : _) (c : After-setup_of-setup g) (listing : List Member) → g.M.Members.lists c.args.members.now listing → (others : List Placed)
-    → layout_pages c.args.shape.now.layout c.setup_of-setup.result.page_size (tree_of listing) ≡ others
-    → layout_of_listing c.args.shape.now.layout c.args.shape.now.page_size listing c.args.shape.now.sequence
-    ≡ first_pages c.args.shape.now.page_size c.in_ok-plan.plan.root c.args.shape.now.sequence c.in_ok-plan.plan.high_water ++ placed_bytes c.setup_of-setup.result.page_size others
+    → layout_pages c.args.blueprint.now.layout c.setup_of-setup.result.page_size (tree_of listing) ≡ others
+    → layout_of_listing c.args.blueprint.now.layout c.args.blueprint.now.page_size listing c.args.blueprint.now.sequence
+    ≡ first_pages c.args.blueprint.now.page_size c.in_ok-plan.plan.root c.args.blueprint.now.sequence c.in_ok-plan.plan.high_water ++ placed_bytes c.setup_of-setup.result.page_size others
 written g c listing lists others all =
     let planned = c.in_ok-plan.ensures.plans listing ((c.in_ok-limits.ensures.again.listing listing).1 lists) in
-    layout_written c.args.shape.now.layout c.args.shape.now.page_size (tree_of listing) c.args.shape.now.sequence c.in_ok-plan.plan.root c.in_ok-plan.plan.high_water c.setup_of-setup.result.page_size others
+    layout_written c.args.blueprint.now.layout c.args.blueprint.now.page_size (tree_of listing) c.args.blueprint.now.sequence c.in_ok-plan.plan.root c.in_ok-plan.plan.high_water c.setup_of-setup.result.page_size others
     planned.root planned.high_water c.setup_of-setup.ensures.page_size all
 
 -- what a call promises that stops early
 stopped : (g : _) (c : After-a_listing_has_one_layout g) (new : g.row.S.Denot) (result : Result Done BulkFault) (e : BulkFault) → IsErrAnd result (λ f. f ≡ e)
     → ((listing : List Member) → g.M.Members.lists c.args.members.now listing
-    → Copies g.S.Sink.taken g.S.Sink.failed c.args.sink.now new (layout_of_listing c.args.shape.now.layout c.args.shape.now.page_size listing c.args.shape.now.sequence) (Err e))
-    → CopiesEach g.S.Sink.taken g.S.Sink.failed c.args.sink.now new (g.M.Members.lists c.args.members.now) c.args.shape.now.layout c.args.shape.now.page_size c.args.shape.now.sequence result
+    → Copies g.S.Sink.taken g.S.Sink.failed c.args.sink.now new (layout_of_listing c.args.blueprint.now.layout c.args.blueprint.now.page_size listing c.args.blueprint.now.sequence) (Err e))
+    → CopiesEach g.S.Sink.taken g.S.Sink.failed c.args.sink.now new (g.M.Members.lists c.args.members.now) c.args.blueprint.now.layout c.args.blueprint.now.page_size c.args.blueprint.now.sequence result
 stopped g c new result e same copied =
     let (_, is, e_is) = err_from_is_err_and result same in
     rw (is, e_is) (record {
@@ -50,7 +50,7 @@ stopped g c new result e same copied =
       accepted = tt;
       held = tt;
       bounded = tt;
-      prefixes = λ listing lists. c.a_listing_has_one_layout.ensures.prefixes c.args.shape.now.layout listing (c.requires.one listing lists);
+      prefixes = λ listing lists. c.a_listing_has_one_layout.ensures.prefixes c.args.blueprint.now.layout listing (c.requires.one listing lists);
     })
 
 pub plan_within-requires : goal.plan_within-requires
@@ -63,63 +63,63 @@ pub returns-in_err-limits-clause-copies : goal.returns-in_err-limits-clause-copi
 returns-in_err-limits-clause-copies g c =
     let began : After-a_listing_has_one_layout g = (goal.at.returns-in_err-limits-clause-copies g c).After-a_listing_has_one_layout in
     stopped g began _ _ (stopped_by c.in_err-limits.field-0.0) c.from_residual.ensures.1 (λ listing lists.
-    stops_unplanned g.S.Sink c.args.sink.now _ c.in_err-limits.field-0.0 (some_bytes _ _ c.args.shape.now.page_size (long g began listing lists) c.args.shape.now.accepted) (λ e. c.in_err-limits.ensures.large e listing lists))
+    stops_unplanned g.S.Sink c.args.sink.now _ c.in_err-limits.field-0.0 (some_bytes _ _ c.args.blueprint.now.page_size (long g began listing lists) c.args.blueprint.now.accepted) (λ e. c.in_err-limits.ensures.large e listing lists))
 
 pub returns-in_err-plan-clause-copies : goal.returns-in_err-plan-clause-copies
 returns-in_err-plan-clause-copies g c =
     let began : After-a_listing_has_one_layout g = (goal.at.returns-in_err-plan-clause-copies g c).After-a_listing_has_one_layout in
     stopped g began _ _ (stopped_by c.in_err-plan.field-0.0) c.from_residual-in_err-plan.ensures.1 (λ listing lists.
     let planned = c.in_err-plan.ensures.plans listing ((c.in_ok-limits.ensures.again.listing listing).1 lists) in
-    stops_unplanned g.S.Sink c.args.sink.now _ c.in_err-plan.field-0.0 (some_bytes _ _ c.args.shape.now.page_size (long g began listing lists) c.args.shape.now.accepted) planned.large)
+    stops_unplanned g.S.Sink c.args.sink.now _ c.in_err-plan.field-0.0 (some_bytes _ _ c.args.blueprint.now.page_size (long g began listing lists) c.args.blueprint.now.accepted) planned.large)
 
 pub returns-in_err-put_first_pages-clause-copies : goal.returns-in_err-put_first_pages-clause-copies
 returns-in_err-put_first_pages-clause-copies g c =
     let began : After-a_listing_has_one_layout g = (goal.at.returns-in_err-put_first_pages-clause-copies g c).After-a_listing_has_one_layout in
     stopped g began c.put_first_pages.new.sink _ _ c.from_residual-in_err-put_first_pages.ensures.1 (λ listing lists.
     let planned = c.in_ok-plan.ensures.plans listing ((c.in_ok-limits.ensures.again.listing listing).1 lists) in
-    let parts = layout_parts c.args.shape.now.layout c.args.shape.now.page_size (tree_of listing) c.args.shape.now.sequence c.in_ok-plan.plan.root c.in_ok-plan.plan.high_water planned.root planned.high_water in
+    let parts = layout_parts c.args.blueprint.now.layout c.args.blueprint.now.page_size (tree_of listing) c.args.blueprint.now.sequence c.in_ok-plan.plan.root c.in_ok-plan.plan.high_water planned.root planned.high_water in
     stops_first g.S.Sink c.args.sink.now c.put_first_pages.new.sink _ _ _ parts planned.fits c.in_err-put_first_pages.ensures)
 
 pub overflow_mul-result : goal.overflow_mul-result
 overflow_mul-result g c = ∥∥₁_elim c.requires.some (Prim.hlevel props) (λ is.
     let listing = is.0 in
     let lists = is.1 in
-    let ends = c.in_ok-ended.ensures.pages c.args.shape.now.layout listing (there g (goal.at.overflow_mul-result g c).After-setup_of-setup listing lists) (fit g (goal.at.overflow_mul-result g c).After-setup_of-setup listing lists) in
-    let few = within_limit c.args.shape.now.page_size c.setup_of-setup.result.limit c.in_ok-ended.ended.high_water (c.in_ok-ended.ended.high_water * c.args.shape.now.page_size) c.setup_of-setup.ensures.limit ends.returned.within refl in omega arith)
+    let ends = c.in_ok-ended.ensures.pages c.args.blueprint.now.layout listing (there g (goal.at.overflow_mul-result g c).After-setup_of-setup listing lists) (fit g (goal.at.overflow_mul-result g c).After-setup_of-setup listing lists) in
+    let few = within_mark c.args.blueprint.now.page_size c.setup_of-setup.result.highest_mark c.in_ok-ended.ended.high_water (c.in_ok-ended.ended.high_water * c.args.blueprint.now.page_size) c.setup_of-setup.ensures.highest_mark ends.returned.within refl in omega arith)
 
 pub returns-in_err-ended-clause-copies : goal.returns-in_err-ended-clause-copies
 returns-in_err-ended-clause-copies g c =
     let began : After-a_listing_has_one_layout g = (goal.at.returns-in_err-ended-clause-copies g c).After-a_listing_has_one_layout in
     stopped g began c.put_pages.new.sink _ _ c.from_residual-in_err-ended.ensures.1 (λ listing lists.
     let planned = c.in_ok-plan.ensures.plans listing ((c.in_ok-limits.ensures.again.listing listing).1 lists) in
-    let ends = c.in_err-ended.ensures.pages c.args.shape.now.layout listing (there g (goal.at.returns-in_err-ended-clause-copies g c).After-setup_of-setup listing lists) (fit g (goal.at.returns-in_err-ended-clause-copies g c).After-setup_of-setup listing lists) in
+    let ends = c.in_err-ended.ensures.pages c.args.blueprint.now.layout listing (there g (goal.at.returns-in_err-ended-clause-copies g c).After-setup_of-setup listing lists) (fit g (goal.at.returns-in_err-ended-clause-copies g c).After-setup_of-setup listing lists) in
     let whole = written g (goal.at.returns-in_err-ended-clause-copies g c).After-setup_of-setup listing lists ends.others ends.all in
-    let low = (size_bounds c.args.shape.now.page_size c.args.shape.now.accepted).0 in
-    let mark : layout_mark c.args.shape.now.layout c.setup_of-setup.result.page_size (tree_of listing) ≡ layout_mark c.args.shape.now.layout c.args.shape.now.page_size (tree_of listing) = ap (λ (n : ℕ). layout_mark c.args.shape.now.layout n (tree_of listing)) c.setup_of-setup.ensures.page_size in
+    let low = (size_bounds c.args.blueprint.now.page_size c.args.blueprint.now.accepted).0 in
+    let mark : layout_mark c.args.blueprint.now.layout c.setup_of-setup.result.page_size (tree_of listing) ≡ layout_mark c.args.blueprint.now.layout c.args.blueprint.now.page_size (tree_of listing) = ap (λ (n : ℕ). layout_mark c.args.blueprint.now.layout n (tree_of listing)) c.setup_of-setup.ensures.page_size in
     stops_later g.S.Sink c.args.sink.now c.put_pages.new.sink _ _ _ whole planned.fits c.put_first_pages.new.sink _
     c.in_ok-put_first_pages.ensures ends.puts ends.short
-    (λ e. let above = ends.returned.large e in too_large c.args.shape.now.page_size c.setup_of-setup.result.limit (layout_mark c.args.shape.now.layout c.args.shape.now.page_size (tree_of listing)) _ (omega arith) c.setup_of-setup.ensures.limit (omega arith) (long g began listing lists)))
+    (λ e. let above = ends.returned.large e in too_large c.args.blueprint.now.page_size c.setup_of-setup.result.highest_mark (layout_mark c.args.blueprint.now.layout c.args.blueprint.now.page_size (tree_of listing)) _ (omega arith) c.setup_of-setup.ensures.highest_mark (omega arith) (long g began listing lists)))
 
 pub returns-clause-copies : goal.returns-clause-copies
 returns-clause-copies g c =
     let began : After-a_listing_has_one_layout g = (goal.at.returns-clause-copies g c).After-a_listing_has_one_layout in
     let law = c.a_listing_has_one_layout.ensures in
     let fits = λ (listing : List Member) (lists : g.M.Members.lists c.args.members.now listing). (c.in_ok-plan.ensures.plans listing ((c.in_ok-limits.ensures.again.listing listing).1 lists)).fits in
-    let held : (listing : List Member) → g.M.Members.lists c.args.members.now listing → c.in_ok-ended.ended.held ≡ layout_held c.args.shape.now.layout c.args.shape.now.page_size (tree_of listing) = λ listing lists.
-    let ends = c.in_ok-ended.ensures.pages c.args.shape.now.layout listing (there g (goal.at.returns-clause-copies g c).After-setup_of-setup listing lists) (fit g (goal.at.returns-clause-copies g c).After-setup_of-setup listing lists) in
+    let held : (listing : List Member) → g.M.Members.lists c.args.members.now listing → c.in_ok-ended.ended.held ≡ layout_held c.args.blueprint.now.layout c.args.blueprint.now.page_size (tree_of listing) = λ listing lists.
+    let ends = c.in_ok-ended.ensures.pages c.args.blueprint.now.layout listing (there g (goal.at.returns-clause-copies g c).After-setup_of-setup listing lists) (fit g (goal.at.returns-clause-copies g c).After-setup_of-setup listing lists) in
     let few = fits listing lists in
-    let small = law.held c.args.shape.now.layout listing (c.requires.one listing lists) few in
-    let size = ap (λ (n : ℕ). layout_held c.args.shape.now.layout n (tree_of listing)) c.setup_of-setup.ensures.page_size in
+    let small = law.held c.args.blueprint.now.layout listing (c.requires.one listing lists) few in
+    let size = ap (λ (n : ℕ). layout_held c.args.blueprint.now.layout n (tree_of listing)) c.setup_of-setup.ensures.page_size in
     let most = ends.returned.held in omega (arith, small, few, size, most) in
     record {
       copied = λ listing lists.
-          let ends = c.in_ok-ended.ensures.pages c.args.shape.now.layout listing (there g (goal.at.returns-clause-copies g c).After-setup_of-setup listing lists) (fit g (goal.at.returns-clause-copies g c).After-setup_of-setup listing lists) in
+          let ends = c.in_ok-ended.ensures.pages c.args.blueprint.now.layout listing (there g (goal.at.returns-clause-copies g c).After-setup_of-setup listing lists) (fit g (goal.at.returns-clause-copies g c).After-setup_of-setup listing lists) in
           let whole = written g (goal.at.returns-clause-copies g c).After-setup_of-setup listing lists ends.others ends.all in
-          let mark : c.in_ok-ended.ended.high_water ≡ layout_mark c.args.shape.now.layout c.args.shape.now.page_size (tree_of listing) = ends.returned.mark ∙ ap (λ (n : ℕ). layout_mark c.args.shape.now.layout n (tree_of listing)) c.setup_of-setup.ensures.page_size in
+          let mark : c.in_ok-ended.ended.high_water ≡ layout_mark c.args.blueprint.now.layout c.args.blueprint.now.page_size (tree_of listing) = ends.returned.mark ∙ ap (λ (n : ℕ). layout_mark c.args.blueprint.now.layout n (tree_of listing)) c.setup_of-setup.ensures.page_size in
           copied g.S.Sink c.args.sink.now c.put_pages.new.sink _ _ _ whole (fits listing lists) c.put_first_pages.new.sink _ _
-          c.in_ok-put_first_pages.ensures ends.puts (ap (λ (n : ℕ). n * c.args.shape.now.page_size) mark ∙ sym (long g began listing lists));
-      accepted = λ listing lists. law.accepted c.args.shape.now.layout listing (c.requires.one listing lists) (fits listing lists);
+          c.in_ok-put_first_pages.ensures ends.puts (ap (λ (n : ℕ). n * c.args.blueprint.now.page_size) mark ∙ sym (long g began listing lists));
+      accepted = λ listing lists. law.accepted c.args.blueprint.now.layout listing (c.requires.one listing lists) (fits listing lists);
       held = held;
-      bounded = λ listing lists. let h = held listing lists in let b = law.bounded c.args.shape.now.layout listing (c.requires.one listing lists) (fits listing lists) in omega (arith, h, b);
-      prefixes = λ listing lists. law.prefixes c.args.shape.now.layout listing (c.requires.one listing lists);
+      bounded = λ listing lists. let h = held listing lists in let b = law.bounded c.args.blueprint.now.layout listing (c.requires.one listing lists) (fits listing lists) in omega (arith, h, b);
+      prefixes = λ listing lists. law.prefixes c.args.blueprint.now.layout listing (c.requires.one listing lists);
     }

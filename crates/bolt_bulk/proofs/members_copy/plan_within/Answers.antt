@@ -11,7 +11,7 @@ pub unreachable-requires : goal.unreachable-requires
 unreachable-requires g c = ∥∥₁_elim c.requires.whole.some (Prim.hlevel props) (λ is.
     let listing = is.0 in
     let lists = is.1 in
-    let which = c.args.shape.now.layout in
+    let which = c.args.blueprint.now.layout in
     let fit = subst (λ (n : ℕ). FitLimits which (tree_of listing) n (limits_with c.args.limits.now)) (sym c.setup_of-setup.ensures.page_size) (c.requires.fit listing lists) in
     let ends = c.in-Err-Sink.ensures.pages which listing lists fit in
     let none : 0 < 0 = Wrote-failed _ ends.puts c.in-Err-Sink.field-0-is in omega arith)

@@ -1,22 +1,22 @@
 use Rattle.std.proofs.Common.{◌≡◌, ◌⊎◌, Global, List, Ok, Option, String, ap, inl, inr, refl, string_bytes, ℕ}
-use Rattle.bolt_cli.proofs.Vocabulary.{Deed, Help, Prints, Refusal, Refuses, Version, error_line}
-use Rattle.bolt_cli.proofs.Telling.{Does-as, Does-one}
+use Rattle.bolt_cli.proofs.Vocabulary.{Deed, Help, PrintsText, Refusal, Refuses, Version, error_line}
+use Rattle.bolt_cli.proofs.Telling.{DoesDeeds-as, DoesDeeds-one}
 use Rattle.bolt_cli.proofs.whole_run.refuse.Goals as goal
 
 -- help and the version are printed
 printed : {T O : Type 0} (target_taken : T → Option (List ℕ)) (target_failed : T → ℕ) (output_taken : O → Option (List ℕ)) (output_failed : O → ℕ)
     (why : Refusal) (text : String Global) (deeds : List (Deed T O)) (code : ℕ) → (why ≡ Help text) ⊎ (why ≡ Version text)
-    → Prints output_taken output_failed (string_bytes text) (Ok 0) deeds code → Refuses target_taken target_failed output_taken output_failed why deeds code
+    → PrintsText output_taken output_failed (string_bytes text) (Ok 0) deeds code → Refuses target_taken target_failed output_taken output_failed why deeds code
 printed target_taken target_failed output_taken output_failed why text deeds code (inl help) prints = rw help prints
 printed target_taken target_failed output_taken output_failed why text deeds code (inr version) prints = rw version prints
 
 pub returns-in-Usage : goal.returns-in-Usage
-returns-in-Usage g c = Does-one _ c.say.ensures (rw c.in-Usage.is (c.as_bytes.ensures.value, refl))
+returns-in-Usage g c = DoesDeeds-one _ c.say.ensures (rw c.in-Usage.is (c.as_bytes.ensures.value, refl))
 
 pub returns-in-Word : goal.returns-in-Word
-returns-in-Word g c = Does-one _ c.say-in-Word.ensures (rw c.in-Word.is (ap error_line c.as_bytes-in-Word.ensures.value, refl))
+returns-in-Word g c = DoesDeeds-one _ c.say-in-Word.ensures (rw c.in-Word.is (ap error_line c.as_bytes-in-Word.ensures.value, refl))
 
 pub returns-in-Help : goal.returns-in-Help
 returns-in-Help g c =
-    Does-as (c.print.ensures (Ok 0) (inl refl) refl)
+    DoesDeeds-as (c.print.ensures (Ok 0) (inl refl) refl)
     (λ deeds prints. printed g.O.Target.Sink.taken g.O.Target.Sink.failed g.O.Output.Sink.taken g.O.Output.Sink.failed c.args.refusal.now c.in-Help.text deeds _ c.in-Help.is (rw c.as_bytes-in-Help.ensures.value at prints))

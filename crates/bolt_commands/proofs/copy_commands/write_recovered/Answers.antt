@@ -18,7 +18,7 @@ returns g c =
     let file = c.args.input.file.now in
     let (own, is) = has_recovered file (recovery_meta recovery) in
     let (lost, are) = has_losses file (recovery_meta recovery) in
-    let copy = copy_asked (rw c.meta.ensures at c.shape_of-shape.ensures) (c.copy_members-copied.ensures.copied own (rw opened.file is)) in
+    let copy = copy_asked (rw c.meta.ensures at c.blueprint_of-blueprint.ensures) (c.copy_members-copied.ensures.copied own (rw opened.file is)) in
     let told : List LossView → ℕ → Answer = λ losses. copy_report (bad_hash (is_snapshot c.args.job.now.kind) file) (parts losses) [] (length file) in
     let step : ForLosses (recovery_file recovery) (recovery_meta recovery) (λ losses. recovery_losses c.copy_members-copied.new.source ≡ losses)
     → (copy : ℕ) → copy_report c.bad_hash.result (parts (map loss_view c.losses.result.now)) [] (length file) copy ≡ told lost copy =

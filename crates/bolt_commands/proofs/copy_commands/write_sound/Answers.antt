@@ -12,8 +12,8 @@ returns-in_err-checked g c =
 pub returns-in-Some : goal.returns-in-Some
 returns-in-Some g c = inr (inl (_, _, c.in_ok-checked.ensures.sound, sym c.bad_hash.ensures ∙ c.in-Some.is, refl, refl, refl))
 
-pub shape_of-shape-requires : goal.shape_of-shape-requires
-shape_of-shape-requires g c = rw c.meta.ensures (read_page_size _ _ _ c.in_ok-checked.ensures.sound)
+pub blueprint_of-blueprint-requires : goal.blueprint_of-blueprint-requires
+blueprint_of-blueprint-requires g c = rw c.meta.ensures (read_page_size _ _ _ c.in_ok-checked.ensures.sound)
 
 pub a_walk_is_whole-requires : goal.a_walk_is_whole-requires
 a_walk_is_whole-requires g c = rw c.new-walk.ensures.checked c.new-walk.ensures.all
@@ -23,5 +23,5 @@ returns g c =
     let checked = c.in_ok-checked.ensures in
     let (own, is) = has_listing c.args.input.file.now (meta_of c.in_ok-checked.checked) (read_trees _ _ _ checked.sound) in
     let copy = c.copy_members-copied.ensures.copied own (rw (c.new-walk.ensures.checked, checked.bytes) is) in
-    let written = copy_written _ _ (copy_asked (rw c.meta.ensures at c.shape_of-shape.ensures) copy) c.end_copy.ensures in
+    let written = copy_written _ _ (copy_asked (rw c.meta.ensures at c.blueprint_of-blueprint.ensures) copy) c.end_copy.ensures in
     inl (_, own, checked.sound, sym c.bad_hash.ensures ∙ c.in_default.is, is, written)

@@ -17,7 +17,7 @@ loop-level-preserved c =
     let same : get_or rows i row ≡ row = get_or-map run_end c.args.runs.now i c.index-runs-level.result ∙ ap run_end (sym c.index-runs-level.is) in
     let at : drop i rows ≡ row ∷ drop (i + 1) rows = drop_more rows i row within ∙ ap (λ (r : ℕ × ℕ). r ∷ drop (i + 1) rows) same in
     let Then : Limits → Type 0 = λ l. Noting c.args.self.now l c.args.bucket rows c.row_limit-limit.result.loses (i + 1) in
-    let more = λ (new : Limits). noting_more c.args.self.now c.loop-level.self new c.args.bucket rows c.loop-level.lost c.row_limit-limit.result.loses i row c.row_limit-limit.result.left at c.row_limit-limit.ensures c.loop-level.invariant in
+    let more = λ (new : Limits). noting_more c.args.self.now c.loop-level.self new c.args.bucket rows c.loop-level.lost c.row_limit-limit.result.loses i row c.row_limit-limit.result.allowed at c.row_limit-limit.ensures c.loop-level.invariant in
     elim c.match-limit.branch [
       | in-Some+in_ok-set w ↦ subst Then (sym w.self-is) (more w.set.new.self (λ _. w.in_ok-set.ensures.row ∙ sym w.in-Some.is) w.in_ok-set.ensures.others)
       | in_default w ↦ subst Then (sym w.self-is) (more c.loop-level.self (λ none. none ∙ sym w.in_default.is) (λ b k other. refl))

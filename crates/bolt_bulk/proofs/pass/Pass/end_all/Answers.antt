@@ -44,7 +44,7 @@ returns g c = λ wanted put has.
         noted = λ asked which.
             let next = c.in_ok-root.ensures.closes.marked in
             let within = c.in_ok-root.ensures.closes.writes.within in
-            let counted = c.leave_to.new.self.setup.counted in
+            let counted = c.leave_to.new.self.setup.fits in
             subst (λ (l : Limits). FitLimits Balanced wanted.tree c.leave_to.new.self.setup.page_size (limits_with l)) (sym c.take_limits.ensures) (end.noted c.bucket_ends.new.self c.in_ok-bucket_ends.ensures.ends asked which (omega arith));
         held = end.held;
         large = tt;

@@ -12,16 +12,16 @@ end_inner-requires g c =
     rw (c.replace-inner.ensures.after, c.replace-inner.ensures.value) (record { outer = waits.bucket; inner = ready.bucket; key = waits.key; room = waits.room; next = ready.next })
 
 pub returns-in_err-bucket_ends-clause-steps : goal.returns-in_err-bucket_ends-clause-steps
-returns-in_err-bucket_ends-clause-steps g c = λ wanted level levels put is. steps_stop {A = ⊤} {Mid = λ _. ⊤} c.from_residual.ensures.1 (steps_none (Err _) is c.in_err-bucket_ends.ensures.fault tt)
+returns-in_err-bucket_ends-clause-steps g c = λ wanted parent parents put is. steps_stop {A = ⊤} {Mid = λ _. ⊤} c.from_residual.ensures.1 (steps_none (Err _) is c.in_err-bucket_ends.ensures.fault tt)
 
 pub returns-in_err-end_inner-clause-steps : goal.returns-in_err-end_inner-clause-steps
-returns-in_err-end_inner-clause-steps g c = λ wanted level levels put is.
-    steps_stop c.from_residual-in_err-end_inner.ensures.1 (leave_steps wanted c.args.self.now {counted = c.args.self.now} level c.in-Some.waiting c.args.self.now.bucket c.pop.new.self c.end_inner.new.next 0 c.bucket_ends.new.self (Err _)
+returns-in_err-end_inner-clause-steps g c = λ wanted parent parents put is.
+    steps_stop c.from_residual-in_err-end_inner.ensures.1 (leave_steps wanted c.args.self.now {counted = c.args.self.now} parent c.in-Some.waiting c.args.self.now.bucket c.pop.new.self c.end_inner.new.next 0 c.bucket_ends.new.self (Err _)
     is c.requires.pending c.in-Some.ensures.items c.in_ok-bucket_ends.ensures.ends (rw c.replace-inner.ensures.value at c.in_err-end_inner.ensures.ends.closes.writes) tt tt)
 
 pub returns-clause-steps : goal.returns-clause-steps
-returns-clause-steps g c = λ wanted level levels put is.
-    leave_steps wanted c.args.self.now level c.in-Some.waiting c.end_inner.new.self c.pop.new.self c.end_inner.new.next _ c.bucket_ends.new.self (Ok tt)
+returns-clause-steps g c = λ wanted parent parents put is.
+    leave_steps wanted c.args.self.now parent c.in-Some.waiting c.end_inner.new.self c.pop.new.self c.end_inner.new.next _ c.bucket_ends.new.self (Ok tt)
     is c.requires.pending c.in-Some.ensures.items c.in_ok-bucket_ends.ensures.ends (writes_on (Ok tt) tt (rw c.replace-inner.ensures.value at c.in_ok-end_inner.ensures.ends.closes.writes)) (rw (c.replace-inner.ensures.value, c.replace-inner.ensures.after) at c.in_ok-end_inner.ensures.ends.runs) c.count.ensures.counts
 
 pub count-requires : goal.count-requires

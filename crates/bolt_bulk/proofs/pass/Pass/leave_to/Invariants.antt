@@ -6,13 +6,13 @@ use Rattle.bolt_bulk.specs.Private.{depth_of, HasLeft, IsNoDeeper, IsReady, Step
 use Rattle.bolt_bulk.proofs.pass.Pass.leave_to.Given as goal
 
 -- the steps so far are one, and the same members are left
-abbrev pub invariant-levels : goal.invariant-levels
-invariant-levels g l = record {
+abbrev pub invariant-buckets : goal.invariant-buckets
+invariant-buckets g l = record {
   setup : l.self.setup ≡ l.initial.self.setup;
   ready : IsReady l.self;
   steps : (wanted : Wanted) (members : List Member) (put : List Placed) → HasLeft wanted l.initial.self members put → IsNoDeeper l.depth members
       → Steps {A = ⊤} wanted g.S.Sink l.initial.sink l.sink l.initial.self.setup put (HasLeft wanted l.self members) (Ok tt);
 }
 
-abbrev pub decreases-levels : goal.decreases-levels
-decreases-levels g l = depth_of l.self
+abbrev pub decreases-buckets : goal.decreases-buckets
+decreases-buckets g l = depth_of l.self

@@ -9,23 +9,23 @@ use Rattle.bolt_bulk.proofs.pass.Pass.open_pending.Goals as goal
 use Rattle.bolt_bulk.proofs.PutsLemmas.{writes_on}
 
 pub returns-in_default-clause-steps : goal.returns-in_default-clause-steps
-returns-in_default-clause-steps g c = λ wanted left levels put is rooted. steps_none (Ok tt) is tt is
+returns-in_default-clause-steps g c = λ wanted left parents put is rooted. steps_none (Ok tt) is tt is
 
 pub returns-in_err-inner-clause-steps : goal.returns-in_err-inner-clause-steps
-returns-in_err-inner-clause-steps g c = λ wanted left levels put is rooted. steps_stop {A = ⊤} c.from_residual.ensures.1 (steps_none {At = λ _. ⊤} (Err _) is c.in_err-inner.ensures.fault tt)
+returns-in_err-inner-clause-steps g c = λ wanted left parents put is rooted. steps_stop {A = ⊤} c.from_residual.ensures.1 (steps_none {At = λ _. ⊤} (Err _) is c.in_err-inner.ensures.fault tt)
 
 pub returns-in_err-waiting-clause-steps : goal.returns-in_err-waiting-clause-steps
-returns-in_err-waiting-clause-steps g c = λ wanted left levels put is rooted.
+returns-in_err-waiting-clause-steps g c = λ wanted left parents put is rooted.
     open_stops wanted c.args.self.now c.in-Some.pending c.from_residual-in_err-waiting.ensures.1 is c.in-Some.is c.requires.pending rooted
     (rw c.replace-outer.ensures.value at c.in_err-waiting.ensures.enters.writes)
 
 pub returns-in_err-push-clause-steps : goal.returns-in_err-push-clause-steps
-returns-in_err-push-clause-steps g c = λ wanted left levels put is rooted.
+returns-in_err-push-clause-steps g c = λ wanted left parents put is rooted.
     open_stops wanted c.args.self.now c.in-Some.pending c.from_residual-in_err-push.ensures.1 is c.in-Some.is c.requires.pending rooted
     (writes_on {B = ⊤} (Err fault.Memory) refl (rw c.replace-outer.ensures.value at c.in_ok-waiting.ensures.enters.writes))
 
 pub returns-clause-steps : goal.returns-clause-steps
-returns-clause-steps g c = λ wanted left levels put is rooted.
+returns-clause-steps g c = λ wanted left parents put is rooted.
     let values = rw (c.as_slice.ensures.value, sym c.replace-outer.ensures.after) at (c.in_ok-inner.ensures.runs c.enter.new.next) in
     open_steps wanted c.args.self.now c.in-Some.pending c.replace-outer.new.dest c.in_ok-waiting.waiting c.push.new.self c.clear.new.self _ c.enter.new.next _ _
     is c.in-Some.is c.requires.pending rooted (rw c.replace-outer.ensures.value at c.in_ok-waiting.ensures.enters) c.in_ok-push.ensures.items values c.saturating_add-self.ensures c.count.ensures.counts

@@ -6,12 +6,12 @@ use Rattle.bolt_bulk.proofs.{Ontos.bucket_has_root, PassAt.steps_none, PassAt.st
 use Rattle.bolt_bulk.proofs.pass.Pass.take_bucket.Goals as goal
 
 pub returns-in_err-open_pending-clause-steps : goal.returns-in_err-open_pending-clause-steps
-returns-in_err-open_pending-clause-steps g c = λ wanted inside after levels put is.
-    steps_stop c.from_residual.ensures.1 (c.in_err-open_pending.ensures.steps wanted (with_bucket c.args.key.now c.args.sequence inside after) levels put is
+returns-in_err-open_pending-clause-steps g c = λ wanted inside after parents put is.
+    steps_stop c.from_residual.ensures.1 (c.in_err-open_pending.ensures.steps wanted (with_bucket c.args.key.now c.args.sequence inside after) parents put is
     (bucket_has_root wanted.which c.args.self.now.setup.page_size (map leaf_view c.args.self.now.entries.items) c.args.key.now c.args.sequence inside after))
 
 pub returns-clause-steps : goal.returns-clause-steps
-returns-clause-steps g c = λ wanted inside after levels put is.
-    steps_then c.in_ok-open_pending.ensures.on.setup (c.in_ok-open_pending.ensures.steps wanted (with_bucket c.args.key.now c.args.sequence inside after) levels put is
+returns-clause-steps g c = λ wanted inside after parents put is.
+    steps_then c.in_ok-open_pending.ensures.on.setup (c.in_ok-open_pending.ensures.steps wanted (with_bucket c.args.key.now c.args.sequence inside after) parents put is
     (bucket_has_root wanted.which c.args.self.now.setup.page_size (map leaf_view c.args.self.now.entries.items) c.args.key.now c.args.sequence inside after))
-    (λ all mid. steps_none (Ok tt) mid tt (c.begin.ensures.begins wanted inside after levels all mid))
+    (λ all mid. steps_none (Ok tt) mid tt (c.begin.ensures.begins wanted inside after parents all mid))

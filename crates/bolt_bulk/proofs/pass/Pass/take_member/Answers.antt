@@ -35,7 +35,7 @@ returns-in-Value-clause-steps g c = λ wanted members put has.
     steps_then c.in_ok-leave_to.ensures.on.setup (c.in_ok-leave_to.ensures.steps wanted ((path, item_view c.args.item) ∷ members) put has (omega arith))
     (λ all mid. let deep = c.in_ok-leave_to.ensures.on.depth_is in
     let next = has_next wanted c.leave_to.new.self path c.in-Some.key.now.now (entries.Value c.in-Value.value.now) members all (left_same (ap (λ (i : entries.Item). (path, i) ∷ members) item) mid) (omega arith) last in
-    steps_map (λ then at. record { levels = next.levels; left = next.after; at = at; members_are = next.members_are }) (c.take_value.ensures.steps wanted next.after next.levels all next.at))
+    steps_map (λ then at. record { parents = next.parents; left = next.after; at = at; members_are = next.members_are }) (c.take_value.ensures.steps wanted next.after next.parents all next.at))
 
 pub returns-in-Bucket-clause-steps : goal.returns-in-Bucket-clause-steps
 returns-in-Bucket-clause-steps g c = λ wanted members put has.
@@ -46,4 +46,4 @@ returns-in-Bucket-clause-steps g c = λ wanted members put has.
     steps_then c.in_ok-leave_to.ensures.on.setup (c.in_ok-leave_to.ensures.steps wanted ((path, item_view c.args.item) ∷ members) put has (omega arith))
     (λ all mid. let deep = c.in_ok-leave_to.ensures.on.depth_is in
     let next = has_next wanted c.leave_to.new.self path c.in-Some.key.now.now (entries.Bucket c.in-Bucket.sequence) members all (left_same (ap (λ (i : entries.Item). (path, i) ∷ members) item) mid) (omega arith) last in
-    steps_map (λ then at. record { levels = _; left = next.inside; at = at; members_are = next.members_are }) (c.take_bucket.ensures.steps wanted next.inside next.after next.levels all next.at))
+    steps_map (λ then at. record { parents = _; left = next.inside; at = at; members_are = next.members_are }) (c.take_bucket.ensures.steps wanted next.inside next.after next.parents all next.at))

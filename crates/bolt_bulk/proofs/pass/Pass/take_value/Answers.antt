@@ -15,14 +15,14 @@ rooted g c wanted after =
     grind (arith, full_rooted)
 
 pub returns-then-len-lt-MAX_ITEMS-clause-steps : goal.returns-then-len-lt-MAX_ITEMS-clause-steps
-returns-then-len-lt-MAX_ITEMS-clause-steps g c = λ wanted after levels put is. steps_none c.keep_value.result is c.keep_value.ensures.fault (c.keep_value.ensures.keeps wanted after levels put is)
+returns-then-len-lt-MAX_ITEMS-clause-steps g c = λ wanted after parents put is. steps_none c.keep_value.result is c.keep_value.ensures.fault (c.keep_value.ensures.keeps wanted after parents put is)
 
 pub returns-in_err-open_pending-clause-steps : goal.returns-in_err-open_pending-clause-steps
-returns-in_err-open_pending-clause-steps g c = λ wanted after levels put is.
-    steps_stop c.from_residual.ensures.1 (c.in_err-open_pending.ensures.steps wanted (with_value c.args.key.now c.args.value.now after) levels put is
+returns-in_err-open_pending-clause-steps g c = λ wanted after parents put is.
+    steps_stop c.from_residual.ensures.1 (c.in_err-open_pending.ensures.steps wanted (with_value c.args.key.now c.args.value.now after) parents put is
     (rooted g (goal.at.returns-in_err-open_pending-clause-steps g c).After-open_pending wanted after))
 
 pub returns-clause-steps : goal.returns-clause-steps
-returns-clause-steps g c = λ wanted after levels put is.
-    steps_then c.in_ok-open_pending.ensures.on.setup (c.in_ok-open_pending.ensures.steps wanted (with_value c.args.key.now c.args.value.now after) levels put is
-    (rooted g (goal.at.returns-clause-steps g c).After-open_pending wanted after)) (λ all mid. c.put_value-2.ensures.steps wanted after levels all mid)
+returns-clause-steps g c = λ wanted after parents put is.
+    steps_then c.in_ok-open_pending.ensures.on.setup (c.in_ok-open_pending.ensures.steps wanted (with_value c.args.key.now c.args.value.now after) parents put is
+    (rooted g (goal.at.returns-clause-steps g c).After-open_pending wanted after)) (λ all mid. c.put_value-2.ensures.steps wanted after parents all mid)

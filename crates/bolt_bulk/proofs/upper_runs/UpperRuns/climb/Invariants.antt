@@ -13,6 +13,6 @@ invariant-loop-i g l = record {
   standing : AllByRecursion IsStanding (runs_above l.self.runs.items);
   count : length l.self.runs.items ≡ length l.initial.self.runs.items;
   short : length l.closed.key.now ≤ 1073741824;
-  within : l.next ≤ l.setup.limit;
+  within : l.next ≤ l.setup.highest_mark;
   limits : l.self.limits ≡ l.initial.self.limits;
 }

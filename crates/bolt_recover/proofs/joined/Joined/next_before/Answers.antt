@@ -1,6 +1,6 @@
 use Rattle.std.proofs.Common.{◌≡◌, ◌∙◌, ◌⊎◌, inl, inr, true, false, List, is_some, ap, sym, subst₂, ℕ}
 use Rattle.bolt_recover.proofs.Words.{AreJoinable, bucket_members, first_cmp, is_lt, joined_file, joined_left, joined_meta, joined_path, kept_path, merely, Meta, Path, props, put_members, ∥∥₁_elim, ∥∥₁_map}
-use Rattle.bolt_recover.proofs.JoinSteps.{before_given, bucket_given, gives_prop, held_well, of_joined}
+use Rattle.bolt_recover.proofs.JoinSteps.{before_given, bucket_given, gives_prop, next_kept_well, of_joined}
 use Rattle.bolt_recover.proofs.StepLemmas.{when_err}
 use Rattle.bolt_recover.proofs.joined.Joined.next_before.Goals as goal
 use Rattle.bolt_recover.proofs.joined.Joined.next_before.Goals.{else-is_some-via-then-is_some+else-is_lt, else-is_some-via-else-is_some}
@@ -27,7 +27,7 @@ returns-then-is_lt-clause-given c = λ listing is.
 pub invariant_of-self-2 : goal.invariant_of-self-2
 invariant_of-self-2 c = record {
   pages = ∥∥₁_map c.args.self.now.pages (λ are. subst₂ (λ (f : List ℕ) (m : Meta). AreJoinable f m c.args.self.now.found.now) (sym c.next.ensures.reads.file) (sym c.next.ensures.reads.meta) are);
-  waits = merely (held_well c.args.self.now.kept c.next.new.self c.in_ok-item.item c.next.ensures.reads.file c.next.ensures.reads.meta c.in_ok-item.ensures.given);
+  waits = merely (next_kept_well c.args.self.now.kept c.next.new.self c.in_ok-item.item c.next.ensures.reads.file c.next.ensures.reads.meta c.in_ok-item.ensures.given);
 }
 
 pub returns-clause-given : goal.returns-clause-given

@@ -9,7 +9,7 @@ invariant_of-self-in-Break-1 c =
     let self = c.args.self.now in
     record {
       pages = ∥∥₁_map self.pages (λ are. subst₂ (λ (f : List ℕ) (m : Meta). AreJoinable f m self.found.now) (sym c.next-2.ensures.reads.file) (sym c.next-2.ensures.reads.meta) are);
-      waits = rw (c.requires.stage, c.in_default-held.is) (∥∥₁_map (rw (c.requires.stage, c.in_default-held.is) at self.waits) (λ none.
+      waits = rw (c.requires.stage, c.in_default-next_kept.is) (∥∥₁_map (rw (c.requires.stage, c.in_default-next_kept.is) at self.waits) (λ none.
           still_none self.kept c.next-2.new.self c.next-2.result c.next-2.ensures.reads.file c.next-2.ensures.reads.meta c.next-2.ensures.given c.next-2.ensures.same none));
     }
 
@@ -17,7 +17,7 @@ pub returns-in_err-item-clause-same : goal.returns-in_err-item-clause-same
 unfolding joined_file joined_left joined_meta
 returns-in_err-item-clause-same c =
     let self = c.args.self.now in
-    when_err c.from_residual.result (λ listing is. rw (c.requires.stage, c.in_default.ensures.0, c.in_default.ensures.1, c.in_default-held.is)
+    when_err c.from_residual.result (λ listing is. rw (c.requires.stage, c.in_default.ensures.0, c.in_default.ensures.1, c.in_default-next_kept.is)
     (∥∥₁_elim self.pages (hlevel props) (λ are.
     c.in_err-item.ensures.same _ (of_joined self listing are is))))
 
@@ -25,7 +25,7 @@ pub returns-clause-given : goal.returns-clause-given
 unfolding joined_file joined_left joined_meta joined_path
 returns-clause-given c = λ listing is.
     let self = c.args.self.now in
-    rw (c.requires.stage, c.in_default.ensures.0, c.in_default-held.is)
+    rw (c.requires.stage, c.in_default.ensures.0, c.in_default-next_kept.is)
     (∥∥₁_elim self.pages (gives_prop _ _ (kept_path c.next-2.new.self) c.in_ok-item.item) (λ are.
     c.in_ok-item.ensures.given _ (of_joined self listing are is)))
 
@@ -34,5 +34,5 @@ returns-clause-fewer c =
     let self = c.args.self.now in
     let (recovered, is) = has_recovered (kept_file self.kept) (kept_meta self.kept) in
     let none : kept_left self.kept recovered ≡ [] =
-    ∥∥₁_elim (rw (c.requires.stage, c.in_default-held.is) at self.waits) (hlevel props) (λ (waits : ForRecovered (kept_file self.kept) (kept_meta self.kept) (λ listing. kept_left self.kept listing ≡ [])). waits recovered is) in
+    ∥∥₁_elim (rw (c.requires.stage, c.in_default-next_kept.is) at self.waits) (hlevel props) (λ (waits : ForRecovered (kept_file self.kept) (kept_meta self.kept) (λ listing. kept_left self.kept listing ≡ [])). waits recovered is) in
     none_given _ (kept_left self.kept recovered) _ (kept_path c.next-2.new.self) c.in_ok-item.item none (c.in_ok-item.ensures.given recovered is)

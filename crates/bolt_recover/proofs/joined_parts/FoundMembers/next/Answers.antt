@@ -5,10 +5,10 @@ use Rattle.bolt_recover.specs.Private.{ElementsLeft.elements_of, FoundLeft.Gives
 use Rattle.bolt_recover.specs.{declared.content.Elements.Elements, declared.joined_parts.FoundMembers.FoundMembers}
 use Rattle.bolt_recover.proofs.joined_parts.FoundMembers.next.Goals as goal
 
-first_member : (path : Path) (inside : LeafElement → Tree) (e : LeafElement) (elements : List LeafElement) (rest held : List Member) → (e.is_bucket ≡ false → held ≡ [])
-    → (IsTrue e.is_bucket → held ≡ listing_below (path ++ e.key ∷ []) (inside e))
-    → listing_below path (tree_with inside (e ∷ elements)) ++ rest ≡ (path ++ e.key ∷ [], item_of e) ∷ (held ++ (listing_below path (tree_with inside elements) ++ rest))
-first_member path inside e elements rest held none some = elim (cases_Bool e.is_bucket) [
+first_member : (path : Path) (inside : LeafElement → Tree) (e : LeafElement) (elements : List LeafElement) (rest inner : List Member) → (e.is_bucket ≡ false → inner ≡ [])
+    → (IsTrue e.is_bucket → inner ≡ listing_below (path ++ e.key ∷ []) (inside e))
+    → listing_below path (tree_with inside (e ∷ elements)) ++ rest ≡ (path ++ e.key ∷ [], item_of e) ∷ (inner ++ (listing_below path (tree_with inside elements) ++ rest))
+first_member path inside e elements rest inner none some = elim (cases_Bool e.is_bucket) [
   | inl is ↦ rw (some is, is, append_assoc) refl
   | inr is ↦ rw (none is, is) refl
 ]

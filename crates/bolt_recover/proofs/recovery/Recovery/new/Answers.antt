@@ -1,5 +1,9 @@
-use Rattle.bolt_recover.proofs.Recovering.{if_err, refused_chosen}
+use Rattle.bolt_recover.proofs.Refused.{if_err, refused_under}
+use Rattle.bolt_recover.specs.Refusals.{HasNoActive, HasActive}
 use Rattle.bolt_recover.proofs.recovery.Recovery.new.Goals as goal
 
 pub returns-clause-refused : goal.returns-clause-refused
-returns-clause-refused c = if_err c.under.result (refused_chosen c.args.file.now c.in_ok-meta.field-0-0 c.in_ok-meta.meta c.in_ok-meta.ensures.chosen) c.under.ensures.refused
+returns-clause-refused c =
+    let file = c.args.file.now in
+    let meta = c.in_ok-meta in
+    if_err c.under.result (refused_under file (HasActive file) (HasNoActive file) meta.meta (meta.field-0-0, meta.ensures.chosen)) c.under.ensures.refused

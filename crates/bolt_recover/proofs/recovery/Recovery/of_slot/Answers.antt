@@ -1,5 +1,10 @@
-use Rattle.bolt_recover.proofs.Recovering.{if_err, refused_in_slot}
+use Rattle.bolt_recover.proofs.Refused.{if_err, refused_under}
+use Rattle.bolt_recover.specs.Refusals.{HasNoneInSlot}
+use Rattle.bolt_format.specs.Metas.{IsInSlot}
 use Rattle.bolt_recover.proofs.recovery.Recovery.of_slot.Goals as goal
 
 pub returns-clause-refused : goal.returns-clause-refused
-returns-clause-refused c = if_err c.under.result (refused_in_slot c.args.file.now c.args.slot c.in_ok-meta.meta c.in_ok-meta.ensures.valid) c.under.ensures.refused
+returns-clause-refused c =
+    let file = c.args.file.now in
+    let slot = c.args.slot in
+    if_err c.under.result (refused_under file (IsInSlot file slot) (HasNoneInSlot file slot) c.in_ok-meta.meta c.in_ok-meta.ensures.valid) c.under.ensures.refused

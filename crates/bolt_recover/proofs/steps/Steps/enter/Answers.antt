@@ -7,11 +7,11 @@ use Rattle.bolt_recover.specs.{Private.Frames.pages_in, Private.Frames.spot_weig
 use Rattle.bolt_recover.proofs.steps.Steps.enter.Goals as goal
 
 -- an open page weighs no more than what led to it and the pages that it claims
-entered_weight : (file : List ℕ) (meta : Meta) (content : Content) (spot : Spot) (level count : ℕ) → IsContent file meta spot content → count < 65536
-    → page_weight (record { content = content; level = level; count = count; next = 0 }) ≤ pages_in content * 4295163904 + spot_weight spot
-entered_weight file meta (Page page t) spot level count is few = omega arith
-entered_weight file meta (Bucket t) (spots.Bucket s) level count is few = omega arith
-entered_weight file meta (Bucket t) (spots.Page s) level count is few = absurd (let same = is.spot in cc)
+entered_weight : (file : List ℕ) (meta : Meta) (content : Content) (spot : Spot) (path_len count : ℕ) → IsContent file meta spot content → count < 65536
+    → page_weight (record { content = content; path_len = path_len; count = count; next = 0 }) ≤ pages_in content * 4295163904 + spot_weight spot
+entered_weight file meta (Page page t) spot path_len count is few = omega arith
+entered_weight file meta (Bucket t) (spots.Bucket s) path_len count is few = omega arith
+entered_weight file meta (Bucket t) (spots.Page s) path_len count is few = absurd (let same = is.spot in cc)
 
 pub returns-in-Err-clause-on : goal.returns-in-Err-clause-on
 returns-in-Err-clause-on c =
@@ -31,21 +31,21 @@ returns-clause-on c =
     (record s {
       claimed = is_claimed c.visit.new.claims;
       ahead = None;
-      pages = s.pages ++ record { content = c.in-Ok.content; level = c.in-Some.ahead.level; count = c.count.result; next = 0 } ∷ [];
+      pages = s.pages ++ record { content = c.in-Ok.content; path_len = c.in-Some.ahead.path_len; count = c.count.result; next = 0 } ∷ [];
       visited = claims_visited c.visit.new.claims;
     })
     (claims_file c.visit.new.claims) (claims_meta c.visit.new.claims) None c.push_reserved.new.self.items s.path (map loss_view c.reserve-2.new.self.items)
     (sym c.in-Ok.ensures.file) (sym c.in-Ok.ensures.meta) refl
-    (sym (c.push_reserved.ensures.items ∙ ap (λ (ps : List OpenPage). ps ++ record { content = c.in-Ok.content; level = c.in-Some.ahead.level; count = c.count.result; next = 0 } ∷ []) c.reserve.ensures.items))
+    (sym (c.push_reserved.ensures.items ∙ ap (λ (ps : List OpenPage). ps ++ record { content = c.in-Ok.content; path_len = c.in-Some.ahead.path_len; count = c.count.result; next = 0 } ∷ []) c.reserve.ensures.items))
     refl (sym (ap (map loss_view) c.reserve-2.ensures.items))
     (entered_page s c.in-Some.ahead c.in-Ok.content c.count.result (is_claimed c.visit.new.claims) (claims_visited c.visit.new.claims) c.requires c.in-Some.is c.in-Ok.ensures.passes c.in-Ok.ensures.content c.in-Ok.ensures.claims c.in-Ok.ensures.visited c.count.ensures (omega arith))
 
 pub returns-clause-weight : goal.returns-clause-weight
 returns-clause-weight c =
     let old = c.args.self.now in
-    let page : OpenPage = record { content = c.in-Ok.content; level = c.in-Some.ahead.level; count = c.count.result; next = 0 } in
+    let page : OpenPage = record { content = c.in-Ok.content; path_len = c.in-Some.ahead.path_len; count = c.count.result; next = 0 } in
     let pages = ap (sum_by page_weight) c.push_reserved.ensures.items ∙ sum_by-append page_weight c.reserve.new.self.items (page ∷ []) in
     let below = ap (sum_by page_weight) c.reserve.ensures.items in
     let ahead = ap ahead_weight c.in-Some.is in
-    let weight = entered_weight (claims_file old.claims) (claims_meta old.claims) c.in-Ok.content c.in-Some.ahead.spot page.level page.count c.in-Ok.ensures.content (omega arith) in
+    let weight = entered_weight (claims_file old.claims) (claims_meta old.claims) c.in-Ok.content c.in-Some.ahead.spot page.path_len page.count c.in-Ok.ensures.content (omega arith) in
     omega (arith, pages, below, ahead, weight, c.in-Ok.ensures.fewer)

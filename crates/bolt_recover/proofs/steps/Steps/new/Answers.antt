@@ -16,7 +16,7 @@ returns-clause-all c =
     let meta = claims_meta c.args.claims in
     let begun = claims_visited c.args.claims in
     let visited = claims_visited c.visit.new.claims in
-    let page : OpenPage = record { content = c.in_ok-content.content; level = 0; count = c.count.result; next = 0 } in
+    let page : OpenPage = record { content = c.in_ok-content.content; path_len = 0; count = c.count.result; next = 0 } in
     let visit = rw (c.root_of-root.ensures, c.meta.ensures) at c.in_ok-content.ensures in
     as_state (IsAllLeft file meta begun)
     (record { file = file; meta = meta; claimed = claimed; ahead = None; pages = page ∷ []; path = []; losses = []; visited = visited })

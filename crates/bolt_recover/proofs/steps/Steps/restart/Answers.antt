@@ -19,7 +19,7 @@ returns-clause-all c =
     let claims = c.restart.new.self in
     let new = c.visit.new.claims in
     let begun = claims_visited c.args.self.now.claims in
-    let page : OpenPage = record { content = c.in-Ok.content; level = 0; count = c.count.result; next = 0 } in
+    let page : OpenPage = record { content = c.in-Ok.content; path_len = 0; count = c.count.result; next = 0 } in
     let s : State = record { file = claims_file claims; meta = claims_meta claims; claimed = is_claimed new; ahead = None; pages = page ∷ []; path = []; losses = []; visited = claims_visited new } in
     let visit = rw (c.root_of-root.ensures, c.meta.ensures) at c.in-Ok.ensures in
     as_state (IsAllLeft (claims_file c.args.self.now.claims) (claims_meta c.args.self.now.claims) begun) s

@@ -1,0 +1,48 @@
+//! A bucket that waits while one within it is open.
+ghost use Rattle.std.specs.Prelude.{◌≤◌, IfOk, length};
+ghost use Rattle.bolt_bulk.specs.Private.{Enters, IsOpenBucket, IsWaiting, longest_key};
+
+use crate::bucket_runs::{BucketRuns, ROOT_ITEM_LEN};
+use crate::fault::BulkFault;
+use crate::page_setup::PageSetup;
+use crate::pending_bucket::PendingBucket;
+use bolt_format::Sink;
+
+/// A bucket that waits for a bucket within it, which has this key and sequence.
+#[derive(Drop)]
+pub(crate) struct WaitingBucket<'a> {
+    pub bucket: BucketRuns<'a>,
+    pub key: &'a [u8],
+    pub sequence: u64,
+    /// How many items the buckets around it hold. Saturates at 2^64 - 1.
+    pub around: u64,
+}
+
+impl<'a> WaitingBucket<'a> {
+    /// Makes room in an open bucket for a bucket with a root page within it, and waits for that one.
+    /// The buckets around the open one hold `around` items.
+    pub(crate) fn enter<S: Sink>(
+        outer: BucketRuns<'a>,
+        setup: &PageSetup,
+        pending: PendingBucket<'a>,
+        around: u64,
+        next: &mut u64,
+        sink: &mut S,
+    ) -> Result<WaitingBucket<'a>, BulkFault>
+        requires open { IsOpenBucket outer }
+        requires key { length pending.key.now ≤ longest_key }
+        requires next { next.old ≤ setup.now.highest_mark }
+        ensures enters { Enters S.Sink sink.old sink.new setup.now outer.entry next.old pending.entry around next.new result }
+        ensures waits { IfOk result (λ waiting. IsWaiting setup.now.page_size waiting) }
+    {
+        let mut bucket = outer;
+        let key = pending.key;
+        bucket.make_room(setup, key, ROOT_ITEM_LEN + key.len(), next, sink)?;
+        Ok(WaitingBucket {
+            bucket,
+            key,
+            sequence: pending.sequence,
+            around,
+        })
+    }
+}

@@ -1,0 +1,71 @@
+-- What a job does, whatever its standard output and its target are.
+use Rattle.std.proofs.Common.{◌≡◌, ◌<◌, ◌∙◌, ap, inl, inr, ℕ, List, [], Option, None, Some, Bool, length, refl, subst, sym}
+use Rattle.bolt_cli.proofs.Vocabulary.{Answer, Does, DoesJob, Ending, Extent, First, Ghosts, Job, Layout, Losses, MakesCopy, Member, Meta, MetaChoice, PageSize, WritesCopy, copy_page_size, copy_report, done, bad_hash, buffered_failures, buffered_of, buffered_text, layout_of_listing, lengths_line, parts, target_name, text_members}
+use Rattle.bolt_job.specs.declared.choices.Extent.TheVariants.{LostAndFound}
+use Rattle.bolt_job.specs.declared.job.Job.TheVariants as job
+
+module _ {O T : Type 0} (out_taken : O → Option (List ℕ)) (out_failed : O → ℕ) (out_old out_new : O)
+    (target_taken : T → Option (List ℕ)) (target_failed : T → ℕ) (target_old target_new : T) where
+  -- a job without an OUT does the same, whatever its target is
+  pub shown : (file : List ℕ) (j : Job) (ending : Ending) → target_name j ≡ None
+      → DoesJob out_taken out_failed out_old out_new target_taken target_failed target_old target_new file j ending
+      → DoesJob {T = Unit {0}} out_taken out_failed out_old out_new (λ _. None) (λ _. 0) tt tt file j ending
+  shown file (job.Compact j) ending none does = absurd (cc)
+  shown file (job.Load j) ending none does = absurd (cc)
+  shown file j ending none (answer, is, does, same) = (answer, is, does, refl)
+
+-- a job does the same on a sink that is seen as what it holds
+module _ {O T : Type 0} (out : Ghosts O) (target : Ghosts T) (out_old out_new : O) (target_old target_new : T) {text : List ℕ} {failures : ℕ}
+    (was_empty : out.taken out_old ≡ Some []) (was_sound : out.failed out_old ≡ 0)
+    (holds : out.taken out_new ≡ Some text) (fails : out.failed out_new ≡ failures) where
+  does_buffered : (answer : Answer) (ending : Ending) → Does out.taken out.failed out_old out_new answer ending
+      → Does buffered_text buffered_failures (buffered_of [] 0) (buffered_of text failures) answer ending
+  does_buffered answer ending (inl (put, same, is)) = inl (rw holds at (rw was_empty at put), sym fails ∙ same ∙ was_sound, is)
+  does_buffered answer ending (inr (less, part, is)) = inr (
+    subst (λ n. 0 < n) fails less,
+    record { front = part.front; rest = part.rest; parts = part.parts; taken = rw holds at (rw was_empty at part.taken) },
+    is,
+  )
+
+  untouched : out_new ≡ out_old → buffered_of text failures ≡ buffered_of [] 0
+  untouched same =
+      let empty : text ≡ [] = (let both : Some text ≡ Some [] = sym holds ∙ ap out.taken same ∙ was_empty in cc) in
+      let sound : failures ≡ 0 = sym fails ∙ ap out.failed same ∙ was_sound in
+      ap (λ t. buffered_of t failures) empty ∙ ap (buffered_of []) sound
+
+  written : (snapshot : Bool) (listing : List Member) (layout : List ℕ) (answer : ℕ → Answer) (ending : Ending)
+      → WritesCopy out.taken out.failed out_old out_new target.taken target.failed target_old target_new snapshot listing layout answer ending
+      → WritesCopy buffered_text buffered_failures (buffered_of [] 0) (buffered_of text failures) target.taken target.failed target_old target_new snapshot listing layout answer ending
+  written snapshot listing layout answer ending (inl (small, good, put, sound, does)) = inl (small, good, put, sound, does_buffered _ ending does)
+  written snapshot listing layout answer ending (inr (failure, stops, same, is)) = inr (failure, stops, untouched same, is)
+
+  module _ (file : List ℕ) (choice : MetaChoice) (size : Option PageSize) (which : Layout) (snapshot : Bool) where
+    abbrev layout : Meta → List Member → List ℕ
+    layout meta listing = layout_of_listing which (copy_page_size size meta) listing meta.root_sequence
+
+    copied : (extent : Extent) (ending : Ending)
+        → MakesCopy out.taken out.failed out_old out_new target.taken target.failed target_old target_new file choice size which snapshot extent ending
+        → MakesCopy buffered_text buffered_failures (buffered_of [] 0) (buffered_of text failures) target.taken target.failed target_old target_new file choice size which snapshot extent ending
+    copied First ending (inl (meta, listing, read, hash, lists, writes)) =
+        inl (meta, listing, read, hash, lists, written snapshot listing (layout meta listing) (λ copy. done (lengths_line (length file) copy)) ending writes)
+    copied First ending (inr (inl (meta, fault, read, bad, same, target, is))) = inr (inl (meta, fault, read, bad, untouched same, target, is))
+    copied First ending (inr (inr (fault, failure, refused, of, same, target, is))) = inr (inr (fault, failure, refused, of, untouched same, target, is))
+    copied Losses ending (inl (meta, listing, losses, under, recovered, are, writes)) =
+        let report = copy_report (bad_hash snapshot file) (parts losses) [] (length file) in
+        inl (meta, listing, losses, under, recovered, are, written snapshot listing (layout meta listing) report ending writes)
+    copied Losses ending (inr (fault, failure, refused, of, same, target, is)) = inr (fault, failure, refused, of, untouched same, target, is)
+    copied LostAndFound ending (inl (meta, listing, lost, found, own, salvaged, (small, good, put, sound, does))) =
+        inl (meta, listing, lost, found, own, salvaged, (small, good, put, sound, does_buffered _ ending does))
+    copied LostAndFound ending (inr (inl (meta, listing, own, joins, (failure, stops, same, is)))) =
+        inr (inl (meta, listing, own, joins, (failure, stops, untouched same, is)))
+    copied LostAndFound ending (inr (inr (why, unjoined, same, target, is))) = inr (inr (why, unjoined, untouched same, target, is))
+
+  pub buffered_job : (file : List ℕ) (j : Job) (ending : Ending)
+      → DoesJob out.taken out.failed out_old out_new target.taken target.failed target_old target_new file j ending
+      → DoesJob buffered_text buffered_failures (buffered_of [] 0) (buffered_of text failures) target.taken target.failed target_old target_new file j ending
+  buffered_job file (job.Compact j) ending does = copied file j.meta j.page_size _ _ j.extent ending does
+  buffered_job file (job.Load j) ending does = elim does [
+    | inl (right, writes) ↦ inl (right, written _ (text_members file) _ (λ copy. done (lengths_line (length file) copy)) ending writes)
+    | inr (fault, is, same, target, ends) ↦ inr (fault, is, untouched same, target, ends)
+  ]
+  buffered_job file j ending (answer, is, does, same) = (answer, is, does_buffered answer ending does, same)

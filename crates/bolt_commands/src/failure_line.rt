@@ -1,0 +1,63 @@
+//! The line that says why a job isn't done.
+ghost use Rattle.std.specs.Prelude.{◌++◌, codes, decimal};
+ghost use Rattle.bolt_format.specs.{Endings.ending, Wrote.Wrote};
+ghost use Rattle.bolt_report.specs.FaultWords.{finding_text};
+ghost use Rattle.bolt_load.specs.FaultWords.{line_fault_words};
+ghost use Rattle.bolt_commands.specs.Failures.{failure_line, failure_text};
+
+use crate::failure::Failure;
+use crate::words::{put_number_and, put_words};
+use bolt_check::Finding;
+use bolt_format::{Sink, SinkFault};
+use bolt_load::LineFault;
+use bolt_report::{finding_text, meta_fault_text, page_fault_text, snapshot_fault_text};
+
+/// Writes the line of a failure: `error: ` and its text.
+pub(crate) fn put_failure<E: Sink>(failure: &Failure, err: &mut E) -> Result<(), SinkFault>
+    ensures { Wrote E.Sink err.old err.new (failure_line failure.now) (ending result) }
+{
+    put_words(b"error: ", err)?;
+    put_text(failure, err)
+}
+
+fn put_text<E: Sink>(failure: &Failure, err: &mut E) -> Result<(), SinkFault>
+    ensures { Wrote E.Sink err.old err.new (failure_text failure.now) (ending result) }
+{
+    match failure {
+        Failure::Metas(fault) => meta_fault_text(*fault, err),
+        Failure::File(finding) => put_file_refused(finding, err),
+        Failure::Page(fault) => page_fault_text(fault, err),
+        Failure::NoBucket => put_words(b"bucket not found\n", err),
+        Failure::NoKey => put_words(b"key not found\n", err),
+        Failure::Memory => put_words(b"out of memory\n", err),
+        Failure::TooLarge => put_words(b"layout too large\n", err),
+        Failure::Hash(fault) => snapshot_fault_text(*fault, err),
+        Failure::Exists => put_words(b"lost+found exists\n", err),
+        Failure::Write => put_words(b"write failed\n", err),
+        Failure::Lost(count) => put_pages_lost(*count, err),
+        Failure::Line(line, fault) => put_line_fault(*line, *fault, err),
+    }
+}
+
+fn put_file_refused<E: Sink>(finding: &Finding, err: &mut E) -> Result<(), SinkFault>
+    ensures { Wrote E.Sink err.old err.new (codes "file refused: " ++ finding_text finding.now) (ending result) }
+{
+    put_words(b"file refused: ", err)?;
+    finding_text(finding, err)
+}
+
+fn put_pages_lost<E: Sink>(count: u64, err: &mut E) -> Result<(), SinkFault>
+    ensures { Wrote E.Sink err.old err.new (codes "pages lost: " ++ (decimal count ++ codes "\n")) (ending result) }
+{
+    put_words(b"pages lost: ", err)?;
+    put_number_and(count, b"\n", err)
+}
+
+fn put_line_fault<E: Sink>(line: u64, fault: LineFault, err: &mut E) -> Result<(), SinkFault>
+    ensures { Wrote E.Sink err.old err.new (codes "line " ++ ((decimal line ++ codes ": ") ++ (line_fault_words fault ++ codes "\n"))) (ending result) }
+{
+    put_words(b"line ", err)?;
+    put_number_and(line, b": ", err)?;
+    put_words(fault.words().as_bytes(), err)?;
+    put_words(b"\n", err)
+}

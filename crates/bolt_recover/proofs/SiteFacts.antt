@@ -1,0 +1,102 @@
+-- Sites along ways: the spot there, the next one, and the elements.
+use Rattle.std.proofs.Common.{◌≡◌, ◌∙◌, inl, inr, ℕ, suc, ◌<◌, ◌≤◌, Bool, List, [], ◌∷◌, ◌++◌, length, Option, Some, None, Result, Ok, Err, slice_get, refl, sym, ap, subst, arith}
+use Rattle.bolt_recover.proofs.Words.{At_inline, At_page, Contains, elements_at, Entry, entry_count, follow, follow_sites, has_at, has_from_contains, leaf_entry, LeafElement, leaves_of, length-map, Meta, next_site, Node, node_at, Nodes, option_map, page_at, PageSpot, Path, Site, site_at, site_on, site_size, reached, root_site, same_Some, slice_get_within, Spot, step, step_at, step_entry, step_from, step_site}
+use Rattle.bolt_recover.proofs.SiteSteps.{page_form}
+
+abbrev spot_in : Option Site → Option Spot
+spot_in o = option_map (λ (p : Site). p.spot) o
+
+spot_on : (file : List ℕ) (meta : Meta) (path : Path) (e : Option LeafElement) (s : Option Spot) → spot_in (site_on file meta path e s) ≡ s
+spot_on file meta path e None = refl
+spot_on file meta path None (Some s) = refl
+spot_on file meta path (Some e) (Some s) = refl
+
+spot_next : (file : List ℕ) (meta : Meta) (here : Option Site) (i : ℕ) → spot_in (next_site file meta here i) ≡ step (node_at file meta) (spot_in here) i
+spot_next file meta None i = refl
+spot_next file meta (Some p) i = spot_on file meta p.path (slice_get p.elements i) (step_from (node_at file meta) p.spot i)
+
+spot_follow : (file : List ℕ) (meta : Meta) (here : Option Site) (way : List ℕ) → spot_in (follow_sites file meta here way) ≡ follow (node_at file meta) (spot_in here) way
+spot_follow file meta here [] = refl
+spot_follow file meta here (i ∷ way) =
+    spot_follow file meta (next_site file meta here i) way ∙ ap (λ (s : Option Spot). follow (node_at file meta) s way) (spot_next file meta here i)
+
+-- the spot of a site is where its way leads
+pub spot_is : (file : List ℕ) (meta : Meta) (way : List ℕ) (p : Site) → site_at file meta way ≡ Some p → reached (node_at file meta) meta.root way ≡ Some p.spot
+spot_is file meta way p is = sym (spot_follow file meta (Some (root_site file meta)) way) ∙ ap spot_in is
+
+site_of : (o : Option Site) (s : Spot) → spot_in o ≡ Some s → (p : Site) × (o ≡ Some p) × (p.spot ≡ s)
+site_of None s e = absurd (cc)
+site_of (Some p) s e = (p, refl, let same : Some p.spot ≡ Some s = e in cc)
+
+-- and each way that leads somewhere has a site
+pub site_is : (file : List ℕ) (meta : Meta) (way : List ℕ) (s : Spot) → reached (node_at file meta) meta.root way ≡ Some s
+    → (p : Site) × (site_at file meta way ≡ Some p) × (p.spot ≡ s)
+site_is file meta way s e = site_of (site_at file meta way) s (spot_follow file meta (Some (root_site file meta)) way ∙ e)
+
+follow_next : (file : List ℕ) (meta : Meta) (here : Option Site) (way : List ℕ) (i : ℕ)
+    → follow_sites file meta here (way ++ i ∷ []) ≡ next_site file meta (follow_sites file meta here way) i
+follow_next file meta here [] i = refl
+follow_next file meta here (j ∷ way) i = follow_next file meta (next_site file meta here j) way i
+
+-- one step further
+pub site_further : (file : List ℕ) (meta : Meta) (way : List ℕ) (i : ℕ) (p : Site) → site_at file meta way ≡ Some p → site_at file meta (way ++ i ∷ []) ≡ step_site file meta p i
+site_further file meta way i p is = follow_next file meta (Some (root_site file meta)) way i ∙ ap (λ (o : Option Site). next_site file meta o i) is
+
+-- the elements at a site are those of its spot
+abbrev HasElements : List ℕ → Meta → Site → Type 0
+HasElements file meta p = (value : List ℕ) × (p.elements ≡ elements_at file meta p.spot value)
+
+elements_on : (file : List ℕ) (meta : Meta) (path : Path) (e : Option LeafElement) (s : Option Spot) (p : Site) → site_on file meta path e s ≡ Some p → HasElements file meta p
+elements_on file meta path e None p is = absurd (cc)
+elements_on file meta path None (Some s) p is = subst (HasElements file meta) (same_Some _ p is) ([], refl)
+elements_on file meta path (Some e) (Some s) p is = subst (HasElements file meta) (same_Some _ p is) (e.value, refl)
+
+elements_next : (file : List ℕ) (meta : Meta) (here : Option Site) (i : ℕ) (p : Site) → next_site file meta here i ≡ Some p → HasElements file meta p
+elements_next file meta None i p is = absurd (cc)
+elements_next file meta (Some q) i p is = elements_on file meta q.path (slice_get q.elements i) (step_from (node_at file meta) q.spot i) p is
+
+elements_follow : (file : List ℕ) (meta : Meta) (here : Option Site) (way : List ℕ) (p : Site) → ((q : Site) → here ≡ Some q → HasElements file meta q)
+    → follow_sites file meta here way ≡ Some p → HasElements file meta p
+elements_follow file meta here [] p has is = has p is
+elements_follow file meta here (i ∷ way) p has is = elements_follow file meta (next_site file meta here i) way p (λ q next. elements_next file meta here i q next) is
+
+pub elements_is : (file : List ℕ) (meta : Meta) (way : List ℕ) (p : Site) → site_at file meta way ≡ Some p → HasElements file meta p
+elements_is file meta way p is =
+    elements_follow file meta (Some (root_site file meta)) way p (λ q here. subst (HasElements file meta) (same_Some (root_site file meta) q here) ([], refl)) is
+
+-- a page that is a node shows no more leaf elements than it has entries
+page_leaves : (file : List ℕ) (meta : Meta) (n : ℕ) (node : Node) → node_at file meta n ≡ Ok node → length (leaves_of (page_at file meta n)) ≤ length node.entries
+page_leaves file meta n node is = elim (page_form file meta n node is) [
+  | inl (leaf, entries) ↦ (let long = ap length entries ∙ length-map (leaves_of (page_at file meta n)) leaf_entry in omega (arith, long))
+  | inr (branch, none) ↦ (let short = ap length none in omega (arith, short))
+]
+
+pub size_enough : (file : List ℕ) (meta : Meta) (p : Site) (s : PageSpot) (node : Node) → HasElements file meta p → p.spot ≡ At_page s → node_at file meta s.number ≡ Ok node
+    → length p.elements ≤ site_size (node_at file meta) p.spot p.elements
+size_enough file meta p s node (value, has) at page =
+    let long = ap length (has ∙ ap (λ (t : Spot). elements_at file meta t value) at) in
+    let few = page_leaves file meta s.number node page in
+    let size : site_size (node_at file meta) p.spot p.elements ≡ length node.entries =
+    ap (λ (t : Spot). site_size (node_at file meta) t p.elements) at ∙ ap entry_count page in
+    omega (arith, long, few, size)
+
+-- an entry that leads somewhere is there
+entry_within : (is_leaf : Bool) (s : PageSpot) (entries : List Entry) (i : ℕ) (o next : Option Entry) (t : Spot) → slice_get entries i ≡ o → step_entry is_leaf s o next ≡ Some t → i < length entries
+entry_within is_leaf s entries i None next t at e = absurd (cc)
+entry_within is_leaf s entries i (Some x) next t at e = slice_get_within entries i x at
+
+step_within : (r : Result Node ℕ) (s : PageSpot) (i : ℕ) (t : Spot) → step_at r s i ≡ Some t → i < entry_count r
+step_within (Err fault) s i t e = absurd (cc)
+step_within (Ok node) s i t e = entry_within node.is_leaf s node.entries i (slice_get node.entries i) (slice_get node.entries (suc i)) t refl e
+
+pub leads_within : (nodes : Nodes) (s : Spot) (elements : List LeafElement) (i : ℕ) (t : Spot) → step_from nodes s i ≡ Some t → i < site_size nodes s elements
+leads_within nodes (At_page s) elements i t e = step_within (nodes s.number) s i t e
+leads_within nodes (At_inline host keys) elements i t e = absurd (cc)
+
+-- a step to a site is a step of its spot
+pub step_spot : (file : List ℕ) (meta : Meta) (p t : Site) (i : ℕ) → step_site file meta p i ≡ Some t → step_from (node_at file meta) p.spot i ≡ Some t.spot
+step_spot file meta p t i e = sym (spot_on file meta p.path (slice_get p.elements i) (step_from (node_at file meta) p.spot i)) ∙ ap spot_in e
+
+-- where an element stands
+pub slice_of : (xs : List LeafElement) (e : LeafElement) → Contains xs e → (i : ℕ) × (i < length xs) × (slice_get xs i ≡ Some e)
+slice_of xs e has = let (i, get) = has_at xs e (has_from_contains xs e has) in (i, slice_get_within xs i e get, get)

@@ -1,0 +1,92 @@
+-- The keys of a site that is kept: they rise between its bounds, its elements have them, and each child has its bounds from them.
+use Rattle.std.proofs.Common.{◌≡◌, ◌∙◌, ◌⊎◌, inl, inr, ℕ, suc, Bool, true, false, List, [], ◌∷◌, ◌++◌, Option, Some, None, slice_get, if◌then◌else◌, refl, sym, ap}
+use Rattle.bolt_recover.proofs.Words.{At_inline, At_page, Entry, Finding, finding_none, finding_of, is_below, is_from, Key, key_at, key_each, key_rise, keys_of, keys_order_fault, KeysRise, leaf_entry, LeafElement, lower_of, Meta, Node, node_at, none-some, option_map, PageSpot, Passes, Path, Site, slice_get-map, Spot, step_site, upper_from, upper_of}
+use Rattle.bolt_recover.proofs.SiteSteps.{IsBranchPage, IsLeafPage, IsTidy, IsTidyAt, keys_in, on_page}
+
+-- a bucket of a leaf has a path of its own, and a child of a branch has the keys from its element to the next
+abbrev pub IsInside : Site → Site → ℕ → Type 0
+IsInside p t i = (e : LeafElement) × (slice_get p.elements i ≡ Some e) × (t.path ≡ p.path ++ e.key ∷ []) × (e.is_bucket ≡ true)
+
+pub record IsChild (p t : Site) (i : ℕ) (keys : List Key) : Type 0 where
+  pub path : t.path ≡ p.path
+  pub none : slice_get p.elements i ≡ None
+  pub key : Key
+  pub at : slice_get keys i ≡ Some key
+  pub lower : lower_of t.spot ≡ Some key
+  pub next : (k : Key) → slice_get keys (suc i) ≡ Some k → upper_of t.spot ≡ Some k
+  pub last : slice_get keys (suc i) ≡ None → upper_of t.spot ≡ upper_of p.spot
+
+-- what the keys of a kept site are
+pub record Keyed (file : List ℕ) (meta : Meta) (p : Site) (keys : List Key) : Type 0 where
+  pub rise : KeysRise keys
+  pub each : (j : ℕ) (q : Key) → slice_get keys j ≡ Some q → (is_from (lower_of p.spot) q ≡ true) × (is_below (upper_of p.spot) q ≡ true)
+  pub own : (i : ℕ) (e : LeafElement) → slice_get p.elements i ≡ Some e → slice_get keys i ≡ Some e.key
+  pub kids : (i : ℕ) (t : Site) → step_site file meta p i ≡ Some t → IsInside p t i ⊎ IsChild p t i keys
+
+no_late : (b : Bool) (x : Finding) (o : Option ℕ) (page : ℕ) → (if b then Some x else finding_of o page) ≡ None → o ≡ None
+no_late true x o page e = absurd (cc)
+no_late false x o page e = finding_none o page e
+
+key_of_element : (elements : List LeafElement) (i : ℕ) (e : LeafElement) → slice_get elements i ≡ Some e → slice_get (keys_in elements) i ≡ Some e.key
+key_of_element elements i e at = slice_get-map (λ (x : LeafElement). x.key) elements i ∙ ap (option_map (λ (x : LeafElement). x.key)) at
+
+-- in a branch
+upper_next : (next : Option Entry) (upper : Option Key) (k : Key) → option_map (λ (e : Entry). e.key) next ≡ Some k → upper_from next upper ≡ Some k
+upper_next None upper k e = absurd (cc)
+upper_next (Some x) upper k e = e
+
+upper_same : (next : Option Entry) (upper : Option Key) → option_map (λ (e : Entry). e.key) next ≡ None → upper_from next upper ≡ upper
+upper_same None upper e = refl
+upper_same (Some x) upper e = absurd (cc)
+
+on_page_kids : (file : List ℕ) (meta : Meta) (p : Site) (s : PageSpot) (node : Node) (i : ℕ) (t : Site) → p.spot ≡ At_page s → IsLeafPage file meta p s node ⊎ IsBranchPage file meta p s node
+    → step_site file meta p i ≡ Some t → IsInside p t i ⊎ IsChild p t i (keys_of node.entries)
+on_page_kids file meta p s node i t spot (inl leaf) is = let (e, get, bucket, same) = leaf.from i t is in inl (e, get, ap (λ (q : Site). q.path) same, bucket)
+on_page_kids file meta p s node i t spot (inr branch) is =
+    let (x, get, same) = branch.from i t is in
+    let next = slice_get-map (λ (e : Entry). e.key) node.entries (suc i) in
+    inr (record {
+      path = ap (λ (q : Site). q.path) same;
+      none = ap (λ (xs : List LeafElement). slice_get xs i) branch.none;
+      key = x.key;
+      at = key_at node.entries i x get;
+      lower = ap (λ (q : Site). lower_of q.spot) same;
+      next = λ k e. ap (λ (q : Site). upper_of q.spot) same ∙ upper_next (slice_get node.entries (suc i)) s.upper k (sym next ∙ e);
+      last = λ e. ap (λ (q : Site). upper_of q.spot) same ∙ upper_same (slice_get node.entries (suc i)) s.upper (sym next ∙ e) ∙ ap upper_of (sym spot);
+    })
+
+own_key : (file : List ℕ) (meta : Meta) (p : Site) (s : PageSpot) (node : Node) (i : ℕ) (e : LeafElement) → IsLeafPage file meta p s node ⊎ IsBranchPage file meta p s node
+    → slice_get p.elements i ≡ Some e → slice_get (keys_of node.entries) i ≡ Some e.key
+own_key file meta p s node i e (inl leaf) at =
+    key_at node.entries i (leaf_entry e) (ap (λ (es : List Entry). slice_get es i) leaf.entries ∙ slice_get-map leaf_entry p.elements i ∙ ap (option_map leaf_entry) at)
+own_key file meta p s node i e (inr branch) at = absurd (none-some e (ap (λ (xs : List LeafElement). slice_get xs i) (sym branch.none) ∙ at))
+
+keyed_at : (file : List ℕ) (meta : Meta) (before : ℕ → Type 0) (spot : Spot) (path : Path) (elements : List LeafElement) → IsTidyAt file meta elements spot → Passes (node_at file meta) before spot
+    → (keys : List Key) × Keyed file meta (record { spot = spot; path = path; elements = elements }) keys
+keyed_at file meta before (At_inline host keys) path elements tidy passes =
+    let none = finding_none (keys_order_fault None None None keys) host passes in (
+      keys,
+      record {
+        rise = key_rise None None None keys none;
+        each = λ j q at. let t = key_each None None None keys none j q at in (t.1, t.2);
+        own = λ i e at. ap (λ (ks : List Key). slice_get ks i) tidy ∙ key_of_element elements i e at;
+        kids = λ i t is. absurd (cc);
+      },
+    )
+keyed_at file meta before (At_page s) path elements tidy passes =
+    let node = passes.node in
+    let keys = keys_of node.entries in
+    let none = no_late _ _ (keys_order_fault None s.lower s.upper keys) s.number passes.content in
+    let p : Site = record { spot = At_page s; path = path; elements = elements } in
+    let form = on_page file meta p s node tidy refl passes.page in (
+      keys,
+      record {
+        rise = key_rise None s.lower s.upper keys none;
+        each = λ j q at. let t = key_each None s.lower s.upper keys none j q at in (t.1, t.2);
+        own = λ i e at. own_key file meta p s node i e form at;
+        kids = λ i t is. on_page_kids file meta p s node i t refl form is;
+      },
+    )
+
+pub keyed : (file : List ℕ) (meta : Meta) (before : ℕ → Type 0) (p : Site) → IsTidy file meta p → Passes (node_at file meta) before p.spot → (keys : List Key) × Keyed file meta p keys
+keyed file meta before p tidy passes = keyed_at file meta before p.spot p.path p.elements tidy passes
