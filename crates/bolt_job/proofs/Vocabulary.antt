@@ -9,7 +9,7 @@ pub use Rattle.bolt_job.specs.PlainWords.{Asked, asked, asked_of, assumed_of, as
 pub use Rattle.bolt_job.specs.Syntaxes.{argument_rule, line_of}
 pub use Rattle.bolt_job.specs.declared.job.Refusal.TheVariants.{Help, Memory, Usage, Version, Word}
 pub use Rattle.bolt_job.specs.{declared.job.Job.Job, declared.choices.PageSize.PageSize, declared.job.Refusal.Refusal}
-pub use Rattle.bolt_load.specs.{Numbers.number_in}
+pub use Rattle.bolt_text.specs.Numbers.{number_in}
 pub use Rattle.bolt_tree.proofs.{Filters.not_true}
 pub use Rattle.bolt_tree.specs.{Paths.Path}
 pub use Rattle.clap.proofs.WalkLemmas.{first_value-rows, list_any-map, raw_values-rows}
