@@ -1,4 +1,4 @@
-//! What the definitions of figures, of sizes and of the lines of a listing imply.
+//! What the definitions of sizes imply, and that figures and sizes as JSON are read back.
 ghost use Rattle.std.specs.Prelude.{◌≡◌, ◌<◌, ◌^◌, ℕ, List, Some, map, option_and_then};
 ghost use Rattle.hex.specs.Hex.{IsBytes};
 ghost use Rattle.json.specs.Json.{document};

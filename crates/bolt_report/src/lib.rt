@@ -1,5 +1,6 @@
-//! The texts that are printed, their forms and faults, and the figures of buckets. A call with a
-//! sink writes its text to it. If it fails, the sink has accepted a prefix of the text.
+//! The texts that are printed of files, buckets, pages and faults. A call with a sink writes its text
+//! to it. If it fails, the sink has accepted a prefix of the text. The names of `bolt_text` and of
+//! `bolt_stats` that a caller needs are passed on.
 #![tactic(auto)]
 
 mod fault_lines;

@@ -17,6 +17,7 @@ use std::str;
 /// Writes keys and values in a form. Only `Json` needs memory, which is kept from item to item.
 #[derive(Drop)]
 pub struct ItemWriter {
+    /// The form.
     pub form: Form,
     json: JsonText,
 }

@@ -10,18 +10,23 @@ use memchr::memchr;
 /// The last word of a line: a value in hexadecimal, or the sequence of a bucket.
 #[derive(Clone, Copy)]
 pub enum ItemWord<'a> {
+    /// The value. Whether these are hexadecimal digits isn't tested.
     Digits(&'a [u8]),
+    /// The sequence.
     Sequence(u64),
 }
 
 /// The words of a line: a path in hexadecimal, and what is there.
 #[derive(Clone, Copy)]
 pub struct LineWords<'a> {
+    /// The path. Whether it is hexadecimal isn't tested.
     pub path: &'a [u8],
+    /// What is there.
     pub item: ItemWord<'a>,
 }
 
-/// The words of a line, if there are three.
+/// The words of a line, if there are three and the second is a mark: a path, the mark and what it is of
+/// (docs/LISTING.md, "A listing as text").
 pub fn words_of(line: &[u8]) -> Option<LineWords<'_>>
     ensures { line_member line.now ≡ option_and_then words_member result }
 {
