@@ -7,7 +7,7 @@ pub use Rattle.bolt_load.specs.Private.OpenPaths.{fault_after, fault_by, is_open
 unfoldable pub use Rattle.bolt_load.specs.ShownMembers.{members_left, members_path}
 pub use Rattle.bolt_load.specs.declared.fault.LineFault.{LineFault}
 pub use Rattle.bolt_load.specs.declared.fault.LineFault.TheVariants.{KeyTooLong, NotALine, ValueTooLong}
-pub use Rattle.bolt_text.specs.Cuts.{IsCut, IsFirstLine, IsWithout}
+pub use Rattle.bolt_text.specs.Cuts.{IsCutAt, IsFirstLine, IsWithout}
 pub use Rattle.bolt_text.specs.HexPaths.{hex_bytes_in, part_in, parts_in}
 unfoldable pub use Rattle.bolt_text.specs.HexPaths.{hex_path_in}
 pub use Rattle.bolt_text.specs.JsonReadings.{ArePartsBytes, IsMemberOfBytes}

@@ -1,6 +1,6 @@
 -- Figures and sizes as JSON are read back.
 use Rattle.std.proofs.Common.{◌≡◌, ◌∙◌, ◌+◌, ℕ, ◌<◌, ◌≤◌, ◌^◌, List, [], ◌∷◌, Option, Some, None, arith, ap, map, option_and_then, option_map, refl}
-use Rattle.bolt_report.proofs.Words.{bytes_allocated, bytes_used, capped, IsBytes, json_text, size_json, Stats}
+use Rattle.bolt_report.proofs.Words.{bytes_allocated, bytes_used, saturated, IsBytes, json_text, size_json, Stats}
 use Rattle.std.specs.Prelude.{IfSome}
 use Rattle.json.proofs.{Printed.Decimals.IsNumber-decimal, Printed.Trees.document-print}
 use Rattle.json.specs.Json.{Json, document, no_members}
@@ -9,8 +9,8 @@ use Rattle.bolt_report.specs.FigureForms.{Named, figures_json, figures_then, jso
 use Rattle.bolt_report.specs.FigureReadings.{HaveWords, count_of, figures_in, figures_of, size_of}
 use Rattle.bolt_text.proofs.JsonLemmas.{Reads, numeral_back}
 
-capped_fits : (n : ℕ) → capped n < 2 ^ 64
-capped_fits n = omega arith
+saturated_fits : (n : ℕ) → saturated n < 2 ^ 64
+saturated_fits n = omega arith
 
 -- what is found in turn is found together
 all_found : {K U A : ℕ} {N : Option (List ℕ)} {keys used allocated : ℕ} {name : List ℕ} → K ≡ keys → U ≡ used → A ≡ allocated → N ≡ Some name
@@ -21,8 +21,8 @@ module _ (shown : List ℕ → Json) (read : Json → Option (List ℕ)) (reads 
   pub size_back : (stats : Stats) (name : List ℕ) → stats.keys < 2 ^ 64 → IsBytes name
       → option_and_then (size_of read) (document (json_text (size_json stats (shown name)))) ≡ Some (stats.keys, bytes_used stats, bytes_allocated stats, name)
   size_back stats name fits h =
-      let used = capped_fits (stats.branch_used + stats.leaf_used + stats.inline_used) in
-      let allocated = capped_fits (stats.branch_allocated + stats.leaf_allocated + stats.inline_used) in
+      let used = saturated_fits (stats.branch_used + stats.leaf_used + stats.inline_used) in
+      let allocated = saturated_fits (stats.branch_allocated + stats.leaf_allocated + stats.inline_used) in
       let numbers : HasNumbers (size_json stats (shown name)) = (IsNumber-decimal stats.keys fits, (IsNumber-decimal (bytes_used stats) used, (IsNumber-decimal (bytes_allocated stats) allocated, (reads.numbers name, tt)))) in
       ap (option_and_then (size_of read)) (document-print (size_json stats (shown name)) numbers (omega (arith, reads.shallow name)))
       ∙ all_found (numeral_back stats.keys fits) (numeral_back (bytes_used stats) used) (numeral_back (bytes_allocated stats) allocated) (reads.back name h)

@@ -87,7 +87,7 @@ pub(crate) fn put_count<S: Sink>(count: u64, sink: &mut S) -> Result<(), SinkFau
 }
 
 /// Writes the line of a finding up to its end, and then these words. A finding is of a page or of a
-/// run of pages.
+/// several in a row.
 #[tactic(auto, unfolding(crate::specs::FaultWords::pages_words))]
 pub(crate) fn put_sentence<S: Sink>(
     finding: &Finding,
@@ -133,10 +133,10 @@ pub(crate) fn meta_fault_line(fault: MetaFault) -> &'static [u8]
 }
 
 #[tactic(auto, unfolding(crate::specs::FaultWords::page_fault_words))]
-fn page_fault_words(number: u8) -> &'static [u8]
-    ensures { result.now ≡ page_fault_words number }
+fn page_fault_words(code: u8) -> &'static [u8]
+    ensures { result.now ≡ page_fault_words code }
 {
-    match number {
+    match code {
         PageFault::RANGE => b"out of range",
         PageFault::CUT => b"cut off",
         PageFault::ID => b"wrong page number",
@@ -154,10 +154,10 @@ fn page_fault_words(number: u8) -> &'static [u8]
 }
 
 #[tactic(auto, unfolding(crate::specs::FaultWords::finding_words, crate::specs::FaultWords::page_fault_words))]
-fn finding_words(number: u8) -> &'static [u8]
-    ensures { result.now ≡ finding_words number }
+fn finding_words(code: u8) -> &'static [u8]
+    ensures { result.now ≡ finding_words code }
 {
-    match number {
+    match code {
         Finding::TWICE => b"referenced twice",
         Finding::ORDER => b"keys not rising",
         Finding::BELOW_PARENT => b"key below its branch key",
@@ -168,6 +168,6 @@ fn finding_words(number: u8) -> &'static [u8]
         Finding::REACHED_FREED => b"reachable freed",
         Finding::UNREACHABLE => b"unreachable unfreed",
         Finding::FREE_RANGE => b"free page out of range",
-        _ => page_fault_words(number),
+        _ => page_fault_words(code),
     }
 }

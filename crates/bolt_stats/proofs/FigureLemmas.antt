@@ -1,9 +1,9 @@
 -- Sums with a greatest number, and over a list from an element on.
 use Rattle.std.proofs.Common.{◌≡◌, ◌∙◌, ◌≤◌, ℕ, ◌+◌, List, Some, ap, arith, drop, length, slice_get, sum_by}
-use Rattle.bolt_stats.proofs.Words.{capped, drop_all, drop_next, figure, Figure, Stats, sum_by-cons}
+use Rattle.bolt_stats.proofs.Words.{saturated, drop_all, drop_next, figure, Figure, Stats, sum_by-cons}
 use Rattle.bolt_stats.specs.Figures.{add_stats}
 
-pub figure_add : (f : Figure) (a b : Stats) → figure f (add_stats a b) ≡ capped (figure f a + figure f b)
+pub figure_add : (f : Figure) (a b : Stats) → figure f (add_stats a b) ≡ saturated (figure f a + figure f b)
 figure_add f a b = grind arith
 
 module _ {A : Type 0} (f : A → ℕ) (xs : List A) (i : ℕ) where

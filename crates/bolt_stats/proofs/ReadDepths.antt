@@ -1,26 +1,26 @@
 -- Depths of what is still to be read, through the reading of a page and of a bucket.
 use Rattle.std.proofs.Common.{◌≡◌, ◌∙◌, ℕ, zero, suc, ◌+◌, max, Bool, true, false, List, [], ◌∷◌, ◌++◌, Result, Ok, Err, map, refl, ap, arith}
-use Rattle.bolt_stats.proofs.Words.{capped, deepest_of, depth_of, Enough, greatest, height_from, height_of, inner_inline, inner_pages, inner_roots, leaf_at, leaf_depth, map-append, Meta, Node, node_at, Nodes, numbers_of, pages_at, unread_bucket, unread_page, UnreadBucket, UnreadPage}
+use Rattle.bolt_stats.proofs.Words.{saturated, deepest_of, depth_of, Enough, greatest, height_from, height_of, inner_inline, inner_pages, inner_roots, leaf_at, leaf_depth, map-append, Meta, Node, node_at, Nodes, numbers_of, pages_at, unread_bucket, unread_page, UnreadBucket, UnreadPage}
 use Rattle.bolt_stats.proofs.DepthSums.{deepest_kids, greatest_append, greatest_map, height_kids}
 
--- a depth that is capped counts the same
-greatest_capped : (f g : ℕ → ℕ) (xs : List ℕ) → ((n : ℕ) → capped (f n) ≡ capped (g n)) → capped (greatest f xs) ≡ capped (greatest g xs)
+-- a depth that is saturated counts the same
+greatest_capped : (f g : ℕ → ℕ) (xs : List ℕ) → ((n : ℕ) → saturated (f n) ≡ saturated (g n)) → saturated (greatest f xs) ≡ saturated (greatest g xs)
 greatest_capped f g [] same = refl
 greatest_capped f g (x ∷ xs) same = let here = same x in let rest = greatest_capped f g xs same in omega (arith, here, rest)
 
-leaf_capped : (r : Result Node ℕ) (a b : ℕ) → capped a ≡ capped b → capped (leaf_at r a) ≡ capped (leaf_at r b)
+leaf_capped : (r : Result Node ℕ) (a b : ℕ) → saturated a ≡ saturated b → saturated (leaf_at r a) ≡ saturated (leaf_at r b)
 leaf_capped (Err fault) a b same = refl
 leaf_capped (Ok node) a b same = by_kind node.is_leaf
   where
-    by_kind : (is_leaf : Bool) → capped (leaf_depth is_leaf a) ≡ capped (leaf_depth is_leaf b)
+    by_kind : (is_leaf : Bool) → saturated (leaf_depth is_leaf a) ≡ saturated (leaf_depth is_leaf b)
     by_kind true = same
     by_kind false = refl
 
-height_capped : (nodes : Nodes) (a b k n : ℕ) → capped a ≡ capped b → capped (height_from nodes a k n) ≡ capped (height_from nodes b k n)
+height_capped : (nodes : Nodes) (a b k n : ℕ) → saturated a ≡ saturated b → saturated (height_from nodes a k n) ≡ saturated (height_from nodes b k n)
 height_capped nodes a b zero n same = refl
 height_capped nodes a b (suc k) n same =
     let own = leaf_capped (nodes n) a b same in
-    let next : capped (suc a) ≡ capped (suc b) = omega (arith, same) in
+    let next : saturated (suc a) ≡ saturated (suc b) = omega (arith, same) in
     let below = greatest_capped (height_from nodes (suc a) k) (height_from nodes (suc b) k) (pages_at (nodes n)) (λ m. height_capped nodes (suc a) (suc b) k m next) in
     omega (arith, own, below)
 
@@ -46,11 +46,11 @@ module _ (file : List ℕ) (meta : Meta) where
 
   -- the height of a page's own, and then of what is left, are that of what was left
   pub read_height : (rest old new : List UnreadPage) (p : UnreadPage) (node : Node) (h : ℕ) → node_at file meta p.number ≡ Ok node → Enough (node_at file meta) meta.high_water p.number
-      → old ≡ rest ++ p ∷ [] → new ≡ rest ++ map (unread_page (capped (p.depth + 1))) (inner_pages node) → h ≡ leaf_depth node.is_leaf p.depth
-      → capped (max h (greatest page_height new)) ≡ capped (greatest page_height old)
+      → old ≡ rest ++ p ∷ [] → new ≡ rest ++ map (unread_page (saturated (p.depth + 1))) (inner_pages node) → h ≡ leaf_depth node.is_leaf p.depth
+      → saturated (max h (greatest page_height new)) ≡ saturated (greatest page_height old)
   read_height rest old new p node h page enough before after own =
       let nodes = node_at file meta in
-      let d = capped (p.depth + 1) in
+      let d = saturated (p.depth + 1) in
       let whole = height_kids nodes p.depth meta.high_water p.number node page enough in
       let all = ap (greatest page_height) after ∙ greatest_append page_height rest (map (unread_page d) (inner_pages node)) in
       let kids = greatest_map page_height (unread_page d) (inner_pages node) in
@@ -74,10 +74,10 @@ module _ (file : List ℕ) (meta : Meta) where
 
   -- a bucket's own depth, and those of the buckets found in it, are its depth
   pub read_end : (old rest new : List UnreadBucket) (b : UnreadBucket) (found : List ℕ) (height above d deep : ℕ)
-      → capped height ≡ capped (height_of file meta 1 b.root) → max d (greatest (depth_of file meta) found) ≡ deepest_of file meta b.root
-      → above ≡ capped (b.above + height) → deep ≡ capped (above + d) → old ≡ rest ++ b ∷ []
+      → saturated height ≡ saturated (height_of file meta 1 b.root) → max d (greatest (depth_of file meta) found) ≡ deepest_of file meta b.root
+      → above ≡ saturated (b.above + height) → deep ≡ saturated (above + d) → old ≡ rest ++ b ∷ []
       → greatest bucket_end new ≡ max (greatest bucket_end rest) (greatest (λ (root : ℕ). bucket_end (unread_bucket above root)) found)
-      → capped (max deep (greatest bucket_end new)) ≡ capped (greatest bucket_end old)
+      → saturated (max deep (greatest bucket_end new)) ≡ saturated (greatest bucket_end old)
   read_end old rest new b found height above d deep high most sum end before after =
       let others = greatest (λ (root : ℕ). above + depth_of file meta root) found in
       let sum_up : max (above + d) others ≡ above + deepest_of file meta b.root = under above d (depth_of file meta) found ∙ ap (λ (x : ℕ). above + x) most in

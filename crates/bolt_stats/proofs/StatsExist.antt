@@ -1,6 +1,6 @@
 -- The figures of a bucket exist, and are those that the reading of its pages returns.
 use Rattle.std.proofs.Common.{◌≡◌, ◌≢◌, ◌∙◌, ℕ, suc, ◌+◌, ◌≤◌, ◌⊎◌, inl, inr, Bool, true, false, List, [], ◌==◌, ◌∷◌, ◌++◌, Option, Some, None, Result, Ok, Err, if◌then◌else◌, sum_by, refl, sym, ap, subst, arith}
-use Rattle.bolt_stats.proofs.Words.{AreGood, At_page, bucket_figure, capped, depth_of, Enough, Figure, figure, follow, follow_append, HasSoundTrees, Inline_page, IsDepth, IsStart, IsStatsOf, Meta, Node, node_at, Nodes, one_tour, own_figure, PageSpot, reached, Root_page, root_spot, Spot, Start, Stats, step, sum_by-cons, total_of, tour_figure, weight}
+use Rattle.bolt_stats.proofs.Words.{AreGood, At_page, bucket_figure, saturated, depth_of, Enough, Figure, figure, follow, follow_append, HasSoundTrees, Inline_page, IsDepth, IsStart, IsStatsOf, Meta, Node, node_at, Nodes, one_tour, own_figure, PageSpot, reached, Root_page, root_spot, Spot, Start, Stats, step, sum_by-cons, total_of, tour_figure, weight}
 use Rattle.bolt_stats.proofs.{DepthExists.AllFilled, DepthExists.depth_is, StatsOnce.stats_from}
 use Rattle.bolt_check.specs.{Nodes.Entry, OnWays.IsOnWay, Ways.At_inline, Ways.SpanHas, Ways.step_at, Ways.step_entry}
 use Rattle.bolt_check.proofs.{TourSums.bucket_sum, TourSums.spot_weight, WayFacts.in_own_span}
@@ -83,7 +83,7 @@ module _ (file : List ℕ) (meta : Meta) where
     same_weight f (Some (At_inline host inner)) = refl
 
     -- the sums over the bucket's tour, and its depth
-    pub paged_stats_are : (stats : Stats) → ((f : Figure) → figure f stats ≡ capped (bucket_figure f + total_of file meta (own_figure file meta f) (root ∷ []))) → stats.depth ≡ capped (depth_of file meta root)
+    pub paged_stats_are : (stats : Stats) → ((f : Figure) → figure f stats ≡ saturated (bucket_figure f + total_of file meta (own_figure file meta f) (root ∷ []))) → stats.depth ≡ saturated (depth_of file meta root)
         → IsPagedStats file meta root stats
     paged_stats_are stats sums deep =
         let (way, leads) = root_on_way root on in
@@ -112,8 +112,8 @@ figure_from sums deep f = grind arith
 
 pub some_stats : (file : List ℕ) (meta : Meta) (start : Start) → HasSoundTrees file meta → IsStart file meta start → (stats : Stats) × IsStatsOf file meta start stats
 some_stats file meta (Root_page root) trees on =
-    let sums : Figure → ℕ = λ f. capped (bucket_figure f + total_of file meta (own_figure file meta f) (root ∷ [])) in
-    (stats_from sums (capped (depth_of file meta root)), paged_stats_are file meta trees root on _ (figure_from sums _) refl)
+    let sums : Figure → ℕ = λ f. saturated (bucket_figure f + total_of file meta (own_figure file meta f) (root ∷ [])) in
+    (stats_from sums (saturated (depth_of file meta root)), paged_stats_are file meta trees root on _ (figure_from sums _) refl)
 some_stats file meta (Inline_page elements) trees on =
-    let sums : Figure → ℕ = λ f. capped (inline_figure f elements) in
+    let sums : Figure → ℕ = λ f. saturated (inline_figure f elements) in
     (stats_from sums 1, record { sums = figure_from sums 1; depth = refl })

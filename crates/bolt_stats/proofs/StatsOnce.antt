@@ -1,6 +1,6 @@
 -- The figures of a bucket are one.
 use Rattle.std.proofs.Common.{◌≡◌, ◌∙◌, ℕ, ◌+◌, ◌≤◌, inl, inr, List, sym, ap, refl, arith}
-use Rattle.bolt_stats.proofs.Words.{bucket_figure, capped, Figure, figure, inline, Inline_page, IsBucketIn, IsDeepest, IsDepth, IsHeight, IsStatsOf, Meta, node_at, Nodes, one_tour, paged, reached, Root_page, Start, Stats, tour_figure}
+use Rattle.bolt_stats.proofs.Words.{bucket_figure, saturated, Figure, figure, inline, Inline_page, IsBucketIn, IsDeepest, IsDepth, IsHeight, IsStatsOf, Meta, node_at, Nodes, one_tour, paged, reached, Root_page, Start, Stats, tour_figure}
 use Rattle.bolt_check.specs.Nodes.{Entry}
 use Rattle.bolt_stats.specs.Figures.{buckets, inline_buckets, inline_used, keys, branch_pages, branch_overflow, branch_allocated, branch_used, leaf_pages, leaf_overflow, leaf_allocated, leaf_used}
 use Rattle.bolt_stats.specs.StatsOf.{AreSums}
@@ -31,7 +31,7 @@ one_depth nodes (paged {root} h d depth ne height below deepest) (paged k c othe
 pub one_sum : (file : List ℕ) (meta : Meta) (root : ℕ) (a b : Stats) → AreSums file meta root a → AreSums file meta root b → (f : Figure) → figure f a ≡ figure f b
 one_sum file meta root a b h k f =
     let reach = reached (node_at file meta) root in
-    h.sums f ∙ ap (λ (tour : List (List ℕ)). capped (bucket_figure f + tour_figure file meta f reach tour)) (one_tour reach h.tour k.tour h.whole k.whole) ∙ sym (k.sums f)
+    h.sums f ∙ ap (λ (tour : List (List ℕ)). saturated (bucket_figure f + tour_figure file meta f reach tour)) (one_tour reach h.tour k.tour h.whole k.whole) ∙ sym (k.sums f)
 
 -- any figures are those of a record
 abbrev pub stats_from : (Figure → ℕ) → ℕ → Stats
@@ -57,5 +57,5 @@ same_stats a b same deep = λ i. stats_from (λ f. same f i) (deep i)
 pub one_stats : (file : List ℕ) (meta : Meta) (start : Start) (a b : Stats) → IsStatsOf file meta start a → IsStatsOf file meta start b → a ≡ b
 one_stats file meta (Root_page root) a b h k =
     same_stats a b (one_sum file meta root a b h.sums k.sums)
-    (h.shown ∙ ap capped (one_depth (node_at file meta) h.deep k.deep) ∙ sym k.shown)
+    (h.shown ∙ ap saturated (one_depth (node_at file meta) h.deep k.deep) ∙ sym k.shown)
 one_stats file meta (Inline_page elements) a b h k = same_stats a b (λ f. h.sums f ∙ sym (k.sums f)) (h.depth ∙ sym k.depth)

@@ -35,25 +35,25 @@ figure leaf_allocated stats = stats.leaf_allocated
 figure leaf_used stats = stats.leaf_used
 
 -- a figure above 2^64 - 1 saturates there
-abbrev pub capped : ℕ → ℕ
-capped n = min n (2 ^ 64 - 1)
+abbrev pub saturated : ℕ → ℕ
+saturated n = min n (2 ^ 64 - 1)
 
 -- sums, but the greater depth
 abbrev pub add_stats : Stats → Stats → Stats
 add_stats a b = record {
-  buckets = capped (a.buckets + b.buckets);
-  inline_buckets = capped (a.inline_buckets + b.inline_buckets);
-  inline_used = capped (a.inline_used + b.inline_used);
-  keys = capped (a.keys + b.keys);
+  buckets = saturated (a.buckets + b.buckets);
+  inline_buckets = saturated (a.inline_buckets + b.inline_buckets);
+  inline_used = saturated (a.inline_used + b.inline_used);
+  keys = saturated (a.keys + b.keys);
   depth = max a.depth b.depth;
-  branch_pages = capped (a.branch_pages + b.branch_pages);
-  branch_overflow = capped (a.branch_overflow + b.branch_overflow);
-  branch_allocated = capped (a.branch_allocated + b.branch_allocated);
-  branch_used = capped (a.branch_used + b.branch_used);
-  leaf_pages = capped (a.leaf_pages + b.leaf_pages);
-  leaf_overflow = capped (a.leaf_overflow + b.leaf_overflow);
-  leaf_allocated = capped (a.leaf_allocated + b.leaf_allocated);
-  leaf_used = capped (a.leaf_used + b.leaf_used);
+  branch_pages = saturated (a.branch_pages + b.branch_pages);
+  branch_overflow = saturated (a.branch_overflow + b.branch_overflow);
+  branch_allocated = saturated (a.branch_allocated + b.branch_allocated);
+  branch_used = saturated (a.branch_used + b.branch_used);
+  leaf_pages = saturated (a.leaf_pages + b.leaf_pages);
+  leaf_overflow = saturated (a.leaf_overflow + b.leaf_overflow);
+  leaf_allocated = saturated (a.leaf_allocated + b.leaf_allocated);
+  leaf_used = saturated (a.leaf_used + b.leaf_used);
 }
 
 -- the bytes that elements use, with their page's header

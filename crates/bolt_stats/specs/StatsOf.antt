@@ -5,7 +5,7 @@ use Rattle.bolt_format.specs.{Elements.LeafElement, Pages.page_at, declared.meta
 use Rattle.bolt_check.specs.{CheckedFiles.bytes_of, CheckedFiles.meta_of, Nodes.node_at, Tours.IsTour}
 use Rattle.bolt_check.specs.Ways.{At_inline, At_page, Reach, Spot, reached}
 use Rattle.bolt_tree.specs.{Buckets.bucket_checked, Buckets.bucket_start, declared.bucket.Bucket.Bucket, Entries.Inline_page, Entries.Root_page, Entries.Start}
-use Rattle.bolt_stats.specs.{Depths.IsDepth, Figures.Figure, Figures.bucket_figure, Figures.capped, Figures.figure, Figures.inline_figure, Figures.page_figure}
+use Rattle.bolt_stats.specs.{Depths.IsDepth, Figures.Figure, Figures.bucket_figure, Figures.saturated, Figures.figure, Figures.inline_figure, Figures.page_figure}
 use Rattle.bolt_stats.specs.declared.figures.Stats.{Stats}
 
 -- the figures of where a way leads; an inline bucket's are those of the page that holds it
@@ -22,17 +22,17 @@ tour_figure file meta f reach tour = sum_by (λ way. spot_figure file meta f (re
 pub record AreSums (file : List ℕ) (meta : Meta) (root : ℕ) (stats : Stats) : Type 0 where
   pub tour : List (List ℕ)
   pub whole : IsTour (reached (node_at file meta) root) tour
-  pub sums : (f : Figure) → figure f stats ≡ capped (bucket_figure f + tour_figure file meta f (reached (node_at file meta) root) tour)
+  pub sums : (f : Figure) → figure f stats ≡ saturated (bucket_figure f + tour_figure file meta f (reached (node_at file meta) root) tour)
 
 pub record IsPagedStats (file : List ℕ) (meta : Meta) (root : ℕ) (stats : Stats) : Type 0 where
   pub sums : AreSums file meta root stats
   pub depth : ℕ
   pub deep : IsDepth (node_at file meta) root depth
-  pub shown : stats.depth ≡ capped depth
+  pub shown : stats.depth ≡ saturated depth
 
 -- of an inline bucket with these elements
 pub record IsInlineStats (elements : List LeafElement) (stats : Stats) : Type 0 where
-  pub sums : (f : Figure) → figure f stats ≡ capped (inline_figure f elements)
+  pub sums : (f : Figure) → figure f stats ≡ saturated (inline_figure f elements)
   pub depth : stats.depth ≡ 1
 
 abbrev pub IsStatsOf : List ℕ → Meta → Start → Stats → Type 0

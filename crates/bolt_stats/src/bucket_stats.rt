@@ -5,12 +5,12 @@ ghost use Rattle.std.specs.Prelude.{◌≡◌, ◌<◌, ◌+◌, ◌∷◌, ◌+
 ghost use Rattle.bolt_format.specs.{ElementPlaces.leaf_view, Elements.IsBucketValue, Shown.shown};
 ghost use Rattle.bolt_check.specs.{CheckedFiles.bytes_of, CheckedFiles.meta_of, Nodes.Node, Nodes.leaf_entry, Nodes.node_at, Subtrees.Enough, Subtrees.Has};
 ghost use Rattle.bolt_stats.specs.Deepest.{deepest_in, depth_in, depth_of, greatest, height_of, inline_depth, inner_inline, leaf_depth};
-ghost use Rattle.bolt_stats.specs.Figures.{Figure, bucket_figure, capped, figure};
+ghost use Rattle.bolt_stats.specs.Figures.{Figure, bucket_figure, saturated, figure};
 ghost use Rattle.bolt_stats.specs.Readings.{AreGood, figure_in, pages_below, inner_pages, inner_roots, one, unread_bucket, unread_page, own_figure, root_page_of, roots_of};
 ghost use Rattle.bolt_stats.specs.{StatsOf.AreStats, declared.bucket_stats.UnreadBucket.UnreadBucket};
 
-use crate::page_stats::{inline_stats, page_stats};
 use crate::figures::{Stats, add};
+use crate::page_stats::{inline_stats, page_stats};
 use bolt_check::{Checked, NoMemory};
 use bolt_format::{Kind, Leaf, Page, head, known};
 use bolt_tree::{At, Bucket};
@@ -62,8 +62,8 @@ struct Read {
 /// The figures of a bucket with this root page.
 fn paged_stats(alloc: Global, checked: &Checked<'_>, root: u64) -> Result<Stats, AllocError>
     requires { ∥ AreGood (bytes_of checked.now) (meta_of checked.now) (root ∷ []) ∥₁ }
-    ensures stats { IfOk result (λ stats. (f : Figure) → figure f stats ≡ capped (bucket_figure f + figure_in checked.now f (root ∷ []))) }
-    ensures depth { IfOk result (λ stats. stats.depth ≡ capped (depth_of (bytes_of checked.now) (meta_of checked.now) root)) }
+    ensures stats { IfOk result (λ stats. (f : Figure) → figure f stats ≡ saturated (bucket_figure f + figure_in checked.now f (root ∷ []))) }
+    ensures depth { IfOk result (λ stats. stats.depth ≡ saturated (depth_of (bytes_of checked.now) (meta_of checked.now) root)) }
 {
     let mut total = Stats {
         buckets: 1,
@@ -102,9 +102,9 @@ fn read_bucket(
     ensures good { OnOk result (∥ AreGood (bytes_of checked.now) (meta_of checked.now) roots.new.items ∥₁) }
     ensures pages { OnOk result (pages.new.items ≡ []) }
     ensures fewer { OnOk result (pages_below checked.now roots.new.items < pages_below checked.now (root ∷ [])) }
-    ensures stats { IfOk result (λ read. (f : Figure) → capped (figure f read.stats + figure_in checked.now f roots.new.items)
-        ≡ capped (figure_in checked.now f (root ∷ []))) }
-    ensures height { IfOk result (λ read. capped read.height ≡ capped (height_of (bytes_of checked.now) (meta_of checked.now) 1 root)) }
+    ensures stats { IfOk result (λ read. (f : Figure) → saturated (figure f read.stats + figure_in checked.now f roots.new.items)
+        ≡ saturated (figure_in checked.now f (root ∷ []))) }
+    ensures height { IfOk result (λ read. saturated read.height ≡ saturated (height_of (bytes_of checked.now) (meta_of checked.now) 1 root)) }
     ensures deepest { IfOk result (λ read. max read.inline_depth (greatest (depth_in checked.now) roots.new.items) ≡ deepest_in checked.now root) }
 {
     let mut whole = Read {
@@ -133,9 +133,9 @@ fn read_page(
     roots: &mut Vec<u64>,
 ) -> Result<Read, AllocError>
     requires { ∥ Enough (node_at (bytes_of checked.now) (meta_of checked.now)) (meta_of checked.now).high_water next.number ∥₁ }
-    ensures stats { IfOk result (λ read. (f : Figure) → figure f read.stats ≡ capped (own_figure (bytes_of checked.now) (meta_of checked.now) f next.number)) }
+    ensures stats { IfOk result (λ read. (f : Figure) → figure f read.stats ≡ saturated (own_figure (bytes_of checked.now) (meta_of checked.now) f next.number)) }
     ensures kids { IfOk result (λ read. ∥ ((node : Node) × (node_at (bytes_of checked.now) (meta_of checked.now) next.number ≡ Ok node)
-        × (pages.new.items ≡ pages.old.items ++ map (unread_page (capped (next.depth + 1))) (inner_pages node))
+        × (pages.new.items ≡ pages.old.items ++ map (unread_page (saturated (next.depth + 1))) (inner_pages node))
         × (roots.new.items ≡ roots.old.items ++ inner_roots node)
         × (read.height ≡ leaf_depth node.is_leaf next.depth) × (read.inline_depth ≡ inner_inline node)) ∥₁) }
 {
@@ -167,7 +167,7 @@ fn read_page(
 /// Opens the children of a branch.
 fn add_children(page: &Page<'_>, depth: u64, pages: &mut Vec<UnreadPage>) -> Result<(), AllocError>
     requires { (shown page.now).kind ≡ Kind.Branch }
-    ensures { OnOk result (pages.new.items ≡ pages.old.items ++ map (λ e. unread_page (capped (depth + 1)) e.child) (shown page.now).branches) }
+    ensures { OnOk result (pages.new.items ≡ pages.old.items ++ map (λ e. unread_page (saturated (depth + 1)) e.child) (shown page.now).branches) }
 {
     for i in 0..page.count() {
         pages.push(UnreadPage {

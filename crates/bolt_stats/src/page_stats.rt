@@ -1,7 +1,7 @@
 //! The figures of one page: its own, and those of the inline buckets in it.
 ghost use Rattle.std.specs.Prelude.{◌≡◌, ◌+◌, IsTrue, length, sum_by};
 ghost use Rattle.bolt_format.specs.{Elements.IsBucketValue, ElementPlaces.leaf_view, Shown.shown, ShownInline.shown_inline};
-ghost use Rattle.bolt_stats.specs.Figures.{Figure, allocated, used_by_branches, branch_figure, capped, element_figure, figure, inline_figure, kind_figure, used_by_leaves, leaf_figure};
+ghost use Rattle.bolt_stats.specs.Figures.{Figure, allocated, used_by_branches, branch_figure, saturated, element_figure, figure, inline_figure, kind_figure, used_by_leaves, leaf_figure};
 
 use crate::figures::{Stats, add};
 use bolt_format::{ELEMENT_LEN, HEADER_LEN, Inline, Kind, Leaf, Page, head, inline};
@@ -14,7 +14,7 @@ const ELEMENT_HEADER: u64 = ELEMENT_LEN as u64;
 
 /// The bytes of a leaf element.
 fn leaf_size(leaf: &Leaf<'_>) -> u64
-    ensures { result ≡ capped (16 + length leaf.now.key.now + length leaf.now.value.now) }
+    ensures { result ≡ saturated (16 + length leaf.now.key.now + length leaf.now.value.now) }
 {
     ELEMENT_HEADER
         .saturating_add(leaf.key.len() as u64)
@@ -24,7 +24,7 @@ fn leaf_size(leaf: &Leaf<'_>) -> u64
 /// The bytes used of an inline bucket's page: its header and its elements.
 #[tactic(auto, using(crate::proofs::FigureLemmas::sums))]
 fn inline_used(page: &Inline<'_>) -> u64
-    ensures { result ≡ capped (used_by_leaves (shown_inline page.now)) }
+    ensures { result ≡ saturated (used_by_leaves (shown_inline page.now)) }
 {
     let mut used = PAGE_HEADER;
     for i in 0..page.count() {
@@ -35,7 +35,7 @@ fn inline_used(page: &Inline<'_>) -> u64
 
 /// The figures of an inline bucket.
 pub(crate) fn inline_stats(page: &Inline<'_>) -> Stats
-    ensures { (f : Figure) → figure f result ≡ capped (inline_figure f (shown_inline page.now)) }
+    ensures { (f : Figure) → figure f result ≡ saturated (inline_figure f (shown_inline page.now)) }
 {
     let used = inline_used(page);
     Stats {
@@ -50,7 +50,7 @@ pub(crate) fn inline_stats(page: &Inline<'_>) -> Stats
 /// What a leaf element adds besides its bytes: the figures of its bucket, if it is one.
 fn element_stats(leaf: &Leaf<'_>) -> Stats
     requires { IsTrue leaf.now.is_bucket → IsBucketValue leaf.now.value.now }
-    ensures { (f : Figure) → figure f result ≡ capped (element_figure f (leaf_view leaf.now)) }
+    ensures { (f : Figure) → figure f result ≡ saturated (element_figure f (leaf_view leaf.now)) }
 {
     if !leaf.is_bucket {
         return Stats::default();
@@ -75,7 +75,7 @@ fn allocated(page: &Page<'_>, page_size: u32) -> u64
 #[tactic(auto, using(bolt_format::proofs::ListLemmas::drop_next, std::proofs::lemmas::List::drop_all))]
 fn branch_used(page: &Page<'_>) -> u64
     requires { (shown page.now).kind ≡ Kind.Branch }
-    ensures { result ≡ capped (used_by_branches (shown page.now).branches) }
+    ensures { result ≡ saturated (used_by_branches (shown page.now).branches) }
 {
     let mut used = PAGE_HEADER;
     for i in 0..page.count() {
@@ -89,7 +89,7 @@ fn branch_used(page: &Page<'_>) -> u64
 /// The figures of a branch.
 fn branch_stats(page: &Page<'_>, page_size: u32) -> Stats
     requires { (shown page.now).kind ≡ Kind.Branch }
-    ensures { (f : Figure) → figure f result ≡ capped (branch_figure f page_size (shown page.now)) }
+    ensures { (f : Figure) → figure f result ≡ saturated (branch_figure f page_size (shown page.now)) }
 {
     let used = branch_used(page);
     Stats {
@@ -105,7 +105,7 @@ fn branch_stats(page: &Page<'_>, page_size: u32) -> Stats
 #[tactic(auto, using(crate::proofs::FigureLemmas::sums))]
 fn leaf_used(page: &Page<'_>) -> u64
     requires { (shown page.now).kind ≡ Kind.Leaf }
-    ensures { result ≡ capped (used_by_leaves (shown page.now).leaves) }
+    ensures { result ≡ saturated (used_by_leaves (shown page.now).leaves) }
 {
     let mut used = PAGE_HEADER;
     for i in 0..page.count() {
@@ -117,7 +117,7 @@ fn leaf_used(page: &Page<'_>) -> u64
 /// The figures of a leaf itself.
 fn own_stats(page: &Page<'_>, page_size: u32) -> Stats
     requires { (shown page.now).kind ≡ Kind.Leaf }
-    ensures { (f : Figure) → figure f result ≡ capped (leaf_figure f page_size (shown page.now)) }
+    ensures { (f : Figure) → figure f result ≡ saturated (leaf_figure f page_size (shown page.now)) }
 {
     let used = leaf_used(page);
     Stats {
@@ -134,7 +134,7 @@ fn own_stats(page: &Page<'_>, page_size: u32) -> Stats
 #[tactic(auto, using(crate::proofs::FigureLemmas::sums))]
 fn inner_stats(page: &Page<'_>) -> Stats
     requires { (shown page.now).kind ≡ Kind.Leaf }
-    ensures { (f : Figure) → figure f result ≡ capped (sum_by (element_figure f) (shown page.now).leaves) }
+    ensures { (f : Figure) → figure f result ≡ saturated (sum_by (element_figure f) (shown page.now).leaves) }
 {
     let mut inner = Stats::default();
     for i in 0..page.count() {
@@ -146,14 +146,14 @@ fn inner_stats(page: &Page<'_>) -> Stats
 /// The figures of a leaf with the inline buckets in it.
 fn leaf_stats(page: &Page<'_>, page_size: u32) -> Stats
     requires { (shown page.now).kind ≡ Kind.Leaf }
-    ensures { (f : Figure) → figure f result ≡ capped (leaf_figure f page_size (shown page.now) + sum_by (element_figure f) (shown page.now).leaves) }
+    ensures { (f : Figure) → figure f result ≡ saturated (leaf_figure f page_size (shown page.now) + sum_by (element_figure f) (shown page.now).leaves) }
 {
     add(own_stats(page, page_size), inner_stats(page))
 }
 
 /// The figures of a page.
 pub(crate) fn page_stats(page: &Page<'_>, page_size: u32) -> Stats
-    ensures { (f : Figure) → figure f result ≡ capped (kind_figure (shown page.now).kind f page_size (shown page.now)) }
+    ensures { (f : Figure) → figure f result ≡ saturated (kind_figure (shown page.now).kind f page_size (shown page.now)) }
 {
     match page.kind() {
         Kind::Branch => branch_stats(page, page_size),

@@ -1,6 +1,6 @@
 -- The first line of a text ends at the first line feed, or with the text.
 use Rattle.std.proofs.Common.{◌≡◌, ◌∙◌, ◌==◌, ◌<◌, ℕ, List, [], ◌∷◌, ◌++◌, true, false, length, refl, sym, ap, arith, append_assoc, append-nil}
-use Rattle.bolt_text.proofs.Vocabulary.{IsCut, IsFirstLine, IsWithout, lines_of, nat_tests, slice_split, Text}
+use Rattle.bolt_text.proofs.Vocabulary.{IsCutAt, IsFirstLine, IsWithout, lines_of, nat_tests, slice_split, Text}
 use Rattle.bolt_text.proofs.CutLemmas.{cut_is_shorter, parts_cut, parts_whole, some_parts}
 use Rattle.bolt_text.specs.Lines.{without_empty_end}
 
@@ -9,11 +9,11 @@ first_part : (line : Text) (parts : List Text) → 0 < length parts → without_
 first_part line [] some = absurd (omega (arith, some))
 first_part line (next ∷ parts) some = refl
 
-pub lines_cut : (text line after : Text) → IsCut 10 text line after → lines_of text ≡ line ∷ lines_of after
+pub lines_cut : (text line after : Text) → IsCutAt 10 text line after → lines_of text ≡ line ∷ lines_of after
 unfolding lines_of
 lines_cut text line after cut = ap without_empty_end (parts_cut 10 text line after cut) ∙ first_part line (slice_split (λ byte. byte == 10) after) (some_parts 10 after)
 
-pub cut_line : (text line after : Text) → IsCut 10 text line after → IsFirstLine text line after
+pub cut_line : (text line after : Text) → IsCutAt 10 text line after → IsFirstLine text line after
 cut_line text line after cut = record {
   lines = lines_cut text line after cut;
   shorter = cut_is_shorter 10 text line after cut;

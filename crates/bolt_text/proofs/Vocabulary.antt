@@ -6,7 +6,7 @@ pub use Rattle.bolt_format.specs.Endings.{broken, ending, whole}
 pub use Rattle.bolt_format.specs.Wrote.{Wrote}
 pub use Rattle.bolt_format.specs.declared.sink.Sink.{Ghosts}
 pub use Rattle.bolt_format.specs.declared.sink.SinkFault.{SinkFault}
-pub use Rattle.bolt_text.specs.Cuts.{IsCut, IsFirstLine, IsWithout}
+pub use Rattle.bolt_text.specs.Cuts.{IsCutAt, IsFirstLine, IsWithout}
 pub use Rattle.bolt_text.specs.Forms.{digits_json, item_json, json_text}
 pub use Rattle.bolt_text.specs.Gathers.{Gathers}
 pub use Rattle.bolt_text.specs.HexPaths.{hex_bytes_in}

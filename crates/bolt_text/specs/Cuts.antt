@@ -7,7 +7,7 @@ abbrev pub IsWithout : ℕ → Text → Type 0
 IsWithout mark text = All (λ byte. (byte == mark) ≡ false) text
 
 -- the text before the first mark, and that after it
-pub record IsCut (mark : ℕ) (text before after : Text) : Type 0 where
+pub record IsCutAt (mark : ℕ) (text before after : Text) : Type 0 where
   pub whole : text ≡ before ++ mark ∷ after
   pub first : IsWithout mark before
 

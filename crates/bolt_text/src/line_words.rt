@@ -1,7 +1,7 @@
 //! The words of a line: how a text is cut into lines, and a line into words.
 ghost use Rattle.std.specs.Prelude.{◌≡◌, MatchOption, [], option_and_then, option_map};
 ghost use Rattle.bolt_tree.specs.Entries.{Bucket};
-ghost use Rattle.bolt_text.specs.{Cuts.IsCut, Cuts.IsFirstLine, Cuts.IsWithout, LineMembers.item_in, LineMembers.line_member};
+ghost use Rattle.bolt_text.specs.{Cuts.IsCutAt, Cuts.IsFirstLine, Cuts.IsWithout, LineMembers.item_in, LineMembers.line_member};
 ghost use Rattle.bolt_text.specs.{LineWords.word_item, LineWords.words_member, Numbers.number_in};
 
 use crate::words::read_number;
@@ -61,7 +61,7 @@ fn sequence_word(word: &[u8]) -> Option<ItemWord<'_>>
 
 /// The text before the first mark, and that after it.
 pub fn cut_at(mark: u8, text: &[u8]) -> Option<(&[u8], &[u8])>
-    ensures { MatchOption result (IsWithout mark text.now) (λ cut. IsCut mark text.now cut.0.now cut.1.now) }
+    ensures { MatchOption result (IsWithout mark text.now) (λ cut. IsCutAt mark text.now cut.0.now cut.1.now) }
 {
     let at = memchr(mark, text)?;
     Some((&text[..at], &text[at + 1..]))

@@ -44,92 +44,106 @@ pub enum PathForm {
 }
 
 /// The number of bytes that are gathered.
-const HELD_LEN: usize = 512;
+const GATHERED_LEN: usize = 512;
 
 /// The number of bytes up to which hexadecimal is gathered.
 const SHORT_LEN: usize = 64;
 
 /// Bytes that are not yet written.
-type Held = ArrayVec<u8, HELD_LEN>;
+type Gathered = ArrayVec<u8, GATHERED_LEN>;
 
 /// Writes pieces one after another.
 pub fn put_pieces<S: Sink>(pieces: &[Piece<'_>], sink: &mut S) -> Result<(), SinkFault>
     ensures { Wrote S.Sink sink.old sink.new (pieces_text pieces.now) (ending result) }
 {
-    let mut held = Held::new();
+    let mut gathered = Gathered::new();
     for piece in pieces {
-        add_piece(piece, &mut held, sink)?;
+        add_piece(piece, &mut gathered, sink)?;
     }
-    put(held.as_slice(), sink)
+    put(gathered.as_slice(), sink)
 }
 
-/// Adds a piece to what is held.
-fn add_piece<S: Sink>(piece: &Piece<'_>, held: &mut Held, sink: &mut S) -> Result<(), SinkFault>
-    ensures { Gathers S.Sink sink.old sink.new held.old.items held.new.items (piece_text piece.now) (ending result) }
+/// Adds a piece to what is gathered.
+fn add_piece<S: Sink>(
+    piece: &Piece<'_>,
+    gathered: &mut Gathered,
+    sink: &mut S,
+) -> Result<(), SinkFault>
+    ensures { Gathers S.Sink sink.old sink.new gathered.old.items gathered.new.items (piece_text piece.now) (ending result) }
 {
     match piece {
-        Piece::Bytes(bytes) => add_bytes(bytes, held, sink),
-        Piece::Number(n) => add_number(*n, held, sink),
-        Piece::Hex(bytes) => add_hex(bytes, held, sink),
-        Piece::HexString(bytes) => add_hex_string(bytes, held, sink),
-        Piece::HexPath(parts, form) => add_path(parts, *form, held, sink),
-        Piece::Field(name, n) => add_field(name, *n, held, sink),
-        Piece::Figure(name, n) => add_figure(name, *n, held, sink),
-        Piece::Column(text, width) => add_column(text, *width, held, sink),
-        Piece::NumberColumn(n, width) => add_number_column(*n, *width, held, sink),
+        Piece::Bytes(bytes) => add_bytes(bytes, gathered, sink),
+        Piece::Number(n) => add_number(*n, gathered, sink),
+        Piece::Hex(bytes) => add_hex(bytes, gathered, sink),
+        Piece::HexString(bytes) => add_hex_string(bytes, gathered, sink),
+        Piece::HexPath(parts, form) => add_path(parts, *form, gathered, sink),
+        Piece::Field(name, n) => add_field(name, *n, gathered, sink),
+        Piece::Figure(name, n) => add_figure(name, *n, gathered, sink),
+        Piece::Column(text, width) => add_column(text, *width, gathered, sink),
+        Piece::NumberColumn(n, width) => add_number_column(*n, *width, gathered, sink),
     }
 }
 
-fn add_number<S: Sink>(n: u64, held: &mut Held, sink: &mut S) -> Result<(), SinkFault>
-    ensures { Gathers S.Sink sink.old sink.new held.old.items held.new.items (decimal n) (ending result) }
+fn add_number<S: Sink>(n: u64, gathered: &mut Gathered, sink: &mut S) -> Result<(), SinkFault>
+    ensures { Gathers S.Sink sink.old sink.new gathered.old.items gathered.new.items (decimal n) (ending result) }
 {
-    add_bytes(Buffer::new().format(n).as_bytes(), held, sink)
+    add_bytes(Buffer::new().format(n).as_bytes(), gathered, sink)
 }
 
-fn add_field<S: Sink>(name: &[u8], n: u64, held: &mut Held, sink: &mut S) -> Result<(), SinkFault>
-    ensures { Gathers S.Sink sink.old sink.new held.old.items held.new.items (name.now ++ decimal n) (ending result) }
+fn add_field<S: Sink>(
+    name: &[u8],
+    n: u64,
+    gathered: &mut Gathered,
+    sink: &mut S,
+) -> Result<(), SinkFault>
+    ensures { Gathers S.Sink sink.old sink.new gathered.old.items gathered.new.items (name.now ++ decimal n) (ending result) }
 {
-    add_bytes(name, held, sink)?;
-    add_number(n, held, sink)
+    add_bytes(name, gathered, sink)?;
+    add_number(n, gathered, sink)
 }
 
-fn add_figure<S: Sink>(name: &[u8], n: u64, held: &mut Held, sink: &mut S) -> Result<(), SinkFault>
-    ensures { Gathers S.Sink sink.old sink.new held.old.items held.new.items (figure_line name.now n) (ending result) }
+fn add_figure<S: Sink>(
+    name: &[u8],
+    n: u64,
+    gathered: &mut Gathered,
+    sink: &mut S,
+) -> Result<(), SinkFault>
+    ensures { Gathers S.Sink sink.old sink.new gathered.old.items gathered.new.items (figure_line name.now n) (ending result) }
 {
-    add_bytes(name, held, sink)?;
-    add_bytes(b" ", held, sink)?;
-    add_number(n, held, sink)?;
-    add_bytes(b"\n", held, sink)
+    add_bytes(name, gathered, sink)?;
+    add_bytes(b" ", gathered, sink)?;
+    add_number(n, gathered, sink)?;
+    add_bytes(b"\n", gathered, sink)
 }
 
 fn add_column<S: Sink>(
     text: &[u8],
     width: usize,
-    held: &mut Held,
+    gathered: &mut Gathered,
     sink: &mut S,
 ) -> Result<(), SinkFault>
-    ensures { Gathers S.Sink sink.old sink.new held.old.items held.new.items (column width text.now) (ending result) }
+    ensures { Gathers S.Sink sink.old sink.new gathered.old.items gathered.new.items (column width text.now) (ending result) }
 {
-    add_bytes(text, held, sink)?;
-    add_spaces(width.saturating_sub(text.len()), held, sink)
+    add_bytes(text, gathered, sink)?;
+    add_spaces(width.saturating_sub(text.len()), gathered, sink)
 }
 
 fn add_number_column<S: Sink>(
     n: u64,
     width: usize,
-    held: &mut Held,
+    gathered: &mut Gathered,
     sink: &mut S,
 ) -> Result<(), SinkFault>
-    ensures { Gathers S.Sink sink.old sink.new held.old.items held.new.items (column width (decimal n)) (ending result) }
+    ensures { Gathers S.Sink sink.old sink.new gathered.old.items gathered.new.items (column width (decimal n)) (ending result) }
 {
-    add_column(Buffer::new().format(n).as_bytes(), width, held, sink)
+    add_column(Buffer::new().format(n).as_bytes(), width, gathered, sink)
 }
 
-fn add_spaces<S: Sink>(count: usize, held: &mut Held, sink: &mut S) -> Result<(), SinkFault>
-    ensures { Gathers S.Sink sink.old sink.new held.old.items held.new.items (replicate count 0x20) (ending result) }
+fn add_spaces<S: Sink>(count: usize, gathered: &mut Gathered, sink: &mut S) -> Result<(), SinkFault>
+    ensures { Gathers S.Sink sink.old sink.new gathered.old.items gathered.new.items (replicate count 0x20) (ending result) }
 {
     for _i in 0..count {
-        add_bytes(b" ", held, sink)?;
+        add_bytes(b" ", gathered, sink)?;
     }
     Ok(())
 }
@@ -137,29 +151,29 @@ fn add_spaces<S: Sink>(count: usize, held: &mut Held, sink: &mut S) -> Result<()
 fn add_path<S: Sink>(
     parts: &[&[u8]],
     form: PathForm,
-    held: &mut Held,
+    gathered: &mut Gathered,
     sink: &mut S,
 ) -> Result<(), SinkFault>
-    ensures { Gathers S.Sink sink.old sink.new held.old.items held.new.items (path_text form (path_of parts.now)) (ending result) }
+    ensures { Gathers S.Sink sink.old sink.new gathered.old.items gathered.new.items (path_text form (path_of parts.now)) (ending result) }
 {
     let Some((first, rest)) = parts.split_first() else {
         return Ok(());
     };
-    add_part(first, form, held, sink)?;
-    add_later_parts(rest, form, held, sink)
+    add_part(first, form, gathered, sink)?;
+    add_later_parts(rest, form, gathered, sink)
 }
 
 /// Adds a separator and then the part, for each of these parts.
 fn add_later_parts<S: Sink>(
     parts: &[&[u8]],
     form: PathForm,
-    held: &mut Held,
+    gathered: &mut Gathered,
     sink: &mut S,
 ) -> Result<(), SinkFault>
-    ensures { Gathers S.Sink sink.old sink.new held.old.items held.new.items (later_parts form parts.now) (ending result) }
+    ensures { Gathers S.Sink sink.old sink.new gathered.old.items gathered.new.items (later_parts form parts.now) (ending result) }
 {
     for part in parts {
-        add_later_part(part, form, held, sink)?;
+        add_later_part(part, form, gathered, sink)?;
     }
     Ok(())
 }
@@ -167,13 +181,13 @@ fn add_later_parts<S: Sink>(
 fn add_later_part<S: Sink>(
     part: &[u8],
     form: PathForm,
-    held: &mut Held,
+    gathered: &mut Gathered,
     sink: &mut S,
 ) -> Result<(), SinkFault>
-    ensures { Gathers S.Sink sink.old sink.new held.old.items held.new.items (separator form ∷ part_text form part.now) (ending result) }
+    ensures { Gathers S.Sink sink.old sink.new gathered.old.items gathered.new.items (separator form ∷ part_text form part.now) (ending result) }
 {
-    add_bytes(&[separator(form)], held, sink)?;
-    add_part(part, form, held, sink)
+    add_bytes(&[separator(form)], gathered, sink)?;
+    add_part(part, form, gathered, sink)
 }
 
 fn separator(form: PathForm) -> u8
@@ -188,66 +202,74 @@ fn separator(form: PathForm) -> u8
 fn add_part<S: Sink>(
     part: &[u8],
     form: PathForm,
-    held: &mut Held,
+    gathered: &mut Gathered,
     sink: &mut S,
 ) -> Result<(), SinkFault>
-    ensures { Gathers S.Sink sink.old sink.new held.old.items held.new.items (part_text form part.now) (ending result) }
+    ensures { Gathers S.Sink sink.old sink.new gathered.old.items gathered.new.items (part_text form part.now) (ending result) }
 {
     match form {
-        PathForm::Slashes => add_hex(part, held, sink),
-        PathForm::Strings => add_hex_string(part, held, sink),
+        PathForm::Slashes => add_hex(part, gathered, sink),
+        PathForm::Strings => add_hex_string(part, gathered, sink),
     }
 }
 
 /// Adds a JSON string of bytes in hexadecimal. Digits need no escapes.
-fn add_hex_string<S: Sink>(bytes: &[u8], held: &mut Held, sink: &mut S) -> Result<(), SinkFault>
-    ensures { Gathers S.Sink sink.old sink.new held.old.items held.new.items (hex_string bytes.now) (ending result) }
+fn add_hex_string<S: Sink>(
+    bytes: &[u8],
+    gathered: &mut Gathered,
+    sink: &mut S,
+) -> Result<(), SinkFault>
+    ensures { Gathers S.Sink sink.old sink.new gathered.old.items gathered.new.items (hex_string bytes.now) (ending result) }
 {
-    add_bytes(b"\"", held, sink)?;
-    add_hex(bytes, held, sink)?;
-    add_bytes(b"\"", held, sink)
+    add_bytes(b"\"", gathered, sink)?;
+    add_hex(bytes, gathered, sink)?;
+    add_bytes(b"\"", gathered, sink)
 }
 
-/// Adds bytes in hexadecimal; long ones are written part by part, and not held.
-fn add_hex<S: Sink>(bytes: &[u8], held: &mut Held, sink: &mut S) -> Result<(), SinkFault>
-    ensures { Gathers S.Sink sink.old sink.new held.old.items held.new.items (encode_lower bytes.now) (ending result) }
+/// Adds bytes in hexadecimal; long ones are written part by part, and not gathered.
+fn add_hex<S: Sink>(bytes: &[u8], gathered: &mut Gathered, sink: &mut S) -> Result<(), SinkFault>
+    ensures { Gathers S.Sink sink.old sink.new gathered.old.items gathered.new.items (encode_lower bytes.now) (ending result) }
 {
     if bytes.len() <= SHORT_LEN {
         let mut digits = [0; 2 * SHORT_LEN];
-        add_bytes(write_digits(bytes, &mut digits), held, sink)
+        add_bytes(write_digits(bytes, &mut digits), gathered, sink)
     } else {
-        put_held(held, sink)?;
+        put_gathered(gathered, sink)?;
         put_hex(bytes, sink)
     }
 }
 
-/// Adds bytes to what is held, or writes what is held first.
+/// Adds bytes to what is gathered, or writes what is gathered first.
 #[inline(always)]
-fn add_bytes<S: Sink>(bytes: &[u8], held: &mut Held, sink: &mut S) -> Result<(), SinkFault>
-    ensures { Gathers S.Sink sink.old sink.new held.old.items held.new.items bytes.now (ending result) }
+fn add_bytes<S: Sink>(bytes: &[u8], gathered: &mut Gathered, sink: &mut S) -> Result<(), SinkFault>
+    ensures { Gathers S.Sink sink.old sink.new gathered.old.items gathered.new.items bytes.now (ending result) }
 {
-    match held.try_extend_from_slice(bytes) {
+    match gathered.try_extend_from_slice(bytes) {
         Ok(()) => Ok(()),
-        Err(_) => add_after_put(bytes, held, sink),
+        Err(_) => add_after_put(bytes, gathered, sink),
     }
 }
 
-fn add_after_put<S: Sink>(bytes: &[u8], held: &mut Held, sink: &mut S) -> Result<(), SinkFault>
-    ensures { Gathers S.Sink sink.old sink.new held.old.items held.new.items bytes.now (ending result) }
+fn add_after_put<S: Sink>(
+    bytes: &[u8],
+    gathered: &mut Gathered,
+    sink: &mut S,
+) -> Result<(), SinkFault>
+    ensures { Gathers S.Sink sink.old sink.new gathered.old.items gathered.new.items bytes.now (ending result) }
 {
-    put_held(held, sink)?;
-    match held.try_extend_from_slice(bytes) {
+    put_gathered(gathered, sink)?;
+    match gathered.try_extend_from_slice(bytes) {
         Ok(()) => Ok(()),
         Err(_) => put(bytes, sink),
     }
 }
 
-fn put_held<S: Sink>(held: &mut Held, sink: &mut S) -> Result<(), SinkFault>
-    ensures wrote { Wrote S.Sink sink.old sink.new held.old.items (ending result) }
-    ensures empty { OnOk result (held.new.items ≡ []) }
+fn put_gathered<S: Sink>(gathered: &mut Gathered, sink: &mut S) -> Result<(), SinkFault>
+    ensures wrote { Wrote S.Sink sink.old sink.new gathered.old.items (ending result) }
+    ensures empty { OnOk result (gathered.new.items ≡ []) }
 {
-    put(held.as_slice(), sink)?;
-    held.clear();
+    put(gathered.as_slice(), sink)?;
+    gathered.clear();
     Ok(())
 }
 

@@ -1,5 +1,5 @@
 use Rattle.std.proofs.Common.{◌≡◌, ◌∙◌, ◌+◌, ◌<◌, ◌++◌, ◌∷◌, [], ℕ, List, inl, inr, ap, arith, map, sym}
-use Rattle.bolt_stats.proofs.Words.{bytes_of, capped, deepest_of, figure, greatest, inner_pages, inner_roots, meta_of, Node, numbers_of, one, own_figure, props, total_of, unread_page, ∥∥₁_elim, ∥∥₁_map, ∥∥₁_prop}
+use Rattle.bolt_stats.proofs.Words.{bytes_of, saturated, deepest_of, figure, greatest, inner_pages, inner_roots, meta_of, Node, numbers_of, one, own_figure, props, total_of, unread_page, ∥∥₁_elim, ∥∥₁_map, ∥∥₁_prop}
 use Rattle.bolt_stats.proofs.{FigureLemmas.figure_add, ReadDepths.first_height, ReadDepths.numbers_opened, ReadDepths.read_deepest, ReadDepths.read_height}
 use Rattle.bolt_stats.proofs.ReadSums.{more_found, next_good, none_left, popped, read_good, read_sum, started, zero_figure}
 use Rattle.bolt_stats.proofs.bucket_stats.read_bucket.Goals as goal
@@ -37,8 +37,8 @@ pages-preserved c =
     let good = rw taken at c.pages.invariant.good in
     let enough = next_good file meta rest roots before n taken c.pages.invariant.good in
     let kids = c.in_ok-read.ensures.kids in
-    let opened : (node : Node) → c.read_page.new.pages.items ≡ c.pop.new.self.items ++ map (unread_page (capped (c.in-Some.open.depth + 1))) (inner_pages node) → after ≡ rest ++ inner_pages node
-    = λ node a. numbers_opened c.pop.new.self.items c.read_page.new.pages.items (capped (c.in-Some.open.depth + 1)) (inner_pages node) a in
+    let opened : (node : Node) → c.read_page.new.pages.items ≡ c.pop.new.self.items ++ map (unread_page (saturated (c.in-Some.open.depth + 1))) (inner_pages node) → after ≡ rest ++ inner_pages node
+    = λ node a. numbers_opened c.pop.new.self.items c.read_page.new.pages.items (saturated (c.in-Some.open.depth + 1)) (inner_pages node) a in
     let sums : (own : ℕ → ℕ) → own n + (total_of file meta own after + total_of file meta own found) ≡ total_of file meta own before + total_of file meta own roots
     = λ own. ∥∥₁_elim kids (Prim.hlevel props) (λ (node, page, a, b, _, _). ∥∥₁_elim enough (Prim.hlevel props) (λ e.
     read_sum file meta own rest roots after found n node page e (opened node a) b ∙ ap (λ (l : List ℕ). total_of file meta own l + total_of file meta own roots) (sym taken))) in
@@ -75,7 +75,7 @@ pages-smaller c =
     let taken = popped c.pages.pages.items c.pop.new.self.items c.in-Some.open c.in-Some.ensures.items in
     let enough = next_good file meta (numbers_of c.pop.new.self.items) c.pages.roots.items (numbers_of c.pages.pages.items) n taken c.pages.invariant.good in
     ∥∥₁_elim c.in_ok-read.ensures.kids (Prim.hlevel props) (λ (node, page, a, b, _, _). ∥∥₁_elim enough (Prim.hlevel props) (λ e.
-    let after = numbers_opened c.pop.new.self.items c.read_page.new.pages.items (capped (c.in-Some.open.depth + 1)) (inner_pages node) a in
+    let after = numbers_opened c.pop.new.self.items c.read_page.new.pages.items (saturated (c.in-Some.open.depth + 1)) (inner_pages node) a in
     let sum = read_sum file meta one (numbers_of c.pop.new.self.items) c.pages.roots.items (numbers_of c.read_page.new.pages.items) c.read_page.new.roots.items n node page e after b in
     let more = more_found file meta one c.pages.roots.items c.read_page.new.roots.items (inner_roots node) b in
     let same = ap (total_of file meta one) taken in

@@ -1,5 +1,5 @@
 use Rattle.std.proofs.Common.{◌∙◌, ◌+◌, ◌++◌, List, ℕ, ap, append-nil, refl, sym}
-use Rattle.bolt_stats.proofs.Words.{bytes_of, capped, inline_depth, leaf_entry, meta_of, node_is, props, shown, UnreadPage, ∥∥₁_elim}
+use Rattle.bolt_stats.proofs.Words.{bytes_of, saturated, inline_depth, leaf_entry, meta_of, node_is, props, shown, UnreadPage, ∥∥₁_elim}
 use Rattle.bolt_format.specs.declared.header.Kind.TheVariants as kind
 use Rattle.bolt_check.proofs.TourSums.{enough_shown}
 use Rattle.bolt_stats.proofs.{DepthSums.greatest_map, ReadLemmas.branch_kids, ReadLemmas.leaf_kids, ReadLemmas.no_freelist, ReadLemmas.no_meta}
@@ -23,7 +23,7 @@ pub returns-in_ok-add_children-in-Branch-clause-kids : goal.returns-in_ok-add_ch
 returns-in_ok-add_children-in-Branch-clause-kids c =
     let at = rw (c.bytes.ensures, c.meta-meta.ensures) at c.known-page.ensures in
     let node = node_is (bytes_of c.args.checked.now) (meta_of c.args.checked.now) c.args.next.number (shown c.known-page.result) kind.Branch at (sym c.kind.ensures ∙ c.in-Branch.is) in
-    let opened = c.in_ok-add_children-in-Branch.ensures ∙ ap (λ (l : List UnreadPage). c.args.pages.now.items ++ l) (sym (branch_kids (capped (c.args.next.depth + 1)) (shown c.known-page.result).branches)) in
+    let opened = c.in_ok-add_children-in-Branch.ensures ∙ ap (λ (l : List UnreadPage). c.args.pages.now.items ++ l) (sym (branch_kids (saturated (c.args.next.depth + 1)) (shown c.known-page.result).branches)) in
     ∣ (_, node, opened, sym (append-nil c.args.roots.now.items), refl, refl) ∣₁
 
 pub returns-in_ok-inline_depth-in-Leaf-clause-kids : goal.returns-in_ok-inline_depth-in-Leaf-clause-kids

@@ -1,5 +1,5 @@
 use Rattle.std.proofs.Common.{◌≡◌, ◌≤◌, ◌+◌, ◌-◌, ◌^◌, drop, length, sum_by}
-use Rattle.bolt_stats.proofs.Words.{capped, LeafElement, used_by_leaves}
+use Rattle.bolt_stats.proofs.Words.{saturated, LeafElement, used_by_leaves}
 use Rattle.bolt_format.specs.ShownInline.{shown_inline}
 use Rattle.bolt_stats.proofs.page_stats.inline_used.Given as goal
 
@@ -7,5 +7,5 @@ use Rattle.bolt_stats.proofs.page_stats.inline_used.Given as goal
 abbrev pub invariant-loop-i : goal.invariant-loop-i
 invariant-loop-i l = record {
   fits : l.used ≤ 2 ^ 64 - 1;
-  whole : capped (l.used + sum_by (λ (e : LeafElement). 16 + length e.key + length e.value) (drop l.i (shown_inline l.page))) ≡ capped (used_by_leaves (shown_inline l.page));
+  whole : saturated (l.used + sum_by (λ (e : LeafElement). 16 + length e.key + length e.value) (drop l.i (shown_inline l.page))) ≡ saturated (used_by_leaves (shown_inline l.page));
 }
