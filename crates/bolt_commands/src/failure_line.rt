@@ -10,7 +10,8 @@ use crate::words::{put_number_and, put_words};
 use bolt_check::Finding;
 use bolt_format::{Sink, SinkFault};
 use bolt_load::LineFault;
-use bolt_report::{finding_text, meta_fault_text, page_fault_text, snapshot_fault_text};
+use bolt_etcd::snapshot_fault_text;
+use bolt_report::{finding_text, meta_fault_text, page_fault_text};
 
 /// Writes the line of a failure: `error: ` and its text.
 pub(crate) fn put_failure<E: Sink>(failure: &Failure, err: &mut E) -> Result<(), SinkFault>

@@ -3,7 +3,8 @@
 ghost use Rattle.std.specs.Prelude.{◌≡◌, ◌⊎◌, IfErr, IfOk, true};
 ghost use Rattle.bolt_check.specs.{CheckedFiles.bytes_of, CheckedFiles.has_accounts, CheckedFiles.meta_of, RoledFiles.roles_checked, Sound.HasSoundTrees};
 ghost use Rattle.bolt_format.specs.{Elements.LeafElement, Endings.ending, Wrote.Wrote};
-ghost use Rattle.bolt_report.specs.{PageTables.ForRoles, ReportEndings.report_ending};
+ghost use Rattle.bolt_report.specs.{PageTables.ForRoles};
+ghost use Rattle.bolt_text.specs.{ReportEndings.report_ending};
 ghost use Rattle.bolt_tree.specs.{Buckets.bucket_checked, Buckets.bucket_start, BucketViews.entries_of, Entries.Start, Entries.Value, EntriesLeft.ForEntries};
 ghost use Rattle.bolt_commands.specs.Answers.{AddsEntry, HasNoMeta, HasStats, HoldsIn, HoldsNone, IsInfoAnswer};
 ghost use Rattle.bolt_commands.specs.Answers.{IsPageAnswer, IsPagesAnswer, IsReadAnswer, IsShownMeta, IsTotal, LeadsTo, no_stats, value_shown};
@@ -16,10 +17,7 @@ use crate::opening::{Input, open_bucket};
 use bolt_check::{Checked, NoMemory, Roles, check_roles};
 use bolt_format::{Meta, MetaFault, Sink, SinkFault, Slot, choose, slot_meta};
 use bolt_job::{BucketsJob, GetJob, InfoJob, KeysJob, PageJob, PagesJob, StatsJob};
-use bolt_report::{
-    Form, ReportFault, Stats, add, buckets, info, item, keys_with_prefix, page_map, page_text,
-    pages_table, sizes, stats, stats_text, value,
-};
+use bolt_report::{Form, ReportFault, Stats, add, buckets, info, item, keys_with_prefix, page_map, page_text, pages_table, sizes, stats, stats_text, value};
 use bolt_tree::Bucket;
 use std::alloc::Global;
 

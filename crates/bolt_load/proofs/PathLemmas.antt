@@ -1,8 +1,8 @@
 -- A path in hexadecimal is read part by part.
 use Rattle.std.proofs.Common.{◌≡◌, ◌∙◌, ◌==◌, ◌<◌, ◌≤◌, ◌*◌, ℕ, Bool, true, false, List, [], ◌∷◌, ◌++◌, Option, Some, None, length, refl, sym, ap, arith, append_assoc, append-nil}
 use Rattle.std.proofs.Math.Bool.{or-false}
-use Rattle.bolt_load.proofs.Words.{Adds, hex_bytes_in, hex_path_in, if◌then◌else◌, is_long_key, is_some, IsCut, IsWithout, Key, list_any, nat_tests, option_and_then, option_map, part_in, parts_in, Path, path_bytes, result_ok, Text}
-use Rattle.bolt_load.proofs.CutLemmas.{parts_cut, parts_whole}
+use Rattle.bolt_load.proofs.Words.{Adds, hex_bytes_in, hex_path_in, if◌then◌else◌, is_long_key, is_some, IsCutAt, IsWithout, Key, list_any, nat_tests, option_and_then, option_map, part_in, parts_in, Path, path_bytes, result_ok, Text}
+use Rattle.bolt_text.proofs.CutLemmas.{parts_cut, parts_whole}
 use Rattle.std.specs.Prelude.{◌/◌, ◌||◌, Result, Ok, Err, nat_lt}
 use Rattle.hex.specs.Hex.{decode_of}
 use Rattle.hex.proofs.HexLemmas.{decode_of-ok}
@@ -24,7 +24,7 @@ put_before front found = option_map (λ path. front ++ path) found
 abbrev pub with_part : Option Key → Option Path → Option Path
 with_part part rest = option_and_then (λ part. option_map (λ parts. part ∷ parts) rest) part
 
-pub first_part : (word part after : Text) → IsCut 47 word part after → hex_path_in word ≡ with_part (part_in part) (hex_path_in after)
+pub first_part : (word part after : Text) → IsCutAt 47 word part after → hex_path_in word ≡ with_part (part_in part) (hex_path_in after)
 unfolding hex_path_in
 first_part word part after cut = ap parts_in (parts_cut 47 word part after cut)
 
@@ -48,11 +48,11 @@ all_parts word = same (hex_path_in word)
     same (Some path) = refl
 
 module _ (word rest : Text) (front : Path) (is : IsFront word rest front) where
-  pub next_part : (part after : Text) (key : Key) → IsCut 47 rest part after → part_in part ≡ Some key → IsFront word after (front ++ key ∷ [])
+  pub next_part : (part after : Text) (key : Key) → IsCutAt 47 rest part after → part_in part ≡ Some key → IsFront word after (front ++ key ∷ [])
   next_part part after key cut found =
       is ∙ ap (put_before front) (first_part rest part after cut ∙ ap (λ found. with_part found (hex_path_in after)) found) ∙ one_more front key (hex_path_in after)
 
-  pub bad_part : (part after : Text) → IsCut 47 rest part after → part_in part ≡ None → hex_path_in word ≡ None
+  pub bad_part : (part after : Text) → IsCutAt 47 rest part after → part_in part ≡ None → hex_path_in word ≡ None
   bad_part part after cut bad = is ∙ ap (put_before front) (first_part rest part after cut ∙ ap (λ found. with_part found (hex_path_in after)) bad)
 
   pub end_part : (key : Key) → IsWithout 47 rest → part_in rest ≡ Some key → hex_path_in word ≡ Some (front ++ key ∷ [])
@@ -85,7 +85,7 @@ module _ (word rest : Text) (old bytes new : List ℕ) (so_far : AddsParts word 
   more_added : (more : List ℕ) → new ≡ bytes ++ more → new ≡ old ++ (path_bytes so_far.front ++ more)
   more_added more is = is ∙ ap (λ bytes. bytes ++ more) so_far.added ∙ append_assoc old (path_bytes so_far.front) more
 
-  pub part_added : (part after : Text) → IsCut 47 rest part after → is_some (part_in part) ≡ true → Adds (part_in part) bytes new → AddsParts word after old new
+  pub part_added : (part after : Text) → IsCutAt 47 rest part after → is_some (part_in part) ≡ true → Adds (part_in part) bytes new → AddsParts word after old new
   part_added part after cut good adds =
       let found = is_there (part_in part) good in
       record {
@@ -160,7 +160,7 @@ lt_true a b below = grind (arith, nat_tests)
 lt_false : (a b : ℕ) → b ≤ a → nat_lt a b ≡ false
 lt_false a b above = grind (arith, nat_tests)
 
-module _ (rest part after : Text) (cut : IsCut 47 rest part after) (left : Path) (is : hex_path_in rest ≡ Some left) where
+module _ (rest part after : Text) (cut : IsCutAt 47 rest part after) (left : Path) (is : hex_path_in rest ≡ Some left) where
   cut_path : (key : Key) × (path : Path) × (part_in part ≡ Some key) × (hex_path_in after ≡ Some path) × (left ≡ key ∷ path)
   cut_path = with_some (part_in part) (hex_path_in after) left (sym (first_part rest part after cut) ∙ is)
 
@@ -168,10 +168,10 @@ module _ (rest part after : Text) (cut : IsCut 47 rest part after) (left : Path)
   any_of b test = ap (list_any is_long_key) cut_path.4 ∙ ap (λ b. b || list_any is_long_key cut_path.1) (sym (long_part part cut_path.0 cut_path.2) ∙ test)
 
 module _ (word rest : Text) (so_far : HasShort word rest) where
-  pub long_here : (part after : Text) → IsCut 47 rest part after → 0x40000000 < length part / 2 → (path : Path) → hex_path_in word ≡ Some path → true ≡ list_any is_long_key path
+  pub long_here : (part after : Text) → IsCutAt 47 rest part after → 0x40000000 < length part / 2 → (path : Path) → hex_path_in word ≡ Some path → true ≡ list_any is_long_key path
   long_here part after cut long path is = let left = so_far path is in sym (left.2 ∙ any_of rest part after cut left.0 left.1 true (lt_true 0x40000000 (length part / 2) long))
 
-  pub short_here : (part after : Text) → IsCut 47 rest part after → length part / 2 ≤ 0x40000000 → HasShort word after
+  pub short_here : (part after : Text) → IsCutAt 47 rest part after → length part / 2 ≤ 0x40000000 → HasShort word after
   short_here part after cut short path is =
       let left = so_far path is in
       let found = cut_path rest part after cut left.0 left.1 in

@@ -1,6 +1,6 @@
 -- The parts of a path are found again in the bytes that were decoded.
 use Rattle.std.proofs.Common.{◌≡◌, ◌∙◌, ◌≤◌, ℕ, List, [], ◌∷◌, ◌++◌, Option, Some, None, length, take, drop, refl, sym, ap, arith, append_assoc, append-nil, length-append}
-use Rattle.bolt_load.proofs.Words.{BeginsWith, drop-append_seam, hex_bytes_in, hex_path_in, IsCut, IsWithout, item_bytes, Key, option_map, part_in, Path, path_bytes, take-append_seam, Text, Value}
+use Rattle.bolt_load.proofs.Words.{BeginsWith, drop-append_seam, hex_bytes_in, hex_path_in, IsCutAt, IsWithout, item_bytes, Key, option_map, part_in, Path, path_bytes, take-append_seam, Text, Value}
 use Rattle.bolt_load.proofs.PathLemmas.{first_part, halved, last_part, part_is, path_bytes_push, with_some}
 use Rattle.std.specs.Prelude.{◌/◌, IsSomeAnd}
 
@@ -89,7 +89,7 @@ module _ (word rest : Text) (bytes bytes_left : List ℕ) (old new : Path) (so_f
           so_far.whole ∙ ap (λ left. path_bytes so_far.front ++ left) (next_is ∙ ap (λ tail. key ++ tail) (sym now_next))
           ∙ sym (append_assoc (path_bytes so_far.front) key rest_bytes) ∙ sym (ap (λ front. front ++ rest_bytes) (path_bytes_push so_far.front key))
 
-  module _ (part after : Text) (cut : IsCut 47 rest part after) where
+  module _ (part after : Text) (cut : IsCutAt 47 rest part after) where
     found : (key : Key) × (path : Path) × (part_in part ≡ Some key) × (hex_path_in after ≡ Some path) × (so_far.left ≡ key ∷ path)
     found = with_some (part_in part) (hex_path_in after) so_far.left (sym (first_part rest part after cut) ∙ so_far.left_told)
 

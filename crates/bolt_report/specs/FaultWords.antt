@@ -8,9 +8,7 @@ use Rattle.bolt_format.specs.declared.meta.MetaFault.TheVariants.{Cut, Magic, Ve
 use Rattle.bolt_check.specs.declared.fault.Finding.{Finding}
 use Rattle.bolt_check.specs.declared.fault.TheConstants.Finding.{TWICE, ORDER, BELOW_PARENT, ABOVE_NEXT, EMPTY_BRANCH, TOO_DEEP, FREED_TWICE, REACHED_FREED}
 use Rattle.bolt_check.specs.declared.fault.TheConstants.Finding.{UNREACHABLE, FREE_RANGE}
-use Rattle.bolt_report.specs.Lines.{line}
-use Rattle.bolt_snapshot.specs.declared.SnapshotFault.{SnapshotFault}
-use Rattle.bolt_snapshot.specs.declared.SnapshotFault.TheVariants.{HashMissing, HashCutOff, HashDiffers}
+use Rattle.bolt_text.specs.Lines.{line}
 
 -- why a file without a valid meta is refused
 abbrev pub meta_fault_text : MetaFault → List ℕ
@@ -20,24 +18,18 @@ meta_fault_text Version = line (codes "version mismatch")
 meta_fault_text Sum = line (codes "checksum error")
 meta_fault_text PageSize = line (codes "page size refused")
 
--- why a file is no snapshot
-abbrev pub snapshot_fault_text : SnapshotFault → List ℕ
-snapshot_fault_text HashMissing = line (codes "snapshot hash missing")
-snapshot_fault_text HashCutOff = line (codes "snapshot hash cut off")
-snapshot_fault_text HashDiffers = line (codes "snapshot hash differs")
-
--- A number of a fault, and its words.
+-- The code of a fault, and its words.
 pub record FaultWords : Type 0 where
-  pub number : ℕ
+  pub code : ℕ
   pub words : List ℕ
 
 abbrev pub named : ℕ → List ℕ → FaultWords
-named number words = record { number = number; words = words }
+named code words = record { code = code; words = words }
 
--- the words of a number in a table, and none where it isn't there
+-- the words of a code in a table, and none where it isn't there
 abbrev pub words_in : List FaultWords → ℕ → List ℕ
-words_in [] number = []
-words_in (entry ∷ table) number = if number == entry.number then entry.words else words_in table number
+words_in [] code = []
+words_in (entry ∷ table) code = if code == entry.code then entry.words else words_in table code
 
 -- the faults of one page
 abbrev pub page_fault_table : List FaultWords
@@ -57,7 +49,7 @@ page_fault_table =
     ∷ []
 
 unfoldable pub page_fault_words : ℕ → List ℕ
-page_fault_words number = words_in page_fault_table number
+page_fault_words code = words_in page_fault_table code
 
 -- why a page is refused
 abbrev pub page_fault_text : PageFault → List ℕ
@@ -79,9 +71,9 @@ finding_table =
     ∷ page_fault_table
 
 unfoldable pub finding_words : ℕ → List ℕ
-finding_words number = words_in finding_table number
+finding_words code = words_in finding_table code
 
--- a finding is of a page, or of a run of pages
+-- a finding is of a page, or of several in a row
 unfoldable pub pages_words : ℕ → ℕ → List ℕ
 pages_words page last = if page == last then codes "page " ++ decimal page else codes "pages " ++ decimal page ++ codes " to " ++ decimal last
 

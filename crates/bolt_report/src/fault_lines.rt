@@ -1,12 +1,11 @@
 //! The lines of faults and findings.
 ghost use Rattle.std.specs.Prelude.{◌≡◌, ◌≤◌, ◌++◌, flat_map};
 ghost use Rattle.bolt_format.specs.{Endings.ending, Wrote.Wrote};
-ghost use Rattle.bolt_report.specs.FaultWords.{count_line, finding_sentence, finding_text, finding_words, findings_text, meta_fault_text, page_fault_text, page_fault_words, snapshot_fault_text};
+ghost use Rattle.bolt_report.specs.FaultWords.{count_line, finding_sentence, finding_text, finding_words, findings_text, meta_fault_text, page_fault_text, page_fault_words};
 
-use crate::pieces::{Piece, put, put_pieces};
 use bolt_check::Finding;
 use bolt_format::{MetaFault, PageFault, Sink, SinkFault};
-use bolt_snapshot::SnapshotFault;
+use bolt_text::{Piece, put, put_pieces};
 
 /// Writes the line of a meta fault.
 ///
@@ -17,17 +16,6 @@ pub fn meta_fault_text<S: Sink>(fault: MetaFault, sink: &mut S) -> Result<(), Si
     ensures { Wrote S.Sink sink.old sink.new (meta_fault_text fault) (ending result) }
 {
     put(meta_fault_line(fault), sink)
-}
-
-/// Writes the line of a snapshot's fault.
-///
-/// # Errors
-///
-/// `SinkFault` if the sink failed. It has then accepted a prefix of the text.
-pub fn snapshot_fault_text<S: Sink>(fault: SnapshotFault, sink: &mut S) -> Result<(), SinkFault>
-    ensures { Wrote S.Sink sink.old sink.new (snapshot_fault_text fault) (ending result) }
-{
-    put(snapshot_fault_line(fault), sink)
 }
 
 /// Writes the line of a page's fault.
@@ -78,7 +66,7 @@ pub fn findings_text<S: Sink>(
     put_count(earlier + findings.len() as u64, sink)
 }
 
-#[tactic(auto, using(crate::proofs::ReportLemmas::elements))]
+#[tactic(auto, using(bolt_text::proofs::ReportLemmas::elements))]
 fn put_findings<S: Sink>(findings: &[Finding], sink: &mut S) -> Result<(), SinkFault>
     ensures { Wrote S.Sink sink.old sink.new (flat_map finding_text findings.now) (ending result) }
 {
@@ -99,7 +87,7 @@ pub(crate) fn put_count<S: Sink>(count: u64, sink: &mut S) -> Result<(), SinkFau
 }
 
 /// Writes the line of a finding up to its end, and then these words. A finding is of a page or of a
-/// run of pages.
+/// several in a row.
 #[tactic(auto, unfolding(crate::specs::FaultWords::pages_words))]
 pub(crate) fn put_sentence<S: Sink>(
     finding: &Finding,
@@ -144,21 +132,11 @@ pub(crate) fn meta_fault_line(fault: MetaFault) -> &'static [u8]
     }
 }
 
-fn snapshot_fault_line(fault: SnapshotFault) -> &'static [u8]
-    ensures { result.now ≡ snapshot_fault_text fault }
-{
-    match fault {
-        SnapshotFault::HashMissing => b"snapshot hash missing\n",
-        SnapshotFault::HashCutOff => b"snapshot hash cut off\n",
-        SnapshotFault::HashDiffers => b"snapshot hash differs\n",
-    }
-}
-
 #[tactic(auto, unfolding(crate::specs::FaultWords::page_fault_words))]
-fn page_fault_words(number: u8) -> &'static [u8]
-    ensures { result.now ≡ page_fault_words number }
+fn page_fault_words(code: u8) -> &'static [u8]
+    ensures { result.now ≡ page_fault_words code }
 {
-    match number {
+    match code {
         PageFault::RANGE => b"out of range",
         PageFault::CUT => b"cut off",
         PageFault::ID => b"wrong page number",
@@ -176,10 +154,10 @@ fn page_fault_words(number: u8) -> &'static [u8]
 }
 
 #[tactic(auto, unfolding(crate::specs::FaultWords::finding_words, crate::specs::FaultWords::page_fault_words))]
-fn finding_words(number: u8) -> &'static [u8]
-    ensures { result.now ≡ finding_words number }
+fn finding_words(code: u8) -> &'static [u8]
+    ensures { result.now ≡ finding_words code }
 {
-    match number {
+    match code {
         Finding::TWICE => b"referenced twice",
         Finding::ORDER => b"keys not rising",
         Finding::BELOW_PARENT => b"key below its branch key",
@@ -190,6 +168,6 @@ fn finding_words(number: u8) -> &'static [u8]
         Finding::REACHED_FREED => b"reachable freed",
         Finding::UNREACHABLE => b"unreachable unfreed",
         Finding::FREE_RANGE => b"free page out of range",
-        _ => page_fault_words(number),
+        _ => page_fault_words(code),
     }
 }
