@@ -2,7 +2,7 @@
 ghost use Rattle.std.specs.Prelude.{◌≡◌, ◌↔◌, IfErr, IfNone, IfOk, IfSome, IsTrue, OnErr};
 ghost use Rattle.bolt_format.specs.Metas.{HasMetaFault, HasSlotFault, IsChosen, IsInSlot, IsLoneMeta, IsMeta, IsMetasEnd, IsPageSize};
 
-use crate::{fnv1a, u32_at, u64_at};
+use crate::bytes::{fnv1a, u32_at, u64_at};
 
 /// The accepted page sizes, in bytes, in rising order.
 const PAGE_SIZES: [u64; 16] = [

@@ -1,6 +1,6 @@
 use Rattle.std.proofs.Common.{◌≡◌, ◌-◌}
 use Rattle.bolt_format.specs.Elements.{element_at, faults_from, value_fault, leaf_end, leaf_fault}
-use Rattle.bolt_format.proofs.element.test_leaves.Given as goal
+use Rattle.bolt_format.proofs.content.test_leaves.Given as goal
 
 -- the first fault from here on is that of all elements
 abbrev pub invariant-loop-i : goal.invariant-loop-i

@@ -1,6 +1,6 @@
 use Rattle.std.proofs.Common.{◌≡◌, ◌-◌}
 use Rattle.bolt_format.specs.Elements.{branch_end, branch_fault, element_at, faults_from}
-use Rattle.bolt_format.proofs.element.test_branches.Given as goal
+use Rattle.bolt_format.proofs.content.test_branches.Given as goal
 
 -- the first fault from here on is that of all elements
 abbrev pub invariant-loop-i : goal.invariant-loop-i

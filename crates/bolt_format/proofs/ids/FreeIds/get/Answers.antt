@@ -1,7 +1,7 @@
 use Rattle.std.proofs.Common.{◌∙◌, ◌+◌, ◌*◌, Some, ap, arith, sym}
 use Rattle.bolt_format.specs.{Bytes.number_at, ShownIds.shown_ids}
 use Rattle.bolt_format.proofs.{FreeLemmas.below_len, GoodPages.slice_get-made}
-use Rattle.bolt_format.proofs.good_page.FreeIds.get.Goals as goal
+use Rattle.bolt_format.proofs.ids.FreeIds.get.Goals as goal
 
 pub overflow_mul-i : goal.overflow_mul-i
 overflow_mul-i c = omega (arith, below_len c.args.self.now c.args.i c.requires, c.args.self.now.within)

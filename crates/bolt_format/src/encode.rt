@@ -1,12 +1,13 @@
-//! Writes what `header`, `element`, `bucket` and `meta` read.
+//! The bytes of headers, of the heads of buckets and of metas: what `header`, `element`, `bucket` and
+//! `meta` read.
 #![tactic(auto, unfolding(crate::specs::Written::number_bytes, crate::specs::Written::header_bytes, crate::specs::Written::branch_header, crate::specs::Written::leaf_header, crate::specs::Written::head_bytes, crate::specs::Written::meta_record, crate::specs::Written::meta_bytes))]
 
 ghost use Rattle.std.specs.Prelude.{◌≡◌, ◌≤◌, ◌++◌, drop, length};
 ghost use Rattle.bolt_format.specs.Written.{branch_header, head_bytes, header_bytes, leaf_header, meta_bytes, meta_record};
 
 use crate::bucket::HEAD_LEN;
+use crate::bytes::fnv1a;
 use crate::element::{BUCKET_FLAGS, ELEMENT_LEN};
-use crate::fnv1a;
 use crate::header::{HEADER_LEN, Kind};
 use crate::meta::{MAGIC, META_LEN, Meta, VERSION};
 use byteorder::{ByteOrder, LittleEndian};
