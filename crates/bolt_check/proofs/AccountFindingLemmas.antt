@@ -4,7 +4,7 @@ use Rattle.std.proofs.lemmas.List.{get_or_append_left}
 use Rattle.std.proofs.Math.Seq.{get_or-append_right}
 use Rattle.std.proofs.lemmas.List.Elements.{All-append, Contains-append_left, Contains-append_right}
 use Rattle.bolt_check.proofs.Words.{All-cons, All-nil, All-weaker, AreFindingsBelow, cases_lt, cases_order, Finding, freed_twice, IsAccountFinding, IsBefore, IsLost, IsRun, le-ltb, lt-ltb, out_of_range, reached_freed, run_findings, unreachable}
-use Rattle.bolt_check.specs.declared.fault.TheConstants.Finding.{UNREACHABLE}
+use Rattle.bolt_check.specs.declared.finding.TheConstants.Finding.{UNREACHABLE}
 
 -- what is reported of the pages from one to before another
 pub record Reports (mark : ℕ) (in_use : ℕ → Type 0) (times : ℕ → ℕ) (from next : ℕ) (ys : List Finding) : Type 0 where

@@ -7,13 +7,13 @@ pub mod ClaimLemmas
 pub mod CountLemmas
 pub mod Forest
 pub mod FreelistLemmas
+pub mod FreelistSteps
 pub mod Judging
 pub mod KeyLaws
 pub mod KeyOrder
 pub mod Lawful
 pub mod LeafLemmas
 pub mod ListLemmas
-pub mod ListingLemmas
 pub mod MarkLemmas
 pub mod NodeLemmas
 pub mod PageLemmas

@@ -1,8 +1,8 @@
 -- What is reported if the freelist doesn't have exactly the free pages: docs/SOUND.md, "Accounts".
 use Rattle.std.specs.Prelude.{◌≡◌, ◌≢◌, ◌≤◌, ◌<◌, ◌⊎◌, ◌↔◌, ℕ, suc, List, [], ◌∷◌, AllPairs, Contains, Some}
 use Rattle.bolt_format.specs.{Freelists.free_ids_of, Freelists.freelist_fault_of, declared.meta.Meta.Meta, declared.meta.TheConstants.NO_FREELIST}
-use Rattle.bolt_check.specs.{Accounts.IsFree, Accounts.IsInFreelist, Accounts.IsInUse, Accounts.times_in, Findings.finding, declared.fault.Finding.Finding}
-use Rattle.bolt_check.specs.declared.fault.TheConstants.Finding.{FREED_TWICE, FREE_RANGE, REACHED_FREED, TWICE, UNREACHABLE}
+use Rattle.bolt_check.specs.{Accounts.IsFree, Accounts.IsInFreelist, Accounts.IsInUse, Accounts.times_in, Findings.finding, declared.finding.Finding.Finding}
+use Rattle.bolt_check.specs.declared.finding.TheConstants.Finding.{FREED_TWICE, FREE_RANGE, REACHED_FREED, TWICE, UNREACHABLE}
 
 -- what is wrong with the freelist's own page: its first fault, or the lowest page of its span that is used
 pub data IsFreelistFinding (file : List ℕ) (meta : Meta) (used : ℕ → Type 0) : Finding → Type 0 where

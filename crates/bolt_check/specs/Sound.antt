@@ -4,7 +4,7 @@ use Rattle.bolt_format.specs.{Metas.HasMetaFault, Metas.HasSlotFault, Metas.IsCh
 use Rattle.bolt_check.specs.{Accounts.HasAccounts, Findings.IsClean, Findings.IsCovered, Findings.IsFirst, Findings.IsMetaPage, Nodes.node_at, Shape.HasShape}
 use Rattle.bolt_check.specs.{AccountFindings.AreAccountFindings, ShownFindings.findings_in, Ways.reached, declared.fault.CheckFault.CheckFault}
 use Rattle.bolt_check.specs.declared.fault.CheckFault.TheVariants.{Accounts, Memory, Open, Structure}
-use Rattle.bolt_check.specs.declared.fault.Finding.{Finding}
+use Rattle.bolt_check.specs.declared.finding.Finding.{Finding}
 
 -- page n is a meta page, or in the span of a page that a way leads to
 abbrev pub IsUsed : List ℕ → Meta → ℕ → Type 0
