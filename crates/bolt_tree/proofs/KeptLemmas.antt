@@ -2,7 +2,7 @@
 use Rattle.std.proofs.Common.{◌≡◌, ◌∙◌, ◌≤◌, ◌-◌, ℕ, Bool, List, [], ◌∷◌, ◌++◌, Option, Some, None, drop, take, length, reverse, refl, sym, ap, subst, arith}
 use Rattle.bolt_tree.proofs.Words.{AreKept, AreOfFile, BucketView, Checked, Cursor, CursorView, Frame, HasStack, IsHeld, IsInnermost, IsKept, LeafElement, Move, Moves, MovesLast, Place, Position, Trail, bucket_in, cursor_checked, cursor_place, cursor_start, cursor_view, drop-append_seam, entries_of, frames_of, innermost_views, kept_view, kept_views, length-append, length-drop, pager_checked, props, reverse-append, same_from_push, start_at, take-append_seam, take-length, ∥∥₁_elim, ∥∥₁_map}
 use Rattle.bolt_tree.proofs.{OpenSteps.no_snoc, StackLemmas.stack_short, TrailLemmas.length-frames}
-use Rattle.bolt_tree.specs.{declared.bucket.At.At, declared.open_cursors.WaitingCursor.WaitingCursor}
+use Rattle.bolt_tree.specs.{declared.at.At.At, declared.open_cursors.WaitingCursor.WaitingCursor}
 
 frames_short : (bucket : BucketView) (frames : List Frame) → HasStack bucket frames → length frames ≤ 64
 frames_short bucket [] stack = omega arith

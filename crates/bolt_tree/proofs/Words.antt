@@ -8,7 +8,7 @@ pub use Rattle.bolt_check.specs.{CheckedFiles.bytes_of, CheckedFiles.meta_of, Co
 pub use Rattle.bolt_check.specs.{Nodes.Entry, Nodes.Node, Nodes.Nodes, Nodes.branch_entry, Nodes.leaf_entry, Nodes.node_at, OnWays.IsOnWay, Shape.leads}
 pub use Rattle.bolt_check.specs.Sound.{HasSoundTrees}
 pub use Rattle.bolt_check.specs.Ways.{At_page, Before, PageSpot, Spot, bucket_spots, follow, reached, root_spot, step_at, step_entry}
-pub use Rattle.bolt_check.specs.declared.Checked.{Checked}
+pub use Rattle.bolt_check.specs.declared.checked.Checked.{Checked}
 pub use Rattle.bolt_format.proofs.ListLemmas.{drop_at, one_some, take_next}
 pub use Rattle.bolt_format.proofs.PageFacts.{below_mark, bucket_value, flat_inline}
 pub use Rattle.bolt_format.proofs.PageLaws.{length-shown_branches, length-shown_leaves}
@@ -50,7 +50,7 @@ pub use Rattle.bolt_tree.specs.{RestAfter.beyond, RestAfter.by_first, RestAfter.
 pub use Rattle.bolt_tree.specs.Starts.{HasStart, start_at}
 pub use Rattle.bolt_tree.specs.Tree.{IsTreeOf, Shows, Tree, end, first_tree, later_trees, listing_below, listing_of, put_first, tree_of, trees_by_depth}
 pub use Rattle.bolt_tree.specs.{Tree.with_bucket, Tree.with_value, Walks.GivesNext, declared.bucket.Bucket.Bucket, declared.cursor.Cursor.Cursor}
-pub use Rattle.bolt_tree.specs.{declared.opened.Position.Position, declared.trail.Trail.Trail}
+pub use Rattle.bolt_tree.specs.{declared.stack.Position.Position, declared.trail.Trail.Trail}
 unfoldable pub use Rattle.bolt_tree.specs.Buckets.{bucket_checked, bucket_start}
 unfoldable pub use Rattle.bolt_tree.specs.{Cursors.cursor_checked, Cursors.cursor_opened, Cursors.cursor_place, Cursors.cursor_start, FileTrees.file_tree}
 unfoldable pub use Rattle.bolt_tree.specs.{Pagers.pager_checked, Pagers.pager_opened, Private.Contents.content_at, Private.Stacks.left_of}

@@ -8,9 +8,10 @@ ghost use Rattle.bolt_tree.specs.Pagers.{pager_checked, pager_opened};
 ghost use Rattle.bolt_tree.specs.Places.{Fresh, Moves, Past, ShowsMove, first_move, last_move, next_move, prev_move, seek_move};
 ghost use Rattle.bolt_tree.specs.{ShownEntries.shown_entry, Starts.HasStart, Starts.start_at};
 
-use crate::Entry;
-use crate::bucket::At;
-use crate::opened::{Pager, Position, Stack, set_positions};
+use crate::at::At;
+use crate::entry::Entry;
+use crate::pager::Pager;
+use crate::stack::{Position, Stack, set_positions};
 use crate::trail::Trail;
 use bolt_format::Leaf;
 

@@ -6,7 +6,7 @@ use Rattle.bolt_check.specs.Counts.{counted}
 use Rattle.bolt_tree.specs.{BucketViews.BucketView, BucketViews.bucket_in, Private.BucketPages.IsSoundBucket, Private.BucketPages.contents_in}
 use Rattle.bolt_tree.specs.{Pagers.pager_checked, Pagers.pager_opened, Private.Entered.opened_to, Private.Contents.Contents, Private.ShownPages.opened_content}
 use Rattle.bolt_tree.specs.Private.Stacks.{Frame, HasStack, IsAtRest, IsOn, ahead_of, before_of, preceding_of, right_of}
-use Rattle.bolt_tree.specs.{Starts.start_at, Private.Tours.Visit, declared.opened.Position.Position, declared.trail.Trail.Trail}
+use Rattle.bolt_tree.specs.{Starts.start_at, Private.Tours.Visit, declared.stack.Position.Position, declared.trail.Trail.Trail}
 
 abbrev pub frame_of : Position → Frame
 frame_of position = record { content = opened_content position.page; taken = position.taken }

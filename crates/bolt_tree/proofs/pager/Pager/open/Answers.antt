@@ -1,5 +1,5 @@
 use Rattle.bolt_tree.proofs.Words.{good_on_way, pager_checked}
-use Rattle.bolt_tree.proofs.opened.Pager.open.Goals as goal
+use Rattle.bolt_tree.proofs.pager.Pager.open.Goals as goal
 
 pub known-requires : goal.known-requires
 unfolding pager_checked

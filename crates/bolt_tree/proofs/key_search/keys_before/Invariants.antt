@@ -1,6 +1,6 @@
 use Rattle.std.proofs.Common.{◌≡◌, ℕ, ◌-◌, ◌*◌, ◌<◌, ◌≤◌, Some, true, false, slice_get}
 use Rattle.bolt_tree.proofs.Words.{Key, content_keys, content_length, doubled, opened_content, stands_before}
-use Rattle.bolt_tree.proofs.descent.keys_before.Given as goal
+use Rattle.bolt_tree.proofs.key_search.keys_before.Given as goal
 
 abbrev pub invariant-loop-from : goal.invariant-loop-from
 invariant-loop-from l = record {
