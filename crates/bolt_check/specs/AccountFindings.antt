@@ -28,7 +28,7 @@ pub data IsAccountFinding (mark : ℕ) (in_use : ℕ → Type 0) (times : ℕ �
       → IsAccountFinding mark in_use times (record { number = UNREACHABLE; page = page; last = last })
   out_of_range : {n : ℕ} → (n < 2) ⊎ (mark ≤ n) → 1 ≤ times n → IsAccountFinding mark in_use times (finding FREE_RANGE n)
 
--- by page, and then by number
+-- by page, and then by the rule's code
 abbrev pub IsBefore : Finding → Finding → Type 0
 IsBefore a b = (a.page < b.page) ⊎ ((a.page ≡ b.page) × (a.number < b.number))
 

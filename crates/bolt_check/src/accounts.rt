@@ -7,7 +7,7 @@ ghost use Rattle.bolt_check.specs.Private.Tables.{HasRoom, IsClaimed, is_used, u
 
 use crate::finding::Finding;
 use crate::freelist::{Freelist, list_ids};
-use crate::freelist_findings::report_freelist;
+use crate::freelist_findings::all_findings;
 use crate::table::{PageUse, claim, first_claimed};
 use bolt_format::{FreeIds, Meta, free_ids, known};
 use std::alloc::{AllocError, Global};
@@ -92,5 +92,5 @@ fn test_ids(
         past: &past,
         mark,
     };
-    report_freelist(alloc, &freelist)
+    all_findings(alloc, &freelist)
 }

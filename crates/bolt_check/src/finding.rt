@@ -38,11 +38,11 @@ impl Finding {
     pub const FREE_RANGE: u8 = 27;
 
     /// A finding of one page.
-    pub fn of_page(number: u8, page: u64) -> Finding
-        ensures { result ≡ record { number = number; page = page; last = page } }
+    pub fn of_page(code: u8, page: u64) -> Finding
+        ensures { result ≡ record { number = code; page = page; last = page } }
     {
         Finding {
-            number,
+            number: code,
             page,
             last: page,
         }

@@ -1,4 +1,5 @@
-//! Reports what is wrong with the pages of a freelist, in the order of the pages.
+//! What is wrong with the pages that the freelist lists, and with those that it lacks, in the order of
+//! the pages.
 ghost use Rattle.std.specs.Prelude.{◌≡◌, ◌≤◌, ◌<◌, ◌+◌, ◌++◌, ◌↔◌, [], IfOk, IsTrue, OnOk, length};
 ghost use Rattle.bolt_check.specs.Private.Freelists.{AreAllFindings, AreFindingsBelow, HasFindingsTo, IsBeyondTo, IsPastTo, IsSettled, is_in_use, is_repeated, listed_times, meta_findings, page_findings, repeat_findings, run_findings, use_findings};
 
@@ -7,8 +8,8 @@ use crate::freelist::Freelist;
 use crate::table::PageUse;
 use std::alloc::{AllocError, Global};
 
-/// Reports the lost pages from `from` up to but not including `page`, if there are any.
-fn report_run(findings: &mut Vec<Finding>, from: u64, page: u64) -> Result<(), AllocError>
+/// Pushes the finding on the lost pages from `from` up to but not including `page`, if there are any.
+fn push_run(findings: &mut Vec<Finding>, from: u64, page: u64) -> Result<(), AllocError>
     ensures { OnOk result (findings.new.items ≡ findings.old.items ++ run_findings from page) }
 {
     if from < page {
@@ -21,8 +22,8 @@ fn report_run(findings: &mut Vec<Finding>, from: u64, page: u64) -> Result<(), A
     Ok(())
 }
 
-/// Reports what is wrong with a meta page.
-fn report_meta(findings: &mut Vec<Finding>, page: u64, page_use: PageUse) -> Result<(), AllocError>
+/// Pushes the finding on a meta page, if there is one.
+fn push_meta(findings: &mut Vec<Finding>, page: u64, page_use: PageUse) -> Result<(), AllocError>
     ensures { OnOk result (findings.new.items ≡ findings.old.items ++ meta_findings page page_use) }
 {
     match page_use {
@@ -34,8 +35,8 @@ fn report_meta(findings: &mut Vec<Finding>, page: u64, page_use: PageUse) -> Res
     Ok(())
 }
 
-/// Reports what is wrong with a page in range.
-fn report_use(findings: &mut Vec<Finding>, page: u64, page_use: PageUse) -> Result<(), AllocError>
+/// Pushes the findings on a page in range.
+fn push_use(findings: &mut Vec<Finding>, page: u64, page_use: PageUse) -> Result<(), AllocError>
     ensures { OnOk result (findings.new.items ≡ findings.old.items ++ use_findings page page_use) }
 {
     match page_use {
@@ -50,14 +51,14 @@ fn report_use(findings: &mut Vec<Finding>, page: u64, page_use: PageUse) -> Resu
     Ok(())
 }
 
-/// Reports what is wrong with a page below the mark.
-fn report_page(findings: &mut Vec<Finding>, page: u64, page_use: PageUse) -> Result<(), AllocError>
+/// Pushes the findings on a page below the mark.
+fn push_page(findings: &mut Vec<Finding>, page: u64, page_use: PageUse) -> Result<(), AllocError>
     ensures { OnOk result (findings.new.items ≡ findings.old.items ++ page_findings page page_use) }
 {
     if page < 2 {
-        report_meta(findings, page, page_use)
+        push_meta(findings, page, page_use)
     } else {
-        report_use(findings, page, page_use)
+        push_use(findings, page, page_use)
     }
 }
 
@@ -68,9 +69,10 @@ fn is_unused(page_use: PageUse) -> bool
     matches!(page_use, PageUse::Unused)
 }
 
-/// Reports one page of the table. If the run of lost pages from `from` on ends before it, that is
-/// reported first. Returns the page from which on all up to this one are lost and not reported yet.
-fn report_entry(
+/// Pushes the findings on one page of the table. If the run of lost pages from `from` on ends before
+/// it, that is pushed first. Returns the page from which on all up to this one are lost and not pushed
+/// yet.
+fn push_entry(
     freelist: &Freelist<'_>,
     n: usize,
     from: u64,
@@ -88,14 +90,14 @@ fn report_entry(
         return Ok(from);
     }
     let page = n as u64;
-    report_run(findings, from, page)?;
-    report_page(findings, page, page_use)?;
+    push_run(findings, from, page)?;
+    push_page(findings, page, page_use)?;
     Ok(page + 1)
 }
 
-/// Reports the pages of the table. Returns the page from which on all up to the table's end are
-/// lost and not reported yet.
-fn report_table(freelist: &Freelist<'_>, findings: &mut Vec<Finding>) -> Result<u64, AllocError>
+/// Pushes the findings on the pages of the table. Returns the page from which on all up to the table's end are
+/// lost and not pushed yet.
+fn push_table(freelist: &Freelist<'_>, findings: &mut Vec<Finding>) -> Result<u64, AllocError>
     requires settled { IsSettled freelist.now }
     requires none { findings.old.items ≡ [] }
     ensures within { IfOk result (λ from. from ≤ length freelist.now.table.now) }
@@ -103,7 +105,7 @@ fn report_table(freelist: &Freelist<'_>, findings: &mut Vec<Finding>) -> Result<
 {
     let mut from = 0;
     for n in 0..freelist.table.len() {
-        from = report_entry(freelist, n, from, findings)?;
+        from = push_entry(freelist, n, from, findings)?;
     }
     Ok(from)
 }
@@ -116,8 +118,8 @@ fn is_repeated(ids: &[u64], i: usize) -> bool
     i + 1 < ids.len() && ids[i + 1] == ids[i]
 }
 
-/// Reports an id if the next one is the same.
-fn report_repeated(findings: &mut Vec<Finding>, ids: &[u64], i: usize) -> Result<(), AllocError>
+/// Pushes the finding on an id if the next one is the same.
+fn push_repeated(findings: &mut Vec<Finding>, ids: &[u64], i: usize) -> Result<(), AllocError>
     requires { i < length ids.now }
     ensures { OnOk result (findings.new.items ≡ findings.old.items ++ repeat_findings ids.now i) }
 {
@@ -127,9 +129,9 @@ fn report_repeated(findings: &mut Vec<Finding>, ids: &[u64], i: usize) -> Result
     Ok(())
 }
 
-/// Reports the id at place `i` if it is below the mark and not reported yet, and the lost pages
-/// before it.
-fn report_id(
+/// Pushes the findings on the id at place `i` if it is below the mark and they aren't pushed yet, and
+/// on the lost pages before it.
+fn push_id(
     freelist: &Freelist<'_>,
     i: usize,
     from: u64,
@@ -146,14 +148,14 @@ fn report_id(
     if id < from || freelist.mark <= id {
         return Ok(from);
     }
-    report_run(findings, from, id)?;
-    report_repeated(findings, freelist.past, i)?;
+    push_run(findings, from, id)?;
+    push_repeated(findings, freelist.past, i)?;
     Ok(id + 1)
 }
 
-/// Reports the pages after the table and below the mark. Those from `start` on aren't reported yet.
-/// Returns the page from which on all up to the mark are lost and not reported yet.
-fn report_past(
+/// Pushes the findings on the pages after the table and below the mark. Those from `start` on aren't
+/// pushed yet. Returns the page from which on all up to the mark are lost and not pushed yet.
+fn push_past(
     freelist: &Freelist<'_>,
     start: u64,
     findings: &mut Vec<Finding>,
@@ -166,14 +168,14 @@ fn report_past(
 {
     let mut from = start;
     for i in 0..freelist.past.len() {
-        from = report_id(freelist, i, from, findings)?;
+        from = push_id(freelist, i, from, findings)?;
     }
     Ok(from)
 }
 
-/// Reports the id at place `i` if it is at or above the mark, and above `last`, the last one
-/// reported. Returns the last one that is reported now.
-fn report_high_id(
+/// Pushes the finding on the id at place `i` if it is at or above the mark, and above `last`, the last
+/// one pushed. Returns the last one that is pushed now.
+fn push_high_id(
     freelist: &Freelist<'_>,
     i: usize,
     last: u64,
@@ -192,22 +194,22 @@ fn report_high_id(
     Ok(id)
 }
 
-/// Reports the ids from the mark on, each once.
+/// Pushes the findings on the ids from the mark on, each once.
 #[tactic(auto, using(crate::proofs::FreelistSteps::beyond_start))]
-fn report_beyond(freelist: &Freelist<'_>, findings: &mut Vec<Finding>) -> Result<(), AllocError>
+fn push_beyond(freelist: &Freelist<'_>, findings: &mut Vec<Finding>) -> Result<(), AllocError>
     requires settled { IsSettled freelist.now }
     requires reported { AreFindingsBelow freelist.now.mark (is_in_use freelist.now) (listed_times freelist.now) freelist.now.mark findings.old.items }
     ensures { OnOk result (AreAllFindings freelist.now.mark (is_in_use freelist.now) (listed_times freelist.now) findings.new.items) }
 {
     let mut last = 0;
     for i in 0..freelist.past.len() {
-        last = report_high_id(freelist, i, last, findings)?;
+        last = push_high_id(freelist, i, last, findings)?;
     }
     Ok(())
 }
 
-/// All findings of a freelist.
-pub(crate) fn report_freelist(
+/// All findings on the pages that the freelist lists, and on those that it lacks.
+pub(crate) fn all_findings(
     alloc: Global,
     freelist: &Freelist<'_>,
 ) -> Result<Vec<Finding>, AllocError>
@@ -215,9 +217,9 @@ pub(crate) fn report_freelist(
     ensures { IfOk result (λ reported. AreAllFindings freelist.now.mark (is_in_use freelist.now) (listed_times freelist.now) reported.items) }
 {
     let mut findings = Vec::new(alloc);
-    let past_table = report_table(freelist, &mut findings)?;
-    let from = report_past(freelist, past_table, &mut findings)?;
-    report_run(&mut findings, from, freelist.mark)?;
-    report_beyond(freelist, &mut findings)?;
+    let past_table = push_table(freelist, &mut findings)?;
+    let from = push_past(freelist, past_table, &mut findings)?;
+    push_run(&mut findings, from, freelist.mark)?;
+    push_beyond(freelist, &mut findings)?;
     Ok(findings)
 }

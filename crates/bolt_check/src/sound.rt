@@ -3,7 +3,7 @@
 ghost use Rattle.std.specs.Prelude.{◌≡◌, ◌<◌, IfErr, IfOk, OnOk, false, true};
 ghost use Rattle.bolt_format.specs.{Metas.IsChosen, Metas.IsInSlot};
 ghost use Rattle.bolt_check.specs.{CheckedFiles.bytes_of, CheckedFiles.has_accounts, CheckedFiles.meta_of, RoledFiles.roles_checked};
-ghost use Rattle.bolt_check.specs.Sound.{AreTreesRefused, HasSoundTrees, IsRefused, IsSlotRefused, IsSound};
+ghost use Rattle.bolt_check.specs.Sound.{HasSoundTrees, IsRefused, IsRefusedFor, IsSlotRefused, IsSound};
 
 use crate::accounts::test_accounts;
 use crate::checked::Checked;
@@ -76,8 +76,7 @@ pub fn check_slot<'a>(alloc: Global, file: &'a [u8], slot: Slot) -> Result<Check
     ensures accounts { IfOk result (λ checked. has_accounts checked ≡ false) }
     ensures refused { IfErr result (IsSlotRefused file.now slot) }
 {
-    let meta = slot_meta(file, slot)?;
-    check_under(alloc, file, meta)
+    check_under(alloc, file, slot_meta(file, slot)?)
 }
 
 /// Tests the trees of a file under a meta that is handed in (docs/SOUND.md, "One meta alone"). The
@@ -94,7 +93,7 @@ pub fn check_under<'a>(alloc: Global, file: &'a [u8], meta: Meta) -> Result<Chec
     ensures meta { IfOk result (λ checked. meta_of checked ≡ meta) }
     ensures trees { OnOk result (HasSoundTrees file.now meta) }
     ensures accounts { IfOk result (λ checked. has_accounts checked ≡ false) }
-    ensures refused { IfErr result (AreTreesRefused file.now meta) }
+    ensures refused { IfErr result (IsRefusedFor file.now meta false) }
 {
     search(alloc, file, &meta)?;
     Ok(Checked {

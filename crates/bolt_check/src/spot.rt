@@ -41,7 +41,7 @@ impl<'a> BucketSpot<'a> {
     {
         match test_inline_keys(&self.page) {
             Ok(()) => Ok(()),
-            Err(number) => Err(Finding::of_page(number, self.host)),
+            Err(code) => Err(Finding::of_page(code, self.host)),
         }
     }
 }

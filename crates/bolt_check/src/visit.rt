@@ -4,7 +4,7 @@ ghost use Rattle.std.specs.Prelude.{◌≡◌, ◌<◌, ◌≤◌, ℕ, IfErr, I
 ghost use Rattle.std.specs.Result.{result_err};
 ghost use Rattle.bolt_format.specs.{Pages.IsInFile, Pages.page_at, Shown.shown};
 ghost use Rattle.bolt_check.specs.{Findings.PagePasses, Findings.PageTests, Findings.keys_of, Findings.node_finding, Keys.keys_order_fault, Nodes.node_at};
-ghost use Rattle.bolt_check.specs.{Private.Freelists.IsUnlisted, Private.Pending.Claims, Private.Uses.use_of};
+ghost use Rattle.bolt_check.specs.{Private.Freelists.IsUnlisted, Private.Pending.ClaimsSpan, Private.Uses.use_of};
 ghost use Rattle.bolt_check.specs.Private.Tables.{HasRoom, IsClaimed, IsUnclaimed, unclaimed, use_at};
 ghost use Rattle.bolt_check.specs.{ShownNodes.shown_node, ShownSpots.bound_of, ShownSpots.page_spot, Ways.At_page};
 
@@ -31,7 +31,7 @@ pub(crate) fn visit<'a>(
     ensures page { IfOk result (λ node. page_at file.now meta.now spot.now.number ≡ Some (shown node.page)) }
     ensures node { IfOk result (λ node. node_at file.now meta.now spot.now.number ≡ Ok (shown_node node)) }
     ensures passes { OnOk result (PagePasses (node_at file.now meta.now) (IsClaimed table.old) (page_spot spot.now)) }
-    ensures claims { OnOk result (Claims (node_at file.now meta.now) (At_page (page_spot spot.now)) table.old table.new) }
+    ensures claims { OnOk result (ClaimsSpan (node_at file.now meta.now) (At_page (page_spot spot.now)) table.old table.new) }
     ensures outside { OnOk result ((n : ℕ) → IsUnclaimed table.new n → use_at table.new n ≡ use_at table.old n) }
     ensures fewer { OnOk result (unclaimed table.new < unclaimed table.old) }
     ensures unlisted { OnOk result (IsUnlisted table.old → IsUnlisted table.new) }
@@ -101,17 +101,13 @@ fn test_node(node: &TreePage<'_>, spot: &PageSpot<'_>) -> Result<(), Finding>
     }
     match test_keys(node, spot.lower, spot.upper) {
         Ok(()) => Ok(()),
-        Err(number) => Err(Finding::of_page(number, spot.number)),
+        Err(code) => Err(Finding::of_page(code, spot.number)),
     }
 }
 
 /// Tests the keys of a page, one after another, against each other and their bounds.
 #[tactic(auto, using(bolt_format::proofs::ListLemmas::drop_next, std::proofs::lemmas::List::drop_all))]
-fn test_keys(
-    node: &TreePage<'_>,
-    lower: Option<&[u8]>,
-    upper: Option<&[u8]>,
-) -> Result<(), u8>
+fn test_keys(node: &TreePage<'_>, lower: Option<&[u8]>, upper: Option<&[u8]>) -> Result<(), u8>
     ensures { result_err result ≡ keys_order_fault None (bound_of lower.entry) (bound_of upper.entry) (keys_of (shown_node node.now).entries) }
 {
     let mut before: Option<&[u8]> = None;

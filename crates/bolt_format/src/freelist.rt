@@ -45,7 +45,10 @@ pub fn free_ids_at<'a>(file: &'a [u8], meta: &Meta, id: u64) -> Result<FreeIds<'
     ensures good { OnOk result (freelist_fault file.now meta.now id ≡ None) }
     ensures fault { IfErr result (λ fault. (freelist_fault file.now meta.now id ≡ Some fault.number) × (fault.page ≡ id)) }
 {
-    ids_of_page(file, meta, id).map_err(|number| PageFault { number, page: id })
+    ids_of_page(file, meta, id).map_err(|code| PageFault {
+        number: code,
+        page: id,
+    })
 }
 
 /// Reads page `id` as a freelist.

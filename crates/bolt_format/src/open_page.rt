@@ -31,7 +31,10 @@ pub fn page<'a>(file: &'a [u8], meta: &Meta, id: u64) -> Result<Page<'a>, PageFa
     ensures fault { IfErr result (λ fault. (page_fault file.now meta.now id ≡ Some fault.number) × (fault.page ≡ id)) }
     ensures none { OnErr result (page_at file.now meta.now id ≡ None) }
 {
-    test_page(file, meta, id).map_err(|number| PageFault { number, page: id })
+    test_page(file, meta, id).map_err(|code| PageFault {
+        number: code,
+        page: id,
+    })
 }
 
 /// Opens the same page, but tests nothing. The page is known to be good.

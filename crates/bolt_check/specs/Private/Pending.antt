@@ -22,5 +22,5 @@ unfoldable pub kids : Node → PageSpot → List Spot
 kids node s = somes (places node.is_leaf s node.entries)
 
 -- the table after a visit: what was claimed before, and the spot's span
-abbrev pub Claims : Nodes → Spot → List PageUse → List PageUse → Type 0
-Claims nodes s old new = Takes nodes (Some s) (IsClaimed old) (IsClaimed new) (IsNoted old) (IsNoted new)
+abbrev pub ClaimsSpan : Nodes → Spot → List PageUse → List PageUse → Type 0
+ClaimsSpan nodes s old new = Takes nodes (Some s) (IsClaimed old) (IsClaimed new) (IsNoted old) (IsNoted new)

@@ -1,6 +1,6 @@
 use Rattle.std.proofs.Common.{arith}
 use Rattle.bolt_check.proofs.FreelistSteps.{past_end, past_start}
-use Rattle.bolt_check.proofs.freelist_findings.report_past.Goals as goal
+use Rattle.bolt_check.proofs.freelist_findings.push_past.Goals as goal
 
 pub loop-i-init : goal.loop-i-init
 loop-i-init c = record {

@@ -1,6 +1,6 @@
 use Rattle.std.proofs.Common.{◌≤◌}
 use Rattle.bolt_check.proofs.Words.{HasFindingsTo}
-use Rattle.bolt_check.proofs.freelist_findings.report_table.Given as goal
+use Rattle.bolt_check.proofs.freelist_findings.push_table.Given as goal
 
 -- all before the run of lost pages that ends here is reported
 abbrev pub invariant-loop-n : goal.invariant-loop-n

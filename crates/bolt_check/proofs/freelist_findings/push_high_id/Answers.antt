@@ -1,6 +1,6 @@
 use Rattle.std.proofs.Common.{add-one}
 use Rattle.bolt_check.proofs.FreelistSteps.{beyond_reported}
-use Rattle.bolt_check.proofs.freelist_findings.report_high_id.Goals as goal
+use Rattle.bolt_check.proofs.freelist_findings.push_high_id.Goals as goal
 
 pub returns : goal.returns
 returns c =

@@ -1,6 +1,6 @@
 use Rattle.std.proofs.Common.{◌≤◌}
 use Rattle.bolt_check.proofs.Words.{IsPastTo}
-use Rattle.bolt_check.proofs.freelist_findings.report_past.Given as goal
+use Rattle.bolt_check.proofs.freelist_findings.push_past.Given as goal
 
 abbrev pub invariant-loop-i : goal.invariant-loop-i
 invariant-loop-i l = record {
