@@ -38,7 +38,7 @@ module _ (file : List ℕ) (meta : Meta) (trees : HasSoundTrees file meta) where
   pub unread : (choice : MetaChoice) (fault : CheckFault) → NamesOne file choice meta → IsReadUnder file choice meta → IsRefusedUnder file choice fault → fault ≡ check.Memory
   unread Active (check.Open fault) one (slot, chosen, sound) (has, none) = absurd (none slot meta chosen.valid)
   unread Active (check.Structure x) one under (slot, other, is, first) = absurd (finds_none other x (one other (slot, is)) first)
-  unread Active (check.Accounts findings) one (slot, chosen, sound) (another, other, is, own, wrong, are, some) =
+  unread Active (check.Accounts findings) one (slot, chosen, sound) (another, other, is, (own, wrong, are, some)) =
       absurd (wrong ((subst (λ (m : Meta). IsSound file m true) (sym (one other (another, is))) sound).right refl))
   unread (InSlot slot) (check.Open fault) one (lies, sound) (has, none) = absurd (none meta lies)
   unread (InSlot slot) (check.Structure x) one under (other, is, first) = absurd (finds_none other x (one other is) first)

@@ -4,7 +4,7 @@ pub use Rattle.bolt_check.specs.CheckedFiles.{bytes_of, meta_of}
 pub use Rattle.bolt_check.specs.Findings.{IsClaimedBefore, IsMetaPage, finding}
 pub use Rattle.bolt_check.specs.Nodes.{leaf_entry, node_at}
 pub use Rattle.bolt_check.specs.Sound.{HasSoundTrees, IsFirstFinding, IsSound}
-pub use Rattle.bolt_check.specs.{Keys.Key, declared.Checked.Checked, declared.fault.CheckFault.CheckFault, declared.fault.Finding.Finding}
+pub use Rattle.bolt_check.specs.{Keys.Key, declared.checked.Checked.Checked, declared.fault.CheckFault.CheckFault, declared.finding.Finding.Finding}
 pub use Rattle.bolt_commands.specs.Answers.{AddsEntry, Answer, AnswersFound, AnswersLosses, AreFoundPages, Does, DoesJob, Ending, HasStats, HoldsIn, HoldsNone}
 pub use Rattle.bolt_commands.specs.Answers.{IsCheckAnswer, IsCheckAnswerAfter, IsEndedOrCut, IsEntriesAnswer, IsFileRefusal, IsFoundAnswer, IsFoundPagesAnswer}
 pub use Rattle.bolt_commands.specs.Answers.{IsInfoAnswer, IsJoinedList, IsListAnswer, IsListedAnswer, IsLossesAnswer, IsReadAnswer, IsReadUnder}

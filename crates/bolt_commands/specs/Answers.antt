@@ -3,12 +3,12 @@ use Rattle.std.specs.Prelude.{◌≡◌, ◌≢◌, ◌<◌, ◌≤◌, ◌-◌,
 use Rattle.std.specs.Io.KnownBytes.{Appends, Keeps}
 use Rattle.bolt_bulk.specs.Compacting.{too_many}
 use Rattle.bolt_layout.specs.Copies.{layout_of_listing}
-use Rattle.bolt_check.specs.{Roles.AreRoles, Sound.AreTreesRefused, Sound.HasSoundTrees, Sound.IsRefused, Sound.IsSlotRefused, Sound.IsSound}
+use Rattle.bolt_check.specs.{Roles.AreRoles, Sound.IsRefusedFor, Sound.HasSoundTrees, Sound.IsRefused, Sound.IsSlotRefused, Sound.IsSound}
 use Rattle.bolt_check.specs.declared.fault.CheckFault.{CheckFault}
 use Rattle.bolt_check.specs.declared.fault.CheckFault.TheVariants as check
-use Rattle.bolt_check.specs.{declared.fault.Finding.Finding, declared.role_table.Role.Role}
+use Rattle.bolt_check.specs.{declared.finding.Finding.Finding, declared.role_table.Role.Role}
 use Rattle.bolt_format.specs.{Elements.LeafElement, Metas.HasMetaFault, Metas.HasSlotFault, Metas.IsChosen, Metas.IsInSlot, Pages.page_at}
-use Rattle.bolt_format.specs.{Sinks.AppendsPrefix, Sinks.AppendsProperPrefix, declared.open_page.PageFault.PageFault, declared.meta.Meta.Meta}
+use Rattle.bolt_format.specs.{Sinks.AppendsPrefix, Sinks.AppendsProperPrefix, declared.page_fault.PageFault.PageFault, declared.meta.Meta.Meta}
 use Rattle.bolt_format.specs.{declared.meta.MetaFault.MetaFault, declared.meta.Slot.Slot}
 use Rattle.bolt_load.specs.{LineFaults.IsListingText, LineFaults.IsLoadFault, LineMembers.text_members, declared.fault.LoadFault.LoadFault}
 use Rattle.bolt_recover.specs.{Found.AreFound, JoinRefusals.IsJoinRefusal, Joined.IsJoined, Joined.LacksBucketKey}
@@ -250,7 +250,7 @@ IsReadUnder file (Assumed assumed) meta = (meta ≡ assumed_for file assumed) ×
 abbrev pub IsRefusedUnder : List ℕ → MetaChoice → CheckFault → Type 0
 IsRefusedUnder file Active fault = IsRefused file fault
 IsRefusedUnder file (InSlot slot) fault = IsSlotRefused file slot fault
-IsRefusedUnder file (Assumed assumed) fault = AreTreesRefused file (assumed_for file assumed) fault
+IsRefusedUnder file (Assumed assumed) fault = IsRefusedFor file (assumed_for file assumed) false fault
 
 abbrev pub IsReadAnswer : List ℕ → MetaChoice → (Meta → Answer → Type 0) → Answer → Type 0
 IsReadAnswer file choice IsAccepted answer =

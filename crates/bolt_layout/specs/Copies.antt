@@ -1,6 +1,6 @@
 -- What a layout promises: docs/LAYOUT.md, "What holds of both layouts".
 use Rattle.std.specs.Prelude.{◌≡◌, ◌≤◌, ◌<◌, ◌^◌, ℕ, true, List, length, take}
-use Rattle.bolt_format.specs.{Metas.HasBothMetas, Metas.IsChosen, Metas.IsPageSize, declared.open_page.TheConstants.PageFault.CUT}
+use Rattle.bolt_format.specs.{Metas.HasBothMetas, Metas.IsChosen, Metas.IsPageSize, declared.page_fault.TheConstants.PageFault.CUT}
 use Rattle.bolt_format.specs.{declared.meta.MetaFault.TheVariants.Cut, declared.meta.Slot.TheVariants.One}
 use Rattle.bolt_check.specs.{Findings.finding, Sound.IsRefused, Sound.IsSound}
 use Rattle.bolt_check.specs.declared.fault.CheckFault.TheVariants.{Open, Structure}

@@ -2,7 +2,7 @@
 use Rattle.std.proofs.Common.{◌≡◌, ◌≢◌, ◌∙◌, inl, inr, ℕ, zero, suc, ◌<◌, ◌≤◌, Bool, true, false, ◌||◌, List, [], ◌∷◌, ◌++◌, length, nat_lt, Option, Some, None, Result, Ok, Err, if◌then◌else◌, refl, sym, ap, subst, arith}
 use Rattle.bolt_recover.proofs.Words.{At_inline, At_page, claimed_after, done, early, early_finding, false_from_ne_true, false≢true, Finding, finding, give, Gives, in_span, inline_finding, IsInSpan, Key, late, Member, Meta, meta_pages, nat_tests, Node, node_at, node_below, node_finding, Nodes, none-some, open_finding, or_parts, PageSpot, Passes, Place, place_tasks, root_place, Runs, RunsAll, Spot, step_from, Task, tasks_after, To_give, To_visit, twice, visit, Visited}
 use Rattle.bolt_recover.proofs.{Deciding.decided_by, Deciding.lowest, PlaceFacts.step_spot, TaskLists.after_at}
-use Rattle.bolt_check.specs.{Subtrees.Has, declared.fault.TheConstants.Finding.TWICE}
+use Rattle.bolt_check.specs.{Subtrees.Has, declared.finding.TheConstants.Finding.TWICE}
 use Rattle.bolt_check.proofs.TourExists.{has_number, numbers, shorter, still, without}
 use Rattle.bolt_tree.proofs.ListLemmas.{Has as Among}
 

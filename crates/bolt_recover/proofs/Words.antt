@@ -20,9 +20,9 @@ pub use Rattle.bolt_check.specs.{Shape.child_at, Shape.child_in, Shape.child_of,
 pub use Rattle.bolt_check.specs.{Sound.HasSoundTrees, Tours.IsBeforeAll, TreeKinds.tree_kind}
 pub use Rattle.bolt_check.specs.Ways.{At_inline, At_page, Before, PageSpot, Reach, SpanAt, SpanHas, SpanOf, Spot, bucket_spot, bucket_spots, child_spot, follow}
 pub use Rattle.bolt_check.specs.Ways.{reached, root_spot, step, step_at, step_entry, step_from, step_on, upper_from}
-pub use Rattle.bolt_check.specs.declared.Checked.{Checked}
+pub use Rattle.bolt_check.specs.declared.checked.Checked.{Checked}
 pub use Rattle.bolt_check.specs.declared.fault.CheckFault.TheVariants.{Accounts, Memory, Open, Structure}
-pub use Rattle.bolt_check.specs.{declared.fault.Finding.Finding, declared.tree_page.TreePage.TreePage}
+pub use Rattle.bolt_check.specs.{declared.finding.Finding.Finding, declared.tree_page.TreePage.TreePage}
 pub use Rattle.bolt_format.specs.{ElementPlaces.leaf_view, Elements.LeafElement, Elements.head_root, Elements.head_sequence, Elements.inline_elements}
 pub use Rattle.bolt_format.specs.Headers.{count_field, flags_field, kind_of}
 pub use Rattle.bolt_format.specs.Pages.{PageView, from_page, page_overflow, shown_as, shown_leaves, span_bytes}

@@ -4,7 +4,7 @@ use Rattle.bolt_format.specs.{Metas.HasMetaFault, Metas.HasSlotFault, Metas.IsCh
 use Rattle.bolt_check.specs.{Findings.IsMetaPage, Findings.Passes, Findings.Tests, Nodes.node_at, Ways.At_page, Ways.root_spot}
 use Rattle.bolt_check.specs.declared.fault.CheckFault.{CheckFault}
 use Rattle.bolt_check.specs.declared.fault.CheckFault.TheVariants.{Accounts, Memory, Open, Structure}
-use Rattle.bolt_check.specs.declared.fault.Finding.{Finding}
+use Rattle.bolt_check.specs.declared.finding.Finding.{Finding}
 
 -- The root page, to which the empty way leads, is kept, or lost with this finding. The meta pages alone are claimed before.
 abbrev pub KeepsRoot : List ℕ → Meta → Type 0

@@ -1,7 +1,7 @@
 //! The members of the joined listing: those that are recovered and, in the bucket `lost+found`, what
 //! is found.
 ghost use Rattle.std.specs.Prelude.{◌≡◌, ◌≢◌, ◌<◌, ◌*◌, ◌^◌, [], None, IfErr, IfOk, IfSome, OnErr, OnOk, length};
-ghost use Rattle.bolt_check.specs.declared.fault.Finding.{Finding};
+ghost use Rattle.bolt_check.specs.declared.finding.Finding.{Finding};
 ghost use Rattle.bolt_tree.specs.Paths.{path_of};
 ghost use Rattle.bolt_recover.specs.{Found.numbers_of, Joined.IsJoined, Joined.LacksBucketKey, Joined.lost_and_found, JoinRefusals.IsJoinRefusal};
 ghost use Rattle.bolt_recover.specs.{Losses.everything, LostAndFound.all_lost, Private.Joining.AreJoinable, Private.Joining.IsHeldWell};

@@ -8,7 +8,7 @@ use Rattle.std.specs.Prelude.{⊤, IfErr, IsErrAnd}
 use Rattle.bolt_tree.specs.{BucketViews.AreSorted, BucketViews.BucketView, CursorBounds.OpensByNext, CursorBounds.OpensSeek}
 use Rattle.bolt_tree.specs.Openings.{IsGap, IsSeekCount, sum_to}
 use Rattle.bolt_tree.specs.{Places.next_move, Places.nothing_at, Places.onto, Places.place_in, Places.seek_move, declared.cursor.Cursor.Cursor}
-use Rattle.bolt_tree.specs.declared.Entry.{Entry}
+use Rattle.bolt_tree.specs.declared.entry.Entry.{Entry}
 use Rattle.bolt_check.specs.Counts.{counted}
 use Rattle.bolt_tree.proofs.{AllEntries.sorted_at, CursorMoves.none_past, CursorMoves.not_below, Leaving.TheEntries, Leaving.the_one, PagerLemmas.counted_more}
 use Rattle.bolt_report.specs.{declared.Form.TheVariants.Json, declared.ReportFault.TheVariants.NoMemory, declared.ReportFault.TheVariants.Sink}

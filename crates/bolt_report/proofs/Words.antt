@@ -4,7 +4,7 @@ pub use Rattle.bolt_check.proofs.WayFacts.{follow_append}
 pub use Rattle.bolt_check.specs.{CheckedFiles.bytes_of, CheckedFiles.meta_of, Keys.Key, Keys.key_lt, Nodes.Node, Nodes.Nodes, Nodes.leaf_entry, Nodes.node_at}
 pub use Rattle.bolt_check.specs.{RoledFiles.roles_checked, Sound.HasSoundTrees, Subtrees.Enough, Subtrees.Has, Subtrees.kid_pages, Subtrees.weight}
 pub use Rattle.bolt_check.specs.Ways.{At_page, PageSpot, Spot, follow, reached, root_spot, step}
-pub use Rattle.bolt_check.specs.declared.Checked.{Checked}
+pub use Rattle.bolt_check.specs.declared.checked.Checked.{Checked}
 pub use Rattle.bolt_format.proofs.ListLemmas.{drop_next, flat_map-take_more}
 pub use Rattle.bolt_format.proofs.WroteFronts.{WroteFront, front_more, front_none, front_whole}
 pub use Rattle.bolt_format.proofs.WroteLemmas.{Wrote-element, Wrote-element_return, Wrote-elements, Wrote-none, Wrote-return, Wrote-same, Wrote-then, Wrote-then_return}

@@ -4,7 +4,7 @@ use Rattle.std.specs.Prelude.{◌*◌, ◌-◌, ℕ, List, ◌++◌, codes, coun
 use Rattle.std.specs.Int.{div_ceil}
 use Rattle.std.specs.List.{range_with_len}
 use Rattle.bolt_format.specs.declared.meta.Meta.{Meta}
-use Rattle.bolt_check.specs.{CheckedFiles.bytes_of, CheckedFiles.meta_of, declared.Checked.Checked, declared.role_table.Role.Role}
+use Rattle.bolt_check.specs.{CheckedFiles.bytes_of, CheckedFiles.meta_of, declared.checked.Checked.Checked, declared.role_table.Role.Role}
 use Rattle.bolt_check.specs.declared.role_table.Role.TheVariants as role
 use Rattle.bolt_report.specs.{Lines.column, Lines.line, PageTables.is_free, PageTables.pages_in, PageTables.pages_past, PageTables.past_line}
 

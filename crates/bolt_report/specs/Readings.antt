@@ -2,7 +2,7 @@
 use Rattle.std.specs.Prelude.{◌==◌, ℕ, Bool, true, false, List, [], ◌∷◌, map, sum_by, if◌then◌else◌}
 use Rattle.bolt_format.specs.{Elements.LeafElement, Elements.head_root, Pages.page_at, declared.meta.Meta.Meta}
 use Rattle.bolt_check.specs.{CheckedFiles.bytes_of, CheckedFiles.meta_of, Nodes.Entry, Nodes.Node, Nodes.node_at}
-use Rattle.bolt_check.specs.{Subtrees.Enough, Subtrees.Has, Subtrees.kid_pages, Subtrees.weight, declared.Checked.Checked}
+use Rattle.bolt_check.specs.{Subtrees.Enough, Subtrees.Has, Subtrees.kid_pages, Subtrees.weight, declared.checked.Checked.Checked}
 use Rattle.bolt_report.specs.{Figures.Figure, Figures.page_figure, declared.bucket_stats.UnreadBucket.UnreadBucket, declared.bucket_stats.UnreadPage.UnreadPage}
 
 -- the pages and the buckets of the code, by their numbers
