@@ -1,6 +1,6 @@
 -- What the moves of a trail do to its stack.
 use Rattle.std.proofs.Common.{◌≡◌, ◌==◌, ℕ, suc, ◌+◌, ◌-◌, ◌≤◌, ◌<◌, Bool, true, false, List, [], ◌∷◌, ◌++◌, Some, None, slice_get, length, map, reverse, drop, refl, sym, ap, ◌∙◌, subst, arith, append_assoc, append-nil}
-use Rattle.bolt_tree.proofs.Words.{BranchElement, BucketView, Checked, Content, Contents, Frame, HasBucket, HasStack, HasTrail, IsBranchContent, IsBranchTop, IsEntered, IsOn, IsOnWay, IsMoved, IsTrue, LeafElement, Meta, Of_branch, Of_leaf, PageView, Position, Trail, Visit, address_on, ahead_of, bytes_of, checked_trees, content_length, contents_in, drop_all, drop_at, elements_of, frame_of, frames_of, here_of, here_under, is_tree_kind, length-map, length-reverse, meta_of, nat_tests, one_some, option_to_list, page_at, props, reverse-append, right_of, right_under, tour, trail_bucket, trail_frames, under_at, ∥∥₁_elim, ∥∥₁_map}
+use Rattle.bolt_tree.proofs.Words.{BranchElement, BucketView, Checked, Content, Contents, Frame, HasBucket, HasStack, HasTrail, IsBranchContent, IsBranchTop, IsEntered, IsOn, IsOnWay, IsMoved, IsTrue, LeafElement, Meta, Of_branch, Of_leaf, PageView, Position, Trail, TourPage, address_on, ahead_of, bytes_of, checked_trees, content_length, contents_in, drop_all, drop_at, elements_of, frame_of, frames_of, here_of, here_under, is_tree_kind, length-map, length-reverse, meta_of, nat_tests, one_some, option_to_list, page_at, props, reverse-append, right_of, right_under, tour, trail_bucket, trail_frames, under_at, ∥∥₁_elim, ∥∥₁_map}
 use Rattle.bolt_tree.proofs.StackLemmas.{branch_room, stack_short, under_next}
 use Rattle.bolt_tree.proofs.WayPages.{IsWayPage, a_branch, a_leaf, on_way_page}
 
@@ -72,18 +72,18 @@ shown_by_branch of under none top branch (f ∷ below) h = top f below ∙ by_co
   by_content (Of_branch bs) h = branch bs f.taken
 
 -- what lies to the right, with the page that is opened first
-opened_right : (contents : Contents) (H i : ℕ) (address : List ℕ) (elements : List BranchElement) (b : BranchElement) (rest : List Visit) → slice_get elements i ≡ Some b
+opened_right : (contents : Contents) (H i : ℕ) (address : List ℕ) (elements : List BranchElement) (b : BranchElement) (rest : List TourPage) → slice_get elements i ≡ Some b
     → ((cs : List BranchElement) → contents b.child ≡ Of_branch cs → 62 - H ≡ suc (62 - suc H))
     → under_at contents H address i (drop i elements) ++ rest ≡ record { address = address ++ i ∷ []; entries = here_under (contents b.child) 0 }
     ∷ (right_under contents (suc H) (address ++ i ∷ []) (contents b.child) 0 ++ (under_at contents H address (suc i) (drop (suc i) elements) ++ rest))
 opened_right contents H i address elements b rest g same =
-    let f : ℕ → ℕ → List Visit = λ j child. tour contents (62 - H) (address ++ j ∷ []) (contents child) in
-    let tail : List Visit = under_at contents H address (suc i) (drop (suc i) elements) in
-    let v : Visit = record { address = address ++ i ∷ []; entries = here_under (contents b.child) 0 } in
-    let more : List Visit = right_under contents (suc H) (address ++ i ∷ []) (contents b.child) 0 in
+    let f : ℕ → ℕ → List TourPage = λ j child. tour contents (62 - H) (address ++ j ∷ []) (contents child) in
+    let tail : List TourPage = under_at contents H address (suc i) (drop (suc i) elements) in
+    let v : TourPage = record { address = address ++ i ∷ []; entries = here_under (contents b.child) 0 } in
+    let more : List TourPage = right_under contents (suc H) (address ++ i ∷ []) (contents b.child) 0 in
     let first : under_at contents H address i (drop i elements) ≡ f i b.child ++ tail = under_next f i i elements b g in
     let top : f i b.child ≡ v ∷ more = tour_top contents (62 - H) (suc H) (address ++ i ∷ []) (contents b.child) same in
-    ap (λ (vs : List Visit). vs ++ rest) first ∙ (ap (λ (vs : List Visit). (vs ++ tail) ++ rest) top ∙ ap (λ (vs : List Visit). v ∷ vs) (append_assoc more tail rest))
+    ap (λ (vs : List TourPage). vs ++ rest) first ∙ (ap (λ (vs : List TourPage). (vs ++ tail) ++ rest) top ∙ ap (λ (vs : List TourPage). v ∷ vs) (append_assoc more tail rest))
 
 -- a page is opened
 pub entered_none : (bucket : BucketView) (content : Content) (i : ℕ) (below new : List Frame) → IsEntered (contents_in bucket) false content i below new None → HasStack bucket new

@@ -30,8 +30,8 @@ pub use Rattle.bolt_tree.specs.Private.BucketPages.{IsSoundBucket, contents_in, 
 pub use Rattle.bolt_tree.specs.Private.Contents.{Content, Contents, Of_branch, Of_leaf, content_by, content_keys, content_length, content_of, content_seen}
 pub use Rattle.bolt_tree.specs.Private.Contents.{is_tree_kind}
 pub use Rattle.bolt_tree.specs.Private.CursorViews.{AreOfFile, IsInnermost, Keeps, MovesLast, Opens, cursor_view, fresh_view, innermost_views}
-pub use Rattle.bolt_tree.specs.{Private.Entered.IsEntered, Private.Entered.opened_to, Private.Entered.taken_at, Private.Held.IsHeld, Private.Held.place_by}
-pub use Rattle.bolt_tree.specs.Private.Held.{place_on}
+pub use Rattle.bolt_tree.specs.{Private.Entered.IsEntered, Private.Entered.opened_to, Private.Entered.taken_at, Private.Resting.IsResting, Private.Resting.place_by}
+pub use Rattle.bolt_tree.specs.Private.Resting.{place_on}
 pub use Rattle.bolt_tree.specs.Private.Kept.{AreKept, CursorView, IsKept, kept_view, kept_views}
 pub use Rattle.bolt_tree.specs.Private.OpenBuckets.{AreOpen, IsAhead, IsInPlace, IsInside, IsNamed, is_end, left_by, open_path, reported_path}
 pub use Rattle.bolt_tree.specs.{Private.OpenCursors.cursors_of, Private.PageKeys.IsPlaceOf, Private.PageKeys.doubled, Private.PageKeys.stands_before}
@@ -42,7 +42,7 @@ pub use Rattle.bolt_tree.specs.Private.Stacks.{IsLeafTop, IsOn}
 pub use Rattle.bolt_tree.specs.Private.Stacks.{IsStack}
 pub use Rattle.bolt_tree.specs.Private.Stacks.{RestsOn, StandsOn, address_on, ahead_of, before_of, before_under, done_of, done_under, here_of, here_under}
 pub use Rattle.bolt_tree.specs.Private.Stacks.{index_of, left_under, preceding_of, right_of, right_under, under_at}
-pub use Rattle.bolt_tree.specs.Private.Tours.{Visit, all_under, content_at_start, elements_of, pages_at, tour}
+pub use Rattle.bolt_tree.specs.Private.Tours.{TourPage, all_under, content_at_start, elements_of, pages_at, tour}
 pub use Rattle.bolt_tree.specs.Private.Trails.{Finds, HasBucket, HasTrail, IsMoved, ahead, entries_left, entries_to, frame_of, frames_of, nearer, pages_left}
 pub use Rattle.bolt_tree.specs.Private.Trails.{pages_to, preceding, right}
 pub use Rattle.bolt_tree.specs.Private.Trails.{trail_bucket, trail_frames}

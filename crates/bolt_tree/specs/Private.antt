@@ -4,11 +4,11 @@ pub mod BucketPages
 pub mod Contents
 pub mod CursorViews
 pub mod Entered
-pub mod Held
 pub mod Kept
 pub mod OpenBuckets
 pub mod OpenCursors
 pub mod PageKeys
+pub mod Resting
 pub mod Seeks
 pub mod ShownPages
 pub mod Stacks

@@ -53,9 +53,9 @@ impl<'a> Trail<'a> {
         self.go(back)
     }
 
-    /// Moves to the next entry. If there is none, it stays. The content of `spare` is lost.
+    /// Moves to the next entry. If there is none, it stays. `saved` is room for a copy of the stack.
     #[inline(always)]
-    pub fn next(&mut self, spare: &mut Stack<'a>) -> Option<Leaf<'a>>
+    pub fn next(&mut self, saved: &mut Stack<'a>) -> Option<Leaf<'a>>
         requires stack { HasTrail self.old }
         requires rest { IsAtRest (trail_frames self.old) }
         ensures { Goes false self.old self.new result }
@@ -66,7 +66,7 @@ impl<'a> Trail<'a> {
         if self.stack.len() < 2 {
             return None;
         }
-        self.go_further(spare, false)
+        self.go_further(saved, false)
     }
 
     /// Goes to the first entry whose key isn't below `key`. If there is none, the stack is empty.
@@ -109,19 +109,19 @@ impl<'a> Trail<'a> {
     }
 
     /// Moves to the next entry or, if `back` is set, to the preceding one, past the end of the leaf
-    /// too. If there is none, it stays. The content of `spare` is lost.
+    /// too. If there is none, it stays. `saved` is room for a copy of the stack.
     #[inline(never)]
     #[tactic(auto, using(crate::proofs::TrailLemmas::kept_stack))]
-    pub fn go_further(&mut self, spare: &mut Stack<'a>, back: bool) -> Option<Leaf<'a>>
+    pub fn go_further(&mut self, saved: &mut Stack<'a>, back: bool) -> Option<Leaf<'a>>
         requires stack { HasTrail self.old }
         requires rest { IsAtRest (trail_frames self.old) }
         ensures { Goes back self.old self.new result }
     {
-        set_positions(spare, self.stack.as_slice());
+        set_positions(saved, self.stack.as_slice());
         match self.go(back) {
             Some(leaf) => Some(leaf),
             None => {
-                set_positions(&mut self.stack, spare.as_slice());
+                set_positions(&mut self.stack, saved.as_slice());
                 None
             }
         }

@@ -4,7 +4,7 @@ use Rattle.bolt_format.specs.Elements.{BranchElement, LeafElement}
 use Rattle.bolt_check.specs.OnWays.{IsOnWay}
 use Rattle.bolt_tree.specs.{BucketViews.BucketView, Private.BucketPages.IsSoundBucket, Private.BucketPages.contents_in, Private.BucketPages.pages_in}
 use Rattle.bolt_tree.specs.Private.Contents.{Content, Contents, Of_branch, Of_leaf, content_length}
-use Rattle.bolt_tree.specs.Private.Tours.{Visit, all_under, elements_of, tour}
+use Rattle.bolt_tree.specs.Private.Tours.{TourPage, all_under, elements_of, tour}
 
 -- A page on the stack, and how many of its elements are taken.
 pub record Frame : Type 0 where
@@ -17,25 +17,25 @@ address_on [] = []
 address_on (frame ∷ below) = address_on below ++ (frame.taken - 1) ∷ []
 
 -- what lies under the elements of a branch, at this height and address
-abbrev pub under_at : Contents → ℕ → List ℕ → ℕ → List BranchElement → List Visit
+abbrev pub under_at : Contents → ℕ → List ℕ → ℕ → List BranchElement → List TourPage
 under_at contents height address i elements = all_under (λ i child. tour contents (62 - height) (address ++ i ∷ []) (contents child)) i elements
 
 -- the pages to the right of what is taken, one level after another
-abbrev pub right_under : Contents → ℕ → List ℕ → Content → ℕ → List Visit
+abbrev pub right_under : Contents → ℕ → List ℕ → Content → ℕ → List TourPage
 right_under contents height address (Of_leaf elements) taken = []
 right_under contents height address (Of_branch elements) taken = under_at contents height address taken (drop taken elements)
 
-abbrev pub right_of : Contents → List Frame → List Visit
+abbrev pub right_of : Contents → List Frame → List TourPage
 right_of contents [] = []
 right_of contents (frame ∷ below) = right_under contents (length below) (address_on below) frame.content frame.taken ++ right_of contents below
 
 -- the pages to the left of the page that is on a stack: those on the stack, and those under what was taken before
-abbrev pub left_under : Contents → ℕ → List ℕ → Content → ℕ → List Visit
+abbrev pub left_under : Contents → ℕ → List ℕ → Content → ℕ → List TourPage
 left_under contents height address (Of_leaf elements) taken = []
 left_under contents height address (Of_branch elements) taken = record { address = address; entries = [] } ∷ under_at contents height address 0
     (take taken elements)
 
-abbrev pub left_of : Contents → List Frame → List Visit
+abbrev pub left_of : Contents → List Frame → List TourPage
 left_of contents [] = []
 left_of contents (frame ∷ below) = left_of contents below ++ left_under contents (length below) (address_on below) frame.content (frame.taken - 1)
 
@@ -53,11 +53,11 @@ abbrev pub ahead_of : Contents → List Frame → List LeafElement
 ahead_of contents frames = here_of frames ++ elements_of (right_of contents frames)
 
 -- the pages to the left of what is taken that are not on the stack
-abbrev pub before_under : Contents → ℕ → List ℕ → Content → ℕ → List Visit
+abbrev pub before_under : Contents → ℕ → List ℕ → Content → ℕ → List TourPage
 before_under contents height address (Of_leaf elements) taken = []
 before_under contents height address (Of_branch elements) taken = under_at contents height address 0 (take taken elements)
 
-abbrev pub before_of : Contents → List Frame → List Visit
+abbrev pub before_of : Contents → List Frame → List TourPage
 before_of contents [] = []
 before_of contents (frame ∷ below) = before_of contents below ++ before_under contents (length below) (address_on below) frame.content (frame.taken - 1)
 

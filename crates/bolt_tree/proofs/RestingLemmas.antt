@@ -1,6 +1,6 @@
 -- What a cursor keeps, and its moves by those of its trail.
 use Rattle.std.proofs.Common.{◌≡◌, ◌∙◌, ℕ, ◌-◌, ◌≤◌, Bool, true, false, List, [], ◌∷◌, Option, None, length, drop, ap, refl, sym, subst}
-use Rattle.bolt_tree.proofs.Words.{BucketView, Content, Contents, EntryView, Finds, Frame, HasBucket, HasStack, HasTrail, IsAtRest, IsEntry, IsHeld, IsMoved, Key, Leaf, LeafElement, Move, Moves, Of_branch, Of_leaf, OpensByNext, OpensGap, Place, RestsOn, ShowsMove, Start, Trail, ahead, contents_in, counted, elements_in, entry_view, first_move, is_none, last_move, leaf_view, least_from, next_move, opened_to, option_map, pages_in, place_by, place_in, place_on, preceding, prev_move, props, right, seek_move, trail_bucket, trail_frames, ∥∥₁_elim}
+use Rattle.bolt_tree.proofs.Words.{BucketView, Content, Contents, EntryView, Finds, Frame, HasBucket, HasStack, HasTrail, IsAtRest, IsEntry, IsResting, IsMoved, Key, Leaf, LeafElement, Move, Moves, Of_branch, Of_leaf, OpensByNext, OpensGap, Place, RestsOn, ShowsMove, Start, Trail, ahead, contents_in, counted, elements_in, entry_view, first_move, is_none, last_move, leaf_view, least_from, next_move, opened_to, option_map, pages_in, place_by, place_in, place_on, preceding, prev_move, props, right, seek_move, trail_bucket, trail_frames, ∥∥₁_elim}
 use Rattle.bolt_tree.proofs.OpeningMoves.{first_opens, next_opens}
 use Rattle.bolt_tree.proofs.PlaceMoves.{Comes, first_moves, go_moves, last_moves, seek_moves, stack_bucket, the_entries}
 use Rattle.bolt_tree.proofs.TrailLemmas.{empty_stack, same_bucket}
@@ -14,26 +14,26 @@ rest_prop [] = Prim.hlevel props
 rest_prop (f ∷ below) = rest_on_prop f.content f.taken
 
 -- before the first call
-pub fresh_held : (trail : Trail) → HasBucket trail → trail_frames trail ≡ [] → ∥ IsHeld trail false ∥₁
-fresh_held trail is none =
-    let held : IsHeld trail false = record {
+pub fresh_resting : (trail : Trail) → HasBucket trail → trail_frames trail ≡ [] → ∥ IsResting trail false ∥₁
+fresh_resting trail is none =
+    let resting : IsResting trail false = record {
       stack = empty_stack trail is none;
       rest = subst IsAtRest (sym none) tt;
       empty = λ e. none;
-    } in ∣ held ∣₁
+    } in ∣ resting ∣₁
 
-pub held_stack : (trail : Trail) (is_past : Bool) → ∥ IsHeld trail is_past ∥₁ → HasTrail trail
-held_stack trail is_past held = ∥∥₁_elim held (Prim.hlevel props) (λ h. h.stack)
+pub resting_stack : (trail : Trail) (is_past : Bool) → ∥ IsResting trail is_past ∥₁ → HasTrail trail
+resting_stack trail is_past resting = ∥∥₁_elim resting (Prim.hlevel props) (λ h. h.stack)
 
-pub held_bucket : (trail : Trail) (is_past : Bool) → ∥ IsHeld trail is_past ∥₁ → HasBucket trail
-held_bucket trail is_past held = stack_bucket (trail_bucket trail) (trail_frames trail) (held_stack trail is_past held)
+pub resting_bucket : (trail : Trail) (is_past : Bool) → ∥ IsResting trail is_past ∥₁ → HasBucket trail
+resting_bucket trail is_past resting = stack_bucket (trail_bucket trail) (trail_frames trail) (resting_stack trail is_past resting)
 
-pub held_rest : (trail : Trail) (is_past : Bool) → ∥ IsHeld trail is_past ∥₁ → IsAtRest (trail_frames trail)
-held_rest trail is_past held = ∥∥₁_elim held (rest_prop (trail_frames trail)) (λ h. h.rest)
+pub resting_rest : (trail : Trail) (is_past : Bool) → ∥ IsResting trail is_past ∥₁ → IsAtRest (trail_frames trail)
+resting_rest trail is_past resting = ∥∥₁_elim resting (rest_prop (trail_frames trail)) (λ h. h.rest)
 
-pub not_past : (trail : Trail) (is_past : Bool) → ∥ IsHeld trail is_past ∥₁ → (trail_frames trail ≡ [] → ⊥) → is_past ≡ false
-not_past trail false held h = refl
-not_past trail true held h = absurd (h (∥∥₁_elim held (Prim.hlevel props) (λ k. k.empty refl)))
+pub not_past : (trail : Trail) (is_past : Bool) → ∥ IsResting trail is_past ∥₁ → (trail_frames trail ≡ [] → ⊥) → is_past ≡ false
+not_past trail false resting h = refl
+not_past trail true resting h = absurd (h (∥∥₁_elim resting (Prim.hlevel props) (λ k. k.empty refl)))
 
 -- what a call returns is shown as the move says
 pub shows_by : (Entry : Start → LeafElement → Type 0) (bucket : Start) (move : List LeafElement → Place → Move) (old new : Place) (answer : Option LeafElement) (shown : Option EntryView)
@@ -51,7 +51,7 @@ prev_last contents true (e ∷ entries) = refl
 prev_last contents false (e ∷ entries) = refl
 
 -- The moves of a trail, which stays in its bucket, as moves of a cursor over the bucket's entries.
-module _ (old new : Trail) (moved : IsMoved old new) (is_past : Bool) (held : ∥ IsHeld old is_past ∥₁) (found : Option Leaf) where
+module _ (old new : Trail) (moved : IsMoved old new) (is_past : Bool) (resting : ∥ IsResting old is_past ∥₁) (found : Option Leaf) where
   abbrev elements : List LeafElement
   elements = elements_in (trail_bucket old)
 
@@ -59,7 +59,7 @@ module _ (old new : Trail) (moved : IsMoved old new) (is_past : Bool) (held : �
   MovesTo move from to = Moves (IsEntry (trail_bucket old).file (trail_bucket old).meta) (trail_bucket old).start move from to (option_map leaf_view found)
 
   is : HasBucket old
-  is = held_bucket old is_past held
+  is = resting_bucket old is_past resting
 
   there : HasStack (trail_bucket old) (trail_frames new)
   there = subst (λ (b : BucketView). HasStack b (trail_frames new)) (same_bucket old new moved) moved.stack
@@ -111,15 +111,15 @@ module _ (old new : Trail) (moved : IsMoved old new) (is_past : Bool) (held : �
   module _ (some : trail_frames old ≡ [] → ⊥) where
     pub moves_next : Finds false found (ahead old) (ahead new) (trail_frames new) (trail_frames old)
         → MovesTo next_move (place_by is_past (contents_in (trail_bucket old)) (trail_frames old)) (place_by is_past (contents_in (trail_bucket new)) (trail_frames new))
-    moves_next h = rw (moved.file, not_past old is_past held some) (moves_by next_move (place_on (contents_in (trail_bucket old)) (trail_frames old)) (place_on (contents_in (trail_bucket old)) (trail_frames new))
-        (go_moves (trail_bucket old) false found (trail_frames old) (trail_frames new) (held_stack old is_past held) (held_rest old is_past held) some there (rw moved.file at h)))
+    moves_next h = rw (moved.file, not_past old is_past resting some) (moves_by next_move (place_on (contents_in (trail_bucket old)) (trail_frames old)) (place_on (contents_in (trail_bucket old)) (trail_frames new))
+        (go_moves (trail_bucket old) false found (trail_frames old) (trail_frames new) (resting_stack old is_past resting) (resting_rest old is_past resting) some there (rw moved.file at h)))
 
     pub moves_prev : Finds true found (preceding old) (preceding new) (trail_frames new) (trail_frames old)
         → MovesTo prev_move (place_by is_past (contents_in (trail_bucket old)) (trail_frames old)) (place_by is_past (contents_in (trail_bucket new)) (trail_frames new))
-    moves_prev h = rw (moved.file, not_past old is_past held some) (moves_by prev_move (place_on (contents_in (trail_bucket old)) (trail_frames old)) (place_on (contents_in (trail_bucket old)) (trail_frames new))
-        (go_moves (trail_bucket old) true found (trail_frames old) (trail_frames new) (held_stack old is_past held) (held_rest old is_past held) some there (rw moved.file at h)))
+    moves_prev h = rw (moved.file, not_past old is_past resting some) (moves_by prev_move (place_on (contents_in (trail_bucket old)) (trail_frames old)) (place_on (contents_in (trail_bucket old)) (trail_frames new))
+        (go_moves (trail_bucket old) true found (trail_frames old) (trail_frames new) (resting_stack old is_past resting) (resting_rest old is_past resting) some there (rw moved.file at h)))
 
     pub opens_next : (before after : ℕ) → Finds false found (ahead old) (ahead new) (trail_frames new) (trail_frames old)
         → after ≡ counted before (length (right old) - opened_to (option_map leaf_view found) (right new)) → OpensByNext (trail_bucket old) (place_by is_past (contents_in (trail_bucket old)) (trail_frames old)) before after
-    opens_next before after h opened = rw (not_past old is_past held some) (next_opens (trail_bucket old) found (trail_frames old) (trail_frames new) before after is
-        (held_stack old is_past held) (held_rest old is_past held) some there (rw moved.file at h) (rw moved.file at opened))
+    opens_next before after h opened = rw (not_past old is_past resting some) (next_opens (trail_bucket old) found (trail_frames old) (trail_frames new) before after is
+        (resting_stack old is_past resting) (resting_rest old is_past resting) some there (rw moved.file at h) (rw moved.file at opened))

@@ -5,7 +5,7 @@ use Rattle.bolt_tree.specs.{Private.Stacks.Frame, Private.Stacks.IsAtRest, Priva
 use Rattle.bolt_tree.specs.declared.trail.Trail.{Trail}
 
 -- It is on an entry of its bucket, or its stack is empty: before the first call, or past the last entry.
-pub record IsHeld (trail : Trail) (is_past : Bool) : Type 0 where
+pub record IsResting (trail : Trail) (is_past : Bool) : Type 0 where
   pub stack : HasTrail trail
   pub rest : IsAtRest (trail_frames trail)
   pub empty : is_past ≡ true → trail_frames trail ≡ []
