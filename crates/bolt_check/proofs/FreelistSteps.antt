@@ -129,7 +129,7 @@ module _ (freelist : Freelist) (settled : IsSettled freelist) where
         → IsPastTo freelist (suc (get_or freelist.past.now i 0)) (suc i) ((findings ++ run_findings from (get_or freelist.past.now i 0)) ++ [])
     past_once other =
         let e = times_past (get_or freelist.past.now i 0) id_past in
-        let one = times_once freelist.past.now i (λ j k. settled.sorted j k 0) h id_first other in
+        let one = times_once freelist.past.now i settled.sorted h id_first other in
         past_next [] (reports_well freelist.mark (is_in_use freelist) (listed_times freelist) (get_or freelist.past.now i 0) (omega (arith, e, one))
         (λ claimed. absurd (unused_past (get_or freelist.past.now i 0) id_past claimed)) id_kept id_in_range)
 

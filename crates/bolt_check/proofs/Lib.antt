@@ -13,12 +13,12 @@ pub mod KeyLaws
 pub mod KeyOrder
 pub mod Lawful
 pub mod LeafLemmas
-pub mod ListLemmas
+pub mod ListedIds
+pub mod Lists
 pub mod MarkLemmas
 pub mod NodeLemmas
 pub mod PageLemmas
 pub mod Pendings
-pub mod Rising
 pub mod RoleExists
 pub mod RoleFacts
 pub mod RoleLemmas

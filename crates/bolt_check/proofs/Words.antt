@@ -12,7 +12,7 @@ pub use Rattle.bolt_check.specs.Private.Tables.{HasRoom, IsClaimed, IsUnclaimed,
 pub use Rattle.bolt_check.specs.Private.Uses.{HasUse, IsMetaUse, IsNoted, UseAt, UseOf, use_of}
 pub use Rattle.bolt_check.specs.{Roles.HasRole, Roles.IsFirstPage, Shape.HasShape, Shape.child_at, Shape.child_in, Shape.leads}
 pub use Rattle.bolt_check.specs.ShownSpots.{bound_of, inline_keys, page_spot, spot_at}
-pub use Rattle.bolt_check.specs.{Sound.HasRightAccounts, Sound.HasSoundTrees, Sound.IsFirstFinding, Sound.IsSound, Sound.IsUsed, Subtrees.Has, Tours.IsTour}
+pub use Rattle.bolt_check.specs.{Sound.HasRightAccounts, Sound.HasSoundTrees, Sound.IsFirstFinding, Sound.IsSound, Sound.IsUsed, Lists.Has, Tours.IsTour}
 pub use Rattle.bolt_check.specs.Ways.{At_inline, At_page, Before, PageSpot, Reach, SpanAt, SpanHas, SpanOf, Spot, bucket_spot, child_spot, follow, root_spot, step, step_entry, step_on, upper_from}
 pub use Rattle.bolt_check.specs.{declared.checked.Checked.Checked, declared.fault.CheckFault.TheVariants.Structure, declared.finding.Finding.Finding}
 pub use Rattle.bolt_check.specs.declared.finding.TheConstants.Finding.{FREED_TWICE, FREE_RANGE, TWICE}

@@ -81,7 +81,7 @@ fn list_within(id: u64, table: &mut [PageUse])
 }
 
 /// Lists the ids in the table. Those past it are ignored, so it needs no memory.
-#[tactic(auto, using(crate::proofs::ListLemmas::times_more))]
+#[tactic(auto, using(crate::proofs::ListedIds::times_more))]
 pub(crate) fn list_ids_within(ids: FreeIds<'_>, table: &mut [PageUse])
     requires { IsUnlisted table.old }
     ensures used { (n : ℕ) → is_used (use_at table.new n) ≡ is_used (use_at table.old n) }

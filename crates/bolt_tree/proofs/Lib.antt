@@ -14,7 +14,6 @@ mod Giving
 pub mod KeptLemmas
 pub mod KeySearchLemmas
 pub mod Leaving
-pub mod ListLemmas
 pub mod Lists
 pub mod Looking
 pub mod Measured

@@ -1,7 +1,8 @@
 -- The nearest leaf to a key: the way down to it, step by step, and what lies ahead of the key there.
 use Rattle.std.proofs.Common.{◌≡◌, ℕ, suc, ◌+◌, ◌-◌, ◌≤◌, inl, inr, true, false, List, [], ◌∷◌, ◌++◌, Some, slice_get, length, map, drop, take, refl, sym, ap, ◌∙◌, subst, arith, append_assoc, length-append, append-nil, zero}
 use Rattle.bolt_tree.proofs.Words.{AreBelow, BranchElement, BucketView, Content, Contents, Frame, HasSoundTrees, HasStack, Inline_page, IsBetween, IsLeafTop, IsNear, IsNearFrom, IsNearTo, IsNearTop, IsNearest, IsOnWayDown, IsPlaceOf, IsSought, IsSoundBucket, IsStart, Key, KeysRise, LeafElement, Meta, Of_branch, Of_leaf, Root_page, Start, TourPage, address_on, ahead_of, branch_key, branch_node, cases_lt, content_at, content_at_start, content_keys, content_length, contents_in, elements_in, elements_of, key_lt, least_from, left_of, none-some, on_child, opened_content, option_map, pages_in, props, right_of, root_content, shown, slice_get-map, spot_node, tour, ∥∥₁_elim, ∥∥₁_map, ∥∥₁_prop}
-use Rattle.bolt_tree.proofs.{ListLemmas.Has, ListLemmas.has_right, ListLemmas.rises_gets, PlaceMoves.drop_front, PlaceMoves.leaf_parts}
+use Rattle.bolt_tree.proofs.{PlaceMoves.drop_front, PlaceMoves.leaf_parts}
+use Rattle.bolt_check.proofs.Lists.{Has, has_right, rises_gets}
 use Rattle.bolt_tree.proofs.{SeekLemmas.are_append, SeekLemmas.drop_get, SeekLemmas.is_above, SeekLemmas.not_above, SeekLemmas.take_get, SortedLemmas.visit_is}
 use Rattle.bolt_tree.proofs.{TourLemmas.IsBelowElement, TourLemmas.filled, WayPages.a_branch, WayPages.a_leaf, WayPages.on_way_page, WayPages.branch_page}
 use Rattle.bolt_tree.proofs.StackLemmas.{retaken}

@@ -1,7 +1,8 @@
 -- The place of a stack among the entries of its bucket, and what the moves of a trail are to a cursor's place.
 use Rattle.std.proofs.Common.{true, false, Bool, ◌≡◌, ℕ, suc, ◌+◌, ◌-◌, ◌≤◌, ◌<◌, List, [], ◌∷◌, ◌++◌, Some, None, Option, slice_get, length, drop, refl, sym, ap, ◌∙◌, arith, length-append, zero, take, append_assoc}
 use Rattle.bolt_tree.proofs.Words.{AreSorted, BucketView, Content, Contents, Finds, Frame, HasStack, IsAtRest, IsOn, IsSoundBucket, Key, Leaf, LeafElement, Move, Of_branch, Of_leaf, On, Past, Place, RestsOn, StandsOn, TourPage, address_on, ahead_of, contents_in, drop-append_seam, elements_in, elements_of, entries_to, first_move, flat_map-append, index_of, is_none, last_move, le-ltb, leaf_view, least_from, left_of, length-drop, length-take, lt-ltb, next_move, none-some, option_map, pages_in, place_by, place_in, place_on, preceding_of, prev_move, props, right_of, seek_move, slice_get_within, take-append-drop, tour, ∥∥₁_elim, ∥∥₁_map}
-use Rattle.bolt_tree.proofs.{BackLemmas.behind_index, ListLemmas.get_behind, ListLemmas.get_front, SortedLemmas.sorted, SortedLemmas.sorted_one}
+use Rattle.bolt_tree.proofs.{BackLemmas.behind_index, SortedLemmas.sorted, SortedLemmas.sorted_one}
+use Rattle.bolt_check.proofs.Lists.{get_behind, get_front}
 
 module _ {X : Type 0} where
   pub drop_front : (xs ys : List X) (n : ℕ) → n ≡ length xs → drop n (xs ++ ys) ≡ ys

@@ -3,7 +3,7 @@
 use Rattle.std.proofs.Common.{◌≡◌, ℕ, zero, suc, ◌+◌, ◌-◌, ◌≤◌, ◌<◌, inl, inr, true, false, not, List, [], ◌∷◌, Some, None, Option, slice_get, length, refl, sym, ap, ◌∙◌, subst, arith}
 use Rattle.bolt_tree.proofs.Words.{AreSorted, Before, BranchElement, BucketView, HasCount, HasSoundTrees, Inline_page, IsEntry, IsGap, IsHome, IsNear, IsNearFrom, IsNearest, IsOnWay, IsPagesUpTo, IsSeekCount, IsSeekPage, IsSoundBucket, IsStart, Key, LeafElement, Meta, Root_page, Start, TourPage, branch_step, cases_lt, content_at, key_lt, leads, leads_child, leaf_ends, least_from, node_at, node_is, on_address, on_child, pages_in, prefix_len-le-length}
 use Rattle.bolt_format.specs.declared.header.Kind.TheVariants as kind
-use Rattle.bolt_tree.proofs.ListLemmas.{Has, at_has, contains_from_has, get_exists, has_from_contains, map_has}
+use Rattle.bolt_check.proofs.Lists.{Has, at_has, contains_from_has, get_exists, has_from_contains, map_has}
 use Rattle.bolt_tree.proofs.{SeekLemmas.not_below, TourLemmas.IsUnder, TourLemmas.entries_shown, TourLemmas.under_child, WayPages.content_is}
 use Rattle.bolt_tree.proofs.CountLemmas.{Cut, IsAt, address_of, address_visited, after_exact, all_exact, apart, cut_size, entry_at, exact_count, exact_is, has_cut, its_home, seek_exact, upto_is}
 use Rattle.bolt_tree.proofs.{GapLemmas.at_place, NearestLeaf.near_exists, NearestLeaf.one_near, EntryOrder.before_least}

@@ -1,7 +1,7 @@
 -- On the way down to the leaf that is near a key, the key is between what is left and what is right.
 use Rattle.std.proofs.Common.{◌≡◌, ℕ, zero, suc, ◌+◌, ◌-◌, ◌≤◌, ◌<◌, inl, inr, Bool, true, false, List, [], ◌∷◌, ◌++◌, Some, Ok, slice_get, length, drop, take, refl, sym, ap, ◌∙◌, subst, arith}
 use Rattle.bolt_tree.proofs.Words.{AreBelow, BranchElement, BucketView, Contents, Frame, HasSoundTrees, HasStack, IsBetween, IsOnWay, IsPlaceOf, Key, LeafElement, Meta, Of_branch, PageView, TourPage, address_on, branch_node, cases_lt, content_at, content_keys, contents_in, elements_of, false_from_ne_true, flat_map-append, key_lt, left_of, lt_not_trans, lt_trans, node_at, none-some, not-false, not-true, on_child, option_map, props, right_of, slice_get-map, tour, under_at, ∥∥₁_elim}
-use Rattle.bolt_tree.proofs.ListLemmas.{Has, at_has, flat_has, get_before, has_at, has_split}
+use Rattle.bolt_check.proofs.Lists.{Has, at_has, flat_has, get_before, has_at, has_split}
 use Rattle.bolt_tree.proofs.TourLemmas.{IsUnder, branches_rise, tour_led, under_child, under_has}
 use Rattle.bolt_tree.proofs.WayPages.{branch_page}
 

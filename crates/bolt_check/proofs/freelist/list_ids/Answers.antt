@@ -1,5 +1,5 @@
 use Rattle.std.proofs.Common.{◌≡◌, ◌∙◌, ◌<◌, length, nat_le, arith}
-use Rattle.bolt_check.proofs.{Words.shown_ids, Words.times_of, Words.use_at, ListLemmas.past_more, ListLemmas.times_before, ListLemmas.times_more}
+use Rattle.bolt_check.proofs.{Words.shown_ids, Words.times_of, Words.use_at, ListedIds.past_more, ListedIds.times_before, ListedIds.times_more}
 use Rattle.std.proofs.lemmas.List.{take_all}
 use Rattle.bolt_check.proofs.freelist.list_ids.Goals as goal
 

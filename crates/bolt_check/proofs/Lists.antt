@@ -1,20 +1,8 @@
--- Lists: members, and lists that rise by a relation.
+-- Lists: members, lists that rise by a relation, and that two such lists with the same members are one. For the crates above too.
 use Rattle.std.proofs.Common.{◌≡◌, ℕ, zero, suc, ◌+◌, ◌<◌, ◌⊎◌, inl, inr, List, [], ◌∷◌, ◌++◌, length, Some, slice_get, get_or, map, refl, sym, ap, subst, arith, ◌∙◌}
-use Rattle.bolt_tree.proofs.Words.{AllPairs, Contains, flat_map, get_or_from_slice_get, none-some, slice_get-get_or, slice_get_within}
-
--- x is a member
-abbrev pub Has : {X : Type 0} → List X → X → Type 0
-Has [] x = ⊥
-Has (y ∷ ys) x = (y ≡ x) ⊎ Has ys x
-
--- P holds of each member
-abbrev pub Each : {X : Type 0} → (X → Type 0) → List X → Type 0
-Each {X} P xs = (x : X) → Has xs x → P x
-
--- R holds of each member and each later one
-abbrev pub RisesBy : {X : Type 0} → (X → X → Type 0) → List X → Type 0
-RisesBy R [] = Unit {0}
-RisesBy R (x ∷ xs) = Each (R x) xs × RisesBy R xs
+use Rattle.std.proofs.lemmas.Option.{get_or_from_slice_get, none-some, slice_get-get_or, slice_get_within}
+use Rattle.std.specs.List.{AllPairs, Contains, flat_map}
+pub use Rattle.bolt_check.specs.Lists.{Each, Has, RisesBy}
 
 module _ {X : Type 0} where
   pub has_left : (xs ys : List X) (x : X) → Has xs x → Has (xs ++ ys) x
