@@ -12,7 +12,8 @@ pub use Rattle.bolt_load.specs.declared.fault.LineFault.TheVariants.{KeyTooLong,
 unfoldable pub use Rattle.bolt_load.specs.{HexPaths.hex_path_in, LineMembers.line_member, Lines.lines_of, ShownMembers.members_left, ShownMembers.members_path}
 pub use Rattle.bolt_report.specs.{JsonReadings.ArePartsBytes, JsonReadings.IsMemberOfBytes, Lines.line, ListLines.hex_path, ListLines.listing_text}
 unfoldable pub use Rattle.bolt_report.specs.{ListLines.item_end, ListLines.member_line, PageLines.value_end}
-pub use Rattle.bolt_tree.proofs.{ListLemmas.Has, ListLemmas.contains_from_has, ListLemmas.has_from_contains, ListLemmas.has_split, PartLemmas.begins_of}
+pub use Rattle.bolt_check.proofs.Lists.{Has, contains_from_has, has_from_contains, has_split}
+pub use Rattle.bolt_tree.proofs.{PartLemmas.begins_of}
 pub use Rattle.bolt_tree.proofs.PathOrder.{less_lt, path_total}
 pub use Rattle.bolt_tree.specs.{Entries.Bucket, Entries.Item, Entries.Value, Listing.Member, Listing.member_cmp}
 pub use Rattle.bolt_tree.specs.{ListingParts.begins_with, ListingParts.has_bucket, ListingParts.is_bucket, Order.Rises}

@@ -3,7 +3,7 @@ use Rattle.std.proofs.Common.{◌≡◌, ◌∙◌, ◌<◌, inl, inr, ℕ, Bool
 use Rattle.bolt_recover.proofs.Words.{append-nil, Before, done, Finding, further, give, Has, has_split, IsBeforeAll, Member, Meta, Place, rises_append, RisesBy, Runs, Task, tasks_after, To_give, To_visit, Visit, visit, Visited, Way}
 use Rattle.bolt_recover.proofs.{SurveyIsOne.parent_before, SurveyIsOne.ways, TaskLists.IsAt, TaskLists.after_at, TaskLists.after_rises}
 use Rattle.bolt_check.specs.Tours.{Rises}
-use Rattle.bolt_tree.proofs.ListLemmas.{Has as Among}
+use Rattle.bolt_check.proofs.Lists.{Has as Among}
 
 abbrev pub visits_of : List (Visited Way) → List Visit
 visits_of visits = map (λ (v : Visited Way). record { way = v.way; found = v.found }) visits

@@ -3,7 +3,7 @@ use Rattle.std.proofs.Common.{◌≡◌, ◌∙◌, ◌<◌, inl, inr, ℕ, suc,
 use Rattle.bolt_recover.proofs.Words.{before_longer, below_less, cases_lt, cases_order, Contains, contains_cases, contains_none, done, Each, Finding, from_more, get_before, give, Gives, has_split, is_below, is_from, is_lt, item_of, Key, key_cmp, key_lt, key_same, LeafElement, Less, less_of, lower_of, lt_not_trans, lt_trans, Member, member_cmp, Meta, node_at, none-some, not_true, Path, path_cmp, Place, place_tasks, Rises, rises_append, RisesBy, root_place, Runs, RunsAll, same_front, same_Some, step_place, Task, tasks_after, To_give, To_visit, upper_of, visit, Visited}
 use Rattle.bolt_recover.proofs.{TaskLists.IsAt, TaskLists.after_at, TaskLists.after_rises, PlaceKeys.IsChild, PlaceKeys.Keyed, PlaceKeys.keyed}
 use Rattle.bolt_recover.proofs.PlaceSteps.{IsTidy, tidy_root, tidy_step}
-use Rattle.bolt_tree.proofs.ListLemmas.{Has as Among}
+use Rattle.bolt_check.proofs.Lists.{Has as Among}
 
 -- a path that a place may lead to
 abbrev InVisit : Place → Path → Type 0

@@ -6,7 +6,7 @@ use Rattle.bolt_recover.proofs.RunOrder.{rises_run, visits_of}
 use Rattle.bolt_recover.proofs.SurveyIsOne.{Suffix, earlier, gives_same, next_suffix, ways}
 use Rattle.bolt_recover.proofs.TaskLists.{IsAt, after_at, at_from}
 use Rattle.bolt_check.specs.Tours.{Rises}
-use Rattle.bolt_tree.proofs.ListLemmas.{Has as Among}
+use Rattle.bolt_check.proofs.Lists.{Has as Among}
 
 -- the claims of a spot are its span
 span_in : (r : Result Node ℕ) (number n : ℕ) → (in_span r number n ≡ true) ↔ SpanOf r number n

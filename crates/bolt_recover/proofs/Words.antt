@@ -60,8 +60,8 @@ unfoldable pub use Rattle.bolt_recover.specs.LostAndFound.{all_lost}
 unfoldable pub use Rattle.bolt_recover.specs.Recoveries.{recovery_begun, recovery_claimed, recovery_file, recovery_left, recovery_losses, recovery_meta}
 unfoldable pub use Rattle.bolt_recover.specs.Recoveries.{recovery_path, recovery_visited, recovery_work}
 pub use Rattle.bolt_tree.proofs.{EntryOrder.contains_at, Filters.filter_all, Filters.filter_first, Filters.filter_none, Filters.lt_of, Filters.not_lt_of}
-pub use Rattle.bolt_tree.proofs.ListLemmas.{Each, RisesBy, contains_from_has, get_before, has_at, has_from_contains, has_left, has_right, has_split, map_has}
-pub use Rattle.bolt_tree.proofs.ListLemmas.{rises_append, rises_map}
+pub use Rattle.bolt_check.proofs.Lists.{Each, RisesBy, contains_from_has, get_before, has_at, has_from_contains, has_left, has_right, has_split, map_has}
+pub use Rattle.bolt_check.proofs.Lists.{rises_append, rises_map}
 pub use Rattle.bolt_tree.proofs.{Lists.contains_cases, Lists.contains_head, Lists.contains_none, Lists.contains_tail, Lists.rises_once, PartLemmas.filter_rises}
 pub use Rattle.bolt_tree.proofs.PathOrder.{before_longer, flip_less, key_same, key_total, less_lt, path_total, same_front}
 pub use Rattle.bolt_tree.proofs.Single.{lists_once, member_total}

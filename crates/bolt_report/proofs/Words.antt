@@ -1,8 +1,8 @@
 -- The words that the proofs of this crate cite, passed on from the modules that define them.
-pub use Rattle.bolt_check.proofs.{TourLemmas.one_tour, TourSums.enough_kids, TourSums.enough_node, TourSums.has_right, TreePages.node_is}
+pub use Rattle.bolt_check.proofs.{TourLemmas.one_tour, TourSums.enough_kids, TourSums.enough_node, Lists.has_right, TreePages.node_is}
 pub use Rattle.bolt_check.proofs.WayFacts.{follow_append}
 pub use Rattle.bolt_check.specs.{CheckedFiles.bytes_of, CheckedFiles.meta_of, Keys.Key, Keys.key_lt, Nodes.Node, Nodes.Nodes, Nodes.leaf_entry, Nodes.node_at}
-pub use Rattle.bolt_check.specs.{RoledFiles.roles_checked, Sound.HasSoundTrees, Subtrees.Enough, Subtrees.Has, Subtrees.kid_pages, Subtrees.weight}
+pub use Rattle.bolt_check.specs.{RoledFiles.roles_checked, Sound.HasSoundTrees, Subtrees.Enough, Lists.Has, Subtrees.kid_pages, Subtrees.weight}
 pub use Rattle.bolt_check.specs.Ways.{At_page, PageSpot, Spot, follow, reached, root_spot, step}
 pub use Rattle.bolt_check.specs.declared.checked.Checked.{Checked}
 pub use Rattle.bolt_format.proofs.ListLemmas.{drop_next, flat_map-take_more}
