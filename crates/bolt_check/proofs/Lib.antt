@@ -2,6 +2,7 @@ pub mod AccountFindingLemmas
 pub mod AccountFindingsOnce
 pub mod AccountLemmas
 pub mod AccountsAlong
+pub mod Agreeing
 pub mod CheckedLemmas
 pub mod ClaimLemmas
 pub mod CountLemmas

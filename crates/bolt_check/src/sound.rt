@@ -1,7 +1,7 @@
 //! Is a whole file sound, and are the trees of one meta? That may be the active meta, the meta of a slot,
 //! or one that is handed in.
 ghost use Rattle.std.specs.Prelude.{◌≡◌, ◌<◌, IfErr, IfOk, OnOk, false, true};
-ghost use Rattle.bolt_format.specs.{Metas.IsChosen, Metas.IsInSlot};
+ghost use Rattle.bolt_format.specs.{Metas.IsActive, Metas.IsInSlot};
 ghost use Rattle.bolt_check.specs.{CheckedFiles.bytes_of, CheckedFiles.has_accounts, CheckedFiles.meta_of, RoledFiles.roles_checked};
 ghost use Rattle.bolt_check.specs.Sound.{HasSoundTrees, IsRefused, IsRefusedFor, IsSlotRefused, IsSound};
 
@@ -26,7 +26,7 @@ use std::alloc::Global;
 /// runs out.
 pub fn check<'a>(alloc: Global, file: &'a [u8]) -> Result<Checked<'a>, CheckFault>
     ensures bytes { IfOk result (λ checked. bytes_of checked ≡ file.now) }
-    ensures meta { IfOk result (λ checked. (slot : _) × IsChosen file.now slot (meta_of checked)) }
+    ensures meta { IfOk result (λ checked. (slot : _) × IsActive file.now slot (meta_of checked)) }
     ensures sound { IfOk result (λ checked. IsSound file.now (meta_of checked) true) }
     ensures accounts { IfOk result (λ checked. has_accounts checked ≡ true) }
     ensures refused { IfErr result (IsRefused file.now) }
@@ -43,7 +43,7 @@ pub fn check<'a>(alloc: Global, file: &'a [u8]) -> Result<Checked<'a>, CheckFaul
 #[tactic(auto, using(crate::proofs::MarkLemmas::table_wide), unfolding(crate::specs::RoledFiles::roles_checked, crate::specs::CheckedFiles::bytes_of, crate::specs::CheckedFiles::has_accounts, crate::specs::CheckedFiles::meta_of))]
 pub fn check_roles<'a>(alloc: Global, file: &'a [u8]) -> Result<Roles<'a>, CheckFault>
     ensures bytes { IfOk result (λ roles. bytes_of (roles_checked roles) ≡ file.now) }
-    ensures meta { IfOk result (λ roles. (slot : _) × IsChosen file.now slot (meta_of (roles_checked roles))) }
+    ensures meta { IfOk result (λ roles. (slot : _) × IsActive file.now slot (meta_of (roles_checked roles))) }
     ensures sound { IfOk result (λ roles. IsSound file.now (meta_of (roles_checked roles)) true) }
     ensures accounts { IfOk result (λ roles. has_accounts (roles_checked roles) ≡ true) }
     ensures refused { IfErr result (IsRefused file.now) }

@@ -1,9 +1,9 @@
 //! The bytes of headers, of the heads of buckets and of metas: what `header`, `element`, `bucket` and
 //! `meta` read.
-#![tactic(auto, unfolding(crate::specs::Written::number_bytes, crate::specs::Written::header_bytes, crate::specs::Written::branch_header, crate::specs::Written::leaf_header, crate::specs::Written::head_bytes, crate::specs::Written::meta_record, crate::specs::Written::meta_bytes))]
+#![tactic(auto, unfolding(crate::specs::Encoded::number_bytes, crate::specs::Encoded::header_bytes, crate::specs::Encoded::branch_header, crate::specs::Encoded::leaf_header, crate::specs::Encoded::head_bytes, crate::specs::Encoded::meta_record, crate::specs::Encoded::meta_bytes))]
 
 ghost use Rattle.std.specs.Prelude.{◌≡◌, ◌≤◌, ◌++◌, drop, length};
-ghost use Rattle.bolt_format.specs.Written.{branch_header, head_bytes, header_bytes, leaf_header, meta_bytes, meta_record};
+ghost use Rattle.bolt_format.specs.Encoded.{branch_header, head_bytes, header_bytes, leaf_header, meta_bytes, meta_record};
 
 use crate::bucket::HEAD_LEN;
 use crate::bytes::fnv1a;

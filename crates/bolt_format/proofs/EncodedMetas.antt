@@ -3,13 +3,13 @@ use Rattle.std.proofs.Common.{◌≡◌, ◌∙◌, ◌⊎◌, ℕ, ◌+◌, ◌
 use Rattle.std.proofs.lemmas.List.{length-append}
 use Rattle.std.proofs.Math.Nat.{mod-lt}
 use Rattle.bolt_format.specs.Bytes.{fnv_from, fnv_of, fnv_step}
-use Rattle.bolt_format.specs.{Metas.IsChosen, Metas.IsMeta, Metas.IsPageSize, Metas.magic, Metas.meta_fields, Metas.size_at, Metas.version, ReadBack.IsMetaFit}
-use Rattle.bolt_format.specs.Written.{header_bytes, meta_bytes, meta_record, number_bytes}
+use Rattle.bolt_format.specs.{Metas.IsActive, Metas.IsMeta, Metas.IsPageSize, Metas.magic, Metas.meta_fields, Metas.size_at, Metas.version, ReadBack.IsMetaFit}
+use Rattle.bolt_format.specs.Encoded.{header_bytes, meta_bytes, meta_record, number_bytes}
 use Rattle.bolt_format.specs.declared.header.Kind.TheVariants as kind
 use Rattle.bolt_format.specs.{declared.meta.Meta.Meta, declared.meta.Slot.TheVariants.One}
 use Rattle.bolt_format.proofs.MetaLemmas.{newer_one}
 use Rattle.bolt_format.proofs.NumberLemmas.{length-number_bytes, number_next, number_read, part_next, part_read, part_within}
-use Rattle.bolt_format.proofs.{PageSizes.size_bounds, WrittenHeaders.length-header_bytes}
+use Rattle.bolt_format.proofs.{PageSizes.size_bounds, EncodedHeaders.length-header_bytes}
 
 -- a checksum has 64 bits
 fnv_step-small : (hash byte : ℕ) → fnv_step hash byte < 2 ^ 64
@@ -98,6 +98,6 @@ meta_written file rest at number meta h fit place within =
     }
 
 -- of two metas the one with the greater transaction id is active
-pub chosen_of : (file : List ℕ) (page_size : ℕ) (older one : Meta) → IsMeta file 0 older → IsMeta file page_size one → older.page_size ≡ page_size → older.txid < one.txid → IsChosen file One one
+pub chosen_of : (file : List ℕ) (page_size : ℕ) (older one : Meta) → IsMeta file 0 older → IsMeta file page_size one → older.page_size ≡ page_size → older.txid < one.txid → IsActive file One one
 chosen_of file page_size older one first second size newer =
     newer_one file older one first (inl (older, first, subst (λ (n : ℕ). IsMeta file n one) (sym size) second)) newer
