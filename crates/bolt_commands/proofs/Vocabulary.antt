@@ -24,7 +24,7 @@ pub use Rattle.bolt_commands.specs.{Private.Printing.PrintsAnswer, Private.Repor
 pub use Rattle.bolt_format.proofs.SinkLemmas.{AppendsProperPrefix-first, AppendsProperPrefix-second}
 pub use Rattle.bolt_format.proofs.WroteLemmas.{Wrote-ends, Wrote-return, Wrote-same, Wrote-stop, Wrote-then, broken_by}
 pub use Rattle.bolt_format.specs.Elements.{LeafElement, head_sequence}
-pub use Rattle.bolt_format.specs.Metas.{HasBothMetas, HasMetaFault, HasSlotFault, IsChosen, IsInSlot, IsMeta, IsPageSize, page_size_count, page_sizes}
+pub use Rattle.bolt_format.specs.Metas.{HasBothMetas, HasMetaFault, HasSlotFault, IsActive, IsInSlot, IsMeta, IsPageSize, page_size_count, page_sizes}
 pub use Rattle.bolt_format.specs.declared.meta.Slot.TheVariants.{One, Zero}
 pub use Rattle.bolt_format.specs.{Sinks.AppendsProperPrefix, Endings.ending, Wrote.Wrote, declared.meta.Meta.Meta, declared.meta.MetaFault.MetaFault}
 pub use Rattle.bolt_format.specs.{declared.meta.Slot.Slot, declared.sink.Sink.Ghosts, declared.sink.SinkFault.SinkFault}

@@ -7,7 +7,7 @@ use Rattle.bolt_check.specs.{Roles.AreRoles, Sound.IsRefusedFor, Sound.HasSoundT
 use Rattle.bolt_check.specs.declared.fault.CheckFault.{CheckFault}
 use Rattle.bolt_check.specs.declared.fault.CheckFault.TheVariants as check
 use Rattle.bolt_check.specs.{declared.finding.Finding.Finding, declared.role_table.Role.Role}
-use Rattle.bolt_format.specs.{Elements.LeafElement, Metas.HasMetaFault, Metas.HasSlotFault, Metas.IsChosen, Metas.IsInSlot, Pages.page_at}
+use Rattle.bolt_format.specs.{Elements.LeafElement, Metas.HasMetaFault, Metas.HasSlotFault, Metas.IsActive, Metas.IsInSlot, Pages.page_at}
 use Rattle.bolt_format.specs.{Sinks.AppendsPrefix, Sinks.AppendsProperPrefix, declared.page_fault.PageFault.PageFault, declared.meta.Meta.Meta}
 use Rattle.bolt_format.specs.{declared.meta.MetaFault.MetaFault, declared.meta.Slot.Slot}
 use Rattle.bolt_load.specs.{LineFaults.IsListingText, LineFaults.IsLoadFault, LineMembers.text_members, declared.fault.LoadFault.LoadFault}
@@ -68,7 +68,7 @@ page_answer (Some fault) text = refused (failure.Page fault)
 
 -- the meta that is shown: that of the slot that is named, or the active one
 abbrev pub IsShownMeta : List ℕ → Option Slot → Slot → Meta → Type 0
-IsShownMeta file None slot meta = IsChosen file slot meta
+IsShownMeta file None slot meta = IsActive file slot meta
 IsShownMeta file (Some named) slot meta = (slot ≡ named) × IsInSlot file named meta
 
 -- why there is none
@@ -234,7 +234,7 @@ IsStatsAnswer file path form meta answer =
 -- the answer if the file is sound, or if it is refused
 abbrev pub IsCheckedAnswer : List ℕ → (Meta → Answer → Type 0) → (CheckFault → Answer → Type 0) → Answer → Type 0
 IsCheckedAnswer file IsAccepted IsRefusal answer =
-    ((slot : Slot) × (meta : Meta) × IsChosen file slot meta × IsSound file meta true × IsAccepted meta answer)
+    ((slot : Slot) × (meta : Meta) × IsActive file slot meta × IsSound file meta true × IsAccepted meta answer)
     ⊎ ((fault : CheckFault) × IsRefused file fault × IsRefusal fault answer)
 
 -- only the first finding is reported
@@ -243,7 +243,7 @@ IsFileRefusal fault answer = (failure : Failure) × IsFailureOf fault failure ×
 
 -- the meta that the file is read under; of the active one the accounts count too
 abbrev pub IsReadUnder : List ℕ → MetaChoice → Meta → Type 0
-IsReadUnder file Active meta = (slot : Slot) × IsChosen file slot meta × IsSound file meta true
+IsReadUnder file Active meta = (slot : Slot) × IsActive file slot meta × IsSound file meta true
 IsReadUnder file (InSlot slot) meta = IsInSlot file slot meta × HasSoundTrees file meta
 IsReadUnder file (Assumed assumed) meta = (meta ≡ assumed_for file assumed) × HasSoundTrees file meta
 

@@ -4,7 +4,7 @@ use Rattle.bolt_recover.proofs.Words.{Accounts, Advances, after_visit, after_vis
 use Rattle.bolt_recover.proofs.{Existing.one_recovered, Existing.recovers, RunExists.run_exists, RunOrder.visits_of, RunSteps.ends}
 use Rattle.bolt_recover.proofs.{RunSurveys.all_claimed, RunSurveys.surveyed, RunSurveys.tally, SurveyIsOne.same_survey}
 use Rattle.bolt_tree.proofs.Filters.{kept as passing}
-use Rattle.bolt_format.specs.{declared.element.Leaf.Leaf, Metas.IsChosen, Metas.IsInSlot, declared.meta.Slot.Slot}
+use Rattle.bolt_format.specs.{declared.element.Leaf.Leaf, Metas.IsActive, Metas.IsInSlot, declared.meta.Slot.Slot}
 use Rattle.bolt_check.specs.declared.fault.CheckFault.{CheckFault}
 use Rattle.bolt_recover.specs.declared.content.Content.TheVariants.{Bucket}
 
@@ -252,7 +252,7 @@ pub if_err : {X E : Type 0} {P Q : E → Type 0} (result : Result X E) → ((e :
 if_err (Ok x) to h = h
 if_err (Err e) to h = to e h
 
-pub refused_chosen : (file : List ℕ) (slot : Slot) (meta : Meta) → IsChosen file slot meta → (fault : CheckFault) → IsRefusedRoot file meta fault → IsUnrecoverable file fault
+pub refused_chosen : (file : List ℕ) (slot : Slot) (meta : Meta) → IsActive file slot meta → (fault : CheckFault) → IsRefusedRoot file meta fault → IsUnrecoverable file fault
 refused_chosen file slot meta chosen (Structure x) h = (slot, meta, chosen, h)
 refused_chosen file slot meta chosen Memory h = tt
 refused_chosen file slot meta chosen (Open fault) h = absurd h

@@ -1,6 +1,6 @@
 -- Why nothing of a file is recovered: docs/RECOVERY.md, "The recovering walk".
 use Rattle.std.specs.Prelude.{ℕ, List}
-use Rattle.bolt_format.specs.{Metas.HasMetaFault, Metas.HasSlotFault, Metas.IsChosen, Metas.IsInSlot, declared.meta.Meta.Meta, declared.meta.Slot.Slot}
+use Rattle.bolt_format.specs.{Metas.HasMetaFault, Metas.HasSlotFault, Metas.IsActive, Metas.IsInSlot, declared.meta.Meta.Meta, declared.meta.Slot.Slot}
 use Rattle.bolt_check.specs.{Findings.IsMetaPage, Findings.Passes, Findings.Tests, Nodes.node_at, Ways.At_page, Ways.root_spot}
 use Rattle.bolt_check.specs.declared.fault.CheckFault.{CheckFault}
 use Rattle.bolt_check.specs.declared.fault.CheckFault.TheVariants.{Accounts, Memory, Open, Structure}
@@ -23,7 +23,7 @@ IsRefusedRoot file meta (Accounts reported) = ⊥
 -- under the active meta
 abbrev pub IsUnrecoverable : List ℕ → CheckFault → Type 0
 IsUnrecoverable file (Open fault) = HasMetaFault file 0 fault × ((slot : Slot) (meta : Meta) → IsInSlot file slot meta → ⊥)
-IsUnrecoverable file (Structure x) = (slot : Slot) × (meta : Meta) × IsChosen file slot meta × LosesRoot file meta x
+IsUnrecoverable file (Structure x) = (slot : Slot) × (meta : Meta) × IsActive file slot meta × LosesRoot file meta x
 IsUnrecoverable file (Accounts reported) = ⊥
 IsUnrecoverable file Memory = Unit {0}
 

@@ -3,7 +3,7 @@ ghost use Rattle.std.specs.Option.{IfNone};
 ghost use Rattle.std.specs.Prelude.{◌≡◌, ◌<◌, ◌^◌, [], IfErr, IfOk, IfSome, OnErr, OnOk, map};
 ghost use Rattle.bolt_check.specs.{Claims.claims_file, Claims.claims_meta, Counts.counted};
 ghost use Rattle.bolt_check.specs.Sound.{HasSoundTrees};
-ghost use Rattle.bolt_format.specs.Metas.{IsChosen, IsInSlot};
+ghost use Rattle.bolt_format.specs.Metas.{IsActive, IsInSlot};
 ghost use Rattle.bolt_tree.specs.Paths.{path_of};
 ghost use Rattle.bolt_recover.specs.{KeptPages.AreKeptPages, Private.Frames.IsOn, Private.Frames.state_of, Recovered.ForRecovered, Recovered.IsRecovered};
 ghost use Rattle.bolt_recover.specs.{Refusals.IsRefusedRoot, Refusals.IsSlotUnrecoverable, Refusals.IsUnrecoverable, Refusals.KeepsRoot, ShownLosses.loss_view};
@@ -46,7 +46,7 @@ impl<'a> Recovery<'a> {
     /// and nothing is recovered; `Memory` if memory runs out. Never `Accounts`.
     pub fn new(alloc: Global, file: &'a [u8]) -> Result<Recovery<'a>, CheckFault>
         ensures file { IfOk result (λ recovery. recovery_file recovery ≡ file.now) }
-        ensures meta { IfOk result (λ recovery. (slot : _) × IsChosen file.now slot (recovery_meta recovery)) }
+        ensures meta { IfOk result (λ recovery. (slot : _) × IsActive file.now slot (recovery_meta recovery)) }
         ensures all { IfOk result (λ recovery. ForRecovered file.now (recovery_meta recovery) (λ listing. recovery_left recovery listing ≡ listing)) }
         ensures path { IfOk result (λ recovery. recovery_path recovery ≡ []) }
         ensures losses { IfOk result (λ recovery. recovery_losses recovery ≡ []) }
