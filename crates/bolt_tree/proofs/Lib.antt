@@ -1,3 +1,4 @@
+pub mod AgreeingListings
 pub mod AllEntries
 pub mod BackLemmas
 pub mod BucketWays
