@@ -57,7 +57,7 @@ pub are_entries : (cursor : Cursor) → ∥ AreEntries (entries_of (cursor_check
 unfolding cursor_checked cursor_start
 are_entries cursor =
     let checked = cursor_checked cursor in
-    ∥∥₁_elim cursor.held ∥∥₁_prop (λ held. ∥∥₁_elim held.stack ∥∥₁_prop (λ (sound, stack).
+    ∥∥₁_elim cursor.resting ∥∥₁_prop (λ resting. ∥∥₁_elim resting.stack ∥∥₁_prop (λ (sound, stack).
     ∣ sorted (bytes_of checked) (meta_of checked) sound.trees (cursor_start cursor) sound.start ∣₁))
 
 -- ---- revisions among those ahead

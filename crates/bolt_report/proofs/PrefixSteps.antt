@@ -20,7 +20,7 @@ unfolding cursor_checked cursor_start
 cursor_entries cursor =
     let checked = cursor_checked cursor in
     let start = cursor_start cursor in
-    ∥∥₁_elim cursor.held (the_one checked start) (λ held. ∥∥₁_elim held.stack (the_one checked start) (λ (sound, stack).
+    ∥∥₁_elim cursor.resting (the_one checked start) (λ resting. ∥∥₁_elim resting.stack (the_one checked start) (λ (sound, stack).
     let (entries, are) = sorted_at (bytes_of checked) (meta_of checked) sound.trees start sound.start in
     (entries, ∣ are ∣₁)))
 

@@ -47,7 +47,7 @@ module _ (file : List ℕ) (meta : Meta) where
         | inl j ↦ good m (has_right (rest ++ n ∷ []) roots m j)
         | inr j ↦ kid m (root_has m node.is_leaf node.entries j)
       ] in
-      (λ (i : Has (pages ++ found) m). elim (has_split pages found m i) [ inl j ↦ in_pages j | inr j ↦ in_found j ])
+      let in_both : Has (pages ++ found) m → P m = λ i. elim (has_split pages found m i) [ inl j ↦ in_pages j | inr j ↦ in_found j ] in in_both
       h
 
   -- the next page is good
