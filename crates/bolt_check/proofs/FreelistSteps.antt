@@ -2,11 +2,11 @@
 use Rattle.std.proofs.Common.{◌≡◌, ◌∙◌, ℕ, suc, ◌+◌, ◌<◌, ◌≤◌, max, inl, inr, List, [], ◌∷◌, ◌++◌, length, get_or, refl, sym, ap, subst, arith, append-nil, add-one, nat_lt, ◌==◌}
 use Rattle.std.proofs.lemmas.Bool.{and_from, and_parts, cases_Bool, eqb-true}
 use Rattle.std.proofs.lemmas.List.Elements.{All-contains}
-use Rattle.bolt_check.proofs.Words.{AreAllFindings, AreFindingsBelow, both_ways, cases_lt, cond-false, cond-true, eq-eqb, false≢true, Finding, finding, Free, FREE_RANGE, FREED_TWICE, FreeTwice, HasFindingsTo, is_in_use, is_used, IsAccountFinding, IsBeyondTo, IsInRange, IsLost, IsPastTo, IsRun, IsSettled, listed_times, Freelist, lt-ltb, ltb-true, page_findings, PageUse, run_findings, times_in, times_of, Unused, use_at}
+use Rattle.bolt_check.proofs.Words.{AreAllFindings, AreFindingsBelow, both_ways, cases_lt, cond-false, cond-true, eq-eqb, false≢true, Finding, finding, Free, FREE_RANGE, FREED_TWICE, FreeTwice, HasFindingsTo, is_in_use, is_used, IsAccountFinding, IsBeyondTo, IsInRange, IsLost, IsPastTo, IsLostInterval, IsSettled, listed_times, Freelist, lt-ltb, ltb-true, page_findings, PageUse, interval_findings, times_in, times_of, Unused, use_at}
 use Rattle.bolt_check.proofs.CountLemmas.{place_of, times_none, times_once, times_some, times_twice}
 use Rattle.bolt_check.proofs.TableLemmas.{past_metas, past_unlisted}
 use Rattle.bolt_check.proofs.PageLemmas.{twice, reached, lost, range, not_lost_listed, on_own_page, reports_page, reports_range, reports_twice, reports_well}
-use Rattle.bolt_check.proofs.AccountFindingLemmas.{Reports, reported_append, reports_none, reports_run}
+use Rattle.bolt_check.proofs.AccountFindingLemmas.{Reports, reported_append, reports_none, reports_interval}
 use Rattle.bolt_check.specs.Private.Freelists.{is_repeated, repeat_findings}
 
 module _ (freelist : Freelist) (settled : IsSettled freelist) where
@@ -47,40 +47,40 @@ module _ (freelist : Freelist) (settled : IsSettled freelist) where
       → HasFindingsTo freelist from n findings → HasFindingsTo freelist from (suc n) findings
   table_lost n from findings h e reported = record {
     reported = reported.reported;
-    run = record {
-      begins = reported.run.begins;
+    interval = record {
+      begins = reported.interval.begins;
       lost = λ k low high. elim (cases_lt k n) [
-        | inl before ↦ reported.run.lost k low before
+        | inl before ↦ reported.interval.lost k low before
         | inr here ↦ let same : n ≡ k = omega arith in subst (IsLost freelist.mark (is_in_use freelist) (listed_times freelist)) same (lost_here n h e)
       ];
     };
   }
 
-  run_after : (n : ℕ) → (IsLost freelist.mark (is_in_use freelist) (listed_times freelist) n → ⊥) → IsRun freelist.mark (is_in_use freelist) (listed_times freelist) (suc n) (suc n)
-  run_after n kept = record {
+  interval_after : (n : ℕ) → (IsLost freelist.mark (is_in_use freelist) (listed_times freelist) n → ⊥) → IsLostInterval freelist.mark (is_in_use freelist) (listed_times freelist) (suc n) (suc n)
+  interval_after n kept = record {
     begins = λ before e gone. (let same : before ≡ n = omega arith in kept (subst (IsLost freelist.mark (is_in_use freelist) (listed_times freelist)) same gone));
     lost = λ k low high. absurd (omega arith);
   }
 
   pub table_reported : (n from : ℕ) (findings : List Finding) (page_use : PageUse) → n < length freelist.table.now → from ≤ n → use_at freelist.table.now n ≡ page_use → (page_use ≡ Unused → ⊥)
-      → HasFindingsTo freelist from n findings → HasFindingsTo freelist (suc n) (suc n) ((findings ++ run_findings from n) ++ page_findings n page_use)
+      → HasFindingsTo freelist from n findings → HasFindingsTo freelist (suc n) (suc n) ((findings ++ interval_findings from n) ++ page_findings n page_use)
   table_reported n from findings page_use h order e ne reported =
       let kept = kept_here n page_use h e ne in
-      let before = reported_append reported.reported order (reports_run order reported.run kept) in
+      let before = reported_append reported.reported order (reports_interval order reported.interval kept) in
       let here = reports_page freelist.mark (is_in_use freelist) (listed_times freelist) n page_use (let end = settled.below in omega (arith, end)) (settled.metas n)
       (times_table n h ∙ ap times_of e) (λ claimed. sym (ap is_used e) ∙ claimed) (λ used. ap is_used e ∙ used) ne in
       record {
         reported = reported_append before (omega arith) here;
-        run = run_after n kept;
+        interval = interval_after n kept;
       }
 
   pub past_start : (from : ℕ) (findings : List Finding) → HasFindingsTo freelist from (length freelist.table.now) findings → IsPastTo freelist from 0 findings
   past_start from findings reported = record {
     reported = reported.reported;
-    begins = reported.run.begins;
+    begins = reported.interval.begins;
     done = λ k h. absurd (omega arith);
     left = λ n low high none. elim (cases_lt n (length freelist.table.now)) [
-      | inl inside ↦ reported.run.lost n low inside
+      | inl inside ↦ reported.interval.lost n low inside
       | inr past ↦ record {
         free = record { above_metas = let wide = settled.wide in omega (arith, wide); below = high; unused = unused_past n past };
         unlisted = times_past n past ∙ times_none freelist.past.now n (λ k. none k (omega arith));
@@ -106,18 +106,18 @@ module _ (freelist : Freelist) (settled : IsSettled freelist) where
     id_kept : IsLost freelist.mark (is_in_use freelist) (listed_times freelist) (get_or freelist.past.now i 0) → ⊥
     id_kept = not_lost_listed freelist.mark (is_in_use freelist) (listed_times freelist) (get_or freelist.past.now i 0) id_listed
 
-    run_before : IsRun freelist.mark (is_in_use freelist) (listed_times freelist) from (get_or freelist.past.now i 0)
-    run_before = record {
+    interval_before : IsLostInterval freelist.mark (is_in_use freelist) (listed_times freelist) from (get_or freelist.past.now i 0)
+    interval_before = record {
       begins = reported.begins;
       lost = λ n low high. reported.left n low (omega arith) (λ k order l e. let up = settled.sorted i k 0 order l in omega (arith, up, e));
     }
 
     -- whatever is reported of the id itself, all up to it is reported
     past_next : (ys : List Finding) → Reports freelist.mark (is_in_use freelist) (listed_times freelist) (get_or freelist.past.now i 0) (suc (get_or freelist.past.now i 0)) ys
-        → IsPastTo freelist (suc (get_or freelist.past.now i 0)) (suc i) ((findings ++ run_findings from (get_or freelist.past.now i 0)) ++ ys)
+        → IsPastTo freelist (suc (get_or freelist.past.now i 0)) (suc i) ((findings ++ interval_findings from (get_or freelist.past.now i 0)) ++ ys)
     past_next ys here = record {
-      reported = reported_append (reported_append reported.reported order (reports_run order run_before id_kept)) (omega arith) here;
-      begins = (run_after (get_or freelist.past.now i 0) id_kept).begins;
+      reported = reported_append (reported_append reported.reported order (reports_interval order interval_before id_kept)) (omega arith) here;
+      begins = (interval_after (get_or freelist.past.now i 0) id_kept).begins;
       done = λ k l under. (let up = settled.sorted k i 0 (omega arith) h in omega (arith, up));
       left = λ n low high none. reported.left n (omega arith) high (λ k after l e. elim (cases_lt i k) [
         | inl later ↦ none k later l e
@@ -126,14 +126,14 @@ module _ (freelist : Freelist) (settled : IsSettled freelist) where
     }
 
     past_once : (suc i < length freelist.past.now → get_or freelist.past.now (suc i) 0 ≡ get_or freelist.past.now i 0 → ⊥)
-        → IsPastTo freelist (suc (get_or freelist.past.now i 0)) (suc i) ((findings ++ run_findings from (get_or freelist.past.now i 0)) ++ [])
+        → IsPastTo freelist (suc (get_or freelist.past.now i 0)) (suc i) ((findings ++ interval_findings from (get_or freelist.past.now i 0)) ++ [])
     past_once other =
         let e = times_past (get_or freelist.past.now i 0) id_past in
         let one = times_once freelist.past.now i settled.sorted h id_first other in
         past_next [] (reports_well freelist.mark (is_in_use freelist) (listed_times freelist) (get_or freelist.past.now i 0) (omega (arith, e, one))
         (λ claimed. absurd (unused_past (get_or freelist.past.now i 0) id_past claimed)) id_kept id_in_range)
 
-    pub past_reported : IsPastTo freelist (suc (get_or freelist.past.now i 0)) (suc i) ((findings ++ run_findings from (get_or freelist.past.now i 0)) ++ repeat_findings freelist.past.now i)
+    pub past_reported : IsPastTo freelist (suc (get_or freelist.past.now i 0)) (suc i) ((findings ++ interval_findings from (get_or freelist.past.now i 0)) ++ repeat_findings freelist.past.now i)
     past_reported = elim (cases_Bool (is_repeated freelist.past.now i)) [
       | inl is ↦ (let both = and_parts (nat_lt (i + 1) (length freelist.past.now)) (get_or freelist.past.now (i + 1) 0 == get_or freelist.past.now i 0) is in
           let more = ltb-true (i + 1) (length freelist.past.now) both.0 in
@@ -153,14 +153,14 @@ module _ (freelist : Freelist) (settled : IsSettled freelist) where
   pub past_end : (from i : ℕ) (findings : List Finding) → length freelist.past.now ≤ i → IsPastTo freelist from i findings → HasFindingsTo freelist from freelist.mark findings
   past_end from i findings h reported = record {
     reported = reported.reported;
-    run = record { begins = reported.begins; lost = λ n low high. reported.left n low high (λ k order l. absurd (omega arith)) };
+    interval = record { begins = reported.begins; lost = λ n low high. reported.left n low high (λ k order l. absurd (omega arith)) };
   }
 
-  -- the run of lost pages up to the mark
+  -- the interval of lost pages up to the mark
   pub mark_reported : (from : ℕ) (findings : List Finding) → from ≤ freelist.mark → HasFindingsTo freelist from freelist.mark findings
-      → AreFindingsBelow freelist.mark (is_in_use freelist) (listed_times freelist) freelist.mark (findings ++ run_findings from freelist.mark)
+      → AreFindingsBelow freelist.mark (is_in_use freelist) (listed_times freelist) freelist.mark (findings ++ interval_findings from freelist.mark)
   mark_reported from findings order reported =
-      reported_append reported.reported order (reports_run order reported.run (λ gone. (let under = gone.free.below in omega (arith, under))))
+      reported_append reported.reported order (reports_interval order reported.interval (λ gone. (let under = gone.free.below in omega (arith, under))))
 
   pub beyond_start : (findings : List Finding) → AreFindingsBelow freelist.mark (is_in_use freelist) (listed_times freelist) freelist.mark findings → IsBeyondTo freelist 0 0 findings
   beyond_start findings reported =

@@ -16,7 +16,7 @@ module _ (mark : ℕ) (in_use : ℕ → Type 0) (times : ℕ → ℕ) where
   pub on_own_page : (x : Finding) → IsAccountFinding mark in_use times x → OnPage mark in_use times x x.page
   on_own_page x (freed_twice in_range two) = twice refl two in_range
   on_own_page x (reached_freed in_range one used) = reached refl one used in_range
-  on_own_page x (unreachable order run after before) = lost (run _ (omega arith) order)
+  on_own_page x (unreachable order interval after before) = lost (interval _ (omega arith) order)
   on_own_page x (out_of_range out one) = range refl one out
 
   on_page : (x : Finding) (n : ℕ) → IsAccountFinding mark in_use times x → n ≤ x.page → x.page < suc n → OnPage mark in_use times x n

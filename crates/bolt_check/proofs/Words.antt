@@ -6,7 +6,7 @@ pub use Rattle.bolt_check.specs.Findings.{IsClaimedBefore, IsClean, IsCovered, I
 pub use Rattle.bolt_check.specs.Keys.{Key, is_above, is_below, is_from, key_lt, keys_order_fault}
 pub use Rattle.bolt_check.specs.{Nodes.Entry, Nodes.Node, Nodes.Nodes, Nodes.branch_entry, Nodes.leaf_entry, Nodes.node_of, Nodes.node_seen, OnWays.IsOnWay}
 pub use Rattle.bolt_check.specs.Private.Carries.{Carries}
-pub use Rattle.bolt_check.specs.Private.Freelists.{AreAllFindings, AreFindingsBelow, ClaimsFreelist, ClaimsUses, HasFindingsTo, IsBeyondTo, IsPastTo, IsRun, IsSettled, IsUnlisted, is_in_use, page_findings, run_findings}
+pub use Rattle.bolt_check.specs.Private.Freelists.{AreAllFindings, AreFindingsBelow, ClaimsFreelist, ClaimsUses, HasFindingsTo, IsBeyondTo, IsPastTo, IsLostInterval, IsSettled, IsUnlisted, is_in_use, page_findings, interval_findings}
 pub use Rattle.bolt_check.specs.{Private.Pending.forest, Private.Pending.somes, Private.Pending.spots_of, Private.SearchFaults.IsSearchFault}
 pub use Rattle.bolt_check.specs.Private.Tables.{HasRoom, IsClaimed, IsUnclaimed, first_use, is_used, times_of, unclaimed, use_at}
 pub use Rattle.bolt_check.specs.Private.Uses.{HasUse, IsMetaUse, IsNoted, UseAt, UseOf, use_of}

@@ -22,7 +22,7 @@ pub record IsLost (mark : ℕ) (in_use : ℕ → Type 0) (times : ℕ → ℕ) (
 pub data IsAccountFinding (mark : ℕ) (in_use : ℕ → Type 0) (times : ℕ → ℕ) : Finding → Type 0 where
   freed_twice : {n : ℕ} → IsInRange mark n → 2 ≤ times n → IsAccountFinding mark in_use times (finding FREED_TWICE n)
   reached_freed : {n : ℕ} → IsInRange mark n → 1 ≤ times n → in_use n → IsAccountFinding mark in_use times (finding REACHED_FREED n)
-  -- a longest run of lost pages
+  -- a longest interval of lost pages
   unreachable : {page last : ℕ} → page ≤ last → ((n : ℕ) → page ≤ n → n ≤ last → IsLost mark in_use times n)
       → (IsLost mark in_use times (suc last) → ⊥) → ((before : ℕ) → suc before ≡ page → IsLost mark in_use times before → ⊥)
       → IsAccountFinding mark in_use times (record { number = UNREACHABLE; page = page; last = last })

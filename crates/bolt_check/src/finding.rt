@@ -4,14 +4,14 @@ ghost use Rattle.bolt_check.specs.Findings.{finding};
 
 use bolt_format::PageFault;
 
-/// What is wrong with a page, or with a run of pages (docs/SOUND.md).
+/// What is wrong with a page, or with an interval of pages (docs/SOUND.md).
 #[derive(Clone, Copy, Debug, PartialEq, Eq)]
 pub struct Finding {
     /// Which rule is broken: one of the constants below, or one of those of `PageFault`.
     pub number: u8,
-    /// The number of the page, or of the first page of the run.
+    /// The number of the page, or of the first page of the interval.
     pub page: u64,
-    /// The number of the last page of the run. It differs from `page` only for `UNREACHABLE`.
+    /// The number of the last page of the interval. It differs from `page` only for `UNREACHABLE`.
     pub last: u64,
 }
 

@@ -1,7 +1,7 @@
 //! What is wrong with the pages that the freelist lists, and with those that it lacks, in the order of
 //! the pages.
 ghost use Rattle.std.specs.Prelude.{◌≡◌, ◌≤◌, ◌<◌, ◌+◌, ◌++◌, ◌↔◌, [], IfOk, IsTrue, OnOk, length};
-ghost use Rattle.bolt_check.specs.Private.Freelists.{AreAllFindings, AreFindingsBelow, HasFindingsTo, IsBeyondTo, IsPastTo, IsSettled, is_in_use, is_repeated, listed_times, meta_findings, page_findings, repeat_findings, run_findings, use_findings};
+ghost use Rattle.bolt_check.specs.Private.Freelists.{AreAllFindings, AreFindingsBelow, HasFindingsTo, IsBeyondTo, IsPastTo, IsSettled, is_in_use, is_repeated, listed_times, meta_findings, page_findings, repeat_findings, interval_findings, use_findings};
 
 use crate::finding::Finding;
 use crate::freelist::Freelist;
@@ -9,8 +9,8 @@ use crate::table::PageUse;
 use std::alloc::{AllocError, Global};
 
 /// Pushes the finding on the lost pages from `from` up to but not including `page`, if there are any.
-fn push_run(findings: &mut Vec<Finding>, from: u64, page: u64) -> Result<(), AllocError>
-    ensures { OnOk result (findings.new.items ≡ findings.old.items ++ run_findings from page) }
+fn push_interval(findings: &mut Vec<Finding>, from: u64, page: u64) -> Result<(), AllocError>
+    ensures { OnOk result (findings.new.items ≡ findings.old.items ++ interval_findings from page) }
 {
     if from < page {
         findings.push(Finding {
@@ -69,7 +69,7 @@ fn is_unused(page_use: PageUse) -> bool
     matches!(page_use, PageUse::Unused)
 }
 
-/// Pushes the findings on one page of the table. If the run of lost pages from `from` on ends before
+/// Pushes the findings on one page of the table. If the interval of lost pages from `from` on ends before
 /// it, that is pushed first. Returns the page from which on all up to this one are lost and not pushed
 /// yet.
 fn push_entry(
@@ -90,7 +90,7 @@ fn push_entry(
         return Ok(from);
     }
     let page = n as u64;
-    push_run(findings, from, page)?;
+    push_interval(findings, from, page)?;
     push_page(findings, page, page_use)?;
     Ok(page + 1)
 }
@@ -148,7 +148,7 @@ fn push_id(
     if id < from || freelist.mark <= id {
         return Ok(from);
     }
-    push_run(findings, from, id)?;
+    push_interval(findings, from, id)?;
     push_repeated(findings, freelist.past, i)?;
     Ok(id + 1)
 }
@@ -219,7 +219,7 @@ pub(crate) fn all_findings(
     let mut findings = Vec::new(alloc);
     let past_table = push_table(freelist, &mut findings)?;
     let from = push_past(freelist, past_table, &mut findings)?;
-    push_run(&mut findings, from, freelist.mark)?;
+    push_interval(&mut findings, from, freelist.mark)?;
     push_beyond(freelist, &mut findings)?;
     Ok(findings)
 }

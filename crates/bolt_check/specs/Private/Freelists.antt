@@ -28,9 +28,9 @@ pub record IsSettled (freelist : Freelist) : Type 0 where
   pub wide : 2 ≤ length freelist.table.now
   pub below : length freelist.table.now ≤ freelist.mark
 
--- the run of lost pages from one page up to but not including another
-abbrev pub run_findings : ℕ → ℕ → List Finding
-run_findings from page = if nat_lt from page then record { number = UNREACHABLE; page = from; last = page - 1 } ∷ [] else []
+-- the interval of lost pages from one page up to but not including another
+abbrev pub interval_findings : ℕ → ℕ → List Finding
+interval_findings from page = if nat_lt from page then record { number = UNREACHABLE; page = from; last = page - 1 } ∷ [] else []
 
 -- whether the next of sorted ids is the same
 abbrev pub is_repeated : List ℕ → ℕ → Bool
@@ -67,8 +67,8 @@ module _ (mark : ℕ) (in_use : ℕ → Type 0) (times : ℕ → ℕ) where
     -- if there is none, no page is lost
     pub silent : findings ≡ [] → (n : ℕ) → n < next → IsLost mark in_use times n → ⊥
 
-  -- A run of lost pages may begin at this page, and goes on to the end.
-  pub record IsRun (from end : ℕ) : Type 0 where
+  -- An interval of lost pages may begin at this page, and goes on to the end.
+  pub record IsLostInterval (from end : ℕ) : Type 0 where
     pub begins : (before : ℕ) → suc before ≡ from → IsLost mark in_use times before → ⊥
     pub lost : (n : ℕ) → from ≤ n → n < end → IsLost mark in_use times n
 
@@ -81,7 +81,7 @@ module _ (mark : ℕ) (in_use : ℕ → Type 0) (times : ℕ → ℕ) where
 -- what is reported below a page, if all from that page up to the end are lost
 pub record HasFindingsTo (freelist : Freelist) (from end : ℕ) (findings : List Finding) : Type 0 where
   pub reported : AreFindingsBelow freelist.mark (is_in_use freelist) (listed_times freelist) from findings
-  pub run : IsRun freelist.mark (is_in_use freelist) (listed_times freelist) from end
+  pub interval : IsLostInterval freelist.mark (is_in_use freelist) (listed_times freelist) from end
 
 module _ (freelist : Freelist) where
   -- what is reported of the ids past the table and below the mark, up to place i

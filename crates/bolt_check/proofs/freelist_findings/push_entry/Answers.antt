@@ -11,6 +11,6 @@ returns-then-is_unused-clause-reported c =
 pub returns-clause-reported : goal.returns-clause-reported
 returns-clause-reported c =
     let here = get_or_default c.args.freelist.now.table.now c.args.n (first_use c.args.n) Unused c.requires.inside in
-    rw (add-one c.args.n, c.in_ok-push_page.ensures, c.in_ok-push_run.ensures)
+    rw (add-one c.args.n, c.in_ok-push_page.ensures, c.in_ok-push_interval.ensures)
     (table_reported c.args.freelist.now c.requires.settled c.args.n c.args.from c.args.findings.now.items (get_or c.args.freelist.now.table.now c.args.n Unused)
     c.requires.inside c.requires.order here (λ e. false≢true (sym c.if-is_unused.false ∙ c.is_unused.ensures.1 e)) c.requires.reported)

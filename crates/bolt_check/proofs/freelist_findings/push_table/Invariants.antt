@@ -2,7 +2,7 @@ use Rattle.std.proofs.Common.{◌≤◌}
 use Rattle.bolt_check.proofs.Words.{HasFindingsTo}
 use Rattle.bolt_check.proofs.freelist_findings.push_table.Given as goal
 
--- all before the run of lost pages that ends here is reported
+-- all before the interval of lost pages that ends here is reported
 abbrev pub invariant-loop-n : goal.invariant-loop-n
 invariant-loop-n l = record {
   order : l.from ≤ l.n;
