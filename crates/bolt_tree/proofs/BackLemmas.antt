@@ -1,6 +1,6 @@
 -- What the moves of a trail back do to its stack.
 use Rattle.std.proofs.Common.{◌≡◌, ℕ, zero, suc, ◌+◌, ◌-◌, ◌≤◌, true, List, [], ◌∷◌, ◌++◌, Some, None, slice_get, length, take, refl, sym, ap, ◌∙◌, subst, arith, append_assoc, append-nil, length-append}
-use Rattle.bolt_tree.proofs.Words.{BranchElement, BucketView, Content, Contents, Frame, HasStack, IsAtRest, IsEntered, IsOn, LeafElement, Of_branch, Of_leaf, RestsOn, TourPage, address_on, all_under, before_of, before_under, content_length, contents_in, done_of, done_under, elements_in, elements_of, flat_map-append, index_of, left_of, left_under, length-take, none-some, pages_in, preceding_of, props, root_content, take_all, take_next, tour, under_at, ∥∥₁_elim}
+use Rattle.bolt_tree.proofs.Words.{BranchElement, BucketView, Content, Contents, Frame, HasStack, IsAtRest, IsEntered, IsOn, LeafElement, Of_branch, Of_leaf, RestsOn, TourPage, address_on, all_under, before_of, before_under, content_length, contents_in, done_of, done_under, elements_in, elements_of, flat_map-append, index_of, passed_of, passed_under, length-take, none-some, pages_in, preceding_of, props, root_content, take_all, take_next, tour, under_at, ∥∥₁_elim}
 use Rattle.bolt_tree.proofs.{StackLemmas.branch_room, TrailLemmas.shown_by_branch}
 
 take_none : {X : Type 0} (xs : List X) → take 0 xs ≡ []
@@ -96,16 +96,16 @@ pub root_behind : (bucket : BucketView) → let frames : List Frame = record { c
 root_behind bucket = tour_done (contents_in bucket) 63 0 [] (root_content bucket) (λ bs e. refl)
 
 -- the pages on the stack have no entries of their own
-left_entries : (contents : Contents) (H : ℕ) (address : List ℕ) (content : Content) (k : ℕ) → elements_of (left_under contents H address content k) ≡ elements_of (before_under contents H address content k)
+left_entries : (contents : Contents) (H : ℕ) (address : List ℕ) (content : Content) (k : ℕ) → elements_of (passed_under contents H address content k) ≡ elements_of (before_under contents H address content k)
 left_entries contents H address (Of_leaf es) k = refl
 left_entries contents H address (Of_branch bs) k = refl
 
-pub left_elements : (contents : Contents) (frames : List Frame) → elements_of (left_of contents frames) ≡ elements_of (before_of contents frames)
+pub left_elements : (contents : Contents) (frames : List Frame) → elements_of (passed_of contents frames) ≡ elements_of (before_of contents frames)
 left_elements contents [] = refl
 left_elements contents (f ∷ below) =
     let r = left_elements contents below in
     let q = left_entries contents (length below) (address_on below) f.content (f.taken - 1) in
-    flat_map-append (λ (v : TourPage). v.entries) (left_of contents below) (left_under contents (length below) (address_on below) f.content (f.taken - 1))
+    flat_map-append (λ (v : TourPage). v.entries) (passed_of contents below) (passed_under contents (length below) (address_on below) f.content (f.taken - 1))
     ∙ (rw (r, q) (sym (flat_map-append (λ (v : TourPage). v.entries) (before_of contents below) (before_under contents (length below) (address_on below) f.content (f.taken - 1)))))
 
 -- the number of the entry on which a stack stands is that of those behind

@@ -1,6 +1,6 @@
 -- What a cursor keeps, and its moves by those of its trail.
 use Rattle.std.proofs.Common.{◌≡◌, ◌∙◌, ℕ, ◌-◌, ◌≤◌, Bool, true, false, List, [], ◌∷◌, Option, None, length, drop, ap, refl, sym, subst}
-use Rattle.bolt_tree.proofs.Words.{BucketView, Content, Contents, EntryView, Finds, Frame, HasBucket, HasStack, HasTrail, IsAtRest, IsEntry, IsResting, IsMoved, Key, Leaf, LeafElement, Move, Moves, Of_branch, Of_leaf, OpensByNext, OpensGap, Place, RestsOn, ShowsMove, Start, Trail, ahead, contents_in, counted, elements_in, entry_view, first_move, is_none, last_move, leaf_view, least_from, next_move, opened_to, option_map, pages_in, place_by, place_in, place_on, preceding, prev_move, props, right, seek_move, trail_bucket, trail_frames, ∥∥₁_elim}
+use Rattle.bolt_tree.proofs.Words.{BucketView, Content, Contents, EntryView, Finds, Frame, HasBucket, HasStack, HasTrail, IsAtRest, IsEntry, IsResting, IsMoved, Key, Leaf, LeafElement, Move, Moves, Of_branch, Of_leaf, OpensByNext, OpensGap, Place, RestsOn, ShowsMove, Start, Trail, ahead, contents_in, counted, elements_in, entry_view, first_move, is_none, last_move, leaf_view, least_from, next_move, opened_to, option_map, pages_in, place_by, place_in, place_on, preceding, prev_move, props, pages_ahead, seek_move, trail_bucket, trail_frames, ∥∥₁_elim}
 use Rattle.bolt_tree.proofs.OpeningMoves.{first_opens, next_opens}
 use Rattle.bolt_tree.proofs.PlaceMoves.{Comes, first_moves, go_moves, last_moves, seek_moves, stack_bucket, the_entries}
 use Rattle.bolt_tree.proofs.TrailLemmas.{empty_stack, same_bucket}
@@ -73,7 +73,7 @@ module _ (old new : Trail) (moved : IsMoved old new) (is_past : Bool) (resting :
   moves_first from h = rw moved.file (moves_by (λ entries place. first_move entries) from (place_on (contents_in (trail_bucket old)) (trail_frames new))
       (first_moves (trail_bucket old) found (trail_frames new) there (rw moved.file at h)))
 
-  pub opens_first : (before after : ℕ) → Finds false found elements (ahead new) (trail_frames new) [] → after ≡ counted before (length (pages_in (trail_bucket old)) - length (right new)) → OpensGap (trail_bucket old) 0 before after
+  pub opens_first : (before after : ℕ) → Finds false found elements (ahead new) (trail_frames new) [] → after ≡ counted before (length (pages_in (trail_bucket old)) - length (pages_ahead new)) → OpensGap (trail_bucket old) 0 before after
   opens_first before after h opened = first_opens (trail_bucket old) found (trail_frames new) before after is there (rw moved.file at h) (rw moved.file at opened)
 
   pub moves_last : (from : Place) → Finds true found elements (preceding new) (trail_frames new) [] → MovesTo (λ entries place. last_move entries) from (place_on (contents_in (trail_bucket new)) (trail_frames new))
@@ -96,7 +96,7 @@ module _ (old new : Trail) (moved : IsMoved old new) (is_past : Bool) (resting :
         (next_first (contents_in (trail_bucket old))) (moves_first (place_by false (contents_in (trail_bucket old)) []) h))
 
     pub opens_next_first : (before after : ℕ) → is_past ≡ false → Finds false found elements (ahead new) (trail_frames new) []
-        → after ≡ counted before (length (pages_in (trail_bucket old)) - length (right new)) → OpensByNext (trail_bucket old) (place_by is_past (contents_in (trail_bucket old)) (trail_frames old)) before after
+        → after ≡ counted before (length (pages_in (trail_bucket old)) - length (pages_ahead new)) → OpensByNext (trail_bucket old) (place_by is_past (contents_in (trail_bucket old)) (trail_frames old)) before after
     opens_next_first before after here h opened = rw (here, empty) (opens_first before after h opened)
 
     pub moves_prev_last : Finds true found elements (preceding new) (trail_frames new) []
@@ -120,6 +120,6 @@ module _ (old new : Trail) (moved : IsMoved old new) (is_past : Bool) (resting :
         (go_moves (trail_bucket old) true found (trail_frames old) (trail_frames new) (resting_stack old is_past resting) (resting_rest old is_past resting) some there (rw moved.file at h)))
 
     pub opens_next : (before after : ℕ) → Finds false found (ahead old) (ahead new) (trail_frames new) (trail_frames old)
-        → after ≡ counted before (length (right old) - opened_to (option_map leaf_view found) (right new)) → OpensByNext (trail_bucket old) (place_by is_past (contents_in (trail_bucket old)) (trail_frames old)) before after
+        → after ≡ counted before (length (pages_ahead old) - opened_to (option_map leaf_view found) (pages_ahead new)) → OpensByNext (trail_bucket old) (place_by is_past (contents_in (trail_bucket old)) (trail_frames old)) before after
     opens_next before after h opened = rw (not_past old is_past resting some) (next_opens (trail_bucket old) found (trail_frames old) (trail_frames new) before after is
         (resting_stack old is_past resting) (resting_rest old is_past resting) some there (rw moved.file at h) (rw moved.file at opened))

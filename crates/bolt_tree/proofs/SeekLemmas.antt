@@ -1,6 +1,6 @@
--- On the way down to the leaf that is near a key, the key is between what is left and what is right.
+-- On the way down to the leaf that is near a key, the key is between what was passed and what comes later.
 use Rattle.std.proofs.Common.{◌≡◌, ℕ, zero, suc, ◌+◌, ◌-◌, ◌≤◌, ◌<◌, inl, inr, Bool, true, false, List, [], ◌∷◌, ◌++◌, Some, Ok, slice_get, length, drop, take, refl, sym, ap, ◌∙◌, subst, arith}
-use Rattle.bolt_tree.proofs.Words.{AreBelow, BranchElement, BucketView, Contents, Frame, HasSoundTrees, HasStack, IsBetween, IsOnWay, IsPlaceOf, Key, LeafElement, Meta, Of_branch, PageView, TourPage, address_on, branch_node, cases_lt, content_at, content_keys, contents_in, elements_of, false_from_ne_true, flat_map-append, key_lt, left_of, lt_not_trans, lt_trans, node_at, none-some, not-false, not-true, on_child, option_map, props, right_of, slice_get-map, tour, under_at, ∥∥₁_elim}
+use Rattle.bolt_tree.proofs.Words.{AreBelow, BranchElement, BucketView, Contents, Frame, HasSoundTrees, HasStack, IsBetween, IsOnWay, IsPlaceOf, Key, LeafElement, Meta, Of_branch, PageView, TourPage, address_on, branch_node, cases_lt, content_at, content_keys, contents_in, elements_of, false_from_ne_true, flat_map-append, key_lt, passed_of, lt_not_trans, lt_trans, node_at, none-some, not-false, not-true, on_child, option_map, props, later_of, slice_get-map, tour, under_at, ∥∥₁_elim}
 use Rattle.bolt_check.proofs.Lists.{Has, at_has, flat_has, get_before, has_at, has_split}
 use Rattle.bolt_tree.proofs.TourLemmas.{IsUnder, branches_rise, tour_led, under_child, under_has}
 use Rattle.bolt_tree.proofs.WayPages.{branch_page}
@@ -93,7 +93,7 @@ between_down bucket key elements i n t e below stack is g place deep between =
     let back : (i + 1) - 1 ≡ i = omega arith in
     let next : i + 1 ≡ suc i = omega arith in
     record {
-      left =
+      passed =
           let inner : AreBelow true key (elements_of (under_at contents (length below) (address_on below) 0 (take i elements))) = λ k x h.
           ∥∥₁_elim stack (Prim.hlevel props) (λ s.
           let page = branch_page bucket.file bucket.meta s.0.trees s.1.0.good.0 (suc (length below)) elements s.1.0.good.1 s.1.0.good.2 in
@@ -102,19 +102,19 @@ between_down bucket key elements i n t e below stack is g place deep between =
             | inl lt ↦ side_left bucket.file bucket.meta s.0.trees s.1.0.good.0 (length below) page.view s.1.0.good.1 page.node deep (address_on below) i e key x (rw page.branches g) (not_above elements key n i e place lt g) m
             | inr ge ↦ (let zero_i : i ≡ 0 = omega arith in absurd (nothing_left contents (length below) (address_on below) i elements x zero_i (at_has (elements_of (under_at contents (length below) (address_on below) 0 (take i elements))) k x h)))
           ]) in
-          let whole : elements_of (left_of contents (record { content = Of_branch elements; taken = i + 1 } ∷ below)) ≡ elements_of (left_of contents below) ++ elements_of (under_at contents (length below) (address_on below) 0 (take i elements)) =
-          flat_map-append (λ (v : TourPage). v.entries) (left_of contents below) (record { address = address_on below; entries = [] } ∷ under_at contents (length below) (address_on below) 0 (take ((i + 1) - 1) elements))
-          ∙ ap (λ (j : ℕ). elements_of (left_of contents below) ++ elements_of (under_at contents (length below) (address_on below) 0 (take j elements))) back in
-          subst (AreBelow true key) (sym whole) (are_append true key (elements_of (left_of contents below)) (elements_of (under_at contents (length below) (address_on below) 0 (take i elements))) between.left inner);
-      right =
+          let whole : elements_of (passed_of contents (record { content = Of_branch elements; taken = i + 1 } ∷ below)) ≡ elements_of (passed_of contents below) ++ elements_of (under_at contents (length below) (address_on below) 0 (take i elements)) =
+          flat_map-append (λ (v : TourPage). v.entries) (passed_of contents below) (record { address = address_on below; entries = [] } ∷ under_at contents (length below) (address_on below) 0 (take ((i + 1) - 1) elements))
+          ∙ ap (λ (j : ℕ). elements_of (passed_of contents below) ++ elements_of (under_at contents (length below) (address_on below) 0 (take j elements))) back in
+          subst (AreBelow true key) (sym whole) (are_append true key (elements_of (passed_of contents below)) (elements_of (under_at contents (length below) (address_on below) 0 (take i elements))) between.passed inner);
+      later =
           let inner : AreBelow false key (elements_of (under_at contents (length below) (address_on below) (suc i) (drop (suc i) elements))) = λ k x h.
           ∥∥₁_elim stack (Prim.hlevel props) (λ s.
           let page = branch_page bucket.file bucket.meta s.0.trees s.1.0.good.0 (suc (length below)) elements s.1.0.good.1 s.1.0.good.2 in
           let m = rw (← page.branches) at (at_has (elements_of (under_at contents (length below) (address_on below) (suc i) (drop (suc i) elements))) k x h) in
           side_right bucket.file bucket.meta s.0.trees s.1.0.good.0 (length below) page.view s.1.0.good.1 page.node deep (address_on below) (suc i) key x
           (λ j d l gd. is_above elements key n j d place (omega (arith, l, is)) (ap (λ (es : List BranchElement). slice_get es j) (sym page.branches) ∙ gd)) m) in
-          let whole : elements_of (right_of contents (record { content = Of_branch elements; taken = i + 1 } ∷ below)) ≡ elements_of (under_at contents (length below) (address_on below) (suc i) (drop (suc i) elements)) ++ elements_of (right_of contents below) =
-          flat_map-append (λ (v : TourPage). v.entries) (under_at contents (length below) (address_on below) (i + 1) (drop (i + 1) elements)) (right_of contents below)
-          ∙ ap (λ (j : ℕ). elements_of (under_at contents (length below) (address_on below) j (drop j elements)) ++ elements_of (right_of contents below)) next in
-          subst (AreBelow false key) (sym whole) (are_append false key (elements_of (under_at contents (length below) (address_on below) (suc i) (drop (suc i) elements))) (elements_of (right_of contents below)) inner between.right);
+          let whole : elements_of (later_of contents (record { content = Of_branch elements; taken = i + 1 } ∷ below)) ≡ elements_of (under_at contents (length below) (address_on below) (suc i) (drop (suc i) elements)) ++ elements_of (later_of contents below) =
+          flat_map-append (λ (v : TourPage). v.entries) (under_at contents (length below) (address_on below) (i + 1) (drop (i + 1) elements)) (later_of contents below)
+          ∙ ap (λ (j : ℕ). elements_of (under_at contents (length below) (address_on below) j (drop j elements)) ++ elements_of (later_of contents below)) next in
+          subst (AreBelow false key) (sym whole) (are_append false key (elements_of (under_at contents (length below) (address_on below) (suc i) (drop (suc i) elements))) (elements_of (later_of contents below)) inner between.later);
     }

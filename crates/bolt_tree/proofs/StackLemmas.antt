@@ -1,6 +1,6 @@
 -- What a push does to a stack, and the root page of a bucket, alone on a stack.
 use Rattle.std.proofs.Common.{◌≡◌, ℕ, zero, suc, ◌+◌, ◌-◌, ◌≤◌, List, [], ◌∷◌, ◌++◌, Some, slice_get, length, drop, take, refl, sym, ap, ◌∙◌, subst, arith, append_assoc, append-nil}
-use Rattle.bolt_tree.proofs.Words.{BranchElement, BucketView, Checked, Content, Contents, Frame, HasSoundTrees, HasStack, HasStart, Inline_page, IsGoodContent, IsOnWay, IsSoundBucket, IsStack, IsStart, Of_branch, Of_leaf, Root_page, Start, TourPage, address_on, ahead_of, all_under, bucket_in, bytes_of, checked_trees, content_at_start, content_length, contents_in, elements_in, elements_of, here_under, left_of, left_under, meta_of, none-some, on_child, pages_in, props, right_of, right_under, root_content, shallow, tour, ∥∥₁_elim, ∥∥₁_map, ∥∥₁_prop}
+use Rattle.bolt_tree.proofs.Words.{BranchElement, BucketView, Checked, Content, Contents, Frame, HasSoundTrees, HasStack, HasStart, Inline_page, IsGoodContent, IsOnWay, IsSoundBucket, IsStack, IsStart, Of_branch, Of_leaf, Root_page, Start, TourPage, address_on, ahead_of, all_under, bucket_in, bytes_of, checked_trees, content_at_start, content_length, contents_in, elements_in, elements_of, here_under, passed_of, passed_under, meta_of, none-some, on_child, pages_in, props, later_of, later_under, root_content, shallow, tour, ∥∥₁_elim, ∥∥₁_map, ∥∥₁_prop}
 use Rattle.bolt_tree.proofs.{TourLemmas.not_deepest, WayPages.a_branch, WayPages.a_leaf, WayPages.on_way_page, WayPages.branch_page}
 
 -- what lies under the elements of a branch, cut at one
@@ -78,9 +78,9 @@ module _ (bucket : BucketView) (trees : HasSoundTrees bucket.file bucket.meta) w
       let next : suc t ≡ t + 1 = omega arith in
       let address = address_on below in
       let cut = tour_cut contents (63 - length below) (62 - length below) t address elements e fuel g in
-      let placed : pages_in bucket ≡ (left_of contents below ++ left_under contents (length below) address (Of_branch elements) t)
-      ++ (tour contents (62 - length below) (address ++ t ∷ []) (contents e.child) ++ (right_under contents (length below) address (Of_branch elements) (suc t) ++ right_of contents below)) =
-      cut_between (left_of contents below) (right_of contents below) (pages_in bucket) (tour contents (63 - length below) address (Of_branch elements)) (record { address = address; entries = [] })
+      let placed : pages_in bucket ≡ (passed_of contents below ++ passed_under contents (length below) address (Of_branch elements) t)
+      ++ (tour contents (62 - length below) (address ++ t ∷ []) (contents e.child) ++ (later_under contents (length below) address (Of_branch elements) (suc t) ++ later_of contents below)) =
+      cut_between (passed_of contents below) (later_of contents below) (pages_in bucket) (tour contents (63 - length below) address (Of_branch elements)) (record { address = address; entries = [] })
       (all_under (under contents (62 - length below) address) 0 (take t elements)) (under contents (62 - length below) address t e.child)
       (all_under (under contents (62 - length below) address) (suc t) (drop (suc t) elements)) over.placed cut in (
         record {
@@ -155,12 +155,12 @@ root_stack bucket is = ∥∥₁_map is (λ s. (
 ))
 
 -- before the root page's first element, everything is ahead
-top_of : (contents : Contents) (content : Content) → tour contents 63 [] content ≡ record { address = []; entries = here_under content 0 } ∷ right_of contents (record { content = content; taken = 0 } ∷ [])
+top_of : (contents : Contents) (content : Content) → tour contents 63 [] content ≡ record { address = []; entries = here_under content 0 } ∷ later_of contents (record { content = content; taken = 0 } ∷ [])
 top_of contents (Of_leaf elements) = refl
-top_of contents (Of_branch elements) = ap (λ (vs : List TourPage). record { address = []; entries = [] } ∷ vs) (sym (append-nil (right_under contents 0 [] (Of_branch elements) 0)))
+top_of contents (Of_branch elements) = ap (λ (vs : List TourPage). record { address = []; entries = [] } ∷ vs) (sym (append-nil (later_under contents 0 [] (Of_branch elements) 0)))
 
 pub root_ahead : (bucket : BucketView) → ahead_of (contents_in bucket) (record { content = root_content bucket; taken = 0 } ∷ []) ≡ elements_in bucket
 root_ahead bucket = sym (ap elements_of (top_of (contents_in bucket) (root_content bucket)))
 
-pub root_right : (bucket : BucketView) → length (pages_in bucket) ≡ suc (length (right_of (contents_in bucket) (record { content = root_content bucket; taken = 0 } ∷ [])))
+pub root_right : (bucket : BucketView) → length (pages_in bucket) ≡ suc (length (later_of (contents_in bucket) (record { content = root_content bucket; taken = 0 } ∷ [])))
 root_right bucket = ap length (top_of (contents_in bucket) (root_content bucket))

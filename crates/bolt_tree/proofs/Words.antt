@@ -41,10 +41,10 @@ pub use Rattle.bolt_tree.specs.Private.Stacks.{Frame, HasStack, IsAtRest, IsBesi
 pub use Rattle.bolt_tree.specs.Private.Stacks.{IsLeafTop, IsOn}
 pub use Rattle.bolt_tree.specs.Private.Stacks.{IsStack}
 pub use Rattle.bolt_tree.specs.Private.Stacks.{RestsOn, StandsOn, address_on, ahead_of, before_of, before_under, done_of, done_under, here_of, here_under}
-pub use Rattle.bolt_tree.specs.Private.Stacks.{index_of, left_under, preceding_of, right_of, right_under, under_at}
+pub use Rattle.bolt_tree.specs.Private.Stacks.{index_of, passed_under, preceding_of, later_of, later_under, under_at}
 pub use Rattle.bolt_tree.specs.Private.Tours.{TourPage, all_under, content_at_start, elements_of, pages_at, tour}
 pub use Rattle.bolt_tree.specs.Private.Trails.{Finds, HasBucket, HasTrail, IsMoved, ahead, entries_left, entries_to, frame_of, frames_of, nearer, pages_left}
-pub use Rattle.bolt_tree.specs.Private.Trails.{pages_to, preceding, right}
+pub use Rattle.bolt_tree.specs.Private.Trails.{pages_ahead, pages_to, preceding}
 pub use Rattle.bolt_tree.specs.Private.Trails.{trail_bucket, trail_frames}
 pub use Rattle.bolt_tree.specs.{RestAfter.beyond, RestAfter.by_first, RestAfter.is_beyond, RestAfter.rest_after, ShownEntries.item_view}
 pub use Rattle.bolt_tree.specs.Starts.{HasStart, start_at}
@@ -53,7 +53,7 @@ pub use Rattle.bolt_tree.specs.{Tree.with_bucket, Tree.with_value, Walks.GivesNe
 pub use Rattle.bolt_tree.specs.{declared.stack.Position.Position, declared.trail.Trail.Trail}
 unfoldable pub use Rattle.bolt_tree.specs.Buckets.{bucket_checked, bucket_start}
 unfoldable pub use Rattle.bolt_tree.specs.{Cursors.cursor_checked, Cursors.cursor_opened, Cursors.cursor_place, Cursors.cursor_start, FileTrees.file_tree}
-unfoldable pub use Rattle.bolt_tree.specs.{Pagers.pager_checked, Pagers.pager_opened, Private.Contents.content_at, Private.Stacks.left_of}
+unfoldable pub use Rattle.bolt_tree.specs.{Pagers.pager_checked, Pagers.pager_opened, Private.Contents.content_at, Private.Stacks.passed_of}
 unfoldable pub use Rattle.bolt_tree.specs.Walks.{walk_checked, walk_path}
 pub use Rattle.std.proofs.Math.Logic.{∥∥₁_elim, ∥∥₁_map, ∥∥₁_prop}
 pub use Rattle.std.proofs.Math.Seq.{drop-append_seam, take-append_seam, take-length, take-nil, take-suc-set}

@@ -1,4 +1,4 @@
--- What private contracts and proofs cite. No public contract names it, but public words such as `cursor_place`, `left_of` and `walk_path`
+-- What private contracts and proofs cite. No public contract names it, but public words such as `cursor_place`, `passed_of` and `walk_path`
 -- are defined by it.
 pub mod BucketPages
 pub mod Contents

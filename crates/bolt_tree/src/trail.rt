@@ -35,7 +35,7 @@ pub(crate) struct SeekResult<'a> {
 
 #[tactic(auto, using(crate::proofs::StackLemmas::retaken, crate::proofs::PagerLemmas::counted_zero))]
 impl<'a> Trail<'a> {
-    ghost use Rattle.bolt_tree.specs.Private.Trails.{Finds, Goes, HasBucket, HasTrail, IsMoved, ahead, entries_left, pages_left, right, trail_bucket};
+    ghost use Rattle.bolt_tree.specs.Private.Trails.{Finds, Goes, HasBucket, HasTrail, IsMoved, ahead, entries_left, pages_ahead, pages_left, trail_bucket};
     ghost use Rattle.bolt_tree.specs.Private.Trails.{trail_frames};
 
     /// Goes to the first entry or, if `back` is set, to the last one. If there is none, the stack is
@@ -94,7 +94,7 @@ impl<'a> Trail<'a> {
         requires rest { IsAtRest (trail_frames self.old) }
         ensures moved { IsMoved self.old self.new }
         ensures found { MatchOption result ((here_of (trail_frames self.old) ≡ []) × (trail_frames self.new ≡ trail_frames self.old))
-            (λ leaf. (ahead self.old ≡ leaf_view leaf ∷ ahead self.new) × IsOn (trail_frames self.new) (leaf_view leaf) × (right self.old ≡ right self.new)) }
+            (λ leaf. (ahead self.old ≡ leaf_view leaf ∷ ahead self.new) × IsOn (trail_frames self.new) (leaf_view leaf) × (pages_ahead self.old ≡ pages_ahead self.new)) }
         ensures bucket { IfSome result (λ leaf. IsTrue leaf.is_bucket → IsBucketValue leaf.value.now) }
         ensures opened { pager_opened self.new.pager ≡ pager_opened self.old.pager }
     {

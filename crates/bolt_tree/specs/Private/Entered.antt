@@ -24,7 +24,7 @@ abbrev pub entered_pages : Option LeafElement → ℕ
 entered_pages None = 1
 entered_pages (Some e) = 0
 
--- how many pages are left to the right of where a move comes to: none at the end
+-- how many pages come later than where a move comes to: none at the end
 abbrev pub opened_to : Option LeafElement → List TourPage → ℕ
 opened_to (Some e) right = length right
 opened_to None right = 0

@@ -1,4 +1,4 @@
--- The tour of a bucket: its pages in the order of ways, from left to right, which the cursor goes along.
+-- The tour of a bucket: its pages in the order of ways, which the cursor goes along.
 use Rattle.std.specs.Prelude.{ℕ, zero, suc, List, [], ◌∷◌, ◌++◌}
 use Rattle.std.specs.List.{flat_map}
 use Rattle.bolt_format.specs.{Elements.BranchElement, Elements.LeafElement, declared.meta.Meta.Meta}
