@@ -1,5 +1,5 @@
 -- There is one list of findings of the accounts.
-use Rattle.std.proofs.Common.{◌≡◌, ◌≢◌, ◌⊎◌, ◌∙◌, ℕ, zero, suc, List, [], ◌∷◌, AllPairs, Contains, Option, Some, None, ap, ap₂, sym, refl, subst, inl, inr, arith}
+use Rattle.std.proofs.Common.{◌≡◌, ◌≢◌, ◌⊎◌, ◌∙◌, ℕ, List, [], ◌∷◌, Option, Some, None, ap, ap₂, refl, inl, inr, arith}
 use Rattle.bolt_check.proofs.Words.{AreAccountFindings, cases_eq, Finding, free_ids_of, IsBefore, IsFreelistFinding, IsUsed, Meta}
 use Rattle.bolt_check.proofs.{AccountLemmas.unwritten, Lists.contains_from_has, Lists.has_from_contains, Lists.one_list, Lists.rises_from_pairs}
 

@@ -7,7 +7,7 @@ use Rattle.bolt_check.specs.{Private.Tables.IsClaimed, Private.Tables.use_at, Pr
 use Rattle.bolt_check.specs.{AccountFindings.IsAccountFinding, AccountFindings.IsBefore, AccountFindings.IsLost, declared.finding.Finding.Finding}
 use Rattle.bolt_check.specs.declared.finding.TheConstants.Finding.{FREED_TWICE, FREE_RANGE, REACHED_FREED, UNREACHABLE}
 use Rattle.bolt_check.specs.{declared.freelist.Freelist.Freelist, declared.table.PageUse.PageUse}
-use Rattle.bolt_check.specs.declared.table.PageUse.TheVariants.{Unused, Branch, Leaf, Used, Free, FreeTwice, UsedFree, UsedFreeTwice}
+use Rattle.bolt_check.specs.declared.table.PageUse.TheVariants.{Used, Free, FreeTwice, UsedFree, UsedFreeTwice}
 
 -- nothing is listed yet
 abbrev pub IsUnlisted : List PageUse → Type 0
