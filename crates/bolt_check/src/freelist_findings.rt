@@ -1,5 +1,5 @@
-//! What is wrong with the pages that the freelist lists, and with those that it lacks, in the order of
-//! the pages.
+//! What is wrong with the pages that the freelist lists, and with those that it lacks, in the order
+//! of the pages.
 ghost use Rattle.std.specs.Prelude.{◌≡◌, ◌≤◌, ◌<◌, ◌+◌, ◌++◌, ◌↔◌, [], IfOk, IsTrue, OnOk, length};
 ghost use Rattle.bolt_check.specs.Private.Freelists.{AreAllFindings, AreFindingsBelow, HasFindingsTo, IsBeyondTo, IsPastTo, IsSettled, is_in_use, is_repeated, listed_times, meta_findings, page_findings, repeat_findings, interval_findings, use_findings};
 
@@ -8,7 +8,8 @@ use crate::freelist::Freelist;
 use crate::table::PageUse;
 use std::alloc::{AllocError, Global};
 
-/// Pushes the finding on the lost pages from `from` up to but not including `page`, if there are any.
+/// Pushes the finding on the lost pages from `from` up to but not including `page`, if there are
+/// any.
 fn push_interval(findings: &mut Vec<Finding>, from: u64, page: u64) -> Result<(), AllocError>
     ensures { OnOk result (findings.new.items ≡ findings.old.items ++ interval_findings from page) }
 {
@@ -69,9 +70,9 @@ fn is_unused(page_use: PageUse) -> bool
     matches!(page_use, PageUse::Unused)
 }
 
-/// Pushes the findings on one page of the table. If the interval of lost pages from `from` on ends before
-/// it, that is pushed first. Returns the page from which on all up to this one are lost and not pushed
-/// yet.
+/// Pushes the findings on one page of the table. If the interval of lost pages from `from` on ends
+/// before it, that is pushed first. Returns the page from which on all up to this one are lost and
+/// not pushed yet.
 fn push_entry(
     freelist: &Freelist<'_>,
     n: usize,
@@ -95,8 +96,8 @@ fn push_entry(
     Ok(page + 1)
 }
 
-/// Pushes the findings on the pages of the table. Returns the page from which on all up to the table's end are
-/// lost and not pushed yet.
+/// Pushes the findings on the pages of the table. Returns the page from which on all up to the
+/// table's end are lost and not pushed yet.
 fn push_table(freelist: &Freelist<'_>, findings: &mut Vec<Finding>) -> Result<u64, AllocError>
     requires settled { IsSettled freelist.now }
     requires none { findings.old.items ≡ [] }
@@ -129,8 +130,8 @@ fn push_repeated(findings: &mut Vec<Finding>, ids: &[u64], i: usize) -> Result<(
     Ok(())
 }
 
-/// Pushes the findings on the id at place `i` if it is below the mark and they aren't pushed yet, and
-/// on the lost pages before it.
+/// Pushes the findings on the id at place `i` if it is below the mark and they aren't pushed yet,
+/// and on the lost pages before it.
 fn push_id(
     freelist: &Freelist<'_>,
     i: usize,
@@ -173,8 +174,8 @@ fn push_past(
     Ok(from)
 }
 
-/// Pushes the finding on the id at place `i` if it is at or above the mark, and above `last`, the last
-/// one pushed. Returns the last one that is pushed now.
+/// Pushes the finding on the id at place `i` if it is at or above the mark, and above `last`, the
+/// last one pushed. Returns the last one that is pushed now.
 fn push_high_id(
     freelist: &Freelist<'_>,
     i: usize,

@@ -1,5 +1,5 @@
-//! Is a whole file sound, and are the trees of one meta? That may be the active meta, the meta of a slot,
-//! or one that is handed in.
+//! Is a whole file sound, and are the trees of one meta? That may be the active meta, the meta of a
+//! slot, or one that is handed in.
 ghost use Rattle.std.specs.Prelude.{◌≡◌, ◌<◌, IfErr, IfOk, OnOk, false, true};
 ghost use Rattle.bolt_format.specs.{Metas.IsActive, Metas.IsInSlot};
 ghost use Rattle.bolt_check.specs.{CheckedFiles.bytes_of, CheckedFiles.has_accounts, CheckedFiles.meta_of, RoledFiles.roles_checked};

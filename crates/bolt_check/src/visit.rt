@@ -1,5 +1,5 @@
-//! The visit of a page: it is opened as a node, which is a branch or a leaf; it is tested; and its span
-//! is claimed.
+//! The visit of a page: it is opened as a node, which is a branch or a leaf; it is tested; and its
+//! span is claimed.
 ghost use Rattle.std.specs.Prelude.{◌≡◌, ◌<◌, ◌≤◌, ℕ, IfErr, IfOk, MatchResult, Err, None, Ok, OnErr, OnOk, Some};
 ghost use Rattle.std.specs.Result.{result_err};
 ghost use Rattle.bolt_format.specs.{Pages.IsInFile, Pages.page_at, Shown.shown};

@@ -1,5 +1,5 @@
-//! The bytes of headers, of the heads of buckets and of metas: what `header`, `element`, `bucket` and
-//! `meta` read.
+//! The bytes of headers, of the heads of buckets and of metas: what `header`, `element`, `bucket`
+//! and `meta` read.
 #![tactic(auto, unfolding(crate::specs::Encoded::number_bytes, crate::specs::Encoded::header_bytes, crate::specs::Encoded::branch_header, crate::specs::Encoded::leaf_header, crate::specs::Encoded::head_bytes, crate::specs::Encoded::meta_record, crate::specs::Encoded::meta_bytes))]
 
 ghost use Rattle.std.specs.Prelude.{◌≡◌, ◌≤◌, ◌++◌, drop, length};
@@ -87,8 +87,8 @@ fn write_part(bytes: &mut [u8], part: &[u8])
     bytes[..part.len()].copy_from_slice(part);
 }
 
-/// The bytes of a meta page before its zeros: its header, its record and the checksum (docs/FORMAT.md,
-/// "Meta pages").
+/// The bytes of a meta page before its zeros: its header, its record and the checksum
+/// (docs/FORMAT.md, "Meta pages").
 pub fn meta_page(number: u64, meta: &Meta) -> [u8; META_LEN]
     ensures { result ≡ meta_bytes number meta.now }
 {
