@@ -5,7 +5,7 @@ use Rattle.bolt_recover.proofs.PlaceFacts.{elements_is, leads_within, place_furt
 use Rattle.bolt_recover.proofs.RunOrder.{rises_run, visits_of}
 use Rattle.bolt_recover.proofs.SurveyIsOne.{Suffix, earlier, gives_same, next_suffix, ways}
 use Rattle.bolt_recover.proofs.TaskLists.{IsAt, after_at, at_from}
-use Rattle.bolt_check.specs.Tours.{Rises}
+use Rattle.bolt_check.specs.{Lists.RisesBy, Ways.Before}
 use Rattle.bolt_check.proofs.Lists.{Has as Among}
 
 -- the claims of a spot are its span
@@ -247,7 +247,7 @@ module _ (file : List ℕ) (meta : Meta) (survey : List Visit) where
 
 -- what a run from the root page visits
 module _ (file : List ℕ) (meta : Meta) (visits : List (Visited Way)) (members : List Member) (run : RunsAll file meta further [] visits members) where
-  rise : Rises (ways (visits_of visits))
+  rise : RisesBy Before (ways (visits_of visits))
   rise = (rises_run file meta meta_pages (To_visit [] (root_place file meta) ∷ []) visits members run (λ b h. absurd h, tt)).0
 
   from_metas : AreClaims file meta (visits_of visits) (λ v. ⊥) meta_pages

@@ -17,7 +17,7 @@ pub use Rattle.bolt_check.specs.Keys.{Key, KeysRise, is_below, is_from, key_cmp,
 pub use Rattle.bolt_check.specs.LoneLeaves.{IsListedFree, IsLoneLeaf}
 pub use Rattle.bolt_check.specs.Nodes.{Entry, IsInSpan, Node, Nodes, leaf_entry, node_seen}
 pub use Rattle.bolt_check.specs.{Shape.child_at, Shape.child_in, Shape.child_of, Shape.leads, ShownNodes.entries_of, ShownSpots.page_spot, ShownSpots.spot_at}
-pub use Rattle.bolt_check.specs.{Sound.HasSoundTrees, Tours.IsBeforeAll, TreeKinds.tree_kind}
+pub use Rattle.bolt_check.specs.{Sound.HasSoundTrees, TreeKinds.tree_kind}
 pub use Rattle.bolt_check.specs.Ways.{At_inline, At_page, Before, PageSpot, Reach, SpanAt, SpanHas, SpanOf, Spot, bucket_spot, bucket_spots, child_spot, follow}
 pub use Rattle.bolt_check.specs.Ways.{reached, root_spot, step, step_at, step_entry, step_from, step_on, upper_from}
 pub use Rattle.bolt_check.specs.declared.checked.Checked.{Checked}
