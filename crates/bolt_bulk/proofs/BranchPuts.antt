@@ -1,11 +1,11 @@
 -- A branch page, written piece by piece.
 use Rattle.std.proofs.Common.{◌≡◌, ℕ, ◌+◌, ◌-◌, ◌*◌, ◌<◌, ◌≤◌, List, [], ◌∷◌, ◌++◌, length, map, drop, get_or, refl, ap, arith}
 use Rattle.std.proofs.lemmas.List.{append-nil, at_drop_more, drop_all, length-map}
-use Rattle.bolt_format.specs.{ElementPlaces.branch_view, declared.element.Branch.Branch, Written.branch_header, Written.header_bytes}
+use Rattle.bolt_format.specs.{ElementPlaces.branch_view, declared.element.Branch.Branch, Encoded.branch_header, Encoded.header_bytes}
 use Rattle.bolt_layout.specs.{Layout.placed_bytes, Levels.overflow_of}
 use Rattle.bolt_layout.specs.PageBytes.{branch_bytes, branch_data, branch_headers, page_bytes}
 use Rattle.bolt_layout.proofs.BranchLemmas.{length-branch_headers}
-use Rattle.bolt_format.proofs.WrittenHeaders.{length-header_bytes}
+use Rattle.bolt_format.proofs.EncodedHeaders.{length-header_bytes}
 use Rattle.bolt_format.specs.declared.header.Kind.TheVariants as kind
 use Rattle.bolt_bulk.specs.{Private.IsSizedRun, Private.run_page, Private.run_view, declared.branch_run.BranchRun.BranchRun}
 use Rattle.bolt_format.specs.{Endings.Ending, Wrote.Wrote, declared.sink.Sink.Ghosts}

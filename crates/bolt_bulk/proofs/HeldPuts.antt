@@ -7,7 +7,7 @@ use Rattle.bolt_bulk.specs.declared.held.Stored.TheVariants as stored
 use Rattle.bolt_bulk.specs.Private.{AreHeld, held_views, IsHeld, IsStored, stored_value}
 use Rattle.bolt_layout.specs.PageBytes.{leaf_data}
 use Rattle.bolt_bulk.proofs.HeldRuns.{length-inline_value}
-use Rattle.bolt_format.proofs.WrittenHeaders.{length-head_bytes}
+use Rattle.bolt_format.proofs.EncodedHeaders.{length-head_bytes}
 
 -- what stands for an entry or an item past the end
 abbrev pub no_entry : Leaf

@@ -9,7 +9,7 @@ use Rattle.bolt_bulk.specs.Private.{AreHeld, entries_in, entries_size, HasRoomFo
 use Rattle.bolt_bulk.specs.{declared.bucket_runs.BucketRuns.BucketRuns, declared.leaf_run.LeafRun.LeafRun, declared.held.Held.Held, declared.held.Stored.Stored}
 use Rattle.bolt_bulk.specs.declared.held.Stored.TheVariants as stored
 use Rattle.bolt_layout.proofs.{ListLemmas.all_append, SpanLemmas.length-leaf_bytes}
-use Rattle.bolt_format.proofs.WrittenHeaders.{length-header_bytes, length-head_bytes}
+use Rattle.bolt_format.proofs.EncodedHeaders.{length-header_bytes, length-head_bytes}
 
 -- what is known of a run of items
 pub record IsRun (inlined : List Leaf) (items : List Held) (size : ℕ) : Type 0 where

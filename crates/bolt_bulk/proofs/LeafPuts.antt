@@ -1,11 +1,11 @@
 -- A leaf page, and an inline value, written piece by piece, whatever the code keeps of their elements: `view` is the element that it keeps.
 use Rattle.std.proofs.Common.{◌≡◌, ℕ, ◌+◌, ◌-◌, ◌*◌, List, [], ◌∷◌, ◌++◌, length, map, refl, sym, arith, append_assoc}
 use Rattle.std.proofs.lemmas.List.{append-nil, length-append, length-map}
-use Rattle.bolt_format.specs.{Elements.LeafElement, Written.header_bytes, Written.leaf_header, Written.head_bytes}
+use Rattle.bolt_format.specs.{Elements.LeafElement, Encoded.header_bytes, Encoded.leaf_header, Encoded.head_bytes}
 use Rattle.bolt_layout.specs.{Layout.placed_bytes, Levels.overflow_of}
 use Rattle.bolt_layout.specs.PageBytes.{inline_value, leaf_bytes, leaf_data, leaf_headers, page_bytes}
 use Rattle.bolt_layout.proofs.LeafLemmas.{length-leaf_headers}
-use Rattle.bolt_format.proofs.WrittenHeaders.{length-header_bytes}
+use Rattle.bolt_format.proofs.EncodedHeaders.{length-header_bytes}
 use Rattle.bolt_format.specs.declared.header.Kind.TheVariants as kind
 use Rattle.bolt_bulk.specs.{Private.held_views, Private.leaf_page, Private.leaves_of, Private.page_size_of, declared.leaf_run.LeafRun.LeafRun}
 use Rattle.bolt_bulk.proofs.{ElementPuts.ArePacked, FilledTexts.zeros, FilledTexts.filled_pieces}

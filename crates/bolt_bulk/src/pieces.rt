@@ -1,7 +1,7 @@
 //! The pieces that a page is written in: its header, the headers of its elements, which are gathered
 //! and then written five at a time, and zeros.
 ghost use Rattle.std.specs.Prelude.{replicate, ◌≡◌, ◌+◌, ◌-◌, ◌*◌, ◌<◌, ◌≤◌, [], IfOk, OnOk, length};
-ghost use Rattle.bolt_format.specs.{Endings.page_ending, Wrote.Wrote, Written.branch_header, Written.header_bytes, Written.leaf_header};
+ghost use Rattle.bolt_format.specs.{Endings.page_ending, Wrote.Wrote, Encoded.branch_header, Encoded.header_bytes, Encoded.leaf_header};
 ghost use Rattle.bolt_layout.specs.Levels.{overflow_of};
 ghost use Rattle.bolt_bulk.specs.Private.{AddsToBuffer, Buffers, length_end};
 

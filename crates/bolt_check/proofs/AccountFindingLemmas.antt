@@ -3,8 +3,8 @@ use Rattle.std.proofs.Common.{◌≡◌, ℕ, suc, ◌-◌, ◌<◌, ◌≤◌, 
 use Rattle.std.proofs.lemmas.List.{get_or_append_left}
 use Rattle.std.proofs.Math.Seq.{get_or-append_right}
 use Rattle.std.proofs.lemmas.List.Elements.{All-append, Contains-append_left, Contains-append_right}
-use Rattle.bolt_check.proofs.Words.{All-cons, All-nil, All-weaker, AreFindingsBelow, cases_lt, cases_order, Finding, freed_twice, IsAccountFinding, IsBefore, IsLost, IsRun, le-ltb, lt-ltb, out_of_range, reached_freed, run_findings, unreachable}
-use Rattle.bolt_check.specs.declared.fault.TheConstants.Finding.{UNREACHABLE}
+use Rattle.bolt_check.proofs.Words.{All-cons, All-nil, All-weaker, AreFindingsBelow, cases_lt, cases_order, Finding, freed_twice, IsAccountFinding, IsBefore, IsLost, IsLostInterval, le-ltb, lt-ltb, out_of_range, reached_freed, interval_findings, unreachable}
+use Rattle.bolt_check.specs.declared.finding.TheConstants.Finding.{UNREACHABLE}
 
 -- what is reported of the pages from one to before another
 pub record Reports (mark : ℕ) (in_use : ℕ → Type 0) (times : ℕ → ℕ) (from next : ℕ) (ys : List Finding) : Type 0 where
@@ -77,38 +77,38 @@ module _ (mark : ℕ) (in_use : ℕ → Type 0) (times : ℕ → ℕ) where
     silent = λ e. absurd (cc);
   }
 
-  -- a finding on a page of a run of lost pages is the run
-  run_is : (from page : ℕ) → IsRun mark in_use times from page → (IsLost mark in_use times page → ⊥)
+  -- a finding on a page of an interval of lost pages is the interval
+  interval_is : (from page : ℕ) → IsLostInterval mark in_use times from page → (IsLost mark in_use times page → ⊥)
       → (x : Finding) → IsAccountFinding mark in_use times x → from ≤ x.page → x.page < page → x ≡ record { number = UNREACHABLE; page = from; last = page - 1 }
-  run_is from page run ends x (freed_twice {n = n} range two) low high = let zero = (run.lost n low high).unlisted in absurd (omega arith)
-  run_is from page run ends x (reached_freed {n = n} range one used) low high = absurd ((run.lost n low high).free.unused used)
-  run_is from page run ends x (out_of_range {n = n} out one) low high = let zero = (run.lost n low high).unlisted in absurd (omega arith)
-  run_is from page run ends x (unreachable {page = first} {last = last} order lost after before) low high =
+  interval_is from page interval ends x (freed_twice {n = n} range two) low high = let zero = (interval.lost n low high).unlisted in absurd (omega arith)
+  interval_is from page interval ends x (reached_freed {n = n} range one used) low high = absurd ((interval.lost n low high).free.unused used)
+  interval_is from page interval ends x (out_of_range {n = n} out one) low high = let zero = (interval.lost n low high).unlisted in absurd (omega arith)
+  interval_is from page interval ends x (unreachable {page = first} {last = last} order lost after before) low high =
       let same_first : first ≡ from = elim (cases_order first from) [
         | inl e ↦ e
         | inr (inl less) ↦ absurd (omega arith)
-        | inr (inr more) ↦ absurd (before (first - 1) (omega arith) (run.lost (first - 1) (omega arith) (omega arith)))
+        | inr (inr more) ↦ absurd (before (first - 1) (omega arith) (interval.lost (first - 1) (omega arith) (omega arith)))
       ] in
       let same_last : last ≡ page - 1 = elim (cases_order last (page - 1)) [
         | inl e ↦ e
-        | inr (inl less) ↦ absurd (after (run.lost (suc last) (omega arith) (omega arith)))
+        | inr (inl less) ↦ absurd (after (interval.lost (suc last) (omega arith) (omega arith)))
         | inr (inr more) ↦ absurd (ends (lost page (omega arith) (omega arith)))
       ] in
       rw (same_first, same_last) refl
 
-  run_found : (from page : ℕ) → from < page → IsRun mark in_use times from page → (IsLost mark in_use times page → ⊥)
+  interval_found : (from page : ℕ) → from < page → IsLostInterval mark in_use times from page → (IsLost mark in_use times page → ⊥)
       → IsAccountFinding mark in_use times (record { number = UNREACHABLE; page = from; last = page - 1 })
-  run_found from page some run ends =
+  interval_found from page some interval ends =
       let next : suc (page - 1) ≡ page = omega arith in
-      unreachable (omega arith) (λ n low high. run.lost n low (omega arith)) (λ lost. ends (subst (IsLost mark in_use times) next lost)) run.begins
+      unreachable (omega arith) (λ n low high. interval.lost n low (omega arith)) (λ lost. ends (subst (IsLost mark in_use times) next lost)) interval.begins
 
 -- the lost pages before a page that is not lost
-pub reports_run : {mark : ℕ} {in_use : ℕ → Type 0} {times : ℕ → ℕ} {from page : ℕ} → from ≤ page → IsRun mark in_use times from page
+pub reports_interval : {mark : ℕ} {in_use : ℕ → Type 0} {times : ℕ → ℕ} {from page : ℕ} → from ≤ page → IsLostInterval mark in_use times from page
     → (IsLost mark in_use times page → ⊥)
-    → Reports mark in_use times from page (run_findings from page)
-reports_run {mark = mark} {in_use = in_use} {times = times} {from = from} {page = page} order run ends = elim (cases_lt from page) [
+    → Reports mark in_use times from page (interval_findings from page)
+reports_interval {mark = mark} {in_use = in_use} {times = times} {from = from} {page = page} order interval ends = elim (cases_lt from page) [
   | inl some ↦ rw (lt-ltb from page some) (reports_one mark in_use times from page (record { number = UNREACHABLE; page = from; last = page - 1 })
-      (run_found mark in_use times from page some run ends) (omega arith) some (run_is mark in_use times from page run ends))
+      (interval_found mark in_use times from page some interval ends) (omega arith) some (interval_is mark in_use times from page interval ends))
   | inr none ↦ rw (le-ltb from page none)
       (reports_none mark in_use times from page (λ n low high. absurd (omega arith)) (λ x is low high. absurd (omega arith)))
 ]

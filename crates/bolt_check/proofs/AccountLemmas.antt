@@ -1,4 +1,4 @@
--- The findings of a listing are those of the accounts.
+-- The table and the ids past it list what the freelist lists: their findings are those of the accounts.
 use Rattle.std.proofs.Common.{◌≡◌, ◌≢◌, ◌∙◌, ◌==◌, ℕ, suc, ◌≤◌, inl, inr, ◌↔◌, List, [], ◌∷◌, Some, None, min, refl, sym, ap, subst, arith, Contains}
 use Rattle.bolt_check.proofs.Words.{AreAccountFindings, AreAllFindings, bad, cases_lt, ClaimsFreelist, cond-false, cond-true, eq-eqb, finding, Finding, free_ids_of, freed_twice, freelist_fault, freelist_fault_of, HasAccounts, IsAccountFinding, IsClaimed, IsFreelistFinding, IsInFreelist, IsInRange, IsInUse, IsLost, ListsFree, Meta, ne_eqb, NO_FREELIST, none-some, out_of_range, PageUse, reached_freed, same_Some, shared, times_in, TWICE, unreachable}
 use Rattle.bolt_format.specs.Freelists.{free_ids_at}

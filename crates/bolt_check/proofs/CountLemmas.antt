@@ -1,5 +1,6 @@
 -- How often a number is in a sorted list.
 use Rattle.std.proofs.Common.{◌≡◌, ◌∙◌, ◌==◌, ℕ, zero, suc, ◌+◌, ◌<◌, ◌≤◌, List, [], ◌∷◌, length, get_or, cond, refl, ap, arith, inl, inr}
+use Rattle.std.specs.List.Sorted.{IsNonDecreasing}
 use Rattle.bolt_check.proofs.Words.{cases_eq, eq-eqb, ne_eqb, sum_by-cons, times_in}
 
 -- one number more
@@ -32,21 +33,18 @@ place_of (x ∷ xs) n h =
       | inr other ↦ let t = times_there x n xs other in let (k, (l, e)) = place_of xs n (omega (arith, t)) in (suc k, (omega arith, e))
     ]
 
-abbrev Rises : List ℕ → Type 0
-Rises xs = (i j : ℕ) → i ≤ j → j < length xs → get_or xs i 0 ≤ get_or xs j 0
-
 -- at its first place a number stands once, unless the next is the same
-pub times_once : (xs : List ℕ) (i : ℕ) → Rises xs → i < length xs → ((k : ℕ) → k < i → get_or xs k 0 < get_or xs i 0)
+pub times_once : (xs : List ℕ) (i : ℕ) → IsNonDecreasing xs → i < length xs → ((k : ℕ) → k < i → get_or xs k 0 < get_or xs i 0)
     → (suc i < length xs → get_or xs (suc i) 0 ≡ get_or xs i 0 → ⊥) → times_in xs (get_or xs i 0) ≡ 1
 times_once [] i up h first next = absurd (omega arith)
 times_once (x ∷ xs) zero up h first next =
     let none : times_in xs x ≡ 0 = times_none xs x (λ k l e.
-    let low = up 1 (suc k) (omega arith) (omega arith) in let high = up 0 1 (omega arith) (omega arith) in
+    let low = up 1 (suc k) 0 (omega arith) (omega arith) in let high = up 0 1 0 (omega arith) (omega arith) in
     next (omega arith) (omega (arith, low, high, e))) in
     let t = times_here x x xs refl in omega (arith, t, none)
 times_once (x ∷ xs) (suc i) up h first next =
     let below = first 0 (omega arith) in
-    let rest = times_once xs i (λ a b order l. up (suc a) (suc b) (omega arith) (omega arith)) (omega arith) (λ k l. first (suc k) (omega arith)) (λ l e. next (omega arith) e) in
+    let rest = times_once xs i (λ a b d order l. up (suc a) (suc b) d (omega arith) (omega arith)) (omega arith) (λ k l. first (suc k) (omega arith)) (λ l e. next (omega arith) e) in
     times_there x (get_or xs i 0) xs (λ e. omega (arith, below, e)) ∙ rest
 
 -- and at least twice, where it is

@@ -3,7 +3,7 @@ use Rattle.std.proofs.Common.{◌≡◌, ℕ, zero, suc, Bool, true, not, if◌t
 use Rattle.bolt_check.proofs.Words.{first_of-none, is_above, is_below, is_from, Key, key_lt, keys_order_fault, none-some}
 use Rattle.bolt_check.proofs.KeyLaws.{above_more}
 use Rattle.bolt_check.specs.Keys.{KeysRise, key_order_fault}
-use Rattle.bolt_check.specs.declared.fault.TheConstants.Finding.{ORDER, BELOW_PARENT, ABOVE_NEXT}
+use Rattle.bolt_check.specs.declared.finding.TheConstants.Finding.{ORDER, BELOW_PARENT, ABOVE_NEXT}
 
 three_none : (x y z : ℕ) (a b c : Bool) → (if not a then Some x else (if not b then Some y else (if not c then Some z else None))) ≡ None
     → (a ≡ true) × (b ≡ true) × (c ≡ true)

@@ -3,7 +3,7 @@ use Rattle.std.proofs.Common.{◌≡◌, ℕ, suc, ◌<◌, ◌≤◌, ◌⊎◌
 use Rattle.std.proofs.lemmas.List.Kept.{AllPairs-cons}
 use Rattle.bolt_check.proofs.Words.{All-cons, All-nil, cases_lt, false≢true, finding, Finding, Free, FREE_RANGE, FREED_TWICE, freed_twice, FreeTwice, is_used, IsAccountFinding, IsBefore, IsInRange, IsLost, le-ltb, lt-ltb, out_of_range, page_findings, PageUse, reached_freed, times_of, unreachable, Unused, UsedFree, UsedFreeTwice}
 use Rattle.bolt_check.proofs.AccountFindingLemmas.{Reports, reports_none, reports_one, one_rises}
-use Rattle.bolt_check.specs.{Private.Listings.meta_findings, Private.Listings.use_findings, declared.fault.TheConstants.Finding.REACHED_FREED}
+use Rattle.bolt_check.specs.{Private.Freelists.meta_findings, Private.Freelists.use_findings, declared.finding.TheConstants.Finding.REACHED_FREED}
 
 -- a finding on a page, by its number
 pub data OnPage (mark : ℕ) (in_use : ℕ → Type 0) (times : ℕ → ℕ) (x : Finding) (n : ℕ) : Type 0 where
@@ -16,7 +16,7 @@ module _ (mark : ℕ) (in_use : ℕ → Type 0) (times : ℕ → ℕ) where
   pub on_own_page : (x : Finding) → IsAccountFinding mark in_use times x → OnPage mark in_use times x x.page
   on_own_page x (freed_twice in_range two) = twice refl two in_range
   on_own_page x (reached_freed in_range one used) = reached refl one used in_range
-  on_own_page x (unreachable order run after before) = lost (run _ (omega arith) order)
+  on_own_page x (unreachable order interval after before) = lost (interval _ (omega arith) order)
   on_own_page x (out_of_range out one) = range refl one out
 
   on_page : (x : Finding) (n : ℕ) → IsAccountFinding mark in_use times x → n ≤ x.page → x.page < suc n → OnPage mark in_use times x n

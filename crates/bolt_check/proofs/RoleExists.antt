@@ -1,5 +1,5 @@
 -- In a sound file each page below the mark has a role: the tour says whether a way leads to it.
-use Rattle.std.proofs.Common.{◌≡◌, ℕ, ◌+◌, ◌<◌, ◌≤◌, ◌⊎◌, inl, inr, Bool, true, false, List, [], ◌∷◌, Option, Some, Result, Ok, Err, refl, arith}
+use Rattle.std.proofs.Common.{◌≡◌, ℕ, ◌+◌, ◌<◌, ◌≤◌, ◌⊎◌, inl, inr, Bool, true, false, List, [], ◌∷◌, Option, Some, Result, Ok, Err, refl, sym, arith}
 use Rattle.bolt_check.proofs.Words.{At_page, cases_eq, cases_lt, eq-eqb, Has, HasRightAccounts, HasRole, HasSoundTrees, IsInFreelist, IsTour, Meta, ne_eqb, NO_FREELIST, Node, node_at, Nodes, page_overflow, PageSpot, Reach, Role, SpanHas, SpanOf, Spot}
 use Rattle.bolt_check.specs.Ways.{reached}
 use Rattle.bolt_check.specs.declared.role_table.Role.TheVariants as role
@@ -31,14 +31,14 @@ module _ (file : List ℕ) (meta : Meta) (n : ℕ) where
   at_spot (Some (At_page s)) = in_node (nodes s.number) s.number
   at_spot o = inr (λ h. h)
 
-  pick : (ways : Ways) → ((way : List ℕ) × SpanHas nodes (reach way) n) ⊎ ((way : List ℕ) → Has way ways → SpanHas nodes (reach way) n → ⊥)
+  pick : (ways : Ways) → ((way : List ℕ) × SpanHas nodes (reach way) n) ⊎ ((way : List ℕ) → Has ways way → SpanHas nodes (reach way) n → ⊥)
   pick [] = inr (λ way i h. i)
   pick (w ∷ ways) =
       elim (at_spot (reach w)) [
         | inl h ↦ inl (w, h)
         | inr none ↦ elim (pick ways) [
           | inl p ↦ inl p
-          | inr rest ↦ inr (λ way i h. elim i [ inl e ↦ none (rw e at h) | inr j ↦ rest way j h ])
+          | inr rest ↦ inr (λ way i h. elim i [ inl e ↦ none (rw (sym e) at h) | inr j ↦ rest way j h ])
         ]
       ]
 

@@ -1,4 +1,4 @@
--- A table in which the ids are listed, with the ids past it sorted, is a listing of them.
+-- A table in which the ids are listed, with the ids past it sorted, is a freelist of them.
 use Rattle.std.proofs.Common.{◌≡◌, ◌∙◌, ◌==◌, ℕ, ◌<◌, ◌≤◌, Bool, true, List, All, length, Vec, Global, Result, IfOk, cond, not, filter, min, IsPermutation, inl, inr, refl, sym, ap, subst, arith, nat_le}
 use Rattle.std.proofs.lemmas.Bool.{le-leb, leb-true}
 use Rattle.std.proofs.lemmas.List.Elements.{filter_passes}
@@ -6,8 +6,8 @@ use Rattle.std.proofs.lemmas.List.Sorted.{All-permutation, IsNonDecreasingBy-fro
 use Rattle.std.proofs.lemmas.List.Filters.{sum_by-filter_both}
 use Rattle.std.specs.List.Sorted.{IsNonDecreasing, IsSorted}
 use Rattle.std.specs.Ordering.{nat_cmp}
-use Rattle.bolt_check.proofs.Words.{All-weaker, AllocError, AreAllFindings, both_ways, cases_lt, Finding, IfOk-weaker, is_in_use, is_used, IsClaimed, IsSettled, listed_times, Listing, not-true, PageUse, times_in, times_of, use_at}
-use Rattle.bolt_check.proofs.{CountLemmas.times_none, ListingLemmas.times_past, ListingLemmas.times_table, AccountLemmas.reported_along}
+use Rattle.bolt_check.proofs.Words.{All-weaker, AllocError, AreAllFindings, both_ways, cases_lt, Finding, IfOk-weaker, is_in_use, is_used, IsClaimed, IsSettled, listed_times, Freelist, not-true, PageUse, times_in, times_of, use_at}
+use Rattle.bolt_check.proofs.{CountLemmas.times_none, FreelistSteps.times_past, FreelistSteps.times_table, AccountLemmas.reported_along}
 
 -- a number that passes a test is as often in what passes
 times_filter : (p : ℕ → Bool) (n : ℕ) → p n ≡ true → (xs : List ℕ) → times_in (filter p xs) n ≡ times_in xs n
@@ -17,15 +17,15 @@ times_filter p n passes xs =
     (λ k h e. both_ways (p n) (not-true (p n) (subst (λ (m : ℕ). not (p m) ≡ true) e (filter_passes (λ x. not (p x)) xs k 0 h))) passes) in
     omega (arith, none, sum_by-filter_both p (λ x. not (p x)) (λ x. refl) (λ id. cond (id == n) 1 0) xs)
 
-module _ (old : List PageUse) (ids past items : List ℕ) (listing : Listing) (long : length listing.table.now ≡ length old)
-    (used : (n : ℕ) → is_used (use_at listing.table.now n) ≡ is_used (use_at old n))
-    (are : past ≡ filter (λ id. nat_le (length old) id) ids) (moved : IsPermutation past items) (is : listing.past.now ≡ items) where
-  pub settled : IsSorted nat_cmp items → ((n : ℕ) → n < 2 → IsClaimed old n) → 2 ≤ length old → length old ≤ listing.mark → IsSettled listing
+module _ (old : List PageUse) (ids past items : List ℕ) (freelist : Freelist) (long : length freelist.table.now ≡ length old)
+    (used : (n : ℕ) → is_used (use_at freelist.table.now n) ≡ is_used (use_at old n))
+    (are : past ≡ filter (λ id. nat_le (length old) id) ids) (moved : IsPermutation past items) (is : freelist.past.now ≡ items) where
+  pub settled : IsSorted nat_cmp items → ((n : ℕ) → n < 2 → IsClaimed old n) → 2 ≤ length old → length old ≤ freelist.mark → IsSettled freelist
   settled sorted metas wide below = record {
     sorted = subst IsNonDecreasing (sym is) (IsNonDecreasingBy-from_sort (λ (x : ℕ). x) items sorted);
-    past = subst (All (λ (id : ℕ). length listing.table.now ≤ id)) (sym is) (All-permutation (λ (id : ℕ). length listing.table.now ≤ id) past items moved
-        (subst (All (λ (id : ℕ). length listing.table.now ≤ id)) (sym are)
-        (All-weaker (λ (id : ℕ). nat_le (length old) id ≡ true) (λ (id : ℕ). length listing.table.now ≤ id)
+    past = subst (All (λ (id : ℕ). length freelist.table.now ≤ id)) (sym is) (All-permutation (λ (id : ℕ). length freelist.table.now ≤ id) past items moved
+        (subst (All (λ (id : ℕ). length freelist.table.now ≤ id)) (sym are)
+        (All-weaker (λ (id : ℕ). nat_le (length old) id ≡ true) (λ (id : ℕ). length freelist.table.now ≤ id)
         (λ id e. let le = leb-true (length old) id e in omega (arith, long, le)) (filter (λ id. nat_le (length old) id) ids)
         (filter_passes (λ id. nat_le (length old) id) ids))));
     metas = λ n h. used n ∙ metas n h;
@@ -33,21 +33,21 @@ module _ (old : List PageUse) (ids past items : List ℕ) (listing : Listing) (l
     below = omega (arith, long, below);
   }
 
-  pub same_times : IsSettled listing → ((n : ℕ) → n < length old → times_of (use_at listing.table.now n) ≡ min 2 (times_in ids n))
-      → (n : ℕ) → min 2 (listed_times listing n) ≡ min 2 (times_in ids n)
-  same_times ok times n = elim (cases_lt n (length listing.table.now)) [
-    | inl inside ↦ (let e = times_table listing ok n inside in let t = times n (omega (arith, long, inside)) in omega (arith, e, t))
-    | inr after ↦ (let e = times_past listing ok n after in
+  pub same_times : IsSettled freelist → ((n : ℕ) → n < length old → times_of (use_at freelist.table.now n) ≡ min 2 (times_in ids n))
+      → (n : ℕ) → min 2 (listed_times freelist n) ≡ min 2 (times_in ids n)
+  same_times ok times n = elim (cases_lt n (length freelist.table.now)) [
+    | inl inside ↦ (let e = times_table freelist ok n inside in let t = times n (omega (arith, long, inside)) in omega (arith, e, t))
+    | inr after ↦ (let e = times_past freelist ok n after in
         let same = ap (λ (xs : List ℕ). times_in xs n) is ∙ sum_by-IsPermutation (λ (id : ℕ). cond (id == n) 1 0) past items moved ∙ ap (λ (xs : List ℕ). times_in xs n) are
         ∙ times_filter (λ id. nat_le (length old) id) n (le-leb (length old) n (omega (arith, long, after))) ids in
         omega (arith, e, same))
   ]
 
-  -- what is reported of the listing is reported of the ids
-  pub listing_reported : IsSettled listing → ((n : ℕ) → n < length old → times_of (use_at listing.table.now n) ≡ min 2 (times_in ids n))
-      → (r : Result (Vec Finding Global) AllocError) → IfOk r (λ reported. AreAllFindings listing.mark (is_in_use listing) (listed_times listing) reported.items)
-      → IfOk r (λ reported. AreAllFindings listing.mark (IsClaimed old) (times_in ids) reported.items)
-  listing_reported ok times r reported =
-      IfOk-weaker r (λ reported. AreAllFindings listing.mark (is_in_use listing) (listed_times listing) reported.items) (λ reported. AreAllFindings listing.mark (IsClaimed old) (times_in ids) reported.items)
-      (λ v. reported_along listing.mark (is_in_use listing) (IsClaimed old) (listed_times listing) (times_in ids)
+  -- what is reported of the freelist is reported of the ids
+  pub all_reported : IsSettled freelist → ((n : ℕ) → n < length old → times_of (use_at freelist.table.now n) ≡ min 2 (times_in ids n))
+      → (r : Result (Vec Finding Global) AllocError) → IfOk r (λ reported. AreAllFindings freelist.mark (is_in_use freelist) (listed_times freelist) reported.items)
+      → IfOk r (λ reported. AreAllFindings freelist.mark (IsClaimed old) (times_in ids) reported.items)
+  all_reported ok times r reported =
+      IfOk-weaker r (λ reported. AreAllFindings freelist.mark (is_in_use freelist) (listed_times freelist) reported.items) (λ reported. AreAllFindings freelist.mark (IsClaimed old) (times_in ids) reported.items)
+      (λ v. reported_along freelist.mark (is_in_use freelist) (IsClaimed old) (listed_times freelist) (times_in ids)
       (record { there = λ n claimed. sym (used n) ∙ claimed; back = λ n claimed. used n ∙ claimed; counted = same_times ok times }) v.items) reported

@@ -1,7 +1,7 @@
 -- A table after the pages of a span were claimed.
 use Rattle.std.proofs.Common.{◌≡◌, ◌∙◌, ℕ, ◌+◌, ◌<◌, ◌≤◌, ◌⊎◌, inl, inr, List, Ok, sym, ap, arith}
 use Rattle.bolt_check.proofs.Words.{At_page, cases_eq, cases_lt, is_used, IsClaimed, IsUnclaimed, IsUnlisted, Node, Nodes, PageSpot, PageUse, times_of, use_at, use_of}
-use Rattle.bolt_check.specs.{Nodes.IsInSpan, Private.Pending.Claims, declared.table.PageUse.TheVariants.Used}
+use Rattle.bolt_check.specs.{Nodes.IsInSpan, Private.Pending.ClaimsSpan, declared.table.PageUse.TheVariants.Used}
 
 pub not_both : (t : List PageUse) (k : ℕ) → IsUnclaimed t k → IsClaimed t k → ⊥
 not_both t k a b = cc
@@ -27,7 +27,7 @@ module _ (old new : List PageUse) (from last : ℕ) (below : (k : ℕ) → k < f
 pub span_claimed : (nodes : Nodes) (s : PageSpot) (node : Node) (old new : List PageUse) (last : ℕ) → last ≡ s.number + node.overflow → nodes s.number ≡ Ok node
     → use_at new s.number ≡ use_of node.is_leaf → ((k : ℕ) → s.number < k → k ≤ last → use_at new k ≡ Used)
     → ((k : ℕ) → s.number ≤ k → k ≤ last → IsClaimed new k)
-    → ((k : ℕ) → k < s.number → use_at new k ≡ use_at old k) → ((k : ℕ) → last < k → use_at new k ≡ use_at old k) → Claims nodes (At_page s) old new
+    → ((k : ℕ) → k < s.number → use_at new k ≡ use_at old k) → ((k : ℕ) → last < k → use_at new k ≡ use_at old k) → ClaimsSpan nodes (At_page s) old new
 span_claimed nodes s node old new last end page first later span below above =
     let place = outside old new s.number last below above in
     record {

@@ -1,4 +1,4 @@
--- Claiming lowers the count of what is unclaimed, and listing claims nothing.
+-- Claiming lowers the count of what is unclaimed, and listing an id claims nothing.
 use Rattle.std.proofs.Common.{◌≡◌, ◌≢◌, ◌↔◌, ◌∙◌, ℕ, ◌<◌, ◌≤◌, List, length, min, set, arith, cond, not, true, inl, inr, ap, get_or, get_or-set_other, get_or-set_same, refl, sym}
 use Rattle.std.proofs.lemmas.List.{get_or_past, set_past}
 use Rattle.std.proofs.lemmas.List.Sums.{sum_by-set}

@@ -6,19 +6,19 @@ use Rattle.bolt_check.proofs.{MarkLemmas.node_below, Visiting.Visits, Visiting.o
 use Rattle.bolt_check.specs.Ways.{reached}
 
 -- the page numbers that are left, without one
-abbrev pub without : (n : ℕ) (xs : List ℕ) → Has n xs → List ℕ
+abbrev pub without : (n : ℕ) (xs : List ℕ) → Has xs n → List ℕ
 without n [] h = []
 without n (x ∷ xs) (inl e) = xs
 without n (x ∷ xs) (inr h) = x ∷ without n xs h
 
-pub shorter : (n : ℕ) (xs : List ℕ) (h : Has n xs) → length (without n xs h) < length xs
+pub shorter : (n : ℕ) (xs : List ℕ) (h : Has xs n) → length (without n xs h) < length xs
 shorter n [] h = absurd h
 shorter n (x ∷ xs) (inl e) = omega arith
 shorter n (x ∷ xs) (inr h) = let less = shorter n xs h in omega (arith, less)
 
-pub still : (n m : ℕ) (xs : List ℕ) (h : Has n xs) → m ≢ n → Has m xs → Has m (without n xs h)
+pub still : (n m : ℕ) (xs : List ℕ) (h : Has xs n) → m ≢ n → Has xs m → Has (without n xs h) m
 still n m [] h ne k = absurd h
-still n m (x ∷ xs) (inl e) ne (inl k) = absurd (ne (k ∙ sym e))
+still n m (x ∷ xs) (inl e) ne (inl k) = absurd (ne (sym k ∙ e))
 still n m (x ∷ xs) (inl e) ne (inr k) = k
 still n m (x ∷ xs) (inr h) ne (inl k) = inl k
 still n m (x ∷ xs) (inr h) ne (inr k) = inr (still n m xs h ne k)
@@ -27,21 +27,21 @@ abbrev pub numbers : ℕ → List ℕ
 numbers zero = []
 numbers (suc k) = k ∷ numbers k
 
-pub has_number : (n k : ℕ) → n < k → Has n (numbers k)
+pub has_number : (n k : ℕ) → n < k → Has (numbers k) n
 has_number n zero h = absurd (omega arith)
-has_number n (suc k) h = elim (cases_eq n k) [ inl e ↦ inl e | inr ne ↦ inr (has_number n k (omega arith)) ]
+has_number n (suc k) h = elim (cases_eq n k) [ inl e ↦ inl (sym e) | inr ne ↦ inr (has_number n k (omega arith)) ]
 
 -- the pages that ways lead to are good, each led to once, and left
 pub record Fits (nodes : Nodes) (left : List ℕ) (reach : Reach) : Type 0 where
   pub good : (way : List ℕ) (s : PageSpot) → reach way ≡ Some (At_page s) → (node : Node) × (nodes s.number ≡ Ok node)
-  pub within : (way : List ℕ) (s : PageSpot) → reach way ≡ Some (At_page s) → Has s.number left
+  pub within : (way : List ℕ) (s : PageSpot) → reach way ≡ Some (At_page s) → Has left s.number
   pub apart : (v w : List ℕ) (s t : PageSpot) → reach v ≡ Some (At_page s) → reach w ≡ Some (At_page t) → s.number ≡ t.number → v ≡ w
 
 module _ (nodes : Nodes) {left : List ℕ} {old : Reach} (fits : Fits nodes left old) where
   -- so it is with ways that are different ways there, and lead to pages that are still left
   fits_along : (rest : List ℕ) (new : Reach) (f : List ℕ → List ℕ) → ((b : List ℕ) (t : Spot) → new b ≡ Some t → old (f b) ≡ Some t)
       → ((a b : List ℕ) (t u : Spot) → new a ≡ Some t → new b ≡ Some u → f a ≡ f b → a ≡ b)
-      → ((b : List ℕ) (t : PageSpot) → new b ≡ Some (At_page t) → Has t.number left → Has t.number rest) → Fits nodes rest new
+      → ((b : List ℕ) (t : PageSpot) → new b ≡ Some (At_page t) → Has left t.number → Has rest t.number) → Fits nodes rest new
   fits_along rest new f same one stays = record {
     good = λ b t e. fits.good (f b) t (same b (At_page t) e);
     within = λ b t e. stays b t e (fits.within (f b) t (same b (At_page t) e));
@@ -52,7 +52,7 @@ module _ (nodes : Nodes) {left : List ℕ} {old : Reach} (fits : Fits nodes left
   fits_visited {new = new} {f = f} v = fits_along left new f v.same (one_of v) (λ b t e h. h)
 
   -- after a page's visit it isn't left
-  pub fits_page : {new : Reach} {first : List ℕ} {f : List ℕ → List ℕ} (s : PageSpot) → Visits old new (Some (At_page s)) first f → (h : Has s.number left)
+  pub fits_page : {new : Reach} {first : List ℕ} {f : List ℕ → List ℕ} (s : PageSpot) → Visits old new (Some (At_page s)) first f → (h : Has left s.number)
       → Fits nodes (without s.number left h) new
   fits_page {new = new} {first = first} {f = f} s v h = fits_along (without s.number left h) new f v.same (one_of v)
       (λ b t e. still s.number t.number left h (λ same.

@@ -1,57 +1,35 @@
 -- Tours: there is at most one, and a visit puts a way before those of what is left.
-use Rattle.std.proofs.Common.{◌≡◌, ◌∙◌, ℕ, inl, inr, List, [], ◌∷◌, map, Option, Some, None, refl, sym, ap, subst}
+use Rattle.std.proofs.Common.{◌≡◌, ◌∙◌, ℕ, inl, inr, List, [], ◌∷◌, map, Option, Some, None, refl, sym, subst}
 use Rattle.bolt_check.proofs.{Words.Before, Words.Has, Words.IsTour, Words.none-some, Words.Reach, Words.Spot, Visiting.Visits}
-use Rattle.bolt_check.proofs.{Rising.RisesBy, Rising.same_lists, WayOrder.before_strict}
-use Rattle.bolt_check.specs.Tours.{IsBeforeAll, Rises}
+use Rattle.bolt_check.proofs.{Lists.has_map, Lists.map_has, Lists.one_list, WayOrder.before_strict}
+use Rattle.bolt_check.specs.Lists.{RisesBy}
 
 abbrev pub Ways : Type 0
 Ways = List (List ℕ)
 
-pub in_map : (f : List ℕ → List ℕ) (way : List ℕ) (ways : Ways) → Has way ways → Has (f way) (map f ways)
-in_map f way [] h = h
-in_map f way (v ∷ ways) (inl e) = inl (ap f e)
-in_map f way (v ∷ ways) (inr h) = inr (in_map f way ways h)
-
-pub from_map : (f : List ℕ → List ℕ) (v : List ℕ) (ways : Ways) → Has v (map f ways) → (way : List ℕ) × (Has way ways × (v ≡ f way))
-from_map f v [] h = absurd h
-from_map f v (w ∷ ways) (inl e) = (w, (inl refl, e))
-from_map f v (w ∷ ways) (inr h) = let p = from_map f v ways h in (p.0, (inr p.1.0, p.1.1))
-
-pub before_all : (v : List ℕ) (ways : Ways) → ((w : List ℕ) → Has w ways → Before v w) → IsBeforeAll v ways
-before_all v [] h = tt
-before_all v (w ∷ ways) h = (h w (inl refl), before_all v ways (λ x i. h x (inr i)))
-
-pub before_each : (v : List ℕ) (ways : Ways) → IsBeforeAll v ways → (w : List ℕ) → Has w ways → Before v w
-before_each v [] h w i = absurd i
-before_each v (x ∷ ways) h w (inl e) = rw e h.0
-before_each v (x ∷ ways) h w (inr i) = before_each v ways h.1 w i
-
-pub rises_map : (f : List ℕ → List ℕ) (ways : Ways) → ((a b : List ℕ) → Has a ways → Has b ways → Before a b → Before (f a) (f b)) → Rises ways → Rises (map f ways)
+pub rises_map : (f : List ℕ → List ℕ) (ways : Ways) → ((a b : List ℕ) → Has ways a → Has ways b → Before a b → Before (f a) (f b)) → RisesBy Before ways
+    → RisesBy Before (map f ways)
 rises_map f [] up h = tt
 rises_map f (v ∷ ways) up h = (
-  before_all (f v) (map f ways) (λ w i. let p = from_map f w ways i in rw p.1.1 (up v p.0 (inl refl) (inr p.1.0) (before_each v ways h.0 p.0 p.1.0))),
+  λ w i. let p = map_has f ways w i in subst (Before (f v)) p.2 (up v p.0 (inl refl) (inr p.1) (h.0 p.0 p.1)),
   rises_map f ways (λ a b i j. up a b (inr i) (inr j)) h.1,
 )
 
-rises_by : (ways : Ways) → Rises ways → RisesBy Before ways
-rises_by [] h = tt
-rises_by (v ∷ ways) h = (before_each v ways h.0, rises_by ways h.1)
-
 pub one_tour : (reach : Reach) (a b : Ways) → IsTour reach a → IsTour reach b → a ≡ b
 one_tour reach a b h k =
-    same_lists Before before_strict a b (rises_by a h.rises) (rises_by b k.rises) (λ x i. let p = h.only x i in k.all x p.0 p.1)
+    one_list Before before_strict a b h.rises k.rises (λ x i. let p = h.only x i in k.all x p.0 p.1)
     (λ x i. let p = k.only x i in h.all x p.0 p.1)
 
 module _ {old new : Reach} {o : Option Spot} {first : List ℕ} {f : List ℕ → List ℕ} (v : Visits old new o first f) (tour : Ways) (is : IsTour new tour) where
-  map_rises : Rises (map f tour)
+  map_rises : RisesBy Before (map f tour)
   map_rises = rises_map f tour (λ a b i j. let p = is.only a i in let q = is.only b j in v.rising a b p.0 q.0 p.1 q.1) is.rises
 
-  map_all : (way b : List ℕ) (t : Spot) → way ≡ f b → new b ≡ Some t → Has way (map f tour)
-  map_all way b t same leads = subst (λ (z : List ℕ). Has z (map f tour)) (sym same) (in_map f b tour (is.all b t leads))
+  map_all : (way b : List ℕ) (t : Spot) → way ≡ f b → new b ≡ Some t → Has (map f tour) way
+  map_all way b t same leads = subst (λ (z : List ℕ). Has (map f tour) z) (sym same) (has_map f tour b (is.all b t leads))
 
-  map_only : (way : List ℕ) → Has way (map f tour) → (s : Spot) × (old way ≡ Some s)
-  map_only way h = let p = from_map f way tour h in let q = is.only p.0 p.1.0 in
-      (q.0, subst (λ (z : List ℕ). old z ≡ Some q.0) (sym p.1.1) (v.same p.0 q.0 q.1))
+  map_only : (way : List ℕ) → Has (map f tour) way → (s : Spot) × (old way ≡ Some s)
+  map_only way h = let p = map_has f tour way h in let q = is.only p.0 p.1 in
+      (q.0, subst (λ (z : List ℕ). old z ≡ Some q.0) p.2 (v.same p.0 q.0 q.1))
 
   -- the ways to what is left, as ways of the whole
   pub tour_map : o ≡ None → IsTour old (map f tour)
@@ -65,10 +43,9 @@ module _ {old new : Reach} {o : Option Spot} {first : List ℕ} {f : List ℕ �
   pub tour_step : (s : Spot) → o ≡ Some s → IsTour old (first ∷ map f tour)
   tour_step s at = record {
     rises = (
-      before_all first (map f tour) (λ w i. let p = from_map f w tour i in let q = is.only p.0 p.1.0 in subst (Before first) (sym p.1.1)
-          (v.after s at p.0 q.0 q.1)),
+      λ w i. let p = map_has f tour w i in let q = is.only p.0 p.1 in subst (Before first) p.2 (v.after s at p.0 q.0 q.1),
       map_rises,
     );
-    all = λ way t e. elim (v.all way t e) [ inl same ↦ inl same.0 | inr (b, (same, leads)) ↦ inr (map_all way b t same leads) ];
-    only = λ way i. elim i [ inl same ↦ (s, subst (λ (z : List ℕ). old z ≡ Some s) (sym same) (v.leads s at)) | inr h ↦ map_only way h ];
+    all = λ way t e. elim (v.all way t e) [ inl same ↦ inl (sym same.0) | inr (b, (same, leads)) ↦ inr (map_all way b t same leads) ];
+    only = λ way i. elim i [ inl same ↦ (s, subst (λ (z : List ℕ). old z ≡ Some s) same (v.leads s at)) | inr h ↦ map_only way h ];
   }

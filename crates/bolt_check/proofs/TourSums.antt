@@ -2,7 +2,7 @@
 use Rattle.std.proofs.Common.{◌≡◌, ◌∙◌, ◌==◌, ℕ, zero, suc, ◌+◌, ◌≤◌, inl, inr, Bool, true, false, List, [], ◌∷◌, ◌++◌, Option, Some, None, Result, Ok, cond, length, map, sum_by, refl, sym, ap, subst, arith}
 use Rattle.bolt_check.proofs.Words.{At_inline, At_page, Entry, forest, Has, HasSoundTrees, IsSome, IsTour, Key, Meta, Node, node_at, Nodes, page_at, PageSpot, places, Reach, root_spot, somes, Spot, sum_by-cons}
 use Rattle.bolt_check.proofs.Forest.{forest_empty, inline_visits, nothing_is, page_visits, root_visits, tail}
-use Rattle.bolt_check.proofs.MarkLemmas.{node_shown}
+use Rattle.bolt_check.proofs.{Lists.has_left, Lists.has_right, MarkLemmas.node_shown}
 use Rattle.bolt_check.proofs.TourExists.{Fits, bucket_fits, fits_page, fits_visited, numbers, shorter, without}
 use Rattle.bolt_check.proofs.{TourLemmas.Ways, TourLemmas.tour_map, TourLemmas.tour_step, Visiting.Visits}
 use Rattle.bolt_check.specs.{Subtrees.Enough, Subtrees.kid_pages, Subtrees.kids_at, Subtrees.root_page, Subtrees.weight, Ways.reached}
@@ -36,25 +36,11 @@ pub sum_append : (f : ℕ → ℕ) (a b : List ℕ) → sum_by f (a ++ b) ≡ su
 sum_append f [] b = omega arith
 sum_append f (x ∷ a) b = let h = sum_append f a b in let p = sum_by-cons f x (a ++ b) in let q = sum_by-cons f x a in omega (arith, h, p, q)
 
-sum_same : (f g : ℕ → ℕ) (xs : List ℕ) → ((m : ℕ) → Has m xs → f m ≡ g m) → sum_by f xs ≡ sum_by g xs
+sum_same : (f g : ℕ → ℕ) (xs : List ℕ) → ((m : ℕ) → Has xs m → f m ≡ g m) → sum_by f xs ≡ sum_by g xs
 sum_same f g [] same = refl
 sum_same f g (x ∷ xs) same =
     let h = sum_same f g xs (λ m i. same m (inr i)) in let here = same x (inl refl) in
     let p = sum_by-cons f x xs in let q = sum_by-cons g x xs in omega (arith, h, here, p, q)
-
-pub has_left : (m : ℕ) (a b : List ℕ) → Has m a → Has m (a ++ b)
-has_left m [] b h = absurd h
-has_left m (x ∷ a) b (inl e) = inl e
-has_left m (x ∷ a) b (inr h) = inr (has_left m a b h)
-
-pub has_right : (m : ℕ) (a b : List ℕ) → Has m b → Has m (a ++ b)
-has_right m [] b h = h
-has_right m (x ∷ a) b h = inr (has_right m a b h)
-
-pub has_either : (m : ℕ) (a b : List ℕ) (P : ℕ → Type 0) → ((k : ℕ) → Has k a → P k) → ((k : ℕ) → Has k b → P k) → Has m (a ++ b) → P m
-has_either m [] b P f g h = g m h
-has_either m (x ∷ a) b P f g (inl e) = f m (inl e)
-has_either m (x ∷ a) b P f g (inr h) = has_either m a b P (λ k i. f k (inr i)) g h
 
 module _ (nodes : Nodes) where
   pub enough_more : (k n : ℕ) → Enough nodes k n → Enough nodes (suc k) n
@@ -65,14 +51,14 @@ module _ (nodes : Nodes) where
   weight_more own zero n h = absurd h
   weight_more own (suc k) n (node, page, kids) =
       let same : sum_by (weight nodes own (suc k)) (kids_at (nodes n)) ≡ sum_by (weight nodes own k) (kids_at (nodes n))
-      = sum_same (weight nodes own (suc k)) (weight nodes own k) (kids_at (nodes n)) (λ m i. weight_more own k m (kids m (subst (λ (r : Result Node ℕ). Has m (kids_at r)) page i))) in
+      = sum_same (weight nodes own (suc k)) (weight nodes own k) (kids_at (nodes n)) (λ m i. weight_more own k m (kids m (subst (λ (r : Result Node ℕ). Has (kids_at r) m) page i))) in
       ap (λ (w : ℕ). own n + w) same
 
   -- the pages that a page leads to
-  pub enough_kids : (k n : ℕ) (node : Node) → nodes n ≡ Ok node → Enough nodes k n → (m : ℕ) → Has m (kid_pages node.is_leaf node.entries) → Enough nodes k m
+  pub enough_kids : (k n : ℕ) (node : Node) → nodes n ≡ Ok node → Enough nodes k n → (m : ℕ) → Has (kid_pages node.is_leaf node.entries) m → Enough nodes k m
   enough_kids zero n node page h m i = absurd h
   enough_kids (suc k) n node page (other, is, kids) m i =
-      enough_more k m (kids m (subst (λ (x : Node). Has m (kid_pages x.is_leaf x.entries)) (one_node node other (sym page ∙ is)) i))
+      enough_more k m (kids m (subst (λ (x : Node). Has (kid_pages x.is_leaf x.entries) m) (one_node node other (sym page ∙ is)) i))
     where
       one_node : (a b : Node) → result_of a ≡ result_of b → a ≡ b
       one_node a b e = cc
@@ -81,7 +67,7 @@ module _ (nodes : Nodes) where
   weight_kids own zero n node page h = absurd h
   weight_kids own (suc k) n node page (other, is, kids) =
       let at : kids_at (nodes n) ≡ kid_pages node.is_leaf node.entries = ap kids_at page in
-      let low : (m : ℕ) → Has m (kids_at (nodes n)) → Enough nodes k m = λ m i. kids m (subst (λ (r : Result Node ℕ). Has m (kids_at r)) is i) in
+      let low : (m : ℕ) → Has (kids_at (nodes n)) m → Enough nodes k m = λ m i. kids m (subst (λ (r : Result Node ℕ). Has (kids_at r) m) is i) in
       ap (λ (w : ℕ). own n + w) (sum_same (weight nodes own k) (weight nodes own (suc k)) (kids_at (nodes n)) (λ m i. sym (weight_more own k m (low m i))) ∙ ap (sum_by (weight nodes own (suc k))) at)
 
   -- what a spot adds: a page its own, an inline bucket nothing
@@ -90,7 +76,7 @@ module _ (nodes : Nodes) where
   spot_weight own (Some (At_page s)) = own s.number
   spot_weight own (Some (At_inline host keys)) = 0
 
-  sum_map : (f : List ℕ → List ℕ) (g h : List ℕ → ℕ) (ways : Ways) → ((way : List ℕ) → Has way ways → g (f way) ≡ h way) → sum_by g (map f ways) ≡ sum_by h ways
+  sum_map : (f : List ℕ → List ℕ) (g h : List ℕ → ℕ) (ways : Ways) → ((way : List ℕ) → Has ways way → g (f way) ≡ h way) → sum_by g (map f ways) ≡ sum_by h ways
   sum_map f g h [] same = refl
   sum_map f g h (w ∷ ways) same =
       let rest = sum_map f g h ways (λ x i. same x (inr i)) in let here = same w (inl refl) in
@@ -99,7 +85,7 @@ module _ (nodes : Nodes) where
   module _ (own : ℕ → ℕ) where
     -- n steps are enough below the pages of these spots, which have a tour, and the sum over it is that over the pages
     abbrev Summed : ℕ → List Spot → Type 0
-    Summed n spots = ((m : ℕ) → Has m (pages_of spots) → Enough nodes n m)
+    Summed n spots = ((m : ℕ) → Has (pages_of spots) m → Enough nodes n m)
         × ((tour : Ways) × IsTour (forest nodes spots) tour ×
         (sum_by (λ way. spot_weight own (forest nodes spots way)) tour ≡ sum_by (weight nodes own n) (pages_of spots)))
 
@@ -122,18 +108,18 @@ module _ (nodes : Nodes) where
         let kids : List ℕ = kid_pages node.is_leaf node.entries in
         let pages : pages_of (kid_spots ++ rest) ≡ kids ++ pages_of rest
         = pages_append kid_spots rest ∙ ap (λ (l : List ℕ). l ++ pages_of rest) (pages_of_kids node.is_leaf s node.entries) in
-        let good : (m : ℕ) → Has m (kids ++ pages_of rest) → Enough nodes n m = λ m h. all m (subst (λ (l : List ℕ). Has m l) (sym pages) h) in
+        let good : (m : ℕ) → Has (kids ++ pages_of rest) m → Enough nodes n m = λ m h. all m (subst (λ (l : List ℕ). Has l m) (sym pages) h) in
         let v = page_visits nodes s node rest page in
         let first = step_sum (At_page s) v tour is in
         let both = ap (sum_by (weight nodes own n)) pages ∙ sum_append (weight nodes own n) kids (pages_of rest) in
         let others = sum_same (weight nodes own n) (weight nodes own (suc n)) (pages_of rest)
-        (λ m h. sym (weight_more own n m (good m (has_right m kids (pages_of rest) h)))) in
+        (λ m h. sym (weight_more own n m (good m (has_right kids (pages_of rest) m h)))) in
         let here : weight nodes own (suc n) s.number ≡ own s.number + sum_by (weight nodes own n) kids
         = ap (λ (r : Result Node ℕ). own s.number + sum_by (weight nodes own n) (kids_at r)) page in
         let whole = sum_by-cons (weight nodes own (suc n)) s.number (pages_of rest) in (
           λ m h. elim h [
-            | inl e ↦ subst (Enough nodes (suc n)) (sym e) (node, page, λ x i. good x (has_left x kids (pages_of rest) i))
-            | inr i ↦ enough_more n m (good m (has_right m kids (pages_of rest) i))
+            | inl e ↦ subst (Enough nodes (suc n)) e (node, page, λ x i. good x (has_left kids (pages_of rest) x i))
+            | inr i ↦ enough_more n m (good m (has_right kids (pages_of rest) m i))
           ],
           (_, tour_step v tour is (At_page s) refl, omega (arith, first, sum, both, others, here, whole)),
         )

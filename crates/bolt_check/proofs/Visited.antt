@@ -5,7 +5,7 @@ use Rattle.std.specs.Prelude.{IfErr, IsErrAnd}
 use Rattle.bolt_check.proofs.Words.{At_inline, At_page, Carries, Finding, forest, inline_finding, IsClaimed, IsClean, IsCovered, IsFirst, IsMetaPage, IsMetaUse, IsNoted, IsSearchFault, Key, kids, Node, Nodes, PagePasses, PageSpot, PageUse, Reach, root_spot, Spot, spot_at, spots_of, Structure}
 use Rattle.bolt_check.proofs.{Forest.clean_end, Forest.covered_end, Forest.inline_visits, Forest.page_visits, Forest.root_visits, Pendings.spots_push}
 use Rattle.bolt_check.proofs.Visiting.{carries}
-use Rattle.bolt_check.specs.{Private.Pending.Claims, Ways.reached, declared.fault.CheckFault.CheckFault, declared.visit.Spot.Spot as CodeSpot}
+use Rattle.bolt_check.specs.{Private.Pending.ClaimsSpan, Ways.reached, declared.fault.CheckFault.CheckFault, declared.spot.Spot.Spot as CodeSpot}
 
 -- the beginning of the search: the root alone, and the metas claimed
 pub begin_carries : (nodes : Nodes) (root : ℕ) (items : List CodeSpot) (table : List PageUse) → spots_of items ≡ At_page (root_spot root) ∷ []
@@ -17,7 +17,7 @@ begin_carries nodes root items table e metas uses =
 
 -- a page's visit
 pub page_carries : (nodes : Nodes) (s : PageSpot) (node : Node) (rest after : List Spot) (old new : List PageUse) → nodes s.number ≡ Ok node
-    → after ≡ kids node s ++ rest → Claims nodes (At_page s) old new → PagePasses nodes (IsClaimed old) s
+    → after ≡ kids node s ++ rest → ClaimsSpan nodes (At_page s) old new → PagePasses nodes (IsClaimed old) s
     → Carries nodes (forest nodes (At_page s ∷ rest)) (IsClaimed old) (IsNoted old) (forest nodes after) (IsClaimed new) (IsNoted new)
 unfolding kids
 page_carries nodes s node rest after old new page pushed claims passes = rw pushed (carries nodes (page_visits nodes s node rest page) claims passes)

@@ -6,20 +6,20 @@ pub use Rattle.bolt_check.specs.Findings.{IsClaimedBefore, IsClean, IsCovered, I
 pub use Rattle.bolt_check.specs.Keys.{Key, is_above, is_below, is_from, key_lt, keys_order_fault}
 pub use Rattle.bolt_check.specs.{Nodes.Entry, Nodes.Node, Nodes.Nodes, Nodes.branch_entry, Nodes.leaf_entry, Nodes.node_of, Nodes.node_seen, OnWays.IsOnWay}
 pub use Rattle.bolt_check.specs.Private.Carries.{Carries}
-pub use Rattle.bolt_check.specs.Private.Listings.{AreAllFindings, AreFindingsBelow, ClaimsFreelist, ClaimsUses, HasFindingsTo, IsBeyondTo, IsPastTo, IsRun, IsSettled, IsUnlisted, is_in_use, page_findings, run_findings}
+pub use Rattle.bolt_check.specs.Private.Freelists.{AreAllFindings, AreFindingsBelow, ClaimsFreelist, ClaimsUses, HasFindingsTo, IsBeyondTo, IsPastTo, IsLostInterval, IsSettled, IsUnlisted, is_in_use, page_findings, interval_findings}
 pub use Rattle.bolt_check.specs.{Private.Pending.forest, Private.Pending.somes, Private.Pending.spots_of, Private.SearchFaults.IsSearchFault}
 pub use Rattle.bolt_check.specs.Private.Tables.{HasRoom, IsClaimed, IsUnclaimed, first_use, is_used, times_of, unclaimed, use_at}
 pub use Rattle.bolt_check.specs.Private.Uses.{HasUse, IsMetaUse, IsNoted, UseAt, UseOf, use_of}
 pub use Rattle.bolt_check.specs.{Roles.HasRole, Roles.IsFirstPage, Shape.HasShape, Shape.child_at, Shape.child_in, Shape.leads}
 pub use Rattle.bolt_check.specs.ShownSpots.{bound_of, inline_keys, page_spot, spot_at}
-pub use Rattle.bolt_check.specs.{Sound.HasRightAccounts, Sound.HasSoundTrees, Sound.IsFirstFinding, Sound.IsSound, Sound.IsUsed, Subtrees.Has, Tours.IsTour}
+pub use Rattle.bolt_check.specs.{Sound.HasRightAccounts, Sound.HasSoundTrees, Sound.IsFirstFinding, Sound.IsSound, Sound.IsUsed, Lists.Has, Tours.IsTour}
 pub use Rattle.bolt_check.specs.Ways.{At_inline, At_page, Before, PageSpot, Reach, SpanAt, SpanHas, SpanOf, Spot, bucket_spot, child_spot, follow, root_spot, step, step_entry, step_on, upper_from}
-pub use Rattle.bolt_check.specs.{declared.Checked.Checked, declared.fault.CheckFault.TheVariants.Structure, declared.fault.Finding.Finding}
-pub use Rattle.bolt_check.specs.declared.fault.TheConstants.Finding.{FREED_TWICE, FREE_RANGE, TWICE}
-pub use Rattle.bolt_check.specs.{declared.listing.Listing.Listing, declared.role_table.Role.Role, declared.table.PageUse.PageUse}
+pub use Rattle.bolt_check.specs.{declared.checked.Checked.Checked, declared.fault.CheckFault.TheVariants.Structure, declared.finding.Finding.Finding}
+pub use Rattle.bolt_check.specs.declared.finding.TheConstants.Finding.{FREED_TWICE, FREE_RANGE, TWICE}
+pub use Rattle.bolt_check.specs.{declared.freelist.Freelist.Freelist, declared.role_table.Role.Role, declared.table.PageUse.PageUse}
 pub use Rattle.bolt_check.specs.declared.table.PageUse.TheVariants.{Free, FreeTwice, Unused, UsedFree, UsedFreeTwice}
 pub use Rattle.bolt_check.specs.declared.tree_page.TreePage.{TreePage}
-unfoldable pub use Rattle.bolt_check.specs.{CheckedFiles.bytes_of, CheckedFiles.meta_of, Claims.claims_file, Nodes.node_at, Private.Listings.listed_times}
+unfoldable pub use Rattle.bolt_check.specs.{CheckedFiles.bytes_of, CheckedFiles.meta_of, Claims.claims_file, Nodes.node_at, Private.Freelists.listed_times}
 unfoldable pub use Rattle.bolt_check.specs.{Private.Pending.kids, RoledFiles.roles_checked, ShownNodes.shown_node}
 pub use Rattle.bolt_format.proofs.{FaultLemmas.first_of-none, PageFacts.span_within}
 pub use Rattle.bolt_format.specs.{ElementPlaces.leaf_view, Elements.BranchElement, Elements.LeafElement, Elements.head_root}

@@ -1,8 +1,8 @@
 -- What is reported if the freelist doesn't have exactly the free pages: docs/SOUND.md, "Accounts".
 use Rattle.std.specs.Prelude.{◌≡◌, ◌≢◌, ◌≤◌, ◌<◌, ◌⊎◌, ◌↔◌, ℕ, suc, List, [], ◌∷◌, AllPairs, Contains, Some}
 use Rattle.bolt_format.specs.{Freelists.free_ids_of, Freelists.freelist_fault_of, declared.meta.Meta.Meta, declared.meta.TheConstants.NO_FREELIST}
-use Rattle.bolt_check.specs.{Accounts.IsFree, Accounts.IsInFreelist, Accounts.IsInUse, Accounts.times_in, Findings.finding, declared.fault.Finding.Finding}
-use Rattle.bolt_check.specs.declared.fault.TheConstants.Finding.{FREED_TWICE, FREE_RANGE, REACHED_FREED, TWICE, UNREACHABLE}
+use Rattle.bolt_check.specs.{Accounts.IsFree, Accounts.IsInFreelist, Accounts.IsInUse, Accounts.times_in, Findings.finding, declared.finding.Finding.Finding}
+use Rattle.bolt_check.specs.declared.finding.TheConstants.Finding.{FREED_TWICE, FREE_RANGE, REACHED_FREED, TWICE, UNREACHABLE}
 
 -- what is wrong with the freelist's own page: its first fault, or the lowest page of its span that is used
 pub data IsFreelistFinding (file : List ℕ) (meta : Meta) (used : ℕ → Type 0) : Finding → Type 0 where
@@ -22,13 +22,13 @@ pub record IsLost (mark : ℕ) (in_use : ℕ → Type 0) (times : ℕ → ℕ) (
 pub data IsAccountFinding (mark : ℕ) (in_use : ℕ → Type 0) (times : ℕ → ℕ) : Finding → Type 0 where
   freed_twice : {n : ℕ} → IsInRange mark n → 2 ≤ times n → IsAccountFinding mark in_use times (finding FREED_TWICE n)
   reached_freed : {n : ℕ} → IsInRange mark n → 1 ≤ times n → in_use n → IsAccountFinding mark in_use times (finding REACHED_FREED n)
-  -- a longest run of lost pages
+  -- a longest interval of lost pages
   unreachable : {page last : ℕ} → page ≤ last → ((n : ℕ) → page ≤ n → n ≤ last → IsLost mark in_use times n)
       → (IsLost mark in_use times (suc last) → ⊥) → ((before : ℕ) → suc before ≡ page → IsLost mark in_use times before → ⊥)
       → IsAccountFinding mark in_use times (record { number = UNREACHABLE; page = page; last = last })
   out_of_range : {n : ℕ} → (n < 2) ⊎ (mark ≤ n) → 1 ≤ times n → IsAccountFinding mark in_use times (finding FREE_RANGE n)
 
--- by page, and then by number
+-- by page, and then by the rule's code
 abbrev pub IsBefore : Finding → Finding → Type 0
 IsBefore a b = (a.page < b.page) ⊎ ((a.page ≡ b.page) × (a.number < b.number))
 

@@ -4,7 +4,7 @@ use Rattle.std.specs.Ordering.{nat_cmp, is_lt}
 use Rattle.std.specs.Cmp.Lexicographic.{slice_cmp}
 use Rattle.std.specs.declared.cmp.Ordering.{Ordering}
 use Rattle.bolt_format.specs.Elements.{first_of}
-use Rattle.bolt_check.specs.declared.fault.TheConstants.Finding.{ORDER, BELOW_PARENT, ABOVE_NEXT}
+use Rattle.bolt_check.specs.declared.finding.TheConstants.Finding.{ORDER, BELOW_PARENT, ABOVE_NEXT}
 
 abbrev pub Key : Type 0
 Key = List ℕ

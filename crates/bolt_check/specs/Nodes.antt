@@ -3,7 +3,7 @@ use Rattle.std.specs.Prelude.{◌≤◌, ℕ, ◌+◌, Bool, true, false, List, 
 use Rattle.bolt_format.specs.Elements.{BranchElement, LeafElement, head_root, inline_elements}
 use Rattle.bolt_format.specs.{Pages.PageView, Pages.page_at, Pages.page_fault, declared.meta.Meta.Meta, declared.header.Kind.Kind}
 use Rattle.bolt_format.specs.declared.header.Kind.TheVariants as kind
-use Rattle.bolt_format.specs.declared.open_page.TheConstants.PageFault.{PAGE_KIND}
+use Rattle.bolt_format.specs.declared.page_fault.TheConstants.PageFault.{PAGE_KIND}
 
 -- An entry leads to a page. If the page is 0 and the entry is a bucket, it leads to an inline bucket with these keys.
 pub record Entry : Type 0 where

@@ -1,7 +1,7 @@
 -- What private contracts and proofs cite, and no public one.
 pub mod Carries
+pub mod Freelists
 pub mod LeafTests
-pub mod Listings
 pub mod Pending
 pub mod RoleTables
 pub mod SearchFaults

@@ -2,8 +2,8 @@
 use Rattle.std.specs.Prelude.{◌≡◌, ℕ, List, map, Option, Some, None}
 use Rattle.std.specs.Borrow.{Bor}
 use Rattle.bolt_format.specs.{ShownInline.shown_inline, Elements.LeafElement, Elements.inline_elements, declared.bucket.Inline.Inline}
-use Rattle.bolt_check.specs.{Keys.Key, Ways.At_inline, Ways.At_page, Ways.PageSpot, Ways.Spot, declared.visit.PageSpot.PageSpot as CodePageSpot}
-use Rattle.bolt_check.specs.{declared.visit.Spot.Spot as CodeSpot, declared.visit.Spot.TheVariants.Page, declared.visit.Spot.TheVariants.Bucket}
+use Rattle.bolt_check.specs.{Keys.Key, Ways.At_inline, Ways.At_page, Ways.PageSpot, Ways.Spot, declared.spot.PageSpot.PageSpot as CodePageSpot}
+use Rattle.bolt_check.specs.{declared.spot.Spot.Spot as CodeSpot, declared.spot.Spot.TheVariants.Page, declared.spot.Spot.TheVariants.Bucket}
 
 abbrev pub bound_of : Option (Bor (List ℕ)) → Option (List ℕ)
 bound_of None = None

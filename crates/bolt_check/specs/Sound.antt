@@ -1,10 +1,10 @@
 -- Sound files, and what is reported of the others: docs/SOUND.md.
-use Rattle.std.specs.Prelude.{◌≢◌, ℕ, List, [], Bool, true, IsTrue}
-use Rattle.bolt_format.specs.{Metas.HasMetaFault, Metas.HasSlotFault, Metas.IsChosen, Metas.IsInSlot, declared.meta.Meta.Meta, declared.meta.Slot.Slot}
+use Rattle.std.specs.Prelude.{◌≢◌, ℕ, List, [], Bool, true, false, IsTrue}
+use Rattle.bolt_format.specs.{Metas.HasMetaFault, Metas.HasSlotFault, Metas.IsActive, Metas.IsInSlot, declared.meta.Meta.Meta, declared.meta.Slot.Slot}
 use Rattle.bolt_check.specs.{Accounts.HasAccounts, Findings.IsClean, Findings.IsCovered, Findings.IsFirst, Findings.IsMetaPage, Nodes.node_at, Shape.HasShape}
 use Rattle.bolt_check.specs.{AccountFindings.AreAccountFindings, ShownFindings.findings_in, Ways.reached, declared.fault.CheckFault.CheckFault}
 use Rattle.bolt_check.specs.declared.fault.CheckFault.TheVariants.{Accounts, Memory, Open, Structure}
-use Rattle.bolt_check.specs.declared.fault.Finding.{Finding}
+use Rattle.bolt_check.specs.declared.finding.Finding.{Finding}
 
 -- page n is a meta page, or in the span of a page that a way leads to
 abbrev pub IsUsed : List ℕ → Meta → ℕ → Type 0
@@ -38,25 +38,26 @@ pub record IsTested (file : List ℕ) (meta : Meta) (accounts : Bool) : Type 0 w
   pub trees : HasSoundTrees file meta
   pub whole : IsTrue accounts → IsSound file meta true
 
--- why the file isn't sound for the active meta
+-- Why the file isn't sound for this meta: the first finding of its trees; or, if they are sound and the accounts are tested too, all findings
+-- of its accounts. Or memory ran out.
+abbrev pub IsRefusedFor : List ℕ → Meta → Bool → CheckFault → Type 0
+IsRefusedFor file meta accounts (Open fault) = ⊥
+IsRefusedFor file meta accounts (Structure x) = IsFirstFinding file meta x
+IsRefusedFor file meta false (Accounts reported) = ⊥
+IsRefusedFor file meta true (Accounts reported) =
+    HasSoundTrees file meta × (HasRightAccounts file meta → ⊥) × AreAccountFindings file meta (IsUsed file meta) (findings_in reported)
+    × (findings_in reported ≢ [])
+IsRefusedFor file meta accounts Memory = Unit {0}
+
+-- why it isn't for the active meta: there is none, or it isn't for that
 abbrev pub IsRefused : List ℕ → CheckFault → Type 0
 IsRefused file (Open fault) = HasMetaFault file 0 fault × ((slot : Slot) (meta : Meta) → IsInSlot file slot meta → ⊥)
-IsRefused file (Structure x) = (slot : Slot) × (meta : Meta) × IsChosen file slot meta × IsFirstFinding file meta x
-IsRefused file (Accounts reported) =
-    (slot : Slot) × (meta : Meta) × IsChosen file slot meta × HasSoundTrees file meta × (HasRightAccounts file meta → ⊥)
-    × AreAccountFindings file meta (IsUsed file meta) (findings_in reported) × (findings_in reported ≢ [])
 IsRefused file Memory = Unit {0}
+IsRefused file fault = (slot : Slot) × (meta : Meta) × IsActive file slot meta × IsRefusedFor file meta true fault
 
--- why the trees of the file aren't sound for this meta
-abbrev pub AreTreesRefused : List ℕ → Meta → CheckFault → Type 0
-AreTreesRefused file meta (Structure x) = IsFirstFinding file meta x
-AreTreesRefused file meta Memory = Unit {0}
-AreTreesRefused file meta (Open fault) = ⊥
-AreTreesRefused file meta (Accounts reported) = ⊥
-
--- why the trees of the file aren't sound for the meta of this slot
+-- why its trees aren't for the meta of this slot
 abbrev pub IsSlotRefused : List ℕ → Slot → CheckFault → Type 0
 IsSlotRefused file slot (Open fault) = HasSlotFault file slot fault × ((meta : Meta) → IsInSlot file slot meta → ⊥)
-IsSlotRefused file slot (Structure x) = (meta : Meta) × IsInSlot file slot meta × IsFirstFinding file meta x
 IsSlotRefused file slot (Accounts reported) = ⊥
 IsSlotRefused file slot Memory = Unit {0}
+IsSlotRefused file slot fault = (meta : Meta) × IsInSlot file slot meta × IsRefusedFor file meta false fault

@@ -1,11 +1,6 @@
 -- The pages below a page, and sums over them: docs/SOUND.md, "Ways".
-use Rattle.std.specs.Prelude.{◌≡◌, ◌==◌, ◌⊎◌, ℕ, zero, suc, ◌+◌, Bool, true, false, List, [], ◌∷◌, ◌++◌, Result, Ok, Err, cond, sum_by}
-use Rattle.bolt_check.specs.Nodes.{Entry, Node, Nodes}
-
--- x is one of these
-abbrev pub Has : {X : Type 0} → X → List X → Type 0
-Has x [] = ⊥
-Has x (y ∷ ys) = (x ≡ y) ⊎ Has x ys
+use Rattle.std.specs.Prelude.{◌≡◌, ◌==◌, ℕ, zero, suc, ◌+◌, Bool, true, false, List, [], ◌∷◌, ◌++◌, Result, Ok, Err, cond, sum_by}
+use Rattle.bolt_check.specs.{Lists.Has, Nodes.Entry, Nodes.Node, Nodes.Nodes}
 
 -- the root page of the bucket that an entry of a leaf is, unless it is inline
 abbrev pub root_page : Entry → List ℕ
@@ -25,7 +20,7 @@ module _ (nodes : Nodes) where
   -- so many steps are enough below page n, and all pages there are good
   abbrev pub Enough : ℕ → ℕ → Type 0
   Enough zero n = ⊥
-  Enough (suc k) n = (node : Node) × (nodes n ≡ Ok node) × ((m : ℕ) → Has m (kid_pages node.is_leaf node.entries) → Enough k m)
+  Enough (suc k) n = (node : Node) × (nodes n ≡ Ok node) × ((m : ℕ) → Has (kid_pages node.is_leaf node.entries) m → Enough k m)
 
   -- the sum over page n and all pages below it, that are so many steps deep
   abbrev pub weight : (ℕ → ℕ) → ℕ → ℕ → ℕ

@@ -2,12 +2,12 @@
 ghost use Rattle.std.specs.Prelude.{◌≡◌, ◌≢◌, ◌≤◌, ◌<◌, ◌+◌, ◌∷◌, ℕ, [], IfOk, IfSome, MatchOption, None, OnOk, length};
 ghost use Rattle.bolt_format.specs.{Freelists.freelist_fault_of, declared.meta.TheConstants.NO_FREELIST, ShownIds.shown_ids};
 ghost use Rattle.bolt_check.specs.{AccountFindings.AreAccountFindings, Accounts.HasAccounts, Accounts.IsInFreelist, Accounts.times_in};
-ghost use Rattle.bolt_check.specs.Private.Listings.{AreAllFindings, ClaimsFreelist, ClaimsUses, IsUnlisted};
+ghost use Rattle.bolt_check.specs.Private.Freelists.{AreAllFindings, ClaimsFreelist, ClaimsUses, IsUnlisted};
 ghost use Rattle.bolt_check.specs.Private.Tables.{HasRoom, IsClaimed, is_used, use_at};
 
-use crate::fault::Finding;
-use crate::listing::{Listing, list_ids};
-use crate::listing_findings::report_listing;
+use crate::finding::Finding;
+use crate::freelist::{Freelist, list_ids};
+use crate::freelist_findings::all_findings;
 use crate::table::{PageUse, claim, first_claimed};
 use bolt_format::{FreeIds, Meta, free_ids, known};
 use std::alloc::{AllocError, Global};
@@ -87,10 +87,10 @@ fn test_ids(
 {
     let mut past = list_ids(alloc, ids, table)?;
     past.sort_unstable();
-    let listing = Listing {
+    let freelist = Freelist {
         table,
         past: &past,
         mark,
     };
-    report_listing(alloc, &listing)
+    all_findings(alloc, &freelist)
 }

@@ -1,13 +1,15 @@
 //! The claimed pages of a file, and the tests of one more page.
 ghost use Rattle.std.specs.Prelude.{◌≡◌, ◌↔◌, ◌⊎◌, ◌<◌, ◌≤◌, ◌^◌, ℕ, true, IfErr, IfOk, Ok, OnErr, OnOk, Some};
 ghost use Rattle.bolt_format.specs.{Bytes.IsBytes, Pages.page_at, Shown.shown};
-ghost use Rattle.bolt_check.specs.{Counts.counted, Findings.IsMetaPage, Findings.PagePasses, Findings.PageTests, Nodes.node_at, Private.Listings.IsUnlisted};
+ghost use Rattle.bolt_check.specs.{Counts.counted, Findings.IsMetaPage, Findings.PagePasses, Findings.PageTests, Nodes.node_at, Private.Freelists.IsUnlisted};
 ghost use Rattle.bolt_check.specs.{Private.Tables.HasRoom, ShownNodes.shown_node, ShownSpots.page_spot, TableLengths.table_length, Ways.At_page, Ways.SpanAt};
 
-use crate::fault::{Finding, NoMemory};
+use crate::fault::NoMemory;
+use crate::finding::Finding;
+use crate::spot::PageSpot;
 use crate::table::{PageUse, new_table, reset};
 use crate::tree_page::TreePage;
-use crate::visit::{PageSpot, visit};
+use crate::visit::visit;
 use bolt_format::Meta;
 use std::alloc::Global;
 

@@ -1,7 +1,7 @@
 //! The findings of the accounts of a file.
 ghost use Rattle.std.specs.Prelude.{◌≡◌, ◌<◌, [], MatchOption, Some, length, slice_get};
 
-use crate::fault::Finding;
+use crate::finding::Finding;
 
 /// All findings of the accounts of a file: one or more.
 #[derive(Debug, Drop)]

@@ -1,12 +1,10 @@
-//! The tests of keys.
+//! The tests of a key, and of the keys of an inline bucket.
 ghost use Rattle.std.specs.Prelude.{◌≡◌, ◌<◌, None, Some, length, slice_get};
 ghost use Rattle.std.specs.Result.{result_err};
 ghost use Rattle.bolt_format.specs.ShownInline.{shown_inline};
-ghost use Rattle.bolt_check.specs.{Findings.keys_of, Keys.key_lt, Keys.key_order_fault, Keys.keys_order_fault, ShownSpots.bound_of, ShownSpots.inline_keys};
-ghost use Rattle.bolt_check.specs.ShownNodes.{shown_node};
+ghost use Rattle.bolt_check.specs.{Keys.key_lt, Keys.key_order_fault, Keys.keys_order_fault, ShownSpots.bound_of, ShownSpots.inline_keys};
 
-use crate::fault::Finding;
-use crate::tree_page::TreePage;
+use crate::finding::Finding;
 use bolt_format::Inline;
 
 /// Whether a key is below another, in byte order.
@@ -17,7 +15,7 @@ fn is_below(key: &[u8], other: &[u8]) -> bool
 }
 
 /// Tests one key: it is above the preceding one, not below the lower bound, and below the upper.
-fn test_key(
+pub(crate) fn test_key(
     before: Option<&[u8]>,
     lower: Option<&[u8]>,
     upper: Option<&[u8]>,
@@ -39,24 +37,6 @@ fn test_key(
         if !is_below(key, bound) {
             return Err(Finding::ABOVE_NEXT);
         }
-    }
-    Ok(())
-}
-
-/// Tests the keys of a page, one after another, against each other and their bounds.
-#[tactic(auto, using(bolt_format::proofs::ListLemmas::drop_next, std::proofs::lemmas::List::drop_all))]
-pub(crate) fn test_keys(
-    node: &TreePage<'_>,
-    lower: Option<&[u8]>,
-    upper: Option<&[u8]>,
-) -> Result<(), u8>
-    ensures { result_err result ≡ keys_order_fault None (bound_of lower.entry) (bound_of upper.entry) (keys_of (shown_node node.now).entries) }
-{
-    let mut before: Option<&[u8]> = None;
-    for i in 0..node.count() {
-        let key = node.key(i);
-        test_key(before, lower, upper, key)?;
-        before = Some(key);
     }
     Ok(())
 }

@@ -6,7 +6,7 @@ ghost use Rattle.bolt_format.specs.declared.header.Kind.TheVariants as kind;
 ghost use Rattle.bolt_format.specs.declared.meta.Meta.{Meta};
 ghost use Rattle.bolt_check.specs.{AccountFindings.AreAccountFindings, Nodes.node_at, OnWays.IsOnWay, Roles.AreRoles, Roles.HasRole};
 ghost use Rattle.bolt_check.specs.{Sound.HasRightAccounts, Sound.HasSoundTrees, Sound.IsFirstFinding, Sound.IsUsed, Sound.PassesTests, Tours.IsTour};
-ghost use Rattle.bolt_check.specs.{Ways.At_page, Ways.Reach, Ways.reached, Ways.root_spot, declared.fault.Finding.Finding, declared.role_table.Role.Role};
+ghost use Rattle.bolt_check.specs.{Ways.At_page, Ways.Reach, Ways.reached, Ways.root_spot, declared.finding.Finding.Finding, declared.role_table.Role.Role};
 
 /// No test of the trees fails, exactly if they are sound.
 #[tactic(auto, using(crate::proofs::Lawful::shape_passes, crate::proofs::Shaping::shape_of))]

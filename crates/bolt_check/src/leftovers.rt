@@ -3,16 +3,17 @@ ghost use Rattle.std.specs.Option.{IfNone};
 ghost use Rattle.std.specs.Prelude.{◌≡◌, ◌↔◌, ◌⊎◌, ◌≤◌, ◌<◌, ℕ, false, true, IfSome, Ok, Some, length};
 ghost use Rattle.bolt_format.specs.{Pages.page_at, Shown.shown};
 ghost use Rattle.bolt_check.specs.{Claims.claims_file, Claims.claims_meta, Claims.is_claimed, LoneLeaves.IsListedFree, LoneLeaves.IsLoneLeaf};
-ghost use Rattle.bolt_check.specs.{Nodes.Node, Nodes.node_at, Private.LeafTests.IsFilledLeaf, Private.Listings.IsUnlisted};
-ghost use Rattle.bolt_check.specs.Private.Pending.{Claims as TableClaims};
+ghost use Rattle.bolt_check.specs.{Nodes.Node, Nodes.node_at, Private.LeafTests.IsFilledLeaf, Private.Freelists.IsUnlisted};
+ghost use Rattle.bolt_check.specs.Private.Pending.{ClaimsSpan};
 ghost use Rattle.bolt_check.specs.Private.Tables.{HasRoom, IsClaimed, IsUnclaimed, is_used, times_of, use_at};
 ghost use Rattle.bolt_check.specs.{ShownNodes.shown_node, Ways.At_page, Ways.SpanAt, Ways.root_spot};
 
 use crate::claims::Claims;
-use crate::listing::list_ids_within;
+use crate::freelist::list_ids_within;
+use crate::spot::PageSpot;
 use crate::table::{PageUse, is_listed};
 use crate::tree_page::TreePage;
-use crate::visit::{PageSpot, open, visit};
+use crate::visit::{open, visit};
 use bolt_format::{Meta, free_ids};
 
 /// The pages of a file that were not claimed, and which of them are listed as free. Intact leaves are
@@ -101,7 +102,7 @@ fn take_leaf<'a>(
     ensures leaf { IfSome result (λ _. IsLoneLeaf (node_at file.now meta.now) (IsClaimed table.old) number) }
     ensures unlisted { IfSome result (λ _. times_of (use_at table.old number) ≡ 0) }
     ensures none { IfNone result (IsLoneLeaf (node_at file.now meta.now) (IsClaimed table.old) number → times_of (use_at table.old number) ≡ 0 → ⊥) }
-    ensures claims { IfSome result (λ _. TableClaims (node_at file.now meta.now) (At_page (root_spot number)) table.old table.new) }
+    ensures claims { IfSome result (λ _. ClaimsSpan (node_at file.now meta.now) (At_page (root_spot number)) table.old table.new) }
     ensures same { IfNone result (table.new ≡ table.old) }
     ensures outside { (n : ℕ) → IsUnclaimed table.new n → use_at table.new n ≡ use_at table.old n }
 {

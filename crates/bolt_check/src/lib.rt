@@ -2,69 +2,37 @@
 //! freelist has exactly the free pages (docs/SOUND.md). A file that passed its tests is a `Checked`.
 #![tactic(auto)]
 
-ghost use Rattle.std.specs.Prelude.{◌≡◌};
-ghost use Rattle.bolt_format.specs.Bytes.{IsBytes};
-ghost use Rattle.bolt_check.specs.Sound.{IsTested};
-
 mod accounts;
+mod assumed;
+mod checked;
 mod claims;
 mod fault;
+mod finding;
 mod finding_list;
+mod freelist;
+mod freelist_findings;
 mod keys;
 pub mod laws;
 mod leftovers;
-mod listing;
-mod listing_findings;
 mod role_table;
 mod search;
 mod sound;
+mod sound_roles;
+mod spot;
 mod table;
 mod tree_page;
 mod visit;
 
-use bolt_format::Meta;
+pub use assumed::assumed_meta;
+pub use checked::Checked;
 pub use claims::Claims;
-pub use fault::{CheckFault, Finding, NoMemory};
+pub use fault::{CheckFault, NoMemory};
+pub use finding::Finding;
 pub use finding_list::Findings;
 pub use leftovers::Leftovers;
 pub use role_table::{Role, Roles};
-pub use sound::{assumed_meta, check, check_roles, check_slot, check_under, roles};
+pub use sound::{check, check_roles, check_slot, check_under};
+pub use sound_roles::roles;
+pub use spot::{BucketSpot, PageSpot, Spot};
 pub use tree_page::TreePage;
-pub use visit::{BucketSpot, MAX_DEPTH, PageSpot, Spot};
-
-/// A file whose trees are sound for a meta (docs/SOUND.md). Only a test of the file makes
-/// one, so its pages may be read without a second test.
-#[derive(Clone, Copy)]
-pub struct Checked<'a> {
-    pub(crate) bytes: &'a [u8],
-    pub(crate) meta: Meta,
-    pub(crate) accounts: bool,
-    pub ghost of_bytes: { IsBytes bytes.now },
-    pub ghost sound: { ∥ IsTested bytes.now meta accounts ∥₁ },
-}
-
-#[tactic(auto, unfolding(crate::specs::CheckedFiles::bytes_of, crate::specs::CheckedFiles::meta_of, crate::specs::CheckedFiles::has_accounts))]
-impl<'a> Checked<'a> {
-    ghost use Rattle.bolt_check.specs.CheckedFiles.{bytes_of, has_accounts, meta_of};
-
-    /// The bytes of the file.
-    pub fn bytes(&self) -> &'a [u8]
-        ensures { result.now ≡ bytes_of self.now }
-    {
-        self.bytes
-    }
-
-    /// The meta that the file was tested under.
-    pub fn meta(&self) -> Meta
-        ensures { result ≡ meta_of self.now }
-    {
-        self.meta
-    }
-
-    /// Whether the accounts were tested too, and are right.
-    pub fn accounts(&self) -> bool
-        ensures { result ≡ has_accounts self.now }
-    {
-        self.accounts
-    }
-}
+pub use visit::MAX_DEPTH;

@@ -3,7 +3,7 @@ ghost use Rattle.std.specs.Prelude.{◌≡◌, ◌<◌};
 ghost use Rattle.bolt_check.specs.{CheckedFiles.bytes_of, CheckedFiles.meta_of, Private.RoleTables.AreUses, Private.RoleTables.role_by, Private.Tables.use_at};
 ghost use Rattle.bolt_check.specs.Roles.{HasRole};
 
-use crate::Checked;
+use crate::checked::Checked;
 use crate::table::PageUse;
 use bolt_format::Meta;
 

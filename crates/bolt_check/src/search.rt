@@ -2,16 +2,17 @@
 //! needs memory for the spots that are pending, but no stack.
 ghost use Rattle.std.specs.Prelude.{◌≡◌, ℕ, ◌<◌, ◌≤◌, ◌+◌, ◌*◌, ◌++◌, ◌∷◌, ◌↔◌, [], IfErr, IfOk, OnOk, Ok, length, vec_len};
 ghost use Rattle.bolt_check.specs.{Findings.IsClean, Findings.IsCovered, Findings.IsMetaPage, Nodes.node_at, Private.Carries.Carries};
-ghost use Rattle.bolt_check.specs.{Private.Listings.IsUnlisted, Private.Pending.forest, Private.Pending.kids, Private.Pending.spots_of};
+ghost use Rattle.bolt_check.specs.{Private.Freelists.IsUnlisted, Private.Pending.forest, Private.Pending.kids, Private.Pending.spots_of};
 ghost use Rattle.bolt_check.specs.{ShownSpots.page_spot, ShownSpots.spot_at, Private.SearchFaults.IsSearchFault, ShownNodes.shown_node};
 ghost use Rattle.bolt_check.specs.{Private.Tables.HasRoom, Private.Tables.IsClaimed, Private.Tables.unclaimed, TableLengths.table_length};
 ghost use Rattle.bolt_check.specs.{Private.Uses.HasUse, Private.Uses.IsMetaUse, Private.Uses.IsNoted, Ways.At_page, Ways.reached, Ways.root_spot};
 ghost use Rattle.bolt_check.specs.declared.table.PageUse.{PageUse};
 
 use crate::fault::CheckFault;
+use crate::spot::{PageSpot, Spot};
 use crate::table::{PageUse, new_table};
 use crate::tree_page::TreePage;
-use crate::visit::{PageSpot, Spot, visit};
+use crate::visit::visit;
 use bolt_format::Meta;
 use std::alloc::{AllocError, Global};
 

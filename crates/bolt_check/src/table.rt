@@ -2,7 +2,7 @@
 //! mark. So it doesn't grow with the mark, which may be far past the end of the file. The meta pages
 //! are claimed, whether the table has them or not.
 ghost use Rattle.std.specs.Prelude.{◌≡◌, ◌==◌, ℕ, not, true, ◌<◌, ◌≤◌, ◌+◌, ◌*◌, ◌↔◌, length, IfOk, IfSome, MatchOption};
-ghost use Rattle.bolt_check.specs.{Findings.IsMetaPage, Private.Listings.IsUnlisted};
+ghost use Rattle.bolt_check.specs.{Findings.IsMetaPage, Private.Freelists.IsUnlisted};
 ghost use Rattle.bolt_check.specs.Private.Tables.{HasRoom, IsClaimed, IsUnclaimed, first_use, is_used, times_of, unclaimed, use_at};
 ghost use Rattle.bolt_check.specs.{TableLengths.table_length, Private.Uses.IsMetaUse, Private.Uses.IsNoted};
 

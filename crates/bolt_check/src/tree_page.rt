@@ -6,7 +6,7 @@ ghost use Rattle.bolt_format.specs.{ElementPlaces.leaf_view, Elements.IsBucketVa
 ghost use Rattle.bolt_check.specs.{Findings.keys_of, Nodes.leaf_entry, ShownSpots.IsInner, ShownSpots.bound_of, ShownSpots.page_spot, ShownSpots.spot_at};
 ghost use Rattle.bolt_check.specs.{TreeKinds.tree_kind, Ways.At_page, Ways.bucket_spots, Ways.step_on, Ways.upper_from};
 
-use crate::visit::{BucketSpot, PageSpot, Spot};
+use crate::spot::{BucketSpot, PageSpot, Spot};
 use bolt_format::{Leaf, Page, head, inline};
 
 /// A page that is a branch or a leaf.

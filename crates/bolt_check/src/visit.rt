@@ -1,69 +1,22 @@
-//! What is still to be visited, and the visit of one page: it is opened as a node, which is a branch
-//! or a leaf; it is tested; and its span is claimed.
-ghost use Rattle.std.specs.Prelude.{◌≡◌, ◌<◌, ◌≤◌, ℕ, IfErr, IfOk, MatchResult, Err, Ok, OnErr, OnOk, Some};
+//! The visit of a page: it is opened as a node, which is a branch or a leaf; it is tested; and its
+//! span is claimed.
+ghost use Rattle.std.specs.Prelude.{◌≡◌, ◌<◌, ◌≤◌, ℕ, IfErr, IfOk, MatchResult, Err, None, Ok, OnErr, OnOk, Some};
 ghost use Rattle.std.specs.Result.{result_err};
 ghost use Rattle.bolt_format.specs.{Pages.IsInFile, Pages.page_at, Shown.shown};
-ghost use Rattle.bolt_check.specs.{Findings.PagePasses, Findings.PageTests, Findings.inline_finding, Findings.node_finding, Nodes.node_at};
-ghost use Rattle.bolt_check.specs.{Private.Listings.IsUnlisted, Private.Pending.Claims, Private.Uses.use_of};
+ghost use Rattle.bolt_check.specs.{Findings.PagePasses, Findings.PageTests, Findings.keys_of, Findings.node_finding, Keys.keys_order_fault, Nodes.node_at};
+ghost use Rattle.bolt_check.specs.{Private.Freelists.IsUnlisted, Private.Pending.ClaimsSpan, Private.Uses.use_of};
 ghost use Rattle.bolt_check.specs.Private.Tables.{HasRoom, IsClaimed, IsUnclaimed, unclaimed, use_at};
-ghost use Rattle.bolt_check.specs.{ShownNodes.shown_node, ShownSpots.inline_keys, ShownSpots.page_spot, Ways.At_page};
+ghost use Rattle.bolt_check.specs.{ShownNodes.shown_node, ShownSpots.bound_of, ShownSpots.page_spot, Ways.At_page};
 
-use crate::fault::Finding;
-use crate::keys::{test_inline_keys, test_keys};
+use crate::finding::Finding;
+use crate::keys::test_key;
+use crate::spot::PageSpot;
 use crate::table::{PageUse, claim, first_claimed};
 use crate::tree_page::TreePage;
-use bolt_format::{Inline, Kind, Meta, PageFault, page};
+use bolt_format::{Kind, Meta, PageFault, page};
 
 /// The greatest depth of a page. The root page of a bucket has depth 1.
 pub const MAX_DEPTH: usize = 64;
-
-/// A page to be visited.
-#[derive(Clone, Copy)]
-pub struct PageSpot<'a> {
-    /// The number of the page.
-    pub number: u64,
-    /// Its depth: 1 for the root page of its bucket.
-    pub depth: u8,
-    /// None of its keys may be below this one.
-    pub lower: Option<&'a [u8]>,
-    /// All of its keys must be below this one.
-    pub upper: Option<&'a [u8]>,
-}
-
-/// The page of an inline bucket to be visited.
-#[derive(Clone, Copy)]
-pub struct BucketSpot<'a> {
-    /// The number of the page that contains the bucket.
-    pub host: u64,
-    /// The bucket's own page, which is in its value.
-    pub page: Inline<'a>,
-}
-
-impl<'a> BucketSpot<'a> {
-    /// Tests that the keys of the inline page rise.
-    ///
-    /// # Errors
-    ///
-    /// The finding of the first key that doesn't, with the number of the page that contains the
-    /// bucket.
-    pub fn test(&self) -> Result<(), Finding>
-        ensures { result_err result ≡ inline_finding self.now.host (inline_keys self.now.page) }
-    {
-        match test_inline_keys(&self.page) {
-            Ok(()) => Ok(()),
-            Err(number) => Err(Finding::of_page(number, self.host)),
-        }
-    }
-}
-
-/// What a way leads to: a page, or an inline bucket.
-#[derive(Clone, Copy)]
-pub enum Spot<'a> {
-    /// A page of its own.
-    Page(PageSpot<'a>),
-    /// An inline bucket.
-    Bucket(BucketSpot<'a>),
-}
 
 /// Tests a page, and claims its span if the tests find nothing.
 pub(crate) fn visit<'a>(
@@ -78,7 +31,7 @@ pub(crate) fn visit<'a>(
     ensures page { IfOk result (λ node. page_at file.now meta.now spot.now.number ≡ Some (shown node.page)) }
     ensures node { IfOk result (λ node. node_at file.now meta.now spot.now.number ≡ Ok (shown_node node)) }
     ensures passes { OnOk result (PagePasses (node_at file.now meta.now) (IsClaimed table.old) (page_spot spot.now)) }
-    ensures claims { OnOk result (Claims (node_at file.now meta.now) (At_page (page_spot spot.now)) table.old table.new) }
+    ensures claims { OnOk result (ClaimsSpan (node_at file.now meta.now) (At_page (page_spot spot.now)) table.old table.new) }
     ensures outside { OnOk result ((n : ℕ) → IsUnclaimed table.new n → use_at table.new n ≡ use_at table.old n) }
     ensures fewer { OnOk result (unclaimed table.new < unclaimed table.old) }
     ensures unlisted { OnOk result (IsUnlisted table.old → IsUnlisted table.new) }
@@ -148,6 +101,20 @@ fn test_node(node: &TreePage<'_>, spot: &PageSpot<'_>) -> Result<(), Finding>
     }
     match test_keys(node, spot.lower, spot.upper) {
         Ok(()) => Ok(()),
-        Err(number) => Err(Finding::of_page(number, spot.number)),
+        Err(code) => Err(Finding::of_page(code, spot.number)),
     }
+}
+
+/// Tests the keys of a page, one after another, against each other and their bounds.
+#[tactic(auto, using(bolt_format::proofs::ListLemmas::drop_next, std::proofs::lemmas::List::drop_all))]
+fn test_keys(node: &TreePage<'_>, lower: Option<&[u8]>, upper: Option<&[u8]>) -> Result<(), u8>
+    ensures { result_err result ≡ keys_order_fault None (bound_of lower.entry) (bound_of upper.entry) (keys_of (shown_node node.now).entries) }
+{
+    let mut before: Option<&[u8]> = None;
+    for i in 0..node.count() {
+        let key = node.key(i);
+        test_key(before, lower, upper, key)?;
+        before = Some(key);
+    }
+    Ok(())
 }

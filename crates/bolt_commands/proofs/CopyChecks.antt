@@ -1,7 +1,7 @@
 -- What `check` answers to a good copy, and to its proper prefixes.
 use Rattle.std.proofs.Common.{◌≡◌, ◌≢◌, ◌∙◌, ◌⊎◌, ◌∷◌, ◌<◌, ℕ, List, [], Bool, true, false, IsTrue, Option, None, Some, Ok, ap, codes, inl, inr, length, refl}
 use Rattle.std.proofs.Common.{subst, sym, take}
-use Rattle.bolt_commands.proofs.Vocabulary.{Active, Answer, AnswersFound, AnswersLosses, AreLosses, CheckFault, Extent, FileFaults, First, HasBothMetas, HasSoundTrees, IsCheckAnswer, IsCheckAnswerAfter, IsChosen, IsFoundAnswer, IsGoodCopy, IsMetaOf, IsMetasFault, IsOtherFault, IsSnapshot, IsSound, LossView, Losses, Member, Meta, MetaFault, Site, RefusesFile, Slot, all_refusal, cases_lt, check_refusal, copy_of, done, found, hash_fault, hash_found, loss_at, losses_of, none_found, site_at, refused}
+use Rattle.bolt_commands.proofs.Vocabulary.{Active, Answer, AnswersFound, AnswersLosses, AreLosses, CheckFault, Extent, FileFaults, First, HasBothMetas, HasSoundTrees, IsCheckAnswer, IsCheckAnswerAfter, IsActive, IsFoundAnswer, IsGoodCopy, IsMetaOf, IsMetasFault, IsOtherFault, IsSnapshot, IsSound, LossView, Losses, Member, Meta, MetaFault, Site, RefusesFile, Slot, all_refusal, cases_lt, check_refusal, copy_of, done, found, hash_fault, hash_found, loss_at, losses_of, none_found, site_at, refused}
 use Rattle.bolt_check.specs.declared.fault.CheckFault.TheVariants as check
 use Rattle.bolt_etcd.specs.declared.snapshot.SnapshotFault.{SnapshotFault}
 use Rattle.bolt_etcd.proofs.SnapshotLemmas.{no_fault_iff}
@@ -13,11 +13,11 @@ use Rattle.bolt_commands.proofs.SoundReads.{NamesOne, keeps_not_loses, unread, u
 
 -- what the laws of the crates below say
 pub record Laws : Type 0 where
-  pub one : (file : List ℕ) (slot : Slot) (meta : Meta) → IsChosen file slot meta → (other : Slot) (another : Meta) → IsChosen file other another
+  pub one : (file : List ℕ) (slot : Slot) (meta : Meta) → IsActive file slot meta → (other : Slot) (another : Meta) → IsActive file other another
       → (other ≡ slot) × (another ≡ meta)
   pub lose : (file : List ℕ) (meta : Meta) (survey : List SurveyedWay) (v : SurveyedWay) → HasSoundTrees file meta → IsSurvey file meta survey → Has survey v → v.found ≡ None
 
-one_active : Laws → (file : List ℕ) (slot : Slot) (meta : Meta) → IsChosen file slot meta → NamesOne file Active meta
+one_active : Laws → (file : List ℕ) (slot : Slot) (meta : Meta) → IsActive file slot meta → NamesOne file Active meta
 one_active laws file slot meta chosen other (another, is) = (laws.one file slot meta chosen another other is).1
 
 -- ---- ways that aren't lost have no losses
@@ -56,7 +56,7 @@ wrong_hash faults fault is = rw is refl
 abbrev IsFine : Answer → Type 0
 IsFine answer = (answer ≡ done (codes "OK\n")) ⊎ (answer ≡ refused failure.Memory)
 
-module _ (laws : Laws) (faults : FileFaults) (file : List ℕ) (slot : Slot) (meta : Meta) (answer : Answer) (right : faults ≡ no_faults) (chosen : IsChosen file slot meta)
+module _ (laws : Laws) (faults : FileFaults) (file : List ℕ) (slot : Slot) (meta : Meta) (answer : Answer) (right : faults ≡ no_faults) (chosen : IsActive file slot meta)
     (sound : IsSound file meta true) where
   one : NamesOne file Active meta
   one = one_active laws file slot meta chosen

@@ -2,9 +2,9 @@
 use Rattle.std.proofs.Common.{◌≡◌, ◌∙◌, ◌+◌, ◌*◌, ◌-◌, ◌^◌, ◌%◌, ◌<◌, ◌==◌, ℕ, zero, suc, List, [], ◌∷◌, ◌++◌, map, Bool, true, false, IsTrue, Some, arith, ap}
 use Rattle.std.proofs.Common.{inl, inr, length, length-append, subst, sym, take}
 use Rattle.std.proofs.Math.Nat.{mul-mod_left, mul_assoc}
-use Rattle.bolt_commands.proofs.Vocabulary.{AllByRecursion, HasBothMetas, HasGoodCopies, IsAsked, IsChosen, IsGoodCopy, IsListing, IsOfOneTree, IsPageSize, IsSnapshot, IsSound, IsSoundCopy, Layout, Member, Meta, One, RefusesFile, RefusesPrefixes, Slot, cases_lt, cut_hash_fault, eqb-true, finding, hash_fault, layout_of_listing, length-sha256, list_any, or_cases, page_size_count, page_sizes, range_with_len, sha256, snapshot_of, take-append-le, too_many}
+use Rattle.bolt_commands.proofs.Vocabulary.{AllByRecursion, HasBothMetas, HasGoodCopies, IsAsked, IsActive, IsGoodCopy, IsListing, IsOfOneTree, IsPageSize, IsSnapshot, IsSound, IsSoundCopy, Layout, Member, Meta, One, RefusesFile, RefusesPrefixes, Slot, cases_lt, cut_hash_fault, eqb-true, finding, hash_fault, layout_of_listing, length-sha256, list_any, or_cases, page_size_count, page_sizes, range_with_len, sha256, snapshot_of, take-append-le, too_many}
 use Rattle.bolt_check.specs.declared.fault.CheckFault.TheVariants as check
-use Rattle.bolt_format.specs.{declared.open_page.TheConstants.PageFault.CUT, declared.meta.MetaFault.TheVariants.Cut}
+use Rattle.bolt_format.specs.{declared.page_fault.TheConstants.PageFault.CUT, declared.meta.MetaFault.TheVariants.Cut}
 use Rattle.bolt_layout.specs.{Layout.layout_mark, Layout.layout_meta, Layout.layout_of, Layout.layout_root, Storable.IsStorable}
 use Rattle.bolt_etcd.specs.Marks.{HasAllPages}
 use Rattle.bolt_tree.specs.Tree.{Tree, tree_of}
@@ -40,8 +40,8 @@ pub record Laws : Type 0 where
   pub prefixes : (which : Layout) (page_size : ℕ) (tree : Tree) (sequence : ℕ) → IsAsked page_size tree sequence
       → length (layout_of which page_size tree sequence) < 2 ^ 63 → RefusesPrefixes (layout_of which page_size tree sequence) (layout_root which page_size tree)
   pub metas_more : (file more : List ℕ) → HasBothMetas file → HasBothMetas (file ++ more)
-  pub chosen_more : (file more : List ℕ) (slot : Slot) (meta : Meta) (accounts : Bool) → HasAllPages file meta → IsSound file meta accounts → IsChosen file slot meta
-      → IsChosen (file ++ more) slot meta
+  pub chosen_more : (file more : List ℕ) (slot : Slot) (meta : Meta) (accounts : Bool) → HasAllPages file meta → IsSound file meta accounts → IsActive file slot meta
+      → IsActive (file ++ more) slot meta
   pub sound_more : (file more : List ℕ) (meta : Meta) (accounts : Bool) → HasAllPages file meta → IsSound file meta accounts → IsSound (file ++ more) meta accounts
   pub listing_more : (file more : List ℕ) (meta : Meta) (listing : List Member) → HasAllPages file meta → IsListing file meta listing → IsListing (file ++ more) meta listing
   pub snapshot : (file : List ℕ) → length file % 512 ≡ 0 → IsSnapshot (snapshot_of file)

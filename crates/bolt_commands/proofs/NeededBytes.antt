@@ -1,12 +1,12 @@
 -- A job that shows nothing but metas does the same on any two files with the same metas.
 use Rattle.std.proofs.Common.{◌≡◌, ◌↔◌, inl, inr, ℕ, List, Option, None, Some, true}
-use Rattle.bolt_commands.proofs.Vocabulary.{Answer, DoesJob, Ending, FigureForm, HasMetaFault, HasSlotFault, IsChosen, IsInSlot, IsInfoAnswer, Job, Meta, MetaFault, Slot}
+use Rattle.bolt_commands.proofs.Vocabulary.{Answer, DoesJob, Ending, FigureForm, HasMetaFault, HasSlotFault, IsActive, IsInSlot, IsInfoAnswer, Job, Meta, MetaFault, Slot}
 use Rattle.bolt_job.specs.Needs.{needs_metas_alone}
 use Rattle.bolt_job.specs.declared.job.Job.TheVariants as job
 
 -- the metas of two files, and the faults of their first, are the same
 pub record SameMetas (file other : List ℕ) : Type 0 where
-  pub chosen : (slot : Slot) (meta : Meta) → IsChosen file slot meta ↔ IsChosen other slot meta
+  pub chosen : (slot : Slot) (meta : Meta) → IsActive file slot meta ↔ IsActive other slot meta
   pub slot : (slot : Slot) (meta : Meta) → IsInSlot file slot meta ↔ IsInSlot other slot meta
   pub fault : (fault : MetaFault) → HasMetaFault file 0 fault ↔ HasMetaFault other 0 fault
   pub slot_fault : (slot : Slot) (fault : MetaFault) → HasSlotFault file slot fault ↔ HasSlotFault other slot fault

@@ -1,7 +1,7 @@
 -- What is known of a file that is read, under whatever meta.
 use Rattle.std.proofs.Common.{Option, Some, None, ◌≡◌, ◌<◌, arith, ℕ, List, Result, Ok, Err, IsTrue, ap, inl, inr, refl, subst, sym, true}
 use Rattle.bolt_commands.proofs.Vocabulary.{Active, Assumed, CheckFault, Checked, Failure, HasSoundTrees, InSlot, IsErrAnd, IsFailureOf, IsInSlot, IsMeta, IsMetaOf, IsPageSize, IsReadUnder, Meta, MetaChoice, One, PageSize, Slot, Zero, bytes_of, copy_page_size, meta_of}
-use Rattle.bolt_commands.proofs.Vocabulary.{HasRightAccounts, IsChosen, IsRefused, IsRefusedUnder, IsFirstFinding, IsSound, counts_accounts}
+use Rattle.bolt_commands.proofs.Vocabulary.{HasRightAccounts, IsActive, IsRefused, IsRefusedUnder, IsFirstFinding, IsSound, counts_accounts}
 use Rattle.bolt_check.specs.declared.fault.CheckFault.TheVariants as check
 use Rattle.bolt_format.proofs.PageSizes.{size_bounds}
 
@@ -13,16 +13,16 @@ read_meta file choice meta under = under.0
 
 -- ---- a file that is sound for its active meta, or refused
 
-pub read_active : (file : List ℕ) (slot : Slot) (meta : Meta) → IsChosen file slot meta → IsSound file meta true → IsReadUnder file Active meta
+pub read_active : (file : List ℕ) (slot : Slot) (meta : Meta) → IsActive file slot meta → IsSound file meta true → IsReadUnder file Active meta
 read_active file slot meta chosen sound = ((slot, chosen), sound.trees, sound.right)
 
-active_of : (file : List ℕ) (P : Meta → Type 0) → (slot : Slot) × (meta : Meta) × IsChosen file slot meta × P meta → (meta : Meta) × IsMetaOf file Active meta × P meta
+active_of : (file : List ℕ) (P : Meta → Type 0) → (slot : Slot) × (meta : Meta) × IsActive file slot meta × P meta → (meta : Meta) × IsMetaOf file Active meta × P meta
 active_of file P (slot, meta, chosen, rest) = (meta, (slot, chosen), rest)
 
 pub refused_active : (file : List ℕ) (fault : CheckFault) → IsRefused file fault → IsRefusedUnder file Active fault
 refused_active file (check.Open fault) is = is
 refused_active file (check.Structure x) is = active_of file (λ meta. IsFirstFinding file meta x) is
-refused_active file (check.Accounts findings) (another, other, is, own, wrong, are, some) = (refl, (other, (another, is), (own, wrong, are, some)))
+refused_active file (check.Accounts findings) (another, other, is, (own, wrong, are, some)) = (refl, (other, (another, is), (own, wrong, are, some)))
 refused_active file check.Memory is = tt
 
 -- accounts count only under the active meta

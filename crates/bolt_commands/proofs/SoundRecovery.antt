@@ -1,12 +1,12 @@
 -- With sound trees, `--recover` does what is done without it under the same meta, if the accounts don't count there.
 use Rattle.std.proofs.Common.{◌≡◌, ◌≢◌, ◌↔◌, ℕ, Bool, List, [], Option, inl, inr, subst, sym, ◌∙◌, None, Some}
-use Rattle.bolt_commands.proofs.Vocabulary.{Active, Answer, AreLosses, Assumed, CheckFault, Ending, Extent, First, HasSoundTrees, InSlot, IsChosen, IsEndedOrCut, IsInSlot, IsListedAnswer, IsListing, IsMetaOf, IsReadUnder, IsRecovered, IsRefusedUnder, IsUnrecoverableUnder, Layout, ListForm, LossView, Losses, MakesCopy, Member, Meta, MetaChoice, PageSize, Path, Slot, has_losses, bad_hash, lost_ending, part_ending, part_text}
+use Rattle.bolt_commands.proofs.Vocabulary.{Active, Answer, AreLosses, Assumed, CheckFault, Ending, Extent, First, HasSoundTrees, InSlot, IsActive, IsEndedOrCut, IsInSlot, IsListedAnswer, IsListing, IsMetaOf, IsReadUnder, IsRecovered, IsRefusedUnder, IsUnrecoverableUnder, Layout, ListForm, LossView, Losses, MakesCopy, Member, Meta, MetaChoice, PageSize, Path, Slot, has_losses, bad_hash, lost_ending, part_ending, part_text}
 use Rattle.bolt_check.specs.declared.fault.CheckFault.TheVariants as check
 use Rattle.bolt_commands.proofs.{ReadFiles.no_accounts, ReadFiles.read_meta, SoundReads.NamesOne, SoundReads.keeps_root, SoundReads.unread, SoundReads.unrecovered}
 
 -- what the laws of the crates below say
 pub record Below : Type 0 where
-  pub chosen_is_one : (file : List ℕ) (slot : Slot) (meta : Meta) → IsChosen file slot meta → (other : Slot) (another : Meta) → IsChosen file other another
+  pub chosen_is_one : (file : List ℕ) (slot : Slot) (meta : Meta) → IsActive file slot meta → (other : Slot) (another : Meta) → IsActive file other another
       → (other ≡ slot) × (another ≡ meta)
   pub slot_is_one : (file : List ℕ) (slot : Slot) (a b : Meta) → IsInSlot file slot a → IsInSlot file slot b → a ≡ b
   pub listed : (file : List ℕ) (meta : Meta) (listing : List Member) → HasSoundTrees file meta → IsRecovered file meta listing → IsListing file meta listing

@@ -4,7 +4,7 @@ pub use Rattle.bolt_check.specs.CheckedFiles.{bytes_of, meta_of}
 pub use Rattle.bolt_check.specs.Findings.{IsClaimedBefore, IsMetaPage, finding}
 pub use Rattle.bolt_check.specs.Nodes.{leaf_entry, node_at}
 pub use Rattle.bolt_check.specs.Sound.{HasRightAccounts, HasSoundTrees, IsFirstFinding, IsRefused, IsSound}
-pub use Rattle.bolt_check.specs.{Keys.Key, declared.Checked.Checked, declared.fault.CheckFault.CheckFault, declared.fault.Finding.Finding}
+pub use Rattle.bolt_check.specs.{Keys.Key, declared.checked.Checked.Checked, declared.fault.CheckFault.CheckFault, declared.finding.Finding.Finding}
 pub use Rattle.bolt_commands.specs.Answers.{AddsEntry, Answer, AnswersFound, AnswersLosses, AreFoundPages, Does, DoesJob, Ending, HasStats, HoldsIn, HoldsNone}
 pub use Rattle.bolt_commands.specs.Answers.{IsCheckAnswer, IsCheckAnswerAfter, IsEndedOrCut, IsEntriesAnswer, IsFileRefusal, IsFoundAnswer, IsFoundPagesAnswer}
 pub use Rattle.bolt_commands.specs.Answers.{IsInfoAnswer, IsJoinedList, IsListAnswer, IsListedAnswer, IsLossesAnswer, IsReadAnswer, IsReadUnder}
@@ -24,7 +24,7 @@ pub use Rattle.bolt_commands.specs.{Private.Printing.PrintsAnswer, Private.Repor
 pub use Rattle.bolt_format.proofs.SinkLemmas.{AppendsProperPrefix-first, AppendsProperPrefix-second}
 pub use Rattle.bolt_format.proofs.WroteLemmas.{Wrote-ends, Wrote-return, Wrote-same, Wrote-stop, Wrote-then, broken_by}
 pub use Rattle.bolt_format.specs.Elements.{LeafElement, head_sequence}
-pub use Rattle.bolt_format.specs.Metas.{HasBothMetas, HasMetaFault, HasSlotFault, IsChosen, IsInSlot, IsMeta, IsPageSize, page_size_count, page_sizes}
+pub use Rattle.bolt_format.specs.Metas.{HasBothMetas, HasMetaFault, HasSlotFault, IsActive, IsInSlot, IsMeta, IsPageSize, page_size_count, page_sizes}
 pub use Rattle.bolt_format.specs.declared.meta.Slot.TheVariants.{One, Zero}
 pub use Rattle.bolt_format.specs.{Sinks.AppendsProperPrefix, Endings.ending, Wrote.Wrote, declared.meta.Meta.Meta, declared.meta.MetaFault.MetaFault}
 pub use Rattle.bolt_format.specs.{declared.meta.Slot.Slot, declared.sink.Sink.Ghosts, declared.sink.SinkFault.SinkFault}

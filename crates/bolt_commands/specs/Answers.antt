@@ -6,9 +6,9 @@ use Rattle.bolt_layout.specs.Copies.{layout_of_listing}
 use Rattle.bolt_check.specs.{AccountFindings.AreAccountFindings, Roles.AreRoles, Sound.HasRightAccounts, Sound.HasSoundTrees, Sound.IsFirstFinding, Sound.IsUsed}
 use Rattle.bolt_check.specs.declared.fault.CheckFault.{CheckFault}
 use Rattle.bolt_check.specs.declared.fault.CheckFault.TheVariants as check
-use Rattle.bolt_check.specs.{declared.fault.Finding.Finding, declared.role_table.Role.Role}
-use Rattle.bolt_format.specs.{Elements.LeafElement, Metas.HasMetaFault, Metas.HasSlotFault, Metas.IsChosen, Metas.IsInSlot, Pages.page_at}
-use Rattle.bolt_format.specs.{Sinks.AppendsPrefix, Sinks.AppendsProperPrefix, declared.open_page.PageFault.PageFault, declared.meta.Meta.Meta}
+use Rattle.bolt_check.specs.{declared.finding.Finding.Finding, declared.role_table.Role.Role}
+use Rattle.bolt_format.specs.{Elements.LeafElement, Metas.HasMetaFault, Metas.HasSlotFault, Metas.IsActive, Metas.IsInSlot, Pages.page_at}
+use Rattle.bolt_format.specs.{Sinks.AppendsPrefix, Sinks.AppendsProperPrefix, declared.page_fault.PageFault.PageFault, declared.meta.Meta.Meta}
 use Rattle.bolt_format.specs.{declared.meta.MetaFault.MetaFault, declared.meta.Slot.Slot}
 use Rattle.bolt_load.specs.{LineFaults.IsListingText, LineFaults.IsLoadFault, declared.fault.LoadFault.LoadFault}
 use Rattle.bolt_text.specs.{LineMembers.text_members}
@@ -75,7 +75,7 @@ page_answer (Some fault) text = refused (failure.Page fault)
 
 -- the meta that is shown: that of the slot that is named, or the active one
 abbrev pub IsShownMeta : List ℕ → Option Slot → Slot → Meta → Type 0
-IsShownMeta file None slot meta = IsChosen file slot meta
+IsShownMeta file None slot meta = IsActive file slot meta
 IsShownMeta file (Some named) slot meta = (slot ≡ named) × IsInSlot file named meta
 
 -- why there is none

@@ -1,6 +1,6 @@
 -- What is wrong with a file apart from its pages: docs/COMMANDS.md, "Snapshots" and "Both metas".
 use Rattle.std.specs.Prelude.{◌≡◌, ◌⊎◌, ◌&&◌, ◌++◌, ◌+◌, ℕ, List, [], Bool, Option, None, Some, is_none}
-use Rattle.bolt_format.specs.{Metas.HasSlotFault, Metas.IsChosen, Metas.IsInSlot, Metas.other_slot, declared.meta.Meta.Meta, declared.meta.MetaFault.MetaFault}
+use Rattle.bolt_format.specs.{Metas.HasSlotFault, Metas.IsActive, Metas.IsInSlot, Metas.other_slot, declared.meta.Meta.Meta, declared.meta.MetaFault.MetaFault}
 use Rattle.bolt_format.specs.declared.meta.Slot.{Slot}
 use Rattle.bolt_report.specs.{MetaLines.slot_fault_text}
 use Rattle.bolt_etcd.specs.{SnapshotFaults.snapshot_fault_text}
@@ -22,7 +22,7 @@ IsUnusedFault file slot (Some (other, fault)) = (other ≡ other_slot slot) × H
 -- the same, of a file with an active meta; without one there is nothing more to say
 abbrev pub IsOtherFault : List ℕ → Option (Slot × MetaFault) → Type 0
 IsOtherFault file other =
-    ((slot : Slot) × (meta : Meta) × IsChosen file slot meta × IsUnusedFault file slot other)
+    ((slot : Slot) × (meta : Meta) × IsActive file slot meta × IsUnusedFault file slot other)
     ⊎ (((slot : Slot) (meta : Meta) → IsInSlot file slot meta → ⊥) × (other ≡ None))
 
 -- Both metas are looked at if all of a file is asked for, under its active meta.

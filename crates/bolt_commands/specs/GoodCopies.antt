@@ -3,7 +3,7 @@ use Rattle.std.specs.Prelude.{◌≡◌, ◌≢◌, ◌≤◌, ◌<◌, ◌-◌,
 use Rattle.bolt_bulk.specs.Compacting.{too_many}
 use Rattle.bolt_check.specs.{Sound.IsRefused, Sound.IsSound, declared.fault.CheckFault.CheckFault}
 use Rattle.bolt_check.specs.declared.fault.CheckFault.TheVariants as check
-use Rattle.bolt_format.specs.{Metas.HasBothMetas, Metas.IsChosen, Metas.IsPageSize, declared.meta.Meta.Meta, declared.meta.Slot.Slot}
+use Rattle.bolt_format.specs.{Metas.HasBothMetas, Metas.IsActive, Metas.IsPageSize, declared.meta.Meta.Meta, declared.meta.Slot.Slot}
 use Rattle.bolt_layout.specs.{Copies.layout_of_listing, declared.Layout.Layout}
 use Rattle.bolt_etcd.specs.SnapshotFaults.{IsSnapshot, cut_hash_fault}
 use Rattle.bolt_tree.specs.Listing.{IsListing, Member}
@@ -11,7 +11,7 @@ use Rattle.bolt_commands.specs.SnapshotAnswers.{copy_of, hash_found}
 
 -- `check` accepts a file that holds these bytes, and its listing is this one
 abbrev pub AcceptsListing : List ℕ → List Member → Type 0
-AcceptsListing file listing = (slot : Slot) × (meta : Meta) × IsChosen file slot meta × IsSound file meta true × IsListing file meta listing
+AcceptsListing file listing = (slot : Slot) × (meta : Meta) × IsActive file slot meta × IsSound file meta true × IsListing file meta listing
 
 -- `check` refuses a file that holds these bytes, and not for want of memory
 abbrev pub RefusesFile : List ℕ → Type 0

@@ -19,7 +19,7 @@ ghost use Rattle.bolt_job.specs.declared.choices.MetaChoice.TheVariants as choic
 
 use bolt_etcd::{hashed_blocks_are_a_snapshot, trailing_bytes_change_nothing};
 use bolt_format::Sink;
-use bolt_format::laws::{chosen_meta_is_one, metas_lie_in_a_prefix, slot_meta_is_one};
+use bolt_format::laws::{active_meta_is_one, metas_lie_in_a_prefix, slot_meta_is_one};
 use bolt_layout::laws::{
     a_copy_lists_the_same, a_files_listing_is_of_one_tree, layout_has_length, prefixes_are_refused,
 };
@@ -66,7 +66,7 @@ pub fn good_copies_pass_the_check()
         → IsGoodCopy snapshot layout listing → n < length (copy_of snapshot layout)
         → IsCheckAnswer extent snapshot (take n (copy_of snapshot layout)) choice.Active answer → answer.ending ≢ Ok 0 }
 {
-    chosen_meta_is_one();
+    active_meta_is_one();
     sound_trees_lose_nothing();
 }
 
@@ -104,7 +104,7 @@ pub fn recovering_sound_trees_reads_them<O: Sink, T: Sink>()
         → MakesCopy O.taken O.failed out_old out_new T.taken T.failed target_old target_new file wanted size layout snapshot extent.Losses ending
         ↔ MakesCopy O.taken O.failed out_old out_new T.taken T.failed target_old target_new file named size layout snapshot extent.First ending }
 {
-    chosen_meta_is_one();
+    active_meta_is_one();
     slot_meta_is_one();
     sound_trees_recover_their_listing();
     sound_trees_recover_what_they_list();

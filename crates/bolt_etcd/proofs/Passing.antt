@@ -11,7 +11,7 @@ use Rattle.bolt_format.specs.Elements.{LeafElement}
 use Rattle.bolt_tree.proofs.{CursorMoves.ComesTo, CursorMoves.comes_from, Leaving.TakesFirst, Leaving.next_takes, SortedLemmas.sorted}
 use Rattle.bolt_tree.specs.{BucketViews.entries_of, Cursors.cursor_checked, Cursors.cursor_start, Entries.AreEntries, Entries.EntryView, Entries.entry_view, ShownEntries.shown_entry}
 use Rattle.bolt_tree.specs.{EntriesLeft.entries_left, FileTrees.file_entries, Places.Past, Places.Place, Places.least_from, Places.next_move, Places.place_in, Places.seek_move}
-use Rattle.bolt_tree.specs.declared.{cursor.Cursor.Cursor, Entry.Entry}
+use Rattle.bolt_tree.specs.declared.{cursor.Cursor.Cursor, entry.Entry.Entry}
 use Rattle.bolt_etcd.specs.{Passes.ShowsFirst, Revisions.RevisionView, Revisions.revision_of, Stores.entries_from, Stores.others, Stores.revisions}
 
 pub nothing_shown : (o : Option Entry) → option_map shown_entry o ≡ None → o ≡ None
@@ -57,7 +57,7 @@ pub are_entries : (cursor : Cursor) → ∥ AreEntries (entries_of (cursor_check
 unfolding cursor_checked cursor_start
 are_entries cursor =
     let checked = cursor_checked cursor in
-    ∥∥₁_elim cursor.held ∥∥₁_prop (λ held. ∥∥₁_elim held.stack ∥∥₁_prop (λ (sound, stack).
+    ∥∥₁_elim cursor.resting ∥∥₁_prop (λ resting. ∥∥₁_elim resting.stack ∥∥₁_prop (λ (sound, stack).
     ∣ sorted (bytes_of checked) (meta_of checked) sound.trees (cursor_start cursor) sound.start ∣₁))
 
 -- ---- revisions among those ahead

@@ -2,7 +2,7 @@
 use Rattle.std.proofs.Common.{◌≡◌, ◌∙◌, ◌+◌, ◌*◌, ◌<◌, ◌≤◌, ℕ, List, [], ◌++◌, drop, take, length, inl, inr, arith, ap, refl, sym}
 use Rattle.std.proofs.Math.Nat.{mul-le-mul_right}
 use Rattle.std.proofs.lemmas.List.{drop-append-le, length-append, length-drop, take-append-le}
-use Rattle.bolt_format.specs.{Metas.IsChosen, Metas.IsInSlot, Metas.IsMeta, Metas.other_slot, declared.meta.Meta.Meta, declared.meta.Slot.Slot}
+use Rattle.bolt_format.specs.{Metas.IsActive, Metas.IsInSlot, Metas.IsMeta, Metas.other_slot, declared.meta.Meta.Meta, declared.meta.Slot.Slot}
 use Rattle.bolt_format.specs.declared.meta.Slot.TheVariants.{Zero, One}
 use Rattle.bolt_format.proofs.{MetaPrefix.SameRecord, MetaPrefix.meta_same, MetaPrefix.same_back, PageFacts.span_passes, PageSizes.size_bounds}
 use Rattle.bolt_check.specs.{Nodes.node_at, Sound.HasSoundTrees, Ways.root_spot}
@@ -57,7 +57,7 @@ module _ (file more : List ℕ) where
   other_less Zero meta other room valid (inr (none, lone)) = absurd (none meta (meta_more 0 meta valid))
   other_less One meta other room valid first = meta_less 0 other (first_room One meta valid) first
 
-  chosen_room : (slot : Slot) (meta : Meta) → meta.page_size + 80 ≤ length file → IsChosen file slot meta → IsChosen (file ++ more) slot meta
+  chosen_room : (slot : Slot) (meta : Meta) → meta.page_size + 80 ≤ length file → IsActive file slot meta → IsActive (file ++ more) slot meta
   chosen_room slot meta room chosen = record {
     valid = slot_more slot meta chosen.valid;
     newest = λ other valid. chosen.newest other (other_less slot meta other room chosen.valid valid);
@@ -84,5 +84,5 @@ second_room file meta all trees =
     let rows : 3 * meta.page_size ≤ meta.high_water * meta.page_size = mul-le-mul_right meta.page_size (three_pages file meta all trees) in
     omega (arith, rows, all.long, size_bounds meta.page_size all.size)
 
-pub chosen_more : (file more : List ℕ) (slot : Slot) (meta : Meta) → HasAllPages file meta → HasSoundTrees file meta → IsChosen file slot meta → IsChosen (file ++ more) slot meta
+pub chosen_more : (file more : List ℕ) (slot : Slot) (meta : Meta) → HasAllPages file meta → HasSoundTrees file meta → IsActive file slot meta → IsActive (file ++ more) slot meta
 chosen_more file more slot meta all trees chosen = chosen_room file more slot meta (second_room file meta all trees) chosen

@@ -1,7 +1,7 @@
 -- What a pass over missing numbers has ahead of it.
 use Rattle.std.specs.Prelude.{◌≡◌, ℕ, List, [], ◌∷◌, ◌++◌, length, Option, Some, None}
 use Rattle.std.specs.Option.{option_to_list}
-use Rattle.bolt_check.specs.declared.Checked.{Checked}
+use Rattle.bolt_check.specs.declared.checked.Checked.{Checked}
 use Rattle.bolt_format.specs.Elements.{LeafElement}
 use Rattle.bolt_tree.specs.{Entries.Start, EntriesLeft.ForEntries}
 use Rattle.bolt_etcd.specs.{MissingNumbers.keys_above, MissingNumbers.missing_after, RevisionsLeft.ahead_of, RevisionsLeft.pass_checked, RevisionsLeft.pass_entries, RevisionsLeft.pass_start, Stores.revisions}

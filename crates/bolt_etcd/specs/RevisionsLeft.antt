@@ -1,7 +1,7 @@
 -- What a pass over the revisions of a bucket has ahead of it.
 use Rattle.std.specs.Prelude.{◌≡◌, ℕ, List, [], ◌∷◌, length, Option, Some, None}
 use Rattle.bolt_format.specs.Elements.{LeafElement}
-use Rattle.bolt_check.specs.{CheckedFiles.bytes_of, CheckedFiles.meta_of, Counts.counted, Keys.Key, declared.Checked.Checked}
+use Rattle.bolt_check.specs.{CheckedFiles.bytes_of, CheckedFiles.meta_of, Counts.counted, Keys.Key, declared.checked.Checked.Checked}
 use Rattle.bolt_tree.specs.{Cursors.cursor_checked, Cursors.cursor_place, Cursors.cursor_start, Entries.Start, EntriesLeft.ForEntries, EntriesLeft.entries_left, FileTrees.file_entries, Places.Place}
 use Rattle.bolt_etcd.specs.{Revisions.RevisionView, Stores.entries_from, Stores.others, Stores.revisions, declared.revisions.Revisions.Revisions}
 

@@ -4,7 +4,7 @@
 ghost use Rattle.std.specs.Prelude.{◌≡◌, ◌↔◌, ◌<◌, ◌+◌, ◌%◌, ◌++◌, ℕ, Bool, List, None, Some, length, take};
 ghost use Rattle.bolt_check.specs.Sound.{IsSound};
 ghost use Rattle.bolt_format.specs.{Endings.ending, Wrote.Wrote};
-ghost use Rattle.bolt_format.specs.{Metas.HasBothMetas, Metas.IsChosen, declared.meta.Meta.Meta, declared.meta.Slot.Slot};
+ghost use Rattle.bolt_format.specs.{Metas.HasBothMetas, Metas.IsActive, declared.meta.Meta.Meta, declared.meta.Slot.Slot};
 ghost use Rattle.bolt_etcd.specs.{Marks.HasAllPages, SnapshotFaults.IsSnapshot, SnapshotFaults.cut_hash_fault, SnapshotFaults.hash_fault, SnapshotFaults.snapshot_fault_text, SnapshotFaults.snapshot_of};
 ghost use Rattle.bolt_tree.specs.Listing.{IsListing, Member};
 
@@ -75,7 +75,7 @@ fn snapshot_fault_line(fault: SnapshotFault) -> &'static [u8]
 pub fn trailing_bytes_change_nothing()
     ensures metas { (file more : List ℕ) → HasBothMetas file → HasBothMetas (file ++ more) }
     ensures chosen { (file more : List ℕ) (slot : Slot) (meta : Meta) (accounts : Bool) → HasAllPages file meta
-        → IsSound file meta accounts → IsChosen file slot meta → IsChosen (file ++ more) slot meta }
+        → IsSound file meta accounts → IsActive file slot meta → IsActive (file ++ more) slot meta }
     ensures sound { (file more : List ℕ) (meta : Meta) (accounts : Bool) → HasAllPages file meta
         → IsSound file meta accounts → IsSound (file ++ more) meta accounts }
     ensures listing { (file more : List ℕ) (meta : Meta) (listing : List Member) → HasAllPages file meta

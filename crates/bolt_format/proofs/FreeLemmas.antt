@@ -1,7 +1,7 @@
 -- The ids that a freelist shows.
 use Rattle.std.proofs.Common.{◌≡◌, ◌+◌, ◌*◌, ◌<◌, ℕ, length, arith}
 use Rattle.std.proofs.lemmas.List.FromFn.{length-map-range_with_len}
-use Rattle.bolt_format.specs.{Bytes.number_at, ShownIds.shown_ids, declared.good_page.FreeIds.FreeIds}
+use Rattle.bolt_format.specs.{Bytes.number_at, ShownIds.shown_ids, declared.ids.FreeIds.FreeIds}
 
 pub length-shown_ids : (ids : FreeIds) → length (shown_ids ids) ≡ ids.len
 unfolding shown_ids

@@ -7,7 +7,7 @@ use Rattle.std.proofs.lemmas.List.Folds.{Any-from_list_any, list_any_at}
 use Rattle.std.proofs.lemmas.List.FromFn.{get_or-map-range_with_len}
 use Rattle.bolt_format.specs.{declared.meta.Meta.Meta, declared.meta.MetaFault.MetaFault, declared.meta.Slot.Slot}
 use Rattle.bolt_format.specs.declared.meta.Slot.TheVariants.{Zero, One}
-use Rattle.bolt_format.specs.Metas.{IsChosen, IsInOne, IsInSlot, IsLoneMeta, IsMeta, IsPageSize, other_slot, page_size_count, page_sizes}
+use Rattle.bolt_format.specs.Metas.{IsActive, IsInOne, IsInSlot, IsLoneMeta, IsMeta, IsPageSize, other_slot, page_size_count, page_sizes}
 
 -- a page has one record
 pub IsMeta-one : (file : List ℕ) (at : ℕ) (a b : Meta) → IsMeta file at a → IsMeta file at b → a ≡ b
@@ -45,7 +45,7 @@ One-Zero : One ≡ Zero → ⊥
 One-Zero e = cc
 
 -- not both slots are active
-not_both : (file : List ℕ) (zero one : Meta) → IsChosen file Zero zero → IsChosen file One one → ⊥
+not_both : (file : List ℕ) (zero one : Meta) → IsActive file Zero zero → IsActive file One one → ⊥
 not_both file zero one p q =
     elim (q.newest zero p.valid) [
       | inl older ↦ elim (p.newest one q.valid) [
@@ -56,22 +56,22 @@ not_both file zero one p q =
     ]
 
 -- one meta is active
-pub IsChosen-one : (file : List ℕ) (slot : Slot) (meta : Meta) → IsChosen file slot meta
-    → (other : Slot) (another : Meta) → IsChosen file other another → (other ≡ slot) × (another ≡ meta)
-IsChosen-one file Zero meta p Zero another q = (refl, IsInSlot-one file Zero another meta q.valid p.valid)
-IsChosen-one file One meta p One another q = (refl, IsInSlot-one file One another meta q.valid p.valid)
-IsChosen-one file Zero meta p One another q = absurd (not_both file meta another p q)
-IsChosen-one file One meta p Zero another q = absurd (not_both file another meta q p)
+pub IsActive-one : (file : List ℕ) (slot : Slot) (meta : Meta) → IsActive file slot meta
+    → (other : Slot) (another : Meta) → IsActive file other another → (other ≡ slot) × (another ≡ meta)
+IsActive-one file Zero meta p Zero another q = (refl, IsInSlot-one file Zero another meta q.valid p.valid)
+IsActive-one file One meta p One another q = (refl, IsInSlot-one file One another meta q.valid p.valid)
+IsActive-one file Zero meta p One another q = absurd (not_both file meta another p q)
+IsActive-one file One meta p Zero another q = absurd (not_both file another meta q p)
 
 -- slot one is active if its transaction is the greater
-pub newer_one : (file : List ℕ) (zero one : Meta) → IsInSlot file Zero zero → IsInSlot file One one → zero.txid < one.txid → IsChosen file One one
+pub newer_one : (file : List ℕ) (zero one : Meta) → IsInSlot file Zero zero → IsInSlot file One one → zero.txid < one.txid → IsActive file One one
 newer_one file zero one first second newer = record {
   valid = second;
   newest = λ other valid. inl (let e : other.txid ≡ zero.txid = ap (λ (m : Meta). m.txid) (IsInSlot-one file Zero other zero valid first) in omega (arith, e, newer));
 }
 
 -- slot zero is active if the transaction of slot one is no greater
-pub no_newer : (file : List ℕ) (zero one : Meta) → IsInSlot file Zero zero → IsInSlot file One one → one.txid ≤ zero.txid → IsChosen file Zero zero
+pub no_newer : (file : List ℕ) (zero one : Meta) → IsInSlot file Zero zero → IsInSlot file One one → one.txid ≤ zero.txid → IsActive file Zero zero
 no_newer file zero one first second older = record {
   valid = first;
   newest = λ other valid.
@@ -83,7 +83,7 @@ no_newer file zero one first second older = record {
 }
 
 -- a meta is active if the other slot has none
-pub lone_chosen : (file : List ℕ) (slot : Slot) (meta : Meta) → ((other : Meta) → IsInSlot file (other_slot slot) other → ⊥) → IsInSlot file slot meta → IsChosen file slot meta
+pub lone_chosen : (file : List ℕ) (slot : Slot) (meta : Meta) → ((other : Meta) → IsInSlot file (other_slot slot) other → ⊥) → IsInSlot file slot meta → IsActive file slot meta
 lone_chosen file slot meta none valid = record {
   valid = valid;
   newest = λ other is. absurd (none other is);

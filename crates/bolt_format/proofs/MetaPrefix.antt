@@ -3,7 +3,7 @@ use Rattle.std.proofs.Common.{◌≡◌, ◌∙◌, ℕ, ◌+◌, ◌-◌, ◌�
 use Rattle.std.proofs.lemmas.List.{drop-take, length-take, take-take}
 use Rattle.byteorder.specs.{Endian.little_number, Numbers.little_from-take}
 use Rattle.bolt_format.specs.Bytes.{fnv_of, number_at}
-use Rattle.bolt_format.specs.Metas.{HasMetaFault, HasSlotFault, IsChosen, IsInOne, IsInSlot, IsLoneMeta, IsMeta, IsMetasEnd, IsPageSize, IsPlaced, IsWhole, meta_fields, other_slot, size_at}
+use Rattle.bolt_format.specs.Metas.{HasMetaFault, HasSlotFault, IsActive, IsInOne, IsInSlot, IsLoneMeta, IsMeta, IsMetasEnd, IsPageSize, IsPlaced, IsWhole, meta_fields, other_slot, size_at}
 use Rattle.bolt_format.specs.{declared.meta.Meta.Meta, declared.meta.MetaFault.MetaFault}
 use Rattle.bolt_format.specs.declared.meta.MetaFault.TheVariants.{Cut, Magic, Version, Sum, PageSize}
 use Rattle.bolt_format.specs.{declared.meta.Slot.Slot, declared.meta.Slot.TheVariants.Zero, declared.meta.Slot.TheVariants.One}
@@ -99,7 +99,7 @@ pub slot_same : (file other : List ℕ) (slot : Slot) (meta : Meta) → SameMeta
 slot_same file other Zero meta s valid = meta_same file other 0 meta s.first valid
 slot_same file other One meta s valid = one_same file other meta s valid
 
-pub chosen_same : (file other : List ℕ) (slot : Slot) (meta : Meta) → SameMetas file other → IsChosen file slot meta → IsChosen other slot meta
+pub chosen_same : (file other : List ℕ) (slot : Slot) (meta : Meta) → SameMetas file other → IsActive file slot meta → IsActive other slot meta
 chosen_same file other slot meta s chosen = record {
   valid = slot_same file other slot meta s chosen.valid;
   newest = λ m valid. chosen.newest m (slot_same other file (other_slot slot) m (metas_back file other s) valid);

@@ -2,7 +2,7 @@
 use Rattle.std.proofs.Common.{◌≡◌, ◌∙◌, ℕ, ◌+◌, ◌^◌, ◌<◌, ◌≤◌, List, ◌++◌, length, drop, take, refl, sym, ap, arith}
 use Rattle.std.proofs.lemmas.List.{drop-drop, drop_at, take_at, length-append, length-drop}
 use Rattle.byteorder.specs.{Numbers.little_number-reads_back, Numbers.length-bytes_low_first, Endian.little_number}
-use Rattle.bolt_format.specs.{Bytes.number_at, Written.number_bytes}
+use Rattle.bolt_format.specs.{Bytes.number_at, Encoded.number_bytes}
 
 pub length-number_bytes : (n x : ℕ) → length (number_bytes n x) ≡ n
 unfolding number_bytes

@@ -3,7 +3,7 @@ use Rattle.std.specs.Prelude.{◌==◌, ℕ, ◌+◌, ◌*◌, nat_lt, List, len
 use Rattle.std.specs.List.{range_with_len}
 use Rattle.bolt_format.specs.{Bytes.number_at, Elements.first_of, Headers.count_field, Headers.flags_field, Headers.kind_of}
 use Rattle.bolt_format.specs.Pages.{from_page, span_bytes, span_fault}
-use Rattle.bolt_format.specs.declared.open_page.TheConstants.PageFault.{ELEMENT_CUT, PAGE_KIND}
+use Rattle.bolt_format.specs.declared.page_fault.TheConstants.PageFault.{ELEMENT_CUT, PAGE_KIND}
 use Rattle.bolt_format.specs.declared.header.Kind.{Kind}
 use Rattle.bolt_format.specs.declared.header.Kind.TheVariants as kind
 use Rattle.bolt_format.specs.{declared.meta.Meta.Meta, declared.meta.TheConstants.NO_FREELIST}

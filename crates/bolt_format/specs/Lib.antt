@@ -1,7 +1,8 @@
 pub mod Bytes
-pub mod ElementPlaces
 pub mod ElementLengths
+pub mod ElementPlaces
 pub mod Elements
+pub mod Encoded
 pub mod Endings
 pub mod Freelists
 pub mod Headers
@@ -13,5 +14,4 @@ pub mod Shown
 pub mod ShownIds
 pub mod ShownInline
 pub mod Sinks
-pub mod Written
 pub mod Wrote

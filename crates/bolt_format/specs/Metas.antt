@@ -111,6 +111,6 @@ other_slot One = Zero
 
 -- the active meta: it is valid and, if the other slot has a valid one too, has the greater transaction id; if these are equal, it is in
 -- slot zero
-pub record IsChosen (file : List ℕ) (slot : Slot) (meta : Meta) : Type 0 where
+pub record IsActive (file : List ℕ) (slot : Slot) (meta : Meta) : Type 0 where
   pub valid : IsInSlot file slot meta
   pub newest : (other : Meta) → IsInSlot file (other_slot slot) other → (other.txid < meta.txid) ⊎ ((other.txid ≡ meta.txid) × (slot ≡ Zero))

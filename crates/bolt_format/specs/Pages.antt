@@ -4,7 +4,7 @@ use Rattle.bolt_format.specs.Headers.{id_field, flags_field, count_field, overfl
 use Rattle.bolt_format.specs.Elements.{BranchElement, LeafElement, first_of, branch_elements, branches_fault, leaf_elements, leaves_fault, value_fault}
 use Rattle.bolt_format.specs.{declared.meta.Meta.Meta, declared.header.Kind.Kind}
 use Rattle.bolt_format.specs.declared.header.Kind.TheVariants as kind
-use Rattle.bolt_format.specs.declared.open_page.TheConstants.PageFault.{RANGE, CUT, ID, PAGE_KIND}
+use Rattle.bolt_format.specs.declared.page_fault.TheConstants.PageFault.{RANGE, CUT, ID, PAGE_KIND}
 
 -- the file from the first byte of a page
 abbrev pub from_page : List ℕ → Meta → ℕ → List ℕ

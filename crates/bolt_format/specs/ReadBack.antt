@@ -2,7 +2,7 @@
 use Rattle.std.specs.Prelude.{◌≡◌, ◌<◌, ◌^◌, ℕ, ◌+◌, Bool, List, None, Some}
 use Rattle.bolt_format.specs.Elements.{branch_child, branch_key_length, branch_key_start, element_at, head_fault, head_root, head_sequence, inline_bytes, is_bucket_at, leaf_flags, leaf_key_length, leaf_key_start, leaf_value_length}
 use Rattle.bolt_format.specs.Headers.{count_field, flags_field, flags_of, id_field, kind_of, overflow_field}
-use Rattle.bolt_format.specs.{Metas.IsPageSize, Written.leaf_flag, declared.header.Kind.Kind, declared.meta.Meta.Meta}
+use Rattle.bolt_format.specs.{Metas.IsPageSize, Encoded.leaf_flag, declared.header.Kind.Kind, declared.meta.Meta.Meta}
 
 -- the header of a page, and numbers that have room in it
 pub record IsHeader (bytes : List ℕ) (number : ℕ) (is : Kind) (n more : ℕ) : Type 0 where

@@ -5,10 +5,10 @@ ghost use Rattle.std.proofs.Props.{props};
 ghost use Rattle.bolt_format.specs.Elements.{element_at, has_bucket, head_fault, inline_fault, inline_page_fault, leaves_fault, value_fault};
 ghost use Rattle.bolt_format.specs.{ElementPlaces.leaf_view, Headers.count_field};
 
+use crate::bytes::u64_at;
 use crate::element::{Leaf, is_bucket, leaf_at, test_leaf, test_table};
 use crate::header::{HEADER_LEN, Header, Kind};
-use crate::open_page::PageFault;
-use crate::u64_at;
+use crate::page_fault::PageFault;
 
 /// The length of a bucket's root page and sequence, with which its value begins.
 pub const HEAD_LEN: usize = 16;

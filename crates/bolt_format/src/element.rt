@@ -1,16 +1,14 @@
-//! The elements of branch and leaf pages, and their tests. The bytes are those from the page's first
+//! An element of a branch or a leaf page, and its tests. The bytes are those from the page's first
 //! byte to the end of its span or, for an inline page, to the end of the bucket's value.
 ghost use Rattle.std.specs.Prelude.{◌≡◌, ◌+◌, ◌≤◌, length, IfOk};
 ghost use Rattle.std.specs.Result.{result_err};
-ghost use Rattle.bolt_format.specs.Elements.{branch_element, branch_end, branch_fault, branch_key_start, branches_fault, data_fault, element_at, is_bucket_at};
-ghost use Rattle.bolt_format.specs.Elements.{key_length_fault, leaf_element, leaf_end, leaf_flags, leaves_fault, plain_leaf_fault, table_fault, value_fault};
+ghost use Rattle.bolt_format.specs.Elements.{branch_element, branch_end, branch_fault, branch_key_start, data_fault, element_at, is_bucket_at};
+ghost use Rattle.bolt_format.specs.Elements.{key_length_fault, leaf_element, leaf_end, leaf_flags, plain_leaf_fault, table_fault};
 ghost use Rattle.bolt_format.specs.{ElementPlaces.IsBranchPlace, ElementPlaces.IsLeafPlace, ElementPlaces.branch_view, ElementPlaces.leaf_view};
-ghost use Rattle.bolt_format.specs.Pages.{content_fault};
 
-use crate::bucket::test_bucket_value;
-use crate::header::{HEADER_LEN, Kind};
-use crate::open_page::PageFault;
-use crate::{u32_at, u64_at};
+use crate::bytes::{u32_at, u64_at};
+use crate::header::HEADER_LEN;
+use crate::page_fault::PageFault;
 
 /// The length of an element's header.
 pub const ELEMENT_LEN: usize = 16;
@@ -177,44 +175,6 @@ pub(crate) fn test_leaf(bytes: &[u8], free: usize, i: u16) -> Result<LeafPlace, 
     }
     test_data(bytes, free, place.key, place.end)?;
     Ok(place)
-}
-
-/// Tests the content of a page: its elements, if it is a branch or a leaf.
-pub(crate) fn test_content(kind: Kind, bytes: &[u8], count: u16) -> Result<(), u8>
-    ensures { result_err result ≡ content_fault kind count bytes.now }
-{
-    match kind {
-        Kind::Branch => test_branches(bytes, count),
-        Kind::Leaf => test_leaves(bytes, count),
-        Kind::Meta => Ok(()),
-        Kind::Freelist => Ok(()),
-    }
-}
-
-#[tactic(auto, using(crate::proofs::FaultLemmas::faults_from_step, crate::proofs::FaultLemmas::faults_from_end), unfolding(crate::specs::Elements::branches_fault))]
-fn test_branches(bytes: &[u8], count: u16) -> Result<(), u8>
-    ensures { result_err result ≡ branches_fault bytes.now count }
-{
-    let mut free = test_table(bytes, count)?;
-    for i in 0..count {
-        free = test_branch(bytes, free, i)?;
-    }
-    Ok(())
-}
-
-#[tactic(auto, using(crate::proofs::FaultLemmas::faults_from_step, crate::proofs::FaultLemmas::faults_from_end), unfolding(crate::specs::Elements::leaves_fault))]
-fn test_leaves(bytes: &[u8], count: u16) -> Result<(), u8>
-    ensures { result_err result ≡ leaves_fault value_fault bytes.now count }
-{
-    let mut free = test_table(bytes, count)?;
-    for i in 0..count {
-        let place = test_leaf(bytes, free, i)?;
-        if is_bucket(bytes, i) {
-            test_bucket_value(&bytes[place.value..place.end])?;
-        }
-        free = place.end;
-    }
-    Ok(())
 }
 
 /// Branch element `i`.

@@ -1,15 +1,16 @@
-//! Reads the ids of a freelist page.
+//! Opens a freelist page: tests it, and gives its ids.
 ghost use Rattle.std.specs.Prelude.{◌≡◌, ◌+◌, ◌*◌, ◌≤◌, length, nat_lt, if◌then◌else◌, IfErr, IfOk, None, OnOk, Some};
 ghost use Rattle.std.specs.Option.{option_map};
 ghost use Rattle.std.specs.Result.{result_err};
 ghost use Rattle.bolt_format.specs.Freelists.{free_ids_at, free_ids_of, freelist_fault, freelist_fault_of, ids_fault, ids_from, ids_start, id_count};
 ghost use Rattle.bolt_format.specs.ShownIds.{shown_ids};
 
-use crate::good_page::FreeIds;
+use crate::bytes::u64_at;
 use crate::header::{HEADER_LEN, Kind};
+use crate::ids::FreeIds;
 use crate::meta::{Meta, NO_FREELIST};
-use crate::open_page::{PageFault, known_span, test_span};
-use crate::u64_at;
+use crate::open_page::{known_span, test_span};
+use crate::page_fault::PageFault;
 
 /// The count in the header if the number of ids is in the first 8 bytes.
 const LONG_COUNT: u16 = 0xFFFF;
@@ -44,7 +45,10 @@ pub fn free_ids_at<'a>(file: &'a [u8], meta: &Meta, id: u64) -> Result<FreeIds<'
     ensures good { OnOk result (freelist_fault file.now meta.now id ≡ None) }
     ensures fault { IfErr result (λ fault. (freelist_fault file.now meta.now id ≡ Some fault.number) × (fault.page ≡ id)) }
 {
-    ids_of_page(file, meta, id).map_err(|number| PageFault { number, page: id })
+    ids_of_page(file, meta, id).map_err(|code| PageFault {
+        number: code,
+        page: id,
+    })
 }
 
 /// Reads page `id` as a freelist.

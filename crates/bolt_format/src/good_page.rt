@@ -1,11 +1,10 @@
-//! What passed its tests and is read in place: a page, and the ids of a freelist page.
-ghost use Rattle.std.specs.Prelude.{◌≡◌, ◌+◌, ◌*◌, ◌<◌, ◌≤◌, ◌↔◌, None, Some, IsTrue, length, slice_get};
+//! A page that passed its tests.
+ghost use Rattle.std.specs.Prelude.{◌≡◌, ◌<◌, None, Some, IsTrue, length, slice_get};
 ghost use Rattle.std.proofs.Props.{props};
 ghost use Rattle.bolt_format.specs.{ElementPlaces.branch_view, ElementPlaces.leaf_view, Elements.IsBucketValue, Pages.content_fault};
 
 use crate::element::{Branch, Leaf, branch_at, leaf_at};
 use crate::header::Kind;
-use crate::u64_at;
 
 /// A page that passed all tests. Its elements are read in place, each in constant time.
 #[derive(Clone, Copy)]
@@ -61,41 +60,5 @@ impl<'a> Page<'a> {
         ensures bucket { IsTrue result.is_bucket → IsBucketValue result.value.now }
     {
         leaf_at(self.span, i)
-    }
-}
-
-/// The ids of a freelist page: the numbers of free pages. They are read in place, each in constant
-/// time.
-#[derive(Clone, Copy)]
-pub struct FreeIds<'a> {
-    pub(crate) bytes: &'a [u8],
-    pub(crate) start: usize,
-    pub(crate) len: usize,
-    ghost within: { start + 8 * len ≤ length bytes.now },
-}
-
-impl<'a> FreeIds<'a> {
-    ghost use Rattle.bolt_format.specs.ShownIds.{shown_ids};
-
-    /// The number of ids.
-    pub fn len(&self) -> usize
-        ensures { result ≡ length (shown_ids self.now) }
-    {
-        self.len
-    }
-
-    /// Whether there are no ids.
-    pub fn is_empty(&self) -> bool
-        ensures { IsTrue result ↔ (length (shown_ids self.now) ≡ 0) }
-    {
-        self.len() == 0
-    }
-
-    /// Id `i`, in the order of the page. `i` is below `len`.
-    pub fn get(&self, i: usize) -> u64
-        requires { i < length (shown_ids self.now) }
-        ensures { slice_get (shown_ids self.now) i ≡ Some result }
-    {
-        u64_at(self.bytes, self.start + 8 * i)
     }
 }

@@ -2,10 +2,10 @@
 ghost use Rattle.std.specs.Prelude.{◌≡◌, ◌⊎◌, ◌↔◌, ◌<◌, ◌≤◌, ◌^◌, ℕ, ◌+◌, ◌++◌, Bool, false, IsTrue, List, Some, Contains, drop, length, take};
 ghost use Rattle.bolt_format.specs.{Bytes.IsBytes, ElementLengths.HasFitLengths};
 ghost use Rattle.bolt_format.specs.Elements.{IsBucketValue, LeafElement, element_at, head_root, inline_elements};
-ghost use Rattle.bolt_format.specs.Metas.{HasMetaFault, HasSlotFault, IsChosen, IsInSlot, IsMeta, IsMetasEnd};
+ghost use Rattle.bolt_format.specs.Metas.{HasMetaFault, HasSlotFault, IsActive, IsInSlot, IsMeta, IsMetasEnd};
 ghost use Rattle.bolt_format.specs.Pages.{PageView, page_at};
 ghost use Rattle.bolt_format.specs.ReadBack.{IsBranchHeader, IsBranchHeaderFit, IsHead, IsHeader, IsHeaderFit, IsLeafHeader, IsLeafHeaderFit, IsMetaFit};
-ghost use Rattle.bolt_format.specs.Written.{branch_header, head_bytes, header_bytes, leaf_header, meta_bytes};
+ghost use Rattle.bolt_format.specs.Encoded.{branch_header, head_bytes, header_bytes, leaf_header, meta_bytes};
 ghost use Rattle.bolt_format.specs.declared.header.Kind.{Kind};
 ghost use Rattle.bolt_format.specs.declared.header.Kind.TheVariants as kind;
 ghost use Rattle.bolt_format.specs.{declared.meta.Meta.Meta, declared.meta.MetaFault.MetaFault, declared.meta.Slot.Slot};
@@ -22,16 +22,16 @@ pub fn slot_meta_is_one()
 {}
 
 /// A file has at most one active meta.
-pub fn chosen_meta_is_one()
-    ensures { (file : List ℕ) (slot : Slot) (meta : Meta) → IsChosen file slot meta
-        → (other : Slot) (another : Meta) → IsChosen file other another → (other ≡ slot) × (another ≡ meta) }
+pub fn active_meta_is_one()
+    ensures { (file : List ℕ) (slot : Slot) (meta : Meta) → IsActive file slot meta
+        → (other : Slot) (another : Meta) → IsActive file other another → (other ≡ slot) × (another ≡ meta) }
 {}
 
 /// All metas of a file, and the faults of slots without a valid one, are those of a prefix. Its
 /// length is known by the first 80 bytes.
 pub fn metas_lie_in_a_prefix()
     ensures chosen { (file : List ℕ) (end : ℕ) → IsMetasEnd (take 80 file) end
-        → (slot : Slot) (meta : Meta) → IsChosen (take end file) slot meta ↔ IsChosen file slot meta }
+        → (slot : Slot) (meta : Meta) → IsActive (take end file) slot meta ↔ IsActive file slot meta }
     ensures slot { (file : List ℕ) (end : ℕ) → IsMetasEnd (take 80 file) end
         → (slot : Slot) (meta : Meta) → IsInSlot (take end file) slot meta ↔ IsInSlot file slot meta }
     ensures fault { (file : List ℕ) (end : ℕ) → IsMetasEnd (take 80 file) end

@@ -3,73 +3,35 @@
 //! shows, not how it is laid out.
 #![tactic(auto)]
 
-ghost use Rattle.std.specs.Prelude.{◌≡◌, ◌+◌, ◌≤◌, length};
-ghost use Rattle.bolt_format.specs.Bytes.{fnv_of, number_at};
-
 mod bucket;
+mod bytes;
+mod content;
 mod element;
+mod encode;
 mod freelist;
 mod good_page;
 mod header;
+mod ids;
 pub mod laws;
 mod meta;
+mod open_bucket;
 mod open_page;
+mod page_fault;
 mod sink;
-mod written;
 
 pub use bucket::{HEAD_LEN, Head, Inline};
-use byteorder::{ByteOrder, LittleEndian};
+pub use bytes::fnv1a;
 pub use element::{Branch, ELEMENT_LEN, Leaf};
+pub use encode::{branch_header, bucket_head, leaf_header, meta_page, page_header};
 pub use freelist::{free_ids, free_ids_at};
-pub use good_page::{FreeIds, Page};
+pub use good_page::Page;
 pub use header::{HEADER_LEN, Kind};
+pub use ids::FreeIds;
 pub use meta::{
     META_LEN, METAS_END, Meta, MetaFault, NO_FREELIST, Slot, choose, meta_at, metas_end,
     page_size_ok, slot_meta,
 };
-pub use open_page::{PageFault, head, inline, known, page};
+pub use open_bucket::{head, inline};
+pub use open_page::{known, page};
+pub use page_fault::PageFault;
 pub use sink::{MemSink, Sink, SinkFault, WriteSink};
-pub use written::{branch_header, bucket_head, leaf_header, meta_page, page_header};
-
-const FNV_BASIS: u64 = 0xcbf2_9ce4_8422_2325;
-
-const FNV_PRIME: u64 = 0x0100_0000_01b3;
-
-/// The number in the 2 bytes from byte `at`.
-#[tactic(auto, unfolding(crate::specs::Bytes::number_at))]
-pub(crate) fn u16_at(bytes: &[u8], at: usize) -> u16
-    requires { at + 2 ≤ length bytes.now }
-    ensures { result ≡ number_at bytes.now at 2 }
-{
-    LittleEndian::read_u16(&bytes[at..])
-}
-
-/// The number in the 4 bytes from byte `at`.
-#[tactic(auto, unfolding(crate::specs::Bytes::number_at))]
-pub(crate) fn u32_at(bytes: &[u8], at: usize) -> u32
-    requires { at + 4 ≤ length bytes.now }
-    ensures { result ≡ number_at bytes.now at 4 }
-{
-    LittleEndian::read_u32(&bytes[at..])
-}
-
-/// The number in the 8 bytes from byte `at`.
-#[tactic(auto, unfolding(crate::specs::Bytes::number_at))]
-pub(crate) fn u64_at(bytes: &[u8], at: usize) -> u64
-    requires { at + 8 ≤ length bytes.now }
-    ensures { result ≡ number_at bytes.now at 8 }
-{
-    LittleEndian::read_u64(&bytes[at..])
-}
-
-/// The 64-bit FNV-1a checksum of the bytes (docs/FORMAT.md, "Checksum").
-#[tactic(auto, unfolding(crate::specs::Bytes::fnv_step, crate::specs::Bytes::fnv_of))]
-pub fn fnv1a(bytes: &[u8]) -> u64
-    ensures { result ≡ fnv_of bytes.now }
-{
-    let mut hash = FNV_BASIS;
-    for byte in bytes {
-        hash = (hash ^ u64::from(*byte)).wrapping_mul(FNV_PRIME);
-    }
-    hash
-}

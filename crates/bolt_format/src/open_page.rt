@@ -1,53 +1,15 @@
 //! Opens a page: tests its number, its header, its span and its content; the first test that fails
-//! is the fault. Opens the value of a bucket on a page that passed.
+//! is the fault.
 ghost use Rattle.std.specs.Prelude.{◌≡◌, ◌+◌, ◌*◌, ◌<◌, ◌^◌, IfErr, IfOk, IsSome, None, OnErr, OnOk, Some};
 ghost use Rattle.std.specs.Result.{result_err};
 ghost use Rattle.bolt_format.specs.{Pages.IsInFile, Pages.page_at, Pages.page_fault, Pages.span_fault, Shown.shown};
-ghost use Rattle.bolt_format.specs.{Elements.IsBucketValue, Elements.head_root, Elements.head_sequence, Elements.inline_elements, ShownInline.shown_inline};
 ghost use Rattle.bolt_format.specs.Private.Spans.{IsSpan, IsWithin};
 
-use crate::bucket::{HEAD_LEN, Head, Inline};
-use crate::element::test_content;
+use crate::content::test_content;
 use crate::good_page::Page;
 use crate::header::{Header, Kind};
 use crate::meta::Meta;
-use crate::u64_at;
-
-/// The first test that a page fails (docs/FORMAT.md, "The tests of a page").
-#[derive(Clone, Copy, Debug, PartialEq, Eq)]
-pub struct PageFault {
-    /// Which test: one of the constants below.
-    pub number: u8,
-    /// The number of the page that was asked for.
-    pub page: u64,
-}
-
-impl PageFault {
-    /// The page, or the last page of its span, is at or above the high-water mark.
-    pub const RANGE: u8 = 6;
-    /// The file ends before the header or the span does.
-    pub const CUT: u8 = 7;
-    /// The header has the number of another page.
-    pub const ID: u8 = 8;
-    /// The flags are those of no kind of page.
-    pub const PAGE_KIND: u8 = 9;
-    /// The table or the data of an element ends past the span.
-    pub const ELEMENT_CUT: u8 = 10;
-    /// The data of an element begins before the end of the table or of the preceding data.
-    pub const DATA_ORDER: u8 = 11;
-    /// A key has no bytes, or more than 2^30.
-    pub const KEY_LENGTH: u8 = 12;
-    /// A value has more than 2^31 - 2 bytes.
-    pub const VALUE_LENGTH: u8 = 13;
-    /// The flags of a leaf element are neither 0 nor 1.
-    pub const LEAF_FLAGS: u8 = 14;
-    /// The value of a bucket has fewer than 16 bytes.
-    pub const BUCKET_SHORT: u8 = 15;
-    /// The page in the value of an inline bucket is not a good leaf page.
-    pub const INLINE_PAGE: u8 = 16;
-    /// An inline bucket contains a bucket.
-    pub const INLINE_NESTED: u8 = 17;
-}
+use crate::page_fault::PageFault;
 
 /// The bytes of a page's span, and the fields of its header.
 #[derive(Clone, Copy)]
@@ -69,7 +31,10 @@ pub fn page<'a>(file: &'a [u8], meta: &Meta, id: u64) -> Result<Page<'a>, PageFa
     ensures fault { IfErr result (λ fault. (page_fault file.now meta.now id ≡ Some fault.number) × (fault.page ≡ id)) }
     ensures none { OnErr result (page_at file.now meta.now id ≡ None) }
 {
-    test_page(file, meta, id).map_err(|number| PageFault { number, page: id })
+    test_page(file, meta, id).map_err(|code| PageFault {
+        number: code,
+        page: id,
+    })
 }
 
 /// Opens the same page, but tests nothing. The page is known to be good.
@@ -158,34 +123,5 @@ pub(crate) fn known_span<'a>(file: &'a [u8], meta: &Meta, id: u64) -> Span<'a>
         count: header.count,
         overflow: header.overflow,
         bytes: &file[start as usize..end as usize],
-    }
-}
-
-/// The root page and the sequence of a bucket, from its value. The value is that of a bucket on a
-/// good page.
-#[tactic(auto, using(crate::proofs::GoodPages::good_head))]
-pub fn head(value: &[u8]) -> Head
-    requires { IsBucketValue value.now }
-    ensures root { result.root ≡ head_root value.now }
-    ensures sequence { result.sequence ≡ head_sequence value.now }
-{
-    Head {
-        root: u64_at(value, 0),
-        sequence: u64_at(value, 8),
-    }
-}
-
-/// The page of an inline bucket, from its value. The value is that of a bucket on a good page, and
-/// its root is 0.
-#[tactic(auto, using(crate::proofs::GoodPages::good_inline, crate::proofs::GoodPages::good_elements, crate::proofs::GoodPages::flat_elements), unfolding(crate::specs::ShownInline::shown_inline))]
-pub fn inline(value: &[u8]) -> Inline<'_>
-    requires bucket { IsBucketValue value.now }
-    requires inline { head_root value.now ≡ 0 }
-    ensures { shown_inline result ≡ inline_elements value.now }
-{
-    let bytes = &value[HEAD_LEN..];
-    Inline {
-        count: Header::read(bytes).count,
-        bytes,
     }
 }

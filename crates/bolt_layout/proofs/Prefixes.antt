@@ -2,10 +2,10 @@
 use Rattle.std.proofs.Common.{◌≡◌, ◌∙◌, ℕ, ◌+◌, ◌-◌, ◌*◌, ◌^◌, ◌<◌, ◌≤◌, List, [], ◌∷◌, ◌++◌, length, drop, take, Some, Err, refl, ap, subst, inl, inr, arith}
 use Rattle.std.proofs.Math.Seq.{take-append-add}
 use Rattle.std.proofs.lemmas.List.{drop-take, length-take}
-use Rattle.bolt_layout.proofs.Words.{AllByRecursion, At_page, cases_lt, chosen_of, copy_meta, eq-eqb, header_bytes, header_written, IsAsked, IsChosen, IsHeaderFit, IsMeta, IsPageSize, Kind, Layout, layout_mark, layout_of, layout_root, le-ltb, length-header_bytes, length-meta_bytes, Meta, meta_bytes, meta_written, node_at, One, page_at, page_fault, Placed, placed_bytes, root_spot, span_fault, Tree, Zero}
+use Rattle.bolt_layout.proofs.Words.{AllByRecursion, At_page, cases_lt, chosen_of, copy_meta, eq-eqb, header_bytes, header_written, IsAsked, IsActive, IsHeaderFit, IsMeta, IsPageSize, Kind, Layout, layout_mark, layout_of, layout_root, le-ltb, length-header_bytes, length-meta_bytes, Meta, meta_bytes, meta_written, node_at, One, page_at, page_fault, Placed, placed_bytes, root_spot, span_fault, Tree, Zero}
 use Rattle.bolt_layout.proofs.PageRows.{IsInARow, IsPageFit, last_written, page_headed, row_last}
 use Rattle.bolt_layout.proofs.Soundness.{IsLaidOut, laid_out}
-use Rattle.bolt_format.specs.{Metas.IsInOne, Metas.IsInSlot, declared.open_page.TheConstants.PageFault.CUT, declared.meta.Slot.Slot}
+use Rattle.bolt_format.specs.{Metas.IsInOne, Metas.IsInSlot, declared.page_fault.TheConstants.PageFault.CUT, declared.meta.Slot.Slot}
 use Rattle.bolt_check.specs.{Findings.PageTests, Findings.finding, Sound.IsFirstFinding, Sound.IsRefused, declared.fault.CheckFault.TheVariants.Structure}
 use Rattle.bolt_layout.specs.Copies.{RefusesPrefixes}
 
@@ -53,7 +53,7 @@ not_second file page_size root sequence mark other first short (inl (before, zer
 not_second file page_size root sequence mark other first short (inr (none, lone)) = none (copy_meta page_size root sequence mark 0) first
 
 only_first : (file : List ℕ) (page_size root sequence mark : ℕ) → IsMeta file 0 (copy_meta page_size root sequence mark 0) → length file < page_size + 80
-    → IsChosen file Zero (copy_meta page_size root sequence mark 0)
+    → IsActive file Zero (copy_meta page_size root sequence mark 0)
 only_first file page_size root sequence mark first short = record {
   valid = first;
   newest = λ other valid. absurd (not_second file page_size root sequence mark other first short valid);

@@ -1,6 +1,6 @@
 -- The layout of a tree is a sound file.
 use Rattle.std.proofs.Common.{◌≡◌, ◌∙◌, ℕ, ◌+◌, ◌-◌, ◌*◌, ◌^◌, ◌<◌, ◌≤◌, List, [], ◌∷◌, ◌++◌, length, drop, replicate, Option, Some, refl, sym, ap, inl, inr, arith, append_assoc}
-use Rattle.bolt_layout.proofs.Words.{AllByRecursion, append-nil, cases_lt, chosen_of, copy_meta, freelist_page, HasSoundTrees, header_bytes, IsChosen, IsMeta, IsPageSize, IsStorable, items_of, Layout, layout_mark, layout_meta, layout_of, layout_pages, layout_root, length-append, length-header_bytes, length-meta_bytes, Meta, meta_bytes, meta_page, meta_written, mul-le-mul_left, node_at, node_of, One, page_fault, PageView, part_next, Placed, placed_bytes, reached, root_of, root_over, root_spot, size_bounds, Tree, Zero}
+use Rattle.bolt_layout.proofs.Words.{AllByRecursion, append-nil, cases_lt, chosen_of, copy_meta, freelist_page, HasSoundTrees, header_bytes, IsActive, IsMeta, IsPageSize, IsStorable, items_of, Layout, layout_mark, layout_meta, layout_of, layout_pages, layout_root, length-append, length-header_bytes, length-meta_bytes, Meta, meta_bytes, meta_page, meta_written, mul-le-mul_left, node_at, node_of, One, page_fault, PageView, part_next, Placed, placed_bytes, reached, root_of, root_over, root_spot, size_bounds, Tree, Zero}
 use Rattle.bolt_layout.proofs.SpanLemmas.{IsEmptyFreelist, IsShown, freelist_shown, length-filled}
 use Rattle.bolt_format.specs.{Metas.HasBothMetas, ReadBack.IsMetaFit}
 use Rattle.bolt_check.specs.{Nodes.node_seen, Sound.HasRightAccounts, Sound.PassesTests}
@@ -151,7 +151,7 @@ laid_out which page_size tree sequence size storable sized short =
 
 pub record IsSoundLayout (which : Layout) (page_size : ℕ) (tree : Tree) (sequence : ℕ) : Type 0 where
   pub metas : HasBothMetas (layout_of which page_size tree sequence)
-  pub chosen : IsChosen (layout_of which page_size tree sequence) One (layout_meta which page_size tree sequence 1)
+  pub chosen : IsActive (layout_of which page_size tree sequence) One (layout_meta which page_size tree sequence 1)
   pub trees : HasSoundTrees (layout_of which page_size tree sequence) (layout_meta which page_size tree sequence 1)
   pub accounts : HasRightAccounts (layout_of which page_size tree sequence) (layout_meta which page_size tree sequence 1)
   pub room : layout_mark which page_size tree ≤ limit

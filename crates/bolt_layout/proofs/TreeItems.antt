@@ -7,7 +7,7 @@ use Rattle.bolt_layout.proofs.{KeyLaws.IsBelowItem, KeyLaws.IsWithin, KeyLaws.Ri
 use Rattle.bolt_layout.proofs.{OverRows.HasShortKey, OverRows.IsAtMost, OverRows.root_is_over, Parts.IsPart, Parts.part_inline, Parts.part_none}
 use Rattle.bolt_layout.proofs.{LaidPages.limit, LaidItems.IsItem, LaidItems.items_size, LaidItems.length-elements}
 use Rattle.bolt_layout.proofs.{LeafPages.IsPage, LeafPages.above_none, LeafPages.items_keys, BranchPages.over_page}
-use Rattle.bolt_format.proofs.WrittenHeaders.{length-head_bytes, root_passes}
+use Rattle.bolt_format.proofs.EncodedHeaders.{length-head_bytes, root_passes}
 
 -- an item with no pages below it
 flat_item : (page_size : ℕ) (key value : List ℕ) (flag : Bool) → 1 ≤ length key → length key ≤ 0x40000000 → length value ≤ 0x7FFFFFFE → (flag ≡ true → value_fault value ≡ None)

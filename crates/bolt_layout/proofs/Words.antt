@@ -7,13 +7,13 @@ pub use Rattle.bolt_check.specs.Ways.{At_inline, At_page, PageSpot, Spot, bucket
 unfoldable pub use Rattle.bolt_check.specs.Nodes.{node_at}
 pub use Rattle.bolt_format.proofs.{FaultLemmas.first_of-both, NumberLemmas.part_next, NumberLemmas.part_read, NumberLemmas.part_within}
 pub use Rattle.bolt_format.proofs.PageSizes.{largest_page, size_bounds}
-pub use Rattle.bolt_format.proofs.WrittenHeaders.{head_written, header_written, length-header_bytes}
-pub use Rattle.bolt_format.proofs.WrittenMetas.{chosen_of, length-meta_bytes, meta_written}
+pub use Rattle.bolt_format.proofs.EncodedHeaders.{head_written, header_written, length-header_bytes}
+pub use Rattle.bolt_format.proofs.EncodedMetas.{chosen_of, length-meta_bytes, meta_written}
 unfoldable pub use Rattle.bolt_format.specs.{Bytes.fnv_of, Bytes.fnv_step, Elements.leaf_elements, Elements.leaves_fault, Elements.value_fault}
 unfoldable pub use Rattle.bolt_format.specs.Pages.{page_at, page_fault, span_fault}
-unfoldable pub use Rattle.bolt_format.specs.Written.{branch_header, head_bytes, header_bytes, leaf_header, meta_bytes, meta_record, number_bytes}
+unfoldable pub use Rattle.bolt_format.specs.Encoded.{branch_header, head_bytes, header_bytes, leaf_header, meta_bytes, meta_record, number_bytes}
 pub use Rattle.bolt_format.specs.Elements.{BranchElement, LeafElement, element_at, faults_from, head_root, head_sequence, inline_elements, leaf_element, table_fault}
-pub use Rattle.bolt_format.specs.{Headers.count_field, Headers.flags_field, Metas.IsChosen, Metas.IsMeta, Metas.IsPageSize, Pages.PageView}
+pub use Rattle.bolt_format.specs.{Headers.count_field, Headers.flags_field, Metas.IsActive, Metas.IsMeta, Metas.IsPageSize, Pages.PageView}
 pub use Rattle.bolt_format.specs.{ReadBack.IsHeaderFit, declared.header.Kind.Kind, declared.meta.Meta.Meta}
 pub use Rattle.bolt_format.specs.declared.meta.Slot.TheVariants.{One, Zero}
 pub use Rattle.bolt_layout.specs.Copies.{IsAsked, IsOfOneTree}

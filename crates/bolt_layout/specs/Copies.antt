@@ -1,6 +1,6 @@
 -- What a layout promises: docs/LAYOUT.md, "What holds of both layouts".
 use Rattle.std.specs.Prelude.{◌≡◌, ◌≤◌, ◌<◌, ◌^◌, ℕ, true, List, length, take}
-use Rattle.bolt_format.specs.{Metas.HasBothMetas, Metas.IsChosen, Metas.IsPageSize, declared.open_page.TheConstants.PageFault.CUT}
+use Rattle.bolt_format.specs.{Metas.HasBothMetas, Metas.IsActive, Metas.IsPageSize, declared.page_fault.TheConstants.PageFault.CUT}
 use Rattle.bolt_format.specs.{declared.meta.MetaFault.TheVariants.Cut, declared.meta.Slot.TheVariants.One}
 use Rattle.bolt_check.specs.{Findings.finding, Sound.IsRefused, Sound.IsSound}
 use Rattle.bolt_check.specs.declared.fault.CheckFault.TheVariants.{Open, Structure}
@@ -10,7 +10,7 @@ use Rattle.bolt_layout.specs.{Layout.layout_meta, Layout.layout_of, Storable.IsS
 -- both metas are valid, and that of slot one is active in the layout, which is sound for it, trees and accounts, and has this listing
 pub record IsSoundCopy (which : Layout) (page_size : ℕ) (tree : Tree) (sequence : ℕ) (listing : List Member) : Type 0 where
   pub metas : HasBothMetas (layout_of which page_size tree sequence)
-  pub chosen : IsChosen (layout_of which page_size tree sequence) One (layout_meta which page_size tree sequence 1)
+  pub chosen : IsActive (layout_of which page_size tree sequence) One (layout_meta which page_size tree sequence 1)
   pub sound : IsSound (layout_of which page_size tree sequence) (layout_meta which page_size tree sequence 1) true
   pub lists : IsListing (layout_of which page_size tree sequence) (layout_meta which page_size tree sequence 1) listing
 

@@ -1,6 +1,6 @@
 -- The items of a bucket: its entries as they are stored, and which buckets are inline: docs/LAYOUT.md, "Stored values" and "Inline buckets".
 use Rattle.std.specs.Prelude.{ℕ, ◌+◌, ◌/◌, Bool, true, false, not, ◌&&◌, nat_le, List, [], ◌∷◌, length, if◌then◌else◌}
-use Rattle.bolt_format.specs.{Elements.BranchElement, Elements.LeafElement, Written.head_bytes}
+use Rattle.bolt_format.specs.{Elements.BranchElement, Elements.LeafElement, Encoded.head_bytes}
 use Rattle.bolt_tree.specs.Tree.{Tree, end, with_value, with_bucket}
 use Rattle.bolt_layout.specs.{Cut.max_items, Cut.run_size, Laid.Laid, Laid.elements_of, Laid.size_of, Levels.root_over, PageBytes.inline_value}
 use Rattle.bolt_layout.specs.declared.Layout.{Layout}

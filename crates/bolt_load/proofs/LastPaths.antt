@@ -8,7 +8,8 @@ use Rattle.std.specs.Cmp.Lexicographic.{pointwise}
 use Rattle.std.specs.Prelude.{nat_lt}
 use Rattle.bolt_load.proofs.Words.{and_parts, begins_of, begins_with, bytes_eq, bytes_eq-Decides, fault_after, fault_by, Has, has_bucket, has_split, is_above_last, is_bucket, is_lt, is_open, Item, Key, Less, less_lt, list_any, Member, nat_tests, option_map_or, Path, path_above, path_cmp, path_total, place_fault, take-append-drop}
 use Rattle.bolt_tree.specs.ListingParts.{is_bucket_at}
-use Rattle.bolt_tree.proofs.{ListLemmas.get_behind, Lists.asymmetric, PartLemmas.begins_by, PathOrder.beyond_less, PathOrder.beyond_or_longer}
+use Rattle.bolt_check.proofs.Lists.{get_behind}
+use Rattle.bolt_tree.proofs.{Lists.asymmetric, PartLemmas.begins_by, PathOrder.beyond_less, PathOrder.beyond_or_longer}
 
 -- ---- tests
 

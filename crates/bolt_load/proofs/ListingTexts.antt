@@ -11,7 +11,7 @@ use Rattle.bolt_load.specs.declared.fault.LineFault.TheVariants.{CutOff}
 use Rattle.bolt_load.specs.declared.fault.LoadFault.TheVariants.{Line}
 use Rattle.std.proofs.lemmas.{Bool.Decides.Decides-eqb, Slice.Eq.ends_is}
 use Rattle.bolt_tree.specs.Tree.{tree_of}
-use Rattle.bolt_tree.proofs.ListLemmas.{at_has, has_left, has_right}
+use Rattle.bolt_check.proofs.Lists.{at_has, has_left, has_right}
 use Rattle.bolt_layout.specs.{Copies.IsOfOneTree, Storable.HasLengths}
 
 -- ---- the lines of a text

@@ -19,7 +19,7 @@ unfoldable pub use Rattle.bolt_text.specs.Lines.{lines_of}
 pub use Rattle.bolt_text.specs.ListLines.{hex_path, listing_text}
 unfoldable pub use Rattle.bolt_text.specs.ListLines.{item_end, member_line, value_end}
 pub use Rattle.bolt_text.specs.Numbers.{number_in}
-pub use Rattle.bolt_tree.proofs.ListLemmas.{Has, contains_from_has, has_from_contains, has_split}
+pub use Rattle.bolt_check.proofs.Lists.{Has, contains_from_has, has_from_contains, has_split}
 pub use Rattle.bolt_tree.proofs.PartLemmas.{begins_of}
 pub use Rattle.bolt_tree.proofs.PathOrder.{less_lt, path_total}
 pub use Rattle.bolt_tree.specs.Entries.{Bucket, Item, Value}

@@ -2,9 +2,9 @@
 use Rattle.std.proofs.Common.{◌≡◌, ◌≢◌, ◌∙◌, inl, inr, ℕ, zero, suc, ◌<◌, ◌≤◌, Bool, true, false, ◌||◌, List, [], ◌∷◌, ◌++◌, length, nat_lt, Option, Some, None, Result, Ok, Err, if◌then◌else◌, refl, sym, ap, subst, arith}
 use Rattle.bolt_recover.proofs.Words.{At_inline, At_page, claimed_after, done, early, early_finding, false_from_ne_true, false≢true, Finding, finding, give, Gives, in_span, inline_finding, IsInSpan, Key, late, Member, Meta, meta_pages, nat_tests, Node, node_at, node_below, node_finding, Nodes, none-some, open_finding, or_parts, PageSpot, Passes, Site, site_tasks, root_site, Course, WholeCourse, Spot, step_from, Task, tasks_after, To_give, To_visit, twice, visit, Visited}
 use Rattle.bolt_recover.proofs.{Deciding.decided_by, Deciding.lowest, SiteFacts.step_spot, TaskLists.after_at}
-use Rattle.bolt_check.specs.{Subtrees.Has, declared.fault.TheConstants.Finding.TWICE}
+use Rattle.bolt_check.specs.{Lists.Has, declared.finding.TheConstants.Finding.TWICE}
 use Rattle.bolt_check.proofs.TourExists.{has_number, numbers, shorter, still, without}
-use Rattle.bolt_tree.proofs.ListLemmas.{Has as Among}
+use Rattle.bolt_check.proofs.Lists.{Has as Among}
 
 -- a page that can be opened is a node
 early_ok : (b : Bool) (x : Finding) (r : Result Node ℕ) (number : ℕ) → (if b then Some x else open_finding r number) ≡ None → (node : Node) × (r ≡ Ok node)
@@ -72,12 +72,12 @@ module _ (file : List ℕ) (meta : Meta) {W : Type 0} (further : W → ℕ → W
 
   -- each page below the mark that isn't claimed is among these
   abbrev Covers : (ℕ → Bool) → List ℕ → Type 0
-  Covers claimed left = (n : ℕ) → n < meta.high_water → claimed n ≡ false → Has n left
+  Covers claimed left = (n : ℕ) → n < meta.high_water → claimed n ≡ false → Has left n
 
   own_span : (number overflow : ℕ) → (node : Node) → in_span (Ok node) number number ≡ true
   own_span number overflow node = grind (arith, nat_tests)
 
-  covers_less : (claimed : ℕ → Bool) (left : List ℕ) (s : PageSpot) (node : Node) (has : Has s.number left) → node_at file meta s.number ≡ Ok node → Covers claimed left
+  covers_less : (claimed : ℕ → Bool) (left : List ℕ) (s : PageSpot) (node : Node) (has : Has left s.number) → node_at file meta s.number ≡ Ok node → Covers claimed left
       → Covers (claimed_after (node_at file meta) claimed (At_page s) None) (without s.number left has)
   covers_less claimed left s node has page covers n below free =
       let both = or_parts (claimed n) (in_span (node_at file meta s.number) s.number n) free in

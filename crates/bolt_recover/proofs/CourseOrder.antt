@@ -1,9 +1,9 @@
 -- A course visits ways in their order.
 use Rattle.std.proofs.Common.{◌≡◌, ◌∙◌, ◌<◌, inl, inr, ℕ, Bool, List, [], ◌∷◌, ◌++◌, map, Option, refl, sym, ap, subst, append_assoc}
-use Rattle.bolt_recover.proofs.Words.{append-nil, Before, done, Finding, further, give, Has, has_split, IsBeforeAll, Member, Meta, Site, rises_append, RisesBy, Course, Task, tasks_after, To_give, To_visit, SurveyedWay, visit, Visited, Way}
+use Rattle.bolt_recover.proofs.Words.{append-nil, Before, done, Finding, further, give, Has, has_split, Each, Member, Meta, Site, rises_append, RisesBy, Course, Task, tasks_after, To_give, To_visit, SurveyedWay, visit, Visited, Way}
 use Rattle.bolt_recover.proofs.{SurveyIsOne.parent_before, SurveyIsOne.ways, TaskLists.IsAt, TaskLists.after_at, TaskLists.after_rises}
-use Rattle.bolt_check.specs.Tours.{Rises}
-use Rattle.bolt_tree.proofs.ListLemmas.{Has as Among}
+use Rattle.bolt_check.specs.{Lists.RisesBy, Ways.Before}
+use Rattle.bolt_check.proofs.Lists.{Has as Among}
 
 abbrev pub visits_of : List (Visited Way) → List SurveyedWay
 visits_of visits = map (λ (v : Visited Way). record { way = v.way; found = v.found }) visits
@@ -39,9 +39,9 @@ module _ (file : List ℕ) (meta : Meta) where
   child_ahead w p j (To_visit v t) (To_give path e) at before = tt
   child_ahead w p j (To_visit v t) (To_visit u q) at before = λ rest. subst (λ (z : Way). Before z u) (sym (append_assoc w (j ∷ []) rest) ∙ ap (λ (z : Way). z ++ rest) (sym at.0)) (before (j ∷ rest))
 
-  before_all : (w : Way) (visits : List SurveyedWay) → ((u : SurveyedWay) → Has visits u → Before w u.way) → IsBeforeAll w (ways visits)
-  before_all w [] h = tt
-  before_all w (x ∷ visits) h = (h x (inl refl), before_all w visits (λ u has. h u (inr has)))
+  before_all : (w : Way) (visits : List SurveyedWay) → ((u : SurveyedWay) → Has visits u → Before w u.way) → Each (Before w) (ways visits)
+  before_all w [] h = λ u has. absurd has
+  before_all w (x ∷ visits) h = λ u has. elim has [ inl e ↦ subst (Before w) e (h x (inl refl)) | inr later ↦ before_all w visits (λ v inside. h v (inr inside)) u later ]
 
   -- all below what is to be visited next, and all below what comes after it
   below : (w u : Way) (p : Site) (found : Option Finding) (tasks : List (Task Way)) → ((b : Task Way) → Among tasks b → Ahead (To_visit w p) b) → Under (tasks_after file meta further w p found ++ tasks) u
@@ -57,7 +57,7 @@ module _ (file : List ℕ) (meta : Meta) where
       ]
 
   abbrev Rise : List (Task Way) → List (Visited Way) → Type 0
-  Rise tasks visits = Rises (ways (visits_of visits)) × ((u : SurveyedWay) → Has (visits_of visits) u → Under tasks u.way)
+  Rise tasks visits = RisesBy Before (ways (visits_of visits)) × ((u : SurveyedWay) → Has (visits_of visits) u → Under tasks u.way)
 
   pub rises_course : (claimed : ℕ → Bool) (tasks : List (Task Way)) (visits : List (Visited Way)) (members : List Member)
       → Course file meta further claimed tasks visits members → RisesBy Ahead tasks → Rise tasks visits

@@ -3,7 +3,7 @@ use Rattle.std.proofs.Common.{◌≡◌, ◌∙◌, ◌<◌, inl, inr, ℕ, suc,
 use Rattle.bolt_recover.proofs.Words.{before_longer, below_less, cases_lt, cases_order, Contains, contains_cases, contains_none, done, Each, Finding, from_more, get_before, give, Gives, has_split, is_below, is_from, is_lt, item_of, Key, key_cmp, key_lt, key_same, LeafElement, Less, less_of, lower_of, lt_not_trans, lt_trans, Member, member_cmp, Meta, node_at, none-some, not_true, Path, path_cmp, Site, site_tasks, Rises, rises_append, RisesBy, root_site, Course, WholeCourse, same_front, same_Some, step_site, Task, tasks_after, To_give, To_visit, upper_of, visit, Visited}
 use Rattle.bolt_recover.proofs.{TaskLists.IsAt, TaskLists.after_at, TaskLists.after_rises, SiteKeys.IsChild, SiteKeys.Keyed, SiteKeys.keyed}
 use Rattle.bolt_recover.proofs.SiteSteps.{IsTidy, tidy_root, tidy_step}
-use Rattle.bolt_tree.proofs.ListLemmas.{Has as Among}
+use Rattle.bolt_check.proofs.Lists.{Has as Among}
 
 -- a path that a site may lead to
 abbrev InVisit : Site → Path → Type 0

@@ -5,8 +5,8 @@ use Rattle.bolt_recover.proofs.SiteFacts.{elements_is, leads_within, site_furthe
 use Rattle.bolt_recover.proofs.CourseOrder.{rises_course, visits_of}
 use Rattle.bolt_recover.proofs.SurveyIsOne.{Suffix, earlier, gives_same, next_suffix, ways}
 use Rattle.bolt_recover.proofs.TaskLists.{IsAt, after_at, at_from}
-use Rattle.bolt_check.specs.Tours.{Rises}
-use Rattle.bolt_tree.proofs.ListLemmas.{Has as Among}
+use Rattle.bolt_check.specs.{Lists.RisesBy, Ways.Before}
+use Rattle.bolt_check.proofs.Lists.{Has as Among}
 
 -- the claims of a spot are its span
 span_in : (r : Result Node ℕ) (number n : ℕ) → (in_span r number n ≡ true) ↔ SpanOf r number n
@@ -247,7 +247,7 @@ module _ (file : List ℕ) (meta : Meta) (survey : List SurveyedWay) where
 
 -- what a course from the root page visits
 module _ (file : List ℕ) (meta : Meta) (visits : List (Visited Way)) (members : List Member) (course : WholeCourse file meta further [] visits members) where
-  rise : Rises (ways (visits_of visits))
+  rise : RisesBy Before (ways (visits_of visits))
   rise = (rises_course file meta meta_pages (To_visit [] (root_site file meta) ∷ []) visits members course (λ b h. absurd h, tt)).0
 
   from_metas : AreClaims file meta (visits_of visits) (λ v. ⊥) meta_pages

@@ -4,7 +4,7 @@ use Rattle.bolt_recover.proofs.Words.{All, All-head, All-tail, AreJoinable, belo
 use Rattle.bolt_recover.proofs.JoinedLemmas.{joined_keeps, joined_of, put_recovered, stays, with_elements}
 use Rattle.bolt_recover.specs.{declared.joined.Joined.Joined, declared.joined_parts.FoundMembers.FoundMembers, declared.joined.Stage.Stage}
 use Rattle.bolt_recover.specs.declared.joined.Stage.TheVariants.{After, Before, Inside}
-use Rattle.bolt_tree.specs.declared.Item.{Item as CodeItem}
+use Rattle.bolt_tree.specs.declared.entry.Item.{Item as CodeItem}
 
 pub first_found : (path : Path) → is_eq (first_cmp path) ≡ is_found_path path
 first_found [] = refl

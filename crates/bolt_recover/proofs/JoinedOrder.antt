@@ -4,7 +4,7 @@ use Rattle.bolt_recover.proofs.Words.{AreFound, contains_from_has, Each, Entry, 
 use Rattle.bolt_recover.proofs.{FoundAll.lost_or_none, FoundLemmas.found_here, SiteSteps.HasForm, SiteSteps.page_form}
 use Rattle.bolt_recover.proofs.{JoinedLemmas.joined_between, JoinedLemmas.with_elements, PageNames.digits_rise}
 use Rattle.bolt_recover.proofs.TreeOrder.{HasKey, Ordered, elements_ordered, inside_ordered}
-use Rattle.bolt_tree.proofs.ListLemmas.{Has as Among}
+use Rattle.bolt_check.proofs.Lists.{Has as Among}
 
 -- found pages with rising numbers
 abbrev Page : Type 0

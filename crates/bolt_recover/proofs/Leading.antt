@@ -2,8 +2,8 @@
 use Rattle.std.proofs.Common.{◌≡◌, ◌∙◌, ℕ, ◌<◌, Bool, true, false, List, Option, Some, None, Ok, IfSome, length, slice_get, refl, sym, ap, arith, inl, inr}
 use Rattle.bolt_recover.proofs.Words.{At_inline, content_site, Entry, Key, LeafElement, length-leaf, Meta, node_at, option_map, Page, page_spot, PageSpot, Path, site_on, shown, shown_node, slice_get_cases, spot_at, spot_site, step_entry, step_on, step_path, step_site, tree_kind, TreePage}
 use Rattle.bolt_format.proofs.PageLaws.{length-shown_leaves}
-use Rattle.bolt_check.specs.{ShownSpots.IsInner, declared.visit.PageSpot.PageSpot as CodePageSpot, declared.visit.Spot.Spot}
-use Rattle.bolt_check.specs.declared.visit.Spot.TheVariants as spots
+use Rattle.bolt_check.specs.{ShownSpots.IsInner, declared.spot.PageSpot.PageSpot as CodePageSpot, declared.spot.Spot.Spot}
+use Rattle.bolt_check.specs.declared.spot.Spot.TheVariants as spots
 
 -- only an element of a leaf leads to an inline bucket
 from_leaf : (is_leaf : Bool) (s : PageSpot) (e next : Option Entry) (host : ℕ) (keys : List Key) → Some (At_inline host keys) ≡ step_entry is_leaf s e next → is_leaf ≡ true

@@ -4,7 +4,7 @@ use Rattle.bolt_recover.proofs.Words.{All-nil, AreLosses, At_page, bytes_of, Che
 use Rattle.bolt_recover.proofs.{FoundAll.are_none, Existing.has_survey, JoinSteps.gives_prop, LostWays.no_losses, SoundListing.sound_listing}
 use Rattle.bolt_recover.proofs.SoundSurveys.{none_lost}
 use Rattle.bolt_check.proofs.CheckedLemmas.{checked_trees}
-use Rattle.bolt_tree.specs.{FileListings.ForListing, declared.Item.Item, declared.walk.Walk.Walk}
+use Rattle.bolt_tree.specs.{FileListings.ForListing, declared.entry.Item.Item, declared.walk.Walk.Walk}
 
 pub no_loss : (file : List ℕ) (meta : Meta) (losses : List LossView) → HasSoundTrees file meta → AreLosses file meta losses → losses ≡ []
 no_loss file meta losses trees (survey, is, are) =

@@ -1,9 +1,9 @@
 -- What the steps of a recovering walk leave to be done.
 use Rattle.std.proofs.Common.{◌≡◌, ◌∙◌, ◌≤◌, ◌<◌, ℕ, suc, ◌+◌, ◌-◌, Bool, true, false, ◌↔◌, List, [], ◌∷◌, ◌++◌, length, map, take, drop, Option, Some, None, Result, Ok, Err, OnErr, slice_get, refl, sym, ap, subst, subst₂, arith, append_assoc, length-append}
 use Rattle.bolt_recover.proofs.Words.{after_visit, after_visits, ahead_path_len, ahead_tasks, ahead_weight, append-nil, AreOpen, At_page, both_ways, claimed_after, claims_meta, claims_nodes, ComesTo, Content, content_elements, content_site, content_size, content_spot, counted, Ends, entry_tasks, Finding, Gives, gives_at, GivesHead, GoesOn, HasOpen, is_claimed, is_over, IsAllLeft, IsContent, IsGoodContent, IsGoodPage, IsMetaPage, IsShallow, LeafElement, length-take-le, loss_of, LossView, lost_state, Meta, meta_pages, nat_tests, NextVisit, node_at, NoWay, open_tasks, OpenPage, option_map, Outcome, outcome_of, over_by, Page, page_tasks, page_visit, page_weight, Passes, Path, Site, site_size, site_tasks, root_spot, Course, spot_at, spot_site, State, state_tasks, stay, StaysOn, step_site, take-append-drop, take-append-le, take_all, tally_of, Task, tasks_after, tasks_from, Tests, visits_at}
-use Rattle.bolt_check.specs.{declared.claims.Claims.Claims, declared.visit.PageSpot.PageSpot, declared.visit.Spot.Spot}
+use Rattle.bolt_check.specs.{declared.claims.Claims.Claims, declared.spot.PageSpot.PageSpot, declared.spot.Spot.Spot}
 use Rattle.bolt_recover.specs.declared.content.Content.TheVariants.{Bucket}
-use Rattle.bolt_check.specs.declared.visit.Spot.TheVariants as spots
+use Rattle.bolt_check.specs.declared.spot.Spot.TheVariants as spots
 use Rattle.bolt_recover.proofs.{CourseExists.or_none, CourseForgets.blind_visit, CourseForgets.forgotten, CourseForgets.same_outcome, CourseSteps.gives, CourseSteps.visits_first}
 use Rattle.bolt_recover.proofs.SurveyIsOne.{gives_same}
 

@@ -1,7 +1,7 @@
 -- There is at most one survey. Where two first differ, the preceding kept ways are the same, and so is what the tests find.
 use Rattle.std.proofs.Common.{◌≡◌, ◌∙◌, ℕ, ◌⊎◌, inl, inr, List, [], ◌∷◌, ◌++◌, map, Option, Some, None, refl, sym, ap, subst}
-use Rattle.bolt_recover.proofs.Words.{Before, before_irreflexive, before_strict, before_total, before_trans, Finding, Gives, Has, IsBeforeAll, IsClaimedIn, IsOpen, IsSurvey, kept, Meta, node_at, Nodes, passes_fewer, passes_silent, Reach, reached, Spot, Surveys, tests_same, SurveyedWay}
-use Rattle.bolt_check.specs.Tours.{Rises}
+use Rattle.bolt_recover.proofs.Words.{Before, before_irreflexive, before_strict, before_total, before_trans, Finding, Gives, Has, Each, IsClaimedIn, IsOpen, IsSurvey, kept, Meta, node_at, Nodes, passes_fewer, passes_silent, Reach, reached, Spot, Surveys, tests_same, SurveyedWay}
+use Rattle.bolt_check.specs.{Lists.RisesBy, Ways.Before}
 use Rattle.bolt_check.proofs.Single.{tests_one}
 
 abbrev pub ways : List SurveyedWay → List (List ℕ)
@@ -13,15 +13,15 @@ pub record Suffix (survey : List SurveyedWay) (InFront : SurveyedWay → Type 0)
   pub inside : (v : SurveyedWay) → Has rest v → Has survey v
   pub front : (v : SurveyedWay) → InFront v → Has survey v
   pub after : (v w : SurveyedWay) → InFront v → Has rest w → Before v.way w.way
-  pub rises : Rises (ways rest)
+  pub rises : RisesBy Before (ways rest)
 
-before_each : (way : List ℕ) (rest : List SurveyedWay) → IsBeforeAll way (ways rest) → (w : SurveyedWay) → Has rest w → Before way w.way
+before_each : (way : List ℕ) (rest : List SurveyedWay) → Each (Before way) (ways rest) → (w : SurveyedWay) → Has rest w → Before way w.way
 before_each way [] h w has = absurd has
-before_each way (x ∷ rest) h w (inl e) = rw e h.0
-before_each way (x ∷ rest) h w (inr has) = before_each way rest h.1 w has
+before_each way (x ∷ rest) h w (inl e) = rw e (h x.way (inl refl))
+before_each way (x ∷ rest) h w (inr has) = before_each way rest (λ u inside. h u (inr inside)) w has
 
 -- before the first of them, before all
-before_all : (x y : SurveyedWay) (rest : List SurveyedWay) → Rises (ways (y ∷ rest)) → Before x.way y.way → (w : SurveyedWay) → Has (y ∷ rest) w → Before x.way w.way
+before_all : (x y : SurveyedWay) (rest : List SurveyedWay) → RisesBy Before (ways (y ∷ rest)) → Before x.way y.way → (w : SurveyedWay) → Has (y ∷ rest) w → Before x.way w.way
 before_all x y rest rises lt w (inl e) = subst (λ (z : SurveyedWay). Before x.way z.way) (sym e) lt
 before_all x y rest rises lt w (inr has) = before_trans x.way y.way w.way lt (before_each y.way rest rises.0 w has)
 

@@ -1,7 +1,7 @@
 -- What there is to do at a site, entry by entry.
 use Rattle.std.proofs.Common.{◌≡◌, ◌≤◌, ◌<◌, inl, inr, ℕ, zero, suc, ◌+◌, List, [], ◌∷◌, ◌++◌, Option, Some, None, slice_get, refl, sym, ap, subst, arith}
 use Rattle.bolt_recover.proofs.Words.{cases_lt, entry_tasks, Finding, gives_at, has_left, has_right, has_split, LeafElement, Meta, Path, Site, rises_append, RisesBy, step_site, Task, tasks_after, tasks_from, To_give, To_visit, visits_at}
-use Rattle.bolt_tree.proofs.ListLemmas.{Has as Among}
+use Rattle.bolt_check.proofs.Lists.{Has as Among}
 
 module _ (file : List ℕ) (meta : Meta) {W : Type 0} (further : W → ℕ → W) where
   -- this is to be done at entry i of a site

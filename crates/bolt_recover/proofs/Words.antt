@@ -17,12 +17,12 @@ pub use Rattle.bolt_check.specs.Keys.{Key, KeysRise, is_below, is_from, key_cmp,
 pub use Rattle.bolt_check.specs.LoneLeaves.{IsListedFree, IsLoneLeaf}
 pub use Rattle.bolt_check.specs.Nodes.{Entry, IsInSpan, Node, Nodes, leaf_entry, node_seen}
 pub use Rattle.bolt_check.specs.{Shape.child_at, Shape.child_in, Shape.child_of, Shape.leads, ShownNodes.entries_of, ShownSpots.page_spot, ShownSpots.spot_at}
-pub use Rattle.bolt_check.specs.{Sound.HasSoundTrees, Tours.IsBeforeAll, TreeKinds.tree_kind}
+pub use Rattle.bolt_check.specs.{Sound.HasSoundTrees, TreeKinds.tree_kind}
 pub use Rattle.bolt_check.specs.Ways.{At_inline, At_page, Before, PageSpot, Reach, SpanAt, SpanHas, SpanOf, Spot, bucket_spot, bucket_spots, child_spot, follow}
 pub use Rattle.bolt_check.specs.Ways.{reached, root_spot, step, step_at, step_entry, step_from, step_on, upper_from}
-pub use Rattle.bolt_check.specs.declared.Checked.{Checked}
+pub use Rattle.bolt_check.specs.declared.checked.Checked.{Checked}
 pub use Rattle.bolt_check.specs.declared.fault.CheckFault.TheVariants.{Accounts, Memory, Open, Structure}
-pub use Rattle.bolt_check.specs.{declared.fault.Finding.Finding, declared.tree_page.TreePage.TreePage}
+pub use Rattle.bolt_check.specs.{declared.finding.Finding.Finding, declared.tree_page.TreePage.TreePage}
 pub use Rattle.bolt_format.specs.{ElementPlaces.leaf_view, Elements.LeafElement, Elements.head_root, Elements.head_sequence, Elements.inline_elements}
 pub use Rattle.bolt_format.specs.Headers.{count_field, flags_field, kind_of}
 pub use Rattle.bolt_format.specs.Pages.{PageView, from_page, page_overflow, shown_as, shown_leaves, span_bytes}
@@ -60,8 +60,8 @@ unfoldable pub use Rattle.bolt_recover.specs.LostAndFound.{all_lost}
 unfoldable pub use Rattle.bolt_recover.specs.Recoveries.{recovery_begun, recovery_claimed, recovery_file, recovery_left, recovery_losses, recovery_meta}
 unfoldable pub use Rattle.bolt_recover.specs.Recoveries.{recovery_path, recovery_visited, recovery_work}
 pub use Rattle.bolt_tree.proofs.{EntryOrder.contains_at, Filters.filter_all, Filters.filter_first, Filters.filter_none, Filters.lt_of, Filters.not_lt_of}
-pub use Rattle.bolt_tree.proofs.ListLemmas.{Each, RisesBy, contains_from_has, get_before, has_at, has_from_contains, has_left, has_right, has_split, map_has}
-pub use Rattle.bolt_tree.proofs.ListLemmas.{rises_append, rises_map}
+pub use Rattle.bolt_check.proofs.Lists.{Each, RisesBy, contains_from_has, get_before, has_at, has_from_contains, has_left, has_right, has_split, map_has}
+pub use Rattle.bolt_check.proofs.Lists.{rises_append, rises_map}
 pub use Rattle.bolt_tree.proofs.{Lists.contains_cases, Lists.contains_head, Lists.contains_none, Lists.contains_tail, Lists.rises_once, PartLemmas.filter_rises}
 pub use Rattle.bolt_tree.proofs.PathOrder.{before_longer, flip_less, key_same, key_total, less_lt, path_total, same_front}
 pub use Rattle.bolt_tree.proofs.Single.{lists_once, member_total}

@@ -2,7 +2,7 @@
 use Rattle.std.specs.Prelude.{◌≡◌, ℕ, List, Option}
 use Rattle.std.specs.Option.{option_map}
 use Rattle.bolt_format.specs.declared.meta.Meta.{Meta}
-use Rattle.bolt_tree.specs.{Listing.Member, Paths.Path, ShownEntries.item_view, Walks.GivesNext, declared.Item.Item}
+use Rattle.bolt_tree.specs.{Listing.Member, Paths.Path, ShownEntries.item_view, Walks.GivesNext, declared.entry.Item.Item}
 use Rattle.bolt_recover.specs.{Joined.IsJoined, Private.Joining.left_at, Private.Joining.path_at, Private.Joining.recovered_in, Private.Joining.work_at}
 use Rattle.bolt_recover.specs.{Private.KeptMembers.kept_file, Private.KeptMembers.kept_meta, declared.joined.Joined.Joined}
 

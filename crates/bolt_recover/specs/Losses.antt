@@ -1,7 +1,7 @@
 -- What is reported of a lost way: docs/RECOVERY.md, "Losses".
 use Rattle.std.specs.Prelude.{◌≡◌, ℕ, Bool, true, false, List, [], ◌∷◌, ◌++◌, Option, Some, None}
 use Rattle.bolt_format.specs.declared.meta.Meta.{Meta}
-use Rattle.bolt_check.specs.{Keys.Key, Ways.At_inline, Ways.At_page, Ways.Spot, declared.fault.Finding.Finding}
+use Rattle.bolt_check.specs.{Keys.Key, Ways.At_inline, Ways.At_page, Ways.Spot, declared.finding.Finding.Finding}
 use Rattle.bolt_tree.specs.Paths.{Path}
 use Rattle.bolt_recover.specs.{Sites.Site, Sites.site_at, Surveys.IsSurvey, Surveys.SurveyedWay}
 

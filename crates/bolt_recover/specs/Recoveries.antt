@@ -3,7 +3,7 @@ use Rattle.std.specs.Prelude.{◌≡◌, ◌≤◌, ℕ, Bool, List, Option, len
 use Rattle.std.specs.Option.{option_map}
 use Rattle.bolt_format.specs.declared.meta.Meta.{Meta}
 use Rattle.bolt_check.specs.Counts.{counted}
-use Rattle.bolt_tree.specs.{Listing.Member, Paths.Path, ShownEntries.item_view, Walks.GivesNext, declared.Item.Item}
+use Rattle.bolt_tree.specs.{Listing.Member, Paths.Path, ShownEntries.item_view, Walks.GivesNext, declared.entry.Item.Item}
 use Rattle.bolt_recover.specs.{Losses.AreLosses, Losses.LossView, PageWays.ForPageWays}
 use Rattle.bolt_recover.specs.{Private.Frames.left_by, Private.Frames.state_of, Private.Frames.steps_weight, Recovered.ForRecovered}
 use Rattle.bolt_recover.specs.declared.recovery.Recovery.{Recovery}

@@ -1,11 +1,11 @@
 -- Why nothing of a file is recovered: docs/RECOVERY.md, "The recovering walk".
 use Rattle.std.specs.Prelude.{ℕ, List}
-use Rattle.bolt_format.specs.Metas.{HasMetaFault, HasSlotFault, IsChosen, IsInSlot}
+use Rattle.bolt_format.specs.Metas.{HasMetaFault, HasSlotFault, IsActive, IsInSlot}
 use Rattle.bolt_format.specs.{declared.meta.Meta.Meta, declared.meta.MetaFault.MetaFault, declared.meta.Slot.Slot}
 use Rattle.bolt_check.specs.{Findings.IsMetaPage, Findings.Passes, Findings.Tests, Nodes.node_at, Ways.At_page, Ways.root_spot}
 use Rattle.bolt_check.specs.declared.fault.CheckFault.{CheckFault}
 use Rattle.bolt_check.specs.declared.fault.CheckFault.TheVariants.{Accounts, Memory, Open, Structure}
-use Rattle.bolt_check.specs.declared.fault.Finding.{Finding}
+use Rattle.bolt_check.specs.declared.finding.Finding.{Finding}
 
 -- The root page, to which the empty way leads, is kept, or lost with this finding. The meta pages alone are claimed before.
 abbrev pub KeepsRoot : List ℕ → Meta → Type 0
@@ -30,7 +30,7 @@ IsUnrecoverable file IsMeta HasNone Memory = Unit {0}
 
 -- the active meta, and why there is none
 abbrev pub HasActive : List ℕ → Meta → Type 0
-HasActive file meta = (slot : Slot) × IsChosen file slot meta
+HasActive file meta = (slot : Slot) × IsActive file slot meta
 
 abbrev pub HasNoActive : List ℕ → MetaFault → Type 0
 HasNoActive file fault = HasMetaFault file 0 fault × ((slot : Slot) (meta : Meta) → IsInSlot file slot meta → ⊥)

@@ -1,8 +1,8 @@
 -- What is kept and what is lost of a damaged file: docs/RECOVERY.md, "Kept and lost".
 use Rattle.std.specs.Prelude.{◌≡◌, ℕ, ◌⊎◌, List, [], ◌∷◌, ◌++◌, Option, Some, None, map}
 use Rattle.bolt_format.specs.declared.meta.Meta.{Meta}
-use Rattle.bolt_check.specs.{Findings.IsMetaPage, Findings.Passes, Findings.Tests, Nodes.Nodes, Nodes.node_at, Tours.Rises}
-use Rattle.bolt_check.specs.{Ways.Before, Ways.Reach, Ways.SpanHas, Ways.Spot, Ways.reached, declared.fault.Finding.Finding}
+use Rattle.bolt_check.specs.{Findings.IsMetaPage, Findings.Passes, Findings.Tests, Nodes.Nodes, Nodes.node_at, Lists.RisesBy}
+use Rattle.bolt_check.specs.{Ways.Before, Ways.Reach, Ways.SpanHas, Ways.Spot, Ways.reached, declared.finding.Finding.Finding}
 
 -- A way and what the tests find at it: nothing if the way is kept, and a finding if it is lost.
 pub record SurveyedWay : Type 0 where
@@ -35,7 +35,7 @@ Gives nodes before spot (Some x) = Tests nodes before spot x
 
 -- The ways whose parents are kept, and the empty way, each with what the tests find there; test 18 looks at the kept ways before.
 pub record Surveys (nodes : Nodes) (reach : Reach) (survey : List SurveyedWay) : Type 0 where
-  pub rises : Rises (map (λ (v : SurveyedWay). v.way) survey)
+  pub rises : RisesBy Before (map (λ (v : SurveyedWay). v.way) survey)
   pub only : (v : SurveyedWay) → Has survey v
       → IsOpen survey v.way × ((spot : Spot) × (reach v.way ≡ Some spot) × Gives nodes (IsClaimedIn nodes reach survey v.way) spot v.found)
   pub all : (way : List ℕ) (spot : Spot) → IsOpen survey way → reach way ≡ Some spot → (found : Option Finding) × Has survey (record { way = way; found = found })

@@ -1,7 +1,7 @@
 //! The members of the joined listing: those that are recovered and, in the bucket `lost+found`, what
 //! is found.
 ghost use Rattle.std.specs.Prelude.{◌≡◌, ◌≢◌, ◌<◌, ◌*◌, ◌^◌, [], None, IfErr, IfOk, IfSome, OnErr, OnOk, length};
-ghost use Rattle.bolt_check.specs.declared.fault.Finding.{Finding};
+ghost use Rattle.bolt_check.specs.declared.finding.Finding.{Finding};
 ghost use Rattle.bolt_recover.specs.{Found.numbers_of, Joined.IsJoined, Joined.LacksBucketKey, JoinRefusals.IsJoinRefusal};
 ghost use Rattle.bolt_recover.specs.{Losses.everything, LostAndFound.all_lost, Private.Joining.AreJoinable, Private.Joining.HasNextKept};
 ghost use Rattle.bolt_recover.specs.Private.KeptMembers.{HasSameFile, IsWhole, kept_file, kept_meta};

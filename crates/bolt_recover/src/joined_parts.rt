@@ -4,7 +4,7 @@
 ghost use Rattle.std.specs.Prelude.{◌≡◌, ◌<◌, ◌≤◌, ◌∷◌, [], IfOk, IfSome, IsTrue, None, OnErr, OnOk, false};
 ghost use Rattle.std.specs.Option.{option_map};
 ghost use Rattle.bolt_format.specs.{Bytes.IsBytes, ElementPlaces.leaf_view, Elements.IsBucketValue, Elements.LeafElement, Shown.shown};
-ghost use Rattle.bolt_check.specs.declared.fault.Finding.{Finding};
+ghost use Rattle.bolt_check.specs.declared.finding.Finding.{Finding};
 ghost use Rattle.bolt_tree.specs.{Paths.path_of, ShownEntries.item_view, Tree.end};
 ghost use Rattle.bolt_recover.specs.Joined.{inside_of, lost_and_found, tree_with};
 ghost use Rattle.bolt_recover.specs.{Private.ElementsLeft.elements_left, Private.ElementsLeft.elements_of, Recovered.ForRecovered, Refusals.LosesRoot};

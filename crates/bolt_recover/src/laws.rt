@@ -3,7 +3,7 @@ ghost use Rattle.std.specs.List.{Contains, count_by};
 ghost use Rattle.std.specs.Prelude.{◌≡◌, ◌≢◌, ◌<◌, ◌⊎◌, ◌*◌, ◌^◌, ◌∷◌, ℕ, [], true, List, None, Some, filter, is_some, length, not};
 ghost use Rattle.bolt_format.specs.{Bytes.IsBytes, declared.meta.Meta.Meta};
 ghost use Rattle.bolt_check.specs.{LoneLeaves.IsListedFree, LoneLeaves.IsLoneLeaf, Nodes.node_at, Sound.HasSoundTrees, Sound.IsFirstFinding};
-ghost use Rattle.bolt_check.specs.{Ways.At_page, Ways.Before, Ways.SpanAt, Ways.root_spot, declared.fault.Finding.Finding};
+ghost use Rattle.bolt_check.specs.{Ways.At_page, Ways.Before, Ways.SpanAt, Ways.root_spot, declared.finding.Finding.Finding};
 ghost use Rattle.bolt_tree.specs.{Entries.Bucket, Listing.IsListing, Listing.Member, Listing.member_cmp, Order.Rises, Tree.Tree, Tree.listing_of};
 ghost use Rattle.bolt_recover.specs.Found.{AreFound, IsFoundPage};
 ghost use Rattle.bolt_recover.specs.Joined.{IsFoundMember, IsJoined, LacksBucketKey, LeavesRoom, is_found_path, lost_and_found};

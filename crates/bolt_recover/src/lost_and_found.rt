@@ -1,7 +1,7 @@
 //! What is lost of a file, and what is found of it though nothing leads to it.
 ghost use Rattle.std.specs.List.{All};
 ghost use Rattle.std.specs.Prelude.{◌≡◌, ◌<◌, IfOk};
-ghost use Rattle.bolt_check.specs.{Sound.HasSoundTrees, declared.fault.Finding.Finding};
+ghost use Rattle.bolt_check.specs.{Sound.HasSoundTrees, declared.finding.Finding.Finding};
 ghost use Rattle.bolt_format.specs.Bytes.{IsBytes};
 ghost use Rattle.bolt_recover.specs.{Found.AreFound, Found.numbers_of, Lost.IsAllLost, Private.TreesLeft.IsSearched, ShownFound.IsFoundView};
 ghost use Rattle.bolt_recover.specs.{Refusals.LosesRoot, ShownLosses.lost_view};

@@ -2,7 +2,7 @@
 ghost use Rattle.std.specs.Prelude.{◌≡◌, ◌≤◌, ◌<◌, ◌↔◌, ℕ, List, [], false, true, None, IfOk, IfErr, IfSome, IsTrue, OnErr, OnOk, length, vec_capacity, vec_len};
 ghost use Rattle.std.specs.Option.{option_map};
 ghost use Rattle.bolt_check.specs.{Claims.claims_file, Claims.claims_meta, Claims.claims_visited, Claims.is_claimed, Counts.counted, Findings.IsMetaPage};
-ghost use Rattle.bolt_check.specs.declared.visit.Spot.TheVariants as spots;
+ghost use Rattle.bolt_check.specs.declared.spot.Spot.TheVariants as spots;
 ghost use Rattle.bolt_format.specs.Elements.{IsBucketValue};
 ghost use Rattle.bolt_tree.specs.Paths.{path_of};
 ghost use Rattle.bolt_recover.specs.Private.Frames.{Advances, GoesOn, HasOpen, IsAllLeft, Takes, TakesBucket, is_over, lost_state, state_of, steps_weight, taken_weight};

@@ -1,7 +1,7 @@
 -- The fault of a page that is to be printed.
 use Rattle.std.proofs.Common.{◌≡◌, ℕ, List, None, Some}
 use Rattle.bolt_report.proofs.Words.{Meta, page_at}
-use Rattle.bolt_format.specs.{Pages.page_fault, declared.open_page.PageFault.PageFault}
+use Rattle.bolt_format.specs.{Pages.page_fault, declared.page_fault.PageFault.PageFault}
 use Rattle.bolt_report.specs.PageTexts.{page_text_fault}
 
 -- a page that has a fault shows nothing

@@ -8,7 +8,7 @@ use Rattle.std.specs.Prelude.{⊤, IfErr, IsErrAnd}
 use Rattle.bolt_tree.specs.{BucketViews.AreSorted, BucketViews.BucketView, CursorBounds.OpensByNext, CursorBounds.OpensSeek}
 use Rattle.bolt_tree.specs.Openings.{IsGap, IsSeekCount, sum_to}
 use Rattle.bolt_tree.specs.{Places.next_move, Places.nothing_at, Places.onto, Places.place_in, Places.seek_move, declared.cursor.Cursor.Cursor}
-use Rattle.bolt_tree.specs.declared.Entry.{Entry}
+use Rattle.bolt_tree.specs.declared.entry.Entry.{Entry}
 use Rattle.bolt_check.specs.Counts.{counted}
 use Rattle.bolt_tree.proofs.{AllEntries.sorted_at, CursorMoves.none_past, CursorMoves.not_below, Leaving.TheEntries, Leaving.the_one, PagerLemmas.counted_more}
 use Rattle.bolt_text.specs.{declared.forms.Form.TheVariants.Json, declared.fault.ReportFault.TheVariants.NoMemory, declared.fault.ReportFault.TheVariants.Sink}
@@ -20,7 +20,7 @@ unfolding cursor_checked cursor_start
 cursor_entries cursor =
     let checked = cursor_checked cursor in
     let start = cursor_start cursor in
-    ∥∥₁_elim cursor.held (the_one checked start) (λ held. ∥∥₁_elim held.stack (the_one checked start) (λ (sound, stack).
+    ∥∥₁_elim cursor.resting (the_one checked start) (λ resting. ∥∥₁_elim resting.stack (the_one checked start) (λ (sound, stack).
     let (entries, are) = sorted_at (bytes_of checked) (meta_of checked) sound.trees start sound.start in
     (entries, ∣ are ∣₁)))
 

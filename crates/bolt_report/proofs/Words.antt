@@ -3,7 +3,7 @@ pub use Rattle.bolt_check.specs.CheckedFiles.{bytes_of, meta_of}
 pub use Rattle.bolt_check.specs.Keys.{Key, key_lt}
 pub use Rattle.bolt_check.specs.RoledFiles.{roles_checked}
 pub use Rattle.bolt_check.specs.Sound.{HasSoundTrees}
-pub use Rattle.bolt_check.specs.declared.Checked.{Checked}
+pub use Rattle.bolt_check.specs.declared.checked.Checked.{Checked}
 pub use Rattle.bolt_format.proofs.ListLemmas.{drop_next}
 pub use Rattle.bolt_format.proofs.WroteFronts.{WroteFront, front_more, front_none, front_whole}
 pub use Rattle.bolt_format.proofs.WroteLemmas.{Wrote-element, Wrote-element_return, Wrote-elements, Wrote-none, Wrote-return, Wrote-same, Wrote-then, Wrote-then_return}

@@ -4,7 +4,7 @@ use Rattle.std.specs.Prelude.{◌==◌, ◌-◌, ℕ, List, [], ◌++◌, Bool, 
 use Rattle.std.specs.Int.{div_ceil}
 use Rattle.std.specs.List.{range_with_len}
 use Rattle.bolt_format.specs.{Freelists.free_ids_at, Pages.PageView, Pages.page_at, declared.meta.Meta.Meta}
-use Rattle.bolt_check.specs.{CheckedFiles.bytes_of, CheckedFiles.meta_of, Roles.AreRoles, declared.Checked.Checked, declared.role_table.Role.Role}
+use Rattle.bolt_check.specs.{CheckedFiles.bytes_of, CheckedFiles.meta_of, Roles.AreRoles, declared.checked.Checked.Checked, declared.role_table.Role.Role}
 use Rattle.bolt_check.specs.declared.role_table.Role.TheVariants as role
 use Rattle.bolt_text.specs.Lines.{column, line}
 

@@ -10,7 +10,7 @@ use Rattle.bolt_check.proofs.WayFacts.{leads_follow, leads_none, none_number, st
 use Rattle.bolt_stats.specs.{Deepest.inline_in_bucket, Depths.IsLeafAt}
 
 -- one of the numbers has the greatest
-greatest_met : (f : ℕ → ℕ) (xs : List ℕ) → (greatest f xs ≡ 0) ⊎ ((m : ℕ) × (Has m xs × (f m ≡ greatest f xs)))
+greatest_met : (f : ℕ → ℕ) (xs : List ℕ) → (greatest f xs ≡ 0) ⊎ ((m : ℕ) × (Has xs m × (f m ≡ greatest f xs)))
 greatest_met f [] = inl refl
 greatest_met f (x ∷ xs) = elim (cases_lt (f x) (greatest f xs)) [
   | inl less ↦ elim (greatest_met f xs) [ inl z ↦ inl (omega (arith, less, z)) | inr (m, (h, e)) ↦ inr (m, (inr h, omega (arith, less, e))) ]
@@ -18,18 +18,18 @@ greatest_met f (x ∷ xs) = elim (cases_lt (f x) (greatest f xs)) [
 ]
 
 -- the children of a branch
-child_has : (is_leaf : Bool) (entries : List Entry) (i : ℕ) (e : Entry) → is_leaf ≡ false → slice_get entries i ≡ Some e → Has e.child (pages_in_bucket is_leaf entries)
+child_has : (is_leaf : Bool) (entries : List Entry) (i : ℕ) (e : Entry) → is_leaf ≡ false → slice_get entries i ≡ Some e → Has (pages_in_bucket is_leaf entries) e.child
 child_has true entries i e leaf at = cc
 child_has false [] i e leaf at = cc
-child_has false (x ∷ entries) zero e leaf at = inl (ap (λ (y : Entry). y.child) (sym (same_Some x e at)))
+child_has false (x ∷ entries) zero e leaf at = inl (ap (λ (y : Entry). y.child) (same_Some x e at))
 child_has false (x ∷ entries) (suc i) e leaf at = inr (child_has false entries i e leaf at)
 
-kid_at : (node : Node) (i : ℕ) (e : Entry) → node.is_leaf ≡ false → slice_get node.entries i ≡ Some e → Has e.child (kid_pages node.is_leaf node.entries)
+kid_at : (node : Node) (i : ℕ) (e : Entry) → node.is_leaf ≡ false → slice_get node.entries i ≡ Some e → Has (kid_pages node.is_leaf node.entries) e.child
 kid_at node i e branch at = page_has e.child node.is_leaf node.entries (child_has node.is_leaf node.entries i e branch at)
 
-child_place : (entries : List Entry) (m : ℕ) → Has m (kid_pages false entries) → (i : ℕ) × (e : Entry) × (slice_get entries i ≡ Some e) × (e.child ≡ m)
+child_place : (entries : List Entry) (m : ℕ) → Has (kid_pages false entries) m → (i : ℕ) × (e : Entry) × (slice_get entries i ≡ Some e) × (e.child ≡ m)
 child_place [] m h = absurd h
-child_place (x ∷ entries) m (inl e) = (0, x, refl, sym e)
+child_place (x ∷ entries) m (inl e) = (0, x, refl, e)
 child_place (x ∷ entries) m (inr h) = let (i, e, at, same) = child_place entries m h in (suc i, e, at, same)
 
 first_entry : (entries : List Entry) → entries ≢ [] → (e : Entry) × (slice_get entries 0 ≡ Some e)
@@ -45,7 +45,7 @@ module _ (nodes : Nodes) where
   child_step false (Some e) rest number h = (e, refl, refl, h)
 
   step_in : (n i : ℕ) (rest : List ℕ) (number : ℕ) (node : Node) → nodes n ≡ Ok node → leads nodes (child_at nodes (Some n) i) rest ≡ Some number
-      → (m : ℕ) × (Has m (inner_pages node) × (leads nodes (Some m) rest ≡ Some number))
+      → (m : ℕ) × (Has (inner_pages node) m × (leads nodes (Some m) rest ≡ Some number))
   step_in n i rest number node page h =
       let (e, leaf, at, on) = child_step node.is_leaf (slice_get node.entries i) rest number (subst (λ (r : Result Node ℕ). leads nodes (child_in r i) rest ≡ Some number) page h) in
       (e.child, (child_has node.is_leaf node.entries i e leaf at, on))
@@ -238,14 +238,14 @@ module _ (nodes : Nodes) where
     }
 
     -- a bucket that lies in this one
-    bucket_has : (entries : List Entry) (place c : ℕ) (e : Entry) → slice_get entries place ≡ Some e → e.is_bucket ≡ true → e.child ≡ suc c → Has (suc c) (kid_pages true entries)
+    bucket_has : (entries : List Entry) (place c : ℕ) (e : Entry) → slice_get entries place ≡ Some e → e.is_bucket ≡ true → e.child ≡ suc c → Has (kid_pages true entries) (suc c)
     bucket_has [] place c e at is child = absurd (none-some e at)
     bucket_has (x ∷ entries) zero c e at is child =
         let same = same_Some x e at in
         let bucket : x.is_bucket ≡ true = ap (λ (y : Entry). y.is_bucket) same ∙ is in
         let leads : x.child ≡ suc c = ap (λ (y : Entry). y.child) same ∙ child in
         rw (bucket, leads, eqb-suc-zero c) (inl refl)
-    bucket_has (x ∷ entries) (suc place) c e at is child = has_right (suc c) (root_page x) (kid_pages true entries) (bucket_has entries place c e at is child)
+    bucket_has (x ∷ entries) (suc place) c e at is child = has_right (root_page x) (kid_pages true entries) (suc c) (bucket_has entries place c e at is child)
 
     bucket_step : (s : PageSpot) (place c : ℕ) (node : Node) (e : Entry) → nodes s.number ≡ Ok node → node.is_leaf ≡ true → slice_get node.entries place ≡ Some e → e.is_bucket ≡ true → e.child ≡ suc c
         → step nodes (Some (At_page s)) place ≡ Some (At_page (root_spot (suc c)))
@@ -258,14 +258,14 @@ module _ (nodes : Nodes) where
         filled (is.address ++ is.place ∷ way) u node
         (follow_append nodes (Some (At_page (root_spot root))) is.address (is.place ∷ way) ∙ ap (λ (o : Option Spot). follow nodes o (is.place ∷ way)) on ∙ ap (λ (o : Option Spot). follow nodes o way) next ∙ f)
 
-    bucket_kid : (root c : ℕ) (e : Entry) (is : IsBucketIn nodes root e) → e.child ≡ suc c → Has (suc c) (kid_pages is.leaf.node.is_leaf is.leaf.node.entries)
+    bucket_kid : (root c : ℕ) (e : Entry) (is : IsBucketIn nodes root e) → e.child ≡ suc c → Has (kid_pages is.leaf.node.is_leaf is.leaf.node.entries) (suc c)
     bucket_kid root c e is child = rw is.leaf.leaf (bucket_has is.leaf.node.entries is.place c e is.entry is.bucket child)
 
     bucket_low : (k root c : ℕ) (e : Entry) (is : IsBucketIn nodes root e) → e.child ≡ suc c → Enough nodes (suc k) root → Enough nodes k (suc c)
     bucket_low k root c e is child h =
         let (node, page, kids) = enough_leaf (suc k) is.address root is.leaf.number h is.leaf.leads in
         let same : is.leaf.node ≡ node = let both = sym is.leaf.page ∙ page in cc in
-        kids (suc c) (subst (λ (x : Node). Has (suc c) (kid_pages x.is_leaf x.entries)) same (bucket_kid root c e is child))
+        kids (suc c) (subst (λ (x : Node). Has (kid_pages x.is_leaf x.entries) (suc c)) same (bucket_kid root c e is child))
 
     bucket_enough : (root c : ℕ) (e : Entry) (is : IsBucketIn nodes root e) → e.child ≡ suc c → Enough nodes steps root → Enough nodes steps (suc c)
     bucket_enough root c e is child h =

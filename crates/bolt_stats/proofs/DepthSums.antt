@@ -12,20 +12,20 @@ pub greatest_map : {X Y : Type 0} (f : Y → ℕ) (g : X → Y) (xs : List X) �
 greatest_map f g [] = refl
 greatest_map f g (x ∷ xs) = ap (max (f (g x))) (greatest_map f g xs)
 
-pub greatest_same : (f g : ℕ → ℕ) (xs : List ℕ) → ((m : ℕ) → Has m xs → f m ≡ g m) → greatest f xs ≡ greatest g xs
+pub greatest_same : (f g : ℕ → ℕ) (xs : List ℕ) → ((m : ℕ) → Has xs m → f m ≡ g m) → greatest f xs ≡ greatest g xs
 greatest_same f g [] same = refl
 greatest_same f g (x ∷ xs) same = let here = same x (inl refl) in let rest = greatest_same f g xs (λ m i. same m (inr i)) in omega (arith, here, rest)
 
-pub greatest_has : (f : ℕ → ℕ) (xs : List ℕ) (m : ℕ) → Has m xs → f m ≤ greatest f xs
+pub greatest_has : (f : ℕ → ℕ) (xs : List ℕ) (m : ℕ) → Has xs m → f m ≤ greatest f xs
 greatest_has f [] m h = absurd h
-greatest_has f (x ∷ xs) m (inl e) = let same = ap f e in omega (arith, same)
+greatest_has f (x ∷ xs) m (inl e) = let same = ap f (sym e) in omega (arith, same)
 greatest_has f (x ∷ xs) m (inr h) = let rest = greatest_has f xs m h in omega (arith, rest)
 
-pub page_has : (m : ℕ) (is_leaf : Bool) (entries : List Entry) → Has m (pages_in_bucket is_leaf entries) → Has m (kid_pages is_leaf entries)
+pub page_has : (m : ℕ) (is_leaf : Bool) (entries : List Entry) → Has (pages_in_bucket is_leaf entries) m → Has (kid_pages is_leaf entries) m
 page_has m false entries h = h
 page_has m true entries h = absurd h
 
-pub root_has : (m : ℕ) (is_leaf : Bool) (entries : List Entry) → Has m (roots_in_bucket is_leaf entries) → Has m (kid_pages is_leaf entries)
+pub root_has : (m : ℕ) (is_leaf : Bool) (entries : List Entry) → Has (roots_in_bucket is_leaf entries) m → Has (kid_pages is_leaf entries) m
 root_has m false entries h = absurd h
 root_has m true entries h = h
 
@@ -33,11 +33,11 @@ module _ (nodes : Nodes) where
   abbrev pub depth_from : ℕ → ℕ → ℕ
   depth_from k root = height_from nodes 1 k root + deepest_from nodes k root
 
-  low_page : (k n m : ℕ) → Enough nodes (suc k) n → Has m (pages_at (nodes n)) → Enough nodes k m
-  low_page k n m (node, page, kids) i = kids m (page_has m node.is_leaf node.entries (subst (λ (r : Result Node ℕ). Has m (pages_at r)) page i))
+  low_page : (k n m : ℕ) → Enough nodes (suc k) n → Has (pages_at (nodes n)) m → Enough nodes k m
+  low_page k n m (node, page, kids) i = kids m (page_has m node.is_leaf node.entries (subst (λ (r : Result Node ℕ). Has (pages_at r) m) page i))
 
-  low_root : (k n m : ℕ) → Enough nodes (suc k) n → Has m (roots_at (nodes n)) → Enough nodes k m
-  low_root k n m (node, page, kids) i = kids m (root_has m node.is_leaf node.entries (subst (λ (r : Result Node ℕ). Has m (roots_at r)) page i))
+  low_root : (k n m : ℕ) → Enough nodes (suc k) n → Has (roots_at (nodes n)) m → Enough nodes k m
+  low_root k n m (node, page, kids) i = kids m (root_has m node.is_leaf node.entries (subst (λ (r : Result Node ℕ). Has (roots_at r) m) page i))
 
   -- more steps than enough change nothing
   height_more : (depth k n : ℕ) → Enough nodes k n → height_from nodes depth (suc k) n ≡ height_from nodes depth k n

@@ -3,7 +3,7 @@ use Rattle.std.proofs.Common.{◌≡◌, ◌∙◌, ◌+◌, ◌-◌, ◌≤◌,
 use Rattle.bolt_stats.proofs.Words.{AreGood, bucket_figure, Enough, enough_kids, Figure, figure, Has, has_right, inner_pages, inner_roots, kid_pages, map-append, Meta, Node, node_at, numbers_of, pages_in_bucket, roots_in_bucket, roots_of, Stats, sum_by-cons, total_of, UnreadBucket, UnreadPage, weight, ∥∥₁_map}
 use Rattle.bolt_stats.proofs.DepthSums.{page_has, root_has}
 use Rattle.bolt_check.specs.Nodes.{Entry}
-use Rattle.bolt_check.proofs.TourSums.{has_either, has_left, sum_append, weight_kids}
+use Rattle.bolt_check.proofs.{Lists.has_left, Lists.has_split, TourSums.sum_append, TourSums.weight_kids}
 
 -- the last page was taken
 pub popped : (old new : List UnreadPage) (p : UnreadPage) → old ≡ new ++ p ∷ [] → numbers_of old ≡ numbers_of new ++ p.number ∷ []
@@ -37,16 +37,22 @@ module _ (file : List ℕ) (meta : Meta) where
       → pages ≡ rest ++ inner_pages node → found ≡ roots ++ inner_roots node → AreGood file meta (pages ++ found)
   read_good rest roots pages found n node page good a b m h =
       let P : ℕ → Type 0 = λ k. Enough (node_at file meta) meta.high_water k in
-      let here : P n = good n (has_left n (rest ++ n ∷ []) roots (has_right n rest (n ∷ []) (inl refl))) in
-      let kid : (k : ℕ) → Has k (kid_pages node.is_leaf node.entries) → P k = enough_kids (node_at file meta) meta.high_water n node page here in
-      has_either m pages found P
-      (λ k i. has_either k rest (inner_pages node) P (λ x j. good x (has_left x (rest ++ n ∷ []) roots (has_left x rest (n ∷ []) j))) (λ x j. kid x (page_has x node.is_leaf node.entries j)) (subst (λ (l : List ℕ). Has k l) a i))
-      (λ k i. has_either k roots (inner_roots node) P (λ x j. good x (has_right x (rest ++ n ∷ []) roots j)) (λ x j. kid x (root_has x node.is_leaf node.entries j)) (subst (λ (l : List ℕ). Has k l) b i))
+      let here : P n = good n (has_left (rest ++ n ∷ []) roots n (has_right rest (n ∷ []) n (inl refl))) in
+      let kid : (k : ℕ) → Has (kid_pages node.is_leaf node.entries) k → P k = enough_kids (node_at file meta) meta.high_water n node page here in
+      let in_pages : Has pages m → P m = λ i. elim (has_split rest (inner_pages node) m (subst (λ (l : List ℕ). Has l m) a i)) [
+        | inl j ↦ good m (has_left (rest ++ n ∷ []) roots m (has_left rest (n ∷ []) m j))
+        | inr j ↦ kid m (page_has m node.is_leaf node.entries j)
+      ] in
+      let in_found : Has found m → P m = λ i. elim (has_split roots (inner_roots node) m (subst (λ (l : List ℕ). Has l m) b i)) [
+        | inl j ↦ good m (has_right (rest ++ n ∷ []) roots m j)
+        | inr j ↦ kid m (root_has m node.is_leaf node.entries j)
+      ] in
+      let in_both : Has (pages ++ found) m → P m = λ i. elim (has_split pages found m i) [ inl j ↦ in_pages j | inr j ↦ in_found j ] in in_both
       h
 
   -- the next page is good
   pub next_good : (rest roots pages : List ℕ) (n : ℕ) → pages ≡ rest ++ n ∷ [] → ∥ AreGood file meta (pages ++ roots) ∥₁ → ∥ Enough (node_at file meta) meta.high_water n ∥₁
-  next_good rest roots pages n e good = ∥∥₁_map good (λ g. g n (has_left n pages roots (subst (λ (l : List ℕ). Has n l) (sym e) (has_right n rest (n ∷ []) (inl refl)))))
+  next_good rest roots pages n e good = ∥∥₁_map good (λ g. g n (has_left pages roots n (subst (λ (l : List ℕ). Has l n) (sym e) (has_right rest (n ∷ []) n (inl refl)))))
 
 -- no figure of the record that is all zeros
 abbrev AllZero : Stats → Type 0
@@ -79,10 +85,10 @@ module _ (before more : List UnreadBucket) (b : UnreadBucket) (roots rest : List
       let q = ap (sum_by w) popped_ ∙ sum_append w rest (root ∷ []) in
       omega (arith, p, q)
 
-  pub moved_from : (m : ℕ) → Has m (roots_of more) ⊎ Has m rest → Has m (roots_of before) ⊎ Has m roots
-  moved_from m (inl h) = has_either m (roots_of before) (root ∷ []) (λ k. Has k (roots_of before) ⊎ Has k roots) (λ k i. inl i)
-      (λ k i. inr (subst (λ (l : List ℕ). Has k l) (sym popped_) (has_right k rest (root ∷ []) i))) (subst (λ (l : List ℕ). Has m l) opened h)
-  moved_from m (inr h) = inr (subst (λ (l : List ℕ). Has m l) (sym popped_) (has_left m rest (root ∷ []) h))
+  pub moved_from : (m : ℕ) → Has (roots_of more) m ⊎ Has rest m → Has (roots_of before) m ⊎ Has roots m
+  moved_from m (inl h) = elim (has_split (roots_of before) (root ∷ []) m (subst (λ (l : List ℕ). Has l m) opened h))
+      [ inl i ↦ inl i | inr i ↦ inr (subst (λ (l : List ℕ). Has l m) (sym popped_) (has_right rest (root ∷ []) m i)) ]
+  moved_from m (inr h) = inr (subst (λ (l : List ℕ). Has l m) (sym popped_) (has_left rest (root ∷ []) m h))
 
 -- the depth is none of the figures that are summed
 abbrev at_depth : ℕ → Stats → Stats
@@ -106,11 +112,11 @@ module _ (file : List ℕ) (meta : Meta) where
   total_popped own old rest n e = let w = weight (node_at file meta) own meta.high_water in ap (sum_by w) e ∙ sum_append w rest (n ∷ [])
 
   pub last_good : (old rest : List ℕ) (n : ℕ) → old ≡ rest ++ n ∷ [] → AreGood file meta old → AreGood file meta (n ∷ [])
-  last_good old rest n e good m h = good m (subst (λ (l : List ℕ). Has m l) (sym e) (has_right m rest (n ∷ []) h))
+  last_good old rest n e good m h = good m (subst (λ (l : List ℕ). Has l m) (sym e) (has_right rest (n ∷ []) m h))
 
-  pub all_good : (old rest found new : List ℕ) (n : ℕ) → old ≡ rest ++ n ∷ [] → ((m : ℕ) → Has m new → Has m rest ⊎ Has m found) → AreGood file meta old → AreGood file meta found → AreGood file meta new
+  pub all_good : (old rest found new : List ℕ) (n : ℕ) → old ≡ rest ++ n ∷ [] → ((m : ℕ) → Has new m → Has rest m ⊎ Has found m) → AreGood file meta old → AreGood file meta found → AreGood file meta new
   all_good old rest found new n e from good other m h =
-      elim (from m h) [ inl i ↦ good m (subst (λ (l : List ℕ). Has m l) (sym e) (has_left m rest (n ∷ []) i)) | inr i ↦ other m i ]
+      elim (from m h) [ inl i ↦ good m (subst (λ (l : List ℕ). Has l m) (sym e) (has_left rest (n ∷ []) m i)) | inr i ↦ other m i ]
 
 pub first_fits : (f : Figure) → bucket_figure f ≤ 1
 first_fits f = grind arith

@@ -59,7 +59,7 @@ module _ (file : List ℕ) (meta : Meta) where
     good_pages = let (way, leads) = root_on_way root on in (bucket_sum file meta trees way root leads (λ n. 0)).0
 
     pub are_good : AreGood file meta (root ∷ [])
-    are_good m (inl e) = subst (Enough nodes meta.high_water) (sym e) good_pages
+    are_good m (inl e) = subst (Enough nodes meta.high_water) e good_pages
     are_good m (inr h) = absurd h
 
     all_filled : AllFilled nodes meta.high_water (root_spot root)

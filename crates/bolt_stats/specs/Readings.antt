@@ -2,7 +2,7 @@
 use Rattle.std.specs.Prelude.{◌==◌, ℕ, Bool, true, false, List, [], ◌∷◌, map, sum_by, if◌then◌else◌}
 use Rattle.bolt_format.specs.{Elements.LeafElement, Elements.head_root, Pages.page_at, declared.meta.Meta.Meta}
 use Rattle.bolt_check.specs.{CheckedFiles.bytes_of, CheckedFiles.meta_of, Nodes.Entry, Nodes.Node, Nodes.node_at}
-use Rattle.bolt_check.specs.{Subtrees.Enough, Subtrees.Has, Subtrees.kid_pages, Subtrees.weight, declared.Checked.Checked}
+use Rattle.bolt_check.specs.{Subtrees.Enough, Lists.Has, Subtrees.kid_pages, Subtrees.weight, declared.checked.Checked.Checked}
 use Rattle.bolt_stats.specs.{Figures.Figure, Figures.page_figure, declared.bucket_stats.UnreadBucket.UnreadBucket, declared.bucket_stats.UnreadPage.UnreadPage}
 
 -- the pages and the buckets of the code, by their numbers
@@ -20,7 +20,7 @@ unread_bucket above n = record { root = n; above = above }
 
 -- these pages and all pages below them are good
 abbrev pub AreGood : List ℕ → Meta → List ℕ → Type 0
-AreGood file meta ns = (m : ℕ) → Has m ns → Enough (node_at file meta) meta.high_water m
+AreGood file meta ns = (m : ℕ) → Has ns m → Enough (node_at file meta) meta.high_water m
 
 -- a sum over these pages and all pages below them
 abbrev pub total_of : List ℕ → Meta → (ℕ → ℕ) → List ℕ → ℕ

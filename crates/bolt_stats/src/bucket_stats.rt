@@ -3,7 +3,7 @@
 //! being read.
 ghost use Rattle.std.specs.Prelude.{◌≡◌, ◌<◌, ◌+◌, ◌∷◌, ◌++◌, ◌⊎◌, ℕ, [], IfOk, IsTrue, Ok, OnOk, flat_map, map, max, sum_by};
 ghost use Rattle.bolt_format.specs.{ElementPlaces.leaf_view, Elements.IsBucketValue, Shown.shown};
-ghost use Rattle.bolt_check.specs.{CheckedFiles.bytes_of, CheckedFiles.meta_of, Nodes.Node, Nodes.leaf_entry, Nodes.node_at, Subtrees.Enough, Subtrees.Has};
+ghost use Rattle.bolt_check.specs.{CheckedFiles.bytes_of, CheckedFiles.meta_of, Nodes.Node, Nodes.leaf_entry, Nodes.node_at, Subtrees.Enough, Lists.Has};
 ghost use Rattle.bolt_stats.specs.Deepest.{deepest_in, depth_in, depth_of, greatest, height_of, inline_depth, inner_inline, leaf_depth};
 ghost use Rattle.bolt_stats.specs.Figures.{Figure, bucket_figure, saturated, figure};
 ghost use Rattle.bolt_stats.specs.Readings.{AreGood, figure_in, pages_below, inner_pages, inner_roots, one, unread_bucket, unread_page, own_figure, root_page_of, roots_of};
@@ -228,7 +228,7 @@ fn add_buckets(
 ) -> Result<(), AllocError>
     ensures none { OnOk result (roots.new.items ≡ []) }
     ensures sums { OnOk result ((w : ℕ → ℕ) → sum_by w (roots_of buckets.new.items) ≡ sum_by w (roots_of buckets.old.items) + sum_by w roots.old.items) }
-    ensures from { OnOk result ((m : ℕ) → Has m (roots_of buckets.new.items) → Has m (roots_of buckets.old.items) ⊎ Has m roots.old.items) }
+    ensures from { OnOk result ((m : ℕ) → Has (roots_of buckets.new.items) m → Has (roots_of buckets.old.items) m ⊎ Has roots.old.items m) }
     ensures deepest { OnOk result ((f : UnreadBucket → ℕ) → greatest f buckets.new.items
         ≡ max (greatest f buckets.old.items) (greatest (λ root. f (unread_bucket above root)) roots.old.items)) }
 {

@@ -1,6 +1,6 @@
 -- What the moves of a trail back do to its stack.
 use Rattle.std.proofs.Common.{◌≡◌, ℕ, zero, suc, ◌+◌, ◌-◌, ◌≤◌, true, List, [], ◌∷◌, ◌++◌, Some, None, slice_get, length, take, refl, sym, ap, ◌∙◌, subst, arith, append_assoc, append-nil, length-append}
-use Rattle.bolt_tree.proofs.Words.{BranchElement, BucketView, Content, Contents, Frame, HasStack, IsAtRest, IsEntered, IsOn, LeafElement, Of_branch, Of_leaf, RestsOn, Visit, address_on, all_under, before_of, before_under, content_length, contents_in, done_of, done_under, elements_in, elements_of, flat_map-append, index_of, left_of, left_under, length-take, none-some, pages_in, preceding_of, props, root_content, take_all, take_next, tour, under_at, ∥∥₁_elim}
+use Rattle.bolt_tree.proofs.Words.{BranchElement, BucketView, Content, Contents, Frame, HasStack, IsAtRest, IsEntered, IsOn, LeafElement, Of_branch, Of_leaf, RestsOn, TourPage, address_on, all_under, before_of, before_under, content_length, contents_in, done_of, done_under, elements_in, elements_of, flat_map-append, index_of, passed_of, passed_under, length-take, none-some, pages_in, preceding_of, props, root_content, take_all, take_next, tour, under_at, ∥∥₁_elim}
 use Rattle.bolt_tree.proofs.{StackLemmas.branch_room, TrailLemmas.shown_by_branch}
 
 take_none : {X : Type 0} (xs : List X) → take 0 xs ≡ []
@@ -8,7 +8,7 @@ take_none [] = refl
 take_none (x ∷ xs) = refl
 
 -- what lies under one more element
-under_more : (f : ℕ → ℕ → List Visit) (i k j : ℕ) (elements : List BranchElement) (e : BranchElement) → slice_get elements k ≡ Some e → j ≡ i + k
+under_more : (f : ℕ → ℕ → List TourPage) (i k j : ℕ) (elements : List BranchElement) (e : BranchElement) → slice_get elements k ≡ Some e → j ≡ i + k
     → all_under f i (take (suc k) elements) ≡ all_under f i (take k elements) ++ f j e.child
 under_more f i k j [] e g s = absurd (none-some e g)
 under_more f i zero j (x ∷ elements) e g s =
@@ -17,7 +17,7 @@ under_more f i zero j (x ∷ elements) e g s =
     rw (same, here) (append-nil (f i e.child))
 under_more f i (suc k) j (x ∷ elements) e g s =
     let next : j ≡ suc i + k = omega arith in
-    ap (λ (vs : List Visit). f i x.child ++ vs) (under_more f (suc i) k j elements e g next) ∙ sym (append_assoc (f i x.child) (all_under f (suc i) (take k elements)) (f j e.child))
+    ap (λ (vs : List TourPage). f i x.child ++ vs) (under_more f (suc i) k j elements e g next) ∙ sym (append_assoc (f i x.child) (all_under f (suc i) (take k elements)) (f j e.child))
 
 -- the tour of a page that stands behind its last element
 pub tour_done : (contents : Contents) (n h : ℕ) (address : List ℕ) (content : Content) → ((elements : List BranchElement) → content ≡ Of_branch elements → n ≡ suc (62 - h))
@@ -57,7 +57,7 @@ back_none bucket (Of_branch bs) i t below new two h stack =
     let old : t - 1 ≡ suc i = omega arith in
     let back : (i + 1) - 1 ≡ i = omega arith in
     let placed = rw h.2 at stack in
-    let f : ℕ → ℕ → List Visit = λ j c. tour contents (62 - H) (address ++ j ∷ []) (contents c) in
+    let f : ℕ → ℕ → List TourPage = λ j c. tour contents (62 - H) (address ++ j ∷ []) (contents c) in
     let B = before_of contents below in
     let A = under_at contents H address 0 (take i bs) in
     let U = before_under contents (suc H) (address ++ i ∷ []) child (suc (content_length child) - 1) in
@@ -88,7 +88,7 @@ left_out bucket f below stack h =
     let top : done_of below ≡ [] = ∥∥₁_elim stack (Prim.hlevel props) (λ s. shown_by_branch done_of done_under refl (λ _ _. refl) (λ _ _. refl) below s.1.0.branch) in
     let same : before_of (contents_in bucket) below ≡ before_of (contents_in bucket) below ++ before_under (contents_in bucket) (length below) (address_on below) f.content (f.taken - 1) =
     rw under (sym (append-nil (before_of (contents_in bucket) below))) in
-    (rw (nothing_done f.content f.taken h, top) (ap (λ (vs : List Visit). elements_of vs ++ []) same), same)
+    (rw (nothing_done f.content f.taken h, top) (ap (λ (vs : List TourPage). elements_of vs ++ []) same), same)
 
 -- behind the root page's last element, everything is behind
 pub root_behind : (bucket : BucketView) → let frames : List Frame = record { content = root_content bucket; taken = suc (content_length (root_content bucket)) } ∷ [] in
@@ -96,23 +96,23 @@ pub root_behind : (bucket : BucketView) → let frames : List Frame = record { c
 root_behind bucket = tour_done (contents_in bucket) 63 0 [] (root_content bucket) (λ bs e. refl)
 
 -- the pages on the stack have no entries of their own
-left_entries : (contents : Contents) (H : ℕ) (address : List ℕ) (content : Content) (k : ℕ) → elements_of (left_under contents H address content k) ≡ elements_of (before_under contents H address content k)
+left_entries : (contents : Contents) (H : ℕ) (address : List ℕ) (content : Content) (k : ℕ) → elements_of (passed_under contents H address content k) ≡ elements_of (before_under contents H address content k)
 left_entries contents H address (Of_leaf es) k = refl
 left_entries contents H address (Of_branch bs) k = refl
 
-pub left_elements : (contents : Contents) (frames : List Frame) → elements_of (left_of contents frames) ≡ elements_of (before_of contents frames)
+pub left_elements : (contents : Contents) (frames : List Frame) → elements_of (passed_of contents frames) ≡ elements_of (before_of contents frames)
 left_elements contents [] = refl
 left_elements contents (f ∷ below) =
     let r = left_elements contents below in
     let q = left_entries contents (length below) (address_on below) f.content (f.taken - 1) in
-    flat_map-append (λ (v : Visit). v.entries) (left_of contents below) (left_under contents (length below) (address_on below) f.content (f.taken - 1))
-    ∙ (rw (r, q) (sym (flat_map-append (λ (v : Visit). v.entries) (before_of contents below) (before_under contents (length below) (address_on below) f.content (f.taken - 1)))))
+    flat_map-append (λ (v : TourPage). v.entries) (passed_of contents below) (passed_under contents (length below) (address_on below) f.content (f.taken - 1))
+    ∙ (rw (r, q) (sym (flat_map-append (λ (v : TourPage). v.entries) (before_of contents below) (before_under contents (length below) (address_on below) f.content (f.taken - 1)))))
 
 -- the number of the entry on which a stack stands is that of those behind
 behind_leaf : (contents : Contents) (es : List LeafElement) (t : ℕ) (below : List Frame) → 1 ≤ t → t ≤ length es
     → length (preceding_of contents (record { content = Of_leaf es; taken = t } ∷ below)) ≡ index_of contents (record { content = Of_leaf es; taken = t } ∷ below)
 behind_leaf contents es t below one most =
-    let n = ap (λ (vs : List Visit). length (elements_of vs)) (append-nil (before_of contents below)) in
+    let n = ap (λ (vs : List TourPage). length (elements_of vs)) (append-nil (before_of contents below)) in
     let m = length-take (t - 1) es in
     omega (arith, ap length (left_elements contents below), length-append (elements_of (before_of contents below ++ [])) (take (t - 1) es), n, m, one, most)
 

@@ -1,7 +1,7 @@
 -- Numbers of pages: an address is counted by its place on the tour.
 use Rattle.std.proofs.Common.{◌≡◌, ℕ, suc, ◌+◌, ◌-◌, ◌≤◌, ◌<◌, ◌⊎◌, inl, inr, List, [], ◌∷◌, ◌++◌, Some, length, map, refl, sym, ap, ◌∙◌, subst, arith, append_assoc, append-nil, length-append}
-use Rattle.bolt_tree.proofs.Words.{Before, BucketView, HasCount, HasSoundTrees, Inline_page, IsAddress, IsAfter, IsEntry, IsHome, IsPagesUpTo, IsSeekPage, IsSoundBucket, IsStart, IsUpTo, LeafElement, Meta, Root_page, Start, Visit, cases_lt, content_at, leads, length-map, lt_strict, node_at, pages_at, pages_in}
-use Rattle.bolt_tree.proofs.ListLemmas.{Has, RisesBy, contains_from_has, flat_has, has_from_contains, has_left, has_map, has_right, has_split, map_has, one_list, pairs_from_rises, rises_across, rises_from_pairs, rises_left, rises_map, rises_right, rises_weaker}
+use Rattle.bolt_tree.proofs.Words.{Before, BucketView, HasCount, HasSoundTrees, Inline_page, IsAddress, IsAfter, IsEntry, IsHome, IsPagesUpTo, IsSeekPage, IsSoundBucket, IsStart, IsUpTo, LeafElement, Meta, Root_page, Start, TourPage, cases_lt, content_at, leads, length-map, lt_strict, node_at, pages_at, pages_in}
+use Rattle.bolt_check.proofs.Lists.{Has, RisesBy, contains_from_has, flat_has, has_from_contains, has_left, has_map, has_right, has_split, map_has, one_list, pairs_from_rises, rises_across, rises_from_pairs, rises_left, rises_map, rises_right, rises_weaker}
 use Rattle.bolt_tree.proofs.SortedLemmas.{entry_visited, home_visited, start_rises, visit_is}
 use Rattle.bolt_tree.proofs.TourLemmas.{IsApart, led_tour, tour_led, visit_of}
 use Rattle.bolt_check.proofs.WayOrder.{before_irreflexive, before_strict, before_trans}
@@ -31,13 +31,13 @@ exact_is x count =
     sym count.number ∙ (ap length same ∙ x.number)
 
 -- A page of a list of pages, and what stands to its left and to its right.
-pub record Cut (pages : List Visit) : Type 0 where
-  pub left : List Visit
-  pub page : Visit
-  pub right : List Visit
+pub record Cut (pages : List TourPage) : Type 0 where
+  pub left : List TourPage
+  pub page : TourPage
+  pub right : List TourPage
   pub whole : pages ≡ left ++ (page ∷ right)
 
-pub cut_size : {pages : List Visit} (c : Cut pages) → length pages ≡ length c.left + suc (length c.right)
+pub cut_size : {pages : List TourPage} (c : Cut pages) → length pages ≡ length c.left + suc (length c.right)
 cut_size c = ap length c.whole ∙ length-append c.left (c.page ∷ c.right)
 
 module _ {X : Type 0} where
@@ -72,11 +72,11 @@ not_both : (a c : List ℕ) → Before c a → (a ≡ c) ⊎ Before a c → ⊥
 not_both a c after (inl e) = before_irreflexive c (subst (Before c) e after)
 not_both a c after (inr h) = before_strict c a after h
 
-abbrev pub address_of : Visit → List ℕ
+abbrev pub address_of : TourPage → List ℕ
 address_of v = v.address
 
 module _ (file : List ℕ) (meta : Meta) (trees : HasSoundTrees file meta) where
-  visit_address : (start : Start) (v : Visit) → IsStart file meta start → Has (pages_at file meta start) v → IsAddress file meta start v.address
+  visit_address : (start : Start) (v : TourPage) → IsStart file meta start → Has (pages_at file meta start) v → IsAddress file meta start v.address
   visit_address (Root_page number) v is h =
       let r = tour_led file meta trees 63 number 1 [] v is (omega arith) h in
       (r.page, ap (λ (a : List ℕ). leads (node_at file meta) (Some number) a) r.from ∙ r.led)
@@ -94,22 +94,22 @@ pub record IsAt (b : BucketView) (e : LeafElement) : Type 0 where
   pub has : Has cut.page.entries e
 
 module _ (b : BucketView) (s : IsSoundBucket b) where
-  at_address : (v : Visit) → Has (pages_in b) v → IsAddress b.file b.meta b.start v.address
+  at_address : (v : TourPage) → Has (pages_in b) v → IsAddress b.file b.meta b.start v.address
   at_address v h = visit_address b.file b.meta s.trees b.start v s.start h
 
   rising : RisesBy IsApart (pages_in b)
   rising = start_rises b.file b.meta s.trees b.start s.start
 
   -- pages that stand together, if their addresses are all those of a kind
-  part_exact : (Is : List ℕ → Type 0) (left part right : List Visit) (n : ℕ) → pages_in b ≡ left ++ (part ++ right) → length part ≡ n → ((a : List ℕ) → Is a → IsAddress b.file b.meta b.start a)
-      → ((v : Visit) → Has (pages_in b) v → Has part v → Is v.address) → ((v : Visit) → Has (pages_in b) v → Is v.address → Has part v) → IsExactly Is n
+  part_exact : (Is : List ℕ → Type 0) (left part right : List TourPage) (n : ℕ) → pages_in b ≡ left ++ (part ++ right) → length part ≡ n → ((a : List ℕ) → Is a → IsAddress b.file b.meta b.start a)
+      → ((v : TourPage) → Has (pages_in b) v → Has part v → Is v.address) → ((v : TourPage) → Has (pages_in b) v → Is v.address → Has part v) → IsExactly Is n
   part_exact Is left part right n whole size are sound complete = record {
     members = map address_of part;
     rises = rises_map Before address_of part (rises_weaker IsApart (λ v w. Before v.address w.address) part (λ v w a. a.addresses)
         (rises_left IsApart part right (rises_right IsApart left (part ++ right) (subst (RisesBy IsApart) whole rising))));
     sound = λ a h.
         let r = map_has address_of part a h in
-        subst Is r.2 (sound r.0 (subst (λ (vs : List Visit). Has vs r.0) (sym whole) (has_right left (part ++ right) r.0 (has_left part right r.0 r.1))) r.1);
+        subst Is r.2 (sound r.0 (subst (λ (vs : List TourPage). Has vs r.0) (sym whole) (has_right left (part ++ right) r.0 (has_left part right r.0 r.1))) r.1);
     complete = λ a i.
         let r = map_has address_of (pages_in b) a (address_visited b.file b.meta s.trees b.start a s.start (are a i)) in
         subst (Has (map address_of part)) r.2 (has_map address_of part r.0 (complete r.0 r.1 (subst Is (sym r.2) i)));
@@ -124,14 +124,14 @@ module _ (b : BucketView) (s : IsSoundBucket b) where
     whole_rises : RisesBy IsApart (c.left ++ (c.page ∷ c.right))
     whole_rises = subst (RisesBy IsApart) c.whole rising
 
-    left_apart : (u : Visit) → Has c.left u → IsApart u c.page
+    left_apart : (u : TourPage) → Has c.left u → IsApart u c.page
     left_apart u h = rises_across IsApart c.left (c.page ∷ c.right) whole_rises u c.page h (inl refl)
 
-    right_apart : (u : Visit) → Has c.right u → IsApart c.page u
+    right_apart : (u : TourPage) → Has c.right u → IsApart c.page u
     right_apart u h = (rises_right IsApart c.left (c.page ∷ c.right) whole_rises).0 u h
 
-    sides : (u : Visit) → Has (pages_in b) u → (Has c.left u × IsApart u c.page) ⊎ ((c.page ≡ u) ⊎ (Has c.right u × IsApart c.page u))
-    sides u h = elim (has_split c.left (c.page ∷ c.right) u (subst (λ (vs : List Visit). Has vs u) c.whole h)) [
+    sides : (u : TourPage) → Has (pages_in b) u → (Has c.left u × IsApart u c.page) ⊎ ((c.page ≡ u) ⊎ (Has c.right u × IsApart c.page u))
+    sides u h = elim (has_split c.left (c.page ∷ c.right) u (subst (λ (vs : List TourPage). Has vs u) c.whole h)) [
       | inl l ↦ inl (l, left_apart u l)
       | inr q ↦ elim q [ inl e ↦ inr (inl e) | inr r ↦ inr (inr (r, right_apart u r)) ]
     ]
@@ -139,7 +139,7 @@ module _ (b : BucketView) (s : IsSoundBucket b) where
     -- the home of its entries
     pub its_home : (e : LeafElement) → Has c.page.entries e → IsHome b.file b.meta b.start e c.page.address
     its_home e h =
-        let here : Has (pages_in b) c.page = subst (λ (vs : List Visit). Has vs c.page) (sym c.whole) (has_right c.left (c.page ∷ c.right) c.page (inl refl)) in
+        let here : Has (pages_in b) c.page = subst (λ (vs : List TourPage). Has vs c.page) (sym c.whole) (has_right c.left (c.page ∷ c.right) c.page (inl refl)) in
         (visit_is b.file b.meta s.trees b.start c.page s.start here).home e h
 
     home_is : (e : LeafElement) (home : List ℕ) → Has c.page.entries e → IsHome b.file b.meta b.start e home → home ≡ c.page.address
@@ -154,7 +154,7 @@ module _ (b : BucketView) (s : IsSoundBucket b) where
         ]
 
     -- the pages up to it
-    up_to : (u : Visit) → Has (c.left ++ c.page ∷ []) u → (u.address ≡ c.page.address) ⊎ Before u.address c.page.address
+    up_to : (u : TourPage) → Has (c.left ++ c.page ∷ []) u → (u.address ≡ c.page.address) ⊎ Before u.address c.page.address
     up_to u h = elim (has_split c.left (c.page ∷ []) u h) [
       | inl l ↦ inr (left_apart u l).addresses
       | inr q ↦ elim q [ inl e ↦ inl (sym (ap address_of e)) | inr x ↦ absurd x ]
@@ -176,7 +176,7 @@ module _ (b : BucketView) (s : IsSoundBucket b) where
     upto_is e n h up = exact_is up_to_exact (subst (λ (a : List ℕ). HasCount (IsUpTo b.file b.meta b.start a) n) (home_is e up.0 h up.1) up.2)
 
     -- those after it
-    from_after : (u : Visit) → Has (pages_in b) u → Before c.page.address u.address → Has c.right u
+    from_after : (u : TourPage) → Has (pages_in b) u → Before c.page.address u.address → Has c.right u
     from_after u h after = elim (sides u h) [
       | inl l ↦ absurd (before_strict c.page.address u.address after l.1.addresses)
       | inr q ↦ elim q [ inl e ↦ absurd (before_irreflexive c.page.address (subst (Before c.page.address) (sym (ap address_of e)) after)) | inr r ↦ r.0 ]
@@ -184,7 +184,7 @@ module _ (b : BucketView) (s : IsSoundBucket b) where
 
     pub after_exact : IsExactly (IsAfter b.file b.meta b.start c.page.address) (length c.right)
     after_exact = part_exact (IsAfter b.file b.meta b.start c.page.address) (c.left ++ c.page ∷ []) c.right [] (length c.right)
-        (c.whole ∙ (ap (λ (vs : List Visit). c.left ++ c.page ∷ vs) (sym (append-nil c.right)) ∙ sym (append_assoc c.left (c.page ∷ []) (c.right ++ [])))) refl (λ a i. i.0)
+        (c.whole ∙ (ap (λ (vs : List TourPage). c.left ++ c.page ∷ vs) (sym (append-nil c.right)) ∙ sym (append_assoc c.left (c.page ∷ []) (c.right ++ [])))) refl (λ a i. i.0)
         (λ u h k. (at_address u h, (right_apart u k).addresses)) (λ u h i. from_after u h i.1)
 
   -- the page that comes first
@@ -193,7 +193,7 @@ module _ (b : BucketView) (s : IsSoundBucket b) where
 
   pub entry_at : (e : LeafElement) → IsEntry b.file b.meta b.start e → IsAt b e
   entry_at e entry =
-      let r = flat_has (λ (v : Visit). v.entries) (pages_in b) e (entry_visited b.file b.meta s.trees b.start e s.start entry) in
+      let r = flat_has (λ (v : TourPage). v.entries) (pages_in b) e (entry_visited b.file b.meta s.trees b.start e s.start entry) in
       let c = has_cut (pages_in b) r.0 r.1 in
       record { cut = record { left = c.0; page = r.0; right = c.1; whole = c.2 }; has = r.2 }
 
@@ -204,12 +204,12 @@ module _ (b : BucketView) (s : IsSoundBucket b) where
       let (part, rest, upto) = two_cuts c.left c.right d.left d.right c.page d.page (sym c.whole ∙ d.whole) le in
       let size = ap length rest ∙ length-append part d.right in
       part_exact (IsSeekPage b.file b.meta b.start c.page.address (Some e)) (c.left ++ c.page ∷ []) part d.right (length c.right - length d.right)
-      (c.whole ∙ (ap (λ (vs : List Visit). c.left ++ c.page ∷ vs) rest ∙ sym (append_assoc c.left (c.page ∷ []) (part ++ d.right)))) (omega (arith, size)) (λ a page. page.0.0)
+      (c.whole ∙ (ap (λ (vs : List TourPage). c.left ++ c.page ∷ vs) rest ∙ sym (append_assoc c.left (c.page ∷ []) (part ++ d.right)))) (omega (arith, size)) (λ a page. page.0.0)
       (λ u k p. (
-        (at_address u k, (right_apart c u (subst (λ (vs : List Visit). Has vs u) (sym rest) (has_left part d.right u p))).addresses),
-        (d.page.address, its_home d e h, up_to d u (subst (λ (vs : List Visit). Has vs u) upto (has_right c.left (c.page ∷ part) u (inr p)))),
+        (at_address u k, (right_apart c u (subst (λ (vs : List TourPage). Has vs u) (sym rest) (has_left part d.right u p))).addresses),
+        (d.page.address, its_home d e h, up_to d u (subst (λ (vs : List TourPage). Has vs u) upto (has_right c.left (c.page ∷ part) u (inr p)))),
       ))
-      (λ u k page. elim (has_split part d.right u (subst (λ (vs : List Visit). Has vs u) rest (from_after c u k page.0.1))) [
+      (λ u k page. elim (has_split part d.right u (subst (λ (vs : List TourPage). Has vs u) rest (from_after c u k page.0.1))) [
         | inl l ↦ l
         | inr r ↦ absurd (not_both u.address d.page.address (right_apart d u r).addresses
             (subst (λ (home : List ℕ). (u.address ≡ home) ⊎ Before u.address home) (home_is d e page.1.0 h page.1.1) page.1.2))

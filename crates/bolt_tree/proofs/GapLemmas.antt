@@ -1,7 +1,8 @@
 -- The gaps between entries exist, and cover all pages.
 use Rattle.std.proofs.Common.{◌≡◌, ℕ, zero, suc, ◌-◌, ◌≤◌, ◌<◌, inl, inr, List, Some, None, Option, slice_get, length, refl, sym, subst, arith}
 use Rattle.bolt_tree.proofs.Words.{AreSorted, BucketView, GapsCoverAll, IsGap, IsPagesUpTo, IsSoundBucket, LeafElement, cases_lt, lt_strict, pages_in, slice_get_past, sum_to}
-use Rattle.bolt_tree.proofs.{ListLemmas.at_has, ListLemmas.contains_from_has, ListLemmas.rises_gets, TourLemmas.IsBelowElement}
+use Rattle.bolt_tree.proofs.{TourLemmas.IsBelowElement}
+use Rattle.bolt_check.proofs.Lists.{at_has, contains_from_has, rises_gets}
 use Rattle.bolt_tree.proofs.CountLemmas.{IsAt, all_exact, apart, cut_size, entry_at, exact_count, exact_is, upto_exists, upto_is}
 use Rattle.bolt_tree.proofs.{SortedLemmas.rises_back, CursorMoves.none_past}
 

@@ -1,8 +1,8 @@
 -- Cursors that wait, and go on.
 use Rattle.std.proofs.Common.{◌≡◌, ◌∙◌, ◌≤◌, ◌-◌, ℕ, Bool, List, [], ◌∷◌, ◌++◌, Option, Some, None, drop, take, length, reverse, refl, sym, ap, subst, arith}
-use Rattle.bolt_tree.proofs.Words.{AreKept, AreOfFile, BucketView, Checked, Cursor, CursorView, Frame, HasStack, IsHeld, IsInnermost, IsKept, LeafElement, Move, Moves, MovesLast, Place, Position, Trail, bucket_in, cursor_checked, cursor_place, cursor_start, cursor_view, drop-append_seam, entries_of, frames_of, innermost_views, kept_view, kept_views, length-append, length-drop, pager_checked, props, reverse-append, same_from_push, start_at, take-append_seam, take-length, ∥∥₁_elim, ∥∥₁_map}
+use Rattle.bolt_tree.proofs.Words.{AreKept, AreOfFile, BucketView, Checked, Cursor, CursorView, Frame, HasStack, IsResting, IsInnermost, IsKept, LeafElement, Move, Moves, MovesLast, Place, Position, Trail, bucket_in, cursor_checked, cursor_place, cursor_start, cursor_view, drop-append_seam, entries_of, frames_of, innermost_views, kept_view, kept_views, length-append, length-drop, pager_checked, props, reverse-append, same_from_push, start_at, take-append_seam, take-length, ∥∥₁_elim, ∥∥₁_map}
 use Rattle.bolt_tree.proofs.{OpenSteps.no_snoc, StackLemmas.stack_short, TrailLemmas.length-frames}
-use Rattle.bolt_tree.specs.{declared.bucket.At.At, declared.open_cursors.WaitingCursor.WaitingCursor}
+use Rattle.bolt_tree.specs.{declared.at.At.At, declared.open_cursors.WaitingCursor.WaitingCursor}
 
 frames_short : (bucket : BucketView) (frames : List Frame) → HasStack bucket frames → length frames ≤ 64
 frames_short bucket [] stack = omega arith
@@ -16,13 +16,13 @@ kept_short checked at is_past positions kept =
 
 -- a cursor goes on by the positions that were kept
 pub resumed : (trail : Trail) (is_past : Bool) (checked : Checked) (positions : List Position) → pager_checked trail.pager ≡ checked → trail.stack.items ≡ positions
-    → ∥ IsKept checked trail.at is_past positions ∥₁ → ∥ IsHeld trail is_past ∥₁
+    → ∥ IsKept checked trail.at is_past positions ∥₁ → ∥ IsResting trail is_past ∥₁
 resumed trail is_past checked positions file items kept =
     ∥∥₁_map kept (λ k. record { stack = rw (file, items) k.stack; rest = rw items k.rest; empty = rw items k.empty })
 
 -- those of a cursor may be kept
-held_kept : (trail : Trail) (is_past : Bool) (checked : Checked) → pager_checked trail.pager ≡ checked → IsHeld trail is_past → IsKept checked trail.at is_past trail.stack.items
-held_kept trail is_past checked file h = record {
+resting_kept : (trail : Trail) (is_past : Bool) (checked : Checked) → pager_checked trail.pager ≡ checked → IsResting trail is_past → IsKept checked trail.at is_past trail.stack.items
+resting_kept trail is_past checked file h = record {
   stack = subst (λ (c : Checked). HasStack (bucket_in c (start_at trail.at)) (frames_of trail.stack.items)) file h.stack;
   rest = h.rest;
   empty = h.empty;
@@ -70,9 +70,9 @@ module _ (checked : Checked) (waiting : List WaitingCursor) (positions : List Po
 
   pub waits : ∥ AreOfFile checked (waiting ++ put ∷ []) (positions ++ outer.trail.stack.items) (Some cursor) ∥₁
   waits =
-      ∥∥₁_elim known (hlevel props) (λ k. ∥∥₁_map outer.held (λ h. (
+      ∥∥₁_elim known (hlevel props) (λ k. ∥∥₁_map outer.resting (λ h. (
         one_more checked waiting put positions outer.trail.stack.items begins k.0
-            (held_kept outer.trail outer.is_past checked (file_of checked outer (of_file k)) h),
+            (resting_kept outer.trail outer.is_past checked (file_of checked outer (of_file k)) h),
         file,
       )))
 

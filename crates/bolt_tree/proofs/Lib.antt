@@ -1,3 +1,4 @@
+pub mod AgreeingListings
 pub mod AllEntries
 pub mod BackLemmas
 pub mod BucketWays
@@ -11,18 +12,16 @@ pub mod Existing
 pub mod Filters
 pub mod GapLemmas
 mod Giving
-pub mod KeySearchLemmas
-pub mod HeldLemmas
-pub mod ListLemmas
 pub mod KeptLemmas
+pub mod KeySearchLemmas
 pub mod Leaving
 pub mod Lists
 pub mod Looking
 pub mod Measured
 pub mod MoveLemmas
-pub mod NearestLeaf
 pub mod Named
 pub mod NearLemmas
+pub mod NearestLeaf
 mod Nesting
 mod OpenSteps
 pub mod OpeningMoves
@@ -32,6 +31,7 @@ pub mod PathEntries
 pub mod PathOrder
 pub mod PlaceMoves
 pub mod ReadBack
+pub mod RestingLemmas
 pub mod SeekCounts
 pub mod SeekLemmas
 mod Seeking

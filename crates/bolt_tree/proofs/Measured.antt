@@ -2,7 +2,7 @@
 use Rattle.std.proofs.Common.{◌≡◌, ◌<◌, Err, List, None, Ok, Option, Result, Some, ◌∷◌, length, ap, arith}
 use Rattle.bolt_tree.proofs.Words.{Checked, ForListing, GivesNext, IfOk, IfSome, IsListing, Member, bytes_of, checked_trees, item_view, meta_of, option_map, props, walk_checked, walk_path, ∥∥₁_elim, ∥∥₁_map}
 use Rattle.bolt_tree.proofs.Existing.{is_listing}
-use Rattle.bolt_tree.specs.{Walks.left_of, declared.Item.Item, WalksLeft.left_number, WalksLeft.the_listing, declared.walk.Walk.Walk}
+use Rattle.bolt_tree.specs.{Walks.left_of, declared.entry.Item.Item, WalksLeft.left_number, WalksLeft.the_listing, declared.walk.Walk.Walk}
 
 pub is_the_listing : (checked : Checked) → ∥ IsListing (bytes_of checked) (meta_of checked) (the_listing checked) ∥₁
 is_the_listing checked = ∥∥₁_map (checked_trees checked) (is_listing (bytes_of checked) (meta_of checked))

@@ -1,6 +1,6 @@
 -- Moves from entry to entry. Within a leaf, one element more of the page on top of a stack is taken, in place.
 use Rattle.std.proofs.Common.{◌≡◌, ℕ, ◌<◌, Bool, true, false, List, [], ◌∷◌, ◌++◌, Some, None, Option, length, refl, ◌∙◌, arith, ◌≤◌, ◌+◌, ◌-◌, suc, take, slice_index_or, slice_set, sym, ap, append-nil, subst}
-use Rattle.bolt_tree.proofs.Words.{BucketView, Content, Contents, Finds, Frame, HasStack, IsAtRest, IsBeside, IsEntered, IsLast, IsOn, Leaf, LeafElement, Of_branch, Of_leaf, Position, RestsOn, StandsOn, contents_in, drop_all, elements_in, entries_to, frame_of, frames_of, get_or_default, length-set, nearer, opened_content, pages_in, pages_to, refill, right_of, right_under, root_content, slice_get_read, take-suc-set, take_all, take_next, taken_at}
+use Rattle.bolt_tree.proofs.Words.{BucketView, Content, Contents, Finds, Frame, HasStack, IsAtRest, IsBeside, IsEntered, IsLast, IsOn, Leaf, LeafElement, Of_branch, Of_leaf, Position, RestsOn, StandsOn, contents_in, drop_all, elements_in, entries_to, frame_of, frames_of, get_or_default, length-set, nearer, opened_content, pages_in, pages_to, refill, later_of, later_under, root_content, slice_get_read, take-suc-set, take_all, take_next, taken_at}
 use Rattle.bolt_tree.proofs.{BackLemmas.back_none, BackLemmas.back_some, BackLemmas.left_out, BackLemmas.root_behind, StackLemmas.root_ahead, StackLemmas.root_right}
 use Rattle.bolt_tree.proofs.TrailLemmas.{entered_length, entered_none, entered_some, exhausted, frames_push}
 
@@ -52,11 +52,11 @@ pub at_edge : (back : Bool) (bucket now : BucketView) (frames : List Frame) → 
 at_edge back bucket now frames same at = rw (same, at) (at_root back bucket)
 
 -- Right of the only page of a stack at rest, which is a leaf, there is none; so where all of that leaf is taken, nothing is ahead.
-leaf_alone : (contents : Contents) (height : ℕ) (address : List ℕ) (content : Content) (taken : ℕ) → RestsOn content taken → right_under contents height address content taken ++ [] ≡ []
+leaf_alone : (contents : Contents) (height : ℕ) (address : List ℕ) (content : Content) (taken : ℕ) → RestsOn content taken → later_under contents height address content taken ++ [] ≡ []
 leaf_alone contents height address (Of_leaf elements) taken rest = refl
 leaf_alone contents height address (Of_branch elements) taken rest = absurd rest
 
-pub alone : (contents : Contents) (frames : List Frame) → IsAtRest frames → length frames < 2 → right_of contents frames ≡ []
+pub alone : (contents : Contents) (frames : List Frame) → IsAtRest frames → length frames < 2 → later_of contents frames ≡ []
 alone contents [] rest few = refl
 alone contents (f ∷ []) rest few = leaf_alone contents 0 [] f.content f.taken rest
 alone contents (f ∷ g ∷ below) rest few = absurd (omega (arith, few))

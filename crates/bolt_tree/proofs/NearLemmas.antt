@@ -1,7 +1,8 @@
 -- The nearest leaf to a key: the way down to it, step by step, and what lies ahead of the key there.
 use Rattle.std.proofs.Common.{◌≡◌, ℕ, suc, ◌+◌, ◌-◌, ◌≤◌, inl, inr, true, false, List, [], ◌∷◌, ◌++◌, Some, slice_get, length, map, drop, take, refl, sym, ap, ◌∙◌, subst, arith, append_assoc, length-append, append-nil, zero}
-use Rattle.bolt_tree.proofs.Words.{AreBelow, BranchElement, BucketView, Content, Contents, Frame, HasSoundTrees, HasStack, Inline_page, IsBetween, IsLeafTop, IsNear, IsNearFrom, IsNearTo, IsNearTop, IsNearest, IsOnWayDown, IsPlaceOf, IsSought, IsSoundBucket, IsStart, Key, KeysRise, LeafElement, Meta, Of_branch, Of_leaf, Root_page, Start, Visit, address_on, ahead_of, branch_key, branch_node, cases_lt, content_at, content_at_start, content_keys, content_length, contents_in, elements_in, elements_of, key_lt, least_from, left_of, none-some, on_child, opened_content, option_map, pages_in, props, right_of, root_content, shown, slice_get-map, spot_node, tour, ∥∥₁_elim, ∥∥₁_map, ∥∥₁_prop}
-use Rattle.bolt_tree.proofs.{ListLemmas.Has, ListLemmas.has_right, ListLemmas.rises_gets, PlaceMoves.drop_front, PlaceMoves.leaf_parts}
+use Rattle.bolt_tree.proofs.Words.{AreBelow, BranchElement, BucketView, Content, Contents, Frame, HasSoundTrees, HasStack, Inline_page, IsBetween, IsLeafTop, IsNear, IsNearFrom, IsNearTo, IsNearTop, IsNearest, IsOnWayDown, IsPlaceOf, IsSought, IsSoundBucket, IsStart, Key, KeysRise, LeafElement, Meta, Of_branch, Of_leaf, Root_page, Start, TourPage, address_on, ahead_of, branch_key, branch_node, cases_lt, content_at, content_at_start, content_keys, content_length, contents_in, elements_in, elements_of, key_lt, least_from, passed_of, none-some, on_child, opened_content, option_map, pages_in, props, later_of, root_content, shown, slice_get-map, spot_node, tour, ∥∥₁_elim, ∥∥₁_map, ∥∥₁_prop}
+use Rattle.bolt_tree.proofs.{PlaceMoves.drop_front, PlaceMoves.leaf_parts}
+use Rattle.bolt_check.proofs.Lists.{Has, has_right, rises_gets}
 use Rattle.bolt_tree.proofs.{SeekLemmas.are_append, SeekLemmas.drop_get, SeekLemmas.is_above, SeekLemmas.not_above, SeekLemmas.take_get, SortedLemmas.visit_is}
 use Rattle.bolt_tree.proofs.{TourLemmas.IsBelowElement, TourLemmas.filled, WayPages.a_branch, WayPages.a_leaf, WayPages.on_way_page, WayPages.branch_page}
 use Rattle.bolt_tree.proofs.StackLemmas.{retaken}
@@ -21,8 +22,8 @@ leaf_rises bucket es t below stack = λ i j a c l g h.
     let x = key_at (λ (e : LeafElement). e.key) es i a g in
     let y = key_at (λ (e : LeafElement). e.key) es j c h in
     let less : key_lt x.0.key y.0.key ≡ true = ∥∥₁_elim stack (Prim.hlevel props) (λ k.
-    let v : Visit = record { address = address_on below; entries = es } in
-    let here : Has (pages_in bucket) v = subst (λ (vs : List Visit). Has vs v) (sym k.1.0.placed) (has_right (left_of (contents_in bucket) below) (v ∷ right_of (contents_in bucket) below) v (inl refl)) in
+    let v : TourPage = record { address = address_on below; entries = es } in
+    let here : Has (pages_in bucket) v = subst (λ (vs : List TourPage). Has vs v) (sym k.1.0.placed) (has_right (passed_of (contents_in bucket) below) (v ∷ later_of (contents_in bucket) below) v (inl refl)) in
     rises_gets IsBelowElement es i j x.0 y.0 (visit_is bucket.file bucket.meta k.0.trees bucket.start v k.0.start here).rises l x.1 y.1) in
     rw (← x.2, ← y.2) less
 
@@ -102,16 +103,16 @@ least_is key (x ∷ front) back f b =
 leaf_key_at : (es : List LeafElement) (k : ℕ) (e : LeafElement) → slice_get es k ≡ Some e → slice_get (content_keys (Of_leaf es)) k ≡ Some e.key
 leaf_key_at es k e g = slice_get-map (λ (x : LeafElement). x.key) es k ∙ ap (option_map (λ (x : LeafElement). x.key)) g
 
-sought_leaf : (contents : Contents) (n : ℕ) (whole : List Visit) (key : Key) (es : List LeafElement) (t : ℕ) (below : List Frame) → whole ≡ left_of contents below ++ (tour contents n (address_on below) (Of_leaf es) ++ right_of contents below)
+sought_leaf : (contents : Contents) (n : ℕ) (whole : List TourPage) (key : Key) (es : List LeafElement) (t : ℕ) (below : List Frame) → whole ≡ passed_of contents below ++ (tour contents n (address_on below) (Of_leaf es) ++ later_of contents below)
     → IsPlaceOf (content_keys (Of_leaf es)) false key t → t ≤ length es → IsBetween contents key below → IsSought (elements_of whole) key (ahead_of contents (record { content = Of_leaf es; taken = t } ∷ below))
 sought_leaf contents n whole key es t below placed place most between =
-    let left = elements_of (left_of contents below) in
-    let right = elements_of (right_of contents below) in
+    let left = elements_of (passed_of contents below) in
+    let right = elements_of (later_of contents below) in
     let parts = leaf_parts contents n whole es t below placed in
-    let front : AreBelow true key (left ++ take t es) = are_append true key left (take t es) between.left
+    let front : AreBelow true key (left ++ take t es) = are_append true key left (take t es) between.passed
     (λ k e g. let r = take_get es t k e g in place.below k e.key r.1 (leaf_key_at es k e r.0)) in
     let back : AreBelow false key (drop t es ++ right) = are_append false key (drop t es) right
-    (λ k e g. let r = drop_get es t k (t + k) e refl g in place.above (t + k) e.key (omega arith) (leaf_key_at es (t + k) e r)) between.right in
+    (λ k e g. let r = drop_get es t k (t + k) e refl g in place.above (t + k) e.key (omega arith) (leaf_key_at es (t + k) e r)) between.later in
     let least : least_from key ((elements_of whole)) ≡ length (left ++ take t es) = ap (λ (l : List LeafElement). least_from key l) parts ∙ least_is key (left ++ take t es) (drop t es ++ right) front back in
     let len : length (elements_of whole) ≡ length (left ++ take t es) + length (drop t es ++ right) = ap length parts ∙ length-append (left ++ take t es) (drop t es ++ right) in
     record {
@@ -140,8 +141,8 @@ moved_way old now key under below a d e g h way = rw (e, g, h) way
 
 pub begins : (contents : Contents) (key : Key) → IsBetween contents key []
 begins contents key = record {
-  left = λ k e g. absurd (none-some e g);
-  right = λ k e g. absurd (none-some e g);
+  passed = λ k e g. absurd (none-some e g);
+  later = λ k e g. absurd (none-some e g);
 }
 
 -- what is no branch shows a leaf

@@ -1,15 +1,15 @@
 -- What the moves of a trail open, counted by the pages up to an entry, and what a seek opens and compares.
 use Rattle.std.proofs.Common.{false, ◌≡◌, ℕ, suc, ◌+◌, ◌-◌, ◌≤◌, List, [], ◌∷◌, ◌++◌, Some, None, Option, slice_get, length, refl, ap, ◌∙◌, subst, arith, ◌*◌, sym, length-append}
-use Rattle.bolt_tree.proofs.Words.{BucketView, Content, Contents, Finds, Frame, HasCount, HasStack, IsAtRest, IsLeafContent, IsLeafTop, IsNear, IsNearTop, IsPagesUpTo, IsSeekPage, IsSought, IsSoundBucket, IsStack, Key, Leaf, LeafElement, Of_branch, Of_leaf, OpensByNext, OpensGap, OpensSeek, RestsOn, SeeksInBounds, StandsOn, address_on, ahead_of, contents_in, counted, elements_in, index_of, leaf_view, least_from, left_of, opened_to, option_map, pages_in, place_on, props, right_of, slice_get_past, top_address, tour, ∥∥₁_elim}
+use Rattle.bolt_tree.proofs.Words.{BucketView, Content, Contents, Finds, Frame, HasCount, HasStack, IsAtRest, IsLeafContent, IsLeafTop, IsNear, IsNearTop, IsPagesUpTo, IsSeekPage, IsSought, IsSoundBucket, IsStack, Key, Leaf, LeafElement, Of_branch, Of_leaf, OpensByNext, OpensGap, OpensSeek, RestsOn, SeeksInBounds, StandsOn, address_on, ahead_of, contents_in, counted, elements_in, index_of, leaf_view, least_from, passed_of, opened_to, option_map, pages_in, place_on, props, later_of, slice_get_past, top_address, tour, ∥∥₁_elim}
 use Rattle.bolt_tree.proofs.CountLemmas.{Cut, IsAt, all_exact, cut_size, exact_is, upto_is, after_exact, seek_exact}
-use Rattle.bolt_tree.proofs.ListLemmas.{at_has, get_exists}
+use Rattle.bolt_check.proofs.Lists.{at_has, get_exists}
 use Rattle.bolt_tree.proofs.PlaceMoves.{on_rests, split, ahead_number, current, the_entries, get_next}
 use Rattle.bolt_tree.proofs.{NearestLeaf.one_near, StackLemmas.stack_short}
 
 -- the page of a leaf on a stack among the pages of the bucket
 abbrev pub leaf_cut : (bucket : BucketView) (es : List LeafElement) (below : List Frame)
-    → pages_in bucket ≡ left_of (contents_in bucket) below ++ (record { address = address_on below; entries = es } ∷ right_of (contents_in bucket) below) → Cut (pages_in bucket)
-leaf_cut bucket es below placed = record { left = left_of (contents_in bucket) below; page = record { address = address_on below; entries = es }; right = right_of (contents_in bucket) below; whole = placed }
+    → pages_in bucket ≡ passed_of (contents_in bucket) below ++ (record { address = address_on below; entries = es } ∷ later_of (contents_in bucket) below) → Cut (pages_in bucket)
+leaf_cut bucket es below placed = record { left = passed_of (contents_in bucket) below; page = record { address = address_on below; entries = es }; right = later_of (contents_in bucket) below; whole = placed }
 
 -- the entry on which a stack rests, and its page among the pages of the bucket
 rest_stands : (content : Content) (taken : ℕ) → RestsOn content taken → (e : LeafElement) × StandsOn content taken e
@@ -17,8 +17,8 @@ rest_stands (Of_leaf es) taken rest = let e = get_exists es (taken - 1) (omega (
 rest_stands (Of_branch bs) taken rest = absurd rest
 
 pub stands_at : (bucket : BucketView) (content : Content) (taken : ℕ) (below : List Frame) (e : LeafElement) → StandsOn content taken e
-    → pages_in bucket ≡ left_of (contents_in bucket) below ++ (tour (contents_in bucket) (63 - length below) (address_on below) content ++ right_of (contents_in bucket) below)
-    → (at : IsAt bucket e) × (at.cut.right ≡ right_of (contents_in bucket) (record { content = content; taken = taken } ∷ below))
+    → pages_in bucket ≡ passed_of (contents_in bucket) below ++ (tour (contents_in bucket) (63 - length below) (address_on below) content ++ later_of (contents_in bucket) below)
+    → (at : IsAt bucket e) × (at.cut.right ≡ later_of (contents_in bucket) (record { content = content; taken = taken } ∷ below))
 stands_at bucket (Of_leaf es) taken below e on placed = (record { cut = leaf_cut bucket es below placed; has = at_has es (taken - 1) e on.1 }, refl)
 stands_at bucket (Of_branch bs) taken below e on placed = absurd on
 
@@ -28,7 +28,7 @@ module _ (bucket : BucketView) where
   IsUpTo i n = IsPagesUpTo bucket.file bucket.meta bucket.start (slice_get (elements_in bucket) i) n
 
   stack_upto : (f : Frame) (below : List Frame) (n : ℕ) → HasStack bucket (f ∷ below) → IsAtRest (f ∷ below) → IsUpTo (index_of (contents_in bucket) (f ∷ below)) n
-      → n + length (right_of (contents_in bucket) (f ∷ below)) ≡ length (pages_in bucket)
+      → n + length (later_of (contents_in bucket) (f ∷ below)) ≡ length (pages_in bucket)
   stack_upto f below n stack rest up =
       let on = rest_stands f.content f.taken rest in
       let up2 : IsPagesUpTo bucket.file bucket.meta bucket.start (Some on.0) n =
@@ -46,10 +46,10 @@ module _ (bucket : BucketView) where
   -- what a move to the first entry opens
   pub first_opens : (found : Option Leaf) (frames : List Frame) (old new : ℕ) → ∥ IsSoundBucket bucket ∥₁ → HasStack bucket frames
       → Finds false found (elements_in bucket) (ahead_of (contents_in bucket) frames) frames []
-      → new ≡ counted old (length (pages_in bucket) - length (right_of (contents_in bucket) frames)) → OpensGap bucket 0 old new
+      → new ≡ counted old (length (pages_in bucket) - length (later_of (contents_in bucket) frames)) → OpensGap bucket 0 old new
   first_opens None frames old new is stack h opened = λ entries gap are up.
       let g = all_upto gap 0 is (let z = ap length h.0 in omega (arith, z)) (rw (← the_entries bucket entries is are) at up) in
-      let zero_right : length (right_of (contents_in bucket) frames) ≡ 0 = ap (λ (fs : List Frame). length (right_of (contents_in bucket) fs)) h.1 in
+      let zero_right : length (later_of (contents_in bucket) frames) ≡ 0 = ap (λ (fs : List Frame). length (later_of (contents_in bucket) fs)) h.1 in
       opened ∙ ap (counted old) (omega (arith, g, zero_right))
   first_opens (Some leaf) [] old new is stack h opened = absurd h.1
   first_opens (Some leaf) (f ∷ below) old new is stack h opened = λ entries gap are up.
@@ -63,7 +63,7 @@ module _ (bucket : BucketView) where
   pub next_opens : (found : Option Leaf) (from frames : List Frame) (old new : ℕ) → ∥ IsSoundBucket bucket ∥₁
       → HasStack bucket from → IsAtRest from → (from ≡ [] → ⊥) → HasStack bucket frames
       → Finds false found (ahead_of (contents_in bucket) from) (ahead_of (contents_in bucket) frames) frames from
-      → new ≡ counted old (length (right_of (contents_in bucket) from) - opened_to (option_map leaf_view found) (right_of (contents_in bucket) frames))
+      → new ≡ counted old (length (later_of (contents_in bucket) from) - opened_to (option_map leaf_view found) (later_of (contents_in bucket) frames))
       → OpensByNext bucket (place_on (contents_in bucket) from) old new
   next_opens found [] frames old new is stack rest some stack2 h opened = absurd (some refl)
   next_opens None (f ∷ below) frames old new is stack rest some stack2 h opened = λ entries gap are up.
@@ -95,7 +95,7 @@ further : (bucket : BucketView) (s : IsSoundBucket bucket) (key : Key) (found : 
     → IsSought (elements_in bucket) key (ahead_of (contents_in bucket) (record { content = content; taken = taken } ∷ below)) → IsStack bucket frames
     → Finds false found (ahead_of (contents_in bucket) (record { content = content; taken = taken } ∷ below)) (ahead_of (contents_in bucket) frames) frames []
     → HasCount (IsSeekPage bucket.file bucket.meta bucket.start (address_on below) (slice_get (elements_in bucket) (least_from key (elements_in bucket)))) n
-    → n ≡ length (right_of (contents_in bucket) (record { content = content; taken = taken } ∷ below)) - opened_to (option_map leaf_view found) (right_of (contents_in bucket) frames)
+    → n ≡ length (later_of (contents_in bucket) (record { content = content; taken = taken } ∷ below)) - opened_to (option_map leaf_view found) (later_of (contents_in bucket) frames)
 further bucket s key found (Of_branch bs) taken below frames n stack leaf sought stack2 h count = absurd leaf
 further bucket s key None (Of_leaf es) taken below frames n stack leaf sought stack2 h count =
     let number = sought.number in
@@ -109,16 +109,16 @@ further bucket s key (Some leaf) (Of_leaf es) taken below (g ∷ under) n stack 
     let at = stands_at bucket g.content g.taken under (leaf_view leaf) h.1 stack2.0.placed in
     omega (arith, exact_is (seek_exact bucket s (leaf_cut bucket es below stack.0.placed) (leaf_view leaf) at.0) (rw got at count), ap length at.1)
 
--- nothing is right of where it comes to at the end
-right_end : (contents : Contents) (found : Option Leaf) (before after : List LeafElement) (frames : List Frame) → Finds false found before after frames [] → length (right_of contents frames) ≡ opened_to (option_map leaf_view found) (right_of contents frames)
-right_end contents None before after frames h = ap (λ (fs : List Frame). length (right_of contents fs)) h.1
+-- nothing comes later than where it comes to at the end
+right_end : (contents : Contents) (found : Option Leaf) (before after : List LeafElement) (frames : List Frame) → Finds false found before after frames [] → length (later_of contents frames) ≡ opened_to (option_map leaf_view found) (later_of contents frames)
+right_end contents None before after frames h = ap (λ (fs : List Frame). length (later_of contents fs)) h.1
 right_end contents (Some leaf) before after frames h = refl
 
 -- what a seek opens
 pub seek_opens : (bucket : BucketView) (key : Key) (found : Option Leaf) (landed frames : List Frame) (old new : ℕ) → ∥ IsSoundBucket bucket ∥₁ → HasStack bucket landed → IsLeafTop landed → IsNearTop bucket key landed
     → IsSought (elements_in bucket) key (ahead_of (contents_in bucket) landed) → HasStack bucket frames
     → Finds false found (ahead_of (contents_in bucket) landed) (ahead_of (contents_in bucket) frames) frames []
-    → new ≡ counted old (length landed + (length (right_of (contents_in bucket) landed) - length (right_of (contents_in bucket) frames))) → OpensSeek bucket key old new
+    → new ≡ counted old (length landed + (length (later_of (contents_in bucket) landed) - length (later_of (contents_in bucket) frames))) → OpensSeek bucket key old new
 seek_opens bucket key found [] frames old new is stack leaf near sought stack2 h opened = absurd leaf
 seek_opens bucket key found (f ∷ below) frames old new is stack leaf near sought stack2 h opened = λ entries n are count.
     let all = the_entries bucket entries is are in

@@ -1,7 +1,7 @@
 -- The counts of a pager.
 use Rattle.std.proofs.Common.{◌≡◌, ◌+◌, ◌<◌, ◌^◌, ℕ, arith}
 use Rattle.bolt_tree.proofs.Words.{counted, pager_opened}
-use Rattle.bolt_tree.specs.declared.opened.Pager.{Pager}
+use Rattle.bolt_tree.specs.declared.pager.Pager.{Pager}
 
 pub opened_fits : (pager : Pager) → pager_opened pager < 2 ^ 64
 unfolding pager_opened

@@ -1,9 +1,9 @@
 -- A number of pages that a seek opens: no more than the way down and the gap before the entry that it comes to. For every entry on a page after
 -- the nearest leaf is not below the key, so the page of the entry before is not after that leaf.
 use Rattle.std.proofs.Common.{◌≡◌, ℕ, zero, suc, ◌+◌, ◌-◌, ◌≤◌, ◌<◌, inl, inr, true, false, not, List, [], ◌∷◌, Some, None, Option, slice_get, length, refl, sym, ap, ◌∙◌, subst, arith}
-use Rattle.bolt_tree.proofs.Words.{AreSorted, Before, BranchElement, BucketView, HasCount, HasSoundTrees, Inline_page, IsEntry, IsGap, IsHome, IsNear, IsNearFrom, IsNearest, IsOnWay, IsPagesUpTo, IsSeekCount, IsSeekPage, IsSoundBucket, IsStart, Key, LeafElement, Meta, Root_page, Start, Visit, branch_step, cases_lt, content_at, key_lt, leads, leads_child, leaf_ends, least_from, node_at, node_is, on_address, on_child, pages_in, prefix_len-le-length}
+use Rattle.bolt_tree.proofs.Words.{AreSorted, Before, BranchElement, BucketView, HasCount, HasSoundTrees, Inline_page, IsEntry, IsGap, IsHome, IsNear, IsNearFrom, IsNearest, IsOnWay, IsPagesUpTo, IsSeekCount, IsSeekPage, IsSoundBucket, IsStart, Key, LeafElement, Meta, Root_page, Start, TourPage, branch_step, cases_lt, content_at, key_lt, leads, leads_child, leaf_ends, least_from, node_at, node_is, on_address, on_child, pages_in, prefix_len-le-length}
 use Rattle.bolt_format.specs.declared.header.Kind.TheVariants as kind
-use Rattle.bolt_tree.proofs.ListLemmas.{Has, at_has, contains_from_has, get_exists, has_from_contains, map_has}
+use Rattle.bolt_check.proofs.Lists.{Has, at_has, contains_from_has, get_exists, has_from_contains, map_has}
 use Rattle.bolt_tree.proofs.{SeekLemmas.not_below, TourLemmas.IsUnder, TourLemmas.entries_shown, TourLemmas.under_child, WayPages.content_is}
 use Rattle.bolt_tree.proofs.CountLemmas.{Cut, IsAt, address_of, address_visited, after_exact, all_exact, apart, cut_size, entry_at, exact_count, exact_is, has_cut, its_home, seek_exact, upto_is}
 use Rattle.bolt_tree.proofs.{GapLemmas.at_place, NearestLeaf.near_exists, NearestLeaf.one_near, EntryOrder.before_least}
@@ -25,7 +25,7 @@ module _ (file : List ℕ) (meta : Meta) (trees : HasSoundTrees file meta) where
       let d = branch_step (node_at file meta) number j page view rest node led in
       let below : leads (node_at file meta) (Some d.0.child) rest ≡ Some page = sym (leads_child file meta number j view d.0 rest node d.1) ∙ led in
       let there = on_address file meta trees d.0.child (suc depth) page rest (on_child file meta number depth j view d.0 on node d.1) below in
-      let v : Visit = record { address = rest; entries = entries_shown (content_at file meta page) } in
+      let v : TourPage = record { address = rest; entries = entries_shown (content_at file meta page) } in
       let under : IsUnder file meta d.0.child [] v = record { rest = rest; page = page; depth = there.0; from = refl; led = below; shown = refl; on = there.1 } in
       not_below x.key d.0.key key (under_child file meta trees number depth j [] view d.0 v x on node d.1 under has).0 (above_nearest view.branches key i j d.0 nearest lt d.1)
   after_near_from (i ∷ near) (j ∷ rest) number depth page key x on (view, e, at, branch, nearest, g, down) led has (inr (same, after)) =

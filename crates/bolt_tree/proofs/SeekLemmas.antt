@@ -1,7 +1,7 @@
--- On the way down to the leaf that is near a key, the key is between what is left and what is right.
+-- On the way down to the leaf that is near a key, the key is between what was passed and what comes later.
 use Rattle.std.proofs.Common.{◌≡◌, ℕ, zero, suc, ◌+◌, ◌-◌, ◌≤◌, ◌<◌, inl, inr, Bool, true, false, List, [], ◌∷◌, ◌++◌, Some, Ok, slice_get, length, drop, take, refl, sym, ap, ◌∙◌, subst, arith}
-use Rattle.bolt_tree.proofs.Words.{AreBelow, BranchElement, BucketView, Contents, Frame, HasSoundTrees, HasStack, IsBetween, IsOnWay, IsPlaceOf, Key, LeafElement, Meta, Of_branch, PageView, Visit, address_on, branch_node, cases_lt, content_at, content_keys, contents_in, elements_of, false_from_ne_true, flat_map-append, key_lt, left_of, lt_not_trans, lt_trans, node_at, none-some, not-false, not-true, on_child, option_map, props, right_of, slice_get-map, tour, under_at, ∥∥₁_elim}
-use Rattle.bolt_tree.proofs.ListLemmas.{Has, at_has, flat_has, get_before, has_at, has_split}
+use Rattle.bolt_tree.proofs.Words.{AreBelow, BranchElement, BucketView, Contents, Frame, HasSoundTrees, HasStack, IsBetween, IsOnWay, IsPlaceOf, Key, LeafElement, Meta, Of_branch, PageView, TourPage, address_on, branch_node, cases_lt, content_at, content_keys, contents_in, elements_of, false_from_ne_true, flat_map-append, key_lt, passed_of, lt_not_trans, lt_trans, node_at, none-some, not-false, not-true, on_child, option_map, props, later_of, slice_get-map, tour, under_at, ∥∥₁_elim}
+use Rattle.bolt_check.proofs.Lists.{Has, at_has, flat_has, get_before, has_at, has_split}
 use Rattle.bolt_tree.proofs.TourLemmas.{IsUnder, branches_rise, tour_led, under_child, under_has}
 use Rattle.bolt_tree.proofs.WayPages.{branch_page}
 
@@ -26,15 +26,15 @@ not_below x d key h k = false_from_ne_true (key_lt x key) (λ t. let less : key_
 module _ (file : List ℕ) (meta : Meta) (trees : HasSoundTrees file meta) where
   -- an element that lies under one of a branch, not below its key, and below those behind it
   module _ (number H : ℕ) (view : PageView) (on : IsOnWay file meta number (suc H)) (node : node_at file meta number ≡ Ok (branch_node view)) (deep : suc (suc H) ≤ 64) (address : List ℕ) where
-    under_led : (k j : ℕ) (d : BranchElement) (v : Visit) → slice_get view.branches k ≡ Some d → Has (tour (content_at file meta) (62 - H) (address ++ j ∷ []) (content_at file meta d.child)) v
+    under_led : (k j : ℕ) (d : BranchElement) (v : TourPage) → slice_get view.branches k ≡ Some d → Has (tour (content_at file meta) (62 - H) (address ++ j ∷ []) (content_at file meta d.child)) v
         → IsUnder file meta d.child (address ++ j ∷ []) v
     under_led k j d v g h = tour_led file meta trees (62 - H) d.child (suc (suc H)) (address ++ j ∷ []) v (on_child file meta number (suc H) k view d on node g) (omega (arith, deep)) h
 
-    pub from_under : (k j : ℕ) (d : BranchElement) (v : Visit) (x : LeafElement) → slice_get view.branches k ≡ Some d → Has (tour (content_at file meta) (62 - H) (address ++ j ∷ []) (content_at file meta d.child)) v
+    pub from_under : (k j : ℕ) (d : BranchElement) (v : TourPage) (x : LeafElement) → slice_get view.branches k ≡ Some d → Has (tour (content_at file meta) (62 - H) (address ++ j ∷ []) (content_at file meta d.child)) v
         → Has v.entries x → key_lt x.key d.key ≡ false
     from_under k j d v x g h m = (under_child file meta trees number (suc H) k (address ++ j ∷ []) view d v x on node g (under_led k j d v g h) m).0
 
-    pub below_later : (k l j : ℕ) (d e : BranchElement) (v : Visit) (x : LeafElement) → k < l → slice_get view.branches k ≡ Some d → slice_get view.branches l ≡ Some e
+    pub below_later : (k l j : ℕ) (d e : BranchElement) (v : TourPage) (x : LeafElement) → k < l → slice_get view.branches k ≡ Some d → slice_get view.branches l ≡ Some e
         → Has (tour (content_at file meta) (62 - H) (address ++ j ∷ []) (content_at file meta d.child)) v → Has v.entries x → key_lt x.key e.key ≡ true
     below_later k l j d e v x lt g h led m =
         let a = under_child file meta trees number (suc H) k (address ++ j ∷ []) view d v x on node g (under_led k j d v g led) m in
@@ -43,13 +43,13 @@ module _ (file : List ℕ) (meta : Meta) (trees : HasSoundTrees file meta) where
           | inr less ↦ (let same : l ≡ suc k = omega arith in let h2 : slice_get view.branches (suc k) ≡ Some e = ap (slice_get view.branches) (sym same) ∙ h in a.1 e h2)
         ]
 
-    abbrev under_all : ℕ → List BranchElement → List Visit
+    abbrev under_all : ℕ → List BranchElement → List TourPage
     under_all i elements = under_at (content_at file meta) H address i elements
 
     pub side_left : (i : ℕ) (e : BranchElement) (key : Key) (x : LeafElement) → slice_get view.branches i ≡ Some e → key_lt key e.key ≡ false
         → Has (elements_of (under_all 0 (take i view.branches))) x → key_lt x.key key ≡ true
     side_left i e key x g h m =
-        let r = flat_has (λ (v : Visit). v.entries) (under_all 0 (take i view.branches)) x m in
+        let r = flat_has (λ (v : TourPage). v.entries) (under_all 0 (take i view.branches)) x m in
         let q = under_has (λ j child. tour (content_at file meta) (62 - H) (address ++ j ∷ []) (content_at file meta child)) 0 (take i view.branches) r.0 r.1 in
         let d = take_get view.branches i q.0 q.2 q.3 in
         lt_not_trans x.key e.key key (below_later q.0 i q.1 q.2 e r.0 x d.1 d.0 g q.5 r.2) h
@@ -57,7 +57,7 @@ module _ (file : List ℕ) (meta : Meta) (trees : HasSoundTrees file meta) where
     pub side_right : (i : ℕ) (key : Key) (x : LeafElement) → ((k : ℕ) (d : BranchElement) → i ≤ k → slice_get view.branches k ≡ Some d → key_lt key d.key ≡ true)
         → Has (elements_of (under_all i (drop i view.branches))) x → key_lt x.key key ≡ false
     side_right i key x later m =
-        let r = flat_has (λ (v : Visit). v.entries) (under_all i (drop i view.branches)) x m in
+        let r = flat_has (λ (v : TourPage). v.entries) (under_all i (drop i view.branches)) x m in
         let q = under_has (λ j child. tour (content_at file meta) (62 - H) (address ++ j ∷ []) (content_at file meta child)) i (drop i view.branches) r.0 r.1 in
         let at : slice_get view.branches (i + q.0) ≡ Some q.2 = drop_get view.branches i q.0 (i + q.0) q.2 refl q.3 in
         not_below x.key q.2.key key (from_under (i + q.0) q.1 q.2 r.0 x at q.5 r.2) (later (i + q.0) q.2 (omega arith) at)
@@ -93,7 +93,7 @@ between_down bucket key elements i n t e below stack is g place deep between =
     let back : (i + 1) - 1 ≡ i = omega arith in
     let next : i + 1 ≡ suc i = omega arith in
     record {
-      left =
+      passed =
           let inner : AreBelow true key (elements_of (under_at contents (length below) (address_on below) 0 (take i elements))) = λ k x h.
           ∥∥₁_elim stack (Prim.hlevel props) (λ s.
           let page = branch_page bucket.file bucket.meta s.0.trees s.1.0.good.0 (suc (length below)) elements s.1.0.good.1 s.1.0.good.2 in
@@ -102,19 +102,19 @@ between_down bucket key elements i n t e below stack is g place deep between =
             | inl lt ↦ side_left bucket.file bucket.meta s.0.trees s.1.0.good.0 (length below) page.view s.1.0.good.1 page.node deep (address_on below) i e key x (rw page.branches g) (not_above elements key n i e place lt g) m
             | inr ge ↦ (let zero_i : i ≡ 0 = omega arith in absurd (nothing_left contents (length below) (address_on below) i elements x zero_i (at_has (elements_of (under_at contents (length below) (address_on below) 0 (take i elements))) k x h)))
           ]) in
-          let whole : elements_of (left_of contents (record { content = Of_branch elements; taken = i + 1 } ∷ below)) ≡ elements_of (left_of contents below) ++ elements_of (under_at contents (length below) (address_on below) 0 (take i elements)) =
-          flat_map-append (λ (v : Visit). v.entries) (left_of contents below) (record { address = address_on below; entries = [] } ∷ under_at contents (length below) (address_on below) 0 (take ((i + 1) - 1) elements))
-          ∙ ap (λ (j : ℕ). elements_of (left_of contents below) ++ elements_of (under_at contents (length below) (address_on below) 0 (take j elements))) back in
-          subst (AreBelow true key) (sym whole) (are_append true key (elements_of (left_of contents below)) (elements_of (under_at contents (length below) (address_on below) 0 (take i elements))) between.left inner);
-      right =
+          let whole : elements_of (passed_of contents (record { content = Of_branch elements; taken = i + 1 } ∷ below)) ≡ elements_of (passed_of contents below) ++ elements_of (under_at contents (length below) (address_on below) 0 (take i elements)) =
+          flat_map-append (λ (v : TourPage). v.entries) (passed_of contents below) (record { address = address_on below; entries = [] } ∷ under_at contents (length below) (address_on below) 0 (take ((i + 1) - 1) elements))
+          ∙ ap (λ (j : ℕ). elements_of (passed_of contents below) ++ elements_of (under_at contents (length below) (address_on below) 0 (take j elements))) back in
+          subst (AreBelow true key) (sym whole) (are_append true key (elements_of (passed_of contents below)) (elements_of (under_at contents (length below) (address_on below) 0 (take i elements))) between.passed inner);
+      later =
           let inner : AreBelow false key (elements_of (under_at contents (length below) (address_on below) (suc i) (drop (suc i) elements))) = λ k x h.
           ∥∥₁_elim stack (Prim.hlevel props) (λ s.
           let page = branch_page bucket.file bucket.meta s.0.trees s.1.0.good.0 (suc (length below)) elements s.1.0.good.1 s.1.0.good.2 in
           let m = rw (← page.branches) at (at_has (elements_of (under_at contents (length below) (address_on below) (suc i) (drop (suc i) elements))) k x h) in
           side_right bucket.file bucket.meta s.0.trees s.1.0.good.0 (length below) page.view s.1.0.good.1 page.node deep (address_on below) (suc i) key x
           (λ j d l gd. is_above elements key n j d place (omega (arith, l, is)) (ap (λ (es : List BranchElement). slice_get es j) (sym page.branches) ∙ gd)) m) in
-          let whole : elements_of (right_of contents (record { content = Of_branch elements; taken = i + 1 } ∷ below)) ≡ elements_of (under_at contents (length below) (address_on below) (suc i) (drop (suc i) elements)) ++ elements_of (right_of contents below) =
-          flat_map-append (λ (v : Visit). v.entries) (under_at contents (length below) (address_on below) (i + 1) (drop (i + 1) elements)) (right_of contents below)
-          ∙ ap (λ (j : ℕ). elements_of (under_at contents (length below) (address_on below) j (drop j elements)) ++ elements_of (right_of contents below)) next in
-          subst (AreBelow false key) (sym whole) (are_append false key (elements_of (under_at contents (length below) (address_on below) (suc i) (drop (suc i) elements))) (elements_of (right_of contents below)) inner between.right);
+          let whole : elements_of (later_of contents (record { content = Of_branch elements; taken = i + 1 } ∷ below)) ≡ elements_of (under_at contents (length below) (address_on below) (suc i) (drop (suc i) elements)) ++ elements_of (later_of contents below) =
+          flat_map-append (λ (v : TourPage). v.entries) (under_at contents (length below) (address_on below) (i + 1) (drop (i + 1) elements)) (later_of contents below)
+          ∙ ap (λ (j : ℕ). elements_of (under_at contents (length below) (address_on below) j (drop j elements)) ++ elements_of (later_of contents below)) next in
+          subst (AreBelow false key) (sym whole) (are_append false key (elements_of (under_at contents (length below) (address_on below) (suc i) (drop (suc i) elements))) (elements_of (later_of contents below)) inner between.later);
     }

@@ -1,14 +1,14 @@
 -- The entries of a bucket in order are the elements along its tour, and there is one such list.
 use Rattle.std.proofs.Common.{◌≡◌, ℕ, List, [], ◌∷◌, ◌++◌, Some, slice_get, map, refl, sym, ap, ◌∙◌, subst, arith, inl, inr, eq-eqb, eqb}
-use Rattle.bolt_tree.proofs.Words.{AreEntries, Contains, HasSoundTrees, Inline_page, IsEntry, IsHome, IsStart, KeysRise, LeafElement, Meta, Root_page, Start, Visit, content_at, elements_of, entry_cmp, head_root, inline_elements, inline_reached, leads, less_of, lt_strict, node_at, node_is, option_map, pages_at, slice_get-map}
+use Rattle.bolt_tree.proofs.Words.{AreEntries, Contains, HasSoundTrees, Inline_page, IsEntry, IsHome, IsStart, KeysRise, LeafElement, Meta, Root_page, Start, TourPage, content_at, elements_of, entry_cmp, head_root, inline_elements, inline_reached, leads, less_of, lt_strict, node_at, node_is, option_map, pages_at, slice_get-map}
 use Rattle.bolt_format.specs.declared.header.Kind.TheVariants as kind
 use Rattle.bolt_tree.specs.Order as order
-use Rattle.bolt_tree.proofs.ListLemmas.{Has, RisesBy, contains_from_has, flat_has, has_at, has_flat, has_from_contains, one_list, rises_flat, rises_from_gets, rises_weaker}
+use Rattle.bolt_check.proofs.Lists.{Has, RisesBy, contains_from_has, flat_has, has_at, has_flat, has_from_contains, one_list, rises_flat, rises_from_gets, rises_weaker}
 use Rattle.bolt_tree.proofs.TourLemmas.{IsApart, IsBelowElement, entries_shown, leaf_of, led_tour, page_rises, tour_led, tour_rises}
 use Rattle.bolt_tree.proofs.{WayPages.content_is, BucketWays.none_inside}
 
 -- a page of a bucket: its elements rise, and it is their home
-pub record IsVisit (file : List ℕ) (meta : Meta) (start : Start) (v : Visit) : Type 0 where
+pub record IsVisit (file : List ℕ) (meta : Meta) (start : Start) (v : TourPage) : Type 0 where
   pub rises : RisesBy IsBelowElement v.entries
   pub home : (x : LeafElement) → Has v.entries x → IsHome file meta start x v.address
 
@@ -46,7 +46,7 @@ module _ (file : List ℕ) (meta : Meta) (trees : HasSoundTrees file meta) where
       λ k x s. slice_get-map (λ (y : LeafElement). y.key) elements k ∙ ap (option_map (λ (y : LeafElement). y.key)) s in
       rises_from_gets IsBelowElement elements (λ i j a b lt g h. inline_keys elements is i j a.key b.key lt (key i a g) (key j b h))
 
-  pub visit_is : (start : Start) (v : Visit) → IsStart file meta start → Has (pages_at file meta start) v → IsVisit file meta start v
+  pub visit_is : (start : Start) (v : TourPage) → IsStart file meta start → Has (pages_at file meta start) v → IsVisit file meta start v
   visit_is (Root_page number) v is h =
       let r = tour_led file meta trees 63 number 1 [] v is (omega arith) h in record {
         rises = page_rises file meta trees r.page r.depth v.entries r.on r.shown;
@@ -58,9 +58,9 @@ module _ (file : List ℕ) (meta : Meta) (trees : HasSoundTrees file meta) where
             );
       }
   visit_is (Inline_page elements) v is (inl e) =
-      let same : elements ≡ v.entries = ap (λ (w : Visit). w.entries) e in record {
+      let same : elements ≡ v.entries = ap (λ (w : TourPage). w.entries) e in record {
         rises = subst (RisesBy IsBelowElement) same (inline_rises elements is);
-        home = λ x k. (sym (ap (λ (w : Visit). w.address) e), subst (λ (es : List LeafElement). Contains es x) (sym same) (contains_from_has v.entries x k));
+        home = λ x k. (sym (ap (λ (w : TourPage). w.address) e), subst (λ (es : List LeafElement). Contains es x) (sym same) (contains_from_has v.entries x k));
       }
   visit_is (Inline_page elements) v is (inr x) = absurd x
 
@@ -69,13 +69,13 @@ module _ (file : List ℕ) (meta : Meta) (trees : HasSoundTrees file meta) where
   start_rises (Inline_page elements) is = (λ y h. absurd h, tt)
 
   pub elements_rise : (start : Start) → IsStart file meta start → RisesBy IsBelowElement (elements_of (pages_at file meta start))
-  elements_rise start is = rises_flat IsBelowElement (λ (v : Visit). v.entries) (pages_at file meta start) (λ v h. (visit_is start v is h).rises)
+  elements_rise start is = rises_flat IsBelowElement (λ (v : TourPage). v.entries) (pages_at file meta start) (λ v h. (visit_is start v is h).rises)
       (rises_weaker IsApart (λ v w. (a b : LeafElement) → Has v.entries a → Has w.entries b → IsBelowElement a b) (pages_at file meta start) (λ v w a. a.keys) (start_rises start is))
 
   -- what is on the tour is an entry of the bucket
   pub is_entry : (start : Start) (x : LeafElement) → IsStart file meta start → Has (elements_of (pages_at file meta start)) x → IsEntry file meta start x
   is_entry start x is h =
-      let r = flat_has (λ (v : Visit). v.entries) (pages_at file meta start) x h in
+      let r = flat_has (λ (v : TourPage). v.entries) (pages_at file meta start) x h in
       entry_from file meta start x r.0.address ((visit_is start r.0 is r.1).home x r.2)
 
   -- the page at the home of an entry is on the tour
@@ -91,7 +91,7 @@ module _ (file : List ℕ) (meta : Meta) (trees : HasSoundTrees file meta) where
   entry_visited start x is e =
       let home = entry_home file meta start x e in
       let r = home_visited start home.0 x is home.1 in
-      has_flat (λ (v : Visit). v.entries) (pages_at file meta start) (record { address = home.0; entries = r.0 }) x r.1 r.2
+      has_flat (λ (v : TourPage). v.entries) (pages_at file meta start) (record { address = home.0; entries = r.0 }) x r.1 r.2
 
   -- the sorted entries
   pub sorted : (start : Start) → IsStart file meta start → AreEntries (IsEntry file meta) start (elements_of (pages_at file meta start))

@@ -1,10 +1,10 @@
 -- What a push does to a stack, and the root page of a bucket, alone on a stack.
 use Rattle.std.proofs.Common.{◌≡◌, ℕ, zero, suc, ◌+◌, ◌-◌, ◌≤◌, List, [], ◌∷◌, ◌++◌, Some, slice_get, length, drop, take, refl, sym, ap, ◌∙◌, subst, arith, append_assoc, append-nil}
-use Rattle.bolt_tree.proofs.Words.{BranchElement, BucketView, Checked, Content, Contents, Frame, HasSoundTrees, HasStack, HasStart, Inline_page, IsGoodContent, IsOnWay, IsSoundBucket, IsStack, IsStart, Of_branch, Of_leaf, Root_page, Start, Visit, address_on, ahead_of, all_under, bucket_in, bytes_of, checked_trees, content_at_start, content_length, contents_in, elements_in, elements_of, here_under, left_of, left_under, meta_of, none-some, on_child, pages_in, props, right_of, right_under, root_content, shallow, tour, ∥∥₁_elim, ∥∥₁_map, ∥∥₁_prop}
+use Rattle.bolt_tree.proofs.Words.{BranchElement, BucketView, Checked, Content, Contents, Frame, HasSoundTrees, HasStack, HasStart, Inline_page, IsGoodContent, IsOnWay, IsSoundBucket, IsStack, IsStart, Of_branch, Of_leaf, Root_page, Start, TourPage, address_on, ahead_of, all_under, bucket_in, bytes_of, checked_trees, content_at_start, content_length, contents_in, elements_in, elements_of, here_under, passed_of, passed_under, meta_of, none-some, on_child, pages_in, props, later_of, later_under, root_content, shallow, tour, ∥∥₁_elim, ∥∥₁_map, ∥∥₁_prop}
 use Rattle.bolt_tree.proofs.{TourLemmas.not_deepest, WayPages.a_branch, WayPages.a_leaf, WayPages.on_way_page, WayPages.branch_page}
 
 -- what lies under the elements of a branch, cut at one
-pub under_cut : (f : ℕ → ℕ → List Visit) (i k j : ℕ) (elements : List BranchElement) (e : BranchElement) → slice_get elements k ≡ Some e → j ≡ i + k
+pub under_cut : (f : ℕ → ℕ → List TourPage) (i k j : ℕ) (elements : List BranchElement) (e : BranchElement) → slice_get elements k ≡ Some e → j ≡ i + k
     → all_under f i elements ≡ all_under f i (take k elements) ++ (f j e.child ++ all_under f (suc j) (drop (suc k) elements))
 under_cut f i k j [] e g s = absurd (none-some e g)
 under_cut f i zero j (x ∷ elements) e g s =
@@ -13,22 +13,22 @@ under_cut f i zero j (x ∷ elements) e g s =
     rw (same, here) refl
 under_cut f i (suc k) j (x ∷ elements) e g s =
     let next : j ≡ suc i + k = omega arith in
-    ap (λ (vs : List Visit). f i x.child ++ vs) (under_cut f (suc i) k j elements e g next) ∙ sym (append_assoc (f i x.child) (all_under f (suc i) (take k elements)) (f j e.child ++ all_under f (suc j) (drop (suc k) elements)))
+    ap (λ (vs : List TourPage). f i x.child ++ vs) (under_cut f (suc i) k j elements e g next) ∙ sym (append_assoc (f i x.child) (all_under f (suc i) (take k elements)) (f j e.child ++ all_under f (suc j) (drop (suc k) elements)))
 
 -- what lies to the right of what is taken, from the next element on
-pub under_next : (f : ℕ → ℕ → List Visit) (i k : ℕ) (elements : List BranchElement) (e : BranchElement) → slice_get elements k ≡ Some e
+pub under_next : (f : ℕ → ℕ → List TourPage) (i k : ℕ) (elements : List BranchElement) (e : BranchElement) → slice_get elements k ≡ Some e
     → all_under f i (drop k elements) ≡ f i e.child ++ all_under f (suc i) (drop (suc k) elements)
 under_next f i k [] e g = absurd (none-some e g)
 under_next f i zero (x ∷ elements) e g = let same : x ≡ e = cc in rw same refl
 under_next f i (suc k) (x ∷ elements) e g = under_next f i k elements e g
 
-regroup : (l a b c r : List Visit) (v : Visit) → l ++ ((v ∷ (a ++ (b ++ c))) ++ r) ≡ (l ++ v ∷ a) ++ (b ++ (c ++ r))
+regroup : (l a b c r : List TourPage) (v : TourPage) → l ++ ((v ∷ (a ++ (b ++ c))) ++ r) ≡ (l ++ v ∷ a) ++ (b ++ (c ++ r))
 regroup l a b c r v = simp append_assoc
 
-cut_between : (l r whole part : List Visit) (v : Visit) (a b c : List Visit) → whole ≡ l ++ (part ++ r) → part ≡ v ∷ (a ++ (b ++ c)) → whole ≡ (l ++ v ∷ a) ++ (b ++ (c ++ r))
-cut_between l r whole part v a b c p q = p ∙ (ap (λ (x : List Visit). l ++ (x ++ r)) q ∙ regroup l a b c r v)
+cut_between : (l r whole part : List TourPage) (v : TourPage) (a b c : List TourPage) → whole ≡ l ++ (part ++ r) → part ≡ v ∷ (a ++ (b ++ c)) → whole ≡ (l ++ v ∷ a) ++ (b ++ (c ++ r))
+cut_between l r whole part v a b c p q = p ∙ (ap (λ (x : List TourPage). l ++ (x ++ r)) q ∙ regroup l a b c r v)
 
-abbrev under : Contents → ℕ → List ℕ → ℕ → ℕ → List Visit
+abbrev under : Contents → ℕ → List ℕ → ℕ → ℕ → List TourPage
 under contents n address i child = tour contents n (address ++ i ∷ []) (contents child)
 
 -- the tour of a branch, cut at an element
@@ -37,7 +37,7 @@ tour_cut : (contents : Contents) (m n k : ℕ) (address : List ℕ) (elements : 
     ++ (under contents n address k e.child ++ all_under (under contents n address) (suc k) (drop (suc k) elements)))
 tour_cut contents m n k address elements e same g =
     ap (λ (x : ℕ). tour contents x address (Of_branch elements)) same
-    ∙ ap (λ (vs : List Visit). record { address = address; entries = [] } ∷ vs) (under_cut (λ i child. tour contents n (address ++ i ∷ []) (contents child)) 0 k k elements e g (omega arith))
+    ∙ ap (λ (vs : List TourPage). record { address = address; entries = [] } ∷ vs) (under_cut (λ i child. tour contents n (address ++ i ∷ []) (contents child)) 0 k k elements e g (omega arith))
 
 module _ (bucket : BucketView) (trees : HasSoundTrees bucket.file bucket.meta) where
   pub good_content : (number depth : ℕ) → IsOnWay bucket.file bucket.meta number depth → IsGoodContent bucket depth (contents_in bucket number)
@@ -78,9 +78,9 @@ module _ (bucket : BucketView) (trees : HasSoundTrees bucket.file bucket.meta) w
       let next : suc t ≡ t + 1 = omega arith in
       let address = address_on below in
       let cut = tour_cut contents (63 - length below) (62 - length below) t address elements e fuel g in
-      let placed : pages_in bucket ≡ (left_of contents below ++ left_under contents (length below) address (Of_branch elements) t)
-      ++ (tour contents (62 - length below) (address ++ t ∷ []) (contents e.child) ++ (right_under contents (length below) address (Of_branch elements) (suc t) ++ right_of contents below)) =
-      cut_between (left_of contents below) (right_of contents below) (pages_in bucket) (tour contents (63 - length below) address (Of_branch elements)) (record { address = address; entries = [] })
+      let placed : pages_in bucket ≡ (passed_of contents below ++ passed_under contents (length below) address (Of_branch elements) t)
+      ++ (tour contents (62 - length below) (address ++ t ∷ []) (contents e.child) ++ (later_under contents (length below) address (Of_branch elements) (suc t) ++ later_of contents below)) =
+      cut_between (passed_of contents below) (later_of contents below) (pages_in bucket) (tour contents (63 - length below) address (Of_branch elements)) (record { address = address; entries = [] })
       (all_under (under contents (62 - length below) address) 0 (take t elements)) (under contents (62 - length below) address t e.child)
       (all_under (under contents (62 - length below) address) (suc t) (drop (suc t) elements)) over.placed cut in (
         record {
@@ -155,12 +155,12 @@ root_stack bucket is = ∥∥₁_map is (λ s. (
 ))
 
 -- before the root page's first element, everything is ahead
-top_of : (contents : Contents) (content : Content) → tour contents 63 [] content ≡ record { address = []; entries = here_under content 0 } ∷ right_of contents (record { content = content; taken = 0 } ∷ [])
+top_of : (contents : Contents) (content : Content) → tour contents 63 [] content ≡ record { address = []; entries = here_under content 0 } ∷ later_of contents (record { content = content; taken = 0 } ∷ [])
 top_of contents (Of_leaf elements) = refl
-top_of contents (Of_branch elements) = ap (λ (vs : List Visit). record { address = []; entries = [] } ∷ vs) (sym (append-nil (right_under contents 0 [] (Of_branch elements) 0)))
+top_of contents (Of_branch elements) = ap (λ (vs : List TourPage). record { address = []; entries = [] } ∷ vs) (sym (append-nil (later_under contents 0 [] (Of_branch elements) 0)))
 
 pub root_ahead : (bucket : BucketView) → ahead_of (contents_in bucket) (record { content = root_content bucket; taken = 0 } ∷ []) ≡ elements_in bucket
 root_ahead bucket = sym (ap elements_of (top_of (contents_in bucket) (root_content bucket)))
 
-pub root_right : (bucket : BucketView) → length (pages_in bucket) ≡ suc (length (right_of (contents_in bucket) (record { content = root_content bucket; taken = 0 } ∷ [])))
+pub root_right : (bucket : BucketView) → length (pages_in bucket) ≡ suc (length (later_of (contents_in bucket) (record { content = root_content bucket; taken = 0 } ∷ [])))
 root_right bucket = ap length (top_of (contents_in bucket) (root_content bucket))

@@ -1,14 +1,14 @@
 -- The tour of a bucket's pages: which pages it has, and that addresses and keys rise along it.
 use Rattle.std.proofs.Common.{◌≡◌, ℕ, zero, suc, ◌+◌, ◌≤◌, ◌<◌, inl, inr, List, [], ◌∷◌, ◌++◌, false, Some, Ok, slice_get, length, map, refl, sym, ap, ◌∙◌, subst, arith, append_assoc, append-nil}
-use Rattle.bolt_tree.proofs.Words.{Before, BranchElement, Content, Contents, HasSoundTrees, IsOnWay, IsTrue, LeafElement, Meta, Of_branch, Of_leaf, PageView, Visit, all_under, branch_entry, branch_entry_at, branch_key, branch_node, branch_step, cases_lt, content_at, key_lt, leads, leads_child, leaf_ends, leaf_key, lt_not_trans, lt_trans, node_at, none-some, on_child, page_at, shallow, slice_get_within, spot_node, tour}
+use Rattle.bolt_tree.proofs.Words.{Before, BranchElement, Content, Contents, HasSoundTrees, IsOnWay, IsTrue, LeafElement, Meta, Of_branch, Of_leaf, PageView, TourPage, all_under, branch_entry, branch_entry_at, branch_key, branch_node, branch_step, cases_lt, content_at, key_lt, leads, leads_child, leaf_ends, leaf_key, lt_not_trans, lt_trans, node_at, none-some, on_child, page_at, shallow, slice_get_within, spot_node, tour}
 use Rattle.bolt_format.specs.declared.header.Kind.TheVariants as kind
 use Rattle.bolt_check.specs.Findings.{keys_of}
-use Rattle.bolt_tree.proofs.ListLemmas.{Has, Each, RisesBy, get_before, has_at, has_left, has_right, has_split, rises_append, rises_from_gets, at_has}
+use Rattle.bolt_check.proofs.Lists.{Has, Each, RisesBy, get_before, has_at, has_left, has_right, has_split, rises_append, rises_from_gets, at_has}
 use Rattle.bolt_tree.proofs.WayPages.{a_branch, a_leaf, on_way_page}
 use Rattle.bolt_check.proofs.TreePages.{leaf_node}
 
 -- what lies under the elements of a branch
-pub under_has : (f : ℕ → ℕ → List Visit) (i : ℕ) (elements : List BranchElement) (v : Visit) → Has (all_under f i elements) v
+pub under_has : (f : ℕ → ℕ → List TourPage) (i : ℕ) (elements : List BranchElement) (v : TourPage) → Has (all_under f i elements) v
     → (k : ℕ) × (j : ℕ) × (e : BranchElement) × (slice_get elements k ≡ Some e) × (j ≡ i + k) × Has (f j e.child) v
 under_has f i [] v h = absurd h
 under_has f i (e ∷ elements) v h = elim (has_split (f i e.child) (all_under f (suc i) elements) v h) [
@@ -16,7 +16,7 @@ under_has f i (e ∷ elements) v h = elim (has_split (f i e.child) (all_under f 
   | inr r ↦ (let q = under_has f (suc i) elements v r in (suc q.0, q.1, q.2, q.3, (let s = q.4 in omega (arith, s)), q.5))
 ]
 
-pub has_under : (f : ℕ → ℕ → List Visit) (i : ℕ) (elements : List BranchElement) (k j : ℕ) (e : BranchElement) (v : Visit) → slice_get elements k ≡ Some e → j ≡ i + k
+pub has_under : (f : ℕ → ℕ → List TourPage) (i : ℕ) (elements : List BranchElement) (k j : ℕ) (e : BranchElement) (v : TourPage) → slice_get elements k ≡ Some e → j ≡ i + k
     → Has (f j e.child) v → Has (all_under f i elements) v
 has_under f i [] k j e v g s h = absurd (none-some e g)
 has_under f i (x ∷ elements) zero j e v g s h =
@@ -27,9 +27,9 @@ has_under f i (x ∷ elements) (suc k) j e v g s h =
     let next : j ≡ suc i + k = omega arith in
     has_right (f i x.child) (all_under f (suc i) elements) v (has_under f (suc i) elements k j e v g next h)
 
-pub rises_under : (R : Visit → Visit → Type 0) (f : ℕ → ℕ → List Visit) (i : ℕ) (elements : List BranchElement)
+pub rises_under : (R : TourPage → TourPage → Type 0) (f : ℕ → ℕ → List TourPage) (i : ℕ) (elements : List BranchElement)
     → ((k j : ℕ) (e : BranchElement) → slice_get elements k ≡ Some e → j ≡ i + k → RisesBy R (f j e.child))
-    → ((k l a b : ℕ) (d e : BranchElement) (v w : Visit) → k < l → slice_get elements k ≡ Some d → slice_get elements l ≡ Some e → a ≡ i + k → b ≡ i + l → Has (f a d.child) v → Has (f b e.child) w → R v w)
+    → ((k l a b : ℕ) (d e : BranchElement) (v w : TourPage) → k < l → slice_get elements k ≡ Some d → slice_get elements l ≡ Some e → a ≡ i + k → b ≡ i + l → Has (f a d.child) v → Has (f b e.child) w → R v w)
     → RisesBy R (all_under f i elements)
 rises_under R f i [] each across = tt
 rises_under R f i (x ∷ elements) each across =
@@ -42,7 +42,7 @@ abbrev pub entries_shown : Content → List LeafElement
 entries_shown (Of_leaf elements) = elements
 entries_shown (Of_branch elements) = []
 
-abbrev pub visit_of : List ℕ → Content → Visit
+abbrev pub visit_of : List ℕ → Content → TourPage
 visit_of address content = record { address = address; entries = entries_shown content }
 
 -- addresses of one page before those of another
@@ -64,7 +64,7 @@ tour_head contents zero address (Of_branch elements) = inl refl
 tour_head contents (suc n) address (Of_branch elements) = inl refl
 
 -- A page of the tour that begins at a page and an address: how it is led to from there, and what it is.
-pub record IsUnder (file : List ℕ) (meta : Meta) (number : ℕ) (address : List ℕ) (v : Visit) : Type 0 where
+pub record IsUnder (file : List ℕ) (meta : Meta) (number : ℕ) (address : List ℕ) (v : TourPage) : Type 0 where
   pub rest : List ℕ
   pub page : ℕ
   pub depth : ℕ
@@ -73,7 +73,7 @@ pub record IsUnder (file : List ℕ) (meta : Meta) (number : ℕ) (address : Lis
   pub shown : entries_shown (content_at file meta page) ≡ v.entries
   pub on : IsOnWay file meta page depth
 
-abbrev pub tour_at : List ℕ → Meta → ℕ → List ℕ → ℕ → List Visit
+abbrev pub tour_at : List ℕ → Meta → ℕ → List ℕ → ℕ → List TourPage
 tour_at file meta n address number = tour (content_at file meta) n address (content_at file meta number)
 
 module _ (file : List ℕ) (meta : Meta) (trees : HasSoundTrees file meta) where
@@ -95,7 +95,7 @@ module _ (file : List ℕ) (meta : Meta) (trees : HasSoundTrees file meta) where
       let e = first_entry view.branches (λ nil. filled (ap (map branch_entry) nil)) in
       shallow file meta trees e.0.child (suc depth) (on_child file meta number depth 0 view e.0 on node e.1)
 
-  abbrev children : ℕ → List ℕ → ℕ → ℕ → List Visit
+  abbrev children : ℕ → List ℕ → ℕ → ℕ → List TourPage
   children n address i child = tour (content_at file meta) n (address ++ i ∷ []) (content_at file meta child)
 
   pub tour_leaf : (n number : ℕ) (address : List ℕ) (elements : List LeafElement) → content_at file meta number ≡ Of_leaf elements
@@ -106,33 +106,33 @@ module _ (file : List ℕ) (meta : Meta) (trees : HasSoundTrees file meta) where
       → tour_at file meta (suc n) address number ≡ record { address = address; entries = [] } ∷ all_under (children n address) 0 elements
   tour_branch n number address elements is = ap (tour (content_at file meta) (suc n) address) is
 
-  itself : (number depth : ℕ) (address : List ℕ) (v : Visit) → IsOnWay file meta number depth → visit_of address (content_at file meta number) ≡ v → IsUnder file meta number address v
+  itself : (number depth : ℕ) (address : List ℕ) (v : TourPage) → IsOnWay file meta number depth → visit_of address (content_at file meta number) ≡ v → IsUnder file meta number address v
   itself number depth address v on e = record {
     rest = [];
     page = number;
     depth = depth;
-    from = sym (ap (λ (w : Visit). w.address) e) ∙ sym (append-nil address);
+    from = sym (ap (λ (w : TourPage). w.address) e) ∙ sym (append-nil address);
     led = refl;
-    shown = ap (λ (w : Visit). w.entries) e;
+    shown = ap (λ (w : TourPage). w.entries) e;
     on = on;
   }
 
   -- each page of the tour is led to
-  pub tour_led : (n number depth : ℕ) (address : List ℕ) (v : Visit) → IsOnWay file meta number depth → 64 ≤ depth + n
+  pub tour_led : (n number depth : ℕ) (address : List ℕ) (v : TourPage) → IsOnWay file meta number depth → 64 ≤ depth + n
       → Has (tour_at file meta n address number) v → IsUnder file meta number address v
   tour_led zero number depth address v on deep h = elim (on_way_page file meta trees number depth on) [
-    | a_leaf view at is node content ↦ elim (let q = h in subst (λ (l : List Visit). Has l v) (tour_leaf zero number address view.leaves content) q) [
+    | a_leaf view at is node content ↦ elim (let q = h in subst (λ (l : List TourPage). Has l v) (tour_leaf zero number address view.leaves content) q) [
       | inl e ↦ itself number depth address v on (ap (visit_of address) content ∙ e)
       | inr x ↦ absurd x
     ]
     | a_branch view at is node content ↦ (let d = not_deepest number depth view on node in absurd (omega (arith, d, deep)))
   ]
   tour_led (suc n) number depth address v on deep h = elim (on_way_page file meta trees number depth on) [
-    | a_leaf view at is node content ↦ elim (let q = h in subst (λ (l : List Visit). Has l v) (tour_leaf (suc n) number address view.leaves content) q) [
+    | a_leaf view at is node content ↦ elim (let q = h in subst (λ (l : List TourPage). Has l v) (tour_leaf (suc n) number address view.leaves content) q) [
       | inl e ↦ itself number depth address v on (ap (visit_of address) content ∙ e)
       | inr x ↦ absurd x
     ]
-    | a_branch view at is node content ↦ elim (let q = h in subst (λ (l : List Visit). Has l v) (tour_branch n number address view.branches content) q) [
+    | a_branch view at is node content ↦ elim (let q = h in subst (λ (l : List TourPage). Has l v) (tour_branch n number address view.branches content) q) [
       | inl e ↦ itself number depth address v on (ap (visit_of address) content ∙ e)
       | inr x ↦ (
           let q = under_has (children n address) 0 view.branches v x in
@@ -167,14 +167,14 @@ module _ (file : List ℕ) (meta : Meta) (trees : HasSoundTrees file meta) where
         let e = branch_step (node_at file meta) number i page view rest node l in
         let l2 : leads (node_at file meta) (Some e.0.child) rest ≡ Some page = sym (leads_child file meta number i view e.0 rest node e.1) ∙ l in
         let r = led_tour n e.0.child (suc depth) (address ++ i ∷ []) rest page (on_child file meta number depth i view e.0 on node e.1) (omega arith) l2 in
-        let v : Visit = visit_of (address ++ i ∷ rest) (content_at file meta page) in
+        let v : TourPage = visit_of (address ++ i ∷ rest) (content_at file meta page) in
         let r2 : Has (children n address i e.0.child) v = subst (λ (a : List ℕ). Has (children n address i e.0.child) (visit_of a (content_at file meta page))) (one_step address rest i) r in
         let all : Has (all_under (children n address) 0 view.branches) v = has_under (children n address) 0 view.branches i i e.0 v e.1 (omega arith) r2 in
-        subst (λ (t : List Visit). Has t v) (sym (tour_branch n number address view.branches content)) (inr all))
+        subst (λ (t : List TourPage). Has t v) (sym (tour_branch n number address view.branches content)) (inr all))
   ]
 
 -- what stands before, also in byte order
-pub record IsApart (v w : Visit) : Type 0 where
+pub record IsApart (v w : TourPage) : Type 0 where
   pub addresses : Before v.address w.address
   pub keys : (x y : LeafElement) → Has v.entries x → Has w.entries y → IsTrue (key_lt x.key y.key)
 
@@ -200,7 +200,7 @@ module _ (file : List ℕ) (meta : Meta) (trees : HasSoundTrees file meta) where
   ]
 
   -- an element under a child is not below the child's key, and is below the next
-  pub under_child : (number depth k : ℕ) (address : List ℕ) (view : PageView) (d : BranchElement) (v : Visit) (x : LeafElement) → IsOnWay file meta number depth
+  pub under_child : (number depth k : ℕ) (address : List ℕ) (view : PageView) (d : BranchElement) (v : TourPage) (x : LeafElement) → IsOnWay file meta number depth
       → node_at file meta number ≡ Ok (branch_node view) → slice_get view.branches k ≡ Some d → IsUnder file meta d.child address v → Has v.entries x
       → (key_lt x.key d.key ≡ false) × ((next : BranchElement) → slice_get view.branches (suc k) ≡ Some next → IsTrue (key_lt x.key next.key))
   under_child number depth k address view d v x on node g r h =
@@ -221,7 +221,7 @@ module _ (file : List ℕ) (meta : Meta) (trees : HasSoundTrees file meta) where
       trees.rising on.way on.spot (branch_node view) on.led here k l d.key e.key lt (branch_key view.branches k d g) (branch_key view.branches l e h)
 
   -- an element under one child is below those under a later one
-  pub keys_across : (number depth k l : ℕ) (p q : List ℕ) (view : PageView) (d e : BranchElement) (v w : Visit) (x y : LeafElement) → IsOnWay file meta number depth
+  pub keys_across : (number depth k l : ℕ) (p q : List ℕ) (view : PageView) (d e : BranchElement) (v w : TourPage) (x y : LeafElement) → IsOnWay file meta number depth
       → node_at file meta number ≡ Ok (branch_node view) → k < l → slice_get view.branches k ≡ Some d → slice_get view.branches l ≡ Some e
       → IsUnder file meta d.child p v → IsUnder file meta e.child q w → Has v.entries x → Has w.entries y → IsTrue (key_lt x.key y.key)
   keys_across number depth k l p q view d e v w x y on node lt g h r s hx hy =
@@ -249,7 +249,7 @@ module _ (file : List ℕ) (meta : Meta) (trees : HasSoundTrees file meta) where
         let f = children file meta trees n address in
         let child : (k j : ℕ) (e : BranchElement) → slice_get view.branches k ≡ Some e → IsOnWay file meta e.child (suc depth) =
         λ k j e g. on_child file meta number depth k view e on node g in
-        let led : (k j : ℕ) (e : BranchElement) (v : Visit) → slice_get view.branches k ≡ Some e → Has (f j e.child) v → IsUnder file meta e.child (address ++ j ∷ []) v =
+        let led : (k j : ℕ) (e : BranchElement) (v : TourPage) → slice_get view.branches k ≡ Some e → Has (f j e.child) v → IsUnder file meta e.child (address ++ j ∷ []) v =
         λ k j e v g h. tour_led file meta trees n e.child (suc depth) (address ++ j ∷ []) v (child k j e g) (omega arith) h in
         let rest : RisesBy IsApart (all_under f 0 view.branches) = rises_under IsApart f 0 view.branches
         (λ k j e g s. tour_rises n e.child (suc depth) (address ++ j ∷ []) (child k j e g) (omega arith))

@@ -1,6 +1,6 @@
 -- What the moves of a trail do to its stack.
 use Rattle.std.proofs.Common.{◌≡◌, ◌==◌, ℕ, suc, ◌+◌, ◌-◌, ◌≤◌, ◌<◌, Bool, true, false, List, [], ◌∷◌, ◌++◌, Some, None, slice_get, length, map, reverse, drop, refl, sym, ap, ◌∙◌, subst, arith, append_assoc, append-nil}
-use Rattle.bolt_tree.proofs.Words.{BranchElement, BucketView, Checked, Content, Contents, Frame, HasBucket, HasStack, HasTrail, IsBranchContent, IsBranchTop, IsEntered, IsOn, IsOnWay, IsMoved, IsTrue, LeafElement, Meta, Of_branch, Of_leaf, PageView, Position, Trail, Visit, address_on, ahead_of, bytes_of, checked_trees, content_length, contents_in, drop_all, drop_at, elements_of, frame_of, frames_of, here_of, here_under, is_tree_kind, length-map, length-reverse, meta_of, nat_tests, one_some, option_to_list, page_at, props, reverse-append, right_of, right_under, tour, trail_bucket, trail_frames, under_at, ∥∥₁_elim, ∥∥₁_map}
+use Rattle.bolt_tree.proofs.Words.{BranchElement, BucketView, Checked, Content, Contents, Frame, HasBucket, HasStack, HasTrail, IsBranchContent, IsBranchTop, IsEntered, IsOn, IsOnWay, IsMoved, IsTrue, LeafElement, Meta, Of_branch, Of_leaf, PageView, Position, Trail, TourPage, address_on, ahead_of, bytes_of, checked_trees, content_length, contents_in, drop_all, drop_at, elements_of, frame_of, frames_of, here_of, here_under, is_tree_kind, length-map, length-reverse, meta_of, nat_tests, one_some, option_to_list, page_at, props, reverse-append, later_of, later_under, tour, trail_bucket, trail_frames, under_at, ∥∥₁_elim, ∥∥₁_map}
 use Rattle.bolt_tree.proofs.StackLemmas.{branch_room, stack_short, under_next}
 use Rattle.bolt_tree.proofs.WayPages.{IsWayPage, a_branch, a_leaf, on_way_page}
 
@@ -39,13 +39,13 @@ way_kind checked number view on e = ∥∥₁_elim on (Prim.hlevel props) (λ (d
 
 -- the tour of a page is the page and what lies under it
 tour_top : (contents : Contents) (n h : ℕ) (address : List ℕ) (content : Content) → ((elements : List BranchElement) → content ≡ Of_branch elements → n ≡ suc (62 - h))
-    → tour contents n address content ≡ record { address = address; entries = here_under content 0 } ∷ right_under contents h address content 0
+    → tour contents n address content ≡ record { address = address; entries = here_under content 0 } ∷ later_under contents h address content 0
 tour_top contents n h address (Of_leaf elements) same = refl
 tour_top contents n h address (Of_branch elements) same = ap (λ (m : ℕ). tour contents m address (Of_branch elements)) (same elements refl)
 
 -- an entry is taken
 pub entered_some : (contents : Contents) (content : Content) (i : ℕ) (below new : List Frame) (e : LeafElement) → IsEntered contents false content i below new (Some e)
-    → (ahead_of contents (record { content = content; taken = i } ∷ below) ≡ e ∷ ahead_of contents new) × IsOn new e × (right_of contents (record { content = content; taken = i } ∷ below) ≡ right_of contents new)
+    → (ahead_of contents (record { content = content; taken = i } ∷ below) ≡ e ∷ ahead_of contents new) × IsOn new e × (later_of contents (record { content = content; taken = i } ∷ below) ≡ later_of contents new)
 entered_some contents (Of_leaf elements) i below new e h =
     let next : suc i ≡ i + 1 = omega arith in
     let back : i ≡ (i + 1) - 1 = omega arith in
@@ -58,7 +58,7 @@ pub nothing_here : (content : Content) (taken : ℕ) → content_length content 
 nothing_here (Of_leaf elements) taken h = drop_all taken elements h
 nothing_here (Of_branch elements) taken h = refl
 
-nothing_under : (contents : Contents) (H : ℕ) (address : List ℕ) (content : Content) (taken : ℕ) → content_length content ≤ taken → right_under contents H address content taken ≡ []
+nothing_under : (contents : Contents) (H : ℕ) (address : List ℕ) (content : Content) (taken : ℕ) → content_length content ≤ taken → later_under contents H address content taken ≡ []
 nothing_under contents H address (Of_leaf elements) taken h = refl
 nothing_under contents H address (Of_branch elements) taken h = ap (λ (es : List BranchElement). under_at contents H address taken es) (drop_all taken elements h)
 
@@ -71,30 +71,30 @@ shown_by_branch of under none top branch (f ∷ below) h = top f below ∙ by_co
   by_content (Of_leaf es) h = absurd h
   by_content (Of_branch bs) h = branch bs f.taken
 
--- what lies to the right, with the page that is opened first
-opened_right : (contents : Contents) (H i : ℕ) (address : List ℕ) (elements : List BranchElement) (b : BranchElement) (rest : List Visit) → slice_get elements i ≡ Some b
+-- what comes later, with the page that is opened first
+opened_right : (contents : Contents) (H i : ℕ) (address : List ℕ) (elements : List BranchElement) (b : BranchElement) (rest : List TourPage) → slice_get elements i ≡ Some b
     → ((cs : List BranchElement) → contents b.child ≡ Of_branch cs → 62 - H ≡ suc (62 - suc H))
     → under_at contents H address i (drop i elements) ++ rest ≡ record { address = address ++ i ∷ []; entries = here_under (contents b.child) 0 }
-    ∷ (right_under contents (suc H) (address ++ i ∷ []) (contents b.child) 0 ++ (under_at contents H address (suc i) (drop (suc i) elements) ++ rest))
+    ∷ (later_under contents (suc H) (address ++ i ∷ []) (contents b.child) 0 ++ (under_at contents H address (suc i) (drop (suc i) elements) ++ rest))
 opened_right contents H i address elements b rest g same =
-    let f : ℕ → ℕ → List Visit = λ j child. tour contents (62 - H) (address ++ j ∷ []) (contents child) in
-    let tail : List Visit = under_at contents H address (suc i) (drop (suc i) elements) in
-    let v : Visit = record { address = address ++ i ∷ []; entries = here_under (contents b.child) 0 } in
-    let more : List Visit = right_under contents (suc H) (address ++ i ∷ []) (contents b.child) 0 in
+    let f : ℕ → ℕ → List TourPage = λ j child. tour contents (62 - H) (address ++ j ∷ []) (contents child) in
+    let tail : List TourPage = under_at contents H address (suc i) (drop (suc i) elements) in
+    let v : TourPage = record { address = address ++ i ∷ []; entries = here_under (contents b.child) 0 } in
+    let more : List TourPage = later_under contents (suc H) (address ++ i ∷ []) (contents b.child) 0 in
     let first : under_at contents H address i (drop i elements) ≡ f i b.child ++ tail = under_next f i i elements b g in
     let top : f i b.child ≡ v ∷ more = tour_top contents (62 - H) (suc H) (address ++ i ∷ []) (contents b.child) same in
-    ap (λ (vs : List Visit). vs ++ rest) first ∙ (ap (λ (vs : List Visit). (vs ++ tail) ++ rest) top ∙ ap (λ (vs : List Visit). v ∷ vs) (append_assoc more tail rest))
+    ap (λ (vs : List TourPage). vs ++ rest) first ∙ (ap (λ (vs : List TourPage). (vs ++ tail) ++ rest) top ∙ ap (λ (vs : List TourPage). v ∷ vs) (append_assoc more tail rest))
 
 -- a page is opened
 pub entered_none : (bucket : BucketView) (content : Content) (i : ℕ) (below new : List Frame) → IsEntered (contents_in bucket) false content i below new None → HasStack bucket new
     → (ahead_of (contents_in bucket) (record { content = content; taken = i } ∷ below) ≡ ahead_of (contents_in bucket) new)
-    × (length (right_of (contents_in bucket) (record { content = content; taken = i } ∷ below)) ≡ suc (length (right_of (contents_in bucket) new)))
+    × (length (later_of (contents_in bucket) (record { content = content; taken = i } ∷ below)) ≡ suc (length (later_of (contents_in bucket) new)))
 entered_none bucket (Of_leaf elements) i below new h stack = absurd h
 entered_none bucket (Of_branch elements) i below new h stack =
     let contents = contents_in bucket in
     let b = h.0 in
     let placed = rw h.2 at stack in
-    let right = opened_right contents (length below) i (address_on below) elements b (right_of contents below) h.1 (λ cs e.
+    let right = opened_right contents (length below) i (address_on below) elements b (later_of contents below) h.1 (λ cs e.
     let room = branch_room bucket cs 0 (record { content = Of_branch elements; taken = i + 1 } ∷ below) (rw e at placed) in omega (arith, room)) in
     let next : suc i ≡ i + 1 = omega arith in
     let back : i ≡ (i + 1) - 1 = omega arith in
@@ -102,7 +102,7 @@ entered_none bucket (Of_branch elements) i below new h stack =
 
 -- a page of which all is taken leaves the stack
 pub exhausted : (bucket : BucketView) (f : Frame) (below : List Frame) → HasStack bucket (f ∷ below) → content_length f.content ≤ f.taken
-    → (ahead_of (contents_in bucket) below ≡ ahead_of (contents_in bucket) (f ∷ below)) × (right_of (contents_in bucket) below ≡ right_of (contents_in bucket) (f ∷ below))
+    → (ahead_of (contents_in bucket) below ≡ ahead_of (contents_in bucket) (f ∷ below)) × (later_of (contents_in bucket) below ≡ later_of (contents_in bucket) (f ∷ below))
 exhausted bucket f below stack h =
     let under = nothing_under (contents_in bucket) (length below) (address_on below) f.content f.taken h in
     let top : here_of below ≡ [] = ∥∥₁_elim stack (Prim.hlevel props) (λ s. shown_by_branch here_of here_under refl (λ _ _. refl) (λ _ _. refl) below s.1.0.branch) in

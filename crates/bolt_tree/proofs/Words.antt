@@ -8,7 +8,7 @@ pub use Rattle.bolt_check.specs.{CheckedFiles.bytes_of, CheckedFiles.meta_of, Co
 pub use Rattle.bolt_check.specs.{Nodes.Entry, Nodes.Node, Nodes.Nodes, Nodes.branch_entry, Nodes.leaf_entry, Nodes.node_at, OnWays.IsOnWay, Shape.leads}
 pub use Rattle.bolt_check.specs.Sound.{HasSoundTrees}
 pub use Rattle.bolt_check.specs.Ways.{At_page, Before, PageSpot, Spot, bucket_spots, follow, reached, root_spot, step_at, step_entry}
-pub use Rattle.bolt_check.specs.declared.Checked.{Checked}
+pub use Rattle.bolt_check.specs.declared.checked.Checked.{Checked}
 pub use Rattle.bolt_format.proofs.ListLemmas.{drop_at, one_some, take_next}
 pub use Rattle.bolt_format.proofs.PageFacts.{below_mark, bucket_value, flat_inline}
 pub use Rattle.bolt_format.proofs.PageLaws.{length-shown_branches, length-shown_leaves}
@@ -30,8 +30,8 @@ pub use Rattle.bolt_tree.specs.Private.BucketPages.{IsSoundBucket, contents_in, 
 pub use Rattle.bolt_tree.specs.Private.Contents.{Content, Contents, Of_branch, Of_leaf, content_by, content_keys, content_length, content_of, content_seen}
 pub use Rattle.bolt_tree.specs.Private.Contents.{is_tree_kind}
 pub use Rattle.bolt_tree.specs.Private.CursorViews.{AreOfFile, IsInnermost, Keeps, MovesLast, Opens, cursor_view, fresh_view, innermost_views}
-pub use Rattle.bolt_tree.specs.{Private.Entered.IsEntered, Private.Entered.opened_to, Private.Entered.taken_at, Private.Held.IsHeld, Private.Held.place_by}
-pub use Rattle.bolt_tree.specs.Private.Held.{place_on}
+pub use Rattle.bolt_tree.specs.{Private.Entered.IsEntered, Private.Entered.opened_to, Private.Entered.taken_at, Private.Resting.IsResting, Private.Resting.place_by}
+pub use Rattle.bolt_tree.specs.Private.Resting.{place_on}
 pub use Rattle.bolt_tree.specs.Private.Kept.{AreKept, CursorView, IsKept, kept_view, kept_views}
 pub use Rattle.bolt_tree.specs.Private.OpenBuckets.{AreOpen, IsAhead, IsInPlace, IsInside, IsNamed, is_end, left_by, open_path, reported_path}
 pub use Rattle.bolt_tree.specs.{Private.OpenCursors.cursors_of, Private.PageKeys.IsPlaceOf, Private.PageKeys.doubled, Private.PageKeys.stands_before}
@@ -41,19 +41,19 @@ pub use Rattle.bolt_tree.specs.Private.Stacks.{Frame, HasStack, IsAtRest, IsBesi
 pub use Rattle.bolt_tree.specs.Private.Stacks.{IsLeafTop, IsOn}
 pub use Rattle.bolt_tree.specs.Private.Stacks.{IsStack}
 pub use Rattle.bolt_tree.specs.Private.Stacks.{RestsOn, StandsOn, address_on, ahead_of, before_of, before_under, done_of, done_under, here_of, here_under}
-pub use Rattle.bolt_tree.specs.Private.Stacks.{index_of, left_under, preceding_of, right_of, right_under, under_at}
-pub use Rattle.bolt_tree.specs.Private.Tours.{Visit, all_under, content_at_start, elements_of, pages_at, tour}
+pub use Rattle.bolt_tree.specs.Private.Stacks.{index_of, passed_under, preceding_of, later_of, later_under, under_at}
+pub use Rattle.bolt_tree.specs.Private.Tours.{TourPage, all_under, content_at_start, elements_of, pages_at, tour}
 pub use Rattle.bolt_tree.specs.Private.Trails.{Finds, HasBucket, HasTrail, IsMoved, ahead, entries_left, entries_to, frame_of, frames_of, nearer, pages_left}
-pub use Rattle.bolt_tree.specs.Private.Trails.{pages_to, preceding, right}
+pub use Rattle.bolt_tree.specs.Private.Trails.{pages_ahead, pages_to, preceding}
 pub use Rattle.bolt_tree.specs.Private.Trails.{trail_bucket, trail_frames}
 pub use Rattle.bolt_tree.specs.{RestAfter.beyond, RestAfter.by_first, RestAfter.is_beyond, RestAfter.rest_after, ShownEntries.item_view}
 pub use Rattle.bolt_tree.specs.Starts.{HasStart, start_at}
 pub use Rattle.bolt_tree.specs.Tree.{IsTreeOf, Shows, Tree, end, first_tree, later_trees, listing_below, listing_of, put_first, tree_of, trees_by_depth}
 pub use Rattle.bolt_tree.specs.{Tree.with_bucket, Tree.with_value, Walks.GivesNext, declared.bucket.Bucket.Bucket, declared.cursor.Cursor.Cursor}
-pub use Rattle.bolt_tree.specs.{declared.opened.Position.Position, declared.trail.Trail.Trail}
+pub use Rattle.bolt_tree.specs.{declared.stack.Position.Position, declared.trail.Trail.Trail}
 unfoldable pub use Rattle.bolt_tree.specs.Buckets.{bucket_checked, bucket_start}
 unfoldable pub use Rattle.bolt_tree.specs.{Cursors.cursor_checked, Cursors.cursor_opened, Cursors.cursor_place, Cursors.cursor_start, FileTrees.file_tree}
-unfoldable pub use Rattle.bolt_tree.specs.{Pagers.pager_checked, Pagers.pager_opened, Private.Contents.content_at, Private.Stacks.left_of}
+unfoldable pub use Rattle.bolt_tree.specs.{Pagers.pager_checked, Pagers.pager_opened, Private.Contents.content_at, Private.Stacks.passed_of}
 unfoldable pub use Rattle.bolt_tree.specs.Walks.{walk_checked, walk_path}
 pub use Rattle.std.proofs.Math.Logic.{∥∥₁_elim, ∥∥₁_map, ∥∥₁_prop}
 pub use Rattle.std.proofs.Math.Seq.{drop-append_seam, take-append_seam, take-length, take-nil, take-suc-set}

@@ -1,7 +1,7 @@
 -- A bucket as contracts see it: the file, the meta that it is read under, and where the bucket's tree begins.
 use Rattle.std.specs.Prelude.{ℕ, List}
 use Rattle.bolt_format.specs.{Elements.LeafElement, declared.meta.Meta.Meta}
-use Rattle.bolt_check.specs.{CheckedFiles.bytes_of, CheckedFiles.meta_of, declared.Checked.Checked}
+use Rattle.bolt_check.specs.{CheckedFiles.bytes_of, CheckedFiles.meta_of, declared.checked.Checked.Checked}
 use Rattle.bolt_tree.specs.Entries.{AreEntries, IsEntry, Start}
 
 pub record BucketView : Type 0 where

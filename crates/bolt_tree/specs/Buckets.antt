@@ -1,6 +1,6 @@
 -- What a bucket of the code shows.
 use Rattle.std.specs.Prelude.{ℕ}
-use Rattle.bolt_check.specs.declared.Checked.{Checked}
+use Rattle.bolt_check.specs.declared.checked.Checked.{Checked}
 use Rattle.bolt_tree.specs.{Entries.Start, Starts.start_at, declared.bucket.Bucket.Bucket}
 
 unfoldable pub bucket_checked : Bucket → Checked

@@ -1,7 +1,7 @@
 -- What a cursor shows: its file and bucket, where it is, and its counts.
 use Rattle.std.specs.Prelude.{ℕ}
-use Rattle.bolt_check.specs.declared.Checked.{Checked}
-use Rattle.bolt_tree.specs.{BucketViews.BucketView, BucketViews.bucket_in, Private.BucketPages.contents_in, Entries.Start, Private.Held.place_by}
+use Rattle.bolt_check.specs.declared.checked.Checked.{Checked}
+use Rattle.bolt_tree.specs.{BucketViews.BucketView, BucketViews.bucket_in, Private.BucketPages.contents_in, Entries.Start, Private.Resting.place_by}
 use Rattle.bolt_tree.specs.{Pagers.pager_checked, Pagers.pager_opened, Places.Place, Starts.start_at, Private.Trails.trail_bucket, Private.Trails.trail_frames}
 use Rattle.bolt_tree.specs.declared.cursor.Cursor.{Cursor}
 

@@ -2,7 +2,7 @@
 -- list of them in order; there is exactly one (`laws`).
 use Rattle.std.specs.Prelude.{List, [], drop, suc}
 use Rattle.bolt_format.specs.Elements.{LeafElement}
-use Rattle.bolt_check.specs.declared.Checked.{Checked}
+use Rattle.bolt_check.specs.declared.checked.Checked.{Checked}
 use Rattle.bolt_tree.specs.{BucketViews.entries_of, Entries.AreEntries, Entries.Start, Places.Fresh, Places.On, Places.Past, Places.Place}
 
 -- this holds of the entries in order

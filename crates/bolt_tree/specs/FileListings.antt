@@ -1,7 +1,7 @@
 -- The listing of a checked file: docs/LISTING.md, "The listing".
 -- What is promised of it is promised for each listing of the file; there is exactly one (`laws`).
 use Rattle.std.specs.Prelude.{List}
-use Rattle.bolt_check.specs.{CheckedFiles.bytes_of, CheckedFiles.meta_of, declared.Checked.Checked}
+use Rattle.bolt_check.specs.{CheckedFiles.bytes_of, CheckedFiles.meta_of, declared.checked.Checked.Checked}
 use Rattle.bolt_tree.specs.{Entries.Root_page, Entries.Start, Listing.IsListing, Listing.Member}
 
 -- where the root bucket begins

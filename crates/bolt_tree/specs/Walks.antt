@@ -3,7 +3,7 @@
 use Rattle.std.specs.Prelude.{◌≡◌, List, [], ◌∷◌, Option, Some, None}
 use Rattle.bolt_tree.specs.{Entries.Item, Listing.Member, Paths.Path}
 use Rattle.bolt_tree.specs.{Private.OpenBuckets.left_by, Private.OpenBuckets.reported_path, Private.OpenBuckets.open_path, declared.walk.Walk.Walk}
-use Rattle.bolt_check.specs.declared.Checked.{Checked}
+use Rattle.bolt_check.specs.declared.checked.Checked.{Checked}
 
 unfoldable pub walk_checked : Walk → Checked
 walk_checked walk = walk.buckets.cursors.checked

@@ -1,18 +1,18 @@
-//! The buckets of a file, where their trees begin, and what is under a key of one (docs/LISTING.md,
-//! "A key in a bucket").
+//! A bucket of a file, and what is under a key of it (docs/LISTING.md, "A key in a bucket").
 ghost use Rattle.std.specs.Prelude.{◌≡◌, IfSome, IsTrue};
 ghost use Rattle.std.specs.Option.{option_map};
 ghost use Rattle.std.proofs.Props.{props};
-ghost use Rattle.bolt_format.specs.{ElementPlaces.leaf_view, Elements.IsBucketValue, Elements.head_root, Elements.head_sequence};
+ghost use Rattle.bolt_format.specs.{ElementPlaces.leaf_view, Elements.IsBucketValue, Elements.head_sequence};
 ghost use Rattle.bolt_check.specs.CheckedFiles.{meta_of};
 ghost use Rattle.bolt_tree.specs.BucketViews.{entries_of};
 ghost use Rattle.bolt_tree.specs.Cursors.{cursor_checked, cursor_compared, cursor_opened, cursor_place, cursor_start};
 ghost use Rattle.bolt_tree.specs.{Entries.Root_page, Entries.start_of, Places.Fresh, Starts.HasStart, Starts.start_at};
 
+use crate::at::{At, at_of};
 use crate::cursor::Cursor;
-use crate::opened::Pager;
+use crate::pager::Pager;
 use bolt_check::Checked;
-use bolt_format::{Head, Inline, Leaf, head, inline};
+use bolt_format::{Leaf, head};
 
 /// A bucket of a checked file. It is made only if a way of the file leads to it (docs/TREE.md,
 /// "Buckets").
@@ -129,27 +129,4 @@ impl<'a> Bucket<'a> {
         }
         Some(Bucket::of(self.checked, leaf.value))
     }
-}
-
-/// Where the tree of a bucket with this value and this head begins.
-fn at_of(value: &[u8], head: Head) -> At<'_>
-    requires value { IsBucketValue value.now }
-    requires root { head.root ≡ head_root value.now }
-    ensures { start_at result ≡ start_of value.now }
-{
-    if head.is_inline() {
-        At::Inline(inline(value))
-    } else {
-        At::Page(head.root)
-    }
-}
-
-/// Where a bucket's tree begins: at a root page or, if the bucket is inline, in its own value
-/// (docs/FORMAT.md, "Buckets").
-#[derive(Clone, Copy)]
-pub enum At<'a> {
-    /// The number of the root page.
-    Page(u64),
-    /// The page of an inline bucket.
-    Inline(Inline<'a>),
 }

@@ -3,14 +3,15 @@ ghost use Rattle.std.specs.Prelude.{◌≡◌, IsTrue, IfSome};
 ghost use Rattle.std.specs.Option.{option_map};
 ghost use Rattle.bolt_format.specs.{ElementPlaces.leaf_view, Elements.IsBucketValue};
 ghost use Rattle.bolt_tree.specs.{BucketViews.entries_of, CursorBounds.OpensByNext, CursorBounds.OpensGap, CursorBounds.OpensSeek, CursorBounds.SeeksInBounds};
-ghost use Rattle.bolt_tree.specs.{Entries.entry_view, Private.Held.IsHeld, Private.Kept.IsKept, Private.Kept.kept_view};
+ghost use Rattle.bolt_tree.specs.{Entries.entry_view, Private.Resting.IsResting, Private.Kept.IsKept, Private.Kept.kept_view};
 ghost use Rattle.bolt_tree.specs.Pagers.{pager_checked, pager_opened};
 ghost use Rattle.bolt_tree.specs.Places.{Fresh, Moves, Past, ShowsMove, first_move, last_move, next_move, prev_move, seek_move};
 ghost use Rattle.bolt_tree.specs.{ShownEntries.shown_entry, Starts.HasStart, Starts.start_at};
 
-use crate::Entry;
-use crate::bucket::At;
-use crate::opened::{Pager, Position, Stack, set_positions};
+use crate::at::At;
+use crate::entry::Entry;
+use crate::pager::Pager;
+use crate::stack::{Position, Stack, set_positions};
 use crate::trail::Trail;
 use bolt_format::Leaf;
 
@@ -21,12 +22,12 @@ pub struct Cursor<'a> {
     trail: Trail<'a>,
     is_past: bool,
     compared: u64,
-    /// Room for a copy of the positions.
-    spare: Stack<'a>,
-    ghost held: { ∥ IsHeld trail is_past ∥₁ },
+    /// Room for the positions before a move, which it takes back if there is no entry to move to.
+    saved: Stack<'a>,
+    ghost resting: { ∥ IsResting trail is_past ∥₁ },
 }
 
-#[tactic(auto, unfolding(crate::specs::Cursors::cursor_checked, crate::specs::Cursors::cursor_compared, crate::specs::Cursors::cursor_opened, crate::specs::Cursors::cursor_place, crate::specs::Cursors::cursor_start), using(crate::proofs::HeldLemmas::fresh_held, crate::proofs::HeldLemmas::held_bucket, crate::proofs::HeldLemmas::held_rest, crate::proofs::HeldLemmas::held_stack, crate::proofs::KeptLemmas::kept_short, crate::proofs::StackLemmas::sound_bucket))]
+#[tactic(auto, unfolding(crate::specs::Cursors::cursor_checked, crate::specs::Cursors::cursor_compared, crate::specs::Cursors::cursor_opened, crate::specs::Cursors::cursor_place, crate::specs::Cursors::cursor_start), using(crate::proofs::RestingLemmas::fresh_resting, crate::proofs::RestingLemmas::resting_bucket, crate::proofs::RestingLemmas::resting_rest, crate::proofs::RestingLemmas::resting_stack, crate::proofs::KeptLemmas::kept_short, crate::proofs::StackLemmas::sound_bucket))]
 impl<'a> Cursor<'a> {
     ghost use Rattle.bolt_tree.specs.Cursors.{cursor_bucket, cursor_checked, cursor_compared, cursor_opened, cursor_place, cursor_start};
     ghost use Rattle.bolt_tree.specs.Private.CursorViews.{cursor_view};
@@ -50,7 +51,7 @@ impl<'a> Cursor<'a> {
             trail,
             is_past: false,
             compared: 0,
-            spare: Stack::new(),
+            saved: Stack::new(),
         }
     }
 
@@ -166,7 +167,7 @@ impl<'a> Cursor<'a> {
         ensures compared { cursor_compared self.new ≡ cursor_compared self.old }
     {
         if !self.trail.stack.is_empty() {
-            return entry_of(self.trail.go_further(&mut self.spare, true));
+            return entry_of(self.trail.go_further(&mut self.saved, true));
         }
         let leaf = self.trail.start(true)?;
         self.is_past = false;
@@ -207,7 +208,7 @@ impl<'a> Cursor<'a> {
         if self.trail.stack.is_empty() {
             return self.trail.start(false);
         }
-        self.trail.next(&mut self.spare)
+        self.trail.next(&mut self.saved)
     }
 
     /// Moves to the first entry whose key isn't below `key`, and returns its element. If there is

@@ -6,7 +6,7 @@ ghost use Rattle.bolt_check.specs.CheckedFiles.{bytes_of, meta_of};
 ghost use Rattle.bolt_tree.specs.{Listing.IsListing, Listing.Member, Paths.Path, Paths.path_of, ShownEntries.item_view};
 ghost use Rattle.bolt_tree.specs.{Walks.GivesNext, Walks.left_of, Walks.walk_checked, Walks.walk_path, WalksLeft.left_number};
 
-use crate::Item;
+use crate::entry::Item;
 use crate::walk::Walk;
 use bolt_check::NoMemory;
 use std::alloc::Global;

@@ -6,9 +6,10 @@ ghost use Rattle.bolt_tree.specs.{Buckets.bucket_checked, Places.first_move, Pla
 ghost use Rattle.bolt_tree.specs.Private.CursorViews.{AreOfFile, Keeps, MovesLast, Opens, fresh_view};
 ghost use Rattle.bolt_tree.specs.Private.Kept.{CursorView};
 
-use crate::bucket::{At, Bucket};
+use crate::at::At;
+use crate::bucket::Bucket;
 use crate::cursor::Cursor;
-use crate::opened::Position;
+use crate::stack::Position;
 use bolt_check::{Checked, NoMemory};
 use bolt_format::Leaf;
 use std::alloc::Global;

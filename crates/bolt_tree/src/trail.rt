@@ -1,13 +1,20 @@
-//! The open pages of a bucket, and moves from entry to entry.
-ghost use Rattle.std.specs.Prelude.{◌≡◌, ◌∷◌, [], ◌≤◌, ◌-◌, IfSome, IsTrue, MatchOption, drop, false, length};
-ghost use Rattle.bolt_format.specs.{ElementPlaces.leaf_view, Elements.IsBucketValue};
+//! The open pages of a bucket: moves from entry to entry, and how they go down from page to page.
+ghost use Rattle.std.specs.Prelude.{◌≡◌, ◌∷◌, [], ◌<◌, ◌≤◌, ◌+◌, ◌-◌, ◌*◌, IfSome, IsTrue, MatchOption, Some, drop, false, length, slice_get};
+ghost use Rattle.std.specs.Option.{option_map};
+ghost use Rattle.bolt_format.specs.{ElementPlaces.leaf_view, Elements.BranchElement, Elements.IsBucketValue, Shown.shown};
 ghost use Rattle.bolt_check.specs.Counts.{counted};
 ghost use Rattle.bolt_tree.specs.{CursorBounds.OpensSeek, CursorBounds.SeeksInBounds, Pagers.pager_opened, Places.least_from};
-ghost use Rattle.bolt_tree.specs.{Private.BucketPages.elements_in, Private.BucketPages.pages_in};
-ghost use Rattle.bolt_tree.specs.Private.Stacks.{IsAtRest, IsOn, here_of};
+ghost use Rattle.bolt_tree.specs.Private.BucketPages.{contents_in, elements_in, pages_in, root_content};
+ghost use Rattle.bolt_tree.specs.Private.Contents.{Of_branch, content_length};
+ghost use Rattle.bolt_tree.specs.Private.Entered.{IsEntered, entered_pages, taken_at};
+ghost use Rattle.bolt_tree.specs.{Private.Seeks.IsNearTop, Private.Seeks.IsSought, Private.ShownPages.opened_content};
+ghost use Rattle.bolt_tree.specs.Private.Stacks.{HasStack, IsAtRest, IsLeafTop, IsOn, here_of};
 
-use crate::bucket::At;
-use crate::opened::{Pager, Stack, set_positions};
+use crate::at::At;
+use crate::key_search::keys_before;
+use crate::opened::{BranchPage, Opened};
+use crate::pager::Pager;
+use crate::stack::{Position, Stack, set_positions};
 use bolt_format::Leaf;
 
 /// The open pages of a bucket, from its root page on, each with the number of elements up to where
@@ -28,7 +35,7 @@ pub(crate) struct SeekResult<'a> {
 
 #[tactic(auto, using(crate::proofs::StackLemmas::retaken, crate::proofs::PagerLemmas::counted_zero))]
 impl<'a> Trail<'a> {
-    ghost use Rattle.bolt_tree.specs.Private.Trails.{Finds, Goes, HasBucket, HasTrail, IsMoved, ahead, entries_left, pages_left, right, trail_bucket};
+    ghost use Rattle.bolt_tree.specs.Private.Trails.{Finds, Goes, HasBucket, HasTrail, IsMoved, ahead, entries_left, pages_ahead, pages_left, trail_bucket};
     ghost use Rattle.bolt_tree.specs.Private.Trails.{trail_frames};
 
     /// Goes to the first entry or, if `back` is set, to the last one. If there is none, the stack is
@@ -46,9 +53,9 @@ impl<'a> Trail<'a> {
         self.go(back)
     }
 
-    /// Moves to the next entry. If there is none, it stays. The content of `spare` is lost.
+    /// Moves to the next entry. If there is none, it stays. `saved` is room for a copy of the stack.
     #[inline(always)]
-    pub fn next(&mut self, spare: &mut Stack<'a>) -> Option<Leaf<'a>>
+    pub fn next(&mut self, saved: &mut Stack<'a>) -> Option<Leaf<'a>>
         requires stack { HasTrail self.old }
         requires rest { IsAtRest (trail_frames self.old) }
         ensures { Goes false self.old self.new result }
@@ -59,7 +66,7 @@ impl<'a> Trail<'a> {
         if self.stack.len() < 2 {
             return None;
         }
-        self.go_further(spare, false)
+        self.go_further(saved, false)
     }
 
     /// Goes to the first entry whose key isn't below `key`. If there is none, the stack is empty.
@@ -87,7 +94,7 @@ impl<'a> Trail<'a> {
         requires rest { IsAtRest (trail_frames self.old) }
         ensures moved { IsMoved self.old self.new }
         ensures found { MatchOption result ((here_of (trail_frames self.old) ≡ []) × (trail_frames self.new ≡ trail_frames self.old))
-            (λ leaf. (ahead self.old ≡ leaf_view leaf ∷ ahead self.new) × IsOn (trail_frames self.new) (leaf_view leaf) × (right self.old ≡ right self.new)) }
+            (λ leaf. (ahead self.old ≡ leaf_view leaf ∷ ahead self.new) × IsOn (trail_frames self.new) (leaf_view leaf) × (pages_ahead self.old ≡ pages_ahead self.new)) }
         ensures bucket { IfSome result (λ leaf. IsTrue leaf.is_bucket → IsBucketValue leaf.value.now) }
         ensures opened { pager_opened self.new.pager ≡ pager_opened self.old.pager }
     {
@@ -102,19 +109,19 @@ impl<'a> Trail<'a> {
     }
 
     /// Moves to the next entry or, if `back` is set, to the preceding one, past the end of the leaf
-    /// too. If there is none, it stays. The content of `spare` is lost.
+    /// too. If there is none, it stays. `saved` is room for a copy of the stack.
     #[inline(never)]
     #[tactic(auto, using(crate::proofs::TrailLemmas::kept_stack))]
-    pub fn go_further(&mut self, spare: &mut Stack<'a>, back: bool) -> Option<Leaf<'a>>
+    pub fn go_further(&mut self, saved: &mut Stack<'a>, back: bool) -> Option<Leaf<'a>>
         requires stack { HasTrail self.old }
         requires rest { IsAtRest (trail_frames self.old) }
         ensures { Goes back self.old self.new result }
     {
-        set_positions(spare, self.stack.as_slice());
+        set_positions(saved, self.stack.as_slice());
         match self.go(back) {
             Some(leaf) => Some(leaf),
             None => {
-                set_positions(&mut self.stack, spare.as_slice());
+                set_positions(&mut self.stack, saved.as_slice());
                 None
             }
         }
@@ -140,5 +147,133 @@ impl<'a> Trail<'a> {
             }
         }
         None
+    }
+    /// Opens the root page, and pushes it before its first element or past its last.
+    fn begin(&mut self, at_end: bool)
+        requires { HasBucket self.old }
+        ensures moved { IsMoved self.old self.new }
+        ensures frames { let root = root_content (trail_bucket self.old) in
+            trail_frames self.new ≡ record { content = root; taken = taken_at at_end root } ∷ [] }
+        ensures opened { pager_opened self.new.pager ≡ counted (pager_opened self.old.pager) 1 }
+    {
+        let page = self.open_root();
+        self.push_at_edge(page, at_end);
+    }
+
+    /// Opens the root page of the bucket, or its inline page, which isn't on the stack yet.
+    #[tactic(auto, using(crate::proofs::StackLemmas::root_way, crate::proofs::TrailLemmas::way_kind, crate::proofs::WayPages::content_shown))]
+    fn open_root(&mut self) -> Opened<'a>
+        requires { HasBucket self.old }
+        ensures moved { IsMoved self.old self.new }
+        ensures content { opened_content result ≡ root_content (trail_bucket self.old) }
+        ensures empty { trail_frames self.new ≡ [] }
+        ensures opened { pager_opened self.new.pager ≡ counted (pager_opened self.old.pager) 1 }
+    {
+        self.stack.clear();
+        match self.at {
+            At::Page(id) => Opened::of_page(self.pager.open(id)),
+            At::Inline(page) => {
+                self.pager.note();
+                Opened::Inline(page)
+            }
+        }
+    }
+
+    /// Goes down from the root page to the leaf that is near a key, and stops before its first
+    /// entry that isn't below the key. Returns how many keys were compared, at most 16 for each
+    /// page.
+    #[tactic(auto, using(crate::proofs::StackLemmas::retaken, crate::proofs::StackLemmas::stack_short, crate::proofs::NearLemmas::stack_rises))]
+    fn descend(&mut self, root: Opened<'a>, key: &[u8]) -> u64
+        requires bucket { HasBucket self.old }
+        requires empty { trail_frames self.old ≡ [] }
+        requires root { opened_content root ≡ root_content (trail_bucket self.old) }
+        ensures moved { IsMoved self.old self.new }
+        ensures near { IsNearTop (trail_bucket self.old) key.now (trail_frames self.new) }
+        ensures sought { IsSought (elements_in (trail_bucket self.old)) key.now (ahead self.new) }
+        ensures compared { result ≤ 16 * length (trail_frames self.new) }
+        ensures opened { pager_opened self.new.pager ≡ counted (pager_opened self.old.pager) (length (trail_frames self.new) - 1) }
+        ensures leaf { IsLeafTop (trail_frames self.new) }
+    {
+        let mut opened = root;
+        let mut compared = 0;
+        while let Opened::Branch(page) = opened {
+            let found = keys_before(&opened, key, true);
+            compared += found.compared;
+            opened = self.go_under(page, found.before.saturating_sub(1));
+        }
+        let found = keys_before(&opened, key, false);
+        self.push(opened, u32::from(found.before));
+        compared + found.compared
+    }
+
+    /// Goes to element `i` of a page, and pushes the page again. The element is an entry of a leaf,
+    /// which is returned; or it leads from a branch to a page, which is opened and pushed, before
+    /// its first element or past its last.
+    fn enter(&mut self, page: Opened<'a>, i: u16, at_end: bool) -> Option<Leaf<'a>>
+        requires stack { HasStack (trail_bucket self.old) (record { content = opened_content page; taken = 0 } ∷ trail_frames self.old) }
+        requires below { i < content_length (opened_content page) }
+        ensures moved { IsMoved self.old self.new }
+        ensures entered { IsEntered (contents_in (trail_bucket self.old)) at_end (opened_content page.entry) i (trail_frames self.old) (trail_frames self.new)
+            (option_map leaf_view result) }
+        ensures opened { pager_opened self.new.pager ≡ counted (pager_opened self.old.pager) (entered_pages (option_map leaf_view result)) }
+        ensures bucket { IfSome result (λ leaf. IsTrue leaf.is_bucket → IsBucketValue leaf.value.now) }
+    {
+        match page {
+            Opened::Nothing => unreachable!(),
+            Opened::Leaf(leaf) => {
+                self.push(page, u32::from(i) + 1);
+                Some(leaf.element(i))
+            }
+            Opened::Inline(inline) => {
+                self.push(page, u32::from(i) + 1);
+                Some(inline.leaf(i))
+            }
+            Opened::Branch(branch) => {
+                let child = self.go_under(branch, i);
+                self.push_at_edge(child, at_end);
+                None
+            }
+        }
+    }
+
+    /// Opens the page under element `i` of a branch, and pushes the branch.
+    fn go_under(&mut self, page: BranchPage<'a>, i: u16) -> Opened<'a>
+        requires stack { HasStack (trail_bucket self.old) (record { content = Of_branch (shown page.page).branches; taken = 0 } ∷ trail_frames self.old) }
+        requires below { i < length (shown page.page).branches }
+        ensures moved { IsMoved self.old self.new }
+        ensures frames { trail_frames self.new ≡ record { content = Of_branch (shown page.entry.page).branches; taken = i + 1 } ∷ trail_frames self.old }
+        ensures child { (e : BranchElement) × (slice_get (shown page.entry.page).branches i ≡ Some e)
+            × (opened_content result ≡ contents_in (trail_bucket self.old) e.child) }
+        ensures stack { HasStack (trail_bucket self.new) (record { content = opened_content result; taken = 0 } ∷ trail_frames self.new) }
+        ensures opened { pager_opened self.new.pager ≡ counted (pager_opened self.old.pager) 1 }
+    {
+        self.push(Opened::Branch(page), u32::from(i) + 1);
+        Opened::of_page(self.pager.open(page.element(i).child))
+    }
+
+    /// Pushes a page onto the stack, before its first element or past its last.
+    fn push_at_edge(&mut self, page: Opened<'a>, at_end: bool)
+        requires { HasStack (trail_bucket self.old) (record { content = opened_content page; taken = 0 } ∷ trail_frames self.old) }
+        ensures moved { IsMoved self.old self.new }
+        ensures frames { trail_frames self.new
+            ≡ record { content = opened_content page.entry; taken = taken_at at_end (opened_content page.entry) } ∷ trail_frames self.old }
+        ensures opened { pager_opened self.new.pager ≡ pager_opened self.old.pager }
+    {
+        if at_end {
+            self.push(page, u32::from(page.count()) + 1);
+        } else {
+            self.push(page, 0);
+        }
+    }
+
+    /// Pushes a page onto the stack.
+    #[tactic(auto, using(crate::proofs::TrailLemmas::stack_room))]
+    fn push(&mut self, page: Opened<'a>, taken: u32)
+        requires { HasStack (trail_bucket self.old) (record { content = opened_content page; taken = taken } ∷ trail_frames self.old) }
+        ensures moved { IsMoved self.old self.new }
+        ensures frames { trail_frames self.new ≡ record { content = opened_content page.entry; taken = taken } ∷ trail_frames self.old }
+        ensures opened { pager_opened self.new.pager ≡ pager_opened self.old.pager }
+    {
+        self.stack.push(Position { page, taken });
     }
 }

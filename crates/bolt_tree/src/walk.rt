@@ -3,7 +3,7 @@ ghost use Rattle.std.specs.Option.{option_map};
 ghost use Rattle.std.specs.Prelude.{◌≡◌, [], IfOk, OnErr};
 ghost use Rattle.bolt_tree.specs.{ShownEntries.item_view, Listing.rest_from, Private.OpenBuckets.IsAhead, Private.OpenBuckets.IsInPlace};
 
-use crate::Item;
+use crate::entry::Item;
 use crate::open_buckets::{OpenBuckets, WalkStep};
 use bolt_check::{Checked, NoMemory};
 use std::alloc::Global;

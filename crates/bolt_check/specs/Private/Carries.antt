@@ -1,7 +1,7 @@
 -- What the search says of the spots that are left, it says of the whole.
 use Rattle.std.specs.Prelude.{ℕ, ◌↔◌, ◌⊎◌, Option}
 use Rattle.bolt_check.specs.{Findings.IsClean, Findings.IsCovered, Findings.IsFirst, Nodes.Nodes, Private.Uses.HasUse, Private.Uses.UseOf}
-use Rattle.bolt_check.specs.{Ways.Reach, Ways.SpanHas, Ways.Spot, declared.fault.Finding.Finding, declared.table.PageUse.PageUse}
+use Rattle.bolt_check.specs.{Ways.Reach, Ways.SpanHas, Ways.Spot, declared.finding.Finding.Finding, declared.table.PageUse.PageUse}
 
 -- What holds of the ways `new` holds of the ways `old`. `claimed` and `noted` say which pages were claimed before the ways of `old`, and for
 -- what use; `after` and `notes` say so for `new`.

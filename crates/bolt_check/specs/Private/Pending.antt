@@ -2,7 +2,7 @@
 use Rattle.std.specs.Prelude.{List, [], ◌∷◌, map, reverse, Option, Some, None, slice_get}
 use Rattle.bolt_check.specs.{EntrySpots.places, Nodes.Node, Nodes.Nodes, Ways.PageSpot, Ways.Reach, Ways.Spot, Ways.follow, ShownSpots.spot_at}
 use Rattle.bolt_check.specs.{Private.Carries.Takes, Private.Tables.IsClaimed, Private.Uses.IsNoted, declared.table.PageUse.PageUse}
-use Rattle.bolt_check.specs.declared.visit.Spot.{Spot as CodeSpot}
+use Rattle.bolt_check.specs.declared.spot.Spot.{Spot as CodeSpot}
 
 -- the pending spots, the first to be visited first
 abbrev pub spots_of : List CodeSpot → List Spot
@@ -22,5 +22,5 @@ unfoldable pub kids : Node → PageSpot → List Spot
 kids node s = somes (places node.is_leaf s node.entries)
 
 -- the table after a visit: what was claimed before, and the spot's span
-abbrev pub Claims : Nodes → Spot → List PageUse → List PageUse → Type 0
-Claims nodes s old new = Takes nodes (Some s) (IsClaimed old) (IsClaimed new) (IsNoted old) (IsNoted new)
+abbrev pub ClaimsSpan : Nodes → Spot → List PageUse → List PageUse → Type 0
+ClaimsSpan nodes s old new = Takes nodes (Some s) (IsClaimed old) (IsClaimed new) (IsNoted old) (IsNoted new)

@@ -1,7 +1,7 @@
 -- What a command has opened.
 use Rattle.std.specs.Prelude.{◌≡◌, ◌≢◌, ◌⊎◌, List, [], ℕ}
 use Rattle.std.specs.List.{All}
-use Rattle.bolt_check.specs.{CheckedFiles.bytes_of, CheckedFiles.meta_of, declared.fault.CheckFault.CheckFault, declared.fault.Finding.Finding}
+use Rattle.bolt_check.specs.{CheckedFiles.bytes_of, CheckedFiles.meta_of, declared.fault.CheckFault.CheckFault, declared.finding.Finding.Finding}
 use Rattle.bolt_format.specs.declared.meta.Meta.{Meta}
 use Rattle.bolt_recover.specs.{Found.AreFound, Found.numbers_of, Joined.LacksBucketKey, JoinedMembers.ForJoined, JoinedMembers.joined_file, JoinedMembers.joined_left}
 use Rattle.bolt_recover.specs.{JoinedMembers.joined_meta, Losses.everything, Lost.IsAllLost, LostAndFound.all_lost, Recovered.ForRecovered, ShownFound.IsFoundView}

@@ -1,6 +1,6 @@
 -- What the functions of a command that prints promise of its job.
 use Rattle.std.specs.Prelude.{ℕ, List, Bool}
-use Rattle.bolt_check.specs.{CheckedFiles.bytes_of, CheckedFiles.meta_of, declared.Checked.Checked, declared.role_table.Role.Role}
+use Rattle.bolt_check.specs.{CheckedFiles.bytes_of, CheckedFiles.meta_of, declared.checked.Checked.Checked, declared.role_table.Role.Role}
 use Rattle.bolt_report.specs.{KeyLines.keys_text, KeyPrefixes.with_prefix}
 use Rattle.bolt_text.specs.{ListForms.listing_lines}
 use Rattle.bolt_tree.specs.{Listing.Member, Listing.rest_from, ListingParts.has_bucket, ListingParts.part_below}

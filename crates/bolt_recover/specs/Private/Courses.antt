@@ -1,7 +1,7 @@
 -- What is still to be done, and all that comes of it. Tasks know their ways, or anything else that a step takes further, or nothing at all.
 use Rattle.std.specs.Prelude.{◌≡◌, ℕ, zero, suc, ◌+◌, Bool, true, false, ◌||◌, ◌&&◌, List, [], ◌∷◌, ◌++◌, length, Option, Some, None, Result, Ok, Err, nat_le, nat_lt, slice_get}
 use Rattle.bolt_format.specs.{Elements.LeafElement, declared.meta.Meta.Meta}
-use Rattle.bolt_check.specs.{Counts.counted, Nodes.Node, Nodes.Nodes, Nodes.node_at, Ways.At_inline, Ways.At_page, Ways.Spot, declared.fault.Finding.Finding}
+use Rattle.bolt_check.specs.{Counts.counted, Nodes.Node, Nodes.Nodes, Nodes.node_at, Ways.At_inline, Ways.At_page, Ways.Spot, declared.finding.Finding.Finding}
 use Rattle.bolt_tree.specs.{Entries.item_of, Listing.Member, Paths.Path}
 use Rattle.bolt_recover.specs.{Losses.LossView, Losses.loss_of, Sites.Site, Sites.root_site, Sites.step_site, Surveys.Gives}
 

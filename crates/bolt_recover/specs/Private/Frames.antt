@@ -6,8 +6,8 @@ use Rattle.bolt_format.specs.declared.element.Leaf as element
 use Rattle.bolt_format.specs.{Pages.page_at, Shown.shown, ShownInline.shown_inline, declared.meta.Meta.Meta}
 use Rattle.bolt_check.specs.{Claims.claims_file, Claims.claims_meta, Claims.claims_visited, Claims.is_claimed, Claims.pages_left, Nodes.Nodes, Nodes.node_at}
 use Rattle.bolt_check.specs.{ShownNodes.shown_node, ShownSpots.inline_keys, ShownSpots.page_spot, ShownSpots.spot_at, Ways.At_inline, Ways.At_page, Ways.Spot}
-use Rattle.bolt_check.specs.{declared.claims.Claims.Claims, declared.fault.Finding.Finding, declared.visit.Spot.Spot as CodeSpot}
-use Rattle.bolt_check.specs.declared.visit.Spot.TheVariants as spots
+use Rattle.bolt_check.specs.{declared.claims.Claims.Claims, declared.finding.Finding.Finding, declared.spot.Spot.Spot as CodeSpot}
+use Rattle.bolt_check.specs.declared.spot.Spot.TheVariants as spots
 use Rattle.bolt_tree.specs.{Entries.item_of, Listing.Member, Paths.Path, Paths.path_of, RestAfter.rest_after}
 use Rattle.bolt_recover.specs.{Losses.LossView, Losses.loss_of, Sites.Site, Sites.leaves_of, Sites.step_site}
 use Rattle.bolt_recover.specs.Private.Courses.{Outcome, Course, WholeCourse, Task, To_visit, Visited, Way, after_visits, claimed_after, further, outcome_of, tasks_from}

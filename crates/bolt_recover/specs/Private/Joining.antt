@@ -6,7 +6,7 @@ use Rattle.std.specs.declared.cmp.Ordering.{Ordering}
 use Rattle.std.specs.declared.cmp.Ordering.TheVariants.{Less}
 use Rattle.bolt_check.specs.Keys.{key_cmp}
 use Rattle.bolt_format.specs.declared.meta.Meta.{Meta}
-use Rattle.bolt_tree.specs.{Listing.Member, Paths.Path, ShownEntries.item_view, declared.Item.Item}
+use Rattle.bolt_tree.specs.{Listing.Member, Paths.Path, ShownEntries.item_view, declared.entry.Item.Item}
 use Rattle.bolt_recover.specs.{Found.AreFound, Found.numbers_of, Joined.LacksBucketKey, Joined.is_found_path, Joined.lost_and_found, Recovered.ForRecovered}
 use Rattle.bolt_recover.specs.ShownFound.{IsFoundView}
 use Rattle.bolt_recover.specs.Private.FoundLeft.{below_bucket, bucket_left, bucket_members, bucket_path}

@@ -4,7 +4,7 @@ use Rattle.std.specs.Option.{option_map}
 use Rattle.bolt_format.specs.declared.meta.Meta.{Meta}
 use Rattle.bolt_check.specs.CheckedFiles.{bytes_of, meta_of}
 use Rattle.bolt_tree.specs.{Listing.Member, Paths.Path, ShownEntries.item_view, Walks.GivesNext, Walks.left_of, Walks.walk_checked, Walks.walk_path}
-use Rattle.bolt_tree.specs.{declared.Item.Item, WalksLeft.left_number}
+use Rattle.bolt_tree.specs.{declared.entry.Item.Item, WalksLeft.left_number}
 use Rattle.bolt_recover.specs.Recovered.{ForRecovered}
 use Rattle.bolt_recover.specs.Recoveries.{recovery_file, recovery_left, recovery_meta, recovery_path, recovery_work}
 use Rattle.bolt_recover.specs.declared.joined_parts.Kept.{Kept}

@@ -2,7 +2,7 @@
 use Rattle.std.specs.Prelude.{◌≡◌, ℕ, suc, ◌+◌, Bool, true, false, List, ◌∷◌, Option, Some, None, slice_get, length}
 use Rattle.bolt_format.specs.Elements.{BranchElement, LeafElement}
 use Rattle.bolt_tree.specs.Private.Contents.{Content, Contents, Of_branch, Of_leaf, content_length}
-use Rattle.bolt_tree.specs.{Private.Stacks.Frame, Private.Tours.Visit}
+use Rattle.bolt_tree.specs.{Private.Stacks.Frame, Private.Tours.TourPage}
 
 -- how much of a page is done before its first element, or past its last
 abbrev pub taken_at : Bool → Content → ℕ
@@ -24,7 +24,7 @@ abbrev pub entered_pages : Option LeafElement → ℕ
 entered_pages None = 1
 entered_pages (Some e) = 0
 
--- how many pages are left to the right of where a move comes to: none at the end
-abbrev pub opened_to : Option LeafElement → List Visit → ℕ
+-- how many pages come later than where a move comes to: none at the end
+abbrev pub opened_to : Option LeafElement → List TourPage → ℕ
 opened_to (Some e) right = length right
 opened_to None right = 0

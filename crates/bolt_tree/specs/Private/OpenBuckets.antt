@@ -2,7 +2,7 @@
 -- next, or came last.
 use Rattle.std.specs.Prelude.{◌≡◌, ℕ, Bool, true, false, IsTrue, List, [], ◌∷◌, ◌++◌, Some, slice_get}
 use Rattle.bolt_format.specs.{Elements.IsBucketValue, Elements.LeafElement, ElementPlaces.leaf_view, declared.element.Leaf.Leaf}
-use Rattle.bolt_check.specs.{Keys.Key, declared.Checked.Checked}
+use Rattle.bolt_check.specs.{Keys.Key, declared.checked.Checked.Checked}
 use Rattle.bolt_tree.specs.{Buckets.bucket_checked, Buckets.bucket_start, BucketViews.entries_of, FileListings.ForListing, FileListings.root_start}
 use Rattle.bolt_tree.specs.{Entries.AreEntries, Entries.Start, Entries.start_of, Listing.Member, Listing.rest_from}
 use Rattle.bolt_tree.specs.{Paths.HasEntries, Paths.Names, Paths.Path, Paths.path_of, Places.On, RestAfter.rest_after, RestAfter.beyond}

@@ -1,10 +1,10 @@
--- The stack of a cursor: what lies to its left and to its right among the pages of the bucket. Stacks have their top first.
+-- The stack of a cursor: which pages of the bucket it has passed, and which come later. Stacks have their top first.
 use Rattle.std.specs.Prelude.{◌≡◌, ◌≤◌, ◌<◌, Bool, true, false, ℕ, suc, ◌+◌, ◌-◌, List, [], ◌∷◌, ◌++◌, drop, take, length, Some, slice_get}
 use Rattle.bolt_format.specs.Elements.{BranchElement, LeafElement}
 use Rattle.bolt_check.specs.OnWays.{IsOnWay}
 use Rattle.bolt_tree.specs.{BucketViews.BucketView, Private.BucketPages.IsSoundBucket, Private.BucketPages.contents_in, Private.BucketPages.pages_in}
 use Rattle.bolt_tree.specs.Private.Contents.{Content, Contents, Of_branch, Of_leaf, content_length}
-use Rattle.bolt_tree.specs.Private.Tours.{Visit, all_under, elements_of, tour}
+use Rattle.bolt_tree.specs.Private.Tours.{TourPage, all_under, elements_of, tour}
 
 -- A page on the stack, and how many of its elements are taken.
 pub record Frame : Type 0 where
@@ -17,27 +17,27 @@ address_on [] = []
 address_on (frame ∷ below) = address_on below ++ (frame.taken - 1) ∷ []
 
 -- what lies under the elements of a branch, at this height and address
-abbrev pub under_at : Contents → ℕ → List ℕ → ℕ → List BranchElement → List Visit
+abbrev pub under_at : Contents → ℕ → List ℕ → ℕ → List BranchElement → List TourPage
 under_at contents height address i elements = all_under (λ i child. tour contents (62 - height) (address ++ i ∷ []) (contents child)) i elements
 
--- the pages to the right of what is taken, one level after another
-abbrev pub right_under : Contents → ℕ → List ℕ → Content → ℕ → List Visit
-right_under contents height address (Of_leaf elements) taken = []
-right_under contents height address (Of_branch elements) taken = under_at contents height address taken (drop taken elements)
+-- the pages that come later than what is taken, one frame after another
+abbrev pub later_under : Contents → ℕ → List ℕ → Content → ℕ → List TourPage
+later_under contents height address (Of_leaf elements) taken = []
+later_under contents height address (Of_branch elements) taken = under_at contents height address taken (drop taken elements)
 
-abbrev pub right_of : Contents → List Frame → List Visit
-right_of contents [] = []
-right_of contents (frame ∷ below) = right_under contents (length below) (address_on below) frame.content frame.taken ++ right_of contents below
+abbrev pub later_of : Contents → List Frame → List TourPage
+later_of contents [] = []
+later_of contents (frame ∷ below) = later_under contents (length below) (address_on below) frame.content frame.taken ++ later_of contents below
 
--- the pages to the left of the page that is on a stack: those on the stack, and those under what was taken before
-abbrev pub left_under : Contents → ℕ → List ℕ → Content → ℕ → List Visit
-left_under contents height address (Of_leaf elements) taken = []
-left_under contents height address (Of_branch elements) taken = record { address = address; entries = [] } ∷ under_at contents height address 0
+-- the pages passed before the page that is on a stack: those on the stack, and those under what was taken before
+abbrev pub passed_under : Contents → ℕ → List ℕ → Content → ℕ → List TourPage
+passed_under contents height address (Of_leaf elements) taken = []
+passed_under contents height address (Of_branch elements) taken = record { address = address; entries = [] } ∷ under_at contents height address 0
     (take taken elements)
 
-abbrev pub left_of : Contents → List Frame → List Visit
-left_of contents [] = []
-left_of contents (frame ∷ below) = left_of contents below ++ left_under contents (length below) (address_on below) frame.content (frame.taken - 1)
+abbrev pub passed_of : Contents → List Frame → List TourPage
+passed_of contents [] = []
+passed_of contents (frame ∷ below) = passed_of contents below ++ passed_under contents (length below) (address_on below) frame.content (frame.taken - 1)
 
 -- the entries of the page on top that are not taken
 abbrev pub here_under : Content → ℕ → List LeafElement
@@ -50,14 +50,14 @@ here_of (frame ∷ below) = here_under frame.content frame.taken
 
 -- the entries that lie ahead
 abbrev pub ahead_of : Contents → List Frame → List LeafElement
-ahead_of contents frames = here_of frames ++ elements_of (right_of contents frames)
+ahead_of contents frames = here_of frames ++ elements_of (later_of contents frames)
 
--- the pages to the left of what is taken that are not on the stack
-abbrev pub before_under : Contents → ℕ → List ℕ → Content → ℕ → List Visit
+-- the pages passed before what is taken that are not on the stack
+abbrev pub before_under : Contents → ℕ → List ℕ → Content → ℕ → List TourPage
 before_under contents height address (Of_leaf elements) taken = []
 before_under contents height address (Of_branch elements) taken = under_at contents height address 0 (take taken elements)
 
-abbrev pub before_of : Contents → List Frame → List Visit
+abbrev pub before_of : Contents → List Frame → List TourPage
 before_of contents [] = []
 before_of contents (frame ∷ below) = before_of contents below ++ before_under contents (length below) (address_on below) frame.content (frame.taken - 1)
 
@@ -87,15 +87,15 @@ abbrev pub IsBranchTop : List Frame → Type 0
 IsBranchTop [] = Unit {0}
 IsBranchTop (frame ∷ below) = IsBranchContent frame.content
 
--- A page is on a stack if its tour lies between what is left and right of it.
+-- A page is on a stack if its tour lies between what was passed and what comes later.
 pub record IsOver (b : BucketView) (frame : Frame) (below : List Frame) : Type 0 where
   pub shallow : suc (length below) ≤ 64
   pub good : IsGoodContent b (suc (length below)) frame.content
   pub bound : frame.taken ≤ suc (content_length frame.content)
   pub fits : frame.taken ≤ 65536
   pub branch : IsBranchTop below
-  pub placed : pages_in b ≡ left_of (contents_in b) below
-      ++ (tour (contents_in b) (63 - length below) (address_on below) frame.content ++ right_of (contents_in b) below)
+  pub placed : pages_in b ≡ passed_of (contents_in b) below
+      ++ (tour (contents_in b) (63 - length below) (address_on below) frame.content ++ later_of (contents_in b) below)
 
 abbrev pub IsStack : BucketView → List Frame → Type 0
 IsStack b [] = Unit {0}
@@ -108,7 +108,7 @@ HasStack b frames = ∥ IsSoundBucket b × IsStack b frames ∥₁
 -- the number of the entry that a stack is on
 abbrev pub index_of : Contents → List Frame → ℕ
 index_of contents [] = 0
-index_of contents (frame ∷ below) = length (elements_of (left_of contents below)) + (frame.taken - 1)
+index_of contents (frame ∷ below) = length (elements_of (passed_of contents below)) + (frame.taken - 1)
 
 -- a cursor rests on an entry of a leaf, or nowhere
 abbrev pub RestsOn : Content → ℕ → Type 0

@@ -5,8 +5,8 @@ use Rattle.bolt_format.specs.{ElementPlaces.leaf_view, Elements.IsBucketValue, E
 use Rattle.bolt_check.specs.Counts.{counted}
 use Rattle.bolt_tree.specs.{BucketViews.BucketView, BucketViews.bucket_in, Private.BucketPages.IsSoundBucket, Private.BucketPages.contents_in}
 use Rattle.bolt_tree.specs.{Pagers.pager_checked, Pagers.pager_opened, Private.Entered.opened_to, Private.Contents.Contents, Private.ShownPages.opened_content}
-use Rattle.bolt_tree.specs.Private.Stacks.{Frame, HasStack, IsAtRest, IsOn, ahead_of, before_of, preceding_of, right_of}
-use Rattle.bolt_tree.specs.{Starts.start_at, Private.Tours.Visit, declared.opened.Position.Position, declared.trail.Trail.Trail}
+use Rattle.bolt_tree.specs.Private.Stacks.{Frame, HasStack, IsAtRest, IsOn, ahead_of, before_of, preceding_of, later_of}
+use Rattle.bolt_tree.specs.{Starts.start_at, Private.Tours.TourPage, declared.stack.Position.Position, declared.trail.Trail.Trail}
 
 abbrev pub frame_of : Position → Frame
 frame_of position = record { content = opened_content position.page; taken = position.taken }
@@ -38,21 +38,21 @@ abbrev pub entries_to : Bool → Contents → List Frame → List LeafElement
 entries_to false = ahead_of
 entries_to true = preceding_of
 
-abbrev pub pages_to : Bool → Contents → List Frame → List Visit
-pages_to false = right_of
+abbrev pub pages_to : Bool → Contents → List Frame → List TourPage
+pages_to false = later_of
 pages_to true = before_of
 
 abbrev pub entries_left : Bool → Trail → List LeafElement
 entries_left back trail = entries_to back (contents_in (trail_bucket trail)) (trail_frames trail)
 
-abbrev pub pages_left : Bool → Trail → List Visit
+abbrev pub pages_left : Bool → Trail → List TourPage
 pages_left back trail = pages_to back (contents_in (trail_bucket trail)) (trail_frames trail)
 
 abbrev pub ahead : Trail → List LeafElement
 ahead = entries_left false
 
-abbrev pub right : Trail → List Visit
-right = pages_left false
+abbrev pub pages_ahead : Trail → List TourPage
+pages_ahead = pages_left false
 
 abbrev pub preceding : Trail → List LeafElement
 preceding = entries_left true

@@ -1,6 +1,6 @@
 -- The members are those of the file's listing.
 use Rattle.std.proofs.Common.{List, subst}
-use Rattle.bolt_check.specs.{CheckedFiles.bytes_of, CheckedFiles.meta_of, declared.Checked.Checked}
+use Rattle.bolt_check.specs.{CheckedFiles.bytes_of, CheckedFiles.meta_of, declared.checked.Checked.Checked}
 use Rattle.bolt_tree.specs.Listing.{IsListing, Member}
 use Rattle.bolt_bulk.specs.Compacting.{CopiesEach}
 use Rattle.bolt_bulk.proofs.copy.compact_as.Goals as goal

@@ -1,7 +1,7 @@
 -- What is added is the next header, and the place of its key has room in 32 bits.
 use Rattle.std.proofs.Common.{ℕ, arith, get_or, Bool, length, ap, ◌∙◌}
 use Rattle.std.proofs.lemmas.List.{length-append}
-use Rattle.bolt_format.specs.Written.{leaf_header}
+use Rattle.bolt_format.specs.Encoded.{leaf_header}
 use Rattle.bolt_bulk.specs.{declared.held.Held.Held, Private.held_view}
 use Rattle.bolt_bulk.proofs.{ElementPuts.heads_all, ElementPuts.heads_more, ElementPuts.heads_next, ElementPuts.heads_stop, HeldPuts.held_at, HeldPuts.no_held}
 use Rattle.bolt_bulk.proofs.LeafPuts.{leaf_packed}

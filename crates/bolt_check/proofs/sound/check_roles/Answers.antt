@@ -40,11 +40,13 @@ returns-in-Some-clause-refused c =
       c.in_ok-meta.field-0-0,
       c.in_ok-meta.meta,
       c.in_ok-meta.ensures.chosen,
-      shape_of (node_at c.args.file.now c.in_ok-meta.meta) c.in_ok-meta.meta.root c.in_ok-table.ensures.clean,
-      wrong_of c.args.file.now c.in_ok-meta.meta c.in_ok-table.table.items c.in_ok-table.ensures.covered (wrong own),
-      subst (AreAccountFindings c.args.file.now c.in_ok-meta.meta (IsUsed c.args.file.now c.in_ok-meta.meta)) (sym same)
-          (findings_of_file c.args.file.now c.in_ok-meta.meta c.in_ok-table.table.items c.in_ok-findings.findings.items c.in_ok-table.ensures.covered (reported own)),
-      some,
+      (
+        shape_of (node_at c.args.file.now c.in_ok-meta.meta) c.in_ok-meta.meta.root c.in_ok-table.ensures.clean,
+        wrong_of c.args.file.now c.in_ok-meta.meta c.in_ok-table.table.items c.in_ok-table.ensures.covered (wrong own),
+        subst (AreAccountFindings c.args.file.now c.in_ok-meta.meta (IsUsed c.args.file.now c.in_ok-meta.meta)) (sym same)
+            (findings_of_file c.args.file.now c.in_ok-meta.meta c.in_ok-table.table.items c.in_ok-findings.findings.items c.in_ok-table.ensures.covered (reported own)),
+        some,
+      ),
     )
 
 pub test_accounts-requires-clause-wide : goal.test_accounts-requires-clause-wide

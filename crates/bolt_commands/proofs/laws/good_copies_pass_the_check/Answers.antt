@@ -2,7 +2,7 @@ use Rattle.bolt_commands.proofs.CopyChecks.{fails, passes}
 use Rattle.bolt_commands.proofs.laws.good_copies_pass_the_check.Goals as goal
 
 pub returns-clause-whole : goal.returns-clause-whole
-returns-clause-whole c = passes (record { one = c.chosen_meta_is_one.ensures; lose = c.sound_trees_lose_nothing.ensures })
+returns-clause-whole c = passes (record { one = c.active_meta_is_one.ensures; lose = c.sound_trees_lose_nothing.ensures })
 
 pub returns-clause-prefixes : goal.returns-clause-prefixes
-returns-clause-prefixes c = fails (record { one = c.chosen_meta_is_one.ensures; lose = c.sound_trees_lose_nothing.ensures })
+returns-clause-prefixes c = fails (record { one = c.active_meta_is_one.ensures; lose = c.sound_trees_lose_nothing.ensures })

@@ -4,7 +4,7 @@ use Rattle.bolt_commands.proofs.laws.recovering_sound_trees_reads_them.Goals as 
 pub returns : goal.returns
 returns g c =
     let below : Below = record {
-      chosen_is_one = c.chosen_meta_is_one.ensures;
+      chosen_is_one = c.active_meta_is_one.ensures;
       slot_is_one = c.slot_meta_is_one.ensures;
       listed = c.sound_trees_recover_their_listing.ensures;
       recovered = c.sound_trees_recover_what_they_list.ensures.listing;

@@ -1,4 +1,4 @@
-use Rattle.bolt_format.proofs.WrittenHeaders.{head_written}
+use Rattle.bolt_format.proofs.EncodedHeaders.{head_written}
 use Rattle.bolt_format.proofs.laws.bucket_heads_read_back.Goals as goal
 
 pub returns : goal.returns

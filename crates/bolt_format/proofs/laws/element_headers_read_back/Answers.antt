@@ -1,4 +1,4 @@
-use Rattle.bolt_format.proofs.WrittenHeaders.{branch_header_written, leaf_header_written}
+use Rattle.bolt_format.proofs.EncodedHeaders.{branch_header_written, leaf_header_written}
 use Rattle.bolt_format.proofs.laws.element_headers_read_back.Goals as goal
 
 pub returns : goal.returns

@@ -5,7 +5,7 @@ use Rattle.bolt_report.proofs.PrefixLemmas.{from_least}
 use Rattle.bolt_report.proofs.PrefixSteps.{all_opened, cursor_entries, fault_handed_on, fewer_shown, moved, next_first, none_shown, nothing_shown, number_of, other_shown, sought, stage_next, stage_sought}
 use Rattle.bolt_text.proofs.ReportLemmas.{front_fault}
 use Rattle.std.specs.Option.{option_map}
-use Rattle.bolt_tree.specs.declared.Entry.{Entry}
+use Rattle.bolt_tree.specs.declared.entry.Entry.{Entry}
 use Rattle.bolt_report.proofs.key_lines.keys_with_prefix.Goals as goal
 
 pub rest-init : goal.rest-init

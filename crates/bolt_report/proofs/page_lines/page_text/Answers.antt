@@ -1,7 +1,7 @@
 -- A page that is shown has no fault.
 use Rattle.std.proofs.Common.{◌≡◌, ◌↔◌, Err, None, Ok, Option, Result, Some}
 use Rattle.std.specs.Result.{IsErrAnd}
-use Rattle.bolt_format.specs.declared.open_page.PageFault.{PageFault}
+use Rattle.bolt_format.specs.declared.page_fault.PageFault.{PageFault}
 use Rattle.bolt_report.proofs.Words.{ReportFault}
 use Rattle.bolt_text.specs.declared.fault.ReportFault.TheVariants as fault
 use Rattle.bolt_report.proofs.page_lines.page_text.Goals as goal

@@ -1,8 +1,8 @@
 use Rattle.std.proofs.Common.{arith, ◌+◌, ◌*◌, ◌<◌, ◌≤◌, ◌∙◌, [], ◌∷◌, ◌++◌, List, None, ℕ, ap, map, refl, sum_by, sym, subst}
 use Rattle.bolt_recover.proofs.Words.{ahead_weight, claims_file, claims_meta, claims_visited, Content, GoesOn, is_claimed, IsContent, loss_view, lost_state, Meta, OpenPage, page_weight, State, state_of, sum_by-append}
 use Rattle.bolt_recover.proofs.StepLemmas.{as_state, entered_lost, entered_page}
-use Rattle.bolt_check.specs.declared.visit.Spot.TheVariants as spots
-use Rattle.bolt_check.specs.declared.visit.Spot.{Spot}
+use Rattle.bolt_check.specs.declared.spot.Spot.TheVariants as spots
+use Rattle.bolt_check.specs.declared.spot.Spot.{Spot}
 use Rattle.bolt_recover.specs.{Private.Frames.pages_in, Private.Frames.spot_weight, declared.content.Content.TheVariants.Bucket, declared.content.Content.TheVariants.Page}
 use Rattle.bolt_recover.proofs.steps.Steps.enter.Goals as goal
 

@@ -1,7 +1,7 @@
 use Rattle.std.proofs.Common.{◌≡◌, ◌∙◌, ◌++◌, ◌+◌, ◌<◌, ◌≤◌, ◌∷◌, [], Bor, List, None, Option, ℕ, ap, length, refl, sym, arith, sum_by, take}
 use Rattle.bolt_recover.proofs.Words.{ahead_weight, GivesHead, GoesOn, leaf_view, LeafElement, length-map, map-append, OpenPage, option_map, option_to_list, page_weight, Path, path_of, spot_site, State, state_of, step_path, sum_by-append, take-map}
 use Rattle.bolt_recover.proofs.StepLemmas.{Innermost, as_state, is_shallow, moved_weight, next_below, took_branch, took_last, took_leaf, top_of}
-use Rattle.bolt_check.specs.declared.visit.Spot.{Spot}
+use Rattle.bolt_check.specs.declared.spot.Spot.{Spot}
 use Rattle.bolt_recover.proofs.steps.Steps.step.Goals as goal
 use Rattle.bolt_recover.proofs.steps.Steps.step.Goals.{After-spot-spot, In-Some}
 

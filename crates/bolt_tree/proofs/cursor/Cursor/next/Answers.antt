@@ -1,4 +1,4 @@
-use Rattle.bolt_tree.proofs.{Words.cursor_place, Words.next_move, HeldLemmas.shows_by}
+use Rattle.bolt_tree.proofs.{Words.cursor_place, Words.next_move, RestingLemmas.shows_by}
 use Rattle.bolt_tree.proofs.cursor.Cursor.next.Goals as goal
 
 pub returns : goal.returns

@@ -1,6 +1,6 @@
 -- What the way down and then the move forward say, all of the bucket as it was.
 use Rattle.std.proofs.Common.{◌≡◌, [], ◌∙◌, ◌+◌, ◌-◌, ℕ, false, length, drop, sym, ap, arith, subst}
-use Rattle.bolt_tree.proofs.Words.{BucketView, Finds, HasStack, IsNearTop, IsSought, ahead, ahead_of, contents_in, counted, elements_in, least_from, pager_opened, right, right_of, trail_bucket, trail_frames}
+use Rattle.bolt_tree.proofs.Words.{BucketView, Finds, HasStack, IsNearTop, IsSought, ahead, ahead_of, contents_in, counted, elements_in, least_from, pager_opened, pages_ahead, later_of, trail_bucket, trail_frames}
 use Rattle.bolt_tree.proofs.{MoveLemmas.found_over, PagerLemmas.counted_more, OpeningMoves.leaf_nonempty, OpeningMoves.seek_bounds, OpeningMoves.seek_opens}
 use Rattle.bolt_tree.proofs.TrailLemmas.{same_bucket}
 use Rattle.bolt_tree.proofs.trail.Trail.seek.Goals as goal
@@ -52,12 +52,12 @@ pub returns-clause-opened : goal.returns-clause-opened
 returns-clause-opened c =
     let down = trail_frames c.descend-compared.new.self in
     let frames = trail_frames c.go-found.new.self in
-    let r2 : length (right c.descend-compared.new.self) ≡ length (right_of (contents_in (bucket c)) down) = ap (λ (b : BucketView). length (right_of (contents_in b) down)) (landed c) in
-    let r3 : length (right c.go-found.new.self) ≡ length (right_of (contents_in (bucket c)) frames) = ap (λ (b : BucketView). length (right_of (contents_in b) frames)) (moved c) in
+    let r2 : length (pages_ahead c.descend-compared.new.self) ≡ length (later_of (contents_in (bucket c)) down) = ap (λ (b : BucketView). length (later_of (contents_in b) down)) (landed c) in
+    let r3 : length (pages_ahead c.go-found.new.self) ≡ length (later_of (contents_in (bucket c)) frames) = ap (λ (b : BucketView). length (later_of (contents_in b) frames)) (moved c) in
     let one = leaf_nonempty down c.descend-compared.ensures.leaf in
-    let gone = length (right c.descend-compared.new.self) - length (right c.go-found.new.self) in
+    let gone = length (pages_ahead c.descend-compared.new.self) - length (pages_ahead c.go-found.new.self) in
     let old = pager_opened c.args.self.now.pager in
-    let sum : (1 + (length down - 1)) + gone ≡ length down + (length (right_of (contents_in (bucket c)) down) - length (right_of (contents_in (bucket c)) frames)) = omega (arith, one, r2, r3) in
+    let sum : (1 + (length down - 1)) + gone ≡ length down + (length (later_of (contents_in (bucket c)) down) - length (later_of (contents_in (bucket c)) frames)) = omega (arith, one, r2, r3) in
     let total : pager_opened c.go-found.new.self.pager ≡ counted old ((1 + (length down - 1)) + gone) =
     c.go-found.ensures.opened ∙ (ap (λ (n : ℕ). counted n gone) (c.descend-compared.ensures.opened ∙ (ap (λ (n : ℕ). counted n (length down - 1)) c.open_root-root.ensures.opened ∙ counted_more old 1 (length down - 1)))
     ∙ counted_more old (1 + (length down - 1)) gone) in

@@ -1,5 +1,0 @@
-use Rattle.bolt_check.proofs.ListingLemmas.{beyond_end}
-use Rattle.bolt_check.proofs.listing_findings.report_beyond.Goals as goal
-
-pub returns : goal.returns
-returns c = beyond_end c.args.listing.now c.requires.settled c.loop-i.last c.loop-i.i c.loop-i.findings.items c.loop-i-test.false c.loop-i.invariant

@@ -1,5 +1,0 @@
-use Rattle.bolt_check.proofs.Words.{IsBeyondTo}
-use Rattle.bolt_check.proofs.listing_findings.report_beyond.Given as goal
-
-abbrev pub invariant-loop-i : goal.invariant-loop-i
-invariant-loop-i l = IsBeyondTo l.listing l.last l.i l.findings.items

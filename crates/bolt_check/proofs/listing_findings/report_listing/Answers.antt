@@ -1,6 +1,0 @@
-use Rattle.bolt_check.proofs.ListingLemmas.{mark_reported}
-use Rattle.bolt_check.proofs.listing_findings.report_listing.Goals as goal
-
-pub report_beyond-requires-clause-reported : goal.report_beyond-requires-clause-reported
-report_beyond-requires-clause-reported c =
-    rw c.in_ok-report_run.ensures (mark_reported c.args.listing.now c.requires c.in_ok-from.from c.report_past.new.findings.items c.in_ok-from.ensures.within c.in_ok-from.ensures.reported)

@@ -1,0 +1,73 @@
+//! The roles of all pages of a sound file: the search runs again, and now finds nothing.
+ghost use Rattle.std.specs.Prelude.{◌≡◌, ◌↔◌, ℕ, IfOk, true};
+ghost use Rattle.bolt_check.specs.{CheckedFiles.has_accounts, Nodes.node_at, Private.Freelists.ClaimsUses, Private.RoleTables.AreUses};
+ghost use Rattle.bolt_check.specs.{Private.Tables.HasRoom, Private.Tables.IsClaimed, Private.Uses.HasUse, Private.Uses.IsMetaUse, Private.Uses.IsNoted};
+ghost use Rattle.bolt_check.specs.{RoledFiles.roles_checked, Sound.IsSound, Sound.IsUsed, Ways.reached};
+
+use crate::accounts::claim_freelist;
+use crate::checked::Checked;
+use crate::fault::{CheckFault, NoMemory};
+use crate::role_table::Roles;
+use crate::search::search;
+use crate::table::PageUse;
+use bolt_format::{Meta, NO_FREELIST};
+use std::alloc::Global;
+
+/// Searches a file that is known to be sound, so nothing is found.
+fn search_sound(alloc: Global, file: &[u8], meta: &Meta) -> Result<Vec<PageUse>, NoMemory>
+    requires { ∥ IsSound file.now meta.now true ∥₁ }
+    ensures claimed { IfOk result (λ table. (n : ℕ) → IsClaimed table.items n ↔ IsUsed file.now meta.now n) }
+    ensures uses { IfOk result (λ table. (n : ℕ) (u : _) → IsNoted table.items n u
+        → HasUse (node_at file.now meta.now) (reached (node_at file.now meta.now) meta.now.root) IsMetaUse n u) }
+    ensures room { IfOk result (λ table. HasRoom file.now meta.now table.items) }
+{
+    match search(alloc, file, meta) {
+        Ok(table) => Ok(table),
+        Err(CheckFault::Memory) => Err(NoMemory),
+        Err(CheckFault::Structure(_)) => unreachable!(),
+        Err(CheckFault::Open(_)) => unreachable!(),
+        Err(CheckFault::Accounts(_)) => unreachable!(),
+    }
+}
+
+/// Claims the freelist's span. No page of it is claimed.
+#[tactic(auto, using(crate::proofs::UsesClaimed::uses_claimed, crate::proofs::UsesClaimed::uses_unwritten))]
+fn claim_written(file: &[u8], meta: &Meta, table: &mut [PageUse])
+    requires sound { ∥ IsSound file.now meta.now true ∥₁ }
+    requires claimed { (n : ℕ) → IsClaimed table.old n ↔ IsUsed file.now meta.now n }
+    requires room { HasRoom file.now meta.now table.old }
+    ensures { ClaimsUses file.now meta.now table.old table.new }
+{
+    if meta.freelist == NO_FREELIST {
+        return;
+    }
+    match claim_freelist(file, meta, table) {
+        Some(_) => unreachable!(),
+        None => {}
+    }
+}
+
+/// The uses of all pages of a file that is known to be sound.
+fn find_uses(alloc: Global, file: &[u8], meta: &Meta) -> Result<Vec<PageUse>, NoMemory>
+    requires { ∥ IsSound file.now meta.now true ∥₁ }
+    ensures { IfOk result (λ table. ∥ AreUses file.now meta.now table.items ∥₁) }
+{
+    let mut table = search_sound(alloc, file, meta)?;
+    claim_written(file, meta, &mut table);
+    Ok(table)
+}
+
+/// The roles of all pages of a file (docs/SOUND.md, "Roles"). Its accounts were tested too.
+///
+/// # Errors
+///
+/// `NoMemory` if memory runs out. It needs a byte for each whole page that lies in the file and
+/// below the high-water mark, and room for the ways that are still to be followed.
+#[tactic(auto, using(crate::proofs::RoleFacts::sound_accounts), unfolding(crate::specs::RoledFiles::roles_checked, crate::specs::CheckedFiles::bytes_of, crate::specs::CheckedFiles::has_accounts, crate::specs::CheckedFiles::meta_of))]
+pub fn roles<'a>(alloc: Global, checked: Checked<'a>) -> Result<Roles<'a>, NoMemory>
+    requires { has_accounts checked ≡ true }
+    ensures { IfOk result (λ roles. roles_checked roles ≡ checked.entry) }
+{
+    let table = find_uses(alloc, checked.bytes, &checked.meta)?;
+    Ok(Roles { checked, table })
+}

@@ -1,0 +1,36 @@
+//! Reads the value of a bucket on a page that passed its tests.
+ghost use Rattle.std.specs.Prelude.{◌≡◌};
+ghost use Rattle.bolt_format.specs.{Elements.IsBucketValue, Elements.head_root, Elements.head_sequence, Elements.inline_elements, ShownInline.shown_inline};
+
+use crate::bucket::{HEAD_LEN, Head, Inline};
+use crate::bytes::u64_at;
+use crate::header::Header;
+
+/// The root page and the sequence of a bucket, from its value. The value is that of a bucket on a
+/// good page.
+#[tactic(auto, using(crate::proofs::GoodPages::good_head))]
+pub fn head(value: &[u8]) -> Head
+    requires { IsBucketValue value.now }
+    ensures root { result.root ≡ head_root value.now }
+    ensures sequence { result.sequence ≡ head_sequence value.now }
+{
+    Head {
+        root: u64_at(value, 0),
+        sequence: u64_at(value, 8),
+    }
+}
+
+/// The page of an inline bucket, from its value. The value is that of a bucket on a good page, and
+/// its root is 0.
+#[tactic(auto, using(crate::proofs::GoodPages::good_inline, crate::proofs::GoodPages::good_elements, crate::proofs::GoodPages::flat_elements), unfolding(crate::specs::ShownInline::shown_inline))]
+pub fn inline(value: &[u8]) -> Inline<'_>
+    requires bucket { IsBucketValue value.now }
+    requires inline { head_root value.now ≡ 0 }
+    ensures { shown_inline result ≡ inline_elements value.now }
+{
+    let bytes = &value[HEAD_LEN..];
+    Inline {
+        count: Header::read(bytes).count,
+        bytes,
+    }
+}
