@@ -1,8 +1,10 @@
+pub mod ByName
 pub mod Currents
 pub mod Fields
 pub mod Filtered
 pub mod KeyNumbers
 pub mod Keys
+pub mod Leases
 pub mod LastOfAll
 pub mod Messages
 pub mod MissingExact

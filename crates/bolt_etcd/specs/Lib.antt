@@ -1,9 +1,11 @@
 pub mod Compacted
 pub mod Current
+pub mod FaultsLeft
 pub mod Follows
 pub mod Misplaced
 pub mod MissingLeft
 pub mod MissingNumbers
+pub mod NameFaults
 pub mod Newest
 pub mod Others
 pub mod Passes

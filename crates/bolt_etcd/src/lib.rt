@@ -2,12 +2,14 @@
 //! key, in a bucket `key`. This crate knows no page. It reads the entries of buckets.
 #![tactic(auto)]
 
+mod by_name;
 mod compaction;
 mod current;
 mod follows;
 pub mod laws;
 mod misplaced;
 mod missing;
+mod name_faults;
 mod newest;
 mod other;
 mod record;
@@ -18,9 +20,11 @@ mod revisions;
 mod tests;
 mod wire;
 
+pub use crate::by_name::revisions_by_name;
 pub use crate::compaction::compacted;
 pub use crate::current::Current;
 pub use crate::missing::{Missing, MissingNumbers};
+pub use crate::name_faults::{NameFault, NameFaults};
 pub use crate::newest::Newest;
 pub use crate::other::Other;
 pub use crate::record::Record;
