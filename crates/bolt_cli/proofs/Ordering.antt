@@ -3,7 +3,7 @@ use Rattle.std.proofs.Common.{◌≡◌, ◌≢◌, inl, inr, arith, ℕ, zero, 
 use Rattle.bolt_cli.proofs.Vocabulary.{Choose, Closed, Closes, Copies, Deed, Ended, Ending, Ends, Fails, FailsNaming, Goes, IsReported, IsRun, Job, Made, Opened, Prints}
 use Rattle.bolt_cli.proofs.Vocabulary.{PrintsHeld, Read, Reads, Refusal, Refuses, Said, Text, is_again, string_bytes, target_name}
 use Rattle.bolt_cli.specs.Orders.{Copied, Copying, Failing, IsInOrder, Printed, Printing, Reading}
-use Rattle.bolt_job.specs.declared.job.Refusal.TheVariants as refusal
+use Rattle.bolt_job.specs.declared.refusal.Refusal.TheVariants as refusal
 use Rattle.bolt_cli.specs.{declared.outside.OutputFault.TheVariants.ReaderLeft, declared.outside.OutputFault.TheVariants.Failed, declared.outside.Source.Source}
 
 not_0 : (code : ℕ) → code ≡ 1 → code ≢ 0

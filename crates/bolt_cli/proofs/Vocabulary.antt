@@ -7,11 +7,11 @@ pub use Rattle.bolt_commands.specs.Answers.{status_of}
 pub use Rattle.bolt_commands.specs.{Failures.failure_line, SnapshotAnswers.bad_hash}
 pub use Rattle.bolt_format.specs.{Sinks.AppendsPrefix, declared.meta.Meta.Meta, declared.sink.Sink.Ghosts}
 pub use Rattle.bolt_job.specs.declared.choices.Extent.TheVariants.{First, Losses}
-pub use Rattle.bolt_job.specs.declared.job.Refusal.TheVariants.{Help, Version}
+pub use Rattle.bolt_job.specs.declared.refusal.Refusal.TheVariants.{Help, Version}
 pub use Rattle.bolt_job.specs.{PlainWords.target_name, LineWords.Text, declared.choices.Extent.Extent, declared.job.Job.Job}
-pub use Rattle.bolt_job.specs.{declared.choices.MetaChoice.MetaChoice, declared.choices.PageSize.PageSize, declared.job.Refusal.Refusal}
+pub use Rattle.bolt_job.specs.{declared.choices.MetaChoice.MetaChoice, declared.choices.PageSize.PageSize, declared.refusal.Refusal.Refusal}
 pub use Rattle.bolt_layout.specs.{Copies.layout_of_listing, declared.Layout.Layout}
-pub use Rattle.bolt_load.specs.{LineMembers.text_members}
+pub use Rattle.bolt_text.specs.{LineMembers.text_members}
 pub use Rattle.bolt_recover.specs.{Losses.parts}
 pub use Rattle.bolt_tree.specs.{Listing.Member}
 pub use Rattle.std.proofs.{lemmas.Grind.common_steps}

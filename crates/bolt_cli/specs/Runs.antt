@@ -12,8 +12,8 @@ use Rattle.bolt_job.specs.{Needs.needs_metas_alone, PlainWords.file_name, PlainW
 use Rattle.bolt_cli.specs.Sources.{is_changed}
 use Rattle.bolt_commands.specs.declared.failure.Failure.TheVariants.{Memory, Write}
 use Rattle.bolt_job.specs.declared.job.Job.{Job}
-use Rattle.bolt_job.specs.declared.job.Refusal.{Refusal}
-use Rattle.bolt_job.specs.declared.job.Refusal.TheVariants as refusal
+use Rattle.bolt_job.specs.declared.refusal.Refusal.{Refusal}
+use Rattle.bolt_job.specs.declared.refusal.Refusal.TheVariants as refusal
 use Rattle.bolt_cli.specs.declared.outside.CreateFault.{CreateFault}
 use Rattle.bolt_cli.specs.declared.outside.CreateFault.TheVariants as create
 use Rattle.bolt_cli.specs.declared.outside.ReadFault.{ReadFault}

@@ -3,7 +3,7 @@ use Rattle.std.proofs.Common.{◌≡◌, ℕ, List, Bool, Result, Ok, Err, inl, 
 use Rattle.bolt_commands.proofs.Vocabulary.{Answer, BulkFault, CopiesTo, Does, Ending, EndsCopy, EndsCopying, Ghosts, Member, OnOk, WritesCopy, copied, copy_page_size}
 use Rattle.bolt_commands.proofs.Vocabulary.{HasGoodCopies, IsAskedShape, Meta, layout_for, layout_of_listing, shaped_layout, ∥∥₁_map}
 use Rattle.bolt_bulk.specs.declared.copy.Shape.{Shape}
-use Rattle.bolt_job.specs.declared.writing_commands.CompactJob.{CompactJob}
+use Rattle.bolt_job.specs.declared.job.CompactJob.{CompactJob}
 
 -- a copy that is whole is good
 pub copy_good : {T : Type 0} {target : Ghosts T} {old new : T} (listing : List Member) (shape : Shape) (snapshot : Bool) (result : Result ℕ BulkFault)

@@ -3,8 +3,8 @@ use Rattle.std.proofs.Common.{◌≡◌, ◌≢◌, ◌∙◌, ◌⊎◌, ◌∷
 use Rattle.std.proofs.Common.{subst, sym, take}
 use Rattle.bolt_commands.proofs.Vocabulary.{Active, Answer, AnswersFound, AnswersLosses, AreLosses, CheckFault, Extent, FileFaults, First, HasBothMetas, HasSoundTrees, IsCheckAnswer, IsCheckAnswerAfter, IsChosen, IsFoundAnswer, IsGoodCopy, IsMetaOf, IsMetasFault, IsOtherFault, IsSnapshot, IsSound, LossView, Losses, Member, Meta, MetaFault, Place, RefusesFile, Slot, all_refusal, cases_lt, check_refusal, copy_of, done, found, hash_fault, hash_found, loss_at, losses_of, none_found, place_at, refused}
 use Rattle.bolt_check.specs.declared.fault.CheckFault.TheVariants as check
-use Rattle.bolt_snapshot.specs.declared.SnapshotFault.{SnapshotFault}
-use Rattle.bolt_snapshot.proofs.SnapshotLemmas.{no_fault_iff}
+use Rattle.bolt_etcd.specs.declared.snapshot.SnapshotFault.{SnapshotFault}
+use Rattle.bolt_etcd.proofs.SnapshotLemmas.{no_fault_iff}
 use Rattle.bolt_recover.specs.Surveys.{Has, IsSurvey, Visit}
 use Rattle.bolt_job.specs.declared.choices.Extent.TheVariants.{LostAndFound}
 use Rattle.bolt_commands.specs.declared.failure.Failure.TheVariants as failure

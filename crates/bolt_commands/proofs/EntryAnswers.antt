@@ -3,8 +3,9 @@ use Rattle.std.proofs.Common.{◌⊎◌, ◌≡◌, ℕ, Bool, true, false, IfEr
 use Rattle.bolt_commands.proofs.Vocabulary.{AreEntries, Bucket, ForEntries, Ghosts, IsBucketOf, IsEntriesAnswer, IsEntry, IsReadAnswer, IsSizesAnswer, Json, LeadsTo, LeafElement}
 use Rattle.bolt_commands.proofs.Vocabulary.{Meta, MetaChoice, Path, PrintsAnswer, ReportFault, Start, Wrote, bucket_checked, bucket_start, bytes_of, end_of, meta_of}
 use Rattle.bolt_commands.proofs.Vocabulary.{refused, report_ending}
-use Rattle.bolt_report.specs.{SizeLines.AreSized, SizeLines.Sized, SizeLines.sizes_text, declared.Form.Form}
-use Rattle.bolt_report.specs.declared.ReportFault.TheVariants as report
+use Rattle.bolt_report.specs.{SizeLines.AreSized, SizeLines.Sized, SizeLines.sizes_text}
+use Rattle.bolt_text.specs.{declared.forms.Form.Form}
+use Rattle.bolt_text.specs.declared.fault.ReportFault.TheVariants as report
 use Rattle.bolt_report.proofs.SizesExist.{named_sizes}
 use Rattle.bolt_commands.specs.{Answers.IsBucketsAnswer, declared.failure.Failure.TheVariants.NoBucket}
 use Rattle.bolt_commands.proofs.{AtPaths.at_path, CutTexts.ended_put, CutTexts.text_put, Doing.answer_as, ReadFiles.own_trees, ReadFiles.read_trees}

@@ -6,7 +6,7 @@ use Rattle.bolt_commands.proofs.Vocabulary.{AllByRecursion, HasBothMetas, HasGoo
 use Rattle.bolt_check.specs.declared.fault.CheckFault.TheVariants as check
 use Rattle.bolt_format.specs.{declared.open_page.TheConstants.PageFault.CUT, declared.meta.MetaFault.TheVariants.Cut}
 use Rattle.bolt_layout.specs.{Layout.layout_mark, Layout.layout_meta, Layout.layout_of, Layout.layout_root, Storable.IsStorable}
-use Rattle.bolt_snapshot.specs.Marks.{HasAllPages}
+use Rattle.bolt_etcd.specs.Marks.{HasAllPages}
 use Rattle.bolt_tree.specs.Tree.{Tree, tree_of}
 
 -- ---- an accepted page size has whole blocks of 512 bytes

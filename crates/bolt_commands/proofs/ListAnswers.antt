@@ -3,7 +3,7 @@ use Rattle.std.proofs.Common.{◌≡◌, ◌⊎◌, ℕ, true, IfErr, List, Resu
 use Rattle.bolt_commands.proofs.Vocabulary.{Bucket, ForListing, Ghosts, IsBucketOf, IsListAnswer, IsReadAnswer, IsReadUnder, LeadsTo, ListForm, Meta, MetaChoice}
 use Rattle.bolt_commands.proofs.Vocabulary.{Path, PrintsAnswer, ReportFault, Start, Wrote, bucket_checked, bucket_start, end_of, has_bucket, has_listing, listing_lines, meta_of}
 use Rattle.bolt_commands.proofs.Vocabulary.{part_below, part_ending, part_text, props, refused, report_ending, rest_from, ∥∥₁_elim}
-use Rattle.bolt_report.specs.declared.ReportFault.TheVariants as report
+use Rattle.bolt_text.specs.declared.fault.ReportFault.TheVariants as report
 use Rattle.bolt_commands.specs.declared.failure.Failure.TheVariants as failure
 use Rattle.bolt_commands.proofs.{CutTexts.ended_put, Doing.answer_as, ListedBuckets.has_named, ListedBuckets.none_named, ReadFiles.read_trees}
 

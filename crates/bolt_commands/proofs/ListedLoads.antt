@@ -4,10 +4,11 @@ use Rattle.bolt_commands.proofs.Vocabulary.{Answer, Ending, First, HasSoundTrees
 use Rattle.bolt_commands.proofs.ReadFiles.{read_trees}
 use Rattle.std.specs.Ordering.{is_lt}
 use Rattle.bolt_format.specs.Bytes.{IsBytes}
-use Rattle.bolt_load.specs.{ByteMembers.AreOfBytes, Lines.Text, declared.fault.LineFault.LineFault}
+use Rattle.bolt_load.specs.{ByteMembers.AreOfBytes, declared.fault.LineFault.LineFault}
+use Rattle.bolt_text.specs.{Lines.Text}
 use Rattle.bolt_load.specs.declared.fault.LineFault.TheVariants.{CutOff}
 use Rattle.bolt_load.specs.declared.fault.LoadFault.TheVariants.{Line, Memory}
-use Rattle.bolt_report.specs.{ListLines.listing_text, declared.ListForm.TheVariants.Hex}
+use Rattle.bolt_text.specs.{declared.forms.ListForm.TheVariants.Hex, ListLines.listing_text}
 
 pub record Below : Type 0 where
   pub below_root : (listing : List Member) → part_below [] listing ≡ listing

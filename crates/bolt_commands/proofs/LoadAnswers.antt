@@ -2,7 +2,8 @@
 use Rattle.std.proofs.Common.{◌≡◌, ◌∙◌, List, ap, refl, subst, sym}
 use Rattle.bolt_commands.proofs.Vocabulary.{IsListingText, IsOfOneTree, Member, text_members, ∥∥₁_map}
 use Rattle.bolt_bulk.specs.WholeListings.{IsWhole}
-use Rattle.bolt_load.specs.{Lines.Text, ShownMembers.members_left, ShownMembers.members_text, declared.line_members.LineMembers.LineMembers}
+use Rattle.bolt_load.specs.{ShownMembers.members_left, ShownMembers.members_text, declared.line_members.LineMembers.LineMembers}
+use Rattle.bolt_text.specs.{Lines.Text}
 
 -- what the lines of a right text tell are all members of a listing that is of one tree
 pub whole_members : (members : LineMembers) (text : Text) → members_text members ≡ text → members_left members ≡ text → ∥ IsListingText text ∥₁

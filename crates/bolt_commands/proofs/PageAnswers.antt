@@ -2,7 +2,7 @@
 use Rattle.std.proofs.Common.{◌≡◌, ◌≢◌, ◌↔◌, ℕ, List, Option, Some, None, Result, Ok, Err, inl, inr, refl}
 use Rattle.bolt_commands.proofs.Vocabulary.{Appends-nil, Does, Ghosts, ReportFault, Wrote, end_of, page_answer, report_ending}
 use Rattle.bolt_format.specs.declared.open_page.PageFault.{PageFault}
-use Rattle.bolt_report.specs.declared.ReportFault.TheVariants as report
+use Rattle.bolt_text.specs.declared.fault.ReportFault.TheVariants as report
 
 -- the page is reported as bad just if it has a fault
 abbrev NamesFault : {A : Type 0} → Result A ReportFault → Option PageFault → Type 0

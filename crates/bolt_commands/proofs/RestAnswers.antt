@@ -6,7 +6,7 @@ use Rattle.bolt_commands.proofs.Vocabulary.{ReportFault, Rises, Wrote, all_lost,
 use Rattle.bolt_commands.proofs.Vocabulary.{joined_left, joined_meta}
 use Rattle.bolt_commands.proofs.Vocabulary.{lost_ending, member_cmp, part_ending, part_text, recovery_file, recovery_left, recovery_meta, report_ending}
 use Rattle.bolt_recover.specs.{declared.joined.Joined.Joined, declared.recovery.Recovery.Recovery}
-use Rattle.bolt_report.specs.declared.ReportFault.TheVariants as report
+use Rattle.bolt_text.specs.declared.fault.ReportFault.TheVariants as report
 use Rattle.bolt_commands.proofs.{CutTexts.ended_put, Doing.answer_as, FoundAnswers.salvaged}
 
 -- only if the part is put, the ending says what is lost

@@ -2,7 +2,7 @@
 use Rattle.std.proofs.Common.{◌≡◌, ◌∙◌, ◌⊎◌, inl, inr, ap, ℕ, Vec, length, List, [], ◌∷◌, Some, refl, sym, subst}
 use Rattle.bolt_commands.proofs.Vocabulary.{AddsEntry, AreEntries, Bucket, Checked, Failure, FigureForm, ForEntries, HasSoundTrees, HasStats, IsBucketAt, IsStatsAnswer, IsTotal, Key, LeadsTo, LeafElement, Meta, Path, Root_page, Start, Stats, add_stats, bucket_checked, bucket_start, bytes_of, entries_of, entry_once, meta_of, no_stats, path_in, props, refused, the_entries, ∥∥₁_elim, ∥∥₁_map}
 use Rattle.bolt_commands.proofs.AtPaths.{at_path, no_parts}
-use Rattle.bolt_report.specs.StatsOf.{IsStatsOf}
+use Rattle.bolt_stats.specs.StatsOf.{IsStatsOf}
 use Rattle.bolt_commands.specs.declared.failure.Failure.TheVariants as failure
 
 -- the figures of the bucket under a key are those of the entry with that key

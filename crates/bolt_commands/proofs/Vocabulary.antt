@@ -28,7 +28,8 @@ pub use Rattle.bolt_format.specs.Metas.{HasBothMetas, HasMetaFault, HasSlotFault
 pub use Rattle.bolt_format.specs.declared.meta.Slot.TheVariants.{One, Zero}
 pub use Rattle.bolt_format.specs.{Sinks.AppendsProperPrefix, Endings.ending, Wrote.Wrote, declared.meta.Meta.Meta, declared.meta.MetaFault.MetaFault}
 pub use Rattle.bolt_format.specs.{declared.meta.Slot.Slot, declared.sink.Sink.Ghosts, declared.sink.SinkFault.SinkFault}
-pub use Rattle.bolt_job.specs.CopyKinds.{is_snapshot, layout_for}
+pub use Rattle.bolt_job.specs.CopyKinds.{is_snapshot}
+pub use Rattle.bolt_commands.specs.CopyLayouts.{layout_for}
 pub use Rattle.bolt_job.specs.MetaChoices.{IsMetaOf, assumed_for}
 pub use Rattle.bolt_job.specs.declared.choices.Extent.TheVariants.{First, Losses}
 pub use Rattle.bolt_job.specs.declared.choices.MetaChoice.TheVariants.{Active, Assumed, InSlot}
@@ -37,7 +38,7 @@ pub use Rattle.bolt_job.specs.{declared.choices.PageSize.PageSize}
 pub use Rattle.bolt_layout.specs.Copies.{IsAsked, IsOfOneTree, IsSoundCopy, RefusesPrefixes, layout_of_listing}
 pub use Rattle.bolt_layout.specs.{declared.Layout.Layout}
 pub use Rattle.bolt_load.specs.LineFaults.{IsListingText, IsLoadFault}
-pub use Rattle.bolt_load.specs.{LineMembers.text_members}
+pub use Rattle.bolt_text.specs.{LineMembers.text_members}
 pub use Rattle.bolt_recover.proofs.Existing.{has_losses, has_recovered}
 pub use Rattle.bolt_recover.specs.JoinedMembers.{ForJoined, joined_file, joined_left, joined_meta}
 pub use Rattle.bolt_recover.specs.Losses.{AreLosses, LossView, LostView, everything, is_nothing, loss_at, losses_of, parts}
@@ -48,10 +49,11 @@ pub use Rattle.bolt_recover.specs.ShownLosses.{loss_view, lost_view}
 pub use Rattle.bolt_recover.specs.{Joined.IsJoined, LostAndFound.all_lost, declared.Found.Found, declared.lost_and_found.LostAndFound.LostAndFound}
 pub use Rattle.bolt_report.specs.FoundLines.{FoundView, IsFoundLeaf, counted_lost_text, found_view}
 pub use Rattle.bolt_report.specs.KeyLines.{buckets_text, keys_text}
-pub use Rattle.bolt_report.specs.{Figures.add_stats, ListForms.listing_lines, ReportEndings.report_ending, declared.ReportFault.ReportFault}
-pub use Rattle.bolt_report.specs.{declared.FigureForm.FigureForm, declared.Form.TheVariants.Json, declared.ListForm.ListForm}
-pub use Rattle.bolt_report.specs.{declared.statistics.Stats.Stats}
-pub use Rattle.bolt_snapshot.specs.SnapshotFaults.{IsSnapshot, cut_hash_fault, hash_fault, snapshot_of}
+pub use Rattle.bolt_text.specs.{declared.fault.ReportFault.ReportFault, ReportEndings.report_ending, ListForms.listing_lines}
+pub use Rattle.bolt_stats.specs.{Figures.add_stats}
+pub use Rattle.bolt_text.specs.{declared.forms.ListForm.ListForm, declared.forms.Form.TheVariants.Json, declared.forms.FigureForm.FigureForm}
+pub use Rattle.bolt_stats.specs.{declared.figures.Stats.Stats}
+pub use Rattle.bolt_etcd.specs.SnapshotFaults.{IsSnapshot, cut_hash_fault, hash_fault, snapshot_of}
 pub use Rattle.bolt_tree.proofs.Leaving.{fewer_left, next_shows, the_entries}
 pub use Rattle.bolt_tree.proofs.Named.{entry_once, held_down, held_up, names_push}
 pub use Rattle.bolt_tree.proofs.{Existing.has_listing, Filters.filter_all}

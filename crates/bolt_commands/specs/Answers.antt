@@ -10,22 +10,29 @@ use Rattle.bolt_check.specs.{declared.fault.Finding.Finding, declared.role_table
 use Rattle.bolt_format.specs.{Elements.LeafElement, Metas.HasMetaFault, Metas.HasSlotFault, Metas.IsChosen, Metas.IsInSlot, Pages.page_at}
 use Rattle.bolt_format.specs.{Sinks.AppendsPrefix, Sinks.AppendsProperPrefix, declared.open_page.PageFault.PageFault, declared.meta.Meta.Meta}
 use Rattle.bolt_format.specs.{declared.meta.MetaFault.MetaFault, declared.meta.Slot.Slot}
-use Rattle.bolt_load.specs.{LineFaults.IsListingText, LineFaults.IsLoadFault, LineMembers.text_members, declared.fault.LoadFault.LoadFault}
+use Rattle.bolt_load.specs.{LineFaults.IsListingText, LineFaults.IsLoadFault, declared.fault.LoadFault.LoadFault}
+use Rattle.bolt_text.specs.{LineMembers.text_members}
 use Rattle.bolt_recover.specs.{Found.AreFound, JoinRefusals.IsJoinRefusal, Joined.IsJoined, Joined.LacksBucketKey}
 use Rattle.bolt_recover.specs.{Losses.AreLosses, Losses.LossView, Losses.LostView, Losses.everything, Losses.parts, Lost.IsAllLost, Places.leaves_of}
 use Rattle.bolt_recover.specs.Recovered.{ForRecovered, IsRecovered}
 use Rattle.bolt_recover.specs.Refusals.{IsRefusedRoot, IsSlotUnrecoverable, IsUnrecoverable, KeepsRoot, LosesRoot}
 use Rattle.bolt_recover.specs.declared.joined.JoinFault.{JoinFault}
 use Rattle.bolt_report.specs.{FaultWords.findings_text, FoundLines.FoundView, FoundLines.counted_lost_text, FoundLines.lost_text}
-use Rattle.bolt_report.specs.{Forms.item_text, Forms.value_text, Figures.add_stats, Figures.stats_text, KeyLines.buckets_text, KeyLines.keys_text}
-use Rattle.bolt_report.specs.{KeyPrefixes.with_prefix, ListForms.listing_lines, MetaLines.info_text, PageMaps.map_text, PageTables.pages_text}
-use Rattle.bolt_report.specs.{PageTexts.page_text, PageTexts.page_text_fault, SizeLines.AreSized, SizeLines.Sized, SizeLines.sizes_text, StatsOf.IsStatsOf}
-use Rattle.bolt_report.specs.{declared.statistics.Stats.Stats, declared.FigureForm.FigureForm, declared.Form.Form}
-use Rattle.bolt_report.specs.{declared.Form.TheVariants.Json, declared.ListForm.ListForm}
+use Rattle.bolt_report.specs.{StatsLines.stats_text, KeyLines.buckets_text, KeyLines.keys_text}
+use Rattle.bolt_text.specs.{Forms.value_text, Forms.item_text}
+use Rattle.bolt_stats.specs.{Figures.add_stats}
+use Rattle.bolt_report.specs.{KeyPrefixes.with_prefix, MetaLines.info_text, PageMaps.map_text, PageTables.pages_text}
+use Rattle.bolt_text.specs.{ListForms.listing_lines}
+use Rattle.bolt_report.specs.{PageTexts.page_text, PageTexts.page_text_fault, SizeLines.AreSized, SizeLines.Sized, SizeLines.sizes_text}
+use Rattle.bolt_stats.specs.{StatsOf.IsStatsOf}
+use Rattle.bolt_text.specs.{declared.forms.Form.Form, declared.forms.FigureForm.FigureForm}
+use Rattle.bolt_stats.specs.{declared.figures.Stats.Stats}
+use Rattle.bolt_text.specs.{declared.forms.ListForm.ListForm, declared.forms.Form.TheVariants.Json}
 use Rattle.bolt_tree.specs.Entries.{AreEntries, IsEntry, Item, Root_page, Start, Value, start_of}
 use Rattle.bolt_tree.specs.{Listing.IsListing, Listing.Member, Listing.rest_from, ListingParts.bucket_part, ListingParts.has_bucket}
 use Rattle.bolt_tree.specs.Paths.{Holds, Names, Path}
-use Rattle.bolt_job.specs.CopyKinds.{is_snapshot, layout_for}
+use Rattle.bolt_job.specs.CopyKinds.{is_snapshot}
+use Rattle.bolt_commands.specs.CopyLayouts.{layout_for}
 use Rattle.bolt_commands.specs.Failures.{IsFailureOf, failure_line, unjoined, unloaded}
 use Rattle.bolt_commands.specs.{FileFaults.AreFileFaults, FileFaults.errors_in, FileFaults.fault_lines, FileFaults.hash_lines, FileFaults.is_fine, GoodCopies.IsGoodCopy}
 use Rattle.bolt_job.specs.MetaChoices.{HasNoMetaOf, IsMetaOf, assumed_for}
@@ -37,7 +44,7 @@ use Rattle.bolt_commands.specs.declared.failure.Failure.TheVariants as failure
 use Rattle.bolt_commands.specs.declared.file_faults.FileFaults.{FileFaults}
 use Rattle.bolt_check.specs.ShownFindings.{findings_in}
 use Rattle.bolt_load.specs.declared.fault.LineFault.TheVariants.{CutOff}
-use Rattle.bolt_snapshot.specs.declared.SnapshotFault.{SnapshotFault}
+use Rattle.bolt_etcd.specs.declared.snapshot.SnapshotFault.{SnapshotFault}
 use Rattle.bolt_job.specs.declared.job.Job.{Job}
 use Rattle.bolt_job.specs.declared.job.Job.TheVariants as job
 use Rattle.bolt_job.specs.declared.choices.MetaChoice.{MetaChoice}

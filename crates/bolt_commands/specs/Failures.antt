@@ -9,9 +9,10 @@ use Rattle.bolt_load.specs.{FaultWords.line_fault_words, declared.fault.LoadFaul
 use Rattle.bolt_load.specs.declared.fault.LoadFault.TheVariants as load
 use Rattle.bolt_recover.specs.declared.joined.JoinFault.{JoinFault}
 use Rattle.bolt_recover.specs.declared.joined.JoinFault.TheVariants as join
-use Rattle.bolt_report.specs.FaultWords.{finding_text, meta_fault_text, page_fault_text, snapshot_fault_text}
-use Rattle.bolt_report.specs.declared.ReportFault.{ReportFault}
-use Rattle.bolt_report.specs.declared.ReportFault.TheVariants as report
+use Rattle.bolt_report.specs.{FaultWords.finding_text, FaultWords.meta_fault_text, FaultWords.page_fault_text}
+use Rattle.bolt_etcd.specs.{SnapshotFaults.snapshot_fault_text}
+use Rattle.bolt_text.specs.declared.fault.ReportFault.{ReportFault}
+use Rattle.bolt_text.specs.declared.fault.ReportFault.TheVariants as report
 use Rattle.bolt_commands.specs.declared.failure.Failure.{Failure}
 use Rattle.bolt_commands.specs.declared.failure.Failure.TheVariants.{Exists, File, Hash, Line, Lost, Memory, Metas, NoBucket, NoKey, Page, TooLarge, Write}
 

@@ -2,8 +2,9 @@
 use Rattle.std.specs.Prelude.{◌≡◌, ◌⊎◌, ◌&&◌, ◌++◌, ◌+◌, ℕ, List, [], Bool, Option, None, Some, is_none}
 use Rattle.bolt_format.specs.{Metas.HasSlotFault, Metas.IsChosen, Metas.IsInSlot, Metas.other_slot, declared.meta.Meta.Meta, declared.meta.MetaFault.MetaFault}
 use Rattle.bolt_format.specs.declared.meta.Slot.{Slot}
-use Rattle.bolt_report.specs.{FaultWords.snapshot_fault_text, MetaLines.slot_fault_text}
-use Rattle.bolt_snapshot.specs.declared.SnapshotFault.{SnapshotFault}
+use Rattle.bolt_report.specs.{MetaLines.slot_fault_text}
+use Rattle.bolt_etcd.specs.{SnapshotFaults.snapshot_fault_text}
+use Rattle.bolt_etcd.specs.declared.snapshot.SnapshotFault.{SnapshotFault}
 use Rattle.bolt_commands.specs.SnapshotAnswers.{hash_found}
 use Rattle.bolt_job.specs.declared.choices.Extent.{Extent}
 use Rattle.bolt_job.specs.declared.choices.Extent.TheVariants.{First, LostAndFound, Losses}

@@ -5,7 +5,7 @@ use Rattle.bolt_check.specs.{Sound.IsRefused, Sound.IsSound, declared.fault.Chec
 use Rattle.bolt_check.specs.declared.fault.CheckFault.TheVariants as check
 use Rattle.bolt_format.specs.{Metas.HasBothMetas, Metas.IsChosen, Metas.IsPageSize, declared.meta.Meta.Meta, declared.meta.Slot.Slot}
 use Rattle.bolt_layout.specs.{Copies.layout_of_listing, declared.Layout.Layout}
-use Rattle.bolt_snapshot.specs.SnapshotFaults.{IsSnapshot, cut_hash_fault}
+use Rattle.bolt_etcd.specs.SnapshotFaults.{IsSnapshot, cut_hash_fault}
 use Rattle.bolt_tree.specs.Listing.{IsListing, Member}
 use Rattle.bolt_commands.specs.SnapshotAnswers.{copy_of, hash_found}
 

@@ -1,5 +1,6 @@
 pub mod Answers
 pub mod CopyEnds
+pub mod CopyLayouts
 pub mod Failures
 pub mod FileFaults
 pub mod GoodCopies

@@ -1,8 +1,8 @@
 -- What a command says of the hash of a snapshot: docs/COMMANDS.md, "Snapshots".
 use Rattle.std.specs.Prelude.{ℕ, List, ◌++◌, Bool, true, false, Option, None, Some}
 use Rattle.sha2.specs.Sha256.{sha256}
-use Rattle.bolt_snapshot.specs.{SnapshotFaults.hash_fault, declared.SnapshotFault.SnapshotFault}
-use Rattle.bolt_snapshot.specs.declared.SnapshotFault.TheVariants.{HashCutOff, HashDiffers, HashMissing}
+use Rattle.bolt_etcd.specs.{SnapshotFaults.hash_fault, declared.snapshot.SnapshotFault.SnapshotFault}
+use Rattle.bolt_etcd.specs.declared.snapshot.SnapshotFault.TheVariants.{HashCutOff, HashDiffers, HashMissing}
 
 -- what is wrong with the hash, if a snapshot is asked for
 abbrev pub hash_found : (snapshot : Bool) → List ℕ → Option SnapshotFault

@@ -11,12 +11,12 @@ use crate::failure::{Failure, Outcome};
 use crate::opening::{Input, join};
 use bolt_bulk::Shape;
 use bolt_bulk::laws::{a_recovery_is_whole, a_walk_is_whole, joined_members_are_whole};
+use bolt_etcd::{SnapshotFault, snapshot_fault};
 use bolt_format::{Meta, Sink};
 use bolt_job::{CompactJob, Extent, LoadJob};
 use bolt_load::{ListingText, a_text_is_of_one_tree};
 use bolt_recover::laws::each_file_has_a_joined_listing;
 use bolt_recover::{Lost, LostAndFound};
-use bolt_snapshot::{SnapshotFault, snapshot_fault};
 use bolt_tree::Walk;
 
 /// Writes the compact copy that is asked for to `target`, and then what is reported of it to `out`.
@@ -132,7 +132,7 @@ fn shape_of(job: &CompactJob, meta: &Meta) -> Shape
         None => u64::from(meta.page_size),
     };
     Shape {
-        layout: job.kind.layout(),
+        layout: crate::copy_layout::layout(job.kind),
         page_size,
         sequence: meta.root_sequence,
     }
@@ -165,7 +165,7 @@ pub(crate) fn write_loaded<O: Sink, T: Sink>(
     let listing = ListingText::read(input.alloc, input.file)?;
     let mut members = listing.members(input.alloc);
     a_text_is_of_one_tree();
-    let layout = job.kind.layout();
+    let layout = crate::copy_layout::layout(job.kind);
     let shape = Shape {
         layout,
         page_size: job.page_size.bytes,

@@ -4,7 +4,8 @@
 ghost use Rattle.std.specs.Prelude.{◌≡◌, List, OnOk};
 ghost use Rattle.bolt_bulk.specs.{Compacting.Copies, WholeListings.IsWhole};
 ghost use Rattle.bolt_check.specs.CheckedFiles.{bytes_of, meta_of};
-ghost use Rattle.bolt_load.specs.{LineMembers.text_members, ShownMembers.members_left, ShownMembers.members_text};
+ghost use Rattle.bolt_load.specs.{ShownMembers.members_left, ShownMembers.members_text};
+ghost use Rattle.bolt_text.specs.{LineMembers.text_members};
 ghost use Rattle.bolt_recover.specs.{Joined.IsJoined, JoinedMembers.joined_file, JoinedMembers.joined_left, JoinedMembers.joined_meta, Recovered.IsRecovered};
 ghost use Rattle.bolt_recover.specs.Recoveries.{ForLosses, recovery_file, recovery_left, recovery_losses, recovery_meta};
 ghost use Rattle.bolt_tree.specs.{Listing.IsListing, Listing.Member, Walks.left_of, Walks.walk_checked};

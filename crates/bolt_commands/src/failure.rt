@@ -9,13 +9,11 @@ ghost use Rattle.bolt_commands.specs.Private.Endings.{end_of, end_written};
 
 use bolt_bulk::BulkFault;
 use bolt_check::{CheckFault, Finding, NoMemory};
+use bolt_etcd::{SnapshotFault, snapshot_fault_text};
 use bolt_format::{MetaFault, PageFault, Sink, SinkFault};
 use bolt_load::{LineFault, LoadFault};
 use bolt_recover::JoinFault;
-use bolt_report::{
-    ReportFault, finding_text, meta_fault_text, page_fault_text, snapshot_fault_text,
-};
-use bolt_snapshot::SnapshotFault;
+use bolt_report::{ReportFault, finding_text, meta_fault_text, page_fault_text};
 use itoa::Buffer;
 use std::alloc::AllocFailed;
 

@@ -4,10 +4,10 @@ ghost use Rattle.bolt_format.specs.{Endings.ending, Wrote.Wrote};
 ghost use Rattle.bolt_commands.specs.FileFaults.{AreFileFaults, IsMetasFault, IsOtherFault, counted, errors_in, fault_lines, hash_lines, other_lines};
 ghost use Rattle.bolt_commands.specs.SnapshotAnswers.{hash_found};
 
+use bolt_etcd::{SnapshotFault, snapshot_fault, snapshot_fault_text};
 use bolt_format::{MetaFault, Sink, SinkFault, Slot, choose, slot_meta};
 use bolt_job::{CheckJob, Extent, MetaChoice};
-use bolt_report::{slot_fault_text, snapshot_fault_text};
-use bolt_snapshot::{SnapshotFault, snapshot_fault};
+use bolt_report::slot_fault_text;
 
 /// What is wrong with a file apart from its pages.
 #[derive(Clone, Copy)]

@@ -4,7 +4,7 @@ ghost use Rattle.bolt_check.specs.Sound.{HasSoundTrees};
 ghost use Rattle.bolt_format.specs.{Metas.IsMetasEnd, declared.meta.Meta.Meta};
 ghost use Rattle.bolt_layout.specs.{Copies.IsOfOneTree, declared.Layout.Layout};
 ghost use Rattle.hex.specs.Hex.{IsBytes};
-ghost use Rattle.bolt_report.specs.declared.ListForm.{ListForm};
+ghost use Rattle.bolt_text.specs.declared.forms.ListForm.{ListForm};
 ghost use Rattle.bolt_tree.specs.{Listing.IsListing, Listing.Member, Paths.Path};
 ghost use Rattle.bolt_commands.specs.Answers.{Answer, DoesJob, Ending, IsCheckAnswer, IsListedAnswer, IsReadUnder, Loads, LoadsListing, MakesCopy, done, refused};
 ghost use Rattle.bolt_commands.specs.GoodCopies.{HasGoodCopies, IsGoodCopy};
@@ -12,11 +12,12 @@ ghost use Rattle.bolt_job.specs.{MetaChoices.IsMetaOf, Needs.needs_metas_alone};
 ghost use Rattle.bolt_commands.specs.SnapshotAnswers.{bad_hash, copy_of};
 ghost use Rattle.bolt_job.specs.{declared.choices.Extent.Extent, declared.job.Job.Job};
 ghost use Rattle.bolt_job.specs.{declared.choices.MetaChoice.MetaChoice, declared.choices.PageSize.PageSize};
-ghost use Rattle.bolt_report.specs.declared.ListForm.TheVariants as form;
+ghost use Rattle.bolt_text.specs.declared.forms.ListForm.TheVariants as form;
 ghost use Rattle.bolt_job.specs.declared.choices.Extent.TheVariants as extent;
 ghost use Rattle.bolt_commands.specs.declared.failure.Failure.TheVariants as failure;
 ghost use Rattle.bolt_job.specs.declared.choices.MetaChoice.TheVariants as choice;
 
+use bolt_etcd::{hashed_blocks_are_a_snapshot, trailing_bytes_change_nothing};
 use bolt_format::Sink;
 use bolt_format::laws::{chosen_meta_is_one, metas_lie_in_a_prefix, slot_meta_is_one};
 use bolt_layout::laws::{
@@ -28,8 +29,7 @@ use bolt_load::{
 use bolt_recover::laws::{
     sound_trees_lose_nothing, sound_trees_recover_their_listing, sound_trees_recover_what_they_list,
 };
-use bolt_report::laws::hex_lines_are_the_listing_text;
-use bolt_snapshot::{hashed_blocks_are_a_snapshot, trailing_bytes_change_nothing};
+use bolt_text::laws::hex_lines_are_the_listing_text;
 use bolt_tree::laws::all_is_below_the_root;
 
 /// A job that needs the metas alone does on the bytes up to their end, which the first 80 tell,

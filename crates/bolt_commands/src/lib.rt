@@ -7,6 +7,7 @@ ghost use Rattle.bolt_commands.specs.Answers.{DoesJob, Ending, Accepts, error_te
 mod check_command;
 mod copies;
 mod copy_commands;
+mod copy_layout;
 mod copy_source;
 mod failure;
 mod file_faults;

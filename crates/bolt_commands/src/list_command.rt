@@ -2,7 +2,7 @@
 ghost use Rattle.std.specs.Prelude.{◌≡◌, ◌⊎◌, IfErr, IfOk, List, OnOk};
 ghost use Rattle.bolt_recover.specs.ShownLosses.{lost_view};
 ghost use Rattle.bolt_format.specs.Wrote.{Wrote};
-ghost use Rattle.bolt_report.specs.ReportEndings.{report_ending};
+ghost use Rattle.bolt_text.specs.ReportEndings.{report_ending};
 ghost use Rattle.bolt_tree.specs.{FileListings.ForListing, Listing.Member, Listing.member_cmp, Order.Rises, Paths.path_of};
 ghost use Rattle.bolt_commands.specs.{Answers.all_lost_ending, Private.Endings.end_of_part, Private.Opened.IsSearchOf};
 ghost use Rattle.bolt_job.specs.PlainWords.{path_in};

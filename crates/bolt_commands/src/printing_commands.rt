@@ -3,7 +3,8 @@
 ghost use Rattle.std.specs.Prelude.{◌≡◌, ◌⊎◌, IfErr, IfOk, true};
 ghost use Rattle.bolt_check.specs.{CheckedFiles.bytes_of, CheckedFiles.has_accounts, CheckedFiles.meta_of, RoledFiles.roles_checked, Sound.HasSoundTrees};
 ghost use Rattle.bolt_format.specs.{Elements.LeafElement, Endings.ending, Wrote.Wrote};
-ghost use Rattle.bolt_report.specs.{PageTables.ForRoles, ReportEndings.report_ending};
+ghost use Rattle.bolt_report.specs.{PageTables.ForRoles};
+ghost use Rattle.bolt_text.specs.{ReportEndings.report_ending};
 ghost use Rattle.bolt_tree.specs.{Buckets.bucket_checked, Buckets.bucket_start, BucketViews.entries_of, Entries.Start, Entries.Value, EntriesLeft.ForEntries};
 ghost use Rattle.bolt_commands.specs.Answers.{AddsEntry, HasNoMeta, HasStats, HoldsIn, HoldsNone, IsCheckedAnswer, IsFileRefusal, IsInfoAnswer};
 ghost use Rattle.bolt_commands.specs.Answers.{IsPageAnswer, IsPagesAnswer, IsShownMeta, IsTotal, LeadsTo, no_stats, value_shown};

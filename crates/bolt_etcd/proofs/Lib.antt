@@ -15,4 +15,9 @@ pub mod OtherSteps
 pub mod Passing
 pub mod RevisionLoops
 pub mod RevisionSteps
+pub mod SnapshotLemmas
+mod TrailingAccounts
+mod TrailingBytes
+mod TrailingMetas
+mod TrailingTrees
 pub mod Varints

@@ -2,6 +2,7 @@ pub mod Compacted
 pub mod Current
 pub mod FaultsLeft
 pub mod Follows
+pub mod Marks
 pub mod Misplaced
 pub mod MissingLeft
 pub mod MissingNumbers
@@ -17,6 +18,7 @@ pub mod RevisionsLeft
 pub mod Shown
 pub mod ShownOthers
 pub mod ShownRevisions
+pub mod SnapshotFaults
 pub mod Stores
 pub mod Told
 pub mod Wire

@@ -1,5 +1,6 @@
 //! What etcd keeps in a database file: the revisions of its keys, each a record under a revision
-//! key, in a bucket `key`. This crate knows no page. It reads the entries of buckets.
+//! key, in a bucket `key`; and the hash that it writes after a snapshot. This crate knows no page. It
+//! reads the entries of buckets.
 #![tactic(auto)]
 
 mod by_name;
@@ -16,6 +17,7 @@ mod record;
 mod revision;
 mod revision_key;
 mod revisions;
+mod snapshot;
 #[cfg(test)]
 mod tests;
 mod wire;
@@ -31,3 +33,7 @@ pub use crate::record::Record;
 pub use crate::revision::{Decoded, Revision};
 pub use crate::revision_key::RevisionKey;
 pub use crate::revisions::Revisions;
+pub use crate::snapshot::{
+    HASH_LEN, SnapshotFault, hashed_blocks_are_a_snapshot, snapshot_fault, snapshot_fault_text,
+    trailing_bytes_change_nothing,
+};

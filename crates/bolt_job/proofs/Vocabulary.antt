@@ -7,9 +7,9 @@ pub use Rattle.bolt_job.specs.LineWords.{Text}
 pub use Rattle.bolt_job.specs.PathWords.{◌>>=◌, each_part, hex_path_of, or_bad_hex, part_of, parts_by}
 pub use Rattle.bolt_job.specs.PlainWords.{Asked, asked, asked_of, assumed_of, assumed_when, first_of, is_page_size, page_size_of, path_by, path_in}
 pub use Rattle.bolt_job.specs.Syntaxes.{argument_rule, line_of}
-pub use Rattle.bolt_job.specs.declared.job.Refusal.TheVariants.{Help, Memory, Usage, Version, Word}
-pub use Rattle.bolt_job.specs.{declared.job.Job.Job, declared.choices.PageSize.PageSize, declared.job.Refusal.Refusal}
-pub use Rattle.bolt_load.specs.{Numbers.number_in}
+pub use Rattle.bolt_job.specs.declared.refusal.Refusal.TheVariants.{Help, Memory, Usage, Version, Word}
+pub use Rattle.bolt_job.specs.{declared.job.Job.Job, declared.choices.PageSize.PageSize, declared.refusal.Refusal.Refusal}
+pub use Rattle.bolt_text.specs.Numbers.{number_in}
 pub use Rattle.bolt_tree.proofs.{Filters.not_true}
 pub use Rattle.bolt_tree.specs.{Paths.Path}
 pub use Rattle.clap.proofs.WalkLemmas.{first_value-rows, list_any-map, raw_values-rows}

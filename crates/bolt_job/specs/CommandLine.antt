@@ -4,8 +4,8 @@ use Rattle.clap.specs.Words.{App, IsAmong, Kinds, Row, Rule, all_of, app_of, fau
 use Rattle.clap.specs.{declared.builder.Command.Command, declared.builder.Command.TheViews.out-Command}
 use Rattle.clap.specs.declared.error.ErrorKind.{ErrorKind}
 use Rattle.clap.specs.declared.error.ErrorKind.TheVariants as kind
-use Rattle.bolt_job.specs.{declared.job.Job.Job, declared.job.Refusal.Refusal}
-use Rattle.bolt_job.specs.declared.job.Refusal.TheVariants.{Memory, Help, Version, Usage, Word}
+use Rattle.bolt_job.specs.{declared.job.Job.Job, declared.refusal.Refusal.Refusal}
+use Rattle.bolt_job.specs.declared.refusal.Refusal.TheVariants.{Memory, Help, Version, Usage, Word}
 use Rattle.bolt_job.specs.LineWords.{Text}
 use Rattle.bolt_job.specs.PlainWords.{Asked, Values, asked, asked_of, lines}
 

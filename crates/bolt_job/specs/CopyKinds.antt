@@ -1,13 +1,7 @@
 -- The kinds of copies: docs/COMMANDS.md, "What a run writes".
 use Rattle.std.specs.Prelude.{Bool, true, false}
-use Rattle.bolt_layout.specs.{declared.Layout.Layout, declared.Layout.TheVariants.Balanced, declared.Layout.TheVariants.Plain}
 use Rattle.bolt_job.specs.declared.choices.CopyKind.{CopyKind}
 use Rattle.bolt_job.specs.declared.choices.CopyKind.TheVariants as kind
-
--- only a plain copy has the plain layout
-abbrev pub layout_for : CopyKind → Layout
-layout_for kind.Plain = Plain
-layout_for _ = Balanced
 
 -- whether it ends with its hash
 abbrev pub is_snapshot : CopyKind → Bool

@@ -1,12 +1,12 @@
 -- The forms that a command line names, each by its word: docs/COMMANDS.md, "Words".
 use Rattle.std.specs.Prelude.{List, [], ◌∷◌, ◌++◌, Option, Some, None, Result, Ok, Err, codes, if◌then◌else◌, map}
 use Rattle.std.specs.Str.{bytes_eq}
-use Rattle.bolt_report.specs.declared.FigureForm.{FigureForm}
-use Rattle.bolt_report.specs.declared.FigureForm.TheVariants as figure_form
-use Rattle.bolt_report.specs.declared.Form.{Form}
-use Rattle.bolt_report.specs.declared.Form.TheVariants as form
-use Rattle.bolt_report.specs.declared.ListForm.{ListForm}
-use Rattle.bolt_report.specs.declared.ListForm.TheVariants as list_form
+use Rattle.bolt_text.specs.declared.forms.FigureForm.{FigureForm}
+use Rattle.bolt_text.specs.declared.forms.FigureForm.TheVariants as figure_form
+use Rattle.bolt_text.specs.declared.forms.Form.{Form}
+use Rattle.bolt_text.specs.declared.forms.Form.TheVariants as form
+use Rattle.bolt_text.specs.declared.forms.ListForm.{ListForm}
+use Rattle.bolt_text.specs.declared.forms.ListForm.TheVariants as list_form
 use Rattle.bolt_job.specs.LineWords.{Text}
 
 -- what can be printed of keys, of a listing, and of figures

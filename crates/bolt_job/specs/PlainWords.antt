@@ -5,8 +5,8 @@ use Rattle.std.specs.Str.{bytes_eq}
 use Rattle.bolt_check.specs.Keys.{Key}
 use Rattle.bolt_tree.specs.Paths.{Path}
 use Rattle.bolt_format.specs.{Metas.page_sizes, declared.meta.Slot.Slot, declared.meta.Slot.TheVariants.One, declared.meta.Slot.TheVariants.Zero}
-use Rattle.bolt_load.specs.Numbers.{decimal_value, is_number, number_in}
-use Rattle.bolt_report.specs.{declared.FigureForm.FigureForm, declared.Form.Form, declared.ListForm.ListForm}
+use Rattle.bolt_text.specs.Numbers.{decimal_value, is_number, number_in}
+use Rattle.bolt_text.specs.{declared.forms.FigureForm.FigureForm, declared.forms.Form.Form, declared.forms.ListForm.ListForm}
 use Rattle.bolt_job.specs.FormWords.{figure_form_by, form_by, list_form_by}
 use Rattle.clap.specs.Words.{Rule, new_rule}
 use Rattle.bolt_job.specs.LineWords.{Text, alone, by_letter, by_name, needed, several, valued}

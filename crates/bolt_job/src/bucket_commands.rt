@@ -4,12 +4,11 @@ ghost use Rattle.bolt_job.specs.CommandLine.{Gives};
 ghost use Rattle.bolt_job.specs.PlainWords.{asked_of, asks_buckets, asks_get, asks_keys, asks_list, asks_stats};
 ghost use Rattle.bolt_job.specs.Private.CommandLines.{values_of};
 
-use crate::choices::{Extent, MetaChoice};
 use crate::command_line::{Argument, Flag, Syntax};
-use crate::job::{Job, Refusal};
+use crate::job::{BucketsJob, GetJob, Job, KeysJob, ListJob, StatsJob};
 use crate::line::Line;
 use crate::page_commands::{ASSUME_META, FIGURE_FORM, FILE, META};
-use bolt_report::{FigureForm, Form, ListForm};
+use crate::refusal::Refusal;
 
 const BUCKET_PART: Argument = Argument {
     name: "PART",
@@ -114,17 +113,6 @@ pub(crate) static BUCKETS: Syntax = Syntax {
     note: None,
 };
 
-/// Print the buckets in the bucket at a path.
-#[derive(Drop)]
-pub struct BucketsJob {
-    pub file: String,
-    pub meta: MetaChoice,
-    pub form: Form,
-    pub path: Vec<Vec<u8>>,
-    /// Whether to print the sizes of each with its name.
-    pub sizes: bool,
-}
-
 pub(crate) fn read_buckets(line: &Line<'_, '_>) -> Result<Job, Refusal>
     ensures { Gives asked_of (asks_buckets (values_of line.now)) result }
 {
@@ -143,16 +131,6 @@ pub(crate) static KEYS: Syntax = Syntax {
     arguments: &[FILE, BUCKET_PART, PREFIX, FORM, PARTS, META, ASSUME_META],
     note: None,
 };
-
-/// Print the keys of the bucket at a path that begin with a prefix.
-#[derive(Drop)]
-pub struct KeysJob {
-    pub file: String,
-    pub meta: MetaChoice,
-    pub form: Form,
-    pub path: Vec<Vec<u8>>,
-    pub prefix: Vec<u8>,
-}
 
 pub(crate) fn read_keys(line: &Line<'_, '_>) -> Result<Job, Refusal>
     ensures { Gives asked_of (asks_keys (values_of line.now)) result }
@@ -173,17 +151,6 @@ pub(crate) static GET: Syntax = Syntax {
     note: None,
 };
 
-/// Print the value at a path.
-#[derive(Drop)]
-pub struct GetJob {
-    pub file: String,
-    pub meta: MetaChoice,
-    pub form: Form,
-    pub path: Vec<Vec<u8>>,
-    /// Whether to print no line feed after it.
-    pub no_newline: bool,
-}
-
 pub(crate) fn read_get(line: &Line<'_, '_>) -> Result<Job, Refusal>
     ensures { Gives asked_of (asks_get (values_of line.now)) result }
 {
@@ -202,16 +169,6 @@ pub(crate) static STATS: Syntax = Syntax {
     arguments: &[FILE, BUCKET_IN, FIGURE_FORM, PARTS, META, ASSUME_META],
     note: None,
 };
-
-/// Print the figures of the bucket at a path and of all in it. At the empty path they are those of
-/// the root's buckets, added up.
-#[derive(Drop)]
-pub struct StatsJob {
-    pub file: String,
-    pub meta: MetaChoice,
-    pub form: FigureForm,
-    pub path: Vec<Vec<u8>>,
-}
 
 pub(crate) fn read_stats(line: &Line<'_, '_>) -> Result<Job, Refusal>
     ensures { Gives asked_of (asks_stats (values_of line.now)) result }
@@ -240,18 +197,6 @@ pub(crate) static LIST: Syntax = Syntax {
     ],
     note: None,
 };
-
-/// Print the part of the listing at and below a path, without what comes before another path. Both
-/// are empty if the whole listing is wanted.
-#[derive(Drop)]
-pub struct ListJob {
-    pub file: String,
-    pub meta: MetaChoice,
-    pub form: ListForm,
-    pub path: Vec<Vec<u8>>,
-    pub from: Vec<Vec<u8>>,
-    pub extent: Extent,
-}
 
 pub(crate) fn read_list(line: &Line<'_, '_>) -> Result<Job, Refusal>
     ensures { Gives asked_of (asks_list (values_of line.now)) result }

@@ -4,7 +4,6 @@ ghost use Rattle.bolt_format.specs.Metas.{IsPageSize};
 
 use bolt_check::assumed_meta;
 use bolt_format::{Meta, MetaFault, Slot, choose, page_size_ok, slot_meta};
-use bolt_layout::Layout;
 
 /// An accepted page size. By this type `run` requires nothing of its job.
 #[derive(Clone, Copy)]
@@ -97,17 +96,7 @@ pub enum CopyKind {
 }
 
 impl CopyKind {
-    ghost use Rattle.bolt_job.specs.CopyKinds.{is_snapshot, layout_for};
-
-    /// The layout of the copy.
-    pub fn layout(self) -> Layout
-        ensures { result ≡ layout_for self }
-    {
-        match self {
-            CopyKind::Plain => Layout::Plain,
-            CopyKind::ForBbolt | CopyKind::EtcdSnapshot => Layout::Balanced,
-        }
-    }
+    ghost use Rattle.bolt_job.specs.CopyKinds.{is_snapshot};
 
     /// Whether the copy ends with its hash.
     pub fn is_snapshot(self) -> bool

@@ -7,11 +7,10 @@ ghost use Rattle.bolt_job.specs.PlainWords.{assumed_of, copy_kind_by, extent_by,
 ghost use Rattle.bolt_job.specs.Private.CommandLines.{IsAssumedBy, values_of};
 
 use crate::choices::{AssumedMeta, CopyKind, Extent, MetaChoice, PageSize};
-use crate::job::Refusal;
 use crate::path_words::{read_from, read_path, read_prefix};
+use crate::refusal::Refusal;
 use bolt_format::Slot;
-use bolt_load::{Parts, read_number};
-use bolt_report::{FigureForm, Form, ListForm};
+use bolt_text::{FigureForm, Form, ListForm, Parts, read_number};
 use clap::ArgMatches;
 use std::alloc::Global;
 

@@ -4,12 +4,10 @@ ghost use Rattle.bolt_job.specs.CommandLine.{Gives};
 ghost use Rattle.bolt_job.specs.PlainWords.{asked_of, asks_check, asks_info, asks_page, asks_pages};
 ghost use Rattle.bolt_job.specs.Private.CommandLines.{values_of};
 
-use crate::choices::{Extent, MetaChoice};
 use crate::command_line::{Argument, Flag, Syntax};
-use crate::job::{Job, Refusal};
+use crate::job::{CheckJob, InfoJob, Job, PageJob, PagesJob};
 use crate::line::Line;
-use bolt_format::Slot;
-use bolt_report::FigureForm;
+use crate::refusal::Refusal;
 
 pub(crate) const FILE: Argument = Argument {
     name: "FILE",
@@ -98,14 +96,6 @@ pub(crate) static INFO: Syntax = Syntax {
     note: None,
 };
 
-/// Print the meta in a slot, or the active one.
-#[derive(Drop)]
-pub struct InfoJob {
-    pub file: String,
-    pub slot: Option<Slot>,
-    pub form: FigureForm,
-}
-
 pub(crate) fn read_info(line: &Line<'_, '_>) -> Result<Job, Refusal>
     ensures { Gives asked_of (asks_info (values_of line.now)) result }
 {
@@ -122,14 +112,6 @@ pub(crate) static PAGE: Syntax = Syntax {
     arguments: &[FILE, ID, ASSUME_META],
     note: None,
 };
-
-/// Print one page.
-#[derive(Drop)]
-pub struct PageJob {
-    pub file: String,
-    pub meta: MetaChoice,
-    pub id: u64,
-}
 
 pub(crate) fn read_page(line: &Line<'_, '_>) -> Result<Job, Refusal>
     ensures { Gives asked_of (asks_page (values_of line.now)) result }
@@ -148,14 +130,6 @@ pub(crate) static PAGES: Syntax = Syntax {
     note: None,
 };
 
-/// Print all pages.
-#[derive(Drop)]
-pub struct PagesJob {
-    pub file: String,
-    /// Whether to print a map of them, and not their table.
-    pub map: bool,
-}
-
 pub(crate) fn read_pages(line: &Line<'_, '_>) -> Result<Job, Refusal>
     ensures { Gives asked_of (asks_pages (values_of line.now)) result }
 {
@@ -171,16 +145,6 @@ pub(crate) static CHECK: Syntax = Syntax {
     arguments: &[FILE, ALL, LOST_AND_FOUND, CHECK_SNAPSHOT, META, ASSUME_META],
     note: None,
 };
-
-/// Check whether the file is sound.
-#[derive(Drop)]
-pub struct CheckJob {
-    pub file: String,
-    pub meta: MetaChoice,
-    pub extent: Extent,
-    /// Whether to check first that the file ends with the SHA-256 of what is before it.
-    pub snapshot: bool,
-}
 
 pub(crate) fn read_check(line: &Line<'_, '_>) -> Result<Job, Refusal>
     ensures { Gives asked_of (asks_check (values_of line.now)) result }

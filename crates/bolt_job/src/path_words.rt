@@ -5,8 +5,8 @@ ghost use Rattle.bolt_job.specs.CommandLine.{Gives};
 ghost use Rattle.bolt_job.specs.PathWords.{each_part, hex_path_by, hex_path_of, part_of, prefix_of};
 ghost use Rattle.bolt_job.specs.PlainWords.{path_in};
 
-use crate::job::Refusal;
-use bolt_load::Parts;
+use crate::refusal::Refusal;
+use bolt_text::Parts;
 use hex::FromHexError;
 use std::alloc::{AllocError, Global};
 

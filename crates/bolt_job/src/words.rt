@@ -5,8 +5,10 @@ ghost use Rattle.bolt_job.specs.CommandLine.{Asks, Gives, HasKindOf, IsCommand, 
 ghost use Rattle.bolt_job.specs.PlainWords.{asked_of};
 
 use crate::command_line::{bare_program, with_commands};
-use crate::job::{Job, Refusal, commands, read_command};
+use crate::commands::{commands, read_command};
+use crate::job::Job;
 use crate::line::Line;
+use crate::refusal::Refusal;
 use clap::error::ErrorKind;
 use clap::{ArgMatches, Command, Error};
 use std::alloc::{AllocError, Global};

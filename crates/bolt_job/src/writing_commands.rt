@@ -5,11 +5,11 @@ ghost use Rattle.bolt_job.specs.PlainWords.{asked_of, asks_compact, asks_load};
 ghost use Rattle.bolt_job.specs.Private.CommandLines.{values_of};
 
 use crate::bucket_commands::{JOIN, RECOVER};
-use crate::choices::{CopyKind, Extent, MetaChoice, PageSize};
 use crate::command_line::{Argument, Flag, Syntax};
-use crate::job::{Job, Refusal};
+use crate::job::{CompactJob, Job, LoadJob};
 use crate::line::Line;
 use crate::page_commands::{ASSUME_META, FILE, META};
+use crate::refusal::Refusal;
 
 const LISTING: Argument = Argument {
     name: "FILE",
@@ -88,19 +88,6 @@ pub(crate) static COMPACT: Syntax = Syntax {
     note: Some(COPY_NOTE),
 };
 
-/// Write a compact copy to another file.
-#[derive(Drop)]
-pub struct CompactJob {
-    pub file: String,
-    pub meta: MetaChoice,
-    /// The name of OUT.
-    pub target: String,
-    /// The page size of the copy. Without one it is that of the file.
-    pub page_size: Option<PageSize>,
-    pub kind: CopyKind,
-    pub extent: Extent,
-}
-
 pub(crate) fn read_compact(line: &Line<'_, '_>) -> Result<Job, Refusal>
     ensures { Gives asked_of (asks_compact (values_of line.now)) result }
 {
@@ -127,19 +114,6 @@ pub(crate) static LOAD: Syntax = Syntax {
     ],
     note: Some(COPY_NOTE),
 };
-
-/// Write a database of the lines of a listing to another file.
-#[derive(Drop)]
-pub struct LoadJob {
-    /// The name of the file that has the lines.
-    pub file: String,
-    /// The name of OUT.
-    pub target: String,
-    /// The sequence of the root bucket.
-    pub sequence: u64,
-    pub page_size: PageSize,
-    pub kind: CopyKind,
-}
 
 pub(crate) fn read_load(line: &Line<'_, '_>) -> Result<Job, Refusal>
     ensures { Gives asked_of (asks_load (values_of line.now)) result }

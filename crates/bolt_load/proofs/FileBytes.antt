@@ -8,7 +8,7 @@ use Rattle.bolt_format.specs.Bytes.{IsBytes}
 use Rattle.bolt_format.specs.Elements.{IsBucketValue, LeafElement, head_root, head_sequence, inline_bytes, inline_elements, leaf_element, leaf_end, leaf_key_start, leaf_value_start}
 use Rattle.bolt_format.specs.{Pages.span_bytes, declared.meta.Meta.Meta}
 use Rattle.bolt_format.proofs.{ElementFacts.drop_bytes, PageFacts.bucket_value, PageFacts.flat_inline, PageFacts.in_inline, PageFacts.on_leaf}
-use Rattle.bolt_report.specs.JsonReadings.{IsItemOfBytes}
+use Rattle.bolt_text.specs.JsonReadings.{IsItemOfBytes}
 use Rattle.bolt_tree.specs.{Entries.Inline_page, Entries.IsEntry, Entries.Root_page, Entries.Start, Entries.item_of, Entries.start_of, Listing.IsListing}
 use Rattle.bolt_tree.specs.Paths.{Holds}
 use Rattle.bolt_layout.specs.Storable.{IsFitMember}

@@ -1,14 +1,9 @@
-pub mod CutLemmas
-pub mod DecimalNumbers
 pub mod DecodedLines
-pub mod DigitLemmas
 pub mod EdgeTrees
 pub mod FileBytes
 pub mod LastPaths
-pub mod LineLemmas
 pub mod ListingTexts
 pub mod MemberLemmas
-pub mod MixedParts
 pub mod NextLines
 pub mod OpenTests
 pub mod PathLemmas
@@ -19,6 +14,5 @@ pub mod ReadTexts
 pub mod RightTexts
 pub mod StoredTexts
 pub mod TextTrees
-pub mod WordLemmas
-pub mod WrittenLines
 mod Words
+pub mod WrittenLines

@@ -1,7 +1,8 @@
 -- The places of lines are tested one after another.
 use Rattle.std.proofs.Common.{◌≡◌, ◌∙◌, ◌<◌, ◌≤◌, ◌+◌, ◌==◌, ℕ, Bool, true, false, List, [], ◌∷◌, ◌++◌, Option, Some, None, length, Bor, refl, sym, ap, ap₂, subst, arith, append_assoc, append-nil, length-append}
 use Rattle.bolt_load.proofs.Words.{All, fault_after, fault_by, filter_map-append, GivesLine, hex_path_in, is_bucket, is_lt, is_open, IsFirstFault, Item, item_in, Key, length-map, less_lt, line_fault, line_member, LineFault, lines_of, Member, member_in, members_in, option_and_then, option_map, option_or, part_in, parts_in, Path, path_above, path_cmp, path_of, place_fault, RightAfter, slice_split, Text}
-use Rattle.bolt_load.proofs.{CutLemmas.some_parts, DecodedLines.IsShaped, DecodedLines.members_push}
+use Rattle.bolt_text.proofs.CutLemmas.{some_parts}
+use Rattle.bolt_load.proofs.DecodedLines.{IsShaped, members_push}
 use Rattle.bolt_load.proofs.LastPaths.{IsLast, next_last, none_last, path_open, place_same}
 use Rattle.bolt_load.proofs.NextLines.{first_of, others_of, parts_of}
 

@@ -2,7 +2,8 @@
 use Rattle.std.proofs.Common.{◌≡◌, ◌∙◌, ◌==◌, ◌≤◌, ℕ, false, List, [], ◌∷◌, ◌++◌, Option, Some, None, length, inl, inr, refl, sym, ap, subst, arith}
 use Rattle.std.proofs.lemmas.Bool.{eqb-false, ltb-false, or_parts}
 use Rattle.bolt_load.proofs.Words.{Bucket, bytes_eq, cases_Bool, Has, has_from_contains, hex_bytes_in, hex_path_in, if◌then◌else◌, is_long_item, is_long_key, IsFitItem, IsListingText, Item, item_in, Key, KeyTooLong, length_fault, line_member, LineFault, lines_of, list_any, Member, member_in, members_in, number_in, option_and_then, option_map, option_map_or, part_in, parts_in, Path, place_fault, RightAfter, shape_fault, slice_split, Text, text_members, Value, ValueTooLong}
-use Rattle.bolt_load.proofs.{DecimalNumbers.number_is, DecodedLines.shaped_member, NextLines.members_first, NextLines.parts_of}
+use Rattle.bolt_text.proofs.DecimalNumbers.{number_is}
+use Rattle.bolt_load.proofs.{DecodedLines.shaped_member, NextLines.members_first, NextLines.parts_of}
 use Rattle.bolt_load.proofs.{PathLemmas.digits_are, PathLemmas.part_is, PathLemmas.with_some, TextTrees.or_parts_none, TextTrees.text_tree}
 use Rattle.std.specs.Prelude.{codes}
 use Rattle.bolt_format.specs.ElementLengths.{IsKeyLength}

@@ -1,26 +1,37 @@
 -- The words that the proofs of this crate cite, passed on from the modules that define them.
 pub use Rattle.bolt_check.specs.Keys.{Key}
 pub use Rattle.bolt_layout.specs.Storable.{IsFitItem}
-pub use Rattle.bolt_load.specs.HexPaths.{hex_bytes_in, part_in, parts_in}
-pub use Rattle.bolt_load.specs.LineFaults.{IsCutOff, IsFaultOfLines, IsFirstFault, IsListingText, IsLoadFault, RightAfter, is_above_last, is_long_item, is_long_key, length_fault, line_fault, path_above, place_fault, shape_fault}
-pub use Rattle.bolt_load.specs.{LineMembers.item_in, LineMembers.member_in, LineMembers.members_in, LineMembers.text_members, Lines.Text, Numbers.number_in}
-pub use Rattle.bolt_load.specs.Private.Cuts.{IsCut, IsFirstLine, IsWithout}
+pub use Rattle.bolt_load.specs.LineFaults.{IsFaultOfLines, IsFirstFault, IsListingText, IsLoadFault, RightAfter, is_above_last, is_long_item, is_long_key, length_fault, line_fault, path_above, place_fault, shape_fault}
 pub use Rattle.bolt_load.specs.Private.Decoding.{Adds, AreDecoded, BeginsWith, GivesLine, StopsAt, item_bytes, member_bytes, path_bytes}
-pub use Rattle.bolt_load.specs.{Private.LineWords.word_item, Private.OpenPaths.fault_after, Private.OpenPaths.fault_by, Private.OpenPaths.is_open}
+pub use Rattle.bolt_load.specs.Private.OpenPaths.{fault_after, fault_by, is_open}
+unfoldable pub use Rattle.bolt_load.specs.ShownMembers.{members_left, members_path}
 pub use Rattle.bolt_load.specs.declared.fault.LineFault.{LineFault}
 pub use Rattle.bolt_load.specs.declared.fault.LineFault.TheVariants.{KeyTooLong, NotALine, ValueTooLong}
-unfoldable pub use Rattle.bolt_load.specs.{HexPaths.hex_path_in, LineMembers.line_member, Lines.lines_of, ShownMembers.members_left, ShownMembers.members_path}
-pub use Rattle.bolt_report.specs.{JsonReadings.ArePartsBytes, JsonReadings.IsMemberOfBytes, Lines.line, ListLines.hex_path, ListLines.listing_text}
-unfoldable pub use Rattle.bolt_report.specs.{ListLines.item_end, ListLines.member_line, PageLines.value_end}
-pub use Rattle.bolt_tree.proofs.{ListLemmas.Has, ListLemmas.contains_from_has, ListLemmas.has_from_contains, ListLemmas.has_split, PartLemmas.begins_of}
+pub use Rattle.bolt_text.specs.Cuts.{IsCut, IsFirstLine, IsWithout}
+pub use Rattle.bolt_text.specs.HexPaths.{hex_bytes_in, part_in, parts_in}
+unfoldable pub use Rattle.bolt_text.specs.HexPaths.{hex_path_in}
+pub use Rattle.bolt_text.specs.JsonReadings.{ArePartsBytes, IsMemberOfBytes}
+pub use Rattle.bolt_text.specs.LineMembers.{item_in, member_in, members_in, text_members}
+unfoldable pub use Rattle.bolt_text.specs.LineMembers.{line_member}
+pub use Rattle.bolt_text.specs.LineWords.{word_item}
+pub use Rattle.bolt_text.specs.Lines.{Text, line}
+unfoldable pub use Rattle.bolt_text.specs.Lines.{lines_of}
+pub use Rattle.bolt_text.specs.ListLines.{hex_path, listing_text}
+unfoldable pub use Rattle.bolt_text.specs.ListLines.{item_end, member_line, value_end}
+pub use Rattle.bolt_text.specs.Numbers.{number_in}
+pub use Rattle.bolt_tree.proofs.ListLemmas.{Has, contains_from_has, has_from_contains, has_split}
+pub use Rattle.bolt_tree.proofs.PartLemmas.{begins_of}
 pub use Rattle.bolt_tree.proofs.PathOrder.{less_lt, path_total}
-pub use Rattle.bolt_tree.specs.{Entries.Bucket, Entries.Item, Entries.Value, Listing.Member, Listing.member_cmp}
-pub use Rattle.bolt_tree.specs.{ListingParts.begins_with, ListingParts.has_bucket, ListingParts.is_bucket, Order.Rises}
-pub use Rattle.bolt_tree.specs.{Paths.Path, Paths.path_cmp, Paths.path_of, ShownEntries.item_view}
+pub use Rattle.bolt_tree.specs.Entries.{Bucket, Item, Value}
+pub use Rattle.bolt_tree.specs.Listing.{Member, member_cmp}
+pub use Rattle.bolt_tree.specs.ListingParts.{begins_with, has_bucket, is_bucket}
+pub use Rattle.bolt_tree.specs.Order.{Rises}
+pub use Rattle.bolt_tree.specs.Paths.{Path, path_cmp, path_of}
+pub use Rattle.bolt_tree.specs.ShownEntries.{item_view}
 pub use Rattle.bolt_tree.specs.Tree.{Tree, end, listing_below, listing_of, with_bucket, with_value}
 pub use Rattle.hex.specs.Hex.{digit_or_error, encode_lower, hex_digit_value, lower_digits, pair_value, value_at, ◌>>=◌}
-pub use Rattle.hex.specs.declared.error.FromHexError.{FromHexError}
 unfoldable pub use Rattle.hex.specs.Hex.{decode_pairs, encode_with}
+pub use Rattle.hex.specs.declared.error.FromHexError.{FromHexError}
 pub use Rattle.std.proofs.Math.Seq.{drop-append_seam, take-append_seam}
 pub use Rattle.std.proofs.lemmas.Bool.{and_parts, cases_Bool, cases_lt}
 pub use Rattle.std.proofs.lemmas.Bool.Decides.{nat_tests}

@@ -1,11 +1,6 @@
 pub mod ByteMembers
 pub mod FaultWords
-pub mod HexPaths
 pub mod LineFaults
-pub mod LineMembers
-pub mod Lines
-pub mod Numbers
-pub mod PartWords
 pub mod PlainTexts
 pub mod Private
 pub mod ShownMembers

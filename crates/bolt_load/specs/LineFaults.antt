@@ -5,7 +5,8 @@ use Rattle.std.specs.Option.{option_map_or, option_or}
 use Rattle.std.specs.Ordering.{is_lt}
 use Rattle.bolt_check.specs.Keys.{Key}
 use Rattle.bolt_tree.specs.{Entries.Bucket, Entries.Item, Entries.Value, Listing.Member, ListingParts.has_bucket, Paths.Path, Paths.path_cmp}
-use Rattle.bolt_load.specs.{LineMembers.line_member, LineMembers.members_in, Lines.Text, Lines.lines_of, declared.fault.LineFault.LineFault}
+use Rattle.bolt_text.specs.{LineMembers.line_member, LineMembers.members_in, Lines.Text, Lines.lines_of}
+use Rattle.bolt_load.specs.declared.fault.LineFault.{LineFault}
 use Rattle.bolt_load.specs.{declared.fault.LoadFault.LoadFault, declared.fault.LoadFault.TheVariants.Line, declared.fault.LoadFault.TheVariants.Memory}
 use Rattle.bolt_load.specs.declared.fault.LineFault.TheVariants.{CutOff, KeyTooLong, NoBucketAbove, NotALine, PathNotRising, ValueTooLong}
 

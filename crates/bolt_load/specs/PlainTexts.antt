@@ -2,7 +2,7 @@
 use Rattle.std.specs.Prelude.{◌==◌, List, [], ◌∷◌, ◌++◌, codes, decimal, flat_map, if◌then◌else◌}
 use Rattle.std.specs.List.{join_with_byte, slice_split}
 use Rattle.std.specs.Str.{bytes_eq, str_to_ascii_lowercase}
-use Rattle.bolt_load.specs.{Lines.Text, Lines.lines_of, Numbers.decimal_value}
+use Rattle.bolt_text.specs.{Lines.Text, Lines.lines_of, Numbers.decimal_value}
 
 -- a number without leading zeros, or digits of a value in lower case
 abbrev pub plain_word : (mark word : Text) → Text

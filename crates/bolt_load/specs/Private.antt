@@ -1,4 +1,2 @@
-pub mod Cuts
 pub mod Decoding
-pub mod LineWords
 pub mod OpenPaths

@@ -1,6 +1,7 @@
 -- What the text of a listing shows, and what its members show: the text, the part of it that is left, and the path of the last member.
 use Rattle.bolt_tree.specs.Paths.{Path, path_of}
-use Rattle.bolt_load.specs.{Lines.Text, declared.line_members.LineMembers.LineMembers, declared.listing_text.ListingText.ListingText}
+use Rattle.bolt_text.specs.Lines.{Text}
+use Rattle.bolt_load.specs.{declared.line_members.LineMembers.LineMembers, declared.listing_text.ListingText.ListingText}
 
 unfoldable pub read_text : ListingText → Text
 read_text listing = listing.text.now

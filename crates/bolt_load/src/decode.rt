@@ -1,19 +1,17 @@
 //! Decodes what a text has in hexadecimal.
-ghost use Rattle.std.specs.Prelude.{◌≡◌, ◌++◌, ◌∷◌, All, IfNone, IfOk, IfSome, OnOk, List, None, Some, is_some, option_map, ◌<◌, ◌*◌, MatchResult, false, length, true};
+ghost use Rattle.std.specs.Prelude.{◌≡◌, ◌++◌, ◌∷◌, All, IfNone, IfOk, IfSome, OnOk, None, Some, is_some, option_map};
 ghost use Rattle.std.specs.List.{list_any};
-ghost use Rattle.std.specs.Bool.{OnTrue};
-ghost use Rattle.std.specs.Char.{is_ascii_hexdigit};
 ghost use Rattle.bolt_tree.specs.Paths.{Path};
-ghost use Rattle.bolt_load.specs.{HexPaths.hex_bytes_in, HexPaths.hex_path_in, HexPaths.part_in, LineFaults.is_long_key, LineFaults.shape_fault};
-ghost use Rattle.bolt_load.specs.{LineMembers.line_member, Lines.Text, Lines.lines_of};
+ghost use Rattle.bolt_text.specs.HexPaths.{hex_bytes_in, hex_path_in, part_in};
+ghost use Rattle.bolt_load.specs.LineFaults.{is_long_key, shape_fault};
+ghost use Rattle.bolt_text.specs.{LineMembers.line_member, Lines.lines_of};
 ghost use Rattle.bolt_load.specs.Private.Decoding.{Adds, AreDecoded, StopsAt, member_bytes, path_bytes};
-ghost use Rattle.bolt_load.specs.Private.LineWords.{word_item, words_member};
-ghost use Rattle.hex.specs.Hex.{decode_sized, hex_digit_value};
+ghost use Rattle.bolt_text.specs.LineWords.{word_item, words_member};
 ghost use Rattle.bolt_tree.specs.Entries as entries;
 ghost use Rattle.bolt_load.specs.LineFaults as faults;
 
 use crate::fault::LineFault;
-use crate::line_words::{ItemWord, LineWords, cut_at, first_line, words_of};
+use bolt_text::{ItemWord, LineWords, cut_at, decode_digits, first_line, words_of};
 use bolt_tree::NoMemory;
 use std::alloc::Global;
 
@@ -152,31 +150,4 @@ pub(crate) fn decode(alloc: Global, text: &[u8]) -> Result<Decoded<'_>, NoMemory
         bytes,
         fault: None,
     })
-}
-
-/// The value of a hexadecimal digit in either case. Of other bytes, it is any.
-fn digit_value(digit: u8) -> u8
-    ensures value { OnTrue (is_ascii_hexdigit digit) (hex_digit_value digit ≡ Some result) }
-    ensures small { result < 16 }
-{
-    (digit % 16 + 9 * (digit / 64)) % 16
-}
-
-/// Decodes two digits for each byte of `out`. Returns whether they are all digits.
-///
-/// Decoding takes much of the time of a load. The library `hex` finds the value of a digit by branches,
-/// which numerals and letters take in turns. Here nothing branches on a digit: the bytes of other digits are decoded
-/// too, and only the result says that they aren't digits.
-fn decode_digits(digits: &[u8], out: &mut [u8]) -> bool
-    requires { length digits.now ≡ 2 * length out.old }
-    ensures { MatchResult (decode_sized digits.now (length out.old)) (λ bytes. (result ≡ true) × (out.new ≡ bytes)) (λ _. result ≡ false) }
-{
-    let mut all = true;
-    for i in 0..out.len() {
-        let high = digits[2 * i];
-        let low = digits[2 * i + 1];
-        all = all & high.is_ascii_hexdigit() & low.is_ascii_hexdigit();
-        out[i] = digit_value(high) * 16 + digit_value(low);
-    }
-    all
 }

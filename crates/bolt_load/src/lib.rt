@@ -6,12 +6,10 @@
 mod decode;
 mod fault;
 mod line_members;
-mod line_words;
 mod listing_text;
 
 pub use fault::{LineFault, LoadFault};
 pub use line_members::LineMembers;
-pub use line_words::{Parts, mixed_items_read_back, read_number};
 pub use listing_text::{
     ListingText, a_files_listing_is_of_bytes, a_listings_text_is_read_back,
     a_right_text_has_no_fault, a_text_is_of_one_tree, a_text_is_that_of_its_listing,

@@ -2,11 +2,11 @@
 ghost use Rattle.std.specs.Option.{option_map};
 ghost use Rattle.std.specs.Prelude.{◌≡◌, ◌<◌, ◌++◌, [], IfOk, IfNone, IfSome, IsSomeAnd, OnErr, Some, length};
 ghost use Rattle.bolt_tree.specs.{Paths.Path, Paths.path_of, ShownEntries.item_view, Walks.GivesNext};
-ghost use Rattle.bolt_load.specs.{HexPaths.hex_path_in, LineMembers.text_members, Lines.lines_of};
+ghost use Rattle.bolt_text.specs.{HexPaths.hex_path_in, LineMembers.text_members, Lines.lines_of};
 ghost use Rattle.bolt_load.specs.Private.Decoding.{AreDecoded, BeginsWith, GivesLine, item_bytes, path_bytes};
-ghost use Rattle.bolt_load.specs.Private.LineWords.{word_item};
+ghost use Rattle.bolt_text.specs.LineWords.{word_item};
 
-use crate::line_words::{ItemWord, cut_at, first_line, words_of};
+use bolt_text::{ItemWord, cut_at, first_line, words_of};
 use bolt_tree::{Item, Members, NoMemory};
 use std::alloc::{AllocError, Global};
 use std::mem;

@@ -1,17 +1,17 @@
 //! The text of a listing: its lines are tested, also that their paths rise and that each stands below
 //! the line of its bucket. And the laws of such texts.
 ghost use Rattle.std.specs.List.{All};
-ghost use Rattle.std.specs.Ordering.{is_lt};
 ghost use Rattle.std.specs.Prelude.{◌≡◌, ◌<◌, ◌≤◌, ℕ, [], IfErr, IfOk, List, None, OnOk, length};
 ghost use Rattle.bolt_format.specs.{Bytes.IsBytes, declared.meta.Meta.Meta};
-ghost use Rattle.bolt_tree.specs.{Listing.IsListing, Listing.Member, Listing.member_cmp, ListingParts.begins_with, Order.Rises, Paths.path_cmp, Paths.path_of};
+ghost use Rattle.bolt_tree.specs.{Listing.IsListing, Listing.Member, Listing.member_cmp, Order.Rises, Paths.path_of};
 ghost use Rattle.bolt_layout.specs.Copies.{IsOfOneTree};
-ghost use Rattle.bolt_report.specs.ListLines.{listing_text};
+ghost use Rattle.bolt_text.specs.ListLines.{listing_text};
 ghost use Rattle.bolt_load.specs.LineFaults as faults;
 ghost use Rattle.bolt_load.specs.LineFaults.{IsFaultOfLines, IsListingText, IsLoadFault, RightAfter, shape_fault};
 ghost use Rattle.bolt_load.specs.declared.fault.LineFault.TheVariants.{CutOff};
 ghost use Rattle.bolt_load.specs.declared.fault.LoadFault.TheVariants.{Line};
-ghost use Rattle.bolt_load.specs.{ByteMembers.AreOfBytes, LineMembers.text_members, Lines.Text, Lines.lines_of, PlainTexts.plain_text};
+ghost use Rattle.bolt_load.specs.{ByteMembers.AreOfBytes, PlainTexts.plain_text};
+ghost use Rattle.bolt_text.specs.{LineMembers.text_members, Lines.Text, Lines.lines_of};
 ghost use Rattle.bolt_load.specs.{Private.Decoding.AreDecoded, Private.OpenPaths.fault_after, declared.fault.LineFault.LineFault};
 ghost use Rattle.bolt_load.specs.Private.OpenPaths as open_paths;
 
@@ -19,6 +19,7 @@ use crate::decode::decode;
 use crate::fault::{LineFault, LoadFault};
 use crate::line_members::LineMembers;
 use bolt_layout::laws::{a_fit_listing_is_of_one_tree, held_members_fit};
+use bolt_text::{is_before, is_below};
 use bolt_tree::{Item, Members};
 use std::alloc::Global;
 
@@ -77,20 +78,6 @@ impl<'a> ListingText<'a> {
     {
         LineMembers::new(alloc, self.text, self.bytes.as_slice())
     }
-}
-
-/// Whether a path begins with another.
-fn is_below(path: &[&[u8]], below: &[&[u8]]) -> bool
-    ensures { result ≡ begins_with (path_of below.now) (path_of path.now) }
-{
-    path.starts_with(below)
-}
-
-/// Whether a path comes before another.
-fn is_before(path: &[&[u8]], other: &[&[u8]]) -> bool
-    ensures { result ≡ is_lt (path_cmp (path_of path.now) (path_of other.now)) }
-{
-    path.cmp(other).is_lt()
 }
 
 /// The path of the bucket that a path is in.

@@ -4,9 +4,10 @@ use Rattle.bolt_report.proofs.Words.{bytes_allocated, bytes_used, decimal, end_o
 use Rattle.std.specs.Prelude.{fold}
 use Rattle.json.proofs.Printed.Tokens.{print_from-append}
 use Rattle.json.specs.{Json.Json, Print.ends}
-use Rattle.bolt_report.specs.{FigureForms.figures_text, FigureForms.number_text, Forms.is_json, Forms.item_text, Forms.json_in, SizeLines.size_members}
-use Rattle.bolt_report.specs.declared.FigureForm.TheVariants as figure_form
-use Rattle.bolt_report.specs.declared.Form.TheVariants as form
+use Rattle.bolt_report.specs.{FigureForms.figures_text, FigureForms.number_text, SizeLines.size_members}
+use Rattle.bolt_text.specs.Forms.{is_json, item_text, json_in}
+use Rattle.bolt_text.specs.declared.forms.FigureForm.TheVariants as figure_form
+use Rattle.bolt_text.specs.declared.forms.Form.TheVariants as form
 
 -- of a meta, of which the freelist may have no number
 pub meta_object : (page_size slot txid root sequence high_water : ℕ) (freelist : Option ℕ) → codes "{\"page_size\":" ++ (decimal page_size ++ (codes ",\"meta\":" ++ (decimal slot ++ (codes ",\"txid\":" ++ (decimal txid

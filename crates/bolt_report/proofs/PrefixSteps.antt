@@ -11,7 +11,7 @@ use Rattle.bolt_tree.specs.{Places.next_move, Places.nothing_at, Places.onto, Pl
 use Rattle.bolt_tree.specs.declared.Entry.{Entry}
 use Rattle.bolt_check.specs.Counts.{counted}
 use Rattle.bolt_tree.proofs.{AllEntries.sorted_at, CursorMoves.none_past, CursorMoves.not_below, Leaving.TheEntries, Leaving.the_one, PagerLemmas.counted_more}
-use Rattle.bolt_report.specs.{declared.Form.TheVariants.Json, declared.ReportFault.TheVariants.NoMemory, declared.ReportFault.TheVariants.Sink}
+use Rattle.bolt_text.specs.{declared.forms.Form.TheVariants.Json, declared.fault.ReportFault.TheVariants.NoMemory, declared.fault.ReportFault.TheVariants.Sink}
 
 -- ---- the entries of a cursor's bucket
 

@@ -7,7 +7,7 @@ use Rattle.bolt_tree.specs.Entries as items
 use Rattle.bolt_tree.specs.{Entries.item_of, Lookups.IsBucketAt, Places.Fresh, declared.bucket.Bucket.Bucket}
 use Rattle.bolt_tree.proofs.Named.{entry_once}
 use Rattle.bolt_report.specs.SizeLines.{size_line, size_text}
-use Rattle.bolt_report.proofs.StatsOnce.{one_stats}
+use Rattle.bolt_stats.proofs.StatsOnce.{one_stats}
 
 abbrev pub buckets_of : List LeafElement → List LeafElement
 buckets_of entries = filter (λ (e : LeafElement). e.is_bucket) entries

@@ -2,7 +2,8 @@
 -- Rests on that each bucket of the tree has one set of figures (StatsExist, StatsOnce), and that a bucket in a bucket of the tree is one of the tree.
 use Rattle.std.proofs.Common.{◌≡◌, ◌∙◌, ℕ, Bool, true, false, List, [], ◌∷◌, ap, map, refl, subst, sym}
 use Rattle.bolt_report.proofs.Words.{AllByRecursion, AreSized, Contains, contains_head, contains_tail, HasSoundTrees, IsStart, IsStatsOf, LeafElement, Meta, Path, Root_page, Sized, Start, start_of}
-use Rattle.bolt_report.proofs.{SizeLemmas.HasStats, SizeLemmas.by_kind, StatsExist.some_stats, StatsOnce.one_stats}
+use Rattle.bolt_report.proofs.SizeLemmas.{HasStats, by_kind}
+use Rattle.bolt_stats.proofs.{StatsExist.some_stats, StatsOnce.one_stats}
 use Rattle.bolt_tree.specs.{Entries.AreEntries, Entries.IsEntry, Paths.Names}
 use Rattle.bolt_tree.proofs.BucketWays.{root_starts, starts_below, starts_named}
 

@@ -8,9 +8,7 @@ use Rattle.bolt_format.specs.declared.meta.MetaFault.TheVariants.{Cut, Magic, Ve
 use Rattle.bolt_check.specs.declared.fault.Finding.{Finding}
 use Rattle.bolt_check.specs.declared.fault.TheConstants.Finding.{TWICE, ORDER, BELOW_PARENT, ABOVE_NEXT, EMPTY_BRANCH, TOO_DEEP, FREED_TWICE, REACHED_FREED}
 use Rattle.bolt_check.specs.declared.fault.TheConstants.Finding.{UNREACHABLE, FREE_RANGE}
-use Rattle.bolt_report.specs.Lines.{line}
-use Rattle.bolt_snapshot.specs.declared.SnapshotFault.{SnapshotFault}
-use Rattle.bolt_snapshot.specs.declared.SnapshotFault.TheVariants.{HashMissing, HashCutOff, HashDiffers}
+use Rattle.bolt_text.specs.Lines.{line}
 
 -- why a file without a valid meta is refused
 abbrev pub meta_fault_text : MetaFault → List ℕ
@@ -19,12 +17,6 @@ meta_fault_text Magic = line (codes "invalid database")
 meta_fault_text Version = line (codes "version mismatch")
 meta_fault_text Sum = line (codes "checksum error")
 meta_fault_text PageSize = line (codes "page size refused")
-
--- why a file is no snapshot
-abbrev pub snapshot_fault_text : SnapshotFault → List ℕ
-snapshot_fault_text HashMissing = line (codes "snapshot hash missing")
-snapshot_fault_text HashCutOff = line (codes "snapshot hash cut off")
-snapshot_fault_text HashDiffers = line (codes "snapshot hash differs")
 
 -- A number of a fault, and its words.
 pub record FaultWords : Type 0 where

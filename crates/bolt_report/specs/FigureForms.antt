@@ -2,8 +2,8 @@
 use Rattle.std.specs.Prelude.{ℕ, ◌==◌, List, [], ◌∷◌, ◌++◌, Option, Some, None, codes, decimal, flat_map, map, if◌then◌else◌}
 use Rattle.json.specs.Json as json
 use Rattle.json.specs.Json.{Members, member, no_members, null, number, object}
-use Rattle.bolt_report.specs.{Forms.json_text, Lines.figure_line, Lines.line, declared.FigureForm.FigureForm}
-use Rattle.bolt_report.specs.declared.FigureForm.TheVariants.{Json, Lines}
+use Rattle.bolt_text.specs.{Forms.json_text, Lines.figure_line, Lines.line, declared.forms.FigureForm.FigureForm}
+use Rattle.bolt_text.specs.declared.forms.FigureForm.TheVariants.{Json, Lines}
 
 -- a name, and its number if there is one
 abbrev pub Named : Type 0

@@ -6,7 +6,8 @@ use Rattle.bolt_format.specs.{Elements.LeafElement, Shown.shown}
 use Rattle.bolt_format.specs.declared.header.Kind.TheVariants as kind
 use Rattle.bolt_check.specs.Keys.{Key}
 use Rattle.bolt_recover.specs.{Losses.LostView, declared.Found.Found}
-use Rattle.bolt_report.specs.{FaultWords.count_line, Lines.line, LossLines.lost_count, LossLines.lost_lines}
+use Rattle.bolt_report.specs.{FaultWords.count_line, LossLines.lost_count, LossLines.lost_lines}
+use Rattle.bolt_text.specs.Lines.{line}
 
 -- a leaf page by its number and its elements
 pub record FoundView : Type 0 where

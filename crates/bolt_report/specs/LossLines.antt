@@ -6,7 +6,8 @@ use Rattle.hex.specs.Hex.{encode_lower}
 use Rattle.bolt_check.specs.Keys.{Key}
 use Rattle.bolt_tree.specs.Paths.{Path}
 use Rattle.bolt_recover.specs.Losses.{LossView, LostView, everything, parts}
-use Rattle.bolt_report.specs.{FaultWords.finding_sentence, Lines.line, ListLines.hex_path}
+use Rattle.bolt_report.specs.FaultWords.{finding_sentence}
+use Rattle.bolt_text.specs.{Lines.line, ListLines.hex_path}
 
 -- the bucket that a lost page belongs to
 abbrev pub bucket_words : Path → List ℕ

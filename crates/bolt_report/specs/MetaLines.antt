@@ -2,7 +2,8 @@
 use Rattle.std.specs.Prelude.{◌==◌, ℕ, List, [], ◌∷◌, ◌++◌, Option, Some, None, codes, decimal, if◌then◌else◌}
 use Rattle.bolt_format.specs.{declared.meta.Meta.Meta, declared.meta.MetaFault.MetaFault, declared.meta.Slot.Slot}
 use Rattle.bolt_format.specs.{declared.meta.Slot.TheVariants.Zero, declared.meta.Slot.TheVariants.One, declared.meta.TheConstants.NO_FREELIST}
-use Rattle.bolt_report.specs.{FaultWords.meta_fault_text, FigureForms.Named, FigureForms.figures_text, declared.FigureForm.FigureForm}
+use Rattle.bolt_report.specs.{FaultWords.meta_fault_text, FigureForms.Named, FigureForms.figures_text}
+use Rattle.bolt_text.specs.declared.forms.FigureForm.{FigureForm}
 
 abbrev pub slot_number : Slot → ℕ
 slot_number Zero = 0

@@ -4,7 +4,7 @@ use Rattle.hex.specs.Hex.{encode_lower}
 use Rattle.bolt_format.specs.{Elements.BranchElement, Elements.LeafElement, Elements.head_root, Elements.head_sequence, Pages.PageView}
 use Rattle.bolt_format.specs.declared.header.Kind.{Kind}
 use Rattle.bolt_format.specs.declared.header.Kind.TheVariants as kind
-use Rattle.bolt_report.specs.Lines.{figure_line, line}
+use Rattle.bolt_text.specs.{Lines.figure_line, Lines.line, ListLines.value_end}
 
 abbrev pub kind_text : Kind → List ℕ
 kind_text kind.Branch = codes "branch"
@@ -27,9 +27,6 @@ branch_line e = encode_lower e.key ++ line (codes " -> " ++ decimal e.child)
 -- A leaf's element is a bucket, with its root page and its sequence, or a value.
 unfoldable pub bucket_end : List ℕ → List ℕ
 bucket_end value = line (codes " bucket " ++ decimal (head_root value) ++ codes " " ++ decimal (head_sequence value))
-
-unfoldable pub value_end : List ℕ → List ℕ
-value_end value = codes " = " ++ line (encode_lower value)
 
 unfoldable pub leaf_line : LeafElement → List ℕ
 leaf_line e = encode_lower e.key ++ (if e.is_bucket then bucket_end e.value else value_end e.value)

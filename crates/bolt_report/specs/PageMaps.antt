@@ -6,7 +6,8 @@ use Rattle.std.specs.List.{range_with_len}
 use Rattle.bolt_format.specs.declared.meta.Meta.{Meta}
 use Rattle.bolt_check.specs.{CheckedFiles.bytes_of, CheckedFiles.meta_of, declared.Checked.Checked, declared.role_table.Role.Role}
 use Rattle.bolt_check.specs.declared.role_table.Role.TheVariants as role
-use Rattle.bolt_report.specs.{Lines.column, Lines.line, PageTables.is_free, PageTables.pages_in, PageTables.pages_past, PageTables.past_line}
+use Rattle.bolt_text.specs.Lines.{column, line}
+use Rattle.bolt_report.specs.PageTables.{is_free, pages_in, pages_past, past_line}
 
 -- the character of a page: M, B, L, F, + for a later page of a span, and . if it is free
 abbrev pub page_mark : Role → ℕ

@@ -6,7 +6,7 @@ use Rattle.std.specs.List.{range_with_len}
 use Rattle.bolt_format.specs.{Freelists.free_ids_at, Pages.PageView, Pages.page_at, declared.meta.Meta.Meta}
 use Rattle.bolt_check.specs.{CheckedFiles.bytes_of, CheckedFiles.meta_of, Roles.AreRoles, declared.Checked.Checked, declared.role_table.Role.Role}
 use Rattle.bolt_check.specs.declared.role_table.Role.TheVariants as role
-use Rattle.bolt_report.specs.Lines.{column, line}
+use Rattle.bolt_text.specs.Lines.{column, line}
 
 -- four columns with a space between them
 unfoldable pub row : (id kind items overflow : List ℕ) → List ℕ

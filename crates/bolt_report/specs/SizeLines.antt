@@ -5,8 +5,11 @@ use Rattle.json.specs.Json as json
 use Rattle.json.specs.Json.{member, no_members, object}
 use Rattle.bolt_format.specs.{Elements.LeafElement, declared.meta.Meta.Meta}
 use Rattle.bolt_tree.specs.Entries.{start_of}
-use Rattle.bolt_report.specs.{Figures.capped, FigureForms.figures_then, Forms.is_json, Forms.json_in, Forms.json_text, Forms.value_text, Lines.line}
-use Rattle.bolt_report.specs.{StatsOf.IsStatsOf, declared.statistics.Stats.Stats, declared.Form.Form}
+use Rattle.bolt_stats.specs.Figures.{capped}
+use Rattle.bolt_report.specs.FigureForms.{figures_then}
+use Rattle.bolt_text.specs.{Forms.is_json, Forms.json_in, Forms.json_text, Forms.value_text, Lines.line}
+use Rattle.bolt_stats.specs.{StatsOf.IsStatsOf, declared.figures.Stats.Stats}
+use Rattle.bolt_text.specs.declared.forms.Form.{Form}
 
 -- the bytes used and allocated; a sum above 2^64 - 1 saturates there
 abbrev pub bytes_used : Stats → ℕ

@@ -1,12 +1,11 @@
 //! The lines of faults and findings.
 ghost use Rattle.std.specs.Prelude.{◌≡◌, ◌≤◌, ◌++◌, flat_map};
 ghost use Rattle.bolt_format.specs.{Endings.ending, Wrote.Wrote};
-ghost use Rattle.bolt_report.specs.FaultWords.{count_line, finding_sentence, finding_text, finding_words, findings_text, meta_fault_text, page_fault_text, page_fault_words, snapshot_fault_text};
+ghost use Rattle.bolt_report.specs.FaultWords.{count_line, finding_sentence, finding_text, finding_words, findings_text, meta_fault_text, page_fault_text, page_fault_words};
 
-use crate::pieces::{Piece, put, put_pieces};
 use bolt_check::Finding;
 use bolt_format::{MetaFault, PageFault, Sink, SinkFault};
-use bolt_snapshot::SnapshotFault;
+use bolt_text::{Piece, put, put_pieces};
 
 /// Writes the line of a meta fault.
 ///
@@ -17,17 +16,6 @@ pub fn meta_fault_text<S: Sink>(fault: MetaFault, sink: &mut S) -> Result<(), Si
     ensures { Wrote S.Sink sink.old sink.new (meta_fault_text fault) (ending result) }
 {
     put(meta_fault_line(fault), sink)
-}
-
-/// Writes the line of a snapshot's fault.
-///
-/// # Errors
-///
-/// `SinkFault` if the sink failed. It has then accepted a prefix of the text.
-pub fn snapshot_fault_text<S: Sink>(fault: SnapshotFault, sink: &mut S) -> Result<(), SinkFault>
-    ensures { Wrote S.Sink sink.old sink.new (snapshot_fault_text fault) (ending result) }
-{
-    put(snapshot_fault_line(fault), sink)
 }
 
 /// Writes the line of a page's fault.
@@ -78,7 +66,7 @@ pub fn findings_text<S: Sink>(
     put_count(earlier + findings.len() as u64, sink)
 }
 
-#[tactic(auto, using(crate::proofs::ReportLemmas::elements))]
+#[tactic(auto, using(bolt_text::proofs::ReportLemmas::elements))]
 fn put_findings<S: Sink>(findings: &[Finding], sink: &mut S) -> Result<(), SinkFault>
     ensures { Wrote S.Sink sink.old sink.new (flat_map finding_text findings.now) (ending result) }
 {
@@ -141,16 +129,6 @@ pub(crate) fn meta_fault_line(fault: MetaFault) -> &'static [u8]
         MetaFault::Version => b"version mismatch\n",
         MetaFault::Sum => b"checksum error\n",
         MetaFault::PageSize => b"page size refused\n",
-    }
-}
-
-fn snapshot_fault_line(fault: SnapshotFault) -> &'static [u8]
-    ensures { result.now ≡ snapshot_fault_text fault }
-{
-    match fault {
-        SnapshotFault::HashMissing => b"snapshot hash missing\n",
-        SnapshotFault::HashCutOff => b"snapshot hash cut off\n",
-        SnapshotFault::HashDiffers => b"snapshot hash differs\n",
     }
 }
 

@@ -4,11 +4,11 @@ ghost use Rattle.bolt_format.specs.{Elements.LeafElement, Wrote.Wrote};
 ghost use Rattle.bolt_tree.specs.{Entries.entry_view, ShownEntries.shown_entry};
 ghost use Rattle.bolt_tree.specs.Cursors.{cursor_bucket, cursor_checked, cursor_opened, cursor_start};
 ghost use Rattle.bolt_report.specs.KeyLines.{ForBucket, ForCursor, bucket_name, buckets_text, keys_text};
-ghost use Rattle.bolt_report.specs.{ReportEndings.report_ending, KeyPrefixes.OpensPrefix, KeyPrefixes.with_prefix};
+ghost use Rattle.bolt_text.specs.ReportEndings.{report_ending};
+ghost use Rattle.bolt_report.specs.KeyPrefixes.{OpensPrefix, with_prefix};
 
-use crate::item_writer::ItemWriter;
-use crate::{Form, ReportFault};
 use bolt_format::Sink;
+use bolt_text::{Form, ItemWriter, ReportFault};
 use bolt_tree::{Bucket, Cursor, Entry, Item};
 use std::alloc::Global;
 

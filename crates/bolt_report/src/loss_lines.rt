@@ -4,14 +4,14 @@ ghost use Rattle.std.specs.List.{All};
 ghost use Rattle.bolt_format.specs.{Endings.ending, Wrote.Wrote, Shown.shown};
 ghost use Rattle.bolt_recover.specs.ShownLosses.{loss_view, lost_view};
 ghost use Rattle.bolt_tree.specs.Paths.{path_of};
-ghost use Rattle.bolt_report.specs.Lines.{line};
+ghost use Rattle.bolt_text.specs.Lines.{line};
 ghost use Rattle.bolt_report.specs.LossLines.{bounds_line, bucket_words, loss_text, losses_text, lost_count, lost_lines};
 ghost use Rattle.bolt_report.specs.FoundLines.{IsFoundLeaf, bucket_count, counted_lost_text, found_line, found_text, found_view, lost_text};
 
 use crate::fault_lines::{put_count, put_sentence};
-use crate::pieces::{PathForm, Piece, put, put_pieces};
 use bolt_format::{Kind, Page, Sink, SinkFault};
 use bolt_recover::{Found, Loss, Lost};
+use bolt_text::{PathForm, Piece, put, put_pieces};
 
 /// Writes the line of each loss, or the one that says that everything is lost.
 fn put_lost<S: Sink>(lost: Lost<'_>, sink: &mut S) -> Result<(), SinkFault>
@@ -33,7 +33,7 @@ fn count_of(lost: Lost<'_>) -> u64
     }
 }
 
-#[tactic(auto, using(crate::proofs::ReportLemmas::elements))]
+#[tactic(auto, using(bolt_text::proofs::ReportLemmas::elements))]
 fn put_losses<S: Sink>(losses: &[Loss<'_>], sink: &mut S) -> Result<(), SinkFault>
     ensures { Wrote S.Sink sink.old sink.new (losses_text (map loss_view losses.now)) (ending result) }
 {
@@ -140,7 +140,7 @@ pub fn counted_lost_text<S: Sink>(
     put_count(earlier + count_of(lost), sink)
 }
 
-#[tactic(auto, using(crate::proofs::ReportLemmas::elements))]
+#[tactic(auto, using(bolt_text::proofs::ReportLemmas::elements))]
 fn put_all_found<S: Sink>(found: &[Found<'_>], sink: &mut S) -> Result<(), SinkFault>
     requires { All IsFoundLeaf found.now }
     ensures { Wrote S.Sink sink.old sink.new (found_text (map found_view found.now)) (ending result) }

@@ -6,10 +6,10 @@ ghost use Rattle.bolt_check.specs.{CheckedFiles.bytes_of, CheckedFiles.has_accou
 ghost use Rattle.bolt_report.specs.{PageMaps.lines_of, PageMaps.map_line, PageMaps.map_of, PageMaps.page_mark, PageTables.ForRoles, PageTables.pages_in};
 
 use crate::page_table::{free_past, pages_begun, put_past};
-use crate::pieces::{Piece, put_pieces};
 use arrayvec::ArrayVec;
 use bolt_check::{Checked, Role, Roles};
 use bolt_format::{Sink, SinkFault};
+use bolt_text::{Piece, put_pieces};
 
 /// The number of pages on a line of the map.
 const LINE_PAGES: u64 = 64;

@@ -2,12 +2,12 @@
 ghost use Rattle.std.specs.Prelude.{◌≡◌, codes};
 ghost use Rattle.bolt_format.specs.{Endings.ending, Wrote.Wrote};
 ghost use Rattle.bolt_report.specs.FigureForms.{named_line, number_text};
-ghost use Rattle.bolt_report.specs.{MetaLines.freelist_of, MetaLines.info_text, MetaLines.slot_fault_text, MetaLines.slot_number, Pieces.piece_text};
+ghost use Rattle.bolt_report.specs.MetaLines.{freelist_of, info_text, slot_fault_text, slot_number};
+ghost use Rattle.bolt_text.specs.Pieces.{piece_text};
 
-use crate::FigureForm;
 use crate::fault_lines::meta_fault_line;
-use crate::pieces::{Piece, put_pieces};
 use bolt_format::{Meta, MetaFault, NO_FREELIST, Sink, SinkFault, Slot};
+use bolt_text::{FigureForm, Piece, put_pieces};
 
 /// Writes the seven figures of a meta and its slot in a form (docs/COMMANDS.md, "What is printed").
 ///

@@ -4,15 +4,16 @@ ghost use Rattle.std.specs.Option.{option_map};
 ghost use Rattle.std.specs.Result.{result_err};
 ghost use Rattle.bolt_format.specs.{Endings.ending, Freelists.free_ids_at, Pages.page_at, Shown.shown, ShownIds.shown_ids, Wrote.Wrote};
 ghost use Rattle.bolt_format.specs.{ElementPlaces.branch_view, ElementPlaces.leaf_view, Elements.IsBucketValue};
-ghost use Rattle.bolt_report.specs.PageLines.{head_lines, head_of, item_lines, items_on, kind_text, known_ids, page_lines, branch_line, bucket_end, id_line, leaf_line, value_end};
-ghost use Rattle.bolt_report.specs.{PageTexts.page_text, PageTexts.page_text_fault, ReportEndings.report_ending};
+ghost use Rattle.bolt_report.specs.PageLines.{head_lines, head_of, item_lines, items_on, kind_text, known_ids, page_lines, branch_line, bucket_end, id_line, leaf_line};
+ghost use Rattle.bolt_text.specs.ListLines.{value_end};
+ghost use Rattle.bolt_report.specs.PageTexts.{page_text, page_text_fault};
+ghost use Rattle.bolt_text.specs.ReportEndings.{report_ending};
 ghost use Rattle.hex.specs.Hex.{encode_lower};
 
-use crate::ReportFault;
-use crate::pieces::{Piece, put_pieces};
 use bolt_format::{
     Branch, FreeIds, Kind, Leaf, Meta, Page, PageFault, Sink, SinkFault, free_ids_at, head, page,
 };
+use bolt_text::{Piece, ReportFault, put_pieces};
 
 /// A page that passed its tests, with its ids if it is a freelist.
 #[derive(Clone, Copy)]
@@ -219,7 +220,7 @@ fn put_bucket<S: Sink>(key: &[u8], value: &[u8], sink: &mut S) -> Result<(), Sin
     )
 }
 
-#[tactic(auto, unfolding(crate::specs::PageLines::value_end))]
+#[tactic(auto, unfolding(bolt_text::specs::ListLines::value_end))]
 fn put_value<'a, S: Sink>(key: &'a [u8], value: &'a [u8], sink: &mut S) -> Result<(), SinkFault>
     ensures { Wrote S.Sink sink.old sink.new (encode_lower key.now ++ value_end value.now) (ending result) }
 {

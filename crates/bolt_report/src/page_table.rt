@@ -3,12 +3,11 @@ ghost use Rattle.std.specs.Prelude.{◌≡◌, ◌<◌, ◌⊎◌, IfErr, IsSome
 ghost use Rattle.bolt_format.specs.{Endings.ending, Freelists.free_ids_at, Pages.page_at, Wrote.Wrote};
 ghost use Rattle.bolt_check.specs.{CheckedFiles.bytes_of, CheckedFiles.has_accounts, CheckedFiles.meta_of, RoledFiles.roles_checked, Roles.HasRole};
 ghost use Rattle.bolt_report.specs.PageTables.{ForRoles, begun, free_past, head_rows, items_row, overflow_text, page_row, past_line, row, table_rows, table_text};
-ghost use Rattle.bolt_report.specs.{ReportEndings.report_ending, Lines.column, Pieces.piece_text};
+ghost use Rattle.bolt_text.specs.{ReportEndings.report_ending, Lines.column, Pieces.piece_text};
 
-use crate::ReportFault;
-use crate::pieces::{Piece, put, put_pieces};
 use bolt_check::{Checked, Role, Roles, roles};
 use bolt_format::{Sink, SinkFault, free_ids_at, known};
+use bolt_text::{Piece, ReportFault, put, put_pieces};
 use std::alloc::Global;
 
 /// Writes the table of all pages of a file, as `pages_table` does, after it has found their roles.
@@ -137,7 +136,7 @@ fn free_count(checked: &Checked<'_>, id: u64) -> u64
 const HEAD: &[u8] = b"ID       TYPE       ITEMS  OVRFLW\n======== ========== ====== ======\n";
 
 /// Writes the two head rows of the table.
-#[tactic(auto, unfolding(crate::specs::Lines::column, crate::specs::PageTables::row))]
+#[tactic(auto, unfolding(bolt_text::specs::Lines::column, crate::specs::PageTables::row))]
 fn put_head<S: Sink>(sink: &mut S) -> Result<(), SinkFault>
     ensures { Wrote S.Sink sink.old sink.new head_rows (ending result) }
 {

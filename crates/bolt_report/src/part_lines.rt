@@ -1,19 +1,38 @@
-//! The text of what a file holds below a path.
+//! The text of what a file lists: all of it, from a path on, or below one.
 ghost use Rattle.std.specs.Prelude.{◌≡◌, ◌&&◌, ◌⊎◌, IfErr, IfOk, List, OnOk, not};
 ghost use Rattle.std.specs.Ordering.{is_lt};
 ghost use Rattle.bolt_format.specs.Wrote.{Wrote};
 ghost use Rattle.bolt_tree.specs.{FileListings.ForListing, Listing.Member, Listing.member_cmp};
 ghost use Rattle.bolt_tree.specs.{ListingParts.begins_with, ListingParts.has_bucket, ListingParts.is_bucket_at, ListingParts.later_path, Order.Rises};
 ghost use Rattle.bolt_tree.specs.{Paths.path_cmp, Paths.path_of, ShownEntries.item_view};
-ghost use Rattle.bolt_report.specs.ListForms.{bucket_lines, lines_below, lines_form, lines_while_below};
-ghost use Rattle.bolt_report.specs.ReportEndings.{report_ending};
+ghost use Rattle.bolt_report.specs.PartLines.{bucket_lines, lines_below, lines_while_below, rest_text};
+ghost use Rattle.bolt_text.specs.ListForms.{lines_form};
+ghost use Rattle.bolt_text.specs.ReportEndings.{report_ending};
 
-use crate::member_lines::MemberLines;
-use crate::{ListForm, ReportFault};
 use bolt_check::Checked;
 use bolt_format::Sink;
+use bolt_text::{ListForm, MemberLines, ReportFault, is_before, is_below};
 use bolt_tree::{Item, Members, Walk};
 use std::alloc::Global;
+
+/// Writes a line for each path of a file that doesn't come before `from`, with its value or the
+/// sequence of its bucket, in the order of paths (docs/LISTING.md). A line needs no memory.
+///
+/// # Errors
+///
+/// `Sink` if the sink failed; `NoMemory` if memory ran out for the walk, and the sink had not
+/// failed. The sink has then accepted a prefix of the text. There is no other error.
+pub fn list<S: Sink>(
+    alloc: Global,
+    checked: Checked<'_>,
+    from: &[&[u8]],
+    sink: &mut S,
+) -> Result<(), ReportFault>
+    ensures written { ForListing checked.entry (λ listing. Wrote S.Sink sink.old sink.new (rest_text from.now listing) (report_ending result)) }
+    ensures fault { IfErr result (λ fault. (fault ≡ ReportFault.Sink) ⊎ (fault ≡ ReportFault.NoMemory)) }
+{
+    list_part(alloc, checked, &[], from, ListForm::Hex, sink)
+}
 
 /// Writes a line in a form for each path of a file that begins with `below` and doesn't come before
 /// `from` (docs/LISTING.md, "The part below a path"): of every path if both are empty. The member
@@ -112,14 +131,6 @@ fn put_bucket_part<'a, M: Members<'a>, S: Sink>(
     Ok(found)
 }
 
-/// Whether a path comes before another.
-#[tactic(auto, using(crate::proofs::PartTests::parts))]
-fn is_before(path: &[&[u8]], other: &[&[u8]]) -> bool
-    ensures { result ≡ is_lt (path_cmp (path_of path.now) (path_of other.now)) }
-{
-    path.cmp(other).is_lt()
-}
-
 /// The later of two paths.
 fn later_of<'p, 'a>(one: &'p [&'a [u8]], other: &'p [&'a [u8]]) -> &'p [&'a [u8]]
     ensures { path_of result.now ≡ later_path (path_of one.now) (path_of other.now) }
@@ -134,16 +145,8 @@ fn is_wanted(path: &[&[u8]], below: &[&[u8]], from: &[&[u8]]) -> bool
     is_below(path, below) && !is_before(path, from)
 }
 
-/// Whether a path begins with another.
-#[tactic(auto, using(crate::proofs::PartTests::parts))]
-fn is_below(path: &[&[u8]], below: &[&[u8]]) -> bool
-    ensures { result ≡ begins_with (path_of below.now) (path_of path.now) }
-{
-    path.starts_with(below)
-}
-
 /// Whether a member is the bucket at a path.
-#[tactic(auto, using(crate::proofs::PartTests::parts))]
+#[tactic(auto, using(bolt_text::proofs::PartTests::parts))]
 fn is_bucket_of(path: &[&[u8]], item: &Item<'_>, bucket: &[&[u8]]) -> bool
     ensures { result ≡ is_bucket_at (path_of bucket.now) (path_of path.now, item_view item.now) }
 {

@@ -4,16 +4,13 @@ ghost use Rattle.bolt_format.specs.{Elements.LeafElement, Endings.ending, Wrote.
 ghost use Rattle.bolt_check.specs.CheckedFiles.{bytes_of, meta_of};
 ghost use Rattle.bolt_tree.specs.{BucketViews.entries_of, Buckets.bucket_checked, Buckets.bucket_start, Entries.entry_view, EntriesLeft.ForEntries};
 ghost use Rattle.bolt_tree.specs.ShownEntries.{shown_entry};
-ghost use Rattle.bolt_report.specs.{Forms.value_text, Forms.is_json, Forms.json_in, Forms.json_text, ReportEndings.report_ending};
+ghost use Rattle.bolt_text.specs.{Forms.value_text, Forms.is_json, Forms.json_in, Forms.json_text, ReportEndings.report_ending};
 ghost use Rattle.bolt_report.specs.SizeLines.{AreSized, Sized, bytes_allocated, bytes_used, size_columns, size_text, sizes_text, size_json, size_members};
-ghost use Rattle.bolt_report.specs.Lines.{line};
+ghost use Rattle.bolt_text.specs.Lines.{line};
 
-use crate::bucket_stats::stats;
-use crate::item_writer::ItemWriter;
-use crate::pieces::{Piece, put, put_pieces};
-use crate::statistics::Stats;
-use crate::{Form, ReportFault};
 use bolt_format::{Sink, SinkFault};
+use bolt_stats::{Stats, stats};
+use bolt_text::{Form, ItemWriter, Piece, ReportFault, put, put_pieces};
 use bolt_tree::{Bucket, Entry, Item};
 use std::alloc::Global;
 
@@ -84,7 +81,7 @@ fn put_size<S: Sink>(
     ensures written { Wrote S.Sink sink.old sink.new (size_text items.old.form stats.now name.now) (report_ending result) }
     ensures fault { IfErr result (λ fault. (fault ≡ ReportFault.Sink) ⊎ (fault ≡ ReportFault.NoMemory)) }
 {
-    if items.form().is_json() {
+    if items.form.is_json() {
         put_object(stats, name, items, sink)
     } else {
         put_row(stats, name, items, sink)
@@ -92,7 +89,7 @@ fn put_size<S: Sink>(
 }
 
 /// Writes the figures and the name with spaces between them.
-#[tactic(auto, using(crate::proofs::ReportLemmas::reports))]
+#[tactic(auto, using(bolt_text::proofs::ReportLemmas::reports))]
 fn put_row<S: Sink>(
     stats: &Stats,
     name: &[u8],

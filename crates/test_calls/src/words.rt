@@ -2,7 +2,7 @@
 
 use crate::fault::Fault;
 use bolt_format::{MemSink, Sink};
-use bolt_load::read_number;
+use bolt_text::read_number;
 use std::alloc::{AllocError, Global};
 
 /// What a verb is given, and where it gets memory.

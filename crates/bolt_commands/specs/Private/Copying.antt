@@ -5,9 +5,10 @@ use Rattle.bolt_format.specs.{declared.meta.Meta.Meta, declared.sink.Sink.Ghosts
 use Rattle.bolt_layout.specs.Copies.{layout_of_listing}
 use Rattle.bolt_tree.specs.Listing.{Member}
 use Rattle.bolt_commands.specs.{Answers.Ending, Answers.Loads, Answers.MakesCopy, Answers.copy_page_size, CopyEnds.EndsCopy}
-use Rattle.bolt_job.specs.CopyKinds.{is_snapshot, layout_for}
+use Rattle.bolt_job.specs.CopyKinds.{is_snapshot}
+use Rattle.bolt_commands.specs.CopyLayouts.{layout_for}
 use Rattle.bolt_commands.specs.GoodCopies.{IsGoodCopy}
-use Rattle.bolt_job.specs.{declared.choices.Extent.Extent, declared.writing_commands.CompactJob.CompactJob, declared.writing_commands.LoadJob.LoadJob}
+use Rattle.bolt_job.specs.{declared.choices.Extent.Extent, declared.job.CompactJob.CompactJob, declared.job.LoadJob.LoadJob}
 
 module _ {O T : Type 0} (out : Ghosts O) (out_old out_new : O) (target : Ghosts T) (target_old target_new : T) where
   abbrev pub CompactsTo : Extent → CompactJob → List ℕ → Ending → Type 0

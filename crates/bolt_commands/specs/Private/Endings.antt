@@ -1,7 +1,7 @@
 -- How a job ends that put a text: as it is to, or with the fault.
 use Rattle.std.specs.Prelude.{Bool, Result, Ok, Err, if◌then◌else◌}
 use Rattle.bolt_format.specs.declared.sink.SinkFault.{SinkFault}
-use Rattle.bolt_report.specs.declared.ReportFault.{ReportFault}
+use Rattle.bolt_text.specs.declared.fault.ReportFault.{ReportFault}
 use Rattle.bolt_commands.specs.{Answers.Ending, Failures.reported, declared.failure.Failure.TheVariants.NoBucket, declared.failure.Failure.TheVariants.Write}
 
 abbrev pub end_of : {A : Type 0} → Result A ReportFault → (wanted : Ending) → Ending

@@ -1,12 +1,13 @@
 -- What the functions of a command that prints promise of its job.
 use Rattle.std.specs.Prelude.{ℕ, List, Bool}
 use Rattle.bolt_check.specs.{CheckedFiles.bytes_of, CheckedFiles.meta_of, declared.Checked.Checked, declared.role_table.Role.Role}
-use Rattle.bolt_report.specs.{KeyLines.keys_text, KeyPrefixes.with_prefix, ListForms.listing_lines}
+use Rattle.bolt_report.specs.{KeyLines.keys_text, KeyPrefixes.with_prefix}
+use Rattle.bolt_text.specs.{ListForms.listing_lines}
 use Rattle.bolt_tree.specs.{Listing.Member, Listing.rest_from, ListingParts.has_bucket, ListingParts.part_below}
 use Rattle.bolt_format.specs.declared.sink.Sink.{Ghosts}
 use Rattle.bolt_commands.specs.Answers.{Answer, Does, Ending, IsBucketsAnswer, IsEntriesAnswer, IsGetAnswer, IsListedAnswer, IsReadAnswer, IsStatsAnswer, pages_shown, part_text}
-use Rattle.bolt_job.specs.{PlainWords.path_in, declared.choices.Extent.Extent, declared.bucket_commands.BucketsJob.BucketsJob, declared.bucket_commands.GetJob.GetJob}
-use Rattle.bolt_job.specs.{declared.bucket_commands.KeysJob.KeysJob, declared.bucket_commands.ListJob.ListJob, declared.bucket_commands.StatsJob.StatsJob}
+use Rattle.bolt_job.specs.{PlainWords.path_in, declared.choices.Extent.Extent, declared.job.BucketsJob.BucketsJob, declared.job.GetJob.GetJob}
+use Rattle.bolt_job.specs.{declared.job.KeysJob.KeysJob, declared.job.ListJob.ListJob, declared.job.StatsJob.StatsJob}
 
 -- standard output accepts the text of one of the answers that are wanted, and the job ends as it says
 pub record PrintsAnswer {S : Type 0} (sink : Ghosts S) (old new : S) (IsWanted : Answer → Type 0) (ending : Ending) : Type 0 where

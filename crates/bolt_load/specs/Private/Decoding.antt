@@ -1,7 +1,8 @@
 -- The bytes that a text has in hexadecimal, one line after another.
 use Rattle.std.specs.Prelude.{◌≡◌, ◌<◌, ℕ, List, [], ◌∷◌, ◌++◌, All, IsSome, Option, Some, None, length, take, flat_map}
 use Rattle.bolt_tree.specs.{Entries.Bucket, Entries.Item, Entries.Value, Listing.Member, Paths.Path}
-use Rattle.bolt_load.specs.{LineMembers.line_member, LineMembers.members_in, Lines.Text, Lines.lines_of, LineFaults.shape_fault}
+use Rattle.bolt_text.specs.{LineMembers.line_member, LineMembers.members_in, Lines.Text, Lines.lines_of}
+use Rattle.bolt_load.specs.LineFaults.{shape_fault}
 use Rattle.bolt_load.specs.declared.fault.LineFault.{LineFault}
 
 abbrev pub path_bytes : Path → List ℕ

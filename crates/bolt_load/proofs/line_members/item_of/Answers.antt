@@ -2,7 +2,7 @@
 use Rattle.std.proofs.Common.{◌∙◌, sym, ap, subst}
 use Rattle.std.specs.Option.{IsSomeAnd}
 use Rattle.bolt_load.proofs.{Words.BeginsWith, Words.item_bytes, Words.word_item, PushedParts.value_fits, PushedParts.value_is}
-use Rattle.bolt_load.specs.declared.line_words.ItemWord.{ItemWord}
+use Rattle.bolt_text.specs.declared.line_words.ItemWord.{ItemWord}
 use Rattle.bolt_load.proofs.line_members.item_of.Goals as goal
 
 pub split_at-requires : goal.split_at-requires

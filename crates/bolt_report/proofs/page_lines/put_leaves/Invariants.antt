@@ -1,4 +1,5 @@
-use Rattle.bolt_report.proofs.{Words.leaf_line, Words.shown, ReportLemmas.WroteLines}
+use Rattle.bolt_report.proofs.Words.{leaf_line, shown}
+use Rattle.bolt_text.proofs.ReportLemmas.{WroteLines}
 use Rattle.bolt_report.proofs.page_lines.put_leaves.Given as goal
 
 -- the lines of the elements before number i were written

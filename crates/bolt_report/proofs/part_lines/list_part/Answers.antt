@@ -1,7 +1,8 @@
 -- A walk from the later of the two paths comes to the part first.
 use Rattle.std.proofs.Common.{◌∙◌, ap, sym}
 use Rattle.bolt_report.proofs.Words.{left_of, ListForm, listing_lines, Path, path_of, rest_from, walk_checked, Wrote-same}
-use Rattle.bolt_report.proofs.{ListPartTexts.same_listing, ListPartTexts.front, ReportLemmas.Wrote-unbegun}
+use Rattle.bolt_report.proofs.ListPartTexts.{same_listing, front}
+use Rattle.bolt_text.proofs.ReportLemmas.{Wrote-unbegun}
 use Rattle.bolt_tree.proofs.PartLemmas.{part_from_later}
 use Rattle.bolt_report.proofs.part_lines.list_part.Goals as goal
 

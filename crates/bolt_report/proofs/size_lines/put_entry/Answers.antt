@@ -1,6 +1,7 @@
 use Rattle.std.proofs.Common.{ap, sym}
 use Rattle.bolt_report.proofs.Words.{bucket_checked, bytes_of, EntryView, item_view, meta_of, shown_entry, Wrote-none, Wrote-same}
-use Rattle.bolt_report.proofs.{ReportLemmas.Wrote-unbegun, SizeLemmas.line_found, SizeLemmas.no_value_line}
+use Rattle.bolt_text.proofs.ReportLemmas.{Wrote-unbegun}
+use Rattle.bolt_report.proofs.SizeLemmas.{line_found, no_value_line}
 use Rattle.bolt_report.proofs.size_lines.put_entry.Goals as goal
 
 pub returns-in_err-stats-in-Some-clause-written : goal.returns-in_err-stats-in-Some-clause-written

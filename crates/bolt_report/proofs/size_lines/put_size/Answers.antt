@@ -1,6 +1,6 @@
 -- A name that isn't JSON follows the columns.
 use Rattle.std.proofs.Common.{◌≡◌, false}
-use Rattle.bolt_report.specs.Forms.{is_json}
+use Rattle.bolt_text.specs.Forms.{is_json}
 use Rattle.bolt_report.proofs.size_lines.put_size.Goals as goal
 
 pub returns-else-is_json-clause-written : goal.returns-else-is_json-clause-written

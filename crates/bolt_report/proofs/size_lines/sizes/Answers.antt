@@ -1,6 +1,7 @@
 use Rattle.std.proofs.Common.{◌∙◌, ap, subst, sym}
 use Rattle.bolt_report.proofs.Words.{AreSized, bucket_checked, bytes_of, cursor_place, entries_left, fewer_left, Form, front_more, front_none, front_whole, meta_of, next_shows, Place, sizes_text, Wrote-same}
-use Rattle.bolt_report.proofs.{ReportLemmas.front_fault, SizeLemmas.cut, SizeLemmas.cut_text, SizeLemmas.first_left, SizeLemmas.no_line}
+use Rattle.bolt_text.proofs.ReportLemmas.{front_fault}
+use Rattle.bolt_report.proofs.SizeLemmas.{cut, cut_text, first_left, no_line}
 use Rattle.bolt_report.proofs.size_lines.sizes.Goals as goal
 
 pub rest-init : goal.rest-init

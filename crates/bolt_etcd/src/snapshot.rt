@@ -1,0 +1,91 @@
+//! etcd's snapshots: a database file, and then 32 bytes, the SHA-256 of all bytes before them. This file has
+//! the check of that hash, the line of what is wrong with it, and the laws of what holds of a snapshot: of
+//! the bytes after the database, and of their hash.
+ghost use Rattle.std.specs.Prelude.{◌≡◌, ◌↔◌, ◌<◌, ◌+◌, ◌%◌, ◌++◌, ℕ, Bool, List, None, Some, length, take};
+ghost use Rattle.bolt_check.specs.Sound.{IsSound};
+ghost use Rattle.bolt_format.specs.{Endings.ending, Wrote.Wrote};
+ghost use Rattle.bolt_format.specs.{Metas.HasBothMetas, Metas.IsChosen, declared.meta.Meta.Meta, declared.meta.Slot.Slot};
+ghost use Rattle.bolt_etcd.specs.{Marks.HasAllPages, SnapshotFaults.IsSnapshot, SnapshotFaults.cut_hash_fault, SnapshotFaults.hash_fault, SnapshotFaults.snapshot_fault_text, SnapshotFaults.snapshot_of};
+ghost use Rattle.bolt_tree.specs.Listing.{IsListing, Member};
+
+use bolt_format::{Sink, SinkFault};
+use bolt_text::put;
+use sha2::{Digest, Sha256};
+
+/// The number of bytes in a hash.
+pub const HASH_LEN: u64 = 32;
+/// A database file has whole blocks of this many bytes.
+const BLOCK_LEN: u64 = 512;
+
+/// Why a file is no snapshot (docs/COMMANDS.md, "Snapshots").
+#[derive(Clone, Copy, Debug, PartialEq, Eq)]
+pub enum SnapshotFault {
+    /// The length of the file is a multiple of 512, so nothing comes after the database.
+    HashMissing,
+    /// The length of the file is neither a multiple of 512 nor 32 more than one.
+    HashCutOff,
+    /// The last 32 bytes aren't the SHA-256 of all bytes before them.
+    HashDiffers,
+}
+
+/// Returns what is wrong with the hash at the end of a snapshot, or `None` if it is right. Nothing
+/// is said of the database before it.
+pub fn snapshot_fault(file: &[u8]) -> Option<SnapshotFault>
+    ensures fault { result ≡ hash_fault file.now }
+    ensures snapshot { result ≡ None ↔ IsSnapshot file.now }
+{
+    let length = file.len() as u64;
+    let extra = length % BLOCK_LEN;
+    if extra == 0 {
+        return Some(SnapshotFault::HashMissing);
+    }
+    if extra != HASH_LEN {
+        return Some(SnapshotFault::HashCutOff);
+    }
+    let (body, hash) = file.split_at((length - HASH_LEN) as usize);
+    if Sha256::digest(body).as_slice() != hash {
+        return Some(SnapshotFault::HashDiffers);
+    }
+    None
+}
+
+/// Writes the line of a snapshot's fault.
+///
+/// # Errors
+///
+/// `SinkFault` if the sink failed. It has then accepted a prefix of the text.
+pub fn snapshot_fault_text<S: Sink>(fault: SnapshotFault, sink: &mut S) -> Result<(), SinkFault>
+    ensures { Wrote S.Sink sink.old sink.new (snapshot_fault_text fault) (ending result) }
+{
+    put(snapshot_fault_line(fault), sink)
+}
+
+fn snapshot_fault_line(fault: SnapshotFault) -> &'static [u8]
+    ensures { result.now ≡ snapshot_fault_text fault }
+{
+    match fault {
+        SnapshotFault::HashMissing => b"snapshot hash missing\n",
+        SnapshotFault::HashCutOff => b"snapshot hash cut off\n",
+        SnapshotFault::HashDiffers => b"snapshot hash differs\n",
+    }
+}
+
+/// Bytes after the last page below the high-water mark change nothing: metas stay valid, the same
+/// one is active, the file stays sound, and it lists the same.
+pub fn trailing_bytes_change_nothing()
+    ensures metas { (file more : List ℕ) → HasBothMetas file → HasBothMetas (file ++ more) }
+    ensures chosen { (file more : List ℕ) (slot : Slot) (meta : Meta) (accounts : Bool) → HasAllPages file meta
+        → IsSound file meta accounts → IsChosen file slot meta → IsChosen (file ++ more) slot meta }
+    ensures sound { (file more : List ℕ) (meta : Meta) (accounts : Bool) → HasAllPages file meta
+        → IsSound file meta accounts → IsSound (file ++ more) meta accounts }
+    ensures listing { (file more : List ℕ) (meta : Meta) (listing : List Member) → HasAllPages file meta
+        → IsListing file meta listing ↔ IsListing (file ++ more) meta listing }
+{}
+
+/// A file of whole blocks of 512 bytes and its hash are a snapshot. Without the hash, it is missing; if a
+/// part of the hash is left out, it is cut off.
+pub fn hashed_blocks_are_a_snapshot()
+    ensures snapshot { (file : List ℕ) → length file % 512 ≡ 0 → IsSnapshot (snapshot_of file) }
+    ensures cut { (file : List ℕ) (n : ℕ) → length file % 512 ≡ 0 → n < 32
+        → hash_fault (take (length file + n) (snapshot_of file)) ≡ Some (cut_hash_fault n) }
+{}

@@ -1,8 +1,0 @@
-use Rattle.bolt_load.proofs.MixedParts.{mixed_back, mixed_word}
-use Rattle.bolt_load.proofs.line_words.mixed_items_read_back.Goals as goal
-
-pub returns-clause-printable : goal.returns-clause-printable
-returns-clause-printable c = λ bytes are. mixed_word bytes are
-
-pub returns-clause-same : goal.returns-clause-same
-returns-clause-same c = λ bytes are. mixed_back bytes are

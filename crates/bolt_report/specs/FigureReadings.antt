@@ -1,0 +1,44 @@
+-- What a reader of figures and of sizes as JSON finds in them: docs/COMMANDS.md, "What is printed".
+use Rattle.std.specs.Prelude.{ℕ, ◌<◌, ◌^◌, List, [], ◌∷◌, Option, Some, None, IfSome, ⊤, codes, option_and_then, option_map}
+use Rattle.std.specs.Str.Parse.{digits_value}
+use Rattle.json.specs.Json.{Json, Members, member, no_members, null, number}
+use Rattle.bolt_text.specs.JsonReadings.{members_of, named, number_of}
+use Rattle.bolt_stats.specs.declared.figures.Stats.{Stats}
+use Rattle.bolt_report.specs.{FigureForms.Named, SizeLines.bytes_allocated, SizeLines.bytes_used}
+
+-- the number under a name
+abbrev pub figure_in : List ℕ → Members → Option ℕ
+figure_in name ms = option_and_then number_of (named name ms)
+
+-- by what reads a key or a value
+module _ (read : Json → Option (List ℕ)) where
+  -- the sizes of a bucket: its keys, its bytes used and allocated, and its name, each by its name
+  abbrev pub size_of_members : Members → Option (ℕ × ℕ × ℕ × List ℕ)
+  size_of_members ms =
+      option_and_then (λ keys. option_and_then (λ used. option_and_then (λ allocated. option_map (λ name. (keys, used, allocated, name))
+      (option_and_then read (named (codes "name") ms))) (figure_in (codes "allocated") ms)) (figure_in (codes "used") ms)) (figure_in (codes "keys") ms)
+
+  abbrev pub size_of : Json → Option (ℕ × ℕ × ℕ × List ℕ)
+  size_of json = option_and_then size_of_members (members_of json)
+
+-- figures by their names, in their order; `null` is no number
+abbrev pub count_of : Json → Option (Option ℕ)
+count_of null = Some None
+count_of (number s) = Some (Some (digits_value 10 s))
+count_of _ = None
+
+abbrev pub figures_in : Members → Option (List Named)
+figures_in no_members = Some []
+figures_in (member name j ms) = option_and_then (λ n. option_map (λ figures. (name, n) ∷ figures) (figures_in ms)) (count_of j)
+
+abbrev pub figures_of : Json → Option (List Named)
+figures_of json = option_and_then figures_in (members_of json)
+
+-- each figure that has a number has one of 64 bits
+abbrev pub HaveWords : List Named → Type 0
+HaveWords [] = ⊤
+HaveWords (figure ∷ figures) = IfSome figure.1 (λ n. n < 2 ^ 64) × HaveWords figures
+
+-- the sizes of a bucket with a name
+abbrev pub named_size : Stats → List ℕ → ℕ × ℕ × ℕ × List ℕ
+named_size stats name = (stats.keys, bytes_used stats, bytes_allocated stats, name)

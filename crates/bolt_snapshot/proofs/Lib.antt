@@ -1,5 +1,0 @@
-pub mod SnapshotLemmas
-mod TrailingAccounts
-mod TrailingBytes
-mod TrailingMetas
-mod TrailingTrees

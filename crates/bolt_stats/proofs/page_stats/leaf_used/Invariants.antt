@@ -1,0 +1,10 @@
+use Rattle.std.proofs.Common.{◌≡◌, ◌≤◌, ◌+◌, ◌-◌, ◌^◌, drop, length, sum_by}
+use Rattle.bolt_stats.proofs.Words.{capped, LeafElement, shown, used_by_leaves}
+use Rattle.bolt_stats.proofs.page_stats.leaf_used.Given as goal
+
+-- with what the elements from here on use it is the whole
+abbrev pub invariant-loop-i : goal.invariant-loop-i
+invariant-loop-i l = record {
+  fits : l.used ≤ 2 ^ 64 - 1;
+  whole : capped (l.used + sum_by (λ (e : LeafElement). 16 + length e.key + length e.value) (drop l.i (shown l.page).leaves)) ≡ capped (used_by_leaves (shown l.page).leaves);
+}

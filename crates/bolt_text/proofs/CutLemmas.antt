@@ -1,0 +1,19 @@
+-- A text is cut at a byte as `slice_split` cuts it.
+use Rattle.std.proofs.Common.{◌≡◌, ◌∙◌, ◌==◌, ◌<◌, ℕ, [], ◌∷◌, true, length, ap, arith, length-append}
+use Rattle.std.proofs.lemmas.List.Splits.{length-slice_split}
+use Rattle.bolt_text.proofs.Vocabulary.{IsCut, IsWithout, nat_tests, slice_split, slice_split_at, slice_split_none, Text}
+
+itself : (n : ℕ) → (n == n) ≡ true
+itself n = grind (arith, nat_tests)
+
+pub parts_cut : (mark : ℕ) (text before after : Text) → IsCut mark text before after → slice_split (λ byte. byte == mark) text ≡ before ∷ slice_split (λ byte. byte == mark) after
+parts_cut mark text before after cut = ap (slice_split (λ byte. byte == mark)) cut.whole ∙ slice_split_at (λ byte. byte == mark) before mark after cut.first (itself mark)
+
+pub parts_whole : (mark : ℕ) (text : Text) → IsWithout mark text → slice_split (λ byte. byte == mark) text ≡ text ∷ []
+parts_whole mark text without = slice_split_none (λ byte. byte == mark) text without
+
+pub some_parts : (mark : ℕ) (text : Text) → 0 < length (slice_split (λ byte. byte == mark) text)
+some_parts mark text = let is = length-slice_split (λ byte. byte == mark) text in omega (arith, is)
+
+pub cut_is_shorter : (mark : ℕ) (text before after : Text) → IsCut mark text before after → length after < length text
+cut_is_shorter mark text before after cut = let is = ap length cut.whole ∙ length-append before (mark ∷ after) in omega (arith, is)

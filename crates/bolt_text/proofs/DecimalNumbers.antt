@@ -1,0 +1,87 @@
+-- What `parse` makes of a word that is to be a number.
+use Rattle.std.proofs.Common.{◌≡◌, ◌<◌, ◌^◌, ◌&&◌, ◌==◌, ℕ, [], ◌∷◌, Option, Some, None, Result, Ok, Err, true, false, length, get_or, inl, inr, refl, sym, ap, rules, arith, subst}
+use Rattle.std.proofs.lemmas.Str.{IsUtf8-from_ascii}
+use Rattle.std.proofs.lemmas.Fmt.{decimal_nonempty, digits_value-decimal}
+use Rattle.std.proofs.lemmas.Bool.{and_left, and_right, false_from_ne_true, ltb-true}
+use Rattle.std.proofs.lemmas.Str.Parse.{IsNumeralModel, numerals_by_weight, parse_plain}
+use Rattle.std.specs.Prelude.{IsUtf8, ◌≢◌, option_copied, slice_get, zero, suc, MatchResult, nat_lt}
+use Rattle.std.specs.Borrow.{Bor}
+use Rattle.std.specs.Option.{option_eq}
+use Rattle.std.specs.Str.{IsAscii}
+use Rattle.std.specs.Str.Parse.{ParsesUnsigned}
+use Rattle.bolt_text.proofs.Vocabulary.{all_ascii_digits, and_parts, cases_Bool, decimal, digits_decimal, is_ascii_digit, nat_tests, number_in, result_ok, Text}
+use Rattle.bolt_text.specs.Numbers.{decimal_value, is_number}
+
+pub decimal_numerals : IsNumeralModel (λ digits. all_ascii_digits digits ≡ true) decimal_value
+decimal_numerals = numerals_by_weight _ (search rules) decimal_value (search rules)
+
+pub good_number : (word : Text) → all_ascii_digits word ≡ true → 0 < length word → decimal_value word < 2 ^ 64 → is_number word ≡ true
+good_number word digits some small = grind (arith, nat_tests, digits)
+
+is_good : (word : Text) → is_number word ≡ true → (all_ascii_digits word ≡ true) × (0 < length word) × (decimal_value word < 2 ^ 64)
+is_good word good =
+    let parts = and_parts (nat_lt 0 (length word) && all_ascii_digits word) (nat_lt (decimal_value word) (2 ^ 64)) good in
+    let digits = and_parts (nat_lt 0 (length word)) (all_ascii_digits word) parts.0 in
+    (digits.1, ltb-true 0 (length word) digits.0, ltb-true (decimal_value word) (2 ^ 64) parts.1)
+
+pub no_number : (word : Text) → is_number word ≡ false → number_in word ≡ None
+no_number word bad = rw bad refl
+
+pub number_is : (word : Text) (n : ℕ) → number_in word ≡ Some n → (is_number word ≡ true) × (decimal_value word ≡ n) × (n < 2 ^ 64)
+number_is word n is = elim (cases_Bool (is_number word)) [
+  | inl good ↦
+      let read : number_in word ≡ Some (decimal_value word) = rw good refl in
+      let same : decimal_value word ≡ n = cc in
+      (good, same, subst (λ (m : ℕ). m < 2 ^ 64) same (is_good word good).2)
+  | inr bad ↦ let none = no_number word bad in absurd (cc)
+]
+
+pub plus_number : (word : Text) → get_or word 0 0 ≡ 43 → number_in word ≡ None
+plus_number [] plus = absurd (omega arith)
+plus_number (first ∷ rest) plus =
+    let no_digit : all_ascii_digits (first ∷ rest) ≡ false = ap (λ (byte : ℕ). all_ascii_digits (byte ∷ rest)) plus in
+    no_number (first ∷ rest) (and_left _ _ (and_right _ _ no_digit))
+
+-- without a plus before it
+pub parsed_number : {E : Type 0} (word : Text) (parsed : Result ℕ E) → ParsesUnsigned 64 10 word parsed → get_or word 0 0 ≢ 43 → result_ok parsed ≡ number_in word
+parsed_number {E} word (Ok n) parses plain =
+    let read = parse_plain decimal_numerals {E = E} 64 word (Ok n) parses plain in
+    rw (good_number word read.0.0 read.0.1 read.0.2) (ap Some read.1)
+parsed_number {E} word (Err e) parses plain =
+    let read = parse_plain decimal_numerals {E = E} 64 word (Err e) parses plain in
+    sym (no_number word (false_from_ne_true (is_number word) (λ good. read (is_good word good))))
+
+-- the digits of a number are read as it
+pub number_written : (n : ℕ) → n < 2 ^ 64 → number_in (decimal n) ≡ Some n
+number_written n fits =
+    let value = digits_value-decimal decimal_numerals n fits in
+    let good = good_number (decimal n) (digits_decimal decimal_numerals n fits) (decimal_nonempty n fits) (subst (λ (m : ℕ). m < 2 ^ 64) (sym value) fits) in
+    rw (good, value) refl
+
+-- digits are ASCII
+ascii_digits : (word : Text) → all_ascii_digits word ≡ true → IsAscii word
+ascii_digits [] digits i = omega arith
+ascii_digits (digit ∷ word) digits zero = let is = (and_parts (is_ascii_digit digit) (all_ascii_digits word) digits).0 in grind (arith, nat_tests, is)
+ascii_digits (digit ∷ word) digits (suc i) = ascii_digits word (and_parts (is_ascii_digit digit) (all_ascii_digits word) digits).1 i
+
+-- a word whose first byte isn't a plus
+pub no_plus : (word : Text) (first : Option (Bor ℕ)) (plus : Bor ℕ) → plus.now ≡ 43 → option_copied first ≡ slice_get word 0 → option_eq (λ (x y : Bor ℕ). x.now == y.now) first (Some plus) ≡ false → get_or word 0 0 ≢ 43
+no_plus [] first plus is value other same = absurd (omega (arith, same))
+no_plus (byte ∷ word) None plus is value other same = absurd (let f : None ≡ Some byte = value in cc)
+no_plus (byte ∷ word) (Some x) plus is value other same =
+    let f : Some x.now ≡ Some byte = value in
+    let h : x.now ≡ plus.now = cc in
+    absurd (grind (arith, nat_tests, other, h))
+
+-- a word that isn't text in UTF-8 has other bytes than digits
+not_utf8 : (word : Text) → ¬ (IsUtf8 word) → number_in word ≡ None
+not_utf8 word bad = no_number word (false_from_ne_true (is_number word) (λ good. bad (IsUtf8-from_ascii word (ascii_digits word (is_good word good).0))))
+
+module _ {E : Type 0} (word : Text) (Failed : E → Type 0) where
+  pub no_text : (text : Result (Bor Text) E) → MatchResult text (λ s. (s.now ≡ word) × IsUtf8 word) (λ e. ¬ (IsUtf8 word) × Failed e) → result_ok text ≡ None → number_in word ≡ None
+  no_text (Ok s) cases none = absurd (cc)
+  no_text (Err e) cases none = not_utf8 word cases.0
+
+  pub text_is : (text : Result (Bor Text) E) (found : Bor Text) → MatchResult text (λ s. (s.now ≡ word) × IsUtf8 word) (λ e. ¬ (IsUtf8 word) × Failed e) → result_ok text ≡ Some found → found.now ≡ word
+  text_is (Ok s) found cases some = let same : s ≡ found = cc in subst (λ (t : Bor Text). t.now ≡ word) same cases.0
+  text_is (Err e) found cases some = absurd (cc)

@@ -1,0 +1,13 @@
+pub mod CutLemmas
+pub mod DecimalNumbers
+mod DigitLemmas
+mod GatherLemmas
+pub mod HexStrings
+pub mod JsonLemmas
+pub mod LineLemmas
+mod MixedParts
+pub mod PartTests
+pub mod ReportLemmas
+mod TokenLemmas
+mod Vocabulary
+mod WordLemmas

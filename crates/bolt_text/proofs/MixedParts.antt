@@ -1,0 +1,33 @@
+-- What is printed of an item in the form `mixed` is a word, which is read back as a part.
+use Rattle.std.proofs.Common.{◌≡◌, ◌∙◌, ◌++◌, ◌&&◌, ◌==◌, List, ℕ, Bool, true, false, Result, Some, ap, codes, drop, nat_le, not, refl, sym, take}
+use Rattle.bolt_text.proofs.Vocabulary.{FromHexError, and_parts, bytes_eq, bytes_eq-Decides, encode_lower, hex_bytes_in, if◌then◌else◌, result_ok}
+use Rattle.std.proofs.lemmas.Bool.{not-true}
+use Rattle.std.specs.Cmp.Lexicographic.{pointwise}
+use Rattle.hex.proofs.HexLemmas.{decode_of-encode_lower}
+use Rattle.hex.specs.Hex.{IsBytes}
+use Rattle.bolt_text.specs.PartWords.{mixed_in}
+use Rattle.bolt_text.specs.Forms.{is_marked, is_printable, mixed_text}
+use Rattle.bolt_text.proofs.HexStrings.{digits_pass}
+use Rattle.bolt_tree.proofs.Filters.{not_true}
+
+-- without the mark it is read as text
+unmarked : (bytes : List ℕ) → is_marked bytes ≡ false → bytes_eq (take 2 bytes) (codes "0x") ≡ false
+unmarked bytes none =
+    not_true (bytes_eq (take 2 bytes) (codes "0x")) (λ marked.
+    let same : take 2 bytes ≡ codes "0x" = (bytes_eq-Decides (take 2 bytes) (codes "0x")).0 marked in
+    let both : true ≡ false = sym (ap (λ (front : List ℕ). pointwise (λ a b. a == b) (codes "0x") front) same) ∙ none in cc)
+
+module _ (bytes : List ℕ) (are : IsBytes bytes) where
+  by_test : (plain : Bool) → (is_printable bytes && not (is_marked bytes)) ≡ plain → mixed_in (if plain then bytes else codes "0x" ++ encode_lower bytes) ≡ Some bytes
+  by_test true e = ap (λ (b : Bool). if b then hex_bytes_in (drop 2 bytes) else Some bytes) (unmarked bytes (not-true (is_marked bytes) (and_parts _ _ e).1))
+  by_test false e = ap (λ (read : Result (List ℕ) FromHexError). result_ok read) (decode_of-encode_lower bytes are)
+
+  pub mixed_back : mixed_in (mixed_text bytes) ≡ Some bytes
+  mixed_back = by_test (is_printable bytes && not (is_marked bytes)) refl
+
+  word_by_test : (plain : Bool) → (is_printable bytes && not (is_marked bytes)) ≡ plain → is_printable (if plain then bytes else codes "0x" ++ encode_lower bytes) ≡ true
+  word_by_test true e = (and_parts (is_printable bytes) _ e).0
+  word_by_test false e = digits_pass (λ byte. nat_le 0x20 byte && nat_le byte 0x7E) refl bytes are
+
+  pub mixed_word : is_printable (mixed_text bytes) ≡ true
+  mixed_word = word_by_test (is_printable bytes && not (is_marked bytes)) refl

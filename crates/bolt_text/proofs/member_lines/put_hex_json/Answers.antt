@@ -1,0 +1,14 @@
+use Rattle.std.proofs.Common.{◌∙◌, ap, sym}
+use Rattle.bolt_text.proofs.Vocabulary.{digits_json, item_view, json_line, path_of, Wrote-same}
+use Rattle.bolt_text.proofs.HexStrings.{bucket_line, value_line}
+use Rattle.bolt_text.proofs.member_lines.put_hex_json.Goals as goal
+
+pub returns-in-Value : goal.returns-in-Value
+returns-in-Value g c =
+    let path = path_of c.args.path.now in
+    Wrote-same (value_line path c.in-Value.value.now ∙ ap (λ item. json_line digits_json (path, item_view item)) (sym c.in-Value.is)) c.put_pieces.ensures
+
+pub returns-in-Bucket : goal.returns-in-Bucket
+returns-in-Bucket g c =
+    let path = path_of c.args.path.now in
+    Wrote-same (bucket_line path c.in-Bucket.sequence ∙ ap (λ item. json_line digits_json (path, item_view item)) (sym c.in-Bucket.is)) c.put_pieces-in-Bucket.ensures

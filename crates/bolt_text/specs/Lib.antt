@@ -1,0 +1,15 @@
+pub mod Cuts
+pub mod Forms
+pub mod Gathers
+pub mod HexPaths
+pub mod JsonLines
+pub mod JsonReadings
+pub mod LineMembers
+pub mod LineWords
+pub mod Lines
+pub mod ListForms
+pub mod ListLines
+pub mod Numbers
+pub mod PartWords
+pub mod Pieces
+pub mod ReportEndings

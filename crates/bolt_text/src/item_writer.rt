@@ -1,0 +1,144 @@
+//! Keys and values in a form.
+ghost use Rattle.std.specs.Prelude.{◌≡◌, ◌⊎◌, IfErr, if◌then◌else◌};
+ghost use Rattle.hex.specs.Hex.{encode_lower};
+ghost use Rattle.bolt_format.specs.{Endings.ending, Wrote.Wrote};
+ghost use Rattle.bolt_text.specs.Forms.{digits_json, is_printable, is_text, item_text, json_text, mixed_text, value_text};
+ghost use Rattle.bolt_text.specs.ReportEndings.{report_ending};
+
+use crate::fault::ReportFault;
+use crate::forms::Form;
+use crate::hexadecimal::put_hex;
+use crate::json_text::JsonText;
+use crate::pieces::{Piece, put, put_pieces};
+use bolt_format::{Sink, SinkFault};
+use std::alloc::Global;
+use std::str;
+
+/// Writes keys and values in a form. Only `Json` needs memory, which is kept from item to item.
+#[derive(Drop)]
+pub struct ItemWriter {
+    pub form: Form,
+    json: JsonText,
+}
+
+impl ItemWriter {
+    /// What writes in this form.
+    pub fn new(alloc: Global, form: Form) -> ItemWriter
+        ensures { result.form ≡ form }
+    {
+        ItemWriter {
+            form,
+            json: JsonText::new(alloc),
+        }
+    }
+
+    /// Writes a key or a value, and a line feed.
+    pub fn put_line<S: Sink>(&mut self, bytes: &[u8], sink: &mut S) -> Result<(), ReportFault>
+        ensures form { self.new.form ≡ self.old.form }
+        ensures written { Wrote S.Sink sink.old sink.new (value_text self.old.form bytes.now) (report_ending result) }
+        ensures fault { IfErr result (λ fault. (fault ≡ ReportFault.Sink) ⊎ ((fault ≡ ReportFault.NoMemory) × (self.old.form ≡ Form.Json))) }
+    {
+        self.put(bytes, sink)?;
+        put(b"\n", sink)?;
+        Ok(())
+    }
+
+    /// Writes a key or a value.
+    pub fn put<S: Sink>(&mut self, bytes: &[u8], sink: &mut S) -> Result<(), ReportFault>
+        ensures form { self.new.form ≡ self.old.form }
+        ensures written { Wrote S.Sink sink.old sink.new (item_text self.old.form bytes.now) (report_ending result) }
+        ensures fault { IfErr result (λ fault. (fault ≡ ReportFault.Sink) ⊎ ((fault ≡ ReportFault.NoMemory) × (self.old.form ≡ Form.Json))) }
+    {
+        let written = match self.form {
+            Form::Printable => put_or_hex(bytes, can_be_printed(bytes), sink),
+            Form::Hex => put_hex(bytes, sink),
+            Form::Bytes => put(bytes, sink),
+            Form::Text => put_or_hex(bytes, is_text(bytes), sink),
+            Form::Mixed => put_mixed(bytes, sink),
+            Form::Json => put(self.json.item(bytes)?, sink),
+            Form::JsonHex => put_hex_string(bytes, sink),
+        };
+        Ok(written?)
+    }
+}
+
+/// Writes bytes as they are, or in hexadecimal.
+fn put_or_hex<S: Sink>(bytes: &[u8], as_it_is: bool, sink: &mut S) -> Result<(), SinkFault>
+    ensures { Wrote S.Sink sink.old sink.new (if as_it_is then bytes.now else encode_lower bytes.now) (ending result) }
+{
+    if as_it_is {
+        put(bytes, sink)
+    } else {
+        put_hex(bytes, sink)
+    }
+}
+
+/// Writes bytes as they are, or in hexadecimal after `0x`.
+fn put_mixed<S: Sink>(bytes: &[u8], sink: &mut S) -> Result<(), SinkFault>
+    ensures { Wrote S.Sink sink.old sink.new (mixed_text bytes.now) (ending result) }
+{
+    if can_be_printed(bytes) && !bytes.starts_with(b"0x") {
+        put(bytes, sink)
+    } else {
+        put_pieces(&[Piece::Bytes(b"0x"), Piece::Hex(bytes)], sink)
+    }
+}
+
+/// Writes a JSON string of bytes in hexadecimal.
+#[tactic(auto, unfolding(json::specs::Print::print_from))]
+fn put_hex_string<S: Sink>(bytes: &[u8], sink: &mut S) -> Result<(), SinkFault>
+    ensures { Wrote S.Sink sink.old sink.new (json_text (digits_json bytes.now)) (ending result) }
+{
+    put_pieces(&[Piece::HexString(bytes)], sink)
+}
+
+/// Whether each byte is a printable ASCII character.
+fn can_be_printed(bytes: &[u8]) -> bool
+    ensures { result ≡ is_printable bytes.now }
+{
+    bytes.iter().all(|byte| *byte >= b' ' && *byte <= b'~')
+}
+
+/// Whether the bytes are UTF-8 without control characters.
+fn is_text(bytes: &[u8]) -> bool
+    ensures { result ≡ is_text bytes.now }
+{
+    match str::from_utf8(bytes) {
+        Ok(text) => text.chars().all(|c| !c.is_control()),
+        Err(_) => false,
+    }
+}
+
+/// Writes a key or a value in a form, and a line feed (docs/COMMANDS.md, "What is printed").
+///
+/// # Errors
+///
+/// `Sink` if the sink failed; `NoMemory` if memory ran out for a text in the form `Json`, and the sink
+/// had not failed. The sink has then accepted a prefix of the text. There is no other error, and no
+/// other form needs memory.
+pub fn value<S: Sink>(
+    alloc: Global,
+    bytes: &[u8],
+    form: Form,
+    sink: &mut S,
+) -> Result<(), ReportFault>
+    ensures written { Wrote S.Sink sink.old sink.new (value_text form bytes.now) (report_ending result) }
+    ensures fault { IfErr result (λ fault. (fault ≡ ReportFault.Sink) ⊎ ((fault ≡ ReportFault.NoMemory) × (form ≡ Form.Json))) }
+{
+    let mut items = ItemWriter::new(alloc, form);
+    items.put_line(bytes, sink)
+}
+
+/// Writes a key or a value in a form, as `value` does and with its errors, but no line feed.
+pub fn item<S: Sink>(
+    alloc: Global,
+    bytes: &[u8],
+    form: Form,
+    sink: &mut S,
+) -> Result<(), ReportFault>
+    ensures written { Wrote S.Sink sink.old sink.new (item_text form bytes.now) (report_ending result) }
+    ensures fault { IfErr result (λ fault. (fault ≡ ReportFault.Sink) ⊎ ((fault ≡ ReportFault.NoMemory) × (form ≡ Form.Json))) }
+{
+    let mut items = ItemWriter::new(alloc, form);
+    items.put(bytes, sink)
+}

@@ -1,0 +1,26 @@
+//! Texts of keys, values and the lines of a listing, in their forms: each is written to a sink, and what
+//! can be read back is read here too. A call with a sink writes its text to it. If it fails, the sink has
+//! accepted a prefix of the text.
+#![tactic(auto)]
+
+mod fault;
+mod forms;
+mod hexadecimal;
+mod item_writer;
+mod json_text;
+pub mod laws;
+mod line_words;
+mod member_lines;
+mod path_order;
+mod pieces;
+mod words;
+
+pub use fault::ReportFault;
+pub use forms::{FigureForm, Form, ListForm};
+pub use hexadecimal::decode_digits;
+pub use item_writer::{ItemWriter, item, value};
+pub use line_words::{ItemWord, LineWords, cut_at, first_line, words_of};
+pub use member_lines::MemberLines;
+pub use path_order::{is_before, is_below};
+pub use pieces::{PathForm, Piece, put, put_pieces};
+pub use words::{Parts, read_number};
