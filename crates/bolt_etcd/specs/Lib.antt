@@ -13,6 +13,7 @@ pub mod Passes
 pub mod Records
 pub mod Returns
 pub mod RevisionKeys
+pub mod RevisionLines
 pub mod Revisions
 pub mod RevisionsLeft
 pub mod Shown

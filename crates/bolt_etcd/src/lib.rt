@@ -16,6 +16,7 @@ mod other;
 mod record;
 mod revision;
 mod revision_key;
+mod revision_lines;
 mod revisions;
 mod snapshot;
 #[cfg(test)]
@@ -32,6 +33,7 @@ pub use crate::other::Other;
 pub use crate::record::Record;
 pub use crate::revision::{Decoded, Revision};
 pub use crate::revision_key::RevisionKey;
+pub use crate::revision_lines::RevisionWriter;
 pub use crate::revisions::Revisions;
 pub use crate::snapshot::{
     HASH_LEN, SnapshotFault, hashed_blocks_are_a_snapshot, snapshot_fault, snapshot_fault_text,

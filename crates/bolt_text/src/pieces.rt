@@ -1,12 +1,13 @@
 //! Writes a line as a list of pieces, gathered in a buffer of fixed length before they are written.
-ghost use Rattle.std.specs.Prelude.{◌≡◌, ◌∷◌, ◌++◌, [], OnOk, decimal, replicate};
+ghost use Rattle.std.specs.Prelude.{◌≡◌, ◌∷◌, ◌++◌, [], OnOk, decimal, false, replicate};
+ghost use Rattle.std.specs.Fmt.{digits};
 ghost use Rattle.hex.specs.Hex.{encode_lower};
 ghost use Rattle.bolt_format.specs.{Endings.ending, Wrote.Wrote};
 ghost use Rattle.bolt_tree.specs.Paths.{path_of};
 ghost use Rattle.bolt_text.specs.{Gathers.Gathers, Lines.column, Lines.figure_line};
 ghost use Rattle.bolt_text.specs.Pieces.{hex_string, later_parts, part_text, path_text, piece_text, pieces_text, separator};
 
-use crate::hexadecimal::{put_hex, write_digits};
+use crate::hexadecimal::{NUMBER_LEN, number_digits, put_hex, write_digits};
 use arrayvec::ArrayVec;
 use bolt_format::{Sink, SinkFault};
 use itoa::Buffer;
@@ -18,6 +19,8 @@ pub enum Piece<'a> {
     Bytes(&'a [u8]),
     /// A number in decimal.
     Number(u64),
+    /// A number in lower-case hexadecimal, without leading zeros.
+    HexNumber(u64),
     /// Bytes in lower-case hexadecimal.
     Hex(&'a [u8]),
     /// Bytes in lower-case hexadecimal as a JSON string.
@@ -70,6 +73,7 @@ fn add_piece<S: Sink>(piece: &Piece<'_>, held: &mut Held, sink: &mut S) -> Resul
     match piece {
         Piece::Bytes(bytes) => add_bytes(bytes, held, sink),
         Piece::Number(n) => add_number(*n, held, sink),
+        Piece::HexNumber(n) => add_hex_number(*n, held, sink),
         Piece::Hex(bytes) => add_hex(bytes, held, sink),
         Piece::HexString(bytes) => add_hex_string(bytes, held, sink),
         Piece::HexPath(parts, form) => add_path(parts, *form, held, sink),
@@ -84,6 +88,12 @@ fn add_number<S: Sink>(n: u64, held: &mut Held, sink: &mut S) -> Result<(), Sink
     ensures { Gathers S.Sink sink.old sink.new held.old.items held.new.items (decimal n) (ending result) }
 {
     add_bytes(Buffer::new().format(n).as_bytes(), held, sink)
+}
+
+fn add_hex_number<S: Sink>(n: u64, held: &mut Held, sink: &mut S) -> Result<(), SinkFault>
+    ensures { Gathers S.Sink sink.old sink.new held.old.items held.new.items (digits 16 false n) (ending result) }
+{
+    add_bytes(number_digits(n, &mut [0; NUMBER_LEN]), held, sink)
 }
 
 fn add_field<S: Sink>(name: &[u8], n: u64, held: &mut Held, sink: &mut S) -> Result<(), SinkFault>
