@@ -15,6 +15,7 @@ pub mod OtherSteps
 pub mod Passing
 pub mod RevisionLoops
 pub mod RevisionSteps
+pub mod RevisionTexts
 pub mod SnapshotLemmas
 mod TrailingAccounts
 mod TrailingBytes

@@ -1,6 +1,7 @@
 -- Revisions as lines: docs/COMMANDS.md, "What is printed".
-use Rattle.std.specs.Prelude.{ℕ, Bool, false, List, [], ◌++◌, codes, decimal, flat_map, length, if◌then◌else◌}
+use Rattle.std.specs.Prelude.{ℕ, Bool, false, List, [], ◌++◌, codes, decimal, filter, flat_map, ◌==◌, length, if◌then◌else◌}
 use Rattle.std.specs.Fmt.{digits}
+use Rattle.std.specs.List.{starts_with}
 use Rattle.bolt_text.specs.{Forms.is_json, Forms.item_text, declared.forms.Form.Form}
 use Rattle.bolt_etcd.specs.Revisions.{RevisionView}
 
@@ -36,3 +37,14 @@ revision_line form values r = head form r ++ (item_text form r.content.name ++ (
 -- one after another
 abbrev pub revision_lines : Form → (values : Bool) → List RevisionView → List ℕ
 revision_lines form values rs = flat_map (revision_line form values) rs
+
+-- those whose names begin with these bytes
+abbrev pub begins : List ℕ → RevisionView → Bool
+begins prefix r = starts_with (λ a b. a == b) r.content.name prefix
+
+abbrev pub named : List ℕ → List RevisionView → List RevisionView
+named prefix rs = filter (begins prefix) rs
+
+-- what one revision adds to the lines of these
+abbrev pub named_line : List ℕ → Form → (values : Bool) → RevisionView → List ℕ
+named_line prefix form values r = if begins prefix r then revision_line form values r else []

@@ -17,6 +17,7 @@ mod record;
 mod revision;
 mod revision_key;
 mod revision_lines;
+mod revision_texts;
 mod revisions;
 mod snapshot;
 #[cfg(test)]

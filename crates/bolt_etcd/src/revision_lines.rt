@@ -3,7 +3,7 @@ ghost use Rattle.std.specs.Prelude.{◌≡◌, ◌⊎◌, ◌++◌, IfErr};
 ghost use Rattle.bolt_check.specs.Keys.{Key};
 ghost use Rattle.bolt_format.specs.{Endings.ending, Wrote.Wrote};
 ghost use Rattle.bolt_text.specs.{Forms.item_text, ReportEndings.report_ending};
-ghost use Rattle.bolt_etcd.specs.RevisionLines.{columns, head, line_end, members, revision_line, value_mark, value_part};
+ghost use Rattle.bolt_etcd.specs.RevisionLines.{columns, head, line_end, members, named_line, revision_line, value_mark, value_part};
 ghost use Rattle.bolt_etcd.specs.ShownRevisions.{shown_decoded, shown_revision};
 
 use crate::revision::{Decoded, Revision};
@@ -50,6 +50,25 @@ impl RevisionWriter {
         self.put_value(&decoded, sink)?;
         put(line_end(self.items.form), sink)?;
         Ok(())
+    }
+
+    /// Writes the line of a revision, if its name begins with these bytes. The errors are as those of `put`.
+    pub(crate) fn put_named<S: Sink>(
+        &mut self,
+        prefix: &[u8],
+        revision: &Revision<'_>,
+        sink: &mut S,
+    ) -> Result<(), ReportFault>
+        ensures form { self.new.items.form ≡ self.old.items.form }
+        ensures values { self.new.values ≡ self.old.values }
+        ensures written { Wrote S.Sink sink.old sink.new (named_line prefix.now self.old.items.form self.old.values (shown_revision revision.now)) (report_ending result) }
+        ensures fault { IfErr result (λ fault. (fault ≡ ReportFault.Sink) ⊎ ((fault ≡ ReportFault.NoMemory) × (self.old.items.form ≡ Form.Json))) }
+    {
+        if revision.name().starts_with(prefix) {
+            self.put(revision, sink)
+        } else {
+            Ok(())
+        }
     }
 
     /// Writes the value of a revision after its mark, if values are wanted.
