@@ -1,3 +1,4 @@
+pub mod CheckLines
 pub mod Compacted
 pub mod Current
 pub mod FaultsLeft

@@ -4,6 +4,7 @@
 #![tactic(auto)]
 
 mod by_name;
+mod check_lines;
 mod compaction;
 mod current;
 mod follows;
