@@ -12,7 +12,8 @@ use Rattle.bolt_check.specs.declared.Checked.{Checked}
 use Rattle.bolt_format.specs.Elements.{LeafElement}
 use Rattle.bolt_tree.proofs.Lists.{contains_cases, contains_head, contains_none, contains_tail}
 use Rattle.bolt_tree.specs.{BucketViews.entries_of, Entries.AreEntries, Entries.Start, Lookups.IsValueAt}
-use Rattle.bolt_etcd.specs.NameFaults.{has_lease, is_lease}
+use Rattle.bolt_tree.specs.declared.bucket.Bucket.{Bucket}
+use Rattle.bolt_etcd.specs.{FaultsLeft.ForGranted, NameFaults.has_lease, NameFaults.is_lease}
 
 -- ---- whether one of a list passes a test
 
@@ -75,3 +76,9 @@ module _ (checked : Checked) (start : Start) (entries : List LeafElement) (lease
   lacks f o none asked more is found told =
       twice none ∙ ap not (sym told ∙ sym (shown f o) ∙ sym (looked_up (option_map f o) (rw is at found)))
       ∙ sym (rw (ne_eqb lease 0 more) refl)
+
+-- ---- for whatever leases there are
+
+pub granted_with : (leases : Option Bucket) (P Q R : (ℕ → Bool) → Type 0) → ForGranted leases P → ForGranted leases Q → ((granted : ℕ → Bool) → P granted → Q granted → R granted) → ForGranted leases R
+granted_with None P Q R p q both = both _ p q
+granted_with (Some leases) P Q R p q both = λ entries are. both _ (p entries are) (q entries are)

@@ -6,6 +6,7 @@ pub mod KeyNumbers
 pub mod Keys
 pub mod Leases
 pub mod LastOfAll
+pub mod ListedTexts
 pub mod Messages
 pub mod MissingExact
 pub mod MissingSteps

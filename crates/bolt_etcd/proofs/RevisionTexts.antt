@@ -1,5 +1,5 @@
 -- Texts of revisions, line by line.
-use Rattle.std.proofs.Common.{◌≡◌, ◌∙◌, ◌<◌, ◌+◌, ◌++◌, ℕ, suc, Bool, true, false, List, [], ◌∷◌, cond, drop, filter, flat_map, get_or, length, map, refl, sym, ap, arith}
+use Rattle.std.proofs.Common.{◌≡◌, ◌∙◌, ◌<◌, ◌+◌, ◌++◌, ℕ, suc, Bool, true, false, List, [], ◌∷◌, cond, drop, flat_map, get_or, length, map, refl, sym, ap, arith}
 use Rattle.std.proofs.Math.Seq.{drop-cons}
 use Rattle.bolt_text.specs.declared.forms.Form.{Form}
 use Rattle.bolt_etcd.specs.{RevisionLines.begins, RevisionLines.named, RevisionLines.named_line, RevisionLines.revision_line, RevisionLines.revision_lines}

@@ -5,6 +5,7 @@
 
 mod by_name;
 mod check_lines;
+mod check_texts;
 mod compaction;
 mod current;
 mod follows;

@@ -1,4 +1,4 @@
-use Rattle.std.proofs.Common.{◌∙◌, ◌++◌, List, ap, flat_map}
+use Rattle.std.proofs.Common.{◌∙◌, List, ap, flat_map}
 use Rattle.bolt_format.proofs.{WroteFronts.front_more, WroteFronts.front_whole, WroteLemmas.Wrote-same}
 use Rattle.bolt_text.proofs.ReportLemmas.{front_fault}
 use Rattle.bolt_etcd.specs.{RevisionLines.named_line, Revisions.RevisionView, ShownRevisions.shown_revision, Stores.revisions}
