@@ -38,7 +38,7 @@ pushed items more r left new total is first before =
 
 -- ---- revisions rise by their places, as entries do by their keys
 
-bind_some : {A B : Type 0} (o : Option A) (f : A → Option B) (y : B) → (o >>= f) ≡ Some y → (x : A) × (o ≡ Some x) × (f x ≡ Some y)
+pub bind_some : {A B : Type 0} (o : Option A) (f : A → Option B) (y : B) → (o >>= f) ≡ Some y → (x : A) × (o ≡ Some x) × (f x ≡ Some y)
 bind_some None f y e = cc
 bind_some (Some x) f y e = (x, refl, e)
 
@@ -59,7 +59,7 @@ from_step (Some s) e es r is later has = elim (contains_cases s r (revisions es)
   | inr more ↦ (let (f, there, found) = later more in (f, contains_tail e f es there, found))
 ]
 
-from_entry : (es : List LeafElement) (r : RevisionView) → Contains (revisions es) r → (f : LeafElement) × Contains es f × (revision_of (entry_view f) ≡ Some r)
+pub from_entry : (es : List LeafElement) (r : RevisionView) → Contains (revisions es) r → (f : LeafElement) × Contains es f × (revision_of (entry_view f) ≡ Some r)
 from_entry [] r has = absurd (contains_none r has)
 from_entry (e ∷ es) r has = from_step (revision_of (entry_view e)) e es r refl (from_entry es r) has
 

@@ -129,3 +129,13 @@ by_tests bytes k false false h at17 at18 is = cc
 pub read_spelled : (bytes : List ℕ) (k : RevisionKey) → IsBytes bytes → revision_key bytes ≡ Some k → (bytes ≡ spelling k) × IsSpelled k
 unfolding IsReadAs revision_key
 read_spelled bytes k h is = by_tests bytes k _ _ h refl refl is
+
+bounded : (bytes : List ℕ) (k : RevisionKey) (plain deleted : Bool) → (if plain then numbers bytes false else if deleted then numbers bytes true else None) ≡ Some k → IsSpelled k
+bounded bytes k true deleted is = let (p, flag) = parts_of bytes false k is in p.spelled
+bounded bytes k false true is = let (p, flag) = parts_of bytes true k is in p.spelled
+bounded bytes k false false is = cc
+
+-- its numbers are below 2^63
+pub read_fits : (bytes : List ℕ) (k : RevisionKey) → revision_key bytes ≡ Some k → IsSpelled k
+unfolding revision_key
+read_fits bytes k is = bounded bytes k _ _ is

@@ -1,9 +1,12 @@
+pub mod ByName
 pub mod Currents
 pub mod Fields
 pub mod Filtered
 pub mod KeyNumbers
 pub mod Keys
+pub mod Leases
 pub mod LastOfAll
+pub mod ListedTexts
 pub mod Messages
 pub mod MissingExact
 pub mod MissingSteps
@@ -13,6 +16,7 @@ pub mod OtherSteps
 pub mod Passing
 pub mod RevisionLoops
 pub mod RevisionSteps
+pub mod RevisionTexts
 pub mod SnapshotLemmas
 mod TrailingAccounts
 mod TrailingBytes

@@ -39,8 +39,12 @@ impl<'a> Current<'a> {
     }
 }
 
-/// The revisions of a bucket of no later transaction than `up_to`.
-fn collect<'a>(alloc: Global, bucket: &Bucket<'a>, up_to: u64) -> Result<Current<'a>, NoMemory>
+/// The revisions of a bucket of no later transaction than `up_to`, in the order of their keys.
+pub(crate) fn collect<'a>(
+    alloc: Global,
+    bucket: &Bucket<'a>,
+    up_to: u64,
+) -> Result<Current<'a>, NoMemory>
     ensures revisions { IfOk result (λ all. ForBucket bucket.now (λ entries.
         map shown_revision all.revisions.items ≡ until up_to (revisions entries))) }
     ensures others { IfOk result (λ all. ForBucket bucket.now (λ entries. all.others ≡ counted 0 (length (others entries)))) }

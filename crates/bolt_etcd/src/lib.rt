@@ -3,31 +3,40 @@
 //! reads the entries of buckets.
 #![tactic(auto)]
 
+mod by_name;
+mod check_lines;
+mod check_texts;
 mod compaction;
 mod current;
 mod follows;
 pub mod laws;
 mod misplaced;
 mod missing;
+mod name_faults;
 mod newest;
 mod other;
 mod record;
 mod revision;
 mod revision_key;
+mod revision_lines;
+mod revision_texts;
 mod revisions;
 mod snapshot;
 #[cfg(test)]
 mod tests;
 mod wire;
 
+pub use crate::by_name::revisions_by_name;
 pub use crate::compaction::compacted;
 pub use crate::current::Current;
 pub use crate::missing::{Missing, MissingNumbers};
+pub use crate::name_faults::{NameFault, NameFaults};
 pub use crate::newest::Newest;
 pub use crate::other::Other;
 pub use crate::record::Record;
 pub use crate::revision::{Decoded, Revision};
 pub use crate::revision_key::RevisionKey;
+pub use crate::revision_lines::RevisionWriter;
 pub use crate::revisions::Revisions;
 pub use crate::snapshot::{
     HASH_LEN, SnapshotFault, hashed_blocks_are_a_snapshot, snapshot_fault, snapshot_fault_text,

@@ -2,6 +2,7 @@ pub mod CutLemmas
 pub mod DecimalNumbers
 mod DigitLemmas
 mod GatherLemmas
+mod HexNumbers
 pub mod HexStrings
 pub mod JsonLemmas
 pub mod LineLemmas

@@ -1,12 +1,13 @@
 -- The text of pieces.
-use Rattle.std.specs.Prelude.{ℕ, List, ◌∷◌, ◌++◌, decimal, flat_map, map}
+use Rattle.std.specs.Prelude.{ℕ, List, ◌∷◌, ◌++◌, decimal, false, flat_map, map}
+use Rattle.std.specs.Fmt.{digits}
 use Rattle.std.specs.List.{join_with_byte}
 use Rattle.std.specs.Borrow.{Bor}
 use Rattle.hex.specs.Hex.{encode_lower}
 use Rattle.json.specs.Print.{quoted}
 use Rattle.bolt_tree.specs.Paths.{Path, path_of}
 use Rattle.bolt_text.specs.{Lines.column, Lines.figure_line, declared.pieces.Piece.Piece}
-use Rattle.bolt_text.specs.declared.pieces.Piece.TheVariants.{Bytes, Number, Hex, HexString, HexPath, Field, Figure, Column, NumberColumn}
+use Rattle.bolt_text.specs.declared.pieces.Piece.TheVariants.{Bytes, Number, HexNumber, Hex, HexString, HexPath, Field, Figure, Column, NumberColumn}
 use Rattle.bolt_text.specs.{declared.pieces.PathForm.PathForm, declared.pieces.PathForm.TheVariants.Slashes, declared.pieces.PathForm.TheVariants.Strings}
 
 -- bytes in hexadecimal as a JSON string
@@ -32,6 +33,7 @@ later_parts form parts = flat_map (λ (part : Bor (List ℕ)). separator form �
 abbrev pub piece_text : Piece → List ℕ
 piece_text (Bytes bytes) = bytes.now
 piece_text (Number n) = decimal n
+piece_text (HexNumber n) = digits 16 false n
 piece_text (Hex bytes) = encode_lower bytes.now
 piece_text (HexString bytes) = hex_string bytes.now
 piece_text (HexPath parts form) = path_text form (path_of parts.now)

@@ -2,6 +2,7 @@
 ghost use Rattle.std.specs.Prelude.{◌≡◌, ◌*◌, ◌/◌, ◌%◌, ◌<◌, ◌≤◌, ◌∷◌, [], MatchResult, Some, false, length, slice_index, true};
 ghost use Rattle.std.specs.Bool.{OnTrue};
 ghost use Rattle.std.specs.Char.{is_ascii_hexdigit};
+ghost use Rattle.std.specs.Fmt.{digit_glyph, digits};
 ghost use Rattle.hex.specs.Hex.{decode_sized, encode_lower, hex_digit_value, lower_digits};
 ghost use Rattle.bolt_format.specs.{Endings.ending, Wrote.Wrote};
 
@@ -13,6 +14,9 @@ const PART_LEN: usize = 256;
 /// The same of a long text. Its digits are as many as the program gathers before it writes them, so
 /// they are written at once, and not copied to what is gathered.
 const LONG_PART_LEN: usize = 1 << 15;
+
+/// The most digits that a number has.
+pub(crate) const NUMBER_LEN: usize = 16;
 
 /// Writes bytes in hexadecimal, part by part.
 pub(crate) fn put_hex<S: Sink>(bytes: &[u8], sink: &mut S) -> Result<(), SinkFault>
@@ -90,6 +94,32 @@ fn digits_of(byte: u8) -> [u8; 2]
     let values = byte / 16 + byte % 16 * 256;
     let letters = (values + 0x0606) / 16 & 0x0101;
     (values + 0x3030 + letters * 39).to_le_bytes()
+}
+
+/// The digits of a number without leading zeros, written to the end of a buffer.
+pub(crate) fn number_digits(n: u64, buffer: &mut [u8; NUMBER_LEN]) -> &[u8]
+    ensures { result.now ≡ digits 16 false n }
+{
+    let (mut rest, mut at) = (n, NUMBER_LEN - 1);
+    'digits: while rest >= 16 {
+        buffer[at] = digit_glyph(rest % 16);
+        at -= 1;
+        rest /= 16;
+    }
+    buffer[at] = digit_glyph(rest);
+    &buffer[at..]
+}
+
+/// A digit of a number below 16.
+fn digit_glyph(digit: u64) -> u8
+    requires { digit < 16 }
+    ensures { result ≡ digit_glyph false digit }
+{
+    if digit < 10 {
+        b'0' + digit as u8
+    } else {
+        b'a' - 10 + digit as u8
+    }
 }
 
 /// The value of a hexadecimal digit in either case. Of other bytes, it is any.

@@ -3,7 +3,7 @@ ghost use Rattle.std.specs.Prelude.{◌≡◌, ◌⊎◌, IfErr, if◌then◌els
 ghost use Rattle.hex.specs.Hex.{encode_lower};
 ghost use Rattle.bolt_format.specs.{Endings.ending, Wrote.Wrote};
 ghost use Rattle.bolt_text.specs.Forms.{digits_json, is_printable, is_text, item_text, json_text, mixed_text, value_text};
-ghost use Rattle.bolt_text.specs.ReportEndings.{report_ending};
+ghost use Rattle.bolt_text.specs.{Pieces.piece_text, ReportEndings.report_ending};
 
 use crate::fault::ReportFault;
 use crate::forms::Form;
@@ -91,6 +91,17 @@ fn put_hex_string<S: Sink>(bytes: &[u8], sink: &mut S) -> Result<(), SinkFault>
     ensures { Wrote S.Sink sink.old sink.new (json_text (digits_json bytes.now)) (ending result) }
 {
     put_pieces(&[Piece::HexString(bytes)], sink)
+}
+
+/// A name as the form `printable` writes it.
+pub fn printable(name: &[u8]) -> Piece<'_>
+    ensures { piece_text result ≡ item_text Form.Printable name.now }
+{
+    if can_be_printed(name) {
+        Piece::Bytes(name)
+    } else {
+        Piece::Hex(name)
+    }
 }
 
 /// Whether each byte is a printable ASCII character.

@@ -18,7 +18,7 @@ mod words;
 pub use fault::ReportFault;
 pub use forms::{FigureForm, Form, ListForm};
 pub use hexadecimal::decode_digits;
-pub use item_writer::{ItemWriter, item, value};
+pub use item_writer::{ItemWriter, item, printable, value};
 pub use line_words::{ItemWord, LineWords, cut_at, first_line, words_of};
 pub use member_lines::MemberLines;
 pub use path_order::{is_before, is_below};

@@ -1,12 +1,13 @@
 //! Writes a line as a list of pieces, gathered in a buffer of fixed length before they are written.
-ghost use Rattle.std.specs.Prelude.{◌≡◌, ◌∷◌, ◌++◌, [], OnOk, decimal, replicate};
+ghost use Rattle.std.specs.Prelude.{◌≡◌, ◌∷◌, ◌++◌, [], OnOk, decimal, false, replicate};
+ghost use Rattle.std.specs.Fmt.{digits};
 ghost use Rattle.hex.specs.Hex.{encode_lower};
 ghost use Rattle.bolt_format.specs.{Endings.ending, Wrote.Wrote};
 ghost use Rattle.bolt_tree.specs.Paths.{path_of};
 ghost use Rattle.bolt_text.specs.{Gathers.Gathers, Lines.column, Lines.figure_line};
 ghost use Rattle.bolt_text.specs.Pieces.{hex_string, later_parts, part_text, path_text, piece_text, pieces_text, separator};
 
-use crate::hexadecimal::{put_hex, write_digits};
+use crate::hexadecimal::{NUMBER_LEN, number_digits, put_hex, write_digits};
 use arrayvec::ArrayVec;
 use bolt_format::{Sink, SinkFault};
 use itoa::Buffer;
@@ -18,6 +19,8 @@ pub enum Piece<'a> {
     Bytes(&'a [u8]),
     /// A number in decimal.
     Number(u64),
+    /// A number in lower-case hexadecimal, without leading zeros.
+    HexNumber(u64),
     /// Bytes in lower-case hexadecimal.
     Hex(&'a [u8]),
     /// Bytes in lower-case hexadecimal as a JSON string.
@@ -74,6 +77,7 @@ fn add_piece<S: Sink>(
     match piece {
         Piece::Bytes(bytes) => add_bytes(bytes, gathered, sink),
         Piece::Number(n) => add_number(*n, gathered, sink),
+        Piece::HexNumber(n) => add_hex_number(*n, gathered, sink),
         Piece::Hex(bytes) => add_hex(bytes, gathered, sink),
         Piece::HexString(bytes) => add_hex_string(bytes, gathered, sink),
         Piece::HexPath(parts, form) => add_path(parts, *form, gathered, sink),
@@ -88,6 +92,16 @@ fn add_number<S: Sink>(n: u64, gathered: &mut Gathered, sink: &mut S) -> Result<
     ensures { Gathers S.Sink sink.old sink.new gathered.old.items gathered.new.items (decimal n) (ending result) }
 {
     add_bytes(Buffer::new().format(n).as_bytes(), gathered, sink)
+}
+
+fn add_hex_number<S: Sink>(
+    n: u64,
+    gathered: &mut Gathered,
+    sink: &mut S,
+) -> Result<(), SinkFault>
+    ensures { Gathers S.Sink sink.old sink.new gathered.old.items gathered.new.items (digits 16 false n) (ending result) }
+{
+    add_bytes(number_digits(n, &mut [0; NUMBER_LEN]), gathered, sink)
 }
 
 fn add_field<S: Sink>(

@@ -1,0 +1,32 @@
+-- Texts of revisions, line by line.
+use Rattle.std.proofs.Common.{◌≡◌, ◌∙◌, ◌<◌, ◌+◌, ◌++◌, ℕ, suc, Bool, true, false, List, [], ◌∷◌, cond, drop, flat_map, get_or, length, map, refl, sym, ap, arith}
+use Rattle.std.proofs.Math.Seq.{drop-cons}
+use Rattle.bolt_text.specs.declared.forms.Form.{Form}
+use Rattle.bolt_etcd.specs.{RevisionLines.begins, RevisionLines.named, RevisionLines.named_line, RevisionLines.revision_line, RevisionLines.revision_lines}
+use Rattle.bolt_etcd.specs.{Revisions.RevisionView, ShownRevisions.shown_revision}
+use Rattle.bolt_etcd.specs.declared.revision.Revision.{Revision}
+
+module _ (prefix : List ℕ) (form : Form) (values : Bool) where
+  named_step : (r : RevisionView) (rs : List RevisionView) (b : Bool) → flat_map (named_line prefix form values) rs ≡ revision_lines form values (named prefix rs)
+      → (cond b (revision_line form values r) [] ++ flat_map (named_line prefix form values) rs) ≡ revision_lines form values (cond b (r ∷ named prefix rs) (named prefix rs))
+  named_step r rs true later = ap (λ (text : List ℕ). revision_line form values r ++ text) later
+  named_step r rs false later = later
+
+  -- the lines of those that are named so
+  pub named_lines : (rs : List RevisionView) → flat_map (named_line prefix form values) rs ≡ revision_lines form values (named prefix rs)
+  named_lines [] = refl
+  named_lines (r ∷ rs) = named_step r rs (begins prefix r) (named_lines rs)
+
+-- of those from number i on, the first and then the others
+pub lines_at : (line : RevisionView → List ℕ) (rs : List Revision) (i : ℕ) (r : Revision) → i < length rs → r ≡ get_or rs i r
+    → flat_map line (map shown_revision (drop i rs)) ≡ line (shown_revision r) ++ flat_map line (map shown_revision (drop (i + 1) rs))
+lines_at line rs i r within is =
+    let next : suc i ≡ i + 1 = omega arith in
+    ap (λ (l : List Revision). flat_map line (map shown_revision l)) (drop-cons rs i r within)
+    ∙ ap (λ (x : Revision). line (shown_revision x) ++ flat_map line (map shown_revision (drop (suc i) rs))) (sym is)
+    ∙ ap (λ (n : ℕ). line (shown_revision r) ++ flat_map line (map shown_revision (drop n rs))) next
+
+-- in the same form, with values or without as before
+pub same_line : (prefix : List ℕ) (old new : Form) (values asked : Bool) (r : RevisionView) → new ≡ old → asked ≡ values
+    → named_line prefix new asked r ≡ named_line prefix old values r
+same_line prefix old new values asked r form same = rw (form, same) refl

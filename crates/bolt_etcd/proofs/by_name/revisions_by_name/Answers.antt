@@ -1,0 +1,12 @@
+use Rattle.std.proofs.Common.{◌≡◌, ◌∙◌, ap, is_lt, rules}
+use Rattle.std.proofs.lemmas.List.Sorted.{answers_always}
+use Rattle.bolt_etcd.specs.{NameFaults.by_name_cmp, ShownRevisions.shown_revision}
+use Rattle.bolt_etcd.proofs.ByName.{are_by_name, code_by_name, code_ranks, until_all}
+use Rattle.bolt_etcd.proofs.by_name.revisions_by_name.Goals as goal
+
+pub returns : goal.returns
+returns c = λ entries are.
+    are_by_name _ _ _ (c.in_ok-all.ensures.revisions entries are ∙ until_all entries)
+    c.sort_unstable_by.ensures.permutation
+    (c.sort_unstable_by.ensures.sorted code_by_name code_ranks (answers_always _ _ _ (λ f a r g h.
+    let e : r ≡ by_name_cmp (shown_revision a.0.now) (shown_revision a.1.0.now) = search rules in ap is_lt e)))

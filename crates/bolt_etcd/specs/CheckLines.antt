@@ -1,0 +1,53 @@
+-- What is wrong with a store, line by line: docs/COMMANDS.md, "What is printed".
+use Rattle.std.specs.Prelude.{ℕ, false, List, [], ◌∷◌, ◌+◌, ◌++◌, ◌==◌, codes, decimal, if◌then◌else◌}
+use Rattle.std.specs.Fmt.{digits}
+use Rattle.bolt_text.specs.{Forms.item_text, declared.forms.Form.TheVariants.Hex, declared.forms.Form.TheVariants.Printable}
+use Rattle.bolt_etcd.specs.{NameFaults.NameFaultView, Others.No_record, Others.OtherView, Others.Other_key, Revisions.RevisionView}
+use Rattle.bolt_etcd.specs.declared.{missing.Missing.Missing, missing.Missing.TheVariants.Revisions, missing.Missing.TheVariants.Transactions, revision_key.RevisionKey.RevisionKey}
+
+-- a revision by its numbers, `MAIN.SUB`, and then the rest of the line
+abbrev pub numbers_then : ℕ → ℕ → List ℕ → List ℕ
+numbers_then main sub rest = decimal main ++ (codes "." ++ (decimal sub ++ rest))
+
+abbrev pub revision_then : RevisionKey → List ℕ → List ℕ
+revision_then k rest = codes "revision " ++ numbers_then k.main k.sub rest
+
+-- of an entry that isn't a revision
+abbrev pub other_line : OtherView → List ℕ
+other_line (Other_key key) = codes "key " ++ (item_text Hex key ++ codes ": not a revision\n")
+other_line (No_record k) = revision_then k (codes ": not a record\n")
+
+-- of a record of another revision
+abbrev pub misplaced_line : RevisionView → List ℕ
+misplaced_line r = revision_then r.key (codes ": record of revision " ++ (decimal r.content.modified ++ codes "\n"))
+
+-- of what is missing by its number
+abbrev pub missing_line : Missing → List ℕ
+missing_line (Transactions first last) =
+    if first == last then codes "revision " ++ (decimal first ++ codes ": missing\n")
+    else codes "revisions " ++ (decimal first ++ (codes " to " ++ (decimal last ++ codes ": missing\n")))
+missing_line (Revisions main first last) =
+    if first == last then codes "revision " ++ numbers_then main first (codes ": missing\n")
+    else codes "revisions " ++ numbers_then main first (codes " to " ++ numbers_then main last (codes ": missing\n"))
+
+-- a revision with its name, and then the rest
+abbrev pub named_then : RevisionView → List ℕ → List ℕ
+named_then r rest = revision_then r.key (codes " of " ++ (item_text Printable r.content.name ++ rest))
+
+abbrev pub one_before_line : RevisionView → List ℕ
+one_before_line r = named_then r (codes ": one before it is missing\n")
+
+abbrev pub lease_line : RevisionView → List ℕ
+lease_line r = named_then r (codes ": lease " ++ (digits 16 false r.content.lease ++ codes " is missing\n"))
+
+-- of a revision of which something is missing: a line for each
+abbrev pub fault_lines : NameFaultView → List ℕ
+fault_lines f = (if f.one_before then one_before_line f.revision else []) ++ (if f.lease then lease_line f.revision else [])
+
+-- how many lines these have
+abbrev pub number_of : NameFaultView → ℕ
+number_of f = (if f.one_before then 1 else 0) + (if f.lease then 1 else 0)
+
+abbrev pub lines_of : List NameFaultView → ℕ
+lines_of [] = 0
+lines_of (f ∷ fs) = number_of f + lines_of fs

@@ -1,0 +1,39 @@
+-- What a pass over the revisions of all names has ahead of it.
+use Rattle.std.specs.Prelude.{◌≡◌, ◌||◌, if◌then◌else◌, ℕ, Bool, false, List, [], ◌∷◌, drop, length, map, Option, Some, None}
+use Rattle.std.specs.Option.{option_map}
+use Rattle.bolt_tree.specs.declared.bucket.Bucket.{Bucket}
+use Rattle.bolt_etcd.specs.{NameFaults.NameFaultView, NameFaults.has_lease, NameFaults.name_faults, ShownRevisions.shown_revision, Stores.ForBucket}
+use Rattle.bolt_etcd.specs.declared.{name_faults.NameFault.NameFault, name_faults.NameFaults.NameFaults, revision.Revision.Revision}
+
+abbrev pub shown_fault : NameFault → NameFaultView
+shown_fault f = record { revision = shown_revision f.revision; one_before = f.one_before; lease = f.lease }
+
+-- the revisions that it still has to go over
+abbrev pub revisions_left : NameFaults → List Revision
+revisions_left pass = drop pass.at pass.revisions.now
+
+-- those that it still has to return, if this says of each lease whether it is there
+unfoldable pub faults_left : NameFaults → (ℕ → Bool) → List NameFaultView
+faults_left pass granted = name_faults pass.compacted granted (option_map shown_revision pass.before) (map shown_revision (revisions_left pass))
+
+unfoldable pub faults_leases : NameFaults → Option Bucket
+faults_leases pass = pass.leases
+
+-- at most so many are left
+unfoldable pub faults_number : NameFaults → ℕ
+faults_number pass = length (revisions_left pass)
+
+-- this holds of the leases that there are; without a bucket there is none
+abbrev pub ForGranted : Option Bucket → ((ℕ → Bool) → Type 0) → Type 0
+ForGranted None P = P (λ lease. false)
+ForGranted (Some leases) P = ForBucket leases (λ entries. P (has_lease entries))
+
+-- the first is returned, and the others are left; or none is left
+abbrev pub GivesFault : (old new : List NameFaultView) → Option NameFault → Type 0
+GivesFault old new (Some f) = old ≡ shown_fault f ∷ new
+GivesFault old new None = (old ≡ []) × (new ≡ [])
+
+-- the fault of the next revision is returned, if anything is missing of it, and those of later ones are left
+abbrev pub StepsOver : (ℕ → Bool) → (old new : NameFaults) → Option NameFault → Type 0
+StepsOver granted old new (Some f) = faults_left old granted ≡ (if f.one_before || f.lease then shown_fault f ∷ faults_left new granted else faults_left new granted)
+StepsOver granted old new None = (faults_left old granted ≡ []) × (faults_left new granted ≡ [])

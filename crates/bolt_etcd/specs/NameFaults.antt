@@ -1,0 +1,63 @@
+-- What is missing of the names of a store. The revisions are looked at by rising name, and of one name in their order: each must follow
+-- the one before it of its name, and the lease of the newest one must be there.
+use Rattle.std.specs.Prelude.{ℕ, ◌==◌, ◌&&◌, ◌||◌, Bool, true, false, List, [], ◌∷◌, not, Option, Some, None, if◌then◌else◌}
+use Rattle.std.specs.Int.{to_be_bytes, w64}
+use Rattle.std.specs.List.{list_any}
+use Rattle.std.specs.List.Sorted.{IsPermutation, IsSortedBy}
+use Rattle.std.specs.Ordering.{is_lt, ordering_then}
+use Rattle.std.specs.Str.{bytes_eq}
+use Rattle.std.specs.declared.cmp.Ordering.{Ordering}
+use Rattle.bolt_format.specs.Elements.{LeafElement}
+use Rattle.bolt_etcd.specs.{Current.name_cmp, Current.place_cmp, Follows.follows, MissingNumbers.is_above, Newest.is_named, Revisions.RevisionView, Revisions.name_of}
+
+-- by name, and of one name in their order
+abbrev pub by_name_cmp : RevisionView → RevisionView → Ordering
+by_name_cmp a b = ordering_then (name_cmp a b) (place_cmp a b)
+
+-- these revisions, in this order
+pub record AreByName (rs sorted : List RevisionView) : Type 0 where
+  pub same : IsPermutation rs sorted
+  pub rises : IsSortedBy (λ a b. is_lt (by_name_cmp a b)) sorted
+
+-- whether a bucket has a value under the lease's number in eight bytes, if these are its entries
+abbrev pub is_lease : ℕ → LeafElement → Bool
+is_lease lease e = bytes_eq e.key (to_be_bytes w64 lease) && not e.is_bucket
+
+abbrev pub has_lease : List LeafElement → ℕ → Bool
+has_lease entries lease = list_any (is_lease lease) entries
+
+-- the one before it, if that is of the same name
+abbrev pub before_of : Option RevisionView → RevisionView → Option RevisionView
+before_of None r = None
+before_of (Some before) r = if is_named (name_of r) before then Some before else None
+
+-- whether it doesn't follow the one before it. Without the transaction of the last compaction nobody knows
+abbrev pub lacks_one_before : Option ℕ → Option RevisionView → RevisionView → Bool
+lacks_one_before None before r = false
+lacks_one_before (Some compacted) before r = is_above compacted r && not (follows (before_of before r) r)
+
+-- whether it is the newest of its name, if these come next
+abbrev pub is_newest : RevisionView → List RevisionView → Bool
+is_newest r [] = true
+is_newest r (next ∷ later) = not (is_named (name_of r) next)
+
+-- whether it has a lease that isn't there
+abbrev pub lacks_lease : (ℕ → Bool) → RevisionView → Bool
+lacks_lease granted r = not (r.content.lease == 0) && not (granted r.content.lease)
+
+-- what is missing of a revision
+pub record NameFaultView : Type 0 where
+  pub revision : RevisionView
+  pub one_before : Bool
+  pub lease : Bool
+
+abbrev pub fault_of : Option ℕ → (ℕ → Bool) → Option RevisionView → RevisionView → List RevisionView → NameFaultView
+fault_of compacted granted before r later =
+    record { revision = r; one_before = lacks_one_before compacted before r; lease = is_newest r later && lacks_lease granted r }
+
+-- those of which anything is missing, if this one comes before them
+abbrev pub name_faults : Option ℕ → (ℕ → Bool) → Option RevisionView → List RevisionView → List NameFaultView
+name_faults compacted granted before [] = []
+name_faults compacted granted before (r ∷ later) =
+    let fault = fault_of compacted granted before r later in
+    if fault.one_before || fault.lease then fault ∷ name_faults compacted granted (Some r) later else name_faults compacted granted (Some r) later

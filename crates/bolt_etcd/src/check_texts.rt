@@ -1,0 +1,81 @@
+//! What is wrong with a store as texts, one after another.
+ghost use Rattle.std.specs.Prelude.{◌≡◌, IfOk, flat_map, length};
+ghost use Rattle.bolt_check.specs.Counts.{counted};
+ghost use Rattle.bolt_format.specs.{Endings.ending, Wrote.Wrote};
+ghost use Rattle.bolt_etcd.specs.{CheckLines.misplaced_line, CheckLines.missing_line, CheckLines.other_line, Misplaced.misplaced, Others.others_of, Stores.revisions};
+ghost use Rattle.bolt_etcd.specs.{CheckLines.fault_lines, CheckLines.lines_of, CheckLines.number_of};
+ghost use Rattle.bolt_etcd.specs.FaultsLeft.{ForGranted, faults_leases, faults_left, shown_fault};
+ghost use Rattle.bolt_etcd.specs.{MissingLeft.ForMissing, MissingLeft.missing_left, RevisionsLeft.ForPass, RevisionsLeft.ahead_of};
+
+use crate::check_lines::{put_misplaced, put_missing, put_name_fault, put_other};
+use crate::missing::MissingNumbers;
+use crate::name_faults::{NameFault, NameFaults};
+use crate::revisions::Revisions;
+use bolt_format::{Sink, SinkFault};
+
+/// Writes a line for each entry ahead of a pass that isn't a revision, and returns how many these
+/// are. The number saturates at 2^64 - 1.
+pub fn put_others<S: Sink>(mut pass: Revisions<'_>, sink: &mut S) -> Result<u64, SinkFault>
+    ensures written { ForPass pass.entry (λ entries. Wrote S.Sink sink.old sink.new (flat_map other_line (others_of (ahead_of pass.entry entries))) (ending result)) }
+    ensures number { IfOk result (λ n. ForPass pass.entry (λ entries. n ≡ counted 0 (length (others_of (ahead_of pass.entry entries))))) }
+{
+    let mut number = 0_u64;
+    'rest: while let Some(other) = pass.next_other() {
+        put_other(&other, sink)?;
+        number = number.saturating_add(1);
+    }
+    Ok(number)
+}
+
+/// Writes a line for each revision ahead of a pass whose record says that another transaction wrote
+/// it, and returns how many these are. The number saturates at 2^64 - 1.
+pub fn put_all_misplaced<S: Sink>(mut pass: Revisions<'_>, sink: &mut S) -> Result<u64, SinkFault>
+    ensures written { ForPass pass.entry (λ entries.
+        Wrote S.Sink sink.old sink.new (flat_map misplaced_line (misplaced (revisions (ahead_of pass.entry entries)))) (ending result)) }
+    ensures number { IfOk result (λ n. ForPass pass.entry (λ entries. n ≡ counted 0 (length (misplaced (revisions (ahead_of pass.entry entries)))))) }
+{
+    let mut number = 0_u64;
+    'rest: while let Some(revision) = pass.next_misplaced() {
+        put_misplaced(&revision, sink)?;
+        number = number.saturating_add(1);
+    }
+    Ok(number)
+}
+
+/// Writes a line for each thing that a pass has still to return, and returns how many these are.
+/// The number saturates at 2^64 - 1.
+pub fn put_all_missing<S: Sink>(
+    mut pass: MissingNumbers<'_>,
+    sink: &mut S,
+) -> Result<u64, SinkFault>
+    ensures written { ForMissing pass.entry (λ entries. Wrote S.Sink sink.old sink.new (flat_map missing_line (missing_left pass.entry entries)) (ending result)) }
+    ensures number { IfOk result (λ n. ForMissing pass.entry (λ entries. n ≡ counted 0 (length (missing_left pass.entry entries)))) }
+{
+    let mut number = 0_u64;
+    'rest: while let Some(missing) = pass.next() {
+        put_missing(missing, sink)?;
+        number = number.saturating_add(1);
+    }
+    Ok(number)
+}
+
+/// Writes the lines of what is missing of the names ahead of a pass, and returns how many these are.
+/// The number saturates at 2^64 - 1.
+pub fn put_name_faults<S: Sink>(mut pass: NameFaults<'_>, sink: &mut S) -> Result<u64, SinkFault>
+    ensures written { ForGranted (faults_leases pass.entry) (λ granted. Wrote S.Sink sink.old sink.new (flat_map fault_lines (faults_left pass.entry granted)) (ending result)) }
+    ensures number { IfOk result (λ n. ForGranted (faults_leases pass.entry) (λ granted. n ≡ counted 0 (lines_of (faults_left pass.entry granted)))) }
+{
+    let mut number = 0_u64;
+    'rest: while let Some(fault) = pass.next() {
+        put_name_fault(&fault, sink)?;
+        number = number.saturating_add(number_of(&fault));
+    }
+    Ok(number)
+}
+
+/// How many lines are written of it.
+fn number_of(fault: &NameFault<'_>) -> u64
+    ensures { result ≡ number_of (shown_fault fault.now) }
+{
+    u64::from(fault.one_before) + u64::from(fault.lease)
+}

@@ -1,0 +1,162 @@
+//! Writes revisions as lines.
+ghost use Rattle.std.specs.Prelude.{◌≡◌, ◌⊎◌, ◌++◌, IfErr};
+ghost use Rattle.bolt_check.specs.Keys.{Key};
+ghost use Rattle.bolt_format.specs.{Endings.ending, Wrote.Wrote};
+ghost use Rattle.bolt_text.specs.{Forms.item_text, ReportEndings.report_ending};
+ghost use Rattle.bolt_etcd.specs.RevisionLines.{columns, head, line_end, members, named_line, revision_line, value_mark, value_part};
+ghost use Rattle.bolt_etcd.specs.ShownRevisions.{shown_decoded, shown_revision};
+
+use crate::revision::{Decoded, Revision};
+use bolt_format::{Sink, SinkFault};
+use bolt_text::{Form, ItemWriter, Piece, ReportFault, put, put_pieces};
+use std::alloc::Global;
+
+/// Writes revisions as lines (docs/COMMANDS.md, "What is printed"): names and values in a form, and
+/// values only if they are wanted. Only `Json` needs memory, which is kept from line to line.
+#[derive(Drop)]
+pub struct RevisionWriter {
+    pub items: ItemWriter,
+    pub values: bool,
+}
+
+#[tactic(auto, using(bolt_text::proofs::ReportLemmas::reports))]
+impl RevisionWriter {
+    /// What writes in this form, with values or without.
+    pub fn new(alloc: Global, form: Form, values: bool) -> RevisionWriter
+        ensures form { result.items.form ≡ form }
+        ensures values { result.values ≡ values }
+    {
+        RevisionWriter {
+            items: ItemWriter::new(alloc, form),
+            values,
+        }
+    }
+
+    /// Writes the line of a revision.
+    ///
+    /// # Errors
+    ///
+    /// `Sink` if the sink failed; `NoMemory` if memory ran out for a text in the form `Json`, and the
+    /// sink had not failed. The sink has then accepted a prefix of the line. There is no other error.
+    pub fn put<S: Sink>(&mut self, revision: &Revision<'_>, sink: &mut S) -> Result<(), ReportFault>
+        ensures form { self.new.items.form ≡ self.old.items.form }
+        ensures values { self.new.values ≡ self.old.values }
+        ensures written { Wrote S.Sink sink.old sink.new (revision_line self.old.items.form self.old.values (shown_revision revision.now)) (report_ending result) }
+        ensures fault { IfErr result (λ fault. (fault ≡ ReportFault.Sink) ⊎ ((fault ≡ ReportFault.NoMemory) × (self.old.items.form ≡ Form.Json))) }
+    {
+        let decoded = revision.decode();
+        put_head(self.items.form, &decoded, sink)?;
+        self.items.put(decoded.content.name, sink)?;
+        self.put_value(&decoded, sink)?;
+        put(line_end(self.items.form), sink)?;
+        Ok(())
+    }
+
+    /// Writes the line of a revision, if its name begins with these bytes. The errors are as those of `put`.
+    pub(crate) fn put_named<S: Sink>(
+        &mut self,
+        prefix: &[u8],
+        revision: &Revision<'_>,
+        sink: &mut S,
+    ) -> Result<(), ReportFault>
+        ensures form { self.new.items.form ≡ self.old.items.form }
+        ensures values { self.new.values ≡ self.old.values }
+        ensures written { Wrote S.Sink sink.old sink.new (named_line prefix.now self.old.items.form self.old.values (shown_revision revision.now)) (report_ending result) }
+        ensures fault { IfErr result (λ fault. (fault ≡ ReportFault.Sink) ⊎ ((fault ≡ ReportFault.NoMemory) × (self.old.items.form ≡ Form.Json))) }
+    {
+        if revision.name().starts_with(prefix) {
+            self.put(revision, sink)
+        } else {
+            Ok(())
+        }
+    }
+
+    /// Writes the value of a revision after its mark, if values are wanted.
+    fn put_value<S: Sink>(
+        &mut self,
+        revision: &Decoded<'_>,
+        sink: &mut S,
+    ) -> Result<(), ReportFault>
+        ensures form { self.new.items.form ≡ self.old.items.form }
+        ensures values { self.new.values ≡ self.old.values }
+        ensures written { (place : Key)
+            → Wrote S.Sink sink.old sink.new (value_part self.old.items.form self.old.values (shown_decoded place revision.now)) (report_ending result) }
+        ensures fault { IfErr result (λ fault. (fault ≡ ReportFault.Sink) ⊎ ((fault ≡ ReportFault.NoMemory) × (self.old.items.form ≡ Form.Json))) }
+    {
+        if !self.values {
+            return Ok(());
+        }
+        put(value_mark(self.items.form), sink)?;
+        self.items.put(revision.content.value, sink)
+    }
+}
+
+/// What comes before a value.
+fn value_mark(form: Form) -> &'static [u8]
+    ensures { result.now ≡ value_mark form }
+{
+    if form.is_json() {
+        b",\"value\":"
+    } else {
+        b" = "
+    }
+}
+
+/// The end of a line.
+fn line_end(form: Form) -> &'static [u8]
+    ensures { result.now ≡ line_end form }
+{
+    if form.is_json() { b"}\n" } else { b"\n" }
+}
+
+/// Writes the numbers of a revision, as columns or as the beginning of an object.
+fn put_head<S: Sink>(form: Form, revision: &Decoded<'_>, sink: &mut S) -> Result<(), SinkFault>
+    ensures { (place : Key) → Wrote S.Sink sink.old sink.new (head form (shown_decoded place revision.now)) (ending result) }
+{
+    if form.is_json() {
+        put_members(revision, sink)
+    } else {
+        put_columns(revision, sink)
+    }
+}
+
+/// Writes the numbers, each followed by a space.
+#[tactic(auto, unfolding(crate::specs::RevisionLines::columns))]
+fn put_columns<S: Sink>(revision: &Decoded<'_>, sink: &mut S) -> Result<(), SinkFault>
+    ensures { (place : Key) → Wrote S.Sink sink.old sink.new (columns (shown_decoded place revision.now)) (ending result) }
+{
+    let (key, content) = (revision.key, revision.content);
+    put_pieces(
+        &[
+            Piece::Number(key.main),
+            Piece::Field(b" ", key.sub),
+            Piece::Field(b" ", content.version),
+            Piece::Bytes(b" "),
+            Piece::HexNumber(content.lease),
+            Piece::Field(b" ", content.value.len() as u64),
+            Piece::Bytes(b" "),
+        ],
+        sink,
+    )
+}
+
+/// Writes the beginning of the object, up to the name.
+#[tactic(auto, unfolding(crate::specs::RevisionLines::members))]
+fn put_members<S: Sink>(revision: &Decoded<'_>, sink: &mut S) -> Result<(), SinkFault>
+    ensures { (place : Key) → Wrote S.Sink sink.old sink.new (members (shown_decoded place revision.now)) (ending result) }
+{
+    let (key, content) = (revision.key, revision.content);
+    put_pieces(
+        &[
+            Piece::Field(b"{\"revision\":", key.main),
+            Piece::Field(b",\"sub\":", key.sub),
+            Piece::Field(b",\"created\":", content.created),
+            Piece::Field(b",\"version\":", content.version),
+            Piece::Bytes(b",\"lease\":\""),
+            Piece::HexNumber(content.lease),
+            Piece::Field(b"\",\"bytes\":", content.value.len() as u64),
+            Piece::Bytes(b",\"name\":"),
+        ],
+        sink,
+    )
+}

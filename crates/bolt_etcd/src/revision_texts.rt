@@ -1,0 +1,59 @@
+//! The texts of the revisions of a bucket.
+ghost use Rattle.std.specs.Prelude.{◌≡◌, ◌⊎◌, IfErr, IfOk, length, map};
+ghost use Rattle.bolt_check.specs.Counts.{counted};
+ghost use Rattle.bolt_format.specs.Wrote.{Wrote};
+ghost use Rattle.bolt_text.specs.ReportEndings.{report_ending};
+ghost use Rattle.bolt_etcd.specs.RevisionLines.{named, revision_lines};
+ghost use Rattle.bolt_etcd.specs.RevisionsLeft.{ForPass, ahead_of, pass_others};
+ghost use Rattle.bolt_etcd.specs.{ShownRevisions.shown_revision, Stores.others, Stores.revisions};
+
+use crate::revision::Revision;
+use crate::revision_lines::RevisionWriter;
+use crate::revisions::Revisions;
+use bolt_format::Sink;
+use bolt_text::{Form, ReportFault};
+
+impl RevisionWriter {
+    /// Writes the lines of the revisions of a pass whose names begin with `prefix`, in their order.
+    /// Returns the number of entries that it has passed over since they aren't revisions. Keeps
+    /// nothing of a revision.
+    ///
+    /// # Errors
+    ///
+    /// `Sink` if the sink failed; `NoMemory` if memory ran out for a text in the form `Json`, and the
+    /// sink had not failed. The sink has then accepted a prefix of the text. There is no other error.
+    pub fn put_pass<S: Sink>(
+        &mut self,
+        mut pass: Revisions<'_>,
+        prefix: &[u8],
+        sink: &mut S,
+    ) -> Result<u64, ReportFault>
+        ensures written { ForPass pass.entry (λ entries.
+            Wrote S.Sink sink.old sink.new (revision_lines self.old.items.form self.old.values (named prefix.now (revisions (ahead_of pass.entry entries)))) (report_ending result)) }
+        ensures others { IfOk result (λ n. ForPass pass.entry (λ entries. n ≡ counted (pass_others pass.entry) (length (others (ahead_of pass.entry entries))))) }
+        ensures fault { IfErr result (λ fault. (fault ≡ ReportFault.Sink) ⊎ ((fault ≡ ReportFault.NoMemory) × (self.old.items.form ≡ Form.Json))) }
+    {
+        'rest: while let Some(revision) = pass.next() {
+            self.put_named(prefix, &revision, sink)?;
+        }
+        Ok(pass.others())
+    }
+
+    /// Writes the lines of those of these revisions whose names begin with `prefix`. The errors are
+    /// as those of `put_pass`.
+    pub fn put_all<S: Sink>(
+        &mut self,
+        revisions: &[Revision<'_>],
+        prefix: &[u8],
+        sink: &mut S,
+    ) -> Result<(), ReportFault>
+        ensures written { Wrote S.Sink sink.old sink.new
+            (revision_lines self.old.items.form self.old.values (named prefix.now (map shown_revision revisions.now))) (report_ending result) }
+        ensures fault { IfErr result (λ fault. (fault ≡ ReportFault.Sink) ⊎ ((fault ≡ ReportFault.NoMemory) × (self.old.items.form ≡ Form.Json))) }
+    {
+        'rest: for revision in revisions {
+            self.put_named(prefix, revision, sink)?;
+        }
+        Ok(())
+    }
+}
