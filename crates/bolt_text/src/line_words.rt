@@ -25,7 +25,7 @@ pub struct LineWords<'a> {
     pub item: ItemWord<'a>,
 }
 
-/// The words of a line, if there are three and the second is a mark: a path, the mark and what it is of
+/// The words of a line, if there are three: a path, and `=` and a value, or `bucket` and a number
 /// (docs/LISTING.md, "A listing as text").
 pub fn words_of(line: &[u8]) -> Option<LineWords<'_>>
     ensures { line_member line.now ≡ option_and_then words_member result }
