@@ -1,5 +1,24 @@
 //! The pass over everything that a file holds. It follows a walk, and writes each page of the copy
 //! as soon as the page is known. At each entry it takes a value, or enters or leaves a bucket.
+//!
+//! A copy takes up to three passes, with the same code. For a balanced copy the first one, over
+//! the plain layout, notes the limits of rows (`bolt_layout`, `specs/Limits`). The next one
+//! plans: with a sink that keeps nothing, it counts which numbers the pages will have. Then the
+//! metas and the freelist are written, and the last pass writes each page as soon as it is
+//! known.
+//!
+//! Each open bucket has one open run on each level: items of a leaf, and pages above. A run
+//! closes before the first page of what no longer joins it is written: a leaf before the pages
+//! of a bucket, a branch before the pages of a child. So the pages come in the order of their
+//! numbers.
+//!
+//! A bucket that has only values so far, of at most a quarter of a page, isn't opened yet: its
+//! entries wait. If it ends so, it is inline. Otherwise it is opened with the entries that
+//! waited.
+//!
+//! A page number above (2^63 - 1) / page size ends the plan. The pass that notes limits counts
+//! up to 28 times as many, since no plain layout has more pages than 28 times those of the
+//! balanced one (`proofs/NotMuchLarger`).
 ghost use Rattle.std.specs.Prelude.{◌≡◌, ◌+◌, ◌-◌, ◌/◌, ◌<◌, ◌≤◌, Some, None, IfErr, OnOk, length};
 
 use crate::bucket_runs::BucketRuns;

@@ -1,5 +1,10 @@
 -- The cut of a row of a bucket's pages by how many runs it may have. One pass from left to right can't know that an item is the last of its
 -- row; but where the number of runs is known before, this gives the balanced cut.
+-- A pass over the plain layout finds the limits. It knows how many runs each row has, and how many items are in the last one. If a row
+-- loses its last run, the row above loses its last item, and nothing else changes there. So, from the leaves up, if the row below has all
+-- its pages: a row whose last run has one item, with a run before it, has one run less; any other is as in the plain layout. If the row
+-- below lacks its last page: a row whose last run has one item has one run less, and no item joins; if it has two, and there is a run
+-- before it, one run less, and the single item joins; any other has as many runs as in the plain layout.
 use Rattle.std.specs.Prelude.{zero, suc, ◌≡◌, ◌≤◌, ◌==◌, ◌-◌, ℕ, Bool, true, false, ◌&&◌, nat_lt, List, [], ◌∷◌, ◌++◌, length, Option, Some, None, if◌then◌else◌}
 use Rattle.bolt_format.specs.Elements.{BranchElement}
 use Rattle.bolt_layout.specs.{Cut.branch_cut, Cut.cut_of, Cut.joins, Laid.Laid, Laid.size_of, Levels.next_level, declared.Layout.Layout}

@@ -1,4 +1,4 @@
--- What the calls of a cursor open and compare, over the entries of its bucket in order: docs/TREE.md, "Openings".
+-- What the calls of a cursor open and compare, over the entries of its bucket in order: docs/LISTING.md, "Openings".
 use Rattle.std.specs.Prelude.{◌≡◌, ◌≤◌, ◌+◌, ◌*◌, ℕ, suc, List, length}
 use Rattle.bolt_format.specs.Elements.{LeafElement}
 use Rattle.bolt_check.specs.{Keys.Key, Counts.counted}

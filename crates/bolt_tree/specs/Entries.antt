@@ -1,4 +1,4 @@
--- What a bucket has: the elements of the leaves that its addresses lead to, or those in its own value: docs/TREE.md, "Entries".
+-- What a bucket has: the elements of the leaves that its addresses lead to, or those in its own value: docs/LISTING.md, "Entries".
 use Rattle.std.specs.Prelude.{◌≡◌, ◌==◌, ◌↔◌, ℕ, IsTrue, List, Some, Contains, if◌then◌else◌}
 use Rattle.std.specs.declared.cmp.Ordering.{Ordering}
 use Rattle.bolt_format.specs.{Elements.LeafElement, Elements.head_root, Elements.head_sequence, Elements.inline_elements, Pages.PageView, Pages.page_at}

@@ -1,4 +1,4 @@
--- How many pages of a bucket lie between two of its entries: addresses in the order of ways, and their numbers: docs/TREE.md, "Openings".
+-- How many pages of a bucket lie between two of its entries: addresses in the order of ways, and their numbers: docs/LISTING.md, "Openings".
 use Rattle.std.specs.Prelude.{◌≡◌, ◌<◌, ◌⊎◌, ◌↔◌, ℕ, zero, suc, ◌+◌, ◌-◌, List, [], ◌∷◌, IsTrue, IsFalse, length, Option, Some, None, Contains, slice_get}
 use Rattle.std.specs.List.{AllPairs}
 use Rattle.bolt_format.specs.{Elements.BranchElement, Elements.LeafElement, Pages.PageView, Pages.page_at}

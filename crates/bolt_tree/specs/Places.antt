@@ -1,4 +1,4 @@
--- How a cursor's place moves over the entries of its bucket: docs/TREE.md, "Places".
+-- How a cursor's place moves over the entries of its bucket: docs/LISTING.md, "Places".
 use Rattle.std.specs.Prelude.{◌≡◌, ℕ, zero, suc, List, [], ◌∷◌, length, Option, None, if◌then◌else◌, slice_get, nat_lt, not}
 use Rattle.std.specs.List.{position_or_len}
 use Rattle.std.specs.Option.{option_map}

@@ -14,8 +14,8 @@ use crate::pager::Pager;
 use bolt_check::Checked;
 use bolt_format::{Leaf, head};
 
-/// A bucket of a checked file. It is made only if a way of the file leads to it (docs/TREE.md,
-/// "Buckets").
+/// A bucket of a checked file. It is made only if a way of the file leads to it (docs/LISTING.md,
+/// "Entries").
 #[derive(Clone, Copy)]
 pub struct Bucket<'a> {
     checked: Checked<'a>,

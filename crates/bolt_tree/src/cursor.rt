@@ -16,7 +16,7 @@ use crate::trail::Trail;
 use bolt_format::Leaf;
 
 /// A cursor over the entries of a bucket, in byte order of their keys. It is before the first call,
-/// on an entry, or past the last one (docs/TREE.md, "Places"). None of its calls needs memory.
+/// on an entry, or past the last one (docs/LISTING.md, "Places"). None of its calls needs memory.
 #[derive(Drop)]
 pub struct Cursor<'a> {
     trail: Trail<'a>,

@@ -1,4 +1,7 @@
 -- The stack of a cursor: which pages of the bucket it has passed, and which come later. Stacks have their top first.
+-- A position is a page and a number of its elements: those up to the one that the cursor is on or somewhere below. For each page on the
+-- stack the tour is what is left of the page, the tour of the page itself, and what is right of it. This one equation is kept at each step.
+-- It gives the place of the cursor, the entries on both sides of it, and how many pages are left.
 use Rattle.std.specs.Prelude.{◌≡◌, ◌≤◌, ◌<◌, Bool, true, false, ℕ, suc, ◌+◌, ◌-◌, List, [], ◌∷◌, ◌++◌, drop, take, length, Some, slice_get}
 use Rattle.bolt_format.specs.Elements.{BranchElement, LeafElement}
 use Rattle.bolt_check.specs.OnWays.{IsOnWay}

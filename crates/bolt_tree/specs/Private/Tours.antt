@@ -1,4 +1,5 @@
--- The tour of a bucket: its pages in the order of ways, which the cursor goes along.
+-- The tour of a bucket: its pages in the order of ways, which the cursor goes along. Addresses rise along it, and so do keys.
+-- So the entries are the tour's elements one after another, and each count is a position on the tour.
 use Rattle.std.specs.Prelude.{ℕ, zero, suc, List, [], ◌∷◌, ◌++◌}
 use Rattle.std.specs.List.{flat_map}
 use Rattle.bolt_format.specs.{Elements.BranchElement, Elements.LeafElement, declared.meta.Meta.Meta}
