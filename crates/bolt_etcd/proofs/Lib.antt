@@ -21,5 +21,4 @@ pub mod SnapshotLemmas
 mod TrailingAccounts
 mod TrailingBytes
 mod TrailingMetas
-mod TrailingTrees
 pub mod Varints

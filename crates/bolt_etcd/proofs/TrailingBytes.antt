@@ -1,17 +1,15 @@
 -- Bytes after the last page below the high-water mark: each page is as it was.
 use Rattle.std.proofs.Common.{◌≡◌, ◌∙◌, ◌<◌, ◌≤◌, ◌+◌, ◌*◌, ◌-◌, ℕ, suc, List, ◌++◌, drop, take, length, Option, Some, None, inl, inr, arith, ap, refl, sym}
 use Rattle.std.proofs.Math.Nat.{mul-le-mul_right}
-use Rattle.std.proofs.Math.Path.{fun_ext}
 use Rattle.std.proofs.Math.Seq.{take-append_seam}
 use Rattle.std.proofs.lemmas.Bool.{cases_lt, le-leb, le-ltb}
 use Rattle.std.proofs.lemmas.List.{drop-append-le, length-append, length-drop, take-append-le}
 use Rattle.std.specs.List.{slice_range}
 use Rattle.byteorder.specs.{Endian.little_number, Numbers.little_from-take}
 use Rattle.bolt_format.specs.{Bytes.number_at, Headers.count_field, Headers.flags_field}
-use Rattle.bolt_format.specs.Pages.{PageView, from_page, page_at, page_fault, page_overflow, span_bytes, span_fault}
+use Rattle.bolt_format.specs.Pages.{from_page, page_at, page_fault, page_overflow, span_bytes, span_fault}
 use Rattle.bolt_format.specs.declared.meta.Meta.{Meta}
 use Rattle.bolt_format.proofs.{PageFacts.span_within, PageSizes.size_bounds}
-use Rattle.bolt_check.specs.Nodes.{Nodes, node_at}
 use Rattle.bolt_etcd.specs.Marks.{HasAllPages}
 
 -- ---- numbers
@@ -122,13 +120,3 @@ module _ (file more : List ℕ) (meta : Meta) (all : HasAllPages file meta) wher
 
   pub shown_more : (id : ℕ) → page_at (file ++ more) meta id ≡ page_at file meta id
   shown_more id = shown_by id (span_fault file meta id) refl
-
-  node_more : (id : ℕ) → node_at (file ++ more) meta id ≡ node_at file meta id
-  unfolding node_at
-  node_more id = rw (shown_more id, fault_more id) refl
-
-  pub pages_more : ◌≡◌ {A = ℕ → Option PageView} (page_at (file ++ more) meta) (page_at file meta)
-  pages_more = fun_ext shown_more
-
-  pub nodes_more : ◌≡◌ {A = Nodes} (node_at (file ++ more) meta) (node_at file meta)
-  nodes_more = fun_ext node_more

@@ -1,5 +1,7 @@
 -- Each page is as it was, and so is all that is said of pages.
-use Rattle.bolt_etcd.proofs.{TrailingAccounts.sound_more, TrailingMetas.chosen_more, TrailingMetas.in_slot_more, TrailingTrees.listing_more}
+use Rattle.std.proofs.Common.{◌++◌}
+use Rattle.bolt_tree.proofs.AgreeingListings.{listing_along}
+use Rattle.bolt_etcd.proofs.{TrailingAccounts.agree_more, TrailingAccounts.sound_more, TrailingMetas.chosen_more, TrailingMetas.in_slot_more}
 use Rattle.bolt_etcd.proofs.snapshot.trailing_bytes_change_nothing.Goals as goal
 
 pub returns-clause-metas : goal.returns-clause-metas
@@ -12,4 +14,4 @@ pub returns-clause-sound : goal.returns-clause-sound
 returns-clause-sound c = λ file more meta accounts all sound. sound_more file more meta all accounts sound
 
 pub returns-clause-listing : goal.returns-clause-listing
-returns-clause-listing c = λ file more meta listing all. listing_more file more meta listing all
+returns-clause-listing c = λ file more meta listing all. listing_along file (file ++ more) meta (agree_more file more meta all) listing
