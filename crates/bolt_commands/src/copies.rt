@@ -17,13 +17,13 @@ ghost use Rattle.bolt_job.specs.CopyKinds.{is_snapshot};
 use crate::copy_source::{Copied, CopySource, sources_have_good_copies};
 use crate::failure::Outcome;
 use crate::file_faults::put_hash_line;
-use crate::words::put_number_and;
 use bolt_bulk::{Blueprint, BulkFault};
 use bolt_etcd::{HASH_LEN, SnapshotFault};
 use bolt_format::{Sink, SinkFault};
 use bolt_job::CopyKind;
 use bolt_recover::{Found, Lost};
 use bolt_report::lost_text;
+use bolt_text::{Piece, put_pieces};
 use sha2::{Digest, Sha256};
 use std::alloc::Global;
 use std::marker::{Brand, PhantomData};
@@ -213,6 +213,12 @@ fn status_of(hash: Option<SnapshotFault>, lost: Lost<'_>) -> u8
 fn put_lengths<O: Sink>(source: u64, copy: u64, out: &mut O) -> Result<(), SinkFault>
     ensures { Wrote O.Sink out.old out.new (lengths_line source copy) (ending result) }
 {
-    put_number_and(source, b" -> ", out)?;
-    put_number_and(copy, b" bytes\n", out)
+    put_pieces(
+        &[
+            Piece::Number(source),
+            Piece::Field(b" -> ", copy),
+            Piece::Bytes(b" bytes\n"),
+        ],
+        out,
+    )
 }

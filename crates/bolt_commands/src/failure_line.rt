@@ -6,18 +6,18 @@ ghost use Rattle.bolt_load.specs.FaultWords.{line_fault_words};
 ghost use Rattle.bolt_commands.specs.Failures.{failure_line, failure_text};
 
 use crate::failure::Failure;
-use crate::words::{put_number_and, put_words};
 use bolt_check::Finding;
+use bolt_etcd::snapshot_fault_text;
 use bolt_format::{Sink, SinkFault};
 use bolt_load::LineFault;
-use bolt_etcd::snapshot_fault_text;
 use bolt_report::{finding_text, meta_fault_text, page_fault_text};
+use bolt_text::{Piece, put, put_pieces};
 
 /// Writes the line of a failure: `error: ` and its text.
 pub(crate) fn put_failure<E: Sink>(failure: &Failure, err: &mut E) -> Result<(), SinkFault>
     ensures { Wrote E.Sink err.old err.new (failure_line failure.now) (ending result) }
 {
-    put_words(b"error: ", err)?;
+    put(b"error: ", err)?;
     put_text(failure, err)
 }
 
@@ -28,13 +28,13 @@ fn put_text<E: Sink>(failure: &Failure, err: &mut E) -> Result<(), SinkFault>
         Failure::Metas(fault) => meta_fault_text(*fault, err),
         Failure::File(finding) => put_file_refused(finding, err),
         Failure::Page(fault) => page_fault_text(fault, err),
-        Failure::NoBucket => put_words(b"bucket not found\n", err),
-        Failure::NoKey => put_words(b"key not found\n", err),
-        Failure::Memory => put_words(b"out of memory\n", err),
-        Failure::TooLarge => put_words(b"layout too large\n", err),
+        Failure::NoBucket => put(b"bucket not found\n", err),
+        Failure::NoKey => put(b"key not found\n", err),
+        Failure::Memory => put(b"out of memory\n", err),
+        Failure::TooLarge => put(b"layout too large\n", err),
         Failure::Hash(fault) => snapshot_fault_text(*fault, err),
-        Failure::Exists => put_words(b"lost+found exists\n", err),
-        Failure::Write => put_words(b"write failed\n", err),
+        Failure::Exists => put(b"lost+found exists\n", err),
+        Failure::Write => put(b"write failed\n", err),
         Failure::Lost(count) => put_pages_lost(*count, err),
         Failure::Line(line, fault) => put_line_fault(*line, *fault, err),
     }
@@ -43,22 +43,29 @@ fn put_text<E: Sink>(failure: &Failure, err: &mut E) -> Result<(), SinkFault>
 fn put_file_refused<E: Sink>(finding: &Finding, err: &mut E) -> Result<(), SinkFault>
     ensures { Wrote E.Sink err.old err.new (codes "file refused: " ++ finding_text finding.now) (ending result) }
 {
-    put_words(b"file refused: ", err)?;
+    put(b"file refused: ", err)?;
     finding_text(finding, err)
 }
 
 fn put_pages_lost<E: Sink>(count: u64, err: &mut E) -> Result<(), SinkFault>
     ensures { Wrote E.Sink err.old err.new (codes "pages lost: " ++ (decimal count ++ codes "\n")) (ending result) }
 {
-    put_words(b"pages lost: ", err)?;
-    put_number_and(count, b"\n", err)
+    put_pieces(
+        &[Piece::Field(b"pages lost: ", count), Piece::Bytes(b"\n")],
+        err,
+    )
 }
 
 fn put_line_fault<E: Sink>(line: u64, fault: LineFault, err: &mut E) -> Result<(), SinkFault>
     ensures { Wrote E.Sink err.old err.new (codes "line " ++ ((decimal line ++ codes ": ") ++ (line_fault_words fault ++ codes "\n"))) (ending result) }
 {
-    put_words(b"line ", err)?;
-    put_number_and(line, b": ", err)?;
-    put_words(fault.words().as_bytes(), err)?;
-    put_words(b"\n", err)
+    put_pieces(
+        &[
+            Piece::Field(b"line ", line),
+            Piece::Bytes(b": "),
+            Piece::Bytes(fault.words().as_bytes()),
+            Piece::Bytes(b"\n"),
+        ],
+        err,
+    )
 }

@@ -16,7 +16,6 @@ pub mod laws;
 mod list_command;
 mod opening;
 mod printing_commands;
-mod words;
 
 use crate::check_command::print_check;
 use crate::copy_commands::{write_copy, write_loaded};
