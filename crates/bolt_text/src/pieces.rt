@@ -94,11 +94,7 @@ fn add_number<S: Sink>(n: u64, gathered: &mut Gathered, sink: &mut S) -> Result<
     add_bytes(Buffer::new().format(n).as_bytes(), gathered, sink)
 }
 
-fn add_hex_number<S: Sink>(
-    n: u64,
-    gathered: &mut Gathered,
-    sink: &mut S,
-) -> Result<(), SinkFault>
+fn add_hex_number<S: Sink>(n: u64, gathered: &mut Gathered, sink: &mut S) -> Result<(), SinkFault>
     ensures { Gathers S.Sink sink.old sink.new gathered.old.items gathered.new.items (digits 16 false n) (ending result) }
 {
     add_bytes(number_digits(n, &mut [0; NUMBER_LEN]), gathered, sink)
