@@ -8,7 +8,7 @@ pub use Rattle.bolt_commands.specs.{Failures.failure_line, SnapshotAnswers.bad_h
 pub use Rattle.bolt_format.specs.{Sinks.AppendsPrefix, declared.meta.Meta.Meta, declared.sink.Sink.Ghosts}
 pub use Rattle.bolt_job.specs.declared.choices.Extent.TheVariants.{First, Losses}
 pub use Rattle.bolt_job.specs.declared.refusal.Refusal.TheVariants.{Help, Version}
-pub use Rattle.bolt_job.specs.{PlainWords.target_name, LineWords.Text, declared.choices.Extent.Extent, declared.job.Job.Job}
+pub use Rattle.bolt_job.specs.{Jobs.target_name, LineWords.Text, declared.choices.Extent.Extent, declared.job.Job.Job}
 pub use Rattle.bolt_job.specs.{declared.choices.MetaChoice.MetaChoice, declared.choices.PageSize.PageSize, declared.refusal.Refusal.Refusal}
 pub use Rattle.bolt_layout.specs.{Copies.layout_of_listing, declared.Layout.Layout}
 pub use Rattle.bolt_text.specs.{LineMembers.text_members}

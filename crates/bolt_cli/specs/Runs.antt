@@ -8,7 +8,7 @@ use Rattle.bolt_cli.specs.Deeds.{Deed, Read, Made, Ended, Opened, Closed, Said}
 use Rattle.bolt_cli.specs.Names.{shown_name}
 use Rattle.bolt_commands.specs.Failures.{failure_line}
 use Rattle.bolt_job.specs.LineWords.{Text}
-use Rattle.bolt_job.specs.{Needs.needs_metas_alone, PlainWords.file_name, PlainWords.target_name}
+use Rattle.bolt_job.specs.{Jobs.needs_metas_alone, Jobs.file_name, Jobs.target_name}
 use Rattle.bolt_cli.specs.Sources.{is_changed}
 use Rattle.bolt_commands.specs.declared.failure.Failure.TheVariants.{Memory, Write}
 use Rattle.bolt_job.specs.declared.job.Job.{Job}

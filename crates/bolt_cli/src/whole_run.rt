@@ -2,7 +2,7 @@
 ghost use Rattle.std.specs.Prelude.{◌≡◌, ◌<◌, ◌++◌, ℕ, List, None, Some, codes, map, string_bytes};
 ghost use Rattle.bolt_commands.specs.{Answers.Ending, Answers.status_of, Failures.failure_line};
 ghost use Rattle.bolt_cli.specs.{Deeds.Deed, Deeds.DoesDeeds, Deeds.joined, Orders.IsInOrder, Orders.Reading};
-ghost use Rattle.bolt_job.specs.PlainWords.{target_name};
+ghost use Rattle.bolt_job.specs.Jobs.{target_name};
 ghost use Rattle.bolt_cli.specs.Names.{shown_name};
 ghost use Rattle.bolt_cli.specs.Runs.{Closes, WritesOut, Fails, FailsNaming, Goes, IsEnded, IsBufferedLine, IsRun, IsUnendedLine, Makes, PrintsText, Reads, Refuses, Shows};
 ghost use Rattle.bolt_cli.specs.Runs.{buffered_of, is_again, unmade_line, unread_line};

@@ -3,7 +3,7 @@ use Rattle.std.proofs.Common.{◌≡◌, ℕ, List, Bool, Result, Ok, Err, inl, 
 use Rattle.bolt_commands.proofs.Vocabulary.{Answer, BulkFault, CopiesTo, Does, Ending, EndsCopy, EndsCopying, Ghosts, Member, OnOk, WritesCopy, copied, copy_page_size}
 use Rattle.bolt_commands.proofs.Vocabulary.{HasGoodCopies, IsAskedBlueprint, Meta, layout_for, layout_of_listing, blueprint_layout, ∥∥₁_map}
 use Rattle.bolt_bulk.specs.declared.blueprint.Blueprint.{Blueprint}
-use Rattle.bolt_job.specs.declared.job.CompactJob.{CompactJob}
+use Rattle.bolt_job.specs.declared.writing_commands.CompactJob.{CompactJob}
 
 -- a copy that is whole is good
 pub copy_good : {T : Type 0} {target : Ghosts T} {old new : T} (listing : List Member) (blueprint : Blueprint) (snapshot : Bool) (result : Result ℕ BulkFault)

@@ -1,7 +1,7 @@
 -- A job that shows nothing but metas does the same on any two files with the same metas.
 use Rattle.std.proofs.Common.{◌≡◌, ◌↔◌, inl, inr, ℕ, List, Option, None, Some, true}
 use Rattle.bolt_commands.proofs.Vocabulary.{Answer, DoesJob, Ending, FigureForm, HasMetaFault, HasSlotFault, IsActive, IsInSlot, IsInfoAnswer, Job, Meta, MetaFault, Slot}
-use Rattle.bolt_job.specs.Needs.{needs_metas_alone}
+use Rattle.bolt_job.specs.Jobs.{needs_metas_alone}
 use Rattle.bolt_job.specs.declared.job.Job.TheVariants as job
 
 -- the metas of two files, and the faults of their first, are the same

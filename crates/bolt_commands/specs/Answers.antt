@@ -45,6 +45,7 @@ use Rattle.bolt_commands.specs.declared.file_faults.FileFaults.{FileFaults}
 use Rattle.bolt_check.specs.ShownFindings.{findings_in}
 use Rattle.bolt_load.specs.declared.fault.LineFault.TheVariants.{CutOff}
 use Rattle.bolt_etcd.specs.declared.snapshot.SnapshotFault.{SnapshotFault}
+use Rattle.bolt_job.specs.declared.bucket_commands.{BucketsJob.BucketsJob, GetJob.GetJob, KeysJob.KeysJob, ListJob.ListJob, StatsJob.StatsJob}
 use Rattle.bolt_job.specs.declared.job.Job.{Job}
 use Rattle.bolt_job.specs.declared.job.Job.TheVariants as job
 use Rattle.bolt_job.specs.declared.choices.MetaChoice.{MetaChoice}
@@ -149,16 +150,15 @@ HoldsNone file path meta reason =
     ((reason ≡ failure.NoKey) × ((value : List ℕ) → HoldsIn file meta path (Value value) → ⊥) × ((bucket : Start) × ∥ LeadsTo file meta (parents_of path) bucket ∥₁))
     ⊎ ((reason ≡ failure.NoBucket) × ((bucket : Start) → LeadsTo file meta (parents_of path) bucket → ⊥))
 
--- a value in a form, with a line feed or without one
-abbrev pub value_shown : (no_newline : Bool) → Form → List ℕ → List ℕ
-value_shown false form value = value_text form value
-value_shown true form value = item_text form value
+-- how a value is printed: with a line feed or without one
+abbrev pub value_shown : GetJob → List ℕ → List ℕ
+value_shown job value = if job.no_newline then item_text job.form value else value_text job.form value
 
 -- the value that the path holds; or why it holds none
-abbrev pub IsGetAnswer : List ℕ → Path → Form → (no_newline : Bool) → Meta → Answer → Type 0
-IsGetAnswer file path form no_newline meta answer =
-    ((value : List ℕ) × HoldsIn file meta path (Value value) × IsShownText form (value_shown no_newline form value) answer)
-    ⊎ ((reason : Failure) × HoldsNone file path meta reason × (answer ≡ refused reason))
+abbrev pub IsGetAnswer : List ℕ → GetJob → Meta → Answer → Type 0
+IsGetAnswer file job meta answer =
+    ((value : List ℕ) × HoldsIn file meta (path_in job.path.items) (Value value) × IsShownText job.form (value_shown job value) answer)
+    ⊎ ((reason : Failure) × HoldsNone file (path_in job.path.items) meta reason × (answer ≡ refused reason))
 
 -- The sizes of the buckets in the bucket that the path leads to, or memory ran out, and a prefix of the text was written; or the path leads to
 -- no bucket.
@@ -443,6 +443,24 @@ abbrev pub copy_report : Option SnapshotFault → LostView → List FoundView �
 copy_report hash lost found source copy =
     record { out = hash_lines hash ++ (lost_text lost found ++ lengths_line source copy); ending = Ok (copy_status hash lost) }
 
+-- ---- what a command prints for its job
+
+abbrev pub IsBucketsPrint : BucketsJob → List ℕ → Answer → Type 0
+IsBucketsPrint job file answer = IsReadAnswer file job.meta (IsBucketsAnswer file (path_in job.path.items) job.form job.sizes) answer
+
+abbrev pub IsKeysPrint : KeysJob → List ℕ → Answer → Type 0
+IsKeysPrint job file answer =
+    IsReadAnswer file job.meta (IsEntriesAnswer file (path_in job.path.items) job.form (λ entries. keys_text job.form (with_prefix job.prefix.items entries))) answer
+
+abbrev pub IsGetPrint : GetJob → List ℕ → Answer → Type 0
+IsGetPrint job file answer = IsReadAnswer file job.meta (IsGetAnswer file job) answer
+
+abbrev pub IsStatsPrint : StatsJob → List ℕ → Answer → Type 0
+IsStatsPrint job file answer = IsReadAnswer file job.meta (IsStatsAnswer file (path_in job.path.items) job.form) answer
+
+abbrev pub IsListPrint : Extent → ListJob → List ℕ → Answer → Type 0
+IsListPrint extent job file answer = IsListedAnswer extent file job.meta job.form (path_in job.path.items) (path_in job.from.items) answer
+
 -- ---- all commands
 
 -- standard output and the target, each from its state `old` to `new`
@@ -529,11 +547,11 @@ module _ {O T : Type 0} (out_taken : O → Option (List ℕ)) (out_failed : O �
   DoesJob file (job.Page j) = Prints (IsPageAnswer file j.meta j.id)
   DoesJob file (job.Pages j) = Prints (IsReadAnswer file Active (IsPagesAnswer file j.map))
   DoesJob file (job.Check j) = Prints (IsCheckAnswer j.extent j.snapshot file j.meta)
-  DoesJob file (job.Buckets j) = Prints (IsReadAnswer file j.meta (IsBucketsAnswer file (path_in j.path.items) j.form j.sizes))
-  DoesJob file (job.Stats j) = Prints (IsReadAnswer file j.meta (IsStatsAnswer file (path_in j.path.items) j.form))
-  DoesJob file (job.Keys j) = Prints (IsReadAnswer file j.meta (IsEntriesAnswer file (path_in j.path.items) j.form (λ entries. keys_text j.form (with_prefix j.prefix.items entries))))
-  DoesJob file (job.Get j) = Prints (IsReadAnswer file j.meta (IsGetAnswer file (path_in j.path.items) j.form j.no_newline))
-  DoesJob file (job.List j) = Prints (IsListedAnswer j.extent file j.meta j.form (path_in j.path.items) (path_in j.from.items))
+  DoesJob file (job.Buckets j) = Prints (IsBucketsPrint j file)
+  DoesJob file (job.Stats j) = Prints (IsStatsPrint j file)
+  DoesJob file (job.Keys j) = Prints (IsKeysPrint j file)
+  DoesJob file (job.Get j) = Prints (IsGetPrint j file)
+  DoesJob file (job.List j) = Prints (IsListPrint j.extent j file)
   DoesJob file (job.Compact j) = MakesCopy file j.meta j.page_size (layout_for j.kind) (is_snapshot j.kind) j.extent
   DoesJob file (job.Load j) = Loads file j.page_size.bytes j.sequence (layout_for j.kind) (is_snapshot j.kind)
 

@@ -8,7 +8,7 @@ ghost use Rattle.bolt_text.specs.declared.forms.ListForm.{ListForm};
 ghost use Rattle.bolt_tree.specs.{Listing.IsListing, Listing.Member, Paths.Path};
 ghost use Rattle.bolt_commands.specs.Answers.{Answer, DoesJob, Ending, IsCheckAnswer, IsListedAnswer, IsReadUnder, Loads, LoadsListing, MakesCopy, done, refused};
 ghost use Rattle.bolt_commands.specs.GoodCopies.{HasGoodCopies, IsGoodCopy};
-ghost use Rattle.bolt_job.specs.{MetaChoices.IsMetaOf, Needs.needs_metas_alone};
+ghost use Rattle.bolt_job.specs.{MetaChoices.IsMetaOf, Jobs.needs_metas_alone};
 ghost use Rattle.bolt_commands.specs.SnapshotAnswers.{bad_hash, copy_of};
 ghost use Rattle.bolt_job.specs.{declared.choices.Extent.Extent, declared.job.Job.Job};
 ghost use Rattle.bolt_job.specs.{declared.choices.MetaChoice.MetaChoice, declared.choices.PageSize.PageSize};

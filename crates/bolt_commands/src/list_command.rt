@@ -6,7 +6,7 @@ ghost use Rattle.bolt_text.specs.ReportEndings.{report_ending};
 ghost use Rattle.bolt_tree.specs.{FileListings.ForListing, Listing.Member, Listing.member_cmp, Order.Rises, Paths.path_of};
 ghost use Rattle.bolt_commands.specs.{Answers.all_lost_ending, Private.Endings.end_of_part};
 ghost use Rattle.bolt_job.specs.PlainWords.{path_in};
-ghost use Rattle.bolt_commands.specs.Private.Printing.{IsListPrint, PrintsAnswer, finds, job_part, sound_part};
+ghost use Rattle.bolt_commands.specs.{Answers.IsListPrint, Private.Printing.PrintsAnswer, Private.Printing.finds, Private.Printing.job_part, Private.Printing.sound_part};
 
 use crate::failure::{Failure, Outcome, ended};
 use crate::opening::{Input, join};

@@ -6,9 +6,9 @@ ghost use Rattle.bolt_format.specs.{Elements.LeafElement, Endings.ending, Wrote.
 ghost use Rattle.bolt_report.specs.{PageTables.ForRoles};
 ghost use Rattle.bolt_text.specs.{ReportEndings.report_ending};
 ghost use Rattle.bolt_tree.specs.{Buckets.bucket_checked, Buckets.bucket_start, BucketViews.entries_of, Entries.Start, Entries.Value, EntriesLeft.ForEntries};
-ghost use Rattle.bolt_commands.specs.Answers.{AddsEntry, HasNoMeta, HasStats, HoldsIn, HoldsNone, IsInfoAnswer};
-ghost use Rattle.bolt_commands.specs.Answers.{IsPageAnswer, IsPagesAnswer, IsReadAnswer, IsShownMeta, IsTotal, LeadsTo, no_stats, value_shown};
-ghost use Rattle.bolt_commands.specs.Private.Printing.{IsBucketsPrint, IsGetPrint, IsKeysPrint, IsStatsPrint, PrintsAnswer, checked_pages};
+ghost use Rattle.bolt_commands.specs.Answers.{AddsEntry, HasNoMeta, HasStats, HoldsIn, HoldsNone, IsBucketsPrint, IsGetPrint, IsInfoAnswer};
+ghost use Rattle.bolt_commands.specs.Answers.{IsKeysPrint, IsPageAnswer, IsPagesAnswer, IsReadAnswer, IsShownMeta, IsStatsPrint, IsTotal, LeadsTo, no_stats, pages_shown, value_shown};
+ghost use Rattle.bolt_commands.specs.Private.Printing.{PrintsAnswer, shown_of};
 ghost use Rattle.bolt_job.specs.{PlainWords.path_in, declared.choices.MetaChoice.TheVariants.Active};
 ghost use Rattle.bolt_commands.specs.declared.failure.Failure.TheVariants.{Memory, NoBucket};
 
@@ -60,7 +60,7 @@ pub(crate) fn print_pages<O: Sink>(input: Input<'_>, job: &PagesJob, out: &mut O
 
 fn put_pages<O: Sink>(roles: &Roles<'_>, map: bool, out: &mut O) -> Result<(), SinkFault>
     requires { has_accounts (roles_checked roles.now) ≡ true }
-    ensures { ForRoles (roles_checked roles.now) (λ own. Wrote O.Sink out.old out.new (checked_pages map (roles_checked roles.now) own) (ending result)) }
+    ensures { ForRoles (roles_checked roles.now) (λ own. Wrote O.Sink out.old out.new (shown_of (pages_shown map) (roles_checked roles.now) own) (ending result)) }
 {
     if map {
         page_map(roles, out)
@@ -97,23 +97,22 @@ pub(crate) fn print_value<O: Sink>(input: Input<'_>, job: &GetJob, out: &mut O) 
 {
     let checked = input.read(job.meta)?;
     let value = find_value(checked, job.path.as_slice())?;
-    ended(put_value(input.alloc, value, job.form, job.no_newline, out))
+    ended(put_value(input.alloc, value, job, out))
 }
 
 fn put_value<O: Sink>(
     alloc: Global,
     bytes: &[u8],
-    form: Form,
-    no_newline: bool,
+    job: &GetJob,
     out: &mut O,
 ) -> Result<(), ReportFault>
-    ensures written { Wrote O.Sink out.old out.new (value_shown no_newline form bytes.now) (report_ending result) }
-    ensures fault { IfErr result (λ fault. (fault ≡ ReportFault.Sink) ⊎ ((fault ≡ ReportFault.NoMemory) × (form ≡ Form.Json))) }
+    ensures written { Wrote O.Sink out.old out.new (value_shown job.now bytes.now) (report_ending result) }
+    ensures fault { IfErr result (λ fault. (fault ≡ ReportFault.Sink) ⊎ ((fault ≡ ReportFault.NoMemory) × (job.now.form ≡ Form.Json))) }
 {
-    if no_newline {
-        item(alloc, bytes, form, out)
+    if job.no_newline {
+        item(alloc, bytes, job.form, out)
     } else {
-        value(alloc, bytes, form, out)
+        value(alloc, bytes, job.form, out)
     }
 }
 

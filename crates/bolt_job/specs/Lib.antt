@@ -1,9 +1,9 @@
 pub mod CommandLine
 pub mod CopyKinds
 pub mod FormWords
+pub mod Jobs
 pub mod LineWords
 pub mod MetaChoices
-pub mod Needs
 pub mod PathWords
 pub mod PlainWords
 pub mod Private

@@ -15,11 +15,12 @@ use Rattle.bolt_job.specs.declared.choices.CopyKind.{CopyKind}
 use Rattle.bolt_job.specs.declared.choices.CopyKind.TheVariants as kind
 use Rattle.bolt_job.specs.declared.choices.Extent.{Extent}
 use Rattle.bolt_job.specs.declared.choices.Extent.TheVariants as extent
-use Rattle.bolt_job.specs.declared.job.Job.{Job}
-use Rattle.bolt_job.specs.declared.job.Job.TheVariants as job
 use Rattle.bolt_job.specs.declared.choices.MetaChoice.{MetaChoice}
 use Rattle.bolt_job.specs.declared.choices.MetaChoice.TheVariants as choice
 use Rattle.bolt_job.specs.declared.choices.PageSize.{PageSize}
+use Rattle.bolt_job.specs.declared.page_commands.{CheckJob.CheckJob, InfoJob.InfoJob, PageJob.PageJob, PagesJob.PagesJob}
+use Rattle.bolt_job.specs.declared.bucket_commands.{BucketsJob.BucketsJob, GetJob.GetJob, KeysJob.KeysJob, ListJob.ListJob, StatsJob.StatsJob}
+use Rattle.bolt_job.specs.declared.writing_commands.{CompactJob.CompactJob, LoadJob.LoadJob}
 
 -- ---- the arguments of the commands
 
@@ -80,18 +81,39 @@ meta_in choice.Active = active
 meta_in (choice.InSlot slot) = in_slot slot
 meta_in (choice.Assumed meta) = assumed meta.page_size.bytes meta.root
 
-abbrev pub asked_of : Job → Asked
-asked_of (job.Info j) = info (string_bytes j.file) j.slot j.form
-asked_of (job.Page j) = page (string_bytes j.file) (meta_in j.meta) j.id
-asked_of (job.Pages j) = pages (string_bytes j.file) j.map
-asked_of (job.Check j) = check (string_bytes j.file) (meta_in j.meta) j.extent j.snapshot
-asked_of (job.Buckets j) = buckets (string_bytes j.file) (meta_in j.meta) (path_in j.path.items) j.form j.sizes
-asked_of (job.Keys j) = keys (string_bytes j.file) (meta_in j.meta) (path_in j.path.items) j.prefix.items j.form
-asked_of (job.Get j) = get (string_bytes j.file) (meta_in j.meta) (path_in j.path.items) j.form j.no_newline
-asked_of (job.Stats j) = stats (string_bytes j.file) (meta_in j.meta) j.form (path_in j.path.items)
-asked_of (job.List j) = list (string_bytes j.file) (meta_in j.meta) j.form (path_in j.path.items) (path_in j.from.items) j.extent
-asked_of (job.Compact j) = compact (string_bytes j.file) (meta_in j.meta) (string_bytes j.target) (size_in j.page_size) j.kind j.extent
-asked_of (job.Load j) = load (string_bytes j.file) (string_bytes j.target) j.sequence j.page_size.bytes j.kind
+-- of the job of each command
+abbrev pub info_of : InfoJob → Asked
+info_of j = info (string_bytes j.file) j.slot j.form
+
+abbrev pub page_of : PageJob → Asked
+page_of j = page (string_bytes j.file) (meta_in j.meta) j.id
+
+abbrev pub pages_of : PagesJob → Asked
+pages_of j = pages (string_bytes j.file) j.map
+
+abbrev pub check_of : CheckJob → Asked
+check_of j = check (string_bytes j.file) (meta_in j.meta) j.extent j.snapshot
+
+abbrev pub buckets_of : BucketsJob → Asked
+buckets_of j = buckets (string_bytes j.file) (meta_in j.meta) (path_in j.path.items) j.form j.sizes
+
+abbrev pub keys_of : KeysJob → Asked
+keys_of j = keys (string_bytes j.file) (meta_in j.meta) (path_in j.path.items) j.prefix.items j.form
+
+abbrev pub get_of : GetJob → Asked
+get_of j = get (string_bytes j.file) (meta_in j.meta) (path_in j.path.items) j.form j.no_newline
+
+abbrev pub stats_of : StatsJob → Asked
+stats_of j = stats (string_bytes j.file) (meta_in j.meta) j.form (path_in j.path.items)
+
+abbrev pub list_of : ListJob → Asked
+list_of j = list (string_bytes j.file) (meta_in j.meta) j.form (path_in j.path.items) (path_in j.from.items) j.extent
+
+abbrev pub compact_of : CompactJob → Asked
+compact_of j = compact (string_bytes j.file) (meta_in j.meta) (string_bytes j.target) (size_in j.page_size) j.kind j.extent
+
+abbrev pub load_of : LoadJob → Asked
+load_of j = load (string_bytes j.file) (string_bytes j.target) j.sequence j.page_size.bytes j.kind
 
 -- the words that a line gives by each name
 abbrev pub Values : Type 0
@@ -287,25 +309,3 @@ asked_among (c ∷ later) name values = if bytes_eq name c.name then c.asks valu
 -- by the name of the command
 abbrev pub asked : Text → Values → Result Asked Text
 asked name values = asked_among commands name values
-
--- ---- the files of a job
-
--- the FILE that is asked for
-abbrev pub file_name : Job → Text
-file_name (job.Info j) = string_bytes j.file
-file_name (job.Page j) = string_bytes j.file
-file_name (job.Pages j) = string_bytes j.file
-file_name (job.Check j) = string_bytes j.file
-file_name (job.Buckets j) = string_bytes j.file
-file_name (job.Keys j) = string_bytes j.file
-file_name (job.Get j) = string_bytes j.file
-file_name (job.Stats j) = string_bytes j.file
-file_name (job.List j) = string_bytes j.file
-file_name (job.Compact j) = string_bytes j.file
-file_name (job.Load j) = string_bytes j.file
-
--- the OUT, if one is asked for
-abbrev pub target_name : Job → Option Text
-target_name (job.Compact j) = Some (string_bytes j.target)
-target_name (job.Load j) = Some (string_bytes j.target)
-target_name _ = None

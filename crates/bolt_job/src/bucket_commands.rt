@@ -1,14 +1,15 @@
 //! The commands that print what buckets hold: which arguments each has and their help, its job, and how that is
 //! read. A job's names are copied last: until then there is nothing to drop if a word can't be read.
 ghost use Rattle.bolt_job.specs.CommandLine.{Gives};
-ghost use Rattle.bolt_job.specs.PlainWords.{asked_of, asks_buckets, asks_get, asks_keys, asks_list, asks_stats};
+ghost use Rattle.bolt_job.specs.PlainWords.{asks_buckets, asks_get, asks_keys, asks_list, asks_stats, buckets_of, get_of, keys_of, list_of, stats_of};
 ghost use Rattle.bolt_job.specs.Private.CommandLines.{values_of};
 
+use crate::choices::{Extent, MetaChoice};
 use crate::command_line::{Argument, Flag, Syntax};
-use crate::job::{BucketsJob, GetJob, Job, KeysJob, ListJob, StatsJob};
 use crate::line::Line;
 use crate::page_commands::{ASSUME_META, FIGURE_FORM, FILE, META};
 use crate::refusal::Refusal;
+use bolt_text::{FigureForm, Form, ListForm};
 
 const BUCKET_PART: Argument = Argument {
     name: "PART",
@@ -106,6 +107,17 @@ pub(crate) const JOIN: Argument = Argument {
     required: false,
 };
 
+/// Print the buckets in the bucket at a path.
+#[derive(Drop)]
+pub struct BucketsJob {
+    pub file: String,
+    pub meta: MetaChoice,
+    pub form: Form,
+    pub path: Vec<Vec<u8>>,
+    /// Whether to print the sizes of each with its name.
+    pub sizes: bool,
+}
+
 pub(crate) static BUCKETS: Syntax = Syntax {
     name: "buckets",
     about: "Print the names of the buckets in a bucket",
@@ -113,16 +125,26 @@ pub(crate) static BUCKETS: Syntax = Syntax {
     note: None,
 };
 
-pub(crate) fn read_buckets(line: &Line<'_, '_>) -> Result<Job, Refusal>
-    ensures { Gives asked_of (asks_buckets (values_of line.now)) result }
+pub(crate) fn read_buckets(line: &Line<'_, '_>) -> Result<BucketsJob, Refusal>
+    ensures { Gives buckets_of (asks_buckets (values_of line.now)) result }
 {
-    Ok(Job::Buckets(BucketsJob {
+    Ok(BucketsJob {
         meta: line.meta()?,
         form: line.form()?,
         path: line.path()?,
         sizes: line.is_given("sizes"),
         file: line.text("FILE")?,
-    }))
+    })
+}
+
+/// Print the keys of the bucket at a path that begin with a prefix.
+#[derive(Drop)]
+pub struct KeysJob {
+    pub file: String,
+    pub meta: MetaChoice,
+    pub form: Form,
+    pub path: Vec<Vec<u8>>,
+    pub prefix: Vec<u8>,
 }
 
 pub(crate) static KEYS: Syntax = Syntax {
@@ -132,16 +154,27 @@ pub(crate) static KEYS: Syntax = Syntax {
     note: None,
 };
 
-pub(crate) fn read_keys(line: &Line<'_, '_>) -> Result<Job, Refusal>
-    ensures { Gives asked_of (asks_keys (values_of line.now)) result }
+pub(crate) fn read_keys(line: &Line<'_, '_>) -> Result<KeysJob, Refusal>
+    ensures { Gives keys_of (asks_keys (values_of line.now)) result }
 {
-    Ok(Job::Keys(KeysJob {
+    Ok(KeysJob {
         meta: line.meta()?,
         form: line.form()?,
         path: line.path()?,
         prefix: line.prefix()?,
         file: line.text("FILE")?,
-    }))
+    })
+}
+
+/// Print the value at a path.
+#[derive(Drop)]
+pub struct GetJob {
+    pub file: String,
+    pub meta: MetaChoice,
+    pub form: Form,
+    pub path: Vec<Vec<u8>>,
+    /// Whether to print no line feed after it.
+    pub no_newline: bool,
 }
 
 pub(crate) static GET: Syntax = Syntax {
@@ -151,16 +184,26 @@ pub(crate) static GET: Syntax = Syntax {
     note: None,
 };
 
-pub(crate) fn read_get(line: &Line<'_, '_>) -> Result<Job, Refusal>
-    ensures { Gives asked_of (asks_get (values_of line.now)) result }
+pub(crate) fn read_get(line: &Line<'_, '_>) -> Result<GetJob, Refusal>
+    ensures { Gives get_of (asks_get (values_of line.now)) result }
 {
-    Ok(Job::Get(GetJob {
+    Ok(GetJob {
         meta: line.meta()?,
         form: line.form()?,
         path: line.path()?,
         no_newline: line.is_given("no-newline"),
         file: line.text("FILE")?,
-    }))
+    })
+}
+
+/// Print the figures of the bucket at a path and of all in it. At the empty path they are those of
+/// the root's buckets, added up.
+#[derive(Drop)]
+pub struct StatsJob {
+    pub file: String,
+    pub meta: MetaChoice,
+    pub form: FigureForm,
+    pub path: Vec<Vec<u8>>,
 }
 
 pub(crate) static STATS: Syntax = Syntax {
@@ -170,15 +213,27 @@ pub(crate) static STATS: Syntax = Syntax {
     note: None,
 };
 
-pub(crate) fn read_stats(line: &Line<'_, '_>) -> Result<Job, Refusal>
-    ensures { Gives asked_of (asks_stats (values_of line.now)) result }
+pub(crate) fn read_stats(line: &Line<'_, '_>) -> Result<StatsJob, Refusal>
+    ensures { Gives stats_of (asks_stats (values_of line.now)) result }
 {
-    Ok(Job::Stats(StatsJob {
+    Ok(StatsJob {
         meta: line.meta()?,
         form: line.figure_form()?,
         path: line.path()?,
         file: line.text("FILE")?,
-    }))
+    })
+}
+
+/// Print the part of the listing at and below a path, without what comes before another path. Both
+/// are empty if the whole listing is wanted.
+#[derive(Drop)]
+pub struct ListJob {
+    pub file: String,
+    pub meta: MetaChoice,
+    pub form: ListForm,
+    pub path: Vec<Vec<u8>>,
+    pub from: Vec<Vec<u8>>,
+    pub extent: Extent,
 }
 
 pub(crate) static LIST: Syntax = Syntax {
@@ -198,15 +253,15 @@ pub(crate) static LIST: Syntax = Syntax {
     note: None,
 };
 
-pub(crate) fn read_list(line: &Line<'_, '_>) -> Result<Job, Refusal>
-    ensures { Gives asked_of (asks_list (values_of line.now)) result }
+pub(crate) fn read_list(line: &Line<'_, '_>) -> Result<ListJob, Refusal>
+    ensures { Gives list_of (asks_list (values_of line.now)) result }
 {
-    Ok(Job::List(ListJob {
+    Ok(ListJob {
         meta: line.meta()?,
         form: line.list_form()?,
         path: line.path()?,
         from: line.from()?,
         extent: line.extent("recover"),
         file: line.text("FILE")?,
-    }))
+    })
 }

@@ -1,9 +1,23 @@
-//! A job: what the words of a command line ask for. Each command has one of its own.
-ghost use Rattle.std.specs.Prelude.{◌≡◌};
+//! The commands, each by its name: what help tells of it, and how its job is read. A job is what the words of a
+//! command line ask for.
+ghost use Rattle.std.specs.Prelude.{◌≡◌, map};
+ghost use Rattle.bolt_job.specs.CommandLine.{Gives};
+ghost use Rattle.bolt_job.specs.{Jobs.asked_of, PlainWords.asked, PlainWords.lines};
+ghost use Rattle.bolt_job.specs.Private.CommandLines.{values_of};
+ghost use Rattle.bolt_job.specs.Syntaxes.{line_of};
 
-use crate::choices::{CopyKind, Extent, MetaChoice, PageSize};
-use bolt_format::Slot;
-use bolt_text::{FigureForm, Form, ListForm};
+use crate::bucket_commands::{
+    BUCKETS, BucketsJob, GET, GetJob, KEYS, KeysJob, LIST, ListJob, STATS, StatsJob, read_buckets,
+    read_get, read_keys, read_list, read_stats,
+};
+use crate::command_line::Syntax;
+use crate::line::Line;
+use crate::page_commands::{
+    CHECK, CheckJob, INFO, InfoJob, PAGE, PAGES, PageJob, PagesJob, read_check, read_info,
+    read_page, read_pages,
+};
+use crate::refusal::Refusal;
+use crate::writing_commands::{COMPACT, CompactJob, LOAD, LoadJob, read_compact, read_load};
 
 /// What the words of a command line ask for (docs/COMMANDS.md). Each command has a job of its own.
 #[derive(Drop)]
@@ -23,7 +37,7 @@ pub enum Job {
 
 impl Job {
     ghost use Rattle.std.specs.Prelude.{option_map};
-    ghost use Rattle.bolt_job.specs.{Needs.needs_metas_alone, PlainWords.file_name, PlainWords.target_name};
+    ghost use Rattle.bolt_job.specs.Jobs.{file_name, needs_metas_alone, target_name};
 
     /// The name of FILE.
     pub fn file(&self) -> &str
@@ -65,116 +79,32 @@ impl Job {
     }
 }
 
-/// Print the meta in a slot, or the active one.
-#[derive(Drop)]
-pub struct InfoJob {
-    pub file: String,
-    pub slot: Option<Slot>,
-    pub form: FigureForm,
+/// The commands, in the order of help. Each is a `static` of its own, since the check of a table takes the
+/// square of its length.
+pub(crate) fn commands<'a>() -> [&'a Syntax; 11]
+    ensures { map (λ syntax. line_of syntax.now) result ≡ lines }
+{
+    [
+        &INFO, &PAGE, &PAGES, &CHECK, &BUCKETS, &KEYS, &GET, &STATS, &LIST, &COMPACT, &LOAD,
+    ]
 }
 
-/// Print one page.
-#[derive(Drop)]
-pub struct PageJob {
-    pub file: String,
-    pub meta: MetaChoice,
-    pub id: u64,
-}
-
-/// Print all pages.
-#[derive(Drop)]
-pub struct PagesJob {
-    pub file: String,
-    /// Whether to print a map of them, and not their table.
-    pub map: bool,
-}
-
-/// Check whether the file is sound.
-#[derive(Drop)]
-pub struct CheckJob {
-    pub file: String,
-    pub meta: MetaChoice,
-    pub extent: Extent,
-    /// Whether to check first that the file ends with the SHA-256 of what is before it.
-    pub snapshot: bool,
-}
-
-/// Print the buckets in the bucket at a path.
-#[derive(Drop)]
-pub struct BucketsJob {
-    pub file: String,
-    pub meta: MetaChoice,
-    pub form: Form,
-    pub path: Vec<Vec<u8>>,
-    /// Whether to print the sizes of each with its name.
-    pub sizes: bool,
-}
-
-/// Print the figures of the bucket at a path and of all in it. At the empty path they are those of
-/// the root's buckets, added up.
-#[derive(Drop)]
-pub struct StatsJob {
-    pub file: String,
-    pub meta: MetaChoice,
-    pub form: FigureForm,
-    pub path: Vec<Vec<u8>>,
-}
-
-/// Print the keys of the bucket at a path that begin with a prefix.
-#[derive(Drop)]
-pub struct KeysJob {
-    pub file: String,
-    pub meta: MetaChoice,
-    pub form: Form,
-    pub path: Vec<Vec<u8>>,
-    pub prefix: Vec<u8>,
-}
-
-/// Print the value at a path.
-#[derive(Drop)]
-pub struct GetJob {
-    pub file: String,
-    pub meta: MetaChoice,
-    pub form: Form,
-    pub path: Vec<Vec<u8>>,
-    /// Whether to print no line feed after it.
-    pub no_newline: bool,
-}
-
-/// Print the part of the listing at and below a path, without what comes before another path. Both
-/// are empty if the whole listing is wanted.
-#[derive(Drop)]
-pub struct ListJob {
-    pub file: String,
-    pub meta: MetaChoice,
-    pub form: ListForm,
-    pub path: Vec<Vec<u8>>,
-    pub from: Vec<Vec<u8>>,
-    pub extent: Extent,
-}
-
-/// Write a compact copy to another file.
-#[derive(Drop)]
-pub struct CompactJob {
-    pub file: String,
-    pub meta: MetaChoice,
-    /// The name of OUT.
-    pub target: String,
-    /// The page size of the copy. Without one it is that of the file.
-    pub page_size: Option<PageSize>,
-    pub kind: CopyKind,
-    pub extent: Extent,
-}
-
-/// Write a database of the lines of a listing to another file.
-#[derive(Drop)]
-pub struct LoadJob {
-    /// The name of the file that has the lines.
-    pub file: String,
-    /// The name of OUT.
-    pub target: String,
-    /// The sequence of the root bucket.
-    pub sequence: u64,
-    pub page_size: PageSize,
-    pub kind: CopyKind,
+/// The job of a command by its name, and the words that its operands and options are given.
+pub(crate) fn read_command(name: &str, line: &Line<'_, '_>) -> Result<Job, Refusal>
+    ensures { Gives asked_of (asked name.now (values_of line.now)) result }
+{
+    match name {
+        "info" => Ok(Job::Info(read_info(line)?)),
+        "page" => Ok(Job::Page(read_page(line)?)),
+        "pages" => Ok(Job::Pages(read_pages(line)?)),
+        "check" => Ok(Job::Check(read_check(line)?)),
+        "buckets" => Ok(Job::Buckets(read_buckets(line)?)),
+        "keys" => Ok(Job::Keys(read_keys(line)?)),
+        "get" => Ok(Job::Get(read_get(line)?)),
+        "stats" => Ok(Job::Stats(read_stats(line)?)),
+        "list" => Ok(Job::List(read_list(line)?)),
+        "compact" => Ok(Job::Compact(read_compact(line)?)),
+        "load" => Ok(Job::Load(read_load(line)?)),
+        _ => Err(Refusal::Word("command missing")),
+    }
 }

@@ -4,7 +4,6 @@
 mod bucket_commands;
 mod choices;
 mod command_line;
-mod commands;
 mod job;
 mod line;
 mod page_commands;
@@ -13,10 +12,10 @@ mod refusal;
 mod words;
 mod writing_commands;
 
+pub use bucket_commands::{BucketsJob, GetJob, KeysJob, ListJob, StatsJob};
 pub use choices::{AssumedMeta, CopyKind, Extent, MetaChoice, PageSize};
-pub use job::{
-    BucketsJob, CheckJob, CompactJob, GetJob, InfoJob, Job, KeysJob, ListJob, LoadJob, PageJob,
-    PagesJob, StatsJob,
-};
+pub use job::Job;
+pub use page_commands::{CheckJob, InfoJob, PageJob, PagesJob};
 pub use refusal::Refusal;
 pub use words::read_words;
+pub use writing_commands::{CompactJob, LoadJob};

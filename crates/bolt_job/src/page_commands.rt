@@ -1,13 +1,15 @@
 //! The commands that print pages and what is wrong with a file: which arguments each has and their help, its job,
 //! and how that is read. A job's names are copied last: until then there is nothing to drop if a word can't be read.
 ghost use Rattle.bolt_job.specs.CommandLine.{Gives};
-ghost use Rattle.bolt_job.specs.PlainWords.{asked_of, asks_check, asks_info, asks_page, asks_pages};
+ghost use Rattle.bolt_job.specs.PlainWords.{asks_check, asks_info, asks_page, asks_pages, check_of, info_of, page_of, pages_of};
 ghost use Rattle.bolt_job.specs.Private.CommandLines.{values_of};
 
+use crate::choices::{Extent, MetaChoice};
 use crate::command_line::{Argument, Flag, Syntax};
-use crate::job::{CheckJob, InfoJob, Job, PageJob, PagesJob};
 use crate::line::Line;
 use crate::refusal::Refusal;
+use bolt_format::Slot;
+use bolt_text::FigureForm;
 
 pub(crate) const FILE: Argument = Argument {
     name: "FILE",
@@ -89,6 +91,14 @@ const LOST_AND_FOUND: Argument = Argument {
     required: false,
 };
 
+/// Print the meta in a slot, or the active one.
+#[derive(Drop)]
+pub struct InfoJob {
+    pub file: String,
+    pub slot: Option<Slot>,
+    pub form: FigureForm,
+}
+
 pub(crate) static INFO: Syntax = Syntax {
     name: "info",
     about: "Print the active meta: page size, transaction id, root, freelist, high-water mark",
@@ -96,14 +106,22 @@ pub(crate) static INFO: Syntax = Syntax {
     note: None,
 };
 
-pub(crate) fn read_info(line: &Line<'_, '_>) -> Result<Job, Refusal>
-    ensures { Gives asked_of (asks_info (values_of line.now)) result }
+pub(crate) fn read_info(line: &Line<'_, '_>) -> Result<InfoJob, Refusal>
+    ensures { Gives info_of (asks_info (values_of line.now)) result }
 {
-    Ok(Job::Info(InfoJob {
+    Ok(InfoJob {
         slot: line.slot()?,
         form: line.figure_form()?,
         file: line.text("FILE")?,
-    }))
+    })
+}
+
+/// Print one page.
+#[derive(Drop)]
+pub struct PageJob {
+    pub file: String,
+    pub meta: MetaChoice,
+    pub id: u64,
 }
 
 pub(crate) static PAGE: Syntax = Syntax {
@@ -113,14 +131,22 @@ pub(crate) static PAGE: Syntax = Syntax {
     note: None,
 };
 
-pub(crate) fn read_page(line: &Line<'_, '_>) -> Result<Job, Refusal>
-    ensures { Gives asked_of (asks_page (values_of line.now)) result }
+pub(crate) fn read_page(line: &Line<'_, '_>) -> Result<PageJob, Refusal>
+    ensures { Gives page_of (asks_page (values_of line.now)) result }
 {
-    Ok(Job::Page(PageJob {
+    Ok(PageJob {
         meta: line.meta()?,
         id: line.page_id()?,
         file: line.text("FILE")?,
-    }))
+    })
+}
+
+/// Print all pages.
+#[derive(Drop)]
+pub struct PagesJob {
+    pub file: String,
+    /// Whether to print a map of them, and not their table.
+    pub map: bool,
 }
 
 pub(crate) static PAGES: Syntax = Syntax {
@@ -130,13 +156,23 @@ pub(crate) static PAGES: Syntax = Syntax {
     note: None,
 };
 
-pub(crate) fn read_pages(line: &Line<'_, '_>) -> Result<Job, Refusal>
-    ensures { Gives asked_of (asks_pages (values_of line.now)) result }
+pub(crate) fn read_pages(line: &Line<'_, '_>) -> Result<PagesJob, Refusal>
+    ensures { Gives pages_of (asks_pages (values_of line.now)) result }
 {
-    Ok(Job::Pages(PagesJob {
+    Ok(PagesJob {
         map: line.is_given("map"),
         file: line.text("FILE")?,
-    }))
+    })
+}
+
+/// Check whether the file is sound.
+#[derive(Drop)]
+pub struct CheckJob {
+    pub file: String,
+    pub meta: MetaChoice,
+    pub extent: Extent,
+    /// Whether to check first that the file ends with the SHA-256 of what is before it.
+    pub snapshot: bool,
 }
 
 pub(crate) static CHECK: Syntax = Syntax {
@@ -146,13 +182,13 @@ pub(crate) static CHECK: Syntax = Syntax {
     note: None,
 };
 
-pub(crate) fn read_check(line: &Line<'_, '_>) -> Result<Job, Refusal>
-    ensures { Gives asked_of (asks_check (values_of line.now)) result }
+pub(crate) fn read_check(line: &Line<'_, '_>) -> Result<CheckJob, Refusal>
+    ensures { Gives check_of (asks_check (values_of line.now)) result }
 {
-    Ok(Job::Check(CheckJob {
+    Ok(CheckJob {
         meta: line.meta()?,
         extent: line.extent("all"),
         snapshot: line.is_given("etcd-snapshot"),
         file: line.text("FILE")?,
-    }))
+    })
 }

@@ -2,11 +2,10 @@
 ghost use Rattle.std.specs.Prelude.{IfErr, IfOk, map, string_bytes};
 ghost use Rattle.clap.specs.Words.{kind_of, subcommand_rows_of};
 ghost use Rattle.bolt_job.specs.CommandLine.{Asks, Gives, HasKindOf, IsCommand, IsRefusalOf, asked_by_subcommand, program};
-ghost use Rattle.bolt_job.specs.PlainWords.{asked_of};
+ghost use Rattle.bolt_job.specs.Jobs.{asked_of};
 
 use crate::command_line::{bare_program, with_commands};
-use crate::commands::{commands, read_command};
-use crate::job::Job;
+use crate::job::{Job, commands, read_command};
 use crate::line::Line;
 use crate::refusal::Refusal;
 use clap::error::ErrorKind;

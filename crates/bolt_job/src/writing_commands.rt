@@ -1,12 +1,12 @@
 //! The commands that write a database: which arguments each has and their help, its job, and how that is read. A
 //! job's names are copied last: until then there is nothing to drop if a word can't be read.
 ghost use Rattle.bolt_job.specs.CommandLine.{Gives};
-ghost use Rattle.bolt_job.specs.PlainWords.{asked_of, asks_compact, asks_load};
+ghost use Rattle.bolt_job.specs.PlainWords.{asks_compact, asks_load, compact_of, load_of};
 ghost use Rattle.bolt_job.specs.Private.CommandLines.{values_of};
 
 use crate::bucket_commands::{JOIN, RECOVER};
+use crate::choices::{CopyKind, Extent, MetaChoice, PageSize};
 use crate::command_line::{Argument, Flag, Syntax};
-use crate::job::{CompactJob, Job, LoadJob};
 use crate::line::Line;
 use crate::page_commands::{ASSUME_META, FILE, META};
 use crate::refusal::Refusal;
@@ -71,6 +71,19 @@ const COPY_NOTE: &str = "Use --for-bbolt if bbolt or etcd will write to OUT. bbo
     each branch page has at least two children, and can panic when it deletes below one that has a \
     single child. Without the option OUT may have such pages.";
 
+/// Write a compact copy to another file.
+#[derive(Drop)]
+pub struct CompactJob {
+    pub file: String,
+    pub meta: MetaChoice,
+    /// The name of OUT.
+    pub target: String,
+    /// The page size of the copy. Without one it is that of the file.
+    pub page_size: Option<PageSize>,
+    pub kind: CopyKind,
+    pub extent: Extent,
+}
+
 pub(crate) static COMPACT: Syntax = Syntax {
     name: "compact",
     about: "Write a compact copy: everything in the file, and no free pages",
@@ -88,17 +101,30 @@ pub(crate) static COMPACT: Syntax = Syntax {
     note: Some(COPY_NOTE),
 };
 
-pub(crate) fn read_compact(line: &Line<'_, '_>) -> Result<Job, Refusal>
-    ensures { Gives asked_of (asks_compact (values_of line.now)) result }
+pub(crate) fn read_compact(line: &Line<'_, '_>) -> Result<CompactJob, Refusal>
+    ensures { Gives compact_of (asks_compact (values_of line.now)) result }
 {
-    Ok(Job::Compact(CompactJob {
+    Ok(CompactJob {
         meta: line.meta()?,
         page_size: line.page_size()?,
         kind: line.copy_kind(),
         extent: line.extent("recover"),
         target: line.text("output")?,
         file: line.text("FILE")?,
-    }))
+    })
+}
+
+/// Write a database of the lines of a listing to another file.
+#[derive(Drop)]
+pub struct LoadJob {
+    /// The name of the file that has the lines.
+    pub file: String,
+    /// The name of OUT.
+    pub target: String,
+    /// The sequence of the root bucket.
+    pub sequence: u64,
+    pub page_size: PageSize,
+    pub kind: CopyKind,
 }
 
 pub(crate) static LOAD: Syntax = Syntax {
@@ -115,14 +141,14 @@ pub(crate) static LOAD: Syntax = Syntax {
     note: Some(COPY_NOTE),
 };
 
-pub(crate) fn read_load(line: &Line<'_, '_>) -> Result<Job, Refusal>
-    ensures { Gives asked_of (asks_load (values_of line.now)) result }
+pub(crate) fn read_load(line: &Line<'_, '_>) -> Result<LoadJob, Refusal>
+    ensures { Gives load_of (asks_load (values_of line.now)) result }
 {
-    Ok(Job::Load(LoadJob {
+    Ok(LoadJob {
         sequence: line.sequence()?,
         page_size: line.load_size()?,
         kind: line.copy_kind(),
         target: line.text("output")?,
         file: line.text("FILE")?,
-    }))
+    })
 }

@@ -8,7 +8,7 @@ use Rattle.bolt_commands.specs.{Answers.Ending, Answers.Loads, Answers.MakesCopy
 use Rattle.bolt_job.specs.CopyKinds.{is_snapshot}
 use Rattle.bolt_commands.specs.CopyLayouts.{layout_for}
 use Rattle.bolt_commands.specs.GoodCopies.{IsGoodCopy}
-use Rattle.bolt_job.specs.{declared.choices.Extent.Extent, declared.job.CompactJob.CompactJob, declared.job.LoadJob.LoadJob}
+use Rattle.bolt_job.specs.{declared.choices.Extent.Extent, declared.writing_commands.CompactJob.CompactJob, declared.writing_commands.LoadJob.LoadJob}
 
 module _ {O T : Type 0} (out : Ghosts O) (out_old out_new : O) (target : Ghosts T) (target_old target_new : T) where
   abbrev pub CompactsTo : Extent → CompactJob → List ℕ → Ending → Type 0
