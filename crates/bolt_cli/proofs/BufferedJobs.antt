@@ -1,7 +1,6 @@
 -- What a job does, whatever its standard output and its target are.
 use Rattle.std.proofs.Common.{◌≡◌, ◌<◌, ◌∙◌, ap, inl, inr, ℕ, List, [], Option, None, Some, Bool, length, refl, subst, sym}
-use Rattle.bolt_cli.proofs.Vocabulary.{Answer, Does, DoesJob, Ending, Extent, First, Ghosts, Job, Layout, Losses, MakesCopy, Member, Meta, MetaChoice, PageSize, WritesCopy, copy_page_size, copy_report, done, bad_hash, buffered_failures, buffered_of, buffered_text, layout_of_listing, lengths_line, parts, target_name, text_members}
-use Rattle.bolt_job.specs.declared.choices.Extent.TheVariants.{LostAndFound}
+use Rattle.bolt_cli.proofs.Vocabulary.{Answer, CopiesUnless, Does, DoesJob, Ending, Extent, Ghosts, Job, Layout, MakesCopy, Member, MetaChoice, PageSize, WritesCopy, copy_page_size, copy_report, done, bad_hash, buffered_failures, buffered_of, buffered_text, hash_refusal, layout_of_listing, lengths_line, target_name, text_members}
 use Rattle.bolt_job.specs.declared.job.Job.TheVariants as job
 
 module _ {O T : Type 0} (out_taken : O → Option (List ℕ)) (out_failed : O → ℕ) (out_old out_new : O)
@@ -39,26 +38,23 @@ module _ {O T : Type 0} (out : Ghosts O) (target : Ghosts T) (out_old out_new : 
   written snapshot listing layout answer ending (inl (small, good, put, sound, does)) = inl (small, good, put, sound, does_buffered _ ending does)
   written snapshot listing layout answer ending (inr (failure, stops, same, is)) = inr (failure, stops, untouched same, is)
 
-  module _ (file : List ℕ) (choice : MetaChoice) (size : Option PageSize) (which : Layout) (snapshot : Bool) where
-    abbrev layout : Meta → List Member → List ℕ
-    layout meta listing = layout_of_listing which (copy_page_size size meta) listing meta.root_sequence
+  module _ (snapshot : Bool) (listing : List Member) (layout : List ℕ) (answer : ℕ → Answer) (ending : Ending) where
+    unless : (hash : _)
+        → CopiesUnless out.taken out.failed out_old out_new target.taken target.failed target_old target_new hash
+            (WritesCopy out.taken out.failed out_old out_new target.taken target.failed target_old target_new snapshot listing layout answer) ending
+        → CopiesUnless buffered_text buffered_failures (buffered_of [] 0) (buffered_of text failures) target.taken target.failed target_old target_new hash
+            (WritesCopy buffered_text buffered_failures (buffered_of [] 0) (buffered_of text failures) target.taken target.failed target_old target_new snapshot listing layout answer) ending
+    unless (Some fault) (same, untouched_target, is) = (untouched same, untouched_target, is)
+    unless None writes = written snapshot listing layout answer ending writes
 
-    copied : (extent : Extent) (ending : Ending)
-        → MakesCopy out.taken out.failed out_old out_new target.taken target.failed target_old target_new file choice size which snapshot extent ending
-        → MakesCopy buffered_text buffered_failures (buffered_of [] 0) (buffered_of text failures) target.taken target.failed target_old target_new file choice size which snapshot extent ending
-    copied First ending (inl (meta, listing, read, hash, lists, writes)) =
-        inl (meta, listing, read, hash, lists, written snapshot listing (layout meta listing) (λ copy. done (lengths_line (length file) copy)) ending writes)
-    copied First ending (inr (inl (meta, fault, read, bad, same, target, is))) = inr (inl (meta, fault, read, bad, untouched same, target, is))
-    copied First ending (inr (inr (fault, failure, refused, of, same, target, is))) = inr (inr (fault, failure, refused, of, untouched same, target, is))
-    copied Losses ending (inl (meta, listing, losses, under, recovered, are, writes)) =
-        let report = copy_report (bad_hash snapshot file) (parts losses) [] (length file) in
-        inl (meta, listing, losses, under, recovered, are, written snapshot listing (layout meta listing) report ending writes)
-    copied Losses ending (inr (fault, failure, refused, of, same, target, is)) = inr (fault, failure, refused, of, untouched same, target, is)
-    copied LostAndFound ending (inl (meta, listing, lost, found, own, salvaged, (small, good, put, sound, does))) =
-        inl (meta, listing, lost, found, own, salvaged, (small, good, put, sound, does_buffered _ ending does))
-    copied LostAndFound ending (inr (inl (meta, listing, own, joins, (failure, stops, same, is)))) =
-        inr (inl (meta, listing, own, joins, (failure, stops, untouched same, is)))
-    copied LostAndFound ending (inr (inr (why, unjoined, same, target, is))) = inr (inr (why, unjoined, untouched same, target, is))
+  copied : (file : List ℕ) (choice : MetaChoice) (size : Option PageSize) (which : Layout) (snapshot : Bool) (extent : Extent) (ending : Ending)
+      → MakesCopy out.taken out.failed out_old out_new target.taken target.failed target_old target_new file choice size which snapshot extent ending
+      → MakesCopy buffered_text buffered_failures (buffered_of [] 0) (buffered_of text failures) target.taken target.failed target_old target_new file choice size which snapshot extent ending
+  copied file choice size which snapshot extent ending (inl (meta, listing, lost, found, read, copies)) =
+      let hash = bad_hash snapshot file in
+      let layout = layout_of_listing which (copy_page_size size meta) listing meta.root_sequence in
+      inl (meta, listing, lost, found, read, unless snapshot listing layout (copy_report hash lost found (length file)) ending (hash_refusal extent hash) copies)
+  copied file choice size which snapshot extent ending (inr (why, unread, (same, untouched_target, is))) = inr (why, unread, (untouched same, untouched_target, is))
 
   pub buffered_job : (file : List ℕ) (j : Job) (ending : Ending)
       → DoesJob out.taken out.failed out_old out_new target.taken target.failed target_old target_new file j ending

@@ -2,17 +2,15 @@
 pub use Rattle.bolt_cli.specs.Deeds.{Adds, Closed, Deed, Ended, Made, Opened, Read, Said}
 pub use Rattle.bolt_cli.specs.Runs.{Choose, Closes, WritesOut, Ends, Fails, FailsNaming, Goes, IsBufferedLine, IsReported, IsRun, PrintsText, PrintsBuffered, Reads, Refuses, error_line}
 pub use Rattle.bolt_cli.specs.Runs.{buffered_failures, buffered_of, buffered_text, is_again}
-pub use Rattle.bolt_commands.specs.Answers.{Answer, Does, DoesJob, Ending, MakesCopy, WritesCopy, copy_page_size, copy_report, done, error_text, lengths_line}
+pub use Rattle.bolt_commands.specs.Answers.{Answer, CopiesUnless, Does, DoesJob, Ending, MakesCopy, WritesCopy, copy_page_size, copy_report, done, error_text, hash_refusal, lengths_line}
 pub use Rattle.bolt_commands.specs.Answers.{status_of}
 pub use Rattle.bolt_commands.specs.{Failures.failure_line, SnapshotAnswers.bad_hash}
-pub use Rattle.bolt_format.specs.{Sinks.AppendsPrefix, declared.meta.Meta.Meta, declared.sink.Sink.Ghosts}
-pub use Rattle.bolt_job.specs.declared.choices.Extent.TheVariants.{First, Losses}
+pub use Rattle.bolt_format.specs.{Sinks.AppendsPrefix, declared.sink.Sink.Ghosts}
 pub use Rattle.bolt_job.specs.declared.refusal.Refusal.TheVariants.{Help, Version}
 pub use Rattle.bolt_job.specs.{Jobs.target_name, LineWords.Text, declared.choices.Extent.Extent, declared.job.Job.Job}
 pub use Rattle.bolt_job.specs.{declared.choices.MetaChoice.MetaChoice, declared.choices.PageSize.PageSize, declared.refusal.Refusal.Refusal}
 pub use Rattle.bolt_layout.specs.{Copies.layout_of_listing, declared.Layout.Layout}
 pub use Rattle.bolt_text.specs.{LineMembers.text_members}
-pub use Rattle.bolt_recover.specs.{Losses.parts}
 pub use Rattle.bolt_tree.specs.{Listing.Member}
 pub use Rattle.std.proofs.{lemmas.Grind.common_steps}
 pub use Rattle.std.specs.{Io.KnownBytes.Appends, Prelude.string_bytes}

@@ -1,7 +1,7 @@
 -- The copy of a listing, and what is then reported of it.
-use Rattle.std.proofs.Common.{◌≡◌, ℕ, List, Bool, Result, Ok, Err, inl, inr, subst}
-use Rattle.bolt_commands.proofs.Vocabulary.{Answer, BulkFault, CopiesTo, Does, Ending, EndsCopy, EndsCopying, Ghosts, Member, OnOk, WritesCopy, copied, copy_page_size}
-use Rattle.bolt_commands.proofs.Vocabulary.{HasGoodCopies, IsAskedBlueprint, Meta, layout_for, layout_of_listing, blueprint_layout, ∥∥₁_map}
+use Rattle.std.proofs.Common.{◌≡◌, ℕ, List, Bool, Option, Some, None, Result, Ok, Err, inl, inr, refl, subst, sym}
+use Rattle.bolt_commands.proofs.Vocabulary.{Answer, BulkFault, CopiesTo, Does, Ending, EndsCopy, Failure, Ghosts, Member, WritesCopy, copied, copy_page_size}
+use Rattle.bolt_commands.proofs.Vocabulary.{HasGoodCopies, IsAskedBlueprint, Meta, layout_for, layout_of_listing, blueprint_layout, failing, ∥∥₁_map}
 use Rattle.bolt_bulk.specs.declared.blueprint.Blueprint.{Blueprint}
 use Rattle.bolt_job.specs.declared.writing_commands.CompactJob.{CompactJob}
 
@@ -19,23 +19,16 @@ pub copy_asked : {T : Type 0} {target : Ghosts T} {old new : T} {listing : List 
     → CopiesTo target old new (layout_of_listing (layout_for job.kind) (copy_page_size job.page_size meta) listing meta.root_sequence) listing snapshot result
 copy_asked asked copy = rw (asked.layout, asked.page_size, asked.sequence) at copy
 
-module _ {O : Type 0} {out : Ghosts O} {out_old out_new : O} where
-  -- only if the copy is whole, something is reported of it
-  pub report_same : {first second : ℕ → Answer} (made : Result ℕ BulkFault) (ending : Ending) → OnOk made ((copy : ℕ) → first copy ≡ second copy)
-      → EndsCopying out out_old out_new first made ending → EndsCopying out out_old out_new second made ending
-  report_same (Ok count) ending same ends =
-      record { whole = subst (λ (a : Answer). Does out.taken out.failed out_old out_new a ending) (same count) ends.whole; stopped = tt }
-  report_same (Err fault) ending same ends = record { whole = tt; stopped = ends.stopped }
+module _ {O T : Type 0} {out : Ghosts O} {out_old out_new : O} {target : Ghosts T} {old new : T} {layout : List ℕ} {listing : List Member} {snapshot : Bool} {answer : ℕ → Answer} where
+  abbrev Writes : Ending → Type 0
+  Writes ending = WritesCopy out.taken out.failed out_old out_new target.taken target.failed old new snapshot listing layout answer ending
 
-  pub report_as : {first second : ℕ → Answer} (made : Result ℕ BulkFault) (ending : Ending) → ((copy : ℕ) → first copy ≡ second copy)
-      → EndsCopying out out_old out_new first made ending → EndsCopying out out_old out_new second made ending
-  report_as (Ok count) ending same ends = report_same (Ok count) ending same ends
-  report_as (Err fault) ending same ends = report_same (Err fault) ending tt ends
-
-  pub copy_written : {T : Type 0} {target : Ghosts T} {old new : T} {layout : List ℕ} {listing : List Member} {snapshot : Bool} {answer : ℕ → Answer} (made : Result ℕ BulkFault) (ending : Ending)
-      → CopiesTo target old new layout listing snapshot made → EndsCopying out out_old out_new answer made ending
-      → WritesCopy out.taken out.failed out_old out_new target.taken target.failed old new snapshot listing layout answer ending
-  copy_written {answer = answer} (Ok count) ending copy ends =
+  -- it is whole, and reported
+  pub copy_written : (count : ℕ) (ending : Ending) → CopiesTo target old new layout listing snapshot (Ok count) → Does out.taken out.failed out_old out_new (answer count) ending → Writes ending
+  copy_written count ending copy does =
       let whole = copy.ends in
-      inl (whole.small, copy.good, whole.all, whole.sound, subst (λ (n : ℕ). Does out.taken out.failed out_old out_new (answer n) ending) whole.long ends.whole)
-  copy_written (Err fault) ending copy ends = inr (copied fault, copy.ends, ends.stopped.0, ends.stopped.1)
+      inl (whole.small, copy.good, whole.all, whole.sound, subst (λ (n : ℕ). Does out.taken out.failed out_old out_new (answer n) ending) whole.long does)
+
+  -- it isn't whole, and nothing is reported
+  pub copy_stopped : (fault : BulkFault) (ending : Ending) → CopiesTo target old new layout listing snapshot (Err fault) → out_new ≡ out_old → ending ≡ Err (copied fault) → Writes ending
+  copy_stopped fault ending copy same is = inr (copied fault, copy.ends, same, is)

@@ -15,7 +15,6 @@ pub mod LossAnswers
 pub mod NeededBytes
 pub mod PageAnswers
 pub mod ReadFiles
-pub mod RestAnswers
 pub mod SnapshotCopies
 pub mod SoundReads
 pub mod SoundRecovery

@@ -1,27 +1,60 @@
--- The answer of `list`.
-use Rattle.std.proofs.Common.{◌≡◌, ◌⊎◌, ℕ, true, IfErr, List, Result, Ok, inl, refl}
-use Rattle.bolt_commands.proofs.Vocabulary.{Bucket, ForListing, Ghosts, IsBucketOf, IsListAnswer, IsReadAnswer, IsReadUnder, LeadsTo, ListForm, Meta, MetaChoice}
-use Rattle.bolt_commands.proofs.Vocabulary.{Path, PrintsAnswer, ReportFault, Start, Wrote, bucket_checked, bucket_start, end_of, has_bucket, has_listing, listing_lines, meta_of}
-use Rattle.bolt_commands.proofs.Vocabulary.{part_below, part_ending, part_text, props, refused, report_ending, rest_from, ∥∥₁_elim}
-use Rattle.bolt_text.specs.declared.fault.ReportFault.TheVariants as report
-use Rattle.bolt_commands.specs.declared.failure.Failure.TheVariants as failure
-use Rattle.bolt_commands.proofs.{CutTexts.ended_put, Doing.answer_as, ListedBuckets.has_named, ListedBuckets.none_named, ReadFiles.read_trees}
+-- What `list` puts, and how it then ends.
+use Rattle.std.proofs.Common.{◌≡◌, Bool, true, false, IfOk, List, Result, Ok, Err, ap, inl, inr, refl, sym, ℕ}
+use Rattle.bolt_commands.proofs.Vocabulary.{Ending, Failure, Ghosts, IsEndedOrCut, IsListPrint, ListJob, MayFail, Member, OnOk, Opened, PrintsAnswer, PutsListing}
+use Rattle.bolt_commands.proofs.Vocabulary.{PutsPart, ReportFault, Rises, Wrote, Wrote-none, end_of, failing, finds, job_part, lost_ending, member_cmp, opened_lost}
+use Rattle.bolt_commands.proofs.Vocabulary.{part_ending, path_in, report_ending, reported, sound_part}
+use Rattle.bolt_commands.specs.declared.failure.Failure.TheVariants.{NoBucket}
+use Rattle.bolt_commands.proofs.{CutTexts.ended_put, Doing.answer_as, Doing.answer_nothing, Doing.on_ok}
 
--- the path leads to no bucket
-pub no_bucket_listed : (file : List ℕ) (choice : MetaChoice) (form : ListForm) (path from : Path) (meta : Meta) → IsReadUnder file choice meta
-    → ((bucket : Start) → LeadsTo file meta path bucket → ⊥) → IsListAnswer file form path from meta (refused failure.NoBucket)
-no_bucket_listed file choice form path from meta under nowhere =
-    let (listing, is) = has_listing file meta (read_trees file choice meta under) in
-    (listing, is, inl (rw (none_named file meta listing is path nowhere) refl))
+module _ {S : Type 0} {sink : Ghosts S} {old new : S} (job : ListJob) (listing : List Member) where
+  -- ---- of a sound file, with the bucket or without it
 
-pub list_put : {file : List ℕ} {choice : MetaChoice} {path : Path} {bucket : Bucket} (of : IsBucketOf file choice path bucket) (form : ListForm) (from : Path)
-    {S A : Type 0} {sink : Ghosts S} {old new : S} (put : Result A ReportFault)
-    → ForListing (bucket_checked bucket) (λ listing. Wrote sink old new (listing_lines form (rest_from from (part_below path listing))) (report_ending put))
-    → IfErr put (λ e. (e ≡ report.Sink) ⊎ (e ≡ report.NoMemory)) → PrintsAnswer sink old new (IsReadAnswer file choice (IsListAnswer file form path from)) (end_of put (Ok 0))
-list_put {file} {choice} {path} {bucket} of form from {sink = sink} {old} {new} put written fault =
-    let meta = meta_of (bucket_checked bucket) in
-    let (listing, is) = has_listing file meta (read_trees file choice meta of.under) in
-    let there : has_bucket path listing ≡ true = ∥∥₁_elim of.led (hlevel props) (λ led. has_named file meta listing is path (bucket_start bucket) led) in
-    let here = written listing (rw of.bytes is) in
-    let put : PrintsAnswer sink old new _ _ = ended_put (part_text form path from listing) (part_ending path listing (Ok 0)) put (rw there here) fault in
-    answer_as (rw there at put) (λ answer listed. inl (meta, of.under, (listing, is, rw there listed)))
+  pub none_put : finds job listing ≡ false → PutsListing sink old old job (Ok false) listing
+  none_put none = (Ok false, rw none (Wrote-none old), tt, sym none, refl)
+
+  pub whole_put : {A : Type 0} (x : A) → finds job listing ≡ true → Wrote sink old new (sound_part job listing) (report_ending {A = A} (Ok x))
+      → PutsListing sink old new job (Ok true) listing
+  whole_put x has wrote = (Ok true, rw has wrote, tt, sym has, refl)
+
+  pub whole_cut : {A : Type 0} (e : ReportFault) → finds job listing ≡ true → Wrote sink old new (sound_part job listing) (report_ending {A = A} (Err e))
+      → MayFail {A = A} (Err e) → (result : Result Bool Failure) → result ≡ Err (reported e) → PutsListing sink old new job result listing
+  whole_cut e has wrote fault result is = (Err e, rw has wrote, fault, tt, is)
+
+  -- ---- of members
+
+  pub members_put : (Lists : List Member → Type 0) (left : List Member → List Member) → Lists listing → left listing ≡ listing → Rises member_cmp listing
+      → (put : Result Bool ReportFault) → MayFail put
+      → ((other : List Member) → Lists other → Rises member_cmp (left other) → Wrote sink old new (job_part job (left other)) (report_ending put))
+      → IfOk put (λ found. (other : List Member) → Lists other → found ≡ finds job (left other))
+      → (result : Result Bool Failure) → result ≡ failing reported put → PutsListing sink old new job result listing
+  members_put Lists left lists all rises (Ok found) fault puts knows result is =
+      (Ok found, rw all at (puts listing lists (rw all rises)), tt, rw all at (knows listing lists), is)
+  members_put Lists left lists all rises (Err e) fault puts knows result is = (Err e, rw all at (puts listing lists (rw all rises)), fault, tt, is)
+
+-- ---- the end
+
+-- how the job ends: with the number of losses, or without the bucket, or with the failure
+abbrev pub end_of_part : Result Bool Failure → Opened → Ending
+end_of_part (Ok true) after = lost_ending (opened_lost after)
+end_of_part (Ok false) after = Err NoBucket
+end_of_part (Err why) after = Err why
+
+module _ {S : Type 0} {sink : Ghosts S} {old new : S} (job : ListJob) (file : List ℕ) (after : Opened) where
+  abbrev Ended : List Member → Ending → Ending → Type 0
+  Ended listing wanted ending = PrintsAnswer sink old new (IsEndedOrCut (job_part job listing) (part_ending (path_in job.path.items) listing wanted)) ending
+
+  part_ended : (listing : List Member) (wanted : Ending) (put : Result Bool ReportFault) → Wrote sink old new (job_part job listing) (report_ending put) → MayFail put
+      → IfOk put (λ found. found ≡ finds job listing) → OnOk (failing reported put) (lost_ending (opened_lost after) ≡ wanted)
+      → Ended listing wanted (end_of_part (failing reported put) after)
+  part_ended listing wanted (Ok true) wrote fault knows same =
+      rw (same, sym knows) (ended_put {A = Bool} (job_part job listing) (part_ending (path_in job.path.items) listing wanted) (Ok true) wrote tt)
+  part_ended listing wanted (Ok false) wrote fault knows same =
+      rw (sym knows) (ended_put {A = Bool} (job_part job listing) (part_ending (path_in job.path.items) listing wanted) (Ok false) wrote tt)
+  part_ended listing wanted (Err e) wrote fault knows same =
+      ended_put {A = Bool} (job_part job listing) (part_ending (path_in job.path.items) listing wanted) (Err e) wrote fault
+
+  pub part_listed : (result : Result Bool Failure) → PutsPart sink old new job file after result → PrintsAnswer sink old new (IsListPrint job file) (end_of_part result after)
+  part_listed result (inl (meta, listing, lost, found, read, same, (put, wrote, fault, knows, is))) =
+      let known = on_ok (failing reported put) (λ (eq : opened_lost after ≡ lost). ap lost_ending eq) (rw is at same) in
+      rw is (answer_as (part_ended listing (lost_ending lost) put wrote fault knows known) (λ answer ended. inl (meta, listing, lost, found, read, ended)))
+  part_listed result (inr (why, unread, same, is)) = rw (same, is) (answer_nothing why (Err why) (inr (why, unread, refl)) refl)

@@ -1,6 +1,6 @@
 -- What `list` prints of a file is loaded as the listing of the file.
 use Rattle.std.proofs.Common.{◌≡◌, ◌∙◌, ◌<◌, ℕ, Bool, List, [], ◌∷◌, Option, Ok, ap, arith, false, inl, inr, length, refl, subst, sym}
-use Rattle.bolt_commands.proofs.Vocabulary.{Answer, Ending, First, HasSoundTrees, IsListAnswer, IsListedAnswer, IsListing, IsListingText, IsLoadFault, IsOfOneTree, IsReadUnder, Layout, Loads, LoadsListing, Member, Meta, MetaChoice, Path, Rises, filter_all, listing_lines, member_cmp, not, part_below, part_text, path_cmp, rest_from, text_members}
+use Rattle.bolt_commands.proofs.Vocabulary.{Answer, Ending, First, HasSoundTrees, IsEndedOrCut, IsListedAnswer, IsListing, IsListingText, IsLoadFault, IsOfOneTree, IsReadUnder, Layout, Loads, LoadsListing, Member, Meta, MetaChoice, Path, Rises, filter_all, listing_lines, member_cmp, not, part_below, part_text, path_cmp, rest_from, text_members}
 use Rattle.bolt_commands.proofs.ReadFiles.{read_trees}
 use Rattle.std.specs.Ordering.{is_lt}
 use Rattle.bolt_format.specs.Bytes.{IsBytes}
@@ -34,10 +34,10 @@ module _ (below : Below) where
   whole_text listing = ap (λ part. listing_lines Hex (rest_from [] part)) (below.below_root listing) ∙ ap (listing_lines Hex) (rest_all listing) ∙ below.hex_lines listing
 
   -- what is printed with status 0 is the whole text
-  printed : (file : List ℕ) (meta : Meta) (answer : Answer) → IsListAnswer file Hex [] [] meta answer → answer.ending ≡ Ok 0
-      → (listing : List Member) × IsListing file meta listing × (answer.out ≡ listing_text listing)
-  printed file meta answer (listing, lists, inl is) good = (listing, lists, ap (λ (a : Answer). a.out) is ∙ whole_text listing)
-  printed file meta answer (listing, lists, inr (front, rest, parts, is)) good = absurd (let bad = rw is at good in cc)
+  printed : (listing : List Member) (ending : Ending) (answer : Answer) → IsEndedOrCut (part_text Hex [] [] listing) ending answer → answer.ending ≡ Ok 0
+      → answer.out ≡ listing_text listing
+  printed listing ending answer (inl is) good = ap (λ (a : Answer). a.out) is ∙ whole_text listing
+  printed listing ending answer (inr (front, rest, parts, is)) good = absurd (let bad = rw is at good in cc)
 
   module _ {O T : Type 0} (out_taken : O → Option (List ℕ)) (out_failed : O → ℕ) (target_taken : T → Option (List ℕ)) (target_failed : T → ℕ) where
     abbrev Told : List Member → List ℕ → Type 0
@@ -65,10 +65,9 @@ module _ (below : Below) where
 
     pub listed_loads : (file : List ℕ) (choice : MetaChoice) (answer : Answer) → IsBytes file → IsListedAnswer First file choice Hex [] [] answer → answer.ending ≡ Ok 0
         → (meta : Meta) × (listing : List Member) × IsReadUnder file choice meta × IsListing file meta listing × Told listing answer.out
-    listed_loads file choice answer bytes (inl (meta, under, is)) good =
-        let (listing, lists, out) = printed file meta answer is good in
+    listed_loads file choice answer bytes (inl (meta, listing, lost, found, (under, lists, none, unfound), ended)) good =
         let one = below.one_tree file meta listing bytes (read_trees file choice meta under) lists in
         let own = below.of_bytes file meta listing bytes lists in
-        let loads = subst (Told listing) (sym out) (told_of listing one lists.rises own) in
+        let loads = subst (Told listing) (sym (printed listing _ answer ended good)) (told_of listing one lists.rises own) in
         (meta, listing, under, lists, loads)
-    listed_loads file choice answer bytes (inr (fault, refused, (failure, of, is))) good = absurd (let bad = rw is at good in cc)
+    listed_loads file choice answer bytes (inr (why, unread, is)) good = absurd (let bad = rw is at good in cc)

@@ -1,6 +1,6 @@
 -- With sound trees, `--recover` does what is done without it under the same meta, if the accounts don't count there.
-use Rattle.std.proofs.Common.{◌≡◌, ◌≢◌, ◌↔◌, ℕ, Bool, List, [], Option, inl, inr, subst, sym, ◌∙◌, None, Some}
-use Rattle.bolt_commands.proofs.Vocabulary.{Active, Answer, AreLosses, Assumed, CheckFault, Ending, Extent, First, HasSoundTrees, InSlot, IsActive, IsEndedOrCut, IsInSlot, IsListedAnswer, IsListing, IsMetaOf, IsReadUnder, IsRecovered, IsRefusedUnder, IsUnrecoverableUnder, Layout, ListForm, LossView, Losses, MakesCopy, Member, Meta, MetaChoice, PageSize, Path, Slot, has_losses, bad_hash, lost_ending, part_ending, part_text}
+use Rattle.std.proofs.Common.{◌≡◌, ◌≢◌, ◌↔◌, ℕ, Bool, List, [], Option, ap, inl, inr, subst, sym, ◌∙◌, None}
+use Rattle.bolt_commands.proofs.Vocabulary.{Active, Answer, AreLosses, Assumed, CheckFault, Ending, Extent, Failure, First, FoundView, HasSoundTrees, InSlot, IsActive, IsInSlot, IsListedAnswer, IsListing, IsMetaOf, IsReadTo, IsReadUnder, IsRecovered, IsRefusedUnder, IsUnreadTo, IsUnrecoverableUnder, Layout, ListForm, LossView, Losses, LostView, MakesCopy, Member, Meta, MetaChoice, PageSize, Path, Slot, bad_hash, has_losses, parts}
 use Rattle.bolt_check.specs.declared.fault.CheckFault.TheVariants as check
 use Rattle.bolt_commands.proofs.{ReadFiles.no_accounts, ReadFiles.read_meta, SoundReads.NamesOne, SoundReads.keeps_root, SoundReads.unread, SoundReads.unrecovered}
 
@@ -35,17 +35,20 @@ module _ (b : Below) (file : List ℕ) (meta : Meta) (trees : HasSoundTrees file
 
   -- ---- what is recovered under one choice is read under the other, of which the accounts don't count
 
-  there : (other : Meta) (listing : List Member) (losses : List LossView) → IsMetaOf file wanted other → IsRecovered file other listing → AreLosses file other losses
-      → (other ≡ meta) × IsListing file meta listing × (losses ≡ [])
-  there other listing losses is recovered are =
+  read_there : (other : Meta) (listing : List Member) (lost : LostView) (found : List FoundView) → IsReadTo Losses file wanted other listing lost found
+      → (other ≡ meta) × IsReadTo First file named meta listing lost found
+  read_there other listing lost found ((is, keeps), recovered, (losses, are, told), none) =
       let same = names_one b file wanted meta shown other is in
       let lists = b.listed file meta listing trees (subst (λ (m : Meta). IsRecovered file m listing) same recovered) in
-      (same, lists, b.none_lost file meta losses trees (subst (λ (m : Meta). AreLosses file m losses) same are))
+      let empty = b.none_lost file meta losses trees (subst (λ (m : Meta). AreLosses file m losses) same are) in
+      (same, (under, lists, told ∙ ap parts empty, none))
 
-  back : (other : Meta) (listing : List Member) → IsReadUnder file named other → IsListing file other listing → (other ≡ meta) × IsRecovered file meta listing
-  back other listing read lists =
+  read_back : (other : Meta) (listing : List Member) (lost : LostView) (found : List FoundView) → IsReadTo First file named other listing lost found
+      → (other ≡ meta) × IsReadTo Losses file wanted meta listing lost found
+  read_back other listing lost found (read, lists, told, none) =
       let same = names_one b file named meta shown_named other (read_meta file named other read) in
-      (same, b.recovered file meta listing trees (subst (λ (m : Meta). IsListing file m listing) same lists))
+      let recovered = b.recovered file meta listing trees (subst (λ (m : Meta). IsListing file m listing) same lists) in
+      (same, ((shown, keeps_root file meta trees), recovered, ([], no_losses, told), none))
 
   refused : (fault : CheckFault) → IsUnrecoverableUnder file wanted fault → IsRefusedUnder file named fault
   refused fault is = subst (IsRefusedUnder file named) (sym (unrecovered file meta trees wanted fault (names_one b file wanted meta shown) shown is)) (memory file named).1
@@ -53,23 +56,23 @@ module _ (b : Below) (file : List ℕ) (meta : Meta) (trees : HasSoundTrees file
   unrecoverable : (fault : CheckFault) → IsRefusedUnder file named fault → IsUnrecoverableUnder file wanted fault
   unrecoverable fault is = subst (IsUnrecoverableUnder file wanted) (sym (unread file meta trees named fault (names_one b file named meta shown_named) under is)) (memory file wanted).0
 
-  listed_there : (form : ListForm) (path from : Path) (answer : Answer) → IsListedAnswer Losses file wanted form path from answer
-      → IsListedAnswer First file named form path from answer
-  listed_there form path from answer (inl (other, (is, keeps), (listing, losses, recovered, are, ended))) =
-      let (same, lists, empty) = there other listing losses is recovered are in
-      let whole = subst (λ (ls : List LossView). IsEndedOrCut (part_text form path from listing) (part_ending path listing (lost_ending ls)) answer) empty ended in
-      inl (meta, under, (listing, lists, whole))
-  listed_there form path from answer (inr (fault, is, refusal)) = inr (fault, refused fault is, refusal)
+  unread_there : (why : Failure) → IsUnreadTo Losses file wanted why → IsUnreadTo First file named why
+  unread_there why (fault, is, of) = (fault, refused fault is, of)
 
-  listed_back : (form : ListForm) (path from : Path) (answer : Answer) → IsListedAnswer First file named form path from answer
-      → IsListedAnswer Losses file wanted form path from answer
-  listed_back form path from answer (inl (other, read, (listing, lists, ended))) =
-      inl (meta, (shown, keeps_root file meta trees), (listing, [], (back other listing read lists).1, no_losses, ended))
-  listed_back form path from answer (inr (fault, is, refusal)) = inr (fault, unrecoverable fault is, refusal)
+  unread_back : (why : Failure) → IsUnreadTo First file named why → IsUnreadTo Losses file wanted why
+  unread_back why (fault, is, of) = (fault, unrecoverable fault is, of)
 
-  pub lists_the_same : (form : ListForm) (path from : Path) (answer : Answer)
-      → IsListedAnswer Losses file wanted form path from answer ↔ IsListedAnswer First file named form path from answer
-  lists_the_same form path from answer = (listed_there form path from answer, listed_back form path from answer)
+  module _ (form : ListForm) (path from : Path) (answer : Answer) where
+    listed_there : IsListedAnswer Losses file wanted form path from answer → IsListedAnswer First file named form path from answer
+    listed_there (inl (other, listing, lost, found, read, ended)) = inl (meta, listing, lost, found, (read_there other listing lost found read).1, ended)
+    listed_there (inr (why, unread, is)) = inr (why, unread_there why unread, is)
+
+    listed_back : IsListedAnswer First file named form path from answer → IsListedAnswer Losses file wanted form path from answer
+    listed_back (inl (other, listing, lost, found, read, ended)) = inl (meta, listing, lost, found, (read_back other listing lost found read).1, ended)
+    listed_back (inr (why, unread, is)) = inr (why, unread_back why unread, is)
+
+    pub lists_the_same : IsListedAnswer Losses file wanted form path from answer ↔ IsListedAnswer First file named form path from answer
+    lists_the_same = (listed_there, listed_back)
 
   module _ {O T : Type 0} (out_taken : O → Option (List ℕ)) (out_failed : O → ℕ) (target_taken : T → Option (List ℕ)) (target_failed : T → ℕ)
       (out_old out_new : O) (target_old target_new : T) (size : Option PageSize) (which : Layout) (snapshot : Bool) (ending : Ending) (right : bad_hash snapshot file ≡ None) where
@@ -77,17 +80,16 @@ module _ (b : Below) (file : List ℕ) (meta : Meta) (trees : HasSoundTrees file
     Copy extent choice = MakesCopy out_taken out_failed out_old out_new target_taken target_failed target_old target_new file choice size which snapshot extent ending
 
     copied_there : Copy Losses wanted → Copy First named
-    copied_there (inl (other, listing, losses, (is, keeps), recovered, are, writes)) =
-        let (same, lists, empty) = there other listing losses is recovered are in
-        inl (meta, listing, under, right, lists, rw (right, empty, same) at writes)
-    copied_there (inr (fault, failure, is, why, out, target, ends)) = inr (inr (fault, failure, refused fault is, why, out, target, ends))
+    copied_there (inl (other, listing, lost, found, read, writes)) =
+        let (same, there) = read_there other listing lost found read in
+        inl (meta, listing, lost, found, there, rw right (rw (right, same) at writes))
+    copied_there (inr (why, unread, none)) = inr (why, unread_there why unread, none)
 
     copied_back : Copy First named → Copy Losses wanted
-    copied_back (inl (other, listing, read, same_hash, lists, writes)) =
-        let (same, recovered) = back other listing read lists in
-        inl (meta, listing, [], (shown, keeps_root file meta trees), recovered, no_losses, rw right (rw same at writes))
-    copied_back (inr (inl (other, fault, sound, bad, out, target, ends))) = absurd (let f : None ≡ Some fault = sym right ∙ bad in cc)
-    copied_back (inr (inr (fault, failure, is, why, out, target, ends))) = inr (fault, failure, unrecoverable fault is, why, out, target, ends)
+    copied_back (inl (other, listing, lost, found, read, writes)) =
+        let (same, back) = read_back other listing lost found read in
+        inl (meta, listing, lost, found, back, rw right (rw (right, same) at writes))
+    copied_back (inr (why, unread, none)) = inr (why, unread_back why unread, none)
 
     pub copies_the_same : Copy Losses wanted ↔ Copy First named
     copies_the_same = (copied_there, copied_back)

@@ -7,22 +7,22 @@ pub use Rattle.bolt_check.specs.Sound.{HasRightAccounts, HasSoundTrees, IsFirstF
 pub use Rattle.bolt_check.specs.{Keys.Key, declared.checked.Checked.Checked, declared.fault.CheckFault.CheckFault, declared.finding.Finding.Finding}
 pub use Rattle.bolt_commands.specs.Answers.{AddsEntry, Answer, AnswersFound, AnswersLosses, AreFoundPages, Does, DoesJob, Ending, HasStats, HoldsIn, HoldsNone}
 pub use Rattle.bolt_commands.specs.Answers.{IsCheckAnswer, IsCheckAnswerAfter, IsEndedOrCut, IsEntriesAnswer, IsFileRefusal, IsFoundAnswer, IsFoundPagesAnswer}
-pub use Rattle.bolt_commands.specs.Answers.{IsInfoAnswer, IsJoinedList, IsListAnswer, IsListedAnswer, IsLossesAnswer, IsReadAnswer, IsReadUnder}
-pub use Rattle.bolt_commands.specs.Answers.{IsRecoveredAnswer, IsRecoveredList, IsRecoveredUnder, IsRefusedUnder, IsSalvaged, IsSizesAnswer, IsStatsAnswer}
-pub use Rattle.bolt_commands.specs.Answers.{IsTotal, IsUnrecoverableUnder, LeadsTo, Loads, LoadsListing, MakesCopy, StopsShort, WritesCopy, all_lost_ending, counts_accounts}
-pub use Rattle.bolt_commands.specs.Answers.{all_refusal, check_refusal, copy_page_size, copy_report, done, found, found_page, lost_and_found, lost_ending}
+pub use Rattle.bolt_commands.specs.Answers.{IsInfoAnswer, IsListPrint, IsListedAnswer, IsLossesAnswer, IsReadAnswer, IsReadUnder}
+pub use Rattle.bolt_commands.specs.Answers.{IsReadTo, IsRecoveredAnswer, IsRecoveredUnder, IsRefusedUnder, IsSalvaged, IsSizesAnswer, IsStatsAnswer}
+pub use Rattle.bolt_commands.specs.Answers.{IsTotal, IsUnreadTo, IsUnrecoverableUnder, LeadsTo, Loads, LoadsListing, MakesCopy, StopsShort, WritesCopy, counts_accounts}
+pub use Rattle.bolt_commands.specs.Answers.{all_refusal, check_refusal, copy_page_size, copy_report, done, found, found_page, hash_refusal, lost_and_found, lost_ending}
 pub use Rattle.bolt_commands.specs.Answers.{no_stats, none_found, page_answer, parents_of, part_ending, part_text, refused, value_shown}
-pub use Rattle.bolt_commands.specs.Failures.{IsFailureOf, copied, unjoined}
+pub use Rattle.bolt_commands.specs.Failures.{IsFailureOf, copied, reported, unjoined}
 pub use Rattle.bolt_commands.specs.FileFaults.{IsMetasFault, IsOtherFault, errors_in, other_lines}
 pub use Rattle.bolt_commands.specs.GoodCopies.{HasGoodCopies, IsGoodCopy, RefusesFile}
-pub use Rattle.bolt_commands.specs.Private.Copying.{CopiesTo, IsAskedBlueprint, blueprint_layout}
-pub use Rattle.bolt_commands.specs.Private.Endings.{end_of, end_of_part, end_written}
-pub use Rattle.bolt_commands.specs.Private.Opened.{HasNoBucket, IsBucketOf, IsJoinedOf, IsSearchOf, IsUnread}
+pub use Rattle.bolt_commands.specs.Private.Copying.{CopiesRead, CopiesTo, IsAskedBlueprint, blueprint_layout, job_layout}
+pub use Rattle.bolt_commands.specs.Private.Endings.{MayFail, end_of, end_written, failing}
+pub use Rattle.bolt_commands.specs.Private.Opened.{HasNoBucket, IsBucketOf, IsJoinedOf, IsOpened, IsRecoveryOf, IsSearchOf, IsSoundOf, IsUnread, opened_found, opened_lost, opened_meta}
 pub use Rattle.bolt_commands.specs.SnapshotAnswers.{bad_hash, copy_of, hash_found}
-pub use Rattle.bolt_commands.specs.{CopyEnds.EndsCopy, Hashes.HashesSince, declared.failure.Failure.Failure, declared.file_faults.FileFaults.FileFaults}
-pub use Rattle.bolt_commands.specs.{Private.Printing.PrintsAnswer, Private.Reports.EndsCopying}
+pub use Rattle.bolt_commands.specs.{CopyEnds.EndsCopy, Hashes.HashesSince, declared.failure.Failure.Failure, declared.file_faults.FileFaults.FileFaults, declared.opened.Opened.Opened}
+pub use Rattle.bolt_commands.specs.Private.Printing.{PrintsAnswer, PutsJoined, PutsListing, PutsPart, finds, job_part, sound_part}
 pub use Rattle.bolt_format.proofs.SinkLemmas.{AppendsProperPrefix-first, AppendsProperPrefix-second}
-pub use Rattle.bolt_format.proofs.WroteLemmas.{Wrote-ends, Wrote-return, Wrote-same, Wrote-stop, Wrote-then, broken_by}
+pub use Rattle.bolt_format.proofs.WroteLemmas.{Wrote-ends, Wrote-none, Wrote-return, Wrote-same, Wrote-stop, Wrote-then, broken_by}
 pub use Rattle.bolt_format.specs.Elements.{LeafElement, head_sequence}
 pub use Rattle.bolt_format.specs.Metas.{HasBothMetas, HasMetaFault, HasSlotFault, IsActive, IsInSlot, IsMeta, IsPageSize, page_size_count, page_sizes}
 pub use Rattle.bolt_format.specs.declared.meta.Slot.TheVariants.{One, Zero}
@@ -34,7 +34,7 @@ pub use Rattle.bolt_job.specs.MetaChoices.{IsMetaOf, assumed_for}
 pub use Rattle.bolt_job.specs.declared.choices.Extent.TheVariants.{First, Losses}
 pub use Rattle.bolt_job.specs.declared.choices.MetaChoice.TheVariants.{Active, Assumed, InSlot}
 pub use Rattle.bolt_job.specs.{PlainWords.path_in, declared.choices.Extent.Extent, declared.job.Job.Job, declared.choices.MetaChoice.MetaChoice}
-pub use Rattle.bolt_job.specs.{declared.choices.PageSize.PageSize}
+pub use Rattle.bolt_job.specs.{declared.bucket_commands.ListJob.ListJob, declared.choices.PageSize.PageSize}
 pub use Rattle.bolt_layout.specs.Copies.{IsAsked, IsOfOneTree, IsSoundCopy, RefusesPrefixes, layout_of_listing}
 pub use Rattle.bolt_layout.specs.{declared.Layout.Layout}
 pub use Rattle.bolt_load.specs.LineFaults.{IsListingText, IsLoadFault}

@@ -181,11 +181,6 @@ part_text form path from listing = listing_lines form (rest_from from (bucket_pa
 abbrev pub part_ending : Path → List Member → Ending → Ending
 part_ending path listing ending = if has_bucket path listing then ending else Err failure.NoBucket
 
--- a part of the listing; or memory ran out, and a prefix of it was written
-abbrev pub IsListAnswer : List ℕ → ListForm → (path from : Path) → Meta → Answer → Type 0
-IsListAnswer file form path from meta answer =
-    (listing : List Member) × IsListing file meta listing × IsEndedOrCut (part_text form path from listing) (part_ending path listing (Ok 0)) answer
-
 -- the table of all pages by their roles, or the map of them
 abbrev pub pages_shown : (as_map : Bool) → List ℕ → Meta → (ℕ → Role) → List ℕ
 pages_shown false file meta roles = pages_text file meta roles
@@ -291,17 +286,6 @@ IsRecoveredAnswer file choice IsAccepted IsRefusal answer =
     ((meta : Meta) × IsRecoveredUnder file choice meta × IsAccepted meta answer)
     ⊎ ((fault : CheckFault) × IsUnrecoverableUnder file choice fault × IsRefusal fault answer)
 
--- if something was lost, the number of losses is reported on standard error
-abbrev pub lost_ending : List LossView → Ending
-lost_ending [] = Ok 0
-lost_ending (loss ∷ losses) = Err (failure.Lost (length (loss ∷ losses)))
-
--- a part of the recovered listing; or a prefix of it, if memory ran out
-abbrev pub IsRecoveredList : List ℕ → ListForm → (path from : Path) → Meta → Answer → Type 0
-IsRecoveredList file form path from meta answer =
-    (listing : List Member) × (losses : List LossView) × IsRecovered file meta listing × AreLosses file meta losses
-    × IsEndedOrCut (part_text form path from listing) (part_ending path listing (lost_ending losses)) answer
-
 -- each loss and each page that is found; what is wrong with the file apart from its pages comes first
 abbrev pub lost_and_found : FileFaults → LostView → List FoundView → Answer
 lost_and_found faults lost found = record { out = fault_lines faults ++ counted_lost_text (errors_in faults) lost found; ending = Ok 1 }
@@ -370,34 +354,47 @@ IsUnjoinedUnder file choice why =
     ((meta : Meta) × IsMetaOf file choice meta × IsUnjoined file meta why)
     ⊎ ((fault : MetaFault) × HasNoMetaOf file choice fault × (why ≡ failure.Metas fault))
 
--- all that is lost is reported too
-abbrev pub all_lost_ending : LostView → Ending
-all_lost_ending (everything x) = Err (failure.Lost 1)
-all_lost_ending (parts losses) = lost_ending losses
-
--- a part of the joined listing; or a prefix of it, if memory ran out; or why there is none
-abbrev pub IsJoinedList : List ℕ → MetaChoice → ListForm → (path from : Path) → Answer → Type 0
-IsJoinedList file choice form path from answer =
-    ((meta : Meta) × (listing : List Member) × (lost : LostView) × (found : List FoundView) × IsMetaOf file choice meta × IsSalvaged file meta listing lost found
-    × (answer ≡ record { out = part_text form path from listing; ending = part_ending path listing (all_lost_ending lost) }))
-    ⊎ ((meta : Meta) × (listing : List Member) × IsMetaOf file choice meta × IsJoined file meta listing × IsCutShort (part_text form path from listing) answer)
-    ⊎ ((why : Failure) × IsUnjoinedUnder file choice why × (answer ≡ refused why))
-
 -- `check`, `check --all` and `check --lost-and-found` of a file of which is known what else is wrong with it
 abbrev pub IsCheckAnswerAfter : Extent → FileFaults → List ℕ → MetaChoice → Answer → Type 0
 IsCheckAnswerAfter First faults file choice answer = IsFoundAnswer faults file choice answer
 IsCheckAnswerAfter LostAndFound faults file choice answer = IsLostAndFoundAnswer faults file choice answer
 IsCheckAnswerAfter Losses faults file choice answer = IsRecoveredAnswer file choice (IsLossesAnswer faults file choice) (λ fault answer. answer ≡ all_refusal faults fault) answer
 
--- `check` to any extent, and of a snapshot; `list` to any extent
+-- `check` to any extent, and of a snapshot
 abbrev pub IsCheckAnswer : Extent → (snapshot : Bool) → List ℕ → MetaChoice → Answer → Type 0
 IsCheckAnswer extent snapshot file choice answer =
     (faults : FileFaults) × AreFileFaults extent snapshot file choice faults × IsCheckAnswerAfter extent faults file choice answer
 
+-- ---- what `list` and `compact` read of a file, to any extent
+
+-- under the meta that is chosen the listing of a sound file, the recovered or the joined one; what is lost of the file, and the pages that are
+-- found of it
+abbrev pub IsReadTo : Extent → List ℕ → MetaChoice → Meta → List Member → LostView → List FoundView → Type 0
+IsReadTo First file choice meta listing lost found = IsReadUnder file choice meta × IsListing file meta listing × (lost ≡ parts []) × (found ≡ [])
+IsReadTo Losses file choice meta listing lost found =
+    IsRecoveredUnder file choice meta × IsRecovered file meta listing × ((losses : List LossView) × AreLosses file meta losses × (lost ≡ parts losses)) × (found ≡ [])
+IsReadTo LostAndFound file choice meta listing lost found = IsMetaOf file choice meta × IsSalvaged file meta listing lost found
+
+-- why it isn't read
+abbrev pub IsUnreadTo : Extent → List ℕ → MetaChoice → Failure → Type 0
+IsUnreadTo First file choice why = (fault : CheckFault) × IsRefusedUnder file choice fault × IsFailureOf fault why
+IsUnreadTo Losses file choice why = (fault : CheckFault) × IsUnrecoverableUnder file choice fault × IsFailureOf fault why
+IsUnreadTo LostAndFound file choice why = IsUnjoinedUnder file choice why
+
+-- ---- `list`
+
+-- if something was lost, the number of losses is reported on standard error
+abbrev pub lost_ending : LostView → Ending
+lost_ending (everything x) = Err (failure.Lost 1)
+lost_ending (parts []) = Ok 0
+lost_ending (parts (loss ∷ losses)) = Err (failure.Lost (length (loss ∷ losses)))
+
+-- a part of the listing, and then what is lost; or a prefix of it, if memory ran out; or why it isn't read
 abbrev pub IsListedAnswer : Extent → List ℕ → MetaChoice → ListForm → (path from : Path) → Answer → Type 0
-IsListedAnswer First file choice form path from answer = IsReadAnswer file choice (IsListAnswer file form path from) answer
-IsListedAnswer Losses file choice form path from answer = IsRecoveredAnswer file choice (IsRecoveredList file form path from) IsFileRefusal answer
-IsListedAnswer LostAndFound file choice form path from answer = IsJoinedList file choice form path from answer
+IsListedAnswer extent file choice form path from answer =
+    ((meta : Meta) × (listing : List Member) × (lost : LostView) × (found : List FoundView) × IsReadTo extent file choice meta listing lost found
+    × IsEndedOrCut (part_text form path from listing) (part_ending path listing (lost_ending lost)) answer)
+    ⊎ ((why : Failure) × IsUnreadTo extent file choice why × (answer ≡ refused why))
 
 -- From its state `old` to `new` standard output accepted the text of the answer without a failure, and the job ends so; or it failed,
 -- accepted a prefix, and the job ends with that.
@@ -438,6 +435,11 @@ copy_status None (everything x) = 1
 copy_status None (parts []) = 0
 copy_status None (parts (loss ∷ losses)) = 1
 
+-- why a file isn't copied whose hash is wrong; what is left of a damaged one is copied all the same
+abbrev pub hash_refusal : Extent → Option SnapshotFault → Option SnapshotFault
+hash_refusal First hash = hash
+hash_refusal _ hash = None
+
 -- what is reported of a copy: what is wrong with the hash of its file, each loss, each found page, and the lengths of the file and of the copy
 abbrev pub copy_report : Option SnapshotFault → LostView → List FoundView → (source copy : ℕ) → Answer
 copy_report hash lost found source copy =
@@ -458,8 +460,8 @@ IsGetPrint job file answer = IsReadAnswer file job.meta (IsGetAnswer file job) a
 abbrev pub IsStatsPrint : StatsJob → List ℕ → Answer → Type 0
 IsStatsPrint job file answer = IsReadAnswer file job.meta (IsStatsAnswer file (path_in job.path.items) job.form) answer
 
-abbrev pub IsListPrint : Extent → ListJob → List ℕ → Answer → Type 0
-IsListPrint extent job file answer = IsListedAnswer extent file job.meta job.form (path_in job.path.items) (path_in job.from.items) answer
+abbrev pub IsListPrint : ListJob → List ℕ → Answer → Type 0
+IsListPrint job file answer = IsListedAnswer job.extent file job.meta job.form (path_in job.path.items) (path_in job.from.items) answer
 
 -- ---- all commands
 
@@ -488,39 +490,25 @@ module _ {O T : Type 0} (out_taken : O → Option (List ℕ)) (out_failed : O �
   abbrev pub WritesCopy : (snapshot : Bool) → (listing : List Member) → (layout : List ℕ) → (ℕ → Answer) → Ending → Type 0
   WritesCopy snapshot listing layout answer ending = CopiesWhole snapshot listing layout answer ending ⊎ CopiesInPart snapshot layout ending
 
-  -- The target accepts the layout that is asked for of the file's listing, at the copy's page size, and for a snapshot then its hash: a good
-  -- copy of that listing. Or the file has a hash that isn't right, or the file is refused, and neither is touched.
-  abbrev pub Compacts : List ℕ → MetaChoice → Option PageSize → Layout → (snapshot : Bool) → Ending → Type 0
-  Compacts file choice size which snapshot ending =
-      ((meta : Meta) × (listing : List Member) × IsReadUnder file choice meta × (bad_hash snapshot file ≡ None) × IsListing file meta listing
-      × WritesCopy snapshot listing (layout_of_listing which (copy_page_size size meta) listing meta.root_sequence) (λ copy. done (lengths_line (length file) copy)) ending)
-      ⊎ ((meta : Meta) × (fault : SnapshotFault) × IsReadUnder file choice meta × (bad_hash snapshot file ≡ Some fault)
-      × (out_new ≡ out_old) × (target_new ≡ target_old) × (ending ≡ Err (failure.Hash fault)))
-      ⊎ ((fault : CheckFault) × (failure : Failure) × IsRefusedUnder file choice fault × IsFailureOf fault failure
-      × (out_new ≡ out_old) × (target_new ≡ target_old) × (ending ≡ Err failure))
+  -- nothing is written, for this reason
+  abbrev pub WritesNone : Failure → Ending → Type 0
+  WritesNone why ending = (out_new ≡ out_old) × (target_new ≡ target_old) × (ending ≡ Err why)
 
-  -- the same of the recovered listing, and it is reported if the file has a hash that isn't right, and each loss; or nothing is recovered
-  abbrev pub Recovers : List ℕ → MetaChoice → Option PageSize → Layout → (snapshot : Bool) → Ending → Type 0
-  Recovers file choice size which snapshot ending =
-      ((meta : Meta) × (listing : List Member) × (losses : List LossView) × IsRecoveredUnder file choice meta × IsRecovered file meta listing × AreLosses file meta losses
-      × WritesCopy snapshot listing (layout_of_listing which (copy_page_size size meta) listing meta.root_sequence) (λ copy. copy_report (bad_hash snapshot file) (parts losses) [] (length file) copy) ending)
-      ⊎ ((fault : CheckFault) × (failure : Failure) × IsUnrecoverableUnder file choice fault × IsFailureOf fault failure
-      × (out_new ≡ out_old) × (target_new ≡ target_old) × (ending ≡ Err failure))
+  -- a file with a wrong hash is refused for it; otherwise it is copied
+  abbrev pub CopiesUnless : Option SnapshotFault → (Ending → Type 0) → Ending → Type 0
+  CopiesUnless (Some fault) Copies ending = WritesNone (failure.Hash fault) ending
+  CopiesUnless None Copies ending = Copies ending
 
-  -- the same of the joined listing, and each found page is reported too; or why there is none
-  abbrev pub Joins : List ℕ → MetaChoice → Option PageSize → Layout → (snapshot : Bool) → Ending → Type 0
-  Joins file choice size which snapshot ending =
-      ((meta : Meta) × (listing : List Member) × (lost : LostView) × (found : List FoundView) × IsMetaOf file choice meta × IsSalvaged file meta listing lost found
-      × CopiesWhole snapshot listing (layout_of_listing which (copy_page_size size meta) listing meta.root_sequence) (λ copy. copy_report (bad_hash snapshot file) lost found (length file) copy) ending)
-      ⊎ ((meta : Meta) × (listing : List Member) × IsMetaOf file choice meta × IsJoined file meta listing
-      × CopiesInPart snapshot (layout_of_listing which (copy_page_size size meta) listing meta.root_sequence) ending)
-      ⊎ ((why : Failure) × IsUnjoinedUnder file choice why × (out_new ≡ out_old) × (target_new ≡ target_old) × (ending ≡ Err why))
-
-  -- `compact` to any extent
+  -- `compact` to any extent: The target accepts the layout that is asked for of what is read, at the copy's page size, and for a snapshot then
+  -- its hash: a good copy of that listing. Then it is reported if the file has a hash that isn't right, what is lost and what is found. Or the
+  -- file isn't read, and neither is touched.
   abbrev pub MakesCopy : List ℕ → MetaChoice → Option PageSize → Layout → (snapshot : Bool) → Extent → Ending → Type 0
-  MakesCopy file choice size which snapshot First ending = Compacts file choice size which snapshot ending
-  MakesCopy file choice size which snapshot Losses ending = Recovers file choice size which snapshot ending
-  MakesCopy file choice size which snapshot LostAndFound ending = Joins file choice size which snapshot ending
+  MakesCopy file choice size which snapshot extent ending =
+      let hash = bad_hash snapshot file in
+      ((meta : Meta) × (listing : List Member) × (lost : LostView) × (found : List FoundView) × IsReadTo extent file choice meta listing lost found
+      × CopiesUnless (hash_refusal extent hash)
+      (WritesCopy snapshot listing (layout_of_listing which (copy_page_size size meta) listing meta.root_sequence) (copy_report hash lost found (length file))) ending)
+      ⊎ ((why : Failure) × IsUnreadTo extent file choice why × WritesNone why ending)
 
   -- `load`: The target accepts the layout that is asked for of the listing that the lines of the file tell, with this root sequence, and for a
   -- snapshot then its hash: a good copy of that listing. Or a line isn't right, or memory ran out, and neither is touched.
@@ -528,7 +516,7 @@ module _ {O T : Type 0} (out_taken : O → Option (List ℕ)) (out_failed : O �
   Loads file page_size sequence which snapshot ending =
       (IsListingText file
       × WritesCopy snapshot (text_members file) (layout_of_listing which page_size (text_members file) sequence) (λ copy. done (lengths_line (length file) copy)) ending)
-      ⊎ ((fault : LoadFault) × IsLoadFault file fault × (out_new ≡ out_old) × (target_new ≡ target_old) × (ending ≡ Err (unloaded fault)))
+      ⊎ ((fault : LoadFault) × IsLoadFault file fault × WritesNone (unloaded fault) ending)
 
   -- nothing is written, and the job ends with this failure or for want of memory
   abbrev pub StopsAt : Failure → Ending → Type 0
@@ -551,7 +539,7 @@ module _ {O T : Type 0} (out_taken : O → Option (List ℕ)) (out_failed : O �
   DoesJob file (job.Stats j) = Prints (IsStatsPrint j file)
   DoesJob file (job.Keys j) = Prints (IsKeysPrint j file)
   DoesJob file (job.Get j) = Prints (IsGetPrint j file)
-  DoesJob file (job.List j) = Prints (IsListPrint j.extent j file)
+  DoesJob file (job.List j) = Prints (IsListPrint j file)
   DoesJob file (job.Compact j) = MakesCopy file j.meta j.page_size (layout_for j.kind) (is_snapshot j.kind) j.extent
   DoesJob file (job.Load j) = Loads file j.page_size.bytes j.sequence (layout_for j.kind) (is_snapshot j.kind)
 

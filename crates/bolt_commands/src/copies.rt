@@ -9,9 +9,9 @@ ghost use Rattle.bolt_format.specs.{Endings.ending, Wrote.Wrote};
 ghost use Rattle.bolt_recover.specs.ShownLosses.{lost_view};
 ghost use Rattle.bolt_report.specs.FoundLines.{IsFoundLeaf};
 ghost use Rattle.bolt_tree.specs.Listing.{Member};
-ghost use Rattle.bolt_commands.specs.{Answers.copy_status, Answers.lengths_line, FileFaults.hash_lines};
+ghost use Rattle.bolt_commands.specs.{Answers.Does, Answers.copy_status, Answers.lengths_line, FileFaults.hash_lines};
 ghost use Rattle.bolt_commands.specs.{CopyEnds.EndsCopy, Hashes.HashesSince, Private.Copying.CopiesTo, Private.Copying.blueprint_layout};
-ghost use Rattle.bolt_commands.specs.Private.Reports.{EndsCopying, report_answer, report_text};
+ghost use Rattle.bolt_commands.specs.Private.Reports.{report_answer, report_text};
 ghost use Rattle.bolt_job.specs.CopyKinds.{is_snapshot};
 
 use crate::copy_source::{Copied, CopySource, sources_have_good_copies};
@@ -175,16 +175,12 @@ pub(crate) struct CopyReport<'l, 'f> {
     pub source: u64,
 }
 
-/// Ends a job that makes a copy: reports it if it is whole, and returns the status.
-pub(crate) fn end_copy<O: Sink>(
-    copied: Result<u64, BulkFault>,
-    report: &CopyReport<'_, '_>,
-    out: &mut O,
-) -> Outcome
+/// Ends a job that made a copy of this length: reports it, and returns the status.
+pub(crate) fn end_copy<O: Sink>(copy: u64, report: &CopyReport<'_, '_>, out: &mut O) -> Outcome
     requires { All IsFoundLeaf report.now.found.now }
-    ensures { EndsCopying O.Sink out.old out.new (report_answer report.now) copied result }
+    ensures { Does O.taken O.failed out.old out.new (report_answer report.now copy) result }
 {
-    put_report(report, copied?, out)?;
+    put_report(report, copy, out)?;
     Ok(status_of(report.hash, report.lost))
 }
 

@@ -1,12 +1,13 @@
 //! The commands that write a copy: `compact` and `load`.
 ghost use Rattle.std.specs.Prelude.{◌≡◌};
 ghost use Rattle.bolt_format.specs.Metas.{IsPageSize};
-ghost use Rattle.bolt_commands.specs.Private.Copying.{CompactsTo, LoadsJob, IsAskedBlueprint};
+ghost use Rattle.bolt_commands.specs.Private.{Copying.CompactsTo, Copying.CopiesRead, Copying.IsAskedBlueprint, Copying.LoadsJob, Opened.IsOpened, Opened.opened_found};
 ghost use Rattle.bolt_job.specs.CopyKinds.{is_snapshot};
-ghost use Rattle.bolt_commands.specs.SnapshotAnswers.{bad_hash};
+ghost use Rattle.bolt_commands.specs.{Answers.hash_refusal, SnapshotAnswers.bad_hash};
 
 use crate::copies::{CopyReport, copy_members, end_copy};
 use crate::failure::{Failure, Outcome};
+use crate::opened::Opened;
 use crate::opening::{Input, join};
 use bolt_bulk::Blueprint;
 use bolt_bulk::laws::{a_recovery_is_whole, a_walk_is_whole, joined_members_are_whole};
@@ -25,86 +26,65 @@ pub(crate) fn write_copy<O: Sink, T: Sink>(
     out: &mut O,
     target: &mut T,
 ) -> Outcome
-    ensures { CompactsTo O.Sink out.old out.new T.Sink target.old target.new job.now.extent job.now input.entry.file.now result }
+    ensures { CompactsTo O.Sink out.old out.new T.Sink target.old target.new job.now input.entry.file.now result }
 {
-    match job.extent {
-        Extent::First => write_sound(input, job, out, target),
-        Extent::Losses => write_recovered(input, job, out, target),
-        Extent::LostAndFound => write_joined(input, job, out, target),
-    }
-}
-
-/// Writes the copy of a sound file, and then the lengths of the file and of the copy.
-fn write_sound<O: Sink, T: Sink>(
-    input: Input<'_>,
-    job: &CompactJob,
-    out: &mut O,
-    target: &mut T,
-) -> Outcome
-    ensures { CompactsTo O.Sink out.old out.new T.Sink target.old target.new Extent.First job.now input.entry.file.now result }
-{
-    let checked = input.read(job.meta)?;
-    if let Some(fault) = bad_hash(job, input.file) {
+    let mut opened = input.open(job.meta, job.extent)?;
+    let hash = bad_hash(job, input.file);
+    if let Some(fault) = hash_refusal(job.extent, hash) {
         return Err(Failure::Hash(fault));
     }
-    let blueprint = blueprint_of(job, &checked.meta());
-    let mut walk = Walk::new(input.alloc, checked);
-    a_walk_is_whole(&walk);
-    let copied = copy_members(input.alloc, &mut walk, &blueprint, job.kind, target);
+    let copy = copy_opened(input, job, &mut opened, target)?;
     let report = CopyReport {
-        hash: None,
-        lost: Lost::Parts(&[]),
-        found: &[],
+        hash,
+        lost: opened.lost(),
+        found: opened.found(),
         source: input.file.len() as u64,
     };
-    end_copy(copied, &report, out)
+    end_copy(copy, &report, out)
 }
 
-/// Writes the copy of what a damaged file still holds, and then what is reported of it.
-fn write_recovered<O: Sink, T: Sink>(
-    input: Input<'_>,
-    job: &CompactJob,
-    out: &mut O,
-    target: &mut T,
-) -> Outcome
-    ensures { CompactsTo O.Sink out.old out.new T.Sink target.old target.new Extent.Losses job.now input.entry.file.now result }
+/// Why a file isn't copied whose hash is wrong. What is left of a damaged one is copied all the same.
+fn hash_refusal(extent: Extent, hash: Option<SnapshotFault>) -> Option<SnapshotFault>
+    ensures { result ≡ hash_refusal extent hash }
 {
-    let mut recovery = input.recover(job.meta)?;
-    let blueprint = blueprint_of(job, &recovery.meta());
-    a_recovery_is_whole(&recovery);
-    let copied = copy_members(input.alloc, &mut recovery, &blueprint, job.kind, target);
-    let report = CopyReport {
-        hash: bad_hash(job, input.file),
-        lost: Lost::Parts(recovery.losses()),
-        found: &[],
-        source: input.file.len() as u64,
-    };
-    end_copy(copied, &report, out)
+    match extent {
+        Extent::First => hash,
+        _ => None,
+    }
 }
 
-/// Writes the copy of what a damaged file still holds and of what is found of it, and then what is
-/// reported of it.
-fn write_joined<O: Sink, T: Sink>(
+/// Writes the copy of what is read, and returns its length.
+fn copy_opened<T: Sink>(
     input: Input<'_>,
     job: &CompactJob,
-    out: &mut O,
+    opened: &mut Opened<'_>,
     target: &mut T,
-) -> Outcome
-    ensures { CompactsTo O.Sink out.old out.new T.Sink target.old target.new Extent.LostAndFound job.now input.entry.file.now result }
+) -> Result<u64, Failure>
+    requires { IsOpened job.now.extent input.file.now job.now.meta opened.old }
+    ensures read { CopiesRead T.Sink target.old target.new job.now input.entry.file.now opened.old opened.new result }
+    ensures found { opened_found opened.new ≡ opened_found opened.old }
 {
-    each_file_has_a_joined_listing();
-    let both = input.search(job.meta)?;
-    let blueprint = blueprint_of(job, &both.meta);
-    let mut joined = join(input, job.meta, &both)?;
-    joined_members_are_whole(&joined);
-    let copied = copy_members(input.alloc, &mut joined, &blueprint, job.kind, target);
-    let report = CopyReport {
-        hash: bad_hash(job, input.file),
-        lost: both.lost(),
-        found: both.found.as_slice(),
-        source: input.file.len() as u64,
-    };
-    end_copy(copied, &report, out)
+    let blueprint = blueprint_of(job, &opened.meta());
+    match opened {
+        Opened::Sound(checked) => {
+            let mut walk = Walk::new(input.alloc, *checked);
+            a_walk_is_whole(&walk);
+            let copied = copy_members(input.alloc, &mut walk, &blueprint, job.kind, target)?;
+            Ok(copied)
+        }
+        Opened::Recovered(recovery) => {
+            a_recovery_is_whole(recovery);
+            let copied = copy_members(input.alloc, recovery, &blueprint, job.kind, target)?;
+            Ok(copied)
+        }
+        Opened::Searched(both) => {
+            each_file_has_a_joined_listing();
+            let mut joined = join(input, job.meta, both)?;
+            joined_members_are_whole(&joined);
+            let copied = copy_members(input.alloc, &mut joined, &blueprint, job.kind, target)?;
+            Ok(copied)
+        }
+    }
 }
 
 /// What the copy of a file with this meta looks like.
@@ -156,12 +136,12 @@ pub(crate) fn write_loaded<O: Sink, T: Sink>(
         page_size: job.page_size.bytes,
         sequence: job.sequence,
     };
-    let copied = copy_members(input.alloc, &mut members, &blueprint, job.kind, target);
+    let copy = copy_members(input.alloc, &mut members, &blueprint, job.kind, target)?;
     let report = CopyReport {
         hash: None,
         lost: Lost::Parts(&[]),
         found: &[],
         source: input.file.len() as u64,
     };
-    end_copy(copied, &report, out)
+    end_copy(copy, &report, out)
 }

@@ -14,6 +14,7 @@ mod failure_line;
 mod file_faults;
 pub mod laws;
 mod list_command;
+mod opened;
 mod opening;
 mod printing_commands;
 

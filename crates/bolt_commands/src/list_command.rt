@@ -1,20 +1,22 @@
 //! The command `list`.
-ghost use Rattle.std.specs.Prelude.{◌≡◌, ◌⊎◌, IfErr, IfOk, List, OnOk};
+ghost use Rattle.std.specs.Prelude.{◌≡◌, IfErr, IfOk, List, OnOk};
 ghost use Rattle.bolt_recover.specs.ShownLosses.{lost_view};
 ghost use Rattle.bolt_format.specs.Wrote.{Wrote};
 ghost use Rattle.bolt_text.specs.ReportEndings.{report_ending};
 ghost use Rattle.bolt_tree.specs.{FileListings.ForListing, Listing.Member, Listing.member_cmp, Order.Rises, Paths.path_of};
-ghost use Rattle.bolt_commands.specs.{Answers.all_lost_ending, Private.Endings.end_of_part};
 ghost use Rattle.bolt_job.specs.PlainWords.{path_in};
-ghost use Rattle.bolt_commands.specs.{Answers.IsListPrint, Private.Printing.PrintsAnswer, Private.Printing.finds, Private.Printing.job_part, Private.Printing.sound_part};
+ghost use Rattle.bolt_commands.specs.Answers.{IsListPrint, lost_ending};
+ghost use Rattle.bolt_commands.specs.Private.{Endings.MayFail, Opened.IsOpened, Opened.IsSearchOf, Printing.PrintsAnswer, Printing.PutsJoined, Printing.PutsListing};
+ghost use Rattle.bolt_commands.specs.Private.Printing.{PutsPart, finds, job_part, sound_part};
 
-use crate::failure::{Failure, Outcome, ended};
-use crate::opening::{Input, join};
+use crate::failure::{Failure, Outcome};
+use crate::opened::Opened;
+use crate::opening::{Input, join, open_bucket};
 use bolt_check::Checked;
 use bolt_format::Sink;
-use bolt_job::{Extent, ListJob};
-use bolt_recover::Lost;
+use bolt_job::ListJob;
 use bolt_recover::laws::{each_file_has_a_joined_listing, joined_members_rise};
+use bolt_recover::{Lost, LostAndFound};
 use bolt_report::{ReportFault, list_members_part, list_part};
 use bolt_tree::Members;
 use std::alloc::Global;
@@ -22,48 +24,20 @@ use std::alloc::Global;
 /// Writes a part of the listing: that of a sound file, of what is recovered of a damaged one, or of that
 /// joined with what is found of it.
 pub(crate) fn print_list<O: Sink>(input: Input<'_>, job: &ListJob, out: &mut O) -> Outcome
-    ensures { PrintsAnswer O.Sink out.old out.new (IsListPrint job.now.extent job.now input.entry.file.now) result }
+    ensures { PrintsAnswer O.Sink out.old out.new (IsListPrint job.now input.entry.file.now) result }
 {
-    match job.extent {
-        Extent::First => print_sound(input, job, out),
-        Extent::Losses => print_recovered(input, job, out),
-        Extent::LostAndFound => print_joined(input, job, out),
+    let mut opened = input.open(job.meta, job.extent)?;
+    if put_part(input, job, &mut opened, out)? {
+        end_listing(opened.lost())
+    } else {
+        Err(Failure::NoBucket)
     }
-}
-
-fn print_sound<O: Sink>(input: Input<'_>, job: &ListJob, out: &mut O) -> Outcome
-    ensures { PrintsAnswer O.Sink out.old out.new (IsListPrint Extent.First job.now input.entry.file.now) result }
-{
-    let bucket = input.bucket(job.meta, job.path.as_slice())?;
-    ended(put_sound_part(input.alloc, bucket.checked(), job, out))
-}
-
-fn print_recovered<O: Sink>(input: Input<'_>, job: &ListJob, out: &mut O) -> Outcome
-    ensures { PrintsAnswer O.Sink out.old out.new (IsListPrint Extent.Losses job.now input.entry.file.now) result }
-{
-    let mut recovery = input.recover(job.meta)?;
-    let found = put_members_part(input.alloc, &mut recovery, job, out);
-    end_part(found, Lost::Parts(recovery.losses()))
-}
-
-fn print_joined<O: Sink>(input: Input<'_>, job: &ListJob, out: &mut O) -> Outcome
-    ensures { PrintsAnswer O.Sink out.old out.new (IsListPrint Extent.LostAndFound job.now input.entry.file.now) result }
-{
-    each_file_has_a_joined_listing();
-    let both = input.search(job.meta)?;
-    let mut joined = join(input, job.meta, &both)?;
-    joined_members_rise(&joined);
-    let found = put_members_part(input.alloc, &mut joined, job, out);
-    end_part(found, both.lost())
 }
 
 /// How a job ends that put a part of a listing, if this is lost.
-fn end_part(found: Result<bool, ReportFault>, lost: Lost<'_>) -> Outcome
-    ensures { result ≡ end_of_part found (all_lost_ending (lost_view lost.entry)) }
+fn end_listing(lost: Lost<'_>) -> Outcome
+    ensures { result ≡ lost_ending (lost_view lost.entry) }
 {
-    if !found? {
-        return Err(Failure::NoBucket);
-    }
     match lost {
         Lost::Everything(_) => Err(Failure::Lost(1)),
         Lost::Parts([]) => Ok(0),
@@ -71,15 +45,65 @@ fn end_part(found: Result<bool, ReportFault>, lost: Lost<'_>) -> Outcome
     }
 }
 
-/// Writes the part that is wanted of a sound file.
+/// Writes the part that is wanted, and returns whether the listing has the bucket.
+fn put_part<O: Sink>(
+    input: Input<'_>,
+    job: &ListJob,
+    opened: &mut Opened<'_>,
+    out: &mut O,
+) -> Result<bool, Failure>
+    requires { IsOpened job.now.extent input.file.now job.now.meta opened.old }
+    ensures { PutsPart O.Sink out.old out.new job.now input.entry.file.now opened.new result }
+{
+    match opened {
+        Opened::Sound(checked) => put_sound_part(input.alloc, *checked, job, out),
+        Opened::Recovered(recovery) => Ok(put_members_part(input.alloc, recovery, job, out)?),
+        Opened::Searched(both) => put_joined_part(input, both, job, out),
+    }
+}
+
+/// Writes the part that is wanted of a sound file, and returns whether it has the bucket.
 fn put_sound_part<O: Sink>(
+    alloc: Global,
+    checked: Checked<'_>,
+    job: &ListJob,
+    out: &mut O,
+) -> Result<bool, Failure>
+    ensures { ForListing checked.entry (PutsListing O.Sink out.old out.new job.now result) }
+{
+    let Ok(_) = open_bucket(checked, job.path.as_slice()) else {
+        return Ok(false);
+    };
+    put_whole_part(alloc, checked, job, out)?;
+    Ok(true)
+}
+
+/// Writes the part that is wanted of what is recovered of a file and what is found of it, and returns
+/// whether it has the bucket.
+fn put_joined_part<O: Sink>(
+    input: Input<'_>,
+    both: &LostAndFound<'_>,
+    job: &ListJob,
+    out: &mut O,
+) -> Result<bool, Failure>
+    requires { IsSearchOf input.file.now job.now.meta both.now }
+    ensures { PutsJoined O.Sink out.old out.new job.now input.entry.file.now both.now result }
+{
+    each_file_has_a_joined_listing();
+    let mut joined = join(input, job.meta, both)?;
+    joined_members_rise(&joined);
+    Ok(put_members_part(input.alloc, &mut joined, job, out)?)
+}
+
+/// Writes the part that is wanted of a sound file that has the bucket.
+fn put_whole_part<O: Sink>(
     alloc: Global,
     checked: Checked<'_>,
     job: &ListJob,
     out: &mut O,
 ) -> Result<(), ReportFault>
     ensures written { ForListing checked.entry (λ listing. Wrote O.Sink out.old out.new (sound_part job.now listing) (report_ending result)) }
-    ensures fault { IfErr result (λ fault. (fault ≡ ReportFault.Sink) ⊎ (fault ≡ ReportFault.NoMemory)) }
+    ensures fault { MayFail result }
 {
     let path = slices(alloc, job.path.as_slice())?;
     let from = slices(alloc, job.from.as_slice())?;
@@ -104,7 +128,7 @@ fn put_members_part<'a, M: Members<'a>, O: Sink>(
         → Wrote O.Sink out.old out.new (job_part job.now (M.left members.old listing)) (report_ending result) }
     ensures found { IfOk result (λ found. (listing : List Member) → M.lists members.old listing → found ≡ finds job.now (M.left members.old listing)) }
     ensures end { OnOk result (M.ends_as members.old members.new) }
-    ensures fault { IfErr result (λ fault. (fault ≡ ReportFault.Sink) ⊎ (fault ≡ ReportFault.NoMemory)) }
+    ensures fault { MayFail result }
 {
     let path = slices(alloc, job.path.as_slice())?;
     let from = slices(alloc, job.from.as_slice())?;

@@ -1,17 +1,17 @@
 //! Opens what a command reads: a file under the meta that is chosen, what is left of a damaged one, what is lost and found of it, or a bucket by its path.
-ghost use Rattle.std.specs.Prelude.{◌≡◌, IfErr, IfOk, []};
+ghost use Rattle.std.specs.Prelude.{◌≡◌, IfErr, IfOk};
 ghost use Rattle.bolt_check.specs.CheckedFiles.{bytes_of, meta_of};
-ghost use Rattle.bolt_commands.specs.Answers.{IsReadUnder, IsRefusedUnder, IsRecoveredUnder, IsUnjoinedUnder, IsUnrecoverableUnder, LeadsTo};
+ghost use Rattle.bolt_commands.specs.Answers.{IsReadUnder, IsRecoveredUnder, IsRefusedUnder, IsUnjoinedUnder, IsUnreadTo, IsUnrecoverableUnder, LeadsTo};
 ghost use Rattle.bolt_job.specs.PlainWords.{path_in};
-ghost use Rattle.bolt_commands.specs.Private.Opened.{HasNoBucket, IsBucketOf, IsJoinedOf, IsSearchOf, IsUnread};
+ghost use Rattle.bolt_commands.specs.Private.Opened.{HasNoBucket, IsBucketOf, IsJoinedOf, IsOpened, IsSearchOf, IsUnread};
 ghost use Rattle.bolt_commands.specs.declared.failure.Failure.TheVariants.{NoBucket};
-ghost use Rattle.bolt_recover.specs.Recovered.{ForRecovered};
-ghost use Rattle.bolt_recover.specs.Recoveries.{recovery_file, recovery_left, recovery_losses, recovery_meta};
+ghost use Rattle.bolt_recover.specs.{Recovered.ForRecovered, Recoveries.recovery_file, Recoveries.recovery_left, Recoveries.recovery_meta};
 ghost use Rattle.bolt_tree.specs.{Buckets.bucket_checked, Buckets.bucket_start, Entries.Start};
 
 use crate::failure::Failure;
+use crate::opened::Opened;
 use bolt_check::{CheckFault, Checked, check, check_under};
-use bolt_job::MetaChoice;
+use bolt_job::{Extent, MetaChoice};
 use bolt_recover::laws::each_file_has_found_pages;
 use bolt_recover::{Joined, LostAndFound, Recovery};
 use bolt_tree::Bucket;
@@ -25,6 +25,18 @@ pub(crate) struct Input<'f> {
 }
 
 impl<'f> Input<'f> {
+    /// Opens what `list` and `compact` read of the file, to an extent, under the meta that is chosen.
+    pub(crate) fn open(self, choice: MetaChoice, extent: Extent) -> Result<Opened<'f>, Failure>
+        ensures opened { IfOk result (IsOpened extent self.entry.file.now choice) }
+        ensures refused { IfErr result (IsUnreadTo extent self.entry.file.now choice) }
+    {
+        Ok(match extent {
+            Extent::First => Opened::Sound(self.check(choice)?),
+            Extent::Losses => Opened::Recovered(self.recover(choice)?),
+            Extent::LostAndFound => Opened::Searched(self.search(choice)?),
+        })
+    }
+
     /// Checks the file under the meta that is chosen. Its trees must be sound and, under the active
     /// meta, its accounts too.
     pub(crate) fn check(self, choice: MetaChoice) -> Result<Checked<'f>, CheckFault>
@@ -69,7 +81,6 @@ impl<'f> Input<'f> {
         ensures meta { IfOk result (λ recovery. IsRecoveredUnder self.entry.file.now choice (recovery_meta recovery)) }
         ensures all { IfOk result (λ recovery.
             ForRecovered self.entry.file.now (recovery_meta recovery) (λ listing. recovery_left recovery listing ≡ listing)) }
-        ensures losses { IfOk result (λ recovery. recovery_losses recovery ≡ []) }
         ensures refused { IfErr result (IsUnrecoverableUnder self.entry.file.now choice) }
     {
         let meta = choice.find(self.file)?;

@@ -1,19 +1,21 @@
 -- What the functions of a command that writes a copy promise of its job.
-use Rattle.std.specs.Prelude.{◌≡◌, ℕ, List, Bool, Result, OnOk}
+use Rattle.std.specs.Prelude.{◌≡◌, ◌⊎◌, ℕ, List, Bool, Result, Err, OnOk, map}
 use Rattle.bolt_bulk.specs.{declared.blueprint.Blueprint.Blueprint, declared.fault.BulkFault.BulkFault}
 use Rattle.bolt_format.specs.{declared.meta.Meta.Meta, declared.sink.Sink.Ghosts}
 use Rattle.bolt_layout.specs.Copies.{layout_of_listing}
+use Rattle.bolt_recover.specs.Losses.{LostView}
+use Rattle.bolt_report.specs.FoundLines.{found_view}
 use Rattle.bolt_tree.specs.Listing.{Member}
-use Rattle.bolt_commands.specs.{Answers.Ending, Answers.Loads, Answers.MakesCopy, Answers.copy_page_size, CopyEnds.EndsCopy}
-use Rattle.bolt_job.specs.CopyKinds.{is_snapshot}
-use Rattle.bolt_commands.specs.CopyLayouts.{layout_for}
-use Rattle.bolt_commands.specs.GoodCopies.{IsGoodCopy}
-use Rattle.bolt_job.specs.{declared.choices.Extent.Extent, declared.writing_commands.CompactJob.CompactJob, declared.writing_commands.LoadJob.LoadJob}
+use Rattle.bolt_commands.specs.{Answers.Ending, Answers.IsReadTo, Answers.IsUnreadTo, Answers.Loads, Answers.MakesCopy, Answers.copy_page_size, CopyEnds.EndsCopy}
+use Rattle.bolt_commands.specs.{CopyLayouts.layout_for, Failures.copied, GoodCopies.IsGoodCopy, Private.Endings.failing}
+use Rattle.bolt_commands.specs.Private.Opened.{opened_found, opened_lost, opened_meta}
+use Rattle.bolt_commands.specs.declared.{failure.Failure.Failure, opened.Opened.Opened}
+use Rattle.bolt_job.specs.{CopyKinds.is_snapshot, declared.writing_commands.CompactJob.CompactJob, declared.writing_commands.LoadJob.LoadJob}
 
 module _ {O T : Type 0} (out : Ghosts O) (out_old out_new : O) (target : Ghosts T) (target_old target_new : T) where
-  abbrev pub CompactsTo : Extent → CompactJob → List ℕ → Ending → Type 0
-  CompactsTo extent job file ending =
-      MakesCopy out.taken out.failed out_old out_new target.taken target.failed target_old target_new file job.meta job.page_size (layout_for job.kind) (is_snapshot job.kind) extent ending
+  abbrev pub CompactsTo : CompactJob → List ℕ → Ending → Type 0
+  CompactsTo job file ending =
+      MakesCopy out.taken out.failed out_old out_new target.taken target.failed target_old target_new file job.meta job.page_size (layout_for job.kind) (is_snapshot job.kind) job.extent ending
 
   abbrev pub LoadsJob : LoadJob → List ℕ → Ending → Type 0
   LoadsJob job file ending =
@@ -33,3 +35,15 @@ blueprint_layout blueprint listing = layout_of_listing blueprint.layout blueprin
 pub record CopiesTo {T : Type 0} (target : Ghosts T) (old new : T) (layout : List ℕ) (listing : List Member) (snapshot : Bool) (result : Result ℕ BulkFault) : Type 0 where
   pub ends : EndsCopy target.taken target.failed old new layout snapshot result
   pub good : OnOk result ∥ IsGoodCopy snapshot layout listing ∥₁
+
+-- the layout that is asked for of a listing, if the file has this meta
+abbrev pub job_layout : CompactJob → Meta → List Member → List ℕ
+job_layout job meta listing = layout_of_listing (layout_for job.kind) (copy_page_size job.page_size meta) listing meta.root_sequence
+
+-- The copy of what is read was made; if it is whole, all that is lost is known then. Or it isn't read, and the target isn't touched.
+abbrev pub CopiesRead : {T : Type 0} (target : Ghosts T) (old new : T) → CompactJob → List ℕ → (before after : Opened) → Result ℕ Failure → Type 0
+CopiesRead target old new job file before after result =
+    ((listing : List Member) × (lost : LostView) × IsReadTo job.extent file job.meta (opened_meta before) listing lost (map found_view (opened_found before))
+    × OnOk result (opened_lost after ≡ lost)
+    × ((made : Result ℕ BulkFault) × CopiesTo target old new (job_layout job (opened_meta before) listing) listing (is_snapshot job.kind) made × (result ≡ failing copied made)))
+    ⊎ ((why : Failure) × IsUnreadTo job.extent file job.meta why × (new ≡ old) × (result ≡ Err why))

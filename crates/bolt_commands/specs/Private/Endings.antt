@@ -1,8 +1,9 @@
 -- How a job ends that put a text: as it is to, or with the fault.
-use Rattle.std.specs.Prelude.{Bool, Result, Ok, Err, if◌then◌else◌}
+use Rattle.std.specs.Prelude.{◌≡◌, ◌⊎◌, IfErr, Result, Ok, Err}
 use Rattle.bolt_format.specs.declared.sink.SinkFault.{SinkFault}
 use Rattle.bolt_text.specs.declared.fault.ReportFault.{ReportFault}
-use Rattle.bolt_commands.specs.{Answers.Ending, Failures.reported, declared.failure.Failure.TheVariants.NoBucket, declared.failure.Failure.TheVariants.Write}
+use Rattle.bolt_text.specs.declared.fault.ReportFault.TheVariants as report
+use Rattle.bolt_commands.specs.{Answers.Ending, Failures.reported, declared.failure.Failure.Failure, declared.failure.Failure.TheVariants.Write}
 
 abbrev pub end_of : {A : Type 0} → Result A ReportFault → (wanted : Ending) → Ending
 end_of (Ok x) wanted = wanted
@@ -13,7 +14,11 @@ abbrev pub end_written : {A : Type 0} → Result A SinkFault → (wanted : Endin
 end_written (Ok x) wanted = wanted
 end_written (Err fault) wanted = Err Write
 
--- a part of a listing, of which is known whether it has the bucket
-abbrev pub end_of_part : Result Bool ReportFault → (wanted : Ending) → Ending
-end_of_part (Ok found) wanted = if found then wanted else Err NoBucket
-end_of_part (Err fault) wanted = Err (reported fault)
+-- a result with its fault as a failure
+abbrev pub failing : {A E : Type 0} → (E → Failure) → Result A E → Result A Failure
+failing name (Ok x) = Ok x
+failing name (Err fault) = Err (name fault)
+
+-- a text that the sink may fail to accept, or that may need memory
+abbrev pub MayFail : {A : Type 0} → Result A ReportFault → Type 0
+MayFail put = IfErr put (λ fault. (fault ≡ report.Sink) ⊎ (fault ≡ report.NoMemory))

@@ -1,16 +1,20 @@
 -- What a command has opened.
 use Rattle.std.specs.Prelude.{◌≡◌, ◌≢◌, ◌⊎◌, List, [], ℕ}
 use Rattle.std.specs.List.{All}
-use Rattle.bolt_check.specs.{CheckedFiles.bytes_of, CheckedFiles.meta_of, declared.fault.CheckFault.CheckFault, declared.finding.Finding.Finding}
+use Rattle.bolt_check.specs.{CheckedFiles.bytes_of, CheckedFiles.meta_of, declared.checked.Checked.Checked, declared.fault.CheckFault.CheckFault, declared.finding.Finding.Finding}
 use Rattle.bolt_format.specs.declared.meta.Meta.{Meta}
 use Rattle.bolt_recover.specs.{Found.AreFound, Found.numbers_of, Joined.LacksBucketKey, JoinedMembers.ForJoined, JoinedMembers.joined_file, JoinedMembers.joined_left}
-use Rattle.bolt_recover.specs.{JoinedMembers.joined_meta, Losses.everything, Lost.IsAllLost, LostAndFound.all_lost, Recovered.ForRecovered, ShownFound.IsFoundView}
-use Rattle.bolt_recover.specs.{declared.joined.Joined.Joined, declared.lost_and_found.LostAndFound.LostAndFound}
+use Rattle.bolt_recover.specs.{JoinedMembers.joined_meta, Losses.LostView, Losses.everything, Losses.parts, Lost.IsAllLost, LostAndFound.all_lost, Recovered.ForRecovered}
+use Rattle.bolt_recover.specs.{Recoveries.recovery_file, Recoveries.recovery_left, Recoveries.recovery_losses, Recoveries.recovery_meta, ShownFound.IsFoundView}
+use Rattle.bolt_recover.specs.{declared.found.Found.Found, declared.joined.Joined.Joined, declared.lost_and_found.LostAndFound.LostAndFound, declared.recovery.Recovery.Recovery}
 use Rattle.bolt_tree.specs.{Buckets.bucket_checked, Buckets.bucket_start, Entries.Start, Paths.Path, declared.bucket.Bucket.Bucket}
-use Rattle.bolt_commands.specs.Answers.{IsFileRefusal, IsReadUnder, IsRefusedUnder, LeadsTo, refused}
-use Rattle.bolt_job.specs.{MetaChoices.IsMetaOf, declared.choices.MetaChoice.MetaChoice}
+use Rattle.bolt_commands.specs.Answers.{IsFileRefusal, IsReadUnder, IsRecoveredUnder, IsRefusedUnder, LeadsTo, refused}
+use Rattle.bolt_job.specs.{MetaChoices.IsMetaOf, declared.choices.Extent.Extent, declared.choices.MetaChoice.MetaChoice}
+use Rattle.bolt_job.specs.declared.choices.Extent.TheVariants.{First, LostAndFound as Joins, Losses}
 use Rattle.bolt_commands.specs.declared.failure.Failure.{Failure}
 use Rattle.bolt_commands.specs.declared.failure.Failure.TheVariants.{NoBucket}
+use Rattle.bolt_commands.specs.declared.opened.Opened.{Opened}
+use Rattle.bolt_commands.specs.declared.opened.Opened.TheVariants as opened
 
 -- the bucket at a path of a file that is read under this choice
 pub record IsBucketOf (file : List ℕ) (choice : MetaChoice) (path : Path) (bucket : Bucket) : Type 0 where
@@ -42,3 +46,37 @@ pub record IsJoinedOf (both : LostAndFound) (joined : Joined) : Type 0 where
   pub all : ForJoined both.file.now both.meta (λ listing. joined_left joined listing ≡ listing)
   pub apart : both.found.items ≢ [] → ForRecovered both.file.now both.meta LacksBucketKey
   pub some : (x : Finding) → all_lost both ≡ everything x → both.found.items ≢ []
+
+-- a recovery of the file under this choice, of which no member was returned yet
+pub record IsRecoveryOf (file : List ℕ) (choice : MetaChoice) (recovery : Recovery) : Type 0 where
+  pub bytes : recovery_file recovery ≡ file
+  pub under : IsRecoveredUnder file choice (recovery_meta recovery)
+  pub all : ForRecovered file (recovery_meta recovery) (λ listing. recovery_left recovery listing ≡ listing)
+
+-- ---- to any extent
+
+pub record IsSoundOf (file : List ℕ) (choice : MetaChoice) (checked : Checked) : Type 0 where
+  pub bytes : bytes_of checked ≡ file
+  pub under : IsReadUnder file choice (meta_of checked)
+
+-- to this extent
+abbrev pub IsOpened : Extent → List ℕ → MetaChoice → Opened → Type 0
+IsOpened extent file choice (opened.Sound checked) = (extent ≡ First) × IsSoundOf file choice checked
+IsOpened extent file choice (opened.Recovered recovery) = (extent ≡ Losses) × IsRecoveryOf file choice recovery
+IsOpened extent file choice (opened.Searched both) = (extent ≡ Joins) × IsSearchOf file choice both
+
+abbrev pub opened_meta : Opened → Meta
+opened_meta (opened.Sound checked) = meta_of checked
+opened_meta (opened.Recovered recovery) = recovery_meta recovery
+opened_meta (opened.Searched both) = both.meta
+
+-- what is known so far to be lost of the file, and to be found
+abbrev pub opened_lost : Opened → LostView
+opened_lost (opened.Sound checked) = parts []
+opened_lost (opened.Recovered recovery) = parts (recovery_losses recovery)
+opened_lost (opened.Searched both) = all_lost both
+
+abbrev pub opened_found : Opened → List Found
+opened_found (opened.Sound checked) = []
+opened_found (opened.Recovered recovery) = []
+opened_found (opened.Searched both) = both.found.items

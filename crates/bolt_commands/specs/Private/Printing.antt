@@ -1,10 +1,14 @@
 -- What the functions of a command that prints promise of its job.
-use Rattle.std.specs.Prelude.{ℕ, List, Bool}
+use Rattle.std.specs.Prelude.{◌≡◌, ◌⊎◌, ℕ, List, Bool, IfOk, OnOk, Result, Err, map}
 use Rattle.bolt_check.specs.{CheckedFiles.bytes_of, CheckedFiles.meta_of, declared.checked.Checked.Checked}
-use Rattle.bolt_format.specs.declared.{meta.Meta.Meta, sink.Sink.Ghosts}
-use Rattle.bolt_text.specs.{ListForms.listing_lines}
+use Rattle.bolt_format.specs.{Wrote.Wrote, declared.meta.Meta.Meta, declared.sink.Sink.Ghosts}
+use Rattle.bolt_recover.specs.{Losses.LostView, LostAndFound.all_lost, declared.lost_and_found.LostAndFound.LostAndFound}
+use Rattle.bolt_report.specs.FoundLines.{FoundView, found_view}
+use Rattle.bolt_text.specs.{ListForms.listing_lines, ReportEndings.report_ending, declared.fault.ReportFault.ReportFault}
 use Rattle.bolt_tree.specs.{Listing.Member, Listing.rest_from, ListingParts.has_bucket, ListingParts.part_below}
-use Rattle.bolt_commands.specs.Answers.{Answer, Does, Ending, part_text}
+use Rattle.bolt_commands.specs.Answers.{Answer, Does, Ending, IsReadTo, IsSalvaged, IsUnjoinedUnder, IsUnreadTo, part_text}
+use Rattle.bolt_commands.specs.{Failures.reported, Private.Endings.MayFail, Private.Endings.failing, Private.Opened.opened_lost}
+use Rattle.bolt_commands.specs.declared.{failure.Failure.Failure, opened.Opened.Opened}
 use Rattle.bolt_job.specs.{PlainWords.path_in, declared.bucket_commands.ListJob.ListJob}
 
 -- standard output accepts the text of one of the answers that are wanted, and the job ends as it says
@@ -28,3 +32,25 @@ finds job listing = has_bucket (path_in job.path.items) listing
 -- what is shown of a file and its meta, of a checked one
 abbrev pub shown_of : {X : Type 0} → (List ℕ → Meta → X) → Checked → X
 shown_of shown checked = shown (bytes_of checked) (meta_of checked)
+
+-- ---- a part of a listing
+
+module _ {S : Type 0} (sink : Ghosts S) (old new : S) (job : ListJob) where
+  -- the part was put, and it is known whether the listing has the bucket; or the sink failed, or memory ran out
+  abbrev pub PutsListing : Result Bool Failure → List Member → Type 0
+  PutsListing result listing =
+      (put : Result Bool ReportFault) × Wrote sink old new (job_part job listing) (report_ending put) × MayFail put
+      × IfOk put (λ found. found ≡ finds job listing) × (result ≡ failing reported put)
+
+  -- Of what was read. If the part is whole, all that is lost is known then. Or the file isn't read, and nothing is put.
+  abbrev pub PutsPart : List ℕ → (after : Opened) → Result Bool Failure → Type 0
+  PutsPart file after result =
+      ((meta : Meta) × (listing : List Member) × (lost : LostView) × (found : List FoundView) × IsReadTo job.extent file job.meta meta listing lost found
+      × OnOk result (opened_lost after ≡ lost) × PutsListing result listing)
+      ⊎ ((why : Failure) × IsUnreadTo job.extent file job.meta why × (new ≡ old) × (result ≡ Err why))
+
+  -- the same of a file that was searched
+  abbrev pub PutsJoined : List ℕ → LostAndFound → Result Bool Failure → Type 0
+  PutsJoined file both result =
+      ((listing : List Member) × IsSalvaged file both.meta listing (all_lost both) (map found_view both.found.items) × PutsListing result listing)
+      ⊎ ((why : Failure) × IsUnjoinedUnder file job.meta why × (new ≡ old) × (result ≡ Err why))

@@ -1,9 +1,3 @@
--- The paths that are handed over as slices are those of the job.
-use Rattle.std.proofs.Common.{◌∙◌, ap, subst₂}
-use Rattle.bolt_commands.proofs.Vocabulary.{Path, Wrote, listing_lines, part_below, path_in, path_of, report_ending, rest_from}
+-- The path leads to a bucket exactly if the listing has it.
+use Rattle.bolt_commands.proofs.{ListAnswers.none_put, ListAnswers.whole_cut, ListAnswers.whole_put}
 use Rattle.bolt_commands.proofs.list_command.put_sound_part.Goals as goal
-
-pub returns-clause-written : goal.returns-clause-written
-returns-clause-written g c = λ listing lists.
-    subst₂ (λ (path from : Path). Wrote g.O.Sink c.args.out.now c.list_part.new.sink (listing_lines c.args.job.now.form (rest_from from (part_below path listing))) (report_ending c.list_part.result))
-    (ap path_of c.as_slice-3.ensures.value ∙ c.in_ok-path.ensures.path ∙ ap path_in c.as_slice.ensures.value) (ap path_of c.as_slice-4.ensures.value ∙ c.in_ok-from.ensures.path ∙ ap path_in c.as_slice-2.ensures.value) (c.list_part.ensures.written listing lists)
