@@ -1,6 +1,6 @@
 -- Sound files, and what is reported of the others: docs/SOUND.md.
 use Rattle.std.specs.Prelude.{◌≢◌, ℕ, List, [], Bool, true, false, IsTrue}
-use Rattle.bolt_format.specs.{Metas.HasMetaFault, Metas.HasSlotFault, Metas.IsActive, Metas.IsInSlot, declared.meta.Meta.Meta, declared.meta.Slot.Slot}
+use Rattle.bolt_format.specs.{Metas.HasNoActive, Metas.HasNoneInSlot, Metas.IsActive, Metas.IsInSlot, declared.meta.Meta.Meta, declared.meta.Slot.Slot}
 use Rattle.bolt_check.specs.{Accounts.HasAccounts, Findings.IsClean, Findings.IsCovered, Findings.IsFirst, Findings.IsMetaPage, Nodes.node_at, Shape.HasShape}
 use Rattle.bolt_check.specs.{AccountFindings.AreAccountFindings, ShownFindings.findings_in, Ways.reached, declared.fault.CheckFault.CheckFault}
 use Rattle.bolt_check.specs.declared.fault.CheckFault.TheVariants.{Accounts, Memory, Open, Structure}
@@ -51,13 +51,13 @@ IsRefusedFor file meta accounts Memory = Unit {0}
 
 -- why it isn't for the active meta: there is none, or it isn't for that
 abbrev pub IsRefused : List ℕ → CheckFault → Type 0
-IsRefused file (Open fault) = HasMetaFault file 0 fault × ((slot : Slot) (meta : Meta) → IsInSlot file slot meta → ⊥)
+IsRefused file (Open fault) = HasNoActive file fault
 IsRefused file Memory = Unit {0}
 IsRefused file fault = (slot : Slot) × (meta : Meta) × IsActive file slot meta × IsRefusedFor file meta true fault
 
 -- why its trees aren't for the meta of this slot
 abbrev pub IsSlotRefused : List ℕ → Slot → CheckFault → Type 0
-IsSlotRefused file slot (Open fault) = HasSlotFault file slot fault × ((meta : Meta) → IsInSlot file slot meta → ⊥)
+IsSlotRefused file slot (Open fault) = HasNoneInSlot file slot fault
 IsSlotRefused file slot (Accounts reported) = ⊥
 IsSlotRefused file slot Memory = Unit {0}
 IsSlotRefused file slot fault = (meta : Meta) × IsInSlot file slot meta × IsRefusedFor file meta false fault

@@ -7,7 +7,7 @@ use Rattle.bolt_check.specs.{AccountFindings.AreAccountFindings, Roles.AreRoles,
 use Rattle.bolt_check.specs.declared.fault.CheckFault.{CheckFault}
 use Rattle.bolt_check.specs.declared.fault.CheckFault.TheVariants as check
 use Rattle.bolt_check.specs.{declared.finding.Finding.Finding, declared.role_table.Role.Role}
-use Rattle.bolt_format.specs.{Elements.LeafElement, Metas.HasMetaFault, Metas.HasSlotFault, Metas.IsActive, Metas.IsInSlot, Pages.page_at}
+use Rattle.bolt_format.specs.{Elements.LeafElement, Metas.HasNoActive, Metas.HasNoneInSlot, Metas.IsActive, Metas.IsInSlot, Pages.page_at}
 use Rattle.bolt_format.specs.{Sinks.AppendsPrefix, Sinks.AppendsProperPrefix, declared.page_fault.PageFault.PageFault, declared.meta.Meta.Meta}
 use Rattle.bolt_format.specs.{declared.meta.MetaFault.MetaFault, declared.meta.Slot.Slot}
 use Rattle.bolt_load.specs.{LineFaults.IsListingText, LineFaults.IsLoadFault, declared.fault.LoadFault.LoadFault}
@@ -81,8 +81,8 @@ IsShownMeta file (Some named) slot meta = (slot ≡ named) × IsInSlot file name
 
 -- why there is none
 abbrev pub HasNoMeta : List ℕ → Option Slot → MetaFault → Type 0
-HasNoMeta file None fault = HasMetaFault file 0 fault × ((slot : Slot) (meta : Meta) → IsInSlot file slot meta → ⊥)
-HasNoMeta file (Some slot) fault = HasSlotFault file slot fault × ((meta : Meta) → IsInSlot file slot meta → ⊥)
+HasNoMeta file None fault = HasNoActive file fault
+HasNoMeta file (Some slot) fault = HasNoneInSlot file slot fault
 
 abbrev pub IsInfoAnswer : List ℕ → Option Slot → FigureForm → Answer → Type 0
 IsInfoAnswer file wanted form answer =

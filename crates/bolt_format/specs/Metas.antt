@@ -114,3 +114,13 @@ other_slot One = Zero
 pub record IsActive (file : List ℕ) (slot : Slot) (meta : Meta) : Type 0 where
   pub valid : IsInSlot file slot meta
   pub newest : (other : Meta) → IsInSlot file (other_slot slot) other → (other.txid < meta.txid) ⊎ ((other.txid ≡ meta.txid) × (slot ≡ Zero))
+
+abbrev pub HasActive : List ℕ → Meta → Type 0
+HasActive file meta = (slot : Slot) × IsActive file slot meta
+
+-- why there is none, and why a slot has no valid one
+abbrev pub HasNoActive : List ℕ → MetaFault → Type 0
+HasNoActive file fault = HasMetaFault file 0 fault × ((slot : Slot) (meta : Meta) → IsInSlot file slot meta → ⊥)
+
+abbrev pub HasNoneInSlot : List ℕ → Slot → MetaFault → Type 0
+HasNoneInSlot file slot fault = HasSlotFault file slot fault × ((meta : Meta) → IsInSlot file slot meta → ⊥)

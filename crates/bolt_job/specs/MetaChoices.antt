@@ -1,8 +1,7 @@
 -- The meta that a file is read under: docs/COMMANDS.md, "A named meta" and "An assumed meta".
 use Rattle.std.specs.Prelude.{◌≡◌, ℕ, List, length}
 use Rattle.bolt_check.specs.Assumed.{assumed_meta}
-use Rattle.bolt_format.specs.{Metas.HasMetaFault, Metas.HasSlotFault, Metas.IsActive, Metas.IsInSlot, declared.meta.Meta.Meta}
-use Rattle.bolt_format.specs.{declared.meta.MetaFault.MetaFault, declared.meta.Slot.Slot}
+use Rattle.bolt_format.specs.{Metas.HasActive, Metas.HasNoActive, Metas.HasNoneInSlot, Metas.IsInSlot, declared.meta.Meta.Meta, declared.meta.MetaFault.MetaFault}
 use Rattle.bolt_job.specs.{declared.choices.AssumedMeta.AssumedMeta, declared.choices.MetaChoice.MetaChoice}
 use Rattle.bolt_job.specs.declared.choices.MetaChoice.TheVariants.{Active, Assumed, InSlot}
 
@@ -12,12 +11,12 @@ assumed_for file assumed = assumed_meta (length file) assumed.page_size.bytes as
 
 -- the meta of a file that is chosen, if the file has it
 abbrev pub IsMetaOf : List ℕ → MetaChoice → Meta → Type 0
-IsMetaOf file Active meta = (slot : Slot) × IsActive file slot meta
+IsMetaOf file Active meta = HasActive file meta
 IsMetaOf file (InSlot slot) meta = IsInSlot file slot meta
 IsMetaOf file (Assumed assumed) meta = meta ≡ assumed_for file assumed
 
 -- why it has none
 abbrev pub HasNoMetaOf : List ℕ → MetaChoice → MetaFault → Type 0
-HasNoMetaOf file Active fault = HasMetaFault file 0 fault × ((slot : Slot) (meta : Meta) → IsInSlot file slot meta → ⊥)
-HasNoMetaOf file (InSlot slot) fault = HasSlotFault file slot fault × ((meta : Meta) → IsInSlot file slot meta → ⊥)
+HasNoMetaOf file Active fault = HasNoActive file fault
+HasNoMetaOf file (InSlot slot) fault = HasNoneInSlot file slot fault
 HasNoMetaOf file (Assumed assumed) fault = ⊥

@@ -1,7 +1,6 @@
 -- Why nothing of a file is recovered: docs/RECOVERY.md, "The recovering walk".
 use Rattle.std.specs.Prelude.{ℕ, List}
-use Rattle.bolt_format.specs.Metas.{HasMetaFault, HasSlotFault, IsActive, IsInSlot}
-use Rattle.bolt_format.specs.{declared.meta.Meta.Meta, declared.meta.MetaFault.MetaFault, declared.meta.Slot.Slot}
+use Rattle.bolt_format.specs.{declared.meta.Meta.Meta, declared.meta.MetaFault.MetaFault}
 use Rattle.bolt_check.specs.{Findings.IsMetaPage, Findings.Passes, Findings.Tests, Nodes.node_at, Ways.At_page, Ways.root_spot}
 use Rattle.bolt_check.specs.declared.fault.CheckFault.{CheckFault}
 use Rattle.bolt_check.specs.declared.fault.CheckFault.TheVariants.{Accounts, Memory, Open, Structure}
@@ -27,14 +26,3 @@ IsUnrecoverable file IsMeta HasNone (Open fault) = HasNone fault
 IsUnrecoverable file IsMeta HasNone (Structure x) = (meta : Meta) × IsMeta meta × LosesRoot file meta x
 IsUnrecoverable file IsMeta HasNone (Accounts reported) = ⊥
 IsUnrecoverable file IsMeta HasNone Memory = Unit {0}
-
--- the active meta, and why there is none
-abbrev pub HasActive : List ℕ → Meta → Type 0
-HasActive file meta = (slot : Slot) × IsActive file slot meta
-
-abbrev pub HasNoActive : List ℕ → MetaFault → Type 0
-HasNoActive file fault = HasMetaFault file 0 fault × ((slot : Slot) (meta : Meta) → IsInSlot file slot meta → ⊥)
-
--- why this slot has no valid meta
-abbrev pub HasNoneInSlot : List ℕ → Slot → MetaFault → Type 0
-HasNoneInSlot file slot fault = HasSlotFault file slot fault × ((meta : Meta) → IsInSlot file slot meta → ⊥)

@@ -1,5 +1,5 @@
 use Rattle.bolt_recover.proofs.Refused.{if_err, refused_under}
-use Rattle.bolt_recover.specs.Refusals.{HasNoActive, HasActive}
+use Rattle.bolt_format.specs.Metas.{HasActive, HasNoActive}
 use Rattle.bolt_recover.proofs.recovery.Recovery.new.Goals as goal
 
 pub returns-clause-refused : goal.returns-clause-refused

@@ -1,5 +1,5 @@
 use Rattle.bolt_recover.proofs.Refused.{if_err, refused_under}
-use Rattle.bolt_recover.specs.Refusals.{HasNoneInSlot}
+use Rattle.bolt_format.specs.Metas.{HasNoneInSlot}
 use Rattle.bolt_format.specs.Metas.{IsInSlot}
 use Rattle.bolt_recover.proofs.recovery.Recovery.of_slot.Goals as goal
 
