@@ -1,7 +1,11 @@
 -- The copy of a listing, and what is then reported of it.
-use Rattle.std.proofs.Common.{◌≡◌, ℕ, List, Bool, Option, Some, None, Result, Ok, Err, inl, inr, refl, subst, sym}
+use Rattle.std.proofs.Common.{◌≡◌, ◌∙◌, ℕ, List, Bool, None, Some, Result, Ok, Err, inl, inr, length, map, refl, subst}
 use Rattle.bolt_commands.proofs.Vocabulary.{Answer, BulkFault, CopiesTo, Does, Ending, EndsCopy, Failure, Ghosts, Member, WritesCopy, copied, copy_page_size}
+use Rattle.bolt_commands.proofs.Vocabulary.{CompactsTo, CopiesRead, IsOpened, IsReadTo, bad_hash, copy_report, hash_refusal, LostView, OnOk, Opened, found_view, is_snapshot, opened_found, opened_lost, opened_meta}
 use Rattle.bolt_commands.proofs.Vocabulary.{HasGoodCopies, IsAskedBlueprint, Meta, layout_for, layout_of_listing, blueprint_layout, failing, ∥∥₁_map}
+use Rattle.bolt_commands.proofs.{OpenedReads.refused_read}
+use Rattle.bolt_commands.specs.declared.failure.Failure.TheVariants.{Hash}
+use Rattle.bolt_etcd.specs.declared.snapshot.SnapshotFault.{SnapshotFault}
 use Rattle.bolt_bulk.specs.declared.blueprint.Blueprint.{Blueprint}
 use Rattle.bolt_job.specs.declared.writing_commands.CompactJob.{CompactJob}
 
@@ -19,16 +23,54 @@ pub copy_asked : {T : Type 0} {target : Ghosts T} {old new : T} {listing : List 
     → CopiesTo target old new (layout_of_listing (layout_for job.kind) (copy_page_size job.page_size meta) listing meta.root_sequence) listing snapshot result
 copy_asked asked copy = rw (asked.layout, asked.page_size, asked.sequence) at copy
 
-module _ {O T : Type 0} {out : Ghosts O} {out_old out_new : O} {target : Ghosts T} {old new : T} {layout : List ℕ} {listing : List Member} {snapshot : Bool} {answer : ℕ → Answer} where
-  abbrev Writes : Ending → Type 0
-  Writes ending = WritesCopy out.taken out.failed out_old out_new target.taken target.failed old new snapshot listing layout answer ending
+-- of what is read, which if the copy is whole is known with what is lost
+pub copy_read : {T : Type 0} {target : Ghosts T} {old new : T} {job : CompactJob} (file : List ℕ) (before after : Opened) {blueprint : Blueprint} {listing : List Member} (lost : LostView)
+    → IsReadTo job.extent file job.meta (opened_meta before) listing lost (map found_view (opened_found before)) → IsAskedBlueprint job (opened_meta before) blueprint
+    → (made : Result ℕ BulkFault) → CopiesTo target old new (blueprint_layout blueprint listing) listing (is_snapshot job.kind) made → OnOk made (opened_lost after ≡ lost)
+    → (result : Result ℕ Failure) → result ≡ failing copied made → CopiesRead target old new job file before after result
+copy_read file before after lost read asked (Ok count) copy known result is = inl (_, _, read, rw is known, (Ok count, copy_asked asked copy, is))
+copy_read file before after lost read asked (Err fault) copy known result is = inl (_, _, read, rw is tt, (Err fault, copy_asked asked copy, is))
 
-  -- it is whole, and reported
-  pub copy_written : (count : ℕ) (ending : Ending) → CopiesTo target old new layout listing snapshot (Ok count) → Does out.taken out.failed out_old out_new (answer count) ending → Writes ending
-  copy_written count ending copy does =
-      let whole = copy.ends in
-      inl (whole.small, copy.good, whole.all, whole.sound, subst (λ (n : ℕ). Does out.taken out.failed out_old out_new (answer n) ending) whole.long does)
+-- it is whole and reported, or it isn't whole and nothing is
+pub copy_written : {O T : Type 0} (out : Ghosts O) {out_old out_new : O} {target : Ghosts T} {old new : T} {layout : List ℕ} {listing : List Member} {snapshot : Bool} (answer : ℕ → Answer)
+    (count : ℕ) (ending : Ending) → CopiesTo target old new layout listing snapshot (Ok count) → Does out.taken out.failed out_old out_new (answer count) ending
+    → WritesCopy out.taken out.failed out_old out_new target.taken target.failed old new snapshot listing layout answer ending
+copy_written out {out_old} {out_new} answer count ending copy does =
+    let whole = copy.ends in
+    inl (whole.small, copy.good, whole.all, whole.sound, subst (λ (n : ℕ). Does out.taken out.failed out_old out_new (answer n) ending) whole.long does)
 
-  -- it isn't whole, and nothing is reported
-  pub copy_stopped : (fault : BulkFault) (ending : Ending) → CopiesTo target old new layout listing snapshot (Err fault) → out_new ≡ out_old → ending ≡ Err (copied fault) → Writes ending
-  copy_stopped fault ending copy same is = inr (copied fault, copy.ends, same, is)
+pub copy_stopped : {O T : Type 0} (out : Ghosts O) (out_old : O) {target : Ghosts T} {old new : T} {layout : List ℕ} {listing : List Member} {snapshot : Bool} (answer : ℕ → Answer)
+    (fault : BulkFault) (ending : Ending) → CopiesTo target old new layout listing snapshot (Err fault) → ending ≡ Err (copied fault)
+    → WritesCopy out.taken out.failed out_old out_old target.taken target.failed old new snapshot listing layout answer ending
+copy_stopped out out_old answer fault ending copy is = inr (copied fault, copy.ends, refl, is)
+
+-- ---- `compact`
+
+-- its hash is wrong
+pub compact_refused : {O T : Type 0} (out : Ghosts O) (out_old : O) (target : Ghosts T) (old : T) (job : CompactJob) (file : List ℕ) (o : Opened) → IsOpened job.extent file job.meta o
+    → (fault : SnapshotFault) → hash_refusal job.extent (bad_hash (is_snapshot job.kind) file) ≡ Some fault
+    → CompactsTo out out_old out_old target old old job file (Err (Hash fault))
+compact_refused out out_old target old job file o to fault is =
+    let (meta, listing, lost, found, read) = refused_read job.extent file job.meta o to _ fault is in
+    inl (meta, listing, lost, found, read, rw is (refl, refl, refl))
+
+module _ {O T : Type 0} (out : Ghosts O) (out_old : O) {target : Ghosts T} {old new : T} (job : CompactJob) (file : List ℕ) (before after : Opened)
+    (right : hash_refusal job.extent (bad_hash (is_snapshot job.kind) file) ≡ None) (ending : Ending) where
+  pub compact_failed : (why : Failure) → CopiesRead target old new job file before after (Err why) → ending ≡ Err why → CompactsTo out out_old out_old target old new job file ending
+  compact_failed why read ends = elim read [
+    | inl (listing, lost, is, known, (Err fault, copy, same)) ↦ inl (_, listing, lost, _, is, rw right (copy_stopped out out_old (copy_report (bad_hash (is_snapshot job.kind) file) lost (map found_view (opened_found before)) (length file)) fault ending copy (ends ∙ same)))
+    | inl (listing, lost, is, known, (Ok count, copy, same)) ↦ absurd (cc)
+    | inr (reason, unread, untouched, same) ↦ inr (reason, unread, (refl, untouched, ends ∙ same))
+  ]
+
+  pub compact_done : {out_new : O} (count : ℕ) → CopiesRead target old new job file before after (Ok count)
+      → Does out.taken out.failed out_old out_new (copy_report (bad_hash (is_snapshot job.kind) file) (opened_lost after) (map found_view (opened_found before)) (length file) count) ending
+      → CompactsTo out out_old out_new target old new job file ending
+  compact_done count read does = elim read [
+    | inl (listing, lost, is, known, (Ok made, copy, same)) ↦
+        let told : opened_lost after ≡ lost = known in
+        let number : count ≡ made = (cc) in
+        inl (_, listing, lost, _, is, rw right (copy_written out (copy_report (bad_hash (is_snapshot job.kind) file) lost (map found_view (opened_found before)) (length file)) made ending copy (rw (told, number) at does)))
+    | inl (listing, lost, is, known, (Err fault, copy, same)) ↦ absurd (cc)
+    | inr (reason, unread, untouched, same) ↦ absurd (cc)
+  ]

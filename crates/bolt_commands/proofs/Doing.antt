@@ -14,6 +14,10 @@ pub on_ok : {A E X Y : Type 0} (result : Result A E) → (X → Y) → OnOk resu
 on_ok (Ok a) step x = step x
 on_ok (Err e) step x = tt
 
+pub on_any : {A E X : Type 0} (result : Result A E) → X → OnOk result X
+on_any (Ok a) x = x
+on_any (Err e) x = tt
+
 -- ---- an answer that is one of those that are wanted
 
 -- its text was written, or the sink failed

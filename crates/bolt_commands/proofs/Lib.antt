@@ -13,6 +13,7 @@ pub mod ListedLoads
 pub mod LoadAnswers
 pub mod LossAnswers
 pub mod NeededBytes
+pub mod OpenedReads
 pub mod PageAnswers
 pub mod ReadFiles
 pub mod SnapshotCopies

@@ -1,35 +1,34 @@
 -- What `list` puts, and how it then ends.
-use Rattle.std.proofs.Common.{◌≡◌, Bool, true, false, IfOk, List, Result, Ok, Err, ap, inl, inr, refl, sym, ℕ}
+use Rattle.std.proofs.Common.{◌≡◌, ◌∙◌, Bool, true, false, IfOk, List, Result, Ok, Err, ap, if◌then◌else◌, inl, inr, refl, subst, sym, ℕ}
 use Rattle.bolt_commands.proofs.Vocabulary.{Ending, Failure, Ghosts, IsEndedOrCut, IsListPrint, ListJob, MayFail, Member, OnOk, Opened, PrintsAnswer, PutsListing}
-use Rattle.bolt_commands.proofs.Vocabulary.{PutsPart, ReportFault, Rises, Wrote, Wrote-none, end_of, failing, finds, job_part, lost_ending, member_cmp, opened_lost}
+use Rattle.bolt_commands.proofs.Vocabulary.{PutsPart, ReportFault, Rises, Wrote, Wrote-none, failing, finds, job_part, lost_ending, member_cmp, opened_lost}
 use Rattle.bolt_commands.proofs.Vocabulary.{part_ending, path_in, report_ending, reported, sound_part}
 use Rattle.bolt_commands.specs.declared.failure.Failure.TheVariants.{NoBucket}
 use Rattle.bolt_commands.proofs.{CutTexts.ended_put, Doing.answer_as, Doing.answer_nothing, Doing.on_ok}
 
-module _ {S : Type 0} {sink : Ghosts S} {old new : S} (job : ListJob) (listing : List Member) where
-  -- ---- of a sound file, with the bucket or without it
+-- ---- the part of a sound file, with the bucket or without it
 
-  pub none_put : finds job listing ≡ false → PutsListing sink old old job (Ok false) listing
-  none_put none = (Ok false, rw none (Wrote-none old), tt, sym none, refl)
+pub none_put : {S : Type 0} (sink : Ghosts S) (old : S) (job : ListJob) (listing : List Member) → finds job listing ≡ false → PutsListing sink old old job (Ok false) listing
+none_put sink old job listing none = (Ok false, rw none (Wrote-none old), tt, sym none, refl)
 
-  pub whole_put : {A : Type 0} (x : A) → finds job listing ≡ true → Wrote sink old new (sound_part job listing) (report_ending {A = A} (Ok x))
-      → PutsListing sink old new job (Ok true) listing
-  whole_put x has wrote = (Ok true, rw has wrote, tt, sym has, refl)
+module _ {S : Type 0} {sink : Ghosts S} {old new : S} (job : ListJob) (listing : List Member) (has : finds job listing ≡ true) where
+  pub whole_put : Wrote sink old new (sound_part job listing) (report_ending (Ok true)) → PutsListing sink old new job (Ok true) listing
+  whole_put wrote = (Ok true, rw has wrote, tt, sym has, refl)
 
-  pub whole_cut : {A : Type 0} (e : ReportFault) → finds job listing ≡ true → Wrote sink old new (sound_part job listing) (report_ending {A = A} (Err e))
-      → MayFail {A = A} (Err e) → (result : Result Bool Failure) → result ≡ Err (reported e) → PutsListing sink old new job result listing
-  whole_cut e has wrote fault result is = (Err e, rw has wrote, fault, tt, is)
+  pub whole_cut : (e : ReportFault) → Wrote sink old new (sound_part job listing) (report_ending {A = Bool} (Err e)) → MayFail {A = Bool} (Err e)
+      → (result : Result Bool Failure) → result ≡ Err (reported e) → PutsListing sink old new job result listing
+  whole_cut e wrote fault result is = (Err e, rw has wrote, fault, tt, is)
 
-  -- ---- of members
+-- ---- that of members
 
-  pub members_put : (Lists : List Member → Type 0) (left : List Member → List Member) → Lists listing → left listing ≡ listing → Rises member_cmp listing
-      → (put : Result Bool ReportFault) → MayFail put
-      → ((other : List Member) → Lists other → Rises member_cmp (left other) → Wrote sink old new (job_part job (left other)) (report_ending put))
-      → IfOk put (λ found. (other : List Member) → Lists other → found ≡ finds job (left other))
-      → (result : Result Bool Failure) → result ≡ failing reported put → PutsListing sink old new job result listing
-  members_put Lists left lists all rises (Ok found) fault puts knows result is =
-      (Ok found, rw all at (puts listing lists (rw all rises)), tt, rw all at (knows listing lists), is)
-  members_put Lists left lists all rises (Err e) fault puts knows result is = (Err e, rw all at (puts listing lists (rw all rises)), fault, tt, is)
+pub members_put : {S : Type 0} {sink : Ghosts S} {old new : S} (job : ListJob) (listing : List Member) (Lists : List Member → Type 0) (left : List Member → List Member)
+    → Lists listing → left listing ≡ listing → Rises member_cmp listing → (put : Result Bool ReportFault) → MayFail put
+    → ((other : List Member) → Lists other → Rises member_cmp (left other) → Wrote sink old new (job_part job (left other)) (report_ending put))
+    → IfOk put (λ found. (other : List Member) → Lists other → found ≡ finds job (left other))
+    → (result : Result Bool Failure) → result ≡ failing reported put → PutsListing sink old new job result listing
+members_put job listing Lists left lists all rises (Ok found) fault puts knows result is =
+    (Ok found, rw all at (puts listing lists (rw all rises)), tt, rw all at (knows listing lists), is)
+members_put job listing Lists left lists all rises (Err e) fault puts knows result is = (Err e, rw all at (puts listing lists (rw all rises)), fault, tt, is)
 
 -- ---- the end
 
@@ -39,17 +38,21 @@ end_of_part (Ok true) after = lost_ending (opened_lost after)
 end_of_part (Ok false) after = Err NoBucket
 end_of_part (Err why) after = Err why
 
-module _ {S : Type 0} {sink : Ghosts S} {old new : S} (job : ListJob) (file : List ℕ) (after : Opened) where
+module _ {S : Type 0} (sink : Ghosts S) (old new : S) (job : ListJob) (file : List ℕ) (after : Opened) where
   abbrev Ended : List Member → Ending → Ending → Type 0
   Ended listing wanted ending = PrintsAnswer sink old new (IsEndedOrCut (job_part job listing) (part_ending (path_in job.path.items) listing wanted)) ending
+
+  ends_so : (listing : List Member) (wanted : Ending) (found : Bool) → found ≡ finds job listing → lost_ending (opened_lost after) ≡ wanted
+      → part_ending (path_in job.path.items) listing wanted ≡ end_of_part (Ok found) after
+  ends_so listing wanted true knows same = ap (λ (has : Bool). if has then wanted else Err NoBucket) (sym knows) ∙ sym same
+  ends_so listing wanted false knows same = ap (λ (has : Bool). if has then wanted else Err NoBucket) (sym knows)
 
   part_ended : (listing : List Member) (wanted : Ending) (put : Result Bool ReportFault) → Wrote sink old new (job_part job listing) (report_ending put) → MayFail put
       → IfOk put (λ found. found ≡ finds job listing) → OnOk (failing reported put) (lost_ending (opened_lost after) ≡ wanted)
       → Ended listing wanted (end_of_part (failing reported put) after)
-  part_ended listing wanted (Ok true) wrote fault knows same =
-      rw (same, sym knows) (ended_put {A = Bool} (job_part job listing) (part_ending (path_in job.path.items) listing wanted) (Ok true) wrote tt)
-  part_ended listing wanted (Ok false) wrote fault knows same =
-      rw (sym knows) (ended_put {A = Bool} (job_part job listing) (part_ending (path_in job.path.items) listing wanted) (Ok false) wrote tt)
+  part_ended listing wanted (Ok found) wrote fault knows same =
+      let put = ended_put {A = Bool} (job_part job listing) (part_ending (path_in job.path.items) listing wanted) (Ok found) wrote tt in
+      subst (λ (e : Ending). Ended listing wanted e) (ends_so listing wanted found knows same) put
   part_ended listing wanted (Err e) wrote fault knows same =
       ended_put {A = Bool} (job_part job listing) (part_ending (path_in job.path.items) listing wanted) (Err e) wrote fault
 

@@ -15,7 +15,7 @@ pub use Rattle.bolt_commands.specs.Answers.{no_stats, none_found, page_answer, p
 pub use Rattle.bolt_commands.specs.Failures.{IsFailureOf, copied, reported, unjoined}
 pub use Rattle.bolt_commands.specs.FileFaults.{IsMetasFault, IsOtherFault, errors_in, other_lines}
 pub use Rattle.bolt_commands.specs.GoodCopies.{HasGoodCopies, IsGoodCopy, RefusesFile}
-pub use Rattle.bolt_commands.specs.Private.Copying.{CopiesRead, CopiesTo, IsAskedBlueprint, blueprint_layout, job_layout}
+pub use Rattle.bolt_commands.specs.Private.Copying.{CompactsTo, CopiesJoined, CopiesListing, CopiesRead, CopiesTo, IsAskedBlueprint, blueprint_layout, job_layout}
 pub use Rattle.bolt_commands.specs.Private.Endings.{MayFail, end_of, end_written, failing}
 pub use Rattle.bolt_commands.specs.Private.Opened.{HasNoBucket, IsBucketOf, IsJoinedOf, IsOpened, IsRecoveryOf, IsSearchOf, IsSoundOf, IsUnread, opened_found, opened_lost, opened_meta}
 pub use Rattle.bolt_commands.specs.SnapshotAnswers.{bad_hash, copy_of, hash_found}

@@ -1,7 +1,8 @@
 //! The commands that write a copy: `compact` and `load`.
 ghost use Rattle.std.specs.Prelude.{◌≡◌};
 ghost use Rattle.bolt_format.specs.Metas.{IsPageSize};
-ghost use Rattle.bolt_commands.specs.Private.{Copying.CompactsTo, Copying.CopiesRead, Copying.IsAskedBlueprint, Copying.LoadsJob, Opened.IsOpened, Opened.opened_found};
+ghost use Rattle.bolt_commands.specs.Private.{Copying.CompactsTo, Copying.CopiesJoined, Copying.CopiesRead, Copying.IsAskedBlueprint, Copying.LoadsJob};
+ghost use Rattle.bolt_commands.specs.Private.Opened.{IsOpened, IsSearchOf, opened_found};
 ghost use Rattle.bolt_job.specs.CopyKinds.{is_snapshot};
 ghost use Rattle.bolt_commands.specs.{Answers.hash_refusal, SnapshotAnswers.bad_hash};
 
@@ -15,8 +16,8 @@ use bolt_etcd::{SnapshotFault, snapshot_fault};
 use bolt_format::{Meta, Sink};
 use bolt_job::{CompactJob, Extent, LoadJob};
 use bolt_load::{ListingText, a_text_is_of_one_tree};
-use bolt_recover::Lost;
 use bolt_recover::laws::each_file_has_a_joined_listing;
+use bolt_recover::{Lost, LostAndFound};
 use bolt_tree::Walk;
 
 /// Writes the compact copy that is asked for to `target`, and then what is reported of it to `out`.
@@ -77,14 +78,26 @@ fn copy_opened<T: Sink>(
             let copied = copy_members(input.alloc, recovery, &blueprint, job.kind, target)?;
             Ok(copied)
         }
-        Opened::Searched(both) => {
-            each_file_has_a_joined_listing();
-            let mut joined = join(input, job.meta, both)?;
-            joined_members_are_whole(&joined);
-            let copied = copy_members(input.alloc, &mut joined, &blueprint, job.kind, target)?;
-            Ok(copied)
-        }
+        Opened::Searched(both) => copy_joined(input, job, both, &blueprint, target),
     }
+}
+
+/// Writes the copy of what is recovered of a file and what is found of it, and returns its length.
+fn copy_joined<T: Sink>(
+    input: Input<'_>,
+    job: &CompactJob,
+    both: &LostAndFound<'_>,
+    blueprint: &Blueprint,
+    target: &mut T,
+) -> Result<u64, Failure>
+    requires { IsSearchOf input.file.now job.now.meta both.now }
+    ensures { CopiesJoined T.Sink target.old target.new job.now input.entry.file.now both.now blueprint.now result }
+{
+    each_file_has_a_joined_listing();
+    let mut joined = join(input, job.meta, both)?;
+    joined_members_are_whole(&joined);
+    let copied = copy_members(input.alloc, &mut joined, blueprint, job.kind, target)?;
+    Ok(copied)
 }
 
 /// What the copy of a file with this meta looks like.

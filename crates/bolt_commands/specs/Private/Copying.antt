@@ -3,10 +3,10 @@ use Rattle.std.specs.Prelude.{◌≡◌, ◌⊎◌, ℕ, List, Bool, Result, Err
 use Rattle.bolt_bulk.specs.{declared.blueprint.Blueprint.Blueprint, declared.fault.BulkFault.BulkFault}
 use Rattle.bolt_format.specs.{declared.meta.Meta.Meta, declared.sink.Sink.Ghosts}
 use Rattle.bolt_layout.specs.Copies.{layout_of_listing}
-use Rattle.bolt_recover.specs.Losses.{LostView}
+use Rattle.bolt_recover.specs.{Losses.LostView, LostAndFound.all_lost, declared.lost_and_found.LostAndFound.LostAndFound}
 use Rattle.bolt_report.specs.FoundLines.{found_view}
 use Rattle.bolt_tree.specs.Listing.{Member}
-use Rattle.bolt_commands.specs.{Answers.Ending, Answers.IsReadTo, Answers.IsUnreadTo, Answers.Loads, Answers.MakesCopy, Answers.copy_page_size, CopyEnds.EndsCopy}
+use Rattle.bolt_commands.specs.{Answers.Ending, Answers.IsReadTo, Answers.IsSalvaged, Answers.IsUnjoinedUnder, Answers.IsUnreadTo, Answers.Loads, Answers.MakesCopy, Answers.copy_page_size, CopyEnds.EndsCopy}
 use Rattle.bolt_commands.specs.{CopyLayouts.layout_for, Failures.copied, GoodCopies.IsGoodCopy, Private.Endings.failing}
 use Rattle.bolt_commands.specs.Private.Opened.{opened_found, opened_lost, opened_meta}
 use Rattle.bolt_commands.specs.declared.{failure.Failure.Failure, opened.Opened.Opened}
@@ -40,10 +40,21 @@ pub record CopiesTo {T : Type 0} (target : Ghosts T) (old new : T) (layout : Lis
 abbrev pub job_layout : CompactJob → Meta → List Member → List ℕ
 job_layout job meta listing = layout_of_listing (layout_for job.kind) (copy_page_size job.page_size meta) listing meta.root_sequence
 
+-- the copy of a listing, and its length or the failure
+abbrev pub CopiesListing : {T : Type 0} (target : Ghosts T) (old new : T) (layout : List ℕ) → (listing : List Member) → (snapshot : Bool) → Result ℕ Failure → Type 0
+CopiesListing target old new layout listing snapshot result = (made : Result ℕ BulkFault) × CopiesTo target old new layout listing snapshot made × (result ≡ failing copied made)
+
 -- The copy of what is read was made; if it is whole, all that is lost is known then. Or it isn't read, and the target isn't touched.
 abbrev pub CopiesRead : {T : Type 0} (target : Ghosts T) (old new : T) → CompactJob → List ℕ → (before after : Opened) → Result ℕ Failure → Type 0
 CopiesRead target old new job file before after result =
     ((listing : List Member) × (lost : LostView) × IsReadTo job.extent file job.meta (opened_meta before) listing lost (map found_view (opened_found before))
     × OnOk result (opened_lost after ≡ lost)
-    × ((made : Result ℕ BulkFault) × CopiesTo target old new (job_layout job (opened_meta before) listing) listing (is_snapshot job.kind) made × (result ≡ failing copied made)))
+    × CopiesListing target old new (job_layout job (opened_meta before) listing) listing (is_snapshot job.kind) result)
     ⊎ ((why : Failure) × IsUnreadTo job.extent file job.meta why × (new ≡ old) × (result ≡ Err why))
+
+-- the same of a file that was searched, by a blueprint
+abbrev pub CopiesJoined : {T : Type 0} (target : Ghosts T) (old new : T) → CompactJob → List ℕ → LostAndFound → Blueprint → Result ℕ Failure → Type 0
+CopiesJoined target old new job file both blueprint result =
+    ((listing : List Member) × IsSalvaged file both.meta listing (all_lost both) (map found_view both.found.items)
+    × CopiesListing target old new (blueprint_layout blueprint listing) listing (is_snapshot job.kind) result)
+    ⊎ ((why : Failure) × IsUnjoinedUnder file job.meta why × (new ≡ old) × (result ≡ Err why))

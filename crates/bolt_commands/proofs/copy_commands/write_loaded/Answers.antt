@@ -16,10 +16,10 @@ pub returns-in_err-copy : goal.returns-in_err-copy
 returns-in_err-copy g c =
     let told = ap text_members (sym (c.members-members.ensures.text ∙ c.in_ok-listing.ensures.text)) in
     let copy = rw c.layout-layout.ensures at (c.in_err-copy.ensures.copied (text_members c.args.input.file.now) told) in
-    inl (c.in_ok-listing.ensures.right, copy_stopped _ _ copy refl (ends_as _ _ c.from_residual-in_err-copy.ensures.1))
+    inl (c.in_ok-listing.ensures.right, copy_stopped _ _ _ _ _ copy (ends_as _ _ c.from_residual-in_err-copy.ensures.1))
 
 pub returns : goal.returns
 returns g c =
     let told = ap text_members (sym (c.members-members.ensures.text ∙ c.in_ok-listing.ensures.text)) in
     let copy = rw c.layout-layout.ensures at (c.in_ok-copy.ensures.copied (text_members c.args.input.file.now) told) in
-    inl (c.in_ok-listing.ensures.right, copy_written _ _ copy c.end_copy.ensures)
+    inl (c.in_ok-listing.ensures.right, copy_written _ _ _ _ copy c.end_copy.ensures)

@@ -1,0 +1,39 @@
+-- What is read of what was opened.
+use Rattle.std.proofs.Common.{◌≡◌, ℕ, List, [], Option, Some, map, refl}
+use Rattle.std.proofs.lemmas.List.Elements.{All-nil}
+use Rattle.bolt_commands.proofs.Vocabulary.{AreLosses, Checked, Extent, IsListing, IsOpened, IsReadTo, IsRecovered, IsSalvaged, LossView, LostAndFound, Member, MetaChoice}
+use Rattle.bolt_commands.proofs.Vocabulary.{All, FoundView, IsFoundLeaf, LostView, Meta, Opened, all_lost, found_view, has_listing, hash_refusal, meta_of, opened_found, parts, recovery_meta}
+use Rattle.bolt_commands.proofs.{FoundAnswers.are_leaves, ReadFiles.read_trees}
+use Rattle.bolt_etcd.specs.declared.snapshot.SnapshotFault.{SnapshotFault}
+use Rattle.bolt_recover.specs.declared.recovery.Recovery.{Recovery}
+use Rattle.bolt_commands.specs.declared.opened.Opened.TheVariants as opened
+
+module _ {extent : Extent} {file : List ℕ} {choice : MetaChoice} {listing : List Member} where
+  pub sound_read : (checked : Checked) → IsOpened extent file choice (opened.Sound checked) → IsListing file (meta_of checked) listing
+      → IsReadTo extent file choice (meta_of checked) listing (parts []) []
+  sound_read checked (first, of) is = rw first (of.under, is, refl, refl)
+
+  pub recovered_read : (recovery : Recovery) {losses : List LossView} → IsOpened extent file choice (opened.Recovered recovery)
+      → IsRecovered file (recovery_meta recovery) listing → AreLosses file (recovery_meta recovery) losses
+      → IsReadTo extent file choice (recovery_meta recovery) listing (parts losses) []
+  recovered_read recovery (to, of) is are = rw to (of.under, is, (_, are, refl), refl)
+
+  pub searched_read : (both : LostAndFound) → IsOpened extent file choice (opened.Searched both)
+      → IsSalvaged file both.meta listing (all_lost both) (map found_view both.found.items)
+      → IsReadTo extent file choice both.meta listing (all_lost both) (map found_view both.found.items)
+  searched_read both (to, of) is = rw to (of.under, is)
+
+-- a sound file alone is refused for its hash
+pub refused_read : (extent : Extent) (file : List ℕ) (choice : MetaChoice) (o : Opened) → IsOpened extent file choice o → (hash : Option SnapshotFault) (fault : SnapshotFault)
+    → hash_refusal extent hash ≡ Some fault
+    → (meta : Meta) × (listing : List Member) × (lost : LostView) × (found : List FoundView) × IsReadTo extent file choice meta listing lost found
+refused_read extent file choice (opened.Sound checked) to hash fault is =
+    let (listing, lists) = has_listing file (meta_of checked) (read_trees _ _ _ to.1.under) in (_, _, _, _, sound_read checked to lists)
+refused_read extent file choice (opened.Recovered recovery) to hash fault is = absurd (let none = rw to.0 at is in cc)
+refused_read extent file choice (opened.Searched both) to hash fault is = absurd (let none = rw to.0 at is in cc)
+
+-- what is found are leaves
+pub found_leaves : (extent : Extent) (file : List ℕ) (choice : MetaChoice) (o : Opened) → IsOpened extent file choice o → All IsFoundLeaf (opened_found o)
+found_leaves extent file choice (opened.Sound checked) to = All-nil IsFoundLeaf
+found_leaves extent file choice (opened.Recovered recovery) to = All-nil IsFoundLeaf
+found_leaves extent file choice (opened.Searched both) to = are_leaves file both.meta both.found.items to.1.views
