@@ -1,5 +1,5 @@
 -- The figures of a bucket's buckets, added up entry by entry.
-use Rattle.std.proofs.Common.{◌≡◌, ◌∙◌, ◌⊎◌, inl, inr, ap, ℕ, Vec, length, List, [], ◌∷◌, None, Option, Some, false, is_some, option_map, refl, sym, subst, true}
+use Rattle.std.proofs.Common.{◌≡◌, ◌⊎◌, inl, inr, ap, ℕ, Vec, length, List, [], ◌∷◌, None, Option, Some, false, is_some, option_map, refl, sym, subst, true}
 use Rattle.bolt_commands.proofs.Vocabulary.{AddsEntry, AreEntries, Bucket, Checked, EntryView, Failure, FigureForm, ForEntries, HasSoundTrees, HasStats, IsStatsAnswer, IsTotal, LeadsTo, LeafElement, Meta, Path, Root_page, Start, Stats, add_stats, bucket_checked, bucket_start, bytes_of, entries_of, meta_of, no_stats, path_in, props, refused, ∥∥₁_elim, ∥∥₁_map}
 use Rattle.bolt_tree.specs.{Lookups.IsBucketOf, ShownEntries.shown_entry, declared.entry.Entry.Entry}
 use Rattle.bolt_commands.proofs.AtPaths.{at_path, no_parts}

@@ -1,5 +1,5 @@
-use Rattle.std.proofs.Common.{◌≡◌, ◌∙◌, ap, refl, rules, sym}
-use Rattle.bolt_commands.proofs.Vocabulary.{bucket_checked, bucket_start, bytes_of, cursor_checked, cursor_place, cursor_start, entries_left, fewer_left}
+use Rattle.std.proofs.Common.{◌≡◌, ◌∙◌, refl, rules, sym}
+use Rattle.bolt_commands.proofs.Vocabulary.{bucket_checked, bytes_of, fewer_left}
 use Rattle.bolt_commands.proofs.Vocabulary.{meta_of, next_shows, next_stands, no_stats}
 use Rattle.bolt_commands.proofs.StatsAnswers.{adds_bucket, adds_none, shown_none, shown_some, total_more}
 use Rattle.bolt_report.proofs.SizeLemmas.{stands_on}
