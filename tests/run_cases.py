@@ -73,6 +73,7 @@ WAYS = {
     "opens": (path, move),
     "compares": (path, move),
     "under": (path, key),
+    "enters": (path, key),
     "begins": (path, key),
     "between": (path, key),
     "bucket": (key,),

@@ -1,21 +1,28 @@
 -- The figures of a bucket's buckets, added up entry by entry.
-use Rattle.std.proofs.Common.{◌≡◌, ◌∙◌, ◌⊎◌, inl, inr, ap, ℕ, Vec, length, List, [], ◌∷◌, Some, refl, sym, subst}
-use Rattle.bolt_commands.proofs.Vocabulary.{AddsEntry, AreEntries, Bucket, Checked, Failure, FigureForm, ForEntries, HasSoundTrees, HasStats, IsBucketAt, IsStatsAnswer, IsTotal, Key, LeadsTo, LeafElement, Meta, Path, Root_page, Start, Stats, add_stats, bucket_checked, bucket_start, bytes_of, entries_of, entry_once, meta_of, no_stats, path_in, props, refused, the_entries, ∥∥₁_elim, ∥∥₁_map}
+use Rattle.std.proofs.Common.{◌≡◌, ◌⊎◌, inl, inr, ap, ℕ, Vec, length, List, [], ◌∷◌, None, Option, Some, false, is_some, option_map, refl, sym, subst, true}
+use Rattle.bolt_commands.proofs.Vocabulary.{AddsEntry, AreEntries, Bucket, Checked, EntryView, Failure, FigureForm, ForEntries, HasSoundTrees, HasStats, IsStatsAnswer, IsTotal, LeadsTo, LeafElement, Meta, Path, Root_page, Start, Stats, add_stats, bucket_checked, bucket_start, bytes_of, entries_of, meta_of, no_stats, path_in, props, refused, ∥∥₁_elim, ∥∥₁_map}
+use Rattle.bolt_tree.specs.{Lookups.IsBucketOf, ShownEntries.shown_entry, declared.entry.Entry.Entry}
 use Rattle.bolt_commands.proofs.AtPaths.{at_path, no_parts}
 use Rattle.bolt_stats.specs.StatsOf.{IsStatsOf}
 use Rattle.bolt_commands.specs.declared.failure.Failure.TheVariants as failure
 
--- the figures of the bucket under a key are those of the entry with that key
-pub adds_found : (bucket inner : Bucket) (key : Key) (own before sum : Stats) (e : LeafElement) → bucket_checked inner ≡ bucket_checked bucket
-    → IsBucketAt (entries_of (bucket_checked bucket)) (bucket_start bucket) key (Some inner)
+-- an entry that is a bucket adds its figures, and a value none
+pub adds_bucket : (inner : Bucket) (checked : Checked) (own before sum : Stats) (e : LeafElement) → bucket_checked inner ≡ checked → IsBucketOf (Some e) (Some inner)
     → ∥ IsStatsOf (bytes_of (bucket_checked inner)) (meta_of (bucket_checked inner)) (bucket_start inner) own ∥₁ → sum ≡ add_stats before own
-    → entries_of (bucket_checked bucket) (bucket_start bucket) e → e.key ≡ key
-    → ∥ AddsEntry (bytes_of (bucket_checked bucket)) (meta_of (bucket_checked bucket)) e before sum ∥₁
-adds_found bucket inner key own before sum e same found stats is entry named =
-    let (entries, known) = the_entries bucket in
-    ∥∥₁_elim known (hlevel props) (λ are. ∥∥₁_elim found (hlevel props) (λ (x, there, key_is, is_bucket, start, sequence). ∥∥₁_map (rw same at stats) (λ own_are.
-    let one = entry_once (entries_of (bucket_checked bucket)) (bucket_start bucket) entries are x e there entry (key_is ∙ sym named) in
-    rw is (subst (λ (y : LeafElement). AddsEntry (bytes_of (bucket_checked bucket)) (meta_of (bucket_checked bucket)) y before (add_stats before own)) one (rw is_bucket (own, rw start at own_are, refl))))))
+    → ∥ AddsEntry (bytes_of checked) (meta_of checked) e before sum ∥₁
+adds_bucket inner checked own before sum e same is stats added = ∥∥₁_map (rw same at stats) (λ own_are. rw added (rw is.0 (own, rw is.1 at own_are, refl)))
+
+pub adds_none : (file : List ℕ) (meta : Meta) (before : Stats) (e : LeafElement) → IsBucketOf (Some e) None → ∥ AddsEntry file meta e before before ∥₁
+adds_none file meta before e plain = rw plain (∣ refl ∣₁)
+
+-- what a test of a move's result says of what is shown
+pub shown_some : (found : Option Entry) → is_some found ≡ true → (x : EntryView) × (option_map shown_entry found ≡ Some x)
+shown_some None some = absurd (cc)
+shown_some (Some entry) some = (shown_entry entry, refl)
+
+pub shown_none : (found : Option Entry) → is_some found ≡ false → option_map shown_entry found ≡ None
+shown_none None none = refl
+shown_none (Some entry) none = absurd (cc)
 
 -- what is left makes the whole, so it does with the next entry
 pub total_more : (file : List ℕ) (meta : Meta) (old new : List LeafElement) (e : LeafElement) (before after total : Stats) → old ≡ e ∷ new

@@ -54,8 +54,8 @@ pub use Rattle.bolt_stats.specs.{Figures.add_stats}
 pub use Rattle.bolt_text.specs.{declared.forms.ListForm.ListForm, declared.forms.Form.TheVariants.Json, declared.forms.FigureForm.FigureForm}
 pub use Rattle.bolt_stats.specs.{declared.figures.Stats.Stats}
 pub use Rattle.bolt_etcd.specs.SnapshotFaults.{IsSnapshot, cut_hash_fault, hash_fault, snapshot_of}
-pub use Rattle.bolt_tree.proofs.Leaving.{fewer_left, next_shows, the_entries}
-pub use Rattle.bolt_tree.proofs.Named.{entry_once, held_down, held_up, names_push}
+pub use Rattle.bolt_tree.proofs.Leaving.{fewer_left, next_shows, next_stands, the_entries}
+pub use Rattle.bolt_tree.proofs.Named.{held_down, held_up, names_push}
 pub use Rattle.bolt_tree.proofs.{Existing.has_listing, Filters.filter_all}
 pub use Rattle.bolt_tree.specs.Buckets.{bucket_checked, bucket_start}
 pub use Rattle.bolt_tree.specs.Cursors.{cursor_checked, cursor_place, cursor_start}

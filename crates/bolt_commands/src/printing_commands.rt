@@ -2,11 +2,11 @@
 //! `keys`, `get` and `stats`.
 ghost use Rattle.std.specs.Prelude.{◌≡◌, ◌⊎◌, IfErr, IfOk, true};
 ghost use Rattle.bolt_check.specs.{CheckedFiles.bytes_of, CheckedFiles.has_accounts, CheckedFiles.meta_of, RoledFiles.roles_checked, Sound.HasSoundTrees};
-ghost use Rattle.bolt_format.specs.{Elements.LeafElement, Endings.ending, Wrote.Wrote};
+ghost use Rattle.bolt_format.specs.{Endings.ending, Wrote.Wrote};
 ghost use Rattle.bolt_report.specs.{PageTables.ForRoles};
 ghost use Rattle.bolt_text.specs.{ReportEndings.report_ending};
-ghost use Rattle.bolt_tree.specs.{Buckets.bucket_checked, Buckets.bucket_start, BucketViews.entries_of, Entries.Start, Entries.Value, EntriesLeft.ForEntries};
-ghost use Rattle.bolt_commands.specs.Answers.{AddsEntry, HasNoMeta, HasStats, HoldsIn, HoldsNone, IsBucketsPrint, IsGetPrint, IsInfoAnswer};
+ghost use Rattle.bolt_tree.specs.{Buckets.bucket_checked, Buckets.bucket_start, Entries.Start, Entries.Value, EntriesLeft.ForEntries};
+ghost use Rattle.bolt_commands.specs.Answers.{HasNoMeta, HasStats, HoldsIn, HoldsNone, IsBucketsPrint, IsGetPrint, IsInfoAnswer};
 ghost use Rattle.bolt_commands.specs.Answers.{IsKeysPrint, IsPageAnswer, IsPagesAnswer, IsReadAnswer, IsShownMeta, IsStatsPrint, IsTotal, LeadsTo, no_stats, pages_shown, value_shown};
 ghost use Rattle.bolt_commands.specs.Private.Printing.{PrintsAnswer, shown_of};
 ghost use Rattle.bolt_job.specs.{PlainWords.path_in, declared.choices.MetaChoice.TheVariants.Active};
@@ -162,24 +162,10 @@ fn sum_buckets(alloc: Global, bucket: &Bucket<'_>) -> Result<Stats, NoMemory>
 {
     let mut total = Stats::default();
     let mut cursor = bucket.cursor();
-    'rest: while let Some(entry) = cursor.next() {
-        total = add_entry(alloc, bucket, entry.key, total)?;
+    'rest: while cursor.next().is_some() {
+        if let Some(inner) = bucket.bucket_at(&cursor) {
+            total = add(total, stats(alloc, &inner)?);
+        }
     }
     Ok(total)
-}
-
-/// Adds the figures of the entry with this key, if it is a bucket.
-fn add_entry(
-    alloc: Global,
-    bucket: &Bucket<'_>,
-    key: &[u8],
-    total: Stats,
-) -> Result<Stats, NoMemory>
-    ensures { IfOk result (λ sum. (e : LeafElement) → entries_of (bucket_checked bucket.now) (bucket_start bucket.now) e → e.key ≡ key.now
-        → ∥ AddsEntry (bytes_of (bucket_checked bucket.now)) (meta_of (bucket_checked bucket.now)) e total sum ∥₁) }
-{
-    match bucket.bucket(key) {
-        Some(inner) => Ok(add(total, stats(alloc, &inner)?)),
-        None => Ok(total),
-    }
 }

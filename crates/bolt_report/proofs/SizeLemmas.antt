@@ -1,13 +1,10 @@
 -- The lines of the buckets among entries, entry by entry.
-use Rattle.std.proofs.Common.{◌≡◌, ◌∙◌, ℕ, zero, suc, drop, Bool, true, false, List, [], ◌∷◌, ◌++◌, Some, ap, append-nil, cond, filter, map, refl, subst, sym, rules}
+use Rattle.std.proofs.Common.{◌≡◌, ◌∙◌, ℕ, Bool, true, false, List, [], ◌∷◌, ◌++◌, None, Option, Some, ap, append-nil, cond, filter, map, refl, subst, sym}
 use Rattle.std.proofs.lemmas.Grind.{flat_map-append}
-use Rattle.bolt_report.proofs.Words.{AllByRecursion, AreSized, bucket_checked, bucket_start, bytes_of, Checked, Contains, contains_head, contains_tail, entries_left, entry_view, EntryView, Form, IsStatsOf, Key, LeafElement, Meta, meta_of, On, Past, Place, props, Sized, sizes_text, Start, start_of, Stats, the_entries, ∥∥₁_elim}
-use Rattle.bolt_tree.specs.BucketViews.{entries_of}
-use Rattle.bolt_tree.specs.Entries as items
-use Rattle.bolt_tree.specs.{Entries.item_of, Lookups.IsBucketAt, Places.Fresh, declared.bucket.Bucket.Bucket}
-use Rattle.bolt_tree.proofs.Named.{entry_once}
+use Rattle.bolt_report.proofs.Words.{AllByRecursion, AreSized, bucket_checked, bucket_start, bytes_of, Checked, Form, IsStatsOf, Key, LeafElement, Meta, meta_of, Place, Sized, sizes_text, Start, start_of, Stats}
+use Rattle.bolt_tree.specs.{Entries.AreEntries, Lookups.IsBucketOf, Lookups.IsBucketOn, Places.entry_at, declared.bucket.Bucket.Bucket}
 use Rattle.bolt_report.specs.SizeLines.{size_line, size_text}
-use Rattle.bolt_stats.proofs.StatsOnce.{one_stats}
+use Rattle.bolt_stats.specs.StatsOf.{AreStats}
 
 abbrev pub buckets_of : List LeafElement → List LeafElement
 buckets_of entries = filter (λ (e : LeafElement). e.is_bucket) entries
@@ -52,54 +49,32 @@ module _ (file : List ℕ) (meta : Meta) where
   pub cut : (e : LeafElement) (entries : List LeafElement) (sized : List Sized) → AreSized file meta (e ∷ entries) sized → Cut e entries sized
   cut e entries sized are = cut_by e entries e.is_bucket refl sized are.buckets are.stats
 
-  -- ---- the line of one bucket
+-- ---- the entry that a cursor is on
 
-  same_stats : (e : LeafElement) (own : Stats) (s : Sized) → s.entry ≡ e → IsStatsOf file meta (start_of e.value) own → HasStats s → own ≡ s.stats
-  same_stats e own s is known stats =
-      one_stats file meta (start_of e.value) own s.stats known (subst (λ (x : LeafElement). IsStatsOf file meta (start_of x.value) s.stats) is stats)
+-- its bucket, if it is one
+pub stands_on : (Entry : Start → LeafElement → Type 0) (from to : Start) (place : Place) (found : Option Bucket) → from ≡ to → IsBucketOn Entry from place found
+    → (entries : List LeafElement) → AreEntries Entry to entries → (e : LeafElement) → entry_at entries place ≡ Some e → IsBucketOf (Some e) found
+stands_on Entry from to place found same here entries are e at =
+    subst (λ (o : Option LeafElement). IsBucketOf o found) at (here entries (subst (λ (s : Start). AreEntries Entry s entries) (sym same) are))
 
-  one_line : (form : Form) (e : LeafElement) (own : Stats) (sized : List Sized) → IsStatsOf file meta (start_of e.value) own
-      → map (λ (s : Sized). s.entry) sized ≡ e ∷ [] → AllByRecursion HasStats sized → size_text form own e.key ≡ sizes_text form sized
-  one_line form e own [] known same stats = cc
-  one_line form e own (s ∷ t ∷ sized) known same stats = cc
-  one_line form e own (s ∷ []) known same stats =
-      let head : s.entry ≡ e = cc in
-      rw (same_stats e own s head known stats.0, ← head) (sym (append-nil (size_line form s)))
-
-  pub line_of : (form : Form) (e : LeafElement) (own : Stats) (sized : List Sized) → e.is_bucket ≡ true → IsStatsOf file meta (start_of e.value) own
-      → AreSized file meta (e ∷ []) sized → size_text form own e.key ≡ sizes_text form sized
-  line_of form e own sized is known are = one_line form e own sized known (are.buckets ∙ by_kind e [] true is) are.stats
-
--- ---- the entry that a cursor shows
-
--- the line of the bucket that was found under the key of an entry
-pub line_found : (bucket inner : Bucket) (form : Form) (key : Key) (own : Stats) (e : LeafElement) (sized : List Sized) → bucket_checked inner ≡ bucket_checked bucket
-    → IsBucketAt (entries_of (bucket_checked bucket)) (bucket_start bucket) key (Some inner)
-    → ∥ IsStatsOf (bytes_of (bucket_checked inner)) (meta_of (bucket_checked inner)) (bucket_start inner) own ∥₁
-    → entries_of (bucket_checked bucket) (bucket_start bucket) e → key ≡ e.key
-    → AreSized (bytes_of (bucket_checked bucket)) (meta_of (bucket_checked bucket)) (e ∷ []) sized
-    → size_text form own key ≡ sizes_text form sized
-line_found bucket inner form key own e sized same found stats entry named sized_are =
-    let file : List ℕ = bytes_of (bucket_checked bucket) in
-    let meta : Meta = meta_of (bucket_checked bucket) in
-    let (entries, known) = the_entries bucket in
-    let its_stats = subst (λ (c : Checked). ∥ IsStatsOf (bytes_of c) (meta_of c) (bucket_start inner) own ∥₁) same stats in
-    ∥∥₁_elim known (hlevel props) (λ are. ∥∥₁_elim found (hlevel props) (λ (x, there, key_is, is_bucket, start, sequence). ∥∥₁_elim its_stats (hlevel props) (λ own_are.
-    let one = entry_once (entries_of (bucket_checked bucket)) (bucket_start bucket) entries are x e there entry (key_is ∙ named) in
-    let at = subst (λ (s : Start). IsStatsOf file meta s own) start own_are in
-    ap (λ (k : Key). size_text form own k) named
-    ∙ line_of file meta form e own sized (subst (λ (y : LeafElement). y.is_bucket ≡ true) one is_bucket)
-    (subst (λ (y : LeafElement). IsStatsOf file meta (start_of y.value) own) one at) sized_are)))
-
-in_rest : (n : ℕ) (entries : List LeafElement) (e : LeafElement) (left : List LeafElement) → drop n entries ≡ e ∷ left → Contains entries e
-in_rest zero entries e left is = subst (λ (xs : List LeafElement). Contains xs e) (sym is) (contains_head e left)
-in_rest (suc n) [] e left is = absurd (search (rules, is))
-in_rest (suc n) (x ∷ entries) e left is = contains_tail x e entries (in_rest n entries e left is)
-
-pub first_left : (entries : List LeafElement) (place : Place) (e : LeafElement) (left : List LeafElement) → entries_left entries place ≡ e ∷ left → Contains entries e
-first_left entries Fresh e left is = in_rest zero entries e left is
-first_left entries (On i) e left is = in_rest (suc i) entries e left is
-first_left entries Past e left is = absurd (search (rules, is))
+-- the line of its bucket
+pub bucket_line : (inner : Bucket) (checked : Checked) (form : Form) (name : Key) (e : LeafElement) (sized : List Sized) → bucket_checked inner ≡ checked → IsBucketOf (Some e) (Some inner)
+    → name ≡ e.key → AreSized (bytes_of checked) (meta_of checked) (e ∷ []) sized → (own : Stats) × AreStats inner own × (size_text form own name ≡ sizes_text form sized)
+bucket_line inner checked form name e sized same is named are = by_sized sized (are.buckets ∙ by_kind e [] true is.0) are.stats
+  where
+    by_sized : (sized : List Sized) → map (λ (s : Sized). s.entry) sized ≡ e ∷ [] → AllByRecursion (HasStats (bytes_of checked) (meta_of checked)) sized
+        → (own : Stats) × AreStats inner own × (size_text form own name ≡ sizes_text form sized)
+    by_sized [] one stats = cc
+    by_sized (s ∷ t ∷ sized) one stats = cc
+    by_sized (s ∷ []) one stats =
+        let head : s.entry ≡ e = cc in
+        let start : start_of s.entry.value ≡ bucket_start inner = ap (λ (x : LeafElement). start_of x.value) head ∙ sym is.1 in
+        let key : name ≡ s.entry.key = named ∙ ap (λ (x : LeafElement). x.key) (sym head) in (
+          s.stats,
+          subst (λ (c : Checked). IsStatsOf (bytes_of c) (meta_of c) (bucket_start inner) s.stats) (sym same)
+              (subst (λ (t : Start). IsStatsOf (bytes_of checked) (meta_of checked) t s.stats) start stats.0),
+          rw key (sym (append-nil (size_line form s))),
+        )
 
 -- the text of what is left is the text of its first entry, and then the rest
 pub cut_text : (form : Form) (left own rest : List Sized) → left ≡ own ++ rest → sizes_text form left ≡ sizes_text form own ++ sizes_text form rest
@@ -111,14 +86,6 @@ no_line file meta form entries [] none are = refl
 no_line file meta form entries (s ∷ sized) none are =
     absurd (let c : s.entry ∷ map (λ (s : Sized). s.entry) sized ≡ [] = are.buckets ∙ ap buckets_of none in cc)
 
--- an entry that shows a value is no bucket
-value_entry : (e : LeafElement) (b : Bool) (value : List ℕ) → e.is_bucket ≡ b → item_of e ≡ items.Value value → b ≡ false
-value_entry e false value is item = refl
-value_entry e true value is item = let bucket = rw is at item in absurd (cc)
-
--- and has no line
-pub no_value_line : (file : List ℕ) (meta : Meta) (form : Form) (e : LeafElement) (v : EntryView) (value : List ℕ) (sized : List Sized)
-    → v ≡ entry_view e → v.item ≡ items.Value value → AreSized file meta (e ∷ []) sized → sizes_text form sized ≡ []
-no_value_line file meta form e v value sized shown item are =
-    let plain = value_entry e e.is_bucket value refl (sym (ap (λ (w : EntryView). w.item) shown) ∙ item) in
-    no_line file meta form [] sized refl (record { buckets = are.buckets ∙ by_kind e [] false plain; stats = are.stats })
+-- a value has no line
+pub value_line : (file : List ℕ) (meta : Meta) (form : Form) (e : LeafElement) (sized : List Sized) → IsBucketOf (Some e) None → AreSized file meta (e ∷ []) sized → sizes_text form sized ≡ []
+value_line file meta form e sized plain are = no_line file meta form [] sized refl (record { buckets = are.buckets ∙ by_kind e [] false plain; stats = are.stats })

@@ -36,7 +36,7 @@ pub use Rattle.bolt_text.specs.declared.fault.ReportFault.{ReportFault}
 pub use Rattle.bolt_text.specs.declared.forms.Form.{Form}
 pub use Rattle.bolt_text.specs.declared.forms.ListForm.{ListForm}
 pub use Rattle.bolt_tree.proofs.Filters.{not_true}
-pub use Rattle.bolt_tree.proofs.Leaving.{fewer_left, next_shows, the_entries}
+pub use Rattle.bolt_tree.proofs.Leaving.{fewer_left, next_shows, next_stands, the_entries}
 pub use Rattle.bolt_tree.proofs.Lists.{contains_head, contains_tail}
 pub use Rattle.bolt_tree.specs.Buckets.{bucket_checked, bucket_start}
 pub use Rattle.bolt_tree.specs.Cursors.{cursor_bucket, cursor_opened, cursor_place}

@@ -1,9 +1,9 @@
 //! The sizes of the buckets in a bucket as a text.
-ghost use Rattle.std.specs.Prelude.{◌≡◌, ◌∷◌, ◌++◌, ◌⊎◌, [], IfErr, List, true};
-ghost use Rattle.bolt_format.specs.{Elements.LeafElement, Endings.ending, Wrote.Wrote};
+ghost use Rattle.std.specs.Prelude.{◌≡◌, ◌++◌, ◌⊎◌, IfErr, List, true};
+ghost use Rattle.bolt_format.specs.{Endings.ending, Wrote.Wrote};
 ghost use Rattle.bolt_check.specs.CheckedFiles.{bytes_of, meta_of};
-ghost use Rattle.bolt_tree.specs.{BucketViews.entries_of, Buckets.bucket_checked, Buckets.bucket_start, Entries.entry_view, EntriesLeft.ForEntries};
-ghost use Rattle.bolt_tree.specs.ShownEntries.{shown_entry};
+ghost use Rattle.bolt_stats.specs.StatsOf.{AreStats};
+ghost use Rattle.bolt_tree.specs.{Buckets.bucket_checked, Buckets.bucket_start, EntriesLeft.ForEntries};
 ghost use Rattle.bolt_text.specs.{Forms.value_text, Forms.is_json, Forms.json_in, Forms.json_text, ReportEndings.report_ending};
 ghost use Rattle.bolt_report.specs.SizeLines.{AreSized, Sized, bytes_allocated, bytes_used, size_columns, size_text, sizes_text, size_json, size_members};
 ghost use Rattle.bolt_text.specs.Lines.{line};
@@ -11,7 +11,7 @@ ghost use Rattle.bolt_text.specs.Lines.{line};
 use bolt_format::{Sink, SinkFault};
 use bolt_stats::{Stats, stats};
 use bolt_text::{Form, ItemWriter, Piece, ReportFault, put, put_pieces};
-use bolt_tree::{Bucket, Entry, Item};
+use bolt_tree::Bucket;
 use std::alloc::Global;
 
 /// Writes the sizes of those entries of a bucket that are buckets, a line for each, in byte order
@@ -39,35 +39,27 @@ pub fn sizes<S: Sink>(
     let mut cursor = bucket.cursor();
     let mut items = ItemWriter::new(alloc, form);
     'rest: while let Some(entry) = cursor.next() {
-        put_entry(alloc, bucket, &entry, &mut items, sink)?;
+        if let Some(inner) = bucket.bucket_at(&cursor) {
+            put_bucket(alloc, &inner, entry.key, &mut items, sink)?;
+        }
     }
     Ok(())
 }
 
-/// Writes the line of an entry of the bucket, if it is a bucket.
-fn put_entry<S: Sink>(
+/// Writes the line of a bucket with this name.
+fn put_bucket<S: Sink>(
     alloc: Global,
     bucket: &Bucket<'_>,
-    entry: &Entry<'_>,
+    name: &[u8],
     items: &mut ItemWriter,
     sink: &mut S,
 ) -> Result<(), ReportFault>
     ensures form { items.new.form ≡ items.old.form }
-    ensures written { (e : LeafElement) → entries_of (bucket_checked bucket.now) (bucket_start bucket.now) e → shown_entry entry.now ≡ entry_view e
-        → (sized : List Sized) → AreSized (bytes_of (bucket_checked bucket.now)) (meta_of (bucket_checked bucket.now)) (e ∷ []) sized
-        → Wrote S.Sink sink.old sink.new (sizes_text items.old.form sized) (report_ending result) }
+    ensures written { (own : Stats) → AreStats bucket.now own → Wrote S.Sink sink.old sink.new (size_text items.old.form own name.now) (report_ending result) }
     ensures fault { IfErr result (λ fault. (fault ≡ ReportFault.Sink) ⊎ (fault ≡ ReportFault.NoMemory)) }
 {
-    if let Item::Value(_) = entry.item {
-        return Ok(());
-    }
-    match bucket.bucket(entry.key) {
-        Some(inner) => {
-            let stats = stats(alloc, &inner)?;
-            put_size(&stats, entry.key, items, sink)
-        }
-        None => Ok(()),
-    }
+    let stats = stats(alloc, bucket)?;
+    put_size(&stats, name, items, sink)
 }
 
 /// Writes the line of the bucket with these figures and this name.

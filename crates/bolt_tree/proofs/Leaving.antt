@@ -3,7 +3,7 @@
 use Rattle.std.proofs.Common.{◌≡◌, ◌∙◌, ◌<◌, ℕ, suc, List, [], ◌∷◌, length, drop, nat_lt, Option, Some, None, refl, sym, ap, subst, arith}
 use Rattle.bolt_tree.proofs.Words.{AreEntries, Bucket, Checked, EntryView, Fresh, LeafElement, On, Past, Place, ShowsMove, Start, bucket_checked, bucket_start, bytes_of, drop_all, drop_at, entries_of, entry_view, meta_of, next_move, option_map, place_in, props, ∥∥₁_elim, ∥∥₁_prop}
 use mathlib.Core.HLevel.{Σ_prop_path}
-use Rattle.bolt_tree.specs.EntriesLeft.{ForEntries, entries_left}
+use Rattle.bolt_tree.specs.{EntriesLeft.ForEntries, EntriesLeft.entries_left, Places.entry_at}
 use Rattle.bolt_tree.proofs.{CursorMoves.ComesTo, CursorMoves.by_length, CursorMoves.comes_first, Looking.own_entries, SortedLemmas.sorted_one}
 
 -- the entries of a bucket in order, taken out of what is only known to be
@@ -61,6 +61,38 @@ next_shows a b s t before after x file start moves entries are =
     let (p, shown) = here entries are in
     shows_first (entries_left entries before) (entries_left entries after) x (next_move entries (place_in entries before)).answer shown
     (next_takes entries before after (next_move entries (place_in entries before)).answer (p, refl))
+
+-- ---- where a cursor is then: on what was returned
+
+at_place : (entries : List LeafElement) (n : ℕ) (place : Place) (e : LeafElement) → ComesTo entries n place (Some e) → entry_at entries place ≡ Some e
+at_place entries n place e (on, at) = rw on at
+
+next_at : (entries : List LeafElement) (before after : Place) (e : LeafElement)
+    → (place_in entries after ≡ (next_move entries (place_in entries before)).place) × (Some e ≡ (next_move entries (place_in entries before)).answer)
+    → entry_at entries after ≡ Some e
+next_at [] before after e (p, a) = absurd (let c : Some e ≡ None = a in cc)
+next_at (x ∷ entries) Fresh after e moved = at_place (x ∷ entries) 0 after e (comes_first (x ∷ entries) after (Some e) moved)
+next_at (x ∷ entries) (On i) after e (p, a) = at_place (x ∷ entries) (suc i) after e (by_length (x ∷ entries) (suc i) (On i) after (Some e) (nat_lt (suc i) (length (x ∷ entries))) refl p a)
+next_at (x ∷ entries) Past after e (p, a) = absurd (let c : Some e ≡ None = a in cc)
+
+-- the first of what was left is shown, and the cursor is on it
+abbrev pub StandsOnFirst : List LeafElement → (before after : Place) → EntryView → Type 0
+StandsOnFirst entries before after x =
+    (e : LeafElement) × (x ≡ entry_view e) × (entries_left entries before ≡ e ∷ entries_left entries after) × (entry_at entries after ≡ Some e)
+
+stands_by : (entries : List LeafElement) (before after : Place) (x : EntryView) (o : Option LeafElement) → Some x ≡ option_map entry_view o
+    → (place_in entries after ≡ (next_move entries (place_in entries before)).place) × (o ≡ (next_move entries (place_in entries before)).answer)
+    → StandsOnFirst entries before after x
+stands_by entries before after x None shown moved = absurd (let c : Some x ≡ None = shown in cc)
+stands_by entries before after x (Some e) shown moved =
+    (e, (let c : Some x ≡ Some (entry_view e) = shown in cc), next_takes entries before after (Some e) moved, next_at entries before after e moved)
+
+pub next_stands : (a b : Checked) (s t : Start) (before after : Place) (x : EntryView) → a ≡ b → s ≡ t → ShowsMove (entries_of a) s next_move before after (Some x)
+    → ForEntries b t (λ entries. StandsOnFirst entries before after x)
+next_stands a b s t before after x file start moves entries are =
+    let here = subst (λ (f : Checked). ShowsMove (entries_of f) t next_move before after (Some x)) file (subst (λ (q : Start). ShowsMove (entries_of a) q next_move before after (Some x)) start moves) in
+    let (p, shown) = here entries are in
+    stands_by entries before after x (next_move entries (place_in entries before)).answer shown (p, refl)
 
 -- and so fewer are left
 pub fewer_left : (bucket : Bucket) (file : Checked) (start : Start) (before after : Place) (x : EntryView) → file ≡ bucket_checked bucket → start ≡ bucket_start bucket

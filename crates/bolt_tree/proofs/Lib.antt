@@ -38,6 +38,7 @@ mod Seeking
 pub mod Single
 pub mod SortedLemmas
 pub mod StackLemmas
+mod Standing
 pub mod TourLemmas
 pub mod TrailLemmas
 mod TreeListing

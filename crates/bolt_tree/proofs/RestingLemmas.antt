@@ -31,6 +31,9 @@ resting_bucket trail is_past resting = stack_bucket (trail_bucket trail) (trail_
 pub resting_rest : (trail : Trail) (is_past : Bool) → ∥ IsResting trail is_past ∥₁ → IsAtRest (trail_frames trail)
 resting_rest trail is_past resting = ∥∥₁_elim resting (rest_prop (trail_frames trail)) (λ h. h.rest)
 
+pub past_empty : (trail : Trail) (is_past : Bool) → ∥ IsResting trail is_past ∥₁ → is_past ≡ true → trail_frames trail ≡ []
+past_empty trail is_past resting past = ∥∥₁_elim resting (Prim.hlevel props) (λ h. h.empty past)
+
 pub not_past : (trail : Trail) (is_past : Bool) → ∥ IsResting trail is_past ∥₁ → (trail_frames trail ≡ [] → ⊥) → is_past ≡ false
 not_past trail false resting h = refl
 not_past trail true resting h = absurd (h (∥∥₁_elim resting (Prim.hlevel props) (λ k. k.empty refl)))

@@ -56,6 +56,16 @@ seek_move key [] = nothing_at Fresh
 seek_move key (e ∷ entries) =
     if nat_lt (least_from key (e ∷ entries)) (length (e ∷ entries)) then onto (e ∷ entries) (least_from key (e ∷ entries)) else nothing_at Past
 
+-- the entry at a place, if there is one
+abbrev pub entry_at : List LeafElement → Place → Option LeafElement
+entry_at entries Fresh = None
+entry_at entries (On i) = slice_get entries i
+entry_at entries Past = None
+
+-- this is the entry at a place, whatever the bucket's entries in order are
+abbrev pub IsEntryAt : (Start → LeafElement → Type 0) → Start → Place → Option LeafElement → Type 0
+IsEntryAt Entry bucket place found = (entries : List LeafElement) → AreEntries Entry bucket entries → found ≡ entry_at entries place
+
 -- The place of a cursor is where it is; without entries it is always fresh, wherever the cursor assumes it is.
 abbrev pub place_in : List LeafElement → Place → Place
 place_in [] stand = Fresh

@@ -27,7 +27,7 @@ pub struct Bucket<'a> {
 #[tactic(auto, unfolding(crate::specs::Buckets::bucket_checked, crate::specs::Buckets::bucket_sequence, crate::specs::Buckets::bucket_start))]
 impl<'a> Bucket<'a> {
     ghost use Rattle.bolt_tree.specs.Buckets.{bucket_checked, bucket_sequence, bucket_start};
-    ghost use Rattle.bolt_tree.specs.Lookups.{IsBucketAt, IsElementAt, IsValueAt};
+    ghost use Rattle.bolt_tree.specs.Lookups.{IsBucketAt, IsBucketOn, IsElementAt, IsValueAt};
 
     /// The root bucket.
     pub fn root(checked: Checked<'a>) -> Bucket<'a>
@@ -124,6 +124,20 @@ impl<'a> Bucket<'a> {
         ensures bucket { IsBucketAt (entries_of (bucket_checked self.now)) (bucket_start self.now) key.now result }
     {
         let leaf = self.element(key)?;
+        if !leaf.is_bucket {
+            return None;
+        }
+        Some(Bucket::of(self.checked, leaf.value))
+    }
+
+    /// The bucket of the entry that a cursor of the same file is on, or `None` if it is on no entry,
+    /// or if that entry is a value. Compares no keys, opens no page, and needs no memory.
+    pub fn bucket_at(&self, cursor: &Cursor<'a>) -> Option<Bucket<'a>>
+        requires { cursor_checked cursor.now ≡ bucket_checked self.now }
+        ensures checked { IfSome result (λ inner. bucket_checked inner ≡ bucket_checked self.now) }
+        ensures bucket { IsBucketOn (entries_of (bucket_checked self.now)) (cursor_start cursor.now) (cursor_place cursor.now) result }
+    {
+        let leaf = cursor.element()?;
         if !leaf.is_bucket {
             return None;
         }

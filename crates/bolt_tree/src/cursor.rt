@@ -5,7 +5,7 @@ ghost use Rattle.bolt_format.specs.{ElementPlaces.leaf_view, Elements.IsBucketVa
 ghost use Rattle.bolt_tree.specs.{BucketViews.entries_of, CursorBounds.OpensByNext, CursorBounds.OpensGap, CursorBounds.OpensSeek, CursorBounds.SeeksInBounds};
 ghost use Rattle.bolt_tree.specs.{Entries.entry_view, Private.Resting.IsResting, Private.Kept.IsKept, Private.Kept.kept_view};
 ghost use Rattle.bolt_tree.specs.Pagers.{pager_checked, pager_opened};
-ghost use Rattle.bolt_tree.specs.Places.{Fresh, Moves, Past, ShowsMove, first_move, last_move, next_move, prev_move, seek_move};
+ghost use Rattle.bolt_tree.specs.Places.{Fresh, IsEntryAt, Moves, Past, ShowsMove, first_move, last_move, next_move, prev_move, seek_move};
 ghost use Rattle.bolt_tree.specs.{ShownEntries.shown_entry, Starts.HasStart, Starts.start_at};
 
 use crate::at::At;
@@ -111,6 +111,14 @@ impl<'a> Cursor<'a> {
         ensures { result ≡ cursor_compared self.now }
     {
         self.compared
+    }
+
+    /// The element of the entry that it is on, or `None` if it is on none.
+    pub(crate) fn element(&self) -> Option<Leaf<'a>>
+        ensures entry { IsEntryAt (entries_of (cursor_checked self.now)) (cursor_start self.now) (cursor_place self.now) (option_map leaf_view result) }
+        ensures bucket { IfSome result (λ leaf. IsTrue leaf.is_bucket → IsBucketValue leaf.value.now) }
+    {
+        self.trail.element()
     }
 
     /// Moves to the first entry, and returns it. If there are no entries, returns `None`.

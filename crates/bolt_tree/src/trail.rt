@@ -87,6 +87,17 @@ impl<'a> Trail<'a> {
         SeekResult { found, compared }
     }
 
+    /// The element that it rests on, or `None` if the stack is empty.
+    pub fn element(&self) -> Option<Leaf<'a>>
+        requires stack { HasTrail self.now }
+        requires rest { IsAtRest (trail_frames self.now) }
+        ensures on { MatchOption result (trail_frames self.now ≡ []) (λ leaf. IsOn (trail_frames self.now) (leaf_view leaf)) }
+        ensures bucket { IfSome result (λ leaf. IsTrue leaf.is_bucket → IsBucketValue leaf.value.now) }
+    {
+        let top = self.stack.last()?;
+        Some(top.page.entry((top.taken - 1) as u16))
+    }
+
     /// Moves to the next entry if it is in the same leaf. Otherwise it stays.
     #[tactic(auto, using(crate::proofs::MoveLemmas::was, crate::proofs::TrailLemmas::nothing_here))]
     fn next_here(&mut self) -> Option<Leaf<'a>>

@@ -27,6 +27,7 @@ pub fn put_bucket(
 ) -> Result<(), Fault> {
     match verb {
         "under" => look_ups(alloc, bucket, words, text),
+        "enters" => enter_all(alloc, bucket, words, text),
         "begins" => cursors::run_prefixes(alloc, bucket, words, text),
         "between" => calls_between(alloc, bucket, words, text),
         "keys" => { Ok(keys(alloc, bucket, Form::Bytes, &mut text.sink)?) }
@@ -61,6 +62,33 @@ fn look_up(bucket: &Bucket<'_>, key: &[u8], text: &mut Text) {
         }
         (None, None) => text.word(b"-"),
         _ => text.word(b"a value and a bucket"),
+    }
+}
+
+/// What bucket a cursor is on after a seek of each of the keys.
+fn enter_all(
+    alloc: Global,
+    bucket: &Bucket<'_>,
+    words: &[String],
+    text: &mut Text,
+) -> Result<(), Fault> {
+    for word in words {
+        let key = bytes_of(alloc, word.as_str())?;
+        enter(bucket, key.as_slice(), text);
+    }
+    Ok(())
+}
+
+/// The sequence of the bucket that a cursor is on after a seek of the key, or `-`.
+fn enter(bucket: &Bucket<'_>, key: &[u8], text: &mut Text) {
+    let mut cursor = bucket.cursor();
+    let _ = cursor.seek(key);
+    match bucket.bucket_at(&cursor) {
+        Some(inner) => {
+            text.word(b":");
+            text.digits(inner.sequence());
+        }
+        None => text.word(b"-"),
     }
 }
 
@@ -102,7 +130,10 @@ fn has_memory(alloc: Global) -> bool {
 fn make_calls(alloc: Global, bucket: &Bucket<'_>, key: &[u8]) -> bool {
     let is_held = bucket.get(key).is_some() || bucket.bucket(key).is_some();
     let has_path = !Walk::new(alloc, bucket.checked()).path().is_empty();
-    call_cursor(bucket.cursor(), key) && is_held && !has_path
+    let mut cursor = bucket.cursor();
+    let is_on = cursor.seek(key).is_some();
+    let leads_same = bucket.bucket_at(&cursor).is_some() == bucket.bucket(key).is_some();
+    call_cursor(bucket.cursor(), key) && is_held && !has_path && is_on && leads_same
 }
 
 /// Makes each call of a cursor. Whether each returned an entry when it had to.

@@ -8,6 +8,7 @@
 //! | `compares PATH CALL ..` | whether keys were compared |
 //! | `begins PATH PREFIX ..` | how many pages are opened for the keys that begin with each prefix, and these |
 //! | `under PATH KEY ..` | what is under the keys |
+//! | `enters PATH KEY ..` | the sequence of the bucket that a cursor is on after a seek of each key |
 //! | `walk PATH` | the line of each member of a walk |
 //! | `depths PATH` | how many items a walk returns, and how many keys its longest path and all paths have |
 //! | `listed PATH`, `keys PATH` | what `list` writes from a path, and `keys` of a bucket |

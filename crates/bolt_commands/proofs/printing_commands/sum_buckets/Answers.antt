@@ -1,9 +1,8 @@
-use Rattle.std.proofs.Common.{◌≡◌, ◌∙◌, Some, ap, refl, rules, sym}
-use Rattle.bolt_commands.proofs.Vocabulary.{EntryView, bucket_checked, bucket_start, bytes_of, cursor_checked, cursor_place, cursor_start, entries_left, fewer_left}
-use Rattle.bolt_commands.proofs.Vocabulary.{meta_of, next_shows, no_stats}
-use Rattle.bolt_commands.proofs.StatsAnswers.{total_more}
-use Rattle.bolt_tree.specs.ShownEntries.{shown_entry}
-use Rattle.bolt_report.proofs.SizeLemmas.{first_left}
+use Rattle.std.proofs.Common.{◌≡◌, ◌∙◌, refl, rules, sym}
+use Rattle.bolt_commands.proofs.Vocabulary.{bucket_checked, bytes_of, fewer_left}
+use Rattle.bolt_commands.proofs.Vocabulary.{meta_of, next_shows, next_stands, no_stats}
+use Rattle.bolt_commands.proofs.StatsAnswers.{adds_bucket, adds_none, shown_none, shown_some, total_more}
+use Rattle.bolt_report.proofs.SizeLemmas.{stands_on}
 use Rattle.bolt_commands.proofs.printing_commands.sum_buckets.Goals as goal
 
 pub rest-init : goal.rest-init
@@ -17,26 +16,42 @@ rest-init c = record {
 
 pub rest-smaller : goal.rest-smaller
 rest-smaller c =
-    fewer_left c.args.bucket.now (cursor_checked c.rest.cursor) (cursor_start c.rest.cursor) (cursor_place c.rest.cursor) (cursor_place c.next.new.self) (shown_entry c.in-Some.entry)
-    c.rest.invariant.checked c.rest.invariant.start c.in-Some.ensures.moves
+    let (x, shown) = shown_some c.next.result (sym c.is_some.ensures ∙ c.rest-test.true) in
+    fewer_left c.args.bucket.now _ _ _ _ x c.rest.invariant.checked c.rest.invariant.start (rw shown at c.next.ensures.moves)
+
+pub rest-smaller-in-Some : goal.rest-smaller-in-Some
+rest-smaller-in-Some c =
+    let (x, shown) = shown_some c.next.result (sym c.is_some.ensures ∙ c.rest-test.true) in
+    fewer_left c.args.bucket.now _ _ _ _ x c.rest.invariant.checked c.rest.invariant.start (rw shown at c.next.ensures.moves)
 
 pub rest-preserved : goal.rest-preserved
 rest-preserved c = record {
-  checked = c.in-Some.ensures.checked ∙ c.rest.invariant.checked;
-  start = c.in-Some.ensures.start ∙ c.rest.invariant.start;
+  checked = c.next.ensures.checked ∙ c.rest.invariant.checked;
+  start = c.next.ensures.start ∙ c.rest.invariant.start;
   sum = λ entries are total later.
       let bucket = c.args.bucket.now in
-      let (e, shown, first) = next_shows (cursor_checked c.rest.cursor) (bucket_checked bucket) (cursor_start c.rest.cursor) (bucket_start bucket)
-      (cursor_place c.rest.cursor) (cursor_place c.next.new.self) (Some (shown_entry c.in-Some.entry)) c.rest.invariant.checked c.rest.invariant.start c.in-Some.ensures.moves entries are in
-      let entry = (are.exact e).0 (first_left entries (cursor_place c.rest.cursor) e _ first) in
-      let adds = c.in_ok-total.ensures e entry (sym (ap (λ (v : EntryView). v.key) shown)) in
+      let (x, shown) = shown_some c.next.result (sym c.is_some.ensures ∙ c.rest-test.true) in
+      let (e, is, first, at) = next_stands _ _ _ _ _ _ x c.rest.invariant.checked c.rest.invariant.start (rw shown at c.next.ensures.moves) entries are in
+      let plain = stands_on _ _ _ _ _ (c.next.ensures.start ∙ c.rest.invariant.start) (rw c.in_default.is at c.bucket_at.ensures.bucket) entries are e at in
       c.rest.invariant.sum entries are total
-      (total_more (bytes_of (bucket_checked bucket)) (meta_of (bucket_checked bucket)) (entries_left entries (cursor_place c.rest.cursor)) (entries_left entries (cursor_place c.next.new.self)) e _ _ total first adds later);
+      (total_more (bytes_of (bucket_checked bucket)) (meta_of (bucket_checked bucket)) _ _ e _ _ total first (adds_none (bytes_of (bucket_checked bucket)) (meta_of (bucket_checked bucket)) c.rest.total e plain) later);
+}
+
+pub rest-preserved-in-Some : goal.rest-preserved-in-Some
+rest-preserved-in-Some c = record {
+  checked = c.next.ensures.checked ∙ c.rest.invariant.checked;
+  start = c.next.ensures.start ∙ c.rest.invariant.start;
+  sum = λ entries are total later.
+      let bucket = c.args.bucket.now in
+      let (x, shown) = shown_some c.next.result (sym c.is_some.ensures ∙ c.rest-test.true) in
+      let (e, is, first, at) = next_stands _ _ _ _ _ _ x c.rest.invariant.checked c.rest.invariant.start (rw shown at c.next.ensures.moves) entries are in
+      let own = stands_on _ _ _ _ _ (c.next.ensures.start ∙ c.rest.invariant.start) c.in-Some.ensures.bucket entries are e at in
+      let adds = adds_bucket c.in-Some.inner (bucket_checked bucket) _ c.rest.total c.add-total.result e c.in-Some.ensures.checked own c.in_ok-stats.ensures c.add-total.ensures in
+      c.rest.invariant.sum entries are total (total_more (bytes_of (bucket_checked bucket)) (meta_of (bucket_checked bucket)) _ _ e _ _ total first adds later);
 }
 
 pub returns : goal.returns
 returns c = λ entries are.
-    let bucket = c.args.bucket.now in
-    let none = next_shows (cursor_checked c.rest.cursor) (bucket_checked bucket) (cursor_start c.rest.cursor) (bucket_start bucket)
-    (cursor_place c.rest.cursor) (cursor_place c.next.new.self) _ c.rest.invariant.checked c.rest.invariant.start c.in_default.ensures.moves entries are in
+    let moves = rw (shown_none c.next.result (sym c.is_some.ensures ∙ c.rest-test.false)) at c.next.ensures.moves in
+    let none = next_shows _ _ _ _ _ _ _ c.rest.invariant.checked c.rest.invariant.start moves entries are in
     c.rest.invariant.sum entries are c.rest.total (rw none (∣ refl ∣₁))

@@ -1,7 +1,7 @@
 use Rattle.std.proofs.Common.{◌∙◌, ap, subst, sym}
-use Rattle.bolt_report.proofs.Words.{AreSized, bucket_checked, bytes_of, cursor_place, entries_left, fewer_left, Form, front_more, front_none, front_whole, meta_of, next_shows, Place, sizes_text, Wrote-same}
+use Rattle.bolt_report.proofs.Words.{AreSized, bucket_checked, bytes_of, entries_left, EntryView, fewer_left, Form, front_more, front_none, front_whole, meta_of, next_shows, next_stands, Place, sizes_text, Wrote-none, Wrote-same}
 use Rattle.bolt_text.proofs.ReportLemmas.{front_fault}
-use Rattle.bolt_report.proofs.SizeLemmas.{cut, cut_text, first_left, no_line}
+use Rattle.bolt_report.proofs.SizeLemmas.{bucket_line, cut, cut_text, no_line, stands_on, value_line}
 use Rattle.bolt_report.proofs.size_lines.sizes.Goals as goal
 
 pub rest-init : goal.rest-init
@@ -19,27 +19,49 @@ rest-init g c = record {
 pub rest-smaller : goal.rest-smaller
 rest-smaller g c = fewer_left c.args.bucket.now _ _ _ _ _ c.rest.invariant.checked c.rest.invariant.start c.in-Some.ensures.moves
 
+pub rest-smaller-in-Continue-1 : goal.rest-smaller-in-Continue-1
+rest-smaller-in-Continue-1 g c = fewer_left c.args.bucket.now _ _ _ _ _ c.rest.invariant.checked c.rest.invariant.start c.in-Some.ensures.moves
+
+-- a value has no line
 pub rest-preserved : goal.rest-preserved
 rest-preserved g c = record {
   checked = c.in-Some.ensures.checked ∙ c.rest.invariant.checked;
   start = c.in-Some.ensures.start ∙ c.rest.invariant.start;
-  form = c.put_entry.ensures.form ∙ c.rest.invariant.form;
+  form = c.rest.invariant.form;
   put = λ entries are sized stats.
-      let (e, shown, first) = next_shows _ _ _ _ _ _ _ c.rest.invariant.checked c.rest.invariant.start c.in-Some.ensures.moves entries are in
+      let (e, shown, first, at) = next_stands _ _ _ _ _ _ _ c.rest.invariant.checked c.rest.invariant.start c.in-Some.ensures.moves entries are in
       let (left, left_are, before) = c.rest.invariant.put entries are sized stats in
-      let entry = (are.exact e).0 (first_left entries (cursor_place c.rest.cursor) e _ first) in
+      let plain = stands_on _ _ _ _ _ (c.in-Some.ensures.start ∙ c.rest.invariant.start) (rw c.in_default-bucket_at.is at c.bucket_at.ensures.bucket) entries are e at in
       let k = cut _ _ e _ left (rw first at left_are) in
-      let one = Wrote-same (ap (λ (form : Form). sizes_text form k.own) c.rest.invariant.form) (c.in_ok-put_entry.ensures.written e entry shown k.own k.first) in
+      let none = Wrote-same (sym (value_line _ _ c.args.form e k.own plain k.first)) (Wrote-none c.rest.sink) in
+      (k.rest, k.later, front_more before none (cut_text c.args.form left k.own k.rest k.whole));
+}
+
+pub rest-preserved-in-Continue-1 : goal.rest-preserved-in-Continue-1
+rest-preserved-in-Continue-1 g c = record {
+  checked = c.in-Some.ensures.checked ∙ c.rest.invariant.checked;
+  start = c.in-Some.ensures.start ∙ c.rest.invariant.start;
+  form = c.put_bucket.ensures.form ∙ c.rest.invariant.form;
+  put = λ entries are sized stats.
+      let (e, shown, first, at) = next_stands _ _ _ _ _ _ _ c.rest.invariant.checked c.rest.invariant.start c.in-Some.ensures.moves entries are in
+      let (left, left_are, before) = c.rest.invariant.put entries are sized stats in
+      let is = stands_on _ _ _ _ _ (c.in-Some.ensures.start ∙ c.rest.invariant.start) c.in-Some-bucket_at.ensures.bucket entries are e at in
+      let k = cut _ _ e _ left (rw first at left_are) in
+      let (own, own_are, text) = bucket_line c.in-Some-bucket_at.inner (bucket_checked c.args.bucket.now) c.rest.items.form c.in-Some.entry.key.now e k.own c.in-Some-bucket_at.ensures.checked is
+      (ap (λ (v : EntryView). v.key) shown) k.first in
+      let one = Wrote-same (text ∙ ap (λ (form : Form). sizes_text form k.own) c.rest.invariant.form) (c.in_ok-put_bucket.ensures.written own own_are) in
       (k.rest, k.later, front_more before one (cut_text c.args.form left k.own k.rest k.whole));
 }
 
-pub returns-in_err-put_entry-clause-written : goal.returns-in_err-put_entry-clause-written
-returns-in_err-put_entry-clause-written g c = λ entries are sized stats.
-    let (e, shown, first) = next_shows _ _ _ _ _ _ _ c.rest.invariant.checked c.rest.invariant.start c.in-Some.ensures.moves entries are in
+pub returns-in_err-put_bucket-clause-written : goal.returns-in_err-put_bucket-clause-written
+returns-in_err-put_bucket-clause-written g c = λ entries are sized stats.
+    let (e, shown, first, at) = next_stands _ _ _ _ _ _ _ c.rest.invariant.checked c.rest.invariant.start c.in-Some.ensures.moves entries are in
     let (left, left_are, before) = c.rest.invariant.put entries are sized stats in
-    let entry = (are.exact e).0 (first_left entries (cursor_place c.rest.cursor) e _ first) in
+    let is = stands_on _ _ _ _ _ (c.in-Some.ensures.start ∙ c.rest.invariant.start) c.in-Some-bucket_at.ensures.bucket entries are e at in
     let k = cut _ _ e _ left (rw first at left_are) in
-    let one = Wrote-same (ap (λ (form : Form). sizes_text form k.own) c.rest.invariant.form) (c.in_err-put_entry.ensures.written e entry shown k.own k.first) in
+    let (own, own_are, text) = bucket_line c.in-Some-bucket_at.inner (bucket_checked c.args.bucket.now) c.rest.items.form c.in-Some.entry.key.now e k.own c.in-Some-bucket_at.ensures.checked is
+    (ap (λ (v : EntryView). v.key) shown) k.first in
+    let one = Wrote-same (text ∙ ap (λ (form : Form). sizes_text form k.own) c.rest.invariant.form) (c.in_err-put_bucket.ensures.written own own_are) in
     front_fault (sizes_text c.args.form k.rest) _ _ before one (cut_text c.args.form left k.own k.rest k.whole) c.from_residual.ensures.1
 
 pub returns-clause-written : goal.returns-clause-written
