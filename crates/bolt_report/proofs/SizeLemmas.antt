@@ -1,8 +1,8 @@
 -- The lines of the buckets among entries, entry by entry.
-use Rattle.std.proofs.Common.{◌≡◌, ◌∙◌, ℕ, Bool, true, false, List, [], ◌∷◌, ◌++◌, None, Option, Some, ap, append-nil, cond, filter, map, refl, subst, sym}
+use Rattle.std.proofs.Common.{◌≡◌, ◌∙◌, ℕ, Bool, true, false, List, [], ◌∷◌, ◌++◌, None, Some, ap, append-nil, cond, filter, map, refl, subst, sym}
 use Rattle.std.proofs.lemmas.Grind.{flat_map-append}
-use Rattle.bolt_report.proofs.Words.{AllByRecursion, AreSized, bucket_checked, bucket_start, bytes_of, Checked, Form, IsStatsOf, Key, LeafElement, Meta, meta_of, Place, Sized, sizes_text, Start, start_of, Stats}
-use Rattle.bolt_tree.specs.{Entries.AreEntries, Lookups.IsBucketOf, Lookups.IsBucketOn, Places.entry_at, declared.bucket.Bucket.Bucket}
+use Rattle.bolt_report.proofs.Words.{AllByRecursion, AreSized, bucket_checked, bucket_start, bytes_of, Checked, Form, IsStatsOf, Key, LeafElement, Meta, meta_of, Sized, sizes_text, Start, start_of, Stats}
+use Rattle.bolt_tree.specs.{Lookups.IsBucketOf, declared.bucket.Bucket.Bucket}
 use Rattle.bolt_report.specs.SizeLines.{size_line, size_text}
 use Rattle.bolt_stats.specs.StatsOf.{AreStats}
 
@@ -50,12 +50,6 @@ module _ (file : List ℕ) (meta : Meta) where
   cut e entries sized are = cut_by e entries e.is_bucket refl sized are.buckets are.stats
 
 -- ---- the entry that a cursor is on
-
--- its bucket, if it is one
-pub stands_on : (Entry : Start → LeafElement → Type 0) (from to : Start) (place : Place) (found : Option Bucket) → from ≡ to → IsBucketOn Entry from place found
-    → (entries : List LeafElement) → AreEntries Entry to entries → (e : LeafElement) → entry_at entries place ≡ Some e → IsBucketOf (Some e) found
-stands_on Entry from to place found same here entries are e at =
-    subst (λ (o : Option LeafElement). IsBucketOf o found) at (here entries (subst (λ (s : Start). AreEntries Entry s entries) (sym same) are))
 
 -- the line of its bucket
 pub bucket_line : (inner : Bucket) (checked : Checked) (form : Form) (name : Key) (e : LeafElement) (sized : List Sized) → bucket_checked inner ≡ checked → IsBucketOf (Some e) (Some inner)

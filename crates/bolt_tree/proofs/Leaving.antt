@@ -3,7 +3,7 @@
 use Rattle.std.proofs.Common.{◌≡◌, ◌∙◌, ◌<◌, ℕ, suc, List, [], ◌∷◌, length, drop, nat_lt, Option, Some, None, refl, sym, ap, subst, arith}
 use Rattle.bolt_tree.proofs.Words.{AreEntries, Bucket, Checked, EntryView, Fresh, LeafElement, On, Past, Place, ShowsMove, Start, bucket_checked, bucket_start, bytes_of, drop_all, drop_at, entries_of, entry_view, meta_of, next_move, option_map, place_in, props, ∥∥₁_elim, ∥∥₁_prop}
 use mathlib.Core.HLevel.{Σ_prop_path}
-use Rattle.bolt_tree.specs.{EntriesLeft.ForEntries, EntriesLeft.entries_left, Places.entry_at}
+use Rattle.bolt_tree.specs.{EntriesLeft.ForEntries, EntriesLeft.entries_left, Lookups.IsBucketOf, Lookups.IsBucketOn, Places.entry_at}
 use Rattle.bolt_tree.proofs.{CursorMoves.ComesTo, CursorMoves.by_length, CursorMoves.comes_first, Looking.own_entries, SortedLemmas.sorted_one}
 
 -- the entries of a bucket in order, taken out of what is only known to be
@@ -102,3 +102,9 @@ fewer_left bucket file start before after x same at moves =
     ∥∥₁_elim (the_entries bucket).1 (hlevel props) (λ are.
     let (e, shown, taken) = next_shows file (bucket_checked bucket) start (bucket_start bucket) before after (Some x) same at moves (the_entries bucket).0 are in
     let n = ap length taken in omega (arith, n))
+
+-- the bucket that a cursor is on
+pub stands_on : (Entry : Start → LeafElement → Type 0) (from to : Start) (place : Place) (found : Option Bucket) → from ≡ to → IsBucketOn Entry from place found
+    → (entries : List LeafElement) → AreEntries Entry to entries → (e : LeafElement) → entry_at entries place ≡ Some e → IsBucketOf (Some e) found
+stands_on Entry from to place found same here entries are e at =
+    subst (λ (o : Option LeafElement). IsBucketOf o found) at (here entries (subst (λ (s : Start). AreEntries Entry s entries) (sym same) are))

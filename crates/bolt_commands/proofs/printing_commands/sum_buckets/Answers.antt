@@ -2,7 +2,7 @@ use Rattle.std.proofs.Common.{◌≡◌, ◌∙◌, refl, rules, sym}
 use Rattle.bolt_commands.proofs.Vocabulary.{bucket_checked, bytes_of, fewer_left}
 use Rattle.bolt_commands.proofs.Vocabulary.{meta_of, next_shows, next_stands, no_stats}
 use Rattle.bolt_commands.proofs.StatsAnswers.{adds_bucket, adds_none, shown_none, shown_some, total_more}
-use Rattle.bolt_report.proofs.SizeLemmas.{stands_on}
+use Rattle.bolt_tree.proofs.Leaving.{stands_on}
 use Rattle.bolt_commands.proofs.printing_commands.sum_buckets.Goals as goal
 
 pub rest-init : goal.rest-init
