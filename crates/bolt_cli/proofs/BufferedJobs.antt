@@ -62,6 +62,6 @@ module _ {O T : Type 0} (out : Ghosts O) (target : Ghosts T) (out_old out_new : 
   buffered_job file (job.Compact j) ending does = copied file j.meta j.page_size _ _ j.extent ending does
   buffered_job file (job.Load j) ending does = elim does [
     | inl (right, writes) ↦ inl (right, written _ (text_members file) _ (λ copy. done (lengths_line (length file) copy)) ending writes)
-    | inr (fault, is, same, target, ends) ↦ inr (fault, is, untouched same, target, ends)
+    | inr (fault, is, (same, target, ends)) ↦ inr (fault, is, (untouched same, target, ends))
   ]
   buffered_job file j ending (answer, is, does, same) = (answer, is, does_buffered answer ending does, same)

@@ -48,14 +48,14 @@ module _ (below : Below) where
     told : (member : Member) (listing : List Member) (text : List ℕ) → IsListingText text → text_members text ≡ member ∷ listing → Told (member ∷ listing) text
     told member listing text right same out_old out_new target_old target_new page_size sequence layout snapshot ending (inl (is, writes)) =
         inl (rw same at writes)
-    told member listing text right same out_old out_new target_old target_new page_size sequence layout snapshot ending (inr (Memory, is, out, target, ends)) = inr (out, target, inl ends)
-    told member listing text right same out_old out_new target_old target_new page_size sequence layout snapshot ending (inr (Line number fault, is, out, target, ends)) =
+    told member listing text right same out_old out_new target_old target_new page_size sequence layout snapshot ending (inr (Memory, is, (out, target, ends))) = inr (out, target, inl ends)
+    told member listing text right same out_old out_new target_old target_new page_size sequence layout snapshot ending (inr (Line number fault, is, (out, target, ends))) =
         absurd (below.no_fault text number fault right is)
 
     told_none : Told [] (listing_text [])
     told_none out_old out_new target_old target_new page_size sequence layout snapshot ending (inl (is, writes)) = absurd (below.no_listing is)
-    told_none out_old out_new target_old target_new page_size sequence layout snapshot ending (inr (Memory, is, out, target, ends)) = (out, target, inr ends)
-    told_none out_old out_new target_old target_new page_size sequence layout snapshot ending (inr (Line number fault, is, out, target, ends)) =
+    told_none out_old out_new target_old target_new page_size sequence layout snapshot ending (inr (Memory, is, (out, target, ends))) = (out, target, inr ends)
+    told_none out_old out_new target_old target_new page_size sequence layout snapshot ending (inr (Line number fault, is, (out, target, ends))) =
         let (line, cut) = below.no_text number fault is in (out, target, inl (rw (line, cut) at ends))
 
     told_of : (listing : List Member) → IsOfOneTree listing → Rises member_cmp listing → AreOfBytes listing → Told listing (listing_text listing)

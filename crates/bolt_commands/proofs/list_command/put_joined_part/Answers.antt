@@ -1,5 +1,5 @@
 -- The part is put, as it is of the joined listing; or there is none.
-use Rattle.std.proofs.Common.{◌≡◌, Err, Ok, inl, refl}
+use Rattle.std.proofs.Common.{Err, Ok, inl, refl}
 use Rattle.bolt_commands.proofs.Vocabulary.{IsJoined, joined_file, joined_left, joined_meta}
 use Rattle.bolt_commands.proofs.{Doing.ends_as, FoundAnswers.salvaged, ListAnswers.members_put}
 use Rattle.bolt_commands.proofs.list_command.put_joined_part.Goals as goal

@@ -1,2 +1,0 @@
-use Rattle.std.proofs.Common.{refl}
-use Rattle.bolt_commands.proofs.opening.Input.open.Goals as goal
