@@ -41,9 +41,9 @@ module _ {O T : Type 0} (out : Ghosts O) (target : Ghosts T) (out_old out_new : 
   module _ (snapshot : Bool) (listing : List Member) (layout : List ℕ) (answer : ℕ → Answer) (ending : Ending) where
     unless : (hash : _)
         → CopiesUnless out.taken out.failed out_old out_new target.taken target.failed target_old target_new hash
-            (WritesCopy out.taken out.failed out_old out_new target.taken target.failed target_old target_new snapshot listing layout answer) ending
+        (WritesCopy out.taken out.failed out_old out_new target.taken target.failed target_old target_new snapshot listing layout answer) ending
         → CopiesUnless buffered_text buffered_failures (buffered_of [] 0) (buffered_of text failures) target.taken target.failed target_old target_new hash
-            (WritesCopy buffered_text buffered_failures (buffered_of [] 0) (buffered_of text failures) target.taken target.failed target_old target_new snapshot listing layout answer) ending
+        (WritesCopy buffered_text buffered_failures (buffered_of [] 0) (buffered_of text failures) target.taken target.failed target_old target_new snapshot listing layout answer) ending
     unless (Some fault) (same, untouched_target, is) = (untouched same, untouched_target, is)
     unless None writes = written snapshot listing layout answer ending writes
 
