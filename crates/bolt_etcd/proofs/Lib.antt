@@ -18,6 +18,8 @@ pub mod RevisionLoops
 pub mod RevisionSteps
 pub mod RevisionTexts
 pub mod SnapshotLemmas
+pub mod SortedOnce
+pub mod StoreLemmas
 mod TrailingAccounts
 mod TrailingBytes
 mod TrailingMetas

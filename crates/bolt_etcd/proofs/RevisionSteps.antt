@@ -5,8 +5,8 @@ use Rattle.std.proofs.Props.{props}
 use Rattle.bolt_check.specs.{CheckedFiles.bytes_of, CheckedFiles.meta_of, Counts.counted, declared.checked.Checked.Checked}
 use Rattle.bolt_format.specs.Elements.{LeafElement}
 use Rattle.bolt_tree.proofs.PagerLemmas.{counted_more}
-use Rattle.bolt_tree.specs.{Entries.EntryView, Entries.Start, EntriesLeft.ForEntries, FileTrees.file_entries}
-use Rattle.bolt_etcd.specs.{Passes.ShowsFirst, Revisions.RevisionView, Revisions.revision_of, Stores.others, Stores.revisions}
+use Rattle.bolt_tree.specs.{Buckets.bucket_checked, Buckets.bucket_start, Entries.EntryView, Entries.Start, EntriesLeft.ForEntries, FileTrees.file_entries, declared.bucket.Bucket.Bucket}
+use Rattle.bolt_etcd.specs.{Passes.ShowsFirst, Revisions.RevisionView, Revisions.revision_of, Stores.ForBucket, Stores.others, Stores.revisions}
 use Rattle.bolt_etcd.specs.RevisionsLeft.{CountsOthers, ForPass, GivesFirst, ahead_of, number_ahead, pass_checked, pass_entries, pass_others, pass_start}
 use Rattle.bolt_etcd.specs.declared.revisions.Revisions.{Revisions}
 use Rattle.bolt_etcd.proofs.Passing.{are_entries, counts_none, counts_one, fewer, gives, passes}
@@ -24,6 +24,12 @@ goes_none pass = record { checked = refl; start = refl; same = λ entries are. r
 
 pub moved_to : (a b : Checked) (s t : Start) (P : List LeafElement → Type 0) → a ≡ b → s ≡ t → ForEntries a s P → ForEntries b t P
 moved_to a b s t P file start all = subst (λ (q : Start). ForEntries b q P) start (subst (λ (c : Checked). ForEntries c s P) file all)
+
+-- a pass over all of a bucket: what holds of what it has ahead holds of the bucket's entries
+pub over_all : {X : Type 0} (bucket : Bucket) (checked : Checked) (start : Start) (ahead whole : List LeafElement → X) (Q : X → Type 0) → checked ≡ bucket_checked bucket → start ≡ bucket_start bucket
+    → ForEntries checked start (λ entries. ahead entries ≡ whole entries) → ForEntries checked start (λ entries. Q (ahead entries)) → ForBucket bucket (λ entries. Q (whole entries))
+over_all bucket checked start ahead whole Q file begins all each = λ entries are.
+    subst Q (moved_to _ _ _ _ (λ es. ahead es ≡ whole es) file begins all entries are) (moved_to _ _ _ _ (λ es. Q (ahead es)) file begins each entries are)
 
 -- the same pass, after one more of the entries that aren't revisions
 abbrev pub with_others : Revisions → ℕ → Revisions

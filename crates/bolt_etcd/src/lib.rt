@@ -22,6 +22,7 @@ mod revision_lines;
 mod revision_texts;
 mod revisions;
 mod snapshot;
+mod store_faults;
 #[cfg(test)]
 mod tests;
 mod wire;
@@ -42,3 +43,4 @@ pub use crate::snapshot::{
     HASH_LEN, SnapshotFault, hashed_blocks_are_a_snapshot, snapshot_fault, snapshot_fault_text,
     trailing_bytes_change_nothing,
 };
+pub use crate::store_faults::put_store_faults;
