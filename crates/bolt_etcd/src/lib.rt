@@ -24,6 +24,8 @@ mod revisions;
 mod snapshot;
 mod store_faults;
 #[cfg(test)]
+mod store_tests;
+#[cfg(test)]
 mod tests;
 mod wire;
 
