@@ -11,11 +11,10 @@ use Rattle.std.specs.List.Sorted.{IsPermutation, IsSorted, IsStrictlySortedBy}
 use Rattle.std.specs.Ordering.{eq_by_cmp, is_eq, ordering_reverse, ordering_then}
 use Rattle.std.specs.declared.cmp.Ordering.{Ordering}
 use Rattle.std.specs.declared.cmp.Ordering.TheVariants.{Equal, Greater, Less}
-use Rattle.bolt_format.specs.Elements.{LeafElement}
 use Rattle.bolt_tree.proofs.Lists.{contains_head, contains_tail, rises_once}
-use Rattle.bolt_tree.specs.{Entries.entry_cmp, Order.Rises}
-use Rattle.bolt_etcd.specs.{Current.AreCurrent, Current.name_cmp, NameFaults.AreByName, NameFaults.by_name_cmp, Revisions.RevisionView, Revisions.name_of, Stores.revisions}
-use Rattle.bolt_etcd.proofs.{Currents.revisions_rise, NewestOfNames.all_at}
+use Rattle.bolt_tree.specs.Order.{Rises}
+use Rattle.bolt_etcd.specs.{Current.AreCurrent, Current.name_cmp, Current.place_cmp, NameFaults.AreByName, NameFaults.by_name_cmp, Revisions.RevisionView, Revisions.name_of}
+use Rattle.bolt_etcd.proofs.NewestOfNames.{all_at}
 
 all_from : {X : Type 0} (P : X → Type 0) (xs : List X) → ((x : X) → Contains xs x → P x) → AllByRecursion P xs
 all_from P [] each = tt
@@ -67,14 +66,13 @@ then_apart Less b less = refl
 then_apart Equal b less = ap is_eq less
 then_apart Greater b less = refl
 
-by_name_total : IsTotalOrder by_name_cmp
+pub by_name_total : IsTotalOrder by_name_cmp
 by_name_total = then_total (on_total name_of nat_list_cmp_total) (on_total (λ (r : RevisionView). r.place) nat_list_cmp_total)
 
--- the revisions of a bucket have one order by name
-pub by_name_once : (entries : List LeafElement) (a b : List RevisionView) → Rises entry_cmp entries → AreByName (revisions entries) a → AreByName (revisions entries) b → a ≡ b
-by_name_once entries a b rises is also =
-    sorted_once by_name_total (revisions entries) a b (differ by_name_total _ (λ x y less. then_apart (name_cmp x y) _ less) (revisions entries) (revisions_rise entries rises))
-    is.same also.same is.rises also.rises
+-- revisions in the order of their keys have one order by name
+pub by_name_once : (rs a b : List RevisionView) → Rises place_cmp rs → AreByName rs a → AreByName rs b → a ≡ b
+by_name_once rs a b rises is also =
+    sorted_once by_name_total rs a b (differ by_name_total place_cmp (λ x y less. then_apart (name_cmp x y) _ less) rs rises) is.same also.same is.rises also.rises
 
 -- and there is one list of the keys that there are
 pub current_once : (rs a b : List RevisionView) → AreCurrent rs a → AreCurrent rs b → a ≡ b

@@ -18,11 +18,11 @@ use Rattle.bolt_etcd.specs.{CheckLines.fault_lines, FaultsLeft.ForGranted, Fault
 use Rattle.bolt_etcd.specs.{Revisions.RevisionView, StoreBuckets.HasBucket, StoreBuckets.IsStore, StoreBuckets.StoreView, StoreBuckets.revisions_in, Stores.ForBucket, Stores.revisions}
 use Rattle.bolt_etcd.specs.StoreFaults.{bucket_line, bucket_lines, bucket_names, entry_lines, granted_in, key_lines, line_without, name_lines, store_compacted, store_granted, store_lines}
 use Rattle.bolt_etcd.specs.declared.name_faults.NameFaults.{NameFaults}
-use Rattle.bolt_etcd.proofs.SortedOnce.{by_name_once}
+use Rattle.bolt_etcd.proofs.{Currents.revisions_rise, SortedOnce.by_name_once}
 
 -- ---- the first that passes a test
 
-abbrev Finds : {A : Type 0} → (A → Bool) → List A → Option A → Type 0
+abbrev pub Finds : {A : Type 0} → (A → Bool) → List A → Option A → Type 0
 Finds p xs (Some x) = Contains xs x × (p x ≡ true)
 Finds {A} p xs None = (x : A) → Contains xs x → p x ≡ false
 
@@ -31,11 +31,11 @@ find_step p y ys true test o later = (contains_head y ys, test)
 find_step p y ys false test (Some x) later = (contains_tail y x ys later.0, later.1)
 find_step p y ys false test None later = λ x has. elim (contains_cases y x ys has) [ inl is ↦ ap p (sym is) ∙ test | inr more ↦ later x more ]
 
-finds : {A : Type 0} (p : A → Bool) (xs : List A) → Finds p xs (find p xs)
+pub finds : {A : Type 0} (p : A → Bool) (xs : List A) → Finds p xs (find p xs)
 finds p [] = λ x has. absurd (contains_none x has)
 finds p (y ∷ ys) = find_step p y ys (p y) refl (find p ys) (finds p ys)
 
-itself : (xs : List ℕ) → bytes_eq xs xs ≡ true
+pub itself : (xs : List ℕ) → bytes_eq xs xs ≡ true
 itself [] = refl
 itself (x ∷ xs) = and_from _ _ (eq-eqb x x refl) (itself xs)
 
@@ -141,7 +141,7 @@ pub for_names : (keys : Bucket) (compacted : Option ℕ) (leases : Option Bucket
     → ForBucket keys (λ entries. ForGranted leases (λ granted. (by_name : List RevisionView) → AreByName (revisions entries) by_name → Q (name_lines compacted granted by_name)))
 for_names keys compacted leases pass all Q from left sorted each = λ entries are.
     granted_map leases (λ granted. Q (flat_map fault_lines (faults_left pass granted))) (λ granted. (by_name : List RevisionView) → AreByName (revisions entries) by_name → Q (name_lines compacted granted by_name))
-    (λ granted one by_name is. subst Q (same_names compacted granted (faults_left pass granted) all by_name (left granted) (by_name_once entries all by_name are.rises (sorted entries are) is)) one)
+    (λ granted one by_name is. subst Q (same_names compacted granted (faults_left pass granted) all by_name (left granted) (by_name_once (revisions entries) all by_name (revisions_rise entries are.rises) (sorted entries are) is)) one)
     (subst (λ (o : Option Bucket). ForGranted o (λ granted. Q (flat_map fault_lines (faults_left pass granted)))) from each)
 
 -- ---- the lines of a store that has the bucket `key`
