@@ -30,7 +30,7 @@ mod tests;
 mod wire;
 
 pub use crate::by_name::revisions_by_name;
-pub use crate::compaction::compacted;
+pub use crate::compaction::{compacted, store_compacted};
 pub use crate::current::Current;
 pub use crate::missing::{Missing, MissingNumbers};
 pub use crate::name_faults::{NameFault, NameFaults};

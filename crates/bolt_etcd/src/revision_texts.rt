@@ -31,6 +31,8 @@ impl RevisionWriter {
         prefix: &[u8],
         sink: &mut S,
     ) -> Result<u64, ReportFault>
+        ensures form { self.new.items.form ≡ self.old.items.form }
+        ensures values { self.new.values ≡ self.old.values }
         ensures written { ForPass pass.entry (λ entries.
             Wrote S.Sink sink.old sink.new (revision_lines self.old.items.form self.old.values (named prefix.now (revisions (ahead_of pass.entry entries)))) (report_ending result)) }
         ensures others { IfOk result (λ n. ForPass pass.entry (λ entries. n ≡ counted (pass_others pass.entry) (length (others (ahead_of pass.entry entries))))) }
@@ -59,6 +61,8 @@ impl RevisionWriter {
         prefix: &[u8],
         sink: &mut S,
     ) -> Result<u64, ReportFault>
+        ensures form { self.new.items.form ≡ self.old.items.form }
+        ensures values { self.new.values ≡ self.old.values }
         ensures written { ForBucket bucket.now (λ entries. (current : List RevisionView) → AreCurrent (until up_to (revisions entries)) current
             → Wrote S.Sink sink.old sink.new (revision_lines self.old.items.form self.old.values (named prefix.now current)) (report_ending result)) }
         ensures others { IfOk result (λ n. ForBucket bucket.now (λ entries. n ≡ counted 0 (length (others entries)))) }
@@ -77,6 +81,8 @@ impl RevisionWriter {
         prefix: &[u8],
         sink: &mut S,
     ) -> Result<(), ReportFault>
+        ensures form { self.new.items.form ≡ self.old.items.form }
+        ensures values { self.new.values ≡ self.old.values }
         ensures written { Wrote S.Sink sink.old sink.new
             (revision_lines self.old.items.form self.old.values (named prefix.now (map shown_revision revisions.now))) (report_ending result) }
         ensures fault { IfErr result (λ fault. (fault ≡ ReportFault.Sink) ⊎ ((fault ≡ ReportFault.NoMemory) × (self.old.items.form ≡ Form.Json))) }

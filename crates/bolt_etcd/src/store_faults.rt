@@ -6,11 +6,11 @@ ghost use Rattle.bolt_format.specs.{Endings.ending, Wrote.Wrote};
 ghost use Rattle.bolt_text.specs.ReportEndings.{report_ending};
 ghost use Rattle.bolt_etcd.specs.{CheckLines.missing_line, FaultsLeft.ForGranted, NameFaults.AreByName, Revisions.RevisionView, Stores.ForBucket, Stores.revisions};
 ghost use Rattle.bolt_etcd.specs.StoreBuckets.{ForStore};
-ghost use Rattle.bolt_etcd.specs.StoreFaults.{bucket_line, bucket_lines, entry_lines, line_without, missing_if, name_lines, store_compacted, store_lines};
+ghost use Rattle.bolt_etcd.specs.StoreFaults.{bucket_line, bucket_lines, entry_lines, line_without, missing_if, name_lines, store_lines};
 
 use crate::by_name::revisions_by_name;
 use crate::check_texts::{put_all_misplaced, put_all_missing, put_name_faults, put_others};
-use crate::compaction::compacted;
+use crate::compaction::store_compacted;
 use crate::missing::MissingNumbers;
 use crate::name_faults::NameFaults;
 use crate::revisions::Revisions;
@@ -29,11 +29,17 @@ const BUCKETS: [&[u8]; 6] = [
     b"meta",
 ];
 
-/// Writes a line for each thing that is wrong with a store, of which this is the root bucket, and
-/// returns how many lines these are: buckets that are missing; entries of the bucket `key` that
-/// aren't revisions; records of other revisions; what is missing by its number; and name by name,
-/// what is missing of a name. Without the bucket `key` only missing buckets are written. The number
-/// saturates at 2^64 - 1. Keeps 48 bytes for each revision.
+/// Writes what is wrong with the store that this is the root bucket of, and returns how many lines
+/// these are. In this order:
+///
+/// - buckets that are missing;
+/// - entries of the bucket `key` that aren't revisions;
+/// - records of other revisions;
+/// - revisions that are missing by their numbers;
+/// - name by name, revisions that don't follow the one before them, and leases that aren't there.
+///
+/// Without the bucket `key`, only missing buckets have lines. The number saturates at 2^64 - 1. Keeps
+/// 48 bytes for each revision.
 ///
 /// # Errors
 ///
@@ -108,14 +114,6 @@ fn put_bucket_line<S: Sink>(name: &[u8], sink: &mut S) -> Result<(), SinkFault>
         ],
         sink,
     )
-}
-
-/// Up to which transaction a store was compacted, if it has the bucket `meta`.
-fn store_compacted(root: &Bucket<'_>) -> Option<u64>
-    ensures { ForStore root.now (λ store. result ≡ store_compacted store) }
-{
-    let meta = root.bucket(b"meta")?;
-    Some(compacted(&meta))
 }
 
 /// Writes a line for each thing that is wrong with the entries of the bucket `key`, and returns how

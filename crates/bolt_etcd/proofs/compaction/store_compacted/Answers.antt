@@ -1,6 +1,6 @@
 use Rattle.std.proofs.Common.{Some, codes}
 use Rattle.bolt_etcd.proofs.StoreLemmas.{compaction, fits}
-use Rattle.bolt_etcd.proofs.store_faults.store_compacted.Goals as goal
+use Rattle.bolt_etcd.proofs.compaction.store_compacted.Goals as goal
 
 pub returns : goal.returns
 returns c = λ store is.
