@@ -1,5 +1,5 @@
 -- The keys that there are are the newest revisions that aren't deletions.
-use Rattle.std.proofs.Common.{◌≡◌, ◌∙◌, ◌<◌, ◌+◌, ◌++◌, inl, inr, Bool, true, false, List, [], ◌∷◌, cond, filter, length, map, not, Option, Some, None, Result, Ok, Err, refl, slice_index_or, sym, ap, subst, arith, if◌then◌else◌}
+use Rattle.std.proofs.Common.{◌≡◌, ◌∙◌, ◌<◌, ◌+◌, ◌++◌, inl, inr, Bool, true, false, List, [], ◌∷◌, cond, filter, length, map, not, Option, Some, None, Result, Ok, Err, refl, slice_index_or, sym, ap, arith, if◌then◌else◌}
 use Rattle.std.proofs.lemmas.Bool.{not-true}
 use Rattle.std.proofs.lemmas.List.{append_assoc, get_or-map, length-map, map-append}
 use Rattle.std.proofs.lemmas.List.Kept.{IsStrictlySortedBy-filter}
@@ -85,7 +85,7 @@ code_newest_first a b = is_lt (newest_first_cmp (shown_revision a) (shown_revisi
 abbrev pub code_same_name : Revision → Revision → Bool
 code_same_name a b = bytes_eq (name_of (shown_revision a)) (name_of (shown_revision b))
 
-abbrev view_same_name : RevisionView → RevisionView → Bool
+abbrev pub view_same_name : RevisionView → RevisionView → Bool
 view_same_name a b = bytes_eq (name_of a) (name_of b)
 
 pub code_ranks : IsStrictWeakOrder code_newest_first
@@ -131,6 +131,21 @@ unfolding IsStrictlySortedBy
 strict_rises [] strict = tt
 strict_rises (r ∷ rs) strict = (λ s has. all_at (λ w. name_cmp r w ≡ Less) rs s strict.0 has, strict_rises rs strict.1)
 
+-- of revisions sorted by names, the newest first, the first of each name that isn't a deletion
+pub first_are_current : (rs sorted : List RevisionView) → Rises place_cmp rs → IsPermutation rs sorted → IsSortedBy (λ a b. is_lt (newest_first_cmp a b)) sorted
+    → AreCurrent rs (filter is_there (dedup view_same_name sorted))
+unfolding newest
+first_are_current rs sorted rises moved up = record {
+  rises = strict_rises _ (IsStrictlySortedBy-filter name_cmp is_there _ (names_rise name_of (λ r. r.place) sorted up));
+  exact = λ r. (
+    λ has.
+        let (kept_one, live) = kept_from is_there _ r has in
+        (kept_last name_of (λ r. r.place) _ _ rises moved up r kept_one, not-true r.key.deleted live),
+    λ (last, live).
+        kept is_there _ r (last_kept name_of (λ r. r.place) _ _ rises moved up r last) (ap not live),
+  );
+}
+
 module _ (old sorted left new : List Revision) (moved : IsPermutation old sorted) (up : IsSortedBy code_newest_first sorted)
     (once : left ≡ dedup code_same_name sorted) (there : new ≡ filter code_is_there left) (rises : Rises place_cmp (map shown_revision old)) where
   shown : map shown_revision new ≡ filter is_there (dedup view_same_name (map shown_revision sorted))
@@ -139,19 +154,5 @@ module _ (old sorted left new : List Revision) (moved : IsPermutation old sorted
   moved_shown : IsPermutation (map shown_revision old) (map shown_revision sorted)
   moved_shown = IsPermutation-map shown_revision old sorted moved
 
-  views : List RevisionView
-  views = dedup view_same_name (map shown_revision sorted)
-
   pub are_current : AreCurrent (map shown_revision old) (map shown_revision new)
-  unfolding newest
-  are_current = record {
-    rises = rw shown (strict_rises _ (IsStrictlySortedBy-filter name_cmp is_there _ (names_rise name_of (λ r. r.place) (map shown_revision sorted) (sorted_shown sorted up))));
-    exact = λ r. (
-      λ has.
-          let (kept_one, live) = kept_from is_there _ r (subst (λ (l : List RevisionView). Contains l r) shown has) in
-          (kept_last name_of (λ r. r.place) _ _ rises moved_shown (sorted_shown sorted up) r kept_one, not-true r.key.deleted live),
-      λ (last, live).
-          subst (λ (l : List RevisionView). Contains l r) (sym shown)
-          (kept is_there _ r (last_kept name_of (λ r. r.place) _ _ rises moved_shown (sorted_shown sorted up) r last) (ap not live)),
-    );
-  }
+  are_current = rw shown (first_are_current (map shown_revision old) (map shown_revision sorted) rises moved_shown (sorted_shown sorted up))

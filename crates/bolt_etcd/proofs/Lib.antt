@@ -18,6 +18,10 @@ pub mod RevisionLoops
 pub mod RevisionSteps
 pub mod RevisionTexts
 pub mod SnapshotLemmas
+pub mod SortedExists
+pub mod SortedOnce
+pub mod StoreExists
+pub mod StoreLemmas
 mod TrailingAccounts
 mod TrailingBytes
 mod TrailingMetas

@@ -1,43 +1,80 @@
--- Lines for each of a list are written, and they are counted.
-use Rattle.std.proofs.Common.{◌≡◌, ◌∙◌, ◌<◌, ◌+◌, ◌^◌, ℕ, List, [], ◌∷◌, flat_map, length, refl, sym, ap, arith}
+-- Lines are written, and they are counted.
+use Rattle.std.proofs.Common.{◌≡◌, ◌∙◌, ◌<◌, ◌++◌, ◌^◌, ℕ, List, [], ◌∷◌, append-nil, length, length-append, refl, sym, ap, arith}
+use Rattle.std.proofs.lemmas.List.Folds.{concat-append}
+use Rattle.std.specs.{List.concat, Result.IsErrAnd}
 use Rattle.std.specs.Prelude.{IsErr, Result}
 use Rattle.bolt_check.specs.Counts.{counted}
-use Rattle.bolt_format.proofs.{WroteFronts.WroteFront, WroteFronts.front_more, WroteFronts.front_none, WroteFronts.front_whole}
+use Rattle.bolt_format.proofs.{WroteFronts.WroteFront, WroteFronts.front_more, WroteFronts.front_none, WroteFronts.front_whole, WroteLemmas.Wrote-same}
 use Rattle.bolt_format.specs.{Endings.broken, Endings.ending, Endings.whole, Wrote.Wrote, declared.sink.Sink.Ghosts, declared.sink.SinkFault.SinkFault}
-use Rattle.bolt_text.proofs.ReportLemmas.{front_broken}
+use Rattle.bolt_text.proofs.ReportLemmas.{Wrote-fault, front_broken}
+use Rattle.bolt_text.specs.{ReportEndings.fault_ending, ReportEndings.report_ending, declared.fault.ReportFault.ReportFault}
 use Rattle.bolt_tree.proofs.PagerLemmas.{counted_more}
 
--- of the lines of all, those of the ones that are left are still to be written, and the others were counted
-pub record Listed {S X : Type 0} (sink : Ghosts S) (old new : S) (line : X → List ℕ) (size : List X → ℕ) (all left : List X) (n : ℕ) : Type 0 where
-  pub put : WroteFront sink old new (flat_map line all) (flat_map line left)
-  pub number : counted n (size left) ≡ counted 0 (size all)
+-- of all lines, those that are left are still to be written, and the others were counted
+pub record Listed {S : Type 0} (sink : Ghosts S) (old new : S) (all left : List (List ℕ)) (n : ℕ) : Type 0 where
+  pub put : WroteFront sink old new (concat all) (concat left)
+  pub number : counted n (length left) ≡ counted 0 (length all)
   pub fits : n < 2 ^ 64
 
-pub listed_none : {S X : Type 0} {sink : Ghosts S} (old : S) (line : X → List ℕ) (size : List X → ℕ) (all left : List X) → left ≡ all → Listed sink old old line size all left 0
-listed_none old line size all left same = rw same (record { put = front_none old (flat_map line all); number = refl; fits = omega arith })
+pub listed_none : {S : Type 0} {sink : Ghosts S} (old : S) (all left : List (List ℕ)) → left ≡ all → Listed sink old old all left 0
+listed_none old all left same = rw same (record { put = front_none old (concat all); number = refl; fits = omega arith })
 
-pub one_more : {X : Type 0} (left : List X) (x : X) (rest : List X) → left ≡ x ∷ rest → length left ≡ 1 + length rest
-one_more left x rest first = ap length first ∙ omega arith
-
-module _ {S X : Type 0} {sink : Ghosts S} {old mid : S} {line : X → List ℕ} {size : List X → ℕ} {all left : List X} {n : ℕ} (listed : Listed sink old mid line size all left n) where
-  pub listed_more : {new : S} (x : X) (rest : List X) (k more : ℕ) → left ≡ x ∷ rest → Wrote sink mid new (line x) whole → size left ≡ k + size rest → more ≡ counted n k
-      → Listed sink old new line size all rest more
-  listed_more x rest k more first one grows next = record {
-    put = front_more listed.put one (ap (flat_map line) first);
-    number = ap (λ (m : ℕ). counted m (size rest)) next ∙ counted_more n k (size rest) ∙ ap (counted n) (sym grows) ∙ listed.number;
+module _ {S : Type 0} {sink : Ghosts S} {old mid : S} {all left : List (List ℕ)} {n : ℕ} (listed : Listed sink old mid all left n) where
+  -- some lines more,
+  pub listed_more : {new : S} (these rest : List (List ℕ)) (more : ℕ) → left ≡ these ++ rest → Wrote sink mid new (concat these) whole → more ≡ counted n (length these)
+      → Listed sink old new all rest more
+  listed_more these rest more first some next = record {
+    put = front_more listed.put some (ap concat first ∙ concat-append these rest);
+    number = ap (λ (m : ℕ). counted m (length rest)) next ∙ counted_more n (length these) (length rest) ∙ ap (counted n) (sym (ap length first ∙ length-append these rest)) ∙ listed.number;
     fits = omega (arith, next);
   }
 
-  pub listed_fault : {B : Type 0} {new : S} (x : X) (rest : List X) (result : Result B SinkFault) → left ≡ x ∷ rest → Wrote sink mid new (line x) broken → IsErr result
-      → Wrote sink old new (flat_map line all) (ending result)
-  listed_fault x rest result first one err = front_broken (flat_map line rest) result listed.put one (ap (flat_map line) first) err
+  -- or one
+  pub listed_one : {new : S} (line : List ℕ) (rest : List (List ℕ)) (more : ℕ) → left ≡ line ∷ rest → Wrote sink mid new line whole → more ≡ counted n 1
+      → Listed sink old new all rest more
+  listed_one line rest more first one next = record {
+    put = front_more listed.put one (ap concat first);
+    number = ap (λ (m : ℕ). counted m (length rest)) next ∙ counted_more n 1 (length rest) ∙ ap (counted n) (sym (ap length first ∙ omega arith)) ∙ listed.number;
+    fits = omega (arith, next);
+  }
 
-  pub listed_whole : left ≡ [] → Wrote sink old mid (flat_map line all) whole
-  listed_whole none = front_whole listed.put (ap (flat_map line) none)
+  pub listed_faults : {B : Type 0} {new : S} (these rest : List (List ℕ)) (result : Result B SinkFault) → left ≡ these ++ rest → Wrote sink mid new (concat these) broken → IsErr result
+      → Wrote sink old new (concat all) (ending result)
+  listed_faults these rest result first some err = front_broken (concat rest) result listed.put some (ap concat first ∙ concat-append these rest) err
 
-  pub listed_number : left ≡ [] → size [] ≡ 0 → n ≡ counted 0 (size all)
-  listed_number none empty =
+  pub listed_fault : {B : Type 0} {new : S} (line : List ℕ) (rest : List (List ℕ)) (result : Result B SinkFault) → left ≡ line ∷ rest → Wrote sink mid new line broken → IsErr result
+      → Wrote sink old new (concat all) (ending result)
+  listed_fault line rest result first one err = front_broken (concat rest) result listed.put one (ap concat first) err
+
+  pub listed_whole : left ≡ [] → Wrote sink old mid (concat all) whole
+  listed_whole none = front_whole listed.put (ap concat none)
+
+  pub listed_number : left ≡ [] → n ≡ counted 0 (length all)
+  listed_number none =
       let fits = listed.fits in
-      let last : counted n 0 ≡ counted 0 (size all) = ap (counted n) (sym (ap size none ∙ empty)) ∙ listed.number in
+      let last : counted n 0 ≡ counted 0 (length all) = ap (λ (l : List (List ℕ)). counted n (length l)) (sym none) ∙ listed.number in
       let small : n ≡ counted n 0 = omega (arith, fits) in
       small ∙ last
+
+-- ---- a fault that was passed on
+
+pub Wrote-given : {S A : Type 0} {sink : Ghosts S} {old new : S} {text : List ℕ} (e : ReportFault) (result : Result A ReportFault) → Wrote sink old new text (fault_ending e)
+    → IsErrAnd result (λ f. f ≡ e) → Wrote sink old new text (report_ending result)
+Wrote-given {text = text} e result one is = Wrote-same (append-nil text) (Wrote-fault [] e result one is)
+
+-- ---- three parts, one after another
+
+pub concat_three : (a b c : List (List ℕ)) → concat a ++ (concat b ++ concat c) ≡ concat (a ++ (b ++ c))
+concat_three a b c = ap (λ (text : List ℕ). concat a ++ text) (sym (concat-append b c)) ∙ sym (concat-append a (b ++ c))
+
+pub counted_two : (a b : List (List ℕ)) (x y n : ℕ) → x ≡ counted 0 (length a) → y ≡ counted 0 (length b) → n ≡ counted x y → n ≡ counted 0 (length (a ++ b))
+counted_two a b x y n is also sum = let long = length-append a b in omega (arith, is, also, sum, long)
+
+pub counted_three : (a b c : List (List ℕ)) (x y z m n : ℕ) → x ≡ counted 0 (length a) → y ≡ counted 0 (length b) → z ≡ counted 0 (length c) → m ≡ counted x y → n ≡ counted m z
+    → n ≡ counted 0 (length (a ++ (b ++ c)))
+counted_three a b c x y z m n is also last sum more =
+    let two = counted_two a b x y m is also sum in
+    let long = length-append a b in
+    let inner = length-append b c in
+    let outer = length-append a (b ++ c) in
+    omega (arith, two, last, more, long, inner, outer)

@@ -1,13 +1,14 @@
 -- A pass goes over entries that aren't revisions, up to the next revision.
-use Rattle.std.proofs.Common.{◌≡◌, ◌∙◌, ◌<◌, ◌≤◌, ℕ, List, length, Option, Some, None, refl, sym, ap, subst, arith}
+use Rattle.std.proofs.Common.{◌≡◌, ◌∙◌, ◌<◌, ◌≤◌, ◌⊎◌, inl, inr, ℕ, false, true, List, length, not, Option, Some, None, refl, sym, ap, subst, arith}
 use Rattle.std.proofs.Math.Logic.{∥∥₁_elim}
 use Rattle.std.proofs.Props.{props}
+use Rattle.std.specs.Option.{is_some}
 use Rattle.bolt_check.specs.{CheckedFiles.bytes_of, CheckedFiles.meta_of, Counts.counted, declared.checked.Checked.Checked}
 use Rattle.bolt_format.specs.Elements.{LeafElement}
 use Rattle.bolt_tree.proofs.PagerLemmas.{counted_more}
-use Rattle.bolt_tree.specs.{Entries.EntryView, Entries.Start, EntriesLeft.ForEntries, FileTrees.file_entries}
-use Rattle.bolt_etcd.specs.{Passes.ShowsFirst, Revisions.RevisionView, Revisions.revision_of, Stores.others, Stores.revisions}
-use Rattle.bolt_etcd.specs.RevisionsLeft.{CountsOthers, ForPass, GivesFirst, ahead_of, number_ahead, pass_checked, pass_entries, pass_others, pass_start}
+use Rattle.bolt_tree.specs.{Buckets.bucket_checked, Buckets.bucket_start, Entries.EntryView, Entries.Start, EntriesLeft.ForEntries, FileTrees.file_entries, declared.bucket.Bucket.Bucket}
+use Rattle.bolt_etcd.specs.{Passes.ShowsFirst, Revisions.RevisionView, Revisions.revision_of, Stores.ForBucket, Stores.others, Stores.revisions}
+use Rattle.bolt_etcd.specs.RevisionsLeft.{CountsOthers, ForPass, GivesFirst, OpensOne, ahead_of, begins_with_other, number_ahead, pass_checked, pass_entries, pass_others, pass_start}
 use Rattle.bolt_etcd.specs.declared.revisions.Revisions.{Revisions}
 use Rattle.bolt_etcd.proofs.Passing.{are_entries, counts_none, counts_one, fewer, gives, passes}
 
@@ -24,6 +25,12 @@ goes_none pass = record { checked = refl; start = refl; same = λ entries are. r
 
 pub moved_to : (a b : Checked) (s t : Start) (P : List LeafElement → Type 0) → a ≡ b → s ≡ t → ForEntries a s P → ForEntries b t P
 moved_to a b s t P file start all = subst (λ (q : Start). ForEntries b q P) start (subst (λ (c : Checked). ForEntries c s P) file all)
+
+-- a pass over all of a bucket: what holds of what it has ahead holds of the bucket's entries
+pub over_all : {X : Type 0} (bucket : Bucket) (checked : Checked) (start : Start) (ahead whole : List LeafElement → X) (Q : X → Type 0) → checked ≡ bucket_checked bucket → start ≡ bucket_start bucket
+    → ForEntries checked start (λ entries. ahead entries ≡ whole entries) → ForEntries checked start (λ entries. Q (ahead entries)) → ForBucket bucket (λ entries. Q (whole entries))
+over_all bucket checked start ahead whole Q file begins all each = λ entries are.
+    subst Q (moved_to _ _ _ _ (λ es. ahead es ≡ whole es) file begins all entries are) (moved_to _ _ _ _ (λ es. Q (ahead es)) file begins each entries are)
 
 -- the same pass, after one more of the entries that aren't revisions
 abbrev pub with_others : Revisions → ℕ → Revisions
@@ -89,3 +96,18 @@ module _ (old here next : Revisions) (x : Option EntryView) (goes : Goes old her
       let less = falls v is in
       let before = goes.behind in
       rw same (omega (arith, less, before))
+
+  -- unless the pass has gone over one before, the one that it goes over now is the first
+  pub other_first : (here ≡ old) ⊎ ForPass old (λ entries. begins_with_other (ahead_of old entries) ≡ true) → (v : EntryView) → x ≡ Some v → revision_of v ≡ None
+      → ForPass old (λ entries. begins_with_other (ahead_of old entries) ≡ true)
+  other_first (inl same) v is other = λ entries are.
+      let (e, shown, at) = rw is at (first_here entries are) in
+      ap (λ (p : Revisions). begins_with_other (ahead_of p entries)) (sym same) ∙ ap begins_with_other at
+      ∙ ap (λ (o : Option RevisionView). not (is_some o)) (ap revision_of (sym shown) ∙ other)
+  other_first (inr before) v is other = before
+
+-- if the first of those ahead is a revision, one step was made
+pub opens_first : (old here : Revisions) (n : ℕ) → (here ≡ old) ⊎ ForPass old (λ entries. begins_with_other (ahead_of old entries) ≡ true) → OpensOne here n
+    → ForPass old (λ entries. begins_with_other (ahead_of old entries) ≡ false → OpensOne old n)
+opens_first old here n (inl same) opens = λ entries are first. subst (λ (p : Revisions). OpensOne p n) same opens
+opens_first old here n (inr before) opens = λ entries are first. let other = before entries are in absurd (cc)

@@ -3,8 +3,7 @@ use Rattle.std.proofs.Common.{◌≡◌, ◌∙◌, ◌<◌, ◌+◌, ◌++◌, 
 use Rattle.std.proofs.Math.Seq.{drop-cons}
 use Rattle.bolt_text.specs.declared.forms.Form.{Form}
 use Rattle.bolt_etcd.specs.{RevisionLines.begins, RevisionLines.named, RevisionLines.named_line, RevisionLines.revision_line, RevisionLines.revision_lines}
-use Rattle.bolt_etcd.specs.{Revisions.RevisionView, ShownRevisions.shown_revision}
-use Rattle.bolt_etcd.specs.declared.revision.Revision.{Revision}
+use Rattle.bolt_etcd.specs.Revisions.{RevisionView}
 
 module _ (prefix : List ℕ) (form : Form) (values : Bool) where
   named_step : (r : RevisionView) (rs : List RevisionView) (b : Bool) → flat_map (named_line prefix form values) rs ≡ revision_lines form values (named prefix rs)
@@ -18,13 +17,17 @@ module _ (prefix : List ℕ) (form : Form) (values : Bool) where
   named_lines (r ∷ rs) = named_step r rs (begins prefix r) (named_lines rs)
 
 -- of those from number i on, the first and then the others
-pub lines_at : (line : RevisionView → List ℕ) (rs : List Revision) (i : ℕ) (r : Revision) → i < length rs → r ≡ get_or rs i r
-    → flat_map line (map shown_revision (drop i rs)) ≡ line (shown_revision r) ++ flat_map line (map shown_revision (drop (i + 1) rs))
-lines_at line rs i r within is =
+pub lines_from : {X Y Z : Type 0} (line : Y → List Z) (view : X → Y) (xs : List X) (i : ℕ) (d : X) → i < length xs
+    → flat_map line (map view (drop i xs)) ≡ line (view (get_or xs i d)) ++ flat_map line (map view (drop (i + 1) xs))
+lines_from {X} line view xs i d within =
     let next : suc i ≡ i + 1 = omega arith in
-    ap (λ (l : List Revision). flat_map line (map shown_revision l)) (drop-cons rs i r within)
-    ∙ ap (λ (x : Revision). line (shown_revision x) ++ flat_map line (map shown_revision (drop (suc i) rs))) (sym is)
-    ∙ ap (λ (n : ℕ). line (shown_revision r) ++ flat_map line (map shown_revision (drop n rs))) next
+    ap (λ (l : List X). flat_map line (map view l)) (drop-cons xs i d within)
+    ∙ ap (λ (n : ℕ). line (view (get_or xs i d)) ++ flat_map line (map view (drop n xs))) next
+
+pub lines_at : {X Y Z : Type 0} (line : Y → List Z) (view : X → Y) (xs : List X) (i : ℕ) (x : X) → i < length xs → x ≡ get_or xs i x
+    → flat_map line (map view (drop i xs)) ≡ line (view x) ++ flat_map line (map view (drop (i + 1) xs))
+lines_at {X} line view xs i x within is =
+    lines_from line view xs i x within ∙ ap (λ (y : X). line (view y) ++ flat_map line (map view (drop (i + 1) xs))) (sym is)
 
 -- in the same form, with values or without as before
 pub same_line : (prefix : List ℕ) (old new : Form) (values asked : Bool) (r : RevisionView) → new ≡ old → asked ≡ values

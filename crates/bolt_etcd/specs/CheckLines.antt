@@ -1,5 +1,5 @@
 -- What is wrong with a store, line by line: docs/COMMANDS.md, "What is printed".
-use Rattle.std.specs.Prelude.{ℕ, false, List, [], ◌∷◌, ◌+◌, ◌++◌, ◌==◌, codes, decimal, if◌then◌else◌}
+use Rattle.std.specs.Prelude.{ℕ, false, List, [], ◌∷◌, ◌++◌, ◌==◌, codes, decimal, if◌then◌else◌}
 use Rattle.std.specs.Fmt.{digits}
 use Rattle.bolt_text.specs.{Forms.item_text, declared.forms.Form.TheVariants.Hex, declared.forms.Form.TheVariants.Printable}
 use Rattle.bolt_etcd.specs.{NameFaults.NameFaultView, Others.No_record, Others.OtherView, Others.Other_key, Revisions.RevisionView}
@@ -41,13 +41,5 @@ abbrev pub lease_line : RevisionView → List ℕ
 lease_line r = named_then r (codes ": lease " ++ (digits 16 false r.content.lease ++ codes " is missing\n"))
 
 -- of a revision of which something is missing: a line for each
-abbrev pub fault_lines : NameFaultView → List ℕ
-fault_lines f = (if f.one_before then one_before_line f.revision else []) ++ (if f.lease then lease_line f.revision else [])
-
--- how many lines these have
-abbrev pub number_of : NameFaultView → ℕ
-number_of f = (if f.one_before then 1 else 0) + (if f.lease then 1 else 0)
-
-abbrev pub lines_of : List NameFaultView → ℕ
-lines_of [] = 0
-lines_of (f ∷ fs) = number_of f + lines_of fs
+abbrev pub fault_lines : NameFaultView → List (List ℕ)
+fault_lines f = (if f.one_before then one_before_line f.revision ∷ [] else []) ++ (if f.lease then lease_line f.revision ∷ [] else [])

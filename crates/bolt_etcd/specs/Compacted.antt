@@ -1,6 +1,8 @@
 -- Up to which transaction a store was compacted: what its bucket `meta` says.
-use Rattle.std.specs.Prelude.{◌≡◌, ℕ, List, Option, Some, None, codes, length, ◌==◌, if◌then◌else◌}
+use Rattle.std.specs.Prelude.{◌≡◌, ◌==◌, ◌&&◌, ℕ, Bool, List, Option, Some, None, codes, length, not, if◌then◌else◌}
+use Rattle.std.specs.{List.find, Option.option_map, Str.bytes_eq}
 use Rattle.bolt_format.specs.Elements.{LeafElement}
+use Rattle.bolt_check.specs.Keys.{Key}
 use Rattle.bolt_tree.specs.{Entries.Start, Lookups.IsValueAt}
 use Rattle.bolt_etcd.specs.RevisionKeys.{revision_key}
 use Rattle.bolt_etcd.specs.declared.revision_key.RevisionKey.{RevisionKey}
@@ -17,3 +19,14 @@ compacted_by None = 0
 -- by the value under `scheduledCompactRev` in a bucket
 abbrev pub IsCompacted : (Start → LeafElement → Type 0) → Start → ℕ → Type 0
 IsCompacted Entry meta n = (value : Option (List ℕ)) × IsValueAt Entry meta (codes "scheduledCompactRev") value × (n ≡ compacted_by value)
+
+-- the value under a key, if these are the entries of a bucket
+abbrev pub is_value : Key → LeafElement → Bool
+is_value key e = bytes_eq e.key key && not e.is_bucket
+
+abbrev pub value_under : Key → List LeafElement → Option (List ℕ)
+value_under key entries = option_map (λ (e : LeafElement). e.value) (find (is_value key) entries)
+
+-- by the entries of the bucket `meta`
+abbrev pub compacted_in : List LeafElement → ℕ
+compacted_in entries = compacted_by (value_under (codes "scheduledCompactRev") entries)

@@ -21,6 +21,8 @@ pub mod Shown
 pub mod ShownOthers
 pub mod ShownRevisions
 pub mod SnapshotFaults
+pub mod StoreBuckets
+pub mod StoreFaults
 pub mod Stores
 pub mod Told
 pub mod Wire

@@ -1,5 +1,5 @@
 -- The newest revision of a name.
-use Rattle.std.specs.Prelude.{ℕ, Bool, List, filter, nat_lt, not, ◌&&◌, Option, None}
+use Rattle.std.specs.Prelude.{ℕ, Bool, List, filter, nat_lt, not, ◌&&◌, Option, Some, None, if◌then◌else◌}
 use Rattle.std.specs.{List.last_or, Str.bytes_eq}
 use Rattle.bolt_etcd.specs.Revisions.{RevisionView, name_of}
 
@@ -16,6 +16,11 @@ until up_to rs = filter (is_until up_to) rs
 -- the last one of this name, if there is one
 unfoldable pub newest : List ℕ → List RevisionView → Option RevisionView
 newest name rs = last_or None (filter (is_named name) rs)
+
+-- the value of a revision, if there is one and it isn't a deletion
+abbrev pub value_if : Option RevisionView → Option (List ℕ)
+value_if None = None
+value_if (Some r) = if r.key.deleted then None else Some r.content.value
 
 -- of this name, and of no later transaction
 abbrev pub is_of : List ℕ → ℕ → RevisionView → Bool

@@ -1,9 +1,11 @@
 -- What a pass over the revisions of a bucket has ahead of it.
-use Rattle.std.specs.Prelude.{◌≡◌, ℕ, List, [], ◌∷◌, length, Option, Some, None}
+use Rattle.std.specs.Prelude.{◌≡◌, ℕ, Bool, false, List, [], ◌∷◌, length, not, Option, Some, None}
+use Rattle.std.specs.Option.{is_some}
 use Rattle.bolt_format.specs.Elements.{LeafElement}
 use Rattle.bolt_check.specs.{CheckedFiles.bytes_of, CheckedFiles.meta_of, Counts.counted, Keys.Key, declared.checked.Checked.Checked}
+use Rattle.bolt_tree.specs.{BucketViews.BucketView, BucketViews.bucket_in, CursorBounds.OpensByNext, CursorBounds.OpensSeek, Cursors.cursor_opened, Entries.entry_view}
 use Rattle.bolt_tree.specs.{Cursors.cursor_checked, Cursors.cursor_place, Cursors.cursor_start, Entries.Start, EntriesLeft.ForEntries, EntriesLeft.entries_left, FileTrees.file_entries, Places.Place}
-use Rattle.bolt_etcd.specs.{Revisions.RevisionView, Stores.entries_from, Stores.others, Stores.revisions, declared.revisions.Revisions.Revisions}
+use Rattle.bolt_etcd.specs.{Revisions.RevisionView, Revisions.revision_of, Stores.entries_from, Stores.others, Stores.revisions, declared.revisions.Revisions.Revisions}
 
 unfoldable pub pass_checked : Revisions → Checked
 pass_checked pass = cursor_checked pass.cursor
@@ -14,6 +16,10 @@ pass_start pass = cursor_start pass.cursor
 -- how many entries that aren't revisions it has gone over
 unfoldable pub pass_others : Revisions → ℕ
 pass_others pass = pass.others
+
+-- how many pages it has opened
+unfoldable pub pass_opened : Revisions → ℕ
+pass_opened pass = cursor_opened pass.cursor
 
 -- the entries from a key on, if it is still to seek that key, or those after the place of its cursor
 abbrev pub ahead_at : Option Key → Place → List LeafElement → List LeafElement
@@ -42,3 +48,16 @@ GivesFirst old new None = (revisions old ≡ []) × (new ≡ [])
 
 abbrev pub CountsOthers : (old new : List LeafElement) → (before after : ℕ) → Type 0
 CountsOthers old new before after = counted after (length (others new)) ≡ counted before (length (others old))
+
+-- what is opened for one entry more: what a seek of the key opens, or a step of the cursor
+abbrev pub OpensAt : BucketView → Option Key → Place → (old new : ℕ) → Type 0
+OpensAt bucket (Some key) place old new = OpensSeek bucket key old new
+OpensAt bucket None place old new = OpensByNext bucket place old new
+
+unfoldable pub OpensOne : Revisions → (new : ℕ) → Type 0
+OpensOne pass new = OpensAt (bucket_in (pass_checked pass) (pass_start pass)) pass.from (cursor_place pass.cursor) (pass_opened pass) new
+
+-- the first of these isn't a revision
+abbrev pub begins_with_other : List LeafElement → Bool
+begins_with_other [] = false
+begins_with_other (e ∷ entries) = not (is_some (revision_of (entry_view e)))

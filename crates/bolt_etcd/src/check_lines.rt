@@ -1,5 +1,6 @@
 //! Writes what is wrong with a store, line by line (docs/COMMANDS.md, "What is printed").
 ghost use Rattle.std.specs.Prelude.{[], if◌then◌else◌};
+ghost use Rattle.std.specs.List.{concat};
 ghost use Rattle.bolt_format.specs.{Endings.ending, Wrote.Wrote};
 ghost use Rattle.bolt_etcd.specs.CheckLines.{fault_lines, lease_line, misplaced_line, missing_line, one_before_line, other_line};
 ghost use Rattle.bolt_etcd.specs.{FaultsLeft.shown_fault, Others.No_record, Others.Other_key, ShownOthers.shown_other, ShownRevisions.shown_decoded, ShownRevisions.shown_revision};
@@ -134,7 +135,7 @@ fn put_revisions<S: Sink>(main: u64, first: u64, last: u64, sink: &mut S) -> Res
 
 /// Writes a line for each thing that is missing of a revision.
 pub(crate) fn put_name_fault<S: Sink>(fault: &NameFault<'_>, sink: &mut S) -> Result<(), SinkFault>
-    ensures { Wrote S.Sink sink.old sink.new (fault_lines (shown_fault fault.now)) (ending result) }
+    ensures { Wrote S.Sink sink.old sink.new (concat (fault_lines (shown_fault fault.now))) (ending result) }
 {
     let decoded = fault.revision.decode();
     put_one_before(&decoded, fault.one_before, sink)?;

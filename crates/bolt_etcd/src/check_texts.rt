@@ -1,9 +1,10 @@
 //! What is wrong with a store as texts, one after another.
-ghost use Rattle.std.specs.Prelude.{◌≡◌, IfOk, flat_map, length};
+ghost use Rattle.std.specs.Prelude.{◌≡◌, IfOk, flat_map, length, map};
+ghost use Rattle.std.specs.List.{concat};
 ghost use Rattle.bolt_check.specs.Counts.{counted};
 ghost use Rattle.bolt_format.specs.{Endings.ending, Wrote.Wrote};
 ghost use Rattle.bolt_etcd.specs.{CheckLines.misplaced_line, CheckLines.missing_line, CheckLines.other_line, Misplaced.misplaced, Others.others_of, Stores.revisions};
-ghost use Rattle.bolt_etcd.specs.{CheckLines.fault_lines, CheckLines.lines_of, CheckLines.number_of};
+ghost use Rattle.bolt_etcd.specs.CheckLines.{fault_lines};
 ghost use Rattle.bolt_etcd.specs.FaultsLeft.{ForGranted, faults_leases, faults_left, shown_fault};
 ghost use Rattle.bolt_etcd.specs.{MissingLeft.ForMissing, MissingLeft.missing_left, RevisionsLeft.ForPass, RevisionsLeft.ahead_of};
 
@@ -15,9 +16,9 @@ use bolt_format::{Sink, SinkFault};
 
 /// Writes a line for each entry ahead of a pass that isn't a revision, and returns how many these
 /// are. The number saturates at 2^64 - 1.
-pub fn put_others<S: Sink>(mut pass: Revisions<'_>, sink: &mut S) -> Result<u64, SinkFault>
-    ensures written { ForPass pass.entry (λ entries. Wrote S.Sink sink.old sink.new (flat_map other_line (others_of (ahead_of pass.entry entries))) (ending result)) }
-    ensures number { IfOk result (λ n. ForPass pass.entry (λ entries. n ≡ counted 0 (length (others_of (ahead_of pass.entry entries))))) }
+pub(crate) fn put_others<S: Sink>(mut pass: Revisions<'_>, sink: &mut S) -> Result<u64, SinkFault>
+    ensures written { ForPass pass.entry (λ entries. Wrote S.Sink sink.old sink.new (concat (map other_line (others_of (ahead_of pass.entry entries)))) (ending result)) }
+    ensures number { IfOk result (λ n. ForPass pass.entry (λ entries. n ≡ counted 0 (length (map other_line (others_of (ahead_of pass.entry entries)))))) }
 {
     let mut number = 0_u64;
     'rest: while let Some(other) = pass.next_other() {
@@ -29,10 +30,13 @@ pub fn put_others<S: Sink>(mut pass: Revisions<'_>, sink: &mut S) -> Result<u64,
 
 /// Writes a line for each revision ahead of a pass whose record says that another transaction wrote
 /// it, and returns how many these are. The number saturates at 2^64 - 1.
-pub fn put_all_misplaced<S: Sink>(mut pass: Revisions<'_>, sink: &mut S) -> Result<u64, SinkFault>
+pub(crate) fn put_all_misplaced<S: Sink>(
+    mut pass: Revisions<'_>,
+    sink: &mut S,
+) -> Result<u64, SinkFault>
     ensures written { ForPass pass.entry (λ entries.
-        Wrote S.Sink sink.old sink.new (flat_map misplaced_line (misplaced (revisions (ahead_of pass.entry entries)))) (ending result)) }
-    ensures number { IfOk result (λ n. ForPass pass.entry (λ entries. n ≡ counted 0 (length (misplaced (revisions (ahead_of pass.entry entries)))))) }
+        Wrote S.Sink sink.old sink.new (concat (map misplaced_line (misplaced (revisions (ahead_of pass.entry entries))))) (ending result)) }
+    ensures number { IfOk result (λ n. ForPass pass.entry (λ entries. n ≡ counted 0 (length (map misplaced_line (misplaced (revisions (ahead_of pass.entry entries))))))) }
 {
     let mut number = 0_u64;
     'rest: while let Some(revision) = pass.next_misplaced() {
@@ -44,12 +48,12 @@ pub fn put_all_misplaced<S: Sink>(mut pass: Revisions<'_>, sink: &mut S) -> Resu
 
 /// Writes a line for each thing that a pass has still to return, and returns how many these are.
 /// The number saturates at 2^64 - 1.
-pub fn put_all_missing<S: Sink>(
+pub(crate) fn put_all_missing<S: Sink>(
     mut pass: MissingNumbers<'_>,
     sink: &mut S,
 ) -> Result<u64, SinkFault>
-    ensures written { ForMissing pass.entry (λ entries. Wrote S.Sink sink.old sink.new (flat_map missing_line (missing_left pass.entry entries)) (ending result)) }
-    ensures number { IfOk result (λ n. ForMissing pass.entry (λ entries. n ≡ counted 0 (length (missing_left pass.entry entries)))) }
+    ensures written { ForMissing pass.entry (λ entries. Wrote S.Sink sink.old sink.new (concat (map missing_line (missing_left pass.entry entries))) (ending result)) }
+    ensures number { IfOk result (λ n. ForMissing pass.entry (λ entries. n ≡ counted 0 (length (map missing_line (missing_left pass.entry entries))))) }
 {
     let mut number = 0_u64;
     'rest: while let Some(missing) = pass.next() {
@@ -61,9 +65,12 @@ pub fn put_all_missing<S: Sink>(
 
 /// Writes the lines of what is missing of the names ahead of a pass, and returns how many these are.
 /// The number saturates at 2^64 - 1.
-pub fn put_name_faults<S: Sink>(mut pass: NameFaults<'_>, sink: &mut S) -> Result<u64, SinkFault>
-    ensures written { ForGranted (faults_leases pass.entry) (λ granted. Wrote S.Sink sink.old sink.new (flat_map fault_lines (faults_left pass.entry granted)) (ending result)) }
-    ensures number { IfOk result (λ n. ForGranted (faults_leases pass.entry) (λ granted. n ≡ counted 0 (lines_of (faults_left pass.entry granted)))) }
+pub(crate) fn put_name_faults<S: Sink>(
+    mut pass: NameFaults<'_>,
+    sink: &mut S,
+) -> Result<u64, SinkFault>
+    ensures written { ForGranted (faults_leases pass.entry) (λ granted. Wrote S.Sink sink.old sink.new (concat (flat_map fault_lines (faults_left pass.entry granted))) (ending result)) }
+    ensures number { IfOk result (λ n. ForGranted (faults_leases pass.entry) (λ granted. n ≡ counted 0 (length (flat_map fault_lines (faults_left pass.entry granted))))) }
 {
     let mut number = 0_u64;
     'rest: while let Some(fault) = pass.next() {
@@ -75,7 +82,7 @@ pub fn put_name_faults<S: Sink>(mut pass: NameFaults<'_>, sink: &mut S) -> Resul
 
 /// How many lines are written of it.
 fn number_of(fault: &NameFault<'_>) -> u64
-    ensures { result ≡ number_of (shown_fault fault.now) }
+    ensures { result ≡ length (fault_lines (shown_fault fault.now)) }
 {
     u64::from(fault.one_before) + u64::from(fault.lease)
 }

@@ -2,6 +2,7 @@
 ghost use Rattle.std.specs.Prelude.{◌≡◌, Some};
 ghost use Rattle.bolt_tree.specs.{BucketViews.entries_of, Buckets.bucket_checked, Buckets.bucket_start};
 ghost use Rattle.bolt_etcd.specs.Compacted.{IsCompacted, compacted_by};
+ghost use Rattle.bolt_etcd.specs.{StoreBuckets.ForStore, StoreFaults.store_compacted};
 
 use crate::revision_key::{LEN, RevisionKey};
 use bolt_tree::Bucket;
@@ -18,6 +19,15 @@ pub fn compacted(meta: &Bucket<'_>) -> u64
         Some(value) => main_in(value),
         None => 0,
     }
+}
+
+/// The number of the transaction up to which a store was compacted, by its root bucket. Returns
+/// `None` if that has no bucket `meta`: then nobody knows. Needs no memory.
+pub fn store_compacted(root: &Bucket<'_>) -> Option<u64>
+    ensures { ForStore root.now (λ store. result ≡ store_compacted store) }
+{
+    let meta = root.bucket(b"meta")?;
+    Some(compacted(&meta))
 }
 
 /// The number of the transaction, if the value is a revision key that isn't a deletion's.

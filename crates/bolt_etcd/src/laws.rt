@@ -2,8 +2,10 @@
 ghost use Rattle.std.specs.Prelude.{◌≡◌, ◌<◌, ◌↔◌, ℕ, List, Some, length, not};
 ghost use Rattle.std.specs.Option.{is_some};
 ghost use Rattle.bolt_check.specs.Keys.{key_cmp};
-ghost use Rattle.bolt_format.specs.{Bytes.IsBytes, Elements.LeafElement};
-ghost use Rattle.bolt_tree.specs.{Entries.EntryView, Order.Rises};
+ghost use Rattle.bolt_check.specs.Sound.{HasSoundTrees};
+ghost use Rattle.bolt_format.specs.{Bytes.IsBytes, Elements.LeafElement, declared.meta.Meta.Meta};
+ghost use Rattle.bolt_tree.specs.{Entries.EntryView, Entries.IsEntry, Entries.IsStart, Entries.Start, Order.Rises};
+ghost use Rattle.bolt_etcd.specs.{Current.AreCurrent, Current.place_cmp, NameFaults.AreByName, StoreBuckets.IsStore, StoreBuckets.StoreView};
 ghost use Rattle.bolt_etcd.specs.{MissingNumbers.missing_numbers, Revisions.RevisionView, Told.IsMissing, Told.IsTold, Told.number_cmp};
 ghost use Rattle.bolt_etcd.specs.{Others.other_of, Others.others_of, Revisions.revision_of, Stores.others};
 ghost use Rattle.bolt_etcd.specs.{RevisionKeys.IsSpelled, RevisionKeys.numbers_cmp, RevisionKeys.revision_key, RevisionKeys.spelling, Wire.field_and_later, Wire.fields};
@@ -43,4 +45,20 @@ pub fn an_entry_is_a_revision_or_another()
 /// revisions is.
 pub fn missing_transactions_are_told_exactly()
     ensures { (compacted t : ℕ) (rs : List RevisionView) → Rises number_cmp rs → IsTold t (missing_numbers compacted rs) ↔ IsMissing compacted t rs }
+{}
+
+/// Revisions in the order of their keys have one order by name, and there is one list of the keys
+/// that there are.
+pub fn revisions_have_one_order_by_name()
+    ensures by_name { (rs : List RevisionView) → Rises place_cmp rs
+        → (all : List RevisionView) × AreByName rs all × ((other : List RevisionView) → AreByName rs other → other ≡ all) }
+    ensures current { (rs : List RevisionView) → Rises place_cmp rs
+        → (current : List RevisionView) × AreCurrent rs current × ((other : List RevisionView) → AreCurrent rs other → other ≡ current) }
+{}
+
+/// If the trees of a file are sound, each bucket is the root bucket of one store.
+pub fn a_root_bucket_has_one_store()
+    ensures { (file : List ℕ) (meta : Meta) (root : Start) → HasSoundTrees file meta → IsStart file meta root
+        → (store : StoreView) × IsStore (IsEntry file meta) root store × ((other : StoreView) → IsStore (IsEntry file meta) root other
+        → ((name : List ℕ) → other.bucket name ≡ store.bucket name) × (other.by_name ≡ store.by_name)) }
 {}

@@ -22,12 +22,15 @@ mod revision_lines;
 mod revision_texts;
 mod revisions;
 mod snapshot;
+mod store_faults;
+#[cfg(test)]
+mod store_tests;
 #[cfg(test)]
 mod tests;
 mod wire;
 
 pub use crate::by_name::revisions_by_name;
-pub use crate::compaction::compacted;
+pub use crate::compaction::{compacted, store_compacted};
 pub use crate::current::Current;
 pub use crate::missing::{Missing, MissingNumbers};
 pub use crate::name_faults::{NameFault, NameFaults};
@@ -42,3 +45,4 @@ pub use crate::snapshot::{
     HASH_LEN, SnapshotFault, hashed_blocks_are_a_snapshot, snapshot_fault, snapshot_fault_text,
     trailing_bytes_change_nothing,
 };
+pub use crate::store_faults::put_store_faults;

@@ -19,7 +19,7 @@ pub struct Newest<'a> {
 }
 
 impl<'a> Newest<'a> {
-    ghost use Rattle.bolt_etcd.specs.Newest.{newest, until};
+    ghost use Rattle.bolt_etcd.specs.Newest.{newest, until, value_if};
 
     /// Finds the newest revision of a name in a bucket, of those of no later transaction than
     /// `up_to`. Goes over all entries of the bucket once, keeps nothing of the others, and needs no
@@ -39,6 +39,17 @@ impl<'a> Newest<'a> {
             revision,
             others: revisions.others(),
         }
+    }
+
+    /// The value of the newest revision, or `None` if there is none, or if it is a deletion.
+    pub fn value(&self) -> Option<&'a [u8]>
+        ensures { option_map (λ value. value.now) result ≡ value_if (option_map shown_revision self.now.revision) }
+    {
+        let decoded = self.revision.as_ref()?.decode();
+        if decoded.key.deleted {
+            return None;
+        }
+        Some(decoded.content.value)
     }
 }
 

@@ -1,7 +1,8 @@
 //! The revisions of a bucket, one after another.
-ghost use Rattle.std.specs.Prelude.{◌≡◌, ◌<◌, IfSome, None};
+ghost use Rattle.std.specs.Prelude.{◌≡◌, ◌<◌, ℕ, IfSome, None, false};
 ghost use Rattle.std.specs.Int.{to_be_bytes, w64};
 ghost use Rattle.std.specs.Option.{option_map};
+ghost use Rattle.bolt_tree.specs.{BucketViews.bucket_in, CursorBounds.OpensGap, CursorBounds.OpensSeek};
 ghost use Rattle.bolt_tree.specs.{Buckets.bucket_checked, Buckets.bucket_start, ShownEntries.shown_entry};
 ghost use Rattle.bolt_etcd.specs.{ShownRevisions.shown_revision, Stores.entries_from};
 
@@ -18,10 +19,10 @@ pub struct Revisions<'a> {
     others: u64,
 }
 
-#[tactic(auto, unfolding(crate::specs::RevisionsLeft::ahead_of, crate::specs::RevisionsLeft::pass_checked, crate::specs::RevisionsLeft::pass_others, crate::specs::RevisionsLeft::pass_start))]
+#[tactic(auto, unfolding(crate::specs::RevisionsLeft::OpensOne, crate::specs::RevisionsLeft::ahead_of, crate::specs::RevisionsLeft::pass_checked, crate::specs::RevisionsLeft::pass_opened, crate::specs::RevisionsLeft::pass_others, crate::specs::RevisionsLeft::pass_start))]
 impl<'a> Revisions<'a> {
     ghost use Rattle.bolt_etcd.specs.Passes.{ShowsFirst};
-    ghost use Rattle.bolt_etcd.specs.RevisionsLeft.{CountsOthers, ForPass, GivesFirst, ahead_of, number_ahead, pass_checked, pass_others, pass_start};
+    ghost use Rattle.bolt_etcd.specs.RevisionsLeft.{CountsOthers, ForPass, GivesFirst, OpensOne, ahead_of, begins_with_other, number_ahead, pass_checked, pass_opened, pass_others, pass_start};
 
     /// All revisions of a bucket.
     pub fn of(bucket: &Bucket<'a>) -> Revisions<'a>
@@ -29,6 +30,8 @@ impl<'a> Revisions<'a> {
         ensures start { pass_start result ≡ bucket_start bucket.now }
         ensures all { ForPass result (λ entries. ahead_of result entries ≡ entries) }
         ensures others { pass_others result ≡ 0 }
+        ensures opened { pass_opened result ≡ 0 }
+        ensures opens { (n : ℕ) → OpensOne result n → OpensGap (bucket_in (bucket_checked bucket.now) (bucket_start bucket.now)) 0 0 n }
     {
         Revisions {
             cursor: bucket.cursor(),
@@ -44,6 +47,8 @@ impl<'a> Revisions<'a> {
         ensures start { pass_start result ≡ bucket_start bucket.now }
         ensures rest { ForPass result (λ entries. ahead_of result entries ≡ entries_from (to_be_bytes w64 main) entries) }
         ensures others { pass_others result ≡ 0 }
+        ensures opened { pass_opened result ≡ 0 }
+        ensures opens { (n : ℕ) → OpensOne result n → OpensSeek (bucket_in (bucket_checked bucket.now) (bucket_start bucket.now)) (to_be_bytes w64 main) 0 n }
     {
         Revisions {
             cursor: bucket.cursor(),
@@ -53,7 +58,8 @@ impl<'a> Revisions<'a> {
     }
 
     /// Returns the next revision, or `None` if there is none. Entries that aren't revisions are
-    /// passed over and counted.
+    /// passed over and counted. If the next entry is a revision, it opens the pages of a seek if it
+    /// is the first one of `from`, and otherwise those of the cursor's `next`.
     pub fn next(&mut self) -> Option<Revision<'a>>
         ensures checked { pass_checked self.new ≡ pass_checked self.old }
         ensures start { pass_start self.new ≡ pass_start self.old }
@@ -61,6 +67,7 @@ impl<'a> Revisions<'a> {
         ensures counts { ForPass self.old (λ entries.
             CountsOthers (ahead_of self.old entries) (ahead_of self.new entries) (pass_others self.old) (pass_others self.new)) }
         ensures fewer { IfSome result (λ _. number_ahead self.new < number_ahead self.old) }
+        ensures opens { ForPass self.old (λ entries. begins_with_other (ahead_of self.old entries) ≡ false → OpensOne self.old (pass_opened self.new)) }
     {
         'rest: while let Some(entry) = self.advance() {
             if let Some(revision) = Revision::of(&entry) {
@@ -79,12 +86,20 @@ impl<'a> Revisions<'a> {
         self.others
     }
 
+    /// The number of pages that it has opened. It saturates at 2^64 - 1.
+    pub fn opened(&self) -> u64
+        ensures { result ≡ pass_opened self.now }
+    {
+        self.cursor.opened()
+    }
+
     /// The next entry.
     pub(crate) fn advance(&mut self) -> Option<Entry<'a>>
         ensures checked { pass_checked self.new ≡ pass_checked self.old }
         ensures start { pass_start self.new ≡ pass_start self.old }
         ensures first { ForPass self.old (λ entries. ShowsFirst (ahead_of self.old entries) (ahead_of self.new entries) (option_map shown_entry result)) }
         ensures others { pass_others self.new ≡ pass_others self.old }
+        ensures opens { OpensOne self.old (pass_opened self.new) }
     {
         match self.from.take() {
             Some(key) => self.cursor.seek(&key),

@@ -1,4 +1,4 @@
-use Rattle.std.proofs.Common.{◌≡◌, length}
+use Rattle.std.proofs.Common.{◌≡◌, map}
 use Rattle.bolt_etcd.specs.{CheckLines.misplaced_line, Misplaced.misplaced, Stores.revisions}
 use Rattle.bolt_etcd.specs.RevisionsLeft.{ForPass, ahead_of, number_ahead, pass_checked, pass_start}
 use Rattle.bolt_etcd.proofs.ListedTexts.{Listed}
@@ -9,7 +9,7 @@ abbrev pub invariant-rest : goal.invariant-rest
 invariant-rest g l = record {
   checked : pass_checked l.pass ≡ pass_checked l.fn.pass;
   start : pass_start l.pass ≡ pass_start l.fn.pass;
-  listed : ForPass l.fn.pass (λ entries. Listed g.S.Sink l.initial.sink l.sink misplaced_line length (misplaced (revisions (ahead_of l.fn.pass entries))) (misplaced (revisions (ahead_of l.pass entries))) l.number);
+  listed : ForPass l.fn.pass (λ entries. Listed g.S.Sink l.initial.sink l.sink (map misplaced_line (misplaced (revisions (ahead_of l.fn.pass entries)))) (map misplaced_line (misplaced (revisions (ahead_of l.pass entries)))) l.number);
 }
 
 abbrev pub decreases-rest : goal.decreases-rest

@@ -1,4 +1,4 @@
-use Rattle.std.proofs.Common.{◌≡◌, length}
+use Rattle.std.proofs.Common.{◌≡◌, map}
 use Rattle.bolt_etcd.specs.CheckLines.{missing_line}
 use Rattle.bolt_etcd.specs.MissingLeft.{ForMissing, missing_checked, missing_left, missing_start, number_left}
 use Rattle.bolt_etcd.proofs.ListedTexts.{Listed}
@@ -9,7 +9,7 @@ abbrev pub invariant-rest : goal.invariant-rest
 invariant-rest g l = record {
   checked : missing_checked l.pass ≡ missing_checked l.fn.pass;
   start : missing_start l.pass ≡ missing_start l.fn.pass;
-  listed : ForMissing l.fn.pass (λ entries. Listed g.S.Sink l.initial.sink l.sink missing_line length (missing_left l.fn.pass entries) (missing_left l.pass entries) l.number);
+  listed : ForMissing l.fn.pass (λ entries. Listed g.S.Sink l.initial.sink l.sink (map missing_line (missing_left l.fn.pass entries)) (map missing_line (missing_left l.pass entries)) l.number);
 }
 
 abbrev pub decreases-rest : goal.decreases-rest

@@ -12,7 +12,7 @@ returns-in_err-put_named-clause-written g c =
     Wrote-same (named_lines _ _ _ (map shown_revision c.args.revisions.now))
     (front_fault (flat_map line (map shown_revision (drop (c.rest.revision-index + 1) c.args.revisions.now))) _ _ c.rest.invariant.put
     (Wrote-same (same_line c.args.prefix.now _ _ _ _ (shown_revision c.revision-item.result) c.rest.invariant.form c.rest.invariant.values) c.in_err-put_named.ensures.written)
-    (lines_at line c.args.revisions.now c.rest.revision-index c.revision-item.result c.rest-test.true c.revision-item.is)
+    (lines_at line shown_revision c.args.revisions.now c.rest.revision-index c.revision-item.result c.rest-test.true c.revision-item.is)
     c.from_residual.ensures.1)
 
 pub rest-preserved : goal.rest-preserved
@@ -21,7 +21,7 @@ rest-preserved g c = record {
   values = c.put_named.ensures.values ∙ c.rest.invariant.values;
   put = front_more c.rest.invariant.put
       (Wrote-same (same_line c.args.prefix.now _ _ _ _ (shown_revision c.revision-item.result) c.rest.invariant.form c.rest.invariant.values) c.in_ok-put_named.ensures.written)
-      (lines_at (named_line c.args.prefix.now c.args.self.now.items.form c.args.self.now.values) c.args.revisions.now c.rest.revision-index c.revision-item.result c.rest-test.true c.revision-item.is);
+      (lines_at (named_line c.args.prefix.now c.args.self.now.items.form c.args.self.now.values) shown_revision c.args.revisions.now c.rest.revision-index c.revision-item.result c.rest-test.true c.revision-item.is);
 }
 
 pub returns-clause-written : goal.returns-clause-written

@@ -1,47 +1,56 @@
-use Rattle.std.proofs.Common.{ℕ, ap, ◌∙◌}
+use Rattle.std.proofs.Common.{◌∙◌, ℕ, ap, inl, inr, refl}
 use Rattle.std.specs.Option.{option_map}
 use Rattle.bolt_check.specs.Counts.{counted}
 use Rattle.bolt_tree.specs.ShownEntries.{shown_entry}
-use Rattle.bolt_etcd.proofs.RevisionSteps.{falls, goes_none, goes_on, none_counts, none_given, number_falls, some_counts, some_given}
+use Rattle.bolt_etcd.proofs.RevisionSteps.{falls, goes_none, goes_on, none_counts, none_given, number_falls, opens_first, other_first, some_counts, some_given}
 use Rattle.bolt_etcd.specs.{RevisionsLeft.ahead_of, RevisionsLeft.pass_others, ShownRevisions.shown_revision}
 use Rattle.bolt_etcd.proofs.revisions.Revisions.next.Goals as goal
 
 pub rest-init : goal.rest-init
-rest-init c = goes_none c.args.self.now
+rest-init c = record { goes = goes_none c.args.self.now; opens = inl refl }
 
 pub rest-smaller : goal.rest-smaller
 unfolding ahead_of
 rest-smaller c =
-    falls c.args.self.now c.rest.self c.advance.new.self _ c.rest.invariant c.advance.ensures.first (shown_entry c.in-Some.entry)
+    falls c.args.self.now c.rest.self c.advance.new.self _ c.rest.invariant.goes c.advance.ensures.first (shown_entry c.in-Some.entry)
     (ap (option_map shown_entry) c.in-Some.is)
 
 pub rest-preserved : goal.rest-preserved
 unfolding pass_others
-rest-preserved c =
-    goes_on c.args.self.now c.rest.self c.advance.new.self _ c.rest.invariant c.advance.ensures.first (shown_entry c.in-Some.entry) c.saturating_add-self.result
-    (ap (option_map shown_entry) c.in-Some.is) c.in_default-of.ensures c.advance.ensures.checked c.advance.ensures.start
-    (c.saturating_add-self.ensures ∙ ap (λ (k : ℕ). counted k 1) c.advance.ensures.others)
+rest-preserved c = record {
+  goes = goes_on c.args.self.now c.rest.self c.advance.new.self _ c.rest.invariant.goes c.advance.ensures.first (shown_entry c.in-Some.entry) c.saturating_add-self.result
+      (ap (option_map shown_entry) c.in-Some.is) c.in_default-of.ensures c.advance.ensures.checked c.advance.ensures.start
+      (c.saturating_add-self.ensures ∙ ap (λ (k : ℕ). counted k 1) c.advance.ensures.others);
+  opens = inr (other_first c.args.self.now c.rest.self c.advance.new.self _ c.rest.invariant.goes c.advance.ensures.first c.rest.invariant.opens (shown_entry c.in-Some.entry)
+      (ap (option_map shown_entry) c.in-Some.is) c.in_default-of.ensures);
+}
 
 pub returns-in-Some-of-clause-given : goal.returns-in-Some-of-clause-given
 returns-in-Some-of-clause-given c =
-    some_given c.args.self.now c.rest.self c.advance.new.self _ c.rest.invariant c.advance.ensures.first (shown_entry c.in-Some.entry) (shown_revision c.in-Some-of.revision)
+    some_given c.args.self.now c.rest.self c.advance.new.self _ c.rest.invariant.goes c.advance.ensures.first (shown_entry c.in-Some.entry) (shown_revision c.in-Some-of.revision)
     (ap (option_map shown_entry) c.in-Some.is) c.in-Some-of.ensures
 
 pub returns-in-Some-of-clause-counts : goal.returns-in-Some-of-clause-counts
 returns-in-Some-of-clause-counts c =
-    some_counts c.args.self.now c.rest.self c.advance.new.self _ c.rest.invariant c.advance.ensures.first (shown_entry c.in-Some.entry) (shown_revision c.in-Some-of.revision)
+    some_counts c.args.self.now c.rest.self c.advance.new.self _ c.rest.invariant.goes c.advance.ensures.first (shown_entry c.in-Some.entry) (shown_revision c.in-Some-of.revision)
     (ap (option_map shown_entry) c.in-Some.is) c.in-Some-of.ensures c.advance.ensures.others
 
 pub returns-clause-given : goal.returns-clause-given
 returns-clause-given c =
-    none_given c.args.self.now c.rest.self c.advance.new.self _ c.rest.invariant c.advance.ensures.first (ap (option_map shown_entry) c.in_default.is)
+    none_given c.args.self.now c.rest.self c.advance.new.self _ c.rest.invariant.goes c.advance.ensures.first (ap (option_map shown_entry) c.in_default.is)
 
 pub returns-clause-counts : goal.returns-clause-counts
 returns-clause-counts c =
-    none_counts c.args.self.now c.rest.self c.advance.new.self _ c.rest.invariant c.advance.ensures.first (ap (option_map shown_entry) c.in_default.is)
+    none_counts c.args.self.now c.rest.self c.advance.new.self _ c.rest.invariant.goes c.advance.ensures.first (ap (option_map shown_entry) c.in_default.is)
     c.advance.ensures.others
 
 pub returns-in-Some-of-clause-fewer : goal.returns-in-Some-of-clause-fewer
 returns-in-Some-of-clause-fewer c =
-    number_falls c.args.self.now c.rest.self c.advance.new.self _ c.rest.invariant c.advance.ensures.first (shown_entry c.in-Some.entry)
+    number_falls c.args.self.now c.rest.self c.advance.new.self _ c.rest.invariant.goes c.advance.ensures.first (shown_entry c.in-Some.entry)
     (ap (option_map shown_entry) c.in-Some.is) c.advance.ensures.checked c.advance.ensures.start
+
+pub returns-in-Some-of-clause-opens : goal.returns-in-Some-of-clause-opens
+returns-in-Some-of-clause-opens c = opens_first c.args.self.now c.rest.self _ c.rest.invariant.opens c.advance.ensures.opens
+
+pub returns-clause-opens : goal.returns-clause-opens
+returns-clause-opens c = opens_first c.args.self.now c.rest.self _ c.rest.invariant.opens c.advance.ensures.opens

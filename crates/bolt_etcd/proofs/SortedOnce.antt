@@ -1,0 +1,80 @@
+-- A list whose elements an order tells apart has one sorted order.
+use Rattle.std.proofs.Common.{◌≡◌, ◌∙◌, false, List, [], ◌∷◌, refl, ap, subst}
+use Rattle.std.proofs.lemmas.Bool.{cond-false}
+use Rattle.std.proofs.lemmas.Cmp.{nat_list_cmp_total, on_total, then_total}
+use Rattle.std.proofs.lemmas.List.Kept.{IsStrictlySortedBy-dedup}
+use Rattle.std.proofs.lemmas.List.Sorted.{Contains-permutation, IsPermutation-sym}
+use Rattle.std.proofs.lemmas.Map.Keys.{IsDistinct-IsPermutation}
+use Rattle.std.specs.Cmp.{IsTotalOrder}
+use Rattle.std.specs.List.{AllByRecursion, Contains, IsDistinct, dedup, dedup_from}
+use Rattle.std.specs.List.Sorted.{IsPermutation, IsSorted, IsStrictlySortedBy}
+use Rattle.std.specs.Ordering.{eq_by_cmp, is_eq, ordering_reverse, ordering_then}
+use Rattle.std.specs.declared.cmp.Ordering.{Ordering}
+use Rattle.std.specs.declared.cmp.Ordering.TheVariants.{Equal, Greater, Less}
+use Rattle.bolt_tree.proofs.Lists.{contains_head, contains_tail, rises_once}
+use Rattle.bolt_tree.specs.Order.{Rises}
+use Rattle.bolt_etcd.specs.{Current.AreCurrent, Current.name_cmp, Current.place_cmp, NameFaults.AreByName, NameFaults.by_name_cmp, Revisions.RevisionView, Revisions.name_of}
+use Rattle.bolt_etcd.proofs.NewestOfNames.{all_at}
+
+all_from : {X : Type 0} (P : X → Type 0) (xs : List X) → ((x : X) → Contains xs x → P x) → AllByRecursion P xs
+all_from P [] each = tt
+all_from P (x ∷ xs) each = (each x (contains_head x xs), all_from P xs (λ y has. each y (contains_tail x y xs has)))
+
+reverse_eq : (o : Ordering) → is_eq (ordering_reverse o) ≡ is_eq o
+reverse_eq Less = refl
+reverse_eq Equal = refl
+reverse_eq Greater = refl
+
+module _ {X : Type 0} {R : X → X → Ordering} (total : IsTotalOrder R) where
+  flips : (x y : X) → eq_by_cmp R x y ≡ eq_by_cmp R y x
+  flips x y = ap is_eq (total.antisymm x y) ∙ reverse_eq (R y x)
+
+  -- a list that rises by an order that tells its elements apart has none twice
+  differ : (C : X → X → Ordering) → ((x y : X) → C x y ≡ Less → eq_by_cmp R x y ≡ false) → (xs : List X) → Rises C xs → IsDistinct (eq_by_cmp R) xs
+  unfolding IsDistinct
+  differ C apart [] rises = tt
+  differ C apart (x ∷ xs) rises = (all_from (λ y. eq_by_cmp R x y ≡ false) xs (λ y has. apart x y (rises.0 y has)), differ C apart xs rises.1)
+
+  dedup_from_none : (x : X) (xs : List X) → IsDistinct (eq_by_cmp R) (x ∷ xs) → dedup_from (eq_by_cmp R) x xs ≡ x ∷ xs
+  unfolding IsDistinct
+  dedup_from_none x [] d = refl
+  dedup_from_none x (y ∷ ys) d = cond-false (eq_by_cmp R y x) _ _ (flips y x ∙ d.0.0) ∙ ap (λ (l : List X). x ∷ l) (dedup_from_none y ys d.1)
+
+  dedup_none : (xs : List X) → IsDistinct (eq_by_cmp R) xs → dedup (eq_by_cmp R) xs ≡ xs
+  dedup_none [] d = refl
+  dedup_none (x ∷ xs) d = dedup_from_none x xs d
+
+  rises_from : (xs : List X) → IsStrictlySortedBy R xs → Rises R xs
+  unfolding IsStrictlySortedBy
+  rises_from [] strict = tt
+  rises_from (x ∷ xs) strict = (λ y has. all_at (λ z. R x z ≡ Less) xs y strict.0 has, rises_from xs strict.1)
+
+  sorted_rises : (xs : List X) → IsDistinct (eq_by_cmp R) xs → IsSorted R xs → Rises R xs
+  sorted_rises xs d up = rises_from xs (subst (IsStrictlySortedBy R) (dedup_none xs d) (IsStrictlySortedBy-dedup total (λ x y. refl) xs up))
+
+  moved_distinct : (xs ys : List X) → IsPermutation xs ys → IsDistinct (eq_by_cmp R) xs → IsDistinct (eq_by_cmp R) ys
+  moved_distinct xs ys moved d = IsDistinct-IsPermutation (eq_by_cmp R) flips xs ys moved d
+
+  sorted_once : (xs ys zs : List X) → IsDistinct (eq_by_cmp R) xs → IsPermutation xs ys → IsPermutation xs zs → IsSorted R ys → IsSorted R zs → ys ≡ zs
+  sorted_once xs ys zs d to_ys to_zs up also =
+      rises_once total ys zs (sorted_rises ys (moved_distinct xs ys to_ys d) up) (sorted_rises zs (moved_distinct xs zs to_zs d) also)
+      (λ z has. Contains-permutation xs zs z to_zs (Contains-permutation ys xs z (IsPermutation-sym xs ys to_ys) has))
+      (λ z has. Contains-permutation xs ys z to_ys (Contains-permutation zs xs z (IsPermutation-sym xs zs to_zs) has))
+
+then_apart : (a b : Ordering) → b ≡ Less → is_eq (ordering_then a b) ≡ false
+then_apart Less b less = refl
+then_apart Equal b less = ap is_eq less
+then_apart Greater b less = refl
+
+pub by_name_total : IsTotalOrder by_name_cmp
+by_name_total = then_total (on_total name_of nat_list_cmp_total) (on_total (λ (r : RevisionView). r.place) nat_list_cmp_total)
+
+-- revisions in the order of their keys have one order by name
+pub by_name_once : (rs a b : List RevisionView) → Rises place_cmp rs → AreByName rs a → AreByName rs b → a ≡ b
+by_name_once rs a b rises is also =
+    sorted_once by_name_total rs a b (differ by_name_total place_cmp (λ x y less. then_apart (name_cmp x y) _ less) rs rises) is.same also.same is.rises also.rises
+
+-- and there is one list of the keys that there are
+pub current_once : (rs a b : List RevisionView) → AreCurrent rs a → AreCurrent rs b → a ≡ b
+current_once rs a b is also =
+    rises_once (on_total name_of nat_list_cmp_total) a b is.rises also.rises (λ r has. (also.exact r).1 ((is.exact r).0 has)) (λ r has. (is.exact r).1 ((also.exact r).0 has))

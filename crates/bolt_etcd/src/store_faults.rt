@@ -1,0 +1,170 @@
+//! What is wrong with a store, of its root bucket.
+ghost use Rattle.std.specs.Prelude.{◌≡◌, ◌⊎◌, ◌++◌, IfErr, IfOk, List, length, map};
+ghost use Rattle.std.specs.List.{concat};
+ghost use Rattle.bolt_check.specs.Counts.{counted};
+ghost use Rattle.bolt_format.specs.{Endings.ending, Wrote.Wrote};
+ghost use Rattle.bolt_text.specs.ReportEndings.{report_ending};
+ghost use Rattle.bolt_etcd.specs.{CheckLines.missing_line, FaultsLeft.ForGranted, NameFaults.AreByName, Revisions.RevisionView, Stores.ForBucket, Stores.revisions};
+ghost use Rattle.bolt_etcd.specs.StoreBuckets.{ForStore};
+ghost use Rattle.bolt_etcd.specs.StoreFaults.{bucket_line, bucket_lines, entry_lines, line_without, missing_if, name_lines, store_lines};
+
+use crate::by_name::revisions_by_name;
+use crate::check_texts::{put_all_misplaced, put_all_missing, put_name_faults, put_others};
+use crate::compaction::store_compacted;
+use crate::missing::MissingNumbers;
+use crate::name_faults::NameFaults;
+use crate::revisions::Revisions;
+use bolt_format::{Sink, SinkFault};
+use bolt_text::{Piece, ReportFault, put_pieces};
+use bolt_tree::Bucket;
+use std::alloc::Global;
+
+/// The buckets that every store has.
+const BUCKETS: [&[u8]; 6] = [
+    b"auth",
+    b"authRoles",
+    b"authUsers",
+    b"key",
+    b"lease",
+    b"meta",
+];
+
+/// Writes what is wrong with the store that this is the root bucket of, and returns how many lines
+/// these are. In this order:
+///
+/// - buckets that are missing;
+/// - entries of the bucket `key` that aren't revisions;
+/// - records of other revisions;
+/// - revisions that are missing by their numbers;
+/// - name by name, revisions that don't follow the one before them, and leases that aren't there.
+///
+/// Without the bucket `key`, only missing buckets have lines. The number saturates at 2^64 - 1. Keeps
+/// 48 bytes for each revision.
+///
+/// # Errors
+///
+/// `Sink` if the sink failed; `NoMemory` if memory ran out for the revisions, and the sink had not
+/// failed. The sink has then accepted a prefix of the lines. There is no other error.
+pub fn put_store_faults<S: Sink>(
+    alloc: Global,
+    root: &Bucket<'_>,
+    sink: &mut S,
+) -> Result<u64, ReportFault>
+    ensures written { ForStore root.now (λ store. Wrote S.Sink sink.old sink.new (concat (store_lines store)) (report_ending result)) }
+    ensures number { IfOk result (λ n. ForStore root.now (λ store. n ≡ counted 0 (length (store_lines store)))) }
+    ensures fault { IfErr result (λ fault. (fault ≡ ReportFault.Sink) ⊎ (fault ≡ ReportFault.NoMemory)) }
+{
+    let of_buckets = put_missing_buckets(root, &BUCKETS, sink)?;
+    let Some(keys) = root.bucket(b"key") else {
+        return Ok(of_buckets);
+    };
+    let compacted = store_compacted(root);
+    let of_entries = put_entry_faults(&keys, compacted, sink)?;
+    let of_names = put_faults_by_name(alloc, &keys, compacted, root.bucket(b"lease"), sink)?;
+    Ok(
+        of_buckets
+            .saturating_add(of_entries)
+            .saturating_add(of_names),
+    )
+}
+
+/// Writes a line for each of these names under which there is no bucket, and returns how many these
+/// are.
+fn put_missing_buckets<S: Sink>(
+    root: &Bucket<'_>,
+    names: &[&[u8]],
+    sink: &mut S,
+) -> Result<u64, SinkFault>
+    ensures written { ForStore root.now (λ store. Wrote S.Sink sink.old sink.new (concat (bucket_lines store (map (λ name. name.now) names.now))) (ending result)) }
+    ensures number { IfOk result (λ n. ForStore root.now (λ store. n ≡ counted 0 (length (bucket_lines store (map (λ name. name.now) names.now))))) }
+{
+    let mut number = 0_u64;
+    'rest: for name in names {
+        let more = put_missing_bucket(root, name, sink)?;
+        number = number.saturating_add(more);
+    }
+    Ok(number)
+}
+
+/// Writes a line if there is no bucket under a name, and returns the number of lines.
+fn put_missing_bucket<S: Sink>(
+    root: &Bucket<'_>,
+    name: &[u8],
+    sink: &mut S,
+) -> Result<u64, SinkFault>
+    ensures written { ForStore root.now (λ store. Wrote S.Sink sink.old sink.new (concat (line_without name.now (store.bucket name.now))) (ending result)) }
+    ensures number { IfOk result (λ n. ForStore root.now (λ store. n ≡ length (line_without name.now (store.bucket name.now)))) }
+{
+    if root.bucket(name).is_some() {
+        return Ok(0);
+    }
+    put_bucket_line(name, sink)?;
+    Ok(1)
+}
+
+/// Writes that the bucket under a name is missing.
+fn put_bucket_line<S: Sink>(name: &[u8], sink: &mut S) -> Result<(), SinkFault>
+    ensures { Wrote S.Sink sink.old sink.new (bucket_line name.now) (ending result) }
+{
+    put_pieces(
+        &[
+            Piece::Bytes(b"bucket "),
+            Piece::Bytes(name),
+            Piece::Bytes(b": missing\n"),
+        ],
+        sink,
+    )
+}
+
+/// Writes a line for each thing that is wrong with the entries of the bucket `key`, and returns how
+/// many these are.
+fn put_entry_faults<S: Sink>(
+    keys: &Bucket<'_>,
+    compacted: Option<u64>,
+    sink: &mut S,
+) -> Result<u64, SinkFault>
+    ensures written { ForBucket keys.now (λ entries. Wrote S.Sink sink.old sink.new (concat (entry_lines compacted entries)) (ending result)) }
+    ensures number { IfOk result (λ n. ForBucket keys.now (λ entries. n ≡ counted 0 (length (entry_lines compacted entries)))) }
+{
+    let others = put_others(Revisions::of(keys), sink)?;
+    let misplaced = put_all_misplaced(Revisions::of(keys), sink)?;
+    let missing = put_missing_numbers(keys, compacted, sink)?;
+    Ok(others.saturating_add(misplaced).saturating_add(missing))
+}
+
+/// Writes a line for what is missing by its number, if the transaction of the last compaction is
+/// known.
+fn put_missing_numbers<S: Sink>(
+    keys: &Bucket<'_>,
+    compacted: Option<u64>,
+    sink: &mut S,
+) -> Result<u64, SinkFault>
+    ensures written { ForBucket keys.now (λ entries.
+        Wrote S.Sink sink.old sink.new (concat (map missing_line (missing_if compacted (revisions entries)))) (ending result)) }
+    ensures number { IfOk result (λ n. ForBucket keys.now (λ entries. n ≡ counted 0 (length (map missing_line (missing_if compacted (revisions entries)))))) }
+{
+    match compacted {
+        Some(compacted) => put_all_missing(MissingNumbers::of(keys, compacted), sink),
+        None => Ok(0),
+    }
+}
+
+/// Writes a line for each thing that is missing of the names of the bucket `key`, and returns how
+/// many these are.
+fn put_faults_by_name<S: Sink>(
+    alloc: Global,
+    keys: &Bucket<'_>,
+    compacted: Option<u64>,
+    leases: Option<Bucket<'_>>,
+    sink: &mut S,
+) -> Result<u64, ReportFault>
+    ensures written { ForBucket keys.now (λ entries. ForGranted leases.entry (λ granted. (by_name : List RevisionView) → AreByName (revisions entries) by_name
+        → Wrote S.Sink sink.old sink.new (concat (name_lines compacted granted by_name)) (report_ending result))) }
+    ensures number { IfOk result (λ n. ForBucket keys.now (λ entries. ForGranted leases.entry (λ granted. (by_name : List RevisionView) → AreByName (revisions entries) by_name
+        → n ≡ counted 0 (length (name_lines compacted granted by_name))))) }
+    ensures fault { IfErr result (λ fault. (fault ≡ ReportFault.Sink) ⊎ (fault ≡ ReportFault.NoMemory)) }
+{
+    let revisions = revisions_by_name(alloc, keys)?;
+    let number = put_name_faults(NameFaults::of(&revisions, compacted, leases), sink)?;
+    Ok(number)
+}
