@@ -1,5 +1,5 @@
 -- What the program answers to each command, and what its sinks accept: docs/COMMANDS.md, "What a run writes".
-use Rattle.std.specs.Prelude.{◌≡◌, ◌≢◌, ◌<◌, ◌≤◌, ◌-◌, ◌⊎◌, ℕ, List, [], ◌∷◌, ◌++◌, Bool, true, false, IsTrue, codes, decimal, length, map, take, Option, Some, None, Result, Ok, Err, if◌then◌else◌}
+use Rattle.std.specs.Prelude.{◌≡◌, ◌≢◌, ◌<◌, ◌≤◌, ◌-◌, ◌^◌, ◌⊎◌, ℕ, zero, suc, nat_lt, List, [], ◌∷◌, ◌++◌, Bool, true, false, IsTrue, codes, decimal, length, map, take, Option, Some, None, Result, Ok, Err, if◌then◌else◌}
 use Rattle.std.specs.Io.KnownBytes.{Appends, Keeps}
 use Rattle.bolt_bulk.specs.Compacting.{too_many}
 use Rattle.bolt_layout.specs.Copies.{layout_of_listing}
@@ -17,7 +17,7 @@ use Rattle.bolt_recover.specs.{Losses.AreLosses, Losses.LossView, Losses.LostVie
 use Rattle.bolt_recover.specs.Recovered.{ForRecovered, IsRecovered}
 use Rattle.bolt_recover.specs.Refusals.{IsUnrecoverable, KeepsRoot, LosesRoot}
 use Rattle.bolt_recover.specs.declared.joined.JoinFault.{JoinFault}
-use Rattle.bolt_report.specs.{FaultWords.findings_text, FoundLines.FoundView, FoundLines.counted_lost_text, FoundLines.lost_text}
+use Rattle.bolt_report.specs.{FaultWords.count_line, FaultWords.findings_text, FoundLines.FoundView, FoundLines.counted_lost_text, FoundLines.lost_text}
 use Rattle.bolt_report.specs.{StatsLines.stats_text, KeyLines.buckets_text, KeyLines.keys_text}
 use Rattle.bolt_text.specs.{Forms.value_text, Forms.item_text}
 use Rattle.bolt_stats.specs.{Figures.add_stats}
@@ -45,6 +45,11 @@ use Rattle.bolt_commands.specs.declared.file_faults.FileFaults.{FileFaults}
 use Rattle.bolt_check.specs.ShownFindings.{findings_in}
 use Rattle.bolt_load.specs.declared.fault.LineFault.TheVariants.{CutOff}
 use Rattle.bolt_etcd.specs.declared.snapshot.SnapshotFault.{SnapshotFault}
+use Rattle.bolt_etcd.specs.{Current.AreCurrent, Newest.newest, Newest.until, Newest.value_if, RevisionLines.named, RevisionLines.revision_lines, Revisions.RevisionView}
+use Rattle.bolt_etcd.specs.{StoreBuckets.IsStore, StoreBuckets.StoreView, StoreFaults.store_compacted, StoreFaults.store_lines, Stores.entries_from, Stores.others, Stores.revisions}
+use Rattle.bolt_check.specs.Counts.{counted}
+use Rattle.std.specs.{Int.to_be_bytes, Int.w64, List.concat}
+use Rattle.bolt_job.specs.declared.etcd_commands.{EtcdCheckJob.EtcdCheckJob, EtcdGetJob.EtcdGetJob, EtcdKeysJob.EtcdKeysJob, EtcdRevisionsJob.EtcdRevisionsJob}
 use Rattle.bolt_job.specs.declared.bucket_commands.{BucketsJob.BucketsJob, GetJob.GetJob, KeysJob.KeysJob, ListJob.ListJob, StatsJob.StatsJob}
 use Rattle.bolt_job.specs.declared.job.Job.{Job}
 use Rattle.bolt_job.specs.declared.job.Job.TheVariants as job
@@ -132,11 +137,14 @@ IsEndedOrCut text ending answer = (answer ≡ record { out = text; ending = endi
 abbrev pub IsWholeOrCut : List ℕ → Answer → Type 0
 IsWholeOrCut text answer = IsEndedOrCut text (Ok 0) answer
 
--- the whole text; or a prefix of it, if memory ran out, which JSON alone needs
-abbrev pub IsShownText : Form → List ℕ → Answer → Type 0
-IsShownText form text answer =
-    (answer ≡ done text)
+-- the whole text, and this ending; or a prefix of it, if memory ran out, which JSON alone needs
+abbrev pub IsShownAndEnded : Form → List ℕ → Ending → Answer → Type 0
+IsShownAndEnded form text ending answer =
+    (answer ≡ record { out = text; ending = ending })
     ⊎ ((form ≡ Json) × (front : List ℕ) × (rest : List ℕ) × (text ≡ front ++ rest) × (answer ≡ record { out = front; ending = Err failure.Memory }))
+
+abbrev pub IsShownText : Form → List ℕ → Answer → Type 0
+IsShownText form text answer = IsShownAndEnded form text (Ok 0) answer
 
 -- a text of the entries of the bucket that the path leads to; or it leads to none
 abbrev pub IsEntriesAnswer : List ℕ → Path → Form → (List LeafElement → List ℕ) → Meta → Answer → Type 0
@@ -463,6 +471,105 @@ IsStatsPrint job file answer = IsReadAnswer file job.meta (IsStatsAnswer file (p
 abbrev pub IsListPrint : ListJob → List ℕ → Answer → Type 0
 IsListPrint job file answer = IsListedAnswer job.extent file job.meta job.form (path_in job.path.items) (path_in job.from.items) answer
 
+-- ---- what etcd keeps
+
+-- what is under the root bucket
+abbrev pub IsStoreOf : List ℕ → Meta → StoreView → Type 0
+IsStoreOf file meta store = IsStore (IsEntry file meta) (Root_page meta.root) store
+
+-- an answer of the entries of the bucket `key`, which may be missing
+abbrev pub OfKeys : Option (List LeafElement) → (List LeafElement → Answer → Type 0) → Answer → Type 0
+OfKeys None IsWanted answer = answer ≡ refused failure.NoBucket
+OfKeys (Some entries) IsWanted answer = IsWanted entries answer
+
+-- entries that aren't revisions are counted on standard error: they may have been newer
+abbrev pub others_ending : ℕ → Ending
+others_ending zero = Ok 0
+others_ending (suc n) = Err (failure.Others (suc n))
+
+abbrev pub entries_ending : List LeafElement → Ending
+entries_ending entries = others_ending (counted 0 (length (others entries)))
+
+-- from a transaction on, if one is named: the entries whose keys aren't below its number in eight bytes
+abbrev pub entries_asked : Option ℕ → List LeafElement → List LeafElement
+entries_asked None entries = entries
+entries_asked (Some main) entries = entries_from (to_be_bytes w64 main) entries
+
+-- of the revisions of no later transaction, if one is named; no number is above 2^64 - 1
+abbrev pub up_to : Option ℕ → ℕ
+up_to None = 2 ^ 64 - 1
+up_to (Some main) = main
+
+-- whether the transaction that is named was compacted away
+abbrev pub is_compacted : Option ℕ → Option ℕ → Bool
+is_compacted (Some main) (Some compacted) = nat_lt main compacted
+is_compacted _ _ = false
+
+abbrev pub UnlessCompacted : Bool → (Answer → Type 0) → Answer → Type 0
+UnlessCompacted true IsWanted answer = answer ≡ refused failure.Compacted
+UnlessCompacted false IsWanted answer = IsWanted answer
+
+-- an answer of the entries of the bucket `key` at a transaction
+abbrev pub IsAnswerAt : Option ℕ → StoreView → (List LeafElement → Answer → Type 0) → Answer → Type 0
+IsAnswerAt at store IsWanted answer = OfKeys (store.bucket (codes "key")) (λ entries. UnlessCompacted (is_compacted at (store_compacted store)) (IsWanted entries)) answer
+
+-- the lines of the revisions whose names begin with a prefix
+abbrev pub IsRevisionsText : EtcdRevisionsJob → List LeafElement → Answer → Type 0
+IsRevisionsText job entries answer =
+    let asked = entries_asked job.from entries in
+    IsShownAndEnded job.form (revision_lines job.form job.values (named job.prefix.items (revisions asked))) (entries_ending asked) answer
+
+-- the lines of the keys that there are at a transaction
+abbrev pub IsCurrentText : EtcdKeysJob → List LeafElement → Answer → Type 0
+IsCurrentText job entries answer =
+    (current : List RevisionView) × AreCurrent (until (up_to job.at) (revisions entries)) current
+    × IsEndedOrCut (revision_lines job.form job.values (named job.prefix.items current)) (entries_ending entries) answer
+
+-- a value, if there is one
+abbrev pub IsValueText : (no_newline : Bool) → Form → Ending → Option (List ℕ) → Answer → Type 0
+IsValueText no_newline form ending None answer = answer ≡ refused failure.NoKey
+IsValueText no_newline form ending (Some value) answer = IsShownAndEnded form (if no_newline then item_text form value else value_text form value) ending answer
+
+-- what a key held at a transaction
+abbrev pub IsHeldText : EtcdGetJob → List LeafElement → Answer → Type 0
+IsHeldText job entries answer =
+    IsValueText job.no_newline job.form (entries_ending entries) (value_if (newest job.name.items (until (up_to job.at) (revisions entries)))) answer
+
+-- what is wrong with a store, line by line, and then how many lines these are
+abbrev pub store_text : List (List ℕ) → List ℕ
+store_text [] = codes "OK\n"
+store_text (line ∷ lines) = concat (line ∷ lines) ++ count_line (counted 0 (length (line ∷ lines)))
+
+abbrev pub store_status : List (List ℕ) → ℕ
+store_status [] = 0
+store_status (line ∷ lines) = 1
+
+abbrev pub IsStoreText : StoreView → Answer → Type 0
+IsStoreText store answer = IsEndedOrCut (store_text (store_lines store)) (Ok (store_status (store_lines store))) answer
+
+-- the file isn't refused, and this is an answer of its store
+abbrev pub IsStoreAnswer : List ℕ → (StoreView → Answer → Type 0) → Meta → Answer → Type 0
+IsStoreAnswer file IsWanted meta answer = (store : StoreView) × IsStoreOf file meta store × IsWanted store answer
+
+abbrev pub IsEtcdRevisionsPrint : EtcdRevisionsJob → List ℕ → Answer → Type 0
+IsEtcdRevisionsPrint job file answer = IsReadAnswer file job.meta (IsStoreAnswer file (λ store. OfKeys (store.bucket (codes "key")) (IsRevisionsText job))) answer
+
+abbrev pub IsEtcdKeysPrint : EtcdKeysJob → List ℕ → Answer → Type 0
+IsEtcdKeysPrint job file answer = IsReadAnswer file job.meta (IsStoreAnswer file (λ store. IsAnswerAt job.at store (IsCurrentText job))) answer
+
+abbrev pub IsEtcdGetPrint : EtcdGetJob → List ℕ → Answer → Type 0
+IsEtcdGetPrint job file answer = IsReadAnswer file job.meta (IsStoreAnswer file (λ store. IsAnswerAt job.at store (IsHeldText job))) answer
+
+-- nothing else is wrong with the file
+abbrev pub no_faults : FileFaults
+no_faults = record { hash = None; other = None }
+
+-- what `check` finds, or what is wrong with the store
+abbrev pub IsEtcdCheckPrint : EtcdCheckJob → List ℕ → Answer → Type 0
+IsEtcdCheckPrint job file answer =
+    ((meta : Meta) × IsReadUnder file job.meta meta × IsStoreAnswer file IsStoreText meta answer)
+    ⊎ ((fault : CheckFault) × IsRefusedUnder file job.meta fault × (answer ≡ check_refusal no_faults fault))
+
 -- ---- all commands
 
 -- standard output and the target, each from its state `old` to `new`
@@ -541,6 +648,10 @@ module _ {O T : Type 0} (out_taken : O → Option (List ℕ)) (out_failed : O �
   DoesJob file (job.Get j) = Prints (IsGetPrint j file)
   DoesJob file (job.List j) = Prints (IsListPrint j file)
   DoesJob file (job.Compact j) = MakesCopy file j.meta j.page_size (layout_for j.kind) (is_snapshot j.kind) j.extent
+  DoesJob file (job.EtcdRevisions j) = Prints (IsEtcdRevisionsPrint j file)
+  DoesJob file (job.EtcdKeys j) = Prints (IsEtcdKeysPrint j file)
+  DoesJob file (job.EtcdGet j) = Prints (IsEtcdGetPrint j file)
+  DoesJob file (job.EtcdCheck j) = Prints (IsEtcdCheckPrint j file)
   DoesJob file (job.Load j) = Loads file j.page_size.bytes j.sequence (layout_for j.kind) (is_snapshot j.kind)
 
 -- ---- the end of a run

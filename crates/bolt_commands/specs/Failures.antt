@@ -14,7 +14,7 @@ use Rattle.bolt_etcd.specs.{SnapshotFaults.snapshot_fault_text}
 use Rattle.bolt_text.specs.declared.fault.ReportFault.{ReportFault}
 use Rattle.bolt_text.specs.declared.fault.ReportFault.TheVariants as report
 use Rattle.bolt_commands.specs.declared.failure.Failure.{Failure}
-use Rattle.bolt_commands.specs.declared.failure.Failure.TheVariants.{Exists, File, Hash, Line, Lost, Memory, Metas, NoBucket, NoKey, Page, TooLarge, Write}
+use Rattle.bolt_commands.specs.declared.failure.Failure.TheVariants.{Compacted, Exists, File, Hash, Line, Lost, Memory, Metas, NoBucket, NoKey, Others, Page, TooLarge, Write}
 
 abbrev pub failure_text : Failure → List ℕ
 failure_text (Metas fault) = meta_fault_text fault
@@ -27,6 +27,8 @@ failure_text TooLarge = codes "layout too large\n"
 failure_text Write = codes "write failed\n"
 failure_text (Hash fault) = snapshot_fault_text fault
 failure_text Exists = codes "lost+found exists\n"
+failure_text (Others count) = codes "not revisions: " ++ (decimal count ++ codes "\n")
+failure_text Compacted = codes "revision compacted\n"
 failure_text (Lost count) = codes "pages lost: " ++ (decimal count ++ codes "\n")
 failure_text (Line number fault) = codes "line " ++ ((decimal number ++ codes ": ") ++ (line_fault_words fault ++ codes "\n"))
 

@@ -38,6 +38,10 @@ pub enum Failure {
     Write,
     /// What is recovered was listed, and this many pages were lost.
     Lost(u64),
+    /// The transaction that was asked for was compacted away.
+    Compacted,
+    /// What etcd keeps was printed, and this many entries of its bucket `key` aren't revisions.
+    Others(u64),
     /// The file isn't the text of a listing: the number of its first line that isn't right, and what
     /// is wrong with it.
     Line(u64, LineFault),

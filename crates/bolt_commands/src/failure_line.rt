@@ -35,7 +35,9 @@ fn put_text<E: Sink>(failure: &Failure, err: &mut E) -> Result<(), SinkFault>
         Failure::Hash(fault) => snapshot_fault_text(*fault, err),
         Failure::Exists => put(b"lost+found exists\n", err),
         Failure::Write => put(b"write failed\n", err),
-        Failure::Lost(count) => put_pages_lost(*count, err),
+        Failure::Lost(count) => put_number(b"pages lost: ", *count, err),
+        Failure::Others(count) => put_number(b"not revisions: ", *count, err),
+        Failure::Compacted => put(b"revision compacted\n", err),
         Failure::Line(line, fault) => put_line_fault(*line, *fault, err),
     }
 }
@@ -47,13 +49,11 @@ fn put_file_refused<E: Sink>(finding: &Finding, err: &mut E) -> Result<(), SinkF
     finding_text(finding, err)
 }
 
-fn put_pages_lost<E: Sink>(count: u64, err: &mut E) -> Result<(), SinkFault>
-    ensures { Wrote E.Sink err.old err.new (codes "pages lost: " ++ (decimal count ++ codes "\n")) (ending result) }
+/// Writes a number after a text.
+fn put_number<E: Sink>(text: &[u8], number: u64, err: &mut E) -> Result<(), SinkFault>
+    ensures { Wrote E.Sink err.old err.new (text.now ++ (decimal number ++ codes "\n")) (ending result) }
 {
-    put_pieces(
-        &[Piece::Field(b"pages lost: ", count), Piece::Bytes(b"\n")],
-        err,
-    )
+    put_pieces(&[Piece::Field(text, number), Piece::Bytes(b"\n")], err)
 }
 
 fn put_line_fault<E: Sink>(line: u64, fault: LineFault, err: &mut E) -> Result<(), SinkFault>

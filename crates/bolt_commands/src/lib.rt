@@ -9,6 +9,7 @@ mod copies;
 mod copy_commands;
 mod copy_layout;
 mod copy_source;
+mod etcd_commands;
 mod failure;
 mod failure_line;
 mod file_faults;
@@ -20,6 +21,7 @@ mod printing_commands;
 
 use crate::check_command::print_check;
 use crate::copy_commands::{write_copy, write_loaded};
+use crate::etcd_commands::{print_current, print_held, print_revisions, print_store_check};
 use crate::failure::Outcome;
 use crate::failure_line::put_failure;
 use crate::list_command::print_list;
@@ -85,5 +87,9 @@ fn do_job<O: Sink, T: Sink>(input: Input<'_>, job: &Job, out: &mut O, target: &m
         Job::List(job) => print_list(input, job, out),
         Job::Compact(job) => write_copy(input, job, out, target),
         Job::Load(job) => write_loaded(input, job, out, target),
+        Job::EtcdRevisions(job) => print_revisions(input, job, out),
+        Job::EtcdKeys(job) => print_current(input, job, out),
+        Job::EtcdGet(job) => print_held(input, job, out),
+        Job::EtcdCheck(job) => print_store_check(input, job, out),
     }
 }

@@ -1,0 +1,161 @@
+//! The commands that read what etcd keeps in a file: `etcd-revisions`, `etcd-keys`, `etcd-get` and `etcd-check`.
+ghost use Rattle.std.specs.Prelude.{◌≡◌, ◌⊎◌, IfErr, IfOk, List};
+ghost use Rattle.bolt_etcd.specs.StoreBuckets.{ForStore};
+ghost use Rattle.bolt_format.specs.{Endings.ending, Wrote.Wrote};
+ghost use Rattle.bolt_report.specs.FaultWords.{count_line};
+ghost use Rattle.bolt_text.specs.ReportEndings.{report_ending};
+ghost use Rattle.bolt_etcd.specs.{StoreFaults.store_compacted, StoreFaults.store_lines};
+ghost use Rattle.bolt_commands.specs.Answers.{Does, IsEtcdCheckPrint, IsEtcdGetPrint, IsEtcdKeysPrint, IsEtcdRevisionsPrint, is_compacted, up_to};
+ghost use Rattle.bolt_commands.specs.Private.{Etcd.IsStoreRead, Etcd.IsUnreadStore, Etcd.compacted_or, Etcd.end_of_revisions, Etcd.held_text, Etcd.keys_or, Printing.PrintsAnswer};
+
+use crate::check_command::put_refusal;
+use crate::failure::{Failure, Outcome};
+use crate::file_faults::FileFaults;
+use crate::opening::Input;
+use bolt_etcd::{Newest, RevisionWriter, Revisions, put_store_faults, store_compacted};
+use bolt_format::{Sink, SinkFault};
+use bolt_job::{EtcdCheckJob, EtcdGetJob, EtcdKeysJob, EtcdRevisionsJob, MetaChoice};
+use bolt_text::{Form, Piece, ReportFault, item, put_pieces, value};
+use bolt_tree::Bucket;
+use std::alloc::Global;
+
+/// What etcd keeps in a file.
+struct Store<'f> {
+    /// The root bucket.
+    root: Bucket<'f>,
+    /// The bucket `key`, which has the revisions.
+    keys: Bucket<'f>,
+}
+
+/// Writes the revisions of names that begin with a prefix, from a transaction on.
+pub(crate) fn print_revisions<O: Sink>(
+    input: Input<'_>,
+    job: &EtcdRevisionsJob,
+    out: &mut O,
+) -> Outcome
+    ensures { PrintsAnswer O.Sink out.old out.new (IsEtcdRevisionsPrint job.now input.entry.file.now) result }
+{
+    let store = read_store(input, job.meta)?;
+    let pass = match job.from {
+        Some(main) => Revisions::from(&store.keys, main),
+        None => Revisions::of(&store.keys),
+    };
+    let mut lines = RevisionWriter::new(input.alloc, job.form, job.values);
+    end_revisions(lines.put_pass(pass, job.prefix.as_slice(), out))
+}
+
+/// Writes the keys that there were at a transaction.
+pub(crate) fn print_current<O: Sink>(input: Input<'_>, job: &EtcdKeysJob, out: &mut O) -> Outcome
+    ensures { PrintsAnswer O.Sink out.old out.new (IsEtcdKeysPrint job.now input.entry.file.now) result }
+{
+    let store = read_store(input, job.meta)?;
+    refuse_compacted(&store.root, job.at)?;
+    let mut lines = RevisionWriter::new(input.alloc, job.form, job.values);
+    let prefix = job.prefix.as_slice();
+    end_revisions(lines.put_current(input.alloc, &store.keys, up_to(job.at), prefix, out))
+}
+
+/// Writes what a key held at a transaction.
+pub(crate) fn print_held<O: Sink>(input: Input<'_>, job: &EtcdGetJob, out: &mut O) -> Outcome
+    ensures { PrintsAnswer O.Sink out.old out.new (IsEtcdGetPrint job.now input.entry.file.now) result }
+{
+    let store = read_store(input, job.meta)?;
+    refuse_compacted(&store.root, job.at)?;
+    let newest = Newest::find(&store.keys, job.name.as_slice(), up_to(job.at));
+    let Some(held) = newest.value() else {
+        return Err(Failure::NoKey);
+    };
+    put_held(input.alloc, held, job, out)?;
+    end_others(newest.others)
+}
+
+/// Writes `OK`, or what is wrong with a file, or with what etcd keeps in it.
+pub(crate) fn print_store_check<O: Sink>(
+    input: Input<'_>,
+    job: &EtcdCheckJob,
+    out: &mut O,
+) -> Outcome
+    ensures { PrintsAnswer O.Sink out.old out.new (IsEtcdCheckPrint job.now input.entry.file.now) result }
+{
+    let checked = match input.check(job.meta) {
+        Ok(checked) => checked,
+        Err(fault) => return put_refusal(&fault, FileFaults::none(), out),
+    };
+    let errors = put_store_faults(input.alloc, &Bucket::root(checked), out)?;
+    if errors == 0 {
+        out.put(b"OK\n")?;
+        return Ok(0);
+    }
+    put_count(errors, out)?;
+    Ok(1)
+}
+
+/// What etcd keeps in a file, which is checked first.
+fn read_store<'f>(input: Input<'f>, choice: MetaChoice) -> Result<Store<'f>, Failure>
+    ensures found { IfOk result (IsStoreRead input.entry.file.now choice) }
+    ensures refused { IfErr result (IsUnreadStore input.entry.file.now choice) }
+{
+    let root = Bucket::root(input.read(choice)?);
+    match root.bucket(b"key") {
+        Some(keys) => Ok(Store { root, keys }),
+        None => Err(Failure::NoBucket),
+    }
+}
+
+/// Refuses a transaction that was compacted away.
+fn refuse_compacted(root: &Bucket<'_>, at: Option<u64>) -> Result<(), Failure>
+    ensures { ForStore root.now (λ store. result ≡ compacted_or (is_compacted at (store_compacted store))) }
+{
+    match (at, store_compacted(root)) {
+        (Some(main), Some(compacted)) if main < compacted => Err(Failure::Compacted),
+        _ => Ok(()),
+    }
+}
+
+/// The last transaction that counts: the one that is named, or any.
+fn up_to(at: Option<u64>) -> u64
+    ensures { result ≡ up_to at }
+{
+    at.unwrap_or(u64::MAX)
+}
+
+/// Writes a value, and a line feed unless none is wanted.
+fn put_held<O: Sink>(
+    alloc: Global,
+    held: &[u8],
+    job: &EtcdGetJob,
+    out: &mut O,
+) -> Result<(), ReportFault>
+    ensures written { Wrote O.Sink out.old out.new (held_text job.now held.now) (report_ending result) }
+    ensures fault { IfErr result (λ fault. (fault ≡ ReportFault.Sink) ⊎ ((fault ≡ ReportFault.NoMemory) × (job.now.form ≡ Form.Json))) }
+{
+    if job.no_newline {
+        item(alloc, held, job.form, out)
+    } else {
+        value(alloc, held, job.form, out)
+    }
+}
+
+/// How a job ends that wrote revisions.
+fn end_revisions(put: Result<u64, ReportFault>) -> Outcome
+    ensures { result ≡ end_of_revisions put }
+{
+    end_others(put?)
+}
+
+/// How a job ends if so many entries aren't revisions.
+fn end_others(others: u64) -> Outcome
+    ensures { result ≡ others_ending others }
+{
+    match others {
+        0 => Ok(0),
+        _ => Err(Failure::Others(others)),
+    }
+}
+
+/// Writes how many errors were found.
+fn put_count<O: Sink>(errors: u64, out: &mut O) -> Result<(), SinkFault>
+    ensures { Wrote O.Sink out.old out.new (count_line errors) (ending result) }
+{
+    put_pieces(&[Piece::Number(errors), Piece::Bytes(b" errors found\n")], out)
+}
