@@ -1,5 +1,5 @@
 -- What the words of a command line ask for: docs/COMMANDS.md, "Words".
-use Rattle.std.specs.Prelude.{◌==◌, ◌&&◌, ℕ, Bool, true, false, List, [], ◌∷◌, Option, Some, None, Result, Ok, Err, Vec, codes, map, option_map, string_bytes, if◌then◌else◌}
+use Rattle.std.specs.Prelude.{◌==◌, ◌&&◌, ℕ, Bool, true, false, List, [], ◌∷◌, Option, Some, None, Result, Ok, Err, Vec, codes, map, option_map, string_bytes, if◌then◌else◌, nat_lt, ◌^◌}
 use Rattle.std.specs.List.{after_first, before_first, list_any}
 use Rattle.std.specs.Str.{bytes_eq}
 use Rattle.bolt_check.specs.Keys.{Key}
@@ -18,6 +18,7 @@ use Rattle.bolt_job.specs.declared.choices.Extent.TheVariants as extent
 use Rattle.bolt_job.specs.declared.choices.MetaChoice.{MetaChoice}
 use Rattle.bolt_job.specs.declared.choices.MetaChoice.TheVariants as choice
 use Rattle.bolt_job.specs.declared.choices.PageSize.{PageSize}
+use Rattle.bolt_job.specs.declared.etcd_commands.{EtcdCheckJob.EtcdCheckJob, EtcdGetJob.EtcdGetJob, EtcdKeysJob.EtcdKeysJob, EtcdRevisionsJob.EtcdRevisionsJob}
 use Rattle.bolt_job.specs.declared.page_commands.{CheckJob.CheckJob, InfoJob.InfoJob, PageJob.PageJob, PagesJob.PagesJob}
 use Rattle.bolt_job.specs.declared.bucket_commands.{BucketsJob.BucketsJob, GetJob.GetJob, KeysJob.KeysJob, ListJob.ListJob, StatsJob.StatsJob}
 use Rattle.bolt_job.specs.declared.writing_commands.{CompactJob.CompactJob, LoadJob.LoadJob}
@@ -66,6 +67,10 @@ pub data Asked : Type 0 where
   list : Text → AskedMeta → ListForm → (path from : Path) → Extent → Asked
   compact : (file : Text) → AskedMeta → (target : Text) → (page_size : Option ℕ) → CopyKind → Extent → Asked
   load : (file target : Text) → (sequence page_size : ℕ) → CopyKind → Asked
+  etcd_revisions : Text → AskedMeta → (prefix : Key) → (from : Option ℕ) → Form → (values : Bool) → Asked
+  etcd_keys : Text → AskedMeta → (prefix : Key) → (revision : Option ℕ) → Form → (values : Bool) → Asked
+  etcd_get : Text → AskedMeta → (name : Key) → (revision : Option ℕ) → Form → (no_newline : Bool) → Asked
+  etcd_check : Text → AskedMeta → Asked
 
 -- the path that the code owns
 abbrev pub path_in : {Z : Type 0} → List (Vec ℕ Z) → Path
@@ -115,6 +120,18 @@ compact_of j = compact (string_bytes j.file) (meta_in j.meta) (string_bytes j.ta
 abbrev pub load_of : LoadJob → Asked
 load_of j = load (string_bytes j.file) (string_bytes j.target) j.sequence j.page_size.bytes j.kind
 
+abbrev pub etcd_revisions_of : EtcdRevisionsJob → Asked
+etcd_revisions_of j = etcd_revisions (string_bytes j.file) (meta_in j.meta) j.prefix.items j.from j.form j.values
+
+abbrev pub etcd_keys_of : EtcdKeysJob → Asked
+etcd_keys_of j = etcd_keys (string_bytes j.file) (meta_in j.meta) j.prefix.items j.at j.form j.values
+
+abbrev pub etcd_get_of : EtcdGetJob → Asked
+etcd_get_of j = etcd_get (string_bytes j.file) (meta_in j.meta) j.name.items j.at j.form j.no_newline
+
+abbrev pub etcd_check_of : EtcdCheckJob → Asked
+etcd_check_of j = etcd_check (string_bytes j.file) (meta_in j.meta)
+
 -- the words that a line gives by each name
 abbrev pub Values : Type 0
 Values = Text → List Text
@@ -163,6 +180,17 @@ load_size_by None = Ok 4096
 abbrev pub sequence_by : Option Text → Result ℕ Text
 sequence_by (Some word) = number_or (codes "bad sequence") word
 sequence_by None = Ok 0
+
+-- a revision of etcd's by its word: a number below 2 ^ 63; without a word there is none
+abbrev pub is_revision : Text → Bool
+is_revision word = is_number word && nat_lt (decimal_value word) (2 ^ 63)
+
+abbrev pub revision_of : Text → Result ℕ Text
+revision_of word = if is_revision word then Ok (decimal_value word) else Err (codes "bad revision")
+
+abbrev pub revision_by : Option Text → Result (Option ℕ) Text
+revision_by (Some word) = revision_of word >>= λ revision. Ok (Some revision)
+revision_by None = Ok None
 
 -- the kind of a copy, by the words of `--for-bbolt` and `--etcd-snapshot` if they are given; a snapshot is for bbolt too
 abbrev pub copy_kind_by : (for_bbolt snapshot : Option Text) → CopyKind
@@ -226,6 +254,10 @@ path_by values = parts_by (given values (codes "parts")) >>= λ how. each_part (
 abbrev pub prefix_by : Values → Result Key Text
 prefix_by values = parts_by (given values (codes "parts")) >>= λ how. prefix_of how (given values (codes "prefix"))
 
+-- the name of a key in etcd, written as a part of a path is
+abbrev pub name_by : Values → Result Key Text
+name_by values = parts_by (given values (codes "parts")) >>= λ how. text_by (codes "NAME") values >>= λ word. part_of how word
+
 abbrev asks_at : Values → (AskedMeta → Form → Path → Result Asked Text) → Result Asked Text
 asks_at values wanted = meta_by values >>= λ meta. form_by (given values (codes "form")) >>= λ form. path_by values >>= λ path. wanted meta form path
 
@@ -271,6 +303,24 @@ asks_load values =
     sequence_by (given values (codes "sequence")) >>= λ sequence. load_size_by (given values (codes "page-size")) >>= λ size. text_by (codes "output") values >>= λ target.
     file_by values >>= λ file. Ok (load file target sequence size (kind_in values))
 
+abbrev pub asks_etcd_revisions : Values → Result Asked Text
+asks_etcd_revisions values =
+    meta_by values >>= λ meta. form_by (given values (codes "form")) >>= λ form. prefix_by values >>= λ prefix. revision_by (given values (codes "from")) >>= λ from.
+    file_by values >>= λ file. Ok (etcd_revisions file meta prefix from form (is_given (given values (codes "values"))))
+
+abbrev pub asks_etcd_keys : Values → Result Asked Text
+asks_etcd_keys values =
+    meta_by values >>= λ meta. form_by (given values (codes "form")) >>= λ form. prefix_by values >>= λ prefix. revision_by (given values (codes "at")) >>= λ revision.
+    file_by values >>= λ file. Ok (etcd_keys file meta prefix revision form (is_given (given values (codes "values"))))
+
+abbrev pub asks_etcd_get : Values → Result Asked Text
+asks_etcd_get values =
+    meta_by values >>= λ meta. form_by (given values (codes "form")) >>= λ form. name_by values >>= λ name. revision_by (given values (codes "at")) >>= λ revision.
+    file_by values >>= λ file. Ok (etcd_get file meta name revision form (is_given (given values (codes "no-newline"))))
+
+abbrev pub asks_etcd_check : Values → Result Asked Text
+asks_etcd_check values = meta_by values >>= λ meta. file_by values >>= λ file. Ok (etcd_check file meta)
+
 -- ---- the commands
 
 -- a command by its name and its arguments, and what the words of its line ask for, or which of them can't be read and why
@@ -297,6 +347,10 @@ commands =
     ∷ command (codes "list") (parts ∷ option (codes "from") ∷ option (codes "form") ∷ option (codes "parts") ∷ switch (codes "recover") ∷ switch (codes "lost-and-found") ∷ metas) asks_list
     ∷ command (codes "compact") (output ∷ option (codes "page-size") ∷ switch (codes "for-bbolt") ∷ switch (codes "etcd-snapshot") ∷ switch (codes "recover") ∷ switch (codes "lost-and-found") ∷ metas) asks_compact
     ∷ command (codes "load") (output ∷ option (codes "page-size") ∷ switch (codes "for-bbolt") ∷ switch (codes "etcd-snapshot") ∷ option (codes "sequence") ∷ []) asks_load
+    ∷ command (codes "etcd-revisions") (option (codes "from") ∷ option (codes "prefix") ∷ switch (codes "values") ∷ option (codes "parts") ∷ option (codes "form") ∷ metas) asks_etcd_revisions
+    ∷ command (codes "etcd-keys") (option (codes "at") ∷ option (codes "prefix") ∷ switch (codes "values") ∷ option (codes "parts") ∷ option (codes "form") ∷ metas) asks_etcd_keys
+    ∷ command (codes "etcd-get") (needed (operand (codes "NAME")) ∷ option (codes "at") ∷ by_letter 110 (switch (codes "no-newline")) ∷ option (codes "parts") ∷ option (codes "form") ∷ metas) asks_etcd_get
+    ∷ command (codes "etcd-check") metas asks_etcd_check
     ∷ []
 
 abbrev pub lines : List (Text × List Rule)

@@ -35,7 +35,7 @@ const BUCKET_IN: Argument = Argument {
     required: false,
 };
 
-const FORM: Argument = Argument {
+pub(crate) const FORM: Argument = Argument {
     name: "form",
     flag: Flag::Long,
     value: Some("F"),
@@ -67,7 +67,7 @@ const PREFIX: Argument = Argument {
     required: false,
 };
 
-const NO_NEWLINE: Argument = Argument {
+pub(crate) const NO_NEWLINE: Argument = Argument {
     name: "no-newline",
     flag: Flag::Both('n'),
     value: None,

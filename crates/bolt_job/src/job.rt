@@ -11,6 +11,10 @@ use crate::bucket_commands::{
     read_get, read_keys, read_list, read_stats,
 };
 use crate::command_line::Syntax;
+use crate::etcd_commands::{
+    ETCD_CHECK, ETCD_GET, ETCD_KEYS, ETCD_REVISIONS, EtcdCheckJob, EtcdGetJob, EtcdKeysJob,
+    EtcdRevisionsJob, read_etcd_check, read_etcd_get, read_etcd_keys, read_etcd_revisions,
+};
 use crate::line::Line;
 use crate::page_commands::{
     CHECK, CheckJob, INFO, InfoJob, PAGE, PAGES, PageJob, PagesJob, read_check, read_info,
@@ -33,6 +37,10 @@ pub enum Job {
     List(ListJob),
     Compact(CompactJob),
     Load(LoadJob),
+    EtcdRevisions(EtcdRevisionsJob),
+    EtcdKeys(EtcdKeysJob),
+    EtcdGet(EtcdGetJob),
+    EtcdCheck(EtcdCheckJob),
 }
 
 impl Job {
@@ -55,6 +63,10 @@ impl Job {
             Job::List(job) => job.file.as_str(),
             Job::Compact(job) => job.file.as_str(),
             Job::Load(job) => job.file.as_str(),
+            Job::EtcdRevisions(job) => job.file.as_str(),
+            Job::EtcdKeys(job) => job.file.as_str(),
+            Job::EtcdGet(job) => job.file.as_str(),
+            Job::EtcdCheck(job) => job.file.as_str(),
         }
     }
 
@@ -81,11 +93,25 @@ impl Job {
 
 /// The commands, in the order of help. Each is a `static` of its own, since the check of a table takes the
 /// square of its length.
-pub(crate) fn commands<'a>() -> [&'a Syntax; 11]
+pub(crate) fn commands<'a>() -> [&'a Syntax; 15]
     ensures { map (λ syntax. line_of syntax.now) result ≡ lines }
 {
     [
-        &INFO, &PAGE, &PAGES, &CHECK, &BUCKETS, &KEYS, &GET, &STATS, &LIST, &COMPACT, &LOAD,
+        &INFO,
+        &PAGE,
+        &PAGES,
+        &CHECK,
+        &BUCKETS,
+        &KEYS,
+        &GET,
+        &STATS,
+        &LIST,
+        &COMPACT,
+        &LOAD,
+        &ETCD_REVISIONS,
+        &ETCD_KEYS,
+        &ETCD_GET,
+        &ETCD_CHECK,
     ]
 }
 
@@ -105,6 +131,10 @@ pub(crate) fn read_command(name: &str, line: &Line<'_, '_>) -> Result<Job, Refus
         "list" => Ok(Job::List(read_list(line)?)),
         "compact" => Ok(Job::Compact(read_compact(line)?)),
         "load" => Ok(Job::Load(read_load(line)?)),
+        "etcd-revisions" => Ok(Job::EtcdRevisions(read_etcd_revisions(line)?)),
+        "etcd-keys" => Ok(Job::EtcdKeys(read_etcd_keys(line)?)),
+        "etcd-get" => Ok(Job::EtcdGet(read_etcd_get(line)?)),
+        "etcd-check" => Ok(Job::EtcdCheck(read_etcd_check(line)?)),
         _ => Err(Refusal::Word("command missing")),
     }
 }

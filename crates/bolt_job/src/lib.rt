@@ -4,6 +4,7 @@
 mod bucket_commands;
 mod choices;
 mod command_line;
+mod etcd_commands;
 mod job;
 mod line;
 mod page_commands;
@@ -14,6 +15,7 @@ mod writing_commands;
 
 pub use bucket_commands::{BucketsJob, GetJob, KeysJob, ListJob, StatsJob};
 pub use choices::{AssumedMeta, CopyKind, Extent, MetaChoice, PageSize};
+pub use etcd_commands::{EtcdCheckJob, EtcdGetJob, EtcdKeysJob, EtcdRevisionsJob};
 pub use job::Job;
 pub use page_commands::{CheckJob, InfoJob, PageJob, PagesJob};
 pub use refusal::Refusal;

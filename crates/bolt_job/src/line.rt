@@ -3,11 +3,11 @@ ghost use Rattle.std.specs.Prelude.{◌≡◌, Err, MatchOption, Ok, Some, codes
 ghost use Rattle.bolt_job.specs.CommandLine.{Gives};
 ghost use Rattle.bolt_job.specs.FormWords.{figure_form_by, form_by, list_form_by};
 ghost use Rattle.bolt_job.specs.PathWords.{hex_path_by, parts_by};
-ghost use Rattle.bolt_job.specs.PlainWords.{assumed_of, copy_kind_by, extent_by, first_of, id_by, is_given, load_size_by, meta_by, meta_in, number_or, page_size_by, page_size_of, path_by, path_in, prefix_by, sequence_by, size_in, slot_by, slot_of, text_by};
+ghost use Rattle.bolt_job.specs.PlainWords.{assumed_of, copy_kind_by, extent_by, first_of, id_by, is_given, load_size_by, meta_by, meta_in, name_by, number_or, page_size_by, page_size_of, path_by, path_in, prefix_by, revision_by, revision_of, sequence_by, size_in, slot_by, slot_of, text_by};
 ghost use Rattle.bolt_job.specs.Private.CommandLines.{IsAssumedBy, values_of};
 
 use crate::choices::{AssumedMeta, CopyKind, Extent, MetaChoice, PageSize};
-use crate::path_words::{read_from, read_path, read_prefix};
+use crate::path_words::{read_from, read_part, read_path, read_prefix};
 use crate::refusal::Refusal;
 use bolt_format::Slot;
 use bolt_text::{FigureForm, Form, ListForm, Parts, read_number};
@@ -147,6 +147,24 @@ impl Line<'_, '_> {
         read_prefix(self.alloc, parts, self.choice("prefix"))
     }
 
+    /// The name of a key in etcd, which is written as a word of PART is.
+    pub(crate) fn name(&self) -> Result<Vec<u8>, Refusal>
+        ensures { Gives (λ name. name.items) (name_by (values_of self.now)) result }
+    {
+        let parts = self.parts()?;
+        read_part(self.alloc, parts, self.value("NAME")?)
+    }
+
+    /// A revision of etcd's, by the option of this name if it is given.
+    pub(crate) fn revision(&self, id: &str) -> Result<Option<u64>, Refusal>
+        ensures { Gives (λ revision. revision) (revision_by (first_of (values_of self.now id.now))) result }
+    {
+        match self.choice(id) {
+            Some(word) => Ok(Some(revision_of(word)?)),
+            None => Ok(None),
+        }
+    }
+
     /// The path at which a listing begins.
     pub(crate) fn from(&self) -> Result<Vec<Vec<u8>>, Refusal>
         ensures { Gives (λ path. path_in path.items) (hex_path_by (first_of (values_of self.now (codes "from")))) result }
@@ -259,6 +277,16 @@ fn read_size(word: &str) -> Option<PageSize>
     ensures { MatchOption result (page_size_of word.now ≡ Err (codes "bad page size")) (λ size. page_size_of word.now ≡ Ok size.bytes) }
 {
     PageSize::new(read_number(word.as_bytes())?)
+}
+
+/// The revision that these digits stand for. It is below 2^63.
+fn revision_of(word: &str) -> Result<u64, Refusal>
+    ensures { Gives (λ revision. revision) (revision_of word.now) result }
+{
+    match read_number(word.as_bytes()) {
+        Some(revision) if revision < 1 << 63 => Ok(revision),
+        _ => Err(Refusal::Word("bad revision")),
+    }
 }
 
 /// The number that these digits stand for, or a refusal with these words.

@@ -25,7 +25,8 @@ pub(crate) fn read_path(
     Ok(path)
 }
 
-fn read_part(alloc: Global, parts: Parts, word: &str) -> Result<Vec<u8>, Refusal>
+/// The part of a path that a word stands for.
+pub(crate) fn read_part(alloc: Global, parts: Parts, word: &str) -> Result<Vec<u8>, Refusal>
     ensures { Gives (λ part. part.items) (part_of parts word.now) result }
 {
     match parts.read(alloc, word) {

@@ -22,7 +22,7 @@ use std::alloc::{AllocError, Global};
 /// - `Usage` if the words are no line of a command for another reason.
 /// - `Word` if the words are a line of a command, but one of them can't be read: `bad form`,
 ///   `bad parts` or `bad meta` with the words that are known, `bad page id`, `bad hex`,
-///   `bad page size` or `bad sequence`.
+///   `bad page size`, `bad sequence` or `bad revision`.
 /// - `Memory` if memory runs out.
 pub fn read_words(alloc: Global, words: Vec<String>) -> Result<Job, Refusal>
     ensures job { IfOk result (Asks (map string_bytes words.items)) }

@@ -1,0 +1,219 @@
+//! The commands that read what etcd keeps in its file: which arguments each has and their help, its job, and how that
+//! is read. A job's names are copied last: until then there is nothing to drop if a word can't be read.
+ghost use Rattle.bolt_job.specs.CommandLine.{Gives};
+ghost use Rattle.bolt_job.specs.PlainWords.{asks_etcd_check, asks_etcd_get, asks_etcd_keys, asks_etcd_revisions, etcd_check_of, etcd_get_of, etcd_keys_of, etcd_revisions_of};
+ghost use Rattle.bolt_job.specs.Private.CommandLines.{values_of};
+
+use crate::bucket_commands::{FORM, NO_NEWLINE};
+use crate::choices::MetaChoice;
+use crate::command_line::{Argument, Flag, Syntax};
+use crate::line::Line;
+use crate::page_commands::{ASSUME_META, FILE, META};
+use crate::refusal::Refusal;
+use bolt_text::Form;
+
+const NAME: Argument = Argument {
+    name: "NAME",
+    flag: Flag::Operand,
+    value: Some("NAME"),
+    help: "The key, as etcd's clients write it",
+    required: true,
+};
+
+const FROM_REVISION: Argument = Argument {
+    name: "from",
+    flag: Flag::Long,
+    value: Some("R"),
+    help: "The revision to begin at, in decimal [default: the first]",
+    required: false,
+};
+
+const AT_REVISION: Argument = Argument {
+    name: "at",
+    flag: Flag::Long,
+    value: Some("R"),
+    help: "Read the keys as they were at revision R, in decimal [default: the last]",
+    required: false,
+};
+
+const NAME_PREFIX: Argument = Argument {
+    name: "prefix",
+    flag: Flag::Long,
+    value: Some("K"),
+    help: "Print only the keys that begin with K",
+    required: false,
+};
+
+const VALUES: Argument = Argument {
+    name: "values",
+    flag: Flag::Long,
+    value: None,
+    help: "Also print the values",
+    required: false,
+};
+
+const PREFIX_PARTS: Argument = Argument {
+    name: "parts",
+    flag: Flag::Long,
+    value: Some("P"),
+    help: "How K is written: text, hex or mixed (hex after 0x, otherwise text) [default: text]",
+    required: false,
+};
+
+const NAME_PARTS: Argument = Argument {
+    name: "parts",
+    flag: Flag::Long,
+    value: Some("P"),
+    help: "How NAME is written: text, hex or mixed (hex after 0x, otherwise text) [default: text]",
+    required: false,
+};
+
+/// Print the revisions of etcd's keys, those of names that begin with a prefix.
+#[derive(Drop)]
+pub struct EtcdRevisionsJob {
+    pub file: String,
+    pub meta: MetaChoice,
+    pub form: Form,
+    pub prefix: Vec<u8>,
+    /// Whether to print the values too.
+    pub values: bool,
+    /// The first transaction. Without one all are printed.
+    pub from: Option<u64>,
+}
+
+pub(crate) static ETCD_REVISIONS: Syntax = Syntax {
+    name: "etcd-revisions",
+    about: "Print the revisions of etcd's keys: each write and each deletion, in their order",
+    arguments: &[
+        FILE,
+        FROM_REVISION,
+        NAME_PREFIX,
+        VALUES,
+        PREFIX_PARTS,
+        FORM,
+        META,
+        ASSUME_META,
+    ],
+    note: None,
+};
+
+pub(crate) fn read_etcd_revisions(line: &Line<'_, '_>) -> Result<EtcdRevisionsJob, Refusal>
+    ensures { Gives etcd_revisions_of (asks_etcd_revisions (values_of line.now)) result }
+{
+    Ok(EtcdRevisionsJob {
+        meta: line.meta()?,
+        form: line.form()?,
+        prefix: line.prefix()?,
+        values: line.is_given("values"),
+        from: line.revision("from")?,
+        file: line.text("FILE")?,
+    })
+}
+
+/// Print etcd's keys as they were at a transaction.
+#[derive(Drop)]
+pub struct EtcdKeysJob {
+    pub file: String,
+    pub meta: MetaChoice,
+    pub form: Form,
+    pub prefix: Vec<u8>,
+    /// Whether to print the values too.
+    pub values: bool,
+    /// The transaction. Without one it is the last.
+    pub at: Option<u64>,
+}
+
+pub(crate) static ETCD_KEYS: Syntax = Syntax {
+    name: "etcd-keys",
+    about: "Print etcd's keys, as they are or as they were at a revision",
+    arguments: &[
+        FILE,
+        AT_REVISION,
+        NAME_PREFIX,
+        VALUES,
+        PREFIX_PARTS,
+        FORM,
+        META,
+        ASSUME_META,
+    ],
+    note: None,
+};
+
+pub(crate) fn read_etcd_keys(line: &Line<'_, '_>) -> Result<EtcdKeysJob, Refusal>
+    ensures { Gives etcd_keys_of (asks_etcd_keys (values_of line.now)) result }
+{
+    Ok(EtcdKeysJob {
+        meta: line.meta()?,
+        form: line.form()?,
+        prefix: line.prefix()?,
+        values: line.is_given("values"),
+        at: line.revision("at")?,
+        file: line.text("FILE")?,
+    })
+}
+
+/// Print what an etcd key held at a transaction.
+#[derive(Drop)]
+pub struct EtcdGetJob {
+    pub file: String,
+    pub meta: MetaChoice,
+    pub form: Form,
+    /// The key.
+    pub name: Vec<u8>,
+    /// The transaction. Without one it is the last.
+    pub at: Option<u64>,
+    /// Whether to print no line feed after the value.
+    pub no_newline: bool,
+}
+
+pub(crate) static ETCD_GET: Syntax = Syntax {
+    name: "etcd-get",
+    about: "Print the value of one of etcd's keys, as it is or as it was at a revision",
+    arguments: &[
+        FILE,
+        NAME,
+        AT_REVISION,
+        NO_NEWLINE,
+        NAME_PARTS,
+        FORM,
+        META,
+        ASSUME_META,
+    ],
+    note: None,
+};
+
+pub(crate) fn read_etcd_get(line: &Line<'_, '_>) -> Result<EtcdGetJob, Refusal>
+    ensures { Gives etcd_get_of (asks_etcd_get (values_of line.now)) result }
+{
+    Ok(EtcdGetJob {
+        meta: line.meta()?,
+        form: line.form()?,
+        name: line.name()?,
+        at: line.revision("at")?,
+        no_newline: line.is_given("no-newline"),
+        file: line.text("FILE")?,
+    })
+}
+
+/// Check a file as `check` does, and then etcd's records.
+#[derive(Drop)]
+pub struct EtcdCheckJob {
+    pub file: String,
+    pub meta: MetaChoice,
+}
+
+pub(crate) static ETCD_CHECK: Syntax = Syntax {
+    name: "etcd-check",
+    about: "Check whether the file is sound, and then whether one of etcd's records is missing",
+    arguments: &[FILE, META, ASSUME_META],
+    note: None,
+};
+
+pub(crate) fn read_etcd_check(line: &Line<'_, '_>) -> Result<EtcdCheckJob, Refusal>
+    ensures { Gives etcd_check_of (asks_etcd_check (values_of line.now)) result }
+{
+    Ok(EtcdCheckJob {
+        meta: line.meta()?,
+        file: line.text("FILE")?,
+    })
+}
