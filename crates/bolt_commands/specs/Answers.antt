@@ -525,15 +525,17 @@ IsCurrentText job entries answer =
     (current : List RevisionView) × AreCurrent (until (up_to job.at) (revisions entries)) current
     × IsEndedOrCut (revision_lines job.form job.values (named job.prefix.items current)) (entries_ending entries) answer
 
--- a value, if there is one
-abbrev pub IsValueText : (no_newline : Bool) → Form → Ending → Option (List ℕ) → Answer → Type 0
-IsValueText no_newline form ending None answer = answer ≡ refused failure.NoKey
-IsValueText no_newline form ending (Some value) answer = IsShownAndEnded form (if no_newline then item_text form value else value_text form value) ending answer
+-- a value, if there is one, with a line feed or without one
+abbrev pub held_text : EtcdGetJob → List ℕ → List ℕ
+held_text job value = if job.no_newline then item_text job.form value else value_text job.form value
+
+abbrev pub IsValueText : EtcdGetJob → Ending → Option (List ℕ) → Answer → Type 0
+IsValueText job ending None answer = answer ≡ refused failure.NoKey
+IsValueText job ending (Some value) answer = IsShownAndEnded job.form (held_text job value) ending answer
 
 -- what a key held at a transaction
 abbrev pub IsHeldText : EtcdGetJob → List LeafElement → Answer → Type 0
-IsHeldText job entries answer =
-    IsValueText job.no_newline job.form (entries_ending entries) (value_if (newest job.name.items (until (up_to job.at) (revisions entries)))) answer
+IsHeldText job entries answer = IsValueText job (entries_ending entries) (value_if (newest job.name.items (until (up_to job.at) (revisions entries)))) answer
 
 -- what is wrong with a store, line by line, and then how many lines these are
 abbrev pub store_text : List (List ℕ) → List ℕ

@@ -2,6 +2,7 @@
 pub mod Checks
 pub mod Copying
 pub mod Endings
+pub mod Etcd
 pub mod Opened
 pub mod Printing
 pub mod Reports

@@ -104,7 +104,7 @@ fn put_all_lost<O: Sink>(fault: &CheckFault, faults: FileFaults, out: &mut O) ->
 }
 
 /// Writes the findings that a file is refused for.
-fn put_refusal<O: Sink>(fault: &CheckFault, faults: FileFaults, out: &mut O) -> Outcome
+pub(crate) fn put_refusal<O: Sink>(fault: &CheckFault, faults: FileFaults, out: &mut O) -> Outcome
     ensures { Does O.taken O.failed out.old out.new (check_refusal faults fault.now) result }
 {
     match fault {

@@ -1,12 +1,13 @@
 //! The commands that read what etcd keeps in a file: `etcd-revisions`, `etcd-keys`, `etcd-get` and `etcd-check`.
-ghost use Rattle.std.specs.Prelude.{◌≡◌, ◌⊎◌, IfErr, IfOk, List};
+ghost use Rattle.std.specs.Prelude.{◌≡◌, ◌⊎◌, IfErr, IfOk, OnOk, false, true};
 ghost use Rattle.bolt_etcd.specs.StoreBuckets.{ForStore};
 ghost use Rattle.bolt_format.specs.{Endings.ending, Wrote.Wrote};
 ghost use Rattle.bolt_report.specs.FaultWords.{count_line};
 ghost use Rattle.bolt_text.specs.ReportEndings.{report_ending};
-ghost use Rattle.bolt_etcd.specs.{StoreFaults.store_compacted, StoreFaults.store_lines};
-ghost use Rattle.bolt_commands.specs.Answers.{Does, IsEtcdCheckPrint, IsEtcdGetPrint, IsEtcdKeysPrint, IsEtcdRevisionsPrint, is_compacted, up_to};
-ghost use Rattle.bolt_commands.specs.Private.{Etcd.IsStoreRead, Etcd.IsUnreadStore, Etcd.compacted_or, Etcd.end_of_revisions, Etcd.held_text, Etcd.keys_or, Printing.PrintsAnswer};
+ghost use Rattle.bolt_etcd.specs.StoreFaults.{store_compacted};
+ghost use Rattle.bolt_commands.specs.Answers.{IsEtcdCheckPrint, IsEtcdGetPrint, IsEtcdKeysPrint, IsEtcdRevisionsPrint, held_text, is_compacted, others_ending, up_to};
+ghost use Rattle.bolt_commands.specs.Private.{Etcd.IsStoreRead, Etcd.IsUnreadStore, Etcd.end_of_revisions, Printing.PrintsAnswer};
+ghost use Rattle.bolt_commands.specs.declared.failure.Failure.TheVariants.{Compacted};
 
 use crate::check_command::put_refusal;
 use crate::failure::{Failure, Outcome};
@@ -20,6 +21,7 @@ use bolt_tree::Bucket;
 use std::alloc::Global;
 
 /// What etcd keeps in a file.
+#[derive(Clone, Copy)]
 struct Store<'f> {
     /// The root bucket.
     root: Bucket<'f>,
@@ -104,7 +106,8 @@ fn read_store<'f>(input: Input<'f>, choice: MetaChoice) -> Result<Store<'f>, Fai
 
 /// Refuses a transaction that was compacted away.
 fn refuse_compacted(root: &Bucket<'_>, at: Option<u64>) -> Result<(), Failure>
-    ensures { ForStore root.now (λ store. result ≡ compacted_or (is_compacted at (store_compacted store))) }
+    ensures kept { OnOk result (ForStore root.now (λ store. is_compacted at (store_compacted store) ≡ false)) }
+    ensures refused { IfErr result (λ why. (why ≡ Compacted) × ForStore root.now (λ store. is_compacted at (store_compacted store) ≡ true)) }
 {
     match (at, store_compacted(root)) {
         (Some(main), Some(compacted)) if main < compacted => Err(Failure::Compacted),
@@ -157,5 +160,8 @@ fn end_others(others: u64) -> Outcome
 fn put_count<O: Sink>(errors: u64, out: &mut O) -> Result<(), SinkFault>
     ensures { Wrote O.Sink out.old out.new (count_line errors) (ending result) }
 {
-    put_pieces(&[Piece::Number(errors), Piece::Bytes(b" errors found\n")], out)
+    put_pieces(
+        &[Piece::Number(errors), Piece::Bytes(b" errors found\n")],
+        out,
+    )
 }

@@ -19,6 +19,16 @@ pub(crate) struct FileFaults {
 }
 
 impl FileFaults {
+    /// Nothing is wrong.
+    pub(crate) fn none() -> FileFaults
+        ensures { result ≡ no_faults }
+    {
+        FileFaults {
+            hash: None,
+            other: None,
+        }
+    }
+
     /// What a check looks at before the pages of the file.
     pub(crate) fn find(file: &[u8], job: &CheckJob) -> FileFaults
         ensures { AreFileFaults job.now.extent job.now.snapshot file.now job.now.meta result }
