@@ -164,7 +164,7 @@ class Bench:
         out, err, status, copy = result
         copies = {"": b"", "FILE": self.file, "kept": self.kept, "new": copy}
         is_copy = copy == copies[wanted.copy] and (wanted.copy != "new" or copy != b"")
-        if not is_copy or (out, err, status) != (wanted.out, wanted.err, wanted.status):
+        if not is_copy or not wanted.is_met(out, err, status):
             raise Differs(result)
         if wanted.copy == "new":
             self.file = copy

@@ -8,12 +8,18 @@ r"""What a test case requires.
 | `>> FIRST LAST` | a line for each of these numbers |
 | `># FIRST LAST TEXT\|TEXT ..` | the same with a text, of these in turn, in which `#` is the number |
 | `>x FIRST LAST BEFORE AFTER` | a line for each with five digits in hexadecimal, between two texts |
+| `>..`, `!..` | any lines |
 | `= STATUS` | the status, if it isn't 0; a word after it says why |
 | `+ COPY` | what the copy must be: `FILE` itself, the file that is `kept`, or a `new` one, which is the file of the next test cases |
 
 In a TEXT, \x and two digits stand for a byte. Without a line `+` there is no copy."""
 
+import re
+
 from words import Unread, bytes_of, halves, text_bytes
+
+# Where any lines may be. No text of a test case has it.
+GAP = b"\0..\0"
 
 
 class Wanted:
@@ -41,12 +47,27 @@ class Wanted:
                 self.out += digits_between(*text.split(" ", 3))
             case "!":
                 self.err += text_bytes(text) + b"\n"
+            case ">..":
+                self.out += GAP
+            case "!..":
+                self.err += GAP
             case "=":
                 self.status = int(halves(text, " ")[0])
             case "+":
                 self.copy = text
             case _:
                 raise Unread(mark)
+
+    def is_met(self, out, err, status):
+        return fits(out, self.out) and fits(err, self.err) and status == self.status
+
+
+def fits(text, wanted):
+    """Whether a text is what is wanted of it."""
+    if GAP not in wanted:
+        return text == wanted
+    parts = (re.escape(part) for part in wanted.split(GAP))
+    return re.fullmatch(b"(?:.*\n)*".join(parts), text) is not None
 
 
 def texts_in_turn(first, last, text):
