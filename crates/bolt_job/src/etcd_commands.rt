@@ -16,7 +16,7 @@ const NAME: Argument = Argument {
     name: "NAME",
     flag: Flag::Operand,
     value: Some("NAME"),
-    help: "The key, as etcd's clients write it",
+    help: "The key in etcd",
     required: true,
 };
 
@@ -32,7 +32,7 @@ const AT_REVISION: Argument = Argument {
     name: "at",
     flag: Flag::Long,
     value: Some("R"),
-    help: "Read the keys as they were at revision R, in decimal [default: the last]",
+    help: "Read etcd's keys as they were at revision R, in decimal [default: the last]",
     required: false,
 };
 
@@ -40,7 +40,7 @@ const NAME_PREFIX: Argument = Argument {
     name: "prefix",
     flag: Flag::Long,
     value: Some("K"),
-    help: "Print only the keys that begin with K",
+    help: "Print only the keys that begin with K, which is written as --parts says",
     required: false,
 };
 
@@ -83,7 +83,7 @@ pub struct EtcdRevisionsJob {
 
 pub(crate) static ETCD_REVISIONS: Syntax = Syntax {
     name: "etcd-revisions",
-    about: "Print the revisions of etcd's keys: each write and each deletion, in their order",
+    about: "Print the revisions of etcd's keys: each write and each deletion, in order",
     arguments: &[
         FILE,
         FROM_REVISION,
@@ -204,7 +204,7 @@ pub struct EtcdCheckJob {
 
 pub(crate) static ETCD_CHECK: Syntax = Syntax {
     name: "etcd-check",
-    about: "Check whether the file is sound, and then whether one of etcd's records is missing",
+    about: "Check whether the file is sound, and then whether etcd's records in it are whole",
     arguments: &[FILE, META, ASSUME_META],
     note: None,
 };
