@@ -34,7 +34,7 @@ use Rattle.bolt_tree.specs.Paths.{Holds, Names, Path}
 use Rattle.bolt_job.specs.CopyKinds.{is_snapshot}
 use Rattle.bolt_commands.specs.CopyLayouts.{layout_for}
 use Rattle.bolt_commands.specs.Failures.{IsFailureOf, failure_line, unjoined, unloaded}
-use Rattle.bolt_commands.specs.{FileFaults.AreFileFaults, FileFaults.errors_in, FileFaults.fault_lines, FileFaults.hash_lines, FileFaults.is_fine, GoodCopies.IsGoodCopy}
+use Rattle.bolt_commands.specs.{FileFaults.AreFileFaults, FileFaults.errors_in, FileFaults.fault_lines, FileFaults.hash_lines, FileFaults.is_fine, FileFaults.no_faults, GoodCopies.IsGoodCopy}
 use Rattle.bolt_job.specs.MetaChoices.{HasNoMetaOf, IsMetaOf}
 use Rattle.bolt_commands.specs.SnapshotAnswers.{bad_hash, copy_of}
 use Rattle.bolt_job.specs.declared.choices.Extent.{Extent}
@@ -561,10 +561,6 @@ IsEtcdKeysPrint job file answer = IsReadAnswer file job.meta (IsStoreAnswer file
 
 abbrev pub IsEtcdGetPrint : EtcdGetJob → List ℕ → Answer → Type 0
 IsEtcdGetPrint job file answer = IsReadAnswer file job.meta (IsStoreAnswer file (λ store. IsAnswerAt job.at store (IsHeldText job))) answer
-
--- nothing else is wrong with the file
-abbrev pub no_faults : FileFaults
-no_faults = record { hash = None; other = None }
 
 -- what `check` finds, or what is wrong with the store
 abbrev pub IsEtcdCheckPrint : EtcdCheckJob → List ℕ → Answer → Type 0

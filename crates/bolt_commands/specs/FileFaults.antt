@@ -39,6 +39,10 @@ pub record AreFileFaults (extent : Extent) (snapshot : Bool) (file : List ℕ) (
   pub hash : faults.hash ≡ hash_found snapshot file
   pub metas : IsMetasFault extent file choice faults.other
 
+-- nothing is
+abbrev pub no_faults : FileFaults
+no_faults = record { hash = None; other = None }
+
 abbrev pub is_fine : FileFaults → Bool
 is_fine faults = is_none faults.hash && is_none faults.other
 
