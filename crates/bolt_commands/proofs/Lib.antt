@@ -4,6 +4,7 @@ pub mod CopyChecks
 pub mod CutTexts
 pub mod Doing
 pub mod EntryAnswers
+pub mod EtcdAnswers
 pub mod FoundAnswers
 pub mod GoodCopies
 pub mod HashLemmas

@@ -537,17 +537,20 @@ IsValueText job ending (Some value) answer = IsShownAndEnded job.form (held_text
 abbrev pub IsHeldText : EtcdGetJob → List LeafElement → Answer → Type 0
 IsHeldText job entries answer = IsValueText job (entries_ending entries) (value_if (newest job.name.items (until (up_to job.at) (revisions entries)))) answer
 
--- what is wrong with a store, line by line, and then how many lines these are
-abbrev pub store_text : List (List ℕ) → List ℕ
-store_text [] = codes "OK\n"
-store_text (line ∷ lines) = concat (line ∷ lines) ++ count_line (counted 0 (length (line ∷ lines)))
+-- after the lines of so many errors, and the status
+abbrev pub errors_end : ℕ → List ℕ
+errors_end zero = codes "OK\n"
+errors_end (suc n) = count_line (suc n)
 
-abbrev pub store_status : List (List ℕ) → ℕ
-store_status [] = 0
-store_status (line ∷ lines) = 1
+abbrev pub errors_status : ℕ → ℕ
+errors_status zero = 0
+errors_status (suc n) = 1
 
+-- what is wrong with a store, line by line
 abbrev pub IsStoreText : StoreView → Answer → Type 0
-IsStoreText store answer = IsEndedOrCut (store_text (store_lines store)) (Ok (store_status (store_lines store))) answer
+IsStoreText store answer =
+    let errors = counted 0 (length (store_lines store)) in
+    IsEndedOrCut (concat (store_lines store) ++ errors_end errors) (Ok (errors_status errors)) answer
 
 -- the file isn't refused, and this is an answer of its store
 abbrev pub IsStoreAnswer : List ℕ → (StoreView → Answer → Type 0) → Meta → Answer → Type 0

@@ -2,10 +2,11 @@
 ghost use Rattle.std.specs.Prelude.{◌≡◌, ◌⊎◌, IfErr, IfOk, OnOk, false, true};
 ghost use Rattle.bolt_etcd.specs.StoreBuckets.{ForStore};
 ghost use Rattle.bolt_format.specs.{Endings.ending, Wrote.Wrote};
-ghost use Rattle.bolt_report.specs.FaultWords.{count_line};
+ghost use Rattle.bolt_etcd.specs.RevisionsLeft.{ForPass, ahead_of, pass_checked, pass_others, pass_start};
+ghost use Rattle.bolt_tree.specs.Buckets.{bucket_checked, bucket_start};
 ghost use Rattle.bolt_text.specs.ReportEndings.{report_ending};
 ghost use Rattle.bolt_etcd.specs.StoreFaults.{store_compacted};
-ghost use Rattle.bolt_commands.specs.Answers.{IsEtcdCheckPrint, IsEtcdGetPrint, IsEtcdKeysPrint, IsEtcdRevisionsPrint, held_text, is_compacted, others_ending, up_to};
+ghost use Rattle.bolt_commands.specs.Answers.{IsEtcdCheckPrint, IsEtcdGetPrint, IsEtcdKeysPrint, IsEtcdRevisionsPrint, entries_asked, errors_end, errors_status, held_text, is_compacted, others_ending, up_to};
 ghost use Rattle.bolt_commands.specs.Private.{Etcd.IsStoreRead, Etcd.IsUnreadStore, Etcd.end_of_revisions, Printing.PrintsAnswer};
 ghost use Rattle.bolt_commands.specs.declared.failure.Failure.TheVariants.{Compacted};
 
@@ -16,7 +17,7 @@ use crate::opening::Input;
 use bolt_etcd::{Newest, RevisionWriter, Revisions, put_store_faults, store_compacted};
 use bolt_format::{Sink, SinkFault};
 use bolt_job::{EtcdCheckJob, EtcdGetJob, EtcdKeysJob, EtcdRevisionsJob, MetaChoice};
-use bolt_text::{Form, Piece, ReportFault, item, put_pieces, value};
+use bolt_text::{Form, Piece, ReportFault, item, put, put_pieces, value};
 use bolt_tree::Bucket;
 use std::alloc::Global;
 
@@ -38,12 +39,22 @@ pub(crate) fn print_revisions<O: Sink>(
     ensures { PrintsAnswer O.Sink out.old out.new (IsEtcdRevisionsPrint job.now input.entry.file.now) result }
 {
     let store = read_store(input, job.meta)?;
-    let pass = match job.from {
-        Some(main) => Revisions::from(&store.keys, main),
-        None => Revisions::of(&store.keys),
-    };
+    let pass = pass_from(&store.keys, job.from);
     let mut lines = RevisionWriter::new(input.alloc, job.form, job.values);
     end_revisions(lines.put_pass(pass, job.prefix.as_slice(), out))
+}
+
+/// The revisions from a transaction on, if one is named.
+fn pass_from<'a>(keys: &Bucket<'a>, from: Option<u64>) -> Revisions<'a>
+    ensures checked { pass_checked result ≡ bucket_checked keys.now }
+    ensures start { pass_start result ≡ bucket_start keys.now }
+    ensures asked { ForPass result (λ entries. ahead_of result entries ≡ entries_asked from entries) }
+    ensures others { pass_others result ≡ 0 }
+{
+    match from {
+        Some(main) => Revisions::from(keys, main),
+        None => Revisions::of(keys),
+    }
 }
 
 /// Writes the keys that there were at a transaction.
@@ -84,12 +95,8 @@ pub(crate) fn print_store_check<O: Sink>(
         Err(fault) => return put_refusal(&fault, FileFaults::none(), out),
     };
     let errors = put_store_faults(input.alloc, &Bucket::root(checked), out)?;
-    if errors == 0 {
-        out.put(b"OK\n")?;
-        return Ok(0);
-    }
-    put_count(errors, out)?;
-    Ok(1)
+    put_end(errors, out)?;
+    Ok(status_of(errors))
 }
 
 /// What etcd keeps in a file, which is checked first.
@@ -156,10 +163,23 @@ fn end_others(others: u64) -> Outcome
     }
 }
 
-/// Writes how many errors were found.
-fn put_count<O: Sink>(errors: u64, out: &mut O) -> Result<(), SinkFault>
-    ensures { Wrote O.Sink out.old out.new (count_line errors) (ending result) }
+/// The status if so many errors were found.
+fn status_of(errors: u64) -> u8
+    ensures { result ≡ errors_status errors }
 {
+    match errors {
+        0 => 0,
+        _ => 1,
+    }
+}
+
+/// Writes `OK`, or how many errors were found.
+fn put_end<O: Sink>(errors: u64, out: &mut O) -> Result<(), SinkFault>
+    ensures { Wrote O.Sink out.old out.new (errors_end errors) (ending result) }
+{
+    if errors == 0 {
+        return put(b"OK\n", out);
+    }
     put_pieces(
         &[Piece::Number(errors), Piece::Bytes(b" errors found\n")],
         out,

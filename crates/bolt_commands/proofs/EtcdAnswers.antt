@@ -1,0 +1,95 @@
+-- What is printed of what etcd keeps.
+use Rattle.std.proofs.Common.{◌≡◌, ◌⊎◌, ◌++◌, ℕ, Bool, true, false, IfErr, IfOk, List, None, Option, Some, Result, Ok, Err, codes, inl, inr, length, refl, subst, sym}
+use Rattle.std.proofs.lemmas.Grind.{common_steps}
+use Rattle.bolt_check.specs.Counts.{counted}
+use Rattle.bolt_etcd.proofs.{StoreExists.one_store, StoreLemmas.fits, StoreLemmas.fits_some}
+use Rattle.bolt_etcd.specs.{StoreBuckets.HasBucket, StoreBuckets.IsStore, StoreBuckets.StoreView, StoreFaults.store_compacted, Stores.others}
+use Rattle.bolt_format.proofs.WroteLemmas.{Wrote-stop_cut}
+use Rattle.bolt_text.specs.declared.fault.ReportFault.TheVariants as report
+use Rattle.bolt_tree.proofs.BucketWays.{root_starts}
+use Rattle.bolt_tree.specs.BucketViews.{entries_of}
+use Rattle.bolt_commands.specs.Answers.{IsAnswerAt, IsShownAndEnded, IsStoreAnswer, OfKeys, entries_ending, is_compacted, others_ending}
+use Rattle.bolt_commands.specs.Private.Etcd.{IsStoreRead, IsUnreadStore, end_of_revisions}
+use Rattle.bolt_commands.specs.declared.etcd_commands.Store.{Store}
+use Rattle.bolt_commands.specs.declared.failure.Failure.TheVariants as failure
+use Rattle.bolt_commands.proofs.Vocabulary.{Answer, AreEntries, Checked, Ending, Failure, Ghosts, HasSoundTrees, IsBucketAt, IsEndedOrCut, IsEntry, IsErrAnd, IsReadAnswer, LeafElement, MayFail, Meta, MetaChoice}
+use Rattle.bolt_commands.proofs.Vocabulary.{PrintsAnswer, ReportFault, Root_page, Start, Wrote, Wrote-stop, bucket_checked, bucket_start, bytes_of, end_of, meta_of, refused, report_ending, reported}
+use Rattle.bolt_commands.proofs.{CutTexts.ended_put, CutTexts.text_put, Doing.answer_as, Doing.answer_nothing, ReadFiles.read_trees}
+
+-- ---- the store of a file that is read
+
+abbrev pub HasStore : List ℕ → Meta → Type 0
+HasStore file meta = (store : StoreView) × IsStore (IsEntry file meta) (Root_page meta.root) store
+
+pub has_store : (file : List ℕ) (meta : Meta) → HasSoundTrees file meta → HasStore file meta
+has_store file meta trees = let (store, is, once) = one_store file meta (Root_page meta.root) trees (root_starts file meta) in (store, is)
+
+-- ---- without the bucket `key`
+
+no_keys : (Entry : Start → LeafElement → Type 0) (root : Start) (b : Option (List LeafElement)) → HasBucket Entry root (codes "key") b → IsBucketAt Entry root (codes "key") None → b ≡ None
+no_keys Entry root None has none = refl
+no_keys Entry root (Some entries) (e, there, key, bucket, are) none = let flat = none e there key in absurd (cc)
+
+pub unread_store : (file : List ℕ) (choice : MetaChoice) (IsWanted : StoreView → Answer → Type 0) (why : Failure) → IsUnreadStore file choice why
+    → ((store : StoreView) → store.bucket (codes "key") ≡ None → IsWanted store (refused failure.NoBucket))
+    → IsReadAnswer file choice (IsStoreAnswer file IsWanted) (refused why)
+unread_store file choice IsWanted why (inl (meta, under, none, is)) wanted =
+    let (store, has) = has_store file meta (read_trees file choice meta under) in
+    let missing = no_keys (IsEntry file meta) (Root_page meta.root) (store.bucket (codes "key")) (has.buckets (codes "key")) none in
+    rw is (inl (meta, under, (store, has, wanted store missing)))
+unread_store file choice IsWanted why (inr (fault, is, refusal)) wanted = inr (fault, is, refusal)
+
+-- ---- with it
+
+module _ (file : List ℕ) (choice : MetaChoice) (s : Store) (of : IsStoreRead file choice s) where
+  abbrev meta : Meta
+  meta = meta_of (bucket_checked s.root)
+
+  pub own : HasStore file meta
+  own = has_store file meta (read_trees file choice meta of.under)
+
+  pub here : IsStore (entries_of (bucket_checked s.root)) (bucket_start s.root) own.0
+  here = rw (of.root, of.bytes) own.1
+
+  pub keys : (entries : List LeafElement) × (own.0.bucket (codes "key") ≡ Some entries) × AreEntries (entries_of (bucket_checked s.keys)) (bucket_start s.keys) entries
+  keys =
+      let (entries, at, are) = fits_some s.root s.keys (own.0.bucket (codes "key")) (fits s.root (codes "key") (Some s.keys) (own.0.bucket (codes "key")) of.keys (here.buckets (codes "key"))) in
+      (entries, at, subst (λ (c : Checked). AreEntries (entries_of c) (bucket_start s.keys) entries) (sym of.checked) are)
+
+  module _ {S : Type 0} {sink : Ghosts S} {old new : S} (P : List LeafElement → Answer → Type 0) (ending : Ending) where
+    pub keys_answer : PrintsAnswer sink old new (P keys.0) ending
+        → PrintsAnswer sink old new (IsReadAnswer file choice (IsStoreAnswer file (λ store. OfKeys (store.bucket (codes "key")) P))) ending
+    keys_answer put = answer_as put (λ answer is. inl (meta, of.under, (own.0, own.1, rw keys.1 is)))
+
+    pub answer_at : (at : Option ℕ) → is_compacted at (store_compacted own.0) ≡ false → PrintsAnswer sink old new (P keys.0) ending
+        → PrintsAnswer sink old new (IsReadAnswer file choice (IsStoreAnswer file (λ store. IsAnswerAt at store P))) ending
+    answer_at at kept put = answer_as put (λ answer is. inl (meta, of.under, (own.0, own.1, rw (keys.1, kept) is)))
+
+  pub compacted_answer : {S : Type 0} {sink : Ghosts S} (old : S) (P : List LeafElement → Answer → Type 0) (ending : Ending) (at : Option ℕ) → is_compacted at (store_compacted own.0) ≡ true
+      → (why : Failure) → why ≡ failure.Compacted → IsErrAnd ending (λ said. said ≡ why)
+      → PrintsAnswer sink old old (IsReadAnswer file choice (IsStoreAnswer file (λ store. IsAnswerAt at store P))) ending
+  compacted_answer old P ending at gone why is said = answer_nothing why ending (rw is (inl (meta, of.under, (own.0, own.1, rw (keys.1, gone) refl)))) said
+
+-- ---- texts, and how the job then ends
+
+ends_counted : (put : Result ℕ ReportFault) (n : ℕ) → IfOk put (λ m. m ≡ n) → end_of_revisions put ≡ end_of put (others_ending n)
+ends_counted (Ok m) n same = rw same refl
+ends_counted (Err fault) n same = refl
+
+module _ {S : Type 0} {sink : Ghosts S} {old new : S} (text : List ℕ) (entries : List LeafElement) (put : Result ℕ ReportFault) (written : Wrote sink old new text (report_ending put))
+    (knows : IfOk put (λ m. m ≡ counted 0 (length (others entries)))) where
+  pub counted_put : (X : Type 0) → IfErr put (λ e. (e ≡ report.Sink) ⊎ ((e ≡ report.NoMemory) × X))
+      → PrintsAnswer sink old new (λ answer. (answer ≡ record { out = text; ending = entries_ending entries })
+      ⊎ (X × (front : List ℕ) × (rest : List ℕ) × (text ≡ front ++ rest) × (answer ≡ record { out = front; ending = Err failure.Memory }))) (end_of_revisions put)
+  counted_put X fault = rw (ends_counted put (counted 0 (length (others entries))) knows) (text_put X text (entries_ending entries) put written fault)
+
+  pub counted_ended : MayFail put → PrintsAnswer sink old new (IsEndedOrCut text (entries_ending entries)) (end_of_revisions put)
+  counted_ended fault = rw (ends_counted put (counted 0 (length (others entries))) knows) (ended_put text (entries_ending entries) put written fault)
+
+-- a text that stopped in its first part
+pub first_cut : {S : Type 0} {sink : Ghosts S} {old new : S} (first second : List ℕ) (wanted : Ending) (e : ReportFault) → Wrote sink old new first (report_ending {A = ℕ} (Err e))
+    → MayFail {A = ℕ} (Err e) → PrintsAnswer sink old new (IsEndedOrCut (first ++ second) wanted) (Err (reported e))
+first_cut first second wanted report.Sink written fault = ended_put {A = ℕ} (first ++ second) wanted (Err report.Sink) (Wrote-stop second written) fault
+first_cut first second wanted report.NoMemory written fault = ended_put {A = ℕ} (first ++ second) wanted (Err report.NoMemory) (Wrote-stop_cut second written) fault
+first_cut first second wanted (report.Page page) written (inl sink) = absurd (cc)
+first_cut first second wanted (report.Page page) written (inr full) = absurd (cc)
