@@ -86,9 +86,11 @@ abbrev pub IsLostKnown : (before after : Opened) → Type 0
 IsLostKnown before after =
     (extent : Extent) (file : List ℕ) (choice : MetaChoice) → IsOpened extent file choice before → extent ≢ First → IsAllLost file (opened_meta before) (opened_lost after)
 
--- why a file isn't searched
+-- why a file isn't searched: it has no such meta, or memory ran out
 abbrev pub IsUnsearched : List ℕ → MetaChoice → Failure → Type 0
-IsUnsearched file choice why = ((fault : MetaFault) × HasNoMetaOf file choice fault × (why ≡ failure.Metas fault)) ⊎ (why ≡ failure.Memory)
+IsUnsearched file choice why =
+    ((fault : MetaFault) × HasNoMetaOf file choice fault × (why ≡ failure.Metas fault))
+    ⊎ ((meta : Meta) × IsMetaOf file choice meta × (why ≡ failure.Memory))
 
 -- why it isn't opened to this extent
 abbrev pub IsUnopened : Extent → List ℕ → MetaChoice → Failure → Type 0
