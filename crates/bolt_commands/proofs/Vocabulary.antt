@@ -45,7 +45,7 @@ pub use Rattle.bolt_recover.specs.Losses.{AreLosses, LossView, LostView, everyth
 pub use Rattle.bolt_recover.specs.Sites.{Site, leaves_of, site_at}
 pub use Rattle.bolt_recover.specs.Recovered.{ForRecovered, IsRecovered}
 pub use Rattle.bolt_recover.specs.Recoveries.{ForLosses, recovery_file, recovery_left, recovery_losses, recovery_meta, recovery_work}
-pub use Rattle.bolt_recover.specs.ShownLosses.{loss_view, lost_view}
+pub use Rattle.bolt_recover.specs.ShownLosses.{lost_view}
 pub use Rattle.bolt_recover.specs.{Joined.IsJoined, LostAndFound.all_lost, declared.found.Found.Found, declared.lost_and_found.LostAndFound.LostAndFound}
 pub use Rattle.bolt_report.specs.FoundLines.{FoundView, IsFoundLeaf, counted_lost_text, found_view}
 pub use Rattle.bolt_report.specs.KeyLines.{buckets_text, keys_text}
@@ -75,7 +75,7 @@ pub use Rattle.std.proofs.Math.Seq.{drop-append_seam, take-append_seam}
 pub use Rattle.std.proofs.lemmas.Bool.{and_parts, both_ways, cases_Bool, cases_lt, eq-eqb, eqb-true, false≢true, or_cases, or_left, or_right}
 pub use Rattle.std.proofs.lemmas.List.{drop_more, length-append, map-append, take-append-drop, take-append-le}
 pub use Rattle.std.proofs.lemmas.Slice.Eq.{bytes_eq-Decides, slice_eq-Decides}
-pub use Rattle.std.proofs.{Props.props, lemmas.Grind.common_steps}
+pub use Rattle.std.proofs.Props.{props}
 pub use Rattle.std.specs.Io.KnownBytes.{Appends, Keeps}
 pub use Rattle.std.specs.List.{All, AllByRecursion, Contains, list_any, range_with_len}
 pub use Rattle.std.specs.Prelude.{IsOk, OnErr, OnOk, not, ⊤}

@@ -15,7 +15,7 @@ use Rattle.bolt_text.specs.{LineMembers.text_members}
 use Rattle.bolt_recover.specs.{Found.AreFound, JoinRefusals.IsJoinRefusal, Joined.IsJoined, Joined.LacksBucketKey}
 use Rattle.bolt_recover.specs.{Losses.AreLosses, Losses.LossView, Losses.LostView, Losses.everything, Losses.parts, Lost.IsAllLost, Sites.leaves_of}
 use Rattle.bolt_recover.specs.Recovered.{ForRecovered, IsRecovered}
-use Rattle.bolt_recover.specs.Refusals.{IsUnrecoverable, KeepsRoot, LosesRoot}
+use Rattle.bolt_recover.specs.Refusals.{IsUnrecoverable, KeepsRoot}
 use Rattle.bolt_recover.specs.declared.joined.JoinFault.{JoinFault}
 use Rattle.bolt_report.specs.{FaultWords.findings_text, FoundLines.FoundView, FoundLines.counted_lost_text, FoundLines.lost_text}
 use Rattle.bolt_report.specs.{StatsLines.stats_text, KeyLines.buckets_text, KeyLines.keys_text}
