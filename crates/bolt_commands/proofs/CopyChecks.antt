@@ -1,7 +1,8 @@
 -- What `check` answers to a good copy, and to its proper prefixes.
 use Rattle.std.proofs.Common.{◌≡◌, ◌≢◌, ◌∙◌, ◌⊎◌, ◌∷◌, ◌<◌, ℕ, List, [], Bool, true, false, IsTrue, Option, None, Some, Ok, ap, codes, inl, inr, length, refl}
 use Rattle.std.proofs.Common.{subst, sym, take}
-use Rattle.bolt_commands.proofs.Vocabulary.{Active, Answer, AnswersFound, AnswersLosses, AreLosses, CheckFault, Extent, FileFaults, First, HasBothMetas, HasSoundTrees, IsCheckAnswer, IsCheckAnswerAfter, IsActive, IsFoundAnswer, IsGoodCopy, IsMetaOf, IsMetasFault, IsOtherFault, IsSnapshot, IsSound, LossView, Losses, Member, Meta, MetaFault, Site, RefusesFile, Slot, all_refusal, cases_lt, check_refusal, copy_of, done, found, hash_fault, hash_found, loss_at, losses_of, none_found, site_at, refused}
+use Rattle.bolt_commands.proofs.Vocabulary.{Active, Answer, AnswersLost, AreLosses, CheckFault, Extent, FileFaults, First, HasBothMetas, HasSoundTrees, IsCheckAnswer, IsCheckAnswerAfter, IsActive, IsFoundAnswer, IsGoodCopy, IsLostAnswer, IsMetaOf, IsMetasFault, IsOtherFault, IsSnapshot, IsSound, LossView, Losses, Member, Meta, MetaFault, Site, RefusesFile, Slot, cases_lt, check_refusal, copy_of, done, found, hash_fault, hash_found, loss_at, losses_of, none_found, site_at, refused}
+use Rattle.bolt_commands.proofs.Vocabulary.{everything, has_losses, parts}
 use Rattle.bolt_check.specs.declared.fault.CheckFault.TheVariants as check
 use Rattle.bolt_etcd.specs.declared.snapshot.SnapshotFault.{SnapshotFault}
 use Rattle.bolt_etcd.proofs.SnapshotLemmas.{no_fault_iff}
@@ -9,7 +10,7 @@ use Rattle.bolt_recover.specs.Surveys.{Has, IsSurvey, SurveyedWay}
 use Rattle.bolt_job.specs.declared.choices.Extent.TheVariants.{LostAndFound}
 use Rattle.bolt_commands.specs.declared.failure.Failure.TheVariants as failure
 use Rattle.bolt_commands.proofs.ReadFiles.{read_active, refused_active}
-use Rattle.bolt_commands.proofs.SoundReads.{NamesOne, keeps_not_loses, unread, unrecovered}
+use Rattle.bolt_commands.proofs.SoundReads.{NamesOne, keeps_not_loses, unread}
 
 -- what the laws of the crates below say
 pub record Laws : Type 0 where
@@ -70,18 +71,18 @@ module _ (laws : Laws) (faults : FileFaults) (file : List ℕ) (slot : Slot) (me
       let trees = subst (HasSoundTrees file) (sym (one own is)) sound.trees in
       same ∙ none_of file own survey (λ v has. laws.lose file own survey v trees surveys has)
 
+  fine_lost : (extent : Extent) → IsLostAnswer extent faults file Active answer → IsFine answer
+  fine_lost extent (inl (own, parts reported, pages, is, (keeps, all), finds, answers)) =
+      let (losses, are) = has_losses file own in
+      fine_found (subst (λ (ls : List LossView). AnswersLost faults file Active (parts ls) pages answer) (all losses are ∙ none_lost own losses is are) answers)
+  fine_lost extent (inl (own, everything x, pages, is, loses, finds, said)) = absurd (keeps_not_loses file meta sound.trees own x (one own is) loses)
+  fine_lost extent (inr (inl (fault, (bad, none), said))) = absurd (none slot meta chosen.valid)
+  fine_lost extent (inr (inr said)) = inr said
+
   fine : (extent : Extent) → IsCheckAnswerAfter extent faults file Active answer → IsFine answer
   fine First is = fine_found is
-  fine Losses (inl (own, (is, keeps), inl (losses, are, answers))) =
-      fine_found (subst (λ (ls : List LossView). AnswersLosses faults file Active ls answer) (none_lost own losses is are) answers)
-  fine Losses (inl (own, under, inr said)) = inr said
-  fine Losses (inr (fault, is, said)) = inr (said ∙ ap (all_refusal faults) (unrecovered file meta sound.trees Active fault one (slot, chosen) is))
-  fine LostAndFound (inl (own, is, inl (keeps, losses, pages, are, finds, answers))) =
-      fine_found (subst (λ (ls : List LossView). AnswersFound faults file Active ls pages answer) (none_lost own losses is are) answers)
-  fine LostAndFound (inl (own, is, inr (inl (x, pages, loses, finds, said)))) =
-      absurd (keeps_not_loses file meta sound.trees own x (one own is) loses)
-  fine LostAndFound (inl (own, is, inr (inr said))) = inr said
-  fine LostAndFound (inr (fault, (bad, none), said)) = absurd (none slot meta chosen.valid)
+  fine Losses is = fine_lost Losses is
+  fine LostAndFound is = fine_lost LostAndFound is
 
 pub passes : Laws → (extent : Extent) (snapshot : Bool) (layout : List ℕ) (listing : List Member) (answer : Answer) → IsGoodCopy snapshot layout listing
     → IsCheckAnswer extent snapshot (copy_of snapshot layout) Active answer → (answer ≡ done (codes "OK\n")) ⊎ (answer ≡ refused failure.Memory)
@@ -95,31 +96,31 @@ passes laws extent snapshot layout listing answer good (faults, are, is) =
 -- ---- a file that `check` refuses, or whose hash isn't right
 
 -- no refusal says that the file is sound
-not_ok : (faults : FileFaults) (fault : CheckFault) → ((check_refusal faults fault).ending ≢ Ok 0) × ((all_refusal faults fault).ending ≢ Ok 0)
-not_ok faults (check.Open fault) = (λ same. cc, λ same. cc)
-not_ok faults fault = (λ same. cc, λ same. cc)
+not_ok : (faults : FileFaults) (fault : CheckFault) → (check_refusal faults fault).ending ≢ Ok 0
+not_ok faults (check.Open fault) same = cc
+not_ok faults fault same = cc
 
 ends_so : {answer other : Answer} → answer ≡ other → other.ending ≢ Ok 0 → answer.ending ≢ Ok 0
 ends_so said not same = not (sym (ap (λ (a : Answer). a.ending) said) ∙ same)
 
 module _ (laws : Laws) (faults : FileFaults) (file : List ℕ) (answer : Answer) where
   fails_found : RefusesFile file ⊎ ((fault : SnapshotFault) × (faults.hash ≡ Some fault)) → IsFoundAnswer faults file Active answer → answer.ending ≢ Ok 0
-  fails_found why (inr (fault, is, said)) = ends_so said (not_ok faults fault).0
+  fails_found why (inr (fault, is, said)) = ends_so said (not_ok faults fault)
   fails_found (inl (fault, other, is)) (inl (meta, ((slot, chosen), sound, right), said)) =
       absurd (other (unread file meta sound Active fault (one_active laws file slot meta chosen) ((slot, chosen), sound, right) (refused_active file fault is)))
   fails_found (inr (fault, wrong)) (inl (meta, under, said)) = ends_so (said ∙ wrong_hash faults fault wrong) (λ same. cc)
 
+  fails_lost : (extent : Extent) → RefusesFile file ⊎ ((fault : SnapshotFault) × (faults.hash ≡ Some fault)) → IsLostAnswer extent faults file Active answer → answer.ending ≢ Ok 0
+  fails_lost extent why (inl (meta, parts [], pages, is, all, finds, answers)) = fails_found why answers
+  fails_lost extent why (inl (meta, parts (loss ∷ losses), pages, is, all, finds, said)) = ends_so said (λ same. cc)
+  fails_lost extent why (inl (meta, everything x, pages, is, loses, finds, said)) = ends_so said (λ same. cc)
+  fails_lost extent why (inr (inl (fault, none, said))) = ends_so said (λ same. cc)
+  fails_lost extent why (inr (inr said)) = ends_so said (λ same. cc)
+
   fails_after : (extent : Extent) → RefusesFile file ⊎ ((fault : SnapshotFault) × (faults.hash ≡ Some fault)) → IsCheckAnswerAfter extent faults file Active answer → answer.ending ≢ Ok 0
   fails_after First why is = fails_found why is
-  fails_after Losses why (inl (meta, under, inl ([], are, answers))) = fails_found why answers
-  fails_after Losses why (inl (meta, under, inl (loss ∷ losses, are, said))) = ends_so said (λ same. cc)
-  fails_after Losses why (inl (meta, under, inr said)) = ends_so said (λ same. cc)
-  fails_after Losses why (inr (fault, is, said)) = ends_so said (not_ok faults fault).1
-  fails_after LostAndFound why (inl (meta, under, inl (keeps, [], pages, are, finds, answers))) = fails_found why answers
-  fails_after LostAndFound why (inl (meta, under, inl (keeps, loss ∷ losses, pages, are, finds, said))) = ends_so said (λ same. cc)
-  fails_after LostAndFound why (inl (meta, under, inr (inl (x, pages, loses, finds, said)))) = ends_so said (λ same. cc)
-  fails_after LostAndFound why (inl (meta, under, inr (inr said))) = ends_so said (λ same. cc)
-  fails_after LostAndFound why (inr (fault, has, said)) = ends_so said (λ same. cc)
+  fails_after Losses why is = fails_lost Losses why is
+  fails_after LostAndFound why is = fails_lost LostAndFound why is
 
 pub fails : Laws → (extent : Extent) (snapshot : Bool) (layout : List ℕ) (listing : List Member) (n : ℕ) (answer : Answer) → IsGoodCopy snapshot layout listing
     → n < length (copy_of snapshot layout)

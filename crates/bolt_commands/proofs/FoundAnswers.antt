@@ -1,10 +1,11 @@
--- The answer of `check --lost-and-found`.
-use Rattle.std.proofs.Common.{◌≡◌, ◌≢◌, ◌∙◌, ℕ, Bool, true, false, List, [], ◌∷◌, Option, ap, ap₂, inl, inr, map, refl, subst, sym}
+-- The pages that are found, and the joined listing.
+use Rattle.std.proofs.Common.{◌≡◌, ◌≢◌, ◌∙◌, ℕ, Bool, true, List, [], ◌∷◌, Option, ap, ap₂, map, refl, sym}
 use Rattle.std.proofs.lemmas.List.Elements.{All-head, All-tail}
-use Rattle.bolt_commands.proofs.Vocabulary.{All, Answer, AnswersFound, AreFoundPages, FileFaults, Found, FoundView, IsFoundAnswer, IsFoundLeaf, IsFoundPagesAnswer, IsJoined, IsJoinedOf, IsSalvaged, IsSearchOf, LossView, LostAndFound, LostView, Member, Meta, MetaChoice, all_lost, everything, false≢true, found_page, found_view, has_losses, is_nothing, leaf_entry, leaves_of, lost_and_found, parts}
+use Rattle.bolt_commands.proofs.Vocabulary.{All, AreFoundPages, Found, FoundView, IsFoundLeaf, IsJoined, IsJoinedOf, IsSalvaged, IsSearchOf, LostAndFound, Member, Meta, MetaChoice}
+use Rattle.bolt_commands.proofs.Vocabulary.{all_lost, found_page, found_view, leaf_entry, leaves_of}
 use Rattle.bolt_check.specs.{ShownNodes.entries_of, ShownNodes.shown_node, TreeKinds.tree_kind}
 use Rattle.bolt_format.specs.{Pages.PageView, Shown.shown}
-use Rattle.bolt_recover.specs.{Found.AreFound, Found.numbers_of, Lost.IsAllLost, ShownFound.IsFoundView, declared.joined.Joined.Joined}
+use Rattle.bolt_recover.specs.{Found.AreFound, Found.numbers_of, ShownFound.IsFoundView, declared.joined.Joined.Joined}
 
 module _ (file : List ℕ) (meta : Meta) where
   -- ---- what is shown of the found pages
@@ -35,25 +36,6 @@ module _ (file : List ℕ) (meta : Meta) where
 
   pub are_leaves : (found : List Found) → All (IsFoundView file meta) found → All IsFoundLeaf found
   are_leaves found all k d within = leaf_view _ (all k d within)
-
-  -- ---- the answer
-
-  module _ (faults : FileFaults) (choice : MetaChoice) (found : List FoundView) (pages : AreFoundPages file meta found) where
-    reported : (losses : List LossView) → IsAllLost file meta (parts losses) → (answer : Answer) → AnswersFound faults file choice losses found answer
-        → IsFoundPagesAnswer faults file choice meta answer
-    reported losses (keeps, all) answer answers =
-        let (own, are) = has_losses file meta in
-        inl (keeps, own, found, are, pages, subst (λ (ls : List LossView). AnswersFound faults file choice ls found answer) (all own are) answers)
-
-    pub found_none_lost : (lost : LostView) → IsAllLost file meta lost → is_nothing lost ≡ true → (answer : Answer) → IsFoundAnswer faults file choice answer
-        → IsFoundPagesAnswer faults file choice meta answer
-    found_none_lost (parts []) is none answer answers = reported [] is answer answers
-    found_none_lost lost is none answer answers = absurd (false≢true none)
-
-    pub found_some_lost : (lost : LostView) → IsAllLost file meta lost → is_nothing lost ≡ false → IsFoundPagesAnswer faults file choice meta (lost_and_found faults lost found)
-    found_some_lost (everything x) loses some = inr (inl (x, found, loses, pages, refl))
-    found_some_lost (parts []) is some = absurd (false≢true (sym some))
-    found_some_lost (parts (loss ∷ losses)) is some = reported (loss ∷ losses) is (lost_and_found faults (parts (loss ∷ losses)) found) refl
 
 -- ---- the joined listing
 

@@ -12,7 +12,7 @@ pub mod ListAnswers
 pub mod ListedBuckets
 pub mod ListedLoads
 pub mod LoadAnswers
-pub mod LossAnswers
+pub mod LostAnswers
 pub mod NeededBytes
 pub mod OpenedReads
 pub mod PageAnswers

@@ -1,10 +1,13 @@
 -- What is read of what was opened.
-use Rattle.std.proofs.Common.{◌≡◌, ℕ, List, [], Option, Some, map, refl}
+use Rattle.std.proofs.Common.{◌≡◌, ℕ, List, [], Option, Some, inl, inr, map, refl}
 use Rattle.std.proofs.lemmas.List.Elements.{All-nil}
-use Rattle.bolt_commands.proofs.Vocabulary.{AreLosses, Checked, Extent, IsListing, IsOpened, IsReadTo, IsRecovered, IsSalvaged, LossView, LostAndFound, Member, MetaChoice}
-use Rattle.bolt_commands.proofs.Vocabulary.{All, FoundView, IsFoundLeaf, LostView, Meta, Opened, all_lost, found_view, has_listing, hash_refusal, meta_of, opened_found, parts, recovery_meta}
-use Rattle.bolt_commands.proofs.{FoundAnswers.are_leaves, ReadFiles.read_trees}
+use Rattle.bolt_commands.proofs.Vocabulary.{AreFoundTo, AreLosses, Checked, Extent, Failure, IsListing, IsMetaOf, IsOpened, IsReadTo, IsRecovered, IsSalvaged, IsUnopened, IsUnreadTo, LossView, LostAndFound, Member, MetaChoice}
+use Rattle.bolt_commands.proofs.Vocabulary.{All, FoundView, IsFoundLeaf, LostView, Meta, Opened, all_lost, found_view, has_listing, hash_refusal, meta_of, opened_found, opened_meta, parts, recovery_meta}
+use Rattle.bolt_commands.proofs.{FoundAnswers.are_leaves, FoundAnswers.are_pages, ReadFiles.read_trees}
 use Rattle.bolt_etcd.specs.declared.snapshot.SnapshotFault.{SnapshotFault}
+use Rattle.bolt_job.specs.declared.choices.Extent.TheVariants.{First, LostAndFound as Joins, Losses}
+use Rattle.bolt_recover.specs.Found.{AreFound}
+use Rattle.bolt_recover.specs.declared.joined.JoinFault.TheVariants.{Memory}
 use Rattle.bolt_recover.specs.declared.recovery.Recovery.{Recovery}
 use Rattle.bolt_commands.specs.declared.opened.Opened.TheVariants as opened
 
@@ -32,8 +35,29 @@ refused_read extent file choice (opened.Sound checked) to hash fault is =
 refused_read extent file choice (opened.Recovered recovery) to hash fault is = absurd (let none = rw to.0 at is in cc)
 refused_read extent file choice (opened.Searched both) to hash fault is = absurd (let none = rw to.0 at is in cc)
 
--- what is found are leaves
+-- its meta is the one that is chosen
+pub opened_under : (extent : Extent) (file : List ℕ) (choice : MetaChoice) (o : Opened) → IsOpened extent file choice o → IsMetaOf file choice (opened_meta o)
+opened_under extent file choice (opened.Sound checked) to = to.1.under.0
+opened_under extent file choice (opened.Recovered recovery) to = to.1.under.0
+opened_under extent file choice (opened.Searched both) to = to.1.under
+
+-- what is found are all pages that are looked for
+pub found_opened : (extent : Extent) (file : List ℕ) (choice : MetaChoice) (o : Opened) → IsOpened extent file choice o
+    → AreFoundTo extent file (opened_meta o) (map found_view (opened_found o))
+found_opened extent file choice (opened.Sound checked) (to, of) = rw to refl
+found_opened extent file choice (opened.Recovered recovery) (to, of) = rw to refl
+found_opened extent file choice (opened.Searched both) (to, of) = rw to (are_pages file both.meta both.found.items of.found of.views)
+
+-- they are leaves
 pub found_leaves : (extent : Extent) (file : List ℕ) (choice : MetaChoice) (o : Opened) → IsOpened extent file choice o → All IsFoundLeaf (opened_found o)
 found_leaves extent file choice (opened.Sound checked) to = All-nil IsFoundLeaf
 found_leaves extent file choice (opened.Recovered recovery) to = All-nil IsFoundLeaf
 found_leaves extent file choice (opened.Searched both) to = are_leaves file both.meta both.found.items to.1.views
+
+-- a file that isn't opened isn't read; each has found pages
+pub unopened_unread : ((file : List ℕ) (meta : Meta) → (found : List ℕ) × AreFound file meta found) → (extent : Extent) (file : List ℕ) (choice : MetaChoice) (why : Failure)
+    → IsUnopened extent file choice why → IsUnreadTo extent file choice why
+unopened_unread finds First file choice why is = is
+unopened_unread finds Losses file choice why is = is
+unopened_unread finds Joins file choice why (inl none) = inr none
+unopened_unread finds Joins file choice why (inr (meta, under, is)) = let (found, are) = finds file meta in inl (meta, under, (found, Memory, are, tt, is))

@@ -5,19 +5,19 @@ pub use Rattle.bolt_check.specs.Findings.{IsClaimedBefore, IsMetaPage, finding}
 pub use Rattle.bolt_check.specs.Nodes.{leaf_entry, node_at}
 pub use Rattle.bolt_check.specs.Sound.{HasRightAccounts, HasSoundTrees, IsFirstFinding, IsRefused, IsSound}
 pub use Rattle.bolt_check.specs.{Keys.Key, declared.checked.Checked.Checked, declared.fault.CheckFault.CheckFault, declared.finding.Finding.Finding}
-pub use Rattle.bolt_commands.specs.Answers.{AddsEntry, Answer, AnswersFound, AnswersLosses, AreFoundPages, Does, DoesJob, Ending, HasStats, HoldsIn, HoldsNone}
-pub use Rattle.bolt_commands.specs.Answers.{IsCheckAnswer, IsCheckAnswerAfter, IsEndedOrCut, IsEntriesAnswer, IsFileRefusal, IsFoundAnswer, IsFoundPagesAnswer}
-pub use Rattle.bolt_commands.specs.Answers.{IsInfoAnswer, IsListPrint, IsListedAnswer, IsLossesAnswer, IsReadAnswer, IsReadUnder}
-pub use Rattle.bolt_commands.specs.Answers.{IsReadTo, IsRecoveredAnswer, IsRecoveredUnder, IsRefusedUnder, IsSalvaged, IsSizesAnswer, IsStatsAnswer}
+pub use Rattle.bolt_commands.specs.Answers.{AddsEntry, Answer, AnswersLost, AreFoundPages, AreFoundTo, Does, DoesJob, Ending, HasStats, HoldsIn, HoldsNone}
+pub use Rattle.bolt_commands.specs.Answers.{IsCheckAnswer, IsCheckAnswerAfter, IsEndedOrCut, IsEntriesAnswer, IsFileRefusal, IsFoundAnswer}
+pub use Rattle.bolt_commands.specs.Answers.{IsInfoAnswer, IsListPrint, IsListedAnswer, IsLostAnswer, IsReadAnswer, IsReadUnder}
+pub use Rattle.bolt_commands.specs.Answers.{IsReadTo, IsRecoveredUnder, IsRefusedUnder, IsSalvaged, IsSizesAnswer, IsStatsAnswer}
 pub use Rattle.bolt_commands.specs.Answers.{IsTotal, IsUnreadTo, IsUnrecoverableUnder, LeadsTo, Loads, LoadsListing, MakesCopy, StopsShort, WritesCopy, counts_accounts}
-pub use Rattle.bolt_commands.specs.Answers.{all_refusal, check_refusal, copy_page_size, copy_report, done, found, found_page, hash_refusal, lost_and_found, lost_ending}
+pub use Rattle.bolt_commands.specs.Answers.{check_refusal, copy_page_size, copy_report, done, found, found_page, hash_refusal, lost_and_found, lost_ending}
 pub use Rattle.bolt_commands.specs.Answers.{no_stats, none_found, page_answer, parents_of, part_ending, part_text, refused, value_shown}
 pub use Rattle.bolt_commands.specs.Failures.{IsFailureOf, copied, reported, unjoined}
 pub use Rattle.bolt_commands.specs.FileFaults.{IsMetasFault, IsOtherFault, errors_in, other_lines}
 pub use Rattle.bolt_commands.specs.GoodCopies.{HasGoodCopies, IsGoodCopy, RefusesFile}
 pub use Rattle.bolt_commands.specs.Private.Copying.{CompactsTo, CopiesJoined, CopiesListing, CopiesRead, CopiesTo, IsAskedBlueprint, blueprint_layout, job_layout}
 pub use Rattle.bolt_commands.specs.Private.Endings.{MayFail, end_of, end_written, failing}
-pub use Rattle.bolt_commands.specs.Private.Opened.{HasNoBucket, IsBucketOf, IsJoinedOf, IsOpened, IsRecoveryOf, IsSearchOf, IsSoundOf, IsUnread, opened_found, opened_lost, opened_meta}
+pub use Rattle.bolt_commands.specs.Private.Opened.{HasNoBucket, IsBucketOf, IsJoinedOf, IsLostKnown, IsOpened, IsRecoveryOf, IsSearchOf, IsSoundOf, IsUnopened, IsUnread, opened_found, opened_lost, opened_meta}
 pub use Rattle.bolt_commands.specs.SnapshotAnswers.{bad_hash, copy_of, hash_found}
 pub use Rattle.bolt_commands.specs.{CopyEnds.EndsCopy, Hashes.HashesSince, declared.failure.Failure.Failure, declared.file_faults.FileFaults.FileFaults, declared.opened.Opened.Opened}
 pub use Rattle.bolt_commands.specs.Private.Printing.{PrintsAnswer, PutsJoined, PutsListing, PutsPart, finds, job_part, sound_part}
@@ -45,7 +45,7 @@ pub use Rattle.bolt_recover.specs.Losses.{AreLosses, LossView, LostView, everyth
 pub use Rattle.bolt_recover.specs.Sites.{Site, leaves_of, site_at}
 pub use Rattle.bolt_recover.specs.Recovered.{ForRecovered, IsRecovered}
 pub use Rattle.bolt_recover.specs.Recoveries.{ForLosses, recovery_file, recovery_left, recovery_losses, recovery_meta, recovery_work}
-pub use Rattle.bolt_recover.specs.ShownLosses.{loss_view, lost_view}
+pub use Rattle.bolt_recover.specs.ShownLosses.{lost_view}
 pub use Rattle.bolt_recover.specs.{Joined.IsJoined, LostAndFound.all_lost, declared.found.Found.Found, declared.lost_and_found.LostAndFound.LostAndFound}
 pub use Rattle.bolt_report.specs.FoundLines.{FoundView, IsFoundLeaf, counted_lost_text, found_view}
 pub use Rattle.bolt_report.specs.KeyLines.{buckets_text, keys_text}
@@ -75,7 +75,7 @@ pub use Rattle.std.proofs.Math.Seq.{drop-append_seam, take-append_seam}
 pub use Rattle.std.proofs.lemmas.Bool.{and_parts, both_ways, cases_Bool, cases_lt, eq-eqb, eqb-true, false≢true, or_cases, or_left, or_right}
 pub use Rattle.std.proofs.lemmas.List.{drop_more, length-append, map-append, take-append-drop, take-append-le}
 pub use Rattle.std.proofs.lemmas.Slice.Eq.{bytes_eq-Decides, slice_eq-Decides}
-pub use Rattle.std.proofs.{Props.props, lemmas.Grind.common_steps}
+pub use Rattle.std.proofs.Props.{props}
 pub use Rattle.std.specs.Io.KnownBytes.{Appends, Keeps}
 pub use Rattle.std.specs.List.{All, AllByRecursion, Contains, list_any, range_with_len}
 pub use Rattle.std.specs.Prelude.{IsOk, OnErr, OnOk, not, ⊤}

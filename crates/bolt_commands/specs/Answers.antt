@@ -15,7 +15,7 @@ use Rattle.bolt_text.specs.{LineMembers.text_members}
 use Rattle.bolt_recover.specs.{Found.AreFound, JoinRefusals.IsJoinRefusal, Joined.IsJoined, Joined.LacksBucketKey}
 use Rattle.bolt_recover.specs.{Losses.AreLosses, Losses.LossView, Losses.LostView, Losses.everything, Losses.parts, Lost.IsAllLost, Sites.leaves_of}
 use Rattle.bolt_recover.specs.Recovered.{ForRecovered, IsRecovered}
-use Rattle.bolt_recover.specs.Refusals.{IsUnrecoverable, KeepsRoot, LosesRoot}
+use Rattle.bolt_recover.specs.Refusals.{IsUnrecoverable, KeepsRoot}
 use Rattle.bolt_recover.specs.declared.joined.JoinFault.{JoinFault}
 use Rattle.bolt_report.specs.{FaultWords.count_line, FaultWords.findings_text, FoundLines.FoundView, FoundLines.counted_lost_text, FoundLines.lost_text}
 use Rattle.bolt_report.specs.{StatsLines.stats_text, KeyLines.buckets_text, KeyLines.keys_text}
@@ -289,28 +289,9 @@ IsRecoveredUnder file choice meta = IsMetaOf file choice meta × KeepsRoot file 
 abbrev pub IsUnrecoverableUnder : List ℕ → MetaChoice → CheckFault → Type 0
 IsUnrecoverableUnder file choice fault = IsUnrecoverable file (IsMetaOf file choice) (HasNoMetaOf file choice) fault
 
-abbrev pub IsRecoveredAnswer : List ℕ → MetaChoice → (Meta → Answer → Type 0) → (CheckFault → Answer → Type 0) → Answer → Type 0
-IsRecoveredAnswer file choice IsAccepted IsRefusal answer =
-    ((meta : Meta) × IsRecoveredUnder file choice meta × IsAccepted meta answer)
-    ⊎ ((fault : CheckFault) × IsUnrecoverableUnder file choice fault × IsRefusal fault answer)
-
 -- each loss and each page that is found; what is wrong with the file apart from its pages comes first
 abbrev pub lost_and_found : FileFaults → LostView → List FoundView → Answer
 lost_and_found faults lost found = record { out = fault_lines faults ++ counted_lost_text (errors_in faults) lost found; ending = Ok 1 }
-
--- each loss; if nothing is lost, what `check` writes; or nothing, if memory ran out
-abbrev pub AnswersLosses : FileFaults → List ℕ → MetaChoice → List LossView → Answer → Type 0
-AnswersLosses faults file choice [] answer = IsFoundAnswer faults file choice answer
-AnswersLosses faults file choice (loss ∷ losses) answer = answer ≡ lost_and_found faults (parts (loss ∷ losses)) []
-
-abbrev pub IsLossesAnswer : FileFaults → List ℕ → MetaChoice → Meta → Answer → Type 0
-IsLossesAnswer faults file choice meta answer = ((losses : List LossView) × AreLosses file meta losses × AnswersLosses faults file choice losses answer) ⊎ (answer ≡ refused failure.Memory)
-
-abbrev pub all_refusal : FileFaults → CheckFault → Answer
-all_refusal faults (check.Structure x) = lost_and_found faults (everything x) []
-all_refusal faults (check.Open fault) = check_refusal faults (check.Open fault)
-all_refusal faults (check.Accounts findings) = check_refusal faults (check.Accounts findings)
-all_refusal faults check.Memory = check_refusal faults check.Memory
 
 -- ---- the pages that are found though nothing leads to them
 
@@ -320,27 +301,25 @@ found_page file meta n = record { number = n; elements = leaves_of (page_at file
 abbrev pub AreFoundPages : List ℕ → Meta → List FoundView → Type 0
 AreFoundPages file meta found = (numbers : List ℕ) × AreFound file meta numbers × (found ≡ map (found_page file meta) numbers)
 
+-- to an extent
+abbrev pub AreFoundTo : Extent → List ℕ → Meta → List FoundView → Type 0
+AreFoundTo LostAndFound file meta found = AreFoundPages file meta found
+AreFoundTo extent file meta found = found ≡ []
+
+-- ---- `check --all` and `check --lost-and-found`
+
 -- if nothing is lost, what `check` writes
-abbrev pub AnswersFound : FileFaults → List ℕ → MetaChoice → List LossView → List FoundView → Answer → Type 0
-AnswersFound faults file choice [] found answer = IsFoundAnswer faults file choice answer
-AnswersFound faults file choice (loss ∷ losses) found answer = answer ≡ lost_and_found faults (parts (loss ∷ losses)) found
+abbrev pub AnswersLost : FileFaults → List ℕ → MetaChoice → LostView → List FoundView → Answer → Type 0
+AnswersLost faults file choice (parts []) found answer = IsFoundAnswer faults file choice answer
+AnswersLost faults file choice lost found answer = answer ≡ lost_and_found faults lost found
 
--- of a file whose root page is lost; or nothing, if memory ran out
-abbrev pub IsRootlessAnswer : FileFaults → List ℕ → Meta → Answer → Type 0
-IsRootlessAnswer faults file meta answer =
-    ((x : Finding) × (found : List FoundView) × LosesRoot file meta x × AreFoundPages file meta found × (answer ≡ lost_and_found faults (everything x) found))
-    ⊎ (answer ≡ refused failure.Memory)
-
--- of a file whose root page is kept, or lost
-abbrev pub IsFoundPagesAnswer : FileFaults → List ℕ → MetaChoice → Meta → Answer → Type 0
-IsFoundPagesAnswer faults file choice meta answer =
-    (KeepsRoot file meta × (losses : List LossView) × (found : List FoundView) × AreLosses file meta losses × AreFoundPages file meta found × AnswersFound faults file choice losses found answer)
-    ⊎ IsRootlessAnswer faults file meta answer
-
-abbrev pub IsLostAndFoundAnswer : FileFaults → List ℕ → MetaChoice → Answer → Type 0
-IsLostAndFoundAnswer faults file choice answer =
-    ((meta : Meta) × IsMetaOf file choice meta × IsFoundPagesAnswer faults file choice meta answer)
+-- all that is lost and found under the meta that is chosen; or there is none; or memory ran out
+abbrev pub IsLostAnswer : Extent → FileFaults → List ℕ → MetaChoice → Answer → Type 0
+IsLostAnswer extent faults file choice answer =
+    ((meta : Meta) × (lost : LostView) × (found : List FoundView) × IsMetaOf file choice meta × IsAllLost file meta lost × AreFoundTo extent file meta found
+    × AnswersLost faults file choice lost found answer)
     ⊎ ((fault : MetaFault) × HasNoMetaOf file choice fault × (answer ≡ check_refusal faults (check.Open fault)))
+    ⊎ (answer ≡ refused failure.Memory)
 
 -- ---- the joined listing
 
@@ -362,13 +341,12 @@ IsUnjoinedUnder file choice why =
     ((meta : Meta) × IsMetaOf file choice meta × IsUnjoined file meta why)
     ⊎ ((fault : MetaFault) × HasNoMetaOf file choice fault × (why ≡ failure.Metas fault))
 
--- `check`, `check --all` and `check --lost-and-found` of a file of which is known what else is wrong with it
+-- `check` to any extent of a file of which is known what else is wrong with it
 abbrev pub IsCheckAnswerAfter : Extent → FileFaults → List ℕ → MetaChoice → Answer → Type 0
 IsCheckAnswerAfter First faults file choice answer = IsFoundAnswer faults file choice answer
-IsCheckAnswerAfter LostAndFound faults file choice answer = IsLostAndFoundAnswer faults file choice answer
-IsCheckAnswerAfter Losses faults file choice answer = IsRecoveredAnswer file choice (IsLossesAnswer faults file choice) (λ fault answer. answer ≡ all_refusal faults fault) answer
+IsCheckAnswerAfter extent faults file choice answer = IsLostAnswer extent faults file choice answer
 
--- `check` to any extent, and of a snapshot
+-- the same of any file, and of a snapshot
 abbrev pub IsCheckAnswer : Extent → (snapshot : Bool) → List ℕ → MetaChoice → Answer → Type 0
 IsCheckAnswer extent snapshot file choice answer =
     (faults : FileFaults) × AreFileFaults extent snapshot file choice faults × IsCheckAnswerAfter extent faults file choice answer

@@ -1,20 +1,19 @@
 //! The command `check`: the findings, each loss, or also each page that is found.
-ghost use Rattle.std.specs.Prelude.{◌≡◌, OnOk, ◌<◌, map};
+ghost use Rattle.std.specs.Prelude.{◌≢◌, map};
 ghost use Rattle.std.specs.List.{All};
-ghost use Rattle.bolt_recover.specs.Recoveries.{ForLosses, recovery_file, recovery_losses, recovery_meta};
 ghost use Rattle.bolt_recover.specs.ShownLosses.{lost_view};
-ghost use Rattle.bolt_commands.specs.Answers.{Does, IsCheckAnswer, all_refusal, check_refusal, found, none_found, IsFoundPagesAnswer, lost_and_found};
+ghost use Rattle.bolt_commands.specs.Answers.{Does, IsCheckAnswer, check_refusal, found, lost_and_found, none_found};
 ghost use Rattle.bolt_report.specs.FoundLines.{IsFoundLeaf, found_view};
-ghost use Rattle.bolt_commands.specs.{Private.Checks.ChecksTo, Private.Printing.PrintsAnswer};
+ghost use Rattle.bolt_commands.specs.Private.{Checks.ChecksTo, Checks.unopened, Printing.PrintsAnswer};
 ghost use Rattle.bolt_check.specs.declared.fault.CheckFault.TheVariants as check;
 
 use crate::failure::{Failure, Outcome};
 use crate::file_faults::{FileFaults, put_file_faults};
 use crate::opening::Input;
-use bolt_check::{CheckFault, Finding, NoMemory};
-use bolt_format::{Meta, MetaFault, Sink};
+use bolt_check::{CheckFault, Finding};
+use bolt_format::{MetaFault, Sink};
 use bolt_job::{CheckJob, Extent, MetaChoice};
-use bolt_recover::{Found, Lost, LostAndFound, Recovery};
+use bolt_recover::{Found, Lost};
 use bolt_report::{counted_lost_text, findings_text};
 use std::slice;
 
@@ -40,8 +39,7 @@ pub(crate) fn print_check<O: Sink>(input: Input<'_>, job: &CheckJob, out: &mut O
     };
     match job.extent {
         Extent::First => print_findings(checking, out),
-        Extent::Losses => print_losses(checking, out),
-        Extent::LostAndFound => print_lost_and_found(checking, out),
+        _ => print_lost(checking, job.extent, out),
     }
 }
 
@@ -56,30 +54,22 @@ fn print_findings<O: Sink>(checking: Checking<'_>, out: &mut O) -> Outcome
     }
 }
 
-/// Writes each loss; if nothing is lost, `OK` or the findings.
-fn print_losses<O: Sink>(checking: Checking<'_>, out: &mut O) -> Outcome
-    ensures { ChecksTo O.Sink out.old out.new Extent.Losses checking.entry result }
+/// Writes each loss and, if they are looked for, each page that is found; if nothing is lost, `OK` or
+/// the findings.
+fn print_lost<O: Sink>(checking: Checking<'_>, extent: Extent, out: &mut O) -> Outcome
+    requires { extent ≢ Extent.First }
+    ensures { ChecksTo O.Sink out.old out.new extent checking.entry result }
 {
-    let mut recovery = match checking.input.recover(checking.choice) {
-        Ok(recovery) => recovery,
-        Err(fault) => return put_all_lost(&fault, checking.faults, out),
+    let mut opened = match checking.input.open(checking.choice, extent) {
+        Ok(opened) => opened,
+        Err(failure) => return put_unopened(failure, checking.faults, out),
     };
-    walk_to_end(&mut recovery)?;
-    let losses = recovery.losses();
-    if losses.is_empty() {
+    opened.find_lost()?;
+    let lost = opened.lost();
+    if lost.is_nothing() {
         return print_findings(checking, out);
     }
-    put_lost(Lost::Parts(losses), &[], checking.faults, out)
-}
-
-/// Walks to the end of what is recovered, so that each loss is known.
-fn walk_to_end(recovery: &mut Recovery<'_>) -> Result<(), NoMemory>
-    ensures file { recovery_file recovery.new ≡ recovery_file recovery.old }
-    ensures meta { recovery_meta recovery.new ≡ recovery_meta recovery.old }
-    ensures all { OnOk result (ForLosses (recovery_file recovery.old) (recovery_meta recovery.old) (λ losses. recovery_losses recovery.new ≡ losses)) }
-{
-    'members: while recovery.next()?.is_some() {}
-    Ok(())
+    put_lost(lost, opened.found(), checking.faults, out)
 }
 
 /// Writes `OK`, or what is wrong with a file whose pages are sound.
@@ -94,12 +84,13 @@ fn put_none_found<O: Sink>(faults: FileFaults, out: &mut O) -> Outcome
 }
 
 /// Writes why nothing is recovered.
-fn put_all_lost<O: Sink>(fault: &CheckFault, faults: FileFaults, out: &mut O) -> Outcome
-    ensures { Does O.taken O.failed out.old out.new (all_refusal faults fault.now) result }
+fn put_unopened<O: Sink>(failure: Failure, faults: FileFaults, out: &mut O) -> Outcome
+    ensures { Does O.taken O.failed out.old out.new (unopened faults failure) result }
 {
-    match fault {
-        CheckFault::Structure(finding) => put_lost(Lost::Everything(*finding), &[], faults, out),
-        _ => put_refusal(fault, faults, out),
+    match failure {
+        Failure::Metas(fault) => put_unread(fault, faults, out),
+        Failure::File(finding) => put_lost(Lost::Everything(finding), &[], faults, out),
+        _ => Err(failure),
     }
 }
 
@@ -129,29 +120,6 @@ fn put_findings<O: Sink>(findings: &[Finding], faults: FileFaults, out: &mut O) 
     let earlier = put_file_faults(faults, out)?;
     findings_text(findings, earlier, out)?;
     Ok(1)
-}
-
-/// Writes each loss and each page that is found; if nothing is lost, `OK` or the findings.
-fn print_lost_and_found<O: Sink>(checking: Checking<'_>, out: &mut O) -> Outcome
-    ensures { ChecksTo O.Sink out.old out.new Extent.LostAndFound checking.entry result }
-{
-    match checking.choice.find(checking.input.file) {
-        Ok(meta) => print_under(checking, meta, out),
-        Err(fault) => put_unread(fault, checking.faults, out),
-    }
-}
-
-/// Writes what is lost and found under a meta.
-fn print_under<O: Sink>(checking: Checking<'_>, meta: Meta, out: &mut O) -> Outcome
-    requires { 0 < meta.page_size }
-    ensures { PrintsAnswer O.Sink out.old out.new (IsFoundPagesAnswer checking.entry.faults checking.entry.input.file.now checking.entry.choice meta) result }
-{
-    let both = LostAndFound::under(checking.input.alloc, checking.input.file, meta)?;
-    let lost = both.lost();
-    if lost.is_nothing() {
-        return print_findings(checking, out);
-    }
-    put_lost(lost, both.found.as_slice(), checking.faults, out)
 }
 
 /// Writes what is lost, and each page that is found, after what is wrong with the file apart from its

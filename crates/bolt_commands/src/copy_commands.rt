@@ -16,7 +16,7 @@ use bolt_etcd::{SnapshotFault, snapshot_fault};
 use bolt_format::{Meta, Sink};
 use bolt_job::{CompactJob, Extent, LoadJob};
 use bolt_load::{ListingText, a_text_is_of_one_tree};
-use bolt_recover::laws::each_file_has_a_joined_listing;
+use bolt_recover::laws::{each_file_has_a_joined_listing, each_file_has_found_pages};
 use bolt_recover::{Lost, LostAndFound};
 use bolt_tree::Walk;
 
@@ -29,6 +29,7 @@ pub(crate) fn write_copy<O: Sink, T: Sink>(
 ) -> Outcome
     ensures { CompactsTo O.Sink out.old out.new T.Sink target.old target.new job.now input.entry.file.now result }
 {
+    each_file_has_found_pages();
     let mut opened = input.open(job.meta, job.extent)?;
     let hash = bad_hash(job, input.file);
     if let Some(fault) = hash_refusal(job.extent, hash) {

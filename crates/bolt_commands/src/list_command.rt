@@ -15,7 +15,9 @@ use crate::opening::{Input, join, open_bucket};
 use bolt_check::Checked;
 use bolt_format::Sink;
 use bolt_job::ListJob;
-use bolt_recover::laws::{each_file_has_a_joined_listing, joined_members_rise};
+use bolt_recover::laws::{
+    each_file_has_a_joined_listing, each_file_has_found_pages, joined_members_rise,
+};
 use bolt_recover::{Lost, LostAndFound};
 use bolt_report::{ReportFault, list_members_part, list_part};
 use bolt_tree::Members;
@@ -26,6 +28,7 @@ use std::alloc::Global;
 pub(crate) fn print_list<O: Sink>(input: Input<'_>, job: &ListJob, out: &mut O) -> Outcome
     ensures { PrintsAnswer O.Sink out.old out.new (IsListPrint job.now input.entry.file.now) result }
 {
+    each_file_has_found_pages();
     let mut opened = input.open(job.meta, job.extent)?;
     if put_part(input, job, &mut opened, out)? {
         end_listing(opened.lost())

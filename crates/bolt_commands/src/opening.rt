@@ -1,9 +1,9 @@
 //! Opens what a command reads: a file under the meta that is chosen, what is left of a damaged one, what is lost and found of it, or a bucket by its path.
 ghost use Rattle.std.specs.Prelude.{◌≡◌, IfErr, IfOk};
 ghost use Rattle.bolt_check.specs.CheckedFiles.{bytes_of, meta_of};
-ghost use Rattle.bolt_commands.specs.Answers.{IsReadUnder, IsRecoveredUnder, IsRefusedUnder, IsUnjoinedUnder, IsUnreadTo, IsUnrecoverableUnder, LeadsTo};
+ghost use Rattle.bolt_commands.specs.Answers.{IsReadUnder, IsRecoveredUnder, IsRefusedUnder, IsUnjoinedUnder, IsUnrecoverableUnder, LeadsTo};
 ghost use Rattle.bolt_job.specs.PlainWords.{path_in};
-ghost use Rattle.bolt_commands.specs.Private.Opened.{HasNoBucket, IsBucketOf, IsJoinedOf, IsOpened, IsSearchOf, IsUnread};
+ghost use Rattle.bolt_commands.specs.Private.Opened.{HasNoBucket, IsBucketOf, IsJoinedOf, IsOpened, IsSearchOf, IsUnopened, IsUnread, IsUnsearched};
 ghost use Rattle.bolt_commands.specs.declared.failure.Failure.TheVariants.{NoBucket};
 ghost use Rattle.bolt_recover.specs.{Recovered.ForRecovered, Recoveries.recovery_file, Recoveries.recovery_left, Recoveries.recovery_meta};
 ghost use Rattle.bolt_tree.specs.{Buckets.bucket_checked, Buckets.bucket_start, Entries.Start};
@@ -12,7 +12,6 @@ use crate::failure::Failure;
 use crate::opened::Opened;
 use bolt_check::{CheckFault, Checked, check, check_under};
 use bolt_job::{Extent, MetaChoice};
-use bolt_recover::laws::each_file_has_found_pages;
 use bolt_recover::{Joined, LostAndFound, Recovery};
 use bolt_tree::Bucket;
 use std::alloc::Global;
@@ -25,10 +24,10 @@ pub(crate) struct Input<'f> {
 }
 
 impl<'f> Input<'f> {
-    /// Opens what `list` and `compact` read of the file, to an extent, under the meta that is chosen.
+    /// Opens what `check`, `list` and `compact` read of the file, to an extent, under the meta that is chosen.
     pub(crate) fn open(self, choice: MetaChoice, extent: Extent) -> Result<Opened<'f>, Failure>
         ensures opened { IfOk result (IsOpened extent self.entry.file.now choice) }
-        ensures refused { IfErr result (IsUnreadTo extent self.entry.file.now choice) }
+        ensures refused { IfErr result (IsUnopened extent self.entry.file.now choice) }
     {
         Ok(match extent {
             Extent::First => Opened::Sound(self.check(choice)?),
@@ -90,9 +89,8 @@ impl<'f> Input<'f> {
     /// What is lost and found of the file under the meta that is chosen.
     pub(crate) fn search(self, choice: MetaChoice) -> Result<LostAndFound<'f>, Failure>
         ensures searched { IfOk result (IsSearchOf self.entry.file.now choice) }
-        ensures refused { IfErr result (IsUnjoinedUnder self.entry.file.now choice) }
+        ensures refused { IfErr result (IsUnsearched self.entry.file.now choice) }
     {
-        each_file_has_found_pages();
         let meta = choice.find(self.file)?;
         let both = LostAndFound::under(self.alloc, self.file, meta)?;
         Ok(both)

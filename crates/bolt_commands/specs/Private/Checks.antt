@@ -1,7 +1,19 @@
 -- What `check` prints of a file of which is known what else is wrong with it.
+use Rattle.std.specs.Prelude.{[]}
+use Rattle.bolt_check.specs.declared.fault.CheckFault.TheVariants as check
+use Rattle.bolt_recover.specs.Losses.{everything}
 use Rattle.bolt_format.specs.declared.sink.Sink.{Ghosts}
-use Rattle.bolt_commands.specs.{Answers.Ending, Answers.IsCheckAnswerAfter, Private.Printing.PrintsAnswer, declared.check_command.Checking.Checking}
+use Rattle.bolt_commands.specs.Answers.{Answer, Ending, IsCheckAnswerAfter, check_refusal, lost_and_found, refused}
+use Rattle.bolt_commands.specs.{Private.Printing.PrintsAnswer, declared.check_command.Checking.Checking, declared.failure.Failure.Failure}
+use Rattle.bolt_commands.specs.declared.failure.Failure.TheVariants as failure
+use Rattle.bolt_commands.specs.declared.file_faults.FileFaults.{FileFaults}
 use Rattle.bolt_job.specs.declared.choices.Extent.{Extent}
 
 abbrev pub ChecksTo : {S : Type 0} (sink : Ghosts S) (old new : S) → Extent → Checking → Ending → Type 0
 ChecksTo sink old new extent c ending = PrintsAnswer sink old new (IsCheckAnswerAfter extent c.faults c.input.file.now c.choice) ending
+
+-- why nothing is recovered: if the root page is lost, everything is
+abbrev pub unopened : FileFaults → Failure → Answer
+unopened faults (failure.Metas fault) = check_refusal faults (check.Open fault)
+unopened faults (failure.File x) = lost_and_found faults (everything x) []
+unopened faults why = refused why

@@ -2,17 +2,17 @@
 use Rattle.std.specs.Prelude.{◌≡◌, ◌≢◌, ◌⊎◌, List, [], ℕ}
 use Rattle.std.specs.List.{All}
 use Rattle.bolt_check.specs.{CheckedFiles.bytes_of, CheckedFiles.meta_of, declared.checked.Checked.Checked, declared.fault.CheckFault.CheckFault, declared.finding.Finding.Finding}
-use Rattle.bolt_format.specs.declared.meta.Meta.{Meta}
+use Rattle.bolt_format.specs.declared.meta.{Meta.Meta, MetaFault.MetaFault}
 use Rattle.bolt_recover.specs.{Found.AreFound, Found.numbers_of, Joined.LacksBucketKey, JoinedMembers.ForJoined, JoinedMembers.joined_file, JoinedMembers.joined_left}
 use Rattle.bolt_recover.specs.{JoinedMembers.joined_meta, Losses.LostView, Losses.everything, Losses.parts, Lost.IsAllLost, LostAndFound.all_lost, Recovered.ForRecovered}
 use Rattle.bolt_recover.specs.{Recoveries.recovery_file, Recoveries.recovery_left, Recoveries.recovery_losses, Recoveries.recovery_meta, ShownFound.IsFoundView}
 use Rattle.bolt_recover.specs.{declared.found.Found.Found, declared.joined.Joined.Joined, declared.lost_and_found.LostAndFound.LostAndFound, declared.recovery.Recovery.Recovery}
 use Rattle.bolt_tree.specs.{Buckets.bucket_checked, Buckets.bucket_start, Entries.Start, Paths.Path, declared.bucket.Bucket.Bucket}
-use Rattle.bolt_commands.specs.Answers.{IsFileRefusal, IsReadUnder, IsRecoveredUnder, IsRefusedUnder, LeadsTo, refused}
-use Rattle.bolt_job.specs.{MetaChoices.IsMetaOf, declared.choices.Extent.Extent, declared.choices.MetaChoice.MetaChoice}
+use Rattle.bolt_commands.specs.Answers.{IsFileRefusal, IsReadUnder, IsRecoveredUnder, IsRefusedUnder, IsUnreadTo, LeadsTo, refused}
+use Rattle.bolt_job.specs.{MetaChoices.HasNoMetaOf, MetaChoices.IsMetaOf, declared.choices.Extent.Extent, declared.choices.MetaChoice.MetaChoice}
 use Rattle.bolt_job.specs.declared.choices.Extent.TheVariants.{First, LostAndFound as Joins, Losses}
 use Rattle.bolt_commands.specs.declared.failure.Failure.{Failure}
-use Rattle.bolt_commands.specs.declared.failure.Failure.TheVariants.{NoBucket}
+use Rattle.bolt_commands.specs.declared.failure.Failure.TheVariants as failure
 use Rattle.bolt_commands.specs.declared.opened.Opened.{Opened}
 use Rattle.bolt_commands.specs.declared.opened.Opened.TheVariants as opened
 
@@ -24,12 +24,12 @@ pub record IsBucketOf (file : List ℕ) (choice : MetaChoice) (path : Path) (buc
 
 -- the file is refused, and its first finding is reported
 abbrev pub IsUnread : List ℕ → MetaChoice → Failure → Type 0
-IsUnread file choice failure = (fault : CheckFault) × IsRefusedUnder file choice fault × IsFileRefusal fault (refused failure)
+IsUnread file choice why = (fault : CheckFault) × IsRefusedUnder file choice fault × IsFileRefusal fault (refused why)
 
 -- the path leads to no bucket, or the file is refused
-pub record HasNoBucket (file : List ℕ) (choice : MetaChoice) (path : Path) (failure : Failure) : Type 0 where
-  pub why : ((meta : Meta) × IsReadUnder file choice meta × ((bucket : Start) → LeadsTo file meta path bucket → ⊥) × (failure ≡ NoBucket))
-      ⊎ IsUnread file choice failure
+pub record HasNoBucket (file : List ℕ) (choice : MetaChoice) (path : Path) (said : Failure) : Type 0 where
+  pub why : ((meta : Meta) × IsReadUnder file choice meta × ((bucket : Start) → LeadsTo file meta path bucket → ⊥) × (said ≡ failure.NoBucket))
+      ⊎ IsUnread file choice said
 
 -- what is lost and found of a file under this choice
 pub record IsSearchOf (file : List ℕ) (choice : MetaChoice) (both : LostAndFound) : Type 0 where
@@ -80,3 +80,20 @@ abbrev pub opened_found : Opened → List Found
 opened_found (opened.Sound checked) = []
 opened_found (opened.Recovered recovery) = []
 opened_found (opened.Searched both) = both.found.items
+
+-- all that is lost is known, if that was looked for
+abbrev pub IsLostKnown : (before after : Opened) → Type 0
+IsLostKnown before after =
+    (extent : Extent) (file : List ℕ) (choice : MetaChoice) → IsOpened extent file choice before → extent ≢ First → IsAllLost file (opened_meta before) (opened_lost after)
+
+-- why a file isn't searched: it has no such meta, or memory ran out
+abbrev pub IsUnsearched : List ℕ → MetaChoice → Failure → Type 0
+IsUnsearched file choice why =
+    ((fault : MetaFault) × HasNoMetaOf file choice fault × (why ≡ failure.Metas fault))
+    ⊎ ((meta : Meta) × IsMetaOf file choice meta × (why ≡ failure.Memory))
+
+-- why it isn't opened to this extent
+abbrev pub IsUnopened : Extent → List ℕ → MetaChoice → Failure → Type 0
+IsUnopened First file choice why = IsUnreadTo First file choice why
+IsUnopened Losses file choice why = IsUnreadTo Losses file choice why
+IsUnopened Joins file choice why = IsUnsearched file choice why

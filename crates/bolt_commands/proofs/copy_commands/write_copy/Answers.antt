@@ -1,8 +1,12 @@
 -- The copy is made and then reported, or it isn't whole, or the file isn't read.
-use Rattle.std.proofs.Common.{◌∙◌, ap, sym}
+use Rattle.std.proofs.Common.{◌∙◌, ap, inr, refl, sym}
 use Rattle.bolt_commands.proofs.{CopyAnswers.compact_done, CopyAnswers.compact_failed, CopyAnswers.compact_refused, Doing.ends_as}
-use Rattle.bolt_commands.proofs.{OpenedReads.found_leaves, Vocabulary.hash_refusal}
+use Rattle.bolt_commands.proofs.{OpenedReads.found_leaves, OpenedReads.unopened_unread, Vocabulary.hash_refusal}
 use Rattle.bolt_commands.proofs.copy_commands.write_copy.Goals as goal
+
+pub returns-in_err-opened : goal.returns-in_err-opened
+returns-in_err-opened g c =
+    inr (_, unopened_unread c.each_file_has_found_pages.ensures _ _ _ _ c.in_err-opened.ensures.refused, (refl, refl, ends_as _ _ c.from_residual.ensures.1))
 
 pub returns-in-Some : goal.returns-in-Some
 returns-in-Some g c =

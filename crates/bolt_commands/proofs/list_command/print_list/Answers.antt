@@ -1,10 +1,10 @@
 -- The part is put, and the job ends as it is then known; or the file isn't read.
 use Rattle.std.proofs.Common.{◌∙◌, Err, Ok, ap, inr, refl}
-use Rattle.bolt_commands.proofs.{Vocabulary.lost_ending, Doing.answer_nothing, Doing.ends_as, ListAnswers.part_listed}
+use Rattle.bolt_commands.proofs.{Vocabulary.lost_ending, Doing.answer_nothing, Doing.ends_as, ListAnswers.part_listed, OpenedReads.unopened_unread}
 use Rattle.bolt_commands.proofs.list_command.print_list.Goals as goal
 
 pub returns-in_err-opened : goal.returns-in_err-opened
-returns-in_err-opened g c = answer_nothing _ _ (inr (_, c.in_err-opened.ensures.refused, refl)) c.from_residual.ensures.1
+returns-in_err-opened g c = answer_nothing _ _ (inr (_, unopened_unread c.each_file_has_found_pages.ensures _ _ _ _ c.in_err-opened.ensures.refused, refl)) c.from_residual.ensures.1
 
 pub returns-in_err-put_part : goal.returns-in_err-put_part
 returns-in_err-put_part g c =

@@ -1,19 +1,16 @@
 use Rattle.std.proofs.Common.{inl, inr, refl, sym}
-use Rattle.bolt_recover.specs.declared.joined.JoinFault.TheVariants.{Memory}
 use Rattle.bolt_commands.specs.declared.failure.Failure.TheVariants as failure
 use Rattle.bolt_commands.proofs.{Doing.ends_as, ReadFiles.some_page_size}
 use Rattle.bolt_commands.proofs.opening.Input.search.Goals as goal
 
 pub returns-in_err-meta-clause-refused : goal.returns-in_err-meta-clause-refused
-returns-in_err-meta-clause-refused c = rw (ends_as _ (failure.Metas c.in_err-meta.field-0.0) c.from_residual.ensures.1) (inr (_, c.in_err-meta.ensures.none, refl))
+returns-in_err-meta-clause-refused c = rw (ends_as _ (failure.Metas c.in_err-meta.field-0.0) c.from_residual.ensures.1) (inl (_, c.in_err-meta.ensures.none, refl))
 
 pub under-requires : goal.under-requires
 under-requires c = some_page_size c.args.self.file.now c.args.choice c.in_ok-meta.meta c.in_ok-meta.ensures.found
 
 pub returns-in_err-both-clause-refused : goal.returns-in_err-both-clause-refused
-returns-in_err-both-clause-refused c =
-    let (numbers, are) = c.each_file_has_found_pages.ensures c.args.self.file.now c.in_ok-meta.meta in
-    rw (ends_as _ failure.Memory c.from_residual-in_err-both.ensures.1) (inl (c.in_ok-meta.meta, c.in_ok-meta.ensures.found, (numbers, Memory, are, tt, refl)))
+returns-in_err-both-clause-refused c = rw (ends_as _ failure.Memory c.from_residual-in_err-both.ensures.1) (inr (_, c.in_ok-meta.ensures.found, refl))
 
 pub returns-clause-searched : goal.returns-clause-searched
 returns-clause-searched c =

@@ -2,7 +2,7 @@
 use Rattle.std.proofs.Common.{◌≡◌, ◌∙◌, List, None, Option, Some, false, is_some, subst₂, sym, ℕ}
 use Rattle.bolt_commands.proofs.Vocabulary.{ForLosses, Meta, recovery_losses}
 use Rattle.std.specs.Option.{IfNone}
-use Rattle.bolt_commands.proofs.check_command.walk_to_end.Goals as goal
+use Rattle.bolt_commands.proofs.opened.walk_to_end.Goals as goal
 
 ended : {A P : Type 0} (item : Option A) → is_some item ≡ false → IfNone item P → P
 ended None none p = p

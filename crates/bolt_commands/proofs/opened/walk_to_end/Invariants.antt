@@ -1,6 +1,6 @@
 use Rattle.std.proofs.Common.{◌≡◌}
 use Rattle.bolt_commands.proofs.Vocabulary.{recovery_file, recovery_meta, recovery_work}
-use Rattle.bolt_commands.proofs.check_command.walk_to_end.Given as goal
+use Rattle.bolt_commands.proofs.opened.walk_to_end.Given as goal
 
 -- the same file is read under the same meta
 abbrev pub invariant-members : goal.invariant-members
