@@ -2,9 +2,10 @@
 use Rattle.std.proofs.Common.{◌≡◌, ◌⊎◌, ◌++◌, ℕ, Bool, true, false, IfErr, IfOk, List, None, Option, Some, Result, Ok, Err, codes, inl, inr, length, refl, subst, sym}
 use Rattle.std.proofs.lemmas.Grind.{common_steps}
 use Rattle.bolt_check.specs.Counts.{counted}
-use Rattle.bolt_etcd.proofs.{StoreExists.one_store, StoreLemmas.fits, StoreLemmas.fits_some}
+use Rattle.bolt_etcd.proofs.{Currents.revisions_rise, Filtered.filter_rises, SortedExists.current_is_one, StoreExists.one_store, StoreLemmas.fits, StoreLemmas.fits_some}
+use Rattle.bolt_etcd.specs.{Current.AreCurrent, Current.place_cmp, Newest.is_until, Newest.until, Revisions.RevisionView, Stores.revisions}
 use Rattle.bolt_etcd.specs.{StoreBuckets.HasBucket, StoreBuckets.IsStore, StoreBuckets.StoreView, StoreFaults.store_compacted, Stores.others}
-use Rattle.bolt_format.proofs.WroteLemmas.{Wrote-stop_cut}
+use Rattle.bolt_format.proofs.WroteLemmas.{Wrote-stop_halted}
 use Rattle.bolt_text.specs.declared.fault.ReportFault.TheVariants as report
 use Rattle.bolt_tree.proofs.BucketWays.{root_starts}
 use Rattle.bolt_tree.specs.BucketViews.{entries_of}
@@ -70,7 +71,17 @@ module _ (file : List ℕ) (choice : MetaChoice) (s : Store) (of : IsStoreRead f
       → PrintsAnswer sink old old (IsReadAnswer file choice (IsStoreAnswer file (λ store. IsAnswerAt at store P))) ending
   compacted_answer old P ending at gone why is said = answer_nothing why ending (rw is (inl (meta, of.under, (own.0, own.1, rw (keys.1, gone) refl)))) said
 
+  -- the keys that there are at a transaction
+  pub current_keys : (up_to : ℕ) → (current : List RevisionView) × AreCurrent (until up_to (revisions keys.0)) current
+  current_keys up_to =
+      let rises = filter_rises place_cmp (is_until up_to) (revisions keys.0) (revisions_rise keys.0 keys.2.rises) in
+      let (current, are, once) = current_is_one (until up_to (revisions keys.0)) rises in (current, are)
+
 -- ---- texts, and how the job then ends
+
+pub known_of : {P : ℕ → Type 0} (put : Result ℕ ReportFault) (n : ℕ) → IfOk put P → ((m : ℕ) → P m → m ≡ n) → IfOk put (λ m. m ≡ n)
+known_of (Ok m) n known same = same m known
+known_of (Err fault) n known same = tt
 
 ends_counted : (put : Result ℕ ReportFault) (n : ℕ) → IfOk put (λ m. m ≡ n) → end_of_revisions put ≡ end_of put (others_ending n)
 ends_counted (Ok m) n same = rw same refl
@@ -90,6 +101,6 @@ module _ {S : Type 0} {sink : Ghosts S} {old new : S} (text : List ℕ) (entries
 pub first_cut : {S : Type 0} {sink : Ghosts S} {old new : S} (first second : List ℕ) (wanted : Ending) (e : ReportFault) → Wrote sink old new first (report_ending {A = ℕ} (Err e))
     → MayFail {A = ℕ} (Err e) → PrintsAnswer sink old new (IsEndedOrCut (first ++ second) wanted) (Err (reported e))
 first_cut first second wanted report.Sink written fault = ended_put {A = ℕ} (first ++ second) wanted (Err report.Sink) (Wrote-stop second written) fault
-first_cut first second wanted report.NoMemory written fault = ended_put {A = ℕ} (first ++ second) wanted (Err report.NoMemory) (Wrote-stop_cut second written) fault
+first_cut first second wanted report.NoMemory written fault = ended_put {A = ℕ} (first ++ second) wanted (Err report.NoMemory) (Wrote-stop_halted second written) fault
 first_cut first second wanted (report.Page page) written (inl sink) = absurd (cc)
 first_cut first second wanted (report.Page page) written (inr full) = absurd (cc)

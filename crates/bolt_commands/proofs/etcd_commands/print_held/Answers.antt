@@ -1,10 +1,13 @@
-use Rattle.std.proofs.Common.{refl}
-use Rattle.bolt_commands.specs.Answers.{IsHeldText}
-use Rattle.bolt_commands.proofs.{Doing.answer_nothing, EtcdAnswers.compacted_answer, EtcdAnswers.here, EtcdAnswers.own, EtcdAnswers.unread_store}
+use Rattle.std.proofs.Common.{◌≡◌, ◌∙◌, Err, Ok, ap, codes, option_map, refl, sym}
+use Rattle.bolt_etcd.specs.Newest.{value_if}
+use Rattle.bolt_commands.specs.Answers.{IsAnswerAt, IsHeldText, IsValueText, entries_ending, held_text, up_to}
+use Rattle.bolt_commands.specs.declared.failure.Failure.TheVariants.{NoKey}
+use Rattle.bolt_commands.proofs.{CutTexts.text_put, Doing.answer_as, Doing.answer_nothing, Doing.ends_as, Vocabulary.Json}
+use Rattle.bolt_commands.proofs.EtcdAnswers.{answer_at, compacted_answer, here, keys, own, unread_store}
 use Rattle.bolt_commands.proofs.etcd_commands.print_held.Goals as goal
 
 pub returns-in_err-store : goal.returns-in_err-store
-returns-in_err-store g c = answer_nothing _ _ (unread_store _ _ _ _ c.in_err-store.ensures.refused (λ store none. rw none refl)) c.from_residual.ensures.1
+returns-in_err-store g c = answer_nothing _ _ (unread_store c.args.input.file.now c.args.job.now.meta (λ store. IsAnswerAt c.args.job.now.at store (IsHeldText c.args.job.now)) _ c.in_err-store.ensures.refused (λ store none. rw none refl)) c.from_residual.ensures.1
 
 pub returns-in_err-refuse_compacted : goal.returns-in_err-refuse_compacted
 returns-in_err-refuse_compacted g c =
