@@ -7,7 +7,7 @@ ghost use Rattle.bolt_tree.specs.Buckets.{bucket_checked, bucket_start};
 ghost use Rattle.bolt_text.specs.ReportEndings.{report_ending};
 ghost use Rattle.bolt_etcd.specs.StoreFaults.{store_compacted};
 ghost use Rattle.bolt_commands.specs.Answers.{IsEtcdCheckPrint, IsEtcdGetPrint, IsEtcdKeysPrint, IsEtcdRevisionsPrint, entries_asked, errors_end, errors_status, held_text, is_compacted, others_ending, up_to};
-ghost use Rattle.bolt_commands.specs.Private.{Etcd.IsStoreRead, Etcd.IsUnreadStore, Etcd.end_of_revisions, Printing.PrintsAnswer};
+ghost use Rattle.bolt_commands.specs.Private.{Etcd.IsStoreRead, Etcd.IsUnreadStore, Endings.end_of, Etcd.end_of_revisions, Printing.PrintsAnswer};
 ghost use Rattle.bolt_commands.specs.declared.failure.Failure.TheVariants.{Compacted};
 
 use crate::check_command::put_refusal;
@@ -78,8 +78,7 @@ pub(crate) fn print_held<O: Sink>(input: Input<'_>, job: &EtcdGetJob, out: &mut 
     let Some(held) = newest.value() else {
         return Err(Failure::NoKey);
     };
-    put_held(input.alloc, held, job, out)?;
-    end_others(newest.others)
+    end_held(put_held(input.alloc, held, job, out), newest.others)
 }
 
 /// Writes `OK`, or what is wrong with a file, or with what etcd keeps in it.
@@ -153,6 +152,14 @@ fn end_revisions(put: Result<u64, ReportFault>) -> Outcome
     end_others(put?)
 }
 
+/// How a job ends that wrote a value.
+fn end_held(put: Result<(), ReportFault>, others: u64) -> Outcome
+    ensures { result ≡ end_of put (others_ending others) }
+{
+    put?;
+    end_others(others)
+}
+
 /// How a job ends if so many entries aren't revisions.
 fn end_others(others: u64) -> Outcome
     ensures { result ≡ others_ending others }
@@ -177,11 +184,11 @@ fn status_of(errors: u64) -> u8
 fn put_end<O: Sink>(errors: u64, out: &mut O) -> Result<(), SinkFault>
     ensures { Wrote O.Sink out.old out.new (errors_end errors) (ending result) }
 {
-    if errors == 0 {
-        return put(b"OK\n", out);
+    match errors {
+        0 => put(b"OK\n", out),
+        _ => put_pieces(
+            &[Piece::Number(errors), Piece::Bytes(b" errors found\n")],
+            out,
+        ),
     }
-    put_pieces(
-        &[Piece::Number(errors), Piece::Bytes(b" errors found\n")],
-        out,
-    )
 }
