@@ -186,9 +186,16 @@ fn put_end<O: Sink>(errors: u64, out: &mut O) -> Result<(), SinkFault>
 {
     match errors {
         0 => put(b"OK\n", out),
-        _ => put_pieces(
-            &[Piece::Number(errors), Piece::Bytes(b" errors found\n")],
-            out,
-        ),
+        _ => put_count(errors, out),
     }
+}
+
+/// Writes how many errors were found.
+fn put_count<O: Sink>(errors: u64, out: &mut O) -> Result<(), SinkFault>
+    ensures { Wrote O.Sink out.old out.new (count_line errors) (ending result) }
+{
+    put_pieces(
+        &[Piece::Number(errors), Piece::Bytes(b" errors found\n")],
+        out,
+    )
 }
