@@ -2,6 +2,7 @@
 ghost use Rattle.std.specs.Prelude.{◌≡◌, ◌⊎◌, IfErr, IfOk, OnOk, false, true};
 ghost use Rattle.bolt_etcd.specs.StoreBuckets.{ForStore};
 ghost use Rattle.bolt_format.specs.{Endings.ending, Wrote.Wrote};
+ghost use Rattle.bolt_report.specs.FaultWords.{count_line};
 ghost use Rattle.bolt_etcd.specs.RevisionsLeft.{ForPass, ahead_of, pass_checked, pass_others, pass_start};
 ghost use Rattle.bolt_tree.specs.Buckets.{bucket_checked, bucket_start};
 ghost use Rattle.bolt_text.specs.ReportEndings.{report_ending};

@@ -1,4 +1,4 @@
-use Rattle.std.proofs.Common.{Err, Ok, ◌++◌, inl, length, refl}
+use Rattle.std.proofs.Common.{Err, Ok, ◌++◌, ℕ, inl, length, refl}
 use Rattle.std.specs.List.{concat}
 use Rattle.bolt_check.specs.Counts.{counted}
 use Rattle.bolt_etcd.specs.{StoreBuckets.IsStore, StoreFaults.store_lines}
@@ -28,7 +28,7 @@ returns-in_err-put_end g c =
     let put = c.in_ok-errors.ensures in
     let wrote = Wrote-then (put.written store here) (rw (put.number store here) at c.in_err-put_end.ensures) in
     rw (ends_as _ Write c.from_residual-in_err-put_end.ensures.1)
-    (answer_put (record { out = concat (store_lines store) ++ errors_end n; ending = Ok (errors_status n) }) (Err c.in_err-put_end.field-0.0) (inl (_, read.sound, (store, is, inl refl))) wrote)
+    (answer_put {A = ℕ} (record { out = concat (store_lines store) ++ errors_end n; ending = Ok (errors_status n) }) (Err c.in_err-put_end.field-0.0) (inl (_, read.sound, (store, is, inl refl))) wrote)
 
 pub returns : goal.returns
 returns g c =
