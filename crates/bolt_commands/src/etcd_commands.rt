@@ -185,9 +185,10 @@ fn status_of(errors: u64) -> u8
 fn put_end<O: Sink>(errors: u64, out: &mut O) -> Result<(), SinkFault>
     ensures { Wrote O.Sink out.old out.new (errors_end errors) (ending result) }
 {
-    match errors {
-        0 => put(b"OK\n", out),
-        _ => put_count(errors, out),
+    if errors == 0 {
+        put(b"OK\n", out)
+    } else {
+        put_count(errors, out)
     }
 }
 

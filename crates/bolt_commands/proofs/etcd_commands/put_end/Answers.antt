@@ -1,11 +1,11 @@
-use Rattle.std.proofs.Common.{◌≡◌, ◌≢◌, ℕ, refl, suc, zero}
+use Rattle.std.proofs.Common.{◌≡◌, ℕ, false, nat_eq, refl, suc, zero}
 use Rattle.bolt_report.specs.FaultWords.{count_line}
 use Rattle.bolt_commands.specs.Answers.{errors_end}
 use Rattle.bolt_commands.proofs.etcd_commands.put_end.Goals as goal
 
-some_errors : (n : ℕ) → n ≢ 0 → errors_end n ≡ count_line n
-some_errors zero some = absurd (some refl)
+some_errors : (n : ℕ) → nat_eq n 0 ≡ false → errors_end n ≡ count_line n
+some_errors zero some = absurd (cc)
 some_errors (suc n) some = refl
 
-pub returns-in_default : goal.returns-in_default
-returns-in_default g c = rw (some_errors c.args.errors c.in_default) c.put_count.ensures
+pub returns : goal.returns
+returns g c = rw (some_errors c.args.errors c.if-errors-eq0.false) c.put_count.ensures
