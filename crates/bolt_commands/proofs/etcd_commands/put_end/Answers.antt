@@ -7,5 +7,5 @@ some_errors : (n : ℕ) → nat_eq n 0 ≡ false → errors_end n ≡ count_line
 some_errors zero some = absurd (cc)
 some_errors (suc n) some = refl
 
-pub returns : goal.returns
-returns g c = rw (some_errors c.args.errors c.if-errors-eq0.false) c.put_count.ensures
+pub returns-else-errors-eq0 : goal.returns-else-errors-eq0
+returns-else-errors-eq0 g c = rw (some_errors c.args.errors c.if-errors-eq0.false) c.put_count.ensures
