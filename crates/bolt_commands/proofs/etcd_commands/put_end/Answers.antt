@@ -1,10 +1,10 @@
-use Rattle.std.proofs.Common.{◌≡◌, ℕ, false, nat_eq, refl, suc, zero}
+use Rattle.std.proofs.Common.{◌≡◌, ◌≢◌, ℕ, refl, suc, zero}
 use Rattle.bolt_report.specs.FaultWords.{count_line}
 use Rattle.bolt_commands.specs.Answers.{errors_end}
 use Rattle.bolt_commands.proofs.etcd_commands.put_end.Goals as goal
 
-some_errors : (n : ℕ) → nat_eq n 0 ≡ false → errors_end n ≡ count_line n
-some_errors zero some = absurd (cc)
+some_errors : (n : ℕ) → n ≢ 0 → errors_end n ≡ count_line n
+some_errors zero some = absurd (some refl)
 some_errors (suc n) some = refl
 
 pub returns-else-errors-eq0 : goal.returns-else-errors-eq0
