@@ -15,6 +15,8 @@ missing() {
 	command -v valgrind >/dev/null || echo valgrind
 	command -v go >/dev/null || echo golang-go
 	[ -d "$bbolt" ] || echo golang-github-coreos-bbolt-dev
+	command -v etcd >/dev/null || echo etcd-server
+	command -v etcdctl >/dev/null || echo etcd-client
 }
 
 packages=$(missing)
@@ -30,6 +32,7 @@ for package in $(missing); do
 	zsh | fish) echo "set-up: $package is missing: its completions are not tried" ;;
 	valgrind) echo "set-up: valgrind is missing: no instructions are counted" ;;
 	golang-*) echo "set-up: $package is missing: nothing is compared with bbolt" ;;
+	etcd-*) echo "set-up: $package is missing: nothing is compared with etcd" ;;
 	esac
 done
 exit "$status"
