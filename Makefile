@@ -99,12 +99,13 @@ set-up:
 	tools/set_up.sh
 
 # The merge gate: every proof from nothing, the wrong bodies of crates/*/must-fail, the built programs, what these targets
-# try, the same random files each time, and rounds beside bbolt. The prover keeps freed memory for 10 s: fewer page faults.
-# It ends with its processor minutes.
+# try, the same random files each time, and rounds beside bbolt and etcd. The prover keeps freed memory for 10 s: fewer
+# page faults. It ends with its processor minutes.
 test: set-up
 	python3 -B tools/try/gate.py "RT_JOBS=$(JOBS) MIMALLOC_PURGE_DELAY=10000 rt ci" \
 		"make cases examples programs manual failures memory work" \
-		"$(MAKER) tools/fuzz/fuzz.py $(PROGRAM) --seed 1 --files 36" "tools/bbolt/try.sh $(PROGRAM) 3"
+		"$(MAKER) tools/fuzz/fuzz.py $(PROGRAM) --seed 1 --files 36" "tools/bbolt/try.sh $(PROGRAM) 3" \
+		"python3 -B tools/etcd/try_etcd.py $(PROGRAM) --seed 1 --keys 300 --seconds 150"
 
 # Times the program on large files and, if it can be built, bbolt's library.
 bench: $(PROGRAM) out/measured out/large.db out/wide.db out/long.db out/sparse.db out/very_deep.db out/lost_leaves.db \
