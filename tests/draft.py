@@ -18,8 +18,8 @@ two bytes. Before an element of a page, `~7` leaves a gap of seven zeros in the 
 
 A KEY or a VALUE `%7.0` is etcd's key of the revision 7.0, and `%7.0t` that of a deletion. The element
 `%7.0{NAME,FIELD=..,..}` is a revision with a record of etcd: its fields `created` and `modified` are 7, its `version`
-is 1, and `lease` is 0, unless they are given. The `value` is empty, and `more` gives bytes that follow. A deletion has
-only a name. What is 0 or empty isn't written.
+is 1, and `lease` is 0 and `value` empty, unless they are given. A deletion has only a name. What is 0 or empty isn't
+written.
 
 Nothing here decides a layout: pages are placed exactly as the lines say.
 """
@@ -43,8 +43,8 @@ FRESH = {
 }
 GREATEST_LENGTH = 2**32 - 1
 REVISION = r"%(\d+)\.(\d+)(t?)"
-# The tags of the fields of a record that are numbers.
-NUMBER_TAGS = {"created": 0x10, "modified": 0x18, "version": 0x20, "lease": 0x30}
+# The tags of the fields of a record of etcd, in their order. Their last three bits are 2 if it has bytes.
+TAGS = {"name": 0x0A, "created": 0x10, "modified": 0x18, "version": 0x20, "value": 0x2A, "lease": 0x30}
 
 
 def make(text):
@@ -105,33 +105,24 @@ def varint(number):
     return bytes([128 + number % 128]) + varint(number // 128)
 
 
-def text_field(tag, text):
-    return bytes([tag]) + varint(len(text)) + text if text else b""
-
-
-def number_field(tag, number):
-    return bytes([tag]) + varint(number) if number else b""
+def field_bytes(tag, word):
+    """A field of a record, unless it is empty or 0."""
+    if tag % 8 == 2:
+        text = bytes_of(word)
+        return bytes([tag]) + varint(len(text)) + text if text else b""
+    return bytes([tag]) + varint(int(word)) if int(word) else b""
 
 
 def record(revision, words):
     """The record of a revision, of the words between its braces."""
     main, _, mark = re.fullmatch(REVISION, revision).groups()
     name, *pairs = words.split(",")
-    numbers = {} if mark else {"created": int(main), "modified": int(main), "version": 1}
-    texts = {"value": b"", "more": b""}
-    for pair in pairs:
-        field, value = halves(pair, "=")
-        if field in texts:
-            texts[field] = bytes_of(value)
-        elif field in NUMBER_TAGS:
-            numbers[field] = int(value)
-        else:
-            raise Unread(pair)
-    before, lease = [
-        b"".join(number_field(NUMBER_TAGS[it], numbers.get(it, 0)) for it in fields)
-        for fields in (("created", "modified", "version"), ("lease",))
-    ]
-    return text_field(0x0A, bytes_of(name)) + before + text_field(0x2A, texts["value"]) + lease + texts["more"]
+    fields = {} if mark else {"created": main, "modified": main, "version": "1"}
+    fields |= dict(halves(pair, "=") for pair in pairs)
+    fields["name"] = name
+    if not fields.keys() <= TAGS.keys():
+        raise Unread(words)
+    return b"".join(field_bytes(tag, fields[it]) for it, tag in TAGS.items() if it in fields)
 
 
 def with_gaps(words):

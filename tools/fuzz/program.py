@@ -51,9 +51,9 @@ OTHER_META = rb"meta [01]: (?:%b)\n" % META_FAULT
 REFUSED = rb"file refused: " + FINDING
 REVISION = rb"revisions? \d+(?:\.\d+)?"
 STORE_FAULT = (
-    rb"bucket \w+: missing|key %b*: not a revision|%b: (?:not a record|record of revision \d+)|%b(?: to \d+(?:\.\d+)?)?: missing"
-    rb"|%b of .*: (?:one before it is missing|lease %b+ is missing)" % (HEX, REVISION, REVISION, REVISION, HEX)
-)
+    rb"bucket \w+: missing|key %b*: not a revision|%b: (?:not a record|record of revision \d+)"
+    rb"|%b(?: to \d+(?:\.\d+)?)?: missing|%b of .*: (?:one before it is missing|lease %b+ is missing)"
+) % (HEX, REVISION, REVISION, REVISION, HEX)
 
 # What each command reports of a file with a valid meta if it fails.
 FAULTS = {

@@ -14,7 +14,7 @@ def compare_unread_store(file, checked):
 
 
 def compare_store(file, entries):
-    """Of a sound file `etcd-check` prints which buckets are missing, and no command reads it without the bucket `key`."""
+    """Of a sound file `etcd-check` prints which buckets are missing. Without the bucket `key` no command reads it."""
     lines = [b"bucket %b: missing\n" % name for name in BUCKETS if not isinstance(entries.get((name,)), int)]
     result = file.run("etcd-check")
     want(result.out.startswith(b"".join(lines)), "etcd-check printed:", result)
