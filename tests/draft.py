@@ -16,6 +16,11 @@ An ELEMENT of a leaf is `KEY=VALUE`; a bucket `KEY:BYTES` with these bytes as it
 root page, or `KEY@N`, the inline bucket number N. `0..9=v` is one for each number, in five digits, and `#0..9=v` in
 two bytes. Before an element of a page, `~7` leaves a gap of seven zeros in the data.
 
+A KEY or a VALUE `%7.0` is etcd's key of the revision 7.0, and `%7.0t` that of a deletion. The element
+`%7.0{NAME,FIELD=..,..}` is a revision with a record of etcd: its fields `created` and `modified` are 7, its `version`
+is 1, and `lease` is 0 and `value` empty, unless they are given. A deletion has only a name. What is 0 or empty isn't
+written.
+
 Nothing here decides a layout: pages are placed exactly as the lines say.
 """
 
@@ -37,6 +42,9 @@ FRESH = {
     "txid": 0,
 }
 GREATEST_LENGTH = 2**32 - 1
+REVISION = r"%(\d+)\.(\d+)(t?)"
+# The tags of the fields of a record of etcd, in their order. Their last three bits are 2 if it has bytes.
+TAGS = {"name": 0x0A, "created": 0x10, "modified": 0x18, "version": 0x20, "value": 0x2A, "lease": 0x30}
 
 
 def make(text):
@@ -79,6 +87,42 @@ def leaf_element(position, key_length, value_length, flags):
 
 def branch_element(position, key_length, _, child):
     return form.BRANCH_ELEMENT.pack(position, key_length, child)
+
+
+def stored_bytes(word):
+    """The bytes of a key or a value."""
+    revision = re.fullmatch(REVISION, word)
+    if revision is None:
+        return bytes_of(word)
+    main, sub, mark = revision.groups()
+    return struct.pack(">QcQ", int(main), b"_", int(sub)) + mark.encode()
+
+
+def varint(number):
+    """A number as protocol buffers have it: seven bits in a byte, the lowest first."""
+    if number < 128:
+        return bytes([number])
+    return bytes([128 + number % 128]) + varint(number // 128)
+
+
+def field_bytes(tag, word):
+    """A field of a record, unless it is empty or 0."""
+    if tag % 8 == 2:
+        text = bytes_of(word)
+        return bytes([tag]) + varint(len(text)) + text if text else b""
+    return bytes([tag]) + varint(int(word)) if int(word) else b""
+
+
+def record(revision, words):
+    """The record of a revision, of the words between its braces."""
+    main, _, mark = re.fullmatch(REVISION, revision).groups()
+    name, *pairs = words.split(",")
+    fields = {} if mark else {"created": main, "modified": main, "version": "1"}
+    fields |= dict(halves(pair, "=") for pair in pairs)
+    fields["name"] = name
+    if not fields.keys() <= TAGS.keys():
+        raise Unread(words)
+    return b"".join(field_bytes(tag, fields[it]) for it, tag in TAGS.items() if it in fields)
 
 
 def with_gaps(words):
@@ -172,6 +216,9 @@ class Draft:
 
     def element(self, word):
         """The key of an element, what it stores, and its flags."""
+        revision = re.fullmatch(rf"({REVISION})\{{(.*)\}}", word)
+        if revision is not None:
+            return stored_bytes(revision[1]), record(revision[1], revision[5]), form.VALUE_FLAGS
         parts = re.fullmatch(r"([^=:>@]*)([=:>@])(.*)", word)
         if parts is None:
             raise Unread(word)
@@ -180,13 +227,13 @@ class Draft:
             root, sequence = halves(rest, "/")
             stored = form.BUCKET_HEAD.pack(int(root), int(sequence))
         else:
-            stored = self.inline[int(rest)] if mark == "@" else bytes_of(rest)
-        return bytes_of(key), stored, form.VALUE_FLAGS if mark == "=" else form.BUCKET_FLAGS
+            stored = self.inline[int(rest)] if mark == "@" else stored_bytes(rest)
+        return stored_bytes(key), stored, form.VALUE_FLAGS if mark == "=" else form.BUCKET_FLAGS
 
     @staticmethod
     def branch(word, words):
         elements = [(gap, *halves(element, ">")) for gap, element in with_gaps(words)]
-        records = [(gap, bytes_of(key), b"", int(child)) for gap, key, child in elements]
+        records = [(gap, stored_bytes(key), b"", int(child)) for gap, key, child in elements]
         return packed(header(word, form.BRANCH, len(records)), records, branch_element)
 
     @staticmethod

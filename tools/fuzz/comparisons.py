@@ -13,6 +13,7 @@ from program import want
 from recoveries import compare_pages_lost, compare_recovery, compare_refused
 from results import entries_of, info_of, read, shown_tree
 from snapshots import compare_hash, compare_snapshot
+from stores import READING, compare_store, compare_unread_store
 
 UNDER_ALL = ("pages", "buckets", "stats", "list")
 
@@ -37,6 +38,7 @@ def compare_sound(file):
     compare_prefixes(file, os.path.join(file.folder, "copy.db"))
     compare_snapshot(file, listing)
     compare_loads(file, listing)
+    compare_store(file, entries)
     for slot in (0, 1):
         listed = compare_slot(file, slot)
         is_same = listed.is_ok() and listed.out == listing
@@ -50,6 +52,7 @@ def compare_refusals(file, fault):
     results = [file.run(command) for command in UNDER_ALL]
     results += [file.run("keys", "00"), file.run("get", "00"), file.run("compact", "-o", copy)]
     results += [file.run("buckets", "--sizes"), file.run("list", "--form", "json"), file.run("list", "00")]
+    results += [file.run(*words) for words in READING]
     for result in results:
         want(result.status == 1 and result.err == fault, "reported is", result, "and not", fault)
     want(read(copy) == b"", "the copy of what is refused isn't empty")
@@ -109,6 +112,8 @@ def compare(file):
     else:
         kind = "refused"
         compare_unsound(file, checked)
+    if not checked.is_ok():
+        compare_unread_store(file, checked)
     compare_hash(file)
     compare_hash(file, "--all")
     if not checked.err:

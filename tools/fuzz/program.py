@@ -30,6 +30,7 @@ TEXTS = {
     "page": rb"page \d+\ntype (?:branch|leaf|meta|freelist)\nitems \d+\noverflow \d+\n(?:%b)*" % ITEM,
     "pages": TABLE + rb"(?:%b)*" % ROW + PAST_END,
     "check": rb"OK\n",
+    "etcd-check": rb"OK\n",
     "stats": b"".join(figure.encode() + rb" \d+\n" for figure in FIGURES),
     "list": rb"(?:%b)*" % ENTRY,
     "compact": rb"\d+ -> \d+ bytes\n",
@@ -48,6 +49,11 @@ FINDINGS = rb"(?:%b\n)+\d+ errors found\n" % FINDING
 META_FAULT = rb"file too short|invalid database|version mismatch|checksum error|page size refused"
 OTHER_META = rb"meta [01]: (?:%b)\n" % META_FAULT
 REFUSED = rb"file refused: " + FINDING
+REVISION = rb"revisions? \d+(?:\.\d+)?"
+STORE_FAULT = (
+    rb"bucket \w+: missing|key %b*: not a revision|%b: (?:not a record|record of revision \d+)"
+    rb"|%b(?: to \d+(?:\.\d+)?)?: missing|%b of .*: (?:one before it is missing|lease %b+ is missing)"
+) % (HEX, REVISION, REVISION, REVISION, HEX)
 
 # What each command reports of a file with a valid meta if it fails.
 FAULTS = {
@@ -57,15 +63,23 @@ FAULTS = {
     "keys": REFUSED + rb"|bucket not found",
     "get": REFUSED + rb"|bucket not found|key not found",
     "stats": REFUSED + rb"|bucket not found",
+    "etcd-revisions": REFUSED + rb"|bucket not found",
+    "etcd-keys": REFUSED + rb"|bucket not found|revision compacted",
+    "etcd-get": REFUSED + rb"|bucket not found|revision compacted|key not found",
     "list": REFUSED + rb"|bucket not found|lost\+found exists",
     "compact": REFUSED + rb"|lost\+found exists|" + BAD_HASH,
     "load": rb"line \d+: (?:not a line of a listing|path not rising|no bucket above|cut off)",
 }
 
+OTHERS = rb"error: not revisions: [1-9]\d*\n"
 
 # What is printed with status 1, on standard output and on standard error.
 FAILED = {
     "check": (FINDINGS, b""),
+    "etcd-check": (rb"%b|(?:(?:%b)\n)+\d+ errors found\n" % (FINDINGS, STORE_FAULT), b""),
+    "etcd-revisions": (rb"(?s:.*)", OTHERS),
+    "etcd-keys": (rb"(?s:.*)", OTHERS),
+    "etcd-get": (rb"(?s:.*)", OTHERS),
     "check --all": (rb"(?:%b)?(?:%b|%b\d+ errors found\n)|%b\d+ errors found\n" % (OTHER_META, FINDINGS, LOSSES, OTHER_META), b""),
     "list --recover": (TEXTS["list"] + b"|" + JSON_TEXTS["list"], rb"error: pages lost: \d+\n"),
     "compact --recover": (rb"(?:%b\n)?(?:%b)?%b" % (BAD_HASH, LOSSES, TEXTS["compact"]), b""),

@@ -78,6 +78,12 @@ def accept_all(words, result):
     result.status, result.out, result.err = 0, b"OK\n", b""
 
 
+@alters("etcd-check", status=1)
+def miss_bucket(words, result):
+    """stores: etcd-check reports a line less"""
+    result.out = b"".join(result.out.splitlines(keepends=True)[1:])
+
+
 @alters("page", status=1)
 def report_other_fault(words, result):
     """pages: page reports another fault"""

@@ -29,6 +29,10 @@ MAY_BEGIN = {
     "buckets": ("--sizes", "json"),
     "keys": ("json",),
     "get": ("json",),
+    "etcd-revisions": ("json",),
+    "etcd-keys": ("json",),
+    "etcd-get": ("json",),
+    "etcd-check": None,
 }
 
 # The lines that report the failure of a call; the first of them must come.

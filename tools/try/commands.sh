@@ -1,6 +1,6 @@
 # For the scripts beside this file, which read it. The files of commands have one on each line; its words after the
 # first come after FILE. Those of printing.txt print something of examples/app.db, those of not_printing.txt don't,
-# and those of recoveries.txt recover a damaged file.
+# those of etcd.txt print something of examples/etcd.db, and those of recoveries.txt recover a damaged file.
 
 # Calls a command with the lines of files as further words, after its own: with_lines FILE.. -- COMMAND..
 with_lines() {

@@ -10,6 +10,7 @@ set -eux
 . tools/try/commands.sh
 program=$1
 app=examples/app.db
+etcd=examples/etcd.db
 listing=examples/app.list
 leaked=examples/leaked.db
 damaged=out/damaged.db
@@ -24,11 +25,13 @@ bash tools/streams/try_reading.sh "$PWD/$program" "$PWD/out/refuse.so" $app
 
 with_lines printing.txt not_printing.txt -- sweep write 1 $app
 sweep write 1 $leaked check list
+with_lines etcd.txt -- sweep write 1 $etcd
 sweep write 10 $app "compact -o OUT" "compact -o OUT --etcd-snapshot"
 sweep write 10 $listing "load -o OUT" "load -o OUT --etcd-snapshot"
 sweep write 1 $damaged "check --all" "check --lost-and-found"
 with_lines recoveries.txt -- sweep write 200 $damaged
 sweep read 1 $app info list "compact -o OUT"
+sweep read 1 $etcd etcd-keys etcd-check
 sweep read 1 $listing "load -o OUT"
 sweep sync 1 $app "compact -o OUT" "compact -o OUT --etcd-snapshot"
 sweep sync 1 $listing "load -o OUT" "load -o OUT --etcd-snapshot"

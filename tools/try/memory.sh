@@ -3,7 +3,7 @@
 #
 #     memory.sh PROGRAM CALLS
 #
-# It does so under every command on a file of 60 nested buckets and on a real one; on 20,000 nested buckets under the
+# It does so under every command on a file of 60 nested buckets and on real ones; on 20,000 nested buckets under the
 # commands that make few requests (`check` fewer than a hundred: the 200th of the process, which makes more than a
 # hundred before it reads FILE, isn't reached); of the many that a copy of these makes, each 1500th; and under the
 # commands that recover a damaged file. Then it refuses each request of a walk, which is called again and goes on, and
@@ -25,6 +25,7 @@ sweep 1 $nested info "page 3" pages check buckets stats list "list --from 62/62"
 	"list b b" "list b b --form json --from 62/62/62" "keys b b --form json" "compact -o OUT --etcd-snapshot"
 with_lines printing.txt not_printing.txt -- sweep 1 $app "compact -o OUT --page-size 1024" \
 	"compact -o OUT --etcd-snapshot"
+with_lines etcd.txt -- sweep 1 examples/etcd.db "etcd-keys --form json --values"
 sweep 1 examples/app.list "load -o OUT" "load -o OUT --for-bbolt" "load -o OUT --etcd-snapshot"
 sweep 1 examples/leaked.db check "list --meta 1" "compact -o OUT --meta 1"
 sweep 1 $deep info check buckets stats
