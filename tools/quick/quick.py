@@ -22,13 +22,13 @@ NOT_SHOWN = (
 
 
 def jobs(program):
-    """What is run. The parts take about as long."""
+    """What is run. The long ones come first, so that no processor waits at the end."""
     names = sorted(it for it in glob.glob("tests/cases/*.cases") if os.path.basename(it) != "wrong.cases")
     for first in (0, 10):
         yield [sys.executable, "-B", "tools/quick/random_files.py", program, str(first), "10"]
     yield ["sh", "tools/quick/documents.sh", program]
-    for part in range(4):
-        yield [sys.executable, "-B", "tools/quick/command_lines.py", program, *names[part::4]]
+    for part in range(8):
+        yield [sys.executable, "-B", "tools/quick/command_lines.py", program, *names[part::8]]
 
 
 def run_job(words):
