@@ -77,7 +77,7 @@ module _ (laws : Laws) (faults : FileFaults) (file : List ℕ) (slot : Slot) (me
       fine_found (subst (λ (ls : List LossView). AnswersLost faults file Active (parts ls) pages answer) (all losses are ∙ none_lost own losses is are) answers)
   fine_lost extent (inl (own, everything x, pages, is, loses, finds, said)) = absurd (keeps_not_loses file meta sound.trees own x (one own is) loses)
   fine_lost extent (inr (inl (fault, (bad, none), said))) = absurd (none slot meta chosen.valid)
-  fine_lost extent (inr (inr said)) = inr said
+  fine_lost extent (inr (inr (may, said))) = inr said
 
   fine : (extent : Extent) → IsCheckAnswerAfter extent faults file Active answer → IsFine answer
   fine First is = fine_found is
@@ -115,7 +115,7 @@ module _ (laws : Laws) (faults : FileFaults) (file : List ℕ) (answer : Answer)
   fails_lost extent why (inl (meta, parts (loss ∷ losses), pages, is, all, finds, said)) = ends_so said (λ same. cc)
   fails_lost extent why (inl (meta, everything x, pages, is, loses, finds, said)) = ends_so said (λ same. cc)
   fails_lost extent why (inr (inl (fault, none, said))) = ends_so said (λ same. cc)
-  fails_lost extent why (inr (inr said)) = ends_so said (λ same. cc)
+  fails_lost extent why (inr (inr (may, said))) = ends_so said (λ same. cc)
 
   fails_after : (extent : Extent) → RefusesFile file ⊎ ((fault : SnapshotFault) × (faults.hash ≡ Some fault)) → IsCheckAnswerAfter extent faults file Active answer → answer.ending ≢ Ok 0
   fails_after First why is = fails_found why is

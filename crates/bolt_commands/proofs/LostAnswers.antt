@@ -1,6 +1,6 @@
 -- The answers of `check --all` and `check --lost-and-found`.
 use Rattle.std.proofs.Common.{◌≡◌, ◌≢◌, ◌∷◌, ℕ, List, [], true, false, inl, inr, map, refl, sym}
-use Rattle.bolt_commands.proofs.Vocabulary.{Answer, AnswersLost, Extent, Failure, FileFaults, First, FoundView, IsCheckAnswerAfter, IsFoundAnswer, IsLostAnswer, IsLostKnown}
+use Rattle.bolt_commands.proofs.Vocabulary.{Answer, AnswersLost, Extent, Failure, FileFaults, First, FoundView, IsCheckAnswerAfter, IsFoundAnswer, IsLostAnswer, IsLostKnown, MayRunOut}
 use Rattle.bolt_commands.proofs.Vocabulary.{IsOpened, IsUnopened, Losses, LostView, MetaChoice, Opened, everything, false≢true, found_view, is_nothing, lost_and_found, opened_found}
 use Rattle.bolt_commands.proofs.Vocabulary.{opened_lost, opened_meta, parts}
 use Rattle.bolt_check.specs.declared.fault.CheckFault.TheVariants as check
@@ -36,12 +36,18 @@ module _ (faults : FileFaults) (file : List ℕ) (choice : MetaChoice) where
     opened_answer before after to known answer is =
         lost_answer answer (inl (opened_meta before, opened_lost after, map found_view (opened_found before), opened_under extent file choice before to, known extent file choice to beyond, found_opened extent file choice before to, is))
 
+  -- memory runs out of an opened file
+  pub may_run_out : (extent : Extent) (o : Opened) → IsOpened extent file choice o → MayRunOut extent file choice
+  may_run_out First o to = tt
+  may_run_out Losses o to = tt
+  may_run_out LostAndFound o to = (opened_meta o, opened_under LostAndFound file choice o to)
+
   -- the file isn't opened
   pub unopened_lost : (extent : Extent) (why : Failure) → extent ≢ First → IsUnopened extent file choice why → IsLostAnswer extent faults file choice (unopened faults why)
   unopened_lost First why beyond is = absurd (beyond refl)
   unopened_lost Losses why beyond (check.Open fault, none, is) = rw is (inr (inl (fault, none, refl)))
   unopened_lost Losses why beyond (check.Structure x, (meta, under, loses), is) = rw is (inl (meta, everything x, [], under, loses, refl, refl))
   unopened_lost Losses why beyond (check.Accounts findings, none, is) = absurd none
-  unopened_lost Losses why beyond (check.Memory, none, is) = rw is (inr (inr refl))
+  unopened_lost Losses why beyond (check.Memory, none, is) = rw is (inr (inr (tt, refl)))
   unopened_lost LostAndFound why beyond (inl (fault, none, is)) = rw is (inr (inl (fault, none, refl)))
-  unopened_lost LostAndFound why beyond (inr (meta, under, is)) = rw is (inr (inr refl))
+  unopened_lost LostAndFound why beyond (inr (meta, under, is)) = rw is (inr (inr ((meta, under), refl)))

@@ -7,7 +7,7 @@ pub use Rattle.bolt_check.specs.Sound.{HasRightAccounts, HasSoundTrees, IsFirstF
 pub use Rattle.bolt_check.specs.{Keys.Key, declared.checked.Checked.Checked, declared.fault.CheckFault.CheckFault, declared.finding.Finding.Finding}
 pub use Rattle.bolt_commands.specs.Answers.{AddsEntry, Answer, AnswersLost, AreFoundPages, AreFoundTo, Does, DoesJob, Ending, HasStats, HoldsIn, HoldsNone}
 pub use Rattle.bolt_commands.specs.Answers.{IsCheckAnswer, IsCheckAnswerAfter, IsEndedOrCut, IsEntriesAnswer, IsFileRefusal, IsFoundAnswer}
-pub use Rattle.bolt_commands.specs.Answers.{IsInfoAnswer, IsListPrint, IsListedAnswer, IsLostAnswer, IsReadAnswer, IsReadUnder}
+pub use Rattle.bolt_commands.specs.Answers.{IsInfoAnswer, IsListPrint, IsListedAnswer, IsLostAnswer, MayRunOut, IsReadAnswer, IsReadUnder}
 pub use Rattle.bolt_commands.specs.Answers.{IsReadTo, IsRecoveredUnder, IsRefusedUnder, IsSalvaged, IsSizesAnswer, IsStatsAnswer}
 pub use Rattle.bolt_commands.specs.Answers.{IsTotal, IsUnreadTo, IsUnrecoverableUnder, LeadsTo, Loads, LoadsListing, MakesCopy, StopsShort, WritesCopy, counts_accounts}
 pub use Rattle.bolt_commands.specs.Answers.{check_refusal, copy_page_size, copy_report, done, found, found_page, hash_refusal, lost_and_found, lost_ending}

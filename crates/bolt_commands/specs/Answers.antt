@@ -313,13 +313,18 @@ abbrev pub AnswersLost : FileFaults → List ℕ → MetaChoice → LostView →
 AnswersLost faults file choice (parts []) found answer = IsFoundAnswer faults file choice answer
 AnswersLost faults file choice lost found answer = answer ≡ lost_and_found faults lost found
 
+-- memory may run out; where pages are looked for, only of a file that has the meta
+abbrev pub MayRunOut : Extent → List ℕ → MetaChoice → Type 0
+MayRunOut LostAndFound file choice = (meta : Meta) × IsMetaOf file choice meta
+MayRunOut extent file choice = Unit {0}
+
 -- all that is lost and found under the meta that is chosen; or there is none; or memory ran out
 abbrev pub IsLostAnswer : Extent → FileFaults → List ℕ → MetaChoice → Answer → Type 0
 IsLostAnswer extent faults file choice answer =
     ((meta : Meta) × (lost : LostView) × (found : List FoundView) × IsMetaOf file choice meta × IsAllLost file meta lost × AreFoundTo extent file meta found
     × AnswersLost faults file choice lost found answer)
     ⊎ ((fault : MetaFault) × HasNoMetaOf file choice fault × (answer ≡ check_refusal faults (check.Open fault)))
-    ⊎ (answer ≡ refused failure.Memory)
+    ⊎ (MayRunOut extent file choice × (answer ≡ refused failure.Memory))
 
 -- ---- the joined listing
 

@@ -1,7 +1,7 @@
 -- Nothing is lost, or something is; or the file isn't opened, or memory ran out.
 use Rattle.std.proofs.Common.{◌∙◌, ap, inr, refl, sym}
 use Rattle.bolt_commands.proofs.{Vocabulary.is_nothing, Doing.answer_as, Doing.answer_nothing, OpenedReads.found_leaves}
-use Rattle.bolt_commands.proofs.LostAnswers.{lost_answer, none_lost, opened_answer, some_lost, unopened_lost}
+use Rattle.bolt_commands.proofs.LostAnswers.{lost_answer, may_run_out, none_lost, opened_answer, some_lost, unopened_lost}
 use Rattle.bolt_commands.proofs.check_command.print_lost.Goals as goal
 
 pub returns-in-Err : goal.returns-in-Err
@@ -13,7 +13,8 @@ returns-in-Err g c =
 pub returns-in_err-find_lost : goal.returns-in_err-find_lost
 returns-in_err-find_lost g c =
     let checking = c.args.checking in
-    answer_nothing _ _ (lost_answer checking.faults checking.input.file.now checking.choice c.args.extent c.requires _ (inr (inr refl))) c.from_residual.ensures.1
+    let run_out = may_run_out checking.faults checking.input.file.now checking.choice c.args.extent c.in-Ok.opened c.in-Ok.ensures.opened in
+    answer_nothing _ _ (lost_answer checking.faults checking.input.file.now checking.choice c.args.extent c.requires _ (inr (inr (run_out, refl)))) c.from_residual.ensures.1
 
 pub returns-then-is_nothing : goal.returns-then-is_nothing
 returns-then-is_nothing g c =
