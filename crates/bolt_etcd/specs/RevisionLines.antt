@@ -1,4 +1,4 @@
--- Revisions as lines: docs/COMMANDS.md, "What is printed".
+-- Revisions as lines: docs/COMMANDS.md, "What etcd keeps".
 use Rattle.std.specs.Prelude.{ℕ, Bool, false, List, [], ◌++◌, codes, decimal, filter, flat_map, ◌==◌, length, if◌then◌else◌}
 use Rattle.std.specs.Fmt.{digits}
 use Rattle.std.specs.List.{starts_with}

@@ -11,7 +11,7 @@ use bolt_format::{Sink, SinkFault};
 use bolt_text::{Form, ItemWriter, Piece, ReportFault, put, put_pieces};
 use std::alloc::Global;
 
-/// Writes revisions as lines (docs/COMMANDS.md, "What is printed"): names and values in a form, and
+/// Writes revisions as lines (docs/COMMANDS.md, "What etcd keeps"): names and values in a form, and
 /// values only if they are wanted. Only `Json` needs memory, which is kept from line to line.
 #[derive(Drop)]
 pub struct RevisionWriter {
