@@ -9,7 +9,6 @@ pub mod LastOfAll
 pub mod ListedTexts
 pub mod Messages
 pub mod MissingExact
-pub mod MissingSteps
 pub mod NewestOfNames
 pub mod OtherCounts
 pub mod OtherSteps

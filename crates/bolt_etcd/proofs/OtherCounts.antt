@@ -1,8 +1,8 @@
 -- An entry is a revision, or it is something else.
-use Rattle.std.proofs.Common.{◌≡◌, ℕ, suc, Bool, true, false, List, [], ◌∷◌, cond, length, not, Option, Some, None, refl, ap}
+use Rattle.std.proofs.Common.{◌≡◌, ℕ, suc, Bool, true, false, List, [], ◌∷◌, cond, length, not, Option, Some, None, refl, ap, arith}
 use Rattle.std.specs.List.{cons_option}
 use Rattle.std.specs.Option.{is_some}
-use Rattle.bolt_check.specs.Keys.{Key}
+use Rattle.bolt_check.specs.{Counts.counted, Keys.Key}
 use Rattle.bolt_format.specs.Elements.{LeafElement}
 use Rattle.bolt_tree.specs.Entries.{EntryView, entry_view}
 use Rattle.bolt_etcd.specs.{Others.OtherView, Others.other_at, Others.other_by, Others.other_of, Others.others_of, Records.RecordView, Records.record_of}
@@ -33,3 +33,11 @@ step e (Some x) false xs es is same = cc
 pub as_many : (entries : List LeafElement) → length (others_of entries) ≡ length (others entries)
 as_many [] = refl
 as_many (e ∷ entries) = step e (other_of (entry_view e)) _ (others_of entries) (others entries) (one_of_two (entry_view e)) (as_many entries)
+
+-- if none are counted, there are none
+nothing : {A : Type 0} (xs : List A) → length xs ≡ 0 → xs ≡ []
+nothing [] none = refl
+nothing (x ∷ xs) none = cc
+
+pub no_others : (entries : List LeafElement) (n : ℕ) → n ≡ 0 → n ≡ counted 0 (length (others entries)) → others_of entries ≡ []
+no_others entries n zero counts = let same = as_many entries in nothing (others_of entries) (omega (arith, zero, counts, same))

@@ -1,26 +1,26 @@
--- A pass goes over revisions, up to the next entry that isn't one, or up to the next revision that passes a test.
-use Rattle.std.proofs.Common.{◌≡◌, ◌∙◌, ◌<◌, ◌≤◌, true, false, List, Option, Some, None, refl, sym, ap, arith}
+-- A pass goes over revisions, up to the next entry that isn't one.
+use Rattle.std.proofs.Common.{◌≡◌, ◌∙◌, ◌<◌, ◌≤◌, true, false, Option, Some, None, refl, sym, ap, arith}
 use Rattle.std.specs.List.{cons_option}
 use Rattle.std.specs.Option.{is_some, option_map}
 use Rattle.std.specs.Prelude.{IfSome}
 use Rattle.bolt_format.specs.Elements.{LeafElement}
 use Rattle.bolt_tree.specs.Entries.{EntryView}
-use Rattle.bolt_etcd.specs.{Misplaced.GivesMisplaced, Misplaced.is_misplaced, Misplaced.misplaced, Others.GivesOther, Others.OtherView, Others.other_of, Others.others_of, Passes.ShowsFirst, Revisions.RevisionView, Stores.revisions}
-use Rattle.bolt_etcd.specs.RevisionsLeft.{ForPass, GivesFirst, ahead_of, number_ahead, pass_checked, pass_start}
+use Rattle.bolt_etcd.specs.{Others.GivesOther, Others.OtherView, Others.other_of, Others.others_of, Passes.ShowsFirst}
+use Rattle.bolt_etcd.specs.RevisionsLeft.{ForPass, ahead_of, number_ahead, pass_checked, pass_start}
 use Rattle.bolt_etcd.specs.{ShownOthers.shown_other, declared.other.Other.Other, declared.revisions.Revisions.Revisions}
-use Rattle.bolt_etcd.proofs.{Filtered.drops, Filtered.keeps, RevisionSteps.moved_to}
+use Rattle.bolt_etcd.proofs.RevisionSteps.{moved_to}
 
--- from one pass to another in the same bucket nothing of what this tells of the entries ahead was gone over
-pub record GoesBy {A : Type 0} (of : List LeafElement → A) (old here : Revisions) : Type 0 where
+-- from one pass to another in the same bucket only revisions were gone over
+pub record GoesByRevisions (old here : Revisions) : Type 0 where
   pub checked : pass_checked here ≡ pass_checked old
   pub start : pass_start here ≡ pass_start old
-  pub same : ForPass old (λ entries. of (ahead_of old entries) ≡ of (ahead_of here entries))
+  pub same : ForPass old (λ entries. others_of (ahead_of old entries) ≡ others_of (ahead_of here entries))
   pub behind : number_ahead here ≤ number_ahead old
 
-pub goes_by_none : {A : Type 0} (of : List LeafElement → A) (pass : Revisions) → GoesBy of pass pass
-goes_by_none of pass = record { checked = refl; start = refl; same = λ entries are. refl; behind = omega arith }
+pub goes_by_none : (pass : Revisions) → GoesByRevisions pass pass
+goes_by_none pass = record { checked = refl; start = refl; same = λ entries are. refl; behind = omega arith }
 
-module _ (old here next : Revisions) (x : Option EntryView) (goes : GoesBy others_of old here) (checked : pass_checked next ≡ pass_checked here) (start : pass_start next ≡ pass_start here)
+module _ (old here next : Revisions) (x : Option EntryView) (goes : GoesByRevisions old here) (checked : pass_checked next ≡ pass_checked here) (start : pass_start next ≡ pass_start here)
     (first : ForPass here (λ entries. ShowsFirst (ahead_of here entries) (ahead_of next entries) x)) where
   first_here : ForPass old (λ entries. ShowsFirst (ahead_of here entries) (ahead_of next entries) x)
   first_here = moved_to _ _ _ _ (λ entries. ShowsFirst (ahead_of here entries) (ahead_of next entries) x) goes.checked goes.start first
@@ -30,7 +30,7 @@ module _ (old here next : Revisions) (x : Option EntryView) (goes : GoesBy other
       let (e, shown, old_is) = rw is at (first_here entries are) in
       goes.same entries are ∙ ap others_of old_is ∙ ap (λ (q : Option OtherView). cons_option q (others_of (ahead_of next entries))) (sym (ap other_of shown) ∙ found)
 
-  pub other_goes_on : (v : EntryView) → x ≡ Some v → other_of v ≡ None → number_ahead next < number_ahead here → GoesBy others_of old next
+  pub other_goes_on : (v : EntryView) → x ≡ Some v → other_of v ≡ None → number_ahead next < number_ahead here → GoesByRevisions old next
   other_goes_on v is found less = record {
     checked = checked ∙ goes.checked;
     start = start ∙ goes.start;
@@ -45,31 +45,6 @@ module _ (old here next : Revisions) (x : Option EntryView) (goes : GoesBy other
   other_none is entries are =
       let (none, end) = rw is at (first_here entries are) in
       (goes.same entries are ∙ ap others_of none, end)
-
-abbrev pub misplaced_of : List LeafElement → List RevisionView
-misplaced_of entries = misplaced (revisions entries)
-
-module _ (old here next : Revisions) (x : Option RevisionView) (goes : GoesBy misplaced_of old here) (checked : pass_checked next ≡ pass_checked here) (start : pass_start next ≡ pass_start here)
-    (given : ForPass here (λ entries. GivesFirst (ahead_of here entries) (ahead_of next entries) x)) where
-  given_here : ForPass old (λ entries. GivesFirst (ahead_of here entries) (ahead_of next entries) x)
-  given_here = moved_to _ _ _ _ (λ entries. GivesFirst (ahead_of here entries) (ahead_of next entries) x) goes.checked goes.start given
-
-  pub misplaced_goes_on : (r : RevisionView) → x ≡ Some r → is_misplaced r ≡ false → number_ahead next < number_ahead here → GoesBy misplaced_of old next
-  misplaced_goes_on r is right less = record {
-    checked = checked ∙ goes.checked;
-    start = start ∙ goes.start;
-    same = λ entries are. goes.same entries are ∙ drops is_misplaced _ _ r (rw is at (given_here entries are)) right;
-    behind = let before = goes.behind in omega (arith, less, before);
-  }
-
-  pub misplaced_given : (r : RevisionView) → x ≡ Some r → is_misplaced r ≡ true
-      → ForPass old (λ entries. GivesMisplaced (revisions (ahead_of old entries)) (revisions (ahead_of next entries)) (Some r))
-  misplaced_given r is wrong entries are = goes.same entries are ∙ keeps is_misplaced _ _ r (rw is at (given_here entries are)) wrong
-
-  pub misplaced_none : x ≡ None → ForPass old (λ entries. GivesMisplaced (revisions (ahead_of old entries)) (revisions (ahead_of next entries)) None)
-  misplaced_none is entries are =
-      let (none, end) = rw is at (given_here entries are) in
-      (goes.same entries are ∙ ap misplaced none, ap revisions end)
 
 -- ---- what the code has in its hands
 

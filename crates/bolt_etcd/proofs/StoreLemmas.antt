@@ -4,7 +4,7 @@ use Rattle.std.proofs.Math.Logic.{∥∥₁_elim}
 use Rattle.std.proofs.Props.{props}
 use Rattle.std.proofs.lemmas.Bool.{and_from, and_parts, eq-eqb, not-true}
 use Rattle.std.specs.Cmp.Lexicographic.{same_text}
-use Rattle.std.specs.List.{Contains, find}
+use Rattle.std.specs.List.{Contains, concat, find}
 use Rattle.std.specs.Option.{is_some, option_map}
 use Rattle.std.specs.Str.{bytes_eq}
 use Rattle.std.specs.Prelude.{IfSome}
@@ -13,12 +13,14 @@ use Rattle.bolt_format.specs.Elements.{LeafElement}
 use Rattle.bolt_tree.proofs.{Lists.contains_cases, Lists.contains_head, Lists.contains_none, Lists.contains_tail, Looking.own_entries, Named.entry_once}
 use Rattle.bolt_tree.specs.{BucketViews.entries_of, Buckets.bucket_checked, Buckets.bucket_start, Entries.AreEntries, Entries.Start, Entries.start_of}
 use Rattle.bolt_tree.specs.{Lookups.IsBucketAt, Lookups.IsValueAt, declared.bucket.Bucket.Bucket}
+use Rattle.bolt_tree.specs.Order.{Rises}
+use Rattle.bolt_etcd.specs.Current.{place_cmp}
 use Rattle.bolt_etcd.specs.Compacted.{IsCompacted, compacted_by, compacted_in, is_value, value_under}
 use Rattle.bolt_etcd.specs.{CheckLines.fault_lines, FaultsLeft.ForGranted, FaultsLeft.faults_leases, FaultsLeft.faults_left, NameFaults.AreByName, NameFaults.NameFaultView, NameFaults.name_faults}
 use Rattle.bolt_etcd.specs.{Revisions.RevisionView, StoreBuckets.HasBucket, StoreBuckets.IsStore, StoreBuckets.StoreView, StoreBuckets.revisions_in, Stores.ForBucket, Stores.revisions}
 use Rattle.bolt_etcd.specs.StoreFaults.{bucket_line, bucket_lines, bucket_names, entry_lines, granted_in, key_lines, line_without, name_lines, store_compacted, store_granted, store_lines}
 use Rattle.bolt_etcd.specs.declared.name_faults.NameFaults.{NameFaults}
-use Rattle.bolt_etcd.proofs.{Currents.revisions_rise, SortedOnce.by_name_once}
+use Rattle.bolt_etcd.proofs.{Currents.revisions_rise, ListedTexts.concat_three, SortedOnce.by_name_once}
 
 -- ---- the first that passes a test
 
@@ -135,14 +137,22 @@ pub same_names : (compacted : Option ℕ) (granted : ℕ → Bool) (left : List 
     → flat_map fault_lines left ≡ name_lines compacted granted by_name
 same_names compacted granted left all by_name is same = ap (flat_map fault_lines) (is ∙ ap (name_faults compacted granted None) same)
 
-pub for_names : (keys : Bucket) (compacted : Option ℕ) (leases : Option Bucket) (pass : NameFaults) (all : List RevisionView) (Q : List (List ℕ) → Type 0) → faults_leases pass ≡ leases
-    → ((granted : ℕ → Bool) → faults_left pass granted ≡ name_faults compacted granted None all) → ForBucket keys (λ entries. AreByName (revisions entries) all)
+pub for_names : (rs : List RevisionView) (compacted : Option ℕ) (leases : Option Bucket) (pass : NameFaults) (all : List RevisionView) (Q : List (List ℕ) → Type 0) → Rises place_cmp rs
+    → faults_leases pass ≡ leases → ((granted : ℕ → Bool) → faults_left pass granted ≡ name_faults compacted granted None all) → AreByName rs all
     → ForGranted (faults_leases pass) (λ granted. Q (flat_map fault_lines (faults_left pass granted)))
-    → ForBucket keys (λ entries. ForGranted leases (λ granted. (by_name : List RevisionView) → AreByName (revisions entries) by_name → Q (name_lines compacted granted by_name)))
-for_names keys compacted leases pass all Q from left sorted each = λ entries are.
-    granted_map leases (λ granted. Q (flat_map fault_lines (faults_left pass granted))) (λ granted. (by_name : List RevisionView) → AreByName (revisions entries) by_name → Q (name_lines compacted granted by_name))
-    (λ granted one by_name is. subst Q (same_names compacted granted (faults_left pass granted) all by_name (left granted) (by_name_once (revisions entries) all by_name (revisions_rise entries are.rises) (sorted entries are) is)) one)
+    → ForGranted leases (λ granted. (by_name : List RevisionView) → AreByName rs by_name → Q (name_lines compacted granted by_name))
+for_names rs compacted leases pass all Q rises from left sorted each =
+    granted_map leases (λ granted. Q (flat_map fault_lines (faults_left pass granted))) (λ granted. (by_name : List RevisionView) → AreByName rs by_name → Q (name_lines compacted granted by_name))
+    (λ granted one by_name is. subst Q (same_names compacted granted (faults_left pass granted) all by_name (left granted) (by_name_once rs all by_name rises sorted is)) one)
     (subst (λ (o : Option Bucket). ForGranted o (λ granted. Q (flat_map fault_lines (faults_left pass granted)))) from each)
+
+-- of the revisions that were found in a bucket
+pub found_names : (keys : Bucket) (rs : List RevisionView) (leases : Option Bucket) (compacted : Option ℕ) (Q : List (List ℕ) → Type 0) → ForBucket keys (λ entries. rs ≡ revisions entries)
+    → (Rises place_cmp rs → ForGranted leases (λ granted. (by_name : List RevisionView) → AreByName rs by_name → Q (name_lines compacted granted by_name)))
+    → ForBucket keys (λ entries. ForGranted leases (λ granted. (by_name : List RevisionView) → AreByName (revisions entries) by_name → Q (name_lines compacted granted by_name)))
+found_names keys rs leases compacted Q found all = λ entries are.
+    subst (λ (l : List RevisionView). ForGranted leases (λ granted. (by_name : List RevisionView) → AreByName l by_name → Q (name_lines compacted granted by_name))) (found entries are)
+    (all (subst (Rises place_cmp) (sym (found entries are)) (revisions_rise entries are.rises)))
 
 -- ---- the lines of a store that has the bucket `key`
 
@@ -162,6 +172,9 @@ module _ (root keys : Bucket) (compacted : Option ℕ) (store : StoreView) (is :
 
   pub lines_are : store_lines store ≡ bucket_lines store bucket_names ++ (of_entries ++ of_names)
   lines_are = ap (λ (b : Option (List LeafElement)). bucket_lines store bucket_names ++ key_lines store b) key_entries.1
+
+  pub lines_text : concat (bucket_lines store bucket_names) ++ (concat of_entries ++ concat of_names) ≡ concat (store_lines store)
+  lines_text = concat_three (bucket_lines store bucket_names) of_entries of_names ∙ ap concat (sym lines_are)
 
   pub entries_hold : (P : List (List ℕ) → Type 0) → ForBucket keys (λ entries. P (entry_lines compacted entries)) → P of_entries
   entries_hold P all = subst (λ (c : Option ℕ). P (entry_lines c key_entries.0)) same (all key_entries.0 key_entries.2)

@@ -1,5 +1,5 @@
 -- A record of another revision: it says that another transaction wrote it. Of a deletion nothing is known.
-use Rattle.std.specs.Prelude.{◌≡◌, ◌==◌, ◌&&◌, Bool, List, [], ◌∷◌, filter, not, Option, Some, None}
+use Rattle.std.specs.Prelude.{◌==◌, ◌&&◌, Bool, List, filter, not}
 use Rattle.bolt_etcd.specs.Revisions.{RevisionView}
 
 unfoldable pub is_misplaced : RevisionView → Bool
@@ -8,8 +8,3 @@ is_misplaced r = not r.key.deleted && not (r.content.modified == r.key.main)
 -- the revisions with such records, in their order
 abbrev pub misplaced : List RevisionView → List RevisionView
 misplaced rs = filter is_misplaced rs
-
--- the first is returned, and the others are left; or none is left
-abbrev pub GivesMisplaced : (old new : List RevisionView) → Option RevisionView → Type 0
-GivesMisplaced old new (Some r) = misplaced old ≡ r ∷ misplaced new
-GivesMisplaced old new None = (misplaced old ≡ []) × (new ≡ [])

@@ -1,11 +1,12 @@
 -- What a bucket has of revisions: those among its entries, in the order of the entries, which is that of their keys.
-use Rattle.std.specs.Prelude.{List, drop, filter, not}
+use Rattle.std.specs.Prelude.{◌≡◌, List, drop, filter, length, map, not}
 use Rattle.std.specs.List.{filter_map}
 use Rattle.std.specs.Option.{is_some}
 use Rattle.bolt_format.specs.Elements.{LeafElement}
-use Rattle.bolt_check.specs.Keys.{Key}
+use Rattle.bolt_check.specs.{Counts.counted, Keys.Key}
 use Rattle.bolt_tree.specs.{Buckets.bucket_checked, Buckets.bucket_start, Entries.entry_view, EntriesLeft.ForEntries, Places.least_from, declared.bucket.Bucket.Bucket}
-use Rattle.bolt_etcd.specs.Revisions.{RevisionView, revision_of}
+use Rattle.bolt_etcd.specs.{Revisions.RevisionView, Revisions.revision_of, ShownRevisions.shown_revision}
+use Rattle.bolt_etcd.specs.declared.collected.Collected.{Collected}
 
 -- this holds of a bucket's entries
 abbrev pub ForBucket : Bucket → (List LeafElement → Type 0) → Type 0
@@ -22,3 +23,7 @@ others entries = filter (λ e. not (is_some (revision_of (entry_view e)))) entri
 -- the entries whose keys aren't below this one
 abbrev pub entries_from : Key → List LeafElement → List LeafElement
 entries_from key entries = drop (least_from key entries) entries
+
+-- these are all revisions among a bucket's entries, in their order, and the number of its other entries
+abbrev pub IsFound : List LeafElement → Collected → Type 0
+IsFound entries found = (map shown_revision found.revisions.items ≡ revisions entries) × (found.others ≡ counted 0 (length (others entries)))

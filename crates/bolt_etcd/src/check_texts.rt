@@ -3,14 +3,15 @@ ghost use Rattle.std.specs.Prelude.{◌≡◌, IfOk, flat_map, length, map};
 ghost use Rattle.std.specs.List.{concat};
 ghost use Rattle.bolt_check.specs.Counts.{counted};
 ghost use Rattle.bolt_format.specs.{Endings.ending, Wrote.Wrote};
-ghost use Rattle.bolt_etcd.specs.{CheckLines.misplaced_line, CheckLines.missing_line, CheckLines.other_line, Misplaced.misplaced, Others.others_of, Stores.revisions};
+ghost use Rattle.bolt_etcd.specs.{CheckLines.misplaced_line, CheckLines.missing_line, CheckLines.other_line, Misplaced.misplaced, Others.others_of, ShownRevisions.shown_revision};
 ghost use Rattle.bolt_etcd.specs.CheckLines.{fault_lines};
 ghost use Rattle.bolt_etcd.specs.FaultsLeft.{ForGranted, faults_leases, faults_left, shown_fault};
-ghost use Rattle.bolt_etcd.specs.{MissingLeft.ForMissing, MissingLeft.missing_left, RevisionsLeft.ForPass, RevisionsLeft.ahead_of};
+ghost use Rattle.bolt_etcd.specs.{MissingLeft.missing_left, RevisionsLeft.ForPass, RevisionsLeft.ahead_of};
 
 use crate::check_lines::{put_misplaced, put_missing, put_name_fault, put_other};
 use crate::missing::MissingNumbers;
 use crate::name_faults::{NameFault, NameFaults};
+use crate::revision::Revision;
 use crate::revisions::Revisions;
 use bolt_format::{Sink, SinkFault};
 
@@ -28,20 +29,21 @@ pub(crate) fn put_others<S: Sink>(mut pass: Revisions<'_>, sink: &mut S) -> Resu
     Ok(number)
 }
 
-/// Writes a line for each revision ahead of a pass whose record says that another transaction wrote
-/// it, and returns how many these are. The number saturates at 2^64 - 1.
+/// Writes a line for each of these revisions whose record says that another transaction wrote it,
+/// and returns how many these are. The number saturates at 2^64 - 1.
 pub(crate) fn put_all_misplaced<S: Sink>(
-    mut pass: Revisions<'_>,
+    revisions: &[Revision<'_>],
     sink: &mut S,
 ) -> Result<u64, SinkFault>
-    ensures written { ForPass pass.entry (λ entries.
-        Wrote S.Sink sink.old sink.new (concat (map misplaced_line (misplaced (revisions (ahead_of pass.entry entries))))) (ending result)) }
-    ensures number { IfOk result (λ n. ForPass pass.entry (λ entries. n ≡ counted 0 (length (map misplaced_line (misplaced (revisions (ahead_of pass.entry entries))))))) }
+    ensures written { Wrote S.Sink sink.old sink.new (concat (map misplaced_line (misplaced (map shown_revision revisions.now)))) (ending result) }
+    ensures number { IfOk result (λ n. n ≡ counted 0 (length (map misplaced_line (misplaced (map shown_revision revisions.now))))) }
 {
     let mut number = 0_u64;
-    'rest: while let Some(revision) = pass.next_misplaced() {
-        put_misplaced(&revision, sink)?;
-        number = number.saturating_add(1);
+    'rest: for revision in revisions {
+        if revision.is_misplaced() {
+            put_misplaced(revision, sink)?;
+            number = number.saturating_add(1);
+        }
     }
     Ok(number)
 }
@@ -52,8 +54,8 @@ pub(crate) fn put_all_missing<S: Sink>(
     mut pass: MissingNumbers<'_>,
     sink: &mut S,
 ) -> Result<u64, SinkFault>
-    ensures written { ForMissing pass.entry (λ entries. Wrote S.Sink sink.old sink.new (concat (map missing_line (missing_left pass.entry entries))) (ending result)) }
-    ensures number { IfOk result (λ n. ForMissing pass.entry (λ entries. n ≡ counted 0 (length (map missing_line (missing_left pass.entry entries))))) }
+    ensures written { Wrote S.Sink sink.old sink.new (concat (map missing_line (missing_left pass.entry))) (ending result) }
+    ensures number { IfOk result (λ n. n ≡ counted 0 (length (map missing_line (missing_left pass.entry)))) }
 {
     let mut number = 0_u64;
     'rest: while let Some(missing) = pass.next() {

@@ -2,11 +2,11 @@
 ghost use Rattle.std.specs.Prelude.{◌≡◌, IfOk, length, map};
 ghost use Rattle.bolt_check.specs.Counts.{counted};
 ghost use Rattle.bolt_tree.specs.Order.{Rises};
-ghost use Rattle.bolt_etcd.specs.{Current.AreCurrent, Current.newest_first_cmp, Current.place_cmp, Newest.is_until, Newest.until};
+ghost use Rattle.bolt_etcd.specs.{Current.AreCurrent, Current.newest_first_cmp, Current.place_cmp, Newest.until};
 ghost use Rattle.bolt_etcd.specs.{ShownRevisions.shown_revision, Stores.ForBucket, Stores.others, Stores.revisions};
 
+use crate::collected::Collected;
 use crate::revision::Revision;
-use crate::revisions::Revisions;
 use bolt_tree::{Bucket, NoMemory};
 use std::alloc::Global;
 use std::cmp::Ordering;
@@ -33,54 +33,13 @@ impl<'a> Current<'a> {
             AreCurrent (until up_to (revisions entries)) (map shown_revision current.revisions.items))) }
         ensures others { IfOk result (λ current. ForBucket bucket.now (λ entries. current.others ≡ counted 0 (length (others entries)))) }
     {
-        let mut current = collect(alloc, bucket, up_to)?;
-        keep_newest(&mut current.revisions);
-        Ok(current)
+        let Collected {
+            mut revisions,
+            others,
+        } = Collected::of(alloc, bucket, up_to)?;
+        keep_newest(&mut revisions);
+        Ok(Current { revisions, others })
     }
-}
-
-/// The revisions of a bucket of no later transaction than `up_to`, in the order of their keys.
-pub(crate) fn collect<'a>(
-    alloc: Global,
-    bucket: &Bucket<'a>,
-    up_to: u64,
-) -> Result<Current<'a>, NoMemory>
-    ensures revisions { IfOk result (λ all. ForBucket bucket.now (λ entries.
-        map shown_revision all.revisions.items ≡ until up_to (revisions entries))) }
-    ensures others { IfOk result (λ all. ForBucket bucket.now (λ entries. all.others ≡ counted 0 (length (others entries)))) }
-{
-    let mut collected = Vec::with_capacity(alloc, count(bucket, up_to))?;
-    let mut revisions = Revisions::of(bucket);
-    'rest: while let Some(revision) = revisions.next() {
-        if is_until(&revision, up_to) && collected.push(revision).is_err() {
-            return Err(NoMemory);
-        }
-    }
-    Ok(Current {
-        revisions: collected,
-        others: revisions.others(),
-    })
-}
-
-/// The number of revisions of a bucket of no later transaction than `up_to`.
-fn count(bucket: &Bucket<'_>, up_to: u64) -> usize
-    ensures { ForBucket bucket.now (λ entries. result ≡ counted 0 (length (until up_to (revisions entries)))) }
-{
-    let mut n = 0_usize;
-    let mut revisions = Revisions::of(bucket);
-    'rest: while let Some(revision) = revisions.next() {
-        if is_until(&revision, up_to) {
-            n = n.saturating_add(1);
-        }
-    }
-    n
-}
-
-/// Whether it is of no later transaction.
-fn is_until(revision: &Revision<'_>, up_to: u64) -> bool
-    ensures { result ≡ is_until up_to (shown_revision revision.now) }
-{
-    revision.key().main <= up_to
 }
 
 /// Keeps the newest revision of each name, if it isn't a deletion, by rising name.

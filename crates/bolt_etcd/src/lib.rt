@@ -3,9 +3,9 @@
 //! reads the entries of buckets.
 #![tactic(auto)]
 
-mod by_name;
 mod check_lines;
 mod check_texts;
+mod collected;
 mod compaction;
 mod current;
 mod follows;
@@ -29,7 +29,7 @@ mod store_tests;
 mod tests;
 mod wire;
 
-pub use crate::by_name::revisions_by_name;
+pub use crate::collected::Collected;
 pub use crate::compaction::{compacted, store_compacted};
 pub use crate::current::Current;
 pub use crate::missing::{Missing, MissingNumbers};

@@ -34,7 +34,7 @@ pub struct NameFaults<'a> {
 impl<'a> NameFaults<'a> {
     ghost use Rattle.bolt_etcd.specs.FaultsLeft.{ForGranted, GivesFault, faults_leases, faults_left, faults_number, revisions_left, shown_fault, StepsOver};
 
-    /// Of revisions as `revisions_by_name` returns them, after a compaction at this transaction, if it is
+    /// Of revisions as `Collected::sort_by_name` sorts them, after a compaction at this transaction, if it is
     /// known. These are the leases that there are; without them there is none.
     pub fn of(
         revisions: &'a [Revision<'a>],

@@ -4,15 +4,18 @@ ghost use Rattle.std.specs.List.{concat};
 ghost use Rattle.bolt_check.specs.Counts.{counted};
 ghost use Rattle.bolt_format.specs.{Endings.ending, Wrote.Wrote};
 ghost use Rattle.bolt_text.specs.ReportEndings.{report_ending};
-ghost use Rattle.bolt_etcd.specs.{CheckLines.missing_line, FaultsLeft.ForGranted, NameFaults.AreByName, Revisions.RevisionView, Stores.ForBucket, Stores.revisions};
+ghost use Rattle.bolt_tree.specs.Order.{Rises};
+ghost use Rattle.bolt_etcd.specs.{CheckLines.missing_line, CheckLines.other_line, Current.place_cmp, FaultsLeft.ForGranted, NameFaults.AreByName, Others.others_of};
+ghost use Rattle.bolt_etcd.specs.{Revisions.RevisionView, ShownRevisions.shown_revision, Stores.ForBucket, Stores.IsFound, Stores.others};
 ghost use Rattle.bolt_etcd.specs.StoreBuckets.{ForStore};
 ghost use Rattle.bolt_etcd.specs.StoreFaults.{bucket_line, bucket_lines, entry_lines, line_without, missing_if, name_lines, store_lines};
 
-use crate::by_name::revisions_by_name;
 use crate::check_texts::{put_all_misplaced, put_all_missing, put_name_faults, put_others};
+use crate::collected::Collected;
 use crate::compaction::store_compacted;
 use crate::missing::MissingNumbers;
 use crate::name_faults::NameFaults;
+use crate::revision::Revision;
 use crate::revisions::Revisions;
 use bolt_format::{Sink, SinkFault};
 use bolt_text::{Piece, ReportFault, put_pieces};
@@ -59,8 +62,9 @@ pub fn put_store_faults<S: Sink>(
         return Ok(of_buckets);
     };
     let compacted = store_compacted(root);
-    let of_entries = put_entry_faults(&keys, compacted, sink)?;
-    let of_names = put_faults_by_name(alloc, &keys, compacted, root.bucket(b"lease"), sink)?;
+    let found = Collected::of(alloc, &keys, u64::MAX)?;
+    let of_entries = put_entry_faults(&keys, &found, compacted, sink)?;
+    let of_names = put_faults_by_name(found, compacted, root.bucket(b"lease"), sink)?;
     Ok(
         of_buckets
             .saturating_add(of_entries)
@@ -116,55 +120,72 @@ fn put_bucket_line<S: Sink>(name: &[u8], sink: &mut S) -> Result<(), SinkFault>
     )
 }
 
-/// Writes a line for each thing that is wrong with the entries of the bucket `key`, and returns how
-/// many these are.
+/// Writes a line for each thing that is wrong with the entries of the bucket `key`, of which these
+/// revisions were found, and returns how many lines these are.
 fn put_entry_faults<S: Sink>(
     keys: &Bucket<'_>,
+    found: &Collected<'_>,
     compacted: Option<u64>,
     sink: &mut S,
 ) -> Result<u64, SinkFault>
-    ensures written { ForBucket keys.now (λ entries. Wrote S.Sink sink.old sink.new (concat (entry_lines compacted entries)) (ending result)) }
-    ensures number { IfOk result (λ n. ForBucket keys.now (λ entries. n ≡ counted 0 (length (entry_lines compacted entries)))) }
+    ensures written { ForBucket keys.now (λ entries. IsFound entries found.now → Wrote S.Sink sink.old sink.new (concat (entry_lines compacted entries)) (ending result)) }
+    ensures number { IfOk result (λ n. ForBucket keys.now (λ entries. IsFound entries found.now → n ≡ counted 0 (length (entry_lines compacted entries)))) }
 {
-    let others = put_others(Revisions::of(keys), sink)?;
-    let misplaced = put_all_misplaced(Revisions::of(keys), sink)?;
-    let missing = put_missing_numbers(keys, compacted, sink)?;
+    let others = put_counted_others(keys, found.others, sink)?;
+    let misplaced = put_all_misplaced(&found.revisions, sink)?;
+    let missing = put_missing_numbers(&found.revisions, compacted, sink)?;
     Ok(others.saturating_add(misplaced).saturating_add(missing))
 }
 
-/// Writes a line for what is missing by its number, if the transaction of the last compaction is
-/// known.
-fn put_missing_numbers<S: Sink>(
+/// Writes a line for each entry of the bucket `key` that isn't a revision. There are `number` of
+/// them. If there are none, it doesn't look for them.
+fn put_counted_others<S: Sink>(
     keys: &Bucket<'_>,
+    number: u64,
+    sink: &mut S,
+) -> Result<u64, SinkFault>
+    ensures written { ForBucket keys.now (λ entries. number ≡ counted 0 (length (others entries))
+        → Wrote S.Sink sink.old sink.new (concat (map other_line (others_of entries))) (ending result)) }
+    ensures number { IfOk result (λ n. ForBucket keys.now (λ entries. number ≡ counted 0 (length (others entries))
+        → n ≡ counted 0 (length (map other_line (others_of entries))))) }
+{
+    match number {
+        0 => Ok(0),
+        _ => put_others(Revisions::of(keys), sink),
+    }
+}
+
+/// Writes a line for what is missing of these revisions by its number, if the transaction of the
+/// last compaction is known.
+fn put_missing_numbers<S: Sink>(
+    revisions: &[Revision<'_>],
     compacted: Option<u64>,
     sink: &mut S,
 ) -> Result<u64, SinkFault>
-    ensures written { ForBucket keys.now (λ entries.
-        Wrote S.Sink sink.old sink.new (concat (map missing_line (missing_if compacted (revisions entries)))) (ending result)) }
-    ensures number { IfOk result (λ n. ForBucket keys.now (λ entries. n ≡ counted 0 (length (map missing_line (missing_if compacted (revisions entries)))))) }
+    ensures written { Wrote S.Sink sink.old sink.new (concat (map missing_line (missing_if compacted (map shown_revision revisions.now)))) (ending result) }
+    ensures number { IfOk result (λ n. n ≡ counted 0 (length (map missing_line (missing_if compacted (map shown_revision revisions.now))))) }
 {
     match compacted {
-        Some(compacted) => put_all_missing(MissingNumbers::of(keys, compacted), sink),
+        Some(compacted) => put_all_missing(MissingNumbers::of(revisions, compacted), sink),
         None => Ok(0),
     }
 }
 
-/// Writes a line for each thing that is missing of the names of the bucket `key`, and returns how
+/// Writes a line for each thing that is missing of the names of these revisions, and returns how
 /// many these are.
 fn put_faults_by_name<S: Sink>(
-    alloc: Global,
-    keys: &Bucket<'_>,
+    mut found: Collected<'_>,
     compacted: Option<u64>,
     leases: Option<Bucket<'_>>,
     sink: &mut S,
-) -> Result<u64, ReportFault>
-    ensures written { ForBucket keys.now (λ entries. ForGranted leases.entry (λ granted. (by_name : List RevisionView) → AreByName (revisions entries) by_name
-        → Wrote S.Sink sink.old sink.new (concat (name_lines compacted granted by_name)) (report_ending result))) }
-    ensures number { IfOk result (λ n. ForBucket keys.now (λ entries. ForGranted leases.entry (λ granted. (by_name : List RevisionView) → AreByName (revisions entries) by_name
-        → n ≡ counted 0 (length (name_lines compacted granted by_name))))) }
-    ensures fault { IfErr result (λ fault. (fault ≡ ReportFault.Sink) ⊎ (fault ≡ ReportFault.NoMemory)) }
+) -> Result<u64, SinkFault>
+    ensures written { Rises place_cmp (map shown_revision found.entry.revisions.items)
+        → ForGranted leases.entry (λ granted. (by_name : List RevisionView) → AreByName (map shown_revision found.entry.revisions.items) by_name
+        → Wrote S.Sink sink.old sink.new (concat (name_lines compacted granted by_name)) (ending result)) }
+    ensures number { IfOk result (λ n. Rises place_cmp (map shown_revision found.entry.revisions.items)
+        → ForGranted leases.entry (λ granted. (by_name : List RevisionView) → AreByName (map shown_revision found.entry.revisions.items) by_name
+        → n ≡ counted 0 (length (name_lines compacted granted by_name)))) }
 {
-    let revisions = revisions_by_name(alloc, keys)?;
-    let number = put_name_faults(NameFaults::of(&revisions, compacted, leases), sink)?;
-    Ok(number)
+    found.sort_by_name();
+    put_name_faults(NameFaults::of(&found.revisions, compacted, leases), sink)
 }

@@ -1,16 +1,9 @@
-use Rattle.std.proofs.Common.{◌≡◌, map}
-use Rattle.bolt_etcd.specs.{CheckLines.misplaced_line, Misplaced.misplaced, Stores.revisions}
-use Rattle.bolt_etcd.specs.RevisionsLeft.{ForPass, ahead_of, number_ahead, pass_checked, pass_start}
+use Rattle.std.proofs.Common.{drop, map}
+use Rattle.bolt_etcd.specs.{CheckLines.misplaced_line, Misplaced.misplaced, ShownRevisions.shown_revision}
 use Rattle.bolt_etcd.proofs.ListedTexts.{Listed}
 use Rattle.bolt_etcd.proofs.check_texts.put_all_misplaced.Given as goal
 
 -- the lines of those that are ahead are still to be written, and the others were counted
 abbrev pub invariant-rest : goal.invariant-rest
-invariant-rest g l = record {
-  checked : pass_checked l.pass ≡ pass_checked l.fn.pass;
-  start : pass_start l.pass ≡ pass_start l.fn.pass;
-  listed : ForPass l.fn.pass (λ entries. Listed g.S.Sink l.initial.sink l.sink (map misplaced_line (misplaced (revisions (ahead_of l.fn.pass entries)))) (map misplaced_line (misplaced (revisions (ahead_of l.pass entries)))) l.number);
-}
-
-abbrev pub decreases-rest : goal.decreases-rest
-decreases-rest g l = number_ahead l.pass
+invariant-rest g l = Listed g.S.Sink l.initial.sink l.sink (map misplaced_line (misplaced (map shown_revision l.revisions)))
+    (map misplaced_line (misplaced (map shown_revision (drop l.revision-index l.revisions)))) l.number

@@ -1,13 +1,13 @@
 use Rattle.std.proofs.Common.{Option, ap, arith, refl, sym, ◌∙◌, ◌<◌}
 use Rattle.std.specs.Option.{option_map}
 use Rattle.bolt_tree.specs.ShownEntries.{shown_entry}
-use Rattle.bolt_etcd.specs.{Others.GivesOther, Others.OtherView, Others.others_of, RevisionsLeft.ahead_of, RevisionsLeft.number_ahead}
+use Rattle.bolt_etcd.specs.{Others.GivesOther, Others.OtherView, RevisionsLeft.ahead_of, RevisionsLeft.number_ahead}
 use Rattle.bolt_etcd.proofs.OtherSteps.{goes_by_none, if_other, none_other, other_given, other_goes_on, other_none, some_other}
 use Rattle.bolt_etcd.proofs.RevisionSteps.{goes_none, number_falls}
 use Rattle.bolt_etcd.proofs.revisions.Revisions.next_other.Goals as goal
 
 pub rest-init : goal.rest-init
-rest-init c = record { goes = goes_by_none others_of c.args.self.now; others = refl }
+rest-init c = record { goes = goes_by_none c.args.self.now; others = refl }
 
 pub rest-smaller : goal.rest-smaller
 rest-smaller c =

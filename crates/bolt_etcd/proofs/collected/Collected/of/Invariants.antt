@@ -1,7 +1,7 @@
 use Rattle.std.proofs.Common.{◌≡◌, ◌++◌, map}
 use Rattle.bolt_etcd.specs.{Newest.until, RevisionsLeft.ahead_of, RevisionsLeft.number_ahead, ShownRevisions.shown_revision, Stores.ForBucket, Stores.revisions}
 use Rattle.bolt_etcd.proofs.RevisionLoops.{Passed}
-use Rattle.bolt_etcd.proofs.current.collect.Given as goal
+use Rattle.bolt_etcd.proofs.collected.Collected.of.Given as goal
 
 -- those so far, and those ahead, are all
 abbrev pub invariant-rest : goal.invariant-rest

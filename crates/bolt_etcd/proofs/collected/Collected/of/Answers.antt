@@ -6,8 +6,8 @@ use Rattle.bolt_etcd.specs.{Newest.is_until, Newest.until, Revisions.RevisionVie
 use Rattle.bolt_etcd.specs.declared.revision.Revision.{Revision}
 use Rattle.bolt_etcd.proofs.{Currents.pushed, Currents.was_pushed, Filtered.drops, Filtered.keeps, RevisionSteps.moved_to}
 use Rattle.bolt_etcd.proofs.RevisionLoops.{counted_all, given_in, passed_more, passed_none}
-use Rattle.bolt_etcd.proofs.current.collect.Goals.{else-is_until-via-else-is_until, else-is_until-via-then-is_until+else-is_err}
-use Rattle.bolt_etcd.proofs.current.collect.Goals as goal
+use Rattle.bolt_etcd.proofs.collected.Collected.of.Goals.{else-is_until-via-else-is_until, else-is_until-via-then-is_until+else-is_err}
+use Rattle.bolt_etcd.proofs.collected.Collected.of.Goals as goal
 
 pub rest-init : goal.rest-init
 rest-init c = record {

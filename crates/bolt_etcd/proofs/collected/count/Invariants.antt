@@ -2,7 +2,7 @@ use Rattle.std.proofs.Common.{◌≡◌, ◌<◌, ◌^◌, length}
 use Rattle.bolt_check.specs.Counts.{counted}
 use Rattle.bolt_etcd.specs.{Newest.until, RevisionsLeft.ahead_of, RevisionsLeft.number_ahead, Stores.ForBucket, Stores.revisions}
 use Rattle.bolt_etcd.proofs.RevisionLoops.{Passed}
-use Rattle.bolt_etcd.proofs.current.count.Given as goal
+use Rattle.bolt_etcd.proofs.collected.count.Given as goal
 
 -- those so far, and those ahead, are all
 abbrev pub invariant-rest : goal.invariant-rest

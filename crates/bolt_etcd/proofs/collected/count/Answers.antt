@@ -5,7 +5,7 @@ use Rattle.bolt_tree.proofs.PagerLemmas.{counted_more}
 use Rattle.bolt_etcd.specs.{Newest.is_until, Newest.until, Revisions.RevisionView, RevisionsLeft.ahead_of, ShownRevisions.shown_revision, Stores.revisions}
 use Rattle.bolt_etcd.proofs.{Filtered.drops, Filtered.keeps, RevisionSteps.moved_to}
 use Rattle.bolt_etcd.proofs.RevisionLoops.{given_in, passed_more, passed_none}
-use Rattle.bolt_etcd.proofs.current.count.Goals as goal
+use Rattle.bolt_etcd.proofs.collected.count.Goals as goal
 
 pub rest-init : goal.rest-init
 rest-init c = record {
