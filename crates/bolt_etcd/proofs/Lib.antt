@@ -1,7 +1,12 @@
 pub mod ByName
 pub mod Currents
+pub mod FaultsOfNames
 pub mod Fields
 pub mod Filtered
+pub mod HistoryNumbers
+pub mod HistorySteps
+pub mod HistoryUntil
+pub mod KeptOfNames
 pub mod KeyNumbers
 pub mod Keys
 pub mod Leases
@@ -10,7 +15,9 @@ pub mod ListedTexts
 pub mod Messages
 pub mod MissingExact
 pub mod MissingSteps
+pub mod NameHistories
 pub mod NewestOfNames
+pub mod NothingFound
 pub mod OtherCounts
 pub mod OtherSteps
 pub mod Passing
@@ -26,3 +33,4 @@ mod TrailingAccounts
 mod TrailingBytes
 mod TrailingMetas
 pub mod Varints
+pub mod WholeNames

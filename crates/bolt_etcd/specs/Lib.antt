@@ -1,8 +1,11 @@
 pub mod CheckLines
 pub mod Compacted
+pub mod Compactions
 pub mod Current
 pub mod FaultsLeft
 pub mod Follows
+pub mod HeldNames
+pub mod Histories
 pub mod Marks
 pub mod Misplaced
 pub mod MissingLeft
@@ -17,6 +20,7 @@ pub mod RevisionKeys
 pub mod RevisionLines
 pub mod Revisions
 pub mod RevisionsLeft
+pub mod Runs
 pub mod Shown
 pub mod ShownOthers
 pub mod ShownRevisions
@@ -25,4 +29,6 @@ pub mod StoreBuckets
 pub mod StoreFaults
 pub mod Stores
 pub mod Told
+pub mod ToldRevisions
+pub mod WholeStores
 pub mod Wire

@@ -1,5 +1,5 @@
 //! What the definitions imply.
-ghost use Rattle.std.specs.Prelude.{◌≡◌, ◌<◌, ◌↔◌, ℕ, List, Some, length, not};
+ghost use Rattle.std.specs.Prelude.{◌≡◌, ◌<◌, ◌↔◌, ℕ, Bool, List, [], Some, length, not};
 ghost use Rattle.std.specs.Option.{is_some};
 ghost use Rattle.bolt_check.specs.Keys.{key_cmp};
 ghost use Rattle.bolt_check.specs.Sound.{HasSoundTrees};
@@ -10,6 +10,7 @@ ghost use Rattle.bolt_etcd.specs.{MissingNumbers.missing_numbers, Revisions.Revi
 ghost use Rattle.bolt_etcd.specs.{Others.other_of, Others.others_of, Revisions.revision_of, Stores.others};
 ghost use Rattle.bolt_etcd.specs.{RevisionKeys.IsSpelled, RevisionKeys.numbers_cmp, RevisionKeys.revision_key, RevisionKeys.spelling, Wire.field_and_later, Wire.fields};
 ghost use Rattle.bolt_etcd.specs.declared.revision_key.RevisionKey.{RevisionKey};
+ghost use Rattle.bolt_etcd.specs.{Compactions.IsCompaction, Compactions.kept, Histories.Transaction, Runs.IsRun, StoreFaults.store_lines, WholeStores.GrantsLeases, WholeStores.Keeps};
 
 /// A message is a field, and then a message, up to its end.
 #[tactic(auto, using(crate::proofs::Messages::first_and_later))]
@@ -61,4 +62,12 @@ pub fn a_root_bucket_has_one_store()
     ensures { (file : List ℕ) (meta : Meta) (root : Start) → HasSoundTrees file meta → IsStart file meta root
         → (store : StoreView) × IsStore (IsEntry file meta) root store × ((other : StoreView) → IsStore (IsEntry file meta) root other
         → ((name : List ℕ) → other.bucket name ≡ store.bucket name) × (other.by_name ≡ store.by_name)) }
+{}
+
+/// `etcd-check` finds nothing in a store from which nothing is missing: its revisions are those of
+/// transactions that etcd ran, but for what a compaction removed, and each lease that a key has is
+/// there.
+pub fn nothing_is_found_in_a_whole_store()
+    ensures { (ts : List Transaction) (compacted : ℕ) (keeps : RevisionView → Bool) (store : StoreView)
+        → IsRun ts → IsCompaction compacted ts keeps → Keeps store compacted (kept keeps ts) → GrantsLeases store ts → store_lines store ≡ [] }
 {}

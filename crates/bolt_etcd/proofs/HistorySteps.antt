@@ -1,0 +1,100 @@
+-- A history, revision by revision: each is written upon what the earlier ones left, and is the next of its transaction or the first of the next one.
+use Rattle.std.proofs.Common.{◌≡◌, ◌∙◌, ◌<◌, ◌≤◌, ◌+◌, ◌⊎◌, inl, inr, ℕ, List, [], ◌∷◌, ◌++◌, refl, ap, subst, arith}
+use Rattle.std.proofs.lemmas.Cmp.{nat_cmp_total, tied_itself}
+use Rattle.std.specs.List.{Contains}
+use Rattle.std.specs.Ordering.{bool_cmp, nat_cmp, ordering_then}
+use Rattle.std.specs.declared.cmp.Ordering.{Ordering}
+use Rattle.std.specs.declared.cmp.Ordering.TheVariants.{Less}
+use Rattle.bolt_tree.proofs.Lists.{contains_cases, contains_none}
+use Rattle.bolt_tree.specs.Order.{Rises}
+use Rattle.bolt_etcd.specs.Histories.{State, Transaction, Write, after, after_all, history, history_from, nothing, revision_by, written}
+use Rattle.bolt_etcd.specs.{Revisions.RevisionView, Runs.CanRun, Runs.CanWrite, Runs.CanWriteAll, Runs.IsRun, Told.number_cmp}
+use Rattle.bolt_etcd.specs.declared.revision_key.RevisionKey.{RevisionKey}
+use Rattle.bolt_etcd.proofs.KeyNumbers.{less}
+
+abbrev pub IsWritten : State → RevisionView → Type 0
+IsWritten state r = (w : Write) × CanWrite state w × (r ≡ revision_by state r.key.main r.key.sub w)
+
+-- these are the numbers, or the first of the next transaction
+abbrev pub IsNext : (main sub : ℕ) → RevisionKey → Type 0
+IsNext main sub k = ((k.main ≡ main) × (k.sub ≡ sub)) ⊎ ((0 < sub) × (k.main ≡ main + 1) × (k.sub ≡ 0))
+
+abbrev pub Goes : State → (main sub : ℕ) → List RevisionView → Type 0
+Goes state main sub [] = Unit {0}
+Goes state main sub (r ∷ rs) = IsNext main sub r.key × IsWritten state r × Goes (after r state) r.key.main (r.key.sub + 1) rs
+
+more_go : (state : State) (main sub : ℕ) (ws : List Write) (rest : List RevisionView) → CanWriteAll state main sub ws
+    → ((n : ℕ) → sub ≤ n → Goes (after_all (written state main sub ws) state) main n rest) → Goes state main sub (written state main sub ws ++ rest)
+more_go state main sub [] rest can go = go sub (omega arith)
+more_go state main sub (w ∷ ws) rest (can, more) go = (
+  inl (refl, refl),
+  (w, can, refl),
+  more_go (after (revision_by state main sub w) state) main (sub + 1) ws rest more (λ n le. go n (omega (arith, le))),
+)
+
+next_go : (state : State) (main sub : ℕ) (ts : List Transaction) → 0 < sub → CanRun state (main + 1) ts → Goes state main sub (history_from state (main + 1) ts)
+next_go state main sub [] some can = tt
+next_go state main sub ([] ∷ later) some can = absurd (let lt = can.0 in omega (arith, lt))
+next_go state main sub ((w ∷ ws) ∷ later) some (lt, (can, more), rest) = (
+  inr (some, refl, refl),
+  (w, can, refl),
+  more_go (after (revision_by state (main + 1) 0 w) state) (main + 1) 1 ws _ more
+      (λ n le. next_go (after_all (written state (main + 1) 0 (w ∷ ws)) state) (main + 1) n later (omega (arith, le)) rest),
+)
+
+first_go : (state : State) (main : ℕ) (ts : List Transaction) → CanRun state main ts → Goes state main 0 (history_from state main ts)
+first_go state main [] can = tt
+first_go state main ([] ∷ later) can = absurd (let lt = can.0 in omega (arith, lt))
+first_go state main ((w ∷ ws) ∷ later) (lt, (can, more), rest) = (
+  inl (refl, refl),
+  (w, can, refl),
+  more_go (after (revision_by state main 0 w) state) main 1 ws _ more
+      (λ n le. next_go (after_all (written state main 0 (w ∷ ws)) state) main n later (omega (arith, le)) rest),
+)
+
+pub goes : (ts : List Transaction) → IsRun ts → Goes nothing 2 0 (history ts)
+goes ts run = first_go nothing 2 ts run.allowed
+
+-- ---- what holds of each revision that is written
+
+pub each : (Q : RevisionView → Type 0) → ((state : State) (r : RevisionView) → IsWritten state r → Q r) → (state : State) (main sub : ℕ) (rs : List RevisionView) → Goes state main sub rs
+    → (r : RevisionView) → Contains rs r → Q r
+each Q one state main sub [] go r has = absurd (contains_none r has)
+each Q one state main sub (s ∷ rs) (next, is, go) r has = elim (contains_cases s r rs has) [
+  | inl same ↦ subst Q same (one state s is)
+  | inr more ↦ each Q one (after s state) s.key.main (s.key.sub + 1) rs go r more
+]
+
+-- ---- the numbers rise
+
+abbrev IsFrom : (main sub : ℕ) → RevisionView → Type 0
+IsFrom main sub r = (main < r.key.main) ⊎ ((r.key.main ≡ main) × (sub ≤ r.key.sub))
+
+from_next : (main sub : ℕ) (k : RevisionKey) (r : RevisionView) → IsNext main sub k → IsFrom k.main k.sub r → IsFrom main sub r
+from_next main sub k r (inl (m, s)) (inl lt) = inl (omega (arith, m, lt))
+from_next main sub k r (inl (m, s)) (inr (e, le)) = inr (e ∙ m, omega (arith, s, le))
+from_next main sub k r (inr (some, m, s)) (inl lt) = inl (omega (arith, m, lt))
+from_next main sub k r (inr (some, m, s)) (inr (e, le)) = inl (omega (arith, m, e))
+
+from_step : (k : RevisionKey) (r : RevisionView) → IsFrom k.main (k.sub + 1) r → IsFrom k.main k.sub r
+from_step k r (inl lt) = inl lt
+from_step k r (inr (e, le)) = inr (e, omega (arith, le))
+
+pub from : (state : State) (main sub : ℕ) (rs : List RevisionView) → Goes state main sub rs → (r : RevisionView) → Contains rs r → IsFrom main sub r
+from state main sub [] go r has = absurd (contains_none r has)
+from state main sub (s ∷ rs) (next, is, go) r has = from_next main sub s.key r next (elim (contains_cases s r rs has) [
+  | inl same ↦ subst (IsFrom s.key.main s.key.sub) same (inr (refl, omega arith))
+  | inr more ↦ from_step s.key r (from (after s state) s.key.main (s.key.sub + 1) rs go r more)
+])
+
+number_less : (a b : RevisionView) → IsFrom a.key.main (a.key.sub + 1) b → number_cmp a b ≡ Less
+number_less a b (inl lt) = ap (λ (o : Ordering). ordering_then o (ordering_then (nat_cmp a.key.sub b.key.sub) (bool_cmp a.key.deleted b.key.deleted))) (less a.key.main b.key.main lt)
+number_less a b (inr (e, le)) =
+    rw (e, tied_itself nat_cmp_total a.key.main, less a.key.sub b.key.sub (omega (arith, le))) refl
+
+pub rises : (state : State) (main sub : ℕ) (rs : List RevisionView) → Goes state main sub rs → Rises number_cmp rs
+rises state main sub [] go = tt
+rises state main sub (r ∷ rs) (next, is, go) = (
+  λ s has. number_less r s (from (after r state) r.key.main (r.key.sub + 1) rs go s has),
+  rises (after r state) r.key.main (r.key.sub + 1) rs go,
+)

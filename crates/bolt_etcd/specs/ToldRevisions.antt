@@ -1,0 +1,24 @@
+-- Which revisions of a transaction the missing numbers tell as missing.
+use Rattle.std.specs.Prelude.{◌≡◌, ◌<◌, ◌≤◌, ◌⊎◌, ℕ, List, [], ◌∷◌}
+use Rattle.std.specs.List.{Contains}
+use Rattle.bolt_etcd.specs.Revisions.{RevisionView}
+use Rattle.bolt_etcd.specs.declared.missing.Missing.{Missing}
+use Rattle.bolt_etcd.specs.declared.missing.Missing.TheVariants.{Revisions, Transactions}
+
+-- it says that revision `sub` of transaction t is missing, and other revisions of t aren't
+abbrev pub TellsRevision : (t sub : ℕ) → Missing → Type 0
+TellsRevision t sub (Transactions first last) = ⊥
+TellsRevision t sub (Revisions main first last) = (main ≡ t) × (first ≤ sub) × (sub ≤ last)
+
+abbrev pub IsToldRevision : (t sub : ℕ) → List Missing → Type 0
+IsToldRevision t sub [] = ⊥
+IsToldRevision t sub (m ∷ ms) = TellsRevision t sub m ⊎ IsToldRevision t sub ms
+
+-- a revision is missing: its transaction is after the compaction, a later revision of that is there, and it isn't
+pub record IsMissingRevision (compacted t sub : ℕ) (rs : List RevisionView) : Type 0 where
+  pub after : compacted < t
+  pub later : RevisionView
+  pub there : Contains rs later
+  pub same : later.key.main ≡ t
+  pub before : sub < later.key.sub
+  pub none : (r : RevisionView) → Contains rs r → r.key.main ≡ t → r.key.sub ≡ sub → ⊥
