@@ -4,7 +4,7 @@ use Rattle.std.proofs.lemmas.Cmp.{nat_cmp_total, tied_itself}
 use Rattle.std.specs.List.{Contains}
 use Rattle.std.specs.Ordering.{bool_cmp, nat_cmp, ordering_then}
 use Rattle.std.specs.declared.cmp.Ordering.{Ordering}
-use Rattle.std.specs.declared.cmp.Ordering.TheVariants.{Less}
+use Rattle.std.specs.declared.cmp.Ordering.TheVariants.{Equal, Greater, Less}
 use Rattle.bolt_tree.proofs.Lists.{contains_cases, contains_none}
 use Rattle.bolt_tree.specs.Order.{Rises}
 use Rattle.bolt_etcd.specs.Histories.{State, Transaction, Write, after, after_all, history, history_from, nothing, revision_by, written}
@@ -87,14 +87,32 @@ from state main sub (s ∷ rs) (next, is, go) r has = from_next main sub s.key r
   | inr more ↦ from_step s.key r (from (after s state) s.key.main (s.key.sub + 1) rs go r more)
 ])
 
-number_less : (a b : RevisionView) → IsFrom a.key.main (a.key.sub + 1) b → number_cmp a b ≡ Less
-number_less a b (inl lt) = ap (λ (o : Ordering). ordering_then o (ordering_then (nat_cmp a.key.sub b.key.sub) (bool_cmp a.key.deleted b.key.deleted))) (less a.key.main b.key.main lt)
-number_less a b (inr (e, le)) =
-    rw (e, tied_itself nat_cmp_total a.key.main, less a.key.sub b.key.sub (omega (arith, le))) refl
+-- by their numbers, whether they are deletions or not
+abbrev pub pair_cmp : RevisionView → RevisionView → Ordering
+pair_cmp a b = ordering_then (nat_cmp a.key.main b.key.main) (nat_cmp a.key.sub b.key.sub)
 
-pub rises : (state : State) (main sub : ℕ) (rs : List RevisionView) → Goes state main sub rs → Rises number_cmp rs
-rises state main sub [] go = tt
-rises state main sub (r ∷ rs) (next, is, go) = (
-  λ s has. number_less r s (from (after r state) r.key.main (r.key.sub + 1) rs go s has),
-  rises (after r state) r.key.main (r.key.sub + 1) rs go,
+pair_less : (a b : RevisionView) → IsFrom a.key.main (a.key.sub + 1) b → pair_cmp a b ≡ Less
+pair_less a b (inl lt) = ap (λ (o : Ordering). ordering_then o (nat_cmp a.key.sub b.key.sub)) (less a.key.main b.key.main lt)
+pair_less a b (inr (e, le)) = rw (e, tied_itself nat_cmp_total a.key.main) (less a.key.sub b.key.sub (omega (arith, le)))
+
+pub pairs_rise : (state : State) (main sub : ℕ) (rs : List RevisionView) → Goes state main sub rs → Rises pair_cmp rs
+pairs_rise state main sub [] go = tt
+pairs_rise state main sub (r ∷ rs) (next, is, go) = (
+  λ s has. pair_less r s (from (after r state) r.key.main (r.key.sub + 1) rs go s has),
+  pairs_rise (after r state) r.key.main (r.key.sub + 1) rs go,
 )
+
+number_less : (o p q : Ordering) → ordering_then o p ≡ Less → ordering_then o (ordering_then p q) ≡ Less
+number_less Less p q is = refl
+number_less Equal p q is = ap (λ (x : Ordering). ordering_then x q) is
+number_less Greater p q is = is
+
+pub numbers_rise : (rs : List RevisionView) → Rises pair_cmp rs → Rises number_cmp rs
+numbers_rise [] rises = tt
+numbers_rise (r ∷ rs) (first, more) = (
+  λ s has. number_less (nat_cmp r.key.main s.key.main) (nat_cmp r.key.sub s.key.sub) (bool_cmp r.key.deleted s.key.deleted) (first s has),
+  numbers_rise rs more,
+)
+
+pub history_rises : (ts : List Transaction) → IsRun ts → Rises pair_cmp (history ts)
+history_rises ts run = pairs_rise nothing 2 0 (history ts) (goes ts run)

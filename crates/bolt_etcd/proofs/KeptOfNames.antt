@@ -11,7 +11,7 @@ use Rattle.bolt_tree.proofs.{Filters.filter_all, Filters.filter_none, Lists.cont
 use Rattle.bolt_tree.specs.Order.{Rises}
 use Rattle.bolt_etcd.specs.{Compactions.IsCompaction, Compactions.kept, Histories.Transaction, Histories.history, Histories.nothing}
 use Rattle.bolt_etcd.specs.{Newest.is_named, Newest.is_until, Newest.newest, Newest.until, Revisions.RevisionView, Revisions.name_of, Runs.IsRun, Told.number_cmp}
-use Rattle.bolt_etcd.proofs.{Filtered.filter_rises, Filtered.kept_from, HistorySteps.goes, HistorySteps.rises, HistoryUntil.held_at, NameHistories.held_of}
+use Rattle.bolt_etcd.proofs.{Filtered.filter_rises, Filtered.kept_from, HistorySteps.goes, HistorySteps.history_rises, HistorySteps.numbers_rise, HistoryUntil.held_at, NameHistories.held_of}
 
 pub last_in : {A : Type 0} (o : Option A) (xs : List A) (x : A) → last_or o xs ≡ Some x → (o ≡ Some x) ⊎ Contains xs x
 last_in o [] x e = inl e
@@ -91,7 +91,7 @@ module _ (compacted : ℕ) (ts : List Transaction) (keeps : RevisionView → Boo
   own r has = let (there, passes) = kept_from (is_named name) (history ts) r has in (there, same_text (name_of r) name (sym passes))
 
   own_rise : Rises number_cmp all_named
-  own_rise = filter_rises number_cmp (is_named name) (history ts) (rises nothing 2 0 (history ts) (goes ts run))
+  own_rise = filter_rises number_cmp (is_named name) (history ts) (numbers_rise (history ts) (history_rises ts run))
 
   module _ (removed rest : List RevisionView) (is : IsSplit all_named removed rest) where
     is_early : (r : RevisionView) → Contains removed r → r.key.main ≤ compacted

@@ -24,11 +24,13 @@ pub mod Passing
 pub mod RevisionLoops
 pub mod RevisionSteps
 pub mod RevisionTexts
+pub mod RevisionsExact
 pub mod SnapshotLemmas
 pub mod SortedExists
 pub mod SortedOnce
 pub mod StoreExists
 pub mod StoreLemmas
+pub mod TakenAway
 mod TrailingAccounts
 mod TrailingBytes
 mod TrailingMetas

@@ -14,7 +14,7 @@ use Rattle.bolt_etcd.specs.{NameFaults.name_faults, Others.OtherView, Others.oth
 use Rattle.bolt_etcd.specs.{Runs.IsRun, StoreBuckets.StoreView, Stores.revisions, Told.number_cmp, WholeStores.GrantsLeases, WholeStores.Keeps}
 use Rattle.bolt_etcd.specs.StoreFaults.{bucket_lines, bucket_names, entry_lines, key_lines, line_without, name_lines, store_granted, store_lines}
 use Rattle.bolt_etcd.proofs.{FaultsOfNames.faults_named, FaultsOfNames.none_of_any, Filtered.filter_both, Filtered.filter_rises, Filtered.kept_from, HistoryNumbers.none_missing}
-use Rattle.bolt_etcd.proofs.{HistorySteps.IsWritten, HistorySteps.each, HistorySteps.goes, HistorySteps.rises, KeyNumbers.spellings_cmp, OtherCounts.one_of_two, WholeNames.no_faults}
+use Rattle.bolt_etcd.proofs.{HistorySteps.IsWritten, HistorySteps.each, HistorySteps.goes, HistorySteps.history_rises, HistorySteps.numbers_rise, KeyNumbers.spellings_cmp, OtherCounts.one_of_two, WholeNames.no_faults}
 
 -- ---- buckets
 
@@ -81,7 +81,7 @@ module _ (compacted : ℕ) (ts : List Transaction) (keeps : RevisionView → Boo
   pub kept_rise : Rises place_cmp (kept keeps ts)
   kept_rise =
       place_rises (kept keeps ts) (λ r has. (each (λ (s : RevisionView). s.place ≡ spelling s.key) is_spelled nothing 2 0 (history ts) (goes ts run) r (there r has), run.fits r (there r has)))
-      (filter_rises number_cmp keeps (history ts) (rises nothing 2 0 (history ts) (goes ts run)))
+      (filter_rises number_cmp keeps (history ts) (numbers_rise (history ts) (history_rises ts run)))
 
   none_misplaced : misplaced (kept keeps ts) ≡ []
   none_misplaced =

@@ -10,7 +10,7 @@ use Rattle.bolt_tree.specs.Order.{Rises}
 use Rattle.bolt_etcd.specs.{Compactions.IsCompaction, Compactions.kept, Follows.creates, Follows.follows, Histories.Delete, Histories.Put, Histories.State, Histories.Transaction, Histories.after_all, Histories.history, Histories.nothing}
 use Rattle.bolt_etcd.specs.{MissingNumbers.is_above, NameFaults.before_of, NameFaults.is_newest, NameFaults.lacks_lease, NameFaults.lacks_one_before, NameFaults.name_faults, Newest.is_named, Newest.newest, Revisions.RevisionView, Revisions.name_of}
 use Rattle.bolt_etcd.specs.{Runs.IsRun, Told.number_cmp}
-use Rattle.bolt_etcd.proofs.{Filtered.filter_rises, Filtered.kept_from, HistorySteps.IsWritten, HistorySteps.each, HistorySteps.goes, HistorySteps.rises}
+use Rattle.bolt_etcd.proofs.{Filtered.filter_rises, Filtered.kept_from, HistorySteps.IsWritten, HistorySteps.each, HistorySteps.goes, HistorySteps.history_rises, HistorySteps.numbers_rise}
 use Rattle.bolt_etcd.proofs.{KeptOfNames.IsCut, KeptOfNames.cut, KeptOfNames.last_in, MissingExact.main_le, NameHistories.AllFollow, NameHistories.all_follow, NameHistories.held_of, NameHistories.newest_held}
 
 -- ---- each later one follows the one before
@@ -65,7 +65,7 @@ module _ (compacted : ℕ) (ts : List Transaction) (keeps : RevisionView → Boo
   own_kept = filter (is_named name) (kept keeps ts)
 
   pub own_rise : Rises number_cmp own_kept
-  own_rise = filter_rises number_cmp (is_named name) (kept keeps ts) (filter_rises number_cmp keeps (history ts) (rises nothing 2 0 (history ts) (goes ts run)))
+  own_rise = filter_rises number_cmp (is_named name) (kept keeps ts) (filter_rises number_cmp keeps (history ts) (numbers_rise (history ts) (history_rises ts run)))
 
   all_own : AllFollow None (filter (is_named name) (history ts))
   all_own = all_follow name nothing 2 0 (history ts) None (goes ts run) refl

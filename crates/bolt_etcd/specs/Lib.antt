@@ -28,6 +28,7 @@ pub mod SnapshotFaults
 pub mod StoreBuckets
 pub mod StoreFaults
 pub mod Stores
+pub mod Taken
 pub mod Told
 pub mod ToldRevisions
 pub mod WholeStores

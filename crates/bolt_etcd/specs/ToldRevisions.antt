@@ -1,5 +1,5 @@
 -- Which revisions of a transaction the missing numbers tell as missing.
-use Rattle.std.specs.Prelude.{◌≡◌, ◌<◌, ◌≤◌, ◌⊎◌, ℕ, List, [], ◌∷◌}
+use Rattle.std.specs.Prelude.{◌≡◌, ◌<◌, ◌≤◌, ℕ, List}
 use Rattle.std.specs.List.{Contains}
 use Rattle.bolt_etcd.specs.Revisions.{RevisionView}
 use Rattle.bolt_etcd.specs.declared.missing.Missing.{Missing}
@@ -11,8 +11,7 @@ TellsRevision t sub (Transactions first last) = ⊥
 TellsRevision t sub (Revisions main first last) = (main ≡ t) × (first ≤ sub) × (sub ≤ last)
 
 abbrev pub IsToldRevision : (t sub : ℕ) → List Missing → Type 0
-IsToldRevision t sub [] = ⊥
-IsToldRevision t sub (m ∷ ms) = TellsRevision t sub m ⊎ IsToldRevision t sub ms
+IsToldRevision t sub ms = (m : Missing) × Contains ms m × TellsRevision t sub m
 
 -- a revision is missing: its transaction is after the compaction, a later revision of that is there, and it isn't
 pub record IsMissingRevision (compacted t sub : ℕ) (rs : List RevisionView) : Type 0 where

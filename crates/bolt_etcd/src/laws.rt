@@ -1,5 +1,5 @@
 //! What the definitions imply.
-ghost use Rattle.std.specs.Prelude.{◌≡◌, ◌<◌, ◌↔◌, ℕ, Bool, List, [], Some, length, not};
+ghost use Rattle.std.specs.Prelude.{◌≡◌, ◌≢◌, ◌<◌, ◌↔◌, Contains, ℕ, Bool, List, [], Some, length, not};
 ghost use Rattle.std.specs.Option.{is_some};
 ghost use Rattle.bolt_check.specs.Keys.{key_cmp};
 ghost use Rattle.bolt_check.specs.Sound.{HasSoundTrees};
@@ -7,6 +7,7 @@ ghost use Rattle.bolt_format.specs.{Bytes.IsBytes, Elements.LeafElement, declare
 ghost use Rattle.bolt_tree.specs.{Entries.EntryView, Entries.IsEntry, Entries.IsStart, Entries.Start, Order.Rises};
 ghost use Rattle.bolt_etcd.specs.{Current.AreCurrent, Current.place_cmp, NameFaults.AreByName, StoreBuckets.IsStore, StoreBuckets.StoreView};
 ghost use Rattle.bolt_etcd.specs.{MissingNumbers.missing_numbers, Revisions.RevisionView, Told.IsMissing, Told.IsTold, Told.number_cmp};
+ghost use Rattle.bolt_etcd.specs.{Taken.IsTaken, ToldRevisions.IsMissingRevision, ToldRevisions.IsToldRevision};
 ghost use Rattle.bolt_etcd.specs.{Others.other_of, Others.others_of, Revisions.revision_of, Stores.others};
 ghost use Rattle.bolt_etcd.specs.{RevisionKeys.IsSpelled, RevisionKeys.numbers_cmp, RevisionKeys.revision_key, RevisionKeys.spelling, Wire.field_and_later, Wire.fields};
 ghost use Rattle.bolt_etcd.specs.declared.revision_key.RevisionKey.{RevisionKey};
@@ -70,4 +71,25 @@ pub fn a_root_bucket_has_one_store()
 pub fn nothing_is_found_in_a_whole_store()
     ensures { (ts : List Transaction) (compacted : ℕ) (keeps : RevisionView → Bool) (store : StoreView)
         → IsRun ts → IsCompaction compacted ts keeps → Keeps store compacted (kept keeps ts) → GrantsLeases store ts → store_lines store ≡ [] }
+{}
+
+/// If revisions are in the order of their numbers, the missing numbers tell that a revision of a
+/// transaction is missing exactly if it is: its transaction is after the compaction, a later revision
+/// of that is there, and it isn't.
+pub fn missing_revisions_are_told_exactly()
+    ensures { (compacted t sub : ℕ) (rs : List RevisionView) → Rises number_cmp rs
+        → IsToldRevision t sub (missing_numbers compacted rs) ↔ IsMissingRevision compacted t sub rs }
+{}
+
+/// A revision that is taken away from a whole store, above the last compaction, is told as missing if
+/// a later one of its transaction is there; its transaction is, if it has no other revision and a
+/// later transaction is there.
+pub fn a_revision_that_is_taken_away_is_found()
+    ensures by_number { (ts : List Transaction) (compacted : ℕ) (keeps : RevisionView → Bool) (r later : RevisionView) (left : List RevisionView)
+        → IsRun ts → IsCompaction compacted ts keeps → IsTaken compacted (kept keeps ts) r left
+        → Contains left later → later.key.main ≡ r.key.main → r.key.sub < later.key.sub → IsToldRevision r.key.main r.key.sub (missing_numbers compacted left) }
+    ensures by_transaction { (ts : List Transaction) (compacted : ℕ) (keeps : RevisionView → Bool) (r later : RevisionView) (left : List RevisionView)
+        → IsRun ts → IsCompaction compacted ts keeps → IsTaken compacted (kept keeps ts) r left
+        → Contains left later → r.key.main < later.key.main → ((other : RevisionView) → Contains left other → other.key.main ≢ r.key.main)
+        → IsTold r.key.main (missing_numbers compacted left) }
 {}
