@@ -31,7 +31,7 @@ pub filter_swap : {A : Type 0} (p q : A → Bool) (xs : List A) → filter p (fi
 filter_swap p q [] = refl
 filter_swap p q (x ∷ xs) = swap_step p q x xs (p x) (q x) refl refl (filter_swap p q xs)
 
-held_some : (o : Option RevisionView) (r : RevisionView) → held_of o ≡ Some r → o ≡ Some r
+pub held_some : (o : Option RevisionView) (r : RevisionView) → held_of o ≡ Some r → o ≡ Some r
 held_some None r e = cc
 held_some (Some s) r e = by s.key.deleted refl
   where

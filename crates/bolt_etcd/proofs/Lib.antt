@@ -28,6 +28,7 @@ pub mod RevisionsExact
 pub mod SnapshotLemmas
 pub mod SortedExists
 pub mod SortedOnce
+pub mod StatesKept
 pub mod StoreExists
 pub mod StoreLemmas
 pub mod TakenAway

@@ -41,7 +41,7 @@ last_some : (o : Option RevisionView) (rs : List RevisionView) (r : RevisionView
 last_some o [] r e = cc
 last_some o (x ∷ rs) r e = e
 
-last_of_both : (o : Option RevisionView) (xs ys : List RevisionView) → last_or o (xs ++ ys) ≡ last_or (last_or o xs) ys
+pub last_of_both : (o : Option RevisionView) (xs ys : List RevisionView) → last_or o (xs ++ ys) ≡ last_or (last_or o xs) ys
 last_of_both o [] ys = refl
 last_of_both o (x ∷ xs) ys = last_of_both (Some x) xs ys
 

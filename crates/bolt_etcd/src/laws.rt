@@ -1,5 +1,5 @@
 //! What the definitions imply.
-ghost use Rattle.std.specs.Prelude.{◌≡◌, ◌≢◌, ◌<◌, ◌↔◌, Contains, ℕ, Bool, List, [], Some, length, not};
+ghost use Rattle.std.specs.Prelude.{◌≡◌, ◌≢◌, ◌≤◌, ◌<◌, ◌↔◌, Contains, ℕ, Bool, List, [], Some, length, not};
 ghost use Rattle.std.specs.Option.{is_some};
 ghost use Rattle.bolt_check.specs.Keys.{key_cmp};
 ghost use Rattle.bolt_check.specs.Sound.{HasSoundTrees};
@@ -7,7 +7,7 @@ ghost use Rattle.bolt_format.specs.{Bytes.IsBytes, Elements.LeafElement, declare
 ghost use Rattle.bolt_tree.specs.{Entries.EntryView, Entries.IsEntry, Entries.IsStart, Entries.Start, Order.Rises};
 ghost use Rattle.bolt_etcd.specs.{Current.AreCurrent, Current.place_cmp, NameFaults.AreByName, StoreBuckets.IsStore, StoreBuckets.StoreView};
 ghost use Rattle.bolt_etcd.specs.{MissingNumbers.missing_numbers, Revisions.RevisionView, Told.IsMissing, Told.IsTold, Told.number_cmp};
-ghost use Rattle.bolt_etcd.specs.{Taken.IsTaken, ToldRevisions.IsMissingRevision, ToldRevisions.IsToldRevision};
+ghost use Rattle.bolt_etcd.specs.{HeldNames.AreHeld, Histories.state_at, Newest.until, Taken.IsTaken, ToldRevisions.IsMissingRevision, ToldRevisions.IsToldRevision};
 ghost use Rattle.bolt_etcd.specs.{Others.other_of, Others.others_of, Revisions.revision_of, Stores.others};
 ghost use Rattle.bolt_etcd.specs.{RevisionKeys.IsSpelled, RevisionKeys.numbers_cmp, RevisionKeys.revision_key, RevisionKeys.spelling, Wire.field_and_later, Wire.fields};
 ghost use Rattle.bolt_etcd.specs.declared.revision_key.RevisionKey.{RevisionKey};
@@ -92,4 +92,12 @@ pub fn a_revision_that_is_taken_away_is_found()
         → IsRun ts → IsCompaction compacted ts keeps → IsTaken compacted (kept keeps ts) r left
         → Contains left later → r.key.main < later.key.main → ((other : RevisionView) → Contains left other → other.key.main ≢ r.key.main)
         → IsTold r.key.main (missing_numbers compacted left) }
+{}
+
+/// The keys that there are in a whole store at a transaction, if it isn't before the last compaction,
+/// are exactly what the names held after that transaction.
+pub fn keys_are_what_names_held()
+    ensures { (ts : List Transaction) (compacted at : ℕ) (keeps : RevisionView → Bool) (current : List RevisionView)
+        → IsRun ts → IsCompaction compacted ts keeps → compacted ≤ at
+        → AreCurrent (until at (kept keeps ts)) current ↔ AreHeld (state_at at ts) current }
 {}
