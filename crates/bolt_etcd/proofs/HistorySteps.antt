@@ -1,16 +1,16 @@
 -- A history, revision by revision: each is written upon what the earlier ones left, and is the next of its transaction or the first of the next one.
-use Rattle.std.proofs.Common.{◌≡◌, ◌∙◌, ◌<◌, ◌≤◌, ◌+◌, ◌⊎◌, inl, inr, ℕ, List, [], ◌∷◌, ◌++◌, refl, ap, subst, arith}
+use Rattle.std.proofs.Common.{◌≡◌, ◌∙◌, ◌<◌, ◌≤◌, ◌+◌, ◌⊎◌, inl, inr, ℕ, List, [], ◌∷◌, ◌++◌, refl, sym, ap, subst, arith}
 use Rattle.std.proofs.lemmas.Cmp.{nat_cmp_total, tied_itself}
 use Rattle.std.specs.List.{Contains}
 use Rattle.std.specs.Ordering.{bool_cmp, nat_cmp, ordering_then}
 use Rattle.std.specs.declared.cmp.Ordering.{Ordering}
 use Rattle.std.specs.declared.cmp.Ordering.TheVariants.{Equal, Greater, Less}
-use Rattle.bolt_tree.proofs.Lists.{contains_cases, contains_none}
+use Rattle.bolt_tree.proofs.Lists.{contains_cases, contains_head, contains_none, contains_tail}
 use Rattle.bolt_tree.specs.Order.{Rises}
 use Rattle.bolt_etcd.specs.Histories.{State, Transaction, Write, after, after_all, history, history_from, nothing, revision_by, written}
-use Rattle.bolt_etcd.specs.{Revisions.RevisionView, Runs.CanRun, Runs.CanWrite, Runs.CanWriteAll, Runs.IsRun, Told.number_cmp}
+use Rattle.bolt_etcd.specs.{Current.place_cmp, RevisionKeys.IsSpelled, RevisionKeys.spelling, Revisions.RevisionView, Runs.CanRun, Runs.CanWrite, Runs.CanWriteAll, Runs.IsRun, Told.number_cmp}
 use Rattle.bolt_etcd.specs.declared.revision_key.RevisionKey.{RevisionKey}
-use Rattle.bolt_etcd.proofs.KeyNumbers.{less}
+use Rattle.bolt_etcd.proofs.KeyNumbers.{less, spellings_cmp}
 
 abbrev pub IsWritten : State → RevisionView → Type 0
 IsWritten state r = (w : Write) × CanWrite state w × (r ≡ revision_by state r.key.main r.key.sub w)
@@ -116,3 +116,24 @@ numbers_rise (r ∷ rs) (first, more) = (
 
 pub history_rises : (ts : List Transaction) → IsRun ts → Rises pair_cmp (history ts)
 history_rises ts run = pairs_rise nothing 2 0 (history ts) (goes ts run)
+
+-- ---- and so do the places
+
+is_spelled : (state : State) (r : RevisionView) → IsWritten state r → r.place ≡ spelling r.key
+is_spelled state r (w, can, is) = ap (λ (x : RevisionView). x.place) is ∙ ap (λ (x : RevisionView). spelling x.key) (sym is)
+
+places_from : (rs : List RevisionView) → ((r : RevisionView) → Contains rs r → (r.place ≡ spelling r.key) × IsSpelled r.key) → Rises number_cmp rs → Rises place_cmp rs
+places_from [] are rises = tt
+places_from (r ∷ rs) are rises = (
+  λ s has.
+      let (place, fits) = are r (contains_head r rs) in
+      let (other, also) = are s (contains_tail r s rs has) in
+      rw (place, other) (spellings_cmp r.key s.key fits also ∙ rises.0 s has),
+  places_from rs (λ s has. are s (contains_tail r s rs has)) rises.1,
+)
+
+pub places_rise : (ts : List Transaction) → IsRun ts → Rises place_cmp (history ts)
+places_rise ts run =
+    places_from (history ts)
+    (λ r has. (each (λ (s : RevisionView). s.place ≡ spelling s.key) is_spelled nothing 2 0 (history ts) (goes ts run) r has, run.fits r has))
+    (numbers_rise (history ts) (history_rises ts run))

@@ -32,6 +32,7 @@ pub mod StatesKept
 pub mod StoreExists
 pub mod StoreLemmas
 pub mod TakenAway
+pub mod TakenNames
 mod TrailingAccounts
 mod TrailingBytes
 mod TrailingMetas

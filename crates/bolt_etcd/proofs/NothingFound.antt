@@ -14,7 +14,7 @@ use Rattle.bolt_etcd.specs.{NameFaults.name_faults, Others.OtherView, Others.oth
 use Rattle.bolt_etcd.specs.{Runs.IsRun, StoreBuckets.StoreView, Stores.revisions, Told.number_cmp, WholeStores.GrantsLeases, WholeStores.Keeps}
 use Rattle.bolt_etcd.specs.StoreFaults.{bucket_lines, bucket_names, entry_lines, key_lines, line_without, name_lines, store_granted, store_lines}
 use Rattle.bolt_etcd.proofs.{FaultsOfNames.faults_named, FaultsOfNames.none_of_any, Filtered.filter_both, Filtered.filter_rises, Filtered.kept_from, HistoryNumbers.none_missing}
-use Rattle.bolt_etcd.proofs.{HistorySteps.IsWritten, HistorySteps.each, HistorySteps.goes, HistorySteps.history_rises, HistorySteps.numbers_rise, KeyNumbers.spellings_cmp, OtherCounts.one_of_two, WholeNames.no_faults}
+use Rattle.bolt_etcd.proofs.{HistorySteps.IsWritten, HistorySteps.each, HistorySteps.goes, HistorySteps.places_rise, KeyNumbers.spellings_cmp, OtherCounts.one_of_two, WholeNames.no_faults}
 
 -- ---- buckets
 
@@ -61,27 +61,9 @@ not_misplaced state r (Put name value lease, can, is) =
     and_right _ _ (ap not (eq-eqb r.content.modified r.key.main (ap (λ (x : RevisionView). x.content.modified) is)))
 not_misplaced state r (Delete name, can, is) = and_left _ _ (ap (λ (x : RevisionView). not x.key.deleted) is)
 
-is_spelled : (state : State) (r : RevisionView) → IsWritten state r → r.place ≡ spelling r.key
-is_spelled state r (w, can, is) = ap (λ (x : RevisionView). x.place) is ∙ ap (λ (x : RevisionView). spelling x.key) (sym is)
-
-pub place_rises : (rs : List RevisionView) → ((r : RevisionView) → Contains rs r → (r.place ≡ spelling r.key) × IsSpelled r.key) → Rises number_cmp rs → Rises place_cmp rs
-place_rises [] are rises = tt
-place_rises (r ∷ rs) are rises = (
-  λ s has.
-      let (place, fits) = are r (contains_head r rs) in
-      let (other, also) = are s (contains_tail r s rs has) in
-      rw (place, other) (spellings_cmp r.key s.key fits also ∙ rises.0 s has),
-  place_rises rs (λ s has. are s (contains_tail r s rs has)) rises.1,
-)
-
 module _ (compacted : ℕ) (ts : List Transaction) (keeps : RevisionView → Bool) (run : IsRun ts) (compaction : IsCompaction compacted ts keeps) where
   there : (r : RevisionView) → Contains (kept keeps ts) r → Contains (history ts) r
   there r has = (kept_from keeps (history ts) r has).0
-
-  pub kept_rise : Rises place_cmp (kept keeps ts)
-  kept_rise =
-      place_rises (kept keeps ts) (λ r has. (each (λ (s : RevisionView). s.place ≡ spelling s.key) is_spelled nothing 2 0 (history ts) (goes ts run) r (there r has), run.fits r (there r has)))
-      (filter_rises number_cmp keeps (history ts) (numbers_rise (history ts) (history_rises ts run)))
 
   none_misplaced : misplaced (kept keeps ts) ≡ []
   none_misplaced =
@@ -112,7 +94,7 @@ module _ (compacted : ℕ) (ts : List Transaction) (keeps : RevisionView → Boo
     no_name_lines =
         ap (flat_map fault_lines)
         (none_of_any (name_faults (Some compacted) (store_granted store) None store.by_name) (λ name.
-        faults_named (Some compacted) (store_granted store) (kept keeps ts) store.by_name name kept_rise is.sorted
+        faults_named (Some compacted) (store_granted store) (kept keeps ts) store.by_name name (filter_rises place_cmp keeps (history ts) (places_rise ts run)) is.sorted
         ∙ no_faults compacted ts keeps run compaction name (store_granted store) (grants name)))
 
     pub nothing_found : store_lines store ≡ []

@@ -7,9 +7,9 @@ use Rattle.std.specs.declared.cmp.Ordering.{Ordering}
 use Rattle.std.specs.declared.cmp.Ordering.TheVariants.{Less}
 use Rattle.bolt_tree.proofs.Lists.{contains_cases, contains_head, contains_none, contains_tail}
 use Rattle.bolt_tree.specs.Order.{Rises}
-use Rattle.bolt_etcd.specs.{Compactions.kept, Histories.Transaction, Histories.history, Histories.nothing, MissingNumbers.missing_numbers, Revisions.RevisionView, Runs.IsRun, Taken.IsTaken}
+use Rattle.bolt_etcd.specs.{Compactions.kept, Current.place_cmp, Histories.Transaction, Histories.history, Histories.nothing, MissingNumbers.missing_numbers, Revisions.RevisionView, Runs.IsRun, Taken.IsTaken}
 use Rattle.bolt_etcd.specs.{Told.IsMissing, Told.IsTold, ToldRevisions.IsMissingRevision, ToldRevisions.IsToldRevision}
-use Rattle.bolt_etcd.proofs.{Filtered.filter_rises, Filtered.kept_from, HistorySteps.from, HistorySteps.goes, HistorySteps.history_rises, HistorySteps.numbers_rise, HistorySteps.pair_cmp}
+use Rattle.bolt_etcd.proofs.{Filtered.filter_rises, Filtered.kept_from, HistorySteps.from, HistorySteps.goes, HistorySteps.history_rises, HistorySteps.numbers_rise, HistorySteps.pair_cmp, HistorySteps.places_rise}
 use Rattle.bolt_etcd.proofs.{MissingExact.missing_told, RevisionsExact.revisions_told}
 
 -- ---- a list without one of its elements
@@ -41,7 +41,7 @@ apart : (a b : RevisionView) → pair_cmp a b ≡ Less → a.key.main ≡ b.key.
 apart a b less main sub = let tied = rw (main, sub, tied_itself nat_cmp_total b.key.main, tied_itself nat_cmp_total b.key.sub) at less in cc
 
 module _ (compacted : ℕ) (ts : List Transaction) (keeps : RevisionView → Bool) (run : IsRun ts) (r : RevisionView) (left : List RevisionView) (is : IsTaken compacted (kept keeps ts) r left) where
-  all_rise : Rises pair_cmp (is.before ++ r ∷ is.after)
+  pub all_rise : Rises pair_cmp (is.before ++ r ∷ is.after)
   all_rise = subst (Rises pair_cmp) is.there (filter_rises pair_cmp keeps (history ts) (history_rises ts run))
 
   pub left_rises : Rises pair_cmp left
@@ -75,3 +75,6 @@ module _ (compacted : ℕ) (ts : List Transaction) (keeps : RevisionView → Boo
         before = lt;
         none = none;
       })
+
+  pub left_places : Rises place_cmp left
+  left_places = subst (Rises place_cmp) (sym is.gone) (without_rises r place_cmp is.before is.after (subst (Rises place_cmp) is.there (filter_rises place_cmp keeps (history ts) (places_rise ts run))))

@@ -51,6 +51,17 @@ all_later compacted r rs rise lt s has = elim (contains_cases r s rs has) [
   | inr more ↦ (let le = main_le r.key s.key (rise.0 s more) in omega (arith, le, lt))
 ]
 
+-- ---- the one before it, among revisions of one name
+
+abbrev pub IsOwn : Key → Option RevisionView → Type 0
+IsOwn name None = Unit {0}
+IsOwn name (Some before) = is_named name before ≡ true
+
+pub own_before : (name : Key) (o : Option RevisionView) (r : RevisionView) → IsOwn name o → is_named name r ≡ true → before_of o r ≡ o
+own_before name None r is own = refl
+own_before name (Some before) r is own =
+    cond-true (is_named (name_of r) before) (Some before) None (ap (bytes_eq (name_of before)) (same_text (name_of r) name (sym own)) ∙ is)
+
 -- ---- a deletion has no lease
 
 abbrev HasNoLeaseIfDeleted : RevisionView → Type 0
@@ -111,15 +122,6 @@ module _ (compacted : ℕ) (ts : List Transaction) (keeps : RevisionView → Boo
   -- ---- so it has no fault
 
   module _ (granted : ℕ → Bool) where
-    abbrev IsOwn : Option RevisionView → Type 0
-    IsOwn None = Unit {0}
-    IsOwn (Some before) = is_named name before ≡ true
-
-    own_before : (o : Option RevisionView) (r : RevisionView) → IsOwn o → is_named name r ≡ true → before_of o r ≡ o
-    own_before None r is own = refl
-    own_before (Some before) r is own =
-        cond-true (is_named (name_of r) before) (Some before) None (ap (bytes_eq (name_of before)) (same_text (name_of r) name (sym own)) ∙ is)
-
     none_before : (o : Option RevisionView) (r : RevisionView) (b : Bool) → is_above compacted r ≡ b → before_of o r ≡ o → (compacted < r.key.main → follows o r ≡ true)
         → lacks_one_before (Some compacted) o r ≡ false
     none_before o r true above is here = and_right _ _ (ap not (ap (λ (x : Option RevisionView). follows x r) is ∙ here (ltb-true compacted r.key.main above)))
@@ -134,13 +136,13 @@ module _ (compacted : ℕ) (ts : List Transaction) (keeps : RevisionView → Boo
     neither : (a b : Bool) → a ≡ false → b ≡ false → (a || b) ≡ false
     neither a b first second = rw (first, second) refl
 
-    no_fault : (o : Option RevisionView) (rs : List RevisionView) → IsOwn o → ((s : RevisionView) → Contains rs s → is_named name s ≡ true) → LaterFollow compacted o rs
+    no_fault : (o : Option RevisionView) (rs : List RevisionView) → IsOwn name o → ((s : RevisionView) → Contains rs s → is_named name s ≡ true) → LaterFollow compacted o rs
         → ((s : RevisionView) → last_or o rs ≡ Some s → lacks_lease granted s ≡ false) → name_faults (Some compacted) granted o rs ≡ []
     no_fault o [] is own follow lease = refl
     no_fault o (r ∷ rs) is own follow lease =
         let own_r = own r (contains_head r rs) in
         cond-false _ _ _
-        (neither _ _ (none_before o r (is_above compacted r) refl (own_before o r is own_r) follow.0) (none_of_lease r rs own lease))
+        (neither _ _ (none_before o r (is_above compacted r) refl (own_before name o r is own_r) follow.0) (none_of_lease r rs own lease))
         ∙ no_fault (Some r) rs own_r (λ s has. own s (contains_tail r s rs has)) follow.1 lease
 
     pub no_faults : Grants granted → name_faults (Some compacted) granted None own_kept ≡ []

@@ -1,13 +1,14 @@
 //! What the definitions imply.
-ghost use Rattle.std.specs.Prelude.{◌≡◌, ◌≢◌, ◌≤◌, ◌<◌, ◌↔◌, Contains, ℕ, Bool, List, [], Some, length, not};
+ghost use Rattle.std.specs.Prelude.{◌≡◌, ◌≢◌, ◌≤◌, ◌<◌, ◌↔◌, Contains, ℕ, Bool, IsTrue, List, [], None, Some, find, length, not};
 ghost use Rattle.std.specs.Option.{is_some};
 ghost use Rattle.bolt_check.specs.Keys.{key_cmp};
 ghost use Rattle.bolt_check.specs.Sound.{HasSoundTrees};
 ghost use Rattle.bolt_format.specs.{Bytes.IsBytes, Elements.LeafElement, declared.meta.Meta.Meta};
 ghost use Rattle.bolt_tree.specs.{Entries.EntryView, Entries.IsEntry, Entries.IsStart, Entries.Start, Order.Rises};
+ghost use Rattle.bolt_etcd.specs.{NameFaults.NameFaultView, NameFaults.name_faults, Revisions.name_of};
 ghost use Rattle.bolt_etcd.specs.{Current.AreCurrent, Current.place_cmp, NameFaults.AreByName, StoreBuckets.IsStore, StoreBuckets.StoreView};
 ghost use Rattle.bolt_etcd.specs.{MissingNumbers.missing_numbers, Revisions.RevisionView, Told.IsMissing, Told.IsTold, Told.number_cmp};
-ghost use Rattle.bolt_etcd.specs.{HeldNames.AreHeld, Histories.state_at, Newest.until, Taken.IsTaken, ToldRevisions.IsMissingRevision, ToldRevisions.IsToldRevision};
+ghost use Rattle.bolt_etcd.specs.{HeldNames.AreHeld, Histories.state_at, Newest.is_named, Newest.newest, Newest.until, Newest.value_if, Taken.IsTaken, ToldRevisions.IsMissingRevision, ToldRevisions.IsToldRevision};
 ghost use Rattle.bolt_etcd.specs.{Others.other_of, Others.others_of, Revisions.revision_of, Stores.others};
 ghost use Rattle.bolt_etcd.specs.{RevisionKeys.IsSpelled, RevisionKeys.numbers_cmp, RevisionKeys.revision_key, RevisionKeys.spelling, Wire.field_and_later, Wire.fields};
 ghost use Rattle.bolt_etcd.specs.declared.revision_key.RevisionKey.{RevisionKey};
@@ -81,9 +82,10 @@ pub fn missing_revisions_are_told_exactly()
         → IsToldRevision t sub (missing_numbers compacted rs) ↔ IsMissingRevision compacted t sub rs }
 {}
 
-/// A revision that is taken away from a whole store, above the last compaction, is told as missing if
-/// a later one of its transaction is there; its transaction is, if it has no other revision and a
-/// later transaction is there.
+/// A revision of a later transaction than the last compaction that is taken away from a whole store is
+/// found: by its number, if a later one of its transaction is there; by its transaction's, if it was
+/// the only one of that, and a later transaction is there; and by the next revision of its name, unless
+/// there is none, or that is a deletion and comes after a put without it too.
 pub fn a_revision_that_is_taken_away_is_found()
     ensures by_number { (ts : List Transaction) (compacted : ℕ) (keeps : RevisionView → Bool) (r later : RevisionView) (left : List RevisionView)
         → IsRun ts → IsCompaction compacted ts keeps → IsTaken compacted (kept keeps ts) r left
@@ -92,6 +94,10 @@ pub fn a_revision_that_is_taken_away_is_found()
         → IsRun ts → IsCompaction compacted ts keeps → IsTaken compacted (kept keeps ts) r left
         → Contains left later → r.key.main < later.key.main → ((other : RevisionView) → Contains left other → other.key.main ≢ r.key.main)
         → IsTold r.key.main (missing_numbers compacted left) }
+    ensures by_name { (ts : List Transaction) (compacted : ℕ) (keeps : RevisionView → Bool) (r next : RevisionView) (left by_name : List RevisionView) (granted : ℕ → Bool)
+        → IsRun ts → IsCompaction compacted ts keeps → (is : IsTaken compacted (kept keeps ts) r left) → AreByName left by_name
+        → find (is_named (name_of r)) is.after ≡ Some next → (IsTrue next.key.deleted → value_if (newest (name_of r) is.before) ≡ None)
+        → (f : NameFaultView) × Contains (name_faults (Some compacted) granted None by_name) f × (f.revision ≡ next) × IsTrue f.one_before }
 {}
 
 /// The keys that there are in a whole store at a transaction, if it isn't before the last compaction,
