@@ -8,7 +8,7 @@ use Rattle.std.specs.declared.cmp.Ordering.TheVariants.{Equal, Greater, Less}
 use Rattle.bolt_tree.proofs.Lists.{contains_cases, contains_head, contains_none, contains_tail}
 use Rattle.bolt_tree.specs.Order.{Rises}
 use Rattle.bolt_etcd.specs.Histories.{State, Transaction, Write, after, after_all, history, history_from, nothing, revision_by, written}
-use Rattle.bolt_etcd.specs.{Current.place_cmp, RevisionKeys.IsSpelled, RevisionKeys.spelling, Revisions.RevisionView, Runs.CanRun, Runs.CanWrite, Runs.CanWriteAll, Runs.IsRun, Told.number_cmp}
+use Rattle.bolt_etcd.specs.{Current.place_cmp, RevisionKeys.spelling, Revisions.RevisionView, Runs.CanRun, Runs.CanWrite, Runs.CanWriteAll, Runs.IsRun, Told.number_cmp}
 use Rattle.bolt_etcd.specs.declared.revision_key.RevisionKey.{RevisionKey}
 use Rattle.bolt_etcd.proofs.KeyNumbers.{less, spellings_cmp}
 
@@ -122,18 +122,18 @@ history_rises ts run = pairs_rise nothing 2 0 (history ts) (goes ts run)
 is_spelled : (state : State) (r : RevisionView) → IsWritten state r → r.place ≡ spelling r.key
 is_spelled state r (w, can, is) = ap (λ (x : RevisionView). x.place) is ∙ ap (λ (x : RevisionView). spelling x.key) (sym is)
 
-places_from : (rs : List RevisionView) → ((r : RevisionView) → Contains rs r → (r.place ≡ spelling r.key) × IsSpelled r.key) → Rises number_cmp rs → Rises place_cmp rs
-places_from [] are rises = tt
-places_from (r ∷ rs) are rises = (
-  λ s has.
-      let (place, fits) = are r (contains_head r rs) in
-      let (other, also) = are s (contains_tail r s rs has) in
-      rw (place, other) (spellings_cmp r.key s.key fits also ∙ rises.0 s has),
-  places_from rs (λ s has. are s (contains_tail r s rs has)) rises.1,
+place_is : (ts : List Transaction) → IsRun ts → (r : RevisionView) → Contains (history ts) r → r.place ≡ spelling r.key
+place_is ts run r has = each (λ (s : RevisionView). s.place ≡ spelling s.key) is_spelled nothing 2 0 (history ts) (goes ts run) r has
+
+pub same_order : (ts : List Transaction) → IsRun ts → (a b : RevisionView) → Contains (history ts) a → Contains (history ts) b → place_cmp a b ≡ number_cmp a b
+same_order ts run a b has also = rw (place_is ts run a has, place_is ts run b also) (spellings_cmp a.key b.key (run.fits a has) (run.fits b also))
+
+places_from : (rs : List RevisionView) → ((a b : RevisionView) → Contains rs a → Contains rs b → place_cmp a b ≡ number_cmp a b) → Rises number_cmp rs → Rises place_cmp rs
+places_from [] same rises = tt
+places_from (r ∷ rs) same rises = (
+  λ s has. same r s (contains_head r rs) (contains_tail r s rs has) ∙ rises.0 s has,
+  places_from rs (λ a b has also. same a b (contains_tail r a rs has) (contains_tail r b rs also)) rises.1,
 )
 
 pub places_rise : (ts : List Transaction) → IsRun ts → Rises place_cmp (history ts)
-places_rise ts run =
-    places_from (history ts)
-    (λ r has. (each (λ (s : RevisionView). s.place ≡ spelling s.key) is_spelled nothing 2 0 (history ts) (goes ts run) r has, run.fits r has))
-    (numbers_rise (history ts) (history_rises ts run))
+places_rise ts run = places_from (history ts) (same_order ts run) (numbers_rise (history ts) (history_rises ts run))

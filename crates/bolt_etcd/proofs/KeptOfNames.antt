@@ -9,9 +9,9 @@ use Rattle.std.specs.List.{Contains, last_or}
 use Rattle.bolt_check.specs.Keys.{Key}
 use Rattle.bolt_tree.proofs.{Filters.filter_all, Filters.filter_none, Lists.contains_cases, Lists.contains_head, Lists.contains_none, Lists.contains_tail}
 use Rattle.bolt_tree.specs.Order.{Rises}
-use Rattle.bolt_etcd.specs.{Compactions.IsCompaction, Compactions.kept, Histories.Transaction, Histories.history, Histories.nothing}
-use Rattle.bolt_etcd.specs.{Newest.is_named, Newest.is_until, Newest.newest, Newest.until, Revisions.RevisionView, Revisions.name_of, Runs.IsRun, Told.number_cmp}
-use Rattle.bolt_etcd.proofs.{Filtered.filter_rises, Filtered.kept_from, HistorySteps.goes, HistorySteps.history_rises, HistorySteps.numbers_rise, HistoryUntil.held_at, NameHistories.held_of}
+use Rattle.bolt_etcd.specs.{Compactions.IsCompaction, Compactions.kept, Current.place_cmp, Histories.Transaction, Histories.history, Histories.nothing}
+use Rattle.bolt_etcd.specs.{Newest.is_named, Newest.is_until, Newest.newest, Newest.until, Revisions.RevisionView, Revisions.name_of, Runs.IsRun}
+use Rattle.bolt_etcd.proofs.{Filtered.filter_rises, Filtered.kept_from, HistorySteps.places_rise, HistoryUntil.held_at, NameHistories.held_of}
 
 pub last_in : {A : Type 0} (o : Option A) (xs : List A) (x : A) → last_or o xs ≡ Some x → (o ≡ Some x) ⊎ Contains xs x
 last_in o [] x e = inl e
@@ -69,7 +69,7 @@ module _ (compacted : ℕ) (ts : List Transaction) (keeps : RevisionView → Boo
     },
   )
 
-  split : (rs : List RevisionView) → Rises number_cmp rs → ((r : RevisionView) → Contains rs r → Contains (history ts) r × (name_of r ≡ name))
+  split : (rs : List RevisionView) → Rises place_cmp rs → ((r : RevisionView) → Contains rs r → Contains (history ts) r × (name_of r ≡ name))
       → (removed : List RevisionView) × (rest : List RevisionView) × IsSplit rs removed rest
   split [] rise are = ([], [], record { joined = refl; left = refl; dropped = λ r none. absurd (contains_none r none) })
   split (r ∷ rs) rise are =
@@ -90,8 +90,8 @@ module _ (compacted : ℕ) (ts : List Transaction) (keeps : RevisionView → Boo
   own : (r : RevisionView) → Contains all_named r → Contains (history ts) r × (name_of r ≡ name)
   own r has = let (there, passes) = kept_from (is_named name) (history ts) r has in (there, same_text (name_of r) name (sym passes))
 
-  own_rise : Rises number_cmp all_named
-  own_rise = filter_rises number_cmp (is_named name) (history ts) (numbers_rise (history ts) (history_rises ts run))
+  own_rise : Rises place_cmp all_named
+  own_rise = filter_rises place_cmp (is_named name) (history ts) (places_rise ts run)
 
   module _ (removed rest : List RevisionView) (is : IsSplit all_named removed rest) where
     is_early : (r : RevisionView) → Contains removed r → r.key.main ≤ compacted

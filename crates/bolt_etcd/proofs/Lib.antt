@@ -1,5 +1,6 @@
 pub mod ByName
 pub mod Currents
+pub mod EtcdCompacts
 pub mod FaultsOfNames
 pub mod Fields
 pub mod Filtered

@@ -11,7 +11,7 @@ use Rattle.bolt_etcd.specs.{Newest.is_named, Newest.is_until, Newest.newest, New
 use Rattle.bolt_etcd.proofs.{HistoryUntil.held_at, KeptOfNames.IsCut, KeptOfNames.cut, KeptOfNames.filter_swap, KeptOfNames.held_some, NameHistories.held_of, WholeNames.last_of_both}
 
 -- a revision is current exactly if it is what its name holds
-held_itself : (r : RevisionView) (b : Bool) → r.key.deleted ≡ b → held_of (Some r) ≡ Some r → r.key.deleted ≡ false
+pub held_itself : (r : RevisionView) (b : Bool) → r.key.deleted ≡ b → held_of (Some r) ≡ Some r → r.key.deleted ≡ false
 held_itself r true is holds = let none = sym (cond-true r.key.deleted None (Some r) is) ∙ holds in cc
 held_itself r false is holds = is
 

@@ -5,13 +5,13 @@ use Rattle.std.specs.Prelude.{◌≡◌, ◌<◌, ℕ, Bool, IsTrue, List, Some,
 use Rattle.std.specs.List.{Contains}
 use Rattle.std.specs.declared.cmp.Ordering.TheVariants.{Less}
 use Rattle.bolt_check.specs.Keys.{Key}
-use Rattle.bolt_etcd.specs.{Histories.Transaction, Histories.history, Histories.state_at, Revisions.RevisionView, Revisions.name_of, Told.number_cmp}
+use Rattle.bolt_etcd.specs.{Current.place_cmp, Histories.Transaction, Histories.history, Histories.state_at, Revisions.RevisionView, Revisions.name_of}
 
 -- of a compaction at transaction `compacted` of these transactions: whether it keeps a revision
 pub record IsCompaction (compacted : ℕ) (ts : List Transaction) (keeps : RevisionView → Bool) : Type 0 where
   pub later : (r : RevisionView) → Contains (history ts) r → compacted < r.key.main → IsTrue (keeps r)
   pub held : (name : Key) (r : RevisionView) → state_at compacted ts name ≡ Some r → IsTrue (keeps r)
-  pub oldest_first : (a b : RevisionView) → Contains (history ts) a → Contains (history ts) b → name_of a ≡ name_of b → number_cmp a b ≡ Less
+  pub oldest_first : (a b : RevisionView) → Contains (history ts) a → Contains (history ts) b → name_of a ≡ name_of b → place_cmp a b ≡ Less
       → IsTrue (keeps a) → IsTrue (keeps b)
 
 -- what is there after it

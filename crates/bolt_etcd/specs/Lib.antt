@@ -2,6 +2,7 @@ pub mod CheckLines
 pub mod Compacted
 pub mod Compactions
 pub mod Current
+pub mod EtcdCompactions
 pub mod FaultsLeft
 pub mod Follows
 pub mod HeldNames
@@ -24,6 +25,7 @@ pub mod Runs
 pub mod Shown
 pub mod ShownOthers
 pub mod ShownRevisions
+pub mod SmallRun
 pub mod SnapshotFaults
 pub mod StoreBuckets
 pub mod StoreFaults

@@ -1,5 +1,5 @@
 //! What the definitions imply.
-ghost use Rattle.std.specs.Prelude.{◌≡◌, ◌≢◌, ◌≤◌, ◌<◌, ◌↔◌, Contains, ℕ, Bool, IsTrue, List, [], None, Some, find, length, not};
+ghost use Rattle.std.specs.Prelude.{◌≡◌, ◌≢◌, ◌≤◌, ◌<◌, ◌↔◌, Contains, ℕ, Bool, IsTrue, List, [], ◌∷◌, None, Some, codes, false, find, length, not, true};
 ghost use Rattle.std.specs.Option.{is_some};
 ghost use Rattle.bolt_check.specs.Keys.{key_cmp};
 ghost use Rattle.bolt_check.specs.Sound.{HasSoundTrees};
@@ -8,6 +8,7 @@ ghost use Rattle.bolt_tree.specs.{Entries.EntryView, Entries.IsEntry, Entries.Is
 ghost use Rattle.bolt_etcd.specs.{NameFaults.NameFaultView, NameFaults.name_faults, Revisions.name_of};
 ghost use Rattle.bolt_etcd.specs.{Current.AreCurrent, Current.place_cmp, NameFaults.AreByName, StoreBuckets.IsStore, StoreBuckets.StoreView};
 ghost use Rattle.bolt_etcd.specs.{MissingNumbers.missing_numbers, Revisions.RevisionView, Told.IsMissing, Told.IsTold, Told.number_cmp};
+ghost use Rattle.bolt_etcd.specs.{EtcdCompactions.etcd_keeps, Histories.history, SmallRun.deletion_of_a, SmallRun.first_a, SmallRun.first_b, SmallRun.second_a, SmallRun.second_b, SmallRun.small_run};
 ghost use Rattle.bolt_etcd.specs.{HeldNames.AreHeld, Histories.state_at, Newest.is_named, Newest.newest, Newest.until, Newest.value_if, Taken.IsTaken, ToldRevisions.IsMissingRevision, ToldRevisions.IsToldRevision};
 ghost use Rattle.bolt_etcd.specs.{Others.other_of, Others.others_of, Revisions.revision_of, Stores.others};
 ghost use Rattle.bolt_etcd.specs.{RevisionKeys.IsSpelled, RevisionKeys.numbers_cmp, RevisionKeys.revision_key, RevisionKeys.spelling, Wire.field_and_later, Wire.fields};
@@ -106,4 +107,18 @@ pub fn keys_are_what_names_held()
     ensures { (ts : List Transaction) (compacted at : ℕ) (keeps : RevisionView → Bool) (current : List RevisionView)
         → IsRun ts → IsCompaction compacted ts keeps → compacted ≤ at
         → AreCurrent (until at (kept keeps ts)) current ↔ AreHeld (state_at at ts) current }
+{}
+
+/// What etcd keeps in a compaction is one in this sense, whatever its version.
+pub fn etcd_compacts_so()
+    ensures { (ts : List Transaction) (new : Bool) (compacted : ℕ) → IsRun ts → IsCompaction compacted ts (etcd_keeps new compacted (history ts)) }
+{}
+
+/// An example of a run, and of what old and new versions of etcd keep of it.
+pub fn a_small_run_is_written_so()
+    ensures runs { IsRun small_run }
+    ensures writes { history small_run ≡ first_a ∷ first_b ∷ deletion_of_a ∷ second_b ∷ second_a ∷ [] }
+    ensures held { (state_at 2 small_run (codes "a") ≡ Some first_a) × (state_at 3 small_run (codes "a") ≡ None) × (state_at 4 small_run (codes "a") ≡ Some second_a) }
+    ensures kept_by_old { kept (etcd_keeps false 3 (history small_run)) small_run ≡ first_b ∷ second_b ∷ second_a ∷ [] }
+    ensures kept_by_new { kept (etcd_keeps true 3 (history small_run)) small_run ≡ first_b ∷ deletion_of_a ∷ second_b ∷ second_a ∷ [] }
 {}
