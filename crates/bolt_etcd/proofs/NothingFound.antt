@@ -11,7 +11,7 @@ use Rattle.bolt_etcd.specs.{CheckLines.fault_lines, Compactions.IsCompaction, Co
 use Rattle.bolt_etcd.specs.Histories.{Delete, Put, State, Transaction, history, nothing}
 use Rattle.bolt_etcd.specs.{Misplaced.is_misplaced, Misplaced.misplaced, MissingNumbers.is_above, MissingNumbers.keys_above, MissingNumbers.missing_after, MissingNumbers.missing_numbers}
 use Rattle.bolt_etcd.specs.{NameFaults.name_faults, Others.OtherView, Others.other_of, Others.others_of, RevisionKeys.IsSpelled, RevisionKeys.spelling, Revisions.RevisionView, Revisions.revision_of}
-use Rattle.bolt_etcd.specs.{Runs.IsRun, StoreBuckets.StoreView, Stores.revisions, Told.number_cmp, WholeStores.GrantsLeases, WholeStores.Keeps}
+use Rattle.bolt_etcd.specs.{Runs.IsRun, StoreBuckets.StoreView, Stores.revisions, Told.number_cmp, WholeStores.GrantsLeases, WholeStores.HoldsExactly}
 use Rattle.bolt_etcd.specs.StoreFaults.{bucket_lines, bucket_names, entry_lines, key_lines, line_without, name_lines, store_granted, store_lines}
 use Rattle.bolt_etcd.proofs.{FaultsOfNames.faults_named, FaultsOfNames.none_of_any, Filtered.filter_both, Filtered.filter_rises, Filtered.kept_from, HistoryNumbers.none_missing}
 use Rattle.bolt_etcd.proofs.{HistorySteps.IsWritten, HistorySteps.each, HistorySteps.goes, HistorySteps.places_rise, KeyNumbers.spellings_cmp, OtherCounts.one_of_two, WholeNames.no_faults}
@@ -82,7 +82,7 @@ module _ (compacted : ℕ) (ts : List Transaction) (keeps : RevisionView → Boo
   no_number : missing_numbers compacted (kept keeps ts) ≡ []
   no_number = ap (missing_after (max compacted 1) 0) keys_kept ∙ none_missing compacted nothing (history ts) (goes ts run)
 
-  module _ (store : StoreView) (is : Keeps store compacted (kept keeps ts)) (grants : GrantsLeases store ts) where
+  module _ (store : StoreView) (is : HoldsExactly store compacted (kept keeps ts)) (grants : GrantsLeases store ts) where
     own : revisions is.entries ≡ kept keeps ts
     own = revisions_are is.entries (kept keeps ts) is.revisions
 

@@ -8,7 +8,7 @@ use Rattle.std.specs.List.{Contains, find, last_or}
 use Rattle.bolt_check.specs.Keys.{Key}
 use Rattle.bolt_tree.proofs.Lists.{contains_head, contains_tail}
 use Rattle.bolt_etcd.specs.{Compactions.IsCompaction, Compactions.kept, Follows.creates, Follows.follows, Follows.is_next_of, Histories.Delete, Histories.Put, Histories.State, Histories.Transaction, Histories.history, Histories.nothing, Histories.version_after}
-use Rattle.bolt_etcd.specs.{NameFaults.AreByName, NameFaults.NameFaultView, NameFaults.fault_of, NameFaults.name_faults, Newest.is_named, Newest.newest, Newest.value_if, Revisions.RevisionView, Revisions.name_of, Runs.IsRun, Taken.IsTaken, Told.number_cmp}
+use Rattle.bolt_etcd.specs.{NameFaults.AreByName, NameFaults.NameFaultView, NameFaults.fault_of, NameFaults.name_faults, Newest.is_named, Newest.newest, Newest.value_if, Revisions.RevisionView, Revisions.name_of, Runs.IsRun, Taken.IsShownBy, Taken.IsTaken, Taken.TellsOneBefore, Told.number_cmp}
 use Rattle.bolt_etcd.proofs.{HistorySteps.IsWritten, HistorySteps.each, HistorySteps.goes, HistorySteps.numbers_rise, StoreLemmas.itself, WholeNames.IsOwn, WholeNames.LaterFollow, WholeNames.kept_follow, WholeNames.own_before}
 use Rattle.bolt_etcd.proofs.{FaultsOfNames.faults_named, Filtered.kept_from, KeptOfNames.last_in, MissingExact.main_le, TakenAway.after_it, TakenAway.all_rise, TakenAway.left_places}
 
@@ -120,30 +120,32 @@ fault_in c granted o (z ∷ xs) x ys is =
     one_more (g.one_before || g.lease) g _ (name_faults c granted (Some z) (xs ++ x ∷ ys)) (fault_in c granted (Some z) xs x ys is)
 
 module _ (compacted : ℕ) (ts : List Transaction) (keeps : RevisionView → Bool) (run : IsRun ts) (compaction : IsCompaction compacted ts keeps)
-    (r next : RevisionView) (left : List RevisionView) (is : IsTaken compacted (kept keeps ts) r left) (found : find (is_named (name_of r)) is.after ≡ Some next)
-    (gone : next.key.deleted ≡ true → value_if (newest (name_of r) is.before) ≡ None) where
+    (r next : RevisionView) (left : List RevisionView) (is : IsTaken compacted (kept keeps ts) r left) (shown : IsShownBy next r is.before is.after) where
+  its_next : IsFound (is_named (name_of r)) is.after next
+  its_next = found_there (is_named (name_of r)) is.after next shown.next_of_name
+
   abbrev earlier : List RevisionView
   earlier = filter (is_named (name_of r)) is.before
 
   abbrev later : List RevisionView
-  later = (found_there (is_named (name_of r)) is.after next found).0
+  later = its_next.0
 
   own_kept : filter (is_named (name_of r)) (kept keeps ts) ≡ earlier ++ r ∷ next ∷ later
   own_kept =
       ap (filter (is_named (name_of r))) is.there
       ∙ filter-append (is_named (name_of r)) is.before (r ∷ is.after)
       ∙ ap (λ (l : List RevisionView). earlier ++ l)
-      (cond-true (is_named (name_of r) r) _ _ (itself (name_of r)) ∙ ap (λ (l : List RevisionView). r ∷ l) (found_there (is_named (name_of r)) is.after next found).1)
+      (cond-true (is_named (name_of r) r) _ _ (itself (name_of r)) ∙ ap (λ (l : List RevisionView). r ∷ l) its_next.1)
 
   own_left : filter (is_named (name_of r)) left ≡ earlier ++ next ∷ later
   own_left =
       ap (filter (is_named (name_of r))) is.gone
       ∙ filter-append (is_named (name_of r)) is.before is.after
-      ∙ ap (λ (l : List RevisionView). earlier ++ l) (found_there (is_named (name_of r)) is.after next found).1
+      ∙ ap (λ (l : List RevisionView). earlier ++ l) its_next.1
 
   above : compacted < next.key.main
   above =
-      let less = after_it r number_cmp is.before is.after next (numbers_rise (is.before ++ r ∷ is.after) (all_rise compacted ts keeps run r left is)) (found_there (is_named (name_of r)) is.after next found).2 in
+      let less = after_it r number_cmp is.before is.after next (numbers_rise (is.before ++ r ∷ is.after) (all_rise compacted ts keeps run r left is)) its_next.2 in
       let low = is.above in
       let le = main_le r.key next.key less in
       omega (arith, low, le)
@@ -163,7 +165,7 @@ module _ (compacted : ℕ) (ts : List Transaction) (keeps : RevisionView → Boo
       false_from_ne_true _
       (follows_both (last_or None earlier) r next
           (λ b e. each HasVersion has_version nothing 2 0 (history ts) (goes ts run) b (in_history b e).0)
-          (λ deleted. is_gone (last_or None earlier) (gone deleted))
+          (λ deleted. is_gone (last_or None earlier) (shown.not_after_put deleted))
           (all.0 is.above) (all.1.0 above))
 
   own_last : (o : Option RevisionView) → last_or None earlier ≡ o → IsOwn (name_of r) o
@@ -176,11 +178,10 @@ module _ (compacted : ℕ) (ts : List Transaction) (keeps : RevisionView → Boo
 
     is_missing : fault.one_before ≡ true
     is_missing =
-        let own = own_before (name_of r) (last_or None earlier) next (own_last (last_or None earlier) refl) (found_there (is_named (name_of r)) is.after next found).3 in
+        let own = own_before (name_of r) (last_or None earlier) next (own_last (last_or None earlier) refl) its_next.3 in
         and_from _ _ (lt-ltb compacted next.key.main above) (ap not (ap (λ (o : Option RevisionView). follows o next) own ∙ not_follows))
 
-    pub fault_found : (by_name : List RevisionView) → AreByName left by_name
-        → (f : NameFaultView) × Contains (name_faults (Some compacted) granted None by_name) f × (f.revision ≡ next) × (f.one_before ≡ true)
+    pub fault_found : (by_name : List RevisionView) → AreByName left by_name → TellsOneBefore next (name_faults (Some compacted) granted None by_name)
     fault_found by_name sorted =
         let here = fault_in (Some compacted) granted None earlier next later is_missing in
         let all = faults_named (Some compacted) granted left by_name (name_of r) (left_places compacted ts keeps run r left is) sorted in

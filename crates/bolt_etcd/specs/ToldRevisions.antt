@@ -5,7 +5,7 @@ use Rattle.bolt_etcd.specs.Revisions.{RevisionView}
 use Rattle.bolt_etcd.specs.declared.missing.Missing.{Missing}
 use Rattle.bolt_etcd.specs.declared.missing.Missing.TheVariants.{Revisions, Transactions}
 
--- it says that revision `sub` of transaction t is missing, and other revisions of t aren't
+-- it tells revision `sub` of transaction t, as one of a transaction that is there
 abbrev pub TellsRevision : (t sub : ℕ) → Missing → Type 0
 TellsRevision t sub (Transactions first last) = ⊥
 TellsRevision t sub (Revisions main first last) = (main ≡ t) × (first ≤ sub) × (sub ≤ last)

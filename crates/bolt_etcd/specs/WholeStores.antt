@@ -7,9 +7,8 @@ use Rattle.bolt_tree.specs.Entries.{entry_view}
 use Rattle.bolt_etcd.specs.{Histories.Transaction, Histories.state_after, NameFaults.AreByName, Revisions.RevisionView, Revisions.revision_of}
 use Rattle.bolt_etcd.specs.{StoreBuckets.StoreView, StoreFaults.bucket_names, StoreFaults.store_compacted, StoreFaults.store_granted}
 
--- It has each bucket, and knows the transaction of the last compaction. The entries of its bucket `key` are these revisions, and those are sorted
--- by name.
-pub record Keeps (store : StoreView) (compacted : ℕ) (rs : List RevisionView) : Type 0 where
+-- It has each bucket that a store has, and knows the transaction of the last compaction. The entries of its bucket `key` are these revisions.
+pub record HoldsExactly (store : StoreView) (compacted : ℕ) (rs : List RevisionView) : Type 0 where
   pub buckets : (name : Key) → Contains bucket_names name → IsSome (store.bucket name)
   pub compacted_at : store_compacted store ≡ Some compacted
   pub entries : List LeafElement

@@ -1,19 +1,18 @@
 //! What the definitions imply.
-ghost use Rattle.std.specs.Prelude.{◌≡◌, ◌≢◌, ◌≤◌, ◌<◌, ◌↔◌, Contains, ℕ, Bool, IsTrue, List, [], ◌∷◌, None, Some, codes, false, find, length, not, true};
+ghost use Rattle.std.specs.Prelude.{◌≡◌, ◌≢◌, ◌≤◌, ◌<◌, ◌↔◌, Contains, ℕ, Bool, List, [], ◌∷◌, None, Some, codes, false, length, not, true};
 ghost use Rattle.std.specs.Option.{is_some};
 ghost use Rattle.bolt_check.specs.Keys.{key_cmp};
 ghost use Rattle.bolt_check.specs.Sound.{HasSoundTrees};
 ghost use Rattle.bolt_format.specs.{Bytes.IsBytes, Elements.LeafElement, declared.meta.Meta.Meta};
 ghost use Rattle.bolt_tree.specs.{Entries.EntryView, Entries.IsEntry, Entries.IsStart, Entries.Start, Order.Rises};
-ghost use Rattle.bolt_etcd.specs.{NameFaults.NameFaultView, NameFaults.name_faults, Revisions.name_of};
-ghost use Rattle.bolt_etcd.specs.{Current.AreCurrent, Current.place_cmp, NameFaults.AreByName, StoreBuckets.IsStore, StoreBuckets.StoreView};
+ghost use Rattle.bolt_etcd.specs.{Current.AreCurrent, Current.place_cmp, NameFaults.AreByName, NameFaults.name_faults, StoreBuckets.IsStore, StoreBuckets.StoreView};
 ghost use Rattle.bolt_etcd.specs.{MissingNumbers.missing_numbers, Revisions.RevisionView, Told.IsMissing, Told.IsTold, Told.number_cmp};
 ghost use Rattle.bolt_etcd.specs.{EtcdCompactions.etcd_keeps, Histories.history, SmallRun.deletion_of_a, SmallRun.first_a, SmallRun.first_b, SmallRun.second_a, SmallRun.second_b, SmallRun.small_run};
-ghost use Rattle.bolt_etcd.specs.{HeldNames.AreHeld, Histories.state_at, Newest.is_named, Newest.newest, Newest.until, Newest.value_if, Taken.IsTaken, ToldRevisions.IsMissingRevision, ToldRevisions.IsToldRevision};
+ghost use Rattle.bolt_etcd.specs.{HeldNames.AreHeld, Histories.state_at, Newest.until, Taken.IsShownBy, Taken.IsTaken, Taken.TellsOneBefore, ToldRevisions.IsMissingRevision, ToldRevisions.IsToldRevision};
 ghost use Rattle.bolt_etcd.specs.{Others.other_of, Others.others_of, Revisions.revision_of, Stores.others};
 ghost use Rattle.bolt_etcd.specs.{RevisionKeys.IsSpelled, RevisionKeys.numbers_cmp, RevisionKeys.revision_key, RevisionKeys.spelling, Wire.field_and_later, Wire.fields};
 ghost use Rattle.bolt_etcd.specs.declared.revision_key.RevisionKey.{RevisionKey};
-ghost use Rattle.bolt_etcd.specs.{Compactions.IsCompaction, Compactions.kept, Histories.Transaction, Runs.IsRun, StoreFaults.store_lines, WholeStores.GrantsLeases, WholeStores.Keeps};
+ghost use Rattle.bolt_etcd.specs.{Compactions.IsCompaction, Compactions.kept, Histories.Transaction, Runs.IsRun, StoreFaults.store_lines, WholeStores.GrantsLeases, WholeStores.HoldsExactly};
 
 /// A message is a field, and then a message, up to its end.
 #[tactic(auto, using(crate::proofs::Messages::first_and_later))]
@@ -72,7 +71,7 @@ pub fn a_root_bucket_has_one_store()
 /// there.
 pub fn nothing_is_found_in_a_whole_store()
     ensures { (ts : List Transaction) (compacted : ℕ) (keeps : RevisionView → Bool) (store : StoreView)
-        → IsRun ts → IsCompaction compacted ts keeps → Keeps store compacted (kept keeps ts) → GrantsLeases store ts → store_lines store ≡ [] }
+        → IsRun ts → IsCompaction compacted ts keeps → HoldsExactly store compacted (kept keeps ts) → GrantsLeases store ts → store_lines store ≡ [] }
 {}
 
 /// If revisions are in the order of their numbers, the missing numbers tell that a revision of a
@@ -86,19 +85,20 @@ pub fn missing_revisions_are_told_exactly()
 /// A revision of a later transaction than the last compaction that is taken away from a whole store is
 /// found: by its number, if a later one of its transaction is there; by its transaction's, if it was
 /// the only one of that, and a later transaction is there; and by the next revision of its name, unless
-/// there is none, or that is a deletion and comes after a put without it too.
+/// that is a deletion, and a put comes before both.
 pub fn a_revision_that_is_taken_away_is_found()
     ensures by_number { (ts : List Transaction) (compacted : ℕ) (keeps : RevisionView → Bool) (r later : RevisionView) (left : List RevisionView)
-        → IsRun ts → IsCompaction compacted ts keeps → IsTaken compacted (kept keeps ts) r left
-        → Contains left later → later.key.main ≡ r.key.main → r.key.sub < later.key.sub → IsToldRevision r.key.main r.key.sub (missing_numbers compacted left) }
+        → IsRun ts → IsTaken compacted (kept keeps ts) r left
+        → Contains left later → later.key.main ≡ r.key.main → r.key.sub < later.key.sub
+        → IsToldRevision r.key.main r.key.sub (missing_numbers compacted left) }
     ensures by_transaction { (ts : List Transaction) (compacted : ℕ) (keeps : RevisionView → Bool) (r later : RevisionView) (left : List RevisionView)
-        → IsRun ts → IsCompaction compacted ts keeps → IsTaken compacted (kept keeps ts) r left
+        → IsRun ts → IsTaken compacted (kept keeps ts) r left
         → Contains left later → r.key.main < later.key.main → ((other : RevisionView) → Contains left other → other.key.main ≢ r.key.main)
         → IsTold r.key.main (missing_numbers compacted left) }
-    ensures by_name { (ts : List Transaction) (compacted : ℕ) (keeps : RevisionView → Bool) (r next : RevisionView) (left by_name : List RevisionView) (granted : ℕ → Bool)
-        → IsRun ts → IsCompaction compacted ts keeps → (is : IsTaken compacted (kept keeps ts) r left) → AreByName left by_name
-        → find (is_named (name_of r)) is.after ≡ Some next → (IsTrue next.key.deleted → value_if (newest (name_of r) is.before) ≡ None)
-        → (f : NameFaultView) × Contains (name_faults (Some compacted) granted None by_name) f × (f.revision ≡ next) × IsTrue f.one_before }
+    ensures by_name { (ts : List Transaction) (compacted : ℕ) (keeps : RevisionView → Bool) (r next : RevisionView) (left by_name : List RevisionView)
+        → IsRun ts → IsCompaction compacted ts keeps → (is : IsTaken compacted (kept keeps ts) r left)
+        → AreByName left by_name → IsShownBy next r is.before is.after
+        → (granted : ℕ → Bool) → TellsOneBefore next (name_faults (Some compacted) granted None by_name) }
 {}
 
 /// The keys that there are in a whole store at a transaction, if it isn't before the last compaction,
