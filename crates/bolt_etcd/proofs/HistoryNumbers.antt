@@ -1,15 +1,17 @@
 -- In a history no number is missing, whatever a compaction removed up to its transaction.
-use Rattle.std.proofs.Common.{◌≡◌, ◌∙◌, ◌<◌, ◌≤◌, ◌+◌, ◌-◌, ◌++◌, inl, inr, ℕ, List, [], ◌∷◌, filter, map, max, nat_lt, ◌==◌, Some, refl, ap, arith}
+use Rattle.std.proofs.Common.{◌≡◌, ◌∙◌, ◌<◌, ◌≤◌, ◌+◌, ◌-◌, ◌++◌, inl, inr, ℕ, List, [], ◌∷◌, map, max, nat_lt, ◌==◌, Some, refl, ap, arith}
 use Rattle.std.proofs.lemmas.Bool.{cases_lt, cond-false, cond-true, eq-eqb, le-ltb, lt-ltb, ne_eqb}
 use Rattle.std.specs.Option.{option_to_list}
 use Rattle.bolt_etcd.specs.{Histories.State, Histories.after, Revisions.RevisionView}
-use Rattle.bolt_etcd.specs.MissingNumbers.{is_above, keys_above, missing_after, missing_before, missing_numbers, revisions_between, transactions_between}
+use Rattle.bolt_etcd.specs.MissingNumbers.{is_above, keys_above, missing_after, missing_before, missing_numbers, revisions_between}
+use Rattle.bolt_etcd.specs.MissingNumbers.{transactions_between}
 use Rattle.bolt_etcd.specs.declared.{missing.Missing.Missing, revision_key.RevisionKey.RevisionKey}
 use Rattle.bolt_etcd.specs.declared.missing.Missing.TheVariants.{Revisions, Transactions}
-use Rattle.bolt_etcd.proofs.HistorySteps.{Goes, IsNext}
+use Rattle.bolt_etcd.proofs.{Filtered.drops, Filtered.keeps, HistorySteps.Goes, HistorySteps.IsNext}
 
 no_transaction : (before main : ℕ) → main ≤ before + 1 → option_to_list (transactions_between before main) ≡ []
-no_transaction before main le = ap option_to_list (cond-false (nat_lt (before + 1) main) (Some (Transactions (before + 1) (main - 1))) _ (le-ltb (before + 1) main le))
+no_transaction before main le =
+    ap option_to_list (cond-false (nat_lt (before + 1) main) (Some (Transactions (before + 1) (main - 1))) _ (le-ltb (before + 1) main le))
 
 no_revision : (main from sub : ℕ) → sub ≤ from → option_to_list (revisions_between main from sub) ≡ []
 no_revision main from sub le = ap option_to_list (cond-false (nat_lt from sub) (Some (Revisions main from (sub - 1))) _ (le-ltb from sub le))
@@ -29,12 +31,15 @@ none_before : (main sub : ℕ) (k : RevisionKey) → IsNext main sub k → missi
 none_before main sub k (inl (m, s)) = none_same main sub k m s
 none_before main sub k (inr (some, m, s)) = none_later main sub k m s
 
+abbrev keys : List RevisionView → List RevisionKey
+keys rs = map (λ (r : RevisionView). r.key) rs
+
 module _ (compacted : ℕ) where
   above : (r : RevisionView) (rs : List RevisionView) → compacted < r.key.main → keys_above compacted (r ∷ rs) ≡ r.key ∷ keys_above compacted rs
-  above r rs lt = ap (map (λ (s : RevisionView). s.key)) (cond-true (nat_lt compacted r.key.main) (r ∷ filter (is_above compacted) rs) _ (lt-ltb compacted r.key.main lt))
+  above r rs lt = ap keys (keeps (is_above compacted) (r ∷ rs) rs r refl (lt-ltb compacted r.key.main lt))
 
   below : (r : RevisionView) (rs : List RevisionView) → r.key.main ≤ compacted → keys_above compacted (r ∷ rs) ≡ keys_above compacted rs
-  below r rs le = ap (map (λ (s : RevisionView). s.key)) (cond-false (nat_lt compacted r.key.main) (r ∷ filter (is_above compacted) rs) _ (le-ltb compacted r.key.main le))
+  below r rs le = ap keys (drops (is_above compacted) (r ∷ rs) rs r refl (le-ltb compacted r.key.main le))
 
   next_main : (main sub : ℕ) (k : RevisionKey) → IsNext main sub k → main ≤ k.main
   next_main main sub k (inl (m, s)) = omega (arith, m)
@@ -43,9 +48,12 @@ module _ (compacted : ℕ) where
   one_none : (main sub : ℕ) (r : RevisionView) (rs : List RevisionView) → compacted < r.key.main → missing_before main sub r.key ≡ []
       → missing_after r.key.main (r.key.sub + 1) (keys_above compacted rs) ≡ [] → missing_after main sub (keys_above compacted (r ∷ rs)) ≡ []
   one_none main sub r rs lt none later =
-      ap (missing_after main sub) (above r rs lt) ∙ ap (λ (l : List Missing). l ++ missing_after r.key.main (r.key.sub + 1) (keys_above compacted rs)) none ∙ later
+      ap (missing_after main sub) (above r rs lt)
+      ∙ ap (λ (l : List Missing). l ++ missing_after r.key.main (r.key.sub + 1) (keys_above compacted rs)) none
+      ∙ later
 
-  none_after : (state : State) (main sub : ℕ) (rs : List RevisionView) → Goes state main sub rs → compacted < main → missing_after main sub (keys_above compacted rs) ≡ []
+  none_after : (state : State) (main sub : ℕ) (rs : List RevisionView) → Goes state main sub rs → compacted < main
+      → missing_after main sub (keys_above compacted rs) ≡ []
   none_after state main sub [] go lt = refl
   none_after state main sub (r ∷ rs) (next, is, go) lt =
       let le = next_main main sub r.key next in
@@ -69,7 +77,8 @@ module _ (compacted : ℕ) where
     | inr low ↦ none_same (max compacted 1) 0 k (omega (arith, low, lt, some)) (first lt)
   ]
 
-  none_from : (state : State) (main sub : ℕ) (rs : List RevisionView) → Goes state main sub rs → Begins main sub → missing_after (max compacted 1) 0 (keys_above compacted rs) ≡ []
+  none_from : (state : State) (main sub : ℕ) (rs : List RevisionView) → Goes state main sub rs → Begins main sub
+      → missing_after (max compacted 1) 0 (keys_above compacted rs) ≡ []
   none_from state main sub [] go begins = refl
   none_from state main sub (r ∷ rs) (next, is, go) begins =
       let here = begins_next main sub r.key begins next in

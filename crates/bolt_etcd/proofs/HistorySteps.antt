@@ -8,7 +8,8 @@ use Rattle.std.specs.declared.cmp.Ordering.TheVariants.{Equal, Greater, Less}
 use Rattle.bolt_tree.proofs.Lists.{contains_cases, contains_head, contains_none, contains_tail}
 use Rattle.bolt_tree.specs.Order.{Rises}
 use Rattle.bolt_etcd.specs.Histories.{State, Transaction, Write, after, after_all, history, history_from, nothing, revision_by, written}
-use Rattle.bolt_etcd.specs.{Current.place_cmp, RevisionKeys.spelling, Revisions.RevisionView, Runs.CanRun, Runs.CanWrite, Runs.CanWriteAll, Runs.IsRun, Told.number_cmp}
+use Rattle.bolt_etcd.specs.{Current.place_cmp, RevisionKeys.spelling, Revisions.RevisionView, Runs.CanRun, Runs.CanWrite, Runs.CanWriteAll}
+use Rattle.bolt_etcd.specs.{Runs.IsRun, Told.number_cmp}
 use Rattle.bolt_etcd.specs.declared.revision_key.RevisionKey.{RevisionKey}
 use Rattle.bolt_etcd.proofs.KeyNumbers.{less, spellings_cmp}
 
@@ -32,7 +33,8 @@ more_go state main sub (w ∷ ws) rest (can, more) go = (
   more_go (after (revision_by state main sub w) state) main (sub + 1) ws rest more (λ n le. go n (omega (arith, le))),
 )
 
-next_go : (state : State) (main sub : ℕ) (ts : List Transaction) → 0 < sub → CanRun state (main + 1) ts → Goes state main sub (history_from state (main + 1) ts)
+next_go : (state : State) (main sub : ℕ) (ts : List Transaction) → 0 < sub → CanRun state (main + 1) ts
+    → Goes state main sub (history_from state (main + 1) ts)
 next_go state main sub [] some can = tt
 next_go state main sub ([] ∷ later) some can = absurd (let lt = can.0 in omega (arith, lt))
 next_go state main sub ((w ∷ ws) ∷ later) some (lt, (can, more), rest) = (
@@ -57,7 +59,8 @@ goes ts run = first_go nothing 2 ts run.allowed
 
 -- ---- what holds of each revision that is written
 
-pub each : (Q : RevisionView → Type 0) → ((state : State) (r : RevisionView) → IsWritten state r → Q r) → (state : State) (main sub : ℕ) (rs : List RevisionView) → Goes state main sub rs
+pub each : (Q : RevisionView → Type 0) → ((state : State) (r : RevisionView) → IsWritten state r → Q r)
+    → (state : State) (main sub : ℕ) (rs : List RevisionView) → Goes state main sub rs
     → (r : RevisionView) → Contains rs r → Q r
 each Q one state main sub [] go r has = absurd (contains_none r has)
 each Q one state main sub (s ∷ rs) (next, is, go) r has = elim (contains_cases s r rs has) [
@@ -95,7 +98,7 @@ pair_less : (a b : RevisionView) → IsFrom a.key.main (a.key.sub + 1) b → pai
 pair_less a b (inl lt) = ap (λ (o : Ordering). ordering_then o (nat_cmp a.key.sub b.key.sub)) (less a.key.main b.key.main lt)
 pair_less a b (inr (e, le)) = rw (e, tied_itself nat_cmp_total a.key.main) (less a.key.sub b.key.sub (omega (arith, le)))
 
-pub pairs_rise : (state : State) (main sub : ℕ) (rs : List RevisionView) → Goes state main sub rs → Rises pair_cmp rs
+pairs_rise : (state : State) (main sub : ℕ) (rs : List RevisionView) → Goes state main sub rs → Rises pair_cmp rs
 pairs_rise state main sub [] go = tt
 pairs_rise state main sub (r ∷ rs) (next, is, go) = (
   λ s has. pair_less r s (from (after r state) r.key.main (r.key.sub + 1) rs go s has),
@@ -125,10 +128,12 @@ is_spelled state r (w, can, is) = ap (λ (x : RevisionView). x.place) is ∙ ap 
 place_is : (ts : List Transaction) → IsRun ts → (r : RevisionView) → Contains (history ts) r → r.place ≡ spelling r.key
 place_is ts run r has = each (λ (s : RevisionView). s.place ≡ spelling s.key) is_spelled nothing 2 0 (history ts) (goes ts run) r has
 
-pub same_order : (ts : List Transaction) → IsRun ts → (a b : RevisionView) → Contains (history ts) a → Contains (history ts) b → place_cmp a b ≡ number_cmp a b
+pub same_order : (ts : List Transaction) → IsRun ts → (a b : RevisionView) → Contains (history ts) a → Contains (history ts) b
+    → place_cmp a b ≡ number_cmp a b
 same_order ts run a b has also = rw (place_is ts run a has, place_is ts run b also) (spellings_cmp a.key b.key (run.fits a has) (run.fits b also))
 
-places_from : (rs : List RevisionView) → ((a b : RevisionView) → Contains rs a → Contains rs b → place_cmp a b ≡ number_cmp a b) → Rises number_cmp rs → Rises place_cmp rs
+places_from : (rs : List RevisionView) → ((a b : RevisionView) → Contains rs a → Contains rs b → place_cmp a b ≡ number_cmp a b)
+    → Rises number_cmp rs → Rises place_cmp rs
 places_from [] same rises = tt
 places_from (r ∷ rs) same rises = (
   λ s has. same r s (contains_head r rs) (contains_tail r s rs has) ∙ rises.0 s has,

@@ -1,5 +1,5 @@
 -- The revisions of a history up to a transaction are those of the transactions up to it.
-use Rattle.std.proofs.Common.{◌≡◌, ◌∙◌, ◌≤◌, ◌+◌, ◌-◌, ◌++◌, inl, inr, ℕ, zero, suc, List, [], ◌∷◌, not, take, refl, sym, ap, arith}
+use Rattle.std.proofs.Common.{◌<◌, true, false, ◌≡◌, ◌∙◌, ◌≤◌, ◌+◌, ◌-◌, ◌++◌, inl, inr, ℕ, zero, suc, List, [], ◌∷◌, not, take, refl, sym, ap, arith}
 use Rattle.std.proofs.lemmas.Bool.{cases_lt, le-ltb, lt-ltb}
 use Rattle.std.proofs.lemmas.List.Elements.{Contains-append_cases, filter-append}
 use Rattle.std.specs.List.{Contains}
@@ -27,17 +27,28 @@ take_none : (n : ℕ) → take {A = Transaction} n [] ≡ []
 take_none zero = refl
 take_none (suc n) = refl
 
-until_from : (at : ℕ) (state : State) (main : ℕ) (ts : List Transaction) → until at (history_from state main ts) ≡ history_from state main (take (at + 1 - main) ts)
+pub until_early : (at : ℕ) (r : RevisionView) → r.key.main ≤ at → is_until at r ≡ true
+until_early at r le = ap not (le-ltb at r.key.main le)
+
+pub until_late : (at : ℕ) (r : RevisionView) → at < r.key.main → is_until at r ≡ false
+until_late at r lt = ap not (lt-ltb at r.key.main lt)
+
+until_from : (at : ℕ) (state : State) (main : ℕ) (ts : List Transaction)
+    → until at (history_from state main ts) ≡ history_from state main (take (at + 1 - main) ts)
 until_from at state main [] = rw (take_none (at + 1 - main)) refl
 until_from at state main (t ∷ later) = elim (cases_lt at main) [
   | inl lt ↦ (
       let zero_left : at + 1 - main ≡ 0 = omega (arith, lt) in
-      rw zero_left (filter_none (is_until at) (history_from state main (t ∷ later)) (λ r has. let le = main_from state main (t ∷ later) r has in ap not (lt-ltb at r.key.main (omega (arith, le, lt))))))
+      rw zero_left (filter_none (is_until at) (history_from state main (t ∷ later)) (λ r has.
+      let le = main_from state main (t ∷ later) r has in
+      until_late at r (omega (arith, le, lt)))))
   | inr le ↦ (
       let one_more : at + 1 - main ≡ suc (at + 1 - (main + 1)) = omega (arith, le) in
-      let here = filter_all (is_until at) (written state main 0 t) (λ r has. let e = main_written state main 0 t r has in ap not (le-ltb at r.key.main (omega (arith, e, le)))) in
+      let all = λ (r : RevisionView) (has : Contains (written state main 0 t) r).
+      (let e = main_written state main 0 t r has in until_early at r (omega (arith, e, le))) in
+      let rest = until_from at (after_all (written state main 0 t) state) (main + 1) later in
       filter-append (is_until at) (written state main 0 t) (history_from (after_all (written state main 0 t) state) (main + 1) later)
-      ∙ rw (one_more, here) (ap (λ (rs : List RevisionView). written state main 0 t ++ rs) (until_from at (after_all (written state main 0 t) state) (main + 1) later)))
+      ∙ rw (one_more, filter_all (is_until at) (written state main 0 t) all) (ap (λ (rs : List RevisionView). written state main 0 t ++ rs) rest))
 ]
 
 until_history : (at : ℕ) (ts : List Transaction) → until at (history ts) ≡ history (take (at - 1) ts)
@@ -47,4 +58,5 @@ until_history at ts =
 
 -- after a transaction a name holds the newest of its revisions up to then
 pub held_at : (at : ℕ) (ts : List Transaction) (name : Key) → state_at at ts name ≡ held_of (newest name (until at (history ts)))
-held_at at ts name = newest_held name (history (take (at - 1) ts)) ∙ ap (λ (rs : List RevisionView). held_of (newest name rs)) (sym (until_history at ts))
+held_at at ts name =
+    newest_held name (history (take (at - 1) ts)) ∙ ap (λ (rs : List RevisionView). held_of (newest name rs)) (sym (until_history at ts))

@@ -1,17 +1,21 @@
 -- What a compaction keeps of one name: all from a revision on.
-use Rattle.std.proofs.Common.{◌≡◌, ◌∙◌, ◌⊎◌, ◌<◌, ◌≤◌, ◌++◌, inl, inr, ℕ, Bool, true, false, List, [], ◌∷◌, cond, filter, not, Option, Some, None, refl, sym, ap, subst}
-use Rattle.std.proofs.lemmas.Bool.{cases_lt, cond-false, cond-true, le-ltb, lt-ltb}
+use Rattle.std.proofs.Common.{◌≡◌, ◌∙◌, ◌⊎◌, ◌<◌, ◌≤◌, ◌++◌, inl, inr, ℕ, Bool, true, false, List, [], ◌∷◌, cond, filter, Option, Some}
+use Rattle.std.proofs.Common.{None, refl, sym, ap, subst}
+use Rattle.std.proofs.lemmas.Bool.{cases_lt, cond-false}
 use Rattle.std.proofs.lemmas.List.{append-nil}
 use Rattle.std.proofs.lemmas.List.Elements.{Contains-append_left, filter-append}
 use Rattle.std.proofs.lemmas.Option.{same_Some}
 use Rattle.std.specs.Cmp.Lexicographic.{same_text}
 use Rattle.std.specs.List.{Contains, last_or}
 use Rattle.bolt_check.specs.Keys.{Key}
-use Rattle.bolt_tree.proofs.{Filters.filter_all, Filters.filter_none, Lists.contains_cases, Lists.contains_head, Lists.contains_none, Lists.contains_tail}
+use Rattle.bolt_tree.proofs.{Filters.filter_all, Filters.filter_none, Lists.contains_cases, Lists.contains_head, Lists.contains_none}
+use Rattle.bolt_tree.proofs.{Lists.contains_tail}
 use Rattle.bolt_tree.specs.Order.{Rises}
-use Rattle.bolt_etcd.specs.{Compactions.IsCompaction, Compactions.kept, Current.place_cmp, Histories.Transaction, Histories.history, Histories.nothing}
+use Rattle.bolt_etcd.specs.{Compactions.IsCompaction, Compactions.kept, Current.place_cmp, Histories.Transaction, Histories.history}
 use Rattle.bolt_etcd.specs.{Newest.is_named, Newest.is_until, Newest.newest, Newest.until, Revisions.RevisionView, Revisions.name_of, Runs.IsRun}
-use Rattle.bolt_etcd.proofs.{Filtered.filter_rises, Filtered.kept_from, HistorySteps.places_rise, HistoryUntil.held_at, NameHistories.held_of}
+use Rattle.bolt_etcd.proofs.{Filtered.filter_rises, Filtered.kept_from, HistorySteps.places_rise, HistoryUntil.until_early}
+use Rattle.bolt_etcd.proofs.{HistoryUntil.until_late, HistoryUntil.held_at}
+use Rattle.bolt_etcd.proofs.NameHistories.{held_of, held_parts}
 
 pub last_in : {A : Type 0} (o : Option A) (xs : List A) (x : A) → last_or o xs ≡ Some x → (o ≡ Some x) ⊎ Contains xs x
 last_in o [] x e = inl e
@@ -31,15 +35,8 @@ pub filter_swap : {A : Type 0} (p q : A → Bool) (xs : List A) → filter p (fi
 filter_swap p q [] = refl
 filter_swap p q (x ∷ xs) = swap_step p q x xs (p x) (q x) refl refl (filter_swap p q xs)
 
-pub held_some : (o : Option RevisionView) (r : RevisionView) → held_of o ≡ Some r → o ≡ Some r
-held_some None r e = cc
-held_some (Some s) r e = by s.key.deleted refl
-  where
-    by : (b : Bool) → s.key.deleted ≡ b → Some s ≡ Some r
-    by true is = let none = cond-true s.key.deleted None (Some s) is in cc
-    by false is = sym (cond-false s.key.deleted None (Some s) is) ∙ e
-
-module _ (compacted : ℕ) (ts : List Transaction) (keeps : RevisionView → Bool) (run : IsRun ts) (compaction : IsCompaction compacted ts keeps) (name : Key) where
+module _ (compacted : ℕ) (ts : List Transaction) (keeps : RevisionView → Bool) (run : IsRun ts) (compaction : IsCompaction compacted ts keeps)
+    (name : Key) where
   abbrev all_named : List RevisionView
   all_named = filter (is_named name) (history ts)
 
@@ -48,14 +45,19 @@ module _ (compacted : ℕ) (ts : List Transaction) (keeps : RevisionView → Boo
     left : filter keeps rs ≡ rest
     dropped : (r : RevisionView) → Contains removed r → keeps r ≡ false
 
-  split_step : (r : RevisionView) (rs : List RevisionView) (b : Bool) → keeps r ≡ b → (keeps r ≡ true → (s : RevisionView) → Contains rs s → keeps s ≡ true)
-      → (removed : List RevisionView) × (rest : List RevisionView) × IsSplit rs removed rest → (removed : List RevisionView) × (rest : List RevisionView) × IsSplit (r ∷ rs) removed rest
+  split_step : (r : RevisionView) (rs : List RevisionView) (b : Bool) → keeps r ≡ b
+      → (keeps r ≡ true → (s : RevisionView) → Contains rs s → keeps s ≡ true)
+      → (removed : List RevisionView) × (rest : List RevisionView) × IsSplit rs removed rest
+      → (removed : List RevisionView) × (rest : List RevisionView) × IsSplit (r ∷ rs) removed rest
   split_step r rs true is all more = (
     [],
     r ∷ rs,
     record {
       joined = refl;
-      left = filter_all keeps (r ∷ rs) (λ s has. elim (contains_cases r s rs has) [ inl same ↦ ap keeps (sym same) ∙ is | inr later ↦ all is s later ]);
+      left = filter_all keeps (r ∷ rs) (λ s has. elim (contains_cases r s rs has) [
+        | inl same ↦ ap keeps (sym same) ∙ is
+        | inr later ↦ all is s later
+      ]);
       dropped = λ s none. absurd (contains_none s none);
     },
   )
@@ -105,12 +107,13 @@ module _ (compacted : ℕ) (ts : List Transaction) (keeps : RevisionView → Boo
     ]
 
     until_removed : filter (is_until compacted) removed ≡ removed
-    until_removed = filter_all (is_until compacted) removed (λ r has. ap not (le-ltb compacted r.key.main (is_early r has)))
+    until_removed = filter_all (is_until compacted) removed (λ r has. until_early compacted r (is_early r has))
 
     until_rest : ((r : RevisionView) → Contains rest r → compacted < r.key.main) → filter (is_until compacted) rest ≡ []
-    until_rest later = filter_none (is_until compacted) rest (λ r has. ap not (lt-ltb compacted r.key.main (later r has)))
+    until_rest later = filter_none (is_until compacted) rest (λ r has. until_late compacted r (later r has))
 
-    newest_removed : ((r : RevisionView) → Contains rest r → compacted < r.key.main) → newest name (until compacted (history ts)) ≡ last_or None removed
+    newest_removed : ((r : RevisionView) → Contains rest r → compacted < r.key.main)
+        → newest name (until compacted (history ts)) ≡ last_or None removed
     unfolding newest
     newest_removed later =
         ap (last_or None)
@@ -121,11 +124,12 @@ module _ (compacted : ℕ) (ts : List Transaction) (keeps : RevisionView → Boo
         ∙ ap (λ (l : List RevisionView). removed ++ l) (until_rest later)
         ∙ append-nil removed)
 
-    none_left : (o : Option RevisionView) → ((r : RevisionView) → Contains rest r → compacted < r.key.main) → held_of (last_or None removed) ≡ o → o ≡ None
+    none_left : (o : Option RevisionView) → ((r : RevisionView) → Contains rest r → compacted < r.key.main) → held_of (last_or None removed) ≡ o
+        → o ≡ None
     none_left None later e = refl
     none_left (Some r) later e =
         let keep = compaction.held name r (held_at compacted ts name ∙ ap held_of (newest_removed later) ∙ e) in
-        elim (last_in None removed r (held_some (last_or None removed) r e)) [
+        elim (last_in None removed r ((held_parts (last_or None removed) r e).0)) [
           | inl none ↦ cc
           | inr has ↦ (let gone = is.dropped r has in cc)
         ]

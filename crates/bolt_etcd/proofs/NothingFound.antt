@@ -1,5 +1,6 @@
 -- Nothing is found in a store from which nothing is missing.
-use Rattle.std.proofs.Common.{◌≡◌, ◌∙◌, ◌++◌, ◌&&◌, ℕ, Bool, true, false, List, [], ◌∷◌, codes, flat_map, map, max, not, Option, Some, None, refl, sym, ap}
+use Rattle.std.proofs.Common.{◌≡◌, ◌∙◌, ◌++◌, ◌&&◌, ℕ, Bool, true, false, List, [], ◌∷◌, codes, flat_map, map, max, not, Option, Some, None}
+use Rattle.std.proofs.Common.{refl, sym, ap}
 use Rattle.std.proofs.lemmas.Bool.{and_left, and_right, eq-eqb, ltb-true}
 use Rattle.std.specs.List.{Contains, cons_option}
 use Rattle.std.specs.Option.{is_some}
@@ -9,12 +10,16 @@ use Rattle.bolt_tree.proofs.{Filters.filter_none, Filters.filter_same, Lists.con
 use Rattle.bolt_tree.specs.{Entries.entry_view, Order.Rises}
 use Rattle.bolt_etcd.specs.{CheckLines.fault_lines, Compactions.IsCompaction, Compactions.kept, Current.place_cmp}
 use Rattle.bolt_etcd.specs.Histories.{Delete, Put, State, Transaction, history, nothing}
-use Rattle.bolt_etcd.specs.{Misplaced.is_misplaced, Misplaced.misplaced, MissingNumbers.is_above, MissingNumbers.keys_above, MissingNumbers.missing_after, MissingNumbers.missing_numbers}
-use Rattle.bolt_etcd.specs.{NameFaults.name_faults, Others.OtherView, Others.other_of, Others.others_of, RevisionKeys.IsSpelled, RevisionKeys.spelling, Revisions.RevisionView, Revisions.revision_of}
-use Rattle.bolt_etcd.specs.{Runs.IsRun, StoreBuckets.StoreView, Stores.revisions, Told.number_cmp, WholeStores.GrantsLeases, WholeStores.HoldsExactly}
+use Rattle.bolt_etcd.specs.{Misplaced.is_misplaced, Misplaced.misplaced, MissingNumbers.is_above, MissingNumbers.keys_above}
+use Rattle.bolt_etcd.specs.{MissingNumbers.missing_after, MissingNumbers.missing_numbers}
+use Rattle.bolt_etcd.specs.{NameFaults.name_faults, Others.OtherView, Others.other_of, Others.others_of, Revisions.RevisionView}
+use Rattle.bolt_etcd.specs.{Revisions.revision_of}
+use Rattle.bolt_etcd.specs.{Runs.IsRun, StoreBuckets.StoreView, Stores.revisions, WholeStores.GrantsLeases, WholeStores.HoldsExactly}
 use Rattle.bolt_etcd.specs.StoreFaults.{bucket_lines, bucket_names, entry_lines, key_lines, line_without, name_lines, store_granted, store_lines}
-use Rattle.bolt_etcd.proofs.{FaultsOfNames.faults_named, FaultsOfNames.none_of_any, Filtered.filter_both, Filtered.filter_rises, Filtered.kept_from, HistoryNumbers.none_missing}
-use Rattle.bolt_etcd.proofs.{HistorySteps.IsWritten, HistorySteps.each, HistorySteps.goes, HistorySteps.places_rise, KeyNumbers.spellings_cmp, OtherCounts.one_of_two, WholeNames.no_faults}
+use Rattle.bolt_etcd.proofs.{FaultsOfNames.faults_named, FaultsOfNames.none_of_any, Filtered.filter_both, Filtered.filter_rises}
+use Rattle.bolt_etcd.proofs.{Filtered.kept_from, HistoryNumbers.none_missing}
+use Rattle.bolt_etcd.proofs.{HistorySteps.IsWritten, HistorySteps.each, HistorySteps.goes, HistorySteps.places_rise, OtherCounts.one_of_two}
+use Rattle.bolt_etcd.proofs.{WholeNames.no_faults}
 
 -- ---- buckets
 
@@ -22,7 +27,8 @@ no_line : (name : Key) (o : Option (List LeafElement)) → is_some o ≡ true �
 no_line name (Some entries) some = refl
 no_line name None some = cc
 
-no_bucket_lines : (store : StoreView) (names : List Key) → ((name : Key) → Contains names name → is_some (store.bucket name) ≡ true) → bucket_lines store names ≡ []
+no_bucket_lines : (store : StoreView) (names : List Key) → ((name : Key) → Contains names name → is_some (store.bucket name) ≡ true)
+    → bucket_lines store names ≡ []
 no_bucket_lines store [] there = refl
 no_bucket_lines store (name ∷ names) there =
     ap (λ (l : List (List ℕ)). l ++ bucket_lines store names) (no_line name (store.bucket name) (there name (contains_head name names)))
@@ -30,7 +36,8 @@ no_bucket_lines store (name ∷ names) there =
 
 -- ---- entries that are these revisions
 
-revisions_are : (entries : List LeafElement) (rs : List RevisionView) → map (λ (e : LeafElement). revision_of (entry_view e)) entries ≡ map Some rs → revisions entries ≡ rs
+revisions_are : (entries : List LeafElement) (rs : List RevisionView) → map (λ (e : LeafElement). revision_of (entry_view e)) entries ≡ map Some rs
+    → revisions entries ≡ rs
 revisions_are [] [] are = refl
 revisions_are [] (r ∷ rs) are = cc
 revisions_are (e ∷ entries) [] are = cc
@@ -45,7 +52,8 @@ no_other e r (Some x) is also =
     let one = sym (ap is_some also) ∙ one_of_two (entry_view e) ∙ ap (λ (o : Option RevisionView). not (is_some o)) is in
     cc
 
-no_others : (entries : List LeafElement) (rs : List RevisionView) → map (λ (e : LeafElement). revision_of (entry_view e)) entries ≡ map Some rs → others_of entries ≡ []
+no_others : (entries : List LeafElement) (rs : List RevisionView) → map (λ (e : LeafElement). revision_of (entry_view e)) entries ≡ map Some rs
+    → others_of entries ≡ []
 no_others [] rs are = refl
 no_others (e ∷ entries) [] are = cc
 no_others (e ∷ entries) (r ∷ rs) are =
@@ -65,11 +73,16 @@ module _ (compacted : ℕ) (ts : List Transaction) (keeps : RevisionView → Boo
   there : (r : RevisionView) → Contains (kept keeps ts) r → Contains (history ts) r
   there r has = (kept_from keeps (history ts) r has).0
 
+  kept_rises : Rises place_cmp (kept keeps ts)
+  kept_rises = filter_rises place_cmp keeps (history ts) (places_rise ts run)
+
   none_misplaced : misplaced (kept keeps ts) ≡ []
   none_misplaced =
-      filter_none is_misplaced (kept keeps ts) (λ r has. each (λ (s : RevisionView). is_misplaced s ≡ false) not_misplaced nothing 2 0 (history ts) (goes ts run) r (there r has))
+      filter_none is_misplaced (kept keeps ts) (λ r has.
+      each (λ (s : RevisionView). is_misplaced s ≡ false) not_misplaced nothing 2 0 (history ts) (goes ts run) r (there r has))
 
-  above_kept : (r : RevisionView) (b : Bool) → is_above compacted r ≡ b → Contains (history ts) r → (is_above compacted r && keeps r) ≡ is_above compacted r
+  above_kept : (r : RevisionView) (b : Bool) → is_above compacted r ≡ b → Contains (history ts) r
+      → (is_above compacted r && keeps r) ≡ is_above compacted r
   above_kept r true above has = rw (above, compaction.later r has (ltb-true compacted r.key.main above)) refl
   above_kept r false above has = rw above refl
 
@@ -77,7 +90,8 @@ module _ (compacted : ℕ) (ts : List Transaction) (keeps : RevisionView → Boo
   keys_kept =
       ap (map (λ (r : RevisionView). r.key))
       (filter_both (is_above compacted) keeps (history ts)
-      ∙ filter_same (λ (r : RevisionView). is_above compacted r && keeps r) (is_above compacted) (history ts) (λ r has. above_kept r (is_above compacted r) refl has))
+      ∙ filter_same (λ (r : RevisionView). is_above compacted r && keeps r) (is_above compacted) (history ts) (λ r has.
+      above_kept r (is_above compacted r) refl has))
 
   no_number : missing_numbers compacted (kept keeps ts) ≡ []
   no_number = ap (missing_after (max compacted 1) 0) keys_kept ∙ none_missing compacted nothing (history ts) (goes ts run)
@@ -94,7 +108,7 @@ module _ (compacted : ℕ) (ts : List Transaction) (keeps : RevisionView → Boo
     no_name_lines =
         ap (flat_map fault_lines)
         (none_of_any (name_faults (Some compacted) (store_granted store) None store.by_name) (λ name.
-        faults_named (Some compacted) (store_granted store) (kept keeps ts) store.by_name name (filter_rises place_cmp keeps (history ts) (places_rise ts run)) is.sorted
+        faults_named (Some compacted) (store_granted store) (kept keeps ts) store.by_name name kept_rises is.sorted
         ∙ no_faults compacted ts keeps run compaction name (store_granted store) (grants name)))
 
     pub nothing_found : store_lines store ≡ []

@@ -1,16 +1,17 @@
 -- The missing numbers tell exactly the revisions of a transaction that are missing.
-use Rattle.std.proofs.Common.{◌≡◌, ◌∙◌, ◌<◌, ◌≤◌, ◌+◌, ◌-◌, ◌⊎◌, ◌↔◌, inl, inr, ℕ, Bool, true, false, List, [], ◌∷◌, ◌++◌, cond, filter, map, max, nat_lt, ◌==◌, Some, None, refl, sym, ap, subst, arith}
+use Rattle.std.proofs.Common.{◌≡◌, ◌∙◌, ◌<◌, ◌≤◌, ◌+◌, ◌-◌, ◌⊎◌, ◌↔◌, inl, inr, ℕ, Bool, true, false, List, [], ◌∷◌, ◌++◌, cond, filter, map}
+use Rattle.std.proofs.Common.{max, nat_lt, ◌==◌, Some, None, refl, sym, ap, subst, arith}
 use Rattle.std.proofs.lemmas.Bool.{cases_lt, cases_order, eqb-false, eqb-true, lt-ltb, ltb-false, ltb-true}
 use Rattle.std.proofs.lemmas.Cmp.{nat_cmp_total, tied_itself}
 use Rattle.std.proofs.lemmas.List.Elements.{Contains-append_cases, Contains-append_left, Contains-append_right}
 use Rattle.std.specs.List.{Contains}
 use Rattle.std.specs.Option.{option_to_list}
-use Rattle.std.specs.Ordering.{bool_cmp, nat_cmp, ordering_then}
 use Rattle.std.specs.declared.cmp.Ordering.TheVariants.{Less}
 use Rattle.bolt_tree.proofs.{Filters.kept, Lists.contains_cases, Lists.contains_head, Lists.contains_none, Lists.contains_tail}
 use Rattle.bolt_tree.specs.Order.{Rises}
-use Rattle.bolt_etcd.specs.{Revisions.RevisionView, RevisionKeys.numbers_cmp, Told.number_cmp, ToldRevisions.IsMissingRevision, ToldRevisions.IsToldRevision, ToldRevisions.TellsRevision}
-use Rattle.bolt_etcd.specs.MissingNumbers.{is_above, keys_above, missing_after, missing_before, missing_numbers, revisions_between, transactions_between}
+use Rattle.bolt_etcd.specs.{Revisions.RevisionView, Told.number_cmp, ToldRevisions.IsMissingRevision, ToldRevisions.IsToldRevision}
+use Rattle.bolt_etcd.specs.{ToldRevisions.TellsRevision}
+use Rattle.bolt_etcd.specs.MissingNumbers.{is_above, missing_after, missing_before, missing_numbers, revisions_between, transactions_between}
 use Rattle.bolt_etcd.specs.declared.{missing.Missing.Missing, revision_key.RevisionKey.RevisionKey}
 use Rattle.bolt_etcd.specs.declared.missing.Missing.TheVariants.{Revisions, Transactions}
 use Rattle.bolt_etcd.proofs.{Filtered.filter_rises, Filtered.kept_from, KeyNumbers.greater}
@@ -19,7 +20,10 @@ module _ (t s : ℕ) where
   -- ---- what one gap tells
 
   told_cases : (xs ys : List Missing) → IsToldRevision t s (xs ++ ys) → IsToldRevision t s xs ⊎ IsToldRevision t s ys
-  told_cases xs ys (m, has, tells) = elim (Contains-append_cases xs ys m has) [ inl first ↦ inl (m, first, tells) | inr second ↦ inr (m, second, tells) ]
+  told_cases xs ys (m, has, tells) = elim (Contains-append_cases xs ys m has) [
+    | inl first ↦ inl (m, first, tells)
+    | inr second ↦ inr (m, second, tells)
+  ]
 
   told_first : (xs ys : List Missing) → IsToldRevision t s xs → IsToldRevision t s (xs ++ ys)
   told_first xs ys (m, has, tells) = (m, Contains-append_left xs ys m has, tells)
@@ -28,7 +32,10 @@ module _ (t s : ℕ) where
   told_second xs ys (m, has, tells) = (m, Contains-append_right xs ys m has, tells)
 
   told_one : (m : Missing) → IsToldRevision t s (m ∷ []) → TellsRevision t s m
-  told_one m (n, has, tells) = elim (contains_cases m n [] has) [ inl is ↦ subst (TellsRevision t s) (sym is) tells | inr none ↦ absurd (contains_none n none) ]
+  told_one m (n, has, tells) = elim (contains_cases m n [] has) [
+    | inl is ↦ subst (TellsRevision t s) (sym is) tells
+    | inr none ↦ absurd (contains_none n none)
+  ]
 
   told_none : IsToldRevision t s [] → ⊥
   told_none (n, has, tells) = contains_none n has
@@ -36,7 +43,10 @@ module _ (t s : ℕ) where
   told_revisions : (main from to : ℕ) (b : Bool) → nat_lt from to ≡ b
       → IsToldRevision t s (option_to_list (cond b (Some (Revisions main from (to - 1))) None)) ↔ ((main ≡ t) × (from ≤ s) × (s < to))
   told_revisions main from to true test = (
-    λ told. let (same, low, high) = told_one (Revisions main from (to - 1)) told in (same, low, (let lt = ltb-true from to test in omega (arith, high, lt))),
+    λ told.
+        let (same, low, high) = told_one (Revisions main from (to - 1)) told in
+        let lt = ltb-true from to test in
+        (same, low, (omega (arith, high, lt))),
     λ (same, low, high). (Revisions main from (to - 1), contains_head _ [], (same, low, omega (arith, high))),
   )
   told_revisions main from to false test = (
@@ -56,7 +66,8 @@ module _ (t s : ℕ) where
   IsIn k = (k.main ≡ t) × (s < k.sub)
 
   told_before : (main sub : ℕ) (k : RevisionKey) (b : Bool) → (k.main == main) ≡ b → main ≤ k.main
-      → IsToldRevision t s (cond b (option_to_list (revisions_between main sub k.sub)) (option_to_list (transactions_between main k.main) ++ option_to_list (revisions_between k.main 0 k.sub)))
+      → IsToldRevision t s (cond b (option_to_list (revisions_between main sub k.sub))
+      (option_to_list (transactions_between main k.main) ++ option_to_list (revisions_between k.main 0 k.sub)))
       ↔ (IsIn k × IsPast main sub)
   told_before main sub k true test le =
       let same = eqb-true k.main main test in
@@ -76,8 +87,8 @@ module _ (t s : ℕ) where
 
   -- ---- revisions in the order of their numbers
 
-  abbrev pub Follows : (main sub : ℕ) → RevisionView → Type 0
-  Follows main sub r = (main < r.key.main) ⊎ ((r.key.main ≡ main) × (sub ≤ r.key.sub + 1))
+  abbrev IsAfter : (main sub : ℕ) → RevisionView → Type 0
+  IsAfter main sub r = (main < r.key.main) ⊎ ((r.key.main ≡ main) × (sub ≤ r.key.sub + 1))
 
   abbrev keys : List RevisionView → List RevisionKey
   keys rs = map (λ (r : RevisionView). r.key) rs
@@ -89,7 +100,7 @@ module _ (t s : ℕ) where
     in_it : IsIn later.key
     none : (r : RevisionView) → Contains rs r → r.key.main ≡ t → r.key.sub ≡ s → ⊥
 
-  numbers_le : (a b : RevisionView) → number_cmp a b ≡ Less → Follows a.key.main (a.key.sub + 1) b
+  numbers_le : (a b : RevisionView) → number_cmp a b ≡ Less → IsAfter a.key.main (a.key.sub + 1) b
   numbers_le a b less = elim (cases_order a.key.main b.key.main) [
     | inl e ↦ elim (cases_lt b.key.sub a.key.sub) [
       | inl lt ↦ absurd (let back = rw (sym e, tied_itself nat_cmp_total a.key.main, greater a.key.sub b.key.sub lt) at less in cc)
@@ -99,11 +110,11 @@ module _ (t s : ℕ) where
     | inr (inr gt) ↦ absurd (let back = rw (greater a.key.main b.key.main gt) at less in cc)
   ]
 
-  le_main : (main sub : ℕ) (r : RevisionView) → Follows main sub r → main ≤ r.key.main
+  le_main : (main sub : ℕ) (r : RevisionView) → IsAfter main sub r → main ≤ r.key.main
   le_main main sub r (inl lt) = omega (arith, lt)
   le_main main sub r (inr (e, le)) = omega (arith, e)
 
-  past_before : (main sub : ℕ) (r : RevisionView) → Follows main sub r → IsPast r.key.main (r.key.sub + 1) → IsPast main sub
+  past_before : (main sub : ℕ) (r : RevisionView) → IsAfter main sub r → IsPast r.key.main (r.key.sub + 1) → IsPast main sub
   past_before main sub r (inl lt) (inl up) = inl (omega (arith, lt, up))
   past_before main sub r (inl lt) (inr (e, le)) = inl (omega (arith, lt, e))
   past_before main sub r (inr (same, low)) (inl up) = inl (omega (arith, same, up))
@@ -137,12 +148,16 @@ module _ (t s : ℕ) where
   gap_rest : (r : RevisionView) (rs : List RevisionView) → IsGap (r ∷ rs) → (IsIn r.key → ⊥) → IsGap rs
   gap_rest r rs gap not_in = record {
     later = gap.later;
-    there = elim (contains_cases r gap.later rs gap.there) [ inl one ↦ absurd (not_in (subst (λ (y : RevisionView). IsIn y.key) (sym one) gap.in_it)) | inr more ↦ more ];
+    there = elim (contains_cases r gap.later rs gap.there) [
+      | inl one ↦ absurd (not_in (subst (λ (y : RevisionView). IsIn y.key) (sym one) gap.in_it))
+      | inr more ↦ more
+    ];
     in_it = gap.in_it;
     none = λ x has. gap.none x (contains_tail r x rs has);
   }
 
-  gap_cases : (r : RevisionView) (rs : List RevisionView) → Rises number_cmp (r ∷ rs) → IsGap (r ∷ rs) → IsIn r.key ⊎ (IsGap rs × IsPast r.key.main (r.key.sub + 1))
+  gap_cases : (r : RevisionView) (rs : List RevisionView) → Rises number_cmp (r ∷ rs) → IsGap (r ∷ rs)
+      → IsIn r.key ⊎ (IsGap rs × IsPast r.key.main (r.key.sub + 1))
   gap_cases r rs rises gap = elim (cases_order r.key.main t) [
     | inl same ↦ elim (cases_order s r.key.sub) [
       | inl e ↦ absurd (gap.none r (contains_head r rs) same (sym e))
@@ -158,7 +173,7 @@ module _ (t s : ℕ) where
         ])
   ]
 
-  told_exactly : (main sub : ℕ) (rs : List RevisionView) → Rises number_cmp rs → ((r : RevisionView) → Contains rs r → Follows main sub r)
+  told_exactly : (main sub : ℕ) (rs : List RevisionView) → Rises number_cmp rs → ((r : RevisionView) → Contains rs r → IsAfter main sub r)
       → IsToldRevision t s (missing_after main sub (keys rs)) ↔ (IsGap rs × IsPast main sub)
   unfolding missing_before
   told_exactly main sub [] rises follow = (λ told. absurd (told_none told), λ (gap, past). absurd (contains_none gap.later gap.there))
@@ -188,8 +203,10 @@ module _ (t s : ℕ) where
     later_is : (r : RevisionView) → Contains rs r → compacted < r.key.main → Contains above r
     later_is r has lt = kept (is_above compacted) rs r has (lt-ltb compacted r.key.main lt)
 
-    begins : (r : RevisionView) → Contains above r → Follows (max compacted 1) 0 r
-    begins r has = let lt = (is_later r has).1 in elim (cases_lt (max compacted 1) r.key.main) [ inl up ↦ inl up | inr le ↦ inr (omega (arith, lt, le), omega arith) ]
+    begins : (r : RevisionView) → Contains above r → IsAfter (max compacted 1) 0 r
+    begins r has =
+        let lt = (is_later r has).1 in
+        elim (cases_lt (max compacted 1) r.key.main) [ inl up ↦ inl up | inr le ↦ inr (omega (arith, lt, le), omega arith) ]
 
     past : compacted < t → IsPast (max compacted 1) 0
     past lt = elim (cases_lt (max compacted 1) t) [ inl up ↦ inl up | inr le ↦ inr (omega (arith, lt, le), omega arith) ]

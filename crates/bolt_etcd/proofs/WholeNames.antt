@@ -1,5 +1,6 @@
 -- Of what a compaction keeps of one name nothing is missing.
-use Rattle.std.proofs.Common.{◌≡◌, ◌∙◌, ◌<◌, ◌++◌, ◌&&◌, ◌||◌, ◌==◌, ◌≢◌, ℕ, Bool, true, false, List, [], ◌∷◌, filter, inl, inr, not, Option, Some, None, refl, sym, ap, subst, arith}
+use Rattle.std.proofs.Common.{◌≡◌, ◌∙◌, ◌<◌, ◌++◌, ◌&&◌, ◌||◌, ◌==◌, ◌≢◌, ℕ, Bool, true, false, List, [], ◌∷◌, filter, inl, inr, not, Option}
+use Rattle.std.proofs.Common.{Some, None, refl, sym, ap, subst, arith}
 use Rattle.std.proofs.lemmas.Bool.{and_left, and_right, cond-false, cond-true, eqb-false, ltb-true}
 use Rattle.std.specs.Cmp.Lexicographic.{same_text}
 use Rattle.std.specs.List.{Contains, last_or}
@@ -7,11 +8,17 @@ use Rattle.std.specs.Str.{bytes_eq}
 use Rattle.bolt_check.specs.Keys.{Key}
 use Rattle.bolt_tree.proofs.Lists.{contains_cases, contains_head, contains_tail}
 use Rattle.bolt_tree.specs.Order.{Rises}
-use Rattle.bolt_etcd.specs.{Compactions.IsCompaction, Compactions.kept, Follows.creates, Follows.follows, Histories.Delete, Histories.Put, Histories.State, Histories.Transaction, Histories.after_all, Histories.history, Histories.nothing}
-use Rattle.bolt_etcd.specs.{MissingNumbers.is_above, NameFaults.before_of, NameFaults.is_newest, NameFaults.lacks_lease, NameFaults.lacks_one_before, NameFaults.name_faults, Newest.is_named, Newest.newest, Revisions.RevisionView, Revisions.name_of}
+use Rattle.bolt_etcd.specs.{Compactions.IsCompaction, Compactions.kept, Follows.follows, Histories.Delete, Histories.Put}
+use Rattle.bolt_etcd.specs.{Histories.State, Histories.Transaction, Histories.after_all, Histories.history, Histories.nothing}
+use Rattle.bolt_etcd.specs.{MissingNumbers.is_above, NameFaults.before_of, NameFaults.is_newest, NameFaults.lacks_lease}
+use Rattle.bolt_etcd.specs.{NameFaults.lacks_one_before, NameFaults.name_faults, Newest.is_named, Newest.newest, Revisions.RevisionView}
+use Rattle.bolt_etcd.specs.{Revisions.name_of}
 use Rattle.bolt_etcd.specs.{Runs.IsRun, Told.number_cmp}
-use Rattle.bolt_etcd.proofs.{Filtered.filter_rises, Filtered.kept_from, HistorySteps.IsWritten, HistorySteps.each, HistorySteps.goes, HistorySteps.history_rises, HistorySteps.numbers_rise}
-use Rattle.bolt_etcd.proofs.{KeptOfNames.IsCut, KeptOfNames.cut, KeptOfNames.last_in, MissingExact.main_le, NameHistories.AllFollow, NameHistories.all_follow, NameHistories.held_of, NameHistories.newest_held}
+use Rattle.bolt_etcd.proofs.{Filtered.filter_rises, Filtered.kept_from, HistorySteps.IsWritten, HistorySteps.each, HistorySteps.goes}
+use Rattle.bolt_etcd.proofs.{HistorySteps.history_rises, HistorySteps.numbers_rise}
+use Rattle.bolt_etcd.proofs.{KeptOfNames.IsCut, KeptOfNames.cut, KeptOfNames.last_in, MissingExact.main_le, NameHistories.AllFollow}
+use Rattle.bolt_etcd.proofs.{NameHistories.all_follow, NameHistories.follows_held, NameHistories.follows_is, NameHistories.held_of}
+use Rattle.bolt_etcd.proofs.{NameHistories.newest_held}
 
 -- ---- each later one follows the one before
 
@@ -29,13 +36,7 @@ follow_last o (x ∷ xs) ys (here, more) = follow_last (Some x) xs ys more
 
 -- upon nothing or a deletion it is written alike
 upon_none : (o : Option RevisionView) (r : RevisionView) → held_of o ≡ None → follows o r ≡ follows None r
-unfolding follows
-upon_none None r none = refl
-upon_none (Some before) r none = by before.key.deleted refl
-  where
-    by : (b : Bool) → before.key.deleted ≡ b → follows (Some before) r ≡ follows None r
-    by true is = cond-true before.key.deleted (creates r) _ is
-    by false is = let some = sym (cond-false before.key.deleted None (Some before) is) ∙ none in cc
+upon_none o r none = follows_is o r ∙ ap (λ (h : Option RevisionView). follows_held h r) none ∙ sym (follows_is None r)
 
 last_some : (o : Option RevisionView) (rs : List RevisionView) (r : RevisionView) → last_or None rs ≡ Some r → last_or o rs ≡ Some r
 last_some o [] r e = cc
@@ -45,7 +46,8 @@ pub last_of_both : (o : Option RevisionView) (xs ys : List RevisionView) → las
 last_of_both o [] ys = refl
 last_of_both o (x ∷ xs) ys = last_of_both (Some x) xs ys
 
-all_later : (compacted : ℕ) (r : RevisionView) (rs : List RevisionView) → Rises number_cmp (r ∷ rs) → compacted < r.key.main → (s : RevisionView) → Contains (r ∷ rs) s → compacted < s.key.main
+all_later : (compacted : ℕ) (r : RevisionView) (rs : List RevisionView) → Rises number_cmp (r ∷ rs) → compacted < r.key.main → (s : RevisionView)
+    → Contains (r ∷ rs) s → compacted < s.key.main
 all_later compacted r rs rise lt s has = elim (contains_cases r s rs has) [
   | inl same ↦ subst (λ (x : RevisionView). compacted < x.key.main) same lt
   | inr more ↦ (let le = main_le r.key s.key (rise.0 s more) in omega (arith, le, lt))
@@ -71,17 +73,21 @@ no_lease : (state : State) (r : RevisionView) → IsWritten state r → HasNoLea
 no_lease state r (Put name value lease, can, is) deleted = let put = ap (λ (x : RevisionView). x.key.deleted) is in cc
 no_lease state r (Delete name, can, is) deleted = ap (λ (x : RevisionView). x.content.lease) is
 
-module _ (compacted : ℕ) (ts : List Transaction) (keeps : RevisionView → Bool) (run : IsRun ts) (compaction : IsCompaction compacted ts keeps) (name : Key) where
-  abbrev pub own_kept : List RevisionView
+module _ (compacted : ℕ) (ts : List Transaction) (keeps : RevisionView → Bool) (run : IsRun ts) (compaction : IsCompaction compacted ts keeps)
+    (name : Key) where
+  abbrev own_kept : List RevisionView
   own_kept = filter (is_named name) (kept keeps ts)
 
-  pub own_rise : Rises number_cmp own_kept
-  own_rise = filter_rises number_cmp (is_named name) (kept keeps ts) (filter_rises number_cmp keeps (history ts) (numbers_rise (history ts) (history_rises ts run)))
+  own_rise : Rises number_cmp own_kept
+  own_rise =
+      filter_rises number_cmp (is_named name) (kept keeps ts)
+      (filter_rises number_cmp keeps (history ts) (numbers_rise (history ts) (history_rises ts run)))
 
   all_own : AllFollow None (filter (is_named name) (history ts))
   all_own = all_follow name nothing 2 0 (history ts) None (goes ts run) refl
 
-  rest_follow : (removed rest : List RevisionView) → IsCut compacted ts keeps run compaction name removed rest → Rises number_cmp rest → AllFollow None (removed ++ rest) → LaterFollow compacted None rest
+  rest_follow : (removed rest : List RevisionView) → IsCut compacted ts keeps run compaction name removed rest → Rises number_cmp rest
+      → AllFollow None (removed ++ rest) → LaterFollow compacted None rest
   rest_follow removed [] is rise all = tt
   rest_follow removed (r ∷ rs) is rise all =
       let (here, more) = follow_last None removed (r ∷ rs) all in (
@@ -100,13 +106,14 @@ module _ (compacted : ℕ) (ts : List Transaction) (keeps : RevisionView → Boo
   abbrev Grants : (ℕ → Bool) → Type 0
   Grants granted = (r : RevisionView) → after_all (history ts) nothing name ≡ Some r → r.content.lease ≢ 0 → granted r.content.lease ≡ true
 
-  pub newest_kept : (r : RevisionView) → last_or None own_kept ≡ Some r → newest name (history ts) ≡ Some r
+  newest_kept : (r : RevisionView) → last_or None own_kept ≡ Some r → newest name (history ts) ≡ Some r
   unfolding newest
   newest_kept r e =
       let (removed, rest, is) = cut compacted ts keeps run compaction name in
       ap (last_or None) is.joined ∙ last_of_both None removed rest ∙ last_some (last_or None removed) rest r (ap (last_or None) (sym is.is_rest) ∙ e)
 
-  lease_there : (granted : ℕ → Bool) → Grants granted → (r : RevisionView) → last_or None own_kept ≡ Some r → (zero none : Bool) → (r.content.lease == 0) ≡ zero → r.key.deleted ≡ none
+  lease_there : (granted : ℕ → Bool) → Grants granted → (r : RevisionView) → last_or None own_kept ≡ Some r → (zero none : Bool)
+      → (r.content.lease == 0) ≡ zero → r.key.deleted ≡ none
       → lacks_lease granted r ≡ false
   lease_there granted grants r e true none test deleted = and_left _ _ (ap not test)
   lease_there granted grants r e false true test deleted = elim (last_in None own_kept r e) [
@@ -122,21 +129,26 @@ module _ (compacted : ℕ) (ts : List Transaction) (keeps : RevisionView → Boo
   -- ---- so it has no fault
 
   module _ (granted : ℕ → Bool) where
-    none_before : (o : Option RevisionView) (r : RevisionView) (b : Bool) → is_above compacted r ≡ b → before_of o r ≡ o → (compacted < r.key.main → follows o r ≡ true)
+    none_before : (o : Option RevisionView) (r : RevisionView) (b : Bool) → is_above compacted r ≡ b → before_of o r ≡ o
+        → (compacted < r.key.main → follows o r ≡ true)
         → lacks_one_before (Some compacted) o r ≡ false
-    none_before o r true above is here = and_right _ _ (ap not (ap (λ (x : Option RevisionView). follows x r) is ∙ here (ltb-true compacted r.key.main above)))
+    none_before o r true above is here =
+        and_right _ _ (ap not (ap (λ (x : Option RevisionView). follows x r) is ∙ here (ltb-true compacted r.key.main above)))
     none_before o r false above is here = and_left _ _ above
 
-    none_of_lease : (r : RevisionView) (rs : List RevisionView) → ((s : RevisionView) → Contains (r ∷ rs) s → is_named name s ≡ true) → ((s : RevisionView) → last_or (Some r) rs ≡ Some s → lacks_lease granted s ≡ false)
+    none_of_lease : (r : RevisionView) (rs : List RevisionView) → ((s : RevisionView) → Contains (r ∷ rs) s → is_named name s ≡ true)
+        → ((s : RevisionView) → last_or (Some r) rs ≡ Some s → lacks_lease granted s ≡ false)
         → (is_newest r rs && lacks_lease granted r) ≡ false
     none_of_lease r [] own lease = lease r refl
     none_of_lease r (x ∷ rs) own lease =
-        and_left _ _ (ap not (ap (bytes_eq (name_of x)) (same_text (name_of r) name (sym (own r (contains_head r (x ∷ rs))))) ∙ own x (contains_tail r x (x ∷ rs) (contains_head x rs))))
+        let same = same_text (name_of r) name (sym (own r (contains_head r (x ∷ rs)))) in
+        and_left _ _ (ap not (ap (bytes_eq (name_of x)) same ∙ own x (contains_tail r x (x ∷ rs) (contains_head x rs))))
 
     neither : (a b : Bool) → a ≡ false → b ≡ false → (a || b) ≡ false
     neither a b first second = rw (first, second) refl
 
-    no_fault : (o : Option RevisionView) (rs : List RevisionView) → IsOwn name o → ((s : RevisionView) → Contains rs s → is_named name s ≡ true) → LaterFollow compacted o rs
+    no_fault : (o : Option RevisionView) (rs : List RevisionView) → IsOwn name o → ((s : RevisionView) → Contains rs s → is_named name s ≡ true)
+        → LaterFollow compacted o rs
         → ((s : RevisionView) → last_or o rs ≡ Some s → lacks_lease granted s ≡ false) → name_faults (Some compacted) granted o rs ≡ []
     no_fault o [] is own follow lease = refl
     no_fault o (r ∷ rs) is own follow lease =

@@ -5,7 +5,8 @@ use Rattle.std.specs.Prelude.{◌≡◌, ◌<◌, ℕ, Bool, IsTrue, List, Some,
 use Rattle.std.specs.List.{Contains}
 use Rattle.std.specs.declared.cmp.Ordering.TheVariants.{Less}
 use Rattle.bolt_check.specs.Keys.{Key}
-use Rattle.bolt_etcd.specs.{Current.place_cmp, Histories.Transaction, Histories.history, Histories.state_at, Revisions.RevisionView, Revisions.name_of}
+use Rattle.bolt_etcd.specs.{Current.place_cmp, Histories.Transaction, Histories.history, Histories.state_at, Revisions.RevisionView}
+use Rattle.bolt_etcd.specs.{Revisions.name_of}
 
 -- of a compaction at transaction `compacted` of these transactions: whether it keeps a revision
 pub record IsCompaction (compacted : ℕ) (ts : List Transaction) (keeps : RevisionView → Bool) : Type 0 where

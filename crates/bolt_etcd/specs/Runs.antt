@@ -1,8 +1,10 @@
 -- Which transactions etcd runs, from an empty store on.
 use Rattle.std.specs.Prelude.{◌<◌, ◌+◌, ℕ, IsSome, List, [], ◌∷◌, length}
 use Rattle.std.specs.List.{Contains}
-use Rattle.bolt_etcd.specs.{Histories.Delete, Histories.Put, Histories.State, Histories.Transaction, Histories.Write, Histories.after, Histories.after_all}
-use Rattle.bolt_etcd.specs.{Histories.history, Histories.nothing, Histories.revision_by, Histories.written, RevisionKeys.IsSpelled, Revisions.RevisionView}
+use Rattle.bolt_etcd.specs.{Histories.Delete, Histories.Put, Histories.State, Histories.Transaction, Histories.Write, Histories.after}
+use Rattle.bolt_etcd.specs.{Histories.after_all}
+use Rattle.bolt_etcd.specs.{Histories.history, Histories.nothing, Histories.revision_by, Histories.written, RevisionKeys.IsSpelled}
+use Rattle.bolt_etcd.specs.{Revisions.RevisionView}
 
 -- a name is deleted only if it is there
 abbrev pub CanWrite : State → Write → Type 0
