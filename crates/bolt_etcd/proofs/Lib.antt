@@ -1,4 +1,5 @@
 pub mod ByName
+pub mod CompactionsAdded
 pub mod Currents
 pub mod EtcdCompacts
 pub mod FaultsOfNames

@@ -7,7 +7,8 @@ use Rattle.bolt_tree.specs.Entries.{entry_view}
 use Rattle.bolt_etcd.specs.{Histories.Transaction, Histories.state_after, NameFaults.AreByName, Revisions.RevisionView, Revisions.revision_of}
 use Rattle.bolt_etcd.specs.{StoreBuckets.StoreView, StoreFaults.bucket_names, StoreFaults.store_compacted, StoreFaults.store_granted}
 
--- It has each bucket that a store has, and knows the transaction of the last compaction. The entries of its bucket `key` are these revisions.
+-- It has each bucket that a store has, and was compacted at this transaction, or never if it is 0. The entries of its bucket `key` are these
+-- revisions.
 pub record HoldsExactly (store : StoreView) (compacted : ℕ) (rs : List RevisionView) : Type 0 where
   pub buckets : (name : Key) → Contains bucket_names name → IsSome (store.bucket name)
   pub compacted_at : store_compacted store ≡ Some compacted
@@ -16,7 +17,7 @@ pub record HoldsExactly (store : StoreView) (compacted : ℕ) (rs : List Revisio
   pub revisions : map (λ e. revision_of (entry_view e)) entries ≡ map Some rs
   pub sorted : AreByName rs store.by_name
 
--- each lease is there that a name has after these transactions; 0 is none
+-- each lease that a name has after these transactions is there; lease 0 is none
 abbrev pub GrantsLeases : StoreView → List Transaction → Type 0
 GrantsLeases store ts =
     (name : Key) (r : RevisionView) → state_after ts name ≡ Some r → r.content.lease ≢ 0 → IsTrue (store_granted store r.content.lease)

@@ -1,5 +1,5 @@
 //! What the definitions imply.
-ghost use Rattle.std.specs.Prelude.{◌≡◌, ◌≢◌, ◌≤◌, ◌<◌, ◌↔◌, Contains, ℕ, Bool, List, [], ◌∷◌, None, Some, codes, false, length, not, true};
+ghost use Rattle.std.specs.Prelude.{◌≡◌, ◌≢◌, ◌≤◌, ◌<◌, ◌↔◌, Contains, ℕ, ◌&&◌, Bool, List, [], ◌∷◌, None, Some, codes, false, length, not, true};
 ghost use Rattle.std.specs.Option.{is_some};
 ghost use Rattle.bolt_check.specs.Keys.{key_cmp};
 ghost use Rattle.bolt_check.specs.Sound.{HasSoundTrees};
@@ -66,14 +66,6 @@ pub fn a_root_bucket_has_one_store()
         → ((name : List ℕ) → other.bucket name ≡ store.bucket name) × (other.by_name ≡ store.by_name)) }
 {}
 
-/// `etcd-check` finds nothing in a store from which nothing is missing: its revisions are those of
-/// transactions that etcd ran, but for what a compaction removed, and each lease that a key has is
-/// there.
-pub fn nothing_is_found_in_a_whole_store()
-    ensures { (ts : List Transaction) (compacted : ℕ) (keeps : RevisionView → Bool) (store : StoreView)
-        → IsRun ts → IsCompaction compacted ts keeps → HoldsExactly store compacted (kept keeps ts) → GrantsLeases store ts → store_lines store ≡ [] }
-{}
-
 /// If revisions are in the order of their numbers, the missing numbers tell that a revision of a
 /// transaction is missing exactly if it is: its transaction is after the compaction, a later revision
 /// of that is there, and it isn't.
@@ -82,10 +74,40 @@ pub fn missing_revisions_are_told_exactly()
         → IsToldRevision t sub (missing_numbers compacted rs) ↔ IsMissingRevision compacted t sub rs }
 {}
 
-/// A revision of a later transaction than the last compaction that is taken away from a whole store is
-/// found: by its number, if a later one of its transaction is there; by its transaction's, if it was
-/// the only one of that, and a later transaction is there; and by the next revision of its name, unless
-/// that is a deletion, and a put comes before both.
+/// An example of a run: the revisions that it makes, what a name holds after each transaction, and
+/// what old and new versions of etcd keep in a compaction.
+pub fn an_example_of_a_run()
+    ensures runs { IsRun small_run }
+    ensures writes { history small_run ≡ first_a ∷ first_b ∷ deletion_of_a ∷ second_b ∷ second_a ∷ [] }
+    ensures held { (state_at 2 small_run (codes "a") ≡ Some first_a) × (state_at 3 small_run (codes "a") ≡ None) × (state_at 4 small_run (codes "a") ≡ Some second_a) }
+    ensures kept_by_old { kept (etcd_keeps false 3 (history small_run)) small_run ≡ first_b ∷ second_b ∷ second_a ∷ [] }
+    ensures kept_by_new { kept (etcd_keeps true 3 (history small_run)) small_run ≡ first_b ∷ deletion_of_a ∷ second_b ∷ second_a ∷ [] }
+{}
+
+/// What an old or a new version of etcd keeps in a compaction is a compaction as `IsCompaction`
+/// defines it.
+pub fn what_etcd_keeps_is_a_compaction()
+    ensures { (ts : List Transaction) (new : Bool) (compacted : ℕ) → IsRun ts → IsCompaction compacted ts (etcd_keeps new compacted (history ts)) }
+{}
+
+/// Two compactions of a run are one: that at the later transaction.
+pub fn two_compactions_are_one()
+    ensures { (ts : List Transaction) (early late : ℕ) (first second : RevisionView → Bool)
+        → early ≤ late → IsCompaction early ts first → IsCompaction late ts second → IsCompaction late ts (λ r. first r && second r) }
+{}
+
+/// `etcd-check` prints no line of a store from which nothing is missing: it has the revisions of
+/// transactions that etcd ran, but for those that a compaction removed, and each lease that a name has.
+pub fn nothing_is_found_in_a_whole_store()
+    ensures { (ts : List Transaction) (compacted : ℕ) (keeps : RevisionView → Bool) (store : StoreView)
+        → IsRun ts → IsCompaction compacted ts keeps → HoldsExactly store compacted (kept keeps ts) → GrantsLeases store ts → store_lines store ≡ [] }
+{}
+
+/// If one revision after the compaction is taken away from such a store, it is found:
+///
+/// - by its number, if a later one of its transaction is there;
+/// - by the number of its transaction, if no other one of that is there, but a later transaction is;
+/// - by the next revision of its name, unless that is a deletion, and a put comes before both.
 pub fn a_revision_that_is_taken_away_is_found()
     ensures by_number { (ts : List Transaction) (compacted : ℕ) (keeps : RevisionView → Bool) (r later : RevisionView) (left : List RevisionView)
         → IsRun ts → IsTaken compacted (kept keeps ts) r left
@@ -101,24 +123,10 @@ pub fn a_revision_that_is_taken_away_is_found()
         → (granted : ℕ → Bool) → TellsOneBefore next (name_faults (Some compacted) granted None by_name) }
 {}
 
-/// The keys that there are in a whole store at a transaction, if it isn't before the last compaction,
-/// are exactly what the names held after that transaction.
+/// The keys that there are in such a store at a transaction, if it isn't before the compaction, are
+/// exactly what the names held after that transaction.
 pub fn keys_are_what_names_held()
     ensures { (ts : List Transaction) (compacted at : ℕ) (keeps : RevisionView → Bool) (current : List RevisionView)
         → IsRun ts → IsCompaction compacted ts keeps → compacted ≤ at
         → AreCurrent (until at (kept keeps ts)) current ↔ AreHeld (state_at at ts) current }
-{}
-
-/// What etcd keeps in a compaction is one in this sense, whatever its version.
-pub fn etcd_compacts_so()
-    ensures { (ts : List Transaction) (new : Bool) (compacted : ℕ) → IsRun ts → IsCompaction compacted ts (etcd_keeps new compacted (history ts)) }
-{}
-
-/// An example of a run, and of what old and new versions of etcd keep of it.
-pub fn a_small_run_is_written_so()
-    ensures runs { IsRun small_run }
-    ensures writes { history small_run ≡ first_a ∷ first_b ∷ deletion_of_a ∷ second_b ∷ second_a ∷ [] }
-    ensures held { (state_at 2 small_run (codes "a") ≡ Some first_a) × (state_at 3 small_run (codes "a") ≡ None) × (state_at 4 small_run (codes "a") ≡ Some second_a) }
-    ensures kept_by_old { kept (etcd_keeps false 3 (history small_run)) small_run ≡ first_b ∷ second_b ∷ second_a ∷ [] }
-    ensures kept_by_new { kept (etcd_keeps true 3 (history small_run)) small_run ≡ first_b ∷ deletion_of_a ∷ second_b ∷ second_a ∷ [] }
 {}

@@ -2,7 +2,7 @@ use Rattle.std.proofs.Common.{arith, refl}
 use Rattle.bolt_etcd.specs.{Histories.history, Newest.newest, RevisionKeys.IsSpelled, RevisionKeys.spelling, Revisions.RevisionView}
 use Rattle.bolt_etcd.specs.{Runs.IsRun, SmallRun.small_run}
 use Rattle.bolt_etcd.proofs.NewestOfNames.{all_at}
-use Rattle.bolt_etcd.proofs.laws.a_small_run_is_written_so.Goals as goal
+use Rattle.bolt_etcd.proofs.laws.an_example_of_a_run.Goals as goal
 
 runs : IsRun small_run
 runs = record {
