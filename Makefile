@@ -39,7 +39,7 @@ examples: $(PROGRAM)
 	tools/try/examples.sh $(PROGRAM)
 
 # Runs the programs that the READMEs of crates show, without their proofs.
-PROGRAMS = $(wildcard $(patsubst %,crates/bolt_%/README.md,bulk check commands format job load recover report stats text tree))
+PROGRAMS = $(wildcard $(patsubst %,crates/bolt_%/README.md,bulk check commands etcd format job load recover report stats text tree))
 programs:
 	python3 -B tools/usage/run_programs.py $(PROGRAMS)
 

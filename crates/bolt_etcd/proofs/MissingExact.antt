@@ -100,7 +100,7 @@ told_exactly t main sub (k ∷ ks) (le, from) =
 
 -- ---- the keys of later transactions
 
-main_le : (a b : RevisionKey) → numbers_cmp a b ≡ Less → a.main ≤ b.main
+pub main_le : (a b : RevisionKey) → numbers_cmp a b ≡ Less → a.main ≤ b.main
 main_le a b less = elim (cases_lt b.main a.main) [
   | inl lt ↦ absurd (let e = rw (greater a.main b.main lt) at less in cc)
   | inr le ↦ le

@@ -78,3 +78,9 @@ by_name_once rs a b rises is also =
 pub current_once : (rs a b : List RevisionView) → AreCurrent rs a → AreCurrent rs b → a ≡ b
 current_once rs a b is also =
     rises_once (on_total name_of nat_list_cmp_total) a b is.rises also.rises (λ r has. (also.exact r).1 ((is.exact r).0 has)) (λ r has. (is.exact r).1 ((also.exact r).0 has))
+
+-- sorted by name, none is there twice
+pub by_name_rises : (rs sorted : List RevisionView) → Rises place_cmp rs → AreByName rs sorted → Rises by_name_cmp sorted
+by_name_rises rs sorted rises is =
+    sorted_rises by_name_total sorted
+    (moved_distinct by_name_total rs sorted is.same (differ by_name_total place_cmp (λ x y less. then_apart (name_cmp x y) _ less) rs rises)) is.rises

@@ -1,0 +1,95 @@
+-- What etcd keeps in a compaction is what the names held then, and the older ones of a name go first.
+use Rattle.std.proofs.Common.{◌≡◌, ◌∙◌, ◌⊎◌, ◌<◌, ◌≤◌, ℕ, Bool, true, List, [], ◌∷◌, filter, inl, inr, not, Option, Some, None, refl, sym, ap}
+use Rattle.std.proofs.Common.{subst, arith}
+use Rattle.std.proofs.lemmas.Bool.{and_from, and_parts, cases_lt, lt-ltb, ltb-true, or_cases, or_left, or_right}
+use Rattle.std.proofs.lemmas.Cmp.{nat_list_cmp_total, on_total}
+use Rattle.std.proofs.lemmas.Option.{same_Some}
+use Rattle.std.specs.Cmp.{IsTotalOrder}
+use Rattle.std.specs.Cmp.Lexicographic.{same_text}
+use Rattle.std.specs.List.{Contains, last_or}
+use Rattle.std.specs.declared.cmp.Ordering.TheVariants.{Less}
+use Rattle.bolt_check.specs.Keys.{Key}
+use Rattle.bolt_tree.proofs.{Filters.kept as passes, Lists.asymmetric, Lists.contains_cases, Lists.contains_none, Lists.irreflexive}
+use Rattle.bolt_tree.specs.Order.{Rises}
+use Rattle.bolt_etcd.specs.{Compactions.IsCompaction, Current.place_cmp, EtcdCompactions.etcd_keeps, EtcdCompactions.is_same}
+use Rattle.bolt_etcd.specs.{Histories.Transaction, Histories.history, Histories.state_at}
+use Rattle.bolt_etcd.specs.{Newest.is_named, Newest.is_until, Newest.newest, Newest.until, Revisions.RevisionView, Revisions.name_of, Runs.IsRun}
+use Rattle.bolt_etcd.proofs.{Filtered.filter_rises, Filtered.kept_from, HistorySteps.places_rise, HistorySteps.same_order}
+use Rattle.bolt_etcd.proofs.{HistoryUntil.held_at, HistoryUntil.until_early, KeptOfNames.last_in, MissingExact.main_le, NameHistories.held_parts}
+use Rattle.bolt_etcd.proofs.StoreLemmas.{itself}
+
+places_total : IsTotalOrder place_cmp
+places_total = on_total (λ (r : RevisionView). r.place) nat_list_cmp_total
+
+last_after : (o : Option RevisionView) (rs : List RevisionView) (last r : RevisionView) → Rises place_cmp rs → last_or o rs ≡ Some last
+    → Contains rs r → (r ≡ last) ⊎ (place_cmp r last ≡ Less)
+last_after o [] last r rises e has = absurd (contains_none r has)
+last_after o (x ∷ rs) last r rises e has = elim (contains_cases x r rs has) [
+  | inl same ↦ elim (last_in (Some x) rs last e) [
+    | inl is ↦ inl (sym same ∙ same_Some x last is)
+    | inr more ↦ inr (subst (λ (y : RevisionView). place_cmp y last ≡ Less) same (rises.0 last more))
+  ]
+  | inr more ↦ last_after (Some x) rs last r rises.1 e more
+]
+
+module _ (ts : List Transaction) (new : Bool) (compacted : ℕ) (run : IsRun ts) where
+  abbrev keeps : RevisionView → Bool
+  keeps r = etcd_keeps new compacted (history ts) r
+
+  abbrev own : Key → List RevisionView
+  own name = filter (is_named name) (until compacted (history ts))
+
+  is_own : (name : Key) (r : RevisionView) → Contains (history ts) r → name_of r ≡ name → r.key.main ≤ compacted → Contains (own name) r
+  is_own name r has same le =
+      let early = passes (is_until compacted) (history ts) r has (until_early compacted r le) in
+      passes (is_named name) (until compacted (history ts)) r early (rw same (itself name))
+
+  own_rise : (name : Key) → Rises place_cmp (own name)
+  own_rise name = filter_rises place_cmp (is_named name) _ (filter_rises place_cmp (is_until compacted) (history ts) (places_rise ts run))
+
+  -- none of its name is between the newest one and the compaction
+  none_after : (a b : RevisionView) (o : Option RevisionView) → last_or None (own (name_of a)) ≡ o → is_same a o ≡ true
+      → Contains (own (name_of a)) b → place_cmp a b ≡ Less → ⊥
+  none_after a b None e same has less = cc
+  none_after a b (Some last) e same has less =
+      let place = same_text last.place a.place (sym same) in
+      let up : place_cmp last b ≡ Less = rw place less in
+      elim (last_after None (own (name_of a)) last b (own_rise (name_of a)) e has) [
+        | inl is ↦ irreflexive places_total last (subst (λ (x : RevisionView). place_cmp last x ≡ Less) is up)
+        | inr back ↦ asymmetric places_total last b up back
+      ]
+
+  keeps_later : (r : RevisionView) → compacted < r.key.main → keeps r ≡ true
+  keeps_later r lt = or_left _ _ (lt-ltb compacted r.key.main lt)
+
+  keeps_held : (name : Key) (r : RevisionView) → state_at compacted ts name ≡ Some r → keeps r ≡ true
+  unfolding newest
+  keeps_held name r holds =
+      let held = sym (held_at compacted ts name) ∙ holds in
+      let (last, live) = held_parts (last_or None (own name)) r held in
+      elim (last_in None (own name) r last) [
+        | inl nowhere ↦ cc
+        | inr has ↦
+            let named = same_text (name_of r) name (sym (kept_from (is_named name) _ r has).1) in
+            let same = ap (is_same r) (ap (λ (n : Key). last_or None (own n)) named ∙ last) ∙ itself r.place in
+            or_right _ _ (and_from _ _ same (or_left _ _ (ap not live)))
+      ]
+
+  keeps_newer : (a b : RevisionView) → Contains (history ts) a → Contains (history ts) b → name_of a ≡ name_of b → place_cmp a b ≡ Less
+      → keeps a ≡ true → keeps b ≡ true
+  unfolding newest
+  keeps_newer a b has also same less keep = elim (cases_lt compacted b.key.main) [
+    | inl lt ↦ keeps_later b lt
+    | inr le ↦ elim (or_cases _ _ keep) [
+      | inl above ↦ (
+          let low = main_le a.key b.key (sym (same_order ts run a b has also) ∙ less) in
+          let lt = ltb-true compacted a.key.main above in
+          absurd (omega (arith, low, lt, le)))
+      | inr newest_one ↦
+          let there = is_own (name_of a) b also (sym same) le in
+          absurd (none_after a b (last_or None (own (name_of a))) refl (and_parts _ _ newest_one).0 there less)
+    ]
+  ]
+
+  pub etcd_compacts : IsCompaction compacted ts (etcd_keeps new compacted (history ts))
+  etcd_compacts = record { later = λ r has lt. keeps_later r lt; held = keeps_held; oldest_first = keeps_newer }

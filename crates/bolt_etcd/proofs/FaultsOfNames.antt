@@ -1,0 +1,208 @@
+-- What is missing of one name is what its revisions alone say, wherever they stand among those of other names.
+use Rattle.std.proofs.Common.{◌≡◌, ◌∙◌, ◌&&◌, ◌||◌, ℕ, Bool, true, false, List, [], ◌∷◌, cond, filter, not, Option, Some, None, refl, sym, ap}
+use Rattle.std.proofs.lemmas.Bool.{cond-false, cond-true}
+use Rattle.std.proofs.lemmas.Cmp.{nat_list_cmp_total, on_total, tied_itself}
+use Rattle.std.proofs.lemmas.List.Sorted.{Contains-permutation, IsPermutation-sym}
+use Rattle.std.proofs.lemmas.Map.Text.{is_eq-slice_cmp}
+use Rattle.std.specs.Cmp.{IsTotalOrder}
+use Rattle.std.specs.Cmp.Lexicographic.{same_text}
+use Rattle.std.specs.List.{Contains}
+use Rattle.std.specs.Ordering.{is_eq, ordering_reverse, ordering_then}
+use Rattle.std.specs.Str.{bytes_eq}
+use Rattle.std.specs.declared.cmp.Ordering.{Ordering}
+use Rattle.std.specs.declared.cmp.Ordering.TheVariants.{Equal, Greater, Less}
+use Rattle.bolt_check.specs.Keys.{Key, key_cmp}
+use Rattle.bolt_tree.proofs.{Filters.filter_none, Filters.kept, Lists.contains_head, Lists.contains_tail, Lists.rises_once}
+use Rattle.bolt_tree.specs.Order.{IsBelow, Rises}
+use Rattle.bolt_etcd.specs.{Current.name_cmp, Current.place_cmp, Follows.follows, MissingNumbers.is_above, Newest.is_named}
+use Rattle.bolt_etcd.specs.{Revisions.RevisionView, Revisions.name_of}
+use Rattle.bolt_etcd.specs.NameFaults.{AreByName, NameFaultView, before_of, by_name_cmp, fault_of, is_newest, lacks_lease, lacks_one_before}
+use Rattle.bolt_etcd.specs.NameFaults.{name_faults}
+use Rattle.bolt_etcd.proofs.{Filtered.filter_rises, Filtered.kept_from, SortedOnce.by_name_rises, SortedOnce.by_name_total, StoreLemmas.itself}
+
+names_total : IsTotalOrder name_cmp
+names_total = on_total name_of nat_list_cmp_total
+
+-- ---- revisions of one name stand together
+
+both_ways : (o p q : Ordering) → ordering_then o p ≡ Less → ordering_then (ordering_reverse o) q ≡ Less → is_eq o ≡ true
+both_ways Less p q first second = cc
+both_ways Equal p q first second = refl
+both_ways Greater p q first second = cc
+
+between : (a b c : RevisionView) → by_name_cmp a b ≡ Less → by_name_cmp b c ≡ Less → name_of c ≡ name_of a → name_of b ≡ name_of a
+between a b c first second same =
+    let back : name_cmp b c ≡ ordering_reverse (name_cmp a b) = ap (key_cmp (name_of b)) same ∙ names_total.antisymm b a in
+    let alike = sym (is_eq-slice_cmp (name_of a) (name_of b)) ∙ both_ways (name_cmp a b) _ _ first (rw back at second) in
+    sym (same_text (name_of a) (name_of b) (sym alike))
+
+module _ (name : Key) where
+  abbrev named : List RevisionView → List RevisionView
+  named rs = filter (is_named name) rs
+
+  own : (r : RevisionView) → is_named name r ≡ true → name_of r ≡ name
+  own r is = same_text (name_of r) name (sym is)
+
+  none_later : (a b : RevisionView) (rs : List RevisionView) → is_named name a ≡ true → is_named name b ≡ false → by_name_cmp a b ≡ Less
+      → IsBelow by_name_cmp b rs → named rs ≡ []
+  none_later a b rs is other less below = filter_none (is_named name) rs (λ r has. by r (is_named name r) refl (below r has))
+    where
+      by : (r : RevisionView) (t : Bool) → is_named name r ≡ t → by_name_cmp b r ≡ Less → is_named name r ≡ false
+      by r true also up =
+          let same = between a b r less up (own r also ∙ sym (own a is)) in
+          let here : is_named name b ≡ true = rw (same ∙ own a is) (itself name) in
+          cc
+      by r false e up = e
+
+  -- ---- the faults of a name
+
+  abbrev is_of_name : NameFaultView → Bool
+  is_of_name f = is_named name f.revision
+
+  abbrev own_before : Option RevisionView → Option RevisionView
+  own_before None = None
+  own_before (Some before) = cond (is_named name before) (Some before) None
+
+  abbrev BeforeAll : Option RevisionView → List RevisionView → Type 0
+  BeforeAll None rs = Unit {0}
+  BeforeAll (Some before) rs = IsBelow by_name_cmp before rs
+
+  own_again : (before : RevisionView) (r : RevisionView) (b : Bool) → is_named name before ≡ b → name_of r ≡ name
+      → before_of (cond b (Some before) None) r ≡ cond b (Some before) None
+  own_again before r true is same = cond-true (is_named (name_of r) before) (Some before) None (ap (bytes_eq (name_of before)) same ∙ is)
+  own_again before r false other same = refl
+
+  before_is : (o : Option RevisionView) (r : RevisionView) → name_of r ≡ name → before_of o r ≡ own_before o
+  before_is None r same = refl
+  before_is (Some before) r same = ap (λ (n : Key). cond (bytes_eq (name_of before) n) (Some before) None) same
+
+  same_before : (o : Option RevisionView) (r : RevisionView) → name_of r ≡ name → before_of (own_before o) r ≡ before_of o r
+  same_before None r same = refl
+  same_before (Some before) r same = own_again before r (is_named name before) refl same ∙ sym (before_is (Some before) r same)
+
+  newest_step : (r x : RevisionView) (rs : List RevisionView) (b : Bool) → is_named name x ≡ b → is_named name r ≡ true → by_name_cmp r x ≡ Less
+      → IsBelow by_name_cmp x rs
+      → is_newest r (cond b (x ∷ named rs) (named rs)) ≡ not b
+  newest_step r x rs true is own_r less below = ap not (ap (bytes_eq (name_of x)) (own r own_r) ∙ is)
+  newest_step r x rs false other own_r less below = ap (is_newest r) (none_later r x rs own_r other less below)
+
+  newest_same : (r : RevisionView) (rs : List RevisionView) → is_named name r ≡ true → IsBelow by_name_cmp r rs → Rises by_name_cmp rs
+      → is_newest r (named rs) ≡ is_newest r rs
+  newest_same r [] is below rises = refl
+  newest_same r (x ∷ rs) is below rises =
+      newest_step r x rs (is_named name x) refl is (below x (contains_head x rs)) rises.0
+      ∙ sym (ap not (ap (bytes_eq (name_of x)) (own r is)))
+
+  module _ (compacted : Option ℕ) (granted : ℕ → Bool) where
+    abbrev faults : Option RevisionView → List RevisionView → List NameFaultView
+    faults before rs = name_faults compacted granted before rs
+
+    -- a fault, if anything is missing, and then others
+    abbrev listed : Bool → NameFaultView → List NameFaultView → List NameFaultView
+    listed b f later = cond b (f ∷ later) later
+
+    lacks_same : (c : Option ℕ) (o p : Option RevisionView) (r : RevisionView) → before_of o r ≡ before_of p r
+        → lacks_one_before c o r ≡ lacks_one_before c p r
+    lacks_same None o p r same = refl
+    lacks_same (Some at) o p r same = ap (λ (x : Option RevisionView). is_above at r && not (follows x r)) same
+
+    fault_same : (before : Option RevisionView) (r : RevisionView) (rs : List RevisionView) → is_named name r ≡ true → IsBelow by_name_cmp r rs
+        → Rises by_name_cmp rs
+        → fault_of compacted granted before r rs ≡ fault_of compacted granted (own_before before) r (named rs)
+    fault_same before r rs is below rises =
+        let lacks = lacks_same compacted before (own_before before) r (sym (same_before before r (own r is))) in
+        let newest = ap (λ (b : Bool). b && lacks_lease granted r) (sym (newest_same r rs is below rises)) in
+        ap (λ (b : Bool). record { revision = r; one_before = b; lease = is_newest r rs && lacks_lease granted r }) lacks
+        ∙ ap (λ (b : Bool). record { revision = r; one_before = lacks_one_before compacted (own_before before) r; lease = b }) newest
+
+    filter_own : (b : Bool) (f : NameFaultView) (later : List NameFaultView) → is_of_name f ≡ true
+        → filter is_of_name (listed b f later) ≡ listed b f (filter is_of_name later)
+    filter_own true f later is = cond-true (is_of_name f) _ _ is
+    filter_own false f later is = refl
+
+    filter_other : (b : Bool) (f : NameFaultView) (later : List NameFaultView) → is_of_name f ≡ false
+        → filter is_of_name (listed b f later) ≡ filter is_of_name later
+    filter_other true f later other = cond-false (is_of_name f) _ _ other
+    filter_other false f later other = refl
+
+    -- after a revision of another name there are none of this name, or none was before it
+    skip_own : (before r : RevisionView) (rs : List RevisionView) (b : Bool) → is_named name before ≡ b → is_named name r ≡ false
+        → by_name_cmp before r ≡ Less → IsBelow by_name_cmp r rs
+        → faults None (named rs) ≡ faults (cond b (Some before) None) (named rs)
+    skip_own before r rs true is other less below =
+        let none = none_later before r rs is other less below in
+        ap (faults None) none ∙ sym (ap (faults (Some before)) none)
+    skip_own before r rs false is other less below = refl
+
+    skip : (before : Option RevisionView) (r : RevisionView) (rs : List RevisionView) → is_named name r ≡ false → BeforeAll before (r ∷ rs)
+        → IsBelow by_name_cmp r rs
+        → faults None (named rs) ≡ faults (own_before before) (named rs)
+    skip None r rs other all below = refl
+    skip (Some before) r rs other all below = skip_own before r rs (is_named name before) refl other (all r (contains_head r rs)) below
+
+    name_step : (before : Option RevisionView) (r : RevisionView) (rs : List RevisionView) (b : Bool) → is_named name r ≡ b
+        → BeforeAll before (r ∷ rs) → Rises by_name_cmp (r ∷ rs)
+        → filter is_of_name (faults (Some r) rs) ≡ faults (own_before (Some r)) (named rs)
+        → filter is_of_name (faults before (r ∷ rs)) ≡ faults (own_before before) (cond b (r ∷ named rs) (named rs))
+    name_step before r rs true is all rises later =
+        let f = fault_of compacted granted before r rs in
+        filter_own (f.one_before || f.lease) f (faults (Some r) rs) is
+        ∙ ap (listed (f.one_before || f.lease) f) (later ∙ ap (λ (o : Option RevisionView). faults o (named rs)) (cond-true _ _ None is))
+        ∙ ap (λ (x : NameFaultView). listed (x.one_before || x.lease) x (faults (Some r) (named rs))) (fault_same before r rs is rises.0 rises.1)
+    name_step before r rs false other all rises later =
+        let f = fault_of compacted granted before r rs in
+        filter_other (f.one_before || f.lease) f (faults (Some r) rs) other
+        ∙ later ∙ ap (λ (o : Option RevisionView). faults o (named rs)) (cond-false (is_named name r) (Some r) None other)
+        ∙ skip before r rs other all rises.0
+
+    of_name : (before : Option RevisionView) (rs : List RevisionView) → BeforeAll before rs → Rises by_name_cmp rs
+        → filter is_of_name (faults before rs) ≡ faults (own_before before) (named rs)
+    of_name before [] all rises = refl
+    of_name before (r ∷ rs) all rises = name_step before r rs (is_named name r) refl all rises (of_name (Some r) rs rises.0 rises.1)
+
+  -- ---- in the order of their names they are in the order of their keys
+
+  kept_named : (rs sorted : List RevisionView) → AreByName rs sorted → (r : RevisionView) → Contains (named sorted) r → Contains (named rs) r
+  kept_named rs sorted is r has =
+      let (there, passes) = kept_from (is_named name) sorted r has in
+      kept (is_named name) rs r (Contains-permutation sorted rs r (IsPermutation-sym rs sorted is.same) there) passes
+
+  sorted_named : (rs sorted : List RevisionView) → AreByName rs sorted → (r : RevisionView) → Contains (named rs) r → Contains (named sorted) r
+  sorted_named rs sorted is r has =
+      let (there, passes) = kept_from (is_named name) rs r has in
+      kept (is_named name) sorted r (Contains-permutation rs sorted r is.same there) passes
+
+  by_place : (rs : List RevisionView) → ((r : RevisionView) → Contains rs r → is_named name r ≡ true) → Rises place_cmp rs → Rises by_name_cmp rs
+  by_place [] are rises = tt
+  by_place (r ∷ rs) are rises = (
+    λ s has.
+        let first = own r (are r (contains_head r rs)) in
+        let second = own s (are s (contains_tail r s rs has)) in
+        let tied : name_cmp r s ≡ Equal = rw (first, second) (tied_itself nat_list_cmp_total name) in
+        rw (tied, rises.0 s has) refl,
+    by_place rs (λ s has. are s (contains_tail r s rs has)) rises.1,
+  )
+
+  same_named : (rs sorted : List RevisionView) → Rises place_cmp rs → AreByName rs sorted → named sorted ≡ named rs
+  same_named rs sorted rises is =
+      rises_once by_name_total (named sorted) (named rs)
+      (filter_rises by_name_cmp (is_named name) sorted (by_name_rises rs sorted rises is))
+      (by_place (named rs) (λ r has. (kept_from (is_named name) rs r has).1) (filter_rises place_cmp (is_named name) rs rises))
+      (kept_named rs sorted is) (sorted_named rs sorted is)
+
+-- those of each name are all
+pub none_of_any : (fs : List NameFaultView) → ((name : Key) → filter (λ (f : NameFaultView). is_named name f.revision) fs ≡ []) → fs ≡ []
+none_of_any [] none = refl
+none_of_any (f ∷ fs) none =
+    let rest = filter (λ (g : NameFaultView). is_named (name_of f.revision) g.revision) fs in
+    let first = cond-true (is_named (name_of f.revision) f.revision) (f ∷ rest) rest (itself (name_of f.revision)) in
+    let one : f ∷ rest ≡ [] = sym first ∙ none (name_of f.revision) in
+    cc
+
+-- the faults of a name, of revisions that are sorted by name
+pub faults_named : (compacted : Option ℕ) (granted : ℕ → Bool) (rs sorted : List RevisionView) (name : Key) → Rises place_cmp rs → AreByName rs sorted
+    → filter (λ (f : NameFaultView). is_named name f.revision) (name_faults compacted granted None sorted)
+    ≡ name_faults compacted granted None (filter (is_named name) rs)
+faults_named compacted granted rs sorted name rises is =
+    of_name name compacted granted None sorted tt (by_name_rises rs sorted rises is)
+    ∙ ap (name_faults compacted granted None) (same_named name rs sorted rises is)

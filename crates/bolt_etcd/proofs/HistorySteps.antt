@@ -1,0 +1,144 @@
+-- A history, revision by revision: each is written upon what the earlier ones left, and is the next of its transaction or the first of the next one.
+use Rattle.std.proofs.Common.{◌≡◌, ◌∙◌, ◌<◌, ◌≤◌, ◌+◌, ◌⊎◌, inl, inr, ℕ, List, [], ◌∷◌, ◌++◌, refl, sym, ap, subst, arith}
+use Rattle.std.proofs.lemmas.Cmp.{nat_cmp_total, tied_itself}
+use Rattle.std.specs.List.{Contains}
+use Rattle.std.specs.Ordering.{bool_cmp, nat_cmp, ordering_then}
+use Rattle.std.specs.declared.cmp.Ordering.{Ordering}
+use Rattle.std.specs.declared.cmp.Ordering.TheVariants.{Equal, Greater, Less}
+use Rattle.bolt_tree.proofs.Lists.{contains_cases, contains_head, contains_none, contains_tail}
+use Rattle.bolt_tree.specs.Order.{Rises}
+use Rattle.bolt_etcd.specs.Histories.{State, Transaction, Write, after, after_all, history, history_from, nothing, revision_by, written}
+use Rattle.bolt_etcd.specs.{Current.place_cmp, RevisionKeys.spelling, Revisions.RevisionView, Runs.CanRun, Runs.CanWrite, Runs.CanWriteAll}
+use Rattle.bolt_etcd.specs.{Runs.IsRun, Told.number_cmp}
+use Rattle.bolt_etcd.specs.declared.revision_key.RevisionKey.{RevisionKey}
+use Rattle.bolt_etcd.proofs.KeyNumbers.{less, spellings_cmp}
+
+abbrev pub IsWritten : State → RevisionView → Type 0
+IsWritten state r = (w : Write) × CanWrite state w × (r ≡ revision_by state r.key.main r.key.sub w)
+
+-- these are the numbers, or the first of the next transaction
+abbrev pub IsNext : (main sub : ℕ) → RevisionKey → Type 0
+IsNext main sub k = ((k.main ≡ main) × (k.sub ≡ sub)) ⊎ ((0 < sub) × (k.main ≡ main + 1) × (k.sub ≡ 0))
+
+abbrev pub Goes : State → (main sub : ℕ) → List RevisionView → Type 0
+Goes state main sub [] = Unit {0}
+Goes state main sub (r ∷ rs) = IsNext main sub r.key × IsWritten state r × Goes (after r state) r.key.main (r.key.sub + 1) rs
+
+more_go : (state : State) (main sub : ℕ) (ws : List Write) (rest : List RevisionView) → CanWriteAll state main sub ws
+    → ((n : ℕ) → sub ≤ n → Goes (after_all (written state main sub ws) state) main n rest) → Goes state main sub (written state main sub ws ++ rest)
+more_go state main sub [] rest can go = go sub (omega arith)
+more_go state main sub (w ∷ ws) rest (can, more) go = (
+  inl (refl, refl),
+  (w, can, refl),
+  more_go (after (revision_by state main sub w) state) main (sub + 1) ws rest more (λ n le. go n (omega (arith, le))),
+)
+
+next_go : (state : State) (main sub : ℕ) (ts : List Transaction) → 0 < sub → CanRun state (main + 1) ts
+    → Goes state main sub (history_from state (main + 1) ts)
+next_go state main sub [] some can = tt
+next_go state main sub ([] ∷ later) some can = absurd (let lt = can.0 in omega (arith, lt))
+next_go state main sub ((w ∷ ws) ∷ later) some (lt, (can, more), rest) = (
+  inr (some, refl, refl),
+  (w, can, refl),
+  more_go (after (revision_by state (main + 1) 0 w) state) (main + 1) 1 ws _ more
+      (λ n le. next_go (after_all (written state (main + 1) 0 (w ∷ ws)) state) (main + 1) n later (omega (arith, le)) rest),
+)
+
+first_go : (state : State) (main : ℕ) (ts : List Transaction) → CanRun state main ts → Goes state main 0 (history_from state main ts)
+first_go state main [] can = tt
+first_go state main ([] ∷ later) can = absurd (let lt = can.0 in omega (arith, lt))
+first_go state main ((w ∷ ws) ∷ later) (lt, (can, more), rest) = (
+  inl (refl, refl),
+  (w, can, refl),
+  more_go (after (revision_by state main 0 w) state) main 1 ws _ more
+      (λ n le. next_go (after_all (written state main 0 (w ∷ ws)) state) main n later (omega (arith, le)) rest),
+)
+
+pub goes : (ts : List Transaction) → IsRun ts → Goes nothing 2 0 (history ts)
+goes ts run = first_go nothing 2 ts run.allowed
+
+-- ---- what holds of each revision that is written
+
+pub each : (Q : RevisionView → Type 0) → ((state : State) (r : RevisionView) → IsWritten state r → Q r)
+    → (state : State) (main sub : ℕ) (rs : List RevisionView) → Goes state main sub rs
+    → (r : RevisionView) → Contains rs r → Q r
+each Q one state main sub [] go r has = absurd (contains_none r has)
+each Q one state main sub (s ∷ rs) (next, is, go) r has = elim (contains_cases s r rs has) [
+  | inl same ↦ subst Q same (one state s is)
+  | inr more ↦ each Q one (after s state) s.key.main (s.key.sub + 1) rs go r more
+]
+
+-- ---- the numbers rise
+
+abbrev IsFrom : (main sub : ℕ) → RevisionView → Type 0
+IsFrom main sub r = (main < r.key.main) ⊎ ((r.key.main ≡ main) × (sub ≤ r.key.sub))
+
+from_next : (main sub : ℕ) (k : RevisionKey) (r : RevisionView) → IsNext main sub k → IsFrom k.main k.sub r → IsFrom main sub r
+from_next main sub k r (inl (m, s)) (inl lt) = inl (omega (arith, m, lt))
+from_next main sub k r (inl (m, s)) (inr (e, le)) = inr (e ∙ m, omega (arith, s, le))
+from_next main sub k r (inr (some, m, s)) (inl lt) = inl (omega (arith, m, lt))
+from_next main sub k r (inr (some, m, s)) (inr (e, le)) = inl (omega (arith, m, e))
+
+from_step : (k : RevisionKey) (r : RevisionView) → IsFrom k.main (k.sub + 1) r → IsFrom k.main k.sub r
+from_step k r (inl lt) = inl lt
+from_step k r (inr (e, le)) = inr (e, omega (arith, le))
+
+pub from : (state : State) (main sub : ℕ) (rs : List RevisionView) → Goes state main sub rs → (r : RevisionView) → Contains rs r → IsFrom main sub r
+from state main sub [] go r has = absurd (contains_none r has)
+from state main sub (s ∷ rs) (next, is, go) r has = from_next main sub s.key r next (elim (contains_cases s r rs has) [
+  | inl same ↦ subst (IsFrom s.key.main s.key.sub) same (inr (refl, omega arith))
+  | inr more ↦ from_step s.key r (from (after s state) s.key.main (s.key.sub + 1) rs go r more)
+])
+
+-- by their numbers, whether they are deletions or not
+abbrev pub pair_cmp : RevisionView → RevisionView → Ordering
+pair_cmp a b = ordering_then (nat_cmp a.key.main b.key.main) (nat_cmp a.key.sub b.key.sub)
+
+pair_less : (a b : RevisionView) → IsFrom a.key.main (a.key.sub + 1) b → pair_cmp a b ≡ Less
+pair_less a b (inl lt) = ap (λ (o : Ordering). ordering_then o (nat_cmp a.key.sub b.key.sub)) (less a.key.main b.key.main lt)
+pair_less a b (inr (e, le)) = rw (e, tied_itself nat_cmp_total a.key.main) (less a.key.sub b.key.sub (omega (arith, le)))
+
+pairs_rise : (state : State) (main sub : ℕ) (rs : List RevisionView) → Goes state main sub rs → Rises pair_cmp rs
+pairs_rise state main sub [] go = tt
+pairs_rise state main sub (r ∷ rs) (next, is, go) = (
+  λ s has. pair_less r s (from (after r state) r.key.main (r.key.sub + 1) rs go s has),
+  pairs_rise (after r state) r.key.main (r.key.sub + 1) rs go,
+)
+
+number_less : (o p q : Ordering) → ordering_then o p ≡ Less → ordering_then o (ordering_then p q) ≡ Less
+number_less Less p q is = refl
+number_less Equal p q is = ap (λ (x : Ordering). ordering_then x q) is
+number_less Greater p q is = is
+
+pub numbers_rise : (rs : List RevisionView) → Rises pair_cmp rs → Rises number_cmp rs
+numbers_rise [] rises = tt
+numbers_rise (r ∷ rs) (first, more) = (
+  λ s has. number_less (nat_cmp r.key.main s.key.main) (nat_cmp r.key.sub s.key.sub) (bool_cmp r.key.deleted s.key.deleted) (first s has),
+  numbers_rise rs more,
+)
+
+pub history_rises : (ts : List Transaction) → IsRun ts → Rises pair_cmp (history ts)
+history_rises ts run = pairs_rise nothing 2 0 (history ts) (goes ts run)
+
+-- ---- and so do the places
+
+is_spelled : (state : State) (r : RevisionView) → IsWritten state r → r.place ≡ spelling r.key
+is_spelled state r (w, can, is) = ap (λ (x : RevisionView). x.place) is ∙ ap (λ (x : RevisionView). spelling x.key) (sym is)
+
+place_is : (ts : List Transaction) → IsRun ts → (r : RevisionView) → Contains (history ts) r → r.place ≡ spelling r.key
+place_is ts run r has = each (λ (s : RevisionView). s.place ≡ spelling s.key) is_spelled nothing 2 0 (history ts) (goes ts run) r has
+
+pub same_order : (ts : List Transaction) → IsRun ts → (a b : RevisionView) → Contains (history ts) a → Contains (history ts) b
+    → place_cmp a b ≡ number_cmp a b
+same_order ts run a b has also = rw (place_is ts run a has, place_is ts run b also) (spellings_cmp a.key b.key (run.fits a has) (run.fits b also))
+
+places_from : (rs : List RevisionView) → ((a b : RevisionView) → Contains rs a → Contains rs b → place_cmp a b ≡ number_cmp a b)
+    → Rises number_cmp rs → Rises place_cmp rs
+places_from [] same rises = tt
+places_from (r ∷ rs) same rises = (
+  λ s has. same r s (contains_head r rs) (contains_tail r s rs has) ∙ rises.0 s has,
+  places_from rs (λ a b has also. same a b (contains_tail r a rs has) (contains_tail r b rs also)) rises.1,
+)
+
+pub places_rise : (ts : List Transaction) → IsRun ts → Rises place_cmp (history ts)
+places_rise ts run = places_from (history ts) (same_order ts run) (numbers_rise (history ts) (history_rises ts run))

@@ -1,0 +1,146 @@
+-- What a compaction keeps of one name: all from a revision on.
+use Rattle.std.proofs.Common.{◌≡◌, ◌∙◌, ◌⊎◌, ◌<◌, ◌≤◌, ◌++◌, inl, inr, ℕ, Bool, true, false, List, [], ◌∷◌, cond, filter, Option, Some}
+use Rattle.std.proofs.Common.{None, refl, sym, ap, subst}
+use Rattle.std.proofs.lemmas.Bool.{cases_lt, cond-false}
+use Rattle.std.proofs.lemmas.List.{append-nil}
+use Rattle.std.proofs.lemmas.List.Elements.{Contains-append_left, filter-append}
+use Rattle.std.proofs.lemmas.Option.{same_Some}
+use Rattle.std.specs.Cmp.Lexicographic.{same_text}
+use Rattle.std.specs.List.{Contains, last_or}
+use Rattle.bolt_check.specs.Keys.{Key}
+use Rattle.bolt_tree.proofs.{Filters.filter_all, Filters.filter_none, Lists.contains_cases, Lists.contains_head, Lists.contains_none}
+use Rattle.bolt_tree.proofs.{Lists.contains_tail}
+use Rattle.bolt_tree.specs.Order.{Rises}
+use Rattle.bolt_etcd.specs.{Compactions.IsCompaction, Compactions.kept, Current.place_cmp, Histories.Transaction, Histories.history}
+use Rattle.bolt_etcd.specs.{Newest.is_named, Newest.is_until, Newest.newest, Newest.until, Revisions.RevisionView, Revisions.name_of, Runs.IsRun}
+use Rattle.bolt_etcd.proofs.{Filtered.filter_rises, Filtered.kept_from, HistorySteps.places_rise, HistoryUntil.until_early}
+use Rattle.bolt_etcd.proofs.{HistoryUntil.until_late, HistoryUntil.held_at}
+use Rattle.bolt_etcd.proofs.NameHistories.{held_of, held_parts}
+
+pub last_in : {A : Type 0} (o : Option A) (xs : List A) (x : A) → last_or o xs ≡ Some x → (o ≡ Some x) ⊎ Contains xs x
+last_in o [] x e = inl e
+last_in o (y ∷ ys) x e = elim (last_in (Some y) ys x e) [
+  | inl is ↦ inr (subst (Contains (y ∷ ys)) (same_Some y x is) (contains_head y ys))
+  | inr more ↦ inr (contains_tail y x ys more)
+]
+
+swap_step : {A : Type 0} (p q : A → Bool) (x : A) (xs : List A) (a b : Bool) → p x ≡ a → q x ≡ b → filter p (filter q xs) ≡ filter q (filter p xs)
+    → filter p (cond b (x ∷ filter q xs) (filter q xs)) ≡ filter q (cond a (x ∷ filter p xs) (filter p xs))
+swap_step p q x xs true true is also later = rw (is, also) (ap (λ l. x ∷ l) later)
+swap_step p q x xs true false is also later = rw also later
+swap_step p q x xs false true is also later = rw is later
+swap_step p q x xs false false is also later = later
+
+pub filter_swap : {A : Type 0} (p q : A → Bool) (xs : List A) → filter p (filter q xs) ≡ filter q (filter p xs)
+filter_swap p q [] = refl
+filter_swap p q (x ∷ xs) = swap_step p q x xs (p x) (q x) refl refl (filter_swap p q xs)
+
+module _ (compacted : ℕ) (ts : List Transaction) (keeps : RevisionView → Bool) (run : IsRun ts) (compaction : IsCompaction compacted ts keeps)
+    (name : Key) where
+  abbrev all_named : List RevisionView
+  all_named = filter (is_named name) (history ts)
+
+  record IsSplit (rs removed rest : List RevisionView) : Type 0 where
+    joined : rs ≡ removed ++ rest
+    left : filter keeps rs ≡ rest
+    dropped : (r : RevisionView) → Contains removed r → keeps r ≡ false
+
+  split_step : (r : RevisionView) (rs : List RevisionView) (b : Bool) → keeps r ≡ b
+      → (keeps r ≡ true → (s : RevisionView) → Contains rs s → keeps s ≡ true)
+      → (removed : List RevisionView) × (rest : List RevisionView) × IsSplit rs removed rest
+      → (removed : List RevisionView) × (rest : List RevisionView) × IsSplit (r ∷ rs) removed rest
+  split_step r rs true is all more = (
+    [],
+    r ∷ rs,
+    record {
+      joined = refl;
+      left = filter_all keeps (r ∷ rs) (λ s has. elim (contains_cases r s rs has) [
+        | inl same ↦ ap keeps (sym same) ∙ is
+        | inr later ↦ all is s later
+      ]);
+      dropped = λ s none. absurd (contains_none s none);
+    },
+  )
+  split_step r rs false is all (removed, rest, more) = (
+    r ∷ removed,
+    rest,
+    record {
+      joined = ap (λ (l : List RevisionView). r ∷ l) more.joined;
+      left = cond-false (keeps r) _ _ is ∙ more.left;
+      dropped = λ s has. elim (contains_cases r s removed has) [ inl same ↦ ap keeps (sym same) ∙ is | inr later ↦ more.dropped s later ];
+    },
+  )
+
+  split : (rs : List RevisionView) → Rises place_cmp rs → ((r : RevisionView) → Contains rs r → Contains (history ts) r × (name_of r ≡ name))
+      → (removed : List RevisionView) × (rest : List RevisionView) × IsSplit rs removed rest
+  split [] rise are = ([], [], record { joined = refl; left = refl; dropped = λ r none. absurd (contains_none r none) })
+  split (r ∷ rs) rise are =
+      split_step r rs (keeps r) refl
+      (λ is s has.
+      let (first, named) = are r (contains_head r rs) in
+      let (second, also) = are s (contains_tail r s rs has) in
+      compaction.oldest_first r s first second (named ∙ sym also) (rise.0 s has) is)
+      (split rs rise.1 (λ s has. are s (contains_tail r s rs has)))
+
+  -- a first part is removed, up to the compaction at most; if all that is kept is later, what was removed ends in a deletion or is nothing
+  pub record IsCut (removed rest : List RevisionView) : Type 0 where
+    pub joined : filter (is_named name) (history ts) ≡ removed ++ rest
+    pub is_rest : filter (is_named name) (kept keeps ts) ≡ rest
+    pub early : (r : RevisionView) → Contains removed r → r.key.main ≤ compacted
+    pub gone : ((r : RevisionView) → Contains rest r → compacted < r.key.main) → held_of (last_or None removed) ≡ None
+
+  own : (r : RevisionView) → Contains all_named r → Contains (history ts) r × (name_of r ≡ name)
+  own r has = let (there, passes) = kept_from (is_named name) (history ts) r has in (there, same_text (name_of r) name (sym passes))
+
+  own_rise : Rises place_cmp all_named
+  own_rise = filter_rises place_cmp (is_named name) (history ts) (places_rise ts run)
+
+  module _ (removed rest : List RevisionView) (is : IsSplit all_named removed rest) where
+    is_early : (r : RevisionView) → Contains removed r → r.key.main ≤ compacted
+    is_early r has = elim (cases_lt compacted r.key.main) [
+      | inl lt ↦
+          let there = own r (subst (λ (l : List RevisionView). Contains l r) (sym is.joined) (Contains-append_left removed rest r has)) in
+          let keep = compaction.later r there.0 lt in
+          let drop = is.dropped r has in
+          cc
+      | inr le ↦ le
+    ]
+
+    until_removed : filter (is_until compacted) removed ≡ removed
+    until_removed = filter_all (is_until compacted) removed (λ r has. until_early compacted r (is_early r has))
+
+    until_rest : ((r : RevisionView) → Contains rest r → compacted < r.key.main) → filter (is_until compacted) rest ≡ []
+    until_rest later = filter_none (is_until compacted) rest (λ r has. until_late compacted r (later r has))
+
+    newest_removed : ((r : RevisionView) → Contains rest r → compacted < r.key.main)
+        → newest name (until compacted (history ts)) ≡ last_or None removed
+    unfolding newest
+    newest_removed later =
+        ap (last_or None)
+        (filter_swap (is_named name) (is_until compacted) (history ts)
+        ∙ ap (filter (is_until compacted)) is.joined
+        ∙ filter-append (is_until compacted) removed rest
+        ∙ ap (λ (l : List RevisionView). l ++ filter (is_until compacted) rest) until_removed
+        ∙ ap (λ (l : List RevisionView). removed ++ l) (until_rest later)
+        ∙ append-nil removed)
+
+    none_left : (o : Option RevisionView) → ((r : RevisionView) → Contains rest r → compacted < r.key.main) → held_of (last_or None removed) ≡ o
+        → o ≡ None
+    none_left None later e = refl
+    none_left (Some r) later e =
+        let keep = compaction.held name r (held_at compacted ts name ∙ ap held_of (newest_removed later) ∙ e) in
+        elim (last_in None removed r ((held_parts (last_or None removed) r e).0)) [
+          | inl none ↦ cc
+          | inr has ↦ (let gone = is.dropped r has in cc)
+        ]
+
+    cut_is : IsCut removed rest
+    cut_is = record {
+      joined = is.joined;
+      is_rest = filter_swap (is_named name) keeps (history ts) ∙ is.left;
+      early = is_early;
+      gone = λ later. none_left (held_of (last_or None removed)) later refl;
+    }
+
+  pub cut : (removed : List RevisionView) × (rest : List RevisionView) × IsCut removed rest
+  cut = let (removed, rest, is) = split all_named own_rise own in (removed, rest, cut_is removed rest is)

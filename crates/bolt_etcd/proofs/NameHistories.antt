@@ -1,0 +1,109 @@
+-- The revisions of one name in a history: each follows the one before it, and the last one is what the name holds.
+use Rattle.std.proofs.Common.{◌||◌, ◌≡◌, ◌∙◌, ◌+◌, ℕ, Bool, true, false, List, [], ◌∷◌, cond, filter, Option, Some, None, refl, sym, ap, subst}
+use Rattle.std.proofs.lemmas.Bool.{and_from, cond-false, cond-true, eq-eqb, or_left}
+use Rattle.std.specs.List.{last_or}
+use Rattle.std.proofs.lemmas.Option.{same_Some}
+use Rattle.std.specs.Option.{is_some}
+use Rattle.std.specs.Cmp.Lexicographic.{same_text}
+use Rattle.bolt_check.specs.Keys.{Key}
+use Rattle.bolt_etcd.specs.{Follows.creates, Follows.follows, Follows.is_next_of, Newest.is_named, Newest.newest, Revisions.RevisionView}
+use Rattle.bolt_etcd.specs.{Revisions.name_of}
+use Rattle.bolt_etcd.specs.Histories.{Delete, Put, State, after, after_all, held, nothing, revision_by}
+use Rattle.bolt_etcd.proofs.HistorySteps.{Goes, IsWritten}
+
+-- what a name holds if this is its last revision
+abbrev pub held_of : Option RevisionView → Option RevisionView
+held_of None = None
+held_of (Some r) = held r
+
+parts_by : (s r : RevisionView) (b : Bool) → s.key.deleted ≡ b → cond b None (Some s) ≡ Some r → (Some s ≡ Some r) × (s.key.deleted ≡ false)
+parts_by s r true is e = cc
+parts_by s r false is e = (e, is)
+
+pub held_parts : (o : Option RevisionView) (r : RevisionView) → held_of o ≡ Some r → (o ≡ Some r) × (r.key.deleted ≡ false)
+held_parts None r e = cc
+held_parts (Some s) r e =
+    let (same, live) = parts_by s r s.key.deleted refl e in
+    (same, subst (λ (x : RevisionView). x.key.deleted ≡ false) (same_Some s r same) live)
+
+-- ---- each follows the one before
+
+abbrev pub AllFollow : Option RevisionView → List RevisionView → Type 0
+AllFollow o [] = Unit {0}
+AllFollow o (r ∷ rs) = (follows o r ≡ true) × AllFollow (Some r) rs
+
+-- whether it follows, by what the name holds
+abbrev pub follows_held : Option RevisionView → RevisionView → Bool
+follows_held None r = creates r
+follows_held (Some before) r = r.key.deleted || is_next_of before r
+
+by_deletion : (before r : RevisionView) (b : Bool)
+    → cond b (creates r) (r.key.deleted || is_next_of before r) ≡ follows_held (cond b None (Some before)) r
+by_deletion before r true = refl
+by_deletion before r false = refl
+
+pub follows_is : (o : Option RevisionView) (r : RevisionView) → follows o r ≡ follows_held (held_of o) r
+unfolding follows
+follows_is None r = refl
+follows_is (Some before) r = by_deletion before r before.key.deleted
+
+put_follows : (o : Option RevisionView) (main sub : ℕ) (name value : List ℕ) (lease : ℕ)
+    → follows_held o (revision_by (λ (other : Key). o) main sub (Put name value lease)) ≡ true
+put_follows None main sub name value lease = eq-eqb main main refl
+put_follows (Some before) main sub name value lease = and_from _ _ (eq-eqb (before.content.version + 1) _ refl) (eq-eqb before.content.created _ refl)
+
+deletion_follows : (o : Option RevisionView) (r : RevisionView) → is_some o ≡ true → r.key.deleted ≡ true → follows_held o r ≡ true
+deletion_follows None r some is = cc
+deletion_follows (Some before) r some is = or_left _ _ is
+
+written_follows : (state : State) (r : RevisionView) → IsWritten state r → follows_held (state (name_of r)) r ≡ true
+written_follows state r (Put name value lease, can, is) =
+    subst (λ (x : RevisionView). follows_held (state (name_of x)) x ≡ true) (sym is) (put_follows (state name) r.key.main r.key.sub name value lease)
+written_follows state r (Delete name, can, is) =
+    subst (λ (x : RevisionView). follows_held (state (name_of x)) x ≡ true) (sym is) (deletion_follows (state name) _ can refl)
+
+module _ (name : Key) where
+  abbrev named : List RevisionView → List RevisionView
+  named rs = filter (is_named name) rs
+
+  -- ---- what it holds after a revision
+
+  after_own : (state : State) (r : RevisionView) → is_named name r ≡ true → after r state name ≡ held r
+  after_own state r own = cond-true (is_named name r) _ _ own
+
+  after_other : (state : State) (r : RevisionView) → is_named name r ≡ false → after r state name ≡ state name
+  after_other state r other = cond-false (is_named name r) _ _ other
+
+  follow_step : (state : State) (o : Option RevisionView) (r : RevisionView) (rs : List RevisionView) (b : Bool) → is_named name r ≡ b
+      → IsWritten state r → state name ≡ held_of o
+      → ((o' : Option RevisionView) → after r state name ≡ held_of o' → AllFollow o' (named rs)) → AllFollow o (cond b (r ∷ named rs) (named rs))
+  follow_step state o r rs true own is holds later = (
+    follows_is o r
+        ∙ ap (λ (h : Option RevisionView). follows_held h r) (sym holds ∙ ap state (sym (same_text (name_of r) name (sym own))))
+        ∙ written_follows state r is,
+    later (Some r) (after_own state r own),
+  )
+  follow_step state o r rs false other is holds later = later o (after_other state r other ∙ holds)
+
+  pub all_follow : (state : State) (main sub : ℕ) (rs : List RevisionView) (o : Option RevisionView) → Goes state main sub rs
+      → state name ≡ held_of o → AllFollow o (named rs)
+  all_follow state main sub [] o go holds = tt
+  all_follow state main sub (r ∷ rs) o (next, is, go) holds =
+      follow_step state o r rs (is_named name r) refl is holds (λ o' holds'. all_follow (after r state) r.key.main (r.key.sub + 1) rs o' go holds')
+
+  last_step : (state : State) (o : Option RevisionView) (r : RevisionView) (rs : List RevisionView) (b : Bool) → is_named name r ≡ b
+      → state name ≡ held_of o
+      → ((o' : Option RevisionView) → after r state name ≡ held_of o' → after_all rs (after r state) name ≡ held_of (last_or o' (named rs)))
+      → after_all rs (after r state) name ≡ held_of (last_or o (cond b (r ∷ named rs) (named rs)))
+  last_step state o r rs true own holds later = later (Some r) (after_own state r own)
+  last_step state o r rs false other holds later = later o (after_other state r other ∙ holds)
+
+  last_held : (rs : List RevisionView) (state : State) (o : Option RevisionView) → state name ≡ held_of o
+      → after_all rs state name ≡ held_of (last_or o (named rs))
+  last_held [] state o holds = holds
+  last_held (r ∷ rs) state o holds = last_step state o r rs (is_named name r) refl holds (λ o' holds'. last_held rs (after r state) o' holds')
+
+  -- after all of these it holds the newest of its revisions
+  pub newest_held : (rs : List RevisionView) → after_all rs nothing name ≡ held_of (newest name rs)
+  unfolding newest
+  newest_held rs = last_held rs nothing None refl

@@ -1,0 +1,120 @@
+-- Nothing is found in a store from which nothing is missing.
+use Rattle.std.proofs.Common.{◌≡◌, ◌∙◌, ◌++◌, ◌&&◌, ℕ, Bool, true, false, List, [], ◌∷◌, codes, flat_map, map, max, not, Option, Some, None}
+use Rattle.std.proofs.Common.{refl, sym, ap}
+use Rattle.std.proofs.lemmas.Bool.{and_left, and_right, eq-eqb, ltb-true}
+use Rattle.std.specs.List.{Contains, cons_option}
+use Rattle.std.specs.Option.{is_some}
+use Rattle.bolt_check.specs.Keys.{Key}
+use Rattle.bolt_format.specs.Elements.{LeafElement}
+use Rattle.bolt_tree.proofs.{Filters.filter_none, Filters.filter_same, Lists.contains_head, Lists.contains_tail}
+use Rattle.bolt_tree.specs.{Entries.entry_view, Order.Rises}
+use Rattle.bolt_etcd.specs.{CheckLines.fault_lines, Compactions.IsCompaction, Compactions.kept, Current.place_cmp}
+use Rattle.bolt_etcd.specs.Histories.{Delete, Put, State, Transaction, history, nothing}
+use Rattle.bolt_etcd.specs.{Misplaced.is_misplaced, Misplaced.misplaced, MissingNumbers.is_above, MissingNumbers.keys_above}
+use Rattle.bolt_etcd.specs.{MissingNumbers.missing_after, MissingNumbers.missing_numbers}
+use Rattle.bolt_etcd.specs.{NameFaults.name_faults, Others.OtherView, Others.other_of, Others.others_of, Revisions.RevisionView}
+use Rattle.bolt_etcd.specs.{Revisions.revision_of}
+use Rattle.bolt_etcd.specs.{Runs.IsRun, StoreBuckets.StoreView, Stores.revisions, WholeStores.GrantsLeases, WholeStores.HoldsExactly}
+use Rattle.bolt_etcd.specs.StoreFaults.{bucket_lines, bucket_names, entry_lines, key_lines, line_without, name_lines, store_granted, store_lines}
+use Rattle.bolt_etcd.proofs.{FaultsOfNames.faults_named, FaultsOfNames.none_of_any, Filtered.filter_both, Filtered.filter_rises}
+use Rattle.bolt_etcd.proofs.{Filtered.kept_from, HistoryNumbers.none_missing}
+use Rattle.bolt_etcd.proofs.{HistorySteps.IsWritten, HistorySteps.each, HistorySteps.goes, HistorySteps.places_rise, OtherCounts.one_of_two}
+use Rattle.bolt_etcd.proofs.{WholeNames.no_faults}
+
+-- ---- buckets
+
+no_line : (name : Key) (o : Option (List LeafElement)) → is_some o ≡ true → line_without name o ≡ []
+no_line name (Some entries) some = refl
+no_line name None some = cc
+
+no_bucket_lines : (store : StoreView) (names : List Key) → ((name : Key) → Contains names name → is_some (store.bucket name) ≡ true)
+    → bucket_lines store names ≡ []
+no_bucket_lines store [] there = refl
+no_bucket_lines store (name ∷ names) there =
+    ap (λ (l : List (List ℕ)). l ++ bucket_lines store names) (no_line name (store.bucket name) (there name (contains_head name names)))
+    ∙ no_bucket_lines store names (λ other has. there other (contains_tail name other names has))
+
+-- ---- entries that are these revisions
+
+revisions_are : (entries : List LeafElement) (rs : List RevisionView) → map (λ (e : LeafElement). revision_of (entry_view e)) entries ≡ map Some rs
+    → revisions entries ≡ rs
+revisions_are [] [] are = refl
+revisions_are [] (r ∷ rs) are = cc
+revisions_are (e ∷ entries) [] are = cc
+revisions_are (e ∷ entries) (r ∷ rs) are =
+    let first : revision_of (entry_view e) ≡ Some r = cc in
+    let later : map (λ (f : LeafElement). revision_of (entry_view f)) entries ≡ map Some rs = cc in
+    ap (λ (o : Option RevisionView). cons_option o (revisions entries)) first ∙ ap (λ (l : List RevisionView). r ∷ l) (revisions_are entries rs later)
+
+no_other : (e : LeafElement) (r : RevisionView) (o : Option OtherView) → revision_of (entry_view e) ≡ Some r → other_of (entry_view e) ≡ o → o ≡ None
+no_other e r None is also = refl
+no_other e r (Some x) is also =
+    let one = sym (ap is_some also) ∙ one_of_two (entry_view e) ∙ ap (λ (o : Option RevisionView). not (is_some o)) is in
+    cc
+
+no_others : (entries : List LeafElement) (rs : List RevisionView) → map (λ (e : LeafElement). revision_of (entry_view e)) entries ≡ map Some rs
+    → others_of entries ≡ []
+no_others [] rs are = refl
+no_others (e ∷ entries) [] are = cc
+no_others (e ∷ entries) (r ∷ rs) are =
+    let first : revision_of (entry_view e) ≡ Some r = cc in
+    let later : map (λ (f : LeafElement). revision_of (entry_view f)) entries ≡ map Some rs = cc in
+    ap (λ (o : Option OtherView). cons_option o (others_of entries)) (no_other e r (other_of (entry_view e)) first refl) ∙ no_others entries rs later
+
+-- ---- what holds of each revision
+
+not_misplaced : (state : State) (r : RevisionView) → IsWritten state r → is_misplaced r ≡ false
+unfolding is_misplaced
+not_misplaced state r (Put name value lease, can, is) =
+    and_right _ _ (ap not (eq-eqb r.content.modified r.key.main (ap (λ (x : RevisionView). x.content.modified) is)))
+not_misplaced state r (Delete name, can, is) = and_left _ _ (ap (λ (x : RevisionView). not x.key.deleted) is)
+
+module _ (compacted : ℕ) (ts : List Transaction) (keeps : RevisionView → Bool) (run : IsRun ts) (compaction : IsCompaction compacted ts keeps) where
+  there : (r : RevisionView) → Contains (kept keeps ts) r → Contains (history ts) r
+  there r has = (kept_from keeps (history ts) r has).0
+
+  kept_rises : Rises place_cmp (kept keeps ts)
+  kept_rises = filter_rises place_cmp keeps (history ts) (places_rise ts run)
+
+  none_misplaced : misplaced (kept keeps ts) ≡ []
+  none_misplaced =
+      filter_none is_misplaced (kept keeps ts) (λ r has.
+      each (λ (s : RevisionView). is_misplaced s ≡ false) not_misplaced nothing 2 0 (history ts) (goes ts run) r (there r has))
+
+  above_kept : (r : RevisionView) (b : Bool) → is_above compacted r ≡ b → Contains (history ts) r
+      → (is_above compacted r && keeps r) ≡ is_above compacted r
+  above_kept r true above has = rw (above, compaction.later r has (ltb-true compacted r.key.main above)) refl
+  above_kept r false above has = rw above refl
+
+  keys_kept : keys_above compacted (kept keeps ts) ≡ keys_above compacted (history ts)
+  keys_kept =
+      ap (map (λ (r : RevisionView). r.key))
+      (filter_both (is_above compacted) keeps (history ts)
+      ∙ filter_same (λ (r : RevisionView). is_above compacted r && keeps r) (is_above compacted) (history ts) (λ r has.
+      above_kept r (is_above compacted r) refl has))
+
+  no_number : missing_numbers compacted (kept keeps ts) ≡ []
+  no_number = ap (missing_after (max compacted 1) 0) keys_kept ∙ none_missing compacted nothing (history ts) (goes ts run)
+
+  module _ (store : StoreView) (is : HoldsExactly store compacted (kept keeps ts)) (grants : GrantsLeases store ts) where
+    own : revisions is.entries ≡ kept keeps ts
+    own = revisions_are is.entries (kept keeps ts) is.revisions
+
+    no_entry_lines : entry_lines (Some compacted) is.entries ≡ []
+    no_entry_lines =
+        rw (no_others is.entries (kept keeps ts) is.revisions, own, none_misplaced, no_number) refl
+
+    no_name_lines : name_lines (Some compacted) (store_granted store) store.by_name ≡ []
+    no_name_lines =
+        ap (flat_map fault_lines)
+        (none_of_any (name_faults (Some compacted) (store_granted store) None store.by_name) (λ name.
+        faults_named (Some compacted) (store_granted store) (kept keeps ts) store.by_name name kept_rises is.sorted
+        ∙ no_faults compacted ts keeps run compaction name (store_granted store) (grants name)))
+
+    pub nothing_found : store_lines store ≡ []
+    nothing_found =
+        ap (λ (l : List (List ℕ)). l ++ key_lines store (store.bucket (codes "key"))) (no_bucket_lines store bucket_names is.buckets)
+        ∙ ap (key_lines store) is.under_key
+        ∙ ap (λ (c : Option ℕ). entry_lines c is.entries ++ name_lines c (store_granted store) store.by_name) is.compacted_at
+        ∙ ap (λ (l : List (List ℕ)). l ++ name_lines (Some compacted) (store_granted store) store.by_name) no_entry_lines
+        ∙ no_name_lines

@@ -1,0 +1,203 @@
+-- A revision that is taken away is missed by the next one of its name.
+use Rattle.std.proofs.Common.{◌≡◌, ◌∙◌, ◌<◌, ◌+◌, ◌++◌, ◌||◌, ℕ, Bool, true, false, List, [], ◌∷◌, cond, filter, inl, inr, not, Option, Some}
+use Rattle.std.proofs.Common.{None, refl, sym, ap, subst, arith}
+use Rattle.std.proofs.lemmas.Bool.{and_from, and_parts, cond-false, cond-true, eqb-true, false_from_ne_true, lt-ltb, not-true, or_left}
+use Rattle.std.proofs.lemmas.List.Elements.{Contains-append_left, filter-append}
+use Rattle.std.proofs.lemmas.Option.{same_Some}
+use Rattle.std.specs.List.{Contains, find, last_or}
+use Rattle.bolt_tree.proofs.Lists.{contains_head, contains_tail}
+use Rattle.bolt_etcd.specs.{Compactions.IsCompaction, Compactions.kept, Follows.creates, Follows.follows, Follows.is_next_of}
+use Rattle.bolt_etcd.specs.{Histories.Delete, Histories.Put, Histories.State, Histories.Transaction, Histories.history, Histories.nothing}
+use Rattle.bolt_etcd.specs.{Histories.version_after}
+use Rattle.bolt_etcd.specs.{NameFaults.AreByName, NameFaults.NameFaultView, NameFaults.fault_of, NameFaults.name_faults, Newest.is_named}
+use Rattle.bolt_etcd.specs.{Newest.newest, Newest.value_if, Revisions.RevisionView, Revisions.name_of, Runs.IsRun, Taken.IsShownBy}
+use Rattle.bolt_etcd.specs.{Taken.IsTaken, Taken.TellsOneBefore, Told.number_cmp}
+use Rattle.bolt_etcd.proofs.{HistorySteps.IsWritten, HistorySteps.each, HistorySteps.goes, HistorySteps.numbers_rise, StoreLemmas.itself}
+use Rattle.bolt_etcd.proofs.{WholeNames.IsOwn, WholeNames.LaterFollow, WholeNames.kept_follow, WholeNames.own_before}
+use Rattle.bolt_etcd.proofs.{FaultsOfNames.faults_named, Filtered.kept_from, KeptOfNames.last_in, MissingExact.main_le, TakenAway.after_it}
+use Rattle.bolt_etcd.proofs.NameHistories.{follows_held, follows_is, held_of, held_parts}
+use Rattle.bolt_etcd.proofs.{TakenAway.all_rise, TakenAway.left_places}
+
+next_version : (o : Option RevisionView) → 0 < version_after o
+next_version None = omega arith
+next_version (Some before) = omega arith
+
+-- ---- what follows two revisions in turn, but not the first of them alone
+
+abbrev HasVersion : RevisionView → Type 0
+HasVersion r = r.key.deleted ≡ false → 0 < r.content.version
+
+has_version : (state : State) (r : RevisionView) → IsWritten state r → HasVersion r
+has_version state r (Put name value lease, can, is) put = subst (λ (x : RevisionView). 0 < x.content.version) (sym is) (next_version (state name))
+has_version state r (Delete name, can, is) put = let deleted = ap (λ (x : RevisionView). x.key.deleted) is in cc
+
+gone_by : (r : RevisionView) (value : List ℕ) (b : Bool) → cond b None (Some value) ≡ None → cond b None (Some r) ≡ None
+gone_by r value true none = refl
+gone_by r value false some = cc
+
+is_gone : (o : Option RevisionView) → value_if o ≡ None → held_of o ≡ None
+is_gone None none = refl
+is_gone (Some r) none = gone_by r r.content.value r.key.deleted none
+
+creates_then : (o : Option RevisionView) (r : RevisionView) → held_of o ≡ None → follows o r ≡ true
+    → (r.key.deleted ≡ false) × (r.content.version ≡ 1)
+creates_then o r none follow =
+    let creation : creates r ≡ true = sym (follows_is o r ∙ ap (λ (h : Option RevisionView). follows_held h r) none) ∙ follow in
+    let (both, _) = and_parts _ _ creation in
+    let (live, one) = and_parts _ _ both in
+    (not-true r.key.deleted live, eqb-true r.content.version 1 one)
+
+next_then : (o : Option RevisionView) (before r : RevisionView) → held_of o ≡ Some before → r.key.deleted ≡ false → follows o r ≡ true
+    → r.content.version ≡ before.content.version + 1
+next_then o before r holds live follow =
+    let either = sym (follows_is o r ∙ ap (λ (h : Option RevisionView). follows_held h r) holds) ∙ follow in
+    let next : is_next_of before r ≡ true = sym (ap (λ (b : Bool). b || is_next_of before r) live) ∙ either in
+    eqb-true r.content.version (before.content.version + 1) (and_parts _ _ next).0
+
+live_held : (r : RevisionView) → r.key.deleted ≡ false → held_of (Some r) ≡ Some r
+live_held r live = cond-false r.key.deleted None (Some r) live
+
+upon_gone : (o : Option RevisionView) (r next : RevisionView) → held_of o ≡ None → follows o r ≡ true → follows (Some r) next ≡ true
+    → follows o next ≡ true
+    → ⊥
+upon_gone o r next gone first second both =
+    let (live, one) = creates_then o r gone first in
+    let (there, also) = creates_then o next gone both in
+    let two = next_then (Some r) r next (live_held r live) there second in
+    omega (arith, one, also, two)
+
+upon_put : (o : Option RevisionView) (before r next : RevisionView) (a : Bool) → held_of o ≡ Some before → 0 < before.content.version
+    → r.key.deleted ≡ a → next.key.deleted ≡ false → follows o r ≡ true → follows (Some r) next ≡ true → follows o next ≡ true → ⊥
+upon_put o before r next true holds some is live first second both =
+    let one = (creates_then (Some r) next (cond-true r.key.deleted None (Some r) is) second).1 in
+    let up = next_then o before next holds live both in
+    omega (arith, one, up, some)
+upon_put o before r next false holds some is live first second both =
+    let one = next_then o before r holds is first in
+    let two = next_then (Some r) r next (live_held r is) live second in
+    let up = next_then o before next holds live both in
+    omega (arith, one, two, up)
+
+follows_both : (o : Option RevisionView) (r next : RevisionView) (h : Option RevisionView) → held_of o ≡ h
+    → ((b : RevisionView) → h ≡ Some b → 0 < b.content.version)
+    → (next.key.deleted ≡ true → held_of o ≡ None) → follows o r ≡ true → follows (Some r) next ≡ true → follows o next ≡ true → ⊥
+follows_both o r next None holds some gone first second both = upon_gone o r next holds first second both
+follows_both o r next (Some before) holds some gone first second both =
+    let live = false_from_ne_true next.key.deleted (λ deleted. let none = gone deleted in cc) in
+    upon_put o before r next r.key.deleted holds (some before refl) refl live first second both
+
+-- ---- the revision after one that is taken away
+
+abbrev IsFound : {A : Type 0} → (A → Bool) → List A → A → Type 0
+IsFound {A} p xs x = (rest : List A) × (filter p xs ≡ x ∷ rest) × Contains xs x × (p x ≡ true)
+
+found_step : {A : Type 0} (p : A → Bool) (y : A) (ys : List A) (x : A) (b : Bool) → p y ≡ b → (find p ys ≡ Some x → IsFound p ys x)
+    → cond b (Some y) (find p ys) ≡ Some x
+    → IsFound p (y ∷ ys) x
+found_step p y ys x true is later e =
+    let same = same_Some y x e in
+    (filter p ys, cond-true (p y) _ _ is ∙ ap (λ z. z ∷ filter p ys) same, subst (Contains (y ∷ ys)) same (contains_head y ys), ap p (sym same) ∙ is)
+found_step p y ys x false is later e =
+    let (rest, are, has, passes) = later e in
+    (rest, cond-false (p y) _ _ is ∙ are, contains_tail y x ys has, passes)
+
+found_there : {A : Type 0} (p : A → Bool) (xs : List A) (x : A) → find p xs ≡ Some x → IsFound p xs x
+found_there p [] x e = cc
+found_there p (y ∷ ys) x e = found_step p y ys x (p y) refl (found_there p ys x) e
+
+follow_at : (compacted : ℕ) (o : Option RevisionView) (xs ys : List RevisionView) → LaterFollow compacted o (xs ++ ys)
+    → LaterFollow compacted (last_or o xs) ys
+follow_at compacted o [] ys all = all
+follow_at compacted o (x ∷ xs) ys all = follow_at compacted (Some x) xs ys all.1
+
+one_more : (b : Bool) (g f : NameFaultView) (fs : List NameFaultView) → Contains fs f → Contains (cond b (g ∷ fs) fs) f
+one_more true g f fs has = contains_tail g f fs has
+one_more false g f fs has = has
+
+fault_in : (c : Option ℕ) (granted : ℕ → Bool) (o : Option RevisionView) (xs : List RevisionView) (x : RevisionView) (ys : List RevisionView)
+    → (fault_of c granted (last_or o xs) x ys).one_before ≡ true
+    → Contains (name_faults c granted o (xs ++ x ∷ ys)) (fault_of c granted (last_or o xs) x ys)
+fault_in c granted o [] x ys is =
+    let f = fault_of c granted o x ys in
+    let first = cond-true (f.one_before || f.lease) _ _ (or_left f.one_before f.lease is) in
+    subst (λ (l : List NameFaultView). Contains l f) (sym first) (contains_head f (name_faults c granted (Some x) ys))
+fault_in c granted o (z ∷ xs) x ys is =
+    let g = fault_of c granted o z (xs ++ x ∷ ys) in
+    one_more (g.one_before || g.lease) g _ (name_faults c granted (Some z) (xs ++ x ∷ ys)) (fault_in c granted (Some z) xs x ys is)
+
+module _ (compacted : ℕ) (ts : List Transaction) (keeps : RevisionView → Bool) (run : IsRun ts) (compaction : IsCompaction compacted ts keeps)
+    (r next : RevisionView) (left : List RevisionView) (is : IsTaken compacted (kept keeps ts) r left)
+    (shown : IsShownBy next r is.before is.after) where
+  its_next : IsFound (is_named (name_of r)) is.after next
+  its_next = found_there (is_named (name_of r)) is.after next shown.next_of_name
+
+  abbrev earlier : List RevisionView
+  earlier = filter (is_named (name_of r)) is.before
+
+  abbrev later : List RevisionView
+  later = its_next.0
+
+  own_kept : filter (is_named (name_of r)) (kept keeps ts) ≡ earlier ++ r ∷ next ∷ later
+  own_kept =
+      ap (filter (is_named (name_of r))) is.there
+      ∙ filter-append (is_named (name_of r)) is.before (r ∷ is.after)
+      ∙ ap (λ (l : List RevisionView). earlier ++ l)
+      (cond-true (is_named (name_of r) r) _ _ (itself (name_of r)) ∙ ap (λ (l : List RevisionView). r ∷ l) its_next.1)
+
+  own_left : filter (is_named (name_of r)) left ≡ earlier ++ next ∷ later
+  own_left =
+      ap (filter (is_named (name_of r))) is.gone
+      ∙ filter-append (is_named (name_of r)) is.before is.after
+      ∙ ap (λ (l : List RevisionView). earlier ++ l) its_next.1
+
+  above : compacted < next.key.main
+  above =
+      let all = numbers_rise (is.before ++ r ∷ is.after) (all_rise compacted ts keeps run r left is) in
+      let less = after_it r number_cmp is.before is.after next all its_next.2 in
+      let low = is.above in
+      let le = main_le r.key next.key less in
+      omega (arith, low, le)
+
+  in_history : (b : RevisionView) → last_or None earlier ≡ Some b → Contains (history ts) b × (is_named (name_of r) b ≡ true)
+  in_history b e = elim (last_in None earlier b e) [
+    | inl nowhere ↦ cc
+    | inr has ↦
+        let (there, named) = kept_from (is_named (name_of r)) is.before b has in
+        let whole = Contains-append_left is.before (r ∷ is.after) b there in
+        ((kept_from keeps (history ts) b (subst (λ (l : List RevisionView). Contains l b) (sym is.there) whole)).0, named)
+  ]
+
+  has_one : (b : RevisionView) → held_of (last_or None earlier) ≡ Some b → 0 < b.content.version
+  has_one b e =
+      let (last, live) = held_parts (last_or None earlier) b e in
+      each HasVersion has_version nothing 2 0 (history ts) (goes ts run) b (in_history b last).0 live
+
+  not_follows : follows (last_or None earlier) next ≡ false
+  unfolding newest
+  not_follows =
+      let own = subst (LaterFollow compacted None) own_kept (kept_follow compacted ts keeps run compaction (name_of r)) in
+      let all = follow_at compacted None earlier (r ∷ next ∷ later) own in
+      false_from_ne_true _
+      (follows_both (last_or None earlier) r next (held_of (last_or None earlier)) refl has_one
+      (λ deleted. is_gone (last_or None earlier) (shown.not_after_put deleted)) (all.0 is.above) (all.1.0 above))
+
+  own_last : (o : Option RevisionView) → last_or None earlier ≡ o → IsOwn (name_of r) o
+  own_last None e = tt
+  own_last (Some b) e = (in_history b e).1
+
+  module _ (granted : ℕ → Bool) where
+    abbrev fault : NameFaultView
+    fault = fault_of (Some compacted) granted (last_or None earlier) next later
+
+    is_missing : fault.one_before ≡ true
+    is_missing =
+        let own = own_before (name_of r) (last_or None earlier) next (own_last (last_or None earlier) refl) its_next.3 in
+        and_from _ _ (lt-ltb compacted next.key.main above) (ap not (ap (λ (o : Option RevisionView). follows o next) own ∙ not_follows))
+
+    pub fault_found : (by_name : List RevisionView) → AreByName left by_name → TellsOneBefore next (name_faults (Some compacted) granted None by_name)
+    fault_found by_name sorted =
+        let here = fault_in (Some compacted) granted None earlier next later is_missing in
+        let all =
+        faults_named (Some compacted) granted left by_name (name_of r) (left_places compacted ts keeps run r left is) sorted
+        ∙ ap (name_faults (Some compacted) granted None) own_left in
+        (fault, (kept_from _ _ fault (subst (λ (l : List NameFaultView). Contains l fault) (sym all) here)).0, refl, is_missing)

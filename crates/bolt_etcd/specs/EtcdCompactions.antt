@@ -1,0 +1,13 @@
+-- Which revisions etcd keeps in a compaction: all later ones, and of each name the newest one up to the compaction's transaction, unless that is
+-- a deletion. New versions of etcd keep a deletion of that transaction itself.
+use Rattle.std.specs.Prelude.{ℕ, Bool, false, List, Option, Some, None, bytes_eq, nat_lt, not, ◌==◌, ◌&&◌, ◌||◌}
+use Rattle.bolt_etcd.specs.{Newest.newest, Newest.until, Revisions.RevisionView, Revisions.name_of}
+
+abbrev pub is_same : RevisionView → Option RevisionView → Bool
+is_same r None = false
+is_same r (Some other) = bytes_eq other.place r.place
+
+abbrev pub etcd_keeps : (new : Bool) (compacted : ℕ) → List RevisionView → RevisionView → Bool
+etcd_keeps new compacted rs r =
+    nat_lt compacted r.key.main
+    || (is_same r (newest (name_of r) (until compacted rs)) && (not r.key.deleted || (new && (r.key.main == compacted))))
