@@ -6,7 +6,7 @@ use Rattle.bolt_etcd.proofs.current.Current.find.Goals as goal
 
 pub returns-clause-keys : goal.returns-clause-keys
 returns-clause-keys c = λ entries are.
-    let same = c.in_ok-of.ensures.revisions entries are in
+    let same = c.in_ok-revisions.ensures.revisions entries are in
     let rises = filter_rises place_cmp (is_until c.args.up_to) (revisions entries) (revisions_rise entries are.rises) in
     subst (λ (rs : List RevisionView). AreCurrent rs (map shown_revision c.keep_newest.new.revisions.items)) same
     (c.keep_newest.ensures (subst (Rises place_cmp) (sym same) rises))
