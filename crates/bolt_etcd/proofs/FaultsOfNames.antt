@@ -12,13 +12,14 @@ use Rattle.std.specs.Str.{bytes_eq}
 use Rattle.std.specs.declared.cmp.Ordering.{Ordering}
 use Rattle.std.specs.declared.cmp.Ordering.TheVariants.{Equal, Greater, Less}
 use Rattle.bolt_check.specs.Keys.{Key, key_cmp}
-use Rattle.bolt_tree.proofs.{Filters.filter_none, Filters.kept, Lists.contains_head, Lists.contains_tail, Lists.rises_once}
+use Rattle.bolt_tree.proofs.{Filters.filter_none, Filters.kept, Lists.contains_head, Lists.rises_once}
 use Rattle.bolt_tree.specs.Order.{IsBelow, Rises}
 use Rattle.bolt_etcd.specs.{Current.name_cmp, Current.place_cmp, Follows.follows, MissingNumbers.is_above, Newest.is_named}
 use Rattle.bolt_etcd.specs.{Revisions.RevisionView, Revisions.name_of}
 use Rattle.bolt_etcd.specs.NameFaults.{AreByName, NameFaultView, before_of, by_name_cmp, fault_of, is_newest, lacks_lease, lacks_one_before}
 use Rattle.bolt_etcd.specs.NameFaults.{name_faults}
-use Rattle.bolt_etcd.proofs.{Filtered.filter_rises, Filtered.kept_from, SortedOnce.by_name_rises, SortedOnce.by_name_total, StoreLemmas.itself}
+use Rattle.bolt_etcd.proofs.{Filtered.filter_rises, Filtered.kept_from, SortedOnce.by_name_rises, SortedOnce.by_name_total, Rising.rises_as}
+use Rattle.bolt_etcd.proofs.{StoreLemmas.itself}
 
 names_total : IsTotalOrder name_cmp
 names_total = on_total name_of nat_list_cmp_total
@@ -173,15 +174,9 @@ module _ (name : Key) where
       kept (is_named name) sorted r (Contains-permutation rs sorted r is.same there) passes
 
   by_place : (rs : List RevisionView) → ((r : RevisionView) → Contains rs r → is_named name r ≡ true) → Rises place_cmp rs → Rises by_name_cmp rs
-  by_place [] are rises = tt
-  by_place (r ∷ rs) are rises = (
-    λ s has.
-        let first = own r (are r (contains_head r rs)) in
-        let second = own s (are s (contains_tail r s rs has)) in
-        let tied : name_cmp r s ≡ Equal = rw (first, second) (tied_itself nat_list_cmp_total name) in
-        rw (tied, rises.0 s has) refl,
-    by_place rs (λ s has. are s (contains_tail r s rs has)) rises.1,
-  )
+  by_place rs are = rises_as place_cmp by_name_cmp rs (λ a b has also less.
+      let tied : name_cmp a b ≡ Equal = rw (own a (are a has), own b (are b also)) (tied_itself nat_list_cmp_total name) in
+      rw (tied, less) refl)
 
   same_named : (rs sorted : List RevisionView) → Rises place_cmp rs → AreByName rs sorted → named sorted ≡ named rs
   same_named rs sorted rises is =
