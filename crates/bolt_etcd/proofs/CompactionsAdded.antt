@@ -1,28 +1,14 @@
 -- Two compactions are one.
-use Rattle.std.proofs.Common.{◌≡◌, ◌∙◌, ◌≤◌, ◌&&◌, ℕ, Bool, true, false, List, [], ◌∷◌, cond, filter, inl, inr, Option}
+use Rattle.std.proofs.Common.{◌≡◌, ◌∙◌, ◌≤◌, ◌&&◌, ℕ, Bool, List, filter, inl, inr}
 use Rattle.std.proofs.Common.{Some, None, refl, sym, ap, arith}
 use Rattle.std.proofs.lemmas.Bool.{and_from, and_parts, cases_lt}
-use Rattle.std.proofs.lemmas.Option.{same_Some}
 use Rattle.std.specs.List.{Contains, last_or}
 use Rattle.bolt_check.specs.Keys.{Key}
 use Rattle.bolt_tree.proofs.Filters.{filter_same}
 use Rattle.bolt_etcd.specs.{Compactions.IsCompaction, Histories.Transaction, Histories.history, Histories.state_at, Newest.is_named, Newest.is_until}
 use Rattle.bolt_etcd.specs.{Newest.newest, Newest.until, Revisions.RevisionView}
 use Rattle.bolt_etcd.proofs.{Filtered.filter_both, Filtered.kept_from, HistoryUntil.held_at, HistoryUntil.until_early, HistoryUntil.until_late}
-use Rattle.bolt_etcd.proofs.{KeptOfNames.filter_swap, KeptOfNames.last_in, NameHistories.held_of, NameHistories.held_parts}
-
--- the last one is the last of those that pass, if it passes
-last_step : (p : RevisionView → Bool) (o : Option RevisionView) (x : RevisionView) (xs : List RevisionView) (r : RevisionView) (b : Bool) → p x ≡ b
-    → p r ≡ true
-    → ((o' : Option RevisionView) → (Some x ≡ Some r → o' ≡ Some r) → last_or o' (filter p xs) ≡ Some r)
-    → last_or o (cond b (x ∷ filter p xs) (filter p xs)) ≡ Some r
-last_step p o x xs r true test passes later = later (Some x) (λ same. same)
-last_step p o x xs r false test passes later = later o (λ same. let fails = sym (ap p (same_Some x r same)) ∙ test in cc)
-
-last_passes : (p : RevisionView → Bool) (o o' : Option RevisionView) (xs : List RevisionView) (r : RevisionView) → last_or o xs ≡ Some r → p r ≡ true
-    → (o ≡ Some r → o' ≡ Some r) → last_or o' (filter p xs) ≡ Some r
-last_passes p o o' [] r e passes same = same e
-last_passes p o o' (x ∷ xs) r e passes same = last_step p o' x xs r (p x) refl passes (λ o'' same'. last_passes p (Some x) o'' xs r e passes same')
+use Rattle.bolt_etcd.proofs.{KeptOfNames.filter_swap, LastOnes.last_in, LastOnes.last_passes, NameHistories.held_of, NameHistories.held_parts}
 
 module _ (ts : List Transaction) (early late : ℕ) (le : early ≤ late) where
   abbrev both : RevisionView → Bool

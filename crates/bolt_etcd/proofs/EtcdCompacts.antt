@@ -1,36 +1,25 @@
 -- What etcd keeps in a compaction is what the names held then, and the older ones of a name go first.
-use Rattle.std.proofs.Common.{◌≡◌, ◌∙◌, ◌⊎◌, ◌<◌, ◌≤◌, ℕ, Bool, true, List, [], ◌∷◌, filter, inl, inr, not, Option, Some, None, refl, sym, ap}
+use Rattle.std.proofs.Common.{◌≡◌, ◌∙◌, ◌<◌, ◌≤◌, ℕ, Bool, true, List, filter, inl, inr, not, Option, Some, None, refl, sym, ap}
 use Rattle.std.proofs.Common.{subst, arith}
 use Rattle.std.proofs.lemmas.Bool.{and_from, and_parts, cases_lt, lt-ltb, ltb-true, or_cases, or_left, or_right}
 use Rattle.std.proofs.lemmas.Cmp.{nat_list_cmp_total, on_total}
-use Rattle.std.proofs.lemmas.Option.{same_Some}
 use Rattle.std.specs.Cmp.{IsTotalOrder}
 use Rattle.std.specs.Cmp.Lexicographic.{same_text}
 use Rattle.std.specs.List.{Contains, last_or}
 use Rattle.std.specs.declared.cmp.Ordering.TheVariants.{Less}
 use Rattle.bolt_check.specs.Keys.{Key}
-use Rattle.bolt_tree.proofs.{Filters.kept as passes, Lists.asymmetric, Lists.contains_cases, Lists.contains_none, Lists.irreflexive}
+use Rattle.bolt_tree.proofs.{Filters.kept as passes, Lists.asymmetric, Lists.irreflexive}
 use Rattle.bolt_tree.specs.Order.{Rises}
 use Rattle.bolt_etcd.specs.{Compactions.IsCompaction, Current.place_cmp, EtcdCompactions.etcd_keeps, EtcdCompactions.is_same}
 use Rattle.bolt_etcd.specs.{Histories.Transaction, Histories.history, Histories.state_at}
 use Rattle.bolt_etcd.specs.{Newest.is_named, Newest.is_until, Newest.newest, Newest.until, Revisions.RevisionView, Revisions.name_of, Runs.IsRun}
 use Rattle.bolt_etcd.proofs.{Filtered.filter_rises, Filtered.kept_from, HistorySteps.places_rise, HistorySteps.same_order}
-use Rattle.bolt_etcd.proofs.{HistoryUntil.held_at, HistoryUntil.until_early, KeptOfNames.last_in, MissingExact.main_le, NameHistories.held_parts}
+use Rattle.bolt_etcd.proofs.{HistoryUntil.held_at, HistoryUntil.until_early, LastOnes.last_after, LastOnes.last_in, MissingExact.main_le}
+use Rattle.bolt_etcd.proofs.{NameHistories.held_parts}
 use Rattle.bolt_etcd.proofs.StoreLemmas.{itself}
 
 places_total : IsTotalOrder place_cmp
 places_total = on_total (λ (r : RevisionView). r.place) nat_list_cmp_total
-
-last_after : (o : Option RevisionView) (rs : List RevisionView) (last r : RevisionView) → Rises place_cmp rs → last_or o rs ≡ Some last
-    → Contains rs r → (r ≡ last) ⊎ (place_cmp r last ≡ Less)
-last_after o [] last r rises e has = absurd (contains_none r has)
-last_after o (x ∷ rs) last r rises e has = elim (contains_cases x r rs has) [
-  | inl same ↦ elim (last_in (Some x) rs last e) [
-    | inl is ↦ inl (sym same ∙ same_Some x last is)
-    | inr more ↦ inr (subst (λ (y : RevisionView). place_cmp y last ≡ Less) same (rises.0 last more))
-  ]
-  | inr more ↦ last_after (Some x) rs last r rises.1 e more
-]
 
 module _ (ts : List Transaction) (new : Bool) (compacted : ℕ) (run : IsRun ts) where
   abbrev keeps : RevisionView → Bool
@@ -54,7 +43,7 @@ module _ (ts : List Transaction) (new : Bool) (compacted : ℕ) (run : IsRun ts)
   none_after a b (Some last) e same has less =
       let place = same_text last.place a.place (sym same) in
       let up : place_cmp last b ≡ Less = rw place less in
-      elim (last_after None (own (name_of a)) last b (own_rise (name_of a)) e has) [
+      elim (last_after place_cmp None (own (name_of a)) last b (own_rise (name_of a)) e has) [
         | inl is ↦ irreflexive places_total last (subst (λ (x : RevisionView). place_cmp last x ≡ Less) is up)
         | inr back ↦ asymmetric places_total last b up back
       ]

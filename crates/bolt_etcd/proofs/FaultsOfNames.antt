@@ -12,13 +12,14 @@ use Rattle.std.specs.Str.{bytes_eq}
 use Rattle.std.specs.declared.cmp.Ordering.{Ordering}
 use Rattle.std.specs.declared.cmp.Ordering.TheVariants.{Equal, Greater, Less}
 use Rattle.bolt_check.specs.Keys.{Key, key_cmp}
-use Rattle.bolt_tree.proofs.{Filters.filter_none, Filters.kept, Lists.contains_head, Lists.contains_tail, Lists.rises_once}
+use Rattle.bolt_tree.proofs.{Filters.filter_none, Filters.kept, Lists.contains_head, Lists.rises_once}
 use Rattle.bolt_tree.specs.Order.{IsBelow, Rises}
 use Rattle.bolt_etcd.specs.{Current.name_cmp, Current.place_cmp, Follows.follows, MissingNumbers.is_above, Newest.is_named}
 use Rattle.bolt_etcd.specs.{Revisions.RevisionView, Revisions.name_of}
-use Rattle.bolt_etcd.specs.NameFaults.{AreByName, NameFaultView, before_of, by_name_cmp, fault_of, is_newest, lacks_lease, lacks_one_before}
+use Rattle.bolt_etcd.specs.NameFaults.{AreByName, NameFaultView, by_name_cmp, fault_of, is_newest, lacks_lease, lacks_one_before}
 use Rattle.bolt_etcd.specs.NameFaults.{name_faults}
-use Rattle.bolt_etcd.proofs.{Filtered.filter_rises, Filtered.kept_from, SortedOnce.by_name_rises, SortedOnce.by_name_total, StoreLemmas.itself}
+use Rattle.bolt_etcd.proofs.{Filtered.filter_rises, Filtered.kept_from, SortedOnce.by_name_rises, SortedOnce.by_name_total, Rising.rises_as}
+use Rattle.bolt_etcd.proofs.{StoreLemmas.itself}
 
 names_total : IsTotalOrder name_cmp
 names_total = on_total name_of nat_list_cmp_total
@@ -59,26 +60,9 @@ module _ (name : Key) where
   abbrev is_of_name : NameFaultView → Bool
   is_of_name f = is_named name f.revision
 
-  abbrev own_before : Option RevisionView → Option RevisionView
-  own_before None = None
-  own_before (Some before) = cond (is_named name before) (Some before) None
-
   abbrev BeforeAll : Option RevisionView → List RevisionView → Type 0
   BeforeAll None rs = Unit {0}
   BeforeAll (Some before) rs = IsBelow by_name_cmp before rs
-
-  own_again : (before : RevisionView) (r : RevisionView) (b : Bool) → is_named name before ≡ b → name_of r ≡ name
-      → before_of (cond b (Some before) None) r ≡ cond b (Some before) None
-  own_again before r true is same = cond-true (is_named (name_of r) before) (Some before) None (ap (bytes_eq (name_of before)) same ∙ is)
-  own_again before r false other same = refl
-
-  before_is : (o : Option RevisionView) (r : RevisionView) → name_of r ≡ name → before_of o r ≡ own_before o
-  before_is None r same = refl
-  before_is (Some before) r same = ap (λ (n : Key). cond (bytes_eq (name_of before) n) (Some before) None) same
-
-  same_before : (o : Option RevisionView) (r : RevisionView) → name_of r ≡ name → before_of (own_before o) r ≡ before_of o r
-  same_before None r same = refl
-  same_before (Some before) r same = own_again before r (is_named name before) refl same ∙ sym (before_is (Some before) r same)
 
   newest_step : (r x : RevisionView) (rs : List RevisionView) (b : Bool) → is_named name x ≡ b → is_named name r ≡ true → by_name_cmp r x ≡ Less
       → IsBelow by_name_cmp x rs
@@ -101,19 +85,25 @@ module _ (name : Key) where
     abbrev listed : Bool → NameFaultView → List NameFaultView → List NameFaultView
     listed b f later = cond b (f ∷ later) later
 
-    lacks_same : (c : Option ℕ) (o p : Option RevisionView) (r : RevisionView) → before_of o r ≡ before_of p r
-        → lacks_one_before c o r ≡ lacks_one_before c p r
-    lacks_same None o p r same = refl
-    lacks_same (Some at) o p r same = ap (λ (x : Option RevisionView). is_above at r && not (follows x r)) same
-
     fault_same : (before : Option RevisionView) (r : RevisionView) (rs : List RevisionView) → is_named name r ≡ true → IsBelow by_name_cmp r rs
-        → Rises by_name_cmp rs
-        → fault_of compacted granted before r rs ≡ fault_of compacted granted (own_before before) r (named rs)
+        → Rises by_name_cmp rs → fault_of compacted granted before r rs ≡ fault_of compacted granted before r (named rs)
     fault_same before r rs is below rises =
-        let lacks = lacks_same compacted before (own_before before) r (sym (same_before before r (own r is))) in
-        let newest = ap (λ (b : Bool). b && lacks_lease granted r) (sym (newest_same r rs is below rises)) in
-        ap (λ (b : Bool). record { revision = r; one_before = b; lease = is_newest r rs && lacks_lease granted r }) lacks
-        ∙ ap (λ (b : Bool). record { revision = r; one_before = lacks_one_before compacted (own_before before) r; lease = b }) newest
+        ap (λ (b : Bool). record { revision = r; one_before = lacks_one_before compacted before r; lease = b && lacks_lease granted r })
+        (sym (newest_same r rs is below rises))
+
+    -- one of another name before them is as none
+    lacks_same : (c : Option ℕ) (a r : RevisionView) → is_named (name_of r) a ≡ false → lacks_one_before c (Some a) r ≡ lacks_one_before c None r
+    lacks_same None a r other = refl
+    lacks_same (Some at) a r other = ap (λ (x : Option RevisionView). is_above at r && not (follows x r)) (cond-false _ (Some a) None other)
+
+    not_own : (a : RevisionView) (rs : List RevisionView) → is_named name a ≡ false → ((r : RevisionView) → Contains rs r → is_named name r ≡ true)
+        → faults (Some a) rs ≡ faults None rs
+    not_own a [] other are = refl
+    not_own a (r ∷ rs) other are =
+        let apart = ap (bytes_eq (name_of a)) (own r (are r (contains_head r rs))) ∙ other in
+        let lease = is_newest r rs && lacks_lease granted r in
+        ap (λ (b : Bool). listed (b || lease) (record { revision = r; one_before = b; lease = lease }) (faults (Some r) rs))
+        (lacks_same compacted a r apart)
 
     filter_own : (b : Bool) (f : NameFaultView) (later : List NameFaultView) → is_of_name f ≡ true
         → filter is_of_name (listed b f later) ≡ listed b f (filter is_of_name later)
@@ -125,38 +115,39 @@ module _ (name : Key) where
     filter_other true f later other = cond-false (is_of_name f) _ _ other
     filter_other false f later other = refl
 
+    are_own : (rs : List RevisionView) (r : RevisionView) → Contains (named rs) r → is_named name r ≡ true
+    are_own rs r has = (kept_from (is_named name) rs r has).1
+
     -- after a revision of another name there are none of this name, or none was before it
     skip_own : (before r : RevisionView) (rs : List RevisionView) (b : Bool) → is_named name before ≡ b → is_named name r ≡ false
-        → by_name_cmp before r ≡ Less → IsBelow by_name_cmp r rs
-        → faults None (named rs) ≡ faults (cond b (Some before) None) (named rs)
+        → by_name_cmp before r ≡ Less → IsBelow by_name_cmp r rs → faults (Some r) (named rs) ≡ faults (Some before) (named rs)
     skip_own before r rs true is other less below =
         let none = none_later before r rs is other less below in
-        ap (faults None) none ∙ sym (ap (faults (Some before)) none)
-    skip_own before r rs false is other less below = refl
+        ap (faults (Some r)) none ∙ sym (ap (faults (Some before)) none)
+    skip_own before r rs false is other less below = not_own r (named rs) other (are_own rs) ∙ sym (not_own before (named rs) is (are_own rs))
 
     skip : (before : Option RevisionView) (r : RevisionView) (rs : List RevisionView) → is_named name r ≡ false → BeforeAll before (r ∷ rs)
-        → IsBelow by_name_cmp r rs
-        → faults None (named rs) ≡ faults (own_before before) (named rs)
-    skip None r rs other all below = refl
+        → IsBelow by_name_cmp r rs → faults (Some r) (named rs) ≡ faults before (named rs)
+    skip None r rs other all below = not_own r (named rs) other (are_own rs)
     skip (Some before) r rs other all below = skip_own before r rs (is_named name before) refl other (all r (contains_head r rs)) below
 
     name_step : (before : Option RevisionView) (r : RevisionView) (rs : List RevisionView) (b : Bool) → is_named name r ≡ b
         → BeforeAll before (r ∷ rs) → Rises by_name_cmp (r ∷ rs)
-        → filter is_of_name (faults (Some r) rs) ≡ faults (own_before (Some r)) (named rs)
-        → filter is_of_name (faults before (r ∷ rs)) ≡ faults (own_before before) (cond b (r ∷ named rs) (named rs))
+        → filter is_of_name (faults (Some r) rs) ≡ faults (Some r) (named rs)
+        → filter is_of_name (faults before (r ∷ rs)) ≡ faults before (cond b (r ∷ named rs) (named rs))
     name_step before r rs true is all rises later =
         let f = fault_of compacted granted before r rs in
         filter_own (f.one_before || f.lease) f (faults (Some r) rs) is
-        ∙ ap (listed (f.one_before || f.lease) f) (later ∙ ap (λ (o : Option RevisionView). faults o (named rs)) (cond-true _ _ None is))
+        ∙ ap (listed (f.one_before || f.lease) f) later
         ∙ ap (λ (x : NameFaultView). listed (x.one_before || x.lease) x (faults (Some r) (named rs))) (fault_same before r rs is rises.0 rises.1)
     name_step before r rs false other all rises later =
         let f = fault_of compacted granted before r rs in
         filter_other (f.one_before || f.lease) f (faults (Some r) rs) other
-        ∙ later ∙ ap (λ (o : Option RevisionView). faults o (named rs)) (cond-false (is_named name r) (Some r) None other)
+        ∙ later
         ∙ skip before r rs other all rises.0
 
     of_name : (before : Option RevisionView) (rs : List RevisionView) → BeforeAll before rs → Rises by_name_cmp rs
-        → filter is_of_name (faults before rs) ≡ faults (own_before before) (named rs)
+        → filter is_of_name (faults before rs) ≡ faults before (named rs)
     of_name before [] all rises = refl
     of_name before (r ∷ rs) all rises = name_step before r rs (is_named name r) refl all rises (of_name (Some r) rs rises.0 rises.1)
 
@@ -173,15 +164,9 @@ module _ (name : Key) where
       kept (is_named name) sorted r (Contains-permutation rs sorted r is.same there) passes
 
   by_place : (rs : List RevisionView) → ((r : RevisionView) → Contains rs r → is_named name r ≡ true) → Rises place_cmp rs → Rises by_name_cmp rs
-  by_place [] are rises = tt
-  by_place (r ∷ rs) are rises = (
-    λ s has.
-        let first = own r (are r (contains_head r rs)) in
-        let second = own s (are s (contains_tail r s rs has)) in
-        let tied : name_cmp r s ≡ Equal = rw (first, second) (tied_itself nat_list_cmp_total name) in
-        rw (tied, rises.0 s has) refl,
-    by_place rs (λ s has. are s (contains_tail r s rs has)) rises.1,
-  )
+  by_place rs are = rises_as place_cmp by_name_cmp rs (λ a b has also less.
+      let tied : name_cmp a b ≡ Equal = rw (own a (are a has), own b (are b also)) (tied_itself nat_list_cmp_total name) in
+      rw (tied, less) refl)
 
   same_named : (rs sorted : List RevisionView) → Rises place_cmp rs → AreByName rs sorted → named sorted ≡ named rs
   same_named rs sorted rises is =

@@ -5,13 +5,13 @@ use Rattle.std.specs.List.{Contains}
 use Rattle.std.specs.Ordering.{bool_cmp, nat_cmp, ordering_then}
 use Rattle.std.specs.declared.cmp.Ordering.{Ordering}
 use Rattle.std.specs.declared.cmp.Ordering.TheVariants.{Equal, Greater, Less}
-use Rattle.bolt_tree.proofs.Lists.{contains_cases, contains_head, contains_none, contains_tail}
+use Rattle.bolt_tree.proofs.Lists.{contains_cases, contains_none}
 use Rattle.bolt_tree.specs.Order.{Rises}
 use Rattle.bolt_etcd.specs.Histories.{State, Transaction, Write, after, after_all, history, history_from, nothing, revision_by, written}
 use Rattle.bolt_etcd.specs.{Current.place_cmp, RevisionKeys.spelling, Revisions.RevisionView, Runs.CanRun, Runs.CanWrite, Runs.CanWriteAll}
 use Rattle.bolt_etcd.specs.{Runs.IsRun, Told.number_cmp}
 use Rattle.bolt_etcd.specs.declared.revision_key.RevisionKey.{RevisionKey}
-use Rattle.bolt_etcd.proofs.KeyNumbers.{less, spellings_cmp}
+use Rattle.bolt_etcd.proofs.{KeyNumbers.less, KeyNumbers.spellings_cmp, Rising.rises_as}
 
 abbrev pub IsWritten : State → RevisionView → Type 0
 IsWritten state r = (w : Write) × CanWrite state w × (r ≡ revision_by state r.key.main r.key.sub w)
@@ -111,11 +111,9 @@ number_less Equal p q is = ap (λ (x : Ordering). ordering_then x q) is
 number_less Greater p q is = is
 
 pub numbers_rise : (rs : List RevisionView) → Rises pair_cmp rs → Rises number_cmp rs
-numbers_rise [] rises = tt
-numbers_rise (r ∷ rs) (first, more) = (
-  λ s has. number_less (nat_cmp r.key.main s.key.main) (nat_cmp r.key.sub s.key.sub) (bool_cmp r.key.deleted s.key.deleted) (first s has),
-  numbers_rise rs more,
-)
+numbers_rise rs =
+    rises_as pair_cmp number_cmp rs (λ a b has also less'.
+    number_less (nat_cmp a.key.main b.key.main) (nat_cmp a.key.sub b.key.sub) (bool_cmp a.key.deleted b.key.deleted) less')
 
 pub history_rises : (ts : List Transaction) → IsRun ts → Rises pair_cmp (history ts)
 history_rises ts run = pairs_rise nothing 2 0 (history ts) (goes ts run)
@@ -132,13 +130,7 @@ pub same_order : (ts : List Transaction) → IsRun ts → (a b : RevisionView) �
     → place_cmp a b ≡ number_cmp a b
 same_order ts run a b has also = rw (place_is ts run a has, place_is ts run b also) (spellings_cmp a.key b.key (run.fits a has) (run.fits b also))
 
-places_from : (rs : List RevisionView) → ((a b : RevisionView) → Contains rs a → Contains rs b → place_cmp a b ≡ number_cmp a b)
-    → Rises number_cmp rs → Rises place_cmp rs
-places_from [] same rises = tt
-places_from (r ∷ rs) same rises = (
-  λ s has. same r s (contains_head r rs) (contains_tail r s rs has) ∙ rises.0 s has,
-  places_from rs (λ a b has also. same a b (contains_tail r a rs has) (contains_tail r b rs also)) rises.1,
-)
-
 pub places_rise : (ts : List Transaction) → IsRun ts → Rises place_cmp (history ts)
-places_rise ts run = places_from (history ts) (same_order ts run) (numbers_rise (history ts) (history_rises ts run))
+places_rise ts run =
+    rises_as number_cmp place_cmp (history ts) (λ a b has also less'. same_order ts run a b has also ∙ less')
+    (numbers_rise (history ts) (history_rises ts run))

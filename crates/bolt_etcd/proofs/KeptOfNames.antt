@@ -1,39 +1,25 @@
 -- What a compaction keeps of one name: all from a revision on.
-use Rattle.std.proofs.Common.{◌≡◌, ◌∙◌, ◌⊎◌, ◌<◌, ◌≤◌, ◌++◌, inl, inr, ℕ, Bool, true, false, List, [], ◌∷◌, cond, filter, Option, Some}
+use Rattle.std.proofs.Common.{◌≡◌, ◌∙◌, ◌<◌, ◌≤◌, ◌++◌, inl, inr, ℕ, Bool, true, false, List, [], ◌∷◌, filter, Option, Some}
 use Rattle.std.proofs.Common.{None, refl, sym, ap, subst}
+use Rattle.std.proofs.Math.Bool.{and_comm}
 use Rattle.std.proofs.lemmas.Bool.{cases_lt, cond-false}
 use Rattle.std.proofs.lemmas.List.{append-nil}
 use Rattle.std.proofs.lemmas.List.Elements.{Contains-append_left, filter-append}
-use Rattle.std.proofs.lemmas.Option.{same_Some}
 use Rattle.std.specs.Cmp.Lexicographic.{same_text}
 use Rattle.std.specs.List.{Contains, last_or}
 use Rattle.bolt_check.specs.Keys.{Key}
-use Rattle.bolt_tree.proofs.{Filters.filter_all, Filters.filter_none, Lists.contains_cases, Lists.contains_head, Lists.contains_none}
+use Rattle.bolt_tree.proofs.{Filters.filter_all, Filters.filter_none, Filters.filter_same, Lists.contains_cases, Lists.contains_head}
+use Rattle.bolt_tree.proofs.{Lists.contains_none}
 use Rattle.bolt_tree.proofs.{Lists.contains_tail}
 use Rattle.bolt_tree.specs.Order.{Rises}
 use Rattle.bolt_etcd.specs.{Compactions.IsCompaction, Compactions.kept, Current.place_cmp, Histories.Transaction, Histories.history}
 use Rattle.bolt_etcd.specs.{Newest.is_named, Newest.is_until, Newest.newest, Newest.until, Revisions.RevisionView, Revisions.name_of, Runs.IsRun}
-use Rattle.bolt_etcd.proofs.{Filtered.filter_rises, Filtered.kept_from, HistorySteps.places_rise, HistoryUntil.until_early}
-use Rattle.bolt_etcd.proofs.{HistoryUntil.until_late, HistoryUntil.held_at}
+use Rattle.bolt_etcd.proofs.{Filtered.filter_both, Filtered.filter_rises, Filtered.kept_from, HistorySteps.places_rise, HistoryUntil.until_early}
+use Rattle.bolt_etcd.proofs.{HistoryUntil.until_late, HistoryUntil.held_at, LastOnes.last_in}
 use Rattle.bolt_etcd.proofs.NameHistories.{held_of, held_parts}
 
-pub last_in : {A : Type 0} (o : Option A) (xs : List A) (x : A) → last_or o xs ≡ Some x → (o ≡ Some x) ⊎ Contains xs x
-last_in o [] x e = inl e
-last_in o (y ∷ ys) x e = elim (last_in (Some y) ys x e) [
-  | inl is ↦ inr (subst (Contains (y ∷ ys)) (same_Some y x is) (contains_head y ys))
-  | inr more ↦ inr (contains_tail y x ys more)
-]
-
-swap_step : {A : Type 0} (p q : A → Bool) (x : A) (xs : List A) (a b : Bool) → p x ≡ a → q x ≡ b → filter p (filter q xs) ≡ filter q (filter p xs)
-    → filter p (cond b (x ∷ filter q xs) (filter q xs)) ≡ filter q (cond a (x ∷ filter p xs) (filter p xs))
-swap_step p q x xs true true is also later = rw (is, also) (ap (λ l. x ∷ l) later)
-swap_step p q x xs true false is also later = rw also later
-swap_step p q x xs false true is also later = rw is later
-swap_step p q x xs false false is also later = later
-
 pub filter_swap : {A : Type 0} (p q : A → Bool) (xs : List A) → filter p (filter q xs) ≡ filter q (filter p xs)
-filter_swap p q [] = refl
-filter_swap p q (x ∷ xs) = swap_step p q x xs (p x) (q x) refl refl (filter_swap p q xs)
+filter_swap p q xs = filter_both p q xs ∙ filter_same _ _ xs (λ x has. and_comm (p x) (q x)) ∙ sym (filter_both q p xs)
 
 module _ (compacted : ℕ) (ts : List Transaction) (keeps : RevisionView → Bool) (run : IsRun ts) (compaction : IsCompaction compacted ts keeps)
     (name : Key) where

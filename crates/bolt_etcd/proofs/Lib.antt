@@ -11,6 +11,7 @@ pub mod HistoryUntil
 pub mod KeptOfNames
 pub mod KeyNumbers
 pub mod Keys
+pub mod LastOnes
 pub mod Leases
 pub mod LastOfAll
 pub mod ListedTexts
@@ -26,6 +27,7 @@ pub mod RevisionLoops
 pub mod RevisionSteps
 pub mod RevisionTexts
 pub mod RevisionsExact
+pub mod Rising
 pub mod SnapshotLemmas
 pub mod SortedExists
 pub mod SortedOnce

@@ -11,7 +11,7 @@ use Rattle.bolt_etcd.specs.{Compactions.IsCompaction, Compactions.kept, Current.
 use Rattle.bolt_etcd.specs.{Histories.Transaction, Histories.history, Histories.state_at}
 use Rattle.bolt_etcd.specs.{Newest.is_named, Newest.is_until, Newest.newest, Newest.until, Revisions.RevisionView, Revisions.name_of, Runs.IsRun}
 use Rattle.bolt_etcd.proofs.{HistoryUntil.held_at, HistoryUntil.until_early, KeptOfNames.IsCut, KeptOfNames.cut, KeptOfNames.filter_swap}
-use Rattle.bolt_etcd.proofs.{NameHistories.held_of, NameHistories.held_parts, WholeNames.last_of_both}
+use Rattle.bolt_etcd.proofs.{NameHistories.held_of, NameHistories.held_parts, LastOnes.last_of_both}
 
 -- a revision is current exactly if it is what its name holds
 current_is_held : (rs : List RevisionView) (r : RevisionView) → IsCurrent rs r ↔ (held_of (newest (name_of r) rs) ≡ Some r)

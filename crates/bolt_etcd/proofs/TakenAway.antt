@@ -1,43 +1,18 @@
 -- A revision that is taken away from a store is told as missing by its numbers.
-use Rattle.std.proofs.Common.{◌≡◌, ◌<◌, ◌++◌, ℕ, Bool, List, [], ◌∷◌, inl, inr, sym, subst, arith}
+use Rattle.std.proofs.Common.{◌≡◌, ◌<◌, ◌++◌, ℕ, Bool, List, ◌∷◌, inl, inr, sym, subst, arith}
 use Rattle.std.proofs.lemmas.Cmp.{nat_cmp_total, tied_itself}
-use Rattle.std.proofs.lemmas.List.Elements.{Contains-append_cases, Contains-append_left, Contains-append_right}
+use Rattle.std.proofs.lemmas.List.Elements.{Contains-append_cases, Contains-append_right}
 use Rattle.std.specs.List.{Contains}
-use Rattle.std.specs.declared.cmp.Ordering.{Ordering}
 use Rattle.std.specs.declared.cmp.Ordering.TheVariants.{Less}
-use Rattle.bolt_tree.proofs.Lists.{contains_cases, contains_head, contains_none, contains_tail}
+use Rattle.bolt_tree.proofs.Lists.{contains_head}
 use Rattle.bolt_tree.specs.Order.{Rises}
 use Rattle.bolt_etcd.specs.{Compactions.kept, Current.place_cmp, Histories.Transaction, Histories.history, Histories.nothing}
 use Rattle.bolt_etcd.specs.{MissingNumbers.missing_numbers, Revisions.RevisionView, Runs.IsRun, Taken.IsTaken}
 use Rattle.bolt_etcd.specs.{Told.IsTold, ToldRevisions.IsToldRevision}
 use Rattle.bolt_etcd.proofs.{Filtered.filter_rises, Filtered.kept_from, HistorySteps.from, HistorySteps.goes, HistorySteps.history_rises}
 use Rattle.bolt_etcd.proofs.{HistorySteps.numbers_rise, HistorySteps.pair_cmp, HistorySteps.places_rise}
+use Rattle.bolt_etcd.proofs.Rising.{after_it, before_it, without_rises}
 use Rattle.bolt_etcd.proofs.{MissingExact.missing_told, RevisionsExact.revisions_told}
-
--- ---- a list without one of its elements
-
-module _ {A : Type 0} (r : A) where
-  put_back : (xs ys : List A) (x : A) → Contains (xs ++ ys) x → Contains (xs ++ r ∷ ys) x
-  put_back xs ys x has = elim (Contains-append_cases xs ys x has) [
-    | inl first ↦ Contains-append_left xs (r ∷ ys) x first
-    | inr second ↦ Contains-append_right xs (r ∷ ys) x (contains_tail r x ys second)
-  ]
-
-  module _ (cmp : A → A → Ordering) where
-    without_rises : (xs ys : List A) → Rises cmp (xs ++ r ∷ ys) → Rises cmp (xs ++ ys)
-    without_rises [] ys rises = rises.1
-    without_rises (x ∷ xs) ys rises = (λ y has. rises.0 y (put_back xs ys y has), without_rises xs ys rises.1)
-
-    before_it : (xs ys : List A) (x : A) → Rises cmp (xs ++ r ∷ ys) → Contains xs x → cmp x r ≡ Less
-    before_it [] ys x rises has = absurd (contains_none x has)
-    before_it (z ∷ xs) ys x rises has = elim (contains_cases z x xs has) [
-      | inl same ↦ subst (λ (w : A). cmp w r ≡ Less) same (rises.0 r (Contains-append_right xs (r ∷ ys) r (contains_head r ys)))
-      | inr more ↦ before_it xs ys x rises.1 more
-    ]
-
-    pub after_it : (xs ys : List A) (x : A) → Rises cmp (xs ++ r ∷ ys) → Contains ys x → cmp r x ≡ Less
-    after_it [] ys x rises has = rises.0 x has
-    after_it (z ∷ xs) ys x rises has = after_it xs ys x rises.1 has
 
 apart : (a b : RevisionView) → pair_cmp a b ≡ Less → a.key.main ≡ b.key.main → a.key.sub ≡ b.key.sub → ⊥
 apart a b less main sub = let tied = rw (main, sub, tied_itself nat_cmp_total b.key.main, tied_itself nat_cmp_total b.key.sub) at less in cc

@@ -14,7 +14,7 @@ use Rattle.bolt_etcd.specs.{Newest.newest, Newest.value_if, Revisions.RevisionVi
 use Rattle.bolt_etcd.specs.{Taken.IsTaken, Taken.TellsOneBefore, Told.number_cmp}
 use Rattle.bolt_etcd.proofs.{HistorySteps.IsWritten, HistorySteps.each, HistorySteps.goes, HistorySteps.numbers_rise, StoreLemmas.itself}
 use Rattle.bolt_etcd.proofs.{WholeNames.IsOwn, WholeNames.LaterFollow, WholeNames.kept_follow, WholeNames.own_before}
-use Rattle.bolt_etcd.proofs.{FaultsOfNames.faults_named, Filtered.kept_from, KeptOfNames.last_in, MissingExact.main_le, TakenAway.after_it}
+use Rattle.bolt_etcd.proofs.{FaultsOfNames.faults_named, Filtered.kept_from, LastOnes.last_in, MissingExact.main_le, Rising.after_it}
 use Rattle.bolt_etcd.proofs.NameHistories.{follows_held, follows_is, held_of, held_parts}
 use Rattle.bolt_etcd.proofs.{TakenAway.all_rise, TakenAway.left_places}
 

@@ -16,7 +16,8 @@ use Rattle.bolt_etcd.specs.{Revisions.name_of}
 use Rattle.bolt_etcd.specs.{Runs.IsRun, Told.number_cmp}
 use Rattle.bolt_etcd.proofs.{Filtered.filter_rises, Filtered.kept_from, HistorySteps.IsWritten, HistorySteps.each, HistorySteps.goes}
 use Rattle.bolt_etcd.proofs.{HistorySteps.history_rises, HistorySteps.numbers_rise}
-use Rattle.bolt_etcd.proofs.{KeptOfNames.IsCut, KeptOfNames.cut, KeptOfNames.last_in, MissingExact.main_le, NameHistories.AllFollow}
+use Rattle.bolt_etcd.proofs.{KeptOfNames.IsCut, KeptOfNames.cut, LastOnes.last_in, LastOnes.last_of_both, LastOnes.last_some}
+use Rattle.bolt_etcd.proofs.{MissingExact.main_le, NameHistories.AllFollow}
 use Rattle.bolt_etcd.proofs.{NameHistories.all_follow, NameHistories.follows_held, NameHistories.follows_is, NameHistories.held_of}
 use Rattle.bolt_etcd.proofs.{NameHistories.newest_held}
 
@@ -37,14 +38,6 @@ follow_last o (x ∷ xs) ys (here, more) = follow_last (Some x) xs ys more
 -- upon nothing or a deletion it is written alike
 upon_none : (o : Option RevisionView) (r : RevisionView) → held_of o ≡ None → follows o r ≡ follows None r
 upon_none o r none = follows_is o r ∙ ap (λ (h : Option RevisionView). follows_held h r) none ∙ sym (follows_is None r)
-
-last_some : (o : Option RevisionView) (rs : List RevisionView) (r : RevisionView) → last_or None rs ≡ Some r → last_or o rs ≡ Some r
-last_some o [] r e = cc
-last_some o (x ∷ rs) r e = e
-
-pub last_of_both : (o : Option RevisionView) (xs ys : List RevisionView) → last_or o (xs ++ ys) ≡ last_or (last_or o xs) ys
-last_of_both o [] ys = refl
-last_of_both o (x ∷ xs) ys = last_of_both (Some x) xs ys
 
 all_later : (compacted : ℕ) (r : RevisionView) (rs : List RevisionView) → Rises number_cmp (r ∷ rs) → compacted < r.key.main → (s : RevisionView)
     → Contains (r ∷ rs) s → compacted < s.key.main

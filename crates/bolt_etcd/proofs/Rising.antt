@@ -1,0 +1,42 @@
+-- Lists that rise.
+use Rattle.std.proofs.Common.{◌≡◌, ◌++◌, inl, inr, List, [], ◌∷◌, subst}
+use Rattle.std.proofs.lemmas.List.Elements.{Contains-append_cases, Contains-append_left, Contains-append_right}
+use Rattle.std.specs.List.{Contains}
+use Rattle.std.specs.declared.cmp.Ordering.{Ordering}
+use Rattle.std.specs.declared.cmp.Ordering.TheVariants.{Less}
+use Rattle.bolt_tree.proofs.Lists.{contains_cases, contains_head, contains_none, contains_tail}
+use Rattle.bolt_tree.specs.Order.{Rises}
+
+-- by another order, if that has its elements in the same order
+pub rises_as : {A : Type 0} (old new : A → A → Ordering) (xs : List A)
+    → ((a b : A) → Contains xs a → Contains xs b → old a b ≡ Less → new a b ≡ Less) → Rises old xs → Rises new xs
+rises_as old new [] same rises = tt
+rises_as old new (x ∷ xs) same rises = (
+  λ y has. same x y (contains_head x xs) (contains_tail x y xs has) (rises.0 y has),
+  rises_as old new xs (λ a b has also. same a b (contains_tail x a xs has) (contains_tail x b xs also)) rises.1,
+)
+
+-- ---- a list without one of its elements
+
+module _ {A : Type 0} (r : A) where
+  put_back : (xs ys : List A) (x : A) → Contains (xs ++ ys) x → Contains (xs ++ r ∷ ys) x
+  put_back xs ys x has = elim (Contains-append_cases xs ys x has) [
+    | inl first ↦ Contains-append_left xs (r ∷ ys) x first
+    | inr second ↦ Contains-append_right xs (r ∷ ys) x (contains_tail r x ys second)
+  ]
+
+  module _ (cmp : A → A → Ordering) where
+    pub without_rises : (xs ys : List A) → Rises cmp (xs ++ r ∷ ys) → Rises cmp (xs ++ ys)
+    without_rises [] ys rises = rises.1
+    without_rises (x ∷ xs) ys rises = (λ y has. rises.0 y (put_back xs ys y has), without_rises xs ys rises.1)
+
+    pub before_it : (xs ys : List A) (x : A) → Rises cmp (xs ++ r ∷ ys) → Contains xs x → cmp x r ≡ Less
+    before_it [] ys x rises has = absurd (contains_none x has)
+    before_it (z ∷ xs) ys x rises has = elim (contains_cases z x xs has) [
+      | inl same ↦ subst (λ (w : A). cmp w r ≡ Less) same (rises.0 r (Contains-append_right xs (r ∷ ys) r (contains_head r ys)))
+      | inr more ↦ before_it xs ys x rises.1 more
+    ]
+
+    pub after_it : (xs ys : List A) (x : A) → Rises cmp (xs ++ r ∷ ys) → Contains ys x → cmp r x ≡ Less
+    after_it [] ys x rises has = rises.0 x has
+    after_it (z ∷ xs) ys x rises has = after_it xs ys x rises.1 has
