@@ -19,7 +19,6 @@ FailsNaming-ordered line deeds code (inr fails) = Fails-ordered _ deeds code fai
 
 IsReported-ordered : {T O : Type 0} (ending : Ending) (deeds : List (Deed T O)) (code : ℕ) → IsReported ending deeds code → IsInOrder Printed deeds code
 IsReported-ordered (Ok status) [] code are = tt
-IsReported-ordered (Ok status) (Said text ∷ []) code are = not_0 code are.1
 IsReported-ordered (Err failure) (Said text ∷ []) code are = not_0 code are.1
 IsReported-ordered ending deeds code are = absurd are
 

@@ -2,7 +2,7 @@
 use Rattle.std.specs.Prelude.{◌≡◌, ◌⊎◌, ℕ, zero, suc, List, [], ◌∷◌, ◌++◌, Bool, true, false, Option, Some, None, Result, Ok, Err, codes, string_bytes, if◌then◌else◌}
 use Rattle.std.specs.Io.KnownBytes.{Appends, IsAtEnd}
 use Rattle.bolt_format.specs.Sinks.{AppendsPrefix}
-use Rattle.bolt_commands.specs.Answers.{DoesJob, Ending, error_text}
+use Rattle.bolt_commands.specs.Answers.{DoesJob, Ending}
 use Rattle.bolt_job.specs.CommandLine.{Asks, IsRefusalOf}
 use Rattle.bolt_cli.specs.Deeds.{Deed, Read, Made, Ended, Opened, Closed, Said}
 use Rattle.bolt_cli.specs.Names.{shown_name}
@@ -10,6 +10,7 @@ use Rattle.bolt_commands.specs.Failures.{failure_line}
 use Rattle.bolt_job.specs.LineWords.{Text}
 use Rattle.bolt_job.specs.{Jobs.needs_metas_alone, Jobs.file_name, Jobs.target_name}
 use Rattle.bolt_cli.specs.Sources.{is_changed}
+use Rattle.bolt_commands.specs.declared.failure.Failure.{Failure}
 use Rattle.bolt_commands.specs.declared.failure.Failure.TheVariants.{Memory, Write}
 use Rattle.bolt_job.specs.declared.job.Job.{Job}
 use Rattle.bolt_job.specs.declared.refusal.Refusal.{Refusal}
@@ -35,19 +36,19 @@ abbrev pub unread_line : Text → ReadFault → List ℕ
 unread_line name read.Refused = codes "error: cannot read " ++ (shown_name name ++ codes "\n")
 unread_line name read.Memory = failure_line Memory
 
--- the line that an ending asks for, or that of memory, if there was none for the line
-abbrev pub IsLineOf : Ending → List ℕ → Type 0
-IsLineOf (Ok status) line = line ≡ failure_line Memory
-IsLineOf (Err failure) line = (line ≡ failure_line failure) ⊎ (line ≡ failure_line Memory)
+-- the line of a failure, or that of memory, if there was none for the line
+abbrev pub IsLineOf : Failure → List ℕ → Type 0
+IsLineOf failure line = (line ≡ failure_line failure) ⊎ (line ≡ failure_line Memory)
 
 -- what is buffered for standard error once a job has ended so
 abbrev pub IsBufferedLine : Ending → List ℕ → Type 0
-IsBufferedLine ending line = (line ≡ error_text ending) ⊎ (line ≡ failure_line Memory)
+IsBufferedLine (Ok status) line = line ≡ []
+IsBufferedLine (Err failure) line = IsLineOf failure line
 
 -- the line if OUT isn't on the disk: that of the failure before or, if there was none, of a failed write
 abbrev pub IsUnendedLine : Ending → List ℕ → Type 0
-IsUnendedLine (Ok status) line = (line ≡ failure_line Write) ⊎ (line ≡ failure_line Memory)
-IsUnendedLine (Err failure) line = IsLineOf (Err failure) line
+IsUnendedLine (Ok status) line = line ≡ failure_line Write
+IsUnendedLine (Err failure) line = IsLineOf failure line
 
 -- what a sink in memory holds, and how often it failed
 pub record Buffered : Type 0 where
@@ -96,10 +97,10 @@ module _ {T O : Type 0} where
   abbrev pub FailsNaming : List ℕ → List (Deed T O) → ℕ → Type 0
   FailsNaming line deeds code = Fails line deeds code ⊎ Fails (failure_line Memory) deeds code
 
-  -- a job that ended so is over: with its line, if it has one
+  -- a job that ended so is over: with the line of its failure, if there was one
   abbrev pub IsReported : Ending → List (Deed T O) → ℕ → Type 0
   IsReported (Ok status) [] code = code ≡ status
-  IsReported ending (Said line ∷ []) code = IsLineOf ending line × (code ≡ 1)
+  IsReported (Err failure) (Said line ∷ []) code = IsLineOf failure line × (code ≡ 1)
   IsReported ending deeds code = ⊥
 
   -- if the reader of standard output has left, nothing more is said

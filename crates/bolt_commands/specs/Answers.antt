@@ -644,13 +644,13 @@ abbrev pub status_of : Ending → ℕ
 status_of (Ok status) = status
 status_of (Err failure) = 1
 
--- what is printed on standard error
-abbrev pub error_text : Ending → List ℕ
-error_text (Ok status) = []
-error_text (Err failure) = failure_line failure
-
 -- a sink accepted a text without a failure, or it failed and accepted a prefix of it
 abbrev pub Accepts : {S : Type 0} → (taken : S → Option (List ℕ)) (failed : S → ℕ) (old new : S) → List ℕ → Type 0
 Accepts taken failed old new text =
     (Appends (taken old) (taken new) text × (failed new ≡ failed old))
     ⊎ ((0 < failed new) × AppendsPrefix (taken old) (taken new) text)
+
+-- the line of a failure was written to standard error; if there was none, nothing was
+abbrev pub Reports : {S : Type 0} → (taken : S → Option (List ℕ)) (failed : S → ℕ) (old new : S) → Ending → Type 0
+Reports taken failed old new (Ok status) = new ≡ old
+Reports taken failed old new (Err failure) = Accepts taken failed old new (failure_line failure)

@@ -2,7 +2,7 @@
 #![tactic(auto)]
 
 ghost use Rattle.std.specs.Prelude.{◌≡◌, Result};
-ghost use Rattle.bolt_commands.specs.Answers.{DoesJob, Ending, Accepts, error_text, status_of};
+ghost use Rattle.bolt_commands.specs.{Answers.Accepts, Answers.DoesJob, Answers.Ending, Answers.Reports, Answers.status_of, Failures.failure_line};
 
 mod check_command;
 mod copies;
@@ -42,8 +42,8 @@ pub struct Status {
 }
 
 /// Does a job on the bytes of its file, and returns its status (docs/COMMANDS.md, "What a run
-/// writes"). It writes the text to `out`, the line of a failure to `err`, and a copy to `target`;
-/// other jobs don't touch `target`.
+/// writes"). It writes the text to `out`, and a copy to `target`; other jobs don't touch `target`. If
+/// there was a failure, it writes its line to `err`; otherwise it doesn't touch `err`.
 pub fn run<O: Sink, E: Sink, T: Sink>(
     alloc: Global,
     job: &Job,
@@ -54,7 +54,7 @@ pub fn run<O: Sink, E: Sink, T: Sink>(
 ) -> Status
     ensures { (ending : Ending)
         × DoesJob O.taken O.failed out.old out.new T.taken T.failed target.old target.new file.now job.now ending
-        × (result.code ≡ status_of ending) × Accepts E.taken E.failed err.old err.new (error_text ending) }
+        × (result.code ≡ status_of ending) × Reports E.taken E.failed err.old err.new ending }
 {
     match do_job(Input { alloc, file }, job, out, target) {
         Ok(code) => Status { code },
@@ -65,7 +65,7 @@ pub fn run<O: Sink, E: Sink, T: Sink>(
 /// Reports a failure. The status is the same if its line can't be written.
 fn report<E: Sink>(failure: &Failure, err: &mut E) -> Status
     ensures status { result.code ≡ 1 }
-    ensures line { Accepts E.taken E.failed err.old err.new (error_text (Err failure.now)) }
+    ensures line { Accepts E.taken E.failed err.old err.new (failure_line failure.now) }
 {
     let _ = put_failure(failure, err);
     Status { code: 1 }

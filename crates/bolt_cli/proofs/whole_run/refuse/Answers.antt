@@ -18,5 +18,5 @@ returns-in-Word g c = DoesDeeds-one _ c.say-in-Word.ensures (rw c.in-Word.is (ap
 
 pub returns-in-Help : goal.returns-in-Help
 returns-in-Help g c =
-    DoesDeeds-as (c.print.ensures (Ok 0) (inl refl) refl)
+    DoesDeeds-as (c.print.ensures (Ok 0) refl refl)
     (λ deeds prints. printed g.O.Target.Sink.taken g.O.Target.Sink.failed g.O.Output.Sink.taken g.O.Output.Sink.failed c.args.refusal.now c.in-Help.text deeds _ c.in-Help.is (rw c.as_bytes-in-Help.ensures.value at prints))
