@@ -1,4 +1,5 @@
 -- Lists: members, lists that rise by a relation, and that two such lists with the same members are one. For the crates above too.
+use Rattle.std.proofs.Common.{rules}
 use Rattle.std.proofs.Common.{◌≡◌, ℕ, zero, suc, ◌+◌, ◌<◌, ◌⊎◌, inl, inr, List, [], ◌∷◌, ◌++◌, length, Some, slice_get, get_or, map, refl, sym, ap, subst, arith, ◌∙◌}
 use Rattle.std.proofs.lemmas.Option.{get_or_from_slice_get, none-some, slice_get-get_or, slice_get_within}
 use Rattle.std.specs.List.{AllPairs, Contains, flat_map}
@@ -79,9 +80,7 @@ module _ {X : Type 0} where
   pairs_from_rises R xs a = λ i j d h k. rises_gets R xs i j (get_or xs i d) (get_or xs j d) a h (slice_get-get_or xs i d (omega (arith, h, k))) (slice_get-get_or xs j d k)
 
   pub rises_from_pairs : (R : X → X → Type 0) (xs : List X) → AllPairs R xs → RisesBy R xs
-  rises_from_pairs R xs a = rises_from_gets R xs (λ i j x y lt g h.
-      subst (λ (w : X). R x w) (get_or_from_slice_get xs j y x h)
-      (subst (λ (w : X). R w (get_or xs j x)) (get_or_from_slice_get xs i x x g) (a i j x lt (slice_get_within xs j y h))))
+  rises_from_pairs R xs a = search (rules, rises_from_gets, get_or_from_slice_get, slice_get_within)
 
   -- what stands before a member
   pub get_before : (xs : List X) (k l : ℕ) (x : X) → k < l → slice_get xs l ≡ Some x → (y : X) × (slice_get xs k ≡ Some y)
@@ -101,13 +100,10 @@ module _ {X : Type 0} where
   -- Two lists that rise by a strict order and have the same members are one.
   module _ (R : X → X → Type 0) (strict : (x y : X) → R x y → R y x → ⊥) where
     same_head : (x y : X) (xs ys : List X) → Each (R x) xs → Each (R y) ys → Has (y ∷ ys) x → Has (x ∷ xs) y → x ≡ y
-    same_head x y xs ys a b (inl e) k = sym e
-    same_head x y xs ys a b (inr h) (inl e) = e
-    same_head x y xs ys a b (inr h) (inr k) = absurd (strict x y (a y k) (b x h))
+    same_head x y xs ys a b h k = grind arith
 
     tail_has : (x z : X) (ys : List X) → R x z → Has (x ∷ ys) z → Has ys z
-    tail_has x z ys r (inl e) = absurd (strict x x (let q = r in subst (λ (w : X). R x w) (sym e) q) (let q = r in subst (λ (w : X). R x w) (sym e) q))
-    tail_has x z ys r (inr h) = h
+    tail_has x z ys r h = grind arith
 
     pub one_list : (xs ys : List X) → RisesBy R xs → RisesBy R ys → ((x : X) → Has xs x → Has ys x) → ((x : X) → Has ys x → Has xs x) → xs ≡ ys
     one_list [] [] a b f g = refl

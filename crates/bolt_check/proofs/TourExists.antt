@@ -1,4 +1,5 @@
 -- Each visit removes a page number from those that are left.
+use Rattle.std.proofs.lemmas.Grind.{common_steps}
 use Rattle.std.proofs.Common.{◌≡◌, ◌≢◌, ◌∙◌, ℕ, zero, suc, ◌<◌, inl, inr, List, [], ◌∷◌, ◌++◌, length, Option, Some, Ok, refl, sym, ap, subst, arith}
 use Rattle.std.proofs.lemmas.List.{append_cancel_left}
 use Rattle.bolt_check.proofs.Words.{At_page, Before, cases_eq, follow, Has, HasSoundTrees, Meta, Node, node_at, Nodes, PageSpot, Reach, root_spot, Spot}
@@ -42,11 +43,7 @@ module _ (nodes : Nodes) {left : List ℕ} {old : Reach} (fits : Fits nodes left
   fits_along : (rest : List ℕ) (new : Reach) (f : List ℕ → List ℕ) → ((b : List ℕ) (t : Spot) → new b ≡ Some t → old (f b) ≡ Some t)
       → ((a b : List ℕ) (t u : Spot) → new a ≡ Some t → new b ≡ Some u → f a ≡ f b → a ≡ b)
       → ((b : List ℕ) (t : PageSpot) → new b ≡ Some (At_page t) → Has left t.number → Has rest t.number) → Fits nodes rest new
-  fits_along rest new f same one stays = record {
-    good = λ b t e. fits.good (f b) t (same b (At_page t) e);
-    within = λ b t e. stays b t e (fits.within (f b) t (same b (At_page t) e));
-    apart = λ a b t u e h is. one a b (At_page t) (At_page u) e h (fits.apart (f a) (f b) t u (same a (At_page t) e) (same b (At_page u) h) is);
-  }
+  fits_along rest new f same one stays = grind arith
 
   pub fits_visited : {new : Reach} {o : Option Spot} {first : List ℕ} {f : List ℕ → List ℕ} → Visits old new o first f → Fits nodes left new
   fits_visited {new = new} {f = f} v = fits_along left new f v.same (one_of v) (λ b t e h. h)
@@ -62,11 +59,7 @@ module _ (nodes : Nodes) {left : List ℕ} {old : Reach} (fits : Fits nodes left
 -- the ways of sound trees fit
 sound_fits : (file : List ℕ) (meta : Meta) → HasSoundTrees file meta
     → Fits (node_at file meta) (numbers meta.high_water) (reached (node_at file meta) meta.root)
-sound_fits file meta trees = record {
-  good = λ way s e. (trees.good way s e).1;
-  within = λ way s e. let page = (trees.good way s e).1 in has_number s.number meta.high_water (node_below file meta s.number page.0 page.1);
-  apart = one_way (node_at file meta) meta.root trees;
-}
+sound_fits file meta trees = grind (arith, common_steps, has_number, node_below, one_way)
 
 -- and so do those of a bucket that one of them leads to
 pub bucket_fits : (file : List ℕ) (meta : Meta) → HasSoundTrees file meta → (way : List ℕ) (root : ℕ)
