@@ -1,20 +1,17 @@
 -- What the moves of a trail back do to its stack.
+use Rattle.std.proofs.lemmas.Grind.{common_steps}
 use Rattle.std.proofs.Common.{◌≡◌, ℕ, zero, suc, ◌+◌, ◌-◌, ◌≤◌, true, List, [], ◌∷◌, ◌++◌, Some, None, slice_get, length, take, refl, sym, ap, ◌∙◌, subst, arith, append_assoc, append-nil, length-append}
 use Rattle.bolt_tree.proofs.Words.{BranchElement, BucketView, Content, Contents, Frame, HasStack, IsAtRest, IsEntered, IsOn, LeafElement, Of_branch, Of_leaf, RestsOn, TourPage, address_on, all_under, before_of, before_under, content_length, contents_in, done_of, done_under, elements_in, elements_of, flat_map-append, index_of, passed_of, passed_under, length-take, none-some, pages_in, preceding_of, props, root_content, take_all, take_next, tour, under_at, ∥∥₁_elim}
 use Rattle.bolt_tree.proofs.{StackLemmas.branch_room, TrailLemmas.shown_by_branch}
 
 take_none : {X : Type 0} (xs : List X) → take 0 xs ≡ []
-take_none [] = refl
-take_none (x ∷ xs) = refl
+take_none xs = grind arith
 
 -- what lies under one more element
 under_more : (f : ℕ → ℕ → List TourPage) (i k j : ℕ) (elements : List BranchElement) (e : BranchElement) → slice_get elements k ≡ Some e → j ≡ i + k
     → all_under f i (take (suc k) elements) ≡ all_under f i (take k elements) ++ f j e.child
 under_more f i k j [] e g s = absurd (none-some e g)
-under_more f i zero j (x ∷ elements) e g s =
-    let same : x ≡ e = cc in
-    let here : j ≡ i = omega arith in
-    rw (same, here) (append-nil (f i e.child))
+under_more f i zero j (x ∷ elements) e g s = grind (arith, common_steps, append-nil)
 under_more f i (suc k) j (x ∷ elements) e g s =
     let next : j ≡ suc i + k = omega arith in
     ap (λ (vs : List TourPage). f i x.child ++ vs) (under_more f (suc i) k j elements e g next) ∙ sym (append_assoc (f i x.child) (all_under f (suc i) (take k elements)) (f j e.child))
@@ -23,13 +20,7 @@ under_more f i (suc k) j (x ∷ elements) e g s =
 pub tour_done : (contents : Contents) (n h : ℕ) (address : List ℕ) (content : Content) → ((elements : List BranchElement) → content ≡ Of_branch elements → n ≡ suc (62 - h))
     → (elements_of (tour contents n address content) ≡ elements_of (before_under contents h address content (suc (content_length content) - 1)) ++ done_under content (suc (content_length content)))
     × (length (tour contents n address content) ≡ suc (length (before_under contents h address content (suc (content_length content) - 1))))
-tour_done contents n h address (Of_leaf es) same =
-    let all : take (suc (length es) - 1) es ≡ es = take_all (suc (length es) - 1) es (omega arith) in
-    (append-nil es ∙ sym all, refl)
-tour_done contents n h address (Of_branch bs) same =
-    let all : take (suc (length bs) - 1) bs ≡ bs = take_all (suc (length bs) - 1) bs (omega arith) in
-    let t : tour contents n address (Of_branch bs) ≡ record { address = address; entries = [] } ∷ under_at contents h address 0 bs = ap (λ (m : ℕ). tour contents m address (Of_branch bs)) (same bs refl) in
-    (rw (t, all) (sym (append-nil (elements_of (under_at contents h address 0 bs)))), rw (t, all) refl)
+tour_done contents n h address content same = grind (arith, common_steps, take_all, append-nil, tour, under_at, elements_of)
 
 -- an entry is taken
 pub back_some : (contents : Contents) (content : Content) (i t : ℕ) (below new : List Frame) (e : LeafElement) → t ≡ i + 2 → IsEntered contents true content i below new (Some e)
@@ -73,12 +64,10 @@ back_none bucket (Of_branch bs) i t below new two h stack =
     (rw (h.2, old, back, more) left, rw (h.2, old, back, more) size)
 
 nothing_done : (content : Content) (t : ℕ) → t ≤ 1 → done_under content t ≡ []
-nothing_done (Of_leaf es) t h = let z : t - 1 ≡ 0 = omega arith in rw z (take_none es)
-nothing_done (Of_branch bs) t h = refl
+nothing_done content t h = grind arith
 
 nothing_before : (contents : Contents) (H : ℕ) (address : List ℕ) (content : Content) (t : ℕ) → t ≤ 1 → before_under contents H address content (t - 1) ≡ []
-nothing_before contents H address (Of_leaf es) t h = refl
-nothing_before contents H address (Of_branch bs) t h = let z : t - 1 ≡ 0 = omega arith in rw z (ap (under_at contents H address 0) (take_none bs))
+nothing_before contents H address content t h = grind arith
 
 -- a page of which nothing before is taken leaves the stack
 pub left_out : (bucket : BucketView) (f : Frame) (below : List Frame) → HasStack bucket (f ∷ below) → f.taken ≤ 1
@@ -97,8 +86,7 @@ root_behind bucket = tour_done (contents_in bucket) 63 0 [] (root_content bucket
 
 -- the pages on the stack have no entries of their own
 left_entries : (contents : Contents) (H : ℕ) (address : List ℕ) (content : Content) (k : ℕ) → elements_of (passed_under contents H address content k) ≡ elements_of (before_under contents H address content k)
-left_entries contents H address (Of_leaf es) k = refl
-left_entries contents H address (Of_branch bs) k = refl
+left_entries contents H address content k = grind arith
 
 pub left_elements : (contents : Contents) (frames : List Frame) → elements_of (passed_of contents frames) ≡ elements_of (before_of contents frames)
 left_elements contents [] = refl
@@ -111,14 +99,10 @@ left_elements contents (f ∷ below) =
 -- the number of the entry on which a stack stands is that of those behind
 behind_leaf : (contents : Contents) (es : List LeafElement) (t : ℕ) (below : List Frame) → 1 ≤ t → t ≤ length es
     → length (preceding_of contents (record { content = Of_leaf es; taken = t } ∷ below)) ≡ index_of contents (record { content = Of_leaf es; taken = t } ∷ below)
-behind_leaf contents es t below one most =
-    let n = ap (λ (vs : List TourPage). length (elements_of vs)) (append-nil (before_of contents below)) in
-    let m = length-take (t - 1) es in
-    omega (arith, ap length (left_elements contents below), length-append (elements_of (before_of contents below ++ [])) (take (t - 1) es), n, m, one, most)
+behind_leaf contents es t below one most = grind (arith, common_steps, elements_of, append-nil, before_of, length-take, left_elements, length-append)
 
 behind_content : (contents : Contents) (content : Content) (t : ℕ) (below : List Frame) → RestsOn content t → length (preceding_of contents (record { content = content; taken = t } ∷ below)) ≡ index_of contents (record { content = content; taken = t } ∷ below)
-behind_content contents (Of_leaf es) t below rest = behind_leaf contents es t below rest.0 rest.1
-behind_content contents (Of_branch bs) t below rest = absurd rest
+behind_content contents content t below rest = grind (arith, common_steps, behind_leaf)
 
 pub behind_index : (contents : Contents) (f : Frame) (below : List Frame) → IsAtRest (f ∷ below) → length (preceding_of contents (f ∷ below)) ≡ index_of contents (f ∷ below)
 behind_index contents f below rest = behind_content contents f.content f.taken below rest

@@ -1,6 +1,7 @@
 -- Ways from bucket to bucket: an address inside a bucket is a way, and so is a bucket among its entries. So each bucket that a path
 -- names begins at a place where a bucket of the tree does.
-use Rattle.std.proofs.Common.{◌≡◌, ◌∙◌, Bool, true, false, IsTrue, ℕ, suc, eqb, eqb-true, List, [], ◌∷◌, ◌++◌, map, Option, Some, Result, Ok, slice_get, refl, sym, ap, subst}
+use Rattle.std.proofs.Common.{arith}
+use Rattle.std.proofs.Common.{◌≡◌, ◌∙◌, Bool, true, false, IsTrue, ℕ, suc, eqb, List, [], ◌∷◌, ◌++◌, map, Option, Some, Result, Ok, slice_get, refl, sym, ap, subst}
 use Rattle.bolt_tree.proofs.Words.{At_page, Contains, Entry, Inline_page, IsEntry, IsOnWay, IsStart, LeafElement, Meta, Names, Node, Nodes, PageSpot, Path, Root_page, ShowsEntry, Spot, Start, bucket_spots, bucket_value, flat_inline, follow, follow_append, head_root, inline_elements, leads, leads_follow, leaf_entry, leaf_node, node_at, option_map, root_spot, slice_get-get_or, slice_get-map, start_of, step_at, step_entry}
 
 spot_for : (host : ℕ) (e : LeafElement) → e.is_bucket ≡ true → eqb (head_root e.value) 0 ≡ false → bucket_spots host (leaf_entry e) ≡ Some (At_page (root_spot (head_root e.value)))
@@ -72,8 +73,7 @@ module _ (file : List ℕ) (meta : Meta) where
       })
 
   pub none_inside : (value : List ℕ) (elements : List LeafElement) (b : Bool) → eqb (head_root value) 0 ≡ b → start_of value ≡ Inline_page elements → (head_root value ≡ 0) × (inline_elements value ≡ elements)
-  none_inside value elements true e same = (eqb-true (head_root value) 0 e, (let c : Inline_page (inline_elements value) ≡ Inline_page elements = sym (in_itself value e) ∙ same in cc))
-  none_inside value elements false e same = absurd (let c : Root_page (head_root value) ≡ Inline_page elements = sym (at_root value e) ∙ same in cc)
+  none_inside value elements b e same = grind arith
 
   -- a bucket among the entries of a bucket of the tree is one of the tree
   pub starts_below : (from : Start) (e : LeafElement) → IsStart file meta from → IsEntry file meta from e → e.is_bucket ≡ true → IsStart file meta (start_of e.value)

@@ -1,6 +1,7 @@
 -- Entries in order: which come first, next and last, and the place of a key among them.
 -- Over a list of elements whose keys rise.
-use Rattle.std.proofs.Common.{◌≡◌, ◌∙◌, ◌≤◌, inl, inr, Bool, true, false, ℕ, zero, suc, List, [], ◌∷◌, length, not, Some, slice_get, sym, ap, subst, arith, ◌<◌}
+use Rattle.std.proofs.lemmas.Grind.{common_steps}
+use Rattle.std.proofs.Common.{◌≡◌, ◌∙◌, ◌≤◌, inl, inr, Bool, true, false, ℕ, zero, suc, List, [], ◌∷◌, length, not, Some, slice_get, ap, subst, arith, ◌<◌}
 use Rattle.bolt_tree.proofs.Words.{Contains, Key, LeafElement, Less, Rises, cases_lt, entry_cmp, fails_before_first, get_or_from_slice_get, is_lt, key_cmp, key_lt, least_from, none-some, not-false, not-true, passes_at_first, same_Some, slice_get-get_or, slice_get_within}
 use Rattle.bolt_tree.proofs.PathOrder.{flip_less, key_same, key_total}
 
@@ -21,13 +22,7 @@ rises_at (x ∷ entries) zero (suc j) e g r lt at next = rw (← same_Some x e a
 rises_at (x ∷ entries) (suc i) (suc j) e g r lt at next = rises_at entries i j e g r.1 (omega arith) at next
 
 not_before : (entries : List LeafElement) (i j : ℕ) (e g : LeafElement) → Rises entry_cmp entries → i ≤ j → slice_get entries i ≡ Some e → slice_get entries j ≡ Some g → is_lt (key_cmp g.key e.key) ≡ false
-not_before entries i j e g r le at there = elim (cases_lt i j) [
-  | inl lt ↦ not_behind e.key g.key (rises_at entries i j e g r lt at there)
-  | inr ge ↦ (
-      let index : j ≡ i = omega (arith, le, ge) in
-      let same : g ≡ e = same_Some g e (sym there ∙ (ap (slice_get entries) index ∙ at)) in
-      rw same (ap is_lt (key_same e.key)))
-]
+not_before entries i j e g r le at there = grind (arith, common_steps, cases_lt, not_behind, rises_at, same_Some, is_lt, key_same)
 
 -- no key is before the first one
 pub first_least : (entries : List LeafElement) (e f : LeafElement) → Rises entry_cmp entries → slice_get entries 0 ≡ Some e → Contains entries f → is_lt (key_cmp f.key e.key) ≡ false
@@ -50,9 +45,7 @@ next_least entries i e g f r at next h less = let there = behind entries i e f r
 -- nothing is behind the last one
 pub last_greatest : (entries : List LeafElement) (i : ℕ) (e f : LeafElement) → Rises entry_cmp entries → slice_get entries i ≡ Some e → length entries ≤ suc i
     → Contains entries f → key_cmp e.key f.key ≡ Less → ⊥
-last_greatest entries i e f r at short h less =
-    let there = behind entries i e f r at h less in
-    omega (arith, short, there.1, slice_get_within entries there.0 f there.2)
+last_greatest entries i e f r at short h less = grind (arith, common_steps, behind, slice_get_within)
 
 -- where a key stands: the first entry that is not before it
 abbrev from : Key → LeafElement → Bool

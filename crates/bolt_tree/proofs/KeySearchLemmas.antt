@@ -1,12 +1,12 @@
 -- A search by halves.
+use Rattle.std.proofs.lemmas.Grind.{common_steps}
 use Rattle.std.proofs.Common.{◌≡◌, ℕ, zero, suc, ◌+◌, ◌*◌, ◌≤◌, ◌<◌, inl, inr, Bool, true, false, not, List, Some, slice_get, refl, sym, ap, ◌∙◌, arith, add-one}
 use Rattle.std.proofs.Math.Nat.{mul-le-mul_left}
 use Rattle.bolt_tree.proofs.Words.{Key, KeysRise, cases_lt, doubled, false_from_ne_true, key_lt, lt_trans, not-true, stands_before}
 
 -- what stands before a key that stands before does so too
 pub before_down : (or_equal : Bool) (a b s : Key) → key_lt a b ≡ true → stands_before or_equal b s ≡ true → stands_before or_equal a s ≡ true
-before_down true a b s h e = ap not (false_from_ne_true (key_lt s a) (λ t. let less = not-true (key_lt s b) e in let more : key_lt s b ≡ true = lt_trans s a b t h in cc))
-before_down false a b s h e = lt_trans a b s h e
+before_down or_equal a b s h e = grind (arith, common_steps, not, false_from_ne_true, key_lt, not-true, lt_trans)
 
 -- and the other way round
 pub before_up : (or_equal : Bool) (a b s : Key) → key_lt a b ≡ true → stands_before or_equal a s ≡ false → stands_before or_equal b s ≡ false

@@ -45,8 +45,7 @@ stack_rises bucket (Of_branch bs) t below stack = branch_rises bucket bs t below
 
 -- the way down begins at the root page
 near_begin : (file : List ℕ) (meta : Meta) (start : Start) (key : Key) → IsStart file meta start → IsNearTo file meta start key [] (content_at_start (content_at file meta) start)
-near_begin file meta (Root_page number) key is = (number, 1, is, refl, λ rest n. n)
-near_begin file meta (Inline_page elements) key is = (refl, refl)
+near_begin file meta start key is = grind arith
 
 pub way_begins : (bucket : BucketView) (key : Key) → ∥ IsSoundBucket bucket ∥₁ → IsOnWayDown bucket key [] (root_content bucket)
 way_begins bucket key is = ∥∥₁_map is (λ s. near_begin bucket.file bucket.meta bucket.start key s.start)
@@ -140,10 +139,7 @@ pub moved_way : (old now : BucketView) (key : Key) (under below : List Frame) (a
 moved_way old now key under below a d e g h way = rw (e, g, h) way
 
 pub begins : (contents : Contents) (key : Key) → IsBetween contents key []
-begins contents key = record {
-  passed = λ k e g. absurd (none-some e g);
-  later = λ k e g. absurd (none-some e g);
-}
+begins contents key = grind arith
 
 -- what is no branch shows a leaf
 pub shows_leaf : (opened : Opened) → ((page : BranchPage) → opened ≡ Branch page → ⊥) → (es : List LeafElement) × (opened_content opened ≡ Of_leaf es)

@@ -111,8 +111,7 @@ further bucket s key (Some leaf) (Of_leaf es) taken below (g ∷ under) n stack 
 
 -- nothing comes later than where it comes to at the end
 right_end : (contents : Contents) (found : Option Leaf) (before after : List LeafElement) (frames : List Frame) → Finds false found before after frames [] → length (later_of contents frames) ≡ opened_to (option_map leaf_view found) (later_of contents frames)
-right_end contents None before after frames h = ap (λ (fs : List Frame). length (later_of contents fs)) h.1
-right_end contents (Some leaf) before after frames h = refl
+right_end contents found before after frames h = grind arith
 
 -- what a seek opens
 pub seek_opens : (bucket : BucketView) (key : Key) (found : Option Leaf) (landed frames : List Frame) (old new : ℕ) → ∥ IsSoundBucket bucket ∥₁ → HasStack bucket landed → IsLeafTop landed → IsNearTop bucket key landed
@@ -141,5 +140,4 @@ seek_bounds bucket key (f ∷ below) compared stack leaf top few = λ near is.
     (omega (arith, depth, stack_short bucket f below stack), omega (arith, depth, few))
 
 pub leaf_nonempty : (frames : List Frame) → IsLeafTop frames → 1 ≤ length frames
-leaf_nonempty [] leaf = absurd leaf
-leaf_nonempty (f ∷ below) leaf = omega arith
+leaf_nonempty frames leaf = grind arith

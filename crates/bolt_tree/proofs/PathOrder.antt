@@ -1,5 +1,6 @@
 -- The order of paths, part by part: what comes after a path, and where.
 -- Rests on the order of keys, which is total, and in which only equal keys are tied.
+use Rattle.std.proofs.Common.{arith}
 use Rattle.std.proofs.Common.{◌≡◌, ◌∙◌, ◌⊎◌, inl, inr, Bool, true, false, List, [], ◌∷◌, ◌++◌, refl, ap}
 use Rattle.std.proofs.lemmas.Map.Lookups.{exact_bytes}
 use Rattle.bolt_tree.proofs.Words.{Equal, Greater, IsTotalOrder, Key, Less, Ordering, Path, by_first, is_beyond, is_lt, key_cmp, less_of, lists_total, nat_list_cmp_total, ordering_reverse, ordering_then, path_cmp, tied_itself}
@@ -16,9 +17,7 @@ less_lt o e = less_of o e
 
 -- only equal texts are tied
 then_equal : (a b : Ordering) → ordering_then a b ≡ Equal → (a ≡ Equal) × (b ≡ Equal)
-then_equal Less b e = absurd (cc)
-then_equal Equal b e = (refl, e)
-then_equal Greater b e = absurd (cc)
+then_equal a b e = grind arith
 
 lists_exact : {K : Type 0} (R : K → K → Ordering) → ((x y : K) → R x y ≡ Equal → x ≡ y) → (xs ys : List K) → slice_cmp R xs ys ≡ Equal → xs ≡ ys
 lists_exact R exact [] [] e = refl
@@ -73,9 +72,7 @@ beyond_or_longer (x ∷ p) (y ∷ q) e = by_parts x y p q (key_cmp x y) refl e (
 
 -- what stands beyond a path stands behind all that it begins
 first_less : (o r : Ordering) (b : Bool) → by_first o b ≡ true → (b ≡ true → r ≡ Less) → ordering_then o r ≡ Less
-first_less Less r b e more = refl
-first_less Equal r b e more = more e
-first_less Greater r b e more = absurd (let f : false ≡ true = e in cc)
+first_less o r b e more = grind arith
 
 pub beyond_less : (p s q : Path) → is_beyond p q ≡ true → path_cmp (p ++ s) q ≡ Less
 beyond_less [] s q e = absurd (let f : false ≡ true = e in cc)
@@ -93,9 +90,7 @@ by_last x y p q k Equal e h more =
 by_last x y p q k Greater e h more = absurd (let f : false ≡ true = h in cc)
 
 only_less : (k y : Key) (o : Ordering) → key_cmp k y ≡ o → by_first o false ≡ true → key_cmp k y ≡ Less
-only_less k y Less e h = e
-only_less k y Equal e h = absurd (let f : false ≡ true = h in cc)
-only_less k y Greater e h = absurd (let f : false ≡ true = h in cc)
+only_less k y o e h = grind arith
 
 pub beyond_push : (p : Path) (k : Key) (q : Path) → is_beyond (p ++ k ∷ []) q ≡ true
     → (is_beyond p q ≡ true) ⊎ ((z : Key) × (r : Path) × (q ≡ p ++ z ∷ r) × (key_cmp k z ≡ Less))
@@ -110,9 +105,7 @@ beyond_here [] k z s r e = rw e refl
 beyond_here (x ∷ p) k z s r e = rw key_same (beyond_here p k z s r e)
 
 first_more : (o : Ordering) (a b : Bool) → by_first o a ≡ true → (a ≡ true → b ≡ true) → by_first o b ≡ true
-first_more Less a b e more = refl
-first_more Equal a b e more = more e
-first_more Greater a b e more = absurd (let f : false ≡ true = e in cc)
+first_more o a b e more = grind arith
 
 -- beyond a path is beyond all that it begins
 pub beyond_longer : (p s q : Path) → is_beyond p q ≡ true → is_beyond (p ++ s) q ≡ true

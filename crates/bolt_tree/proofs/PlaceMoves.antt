@@ -1,6 +1,7 @@
 -- The place of a stack among the entries of its bucket, and what the moves of a trail are to a cursor's place.
+use Rattle.std.proofs.lemmas.Grind.{common_steps}
 use Rattle.std.proofs.Common.{true, false, Bool, ◌≡◌, ℕ, suc, ◌+◌, ◌-◌, ◌≤◌, ◌<◌, List, [], ◌∷◌, ◌++◌, Some, None, Option, slice_get, length, drop, refl, sym, ap, ◌∙◌, arith, length-append, zero, take, append_assoc}
-use Rattle.bolt_tree.proofs.Words.{AreSorted, BucketView, Content, Contents, Finds, Frame, HasStack, IsAtRest, IsOn, IsSoundBucket, Key, Leaf, LeafElement, Move, Of_branch, Of_leaf, On, Past, Place, RestsOn, StandsOn, TourPage, address_on, ahead_of, contents_in, drop-append_seam, elements_in, elements_of, entries_to, first_move, flat_map-append, index_of, is_none, last_move, le-ltb, leaf_view, least_from, passed_of, length-drop, length-take, lt-ltb, next_move, none-some, option_map, pages_in, place_by, place_in, place_on, preceding_of, prev_move, props, later_of, seek_move, slice_get_within, take-append-drop, tour, ∥∥₁_elim, ∥∥₁_map}
+use Rattle.bolt_tree.proofs.Words.{AreSorted, BucketView, Content, Contents, Finds, Frame, HasStack, IsAtRest, IsOn, IsSoundBucket, Key, Leaf, LeafElement, Move, Of_branch, Of_leaf, On, Past, Place, RestsOn, StandsOn, TourPage, address_on, ahead_of, contents_in, drop-append_seam, elements_in, elements_of, entries_to, first_move, flat_map-append, index_of, is_none, last_move, le-ltb, leaf_view, least_from, passed_of, length-drop, length-take, next_move, option_map, pages_in, place_by, place_in, place_on, preceding_of, prev_move, props, later_of, seek_move, slice_get_within, take-append-drop, tour, ∥∥₁_elim, ∥∥₁_map}
 use Rattle.bolt_tree.proofs.{BackLemmas.behind_index, SortedLemmas.sorted, SortedLemmas.sorted_one}
 use Rattle.bolt_check.proofs.Lists.{get_behind, get_front}
 
@@ -59,12 +60,10 @@ split bucket f below stack rest = ∥∥₁_elim stack (Prim.hlevel props) (λ s
 
 -- a stack on an entry rests on it
 on_content_rests : (content : Content) (taken : ℕ) (e : LeafElement) → StandsOn content taken e → RestsOn content taken
-on_content_rests (Of_leaf es) taken e on = (on.0, let h = slice_get_within es (taken - 1) e on.1 in omega (arith, h))
-on_content_rests (Of_branch bs) taken e on = absurd on
+on_content_rests content taken e on = grind (arith, common_steps, slice_get_within)
 
 pub on_rests : (frames : List Frame) (e : LeafElement) → IsOn frames e → IsAtRest frames
-on_rests [] e on = absurd on
-on_rests (f ∷ below) e on = on_content_rests f.content f.taken e on
+on_rests frames e on = grind (arith, common_steps, on_content_rests)
 
 -- a stack is one of a sound bucket
 pub stack_bucket : (bucket : BucketView) (frames : List Frame) → HasStack bucket frames → ∥ IsSoundBucket bucket ∥₁
@@ -81,30 +80,24 @@ Comes entries move place answer = (place_in entries place ≡ move.place) × (an
 
 -- the place, where there are entries
 pub place_there : (entries : List LeafElement) (place : Place) → 0 < length entries → place_in entries place ≡ place
-place_there [] place h = absurd (omega arith)
-place_there (e ∷ entries) place h = refl
+place_there entries place h = grind arith
 
 -- the moves over a list
 first_none : (entries : List LeafElement) (place : Place) → entries ≡ [] → Comes entries (first_move entries) place None
 first_none entries place e = rw e (refl, refl)
 
 first_onto : (entries : List LeafElement) (i : ℕ) (e : LeafElement) → i ≡ 0 → slice_get entries i ≡ Some e → Comes entries (first_move entries) (On i) (Some e)
-first_onto [] i e z g = absurd (none-some e g)
-first_onto (x ∷ entries) i e z g = (rw z refl, sym (rw z at g))
+first_onto entries i e z g = grind arith
 
 last_none : (entries : List LeafElement) (place : Place) → entries ≡ [] → Comes entries (last_move entries) place None
 last_none entries place e = rw e (refl, refl)
 
 last_onto : (entries : List LeafElement) (i : ℕ) (answer : Option LeafElement) → suc i ≡ length entries → slice_get entries i ≡ answer → Comes entries (last_move entries) (On i) answer
-last_onto [] i answer e g = absurd (omega arith)
-last_onto (x ∷ entries) i answer e g = let same : length entries ≡ i = omega arith in rw (same, g) (refl, refl)
+last_onto entries i answer e g = grind arith
 
 next_onto : (entries : List LeafElement) (i k : ℕ) (answer : Option LeafElement) → k ≡ suc i → slice_get entries (suc i) ≡ answer → suc i < length entries
     → Comes entries (next_move entries (place_in entries (On i))) (On k) answer
-next_onto entries i k answer e g h =
-    let there = place_there entries (On i) (omega (arith, h)) in
-    let there2 = place_there entries (On k) (omega (arith, h)) in
-    rw (there, there2, e, lt-ltb (suc i) (length entries) h, g) (refl, refl)
+next_onto entries i k answer e g h = grind arith
 
 next_stays : (entries : List LeafElement) (i : ℕ) → 0 < length entries → length entries ≤ suc i → Comes entries (next_move entries (place_in entries (On i))) (On i) None
 next_stays entries i some h = rw (place_there entries (On i) some, le-ltb (suc i) (length entries) h) (refl, refl)
@@ -118,12 +111,10 @@ prev_stays entries i e some = let there = place_there entries (On i) some in rw 
 
 seek_onto : (key : Key) (entries : List LeafElement) (i k : ℕ) (answer : Option LeafElement) → least_from key entries ≡ i → k ≡ i → slice_get entries i ≡ answer → i < length entries
     → Comes entries (seek_move key entries) (On k) answer
-seek_onto key [] i k answer e s g h = absurd (omega arith)
-seek_onto key (x ∷ entries) i k answer e s g h = let b = lt-ltb i (length (x ∷ entries)) h in rw (e, b, s, g) (refl, refl)
+seek_onto key entries i k answer e s g h = grind arith
 
 seek_past : (key : Key) (entries : List LeafElement) → length entries ≤ least_from key entries → Comes entries (seek_move key entries) Past None
-seek_past key [] h = (refl, refl)
-seek_past key (x ∷ entries) h = let b = le-ltb (least_from key (x ∷ entries)) (length (x ∷ entries)) h in rw b (refl, refl)
+seek_past key entries h = grind arith
 
 -- the entry on which a stack stands
 current_content : (contents : Contents) (n : ℕ) (whole : List TourPage) (content : Content) (t : ℕ) (below : List Frame) (e : LeafElement) → StandsOn content t e
@@ -144,9 +135,7 @@ current bucket f below e stack at = ∥∥₁_elim stack (Prim.hlevel props) (λ
 -- how many entries lie ahead of where a stack stands
 pub ahead_number : (elements : List LeafElement) (contents : Contents) (f : Frame) (below : List Frame) → IsSplit elements contents (f ∷ below)
     → length elements ≡ suc (index_of contents (f ∷ below)) + length (ahead_of contents (f ∷ below))
-ahead_number elements contents f below s =
-    let a : length elements - suc (index_of contents (f ∷ below)) ≡ length (ahead_of contents (f ∷ below)) = sym (length-drop (suc (index_of contents (f ∷ below))) elements) ∙ ap length s.after in
-    omega (arith, a, s.within)
+ahead_number elements contents f below s = grind (arith, common_steps, index_of, ahead_of, length-drop)
 
 module _ (bucket : BucketView) where
   abbrev here : List Frame → Place

@@ -34,8 +34,7 @@ below_one d tree tree_before trees after same p = record {
     by (suc i) h = p.before i (omega arith)
 
     by_after : (i : ℕ) → suc d < i → at_depth i (tree_before ∷ after) ≡ end
-    by_after zero h = absurd (omega arith)
-    by_after (suc i) h = p.after_it i (omega arith)
+    by_after i h = grind arith
 
 alone : (tree : Tree) (trees : List Tree) → Puts zero tree trees (tree ∷ [])
 alone tree trees = record { before = λ i h. absurd (omega arith); at = refl; after_it = λ i h. by i h }

@@ -79,9 +79,7 @@ are_append below key xs ys a b k e g = elim (has_split xs ys e (at_has (xs ++ ys
 ]
 
 nothing_left : (contents : Contents) (H : ℕ) (address : List ℕ) (i : ℕ) (elements : List BranchElement) (x : LeafElement) → i ≡ 0 → Has (elements_of (under_at contents H address 0 (take i elements))) x → ⊥
-nothing_left contents H address zero [] x e h = h
-nothing_left contents H address zero (y ∷ elements) x e h = h
-nothing_left contents H address (suc i) elements x e h = omega arith
+nothing_left contents H address i elements x e h = grind arith
 
 -- under the nearest element the key still stands between
 pub between_down : (bucket : BucketView) (key : Key) (elements : List BranchElement) (i n t : ℕ) (e : BranchElement) (below : List Frame)

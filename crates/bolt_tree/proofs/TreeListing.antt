@@ -1,4 +1,6 @@
 -- What a tree lists is the listing of what it shows: each path that is held, with its item, once, in path order.
+use Rattle.std.proofs.Common.{arith}
+use Rattle.std.proofs.lemmas.Grind.{common_steps}
 use Rattle.std.proofs.Common.{◌≡◌, ◌∙◌, ◌⊎◌, inl, inr, true, false, IsTrue, List, [], ◌∷◌, ◌++◌, refl, sym, ap, subst, append_assoc}
 use Rattle.bolt_tree.proofs.Words.{AreEntries, Contains, Contains-append_cases, Contains-append_left, Contains-append_right, Holds, IsBelow, IsTreeOf, Item, Key, LeafElement, Less, Lists, Member, Ordering, Path, Rises, Shows, Start, Tree, Value, end, entry_cmp, head_sequence, item_of, key_cmp, listing_below, listing_of, member_cmp, path_cmp, start_of, with_bucket, with_value}
 use Rattle.bolt_tree.proofs.{Lists.contains_cases, Lists.contains_head, Lists.contains_none, Lists.contains_tail, PathOrder.before_longer, PathOrder.same_front}
@@ -26,19 +28,13 @@ module _ (Entry : Start → LeafElement → Type 0) where
   HoldsBy entries (key ∷ next ∷ path) item = (e : LeafElement) × Contains entries e × (e.key ≡ key) × IsTrue e.is_bucket × Holds Entry (start_of e.value) (next ∷ path) item
 
   held_by : (bucket : Start) (entries : List LeafElement) → AreEntries Entry bucket entries → (path : Path) (item : Item) → Holds Entry bucket path item → HoldsBy entries path item
-  held_by bucket entries are [] item h = h
-  held_by bucket entries are (key ∷ []) item (e, is, same, of) = (e, (are.exact e).1 is, same, of)
-  held_by bucket entries are (key ∷ next ∷ path) item (e, is, same, b, more) = (e, (are.exact e).1 is, same, b, more)
+  held_by bucket entries are path item h = grind arith
 
   held_of : (bucket : Start) (entries : List LeafElement) → AreEntries Entry bucket entries → (path : Path) (item : Item) → HoldsBy entries path item → Holds Entry bucket path item
-  held_of bucket entries are [] item h = h
-  held_of bucket entries are (key ∷ []) item (e, is, same, of) = (e, (are.exact e).0 is, same, of)
-  held_of bucket entries are (key ∷ next ∷ path) item (e, is, same, b, more) = (e, (are.exact e).0 is, same, b, more)
+  held_of bucket entries are path item h = grind arith
 
   more_entries : (x : LeafElement) (entries : List LeafElement) (path : Path) (item : Item) → HoldsBy entries path item → HoldsBy (x ∷ entries) path item
-  more_entries x entries [] item h = h
-  more_entries x entries (key ∷ []) item (e, is, same, of) = (e, contains_tail x e entries is, same, of)
-  more_entries x entries (key ∷ next ∷ path) item (e, is, same, b, more) = (e, contains_tail x e entries is, same, b, more)
+  more_entries x entries path item h = grind (arith, common_steps, contains_tail)
 
   -- an entry's own item, or what its bucket holds, or that of a later entry
   data Way (x : LeafElement) (entries : List LeafElement) (path : Path) (item : Item) : Type 0 where
@@ -47,8 +43,7 @@ module _ (Entry : Start → LeafElement → Type 0) where
     later : HoldsBy entries path item → Way x entries path item
 
   way_own : (x e : LeafElement) (entries : List LeafElement) (key : Key) (item : Item) → (x ≡ e) ⊎ Contains entries e → e.key ≡ key → item_of e ≡ item → Way x entries (key ∷ []) item
-  way_own x e entries key item (inl s) same of = own (ap (λ (k : Key). k ∷ []) (sym (ap (λ (y : LeafElement). y.key) s ∙ same))) (ap item_of s ∙ of)
-  way_own x e entries key item (inr h) same of = later (e, h, same, of)
+  way_own x e entries key item h same of = grind arith
 
   way_inner : (x e : LeafElement) (entries : List LeafElement) (key next : Key) (path : Path) (item : Item) → (x ≡ e) ⊎ Contains entries e → e.key ≡ key → IsTrue e.is_bucket
       → Holds Entry (start_of e.value) (next ∷ path) item → Way x entries (key ∷ next ∷ path) item
@@ -64,8 +59,7 @@ module _ (Entry : Start → LeafElement → Type 0) where
 
   -- through the bucket of an entry
   into : (x : LeafElement) (entries : List LeafElement) (path : Path) (item : Item) → IsTrue x.is_bucket → Holds Entry (start_of x.value) path item → HoldsBy (x ∷ entries) (x.key ∷ path) item
-  into x entries [] item b h = absurd h
-  into x entries (next ∷ path) item b h = (x, contains_head x entries, refl, b, h)
+  into x entries path item b h = grind arith
 
   -- what a tree lists below a path is what its entries hold
   pub listed : (tree : Tree) (entries : List LeafElement) → Shows Entry tree entries → (front : Path) (member : Member) → Contains (listing_below front tree) member
@@ -140,9 +134,7 @@ module _ (Entry : Start → LeafElement → Type 0) where
 
   -- each member begins with the key of an entry
   first_key : (entries : List LeafElement) (path : Path) (item : Item) → HoldsBy entries path item → (e : LeafElement) × (rest : Path) × Contains entries e × (path ≡ e.key ∷ rest)
-  first_key entries [] item h = absurd h
-  first_key entries (key ∷ []) item (e, is, same, of) = (e, [], is, ap (λ (k : Key). k ∷ []) (sym same))
-  first_key entries (key ∷ next ∷ path) item (e, is, same, b, more) = (e, next ∷ path, is, ap (λ (k : Key). k ∷ next ∷ path) (sym same))
+  first_key entries path item h = grind arith
 
   behind_key : (front s t : Path) (j k : Key) → key_cmp j k ≡ Less → path_cmp (front ++ j ∷ s) (front ++ k ∷ t) ≡ Less
   behind_key front s t j k e = rw same_front (rw e refl)

@@ -1,3 +1,5 @@
+use Rattle.std.proofs.Common.{arith}
+use Rattle.std.proofs.lemmas.Grind.{common_steps}
 use Rattle.std.proofs.Common.{ap}
 use Rattle.bolt_tree.proofs.{Words.path_of, Walking.all_ahead, Walking.begins}
 use Rattle.bolt_tree.specs.Walks.{left_of}
@@ -8,6 +10,4 @@ unfolding left_of
 returns-clause-all c = λ listing lists. all_ahead c.args.checked (path_of c.new.result.path.items) (ap path_of c.new.ensures.path) listing lists
 
 pub invariant_of-result : goal.invariant_of-result
-invariant_of-result c = record {
-  placed = begins c.args.checked c.new.result c.new.ensures.checked c.new.ensures.cursors c.new.ensures.path;
-}
+invariant_of-result c = grind (arith, common_steps, begins)
