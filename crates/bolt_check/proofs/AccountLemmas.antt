@@ -2,7 +2,7 @@
 use Rattle.std.proofs.Common.{rules}
 use Rattle.std.proofs.lemmas.Grind.{common_steps}
 use Rattle.std.proofs.Common.{◌≡◌, ◌≢◌, ◌∙◌, ◌==◌, ℕ, ◌≤◌, inl, inr, List, [], ◌∷◌, Some, None, min, refl, sym, arith}
-use Rattle.bolt_check.proofs.Words.{AreAccountFindings, AreAllFindings, bad, cases_lt, ClaimsFreelist, cond-false, cond-true, eq-eqb, finding, Finding, free_ids_of, freed_twice, freelist_fault, freelist_fault_of, HasAccounts, IsAccountFinding, IsClaimed, IsFreelistFinding, IsInFreelist, IsInRange, IsInUse, IsLost, ListsFree, Meta, ne_eqb, NO_FREELIST, none-some, out_of_range, PageUse, reached_freed, shared, times_in, TWICE, unreachable}
+use Rattle.bolt_check.proofs.Words.{AreAccountFindings, AreAllFindings, bad, cases_lt, ClaimsFreelist, cond-false, cond-true, eq-eqb, finding, Finding, free_ids_of, freed_twice, freelist_fault, freelist_fault_of, HasAccounts, IsAccountFinding, IsClaimed, IsFreelistFinding, IsInFreelist, IsInRange, IsInUse, ListsFree, Meta, ne_eqb, NO_FREELIST, none-some, out_of_range, PageUse, reached_freed, shared, times_in, TWICE, unreachable}
 use Rattle.bolt_format.specs.Freelists.{free_ids_at}
 
 -- the same pages in use, and counts that differ above 2 alone
@@ -15,13 +15,9 @@ pub alike_back : (in_use also : ℕ → Type 0) (times counts : ℕ → ℕ) →
 alike_back in_use also times counts alike = record { there = alike.back; back = alike.there; counted = λ n. sym (alike.counted n) }
 
 module _ (mark : ℕ) where
-  lost_along : {in_use also : ℕ → Type 0} {times counts : ℕ → ℕ} → IsAlike in_use also times counts → (n : ℕ) → IsLost mark in_use times n
-      → IsLost mark also counts n
-  lost_along alike n is = grind arith
-
   pub finding_along : (in_use also : ℕ → Type 0) (times counts : ℕ → ℕ) → IsAlike in_use also times counts
       → (x : Finding) → IsAccountFinding mark in_use times x → IsAccountFinding mark also counts x
-  finding_along in_use also times counts alike x h = search (rules, freed_twice, reached_freed, lost_along, alike_back, unreachable, out_of_range)
+  finding_along in_use also times counts alike x h = search (rules, freed_twice, reached_freed, alike_back, unreachable, out_of_range)
 
   pub reported_along : (in_use also : ℕ → Type 0) (times counts : ℕ → ℕ) → IsAlike in_use also times counts
       → (findings : List Finding) → AreAllFindings mark in_use times findings → AreAllFindings mark also counts findings

@@ -1,16 +1,11 @@
 -- Claiming page after page.
 use Rattle.std.proofs.Common.{rules}
 use Rattle.std.proofs.lemmas.Grind.{common_steps}
-use Rattle.std.proofs.Common.{◌≡◌, ◌≢◌, ◌∙◌, ℕ, ◌+◌, ◌<◌, ◌≤◌, ◌^◌, ◌⊎◌, List, None, length, set, inl, inr, sym, ap, arith, get_or-set_other}
-use Rattle.bolt_check.proofs.Words.{cases_lt, claims_file, ClaimsFreelist, false≢true, freelist_fault_of, HasRoom, is_used, IsClaimed, IsInFreelist, IsUnclaimed, Meta, NO_FREELIST, page_overflow, PageUse, times_of, use_at}
+use Rattle.std.proofs.Common.{◌≡◌, ◌≢◌, ◌∙◌, ℕ, ◌+◌, ◌<◌, ◌≤◌, ◌^◌, ◌⊎◌, List, None, length, inl, inr, sym, ap, arith}
+use Rattle.bolt_check.proofs.Words.{claims_file, ClaimsFreelist, false≢true, freelist_fault_of, HasRoom, is_used, IsClaimed, IsInFreelist, IsUnclaimed, Meta, NO_FREELIST, page_overflow, PageUse, times_of, use_at}
 use Rattle.bolt_check.proofs.{FreelistLemmas.freelist_within, Spans.outside, Spans.still_unlisted}
 use Rattle.bolt_format.specs.Bytes.{IsBytes}
 use Rattle.bolt_check.specs.{Claims.claims_visited, Counts.counted, declared.claims.Claims.Claims, declared.table.PageUse.TheVariants.Used}
-
--- what holds of Used and of the pages so far holds of one page more
-pub more_of : (P : PageUse → Type 0) → P Used → (t : List PageUse) (from n : ℕ) → n < length t → ((k : ℕ) → from ≤ k → k < n → P (use_at t k))
-    → (k : ℕ) → from ≤ k → k < n + 1 → P (use_at (set t n Used) k)
-more_of P is t from n h before k a b = grind (arith, common_steps, cases_lt, get_or-set_other)
 
 -- a span whose first page is used as the others are
 pub all_used : (t : List PageUse) (from last : ℕ) (u : PageUse) → use_at t from ≡ u → ((k : ℕ) → from < k → k ≤ last → use_at t k ≡ u)

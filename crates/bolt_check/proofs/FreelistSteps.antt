@@ -1,11 +1,12 @@
 -- The findings on what the freelist lists and lacks, page by page.
+use Rattle.std.proofs.lemmas.List.{get_or_past}
 use Rattle.std.proofs.Common.{rules}
 use Rattle.std.proofs.lemmas.Grind.{common_steps}
 use Rattle.std.proofs.Common.{◌≡◌, ◌∙◌, ℕ, suc, ◌+◌, ◌<◌, ◌≤◌, max, inl, inr, List, [], ◌∷◌, ◌++◌, length, get_or, refl, sym, ap, subst, arith, append-nil, add-one, nat_lt, ◌==◌}
 use Rattle.std.proofs.lemmas.Bool.{and_from, and_parts, cases_Bool, eqb-true}
-use Rattle.bolt_check.proofs.Words.{AreAllFindings, AreFindingsBelow, both_ways, cases_lt, cond-false, cond-true, eq-eqb, false≢true, Finding, finding, FREE_RANGE, FREED_TWICE, HasFindingsTo, is_in_use, is_used, IsAccountFinding, IsBeyondTo, IsInRange, IsLost, IsPastTo, IsLostInterval, IsSettled, listed_times, Freelist, lt-ltb, ltb-true, page_findings, PageUse, interval_findings, times_in, times_of, Unused, use_at}
+use Rattle.bolt_check.proofs.Words.{AreAllFindings, AreFindingsBelow, both_ways, cases_lt, cond-false, cond-true, eq-eqb, false≢true, Finding, finding, FREE_RANGE, FREED_TWICE, HasFindingsTo, is_in_use, is_used, IsAccountFinding, IsBeyondTo, IsInRange, IsLost, IsPastTo, IsLostInterval, IsSettled, listed_times, Freelist, lt-ltb, ltb-true, page_findings, PageUse, interval_findings, times_in, times_of, Unused, use_at, first_use}
 use Rattle.bolt_check.proofs.CountLemmas.{place_of, times_none, times_once, times_some, times_twice}
-use Rattle.bolt_check.proofs.TableLemmas.{past_metas, past_unlisted}
+use Rattle.bolt_check.proofs.TableLemmas.{past_metas, first_unlisted}
 use Rattle.bolt_check.proofs.PageLemmas.{twice, reached, lost, range, not_lost_listed, on_own_page, reports_page, reports_range, reports_twice, reports_well}
 use Rattle.bolt_check.proofs.AccountFindingLemmas.{Reports, reported_append, reports_none, reports_interval}
 use Rattle.bolt_check.specs.Private.Freelists.{is_repeated, repeat_findings}
@@ -21,7 +22,7 @@ module _ (freelist : Freelist) (settled : IsSettled freelist) where
 
   pub times_past : (n : ℕ) → length freelist.table.now ≤ n → listed_times freelist n ≡ times_in freelist.past.now n
   unfolding listed_times
-  times_past n h = let none = past_unlisted freelist.table.now n h in omega (arith, none)
+  times_past n h = grind (arith, common_steps, times_of, get_or_past, first_use, first_unlisted)
 
   -- page n of the table, which is lost
   lost_here : (n : ℕ) → n < length freelist.table.now → use_at freelist.table.now n ≡ Unused → IsLost freelist.mark (is_in_use freelist) (listed_times freelist) n
@@ -77,11 +78,8 @@ module _ (freelist : Freelist) (settled : IsSettled freelist) where
     id_first : (k : ℕ) → k < i → get_or freelist.past.now k 0 < get_or freelist.past.now i 0
     id_first k before = let up = settled.sorted k i 0 (omega arith) h in let done = reported.done k before (omega (arith, up)) in omega (arith, done)
 
-    id_listed : 1 ≤ listed_times freelist (get_or freelist.past.now i 0)
-    id_listed = let e = times_past (get_or freelist.past.now i 0) id_past in let some = times_some freelist.past.now (get_or freelist.past.now i 0) i h refl in omega (arith, e, some)
-
     id_kept : IsLost freelist.mark (is_in_use freelist) (listed_times freelist) (get_or freelist.past.now i 0) → ⊥
-    id_kept = not_lost_listed freelist.mark (is_in_use freelist) (listed_times freelist) (get_or freelist.past.now i 0) id_listed
+    id_kept = grind (arith, common_steps, not_lost_listed, is_in_use, listed_times, times_past, id_past, times_some)
 
     interval_before : IsLostInterval freelist.mark (is_in_use freelist) (listed_times freelist) from (get_or freelist.past.now i 0)
     interval_before = search rules
@@ -164,10 +162,5 @@ module _ (freelist : Freelist) (settled : IsSettled freelist) where
         done = λ k l. (let up = settled.sorted k i 0 (omega arith) h in omega (arith, up));
       }
 
-  -- every finding is on a page below
-  all_below : (last i : ℕ) → length freelist.past.now ≤ i → ((k : ℕ) → k < i → get_or freelist.past.now k 0 < max freelist.mark (suc last))
-      → (x : Finding) → IsAccountFinding freelist.mark (is_in_use freelist) (listed_times freelist) x → x.page < max freelist.mark (suc last)
-  all_below last i h done x is = grind (arith, common_steps, beyond_place)
-
   pub beyond_end : (last i : ℕ) (findings : List Finding) → length freelist.past.now ≤ i → IsBeyondTo freelist last i findings → AreAllFindings freelist.mark (is_in_use freelist) (listed_times freelist) findings
-  beyond_end last i findings h reported = grind (arith, common_steps, is_in_use, all_below)
+  beyond_end last i findings h reported = grind (arith, common_steps, is_in_use, beyond_place)

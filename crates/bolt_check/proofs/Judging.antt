@@ -30,9 +30,6 @@ passes_silent nodes a s x h t = grind arith
 pub span_spot : (nodes : Nodes) (o : Option Spot) (n : ℕ) → SpanHas nodes o n → (t : Spot) × ((o ≡ Some t) × SpanHas nodes (Some t) n)
 span_spot nodes o n h = grind arith
 
-pub span_at : (nodes : Nodes) (o : Option Spot) (t : Spot) (n : ℕ) → o ≡ Some t → SpanHas nodes (Some t) n → SpanHas nodes o n
-span_at nodes o t n e h = rw e h
-
 pub use_spot : (nodes : Nodes) (o : Option Spot) (n : ℕ) (u : PageUse) → UseOf nodes o n u → (t : Spot) × ((o ≡ Some t) × UseAt nodes t n u)
 use_spot nodes None n u h = absurd h
 use_spot nodes (Some t) n u h = (t, (refl, h))

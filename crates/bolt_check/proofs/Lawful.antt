@@ -1,11 +1,11 @@
 -- If the shape holds, the tests find nothing.
 use Rattle.std.proofs.lemmas.Grind.{common_steps}
-use Rattle.std.proofs.Common.{◌≡◌, ◌≢◌, ℕ, suc, ◌≤◌, Bool, true, false, not, ◌&&◌, ◌==◌, if◌then◌else◌, nat_lt, List, [], ◌∷◌, ◌++◌, length, Option, Some, None, Result, Ok, slice_get, ap, refl, subst, arith}
+use Rattle.std.proofs.Common.{◌≡◌, ◌≢◌, ℕ, suc, ◌≤◌, Bool, true, false, not, ◌&&◌, ◌==◌, if◌then◌else◌, nat_lt, List, [], ◌∷◌, ◌++◌, length, Option, Some, None, Ok, slice_get, ap, refl, subst, arith}
 use Rattle.std.proofs.lemmas.Option.{cond_some}
 use Rattle.bolt_check.proofs.Words.{At_inline, At_page, bucket_spot, child_spot, early_finding, Entry, Finding, follow, HasShape, HasSoundTrees, is_below, is_from, IsClaimedBefore, IsClean, IsFirstFinding, IsMetaPage, Key, key_lt, keys_of, keys_order_fault, leads, Meta, nat_tests, Node, node_at, node_finding, Nodes, PageSpot, Passes, root_spot, same_Some, SpanHas, Spot, step, step_entry, upper_from}
 use Rattle.bolt_check.proofs.{WayOrder.before_irreflexive, Forest.follow_some, Forest.nothing_is, Judging.passes_silent, KeyOrder.key_passes}
 use Rattle.bolt_check.proofs.Shaping.{snoc_reached}
-use Rattle.bolt_check.specs.Ways.{step_at, reached}
+use Rattle.bolt_check.specs.Ways.{reached}
 
 -- the bounds of a spot hold of all keys below it in its bucket
 abbrev pub Bounded : Nodes → Spot → Type 0
@@ -36,12 +36,9 @@ module _ (nodes : Nodes) (root : ℕ) (shape : HasShape nodes root) where
         (bucket_bounded nodes s.number p (p.child == 0))
     entry_bounded node h false l (Some p) g t e = subst (Bounded nodes) (same_Some _ t e) (child_bounded node p h l g)
 
-    node_bounded : (o : Result Node ℕ) → nodes s.number ≡ o → (t : Spot) → step_at o s i ≡ Some t → Bounded nodes t
-    node_bounded o h t e = grind (arith, common_steps, entry_bounded)
-
   spot_bounded : (way : List ℕ) (s : Spot) → reached nodes root way ≡ Some s → Bounded nodes s → (i : ℕ) (t : Spot) → step nodes (Some s) i ≡ Some t
       → Bounded nodes t
-  spot_bounded way s e bound i t st = grind (arith, common_steps, node_bounded)
+  spot_bounded way s e bound i t st = grind (arith, common_steps, entry_bounded)
 
   way_bounded : (w way : List ℕ) (s : Spot) → reached nodes root way ≡ Some s → Bounded nodes s → (t : Spot) → follow nodes (Some s) w ≡ Some t
       → Bounded nodes t

@@ -2,7 +2,6 @@
 use Rattle.std.proofs.lemmas.Grind.{common_steps}
 use Rattle.std.proofs.Common.{◌≡◌, ℕ, ◌+◌, ◌*◌, ◌<◌, ◌≤◌, List, Option, Some, None, Result, Ok, Err, length, refl, inl, inr, arith, []}
 use Rattle.bolt_check.proofs.Words.{At_page, cases_lt, HasRoom, IsClean, IsMetaPage, IsSome, Kind, Meta, Node, node_at, node_of, node_seen, page_at, page_fault, page_overflow, PageUse, PageView, root_spot, span_within}
-use Rattle.bolt_format.specs.Pages.{shown_as}
 use Rattle.bolt_check.specs.Ways.{reached}
 use Rattle.bolt_format.proofs.PageFacts.{span_passes}
 
@@ -17,12 +16,9 @@ abbrev overflow_of : Option PageView → ℕ
 overflow_of None = 0
 overflow_of (Some view) = view.overflow
 
-shown-overflow : (fault : Option ℕ) (kind : Option Kind) (count overflow : ℕ) (bytes : List ℕ) (view : PageView) → shown_as fault kind count overflow bytes ≡ Some view → view.overflow ≡ overflow
-shown-overflow fault kind count overflow bytes view e = grind arith
-
 pub page_overflows : (file : List ℕ) (meta : Meta) (id : ℕ) (view : PageView) → page_at file meta id ≡ Some view → view.overflow ≡ page_overflow file meta id
 unfolding page_at
-page_overflows file meta id view e = shown-overflow (page_fault file meta id) _ _ _ _ view e
+page_overflows file meta id view e = grind (arith, common_steps, page_fault)
 
 node_overflows : (k : Kind) (view : PageView) (node : Node) → node_of k view ≡ Ok node → node.overflow ≡ view.overflow
 node_overflows k view node e = grind arith

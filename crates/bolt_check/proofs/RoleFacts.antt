@@ -32,9 +32,6 @@ module _ (file : List ℕ) (meta : Meta) where
   past_node : (number n : ℕ) (node : Node) → 0 < meta.page_size → node_at file meta number ≡ Ok node → n ≤ number + node.overflow → length file ≤ n * meta.page_size → ⊥
   past_node number n node positive page low past = inside_file n (number + node.overflow) positive low (node_within file meta number node page).1 past
 
-  past_freelist : (n : ℕ) → 0 < meta.page_size → IsInFreelist file meta n → length file ≤ n * meta.page_size → ⊥
-  past_freelist n positive is past = inside_file n _ positive is.last (freelist_within file meta is.written is.good).1 past
-
   past_metas : (n : ℕ) → 0 < meta.page_size → HasSoundTrees file meta → n < 2 → length file ≤ n * meta.page_size → ⊥
   past_metas n positive trees low past =
       let (node, page) = (trees.good [] (root_spot meta.root) refl).1 in
@@ -42,7 +39,7 @@ module _ (file : List ℕ) (meta : Meta) where
       past_node meta.root n node positive page (omega (arith, low, above)) past
 
   past_role : (n : ℕ) (r : Role) → 0 < meta.page_size → HasSoundTrees file meta → HasRole file meta n r → length file ≤ n * meta.page_size → r ≡ role.Free
-  past_role n r positive trees is past = grind (arith, past_metas, past_freelist, past_node)
+  past_role n r positive trees is past = grind (arith, past_metas, past_node, inside_file, freelist_within)
 
   -- a page that begins at the file's end or past it is free
   pub past_is_free : IsSound file meta true → (n : ℕ) (r : Role) → HasRole file meta n r → length file ≤ n * meta.page_size → r ≡ role.Free

@@ -1,8 +1,8 @@
 -- The role of a page, from the table of uses.
 use Rattle.std.proofs.lemmas.Grind.{common_steps}
 use Rattle.std.proofs.Common.{◌≡◌, ◌≢◌, ℕ, ◌<◌, ◌≤◌, ◌↔◌, inl, inr, Bool, true, false, List, Some, sym, subst, refl, arith}
-use Rattle.bolt_check.proofs.Words.{At_inline, At_page, ClaimsUses, HasRightAccounts, HasRole, HasUse, is_used, IsClaimed, IsFirstPage, IsInFreelist, IsMetaUse, IsNoted, IsSound, IsUsed, Meta, NO_FREELIST, node_at, Nodes, PageUse, Reach, Slot, Spot, use_at, use_of, UseAt}
-use Rattle.bolt_format.specs.{Metas.IsInSlot, Metas.IsMeta, Metas.IsPageSize}
+use Rattle.bolt_check.proofs.Words.{At_inline, At_page, ClaimsUses, HasRightAccounts, HasRole, HasUse, is_used, IsClaimed, IsFirstPage, IsInFreelist, IsMetaUse, IsNoted, IsSound, IsUsed, Meta, NO_FREELIST, node_at, Nodes, PageUse, Reach, Spot, use_at, use_of, UseAt}
+use Rattle.bolt_format.specs.{Metas.IsMeta, Metas.IsPageSize}
 use Rattle.bolt_check.specs.{Private.RoleTables.AreUses, Private.RoleTables.role_by, Private.RoleTables.role_from, Roles.IsLaterPage, Ways.reached}
 use Rattle.bolt_check.specs.declared.role_table.Role.TheVariants as role
 use Rattle.bolt_check.specs.declared.table.PageUse.TheVariants.{Branch, Leaf, Used}
@@ -69,11 +69,8 @@ size_positive n h = grind arith
 meta_positive : (file : List ℕ) (at : ℕ) (meta : Meta) → IsMeta file at meta → 0 < meta.page_size
 meta_positive file at meta is = rw is.fields (size_positive _ is.size)
 
-slot_positive : (file : List ℕ) (slot : Slot) (meta : Meta) → IsInSlot file slot meta → 0 < meta.page_size
-slot_positive file slot meta is = grind (arith, common_steps)
-
 pub page_positive : (file : List ℕ) (meta : Meta) → IsSound file meta true → 0 < meta.page_size
-page_positive file meta sound = slot_positive file sound.slot meta sound.valid
+page_positive file meta sound = grind (arith, common_steps)
 
 -- the uses of a sound file, with the freelist's span claimed or none written
 pub uses_with : (file : List ℕ) (meta : Meta) (old new : List PageUse) → HasRightAccounts file meta → ((n : ℕ) → IsClaimed old n ↔ IsUsed file meta n)

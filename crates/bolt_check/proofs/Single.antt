@@ -1,8 +1,8 @@
 -- There is at most one first finding.
 use Rattle.std.proofs.Common.{arith}
 use Rattle.std.proofs.lemmas.Grind.{common_steps}
-use Rattle.std.proofs.Common.{◌≡◌, ℕ, List, Some}
-use Rattle.bolt_check.proofs.Words.{Finding, IsClaimedBefore, IsFirstFinding, Meta, Node, Nodes, PageSpot, PageTests, Reach, Spot, Tests}
+use Rattle.std.proofs.Common.{◌≡◌, ℕ, List}
+use Rattle.bolt_check.proofs.Words.{Finding, IsFirstFinding, Meta, Node, Nodes, PageSpot, PageTests, Spot, Tests}
 use Rattle.bolt_check.proofs.WayOrder.{before_total}
 use Rattle.bolt_check.specs.{Findings.IsLowestClaimed}
 
@@ -15,9 +15,5 @@ page_one nodes before s x y h g = grind arith
 pub tests_one : (nodes : Nodes) (before : ℕ → Type 0) (s : Spot) (x y : Finding) → Tests nodes before s x → Tests nodes before s y → x ≡ y
 tests_one nodes before s x y h k = grind arith
 
-at_one : (nodes : Nodes) (reach : Reach) (start : ℕ → Type 0) (v w : List ℕ) (s t : Spot) (x y : Finding) → v ≡ w → reach v ≡ Some s → reach w ≡ Some t
-    → Tests nodes (IsClaimedBefore nodes reach start v) s x → Tests nodes (IsClaimedBefore nodes reach start w) t y → x ≡ y
-at_one nodes reach start v w s t x y e f g h k = grind (arith, tests_one)
-
 pub first_one : (file : List ℕ) (meta : Meta) (x y : Finding) → IsFirstFinding file meta x → IsFirstFinding file meta y → x ≡ y
-first_one file meta x y h k = grind (arith, common_steps, before_total, at_one)
+first_one file meta x y h k = grind (arith, common_steps, before_total, tests_one)

@@ -38,15 +38,9 @@ past_metas t n high past = get_or_past t n (first_use n) past ∙ rw (le-ltb n 2
 pub first_unlisted : (n : ℕ) → times_of (first_use n) ≡ 0
 first_unlisted n = elim (cases_lt n 2) [ inl low ↦ rw (lt-ltb n 2 low) refl | inr high ↦ rw (le-ltb n 2 high) refl ]
 
-pub first_noted : (n : ℕ) (u : PageUse) → first_use n ≡ u → is_used u ≡ true → (n < 2) × (u ≡ Used)
-first_noted n u is used = grind arith
-
 pub first_claimed : (n : ℕ) → (is_used (first_use n) ≡ true) ↔ (n < 2)
-first_claimed n = (λ used. (first_noted n (first_use n) refl used).0, λ low. rw (lt-ltb n 2 low) refl)
+first_claimed n = grind (arith, common_steps, first_use, lt-ltb)
 
 pub starts : (t : List PageUse) (i : ℕ) → ((k : ℕ) → k < i → use_at t k ≡ Used) → ((k : ℕ) → i ≤ k → k < length t → use_at t k ≡ Unused)
     → i ≤ 2 → min (length t) 2 ≤ i → (n : ℕ) → use_at t n ≡ first_use n
 starts t i metas others few most n = grind (arith, common_steps, cases_lt, lt-ltb, le-ltb)
-
-pub past_unlisted : (t : List PageUse) (n : ℕ) → length t ≤ n → times_of (use_at t n) ≡ 0
-past_unlisted t n past = ap times_of (get_or_past t n (first_use n) past) ∙ first_unlisted n

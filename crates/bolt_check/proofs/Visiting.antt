@@ -1,10 +1,10 @@
 -- A search for findings goes on from what a visited spot leads to.
 use Rattle.std.proofs.Common.{arith}
 use Rattle.std.proofs.lemmas.Grind.{common_steps}
-use Rattle.std.proofs.Common.{◌≡◌, ℕ, ◌⊎◌, inl, inr, List, Option, Some, None, subst}
+use Rattle.std.proofs.Common.{◌≡◌, ℕ, ◌⊎◌, inl, inr, List, Option, Some, None}
 use Rattle.bolt_check.proofs.Words.{Before, Carries, HasUse, IsClaimedBefore, IsCovered, Nodes, PageUse, Passes, Reach, SpanHas, Spot, Tests, UseOf}
 use Rattle.bolt_check.proofs.WayOrder.{before_irreflexive, before_strict, before_total}
-use Rattle.bolt_check.proofs.Judging.{tests_same, passes_fewer, passes_silent, span_spot, span_at, use_back, use_spot}
+use Rattle.bolt_check.proofs.Judging.{tests_same, passes_fewer, passes_silent, span_spot, use_back, use_spot}
 use Rattle.bolt_check.specs.Private.Carries.{Takes}
 
 -- the ways of `old` are `first`, if o is a spot, and after it and in the same order those of `new`
@@ -31,13 +31,13 @@ module _ {old new : Reach} {o : Option Spot} {first : List ℕ} {f : List ℕ �
 module _ (nodes : Nodes) {old new : Reach} {o : Option Spot} {first : List ℕ} {f : List ℕ → List ℕ} {c d : ℕ → Type 0} {a b : ℕ → PageUse → Type 0}
     (v : Visits old new o first f) (takes : Takes nodes o c d a b) where
   span_first : (n : ℕ) → SpanHas nodes o n → SpanHas nodes (old first) n
-  span_first n h = let s = span_spot nodes o n h in span_at nodes (old first) s.0 n (v.leads s.0 s.1.0) s.1.1
+  span_first n h = grind (arith, common_steps, span_spot)
 
   use_first : (n : ℕ) (u : PageUse) → UseOf nodes o n u → UseOf nodes (old first) n u
   use_first n u h = let s = use_spot nodes o n u h in use_back nodes (old first) s.0 n u (v.leads s.0 s.1.0) s.1.1
 
   span_later : (w : List ℕ) (n : ℕ) → SpanHas nodes (new w) n → SpanHas nodes (old (f w)) n
-  span_later w n h = let p = span_spot nodes (new w) n h in span_at nodes (old (f w)) p.0 n (v.same w p.0 p.1.0) p.1.1
+  span_later w n h = grind (arith, common_steps, span_spot)
 
   claimed_to_old : (w : List ℕ) (t : Spot) → new w ≡ Some t → (n : ℕ) → IsClaimedBefore nodes new d w n → IsClaimedBefore nodes old c (f w) n
   claimed_to_old w t e n h = grind arith
@@ -45,11 +45,8 @@ module _ (nodes : Nodes) {old new : Reach} {o : Option Spot} {first : List ℕ} 
   claimed_to_new : (w : List ℕ) (t : Spot) → new w ≡ Some t → (n : ℕ) → IsClaimedBefore nodes old c (f w) n → IsClaimedBefore nodes new d w n
   claimed_to_new w t e n h = grind (arith, common_steps, span_spot, not_after)
 
-  claimed_first : (s : Spot) → o ≡ Some s → (n : ℕ) → IsClaimedBefore nodes old c first n → c n
-  claimed_first s e n h = grind (arith, common_steps, span_spot, before_strict)
-
   first_passes : PassesAt nodes c o → (s : Spot) → o ≡ Some s → Passes nodes (IsClaimedBefore nodes old c first) s
-  first_passes h s e = passes_fewer nodes c (IsClaimedBefore nodes old c first) s (claimed_first s e) (subst (PassesAt nodes c) e h)
+  first_passes h s e = grind (arith, passes_fewer, common_steps, span_spot, before_strict)
 
   pub carries : PassesAt nodes c o → Carries nodes old c a new d b
   carries h = record {

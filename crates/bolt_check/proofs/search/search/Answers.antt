@@ -1,5 +1,4 @@
-use Rattle.std.proofs.lemmas.Grind.{common_steps}
-use Rattle.std.proofs.Common.{◌∙◌, ◌∷◌, ap, arith, inl, length, vec_len}
+use Rattle.std.proofs.Common.{◌∙◌, ◌∷◌, ap, inl, length, vec_len}
 use Rattle.bolt_check.proofs.Words.{forest, IsClaimed, IsMetaPage, IsSearchFault, node_at, spot_at, spots_of}
 use Rattle.bolt_check.proofs.Visited.{begin_carries, ended, none_left, passed_on, reported_back, spots_pop, stored}
 use Rattle.bolt_check.proofs.Visiting.{carries_on}
@@ -51,6 +50,3 @@ returns-in_err-step-clause-first c =
 
 pub returns-clause-uses : goal.returns-clause-uses
 returns-clause-uses c = λ n u h. c.loop-spot.invariant.carried.uses n u (inl h)
-
-pub loop-spot-smaller : goal.loop-spot-smaller
-loop-spot-smaller c = grind (arith, common_steps)

@@ -8,9 +8,6 @@ use Rattle.bolt_check.proofs.leftovers.Leftovers.take.Goals as goal
 if_some : {X : Type 0} {P Q : Type 0} (o : Option X) → (P → Q) → IfSome o (λ _. P) → IfSome o (λ _. Q)
 if_some o to h = grind arith
 
-pub invariant_of-self : goal.invariant_of-self
-invariant_of-self c = grind (arith, common_steps)
-
 pub returns-clause-length : goal.returns-clause-length
 unfolding leftovers_length
 returns-clause-length c = ap length (stored c.args.self.now.table _ _ c.deref_mut.ensures.value c.take_leaf.auto.table) ∙ c.take_leaf.auto.table ∙ ap length c.deref_mut.ensures.value
