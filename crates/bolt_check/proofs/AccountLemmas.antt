@@ -1,7 +1,5 @@
 -- The table and the ids past it list what the freelist lists: their findings are those of the accounts.
-use Rattle.std.proofs.Common.{rules}
-use Rattle.std.proofs.lemmas.Grind.{common_steps}
-use Rattle.std.proofs.Common.{◌≡◌, ◌≢◌, ◌∙◌, ◌==◌, ℕ, ◌≤◌, inl, inr, List, [], ◌∷◌, Some, None, min, refl, sym, arith}
+use Rattle.std.proofs.Common.{rules, ◌≡◌, ◌≢◌, ◌∙◌, ◌==◌, ℕ, ◌≤◌, inl, inr, List, [], ◌∷◌, Some, None, min, refl, sym, arith}
 use Rattle.bolt_check.proofs.Words.{AreAccountFindings, AreAllFindings, bad, cases_lt, ClaimsFreelist, cond-false, cond-true, eq-eqb, finding, Finding, free_ids_of, freed_twice, freelist_fault, freelist_fault_of, HasAccounts, IsAccountFinding, IsClaimed, IsFreelistFinding, IsInFreelist, IsInRange, IsInUse, ListsFree, Meta, ne_eqb, NO_FREELIST, none-some, out_of_range, PageUse, reached_freed, shared, times_in, TWICE, unreachable}
 use Rattle.bolt_format.specs.Freelists.{free_ids_at}
 
@@ -21,7 +19,7 @@ module _ (mark : ℕ) where
 
   pub reported_along : (in_use also : ℕ → Type 0) (times counts : ℕ → ℕ) → IsAlike in_use also times counts
       → (findings : List Finding) → AreAllFindings mark in_use times findings → AreAllFindings mark also counts findings
-  reported_along in_use also times counts alike findings reported = grind (arith, common_steps, alike_back, finding_along)
+  reported_along in_use also times counts alike findings reported = grind (arith, alike_back, finding_along)
 
 module _ (mark : ℕ) (in_use : ℕ → Type 0) (times : ℕ → ℕ) where
   -- nothing is reported,
@@ -97,7 +95,7 @@ module _ (file : List ℕ) (meta : Meta) where
   module _ (used : ℕ → Type 0) (ids : List ℕ) (good : freelist_fault_of file meta ≡ None) (are : free_ids_of file meta ≡ Some ids) where
     module _ (apart : (n : ℕ) → IsInFreelist file meta n → used n → ⊥) (findings : List Finding) (reported : AreAllFindings meta.high_water (IsInUse file meta used) (times_in ids) findings) where
       pub accounts_right : findings ≡ [] → HasAccounts file meta used
-      accounts_right e = grind (arith, common_steps, times_in, lists_free)
+      accounts_right e = grind (arith, lists_free)
 
       pub accounts_wrong : findings ≢ [] → HasAccounts file meta used → ⊥
       accounts_wrong some has = finding_none meta.high_water (IsInUse file meta used) (times_in ids) findings reported (has.lists ids are) some

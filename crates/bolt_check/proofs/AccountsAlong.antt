@@ -1,7 +1,5 @@
 -- The accounts depend on which pages are used and on what the freelist shows, and not on how that is said or in which file it is.
-use Rattle.std.proofs.Common.{arith}
-use Rattle.std.proofs.lemmas.Grind.{common_steps}
-use Rattle.std.proofs.Common.{◌≡◌, ◌≢◌, ◌∙◌, ◌↔◌, ℕ, List, None, refl, sym}
+use Rattle.std.proofs.Common.{arith, ◌≡◌, ◌≢◌, ◌∙◌, ◌↔◌, ℕ, List, None, refl, sym}
 use Rattle.bolt_check.proofs.Words.{AreAccountFindings, bad, Finding, free_ids_of, freelist_fault_of, HasAccounts, IsFree, IsFreelistFinding, IsInFreelist, IsInUse, Meta, NO_FREELIST, page_overflow, shared, times_in}
 use Rattle.bolt_check.proofs.AccountLemmas.{IsAlike, alike_back, finding_along}
 
@@ -46,7 +44,7 @@ has_accounts_along file other meta same used also alike has =
 module _ (file : List ℕ) (meta : Meta) where
   page_finding_along : (used also : ℕ → Type 0) → ((n : ℕ) → used n ↔ also n) → (x : Finding) → IsFreelistFinding file meta used x
       → IsFreelistFinding file meta also x
-  page_finding_along used also same x h = grind (arith, common_steps, bad, shared)
+  page_finding_along used also same x h = grind (arith, bad, shared)
 
   pub account_findings_along : (used also : ℕ → Type 0) → ((n : ℕ) → used n ↔ also n) → (findings : List Finding)
       → AreAccountFindings file meta used findings → AreAccountFindings file meta also findings

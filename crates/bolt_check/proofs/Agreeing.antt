@@ -1,7 +1,6 @@
 -- Two files that agree under a meta: their pages show the same or fail the same test, and so do their freelists. So the trees and the accounts
 -- of both are right, or of neither. For the crates above: where bytes are added that no page has, or left out, only this is to be shown.
-use Rattle.std.proofs.Common.{arith}
-use Rattle.std.proofs.Common.{◌≡◌, ◌↔◌, ℕ, List, Option, refl, subst, sym}
+use Rattle.std.proofs.Common.{arith, ◌≡◌, ◌↔◌, ℕ, List, Option, refl, subst, sym}
 use Rattle.std.proofs.Math.Path.{fun_ext}
 use Rattle.bolt_check.proofs.{AccountsAlong.SameFreelist, AccountsAlong.freelist_back, AccountsAlong.has_accounts_along}
 use Rattle.bolt_check.proofs.Words.{HasRightAccounts, HasShape, HasSoundTrees, IsCovered, IsMetaPage, IsUsed, Meta, Nodes, node_at, page_at, page_fault, PageView}

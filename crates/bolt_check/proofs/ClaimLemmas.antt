@@ -1,7 +1,5 @@
 -- Claiming page after page.
-use Rattle.std.proofs.Common.{rules}
-use Rattle.std.proofs.lemmas.Grind.{common_steps}
-use Rattle.std.proofs.Common.{◌≡◌, ◌≢◌, ◌∙◌, ℕ, ◌+◌, ◌<◌, ◌≤◌, ◌^◌, ◌⊎◌, List, None, length, inl, inr, sym, ap, arith}
+use Rattle.std.proofs.Common.{rules, ◌≡◌, ◌≢◌, ◌∙◌, ℕ, ◌+◌, ◌<◌, ◌≤◌, ◌^◌, ◌⊎◌, List, None, length, inl, inr, sym, ap, arith}
 use Rattle.bolt_check.proofs.Words.{claims_file, ClaimsFreelist, false≢true, freelist_fault_of, HasRoom, is_used, IsClaimed, IsInFreelist, IsUnclaimed, Meta, NO_FREELIST, page_overflow, PageUse, times_of, use_at}
 use Rattle.bolt_check.proofs.{FreelistLemmas.freelist_within, Spans.outside, Spans.still_unlisted}
 use Rattle.bolt_format.specs.Bytes.{IsBytes}
@@ -48,7 +46,7 @@ lowest_shared file meta old last n end written good (low, high, claimed, none) =
 pub span_within : (file : List ℕ) (meta : Meta) (table : List PageUse) (overflow : ℕ) → overflow ≡ page_overflow file meta meta.freelist
     → meta.freelist ≢ NO_FREELIST → freelist_fault_of file meta ≡ None
     → HasRoom file meta table → meta.freelist + overflow < length table
-span_within file meta table overflow same written good pages = grind (arith, common_steps, freelist_within)
+span_within file meta table overflow same written good pages = grind (arith, freelist_within)
 
 -- the count of visits is a number of 64 bits
 pub visited_fits : (claims : Claims) → claims_visited claims < 2 ^ 64

@@ -1,7 +1,5 @@
 -- The spots that are still to be visited, as ways: the first number of a way picks the spot, the rest leads on from it.
-use Rattle.std.proofs.Common.{rules}
-use Rattle.std.proofs.lemmas.Grind.{common_steps}
-use Rattle.std.proofs.Common.{◌≡◌, ℕ, zero, suc, ◌<◌, ◌⊎◌, inl, inr, Bool, List, [], ◌∷◌, ◌++◌, Option, Some, None, Ok, slice_get, refl, sym, ap, subst, arith, ◌∙◌}
+use Rattle.std.proofs.Common.{rules, ◌≡◌, ℕ, zero, suc, ◌<◌, ◌⊎◌, inl, inr, Bool, List, [], ◌∷◌, ◌++◌, Option, Some, None, Ok, slice_get, refl, sym, ap, subst, arith, ◌∙◌}
 use Rattle.bolt_check.proofs.Words.{At_inline, At_page, Before, Entry, Finding, follow, forest, IsClaimedBefore, IsClean, IsCovered, IsFirst, Key, Node, Nodes, PageSpot, places, somes, Spot, step, step_entry, Tests}
 use Rattle.bolt_check.proofs.{Judging.tests_same, Visiting.Visits}
 
@@ -39,10 +37,9 @@ at_up : (o : Option Spot) (os : List (Option Spot)) (rest : List Spot) (x : ℕ 
 at_up o os rest x = grind arith
 
 at_same : (os : List (Option Spot)) (rest : List Spot) (k : ℕ) → at_place os rest (where_is os k) ≡ slice_get (somes os ++ rest) k
-at_same [] rest k = refl
 at_same (None ∷ os) rest k = at_up None os rest (where_is os k) ∙ at_same os rest k
-at_same (Some s ∷ os) rest zero = refl
 at_same (Some s ∷ os) rest (suc k) = at_up (Some s) os rest (where_is os k) ∙ at_same os rest k
+at_same os rest k = grind arith
 
 abbrev Less : ℕ ⊎ ℕ → ℕ ⊎ ℕ → Type 0
 Less (inl i) (inl j) = i < j
@@ -57,22 +54,16 @@ less_zero : (x : ℕ ⊎ ℕ) → Less (inl 0) (up x)
 less_zero x = grind arith
 
 where_rising : (os : List (Option Spot)) (k l : ℕ) → k < l → Less (where_is os k) (where_is os l)
-where_rising [] k l h = h
 where_rising (None ∷ os) k l h = less_up (where_is os k) (where_is os l) (where_rising os k l h)
-where_rising (Some s ∷ os) zero zero h = absurd (omega arith)
-where_rising (Some s ∷ os) zero (suc l) h = less_zero (where_is os l)
-where_rising (Some s ∷ os) (suc k) zero h = absurd (omega arith)
 where_rising (Some s ∷ os) (suc k) (suc l) h = less_up (where_is os k) (where_is os l) (where_rising os k l (omega arith))
+where_rising os k l h = grind (arith, less_zero)
 
 where_all : (os : List (Option Spot)) (rest : List Spot) (x : ℕ ⊎ ℕ) (t : Spot) → at_place os rest x ≡ Some t → (k : ℕ) × (where_is os k ≡ x)
-where_all [] rest (inl j) t e = absurd (nothing_is t e)
-where_all [] rest (inr k) t e = (k, refl)
-where_all (None ∷ os) rest (inl zero) t e = absurd (nothing_is t e)
-where_all (Some s ∷ os) rest (inl zero) t e = (0, refl)
 where_all (None ∷ os) rest (inl (suc j)) t e = let p = where_all os rest (inl j) t e in (p.0, ap up p.1)
 where_all (Some s ∷ os) rest (inl (suc j)) t e = let p = where_all os rest (inl j) t e in (suc p.0, ap up p.1)
 where_all (None ∷ os) rest (inr k) t e = let p = where_all os rest (inr k) t e in (p.0, ap up p.1)
 where_all (Some s ∷ os) rest (inr k) t e = let p = where_all os rest (inr k) t e in (suc p.0, ap up p.1)
+where_all os rest x t e = grind (arith, nothing_is)
 
 abbrev way_of : ℕ ⊎ ℕ → List ℕ → List ℕ
 way_of (inl j) v = 0 ∷ (j ∷ v)
@@ -94,7 +85,7 @@ lift os (k ∷ v) = way_of (where_is os k) v
 
 lift_rising : (nodes : Nodes) (rest : List Spot) (os : List (Option Spot)) (b e : List ℕ) (t : Spot) → forest nodes (somes os ++ rest) b ≡ Some t
     → Before b e → Before (lift os b) (lift os e)
-lift_rising nodes rest os b e t at h = grind (arith, common_steps, nothing_is, way_rising, where_rising)
+lift_rising nodes rest os b e t at h = grind (arith, nothing_is, way_rising, where_rising)
 
 reach_way : (nodes : Nodes) (s : Spot) (rest : List Spot) (os : List (Option Spot)) → ((j : ℕ) → flat (slice_get os j) ≡ step nodes (Some s) j)
     → (x : ℕ ⊎ ℕ) (v : List ℕ) → forest nodes (s ∷ rest) (way_of x v) ≡ follow nodes (at_place os rest x) v
@@ -131,9 +122,8 @@ lift_all nodes s rest os fits (suc k ∷ v) t e = inr (all_at nodes rest os (inr
 
 places_step : (is_leaf : Bool) (s : PageSpot) (entries : List Entry) (j : ℕ)
     → flat (slice_get (places is_leaf s entries) j) ≡ step_entry is_leaf s (slice_get entries j) (slice_get entries (suc j))
-places_step is_leaf s [] j = refl
-places_step is_leaf s (e ∷ entries) zero = refl
 places_step is_leaf s (e ∷ entries) (suc j) = places_step is_leaf s entries j
+places_step is_leaf s entries j = grind arith
 
 pub kids_step : (nodes : Nodes) (s : PageSpot) (node : Node) → nodes s.number ≡ Ok node → (j : ℕ)
     → flat (slice_get (places node.is_leaf s node.entries) j) ≡ step nodes (Some (At_page s)) j
@@ -187,7 +177,7 @@ tail [] = []
 tail (i ∷ way) = way
 
 root_way : (nodes : Nodes) (s : Spot) (way : List ℕ) (t : Spot) → forest nodes (s ∷ []) way ≡ Some t → way ≡ 0 ∷ tail way
-root_way nodes s way t e = grind (arith, common_steps, follow_none)
+root_way nodes s way t e = grind (arith, follow_none)
 
 tail_before : (a b : List ℕ) → Before (0 ∷ a) (0 ∷ b) → Before a b
 tail_before a b h = grind arith

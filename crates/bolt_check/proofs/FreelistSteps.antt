@@ -1,19 +1,17 @@
 -- The findings on what the freelist lists and lacks, page by page.
 use Rattle.std.proofs.lemmas.List.{get_or_past}
-use Rattle.std.proofs.Common.{rules}
-use Rattle.std.proofs.lemmas.Grind.{common_steps}
-use Rattle.std.proofs.Common.{◌≡◌, ◌∙◌, ℕ, suc, ◌+◌, ◌<◌, ◌≤◌, max, inl, inr, List, [], ◌∷◌, ◌++◌, length, get_or, refl, sym, ap, subst, arith, append-nil, add-one, nat_lt, ◌==◌}
+use Rattle.std.proofs.Common.{rules, ◌≡◌, ◌∙◌, ℕ, suc, ◌+◌, ◌<◌, ◌≤◌, max, inl, inr, List, [], ◌∷◌, ◌++◌, length, get_or, refl, sym, ap, subst, arith, append-nil, add-one, nat_lt, ◌==◌}
 use Rattle.std.proofs.lemmas.Bool.{and_from, and_parts, cases_Bool, eqb-true}
-use Rattle.bolt_check.proofs.Words.{AreAllFindings, AreFindingsBelow, both_ways, cases_lt, cond-false, cond-true, eq-eqb, false≢true, Finding, finding, FREE_RANGE, FREED_TWICE, HasFindingsTo, is_in_use, is_used, IsAccountFinding, IsBeyondTo, IsInRange, IsLost, IsPastTo, IsLostInterval, IsSettled, listed_times, Freelist, lt-ltb, ltb-true, page_findings, PageUse, interval_findings, times_in, times_of, Unused, use_at, first_use}
+use Rattle.bolt_check.proofs.Words.{AreAllFindings, AreFindingsBelow, both_ways, cases_lt, cond-false, cond-true, eq-eqb, false≢true, Finding, finding, FREE_RANGE, FREED_TWICE, HasFindingsTo, is_in_use, is_used, IsAccountFinding, IsBeyondTo, IsInRange, IsLost, IsPastTo, IsLostInterval, IsSettled, listed_times, Freelist, lt-ltb, ltb-true, page_findings, PageUse, interval_findings, times_in, times_of, Unused, use_at}
 use Rattle.bolt_check.proofs.CountLemmas.{place_of, times_none, times_once, times_some, times_twice}
 use Rattle.bolt_check.proofs.TableLemmas.{past_metas, first_unlisted}
-use Rattle.bolt_check.proofs.PageLemmas.{twice, reached, lost, range, not_lost_listed, on_own_page, reports_page, reports_range, reports_twice, reports_well}
+use Rattle.bolt_check.proofs.PageLemmas.{twice, range, not_lost_listed, on_own_page, reports_page, reports_range, reports_twice, reports_well}
 use Rattle.bolt_check.proofs.AccountFindingLemmas.{Reports, reported_append, reports_none, reports_interval}
 use Rattle.bolt_check.specs.Private.Freelists.{is_repeated, repeat_findings}
 
 module _ (freelist : Freelist) (settled : IsSettled freelist) where
   unused_past : (n : ℕ) → length freelist.table.now ≤ n → is_in_use freelist n → ⊥
-  unused_past n h claimed = grind (arith, common_steps, past_metas)
+  unused_past n h claimed = grind (arith, past_metas)
 
   pub times_table : (n : ℕ) → n < length freelist.table.now → listed_times freelist n ≡ times_of (use_at freelist.table.now n)
   unfolding listed_times
@@ -22,20 +20,20 @@ module _ (freelist : Freelist) (settled : IsSettled freelist) where
 
   pub times_past : (n : ℕ) → length freelist.table.now ≤ n → listed_times freelist n ≡ times_in freelist.past.now n
   unfolding listed_times
-  times_past n h = grind (arith, common_steps, times_of, get_or_past, first_use, first_unlisted)
+  times_past n h = grind (arith, get_or_past, first_unlisted)
 
   -- page n of the table, which is lost
   lost_here : (n : ℕ) → n < length freelist.table.now → use_at freelist.table.now n ≡ Unused → IsLost freelist.mark (is_in_use freelist) (listed_times freelist) n
-  lost_here n h e = grind (arith, common_steps, cases_lt, false≢true, is_used, times_table)
+  lost_here n h e = grind (arith, cases_lt, false≢true, times_table)
 
   -- or not
   kept_here : (n : ℕ) (page_use : PageUse) → n < length freelist.table.now → use_at freelist.table.now n ≡ page_use → (page_use ≡ Unused → ⊥)
       → IsLost freelist.mark (is_in_use freelist) (listed_times freelist) n → ⊥
-  kept_here n page_use h e ne gone = grind (arith, common_steps, times_table)
+  kept_here n page_use h e ne gone = grind (arith, times_table)
 
   pub table_lost : (n from : ℕ) (findings : List Finding) → n < length freelist.table.now → use_at freelist.table.now n ≡ Unused
       → HasFindingsTo freelist from n findings → HasFindingsTo freelist from (suc n) findings
-  table_lost n from findings h e reported = search (rules, lost, cases_lt, is_in_use, lost_here)
+  table_lost n from findings h e reported = search (rules, cases_lt, lost_here)
 
   interval_after : (n : ℕ) → (IsLost freelist.mark (is_in_use freelist) (listed_times freelist) n → ⊥) → IsLostInterval freelist.mark (is_in_use freelist) (listed_times freelist) (suc n) (suc n)
   interval_after n kept = grind arith
@@ -79,7 +77,7 @@ module _ (freelist : Freelist) (settled : IsSettled freelist) where
     id_first k before = let up = settled.sorted k i 0 (omega arith) h in let done = reported.done k before (omega (arith, up)) in omega (arith, done)
 
     id_kept : IsLost freelist.mark (is_in_use freelist) (listed_times freelist) (get_or freelist.past.now i 0) → ⊥
-    id_kept = grind (arith, common_steps, not_lost_listed, is_in_use, listed_times, times_past, id_past, times_some)
+    id_kept = grind (arith, not_lost_listed, times_past, id_past, times_some)
 
     interval_before : IsLostInterval freelist.mark (is_in_use freelist) (listed_times freelist) from (get_or freelist.past.now i 0)
     interval_before = search rules
@@ -137,12 +135,12 @@ module _ (freelist : Freelist) (settled : IsSettled freelist) where
   -- a finding from the mark on is on a listed page, which has a place among the ids
   beyond_place : (x : Finding) → IsAccountFinding freelist.mark (is_in_use freelist) (listed_times freelist) x → freelist.mark ≤ x.page
       → (k : ℕ) × ((k < length freelist.past.now) × (get_or freelist.past.now k 0 ≡ x.page))
-  beyond_place x is h = grind (arith, common_steps, on_own_page, is_in_use, listed_times, twice, reached, lost, range, place_of, times_past)
+  beyond_place x is h = grind (arith, on_own_page, twice, range, place_of, times_past)
 
   -- no finding is on a page between
   gap_none : (last i : ℕ) → i < length freelist.past.now → ((k : ℕ) → k < i → get_or freelist.past.now k 0 < max freelist.mark (suc last))
       → (x : Finding) → IsAccountFinding freelist.mark (is_in_use freelist) (listed_times freelist) x → max freelist.mark (suc last) ≤ x.page → x.page < get_or freelist.past.now i 0 → ⊥
-  gap_none last i h done x is low high = grind (arith, common_steps, beyond_place)
+  gap_none last i h done x is low high = grind (arith, beyond_place)
 
   pub beyond_reported : (last i : ℕ) (findings : List Finding) → i < length freelist.past.now → freelist.mark ≤ get_or freelist.past.now i 0 → last < get_or freelist.past.now i 0
       → IsBeyondTo freelist last i findings → IsBeyondTo freelist (get_or freelist.past.now i 0) (suc i) (findings ++ finding FREE_RANGE (get_or freelist.past.now i 0) ∷ [])
@@ -163,4 +161,4 @@ module _ (freelist : Freelist) (settled : IsSettled freelist) where
       }
 
   pub beyond_end : (last i : ℕ) (findings : List Finding) → length freelist.past.now ≤ i → IsBeyondTo freelist last i findings → AreAllFindings freelist.mark (is_in_use freelist) (listed_times freelist) findings
-  beyond_end last i findings h reported = grind (arith, common_steps, is_in_use, beyond_place)
+  beyond_end last i findings h reported = grind (arith, beyond_place)

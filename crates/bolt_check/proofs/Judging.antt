@@ -1,6 +1,5 @@
 -- The tests at a spot speak of the nodes that were claimed before only as a set.
-use Rattle.std.proofs.Common.{arith}
-use Rattle.std.proofs.Common.{◌≡◌, ℕ, Option, Some, None, refl}
+use Rattle.std.proofs.Common.{arith, ◌≡◌, ℕ, Option, Some, None, refl}
 use Rattle.bolt_check.proofs.Words.{At_inline, At_page, early, Finding, late, Nodes, PagePasses, PageSpot, PageTests, PageUse, Passes, SpanHas, Spot, Tests, UseAt, UseOf}
 use Rattle.bolt_check.specs.Findings.{twice}
 

@@ -1,6 +1,5 @@
 -- Byte order, and the bounds of keys.
-use Rattle.std.proofs.Common.{arith}
-use Rattle.std.proofs.Common.{◌≡◌, Bool, true, false, not, Option, Some, None, refl, ap}
+use Rattle.std.proofs.Common.{arith, ◌≡◌, Bool, true, false, not, Option, Some, None, refl, ap}
 use Rattle.std.proofs.lemmas.Cmp.{nat_list_cmp_total}
 use Rattle.std.proofs.lemmas.List.MinMax.{ranks_by}
 use Rattle.std.specs.Cmp.{IsStrictWeakOrder}

@@ -2,7 +2,7 @@
 use Rattle.std.proofs.lemmas.Grind.{common_steps}
 use Rattle.std.proofs.Common.{◌≡◌, ◌≢◌, ℕ, suc, ◌≤◌, Bool, true, false, not, ◌&&◌, ◌==◌, if◌then◌else◌, nat_lt, List, [], ◌∷◌, ◌++◌, length, Option, Some, None, Ok, slice_get, ap, refl, subst, arith}
 use Rattle.std.proofs.lemmas.Option.{cond_some}
-use Rattle.bolt_check.proofs.Words.{At_inline, At_page, bucket_spot, child_spot, early_finding, Entry, Finding, follow, HasShape, HasSoundTrees, is_below, is_from, IsClaimedBefore, IsClean, IsFirstFinding, IsMetaPage, Key, key_lt, keys_of, keys_order_fault, leads, Meta, nat_tests, Node, node_at, node_finding, Nodes, PageSpot, Passes, root_spot, same_Some, SpanHas, Spot, step, step_entry, upper_from}
+use Rattle.bolt_check.proofs.Words.{At_inline, At_page, bucket_spot, child_spot, early_finding, Entry, Finding, follow, HasShape, HasSoundTrees, is_below, is_from, IsClaimedBefore, IsClean, IsFirstFinding, IsMetaPage, Key, key_lt, keys_of, keys_order_fault, leads, Meta, nat_tests, Node, node_finding, Nodes, PageSpot, Passes, root_spot, same_Some, SpanHas, Spot, step, step_entry, upper_from}
 use Rattle.bolt_check.proofs.{WayOrder.before_irreflexive, Forest.follow_some, Forest.nothing_is, Judging.passes_silent, KeyOrder.key_passes}
 use Rattle.bolt_check.proofs.Shaping.{snoc_reached}
 use Rattle.bolt_check.specs.Ways.{reached}
@@ -38,7 +38,7 @@ module _ (nodes : Nodes) (root : ℕ) (shape : HasShape nodes root) where
 
   spot_bounded : (way : List ℕ) (s : Spot) → reached nodes root way ≡ Some s → Bounded nodes s → (i : ℕ) (t : Spot) → step nodes (Some s) i ≡ Some t
       → Bounded nodes t
-  spot_bounded way s e bound i t st = grind (arith, common_steps, entry_bounded)
+  spot_bounded way s e bound i t st = grind (arith, entry_bounded)
 
   way_bounded : (w way : List ℕ) (s : Spot) → reached nodes root way ≡ Some s → Bounded nodes s → (t : Spot) → follow nodes (Some s) w ≡ Some t
       → Bounded nodes t
@@ -87,4 +87,4 @@ pub shape_passes : (nodes : Nodes) (root : ℕ) → HasShape nodes root → IsCl
 shape_passes nodes root shape = record { passes = passes nodes root shape }
 
 pub sound_reports_nothing : (file : List ℕ) (meta : Meta) (x : Finding) → HasSoundTrees file meta → IsFirstFinding file meta x → ⊥
-sound_reports_nothing file meta x shape h = grind (arith, common_steps, node_at, passes_silent, passes)
+sound_reports_nothing file meta x shape h = grind (arith, passes_silent, passes)

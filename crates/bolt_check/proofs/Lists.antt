@@ -1,6 +1,5 @@
 -- Lists: members, lists that rise by a relation, and that two such lists with the same members are one. For the crates above too.
-use Rattle.std.proofs.Common.{rules}
-use Rattle.std.proofs.Common.{◌≡◌, ℕ, zero, suc, ◌+◌, ◌<◌, ◌⊎◌, inl, inr, List, [], ◌∷◌, ◌++◌, length, Some, slice_get, get_or, map, refl, sym, ap, subst, arith, ◌∙◌}
+use Rattle.std.proofs.Common.{rules, ◌≡◌, ℕ, zero, suc, ◌+◌, ◌<◌, ◌⊎◌, inl, inr, List, [], ◌∷◌, ◌++◌, length, Some, slice_get, get_or, map, refl, sym, ap, subst, arith, ◌∙◌}
 use Rattle.std.proofs.lemmas.Option.{get_or_from_slice_get, none-some, slice_get-get_or, slice_get_within}
 use Rattle.std.specs.List.{AllPairs, Contains, flat_map}
 pub use Rattle.bolt_check.specs.Lists.{Each, Has, RisesBy}
@@ -27,9 +26,8 @@ module _ {X : Type 0} where
   has_at (y ∷ xs) x (inr h) = let r = has_at xs x h in (suc r.0, r.1)
 
   pub at_has : (xs : List X) (k : ℕ) (x : X) → slice_get xs k ≡ Some x → Has xs x
-  at_has [] k x e = absurd (none-some x e)
-  at_has (y ∷ xs) zero x e = inl (cc)
   at_has (y ∷ xs) (suc k) x e = inr (at_has xs k x e)
+  at_has xs k x e = grind (arith, none-some)
 
   pub contains_from_has : (xs : List X) (x : X) → Has xs x → Contains xs x
   contains_from_has xs x h = let r = has_at xs x h in (r.0, slice_get_within xs r.0 x r.1, get_or_from_slice_get xs r.0 x x r.1)
@@ -65,10 +63,8 @@ module _ {X : Type 0} where
       (λ y k. let p = has_at xs y k in h 0 (suc p.0) x y (omega arith) refl p.1, rises_from_gets R xs (λ i j a b lt g k. h (suc i) (suc j) a b (omega arith) g k))
 
   pub rises_gets : (R : X → X → Type 0) (xs : List X) (i j : ℕ) (a b : X) → RisesBy R xs → i < j → slice_get xs i ≡ Some a → slice_get xs j ≡ Some b → R a b
-  rises_gets R [] i j a b r l g h = absurd (none-some a g)
-  rises_gets R (x ∷ xs) i zero a b r l g h = absurd (omega arith)
-  rises_gets R (x ∷ xs) zero (suc j) a b r l g h = let same : x ≡ a = cc in subst (λ (y : X). R y b) same (r.0 b (at_has xs j b h))
   rises_gets R (x ∷ xs) (suc i) (suc j) a b r l g h = rises_gets R xs i j a b r.1 (omega arith) g h
+  rises_gets R xs i j a b r l g h = grind (arith, none-some, at_has)
 
   pub get_exists : (xs : List X) (k : ℕ) → k < length xs → (x : X) × (slice_get xs k ≡ Some x)
   get_exists [] k h = absurd (omega arith)
@@ -88,14 +84,12 @@ module _ {X : Type 0} where
 
   -- an element of two lists, one after the other
   pub get_behind : (xs ys : List X) (n k : ℕ) → n ≡ length xs + k → slice_get (xs ++ ys) n ≡ slice_get ys k
-  get_behind [] ys n k e = let same : n ≡ k = omega arith in ap (slice_get ys) same
-  get_behind (x ∷ xs) ys zero k e = absurd (omega arith)
   get_behind (x ∷ xs) ys (suc n) k e = get_behind xs ys n k (omega arith)
+  get_behind xs ys n k e = grind arith
 
   pub get_front : (xs ys : List X) (k : ℕ) (x : X) → slice_get xs k ≡ Some x → slice_get (xs ++ ys) k ≡ Some x
-  get_front [] ys k x g = absurd (none-some x g)
-  get_front (y ∷ xs) ys zero x g = g
   get_front (y ∷ xs) ys (suc k) x g = get_front xs ys k x g
+  get_front xs ys k x g = grind (arith, none-some)
 
   -- Two lists that rise by a strict order and have the same members are one.
   module _ (R : X → X → Type 0) (strict : (x y : X) → R x y → R y x → ⊥) where

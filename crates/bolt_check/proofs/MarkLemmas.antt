@@ -1,7 +1,6 @@
 -- A good page lies below the mark and in the file.
-use Rattle.std.proofs.lemmas.Grind.{common_steps}
 use Rattle.std.proofs.Common.{◌≡◌, ℕ, ◌+◌, ◌*◌, ◌<◌, ◌≤◌, List, Option, Some, None, Result, Ok, Err, length, refl, inl, inr, arith, []}
-use Rattle.bolt_check.proofs.Words.{At_page, cases_lt, HasRoom, IsClean, IsMetaPage, IsSome, Kind, Meta, Node, node_at, node_of, node_seen, page_at, page_fault, page_overflow, PageUse, PageView, root_spot, span_within}
+use Rattle.bolt_check.proofs.Words.{At_page, cases_lt, HasRoom, IsClean, IsMetaPage, IsSome, Kind, Meta, Node, node_at, node_of, node_seen, page_at, page_overflow, PageUse, PageView, root_spot, span_within}
 use Rattle.bolt_check.specs.Ways.{reached}
 use Rattle.bolt_format.proofs.PageFacts.{span_passes}
 
@@ -18,7 +17,7 @@ overflow_of (Some view) = view.overflow
 
 pub page_overflows : (file : List ℕ) (meta : Meta) (id : ℕ) (view : PageView) → page_at file meta id ≡ Some view → view.overflow ≡ page_overflow file meta id
 unfolding page_at
-page_overflows file meta id view e = grind (arith, common_steps, page_fault)
+page_overflows file meta id view e = grind arith
 
 node_overflows : (k : Kind) (view : PageView) (node : Node) → node_of k view ≡ Ok node → node.overflow ≡ view.overflow
 node_overflows k view node e = grind arith
@@ -33,7 +32,7 @@ node_shown file meta id node e = let (view, is, _) = node_page file meta id node
 
 pub node_within : (file : List ℕ) (meta : Meta) (id : ℕ) (node : Node) → node_at file meta id ≡ Ok node
     → (id + node.overflow < meta.high_water) × ((id + node.overflow + 1) * meta.page_size ≤ length file)
-node_within file meta id node e = grind (arith, common_steps, node_page, page_overflows, span_within, span_passes)
+node_within file meta id node e = grind (arith, node_page, page_overflows, span_within, span_passes)
 
 pub node_below : (file : List ℕ) (meta : Meta) (id : ℕ) (node : Node) → node_at file meta id ≡ Ok node → id < meta.high_water
 node_below file meta id node e = let within = (node_within file meta id node e).0 in omega (arith, within)

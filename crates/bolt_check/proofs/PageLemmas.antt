@@ -31,22 +31,22 @@ module _ (mark : ℕ) (in_use : ℕ → Type 0) (times : ℕ → ℕ) where
   reports_well n once unlisted there in_range = grind arith
 
   pub reports_twice : (n : ℕ) → 2 ≤ times n → (in_use n → ⊥) → IsInRange mark n → Reports mark in_use times n (suc n) (finding FREED_TWICE n ∷ [])
-  reports_twice n two unused in_range = grind (arith, common_steps, reports_one, finding, freed_twice)
+  reports_twice n two unused in_range = grind (arith, reports_one, freed_twice)
 
   pub reports_reached : (n : ℕ) → times n ≡ 1 → in_use n → IsInRange mark n → Reports mark in_use times n (suc n) (finding REACHED_FREED n ∷ [])
-  reports_reached n one used in_range = grind (arith, common_steps, reports_one, finding, reached_freed)
+  reports_reached n one used in_range = grind (arith, reports_one, reached_freed)
 
   pub reports_both : (n : ℕ) → 2 ≤ times n → in_use n → IsInRange mark n → Reports mark in_use times n (suc n) (finding FREED_TWICE n ∷ finding REACHED_FREED n ∷ [])
-  reports_both n two used in_range = grind (arith, common_steps, finding, freed_twice, reached_freed)
+  reports_both n two used in_range = grind (arith, freed_twice, reached_freed)
 
   pub reports_range : (n : ℕ) → 1 ≤ times n → (n < 2) ⊎ (mark ≤ n) → (IsInRange mark n → ⊥) → Reports mark in_use times n (suc n) (finding FREE_RANGE n ∷ [])
-  reports_range n one out outside = grind (arith, common_steps, reports_one, finding, out_of_range)
+  reports_range n one out outside = grind (arith, reports_one, out_of_range)
 
   pub reports_unlisted : (n : ℕ) → times n ≡ 0 → (IsLost mark in_use times n → ⊥) → Reports mark in_use times n (suc n) []
   reports_unlisted n zero there = grind arith
 
   reports_meta : (n : ℕ) (page_use : PageUse) → n < 2 → times n ≡ times_of page_use → in_use n → is_used page_use ≡ true → Reports mark in_use times n (suc n) (meta_findings n page_use)
-  reports_meta n page_use low e used is = grind (arith, common_steps, false≢true, reports_range, reports_unlisted)
+  reports_meta n page_use low e used is = grind (arith, false≢true, reports_range, reports_unlisted)
 
   reports_use : (n : ℕ) (page_use : PageUse) → IsInRange mark n → times n ≡ times_of page_use → (in_use n → is_used page_use ≡ true) → (is_used page_use ≡ true → in_use n)
       → (page_use ≡ Unused → ⊥) → Reports mark in_use times n (suc n) (use_findings n page_use)

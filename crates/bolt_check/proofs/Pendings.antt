@@ -1,15 +1,13 @@
 -- What a node leads to from an entry on.
-use Rattle.std.proofs.Common.{rules}
-use Rattle.std.proofs.Common.{◌≡◌, ℕ, zero, suc, ◌+◌, ◌<◌, ◌≤◌, Bool, List, [], ◌∷◌, ◌++◌, Some, None, length, map, drop, slice_get, refl, ap, arith}
+use Rattle.std.proofs.Common.{rules, ◌≡◌, ℕ, suc, ◌+◌, ◌<◌, ◌≤◌, Bool, List, [], ◌∷◌, ◌++◌, Some, None, length, map, drop, slice_get, refl, ap, arith}
 use Rattle.std.proofs.lemmas.List.{reverse-append, drop_all}
 use Rattle.bolt_check.proofs.Words.{Entry, kids, Node, PageSpot, places, somes, Spot, spot_at, spots_of, step_entry, step_on}
 use Rattle.bolt_check.specs.declared.spot.Spot.{Spot as CodeSpot}
 
 pub places_drop : (is_leaf : Bool) (s : PageSpot) (entries : List Entry) (i : ℕ) → i < length entries
     → places is_leaf s (drop i entries) ≡ step_entry is_leaf s (slice_get entries i) (slice_get entries (suc i)) ∷ places is_leaf s (drop (suc i) entries)
-places_drop is_leaf s [] i h = absurd (omega arith)
-places_drop is_leaf s (e ∷ entries) zero h = refl
 places_drop is_leaf s (e ∷ entries) (suc i) h = places_drop is_leaf s entries i (omega arith)
+places_drop is_leaf s entries i h = grind arith
 
 pub spots_push : (spots : List CodeSpot) (spot : CodeSpot) → spots_of (spots ++ spot ∷ []) ≡ spot_at spot ∷ spots_of spots
 spots_push spots spot = ap (map spot_at) (reverse-append spots (spot ∷ []))

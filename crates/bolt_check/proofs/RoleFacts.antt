@@ -1,5 +1,4 @@
 -- What holds of a page with a role, for the crates above.
-use Rattle.std.proofs.lemmas.Grind.{common_steps}
 use Rattle.std.proofs.Common.{◌≡◌, ℕ, ◌+◌, ◌*◌, ◌<◌, ◌≤◌, inl, inr, Bool, true, List, [], Ok, length, refl, sym, subst, arith}
 use Rattle.bolt_check.proofs.Words.{bytes_of, cases_lt, Checked, HasRightAccounts, HasRole, HasSoundTrees, IsFirstPage, IsInFreelist, IsSome, IsSound, Meta, meta_of, Node, node_at, page_at, Role, root_spot, ∥∥₁_elim, ∥∥₁_map}
 use Rattle.bolt_check.specs.{CheckedFiles.has_accounts, Roles.AreRoles, Ways.reached}
@@ -19,7 +18,7 @@ with_accounts checked P is prop f = ∥∥₁_elim (sound_accounts checked is) p
 module _ (file : List ℕ) (meta : Meta) where
   -- the first page of a branch or a leaf is good
   pub first_shown : (is_leaf : Bool) (n : ℕ) → IsFirstPage (node_at file meta) (reached (node_at file meta) meta.root) is_leaf n → IsSome (page_at file meta n)
-  first_shown is_leaf n is = grind (arith, common_steps, node_shown)
+  first_shown is_leaf n is = grind (arith, node_shown)
 
   -- and so is the freelist's
   pub freelist_shown : (n : ℕ) → IsInFreelist file meta n → n ≡ meta.freelist → IsSome (page_at file meta n)

@@ -1,5 +1,4 @@
 -- If the tests find nothing at any way, the shape holds.
-use Rattle.std.proofs.lemmas.Grind.{common_steps}
 use Rattle.std.proofs.Common.{◌≡◌, ◌≢◌, ℕ, suc, ◌≤◌, inl, inr, Bool, true, false, not, ◌&&◌, ◌==◌, if◌then◌else◌, List, [], ◌∷◌, ◌++◌, length, Option, Some, None, Result, Ok, slice_get, refl, arith, ◌∙◌}
 use Rattle.bolt_check.proofs.Words.{At_inline, At_page, cases_lt, child_at, child_spot, early_finding, Entry, Finding, follow, HasShape, is_below, is_from, IsClaimedBefore, IsClean, IsMetaPage, Key, key_lt, keys_of, keys_order_fault, leads, Node, node_finding, Nodes, not-true, PagePasses, PageSpot, Passes, Reach, SpanAt, SpanHas, Spot, step, upper_from}
 use Rattle.bolt_check.proofs.{WayOrder.before_total, KeyLaws.below_less, KeyLaws.from_more, KeyOrder.key_each, KeyOrder.key_rise}
@@ -56,7 +55,7 @@ keys_below nodes (i ∷ address) s fine below j key under l e g =
 
 pub snoc_reached : (nodes : Nodes) (root : ℕ) (way : List ℕ) (i : ℕ) (s : Spot) (o : Option Spot) → reached nodes root way ≡ Some s → step nodes (Some s) i ≡ o
     → (v : List ℕ) → reached nodes root (way ++ i ∷ v) ≡ follow nodes o v
-snoc_reached nodes root way i s o e st v = grind (arith, common_steps, follow, follow_append)
+snoc_reached nodes root way i s o e st v = grind (arith, follow_append)
 
 early_depth : (nodes : Nodes) (s : PageSpot) → early_finding nodes s ≡ None → s.depth ≤ 64
 early_depth nodes s e = grind arith

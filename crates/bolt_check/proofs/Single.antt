@@ -1,7 +1,5 @@
 -- There is at most one first finding.
-use Rattle.std.proofs.Common.{arith}
-use Rattle.std.proofs.lemmas.Grind.{common_steps}
-use Rattle.std.proofs.Common.{◌≡◌, ℕ, List}
+use Rattle.std.proofs.Common.{arith, ◌≡◌, ℕ, List}
 use Rattle.bolt_check.proofs.Words.{Finding, IsFirstFinding, Meta, Node, Nodes, PageSpot, PageTests, Spot, Tests}
 use Rattle.bolt_check.proofs.WayOrder.{before_total}
 use Rattle.bolt_check.specs.{Findings.IsLowestClaimed}
@@ -16,4 +14,4 @@ pub tests_one : (nodes : Nodes) (before : ℕ → Type 0) (s : Spot) (x y : Find
 tests_one nodes before s x y h k = grind arith
 
 pub first_one : (file : List ℕ) (meta : Meta) (x y : Finding) → IsFirstFinding file meta x → IsFirstFinding file meta y → x ≡ y
-first_one file meta x y h k = grind (arith, common_steps, before_total, tests_one)
+first_one file meta x y h k = grind (arith, before_total, tests_one)

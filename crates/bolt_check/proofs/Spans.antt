@@ -1,6 +1,5 @@
 -- A table after the pages of a span were claimed.
-use Rattle.std.proofs.Common.{rules}
-use Rattle.std.proofs.Common.{◌≡◌, ◌∙◌, ℕ, ◌<◌, ◌≤◌, ◌⊎◌, inl, inr, List, ap}
+use Rattle.std.proofs.Common.{rules, ◌≡◌, ◌∙◌, ℕ, ◌<◌, ◌≤◌, ◌⊎◌, inl, inr, List, ap}
 use Rattle.bolt_check.proofs.Words.{IsClaimed, IsUnclaimed, IsUnlisted, PageUse, times_of, use_at}
 
 pub not_both : (t : List PageUse) (k : ℕ) → IsUnclaimed t k → IsClaimed t k → ⊥

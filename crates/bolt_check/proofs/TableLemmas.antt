@@ -10,7 +10,7 @@ abbrev weight : PageUse → ℕ
 weight page_use = cond (not (is_used page_use)) 1 0
 
 pub unclaimed_fewer : (t : List PageUse) (i : ℕ) (u : PageUse) → is_used u ≡ true → i < length t → IsUnclaimed t i → unclaimed (set t i u) < unclaimed t
-unclaimed_fewer t i u used h e = grind (arith, common_steps, sum_by-set, first_use)
+unclaimed_fewer t i u used h e = grind (arith, sum_by-set)
 
 pub unclaimed_set : (t : List PageUse) (i : ℕ) → unclaimed (set t i Used) ≤ unclaimed t
 unclaimed_set t i =
@@ -39,7 +39,7 @@ pub first_unlisted : (n : ℕ) → times_of (first_use n) ≡ 0
 first_unlisted n = elim (cases_lt n 2) [ inl low ↦ rw (lt-ltb n 2 low) refl | inr high ↦ rw (le-ltb n 2 high) refl ]
 
 pub first_claimed : (n : ℕ) → (is_used (first_use n) ≡ true) ↔ (n < 2)
-first_claimed n = grind (arith, common_steps, first_use, lt-ltb)
+first_claimed n = grind (arith, lt-ltb)
 
 pub starts : (t : List PageUse) (i : ℕ) → ((k : ℕ) → k < i → use_at t k ≡ Used) → ((k : ℕ) → i ≤ k → k < length t → use_at t k ≡ Unused)
     → i ≤ 2 → min (length t) 2 ≤ i → (n : ℕ) → use_at t n ≡ first_use n

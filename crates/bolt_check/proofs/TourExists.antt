@@ -1,5 +1,4 @@
 -- Each visit removes a page number from those that are left.
-use Rattle.std.proofs.lemmas.Grind.{common_steps}
 use Rattle.std.proofs.Common.{◌≡◌, ◌≢◌, ◌∙◌, ℕ, zero, suc, ◌<◌, inl, inr, List, [], ◌∷◌, ◌++◌, length, Option, Some, Ok, refl, sym, ap, subst, arith}
 use Rattle.std.proofs.lemmas.List.{append_cancel_left}
 use Rattle.bolt_check.proofs.Words.{At_page, Before, cases_eq, follow, Has, HasSoundTrees, Meta, Node, node_at, Nodes, PageSpot, Reach, root_spot, Spot}
@@ -13,9 +12,8 @@ without n (x ∷ xs) (inl e) = xs
 without n (x ∷ xs) (inr h) = x ∷ without n xs h
 
 pub shorter : (n : ℕ) (xs : List ℕ) (h : Has xs n) → length (without n xs h) < length xs
-shorter n [] h = absurd h
-shorter n (x ∷ xs) (inl e) = omega arith
 shorter n (x ∷ xs) (inr h) = let less = shorter n xs h in omega (arith, less)
+shorter n xs h = grind arith
 
 pub still : (n m : ℕ) (xs : List ℕ) (h : Has xs n) → m ≢ n → Has xs m → Has (without n xs h) m
 still n m [] h ne k = absurd h
@@ -59,7 +57,7 @@ module _ (nodes : Nodes) {left : List ℕ} {old : Reach} (fits : Fits nodes left
 -- the ways of sound trees fit
 sound_fits : (file : List ℕ) (meta : Meta) → HasSoundTrees file meta
     → Fits (node_at file meta) (numbers meta.high_water) (reached (node_at file meta) meta.root)
-sound_fits file meta trees = grind (arith, common_steps, has_number, node_below, one_way)
+sound_fits file meta trees = grind (arith, has_number, node_below, one_way)
 
 -- and so do those of a bucket that one of them leads to
 pub bucket_fits : (file : List ℕ) (meta : Meta) → HasSoundTrees file meta → (way : List ℕ) (root : ℕ)

@@ -130,7 +130,7 @@ module _ (nodes : Nodes) where
     -- spots that fit, by the pages that are left
     along : (n : ℕ) → ((p : ℕ) → n ≡ suc p → (left : List ℕ) (spots : List Spot) → length left ≤ p → Fits nodes left (forest nodes spots) → Summed p spots)
         → (left : List ℕ) (spots : List Spot) → length left ≤ n → Fits nodes left (forest nodes spots) → Summed n spots
-    along n below left [] le fits = grind (arith, common_steps, forest_empty)
+    along n below left [] le fits = grind (arith, forest_empty)
     along n below left (At_inline host keys ∷ rest) le fits =
         inline_sum n host keys rest (along n below left rest le (fits_visited nodes fits (inline_visits nodes host keys rest)))
     along zero below left (At_page s ∷ rest) le fits = absurd (omega (arith, shorter s.number left (fits.within (0 ∷ []) s refl), le))
@@ -179,4 +179,4 @@ pub enough_node : (nodes : Nodes) (k n : ℕ) → Enough nodes k n → (node : N
 enough_node nodes k n h = grind arith
 
 pub enough_shown : (file : List ℕ) (meta : Meta) (k n : ℕ) → Enough (node_at file meta) k n → IsSome (page_at file meta n)
-enough_shown file meta k n h = grind (arith, common_steps, enough_node, node_shown)
+enough_shown file meta k n h = grind (arith, enough_node, node_shown)

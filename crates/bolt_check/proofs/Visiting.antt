@@ -1,7 +1,5 @@
 -- A search for findings goes on from what a visited spot leads to.
-use Rattle.std.proofs.Common.{arith}
-use Rattle.std.proofs.lemmas.Grind.{common_steps}
-use Rattle.std.proofs.Common.{◌≡◌, ℕ, ◌⊎◌, inl, inr, List, Option, Some, None}
+use Rattle.std.proofs.Common.{arith, ◌≡◌, ℕ, ◌⊎◌, inl, inr, List, Option, Some, None}
 use Rattle.bolt_check.proofs.Words.{Before, Carries, HasUse, IsClaimedBefore, IsCovered, Nodes, PageUse, Passes, Reach, SpanHas, Spot, Tests, UseOf}
 use Rattle.bolt_check.proofs.WayOrder.{before_irreflexive, before_strict, before_total}
 use Rattle.bolt_check.proofs.Judging.{tests_same, passes_fewer, passes_silent, span_spot, use_back, use_spot}
@@ -22,31 +20,31 @@ PassesAt nodes c (Some s) = Passes nodes c s
 module _ {old new : Reach} {o : Option Spot} {first : List ℕ} {f : List ℕ → List ℕ} (v : Visits old new o first f) where
   -- the order is the same
   pub not_after : (w b : List ℕ) (t u : Spot) → new w ≡ Some t → new b ≡ Some u → Before (f w) (f b) → Before w b
-  not_after w b t u at_w at_b lt = grind (arith, common_steps, before_total, before_strict)
+  not_after w b t u at_w at_b lt = grind (arith, before_total, before_strict)
 
   -- and no two ways become one
   pub one_of : (a b : List ℕ) (t u : Spot) → new a ≡ Some t → new b ≡ Some u → f a ≡ f b → a ≡ b
-  one_of a b t u at_a at_b e = grind (arith, common_steps, before_total, before_irreflexive)
+  one_of a b t u at_a at_b e = grind (arith, before_total, before_irreflexive)
 
 module _ (nodes : Nodes) {old new : Reach} {o : Option Spot} {first : List ℕ} {f : List ℕ → List ℕ} {c d : ℕ → Type 0} {a b : ℕ → PageUse → Type 0}
     (v : Visits old new o first f) (takes : Takes nodes o c d a b) where
   span_first : (n : ℕ) → SpanHas nodes o n → SpanHas nodes (old first) n
-  span_first n h = grind (arith, common_steps, span_spot)
+  span_first n h = grind (arith, span_spot)
 
   use_first : (n : ℕ) (u : PageUse) → UseOf nodes o n u → UseOf nodes (old first) n u
   use_first n u h = let s = use_spot nodes o n u h in use_back nodes (old first) s.0 n u (v.leads s.0 s.1.0) s.1.1
 
   span_later : (w : List ℕ) (n : ℕ) → SpanHas nodes (new w) n → SpanHas nodes (old (f w)) n
-  span_later w n h = grind (arith, common_steps, span_spot)
+  span_later w n h = grind (arith, span_spot)
 
   claimed_to_old : (w : List ℕ) (t : Spot) → new w ≡ Some t → (n : ℕ) → IsClaimedBefore nodes new d w n → IsClaimedBefore nodes old c (f w) n
   claimed_to_old w t e n h = grind arith
 
   claimed_to_new : (w : List ℕ) (t : Spot) → new w ≡ Some t → (n : ℕ) → IsClaimedBefore nodes old c (f w) n → IsClaimedBefore nodes new d w n
-  claimed_to_new w t e n h = grind (arith, common_steps, span_spot, not_after)
+  claimed_to_new w t e n h = grind (arith, span_spot, not_after)
 
   first_passes : PassesAt nodes c o → (s : Spot) → o ≡ Some s → Passes nodes (IsClaimedBefore nodes old c first) s
-  first_passes h s e = grind (arith, passes_fewer, common_steps, span_spot, before_strict)
+  first_passes h s e = grind (arith, passes_fewer, span_spot, before_strict)
 
   pub carries : PassesAt nodes c o → Carries nodes old c a new d b
   carries h = record {

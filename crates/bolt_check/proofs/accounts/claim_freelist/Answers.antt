@@ -1,4 +1,3 @@
-use Rattle.std.proofs.lemmas.Grind.{common_steps}
 use Rattle.std.proofs.Common.{arith, refl}
 use Rattle.bolt_check.proofs.{ClaimLemmas.claims_freelist, ClaimLemmas.span_within, FreelistLemmas.freelist_page, MarkLemmas.page_overflows}
 use Rattle.bolt_check.proofs.accounts.claim_freelist.Goals as goal
@@ -13,7 +12,7 @@ pub first_claimed-requires-clause-within : goal.first_claimed-requires-clause-wi
 first_claimed-requires-clause-within c = grind (arith, page_overflows, span_within)
 
 pub returns-in-Some-clause-shared : goal.returns-in-Some-clause-shared
-returns-in-Some-clause-shared c = grind (arith, common_steps, page_overflows)
+returns-in-Some-clause-shared c = grind (arith, page_overflows)
 
 pub claim-requires-clause-within : goal.claim-requires-clause-within
 claim-requires-clause-within c = grind (arith, page_overflows, span_within)

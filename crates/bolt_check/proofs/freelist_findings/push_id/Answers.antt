@@ -1,5 +1,4 @@
-use Rattle.std.proofs.Common.{arith}
-use Rattle.std.proofs.Common.{subst₂}
+use Rattle.std.proofs.Common.{arith, subst₂}
 use Rattle.bolt_check.proofs.FreelistSteps.{past_reported}
 use Rattle.bolt_check.proofs.freelist_findings.push_id.Goals as goal
 

@@ -1,4 +1,3 @@
-use Rattle.std.proofs.lemmas.Grind.{common_steps}
 use Rattle.std.proofs.Common.{◌≡◌, ◌∙◌, ap, arith, get_or, refl, sym}
 use Rattle.bolt_check.proofs.Words.{false≢true, first_use, get_or_default, IsClaimed, node_at, times_of, Unused}
 use Rattle.bolt_check.proofs.LeafLemmas.{filled_lone, listed_none, node_in_table}
@@ -23,4 +22,4 @@ returns-in-Ok-clause-leaf c =
     filled_lone (node_at c.args.file.now c.args.meta.now) (IsClaimed c.args.table.now) c.args.number (c.if-not-is_filled_leaf.ensures.filled refl) c.in-Ok.ensures.passes
 
 pub returns-in-Ok-clause-unlisted : goal.returns-in-Ok-clause-unlisted
-returns-in-Ok-clause-unlisted c = grind (arith, common_steps, get_or_default, first_use)
+returns-in-Ok-clause-unlisted c = grind (arith, get_or_default)

@@ -13,7 +13,7 @@ pub returns-clause-metas : goal.returns-clause-metas
 returns-clause-metas c = λ n. rw (begun c n) (first_claimed n)
 
 pub returns-clause-uses : goal.returns-clause-uses
-returns-clause-uses c = grind (arith, common_steps, begun)
+returns-clause-uses c = grind (arith, common_steps)
 
 pub returns-clause-unlisted : goal.returns-clause-unlisted
 returns-clause-unlisted c = λ n. rw (begun c n) (first_unlisted n)

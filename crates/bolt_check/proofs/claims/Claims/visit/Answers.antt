@@ -1,6 +1,5 @@
-use Rattle.std.proofs.Common.{rules}
+use Rattle.std.proofs.Common.{rules, ◌≡◌, ◌∙◌, List, OnErr, OnOk, Result, ap, arith, length}
 use Rattle.std.proofs.lemmas.Grind.{common_steps}
-use Rattle.std.proofs.Common.{◌≡◌, ◌∙◌, List, OnErr, OnOk, Result, ap, arith, length}
 use Rattle.std.proofs.lemmas.Result.{on_err_weaker}
 use Rattle.bolt_check.proofs.Words.{claims_file, IsUnlisted, PageUse, unclaimed}
 use Rattle.bolt_check.proofs.Visited.{stored}
@@ -23,7 +22,7 @@ returns-clause-found c = rw c.deref_mut.ensures.value at c.visit.ensures.found
 
 pub returns-clause-same : goal.returns-clause-same
 unfolding is_claimed
-returns-clause-same c = grind (arith, common_steps, stored, on_err_weaker)
+returns-clause-same c = grind (arith, stored, on_err_weaker)
 
 pub returns-clause-left : goal.returns-clause-left
 unfolding pages_left

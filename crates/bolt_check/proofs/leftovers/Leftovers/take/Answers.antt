@@ -26,8 +26,8 @@ returns-clause-taken c = grind (arith, common_steps)
 
 pub returns-clause-same : goal.returns-clause-same
 unfolding is_taken
-returns-clause-same c = grind (arith, common_steps, stored, if_none)
+returns-clause-same c = grind (arith, stored, if_none)
 
 pub returns-clause-noted : goal.returns-clause-noted
 unfolding is_listed is_taken
-returns-clause-noted c = grind (arith, common_steps, stored)
+returns-clause-noted c = grind (arith, stored)
