@@ -1,7 +1,5 @@
 -- Two files that agree under a meta list the same. For the crates above.
-use Rattle.std.proofs.Common.{arith}
-use Rattle.std.proofs.lemmas.Grind.{common_steps}
-use Rattle.std.proofs.Common.{◌≡◌, ◌∙◌, ◌↔◌, ℕ, List, Option, Some, ap₂, sym}
+use Rattle.std.proofs.Common.{arith, ◌≡◌, ◌∙◌, ◌↔◌, ℕ, List, Option, Some, ap₂, sym}
 use Rattle.std.proofs.Math.Path.{fun_ext}
 use Rattle.std.specs.List.{Contains}
 use Rattle.bolt_format.specs.{Elements.LeafElement, Pages.PageView, Pages.page_at}
@@ -26,4 +24,4 @@ module _ (file other : List ℕ) (meta : Meta) (agree : Agree file other meta) w
       fun_ext (by_pages other meta) ∙ ap₂ entry_by (same_nodes file other meta agree) (same_pages file other meta agree) ∙ sym (fun_ext (by_pages file meta))
 
   pub listing_along : (listing : List Member) → IsListing file meta listing ↔ IsListing other meta listing
-  listing_along listing = grind (arith, common_steps, same_entries)
+  listing_along listing = grind (arith, same_entries)

@@ -1,6 +1,5 @@
 -- A part of a path is sought in a bucket, in what is known of open buckets: only that it is so.
-use Rattle.std.proofs.Common.{arith}
-use Rattle.std.proofs.Common.{◌≡◌, ◌∙◌, ◌⊎◌, IsTrue, Bool, inl, inr, true, false, List, [], ◌∷◌, ◌++◌, Option, Some, None, refl, sym, ap, subst, append_assoc}
+use Rattle.std.proofs.Common.{arith, ◌≡◌, ◌∙◌, ◌⊎◌, IsTrue, Bool, inl, inr, true, false, List, [], ◌∷◌, ◌++◌, Option, Some, None, refl, sym, ap, subst, append_assoc}
 use Rattle.bolt_tree.proofs.Words.{AreOpen, Bucket, Checked, CursorView, Equal, Greater, HasEntries, IsInside, Key, LeafElement, Less, Lists, Member, Names, Opens, Ordering, Path, Start, beyond, bucket_checked, bucket_start, entries_of, fresh_view, is_end, is_lt, key_cmp, least_from, less_of, ordering_reverse, props, rest_from, root_start, seek_move, start_of, ∥∥₁_elim}
 use Rattle.bolt_tree.proofs.CursorMoves.{by_key}
 use Rattle.bolt_tree.proofs.Entering.{Fresh_at, MovesBy, comes_by, leads_by, leads_in, leads_inside, made, opens_by, placed_in}

@@ -1,5 +1,4 @@
 -- Numbers of pages: an address is counted by its place on the tour.
-use Rattle.std.proofs.lemmas.Grind.{common_steps}
 use Rattle.std.proofs.Common.{◌≡◌, ℕ, suc, ◌+◌, ◌-◌, ◌≤◌, ◌<◌, ◌⊎◌, inl, inr, List, [], ◌∷◌, ◌++◌, Some, length, map, refl, sym, ap, ◌∙◌, subst, arith, append_assoc, append-nil, length-append}
 use Rattle.bolt_tree.proofs.Words.{Before, BucketView, HasCount, HasSoundTrees, Inline_page, IsAddress, IsAfter, IsEntry, IsHome, IsPagesUpTo, IsSeekPage, IsSoundBucket, IsStart, IsUpTo, LeafElement, Meta, Root_page, Start, TourPage, cases_lt, content_at, leads, length-map, lt_strict, node_at, pages_at, pages_in}
 use Rattle.bolt_check.proofs.Lists.{Has, RisesBy, contains_from_has, flat_has, has_from_contains, has_left, has_map, has_right, has_split, map_has, one_list, pairs_from_rises, rises_across, rises_from_pairs, rises_left, rises_map, rises_right, rises_weaker}
@@ -59,16 +58,15 @@ module _ {X : Type 0} where
       let rest : b ≡ c ++ (y ∷ d) = cc in
       let same : x ≡ z = cc in
       (c ++ y ∷ [], rest ∙ sym (append_assoc c (y ∷ []) d), ap (λ (w : X). w ∷ (c ++ y ∷ [])) same)
-  two_cuts (w ∷ a) b [] d x y e l = grind (arith, common_steps, length-append)
+  two_cuts (w ∷ a) b [] d x y e l = grind (arith, length-append)
   two_cuts (w ∷ a) b (z ∷ c) d x y e l =
       let rest : a ++ (x ∷ b) ≡ c ++ (y ∷ d) = cc in
       let same : w ≡ z = cc in
       let r = two_cuts a b c d x y rest l in
-      let whole = r.2 in
-      (r.0, r.1, cc)
+      grind arith
 
 not_both : (a c : List ℕ) → Before c a → (a ≡ c) ⊎ Before a c → ⊥
-not_both a c after h = grind (arith, common_steps, before_irreflexive, before_strict)
+not_both a c after h = grind (arith, before_irreflexive, before_strict)
 
 abbrev pub address_of : TourPage → List ℕ
 address_of v = v.address
@@ -129,7 +127,7 @@ module _ (b : BucketView) (s : IsSoundBucket b) where
     right_apart u h = (rises_right IsApart c.left (c.page ∷ c.right) whole_rises).0 u h
 
     sides : (u : TourPage) → Has (pages_in b) u → (Has c.left u × IsApart u c.page) ⊎ ((c.page ≡ u) ⊎ (Has c.right u × IsApart c.page u))
-    sides u h = grind (arith, common_steps, has_split, left_apart, right_apart)
+    sides u h = grind (arith, has_split, left_apart, right_apart)
 
     -- the home of its entries
     pub its_home : (e : LeafElement) → Has c.page.entries e → IsHome b.file b.meta b.start e c.page.address
@@ -150,7 +148,7 @@ module _ (b : BucketView) (s : IsSoundBucket b) where
 
     -- the pages up to it
     up_to : (u : TourPage) → Has (c.left ++ c.page ∷ []) u → (u.address ≡ c.page.address) ⊎ Before u.address c.page.address
-    up_to u h = grind (arith, common_steps, has_split, left_apart)
+    up_to u h = grind (arith, has_split, left_apart)
 
     up_to_exact : IsExactly (IsUpTo b.file b.meta b.start c.page.address) (suc (length c.left))
     up_to_exact = part_exact (IsUpTo b.file b.meta b.start c.page.address) [] (c.left ++ c.page ∷ []) c.right (suc (length c.left))
@@ -169,7 +167,7 @@ module _ (b : BucketView) (s : IsSoundBucket b) where
 
     -- those after it
     from_after : (u : TourPage) → Has (pages_in b) u → Before c.page.address u.address → Has c.right u
-    from_after u h after = grind (arith, common_steps, sides, before_strict, before_irreflexive)
+    from_after u h after = grind (arith, sides, before_strict, before_irreflexive)
 
     pub after_exact : IsExactly (IsAfter b.file b.meta b.start c.page.address) (length c.right)
     after_exact = part_exact (IsAfter b.file b.meta b.start c.page.address) (c.left ++ c.page ∷ []) c.right [] (length c.right)

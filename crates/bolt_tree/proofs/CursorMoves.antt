@@ -1,12 +1,10 @@
 -- What a cursor's move says of the entry that it comes to.
-use Rattle.std.proofs.lemmas.Grind.{common_steps}
-use Rattle.std.proofs.Common.{◌≡◌, ◌≤◌, Bool, false, ℕ, zero, suc, List, [], ◌∷◌, length, Option, Some, None, cond, nat_lt, slice_get, refl, arith}
+use Rattle.std.proofs.Common.{◌≡◌, ◌≤◌, Bool, false, ℕ, suc, List, [], ◌∷◌, length, Option, Some, None, cond, nat_lt, slice_get, refl, arith}
 use Rattle.bolt_tree.proofs.Words.{Key, LeafElement, Move, On, Past, Place, first_move, least_from, nat_tests, next_move, nothing_at, onto, place_in, seek_move}
 
 pub none_past : (entries : List LeafElement) (i : ℕ) → None ≡ slice_get entries i → length entries ≤ i
-none_past [] i e = omega arith
-none_past (x ∷ entries) zero e = absurd (cc)
 none_past (x ∷ entries) (suc i) e = let h = none_past entries i e in omega (arith, h)
+none_past entries i e = grind arith
 
 pub not_below : (m n : ℕ) → nat_lt m n ≡ false → n ≤ m
 not_below m n e = grind (arith, nat_tests)
@@ -18,11 +16,11 @@ ComesTo entries n place (Some g) = (place ≡ On n) × (slice_get entries n ≡ 
 
 pub by_length : (entries : List LeafElement) (n : ℕ) (stay place : Place) (o : Option LeafElement) (b : Bool) → nat_lt n (length entries) ≡ b
     → place ≡ (cond b (onto entries n) (nothing_at stay)).place → o ≡ (cond b (onto entries n) (nothing_at stay)).answer → ComesTo entries n place o
-by_length entries n stay place o b t p a = grind (arith, common_steps, none_past, not_below)
+by_length entries n stay place o b t p a = grind (arith, none_past, not_below)
 
 pub comes_next : (entries : List LeafElement) (i : ℕ) (e : LeafElement) (before place : Place) (o : Option LeafElement) → before ≡ On i → slice_get entries i ≡ Some e
     → (place_in entries place ≡ (next_move entries (place_in entries before)).place) × (o ≡ (next_move entries (place_in entries before)).answer) → ComesTo entries (suc i) place o
-comes_next entries i e before place o on at h = grind (arith, common_steps, by_length, nat_lt, next_move)
+comes_next entries i e before place o on at h = grind (arith, by_length)
 
 pub comes_first : (entries : List LeafElement) (place : Place) (o : Option LeafElement)
     → (place_in entries place ≡ (first_move entries).place) × (o ≡ (first_move entries).answer) → ComesTo entries 0 place o

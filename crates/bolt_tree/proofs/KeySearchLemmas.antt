@@ -1,12 +1,11 @@
 -- A search by halves.
-use Rattle.std.proofs.lemmas.Grind.{common_steps}
 use Rattle.std.proofs.Common.{◌≡◌, ℕ, zero, suc, ◌+◌, ◌*◌, ◌≤◌, ◌<◌, inl, inr, Bool, true, false, not, List, Some, slice_get, refl, sym, ap, ◌∙◌, arith, add-one}
 use Rattle.std.proofs.Math.Nat.{mul-le-mul_left}
 use Rattle.bolt_tree.proofs.Words.{Key, KeysRise, cases_lt, doubled, false_from_ne_true, key_lt, lt_trans, not-true, stands_before}
 
 -- what stands before a key that stands before does so too
 pub before_down : (or_equal : Bool) (a b s : Key) → key_lt a b ≡ true → stands_before or_equal b s ≡ true → stands_before or_equal a s ≡ true
-before_down or_equal a b s h e = grind (arith, common_steps, not, false_from_ne_true, key_lt, not-true, lt_trans)
+before_down or_equal a b s h e = grind (arith, not, false_from_ne_true, not-true, lt_trans)
 
 -- and the other way round
 pub before_up : (or_equal : Bool) (a b s : Key) → key_lt a b ≡ true → stands_before or_equal a s ≡ false → stands_before or_equal b s ≡ false
@@ -41,9 +40,8 @@ positive zero = omega arith
 positive (suc c) = let p = positive c in omega (arith, p)
 
 grows : (n c : ℕ) → n ≤ c → doubled n ≤ doubled c
-grows zero c h = positive c
-grows (suc n) zero h = absurd (omega arith)
 grows (suc n) (suc c) h = let r = grows n c (omega arith) in omega (arith, r)
+grows n c h = grind (arith, positive)
 
 pub sixteen : (len c : ℕ) → 1 ≤ len → len * doubled c ≤ 65535 → c + 1 ≤ 16
 sixteen len c one few = elim (cases_lt c 16) [

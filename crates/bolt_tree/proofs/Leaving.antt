@@ -1,6 +1,5 @@
 -- A loop over a cursor: each call removes the first of the entries that are left, so there are fewer left then.
 -- Rests on that the entries of a bucket in order exist, and are one.
-use Rattle.std.proofs.lemmas.Grind.{common_steps}
 use Rattle.std.proofs.Common.{◌≡◌, ◌<◌, ℕ, suc, List, [], ◌∷◌, length, drop, nat_lt, Option, Some, None, refl, ap, subst, arith}
 use Rattle.bolt_tree.proofs.Words.{AreEntries, Bucket, Checked, EntryView, Fresh, LeafElement, On, Past, Place, ShowsMove, Start, bucket_checked, bucket_start, bytes_of, drop_all, drop_at, entries_of, entry_view, meta_of, next_move, option_map, place_in, props, ∥∥₁_elim, ∥∥₁_prop}
 use mathlib.Core.HLevel.{Σ_prop_path}
@@ -29,17 +28,16 @@ none_left : (place : Place) → entries_left [] place ≡ []
 none_left place = grind arith
 
 takes : (entries : List LeafElement) (n : ℕ) (place : Place) (o : Option LeafElement) → ComesTo entries n place o → TakesFirst (drop n entries) (entries_left entries place) o
-takes entries n place o past = grind (arith, common_steps, drop_all, drop_at, entries_left)
+takes entries n place o past = grind (arith, drop_all, drop_at)
 
 pub next_takes : (entries : List LeafElement) (before after : Place) (o : Option LeafElement)
     → (place_in entries after ≡ (next_move entries (place_in entries before)).place) × (o ≡ (next_move entries (place_in entries before)).answer)
     → TakesFirst (entries_left entries before) (entries_left entries after) o
 next_takes [] before after None (p, a) = none_left before
-next_takes [] before after (Some e) (p, a) = absurd (let c : Some e ≡ None = a in cc)
 next_takes (x ∷ entries) Fresh after o moved = takes (x ∷ entries) 0 after o (comes_first (x ∷ entries) after o moved)
 next_takes (x ∷ entries) (On i) after o (p, a) = takes (x ∷ entries) (suc i) after o (by_length (x ∷ entries) (suc i) (On i) after o (nat_lt (suc i) (length (x ∷ entries))) refl p a)
 next_takes (x ∷ entries) Past after None (p, a) = refl
-next_takes (x ∷ entries) Past after (Some e) (p, a) = absurd (let c : Some e ≡ None = a in cc)
+next_takes entries before after o moved = absurd (cc)
 
 -- the same of what is answered: what the first of what was left shows
 abbrev pub ShowsFirst : List LeafElement → List LeafElement → Option EntryView → Type 0

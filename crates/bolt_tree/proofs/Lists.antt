@@ -1,7 +1,6 @@
 -- Members of a list, and lists that rise: two of the same members are one.
 -- Over any total order.
-use Rattle.std.proofs.Common.{rules}
-use Rattle.std.proofs.Common.{◌≡◌, ◌⊎◌, suc, List, [], ◌∷◌, refl, arith}
+use Rattle.std.proofs.Common.{rules, ◌≡◌, ◌⊎◌, suc, List, [], ◌∷◌, refl, arith}
 use Rattle.bolt_tree.proofs.Words.{Contains, IsTotalOrder, Less, Ordering, Rises, tied_itself}
 use Rattle.bolt_check.proofs.Lists.{RisesBy, contains_from_has, has_from_contains, one_list}
 

@@ -1,6 +1,5 @@
 -- What a seek says of a bucket's entry with a key.
-use Rattle.std.proofs.Common.{rules}
-use Rattle.std.proofs.Common.{◌≡◌, ◌∙◌, true, false, List, Option, Some, None, refl, sym, ap, subst}
+use Rattle.std.proofs.Common.{rules, ◌≡◌, ◌∙◌, true, false, List, Option, Some, None, refl, sym, ap, subst}
 use Rattle.bolt_tree.proofs.Words.{AreEntries, Checked, Cursor, HasStart, Key, LeafElement, Moves, Start, bytes_of, cursor_checked, cursor_place, cursor_start, entries_of, is_lt, key_cmp, least_from, meta_of, props, seek_move, start_of, with_trees, ∥∥₁_elim, ∥∥₁_map, ∥∥₁_prop}
 use Rattle.bolt_tree.proofs.{AllEntries.sorted_at, BucketWays.starts_below, Coming.neither, CursorMoves.comes_from}
 use Rattle.bolt_tree.proofs.{EntryOrder.contains_at, EntryOrder.seek_from, EntryOrder.seek_least, EntryOrder.seek_none, Named.entry_once, PathOrder.key_same}

@@ -1,7 +1,6 @@
 -- What a bucket that a path names holds, and what the path holds below it.
 -- Entries of one key are one, so both say the same.
-use Rattle.std.proofs.Common.{arith}
-use Rattle.std.proofs.Common.{◌≡◌, ◌∙◌, ◌⊎◌, inl, inr, IsTrue, List, [], ◌∷◌, ◌++◌, refl, sym, ap, subst, append_assoc}
+use Rattle.std.proofs.Common.{arith, ◌≡◌, ◌∙◌, ◌⊎◌, inl, inr, IsTrue, List, [], ◌∷◌, ◌++◌, refl, sym, ap, subst, append_assoc}
 use Rattle.bolt_tree.proofs.Words.{AreEntries, Contains, Equal, HasEntries, Holds, IsBelow, Item, Key, LeafElement, Less, Names, Path, Rises, Start, entry_cmp, item_of, key_cmp, start_of}
 use Rattle.bolt_tree.proofs.{Lists.contains_cases, Lists.contains_none, PathOrder.key_same}
 

@@ -1,5 +1,4 @@
 -- For each key there is one nearest leaf.
-use Rattle.std.proofs.lemmas.Grind.{common_steps}
 use Rattle.std.proofs.Common.{◌≡◌, ℕ, zero, suc, ◌+◌, ◌≤◌, ◌<◌, ◌⊎◌, inl, inr, List, [], ◌∷◌, Some, slice_get, length, refl, sym, ap, ◌∙◌, subst, arith, false, true}
 use Rattle.bolt_tree.proofs.Words.{BranchElement, HasSoundTrees, Inline_page, IsAddress, IsNear, IsNearFrom, IsNearest, IsOnWay, IsStart, Key, Kind, Meta, PageView, Root_page, Start, cases_Bool, key_lt, leads, leads_child, node_at, none-some, on_child, one_some, page_at, shallow}
 use Rattle.bolt_format.specs.declared.header.Kind.TheVariants as kind
@@ -31,7 +30,7 @@ one_near_from file meta number key (i ∷ a) (j ∷ b) h k =
     cc
 
 pub one_near : (file : List ℕ) (meta : Meta) (start : Start) (key : Key) (a b : List ℕ) → IsNear file meta start key a → IsNear file meta start key b → a ≡ b
-one_near file meta start key a b h k = grind (arith, common_steps, one_near_from)
+one_near file meta start key a b h k = grind (arith, one_near_from)
 
 -- every element from here on has a key above this one
 abbrev AreAbove : Key → ℕ → List BranchElement → Type 0

@@ -1,14 +1,9 @@
 -- How open buckets change: a cursor is removed and added again, or opened after the others and makes its first move.
-use Rattle.std.proofs.Common.{arith}
-use Rattle.std.proofs.Common.{rules}
+use Rattle.std.proofs.Common.{arith, rules, ◌≡◌, ◌∙◌, ◌-◌, ℕ, suc, List, [], ◌∷◌, ◌++◌, take, Option, Some, None, MatchOption, refl, sym, ap, subst, append_assoc, append-nil, Bor, slice_get}
 use Rattle.std.proofs.lemmas.Grind.{common_steps}
-use Rattle.std.proofs.Common.{◌≡◌, ◌∙◌, ◌-◌, ℕ, suc, List, [], ◌∷◌, ◌++◌, take, Option, Some, None, MatchOption, refl, sym, ap, subst, append_assoc, append-nil, Bor, slice_get}
-use Rattle.bolt_tree.proofs.Words.{AreEntries, AreOpen, Bucket, Checked, CursorView, Fresh, HasEntries, Keeps, Key, LeafElement, Lists, Member, Move, Moves, MovesLast, Names, Opens, Path, Place, Start, beyond, bucket_checked, bucket_start, entries_of, first_move, fresh_view, item_of, next_move, option_to_list, path_of, rest_after, root_start, same_from_push}
+use Rattle.bolt_tree.proofs.Words.{AreEntries, AreOpen, Bucket, Checked, CursorView, Fresh, HasEntries, Keeps, Key, LeafElement, Lists, Member, Move, Moves, MovesLast, Names, Opens, Path, Place, Start, beyond, entries_of, first_move, fresh_view, item_of, next_move, option_to_list, path_of, rest_after, root_start, same_from_push}
 use Rattle.bolt_tree.proofs.{CursorMoves.ComesTo, CursorMoves.comes_next, EntryOrder.contains_at, Giving.give_after_last, Giving.give_next}
 use Rattle.bolt_tree.specs.Private.OpenBuckets.{StandsOn}
-
-pub no_snoc : {A : Type 0} (xs : List A) (x : A) → [] ≡ xs ++ x ∷ [] → ⊥
-no_snoc xs x e = grind (arith, common_steps)
 
 pub path_push : (xs : List (Bor (List ℕ))) (x : Bor (List ℕ)) → path_of (xs ++ x ∷ []) ≡ path_of xs ++ x.now ∷ []
 path_push [] x = refl
@@ -30,7 +25,6 @@ pub record Top (checked : Checked) (before : Path) (cursors : List CursorView) (
 
 pub open_pop : (checked : Checked) (before : Path) (cursors : List CursorView) (cursor : CursorView) (keys : Path) → AreOpen checked before (cursors ++ cursor ∷ []) keys
     → Top checked before cursors cursor keys
-open_pop checked before [] cursor [] h = absurd h
 open_pop checked before [] cursor (key ∷ []) (same, names, stands, more) =
     record {
       front = [];
@@ -41,26 +35,15 @@ open_pop checked before [] cursor (key ∷ []) (same, names, stands, more) =
       names = subst (λ (p : Path). Names (entries_of checked) (root_start checked) p cursor.start) (sym (append-nil before)) names;
       stands = stands;
     }
-open_pop checked before [] cursor (key ∷ next ∷ keys) (same, names, stands, more) = absurd more
-open_pop checked before (c ∷ cursors) cursor [] h = absurd h
 open_pop checked before (c ∷ cursors) cursor (key ∷ keys) (same, names, stands, more) =
     let top = open_pop checked (before ++ key ∷ []) cursors cursor keys more in
-    record {
-      front = key ∷ top.front;
-      key = top.key;
-      split = ap (λ (ks : Path). key ∷ ks) top.split;
-      below = (same, names, stands, top.below);
-      checked_file = top.checked_file;
-      names = subst (λ (p : Path). Names (entries_of checked) (root_start checked) p cursor.start) (append_assoc before (key ∷ []) top.front) top.names;
-      stands = top.stands;
-    }
+    grind (arith, same, append_assoc)
+open_pop checked before cursors cursor keys h = absurd (grind arith)
 
 pub open_push : (checked : Checked) (before : Path) (cursors : List CursorView) (cursor : CursorView) (keys : Path) (key : Key) → AreOpen checked before cursors keys
     → cursor.checked ≡ checked → Names (entries_of checked) (root_start checked) (before ++ keys) cursor.start → StandsOn (entries_of checked) cursor key
     → AreOpen checked before (cursors ++ cursor ∷ []) (keys ++ key ∷ [])
-open_push checked before [] cursor [] key h same names stands = grind (arith, common_steps, same, entries_of, root_start, append-nil)
-open_push checked before [] cursor (k ∷ keys) key h same names stands = absurd h
-open_push checked before (c ∷ cursors) cursor [] key h same names stands = absurd h
+open_push checked before [] cursor [] key h same names stands = grind (arith, same, append-nil)
 open_push checked before (c ∷ cursors) cursor (k ∷ keys) key (s, n, t, more) same names stands = (
   s,
   n,
@@ -68,12 +51,13 @@ open_push checked before (c ∷ cursors) cursor (k ∷ keys) key (s, n, t, more)
   open_push checked (before ++ k ∷ []) cursors cursor keys key more same
       (subst (λ (p : Path). Names (entries_of checked) (root_start checked) p cursor.start) (sym (append_assoc before (k ∷ []) keys)) names) stands,
 )
+open_push checked before cursors cursor keys key h g names stands = absurd (grind arith)
 
 -- a key was taken off the path
 pub path_popped : (old new : List (Bor (List ℕ))) (taken : Option (Bor (List ℕ))) (n m : ℕ) (front : Path) (key : Key) → path_of old ≡ front ++ key ∷ []
     → old ≡ new ++ option_to_list taken → new ≡ take (n - 1) old → MatchOption taken ((n ≡ 0) × (m ≡ 0)) (λ _. suc m ≡ n)
     → (path_of new ≡ front) × (suc m ≡ n)
-path_popped old new taken n m front key keys items rest less = grind (arith, common_steps, no_snoc, path_of, same_from_push, path_push)
+path_popped old new taken n m front key keys items rest less = grind (arith, common_steps, same_from_push, path_push)
 
 -- The last cursor moves on, from where it stands to where it comes.
 module _ (checked : Checked) (all : HasEntries (entries_of checked) (root_start checked)) (cursors : List CursorView) (cursor moved : CursorView) (keys : Path)
@@ -97,7 +81,7 @@ module _ (checked : Checked) (all : HasEntries (entries_of checked) (root_start 
 
   pub next_open : (e : LeafElement) → moved.checked ≡ cursor.checked → moved.start ≡ cursor.start → MovesOn (Some e)
       → AreOpen checked [] (cursors ++ moved ∷ []) (top.front ++ e.key ∷ [])
-  next_open e file start moves = grind (arith, common_steps, open_push, entries_of, root_start, next_stands)
+  next_open e file start moves = grind (arith, open_push, next_stands)
 
   pub next_entry : (e : LeafElement) → MovesOn (Some e) → entries_of checked cursor.start e
   next_entry e moves =
@@ -110,16 +94,14 @@ module _ (checked : Checked) (all : HasEntries (entries_of checked) (root_start 
   next_given e moves listing lists =
       let own = all top.front cursor.start top.names in
       let (i, old, at, same, came) = goes (Some e) moves own.0 own.1 in
-      subst (λ (p : Path). beyond p listing ≡ (top.front ++ e.key ∷ [], item_of e) ∷ rest_after (top.front ++ e.key ∷ []) listing) same
-      (give_next (entries_of checked) (root_start checked) all listing lists top.front cursor.start top.names own.0 i old e own.1 at came.1)
+      grind (arith, same, give_next)
 
   -- or to none
   pub next_ended : MovesOn None → (listing : List Member) → Lists (entries_of checked) (root_start checked) listing → beyond keys listing ≡ beyond top.front listing
   next_ended moves listing lists =
       let own = all top.front cursor.start top.names in
       let (i, old, at, same, short) = goes None moves own.0 own.1 in
-      subst (λ (p : Path). beyond p listing ≡ beyond top.front listing) same
-      (give_after_last (entries_of checked) (root_start checked) all listing lists top.front cursor.start top.names own.0 i old own.1 at short)
+      grind (arith, same, give_after_last)
 
 module _ (move : List LeafElement → Place → Move) (before opened moved after : List CursorView) (bucket : Bucket) (answer : Option LeafElement)
     (moves : MovesLast move opened moved answer) (is : opened ≡ before ++ fresh_view bucket ∷ []) where
@@ -144,4 +126,4 @@ next_first : (Entry : Start → LeafElement → Type 0) (bucket : Start) (place 
 next_first Entry bucket place answer moves h are = grind arith
 
 pub enters : (bucket : Bucket) (old new : List CursorView) (answer : Option LeafElement) → Opens bucket next_move old new answer → Opens bucket (λ entries place. first_move entries) old new answer
-enters bucket old new answer opens = search (rules, next_first, entries_of, bucket_checked, bucket_start)
+enters bucket old new answer opens = search (rules, next_first)

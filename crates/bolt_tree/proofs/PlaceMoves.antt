@@ -1,6 +1,6 @@
 -- The place of a stack among the entries of its bucket, and what the moves of a trail are to a cursor's place.
 use Rattle.std.proofs.lemmas.Grind.{common_steps}
-use Rattle.std.proofs.Common.{true, false, Bool, ◌≡◌, ℕ, suc, ◌+◌, ◌-◌, ◌≤◌, ◌<◌, List, [], ◌∷◌, ◌++◌, Some, None, Option, slice_get, length, drop, refl, sym, ap, ◌∙◌, arith, length-append, zero, take, append_assoc}
+use Rattle.std.proofs.Common.{true, false, Bool, ◌≡◌, ℕ, suc, ◌+◌, ◌-◌, ◌≤◌, ◌<◌, List, [], ◌∷◌, ◌++◌, Some, None, Option, slice_get, length, drop, refl, sym, ap, ◌∙◌, arith, length-append, take, append_assoc}
 use Rattle.bolt_tree.proofs.Words.{AreSorted, BucketView, Content, Contents, Finds, Frame, HasStack, IsAtRest, IsOn, IsSoundBucket, Key, Leaf, LeafElement, Move, Of_branch, Of_leaf, On, Past, Place, RestsOn, StandsOn, TourPage, address_on, ahead_of, contents_in, drop-append_seam, elements_in, elements_of, entries_to, first_move, flat_map-append, index_of, is_none, last_move, le-ltb, leaf_view, least_from, passed_of, length-drop, length-take, next_move, option_map, pages_in, place_by, place_in, place_on, preceding_of, prev_move, props, later_of, seek_move, slice_get_within, take-append-drop, tour, ∥∥₁_elim, ∥∥₁_map}
 use Rattle.bolt_tree.proofs.{BackLemmas.behind_index, SortedLemmas.sorted, SortedLemmas.sorted_one}
 use Rattle.bolt_check.proofs.Lists.{get_behind, get_front}
@@ -11,10 +11,8 @@ module _ {X : Type 0} where
 
   -- elements by place
   pub get_drop : (xs : List X) (n : ℕ) → slice_get xs n ≡ slice_get (drop n xs) 0
-  get_drop [] zero = refl
-  get_drop [] (suc n) = refl
-  get_drop (x ∷ xs) zero = refl
   get_drop (x ∷ xs) (suc n) = get_drop xs n
+  get_drop xs n = grind (arith, common_steps)
 
   pub get_next : (xs : List X) (n : ℕ) (x : X) (ys : List X) → drop n xs ≡ x ∷ ys → slice_get xs n ≡ Some x
   get_next xs n x ys e = get_drop xs n ∙ ap (λ (l : List X). slice_get l 0) e
@@ -58,12 +56,8 @@ split bucket f below stack rest = ∥∥₁_elim stack (Prim.hlevel props) (λ s
     by_content bucket (Of_leaf es) taken below rest placed = split_leaf (contents_in bucket) (63 - length below) (pages_in bucket) es taken below rest.0 rest.1 placed
     by_content bucket (Of_branch bs) taken below rest placed = absurd rest
 
--- a stack on an entry rests on it
-on_content_rests : (content : Content) (taken : ℕ) (e : LeafElement) → StandsOn content taken e → RestsOn content taken
-on_content_rests content taken e on = grind (arith, common_steps, slice_get_within)
-
 pub on_rests : (frames : List Frame) (e : LeafElement) → IsOn frames e → IsAtRest frames
-on_rests frames e on = grind (arith, common_steps, on_content_rests)
+on_rests frames e on = grind (arith, slice_get_within)
 
 -- a stack is one of a sound bucket
 pub stack_bucket : (bucket : BucketView) (frames : List Frame) → HasStack bucket frames → ∥ IsSoundBucket bucket ∥₁
@@ -135,7 +129,7 @@ current bucket f below e stack at = ∥∥₁_elim stack (Prim.hlevel props) (λ
 -- how many entries lie ahead of where a stack stands
 pub ahead_number : (elements : List LeafElement) (contents : Contents) (f : Frame) (below : List Frame) → IsSplit elements contents (f ∷ below)
     → length elements ≡ suc (index_of contents (f ∷ below)) + length (ahead_of contents (f ∷ below))
-ahead_number elements contents f below s = grind (arith, common_steps, index_of, ahead_of, length-drop)
+ahead_number elements contents f below s = grind (arith, length-drop)
 
 module _ (bucket : BucketView) where
   abbrev here : List Frame → Place
@@ -147,9 +141,7 @@ module _ (bucket : BucketView) where
   first_moves (Some leaf) [] stack h = absurd h.1
   first_moves (Some leaf) (f ∷ below) stack h =
       let s = split bucket f below stack (on_rests (f ∷ below) (leaf_view leaf) h.1) in
-      let a = ahead_number (elements_in bucket) (contents_in bucket) f below s in
-      let b = ap length h.0 in
-      first_onto (elements_in bucket) (index_of (contents_in bucket) (f ∷ below)) (leaf_view leaf) (omega (arith, a, b)) (current bucket f below (leaf_view leaf) stack h.1)
+      grind (arith, ahead_number, first_onto, current)
 
   pub last_moves : (found : Option Leaf) (frames : List Frame) → HasStack bucket frames → Finds true found (elements_in bucket) (preceding_of (contents_in bucket) frames) frames []
       → Comes (elements_in bucket) (last_move (elements_in bucket)) (here frames) (option_map leaf_view found)
@@ -157,9 +149,7 @@ module _ (bucket : BucketView) where
   last_moves (Some leaf) [] stack h = absurd h.1
   last_moves (Some leaf) (f ∷ below) stack h =
       let b = behind_index (contents_in bucket) f below (on_rests (f ∷ below) (leaf_view leaf) h.1) in
-      let m = ap length h.0 in
-      let l = length-append (preceding_of (contents_in bucket) (f ∷ below)) (leaf_view leaf ∷ []) in
-      last_onto (elements_in bucket) (index_of (contents_in bucket) (f ∷ below)) (Some (leaf_view leaf)) (omega (arith, b, m, l)) (current bucket f below (leaf_view leaf) stack h.1)
+      grind (arith, common_steps, length-append, last_onto, current)
 
   abbrev go_move : Bool → List LeafElement → Place → Move
   go_move false = next_move
@@ -168,7 +158,6 @@ module _ (bucket : BucketView) where
   pub go_moves : (back : Bool) (found : Option Leaf) (from frames : List Frame) → HasStack bucket from → IsAtRest from → (from ≡ [] → ⊥) → HasStack bucket frames
       → Finds back found (entries_to back (contents_in bucket) from) (entries_to back (contents_in bucket) frames) frames from
       → Comes (elements_in bucket) (go_move back (elements_in bucket) (place_in (elements_in bucket) (here from))) (here frames) (option_map leaf_view found)
-  go_moves back found [] frames old rest some new h = absurd (some refl)
   go_moves false None (f ∷ below) frames old rest some new h =
       let a = ahead_number (elements_in bucket) (contents_in bucket) f below (split bucket f below old rest) in
       rw h.1 (next_stays (elements_in bucket) (index_of (contents_in bucket) (f ∷ below)) (omega (arith, a)) (omega (arith, a, ap length h.0)))
@@ -192,7 +181,7 @@ module _ (bucket : BucketView) where
       let l = length-append (preceding_of (contents_in bucket) (g ∷ under)) (leaf_view leaf ∷ []) in
       prev_onto (elements_in bucket) (index_of (contents_in bucket) (f ∷ below)) (index_of (contents_in bucket) (g ∷ under)) (Some (leaf_view leaf)) (omega (arith, b, d, m, l))
       (current bucket g under (leaf_view leaf) new h.1) (omega (arith, a))
-  go_moves back (Some leaf) (f ∷ below) [] old rest some new h = absurd h.1
+  go_moves back found from frames old rest some new h = absurd (grind arith)
 
   pub seek_moves : (key : Key) (found : Option Leaf) (frames : List Frame) → HasStack bucket frames
       → Finds false found (drop (least_from key (elements_in bucket)) (elements_in bucket)) (ahead_of (contents_in bucket) frames) frames []

@@ -1,7 +1,6 @@
 -- What a cursor keeps, and its moves by those of its trail.
-use Rattle.std.proofs.Common.{arith}
+use Rattle.std.proofs.Common.{arith, ◌≡◌, ◌∙◌, ℕ, ◌-◌, ◌≤◌, Bool, true, false, List, [], ◌∷◌, Option, None, length, drop, ap, refl, subst}
 use Rattle.std.proofs.lemmas.Grind.{common_steps}
-use Rattle.std.proofs.Common.{◌≡◌, ◌∙◌, ℕ, ◌-◌, ◌≤◌, Bool, true, false, List, [], ◌∷◌, Option, None, length, drop, ap, refl, subst}
 use Rattle.bolt_tree.proofs.Words.{BucketView, Content, Contents, EntryView, Finds, Frame, HasBucket, HasStack, HasTrail, IsAtRest, IsEntry, IsResting, IsMoved, Key, Leaf, LeafElement, Move, Moves, Of_branch, Of_leaf, OpensByNext, OpensGap, Place, RestsOn, ShowsMove, Start, Trail, ahead, contents_in, counted, elements_in, entry_view, first_move, is_none, last_move, leaf_view, least_from, next_move, opened_to, option_map, pages_in, place_by, place_in, place_on, preceding, prev_move, props, pages_ahead, seek_move, trail_bucket, trail_frames, ∥∥₁_elim}
 use Rattle.bolt_tree.proofs.OpeningMoves.{first_opens, next_opens}
 use Rattle.bolt_tree.proofs.PlaceMoves.{Comes, first_moves, go_moves, last_moves, seek_moves, stack_bucket, the_entries}

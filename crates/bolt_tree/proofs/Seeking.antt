@@ -1,8 +1,7 @@
 -- The rest of a listing from a path, found part by part: if a bucket has no entry from a part on, a greater one, or a value.
 -- Rests on the order of paths, and on what a named bucket holds (Named).
-use Rattle.std.proofs.Common.{rules}
+use Rattle.std.proofs.Common.{rules, ◌≡◌, ◌∙◌, ◌≤◌, inl, inr, true, false, not, List, [], ◌∷◌, ◌++◌, length, Some, slice_get, refl, ap, subst, ◌+◌, ◌<◌, ℕ, suc, take, drop, get_or, eqb, eq-eqb, sym, arith, Bor}
 use Rattle.std.proofs.lemmas.Grind.{common_steps}
-use Rattle.std.proofs.Common.{◌≡◌, ◌∙◌, ◌≤◌, inl, inr, true, false, not, List, [], ◌∷◌, ◌++◌, length, Some, slice_get, refl, ap, subst, ◌+◌, ◌<◌, ℕ, zero, suc, take, drop, get_or, eqb, eq-eqb, sym, arith, Bor}
 use Rattle.bolt_tree.proofs.Words.{AreEntries, AreOpen, Checked, CursorView, Equal, Greater, HasEntries, Holds, Item, Key, LeafElement, Less, Lists, Member, Names, Ordering, Path, Start, beyond, both_ways, entries_of, false_from_ne_true, is_beyond, is_end, is_lt, key_cmp, least_from, less_of, nat_tests, not-true, ordering_reverse, path_cmp, path_of, props, rest_after, rest_from, root_start, ∥∥₁_elim}
 use Rattle.bolt_tree.proofs.{EntryOrder.seek_least, EntryOrder.seek_none, Filters.filter_all, Filters.filter_same}
 use Rattle.bolt_tree.proofs.{Giving.not_before, Giving.not_before_beyond, Giving.after_end, Named.first_of_held, Named.held_below, Named.held_down}
@@ -92,9 +91,8 @@ module _ (Entry : Start → LeafElement → Type 0) (from : Start) (all : HasEnt
 
 pub parts_whole : (path : List (Bor (List ℕ))) (i : ℕ) (d : Bor (List ℕ)) → i < length path
     → path_of (take i path) ++ (get_or path i d).now ∷ path_of (drop (suc i) path) ≡ path_of path
-parts_whole [] i d h = absurd (omega arith)
-parts_whole (x ∷ path) zero d h = refl
 parts_whole (x ∷ path) (suc i) d h = ap (λ (ks : Path). x.now ∷ ks) (parts_whole path i d (omega arith))
+parts_whole path i d h = grind arith
 
 not_equal : (m n : ℕ) → m < n → eqb m n ≡ false
 not_equal m n h = grind (arith, nat_tests)
@@ -103,11 +101,8 @@ both_more : (i m n : ℕ) → n ≡ suc m → eqb (i + 1) m ≡ eqb (suc i + 1) 
 both_more i m n e = grind (arith, nat_tests)
 
 pub ends_at : (path : List (Bor (List ℕ))) (i n : ℕ) → n ≡ length path → i < n → is_end (path_of (drop (suc i) path)) ≡ eqb (i + 1) n
-ends_at [] i n e h = absurd (omega arith)
-ends_at (x ∷ []) zero n e h = sym (eq-eqb (0 + 1) n (omega arith))
-ends_at (x ∷ y ∷ path) zero n e h = sym (not_equal (0 + 1) n (omega arith))
-ends_at (x ∷ []) (suc i) n e h = absurd (omega arith)
 ends_at (x ∷ y ∷ path) (suc i) n e h = ends_at (y ∷ path) i (length (y ∷ path)) refl (omega arith) ∙ both_more i (length (y ∷ path)) n e
+ends_at path i n e h = grind (arith, eq-eqb, not_equal)
 
 pub none_left : {A : Type 0} (xs : List A) (i : ℕ) → i ≤ length xs → length xs ≤ i → (0 < i → i < length xs) → xs ≡ []
 none_left xs i h k more = grind (arith, common_steps)

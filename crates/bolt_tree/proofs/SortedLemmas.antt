@@ -1,8 +1,6 @@
 -- The entries of a bucket in order are the elements along its tour, and there is one such list.
-use Rattle.std.proofs.Common.{rules}
-use Rattle.std.proofs.lemmas.Grind.{common_steps}
-use Rattle.std.proofs.Common.{◌≡◌, ℕ, List, [], ◌∷◌, ◌++◌, Some, slice_get, map, refl, sym, ap, ◌∙◌, subst, arith, inl, inr, eq-eqb, eqb}
-use Rattle.bolt_tree.proofs.Words.{AreEntries, Contains, HasSoundTrees, Inline_page, IsEntry, IsHome, IsStart, KeysRise, LeafElement, Meta, Root_page, Start, TourPage, content_at, elements_of, entry_cmp, head_root, inline_elements, inline_reached, leads, less_of, lt_strict, node_at, node_is, option_map, pages_at, slice_get-map}
+use Rattle.std.proofs.Common.{rules, ◌≡◌, ℕ, List, [], ◌∷◌, Some, slice_get, map, refl, sym, ap, ◌∙◌, subst, arith, inl, inr, eq-eqb, eqb}
+use Rattle.bolt_tree.proofs.Words.{AreEntries, Contains, HasSoundTrees, Inline_page, IsEntry, IsHome, IsStart, KeysRise, LeafElement, Meta, Root_page, Start, TourPage, content_at, elements_of, entry_cmp, head_root, inline_reached, leads, less_of, lt_strict, node_at, node_is, option_map, pages_at, slice_get-map}
 use Rattle.bolt_format.specs.declared.header.Kind.TheVariants as kind
 use Rattle.bolt_tree.specs.Order as order
 use Rattle.bolt_check.proofs.Lists.{Has, RisesBy, contains_from_has, flat_has, has_at, has_flat, has_from_contains, one_list, rises_flat, rises_from_gets, rises_weaker}
@@ -37,8 +35,7 @@ module _ (file : List ℕ) (meta : Meta) (trees : HasSoundTrees file meta) where
       let i = has_at view.leaves e (has_from_contains view.leaves e has) in
       let inline = none_inside file meta e.value elements (eqb (head_root e.value) 0) refl start in
       let led = inline_reached file meta n depth i.0 view e on (node_is file meta n view kind.Leaf at leaf) i.1 bucket (eq-eqb (head_root e.value) 0 inline.0) in
-      subst (λ (es : List LeafElement). KeysRise (map (λ (x : LeafElement). x.key) es)) inline.1
-      (trees.rising_inline (on.way ++ i.0 ∷ []) on.spot.number (map (λ (x : LeafElement). x.key) (inline_elements e.value)) led)
+      grind arith
 
   inline_rises : (elements : List LeafElement) → IsStart file meta (Inline_page elements) → RisesBy IsBelowElement elements
   inline_rises elements is =
@@ -58,10 +55,8 @@ module _ (file : List ℕ) (meta : Meta) (trees : HasSoundTrees file meta) where
             );
       }
   visit_is (Inline_page elements) v is (inl e) =
-      let same : elements ≡ v.entries = ap (λ (w : TourPage). w.entries) e in record {
-        rises = subst (RisesBy IsBelowElement) same (inline_rises elements is);
-        home = λ x k. (sym (ap (λ (w : TourPage). w.address) e), subst (λ (es : List LeafElement). Contains es x) (sym same) (contains_from_has v.entries x k));
-      }
+      let same : elements ≡ v.entries = ap (λ (w : TourPage). w.entries) e in
+      grind (arith, inline_rises, contains_from_has)
   visit_is (Inline_page elements) v is (inr x) = absurd x
 
   pub start_rises : (start : Start) → IsStart file meta start → RisesBy IsApart (pages_at file meta start)
@@ -88,11 +83,11 @@ module _ (file : List ℕ) (meta : Meta) (trees : HasSoundTrees file meta) where
   home_visited (Inline_page elements) address x is (empty, has) = (elements, inl (rw empty refl), has_from_contains elements x has)
 
   pub entry_visited : (start : Start) (x : LeafElement) → IsStart file meta start → IsEntry file meta start x → Has (elements_of (pages_at file meta start)) x
-  entry_visited start x is e = grind (arith, common_steps, entry_home, home_visited, has_flat, pages_at)
+  entry_visited start x is e = grind (arith, entry_home, home_visited, has_flat)
 
   -- the sorted entries
   pub sorted : (start : Start) → IsStart file meta start → AreEntries (IsEntry file meta) start (elements_of (pages_at file meta start))
-  sorted start is = search (rules, rises_order, elements_of, pages_at, elements_rise, is_entry, has_from_contains, contains_from_has, entry_visited)
+  sorted start is = search (rules, rises_order, elements_rise, is_entry, has_from_contains, contains_from_has, entry_visited)
 
   pub entries_exist : (start : Start) → IsStart file meta start → (entries : List LeafElement) × AreEntries (IsEntry file meta) start entries
   entries_exist start is = (elements_of (pages_at file meta start), sorted start is)

@@ -1,30 +1,24 @@
 -- What a push does to a stack, and the root page of a bucket, alone on a stack.
-use Rattle.std.proofs.lemmas.Grind.{common_steps}
-use Rattle.std.proofs.Common.{◌≡◌, ℕ, zero, suc, ◌+◌, ◌-◌, ◌≤◌, List, [], ◌∷◌, ◌++◌, Some, slice_get, length, drop, take, refl, sym, ap, ◌∙◌, arith, append_assoc, append-nil}
+use Rattle.std.proofs.Common.{◌≡◌, ℕ, suc, ◌+◌, ◌-◌, ◌≤◌, List, [], ◌∷◌, ◌++◌, Some, slice_get, length, drop, take, sym, ap, ◌∙◌, arith, append_assoc, append-nil}
 use Rattle.bolt_tree.proofs.Words.{BranchElement, BucketView, Checked, Content, Contents, Frame, HasSoundTrees, HasStack, HasStart, IsGoodContent, IsOnWay, IsSoundBucket, IsStack, IsStart, Of_branch, Root_page, Start, TourPage, address_on, ahead_of, all_under, bucket_in, bytes_of, checked_trees, content_at_start, content_length, contents_in, elements_in, elements_of, here_under, passed_of, passed_under, meta_of, none-some, on_child, pages_in, props, later_of, later_under, root_content, shallow, tour, ∥∥₁_elim, ∥∥₁_map, ∥∥₁_prop}
 use Rattle.bolt_tree.proofs.{TourLemmas.not_deepest, WayPages.branch_page}
 
 -- what lies under the elements of a branch, cut at one
 pub under_cut : (f : ℕ → ℕ → List TourPage) (i k j : ℕ) (elements : List BranchElement) (e : BranchElement) → slice_get elements k ≡ Some e → j ≡ i + k
     → all_under f i elements ≡ all_under f i (take k elements) ++ (f j e.child ++ all_under f (suc j) (drop (suc k) elements))
-under_cut f i k j [] e g s = absurd (none-some e g)
-under_cut f i zero j (x ∷ elements) e g s = grind arith
 under_cut f i (suc k) j (x ∷ elements) e g s =
     let next : j ≡ suc i + k = omega arith in
     ap (λ (vs : List TourPage). f i x.child ++ vs) (under_cut f (suc i) k j elements e g next) ∙ sym (append_assoc (f i x.child) (all_under f (suc i) (take k elements)) (f j e.child ++ all_under f (suc j) (drop (suc k) elements)))
+under_cut f i k j elements e g s = grind (arith, none-some)
 
 -- what lies to the right of what is taken, from the next element on
 pub under_next : (f : ℕ → ℕ → List TourPage) (i k : ℕ) (elements : List BranchElement) (e : BranchElement) → slice_get elements k ≡ Some e
     → all_under f i (drop k elements) ≡ f i e.child ++ all_under f (suc i) (drop (suc k) elements)
-under_next f i k [] e g = absurd (none-some e g)
-under_next f i zero (x ∷ elements) e g = let same : x ≡ e = cc in rw same refl
 under_next f i (suc k) (x ∷ elements) e g = under_next f i k elements e g
-
-regroup : (l a b c r : List TourPage) (v : TourPage) → l ++ ((v ∷ (a ++ (b ++ c))) ++ r) ≡ (l ++ v ∷ a) ++ (b ++ (c ++ r))
-regroup l a b c r v = simp append_assoc
+under_next f i k elements e g = grind (arith, none-some)
 
 cut_between : (l r whole part : List TourPage) (v : TourPage) (a b c : List TourPage) → whole ≡ l ++ (part ++ r) → part ≡ v ∷ (a ++ (b ++ c)) → whole ≡ (l ++ v ∷ a) ++ (b ++ (c ++ r))
-cut_between l r whole part v a b c p q = p ∙ (ap (λ (x : List TourPage). l ++ (x ++ r)) q ∙ regroup l a b c r v)
+cut_between l r whole part v a b c p q = grind (arith, append_assoc)
 
 abbrev under : Contents → ℕ → List ℕ → ℕ → ℕ → List TourPage
 under contents n address i child = tour contents n (address ++ i ∷ []) (contents child)
@@ -150,7 +144,7 @@ root_stack bucket is = ∥∥₁_map is (λ s. (
 
 -- before the root page's first element, everything is ahead
 top_of : (contents : Contents) (content : Content) → tour contents 63 [] content ≡ record { address = []; entries = here_under content 0 } ∷ later_of contents (record { content = content; taken = 0 } ∷ [])
-top_of contents content = grind (arith, common_steps, append-nil, later_under)
+top_of contents content = grind (arith, append-nil)
 
 pub root_ahead : (bucket : BucketView) → ahead_of (contents_in bucket) (record { content = root_content bucket; taken = 0 } ∷ []) ≡ elements_in bucket
 root_ahead bucket = sym (ap elements_of (top_of (contents_in bucket) (root_content bucket)))

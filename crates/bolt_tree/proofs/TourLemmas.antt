@@ -19,11 +19,10 @@ under_has f i (e ∷ elements) v h = elim (has_split (f i e.child) (all_under f 
 
 pub has_under : (f : ℕ → ℕ → List TourPage) (i : ℕ) (elements : List BranchElement) (k j : ℕ) (e : BranchElement) (v : TourPage) → slice_get elements k ≡ Some e → j ≡ i + k
     → Has (f j e.child) v → Has (all_under f i elements) v
-has_under f i [] k j e v g s h = absurd (none-some e g)
-has_under f i (x ∷ elements) zero j e v g s h = grind (arith, common_steps, has_left, all_under)
 has_under f i (x ∷ elements) (suc k) j e v g s h =
     let next : j ≡ suc i + k = omega arith in
     has_right (f i x.child) (all_under f (suc i) elements) v (has_under f (suc i) elements k j e v g next h)
+has_under f i elements k j e v g s h = grind (arith, none-some, has_left)
 
 pub rises_under : (R : TourPage → TourPage → Type 0) (f : ℕ → ℕ → List TourPage) (i : ℕ) (elements : List BranchElement)
     → ((k j : ℕ) (e : BranchElement) → slice_get elements k ≡ Some e → j ≡ i + k → RisesBy R (f j e.child))
@@ -78,7 +77,7 @@ module _ (file : List ℕ) (meta : Meta) (trees : HasSoundTrees file meta) where
   first_entry (e ∷ elements) h = (e, refl)
 
   pub filled : (number depth : ℕ) (view : PageView) → IsOnWay file meta number depth → node_at file meta number ≡ Ok (branch_node view) → 1 ≤ length view.branches
-  filled number depth view on node = grind (arith, common_steps, spot_node, branch_node, first_entry, branch_entry, slice_get_within)
+  filled number depth view on node = grind (arith, common_steps, spot_node, branch_node, first_entry, slice_get_within)
 
   -- a branch is never so deep that no page could lie under it
   pub not_deepest : (number depth : ℕ) (view : PageView) → IsOnWay file meta number depth → node_at file meta number ≡ Ok (branch_node view) → suc depth ≤ 64
@@ -147,7 +146,7 @@ module _ (file : List ℕ) (meta : Meta) (trees : HasSoundTrees file meta) where
   -- and each page that is led to is on the tour
   pub led_tour : (n number depth : ℕ) (address rest : List ℕ) (page : ℕ) → IsOnWay file meta number depth → 64 ≤ depth + n
       → leads (node_at file meta) (Some number) rest ≡ Some page → Has (tour_at file meta n address number) (visit_of (address ++ rest) (content_at file meta page))
-  led_tour n number depth address [] page on deep l = grind (arith, common_steps, append-nil, tour_head, content_at)
+  led_tour n number depth address [] page on deep l = grind (arith, append-nil, tour_head)
   led_tour zero number depth address (i ∷ rest) page on deep l = elim (on_way_page file meta trees number depth on) [
     | a_leaf view at is node content ↦ absurd (leaf_ends (node_at file meta) number i page view rest node l)
     | a_branch view at is node content ↦ (let d = not_deepest number depth view on node in absurd (omega (arith, d, deep)))

@@ -1,7 +1,7 @@
 -- What the moves of a trail do to its stack.
 use Rattle.std.proofs.lemmas.Grind.{common_steps}
 use Rattle.std.proofs.Common.{◌≡◌, ◌==◌, ℕ, suc, ◌+◌, ◌-◌, ◌≤◌, ◌<◌, Bool, true, false, List, [], ◌∷◌, ◌++◌, Some, None, slice_get, length, map, reverse, drop, refl, sym, ap, ◌∙◌, subst, arith, append_assoc, append-nil}
-use Rattle.bolt_tree.proofs.Words.{BranchElement, BucketView, Checked, Content, Contents, Frame, HasBucket, HasStack, HasTrail, IsBranchContent, IsBranchTop, IsEntered, IsOn, IsOnWay, IsMoved, IsTrue, LeafElement, Meta, Of_branch, Of_leaf, PageView, Position, Trail, TourPage, address_on, ahead_of, bytes_of, checked_trees, content_length, contents_in, drop_all, drop_at, elements_of, frame_of, frames_of, here_of, here_under, is_tree_kind, length-map, length-reverse, meta_of, nat_tests, option_to_list, page_at, props, reverse-append, later_of, later_under, tour, trail_bucket, trail_frames, under_at, ∥∥₁_elim, ∥∥₁_map}
+use Rattle.bolt_tree.proofs.Words.{BranchElement, BucketView, Checked, Content, Contents, Frame, HasBucket, HasStack, HasTrail, IsBranchContent, IsBranchTop, IsEntered, IsOn, IsOnWay, IsMoved, IsTrue, LeafElement, Meta, Of_branch, Of_leaf, PageView, Position, Trail, TourPage, address_on, ahead_of, bytes_of, checked_trees, content_length, contents_in, drop_all, drop_at, frame_of, frames_of, here_of, here_under, is_tree_kind, length-map, length-reverse, meta_of, nat_tests, option_to_list, page_at, props, reverse-append, later_of, later_under, tour, trail_bucket, trail_frames, under_at, ∥∥₁_elim, ∥∥₁_map}
 use Rattle.bolt_tree.proofs.StackLemmas.{branch_room, stack_short, under_next}
 use Rattle.bolt_tree.proofs.WayPages.{IsWayPage, on_way_page}
 
@@ -22,7 +22,7 @@ pub no_frames : (items : List Position) (empty : Bool) → empty ≡ (length ite
 no_frames items empty e t = grind (arith, common_steps, nat_tests)
 
 pub nonempty : (items : List Position) (empty : Bool) → empty ≡ (length items == 0) → empty ≡ false → frames_of items ≡ [] → ⊥
-nonempty items empty e f nil = grind (arith, common_steps, length-frames, frames_of, nat_tests)
+nonempty items empty e f nil = grind (arith, length-frames, nat_tests)
 
 -- the pages of the tree have its kinds
 tree_kind_at : (file : List ℕ) (meta : Meta) (number : ℕ) (view : PageView) → IsWayPage file meta number → page_at file meta number ≡ Some view → IsTrue (is_tree_kind view.kind)
@@ -41,13 +41,13 @@ tour_top contents n h address content same = grind arith
 -- an entry is taken
 pub entered_some : (contents : Contents) (content : Content) (i : ℕ) (below new : List Frame) (e : LeafElement) → IsEntered contents false content i below new (Some e)
     → (ahead_of contents (record { content = content; taken = i } ∷ below) ≡ e ∷ ahead_of contents new) × IsOn new e × (later_of contents (record { content = content; taken = i } ∷ below) ≡ later_of contents new)
-entered_some contents content i below new e h = grind (arith, common_steps, drop_at)
+entered_some contents content i below new e h = grind (arith, drop_at)
 
 pub nothing_here : (content : Content) (taken : ℕ) → content_length content ≤ taken → here_under content taken ≡ []
-nothing_here content taken h = grind (arith, common_steps, drop_all)
+nothing_here content taken h = grind (arith, drop_all)
 
 nothing_under : (contents : Contents) (H : ℕ) (address : List ℕ) (content : Content) (taken : ℕ) → content_length content ≤ taken → later_under contents H address content taken ≡ []
-nothing_under contents H address content taken h = grind (arith, common_steps, under_at, drop_all)
+nothing_under contents H address content taken h = grind (arith, drop_all)
 
 -- what a stack shows of its top page, where that is none for a branch
 pub shown_by_branch : (of : List Frame → List LeafElement) (under : Content → ℕ → List LeafElement) → of [] ≡ [] → ((f : Frame) (below : List Frame) → of (f ∷ below) ≡ under f.content f.taken)
@@ -69,8 +69,7 @@ opened_right contents H i address elements b rest g same =
     let v : TourPage = record { address = address ++ i ∷ []; entries = here_under (contents b.child) 0 } in
     let more : List TourPage = later_under contents (suc H) (address ++ i ∷ []) (contents b.child) 0 in
     let first : under_at contents H address i (drop i elements) ≡ f i b.child ++ tail = under_next f i i elements b g in
-    let top : f i b.child ≡ v ∷ more = tour_top contents (62 - H) (suc H) (address ++ i ∷ []) (contents b.child) same in
-    ap (λ (vs : List TourPage). vs ++ rest) first ∙ (ap (λ (vs : List TourPage). (vs ++ tail) ++ rest) top ∙ ap (λ (vs : List TourPage). v ∷ vs) (append_assoc more tail rest))
+    grind (arith, tour_top, append_assoc)
 
 -- a page is opened
 pub entered_none : (bucket : BucketView) (content : Content) (i : ℕ) (below new : List Frame) → IsEntered (contents_in bucket) false content i below new None → HasStack bucket new
@@ -84,8 +83,7 @@ entered_none bucket (Of_branch elements) i below new h stack =
     let right = opened_right contents (length below) i (address_on below) elements b (later_of contents below) h.1 (λ cs e.
     let room = branch_room bucket cs 0 (record { content = Of_branch elements; taken = i + 1 } ∷ below) (rw e at placed) in omega (arith, room)) in
     let next : suc i ≡ i + 1 = omega arith in
-    let back : i ≡ (i + 1) - 1 = omega arith in
-    (rw (h.2, ← back, ← next) (ap elements_of right), rw (h.2, ← back, ← next) (ap length right))
+    grind arith
 
 -- a page of which all is taken leaves the stack
 pub exhausted : (bucket : BucketView) (f : Frame) (below : List Frame) → HasStack bucket (f ∷ below) → content_length f.content ≤ f.taken

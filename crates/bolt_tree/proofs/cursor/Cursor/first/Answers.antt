@@ -1,11 +1,11 @@
 use Rattle.std.proofs.Common.{rules}
-use Rattle.bolt_tree.proofs.Words.{cursor_checked, cursor_opened, cursor_place, cursor_start, first_move, pager_opened}
+use Rattle.bolt_tree.proofs.Words.{cursor_checked, cursor_opened, cursor_place, cursor_start, pager_opened}
 use Rattle.bolt_tree.proofs.RestingLemmas.{moves_first, opens_first, shows_by}
 use Rattle.bolt_tree.proofs.cursor.Cursor.first.Goals as goal
 
 pub returns-clause-moves : goal.returns-clause-moves
 unfolding cursor_checked cursor_place cursor_start
-returns-clause-moves c = search (rules, shows_by, first_move, cursor_place, moves_first)
+returns-clause-moves c = search (rules, shows_by, moves_first)
 
 pub returns-clause-opens : goal.returns-clause-opens
 unfolding cursor_checked cursor_opened cursor_start

@@ -1,6 +1,4 @@
-use Rattle.std.proofs.Common.{arith}
-use Rattle.std.proofs.Common.{rules}
-use Rattle.std.proofs.lemmas.Grind.{common_steps}
+use Rattle.std.proofs.Common.{arith, rules}
 use Rattle.bolt_tree.proofs.Words.{cursor_checked, cursor_opened, cursor_place, cursor_start, pager_opened}
 use Rattle.bolt_tree.proofs.RestingLemmas.{moves_next, moves_next_first, opens_next, opens_next_first}
 use Rattle.bolt_tree.proofs.TrailLemmas.{no_frames, nonempty}
@@ -22,4 +20,4 @@ returns-clause-moves c = search (rules, moves_next, nonempty)
 
 pub returns-clause-opens : goal.returns-clause-opens
 unfolding cursor_checked cursor_opened cursor_place cursor_start
-returns-clause-opens c = grind (arith, common_steps, opens_next, nonempty, pager_opened)
+returns-clause-opens c = grind (arith, opens_next, nonempty)

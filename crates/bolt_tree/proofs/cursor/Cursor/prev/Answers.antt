@@ -1,7 +1,5 @@
-use Rattle.std.proofs.Common.{arith}
-use Rattle.std.proofs.Common.{rules}
+use Rattle.std.proofs.Common.{arith, rules, Some, ap}
 use Rattle.std.proofs.lemmas.Grind.{common_steps}
-use Rattle.std.proofs.Common.{Some, ap}
 use Rattle.bolt_tree.proofs.Words.{cursor_checked, cursor_place, cursor_start, leaf_view, option_map, prev_move}
 use Rattle.bolt_tree.proofs.RestingLemmas.{moves_nowhere, moves_prev, moves_prev_last, not_past, shows_by}
 use Rattle.bolt_tree.proofs.TrailLemmas.{no_frames, nonempty}
@@ -12,7 +10,7 @@ invariant_of-self c = grind (arith, common_steps, not_past, nonempty)
 
 pub returns-then-not-is_empty-clause-moves : goal.returns-then-not-is_empty-clause-moves
 unfolding cursor_checked cursor_place cursor_start
-returns-then-not-is_empty-clause-moves c = search (rules, shows_by, prev_move, cursor_place, moves_prev, nonempty)
+returns-then-not-is_empty-clause-moves c = search (rules, shows_by, moves_prev, nonempty)
 
 pub returns-clause-moves : goal.returns-clause-moves
 unfolding cursor_checked cursor_place cursor_start
@@ -22,4 +20,4 @@ returns-clause-moves c = shows_by _ _ prev_move (cursor_place c.args.self.now) _
 
 pub returns-in_err-leaf-clause-moves : goal.returns-in_err-leaf-clause-moves
 unfolding cursor_checked cursor_place cursor_start
-returns-in_err-leaf-clause-moves c = grind (arith, common_steps, shows_by, prev_move, cursor_place, option_map, leaf_view, moves_nowhere)
+returns-in_err-leaf-clause-moves c = grind (arith, shows_by, moves_nowhere)

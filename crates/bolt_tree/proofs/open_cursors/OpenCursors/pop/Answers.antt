@@ -1,6 +1,5 @@
-use Rattle.std.proofs.Common.{rules}
-use Rattle.std.proofs.Common.{◌-◌, Some, List, drop, length, take, sym, subst, reverse}
-use Rattle.bolt_tree.proofs.Words.{AreOfFile, Checked, IsKept, Position, cursor_checked, cursor_view, kept_views}
+use Rattle.std.proofs.Common.{rules, ◌-◌, Some, List, drop, length, take, sym, subst}
+use Rattle.bolt_tree.proofs.Words.{AreOfFile, Checked, IsKept, Position, cursor_checked, cursor_view}
 use Rattle.bolt_tree.proofs.KeptLemmas.{goes_on, goes_on_view, innermost_file, others, views_left}
 use Rattle.bolt_tree.proofs.open_cursors.OpenCursors.pop.Goals as goal
 
@@ -23,4 +22,4 @@ invariant_of-self-2 c =
     }
 
 pub returns-clause-cursors : goal.returns-clause-cursors
-returns-clause-cursors c outer last all = search (rules, innermost_file, goes_on_view, cursor_checked, cursor_view, kept_views, reverse, views_left)
+returns-clause-cursors c outer last all = search (rules, innermost_file, goes_on_view, views_left)

@@ -1,8 +1,7 @@
 -- What the way down and then the move forward say, all of the bucket as it was.
-use Rattle.std.proofs.lemmas.Grind.{common_steps}
 use Rattle.std.proofs.Common.{◌≡◌, [], ◌∙◌, ◌+◌, ◌-◌, ℕ, false, length, ap, arith, subst}
-use Rattle.bolt_tree.proofs.Words.{BucketView, Finds, HasStack, IsNearTop, IsSought, ahead, ahead_of, contents_in, counted, elements_in, least_from, pager_opened, pages_ahead, later_of, trail_bucket, trail_frames}
-use Rattle.bolt_tree.proofs.{MoveLemmas.found_over, PagerLemmas.counted_more, OpeningMoves.leaf_nonempty, OpeningMoves.seek_bounds, OpeningMoves.seek_opens}
+use Rattle.bolt_tree.proofs.Words.{BucketView, Finds, HasStack, IsNearTop, IsSought, ahead, ahead_of, contents_in, counted, elements_in, pager_opened, pages_ahead, later_of, trail_bucket, trail_frames}
+use Rattle.bolt_tree.proofs.{PagerLemmas.counted_more, OpeningMoves.leaf_nonempty, OpeningMoves.seek_bounds, OpeningMoves.seek_opens}
 use Rattle.bolt_tree.proofs.TrailLemmas.{same_bucket}
 use Rattle.bolt_tree.proofs.trail.Trail.seek.Goals as goal
 
@@ -38,7 +37,7 @@ finds : (c : goal.After-go-found) → Finds false c.go-found.result (ahead_of (c
 finds c = grind arith
 
 pub returns-clause-found : goal.returns-clause-found
-returns-clause-found c = grind (arith, common_steps, sought, ahead_of, contents_in, trail_frames, landed, found_over, least_from, elements_in, ahead)
+returns-clause-found c = grind (arith, sought, landed)
 
 pub returns-clause-number : goal.returns-clause-number
 returns-clause-number c = let s = sought c in let n = s.number in omega (arith, n)
