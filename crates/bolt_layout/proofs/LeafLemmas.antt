@@ -91,5 +91,4 @@ leaves_written bucket_fault bytes es rest h within fits small =
     let table = part_within bytes (leaf_headers 0 es) (leaf_data es ++ rest) 16 heads within in
     let text : drop (element_at (0 + length es) + 0) bytes ≡ leaf_data es ++ rest = part_next bytes (leaf_headers 0 es) (leaf_data es ++ rest) 16 _ heads (omega arith) in
     let run = leaf_run bucket_fault bytes es 0 0 (element_at (length es)) (leaf_data es ++ rest) rest heads text fits (omega arith) (omega arith) (omega arith) in
-    let room : nat_lt (length bytes) (element_at (length es)) ≡ false = le-ltb (length bytes) (element_at (length es)) (omega arith) in
-    (run.0, first_of-both (table_fault bytes (length es)) _ (rw room refl) run.1)
+    grind (arith, common_steps, nat_lt, element_at, le-ltb, first_of-both, table_fault)
