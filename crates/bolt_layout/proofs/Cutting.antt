@@ -17,7 +17,7 @@ cut_divides page_size least wide extra size items some cap h = grind (arith, cut
 -- Each run but the last has two items at least.
 halved : {X : Type 0} (page_size : ℕ) (size : X → ℕ) (runs : List (List X)) → AreRuns page_size 2 size runs → 2 * length runs ≤ suc (length (flat_map (λ run. run) runs))
 halved page_size size (run ∷ next ∷ runs) are = grind (arith, length-append, halved page_size size (next ∷ runs) are.2)
-halved page_size size runs are = grind (arith, common_steps, length-append)
+halved page_size size runs are = grind (arith, length-append)
 
 -- Joining the last run keeps the row,
 joined_whole : {X : Type 0} (runs : List (List X)) → flat_map (λ run. run) (join_last runs) ≡ flat_map (λ run. run) runs
@@ -29,7 +29,7 @@ joined_whole {X = X} (run ∷ next ∷ more ∷ runs) = ap (λ (xs : List X). ru
 -- leaves no more runs,
 joined_fewer : {X : Type 0} (runs : List (List X)) → length (join_last runs) ≤ length runs
 joined_fewer (run ∷ next ∷ more ∷ runs) = let ih = joined_fewer (next ∷ more ∷ runs) in omega arith
-joined_fewer runs = grind (arith, common_steps)
+joined_fewer runs = grind arith
 
 -- and a page can hold the run that the last one joins.
 looser : {X : Type 0} (page_size : ℕ) (size : X → ℕ) (run : List X) → IsPageRun page_size 2 0 size run → IsPageRun page_size 3 1 size run
@@ -48,7 +48,7 @@ pub branches_divide : {X : Type 0} (which : Layout) (page_size : ℕ) (size : X 
 branches_divide Plain page_size size items = cut_divides page_size 2 3 1 size items (omega arith) (omega arith) (omega arith)
 branches_divide Balanced page_size size items =
     let plain = cut_divides page_size 2 2 0 size items (omega arith) (omega arith) (omega arith) in
-    grind (arith, common_steps, cut_of, joined_whole, joined_each)
+    grind (arith, joined_whole, joined_each)
 
 pub branches_halve : {X : Type 0} (which : Layout) (page_size : ℕ) (size : X → ℕ) (items : List X) → IsHalved items (branch_cut which page_size size items)
 branches_halve which page_size size items = grind (arith, joined_fewer, halved, cut_runs, cut_whole)

@@ -1,5 +1,4 @@
 -- What a file holds can be stored: the tree of a listing that rises, and whose members are held under their paths.
-use Rattle.std.proofs.lemmas.Grind.{common_steps}
 use Rattle.std.proofs.Common.{◌≡◌, ◌∙◌, ℕ, ◌^◌, ◌<◌, Bool, true, false, IsTrue, List, [], ◌∷◌, ◌++◌, drop, refl, sym, ap, subst, subst₂, inl, inr, arith}
 use Rattle.std.proofs.lemmas.List.{same_from_push}
 use Rattle.bolt_layout.proofs.Words.{Contains, Contains-append_left, Contains-append_right, contains_cases, contains_head, contains_none, contains_tail, end, HasLengths, HasSoundTrees, head_root, head_sequence, inline_elements, Inline_page, IsBelow, IsEntry, IsOfOneTree, IsStorable, IsTreeOf, Key, key_cmp, keys_in, LeafElement, Less, listing_below, listing_of, Member, Meta, Path, Rises, RisesInside, Root_page, Start, start_of, Tree, tree_of, with_bucket, with_value}
@@ -104,7 +103,7 @@ good_inner value e good root within =
 
 -- the format can hold its member
 pub good_fits : (path : Path) (e : LeafElement) → IsGoodEntry e → IsFitMember (path ++ e.key ∷ []) (item_of e)
-good_fits path e good = grind (arith, common_steps, same_from_push, item_of, sequence_fits)
+good_fits path e good = grind (arith, same_from_push, sequence_fits)
 
 module _ (file : List ℕ) (meta : Meta) (bytes : IsBytes file) where
   pub good_shown : (n : ℕ) (e : LeafElement) → ShowsEntry file meta n e → IsGoodEntry e

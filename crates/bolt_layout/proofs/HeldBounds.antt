@@ -1,5 +1,4 @@
 -- How many items are held at one time, at the most: four page sizes for each bucket of a path, and never more than the pages have bytes.
-use Rattle.std.proofs.lemmas.Grind.{common_steps}
 use Rattle.std.proofs.Common.{◌≡◌, ◌∙◌, ℕ, suc, ◌+◌, ◌*◌, ◌/◌, ◌^◌, ◌<◌, ◌≤◌, Bool, List, [], ◌∷◌, ◌++◌, length, map, flat_map, max, refl, sym, ap, subst, inl, inr, arith, sum_by}
 use Rattle.bolt_layout.proofs.Words.{AllByRecursion, branch_cut, branch_page_view, BranchElement, cases_lt, cut_of, is_inline, IsDivided, IsPageRun, IsPageSize, IsStorable, items_of, Laid, Layout, layout_of, leaf_level, leaf_page_view, LeafElement, length-append, length-map, listing_below, listing_of, Member, next_level, numbers_of, page_over, PageView, Path, root_of, root_over, size_bounds, size_of, stored_bucket, sum_by-cons, top_in, Tree, with_bucket, with_value}
 use Rattle.bolt_layout.proofs.{Cutting.branches_divide, Cutting.branches_halve, Cutting.cut_divides, ListLemmas.all_split}
@@ -73,7 +72,7 @@ top_held which page_size (suc steps) (suc k) most (page ∷ other ∷ level) low
     let same = length-map runs (page_over branch_page_view page_size) in
     let ih = top_held which page_size steps k (most + page_size / 16) (next_level which page_size pages) low up (omega arith) (omega arith) (omega arith) in
     weaker page_size _ _ (top_in which (suc steps) page_size pages) (omega arith) ih
-top_held which page_size steps k most level low all some fuel few = grind (arith, common_steps, weaker)
+top_held which page_size steps k most level low all some fuel few = grind (arith, weaker)
 
 top_numbers : (which : Layout) (page_size steps : ℕ) (level : List (Laid BranchElement)) → length level ≤ suc steps → numbers_of level ≤ (top_in which steps page_size level).numbers
 top_numbers which page_size (suc steps) (page ∷ other ∷ level) fuel =
@@ -83,8 +82,8 @@ top_numbers which page_size (suc steps) (page ∷ other ∷ level) fuel =
     let half : 2 * length runs ≤ suc (length pages) = branches_halve which page_size size_of pages in
     let same = length-map runs (page_over branch_page_view page_size) in
     let ih = top_numbers which page_size steps (next_level which page_size pages) (omega arith) in
-    grind (arith, common_steps, runs_numbers, branch_page_view, numbers_of)
-top_numbers which page_size steps level fuel = grind (arith, common_steps)
+    grind (arith, runs_numbers)
+top_numbers which page_size steps level fuel = grind arith
 
 -- ---- a bucket
 
@@ -96,7 +95,7 @@ items_numbers : (which : Layout) (page_size : ℕ) (items : List (Laid LeafEleme
 items_numbers which page_size items =
     let runs : List (List (Laid LeafElement)) = cut_of page_size 1 size_of items in
     let divided : IsDivided page_size 1 0 size_of items runs = cut_divides page_size 1 1 0 size_of items (omega arith) (omega arith) (omega arith) in
-    grind (arith, common_steps, runs_numbers, leaf_page_view, numbers_of, level_numbers)
+    grind (arith, runs_numbers, level_numbers)
 
 -- at most 64 levels, each with a sixteenth of the page size
 root_held : (which : Layout) (page_size most : ℕ) (items : List (Laid LeafElement)) → 64 ≤ page_size → AllByRecursion (IsHeldBelow page_size most) items → (root_over which page_size items).numbers ≤ 2 ^ 63
@@ -143,7 +142,7 @@ tree_held which page_size (suc deep) path (with_bucket key sequence inside after
     ) in
     let (one, rest) = stored_held which page_size (4 * page_size * suc deep) key sequence inside items (items_of which page_size after) (is_inline page_size inside items) refl room root in
     (one, tree_held which page_size (suc deep) path after low rest (omega arith))
-tree_held which page_size deep path tree low room short = grind (arith, common_steps, length-append)
+tree_held which page_size deep path tree low room short = grind (arith, length-append)
 
 whole_held : (which : Layout) (page_size : ℕ) (tree : Tree) → 64 ≤ page_size → (root_of which page_size tree).numbers ≤ 2 ^ 63 → IsHeldBelow page_size (most_held page_size (listing_of tree)) (root_of which page_size tree)
 unfolding root_of

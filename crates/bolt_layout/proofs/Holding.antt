@@ -1,5 +1,4 @@
 -- The entries of a bucket whose pages were placed: the elements of its items, in order.
-use Rattle.std.proofs.lemmas.Grind.{common_steps}
 use Rattle.std.proofs.Common.{◌≡◌, ◌∙◌, ℕ, zero, suc, ◌+◌, ◌≤◌, List, [], ◌∷◌, ◌++◌, Option, Some, slice_get, refl, sym, subst, inl, inr, arith}
 use Rattle.std.proofs.lemmas.List.Elements.{Contains-append_cases}
 use Rattle.bolt_layout.proofs.Words.{AllByRecursion, branch_page_view, BranchElement, Contains, Contains-append_left, Contains-append_right, elements_of, IsEntry, Laid, leaf_page_view, LeafElement, Meta, node_at, numbers_of, page_at, page_over, pages_of, PageView, Placed, Root_page, run_overflow}
@@ -21,7 +20,7 @@ module _ (file : List ℕ) (meta : Meta) where
 
   are_append : (es fs : List LeafElement) (items others : List (Laid LeafElement)) → AreOf es items → AreOf fs others → AreOf (es ++ fs) (items ++ others)
   are_append (e ∷ es) fs (item ∷ items) others h k = (h.0, are_append es fs items others h.1 k)
-  are_append es fs items others h k = grind (arith, common_steps)
+  are_append es fs items others h k = grind arith
 
   -- all that stands below a page
   pub record Holds (here : ℕ) (items : List (Laid LeafElement)) : Type 0 where

@@ -1,9 +1,8 @@
 -- The value of an inline bucket that was written is read back, and passes its tests.
-use Rattle.std.proofs.lemmas.Grind.{common_steps}
 use Rattle.std.proofs.Common.{◌≡◌, ◌∙◌, ℕ, suc, ◌+◌, ◌*◌, ◌^◌, ◌<◌, ◌≤◌, nat_lt, false, List, [], ◌∷◌, ◌++◌, length, map, drop, Option, None, refl, sym, ap, arith}
-use Rattle.bolt_layout.proofs.Words.{AllByRecursion, append-nil, count_field, eq-eqb, flags_field, head_root, head_sequence, head_written, header_bytes, header_written, inline_elements, inline_value, le-ltb, leaf_bytes, leaf_data, leaf_element, leaf_elements, LeafElement, leaves_fault, length-append, length-header_bytes, range_with_len, value_fault}
+use Rattle.bolt_layout.proofs.Words.{AllByRecursion, append-nil, count_field, eq-eqb, head_root, head_sequence, head_written, header_bytes, header_written, inline_elements, inline_value, le-ltb, leaf_bytes, leaf_data, leaf_element, leaf_elements, LeafElement, length-append, length-header_bytes, range_with_len, value_fault}
 use Rattle.std.specs.List.{list_any}
-use Rattle.bolt_format.specs.Elements.{has_bucket, head_fault, inline_bytes, inline_fault, inline_page_fault, is_bucket_at}
+use Rattle.bolt_format.specs.Elements.{head_fault, inline_bytes, inline_fault, is_bucket_at}
 use Rattle.bolt_format.specs.declared.header.Kind.TheVariants as kind
 use Rattle.bolt_layout.proofs.LeafLemmas.{IsLeafFit, leaves_written}
 
@@ -26,7 +25,7 @@ no_bucket_in bytes from (suc n) (x ∷ es) e flat =
     let rest : map (leaf_element bytes) (range_with_len (from + 1) n) ≡ es = cc in
     let one : is_bucket_at bytes from ≡ false = ap (λ (y : LeafElement). y.is_bucket) first ∙ flat.0.flat in
     rw (one, no_bucket_in bytes (from + 1) n es rest flat.1) refl
-no_bucket_in bytes from n es e flat = grind (arith, common_steps)
+no_bucket_in bytes from n es e flat = grind arith
 
 pub inline_written : (sequence : ℕ) (es : List LeafElement) → sequence < 256 ^ 8 → AllByRecursion IsFlat es → length es < 256 ^ 2
     → 16 * length es + length (leaf_data es) < 0x100000000
@@ -45,4 +44,4 @@ inline_written sequence es sized flat few small =
     let written = leaves_written head_fault bytes es [] behind (omega arith) (flat_fits head_fault es flat) small in
     let elements : leaf_elements bytes (count_field bytes) ≡ es = ap (leaf_elements bytes) header.0.count ∙ written.0 in
     let room : nat_lt (length bytes) 16 ≡ false = le-ltb (length bytes) 16 (omega arith) in
-    grind (arith, common_steps, flags_field, eq-eqb, leaves_fault, head_fault, count_field, has_bucket, no_bucket_in, inline_page_fault)
+    grind (arith, eq-eqb, no_bucket_in)

@@ -57,7 +57,7 @@ absorb {X = X} page_size least size run (x ∷ xs) tail fits cap =
 
 pub runs_cut : {X : Type 0} (page_size least : ℕ) (size : X → ℕ) (runs : List (List X)) → AreRuns page_size least size runs → runs ≡ cut_of page_size least size (flat_map (λ r. r) runs)
 runs_cut page_size least size ((x ∷ xs) ∷ runs) are = grind (arith, absorb, runs_cut page_size least size runs are.2)
-runs_cut page_size least size runs are = grind (arith, common_steps)
+runs_cut page_size least size runs are = grind arith
 
 -- And the one that is computed is such a cut.
 single_run : {X : Type 0} (page_size least : ℕ) (size : X → ℕ) (next : X) → 1 ≤ least → IsRunOf page_size least size (next ∷ [])
@@ -94,12 +94,12 @@ cut_whole page_size least size items = grind (arith, cut_from_whole)
 run_at : {X : Type 0} (page_size least : ℕ) (size : X → ℕ) (runs : List (List X)) → AreRuns page_size least size runs → (i : ℕ) (run : List X) → slice_get runs i ≡ Some run
     → IsRunOf page_size least size run
 run_at page_size least size (first ∷ runs) are (suc i) run e = run_at page_size least size runs are.2 i run e
-run_at page_size least size runs are i run e = grind (arith, common_steps)
+run_at page_size least size runs are i run e = grind arith
 
 end_at : {X : Type 0} (page_size least : ℕ) (size : X → ℕ) (runs : List (List X)) → AreRuns page_size least size runs → (i : ℕ) (run : List X) (next : X) (more : List X)
     → slice_get runs i ≡ Some run → slice_get runs (suc i) ≡ Some (next ∷ more) → joins page_size least size run next ≡ false
 end_at page_size least size (first ∷ runs) are (suc i) run next more e f = end_at page_size least size runs are.2 i run next more e f
-end_at page_size least size runs are i run next more e f = grind (arith, common_steps)
+end_at page_size least size runs are i run next more e f = grind arith
 
 long_at : {X : Type 0} (page_size least : ℕ) (size : X → ℕ) (runs : List (List X)) → AreRuns page_size least size runs → (i : ℕ) (run next : List X)
     → slice_get runs i ≡ Some run → slice_get runs (suc i) ≡ Some next → least ≤ length run

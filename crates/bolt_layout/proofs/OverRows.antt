@@ -71,7 +71,7 @@ run_fits : {E : Type 0} (page_size extra bound : ℕ) (run : List (Laid E)) → 
     → AllByRecursion (IsAtMost bound) run → run_size size_of run < 0x100000000
 run_fits {E = E} page_size extra bound run small is sizes =
     let both = all_split (IsAtMost bound) is.front is.last (subst (AllByRecursion (IsAtMost bound)) is.whole sizes) in
-    grind (arith, common_steps, sum_by, size_of, sum_by-append, sum_at_most, mul-le-mul_right)
+    grind (arith, sum_by-append, sum_at_most, mul-le-mul_right)
 
 run_of : {E : Type 0} (page_size wide extra bound : ℕ) (run : List (Laid E)) → extra ≤ 1 → page_size + extra * bound < 0x100000000 → 16 + wide * bound < 0x100000000
     → IsPageRun page_size wide extra size_of run → AllByRecursion (IsAtMost bound) run → IsRun run
@@ -86,7 +86,7 @@ leaves_over page_size ((first ∷ front) ∷ runs) leaves small whole each sizes
     let both = all_split (IsAtMost 0xFFFFFFEF) (first ∷ front) back (subst (AllByRecursion (IsAtMost 0xFFFFFFEF)) (sym whole) sizes) in
     let fits = run_of page_size 1 0 0xFFFFFFEF (first ∷ front) (omega arith) (omega arith) (omega arith) each.0 both.0 in
     (first, front, back, sym whole, (refl, fits), leaves_over page_size runs back small refl each.1 both.1)
-leaves_over page_size runs leaves small whole each sizes = grind (arith, common_steps, size_of)
+leaves_over page_size runs leaves small whole each sizes = grind arith
 
 pub pieces_first : (over : Over) (page : Laid BranchElement) (pages : List (Laid BranchElement)) (leaves : List (Laid LeafElement)) → Pieces over (page ∷ pages) leaves
     → (first : Laid LeafElement) × (rest : List (Laid LeafElement)) × (leaves ≡ first ∷ rest)
@@ -112,7 +112,7 @@ branches_over page_size height ((first ∷ run) ∷ runs) kids leaves small whol
     let fits = run_of page_size 3 1 0x40000010 (first ∷ run) (omega arith) (omega arith) (omega arith) each.0 both.0 in
     let more = branches_over page_size height runs others back small refl each.1 both.1 b in
     (x, rest, back, e ∙ ap (λ (r : List (Laid LeafElement)). r ++ back) e2, branch_over page_size height first run front x rest fits a e2, more)
-branches_over page_size height runs kids leaves small whole each sizes pieces = grind (arith, common_steps)
+branches_over page_size height runs kids leaves small whole each sizes pieces = grind arith
 
 -- No page number is lost from level to level, and each page has one.
 pub numbers-append : {E : Type 0} (xs ys : List (Laid E)) → numbers_of (xs ++ ys) ≡ numbers_of xs + numbers_of ys

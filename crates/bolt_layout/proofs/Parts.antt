@@ -1,5 +1,4 @@
 -- A part of a tree of pages: what is reached passes the tests, and its spans fill a row of page numbers, each once.
-use Rattle.std.proofs.lemmas.Grind.{common_steps}
 use Rattle.std.proofs.Common.{◌≡◌, ◌∙◌, ℕ, zero, suc, ◌+◌, ◌<◌, ◌≤◌, List, [], ◌∷◌, Option, Some, None, Result, Ok, refl, sym, subst, inl, inr, arith}
 use Rattle.bolt_layout.proofs.Words.{At_inline, At_page, cases_lt, follow, follow_none, inline_finding, Key, Node, node_finding, Nodes, PageSpot, reached, Spot}
 use Rattle.bolt_check.specs.{Nodes.IsInSpan, Ways.Before, Ways.SpanHas, Ways.SpanOf}
@@ -52,7 +51,7 @@ kids_at nodes (o ∷ os) (zero ∷ way) = follow nodes o way
 kids_at nodes (o ∷ os) (suc j ∷ way) = kids_at nodes os (j ∷ way)
 
 pub no_kids : (nodes : Nodes) (from to : ℕ) → from ≡ to → IsPart nodes (kids_at nodes []) from to
-no_kids nodes from to same = grind (arith, common_steps, kids_at)
+no_kids nodes from to same = grind arith
 
 kid_way : (nodes : Nodes) (os : List (Option Spot)) (way : List ℕ) (n : ℕ) → SpanHas nodes (kids_at nodes os way) n → (j : ℕ) × (on : List ℕ) × SpanHas nodes (kids_at nodes os (j ∷ on)) n
 kid_way nodes (o ∷ os) (j ∷ way) n s = (j, way, s)

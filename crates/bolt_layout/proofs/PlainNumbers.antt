@@ -1,7 +1,6 @@
 -- The branches of a bucket in the plain layout take at most 27 times the page numbers of its leaves.
 -- A level of branches takes no more than its pages and the weights of the level below. The weights don't rise from level to level, and the
 -- number of pages halves. A page weighs less than 2^21: so the weights of 21 levels are counted in full, and above these the pages alone.
-use Rattle.std.proofs.lemmas.Grind.{common_steps}
 use Rattle.std.proofs.Common.{◌≡◌, ℕ, zero, suc, ◌+◌, ◌-◌, ◌*◌, ◌/◌, ◌<◌, ◌≤◌, List, [], ◌∷◌, length, map, flat_map, sym, ap, subst, arith}
 use Rattle.bolt_layout.proofs.Words.{AllByRecursion, branch_page_view, BranchElement, cut_of, div-lt_iff_lt-mul, IsDivided, IsPageRun, Laid, leaf_level, leaf_page_view, LeafElement, length-map, mul-le-mul_left, mul-le-mul_right, next_level, numbers_of, page_over, PageView, Plain, root_over, size_of, top_in}
 use Rattle.bolt_layout.proofs.{Cutting.branches_divide, Cutting.branches_halve, Cutting.cut_divides, LastItem.HasItem}
@@ -94,7 +93,7 @@ top_most page_size most (suc steps) (suc times) n more (page ∷ other ∷ level
     let ih = top_most page_size most steps times (2 * n) is.fewer (next_level Plain page_size pages) low is.rooms is.light enough is.count in
     let less = level_less times n more is.fewer (weights page_size (next_level Plain page_size pages)) (weights page_size pages) is.own is.half is.less is.small in
     omega arith
-top_most page_size most steps times n more level low rooms light enough count = grind (arith, common_steps)
+top_most page_size most steps times n more level low rooms light enough count = grind arith
 
 -- Leaves weigh no more than keys of 2^30 bytes do at the least page size.
 leaves_light : (page_size : ℕ) (runs : List (List (Laid LeafElement))) → 1024 ≤ page_size → AllByRecursion HasItem runs → AllByRecursion HasShortKey (flat_map (λ run. run) runs)
@@ -103,14 +102,14 @@ leaves_light page_size ((first ∷ run) ∷ runs) low some short =
     let both = all_split HasShortKey (first ∷ run) (flat_map (λ run. run) runs) short in
     let below : (16 + length first.key) / page_size < 1048577 = (div-lt_iff_lt-mul {k = page_size} {x = 16 + length first.key} {y = 1048577} (omega arith)).1 (omega arith) in
     (omega arith, leaves_light page_size runs low some.1 both.1)
-leaves_light page_size runs low some short = grind (arith, common_steps)
+leaves_light page_size runs low some short = grind arith
 
 -- The leaves take the numbers below their items and their own,
 pub leaves_numbers : (page_size : ℕ) (items : List (Laid LeafElement)) → numbers_of (leaf_level page_size items) ≡ numbers_of items + own_numbers page_size (cut_of page_size 1 size_of items)
 leaves_numbers page_size items =
     let runs = cut_of page_size 1 size_of items in
     let divided : IsDivided page_size 1 0 size_of items runs = cut_divides page_size 1 1 0 size_of items (omega arith) (omega arith) (omega arith) in
-    grind (arith, common_steps, numbers_of, level_numbers_are, leaf_page_view)
+    grind (arith, level_numbers_are)
 
 -- and the root page of the bucket not many more.
 pub plain_most : (page_size : ℕ) (items : List (Laid LeafElement)) → 1024 ≤ page_size → AllByRecursion HasKeyRoom items → AllByRecursion HasShortKey items → 1 ≤ length items
@@ -127,4 +126,4 @@ plain_most page_size items low rooms short some =
     let same = length-map runs (page_over leaf_page_view page_size) in
     let light = leaves_light page_size runs low have short2 in
     let top = top_most page_size 1048577 (length level) 21 1 (length level - 1) level (omega arith) (rooms_kept leaf_page_view page_size runs) light (omega arith) (omega arith) in
-    grind (arith, common_steps, leaves_numbers, own_weights, leaf_page_view, weights_count)
+    grind (arith, leaves_numbers, own_weights, weights_count)

@@ -1,5 +1,4 @@
 -- The ends of the plain rows over a level of pages are found in as many steps as there are pages, and there are no others.
-use Rattle.std.proofs.lemmas.Grind.{common_steps}
 use Rattle.std.proofs.Common.{◌≡◌, ◌≤◌, ℕ, suc, List, [], ◌∷◌, length, refl, arith}
 use Rattle.bolt_layout.proofs.{Words.AreRowEnds, Words.BranchElement, Words.Laid, Words.next_level, Words.Plain, Words.row_ends_of, Tops.shorter}
 use Rattle.bolt_layout.specs.Openings.{row_ends}
@@ -8,7 +7,7 @@ steps_to_ends : (steps page_size : ℕ) (pages : List (Laid BranchElement)) → 
 steps_to_ends (suc steps) page_size (page ∷ other ∷ pages) fuel =
     let less = shorter Plain page_size (page ∷ other ∷ pages) (omega arith) in
     (omega arith, refl, refl, steps_to_ends steps page_size (next_level Plain page_size (page ∷ other ∷ pages)) (omega arith))
-steps_to_ends steps page_size pages fuel = grind (arith, common_steps)
+steps_to_ends steps page_size pages fuel = grind arith
 
 pub row_ends_are : (page_size : ℕ) (pages : List (Laid BranchElement)) → AreRowEnds page_size pages (row_ends_of page_size pages)
 row_ends_are page_size pages = steps_to_ends (length pages) page_size pages (omega arith)

@@ -1,5 +1,4 @@
 -- The items of a bucket have the same keys and sizes in both layouts, and the same buckets are inline.
-use Rattle.std.proofs.lemmas.Grind.{common_steps}
 use Rattle.std.proofs.Common.{◌≡◌, ◌∙◌, ◌+◌, ℕ, true, false, List, ◌∷◌, length, map, sum_by, refl, sym, ap, arith}
 use Rattle.bolt_layout.proofs.Words.{Balanced, end, holds_bucket, is_inline, items_of, Laid, leaf_item, LeafElement, length-map, Plain, size_of, Tree, with_bucket, with_value}
 use Rattle.bolt_layout.proofs.Faces.{Face, face, face_size, sum_map}
@@ -16,7 +15,7 @@ inline_by_faces page_size inside plain balanced same =
 -- A bucket that holds no bucket has the same items.
 same_items : (page_size : ℕ) (tree : Tree) → holds_bucket tree ≡ false → items_of Plain page_size tree ≡ items_of Balanced page_size tree
 same_items page_size (with_value key value after) none = ap (λ (items : List (Laid LeafElement)). leaf_item key value false ∷ items) (same_items page_size after none)
-same_items page_size tree none = grind (arith, common_steps)
+same_items page_size tree none = grind arith
 
 -- So has one that is inline.
 inline_items : (page_size : ℕ) (inside : Tree) → is_inline page_size inside (items_of Plain page_size inside) ≡ true

@@ -1,5 +1,4 @@
 -- The layout of a tree is a sound file.
-use Rattle.std.proofs.lemmas.Grind.{common_steps}
 use Rattle.std.proofs.Common.{◌≡◌, ◌∙◌, ℕ, ◌+◌, ◌-◌, ◌*◌, ◌^◌, ◌<◌, ◌≤◌, List, [], ◌∷◌, ◌++◌, length, drop, replicate, Option, refl, sym, ap, inl, inr, arith, append_assoc}
 use Rattle.bolt_layout.proofs.Words.{AllByRecursion, append-nil, cases_lt, chosen_of, copy_meta, freelist_page, HasSoundTrees, header_bytes, IsActive, IsMeta, IsPageSize, IsStorable, items_of, Layout, layout_mark, layout_meta, layout_of, layout_pages, layout_root, length-append, length-header_bytes, length-meta_bytes, Meta, meta_bytes, meta_page, meta_written, mul-le-mul_left, node_at, node_of, One, page_fault, PageView, part_next, Placed, placed_bytes, reached, root_of, root_over, root_spot, size_bounds, Tree, Zero}
 use Rattle.bolt_layout.proofs.SpanLemmas.{IsEmptyFreelist, IsShown, freelist_shown, length-filled}
@@ -115,7 +114,7 @@ tree_page : (which : Layout) (page_size : ℕ) (tree : Tree) → IsPageSize page
     → (height : ℕ) × ((root_over which page_size (items_of which page_size tree)).numbers ≤ limit → height ≤ 63) × IsPage page_size height (root_over which page_size (items_of which page_size tree)) (items_of which page_size tree)
 tree_page which page_size tree size storable =
     let bounds = size_bounds page_size size in
-    grind (arith, common_steps, tree_items, root_page, items_of, tree_rise)
+    grind (arith, tree_items, root_page, items_of, tree_rise)
 
 -- it has as many bytes as its pages
 pub layout_length : (which : Layout) (page_size : ℕ) (tree : Tree) (sequence : ℕ) → IsPageSize page_size → IsStorable tree
@@ -140,7 +139,7 @@ laid_out which page_size tree sequence size storable sized short =
     let mark : ℕ = layout_mark which page_size tree in
     let wide : mark * 1024 ≤ mark * page_size = mul-le-mul_left mark (omega arith) in
     let stand = pieces_stand page_size root sequence mark pages size (omega arith) (omega arith) (omega arith) in
-    grind (arith, common_steps)
+    grind arith
 
 pub record IsSoundLayout (which : Layout) (page_size : ℕ) (tree : Tree) (sequence : ℕ) : Type 0 where
   pub metas : HasBothMetas (layout_of which page_size tree sequence)

@@ -1,5 +1,4 @@
 -- The top of a level is that of the next, and a page's overflow is the least.
-use Rattle.std.proofs.lemmas.Grind.{common_steps}
 use Rattle.std.proofs.Common.{◌≡◌, ℕ, suc, ◌≤◌, List, ◌∷◌, length, arith}
 use Rattle.bolt_layout.proofs.Words.{branch_cut, branch_page_view, BranchElement, Laid, Layout, length-map, next_level, overflow_of, page_over, size_of, top_in}
 use Rattle.bolt_layout.proofs.Cutting.{branches_halve}
@@ -14,7 +13,7 @@ top_steps : (which : Layout) (page_size s t : ℕ) (level : List (Laid BranchEle
 top_steps which page_size (suc s) (suc t) (page ∷ other ∷ level) h k =
     let less = shorter which page_size (page ∷ other ∷ level) (omega arith) in
     top_steps which page_size s t (next_level which page_size (page ∷ other ∷ level)) (omega arith) (omega arith)
-top_steps which page_size s t level h k = grind (arith, common_steps)
+top_steps which page_size s t level h k = grind arith
 
 pub top_above : TopIsAbove
 top_above which page_size is h = grind (arith, shorter, top_steps)

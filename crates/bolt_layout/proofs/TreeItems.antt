@@ -27,12 +27,12 @@ flat_item page_size key value flag some short sized bucket part = record {
 
 -- a value
 value_item : (page_size : ℕ) (key value : List ℕ) → 1 ≤ length key → length key ≤ 0x40000000 → length value ≤ 0x7FFFFFFE → IsItem page_size (leaf_item key value false)
-value_item page_size key value some short sized = grind (arith, common_steps, flat_item, follow, none_some, nothing)
+value_item page_size key value some short sized = grind (arith, flat_item, none_some, nothing)
 
 -- an inline bucket
 flat_elements : (which : Layout) (page_size : ℕ) (tree : Tree) → holds_bucket tree ≡ false → HasLengths tree → (n : ℕ) → AllByRecursion IsFlat (elements_of (items_of which page_size tree) n)
 flat_elements which page_size (with_value key value after) none lengths n = grind (arith, flat_elements which page_size after none lengths.2 (n + 0))
-flat_elements which page_size tree none lengths n = grind (arith, common_steps)
+flat_elements which page_size tree none lengths n = grind arith
 
 keys_same : (es : List LeafElement) → keys_of (map leaf_entry es) ≡ map (λ (e : LeafElement). e.key) es
 keys_same [] = refl

@@ -1,5 +1,4 @@
 -- No branch page of a balanced layout has fewer than two elements.
-use Rattle.std.proofs.lemmas.Grind.{common_steps}
 use Rattle.std.proofs.Common.{◌≡◌, ℕ, suc, ◌+◌, ◌≤◌, List, [], ◌∷◌, length, map, flat_map, refl, sym, ap, subst, arith}
 use Rattle.bolt_layout.proofs.Words.{AllByRecursion, Balanced, branch_cut, branch_page_view, BranchElement, cut_of, elements_of, end, items_of, join_last, Laid, layout_pages, leaf_level, leaf_page_view, LeafElement, length-append, next_level, page_over, pages_of, root_of, root_over, size_of, top_in, Tree, with_bucket, with_value}
 use Rattle.bolt_format.specs.declared.header.Kind.TheVariants as kind
@@ -67,7 +66,7 @@ top_twos (suc steps) page_size (page ∷ other ∷ level) all =
     let divided = branches_divide Balanced page_size size_of pages in
     let below = subst (AllByRecursion HasTwos) (sym divided.whole) all in
     top_twos steps page_size (next_level Balanced page_size pages) (level_twos page_size runs (runs_long page_size size_of pages (omega arith)) below)
-top_twos steps page_size level all = grind (arith, common_steps, leaf_twos)
+top_twos steps page_size level all = grind (arith, leaf_twos)
 
 -- a bucket,
 root_twos : (page_size : ℕ) (items : List (Laid LeafElement)) → AllByRecursion HasTwos items → HasTwos (root_over Balanced page_size items)

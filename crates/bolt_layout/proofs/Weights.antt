@@ -40,7 +40,7 @@ run_weight page_size [] low = let below : 15 / page_size < 1 = (div-lt_iff_lt-mu
 run_weight {E = E} page_size (item ∷ run) low =
     let ih = run_weight page_size run low in
     let s : 15 + sum_by size_of (item ∷ run) ≡ item.size + (15 + sum_by size_of run) = let c = sum_by-cons (size_of {E = E}) item run in omega arith in
-    grind (arith, common_steps, div_sum, sum_by, size_of)
+    grind (arith, div_sum)
 
 pub own_weight : {E : Type 0} (page_size : ℕ) (runs : List (List (Laid E))) → 16 ≤ page_size
     → own_numbers page_size runs ≤ length runs + weights page_size (flat_map (λ run. run) runs)
@@ -50,7 +50,7 @@ own_weight page_size (run ∷ runs) low =
     let ih = own_weight page_size runs low in
     let l = weights-append page_size run (flat_map (λ run. run) runs) in
     let w = run_weight page_size run low in
-    grind (arith, common_steps, sum_by, size_of)
+    grind arith
 
 -- An item has the 16 bytes of its header and its key.
 abbrev pub HasKeyRoom : {E : Type 0} → Laid E → Type 0
@@ -69,7 +69,7 @@ level_weights view page_size ((first ∷ run) ∷ runs) low some room =
     let ih = level_weights view page_size runs low some.1 both.1 in
     let l = weights-append page_size (first ∷ run) rest in
     let w = first_weight view page_size first run low both.0.0 in omega arith
-level_weights view page_size runs low some room = grind (arith, common_steps)
+level_weights view page_size runs low some room = grind arith
 
 pub own_weights : {E : Type 0} (view : ℕ → List E → PageView) (page_size : ℕ) (runs : List (List (Laid E))) → 16 ≤ page_size → AllByRecursion HasItem runs
     → AllByRecursion HasKeyRoom (flat_map (λ run. run) runs) → weights page_size (map (page_over view page_size) runs) ≤ own_numbers page_size runs
@@ -79,7 +79,7 @@ own_weights view page_size ([] ∷ runs) low some room = absurd (let none = some
 own_weights {E = E} view page_size ((first ∷ run) ∷ runs) low some room =
     let both = all_split HasKeyRoom (first ∷ run) (flat_map (λ run. run) runs) room in
     let ih = own_weights view page_size runs low some.1 both.1 in
-    grind (arith, common_steps, sum_by-cons, size_of, div_rises, sum_by)
+    grind (arith, common_steps, sum_by-cons, div_rises)
 
 -- each item weighs a page at least
 pub weights_count : {E : Type 0} (page_size : ℕ) (items : List (Laid E)) → length items ≤ weights page_size items

@@ -1,6 +1,5 @@
 use Rattle.std.proofs.Common.{arith}
-use Rattle.std.proofs.lemmas.Grind.{common_steps}
 use Rattle.bolt_layout.proofs.laws.a_copy_lists_the_same.Goals as goal
 
 pub returns : goal.returns
-returns c = grind (arith, common_steps)
+returns c = grind arith

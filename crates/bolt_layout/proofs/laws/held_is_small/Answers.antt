@@ -1,7 +1,6 @@
 use Rattle.bolt_layout.proofs.HeldBounds.{held_small, layout_small}
 use Rattle.std.proofs.Common.{arith}
-use Rattle.std.proofs.lemmas.Grind.{common_steps}
 use Rattle.bolt_layout.proofs.laws.held_is_small.Goals as goal
 
 pub returns : goal.returns
-returns c = grind (arith, common_steps, layout_small, held_small)
+returns c = grind (arith, layout_small, held_small)
