@@ -1,9 +1,9 @@
 -- Findings reported page by page.
-use Rattle.std.proofs.Common.{◌≡◌, ℕ, suc, ◌-◌, ◌<◌, ◌≤◌, inl, inr, List, [], ◌∷◌, ◌++◌, length, refl, sym, subst, arith, length-append, All, AllPairs, Contains}
+use Rattle.std.proofs.Common.{◌≡◌, ℕ, suc, ◌-◌, ◌<◌, ◌≤◌, inl, inr, List, [], ◌∷◌, ◌++◌, refl, sym, arith, length-append, All, AllPairs, Contains}
 use Rattle.std.proofs.lemmas.List.{get_or_append_left}
 use Rattle.std.proofs.Math.Seq.{get_or-append_right}
 use Rattle.std.proofs.lemmas.List.Elements.{All-append, Contains-append_left, Contains-append_right}
-use Rattle.bolt_check.proofs.Words.{All-cons, All-nil, All-weaker, AreFindingsBelow, cases_lt, cases_order, Finding, freed_twice, IsAccountFinding, IsBefore, IsLost, IsLostInterval, le-ltb, lt-ltb, out_of_range, reached_freed, interval_findings, unreachable}
+use Rattle.bolt_check.proofs.Words.{All-weaker, AreFindingsBelow, cases_lt, cases_order, Finding, freed_twice, IsAccountFinding, IsBefore, IsLost, IsLostInterval, le-ltb, lt-ltb, out_of_range, reached_freed, interval_findings, unreachable}
 use Rattle.bolt_check.specs.declared.finding.TheConstants.Finding.{UNREACHABLE}
 
 -- what is reported of the pages from one to before another
@@ -20,16 +20,7 @@ append_empty (x ∷ xs) ys e = absurd (cc)
 
 rises_append : (xs ys : List Finding) (from : ℕ) → AllPairs IsBefore xs → AllPairs IsBefore ys → All (λ x. x.page < from) xs → All (λ x. from ≤ x.page) ys
     → AllPairs IsBefore (xs ++ ys)
-rises_append xs ys from rx ry below above i j d h l =
-    let len = length-append xs ys in
-    elim (cases_lt j (length xs)) [
-      | inl left ↦ rw (get_or_append_left xs ys d i (omega arith), get_or_append_left xs ys d j left) (rx i j d h left)
-      | inr right ↦ elim (cases_lt i (length xs)) [
-        | inl near ↦ rw (get_or_append_left xs ys d i near, get_or-append_right xs ys j d right)
-            (inl (let a = below i d near in let b = above (j - length xs) d (omega (arith, len)) in omega (arith, a, b)))
-        | inr far ↦ rw (get_or-append_right xs ys i d far, get_or-append_right xs ys j d right) (ry (i - length xs) (j - length xs) d (omega arith) (omega (arith, len)))
-      ]
-    ]
+rises_append xs ys from rx ry below above i j d h l = grind (arith, length-append, cases_lt, get_or_append_left, get_or-append_right)
 
 pub is_one : (x y : Finding) → x ≡ y → Contains (y ∷ []) x
 is_one x y e = (0, omega arith, sym e)
@@ -59,23 +50,11 @@ reported_append {mark = mark} {in_use = in_use} {times = times} {from = from} {n
 module _ (mark : ℕ) (in_use : ℕ → Type 0) (times : ℕ → ℕ) where
   pub reports_none : (from next : ℕ) → ((n : ℕ) → from ≤ n → n < next → IsLost mark in_use times n → ⊥)
       → ((x : Finding) → IsAccountFinding mark in_use times x → from ≤ x.page → x.page < next → ⊥) → Reports mark in_use times from next []
-  reports_none from next kept none = record {
-    sound = All-nil (IsAccountFinding mark in_use times);
-    within = All-nil (λ x. (from ≤ x.page) × (x.page < next));
-    complete = λ x is low high. absurd (none x is low high);
-    rises = λ i j d h l. absurd (omega arith);
-    silent = λ e. kept;
-  }
+  reports_none from next kept none = grind arith
 
   pub reports_one : (from next : ℕ) (y : Finding) → IsAccountFinding mark in_use times y → from ≤ y.page → y.page < next
       → ((x : Finding) → IsAccountFinding mark in_use times x → from ≤ x.page → x.page < next → x ≡ y) → Reports mark in_use times from next (y ∷ [])
-  reports_one from next y is low high only = record {
-    sound = All-cons (IsAccountFinding mark in_use times) y [] is (All-nil (IsAccountFinding mark in_use times));
-    within = All-cons (λ x. (from ≤ x.page) × (x.page < next)) y [] (low, high) (All-nil (λ x. (from ≤ x.page) × (x.page < next)));
-    complete = λ x is low high. is_one x y (only x is low high);
-    rises = one_rises y;
-    silent = λ e. absurd (cc);
-  }
+  reports_one from next y is low high only = grind arith
 
   -- a finding on a page of an interval of lost pages is the interval
   interval_is : (from page : ℕ) → IsLostInterval mark in_use times from page → (IsLost mark in_use times page → ⊥)
@@ -98,9 +77,7 @@ module _ (mark : ℕ) (in_use : ℕ → Type 0) (times : ℕ → ℕ) where
 
   interval_found : (from page : ℕ) → from < page → IsLostInterval mark in_use times from page → (IsLost mark in_use times page → ⊥)
       → IsAccountFinding mark in_use times (record { number = UNREACHABLE; page = from; last = page - 1 })
-  interval_found from page some interval ends =
-      let next : suc (page - 1) ≡ page = omega arith in
-      unreachable (omega arith) (λ n low high. interval.lost n low (omega arith)) (λ lost. ends (subst (IsLost mark in_use times) next lost)) interval.begins
+  interval_found from page some interval ends = grind (arith, unreachable)
 
 -- the lost pages before a page that is not lost
 pub reports_interval : {mark : ℕ} {in_use : ℕ → Type 0} {times : ℕ → ℕ} {from page : ℕ} → from ≤ page → IsLostInterval mark in_use times from page

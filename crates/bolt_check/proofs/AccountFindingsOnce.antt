@@ -1,28 +1,16 @@
 -- There is one list of findings of the accounts.
-use Rattle.std.proofs.Common.{◌≡◌, ◌≢◌, ◌⊎◌, ◌∙◌, ℕ, List, [], ◌∷◌, Option, Some, None, ap, ap₂, refl, inl, inr, arith}
-use Rattle.bolt_check.proofs.Words.{AreAccountFindings, cases_eq, Finding, free_ids_of, IsBefore, IsFreelistFinding, IsUsed, Meta}
+use Rattle.std.proofs.Common.{◌≡◌, ◌≢◌, ◌⊎◌, ℕ, List, [], ◌∷◌, Option, Some, None, ap, refl, inl, inr, arith}
+use Rattle.bolt_check.proofs.Words.{AreAccountFindings, Finding, free_ids_of, IsBefore, IsFreelistFinding, IsUsed, Meta}
 use Rattle.bolt_check.proofs.{AccountLemmas.unwritten, Lists.contains_from_has, Lists.has_from_contains, Lists.one_list, Lists.rises_from_pairs}
 
 same_finding : (x y : Finding) → x.number ≡ y.number → x.page ≡ y.page → x.last ≡ y.last → x ≡ y
-same_finding x y number page last =
-    ap (λ (n : ℕ). record { number = n; page = x.page; last = x.last }) number
-    ∙ ap₂ (λ (p l : ℕ). record { number = y.number; page = p; last = l }) page last
+same_finding x y number page last = grind arith
 
 finding_differs : (x y : Finding) → (x ≡ y) ⊎ (x ≢ y)
-finding_differs x y = elim (cases_eq x.number y.number) [
-  | inr other ↦ inr (λ e. other (ap (λ (z : Finding). z.number) e))
-  | inl number ↦ elim (cases_eq x.page y.page) [
-    | inr other ↦ inr (λ e. other (ap (λ (z : Finding). z.page) e))
-    | inl page ↦ elim (cases_eq x.last y.last)
-        [ inr other ↦ inr (λ e. other (ap (λ (z : Finding). z.last) e)) | inl last ↦ inl (same_finding x y number page last) ]
-  ]
-]
+finding_differs x y = grind arith
 
 before_not_back : (x y : Finding) → IsBefore x y → IsBefore y x → ⊥
-before_not_back x y (inl a) (inl b) = omega (arith, a, b)
-before_not_back x y (inl a) (inr b) = omega (arith, a, b.0)
-before_not_back x y (inr a) (inl b) = omega (arith, a.0, b)
-before_not_back x y (inr a) (inr b) = omega (arith, a.1, b.1)
+before_not_back x y h g = grind arith
 
 module _ (file : List ℕ) (meta : Meta) where
   abbrev Are : List Finding → Type 0

@@ -1,6 +1,6 @@
 -- The table and the ids past it list what the freelist lists: their findings are those of the accounts.
-use Rattle.std.proofs.Common.{◌≡◌, ◌≢◌, ◌∙◌, ◌==◌, ℕ, suc, ◌≤◌, inl, inr, ◌↔◌, List, [], ◌∷◌, Some, None, min, refl, sym, ap, subst, arith, Contains}
-use Rattle.bolt_check.proofs.Words.{AreAccountFindings, AreAllFindings, bad, cases_lt, ClaimsFreelist, cond-false, cond-true, eq-eqb, finding, Finding, free_ids_of, freed_twice, freelist_fault, freelist_fault_of, HasAccounts, IsAccountFinding, IsClaimed, IsFreelistFinding, IsInFreelist, IsInRange, IsInUse, IsLost, ListsFree, Meta, ne_eqb, NO_FREELIST, none-some, out_of_range, PageUse, reached_freed, same_Some, shared, times_in, TWICE, unreachable}
+use Rattle.std.proofs.Common.{rules, ◌≡◌, ◌≢◌, ◌∙◌, ◌==◌, ℕ, ◌≤◌, inl, inr, List, [], ◌∷◌, Some, None, min, refl, sym, arith}
+use Rattle.bolt_check.proofs.Words.{AreAccountFindings, AreAllFindings, bad, cases_lt, ClaimsFreelist, cond-false, cond-true, eq-eqb, finding, Finding, free_ids_of, freed_twice, freelist_fault, freelist_fault_of, HasAccounts, IsAccountFinding, IsClaimed, IsFreelistFinding, IsInFreelist, IsInRange, IsInUse, ListsFree, Meta, ne_eqb, NO_FREELIST, none-some, out_of_range, PageUse, reached_freed, shared, times_in, TWICE, unreachable}
 use Rattle.bolt_format.specs.Freelists.{free_ids_at}
 
 -- the same pages in use, and counts that differ above 2 alone
@@ -13,37 +13,13 @@ pub alike_back : (in_use also : ℕ → Type 0) (times counts : ℕ → ℕ) →
 alike_back in_use also times counts alike = record { there = alike.back; back = alike.there; counted = λ n. sym (alike.counted n) }
 
 module _ (mark : ℕ) where
-  lost_along : {in_use also : ℕ → Type 0} {times counts : ℕ → ℕ} → IsAlike in_use also times counts → (n : ℕ) → IsLost mark in_use times n
-      → IsLost mark also counts n
-  lost_along alike n is = record {
-    free = record { above_metas = is.free.above_metas; below = is.free.below; unused = λ u. is.free.unused (alike.back n u) };
-    unlisted = omega (arith, alike.counted n, is.unlisted);
-  }
-
   pub finding_along : (in_use also : ℕ → Type 0) (times counts : ℕ → ℕ) → IsAlike in_use also times counts
       → (x : Finding) → IsAccountFinding mark in_use times x → IsAccountFinding mark also counts x
-  finding_along in_use also times counts alike x (freed_twice {n = n} range two) = freed_twice range (omega (arith, alike.counted n, two))
-  finding_along in_use also times counts alike x (reached_freed {n = n} range one used) = reached_freed range (omega (arith, alike.counted n, one))
-      (alike.there n used)
-  finding_along in_use also times counts alike x (unreachable {page = page} {last = last} order lost after before) =
-      let to = lost_along alike in
-      let from = lost_along (alike_back in_use also times counts alike) in
-      unreachable order (λ n low high. to n (lost n low high)) (λ is. after (from (suc last) is)) (λ n e is. before n e (from n is))
-  finding_along in_use also times counts alike x (out_of_range {n = n} out one) = out_of_range out (omega (arith, alike.counted n, one))
+  finding_along in_use also times counts alike x h = search (rules, freed_twice, reached_freed, alike_back, unreachable, out_of_range)
 
   pub reported_along : (in_use also : ℕ → Type 0) (times counts : ℕ → ℕ) → IsAlike in_use also times counts
       → (findings : List Finding) → AreAllFindings mark in_use times findings → AreAllFindings mark also counts findings
-  reported_along in_use also times counts alike findings reported =
-      let back = alike_back in_use also times counts alike in
-      record {
-        exact = λ x. (
-          λ in_list. finding_along in_use also times counts alike x ((reported.exact x).0 in_list),
-          λ is. (reported.exact x).1
-              (finding_along also in_use counts times back x is),
-        );
-        rises = reported.rises;
-        silent = λ e n is. reported.silent e n (lost_along back n is);
-      }
+  reported_along in_use also times counts alike findings reported = grind (arith, alike_back, finding_along)
 
 module _ (mark : ℕ) (in_use : ℕ → Type 0) (times : ℕ → ℕ) where
   -- nothing is reported,
@@ -79,12 +55,7 @@ module _ (mark : ℕ) (in_use : ℕ → Type 0) (times : ℕ → ℕ) where
 
   -- and where they are, nothing is reported
   lists_none : ListsFree mark in_use times → (x : Finding) → IsAccountFinding mark in_use times x → ⊥
-  lists_none lists x (freed_twice {n = n} range two) = let one = lists.once n in omega (arith, one, two)
-  lists_none lists x (reached_freed {n = n} range one used) = (lists.free n one).unused used
-  lists_none lists x (unreachable {page = page} {last = last} order lost after before) =
-      let gone = lost page (omega arith) order in let one = lists.listed page gone.free in let zero = gone.unlisted in omega (arith, one, zero)
-  lists_none lists x (out_of_range {n = n} (inl low) one) = let two = (lists.free n one).above_metas in omega (arith, low, two)
-  lists_none lists x (out_of_range {n = n} (inr high) one) = let below = (lists.free n one).below in omega (arith, high, below)
+  lists_none lists x h = grind arith
 
   pub finding_none : (findings : List Finding) → AreAllFindings mark in_use times findings → ListsFree mark in_use times → findings ≢ [] → ⊥
   finding_none [] reported lists some = some refl
@@ -101,16 +72,10 @@ module _ (file : List ℕ) (meta : Meta) where
   module _ (used : ℕ → Type 0) where
     reported_alone : (x : Finding) → meta.freelist ≢ NO_FREELIST → IsFreelistFinding file meta used x → ((y : Finding) → IsFreelistFinding file meta used y → y ≡ x)
         → AreAccountFindings file meta used (x ∷ [])
-    reported_alone x ne is only = record {
-      written = ne;
-      of_page = λ y of. ap (λ (z : Finding). z ∷ []) (sym (only y of));
-      rises = λ none. absurd (none x is);
-      exact = λ none. absurd (none x is);
-    }
+    reported_alone x ne is only = grind arith
 
     only_fault : (fault : ℕ) → freelist_fault_of file meta ≡ Some fault → (y : Finding) → IsFreelistFinding file meta used y → y ≡ finding fault meta.freelist
-    only_fault fault e y (bad {fault = other} f) = let same : other ≡ fault = same_Some other fault (sym f ∙ e) in ap (λ (number : ℕ). finding number meta.freelist) same
-    only_fault fault e y (shared {n = n} is at lowest) = absurd (none-some fault (sym is.good ∙ e))
+    only_fault fault e y h = grind arith
 
     -- the freelist's own page has a fault
     pub reported_fault : (fault : ℕ) → freelist_fault_of file meta ≡ Some fault → AreAccountFindings file meta used (finding fault meta.freelist ∷ [])
@@ -121,9 +86,7 @@ module _ (file : List ℕ) (meta : Meta) where
 
     only_shared : (n : ℕ) → IsInFreelist file meta n → used n → ((k : ℕ) → IsInFreelist file meta k → used k → n ≤ k)
         → (y : Finding) → IsFreelistFinding file meta used y → y ≡ finding TWICE n
-    only_shared n is at lowest y (bad {fault = fault} f) = absurd (none-some fault (sym is.good ∙ f))
-    only_shared n is at lowest y (shared {n = k} also here least) =
-        let same : k ≡ n = (let a = lowest k also here in let b = least n is at in omega (arith, a, b)) in ap (λ (page : ℕ). finding TWICE page) same
+    only_shared n is at lowest y h = grind arith
 
     -- or its span shares a page
     pub reported_shared : (n : ℕ) → IsInFreelist file meta n → used n → ((k : ℕ) → IsInFreelist file meta k → used k → n ≤ k) → AreAccountFindings file meta used (finding TWICE n ∷ [])
@@ -132,27 +95,16 @@ module _ (file : List ℕ) (meta : Meta) where
   module _ (used : ℕ → Type 0) (ids : List ℕ) (good : freelist_fault_of file meta ≡ None) (are : free_ids_of file meta ≡ Some ids) where
     module _ (apart : (n : ℕ) → IsInFreelist file meta n → used n → ⊥) (findings : List Finding) (reported : AreAllFindings meta.high_water (IsInUse file meta used) (times_in ids) findings) where
       pub accounts_right : findings ≡ [] → HasAccounts file meta used
-      accounts_right e = record {
-        good = good;
-        apart = apart;
-        lists = λ others f. subst (λ (xs : List ℕ). ListsFree meta.high_water (IsInUse file meta used) (times_in xs)) (same_Some ids others (sym are ∙ f))
-            (lists_free meta.high_water (IsInUse file meta used) (times_in ids) (subst (AreAllFindings meta.high_water (IsInUse file meta used) (times_in ids)) e reported));
-      }
+      accounts_right e = grind (arith, lists_free)
 
       pub accounts_wrong : findings ≢ [] → HasAccounts file meta used → ⊥
       accounts_wrong some has = finding_none meta.high_water (IsInUse file meta used) (times_in ids) findings reported (has.lists ids are) some
 
       no_page : (x : Finding) → IsFreelistFinding file meta used x → ⊥
-      no_page x (bad fault) = absurd (cc)
-      no_page x (shared {n = n} is at lowest) = apart n is at
+      no_page x h = grind arith
 
       pub accounts_reported : AreAccountFindings file meta used findings
-      accounts_reported = record {
-        written = written ids are;
-        of_page = λ x is. absurd (no_page x is);
-        rises = λ none. reported.rises;
-        exact = λ none others e. subst (λ (xs : List ℕ). (x : Finding) → Contains findings x ↔ IsAccountFinding meta.high_water (IsInUse file meta used) (times_in xs) x) (same_Some ids others (sym are ∙ e)) reported.exact;
-      }
+      accounts_reported = grind arith
 
 -- once the freelist's span is claimed, all pages in use are claimed
 pub claims_reported : (file : List ℕ) (meta : Meta) (old new : List PageUse) (ids : List ℕ) (findings : List Finding) → ClaimsFreelist file meta old new

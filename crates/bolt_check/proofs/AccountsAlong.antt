@@ -1,5 +1,5 @@
 -- The accounts depend on which pages are used and on what the freelist shows, and not on how that is said or in which file it is.
-use Rattle.std.proofs.Common.{◌≡◌, ◌≢◌, ◌∙◌, ◌↔◌, ◌+◌, ◌≤◌, ℕ, inl, inr, List, None, refl, subst, sym}
+use Rattle.std.proofs.Common.{arith, ◌≡◌, ◌≢◌, ◌∙◌, ◌↔◌, ℕ, List, None, refl, sym}
 use Rattle.bolt_check.proofs.Words.{AreAccountFindings, bad, Finding, free_ids_of, freelist_fault_of, HasAccounts, IsFree, IsFreelistFinding, IsInFreelist, IsInUse, Meta, NO_FREELIST, page_overflow, shared, times_in}
 use Rattle.bolt_check.proofs.AccountLemmas.{IsAlike, alike_back, finding_along}
 
@@ -13,24 +13,14 @@ pub own_freelist : (file : List ℕ) (meta : Meta) → SameFreelist file file me
 own_freelist file meta = record { fault = refl; ids = λ _. refl; overflow = λ _ _. refl }
 
 pub freelist_back : (file other : List ℕ) (meta : Meta) → SameFreelist file other meta → SameFreelist other file meta
-freelist_back file other meta same = record {
-  fault = sym same.fault;
-  ids = λ good. sym (same.ids (sym same.fault ∙ good));
-  overflow = λ written good. sym (same.overflow written (sym same.fault ∙ good));
-}
+freelist_back file other meta same = grind arith
 
 in_freelist_along : (file other : List ℕ) (meta : Meta) → SameFreelist file other meta → (n : ℕ) → IsInFreelist file meta n → IsInFreelist other meta n
-in_freelist_along file other meta same n is = record {
-  written = is.written;
-  good = same.fault ∙ is.good;
-  from = is.from;
-  last = subst (λ over. n ≤ meta.freelist + over) (sym (same.overflow is.written is.good)) is.last;
-}
+in_freelist_along file other meta same n is = grind arith
 
 in_use_along : (file other : List ℕ) (meta : Meta) → SameFreelist file other meta → (used also : ℕ → Type 0) → ((n : ℕ) → used n → also n)
     → (n : ℕ) → IsInUse file meta used n → IsInUse other meta also n
-in_use_along file other meta same used also to n (inl is) = inl (to n is)
-in_use_along file other meta same used also to n (inr is) = inr (in_freelist_along file other meta same n is)
+in_use_along file other meta same used also to n h = grind arith
 
 free_along : (mark : ℕ) (in_use also : ℕ → Type 0) → ((n : ℕ) → also n → in_use n) → (n : ℕ) → IsFree mark in_use n → IsFree mark also n
 free_along mark in_use also back n free = record { above_metas = free.above_metas; below = free.below; unused = λ is. free.unused (back n is) }
@@ -54,8 +44,7 @@ has_accounts_along file other meta same used also alike has =
 module _ (file : List ℕ) (meta : Meta) where
   page_finding_along : (used also : ℕ → Type 0) → ((n : ℕ) → used n ↔ also n) → (x : Finding) → IsFreelistFinding file meta used x
       → IsFreelistFinding file meta also x
-  page_finding_along used also same x (bad e) = bad e
-  page_finding_along used also same x (shared {n = n} is at lowest) = shared is ((same n).0 at) (λ k in_span is. lowest k in_span ((same k).1 is))
+  page_finding_along used also same x h = grind (arith, bad, shared)
 
   pub account_findings_along : (used also : ℕ → Type 0) → ((n : ℕ) → used n ↔ also n) → (findings : List Finding)
       → AreAccountFindings file meta used findings → AreAccountFindings file meta also findings

@@ -1,6 +1,6 @@
 -- Two files that agree under a meta: their pages show the same or fail the same test, and so do their freelists. So the trees and the accounts
 -- of both are right, or of neither. For the crates above: where bytes are added that no page has, or left out, only this is to be shown.
-use Rattle.std.proofs.Common.{◌≡◌, ◌↔◌, ℕ, List, Option, refl, subst, sym}
+use Rattle.std.proofs.Common.{arith, ◌≡◌, ◌↔◌, ℕ, List, Option, refl, subst, sym}
 use Rattle.std.proofs.Math.Path.{fun_ext}
 use Rattle.bolt_check.proofs.{AccountsAlong.SameFreelist, AccountsAlong.freelist_back, AccountsAlong.has_accounts_along}
 use Rattle.bolt_check.proofs.Words.{HasRightAccounts, HasShape, HasSoundTrees, IsCovered, IsMetaPage, IsUsed, Meta, Nodes, node_at, page_at, page_fault, PageView}
@@ -32,10 +32,7 @@ module _ (file other : List ℕ) (meta : Meta) (agree : Agree file other meta) w
   used_by nodes n = IsCovered nodes (reached nodes meta.root) IsMetaPage n
 
   used_along : (n : ℕ) → IsUsed file meta n ↔ IsUsed other meta n
-  used_along n = (
-    λ used. subst (λ (nodes : Nodes). used_by nodes n) (sym same_nodes) used,
-    λ used. subst (λ (nodes : Nodes). used_by nodes n) same_nodes used,
-  )
+  used_along n = grind (arith, same_nodes)
 
   pub accounts_along : HasRightAccounts file meta → HasRightAccounts other meta
   accounts_along right = has_accounts_along file other meta agree.freelist (IsUsed file meta) (IsUsed other meta) used_along right

@@ -1,27 +1,14 @@
 -- Claiming page after page.
-use Rattle.std.proofs.Common.{◌≡◌, ◌≢◌, ◌∙◌, ℕ, ◌+◌, ◌<◌, ◌≤◌, ◌^◌, ◌⊎◌, List, None, length, set, inl, inr, sym, ap, arith, get_or-set_same, get_or-set_other}
-use Rattle.bolt_check.proofs.Words.{cases_eq, cases_lt, claims_file, ClaimsFreelist, false≢true, first_use, freelist_fault_of, HasRoom, is_used, IsClaimed, IsInFreelist, IsUnclaimed, Meta, NO_FREELIST, page_overflow, PageUse, times_of, use_at}
+use Rattle.std.proofs.Common.{rules, ◌≡◌, ◌≢◌, ◌∙◌, ℕ, ◌+◌, ◌<◌, ◌≤◌, ◌^◌, ◌⊎◌, List, None, length, inl, inr, sym, ap, arith}
+use Rattle.bolt_check.proofs.Words.{claims_file, ClaimsFreelist, false≢true, freelist_fault_of, HasRoom, is_used, IsClaimed, IsInFreelist, IsUnclaimed, Meta, NO_FREELIST, page_overflow, PageUse, times_of, use_at}
 use Rattle.bolt_check.proofs.{FreelistLemmas.freelist_within, Spans.outside, Spans.still_unlisted}
 use Rattle.bolt_format.specs.Bytes.{IsBytes}
 use Rattle.bolt_check.specs.{Claims.claims_visited, Counts.counted, declared.claims.Claims.Claims, declared.table.PageUse.TheVariants.Used}
 
--- what holds of Used and of the pages so far holds of one page more
-pub more_of : (P : PageUse → Type 0) → P Used → (t : List PageUse) (from n : ℕ) → n < length t → ((k : ℕ) → from ≤ k → k < n → P (use_at t k))
-    → (k : ℕ) → from ≤ k → k < n + 1 → P (use_at (set t n Used) k)
-more_of P is t from n h before k a b =
-    elim (cases_lt k n) [
-      | inl lt ↦ let ne : k ≢ n = omega arith in rw get_or-set_other (before k a lt)
-      | inr ge ↦ let e : k ≡ n = omega arith in rw (e, get_or-set_same t n Used (first_use n) h) is
-    ]
-
 -- a span whose first page is used as the others are
 pub all_used : (t : List PageUse) (from last : ℕ) (u : PageUse) → use_at t from ≡ u → ((k : ℕ) → from < k → k ≤ last → use_at t k ≡ u)
     → (k : ℕ) → from ≤ k → k ≤ last → use_at t k ≡ u
-all_used t from last u first later k a b =
-    elim (cases_eq k from) [
-      | inl same ↦ ap (use_at t) same ∙ first
-      | inr other ↦ later k (omega arith) b
-    ]
+all_used t from last u first later k a b = search rules
 
 -- the freelist's span, of which nothing was claimed, is claimed
 pub claims_freelist : (file : List ℕ) (meta : Meta) (old new : List PageUse) (last : ℕ) → last ≡ meta.freelist + page_overflow file meta meta.freelist
@@ -53,23 +40,13 @@ pub lowest_shared : (file : List ℕ) (meta : Meta) (old : List PageUse) (last n
     → meta.freelist ≢ NO_FREELIST → freelist_fault_of file meta ≡ None
     → (meta.freelist ≤ n) × (n ≤ last) × IsClaimed old n × ((k : ℕ) → meta.freelist ≤ k → k < n → IsUnclaimed old k)
     → IsInFreelist file meta n × IsClaimed old n × ((k : ℕ) → IsInFreelist file meta k → IsClaimed old k → n ≤ k)
-lowest_shared file meta old last n end written good (low, high, claimed, none) = (
-  record { written = written; good = good; from = low; last = omega (arith, end, high) },
-  claimed,
-  λ k is at. elim (cases_lt k n) [
-    | inl before ↦ absurd (false≢true (sym (none k is.from before) ∙ at))
-    | inr after ↦ after
-  ],
-)
+lowest_shared file meta old last n end written good (low, high, claimed, none) = grind arith
 
 -- the freelist's span lies in a table of the pages that begin in the file
 pub span_within : (file : List ℕ) (meta : Meta) (table : List PageUse) (overflow : ℕ) → overflow ≡ page_overflow file meta meta.freelist
     → meta.freelist ≢ NO_FREELIST → freelist_fault_of file meta ≡ None
     → HasRoom file meta table → meta.freelist + overflow < length table
-span_within file meta table overflow same written good pages =
-    let in_file = freelist_within file meta written good in
-    let inside = pages (meta.freelist + page_overflow file meta meta.freelist) in_file.1 in_file.0 in
-    omega (arith, inside, same)
+span_within file meta table overflow same written good pages = grind (arith, freelist_within)
 
 -- the count of visits is a number of 64 bits
 pub visited_fits : (claims : Claims) → claims_visited claims < 2 ^ 64

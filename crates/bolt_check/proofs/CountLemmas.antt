@@ -1,4 +1,5 @@
 -- How often a number is in a sorted list.
+use Rattle.std.proofs.lemmas.Grind.{common_steps}
 use Rattle.std.proofs.Common.{◌≡◌, ◌∙◌, ◌==◌, ℕ, zero, suc, ◌+◌, ◌<◌, ◌≤◌, List, [], ◌∷◌, length, get_or, cond, refl, ap, arith, inl, inr}
 use Rattle.std.specs.List.Sorted.{IsNonDecreasing}
 use Rattle.bolt_check.proofs.Words.{cases_eq, eq-eqb, ne_eqb, sum_by-cons, times_in}
@@ -20,9 +21,8 @@ times_none (x ∷ xs) n none = times_there x n xs (none 0 (omega arith)) ∙ tim
 
 -- what stands at a place stands there once at least
 pub times_some : (xs : List ℕ) (n k : ℕ) → k < length xs → get_or xs k 0 ≡ n → 1 ≤ times_in xs n
-times_some [] n k h e = absurd (omega arith)
-times_some (x ∷ xs) n zero h e = omega (arith, times_here x n xs e)
 times_some (x ∷ xs) n (suc k) h e = omega (arith, times_cons x n xs, times_some xs n k (omega arith) e)
+times_some xs n k h e = grind (arith, common_steps, times_here)
 
 -- and what stands once at least stands at a place
 pub place_of : (xs : List ℕ) (n : ℕ) → 1 ≤ times_in xs n → (k : ℕ) × ((k < length xs) × (get_or xs k 0 ≡ n))
@@ -49,6 +49,5 @@ times_once (x ∷ xs) (suc i) up h first next =
 
 -- and at least twice, where it is
 pub times_twice : (xs : List ℕ) (i : ℕ) → suc i < length xs → get_or xs (suc i) 0 ≡ get_or xs i 0 → 2 ≤ times_in xs (get_or xs i 0)
-times_twice [] i h e = absurd (omega arith)
-times_twice (x ∷ xs) zero h e = omega (arith, times_here x x xs refl, times_some xs x 0 (omega arith) e)
 times_twice (x ∷ xs) (suc i) h e = omega (arith, times_cons x (get_or xs i 0) xs, times_twice xs i (omega arith) e)
+times_twice xs i h e = grind (arith, common_steps, times_here, times_some)

@@ -1,7 +1,7 @@
 -- The spots that are still to be visited, as ways: the first number of a way picks the spot, the rest leads on from it.
-use Rattle.std.proofs.Common.{◌≡◌, ℕ, zero, suc, ◌<◌, ◌⊎◌, inl, inr, Bool, List, [], ◌∷◌, ◌++◌, Option, Some, None, Ok, slice_get, refl, sym, ap, subst, arith, ◌∙◌}
-use Rattle.bolt_check.proofs.Words.{At_inline, At_page, Before, Entry, Finding, follow, forest, IsClaimedBefore, IsClean, IsCovered, IsFirst, Key, Node, Nodes, PageSpot, places, somes, SpanHas, Spot, step, step_entry, Tests}
-use Rattle.bolt_check.proofs.{Judging.tests_same, Judging.span_spot, Visiting.Visits}
+use Rattle.std.proofs.Common.{rules, ◌≡◌, ℕ, zero, suc, ◌<◌, ◌⊎◌, inl, inr, Bool, List, [], ◌∷◌, ◌++◌, Option, Some, None, Ok, slice_get, refl, sym, ap, subst, arith, ◌∙◌}
+use Rattle.bolt_check.proofs.Words.{At_inline, At_page, Before, Entry, Finding, follow, forest, IsClaimedBefore, IsClean, IsCovered, IsFirst, Key, Node, Nodes, PageSpot, places, somes, Spot, step, step_entry, Tests}
+use Rattle.bolt_check.proofs.{Judging.tests_same, Visiting.Visits}
 
 pub follow_none : (nodes : Nodes) (way : List ℕ) → follow nodes None way ≡ None
 follow_none nodes [] = refl
@@ -34,14 +34,12 @@ at_place os rest (inl j) = flat (slice_get os j)
 at_place os rest (inr k) = slice_get rest k
 
 at_up : (o : Option Spot) (os : List (Option Spot)) (rest : List Spot) (x : ℕ ⊎ ℕ) → at_place (o ∷ os) rest (up x) ≡ at_place os rest x
-at_up o os rest (inl j) = refl
-at_up o os rest (inr k) = refl
+at_up o os rest x = grind arith
 
 at_same : (os : List (Option Spot)) (rest : List Spot) (k : ℕ) → at_place os rest (where_is os k) ≡ slice_get (somes os ++ rest) k
-at_same [] rest k = refl
 at_same (None ∷ os) rest k = at_up None os rest (where_is os k) ∙ at_same os rest k
-at_same (Some s ∷ os) rest zero = refl
 at_same (Some s ∷ os) rest (suc k) = at_up (Some s) os rest (where_is os k) ∙ at_same os rest k
+at_same os rest k = grind arith
 
 abbrev Less : ℕ ⊎ ℕ → ℕ ⊎ ℕ → Type 0
 Less (inl i) (inl j) = i < j
@@ -50,50 +48,35 @@ Less (inr i) (inl j) = ⊥
 Less (inr i) (inr j) = i < j
 
 less_up : (x y : ℕ ⊎ ℕ) → Less x y → Less (up x) (up y)
-less_up (inl i) (inl j) h = omega arith
-less_up (inl i) (inr k) h = tt
-less_up (inr i) (inl j) h = absurd h
-less_up (inr i) (inr j) h = h
+less_up x y h = grind arith
 
 less_zero : (x : ℕ ⊎ ℕ) → Less (inl 0) (up x)
-less_zero (inl j) = omega arith
-less_zero (inr k) = tt
+less_zero x = grind arith
 
 where_rising : (os : List (Option Spot)) (k l : ℕ) → k < l → Less (where_is os k) (where_is os l)
-where_rising [] k l h = h
 where_rising (None ∷ os) k l h = less_up (where_is os k) (where_is os l) (where_rising os k l h)
-where_rising (Some s ∷ os) zero zero h = absurd (omega arith)
-where_rising (Some s ∷ os) zero (suc l) h = less_zero (where_is os l)
-where_rising (Some s ∷ os) (suc k) zero h = absurd (omega arith)
 where_rising (Some s ∷ os) (suc k) (suc l) h = less_up (where_is os k) (where_is os l) (where_rising os k l (omega arith))
+where_rising os k l h = grind (arith, less_zero)
 
 where_all : (os : List (Option Spot)) (rest : List Spot) (x : ℕ ⊎ ℕ) (t : Spot) → at_place os rest x ≡ Some t → (k : ℕ) × (where_is os k ≡ x)
-where_all [] rest (inl j) t e = absurd (nothing_is t e)
-where_all [] rest (inr k) t e = (k, refl)
-where_all (None ∷ os) rest (inl zero) t e = absurd (nothing_is t e)
-where_all (Some s ∷ os) rest (inl zero) t e = (0, refl)
 where_all (None ∷ os) rest (inl (suc j)) t e = let p = where_all os rest (inl j) t e in (p.0, ap up p.1)
 where_all (Some s ∷ os) rest (inl (suc j)) t e = let p = where_all os rest (inl j) t e in (suc p.0, ap up p.1)
 where_all (None ∷ os) rest (inr k) t e = let p = where_all os rest (inr k) t e in (p.0, ap up p.1)
 where_all (Some s ∷ os) rest (inr k) t e = let p = where_all os rest (inr k) t e in (suc p.0, ap up p.1)
+where_all os rest x t e = grind (arith, nothing_is)
 
 abbrev way_of : ℕ ⊎ ℕ → List ℕ → List ℕ
 way_of (inl j) v = 0 ∷ (j ∷ v)
 way_of (inr k) v = suc k ∷ v
 
 way_rising : (x y : ℕ ⊎ ℕ) (v w : List ℕ) → Less x y → Before (way_of x v) (way_of y w)
-way_rising (inl i) (inl j) v w h = inr (refl, inl h)
-way_rising (inl i) (inr k) v w h = inl (omega arith)
-way_rising (inr i) (inl j) v w h = absurd h
-way_rising (inr i) (inr j) v w h = inl (omega arith)
+way_rising x y v w h = grind arith
 
 way_same : (x : ℕ ⊎ ℕ) (v w : List ℕ) → Before v w → Before (way_of x v) (way_of x w)
-way_same (inl j) v w h = inr (refl, inr (refl, h))
-way_same (inr k) v w h = inr (refl, h)
+way_same x v w h = grind arith
 
 first_before : (x : ℕ ⊎ ℕ) (w : List ℕ) → Before (0 ∷ []) (way_of x w)
-first_before (inl j) w = inr (refl, tt)
-first_before (inr k) w = inl (omega arith)
+first_before x w = grind arith
 
 -- a way of the spots after a visit, as a way of those before it
 abbrev pub lift : List (Option Spot) → List ℕ → List ℕ
@@ -102,17 +85,11 @@ lift os (k ∷ v) = way_of (where_is os k) v
 
 lift_rising : (nodes : Nodes) (rest : List Spot) (os : List (Option Spot)) (b e : List ℕ) (t : Spot) → forest nodes (somes os ++ rest) b ≡ Some t
     → Before b e → Before (lift os b) (lift os e)
-lift_rising nodes rest os b [] t at h = absurd h
-lift_rising nodes rest os [] (l ∷ w) t at h = absurd (nothing_is t at)
-lift_rising nodes rest os (k ∷ v) (l ∷ w) t at (inl h) = way_rising (where_is os k) (where_is os l) v w (where_rising os k l h)
-lift_rising nodes rest os (k ∷ v) (l ∷ w) t at (inr h) =
-    let P : ℕ → Type 0 = λ z. Before (way_of (where_is os k) v) (way_of (where_is os z) w) in
-    subst P h.0 (way_same (where_is os k) v w h.1)
+lift_rising nodes rest os b e t at h = grind (arith, nothing_is, way_rising, where_rising)
 
 reach_way : (nodes : Nodes) (s : Spot) (rest : List Spot) (os : List (Option Spot)) → ((j : ℕ) → flat (slice_get os j) ≡ step nodes (Some s) j)
     → (x : ℕ ⊎ ℕ) (v : List ℕ) → forest nodes (s ∷ rest) (way_of x v) ≡ follow nodes (at_place os rest x) v
-reach_way nodes s rest os fits (inl j) v = let f : Option Spot → Option Spot = λ o. follow nodes o v in ap f (sym (fits j))
-reach_way nodes s rest os fits (inr k) v = refl
+reach_way nodes s rest os fits x v = grind arith
 
 reach_kid : (nodes : Nodes) (rest : List Spot) (os : List (Option Spot)) (k : ℕ) (v : List ℕ)
     → follow nodes (at_place os rest (where_is os k)) v ≡ forest nodes (somes os ++ rest) (k ∷ v)
@@ -124,8 +101,7 @@ lift_same nodes s rest os fits [] t e = absurd (nothing_is t e)
 lift_same nodes s rest os fits (k ∷ v) t e = reach_way nodes s rest os fits (where_is os k) v ∙ (reach_kid nodes rest os k v ∙ e)
 
 lift_after : (nodes : Nodes) (rest : List Spot) (os : List (Option Spot)) (b : List ℕ) (t : Spot) → forest nodes (somes os ++ rest) b ≡ Some t → Before (0 ∷ []) (lift os b)
-lift_after nodes rest os [] t e = absurd (nothing_is t e)
-lift_after nodes rest os (k ∷ v) t e = first_before (where_is os k) v
+lift_after nodes rest os b t e = grind arith
 
 all_at : (nodes : Nodes) (rest : List Spot) (os : List (Option Spot)) (x : ℕ ⊎ ℕ) (v : List ℕ) (t : Spot) → follow nodes (at_place os rest x) v ≡ Some t
     → (b : List ℕ) × ((way_of x v ≡ lift os b) × (forest nodes (somes os ++ rest) b ≡ Some t))
@@ -146,9 +122,8 @@ lift_all nodes s rest os fits (suc k ∷ v) t e = inr (all_at nodes rest os (inr
 
 places_step : (is_leaf : Bool) (s : PageSpot) (entries : List Entry) (j : ℕ)
     → flat (slice_get (places is_leaf s entries) j) ≡ step_entry is_leaf s (slice_get entries j) (slice_get entries (suc j))
-places_step is_leaf s [] j = refl
-places_step is_leaf s (e ∷ entries) zero = refl
 places_step is_leaf s (e ∷ entries) (suc j) = places_step is_leaf s entries j
+places_step is_leaf s entries j = grind arith
 
 pub kids_step : (nodes : Nodes) (s : PageSpot) (node : Node) → nodes s.number ≡ Ok node → (j : ℕ)
     → flat (slice_get (places node.is_leaf s node.entries) j) ≡ step nodes (Some (At_page s)) j
@@ -157,13 +132,7 @@ kids_step nodes s node e j = rw e (places_step node.is_leaf s node.entries j)
 -- where these places are what s leads to, they take its place
 visits : (nodes : Nodes) (s : Spot) (rest : List Spot) (os : List (Option Spot)) → ((j : ℕ) → flat (slice_get os j) ≡ step nodes (Some s) j)
     → Visits (forest nodes (s ∷ rest)) (forest nodes (somes os ++ rest)) (Some s) (0 ∷ []) (lift os)
-visits nodes s rest os fits = record {
-  leads = λ t e. e;
-  same = lift_same nodes s rest os fits;
-  rising = λ b e t u at_b at_e. lift_rising nodes rest os b e t at_b;
-  after = λ t e. lift_after nodes rest os;
-  all = lift_all nodes s rest os fits;
-}
+visits nodes s rest os fits = search (rules, lift_same, lift_rising, lift_after, lift_all)
 
 -- a page's visit
 pub page_visits : (nodes : Nodes) (s : PageSpot) (node : Node) (rest : List Spot) → nodes s.number ≡ Ok node
@@ -177,13 +146,10 @@ pub inline_visits : (nodes : Nodes) (host : ℕ) (keys : List Key) (rest : List 
 inline_visits nodes host keys rest = visits nodes (At_inline host keys) rest [] (λ j. refl)
 
 none_before_first : (nodes : Nodes) (spots : List Spot) (v : List ℕ) (t : Spot) → Before v (0 ∷ []) → forest nodes spots v ≡ Some t → ⊥
-none_before_first nodes spots [] t h e = nothing_is t e
-none_before_first nodes spots (i ∷ v) t (inl h) e = omega arith
-none_before_first nodes spots (i ∷ v) t (inr h) e = h.1
+none_before_first nodes spots v t h e = grind arith
 
 only_start : (nodes : Nodes) (c : ℕ → Type 0) (spots : List Spot) (n : ℕ) → IsClaimedBefore nodes (forest nodes spots) c (0 ∷ []) n → c n
-only_start nodes c spots n (inl h) = h
-only_start nodes c spots n (inr (v, (lt, h))) = let p = span_spot nodes (forest nodes spots v) n h in absurd (none_before_first nodes spots v p.0 lt p.1.0)
+only_start nodes c spots n h = grind arith
 
 -- a visit that found something
 pub found_step : (nodes : Nodes) (c : ℕ → Type 0) (s : Spot) (rest : List Spot) (x : Finding) → Tests nodes c s x → IsFirst nodes (forest nodes (s ∷ rest)) c x
@@ -196,16 +162,14 @@ found_step nodes c s rest x m = record {
 }
 
 pub forest_empty : (nodes : Nodes) (way : List ℕ) → forest nodes [] way ≡ None
-forest_empty nodes [] = refl
-forest_empty nodes (k ∷ way) = follow_none nodes way
+forest_empty nodes way = grind (arith, follow_none)
 
 -- nothing is left to visit
 pub clean_end : (nodes : Nodes) (c : ℕ → Type 0) → IsClean nodes (forest nodes []) c
 clean_end nodes c = record { passes = λ way s e. absurd (nothing_is s (sym (forest_empty nodes way) ∙ e)) }
 
 pub covered_end : (nodes : Nodes) (c : ℕ → Type 0) (n : ℕ) → IsCovered nodes (forest nodes []) c n → c n
-covered_end nodes c n (inl h) = h
-covered_end nodes c n (inr (v, h)) = absurd (subst (λ (o : Option Spot). SpanHas nodes o n) (forest_empty nodes v) h)
+covered_end nodes c n h = grind (arith, forest_empty)
 
 -- the search begins with the root alone
 abbrev pub tail : List ℕ → List ℕ
@@ -213,13 +177,10 @@ tail [] = []
 tail (i ∷ way) = way
 
 root_way : (nodes : Nodes) (s : Spot) (way : List ℕ) (t : Spot) → forest nodes (s ∷ []) way ≡ Some t → way ≡ 0 ∷ tail way
-root_way nodes s [] t e = absurd (nothing_is t e)
-root_way nodes s (zero ∷ v) t e = refl
-root_way nodes s (suc k ∷ v) t e = absurd (nothing_is t (sym (follow_none nodes v) ∙ e))
+root_way nodes s way t e = grind (arith, follow_none)
 
 tail_before : (a b : List ℕ) → Before (0 ∷ a) (0 ∷ b) → Before a b
-tail_before a b (inl l) = absurd (omega arith)
-tail_before a b (inr l) = l.1
+tail_before a b h = grind arith
 
 pub root_visits : (nodes : Nodes) (s : Spot) → Visits (follow nodes (Some s)) (forest nodes (s ∷ [])) None [] tail
 root_visits nodes s = record {

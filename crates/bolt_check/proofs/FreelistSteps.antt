@@ -1,19 +1,17 @@
 -- The findings on what the freelist lists and lacks, page by page.
-use Rattle.std.proofs.Common.{◌≡◌, ◌∙◌, ℕ, suc, ◌+◌, ◌<◌, ◌≤◌, max, inl, inr, List, [], ◌∷◌, ◌++◌, length, get_or, refl, sym, ap, subst, arith, append-nil, add-one, nat_lt, ◌==◌}
+use Rattle.std.proofs.lemmas.List.{get_or_past}
+use Rattle.std.proofs.Common.{rules, ◌≡◌, ◌∙◌, ℕ, suc, ◌+◌, ◌<◌, ◌≤◌, max, inl, inr, List, [], ◌∷◌, ◌++◌, length, get_or, refl, sym, ap, subst, arith, append-nil, add-one, nat_lt, ◌==◌}
 use Rattle.std.proofs.lemmas.Bool.{and_from, and_parts, cases_Bool, eqb-true}
-use Rattle.std.proofs.lemmas.List.Elements.{All-contains}
-use Rattle.bolt_check.proofs.Words.{AreAllFindings, AreFindingsBelow, both_ways, cases_lt, cond-false, cond-true, eq-eqb, false≢true, Finding, finding, Free, FREE_RANGE, FREED_TWICE, FreeTwice, HasFindingsTo, is_in_use, is_used, IsAccountFinding, IsBeyondTo, IsInRange, IsLost, IsPastTo, IsLostInterval, IsSettled, listed_times, Freelist, lt-ltb, ltb-true, page_findings, PageUse, interval_findings, times_in, times_of, Unused, use_at}
+use Rattle.bolt_check.proofs.Words.{AreAllFindings, AreFindingsBelow, both_ways, cases_lt, cond-false, cond-true, eq-eqb, false≢true, Finding, finding, FREE_RANGE, FREED_TWICE, HasFindingsTo, is_in_use, is_used, IsAccountFinding, IsBeyondTo, IsInRange, IsLost, IsPastTo, IsLostInterval, IsSettled, listed_times, Freelist, lt-ltb, ltb-true, page_findings, PageUse, interval_findings, times_in, times_of, Unused, use_at}
 use Rattle.bolt_check.proofs.CountLemmas.{place_of, times_none, times_once, times_some, times_twice}
-use Rattle.bolt_check.proofs.TableLemmas.{past_metas, past_unlisted}
-use Rattle.bolt_check.proofs.PageLemmas.{twice, reached, lost, range, not_lost_listed, on_own_page, reports_page, reports_range, reports_twice, reports_well}
+use Rattle.bolt_check.proofs.TableLemmas.{past_metas, first_unlisted}
+use Rattle.bolt_check.proofs.PageLemmas.{twice, range, not_lost_listed, on_own_page, reports_page, reports_range, reports_twice, reports_well}
 use Rattle.bolt_check.proofs.AccountFindingLemmas.{Reports, reported_append, reports_none, reports_interval}
 use Rattle.bolt_check.specs.Private.Freelists.{is_repeated, repeat_findings}
 
 module _ (freelist : Freelist) (settled : IsSettled freelist) where
   unused_past : (n : ℕ) → length freelist.table.now ≤ n → is_in_use freelist n → ⊥
-  unused_past n h claimed =
-      let none = let wide = settled.wide in past_metas freelist.table.now n (omega (arith, wide, h)) h in
-      false≢true (sym (ap is_used none) ∙ claimed)
+  unused_past n h claimed = grind (arith, past_metas)
 
   pub times_table : (n : ℕ) → n < length freelist.table.now → listed_times freelist n ≡ times_of (use_at freelist.table.now n)
   unfolding listed_times
@@ -22,45 +20,23 @@ module _ (freelist : Freelist) (settled : IsSettled freelist) where
 
   pub times_past : (n : ℕ) → length freelist.table.now ≤ n → listed_times freelist n ≡ times_in freelist.past.now n
   unfolding listed_times
-  times_past n h = let none = past_unlisted freelist.table.now n h in omega (arith, none)
+  times_past n h = grind (arith, get_or_past, first_unlisted)
 
   -- page n of the table, which is lost
   lost_here : (n : ℕ) → n < length freelist.table.now → use_at freelist.table.now n ≡ Unused → IsLost freelist.mark (is_in_use freelist) (listed_times freelist) n
-  lost_here n h e = record {
-    free = record {
-      above_metas = elim (cases_lt n 2) [ inl low ↦ absurd (false≢true (sym (ap is_used e) ∙ settled.metas n low)) | inr high ↦ high ];
-      below = let end = settled.below in omega (arith, end);
-      unused = λ claimed. false≢true (sym (ap is_used e) ∙ claimed);
-    };
-    unlisted = times_table n h ∙ ap times_of e;
-  }
+  lost_here n h e = grind (arith, cases_lt, false≢true, times_table)
 
   -- or not
   kept_here : (n : ℕ) (page_use : PageUse) → n < length freelist.table.now → use_at freelist.table.now n ≡ page_use → (page_use ≡ Unused → ⊥)
       → IsLost freelist.mark (is_in_use freelist) (listed_times freelist) n → ⊥
-  kept_here n Unused h e ne gone = ne refl
-  kept_here n Free h e ne gone = omega (arith, times_table n h ∙ ap times_of e, gone.unlisted)
-  kept_here n FreeTwice h e ne gone = omega (arith, times_table n h ∙ ap times_of e, gone.unlisted)
-  kept_here n u h e ne gone = gone.free.unused (ap is_used e)
+  kept_here n page_use h e ne gone = grind (arith, times_table)
 
   pub table_lost : (n from : ℕ) (findings : List Finding) → n < length freelist.table.now → use_at freelist.table.now n ≡ Unused
       → HasFindingsTo freelist from n findings → HasFindingsTo freelist from (suc n) findings
-  table_lost n from findings h e reported = record {
-    reported = reported.reported;
-    interval = record {
-      begins = reported.interval.begins;
-      lost = λ k low high. elim (cases_lt k n) [
-        | inl before ↦ reported.interval.lost k low before
-        | inr here ↦ let same : n ≡ k = omega arith in subst (IsLost freelist.mark (is_in_use freelist) (listed_times freelist)) same (lost_here n h e)
-      ];
-    };
-  }
+  table_lost n from findings h e reported = search (rules, cases_lt, lost_here)
 
   interval_after : (n : ℕ) → (IsLost freelist.mark (is_in_use freelist) (listed_times freelist) n → ⊥) → IsLostInterval freelist.mark (is_in_use freelist) (listed_times freelist) (suc n) (suc n)
-  interval_after n kept = record {
-    begins = λ before e gone. (let same : before ≡ n = omega arith in kept (subst (IsLost freelist.mark (is_in_use freelist) (listed_times freelist)) same gone));
-    lost = λ k low high. absurd (omega arith);
-  }
+  interval_after n kept = grind arith
 
   pub table_reported : (n from : ℕ) (findings : List Finding) (page_use : PageUse) → n < length freelist.table.now → from ≤ n → use_at freelist.table.now n ≡ page_use → (page_use ≡ Unused → ⊥)
       → HasFindingsTo freelist from n findings → HasFindingsTo freelist (suc n) (suc n) ((findings ++ interval_findings from n) ++ page_findings n page_use)
@@ -100,17 +76,11 @@ module _ (freelist : Freelist) (settled : IsSettled freelist) where
     id_first : (k : ℕ) → k < i → get_or freelist.past.now k 0 < get_or freelist.past.now i 0
     id_first k before = let up = settled.sorted k i 0 (omega arith) h in let done = reported.done k before (omega (arith, up)) in omega (arith, done)
 
-    id_listed : 1 ≤ listed_times freelist (get_or freelist.past.now i 0)
-    id_listed = let e = times_past (get_or freelist.past.now i 0) id_past in let some = times_some freelist.past.now (get_or freelist.past.now i 0) i h refl in omega (arith, e, some)
-
     id_kept : IsLost freelist.mark (is_in_use freelist) (listed_times freelist) (get_or freelist.past.now i 0) → ⊥
-    id_kept = not_lost_listed freelist.mark (is_in_use freelist) (listed_times freelist) (get_or freelist.past.now i 0) id_listed
+    id_kept = grind (arith, not_lost_listed, times_past, id_past, times_some)
 
     interval_before : IsLostInterval freelist.mark (is_in_use freelist) (listed_times freelist) from (get_or freelist.past.now i 0)
-    interval_before = record {
-      begins = reported.begins;
-      lost = λ n low high. reported.left n low (omega arith) (λ k order l e. let up = settled.sorted i k 0 order l in omega (arith, up, e));
-    }
+    interval_before = search rules
 
     -- whatever is reported of the id itself, all up to it is reported
     past_next : (ys : List Finding) → Reports freelist.mark (is_in_use freelist) (listed_times freelist) (get_or freelist.past.now i 0) (suc (get_or freelist.past.now i 0)) ys
@@ -151,10 +121,7 @@ module _ (freelist : Freelist) (settled : IsSettled freelist) where
     ]
 
   pub past_end : (from i : ℕ) (findings : List Finding) → length freelist.past.now ≤ i → IsPastTo freelist from i findings → HasFindingsTo freelist from freelist.mark findings
-  past_end from i findings h reported = record {
-    reported = reported.reported;
-    interval = record { begins = reported.begins; lost = λ n low high. reported.left n low high (λ k order l. absurd (omega arith)) };
-  }
+  past_end from i findings h reported = search rules
 
   -- the interval of lost pages up to the mark
   pub mark_reported : (from : ℕ) (findings : List Finding) → from ≤ freelist.mark → HasFindingsTo freelist from freelist.mark findings
@@ -163,30 +130,17 @@ module _ (freelist : Freelist) (settled : IsSettled freelist) where
       reported_append reported.reported order (reports_interval order reported.interval (λ gone. (let under = gone.free.below in omega (arith, under))))
 
   pub beyond_start : (findings : List Finding) → AreFindingsBelow freelist.mark (is_in_use freelist) (listed_times freelist) freelist.mark findings → IsBeyondTo freelist 0 0 findings
-  beyond_start findings reported =
-      let end = settled.below in let two = settled.wide in let same : freelist.mark ≡ max freelist.mark 1 = omega (arith, end, two) in
-      record {
-        reported = subst (λ (next : ℕ). AreFindingsBelow freelist.mark (is_in_use freelist) (listed_times freelist) next findings) same reported;
-        done = λ k h. absurd (omega arith);
-      }
+  beyond_start findings reported = grind arith
 
   -- a finding from the mark on is on a listed page, which has a place among the ids
   beyond_place : (x : Finding) → IsAccountFinding freelist.mark (is_in_use freelist) (listed_times freelist) x → freelist.mark ≤ x.page
       → (k : ℕ) × ((k < length freelist.past.now) × (get_or freelist.past.now k 0 ≡ x.page))
-  beyond_place x is h = elim (on_own_page freelist.mark (is_in_use freelist) (listed_times freelist) x is) [
-    | twice e two r ↦ absurd (omega (arith, r.1, h))
-    | reached e one used r ↦ absurd (omega (arith, r.1, h))
-    | lost gone ↦ absurd (omega (arith, gone.free.below, h))
-    | range e one out ↦ place_of freelist.past.now x.page (omega (arith, one, times_past x.page (omega (arith, settled.below, h))))
-  ]
+  beyond_place x is h = grind (arith, on_own_page, twice, range, place_of, times_past)
 
   -- no finding is on a page between
   gap_none : (last i : ℕ) → i < length freelist.past.now → ((k : ℕ) → k < i → get_or freelist.past.now k 0 < max freelist.mark (suc last))
       → (x : Finding) → IsAccountFinding freelist.mark (is_in_use freelist) (listed_times freelist) x → max freelist.mark (suc last) ≤ x.page → x.page < get_or freelist.past.now i 0 → ⊥
-  gap_none last i h done x is low high = let (k, (l, at)) = beyond_place x is (omega arith) in elim (cases_lt k i) [
-    | inl before ↦ omega (arith, done k before, at)
-    | inr after ↦ omega (arith, settled.sorted i k 0 after l, at)
-  ]
+  gap_none last i h done x is low high = grind (arith, beyond_place)
 
   pub beyond_reported : (last i : ℕ) (findings : List Finding) → i < length freelist.past.now → freelist.mark ≤ get_or freelist.past.now i 0 → last < get_or freelist.past.now i 0
       → IsBeyondTo freelist last i findings → IsBeyondTo freelist (get_or freelist.past.now i 0) (suc i) (findings ++ finding FREE_RANGE (get_or freelist.past.now i 0) ∷ [])
@@ -206,20 +160,5 @@ module _ (freelist : Freelist) (settled : IsSettled freelist) where
         done = λ k l. (let up = settled.sorted k i 0 (omega arith) h in omega (arith, up));
       }
 
-  -- every finding is on a page below
-  all_below : (last i : ℕ) → length freelist.past.now ≤ i → ((k : ℕ) → k < i → get_or freelist.past.now k 0 < max freelist.mark (suc last))
-      → (x : Finding) → IsAccountFinding freelist.mark (is_in_use freelist) (listed_times freelist) x → x.page < max freelist.mark (suc last)
-  all_below last i h done x is = elim (cases_lt x.page freelist.mark) [
-    | inl under ↦ omega arith
-    | inr above ↦ let (k, (l, at)) = beyond_place x is above in omega (arith, done k (omega arith), at)
-  ]
-
   pub beyond_end : (last i : ℕ) (findings : List Finding) → length freelist.past.now ≤ i → IsBeyondTo freelist last i findings → AreAllFindings freelist.mark (is_in_use freelist) (listed_times freelist) findings
-  beyond_end last i findings h reported = record {
-    exact = λ x. (
-      λ in_list. All-contains (IsAccountFinding freelist.mark (is_in_use freelist) (listed_times freelist)) findings x reported.reported.sound in_list,
-      λ is. reported.reported.complete x is (all_below last i h reported.done x is),
-    );
-    rises = reported.reported.rises;
-    silent = λ e n gone. reported.reported.silent e n (let under = gone.free.below in omega (arith, under)) gone;
-  }
+  beyond_end last i findings h reported = grind (arith, beyond_place)

@@ -1,6 +1,6 @@
 -- The tests at a spot speak of the nodes that were claimed before only as a set.
-use Rattle.std.proofs.Common.{◌≡◌, ℕ, Option, Some, None, Ok, refl}
-use Rattle.bolt_check.proofs.Words.{At_inline, At_page, early, early_finding, Finding, inline_finding, late, node_finding, Nodes, PagePasses, PageSpot, PageTests, PageUse, Passes, SpanHas, Spot, Tests, UseAt, UseOf}
+use Rattle.std.proofs.Common.{arith, ◌≡◌, ℕ, Option, Some, None, refl}
+use Rattle.bolt_check.proofs.Words.{At_inline, At_page, early, Finding, late, Nodes, PagePasses, PageSpot, PageTests, PageUse, Passes, SpanHas, Spot, Tests, UseAt, UseOf}
 use Rattle.bolt_check.specs.Findings.{twice}
 
 page_same : (nodes : Nodes) (a b : ℕ → Type 0) (s : PageSpot) (x : Finding) → ((n : ℕ) → a n → b n) → ((n : ℕ) → b n → a n)
@@ -15,33 +15,19 @@ tests_same nodes a b (At_page s) x to from h = page_same nodes a b s x to from h
 tests_same nodes a b (At_inline host keys) x to from h = h
 
 pub passes_fewer : (nodes : Nodes) (a b : ℕ → Type 0) (s : Spot) → ((n : ℕ) → b n → a n) → Passes nodes a s → Passes nodes b s
-passes_fewer nodes a b (At_page s) from h = record { node = h.node; early = h.early; page = h.page; free = λ n i m. h.free n i (from n m); content = h.content }
-passes_fewer nodes a b (At_inline host keys) from h = h
+passes_fewer nodes a b s from h = grind arith
 
 fault_none : (x : Finding) (o : Option Finding) → o ≡ None → o ≡ Some x → ⊥
 fault_none x o e h = cc
 
 page_silent : (nodes : Nodes) (a : ℕ → Type 0) (s : PageSpot) (x : Finding) → PagePasses nodes a s → PageTests nodes a s x → ⊥
-page_silent nodes a s x h (early e) = fault_none x (early_finding nodes s) h.early e
-page_silent nodes a s x h (twice node e p l k) =
-    let q : nodes s.number ≡ Ok h.node = h.page in
-    let r : node ≡ h.node = cc in
-    h.free x.page (rw (← r) l.in_span) l.was
-page_silent nodes a s x h (late node e p f c) =
-    let q : nodes s.number ≡ Ok h.node = h.page in
-    let r : node ≡ h.node = cc in
-    fault_none x (node_finding h.node s) h.content (rw (← r) c)
+page_silent nodes a s x h g = grind arith
 
 pub passes_silent : (nodes : Nodes) (a : ℕ → Type 0) (s : Spot) (x : Finding) → Passes nodes a s → Tests nodes a s x → ⊥
-passes_silent nodes a (At_page s) x h t = page_silent nodes a s x h t
-passes_silent nodes a (At_inline host keys) x h t = fault_none x (inline_finding host keys) h t
+passes_silent nodes a s x h t = grind arith
 
 pub span_spot : (nodes : Nodes) (o : Option Spot) (n : ℕ) → SpanHas nodes o n → (t : Spot) × ((o ≡ Some t) × SpanHas nodes (Some t) n)
-span_spot nodes None n h = absurd h
-span_spot nodes (Some t) n h = (t, (refl, h))
-
-pub span_at : (nodes : Nodes) (o : Option Spot) (t : Spot) (n : ℕ) → o ≡ Some t → SpanHas nodes (Some t) n → SpanHas nodes o n
-span_at nodes o t n e h = rw e h
+span_spot nodes o n h = grind arith
 
 pub use_spot : (nodes : Nodes) (o : Option Spot) (n : ℕ) (u : PageUse) → UseOf nodes o n u → (t : Spot) × ((o ≡ Some t) × UseAt nodes t n u)
 use_spot nodes None n u h = absurd h

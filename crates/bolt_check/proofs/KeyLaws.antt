@@ -1,5 +1,5 @@
 -- Byte order, and the bounds of keys.
-use Rattle.std.proofs.Common.{◌≡◌, Bool, true, false, not, Option, Some, None, refl, ap}
+use Rattle.std.proofs.Common.{arith, ◌≡◌, Bool, true, false, not, Option, Some, None, refl, ap}
 use Rattle.std.proofs.lemmas.Cmp.{nat_list_cmp_total}
 use Rattle.std.proofs.lemmas.List.MinMax.{ranks_by}
 use Rattle.std.specs.Cmp.{IsStrictWeakOrder}
@@ -9,8 +9,7 @@ use Rattle.std.specs.declared.cmp.Ordering.TheVariants.{Less}
 use Rattle.bolt_check.proofs.Words.{both_ways, is_above, is_below, is_from, Key, key_lt, not-true}
 
 pub less_of : (o : Ordering) → is_lt o ≡ true → o ≡ Less
-less_of Less e = refl
-less_of o e = absurd (cc)
+less_of o e = grind arith
 
 pub not_true : (b : Bool) → not b ≡ true → b ≡ false
 not_true = not-true
@@ -19,8 +18,7 @@ order : IsStrictWeakOrder key_lt
 order = ranks_by nat_list_cmp_total (λ (key : Key). key)
 
 by_no : (b : Bool) → (b ≡ false → ⊥) → b ≡ true
-by_no true h = refl
-by_no false h = absurd (h refl)
+by_no b h = grind arith
 
 -- from a < b and b ≤ c
 pub lt_not_trans : (a b c : Key) → key_lt a b ≡ true → key_lt c b ≡ false → key_lt a c ≡ true
@@ -33,12 +31,10 @@ pub lt_strict : (a b : Key) → key_lt a b ≡ true → key_lt b a ≡ true → 
 lt_strict a b h k = both_ways (key_lt b a) (order.one_way a b h) k
 
 pub above_more : (before : Option Key) (a b : Key) → is_above before a ≡ true → key_lt a b ≡ true → is_above before b ≡ true
-above_more None a b e h = refl
-above_more (Some x) a b e h = lt_trans x a b e h
+above_more before a b e h = grind (arith, lt_trans)
 
 pub below_less : (upper : Option Key) (a b : Key) → is_below upper a ≡ true → key_lt b a ≡ true → is_below upper b ≡ true
-below_less None a b e h = refl
-below_less (Some x) a b e h = lt_trans b a x h e
+below_less upper a b e h = grind (arith, lt_trans)
 
 pub from_more : (lower : Option Key) (a b : Key) → is_from lower a ≡ true → key_lt b a ≡ false → is_from lower b ≡ true
 from_more None a b e h = refl

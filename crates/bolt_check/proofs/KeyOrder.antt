@@ -1,5 +1,5 @@
 -- That the tests of the keys find nothing, in the words of the shape.
-use Rattle.std.proofs.Common.{◌≡◌, ℕ, zero, suc, Bool, true, not, if◌then◌else◌, List, [], ◌∷◌, Option, Some, None, slice_get, refl, sym, arith}
+use Rattle.std.proofs.Common.{◌≡◌, ℕ, zero, suc, Bool, true, not, if◌then◌else◌, List, [], ◌∷◌, Option, Some, None, slice_get, refl, arith}
 use Rattle.bolt_check.proofs.Words.{first_of-none, is_above, is_below, is_from, Key, key_lt, keys_order_fault, none-some}
 use Rattle.bolt_check.proofs.KeyLaws.{above_more}
 use Rattle.bolt_check.specs.Keys.{KeysRise, key_order_fault}
@@ -7,8 +7,7 @@ use Rattle.bolt_check.specs.declared.finding.TheConstants.Finding.{ORDER, BELOW_
 
 three_none : (x y z : ℕ) (a b c : Bool) → (if not a then Some x else (if not b then Some y else (if not c then Some z else None))) ≡ None
     → (a ≡ true) × (b ≡ true) × (c ≡ true)
-three_none x y z true true true e = (refl, refl, refl)
-three_none x y z a b c e = absurd (none-some _ (sym e))
+three_none x y z a b c e = grind arith
 
 pub key_each : (before lower upper : Option Key) (keys : List Key) → keys_order_fault before lower upper keys ≡ None → (j : ℕ) (q : Key) → slice_get keys j ≡ Some q
     → (is_above before q ≡ true) × (is_from lower q ≡ true) × (is_below upper q ≡ true)
@@ -24,9 +23,7 @@ key_each before lower upper (p ∷ keys) e (suc j) q g =
     (above_more before p q t.0 (r.0), r.1, r.2)
 
 rise_cons : (p : Key) (keys : List Key) → ((j : ℕ) (q : Key) → slice_get keys j ≡ Some q → key_lt p q ≡ true) → KeysRise keys → KeysRise (p ∷ keys)
-rise_cons p keys first rest i zero a b lt g h = absurd (omega arith)
-rise_cons p keys first rest zero (suc j) a b lt g h = let same : p ≡ a = cc in rw (← same) (first j b h)
-rise_cons p keys first rest (suc i) (suc j) a b lt g h = rest i j a b (omega arith) g h
+rise_cons p keys first rest i h a b lt g k = grind arith
 
 pub key_rise : (before lower upper : Option Key) (keys : List Key) → keys_order_fault before lower upper keys ≡ None → KeysRise keys
 key_rise before lower upper [] e = λ i j a b lt g h. absurd (none-some a g)

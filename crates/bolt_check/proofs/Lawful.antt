@@ -1,10 +1,11 @@
 -- If the shape holds, the tests find nothing.
-use Rattle.std.proofs.Common.{◌≡◌, ◌≢◌, ℕ, suc, ◌≤◌, inl, inr, Bool, true, false, not, ◌&&◌, ◌==◌, if◌then◌else◌, nat_lt, List, [], ◌∷◌, ◌++◌, length, Option, Some, None, Result, Ok, Err, slice_get, ap, refl, subst, arith}
+use Rattle.std.proofs.lemmas.Grind.{common_steps}
+use Rattle.std.proofs.Common.{◌≡◌, ◌≢◌, ℕ, suc, ◌≤◌, Bool, true, false, not, ◌&&◌, ◌==◌, if◌then◌else◌, nat_lt, List, [], ◌∷◌, ◌++◌, length, Option, Some, None, Ok, slice_get, ap, refl, subst, arith}
 use Rattle.std.proofs.lemmas.Option.{cond_some}
-use Rattle.bolt_check.proofs.Words.{At_inline, At_page, bucket_spot, child_spot, early_finding, Entry, Finding, follow, HasShape, HasSoundTrees, is_below, is_from, IsClaimedBefore, IsClean, IsFirstFinding, IsMetaPage, Key, key_lt, keys_of, keys_order_fault, leads, Meta, nat_tests, ne_eqb, Node, node_at, node_finding, Nodes, PageSpot, Passes, root_spot, same_Some, SpanHas, Spot, step, step_entry, upper_from}
+use Rattle.bolt_check.proofs.Words.{At_inline, At_page, bucket_spot, child_spot, early_finding, Entry, Finding, follow, HasShape, HasSoundTrees, is_below, is_from, IsClaimedBefore, IsClean, IsFirstFinding, IsMetaPage, Key, key_lt, keys_of, keys_order_fault, leads, Meta, nat_tests, Node, node_finding, Nodes, PageSpot, Passes, root_spot, same_Some, SpanHas, Spot, step, step_entry, upper_from}
 use Rattle.bolt_check.proofs.{WayOrder.before_irreflexive, Forest.follow_some, Forest.nothing_is, Judging.passes_silent, KeyOrder.key_passes}
 use Rattle.bolt_check.proofs.Shaping.{snoc_reached}
-use Rattle.bolt_check.specs.Ways.{step_at, reached}
+use Rattle.bolt_check.specs.Ways.{reached}
 
 -- the bounds of a spot hold of all keys below it in its bucket
 abbrev pub Bounded : Nodes → Spot → Type 0
@@ -13,12 +14,10 @@ Bounded nodes (At_page s) = (address : List ℕ) (below j : ℕ) (key : Key) (un
 Bounded nodes (At_inline host keys) = Unit {0}
 
 upper_is : (next : Option Entry) (upper : Option Key) (key : Key) → ((n : Entry) → next ≡ Some n → key_lt key n.key ≡ true) → is_below upper key ≡ true → is_below (upper_from next upper) key ≡ true
-upper_is None upper key h e = e
-upper_is (Some n) upper key h e = h n refl
+upper_is next upper key h e = grind arith
 
 bucket_bounded : (nodes : Nodes) (host : ℕ) (e : Entry) (b : Bool) → Bounded nodes (if b then At_inline host e.inner else At_page (root_spot e.child))
-bucket_bounded nodes host e true = tt
-bucket_bounded nodes host e false = λ address below j key under l u g. (refl, refl)
+bucket_bounded nodes host e b = grind arith
 
 module _ (nodes : Nodes) (root : ℕ) (shape : HasShape nodes root) where
   module _ (way : List ℕ) (s : PageSpot) (e : reached nodes root way ≡ Some (At_page s)) (bound : Bounded nodes (At_page s)) (i : ℕ) where
@@ -37,14 +36,9 @@ module _ (nodes : Nodes) (root : ℕ) (shape : HasShape nodes root) where
         (bucket_bounded nodes s.number p (p.child == 0))
     entry_bounded node h false l (Some p) g t e = subst (Bounded nodes) (same_Some _ t e) (child_bounded node p h l g)
 
-    node_bounded : (o : Result Node ℕ) → nodes s.number ≡ o → (t : Spot) → step_at o s i ≡ Some t → Bounded nodes t
-    node_bounded (Err f) h t e = absurd (nothing_is t e)
-    node_bounded (Ok node) h t e = entry_bounded node h node.is_leaf refl (slice_get node.entries i) refl t e
-
   spot_bounded : (way : List ℕ) (s : Spot) → reached nodes root way ≡ Some s → Bounded nodes s → (i : ℕ) (t : Spot) → step nodes (Some s) i ≡ Some t
       → Bounded nodes t
-  spot_bounded way (At_page s) e bound i t st = node_bounded way s e bound i (nodes s.number) refl t st
-  spot_bounded way (At_inline host keys) e bound i t st = absurd (nothing_is t st)
+  spot_bounded way s e bound i t st = grind (arith, entry_bounded)
 
   way_bounded : (w way : List ℕ) (s : Spot) → reached nodes root way ≡ Some s → Bounded nodes s → (t : Spot) → follow nodes (Some s) w ≡ Some t
       → Bounded nodes t
@@ -59,9 +53,7 @@ module _ (nodes : Nodes) (root : ℕ) (shape : HasShape nodes root) where
   all_bounded way t e = way_bounded way [] (At_page (root_spot root)) refl (λ address below j key under l u g. (refl, refl)) t e
 
 not_empty : (leaf : Bool) (entries : List Entry) → (leaf ≡ false → entries ≢ []) → (not leaf && (length entries == 0)) ≡ false
-not_empty true entries h = refl
-not_empty false [] h = absurd (h refl refl)
-not_empty false (p ∷ entries) h = ne_eqb (suc (length entries)) 0 (λ e. omega (arith, e))
+not_empty leaf entries h = grind (arith, common_steps)
 
 content_none : (node : Node) (s : PageSpot) → (node.is_leaf ≡ false → node.entries ≢ []) → keys_order_fault None s.lower s.upper (keys_of node.entries) ≡ None → node_finding node s ≡ None
 content_none node s filled keys = rw (not_empty node.is_leaf node.entries filled, keys) refl
@@ -71,8 +63,7 @@ early_passes nodes s node h e = let b : nat_lt 64 s.depth ≡ false = grind (ari
 
 module _ (nodes : Nodes) (root : ℕ) (shape : HasShape nodes root) where
   claimed_none : (way : List ℕ) (n : ℕ) → SpanHas nodes (reached nodes root way) n → IsClaimedBefore nodes (reached nodes root) IsMetaPage way n → ⊥
-  claimed_none way n here (inl b) = omega (arith, shape.above_metas way n here)
-  claimed_none way n here (inr (v, (lt, b))) = before_irreflexive way (rw (shape.apart v way n b here) at lt)
+  claimed_none way n here h = grind (arith, before_irreflexive)
 
   passes : (way : List ℕ) (s : Spot) → reached nodes root way ≡ Some s → Passes nodes (IsClaimedBefore nodes (reached nodes root) IsMetaPage way) s
   passes way (At_page s) e =
@@ -96,7 +87,4 @@ pub shape_passes : (nodes : Nodes) (root : ℕ) → HasShape nodes root → IsCl
 shape_passes nodes root shape = record { passes = passes nodes root shape }
 
 pub sound_reports_nothing : (file : List ℕ) (meta : Meta) (x : Finding) → HasSoundTrees file meta → IsFirstFinding file meta x → ⊥
-sound_reports_nothing file meta x shape h =
-    let nodes = node_at file meta in
-    passes_silent nodes (IsClaimedBefore nodes (reached nodes meta.root) IsMetaPage h.way) h.spot x
-    (passes nodes meta.root shape h.way h.spot h.leads) h.reported
+sound_reports_nothing file meta x shape h = grind (arith, passes_silent, passes)

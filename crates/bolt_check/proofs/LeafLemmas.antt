@@ -1,8 +1,8 @@
 -- Leaves by themselves, and what is listed as free.
-use Rattle.std.proofs.Common.{◌≡◌, ◌≢◌, ◌∙◌, ◌==◌, ◌<◌, ◌+◌, ℕ, true, false, not, List, [], length, Option, Some, None, Result, Ok, sym, ap, subst, arith}
+use Rattle.std.proofs.Common.{◌≡◌, ◌≢◌, ◌∙◌, ◌==◌, ◌<◌, ◌+◌, ℕ, true, false, not, List, [], length, Option, Result, Ok, sym, ap, subst, arith}
 use Rattle.std.specs.Option.{IfNone}
 use Rattle.std.specs.Prelude.{IsTrue, nat_lt}
-use Rattle.bolt_check.proofs.Words.{At_page, Entry, false≢true, HasRoom, ltb-true, Meta, nat_tests, Node, node_at, Nodes, PagePasses, PageUse, root_spot, shown_node, SpanAt, TreePage}
+use Rattle.bolt_check.proofs.Words.{At_page, Entry, HasRoom, ltb-true, Meta, nat_tests, Node, node_at, Nodes, PagePasses, PageUse, root_spot, shown_node, SpanAt, TreePage}
 use Rattle.bolt_check.proofs.MarkLemmas.{node_within}
 use Rattle.bolt_check.specs.{LoneLeaves.IsLoneLeaf, Private.LeafTests.IsFilledLeaf}
 
@@ -49,14 +49,10 @@ leaf_shown page is = is
 
 pub not_filled : (seen : Result Node ℕ) (page : TreePage) → seen ≡ Ok (shown_node page) → page.is_leaf ≡ false → IsFilledLeaf seen → ⊥
 unfolding shown_node
-not_filled seen page is not (node, of, leaf, some) =
-    let both : Ok node ≡ Ok (shown_node page) = sym of ∙ is in
-    let same : node.is_leaf ≡ page.is_leaf = (let one : node ≡ shown_node page = cc in ap (λ (x : Node). x.is_leaf) one) in
-    false≢true (sym not ∙ sym same ∙ leaf)
+not_filled seen page is not (node, of, leaf, some) = grind arith
 
 pub some_entries : (entries : List Entry) (count : ℕ) → count ≡ length entries → nat_lt 0 count ≡ true → entries ≢ []
 some_entries entries count is more none = omega (arith, ltb-true 0 count more, is ∙ ap length none)
 
 pub if_none : {X P Q : Type 0} (o : Option X) → (P → Q) → IfNone o P → IfNone o Q
-if_none None to h = to h
-if_none (Some x) to h = h
+if_none o to h = grind arith

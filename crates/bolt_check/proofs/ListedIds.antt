@@ -1,5 +1,5 @@
 -- Ids listed one after another.
-use Rattle.std.proofs.Common.{◌≡◌, ◌≢◌, ◌∙◌, ◌==◌, ℕ, ◌+◌, ◌<◌, Bool, List, [], ◌∷◌, ◌++◌, Some, slice_get, length, get_or, cond, take, filter, min, sym, ap, arith}
+use Rattle.std.proofs.Common.{rules, ◌≡◌, ◌≢◌, ◌∙◌, ◌==◌, ℕ, ◌+◌, ◌<◌, Bool, List, [], ◌∷◌, ◌++◌, Some, slice_get, length, get_or, cond, take, filter, min, sym, ap, arith}
 use Rattle.std.proofs.lemmas.List.Elements.{filter_more}
 use Rattle.std.proofs.lemmas.List.Sums.{sum_by_more}
 use Rattle.std.proofs.lemmas.Option.{slice_get-get_or}
@@ -11,10 +11,7 @@ id_at ids i id h e = let f = sym (slice_get-get_or ids i 0 h) ∙ e in cc
 
 pub times_more : (ids : List ℕ) (i id n before : ℕ) → i < length ids → slice_get ids i ≡ Some id → before ≡ min 2 (times_in (take i ids) n)
     → min 2 (before + cond (id == n) 1 0) ≡ min 2 (times_in (take (i + 1) ids) n)
-times_more ids i id n before h e b =
-    let more = sum_by_more (λ (x : ℕ). cond (x == n) 1 0) ids i 0 h in
-    let weight : ℕ → ℕ = λ (x : ℕ). cond (x == n) 1 0 in
-    let one : weight (get_or ids i 0) ≡ weight id = ap weight (id_at ids i id h e) in omega (arith, more, one, b)
+times_more ids i id n before h e b = grind (arith, sum_by_more, id_at)
 
 pub past_more : (p : ℕ → Bool) (ids : List ℕ) (i id : ℕ) (before : List ℕ) → i < length ids → slice_get ids i ≡ Some id → before ≡ filter p (take i ids)
     → before ++ cond (p id) (id ∷ []) [] ≡ filter p (take (i + 1) ids)
@@ -26,10 +23,4 @@ past_more p ids i id before h e b =
 -- a number that isn't among the ids up to one isn't among those before it, and isn't that one
 pub times_before : (ids : List ℕ) (i id n : ℕ) → i < length ids → slice_get ids i ≡ Some id → times_in (take (i + 1) ids) n ≡ 0
     → (times_in (take i ids) n ≡ 0) × (n ≢ id)
-times_before ids i id n h e none =
-    let weight : ℕ → ℕ = λ (x : ℕ). cond (x == n) 1 0 in
-    let more = sum_by_more weight ids i 0 h in
-    let one : weight (get_or ids i 0) ≡ weight id = ap weight (id_at ids i id h e) in (
-      omega (arith, more, one, none),
-      λ same. let here : weight id ≡ 1 = ap (λ b. cond b 1 0) (eq-eqb id n (sym same)) in omega (arith, more, one, none, here),
-    )
+times_before ids i id n h e none = search (rules, sum_by_more, id_at, eq-eqb)

@@ -1,5 +1,5 @@
 -- Lists: members, lists that rise by a relation, and that two such lists with the same members are one. For the crates above too.
-use Rattle.std.proofs.Common.{◌≡◌, ℕ, zero, suc, ◌+◌, ◌<◌, ◌⊎◌, inl, inr, List, [], ◌∷◌, ◌++◌, length, Some, slice_get, get_or, map, refl, sym, ap, subst, arith, ◌∙◌}
+use Rattle.std.proofs.Common.{rules, ◌≡◌, ℕ, zero, suc, ◌+◌, ◌<◌, ◌⊎◌, inl, inr, List, [], ◌∷◌, ◌++◌, length, Some, slice_get, get_or, map, refl, sym, ap, subst, arith, ◌∙◌}
 use Rattle.std.proofs.lemmas.Option.{get_or_from_slice_get, none-some, slice_get-get_or, slice_get_within}
 use Rattle.std.specs.List.{AllPairs, Contains, flat_map}
 pub use Rattle.bolt_check.specs.Lists.{Each, Has, RisesBy}
@@ -26,9 +26,8 @@ module _ {X : Type 0} where
   has_at (y ∷ xs) x (inr h) = let r = has_at xs x h in (suc r.0, r.1)
 
   pub at_has : (xs : List X) (k : ℕ) (x : X) → slice_get xs k ≡ Some x → Has xs x
-  at_has [] k x e = absurd (none-some x e)
-  at_has (y ∷ xs) zero x e = inl (cc)
   at_has (y ∷ xs) (suc k) x e = inr (at_has xs k x e)
+  at_has xs k x e = grind (arith, none-some)
 
   pub contains_from_has : (xs : List X) (x : X) → Has xs x → Contains xs x
   contains_from_has xs x h = let r = has_at xs x h in (r.0, slice_get_within xs r.0 x r.1, get_or_from_slice_get xs r.0 x x r.1)
@@ -64,10 +63,8 @@ module _ {X : Type 0} where
       (λ y k. let p = has_at xs y k in h 0 (suc p.0) x y (omega arith) refl p.1, rises_from_gets R xs (λ i j a b lt g k. h (suc i) (suc j) a b (omega arith) g k))
 
   pub rises_gets : (R : X → X → Type 0) (xs : List X) (i j : ℕ) (a b : X) → RisesBy R xs → i < j → slice_get xs i ≡ Some a → slice_get xs j ≡ Some b → R a b
-  rises_gets R [] i j a b r l g h = absurd (none-some a g)
-  rises_gets R (x ∷ xs) i zero a b r l g h = absurd (omega arith)
-  rises_gets R (x ∷ xs) zero (suc j) a b r l g h = let same : x ≡ a = cc in subst (λ (y : X). R y b) same (r.0 b (at_has xs j b h))
   rises_gets R (x ∷ xs) (suc i) (suc j) a b r l g h = rises_gets R xs i j a b r.1 (omega arith) g h
+  rises_gets R xs i j a b r l g h = grind (arith, none-some, at_has)
 
   pub get_exists : (xs : List X) (k : ℕ) → k < length xs → (x : X) × (slice_get xs k ≡ Some x)
   get_exists [] k h = absurd (omega arith)
@@ -79,9 +76,7 @@ module _ {X : Type 0} where
   pairs_from_rises R xs a = λ i j d h k. rises_gets R xs i j (get_or xs i d) (get_or xs j d) a h (slice_get-get_or xs i d (omega (arith, h, k))) (slice_get-get_or xs j d k)
 
   pub rises_from_pairs : (R : X → X → Type 0) (xs : List X) → AllPairs R xs → RisesBy R xs
-  rises_from_pairs R xs a = rises_from_gets R xs (λ i j x y lt g h.
-      subst (λ (w : X). R x w) (get_or_from_slice_get xs j y x h)
-      (subst (λ (w : X). R w (get_or xs j x)) (get_or_from_slice_get xs i x x g) (a i j x lt (slice_get_within xs j y h))))
+  rises_from_pairs R xs a = search (rules, rises_from_gets, get_or_from_slice_get, slice_get_within)
 
   -- what stands before a member
   pub get_before : (xs : List X) (k l : ℕ) (x : X) → k < l → slice_get xs l ≡ Some x → (y : X) × (slice_get xs k ≡ Some y)
@@ -89,25 +84,20 @@ module _ {X : Type 0} where
 
   -- an element of two lists, one after the other
   pub get_behind : (xs ys : List X) (n k : ℕ) → n ≡ length xs + k → slice_get (xs ++ ys) n ≡ slice_get ys k
-  get_behind [] ys n k e = let same : n ≡ k = omega arith in ap (slice_get ys) same
-  get_behind (x ∷ xs) ys zero k e = absurd (omega arith)
   get_behind (x ∷ xs) ys (suc n) k e = get_behind xs ys n k (omega arith)
+  get_behind xs ys n k e = grind arith
 
   pub get_front : (xs ys : List X) (k : ℕ) (x : X) → slice_get xs k ≡ Some x → slice_get (xs ++ ys) k ≡ Some x
-  get_front [] ys k x g = absurd (none-some x g)
-  get_front (y ∷ xs) ys zero x g = g
   get_front (y ∷ xs) ys (suc k) x g = get_front xs ys k x g
+  get_front xs ys k x g = grind (arith, none-some)
 
   -- Two lists that rise by a strict order and have the same members are one.
   module _ (R : X → X → Type 0) (strict : (x y : X) → R x y → R y x → ⊥) where
     same_head : (x y : X) (xs ys : List X) → Each (R x) xs → Each (R y) ys → Has (y ∷ ys) x → Has (x ∷ xs) y → x ≡ y
-    same_head x y xs ys a b (inl e) k = sym e
-    same_head x y xs ys a b (inr h) (inl e) = e
-    same_head x y xs ys a b (inr h) (inr k) = absurd (strict x y (a y k) (b x h))
+    same_head x y xs ys a b h k = grind arith
 
     tail_has : (x z : X) (ys : List X) → R x z → Has (x ∷ ys) z → Has ys z
-    tail_has x z ys r (inl e) = absurd (strict x x (let q = r in subst (λ (w : X). R x w) (sym e) q) (let q = r in subst (λ (w : X). R x w) (sym e) q))
-    tail_has x z ys r (inr h) = h
+    tail_has x z ys r h = grind arith
 
     pub one_list : (xs ys : List X) → RisesBy R xs → RisesBy R ys → ((x : X) → Has xs x → Has ys x) → ((x : X) → Has ys x → Has xs x) → xs ≡ ys
     one_list [] [] a b f g = refl

@@ -1,8 +1,6 @@
 -- A good page lies below the mark and in the file.
-use Rattle.std.proofs.Common.{◌≡◌, ◌∙◌, ℕ, ◌+◌, ◌*◌, ◌<◌, ◌≤◌, List, Option, Some, None, Result, Ok, Err, length, refl, sym, ap, subst, inl, inr, arith, []}
-use Rattle.bolt_check.proofs.Words.{At_page, cases_lt, HasRoom, IsClean, IsMetaPage, IsSome, Kind, Meta, Node, node_at, node_of, node_seen, page_at, page_fault, page_overflow, PageUse, PageView, root_spot, span_within}
-use Rattle.bolt_format.specs.Pages.{shown_as}
-use Rattle.bolt_format.specs.declared.header.Kind.TheVariants as kind
+use Rattle.std.proofs.Common.{◌≡◌, ℕ, ◌+◌, ◌*◌, ◌<◌, ◌≤◌, List, Option, Some, None, Result, Ok, Err, length, refl, inl, inr, arith, []}
+use Rattle.bolt_check.proofs.Words.{At_page, cases_lt, HasRoom, IsClean, IsMetaPage, IsSome, Kind, Meta, Node, node_at, node_of, node_seen, page_at, page_overflow, PageUse, PageView, root_spot, span_within}
 use Rattle.bolt_check.specs.Ways.{reached}
 use Rattle.bolt_format.proofs.PageFacts.{span_passes}
 
@@ -11,43 +9,30 @@ node_overflow (Ok node) = node.overflow
 node_overflow (Err fault) = 0
 
 seen-some : (view : Option PageView) (fault : Option ℕ) (node : Node) → node_seen view fault ≡ Ok node → (shown : PageView) × (view ≡ Some shown)
-seen-some (Some view) fault node e = (view, refl)
-seen-some None (Some number) node e = absurd (cc)
-seen-some None None node e = absurd (cc)
+seen-some view fault node e = grind arith
 
 abbrev overflow_of : Option PageView → ℕ
 overflow_of None = 0
 overflow_of (Some view) = view.overflow
 
-shown-overflow : (fault : Option ℕ) (kind : Option Kind) (count overflow : ℕ) (bytes : List ℕ) (view : PageView) → shown_as fault kind count overflow bytes ≡ Some view → view.overflow ≡ overflow
-shown-overflow None (Some kind) count overflow bytes view e = sym (ap overflow_of e)
-shown-overflow fault kind count overflow bytes view e = absurd (cc)
-
 pub page_overflows : (file : List ℕ) (meta : Meta) (id : ℕ) (view : PageView) → page_at file meta id ≡ Some view → view.overflow ≡ page_overflow file meta id
 unfolding page_at
-page_overflows file meta id view e = shown-overflow (page_fault file meta id) _ _ _ _ view e
+page_overflows file meta id view e = grind arith
 
 node_overflows : (k : Kind) (view : PageView) (node : Node) → node_of k view ≡ Ok node → node.overflow ≡ view.overflow
-node_overflows kind.Branch view node e = sym (ap node_overflow e)
-node_overflows kind.Leaf view node e = sym (ap node_overflow e)
-node_overflows k view node e = absurd (cc)
+node_overflows k view node e = grind arith
 
 -- a node's page is good, and its span lies below the mark and in the file
 pub node_page : (file : List ℕ) (meta : Meta) (id : ℕ) (node : Node) → node_at file meta id ≡ Ok node → (view : PageView) × (page_at file meta id ≡ Some view) × (node.overflow ≡ view.overflow)
 unfolding node_at
-node_page file meta id node e =
-    let (view, is) = seen-some (page_at file meta id) (page_fault file meta id) node e in
-    (view, is, node_overflows view.kind view node (subst (λ (o : Option PageView). node_seen o (page_fault file meta id) ≡ Ok node) is e))
+node_page file meta id node e = grind arith
 
 pub node_shown : (file : List ℕ) (meta : Meta) (id : ℕ) (node : Node) → node_at file meta id ≡ Ok node → IsSome (page_at file meta id)
 node_shown file meta id node e = let (view, is, _) = node_page file meta id node e in rw is refl
 
 pub node_within : (file : List ℕ) (meta : Meta) (id : ℕ) (node : Node) → node_at file meta id ≡ Ok node
     → (id + node.overflow < meta.high_water) × ((id + node.overflow + 1) * meta.page_size ≤ length file)
-node_within file meta id node e =
-    let (view, is, same) = node_page file meta id node e in
-    subst (λ (n : ℕ). (id + n < meta.high_water) × ((id + n + 1) * meta.page_size ≤ length file)) (sym (same ∙ page_overflows file meta id view is))
-    (span_within file meta id (span_passes file meta id view is))
+node_within file meta id node e = grind (arith, node_page, page_overflows, span_within, span_passes)
 
 pub node_below : (file : List ℕ) (meta : Meta) (id : ℕ) (node : Node) → node_at file meta id ≡ Ok node → id < meta.high_water
 node_below file meta id node e = let within = (node_within file meta id node e).0 in omega (arith, within)

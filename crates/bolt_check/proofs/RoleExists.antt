@@ -1,6 +1,7 @@
 -- In a sound file each page below the mark has a role: the tour says whether a way leads to it.
-use Rattle.std.proofs.Common.{◌≡◌, ℕ, ◌+◌, ◌<◌, ◌≤◌, ◌⊎◌, inl, inr, Bool, true, false, List, [], ◌∷◌, Option, Some, Result, Ok, Err, refl, sym, arith}
-use Rattle.bolt_check.proofs.Words.{At_page, cases_eq, cases_lt, eq-eqb, Has, HasRightAccounts, HasRole, HasSoundTrees, IsInFreelist, IsTour, Meta, ne_eqb, NO_FREELIST, Node, node_at, Nodes, page_overflow, PageSpot, Reach, Role, SpanHas, SpanOf, Spot}
+use Rattle.std.proofs.lemmas.Grind.{common_steps}
+use Rattle.std.proofs.Common.{◌≡◌, ℕ, ◌<◌, ◌≤◌, ◌⊎◌, inl, inr, Bool, List, [], ◌∷◌, Option, Some, Result, Ok, refl, sym, arith}
+use Rattle.bolt_check.proofs.Words.{At_page, cases_eq, cases_lt, Has, HasRightAccounts, HasRole, HasSoundTrees, IsInFreelist, IsTour, Meta, Node, node_at, Nodes, PageSpot, Reach, Role, SpanHas, SpanOf, Spot}
 use Rattle.bolt_check.specs.Ways.{reached}
 use Rattle.bolt_check.specs.declared.role_table.Role.TheVariants as role
 use Rattle.bolt_check.proofs.{Judging.span_spot, RoleOnce.Used, RoleOnce.first_role, RoleOnce.node_role, RoleOnce.spot_role, RoleOnce.used_role}
@@ -17,19 +18,13 @@ module _ (file : List ℕ) (meta : Meta) (n : ℕ) where
   reach = reached nodes meta.root
 
   within : (from last : ℕ) → Either ((from ≤ n) × (n ≤ last))
-  within from last =
-      elim (cases_lt n from) [
-        | inl low ↦ inr (λ h. let a = h.0 in omega (arith, a, low))
-        | inr high ↦ elim (cases_lt last n) [ inl past ↦ inr (λ h. let a = h.1 in omega (arith, a, past)) | inr in_span ↦ inl (high, in_span) ]
-      ]
+  within from last = grind arith
 
   in_node : (o : Result Node ℕ) (number : ℕ) → Either (SpanOf o number n)
-  in_node (Err fault) number = inr (λ h. h)
-  in_node (Ok node) number = within number (number + node.overflow)
+  in_node o number = grind arith
 
   at_spot : (o : Option Spot) → Either (SpanHas nodes o n)
-  at_spot (Some (At_page s)) = in_node (nodes s.number) s.number
-  at_spot o = inr (λ h. h)
+  at_spot o = grind (arith, in_node)
 
   pick : (ways : Ways) → ((way : List ℕ) × SpanHas nodes (reach way) n) ⊎ ((way : List ℕ) → Has ways way → SpanHas nodes (reach way) n → ⊥)
   pick [] = inr (λ way i h. i)
@@ -43,14 +38,7 @@ module _ (file : List ℕ) (meta : Meta) (n : ℕ) where
       ]
 
   in_list : HasRightAccounts file meta → Either (IsInFreelist file meta n)
-  in_list right =
-      elim (cases_eq meta.freelist NO_FREELIST) [
-        | inl none ↦ inr (λ is. is.written none)
-        | inr written ↦ elim (within meta.freelist (meta.freelist + page_overflow file meta meta.freelist)) [
-          | inl h ↦ inl (record { written = written; good = right.good; from = h.0; last = h.1 })
-          | inr out ↦ inr (λ is. out (is.from, is.last))
-        ]
-      ]
+  in_list right = grind (arith, common_steps, cases_eq)
 
   in_use : HasRightAccounts file meta → (tour : Ways) → IsTour reach tour → Either (Used file meta n)
   in_use right tour is = elim (cases_lt n 2) [
@@ -70,29 +58,17 @@ module _ (file : List ℕ) (meta : Meta) (n : ℕ) where
 
   first_page : (way : List ℕ) (s : PageSpot) (node : Node) (b : Bool) → node.is_leaf ≡ b → reach way ≡ Some (At_page s) → nodes s.number ≡ Ok node
       → n ≡ s.number → HasRole file meta n (first_role b)
-  first_page way s node true kind e page same = record { way = way; spot = s; node = node; leads = e; number = same; page = page; kind = kind }
-  first_page way s node false kind e page same = record { way = way; spot = s; node = node; leads = e; number = same; page = page; kind = kind }
+  first_page way s node b kind e page same = grind arith
 
   at_node : (way : List ℕ) (s : PageSpot) (o : Result Node ℕ) → reach way ≡ Some (At_page s) → nodes s.number ≡ o → SpanOf o s.number n
       → HasRole file meta n (node_role n o s.number)
-  at_node way s (Err fault) e page h = absurd h
-  at_node way s (Ok node) e page h = elim (cases_eq n s.number) [
-    | inl same ↦ rw (eq-eqb n s.number same) (first_page way s node node.is_leaf refl e page same)
-    | inr other ↦ rw (ne_eqb n s.number other)
-        (inl (record { way = way; spot = s; node = node; leads = e; page = page; within = h; later = omega (arith, h.0, other) }))
-  ]
+  at_node way s o e page h = grind arith
 
   on_way : (way : List ℕ) (o : Option Spot) → reach way ≡ o → SpanHas nodes o n → HasRole file meta n (spot_role n nodes o)
-  on_way way (Some (At_page s)) e h = at_node way s (nodes s.number) e refl h
-  on_way way o e h = absurd h
+  on_way way o e h = grind arith
 
   has_role : (p : Used file meta n) → HasRole file meta n (used_role file meta n p)
-  has_role (inl (inl low)) = low
-  has_role (inl (inr (way, h))) = on_way way (reach way) refl h
-  has_role (inr is) = elim (cases_eq n meta.freelist) [
-    | inl same ↦ rw (eq-eqb n meta.freelist same) (is, same)
-    | inr other ↦ rw (ne_eqb n meta.freelist other) (inr (is, omega (arith, is.from, other)))
-  ]
+  has_role p = grind arith
 
   pub role_exists : HasSoundTrees file meta → HasRightAccounts file meta → n < meta.high_water → (r : Role) × HasRole file meta n r
   role_exists trees right below =

@@ -1,6 +1,5 @@
 -- What holds of a page with a role, for the crates above.
 use Rattle.std.proofs.Common.{◌≡◌, ℕ, ◌+◌, ◌*◌, ◌<◌, ◌≤◌, inl, inr, Bool, true, List, [], Ok, length, refl, sym, subst, arith}
-use Rattle.std.proofs.Math.Nat.{mul-le-mul_right}
 use Rattle.bolt_check.proofs.Words.{bytes_of, cases_lt, Checked, HasRightAccounts, HasRole, HasSoundTrees, IsFirstPage, IsInFreelist, IsSome, IsSound, Meta, meta_of, Node, node_at, page_at, Role, root_spot, ∥∥₁_elim, ∥∥₁_map}
 use Rattle.bolt_check.specs.{CheckedFiles.has_accounts, Roles.AreRoles, Ways.reached}
 use Rattle.bolt_check.specs.declared.role_table.Role.TheVariants as role
@@ -19,8 +18,7 @@ with_accounts checked P is prop f = ∥∥₁_elim (sound_accounts checked is) p
 module _ (file : List ℕ) (meta : Meta) where
   -- the first page of a branch or a leaf is good
   pub first_shown : (is_leaf : Bool) (n : ℕ) → IsFirstPage (node_at file meta) (reached (node_at file meta) meta.root) is_leaf n → IsSome (page_at file meta n)
-  first_shown is_leaf n is =
-      subst (λ (k : ℕ). IsSome (page_at file meta k)) (sym is.number) (node_shown file meta is.spot.number is.node is.page)
+  first_shown is_leaf n is = grind (arith, node_shown)
 
   -- and so is the freelist's
   pub freelist_shown : (n : ℕ) → IsInFreelist file meta n → n ≡ meta.freelist → IsSome (page_at file meta n)
@@ -28,16 +26,10 @@ module _ (file : List ℕ) (meta : Meta) where
 
   -- no page up to the last of a span begins at the file's end
   inside_file : (n last : ℕ) → 0 < meta.page_size → n ≤ last → (last + 1) * meta.page_size ≤ length file → length file ≤ n * meta.page_size → ⊥
-  inside_file n last positive low end past =
-      let more = mul-le-mul_right meta.page_size (let h : n + 1 ≤ last + 1 = omega arith in h) in
-      let next : (n + 1) * meta.page_size ≡ n * meta.page_size + meta.page_size = omega arith in
-      omega (arith, more, next, end, past, positive)
+  inside_file n last positive low end past = grind arith
 
   past_node : (number n : ℕ) (node : Node) → 0 < meta.page_size → node_at file meta number ≡ Ok node → n ≤ number + node.overflow → length file ≤ n * meta.page_size → ⊥
   past_node number n node positive page low past = inside_file n (number + node.overflow) positive low (node_within file meta number node page).1 past
-
-  past_freelist : (n : ℕ) → 0 < meta.page_size → IsInFreelist file meta n → length file ≤ n * meta.page_size → ⊥
-  past_freelist n positive is past = inside_file n _ positive is.last (freelist_within file meta is.written is.good).1 past
 
   past_metas : (n : ℕ) → 0 < meta.page_size → HasSoundTrees file meta → n < 2 → length file ≤ n * meta.page_size → ⊥
   past_metas n positive trees low past =
@@ -46,12 +38,7 @@ module _ (file : List ℕ) (meta : Meta) where
       past_node meta.root n node positive page (omega (arith, low, above)) past
 
   past_role : (n : ℕ) (r : Role) → 0 < meta.page_size → HasSoundTrees file meta → HasRole file meta n r → length file ≤ n * meta.page_size → r ≡ role.Free
-  past_role n role.Meta positive trees is past = absurd (past_metas n positive trees is past)
-  past_role n role.Freelist positive trees is past = absurd (past_freelist n positive is.0 past)
-  past_role n role.Inside positive trees (inl is) past = absurd (past_node is.spot.number n is.node positive is.page is.within.1 past)
-  past_role n role.Inside positive trees (inr is) past = absurd (past_freelist n positive is.0 past)
-  past_role n role.Free positive trees is past = refl
-  past_role n r positive trees is past = absurd (past_node is.spot.number n is.node positive is.page (omega (arith, is.number)) past)
+  past_role n r positive trees is past = grind (arith, past_metas, past_node, inside_file, freelist_within)
 
   -- a page that begins at the file's end or past it is free
   pub past_is_free : IsSound file meta true → (n : ℕ) (r : Role) → HasRole file meta n r → length file ≤ n * meta.page_size → r ≡ role.Free

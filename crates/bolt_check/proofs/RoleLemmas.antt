@@ -1,7 +1,8 @@
 -- The role of a page, from the table of uses.
-use Rattle.std.proofs.Common.{◌≡◌, ◌≢◌, ◌∙◌, ℕ, zero, suc, ◌<◌, ◌≤◌, ◌↔◌, inl, inr, Bool, true, false, List, Some, sym, ap, subst, refl, arith}
-use Rattle.bolt_check.proofs.Words.{At_inline, At_page, cases_eq, cases_lt, ClaimsUses, eq-eqb, false≢true, HasRightAccounts, HasRole, HasUse, is_used, IsClaimed, IsFirstPage, IsInFreelist, IsMetaUse, IsNoted, IsSound, IsUsed, le-ltb, lt-ltb, Meta, ne_eqb, NO_FREELIST, node_at, Nodes, PageUse, Reach, Slot, Spot, use_at, use_of, UseAt, UsedFree, UsedFreeTwice}
-use Rattle.bolt_format.specs.{Metas.IsInSlot, Metas.IsMeta, Metas.IsPageSize, declared.meta.Slot.TheVariants.One, declared.meta.Slot.TheVariants.Zero}
+use Rattle.std.proofs.lemmas.Grind.{common_steps}
+use Rattle.std.proofs.Common.{◌≡◌, ◌≢◌, ℕ, ◌<◌, ◌≤◌, ◌↔◌, inl, inr, Bool, true, false, List, Some, sym, subst, refl, arith}
+use Rattle.bolt_check.proofs.Words.{At_inline, At_page, ClaimsUses, HasRightAccounts, HasRole, HasUse, is_used, IsClaimed, IsFirstPage, IsInFreelist, IsMetaUse, IsNoted, IsSound, IsUsed, Meta, NO_FREELIST, node_at, Nodes, PageUse, Reach, Spot, use_at, use_of, UseAt}
+use Rattle.bolt_format.specs.{Metas.IsMeta, Metas.IsPageSize}
 use Rattle.bolt_check.specs.{Private.RoleTables.AreUses, Private.RoleTables.role_by, Private.RoleTables.role_from, Roles.IsLaterPage, Ways.reached}
 use Rattle.bolt_check.specs.declared.role_table.Role.TheVariants as role
 use Rattle.bolt_check.specs.declared.table.PageUse.TheVariants.{Branch, Leaf, Used}
@@ -48,53 +49,28 @@ module _ (file : List ℕ) (meta : Meta) (table : List PageUse) (are : AreUses f
   leaf n (by_leaf h) = h
 
   inside : (n : ℕ) → 2 ≤ n → n ≢ meta.freelist → Shows n Used → HasRole file meta n role.Inside
-  inside n high other (by_meta low) = absurd (omega (arith, high, low))
-  inside n high other (by_later h) = inl h
-  inside n high other (by_list h) = inr (h, omega (arith, h.from, other))
+  inside n high other h = grind arith
 
   free : (n : ℕ) (u : PageUse) → 2 ≤ n → n < meta.high_water → is_used u ≡ false → use_at table n ≡ u → HasRole file meta n role.Free
-  free n u high below not e = record {
-    above_metas = high;
-    below = below;
-    unused = λ in_use. false≢true (sym not ∙ ap is_used (sym e) ∙ are.claimed n in_use);
-  }
+  free n u high below not e = grind arith
 
   from_use : (n : ℕ) (u : PageUse) → 2 ≤ n → n < meta.high_water → n ≢ meta.freelist → use_at table n ≡ u → HasRole file meta n (role_from u)
-  from_use n Branch high below other e = branch n (shows n Branch refl e)
-  from_use n Leaf high below other e = leaf n (shows n Leaf refl e)
-  from_use n Used high below other e = inside n high other (shows n Used refl e)
-  from_use n UsedFree high below other e = elim (shows n UsedFree refl e) [ ]
-  from_use n UsedFreeTwice high below other e = elim (shows n UsedFreeTwice refl e) [ ]
-  from_use n u high below other e = free n u high below refl e
+  from_use n u high below other e = grind arith
 
   role_of : (n : ℕ) (u : PageUse) → n < meta.high_water → meta.high_water ≤ NO_FREELIST → use_at table n ≡ u → HasRole file meta n (role_by meta n u)
-  role_of n u below mark e =
-      elim (cases_lt n 2) [
-        | inl low ↦ rw (lt-ltb n 2 low) low
-        | inr high ↦ elim (cases_eq n meta.freelist) [
-          | inl same ↦ rw (le-ltb n 2 high, eq-eqb n meta.freelist same)
-              (record { written = λ e. omega (arith, e); good = are.good; from = omega arith; last = omega arith }, same)
-          | inr other ↦ rw (le-ltb n 2 high, ne_eqb n meta.freelist other) (from_use n u high below other e)
-        ]
-      ]
+  role_of n u below mark e = grind arith
 
   pub right_role : (n : ℕ) → n < meta.high_water → meta.high_water ≤ NO_FREELIST → HasRole file meta n (role_by meta n (use_at table n))
   right_role n below mark = role_of n (use_at table n) below mark refl
 
 size_positive : (n : ℕ) → IsPageSize n → 0 < n
-size_positive zero h = absurd (cc)
-size_positive (suc n) h = omega arith
+size_positive n h = grind arith
 
 meta_positive : (file : List ℕ) (at : ℕ) (meta : Meta) → IsMeta file at meta → 0 < meta.page_size
 meta_positive file at meta is = rw is.fields (size_positive _ is.size)
 
-slot_positive : (file : List ℕ) (slot : Slot) (meta : Meta) → IsInSlot file slot meta → 0 < meta.page_size
-slot_positive file Zero meta is = meta_positive file 0 meta is
-slot_positive file One meta (inl is) = meta_positive file _ meta is.2
-slot_positive file One meta (inr is) = meta_positive file is.1.at meta is.1.valid
-
 pub page_positive : (file : List ℕ) (meta : Meta) → IsSound file meta true → 0 < meta.page_size
-page_positive file meta sound = slot_positive file sound.slot meta sound.valid
+page_positive file meta sound = grind (arith, common_steps)
 
 -- the uses of a sound file, with the freelist's span claimed or none written
 pub uses_with : (file : List ℕ) (meta : Meta) (old new : List PageUse) → HasRightAccounts file meta → ((n : ℕ) → IsClaimed old n ↔ IsUsed file meta n)

@@ -1,26 +1,21 @@
 -- If the tests find nothing at any way, the shape holds.
-use Rattle.std.proofs.Common.{◌≡◌, ◌≢◌, ℕ, suc, ◌≤◌, inl, inr, Bool, true, false, not, ◌&&◌, ◌==◌, if◌then◌else◌, nat_lt, List, [], ◌∷◌, ◌++◌, length, Option, Some, None, Result, Ok, slice_get, refl, ap, arith, ◌∙◌}
-use Rattle.bolt_check.proofs.Words.{At_inline, At_page, cases_lt, child_at, child_spot, early_finding, Entry, finding, Finding, follow, HasShape, is_below, is_from, IsClaimedBefore, IsClean, IsMetaPage, Key, key_lt, keys_of, keys_order_fault, leads, nat_tests, Node, node_finding, Nodes, not-true, PagePasses, PageSpot, Passes, Reach, root_spot, SpanAt, SpanHas, SpanOf, Spot, step, upper_from}
+use Rattle.std.proofs.Common.{◌≡◌, ◌≢◌, ℕ, suc, ◌≤◌, inl, inr, Bool, true, false, not, ◌&&◌, ◌==◌, if◌then◌else◌, List, [], ◌∷◌, ◌++◌, length, Option, Some, None, Result, Ok, slice_get, refl, arith, ◌∙◌}
+use Rattle.bolt_check.proofs.Words.{At_inline, At_page, cases_lt, child_at, child_spot, early_finding, Entry, Finding, follow, HasShape, is_below, is_from, IsClaimedBefore, IsClean, IsMetaPage, Key, key_lt, keys_of, keys_order_fault, leads, Node, node_finding, Nodes, not-true, PagePasses, PageSpot, Passes, Reach, SpanAt, SpanHas, Spot, step, upper_from}
 use Rattle.bolt_check.proofs.{WayOrder.before_total, KeyLaws.below_less, KeyLaws.from_more, KeyOrder.key_each, KeyOrder.key_rise}
 use Rattle.bolt_check.proofs.WayFacts.{follow_append, is_child, key_at, leads_some, step_child}
-use Rattle.bolt_check.specs.{Ways.reached, declared.finding.TheConstants.Finding.EMPTY_BRANCH, declared.finding.TheConstants.Finding.TOO_DEEP}
-use Rattle.bolt_check.specs.Findings.{open_finding, finding_of}
+use Rattle.bolt_check.specs.{Ways.reached}
+use Rattle.bolt_check.specs.Findings.{finding_of}
 
 -- the content's tests report nothing
 pub finding_none : (o : Option ℕ) (page : ℕ) → finding_of o page ≡ None → o ≡ None
-finding_none None page e = refl
-finding_none (Some number) page e = absurd (cc)
+finding_none o page e = grind arith
 
 filled_if : (b : Bool) (x : Finding) (o : Option Finding) → (if b then Some x else o) ≡ None → (b ≡ false) × (o ≡ None)
-filled_if true x o e = absurd (cc)
-filled_if false x o e = (refl, e)
+filled_if b x o e = grind arith
 
 content_parts : (node : Node) (s : PageSpot) → node_finding node s ≡ None
     → ((not node.is_leaf && (length node.entries == 0)) ≡ false) × (keys_order_fault None s.lower s.upper (keys_of node.entries) ≡ None)
-content_parts node s e =
-    let parts = filled_if (not node.is_leaf && (length node.entries == 0)) (finding EMPTY_BRANCH s.number)
-    (finding_of (keys_order_fault None s.lower s.upper (keys_of node.entries)) s.number) e in
-    (parts.0, finding_none (keys_order_fault None s.lower s.upper (keys_of node.entries)) s.number parts.1)
+content_parts node s e = grind arith
 
 content_filled : (node : Node) (s : PageSpot) → node_finding node s ≡ None → node.is_leaf ≡ false → node.entries ≢ []
 content_filled node s e leaf nil = let t : true ≡ false = rw (leaf, nil) at (content_parts node s e).0 in cc
@@ -60,23 +55,17 @@ keys_below nodes (i ∷ address) s fine below j key under l e g =
 
 pub snoc_reached : (nodes : Nodes) (root : ℕ) (way : List ℕ) (i : ℕ) (s : Spot) (o : Option Spot) → reached nodes root way ≡ Some s → step nodes (Some s) i ≡ o
     → (v : List ℕ) → reached nodes root (way ++ i ∷ v) ≡ follow nodes o v
-snoc_reached nodes root way i s o e st v =
-    let f : Option Spot → Option Spot = λ x. follow nodes x (i ∷ v) in
-    let g : Option Spot → Option Spot = λ x. follow nodes x v in
-    follow_append nodes (Some (At_page (root_spot root))) way (i ∷ v) ∙ (ap f e ∙ ap g st)
+snoc_reached nodes root way i s o e st v = grind (arith, follow_append)
 
 early_depth : (nodes : Nodes) (s : PageSpot) → early_finding nodes s ≡ None → s.depth ≤ 64
-early_depth nodes s e =
-    let b : nat_lt 64 s.depth ≡ false = (filled_if (nat_lt 64 s.depth) (finding TOO_DEEP s.number) (open_finding (nodes s.number) s.number) e).0 in
-    grind (arith, nat_tests, b)
+early_depth nodes s e = grind arith
 
 same_node : (o : Result Node ℕ) (a b : Node) → o ≡ Ok a → o ≡ Ok b → a ≡ b
 same_node o a b e h = cc
 
 -- what has a span is a page, which passes
 span_free : (nodes : Nodes) (before : ℕ → Type 0) (t : Spot) (n : ℕ) → Passes nodes before t → SpanAt nodes t n → before n → ⊥
-span_free nodes before (At_page s) n p h b = p.free n (let i : SpanOf (nodes s.number) s.number n = h in rw p.page at i) b
-span_free nodes before (At_inline host keys) n p h b = h
+span_free nodes before t n p h b = grind arith
 
 span_clean : (nodes : Nodes) (reach : Reach) (c : ℕ → Type 0) → IsClean nodes reach c → (w : List ℕ) (o : Option Spot) (n : ℕ) → reach w ≡ o → SpanHas nodes o n
     → IsClaimedBefore nodes reach c w n → ⊥

@@ -35,8 +35,7 @@ tested_of file slot meta table chosen clean same accounts =
     record { trees = sound.trees; whole = λ _. sound }
 
 pub none_of : (found : Option Findings) (items : List Finding) → found ≡ None → MatchOption found (items ≡ []) (λ findings. findings_in findings ≡ items) → items ≡ []
-none_of None items none is = is
-none_of (Some findings) items none is = absurd (let f : Some findings ≡ None = none in cc)
+none_of found items none is = grind arith
 
 pub some_of : (found : Option Findings) (items : List Finding) {findings : Findings} → found ≡ Some findings
     → MatchOption found (items ≡ []) (λ findings. findings_in findings ≡ items) → findings_in findings ≡ items

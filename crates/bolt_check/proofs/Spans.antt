@@ -1,7 +1,6 @@
 -- A table after the pages of a span were claimed.
-use Rattle.std.proofs.Common.{◌≡◌, ◌∙◌, ℕ, ◌+◌, ◌<◌, ◌≤◌, ◌⊎◌, inl, inr, List, Ok, sym, ap, arith}
-use Rattle.bolt_check.proofs.Words.{At_page, cases_eq, cases_lt, is_used, IsClaimed, IsUnclaimed, IsUnlisted, Node, Nodes, PageSpot, PageUse, times_of, use_at, use_of}
-use Rattle.bolt_check.specs.{Nodes.IsInSpan, Private.Pending.ClaimsSpan, declared.table.PageUse.TheVariants.Used}
+use Rattle.std.proofs.Common.{rules, ◌≡◌, ◌∙◌, ℕ, ◌<◌, ◌≤◌, ◌⊎◌, inl, inr, List, ap}
+use Rattle.bolt_check.proofs.Words.{IsClaimed, IsUnclaimed, IsUnlisted, PageUse, times_of, use_at}
 
 pub not_both : (t : List PageUse) (k : ℕ) → IsUnclaimed t k → IsClaimed t k → ⊥
 not_both t k a b = cc
@@ -10,36 +9,8 @@ module _ (old new : List PageUse) (from last : ℕ) (below : (k : ℕ) → k < f
     (above : (k : ℕ) → last < k → use_at new k ≡ use_at old k) where
   -- only the span has changed
   pub outside : (n : ℕ) → (use_at new n ≡ use_at old n) ⊎ ((from ≤ n) × (n ≤ last))
-  outside n = elim (cases_lt n from) [
-    | inl lt ↦ inl (below n lt)
-    | inr ge ↦ elim (cases_lt last n) [ inl gt ↦ inl (above n gt) | inr le ↦ inr (ge, le) ]
-  ]
-
-  -- a page that is still unclaimed lies outside the span
-  pub outside_span : ((k : ℕ) → from ≤ k → k ≤ last → IsClaimed new k) → (n : ℕ) → IsUnclaimed new n → use_at new n ≡ use_at old n
-  outside_span span n free = elim (outside n) [ inl same ↦ same | inr at ↦ absurd (not_both new n free (span n at.0 at.1)) ]
+  outside n = search rules
 
   -- claiming lists nothing
   pub still_unlisted : ((k : ℕ) → from ≤ k → k ≤ last → times_of (use_at new k) ≡ 0) → IsUnlisted old → IsUnlisted new
   still_unlisted used plain n = elim (outside n) [ inl same ↦ ap times_of same ∙ plain n | inr at ↦ used n at.0 at.1 ]
-
--- a visit claims a span: the first page for what the node is, the others as used
-pub span_claimed : (nodes : Nodes) (s : PageSpot) (node : Node) (old new : List PageUse) (last : ℕ) → last ≡ s.number + node.overflow → nodes s.number ≡ Ok node
-    → use_at new s.number ≡ use_of node.is_leaf → ((k : ℕ) → s.number < k → k ≤ last → use_at new k ≡ Used)
-    → ((k : ℕ) → s.number ≤ k → k ≤ last → IsClaimed new k)
-    → ((k : ℕ) → k < s.number → use_at new k ≡ use_at old k) → ((k : ℕ) → last < k → use_at new k ≡ use_at old k) → ClaimsSpan nodes (At_page s) old new
-span_claimed nodes s node old new last end page first later span below above =
-    let place = outside old new s.number last below above in
-    record {
-      split = λ n h. elim (place n) [ inl same ↦ inl (sym (ap is_used same) ∙ h) | inr at ↦ inr (rw page (at.0, omega (arith, at.1, end))) ];
-      kept = λ n h. elim (place n) [ inl same ↦ ap is_used same ∙ h | inr at ↦ span n at.0 at.1 ];
-      span = λ n h. let i : IsInSpan node s.number n = rw page at h in span n i.0 (omega (arith, i.1, end));
-      uses = λ n u noted. elim (place n) [
-        | inl same ↦ inl (sym same ∙ noted.0, noted.1)
-        | inr at ↦ elim (cases_eq n s.number) [
-          | inl here ↦ inr (node, page, inl (here, sym noted.0 ∙ ap (use_at new) here ∙ first))
-          | inr other ↦ let low = at.0 in inr
-              (node, page, inr (omega (arith, low, other), omega (arith, at.1, end), sym noted.0 ∙ later n (omega (arith, low, other)) at.1))
-        ]
-      ];
-    }

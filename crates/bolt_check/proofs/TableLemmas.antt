@@ -1,4 +1,5 @@
 -- Claiming lowers the count of what is unclaimed, and listing an id claims nothing.
+use Rattle.std.proofs.lemmas.Grind.{common_steps}
 use Rattle.std.proofs.Common.{◌≡◌, ◌≢◌, ◌↔◌, ◌∙◌, ℕ, ◌<◌, ◌≤◌, List, length, min, set, arith, cond, not, true, inl, inr, ap, get_or, get_or-set_other, get_or-set_same, refl, sym}
 use Rattle.std.proofs.lemmas.List.{get_or_past, set_past}
 use Rattle.std.proofs.lemmas.List.Sums.{sum_by-set}
@@ -9,11 +10,7 @@ abbrev weight : PageUse → ℕ
 weight page_use = cond (not (is_used page_use)) 1 0
 
 pub unclaimed_fewer : (t : List PageUse) (i : ℕ) (u : PageUse) → is_used u ≡ true → i < length t → IsUnclaimed t i → unclaimed (set t i u) < unclaimed t
-unclaimed_fewer t i u used h e =
-    let k = sum_by-set weight t i u (first_use i) h in
-    let zero : weight u ≡ 0 = ap (λ b. cond (not b) 1 0) used in
-    let one : weight (use_at t i) ≡ 1 = ap (λ b. cond (not b) 1 0) e in
-    omega (arith, k, one, zero)
+unclaimed_fewer t i u used h e = grind (arith, sum_by-set)
 
 pub unclaimed_set : (t : List PageUse) (i : ℕ) → unclaimed (set t i Used) ≤ unclaimed t
 unclaimed_set t i =
@@ -41,24 +38,9 @@ past_metas t n high past = get_or_past t n (first_use n) past ∙ rw (le-ltb n 2
 pub first_unlisted : (n : ℕ) → times_of (first_use n) ≡ 0
 first_unlisted n = elim (cases_lt n 2) [ inl low ↦ rw (lt-ltb n 2 low) refl | inr high ↦ rw (le-ltb n 2 high) refl ]
 
-pub first_noted : (n : ℕ) (u : PageUse) → first_use n ≡ u → is_used u ≡ true → (n < 2) × (u ≡ Used)
-first_noted n u is used = elim (cases_lt n 2) [
-  | inl low ↦ (low, sym is ∙ rw (lt-ltb n 2 low) refl)
-  | inr high ↦ absurd (let unused = rw (le-ltb n 2 high) at is in cc)
-]
-
 pub first_claimed : (n : ℕ) → (is_used (first_use n) ≡ true) ↔ (n < 2)
-first_claimed n = (λ used. (first_noted n (first_use n) refl used).0, λ low. rw (lt-ltb n 2 low) refl)
+first_claimed n = grind (arith, lt-ltb)
 
 pub starts : (t : List PageUse) (i : ℕ) → ((k : ℕ) → k < i → use_at t k ≡ Used) → ((k : ℕ) → i ≤ k → k < length t → use_at t k ≡ Unused)
     → i ≤ 2 → min (length t) 2 ≤ i → (n : ℕ) → use_at t n ≡ first_use n
-starts t i metas others few most n = elim (cases_lt n i) [
-  | inl low ↦ metas n low ∙ rw (lt-ltb n 2 (omega arith)) refl
-  | inr high ↦ elim (cases_lt n (length t)) [
-    | inl inside ↦ others n high inside ∙ rw (le-ltb n 2 (omega arith)) refl
-    | inr past ↦ get_or_past t n (first_use n) past
-  ]
-]
-
-pub past_unlisted : (t : List PageUse) (n : ℕ) → length t ≤ n → times_of (use_at t n) ≡ 0
-past_unlisted t n past = ap times_of (get_or_past t n (first_use n) past) ∙ first_unlisted n
+starts t i metas others few most n = grind (arith, common_steps, cases_lt, lt-ltb, le-ltb)

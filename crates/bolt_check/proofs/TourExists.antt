@@ -12,9 +12,8 @@ without n (x ∷ xs) (inl e) = xs
 without n (x ∷ xs) (inr h) = x ∷ without n xs h
 
 pub shorter : (n : ℕ) (xs : List ℕ) (h : Has xs n) → length (without n xs h) < length xs
-shorter n [] h = absurd h
-shorter n (x ∷ xs) (inl e) = omega arith
 shorter n (x ∷ xs) (inr h) = let less = shorter n xs h in omega (arith, less)
+shorter n xs h = grind arith
 
 pub still : (n m : ℕ) (xs : List ℕ) (h : Has xs n) → m ≢ n → Has xs m → Has (without n xs h) m
 still n m [] h ne k = absurd h
@@ -42,11 +41,7 @@ module _ (nodes : Nodes) {left : List ℕ} {old : Reach} (fits : Fits nodes left
   fits_along : (rest : List ℕ) (new : Reach) (f : List ℕ → List ℕ) → ((b : List ℕ) (t : Spot) → new b ≡ Some t → old (f b) ≡ Some t)
       → ((a b : List ℕ) (t u : Spot) → new a ≡ Some t → new b ≡ Some u → f a ≡ f b → a ≡ b)
       → ((b : List ℕ) (t : PageSpot) → new b ≡ Some (At_page t) → Has left t.number → Has rest t.number) → Fits nodes rest new
-  fits_along rest new f same one stays = record {
-    good = λ b t e. fits.good (f b) t (same b (At_page t) e);
-    within = λ b t e. stays b t e (fits.within (f b) t (same b (At_page t) e));
-    apart = λ a b t u e h is. one a b (At_page t) (At_page u) e h (fits.apart (f a) (f b) t u (same a (At_page t) e) (same b (At_page u) h) is);
-  }
+  fits_along rest new f same one stays = grind arith
 
   pub fits_visited : {new : Reach} {o : Option Spot} {first : List ℕ} {f : List ℕ → List ℕ} → Visits old new o first f → Fits nodes left new
   fits_visited {new = new} {f = f} v = fits_along left new f v.same (one_of v) (λ b t e h. h)
@@ -62,11 +57,7 @@ module _ (nodes : Nodes) {left : List ℕ} {old : Reach} (fits : Fits nodes left
 -- the ways of sound trees fit
 sound_fits : (file : List ℕ) (meta : Meta) → HasSoundTrees file meta
     → Fits (node_at file meta) (numbers meta.high_water) (reached (node_at file meta) meta.root)
-sound_fits file meta trees = record {
-  good = λ way s e. (trees.good way s e).1;
-  within = λ way s e. let page = (trees.good way s e).1 in has_number s.number meta.high_water (node_below file meta s.number page.0 page.1);
-  apart = one_way (node_at file meta) meta.root trees;
-}
+sound_fits file meta trees = grind (arith, has_number, node_below, one_way)
 
 -- and so do those of a bucket that one of them leads to
 pub bucket_fits : (file : List ℕ) (meta : Meta) → HasSoundTrees file meta → (way : List ℕ) (root : ℕ)

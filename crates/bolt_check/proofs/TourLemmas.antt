@@ -1,5 +1,5 @@
 -- Tours: there is at most one, and a visit puts a way before those of what is left.
-use Rattle.std.proofs.Common.{◌≡◌, ◌∙◌, ℕ, inl, inr, List, [], ◌∷◌, map, Option, Some, None, refl, sym, subst}
+use Rattle.std.proofs.Common.{arith, ◌≡◌, ℕ, inl, inr, List, [], ◌∷◌, map, Option, Some, None, refl, sym, subst}
 use Rattle.bolt_check.proofs.{Words.Before, Words.Has, Words.IsTour, Words.none-some, Words.Reach, Words.Spot, Visiting.Visits}
 use Rattle.bolt_check.proofs.{Lists.has_map, Lists.map_has, Lists.one_list, WayOrder.before_strict}
 use Rattle.bolt_check.specs.Lists.{RisesBy}
@@ -16,9 +16,7 @@ rises_map f (v ∷ ways) up h = (
 )
 
 pub one_tour : (reach : Reach) (a b : Ways) → IsTour reach a → IsTour reach b → a ≡ b
-one_tour reach a b h k =
-    one_list Before before_strict a b h.rises k.rises (λ x i. let p = h.only x i in k.all x p.0 p.1)
-    (λ x i. let p = k.only x i in h.all x p.0 p.1)
+one_tour reach a b h k = grind (arith, one_list, before_strict)
 
 module _ {old new : Reach} {o : Option Spot} {first : List ℕ} {f : List ℕ → List ℕ} (v : Visits old new o first f) (tour : Ways) (is : IsTour new tour) where
   map_rises : RisesBy Before (map f tour)
@@ -28,16 +26,11 @@ module _ {old new : Reach} {o : Option Spot} {first : List ℕ} {f : List ℕ �
   map_all way b t same leads = subst (λ (z : List ℕ). Has (map f tour) z) (sym same) (has_map f tour b (is.all b t leads))
 
   map_only : (way : List ℕ) → Has (map f tour) way → (s : Spot) × (old way ≡ Some s)
-  map_only way h = let p = map_has f tour way h in let q = is.only p.0 p.1 in
-      (q.0, subst (λ (z : List ℕ). old z ≡ Some q.0) p.2 (v.same p.0 q.0 q.1))
+  map_only way h = grind (arith, map_has)
 
   -- the ways to what is left, as ways of the whole
   pub tour_map : o ≡ None → IsTour old (map f tour)
-  tour_map none = record {
-    rises = map_rises;
-    all = λ way t e. elim (v.all way t e) [ inl at ↦ absurd (none-some t (sym none ∙ at.1)) | inr (b, (same, leads)) ↦ map_all way b t same leads ];
-    only = map_only;
-  }
+  tour_map none = grind (arith, map_rises, none-some, map_all, map_only)
 
   -- a visit's way, and then the tour of what is left
   pub tour_step : (s : Spot) → o ≡ Some s → IsTour old (first ∷ map f tour)

@@ -1,7 +1,8 @@
 -- A sum over the tour of a bucket, page by page: a page's own, and those of the pages that it leads to.
+use Rattle.std.proofs.lemmas.Grind.{common_steps}
 use Rattle.std.proofs.Common.{◌≡◌, ◌∙◌, ◌==◌, ℕ, zero, suc, ◌+◌, ◌≤◌, inl, inr, Bool, true, false, List, [], ◌∷◌, ◌++◌, Option, Some, None, Result, Ok, cond, length, map, sum_by, refl, sym, ap, subst, arith}
 use Rattle.bolt_check.proofs.Words.{At_inline, At_page, Entry, forest, Has, HasSoundTrees, IsSome, IsTour, Key, Meta, Node, node_at, Nodes, page_at, PageSpot, places, Reach, root_spot, somes, Spot, sum_by-cons}
-use Rattle.bolt_check.proofs.Forest.{forest_empty, inline_visits, nothing_is, page_visits, root_visits, tail}
+use Rattle.bolt_check.proofs.Forest.{forest_empty, inline_visits, page_visits, root_visits, tail}
 use Rattle.bolt_check.proofs.{Lists.has_left, Lists.has_right, MarkLemmas.node_shown}
 use Rattle.bolt_check.proofs.TourExists.{Fits, bucket_fits, fits_page, fits_visited, numbers, shorter, without}
 use Rattle.bolt_check.proofs.{TourLemmas.Ways, TourLemmas.tour_map, TourLemmas.tour_step, Visiting.Visits}
@@ -23,8 +24,7 @@ pages_append (At_inline host keys ∷ a) b = pages_append a b
 
 somes_bucket : (bucket small : Bool) (host : ℕ) (e : Entry) (os : List (Option Spot))
     → pages_of (somes (cond bucket (Some (cond small (At_inline host e.inner) (At_page (root_spot e.child)))) None ∷ os)) ≡ cond bucket (cond small [] (e.child ∷ [])) [] ++ pages_of (somes os)
-somes_bucket true true host e os = refl
-somes_bucket bucket small host e os = refl
+somes_bucket bucket small host e os = grind arith
 
 -- the pages that a page leads to are those of its kids
 pages_of_kids : (is_leaf : Bool) (s : PageSpot) (entries : List Entry) → pages_of (somes (places is_leaf s entries)) ≡ kid_pages is_leaf entries
@@ -92,14 +92,11 @@ module _ (nodes : Nodes) where
     -- the sum over the ways to what is left is the same in the whole
     map_sum : {old new : Reach} {o : Option Spot} {first : List ℕ} {f : List ℕ → List ℕ} → Visits old new o first f → (tour : Ways) → IsTour new tour
         → sum_by (λ way. spot_weight own (old way)) (map f tour) ≡ sum_by (λ way. spot_weight own (new way)) tour
-    map_sum {old = old} {new = new} {f = f} v tour is = sum_map f (λ way. spot_weight own (old way)) (λ way. spot_weight own (new way)) tour (λ way i.
-        let (t, e) = is.only way i in ap (spot_weight own) (v.same way t e ∙ sym e))
+    map_sum {old = old} {new = new} {f = f} v tour is = grind (arith, sum_map)
 
     step_sum : {old new : Reach} {first : List ℕ} {f : List ℕ → List ℕ} (s : Spot) → Visits old new (Some s) first f → (tour : Ways) → IsTour new tour
         → sum_by (λ way. spot_weight own (old way)) (first ∷ map f tour) ≡ spot_weight own (Some s) + sum_by (λ way. spot_weight own (new way)) tour
-    step_sum {old = old} {first = first} {f = f} s v tour is =
-        let here = ap (spot_weight own) (v.leads s refl) in omega
-        (arith, here, map_sum v tour is, sum_by-cons (λ way. spot_weight own (old way)) first (map f tour))
+    step_sum {old = old} {first = first} {f = f} s v tour is = grind (arith, common_steps, map_sum)
 
     page_sum : (n : ℕ) (s : PageSpot) (node : Node) (rest : List Spot) → nodes s.number ≡ Ok node
         → Summed n (somes (places node.is_leaf s node.entries) ++ rest) → Summed (suc n) (At_page s ∷ rest)
@@ -133,8 +130,7 @@ module _ (nodes : Nodes) where
     -- spots that fit, by the pages that are left
     along : (n : ℕ) → ((p : ℕ) → n ≡ suc p → (left : List ℕ) (spots : List Spot) → length left ≤ p → Fits nodes left (forest nodes spots) → Summed p spots)
         → (left : List ℕ) (spots : List Spot) → length left ≤ n → Fits nodes left (forest nodes spots) → Summed n spots
-    along n below left [] le fits =
-        (λ m h. absurd h, ([], record { rises = tt; all = λ way s e. nothing_is s (sym (forest_empty nodes way) ∙ e); only = λ way i. absurd i }, refl))
+    along n below left [] le fits = grind (arith, forest_empty)
     along n below left (At_inline host keys ∷ rest) le fits =
         inline_sum n host keys rest (along n below left rest le (fits_visited nodes fits (inline_visits nodes host keys rest)))
     along zero below left (At_page s ∷ rest) le fits = absurd (omega (arith, shorter s.number left (fits.within (0 ∷ []) s refl), le))
@@ -180,9 +176,7 @@ bucket_tour file meta trees way root leads = let (_, (tour, is, _)) = bucket_sum
 
 -- a page below which there are enough steps is a good branch or leaf
 pub enough_node : (nodes : Nodes) (k n : ℕ) → Enough nodes k n → (node : Node) × (nodes n ≡ Ok node)
-enough_node nodes zero n h = absurd h
-enough_node nodes (suc k) n (node, page, kids) = (node, page)
+enough_node nodes k n h = grind arith
 
 pub enough_shown : (file : List ℕ) (meta : Meta) (k n : ℕ) → Enough (node_at file meta) k n → IsSome (page_at file meta n)
-enough_shown file meta k n h =
-    let (node, page) = enough_node (node_at file meta) k n h in node_shown file meta n node page
+enough_shown file meta k n h = grind (arith, enough_node, node_shown)

@@ -1,5 +1,5 @@
 -- Pages that ways lead to: each is a leaf or a branch, as bolt_format's page and as the rules' node; what its elements lead to.
-use Rattle.std.proofs.Common.{◌≡◌, ◌==◌, ℕ, suc, ◌≤◌, List, [], ◌∷◌, ◌++◌, true, false, inl, inr, Option, Some, None, Result, Ok, slice_get, map, refl, sym, ap, ◌∙◌, arith, subst}
+use Rattle.std.proofs.Common.{rules, ◌≡◌, ◌==◌, ℕ, suc, ◌≤◌, List, [], ◌∷◌, ◌++◌, true, false, Option, Some, None, Result, Ok, slice_get, map, refl, sym, ap, ◌∙◌, arith, subst}
 use Rattle.std.proofs.lemmas.Option.{slice_get_cases}
 use Rattle.bolt_check.proofs.Words.{At_inline, At_page, branch_entry, BranchElement, bucket_spot, child_at, child_in, child_spot, Entry, HasSoundTrees, head_root, IsOnWay, keys_of, Kind, leads, leaf_entry, LeafElement, Meta, Node, node_at, node_of, node_seen, Nodes, none-some, option_map, page_at, page_fault, PageSpot, PageView, root_spot, slice_get-map, Spot, step, upper_from}
 use Rattle.bolt_format.specs.Elements.{inline_elements}
@@ -55,8 +55,7 @@ step_bucket nodes s i node e q leaf g b = rw (q, leaf, g, b) refl
 
 -- one step after a way
 pub step_after : (nodes : Nodes) (root i : ℕ) (way : List ℕ) (s : Spot) (o : Option Spot) → reached nodes root way ≡ Some s → step nodes (Some s) i ≡ o → reached nodes root (way ++ i ∷ []) ≡ o
-step_after nodes root i way s o led st =
-    follow_append nodes (Some (At_page (root_spot root))) way (i ∷ []) ∙ (ap (λ (x : Option Spot). step nodes x i) led ∙ st)
+step_after nodes root i way s o led st = grind (arith, follow_append)
 
 module _ (file : List ℕ) (meta : Meta) where
   -- the node of a page on a way, by its spot
@@ -104,9 +103,7 @@ module _ (file : List ℕ) (meta : Meta) where
   -- where the first step of an address leads
   pub leads_child : (number i : ℕ) (view : PageView) (e : BranchElement) (rest : List ℕ) → node_at file meta number ≡ Ok (branch_node view)
       → slice_get view.branches i ≡ Some e → leads (node_at file meta) (Some number) (i ∷ rest) ≡ leads (node_at file meta) (Some e.child) rest
-  leads_child number i view e rest node g =
-      let c : child_at (node_at file meta) (Some number) i ≡ Some e.child = ap (λ (o : Result Node ℕ). child_in o i) node ∙ rw (branch_entry_at view.branches i e g) refl in
-      ap (λ (o : Option ℕ). leads (node_at file meta) o rest) c
+  leads_child number i view e rest node g = grind (arith, branch_entry_at)
 
 -- no address goes on without a step
 no_step : (nodes : Nodes) (number i m : ℕ) (rest : List ℕ) → child_at nodes (Some number) i ≡ None → leads nodes (Some number) (i ∷ rest) ≡ Some m → ⊥
@@ -119,12 +116,7 @@ leaf_ends nodes number i m view rest node l = no_step nodes number i m rest (ap 
 -- a step of an address takes an element of a branch
 pub branch_step : (nodes : Nodes) (number i m : ℕ) (view : PageView) (rest : List ℕ) → nodes number ≡ Ok (branch_node view) → leads nodes (Some number) (i ∷ rest) ≡ Some m
     → (e : BranchElement) × (slice_get view.branches i ≡ Some e)
-branch_step nodes number i m view rest node l = elim (slice_get_cases view.branches i).1 [
-  | inl (e, _, at, _) ↦ (e, at)
-  | inr (_, none) ↦
-      let n : slice_get (map branch_entry view.branches) i ≡ None = slice_get-map branch_entry view.branches i ∙ ap (option_map branch_entry) none in
-      absurd (no_step nodes number i m rest (ap (λ (o : Result Node ℕ). child_in o i) node ∙ rw n refl) l)
-]
+branch_step nodes number i m view rest node l = search (rules, slice_get_cases, slice_get-map, no_step)
 
 module _ (file : List ℕ) (meta : Meta) (trees : HasSoundTrees file meta) where
   pub on_way_page : (number depth : ℕ) → IsOnWay file meta number depth → IsTreePage file meta number

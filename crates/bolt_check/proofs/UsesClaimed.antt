@@ -1,6 +1,6 @@
 -- The table of pages, after the freelist's span was claimed and its ids were listed.
 use Rattle.std.proofs.Common.{◌≡◌, ◌≢◌, ◌∙◌, ℕ, inl, inr, List, ap, arith, sym}
-use Rattle.bolt_check.proofs.Words.{cases_lt, ClaimsFreelist, ClaimsUses, is_used, IsClaimed, IsInUse, ListsFree, Meta, NO_FREELIST, PageUse, times_in, use_at}
+use Rattle.bolt_check.proofs.Words.{ClaimsFreelist, ClaimsUses, is_used, IsClaimed, IsInUse, ListsFree, Meta, NO_FREELIST, PageUse, times_in, use_at}
 
 -- no freelist was written
 pub uses_unwritten : (file : List ℕ) (meta : Meta) (table : List PageUse) → (meta.freelist ≢ NO_FREELIST → ⊥) → ClaimsUses file meta table table
@@ -20,10 +20,7 @@ module _ (file : List ℕ) (meta : Meta) (old mid : List PageUse) (claims : Clai
   module _ (new : List PageUse) (ids : List ℕ) (lists : ListsFree meta.high_water (IsInUse file meta (IsClaimed old)) (times_in ids))
       (used : (n : ℕ) → is_used (use_at new n) ≡ is_used (use_at mid n)) (kept : (n : ℕ) → times_in ids n ≡ 0 → use_at new n ≡ use_at mid n) where
     unlisted : (n : ℕ) → IsClaimed new n → times_in ids n ≡ 0
-    unlisted n is = elim (cases_lt 0 (times_in ids n)) [
-      | inl some ↦ absurd ((lists.free n (omega arith)).unused (claims.split n (sym (used n) ∙ is)))
-      | inr none ↦ omega arith
-    ]
+    unlisted n is = grind arith
 
     pub uses_listed : ClaimsUses file meta old new
     uses_listed = record {

@@ -1,8 +1,8 @@
 -- The steps of the search, and its beginning and end.
-use Rattle.std.proofs.Common.{◌≡◌, ℕ, ◌-◌, ◌↔◌, inl, List, [], ◌∷◌, ◌++◌, None, Result, Ok, Err, Vec, Global, length, take, drop, sym, ap, subst, arith}
+use Rattle.std.proofs.Common.{◌≡◌, ℕ, ◌-◌, ◌↔◌, inl, List, [], ◌∷◌, ◌++◌, None, Result, Ok, Vec, Global, length, take, drop, ap, arith}
 use Rattle.std.proofs.lemmas.List.{take_at}
 use Rattle.std.specs.Prelude.{IfErr, IsErrAnd}
-use Rattle.bolt_check.proofs.Words.{At_inline, At_page, Carries, Finding, forest, inline_finding, IsClaimed, IsClean, IsCovered, IsFirst, IsMetaPage, IsMetaUse, IsNoted, IsSearchFault, Key, kids, Node, Nodes, PagePasses, PageSpot, PageUse, Reach, root_spot, Spot, spot_at, spots_of, Structure}
+use Rattle.bolt_check.proofs.Words.{At_inline, At_page, Carries, Finding, forest, inline_finding, IsClaimed, IsClean, IsCovered, IsFirst, IsMetaPage, IsMetaUse, IsNoted, IsSearchFault, Key, kids, Node, Nodes, PagePasses, PageSpot, PageUse, Reach, root_spot, Spot, spot_at, spots_of}
 use Rattle.bolt_check.proofs.{Forest.clean_end, Forest.covered_end, Forest.inline_visits, Forest.page_visits, Forest.root_visits, Pendings.spots_push}
 use Rattle.bolt_check.proofs.Visiting.{carries}
 use Rattle.bolt_check.specs.{Private.Pending.ClaimsSpan, Ways.reached, declared.fault.CheckFault.CheckFault, declared.spot.Spot.Spot as CodeSpot}
@@ -37,9 +37,7 @@ ended nodes items {d = d} carried none =
     (h.clean (clean_end nodes d), λ n. (λ m. (h.covered n).0 (inl m), λ m. covered_end nodes d n ((h.covered n).1 m)))
 
 pub none_left : (items rest : List CodeSpot) (n : ℕ) → n ≡ 0 → rest ≡ take (n - 1) items → items ≡ rest ++ [] → items ≡ []
-none_left items rest n z r e =
-    let r0 : rest ≡ take (0 - 1) items = rw z at r in
-    rw r0 at e
+none_left items rest n z r e = grind arith
 
 -- the topmost was taken away
 pub spots_pop : (items rest : List CodeSpot) (s : CodeSpot) → items ≡ rest ++ s ∷ [] → spots_of items ≡ spot_at s ∷ spots_of rest
@@ -53,10 +51,8 @@ stored table lent new was long = take_at new (drop (length new) table.items) tab
 -- a fault reported of what is left is reported of the whole
 pub reported_back : (nodes : Nodes) (old new : Reach) (c d : ℕ → Type 0) (fault : CheckFault) → ((x : Finding) → IsFirst nodes new d x → IsFirst nodes old c x)
     → IsSearchFault nodes new d fault → IsSearchFault nodes old c fault
-reported_back nodes old new c d (Structure x) f h = f x h
-reported_back nodes old new c d fault f h = h
+reported_back nodes old new c d fault f h = grind arith
 
 -- and so is one that is passed on as it is
 pub passed_on : {T E : Type 0} (r : Result T E) (fault : E) (P : E → Type 0) → P fault → IsErrAnd r (λ e. e ≡ fault) → IfErr r P
-passed_on (Ok x) fault P reported e = tt
-passed_on (Err other) fault P reported e = subst P (sym e) reported
+passed_on r fault P reported e = grind arith

@@ -1,8 +1,8 @@
 -- A search for findings goes on from what a visited spot leads to.
-use Rattle.std.proofs.Common.{◌≡◌, ℕ, ◌⊎◌, inl, inr, List, Option, Some, None, subst}
+use Rattle.std.proofs.Common.{arith, ◌≡◌, ℕ, ◌⊎◌, inl, inr, List, Option, Some, None}
 use Rattle.bolt_check.proofs.Words.{Before, Carries, HasUse, IsClaimedBefore, IsCovered, Nodes, PageUse, Passes, Reach, SpanHas, Spot, Tests, UseOf}
 use Rattle.bolt_check.proofs.WayOrder.{before_irreflexive, before_strict, before_total}
-use Rattle.bolt_check.proofs.Judging.{tests_same, passes_fewer, passes_silent, span_spot, span_at, use_back, use_spot}
+use Rattle.bolt_check.proofs.Judging.{tests_same, passes_fewer, passes_silent, span_spot, use_back, use_spot}
 use Rattle.bolt_check.specs.Private.Carries.{Takes}
 
 -- the ways of `old` are `first`, if o is a spot, and after it and in the same order those of `new`
@@ -20,54 +20,31 @@ PassesAt nodes c (Some s) = Passes nodes c s
 module _ {old new : Reach} {o : Option Spot} {first : List ℕ} {f : List ℕ → List ℕ} (v : Visits old new o first f) where
   -- the order is the same
   pub not_after : (w b : List ℕ) (t u : Spot) → new w ≡ Some t → new b ≡ Some u → Before (f w) (f b) → Before w b
-  not_after w b t u at_w at_b lt = elim (before_total w b) [
-    | inl e ↦ absurd (before_irreflexive (f b) (subst (λ z. Before (f z) (f b)) e lt))
-    | inr (inl k) ↦ k
-    | inr (inr k) ↦ absurd (before_strict (f w) (f b) lt (v.rising b w u t at_b at_w k))
-  ]
+  not_after w b t u at_w at_b lt = grind (arith, before_total, before_strict)
 
   -- and no two ways become one
   pub one_of : (a b : List ℕ) (t u : Spot) → new a ≡ Some t → new b ≡ Some u → f a ≡ f b → a ≡ b
-  one_of a b t u at_a at_b e = elim (before_total a b) [
-    | inl same ↦ same
-    | inr (inl lt) ↦ absurd (before_irreflexive (f b) (subst (λ z. Before z (f b)) e (v.rising a b t u at_a at_b lt)))
-    | inr (inr gt) ↦ absurd (before_irreflexive (f b) (subst (λ z. Before (f b) z) e (v.rising b a u t at_b at_a gt)))
-  ]
+  one_of a b t u at_a at_b e = grind (arith, before_total, before_irreflexive)
 
 module _ (nodes : Nodes) {old new : Reach} {o : Option Spot} {first : List ℕ} {f : List ℕ → List ℕ} {c d : ℕ → Type 0} {a b : ℕ → PageUse → Type 0}
     (v : Visits old new o first f) (takes : Takes nodes o c d a b) where
   span_first : (n : ℕ) → SpanHas nodes o n → SpanHas nodes (old first) n
-  span_first n h = let s = span_spot nodes o n h in span_at nodes (old first) s.0 n (v.leads s.0 s.1.0) s.1.1
+  span_first n h = grind (arith, span_spot)
 
   use_first : (n : ℕ) (u : PageUse) → UseOf nodes o n u → UseOf nodes (old first) n u
   use_first n u h = let s = use_spot nodes o n u h in use_back nodes (old first) s.0 n u (v.leads s.0 s.1.0) s.1.1
 
   span_later : (w : List ℕ) (n : ℕ) → SpanHas nodes (new w) n → SpanHas nodes (old (f w)) n
-  span_later w n h = let p = span_spot nodes (new w) n h in span_at nodes (old (f w)) p.0 n (v.same w p.0 p.1.0) p.1.1
+  span_later w n h = grind (arith, span_spot)
 
   claimed_to_old : (w : List ℕ) (t : Spot) → new w ≡ Some t → (n : ℕ) → IsClaimedBefore nodes new d w n → IsClaimedBefore nodes old c (f w) n
-  claimed_to_old w t e n (inl h) = elim (takes.split n h) [
-    | inl k ↦ inl k
-    | inr k ↦ let s = span_spot nodes o n k in inr (first, (v.after s.0 s.1.0 w t e, span_first n k))
-  ]
-  claimed_to_old w t e n (inr (y, (lt, h))) = let p = span_spot nodes (new y) n h in inr (f y, (v.rising y w p.0 t p.1.0 e lt, span_later y n h))
+  claimed_to_old w t e n h = grind arith
 
   claimed_to_new : (w : List ℕ) (t : Spot) → new w ≡ Some t → (n : ℕ) → IsClaimedBefore nodes old c (f w) n → IsClaimedBefore nodes new d w n
-  claimed_to_new w t e n (inl h) = inl (takes.kept n h)
-  claimed_to_new w t e n (inr (y, (lt, h))) = let p = span_spot nodes (old y) n h in elim (v.all y p.0 p.1.0) [
-    | inl q ↦ inl (takes.span n (span_at nodes o p.0 n q.1 p.1.1))
-    | inr g ↦ inr (g.0, (not_after v g.0 w p.0 t g.1.1 e (rw (← g.1.0) lt), span_at nodes (new g.0) p.0 n g.1.1 p.1.1))
-  ]
-
-  claimed_first : (s : Spot) → o ≡ Some s → (n : ℕ) → IsClaimedBefore nodes old c first n → c n
-  claimed_first s e n (inl h) = h
-  claimed_first s e n (inr (y, (lt, h))) = let p = span_spot nodes (old y) n h in elim (v.all y p.0 p.1.0) [
-    | inl q ↦ absurd (before_irreflexive first (rw q.0 at lt))
-    | inr g ↦ absurd (before_strict first (f g.0) (v.after s e g.0 p.0 g.1.1) (rw (← g.1.0) lt))
-  ]
+  claimed_to_new w t e n h = grind (arith, span_spot, not_after)
 
   first_passes : PassesAt nodes c o → (s : Spot) → o ≡ Some s → Passes nodes (IsClaimedBefore nodes old c first) s
-  first_passes h s e = passes_fewer nodes c (IsClaimedBefore nodes old c first) s (claimed_first s e) (subst (PassesAt nodes c) e h)
+  first_passes h s e = grind (arith, passes_fewer, span_spot, before_strict)
 
   pub carries : PassesAt nodes c o → Carries nodes old c a new d b
   carries h = record {
@@ -103,15 +80,10 @@ module _ (nodes : Nodes) {old new : Reach} {o : Option Spot} {first : List ℕ} 
       covered_to_old n (inr (y, h)) = inr (f y, span_later y n h)
 
       covered_to_new : (n : ℕ) → IsCovered nodes old c n → IsCovered nodes new d n
-      covered_to_new n (inl h) = inl (takes.kept n h)
-      covered_to_new n (inr (y, h)) = let p = span_spot nodes (old y) n h in elim (v.all y p.0 p.1.0) [
-        | inl q ↦ inl (takes.span n (span_at nodes o p.0 n q.1 p.1.1))
-        | inr g ↦ inr (g.0, span_at nodes (new g.0) p.0 n g.1.1 p.1.1)
-      ]
+      covered_to_new n h = grind arith
 
       uses_to_old : (n : ℕ) (u : PageUse) → HasUse nodes new b n u → HasUse nodes old a n u
-      uses_to_old n u (inl h) = elim (takes.uses n u h) [ inl k ↦ inl k | inr k ↦ inr (first, use_first n u k) ]
-      uses_to_old n u (inr (y, h)) = let p = use_spot nodes (new y) n u h in inr (f y, use_back nodes (old (f y)) p.0 n u (v.same y p.0 p.1.0) p.1.1)
+      uses_to_old n u h = grind arith
 
 pub carries_on : (nodes : Nodes) {x y z : Reach} {c d e : ℕ → Type 0} {k l m : ℕ → PageUse → Type 0} → Carries nodes x c k y d l → Carries nodes y d l z e m
     → Carries nodes x c k z e m

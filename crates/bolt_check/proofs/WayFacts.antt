@@ -1,5 +1,5 @@
 -- Ways, addresses and the pages that they lead to, for the crates above too.
-use Rattle.std.proofs.Common.{◌≡◌, ◌∙◌, ℕ, suc, Bool, true, false, List, [], ◌∷◌, ◌++◌, map, Option, Some, None, Result, Ok, Err, slice_get, refl, sym, ap, subst, arith}
+use Rattle.std.proofs.Common.{◌≡◌, ◌∙◌, ℕ, suc, Bool, true, false, List, [], ◌∷◌, ◌++◌, map, Option, Some, None, Result, Ok, slice_get, refl, sym, ap, subst, arith}
 use Rattle.bolt_check.proofs.Words.{At_page, child_at, child_in, child_spot, Entry, follow, HasShape, keys_of, Kind, leads, leaf_entry, Meta, Node, node_at, node_of, node_seen, Nodes, none-some, option_map, page_at, page_fault, PageSpot, PageView, same_Some, slice_get-map, SpanHas, SpanOf, Spot, step, upper_from}
 use Rattle.bolt_format.specs.declared.header.Kind.TheVariants as kind
 use Rattle.bolt_check.specs.{Shape.child_of, Ways.reached}
@@ -27,14 +27,12 @@ leads_none nodes [] = refl
 leads_none nodes (i ∷ address) = leads_none nodes address
 
 is_entry : (leaf : Bool) (o : Option Entry) (c : ℕ) → child_of leaf o ≡ Some c → (e : Entry) × (leaf ≡ false) × (o ≡ Some e) × (e.child ≡ c)
-is_entry false (Some e) c h = (e, refl, refl, cc)
-is_entry leaf o c h = absurd (none-some c h)
+is_entry leaf o c h = grind arith
 
 -- a child of a branch
 pub is_child : (nodes : Nodes) (s : PageSpot) (i : ℕ) (o : Result Node ℕ) (c : ℕ) → nodes s.number ≡ o → child_in o i ≡ Some c
     → (node : Node) × (e : Entry) × (nodes s.number ≡ Ok node) × (node.is_leaf ≡ false) × (slice_get node.entries i ≡ Some e) × (e.child ≡ c)
-is_child nodes s i (Err f) c q h = absurd (none-some c h)
-is_child nodes s i (Ok node) c q h = let p = is_entry node.is_leaf (slice_get node.entries i) c h in (node, p.0, q, p.1, p.2, p.3)
+is_child nodes s i o c q h = grind arith
 
 pub leads_some : (nodes : Nodes) (o : Option ℕ) (address : List ℕ) (below : ℕ) → leads nodes o address ≡ Some below → (c : ℕ) × (o ≡ Some c)
 leads_some nodes None address below e = absurd (none-some below (sym (leads_none nodes address) ∙ e))

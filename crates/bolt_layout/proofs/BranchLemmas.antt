@@ -1,6 +1,6 @@
 -- The elements of a branch page that was written are read back, and pass their tests.
-use Rattle.std.proofs.Common.{◌≡◌, ◌∙◌, ℕ, suc, ◌+◌, ◌*◌, ◌^◌, ◌<◌, ◌≤◌, nat_lt, false, List, [], ◌∷◌, ◌++◌, length, map, drop, None, refl, sym, ap, arith, append_assoc, add-one}
-use Rattle.bolt_layout.proofs.Words.{AllByRecursion, branch_bytes, branch_data, branch_header, branch_headers, BranchElement, element_at, faults_from, first_of-both, key_pos, le-ltb, length-append, part_next, part_read, part_within, range_with_len, table_fault}
+use Rattle.std.proofs.Common.{◌≡◌, ◌∙◌, ℕ, suc, ◌+◌, ◌*◌, ◌^◌, ◌<◌, ◌≤◌, List, [], ◌∷◌, ◌++◌, length, map, drop, None, refl, sym, ap, arith, append_assoc, add-one}
+use Rattle.bolt_layout.proofs.Words.{AllByRecursion, branch_bytes, branch_data, branch_header, branch_headers, BranchElement, element_at, faults_from, first_of-both, key_pos, le-ltb, length-append, part_next, part_read, part_within, range_with_len}
 use Rattle.bolt_format.specs.Elements.{branch_element, branch_elements, branch_end, branch_fault, branch_key_start, branches_fault}
 use Rattle.bolt_format.specs.ReadBack.{IsBranchHeader}
 use Rattle.bolt_format.proofs.EncodedHeaders.{branch_header_written, length-branch_header}
@@ -54,8 +54,7 @@ branch_run bytes (e ∷ es) i before free tail rest heads text fits small within
     let behind : drop (element_at (suc i + length es) + (before + length e.key)) bytes ≡ branch_data es ++ rest =
     part_next bytes e.key (branch_data es ++ rest) (element_at i + pos) _ here (omega arith) in
     let more = branch_run bytes es (suc i) (before + length e.key) (branch_end bytes i) tail rest next behind fits.1 (omega arith) (omega arith) (omega arith) in
-    let elements : map (branch_element bytes) (range_with_len (i + 1) (length es)) ≡ es = ap (λ (k : ℕ). map (branch_element bytes) (range_with_len k (length es))) (add-one i) ∙ more.0 in
-    grind (arith, first_of-both)
+    grind (arith, range_with_len, add-one, first_of-both)
 
 -- the elements of a branch page after a header
 pub branches_written : (bytes : List ℕ) (es : List BranchElement) (rest : List ℕ)
@@ -69,5 +68,4 @@ branches_written bytes es rest h within fits small =
     let table = part_within bytes (branch_headers 0 es) (branch_data es ++ rest) 16 heads within in
     let text : drop (element_at (0 + length es) + 0) bytes ≡ branch_data es ++ rest = part_next bytes (branch_headers 0 es) (branch_data es ++ rest) 16 _ heads (omega arith) in
     let run = branch_run bytes es 0 0 (element_at (length es)) (branch_data es ++ rest) rest heads text fits (omega arith) (omega arith) (omega arith) in
-    let room : nat_lt (length bytes) (element_at (length es)) ≡ false = le-ltb (length bytes) (element_at (length es)) (omega arith) in
-    (run.0, first_of-both (table_fault bytes (length es)) _ (rw room refl) run.1)
+    grind (arith, le-ltb, first_of-both)

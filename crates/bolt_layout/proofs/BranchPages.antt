@@ -1,8 +1,10 @@
 -- A branch page over pages, and by the height the page over a row of items.
+use Rattle.std.proofs.lemmas.Grind.{common_steps}
+use Rattle.bolt_check.proofs.KeyLaws.{lt_strict}
 use Rattle.std.proofs.Common.{◌≡◌, ◌∙◌, ℕ, zero, suc, ◌+◌, ◌*◌, ◌<◌, ◌≤◌, ◌==◌, true, false, List, [], ◌∷◌, ◌++◌, length, map, Option, Some, None, slice_get, refl, sym, ap, subst, arith, sum_by}
-use Rattle.bolt_layout.proofs.Words.{AllByRecursion, At_page, branch_data, branch_page_view, BranchElement, elements_of, Entry, is_below, is_from, Key, keys_of, keys_order_fault, Laid, LeafElement, length-append, ne_eqb, Node, node_finding, node_of, Nodes, numbers_of, page_over, pages_of, PageSpot, Placed, places, run_overflow, size_of, sum_by-cons}
+use Rattle.bolt_layout.proofs.Words.{AllByRecursion, At_page, branch_data, branch_page_view, BranchElement, elements_of, Entry, is_below, is_from, Key, keys_of, keys_order_fault, Laid, LeafElement, length-append, ne_eqb, Node, node_finding, node_of, Nodes, numbers_of, page_over, pages_of, PageSpot, Placed, places, run_overflow, size_of, sum_by-cons, cases_Bool}
 use Rattle.bolt_layout.proofs.BranchLemmas.{IsBranchFit}
-use Rattle.bolt_layout.proofs.KeyLaws.{AreBelow, IsAbove, IsBelowItem, IsWithin, Rise, key_step, lt_not, rise_split}
+use Rattle.bolt_layout.proofs.KeyLaws.{AreBelow, IsAbove, IsBelowItem, IsWithin, Rise, key_step, rise_split}
 use Rattle.bolt_layout.proofs.{ListLemmas.all_split, ListLemmas.all_weaker, OverRows.IsOver, OverRows.IsRun, OverRows.Pieces}
 use Rattle.bolt_layout.proofs.Parts.{IsPart, kids_at, more_kids, no_kids}
 use Rattle.bolt_layout.proofs.PageRows.{HasRoom, IsPageFit, branch_room, overflow_room, overflow_small}
@@ -22,9 +24,7 @@ pieces_size page_size height [] leaves h n = refl
 pieces_size page_size height (kid ∷ kids) leaves h n =
     let (x, front, back, e, page, more) = h in
     let ih = pieces_size page_size height kids back more (n + kid.numbers) in
-    let s = sum_by-cons (size_of {E = BranchElement}) kid kids in
-    let k : length (kid.element n).key ≡ length kid.key = ap (λ (y : List ℕ). length y) (page.key n) in
-    let d = length-append (kid.element n).key (branch_data (elements_of kids (n + kid.numbers))) in omega arith
+    grind (arith, common_steps, sum_by-cons, length-append)
 
 pub pieces_fit : (page_size height : ℕ) (kids : List (Laid BranchElement)) (leaves : List (Laid LeafElement)) → Pieces (IsPage page_size height) kids leaves
     → AllByRecursion (IsItem page_size) leaves → (n : ℕ) → n + numbers_of kids ≤ limit → AllByRecursion IsBranchFit (elements_of kids n)
@@ -52,7 +52,7 @@ upper_holds page_size height (kid ∷ kids) back ys upper m pieces below within 
 
 pub lower_holds : (x : Laid LeafElement) (key : Key) (ys : List (Laid LeafElement)) → key ≡ x.key → AllByRecursion (IsBelowItem x) ys
     → AllByRecursion (λ (y : Laid LeafElement). is_from (Some key) y.key ≡ true) (x ∷ ys)
-lower_holds x key ys same h = grind (arith, all_weaker, lt_not)
+lower_holds x key ys same h = grind (arith, all_weaker, cases_Bool, lt_strict)
 
 pub both_hold : (lower upper : Option Key) (ys : List (Laid LeafElement)) → AllByRecursion (λ (y : Laid LeafElement). is_from lower y.key ≡ true) ys
     → AllByRecursion (λ (y : Laid LeafElement). is_below upper y.key ≡ true) ys → AllByRecursion (IsWithin lower upper) ys

@@ -21,9 +21,8 @@ pub map_cut : {X Y : Type 0} (f : X → Y) (page_size least : ℕ) (size : Y →
 map_cut f page_size least size items = grind (arith, map_from)
 
 pub map_last : {X Y : Type 0} (f : X → Y) (runs : List (List X)) → last_length (map (map f) runs) ≡ last_length runs
-map_last f [] = refl
-map_last f (run ∷ []) = length-map run f
 map_last f (run ∷ next ∷ runs) = map_last f (next ∷ runs)
+map_last f runs = grind (arith, length-map)
 
 map_join : {X Y : Type 0} (f : X → Y) (runs : List (List X)) → map (map f) (join_last runs) ≡ join_last (map (map f) runs)
 map_join f [] = refl

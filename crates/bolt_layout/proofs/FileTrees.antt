@@ -1,5 +1,5 @@
 -- What a file holds can be stored: the tree of a listing that rises, and whose members are held under their paths.
-use Rattle.std.proofs.Common.{◌≡◌, ◌∙◌, ℕ, ◌^◌, ◌<◌, Bool, true, false, IsTrue, List, [], ◌∷◌, ◌++◌, length, drop, refl, sym, ap, subst, subst₂, inl, inr, arith}
+use Rattle.std.proofs.Common.{◌≡◌, ◌∙◌, ℕ, ◌^◌, ◌<◌, Bool, true, false, IsTrue, List, [], ◌∷◌, ◌++◌, drop, refl, sym, ap, subst, subst₂, inl, inr, arith}
 use Rattle.std.proofs.lemmas.List.{same_from_push}
 use Rattle.bolt_layout.proofs.Words.{Contains, Contains-append_left, Contains-append_right, contains_cases, contains_head, contains_none, contains_tail, end, HasLengths, HasSoundTrees, head_root, head_sequence, inline_elements, Inline_page, IsBelow, IsEntry, IsOfOneTree, IsStorable, IsTreeOf, Key, key_cmp, keys_in, LeafElement, Less, listing_below, listing_of, Member, Meta, Path, Rises, RisesInside, Root_page, Start, start_of, Tree, tree_of, with_bucket, with_value}
 use Rattle.bolt_layout.proofs.SoundCopies.{TreeLists}
@@ -7,13 +7,13 @@ use Rattle.std.specs.Ordering.{ordering_then}
 use Rattle.std.specs.declared.cmp.Ordering.{Ordering}
 use Rattle.std.specs.declared.cmp.Ordering.TheVariants.{Equal}
 use Rattle.byteorder.specs.Numbers.{little_from-lt}
-use Rattle.bolt_format.specs.{Bytes.IsBytes, Bytes.number_at, ElementLengths.HasFitLengths, ElementLengths.IsKeyLength, Elements.IsBucketValue}
+use Rattle.bolt_format.specs.{Bytes.IsBytes, Bytes.number_at, ElementLengths.HasFitLengths, Elements.IsBucketValue}
 use Rattle.bolt_format.proofs.ElementFacts.{drop_bytes, entry_fits, inline_fits, value_bytes}
 use Rattle.bolt_format.proofs.PageFacts.{bucket_value, flat_inline}
 use Rattle.bolt_tree.specs.{Entries.Bucket, Entries.Item, Entries.ShowsEntry, Entries.Value, Entries.item_of, Listing.IsListing, Listing.member_cmp}
 use Rattle.bolt_tree.specs.Paths.{Holds, path_cmp}
 use Rattle.bolt_tree.proofs.PathOrder.{same_front}
-use Rattle.bolt_layout.specs.Storable.{IsFitItem, IsFitListing, IsFitMember}
+use Rattle.bolt_layout.specs.Storable.{IsFitListing, IsFitMember}
 
 -- the sequence of a bucket's value has 64 bits
 sequence_fits : (value : List ℕ) → IsBytes value → head_sequence value < 2 ^ 64
@@ -101,12 +101,9 @@ good_inner value e good root within =
     let flat = flat_inline value e good root within in
     record { lengths = inline_fits value e good root within; value = λ b. absurd (not_both e.is_bucket flat b); sequence = λ b. absurd (not_both e.is_bucket flat b) }
 
-good_item : (e : LeafElement) (item : Item) → IsGoodEntry e → item_of e ≡ item → IsFitItem item
-good_item e item good is = grind (arith, sequence_fits)
-
 -- the format can hold its member
 pub good_fits : (path : Path) (e : LeafElement) → IsGoodEntry e → IsFitMember (path ++ e.key ∷ []) (item_of e)
-good_fits path e good = (λ own last same. subst (λ (j : Key). IsKeyLength (length j)) (same_from_push path own e.key last same).1 good.lengths.key, good_item e (item_of e) good refl)
+good_fits path e good = grind (arith, same_from_push, sequence_fits)
 
 module _ (file : List ℕ) (meta : Meta) (bytes : IsBytes file) where
   pub good_shown : (n : ℕ) (e : LeafElement) → ShowsEntry file meta n e → IsGoodEntry e

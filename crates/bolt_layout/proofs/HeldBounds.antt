@@ -1,6 +1,6 @@
 -- How many items are held at one time, at the most: four page sizes for each bucket of a path, and never more than the pages have bytes.
-use Rattle.std.proofs.Common.{◌≡◌, ◌∙◌, ℕ, zero, suc, ◌+◌, ◌*◌, ◌/◌, ◌^◌, ◌<◌, ◌≤◌, Bool, List, [], ◌∷◌, ◌++◌, length, map, flat_map, max, refl, sym, ap, subst, inl, inr, arith, sum_by}
-use Rattle.bolt_layout.proofs.Words.{AllByRecursion, branch_cut, branch_page_view, BranchElement, cases_lt, cut_of, end, is_inline, IsDivided, IsPageRun, IsPageSize, IsStorable, items_of, Laid, Layout, layout_held, layout_of, leaf_level, leaf_page_view, LeafElement, length-append, length-map, listing_below, listing_of, Member, next_level, numbers_of, page_over, PageView, Path, root_of, root_over, size_bounds, size_of, stored_bucket, sum_by-cons, top_in, Tree, with_bucket, with_value}
+use Rattle.std.proofs.Common.{◌≡◌, ◌∙◌, ℕ, suc, ◌+◌, ◌*◌, ◌/◌, ◌^◌, ◌<◌, ◌≤◌, Bool, List, [], ◌∷◌, ◌++◌, length, map, flat_map, max, refl, sym, ap, subst, inl, inr, arith, sum_by}
+use Rattle.bolt_layout.proofs.Words.{AllByRecursion, branch_cut, branch_page_view, BranchElement, cases_lt, cut_of, is_inline, IsDivided, IsPageRun, IsPageSize, IsStorable, items_of, Laid, Layout, layout_of, leaf_level, leaf_page_view, LeafElement, length-append, length-map, listing_below, listing_of, Member, next_level, numbers_of, page_over, PageView, Path, root_of, root_over, size_bounds, size_of, stored_bucket, sum_by-cons, top_in, Tree, with_bucket, with_value}
 use Rattle.bolt_layout.proofs.{Cutting.branches_divide, Cutting.branches_halve, Cutting.cut_divides, ListLemmas.all_split}
 use Rattle.bolt_layout.proofs.{OverRows.pages_count, OverRows.runs_numbers, OverRows.runs_some, Soundness.layout_length}
 use Rattle.bolt_layout.specs.{Held.longest, Held.most_held, Laid.held_in}
@@ -62,10 +62,6 @@ weaker page_size most more item h is = let few = is.few in record { sized = is.s
 -- half the pages, one level more
 top_held : (which : Layout) (page_size steps k most : ℕ) (level : List (Laid BranchElement)) → 64 ≤ page_size → AllByRecursion (IsHeldBelow page_size most) level → 1 ≤ length level → length level ≤ suc steps → length level ≤ 2 ^ k
     → IsHeldBelow page_size (most + k * (page_size / 16)) (top_in which steps page_size level)
-top_held which page_size steps k most [] low all some fuel few = absurd (omega arith)
-top_held which page_size steps k most (page ∷ []) low all some fuel few = weaker page_size most _ page (omega arith) all.0
-top_held which page_size zero k most (page ∷ other ∷ level) low all some fuel few = absurd (omega arith)
-top_held which page_size (suc steps) zero most (page ∷ other ∷ level) low all some fuel few = absurd (omega arith)
 top_held which page_size (suc steps) (suc k) most (page ∷ other ∷ level) low all some fuel few =
     let pages : List (Laid BranchElement) = page ∷ other ∷ level in
     let runs : List (List (Laid BranchElement)) = branch_cut which page_size size_of pages in
@@ -76,11 +72,9 @@ top_held which page_size (suc steps) (suc k) most (page ∷ other ∷ level) low
     let same = length-map runs (page_over branch_page_view page_size) in
     let ih = top_held which page_size steps k (most + page_size / 16) (next_level which page_size pages) low up (omega arith) (omega arith) (omega arith) in
     weaker page_size _ _ (top_in which (suc steps) page_size pages) (omega arith) ih
+top_held which page_size steps k most level low all some fuel few = grind (arith, weaker)
 
 top_numbers : (which : Layout) (page_size steps : ℕ) (level : List (Laid BranchElement)) → length level ≤ suc steps → numbers_of level ≤ (top_in which steps page_size level).numbers
-top_numbers which page_size steps [] fuel = omega arith
-top_numbers which page_size steps (page ∷ []) fuel = omega arith
-top_numbers which page_size zero (page ∷ other ∷ level) fuel = absurd (omega arith)
 top_numbers which page_size (suc steps) (page ∷ other ∷ level) fuel =
     let pages : List (Laid BranchElement) = page ∷ other ∷ level in
     let runs : List (List (Laid BranchElement)) = branch_cut which page_size size_of pages in
@@ -88,8 +82,8 @@ top_numbers which page_size (suc steps) (page ∷ other ∷ level) fuel =
     let half : 2 * length runs ≤ suc (length pages) = branches_halve which page_size size_of pages in
     let same = length-map runs (page_over branch_page_view page_size) in
     let ih = top_numbers which page_size steps (next_level which page_size pages) (omega arith) in
-    let numbers = runs_numbers branch_page_view page_size runs in
-    let all = ap (λ (r : List (Laid BranchElement)). numbers_of r) divided.whole in omega arith
+    grind (arith, runs_numbers)
+top_numbers which page_size steps level fuel = grind arith
 
 -- ---- a bucket
 
@@ -101,9 +95,7 @@ items_numbers : (which : Layout) (page_size : ℕ) (items : List (Laid LeafEleme
 items_numbers which page_size items =
     let runs : List (List (Laid LeafElement)) = cut_of page_size 1 size_of items in
     let divided : IsDivided page_size 1 0 size_of items runs = cut_divides page_size 1 1 0 size_of items (omega arith) (omega arith) (omega arith) in
-    let numbers = runs_numbers leaf_page_view page_size runs in
-    let all = ap (λ (r : List (Laid LeafElement)). numbers_of r) divided.whole in
-    let level = level_numbers which page_size items in omega arith
+    grind (arith, runs_numbers, level_numbers)
 
 -- at most 64 levels, each with a sixteenth of the page size
 root_held : (which : Layout) (page_size most : ℕ) (items : List (Laid LeafElement)) → 64 ≤ page_size → AllByRecursion (IsHeldBelow page_size most) items → (root_over which page_size items).numbers ≤ 2 ^ 63
@@ -137,9 +129,7 @@ stored_held which page_size most key sequence inside items after b e room root =
 -- each item, where no path below is longer than so many parts more
 tree_held : (which : Layout) (page_size deep : ℕ) (path : Path) (tree : Tree) → 64 ≤ page_size → numbers_of (items_of which page_size tree) ≤ 2 ^ 63 → longest (listing_below path tree) ≤ length path + deep
     → AllByRecursion (IsHeldBelow page_size (4 * page_size * deep)) (items_of which page_size tree)
-tree_held which page_size deep path end low room short = tt
 tree_held which page_size deep path (with_value key value after) low room short = grind (arith, tree_held which page_size deep path after low (omega arith) (omega arith))
-tree_held which page_size zero path (with_bucket key sequence inside after) low room short = grind (arith, length-append)
 tree_held which page_size (suc deep) path (with_bucket key sequence inside after) low room short =
     let l = length-append path (key ∷ []) in
     let both = longest-append (listing_below (path ++ key ∷ []) inside) (listing_below path after) in
@@ -152,6 +142,7 @@ tree_held which page_size (suc deep) path (with_bucket key sequence inside after
     ) in
     let (one, rest) = stored_held which page_size (4 * page_size * suc deep) key sequence inside items (items_of which page_size after) (is_inline page_size inside items) refl room root in
     (one, tree_held which page_size (suc deep) path after low rest (omega arith))
+tree_held which page_size deep path tree low room short = grind (arith, length-append)
 
 whole_held : (which : Layout) (page_size : ℕ) (tree : Tree) → 64 ≤ page_size → (root_of which page_size tree).numbers ≤ 2 ^ 63 → IsHeldBelow page_size (most_held page_size (listing_of tree)) (root_of which page_size tree)
 unfolding root_of
@@ -162,21 +153,13 @@ whole_held which page_size tree low room =
     let below = tree_held which page_size deep [] tree low (omega arith) (omega arith) in
     weaker page_size _ _ (root_over which page_size items) (omega arith) (root_held which page_size (4 * page_size * deep) items low below room)
 
-held_bounded : (which : Layout) (page_size : ℕ) (tree : Tree) → 64 ≤ page_size → (root_of which page_size tree).numbers ≤ 2 ^ 63 → (root_of which page_size tree).held ≤ most_held page_size (listing_of tree)
+pub held_bounded : (which : Layout) (page_size : ℕ) (tree : Tree) → 64 ≤ page_size → (root_of which page_size tree).numbers ≤ 2 ^ 63 → (root_of which page_size tree).held ≤ most_held page_size (listing_of tree)
 held_bounded which page_size tree low room = (whole_held which page_size tree low room).few
 
-held_small : (which : Layout) (page_size : ℕ) (tree : Tree) → 64 ≤ page_size → (root_of which page_size tree).numbers ≤ 2 ^ 63 → (root_of which page_size tree).held ≤ (root_of which page_size tree).numbers * page_size
+pub held_small : (which : Layout) (page_size : ℕ) (tree : Tree) → 64 ≤ page_size → (root_of which page_size tree).numbers ≤ 2 ^ 63 → (root_of which page_size tree).held ≤ (root_of which page_size tree).numbers * page_size
 held_small which page_size tree low room = (whole_held which page_size tree low room).small
 
 -- of a layout of fewer than 2^63 bytes
-layout_small : (which : Layout) (page_size : ℕ) (tree : Tree) (sequence : ℕ) → IsPageSize page_size → IsStorable tree → length (layout_of which page_size tree sequence) < 2 ^ 63
+pub layout_small : (which : Layout) (page_size : ℕ) (tree : Tree) (sequence : ℕ) → IsPageSize page_size → IsStorable tree → length (layout_of which page_size tree sequence) < 2 ^ 63
     → (64 ≤ page_size) × ((root_of which page_size tree).numbers ≤ 2 ^ 63) × ((root_of which page_size tree).numbers * page_size ≤ length (layout_of which page_size tree sequence))
 layout_small which page_size tree sequence size storable short = grind (arith, layout_length, size_bounds)
-
-pub layout_bounded : (which : Layout) (page_size : ℕ) (tree : Tree) (sequence : ℕ) → IsPageSize page_size → IsStorable tree → length (layout_of which page_size tree sequence) < 2 ^ 63
-    → layout_held which page_size tree ≤ most_held page_size (listing_of tree)
-layout_bounded which page_size tree sequence size storable short = grind (arith, layout_small, held_bounded)
-
-pub layout_fewer : (which : Layout) (page_size : ℕ) (tree : Tree) (sequence : ℕ) → IsPageSize page_size → IsStorable tree → length (layout_of which page_size tree sequence) < 2 ^ 63
-    → layout_held which page_size tree ≤ length (layout_of which page_size tree sequence)
-layout_fewer which page_size tree sequence size storable short = omega (arith, layout_small, held_small)

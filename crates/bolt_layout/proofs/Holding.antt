@@ -19,10 +19,8 @@ module _ (file : List ℕ) (meta : Meta) where
   AreOf (e ∷ es) (item ∷ items) = ((n : ℕ) × (1 ≤ n) × (n + item.numbers ≤ limit) × (e ≡ item.element n) × ArePages (item.pages n)) × AreOf es items
 
   are_append : (es fs : List LeafElement) (items others : List (Laid LeafElement)) → AreOf es items → AreOf fs others → AreOf (es ++ fs) (items ++ others)
-  are_append [] fs [] others h k = k
-  are_append [] fs (item ∷ items) others h k = absurd h
-  are_append (e ∷ es) fs [] others h k = absurd h
   are_append (e ∷ es) fs (item ∷ items) others h k = (h.0, are_append es fs items others h.1 k)
+  are_append es fs items others h k = grind arith
 
   -- all that stands below a page
   pub record Holds (here : ℕ) (items : List (Laid LeafElement)) : Type 0 where

@@ -1,8 +1,8 @@
 -- The value of an inline bucket that was written is read back, and passes its tests.
-use Rattle.std.proofs.Common.{◌≡◌, ◌∙◌, ℕ, zero, suc, ◌+◌, ◌*◌, ◌^◌, ◌<◌, ◌≤◌, ◌==◌, nat_lt, true, false, List, [], ◌∷◌, ◌++◌, length, map, drop, Option, None, refl, sym, ap, arith}
-use Rattle.bolt_layout.proofs.Words.{AllByRecursion, append-nil, count_field, eq-eqb, first_of-both, flags_field, head_root, head_sequence, head_written, header_bytes, header_written, inline_elements, inline_value, le-ltb, leaf_bytes, leaf_data, leaf_element, leaf_elements, LeafElement, leaves_fault, length-append, length-header_bytes, range_with_len, value_fault}
+use Rattle.std.proofs.Common.{◌≡◌, ◌∙◌, ℕ, suc, ◌+◌, ◌*◌, ◌^◌, ◌<◌, ◌≤◌, nat_lt, false, List, [], ◌∷◌, ◌++◌, length, map, drop, Option, None, refl, sym, ap, arith}
+use Rattle.bolt_layout.proofs.Words.{AllByRecursion, append-nil, count_field, eq-eqb, head_root, head_sequence, head_written, header_bytes, header_written, inline_elements, inline_value, le-ltb, leaf_bytes, leaf_data, leaf_element, leaf_elements, LeafElement, length-append, length-header_bytes, range_with_len, value_fault}
 use Rattle.std.specs.List.{list_any}
-use Rattle.bolt_format.specs.Elements.{has_bucket, head_fault, inline_bytes, inline_fault, inline_page_fault, is_bucket_at}
+use Rattle.bolt_format.specs.Elements.{head_fault, inline_bytes, inline_fault, is_bucket_at}
 use Rattle.bolt_format.specs.declared.header.Kind.TheVariants as kind
 use Rattle.bolt_layout.proofs.LeafLemmas.{IsLeafFit, leaves_written}
 
@@ -20,13 +20,12 @@ flat_fits bucket_fault (e ∷ es) h = grind (arith, flat_fits bucket_fault es h.
 -- none of the elements that are read is a bucket
 no_bucket_in : (bytes : List ℕ) (from n : ℕ) (es : List LeafElement) → map (leaf_element bytes) (range_with_len from n) ≡ es → AllByRecursion IsFlat es
     → list_any (is_bucket_at bytes) (range_with_len from n) ≡ false
-no_bucket_in bytes from zero es e flat = refl
-no_bucket_in bytes from (suc n) [] e flat = absurd (cc)
 no_bucket_in bytes from (suc n) (x ∷ es) e flat =
     let first : leaf_element bytes from ≡ x = cc in
     let rest : map (leaf_element bytes) (range_with_len (from + 1) n) ≡ es = cc in
     let one : is_bucket_at bytes from ≡ false = ap (λ (y : LeafElement). y.is_bucket) first ∙ flat.0.flat in
     rw (one, no_bucket_in bytes (from + 1) n es rest flat.1) refl
+no_bucket_in bytes from n es e flat = grind arith
 
 pub inline_written : (sequence : ℕ) (es : List LeafElement) → sequence < 256 ^ 8 → AllByRecursion IsFlat es → length es < 256 ^ 2
     → 16 * length es + length (leaf_data es) < 0x100000000
@@ -45,10 +44,4 @@ inline_written sequence es sized flat few small =
     let written = leaves_written head_fault bytes es [] behind (omega arith) (flat_fits head_fault es flat) small in
     let elements : leaf_elements bytes (count_field bytes) ≡ es = ap (leaf_elements bytes) header.0.count ∙ written.0 in
     let room : nat_lt (length bytes) 16 ≡ false = le-ltb (length bytes) 16 (omega arith) in
-    let leaf : (flags_field bytes == 2) ≡ true = eq-eqb (flags_field bytes) 2 header.0.flags in
-    let good : leaves_fault head_fault bytes (count_field bytes) ≡ None = ap (leaves_fault head_fault bytes) header.0.count ∙ written.1 in
-    let none : has_bucket bytes (count_field bytes) ≡ false = no_bucket_in bytes 0 (count_field bytes) es elements flat in
-    let page : inline_page_fault bytes ≡ None = rw (room, leaf, good) refl in
-    let zero_root : (head_root value == 0) ≡ true = eq-eqb (head_root value) 0 head.root in
-    let inside : inline_fault bytes ≡ None = first_of-both (inline_page_fault bytes) _ page (rw none refl) in
-    (first_of-both (head_fault value) _ head.passes (rw zero_root inside), head.root, head.sequence, elements)
+    grind (arith, eq-eqb, no_bucket_in)

@@ -1,13 +1,8 @@
 -- What an order of keys says of a row of items.
-use Rattle.std.proofs.Common.{◌≡◌, inl, inr, true, false, List, [], ◌∷◌, ◌++◌, Option, None, Some, refl}
-use Rattle.bolt_layout.proofs.Words.{AllByRecursion, cases_Bool, is_below, is_from, Key, key_lt, keys_order_fault, Laid, LeafElement}
+use Rattle.std.proofs.Common.{◌≡◌, true, List, [], ◌∷◌, ◌++◌, Option, None, Some, refl}
+use Rattle.bolt_layout.proofs.Words.{AllByRecursion, is_below, is_from, Key, key_lt, keys_order_fault, Laid, LeafElement}
 use Rattle.bolt_layout.proofs.ListLemmas.{all_split}
 use Rattle.bolt_check.specs.Keys.{is_above}
-use Rattle.bolt_check.proofs.KeyLaws.{lt_strict}
-
--- a key that is below another is not above it
-pub lt_not : (a b : Key) → key_lt a b ≡ true → key_lt b a ≡ false
-lt_not a b h = elim (cases_Bool (key_lt b a)) [ inl t ↦ absurd (lt_strict a b h t) | inr f ↦ f ]
 
 -- items whose keys rise
 abbrev pub IsBelowItem : Laid LeafElement → Laid LeafElement → Type 0

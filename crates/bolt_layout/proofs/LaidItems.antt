@@ -1,8 +1,9 @@
 -- What holds of a leaf item, and of a row of them: they are read back, and have room on their page.
+use Rattle.bolt_layout.proofs.SpanLemmas.{length-leaf_bytes}
 use Rattle.std.proofs.Common.{◌≡◌, ℕ, ◌+◌, ◌*◌, ◌<◌, ◌≤◌, List, [], ◌∷◌, length, refl, arith, sum_by}
-use Rattle.bolt_layout.proofs.Words.{AllByRecursion, bucket_spots, common_steps, elements_of, follow, Laid, leaf_data, leaf_entry, leaf_page_view, LeafElement, length-append, Nodes, numbers_of, size_of, sum_by-cons, value_fault}
+use Rattle.bolt_layout.proofs.Words.{AllByRecursion, bucket_spots, common_steps, elements_of, follow, Laid, leaf_data, leaf_entry, leaf_page_view, LeafElement, length-append, Nodes, numbers_of, size_of, sum_by-cons, value_fault, length-header_bytes}
 use Rattle.bolt_layout.proofs.{LeafLemmas.IsLeafFit, OverRows.IsRun, Parts.IsPart}
-use Rattle.bolt_layout.proofs.PageRows.{HasRoom, IsPageFit, leaf_room, overflow_room, overflow_small}
+use Rattle.bolt_layout.proofs.PageRows.{HasRoom, IsPageFit, overflow_room, overflow_small}
 use Rattle.bolt_layout.proofs.LaidPages.{AreNodes, HasPages, limit, own_page}
 
 -- What holds of a leaf item.
@@ -32,7 +33,7 @@ items_size page_size [] all n = refl
 items_size page_size (item ∷ items) all n = grind (arith, common_steps, sum_by-cons, length-append, items_size page_size items all.1 (n + item.numbers))
 
 pub leaf_own_room : (page_size : ℕ) (run : List (Laid LeafElement)) → 0 < page_size → AllByRecursion (IsItem page_size) run → (n : ℕ) → HasRoom page_size (own_page leaf_page_view page_size run n)
-leaf_own_room page_size run sized all n = grind (arith, items_size, overflow_room, leaf_room)
+leaf_own_room page_size run sized all n = grind (arith, items_size, overflow_room, length-header_bytes, length-leaf_bytes, length-append)
 
 pub leaf_own : (page_size : ℕ) (run : List (Laid LeafElement)) → 0 < page_size → AllByRecursion (IsItem page_size) run → IsRun run → (n : ℕ) → 1 ≤ n → n + numbers_of run < limit
     → IsPageFit page_size (own_page leaf_page_view page_size run n)

@@ -34,19 +34,16 @@ cut_pushed page_size size items x some = grind (arith, pushed_from)
 
 -- How many runs there are then, and how many items are in the last.
 pub push_counts : {X : Type 0} (runs : List (List X)) (x : X) → 1 ≤ length runs → (length (push_last runs x) ≡ length runs) × (last_length (push_last runs x) ≡ suc (last_length runs))
-push_counts [] x some = absurd (omega arith)
-push_counts (run ∷ []) x some = let l = length_push run x in (refl, omega arith)
 push_counts (run ∷ next ∷ runs) x some = grind (arith, push_counts (next ∷ runs) x (omega arith))
+push_counts runs x some = grind (arith, length_push)
 
 pub last_append : {X : Type 0} (runs : List (List X)) (run : List X) → last_length (runs ++ run ∷ []) ≡ length run
-last_append [] run = refl
-last_append (first ∷ []) run = refl
 last_append (first ∷ next ∷ runs) run = last_append (next ∷ runs) run
+last_append runs run = grind arith
 
 pub last_some : {X : Type 0} (runs : List (List X)) → AllByRecursion HasItem runs → 1 ≤ length runs → 1 ≤ last_length runs
-last_some [] all some = absurd (omega arith)
-last_some (run ∷ []) all some = all.0
 last_some (run ∷ next ∷ runs) all some = last_some (next ∷ runs) all.1 (omega arith)
+last_some runs all some = grind arith
 
 -- Joining the last run leaves a cut as it is, if that run has two items or no run before it.
 pub join_none : {X : Type 0} (runs : List (List X)) → (2 ≤ last_length runs) ⊎ (length runs ≤ 1) → join_last runs ≡ runs

@@ -1,6 +1,6 @@
 -- The elements of a leaf page that was written are read back, and pass their tests.
 use Rattle.std.proofs.Common.{◌≡◌, ◌∙◌, ℕ, suc, ◌+◌, ◌*◌, ◌<◌, ◌≤◌, nat_lt, Bool, true, false, cond, List, [], ◌∷◌, ◌++◌, length, map, drop, Option, None, refl, sym, ap, arith, append_assoc, add-one}
-use Rattle.bolt_layout.proofs.Words.{AllByRecursion, common_steps, element_at, faults_from, first_of-both, key_pos, le-ltb, leaf_bytes, leaf_data, leaf_element, leaf_elements, leaf_header, leaf_headers, LeafElement, leaves_fault, length-append, part_next, part_read, part_within, range_with_len, table_fault}
+use Rattle.bolt_layout.proofs.Words.{AllByRecursion, element_at, faults_from, first_of-both, key_pos, le-ltb, leaf_bytes, leaf_data, leaf_element, leaf_elements, leaf_header, leaf_headers, LeafElement, leaves_fault, length-append, part_next, part_read, part_within, range_with_len}
 use Rattle.bolt_format.specs.Elements.{data_fault, key_length_fault, leaf_end, leaf_fault, leaf_flags_fault, leaf_key_start, plain_leaf_fault, value_length_fault}
 use Rattle.bolt_format.specs.{Encoded.leaf_flag, ReadBack.IsLeafHeader}
 use Rattle.bolt_format.proofs.EncodedHeaders.{leaf_header_written, length-leaf_header}
@@ -41,7 +41,7 @@ leaf_read : (bucket_fault : List ℕ → Option ℕ) (bytes rest : List ℕ) (i 
     → drop (element_at i + pos) bytes ≡ e.key ++ (e.value ++ rest) → element_at i + pos ≤ length bytes
     → IsLeafRead bucket_fault bytes i (element_at i + pos + (length e.key + length e.value)) e
 unfolding plain_leaf_fault
-leaf_read bucket_fault bytes rest i pos e head fit text within = grind (arith, common_steps, part_next, part_within, part_read, same_leaf, first_of-both, flags_pass, key_passes, value_passes, data_passes, chosen_none)
+leaf_read bucket_fault bytes rest i pos e head fit text within = grind (arith, part_next, part_within, part_read, same_leaf, first_of-both, flags_pass, key_passes, value_passes, data_passes, chosen_none)
 
 pub length-leaf_headers : (before : ℕ) (es : List LeafElement) → length (leaf_headers before es) ≡ 16 * length es
 length-leaf_headers before [] = refl
@@ -91,5 +91,4 @@ leaves_written bucket_fault bytes es rest h within fits small =
     let table = part_within bytes (leaf_headers 0 es) (leaf_data es ++ rest) 16 heads within in
     let text : drop (element_at (0 + length es) + 0) bytes ≡ leaf_data es ++ rest = part_next bytes (leaf_headers 0 es) (leaf_data es ++ rest) 16 _ heads (omega arith) in
     let run = leaf_run bucket_fault bytes es 0 0 (element_at (length es)) (leaf_data es ++ rest) rest heads text fits (omega arith) (omega arith) (omega arith) in
-    let room : nat_lt (length bytes) (element_at (length es)) ≡ false = le-ltb (length bytes) (element_at (length es)) (omega arith) in
-    (run.0, first_of-both (table_fault bytes (length es)) _ (rw room refl) run.1)
+    grind (arith, le-ltb, first_of-both)

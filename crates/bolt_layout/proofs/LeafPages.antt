@@ -1,5 +1,5 @@
 -- What holds of the page over a row of leaf items, where it holds of the items; and a leaf page over them.
-use Rattle.std.proofs.Common.{◌≡◌, ◌∙◌, ℕ, zero, suc, ◌+◌, ◌<◌, ◌≤◌, nat_lt, Bool, true, false, List, [], ◌∷◌, ◌++◌, length, map, Option, Some, None, Ok, slice_get, refl, sym, ap, subst, arith}
+use Rattle.std.proofs.Common.{◌≡◌, ◌∙◌, ℕ, suc, ◌+◌, ◌<◌, ◌≤◌, nat_lt, Bool, true, false, List, [], ◌∷◌, ◌++◌, length, map, Option, Some, None, Ok, slice_get, refl, sym, ap, subst, arith}
 use Rattle.bolt_layout.proofs.Words.{AllByRecursion, At_page, BranchElement, bucket_spots, elements_of, Entry, finding_of, follow, follow_none, Key, key_lt, keys_of, keys_order_fault, Laid, le-ltb, leaf_entry, leaf_page_view, LeafElement, Node, node_finding, node_of, Nodes, numbers_of, page_over, pages_of, PageSpot, Placed, places, run_overflow, Spot}
 use Rattle.bolt_layout.proofs.KeyLaws.{IsAbove, IsBelowItem, IsWithin, Rise, key_step}
 use Rattle.bolt_layout.proofs.{ListLemmas.all_split, ListLemmas.all_weaker, OverRows.IsRun}
@@ -24,9 +24,8 @@ pub record IsPage (page_size height : ℕ) (page : Laid BranchElement) (leaves :
 -- what the entries of a page lead to
 places_follow : (nodes : Nodes) (is_leaf : Bool) (s : PageSpot) (entries : List Entry) (j : ℕ) (way : List ℕ)
     → kids_at nodes (places is_leaf s entries) (j ∷ way) ≡ follow nodes (step_entry is_leaf s (slice_get entries j) (slice_get entries (suc j))) way
-places_follow nodes is_leaf s [] j way = sym (follow_none nodes way)
-places_follow nodes is_leaf s (e ∷ entries) zero way = refl
 places_follow nodes is_leaf s (e ∷ entries) (suc j) way = places_follow nodes is_leaf s entries j way
+places_follow nodes is_leaf s entries j way = grind (arith, follow_none)
 
 -- a page over its entries' parts
 pub page_part : (nodes : Nodes) (s : PageSpot) (node : Node) (from number : ℕ) → s.number ≡ number → nodes number ≡ Ok node → s.depth ≤ 64 → node_finding node s ≡ None

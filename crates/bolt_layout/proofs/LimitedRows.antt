@@ -1,16 +1,14 @@
 -- How a row is cut with a limit: without one as in the plain layout, and with the right one as in the balanced.
+use Rattle.std.proofs.lemmas.Grind.{common_steps}
 use Rattle.std.proofs.Common.{◌≡◌, ◌∙◌, ◌⊎◌, ◌++◌, ◌+◌, ◌-◌, ◌≤◌, ℕ, zero, suc, List, [], ◌∷◌, length, Option, Some, None, refl, sym, ap, inl, inr, arith}
 use Rattle.bolt_layout.proofs.Words.{Balanced, branch_cut, cases_Bool, cut_from, cut_of, cut_row, join_last, joins, last_length, length_push}
 use Rattle.bolt_layout.proofs.LastItem.{join_behind, join_none, last_behind, some_runs}
 use Rattle.bolt_layout.specs.Limits.{cut_within}
 
 -- Without a limit a row is cut as the plain one.
-left_free : {X : Type 0} (page_size : ℕ) (size : X → ℕ) (run items : List X) → cut_within page_size size None run items ≡ cut_from page_size 2 size run items
+pub left_free : {X : Type 0} (page_size : ℕ) (size : X → ℕ) (run items : List X) → cut_within page_size size None run items ≡ cut_from page_size 2 size run items
 left_free page_size size run [] = refl
 left_free page_size size run (next ∷ items) = grind (arith, left_free page_size size (run ++ next ∷ []) items, left_free page_size size (next ∷ []) items)
-
-pub row_free : {X : Type 0} (page_size : ℕ) (size : X → ℕ) (items : List X) → cut_row page_size size None items ≡ cut_of page_size 2 size items
-row_free page_size size items = grind (arith, left_free)
 
 -- one run has all items
 one_run : {X : Type 0} (page_size : ℕ) (size : X → ℕ) (run items : List X) → length (cut_from page_size 2 size run items) ≡ 1
@@ -29,8 +27,7 @@ one_run page_size size run (next ∷ items) one = elim (cases_Bool (joins page_s
 -- an item that is the last of its row joins where no run may begin
 last_joined : {X : Type 0} (page_size : ℕ) (size : X → ℕ) (run : List X) (next : X) (items : List X) → length items ≡ 0
     → cut_within page_size size None (run ++ next ∷ []) items ≡ join_last (run ∷ cut_from page_size 2 size (next ∷ []) items)
-last_joined page_size size run next [] none = refl
-last_joined page_size size run next (more ∷ items) none = absurd (omega arith)
+last_joined page_size size run next items none = grind (arith, common_steps)
 
 -- Where the last run has one item, and one run less may begin, it joins the run before.
 left_joined : {X : Type 0} (page_size : ℕ) (size : X → ℕ) (n : ℕ) (run items : List X) → length (cut_from page_size 2 size run items) ≡ n + 2
@@ -71,4 +68,4 @@ IsLimit runs last limit = ((limit ≡ None) × ((2 ≤ last) ⊎ (runs ≤ 1))) 
 pub row_limited : {X : Type 0} (page_size : ℕ) (size : X → ℕ) (limit : Option ℕ) (items : List X)
     → IsLimit (length (cut_of page_size 2 size items)) (last_length (cut_of page_size 2 size items)) limit
     → cut_row page_size size limit items ≡ branch_cut Balanced page_size size items
-row_limited page_size size limit items is = grind (arith, row_free, join_none, left_joined)
+row_limited page_size size limit items is = grind (arith, join_none, left_joined, left_free)

@@ -1,5 +1,6 @@
 -- There is one cut of each row.
-use Rattle.std.proofs.Common.{◌≡◌, ◌≢◌, ◌⊎◌, ℕ, zero, suc, ◌<◌, ◌≤◌, nat_lt, true, false, List, [], ◌∷◌, ◌++◌, length, Some, slice_get, refl, sym, ap, subst, inl, inr, arith, append_assoc, flat_map}
+use Rattle.std.proofs.lemmas.Grind.{common_steps}
+use Rattle.std.proofs.Common.{◌≡◌, ◌≢◌, ◌⊎◌, ℕ, suc, ◌<◌, ◌≤◌, nat_lt, true, false, List, [], ◌∷◌, ◌++◌, length, Some, slice_get, refl, sym, ap, subst, inl, inr, arith, append_assoc, flat_map}
 use Rattle.std.proofs.lemmas.Bool.{or_cases, or_parts}
 use Rattle.bolt_layout.proofs.Words.{append-nil, cases_Bool, cases_lt, cut_from, cut_of, joins, length-append, length_push, lt-ltb, ltb-false, ltb-true, max_items, run_size, sum_by-append}
 use Rattle.bolt_layout.specs.Cut.{CutIsOne, IsCut}
@@ -55,9 +56,8 @@ absorb {X = X} page_size least size run (x ∷ xs) tail fits cap =
     grind (arith, cases_lt, joins_few, joins_fits, absorb page_size least size (run ++ x ∷ []) xs tail (subst (λ (r : List X). least < length r → run_size size r ≤ page_size) same fits) (subst (λ (r : List X). length r ≤ max_items) same cap))
 
 pub runs_cut : {X : Type 0} (page_size least : ℕ) (size : X → ℕ) (runs : List (List X)) → AreRuns page_size least size runs → runs ≡ cut_of page_size least size (flat_map (λ r. r) runs)
-runs_cut page_size least size [] are = refl
-runs_cut page_size least size ([] ∷ runs) are = absurd (let some = are.0.some in omega arith)
 runs_cut page_size least size ((x ∷ xs) ∷ runs) are = grind (arith, absorb, runs_cut page_size least size runs are.2)
+runs_cut page_size least size runs are = grind arith
 
 -- And the one that is computed is such a cut.
 single_run : {X : Type 0} (page_size least : ℕ) (size : X → ℕ) (next : X) → 1 ≤ least → IsRunOf page_size least size (next ∷ [])
@@ -93,17 +93,13 @@ cut_whole page_size least size items = grind (arith, cut_from_whole)
 -- The same by the numbers of the runs.
 run_at : {X : Type 0} (page_size least : ℕ) (size : X → ℕ) (runs : List (List X)) → AreRuns page_size least size runs → (i : ℕ) (run : List X) → slice_get runs i ≡ Some run
     → IsRunOf page_size least size run
-run_at page_size least size [] are i run e = absurd (cc)
-run_at page_size least size (first ∷ runs) are zero run e = let same : first ≡ run = cc in subst (IsRunOf page_size least size) same are.0
 run_at page_size least size (first ∷ runs) are (suc i) run e = run_at page_size least size runs are.2 i run e
+run_at page_size least size runs are i run e = grind arith
 
 end_at : {X : Type 0} (page_size least : ℕ) (size : X → ℕ) (runs : List (List X)) → AreRuns page_size least size runs → (i : ℕ) (run : List X) (next : X) (more : List X)
     → slice_get runs i ≡ Some run → slice_get runs (suc i) ≡ Some (next ∷ more) → joins page_size least size run next ≡ false
-end_at page_size least size [] are i run next more e f = absurd (cc)
-end_at page_size least size (first ∷ []) are zero run next more e f = absurd (cc)
-end_at page_size least size (first ∷ [] ∷ runs) are zero run next more e f = absurd are.1
-end_at page_size least size (first ∷ (x ∷ xs) ∷ runs) are zero run next more e f = grind arith
 end_at page_size least size (first ∷ runs) are (suc i) run next more e f = end_at page_size least size runs are.2 i run next more e f
+end_at page_size least size runs are i run next more e f = grind arith
 
 long_at : {X : Type 0} (page_size least : ℕ) (size : X → ℕ) (runs : List (List X)) → AreRuns page_size least size runs → (i : ℕ) (run next : List X)
     → slice_get runs i ≡ Some run → slice_get runs (suc i) ≡ Some next → least ≤ length run
@@ -125,8 +121,7 @@ runs_are_cut page_size least size items runs whole are = record {
 }
 
 some_item : {X : Type 0} (run : List X) → run ≢ [] → 1 ≤ length run
-some_item [] some = absurd (some refl)
-some_item (x ∷ run) some = omega arith
+some_item run some = grind (arith, common_steps)
 
 first_ends : {X : Type 0} (page_size least : ℕ) (size : X → ℕ) (items run : List X) (runs : List (List X)) → IsCut page_size least size items (run ∷ runs) → Ends page_size least size run runs
 first_ends page_size least size items run [] is = tt

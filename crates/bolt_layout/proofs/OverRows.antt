@@ -1,4 +1,5 @@
 -- The root page over a row of leaf items: a leaf page, or a branch page over pages that stand over pieces of the row.
+use Rattle.std.proofs.lemmas.Grind.{common_steps}
 use Rattle.std.proofs.Common.{◌≡◌, ◌∙◌, ℕ, zero, suc, ◌+◌, ◌*◌, ◌^◌, ◌<◌, ◌≤◌, List, [], ◌∷◌, ◌++◌, length, map, flat_map, refl, sym, ap, subst, arith, append_assoc, sum_by}
 use Rattle.bolt_layout.proofs.Words.{AllByRecursion, append-nil, branch_cut, branch_page_view, BranchElement, cut_of, IsDivided, IsPageRun, Laid, Layout, leaf_level, leaf_page_view, LeafElement, length-map, max_items, mul-le-mul_right, next_level, numbers_of, page_over, PageView, root_over, run_size, size_of, sum_by-append, sum_by-cons, top_in}
 use Rattle.bolt_layout.proofs.{Cutting.branches_divide, Cutting.branches_halve, Cutting.cut_divides, ListLemmas.all_split}
@@ -70,10 +71,7 @@ run_fits : {E : Type 0} (page_size extra bound : ℕ) (run : List (Laid E)) → 
     → AllByRecursion (IsAtMost bound) run → run_size size_of run < 0x100000000
 run_fits {E = E} page_size extra bound run small is sizes =
     let both = all_split (IsAtMost bound) is.front is.last (subst (AllByRecursion (IsAtMost bound)) is.whole sizes) in
-    let sum = ap (λ (xs : List (Laid E)). sum_by size_of xs) is.whole ∙ sum_by-append size_of is.front is.last in
-    let a = sum_at_most bound is.last both.1 in
-    let b : length is.last * bound ≤ extra * bound = mul-le-mul_right bound is.few in
-    let fits = is.fits in omega arith
+    grind (arith, sum_by-append, sum_at_most, mul-le-mul_right)
 
 run_of : {E : Type 0} (page_size wide extra bound : ℕ) (run : List (Laid E)) → extra ≤ 1 → page_size + extra * bound < 0x100000000 → 16 + wide * bound < 0x100000000
     → IsPageRun page_size wide extra size_of run → AllByRecursion (IsAtMost bound) run → IsRun run
@@ -83,13 +81,12 @@ run_of page_size wide extra bound run one small room is sizes = grind (arith, ru
 pub leaves_over : (page_size : ℕ) (runs : List (List (Laid LeafElement))) (leaves : List (Laid LeafElement)) → page_size < 0x80000000
     → flat_map (λ run. run) runs ≡ leaves → AllByRecursion (IsPageRun page_size 1 0 size_of) runs → AllByRecursion (IsAtMost 0xFFFFFFEF) leaves
     → Pieces (IsOver page_size 0) (map (page_over leaf_page_view page_size) runs) leaves
-leaves_over page_size [] leaves small whole each sizes = sym whole
-leaves_over page_size ([] ∷ runs) leaves small whole each sizes = absurd (let is : IsPageRun page_size 1 0 size_of [] = each.0 in let some = is.some in omega arith)
 leaves_over page_size ((first ∷ front) ∷ runs) leaves small whole each sizes =
     let back : List (Laid LeafElement) = flat_map (λ run. run) runs in
     let both = all_split (IsAtMost 0xFFFFFFEF) (first ∷ front) back (subst (AllByRecursion (IsAtMost 0xFFFFFFEF)) (sym whole) sizes) in
     let fits = run_of page_size 1 0 0xFFFFFFEF (first ∷ front) (omega arith) (omega arith) (omega arith) each.0 both.0 in
     (first, front, back, sym whole, (refl, fits), leaves_over page_size runs back small refl each.1 both.1)
+leaves_over page_size runs leaves small whole each sizes = grind arith
 
 pub pieces_first : (over : Over) (page : Laid BranchElement) (pages : List (Laid BranchElement)) (leaves : List (Laid LeafElement)) → Pieces over (page ∷ pages) leaves
     → (first : Laid LeafElement) × (rest : List (Laid LeafElement)) × (leaves ≡ first ∷ rest)
@@ -106,8 +103,6 @@ pub branches_over : (page_size height : ℕ) (runs : List (List (Laid BranchElem
     → page_size < 0x80000000 → flat_map (λ run. run) runs ≡ kids → AllByRecursion (IsPageRun page_size 3 1 size_of) runs
     → AllByRecursion (IsAtMost 0x40000010) kids → Pieces (IsOver page_size height) kids leaves
     → Pieces (IsOver page_size (suc height)) (map (page_over branch_page_view page_size) runs) leaves
-branches_over page_size height [] kids leaves small whole each sizes pieces = subst (λ (r : List (Laid BranchElement)). Pieces (IsOver page_size height) r leaves) (sym whole) pieces
-branches_over page_size height ([] ∷ runs) kids leaves small whole each sizes pieces = grind arith
 branches_over page_size height ((first ∷ run) ∷ runs) kids leaves small whole each sizes pieces =
     let others : List (Laid BranchElement) = flat_map (λ run. run) runs in
     let pieces2 = subst (λ (r : List (Laid BranchElement)). Pieces (IsOver page_size height) r leaves) (sym whole) pieces in
@@ -117,6 +112,7 @@ branches_over page_size height ((first ∷ run) ∷ runs) kids leaves small whol
     let fits = run_of page_size 3 1 0x40000010 (first ∷ run) (omega arith) (omega arith) (omega arith) each.0 both.0 in
     let more = branches_over page_size height runs others back small refl each.1 both.1 b in
     (x, rest, back, e ∙ ap (λ (r : List (Laid LeafElement)). r ++ back) e2, branch_over page_size height first run front x rest fits a e2, more)
+branches_over page_size height runs kids leaves small whole each sizes pieces = grind arith
 
 -- No page number is lost from level to level, and each page has one.
 pub numbers-append : {E : Type 0} (xs ys : List (Laid E)) → numbers_of (xs ++ ys) ≡ numbers_of xs + numbers_of ys
@@ -157,10 +153,6 @@ fewer others next height levels half few (suc k) most = grind arith
 top_fits : (which : Layout) (page_size steps height : ℕ) (level : List (Laid BranchElement)) (leaves : List (Laid LeafElement)) → page_size < 0x80000000
     → AllByRecursion HasShortKey leaves → Pieces (IsOver page_size height) level leaves
     → 1 ≤ length level → length level ≤ suc steps → IsTopOver page_size height (length level) (numbers_of level) (top_in which steps page_size level) leaves
-top_fits which page_size steps height [] leaves small keys pieces some fuel = absurd (omega arith)
-top_fits which page_size steps height (page ∷ []) leaves small keys pieces some fuel =
-    record { levels = height; few = λ k most. omega arith; over = over_whole page_size height page leaves pieces; more = omega arith }
-top_fits which page_size zero height (page ∷ other ∷ level) leaves small keys pieces some fuel = absurd (omega arith)
 top_fits which page_size (suc steps) height (page ∷ other ∷ level) leaves small keys pieces some fuel =
     let pages : List (Laid BranchElement) = page ∷ other ∷ level in
     let runs : List (List (Laid BranchElement)) = branch_cut which page_size size_of pages in
@@ -174,6 +166,7 @@ top_fits which page_size (suc steps) height (page ∷ other ∷ level) leaves sm
     let all = ap (λ (r : List (Laid BranchElement)). numbers_of r) divided.whole in
     let more = ih.more in
     record { levels = ih.levels; few = fewer (length level) (length runs) height ih.levels half (λ k most. ih.few k (omega arith)); over = ih.over; more = omega arith }
+top_fits which page_size steps height level leaves small keys pieces some fuel = grind (arith, common_steps, over_whole)
 
 -- The root page of a bucket's items stands over them, and where it takes no more than 2^63 page numbers, at most 64 pages from its leaves.
 pub root_is_over : (which : Layout) (page_size : ℕ) (items : List (Laid LeafElement)) → page_size < 0x80000000 → AllByRecursion HasShortKey items

@@ -1,7 +1,7 @@
 -- Pages in a row: each begins where the span of the one before it ends. In the file each shows what was written.
 use Rattle.std.proofs.Common.{◌≡◌, ◌∙◌, ◌⊎◌, ℕ, ◌+◌, ◌-◌, ◌*◌, ◌^◌, ◌<◌, ◌≤◌, List, [], ◌∷◌, ◌++◌, length, drop, refl, sym, ap, subst, arith, append_assoc}
 use Rattle.std.proofs.Math.Nat.{div-le_self}
-use Rattle.bolt_layout.proofs.Words.{AllByRecursion, branch_bytes, branch_data, branch_page_view, BranchElement, header_bytes, Kind, leaf_bytes, leaf_data, leaf_page_view, LeafElement, length-append, length-header_bytes, Meta, overflow_of, page_bytes, PageView, part_next, part_within, Placed, placed_bytes, value_fault}
+use Rattle.bolt_layout.proofs.Words.{AllByRecursion, branch_bytes, branch_data, branch_page_view, BranchElement, header_bytes, Kind, leaf_bytes, leaf_data, leaf_page_view, length-append, length-header_bytes, Meta, overflow_of, page_bytes, PageView, part_next, part_within, Placed, placed_bytes, value_fault}
 use Rattle.bolt_layout.proofs.{LeafLemmas.IsLeafFit, BranchLemmas.IsBranchFit}
 use Rattle.bolt_layout.proofs.SpanLemmas.{IsShown, branch_shown, leaf_shown, length-branch_bytes, length-filled, length-leaf_bytes}
 use Rattle.bolt_layout.specs.PageBytes.{content_bytes}
@@ -44,16 +44,12 @@ by_kind page_size page P of_leaf of_branch is = grind arith
 abbrev pub HasRoom : ℕ → Placed → Type 0
 HasRoom page_size page = length (content_bytes page.view.kind page.number page.view) ≤ (1 + page.view.overflow) * page_size
 
-pub leaf_room : (page_size number further : ℕ) (es : List LeafElement) → 16 + (16 * length es + length (leaf_data es)) ≤ (1 + further) * page_size
-    → HasRoom page_size (record { number = number; view = leaf_page_view further es })
-leaf_room page_size number further es room = grind (arith, length-header_bytes, length-leaf_bytes, length-append)
-
 pub branch_room : (page_size number further : ℕ) (es : List BranchElement) → 16 + (16 * length es + length (branch_data es)) ≤ (1 + further) * page_size
     → HasRoom page_size (record { number = number; view = branch_page_view further es })
 branch_room page_size number further es room = grind (arith, length-header_bytes, length-branch_bytes, length-append)
 
 fit_room : (page_size : ℕ) (page : Placed) → IsPageFit page_size page → HasRoom page_size page
-fit_room page_size page = grind (arith, leaf_room, branch_room)
+fit_room page_size page = grind (arith, branch_room, length-header_bytes, length-leaf_bytes, length-append)
 
 -- and so it takes as many bytes as its span.
 length-page : (page_size : ℕ) (page : Placed) → HasRoom page_size page → length (page_bytes page_size page.number page.view) ≡ (1 + page.view.overflow) * page_size

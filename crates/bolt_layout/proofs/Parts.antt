@@ -24,19 +24,11 @@ pub record IsPart (nodes : Nodes) (at : List ℕ → Option Spot) (from to : ℕ
   pub inside : (way : List ℕ) (n : ℕ) → SpanHas nodes (at way) n → (from ≤ n) × (n < to)
   pub whole : (n : ℕ) → from ≤ n → n < to → (way : List ℕ) × SpanHas nodes (at way) n
 
--- what takes no page
-part_empty : (nodes : Nodes) (at : List ℕ → Option Spot) (from to : ℕ) → from ≡ to → ((way : List ℕ) (t : Spot) → at way ≡ Some t → IsFine nodes t)
-    → ((way : List ℕ) (n : ℕ) → SpanHas nodes (at way) n → ⊥) → IsPart nodes at from to
-part_empty nodes at from to same passes none = grind arith
-
-nothing : (nodes : Nodes) (way : List ℕ) (n : ℕ) → SpanHas nodes (follow nodes None way) n → ⊥
+pub nothing : (nodes : Nodes) (way : List ℕ) (n : ℕ) → SpanHas nodes (follow nodes None way) n → ⊥
 nothing nodes way n h = let none : SpanHas nodes None n = subst (λ (o : Option Spot). SpanHas nodes o n) (follow_none nodes way) h in none
 
-none_some : (nodes : Nodes) (way : List ℕ) (t : Spot) → follow nodes None way ≡ Some t → ⊥
+pub none_some : (nodes : Nodes) (way : List ℕ) (t : Spot) → follow nodes None way ≡ Some t → ⊥
 none_some nodes way t h = let e : None ≡ Some t = sym (follow_none nodes way) ∙ h in cc
-
-pub part_none : (nodes : Nodes) (from to : ℕ) → from ≡ to → IsPart nodes (follow nodes None) from to
-part_none nodes from to same = part_empty nodes (follow nodes None) from to same (λ way t e. absurd (none_some nodes way t e)) (nothing nodes)
 
 -- an inline bucket
 inline_nothing : (nodes : Nodes) (host : ℕ) (keys : List Key) (way : List ℕ) (n : ℕ) → SpanHas nodes (follow nodes (Some (At_inline host keys)) way) n → ⊥
@@ -59,12 +51,11 @@ kids_at nodes (o ∷ os) (zero ∷ way) = follow nodes o way
 kids_at nodes (o ∷ os) (suc j ∷ way) = kids_at nodes os (j ∷ way)
 
 pub no_kids : (nodes : Nodes) (from to : ℕ) → from ≡ to → IsPart nodes (kids_at nodes []) from to
-no_kids nodes from to same = part_empty nodes (kids_at nodes []) from to same (λ way t e. absurd (cc)) (λ way n s. s)
+no_kids nodes from to same = grind arith
 
 kid_way : (nodes : Nodes) (os : List (Option Spot)) (way : List ℕ) (n : ℕ) → SpanHas nodes (kids_at nodes os way) n → (j : ℕ) × (on : List ℕ) × SpanHas nodes (kids_at nodes os (j ∷ on)) n
-kid_way nodes [] way n s = absurd s
-kid_way nodes (o ∷ os) [] n s = absurd s
 kid_way nodes (o ∷ os) (j ∷ way) n s = (j, way, s)
+kid_way nodes os way n s = absurd (grind arith)
 
 -- a part, and then those after it
 module _ (nodes : Nodes) (o : Option Spot) (os : List (Option Spot)) (from mid to : ℕ) (first : IsPart nodes (follow nodes o) from mid) (rest : IsPart nodes (kids_at nodes os) mid to) where
@@ -116,9 +107,8 @@ module _ (nodes : Nodes) (s : PageSpot) (os : List (Option Spot)) (from : ℕ) (
 
   page_apart : (v w : List ℕ) (n : ℕ) → SpanHas nodes (follow nodes (Some (At_page s)) v) n → SpanHas nodes (follow nodes (Some (At_page s)) w) n → v ≡ w
   page_apart [] [] n h k = refl
-  page_apart [] (j ∷ w) n h k = absurd (let a = own n h in let b = kids.inside (j ∷ w) n (kid j w n k) in omega arith)
-  page_apart (i ∷ v) [] n h k = absurd (let a = own n k in let b = kids.inside (i ∷ v) n (kid i v n h) in omega arith)
   page_apart (i ∷ v) (j ∷ w) n h k = kids.apart (i ∷ v) (j ∷ w) n (kid i v n h) (kid j w n k)
+  page_apart v w n h k = absurd (grind arith)
 
   pub part_page : IsPart nodes (follow nodes (Some (At_page s))) from (s.number + (1 + fine.node.overflow))
   part_page = record {

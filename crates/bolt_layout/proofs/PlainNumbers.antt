@@ -78,9 +78,6 @@ next_is page_size most more pages low rooms light count some =
 -- So the top of a level takes no more than the level and that.
 top_most : (page_size most steps times n more : ℕ) (level : List (Laid BranchElement)) → 16 ≤ page_size → AllByRecursion HasKeyRoom level → AllByRecursion (IsLight page_size most) level
     → most ≤ doubled times n → length level ≡ suc more → (top_in Plain steps page_size level).numbers ≤ numbers_of level + branches_most times n more (weights page_size level)
-top_most page_size most steps times n more [] low rooms light enough count = absurd (omega arith)
-top_most page_size most steps times n more (page ∷ []) low rooms light enough count = omega arith
-top_most page_size most zero times n more (page ∷ other ∷ level) low rooms light enough count = omega arith
 top_most page_size most (suc steps) zero n more (page ∷ other ∷ level) low rooms light enough count =
     let pages : List (Laid BranchElement) = page ∷ other ∷ level in
     let is : IsNext page_size most more pages (next_level Plain page_size pages) = next_is page_size most more pages low rooms light count (omega arith) in
@@ -96,24 +93,23 @@ top_most page_size most (suc steps) (suc times) n more (page ∷ other ∷ level
     let ih = top_most page_size most steps times (2 * n) is.fewer (next_level Plain page_size pages) low is.rooms is.light enough is.count in
     let less = level_less times n more is.fewer (weights page_size (next_level Plain page_size pages)) (weights page_size pages) is.own is.half is.less is.small in
     omega arith
+top_most page_size most steps times n more level low rooms light enough count = grind arith
 
 -- Leaves weigh no more than keys of 2^30 bytes do at the least page size.
 leaves_light : (page_size : ℕ) (runs : List (List (Laid LeafElement))) → 1024 ≤ page_size → AllByRecursion HasItem runs → AllByRecursion HasShortKey (flat_map (λ run. run) runs)
     → AllByRecursion (IsLight page_size 1048577) (map (page_over leaf_page_view page_size) runs)
-leaves_light page_size [] low some short = tt
-leaves_light page_size ([] ∷ runs) low some short = absurd (let none = some.0 in omega arith)
 leaves_light page_size ((first ∷ run) ∷ runs) low some short =
     let both = all_split HasShortKey (first ∷ run) (flat_map (λ run. run) runs) short in
     let below : (16 + length first.key) / page_size < 1048577 = (div-lt_iff_lt-mul {k = page_size} {x = 16 + length first.key} {y = 1048577} (omega arith)).1 (omega arith) in
     (omega arith, leaves_light page_size runs low some.1 both.1)
+leaves_light page_size runs low some short = grind arith
 
 -- The leaves take the numbers below their items and their own,
 pub leaves_numbers : (page_size : ℕ) (items : List (Laid LeafElement)) → numbers_of (leaf_level page_size items) ≡ numbers_of items + own_numbers page_size (cut_of page_size 1 size_of items)
 leaves_numbers page_size items =
     let runs = cut_of page_size 1 size_of items in
     let divided : IsDivided page_size 1 0 size_of items runs = cut_divides page_size 1 1 0 size_of items (omega arith) (omega arith) (omega arith) in
-    let whole = ap (λ (is : List (Laid LeafElement)). numbers_of is) divided.whole in
-    let are = level_numbers_are leaf_page_view page_size runs in omega arith
+    grind (arith, level_numbers_are)
 
 -- and the root page of the bucket not many more.
 pub plain_most : (page_size : ℕ) (items : List (Laid LeafElement)) → 1024 ≤ page_size → AllByRecursion HasKeyRoom items → AllByRecursion HasShortKey items → 1 ≤ length items
@@ -130,6 +126,4 @@ plain_most page_size items low rooms short some =
     let same = length-map runs (page_over leaf_page_view page_size) in
     let light = leaves_light page_size runs low have short2 in
     let top = top_most page_size 1048577 (length level) 21 1 (length level - 1) level (omega arith) (rooms_kept leaf_page_view page_size runs) light (omega arith) (omega arith) in
-    let numbers = leaves_numbers page_size items in
-    let heavy = own_weights leaf_page_view page_size runs (omega arith) have rooms2 in
-    let count = weights_count page_size level in omega arith
+    grind (arith, leaves_numbers, own_weights, weights_count)

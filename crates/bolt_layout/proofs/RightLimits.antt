@@ -1,11 +1,12 @@
 -- The limits that follow from what is noted of the plain rows are those of the balanced ones. For this the keys and sizes of the pages are
 -- compared, row by row.
+use Rattle.std.proofs.lemmas.Grind.{common_steps}
 use Rattle.std.proofs.Common.{◌≡◌, ◌≢◌, ◌∙◌, ◌⊎◌, ◌++◌, ◌-◌, ◌≤◌, ◌==◌, ◌&&◌, ℕ, zero, suc, nat_lt, Bool, true, false, List, [], ◌∷◌, length, map, Option, Some, None, refl, sym, ap, subst, inl, inr, arith}
 use Rattle.std.proofs.lemmas.Bool.{and_cases, eqb-false, eqb-true}
 use Rattle.bolt_layout.proofs.Words.{AllByRecursion, and_parts, AreRowEnds, Balanced, branch_cut, BranchElement, cases_Bool, cut_of, cut_row, eq-eqb, HaveRightLimits, IsPageRun, join_last, Laid, last_length, length-map, length_push, limit_at, limits_from_ends, ltb-false, ltb-true, map-append, ne_eqb, next_level, Plain, size_of}
 use Rattle.bolt_layout.proofs.{Cutting.cut_divides, Faces.Face, Faces.face, Faces.face_size, Faces.map_cut, Faces.map_last, Faces.next_faces, Faces.top_face}
 use Rattle.bolt_layout.proofs.LastItem.{HasItem, IsPushed, cut_pushed, join_none, join_tops, last_append, last_some, push_counts, push_last, push_tops, some_runs}
-use Rattle.bolt_layout.proofs.{ListLemmas.all_weaker, LimitedRows.IsLimit, LimitedRows.row_free, LimitedRows.row_limited}
+use Rattle.bolt_layout.proofs.{ListLemmas.all_weaker, LimitedRows.IsLimit, LimitedRows.row_limited}
 use Rattle.bolt_layout.specs.Limits.{level_up}
 
 -- A row of the balanced layout is that of the plain one, or lacks its last page.
@@ -123,14 +124,10 @@ limit_of_row page_size lost row plain balanced same two r m = grind (arith, face
 
 -- A row of one page, and the rows above it, are cut alike.
 next_short : (page_size : ℕ) (pages : List (Laid BranchElement)) → length pages ≤ 1 → length (next_level Balanced page_size pages) ≤ 1
-next_short page_size [] few = omega arith
-next_short page_size (page ∷ []) few = omega arith
-next_short page_size (page ∷ other ∷ pages) few = absurd (omega arith)
+next_short page_size pages few = grind (arith, common_steps)
 
 short_row : (page_size : ℕ) (pages : List (Laid BranchElement)) → length pages ≤ 1 → cut_row page_size size_of None pages ≡ branch_cut Balanced page_size size_of pages
-short_row page_size [] few = refl
-short_row page_size (page ∷ []) few = refl
-short_row page_size (page ∷ other ∷ pages) few = absurd (omega arith)
+short_row page_size pages few = grind (arith, common_steps)
 
 short_rows : (page_size k : ℕ) (pages : List (Laid BranchElement)) → length pages ≤ 1
     → cut_row page_size size_of None (level_up Balanced page_size k pages) ≡ branch_cut Balanced page_size size_of (level_up Balanced page_size k pages)
@@ -173,7 +170,3 @@ rows_limited page_size (row ∷ rows) lost plain balanced (two, r, m, noted) lac
 pub limits_alike : (page_size : ℕ) (plain balanced : List (Laid BranchElement)) (rows : List (ℕ × ℕ)) → AreRowEnds page_size plain rows → map face plain ≡ map face balanced
     → HaveRightLimits Balanced page_size (limit_at (limits_from_ends false rows)) balanced
 limits_alike page_size plain balanced rows noted same = rows_limited page_size rows false plain balanced noted same
-
--- The plain rows need no limit.
-pub plain_limits : (page_size : ℕ) (pages : List (Laid BranchElement)) → HaveRightLimits Plain page_size (λ k. None) pages
-plain_limits page_size pages k = row_free page_size size_of (level_up Plain page_size k pages)

@@ -14,9 +14,8 @@ inline_by_faces page_size inside plain balanced same =
 
 -- A bucket that holds no bucket has the same items.
 same_items : (page_size : ℕ) (tree : Tree) → holds_bucket tree ≡ false → items_of Plain page_size tree ≡ items_of Balanced page_size tree
-same_items page_size end none = refl
 same_items page_size (with_value key value after) none = ap (λ (items : List (Laid LeafElement)). leaf_item key value false ∷ items) (same_items page_size after none)
-same_items page_size (with_bucket key sequence inside after) none = absurd (cc)
+same_items page_size tree none = grind arith
 
 -- So has one that is inline.
 inline_items : (page_size : ℕ) (inside : Tree) → is_inline page_size inside (items_of Plain page_size inside) ≡ true

@@ -1,6 +1,6 @@
 -- The pages of a tree show it: the entries of each bucket are its items' elements.
 use Rattle.std.proofs.Common.{◌≡◌, ◌∙◌, ℕ, ◌+◌, ◌^◌, ◌<◌, ◌≤◌, ◌==◌, Bool, true, false, List, [], ◌∷◌, refl, sym, ap, subst, inl, inr, arith}
-use Rattle.bolt_layout.proofs.Words.{AllByRecursion, append-nil, bucket_item, contains_cases, contains_none, elements_of, end, eq-eqb, HasLengths, head_bytes, head_root, head_sequence, head_written, holds_bucket, inline_elements, Inline_page, inline_value, is_inline, IsBelow, IsEntry, IsTreeOf, items_of, Key, key_cmp, keys_in, Laid, largest_page, Layout, LeafElement, Less, Meta, ne_eqb, Rises, RisesInside, root_over, Root_page, Start, start_of, stored_bucket, Tree, with_bucket, with_value}
+use Rattle.bolt_layout.proofs.Words.{AllByRecursion, append-nil, bucket_item, contains_cases, contains_none, elements_of, eq-eqb, HasLengths, head_bytes, head_root, head_sequence, head_written, holds_bucket, inline_elements, Inline_page, inline_value, is_inline, IsBelow, IsEntry, IsTreeOf, items_of, Key, key_cmp, keys_in, Laid, largest_page, Layout, LeafElement, Less, Meta, ne_eqb, Rises, RisesInside, root_over, Root_page, Start, start_of, stored_bucket, Tree, with_bucket, with_value}
 use Rattle.bolt_layout.proofs.{Holding.AreOf, Holding.ArePages, Holding.Holds, Holding.over_holds, KeyLaws.IsBelowItem, KeyLaws.Rise, LaidItems.IsItem}
 use Rattle.bolt_layout.proofs.{LaidPages.limit, ListLemmas.all_weaker, OverRows.HasShortKey, OverRows.IsAtMost, OverRows.root_is_over}
 use Rattle.bolt_layout.proofs.TreeItems.{inline_read, root_page, tree_items, tree_rise}
@@ -11,8 +11,6 @@ module _ (file : List ℕ) (meta : Meta) where
   -- Elements of items whose keys rise, rise.
   below_of : (page_size : ℕ) (x : Laid LeafElement) (e : LeafElement) → e.key ≡ x.key → (es : List LeafElement) (items : List (Laid LeafElement)) → AreOf file meta es items
       → AllByRecursion (IsItem page_size) items → AllByRecursion (IsBelowItem x) items → IsBelow entry_cmp e es
-  below_of page_size x e same [] items are all below f has = absurd (contains_none f has)
-  below_of page_size x e same (g ∷ es) [] are all below f has = absurd are
   below_of page_size x e same (g ∷ es) (item ∷ items) are all below f has =
       elim (contains_cases g f es has) [
         | inl here ↦
@@ -23,12 +21,12 @@ module _ (file : List ℕ) (meta : Meta) where
             ap (λ (y : LeafElement). key_cmp e.key y.key) (sym here) ∙ (ap (λ (k : Key). key_cmp k g.key) same ∙ (ap (λ (k : Key). key_cmp x.key k) key ∙ less))
         | inr later ↦ below_of page_size x e same es items are.1 all.1 below.1 f later
       ]
+  below_of page_size x e same es items are all below f has = grind (arith, contains_none)
 
   rises_of : (page_size : ℕ) (es : List LeafElement) (items : List (Laid LeafElement)) → AreOf file meta es items → AllByRecursion (IsItem page_size) items → Rise items
       → Rises entry_cmp es
-  rises_of page_size [] items are all rise = tt
-  rises_of page_size (e ∷ es) [] are all rise = absurd are
   rises_of page_size (e ∷ es) (item ∷ items) are all rise = grind (arith, below_of, rises_of page_size es items are.1 all.1 rise.1)
+  rises_of page_size es items are all rise = grind arith
 
   -- so they are the entries of a bucket whose root page stands over the items
   held_entries : (page_size here : ℕ) (items : List (Laid LeafElement)) (held : Holds file meta here items) → AllByRecursion (IsItem page_size) items → Rise items
@@ -43,9 +41,8 @@ module _ (file : List ℕ) (meta : Meta) where
 
   -- An inline bucket.
   flat_shows : (which : Layout) (page_size : ℕ) (tree : Tree) → holds_bucket tree ≡ false → (n : ℕ) → Shows (IsEntry file meta) tree (elements_of (items_of which page_size tree) n)
-  flat_shows which page_size end none n = tt
   flat_shows which page_size (with_value key value after) none n = (refl, refl, refl, flat_shows which page_size after none (n + 0))
-  flat_shows which page_size (with_bucket key sequence inside after) none n = absurd (cc)
+  flat_shows which page_size tree none n = grind arith
 
   inline_start : (value : List ℕ) (es : List LeafElement) → head_root value ≡ 0 → inline_elements value ≡ es → start_of value ≡ Inline_page es
   inline_start value es h same = let z : (head_root value == 0) ≡ true = eq-eqb (head_root value) 0 h in rw z (ap Inline_page same)
@@ -76,10 +73,7 @@ module _ (file : List ℕ) (meta : Meta) where
       let es : List LeafElement = elements_of (items_of which page_size inside) 0 in
       let value : List ℕ = inline_value sequence es in
       let read = inline_read which page_size sequence inside small sized lengths all inline in
-      let entries : AreEntries (IsEntry file meta) (Inline_page es) es =
-      record { rises = flat_rises page_size (items_of which page_size inside) all rise 0; exact = λ f. (λ has. has, λ has. has) } in
-      let there = subst (λ (s : Start). AreEntries (IsEntry file meta) s es) (sym (inline_start value es read.1 read.3)) entries in
-      subst (ShowsBucket key sequence inside) (sym same) (refl, refl, read.2, (es, there, flat_shows which page_size inside read.4 0))
+      grind (arith, flat_rises, inline_start, flat_shows)
 
   -- A bucket with a root page.
   root_start : (value : List ℕ) (root : ℕ) → head_root value ≡ root → 1 ≤ root → start_of value ≡ Root_page root
@@ -126,11 +120,7 @@ module _ (file : List ℕ) (meta : Meta) where
   -- the elements of a tree's items show it
   pub tree_shows : (which : Layout) (page_size : ℕ) → 0 < page_size → page_size ≤ largest_page → (tree : Tree) → HasLengths tree → RisesInside tree
       → (es : List LeafElement) → AreOf file meta es (items_of which page_size tree) → Shows (IsEntry file meta) tree es
-  tree_shows which page_size sized small end lengths rises [] h = tt
-  tree_shows which page_size sized small end lengths rises (e ∷ es) h = h
-  tree_shows which page_size sized small (with_value key value after) lengths rises [] h = h
   tree_shows which page_size sized small (with_value key value after) lengths rises (e ∷ es) h = grind (arith, tree_shows which page_size sized small after lengths.2 rises es h.1)
-  tree_shows which page_size sized small (with_bucket key sequence inside after) lengths rises [] h = h
   tree_shows which page_size sized small (with_bucket key sequence inside after) lengths rises (e ∷ es) h =
       let (n, some, room, same, shown) = h.0 in
       let all = tree_items which page_size sized small inside lengths.2 rises.1 in
@@ -138,6 +128,7 @@ module _ (file : List ℕ) (meta : Meta) where
       let (bucket, named, counted, inner) = stored_shows which page_size sequence n key inside e sized small lengths.1 lengths.2 all rise
       (tree_shows which page_size sized small inside lengths.2 rises.1) (is_inline page_size inside (items_of which page_size inside)) refl some room shown same in
       (bucket, named, counted, inner, tree_shows which page_size sized small after lengths.3 rises.2 es h.1)
+  tree_shows which page_size sized small tree lengths rises es h = grind arith
 
   -- and so the tree is that of the bucket over its items
   pub root_tree : (which : Layout) (page_size n : ℕ) (tree : Tree) → 0 < page_size → page_size ≤ largest_page → HasLengths tree → Rises key_cmp (keys_in tree) → RisesInside tree

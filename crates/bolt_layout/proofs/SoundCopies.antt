@@ -1,10 +1,10 @@
 -- The layout of a tree is sound, and lists what the tree lists.
 use Rattle.std.proofs.Common.{◌≡◌, ◌<◌, ◌^◌, ℕ, List, Some, length, arith}
-use Rattle.bolt_layout.proofs.Words.{IsAsked, IsEntry, IsOfOneTree, IsPageSize, IsStorable, IsTreeOf, Layout, layout_meta, layout_of, layout_pages, layout_root, listing_of, Member, Meta, One, page_at, Placed, root_of, Root_page, size_bounds, Start, Tree, tree_of}
+use Rattle.bolt_layout.proofs.Words.{IsAsked, IsEntry, IsPageSize, IsStorable, IsTreeOf, Layout, layout_meta, layout_of, layout_pages, layout_root, listing_of, Meta, One, page_at, Placed, root_of, Root_page, size_bounds, Start, Tree}
 use Rattle.bolt_layout.proofs.{Holding.ArePages, ListLemmas.all_weaker, Showing.root_tree}
 use Rattle.bolt_layout.proofs.{Soundness.IsSoundLayout, Soundness.PassingIsSound, Soundness.laid_out, Soundness.layout_sound, SpanLemmas.IsShown}
 use Rattle.bolt_tree.specs.Listing.{Lists}
-use Rattle.bolt_layout.specs.Copies.{IsSoundCopy, layout_of_listing}
+use Rattle.bolt_layout.specs.Copies.{IsSoundCopy}
 
 -- what a bucket's tree lists is the bucket's listing
 abbrev pub TreeLists : Type 0
@@ -38,7 +38,3 @@ sound_copy passing lists which page_size tree sequence asked short =
 abbrev pub LayoutsAreSound : Type 0
 LayoutsAreSound = (which : Layout) (page_size : ℕ) (tree : Tree) (sequence : ℕ) → IsAsked page_size tree sequence → length (layout_of which page_size tree sequence) < 2 ^ 63
     → IsSoundCopy which page_size tree sequence (listing_of tree)
-
-pub copy_lists : LayoutsAreSound → (which : Layout) (page_size sequence : ℕ) (listing : List Member) → IsOfOneTree listing → IsPageSize page_size → sequence < 2 ^ 64
-    → length (layout_of_listing which page_size listing sequence) < 2 ^ 63 → IsSoundCopy which page_size (tree_of listing) sequence listing
-copy_lists sound which page_size sequence listing is size fits short = grind arith

@@ -1,5 +1,5 @@
 -- The layout of a tree is a sound file.
-use Rattle.std.proofs.Common.{◌≡◌, ◌∙◌, ℕ, ◌+◌, ◌-◌, ◌*◌, ◌^◌, ◌<◌, ◌≤◌, List, [], ◌∷◌, ◌++◌, length, drop, replicate, Option, Some, refl, sym, ap, inl, inr, arith, append_assoc}
+use Rattle.std.proofs.Common.{◌≡◌, ◌∙◌, ℕ, ◌+◌, ◌-◌, ◌*◌, ◌^◌, ◌<◌, ◌≤◌, List, [], ◌∷◌, ◌++◌, length, drop, replicate, Option, refl, sym, ap, inl, inr, arith, append_assoc}
 use Rattle.bolt_layout.proofs.Words.{AllByRecursion, append-nil, cases_lt, chosen_of, copy_meta, freelist_page, HasSoundTrees, header_bytes, IsActive, IsMeta, IsPageSize, IsStorable, items_of, Layout, layout_mark, layout_meta, layout_of, layout_pages, layout_root, length-append, length-header_bytes, length-meta_bytes, Meta, meta_bytes, meta_page, meta_written, mul-le-mul_left, node_at, node_of, One, page_fault, PageView, part_next, Placed, placed_bytes, reached, root_of, root_over, root_spot, size_bounds, Tree, Zero}
 use Rattle.bolt_layout.proofs.SpanLemmas.{IsEmptyFreelist, IsShown, freelist_shown, length-filled}
 use Rattle.bolt_format.specs.{Metas.HasBothMetas, ReadBack.IsMetaFit}
@@ -86,14 +86,9 @@ nodes_shown : (file : List ℕ) (meta : Meta) (pages : List Placed) → AllByRec
 nodes_shown file meta [] h = tt
 nodes_shown file meta (page ∷ pages) h = (node_shown file meta page.number page.view h.0, nodes_shown file meta pages h.1)
 
--- The accounts: page 2 alone is the freelist's, and the trees fill the rest.
-some_same : {X : Type 0} (a b : X) → ◌≡◌ {A = Option X} (Some a) (Some b) → a ≡ b
-some_same a b e = cc
-
 accounts_of : (file : List ℕ) (page_size root sequence mark txid : ℕ) → IsEmptyFreelist file (copy_meta page_size root sequence mark txid) 2
     → IsPart (node_at file (copy_meta page_size root sequence mark txid)) (reached (node_at file (copy_meta page_size root sequence mark txid)) root) 3 mark → HasRightAccounts file (copy_meta page_size root sequence mark txid)
-accounts_of file page_size root sequence mark txid free part =
-    grind (arith, some_same, cases_lt)
+accounts_of file page_size root sequence mark txid free part = grind (arith, cases_lt)
 
 -- what the tests of trees are for
 abbrev pub PassingIsSound : Type 0
@@ -119,8 +114,7 @@ tree_page : (which : Layout) (page_size : ℕ) (tree : Tree) → IsPageSize page
     → (height : ℕ) × ((root_over which page_size (items_of which page_size tree)).numbers ≤ limit → height ≤ 63) × IsPage page_size height (root_over which page_size (items_of which page_size tree)) (items_of which page_size tree)
 tree_page which page_size tree size storable =
     let bounds = size_bounds page_size size in
-    let all = tree_items which page_size (omega arith) (omega arith) tree storable.lengths storable.rising_inside in
-    root_page which page_size (items_of which page_size tree) (omega arith) (omega arith) all (tree_rise which page_size tree storable.rising)
+    grind (arith, tree_items, root_page, items_of, tree_rise)
 
 -- it has as many bytes as its pages
 pub layout_length : (which : Layout) (page_size : ℕ) (tree : Tree) (sequence : ℕ) → IsPageSize page_size → IsStorable tree
@@ -145,8 +139,6 @@ laid_out which page_size tree sequence size storable sized short =
     let mark : ℕ = layout_mark which page_size tree in
     let wide : mark * 1024 ≤ mark * page_size = mul-le-mul_left mark (omega arith) in
     let stand = pieces_stand page_size root sequence mark pages size (omega arith) (omega arith) (omega arith) in
-    let long = stand.long in
-    let fits = page.pages.fits 3 (omega arith) (omega arith) in
     grind arith
 
 pub record IsSoundLayout (which : Layout) (page_size : ℕ) (tree : Tree) (sequence : ℕ) : Type 0 where

@@ -1,5 +1,5 @@
 -- The top of a level is that of the next, and a page's overflow is the least.
-use Rattle.std.proofs.Common.{◌≡◌, ℕ, zero, suc, ◌≤◌, List, [], ◌∷◌, length, refl, arith}
+use Rattle.std.proofs.Common.{◌≡◌, ℕ, suc, ◌≤◌, List, ◌∷◌, length, arith}
 use Rattle.bolt_layout.proofs.Words.{branch_cut, branch_page_view, BranchElement, Laid, Layout, length-map, next_level, overflow_of, page_over, size_of, top_in}
 use Rattle.bolt_layout.proofs.Cutting.{branches_halve}
 use Rattle.bolt_layout.specs.Levels.{IsOverflow, TopIsAbove}
@@ -10,13 +10,10 @@ shorter which page_size level h = omega (arith, branches_halve which page_size s
 
 -- any number of steps is enough that is not below the number of pages, less one
 top_steps : (which : Layout) (page_size s t : ℕ) (level : List (Laid BranchElement)) → length level ≤ suc s → length level ≤ suc t → top_in which s page_size level ≡ top_in which t page_size level
-top_steps which page_size s t [] h k = refl
-top_steps which page_size s t (page ∷ []) h k = refl
-top_steps which page_size zero t (page ∷ other ∷ level) h k = absurd (omega arith)
-top_steps which page_size (suc s) zero (page ∷ other ∷ level) h k = absurd (omega arith)
 top_steps which page_size (suc s) (suc t) (page ∷ other ∷ level) h k =
     let less = shorter which page_size (page ∷ other ∷ level) (omega arith) in
     top_steps which page_size s t (next_level which page_size (page ∷ other ∷ level)) (omega arith) (omega arith)
+top_steps which page_size s t level h k = grind arith
 
 pub top_above : TopIsAbove
 top_above which page_size is h = grind (arith, shorter, top_steps)

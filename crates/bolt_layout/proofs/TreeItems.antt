@@ -1,10 +1,11 @@
 -- The items of a tree are read back, have room, and are parts of a sound tree of pages.
+use Rattle.bolt_layout.proofs.Parts.{none_some, nothing}
 use Rattle.std.proofs.Common.{◌≡◌, ◌∙◌, ℕ, ◌+◌, ◌*◌, ◌/◌, ◌^◌, ◌<◌, ◌≤◌, ◌==◌, not, nat_le, Bool, true, false, List, [], ◌∷◌, length, map, Option, Some, None, refl, sym, ap, subst, arith}
 use Rattle.std.proofs.lemmas.Bool.{leb-true, not-true}
 use Rattle.bolt_layout.proofs.Words.{AllByRecursion, and_parts, append-nil, At_inline, At_page, bucket_item, bucket_spots, common_steps, contains_head, contains_tail, elements_of, end, eq-eqb, finding_of, follow, HasLengths, head_bytes, head_root, head_sequence, head_written, holds_bucket, inline_elements, inline_finding, inline_value, is_inline, IsBelow, items_of, Key, key_cmp, keys_in, keys_of, Laid, largest_page, Layout, leaf_data, leaf_entry, leaf_item, LeafElement, length-append, length-header_bytes, max_items, ne_eqb, Nodes, Rises, RisesInside, root_over, root_spot, run_size, size_of, Spot, stored_bucket, Tree, value_fault, with_bucket, with_value}
 use Rattle.bolt_layout.proofs.{InlineLemmas.IsFlat, InlineLemmas.inline_written, SpanLemmas.length-leaf_bytes}
 use Rattle.bolt_layout.proofs.{KeyLaws.IsBelowItem, KeyLaws.IsWithin, KeyLaws.Rise, ListLemmas.all_weaker}
-use Rattle.bolt_layout.proofs.{OverRows.HasShortKey, OverRows.IsAtMost, OverRows.root_is_over, Parts.IsPart, Parts.part_inline, Parts.part_none}
+use Rattle.bolt_layout.proofs.{OverRows.HasShortKey, OverRows.IsAtMost, OverRows.root_is_over, Parts.IsPart, Parts.part_inline}
 use Rattle.bolt_layout.proofs.{LaidPages.limit, LaidItems.IsItem, LaidItems.items_size, LaidItems.length-elements}
 use Rattle.bolt_layout.proofs.{LeafPages.IsPage, LeafPages.above_none, LeafPages.items_keys, BranchPages.over_page}
 use Rattle.bolt_format.proofs.EncodedHeaders.{length-head_bytes, root_passes}
@@ -26,13 +27,12 @@ flat_item page_size key value flag some short sized bucket part = record {
 
 -- a value
 value_item : (page_size : ℕ) (key value : List ℕ) → 1 ≤ length key → length key ≤ 0x40000000 → length value ≤ 0x7FFFFFFE → IsItem page_size (leaf_item key value false)
-value_item page_size key value some short sized = flat_item page_size key value false some short sized (λ e. absurd (cc)) (λ nodes n host any. part_none nodes n (n + 0) (omega arith))
+value_item page_size key value some short sized = grind (arith, flat_item, none_some, nothing)
 
 -- an inline bucket
 flat_elements : (which : Layout) (page_size : ℕ) (tree : Tree) → holds_bucket tree ≡ false → HasLengths tree → (n : ℕ) → AllByRecursion IsFlat (elements_of (items_of which page_size tree) n)
-flat_elements which page_size end none lengths n = tt
 flat_elements which page_size (with_value key value after) none lengths n = grind (arith, flat_elements which page_size after none lengths.2 (n + 0))
-flat_elements which page_size (with_bucket key sequence inside after) none lengths n = absurd (cc)
+flat_elements which page_size tree none lengths n = grind arith
 
 keys_same : (es : List LeafElement) → keys_of (map leaf_entry es) ≡ map (λ (e : LeafElement). e.key) es
 keys_same [] = refl

@@ -1,5 +1,5 @@
 -- No branch page of a balanced layout has fewer than two elements.
-use Rattle.std.proofs.Common.{◌≡◌, ℕ, zero, suc, ◌+◌, ◌≤◌, List, [], ◌∷◌, length, map, flat_map, refl, sym, ap, subst, arith}
+use Rattle.std.proofs.Common.{◌≡◌, ℕ, suc, ◌+◌, ◌≤◌, List, [], ◌∷◌, length, map, flat_map, refl, sym, ap, subst, arith}
 use Rattle.bolt_layout.proofs.Words.{AllByRecursion, Balanced, branch_cut, branch_page_view, BranchElement, cut_of, elements_of, end, items_of, join_last, Laid, layout_pages, leaf_level, leaf_page_view, LeafElement, length-append, next_level, page_over, pages_of, root_of, root_over, size_of, top_in, Tree, with_bucket, with_value}
 use Rattle.bolt_format.specs.declared.header.Kind.TheVariants as kind
 use Rattle.bolt_layout.specs.Layout.{HasTwoIfBranch, first_page}
@@ -60,15 +60,13 @@ level_twos page_size (run ∷ runs) two all =
     (branch_twos page_size run two.0 both.0, level_twos page_size runs two.1 both.1)
 
 top_twos : (steps page_size : ℕ) (level : List (Laid BranchElement)) → AllByRecursion HasTwos level → HasTwos (top_in Balanced steps page_size level)
-top_twos steps page_size [] all = leaf_twos page_size [] tt
-top_twos steps page_size (page ∷ []) all = all.0
-top_twos zero page_size (page ∷ other ∷ level) all = all.0
 top_twos (suc steps) page_size (page ∷ other ∷ level) all =
     let pages : List (Laid BranchElement) = page ∷ other ∷ level in
     let runs : List (List (Laid BranchElement)) = branch_cut Balanced page_size size_of pages in
     let divided = branches_divide Balanced page_size size_of pages in
     let below = subst (AllByRecursion HasTwos) (sym divided.whole) all in
     top_twos steps page_size (next_level Balanced page_size pages) (level_twos page_size runs (runs_long page_size size_of pages (omega arith)) below)
+top_twos steps page_size level all = grind (arith, leaf_twos)
 
 -- a bucket,
 root_twos : (page_size : ℕ) (items : List (Laid LeafElement)) → AllByRecursion HasTwos items → HasTwos (root_over Balanced page_size items)

@@ -1,5 +1,6 @@
 -- How many page numbers a row of pages takes: its overflow, by the weights of what stands on it.
-use Rattle.std.proofs.Common.{◌≡◌, ℕ, ◌+◌, ◌*◌, ◌-◌, ◌/◌, ◌<◌, ◌≤◌, List, [], ◌∷◌, ◌++◌, length, map, flat_map, sum_by, refl, ap, arith}
+use Rattle.std.proofs.lemmas.Grind.{common_steps}
+use Rattle.std.proofs.Common.{◌≡◌, ℕ, ◌+◌, ◌*◌, ◌/◌, ◌<◌, ◌≤◌, List, [], ◌∷◌, ◌++◌, length, map, flat_map, sum_by, refl, arith}
 use Rattle.std.proofs.Math.Nat.{div-mul-le_self}
 use Rattle.std.proofs.lemmas.Nat.{le-div}
 use Rattle.bolt_layout.proofs.Words.{add-mul, AllByRecursion, div-lt_iff_lt-mul, Laid, numbers_of, overflow_of, page_over, PageView, run_overflow, size_of, sum_by-cons}
@@ -39,8 +40,7 @@ run_weight page_size [] low = let below : 15 / page_size < 1 = (div-lt_iff_lt-mu
 run_weight {E = E} page_size (item ∷ run) low =
     let ih = run_weight page_size run low in
     let s : 15 + sum_by size_of (item ∷ run) ≡ item.size + (15 + sum_by size_of run) = let c = sum_by-cons (size_of {E = E}) item run in omega arith in
-    let e = ap (λ (n : ℕ). n / page_size) s in
-    let d = div_sum item.size (15 + sum_by size_of run) page_size (omega arith) in omega arith
+    grind (arith, div_sum)
 
 pub own_weight : {E : Type 0} (page_size : ℕ) (runs : List (List (Laid E))) → 16 ≤ page_size
     → own_numbers page_size runs ≤ length runs + weights page_size (flat_map (λ run. run) runs)
@@ -50,8 +50,7 @@ own_weight page_size (run ∷ runs) low =
     let ih = own_weight page_size runs low in
     let l = weights-append page_size run (flat_map (λ run. run) runs) in
     let w = run_weight page_size run low in
-    let e : (16 + sum_by size_of run) - 1 ≡ 15 + sum_by size_of run = omega arith in
-    let f = ap (λ (n : ℕ). n / page_size) e in omega arith
+    grind arith
 
 -- An item has the 16 bytes of its header and its key.
 abbrev pub HasKeyRoom : {E : Type 0} → Laid E → Type 0
@@ -64,14 +63,13 @@ first_weight view page_size first run low room = let d = div_rises (16 + length 
 
 pub level_weights : {E : Type 0} (view : ℕ → List E → PageView) (page_size : ℕ) (runs : List (List (Laid E))) → 16 ≤ page_size → AllByRecursion HasItem runs
     → AllByRecursion HasKeyRoom (flat_map (λ run. run) runs) → weights page_size (map (page_over view page_size) runs) ≤ weights page_size (flat_map (λ run. run) runs)
-level_weights view page_size [] low some room = omega arith
-level_weights view page_size ([] ∷ runs) low some room = absurd (let none = some.0 in omega arith)
 level_weights view page_size ((first ∷ run) ∷ runs) low some room =
     let rest : List (Laid _) = flat_map (λ run. run) runs in
     let both = all_split HasKeyRoom (first ∷ run) rest room in
     let ih = level_weights view page_size runs low some.1 both.1 in
     let l = weights-append page_size (first ∷ run) rest in
     let w = first_weight view page_size first run low both.0.0 in omega arith
+level_weights view page_size runs low some room = grind arith
 
 pub own_weights : {E : Type 0} (view : ℕ → List E → PageView) (page_size : ℕ) (runs : List (List (Laid E))) → 16 ≤ page_size → AllByRecursion HasItem runs
     → AllByRecursion HasKeyRoom (flat_map (λ run. run) runs) → weights page_size (map (page_over view page_size) runs) ≤ own_numbers page_size runs
@@ -81,8 +79,7 @@ own_weights view page_size ([] ∷ runs) low some room = absurd (let none = some
 own_weights {E = E} view page_size ((first ∷ run) ∷ runs) low some room =
     let both = all_split HasKeyRoom (first ∷ run) (flat_map (λ run. run) runs) room in
     let ih = own_weights view page_size runs low some.1 both.1 in
-    let c = sum_by-cons (size_of {E = E}) first run in
-    let d = div_rises (16 + length first.key) ((16 + sum_by size_of (first ∷ run)) - 1) page_size (omega arith) (omega arith) in omega arith
+    grind (arith, common_steps, sum_by-cons, div_rises)
 
 -- each item weighs a page at least
 pub weights_count : {E : Type 0} (page_size : ℕ) (items : List (Laid E)) → length items ≤ weights page_size items

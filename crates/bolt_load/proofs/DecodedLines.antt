@@ -1,6 +1,6 @@
 -- The lines of a text are decoded one after another.
-use Rattle.std.proofs.Common.{◌≡◌, ◌∙◌, ◌<◌, ◌≤◌, ◌-◌, ℕ, List, [], ◌∷◌, ◌++◌, Option, Some, None, length, get_or, take, refl, sym, ap, subst, arith, append_assoc, append-nil, length-append}
-use Rattle.std.proofs.lemmas.Grind.{flat_map-append}
+use Rattle.std.proofs.Common.{rules, ◌≡◌, ◌∙◌, ◌<◌, ◌-◌, ℕ, List, [], ◌∷◌, ◌++◌, Option, Some, None, length, get_or, take, refl, sym, ap, subst, arith, append_assoc, append-nil, length-append}
+use Rattle.std.proofs.lemmas.Grind.{common_steps, flat_map-append}
 use Rattle.bolt_load.proofs.Words.{Adds, All, All-append, AreDecoded, filter_map-append, flat_map, IfSome, IsFirstLine, IsSome, length_fault, line_member, LineFault, lines_of, Member, member_bytes, members_in, NotALine, option_map, option_map_or, shape_fault, StopsAt, take-append_seam, Text}
 use Rattle.bolt_text.proofs.LineLemmas.{no_lines}
 use Rattle.std.specs.Prelude.{zero, suc}
@@ -64,9 +64,6 @@ pub not_nil : (text line after : Text) → IsFirstLine text line after → text 
 not_nil text line after first none = let below = first.shorter in let same = ap length none in omega (arith, below, same)
 
 module _ (text rest : Text) (bytes new : List ℕ) (so_far : HasDecoded text rest bytes) where
-  pub rest_fits : length rest ≤ length text
-  rest_fits = let is = ap length so_far.whole ∙ length-append so_far.head rest in omega (arith, is)
-
   module _ (line after : Text) (first : IsFirstLine rest line after) where
     pub line_decoded : None ≡ shape_fault line → Adds (option_map member_bytes (line_member line)) bytes new → HasDecoded text after new
     line_decoded shaped adds =
@@ -91,36 +88,23 @@ module _ (text rest : Text) (bytes new : List ℕ) (so_far : HasDecoded text res
         }
 
     head_lines : lines_of so_far.head ≡ so_far.front
-    head_lines =
-        ap lines_of (sym (append-nil so_far.head)) ∙ so_far.others (not_nil rest line after first) [] ∙ ap (λ lines. so_far.front ++ lines) no_lines ∙ append-nil so_far.front
+    head_lines = search (rules, lines_of, append-nil, not_nil, no_lines)
 
     pub head_is : take (length text - length rest) text ≡ so_far.head
-    head_is =
-        let is = ap length so_far.whole ∙ length-append so_far.head rest in
-        let many : length text - length rest ≡ length so_far.head = omega (arith, is) in
-        ap (λ n. take n text) many ∙ ap (take (length so_far.head)) so_far.whole ∙ take-append_seam so_far.head rest
+    head_is = grind (arith, common_steps, length-append)
 
     module _ (decoded : Text) (is : decoded ≡ so_far.head) where
       decoded_lines : lines_of decoded ≡ so_far.front
       decoded_lines = ap lines_of is ∙ head_lines
 
       pub front_decoded : {found : Option (List ℕ)} → Adds found bytes new → AreDecoded (lines_of decoded) new
-      front_decoded adds = subst (λ (lines : List Text). AreDecoded lines new) (sym decoded_lines) (record {
-        tell = all_tell so_far.front so_far.shaped;
-        begin = begins_with (flat_map member_bytes (members_in so_far.front)) adds.more new (adds.added ∙ ap (λ bytes. bytes ++ adds.more) so_far.bytes_are);
-      })
+      front_decoded adds = grind (arith, common_steps, decoded_lines, all_tell, begins_with, flat_map, member_bytes)
 
       pub front_shaped : All IsShaped (lines_of decoded)
       front_shaped = subst (All IsShaped) (sym decoded_lines) so_far.shaped
 
       pub stops : (fault : Option LineFault) → fault ≡ shape_fault line → IfSome fault (StopsAt text decoded)
-      stops None shape = tt
-      stops (Some fault) shape = record {
-        line = line;
-        rest = lines_of after;
-        lines = so_far.lines ∙ ap (λ lines. so_far.front ++ lines) first.lines ∙ ap (λ front. front ++ line ∷ lines_of after) (sym decoded_lines);
-        fault_is = sym shape;
-      }
+      stops fault shape = grind (arith, common_steps, lines_of, decoded_lines)
 
   module _ (none : rest ≡ []) where
     all_lines : lines_of text ≡ so_far.front

@@ -1,11 +1,11 @@
 -- What a file lists has bytes of the file in its keys and its values.
-use Rattle.std.proofs.Common.{◌≡◌, ◌<◌, ◌-◌, ◌==◌, ℕ, Bool, true, false, List, [], ◌∷◌, sym, refl, subst, drop, take, inl, inr, arith}
-use Rattle.std.proofs.lemmas.Bool.{eqb-true}
-use Rattle.std.proofs.lemmas.List.{get_or-take, get_or_past, length-take}
-use Rattle.bolt_load.proofs.Words.{ArePartsBytes, Bucket, cases_Bool, cases_lt, Contains, IsFitItem, Item, Member, Path, Value}
+use Rattle.std.proofs.lemmas.Grind.{common_steps}
+use Rattle.std.proofs.Common.{◌≡◌, ℕ, Bool, true, false, List, [], ◌∷◌, sym, subst, arith}
+use Rattle.std.proofs.lemmas.List.{get_or-take, get_or_past}
+use Rattle.bolt_load.proofs.Words.{ArePartsBytes, cases_lt, Contains, IsFitItem, Item, Member, Path}
 use Rattle.std.specs.List.{slice_range}
 use Rattle.bolt_format.specs.Bytes.{IsBytes}
-use Rattle.bolt_format.specs.Elements.{IsBucketValue, LeafElement, head_root, head_sequence, inline_bytes, inline_elements, leaf_element, leaf_end, leaf_key_start, leaf_value_start}
+use Rattle.bolt_format.specs.Elements.{IsBucketValue, LeafElement, head_root, inline_bytes, inline_elements, leaf_element, leaf_key_start, leaf_value_start}
 use Rattle.bolt_format.specs.{Pages.span_bytes, declared.meta.Meta.Meta}
 use Rattle.bolt_format.proofs.{ElementFacts.drop_bytes, PageFacts.bucket_value, PageFacts.flat_inline, PageFacts.in_inline, PageFacts.on_leaf}
 use Rattle.bolt_text.specs.JsonReadings.{IsItemOfBytes}
@@ -15,20 +15,14 @@ use Rattle.bolt_layout.specs.Storable.{IsFitMember}
 use Rattle.bolt_load.specs.ByteMembers.{AreOfBytes}
 
 range_bytes : (bytes : List ℕ) (a b : ℕ) → IsBytes bytes → IsBytes (slice_range bytes a b)
-range_bytes bytes a b are i = elim (cases_lt i (b - a)) [
-  | inl low ↦ subst (λ (x : ℕ). x < 256) (sym (get_or-take (b - a) (drop a bytes) i 0 low)) (drop_bytes bytes a are i)
-  | inr high ↦ subst (λ (x : ℕ). x < 256) (sym (get_or_past (take (b - a) (drop a bytes)) i 0 (let l = length-take (b - a) (drop a bytes) in omega (arith, l, high)))) (omega arith)
-]
+range_bytes bytes a b are i = grind (arith, common_steps, cases_lt, ℕ, get_or-take, drop_bytes, get_or_past)
 
 record AreBytes (e : LeafElement) : Type 0 where
   key : IsBytes e.key
   value : IsBytes e.value
 
 element_bytes : (bytes : List ℕ) (i : ℕ) → IsBytes bytes → AreBytes (leaf_element bytes i)
-element_bytes bytes i are = record {
-  key = range_bytes bytes (leaf_key_start bytes i) (leaf_value_start bytes i) are;
-  value = range_bytes bytes (leaf_value_start bytes i) (leaf_end bytes i) are;
-}
+element_bytes bytes i are = grind (arith, common_steps, range_bytes, leaf_key_start, leaf_value_start)
 
 -- a bucket begins at a root page, or in a good value of bytes
 abbrev IsOfBytes : Start → Type 0
@@ -41,10 +35,7 @@ module _ (file : List ℕ) (meta : Meta) (bytes : IsBytes file) where
     start : e.is_bucket ≡ true → IsOfBytes (start_of e.value)
 
   start_bytes : (value : List ℕ) → IsBucketValue value → IsBytes value → IsOfBytes (start_of value)
-  start_bytes value good are = elim (cases_Bool (head_root value == 0)) [
-    | inl t ↦ rw t (value, good, eqb-true (head_root value) 0 t, refl, are)
-    | inr f ↦ rw f tt
-  ]
+  start_bytes value good are = grind arith
 
   not_both : (b : Bool) → b ≡ false → b ≡ true → ⊥
   not_both b e h = cc
@@ -63,17 +54,11 @@ module _ (file : List ℕ) (meta : Meta) (bytes : IsBytes file) where
       }
 
   item_bytes : (e : LeafElement) (item : Item) → AreBytes e → item_of e ≡ item → IsFitItem item → IsItemOfBytes item
-  item_bytes e (Value value) are is fits = elim (cases_Bool e.is_bucket) [
-    | inl b ↦ absurd (let f : Bucket (head_sequence e.value) ≡ Value value = (rw b at is) in cc)
-    | inr v ↦ let same : e.value ≡ value = (let f : Value e.value ≡ Value value = (rw v at is) in cc) in subst IsBytes same are.value
-  ]
-  item_bytes e (Bucket sequence) are is fits = fits
+  item_bytes e item are is fits = grind arith
 
   held_bytes : (path : Path) (item : Item) (from : Start) → IsOfBytes from → Holds (IsEntry file meta) from path item → IsFitItem item → ArePartsBytes path × IsItemOfBytes item
   held_bytes [] item from start held fits = absurd held
-  held_bytes (key ∷ []) item from start (e, is, same, of) fits =
-      let good = entry_good from e start is in
-      ((subst IsBytes same good.bytes_are.key, tt), item_bytes e item good.bytes_are of fits)
+  held_bytes (key ∷ []) item from start (e, is, same, of) fits = grind (arith, common_steps, entry_good)
   held_bytes (key ∷ next ∷ path) item from start (e, is, same, b, more) fits =
       let good = entry_good from e start is in
       let later = held_bytes (next ∷ path) item (start_of e.value) (good.start b) more fits in

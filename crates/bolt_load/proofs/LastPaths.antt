@@ -1,5 +1,6 @@
 -- The buckets of the members so far in which a further member may be are those of the last path: paths rise, and each has its bucket before it.
-use Rattle.std.proofs.Common.{◌≡◌, ◌∙◌, ◌⊎◌, inl, inr, ◌<◌, ◌+◌, ◌-◌, ◌==◌, ◌&&◌, ◌||◌, Bool, true, false, List, [], ◌∷◌, ◌++◌, Option, Some, length, take, drop, slice_get, refl, sym, ap, subst, arith, append_assoc, append-nil, length-append, length-drop}
+use Rattle.std.proofs.Common.{rules, ◌≡◌, ◌∙◌, ◌⊎◌, inl, inr, ◌<◌, ◌+◌, ◌-◌, ◌==◌, ◌&&◌, ◌||◌, Bool, true, false, List, [], ◌∷◌, ◌++◌, Some, length, take, drop, slice_get, refl, sym, ap, subst, arith, append_assoc, append-nil, length-append, length-drop}
+use Rattle.std.proofs.lemmas.Grind.{common_steps}
 use Rattle.std.proofs.lemmas.Bool.{or_cases}
 use Rattle.std.proofs.lemmas.List.Folds.{list_any-append}
 use Rattle.std.proofs.lemmas.Slice.Eq.{slice_eq-Decides}
@@ -14,16 +15,13 @@ use Rattle.bolt_tree.proofs.{Lists.asymmetric, PartLemmas.begins_by, PathOrder.b
 -- ---- tests
 
 same_bool : (a b : Bool) → (a ≡ true → b ≡ true) → (b ≡ true → a ≡ true) → a ≡ b
-same_bool true b there back = sym (there refl)
-same_bool false true there back = back refl
-same_bool false false there back = refl
+same_bool a b there back = grind arith
 
 or_left : (a b : Bool) → a ≡ true → (a || b) ≡ true
 or_left a b is = ap (λ a. a || b) is
 
 or_right : (a b : Bool) → b ≡ true → (a || b) ≡ true
-or_right true b is = refl
-or_right false b is = is
+or_right a b is = grind arith
 
 any_has : {A : Type 0} (p : A → Bool) (xs : List A) → list_any p xs ≡ true → (x : A) × Has xs x × (p x ≡ true)
 any_has p [] any = absurd (let f : false ≡ true = any in cc)
@@ -60,11 +58,7 @@ above_append front rest some =
     ap (λ n. take n (front ++ rest)) n ∙ take-append-add front rest (length rest - 1)
 
 longer_open : (last above : Path) (bucket : Bool) (key : Key) (rest : Path) → last ≡ above ++ key ∷ rest → is_open last bucket above ≡ true
-longer_open last above bucket key rest is =
-    let begins = begins_by above last (key ∷ rest) is in
-    let l = ap length is ∙ length-append above (key ∷ rest) in
-    let shorter : nat_lt (length above) (length last) ≡ true = grind (arith, nat_tests, l) in
-    ap (λ b. b && (nat_lt (length above) (length last) || bucket)) begins ∙ or_left (nat_lt (length above) (length last)) bucket shorter
+longer_open last above bucket key rest is = grind (arith, common_steps, begins_by, key, length-append, nat_lt, nat_tests)
 
 same_open : (last above : Path) (bucket : Bool) → last ≡ above → bucket ≡ true → is_open last bucket above ≡ true
 same_open last above bucket same is =
@@ -87,8 +81,7 @@ none_opens (key ∷ above) goes = absurd (none_begins key above ((and_parts (beg
     none_begins key above begins = let is : [] ≡ (key ∷ above) ++ drop (length (key ∷ above)) [] = begins_of (key ∷ above) [] begins in cc
 
 none_above : (path : Path) → 0 < length path → is_above_last [] path ≡ is_lt (path_cmp [] path)
-none_above [] some = absurd (omega (arith, some))
-none_above (key ∷ path) some = refl
+none_above path some = grind arith
 
 pub none_last : IsLast [] [] true
 none_last = record { most = λ member has. absurd has; opens = none_opens; above = none_above; root = λ none. refl }
@@ -120,10 +113,7 @@ module _ (before : List Member) (last : Path) (bucket : Bool) (is : IsLast befor
     empty_is (k ∷ r) zero = absurd (let some : (length (k ∷ r) == 0) ≡ false = grind (arith, nat_tests) in cc)
 
     bucket_open : has_bucket above before ≡ true → is_open last bucket above ≡ true
-    bucket_open has = elim (or_cases (length above == 0) (list_any (is_bucket_at above) before) has) [
-      | inl zero ↦ root_open (empty_is above zero)
-      | inr any ↦ let found = any_has (is_bucket_at above) before any in member_open found.0 found.1 found.2
-    ]
+    bucket_open has = search (rules, or_cases, list_any, is_bucket_at, root_open, empty_is, any_has, member_open)
 
     open_same : has_bucket above before ≡ is_open last bucket above
     open_same = same_bool (has_bucket above before) (is_open last bucket above) bucket_open (is.opens above)
@@ -149,19 +139,10 @@ module _ (before : List Member) (last : Path) (bucket : Bool) (is : IsLast befor
 -- ---- one member more
 
 pub has_more : (path : Path) (before more : List Member) → has_bucket path before ≡ true → has_bucket path (before ++ more) ≡ true
-has_more path before more has = elim (or_cases (length path == 0) (list_any (is_bucket_at path) before) has) [
-  | inl root ↦ or_left (length path == 0) (list_any (is_bucket_at path) (before ++ more)) root
-  | inr any ↦
-      or_right (length path == 0) (list_any (is_bucket_at path) (before ++ more))
-      (list_any-append (is_bucket_at path) before more ∙ or_left (list_any (is_bucket_at path) before) (list_any (is_bucket_at path) more) any)
-]
+has_more path before more has = grind (arith, common_steps, or_cases, list_any, is_bucket_at, or_left, or_right)
 
 pub has_new : (path : Path) (item : Item) (before : List Member) → is_bucket item ≡ true → has_bucket path (before ++ (path, item) ∷ []) ≡ true
-has_new path item before kind =
-    let here : is_bucket_at path (path, item) ≡ true = ap (λ b. b && is_bucket item) (path_itself path) ∙ kind in
-    or_right (length path == 0) (list_any (is_bucket_at path) (before ++ (path, item) ∷ []))
-    (list_any-append (is_bucket_at path) before ((path, item) ∷ [])
-    ∙ or_right (list_any (is_bucket_at path) before) (list_any (is_bucket_at path) ((path, item) ∷ [])) (or_left (is_bucket_at path (path, item)) false here))
+has_new path item before kind = search (rules, is_bucket_at, is_bucket, path_itself, or_right, list_any, list_any-append, or_left)
 
 last_of : (before : List Member) (member : Member) → slice_get (before ++ member ∷ []) (length (before ++ member ∷ []) - 1) ≡ Some member
 last_of before member =
@@ -213,9 +194,4 @@ module _ (before : List Member) (last : Path) (bucket : Bool) (is : IsLast befor
   now_root none = let l = ap length none in absurd (omega (arith, some, l))
 
   pub next_last : IsLast (before ++ (path, item) ∷ []) path (is_bucket item)
-  next_last = record {
-    most = now_most;
-    opens = now_opens;
-    above = λ next some. ap (λ (found : Option Member). option_map_or (λ (last : Member). is_lt (path_cmp last.0 next)) found true) (last_of before (path, item));
-    root = now_root;
-  }
+  next_last = grind (arith, common_steps, now_most, now_opens, option_map_or, is_lt, path_cmp, last_of)

@@ -1,7 +1,8 @@
 -- The text of a listing that is of one tree is read back as that listing.
-use Rattle.std.proofs.Common.{◌≡◌, ◌∙◌, ◌==◌, ◌<◌, ◌-◌, ℕ, true, false, List, [], ◌∷◌, ◌++◌, Option, Some, None, length, map, slice_get, take, inl, inr, refl, sym, ap, ap₂, subst, arith, append_assoc, append-nil, length-append}
+use Rattle.std.proofs.lemmas.Grind.{common_steps}
+use Rattle.std.proofs.Common.{◌≡◌, ◌∙◌, ◌==◌, ◌<◌, ◌-◌, ℕ, true, false, List, [], ◌∷◌, ◌++◌, Option, Some, None, length, map, slice_get, inl, inr, refl, sym, ap, ap₂, subst, arith, append_assoc, append-nil, length-append}
 use Rattle.std.proofs.lemmas.List.Elements.{Contains-append_left}
-use Rattle.bolt_load.proofs.Words.{Bucket, Contains, contains_from_has, end, filter_map-append, Has, has_bucket, if◌then◌else◌, is_above_last, is_lt, IsListingText, IsLoadFault, IsMemberOfBytes, Item, Key, Less, line_fault, line_member, LineFault, lines_of, listing_below, listing_of, listing_text, Member, member_cmp, member_line, members_in, option_map_or, Path, path_above, path_cmp, place_fault, RightAfter, Rises, take-append_seam, Text, text_members, Tree, Value, with_bucket, with_value}
+use Rattle.bolt_load.proofs.Words.{Bucket, Contains, contains_from_has, end, filter_map-append, Has, has_bucket, if◌then◌else◌, is_above_last, is_lt, IsListingText, IsLoadFault, IsMemberOfBytes, Item, Key, Less, line_fault, line_member, LineFault, lines_of, listing_below, listing_of, listing_text, Member, member_cmp, member_line, members_in, option_map_or, Path, path_above, path_cmp, place_fault, RightAfter, Rises, Text, text_members, Tree, Value, with_bucket, with_value}
 use Rattle.bolt_load.proofs.{DecodedLines.member_alone, LastPaths.has_more, LastPaths.has_new}
 use Rattle.bolt_text.proofs.LineLemmas.{lines_cut, no_lines}
 use Rattle.bolt_load.proofs.{NextLines.members_first, PlacedLines.fault_is_of_place, StoredTexts.AreKeys, StoredTexts.FitsMember}
@@ -34,8 +35,7 @@ lines_are (member ∷ listing) good =
 
 rises_after : (before : List Member) (member : Member) (after : List Member) → Rises member_cmp (before ++ member ∷ after) → (other : Member) → Has before other → path_cmp other.0 member.0 ≡ Less
 rises_after [] member after rises other has = absurd has
-rises_after (first ∷ before) member after rises other (inl same) =
-    subst (λ (m : Member). path_cmp m.0 member.0 ≡ Less) same (rises.0 member (contains_from_has (before ++ member ∷ after) member (has_right before (member ∷ after) member (inl refl))))
+rises_after (first ∷ before) member after rises other (inl same) = grind (arith, common_steps, path_cmp, contains_from_has, has_right)
 rises_after (first ∷ before) member after rises other (inr has) = rises_after before member after rises.1 other has
 
 rises_front : (xs ys : List Member) → Rises member_cmp (xs ++ ys) → Rises member_cmp xs
@@ -52,16 +52,11 @@ above_last before path below = at (slice_get before (length before - 1)) refl
         ∙ ap is_lt (below last (at_has before (length before - 1) last is))
 
 above_is : (front : Path) (key : Key) → path_above (front ++ key ∷ []) ≡ front
-above_is front key =
-    let l = length-append front (key ∷ []) in
-    let n : length (front ++ key ∷ []) - 1 ≡ length front = omega (arith, l) in
-    ap (λ n. take n (front ++ key ∷ [])) n ∙ take-append_seam front (key ∷ [])
+above_is front key = grind (arith, common_steps, length-append)
 
 placed : (before : List Member) (front : Path) (key : Key) (item : Item) → is_above_last before (front ++ key ∷ []) ≡ true → has_bucket front before ≡ true
     → place_fault before (front ++ key ∷ [], item) ≡ None
-placed before front key item above has =
-    let bucket : has_bucket (path_above (front ++ key ∷ [])) before ≡ true = ap (λ p. has_bucket p before) (above_is front key) ∙ has in
-    rw (above, bucket) refl
+placed before front key item above has = grind (arith, common_steps, has_bucket, path_above)
 
 -- ---- all lines
 
@@ -100,9 +95,7 @@ module _ (before : List Member) (front : Path) (key : Key) (item : Item) (rest :
   told = line_back own (some_parts front key) fits good
 
   first_right : Rises member_cmp (before ++ own ∷ rest) → has_bucket front before ≡ true → line_fault before (member_words own) ≡ None
-  first_right rises has =
-      fault_is_of_place before (member_words own) own (line_shaped (member_words own) own fits told) told
-      ∙ placed before front key item (above_last before (front ++ key ∷ []) (rises_after before own rest rises)) has
+  first_right rises has = grind (arith, common_steps, fault_is_of_place, member_words, line_shaped, told, placed, above_last, rises_after)
 
   told_alone : members_in (member_words own ∷ []) ≡ own ∷ []
   told_alone = member_alone (member_words own) own told
@@ -204,10 +197,7 @@ module _ (listing : List Member) (one : IsOfOneTree listing) (rises : Rises memb
   lines = lines_are listing good ∙ ap (map member_words) (sym one.lists)
 
   pub text_is_right : 0 < length listing → IsListingText (listing_text listing)
-  text_is_right some = record {
-    right = subst (RightAfter []) (sym lines) (right_below [] [] (tree_of listing) plain refl (subst (Rises member_cmp) (sym one.lists) rises));
-    whole = text_is_whole listing some;
-  }
+  text_is_right some = grind (arith, common_steps, lines, right_below, tree_of, plain, member_cmp, text_is_whole)
 
   pub text_is_read_back : text_members (listing_text listing) ≡ listing
   text_is_read_back = ap members_in lines ∙ members_back [] (tree_of listing) plain ∙ one.lists

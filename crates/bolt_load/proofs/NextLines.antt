@@ -1,16 +1,15 @@
 -- The next line tells the member whose bytes come next.
-use Rattle.std.proofs.Common.{◌≡◌, ◌∙◌, ℕ, List, [], ◌∷◌, ◌++◌, Option, Some, None, length, drop, take, refl, sym, ap, ap₂, subst, arith, append_assoc}
+use Rattle.std.proofs.Common.{rules, ◌≡◌, ◌∙◌, ℕ, List, [], ◌∷◌, ◌++◌, Option, Some, None, length, drop, take, refl, sym, ap, ap₂, subst, arith, append_assoc}
 use Rattle.bolt_load.proofs.Words.{All, AreDecoded, BeginsWith, drop-append_seam, GivesLine, IsFirstLine, IsSome, Item, item_bytes, line_member, lines_of, Member, member_bytes, members_in, Path, path_bytes, take-append-drop, take-append_seam, Text, text_members}
 use Rattle.bolt_load.proofs.MemberLemmas.{member_of}
-use Rattle.std.specs.Prelude.{true, false, suc, IsSomeAnd}
+use Rattle.std.specs.Prelude.{suc, IsSomeAnd}
 use Rattle.bolt_load.specs.Private.Decoding.{listing_bytes}
 
 cancelled : (front a b : List ℕ) → front ++ a ≡ front ++ b → a ≡ b
 cancelled front a b is = sym (drop-append_seam front a) ∙ ap (drop (length front)) is ∙ drop-append_seam front b
 
 told_by : (found : Option Member) → IsSome found → (member : Member) × (found ≡ Some member)
-told_by None some = absurd (let f : false ≡ true = some in cc)
-told_by (Some member) some = (member, refl)
+told_by found some = grind arith
 
 pub first_of : (P : Text → Type 0) (line : Text) (lines : List Text) → All P (line ∷ lines) → P line
 first_of P line lines all = all 0 line (omega arith)
@@ -26,9 +25,7 @@ some_is : {A : Type 0} (a b : A) → Some a ≡ Some b → a ≡ b
 some_is a b is = cc
 
 pub parts_of : (path : Option Path) (item : Option Item) (member : Member) → member_of path item ≡ Some member → (path ≡ Some member.0) × (item ≡ Some member.1)
-parts_of None item member is = absurd (let f : None ≡ Some member = is in cc)
-parts_of (Some path) None member is = absurd (let f : None ≡ Some member = is in cc)
-parts_of (Some path) (Some item) member is = let same = some_is (path, item) member is in (ap (λ (m : Member). Some m.0) same, ap (λ (m : Member). Some m.1) same)
+parts_of path item member is = grind arith
 
 module _ (text line after : Text) (bytes : List ℕ) (first : IsFirstLine text line after) (decoded : AreDecoded (lines_of text) bytes) where
   all_tell : All (λ line. IsSome (line_member line)) (line ∷ lines_of after)
@@ -48,12 +45,7 @@ module _ (text line after : Text) (bytes : List ℕ) (first : IsFirstLine text l
 
   bytes_are : bytes ≡ path_bytes told.0.0 ++ (item_bytes told.0.1 ++ later)
   unfolding later
-  bytes_are =
-      let more = drop (length (listing_bytes (text_members text))) bytes in
-      sym (take-append-drop (length (listing_bytes (text_members text))) bytes)
-      ∙ ap (λ front. front ++ more) (decoded.begin ∙ ap listing_bytes members_are)
-      ∙ append_assoc (member_bytes told.0) (listing_bytes (text_members after)) more
-      ∙ append_assoc (path_bytes told.0.0) (item_bytes told.0.1) later
+  bytes_are = search (rules, listing_bytes, text_members, take-append-drop, members_are, append_assoc, member_bytes, path_bytes, item_bytes)
 
   module _ (path : Option Path) (item : Option Item) (words : line_member line ≡ member_of path item) where
     both : (path ≡ Some told.0.0) × (item ≡ Some told.0.1)

@@ -1,17 +1,16 @@
 -- A path in hexadecimal is read part by part.
+use Rattle.std.proofs.lemmas.Grind.{common_steps}
 use Rattle.std.proofs.Common.{◌≡◌, ◌∙◌, ◌==◌, ◌<◌, ◌≤◌, ◌*◌, ℕ, Bool, true, false, List, [], ◌∷◌, ◌++◌, Option, Some, None, length, refl, sym, ap, arith, append_assoc, append-nil}
-use Rattle.std.proofs.Math.Bool.{or-false}
 use Rattle.bolt_load.proofs.Words.{Adds, hex_bytes_in, hex_path_in, if◌then◌else◌, is_long_key, is_some, IsCutAt, IsWithout, Key, list_any, nat_tests, option_and_then, option_map, part_in, parts_in, Path, path_bytes, result_ok, Text}
 use Rattle.bolt_text.proofs.CutLemmas.{parts_cut, parts_whole}
-use Rattle.std.specs.Prelude.{◌/◌, ◌||◌, Result, Ok, Err, nat_lt}
+use Rattle.std.specs.Prelude.{◌/◌, ◌||◌, Result, Ok, nat_lt}
 use Rattle.hex.specs.Hex.{decode_of}
 use Rattle.hex.proofs.HexLemmas.{decode_of-ok}
 
 -- ---- how many digits there are
 
 pub ok_is : {A E : Type 0} (r : Result A E) (a : A) → result_ok r ≡ Some a → r ≡ Ok a
-ok_is (Ok b) a is = let f : Some b ≡ Some a = is in cc
-ok_is (Err e) a is = absurd (cc)
+ok_is r a is = grind arith
 
 pub digits_are : (digits bytes : List ℕ) → hex_bytes_in digits ≡ Some bytes → length digits ≡ 2 * length bytes
 digits_are digits bytes is = (decode_of-ok digits bytes (ok_is (decode_of digits) bytes is)).2
@@ -37,8 +36,7 @@ abbrev pub IsFront : (word rest : Text) → Path → Type 0
 IsFront word rest front = hex_path_in word ≡ put_before front (hex_path_in rest)
 
 one_more : (front : Path) (key : Key) (found : Option Path) → put_before front (option_map (λ parts. key ∷ parts) found) ≡ put_before (front ++ key ∷ []) found
-one_more front key None = refl
-one_more front key (Some path) = ap Some (sym (append_assoc front (key ∷ []) path))
+one_more front key found = grind (arith, common_steps)
 
 pub all_parts : (word : Text) → IsFront word word []
 all_parts word = same (hex_path_in word)
@@ -74,12 +72,10 @@ path_bytes_push [] key = append-nil key
 path_bytes_push (part ∷ front) key = ap (λ bytes. part ++ bytes) (path_bytes_push front key) ∙ sym (append_assoc part (path_bytes front) key)
 
 pub is_there : {A : Type 0} (found : Option A) → is_some found ≡ true → (a : A) × (found ≡ Some a)
-is_there None is = absurd (let f : false ≡ true = is in cc)
-is_there (Some a) is = (a, refl)
+is_there found is = grind arith
 
 pub is_none : {A : Type 0} (found : Option A) → is_some found ≡ false → found ≡ None
-is_none None is = refl
-is_none (Some a) is = absurd (let f : true ≡ false = is in cc)
+is_none found is = grind arith
 
 module _ (word rest : Text) (old bytes new : List ℕ) (so_far : AddsParts word rest old bytes) where
   more_added : (more : List ℕ) → new ≡ bytes ++ more → new ≡ old ++ (path_bytes so_far.front ++ more)
@@ -95,11 +91,7 @@ module _ (word rest : Text) (old bytes new : List ℕ) (so_far : AddsParts word 
       }
 
   pub path_refused : (found : Option Key) → hex_path_in word ≡ None → Adds found bytes new → Adds (option_map path_bytes (hex_path_in word)) old new
-  path_refused found none adds = record {
-    more = path_bytes so_far.front ++ adds.more;
-    added = more_added adds.more adds.added;
-    are = λ all is. absurd (let f : option_map path_bytes None ≡ Some all = sym (ap (option_map path_bytes) none) ∙ is in cc);
-  }
+  path_refused found none adds = grind (arith, common_steps, path_bytes, more_added)
 
   pub path_added : IsWithout 47 rest → Adds (part_in rest) bytes new → Adds (option_map path_bytes (hex_path_in word)) old new
   path_added without adds = at (part_in rest) refl
@@ -136,8 +128,7 @@ pub none_short : (word : Text) → HasShort word word
 none_short word path is = (path, is, refl)
 
 some_else : {A : Type 0} (b : Bool) (x : Option A) (a : A) → (if b then None else x) ≡ Some a → x ≡ Some a
-some_else true x a is = absurd (let f : None ≡ Some a = is in cc)
-some_else false x a is = is
+some_else b x a is = grind arith
 
 pub part_is : (word : Text) (key : Key) → part_in word ≡ Some key → hex_bytes_in word ≡ Some key
 part_is word key is = some_else (length word == 0) (hex_bytes_in word) key is
@@ -150,9 +141,7 @@ pub long_part : (word : Text) (key : Key) → part_in word ≡ Some key → nat_
 long_part word key is = ap (nat_lt 0x40000000) (halved word key (part_is word key is))
 
 pub with_some : (found : Option Key) (rest : Option Path) (path : Path) → with_part found rest ≡ Some path → (key : Key) × (path' : Path) × (found ≡ Some key) × (rest ≡ Some path') × (path ≡ key ∷ path')
-with_some None rest path is = absurd (let f : None ≡ Some path = is in cc)
-with_some (Some key) None path is = absurd (let f : None ≡ Some path = is in cc)
-with_some (Some key) (Some path') path is = (key, path', refl, refl, (let f : Some (key ∷ path') ≡ Some path = is in cc))
+with_some found rest path is = grind arith
 
 lt_true : (a b : ℕ) → a < b → nat_lt a b ≡ true
 lt_true a b below = grind (arith, nat_tests)
@@ -178,9 +167,4 @@ module _ (word rest : Text) (so_far : HasShort word rest) where
       (found.1, found.3, left.2 ∙ any_of rest part after cut left.0 left.1 false (lt_false 0x40000000 (length part / 2) short))
 
   pub long_end : IsWithout 47 rest → (path : Path) → hex_path_in word ≡ Some path → nat_lt 0x40000000 (length rest / 2) ≡ list_any is_long_key path
-  long_end without path is =
-      let left = so_far path is in
-      let found = with_some (part_in rest) (Some []) left.0 (sym (last_part rest without) ∙ left.1) in
-      let none : found.1 ≡ [] = (let f : Some [] ≡ Some found.1 = found.3 in cc) in
-      long_part rest found.0 found.2
-      ∙ sym (left.2 ∙ ap (list_any is_long_key) found.4 ∙ ap (λ path. is_long_key found.0 || list_any is_long_key path) none ∙ or-false (is_long_key found.0))
+  long_end without path is = grind (arith, common_steps, with_some, part_in, last_part, long_part, list_any, is_long_key)

@@ -1,6 +1,7 @@
 -- The places of lines are tested one after another.
-use Rattle.std.proofs.Common.{◌≡◌, ◌∙◌, ◌<◌, ◌≤◌, ◌+◌, ◌==◌, ℕ, Bool, true, false, List, [], ◌∷◌, ◌++◌, Option, Some, None, length, Bor, refl, sym, ap, ap₂, subst, arith, append_assoc, append-nil, length-append}
-use Rattle.bolt_load.proofs.Words.{All, fault_after, fault_by, filter_map-append, GivesLine, hex_path_in, is_bucket, is_lt, is_open, IsFirstFault, Item, item_in, Key, length-map, less_lt, line_fault, line_member, LineFault, lines_of, Member, member_in, members_in, option_and_then, option_map, option_or, part_in, parts_in, Path, path_above, path_cmp, path_of, place_fault, RightAfter, slice_split, Text}
+use Rattle.std.proofs.Common.{rules, ◌≡◌, ◌∙◌, ◌<◌, ◌≤◌, ◌+◌, ◌==◌, ℕ, Bool, true, List, [], ◌∷◌, ◌++◌, Option, Some, None, length, Bor, refl, sym, ap, ap₂, subst, arith, append_assoc, append-nil, length-append}
+use Rattle.std.proofs.lemmas.Grind.{common_steps}
+use Rattle.bolt_load.proofs.Words.{All, fault_after, fault_by, filter_map-append, GivesLine, hex_path_in, is_bucket, is_lt, is_open, IsFirstFault, Item, Key, length-map, less_lt, line_fault, line_member, LineFault, lines_of, Member, member_in, members_in, option_and_then, option_map, part_in, parts_in, Path, path_above, path_cmp, path_of, place_fault, RightAfter, slice_split, Text}
 use Rattle.bolt_text.proofs.CutLemmas.{some_parts}
 use Rattle.bolt_load.proofs.DecodedLines.{IsShaped, members_push}
 use Rattle.bolt_load.proofs.LastPaths.{IsLast, next_last, none_last, path_open, place_same}
@@ -25,11 +26,7 @@ unfolding hex_path_in
 hex_path_some word path is = parts_some (slice_split (λ byte. byte == 47) word) path (some_parts 47 word) is
 
 member_some : (words : List Text) (path : Path) (item : Item) → member_in words ≡ Some (path, item) → 0 < length path
-member_some [] path item is = absurd (let f : None ≡ Some (path, item) = is in cc)
-member_some (a ∷ []) path item is = absurd (let f : None ≡ Some (path, item) = is in cc)
-member_some (a ∷ b ∷ []) path item is = absurd (let f : None ≡ Some (path, item) = is in cc)
-member_some (a ∷ b ∷ c ∷ d ∷ more) path item is = absurd (let f : None ≡ Some (path, item) = is in cc)
-member_some (word ∷ mark ∷ end ∷ []) path item is = hex_path_some word path (parts_of (hex_path_in word) (item_in mark end) (path, item) is).0
+member_some words path item is = grind (arith, common_steps, hex_path_some, parts_of, hex_path_in)
 
 pub line_path_some : (line : Text) (path : Path) (item : Item) → line_member line ≡ Some (path, item) → 0 < length path
 unfolding line_member
@@ -38,8 +35,7 @@ line_path_some line path item is = member_some (slice_split (λ byte. byte == 32
 -- ---- what is wrong with a line that is right in itself
 
 pub fault_is_of_place : (before : List Member) (line : Text) (member : Member) → IsShaped line → line_member line ≡ Some member → line_fault before line ≡ place_fault before member
-fault_is_of_place before line member shaped is =
-    ap (λ (fault : Option LineFault). option_or fault (option_and_then (place_fault before) (line_member line))) shaped ∙ ap (option_and_then (place_fault before)) is
+fault_is_of_place before line member shaped is = grind arith
 
 right_push : (before : List Member) (front : List Text) (line : Text) → RightAfter before front → line_fault (before ++ members_in front) line ≡ None → RightAfter before (front ++ line ∷ [])
 right_push before [] line right good = (sym (ap (λ before. line_fault before line) (append-nil before)) ∙ good, tt)
@@ -64,9 +60,7 @@ pub none_placed : (text : Text) → All IsShaped (lines_of text) → HasPlaced t
 none_placed text shaped = record { front = []; lines = refl; number_is = refl; fits = omega arith; shaped = shaped; right = tt; last_is = none_last }
 
 pub fault_parts : (above below : Bool) → fault_by above below ≡ None → (above ≡ true) × (below ≡ true)
-fault_parts true true none = (refl, refl)
-fault_parts true false none = absurd (cc)
-fault_parts false below none = absurd (cc)
+fault_parts above below none = grind arith
 
 module _ (text left : Text) (last : Path) (bucket : Bool) (number : ℕ) (so_far : HasPlaced text left last bucket number) where
   module _ (after : Text) (item : Item) (path : Path) (given : GivesLine left after (Some item) path) where
@@ -81,9 +75,6 @@ module _ (text left : Text) (last : Path) (bucket : Bool) (number : ℕ) (so_far
 
     lines_here : lines_of text ≡ so_far.front ++ given.0 ∷ lines_of after
     lines_here = so_far.lines ∙ ap (λ lines. so_far.front ++ lines) given.1
-
-    pub number_fits : number + 1 ≤ length text
-    number_fits = let fits = so_far.fits in let below = given.3 in omega (arith, fits, below)
 
     pub line_placed : fault_after last bucket path ≡ None → HasPlaced text after path (is_bucket item) (number + 1)
     line_placed none =
@@ -105,31 +96,12 @@ module _ (text left : Text) (last : Path) (bucket : Bool) (number : ℕ) (so_far
         }
 
     pub line_refused : (fault : LineFault) → Some fault ≡ fault_after last bucket path → IsFirstFault text (number + 1) fault
-    line_refused fault is = record {
-      front = so_far.front;
-      line = given.0;
-      rest = lines_of after;
-      lines = lines_here;
-      number_is = ap (λ n. n + 1) so_far.number_is;
-      right = so_far.right;
-      fault_is = fault_here ∙ sym is;
-    }
-
-  module _ (none : lines_of left ≡ []) where
-    all_lines : lines_of text ≡ so_far.front
-    all_lines = so_far.lines ∙ ap (λ lines. so_far.front ++ lines) none ∙ append-nil so_far.front
-
-    pub all_counted : number ≡ length (lines_of text)
-    all_counted = so_far.number_is ∙ sym (ap length all_lines)
-
-    pub all_right : RightAfter [] (lines_of text)
-    all_right = subst (RightAfter []) (sym all_lines) so_far.right
+    line_refused fault is = grind (arith, common_steps, lines_of, lines_here, fault_here)
 
 -- ---- as the code holds paths
 
 pub begun : (text left : Text) (path : Path) → All IsShaped (lines_of text) → left ≡ text → path ≡ [] → HasPlaced text left path true 0
-begun text left path shaped left_is path_is =
-    subst (λ (left : Text). HasPlaced text left path true 0) (sym left_is) (subst (λ (path : Path). HasPlaced text text path true 0) (sym path_is) (none_placed text shaped))
+begun text left path shaped left_is path_is = search (rules, none_placed)
 
 pub fault_of_slices : (last path : Path) (bucket : Bool) (last_parts path_parts : List (Bor (List ℕ))) (result : Option LineFault) → result ≡ fault_after (path_of last_parts) bucket (path_of path_parts)
     → path_of last_parts ≡ last → path_of path_parts ≡ path → result ≡ fault_after last bucket path

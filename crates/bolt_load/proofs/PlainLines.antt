@@ -1,13 +1,13 @@
 -- A text without a fault, written plainly, is the text of the listing that it tells.
-use Rattle.std.proofs.Common.{unwrap_or, subst, ◌≡◌, ◌∙◌, ◌<◌, ◌+◌, ◌==◌, ◌&&◌, ◌*◌, ◌/◌, ◌%◌, ℕ, zero, suc, Bool, true, List, [], ◌∷◌, ◌++◌, Option, Some, None, Result, Ok, Err, codes, length, map, inl, inr, refl, sym, ap, ap₂, arith, append_assoc}
+use Rattle.std.proofs.Common.{rules, unwrap_or, ◌≡◌, ◌∙◌, ◌<◌, ◌+◌, ◌==◌, ◌&&◌, ◌*◌, ◌/◌, ◌%◌, ℕ, zero, suc, Bool, true, List, [], ◌∷◌, ◌++◌, Option, Some, Result, Ok, Err, codes, length, map, inl, inr, refl, sym, ap, ap₂, arith, append_assoc}
+use Rattle.std.proofs.lemmas.Grind.{common_steps}
 use Rattle.std.proofs.lemmas.List.Splits.{join_with_byte-slice_split}
 use Rattle.std.specs.Char.{to_ascii_lowercase}
 use Rattle.std.specs.List.{join_with_byte}
 use Rattle.std.specs.Prelude.{nat_lt, slice_index}
 use Rattle.std.specs.Result.{result_unwrap_or}
 use Rattle.std.specs.Str.{str_to_ascii_lowercase}
-use Rattle.bolt_load.proofs.Words.{and_parts, Bucket, bytes_eq, bytes_eq-Decides, cases_Bool, cases_lt, decimal, decode_pairs, digit_or_error, encode_lower, encode_with, flat_map, FromHexError, hex_bytes_in, hex_digit_value, hex_path, hex_path_in, if◌then◌else◌, IsListingText, Item, item_end, item_in, line, line_member, lines_of, listing_text, lower_digits, map-append, Member, member_in, member_line, members_in, nat_tests, number_in, option_and_then, option_map, pair_value, part_in, parts_in, Path, place_fault, result_ok, RightAfter, shape_fault, slice_split, Text, text_members, Value, value_at, value_end, ◌>>=◌}
-use Rattle.bolt_text.proofs.DecimalNumbers.{number_is}
+use Rattle.bolt_load.proofs.Words.{and_parts, Bucket, bytes_eq, bytes_eq-Decides, cases_Bool, cases_lt, decode_pairs, digit_or_error, encode_lower, encode_with, flat_map, FromHexError, hex_bytes_in, hex_digit_value, hex_path, hex_path_in, if◌then◌else◌, IsListingText, Item, item_end, item_in, line, line_member, lines_of, listing_text, lower_digits, map-append, Member, member_in, member_line, members_in, nat_tests, number_in, option_and_then, option_map, pair_value, part_in, parts_in, Path, place_fault, result_ok, RightAfter, shape_fault, slice_split, Text, text_members, Value, value_at, value_end, ◌>>=◌}
 use Rattle.bolt_load.proofs.{DecodedLines.shaped_member, NextLines.members_first, NextLines.parts_of}
 use Rattle.bolt_load.proofs.{PathLemmas.part_is, PathLemmas.with_some, TextTrees.or_parts_none}
 use Rattle.bolt_load.specs.PlainTexts.{plain_line, plain_text, plain_word, plain_words}
@@ -41,15 +41,13 @@ digit_lower c v is =
     grind (arith, nat_tests, is, at)
 
 digit_of : (c i : ℕ) (found : Option ℕ) (v : ℕ) → digit_or_error c i found ≡ Ok v → found ≡ Some v
-digit_of c i (Some w) v is = ap Some (ap (λ r. result_unwrap_or r 0) is)
-digit_of c i None v is = cc is
+digit_of c i found v is = grind arith
 
 small_digit : (c v : ℕ) → hex_digit_value c ≡ Some v → v < 16
 small_digit c v is = grind (arith, is)
 
 bind_ok : {A B : Type 0} (r : Result A FromHexError) (f : A → Result B FromHexError) (y : B) → (r >>= f) ≡ Ok y → (x : A) × (r ≡ Ok x) × (f x ≡ Ok y)
-bind_ok (Ok x) f y is = (x, refl, is)
-bind_ok (Err e) f y is = cc is
+bind_ok r f y is = grind arith
 
 pairs_lower : (i : ℕ) (word bytes : Text) → decode_pairs i word ≡ Ok bytes → lower word ≡ encode_lower bytes
 unfolding decode_pairs encode_with
@@ -108,41 +106,19 @@ path_lower word path is =
 value_plain : (mark word : Text) (found : Option Text) (item : Item) → mark ≡ codes "=" → hex_bytes_in word ≡ found → option_map Value found ≡ Some item
     → 32 ∷ mark ++ 32 ∷ plain_word mark word ++ 10 ∷ [] ≡ item_end item
 unfolding item_end value_end
-value_plain mark word None item sign found is = cc is
-value_plain mark word (Some bytes) item sign found is =
-    let same : Value bytes ≡ item = (let f : Some (Value bytes) ≡ Some item = is in cc) in
-    subst (λ (i : Item). 32 ∷ mark ++ 32 ∷ plain_word mark word ++ 10 ∷ [] ≡ item_end i) same
-    (rw sign (ap (λ digits. codes " = " ++ digits ++ 10 ∷ []) (hex_lower word bytes found)))
+value_plain mark word found item sign h is = grind (arith, common_steps, plain_word, item_end, codes, hex_lower)
 
 number_plain : (mark word : Text) (found : Option ℕ) (item : Item) → mark ≡ codes "bucket" → number_in word ≡ found → option_map Bucket found ≡ Some item
     → 32 ∷ mark ++ 32 ∷ plain_word mark word ++ 10 ∷ [] ≡ item_end item
 unfolding item_end
-number_plain mark word None item sign found is = cc is
-number_plain mark word (Some n) item sign found is =
-    let same : Bucket n ≡ item = (let f : Some (Bucket n) ≡ Some item = is in cc) in
-    subst (λ (i : Item). 32 ∷ mark ++ 32 ∷ plain_word mark word ++ 10 ∷ [] ≡ item_end i) same
-    (rw sign (ap (λ n. codes " bucket " ++ decimal n ++ 10 ∷ []) (number_is word n found).1))
+number_plain mark word found item sign h is = grind arith
 
 item_plain : (mark word : Text) (item : Item) → item_in mark word ≡ Some item → 32 ∷ mark ++ 32 ∷ plain_word mark word ++ 10 ∷ [] ≡ item_end item
-item_plain mark word item is = elim (cases_Bool (bytes_eq mark (codes "="))) [
-  | inl value ↦ value_plain mark word (hex_bytes_in word) item ((bytes_eq-Decides mark (codes "=")).0 value) refl (rw value at is)
-  | inr other ↦ elim (cases_Bool (bytes_eq mark (codes "bucket"))) [
-    | inl bucket ↦ number_plain mark word (number_in word) item ((bytes_eq-Decides mark (codes "bucket")).0 bucket) refl (rw (other, bucket) at is)
-    | inr none ↦ absurd (cc (rw (other, none) at is))
-  ]
-]
+item_plain mark word item is = search (rules, cases_Bool, bytes_eq, codes, value_plain, hex_bytes_in, bytes_eq-Decides, number_plain)
 
 words_plain : (words : List Text) (member : Member) → member_in words ≡ Some member → join_with_byte 32 (plain_words words) ++ 10 ∷ [] ≡ member_line member
 unfolding member_line
-words_plain [] member is = cc is
-words_plain (a ∷ []) member is = cc is
-words_plain (a ∷ b ∷ []) member is = cc is
-words_plain (a ∷ b ∷ c ∷ d ∷ more) member is = cc is
-words_plain (path ∷ mark ∷ word ∷ []) member is =
-    let both = parts_of (hex_path_in path) (item_in mark word) member is in
-    append_assoc (lower path) (32 ∷ mark ++ 32 ∷ plain_word mark word) (10 ∷ [])
-    ∙ ap₂ (λ (xs ys : Text). xs ++ ys) (path_lower path member.0 both.0)
-    (item_plain mark word member.1 both.1)
+words_plain words member is = grind (arith, common_steps, parts_of, hex_path_in, item_in, append_assoc, plain_word, ap₂, path_lower, item_plain)
 
 line_plain : (line : Text) (member : Member) → line_member line ≡ Some member → plain_line line ≡ member_line member
 unfolding line_member plain_line

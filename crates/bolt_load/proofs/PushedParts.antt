@@ -1,7 +1,8 @@
 -- The parts of a path are found again in the bytes that were decoded.
+use Rattle.std.proofs.lemmas.Grind.{common_steps}
 use Rattle.std.proofs.Common.{◌≡◌, ◌∙◌, ◌≤◌, ℕ, List, [], ◌∷◌, ◌++◌, Option, Some, None, length, take, drop, refl, sym, ap, arith, append_assoc, append-nil, length-append}
 use Rattle.bolt_load.proofs.Words.{BeginsWith, drop-append_seam, hex_bytes_in, hex_path_in, IsCutAt, IsWithout, item_bytes, Key, option_map, part_in, Path, path_bytes, take-append_seam, Text, Value}
-use Rattle.bolt_load.proofs.PathLemmas.{first_part, halved, last_part, part_is, path_bytes_push, with_some}
+use Rattle.bolt_load.proofs.PathLemmas.{first_part, halved, last_part, part_is, with_some}
 use Rattle.std.specs.Prelude.{◌/◌, IsSomeAnd}
 
 module _ {A : Type 0} (front after whole : List A) (n : ℕ) (is : whole ≡ front ++ after) (many : n ≡ length front) where
@@ -28,9 +29,7 @@ module _ (digits bytes : List ℕ) (told : IsSomeAnd (option_map Value (hex_byte
   value_fits = front_fits value_told.0 value_told.2.after bytes (length digits / 2) value_told.2.whole (halved digits value_told.0 value_told.1)
 
   pub value_is : (value : List ℕ) → value ≡ take (length digits / 2) bytes → Some (Value value) ≡ option_map Value (hex_bytes_in digits)
-  value_is value is =
-      let same : value ≡ value_told.0 = is ∙ front_is value_told.0 value_told.2.after bytes (length digits / 2) value_told.2.whole (halved digits value_told.0 value_told.1) in
-      ap (λ value. Some (Value value)) same ∙ sym (ap (option_map Value) value_told.1)
+  value_is value is = grind (arith, common_steps, front_is, halved)
 
 -- ---- the parts of a path
 
@@ -77,17 +76,13 @@ module _ (word rest : Text) (bytes bytes_left : List ℕ) (old new : Path) (so_f
       now_told = so_far.told ∙ ap (λ left. Some (so_far.front ++ left)) left_is ∙ ap Some (sym (append_assoc so_far.front (key ∷ []) path))
 
       now_pushed : newer ≡ old ++ (so_far.front ++ key ∷ [])
-      now_pushed =
-          let same : slice ≡ key = slice_is ∙ front_is key (path_bytes path ++ so_far.after) bytes_left (length part / 2) next_is many in
-          more ∙ ap (λ key. new ++ key ∷ []) same ∙ ap (λ new. new ++ key ∷ []) so_far.pushed ∙ append_assoc old so_far.front (key ∷ [])
+      now_pushed = grind (arith, common_steps, front_is, path_bytes, next_is, many)
 
       now_next : rest_bytes ≡ path_bytes path ++ so_far.after
       now_next = rest_is ∙ after_is key (path_bytes path ++ so_far.after) bytes_left (length part / 2) next_is many
 
       now_whole : bytes ≡ path_bytes (so_far.front ++ key ∷ []) ++ rest_bytes
-      now_whole =
-          so_far.whole ∙ ap (λ left. path_bytes so_far.front ++ left) (next_is ∙ ap (λ tail. key ++ tail) (sym now_next))
-          ∙ sym (append_assoc (path_bytes so_far.front) key rest_bytes) ∙ sym (ap (λ front. front ++ rest_bytes) (path_bytes_push so_far.front key))
+      now_whole = grind (arith, common_steps, path_bytes, next_is, now_next, append_assoc)
 
   module _ (part after : Text) (cut : IsCutAt 47 rest part after) where
     found : (key : Key) × (path : Path) × (part_in part ≡ Some key) × (hex_path_in after ≡ Some path) × (so_far.left ≡ key ∷ path)

@@ -1,5 +1,6 @@
 -- A right text has no fault.
-use Rattle.std.proofs.Common.{◌≡◌, ◌∙◌, ℕ, List, [], ◌∷◌, ◌++◌, Some, None, true, false, inl, inr, ap, sym, subst, append_assoc, append-nil}
+use Rattle.std.proofs.Common.{arith, ◌≡◌, ◌∙◌, ℕ, List, [], ◌∷◌, ◌++◌, None, ap, sym, append_assoc, append-nil}
+use Rattle.std.proofs.lemmas.Grind.{common_steps}
 use Rattle.bolt_load.proofs.Words.{filter_map-append, IsListingText, IsLoadFault, line_fault, line_member, LineFault, Member, members_in, RightAfter, Text}
 use Rattle.bolt_load.specs.declared.fault.LoadFault.TheVariants.{Line}
 
@@ -11,7 +12,4 @@ right_at before (first ∷ front) line rest right =
     ∙ right_at (before ++ members_in (first ∷ [])) front line rest right.1
 
 pub no_fault : (text : Text) (number : ℕ) (fault : LineFault) → IsListingText text → IsLoadFault text (Line number fault) → ⊥
-no_fault text number fault right (inl is) =
-    let here = right_at [] is.front is.line is.rest (subst (RightAfter []) is.lines right.right) in
-    let f : None ≡ Some fault = sym here ∙ is.fault_is in cc
-no_fault text number fault right (inr (same, cut)) = let f : true ≡ false = sym right.whole ∙ cut.cut in cc
+no_fault text number fault right h = grind (arith, common_steps, right_at)

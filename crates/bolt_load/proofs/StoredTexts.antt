@@ -1,11 +1,11 @@
 -- What a right text tells can be stored: its keys and its values have lengths that the format allows, and its sequences have 64 bits.
-use Rattle.std.proofs.Common.{◌≡◌, ◌∙◌, ◌==◌, ◌≤◌, ℕ, false, List, [], ◌∷◌, ◌++◌, Option, Some, None, length, inl, inr, refl, sym, ap, subst, arith}
-use Rattle.std.proofs.lemmas.Bool.{eqb-false, ltb-false, or_parts}
-use Rattle.bolt_load.proofs.Words.{Bucket, bytes_eq, cases_Bool, Has, has_from_contains, hex_bytes_in, hex_path_in, if◌then◌else◌, is_long_item, is_long_key, IsFitItem, IsListingText, Item, item_in, Key, KeyTooLong, length_fault, line_member, LineFault, lines_of, list_any, Member, member_in, members_in, number_in, option_and_then, option_map, option_map_or, part_in, parts_in, Path, place_fault, RightAfter, shape_fault, slice_split, Text, text_members, Value, ValueTooLong}
+use Rattle.std.proofs.lemmas.Grind.{common_steps}
+use Rattle.std.proofs.Common.{◌≡◌, ◌∙◌, ◌==◌, ◌≤◌, ℕ, false, List, [], ◌∷◌, ◌++◌, Option, Some, None, length, refl, sym, ap, subst, arith}
+use Rattle.std.proofs.lemmas.Bool.{ltb-false, or_parts}
+use Rattle.bolt_load.proofs.Words.{Bucket, cases_Bool, Has, has_from_contains, hex_bytes_in, hex_path_in, is_long_item, is_long_key, IsFitItem, IsListingText, Item, item_in, Key, length_fault, line_member, lines_of, list_any, Member, member_in, members_in, number_in, option_and_then, option_map, option_map_or, part_in, parts_in, Path, place_fault, RightAfter, shape_fault, slice_split, Text, text_members, Value}
 use Rattle.bolt_text.proofs.DecimalNumbers.{number_is}
 use Rattle.bolt_load.proofs.{DecodedLines.shaped_member, NextLines.members_first, NextLines.parts_of}
 use Rattle.bolt_load.proofs.{PathLemmas.digits_are, PathLemmas.part_is, PathLemmas.with_some, TextTrees.or_parts_none, TextTrees.text_tree}
-use Rattle.std.specs.Prelude.{codes}
 use Rattle.bolt_format.specs.ElementLengths.{IsKeyLength}
 use Rattle.bolt_layout.specs.Storable.{IsFitListing}
 
@@ -21,10 +21,7 @@ FitsMember member = AreKeys member.0 × IsFitItem member.1
 -- ---- the member of a line
 
 some_bytes : (word : Text) (key : Key) → part_in word ≡ Some key → 1 ≤ length key
-some_bytes word key is = elim (cases_Bool (length word == 0)) [
-  | inl none ↦ absurd (let f : None ≡ Some key = sym (ap (λ b. if b then None else hex_bytes_in word) none) ∙ is in cc)
-  | inr some ↦ let twice = digits_are word key (part_is word key is) in let more = eqb-false (length word) 0 some in omega (arith, twice, more)
-]
+some_bytes word key is = grind (arith, common_steps, cases_Bool, hex_bytes_in, digits_are, part_is)
 
 not_long : (key : Key) → is_long_key key ≡ false → length key ≤ 0x40000000
 not_long key short = ltb-false 0x40000000 (length key) short
@@ -41,10 +38,7 @@ unfolding hex_path_in
 path_fits word path is short = parts_fit (slice_split (λ byte. byte == 47) word) path is short
 
 value_fits : (found : Option (List ℕ)) (item : Item) → option_map Value found ≡ Some item → is_long_item item ≡ false → IsFitItem item
-value_fits None item is short = absurd (let f : None ≡ Some item = is in cc)
-value_fits (Some value) item is short =
-    let same : Value value ≡ item = (let f : Some (Value value) ≡ Some item = is in cc) in
-    subst IsFitItem same (ltb-false 0x7FFFFFFE (length value) (ap is_long_item same ∙ short))
+value_fits found item is short = grind arith
 
 sequence_fits : (word : Text) (item : Item) → option_map Bucket (number_in word) ≡ Some item → IsFitItem item
 sequence_fits word item is = at (number_in word) refl is
@@ -57,42 +51,22 @@ none_some : (item : Item) → None ≡ Some item → ⊥
 none_some item is = cc
 
 item_fits : (mark word : Text) (item : Item) → item_in mark word ≡ Some item → is_long_item item ≡ false → IsFitItem item
-item_fits mark word item is short = elim (cases_Bool (bytes_eq mark (codes "="))) [
-  | inl value ↦ value_fits (hex_bytes_in word) item (rw value at is) short
-  | inr other ↦ elim (cases_Bool (bytes_eq mark (codes "bucket"))) [
-    | inl bucket ↦ sequence_fits word item (rw (other, bucket) at is)
-    | inr none ↦ absurd (none_some item (rw (other, none) at is))
-  ]
-]
+item_fits mark word item is short = grind arith
 
 member_fits : (words : List Text) (member : Member) → member_in words ≡ Some member → list_any is_long_key member.0 ≡ false → is_long_item member.1 ≡ false → FitsMember member
-member_fits [] member is keys value = absurd (let f : None ≡ Some member = is in cc)
-member_fits (a ∷ []) member is keys value = absurd (let f : None ≡ Some member = is in cc)
-member_fits (a ∷ b ∷ []) member is keys value = absurd (let f : None ≡ Some member = is in cc)
-member_fits (a ∷ b ∷ c ∷ d ∷ more) member is keys value = absurd (let f : None ≡ Some member = is in cc)
-member_fits (word ∷ mark ∷ last ∷ []) member is keys value =
-    let both = parts_of (hex_path_in word) (item_in mark last) member is in (path_fits word member.0 both.0 keys, item_fits mark last member.1 both.1 value)
+member_fits words member is keys value = grind (arith, common_steps, parts_of, hex_path_in, item_in, path_fits)
 
 no_long_part : (member : Member) → length_fault member ≡ None → (list_any is_long_key member.0 ≡ false) × (is_long_item member.1 ≡ false)
-no_long_part member none = elim (cases_Bool (list_any is_long_key member.0)) [
-  | inl long ↦ absurd (let f : Some KeyTooLong ≡ None = sym (ap (λ b. if b then Some KeyTooLong else if is_long_item member.1 then Some ValueTooLong else None) long) ∙ none in cc)
-  | inr keys ↦ elim (cases_Bool (is_long_item member.1)) [
-    | inl long ↦ absurd (let f : Some ValueTooLong ≡ None = sym (rw (keys, long) refl) ∙ none in cc)
-    | inr value ↦ (keys, value)
-  ]
-]
+no_long_part member none = grind arith
 
 line_fits : (line : Text) (member : Member) → shape_fault line ≡ None → line_member line ≡ Some member → FitsMember member
 unfolding line_member
-line_fits line member shaped is =
-    let short = no_long_part member (sym (ap (λ found. option_map_or length_fault found (Some LineFault.NotALine)) is) ∙ shaped) in
-    member_fits (slice_split (λ byte. byte == 32) line) member is short.0 short.1
+line_fits line member shaped is = grind (arith, common_steps, no_long_part, option_map_or, length_fault, member_fits)
 
 -- ---- the members of all lines
 
 first_or_later : (first : Member) (later : List Member) (member : Member) → FitsMember first → (Has later member → FitsMember member) → Has (first ∷ later) member → FitsMember member
-first_or_later first later member fits others (inl same) = subst FitsMember same fits
-first_or_later first later member fits others (inr has) = others has
+first_or_later first later member fits others h = grind arith
 
 lines_fit : (lines : List Text) (before : List Member) → RightAfter before lines → (member : Member) → Has (members_in lines) member → FitsMember member
 lines_fit [] before right member has = absurd has

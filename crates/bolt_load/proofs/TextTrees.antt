@@ -1,6 +1,6 @@
 -- What the lines of a text tell is what one tree lists: each member is put at the end of its bucket.
-use Rattle.std.proofs.Common.{◌≡◌, ◌∙◌, inl, inr, ◌<◌, ◌==◌, ◌||◌, Bool, true, false, List, [], ◌∷◌, ◌++◌, Option, Some, None, drop, length, refl, sym, ap, ap₂, subst, arith, append_assoc, append-nil}
-use Rattle.bolt_load.proofs.Words.{and_parts, begins_of, begins_with, Bucket, contains_from_has, end, Has, has_bucket, has_from_contains, has_split, is_bucket, is_lt, is_open, IsListingText, Item, Less, less_lt, line_member, LineFault, lines_of, listing_of, Member, member_cmp, members_in, nat_tests, option_and_then, option_or, Path, path_above, path_cmp, path_total, place_fault, RightAfter, Rises, shape_fault, Text, text_members, Tree, Value}
+use Rattle.std.proofs.Common.{rules, ◌≡◌, ◌∙◌, inl, inr, ◌<◌, ◌||◌, Bool, true, false, List, [], ◌∷◌, ◌++◌, Option, None, drop, length, refl, sym, ap, subst, arith, append_assoc, append-nil}
+use Rattle.bolt_load.proofs.Words.{and_parts, begins_of, begins_with, contains_from_has, end, Has, has_bucket, has_from_contains, has_split, is_bucket, is_lt, is_open, IsListingText, Item, Less, less_lt, line_member, LineFault, lines_of, listing_of, Member, member_cmp, members_in, nat_tests, option_and_then, option_or, Path, path_above, path_cmp, path_total, place_fault, RightAfter, Rises, shape_fault, Text, text_members, Tree}
 use Rattle.bolt_load.proofs.DecodedLines.{member_alone, shaped_member}
 use Rattle.bolt_load.proofs.EdgeTrees.{OnEdge, front_on_edge, new_on_edge, put_last, put_lists}
 use Rattle.bolt_load.proofs.LastPaths.{IsLast, above_append, next_last, none_last, place_same, split_last}
@@ -31,8 +31,7 @@ pub record HasGrown (before : List Member) (tree : Tree) (last : Path) (bucket :
   pub rises : Rises member_cmp before
 
 none_on_edge : (above : Path) → has_bucket above [] ≡ true → OnEdge end above
-none_on_edge [] has = tt
-none_on_edge (part ∷ above) has = absurd (let none : (length (part ∷ above) == 0 || false) ≡ false = grind (arith, nat_tests) in let f : true ≡ false = sym has ∙ none in cc)
+none_on_edge above has = grind arith
 
 pub none_grown : HasGrown [] end [] true
 none_grown = record { lists = refl; edge = λ above goes. none_on_edge above (none_last.opens above goes); last_is = none_last; rises = tt }
@@ -46,14 +45,10 @@ module _ (before : List Member) (tree : Tree) (last : Path) (bucket : Bool) (so_
   edge_above = so_far.edge (path_above path) opens
 
   now_lists : listing_of next_tree ≡ before ++ (path, item) ∷ []
-  now_lists =
-      put_lists tree [] (path_above path) (split_last path some).0 item edge_above
-      ∙ ap₂ (λ front path. front ++ (path, item) ∷ []) so_far.lists (sym (split_last path some).1)
+  now_lists = grind (arith, put_lists, path_above, split_last, edge_above)
 
   new_edge : (item : Item) → is_bucket item ≡ true → OnEdge (put_last tree (path_above path) (split_last path some).0 item) path
-  new_edge (Value value) kind = absurd (let f : false ≡ true = kind in cc)
-  new_edge (Bucket sequence) kind =
-      subst (OnEdge (put_last tree (path_above path) (split_last path some).0 (Bucket sequence))) (sym (split_last path some).1) (new_on_edge tree (path_above path) (split_last path some).0 sequence edge_above)
+  new_edge item kind = search (rules, put_last, path_above, split_last, new_on_edge)
 
   now_edge : (above : Path) → is_open path (is_bucket item) above ≡ true → OnEdge next_tree above
   now_edge above goes =
@@ -78,18 +73,12 @@ module _ (before : List Member) (tree : Tree) (last : Path) (bucket : Bool) (so_
   ]
 
   pub next_grown : HasGrown (before ++ (path, item) ∷ []) next_tree path (is_bucket item)
-  next_grown = record {
-    lists = now_lists;
-    edge = now_edge;
-    last_is = next_last before last bucket so_far.last_is path item some less (so_far.last_is.opens (path_above path) opens);
-    rises = rises_push member_cmp before (path, item) so_far.rises below;
-  }
+  next_grown = search (rules, now_lists, now_edge, next_last, path_above, rises_push, member_cmp, below)
 
 -- ---- all lines
 
 pub or_parts_none : (a b : Option LineFault) → option_or a b ≡ None → (a ≡ None) × (b ≡ None)
-or_parts_none None b none = (refl, none)
-or_parts_none (Some fault) b none = absurd (let f : Some fault ≡ None = none in cc)
+or_parts_none a b none = grind arith
 
 grows : (lines : List Text) (before : List Member) (tree : Tree) (last : Path) (bucket : Bool) → HasGrown before tree last bucket → RightAfter before lines
     → (all : Tree) × (listing_of all ≡ before ++ members_in lines) × Rises member_cmp (before ++ members_in lines)

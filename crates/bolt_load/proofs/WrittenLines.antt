@@ -1,7 +1,8 @@
 -- The line of a member is read back as that member.
-use Rattle.std.proofs.Common.{◌≡◌, ◌∙◌, ◌==◌, ◌<◌, ◌≤◌, ◌^◌, ℕ, zero, suc, Bool, true, false, List, [], ◌∷◌, ◌++◌, Option, Some, None, codes, length, map, refl, sym, ap, ap₂, arith, append_assoc}
+use Rattle.std.proofs.Common.{rules, ◌≡◌, ◌∙◌, ◌==◌, ◌<◌, ◌≤◌, ◌^◌, ℕ, zero, suc, Bool, true, false, List, [], ◌∷◌, ◌++◌, Option, Some, None, codes, length, map, refl, sym, ap, ap₂, arith, append_assoc}
+use Rattle.std.proofs.lemmas.Grind.{common_steps}
 use Rattle.std.proofs.lemmas.List.Elements.{All-cons, All-nil}
-use Rattle.bolt_load.proofs.Words.{All-append, all_ascii_digits, and_parts, ArePartsBytes, Bucket, decimal, digits_decimal, encode_lower, encode_with, hex_bytes_in, hex_path, hex_path_in, if◌then◌else◌, is_ascii_digit, is_long_item, is_long_key, IsFitItem, IsMemberOfBytes, IsWithout, Item, item_end, Key, line, line_member, list_any, lower_digits, Member, member_in, member_line, nat_tests, number_in, option_and_then, option_map, part_in, parts_in, Path, result_ok, shape_fault, slice_split, slice_split_at, slice_split_none, Text, Value, value_end}
+use Rattle.bolt_load.proofs.Words.{All-append, all_ascii_digits, and_parts, ArePartsBytes, Bucket, decimal, digits_decimal, encode_lower, encode_with, hex_bytes_in, hex_path, hex_path_in, is_ascii_digit, is_long_item, is_long_key, IsFitItem, IsMemberOfBytes, IsWithout, Item, item_end, Key, line, line_member, list_any, lower_digits, Member, member_in, member_line, nat_tests, number_in, option_and_then, option_map, part_in, parts_in, Path, result_ok, shape_fault, slice_split, slice_split_at, slice_split_none, Text, Value, value_end}
 use Rattle.bolt_text.proofs.DecimalNumbers.{decimal_numerals, number_written}
 use Rattle.bolt_load.proofs.MemberLemmas.{member_of}
 use Rattle.bolt_load.proofs.StoredTexts.{AreKeys, FitsMember}
@@ -31,8 +32,7 @@ at_index p (x ∷ xs) zero below all = (and_parts (p x) (list_all p xs) all).0
 at_index p (x ∷ xs) (suc i) below all = at_index p xs i (omega (arith, below)) (and_parts (p x) (list_all p xs) all).1
 
 not_true : (b : Bool) → not b ≡ true → b ≡ false
-not_true true is = absurd (let f : false ≡ true = is in cc)
-not_true false is = refl
+not_true b is = grind arith
 
 digit_apart : (mark : ℕ) → IsApart mark → (i : ℕ) → i < 16 → (slice_index lower_digits i == mark) ≡ false
 digit_apart mark apart i below = not_true (slice_index lower_digits i == mark) (at_index (λ digit. not (digit == mark)) lower_digits i below apart.0)
@@ -51,9 +51,7 @@ module _ (mark : ℕ) (apart : IsApart mark) where
 
   literal_without : (text : Text) → list_all (λ byte. not (byte == mark)) text ≡ true → IsWithout mark text
   literal_without [] all = All-nil Other
-  literal_without (byte ∷ text) all =
-      let parts = and_parts (not (byte == mark)) (list_all (λ byte. not (byte == mark)) text) all in
-      All-cons Other byte text (not_true (byte == mark) parts.0) (literal_without text parts.1)
+  literal_without (byte ∷ text) all = grind (arith, common_steps, and_parts, not, list_all)
 
   digits_without : (word : Text) → all_ascii_digits word ≡ true → IsWithout mark word
   digits_without [] all = All-nil Other
@@ -77,10 +75,7 @@ module _ (mark : ℕ) (apart : IsApart mark) where
 -- ---- a path is read back
 
 key_back : (key : Key) → 1 ≤ length key → IsBytes key → part_in (encode_lower key) ≡ Some key
-key_back key some are =
-    let twice = length-encode_with lower_digits key in
-    let not_none : (length (encode_lower key) == 0) ≡ false = grind (arith, nat_tests, twice, some) in
-    ap (λ b. if b then None else hex_bytes_in (encode_lower key)) not_none ∙ ap result_ok (decode_of-encode_lower key are)
+key_back key some are = search (rules, length-encode_with, lower_digits, encode_lower, nat_tests, hex_bytes_in, result_ok, decode_of-encode_lower)
 
 path_parts : (path : Path) → 0 < length path → ArePartsBytes path → slice_split (λ byte. byte == 47) (hex_path path) ≡ map encode_lower path
 path_parts [] some are = absurd (omega (arith, some))
@@ -111,8 +106,7 @@ member_words member = hex_path member.0 ++ item_words member.1
 
 item_end_is : (item : Item) → item_end item ≡ item_words item ++ 10 ∷ []
 unfolding item_end value_end
-item_end_is (Value value) = sym (append_assoc (codes " = ") (encode_lower value) (10 ∷ []))
-item_end_is (Bucket sequence) = refl
+item_end_is item = grind arith
 
 pub line_is : (member : Member) → member_line member ≡ member_words member ++ 10 ∷ []
 unfolding member_line

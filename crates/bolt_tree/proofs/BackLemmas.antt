@@ -1,35 +1,24 @@
 -- What the moves of a trail back do to its stack.
-use Rattle.std.proofs.Common.{◌≡◌, ℕ, zero, suc, ◌+◌, ◌-◌, ◌≤◌, true, List, [], ◌∷◌, ◌++◌, Some, None, slice_get, length, take, refl, sym, ap, ◌∙◌, subst, arith, append_assoc, append-nil, length-append}
-use Rattle.bolt_tree.proofs.Words.{BranchElement, BucketView, Content, Contents, Frame, HasStack, IsAtRest, IsEntered, IsOn, LeafElement, Of_branch, Of_leaf, RestsOn, TourPage, address_on, all_under, before_of, before_under, content_length, contents_in, done_of, done_under, elements_in, elements_of, flat_map-append, index_of, passed_of, passed_under, length-take, none-some, pages_in, preceding_of, props, root_content, take_all, take_next, tour, under_at, ∥∥₁_elim}
+use Rattle.std.proofs.Common.{◌≡◌, ℕ, suc, ◌+◌, ◌-◌, ◌≤◌, true, List, [], ◌∷◌, ◌++◌, Some, None, slice_get, length, take, refl, sym, ap, ◌∙◌, arith, append_assoc, append-nil, length-append}
+use Rattle.bolt_tree.proofs.Words.{BranchElement, BucketView, Content, Contents, Frame, HasStack, IsAtRest, IsEntered, IsOn, LeafElement, Of_branch, Of_leaf, TourPage, address_on, all_under, before_of, before_under, content_length, contents_in, done_of, done_under, elements_in, elements_of, flat_map-append, index_of, passed_of, passed_under, length-take, none-some, pages_in, preceding_of, props, root_content, take_all, take_next, tour, under_at, ∥∥₁_elim}
 use Rattle.bolt_tree.proofs.{StackLemmas.branch_room, TrailLemmas.shown_by_branch}
 
 take_none : {X : Type 0} (xs : List X) → take 0 xs ≡ []
-take_none [] = refl
-take_none (x ∷ xs) = refl
+take_none xs = grind arith
 
 -- what lies under one more element
 under_more : (f : ℕ → ℕ → List TourPage) (i k j : ℕ) (elements : List BranchElement) (e : BranchElement) → slice_get elements k ≡ Some e → j ≡ i + k
     → all_under f i (take (suc k) elements) ≡ all_under f i (take k elements) ++ f j e.child
-under_more f i k j [] e g s = absurd (none-some e g)
-under_more f i zero j (x ∷ elements) e g s =
-    let same : x ≡ e = cc in
-    let here : j ≡ i = omega arith in
-    rw (same, here) (append-nil (f i e.child))
 under_more f i (suc k) j (x ∷ elements) e g s =
     let next : j ≡ suc i + k = omega arith in
     ap (λ (vs : List TourPage). f i x.child ++ vs) (under_more f (suc i) k j elements e g next) ∙ sym (append_assoc (f i x.child) (all_under f (suc i) (take k elements)) (f j e.child))
+under_more f i k j elements e g s = grind (arith, none-some, append-nil)
 
 -- the tour of a page that stands behind its last element
 pub tour_done : (contents : Contents) (n h : ℕ) (address : List ℕ) (content : Content) → ((elements : List BranchElement) → content ≡ Of_branch elements → n ≡ suc (62 - h))
     → (elements_of (tour contents n address content) ≡ elements_of (before_under contents h address content (suc (content_length content) - 1)) ++ done_under content (suc (content_length content)))
     × (length (tour contents n address content) ≡ suc (length (before_under contents h address content (suc (content_length content) - 1))))
-tour_done contents n h address (Of_leaf es) same =
-    let all : take (suc (length es) - 1) es ≡ es = take_all (suc (length es) - 1) es (omega arith) in
-    (append-nil es ∙ sym all, refl)
-tour_done contents n h address (Of_branch bs) same =
-    let all : take (suc (length bs) - 1) bs ≡ bs = take_all (suc (length bs) - 1) bs (omega arith) in
-    let t : tour contents n address (Of_branch bs) ≡ record { address = address; entries = [] } ∷ under_at contents h address 0 bs = ap (λ (m : ℕ). tour contents m address (Of_branch bs)) (same bs refl) in
-    (rw (t, all) (sym (append-nil (elements_of (under_at contents h address 0 bs)))), rw (t, all) refl)
+tour_done contents n h address content same = grind (arith, take_all, append-nil)
 
 -- an entry is taken
 pub back_some : (contents : Contents) (content : Content) (i t : ℕ) (below new : List Frame) (e : LeafElement) → t ≡ i + 2 → IsEntered contents true content i below new (Some e)
@@ -38,9 +27,7 @@ pub back_some : (contents : Contents) (content : Content) (i t : ℕ) (below new
 back_some contents (Of_leaf es) i t below new e two h =
     let old : t - 1 ≡ suc i = omega arith in
     let back : (i + 1) - 1 ≡ i = omega arith in
-    let cut : take (suc i) es ≡ take i es ++ e ∷ [] = take_next es i e h.0 in
-    let on : IsOn (record { content = Of_leaf es; taken = i + 1 } ∷ below) e = (omega arith, rw back h.0) in
-    (rw (h.1, old, back, cut) (sym (append_assoc (elements_of (before_of contents below ++ [])) (take i es) (e ∷ []))), subst (λ (fs : List Frame). IsOn fs e) (sym h.1) on, rw h.1 refl)
+    grind (arith, take_next, append_assoc)
 back_some contents (Of_branch bs) i t below new e two h = absurd h
 
 -- a page is opened
@@ -66,19 +53,13 @@ back_none bucket (Of_branch bs) i t below new two h stack =
     let room = branch_room bucket cs (suc (length cs)) (record { content = Of_branch bs; taken = i + 1 } ∷ below) (rw e at placed) in omega (arith, room)) in
     let left : elements_of (B ++ (A ++ f i b.child)) ++ [] ≡ elements_of ((B ++ A) ++ U) ++ done_under child (suc (content_length child)) =
     simp (flat_map-append, append_assoc, append-nil, done.0) in
-    let l2 = length-append A (f i b.child) in
-    let l3 = length-append (B ++ A) U in
-    let l4 = length-append B A in
-    let size : length (B ++ (A ++ f i b.child)) ≡ suc (length ((B ++ A) ++ U)) = omega (arith, length-append B (A ++ f i b.child), l2, l3, l4, done.1) in
-    (rw (h.2, old, back, more) left, rw (h.2, old, back, more) size)
+    grind (arith, length-append)
 
 nothing_done : (content : Content) (t : ℕ) → t ≤ 1 → done_under content t ≡ []
-nothing_done (Of_leaf es) t h = let z : t - 1 ≡ 0 = omega arith in rw z (take_none es)
-nothing_done (Of_branch bs) t h = refl
+nothing_done content t h = grind arith
 
 nothing_before : (contents : Contents) (H : ℕ) (address : List ℕ) (content : Content) (t : ℕ) → t ≤ 1 → before_under contents H address content (t - 1) ≡ []
-nothing_before contents H address (Of_leaf es) t h = refl
-nothing_before contents H address (Of_branch bs) t h = let z : t - 1 ≡ 0 = omega arith in rw z (ap (under_at contents H address 0) (take_none bs))
+nothing_before contents H address content t h = grind arith
 
 -- a page of which nothing before is taken leaves the stack
 pub left_out : (bucket : BucketView) (f : Frame) (below : List Frame) → HasStack bucket (f ∷ below) → f.taken ≤ 1
@@ -86,9 +67,7 @@ pub left_out : (bucket : BucketView) (f : Frame) (below : List Frame) → HasSta
 left_out bucket f below stack h =
     let under = nothing_before (contents_in bucket) (length below) (address_on below) f.content f.taken h in
     let top : done_of below ≡ [] = ∥∥₁_elim stack (Prim.hlevel props) (λ s. shown_by_branch done_of done_under refl (λ _ _. refl) (λ _ _. refl) below s.1.0.branch) in
-    let same : before_of (contents_in bucket) below ≡ before_of (contents_in bucket) below ++ before_under (contents_in bucket) (length below) (address_on below) f.content (f.taken - 1) =
-    rw under (sym (append-nil (before_of (contents_in bucket) below))) in
-    (rw (nothing_done f.content f.taken h, top) (ap (λ (vs : List TourPage). elements_of vs ++ []) same), same)
+    grind (arith, append-nil, nothing_done)
 
 -- behind the root page's last element, everything is behind
 pub root_behind : (bucket : BucketView) → let frames : List Frame = record { content = root_content bucket; taken = suc (content_length (root_content bucket)) } ∷ [] in
@@ -97,28 +76,13 @@ root_behind bucket = tour_done (contents_in bucket) 63 0 [] (root_content bucket
 
 -- the pages on the stack have no entries of their own
 left_entries : (contents : Contents) (H : ℕ) (address : List ℕ) (content : Content) (k : ℕ) → elements_of (passed_under contents H address content k) ≡ elements_of (before_under contents H address content k)
-left_entries contents H address (Of_leaf es) k = refl
-left_entries contents H address (Of_branch bs) k = refl
+left_entries contents H address content k = grind arith
 
 pub left_elements : (contents : Contents) (frames : List Frame) → elements_of (passed_of contents frames) ≡ elements_of (before_of contents frames)
 left_elements contents [] = refl
 left_elements contents (f ∷ below) =
     let r = left_elements contents below in
-    let q = left_entries contents (length below) (address_on below) f.content (f.taken - 1) in
-    flat_map-append (λ (v : TourPage). v.entries) (passed_of contents below) (passed_under contents (length below) (address_on below) f.content (f.taken - 1))
-    ∙ (rw (r, q) (sym (flat_map-append (λ (v : TourPage). v.entries) (before_of contents below) (before_under contents (length below) (address_on below) f.content (f.taken - 1)))))
-
--- the number of the entry on which a stack stands is that of those behind
-behind_leaf : (contents : Contents) (es : List LeafElement) (t : ℕ) (below : List Frame) → 1 ≤ t → t ≤ length es
-    → length (preceding_of contents (record { content = Of_leaf es; taken = t } ∷ below)) ≡ index_of contents (record { content = Of_leaf es; taken = t } ∷ below)
-behind_leaf contents es t below one most =
-    let n = ap (λ (vs : List TourPage). length (elements_of vs)) (append-nil (before_of contents below)) in
-    let m = length-take (t - 1) es in
-    omega (arith, ap length (left_elements contents below), length-append (elements_of (before_of contents below ++ [])) (take (t - 1) es), n, m, one, most)
-
-behind_content : (contents : Contents) (content : Content) (t : ℕ) (below : List Frame) → RestsOn content t → length (preceding_of contents (record { content = content; taken = t } ∷ below)) ≡ index_of contents (record { content = content; taken = t } ∷ below)
-behind_content contents (Of_leaf es) t below rest = behind_leaf contents es t below rest.0 rest.1
-behind_content contents (Of_branch bs) t below rest = absurd rest
+    grind (arith, left_entries, flat_map-append)
 
 pub behind_index : (contents : Contents) (f : Frame) (below : List Frame) → IsAtRest (f ∷ below) → length (preceding_of contents (f ∷ below)) ≡ index_of contents (f ∷ below)
-behind_index contents f below rest = behind_content contents f.content f.taken below rest
+behind_index contents f below rest = grind (arith, append-nil, length-take, left_elements, length-append)

@@ -1,18 +1,11 @@
 -- Ways from bucket to bucket: an address inside a bucket is a way, and so is a bucket among its entries. So each bucket that a path
 -- names begins at a place where a bucket of the tree does.
-use Rattle.std.proofs.Common.{◌≡◌, ◌∙◌, Bool, true, false, IsTrue, ℕ, suc, eqb, eqb-true, List, [], ◌∷◌, ◌++◌, map, Option, Some, Result, Ok, slice_get, refl, sym, ap, subst}
-use Rattle.bolt_tree.proofs.Words.{At_page, Contains, Entry, Inline_page, IsEntry, IsOnWay, IsStart, LeafElement, Meta, Names, Node, Nodes, PageSpot, Path, Root_page, ShowsEntry, Spot, Start, bucket_spots, bucket_value, flat_inline, follow, follow_append, head_root, inline_elements, leads, leads_follow, leaf_entry, leaf_node, node_at, option_map, root_spot, slice_get-get_or, slice_get-map, start_of, step_at, step_entry}
-
-spot_for : (host : ℕ) (e : LeafElement) → e.is_bucket ≡ true → eqb (head_root e.value) 0 ≡ false → bucket_spots host (leaf_entry e) ≡ Some (At_page (root_spot (head_root e.value)))
-spot_for host e b page = rw (b, page) refl
-
-entry_step : (t : PageSpot) (o next : Option Entry) (e : LeafElement) → o ≡ Some (leaf_entry e) → e.is_bucket ≡ true → eqb (head_root e.value) 0 ≡ false
-    → step_entry true t o next ≡ Some (At_page (root_spot (head_root e.value)))
-entry_step t o next e at b page = rw at (spot_for t.number e b page)
+use Rattle.std.proofs.Common.{arith, ◌≡◌, ◌∙◌, Bool, true, false, IsTrue, ℕ, eqb, List, [], ◌∷◌, ◌++◌, map, Option, Some, Result, Ok, slice_get, refl, sym, ap, subst}
+use Rattle.bolt_tree.proofs.Words.{At_page, Contains, Entry, Inline_page, IsEntry, IsOnWay, IsStart, LeafElement, Meta, Names, Node, Nodes, PageSpot, Path, Root_page, ShowsEntry, Spot, Start, bucket_value, flat_inline, follow, follow_append, head_root, inline_elements, leads, leads_follow, leaf_entry, leaf_node, node_at, option_map, root_spot, slice_get-get_or, slice_get-map, start_of, step_at}
 
 node_step : (t : PageSpot) (r : Result Node ℕ) (entries : List Entry) (overflow i : ℕ) (e : LeafElement) → r ≡ Ok (record { is_leaf = true; overflow = overflow; entries = entries })
     → slice_get entries i ≡ Some (leaf_entry e) → e.is_bucket ≡ true → eqb (head_root e.value) 0 ≡ false → step_at r t i ≡ Some (At_page (root_spot (head_root e.value)))
-node_step t r entries overflow i e is at b page = rw is (entry_step t (slice_get entries i) (slice_get entries (suc i)) e at b page)
+node_step t r entries overflow i e is at b page = grind arith
 
 -- the way on from a bucket's root page to that of a bucket among its entries
 pub bucket_way : (file : List ℕ) (meta : Meta) (s : PageSpot) (e : LeafElement) → IsEntry file meta (Root_page s.number) e → e.is_bucket ≡ true → eqb (head_root e.value) 0 ≡ false
@@ -58,8 +51,7 @@ module _ (file : List ℕ) (meta : Meta) where
   from_page : (root : ℕ) (e : LeafElement) (b : Bool) → eqb (head_root e.value) 0 ≡ b → IsOnWay file meta root 1 → IsEntry file meta (Root_page root) e → e.is_bucket ≡ true → IsStart file meta (start_of e.value)
   from_page root e true zero_root on (address, n, lead, shows) bucket =
       let (deep, way) = address_way root 1 address n on lead in
-      let inside = in_itself e.value zero_root in
-      subst (λ (from : Start). IsStart file meta from) (sym inside) (n, deep, e, way, shows, bucket, inside)
+      grind (arith, in_itself)
   from_page root e false own_root on is bucket =
       let nodes : Nodes = node_at file meta in
       let (address, i, reach) = bucket_way file meta on.spot e (subst (λ (r : ℕ). IsEntry file meta (Root_page r) e) (sym on.is) is) bucket own_root in
@@ -72,8 +64,7 @@ module _ (file : List ℕ) (meta : Meta) where
       })
 
   pub none_inside : (value : List ℕ) (elements : List LeafElement) (b : Bool) → eqb (head_root value) 0 ≡ b → start_of value ≡ Inline_page elements → (head_root value ≡ 0) × (inline_elements value ≡ elements)
-  none_inside value elements true e same = (eqb-true (head_root value) 0 e, (let c : Inline_page (inline_elements value) ≡ Inline_page elements = sym (in_itself value e) ∙ same in cc))
-  none_inside value elements false e same = absurd (let c : Root_page (head_root value) ≡ Inline_page elements = sym (at_root value e) ∙ same in cc)
+  none_inside value elements b e same = grind arith
 
   -- a bucket among the entries of a bucket of the tree is one of the tree
   pub starts_below : (from : Start) (e : LeafElement) → IsStart file meta from → IsEntry file meta from e → e.is_bucket ≡ true → IsStart file meta (start_of e.value)

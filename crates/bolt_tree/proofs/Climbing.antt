@@ -14,8 +14,7 @@ module _ (checked : Checked) (before cursors : List CursorView) (cursor : Cursor
     (buckets : ∥ HasEntries (entries_of checked) (root_start checked) × AreOpen checked [] before (path_of old) ∥₁) (last : before ≡ cursors ++ cursor ∷ [])
     (items : old ≡ new ++ option_to_list taken) (rest : new ≡ take (n - 1) old) (cases : MatchOption taken ((n ≡ 0) × (m ≡ 0)) (λ _. m + 1 ≡ n)) where
   more_or_less : (o : Option (Bor (List ℕ))) → MatchOption o ((n ≡ 0) × (m ≡ 0)) (λ _. m + 1 ≡ n) → MatchOption o ((n ≡ 0) × (m ≡ 0)) (λ _. suc m ≡ n)
-  more_or_less None h = h
-  more_or_less (Some x) h = omega arith
+  more_or_less o h = grind arith
 
   of : HasEntries (entries_of checked) (root_start checked) × AreOpen checked [] before (path_of old) → Popped checked cursors cursor (path_of old) (path_of new) × (suc m ≡ n)
   of (all, are) =
@@ -66,8 +65,7 @@ module _ (checked : Checked) (cursors : List CursorView) (cursor moved : CursorV
 
 -- without an open bucket the path is empty
 long : (checked : Checked) (keys : Path) → AreOpen checked [] [] keys → keys ≡ []
-long checked [] are = refl
-long checked (key ∷ keys) are = absurd are
+long checked keys are = grind arith
 
 pub all_closed : (checked : Checked) (cursors : List CursorView) (keys : Path) → ∥ HasEntries (entries_of checked) (root_start checked) × AreOpen checked [] cursors keys ∥₁ → cursors ≡ [] → keys ≡ []
 all_closed checked cursors keys buckets none =

@@ -1,5 +1,5 @@
 -- A part of a path is sought in a bucket, in what is known of open buckets: only that it is so.
-use Rattle.std.proofs.Common.{◌≡◌, ◌∙◌, ◌⊎◌, IsTrue, Bool, inl, inr, true, false, List, [], ◌∷◌, ◌++◌, Option, Some, None, refl, sym, ap, subst, append_assoc}
+use Rattle.std.proofs.Common.{arith, ◌≡◌, ◌∙◌, ◌⊎◌, IsTrue, Bool, inl, inr, true, false, List, [], ◌∷◌, ◌++◌, Option, Some, None, refl, sym, ap, subst, append_assoc}
 use Rattle.bolt_tree.proofs.Words.{AreOpen, Bucket, Checked, CursorView, Equal, Greater, HasEntries, IsInside, Key, LeafElement, Less, Lists, Member, Names, Opens, Ordering, Path, Start, beyond, bucket_checked, bucket_start, entries_of, fresh_view, is_end, is_lt, key_cmp, least_from, less_of, ordering_reverse, props, rest_from, root_start, seek_move, start_of, ∥∥₁_elim}
 use Rattle.bolt_tree.proofs.CursorMoves.{by_key}
 use Rattle.bolt_tree.proofs.Entering.{Fresh_at, MovesBy, comes_by, leads_by, leads_in, leads_inside, made, opens_by, placed_in}
@@ -56,8 +56,7 @@ module _ (checked : Checked) (cursors : List CursorView) (keys : Path) (fresh mo
 
 -- the path ends here
 pub ends_here : (rest keys path : Path) (part key : Key) (listing : List Member) → is_end rest ≡ true → part ≡ key → path ≡ keys ++ key ∷ [] → rest_from path listing ≡ rest_from (keys ++ part ∷ rest) listing
-ends_here [] keys path part key listing e same at = ap (λ (ks : Path). rest_from ks listing) (at ∙ ap (λ (k : Key). keys ++ k ∷ []) (sym same))
-ends_here (k ∷ rest) keys path part key listing e same at = absurd (let f : false ≡ true = e in cc)
+ends_here rest keys path part key listing e same at = grind arith
 
 -- A part was searched for in the bucket that these keys name. Its cursor is on this entry, whose key was put after them.
 module _ (checked file : Checked) (cursors after : List CursorView) (keys path : Path) (bucket : Bucket) (part : Key) (e : LeafElement)

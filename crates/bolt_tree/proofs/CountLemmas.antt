@@ -58,19 +58,15 @@ module _ {X : Type 0} where
       let rest : b ≡ c ++ (y ∷ d) = cc in
       let same : x ≡ z = cc in
       (c ++ y ∷ [], rest ∙ sym (append_assoc c (y ∷ []) d), ap (λ (w : X). w ∷ (c ++ y ∷ [])) same)
-  two_cuts (w ∷ a) b [] d x y e l =
-      let rest : a ++ (x ∷ b) ≡ d = cc in
-      absurd (omega (arith, ap length rest, length-append a (x ∷ b), l))
+  two_cuts (w ∷ a) b [] d x y e l = grind (arith, length-append)
   two_cuts (w ∷ a) b (z ∷ c) d x y e l =
       let rest : a ++ (x ∷ b) ≡ c ++ (y ∷ d) = cc in
       let same : w ≡ z = cc in
       let r = two_cuts a b c d x y rest l in
-      let whole = r.2 in
-      (r.0, r.1, cc)
+      grind arith
 
 not_both : (a c : List ℕ) → Before c a → (a ≡ c) ⊎ Before a c → ⊥
-not_both a c after (inl e) = before_irreflexive c (subst (Before c) e after)
-not_both a c after (inr h) = before_strict c a after h
+not_both a c after h = grind (arith, before_irreflexive, before_strict)
 
 abbrev pub address_of : TourPage → List ℕ
 address_of v = v.address
@@ -131,10 +127,7 @@ module _ (b : BucketView) (s : IsSoundBucket b) where
     right_apart u h = (rises_right IsApart c.left (c.page ∷ c.right) whole_rises).0 u h
 
     sides : (u : TourPage) → Has (pages_in b) u → (Has c.left u × IsApart u c.page) ⊎ ((c.page ≡ u) ⊎ (Has c.right u × IsApart c.page u))
-    sides u h = elim (has_split c.left (c.page ∷ c.right) u (subst (λ (vs : List TourPage). Has vs u) c.whole h)) [
-      | inl l ↦ inl (l, left_apart u l)
-      | inr q ↦ elim q [ inl e ↦ inr (inl e) | inr r ↦ inr (inr (r, right_apart u r)) ]
-    ]
+    sides u h = grind (arith, has_split, left_apart, right_apart)
 
     -- the home of its entries
     pub its_home : (e : LeafElement) → Has c.page.entries e → IsHome b.file b.meta b.start e c.page.address
@@ -155,10 +148,7 @@ module _ (b : BucketView) (s : IsSoundBucket b) where
 
     -- the pages up to it
     up_to : (u : TourPage) → Has (c.left ++ c.page ∷ []) u → (u.address ≡ c.page.address) ⊎ Before u.address c.page.address
-    up_to u h = elim (has_split c.left (c.page ∷ []) u h) [
-      | inl l ↦ inr (left_apart u l).addresses
-      | inr q ↦ elim q [ inl e ↦ inl (sym (ap address_of e)) | inr x ↦ absurd x ]
-    ]
+    up_to u h = grind (arith, has_split, left_apart)
 
     up_to_exact : IsExactly (IsUpTo b.file b.meta b.start c.page.address) (suc (length c.left))
     up_to_exact = part_exact (IsUpTo b.file b.meta b.start c.page.address) [] (c.left ++ c.page ∷ []) c.right (suc (length c.left))
@@ -177,10 +167,7 @@ module _ (b : BucketView) (s : IsSoundBucket b) where
 
     -- those after it
     from_after : (u : TourPage) → Has (pages_in b) u → Before c.page.address u.address → Has c.right u
-    from_after u h after = elim (sides u h) [
-      | inl l ↦ absurd (before_strict c.page.address u.address after l.1.addresses)
-      | inr q ↦ elim q [ inl e ↦ absurd (before_irreflexive c.page.address (subst (Before c.page.address) (sym (ap address_of e)) after)) | inr r ↦ r.0 ]
-    ]
+    from_after u h after = grind (arith, sides, before_strict, before_irreflexive)
 
     pub after_exact : IsExactly (IsAfter b.file b.meta b.start c.page.address) (length c.right)
     after_exact = part_exact (IsAfter b.file b.meta b.start c.page.address) (c.left ++ c.page ∷ []) c.right [] (length c.right)

@@ -1,11 +1,10 @@
 -- What a cursor's move says of the entry that it comes to.
-use Rattle.std.proofs.Common.{◌≡◌, ◌∙◌, ◌≤◌, Bool, true, false, ℕ, zero, suc, List, [], ◌∷◌, length, Option, Some, None, cond, nat_lt, slice_get, refl, sym, ap, arith}
+use Rattle.std.proofs.Common.{◌≡◌, ◌≤◌, Bool, false, ℕ, suc, List, [], ◌∷◌, length, Option, Some, None, cond, nat_lt, slice_get, refl, arith}
 use Rattle.bolt_tree.proofs.Words.{Key, LeafElement, Move, On, Past, Place, first_move, least_from, nat_tests, next_move, nothing_at, onto, place_in, seek_move}
 
 pub none_past : (entries : List LeafElement) (i : ℕ) → None ≡ slice_get entries i → length entries ≤ i
-none_past [] i e = omega arith
-none_past (x ∷ entries) zero e = absurd (cc)
 none_past (x ∷ entries) (suc i) e = let h = none_past entries i e in omega (arith, h)
+none_past entries i e = grind arith
 
 pub not_below : (m n : ℕ) → nat_lt m n ≡ false → n ≤ m
 not_below m n e = grind (arith, nat_tests)
@@ -17,24 +16,15 @@ ComesTo entries n place (Some g) = (place ≡ On n) × (slice_get entries n ≡ 
 
 pub by_length : (entries : List LeafElement) (n : ℕ) (stay place : Place) (o : Option LeafElement) (b : Bool) → nat_lt n (length entries) ≡ b
     → place ≡ (cond b (onto entries n) (nothing_at stay)).place → o ≡ (cond b (onto entries n) (nothing_at stay)).answer → ComesTo entries n place o
-by_length entries n stay place None true t p a = none_past entries n a
-by_length entries n stay place None false t p a = not_below n (length entries) t
-by_length entries n stay place (Some g) true t p a = (p, sym a)
-by_length entries n stay place (Some g) false t p a = absurd (let c : Some g ≡ None = a in cc)
+by_length entries n stay place o b t p a = grind (arith, none_past, not_below)
 
 pub comes_next : (entries : List LeafElement) (i : ℕ) (e : LeafElement) (before place : Place) (o : Option LeafElement) → before ≡ On i → slice_get entries i ≡ Some e
     → (place_in entries place ≡ (next_move entries (place_in entries before)).place) × (o ≡ (next_move entries (place_in entries before)).answer) → ComesTo entries (suc i) place o
-comes_next [] i e before place o on at (p, a) = absurd (let c : None ≡ Some e = at in cc)
-comes_next (x ∷ entries) i e before place o on at (p, a) =
-    by_length (x ∷ entries) (suc i) (On i) place o (nat_lt (suc i) (length (x ∷ entries))) refl
-    (p ∙ ap (λ (q : Place). (next_move (x ∷ entries) q).place) on) (a ∙ ap (λ (q : Place). (next_move (x ∷ entries) q).answer) on)
+comes_next entries i e before place o on at h = grind (arith, by_length)
 
 pub comes_first : (entries : List LeafElement) (place : Place) (o : Option LeafElement)
     → (place_in entries place ≡ (first_move entries).place) × (o ≡ (first_move entries).answer) → ComesTo entries 0 place o
-comes_first [] place None (p, a) = omega arith
-comes_first [] place (Some g) (p, a) = absurd (let c : Some g ≡ None = a in cc)
-comes_first (x ∷ entries) place None (p, a) = absurd (let c : None ≡ Some x = a in cc)
-comes_first (x ∷ entries) place (Some g) (p, a) = (p, sym a)
+comes_first entries place o h = grind arith
 
 pub comes_from : (key : Key) (entries : List LeafElement) (place : Place) (o : Option LeafElement)
     → (place_in entries place ≡ (seek_move key entries).place) × (o ≡ (seek_move key entries).answer) → ComesTo entries (least_from key entries) place o

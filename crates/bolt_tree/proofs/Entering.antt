@@ -1,6 +1,6 @@
 -- A bucket is entered, in what is known of open buckets: only that it is so.
-use Rattle.std.proofs.Common.{◌≡◌, ◌∙◌, IsTrue, false, List, [], ◌∷◌, ◌++◌, Option, Some, None, refl, sym, subst}
-use Rattle.bolt_tree.proofs.Words.{AreEntries, AreOpen, Bucket, Checked, CursorView, HasEntries, HasStart, IsInside, LeafElement, Lists, Member, Moves, Names, Path, Start, beyond, bucket_checked, bucket_start, bytes_of, drop_all, entries_of, item_of, meta_of, place_in, props, rest_after, rest_from, root_start, start_of, ∥∥₁_elim, ∥∥₁_map, ∥∥₁_prop}
+use Rattle.std.proofs.Common.{rules, ◌≡◌, ◌∙◌, IsTrue, false, List, [], ◌∷◌, ◌++◌, Option, Some, None, refl, sym, subst}
+use Rattle.bolt_tree.proofs.Words.{AreEntries, AreOpen, Bucket, Checked, CursorView, HasEntries, HasStart, IsInside, LeafElement, Lists, Member, Moves, Names, Path, Start, beyond, bucket_checked, bucket_start, bytes_of, drop_all, entries_of, item_of, meta_of, props, rest_after, rest_from, root_start, start_of, ∥∥₁_elim, ∥∥₁_map, ∥∥₁_prop}
 use Rattle.bolt_tree.proofs.{BucketWays.root_starts, BucketWays.starts_named, CursorMoves.ComesTo, CursorMoves.FirstMove, CursorMoves.by_first}
 use Rattle.bolt_tree.proofs.{EntryOrder.contains_at, Giving.give_first, Giving.give_itself, Giving.give_none, Giving.give_past_value, Named.names_push}
 use Rattle.bolt_tree.proofs.OpenSteps.{open_push}
@@ -31,9 +31,7 @@ module _ (by : FirstMove) (checked : Checked) (cursors : List CursorView) (keys 
 
   pub comes_by : (o : Option LeafElement) → Fresh_at checked cursors keys fresh → MovesBy o → (entries : List LeafElement) → AreEntries (entries_of checked) fresh.start entries
       → ComesTo entries (by.to entries) moved.place o
-  comes_by o k moves entries are =
-      by.comes entries (place_in entries fresh.place) moved.place o
-      (subst (λ (file : Checked). Moves (entries_of file) fresh.start by.move fresh.place moved.place o) k.file moves entries are)
+  comes_by o k moves entries are = search rules
 
   stands : (e : LeafElement) → Fresh_at checked cursors keys fresh → moved.start ≡ fresh.start → MovesBy (Some e) → StandsOn (entries_of checked) moved e.key
   stands e k start moves entries are =

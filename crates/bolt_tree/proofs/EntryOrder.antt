@@ -1,11 +1,9 @@
 -- Entries in order: which come first, next and last, and the place of a key among them.
 -- Over a list of elements whose keys rise.
-use Rattle.std.proofs.Common.{◌≡◌, ◌∙◌, ◌≤◌, inl, inr, Bool, true, false, ℕ, zero, suc, List, [], ◌∷◌, length, not, Some, slice_get, sym, ap, subst, arith, ◌<◌}
+use Rattle.std.proofs.lemmas.Grind.{common_steps}
+use Rattle.std.proofs.Common.{◌≡◌, ◌∙◌, ◌≤◌, inl, inr, Bool, true, false, ℕ, suc, List, ◌∷◌, length, not, Some, slice_get, ap, subst, arith, ◌<◌}
 use Rattle.bolt_tree.proofs.Words.{Contains, Key, LeafElement, Less, Rises, cases_lt, entry_cmp, fails_before_first, get_or_from_slice_get, is_lt, key_cmp, key_lt, least_from, none-some, not-false, not-true, passes_at_first, same_Some, slice_get-get_or, slice_get_within}
 use Rattle.bolt_tree.proofs.PathOrder.{flip_less, key_same, key_total}
-
-not_behind : (a b : Key) → key_cmp a b ≡ Less → is_lt (key_cmp b a) ≡ false
-not_behind a b e = ap is_lt (flip_less key_total a b e)
 
 pub contains_at : (entries : List LeafElement) (i : ℕ) (e : LeafElement) → slice_get entries i ≡ Some e → Contains entries e
 contains_at entries i e at = (i, slice_get_within entries i e at, get_or_from_slice_get entries i e e at)
@@ -15,19 +13,11 @@ place_of entries e (i, within, is) = (i, slice_get-get_or entries i e within ∙
 
 -- an earlier entry is before a later one
 rises_at : (entries : List LeafElement) (i j : ℕ) (e g : LeafElement) → Rises entry_cmp entries → i < j → slice_get entries i ≡ Some e → slice_get entries j ≡ Some g → key_cmp e.key g.key ≡ Less
-rises_at [] i j e g r lt at next = absurd (none-some e at)
-rises_at (x ∷ entries) i zero e g r lt at next = absurd (omega arith)
-rises_at (x ∷ entries) zero (suc j) e g r lt at next = rw (← same_Some x e at) (r.0 g (contains_at entries j g next))
 rises_at (x ∷ entries) (suc i) (suc j) e g r lt at next = rises_at entries i j e g r.1 (omega arith) at next
+rises_at entries i j e g r lt at next = grind (arith, common_steps, none-some, same_Some, contains_at)
 
 not_before : (entries : List LeafElement) (i j : ℕ) (e g : LeafElement) → Rises entry_cmp entries → i ≤ j → slice_get entries i ≡ Some e → slice_get entries j ≡ Some g → is_lt (key_cmp g.key e.key) ≡ false
-not_before entries i j e g r le at there = elim (cases_lt i j) [
-  | inl lt ↦ not_behind e.key g.key (rises_at entries i j e g r lt at there)
-  | inr ge ↦ (
-      let index : j ≡ i = omega (arith, le, ge) in
-      let same : g ≡ e = same_Some g e (sym there ∙ (ap (slice_get entries) index ∙ at)) in
-      rw same (ap is_lt (key_same e.key)))
-]
+not_before entries i j e g r le at there = grind (arith, cases_lt, rises_at, same_Some, key_same, flip_less, key_total)
 
 -- no key is before the first one
 pub first_least : (entries : List LeafElement) (e f : LeafElement) → Rises entry_cmp entries → slice_get entries 0 ≡ Some e → Contains entries f → is_lt (key_cmp f.key e.key) ≡ false
@@ -50,9 +40,7 @@ next_least entries i e g f r at next h less = let there = behind entries i e f r
 -- nothing is behind the last one
 pub last_greatest : (entries : List LeafElement) (i : ℕ) (e f : LeafElement) → Rises entry_cmp entries → slice_get entries i ≡ Some e → length entries ≤ suc i
     → Contains entries f → key_cmp e.key f.key ≡ Less → ⊥
-last_greatest entries i e f r at short h less =
-    let there = behind entries i e f r at h less in
-    omega (arith, short, there.1, slice_get_within entries there.0 f there.2)
+last_greatest entries i e f r at short h less = grind (arith, behind, slice_get_within)
 
 -- where a key stands: the first entry that is not before it
 abbrev from : Key → LeafElement → Bool
@@ -70,11 +58,7 @@ pub seek_least : (key : Key) (entries : List LeafElement) (e f : LeafElement) �
     → Contains entries f → is_lt (key_cmp f.key key) ≡ false → (is_lt (key_cmp e.key key) ≡ false) × (is_lt (key_cmp f.key e.key) ≡ false)
 seek_least key entries e f r at h after =
     let there = place_of entries f h in
-    let later : is_lt (key_cmp f.key e.key) ≡ false = elim (cases_lt there.0 (least_from key entries)) [
-      | inl lt ↦ absurd (let before = before_least key entries there.0 f lt there.1 in cc)
-      | inr le ↦ not_before entries (least_from key entries) there.0 e f r le at there.1
-    ] in
-    (seek_from key entries e at, later)
+    grind (arith, cases_lt, before_least, not_before, seek_from)
 
 -- with no such entry, all are before it
 pub seek_none : (key : Key) (entries : List LeafElement) (f : LeafElement) → length entries ≤ least_from key entries → Contains entries f → is_lt (key_cmp f.key key) ≡ true

@@ -1,6 +1,6 @@
 -- A file with sound trees has a listing, which is that of its tree.
 -- Rests on the tree of the root bucket (Nesting) and on what trees list (TreeListing).
-use Rattle.std.proofs.Common.{◌≡◌, ◌∙◌, ◌<◌, ap, ℕ, List, Some, sym}
+use Rattle.std.proofs.Common.{arith, rules, ◌≡◌, ◌<◌, ℕ, List, Some}
 use Rattle.bolt_tree.proofs.Words.{At_page, HasSoundTrees, IsEntry, IsListing, IsTreeOf, Member, Meta, PageSpot, Root_page, Tree, below_mark, file_tree, good_page, listing_of, node_at, reached, tree_of}
 use Rattle.bolt_tree.proofs.{Nesting.root_tree, ReadBack.tree_back, Single.lists_once, TreeListing.tree_lists}
 
@@ -18,11 +18,8 @@ has_listing file meta sound = (listing_of (file_tree file meta), is_listing file
 
 pub listing_tree : (file : List ℕ) (meta : Meta) (listing : List Member) → HasSoundTrees file meta → IsListing file meta listing
     → (tree : Tree) × IsTreeOf (IsEntry file meta) (Root_page meta.root) tree × (listing ≡ listing_of tree)
-listing_tree file meta listing sound lists =
-    (file_tree file meta, is_file_tree file meta sound, lists_once (IsEntry file meta) (Root_page meta.root) listing (listing_of (file_tree file meta)) lists (is_listing file meta sound))
+listing_tree file meta listing sound lists = search (rules, is_file_tree, lists_once, is_listing)
 
 -- and the tree can be read off it
 pub listing_back : (file : List ℕ) (meta : Meta) (listing : List Member) → HasSoundTrees file meta → IsListing file meta listing → listing_of (tree_of listing) ≡ listing
-listing_back file meta listing sound lists =
-    let (tree, is, same) = listing_tree file meta listing sound lists in
-    ap (λ (ms : List Member). listing_of (tree_of ms)) same ∙ (ap listing_of (tree_back tree) ∙ sym same)
+listing_back file meta listing sound lists = grind (arith, listing_tree, tree_back)

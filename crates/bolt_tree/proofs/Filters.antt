@@ -1,5 +1,5 @@
 -- What a filter keeps of a list: all, nothing, as much as another; and of a rising list first the least that it keeps.
-use Rattle.std.proofs.Common.{◌≡◌, ◌∙◌, ◌⊎◌, ◌<◌, inl, inr, Bool, true, false, List, [], ◌∷◌, length, cond, filter, refl, sym, ap, subst, arith, not}
+use Rattle.std.proofs.Common.{◌≡◌, ◌∙◌, ◌⊎◌, ◌<◌, inl, inr, Bool, true, false, List, [], ◌∷◌, length, cond, filter, refl, ap, subst, arith, not}
 use Rattle.std.proofs.lemmas.List.Filters.{length-filter_both}
 use Rattle.bolt_tree.proofs.Words.{Contains, Greater, IsTotalOrder, Less, Ordering, Rises, false_from_ne_true, is_lt, tied_itself}
 use Rattle.bolt_tree.proofs.{Lists.contains_cases, Lists.contains_head, Lists.contains_none, Lists.contains_tail, PathOrder.flip_less}
@@ -36,15 +36,10 @@ module _ {A : Type 0} {cmp : A → A → Ordering} (o : IsTotalOrder cmp) (f : A
       → (y ≡ m) ⊎ Contains ys m → filter f (y ∷ ys) ≡ m ∷ filter (λ x. is_lt (cmp m x)) (y ∷ ys)
   at y ys r kept first later (inl e) =
       let below : (x : A) → Contains ys x → cmp m x ≡ Less = subst (λ (z : A). (x : A) → Contains ys x → cmp z x ≡ Less) e r.0 in
-      let itself : is_lt (cmp m m) ≡ false = ap is_lt (tied_itself o m) in
-      let rest : filter f ys ≡ filter (λ x. is_lt (cmp m x)) ys =
-      filter_same f (λ x. is_lt (cmp m x)) ys (λ x h. up x (below x h) ∙ sym (lt_of (cmp m x) (below x h))) in
-      rw (e, kept, itself) (ap (λ zs. m ∷ zs) rest)
+      grind (arith, tied_itself, filter_same, lt_of)
   at y ys r kept first later (inr h) =
       let before : cmp y m ≡ Less = r.0 m h in
-      let out : f y ≡ false = not_true (f y) (λ e. let a = first y (contains_head y ys) e in let b = lt_of (cmp y m) before in cc) in
-      let behind : is_lt (cmp m y) ≡ false = not_lt_of (cmp m y) (flip_less o y m before) in
-      rw (out, behind) (later h)
+      grind (arith, not_true, contains_head, lt_of, not_lt_of, flip_less)
 
   pub filter_first : (xs : List A) → Rises cmp xs → Contains xs m → f m ≡ true → ((x : A) → Contains xs x → f x ≡ true → is_lt (cmp x m) ≡ false)
       → filter f xs ≡ m ∷ filter (λ x. is_lt (cmp m x)) xs

@@ -1,7 +1,7 @@
 -- Which member of a listing comes next if a bucket is entered, if its cursor moves on, or if it has ended.
 -- Rests on the order of paths, and on what a named bucket holds (Named).
-use Rattle.std.proofs.Common.{◌≡◌, ◌∙◌, ◌⊎◌, ◌≤◌, inl, inr, Bool, true, false, not, ℕ, suc, List, [], ◌∷◌, ◌++◌, length, filter, Some, slice_get, refl, sym, ap, subst, append-nil}
-use Rattle.bolt_tree.proofs.Words.{AreEntries, Equal, Greater, HasEntries, Holds, Item, Key, LeafElement, Less, Lists, Member, Names, Ordering, Path, Start, append_cancel_left, beyond, both_ways, false_from_ne_true, is_beyond, is_lt, item_of, key_cmp, less_of, ordering_then, path_cmp, rest_after, rest_from}
+use Rattle.std.proofs.Common.{arith, ◌≡◌, ◌∙◌, ◌⊎◌, ◌≤◌, inl, inr, Bool, true, false, not, ℕ, suc, List, [], ◌∷◌, ◌++◌, length, filter, Some, slice_get, refl, sym, ap, subst, append-nil}
+use Rattle.bolt_tree.proofs.Words.{AreEntries, Equal, HasEntries, Holds, Item, Key, LeafElement, Less, Lists, Member, Names, Ordering, Path, Start, append_cancel_left, beyond, both_ways, false_from_ne_true, is_beyond, is_lt, item_of, key_cmp, less_of, ordering_then, path_cmp, rest_after, rest_from}
 use Rattle.bolt_tree.proofs.EntryOrder.{contains_at, first_least, last_greatest, next_least, next_less}
 use Rattle.bolt_tree.proofs.{Filters.filter_first, Filters.filter_same, Filters.lt_of, Lists.contains_none, Lists.irreflexive}
 use Rattle.bolt_tree.proofs.Named.{first_of_held, held_below, held_down, held_here}
@@ -10,9 +10,7 @@ use Rattle.bolt_tree.proofs.Single.{member_total}
 
 -- a path is not rest_after another with a part in the same place that is not rest_after its own
 greater_part : (o r : Ordering) → is_lt o ≡ false → (o ≡ Equal → is_lt r ≡ false) → is_lt (ordering_then o r) ≡ false
-greater_part Less r e more = e
-greater_part Equal r e more = more refl
-greater_part Greater r e more = refl
+greater_part o r e more = grind arith
 
 pub after_end : (r : Path) → is_lt (path_cmp r []) ≡ false
 after_end [] = refl

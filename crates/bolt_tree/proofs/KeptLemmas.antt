@@ -1,7 +1,8 @@
 -- Cursors that wait, and go on.
+use Rattle.std.proofs.lemmas.Grind.{common_steps}
 use Rattle.std.proofs.Common.{◌≡◌, ◌∙◌, ◌≤◌, ◌-◌, ℕ, Bool, List, [], ◌∷◌, ◌++◌, Option, Some, None, drop, take, length, reverse, refl, sym, ap, subst, arith}
 use Rattle.bolt_tree.proofs.Words.{AreKept, AreOfFile, BucketView, Checked, Cursor, CursorView, Frame, HasStack, IsResting, IsInnermost, IsKept, LeafElement, Move, Moves, MovesLast, Place, Position, Trail, bucket_in, cursor_checked, cursor_place, cursor_start, cursor_view, drop-append_seam, entries_of, frames_of, innermost_views, kept_view, kept_views, length-append, length-drop, pager_checked, props, reverse-append, same_from_push, start_at, take-append_seam, take-length, ∥∥₁_elim, ∥∥₁_map}
-use Rattle.bolt_tree.proofs.{OpenSteps.no_snoc, StackLemmas.stack_short, TrailLemmas.length-frames}
+use Rattle.bolt_tree.proofs.{StackLemmas.stack_short, TrailLemmas.length-frames}
 use Rattle.bolt_tree.specs.{declared.at.At.At, declared.open_cursors.WaitingCursor.WaitingCursor}
 
 frames_short : (bucket : BucketView) (frames : List Frame) → HasStack bucket frames → length frames ≤ 64
@@ -30,9 +31,6 @@ resting_kept trail is_past checked file h = record {
 
 -- one more that waits
 module _ (checked : Checked) (waiting : List WaitingCursor) (w : WaitingCursor) (positions more : List Position) (begins : w.begin ≡ length positions) where
-  last_first : reverse (waiting ++ w ∷ []) ≡ w ∷ reverse waiting
-  last_first = reverse-append waiting (w ∷ [])
-
   dropped : drop w.begin (positions ++ more) ≡ more
   dropped = ap (λ (n : ℕ). drop n (positions ++ more)) begins ∙ drop-append_seam positions more
 
@@ -40,15 +38,10 @@ module _ (checked : Checked) (waiting : List WaitingCursor) (w : WaitingCursor) 
   taken = ap (λ (n : ℕ). take n (positions ++ more)) begins ∙ take-append_seam positions more
 
   pub one_more : AreKept checked (reverse waiting) positions → IsKept checked w.at w.is_past more → AreKept checked (reverse (waiting ++ w ∷ [])) (positions ++ more)
-  one_more are is =
-      subst (λ (ws : List WaitingCursor). AreKept checked ws (positions ++ more)) (sym last_first) (
-        (let l = length-append positions more in omega (arith, l, begins)),
-        subst (λ (ps : List Position). IsKept checked w.at w.is_past ps) (sym dropped) is,
-        subst (λ (ps : List Position). AreKept checked (reverse waiting) ps) (sym taken) are,
-      )
+  one_more are is = grind (arith, length-append, dropped, taken, reverse-append)
 
   pub one_more_view : kept_views checked (reverse (waiting ++ w ∷ [])) (positions ++ more) ≡ kept_views checked (reverse waiting) positions ++ kept_view checked w.at w.is_past more ∷ []
-  one_more_view = rw (last_first, taken, dropped) refl
+  one_more_view = grind (arith, taken, dropped, reverse-append)
 
 -- a cursor of the file shows what its positions show
 cursor_kept : (checked : Checked) (cursor : Cursor) → cursor_checked cursor ≡ checked → kept_view checked cursor.trail.at cursor.is_past cursor.trail.stack.items ≡ cursor_view cursor
@@ -149,8 +142,7 @@ module _ (checked : Checked) (old new : List WaitingCursor) (w : WaitingCursor) 
 
   under : (o : Option Cursor) (outer : List CursorView) (last : CursorView) → IsInnermost checked old o → kept_views checked (reverse old) positions ++ innermost_views o ≡ outer ++ last ∷ []
       → kept_views checked (reverse old) positions ≡ outer
-  under None outer last none e = absurd (no_snoc new w (sym none ∙ split))
-  under (Some c) outer last f e = (same_from_push (kept_views checked (reverse old) positions) outer (cursor_view c) last e).0
+  under o outer last none e = grind (arith, common_steps, same_from_push)
 
   pub views_left : (cursor : Cursor) (outer : List CursorView) (last : CursorView)
       → cursor_view cursor ≡ kept_view checked w.at w.is_past (take (length positions - w.begin) (drop w.begin positions))
@@ -178,6 +170,4 @@ put_last waiting others put at place is_past was begin e same same_at same_past 
 -- what is shown where a fresh cursor is put behind the others
 pub opens_fresh : (before after : List CursorView) (view fresh : CursorView) → after ≡ before → view.checked ≡ fresh.checked → view.start ≡ fresh.start → view.place ≡ fresh.place
     → after ++ view ∷ [] ≡ before ++ fresh ∷ []
-opens_fresh before after view fresh same file start place =
-    let all : view ≡ fresh = rw (file, start, place) refl in
-    rw (same, all) refl
+opens_fresh before after view fresh same file start place = grind arith

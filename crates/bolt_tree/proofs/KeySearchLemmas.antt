@@ -5,8 +5,7 @@ use Rattle.bolt_tree.proofs.Words.{Key, KeysRise, cases_lt, doubled, false_from_
 
 -- what stands before a key that stands before does so too
 pub before_down : (or_equal : Bool) (a b s : Key) → key_lt a b ≡ true → stands_before or_equal b s ≡ true → stands_before or_equal a s ≡ true
-before_down true a b s h e = ap not (false_from_ne_true (key_lt s a) (λ t. let less = not-true (key_lt s b) e in let more : key_lt s b ≡ true = lt_trans s a b t h in cc))
-before_down false a b s h e = lt_trans a b s h e
+before_down or_equal a b s h e = grind (arith, not, false_from_ne_true, not-true, lt_trans)
 
 -- and the other way round
 pub before_up : (or_equal : Bool) (a b s : Key) → key_lt a b ≡ true → stands_before or_equal a s ≡ false → stands_before or_equal b s ≡ false
@@ -41,9 +40,8 @@ positive zero = omega arith
 positive (suc c) = let p = positive c in omega (arith, p)
 
 grows : (n c : ℕ) → n ≤ c → doubled n ≤ doubled c
-grows zero c h = positive c
-grows (suc n) zero h = absurd (omega arith)
 grows (suc n) (suc c) h = let r = grows n c (omega arith) in omega (arith, r)
+grows n c h = grind (arith, positive)
 
 pub sixteen : (len c : ℕ) → 1 ≤ len → len * doubled c ≤ 65535 → c + 1 ≤ 16
 sixteen len c one few = elim (cases_lt c 16) [

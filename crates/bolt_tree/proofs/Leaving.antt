@@ -1,6 +1,6 @@
 -- A loop over a cursor: each call removes the first of the entries that are left, so there are fewer left then.
 -- Rests on that the entries of a bucket in order exist, and are one.
-use Rattle.std.proofs.Common.{◌≡◌, ◌∙◌, ◌<◌, ℕ, suc, List, [], ◌∷◌, length, drop, nat_lt, Option, Some, None, refl, sym, ap, subst, arith}
+use Rattle.std.proofs.Common.{◌≡◌, ◌<◌, ℕ, suc, List, [], ◌∷◌, length, drop, nat_lt, Option, Some, None, refl, ap, subst, arith}
 use Rattle.bolt_tree.proofs.Words.{AreEntries, Bucket, Checked, EntryView, Fresh, LeafElement, On, Past, Place, ShowsMove, Start, bucket_checked, bucket_start, bytes_of, drop_all, drop_at, entries_of, entry_view, meta_of, next_move, option_map, place_in, props, ∥∥₁_elim, ∥∥₁_prop}
 use mathlib.Core.HLevel.{Σ_prop_path}
 use Rattle.bolt_tree.specs.{EntriesLeft.ForEntries, EntriesLeft.entries_left, Lookups.IsBucketOf, Lookups.IsBucketOn, Places.entry_at}
@@ -25,23 +25,19 @@ TakesFirst old new None = old ≡ []
 TakesFirst old new (Some e) = old ≡ e ∷ new
 
 none_left : (place : Place) → entries_left [] place ≡ []
-none_left Fresh = refl
-none_left (On i) = refl
-none_left Past = refl
+none_left place = grind arith
 
 takes : (entries : List LeafElement) (n : ℕ) (place : Place) (o : Option LeafElement) → ComesTo entries n place o → TakesFirst (drop n entries) (entries_left entries place) o
-takes entries n place None past = drop_all n entries past
-takes entries n place (Some e) (on, at) = drop_at entries n e at ∙ ap (λ (q : Place). e ∷ entries_left entries q) (sym on)
+takes entries n place o past = grind (arith, drop_all, drop_at)
 
 pub next_takes : (entries : List LeafElement) (before after : Place) (o : Option LeafElement)
     → (place_in entries after ≡ (next_move entries (place_in entries before)).place) × (o ≡ (next_move entries (place_in entries before)).answer)
     → TakesFirst (entries_left entries before) (entries_left entries after) o
 next_takes [] before after None (p, a) = none_left before
-next_takes [] before after (Some e) (p, a) = absurd (let c : Some e ≡ None = a in cc)
 next_takes (x ∷ entries) Fresh after o moved = takes (x ∷ entries) 0 after o (comes_first (x ∷ entries) after o moved)
 next_takes (x ∷ entries) (On i) after o (p, a) = takes (x ∷ entries) (suc i) after o (by_length (x ∷ entries) (suc i) (On i) after o (nat_lt (suc i) (length (x ∷ entries))) refl p a)
 next_takes (x ∷ entries) Past after None (p, a) = refl
-next_takes (x ∷ entries) Past after (Some e) (p, a) = absurd (let c : Some e ≡ None = a in cc)
+next_takes entries before after o moved = absurd (cc)
 
 -- the same of what is answered: what the first of what was left shows
 abbrev pub ShowsFirst : List LeafElement → List LeafElement → Option EntryView → Type 0
@@ -49,10 +45,7 @@ ShowsFirst old new None = old ≡ []
 ShowsFirst old new (Some x) = (e : LeafElement) × (x ≡ entry_view e) × (old ≡ e ∷ new)
 
 shows_first : (old new : List LeafElement) (x : Option EntryView) (o : Option LeafElement) → x ≡ option_map entry_view o → TakesFirst old new o → ShowsFirst old new x
-shows_first old new None None a taken = taken
-shows_first old new None (Some e) a taken = absurd (let c : None ≡ Some (entry_view e) = a in cc)
-shows_first old new (Some x) None a taken = absurd (let c : Some x ≡ None = a in cc)
-shows_first old new (Some x) (Some e) a taken = (e, (let c : Some x ≡ Some (entry_view e) = a in cc), taken)
+shows_first old new x o a taken = grind arith
 
 pub next_shows : (a b : Checked) (s t : Start) (before after : Place) (x : Option EntryView) → a ≡ b → s ≡ t → ShowsMove (entries_of a) s next_move before after x
     → ForEntries b t (λ entries. ShowsFirst (entries_left entries before) (entries_left entries after) x)
@@ -70,10 +63,7 @@ at_place entries n place e (on, at) = rw on at
 next_at : (entries : List LeafElement) (before after : Place) (e : LeafElement)
     → (place_in entries after ≡ (next_move entries (place_in entries before)).place) × (Some e ≡ (next_move entries (place_in entries before)).answer)
     → entry_at entries after ≡ Some e
-next_at [] before after e (p, a) = absurd (let c : Some e ≡ None = a in cc)
-next_at (x ∷ entries) Fresh after e moved = at_place (x ∷ entries) 0 after e (comes_first (x ∷ entries) after (Some e) moved)
-next_at (x ∷ entries) (On i) after e (p, a) = at_place (x ∷ entries) (suc i) after e (by_length (x ∷ entries) (suc i) (On i) after (Some e) (nat_lt (suc i) (length (x ∷ entries))) refl p a)
-next_at (x ∷ entries) Past after e (p, a) = absurd (let c : Some e ≡ None = a in cc)
+next_at entries before after e moved = grind arith
 
 -- the first of what was left is shown, and the cursor is on it
 abbrev pub StandsOnFirst : List LeafElement → (before after : Place) → EntryView → Type 0
@@ -106,5 +96,4 @@ fewer_left bucket file start before after x same at moves =
 -- the bucket that a cursor is on
 pub stands_on : (Entry : Start → LeafElement → Type 0) (from to : Start) (place : Place) (found : Option Bucket) → from ≡ to → IsBucketOn Entry from place found
     → (entries : List LeafElement) → AreEntries Entry to entries → (e : LeafElement) → entry_at entries place ≡ Some e → IsBucketOf (Some e) found
-stands_on Entry from to place found same here entries are e at =
-    subst (λ (o : Option LeafElement). IsBucketOf o found) at (here entries (subst (λ (s : Start). AreEntries Entry s entries) (sym same) are))
+stands_on Entry from to place found same here entries are e at = grind arith

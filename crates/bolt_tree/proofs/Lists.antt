@@ -1,6 +1,6 @@
 -- Members of a list, and lists that rise: two of the same members are one.
 -- Over any total order.
-use Rattle.std.proofs.Common.{◌≡◌, ◌⊎◌, inl, inr, zero, suc, List, [], ◌∷◌, refl, arith}
+use Rattle.std.proofs.Common.{rules, ◌≡◌, ◌⊎◌, suc, List, [], ◌∷◌, refl, arith}
 use Rattle.bolt_tree.proofs.Words.{Contains, IsTotalOrder, Less, Ordering, Rises, tied_itself}
 use Rattle.bolt_check.proofs.Lists.{RisesBy, contains_from_has, has_from_contains, one_list}
 
@@ -11,8 +11,7 @@ pub contains_tail : {A : Type 0} (x y : A) (xs : List A) → Contains xs y → C
 contains_tail x y xs (k, h, e) = (suc k, omega arith, e)
 
 pub contains_cases : {A : Type 0} (x y : A) (xs : List A) → Contains (x ∷ xs) y → (x ≡ y) ⊎ Contains xs y
-contains_cases x y xs (zero, h, e) = inl e
-contains_cases x y xs (suc k, h, e) = inr (k, omega arith, e)
+contains_cases x y xs h = grind arith
 
 pub contains_none : {A : Type 0} (y : A) → Contains [] y → ⊥
 contains_none y (k, h, e) = omega arith
@@ -31,5 +30,4 @@ module _ {A : Type 0} {cmp : A → A → Ordering} (o : IsTotalOrder cmp) where
   rises_by (x ∷ xs) r = (λ y h. r.0 y (contains_from_has xs y h), rises_by xs r.1)
 
   pub rises_once : (xs ys : List A) → Rises cmp xs → Rises cmp ys → ((z : A) → Contains xs z → Contains ys z) → ((z : A) → Contains ys z → Contains xs z) → xs ≡ ys
-  rises_once xs ys r s to from = one_list (λ x y. cmp x y ≡ Less) (asymmetric o) xs ys (rises_by xs r) (rises_by ys s)
-      (λ z h. has_from_contains ys z (to z (contains_from_has xs z h))) (λ z h. has_from_contains xs z (from z (contains_from_has ys z h)))
+  rises_once xs ys r s to from = search (rules, one_list, asymmetric, rises_by, has_from_contains, contains_from_has)

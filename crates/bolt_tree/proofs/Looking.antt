@@ -1,5 +1,5 @@
 -- What a seek says of a bucket's entry with a key.
-use Rattle.std.proofs.Common.{◌≡◌, ◌∙◌, true, false, List, Option, Some, None, refl, sym, ap, subst}
+use Rattle.std.proofs.Common.{rules, ◌≡◌, ◌∙◌, true, false, List, Option, Some, None, refl, sym, ap, subst}
 use Rattle.bolt_tree.proofs.Words.{AreEntries, Checked, Cursor, HasStart, Key, LeafElement, Moves, Start, bytes_of, cursor_checked, cursor_place, cursor_start, entries_of, is_lt, key_cmp, least_from, meta_of, props, seek_move, start_of, with_trees, ∥∥₁_elim, ∥∥₁_map, ∥∥₁_prop}
 use Rattle.bolt_tree.proofs.{AllEntries.sorted_at, BucketWays.starts_below, Coming.neither, CursorMoves.comes_from}
 use Rattle.bolt_tree.proofs.{EntryOrder.contains_at, EntryOrder.seek_from, EntryOrder.seek_least, EntryOrder.seek_none, Named.entry_once, PathOrder.key_same}
@@ -19,9 +19,7 @@ module _ (checked : Checked) (bucket : Start) (fresh moved : Cursor) (key : Key)
   MovesFrom o = Moves (entries_of (cursor_checked fresh)) (cursor_start fresh) (λ entries place. seek_move key entries) (cursor_place fresh) (cursor_place moved) o
 
   here : (o : Option LeafElement) → MovesFrom o → Moves (entries_of checked) bucket (λ entries place. seek_move key entries) (cursor_place fresh) (cursor_place moved) o
-  here o moves =
-      subst (λ (s : Start). Moves (entries_of checked) s (λ entries place. seek_move key entries) (cursor_place fresh) (cursor_place moved) o) start
-      (subst (λ (c : Checked). Moves (entries_of c) (cursor_start fresh) (λ entries place. seek_move key entries) (cursor_place fresh) (cursor_place moved) o) file moves)
+  here o moves = search rules
 
   pub look_none : MovesFrom None → (e : LeafElement) → entries_of checked bucket e → e.key ≡ key → ⊥
   look_none moves e is same =

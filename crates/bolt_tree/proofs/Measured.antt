@@ -13,8 +13,7 @@ unfolding left_number
 number_falls old new member file given =
     let less : length (left_of new (the_listing (walk_checked old))) < length (left_of old (the_listing (walk_checked old))) =
     ∥∥₁_elim (is_the_listing (walk_checked old)) (hlevel props) (λ is. let n = ap length (given (the_listing (walk_checked old)) is) in omega (arith, n)) in
-    let same = ap (λ (c : Checked). length (left_of new (the_listing c))) file in
-    omega (arith, less, same)
+    grind arith
 
 pub walk_falls : (old new : Walk) {E : Type 0} (result : Result (Option Item) E) → walk_checked new ≡ walk_checked old
     → IfOk result (λ given. ForListing (walk_checked old) (λ listing. GivesNext (left_of old listing) (left_of new listing) (walk_path new) (option_map item_view given)))

@@ -1,13 +1,9 @@
 -- Moves from entry to entry. Within a leaf, one element more of the page on top of a stack is taken, in place.
-use Rattle.std.proofs.Common.{◌≡◌, ℕ, ◌<◌, Bool, true, false, List, [], ◌∷◌, ◌++◌, Some, None, Option, length, refl, ◌∙◌, arith, ◌≤◌, ◌+◌, ◌-◌, suc, take, slice_index_or, slice_set, sym, ap, append-nil, subst}
-use Rattle.bolt_tree.proofs.Words.{BucketView, Content, Contents, Finds, Frame, HasStack, IsAtRest, IsBeside, IsEntered, IsLast, IsOn, Leaf, LeafElement, Of_branch, Of_leaf, Position, RestsOn, StandsOn, contents_in, drop_all, elements_in, entries_to, frame_of, frames_of, get_or_default, length-set, nearer, opened_content, pages_in, pages_to, refill, later_of, later_under, root_content, slice_get_read, take-suc-set, take_all, take_next, taken_at}
+use Rattle.std.proofs.Common.{rules, ◌≡◌, ℕ, ◌<◌, Bool, true, false, List, [], ◌∷◌, ◌++◌, Some, None, length, ◌∙◌, arith, ◌≤◌, ◌+◌, ◌-◌, suc, take, slice_index_or, slice_set, sym, ap, append-nil, subst}
+use Rattle.std.proofs.lemmas.Grind.{common_steps}
+use Rattle.bolt_tree.proofs.Words.{BucketView, Content, Contents, Frame, HasStack, IsAtRest, IsBeside, IsEntered, IsLast, IsOn, LeafElement, Position, StandsOn, contents_in, drop_all, elements_in, entries_to, frame_of, frames_of, get_or_default, length-set, nearer, opened_content, pages_in, pages_to, refill, later_of, root_content, slice_get_read, take-suc-set, take_all, take_next, taken_at}
 use Rattle.bolt_tree.proofs.{BackLemmas.back_none, BackLemmas.back_some, BackLemmas.left_out, BackLemmas.root_behind, StackLemmas.root_ahead, StackLemmas.root_right}
 use Rattle.bolt_tree.proofs.TrailLemmas.{entered_length, entered_none, entered_some, exhausted, frames_push}
-
-pub found_over : (back : Bool) (found : Option Leaf) (whole before after : List LeafElement) (frames end : List Frame) → whole ≡ before → Finds back found before after frames end
-    → Finds back found whole after frames end
-found_over back None whole before after frames end e h = (e ∙ h.0, h.1)
-found_over back (Some leaf) whole before after frames end e h = (e ∙ h.0, h.1)
 
 -- One step of a move in a direction, from a stack with this page on top: an entry is taken, or a page is opened, or the page leaves the stack.
 module _ (bucket : BucketView) (f : Frame) (below : List Frame) where
@@ -16,8 +12,7 @@ module _ (bucket : BucketView) (f : Frame) (below : List Frame) where
 
   pub entry_taken : (back : Bool) (i : ℕ) (new : List Frame) (e : LeafElement) → IsBeside back f i → IsEntered inside back f.content i below new (Some e)
       → (entries_to back inside (f ∷ below) ≡ nearer back e (entries_to back inside new)) × IsOn new e × (pages_to back inside (f ∷ below) ≡ pages_to back inside new)
-  entry_taken false i new e is h = entered_some inside f.content f.taken below new e (rw (sym is.0) at h)
-  entry_taken true i new e is h = back_some inside f.content i f.taken below new e is.0 h
+  entry_taken back i new e is h = search (rules, entered_some, back_some)
 
   pub page_opened : (back : Bool) (i : ℕ) (new : List Frame) → IsBeside back f i → IsEntered inside back f.content i below new None → HasStack bucket new
       → (entries_to back inside (f ∷ below) ≡ entries_to back inside new) × (length (pages_to back inside (f ∷ below)) ≡ suc (length (pages_to back inside new)))
@@ -26,8 +21,7 @@ module _ (bucket : BucketView) (f : Frame) (below : List Frame) where
 
   pub page_left : (back : Bool) → HasStack bucket (f ∷ below) → IsLast back f
       → (entries_to back inside below ≡ entries_to back inside (f ∷ below)) × (pages_to back inside below ≡ pages_to back inside (f ∷ below))
-  page_left false stack last = exhausted bucket f below stack last
-  page_left true stack last = left_out bucket f below stack last
+  page_left back stack last = grind (arith, exhausted, left_out)
 
 -- The same, as a trail shows it that has gone to element i of the page.
 module _ (old now : BucketView) (whole below new : List Frame) (f : Frame) (same : now ≡ old) (frames : whole ≡ f ∷ below) (back : Bool) (i : ℕ) (beside : IsBeside back f i) where
@@ -44,33 +38,20 @@ module _ (old now : BucketView) (whole below new : List Frame) (f : Frame) (same
 -- at the edge of the root page, everything lies in the direction
 at_root : (back : Bool) (bucket : BucketView) → let frames : List Frame = record { content = root_content bucket; taken = taken_at back (root_content bucket) } ∷ [] in
     (elements_in bucket ≡ entries_to back (contents_in bucket) frames) × (length (pages_in bucket) ≡ suc (length (pages_to back (contents_in bucket) frames)))
-at_root false bucket = (sym (root_ahead bucket), root_right bucket)
-at_root true bucket = root_behind bucket
+at_root back bucket = grind (arith, root_ahead, root_right, root_behind)
 
 pub at_edge : (back : Bool) (bucket now : BucketView) (frames : List Frame) → now ≡ bucket → frames ≡ record { content = root_content bucket; taken = taken_at back (root_content bucket) } ∷ []
     → (elements_in bucket ≡ entries_to back (contents_in now) frames) × (length (pages_in bucket) ≡ suc (length (pages_to back (contents_in now) frames)))
 at_edge back bucket now frames same at = rw (same, at) (at_root back bucket)
 
--- Right of the only page of a stack at rest, which is a leaf, there is none; so where all of that leaf is taken, nothing is ahead.
-leaf_alone : (contents : Contents) (height : ℕ) (address : List ℕ) (content : Content) (taken : ℕ) → RestsOn content taken → later_under contents height address content taken ++ [] ≡ []
-leaf_alone contents height address (Of_leaf elements) taken rest = refl
-leaf_alone contents height address (Of_branch elements) taken rest = absurd rest
-
 pub alone : (contents : Contents) (frames : List Frame) → IsAtRest frames → length frames < 2 → later_of contents frames ≡ []
-alone contents [] rest few = refl
-alone contents (f ∷ []) rest few = leaf_alone contents 0 [] f.content f.taken rest
-alone contents (f ∷ g ∷ below) rest few = absurd (omega (arith, few))
+alone contents frames rest few = grind (arith, common_steps)
 
 last_is : (items : List Position) (last : ℕ) (top : Position) → length items ≡ suc last → top ≡ slice_index_or items last top → items ≡ take last items ++ top ∷ []
 last_is items last top long read = sym (take_all (suc last) items (omega (arith, long))) ∙ take_next items last top (slice_get_read items (suc last) last top (sym long) (omega arith) read)
 
 refilled : (items : List Position) (last : ℕ) (put : Position) → length items ≡ suc last → refill (length items) items (slice_set items last put) ≡ take last items ++ put ∷ []
-refilled items last put long =
-    let n = length items in
-    let ws = slice_set items last put in
-    let same : length ws ≡ n = length-set items last put in
-    ap (λ (rest : List Position). take n (ws ++ rest)) (drop_all (length ws) items (omega (arith, same)))
-    ∙ (ap (take n) (append-nil ws) ∙ (sym (ap (λ (k : ℕ). take k ws) (sym long)) ∙ take-suc-set items last put (omega (arith, long))))
+refilled items last put long = grind (arith, slice_set, length-set, drop_all, append-nil, long, take-suc-set)
 
 module _ (items shared lent : List Position) (n last : ℕ) (top d e : Position) (len : n ≡ length items) (some : 1 ≤ n) (is_last : last ≡ n - 1)
     (read : top ≡ slice_index_or shared last top) (same : shared ≡ items) (again : lent ≡ items) where
@@ -88,15 +69,9 @@ module _ (items shared lent : List Position) (n last : ℕ) (top d e : Position)
 
   pub is : frames_of (refill (length items) items (slice_set lent last (record { page = (slice_index_or lent last e).page; taken = (slice_index_or lent last d).taken + 1 })))
       ≡ record { content = opened_content top.page; taken = top.taken + 1 } ∷ frames_of (take last items)
-  is =
-      let put : Position = record { page = top.page; taken = top.taken + 1 } in
-      ap (λ (p : Position). frames_of (refill (length items) items (slice_set lent last (record { page = p.page; taken = (slice_index_or lent last d).taken + 1 })))) (found e)
-      ∙ (ap (λ (p : Position). frames_of (refill (length items) items (slice_set lent last (record { page = top.page; taken = p.taken + 1 })))) (found d)
-      ∙ (ap (λ (ps : List Position). frames_of (refill (length items) items (slice_set ps last put))) again
-      ∙ (ap frames_of (refilled items last put long) ∙ frames_push (take last items) put)))
+  is = grind (arith, common_steps, refill, slice_set, slice_index_or, refilled, long, frames_push)
 
 -- the entry on which a leaf stands then was taken
 pub taken_entry : (contents : Contents) (content : Content) (i : ℕ) (below new : List Frame) (e : LeafElement) → StandsOn content (i + 1) e → new ≡ record { content = content; taken = i + 1 } ∷ below
     → IsEntered contents false content i below new (Some e)
-taken_entry contents (Of_leaf elements) i below new e stands put = (let back : (i + 1) - 1 ≡ i = omega arith in rw back at stands.1, put)
-taken_entry contents (Of_branch elements) i below new e stands put = absurd stands
+taken_entry contents content i below new e stands put = grind arith

@@ -1,6 +1,6 @@
 -- What a bucket that a path names holds, and what the path holds below it.
 -- Entries of one key are one, so both say the same.
-use Rattle.std.proofs.Common.{◌≡◌, ◌∙◌, ◌⊎◌, inl, inr, IsTrue, List, [], ◌∷◌, ◌++◌, refl, sym, ap, subst, append_assoc}
+use Rattle.std.proofs.Common.{arith, ◌≡◌, ◌∙◌, ◌⊎◌, inl, inr, IsTrue, List, [], ◌∷◌, ◌++◌, refl, sym, ap, subst, append_assoc}
 use Rattle.bolt_tree.proofs.Words.{AreEntries, Contains, Equal, HasEntries, Holds, IsBelow, Item, Key, LeafElement, Less, Names, Path, Rises, Start, entry_cmp, item_of, key_cmp, start_of}
 use Rattle.bolt_tree.proofs.{Lists.contains_cases, Lists.contains_none, PathOrder.key_same}
 
@@ -34,13 +34,11 @@ module _ (Entry : Start → LeafElement → Type 0) where
 
   -- what is held through an entry
   pub first_of_held : (from : Start) (k : Key) (r : Path) (item : Item) → Holds Entry from (k ∷ r) item → (e : LeafElement) × Entry from e × (e.key ≡ k)
-  first_of_held from k [] item (e, is, key, same) = (e, is, key)
-  first_of_held from k (next ∷ r) item (e, is, key, b, more) = (e, is, key)
+  first_of_held from k r item h = grind arith
 
   step_up : (from : Start) (e : LeafElement) (k x : Key) (r : Path) (item : Item) → Entry from e → e.key ≡ k → IsTrue e.is_bucket
       → (p : Path) → Holds Entry (start_of e.value) (p ++ x ∷ r) item → Holds Entry from (k ∷ (p ++ x ∷ r)) item
-  step_up from e k x r item is key b [] h = (e, is, key, b, h)
-  step_up from e k x r item is key b (y ∷ p) h = (e, is, key, b, h)
+  step_up from e k x r item is key b p h = grind arith
 
   pub held_up : (from : Start) (path : Path) (bucket : Start) (x : Key) (r : Path) (item : Item) → Names Entry from path bucket → Holds Entry bucket (x ∷ r) item
       → Holds Entry from (path ++ x ∷ r) item

@@ -1,5 +1,5 @@
 -- The nearest leaf to a key: the way down to it, step by step, and what lies ahead of the key there.
-use Rattle.std.proofs.Common.{◌≡◌, ℕ, suc, ◌+◌, ◌-◌, ◌≤◌, inl, inr, true, false, List, [], ◌∷◌, ◌++◌, Some, slice_get, length, map, drop, take, refl, sym, ap, ◌∙◌, subst, arith, append_assoc, length-append, append-nil, zero}
+use Rattle.std.proofs.Common.{◌≡◌, ℕ, suc, ◌+◌, ◌-◌, ◌≤◌, inl, inr, true, false, List, [], ◌∷◌, ◌++◌, Some, slice_get, length, map, drop, take, refl, sym, ap, ◌∙◌, subst, arith, append_assoc, length-append, append-nil}
 use Rattle.bolt_tree.proofs.Words.{AreBelow, BranchElement, BucketView, Content, Contents, Frame, HasSoundTrees, HasStack, Inline_page, IsBetween, IsLeafTop, IsNear, IsNearFrom, IsNearTo, IsNearTop, IsNearest, IsOnWayDown, IsPlaceOf, IsSought, IsSoundBucket, IsStart, Key, KeysRise, LeafElement, Meta, Of_branch, Of_leaf, Root_page, Start, TourPage, address_on, ahead_of, branch_key, branch_node, cases_lt, content_at, content_at_start, content_keys, content_length, contents_in, elements_in, elements_of, key_lt, least_from, passed_of, none-some, on_child, opened_content, option_map, pages_in, props, later_of, root_content, shown, slice_get-map, spot_node, tour, ∥∥₁_elim, ∥∥₁_map, ∥∥₁_prop}
 use Rattle.bolt_tree.proofs.{PlaceMoves.drop_front, PlaceMoves.leaf_parts}
 use Rattle.bolt_check.proofs.Lists.{Has, has_right, rises_gets}
@@ -12,9 +12,8 @@ use Rattle.bolt_tree.specs.declared.opened.Opened.TheVariants.{Branch, Inline, L
 
 -- the element with a key
 key_at : {X : Type 0} (f : X → Key) (xs : List X) (i : ℕ) (a : Key) → slice_get (map f xs) i ≡ Some a → (x : X) × (slice_get xs i ≡ Some x) × (f x ≡ a)
-key_at f [] i a g = absurd (none-some a g)
-key_at f (x ∷ xs) zero a g = (x, refl, cc)
 key_at f (x ∷ xs) (suc i) a g = key_at f xs i a g
+key_at f xs i a g = grind (arith, none-some)
 
 -- the keys of a page on a stack rise
 leaf_rises : (bucket : BucketView) (es : List LeafElement) (t : ℕ) (below : List Frame) → HasStack bucket (record { content = Of_leaf es; taken = t } ∷ below) → KeysRise (content_keys (Of_leaf es))
@@ -45,8 +44,7 @@ stack_rises bucket (Of_branch bs) t below stack = branch_rises bucket bs t below
 
 -- the way down begins at the root page
 near_begin : (file : List ℕ) (meta : Meta) (start : Start) (key : Key) → IsStart file meta start → IsNearTo file meta start key [] (content_at_start (content_at file meta) start)
-near_begin file meta (Root_page number) key is = (number, 1, is, refl, λ rest n. n)
-near_begin file meta (Inline_page elements) key is = (refl, refl)
+near_begin file meta start key is = grind arith
 
 pub way_begins : (bucket : BucketView) (key : Key) → ∥ IsSoundBucket bucket ∥₁ → IsOnWayDown bucket key [] (root_content bucket)
 way_begins bucket key is = ∥∥₁_map is (λ s. near_begin bucket.file bucket.meta bucket.start key s.start)
@@ -113,12 +111,7 @@ sought_leaf contents n whole key es t below placed place most between =
     (λ k e g. let r = take_get es t k e g in place.below k e.key r.1 (leaf_key_at es k e r.0)) in
     let back : AreBelow false key (drop t es ++ right) = are_append false key (drop t es) right
     (λ k e g. let r = drop_get es t k (t + k) e refl g in place.above (t + k) e.key (omega arith) (leaf_key_at es (t + k) e r)) between.later in
-    let least : least_from key ((elements_of whole)) ≡ length (left ++ take t es) = ap (λ (l : List LeafElement). least_from key l) parts ∙ least_is key (left ++ take t es) (drop t es ++ right) front back in
-    let len : length (elements_of whole) ≡ length (left ++ take t es) + length (drop t es ++ right) = ap length parts ∙ length-append (left ++ take t es) (drop t es ++ right) in
-    record {
-      number = omega (arith, least, len);
-      rest = ap (λ (k : ℕ). drop k (elements_of whole)) least ∙ (ap (drop (length (left ++ take t es))) parts ∙ drop_front (left ++ take t es) (drop t es ++ right) (length (left ++ take t es)) refl);
-    }
+    grind (arith, least_is, length-append, drop_front)
 
 pub sought : (bucket : BucketView) (key : Key) (es : List LeafElement) (t u : ℕ) (below : List Frame) → HasStack bucket (record { content = Of_leaf es; taken = u } ∷ below)
     → IsPlaceOf (content_keys (Of_leaf es)) false key t → t ≤ length es → IsBetween (contents_in bucket) key below
@@ -140,10 +133,7 @@ pub moved_way : (old now : BucketView) (key : Key) (under below : List Frame) (a
 moved_way old now key under below a d e g h way = rw (e, g, h) way
 
 pub begins : (contents : Contents) (key : Key) → IsBetween contents key []
-begins contents key = record {
-  passed = λ k e g. absurd (none-some e g);
-  later = λ k e g. absurd (none-some e g);
-}
+begins contents key = grind arith
 
 -- what is no branch shows a leaf
 pub shows_leaf : (opened : Opened) → ((page : BranchPage) → opened ≡ Branch page → ⊥) → (es : List LeafElement) × (opened_content opened ≡ Of_leaf es)

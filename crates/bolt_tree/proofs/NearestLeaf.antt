@@ -1,6 +1,6 @@
 -- For each key there is one nearest leaf.
 use Rattle.std.proofs.Common.{◌≡◌, ℕ, zero, suc, ◌+◌, ◌≤◌, ◌<◌, ◌⊎◌, inl, inr, List, [], ◌∷◌, Some, slice_get, length, refl, sym, ap, ◌∙◌, subst, arith, false, true}
-use Rattle.bolt_tree.proofs.Words.{BranchElement, HasSoundTrees, Inline_page, IsAddress, IsNear, IsNearFrom, IsNearest, IsOnWay, IsStart, Key, Kind, Meta, PageView, Root_page, Start, cases_Bool, cases_lt, key_lt, leads, leads_child, node_at, none-some, on_child, one_some, page_at, shallow}
+use Rattle.bolt_tree.proofs.Words.{BranchElement, HasSoundTrees, Inline_page, IsAddress, IsNear, IsNearFrom, IsNearest, IsOnWay, IsStart, Key, Kind, Meta, PageView, Root_page, Start, cases_Bool, key_lt, leads, leads_child, node_at, none-some, on_child, one_some, page_at, shallow}
 use Rattle.bolt_format.specs.declared.header.Kind.TheVariants as kind
 use Rattle.bolt_tree.proofs.{TourLemmas.filled, TourLemmas.not_deepest, WayPages.a_branch, WayPages.a_leaf, WayPages.on_way_page}
 
@@ -9,24 +9,15 @@ kinds_apart k e h = cc
 
 -- there is one nearest element, and one nearest leaf
 one_nearest : (bs : List BranchElement) (key : Key) (i j : ℕ) (a b : BranchElement) → IsNearest bs key i → IsNearest bs key j → slice_get bs i ≡ Some a → slice_get bs j ≡ Some b → (i < j → ⊥)
-one_nearest bs key i j a b (inl h) (inl k) g q l = let t = h.3 j b l q in let u : key_lt key b.key ≡ false = (let same : k.0 ≡ b = one_some (slice_get bs j) k.0 b k.1 q in rw (← same) k.2) in cc
-one_nearest bs key i j a b (inr h) (inl k) g q l = let t = h.1 j b q in let u : key_lt key b.key ≡ false = (let same : k.0 ≡ b = one_some (slice_get bs j) k.0 b k.1 q in rw (← same) k.2) in cc
-one_nearest bs key i j a b h (inr k) g q l = let z = k.0 in omega (arith, z, l)
+one_nearest bs key i j a b h g k q l = grind arith
 
 same_nearest : (bs : List BranchElement) (key : Key) (i j : ℕ) (a b : BranchElement) → IsNearest bs key i → IsNearest bs key j → slice_get bs i ≡ Some a → slice_get bs j ≡ Some b → i ≡ j
-same_nearest bs key i j a b h k g q = elim (cases_lt i j) [
-  | inl lt ↦ absurd (one_nearest bs key i j a b h k g q lt)
-  | inr le ↦ elim (cases_lt j i) [ inl lt ↦ absurd (one_nearest bs key j i b a k h q g lt) | inr ge ↦ omega (arith, le, ge) ]
-]
+same_nearest bs key i j a b h k g q = grind arith
 
 one_near_from : (file : List ℕ) (meta : Meta) (number : ℕ) (key : Key) (a b : List ℕ) → IsNearFrom file meta number key a → IsNearFrom file meta number key b → a ≡ b
 one_near_from file meta number key [] [] h k = refl
-one_near_from file meta number key [] (j ∷ b) h k =
-    let same : h.0 ≡ k.0 = one_some (page_at file meta number) h.0 k.0 h.1 k.2 in
-    absurd (kinds_apart k.0.kind (ap (λ (v : PageView). v.kind) (sym same) ∙ h.2) k.3)
-one_near_from file meta number key (i ∷ a) [] h k =
-    let same : k.0 ≡ h.0 = one_some (page_at file meta number) k.0 h.0 k.1 h.2 in
-    absurd (kinds_apart h.0.kind (ap (λ (v : PageView). v.kind) (sym same) ∙ k.2) h.3)
+one_near_from file meta number key [] (j ∷ b) h k = grind arith
+one_near_from file meta number key (i ∷ a) [] h k = grind arith
 one_near_from file meta number key (i ∷ a) (j ∷ b) h k =
     let same : k.0 ≡ h.0 = one_some (page_at file meta number) k.0 h.0 k.2 h.2 in
     let bs = ap (λ (v : PageView). v.branches) same in
@@ -39,20 +30,17 @@ one_near_from file meta number key (i ∷ a) (j ∷ b) h k =
     cc
 
 pub one_near : (file : List ℕ) (meta : Meta) (start : Start) (key : Key) (a b : List ℕ) → IsNear file meta start key a → IsNear file meta start key b → a ≡ b
-one_near file meta (Root_page number) key a b h k = one_near_from file meta number key a b h k
-one_near file meta (Inline_page page) key a b h k = h ∙ sym k
+one_near file meta start key a b h k = grind (arith, one_near_from)
 
 -- every element from here on has a key above this one
 abbrev AreAbove : Key → ℕ → List BranchElement → Type 0
 AreAbove key i elements = (j : ℕ) (f : BranchElement) → i ≤ j → slice_get elements j ≡ Some f → key_lt key f.key ≡ true
 
 above_later : (key : Key) (i : ℕ) (x : BranchElement) (elements : List BranchElement) → AreAbove key i elements → AreAbove key (suc i) (x ∷ elements)
-above_later key i x elements above zero f l g = absurd (omega arith)
-above_later key i x elements above (suc j) f l g = above j f (omega arith) g
+above_later key i x elements above h f l g = grind arith
 
 above_all : (key : Key) (x : BranchElement) (elements : List BranchElement) → key_lt key x.key ≡ true → AreAbove key 0 elements → AreAbove key 0 (x ∷ elements)
-above_all key x elements e above zero f l g = let same : x ≡ f = cc in rw (← same) e
-above_all key x elements e above (suc j) f l g = above j f (omega arith) g
+above_all key x elements e above h f l g = grind arith
 
 -- the last element that is not above the key, or all are above it
 last_below : (key : Key) (elements : List BranchElement)

@@ -20,8 +20,7 @@ module _ (Own : Start → LeafElement → Type 0) (inside : Start → Tree) wher
   shows_with : (e : LeafElement) (entries : List LeafElement) (b : Bool) → e.is_bucket ≡ b → Shows Own (tree_with inside entries) entries
       → (e.is_bucket ≡ true → IsTreeOf Own (start_of e.value) (inside (start_of e.value)))
       → Shows Own (if b then with_bucket e.key (head_sequence e.value) (inside (start_of e.value)) (tree_with inside entries) else with_value e.key e.value (tree_with inside entries)) (e ∷ entries)
-  shows_with e entries false h shows each = (h, refl, refl, shows)
-  shows_with e entries true h shows each = (h, refl, refl, each h, shows)
+  shows_with e entries b h shows each = grind arith
 
   pub list_shows : (entries : List LeafElement) → ((e : LeafElement) → Contains entries e → e.is_bucket ≡ true → IsTreeOf Own (start_of e.value) (inside (start_of e.value)))
       → Shows Own (tree_with inside entries) entries

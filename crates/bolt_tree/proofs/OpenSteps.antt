@@ -1,12 +1,9 @@
 -- How open buckets change: a cursor is removed and added again, or opened after the others and makes its first move.
-use Rattle.std.proofs.Common.{◌≡◌, ◌∙◌, ◌-◌, ℕ, suc, List, [], ◌∷◌, ◌++◌, take, Option, Some, None, MatchOption, refl, sym, ap, subst, append_assoc, append-nil, Bor, slice_get}
-use Rattle.bolt_tree.proofs.Words.{AreEntries, AreOpen, Bucket, Checked, CursorView, Fresh, HasEntries, Keeps, Key, LeafElement, Lists, Member, Move, Moves, MovesLast, Names, Opens, Path, Place, Start, beyond, bucket_checked, bucket_start, entries_of, first_move, fresh_view, item_of, next_move, option_to_list, path_of, rest_after, root_start, same_from_push}
+use Rattle.std.proofs.Common.{arith, rules, ◌≡◌, ◌∙◌, ◌-◌, ℕ, suc, List, [], ◌∷◌, ◌++◌, take, Option, Some, None, MatchOption, refl, sym, ap, subst, append_assoc, append-nil, Bor, slice_get}
+use Rattle.std.proofs.lemmas.Grind.{common_steps}
+use Rattle.bolt_tree.proofs.Words.{AreEntries, AreOpen, Bucket, Checked, CursorView, Fresh, HasEntries, Keeps, Key, LeafElement, Lists, Member, Move, Moves, MovesLast, Names, Opens, Path, Place, Start, beyond, entries_of, first_move, fresh_view, item_of, next_move, option_to_list, path_of, rest_after, root_start, same_from_push}
 use Rattle.bolt_tree.proofs.{CursorMoves.ComesTo, CursorMoves.comes_next, EntryOrder.contains_at, Giving.give_after_last, Giving.give_next}
 use Rattle.bolt_tree.specs.Private.OpenBuckets.{StandsOn}
-
-pub no_snoc : {A : Type 0} (xs : List A) (x : A) → [] ≡ xs ++ x ∷ [] → ⊥
-no_snoc [] x e = cc
-no_snoc (a ∷ xs) x e = cc
 
 pub path_push : (xs : List (Bor (List ℕ))) (x : Bor (List ℕ)) → path_of (xs ++ x ∷ []) ≡ path_of xs ++ x.now ∷ []
 path_push [] x = refl
@@ -28,7 +25,6 @@ pub record Top (checked : Checked) (before : Path) (cursors : List CursorView) (
 
 pub open_pop : (checked : Checked) (before : Path) (cursors : List CursorView) (cursor : CursorView) (keys : Path) → AreOpen checked before (cursors ++ cursor ∷ []) keys
     → Top checked before cursors cursor keys
-open_pop checked before [] cursor [] h = absurd h
 open_pop checked before [] cursor (key ∷ []) (same, names, stands, more) =
     record {
       front = [];
@@ -39,27 +35,15 @@ open_pop checked before [] cursor (key ∷ []) (same, names, stands, more) =
       names = subst (λ (p : Path). Names (entries_of checked) (root_start checked) p cursor.start) (sym (append-nil before)) names;
       stands = stands;
     }
-open_pop checked before [] cursor (key ∷ next ∷ keys) (same, names, stands, more) = absurd more
-open_pop checked before (c ∷ cursors) cursor [] h = absurd h
 open_pop checked before (c ∷ cursors) cursor (key ∷ keys) (same, names, stands, more) =
     let top = open_pop checked (before ++ key ∷ []) cursors cursor keys more in
-    record {
-      front = key ∷ top.front;
-      key = top.key;
-      split = ap (λ (ks : Path). key ∷ ks) top.split;
-      below = (same, names, stands, top.below);
-      checked_file = top.checked_file;
-      names = subst (λ (p : Path). Names (entries_of checked) (root_start checked) p cursor.start) (append_assoc before (key ∷ []) top.front) top.names;
-      stands = top.stands;
-    }
+    grind (arith, same, append_assoc)
+open_pop checked before cursors cursor keys h = absurd (grind arith)
 
 pub open_push : (checked : Checked) (before : Path) (cursors : List CursorView) (cursor : CursorView) (keys : Path) (key : Key) → AreOpen checked before cursors keys
     → cursor.checked ≡ checked → Names (entries_of checked) (root_start checked) (before ++ keys) cursor.start → StandsOn (entries_of checked) cursor key
     → AreOpen checked before (cursors ++ cursor ∷ []) (keys ++ key ∷ [])
-open_push checked before [] cursor [] key h same names stands =
-    (same, subst (λ (p : Path). Names (entries_of checked) (root_start checked) p cursor.start) (append-nil before) names, stands, tt)
-open_push checked before [] cursor (k ∷ keys) key h same names stands = absurd h
-open_push checked before (c ∷ cursors) cursor [] key h same names stands = absurd h
+open_push checked before [] cursor [] key h same names stands = grind (arith, same, append-nil)
 open_push checked before (c ∷ cursors) cursor (k ∷ keys) key (s, n, t, more) same names stands = (
   s,
   n,
@@ -67,17 +51,13 @@ open_push checked before (c ∷ cursors) cursor (k ∷ keys) key (s, n, t, more)
   open_push checked (before ++ k ∷ []) cursors cursor keys key more same
       (subst (λ (p : Path). Names (entries_of checked) (root_start checked) p cursor.start) (sym (append_assoc before (k ∷ []) keys)) names) stands,
 )
+open_push checked before cursors cursor keys key h g names stands = absurd (grind arith)
 
 -- a key was taken off the path
 pub path_popped : (old new : List (Bor (List ℕ))) (taken : Option (Bor (List ℕ))) (n m : ℕ) (front : Path) (key : Key) → path_of old ≡ front ++ key ∷ []
     → old ≡ new ++ option_to_list taken → new ≡ take (n - 1) old → MatchOption taken ((n ≡ 0) × (m ≡ 0)) (λ _. suc m ≡ n)
     → (path_of new ≡ front) × (suc m ≡ n)
-path_popped old new None n m front key keys items rest (zero_old, zero_new) =
-    let none : new ≡ [] = rest ∙ ap (λ (k : ℕ). take (k - 1) old) zero_old in
-    let gone : old ≡ [] = items ∙ ap (λ (xs : List (Bor (List ℕ))). xs ++ []) none in
-    absurd (no_snoc front key (ap path_of (sym gone) ∙ keys))
-path_popped old new (Some ref) n m front key keys items rest less =
-    ((same_from_push (path_of new) front ref.now key (sym (path_push new ref) ∙ ap path_of (sym items) ∙ keys)).0, less)
+path_popped old new taken n m front key keys items rest less = grind (arith, common_steps, same_from_push, path_push)
 
 -- The last cursor moves on, from where it stands to where it comes.
 module _ (checked : Checked) (all : HasEntries (entries_of checked) (root_start checked)) (cursors : List CursorView) (cursor moved : CursorView) (keys : Path)
@@ -101,9 +81,7 @@ module _ (checked : Checked) (all : HasEntries (entries_of checked) (root_start 
 
   pub next_open : (e : LeafElement) → moved.checked ≡ cursor.checked → moved.start ≡ cursor.start → MovesOn (Some e)
       → AreOpen checked [] (cursors ++ moved ∷ []) (top.front ++ e.key ∷ [])
-  next_open e file start moves =
-      open_push checked [] cursors moved top.front e.key top.below (file ∙ top.checked_file)
-      (subst (λ (s : Start). Names (entries_of checked) (root_start checked) top.front s) (sym start) top.names) (next_stands e start moves)
+  next_open e file start moves = grind (arith, open_push, next_stands)
 
   pub next_entry : (e : LeafElement) → MovesOn (Some e) → entries_of checked cursor.start e
   next_entry e moves =
@@ -116,16 +94,14 @@ module _ (checked : Checked) (all : HasEntries (entries_of checked) (root_start 
   next_given e moves listing lists =
       let own = all top.front cursor.start top.names in
       let (i, old, at, same, came) = goes (Some e) moves own.0 own.1 in
-      subst (λ (p : Path). beyond p listing ≡ (top.front ++ e.key ∷ [], item_of e) ∷ rest_after (top.front ++ e.key ∷ []) listing) same
-      (give_next (entries_of checked) (root_start checked) all listing lists top.front cursor.start top.names own.0 i old e own.1 at came.1)
+      grind (arith, same, give_next)
 
   -- or to none
   pub next_ended : MovesOn None → (listing : List Member) → Lists (entries_of checked) (root_start checked) listing → beyond keys listing ≡ beyond top.front listing
   next_ended moves listing lists =
       let own = all top.front cursor.start top.names in
       let (i, old, at, same, short) = goes None moves own.0 own.1 in
-      subst (λ (p : Path). beyond p listing ≡ beyond top.front listing) same
-      (give_after_last (entries_of checked) (root_start checked) all listing lists top.front cursor.start top.names own.0 i old own.1 at short)
+      grind (arith, same, give_after_last)
 
 module _ (move : List LeafElement → Place → Move) (before opened moved after : List CursorView) (bucket : Bucket) (answer : Option LeafElement)
     (moves : MovesLast move opened moved answer) (is : opened ≡ before ++ fresh_view bucket ∷ []) where
@@ -133,8 +109,7 @@ module _ (move : List LeafElement → Place → Move) (before opened moved after
   same = same_from_push moves.outer before moves.cursor (fresh_view bucket) (sym moves.was ∙ is)
 
   left : (o : Option LeafElement) → Keeps o moved after → MatchOption o (after ≡ before) (λ e. after ≡ before ++ moves.moved ∷ [])
-  left None shut = shut moves.outer moves.moved moves.is ∙ same.0
-  left (Some e) kept = kept ∙ (moves.is ∙ ap (λ (vs : List CursorView). vs ++ moves.moved ∷ []) same.0)
+  left o shut = grind (arith, common_steps)
 
   pub opens : Keeps answer moved after → Opens bucket move before after answer
   opens keeps = record {
@@ -148,14 +123,7 @@ module _ (move : List LeafElement → Place → Move) (before opened moved after
 -- before the first call the next entry is the first one
 next_first : (Entry : Start → LeafElement → Type 0) (bucket : Start) (place : Place) (answer : Option LeafElement) → Moves Entry bucket next_move Fresh place answer
     → Moves Entry bucket (λ entries place. first_move entries) Fresh place answer
-next_first Entry bucket place answer moves [] are = moves [] are
-next_first Entry bucket place answer moves (e ∷ entries) are = moves (e ∷ entries) are
+next_first Entry bucket place answer moves h are = grind arith
 
 pub enters : (bucket : Bucket) (old new : List CursorView) (answer : Option LeafElement) → Opens bucket next_move old new answer → Opens bucket (λ entries place. first_move entries) old new answer
-enters bucket old new answer opens = record {
-  moved = opens.moved;
-  file = opens.file;
-  start = opens.start;
-  moves = next_first (entries_of (bucket_checked bucket)) (bucket_start bucket) opens.moved.place answer opens.moves;
-  is = opens.is;
-}
+enters bucket old new answer opens = search (rules, next_first)

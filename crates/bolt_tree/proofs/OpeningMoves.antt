@@ -65,14 +65,12 @@ module _ (bucket : BucketView) where
       → Finds false found (ahead_of (contents_in bucket) from) (ahead_of (contents_in bucket) frames) frames from
       → new ≡ counted old (length (later_of (contents_in bucket) from) - opened_to (option_map leaf_view found) (later_of (contents_in bucket) frames))
       → OpensByNext bucket (place_on (contents_in bucket) from) old new
-  next_opens found [] frames old new is stack rest some stack2 h opened = absurd (some refl)
   next_opens None (f ∷ below) frames old new is stack rest some stack2 h opened = λ entries gap are up.
       let all = the_entries bucket entries is are in
       let a = ahead_number (elements_in bucket) (contents_in bucket) f below (split bucket f below stack rest) in
       let here = all_upto up.0 (suc (index_of (contents_in bucket) (f ∷ below))) is (omega (arith, a, ap length h.0)) (rw (← all) at up.2) in
       let g = up.4 in
       opened ∙ ap (counted old) (omega (arith, here, stack_upto f below up.1 stack rest (rw (← all) at up.3), g))
-  next_opens (Some leaf) (f ∷ below) [] old new is stack rest some stack2 h opened = absurd h.1
   next_opens (Some leaf) (f ∷ below) (k ∷ under) old new is stack rest some stack2 h opened = λ entries gap are up.
       let all = the_entries bucket entries is are in
       let rest2 = on_rests (k ∷ under) (leaf_view leaf) h.1 in
@@ -81,6 +79,7 @@ module _ (bucket : BucketView) where
       let next : suc (index_of (contents_in bucket) (f ∷ below)) ≡ index_of (contents_in bucket) (k ∷ under) = omega (arith, a, b, ap length h.0) in
       let up2 : IsUpTo (index_of (contents_in bucket) (k ∷ under)) up.0 = rw (← next) (rw (← all) at up.2) in
       opened ∙ ap (counted old) (omega (arith, stack_upto k under up.0 stack2 rest2 up2, stack_upto f below up.1 stack rest (rw (← all) at up.3), up.4))
+  next_opens found from frames old new is stack rest some stack2 h opened = absurd (grind arith)
 
 pub length-address : (frames : List Frame) → length (address_on frames) ≡ length frames
 length-address [] = refl
@@ -96,23 +95,21 @@ further : (bucket : BucketView) (s : IsSoundBucket bucket) (key : Key) (found : 
     → Finds false found (ahead_of (contents_in bucket) (record { content = content; taken = taken } ∷ below)) (ahead_of (contents_in bucket) frames) frames []
     → HasCount (IsSeekPage bucket.file bucket.meta bucket.start (address_on below) (slice_get (elements_in bucket) (least_from key (elements_in bucket)))) n
     → n ≡ length (later_of (contents_in bucket) (record { content = content; taken = taken } ∷ below)) - opened_to (option_map leaf_view found) (later_of (contents_in bucket) frames)
-further bucket s key found (Of_branch bs) taken below frames n stack leaf sought stack2 h count = absurd leaf
 further bucket s key None (Of_leaf es) taken below frames n stack leaf sought stack2 h count =
     let number = sought.number in
     let none = ap length h.0 in
     let past : slice_get (elements_in bucket) (least_from key (elements_in bucket)) ≡ None = slice_get_past (elements_in bucket) (least_from key (elements_in bucket)) (omega (arith, number, none)) in
     omega (arith, exact_is (after_exact bucket s (leaf_cut bucket es below stack.0.placed)) (rw past at count))
-further bucket s key (Some leaf) (Of_leaf es) taken below [] n stack top sought stack2 h count = absurd h.1
 further bucket s key (Some leaf) (Of_leaf es) taken below (g ∷ under) n stack top sought stack2 h count =
     let i = least_from key (elements_in bucket) in
     let got : slice_get (elements_in bucket) i ≡ Some (leaf_view leaf) = get_next (elements_in bucket) i (leaf_view leaf) (ahead_of (contents_in bucket) (g ∷ under)) (sought.rest ∙ h.0) in
     let at = stands_at bucket g.content g.taken under (leaf_view leaf) h.1 stack2.0.placed in
     omega (arith, exact_is (seek_exact bucket s (leaf_cut bucket es below stack.0.placed) (leaf_view leaf) at.0) (rw got at count), ap length at.1)
+further bucket s key found content taken below frames n stack leaf sought stack2 h count = absurd (grind arith)
 
 -- nothing comes later than where it comes to at the end
 right_end : (contents : Contents) (found : Option Leaf) (before after : List LeafElement) (frames : List Frame) → Finds false found before after frames [] → length (later_of contents frames) ≡ opened_to (option_map leaf_view found) (later_of contents frames)
-right_end contents None before after frames h = ap (λ (fs : List Frame). length (later_of contents fs)) h.1
-right_end contents (Some leaf) before after frames h = refl
+right_end contents found before after frames h = grind arith
 
 -- what a seek opens
 pub seek_opens : (bucket : BucketView) (key : Key) (found : Option Leaf) (landed frames : List Frame) (old new : ℕ) → ∥ IsSoundBucket bucket ∥₁ → HasStack bucket landed → IsLeafTop landed → IsNearTop bucket key landed
@@ -141,5 +138,4 @@ seek_bounds bucket key (f ∷ below) compared stack leaf top few = λ near is.
     (omega (arith, depth, stack_short bucket f below stack), omega (arith, depth, few))
 
 pub leaf_nonempty : (frames : List Frame) → IsLeafTop frames → 1 ≤ length frames
-leaf_nonempty [] leaf = absurd leaf
-leaf_nonempty (f ∷ below) leaf = omega arith
+leaf_nonempty frames leaf = grind arith

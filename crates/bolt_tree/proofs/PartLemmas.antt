@@ -1,7 +1,7 @@
 -- The part of a listing below a path: its members stand together, and a walk from the later of two paths comes to all of them that don't
 -- come before the other.
-use Rattle.std.proofs.Common.{◌≡◌, ◌∙◌, inl, inr, Bool, true, false, not, List, [], ◌∷◌, ◌++◌, length, drop, cond, filter, refl, sym, ap, append-nil}
-use Rattle.bolt_tree.proofs.Words.{All-contains, All-contains_itself, All-filter, Contains, Equal, Greater, Item, Less, Member, Ordering, Path, Rises, bytes_eq-Decides, false_from_ne_true, filter_passes, if◌then◌else◌, is_beyond, is_lt, less_of, member_cmp, not-true, ordering_reverse, path_cmp, rest_from, starts_is, take_while, take_while-cons}
+use Rattle.std.proofs.Common.{arith, ◌≡◌, ◌∙◌, inl, inr, Bool, true, false, not, List, [], ◌∷◌, ◌++◌, length, drop, cond, filter, refl, sym, ap, append-nil}
+use Rattle.bolt_tree.proofs.Words.{All-contains, All-contains_itself, All-filter, Contains, Equal, Greater, Item, Less, Member, Ordering, Path, Rises, bytes_eq-Decides, false_from_ne_true, filter_passes, is_beyond, is_lt, less_of, member_cmp, not-true, ordering_reverse, path_cmp, rest_from, starts_is, take_while, take_while-cons}
 use Rattle.bolt_tree.proofs.{Filters.filter_all, Filters.filter_first, Filters.filter_none, Single.member_total}
 use Rattle.bolt_tree.proofs.Lists.{contains_head, contains_tail, irreflexive}
 use Rattle.bolt_tree.proofs.PathOrder.{before_longer, beyond_less, beyond_or_longer, beyond_up, flip_less, path_exact, path_same, path_total}
@@ -70,10 +70,7 @@ filter_rises cmp f (x ∷ xs) r = rises_at cmp f x xs (f x) r.0 (filter_rises cm
 -- two filters, either way round
 swapped : {A : Type 0} (f g : A → Bool) (x : A) (xs : List A) (a b : Bool) → f x ≡ a → g x ≡ b → filter f (filter g xs) ≡ filter g (filter f xs)
     → filter f (cond b (x ∷ filter g xs) (filter g xs)) ≡ filter g (cond a (x ∷ filter f xs) (filter f xs))
-swapped f g x xs true true e h same = rw (e, h) (ap (λ ys. x ∷ ys) same)
-swapped f g x xs true false e h same = rw h same
-swapped f g x xs false true e h same = rw e same
-swapped f g x xs false false e h same = same
+swapped f g x xs a b e h same = grind arith
 
 pub filters_swap : {A : Type 0} (f g : A → Bool) (xs : List A) → filter f (filter g xs) ≡ filter g (filter f xs)
 filters_swap f g [] = refl
@@ -82,15 +79,12 @@ filters_swap f g (x ∷ xs) = swapped f g x xs (f x) (g x) refl refl (filters_sw
 -- Of a rising list from the path on, the part comes first.
 module _ (below : Path) where
   none_later : (m : Member) (ms : List Member) → Rises member_cmp (m ∷ ms) → is_lt (path_cmp m.0 below) ≡ false → begins_with below m.0 ≡ false → part_below below ms ≡ []
-  none_later m ms rises after apart =
-      let beyond = after_or_beyond below m.0 after apart in
-      filter_none (λ (x : Member). begins_with below x.0) ms (λ x h. beyond_apart below x.0 (beyond_up below m.0 x.0 beyond (rises.0 x h)))
+  none_later m ms rises after apart = grind (arith, after_or_beyond, filter_none, beyond_apart, beyond_up)
 
   first_at : (m : Member) (ms : List Member) (b : Bool) → begins_with below m.0 ≡ b → Rises member_cmp (m ∷ ms) → is_lt (path_cmp m.0 below) ≡ false
       → part_below below ms ≡ take_while (λ (x : Member). begins_with below x.0) ms
       → cond b (m ∷ part_below below ms) (part_below below ms) ≡ cond b (m ∷ take_while (λ (x : Member). begins_with below x.0) ms) []
-  first_at m ms true e rises after same = ap (λ (xs : List Member). m ∷ xs) same
-  first_at m ms false e rises after same = none_later m ms rises after e
+  first_at m ms b e rises after same = grind (arith, none_later)
 
   pub part_first : (ms : List Member) → Rises member_cmp ms → ((x : Member) → Contains ms x → is_lt (path_cmp x.0 below) ≡ false)
       → part_below below ms ≡ take_while (λ (x : Member). begins_with below x.0) ms
@@ -137,12 +131,6 @@ module _ (below : Path) where
       let before = path_total.trans path below from (less_of (path_cmp path below) h) less in
       let g : true ≡ false = sym (ap is_lt before) ∙ after in cc)
 
-  -- A walk from the later of the two paths comes to the rest of the part first.
-  pub later_below : (from : Path) (listing : List Member) → Rises member_cmp listing → is_lt (path_cmp from below) ≡ true
-      → rest_from from (part_below below listing) ≡ take_while (λ (x : Member). begins_with below x.0) (rest_from below listing)
-  later_below from listing rises less =
-      whole_part from listing (λ path h. up_less from path (less_of (path_cmp from below) less) h) ∙ part_together listing rises
-
   pub later_from : (from : Path) (listing : List Member) → Rises member_cmp listing → is_lt (path_cmp from below) ≡ false
       → rest_from from (part_below below listing) ≡ take_while (λ (x : Member). begins_with below x.0) (rest_from from listing)
   later_from from listing rises out = rest_of_part from listing ∙ part_from from listing rises (λ path h. up_other from path (path_cmp from below) refl out h)
@@ -151,14 +139,9 @@ module _ (below : Path) where
 pub part_of_root : (listing : List Member) → part_below [] listing ≡ listing
 part_of_root listing = filter_all (λ (m : Member). begins_with [] m.0) listing (λ m h. begins_by [] m.0 m.0 refl)
 
-later_by : (below from : Path) (listing : List Member) (b : Bool) → is_lt (path_cmp from below) ≡ b → Rises member_cmp listing
-    → rest_from from (part_below below listing) ≡ take_while (λ (x : Member). begins_with below x.0) (rest_from (if b then below else from) listing)
-later_by below from listing true e rises = later_below below from listing rises e
-later_by below from listing false e rises = later_from below from listing rises e
-
 pub part_from_later : (below from : Path) (listing : List Member) → Rises member_cmp listing
     → rest_from from (part_below below listing) ≡ take_while (λ (x : Member). begins_with below x.0) (rest_from (later_path from below) listing)
-part_from_later below from listing rises = later_by below from listing (is_lt (path_cmp from below)) refl rises
+part_from_later below from listing rises = grind (arith, later_from, whole_part, up_less, less_of, part_together)
 
 -- a member at the path itself comes first in its part
 pub member_first : (below : Path) (item : Item) (listing : List Member) → Rises member_cmp listing → Contains listing (below, item)

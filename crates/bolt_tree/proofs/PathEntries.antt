@@ -1,6 +1,6 @@
 -- A path leads to one bucket or to none, and holds one item or none; which of the two is computed from the entries of the buckets.
 -- Over any relation that says which elements a bucket has.
-use Rattle.std.proofs.Common.{◌≡◌, ◌∙◌, ◌⊎◌, inl, inr, true, false, IsTrue, List, [], ◌∷◌, ◌++◌, refl, sym, ap, subst, rules}
+use Rattle.std.proofs.Common.{arith, ◌≡◌, ◌∙◌, ◌⊎◌, inl, inr, true, false, IsTrue, List, [], ◌∷◌, ◌++◌, refl, sym, ap, subst, rules}
 use Rattle.bolt_tree.proofs.Words.{Contains, HasEntries, Holds, Item, Key, LeafElement, Names, Path, Start, bytes_eq-Decides, cases_Bool, item_of, props, start_of, ∥∥₁_elim}
 use Rattle.bolt_tree.proofs.{Lists.contains_cases, Lists.contains_head, Lists.contains_none, Lists.contains_tail, Named.entries_below, Named.entry_once}
 use Rattle.std.specs.Str.{bytes_eq}
@@ -10,10 +10,7 @@ abbrev HasKey : List LeafElement → Key → Type 0
 HasKey entries key = (e : LeafElement) × Contains entries e × (e.key ≡ key)
 
 key_apart : (x e : LeafElement) (xs : List LeafElement) (key : Key) → bytes_eq x.key key ≡ false → (x ≡ e) ⊎ Contains xs e → e.key ≡ key → Contains xs e
-key_apart x e xs key apart (inl same) is =
-    let equal = (bytes_eq-Decides x.key key).1 (ap (λ (y : LeafElement). y.key) same ∙ is) in
-    let bad : true ≡ false = sym equal ∙ apart in absurd (search (rules, bad))
-key_apart x e xs key apart (inr there) is = there
+key_apart x e xs key apart h is = grind (arith, bytes_eq-Decides)
 
 key_or_none : (entries : List LeafElement) (key : Key) → HasKey entries key ⊎ ((e : LeafElement) → Contains entries e → e.key ≡ key → ⊥)
 key_or_none [] key = inr (λ e h is. contains_none e h)

@@ -1,6 +1,6 @@
 -- The order of paths, part by part: what comes after a path, and where.
 -- Rests on the order of keys, which is total, and in which only equal keys are tied.
-use Rattle.std.proofs.Common.{◌≡◌, ◌∙◌, ◌⊎◌, inl, inr, Bool, true, false, List, [], ◌∷◌, ◌++◌, refl, ap}
+use Rattle.std.proofs.Common.{arith, ◌≡◌, ◌∙◌, ◌⊎◌, inl, inr, Bool, true, false, List, [], ◌∷◌, ◌++◌, refl, ap}
 use Rattle.std.proofs.lemmas.Map.Lookups.{exact_bytes}
 use Rattle.bolt_tree.proofs.Words.{Equal, Greater, IsTotalOrder, Key, Less, Ordering, Path, by_first, is_beyond, is_lt, key_cmp, less_of, lists_total, nat_list_cmp_total, ordering_reverse, ordering_then, path_cmp, tied_itself}
 use Rattle.std.specs.Cmp.Lexicographic.{slice_cmp}
@@ -16,18 +16,14 @@ less_lt o e = less_of o e
 
 -- only equal texts are tied
 then_equal : (a b : Ordering) → ordering_then a b ≡ Equal → (a ≡ Equal) × (b ≡ Equal)
-then_equal Less b e = absurd (cc)
-then_equal Equal b e = (refl, e)
-then_equal Greater b e = absurd (cc)
+then_equal a b e = grind arith
 
 lists_exact : {K : Type 0} (R : K → K → Ordering) → ((x y : K) → R x y ≡ Equal → x ≡ y) → (xs ys : List K) → slice_cmp R xs ys ≡ Equal → xs ≡ ys
-lists_exact R exact [] [] e = refl
-lists_exact R exact [] (y ∷ ys) e = absurd (let f : Less ≡ Equal = e in cc)
-lists_exact R exact (x ∷ xs) [] e = absurd (let f : Greater ≡ Equal = e in cc)
 lists_exact R exact (x ∷ xs) (y ∷ ys) e =
     let both = then_equal (R x y) (slice_cmp R xs ys) e in
     let first = exact x y both.0 in
     let later = lists_exact R exact xs ys both.1 in cc
+lists_exact R exact xs ys e = grind arith
 
 pub key_exact : (a b : Key) → key_cmp a b ≡ Equal → a ≡ b
 key_exact a b e = exact_bytes a b e
@@ -66,21 +62,16 @@ by_parts x y p q Equal e h more =
 by_parts x y p q Greater e h more = absurd (let f : Greater ≡ Less = h in cc)
 
 pub beyond_or_longer : (p q : Path) → path_cmp p q ≡ Less → (is_beyond p q ≡ true) ⊎ ((k : Key) × (r : Path) × (q ≡ p ++ k ∷ r))
-beyond_or_longer [] [] e = absurd (let f : Equal ≡ Less = e in cc)
-beyond_or_longer [] (y ∷ q) e = inr (y, q, refl)
-beyond_or_longer (x ∷ p) [] e = absurd (let f : Greater ≡ Less = e in cc)
 beyond_or_longer (x ∷ p) (y ∷ q) e = by_parts x y p q (key_cmp x y) refl e (beyond_or_longer p q)
+beyond_or_longer p q e = grind arith
 
 -- what stands beyond a path stands behind all that it begins
 first_less : (o r : Ordering) (b : Bool) → by_first o b ≡ true → (b ≡ true → r ≡ Less) → ordering_then o r ≡ Less
-first_less Less r b e more = refl
-first_less Equal r b e more = more e
-first_less Greater r b e more = absurd (let f : false ≡ true = e in cc)
+first_less o r b e more = grind arith
 
 pub beyond_less : (p s q : Path) → is_beyond p q ≡ true → path_cmp (p ++ s) q ≡ Less
-beyond_less [] s q e = absurd (let f : false ≡ true = e in cc)
-beyond_less (x ∷ p) s [] e = absurd (let f : false ≡ true = e in cc)
 beyond_less (x ∷ p) s (y ∷ q) e = first_less (key_cmp x y) (path_cmp (p ++ s) q) (is_beyond p q) e (beyond_less p s q)
+beyond_less p s q e = grind arith
 
 -- beyond a path of one part more: beyond the path, or with a greater part in that place
 by_last : (x y : Key) (p q : Path) (k : Key) (o : Ordering) → key_cmp x y ≡ o → by_first o (is_beyond (p ++ k ∷ []) q) ≡ true
@@ -93,16 +84,12 @@ by_last x y p q k Equal e h more =
 by_last x y p q k Greater e h more = absurd (let f : false ≡ true = h in cc)
 
 only_less : (k y : Key) (o : Ordering) → key_cmp k y ≡ o → by_first o false ≡ true → key_cmp k y ≡ Less
-only_less k y Less e h = e
-only_less k y Equal e h = absurd (let f : false ≡ true = h in cc)
-only_less k y Greater e h = absurd (let f : false ≡ true = h in cc)
+only_less k y o e h = grind arith
 
 pub beyond_push : (p : Path) (k : Key) (q : Path) → is_beyond (p ++ k ∷ []) q ≡ true
     → (is_beyond p q ≡ true) ⊎ ((z : Key) × (r : Path) × (q ≡ p ++ z ∷ r) × (key_cmp k z ≡ Less))
-beyond_push [] k [] e = absurd (let f : false ≡ true = e in cc)
-beyond_push [] k (y ∷ q) e = inr (y, q, refl, only_less k y (key_cmp k y) refl e)
-beyond_push (x ∷ p) k [] e = absurd (let f : false ≡ true = e in cc)
 beyond_push (x ∷ p) k (y ∷ q) e = by_last x y p q k (key_cmp x y) refl e (beyond_push p k q)
+beyond_push p k q e = grind (arith, only_less)
 
 -- and back
 pub beyond_here : (p : Path) (k z : Key) (s r : Path) → key_cmp k z ≡ Less → is_beyond (p ++ k ∷ s) (p ++ z ∷ r) ≡ true
@@ -110,15 +97,12 @@ beyond_here [] k z s r e = rw e refl
 beyond_here (x ∷ p) k z s r e = rw key_same (beyond_here p k z s r e)
 
 first_more : (o : Ordering) (a b : Bool) → by_first o a ≡ true → (a ≡ true → b ≡ true) → by_first o b ≡ true
-first_more Less a b e more = refl
-first_more Equal a b e more = more e
-first_more Greater a b e more = absurd (let f : false ≡ true = e in cc)
+first_more o a b e more = grind arith
 
 -- beyond a path is beyond all that it begins
 pub beyond_longer : (p s q : Path) → is_beyond p q ≡ true → is_beyond (p ++ s) q ≡ true
-beyond_longer [] s q e = absurd (let f : false ≡ true = e in cc)
-beyond_longer (x ∷ p) s [] e = e
 beyond_longer (x ∷ p) s (y ∷ q) e = first_more (key_cmp x y) (is_beyond p q) (is_beyond (p ++ s) q) e (beyond_longer p s q)
+beyond_longer p s q e = grind arith
 
 -- and what stands behind that is beyond the path too
 chain : (x y z : Key) (p q t : Path) (o r : Ordering) → key_cmp x y ≡ o → key_cmp y z ≡ r → by_first o (is_beyond p q) ≡ true
@@ -128,12 +112,8 @@ chain x y z p q t Less Less e f h g more = rw (key_total.trans x y z e f) refl
 chain x y z p q t Less Equal e f h g more = let same = key_exact y z f in rw (← same) (rw e refl)
 chain x y z p q t Equal Less e f h g more = let same = key_exact x y e in rw same (rw f refl)
 chain x y z p q t Equal Equal e f h g more = rw (key_total.congr x y z e) (rw f (more h g))
-chain x y z p q t Greater r e f h g more = absurd (let c : false ≡ true = h in cc)
-chain x y z p q t Less Greater e f h g more = absurd (let c : Greater ≡ Less = g in cc)
-chain x y z p q t Equal Greater e f h g more = absurd (let c : Greater ≡ Less = g in cc)
+chain x y z p q t o r e f h g more = absurd (cc)
 
 pub beyond_up : (p q t : Path) → is_beyond p q ≡ true → path_cmp q t ≡ Less → is_beyond p t ≡ true
-beyond_up [] q t e h = e
-beyond_up (x ∷ p) [] t e h = absurd (let f : false ≡ true = e in cc)
-beyond_up (x ∷ p) (y ∷ q) [] e h = absurd (let f : Greater ≡ Less = h in cc)
 beyond_up (x ∷ p) (y ∷ q) (z ∷ t) e h = chain x y z p q t (key_cmp x y) (key_cmp y z) refl refl e h (beyond_up p q t)
+beyond_up p q t e h = grind arith

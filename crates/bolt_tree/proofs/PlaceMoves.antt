@@ -1,6 +1,7 @@
 -- The place of a stack among the entries of its bucket, and what the moves of a trail are to a cursor's place.
-use Rattle.std.proofs.Common.{true, false, Bool, ◌≡◌, ℕ, suc, ◌+◌, ◌-◌, ◌≤◌, ◌<◌, List, [], ◌∷◌, ◌++◌, Some, None, Option, slice_get, length, drop, refl, sym, ap, ◌∙◌, arith, length-append, zero, take, append_assoc}
-use Rattle.bolt_tree.proofs.Words.{AreSorted, BucketView, Content, Contents, Finds, Frame, HasStack, IsAtRest, IsOn, IsSoundBucket, Key, Leaf, LeafElement, Move, Of_branch, Of_leaf, On, Past, Place, RestsOn, StandsOn, TourPage, address_on, ahead_of, contents_in, drop-append_seam, elements_in, elements_of, entries_to, first_move, flat_map-append, index_of, is_none, last_move, le-ltb, leaf_view, least_from, passed_of, length-drop, length-take, lt-ltb, next_move, none-some, option_map, pages_in, place_by, place_in, place_on, preceding_of, prev_move, props, later_of, seek_move, slice_get_within, take-append-drop, tour, ∥∥₁_elim, ∥∥₁_map}
+use Rattle.std.proofs.lemmas.Grind.{common_steps}
+use Rattle.std.proofs.Common.{true, false, Bool, ◌≡◌, ℕ, suc, ◌+◌, ◌-◌, ◌≤◌, ◌<◌, List, [], ◌∷◌, ◌++◌, Some, None, Option, slice_get, length, drop, refl, sym, ap, ◌∙◌, arith, length-append, take, append_assoc}
+use Rattle.bolt_tree.proofs.Words.{AreSorted, BucketView, Content, Contents, Finds, Frame, HasStack, IsAtRest, IsOn, IsSoundBucket, Key, Leaf, LeafElement, Move, Of_branch, Of_leaf, On, Past, Place, RestsOn, StandsOn, TourPage, address_on, ahead_of, contents_in, drop-append_seam, elements_in, elements_of, entries_to, first_move, flat_map-append, index_of, is_none, last_move, le-ltb, leaf_view, least_from, passed_of, length-drop, length-take, next_move, option_map, pages_in, place_by, place_in, place_on, preceding_of, prev_move, props, later_of, seek_move, slice_get_within, take-append-drop, tour, ∥∥₁_elim, ∥∥₁_map}
 use Rattle.bolt_tree.proofs.{BackLemmas.behind_index, SortedLemmas.sorted, SortedLemmas.sorted_one}
 use Rattle.bolt_check.proofs.Lists.{get_behind, get_front}
 
@@ -10,10 +11,8 @@ module _ {X : Type 0} where
 
   -- elements by place
   pub get_drop : (xs : List X) (n : ℕ) → slice_get xs n ≡ slice_get (drop n xs) 0
-  get_drop [] zero = refl
-  get_drop [] (suc n) = refl
-  get_drop (x ∷ xs) zero = refl
   get_drop (x ∷ xs) (suc n) = get_drop xs n
+  get_drop xs n = grind (arith, common_steps)
 
   pub get_next : (xs : List X) (n : ℕ) (x : X) (ys : List X) → drop n xs ≡ x ∷ ys → slice_get xs n ≡ Some x
   get_next xs n x ys e = get_drop xs n ∙ ap (λ (l : List X). slice_get l 0) e
@@ -57,14 +56,8 @@ split bucket f below stack rest = ∥∥₁_elim stack (Prim.hlevel props) (λ s
     by_content bucket (Of_leaf es) taken below rest placed = split_leaf (contents_in bucket) (63 - length below) (pages_in bucket) es taken below rest.0 rest.1 placed
     by_content bucket (Of_branch bs) taken below rest placed = absurd rest
 
--- a stack on an entry rests on it
-on_content_rests : (content : Content) (taken : ℕ) (e : LeafElement) → StandsOn content taken e → RestsOn content taken
-on_content_rests (Of_leaf es) taken e on = (on.0, let h = slice_get_within es (taken - 1) e on.1 in omega (arith, h))
-on_content_rests (Of_branch bs) taken e on = absurd on
-
 pub on_rests : (frames : List Frame) (e : LeafElement) → IsOn frames e → IsAtRest frames
-on_rests [] e on = absurd on
-on_rests (f ∷ below) e on = on_content_rests f.content f.taken e on
+on_rests frames e on = grind (arith, slice_get_within)
 
 -- a stack is one of a sound bucket
 pub stack_bucket : (bucket : BucketView) (frames : List Frame) → HasStack bucket frames → ∥ IsSoundBucket bucket ∥₁
@@ -81,30 +74,24 @@ Comes entries move place answer = (place_in entries place ≡ move.place) × (an
 
 -- the place, where there are entries
 pub place_there : (entries : List LeafElement) (place : Place) → 0 < length entries → place_in entries place ≡ place
-place_there [] place h = absurd (omega arith)
-place_there (e ∷ entries) place h = refl
+place_there entries place h = grind arith
 
 -- the moves over a list
 first_none : (entries : List LeafElement) (place : Place) → entries ≡ [] → Comes entries (first_move entries) place None
 first_none entries place e = rw e (refl, refl)
 
 first_onto : (entries : List LeafElement) (i : ℕ) (e : LeafElement) → i ≡ 0 → slice_get entries i ≡ Some e → Comes entries (first_move entries) (On i) (Some e)
-first_onto [] i e z g = absurd (none-some e g)
-first_onto (x ∷ entries) i e z g = (rw z refl, sym (rw z at g))
+first_onto entries i e z g = grind arith
 
 last_none : (entries : List LeafElement) (place : Place) → entries ≡ [] → Comes entries (last_move entries) place None
 last_none entries place e = rw e (refl, refl)
 
 last_onto : (entries : List LeafElement) (i : ℕ) (answer : Option LeafElement) → suc i ≡ length entries → slice_get entries i ≡ answer → Comes entries (last_move entries) (On i) answer
-last_onto [] i answer e g = absurd (omega arith)
-last_onto (x ∷ entries) i answer e g = let same : length entries ≡ i = omega arith in rw (same, g) (refl, refl)
+last_onto entries i answer e g = grind arith
 
 next_onto : (entries : List LeafElement) (i k : ℕ) (answer : Option LeafElement) → k ≡ suc i → slice_get entries (suc i) ≡ answer → suc i < length entries
     → Comes entries (next_move entries (place_in entries (On i))) (On k) answer
-next_onto entries i k answer e g h =
-    let there = place_there entries (On i) (omega (arith, h)) in
-    let there2 = place_there entries (On k) (omega (arith, h)) in
-    rw (there, there2, e, lt-ltb (suc i) (length entries) h, g) (refl, refl)
+next_onto entries i k answer e g h = grind arith
 
 next_stays : (entries : List LeafElement) (i : ℕ) → 0 < length entries → length entries ≤ suc i → Comes entries (next_move entries (place_in entries (On i))) (On i) None
 next_stays entries i some h = rw (place_there entries (On i) some, le-ltb (suc i) (length entries) h) (refl, refl)
@@ -118,12 +105,10 @@ prev_stays entries i e some = let there = place_there entries (On i) some in rw 
 
 seek_onto : (key : Key) (entries : List LeafElement) (i k : ℕ) (answer : Option LeafElement) → least_from key entries ≡ i → k ≡ i → slice_get entries i ≡ answer → i < length entries
     → Comes entries (seek_move key entries) (On k) answer
-seek_onto key [] i k answer e s g h = absurd (omega arith)
-seek_onto key (x ∷ entries) i k answer e s g h = let b = lt-ltb i (length (x ∷ entries)) h in rw (e, b, s, g) (refl, refl)
+seek_onto key entries i k answer e s g h = grind arith
 
 seek_past : (key : Key) (entries : List LeafElement) → length entries ≤ least_from key entries → Comes entries (seek_move key entries) Past None
-seek_past key [] h = (refl, refl)
-seek_past key (x ∷ entries) h = let b = le-ltb (least_from key (x ∷ entries)) (length (x ∷ entries)) h in rw b (refl, refl)
+seek_past key entries h = grind arith
 
 -- the entry on which a stack stands
 current_content : (contents : Contents) (n : ℕ) (whole : List TourPage) (content : Content) (t : ℕ) (below : List Frame) (e : LeafElement) → StandsOn content t e
@@ -144,9 +129,7 @@ current bucket f below e stack at = ∥∥₁_elim stack (Prim.hlevel props) (λ
 -- how many entries lie ahead of where a stack stands
 pub ahead_number : (elements : List LeafElement) (contents : Contents) (f : Frame) (below : List Frame) → IsSplit elements contents (f ∷ below)
     → length elements ≡ suc (index_of contents (f ∷ below)) + length (ahead_of contents (f ∷ below))
-ahead_number elements contents f below s =
-    let a : length elements - suc (index_of contents (f ∷ below)) ≡ length (ahead_of contents (f ∷ below)) = sym (length-drop (suc (index_of contents (f ∷ below))) elements) ∙ ap length s.after in
-    omega (arith, a, s.within)
+ahead_number elements contents f below s = grind (arith, length-drop)
 
 module _ (bucket : BucketView) where
   abbrev here : List Frame → Place
@@ -158,9 +141,7 @@ module _ (bucket : BucketView) where
   first_moves (Some leaf) [] stack h = absurd h.1
   first_moves (Some leaf) (f ∷ below) stack h =
       let s = split bucket f below stack (on_rests (f ∷ below) (leaf_view leaf) h.1) in
-      let a = ahead_number (elements_in bucket) (contents_in bucket) f below s in
-      let b = ap length h.0 in
-      first_onto (elements_in bucket) (index_of (contents_in bucket) (f ∷ below)) (leaf_view leaf) (omega (arith, a, b)) (current bucket f below (leaf_view leaf) stack h.1)
+      grind (arith, ahead_number, first_onto, current)
 
   pub last_moves : (found : Option Leaf) (frames : List Frame) → HasStack bucket frames → Finds true found (elements_in bucket) (preceding_of (contents_in bucket) frames) frames []
       → Comes (elements_in bucket) (last_move (elements_in bucket)) (here frames) (option_map leaf_view found)
@@ -168,9 +149,7 @@ module _ (bucket : BucketView) where
   last_moves (Some leaf) [] stack h = absurd h.1
   last_moves (Some leaf) (f ∷ below) stack h =
       let b = behind_index (contents_in bucket) f below (on_rests (f ∷ below) (leaf_view leaf) h.1) in
-      let m = ap length h.0 in
-      let l = length-append (preceding_of (contents_in bucket) (f ∷ below)) (leaf_view leaf ∷ []) in
-      last_onto (elements_in bucket) (index_of (contents_in bucket) (f ∷ below)) (Some (leaf_view leaf)) (omega (arith, b, m, l)) (current bucket f below (leaf_view leaf) stack h.1)
+      grind (arith, common_steps, length-append, last_onto, current)
 
   abbrev go_move : Bool → List LeafElement → Place → Move
   go_move false = next_move
@@ -179,7 +158,6 @@ module _ (bucket : BucketView) where
   pub go_moves : (back : Bool) (found : Option Leaf) (from frames : List Frame) → HasStack bucket from → IsAtRest from → (from ≡ [] → ⊥) → HasStack bucket frames
       → Finds back found (entries_to back (contents_in bucket) from) (entries_to back (contents_in bucket) frames) frames from
       → Comes (elements_in bucket) (go_move back (elements_in bucket) (place_in (elements_in bucket) (here from))) (here frames) (option_map leaf_view found)
-  go_moves back found [] frames old rest some new h = absurd (some refl)
   go_moves false None (f ∷ below) frames old rest some new h =
       let a = ahead_number (elements_in bucket) (contents_in bucket) f below (split bucket f below old rest) in
       rw h.1 (next_stays (elements_in bucket) (index_of (contents_in bucket) (f ∷ below)) (omega (arith, a)) (omega (arith, a, ap length h.0)))
@@ -203,7 +181,7 @@ module _ (bucket : BucketView) where
       let l = length-append (preceding_of (contents_in bucket) (g ∷ under)) (leaf_view leaf ∷ []) in
       prev_onto (elements_in bucket) (index_of (contents_in bucket) (f ∷ below)) (index_of (contents_in bucket) (g ∷ under)) (Some (leaf_view leaf)) (omega (arith, b, d, m, l))
       (current bucket g under (leaf_view leaf) new h.1) (omega (arith, a))
-  go_moves back (Some leaf) (f ∷ below) [] old rest some new h = absurd h.1
+  go_moves back found from frames old rest some new h = absurd (grind arith)
 
   pub seek_moves : (key : Key) (found : Option Leaf) (frames : List Frame) → HasStack bucket frames
       → Finds false found (drop (least_from key (elements_in bucket)) (elements_in bucket)) (ahead_of (contents_in bucket) frames) frames []

@@ -34,8 +34,7 @@ below_one d tree tree_before trees after same p = record {
     by (suc i) h = p.before i (omega arith)
 
     by_after : (i : ℕ) → suc d < i → at_depth i (tree_before ∷ after) ≡ end
-    by_after zero h = absurd (omega arith)
-    by_after (suc i) h = p.after_it i (omega arith)
+    by_after i h = grind arith
 
 alone : (tree : Tree) (trees : List Tree) → Puts zero tree trees (tree ∷ [])
 alone tree trees = record { before = λ i h. absurd (omega arith); at = refl; after_it = λ i h. by i h }
@@ -76,13 +75,7 @@ puts_tree (with_bucket key sequence inside after) path d rest len none =
     let all : List Member = listing_below deep inside ++ later in
     let q = subst (λ (n : ℕ). Puts n (own_tree key (Bucket sequence) n (trees_by_depth all)) (trees_by_depth all) (put_first deep (Bucket sequence) (trees_by_depth all))) len (puts_member path key (Bucket sequence) (trees_by_depth all)) in
     let here : at_depth d (trees_by_depth all) ≡ after = r.before d (omega arith) ∙ p.at in
-    let whole : (listing_below deep inside ++ listing_below path after) ++ rest ≡ all = append_assoc (listing_below deep inside) (listing_below path after) rest in
-    let made : Puts d (with_bucket key sequence inside after) (trees_by_depth rest) (put_first deep (Bucket sequence) (trees_by_depth all)) = record {
-      before = λ i h. q.before i h ∙ (r.before i (omega arith) ∙ p.before i h);
-      at = q.at ∙ (ap (λ (t : Tree). with_bucket key sequence t (at_depth d (trees_by_depth all))) r.at ∙ ap (λ (t : Tree). with_bucket key sequence inside t) here);
-      after_it = q.after_it;
-    } in
-    subst (λ (ms : List Member). Puts d (with_bucket key sequence inside after) (trees_by_depth rest) (put_first deep (Bucket sequence) (trees_by_depth ms))) (sym whole) made
+    grind (arith, append_assoc, with_bucket)
 
 pub tree_back : (tree : Tree) → tree_of (listing_of tree) ≡ tree
 tree_back tree =

@@ -1,5 +1,6 @@
 -- What a cursor keeps, and its moves by those of its trail.
-use Rattle.std.proofs.Common.{◌≡◌, ◌∙◌, ℕ, ◌-◌, ◌≤◌, Bool, true, false, List, [], ◌∷◌, Option, None, length, drop, ap, refl, sym, subst}
+use Rattle.std.proofs.Common.{arith, ◌≡◌, ◌∙◌, ℕ, ◌-◌, ◌≤◌, Bool, true, false, List, [], ◌∷◌, Option, None, length, drop, ap, refl, subst}
+use Rattle.std.proofs.lemmas.Grind.{common_steps}
 use Rattle.bolt_tree.proofs.Words.{BucketView, Content, Contents, EntryView, Finds, Frame, HasBucket, HasStack, HasTrail, IsAtRest, IsEntry, IsResting, IsMoved, Key, Leaf, LeafElement, Move, Moves, Of_branch, Of_leaf, OpensByNext, OpensGap, Place, RestsOn, ShowsMove, Start, Trail, ahead, contents_in, counted, elements_in, entry_view, first_move, is_none, last_move, leaf_view, least_from, next_move, opened_to, option_map, pages_in, place_by, place_in, place_on, preceding, prev_move, props, pages_ahead, seek_move, trail_bucket, trail_frames, ∥∥₁_elim}
 use Rattle.bolt_tree.proofs.OpeningMoves.{first_opens, next_opens}
 use Rattle.bolt_tree.proofs.PlaceMoves.{Comes, first_moves, go_moves, last_moves, seek_moves, stack_bucket, the_entries}
@@ -15,12 +16,7 @@ rest_prop (f ∷ below) = rest_on_prop f.content f.taken
 
 -- before the first call
 pub fresh_resting : (trail : Trail) → HasBucket trail → trail_frames trail ≡ [] → ∥ IsResting trail false ∥₁
-fresh_resting trail is none =
-    let resting : IsResting trail false = record {
-      stack = empty_stack trail is none;
-      rest = subst IsAtRest (sym none) tt;
-      empty = λ e. none;
-    } in ∣ resting ∣₁
+fresh_resting trail is none = grind (arith, common_steps, empty_stack, is)
 
 pub resting_stack : (trail : Trail) (is_past : Bool) → ∥ IsResting trail is_past ∥₁ → HasTrail trail
 resting_stack trail is_past resting = ∥∥₁_elim resting (Prim.hlevel props) (λ h. h.stack)
@@ -45,13 +41,10 @@ shows_by Entry bucket move old new answer shown e moves = λ entries are. let m 
 
 -- from the empty stack, the next move is the first and the preceding one is the last
 next_first : (contents : Contents) (entries : List LeafElement) → first_move entries ≡ next_move entries (place_in entries (place_by false contents []))
-next_first contents [] = refl
-next_first contents (e ∷ entries) = refl
+next_first contents entries = grind arith
 
 prev_last : (contents : Contents) (is_past : Bool) (entries : List LeafElement) → last_move entries ≡ prev_move entries (place_in entries (place_by is_past contents []))
-prev_last contents is_past [] = refl
-prev_last contents true (e ∷ entries) = refl
-prev_last contents false (e ∷ entries) = refl
+prev_last contents is_past entries = grind arith
 
 -- The moves of a trail, which stays in its bucket, as moves of a cursor over the bucket's entries.
 module _ (old new : Trail) (moved : IsMoved old new) (is_past : Bool) (resting : ∥ IsResting old is_past ∥₁) (found : Option Leaf) where

@@ -11,8 +11,7 @@ use Rattle.bolt_tree.proofs.{GapLemmas.at_place, NearestLeaf.near_exists, Neares
 module _ (file : List ℕ) (meta : Meta) (trees : HasSoundTrees file meta) where
   -- the elements of a branch behind the nearest one are above the key
   above_nearest : (elements : List BranchElement) (key : Key) (i j : ℕ) (d : BranchElement) → IsNearest elements key i → i < j → slice_get elements j ≡ Some d → key_lt key d.key ≡ true
-  above_nearest elements key i j d (inl h) l g = h.3 j d l g
-  above_nearest elements key i j d (inr h) l g = h.1 j d g
+  above_nearest elements key i j d h l g = grind arith
 
   -- an entry at an address after the nearest one is not below the key
   after_near_from : (near a : List ℕ) (number depth page : ℕ) (key : Key) (x : LeafElement) → IsOnWay file meta number depth → IsNearFrom file meta number key near

@@ -1,5 +1,6 @@
 -- On the way down to the leaf that is near a key, the key is between what was passed and what comes later.
-use Rattle.std.proofs.Common.{◌≡◌, ℕ, zero, suc, ◌+◌, ◌-◌, ◌≤◌, ◌<◌, inl, inr, Bool, true, false, List, [], ◌∷◌, ◌++◌, Some, Ok, slice_get, length, drop, take, refl, sym, ap, ◌∙◌, subst, arith}
+use Rattle.std.proofs.lemmas.Grind.{common_steps}
+use Rattle.std.proofs.Common.{◌≡◌, ℕ, suc, ◌+◌, ◌-◌, ◌≤◌, ◌<◌, inl, inr, Bool, true, false, List, [], ◌∷◌, ◌++◌, Some, Ok, slice_get, length, drop, take, refl, sym, ap, ◌∙◌, subst, arith}
 use Rattle.bolt_tree.proofs.Words.{AreBelow, BranchElement, BucketView, Contents, Frame, HasSoundTrees, HasStack, IsBetween, IsOnWay, IsPlaceOf, Key, LeafElement, Meta, Of_branch, PageView, TourPage, address_on, branch_node, cases_lt, content_at, content_keys, contents_in, elements_of, false_from_ne_true, flat_map-append, key_lt, passed_of, lt_not_trans, lt_trans, node_at, none-some, not-false, not-true, on_child, option_map, props, later_of, slice_get-map, tour, under_at, ∥∥₁_elim}
 use Rattle.bolt_check.proofs.Lists.{Has, at_has, flat_has, get_before, has_at, has_split}
 use Rattle.bolt_tree.proofs.TourLemmas.{IsUnder, branches_rise, tour_led, under_child, under_has}
@@ -7,18 +8,12 @@ use Rattle.bolt_tree.proofs.WayPages.{branch_page}
 
 module _ {X : Type 0} where
   pub take_get : (xs : List X) (i j : ℕ) (x : X) → slice_get (take i xs) j ≡ Some x → (slice_get xs j ≡ Some x) × (j < i)
-  take_get [] zero j x g = absurd (none-some x g)
-  take_get [] (suc i) j x g = absurd (none-some x g)
-  take_get (y ∷ xs) zero j x g = absurd (none-some x g)
-  take_get (y ∷ xs) (suc i) zero x g = (g, omega arith)
   take_get (y ∷ xs) (suc i) (suc j) x g = let r = take_get xs i j x g in let l = r.1 in (r.0, omega (arith, l))
+  take_get xs i j x g = grind (arith, common_steps, none-some)
 
   pub drop_get : (xs : List X) (i j m : ℕ) (x : X) → m ≡ i + j → slice_get (drop i xs) j ≡ Some x → slice_get xs m ≡ Some x
-  drop_get [] zero j m x e g = absurd (none-some x g)
-  drop_get [] (suc i) j m x e g = absurd (none-some x g)
-  drop_get (y ∷ xs) zero j m x e g = let same : m ≡ j = omega arith in ap (slice_get (y ∷ xs)) same ∙ g
-  drop_get (y ∷ xs) (suc i) j zero x e g = absurd (omega arith)
   drop_get (y ∷ xs) (suc i) j (suc m) x e g = drop_get xs i j m x (omega arith) g
+  drop_get xs i j m x e g = grind (arith, common_steps, none-some)
 
 pub not_below : (x d key : Key) → key_lt x d ≡ false → key_lt key d ≡ true → key_lt x key ≡ false
 not_below x d key h k = false_from_ne_true (key_lt x key) (λ t. let less : key_lt x d ≡ true = lt_trans x key d t k in cc)
@@ -79,9 +74,7 @@ are_append below key xs ys a b k e g = elim (has_split xs ys e (at_has (xs ++ ys
 ]
 
 nothing_left : (contents : Contents) (H : ℕ) (address : List ℕ) (i : ℕ) (elements : List BranchElement) (x : LeafElement) → i ≡ 0 → Has (elements_of (under_at contents H address 0 (take i elements))) x → ⊥
-nothing_left contents H address zero [] x e h = h
-nothing_left contents H address zero (y ∷ elements) x e h = h
-nothing_left contents H address (suc i) elements x e h = omega arith
+nothing_left contents H address i elements x e h = grind arith
 
 -- under the nearest element the key still stands between
 pub between_down : (bucket : BucketView) (key : Key) (elements : List BranchElement) (i n t : ℕ) (e : BranchElement) (below : List Frame)

@@ -1,6 +1,7 @@
 -- The rest of a listing from a path, found part by part: if a bucket has no entry from a part on, a greater one, or a value.
 -- Rests on the order of paths, and on what a named bucket holds (Named).
-use Rattle.std.proofs.Common.{◌≡◌, ◌∙◌, ◌≤◌, inl, inr, true, false, not, List, [], ◌∷◌, ◌++◌, length, Some, slice_get, refl, ap, subst, ◌+◌, ◌<◌, ℕ, zero, suc, take, drop, get_or, eqb, eq-eqb, sym, arith, Bor}
+use Rattle.std.proofs.Common.{rules, ◌≡◌, ◌∙◌, ◌≤◌, inl, inr, true, false, not, List, [], ◌∷◌, ◌++◌, length, Some, slice_get, refl, ap, subst, ◌+◌, ◌<◌, ℕ, suc, take, drop, get_or, eqb, eq-eqb, sym, arith, Bor}
+use Rattle.std.proofs.lemmas.Grind.{common_steps}
 use Rattle.bolt_tree.proofs.Words.{AreEntries, AreOpen, Checked, CursorView, Equal, Greater, HasEntries, Holds, Item, Key, LeafElement, Less, Lists, Member, Names, Ordering, Path, Start, beyond, both_ways, entries_of, false_from_ne_true, is_beyond, is_end, is_lt, key_cmp, least_from, less_of, nat_tests, not-true, ordering_reverse, path_cmp, path_of, props, rest_after, rest_from, root_start, ∥∥₁_elim}
 use Rattle.bolt_tree.proofs.{EntryOrder.seek_least, EntryOrder.seek_none, Filters.filter_all, Filters.filter_same}
 use Rattle.bolt_tree.proofs.{Giving.not_before, Giving.not_before_beyond, Giving.after_end, Named.first_of_held, Named.held_below, Named.held_down}
@@ -54,10 +55,7 @@ module _ (Entry : Start → LeafElement → Type 0) (from : Start) (all : HasEnt
     -- the path goes on below a value
     pub rest_past_value : (e : LeafElement) (k : Key) (s : Path) → Entry bucket e → e.is_bucket ≡ false
         → rest_from ((path ++ e.key ∷ []) ++ k ∷ s) listing ≡ beyond (path ++ e.key ∷ []) listing
-    rest_past_value e k s is value =
-        rest_beyond (path ++ e.key ∷ []) k s (λ item z r held h.
-        let below = held_below Entry from path bucket e z r item all names is held in
-        let b : e.is_bucket ≡ true = below.0 in cc)
+    rest_past_value e k s is value = search (rules, rest_beyond, held_below)
 
     -- the bucket's first entry from the key on has a greater key
     pub rest_greater : (entries : List LeafElement) (e : LeafElement) (key : Key) (s : Path) → AreEntries Entry bucket entries → slice_get entries (least_from key entries) ≡ Some e
@@ -85,8 +83,7 @@ module _ (Entry : Start → LeafElement → Type 0) (from : Start) (all : HasEnt
   rest_all = filter_all (λ m. not (is_lt (path_cmp m.0 []))) listing (λ m in_it. ap not (after_end m.0))
 
   held_some : (q : Path) (item : Item) → Holds Entry from q item → is_lt (path_cmp [] q) ≡ true
-  held_some [] item h = absurd h
-  held_some (k ∷ q) item h = refl
+  held_some q item h = grind arith
 
   -- and all is rest_after it
   pub behind_all : rest_after [] listing ≡ listing
@@ -94,9 +91,8 @@ module _ (Entry : Start → LeafElement → Type 0) (from : Start) (all : HasEnt
 
 pub parts_whole : (path : List (Bor (List ℕ))) (i : ℕ) (d : Bor (List ℕ)) → i < length path
     → path_of (take i path) ++ (get_or path i d).now ∷ path_of (drop (suc i) path) ≡ path_of path
-parts_whole [] i d h = absurd (omega arith)
-parts_whole (x ∷ path) zero d h = refl
 parts_whole (x ∷ path) (suc i) d h = ap (λ (ks : Path). x.now ∷ ks) (parts_whole path i d (omega arith))
+parts_whole path i d h = grind arith
 
 not_equal : (m n : ℕ) → m < n → eqb m n ≡ false
 not_equal m n h = grind (arith, nat_tests)
@@ -105,15 +101,11 @@ both_more : (i m n : ℕ) → n ≡ suc m → eqb (i + 1) m ≡ eqb (suc i + 1) 
 both_more i m n e = grind (arith, nat_tests)
 
 pub ends_at : (path : List (Bor (List ℕ))) (i n : ℕ) → n ≡ length path → i < n → is_end (path_of (drop (suc i) path)) ≡ eqb (i + 1) n
-ends_at [] i n e h = absurd (omega arith)
-ends_at (x ∷ []) zero n e h = sym (eq-eqb (0 + 1) n (omega arith))
-ends_at (x ∷ y ∷ path) zero n e h = sym (not_equal (0 + 1) n (omega arith))
-ends_at (x ∷ []) (suc i) n e h = absurd (omega arith)
 ends_at (x ∷ y ∷ path) (suc i) n e h = ends_at (y ∷ path) i (length (y ∷ path)) refl (omega arith) ∙ both_more i (length (y ∷ path)) n e
+ends_at path i n e h = grind (arith, eq-eqb, not_equal)
 
 pub none_left : {A : Type 0} (xs : List A) (i : ℕ) → i ≤ length xs → length xs ≤ i → (0 < i → i < length xs) → xs ≡ []
-none_left [] i h k more = refl
-none_left (x ∷ xs) i h k more = absurd (let f = more (omega arith) in omega arith)
+none_left xs i h k more = grind (arith, common_steps)
 
 -- with no part, all is left
 pub from_start : (checked : Checked) (cursors : List CursorView) (keys path : Path) → ∥ HasEntries (entries_of checked) (root_start checked) × AreOpen checked [] cursors keys ∥₁ → keys ≡ [] → path ≡ []

@@ -1,6 +1,6 @@
 -- The entries of a bucket in order are the elements along its tour, and there is one such list.
-use Rattle.std.proofs.Common.{◌≡◌, ℕ, List, [], ◌∷◌, ◌++◌, Some, slice_get, map, refl, sym, ap, ◌∙◌, subst, arith, inl, inr, eq-eqb, eqb}
-use Rattle.bolt_tree.proofs.Words.{AreEntries, Contains, HasSoundTrees, Inline_page, IsEntry, IsHome, IsStart, KeysRise, LeafElement, Meta, Root_page, Start, TourPage, content_at, elements_of, entry_cmp, head_root, inline_elements, inline_reached, leads, less_of, lt_strict, node_at, node_is, option_map, pages_at, slice_get-map}
+use Rattle.std.proofs.Common.{rules, ◌≡◌, ℕ, List, [], ◌∷◌, Some, slice_get, map, refl, sym, ap, ◌∙◌, subst, arith, inl, inr, eq-eqb, eqb}
+use Rattle.bolt_tree.proofs.Words.{AreEntries, Contains, HasSoundTrees, Inline_page, IsEntry, IsHome, IsStart, KeysRise, LeafElement, Meta, Root_page, Start, TourPage, content_at, elements_of, entry_cmp, head_root, inline_reached, leads, less_of, lt_strict, node_at, node_is, option_map, pages_at, slice_get-map}
 use Rattle.bolt_format.specs.declared.header.Kind.TheVariants as kind
 use Rattle.bolt_tree.specs.Order as order
 use Rattle.bolt_check.proofs.Lists.{Has, RisesBy, contains_from_has, flat_has, has_at, has_flat, has_from_contains, one_list, rises_flat, rises_from_gets, rises_weaker}
@@ -14,12 +14,10 @@ pub record IsVisit (file : List ℕ) (meta : Meta) (start : Start) (v : TourPage
 
 -- an entry is one of the page at its home
 entry_from : (file : List ℕ) (meta : Meta) (start : Start) (x : LeafElement) (address : List ℕ) → IsHome file meta start x address → IsEntry file meta start x
-entry_from file meta (Root_page root) x address (n, led, shows) = (address, n, led, shows)
-entry_from file meta (Inline_page elements) x address (empty, has) = has
+entry_from file meta start x address h = grind arith
 
 pub entry_home : (file : List ℕ) (meta : Meta) (start : Start) (x : LeafElement) → IsEntry file meta start x → (address : List ℕ) × IsHome file meta start x address
-entry_home file meta (Root_page root) x (address, n, led, shows) = (address, (n, led, shows))
-entry_home file meta (Inline_page elements) x has = ([], (refl, has))
+entry_home file meta start x has = grind arith
 
 -- rising entries, by their keys
 rises_order : (xs : List LeafElement) → RisesBy IsBelowElement xs → order.Rises entry_cmp xs
@@ -37,8 +35,7 @@ module _ (file : List ℕ) (meta : Meta) (trees : HasSoundTrees file meta) where
       let i = has_at view.leaves e (has_from_contains view.leaves e has) in
       let inline = none_inside file meta e.value elements (eqb (head_root e.value) 0) refl start in
       let led = inline_reached file meta n depth i.0 view e on (node_is file meta n view kind.Leaf at leaf) i.1 bucket (eq-eqb (head_root e.value) 0 inline.0) in
-      subst (λ (es : List LeafElement). KeysRise (map (λ (x : LeafElement). x.key) es)) inline.1
-      (trees.rising_inline (on.way ++ i.0 ∷ []) on.spot.number (map (λ (x : LeafElement). x.key) (inline_elements e.value)) led)
+      grind arith
 
   inline_rises : (elements : List LeafElement) → IsStart file meta (Inline_page elements) → RisesBy IsBelowElement elements
   inline_rises elements is =
@@ -58,10 +55,8 @@ module _ (file : List ℕ) (meta : Meta) (trees : HasSoundTrees file meta) where
             );
       }
   visit_is (Inline_page elements) v is (inl e) =
-      let same : elements ≡ v.entries = ap (λ (w : TourPage). w.entries) e in record {
-        rises = subst (RisesBy IsBelowElement) same (inline_rises elements is);
-        home = λ x k. (sym (ap (λ (w : TourPage). w.address) e), subst (λ (es : List LeafElement). Contains es x) (sym same) (contains_from_has v.entries x k));
-      }
+      let same : elements ≡ v.entries = ap (λ (w : TourPage). w.entries) e in
+      grind (arith, inline_rises, contains_from_has)
   visit_is (Inline_page elements) v is (inr x) = absurd x
 
   pub start_rises : (start : Start) → IsStart file meta start → RisesBy IsApart (pages_at file meta start)
@@ -88,20 +83,11 @@ module _ (file : List ℕ) (meta : Meta) (trees : HasSoundTrees file meta) where
   home_visited (Inline_page elements) address x is (empty, has) = (elements, inl (rw empty refl), has_from_contains elements x has)
 
   pub entry_visited : (start : Start) (x : LeafElement) → IsStart file meta start → IsEntry file meta start x → Has (elements_of (pages_at file meta start)) x
-  entry_visited start x is e =
-      let home = entry_home file meta start x e in
-      let r = home_visited start home.0 x is home.1 in
-      has_flat (λ (v : TourPage). v.entries) (pages_at file meta start) (record { address = home.0; entries = r.0 }) x r.1 r.2
+  entry_visited start x is e = grind (arith, entry_home, home_visited, has_flat)
 
   -- the sorted entries
   pub sorted : (start : Start) → IsStart file meta start → AreEntries (IsEntry file meta) start (elements_of (pages_at file meta start))
-  sorted start is = record {
-    rises = rises_order (elements_of (pages_at file meta start)) (elements_rise start is);
-    exact = λ x. (
-      λ c. is_entry start x is (has_from_contains (elements_of (pages_at file meta start)) x c),
-      λ e. contains_from_has (elements_of (pages_at file meta start)) x (entry_visited start x is e),
-    );
-  }
+  sorted start is = search (rules, rises_order, elements_rise, is_entry, has_from_contains, contains_from_has, entry_visited)
 
   pub entries_exist : (start : Start) → IsStart file meta start → (entries : List LeafElement) × AreEntries (IsEntry file meta) start entries
   entries_exist start is = (elements_of (pages_at file meta start), sorted start is)

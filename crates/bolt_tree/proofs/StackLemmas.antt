@@ -1,32 +1,24 @@
 -- What a push does to a stack, and the root page of a bucket, alone on a stack.
-use Rattle.std.proofs.Common.{◌≡◌, ℕ, zero, suc, ◌+◌, ◌-◌, ◌≤◌, List, [], ◌∷◌, ◌++◌, Some, slice_get, length, drop, take, refl, sym, ap, ◌∙◌, subst, arith, append_assoc, append-nil}
-use Rattle.bolt_tree.proofs.Words.{BranchElement, BucketView, Checked, Content, Contents, Frame, HasSoundTrees, HasStack, HasStart, Inline_page, IsGoodContent, IsOnWay, IsSoundBucket, IsStack, IsStart, Of_branch, Of_leaf, Root_page, Start, TourPage, address_on, ahead_of, all_under, bucket_in, bytes_of, checked_trees, content_at_start, content_length, contents_in, elements_in, elements_of, here_under, passed_of, passed_under, meta_of, none-some, on_child, pages_in, props, later_of, later_under, root_content, shallow, tour, ∥∥₁_elim, ∥∥₁_map, ∥∥₁_prop}
-use Rattle.bolt_tree.proofs.{TourLemmas.not_deepest, WayPages.a_branch, WayPages.a_leaf, WayPages.on_way_page, WayPages.branch_page}
+use Rattle.std.proofs.Common.{◌≡◌, ℕ, suc, ◌+◌, ◌-◌, ◌≤◌, List, [], ◌∷◌, ◌++◌, Some, slice_get, length, drop, take, sym, ap, ◌∙◌, arith, append_assoc, append-nil}
+use Rattle.bolt_tree.proofs.Words.{BranchElement, BucketView, Checked, Content, Contents, Frame, HasSoundTrees, HasStack, HasStart, IsGoodContent, IsOnWay, IsSoundBucket, IsStack, IsStart, Of_branch, Root_page, Start, TourPage, address_on, ahead_of, all_under, bucket_in, bytes_of, checked_trees, content_at_start, content_length, contents_in, elements_in, elements_of, here_under, passed_of, passed_under, meta_of, none-some, on_child, pages_in, props, later_of, later_under, root_content, shallow, tour, ∥∥₁_elim, ∥∥₁_map, ∥∥₁_prop}
+use Rattle.bolt_tree.proofs.{TourLemmas.not_deepest, WayPages.branch_page}
 
 -- what lies under the elements of a branch, cut at one
 pub under_cut : (f : ℕ → ℕ → List TourPage) (i k j : ℕ) (elements : List BranchElement) (e : BranchElement) → slice_get elements k ≡ Some e → j ≡ i + k
     → all_under f i elements ≡ all_under f i (take k elements) ++ (f j e.child ++ all_under f (suc j) (drop (suc k) elements))
-under_cut f i k j [] e g s = absurd (none-some e g)
-under_cut f i zero j (x ∷ elements) e g s =
-    let same : x ≡ e = cc in
-    let here : j ≡ i = omega arith in
-    rw (same, here) refl
 under_cut f i (suc k) j (x ∷ elements) e g s =
     let next : j ≡ suc i + k = omega arith in
     ap (λ (vs : List TourPage). f i x.child ++ vs) (under_cut f (suc i) k j elements e g next) ∙ sym (append_assoc (f i x.child) (all_under f (suc i) (take k elements)) (f j e.child ++ all_under f (suc j) (drop (suc k) elements)))
+under_cut f i k j elements e g s = grind (arith, none-some)
 
 -- what lies to the right of what is taken, from the next element on
 pub under_next : (f : ℕ → ℕ → List TourPage) (i k : ℕ) (elements : List BranchElement) (e : BranchElement) → slice_get elements k ≡ Some e
     → all_under f i (drop k elements) ≡ f i e.child ++ all_under f (suc i) (drop (suc k) elements)
-under_next f i k [] e g = absurd (none-some e g)
-under_next f i zero (x ∷ elements) e g = let same : x ≡ e = cc in rw same refl
 under_next f i (suc k) (x ∷ elements) e g = under_next f i k elements e g
-
-regroup : (l a b c r : List TourPage) (v : TourPage) → l ++ ((v ∷ (a ++ (b ++ c))) ++ r) ≡ (l ++ v ∷ a) ++ (b ++ (c ++ r))
-regroup l a b c r v = simp append_assoc
+under_next f i k elements e g = grind (arith, none-some)
 
 cut_between : (l r whole part : List TourPage) (v : TourPage) (a b c : List TourPage) → whole ≡ l ++ (part ++ r) → part ≡ v ∷ (a ++ (b ++ c)) → whole ≡ (l ++ v ∷ a) ++ (b ++ (c ++ r))
-cut_between l r whole part v a b c p q = p ∙ (ap (λ (x : List TourPage). l ++ (x ++ r)) q ∙ regroup l a b c r v)
+cut_between l r whole part v a b c p q = grind (arith, append_assoc)
 
 abbrev under : Contents → ℕ → List ℕ → ℕ → ℕ → List TourPage
 under contents n address i child = tour contents n (address ++ i ∷ []) (contents child)
@@ -41,10 +33,7 @@ tour_cut contents m n k address elements e same g =
 
 module _ (bucket : BucketView) (trees : HasSoundTrees bucket.file bucket.meta) where
   pub good_content : (number depth : ℕ) → IsOnWay bucket.file bucket.meta number depth → IsGoodContent bucket depth (contents_in bucket number)
-  good_content number depth on = elim (on_way_page bucket.file bucket.meta trees number depth on) [
-    | a_leaf view at is node content ↦ subst (IsGoodContent bucket depth) (sym content) tt
-    | a_branch view at is node content ↦ subst (IsGoodContent bucket depth) (sym content) (number, on, content)
-  ]
+  good_content number depth on = grind arith
 
   -- a branch that is the page of a way: where its elements lead
   branch_child : (number depth k : ℕ) (elements : List BranchElement) (e : BranchElement) → IsOnWay bucket.file bucket.meta number depth → contents_in bucket number ≡ Of_branch elements
@@ -135,8 +124,7 @@ root_way checked number is = ∥∥₁_map is (λ s. (1, s.start))
 
 root_good : (bucket : BucketView) (trees : HasSoundTrees bucket.file bucket.meta) (start : Start) → IsStart bucket.file bucket.meta start
     → IsGoodContent bucket 1 (content_at_start (contents_in bucket) start)
-root_good bucket trees (Root_page number) is = good_content bucket trees number 1 is
-root_good bucket trees (Inline_page elements) is = tt
+root_good bucket trees start is = grind arith
 
 pub root_stack : (bucket : BucketView) → ∥ IsSoundBucket bucket ∥₁ → HasStack bucket (record { content = root_content bucket; taken = 0 } ∷ [])
 root_stack bucket is = ∥∥₁_map is (λ s. (
@@ -156,8 +144,7 @@ root_stack bucket is = ∥∥₁_map is (λ s. (
 
 -- before the root page's first element, everything is ahead
 top_of : (contents : Contents) (content : Content) → tour contents 63 [] content ≡ record { address = []; entries = here_under content 0 } ∷ later_of contents (record { content = content; taken = 0 } ∷ [])
-top_of contents (Of_leaf elements) = refl
-top_of contents (Of_branch elements) = ap (λ (vs : List TourPage). record { address = []; entries = [] } ∷ vs) (sym (append-nil (later_under contents 0 [] (Of_branch elements) 0)))
+top_of contents content = grind (arith, append-nil)
 
 pub root_ahead : (bucket : BucketView) → ahead_of (contents_in bucket) (record { content = root_content bucket; taken = 0 } ∷ []) ≡ elements_in bucket
 root_ahead bucket = sym (ap elements_of (top_of (contents_in bucket) (root_content bucket)))

@@ -1,17 +1,14 @@
 -- The entry that a trail rests on: an element of the page on top of its stack.
-use Rattle.std.proofs.Common.{◌≡◌, ◌∙◌, ℕ, suc, ◌+◌, ◌-◌, ◌≤◌, Bool, true, false, List, [], ◌∷◌, ◌++◌, Some, None, Option, slice_get, length, take, refl, sym, ap, subst, arith}
-use Rattle.bolt_tree.proofs.Words.{Bucket, BucketView, Checked, Contains, Cursor, Content, Frame, Fresh, HasStack, HasStart, HasTrail, IsAtRest, IsLeafContent, IsOn, IsResting, Leaf, LeafElement, MatchOption, Of_branch, Of_leaf, On, Past, Place, Position, RestsOn, StandsOn, Trail, content_length, contents_in, cursor_checked, cursor_place, cursor_start, elements_in, entries_of, frame_of, frames_of, leaf_view, none-some, opened_content, option_map, pager_checked, place_by, props, slice_get-get_or, slice_get_within, start_at, start_of, take_all, take_next, trail_bucket, trail_frames, ∥∥₁_elim, ∥∥₁_map}
+use Rattle.std.proofs.Common.{rules, ◌≡◌, ◌∙◌, ℕ, suc, ◌-◌, ◌≤◌, Bool, true, false, List, [], ◌∷◌, ◌++◌, Some, None, Option, slice_get, length, take, refl, sym, ap, subst, arith}
+use Rattle.bolt_tree.proofs.Words.{Bucket, BucketView, Checked, Contains, Cursor, Content, Frame, HasStack, HasStart, HasTrail, IsAtRest, IsLeafContent, IsOn, IsResting, Leaf, LeafElement, MatchOption, Place, Position, RestsOn, Trail, content_length, contents_in, cursor_checked, cursor_place, cursor_start, elements_in, entries_of, frame_of, frames_of, leaf_view, none-some, opened_content, option_map, pager_checked, place_by, props, slice_get-get_or, slice_get_within, start_at, start_of, take_all, take_next, trail_bucket, trail_frames, ∥∥₁_elim, ∥∥₁_map}
 use Rattle.bolt_tree.specs.{Lookups.IsBucketOf, Lookups.IsBucketOn, Places.IsEntryAt, Places.entry_at}
 use Rattle.bolt_tree.proofs.{BucketWays.starts_below, EntryOrder.contains_at, PlaceMoves.current, PlaceMoves.the_entries, RestingLemmas.past_empty, RestingLemmas.resting_bucket}
 use Rattle.bolt_tree.proofs.{RestingLemmas.resting_stack, SortedLemmas.sorted, TrailLemmas.frames_push}
 
 -- without a last position a stack is empty
-no_last : (items : List Position) → None ≡ slice_get items (length items - 1) → frames_of items ≡ []
+pub no_last : (items : List Position) → None ≡ slice_get items (length items - 1) → frames_of items ≡ []
 no_last [] none = refl
 no_last (p ∷ items) none = absurd (none-some _ (none ∙ slice_get-get_or (p ∷ items) (length (p ∷ items) - 1) p (omega arith)))
-
-pub top_none : (items shared : List Position) → shared ≡ items → None ≡ slice_get shared (length shared - 1) → frames_of items ≡ []
-top_none items shared same none = no_last items (none ∙ ap (λ (ps : List Position). slice_get ps (length ps - 1)) same)
 
 -- and with one, that is its top
 last_on : (items : List Position) (top : Position) → slice_get items (length items - 1) ≡ Some top → frames_of items ≡ frame_of top ∷ frames_of (take (length items - 1) items)
@@ -29,23 +26,16 @@ pub record IsRested (content : Content) (taken : ℕ) : Type 0 where
   pub fits : taken ≤ 65536
 
 rested : (content : Content) (taken : ℕ) → RestsOn content taken → taken ≤ 65536 → IsRested content taken
-rested (Of_leaf elements) taken rest fits = record { leaf = tt; some = rest.0; within = rest.1; fits = fits }
-rested (Of_branch elements) taken rest fits = absurd rest
+rested content taken rest fits = grind arith
 
 module _ (trail : Trail) (shared : List Position) (top : Position) (same : shared ≡ trail.stack.items) (read : Some top ≡ slice_get shared (length shared - 1))
     (stack : HasTrail trail) (rest : IsAtRest (trail_frames trail)) where
-  topped : trail_frames trail ≡ frame_of top ∷ frames_of (take (length trail.stack.items - 1) trail.stack.items)
+  pub topped : trail_frames trail ≡ frame_of top ∷ frames_of (take (length trail.stack.items - 1) trail.stack.items)
   topped = last_on trail.stack.items top (sym (read ∙ ap (λ (ps : List Position). slice_get ps (length ps - 1)) same))
 
   pub top_rests : IsRested (opened_content top.page) top.taken
   top_rests =
       rested (opened_content top.page) top.taken (subst IsAtRest topped rest) (∥∥₁_elim (subst (HasStack (trail_bucket trail)) topped stack) (hlevel props) (λ s. s.1.0.fits))
-
-  pub top_on : (e : LeafElement) → StandsOn (opened_content top.page) ((top.taken - 1) + 1) e → IsOn (trail_frames trail) e
-  top_on e on =
-      let some = top_rests.some in
-      let same : (top.taken - 1) + 1 ≡ top.taken = omega (arith, some) in
-      subst (λ (frames : List Frame). IsOn frames e) (sym topped) (rw same at on)
 
 -- ---- the place of a cursor
 
@@ -55,21 +45,16 @@ found_at : (bucket : BucketView) (found : Option Leaf) (past : Bool) (frames : L
     → option_map leaf_view found ≡ entry_at entries (place_by past (contents_in bucket) frames)
 found_at bucket None true frames entries all empty stack on = refl
 found_at bucket None false frames entries all empty stack on = rw on refl
-found_at bucket (Some leaf) true frames entries all empty stack on = absurd (rw (empty refl) at on)
-found_at bucket (Some leaf) false [] entries all empty stack on = absurd on
 found_at bucket (Some leaf) false (f ∷ below) entries all empty stack on = sym (rw all at (current bucket f below (leaf_view leaf) stack on))
+found_at bucket found past frames entries all empty stack on = absurd (grind arith)
 
 held_at : (entries : List LeafElement) (place : Place) (e : LeafElement) → Some e ≡ entry_at entries place → Contains entries e
-held_at entries Fresh e at = absurd (none-some e (sym at))
-held_at entries (On i) e at = contains_at entries i e (sym at)
-held_at entries Past e at = absurd (none-some e (sym at))
+held_at entries place e at = grind (arith, none-some, contains_at)
 
 module _ (trail : Trail) (is_past : Bool) (resting : ∥ IsResting trail is_past ∥₁) where
   pub entry_on : (found : Option Leaf) → MatchOption found (trail_frames trail ≡ []) (λ leaf. IsOn (trail_frames trail) (leaf_view leaf))
       → IsEntryAt (entries_of (pager_checked trail.pager)) (start_at trail.at) (place_by is_past (contents_in (trail_bucket trail)) (trail_frames trail)) (option_map leaf_view found)
-  entry_on found on = λ entries are.
-      let all = the_entries (trail_bucket trail) entries (resting_bucket trail is_past resting) are in
-      found_at (trail_bucket trail) found is_past (trail_frames trail) entries all (past_empty trail is_past resting) (resting_stack trail is_past resting) on
+  entry_on found on = search (rules, the_entries, resting_bucket, found_at, past_empty, resting_stack)
 
   -- a bucket at its place is one of the tree
   pub begins_on : (place : Place) (e : LeafElement) → IsEntryAt (entries_of (pager_checked trail.pager)) (start_at trail.at) place (Some e) → e.is_bucket ≡ true
@@ -87,9 +72,7 @@ module _ (cursor : Cursor) (checked : Checked) (same : cursor_checked cursor ≡
 
   pub bucket_here : (found : Option LeafElement) (inner : Option Bucket) → IsHere (cursor_checked cursor) found → IsBucketOf found inner
       → IsBucketOn (entries_of checked) (cursor_start cursor) (cursor_place cursor) inner
-  bucket_here found inner at is = λ entries are.
-      let here = subst (λ (file : Checked). IsHere file found) same at in
-      subst (λ (e : Option LeafElement). IsBucketOf e inner) (here entries are) is
+  bucket_here found inner at is = search rules
 
   pub begins_here : (e : LeafElement) → IsHere (cursor_checked cursor) (Some e) → e.is_bucket ≡ true → HasStart checked (start_of e.value)
   unfolding cursor_checked cursor_start

@@ -1,4 +1,5 @@
 -- The tour of a bucket's pages: which pages it has, and that addresses and keys rise along it.
+use Rattle.std.proofs.lemmas.Grind.{common_steps}
 use Rattle.std.proofs.Common.{◌≡◌, ℕ, zero, suc, ◌+◌, ◌≤◌, ◌<◌, inl, inr, List, [], ◌∷◌, ◌++◌, false, Some, Ok, slice_get, length, map, refl, sym, ap, ◌∙◌, subst, arith, append_assoc, append-nil}
 use Rattle.bolt_tree.proofs.Words.{Before, BranchElement, Content, Contents, HasSoundTrees, IsOnWay, IsTrue, LeafElement, Meta, Of_branch, Of_leaf, PageView, TourPage, all_under, branch_entry, branch_entry_at, branch_key, branch_node, branch_step, cases_lt, content_at, key_lt, leads, leads_child, leaf_ends, leaf_key, lt_not_trans, lt_trans, node_at, none-some, on_child, page_at, shallow, slice_get_within, spot_node, tour}
 use Rattle.bolt_format.specs.declared.header.Kind.TheVariants as kind
@@ -18,14 +19,10 @@ under_has f i (e ∷ elements) v h = elim (has_split (f i e.child) (all_under f 
 
 pub has_under : (f : ℕ → ℕ → List TourPage) (i : ℕ) (elements : List BranchElement) (k j : ℕ) (e : BranchElement) (v : TourPage) → slice_get elements k ≡ Some e → j ≡ i + k
     → Has (f j e.child) v → Has (all_under f i elements) v
-has_under f i [] k j e v g s h = absurd (none-some e g)
-has_under f i (x ∷ elements) zero j e v g s h =
-    let same : x ≡ e = cc in
-    let here : j ≡ i = omega arith in
-    has_left (f i x.child) (all_under f (suc i) elements) v (rw (same, ← here) h)
 has_under f i (x ∷ elements) (suc k) j e v g s h =
     let next : j ≡ suc i + k = omega arith in
     has_right (f i x.child) (all_under f (suc i) elements) v (has_under f (suc i) elements k j e v g next h)
+has_under f i elements k j e v g s h = grind (arith, none-some, has_left)
 
 pub rises_under : (R : TourPage → TourPage → Type 0) (f : ℕ → ℕ → List TourPage) (i : ℕ) (elements : List BranchElement)
     → ((k j : ℕ) (e : BranchElement) → slice_get elements k ≡ Some e → j ≡ i + k → RisesBy R (f j e.child))
@@ -59,9 +56,7 @@ one_step p rest i = append_assoc p (i ∷ []) rest
 
 -- the tour of a page begins with it
 pub tour_head : (contents : Contents) (n : ℕ) (address : List ℕ) (content : Content) → Has (tour contents n address content) (visit_of address content)
-tour_head contents n address (Of_leaf elements) = inl refl
-tour_head contents zero address (Of_branch elements) = inl refl
-tour_head contents (suc n) address (Of_branch elements) = inl refl
+tour_head contents n address content = grind arith
 
 -- A page of the tour that begins at a page and an address: how it is led to from there, and what it is.
 pub record IsUnder (file : List ℕ) (meta : Meta) (number : ℕ) (address : List ℕ) (v : TourPage) : Type 0 where
@@ -82,10 +77,7 @@ module _ (file : List ℕ) (meta : Meta) (trees : HasSoundTrees file meta) where
   first_entry (e ∷ elements) h = (e, refl)
 
   pub filled : (number depth : ℕ) (view : PageView) → IsOnWay file meta number depth → node_at file meta number ≡ Ok (branch_node view) → 1 ≤ length view.branches
-  filled number depth view on node =
-      let here = spot_node file meta number depth (branch_node view) on node in
-      let e = first_entry view.branches (λ nil. trees.filled on.way on.spot (branch_node view) on.led here refl (ap (map branch_entry) nil)) in
-      omega (arith, slice_get_within view.branches 0 e.0 e.1)
+  filled number depth view on node = grind (arith, common_steps, spot_node, branch_node, first_entry, slice_get_within)
 
   -- a branch is never so deep that no page could lie under it
   pub not_deepest : (number depth : ℕ) (view : PageView) → IsOnWay file meta number depth → node_at file meta number ≡ Ok (branch_node view) → suc depth ≤ 64
@@ -154,9 +146,7 @@ module _ (file : List ℕ) (meta : Meta) (trees : HasSoundTrees file meta) where
   -- and each page that is led to is on the tour
   pub led_tour : (n number depth : ℕ) (address rest : List ℕ) (page : ℕ) → IsOnWay file meta number depth → 64 ≤ depth + n
       → leads (node_at file meta) (Some number) rest ≡ Some page → Has (tour_at file meta n address number) (visit_of (address ++ rest) (content_at file meta page))
-  led_tour n number depth address [] page on deep l =
-      let same : number ≡ page = cc in
-      rw (append-nil address, ← same) (tour_head (content_at file meta) n address (content_at file meta number))
+  led_tour n number depth address [] page on deep l = grind (arith, append-nil, tour_head)
   led_tour zero number depth address (i ∷ rest) page on deep l = elim (on_way_page file meta trees number depth on) [
     | a_leaf view at is node content ↦ absurd (leaf_ends (node_at file meta) number i page view rest node l)
     | a_branch view at is node content ↦ (let d = not_deepest number depth view on node in absurd (omega (arith, d, deep)))
@@ -239,10 +229,7 @@ module _ (file : List ℕ) (meta : Meta) (trees : HasSoundTrees file meta) where
 
   -- along the tour addresses rise, and keys
   pub tour_rises : (n number depth : ℕ) (address : List ℕ) → IsOnWay file meta number depth → 64 ≤ depth + n → RisesBy IsApart (tour_at file meta n address number)
-  tour_rises zero number depth address on deep = elim (on_way_page file meta trees number depth on) [
-    | a_leaf view at is node content ↦ subst (RisesBy IsApart) (sym (tour_leaf file meta trees zero number address view.leaves content)) (λ y h. absurd h, tt)
-    | a_branch view at is node content ↦ (let d = not_deepest file meta trees number depth view on node in absurd (omega (arith, d, deep)))
-  ]
+  tour_rises zero number depth address on deep = grind arith
   tour_rises (suc n) number depth address on deep = elim (on_way_page file meta trees number depth on) [
     | a_leaf view at is node content ↦ subst (RisesBy IsApart) (sym (tour_leaf file meta trees (suc n) number address view.leaves content)) (λ y h. absurd h, tt)
     | a_branch view at is node content ↦ (

@@ -1,8 +1,9 @@
 -- What the moves of a trail do to its stack.
+use Rattle.std.proofs.lemmas.Grind.{common_steps}
 use Rattle.std.proofs.Common.{◌≡◌, ◌==◌, ℕ, suc, ◌+◌, ◌-◌, ◌≤◌, ◌<◌, Bool, true, false, List, [], ◌∷◌, ◌++◌, Some, None, slice_get, length, map, reverse, drop, refl, sym, ap, ◌∙◌, subst, arith, append_assoc, append-nil}
-use Rattle.bolt_tree.proofs.Words.{BranchElement, BucketView, Checked, Content, Contents, Frame, HasBucket, HasStack, HasTrail, IsBranchContent, IsBranchTop, IsEntered, IsOn, IsOnWay, IsMoved, IsTrue, LeafElement, Meta, Of_branch, Of_leaf, PageView, Position, Trail, TourPage, address_on, ahead_of, bytes_of, checked_trees, content_length, contents_in, drop_all, drop_at, elements_of, frame_of, frames_of, here_of, here_under, is_tree_kind, length-map, length-reverse, meta_of, nat_tests, one_some, option_to_list, page_at, props, reverse-append, later_of, later_under, tour, trail_bucket, trail_frames, under_at, ∥∥₁_elim, ∥∥₁_map}
+use Rattle.bolt_tree.proofs.Words.{BranchElement, BucketView, Checked, Content, Contents, Frame, HasBucket, HasStack, HasTrail, IsBranchContent, IsBranchTop, IsEntered, IsOn, IsOnWay, IsMoved, IsTrue, LeafElement, Meta, Of_branch, Of_leaf, PageView, Position, Trail, TourPage, address_on, ahead_of, bytes_of, checked_trees, content_length, contents_in, drop_all, drop_at, frame_of, frames_of, here_of, here_under, is_tree_kind, length-map, length-reverse, meta_of, nat_tests, option_to_list, page_at, props, reverse-append, later_of, later_under, tour, trail_bucket, trail_frames, under_at, ∥∥₁_elim, ∥∥₁_map}
 use Rattle.bolt_tree.proofs.StackLemmas.{branch_room, stack_short, under_next}
-use Rattle.bolt_tree.proofs.WayPages.{IsWayPage, a_branch, a_leaf, on_way_page}
+use Rattle.bolt_tree.proofs.WayPages.{IsWayPage, on_way_page}
 
 -- one equation moves every fact of a bucket
 pub same_bucket : (old new : Trail) → IsMoved old new → trail_bucket new ≡ trail_bucket old
@@ -18,19 +19,14 @@ pub stack_room : (bucket : BucketView) (f : Frame) (items : List Position) → H
 stack_room bucket f items stack = let h = stack_short bucket f (frames_of items) stack in let l = length-frames items in omega (arith, h, l)
 
 pub no_frames : (items : List Position) (empty : Bool) → empty ≡ (length items == 0) → empty ≡ true → frames_of items ≡ []
-no_frames [] empty e t = refl
-no_frames (p ∷ items) empty e t = absurd (grind (arith, nat_tests, e, t))
+no_frames items empty e t = grind (arith, common_steps, nat_tests)
 
 pub nonempty : (items : List Position) (empty : Bool) → empty ≡ (length items == 0) → empty ≡ false → frames_of items ≡ [] → ⊥
-nonempty items empty e f nil =
-    let l = length-frames items in
-    let z : length (frames_of items) ≡ 0 = ap length nil in
-    grind (arith, nat_tests, l, z, e, f)
+nonempty items empty e f nil = grind (arith, length-frames, nat_tests)
 
 -- the pages of the tree have its kinds
 tree_kind_at : (file : List ℕ) (meta : Meta) (number : ℕ) (view : PageView) → IsWayPage file meta number → page_at file meta number ≡ Some view → IsTrue (is_tree_kind view.kind)
-tree_kind_at file meta number view (a_leaf v at is node content) e = let same = one_some (page_at file meta number) v view at e in ap is_tree_kind (sym (ap (λ (w : PageView). w.kind) same) ∙ is)
-tree_kind_at file meta number view (a_branch v at is node content) e = let same = one_some (page_at file meta number) v view at e in ap is_tree_kind (sym (ap (λ (w : PageView). w.kind) same) ∙ is)
+tree_kind_at file meta number view h e = grind arith
 
 pub way_kind : (checked : Checked) (number : ℕ) (view : PageView) → ∥ ((depth : ℕ) × IsOnWay (bytes_of checked) (meta_of checked) number depth) ∥₁
     → page_at (bytes_of checked) (meta_of checked) number ≡ Some view → IsTrue (is_tree_kind view.kind)
@@ -40,27 +36,18 @@ way_kind checked number view on e = ∥∥₁_elim on (Prim.hlevel props) (λ (d
 -- the tour of a page is the page and what lies under it
 tour_top : (contents : Contents) (n h : ℕ) (address : List ℕ) (content : Content) → ((elements : List BranchElement) → content ≡ Of_branch elements → n ≡ suc (62 - h))
     → tour contents n address content ≡ record { address = address; entries = here_under content 0 } ∷ later_under contents h address content 0
-tour_top contents n h address (Of_leaf elements) same = refl
-tour_top contents n h address (Of_branch elements) same = ap (λ (m : ℕ). tour contents m address (Of_branch elements)) (same elements refl)
+tour_top contents n h address content same = grind arith
 
 -- an entry is taken
 pub entered_some : (contents : Contents) (content : Content) (i : ℕ) (below new : List Frame) (e : LeafElement) → IsEntered contents false content i below new (Some e)
     → (ahead_of contents (record { content = content; taken = i } ∷ below) ≡ e ∷ ahead_of contents new) × IsOn new e × (later_of contents (record { content = content; taken = i } ∷ below) ≡ later_of contents new)
-entered_some contents (Of_leaf elements) i below new e h =
-    let next : suc i ≡ i + 1 = omega arith in
-    let back : i ≡ (i + 1) - 1 = omega arith in
-    let cut : drop i elements ≡ e ∷ drop (i + 1) elements = rw (← next) (drop_at elements i e h.0) in
-    let on : IsOn (record { content = Of_leaf elements; taken = i + 1 } ∷ below) e = (omega arith, rw (← back) h.0) in
-    (rw (h.1, cut) refl, subst (λ (fs : List Frame). IsOn fs e) (sym h.1) on, rw h.1 refl)
-entered_some contents (Of_branch elements) i below new e h = absurd h
+entered_some contents content i below new e h = grind (arith, drop_at)
 
 pub nothing_here : (content : Content) (taken : ℕ) → content_length content ≤ taken → here_under content taken ≡ []
-nothing_here (Of_leaf elements) taken h = drop_all taken elements h
-nothing_here (Of_branch elements) taken h = refl
+nothing_here content taken h = grind (arith, drop_all)
 
 nothing_under : (contents : Contents) (H : ℕ) (address : List ℕ) (content : Content) (taken : ℕ) → content_length content ≤ taken → later_under contents H address content taken ≡ []
-nothing_under contents H address (Of_leaf elements) taken h = refl
-nothing_under contents H address (Of_branch elements) taken h = ap (λ (es : List BranchElement). under_at contents H address taken es) (drop_all taken elements h)
+nothing_under contents H address content taken h = grind (arith, drop_all)
 
 -- what a stack shows of its top page, where that is none for a branch
 pub shown_by_branch : (of : List Frame → List LeafElement) (under : Content → ℕ → List LeafElement) → of [] ≡ [] → ((f : Frame) (below : List Frame) → of (f ∷ below) ≡ under f.content f.taken)
@@ -82,8 +69,7 @@ opened_right contents H i address elements b rest g same =
     let v : TourPage = record { address = address ++ i ∷ []; entries = here_under (contents b.child) 0 } in
     let more : List TourPage = later_under contents (suc H) (address ++ i ∷ []) (contents b.child) 0 in
     let first : under_at contents H address i (drop i elements) ≡ f i b.child ++ tail = under_next f i i elements b g in
-    let top : f i b.child ≡ v ∷ more = tour_top contents (62 - H) (suc H) (address ++ i ∷ []) (contents b.child) same in
-    ap (λ (vs : List TourPage). vs ++ rest) first ∙ (ap (λ (vs : List TourPage). (vs ++ tail) ++ rest) top ∙ ap (λ (vs : List TourPage). v ∷ vs) (append_assoc more tail rest))
+    grind (arith, tour_top, append_assoc)
 
 -- a page is opened
 pub entered_none : (bucket : BucketView) (content : Content) (i : ℕ) (below new : List Frame) → IsEntered (contents_in bucket) false content i below new None → HasStack bucket new
@@ -97,8 +83,7 @@ entered_none bucket (Of_branch elements) i below new h stack =
     let right = opened_right contents (length below) i (address_on below) elements b (later_of contents below) h.1 (λ cs e.
     let room = branch_room bucket cs 0 (record { content = Of_branch elements; taken = i + 1 } ∷ below) (rw e at placed) in omega (arith, room)) in
     let next : suc i ≡ i + 1 = omega arith in
-    let back : i ≡ (i + 1) - 1 = omega arith in
-    (rw (h.2, ← back, ← next) (ap elements_of right), rw (h.2, ← back, ← next) (ap length right))
+    grind arith
 
 -- a page of which all is taken leaves the stack
 pub exhausted : (bucket : BucketView) (f : Frame) (below : List Frame) → HasStack bucket (f ∷ below) → content_length f.content ≤ f.taken
@@ -112,8 +97,7 @@ pub frames_pop : (old new : List Position) (top : Position) → old ≡ new ++ o
 frames_pop old new top e = ap frames_of e ∙ frames_push new top
 
 pub entered_length : (contents : Contents) (at_end : Bool) (content : Content) (i : ℕ) (below new : List Frame) → IsEntered contents at_end content i below new None → length new ≡ suc (suc (length below))
-entered_length contents at_end (Of_leaf elements) i below new h = absurd h
-entered_length contents at_end (Of_branch elements) i below new h = ap length h.2
+entered_length contents at_end content i below new h = grind arith
 
 -- the same stack, as it is shown otherwise
 pub moved_stack : (old now : BucketView) (a d : Content) (under below : List Frame) → now ≡ old → d ≡ a → below ≡ under

@@ -1,6 +1,6 @@
 -- What a tree lists is the listing of what it shows: each path that is held, with its item, once, in path order.
-use Rattle.std.proofs.Common.{◌≡◌, ◌∙◌, ◌⊎◌, inl, inr, true, false, IsTrue, List, [], ◌∷◌, ◌++◌, refl, sym, ap, subst, append_assoc}
-use Rattle.bolt_tree.proofs.Words.{AreEntries, Contains, Contains-append_cases, Contains-append_left, Contains-append_right, Holds, IsBelow, IsTreeOf, Item, Key, LeafElement, Less, Lists, Member, Ordering, Path, Rises, Shows, Start, Tree, Value, end, entry_cmp, head_sequence, item_of, key_cmp, listing_below, listing_of, member_cmp, path_cmp, start_of, with_bucket, with_value}
+use Rattle.std.proofs.Common.{arith, ◌≡◌, ◌∙◌, ◌⊎◌, inl, inr, true, false, IsTrue, List, [], ◌∷◌, ◌++◌, refl, sym, ap, subst, append_assoc}
+use Rattle.bolt_tree.proofs.Words.{AreEntries, Contains, Contains-append_cases, Contains-append_left, Contains-append_right, Holds, IsBelow, IsTreeOf, Item, Key, LeafElement, Less, Lists, Member, Ordering, Path, Rises, Shows, Start, Tree, Value, entry_cmp, head_sequence, item_of, key_cmp, listing_below, listing_of, member_cmp, path_cmp, start_of, with_bucket, with_value}
 use Rattle.bolt_tree.proofs.{Lists.contains_cases, Lists.contains_head, Lists.contains_none, Lists.contains_tail, PathOrder.before_longer, PathOrder.same_front}
 use Rattle.bolt_tree.specs.Entries.{Bucket}
 
@@ -26,19 +26,13 @@ module _ (Entry : Start → LeafElement → Type 0) where
   HoldsBy entries (key ∷ next ∷ path) item = (e : LeafElement) × Contains entries e × (e.key ≡ key) × IsTrue e.is_bucket × Holds Entry (start_of e.value) (next ∷ path) item
 
   held_by : (bucket : Start) (entries : List LeafElement) → AreEntries Entry bucket entries → (path : Path) (item : Item) → Holds Entry bucket path item → HoldsBy entries path item
-  held_by bucket entries are [] item h = h
-  held_by bucket entries are (key ∷ []) item (e, is, same, of) = (e, (are.exact e).1 is, same, of)
-  held_by bucket entries are (key ∷ next ∷ path) item (e, is, same, b, more) = (e, (are.exact e).1 is, same, b, more)
+  held_by bucket entries are path item h = grind arith
 
   held_of : (bucket : Start) (entries : List LeafElement) → AreEntries Entry bucket entries → (path : Path) (item : Item) → HoldsBy entries path item → Holds Entry bucket path item
-  held_of bucket entries are [] item h = h
-  held_of bucket entries are (key ∷ []) item (e, is, same, of) = (e, (are.exact e).0 is, same, of)
-  held_of bucket entries are (key ∷ next ∷ path) item (e, is, same, b, more) = (e, (are.exact e).0 is, same, b, more)
+  held_of bucket entries are path item h = grind arith
 
   more_entries : (x : LeafElement) (entries : List LeafElement) (path : Path) (item : Item) → HoldsBy entries path item → HoldsBy (x ∷ entries) path item
-  more_entries x entries [] item h = h
-  more_entries x entries (key ∷ []) item (e, is, same, of) = (e, contains_tail x e entries is, same, of)
-  more_entries x entries (key ∷ next ∷ path) item (e, is, same, b, more) = (e, contains_tail x e entries is, same, b, more)
+  more_entries x entries path item h = grind (arith, contains_tail)
 
   -- an entry's own item, or what its bucket holds, or that of a later entry
   data Way (x : LeafElement) (entries : List LeafElement) (path : Path) (item : Item) : Type 0 where
@@ -47,8 +41,7 @@ module _ (Entry : Start → LeafElement → Type 0) where
     later : HoldsBy entries path item → Way x entries path item
 
   way_own : (x e : LeafElement) (entries : List LeafElement) (key : Key) (item : Item) → (x ≡ e) ⊎ Contains entries e → e.key ≡ key → item_of e ≡ item → Way x entries (key ∷ []) item
-  way_own x e entries key item (inl s) same of = own (ap (λ (k : Key). k ∷ []) (sym (ap (λ (y : LeafElement). y.key) s ∙ same))) (ap item_of s ∙ of)
-  way_own x e entries key item (inr h) same of = later (e, h, same, of)
+  way_own x e entries key item h same of = grind arith
 
   way_inner : (x e : LeafElement) (entries : List LeafElement) (key next : Key) (path : Path) (item : Item) → (x ≡ e) ⊎ Contains entries e → e.key ≡ key → IsTrue e.is_bucket
       → Holds Entry (start_of e.value) (next ∷ path) item → Way x entries (key ∷ next ∷ path) item
@@ -64,15 +57,11 @@ module _ (Entry : Start → LeafElement → Type 0) where
 
   -- through the bucket of an entry
   into : (x : LeafElement) (entries : List LeafElement) (path : Path) (item : Item) → IsTrue x.is_bucket → Holds Entry (start_of x.value) path item → HoldsBy (x ∷ entries) (x.key ∷ path) item
-  into x entries [] item b h = absurd h
-  into x entries (next ∷ path) item b h = (x, contains_head x entries, refl, b, h)
+  into x entries path item b h = grind arith
 
   -- what a tree lists below a path is what its entries hold
   pub listed : (tree : Tree) (entries : List LeafElement) → Shows Entry tree entries → (front : Path) (member : Member) → Contains (listing_below front tree) member
       → (path : Path) × (member.0 ≡ front ++ path) × HoldsBy entries path member.1
-  listed end [] s front member h = absurd (contains_none member h)
-  listed end (e ∷ entries) s front member h = absurd s
-  listed (with_value key value after) [] s front member h = absurd s
   listed (with_value key value after) (e ∷ entries) (b, k, v, more) front member h =
       elim (contains_cases (front ++ key ∷ [], Value value) member (listing_below front after) h) [
         | inl same ↦ (
@@ -82,7 +71,6 @@ module _ (Entry : Start → LeafElement → Type 0) where
         )
         | inr further ↦ let (path, at, held) = listed after entries more front member further in (path, at, more_entries e entries path member.1 held)
       ]
-  listed (with_bucket key sequence inside after) [] s front member h = absurd s
   listed (with_bucket key sequence inside after) (e ∷ entries) (b, k, q, (own_entries, are, shows), more) front member h =
       elim (contains_cases (front ++ key ∷ [], Bucket sequence) member (listing_below (front ++ key ∷ []) inside ++ listing_below front after) h) [
         | inl same ↦ (
@@ -98,6 +86,7 @@ module _ (Entry : Start → LeafElement → Type 0) where
           | inr behind ↦ let (path, at, held) = listed after entries more front member behind in (path, at, more_entries e entries path member.1 held)
         ]
       ]
+  listed tree entries s front member h = grind (arith, contains_none)
 
   at_member : (members : List Member) (a b : Path) (i j : Item) → a ≡ b → i ≡ j → Contains members (a, i) → Contains members (b, j)
   at_member members a b i j p q h = subst (λ (i : Item). Contains members (b, i)) q (subst (λ (p : Path). Contains members (p, i)) p h)
@@ -105,11 +94,6 @@ module _ (Entry : Start → LeafElement → Type 0) where
   -- and the other way round
   pub lists_all : (tree : Tree) (entries : List LeafElement) → Shows Entry tree entries → (front path : Path) (item : Item) → HoldsBy entries path item
       → Contains (listing_below front tree) (front ++ path, item)
-  lists_all end [] s front [] item h = absurd h
-  lists_all end [] s front (key ∷ []) item (e, is, same, of) = absurd (contains_none e is)
-  lists_all end [] s front (key ∷ next ∷ path) item (e, is, same, b, more) = absurd (contains_none e is)
-  lists_all end (e ∷ entries) s front path item h = absurd s
-  lists_all (with_value key value after) [] s front path item h = absurd s
   lists_all (with_value key value after) (e ∷ entries) (b, k, v, more) front path item h =
       let all : List Member = (front ++ key ∷ [], Value value) ∷ listing_below front after in
       elim (way e entries path item h) [
@@ -119,7 +103,6 @@ module _ (Entry : Start → LeafElement → Type 0) where
         | inner rest at bucket held ↦ absurd (let t : e.is_bucket ≡ true = bucket in cc)
         | later held ↦ contains_tail (front ++ key ∷ [], Value value) (front ++ path, item) (listing_below front after) (lists_all after entries more front path item held)
       ]
-  lists_all (with_bucket key sequence inside after) [] s front path item h = absurd s
   lists_all (with_bucket key sequence inside after) (e ∷ entries) (b, k, q, (own_entries, are, shows), more) front path item h =
       let deep : List Member = listing_below (front ++ key ∷ []) inside in
       let behind : List Member = listing_below front after in
@@ -137,12 +120,11 @@ module _ (Entry : Start → LeafElement → Type 0) where
             contains_tail (front ++ key ∷ [], Bucket sequence) (front ++ path, item) (deep ++ behind)
             (Contains-append_right deep behind (front ++ path, item) (lists_all after entries more front path item held))
       ]
+  lists_all tree entries s front path item h = grind (arith, contains_none)
 
   -- each member begins with the key of an entry
   first_key : (entries : List LeafElement) (path : Path) (item : Item) → HoldsBy entries path item → (e : LeafElement) × (rest : Path) × Contains entries e × (path ≡ e.key ∷ rest)
-  first_key entries [] item h = absurd h
-  first_key entries (key ∷ []) item (e, is, same, of) = (e, [], is, ap (λ (k : Key). k ∷ []) (sym same))
-  first_key entries (key ∷ next ∷ path) item (e, is, same, b, more) = (e, next ∷ path, is, ap (λ (k : Key). k ∷ next ∷ path) (sym same))
+  first_key entries path item h = grind arith
 
   behind_key : (front s t : Path) (j k : Key) → key_cmp j k ≡ Less → path_cmp (front ++ j ∷ s) (front ++ k ∷ t) ≡ Less
   behind_key front s t j k e = rw same_front (rw e refl)
@@ -152,19 +134,13 @@ module _ (Entry : Start → LeafElement → Type 0) where
       → Contains (listing_below front after) member → path_cmp (front ++ x.key ∷ s) member.0 ≡ Less
   before_after x entries after shows below front s member h =
       let (path, at, held) = listed after entries shows front member h in
-      let (e, rest, is, first) = first_key entries path member.1 held in
-      let whole : member.0 ≡ front ++ e.key ∷ rest = at ∙ ap (λ (p : Path). front ++ p) first in
-      subst (λ (p : Path). path_cmp (front ++ x.key ∷ s) p ≡ Less) (sym whole) (behind_key front s rest x.key e.key (below e is))
+      grind (arith, behind_key)
 
   pub listing_rises : (tree : Tree) (entries : List LeafElement) → Shows Entry tree entries → Rises entry_cmp entries → (front : Path) → Rises member_cmp (listing_below front tree)
-  listing_rises end [] s r front = tt
-  listing_rises end (e ∷ entries) s r front = absurd s
-  listing_rises (with_value key value after) [] s r front = absurd s
   listing_rises (with_value key value after) (e ∷ entries) (b, k, v, more) r front = (
     λ m h. subst (λ (j : Key). path_cmp (front ++ j ∷ []) m.0 ≡ Less) k (before_after e entries after more r.0 front [] m h),
     listing_rises after entries more r.1 front,
   )
-  listing_rises (with_bucket key sequence inside after) [] s r front = absurd s
   listing_rises (with_bucket key sequence inside after) (e ∷ entries) (b, k, q, (own_entries, are, shows), more) r front =
       let deep : List Member = listing_below (front ++ key ∷ []) inside in
       let behind : List Member = listing_below front after in
@@ -182,6 +158,7 @@ module _ (Entry : Start → LeafElement → Type 0) where
         λ m h. elim (Contains-append_cases deep behind m h) [ inl a ↦ to_deep m a | inr c ↦ to_behind [] m c ],
         rises_append member_cmp deep behind (listing_rises inside own_entries shows are.rises (front ++ key ∷ [])) (listing_rises after entries more r.1 front) deep_behind,
       )
+  listing_rises tree entries s r front = grind arith
 
   -- the listing of a bucket's tree
   pub tree_lists : (bucket : Start) (tree : Tree) → IsTreeOf Entry bucket tree → Lists Entry bucket (listing_of tree)

@@ -1,6 +1,6 @@
 use Rattle.std.proofs.Common.{◌≡◌, ◌∙◌, ap, arith, get_or, refl, sym}
 use Rattle.bolt_check.proofs.Words.{false≢true, first_use, get_or_default, IsClaimed, node_at, times_of, Unused}
-use Rattle.bolt_check.proofs.LeafLemmas.{filled_lone, listed_none, node_in_table, none_listed}
+use Rattle.bolt_check.proofs.LeafLemmas.{filled_lone, listed_none, node_in_table}
 use Rattle.bolt_check.proofs.leftovers.take_leaf.Goals as goal
 use Rattle.bolt_check.proofs.leftovers.take_leaf.Goals.{then-table-number-via-then-table-number, then-table-number-via-else-table-number+then-is_listed}
 
@@ -22,6 +22,4 @@ returns-in-Ok-clause-leaf c =
     filled_lone (node_at c.args.file.now c.args.meta.now) (IsClaimed c.args.table.now) c.args.number (c.if-not-is_filled_leaf.ensures.filled refl) c.in-Ok.ensures.passes
 
 pub returns-in-Ok-clause-unlisted : goal.returns-in-Ok-clause-unlisted
-returns-in-Ok-clause-unlisted c =
-    let same = get_or_default c.args.table.now c.args.number Unused (first_use c.args.number) (omega arith) in
-    sym (ap times_of same) ∙ none_listed _ (sym c.is_listed.ensures ∙ c.if-is_listed.false)
+returns-in-Ok-clause-unlisted c = grind (arith, get_or_default)

@@ -1,5 +1,5 @@
-use Rattle.std.proofs.Common.{◌∙◌, ◌∷◌, ap, arith, inl, length, vec_len}
-use Rattle.bolt_check.proofs.Words.{forest, IsClaimed, IsMetaPage, IsSearchFault, node_at, spot_at, spots_of, unclaimed}
+use Rattle.std.proofs.Common.{◌∙◌, ◌∷◌, ap, inl, length, vec_len}
+use Rattle.bolt_check.proofs.Words.{forest, IsClaimed, IsMetaPage, IsSearchFault, node_at, spot_at, spots_of}
 use Rattle.bolt_check.proofs.Visited.{begin_carries, ended, none_left, passed_on, reported_back, spots_pop, stored}
 use Rattle.bolt_check.proofs.Visiting.{carries_on}
 use Rattle.bolt_check.specs.Ways.{reached}
@@ -50,9 +50,3 @@ returns-in_err-step-clause-first c =
 
 pub returns-clause-uses : goal.returns-clause-uses
 returns-clause-uses c = λ n u h. c.loop-spot.invariant.carried.uses n u (inl h)
-
-pub loop-spot-smaller : goal.loop-spot-smaller
-loop-spot-smaller c =
-    let was = c.deref_mut.ensures.value in
-    let now = ap unclaimed (stored c.loop-spot.table c.deref_mut.result.now c.step.new.table was c.step.auto.table) in
-    omega (arith, now, ap unclaimed was, c.in_ok-step.ensures.less, c.in-Some.ensures)

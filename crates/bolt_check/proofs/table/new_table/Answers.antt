@@ -1,6 +1,7 @@
-use Rattle.std.proofs.Common.{◌≡◌, ◌∙◌, ℕ, arith, sym}
+use Rattle.std.proofs.lemmas.Grind.{common_steps}
+use Rattle.std.proofs.Common.{◌≡◌, ℕ, arith}
 use Rattle.bolt_check.proofs.Words.{first_use, use_at}
-use Rattle.bolt_check.proofs.TableLemmas.{first_claimed, first_noted, first_unlisted, starts}
+use Rattle.bolt_check.proofs.TableLemmas.{first_claimed, first_unlisted, starts}
 use Rattle.bolt_check.proofs.table.new_table.Goals as goal
 use Rattle.bolt_check.proofs.table.new_table.Goals.{After-loop-n}
 
@@ -12,7 +13,7 @@ pub returns-clause-metas : goal.returns-clause-metas
 returns-clause-metas c = λ n. rw (begun c n) (first_claimed n)
 
 pub returns-clause-uses : goal.returns-clause-uses
-returns-clause-uses c = λ n u noted. first_noted n u (sym (begun c n) ∙ noted.0) noted.1
+returns-clause-uses c = grind (arith, common_steps)
 
 pub returns-clause-unlisted : goal.returns-clause-unlisted
 returns-clause-unlisted c = λ n. rw (begun c n) (first_unlisted n)

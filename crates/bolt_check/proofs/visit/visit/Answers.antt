@@ -1,6 +1,7 @@
-use Rattle.std.proofs.Common.{◌∙◌, sym, refl, arith}
+use Rattle.bolt_check.proofs.Spans.{outside}
+use Rattle.std.proofs.Common.{sym, refl, arith}
 use Rattle.bolt_check.proofs.{Words.IsClaimed, Words.late, Words.node_at, Words.page_spot, Words.PageTests, Words.shown_node, Lawful.early_passes}
-use Rattle.bolt_check.proofs.{Spans.not_both, Spans.outside_span, Spans.span_claimed, Spans.still_unlisted, Visited.passed_on, VisitLemmas.in_room, VisitLemmas.leaf-is, VisitLemmas.overflow-is}
+use Rattle.bolt_check.proofs.{Spans.not_both, Spans.still_unlisted, Visited.passed_on, VisitLemmas.in_room, VisitLemmas.leaf-is, VisitLemmas.overflow-is}
 use Rattle.bolt_check.specs.Findings.{twice}
 use Rattle.bolt_check.proofs.visit.visit.Goals as goal
 
@@ -22,24 +23,10 @@ returns-in_err-test_node-clause-found c =
     (λ n span h. not_both c.args.table.now n (c.in_default.ensures.none n span.0 (let to = span.1 in omega (arith, to, last))) h) (sym c.in_err-test_node.ensures)) c.from_residual-in_err-test_node.ensures.1
 
 pub returns-clause-passes : goal.returns-clause-passes
-returns-clause-passes c =
-    let node = c.in_ok-node.node in
-    let last = overflow-is node _ c.overflow.ensures in
-    record {
-      node = shown_node node;
-      early = early_passes (node_at c.args.file.now c.args.meta.now) (page_spot c.args.spot.now) (shown_node node) (omega (arith, c.from.ensures, c.if-from-gt-MAX_DEPTH.false)) c.in_ok-node.ensures.node;
-      page = c.in_ok-node.ensures.node;
-      free = λ n span h. not_both c.args.table.now n (c.in_default.ensures.none n span.0 (let to = span.1 in omega (arith, to, last))) h;
-      content = sym c.in_ok-test_node.ensures;
-    }
+returns-clause-passes c = grind (arith, overflow-is, early_passes)
 
 pub returns-clause-claims : goal.returns-clause-claims
-returns-clause-claims c =
-    let node = c.in_ok-node.node in
-    let last = overflow-is node _ c.overflow.ensures in
-    span_claimed (node_at c.args.file.now c.args.meta.now) (page_spot c.args.spot.now) (shown_node node) c.args.table.now c.claim.new.table _
-    (omega (arith, last)) c.in_ok-node.ensures.node
-    (c.claim.ensures.first ∙ c.first_use.ensures ∙ leaf-is node) c.claim.ensures.later c.claim.ensures.span c.claim.ensures.below c.claim.ensures.above
+returns-clause-claims c = grind (arith, overflow-is, leaf-is)
 
 pub overflow_add-last : goal.overflow_add-last
 overflow_add-last c = let room = in_room _ _ _ _ _ c.in_ok-node.ensures.within c.requires in omega (arith, room, c.overflow.ensures)
@@ -51,7 +38,7 @@ pub claim-requires-clause-within : goal.claim-requires-clause-within
 claim-requires-clause-within c = let room = in_room _ _ _ _ _ c.in_ok-node.ensures.within c.requires in omega (arith, room, c.overflow.ensures)
 
 pub returns-clause-outside : goal.returns-clause-outside
-returns-clause-outside c = outside_span c.args.table.now c.claim.new.table _ _ c.claim.ensures.below c.claim.ensures.above c.claim.ensures.span
+returns-clause-outside c = grind (arith, outside, not_both)
 
 pub returns-clause-unlisted : goal.returns-clause-unlisted
 returns-clause-unlisted c = still_unlisted c.args.table.now c.claim.new.table _ _ c.claim.ensures.below c.claim.ensures.above c.claim.ensures.unlisted

@@ -1,5 +1,6 @@
-use Rattle.bolt_layout.proofs.HeldBounds.{layout_fewer}
+use Rattle.bolt_layout.proofs.HeldBounds.{held_small, layout_small}
+use Rattle.std.proofs.Common.{arith}
 use Rattle.bolt_layout.proofs.laws.held_is_small.Goals as goal
 
 pub returns : goal.returns
-returns c = layout_fewer
+returns c = grind (arith, layout_small, held_small)

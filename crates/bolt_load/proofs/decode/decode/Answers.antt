@@ -1,5 +1,6 @@
 -- The text up to a line that is wrong has the lines before it.
-use Rattle.std.proofs.Common.{◌≡◌, ◌∙◌, ℕ, List, [], None, Option, Some, sym, subst, true}
+use Rattle.std.proofs.Common.{arith, ◌≡◌, ℕ, List, [], Option, sym, subst, true}
+use Rattle.std.proofs.lemmas.Grind.{common_steps}
 use Rattle.std.specs.Prelude.{IfNone}
 use Rattle.bolt_load.proofs.DecodedLines.{HasDecoded, all_decoded, all_shaped, front_decoded, front_shaped, head_is, line_decoded, none_decoded, stops}
 use Rattle.bolt_load.proofs.{PathLemmas.is_none, Words.is_some}
@@ -7,8 +8,7 @@ use Rattle.bolt_load.proofs.decode.decode.Goals as goal
 
 -- what is said of no fault is said of none
 if_some : {A : Type 0} (P : Type 0) (fault : Option A) → is_some fault ≡ true → IfNone fault P
-if_some P None some = absurd (cc)
-if_some P (Some x) some = tt
+if_some P fault some = grind arith
 
 pub loop-line-init : goal.loop-line-init
 loop-line-init c = subst (λ (bytes : List ℕ). HasDecoded c.args.text.now c.args.text.now bytes) (sym c.new-bytes.ensures.items) (none_decoded c.args.text.now)
@@ -29,10 +29,7 @@ returns-then-is_some-clause-stopped c =
     stops c.args.text.now c.loop-line.rest.now c.loop-line.bytes.items c.add_line.new.bytes.items c.loop-line.invariant c.in-Some.line.now c.in-Some.after.now c.in-Some.ensures _ is c.in_ok-fault.fault c.in_ok-fault.ensures.fault
 
 pub loop-line-preserved : goal.loop-line-preserved
-loop-line-preserved c =
-    let none = is_none c.in_ok-fault.fault (sym c.is_some.ensures ∙ c.if-is_some.false) in
-    line_decoded c.args.text.now c.loop-line.rest.now c.loop-line.bytes.items c.add_line.new.bytes.items c.loop-line.invariant c.in-Some.line.now c.in-Some.after.now c.in-Some.ensures
-    (sym none ∙ c.in_ok-fault.ensures.fault) c.in_ok-fault.ensures.added
+loop-line-preserved c = grind (arith, common_steps, is_none, line_decoded)
 
 pub returns-clause-decoded : goal.returns-clause-decoded
 returns-clause-decoded c = all_decoded c.args.text.now c.loop-line.rest.now c.loop-line.bytes.items [] c.loop-line.invariant c.in_default.ensures

@@ -1,5 +1,6 @@
 -- Each part has half as many bytes as digits.
-use Rattle.std.proofs.Common.{◌∙◌, ap}
+use Rattle.std.proofs.Common.{arith, ◌∙◌, ap}
+use Rattle.std.proofs.lemmas.Grind.{common_steps}
 use Rattle.bolt_load.proofs.Words.{map-append, path_of}
 use Rattle.bolt_load.proofs.PushedParts.{all_pushed, last_fits, none_pushed, part_fits, part_pushed}
 use Rattle.bolt_load.proofs.line_members.push_parts.Goals as goal
@@ -12,9 +13,7 @@ split_at-requires c =
     part_fits c.args.word.now c.loop-part.word_left.now c.args.bytes.now c.loop-part.bytes_left.now (path_of c.args.path.now.items) (path_of c.loop-part.path.items) c.loop-part.invariant c.in-Some.part.now c.in-Some.after.now c.in-Some.ensures
 
 pub loop-part-preserved : goal.loop-part-preserved
-loop-part-preserved c =
-    part_pushed c.args.word.now c.loop-part.word_left.now c.args.bytes.now c.loop-part.bytes_left.now (path_of c.args.path.now.items) (path_of c.loop-part.path.items) c.loop-part.invariant c.in-Some.part.now c.in-Some.after.now c.in-Some.ensures
-    c.split_at.result.0.now c.split_at.result.1.now (path_of c.push.new.self.items) c.split_at.ensures.front c.split_at.ensures.back (ap path_of c.in_ok-push.ensures.items ∙ map-append _ _ _)
+loop-part-preserved c = grind (arith, common_steps, part_pushed, path_of)
 
 pub split_at-requires-2 : goal.split_at-requires-2
 split_at-requires-2 c =

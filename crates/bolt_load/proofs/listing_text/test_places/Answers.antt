@@ -1,8 +1,7 @@
 -- Each line is tested after the last one.
-use Rattle.std.proofs.Common.{◌≡◌, ◌∙◌, ◌+◌, Bool, None, Some, sym, ap, subst}
-use Rattle.bolt_load.proofs.Words.{GivesLine, IfSome, is_bucket, item_view, members_left, members_path, option_map}
-use Rattle.bolt_load.proofs.PlacedLines.{HasPlaced, begun, fault_of_slices, line_placed, line_refused, path_some, slices_some}
-use Rattle.bolt_load.specs.ShownMembers.{members_before}
+use Rattle.std.proofs.Common.{arith, rules, ◌≡◌, ◌∙◌, ◌+◌, Bool, None, Some, sym, ap, subst}
+use Rattle.bolt_load.proofs.Words.{GivesLine, is_bucket, item_view, members_left, members_path, option_map}
+use Rattle.bolt_load.proofs.PlacedLines.{HasPlaced, begun, line_placed, line_refused, path_some, slices_some}
 use Rattle.bolt_load.specs.Private.OpenPaths.{fault_after}
 use Rattle.bolt_load.proofs.listing_text.test_places.Goals as goal
 use Rattle.bolt_load.proofs.listing_text.test_places.Goals.{After-place_fault}
@@ -22,16 +21,12 @@ given c = subst (λ found. GivesLine (members_left c.loop-members.members) (memb
 
 -- what was found of its place
 found : (c : After-place_fault) → c.place_fault.result ≡ fault_after (members_path c.loop-members.members) c.loop-members.is_bucket (members_path c.advance.new.self)
-found c = fault_of_slices (members_path c.loop-members.members) (members_path c.advance.new.self) c.loop-members.is_bucket c.path_before.result.now c.path.result.now c.place_fault.result c.place_fault.ensures
-    (c.path_before.ensures ∙ subst (λ found. IfSome found (λ item. members_before c.advance.new.self ≡ members_path c.loop-members.members)) c.in-Some.is c.in_ok-item.ensures.before) c.path.ensures
+found c = grind arith
 
 -- a line that stands where it may, whatever it is of
 placed : (c : After-place_fault) {bucket : Bool} → is_bucket (item_view c.in-Some.item) ≡ bucket → c.place_fault.result ≡ None
     → HasPlaced c.args.text.now (members_left c.advance.new.self) (members_path c.advance.new.self) bucket (c.loop-members.line + 1)
-placed c same none =
-    subst (λ (bucket : Bool). HasPlaced c.args.text.now (members_left c.advance.new.self) (members_path c.advance.new.self) bucket (c.loop-members.line + 1)) same
-    (line_placed c.args.text.now (members_left c.loop-members.members) (members_path c.loop-members.members) c.loop-members.is_bucket c.loop-members.line c.loop-members.invariant
-    (members_left c.advance.new.self) (item_view c.in-Some.item) (members_path c.advance.new.self) (given c) (sym (found c) ∙ none))
+placed c same none = search (rules, members_left, members_path, line_placed, item_view, given)
 
 pub returns-in-Some-place_fault-clause-fault : goal.returns-in-Some-place_fault-clause-fault
 returns-in-Some-place_fault-clause-fault c =

@@ -1,19 +1,12 @@
-use Rattle.std.proofs.Common.{◌∙◌, ◌==◌, inl, inr, List, None, Option, Some, ap, arith, length, not}
+use Rattle.std.proofs.lemmas.Grind.{common_steps}
+use Rattle.std.proofs.Common.{◌∙◌, Option, ap, arith, length}
 use Rattle.std.specs.Prelude.{IfSome}
-use Rattle.bolt_check.proofs.Words.{is_used, PageUse, times_of, use_at}
 use Rattle.bolt_check.specs.Leftovers.{is_listed, is_taken, leftovers_file, leftovers_length, leftovers_meta}
 use Rattle.bolt_check.proofs.{LeafLemmas.if_none, LeafLemmas.none_listed, Visited.stored}
 use Rattle.bolt_check.proofs.leftovers.Leftovers.take.Goals as goal
 
 if_some : {X : Type 0} {P Q : Type 0} (o : Option X) → (P → Q) → IfSome o (λ _. P) → IfSome o (λ _. Q)
-if_some None to h = h
-if_some (Some x) to h = to h
-
-pub invariant_of-self : goal.invariant_of-self
-invariant_of-self c =
-    let was = c.deref_mut.ensures.value in
-    let now = stored c.args.self.now.table _ _ c.deref_mut.ensures.value c.take_leaf.auto.table in
-    record { room = λ n inside below. rw now (omega (arith, c.args.self.now.room n inside below, c.take_leaf.auto.table, ap length was)) }
+if_some o to h = grind arith
 
 pub returns-clause-length : goal.returns-clause-length
 unfolding leftovers_length
@@ -29,15 +22,12 @@ returns-clause-none c = if_none c.take_leaf.result (λ no lone free. no lone (no
 
 pub returns-clause-taken : goal.returns-clause-taken
 unfolding is_taken leftovers_file leftovers_meta
-returns-clause-taken c = rw (stored c.args.self.now.table _ _ c.deref_mut.ensures.value c.take_leaf.auto.table)
-    (if_some c.take_leaf.result (λ claims n. (claims.split n, λ either. elim either [ inl before ↦ claims.kept n before | inr at ↦ claims.span n at ])) (rw c.deref_mut.ensures.value at c.take_leaf.ensures.claims))
+returns-clause-taken c = grind (arith, common_steps)
 
 pub returns-clause-same : goal.returns-clause-same
 unfolding is_taken
-returns-clause-same c = rw (stored c.args.self.now.table _ _ c.deref_mut.ensures.value c.take_leaf.auto.table)
-    (if_none c.take_leaf.result (λ same n. ap (λ (t : List PageUse). is_used (use_at t n)) same) (rw c.deref_mut.ensures.value at c.take_leaf.ensures.same))
+returns-clause-same c = grind (arith, stored, if_none)
 
 pub returns-clause-noted : goal.returns-clause-noted
 unfolding is_listed is_taken
-returns-clause-noted c = rw (stored c.args.self.now.table _ _ c.deref_mut.ensures.value c.take_leaf.auto.table)
-    (λ n free. ap (λ (u : PageUse). not (times_of u == 0)) ((rw c.deref_mut.ensures.value at c.take_leaf.ensures.outside) n free))
+returns-clause-noted c = grind (arith, stored)

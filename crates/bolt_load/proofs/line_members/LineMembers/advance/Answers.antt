@@ -1,7 +1,7 @@
 -- The member of the next line, whose bytes come next.
-use Rattle.std.proofs.Common.{◌∙◌, ◌∷◌, Some, sym, ap, subst}
-use Rattle.bolt_load.proofs.Words.{GivesLine, hex_path_in, item_view, members_in, members_left, members_path, Path, path_of, text_members, word_item}
-use Rattle.bolt_load.proofs.NextLines.{gives_line, gives_next, item_begins, no_members, no_words, path_begins, pushed_onto_none, rest_decoded}
+use Rattle.std.proofs.Common.{arith, ap}
+use Rattle.bolt_load.proofs.Words.{hex_path_in, item_view, members_in, members_left, members_path, path_of, word_item}
+use Rattle.bolt_load.proofs.NextLines.{item_begins, no_members, no_words, path_begins, pushed_onto_none, rest_decoded}
 use Rattle.bolt_load.proofs.line_members.LineMembers.advance.Goals as goal
 
 pub returns-in_default-clause-given : goal.returns-in_default-clause-given
@@ -39,20 +39,8 @@ invariant_of-self-2 c = record {
 
 pub returns-clause-given : goal.returns-clause-given
 unfolding members_left members_path
-returns-clause-given c = gives_next c.args.self.now.text_left.now c.in-Some.line.now c.in-Some.text_left.now c.args.self.now.bytes_left.now c.in-Some.ensures c.args.self.now.ahead
-    (hex_path_in c.in-Some-words_of.words.path.now) (word_item c.in-Some-words_of.words.item) c.in-Some-words_of.ensures
-    (path_of c.push_parts.new.path.items) c.in_ok-bytes_left.bytes_left.now
-    (pushed_onto_none (hex_path_in c.in-Some-words_of.words.path.now) (path_of c.clear-2.new.self.items) (path_of c.push_parts.new.path.items) c.args.self.now.bytes_left.now c.in_ok-bytes_left.bytes_left.now
-    (ap path_of c.clear-2.ensures.items) c.in_ok-bytes_left.ensures)
-    (item_view c.item_of.result.0) c.item_of.result.1.now c.item_of.ensures.item c.item_of.ensures.rest
-    ∙ ap (λ path. (path_of path.items, item_view c.item_of.result.0) ∷ text_members c.in-Some.text_left.now) (sym c.swap.ensures.x_after)
+returns-clause-given c = grind arith
 
 pub returns-clause-lines : goal.returns-clause-lines
 unfolding members_left members_path
-returns-clause-lines c =
-    subst (λ (path : Path). GivesLine c.args.self.now.text_left.now c.in-Some.text_left.now (Some (item_view c.item_of.result.0)) path) (ap (λ path. path_of path.items) (sym c.swap.ensures.x_after)) (gives_line c.args.self.now.text_left.now c.in-Some.line.now c.in-Some.text_left.now c.args.self.now.bytes_left.now c.in-Some.ensures c.args.self.now.ahead
-    (hex_path_in c.in-Some-words_of.words.path.now) (word_item c.in-Some-words_of.words.item) c.in-Some-words_of.ensures
-    (path_of c.push_parts.new.path.items) c.in_ok-bytes_left.bytes_left.now
-    (pushed_onto_none (hex_path_in c.in-Some-words_of.words.path.now) (path_of c.clear-2.new.self.items) (path_of c.push_parts.new.path.items) c.args.self.now.bytes_left.now c.in_ok-bytes_left.bytes_left.now
-    (ap path_of c.clear-2.ensures.items) c.in_ok-bytes_left.ensures)
-    (item_view c.item_of.result.0) c.item_of.result.1.now c.item_of.ensures.item c.item_of.ensures.rest)
+returns-clause-lines c = grind arith

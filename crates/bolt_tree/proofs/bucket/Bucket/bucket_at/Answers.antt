@@ -1,4 +1,4 @@
-use Rattle.std.proofs.Common.{None, Some, refl}
+use Rattle.std.proofs.Common.{None, refl}
 use Rattle.bolt_tree.proofs.{Standing.begins_here, Standing.bucket_here, Words.bucket_checked, Words.leaf_view}
 use Rattle.bolt_tree.proofs.bucket.Bucket.bucket_at.Goals as goal
 
@@ -8,12 +8,3 @@ of-requires-clause-begins c = begins_here c.args.cursor.now c.args.self.now.chec
 
 pub returns-in_err-leaf-clause-bucket : goal.returns-in_err-leaf-clause-bucket
 returns-in_err-leaf-clause-bucket c = rw c.from_residual.ensures (bucket_here c.args.cursor.now (bucket_checked c.args.self.now) c.requires None None c.in_err-leaf.ensures.entry refl)
-
-pub returns-then-not-leaf-clause-bucket : goal.returns-then-not-leaf-clause-bucket
-returns-then-not-leaf-clause-bucket c =
-    bucket_here c.args.cursor.now (bucket_checked c.args.self.now) c.requires (Some (leaf_view c.in_ok-leaf.leaf)) None c.in_ok-leaf.ensures.entry c.if-not-leaf.true
-
-pub returns-clause-bucket : goal.returns-clause-bucket
-returns-clause-bucket c =
-    bucket_here c.args.cursor.now (bucket_checked c.args.self.now) c.requires (Some (leaf_view c.in_ok-leaf.leaf)) (Some c.of.result) c.in_ok-leaf.ensures.entry
-    (c.if-not-leaf.false, c.of.ensures.start, c.of.ensures.sequence)

@@ -1,5 +1,6 @@
-use Rattle.std.proofs.Common.{◌∙◌, List, ◌++◌, Option, Some, refl, sym, ap, subst}
-use Rattle.bolt_tree.proofs.Words.{AreOfFile, Checked, Cursor, HasStart, Position, cursor_view, fresh_view, start_at}
+use Rattle.std.proofs.Common.{arith, ◌∙◌, List, ◌++◌, Option, Some, refl, sym, ap, subst}
+use Rattle.std.proofs.lemmas.Grind.{common_steps}
+use Rattle.bolt_tree.proofs.Words.{AreOfFile, Cursor, Position, cursor_view, fresh_view}
 use Rattle.bolt_tree.proofs.KeptLemmas.{first_one, innermost_file, opens_fresh, put_last, same_file, same_views, waits, waits_view}
 use Rattle.bolt_tree.proofs.open_cursors.OpenCursors.open.Goals as goal
 
@@ -10,10 +11,7 @@ invariant_of-self c = record {
 }
 
 pub begin-requires : goal.begin-requires
-begin-requires c =
-    let cursors = c.args.self.now in
-    let file = innermost_file cursors.checked cursors.waiting.items cursors.positions.items cursors.innermost c.in-Some.cursor cursors.kept c.in-Some.is in
-    subst (λ (checked : Checked). HasStart checked (start_at c.at-2.result)) (c.requires ∙ sym file) c.at-2.ensures.begins
+begin-requires c = grind (arith, common_steps, innermost_file)
 
 pub invariant_of-self-in-Break-1 : goal.invariant_of-self-in-Break-1
 invariant_of-self-in-Break-1 c = record {

@@ -1,5 +1,5 @@
-use Rattle.std.proofs.Common.{◌∙◌, ◌-◌, Some, List, [], ◌∷◌, ◌++◌, drop, length, take, sym, ap, subst, reverse}
-use Rattle.bolt_tree.proofs.Words.{AreOfFile, Checked, IsKept, Position, cursor_checked, cursor_view, kept_views}
+use Rattle.std.proofs.Common.{rules, ◌-◌, Some, List, drop, length, take, sym, subst}
+use Rattle.bolt_tree.proofs.Words.{AreOfFile, Checked, IsKept, Position, cursor_checked, cursor_view}
 use Rattle.bolt_tree.proofs.KeptLemmas.{goes_on, goes_on_view, innermost_file, others, views_left}
 use Rattle.bolt_tree.proofs.open_cursors.OpenCursors.pop.Goals as goal
 
@@ -22,9 +22,4 @@ invariant_of-self-2 c =
     }
 
 pub returns-clause-cursors : goal.returns-clause-cursors
-returns-clause-cursors c outer last all =
-    let file = innermost_file c.args.self.now.checked c.args.self.now.waiting.items c.args.self.now.positions.items c.args.self.now.innermost c.in-Some-innermost.cursor c.args.self.now.kept c.in-Some-innermost.is in
-    let view = goes_on_view c.args.self.now.checked (cursor_checked c.in-Some-innermost.cursor) c.in-Some.outer c.args.self.now.positions.items c.deref.result.now (cursor_view c.resume.new.self) file c.deref.ensures.value c.resume.ensures in
-    ap (λ (ps : List Position). kept_views c.args.self.now.checked (reverse c.pop.new.self.items) ps ++ cursor_view c.resume.new.self ∷ []) c.truncate.ensures.items
-    ∙ views_left c.args.self.now.checked c.args.self.now.waiting.items c.pop.new.self.items c.in-Some.outer c.args.self.now.positions.items c.args.self.now.innermost c.args.self.now.kept c.in-Some.ensures.items
-    c.resume.new.self outer last view all
+returns-clause-cursors c outer last all = search (rules, innermost_file, goes_on_view, views_left)

@@ -1,4 +1,4 @@
-use Rattle.std.proofs.Common.{◌≡◌, ◌∷◌, ◌∙◌, ◌+◌, ◌-◌, suc, ℕ, length, List, sym, ap, arith, refl, subst}
+use Rattle.std.proofs.Common.{◌≡◌, ◌∷◌, ◌∙◌, ◌-◌, suc, length, List, sym, ap, arith, refl, subst}
 use Rattle.bolt_tree.proofs.Words.{BucketView, Frame, HasStack, IsNearTop, IsOnWayDown, IsSought, Of_branch, ahead_of, contents_in, counted, elements_in, opened_content, pager_opened, shown, trail_bucket, trail_frames}
 use Rattle.bolt_tree.proofs.NearLemmas.{begins, branch_filled, landed, moved_between, moved_way, shows_leaf, stack_rises, way_begins, way_down}
 use Rattle.bolt_tree.proofs.{PagerLemmas.counted_more, PagerLemmas.counted_zero, StackLemmas.popped, StackLemmas.root_stack, StackLemmas.branch_room, SeekLemmas.between_down}
@@ -46,16 +46,7 @@ loop-opened-preserved c =
     let way : IsOnWayDown old key below (Of_branch bs) = rw c.in-Branch.is at inv.way in
     let between = between_down old key bs i n 0 e.0 below stack c.saturating_sub.ensures e.1 c.keys_before-found.ensures.place (branch_room old bs 0 below stack) inv.between in
     let on = way_down old key below bs n i 0 e.0 stack way c.keys_before-found.ensures.place c.saturating_sub.ensures e.1 in
-    let more : length (trail_frames c.go_under-opened.new.self) ≡ suc (length below) = ap (λ (fs : List Frame). length fs) done.frames in
-    let sum : length below + 1 ≡ length (trail_frames c.go_under-opened.new.self) = omega (arith, more) in
-    record {
-      moved = record { file = done.moved.file ∙ inv.moved.file; at = done.moved.at ∙ inv.moved.at; stack = done.moved.stack };
-      stack = done.stack;
-      between = moved_between old now key (record { content = Of_branch bs; taken = i + 1 } ∷ below) (trail_frames c.go_under-opened.new.self) same done.frames between;
-      way = moved_way old now key (record { content = Of_branch bs; taken = i + 1 } ∷ below) (trail_frames c.go_under-opened.new.self) (contents_in old e.0.child) (opened_content c.go_under-opened.result) same done.frames e.2 on;
-      compared = omega (arith, c.keys_before-found.ensures.few, inv.compared, more);
-      opened = done.opened ∙ (ap (λ (m : ℕ). counted m 1) inv.opened ∙ (counted_more (pager_opened c.args.self.now.pager) (length below) 1 ∙ ap (counted (pager_opened c.args.self.now.pager)) sum));
-    }
+    grind (arith, moved_between, moved_way, counted_more)
 
 pub returns : goal.returns
 returns c =

@@ -1,6 +1,7 @@
 -- What lies in the direction stays the same until an entry is taken, and each page that is opened is the next one there.
-use Rattle.std.proofs.Common.{◌≡◌, ◌∙◌, ◌+◌, ◌-◌, ◌*◌, ◌<◌, ℕ, suc, length, sym, ap, arith, refl, rules, List, ◌++◌, Option, Some, None, option_to_list}
-use Rattle.bolt_tree.proofs.Words.{HasStack, HasTrail, Position, Trail, counted, entries_left, frame_of, frames_of, leaf_view, opened_content, pager_opened, pages_left, trail_bucket, trail_frames}
+use Rattle.std.proofs.lemmas.Grind.{common_steps}
+use Rattle.std.proofs.Common.{◌≡◌, ◌∙◌, ◌-◌, suc, length, sym, arith, refl, List, ◌++◌, Option, option_to_list}
+use Rattle.bolt_tree.proofs.Words.{HasStack, HasTrail, Position, Trail, entries_left, frame_of, frames_of, leaf_view, pages_left, trail_bucket, trail_frames}
 use Rattle.bolt_tree.proofs.MoveLemmas.{opens, page_left, takes}
 use Rattle.bolt_tree.proofs.{PagerLemmas.counted_more, PagerLemmas.counted_zero, StackLemmas.popped, StackLemmas.retaken, StackLemmas.taken_bound}
 use Rattle.bolt_tree.proofs.StackLemmas.{taken_fits}
@@ -18,16 +19,10 @@ loop-top-init c = record {
 }
 
 pub beside-requires : goal.beside-requires
-beside-requires c =
-    let stack = popped_stack c.loop-top.self c.pop.new.self.items c.in-Some.top c.in-Some.ensures.items c.loop-top.invariant.moved.stack in
-    record {
-      bound = omega (arith, taken_bound (trail_bucket c.loop-top.self) (frame_of c.in-Some.top) (frames_of c.pop.new.self.items) stack);
-      fits = taken_fits (trail_bucket c.loop-top.self) (frame_of c.in-Some.top) (frames_of c.pop.new.self.items) stack;
-    }
+beside-requires c = grind (arith, common_steps, popped_stack, taken_bound, taken_fits)
 
 pub enter-requires-clause-stack : goal.enter-requires-clause-stack
-enter-requires-clause-stack c = retaken (trail_bucket c.loop-top.self) (opened_content c.in-Some.top.page) c.in-Some.top.taken 0 (frames_of c.pop.new.self.items)
-    (popped_stack c.loop-top.self c.pop.new.self.items c.in-Some.top c.in-Some.ensures.items c.loop-top.invariant.moved.stack) (omega arith) (omega arith)
+enter-requires-clause-stack c = grind (arith, common_steps, retaken, popped_stack)
 
 pub returns-in-Some-enter-clause-found : goal.returns-in-Some-enter-clause-found
 returns-in-Some-enter-clause-found c =
@@ -44,29 +39,10 @@ opened c = opens (trail_bucket c.loop-top.self) (trail_bucket c.enter.new.self) 
     (rw c.in_default-enter.is at c.enter.ensures.entered) c.enter.ensures.moved.stack
 
 pub loop-top-smaller-in_default-enter : goal.loop-top-smaller-in_default-enter
-loop-top-smaller-in_default-enter c =
-    let r = opened c in
-    let one = c.in-Some.ensures.len in
-    let smaller : 2 * length (pages_left c.args.back c.enter.new.self) + length c.enter.new.self.stack.items < 2 * length (pages_left c.args.back c.loop-top.self) + length c.loop-top.self.stack.items =
-    omega (arith, r, one, length-frames c.enter.new.self.stack.items, length-frames c.pop.new.self.items) in
-    smaller
+loop-top-smaller-in_default-enter c = grind (arith, opened, length-frames)
 
 pub loop-top-preserved-in_default-enter : goal.loop-top-preserved-in_default-enter
-loop-top-preserved-in_default-enter c =
-    let r = opened c in
-    let before = c.loop-top.invariant in
-    let old = pager_opened c.args.self.now.pager in
-    let gone = length (pages_left c.args.back c.args.self.now) - length (pages_left c.args.back c.loop-top.self) in
-    let s = r.1 in
-    let less = before.less in
-    let one : pager_opened c.enter.new.self.pager ≡ counted (pager_opened c.loop-top.self.pager) 1 = rw c.in_default-enter.is at c.enter.ensures.opened in
-    let more : gone + 1 ≡ length (pages_left c.args.back c.args.self.now) - length (pages_left c.args.back c.enter.new.self) = omega (arith, s, less) in
-    record {
-      moved = record { file = c.enter.ensures.moved.file ∙ before.moved.file; at = c.enter.ensures.moved.at ∙ before.moved.at; stack = c.enter.ensures.moved.stack };
-      entries = sym r.0 ∙ before.entries;
-      less = omega (arith, s, less);
-      opened = one ∙ (ap (λ (n : ℕ). counted n 1) before.opened ∙ (counted_more old gone 1 ∙ ap (counted old) more));
-    }
+loop-top-preserved-in_default-enter c = grind (arith, opened, counted_more)
 
 pub loop-top-preserved : goal.loop-top-preserved
 loop-top-preserved c =
@@ -75,22 +51,11 @@ loop-top-preserved c =
     let frames = frames_pop c.loop-top.self.stack.items c.pop.new.self.items c.in-Some.top c.in-Some.ensures.items in
     let stack = popped_stack c.loop-top.self c.pop.new.self.items c.in-Some.top c.in-Some.ensures.items c.loop-top.invariant.moved.stack in
     let r = page_left (trail_bucket c.loop-top.self) f below c.args.back stack c.in_default-beside.ensures in
-    let same : pages_left c.args.back (record { pager = c.loop-top.self.pager; at = c.loop-top.self.at; stack = c.pop.new.self }) ≡ pages_left c.args.back c.loop-top.self = rw frames r.1 in
-    let before = c.loop-top.invariant in
-    record {
-      moved = record { file = before.moved.file; at = before.moved.at; stack = popped (trail_bucket c.loop-top.self) f below stack };
-      entries = rw (← frames) at r.0 ∙ before.entries;
-      less = rw same before.less;
-      opened = rw same before.opened;
-    }
-
-pub returns-clause-found : goal.returns-clause-found
-returns-clause-found c = search rules
+    grind (arith, popped, opened)
 
 -- what pop leaves is a stack, whether or not it took something
 left : (t : Trail) (items : List Position) (o : Option Position) → t.stack.items ≡ items ++ option_to_list o → HasTrail t → HasStack (trail_bucket t) (frames_of items)
-left t items None e stack = popped_none t items e stack
-left t items (Some top) e stack = popped (trail_bucket t) (frame_of top) (frames_of items) (popped_stack t items top e stack)
+left t items o e stack = grind (arith, common_steps, popped_none, popped, popped_stack)
 
 pub returns-clause-moved : goal.returns-clause-moved
 returns-clause-moved c = let was = c.loop-top.invariant.moved in record { file = was.file; at = was.at; stack = left c.loop-top.self c.pop.new.self.items c.pop.result c.pop.ensures.items was.stack }

@@ -1,5 +1,5 @@
-use Rattle.std.proofs.Common.{◌≡◌, ◌∷◌, ◌∙◌, ◌+◌, refl, subst, sym, arith}
-use Rattle.bolt_tree.proofs.Words.{BucketView, HasStack, Of_branch, branch_view, bytes_of, contents_in, meta_of, opened_content, pager_checked, shown, trail_bucket, trail_frames}
+use Rattle.std.proofs.Common.{◌≡◌, ◌∷◌, ◌∙◌, ◌+◌, refl, subst, arith}
+use Rattle.bolt_tree.proofs.Words.{BucketView, HasStack, Of_branch, branch_view, contents_in, opened_content, pager_checked, shown, trail_bucket, trail_frames}
 use Rattle.bolt_tree.proofs.{StackLemmas.child_pushed, StackLemmas.child_way, StackLemmas.retaken, TrailLemmas.moved_stack, TrailLemmas.way_kind}
 use Rattle.bolt_tree.proofs.WayPages.{content_shown}
 use Rattle.bolt_tree.proofs.trail.Trail.go_under.Goals as goal
@@ -13,9 +13,7 @@ of_page-requires c = way_kind (pager_checked c.args.self.now.pager) c.element.re
     (rw c.push.ensures.moved.file at c.open.ensures.page)
 
 child : (c : goal.After-of_page) → opened_content c.of_page.result ≡ contents_in (trail_bucket c.args.self.now) c.element.result.child
-child c =
-    let checked = pager_checked c.args.self.now.pager in
-    c.of_page.ensures ∙ sym (content_shown (bytes_of checked) (meta_of checked) c.element.result.child (shown c.open.result) (rw c.push.ensures.moved.file at c.open.ensures.page))
+child c = grind (arith, content_shown)
 
 pub returns-clause-child : goal.returns-clause-child
 returns-clause-child c = (branch_view c.element.result, c.element.ensures, child c)

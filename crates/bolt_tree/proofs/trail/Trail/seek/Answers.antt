@@ -1,7 +1,7 @@
 -- What the way down and then the move forward say, all of the bucket as it was.
-use Rattle.std.proofs.Common.{◌≡◌, [], ◌∙◌, ◌+◌, ◌-◌, ℕ, false, length, drop, sym, ap, arith, subst}
-use Rattle.bolt_tree.proofs.Words.{BucketView, Finds, HasStack, IsNearTop, IsSought, ahead, ahead_of, contents_in, counted, elements_in, least_from, pager_opened, pages_ahead, later_of, trail_bucket, trail_frames}
-use Rattle.bolt_tree.proofs.{MoveLemmas.found_over, PagerLemmas.counted_more, OpeningMoves.leaf_nonempty, OpeningMoves.seek_bounds, OpeningMoves.seek_opens}
+use Rattle.std.proofs.Common.{◌≡◌, [], ◌∙◌, ◌+◌, ◌-◌, ℕ, false, length, ap, arith, subst}
+use Rattle.bolt_tree.proofs.Words.{BucketView, Finds, HasStack, IsNearTop, IsSought, ahead, ahead_of, contents_in, counted, elements_in, pager_opened, pages_ahead, later_of, trail_bucket, trail_frames}
+use Rattle.bolt_tree.proofs.{PagerLemmas.counted_more, OpeningMoves.leaf_nonempty, OpeningMoves.seek_bounds, OpeningMoves.seek_opens}
 use Rattle.bolt_tree.proofs.TrailLemmas.{same_bucket}
 use Rattle.bolt_tree.proofs.trail.Trail.seek.Goals as goal
 
@@ -34,16 +34,10 @@ moved_stack : (c : goal.After-go-found) → HasStack (bucket c) (trail_frames c.
 moved_stack c = subst (λ (b : BucketView). HasStack b (trail_frames c.go-found.new.self)) (moved c) c.go-found.ensures.moved.stack
 
 finds : (c : goal.After-go-found) → Finds false c.go-found.result (ahead_of (contents_in (bucket c)) (trail_frames c.descend-compared.new.self)) (ahead_of (contents_in (bucket c)) (trail_frames c.go-found.new.self)) (trail_frames c.go-found.new.self) []
-finds c =
-    subst (λ (b : BucketView). Finds false c.go-found.result (ahead_of (contents_in (bucket c)) (trail_frames c.descend-compared.new.self)) (ahead_of (contents_in b) (trail_frames c.go-found.new.self)) (trail_frames c.go-found.new.self) []) (moved c)
-    (subst (λ (b : BucketView). Finds false c.go-found.result (ahead_of (contents_in b) (trail_frames c.descend-compared.new.self)) (ahead c.go-found.new.self) (trail_frames c.go-found.new.self) []) (landed c) c.go-found.ensures.found)
+finds c = grind arith
 
 pub returns-clause-found : goal.returns-clause-found
-returns-clause-found c =
-    let s = sought c in
-    let back = ap (λ (b : BucketView). ahead_of (contents_in b) (trail_frames c.descend-compared.new.self)) (sym (landed c)) in
-    found_over false c.go-found.result (drop (least_from c.args.key.now (elements_in (bucket c))) (elements_in (bucket c))) (ahead c.descend-compared.new.self) (ahead c.go-found.new.self) (trail_frames c.go-found.new.self) []
-    (s.rest ∙ back) c.go-found.ensures.found
+returns-clause-found c = grind (arith, sought, landed)
 
 pub returns-clause-number : goal.returns-clause-number
 returns-clause-number c = let s = sought c in let n = s.number in omega (arith, n)

@@ -1,4 +1,4 @@
-use Rattle.std.proofs.Common.{ap}
+use Rattle.std.proofs.Common.{arith, ap}
 use Rattle.bolt_tree.proofs.{Words.path_of, Walking.all_ahead, Walking.begins}
 use Rattle.bolt_tree.specs.Walks.{left_of}
 use Rattle.bolt_tree.proofs.walk.Walk.new.Goals as goal
@@ -8,6 +8,4 @@ unfolding left_of
 returns-clause-all c = λ listing lists. all_ahead c.args.checked (path_of c.new.result.path.items) (ap path_of c.new.ensures.path) listing lists
 
 pub invariant_of-result : goal.invariant_of-result
-invariant_of-result c = record {
-  placed = begins c.args.checked c.new.result c.new.ensures.checked c.new.ensures.cursors c.new.ensures.path;
-}
+invariant_of-result c = grind (arith, begins)

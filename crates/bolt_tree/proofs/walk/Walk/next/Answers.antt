@@ -1,4 +1,4 @@
-use Rattle.std.proofs.Common.{◌∙◌, Err, List, ◌∷◌, Ok, OnErr, Result, sym, ap}
+use Rattle.std.proofs.Common.{arith, ◌∙◌, List, ◌∷◌, OnErr, Result, sym, ap}
 use Rattle.bolt_tree.proofs.Words.{Item, Member, Path, item_view, left_by, open_path, reported_path, rest_after, walk_checked, walk_path, ∥∥₁_elim, ∥∥₁_map, ∥∥₁_prop}
 use Rattle.bolt_tree.proofs.{Climbing.listed_in, Climbing.none_beyond, Walking.ahead_in, Walking.ahead_prop}
 use Rattle.bolt_tree.specs.Walks.{left_of}
@@ -31,15 +31,11 @@ returns-in-Some-clause-given c = λ listing lists.
 
 pub returns-in-None-clause-given : goal.returns-in-None-clause-given
 unfolding left_of walk_checked walk_path
-returns-in-None-clause-given c = λ listing lists.
-    let came = rw c.in-None.is at c.in_ok-leaf.ensures.left in
-    let ended = rw c.in-None.is at c.in_ok-leaf.ensures.ended in
-    (came listing lists, none_beyond (open_path c.advance.new.self) listing ended, ended)
+returns-in-None-clause-given c = grind (arith, none_beyond)
 
 -- what always holds also holds of an error
 when_err : {X E P : Type 0} (result : Result X E) → P → OnErr result P
-when_err (Ok x) p = tt
-when_err (Err e) p = p
+when_err result p = grind arith
 
 pub returns-in_err-leaf-clause-same : goal.returns-in_err-leaf-clause-same
 unfolding left_of walk_checked
