@@ -1,15 +1,11 @@
 -- The found pages of a whole file.
-use Rattle.std.proofs.Common.{◌≡◌, ◌∙◌, ◌↔◌, ◌⊎◌, ◌+◌, inl, inr, ℕ, Bool, true, arith, List, [], ◌∷◌, Option, Some, None, Result, Ok, Err, IfOk, refl, sym, ap, subst}
-use Rattle.bolt_recover.proofs.Words.{AreFound, AreKeptPages, AreLosses, At_page, claims_meta, claims_of, Contains, contains_cases, contains_head, contains_none, contains_tail, done, Finding, FoundBelow, further, Has, HasSoundTrees, IsFoundPage, IsKeptPage, IsListedFree, IsLoneLeaf, IsMetaPage, IsRecovered, IsSurvey, kept, LosesNothing, LosesRoot, lost, Member, Meta, meta_pages, nat_tests, node_at, node_below, props, Recovery, recovery_meta, root_site, root_spot, WholeCourse, SpanAt, SurveyedWay, visit, ∥∥₁_elim}
+use Rattle.std.proofs.Common.{◌≡◌, ◌∙◌, ◌↔◌, ◌⊎◌, ◌+◌, inl, inr, ℕ, Bool, true, arith, List, [], ◌∷◌, Option, Some, None, refl, sym, ap, subst}
+use Rattle.bolt_recover.proofs.Words.{all_events, AreFound, AreKeptPages, AreLosses, At_page, claims_meta, claims_of, Contains, contains_cases, contains_head, contains_none, contains_tail, Event, Finding, FoundBelow, Has, HasSoundTrees, IsFoundPage, IsKeptPage, IsListedFree, IsLoneLeaf, IsMetaPage, IsRecovered, IsSurvey, kept, LosesNothing, LosesRoot, lost, Member, members_of, Meta, meta_pages, nat_tests, node_at, node_below, props, Recovery, recovery_meta, root_site, root_spot, SpanAt, SurveyedWay, Visited, visits_of, ∥∥₁_elim}
 use Rattle.bolt_recover.proofs.Existing.{has_survey, one_recovered, recovers}
 use Rattle.bolt_recover.proofs.FoundLemmas.{found_one, found_same, passed}
 use Rattle.bolt_recover.proofs.{Deciding.Decided, Deciding.decided_as, Deciding.decided_by, Deciding.either_decided, Deciding.lowest, LostWays.nothing_lost}
-use Rattle.bolt_recover.proofs.{NothingLost.sound, Recovering.claimed_all, Recovering.claimed_at_end, CourseSurveys.claims_in, CourseSurveys.surveyed}
+use Rattle.bolt_recover.proofs.{NothingLost.sound, Recovering.whole, Recovering.whole_claimed, CourseSurveys.claims_in, CourseSurveys.surveyed, Courses.events_none, Courses.events_visit}
 use Rattle.bolt_recover.proofs.SurveyIsOne.{gives_same, same_survey}
-
-pub if_ok : {X E : Type 0} {P Q : X → Type 0} (result : Result X E) → ((x : X) → P x → Q x) → IfOk result P → IfOk result Q
-if_ok (Ok x) to h = to x h
-if_ok (Err e) to h = h
 
 -- a recovery reads its file under its meta
 pub recovery_under : (recovery : Recovery) → claims_meta recovery.steps.claims ≡ recovery_meta recovery
@@ -99,7 +95,7 @@ module _ (file : List ℕ) (meta : Meta) where
 
   -- whether a page is kept or found can be told
   pub either_or_not : (found : List ℕ) (survey : List SurveyedWay) → IsSurvey file meta survey → (k : ℕ) → Decided (IsKeptPage file meta survey k ⊎ IsFoundPage file meta found k)
-  either_or_not found survey is k = either_decided (decided_by (claimed_at_end file meta 0 k) (claimed_all file meta 0 survey is k)) (found_or_not found k)
+  either_or_not found survey is k = either_decided (decided_by ((whole file meta 0).claimed k) (whole_claimed file meta 0 survey is k)) (found_or_not found k)
 
   -- an intact leaf that isn't listed as free shares a page
   pub shares : (found : List ℕ) (survey : List SurveyedWay) (way : List ℕ) (x : Finding) (n : ℕ) → AreFound file meta found → IsSurvey file meta survey → Has survey (lost way x)
@@ -121,9 +117,11 @@ module _ (file : List ℕ) (meta : Meta) (x : Finding) (loses : LosesRoot file m
   abbrev alone : List SurveyedWay
   alone = lost [] x ∷ []
 
-  root_course : WholeCourse file meta further [] (record { way = []; site = root_site file meta; found = Some x } ∷ []) []
-  root_course =
-      visit (gives_same (node_at file meta) IsMetaPage (λ n. meta_pages n ≡ true) (At_page (root_spot meta.root)) (Some x) (λ n low. grind (arith, nat_tests)) (λ n is. grind (arith, nat_tests)) loses) done
+  root_events : all_events file meta ≡ Visited [] (root_site file meta) (Some x) ∷ []
+  root_events =
+      events_visit file meta meta_pages [] (root_site file meta) (Some x) []
+      (gives_same (node_at file meta) IsMetaPage (λ n. meta_pages n ≡ true) (At_page (root_spot meta.root)) (Some x) (λ n low. grind (arith, nat_tests)) (λ n is. grind (arith, nat_tests)) loses)
+      ∙ ap (λ (es : List Event). Visited [] (root_site file meta) (Some x) ∷ es) (events_none file meta _)
 
   not_kept : (way : List ℕ) → Has alone (kept way) → ⊥
   not_kept way (inl same) = let f : None ≡ Some x = ap (λ (v : SurveyedWay). v.found) same in cc
@@ -131,9 +129,9 @@ module _ (file : List ℕ) (meta : Meta) (x : Finding) (loses : LosesRoot file m
 
   pub found_rootless : (taken : ℕ → Bool) (found : List ℕ) → ((n : ℕ) → (taken n ≡ true) ↔ IsMetaPage n)
       → FoundBelow file meta (λ n. taken n ≡ true) meta.high_water found → AreFound file meta found
-  found_rootless taken found metas below = are_some file meta found alone [] x (surveyed file meta _ [] root_course) (inl refl)
+  found_rootless taken found metas below = are_some file meta found alone [] x (subst (IsSurvey file meta) (ap visits_of root_events) (surveyed file meta)) (inl refl)
       (found_same file meta (λ n. taken n ≡ true) (IsKeptPage file meta alone) (λ k was. inl ((metas k).0 was))
       (λ k is. elim is [ inl low ↦ (metas k).1 low | inr (v, (there, span)) ↦ absurd (not_kept v there) ]) meta.high_water found below)
 
   pub nothing_recovered : (listing : List Member) → IsRecovered file meta listing → listing ≡ []
-  nothing_recovered listing is = one_recovered file meta listing [] is (recovers file meta _ [] root_course)
+  nothing_recovered listing is = one_recovered file meta listing [] is (subst (IsRecovered file meta) (ap members_of root_events) (recovers file meta))

@@ -1,5 +1,5 @@
 -- The members of the joined listing, one after another.
-use Rattle.std.proofs.Common.{◌≡◌, ◌≢◌, ◌∙◌, ℕ, true, false, List, [], ◌∷◌, ◌++◌, ◌⊎◌, inl, inr, Option, Some, None, Result, Ok, Err, IfOk, IfSome, OnErr, OnOk, filter, is_some, not, refl, sym, ap, subst, subst₂}
+use Rattle.std.proofs.Common.{◌≡◌, ◌≢◌, ◌∙◌, ℕ, true, false, List, [], ◌∷◌, ◌++◌, ◌⊎◌, inl, inr, Option, Some, None, Result, Ok, Err, IfOk, IfSome, OnErr, filter, is_some, not, refl, sym, ap, subst, subst₂}
 use Rattle.bolt_recover.proofs.Words.{All, All-head, All-tail, AreJoinable, below_bucket, Bucket, bucket_members, contains_cases, contains_head, contains_none, contains_tail, first_cmp, ForRecovered, Found, GivesKept, GivesNext, HasBucketKey, next_kept_members, holds_key, is_eq, is_found_path, is_lt, IsFoundView, HasNextKept, IsJoined, IsRecovered, item_view, joined_listing, Kept, kept_file, kept_left, kept_meta, kept_path, LacksBucketKey, LeafElement, leaves_of, LeavesKept, left_at, lost_and_found, Member, Meta, numbers_of, option_map, or_cases, or_parts, page_at, pages_of, Path, path_at, props, put_members, recovered_in, shown}
 use Rattle.bolt_recover.proofs.JoinedLemmas.{joined_keeps, joined_of, put_recovered, stays, with_elements}
 use Rattle.bolt_recover.specs.{declared.joined.Joined.Joined, declared.joined_parts.FoundMembers.FoundMembers, declared.joined.Stage.Stage}
@@ -109,10 +109,6 @@ pub gives_prop : (old new : List Member) (path : Path) (given : Option CodeItem)
 gives_prop old new path None = hlevel props
 gives_prop old new path (Some item) = hlevel props
 
-pub when_ok : {X E : Type 0} {P Q : Type 0} (result : Result X E) → (P → Q) → OnOk result P → OnOk result Q
-when_ok (Ok x) further holds = further holds
-when_ok (Err e) further holds = tt
-
 -- if no recovered member was left, none is
 pub still_none : {E : Type 0} (old new : Kept) (result : Result (Option CodeItem) E) → kept_file new ≡ kept_file old → kept_meta new ≡ kept_meta old
     → IfOk result (GivesKept old new) → OnErr result (LeavesKept old new) → HasNextKept Inside old None → HasNextKept Inside new None
@@ -126,7 +122,3 @@ still_none old new (Err fault) file meta gives same none = λ recovered is.
 pub none_given : (P : CodeItem → Type 0) (old new : List Member) (path : Path) (given : Option CodeItem) → old ≡ [] → GivesNext old new path (option_map item_view given) → IfSome given P
 none_given P old new path None none gives = tt
 none_given P old new path (Some item) none gives = absurd (let some = sym none ∙ gives in cc)
-
-pub when_fault : {X E : Type 0} {P Q : Type 0} (result : Result X E) → (P → Q) → OnErr result P → OnErr result Q
-when_fault (Ok x) further holds = tt
-when_fault (Err e) further holds = further holds

@@ -1,8 +1,8 @@
 -- The joined listing is the recovered one with the bucket of what is found put in.
 use Rattle.std.proofs.Common.{◌≡◌, ◌∙◌, ◌⊎◌, inl, inr, ℕ, Bool, true, false, not, List, [], ◌∷◌, ◌++◌, filter, map, refl, sym, ap, subst}
-use Rattle.bolt_recover.proofs.Words.{append-nil, AreFound, Bucket, cases_Bool, Contains, Contains-append_cases, contains_cases, contains_head, contains_tail, end, Equal, filter-append, filter_all, filter_none, first_cmp, found_tree, further, Greater, is_eq, is_found_path, is_lt, IsJoined, IsRecovered, joined_listing, key_cmp, key_lt, key_total, LacksBucketKey, LeafElement, leaves_of, Less, less_of, listing_below, listing_of, lost_and_found, Member, member_cmp, member_total, Meta, Ordering, page_at, Path, path_cmp, put_bucket, put_members, Rises, Tree, tree_of, Value, with_bucket, with_value}
+use Rattle.bolt_recover.proofs.Words.{append-nil, AreFound, Bucket, cases_Bool, Contains, Contains-append_cases, contains_cases, contains_head, contains_tail, end, Equal, filter-append, filter_all, filter_none, first_cmp, found_tree, Greater, is_eq, is_found_path, is_lt, IsJoined, IsRecovered, joined_listing, key_cmp, key_lt, key_total, LacksBucketKey, LeafElement, leaves_of, Less, less_of, listing_below, listing_of, lost_and_found, Member, member_cmp, member_total, Meta, Ordering, page_at, Path, path_cmp, put_bucket, put_members, Rises, Tree, tree_of, Value, with_bucket, with_value}
 use Rattle.bolt_recover.proofs.{Existing.has_recovered, Existing.one_recovered, Existing.recovers, FoundAll.one_found, FoundExists.has_found}
-use Rattle.bolt_recover.proofs.{CourseExists.course_exists, CourseTrees.course_tree, TreeOrder.Ordered, TreeOrder.ordered_rises, TreeOrder.rises_both, TreeOrder.under}
+use Rattle.bolt_recover.proofs.{CourseTrees.all_tree, TreeOrder.Ordered, TreeOrder.ordered_rises, TreeOrder.rises_both, TreeOrder.under}
 use Rattle.bolt_tree.proofs.ReadBack.{tree_back}
 
 abbrev pub stays : Member → Bool
@@ -96,9 +96,8 @@ module _ (file : List ℕ) (meta : Meta) where
 
   pub tree_recovered : (recovered : List Member) → IsRecovered file meta recovered → (tree : Tree) × (recovered ≡ listing_of tree)
   tree_recovered recovered is =
-      let (visits, members, course) = course_exists file meta further [] in
-      let (tree, same) = course_tree file meta further [] visits members course in
-      (tree, one_recovered file meta recovered members is (recovers file meta visits members course) ∙ same)
+      let (tree, same, own) = all_tree file meta in
+      (tree, one_recovered file meta recovered _ is (recovers file meta) ∙ same)
 
   pub put_recovered : (found : List (ℕ × List LeafElement)) (recovered : List Member) → IsRecovered file meta recovered
       → put_members (put_of (found_tree found)) recovered ≡ listing_of (put_bucket lost_and_found (found_tree found) (tree_of recovered))

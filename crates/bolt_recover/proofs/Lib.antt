@@ -1,4 +1,5 @@
 mod ContentLemmas
+mod Courses
 mod Deciding
 pub mod Existing
 mod FirstLoss
@@ -12,7 +13,6 @@ mod JoinedLemmas
 mod JoinedOrder
 mod KeptWays
 mod Leading
-pub mod LeftMembers
 mod LostWays
 mod NothingLost
 pub mod PageNames
@@ -21,11 +21,7 @@ mod SiteKeys
 mod SiteSteps
 mod Recovering
 pub mod Refused
-mod CourseExists
-mod CourseForgets
 mod CourseOrder
-mod CoursePaths
-mod CourseSteps
 mod CourseSurveys
 mod CourseTrees
 mod Searched
@@ -35,5 +31,6 @@ mod SoundWalks
 mod StepLemmas
 mod SurveyIsOne
 mod TaskLists
+mod Tested
 mod TreeOrder
 mod Words

@@ -36,16 +36,18 @@ pub use Rattle.bolt_recover.specs.Losses.{AreLosses, LossView, everything, loss_
 pub use Rattle.bolt_recover.specs.{PageKeys.last_digits, PageKeys.page_key, PageWays.ArePageWays, PageWays.is_at_page, PageWays.page_ways}
 pub use Rattle.bolt_recover.specs.Sites.{Site, elements_at, follow_sites, leaves_of, next_site, site_at, site_on, root_site, step_site}
 pub use Rattle.bolt_recover.specs.Private.FoundLeft.{below_bucket, bucket_members, pages_of}
-pub use Rattle.bolt_recover.specs.Private.Frames.{Advances, AreOpen, ComesTo, Ends, GivesHead, GoesOn, HasOpen, IsAllLeft, IsContent, IsGoodContent, IsGoodPage}
-pub use Rattle.bolt_recover.specs.Private.Frames.{IsLeft, IsOn, IsShallow, NoWay, State, StaysOn, ahead_path_len, ahead_tasks, ahead_weight, claims_nodes}
-pub use Rattle.bolt_recover.specs.Private.Frames.{content_elements, content_site, content_size, content_spot, is_over, left_by, lost_state, open_tasks}
-pub use Rattle.bolt_recover.specs.Private.Frames.{over_by, page_tasks, page_weight, spot_site, state_of, state_tasks, stay, step_path, steps_weight, tally_of}
+pub use Rattle.bolt_recover.specs.Private.Frames.{Advances, AreOpen, Ends, GivesHead, GoesOn, HasOpen, IsAllLeft, IsContent, IsGoodContent, IsGoodPage, IsOn, IsPlaced}
+pub use Rattle.bolt_recover.specs.Private.Frames.{IsShallow, StaysOn, ahead_path_len, ahead_tasks, claims_nodes, claims_with, content_elements, content_site, content_size}
+pub use Rattle.bolt_recover.specs.Private.Frames.{content_spot, members_left, open_tasks, outcome_left, page_tasks, page_weight, spot_site, step_path, steps_left}
+pub use Rattle.bolt_recover.specs.Private.Frames.{steps_path, steps_weight, tally_of, tasks_left, way_of}
 pub use Rattle.bolt_recover.specs.Private.Joining.{AreJoinable, HasNextKept, first_cmp, next_kept_members, holds_key, left_at, path_at, put_members, recovered_in}
 pub use Rattle.bolt_recover.specs.Private.KeptMembers.{GivesKept, LeavesKept, kept_file, kept_left, kept_meta, kept_path}
-pub use Rattle.bolt_recover.specs.Private.Courses.{Outcome, Course, WholeCourse, Task, To_give, To_visit, Visited, Way, after_visit, after_visits, claimed_after}
-pub use Rattle.bolt_recover.specs.Private.Courses.{claims_of, entry_count, entry_tasks, further, gives_at, in_span, lost_at, meta_pages, outcome_of, page_visit}
-pub use Rattle.bolt_recover.specs.Private.Courses.{site_size, site_tasks, span_of, tasks_after, tasks_from, visits_at}
-pub use Rattle.bolt_recover.specs.Private.Courses.Course.{done, give, visit}
+pub use Rattle.bolt_recover.specs.Private.Courses.{Event, Given, Outcome, Task, To_give, To_visit, Visited, Way, after_event, after_events, all_events}
+pub use Rattle.bolt_recover.specs.Private.Courses.{claimed_after, claims_of, entry_count, entry_tasks, further, give_all, gives_at, in_span, lost_at, members_of}
+pub use Rattle.bolt_recover.specs.Private.Courses.{meta_pages, outcome_of, page_visit, root_tasks, run_all, run_on, run_to, site_size, site_tasks, span_of, tasks_after}
+pub use Rattle.bolt_recover.specs.Private.Courses.{tasks_from, visits_at, visits_of}
+unfoldable pub use Rattle.bolt_recover.specs.Private.Courses.{events}
+pub use Rattle.bolt_recover.specs.Private.Tests.{first_claimed, or_else, test, test_node}
 pub use Rattle.bolt_recover.specs.Private.TreesLeft.{AreTreesOf, IsSearched, lost_of}
 pub use Rattle.bolt_recover.specs.{Recovered.ForRecovered, Recovered.IsRecovered, Recovered.IsRecoveredMember, Recoveries.AreFirst, Recoveries.ForLosses}
 pub use Rattle.bolt_recover.specs.Refusals.{IsRefusedRoot, IsUnrecoverable, KeepsRoot, LosesRoot}

@@ -1,7 +1,7 @@
 use Rattle.std.proofs.Common.{◌≡◌, ◌∙◌, ◌⊎◌, inl, inr, true, false, List, is_some, ap, sym, subst₂, ℕ}
 use Rattle.bolt_recover.proofs.Words.{AreJoinable, bucket_members, first_cmp, is_lt, joined_file, joined_left, joined_meta, joined_path, kept_path, merely, Meta, Path, props, put_members, ∥∥₁_elim, ∥∥₁_map}
 use Rattle.bolt_recover.proofs.JoinSteps.{before_given, bucket_given, gives_prop, next_kept_well, of_joined}
-use Rattle.bolt_recover.proofs.StepLemmas.{when_err}
+use Rattle.std.proofs.lemmas.Result.{MatchResult-from_err}
 use Rattle.bolt_recover.proofs.joined.Joined.next_before.Goals as goal
 use Rattle.bolt_recover.proofs.joined.Joined.next_before.Goals.{else-is_some-via-then-is_some+else-is_lt, else-is_some-via-else-is_some}
 
@@ -9,7 +9,7 @@ pub returns-in_err-item-clause-same : goal.returns-in_err-item-clause-same
 unfolding joined_file joined_left joined_meta
 returns-in_err-item-clause-same c =
     let self = c.args.self.now in
-    when_err c.from_residual.result (λ listing is. rw c.requires.stage
+    MatchResult-from_err c.from_residual.result _ _ c.from_residual.ensures.0 (λ _ listing is. rw c.requires.stage
     (∥∥₁_elim self.pages (hlevel props) (λ are.
     ap (put_members (bucket_members self.found.now)) (c.in_err-item.ensures.same _ (of_joined self listing are is)))))
 

@@ -1,7 +1,7 @@
 use Rattle.std.proofs.Common.{◌≡◌, List, [], sym, subst₂, ℕ}
 use Rattle.bolt_recover.proofs.Words.{AreJoinable, ForRecovered, joined_file, joined_left, joined_meta, joined_path, kept_file, kept_left, kept_meta, kept_path, Meta, props, ∥∥₁_elim, ∥∥₁_map}
 use Rattle.bolt_recover.proofs.{Existing.has_recovered, JoinSteps.gives_prop, JoinSteps.none_given, JoinSteps.of_joined, JoinSteps.still_none}
-use Rattle.bolt_recover.proofs.StepLemmas.{when_err}
+use Rattle.std.proofs.lemmas.Result.{MatchResult-from_err}
 use Rattle.bolt_recover.proofs.joined.Joined.next_inside.Goals as goal
 
 pub invariant_of-self-in-Break-1 : goal.invariant_of-self-in-Break-1
@@ -17,7 +17,7 @@ pub returns-in_err-item-clause-same : goal.returns-in_err-item-clause-same
 unfolding joined_file joined_left joined_meta
 returns-in_err-item-clause-same c =
     let self = c.args.self.now in
-    when_err c.from_residual.result (λ listing is. rw (c.requires.stage, c.in_default.ensures.0, c.in_default.ensures.1, c.in_default-next_kept.is)
+    MatchResult-from_err c.from_residual.result _ _ c.from_residual.ensures.0 (λ _ listing is. rw (c.requires.stage, c.in_default.ensures.0, c.in_default.ensures.1, c.in_default-next_kept.is)
     (∥∥₁_elim self.pages (hlevel props) (λ are.
     c.in_err-item.ensures.same _ (of_joined self listing are is))))
 

@@ -2,7 +2,7 @@
 use Rattle.std.proofs.Common.{◌≡◌, ◌∙◌, ◌||◌, Bool, List, ap, refl, subst₂, sym, ℕ}
 use Rattle.std.proofs.Math.Bool.{or_assoc}
 use Rattle.bolt_recover.proofs.Words.{AreLosses, first_cmp, holds_key, is_eq, is_found_path, IsRecovered, Member, Meta, Path, recovery_left, recovery_meta, recovery_path}
-use Rattle.bolt_recover.proofs.{FoundAll.recovery_under, JoinSteps.first_found, CourseExists.or_none}
+use Rattle.bolt_recover.proofs.{FoundAll.recovery_under, JoinSteps.first_found, Courses.or_none}
 use Rattle.bolt_recover.proofs.recovery.Recovery.finish.Goals as goal
 
 recovered_at : {f g : List ℕ} {m n : Meta} → g ≡ f → n ≡ m → (listing : List Member) → IsRecovered f m listing → IsRecovered g n listing
