@@ -11,10 +11,3 @@ returns-clause-all c =
     on_ok_weaker c.restart.result (λ all listing is. ∥∥₁_elim self.pages (hlevel props) (λ are.
     begun_left c.first_stage-self.result c.restart.new.self (kept_file self.kept) (kept_meta self.kept) self.found.now self.bucket self.next_kept
     (c.first_stage-self.ensures.none, c.first_stage-self.ensures.some) are all listing is)) c.restart.ensures.all
-
-pub returns-clause-listing : goal.returns-clause-listing
-unfolding joined_file joined_meta
-returns-clause-listing c = λ listing. rw (c.restart.ensures.reads.file, c.restart.ensures.reads.meta) (λ is. is, λ is. is)
-
-pub invariant_of-self-clause-pages : goal.invariant_of-self-clause-pages
-invariant_of-self-clause-pages c = rw (c.restart.ensures.reads.file, c.restart.ensures.reads.meta) c.args.self.now.pages

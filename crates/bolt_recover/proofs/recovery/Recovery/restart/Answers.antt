@@ -1,14 +1,9 @@
 -- The root page was kept before.
 use Rattle.std.proofs.Common.{◌∙◌, List, subst, sym, ℕ}
-use Rattle.bolt_recover.proofs.Words.{claims_file, claims_visited, IsAllLeft, IsOn, KeepsRoot, Meta, props, recovery_file, recovery_left, recovery_meta, ∥∥₁_elim, ∥∥₁_map, ∥∥₁_prop}
+use Rattle.bolt_recover.proofs.Words.{claims_file, claims_visited, IsAllLeft, IsOn, KeepsRoot, Meta, props, recovery_file, recovery_left, recovery_meta, ∥∥₁_elim, ∥∥₁_map}
 use Rattle.bolt_recover.proofs.Recovering.{left_all, on_begun, on_reserved}
 use Rattle.bolt_recover.specs.declared.steps.Steps.{Steps}
 use Rattle.bolt_recover.proofs.recovery.Recovery.restart.Goals as goal
-
-pub restart-requires : goal.restart-requires
-restart-requires c =
-    let claims = c.args.self.now.steps.claims in
-    ∥∥₁_elim c.args.self.now.on ∥∥₁_prop (λ on. ∥∥₁_map c.args.self.now.root (λ keeps. subst (KeepsRoot (claims_file claims)) (sym on.meta) keeps))
 
 pub invariant_of-self : goal.invariant_of-self
 invariant_of-self c =
