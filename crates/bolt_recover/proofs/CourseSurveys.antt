@@ -23,6 +23,13 @@ pub claims_in : (nodes : Nodes) (s : Spot) (n : ℕ) → (claims_of nodes s n �
 claims_in nodes (At_page s) n = span_in (nodes s.number) s.number n
 claims_in nodes (At_inline host keys) n = (λ e. absurd (false≢true e), λ h. absurd h)
 
+-- either of two facts that are told
+pub either_or : (a b : Bool) (A B C : Type 0) → (a ≡ true) ↔ A → (b ≡ true) ↔ B → (A → C) → (B → C) → (C → A ⊎ B) → ((a || b) ≡ true) ↔ C
+either_or a b A B C of_a of_b from_a from_b to = (
+  λ is. elim (or_cases a b is) [ inl h ↦ from_a (of_a.0 h) | inr h ↦ from_b (of_b.0 h) ],
+  λ c. elim (to c) [ inl h ↦ or_left a b (of_a.1 h) | inr h ↦ or_right a b (of_b.1 h) ],
+)
+
 module _ (file : List ℕ) (meta : Meta) where
   abbrev pub nodes : Nodes
   nodes = node_at file meta
@@ -40,13 +47,6 @@ module _ (file : List ℕ) (meta : Meta) where
     λ (v, (same, span)). (claims_in nodes p.spot n).1 (subst (λ (o : Option Spot). SpanHas nodes o n) (ap reach (ap (λ (z : SurveyedWay). z.way) same) ∙ spot_is file meta w p at) span),
   )
   by_visit w p (Some x) n at = (λ is. absurd (false≢true is), λ (v, (same, span)). absurd (let f : None ≡ Some x = ap (λ (z : SurveyedWay). z.found) same in cc))
-
-  -- one visit more
-  either_or : (a b : Bool) (A B C : Type 0) → (a ≡ true) ↔ A → (b ≡ true) ↔ B → (A → C) → (B → C) → (C → A ⊎ B) → ((a || b) ≡ true) ↔ C
-  either_or a b A B C of_a of_b from_a from_b to = (
-    λ is. elim (or_cases a b is) [ inl h ↦ from_a (of_a.0 h) | inr h ↦ from_b (of_b.0 h) ],
-    λ c. elim (to c) [ inl h ↦ or_left a b (of_a.1 h) | inr h ↦ or_right a b (of_b.1 h) ],
-  )
 
   loss_first : (o : Option Site) (p : Site) (f : Option Finding) → o ≡ Some p → lost_at p f ≡ loss_at o f
   loss_first o p None e = rw e refl
@@ -145,7 +145,7 @@ module _ (file : List ℕ) (meta : Meta) (survey : List SurveyedWay) where
   claims_after : (InFront : SurveyedWay → Type 0) (w : Way) (p : Site) (found : Option Finding) (claimed : ℕ → Bool) → site_at file meta w ≡ Some p → AreClaims InFront claimed
       → AreClaims (λ v. InFront v ⊎ (v ≡ record { way = w; found = found })) (claimed_after (nodes file meta) claimed p.spot found)
   claims_after InFront w p found claimed at claims n =
-      either_or file meta (claimed n) (span_of (nodes file meta) p.spot found n) _ _ _ (claims n) (by_visit file meta w p found n at)
+      either_or (claimed n) (span_of (nodes file meta) p.spot found n) _ _ _ (claims n) (by_visit file meta w p found n at)
       (λ is. elim is [ inl meta_page ↦ inl meta_page | inr (v, (front, span)) ↦ inr (v, (inl front, span)) ])
       (λ (v, (same, span)). inr (v, (inr same, span)))
       (λ is. elim is [

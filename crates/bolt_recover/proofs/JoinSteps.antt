@@ -1,14 +1,10 @@
 -- The members of the joined listing, one after another.
 use Rattle.std.proofs.Common.{◌≡◌, ◌≢◌, ◌∙◌, ℕ, true, false, List, [], ◌∷◌, ◌++◌, ◌⊎◌, inl, inr, Option, Some, None, Result, Ok, Err, IfOk, IfSome, OnErr, filter, is_some, not, refl, sym, ap, subst, subst₂}
-use Rattle.bolt_recover.proofs.Words.{All, All-head, All-tail, AreJoinable, below_bucket, Bucket, bucket_members, contains_cases, contains_head, contains_none, contains_tail, first_cmp, ForRecovered, Found, GivesKept, GivesNext, HasBucketKey, next_kept_members, holds_key, is_eq, is_found_path, is_lt, IsFoundView, HasNextKept, IsJoined, IsRecovered, item_view, joined_listing, Kept, kept_file, kept_left, kept_meta, kept_path, LacksBucketKey, LeafElement, leaves_of, LeavesKept, left_at, lost_and_found, Member, Meta, numbers_of, option_map, or_cases, or_parts, page_at, pages_of, Path, path_at, props, put_members, recovered_in, shown}
+use Rattle.bolt_recover.proofs.Words.{All, All-head, All-tail, AreJoinable, below_bucket, Bucket, bucket_members, contains_cases, contains_head, contains_none, contains_tail, first_cmp, ForRecovered, Found, GivesKept, GivesNext, HasBucketKey, next_kept_members, holds_key, is_found_path, is_lt, IsFoundView, HasNextKept, IsJoined, IsRecovered, item_view, joined_listing, Kept, kept_file, kept_left, kept_meta, LacksBucketKey, LeafElement, leaves_of, LeavesKept, left_at, lost_and_found, Member, Meta, numbers_of, option_map, or_cases, or_parts, page_at, pages_of, Path, props, put_members, recovered_in, shown}
 use Rattle.bolt_recover.proofs.JoinedLemmas.{joined_keeps, joined_of, put_recovered, stays, with_elements}
 use Rattle.bolt_recover.specs.{declared.joined.Joined.Joined, declared.joined_parts.FoundMembers.FoundMembers, declared.joined.Stage.Stage}
 use Rattle.bolt_recover.specs.declared.joined.Stage.TheVariants.{After, Before, Inside}
 use Rattle.bolt_tree.specs.declared.entry.Item.{Item as CodeItem}
-
-pub first_found : (path : Path) → is_eq (first_cmp path) ≡ is_found_path path
-first_found [] = refl
-first_found (key ∷ path) = refl
 
 -- what is told of the key
 pub key_held : (listing : List Member) → holds_key listing ≡ true → HasBucketKey listing
@@ -67,10 +63,6 @@ module _ (stage : Stage) (kept : Kept) where
   pub begun_well : (found : List Found) (next_kept : Option CodeItem) → Begins found → HasNextKept stage kept next_kept
   begun_well [] next_kept (none, some) = subst (λ (s : Stage). HasNextKept s kept next_kept) (sym (none refl)) tt
   begun_well (f ∷ found) next_kept (none, some) = subst (λ (s : Stage). HasNextKept s kept next_kept) (sym (some (some_found f found))) tt
-
-  pub begun_path : (found : List Found) (bucket : FoundMembers) → Begins found → path_at stage kept bucket ≡ kept_path kept
-  begun_path [] bucket (none, some) = rw (none refl) refl
-  begun_path (f ∷ found) bucket (none, some) = rw (some (some_found f found)) refl
 
   all_at : (file : List ℕ) (meta : Meta) (found : List Found) (bucket : FoundMembers) (next_kept : Option CodeItem) (listing recovered : List Member) → Begins found → IsParted file meta found listing recovered
       → kept_left kept recovered ≡ recovered → left_at stage kept found bucket next_kept recovered ≡ listing

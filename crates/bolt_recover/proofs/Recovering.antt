@@ -1,6 +1,6 @@
 -- A recovery between its calls: what comes of it in the end is all that comes of its file.
 use Rattle.std.proofs.Common.{◌≡◌, ◌∙◌, ◌≤◌, ◌<◌, ◌^◌, ℕ, true, ◌↔◌, List, [], ◌∷◌, ◌++◌, length, map, take, Option, Some, None, Result, Ok, Err, IfOk, OnErr, refl, sym, ap, subst, arith, append_assoc, Vec, Global}
-use Rattle.bolt_recover.proofs.Words.{Advances, after_event, after_events, all_events, append-nil, AreFirst, AreKeptPages, AreLosses, AreOpen, ArePageWays, claims_file, claims_meta, claims_nodes, claims_visited, Content, counted, Ends, Event, Given, GoesOn, IsAllLeft, IsGoodContent, IsGoodPage, IsKeptPage, IsOn, IsPlaced, IsRecovered, loss_view, losses_of, LossView, lost_at, Member, members_left, Meta, node_at, Nodes, OpenPage, Outcome, outcome_of, Page, page_ways, props, reached, StaysOn, steps_left, SurveyedWay, take-append-le, take_all, tally_of, Visited}
+use Rattle.bolt_recover.proofs.Words.{Advances, after_event, after_events, all_events, append-nil, AreFirst, AreKeptPages, AreLosses, AreOpen, ArePageWays, claims_file, claims_meta, claims_nodes, claims_visited, Content, counted, Ends, Event, Given, GoesOn, is_claimed, IsAllLeft, IsGoodContent, IsGoodPage, IsKeptPage, IsOn, IsPlaced, IsRecovered, loss_view, losses_of, LossView, lost_at, Member, members_left, Meta, node_at, Nodes, OpenPage, Outcome, outcome_of, Page, page_ways, props, reached, StaysOn, steps_left, SurveyedWay, take-append-le, take_all, tally_of, Visited}
 use Rattle.bolt_recover.proofs.{Existing.one_recovered, Existing.recovers, CourseSurveys.all_claimed, CourseSurveys.survey_of, CourseSurveys.surveyed, CourseSurveys.tally, SurveyIsOne.same_survey}
 use Rattle.bolt_format.specs.declared.element.Leaf.{Leaf}
 use Rattle.bolt_recover.specs.{declared.content.Content.TheVariants.Bucket, declared.steps.Steps.Steps}
@@ -53,12 +53,12 @@ grows nodes o (Visited way p found ∷ events) =
 pub left_all : (file : List ℕ) (meta : Meta) (begun : ℕ) (s : Steps) (listing : List Member) → IsAllLeft file meta begun s → IsRecovered file meta listing → members_left s ≡ listing
 left_all file meta begun s listing all recovered = all.members ∙ one_recovered file meta _ listing (recovers file meta) recovered
 
-pub on_begun : (file : List ℕ) (meta : Meta) (begun : ℕ) (s : Steps) → claims_file s.claims ≡ file → claims_meta s.claims ≡ meta → IsPlaced s → IsAllLeft file meta begun s → IsOn s meta begun
-on_begun file meta begun s of_file of_meta placed all = record { meta = of_meta; placed = placed; comes = all.outcome ∙ ap (λ (f : List ℕ). whole f meta begun) (sym of_file) }
+pub on_begun : (file : List ℕ) (meta : Meta) (begun : ℕ) (s : Steps) → claims_file s.claims ≡ file → claims_meta s.claims ≡ meta → IsAllLeft file meta begun s → IsOn s meta begun
+on_begun file meta begun s of_file of_meta all = record { meta = of_meta; comes = all.outcome ∙ ap (λ (f : List ℕ). whole f meta begun) (sym of_file) }
 
 -- where there is room for more open pages, the same is left
 pub on_reserved : (s : Steps) (meta : Meta) (begun : ℕ) (stack : Vec OpenPage Global) → stack.items ≡ s.open.items → IsOn s meta begun → IsOn (record s { «open» = stack }) meta begun
-on_reserved s meta begun stack same on = record { meta = on.meta; placed = rw same on.placed; comes = rw same on.comes }
+on_reserved s meta begun stack same on = record { meta = on.meta; comes = rw same on.comes }
 
 pub stays_advanced : {E : Type 0} (old new : Steps) (result : Result (Option Leaf) E) → IfOk result (Advances old new) → OnErr result (GoesOn old new) → StaysOn old new
 stays_advanced old new (Ok (Some leaf)) given same = given.on
@@ -67,14 +67,10 @@ stays_advanced old new (Err e) given same = same.on
 
 module _ {s : Steps} {meta : Meta} {begun : ℕ} (on : IsOn s meta begun) where
   pub on_further : {new : Steps} → StaysOn s new → IsOn new meta begun
-  on_further stays = record {
-    meta = stays.meta ∙ on.meta;
-    placed = stays.placed;
-    comes = stays.outcome ∙ on.comes ∙ ap (λ (file : List ℕ). whole file meta begun) (sym stays.file);
-  }
+  on_further stays = record { meta = stays.meta ∙ on.meta; comes = stays.outcome ∙ on.comes ∙ ap (λ (file : List ℕ). whole file meta begun) (sym stays.file) }
 
   -- after the end
-  pub ended_with : {new : Steps} → Ends s new → whole (claims_file s.claims) meta begun ≡ tally_of new
+  ended_with : {new : Steps} → Ends s new → whole (claims_file s.claims) meta begun ≡ tally_of new
   ended_with {new} h = sym on.comes ∙ sym h.on.outcome ∙ ap (after_events (claims_nodes new.claims) (tally_of new)) h.ended
 
   pub reported_ended : {new : Steps} → Ends s new → (losses : List LossView) → AreLosses (claims_file s.claims) meta losses → map loss_view new.losses.items ≡ losses
@@ -83,6 +79,10 @@ module _ {s : Steps} {meta : Meta} {begun : ℕ} (on : IsOn s meta begun) where
   -- each way to a page number was visited once
   pub visited_ended : {new : Steps} → Ends s new → (ways : ℕ) → ArePageWays (claims_file s.claims) meta ways → counted begun ways ≡ counted (claims_visited new.claims) 0
   visited_ended h ways are = whole_visited (claims_file s.claims) meta begun ways are ∙ ap (λ (o : Outcome). counted o.visited 0) (ended_with h)
+
+  -- and the claimed pages are those that kept ways take in
+  pub claimed_ended : {new : Steps} → Ends s new → AreKeptPages (claims_file s.claims) meta (is_claimed new.claims)
+  claimed_ended h = subst (λ (o : Outcome). AreKeptPages (claims_file s.claims) meta o.claimed) (ended_with h) (whole_claimed (claims_file s.claims) meta begun)
 
   -- the losses reported so far are the first of all losses
   pub reported_first : (losses : List LossView) → AreLosses (claims_file s.claims) meta losses → AreFirst (map loss_view s.losses.items) losses

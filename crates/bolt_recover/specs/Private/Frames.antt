@@ -186,8 +186,7 @@ abbrev pub Advances : Steps → Steps → Option element.Leaf → Type 0
 Advances old new (Some leaf) = GivesHead old new (leaf_view leaf)
 Advances old new None = Ends old new
 
--- Good steps over a file under this meta, begun after so many visits: in the end, all that comes of the file will have come of them.
+-- Steps over a file under this meta, begun after so many visits: in the end, all that comes of the file will have come of them.
 pub record IsOn (steps : Steps) (under : Meta) (begun : ℕ) : Type 0 where
   pub meta : claims_meta steps.claims ≡ under
-  pub placed : IsPlaced steps
   pub comes : outcome_left steps ≡ outcome_of (node_at (claims_file steps.claims) under) begun (all_events (claims_file steps.claims) under)

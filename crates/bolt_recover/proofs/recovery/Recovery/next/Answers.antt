@@ -1,38 +1,33 @@
-use Rattle.std.proofs.Common.{arith, ◌≡◌, ◌↔◌, Bool, true, List, ap, subst, sym, ℕ}
-use Rattle.bolt_recover.proofs.Words.{claims_file, is_claimed, IsKeptPage, KeepsRoot, Outcome, props, recovery_begun, recovery_claimed, recovery_file, recovery_losses, recovery_meta, recovery_visited, visited_fits, ∥∥₁_elim, ∥∥₁_map}
-use Rattle.bolt_recover.proofs.Recovering.{ended_with, on_further, placed_prop, reported_ended, stays_advanced, visited_ended, whole, whole_claimed}
+use Rattle.std.proofs.Common.{arith, List, subst, sym, ℕ}
+use Rattle.bolt_recover.proofs.Words.{KeepsRoot, merely, recovery_begun, recovery_claimed, recovery_file, recovery_losses, recovery_meta, recovery_visited, visited_fits, ∥∥₁_elim}
+use Rattle.bolt_recover.proofs.Recovering.{claimed_ended, on_further, placed_prop, reported_ended, stays_advanced, visited_ended}
 use Rattle.bolt_recover.proofs.recovery.Recovery.next.Goals as goal
 
 pub advance-requires : goal.advance-requires
-advance-requires c = ∥∥₁_elim c.args.self.now.on (placed_prop c.args.self.now.steps) (λ on. on.placed)
+advance-requires c = ∥∥₁_elim c.args.self.now.placed (placed_prop c.args.self.now.steps) (λ placed. placed)
 
 pub invariant_of-self : goal.invariant_of-self
 invariant_of-self c =
+    let self = c.args.self.now in
     let stays = stays_advanced _ _ c.advance.result c.advance.ensures.given c.advance.ensures.same in
     record {
-      sized = c.args.self.now.sized;
-      on = ∥∥₁_map c.args.self.now.on (λ on. on_further on stays);
-      root = subst (λ (file : List ℕ). ∥ KeepsRoot file c.args.self.now.meta ∥₁) (sym stays.file) c.args.self.now.root;
+      sized = self.sized;
+      placed = merely stays.placed;
+      on = on_further self.on stays;
+      root = subst (λ (file : List ℕ). ∥ KeepsRoot file self.meta ∥₁) (sym stays.file) self.root;
     }
 
 pub returns-in-None-clause-all : goal.returns-in-None-clause-all
 unfolding recovery_file recovery_losses recovery_meta
-returns-in-None-clause-all c = λ losses are.
-    ∥∥₁_elim c.args.self.now.on (hlevel props) (λ on. reported_ended on (rw c.in-None.is at c.in_ok-leaf.ensures.given) losses are)
+returns-in-None-clause-all c = reported_ended c.args.self.now.on (rw c.in-None.is at c.in_ok-leaf.ensures.given)
 
 pub returns-in-None-clause-visited : goal.returns-in-None-clause-visited
 unfolding recovery_begun recovery_file recovery_meta recovery_visited
 returns-in-None-clause-visited c = λ ways are.
-    ∥∥₁_elim c.args.self.now.on (hlevel props) (λ on.
-    let all = visited_ended on (rw c.in-None.is at c.in_ok-leaf.ensures.given) ways are in
+    let all = visited_ended c.args.self.now.on (rw c.in-None.is at c.in_ok-leaf.ensures.given) ways are in
     let fits = visited_fits c.advance.new.self.claims in
-    omega (arith, all, fits))
+    omega (arith, all, fits)
 
 pub returns-in-None-clause-kept : goal.returns-in-None-clause-kept
 unfolding recovery_claimed recovery_file recovery_meta
-returns-in-None-clause-kept c = λ survey is n.
-    let self = c.args.self.now in
-    let file = claims_file self.steps.claims in
-    let same : (whole file self.meta self.begun).claimed n ≡ is_claimed c.advance.new.self.claims n =
-    ∥∥₁_elim self.on (hlevel props) (λ on. ap (λ (o : Outcome). o.claimed n) (ended_with on (rw c.in-None.is at c.in_ok-leaf.ensures.given))) in
-    subst (λ (b : Bool). (b ≡ true) ↔ IsKeptPage file self.meta survey n) same (whole_claimed file self.meta self.begun survey is n)
+returns-in-None-clause-kept c = claimed_ended c.args.self.now.on (rw c.in-None.is at c.in_ok-leaf.ensures.given)
