@@ -155,3 +155,7 @@ module _ (file : List ℕ) (meta : Meta) where
 
   abbrev pub all_events : List Event
   all_events = events root_tasks meta_pages
+
+  -- and the members that are returned: the recovered listing of the file
+  abbrev pub recovered_of : List Member
+  recovered_of = members_of all_events

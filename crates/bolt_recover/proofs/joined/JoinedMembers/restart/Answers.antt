@@ -9,5 +9,5 @@ unfolding joined_file joined_left joined_meta
 returns-clause-all c =
     let self = c.args.self.now in
     on_ok_weaker c.restart.result (λ all listing is. ∥∥₁_elim self.pages (hlevel props) (λ are.
-    begun_left c.first_stage-self.result c.restart.new.self (kept_file self.kept) (kept_meta self.kept) self.found.now self.bucket self.next_kept
-    (c.first_stage-self.ensures.none, c.first_stage-self.ensures.some) are all listing is)) c.restart.ensures.all
+    begun_left (kept_file self.kept) (kept_meta self.kept) c.first_stage-self.result c.restart.new.self self.found.now self.bucket self.next_kept
+    c.first_stage-self.ensures.none c.first_stage-self.ensures.some are all listing is)) c.restart.ensures.all
