@@ -1,8 +1,8 @@
 -- A course visits ways in their order.
-use Rattle.std.proofs.Common.{◌≡◌, ◌∙◌, ◌<◌, inl, inr, ℕ, Bool, List, [], ◌∷◌, ◌++◌, Option, refl, sym, ap, subst, append_assoc}
-use Rattle.bolt_recover.proofs.Words.{append-nil, Before, Each, Event, Finding, Has, has_split, Meta, rises_append, RisesBy, Site, SurveyedWay, Task, tasks_after, To_give, To_visit, visits_of, Way}
+use Rattle.std.proofs.Common.{◌≡◌, ◌∙◌, ◌<◌, inl, inr, ℕ, zero, suc, Bool, List, [], ◌∷◌, ◌++◌, Option, Some, None, slice_get, arith, refl, sym, ap, subst, append_assoc}
+use Rattle.bolt_recover.proofs.Words.{append-nil, Before, Each, entry_tasks, Event, Finding, further, gives_at, LeafElement, Path, step_site, tasks_from, visits_at, Has, has_split, Meta, rises_append, RisesBy, Site, SurveyedWay, Task, tasks_after, To_give, To_visit, visits_of, Way}
 use Rattle.bolt_recover.proofs.Courses.{Course, Course.done, Course.give, Course.visit}
-use Rattle.bolt_recover.proofs.{SurveyIsOne.parent_before, SurveyIsOne.ways, TaskLists.IsAt, TaskLists.after_at, TaskLists.after_rises}
+use Rattle.bolt_recover.proofs.{SurveyIsOne.parent_before, SurveyIsOne.ways, TaskLists.IsAt, TaskLists.after_at, TaskLists.entry_at, TaskLists.from_at}
 use Rattle.bolt_check.specs.{Lists.RisesBy, Ways.Before}
 use Rattle.bolt_check.proofs.Lists.{Has as Among}
 
@@ -31,6 +31,22 @@ module _ (file : List ℕ) (meta : Meta) where
   across w p i j (To_give path e) b lt h k = tt
   across w p i j (To_visit v t) (To_give path e) lt h k = tt
   across w p i j (To_visit v t) (To_visit u q) lt h k = λ rest. rw (h.0, k.0) (siblings w i j rest lt)
+
+  entry_rises : (path : Path) (o : Option LeafElement) (v : Way) (q : Option Site) → RisesBy Ahead (gives_at file meta path o ++ visits_at file meta v q)
+  entry_rises path None v None = tt
+  entry_rises path (Some e) v None = (λ b h. absurd h, tt)
+  entry_rises path None v (Some t) = (λ b h. absurd h, tt)
+  entry_rises path (Some e) v (Some t) = (λ b h. tt, (λ b h. absurd h, tt))
+
+  from_rises : (w : Way) (p : Site) (i k : ℕ) → RisesBy Ahead (tasks_from file meta w p i k)
+  from_rises w p i zero = tt
+  from_rises w p i (suc k) =
+      rises_append Ahead (entry_tasks file meta w p i) (tasks_from file meta w p (suc i) k) (entry_rises p.path (slice_get p.elements i) (further w i) (step_site file meta p i)) (from_rises w p (suc i) k)
+      (λ a b ha hb. let (j, le, at) = from_at file meta w p (suc i) k b hb in across w p i j a b (omega (arith, le)) (entry_at file meta w p i a ha) at)
+
+  after_rises : (w : Way) (p : Site) (found : Option Finding) → RisesBy Ahead (tasks_after file meta w p found)
+  after_rises w p None = from_rises w p 0 _
+  after_rises w p (Some x) = tt
 
   child_ahead : (w : Way) (p : Site) (j : ℕ) (a b : Task) → IsAt file meta w p j a → Ahead (To_visit w p) b → Ahead a b
   child_ahead w p j (To_give path e) b at before = tt
@@ -65,7 +81,7 @@ module _ (file : List ℕ) (meta : Meta) where
   rises_course claimed tasks events (visit {way = w} {p = p} {found = found} {tasks = more} {events = rest} here course) rise =
       let first = tasks_after file meta w p found in
       let later = rises_course _ (first ++ more) rest course
-      (rises_append Ahead first more (after_rises file meta w p Ahead (λ i path e v t give visits. tt) (across w p) found) rise.1
+      (rises_append Ahead first more (after_rises w p found) rise.1
       (λ a b child inside. let (none, j, at) = after_at file meta w p found a child in child_ahead w p j a b at (rise.0 b inside))) in (
         (before_all w (visits_of rest) (λ u has. (below w u.way p found more rise.0 (later.1 u has)).0), later.0),
         λ u has. elim has [

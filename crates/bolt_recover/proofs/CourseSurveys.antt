@@ -1,9 +1,10 @@
 -- What a course visits is a survey, and what it returns are the elements at the kept ways.
-use Rattle.std.proofs.Common.{◌≡◌, ◌∙◌, ◌⊎◌, ◌↔◌, ◌≤◌, ◌<◌, inl, inr, ℕ, ◌+◌, Bool, true, ◌||◌, ◌&&◌, List, [], ◌∷◌, ◌++◌, length, nat_le, Option, Some, None, Result, Ok, Err, refl, sym, ap, subst, arith, append_assoc, cond}
-use Rattle.bolt_recover.proofs.Words.{after_event, after_events, all_events, and_parts, append-nil, At_inline, At_page, claimed_after, claims_of, Contains, contains_at, contains_cases, contains_head, contains_none, contains_tail, counted, Each, Event, false≢true, Finding, further, Given, Gives, Has, has_left, has_right, has_split, in_span, is_at_page, IsClaimedIn, IsKeptPage, IsMetaPage, IsOpen, IsRecoveredMember, IsSurvey, Item, item_of, kept, LeafElement, loss_at, losses_of, lost_at, members_of, Meta, meta_pages, nat_tests, Node, node_at, Nodes, or_cases, or_left, or_right, Outcome, outcome_of, page_visit, page_ways, Passes, Path, Reach, reached, root_site, root_tasks, same_Some, Site, site_at, site_size, span_of, SpanAt, SpanHas, SpanOf, Spot, step_site, sum_by-cons, SurveyedWay, Task, tasks_after, To_give, To_visit, Visited, visits_of, Way}
+use Rattle.std.proofs.Common.{◌≡◌, ◌∙◌, ◌⊎◌, ◌↔◌, ◌≤◌, ◌<◌, inl, inr, ℕ, ◌+◌, Bool, true, ◌||◌, ◌&&◌, List, [], ◌∷◌, ◌++◌, nat_le, Option, Some, None, Result, Ok, Err, refl, sym, ap, subst, arith, append_assoc, cond}
+use Rattle.bolt_recover.proofs.Words.{after_event, after_events, all_events, and_parts, append-nil, At_inline, At_page, claimed_after, claims_of, Contains, contains_at, contains_cases, contains_head, contains_none, contains_tail, counted, Each, Event, false≢true, Finding, further, Given, Gives, Has, has_left, has_right, has_split, in_span, is_at_page, IsClaimedIn, IsKeptPage, IsMetaPage, IsOpen, IsRecoveredMember, IsSurvey, Item, item_of, kept, LeafElement, loss_at, losses_of, lost_at, members_of, Meta, meta_pages, nat_tests, Node, node_at, Nodes, or_cases, or_left, or_right, Outcome, outcome_of, page_visit, page_ways, Path, Reach, reached, root_site, root_tasks, same_Some, Site, site_at, site_size, span_of, SpanAt, SpanHas, SpanOf, Spot, step_site, sum_by-cons, SurveyedWay, Task, tasks_after, To_give, To_visit, Visited, visits_of, Way}
 use Rattle.bolt_recover.proofs.{Courses.Course, Courses.Course.done, Courses.Course.give, Courses.Course.visit, Courses.course, CourseOrder.rises_course}
-use Rattle.bolt_recover.proofs.SiteFacts.{elements_is, leads_within, site_further, site_is, size_enough, slice_of, spot_is, step_spot}
+use Rattle.bolt_recover.proofs.SiteFacts.{leads_within, site_further, site_is, size_enough, slice_of, spot_is, step_spot}
 use Rattle.bolt_recover.proofs.SurveyIsOne.{Suffix, earlier, gives_same, next_suffix, ways}
+use Rattle.bolt_recover.proofs.MembersInBuckets.{well_at}
 use Rattle.bolt_recover.proofs.TaskLists.{IsAt, after_at, at_from}
 use Rattle.bolt_check.specs.{Lists.RisesBy, Ways.Before}
 use Rattle.bolt_check.proofs.Lists.{Has as Among}
@@ -232,6 +233,9 @@ module _ (file : List ℕ) (meta : Meta) where
       (λ n. (λ is. inl (grind (arith, nat_tests)), λ is. elim is [ inl low ↦ grind (arith, nat_tests) | inr (v, (front, span)) ↦ absurd front ]))
       (λ task h. elim h [ inl same ↦ subst (IsTask file meta survey_of) same (inl refl, refl) | inr none ↦ absurd none ])
 
+  pub placed : (w : Way) (p : Site) (found : Option Finding) → Among (all_events file meta) (Visited w p found) → site_at file meta w ≡ Some p
+  placed w p found there = (comes.only (Visited w p found) there).1
+
   -- a site that is visited, and what there is to do at a kept one
   site_of : (u : SurveyedWay) → Has survey_of u → (p : Site) × Among (all_events file meta) (Visited u.way p u.found) × (site_at file meta u.way ≡ Some p)
       × Gives (nodes file meta) (IsClaimedIn (nodes file meta) (reach file meta) survey_of u.way) p.spot u.found
@@ -262,11 +266,6 @@ module _ (file : List ℕ) (meta : Meta) where
     ];
   }
 
-  -- a kept site is as large as it has elements
-  size_of : (w : Way) (p : Site) (before : ℕ → Type 0) (s : Spot) → site_at file meta w ≡ Some p → p.spot ≡ s → Passes (nodes file meta) before s → length p.elements ≤ site_size (nodes file meta) p.spot p.elements
-  size_of w p before (At_page s) at is passes = size_enough file meta p s passes.node (elements_is file meta w p at) is passes.page
-  size_of w p before (At_inline host keys) at is passes = subst (λ (t : Spot). length p.elements ≤ site_size (nodes file meta) t p.elements) (sym is) (omega arith)
-
   pub all_members : (path : Path) (item : Item) → Contains (members_of (all_events file meta)) (path, item) ↔ IsRecoveredMember file meta survey_of path item
   all_members path item = (
     λ has.
@@ -277,14 +276,14 @@ module _ (file : List ℕ) (meta : Meta) where
         let (p, there, at, gives) = site_of (kept is.way) is.keeps in
         let one : p ≡ is.site = same_Some p is.site (sym at ∙ is.leads) in
         let (i, lt, get) = slice_of p.elements is.element (subst (λ (z : Site). Contains z.elements is.element) (sym one) is.has) in
-        let enough = size_of is.way p (IsClaimedIn (nodes file meta) (reach file meta) survey_of is.way) p.spot at refl gives in
+        let enough = size_enough file meta _ p.spot p.elements (well_at file meta is.way p at).1 gives in
         let given = done_at is.way p i (To_give (p.path ++ is.element.key ∷ []) is.element) there (omega (arith, lt, enough)) (get, refl) in
         let named : p.path ++ is.element.key ∷ [] ≡ path = ap (λ (z : Site). z.path ++ is.element.key ∷ []) one ∙ sym is.named in
         subst (λ (m : Path × Item). Contains (members_of (all_events file meta)) m) (λ j. (named j, sym is.is j)) (in_members (all_events file meta) (p.path ++ is.element.key ∷ []) is.element given),
   )
 
   pub tally : (begun : ℕ) → Tallied file meta (record { losses = []; visited = begun; claimed = meta_pages }) (all_events file meta)
-  tally begun = tallied file meta (record { losses = []; visited = begun; claimed = meta_pages }) (all_events file meta) (λ w p found there. (comes.only (Visited w p found) there).1)
+  tally begun = tallied file meta (record { losses = []; visited = begun; claimed = meta_pages }) (all_events file meta) placed
 
   -- the pages that its kept visits take in
   pub all_claimed : (begun n : ℕ) → ((outcome_of (nodes file meta) begun (all_events file meta)).claimed n ≡ true) ↔ IsKeptPage file meta survey_of n

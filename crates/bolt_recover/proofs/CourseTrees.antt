@@ -1,9 +1,9 @@
 -- What a course returns is what a tree lists: each site that is visited comes to a tree, in which a bucket holds what its own site comes to. The keys
 -- of each bucket rise, within the bounds of its site.
 use Rattle.std.proofs.Common.{◌≡◌, ◌∙◌, ◌≤◌, inl, inr, ℕ, zero, suc, Bool, true, false, List, [], ◌∷◌, ◌++◌, ◌⊎◌, Option, Some, None, slice_get, refl, sym, ap, subst, arith, append_assoc}
-use Rattle.bolt_recover.proofs.Words.{all_events, append-nil, below_less, Bucket, cases_Bool, cases_order, Each, end, entry_tasks, Event, Finding, from_more, get_before, Gives, gives_at, has_split, head_sequence, is_below, is_from, is_lt, Item, item_of, Key, key_lt, key_same, LeafElement, listing_below, listing_of, lower_of, lt_not_trans, lt_trans, Member, member_cmp, members_of, Meta, meta_pages, node_at, none-some, not_true, Path, Rises, root_tasks, same_Some, Site, Spot, step_site, Task, tasks_after, tasks_from, To_give, To_visit, Tree, upper_of, Value, visits_at, Way, with_bucket, with_value, further}
+use Rattle.bolt_recover.proofs.Words.{Visited, all_events, append-nil, below_less, Bucket, cases_Bool, cases_order, end, entry_tasks, Event, Finding, from_more, get_before, Gives, gives_at, head_sequence, is_below, is_from, is_lt, Item, item_of, Key, key_lt, key_same, LeafElement, listing_below, listing_of, lower_of, lt_not_trans, lt_trans, Member, member_cmp, members_of, Meta, meta_pages, node_at, none-some, not_true, Path, Rises, root_tasks, same_Some, Site, Spot, step_site, Task, tasks_after, tasks_from, To_give, To_visit, Tree, upper_of, Value, visits_at, Way, with_bucket, with_value, further}
 use Rattle.bolt_recover.proofs.{Courses.Course, Courses.Course.done, Courses.Course.give, Courses.Course.visit, Courses.course, SiteKeys.IsChild, SiteKeys.Keyed, SiteKeys.keyed}
-use Rattle.bolt_recover.proofs.{SiteSteps.IsTidy, SiteSteps.tidy_root, SiteSteps.tidy_step, TaskLists.after_at}
+use Rattle.bolt_recover.proofs.{CourseSurveys.placed, MembersInBuckets.well_at, SiteSteps.IsTidy}
 use Rattle.bolt_check.proofs.Lists.{Has}
 use Rattle.bolt_recover.proofs.TreeOrder.{HasKey, IsFirst, Ordered, ordered_rises}
 
@@ -49,8 +49,8 @@ Pieces (To_visit w p ∷ tasks) members =
 
 module _ (file : List ℕ) (meta : Meta) (w : Way) (p : Site) (keys : List Key) (known : Keyed file meta p keys) where
   -- a key of entry i of a site or of a later one
-  abbrev IsFrom : ℕ → Key → Type 0
-  IsFrom i k = (j : ℕ) × (own : Key) × (i ≤ j) × (slice_get keys j ≡ Some own) × (key_lt k own ≡ false)
+  abbrev IsOwn : ℕ → Key → Type 0
+  IsOwn i k = (j : ℕ) × (own : Key) × (i ≤ j) × (slice_get keys j ≡ Some own) × (key_lt k own ≡ false) × (is_below (upper_of p.spot) k ≡ true)
 
   -- the tree that the entries of a site come to, from one on
   record HasTree (i : ℕ) (rest : List Task) (members : List Member) : Type 0 where
@@ -58,12 +58,11 @@ module _ (file : List ℕ) (meta : Meta) (w : Way) (p : Site) (keys : List Key) 
     later : List Member
     same : members ≡ listing_below p.path tree ++ later
     ordered : Ordered tree
-    from : (k : Key) → HasKey tree k → IsFrom i k
-    within : IsWithin p.spot tree
+    own : (k : Key) → HasKey tree k → IsOwn i k
     pieces : Pieces rest later
 
-  from_next : (i : ℕ) (k : Key) → IsFrom (suc i) k → IsFrom i k
-  from_next i k (j, own, le, at, over) = (j, own, omega (arith, le), at, over)
+  own_next : (i : ℕ) (k : Key) → IsOwn (suc i) k → IsOwn i k
+  own_next i k (j, own, le, at, over, below) = (j, own, omega (arith, le), at, over, below)
 
   no_entry : (i : ℕ) (rest : List Task) (members : List Member) → HasTree (suc i) rest members → HasTree i rest members
   no_entry i rest members after = record {
@@ -71,8 +70,7 @@ module _ (file : List ℕ) (meta : Meta) (w : Way) (p : Site) (keys : List Key) 
     later = after.later;
     same = after.same;
     ordered = after.ordered;
-    from = λ k h. from_next i k (after.from k h);
-    within = after.within;
+    own = λ k h. own_next i k (after.own k h);
     pieces = after.pieces;
   }
 
@@ -81,18 +79,14 @@ module _ (file : List ℕ) (meta : Meta) (w : Way) (p : Site) (keys : List Key) 
     own_key : slice_get keys i ≡ Some e.key
     own_key = known.own i e get
 
-    first_key : (after : Tree) → ((k : Key) → HasKey after k → IsFrom (suc i) k) → IsFirst e.key after
-    first_key after from k h =
-        let (j, own, le, at, over) = from k h in
+    first_key : (after : Tree) → ((k : Key) → HasKey after k → IsOwn (suc i) k) → IsFirst e.key after
+    first_key after later k h =
+        let (j, own, le, at, over, below) = later k h in
         lt_not_trans e.key own k (known.rise i j e.key own (omega (arith, le)) own_key at) over
 
-    from_own : (after : Tree) → ((k : Key) → HasKey after k → IsFrom (suc i) k) → (k : Key) → (e.key ≡ k) ⊎ HasKey after k → IsFrom i k
-    from_own after from k (inl same) = subst (IsFrom i) same (i, e.key, omega arith, own_key, ap is_lt (key_same e.key))
-    from_own after from k (inr h) = from_next i k (from k h)
-
-    within_own : (after : Tree) → IsWithin p.spot after → (k : Key) → (e.key ≡ k) ⊎ HasKey after k → (is_from (lower_of p.spot) k ≡ true) × (is_below (upper_of p.spot) k ≡ true)
-    within_own after within k (inl same) = subst (λ (z : Key). (is_from (lower_of p.spot) z ≡ true) × (is_below (upper_of p.spot) z ≡ true)) same (known.each i e.key own_key)
-    within_own after within k (inr h) = within k h
+    all_own : (after : Tree) → ((k : Key) → HasKey after k → IsOwn (suc i) k) → (k : Key) → (e.key ≡ k) ⊎ HasKey after k → IsOwn i k
+    all_own after later k (inl same) = subst (IsOwn i) same (i, e.key, omega arith, own_key, ap is_lt (key_same e.key), (known.each i e.key own_key).1)
+    all_own after later k (inr h) = own_next i k (later k h)
 
     put_bucket : (deep : Path) (tree : Tree) (rest : List Task) (members inner more : List Member) → e.is_bucket ≡ true → deep ≡ p.path ++ e.key ∷ [] → Ordered tree
         → members ≡ (p.path ++ e.key ∷ [], item_of e) ∷ inner → inner ≡ listing_below deep tree ++ more → HasTree (suc i) rest more → HasTree i rest members
@@ -105,9 +99,8 @@ module _ (file : List ℕ) (meta : Meta) (w : Way) (p : Site) (keys : List Key) 
           same = first ∙ ap (λ (x : Item). (p.path ++ e.key ∷ [], x) ∷ inner) item
               ∙ ap (λ (ms : List Member). head ∷ ms) (second ∙ ap (λ (q : Path). listing_below q tree ++ more) named ∙ ap (λ (ms : List Member). listing_below (p.path ++ e.key ∷ []) tree ++ ms) after.same
               ∙ sym (append_assoc (listing_below (p.path ++ e.key ∷ []) tree) (listing_below p.path after.tree) after.later));
-          ordered = (first_key after.tree after.from, own, after.ordered);
-          from = from_own after.tree after.from;
-          within = within_own after.tree after.within;
+          ordered = (first_key after.tree after.own, own, after.ordered);
+          own = all_own after.tree after.own;
           pieces = after.pieces;
         }
 
@@ -120,9 +113,8 @@ module _ (file : List ℕ) (meta : Meta) (w : Way) (p : Site) (keys : List Key) 
             tree = with_value e.key e.value after.tree;
             later = after.later;
             same = first ∙ ap (λ (x : Item). (p.path ++ e.key ∷ [], x) ∷ more) item ∙ ap (λ (ms : List Member). (p.path ++ e.key ∷ [], Value e.value) ∷ ms) after.same;
-            ordered = (first_key after.tree after.from, after.ordered);
-            from = from_own after.tree after.from;
-            within = within_own after.tree after.within;
+            ordered = (first_key after.tree after.own, after.ordered);
+            own = all_own after.tree after.own;
             pieces = after.pieces;
           }
     ]
@@ -139,8 +131,8 @@ module _ (file : List ℕ) (meta : Meta) (w : Way) (p : Site) (keys : List Key) 
     child_upper None none k h = subst (λ (o : Option Key). is_below o k ≡ true) (child.last none) (within k h).1
     child_upper (Some next) at k h = below_less (upper_of p.spot) next k (known.each (suc i) next at).1 (child_below k next h at)
 
-    child_less : (j k : Key) → HasKey tree j → IsFrom (suc i) k → key_lt j k ≡ true
-    child_less j k h (n, own, le, at, over) = lt_not_trans j own k (elim (cases_order n (suc i)) [
+    child_less : (j k : Key) → HasKey tree j → IsOwn (suc i) k → key_lt j k ≡ true
+    child_less j k h (n, own, le, at, over, below) = lt_not_trans j own k (elim (cases_order n (suc i)) [
       | inl same ↦ child_below j own h (ap (slice_get keys) (sym same) ∙ at)
       | inr (inl under) ↦ absurd (omega (arith, under, le))
       | inr (inr above) ↦ let (next, is) = get_before keys (suc i) n own above at in lt_trans j next own (child_below j next h is) (known.rise (suc i) n next own above is at)
@@ -152,11 +144,10 @@ module _ (file : List ℕ) (meta : Meta) (w : Way) (p : Site) (keys : List Key) 
       later = after.later;
       same = first ∙ ap (λ (q : Path). listing_below q tree ++ more) child.path ∙ ap (λ (ms : List Member). listing_below p.path tree ++ ms) after.same
           ∙ sym (append_assoc (listing_below p.path tree) (listing_below p.path after.tree) after.later) ∙ ap (λ (ms : List Member). ms ++ after.later) (sym (both_list p.path tree after.tree));
-      ordered = both_ordered tree after.tree own after.ordered (λ j k h later. child_less j k h (after.from k later));
-      from = λ k h. elim (both_has tree after.tree k h) [ inl mine ↦ (i, child.key, omega arith, child.at, child_from k mine) | inr later ↦ from_next i k (after.from k later) ];
-      within = λ k h. elim (both_has tree after.tree k h) [
-        | inl mine ↦ (from_more (lower_of p.spot) child.key k (known.each i child.key child.at).0 (child_from k mine), child_upper (slice_get keys (suc i)) refl k mine)
-        | inr later ↦ after.within k later
+      ordered = both_ordered tree after.tree own after.ordered (λ j k h later. child_less j k h (after.own k later));
+      own = λ k h. elim (both_has tree after.tree k h) [
+        | inl mine ↦ (i, child.key, omega arith, child.at, child_from k mine, child_upper (slice_get keys (suc i)) refl k mine)
+        | inr later ↦ own_next i k (after.own k later)
       ];
       pieces = after.pieces;
     }
@@ -177,7 +168,7 @@ module _ (file : List ℕ) (meta : Meta) (w : Way) (p : Site) (keys : List Key) 
   ]
 
   site_tree : (i k : ℕ) (rest : List Task) (members : List Member) → Pieces (tasks_from file meta w p i k ++ rest) members → HasTree i rest members
-  site_tree i zero rest members pieces = record { tree = end; later = members; same = refl; ordered = tt; from = λ k h. absurd h; within = λ k h. absurd h; pieces = pieces }
+  site_tree i zero rest members pieces = record { tree = end; later = members; same = refl; ordered = tt; own = λ k h. absurd h; pieces = pieces }
   site_tree i (suc k) rest members pieces =
       let later = tasks_from file meta w p (suc i) k in
       entry_tree i (slice_get p.elements i) (step_site file meta p i) (later ++ rest) rest members refl refl
@@ -185,37 +176,28 @@ module _ (file : List ℕ) (meta : Meta) (w : Way) (p : Site) (keys : List Key) 
       (λ ms more. site_tree (suc i) k rest ms more)
 
 module _ (file : List ℕ) (meta : Meta) where
-  abbrev IsTidyTask : Task → Type 0
-  IsTidyTask (To_give q e) = Unit {0}
-  IsTidyTask (To_visit w p) = IsTidy file meta p
-
-  tidy_after : (w : Way) (p : Site) (found : Option Finding) (tasks : List Task) → Each IsTidyTask (To_visit w p ∷ tasks) → Each IsTidyTask (tasks_after file meta w p found ++ tasks)
-  tidy_after w p found tasks tidy task h = elim (has_split (tasks_after file meta w p found) tasks task h) [ inl child ↦ by task child | inr later ↦ tidy task (inr later) ]
-    where
-      by : (task : Task) → Has (tasks_after file meta w p found) task → IsTidyTask task
-      by (To_give path e) child = tt
-      by (To_visit v t) child = let (none, i, (is, next)) = after_at file meta w p found (To_visit v t) child in tidy_step file meta p t i (tidy (To_visit w p) (inl refl)) next
-
   visit_tree : (w : Way) (p : Site) (found : Option Finding) (before : ℕ → Type 0) (tasks : List Task) (members : List Member) → IsTidy file meta p → Gives (node_at file meta) before p.spot found
       → Pieces (tasks_after file meta w p found ++ tasks) members → Pieces (To_visit w p ∷ tasks) members
   visit_tree w p None before tasks members tidy passes pieces =
       let (keys, known) = keyed file meta before p tidy passes in
       let has = site_tree file meta w p keys known 0 _ tasks members pieces in
-      (has.tree, has.later, has.same, has.ordered, has.within, has.pieces)
+      let within : IsWithin p.spot has.tree = λ k h. let (j, own, le, at, over, below) = has.own k h in (from_more (lower_of p.spot) own k (known.each j own at).0 over, below) in
+      (has.tree, has.later, has.same, has.ordered, within, has.pieces)
   visit_tree w p (Some x) before tasks members tidy gives pieces = (end, members, refl, tt, (λ k h. absurd h), pieces)
 
-  pieces_course : (claimed : ℕ → Bool) (tasks : List Task) (events : List Event) → Course file meta claimed tasks events → Each IsTidyTask tasks → Pieces tasks (members_of events)
+  pieces_course : (claimed : ℕ → Bool) (tasks : List Task) (events : List Event) → Course file meta claimed tasks events
+      → ((w : Way) (p : Site) (found : Option Finding) → Has events (Visited w p found) → IsTidy file meta p) → Pieces tasks (members_of events)
   pieces_course claimed tasks events done tidy = refl
-  pieces_course claimed tasks events (give {tasks = more} {events = rest} course) tidy = (members_of rest, refl, pieces_course claimed more rest course (λ task h. tidy task (inr h)))
+  pieces_course claimed tasks events (give {tasks = more} {events = rest} course) tidy = (members_of rest, refl, pieces_course claimed more rest course (λ v q f h. tidy v q f (inr h)))
   pieces_course claimed tasks events (visit {way = w} {p = p} {found = found} {tasks = more} {events = rest} gives course) tidy =
-      visit_tree w p found (λ n. claimed n ≡ true) more (members_of rest) (tidy (To_visit w p) (inl refl)) gives
-      (pieces_course _ (tasks_after file meta w p found ++ more) rest course (tidy_after w p found more tidy))
+      visit_tree w p found (λ n. claimed n ≡ true) more (members_of rest) (tidy w p found (inl refl)) gives
+      (pieces_course _ (tasks_after file meta w p found ++ more) rest course (λ v q f h. tidy v q f (inr h)))
 
   -- all that comes of a file is what a tree lists
   pub all_tree : (tree : Tree) × (members_of (all_events file meta) ≡ listing_of tree) × Ordered tree
   all_tree =
       let (tree, rest, same, own, within, none) = pieces_course meta_pages (root_tasks file meta) (all_events file meta) (course file meta (root_tasks file meta) meta_pages)
-      (λ task h. elim h [ inl same ↦ subst IsTidyTask same (tidy_root file meta) | inr none ↦ absurd none ]) in
+      (λ w p found there. (well_at file meta w p (placed file meta w p found there)).1) in
       (tree, same ∙ ap (λ (ms : List Member). listing_below [] tree ++ ms) none ∙ append-nil (listing_below [] tree), own)
 
   pub members_rise : Rises member_cmp (members_of (all_events file meta))
