@@ -4,7 +4,7 @@ use Rattle.bolt_recover.proofs.Words.{all_events, AreFound, AreKeptPages, AreLos
 use Rattle.bolt_recover.proofs.Existing.{has_survey, one_recovered, recovers}
 use Rattle.bolt_recover.proofs.FoundLemmas.{found_one, found_same, passed}
 use Rattle.bolt_recover.proofs.{LostWays.nothing_lost, Tested.IsFirst, Tested.first_is}
-use Rattle.bolt_recover.proofs.{NothingLost.sound, Recovering.whole, Recovering.whole_claimed, CourseSurveys.claims_in, CourseSurveys.either_or, CourseSurveys.surveyed, Courses.events_none, Courses.events_visit}
+use Rattle.bolt_recover.proofs.{KeptWays.sound, Recovering.whole, Recovering.whole_claimed, CourseSurveys.claims_in, CourseSurveys.either_or, CourseSurveys.surveyed, Courses.events_none, Courses.events_visit}
 use Rattle.bolt_recover.proofs.SurveyIsOne.{gives_same, same_survey}
 
 -- a way of a survey is lost, or none is

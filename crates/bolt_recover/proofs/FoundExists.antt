@@ -1,11 +1,28 @@
 -- Each file has found pages: whether a page is found can be told.
-use Rattle.std.proofs.Common.{◌≡◌, ◌∙◌, ◌≢◌, ◌⊎◌, Bool, true, inl, inr, ℕ, zero, suc, List, [], ◌∷◌, ◌++◌, Option, Some, None, Ok, refl, sym, ap, subst, arith}
-use Rattle.bolt_recover.proofs.Words.{AreFound, At_page, cases_lt, Entry, Finding, FoundBelow, Gives, IsFoundNext, IsFoundPage, IsKeptPage, IsListedFree, IsLoneLeaf, IsSurvey, Meta, Node, node_at, Nodes, passes_silent, root_spot, SurveyedWay, test}
+use Rattle.std.proofs.Common.{◌≡◌, ◌∙◌, ◌≢◌, ◌⊎◌, Bool, true, inl, inr, ℕ, zero, suc, List, [], ◌∷◌, ◌++◌, Option, Some, None, Ok, refl, sym, ap, subst, arith, ◌↔◌}
+use Rattle.bolt_recover.proofs.Words.{AreFound, At_page, cases_Bool, cases_lt, false≢true, Entry, Finding, FoundBelow, Gives, IsFoundNext, IsFoundPage, IsKeptPage, IsListedFree, IsLoneLeaf, IsSurvey, Meta, Node, node_at, Nodes, passes_silent, root_spot, SurveyedWay, test}
 use Rattle.bolt_recover.proofs.{Existing.has_survey, FoundAll.are_none, FoundAll.are_some, FoundAll.either_is, FoundAll.in_either, FoundAll.lost_or_none, Tested.test_finds}
-use Rattle.bolt_recover.proofs.Deciding.{Decided, both_decided, decided_as, decided_by, not_decided}
 use Rattle.bolt_check.proofs.LeafLemmas.{lone_same}
 use Rattle.bolt_format.specs.Freelists.{free_ids_of, freelist_fault_of}
 use Rattle.bolt_check.specs.Accounts.{times_in}
+
+abbrev Decided : Type 0 → Type 0
+Decided P = P ⊎ (P → ⊥)
+
+decided_by : {P : Type 0} (b : Bool) → (b ≡ true) ↔ P → Decided P
+decided_by b is = elim (cases_Bool b) [ inl yes_ ↦ inl (is.0 yes_) | inr none ↦ inr (λ p. false≢true (sym none ∙ is.1 p)) ]
+
+decided_as : {P Q : Type 0} → (P → Q) → (Q → P) → Decided P → Decided Q
+decided_as to from (inl p) = inl (to p)
+decided_as to from (inr never) = inr (λ q. never (from q))
+
+both_decided : {P Q : Type 0} → Decided P → (P → Decided Q) → Decided (P × Q)
+both_decided (inl p) q = decided_as (λ h. (p, h)) (λ h. h.1) (q p)
+both_decided (inr never) q = inr (λ h. never h.0)
+
+not_decided : {P : Type 0} → Decided P → Decided (P → ⊥)
+not_decided (inl p) = inr (λ never. never p)
+not_decided (inr never) = inl never
 
 empty_or_not : (entries : List Entry) → Decided (entries ≢ [])
 empty_or_not [] = inr (λ some. some refl)

@@ -1,6 +1,6 @@
 -- What the tests of a spot find: the function gives what the definition asks for.
 use Rattle.std.proofs.Common.{◌≡◌, ℕ, zero, suc, ◌+◌, ◌<◌, ◌≤◌, inl, inr, List, Bool, true, false, nat_lt, Option, Some, None, Result, Ok, Err, if◌then◌else◌, refl, sym, ap, subst, arith, ◌∙◌}
-use Rattle.bolt_recover.proofs.Words.{At_inline, At_page, cases_lt, early, early_finding, false≢true, Finding, finding, first_claimed, Gives, inline_finding, IsInSpan, Key, late, Node, node_finding, Nodes, open_finding, option_map, or_else, PageSpot, Spot, test, test_node, twice}
+use Rattle.bolt_recover.proofs.Words.{At_inline, At_page, cases_lt, early, early_finding, false≢true, Finding, finding, first_claimed, first_or, Gives, inline_finding, IsInSpan, Key, late, Node, node_finding, Nodes, open_finding, option_map, or_else, PageSpot, Spot, test, test_node, twice}
 use Rattle.bolt_check.specs.declared.finding.TheConstants.Finding.{TWICE}
 
 -- the lowest claimed page among some, if there is one
@@ -8,28 +8,17 @@ abbrev pub IsFirst : (ℕ → Bool) → ℕ → ℕ → Option ℕ → Type 0
 IsFirst claimed n count None = (m : ℕ) → n ≤ m → m < n + count → claimed m ≡ true → ⊥
 IsFirst claimed n count (Some m) = (n ≤ m) × (m < n + count) × (claimed m ≡ true) × ((k : ℕ) → n ≤ k → k < m → claimed k ≡ true → ⊥)
 
-first_later : (claimed : ℕ → Bool) (n count : ℕ) (o : Option ℕ) → claimed n ≡ false → IsFirst claimed (suc n) count o → IsFirst claimed n (suc count) o
-first_later claimed n count o free is = by o is
-  where
-    not_here : (m : ℕ) → n ≤ m → m ≤ n → claimed m ≡ true → ⊥
-    not_here m low high was = let same : m ≡ n = omega arith in false≢true (sym free ∙ ap claimed (sym same) ∙ was)
-
-    by : (o : Option ℕ) → IsFirst claimed (suc n) count o → IsFirst claimed n (suc count) o
-    by None none = λ m low high was. elim (cases_lt n m) [ inl more ↦ none m (omega (arith, more)) (omega (arith, high)) was | inr here ↦ not_here m low here was ]
-    by (Some m) (low, high, was, first) = (
-      omega (arith, low),
-      omega (arith, high),
-      was,
-      λ k from lt h. elim (cases_lt n k) [ inl more ↦ first k (omega (arith, more)) lt h | inr here ↦ not_here k from here h ],
-    )
-
 pub first_is : (claimed : ℕ → Bool) (n count : ℕ) → IsFirst claimed n count (first_claimed claimed n count)
 first_is claimed n zero = λ m low high was. omega arith
-first_is claimed n (suc count) = by (claimed n) refl (first_is claimed (suc n) count)
+first_is claimed n (suc count) = by (first_claimed claimed n count) (claimed (n + count)) refl (first_is claimed n count)
   where
-    by : (b : Bool) → claimed n ≡ b → IsFirst claimed (suc n) count (first_claimed claimed (suc n) count) → IsFirst claimed n (suc count) (if b then Some n else first_claimed claimed (suc n) count)
-    by true was later = (omega arith, omega arith, was, λ k from lt h. omega arith)
-    by false free later = first_later claimed n count (first_claimed claimed (suc n) count) free later
+    by : (o : Option ℕ) (b : Bool) → claimed (n + count) ≡ b → IsFirst claimed n count o → IsFirst claimed n (suc count) (first_or o b (n + count))
+    by (Some m) b is (low, high, was, first) = (low, omega (arith, high), was, first)
+    by None true is none = (omega arith, omega arith, is, none)
+    by None false is none = λ m low high was. elim (cases_lt m (n + count)) [
+      | inl lower ↦ none m low lower was
+      | inr upper ↦ (let same : m ≡ n + count = omega (arith, high, upper) in false≢true (sym is ∙ ap claimed (sym same) ∙ was))
+    ]
 
 -- a page that can be opened is a node
 early_ok : (b : Bool) (x : Finding) (r : Result Node ℕ) (number : ℕ) → (if b then Some x else open_finding r number) ≡ None → (node : Node) × (r ≡ Ok node)

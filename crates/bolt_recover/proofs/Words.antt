@@ -47,7 +47,7 @@ pub use Rattle.bolt_recover.specs.Private.Courses.{claimed_after, claims_of, ent
 pub use Rattle.bolt_recover.specs.Private.Courses.{meta_pages, outcome_of, page_visit, root_tasks, run_all, run_on, run_to, site_size, site_tasks, span_of, tasks_after}
 pub use Rattle.bolt_recover.specs.Private.Courses.{recovered_of, tasks_from, visits_at, visits_of}
 unfoldable pub use Rattle.bolt_recover.specs.Private.Courses.{events}
-pub use Rattle.bolt_recover.specs.Private.Tests.{first_claimed, or_else, test, test_node}
+pub use Rattle.bolt_recover.specs.Private.Tests.{first_claimed, first_or, or_else, test, test_node}
 pub use Rattle.bolt_recover.specs.Private.TreesLeft.{AreTreesOf, IsSearched, lost_of}
 pub use Rattle.bolt_recover.specs.{Recovered.ForRecovered, Recovered.IsRecovered, Recovered.IsRecoveredMember, Recoveries.AreFirst, Recoveries.ForLosses}
 pub use Rattle.bolt_recover.specs.Refusals.{IsRefusedRoot, KeepsRoot, LosesRoot}

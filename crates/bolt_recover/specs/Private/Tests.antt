@@ -1,14 +1,19 @@
 -- What the tests of a spot find, as a function.
-use Rattle.std.specs.Prelude.{ℕ, zero, suc, Bool, Option, Some, None, Result, Ok, Err, if◌then◌else◌}
+use Rattle.std.specs.Prelude.{ℕ, zero, suc, ◌+◌, Bool, true, false, Option, Some, None, Result, Ok, Err}
 use Rattle.std.specs.Option.{option_map}
 use Rattle.bolt_check.specs.{Findings.early_finding, Findings.finding, Findings.inline_finding, Findings.node_finding, Nodes.Node, Nodes.Nodes}
 use Rattle.bolt_check.specs.{Ways.At_inline, Ways.At_page, Ways.PageSpot, Ways.Spot, declared.finding.Finding.Finding}
 use Rattle.bolt_check.specs.declared.finding.TheConstants.Finding.{TWICE}
 
 -- the lowest claimed page among so many, from page n on
+abbrev pub first_or : Option ℕ → Bool → ℕ → Option ℕ
+first_or (Some m) claimed n = Some m
+first_or None true n = Some n
+first_or None false n = None
+
 abbrev pub first_claimed : (ℕ → Bool) → ℕ → ℕ → Option ℕ
 first_claimed claimed n zero = None
-first_claimed claimed n (suc count) = if claimed n then Some n else first_claimed claimed (suc n) count
+first_claimed claimed n (suc count) = first_or (first_claimed claimed n count) (claimed (n + count)) (n + count)
 
 abbrev pub or_else : Option Finding → Option Finding → Option Finding
 or_else None later = later

@@ -1,7 +1,7 @@
 -- What is found is joined to what is kept of the same file, which has few enough pages.
 use Rattle.std.proofs.Common.{◌≡◌, ◌<◌, ◌≤◌, ◌*◌, ◌^◌, ◌/◌, ℕ, length, subst}
 use Rattle.bolt_recover.proofs.Words.{div-lt_iff_lt-mul, joined_left, le-div_iff_mul-le, props, ∥∥₁_elim}
-use Rattle.bolt_recover.proofs.{JoinSteps.begun_left, Searched.joinable}
+use Rattle.bolt_recover.proofs.{JoinedLemmas.begun_left, Searched.joinable}
 use Rattle.bolt_recover.proofs.joined.Joined.new.Goals as goal
 
 few : (n size divisor : ℕ) → divisor ≡ size → 0 < size → n / divisor < 10 ^ 16 → n < 10 ^ 16 * size

@@ -3,7 +3,7 @@ use Rattle.std.proofs.Common.{◌≡◌}
 use Rattle.std.proofs.lemmas.Result.{IfOk-weaker, on_err_weaker}
 use Rattle.bolt_tree.proofs.Measured.{walk_falls}
 use Rattle.bolt_recover.proofs.{Words.left_of, Words.props, Words.recovery_file, Words.recovery_left, Words.recovery_meta, Words.recovery_path, Words.walk_checked}
-use Rattle.bolt_recover.proofs.{Existing.recovers, JoinSteps.gives_prop, SoundWalks.walked}
+use Rattle.bolt_recover.proofs.{Existing.recovers, SoundWalks.gives_prop, SoundWalks.walked}
 use Rattle.bolt_recover.proofs.joined_parts.Kept.next.Goals as goal
 
 pub returns-in-Recovery-clause-given : goal.returns-in-Recovery-clause-given
