@@ -1,12 +1,10 @@
 -- A course visits ways in their order.
-use Rattle.std.proofs.Common.{◌≡◌, ◌∙◌, ◌<◌, inl, inr, ℕ, Bool, List, [], ◌∷◌, ◌++◌, map, Option, refl, sym, ap, subst, append_assoc}
-use Rattle.bolt_recover.proofs.Words.{append-nil, Before, done, Finding, further, give, Has, has_split, Each, Member, Meta, Site, rises_append, RisesBy, Course, Task, tasks_after, To_give, To_visit, SurveyedWay, visit, Visited, Way}
-use Rattle.bolt_recover.proofs.{SurveyIsOne.parent_before, SurveyIsOne.ways, TaskLists.IsAt, TaskLists.after_at, TaskLists.after_rises}
+use Rattle.std.proofs.Common.{◌≡◌, ◌∙◌, ◌<◌, inl, inr, ℕ, zero, suc, Bool, List, [], ◌∷◌, ◌++◌, Option, Some, None, slice_get, arith, refl, sym, ap, subst, append_assoc}
+use Rattle.bolt_recover.proofs.Words.{append-nil, Before, Each, entry_tasks, Event, Finding, further, gives_at, LeafElement, Path, step_site, tasks_from, visits_at, Has, has_split, Meta, rises_append, RisesBy, Site, SurveyedWay, Task, tasks_after, To_give, To_visit, visits_of, Way}
+use Rattle.bolt_recover.proofs.Courses.{Course, Course.done, Course.give, Course.visit}
+use Rattle.bolt_recover.proofs.{SurveyIsOne.parent_before, SurveyIsOne.ways, TaskLists.IsAt, TaskLists.after_at, TaskLists.entry_at, TaskLists.from_at}
 use Rattle.bolt_check.specs.{Lists.RisesBy, Ways.Before}
 use Rattle.bolt_check.proofs.Lists.{Has as Among}
-
-abbrev pub visits_of : List (Visited Way) → List SurveyedWay
-visits_of visits = map (λ (v : Visited Way). record { way = v.way; found = v.found }) visits
 
 siblings : (w : Way) (i j : ℕ) (rest : Way) → i < j → Before ((w ++ i ∷ []) ++ rest) (w ++ j ∷ [])
 siblings [] i j rest lt = inl lt
@@ -19,22 +17,38 @@ longer (i ∷ v) (j ∷ w) rest (inl h) = inl h
 longer (i ∷ v) (j ∷ w) rest (inr h) = inr (h.0, longer v w rest h.1)
 
 -- a way to be visited, and all below it, comes before one to be visited later
-abbrev pub Ahead : Task Way → Task Way → Type 0
+abbrev pub Ahead : Task → Task → Type 0
 Ahead (To_give path e) b = Unit {0}
 Ahead (To_visit v p) (To_give path e) = Unit {0}
 Ahead (To_visit v p) (To_visit u q) = (rest : Way) → Before (v ++ rest) u
 
 -- a way at or below one that is to be visited
-abbrev Under : List (Task Way) → Way → Type 0
+abbrev Under : List Task → Way → Type 0
 Under tasks u = (v : Way) × (p : Site) × (rest : Way) × Among tasks (To_visit v p) × (u ≡ v ++ rest)
 
 module _ (file : List ℕ) (meta : Meta) where
-  across : (w : Way) (p : Site) (i j : ℕ) (a b : Task Way) → i < j → IsAt file meta further w p i a → IsAt file meta further w p j b → Ahead a b
+  across : (w : Way) (p : Site) (i j : ℕ) (a b : Task) → i < j → IsAt file meta w p i a → IsAt file meta w p j b → Ahead a b
   across w p i j (To_give path e) b lt h k = tt
   across w p i j (To_visit v t) (To_give path e) lt h k = tt
   across w p i j (To_visit v t) (To_visit u q) lt h k = λ rest. rw (h.0, k.0) (siblings w i j rest lt)
 
-  child_ahead : (w : Way) (p : Site) (j : ℕ) (a b : Task Way) → IsAt file meta further w p j a → Ahead (To_visit w p) b → Ahead a b
+  entry_rises : (path : Path) (o : Option LeafElement) (v : Way) (q : Option Site) → RisesBy Ahead (gives_at file meta path o ++ visits_at file meta v q)
+  entry_rises path None v None = tt
+  entry_rises path (Some e) v None = (λ b h. absurd h, tt)
+  entry_rises path None v (Some t) = (λ b h. absurd h, tt)
+  entry_rises path (Some e) v (Some t) = (λ b h. tt, (λ b h. absurd h, tt))
+
+  from_rises : (w : Way) (p : Site) (i k : ℕ) → RisesBy Ahead (tasks_from file meta w p i k)
+  from_rises w p i zero = tt
+  from_rises w p i (suc k) =
+      rises_append Ahead (entry_tasks file meta w p i) (tasks_from file meta w p (suc i) k) (entry_rises p.path (slice_get p.elements i) (further w i) (step_site file meta p i)) (from_rises w p (suc i) k)
+      (λ a b ha hb. let (j, le, at) = from_at file meta w p (suc i) k b hb in across w p i j a b (omega (arith, le)) (entry_at file meta w p i a ha) at)
+
+  after_rises : (w : Way) (p : Site) (found : Option Finding) → RisesBy Ahead (tasks_after file meta w p found)
+  after_rises w p None = from_rises w p 0 _
+  after_rises w p (Some x) = tt
+
+  child_ahead : (w : Way) (p : Site) (j : ℕ) (a b : Task) → IsAt file meta w p j a → Ahead (To_visit w p) b → Ahead a b
   child_ahead w p j (To_give path e) b at before = tt
   child_ahead w p j (To_visit v t) (To_give path e) at before = tt
   child_ahead w p j (To_visit v t) (To_visit u q) at before = λ rest. subst (λ (z : Way). Before z u) (sym (append_assoc w (j ∷ []) rest) ∙ ap (λ (z : Way). z ++ rest) (sym at.0)) (before (j ∷ rest))
@@ -44,32 +58,31 @@ module _ (file : List ℕ) (meta : Meta) where
   before_all w (x ∷ visits) h = λ u has. elim has [ inl e ↦ subst (Before w) e (h x (inl refl)) | inr later ↦ before_all w visits (λ v inside. h v (inr inside)) u later ]
 
   -- all below what is to be visited next, and all below what comes after it
-  below : (w u : Way) (p : Site) (found : Option Finding) (tasks : List (Task Way)) → ((b : Task Way) → Among tasks b → Ahead (To_visit w p) b) → Under (tasks_after file meta further w p found ++ tasks) u
+  below : (w u : Way) (p : Site) (found : Option Finding) (tasks : List Task) → ((b : Task) → Among tasks b → Ahead (To_visit w p) b) → Under (tasks_after file meta w p found ++ tasks) u
       → Before w u × Under (To_visit w p ∷ tasks) u
   below w u p found tasks before (v, q, rest, inside, same) =
-      elim (has_split (tasks_after file meta further w p found) tasks (To_visit v q) inside) [
+      elim (has_split (tasks_after file meta w p found) tasks (To_visit v q) inside) [
         | inl child ↦
-            let (none, j, at) = after_at file meta further w p found (To_visit v q) child in
+            let (none, j, at) = after_at file meta w p found (To_visit v q) child in
             let long : u ≡ w ++ j ∷ rest = same ∙ ap (λ (z : Way). z ++ rest) at.0 ∙ append_assoc w (j ∷ []) rest in
             (subst (λ (z : Way). Before w z) (sym (same ∙ ap (λ (z : Way). z ++ rest) at.0)) (longer w (w ++ j ∷ []) rest (parent_before w j)), (w, p, j ∷ rest, inl refl, long))
         | inr later ↦
             (subst (λ (z : Way). Before w z) (sym same) (longer w v rest (subst (λ (z : Way). Before z v) (append-nil w) (before (To_visit v q) later []))), (v, q, rest, inr later, same))
       ]
 
-  abbrev Rise : List (Task Way) → List (Visited Way) → Type 0
-  Rise tasks visits = RisesBy Before (ways (visits_of visits)) × ((u : SurveyedWay) → Has (visits_of visits) u → Under tasks u.way)
+  abbrev Rise : List Task → List Event → Type 0
+  Rise tasks events = RisesBy Before (ways (visits_of events)) × ((u : SurveyedWay) → Has (visits_of events) u → Under tasks u.way)
 
-  pub rises_course : (claimed : ℕ → Bool) (tasks : List (Task Way)) (visits : List (Visited Way)) (members : List Member)
-      → Course file meta further claimed tasks visits members → RisesBy Ahead tasks → Rise tasks visits
-  rises_course claimed tasks visits members done rise = (tt, λ u has. absurd has)
-  rises_course claimed tasks visits members (give {tasks = more} {members = rest} course) rise =
-      let later = rises_course claimed more visits rest course rise.1 in
+  pub rises_course : (claimed : ℕ → Bool) (tasks : List Task) (events : List Event) → Course file meta claimed tasks events → RisesBy Ahead tasks → Rise tasks events
+  rises_course claimed tasks events done rise = (tt, λ u has. absurd has)
+  rises_course claimed tasks events (give {tasks = more} {events = rest} course) rise =
+      let later = rises_course claimed more rest course rise.1 in
       (later.0, λ u has. let (v, p, front, inside, same) = later.1 u has in (v, p, front, inr inside, same))
-  rises_course claimed tasks visits members (visit {way = w} {p = p} {found = found} {tasks = more} {visits = rest} here course) rise =
-      let first = tasks_after file meta further w p found in
-      let later = rises_course _ (first ++ more) rest members course
-      (rises_append Ahead first more (after_rises file meta further w p Ahead (λ i path e v t give visits. tt) (across w p) found) rise.1
-      (λ a b child inside. let (none, j, at) = after_at file meta further w p found a child in child_ahead w p j a b at (rise.0 b inside))) in (
+  rises_course claimed tasks events (visit {way = w} {p = p} {found = found} {tasks = more} {events = rest} here course) rise =
+      let first = tasks_after file meta w p found in
+      let later = rises_course _ (first ++ more) rest course
+      (rises_append Ahead first more (after_rises w p found) rise.1
+      (λ a b child inside. let (none, j, at) = after_at file meta w p found a child in child_ahead w p j a b at (rise.0 b inside))) in (
         (before_all w (visits_of rest) (λ u has. (below w u.way p found more rise.0 (later.1 u has)).0), later.0),
         λ u has. elim has [
           | inl same ↦ (w, p, [], inl refl, ap (λ (z : SurveyedWay). z.way) same ∙ sym (append-nil w))

@@ -1,7 +1,11 @@
--- What a course returns is what a tree lists: each site that is visited comes to a tree, in which a bucket holds what its own site comes to.
-use Rattle.std.proofs.Common.{◌≡◌, ◌∙◌, inl, inr, ℕ, zero, suc, Bool, true, List, [], ◌∷◌, ◌++◌, Option, Some, None, slice_get, refl, sym, ap, subst, append_assoc}
-use Rattle.bolt_recover.proofs.Words.{append-nil, Bucket, cases_Bool, done, Each, end, entry_tasks, Finding, give, Gives, gives_at, head_sequence, Item, item_of, Key, LeafElement, listing_below, listing_of, Member, Meta, node_at, none-some, Path, Site, root_site, Course, WholeCourse, same_Some, step_site, Task, tasks_after, tasks_from, To_give, To_visit, Tree, Value, visit, Visited, visits_at, with_bucket, with_value}
-use Rattle.bolt_recover.proofs.{SiteKeys.Keyed, SiteKeys.keyed, SiteSteps.IsTidy, CoursePaths.IsTidyTask, CoursePaths.root_tidy, CoursePaths.tidy_after}
+-- What a course returns is what a tree lists: each site that is visited comes to a tree, in which a bucket holds what its own site comes to. The keys
+-- of each bucket rise, within the bounds of its site.
+use Rattle.std.proofs.Common.{◌≡◌, ◌∙◌, ◌≤◌, inl, inr, ℕ, zero, suc, Bool, true, false, List, [], ◌∷◌, ◌++◌, ◌⊎◌, Option, Some, None, slice_get, refl, sym, ap, subst, arith, append_assoc}
+use Rattle.bolt_recover.proofs.Words.{Visited, all_events, append-nil, below_less, Bucket, cases_Bool, cases_order, end, entry_tasks, Event, Finding, from_more, get_before, Gives, gives_at, head_sequence, is_below, is_from, is_lt, Item, item_of, Key, key_lt, key_same, LeafElement, listing_below, listing_of, lower_of, lt_not_trans, lt_trans, Member, member_cmp, members_of, Meta, meta_pages, node_at, none-some, not_true, Path, Rises, root_tasks, same_Some, Site, Spot, step_site, Task, tasks_after, tasks_from, To_give, To_visit, Tree, upper_of, Value, visits_at, Way, with_bucket, with_value, further}
+use Rattle.bolt_recover.proofs.{Courses.Course, Courses.Course.done, Courses.Course.give, Courses.Course.visit, Courses.course, SiteKeys.IsChild, SiteKeys.Keyed, SiteKeys.keyed}
+use Rattle.bolt_recover.proofs.{CourseSurveys.placed, MembersInBuckets.well_at, SiteSteps.IsTidy}
+use Rattle.bolt_check.proofs.Lists.{Has}
+use Rattle.bolt_recover.proofs.TreeOrder.{HasKey, IsFirst, Ordered, ordered_rises}
 
 -- one tree after another
 abbrev both : Tree → Tree → Tree
@@ -16,86 +20,185 @@ both_list path (with_bucket key sequence inside rest) b =
     ap (λ (ms : List Member). (path ++ key ∷ [], Bucket sequence) ∷ (listing_below (path ++ key ∷ []) inside ++ ms)) (both_list path rest b)
     ∙ ap (λ (ms : List Member). (path ++ key ∷ [], Bucket sequence) ∷ ms) (sym (append_assoc (listing_below (path ++ key ∷ []) inside) (listing_below path rest) (listing_below path b)))
 
-module _ (file : List ℕ) (meta : Meta) {W : Type 0} (further : W → ℕ → W) where
-  -- each site to be visited comes to a tree
-  abbrev Pieces : List (Task W) → List Member → Type 0
-  Pieces [] members = members ≡ []
-  Pieces (To_give path e ∷ tasks) members = (rest : List Member) × (members ≡ (path, item_of e) ∷ rest) × Pieces tasks rest
-  Pieces (To_visit w p ∷ tasks) members = (tree : Tree) × (rest : List Member) × (members ≡ listing_below p.path tree ++ rest) × Pieces tasks rest
+both_has : (a b : Tree) (k : Key) → HasKey (both a b) k → HasKey a k ⊎ HasKey b k
+both_has end b k h = inr h
+both_has (with_value key value rest) b k (inl same) = inl (inl same)
+both_has (with_value key value rest) b k (inr h) = elim (both_has rest b k h) [ inl own ↦ inl (inr own) | inr later ↦ inr later ]
+both_has (with_bucket key sequence inside rest) b k (inl same) = inl (inl same)
+both_has (with_bucket key sequence inside rest) b k (inr h) = elim (both_has rest b k h) [ inl own ↦ inl (inr own) | inr later ↦ inr later ]
+
+both_first : (key : Key) (a b : Tree) → IsFirst key a → IsFirst key b → IsFirst key (both a b)
+both_first key a b own later k h = elim (both_has a b k h) [ inl x ↦ own k x | inr y ↦ later k y ]
+
+both_ordered : (a b : Tree) → Ordered a → Ordered b → ((j k : Key) → HasKey a j → HasKey b k → key_lt j k ≡ true) → Ordered (both a b)
+both_ordered end b own later less = later
+both_ordered (with_value key value rest) b (first, own) later less = (both_first key rest b first (λ k h. less key k (inl refl) h), both_ordered rest b own later (λ j k h. less j k (inr h)))
+both_ordered (with_bucket key sequence inside rest) b (first, deep, own) later less =
+    (both_first key rest b first (λ k h. less key k (inl refl) h), deep, both_ordered rest b own later (λ j k h. less j k (inr h)))
+
+-- the keys of a tree lie within the bounds of a site
+abbrev IsWithin : Spot → Tree → Type 0
+IsWithin s tree = (k : Key) → HasKey tree k → (is_from (lower_of s) k ≡ true) × (is_below (upper_of s) k ≡ true)
+
+-- each site to be visited comes to a tree
+abbrev Pieces : List Task → List Member → Type 0
+Pieces [] members = members ≡ []
+Pieces (To_give path e ∷ tasks) members = (rest : List Member) × (members ≡ (path, item_of e) ∷ rest) × Pieces tasks rest
+Pieces (To_visit w p ∷ tasks) members =
+    (tree : Tree) × (rest : List Member) × (members ≡ listing_below p.path tree ++ rest) × Ordered tree × IsWithin p.spot tree × Pieces tasks rest
+
+module _ (file : List ℕ) (meta : Meta) (w : Way) (p : Site) (keys : List Key) (known : Keyed file meta p keys) where
+  -- a key of entry i of a site or of a later one
+  abbrev IsOwn : ℕ → Key → Type 0
+  IsOwn i k = (j : ℕ) × (own : Key) × (i ≤ j) × (slice_get keys j ≡ Some own) × (key_lt k own ≡ false) × (is_below (upper_of p.spot) k ≡ true)
 
   -- the tree that the entries of a site come to, from one on
-  abbrev HasTree : Path → List (Task W) → List Member → Type 0
-  HasTree path rest members = (tree : Tree) × (more : List Member) × (members ≡ listing_below path tree ++ more) × Pieces rest more
+  record HasTree (i : ℕ) (rest : List Task) (members : List Member) : Type 0 where
+    tree : Tree
+    later : List Member
+    same : members ≡ listing_below p.path tree ++ later
+    ordered : Ordered tree
+    own : (k : Key) → HasKey tree k → IsOwn i k
+    pieces : Pieces rest later
 
-  put_child : (path : Path) (t : Site) (tree : Tree) (rest : List (Task W)) (members more : List Member) → t.path ≡ path → members ≡ listing_below t.path tree ++ more → HasTree path rest more → HasTree path rest members
-  put_child path t tree rest members more named first (after, last, same, pieces) = (
-    both tree after,
-    last,
-    first ∙ ap (λ (q : Path). listing_below q tree ++ more) named ∙ ap (λ (ms : List Member). listing_below path tree ++ ms) same
-        ∙ sym (append_assoc (listing_below path tree) (listing_below path after) last) ∙ ap (λ (ms : List Member). ms ++ last) (sym (both_list path tree after)),
-    pieces,
-  )
+  own_next : (i : ℕ) (k : Key) → IsOwn (suc i) k → IsOwn i k
+  own_next i k (j, own, le, at, over, below) = (j, own, omega (arith, le), at, over, below)
 
-  put_bucket : (path deep : Path) (e : LeafElement) (tree : Tree) (rest : List (Task W)) (members inner more : List Member) → e.is_bucket ≡ true → deep ≡ path ++ e.key ∷ []
-      → members ≡ (path ++ e.key ∷ [], item_of e) ∷ inner → inner ≡ listing_below deep tree ++ more → HasTree path rest more → HasTree path rest members
-  put_bucket path deep e tree rest members inner more is named first second (after, last, same, pieces) =
-      let item : item_of e ≡ Bucket (head_sequence e.value) = rw is refl in
-      let head : Member = (path ++ e.key ∷ [], Bucket (head_sequence e.value)) in (
-        with_bucket e.key (head_sequence e.value) tree after,
-        last,
-        first ∙ ap (λ (i : Item). (path ++ e.key ∷ [], i) ∷ inner) item
-            ∙ ap (λ (ms : List Member). head ∷ ms) (second ∙ ap (λ (q : Path). listing_below q tree ++ more) named ∙ ap (λ (ms : List Member). listing_below (path ++ e.key ∷ []) tree ++ ms) same
-            ∙ sym (append_assoc (listing_below (path ++ e.key ∷ []) tree) (listing_below path after) last)),
-        pieces,
-      )
+  no_entry : (i : ℕ) (rest : List Task) (members : List Member) → HasTree (suc i) rest members → HasTree i rest members
+  no_entry i rest members after = record {
+    tree = after.tree;
+    later = after.later;
+    same = after.same;
+    ordered = after.ordered;
+    own = λ k h. own_next i k (after.own k h);
+    pieces = after.pieces;
+  }
 
-  put_element : (path : Path) (e : LeafElement) (rest : List (Task W)) (members more : List Member) → members ≡ (path ++ e.key ∷ [], item_of e) ∷ more → HasTree path rest more → HasTree path rest members
-  put_element path e rest members more first (tree, last, same, pieces) = elim (cases_Bool e.is_bucket) [
-    | inl is ↦ put_bucket path (path ++ e.key ∷ []) e end rest members more more is refl first refl (tree, last, same, pieces)
-    | inr is ↦
-        let item : item_of e ≡ Value e.value = rw is refl in
-        (with_value e.key e.value tree, last, first ∙ ap (λ (i : Item). (path ++ e.key ∷ [], i) ∷ more) item ∙ ap (λ (ms : List Member). (path ++ e.key ∷ [], Value e.value) ∷ ms) same, pieces)
+  -- an element, before what the later ones come to
+  module _ (i : ℕ) (e : LeafElement) (get : slice_get p.elements i ≡ Some e) where
+    own_key : slice_get keys i ≡ Some e.key
+    own_key = known.own i e get
+
+    first_key : (after : Tree) → ((k : Key) → HasKey after k → IsOwn (suc i) k) → IsFirst e.key after
+    first_key after later k h =
+        let (j, own, le, at, over, below) = later k h in
+        lt_not_trans e.key own k (known.rise i j e.key own (omega (arith, le)) own_key at) over
+
+    all_own : (after : Tree) → ((k : Key) → HasKey after k → IsOwn (suc i) k) → (k : Key) → (e.key ≡ k) ⊎ HasKey after k → IsOwn i k
+    all_own after later k (inl same) = subst (IsOwn i) same (i, e.key, omega arith, own_key, ap is_lt (key_same e.key), (known.each i e.key own_key).1)
+    all_own after later k (inr h) = own_next i k (later k h)
+
+    put_bucket : (deep : Path) (tree : Tree) (rest : List Task) (members inner more : List Member) → e.is_bucket ≡ true → deep ≡ p.path ++ e.key ∷ [] → Ordered tree
+        → members ≡ (p.path ++ e.key ∷ [], item_of e) ∷ inner → inner ≡ listing_below deep tree ++ more → HasTree (suc i) rest more → HasTree i rest members
+    put_bucket deep tree rest members inner more is named own first second after =
+        let item : item_of e ≡ Bucket (head_sequence e.value) = rw is refl in
+        let head : Member = (p.path ++ e.key ∷ [], Bucket (head_sequence e.value)) in
+        record {
+          tree = with_bucket e.key (head_sequence e.value) tree after.tree;
+          later = after.later;
+          same = first ∙ ap (λ (x : Item). (p.path ++ e.key ∷ [], x) ∷ inner) item
+              ∙ ap (λ (ms : List Member). head ∷ ms) (second ∙ ap (λ (q : Path). listing_below q tree ++ more) named ∙ ap (λ (ms : List Member). listing_below (p.path ++ e.key ∷ []) tree ++ ms) after.same
+              ∙ sym (append_assoc (listing_below (p.path ++ e.key ∷ []) tree) (listing_below p.path after.tree) after.later));
+          ordered = (first_key after.tree after.own, own, after.ordered);
+          own = all_own after.tree after.own;
+          pieces = after.pieces;
+        }
+
+    put_element : (rest : List Task) (members more : List Member) → members ≡ (p.path ++ e.key ∷ [], item_of e) ∷ more → HasTree (suc i) rest more → HasTree i rest members
+    put_element rest members more first after = elim (cases_Bool e.is_bucket) [
+      | inl is ↦ put_bucket (p.path ++ e.key ∷ []) end rest members more more is refl tt first refl after
+      | inr is ↦
+          let item : item_of e ≡ Value e.value = rw is refl in
+          record {
+            tree = with_value e.key e.value after.tree;
+            later = after.later;
+            same = first ∙ ap (λ (x : Item). (p.path ++ e.key ∷ [], x) ∷ more) item ∙ ap (λ (ms : List Member). (p.path ++ e.key ∷ [], Value e.value) ∷ ms) after.same;
+            ordered = (first_key after.tree after.own, after.ordered);
+            own = all_own after.tree after.own;
+            pieces = after.pieces;
+          }
+    ]
+
+  -- what a child of a branch comes to
+  module _ (i : ℕ) (t : Site) (child : IsChild p t i keys) (tree : Tree) (within : IsWithin t.spot tree) where
+    child_from : (k : Key) → HasKey tree k → key_lt k child.key ≡ false
+    child_from k h = not_true (key_lt k child.key) (subst (λ (o : Option Key). is_from o k ≡ true) child.lower (within k h).0)
+
+    child_below : (k next : Key) → HasKey tree k → slice_get keys (suc i) ≡ Some next → key_lt k next ≡ true
+    child_below k next h at = subst (λ (o : Option Key). is_below o k ≡ true) (child.next next at) (within k h).1
+
+    child_upper : (o : Option Key) → slice_get keys (suc i) ≡ o → (k : Key) → HasKey tree k → is_below (upper_of p.spot) k ≡ true
+    child_upper None none k h = subst (λ (o : Option Key). is_below o k ≡ true) (child.last none) (within k h).1
+    child_upper (Some next) at k h = below_less (upper_of p.spot) next k (known.each (suc i) next at).1 (child_below k next h at)
+
+    child_less : (j k : Key) → HasKey tree j → IsOwn (suc i) k → key_lt j k ≡ true
+    child_less j k h (n, own, le, at, over, below) = lt_not_trans j own k (elim (cases_order n (suc i)) [
+      | inl same ↦ child_below j own h (ap (slice_get keys) (sym same) ∙ at)
+      | inr (inl under) ↦ absurd (omega (arith, under, le))
+      | inr (inr above) ↦ let (next, is) = get_before keys (suc i) n own above at in lt_trans j next own (child_below j next h is) (known.rise (suc i) n next own above is at)
+    ]) over
+
+    put_child : (rest : List Task) (members more : List Member) → Ordered tree → members ≡ listing_below t.path tree ++ more → HasTree (suc i) rest more → HasTree i rest members
+    put_child rest members more own first after = record {
+      tree = both tree after.tree;
+      later = after.later;
+      same = first ∙ ap (λ (q : Path). listing_below q tree ++ more) child.path ∙ ap (λ (ms : List Member). listing_below p.path tree ++ ms) after.same
+          ∙ sym (append_assoc (listing_below p.path tree) (listing_below p.path after.tree) after.later) ∙ ap (λ (ms : List Member). ms ++ after.later) (sym (both_list p.path tree after.tree));
+      ordered = both_ordered tree after.tree own after.ordered (λ j k h later. child_less j k h (after.own k later));
+      own = λ k h. elim (both_has tree after.tree k h) [
+        | inl mine ↦ (i, child.key, omega arith, child.at, child_from k mine, child_upper (slice_get keys (suc i)) refl k mine)
+        | inr later ↦ own_next i k (after.own k later)
+      ];
+      pieces = after.pieces;
+    }
+
+  entry_tree : (i : ℕ) (o : Option LeafElement) (q : Option Site) (later rest : List Task) (members : List Member) → slice_get p.elements i ≡ o → step_site file meta p i ≡ q
+      → Pieces ((gives_at file meta p.path o ++ visits_at file meta (further w i) q) ++ later) members → ((ms : List Member) → Pieces later ms → HasTree (suc i) rest ms) → HasTree i rest members
+  entry_tree i None None later rest members get next pieces onward = no_entry i rest members (onward members pieces)
+  entry_tree i (Some e) None later rest members get next (more, first, pieces) onward = put_element i e get rest members more first (onward more pieces)
+  entry_tree i None (Some t) later rest members get next (tree, more, first, own, within, pieces) onward = elim (known.kids i t next) [
+    | inl (x, at, deep, bucket) ↦ absurd (none-some x (sym get ∙ at))
+    | inr child ↦ put_child i t child tree within rest members more own first (onward more pieces)
+  ]
+  entry_tree i (Some e) (Some t) later rest members get next (inner, first, (tree, more, second, own, within, pieces)) onward = elim (known.kids i t next) [
+    | inl (x, at, deep, bucket) ↦
+        let one = same_Some x e (sym at ∙ get) in
+        put_bucket i e get t.path tree rest members inner more (ap (λ (y : LeafElement). y.is_bucket) (sym one) ∙ bucket) (deep ∙ ap (λ (y : LeafElement). p.path ++ y.key ∷ []) one) own first second (onward more pieces)
+    | inr child ↦ absurd (none-some e (sym child.none ∙ get))
   ]
 
-  module _ (w : W) (p : Site) (keys : List Key) (known : Keyed file meta p keys) where
-    entry_tree : (i : ℕ) (o : Option LeafElement) (q : Option Site) (later rest : List (Task W)) (members : List Member) → slice_get p.elements i ≡ o → step_site file meta p i ≡ q
-        → Pieces ((gives_at file meta further p.path o ++ visits_at file meta further (further w i) q) ++ later) members → ((ms : List Member) → Pieces later ms → HasTree p.path rest ms) → HasTree p.path rest members
-    entry_tree i None None later rest members get next pieces onward = onward members pieces
-    entry_tree i (Some e) None later rest members get next (more, first, pieces) onward = put_element p.path e rest members more first (onward more pieces)
-    entry_tree i None (Some t) later rest members get next (tree, more, first, pieces) onward = elim (known.kids i t next) [
-      | inl (x, at, deep, bucket) ↦ absurd (none-some x (sym get ∙ at))
-      | inr child ↦ put_child p.path t tree rest members more child.path first (onward more pieces)
-    ]
-    entry_tree i (Some e) (Some t) later rest members get next (inner, first, (tree, more, second, pieces)) onward = elim (known.kids i t next) [
-      | inl (x, at, deep, bucket) ↦
-          let one = same_Some x e (sym at ∙ get) in
-          put_bucket p.path t.path e tree rest members inner more (ap (λ (y : LeafElement). y.is_bucket) (sym one) ∙ bucket) (deep ∙ ap (λ (y : LeafElement). p.path ++ y.key ∷ []) one) first second (onward more pieces)
-      | inr child ↦ absurd (none-some e (sym child.none ∙ get))
-    ]
+  site_tree : (i k : ℕ) (rest : List Task) (members : List Member) → Pieces (tasks_from file meta w p i k ++ rest) members → HasTree i rest members
+  site_tree i zero rest members pieces = record { tree = end; later = members; same = refl; ordered = tt; own = λ k h. absurd h; pieces = pieces }
+  site_tree i (suc k) rest members pieces =
+      let later = tasks_from file meta w p (suc i) k in
+      entry_tree i (slice_get p.elements i) (step_site file meta p i) (later ++ rest) rest members refl refl
+      (subst (λ (ts : List Task). Pieces ts members) (append_assoc (entry_tasks file meta w p i) later rest) pieces)
+      (λ ms more. site_tree (suc i) k rest ms more)
 
-    site_tree : (i k : ℕ) (rest : List (Task W)) (members : List Member) → Pieces (tasks_from file meta further w p i k ++ rest) members → HasTree p.path rest members
-    site_tree i zero rest members pieces = (end, members, refl, pieces)
-    site_tree i (suc k) rest members pieces =
-        let later = tasks_from file meta further w p (suc i) k in
-        entry_tree i (slice_get p.elements i) (step_site file meta p i) (later ++ rest) rest members refl refl
-        (subst (λ (ts : List (Task W)). Pieces ts members) (append_assoc (entry_tasks file meta further w p i) later rest) pieces)
-        (λ ms more. site_tree (suc i) k rest ms more)
+module _ (file : List ℕ) (meta : Meta) where
+  visit_tree : (w : Way) (p : Site) (found : Option Finding) (before : ℕ → Type 0) (tasks : List Task) (members : List Member) → IsTidy file meta p → Gives (node_at file meta) before p.spot found
+      → Pieces (tasks_after file meta w p found ++ tasks) members → Pieces (To_visit w p ∷ tasks) members
+  visit_tree w p None before tasks members tidy passes pieces =
+      let (keys, known) = keyed file meta before p tidy passes in
+      let has = site_tree file meta w p keys known 0 _ tasks members pieces in
+      let within : IsWithin p.spot has.tree = λ k h. let (j, own, le, at, over, below) = has.own k h in (from_more (lower_of p.spot) own k (known.each j own at).0 over, below) in
+      (has.tree, has.later, has.same, has.ordered, within, has.pieces)
+  visit_tree w p (Some x) before tasks members tidy gives pieces = (end, members, refl, tt, (λ k h. absurd h), pieces)
 
-  visit_tree : (w : W) (p : Site) (found : Option Finding) (before : ℕ → Type 0) (rest : List (Task W)) (members : List Member) → IsTidy file meta p → Gives (node_at file meta) before p.spot found
-      → Pieces (tasks_after file meta further w p found ++ rest) members → HasTree p.path rest members
-  visit_tree w p None before rest members tidy passes pieces = let (keys, known) = keyed file meta before p tidy passes in site_tree w p keys known 0 _ rest members pieces
-  visit_tree w p (Some x) before rest members tidy gives pieces = (end, members, refl, pieces)
+  pieces_course : (claimed : ℕ → Bool) (tasks : List Task) (events : List Event) → Course file meta claimed tasks events
+      → ((w : Way) (p : Site) (found : Option Finding) → Has events (Visited w p found) → IsTidy file meta p) → Pieces tasks (members_of events)
+  pieces_course claimed tasks events done tidy = refl
+  pieces_course claimed tasks events (give {tasks = more} {events = rest} course) tidy = (members_of rest, refl, pieces_course claimed more rest course (λ v q f h. tidy v q f (inr h)))
+  pieces_course claimed tasks events (visit {way = w} {p = p} {found = found} {tasks = more} {events = rest} gives course) tidy =
+      visit_tree w p found (λ n. claimed n ≡ true) more (members_of rest) (tidy w p found (inl refl)) gives
+      (pieces_course _ (tasks_after file meta w p found ++ more) rest course (λ v q f h. tidy v q f (inr h)))
 
-  pieces_course : (claimed : ℕ → Bool) (tasks : List (Task W)) (visits : List (Visited W)) (members : List Member) → Course file meta further claimed tasks visits members
-      → Each (IsTidyTask file meta further) tasks → Pieces tasks members
-  pieces_course claimed tasks visits members done tidy = refl
-  pieces_course claimed tasks visits members (give {tasks = more} {members = rest} course) tidy = (rest, refl, pieces_course claimed more visits rest course (λ task h. tidy task (inr h)))
-  pieces_course claimed tasks visits members (visit {way = w} {p = p} {found = found} {tasks = more} {visits = rest} gives course) tidy =
-      visit_tree w p found (λ n. claimed n ≡ true) more members (tidy (To_visit w p) (inl refl)) gives
-      (pieces_course _ (tasks_after file meta further w p found ++ more) rest members course (tidy_after file meta further w p found more tidy))
+  -- all that comes of a file is what a tree lists
+  pub all_tree : (tree : Tree) × (members_of (all_events file meta) ≡ listing_of tree) × Ordered tree
+  all_tree =
+      let (tree, rest, same, own, within, none) = pieces_course meta_pages (root_tasks file meta) (all_events file meta) (course file meta (root_tasks file meta) meta_pages)
+      (λ w p found there. (well_at file meta w p (placed file meta w p found there)).1) in
+      (tree, same ∙ ap (λ (ms : List Member). listing_below [] tree ++ ms) none ∙ append-nil (listing_below [] tree), own)
 
-  -- what a course from the root page returns is what a tree lists
-  pub course_tree : (way : W) (visits : List (Visited W)) (members : List Member) → WholeCourse file meta further way visits members → (tree : Tree) × (members ≡ listing_of tree)
-  course_tree way visits members course =
-      let (tree, rest, same, none) = pieces_course _ (To_visit way (root_site file meta) ∷ []) visits members course (root_tidy file meta further way) in
-      (tree, same ∙ ap (λ (ms : List Member). listing_below [] tree ++ ms) none ∙ append-nil (listing_below [] tree))
+  pub members_rise : Rises member_cmp (members_of (all_events file meta))
+  members_rise = let (tree, same, own) = all_tree in subst (Rises member_cmp) (sym same) (ordered_rises tree [] own)

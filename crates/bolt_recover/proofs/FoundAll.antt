@@ -1,20 +1,11 @@
 -- The found pages of a whole file.
-use Rattle.std.proofs.Common.{◌≡◌, ◌∙◌, ◌↔◌, ◌⊎◌, ◌+◌, inl, inr, ℕ, Bool, true, arith, List, [], ◌∷◌, Option, Some, None, Result, Ok, Err, IfOk, refl, sym, ap, subst}
-use Rattle.bolt_recover.proofs.Words.{AreFound, AreKeptPages, AreLosses, At_page, claims_meta, claims_of, Contains, contains_cases, contains_head, contains_none, contains_tail, done, Finding, FoundBelow, further, Has, HasSoundTrees, IsFoundPage, IsKeptPage, IsListedFree, IsLoneLeaf, IsMetaPage, IsRecovered, IsSurvey, kept, LosesNothing, LosesRoot, lost, Member, Meta, meta_pages, nat_tests, node_at, node_below, props, Recovery, recovery_meta, root_site, root_spot, WholeCourse, SpanAt, SurveyedWay, visit, ∥∥₁_elim}
+use Rattle.std.proofs.Common.{◌≡◌, ◌∙◌, ◌↔◌, ◌⊎◌, ◌||◌, inl, inr, ℕ, suc, Bool, true, false, arith, List, [], ◌∷◌, Option, Some, None, refl, sym, ap, subst}
+use Rattle.bolt_recover.proofs.Words.{all_events, AreFound, AreKeptPages, AreLosses, At_page, claims_of, Contains, contains_cases, contains_head, contains_none, contains_tail, Event, false≢true, Finding, first_claimed, FoundBelow, Has, HasSoundTrees, IsFoundPage, IsKeptPage, IsListedFree, IsLoneLeaf, IsMetaPage, IsRecovered, IsSurvey, kept, LosesNothing, LosesRoot, lost, Member, members_of, Meta, meta_pages, nat_tests, node_at, node_below, root_site, root_spot, SpanAt, SurveyedWay, Visited, visits_of}
 use Rattle.bolt_recover.proofs.Existing.{has_survey, one_recovered, recovers}
 use Rattle.bolt_recover.proofs.FoundLemmas.{found_one, found_same, passed}
-use Rattle.bolt_recover.proofs.{Deciding.Decided, Deciding.decided_as, Deciding.decided_by, Deciding.either_decided, Deciding.lowest, LostWays.nothing_lost}
-use Rattle.bolt_recover.proofs.{NothingLost.sound, Recovering.claimed_all, Recovering.claimed_at_end, CourseSurveys.claims_in, CourseSurveys.surveyed}
+use Rattle.bolt_recover.proofs.{LostWays.nothing_lost, Tested.IsFirst, Tested.first_is}
+use Rattle.bolt_recover.proofs.{KeptWays.sound, Recovering.whole, Recovering.whole_claimed, CourseSurveys.claims_in, CourseSurveys.either_or, CourseSurveys.surveyed, Courses.events_none, Courses.events_visit}
 use Rattle.bolt_recover.proofs.SurveyIsOne.{gives_same, same_survey}
-
-pub if_ok : {X E : Type 0} {P Q : X → Type 0} (result : Result X E) → ((x : X) → P x → Q x) → IfOk result P → IfOk result Q
-if_ok (Ok x) to h = to x h
-if_ok (Err e) to h = h
-
--- a recovery reads its file under its meta
-pub recovery_under : (recovery : Recovery) → claims_meta recovery.steps.claims ≡ recovery_meta recovery
-unfolding recovery_meta
-recovery_under recovery = ∥∥₁_elim recovery.on (hlevel props) (λ on. on.meta)
 
 -- a way of a survey is lost, or none is
 pub lost_or_none : (survey : List SurveyedWay) → LosesNothing survey ⊎ ((way : List ℕ) × (x : Finding) × Has survey (lost way x))
@@ -87,43 +78,54 @@ module _ (file : List ℕ) (meta : Meta) where
       ]
 
 module _ (file : List ℕ) (meta : Meta) where
-  found_or_not : (found : List ℕ) (k : ℕ) → Decided (IsFoundPage file meta found k)
-  found_or_not [] k = inr (λ (m, (has, span)). contains_none m has)
-  found_or_not (m ∷ found) k = decided_as
-      (λ either. elim either [ inl span ↦ (m, (contains_head m found, span)) | inr (o, (has, span)) ↦ (o, (contains_tail m o found has, span)) ])
+  -- whether page k is found, and whether it is kept or found
+  abbrev in_found : List ℕ → ℕ → Bool
+  in_found [] k = false
+  in_found (m ∷ found) k = claims_of (node_at file meta) (At_page (root_spot m)) k || in_found found k
+
+  abbrev pub in_either : List ℕ → ℕ → Bool
+  in_either found k = (whole file meta 0).claimed k || in_found found k
+
+  found_is : (found : List ℕ) (k : ℕ) → (in_found found k ≡ true) ↔ IsFoundPage file meta found k
+  found_is [] k = (λ e. absurd (false≢true e), λ (m, (has, span)). absurd (contains_none m has))
+  found_is (m ∷ found) k =
+      either_or (claims_of (node_at file meta) (At_page (root_spot m)) k) (in_found found k) _ _ _ (claims_in (node_at file meta) (At_page (root_spot m)) k) (found_is found k)
+      (λ span. (m, (contains_head m found, span))) (λ (o, (has, span)). (o, (contains_tail m o found has, span)))
       (λ (o, (has, span)). elim (contains_cases m o found has) [
         | inl same ↦ inl (subst (λ (y : ℕ). SpanAt (node_at file meta) (At_page (root_spot y)) k) (sym same) span)
         | inr later ↦ inr (o, (later, span))
       ])
-      (either_decided (decided_by (claims_of (node_at file meta) (At_page (root_spot m)) k) (claims_in (node_at file meta) (At_page (root_spot m)) k)) (found_or_not found k))
 
-  -- whether a page is kept or found can be told
-  pub either_or_not : (found : List ℕ) (survey : List SurveyedWay) → IsSurvey file meta survey → (k : ℕ) → Decided (IsKeptPage file meta survey k ⊎ IsFoundPage file meta found k)
-  either_or_not found survey is k = either_decided (decided_by (claimed_at_end file meta 0 k) (claimed_all file meta 0 survey is k)) (found_or_not found k)
+  pub either_is : (found : List ℕ) (survey : List SurveyedWay) → IsSurvey file meta survey → (k : ℕ) → (in_either found k ≡ true) ↔ (IsKeptPage file meta survey k ⊎ IsFoundPage file meta found k)
+  either_is found survey is k = either_or ((whole file meta 0).claimed k) (in_found found k) _ _ _ (whole_claimed file meta 0 survey is k) (found_is found k) (λ h. inl h) (λ h. inr h) (λ h. h)
 
   -- an intact leaf that isn't listed as free shares a page
   pub shares : (found : List ℕ) (survey : List SurveyedWay) (way : List ℕ) (x : Finding) (n : ℕ) → AreFound file meta found → IsSurvey file meta survey → Has survey (lost way x)
       → IsLoneLeaf (node_at file meta) (λ k. ⊥) n → (IsListedFree file meta n → ⊥)
       → (k : ℕ) × SpanAt (node_at file meta) (At_page (root_spot n)) k × (IsKeptPage file meta survey k ⊎ IsFoundPage file meta found k)
-  shares found survey way x n are is has lone unlisted =
-      let overflow = lone.passes.node.overflow in
-      elim (lowest (λ k. IsKeptPage file meta survey k ⊎ IsFoundPage file meta found k) (either_or_not found survey is) n (overflow + 1)) [
-        | inl (k, low, high, either, first) ↦ (k, rw lone.passes.page (low, omega (arith, high)), either)
-        | inr none ↦
-            let apart : (k : ℕ) → SpanAt (node_at file meta) (At_page (root_spot n)) k → IsKeptPage file meta survey k ⊎ IsFoundPage file meta found k → ⊥ = λ k span.
-            let inside = rw lone.passes.page at span in none k inside.0 (let to = inside.1 in omega (arith, to)) in
-            absurd (passed file meta (IsKeptPage file meta survey) meta.high_water found n (below_of file meta found survey way x are is has)
-            (node_below file meta n lone.passes.node lone.passes.page) lone unlisted (λ k span one. apart k span (inl one)) (λ k span one. apart k span (inr one)))
-      ]
+  shares found survey way x n are is has lone unlisted = by (first_claimed (in_either found) n count) (first_is (in_either found) n count)
+    where
+      count : ℕ
+      count = suc lone.passes.node.overflow
+
+      by : (o : Option ℕ) → IsFirst (in_either found) n count o → (k : ℕ) × SpanAt (node_at file meta) (At_page (root_spot n)) k × (IsKeptPage file meta survey k ⊎ IsFoundPage file meta found k)
+      by (Some k) (low, high, was, first) = (k, rw lone.passes.page (low, omega (arith, high)), (either_is found survey is k).0 was)
+      by None none =
+          let apart : (k : ℕ) → SpanAt (node_at file meta) (At_page (root_spot n)) k → IsKeptPage file meta survey k ⊎ IsFoundPage file meta found k → ⊥ = λ k span one.
+          let inside = rw lone.passes.page at span in none k inside.0 (let to = inside.1 in omega (arith, to)) ((either_is found survey is k).1 one) in
+          absurd (passed file meta (IsKeptPage file meta survey) meta.high_water found n (below_of file meta found survey way x are is has)
+          (node_below file meta n lone.passes.node lone.passes.page) lone unlisted (λ k span one. apart k span (inl one)) (λ k span one. apart k span (inr one)))
 
 -- a file whose root page is lost: that page alone is visited
 module _ (file : List ℕ) (meta : Meta) (x : Finding) (loses : LosesRoot file meta x) where
   abbrev alone : List SurveyedWay
   alone = lost [] x ∷ []
 
-  root_course : WholeCourse file meta further [] (record { way = []; site = root_site file meta; found = Some x } ∷ []) []
-  root_course =
-      visit (gives_same (node_at file meta) IsMetaPage (λ n. meta_pages n ≡ true) (At_page (root_spot meta.root)) (Some x) (λ n low. grind (arith, nat_tests)) (λ n is. grind (arith, nat_tests)) loses) done
+  root_events : all_events file meta ≡ Visited [] (root_site file meta) (Some x) ∷ []
+  root_events =
+      events_visit file meta meta_pages [] (root_site file meta) (Some x) []
+      (gives_same (node_at file meta) IsMetaPage (λ n. meta_pages n ≡ true) (At_page (root_spot meta.root)) (Some x) (λ n low. grind (arith, nat_tests)) (λ n is. grind (arith, nat_tests)) loses)
+      ∙ ap (λ (es : List Event). Visited [] (root_site file meta) (Some x) ∷ es) (events_none file meta _)
 
   not_kept : (way : List ℕ) → Has alone (kept way) → ⊥
   not_kept way (inl same) = let f : None ≡ Some x = ap (λ (v : SurveyedWay). v.found) same in cc
@@ -131,9 +133,9 @@ module _ (file : List ℕ) (meta : Meta) (x : Finding) (loses : LosesRoot file m
 
   pub found_rootless : (taken : ℕ → Bool) (found : List ℕ) → ((n : ℕ) → (taken n ≡ true) ↔ IsMetaPage n)
       → FoundBelow file meta (λ n. taken n ≡ true) meta.high_water found → AreFound file meta found
-  found_rootless taken found metas below = are_some file meta found alone [] x (surveyed file meta _ [] root_course) (inl refl)
+  found_rootless taken found metas below = are_some file meta found alone [] x (subst (IsSurvey file meta) (ap visits_of root_events) (surveyed file meta)) (inl refl)
       (found_same file meta (λ n. taken n ≡ true) (IsKeptPage file meta alone) (λ k was. inl ((metas k).0 was))
       (λ k is. elim is [ inl low ↦ (metas k).1 low | inr (v, (there, span)) ↦ absurd (not_kept v there) ]) meta.high_water found below)
 
   pub nothing_recovered : (listing : List Member) → IsRecovered file meta listing → listing ≡ []
-  nothing_recovered listing is = one_recovered file meta listing [] is (recovers file meta _ [] root_course)
+  nothing_recovered listing is = one_recovered file meta listing [] is (subst (IsRecovered file meta) (ap members_of root_events) (recovers file meta))

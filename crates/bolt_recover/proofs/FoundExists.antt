@@ -1,48 +1,45 @@
 -- Each file has found pages: whether a page is found can be told.
-use Rattle.std.proofs.Common.{◌≡◌, ◌∙◌, ◌≢◌, ◌⊎◌, ◌+◌, ◌≤◌, true, inl, inr, ℕ, zero, suc, List, [], ◌∷◌, ◌++◌, Option, Some, None, Result, Ok, Err, refl, sym, ap, subst, arith}
-use Rattle.bolt_recover.proofs.Words.{AreFound, cases_lt, early_finding, Entry, Finding, FoundBelow, IsFoundNext, IsFoundPage, IsKeptPage, IsListedFree, IsLoneLeaf, IsSurvey, Meta, Node, node_at, node_finding, Nodes, root_spot, SurveyedWay}
-use Rattle.bolt_recover.proofs.{Existing.has_survey, FoundAll.are_none, FoundAll.are_some, FoundAll.either_or_not, FoundAll.lost_or_none}
-use Rattle.bolt_recover.proofs.Deciding.{Decided, both_decided, decided_as, decided_by, lowest, not_decided}
+use Rattle.std.proofs.Common.{◌≡◌, ◌∙◌, ◌≢◌, ◌⊎◌, Bool, true, inl, inr, ℕ, zero, suc, List, [], ◌∷◌, ◌++◌, Option, Some, None, Ok, refl, sym, ap, subst, arith, ◌↔◌}
+use Rattle.bolt_recover.proofs.Words.{AreFound, At_page, cases_Bool, cases_lt, false≢true, Entry, Finding, FoundBelow, Gives, IsFoundNext, IsFoundPage, IsKeptPage, IsListedFree, IsLoneLeaf, IsSurvey, Meta, Node, node_at, Nodes, passes_silent, root_spot, SurveyedWay, test}
+use Rattle.bolt_recover.proofs.{Existing.has_survey, FoundAll.are_none, FoundAll.are_some, FoundAll.either_is, FoundAll.in_either, FoundAll.lost_or_none, Tested.test_finds}
+use Rattle.bolt_check.proofs.LeafLemmas.{lone_same}
 use Rattle.bolt_format.specs.Freelists.{free_ids_of, freelist_fault_of}
 use Rattle.bolt_check.specs.Accounts.{times_in}
 
-nothing_or_not : (o : Option Finding) → Decided (o ≡ None)
-nothing_or_not None = inl refl
-nothing_or_not (Some x) = inr (λ e. (let f : Some x ≡ None = e in cc))
+abbrev Decided : Type 0 → Type 0
+Decided P = P ⊎ (P → ⊥)
+
+decided_by : {P : Type 0} (b : Bool) → (b ≡ true) ↔ P → Decided P
+decided_by b is = elim (cases_Bool b) [ inl yes_ ↦ inl (is.0 yes_) | inr none ↦ inr (λ p. false≢true (sym none ∙ is.1 p)) ]
+
+decided_as : {P Q : Type 0} → (P → Q) → (Q → P) → Decided P → Decided Q
+decided_as to from (inl p) = inl (to p)
+decided_as to from (inr never) = inr (λ q. never (from q))
+
+both_decided : {P Q : Type 0} → Decided P → (P → Decided Q) → Decided (P × Q)
+both_decided (inl p) q = decided_as (λ h. (p, h)) (λ h. h.1) (q p)
+both_decided (inr never) q = inr (λ h. never h.0)
+
+not_decided : {P : Type 0} → Decided P → Decided (P → ⊥)
+not_decided (inl p) = inr (λ never. never p)
+not_decided (inr never) = inl never
 
 empty_or_not : (entries : List Entry) → Decided (entries ≢ [])
 empty_or_not [] = inr (λ some. some refl)
 empty_or_not (e ∷ entries) = inl (λ none. (let f : e ∷ entries ≡ [] = none in cc))
 
-module _ (nodes : Nodes) (before : ℕ → Type 0) (which : (k : ℕ) → Decided (before k)) (n : ℕ) where
-  node_is : (node : Node) → nodes n ≡ Ok node → (lone : IsLoneLeaf nodes before n) → node ≡ lone.passes.node
-  node_is node is lone = let both : Ok node ≡ Ok lone.passes.node = sym is ∙ lone.passes.page in cc
-
-  early_none : (node : Node) → nodes n ≡ Ok node → early_finding nodes (root_spot n) ≡ None
-  early_none node is = rw is refl
-
-  free_or_not : (overflow : ℕ) → Decided ((k : ℕ) → n ≤ k → k ≤ n + overflow → before k → ⊥)
-  free_or_not overflow = elim (lowest before which n (overflow + 1)) [
-    | inl (k, low, high, was, first) ↦ inr (λ free. free k low (omega (arith, high)) was)
-    | inr none ↦ inl (λ k low high was. none k low (omega (arith, high)) was)
-  ]
-
-  leaf_decided : (node : Node) → nodes n ≡ Ok node → Decided (IsLoneLeaf nodes before n)
-  leaf_decided node is = decided_as
-      (λ (leaf, (some, (content, free))). record {
-        passes = record { node = node; early = early_none node is; page = is; free = λ k inside was. free k inside.0 inside.1 was; content = content };
-        leaf = leaf;
-        some = some;
-      })
-      (λ lone. let same = sym (node_is node is lone) in subst
-      (λ (x : Node). (x.is_leaf ≡ true) × ((x.entries ≢ []) × ((node_finding x (root_spot n) ≡ None) × ((k : ℕ) → n ≤ k → k ≤ n + x.overflow → before k → ⊥)))) same
-      (lone.leaf, (lone.some, (lone.passes.content, λ k low high was. lone.passes.free k (low, high) was))))
-      (both_decided (decided_by node.is_leaf (λ h. h, λ h. h)) (λ leaf. both_decided (empty_or_not node.entries) (λ some.
-      both_decided (nothing_or_not (node_finding node (root_spot n))) (λ content. free_or_not node.overflow))))
-
-  seen_decided : (seen : Result Node ℕ) → nodes n ≡ seen → Decided (IsLoneLeaf nodes before n)
-  seen_decided (Ok node) is = leaf_decided node is
-  seen_decided (Err fault) is = inr (λ lone. (let f : Err fault ≡ Ok lone.passes.node = sym is ∙ lone.passes.page in cc))
+-- the tests tell whether a page is an intact leaf
+lone_decided : (nodes : Nodes) (before : ℕ → Bool) (n : ℕ) → Decided (IsLoneLeaf nodes (λ k. before k ≡ true) n)
+lone_decided nodes before n = by (test nodes before (At_page (root_spot n))) (test_finds nodes before (At_page (root_spot n)))
+  where
+    by : (o : Option Finding) → Gives nodes (λ k. before k ≡ true) (At_page (root_spot n)) o → Decided (IsLoneLeaf nodes (λ k. before k ≡ true) n)
+    by (Some x) finds = inr (λ lone. passes_silent nodes (λ k. before k ≡ true) (At_page (root_spot n)) x lone.passes finds)
+    by None passes = decided_as (λ (leaf, some). record { passes = passes; leaf = leaf; some = some })
+        (λ lone.
+        let both : Ok lone.passes.node ≡ Ok passes.node = sym lone.passes.page ∙ passes.page in
+        let same : lone.passes.node ≡ passes.node = cc in
+        subst (λ (x : Node). (x.is_leaf ≡ true) × (x.entries ≢ [])) same (lone.leaf, lone.some))
+        (both_decided (decided_by passes.node.is_leaf (λ h. h, λ h. h)) (λ leaf. empty_or_not passes.node.entries))
 
 module _ (file : List ℕ) (meta : Meta) where
   ids_decided : (n : ℕ) (fault : Option ℕ) (ids : Option (List ℕ)) → freelist_fault_of file meta ≡ fault → free_ids_of file meta ≡ ids → Decided (IsListedFree file meta n)
@@ -60,9 +57,14 @@ module _ (file : List ℕ) (meta : Meta) where
       ]
 
   next_decided : (survey : List SurveyedWay) → IsSurvey file meta survey → (found : List ℕ) (n : ℕ) → Decided (IsFoundNext file meta (IsKeptPage file meta survey) found n)
-  next_decided survey is found n = decided_as (λ (leaf, unlisted). record { leaf = leaf; unlisted = unlisted }) (λ next. (next.leaf, next.unlisted))
-      (both_decided (seen_decided (node_at file meta) (λ k. IsKeptPage file meta survey k ⊎ IsFoundPage file meta found k) (either_or_not file meta found survey is) n (node_at file meta n) refl)
-      (λ leaf. not_decided (ids_decided n (freelist_fault_of file meta) (free_ids_of file meta) refl refl)))
+  next_decided survey is found n =
+      let nodes = node_at file meta in
+      let was : ℕ → Type 0 = λ k. in_either file meta found k ≡ true in
+      let either : ℕ → Type 0 = λ k. IsKeptPage file meta survey k ⊎ IsFoundPage file meta found k in
+      let same = either_is file meta found survey is in
+      decided_as (λ (leaf, unlisted). record { leaf = lone_same nodes was either n (λ k h. (same k).1 h) leaf; unlisted = unlisted })
+      (λ next. (lone_same nodes either was n (λ k h. (same k).0 h) next.leaf, next.unlisted))
+      (both_decided (lone_decided nodes (in_either file meta found) n) (λ leaf. not_decided (ids_decided n (freelist_fault_of file meta) (free_ids_of file meta) refl refl)))
 
   below_exists : (survey : List SurveyedWay) → IsSurvey file meta survey → (mark : ℕ) → (found : List ℕ) × FoundBelow file meta (IsKeptPage file meta survey) mark found
   below_exists survey is zero = ([], refl)

@@ -1,6 +1,6 @@
 -- Found pages, one number after another.
 use Rattle.std.proofs.Common.{◌≡◌, ◌∙◌, ◌≤◌, ◌<◌, ◌⊎◌, ◌↔◌, inl, inr, ℕ, zero, suc, ◌+◌, Bool, true, false, List, [], ◌∷◌, ◌++◌, Some, Ok, ◌≢◌, refl, sym, ap, subst, arith}
-use Rattle.bolt_recover.proofs.Words.{At_page, cases_lt, Contains, Contains-append_left, Contains-append_right, Contains-push_cases, contains_head, contains_none, false≢true, Found, FoundBelow, IsFoundNext, IsFoundPage, IsFoundView, IsListedFree, IsLoneLeaf, IsTrue, Meta, Node, node_at, Nodes, page_at, root_spot, shown, shown_node, SpanAt}
+use Rattle.bolt_recover.proofs.Words.{At_page, cases_lt, cases_order, Contains, Contains-append_left, Contains-append_right, Contains-push_cases, contains_head, contains_none, false≢true, Found, FoundBelow, IsFoundNext, IsFoundPage, IsFoundView, IsListedFree, IsLoneLeaf, IsTrue, Meta, Node, node_at, Nodes, page_at, root_spot, shown, shown_node, SpanAt}
 use Rattle.bolt_check.proofs.LeafLemmas.{lone_free, lone_same, lone_span}
 
 pub not_true : (b : Bool) → (b ≡ true → ⊥) → b ≡ false
@@ -138,51 +138,49 @@ module _ (file : List ℕ) (meta : Meta) where
           ]
         ]
 
-    -- what is found below a number is below it, intact, unlisted and apart from what is kept
-    pub record IsFoundHere (mark n : ℕ) : Type 0 where
+    -- what is found below a number was found after those of smaller numbers
+    pub record IsFoundHere (mark : ℕ) (found : List ℕ) (n : ℕ) : Type 0 where
       pub below : n < mark
-      pub leaf : IsLoneLeaf nodes kept n
-      pub unlisted : IsListedFree file meta n → ⊥
+      pub before : List ℕ
+      pub next : IsFoundNext file meta kept before n
+      pub within : (m : ℕ) → Contains found m → m < n → Contains before m
 
-    here_of : (found : List ℕ) (n : ℕ) → IsFoundNext file meta kept found n → IsFoundHere (suc n) n
-    here_of found n next = record {
-      below = omega arith;
-      leaf = lone_same nodes (λ k. kept k ⊎ IsFoundPage file meta found k) kept n (λ k is. inl is) next.leaf;
-      unlisted = next.unlisted;
-    }
-
-    here_up : (mark n : ℕ) → IsFoundHere mark n → IsFoundHere (suc mark) n
-    here_up mark n here = record { below = (let lt = here.below in omega (arith, lt)); leaf = here.leaf; unlisted = here.unlisted }
-
-    pub found_here : (mark : ℕ) (found : List ℕ) (n : ℕ) → FoundBelow file meta kept mark found → Contains found n → IsFoundHere mark n
+    pub found_here : (mark : ℕ) (found : List ℕ) (n : ℕ) → FoundBelow file meta kept mark found → Contains found n → IsFoundHere mark found n
     found_here zero found n below has = absurd (contains_none n (subst (λ (xs : List ℕ). Contains xs n) below has))
     found_here (suc mark) found n (before, below, inl (next, is)) has =
-        elim (Contains-push_cases before mark n (subst (λ (xs : List ℕ). Contains xs n) is has)) [
-          | inl lower ↦ here_up mark n (found_here mark before n below lower)
-          | inr same ↦ subst (IsFoundHere (suc mark)) same (here_of before mark next)
+        let push : (m : ℕ) → Contains found m → Contains before m ⊎ (mark ≡ m) = λ m there. Contains-push_cases before mark m (subst (λ (xs : List ℕ). Contains xs m) is there) in
+        elim (push n has) [
+          | inl lower ↦
+              let here = found_here mark before n below lower in
+              let lt = here.below in
+              record { below = omega (arith, lt); before = here.before; next = here.next; within = λ m there less. elim (push m there) [ inl low ↦ here.within m low less | inr last ↦ absurd (omega (arith, lt, less, last)) ] }
+          | inr same ↦
+              record {
+                below = omega (arith, same);
+                before = before;
+                next = subst (IsFoundNext file meta kept before) same next;
+                within = λ m there less. elim (push m there) [ inl low ↦ low | inr last ↦ absurd (omega (arith, same, less, last)) ];
+              }
         ]
-    found_here (suc mark) found n (before, below, inr (none, is)) has = here_up mark n (found_here mark before n below (subst (λ (xs : List ℕ). Contains xs n) is has))
+    found_here (suc mark) found n (before, below, inr (none, is)) has =
+        let here = found_here mark before n below (subst (λ (xs : List ℕ). Contains xs n) is has) in
+        let lt = here.below in
+        record { below = omega (arith, lt); before = here.before; next = here.next; within = λ m there less. here.within m (subst (λ (xs : List ℕ). Contains xs m) is there) less }
 
-    -- two found pages share no page
+    -- it is intact, and two found pages share no page
+    pub found_leaf : (mark : ℕ) (found : List ℕ) (n : ℕ) → IsFoundHere mark found n → IsLoneLeaf nodes kept n
+    found_leaf mark found n here = lone_same nodes (λ k. kept k ⊎ IsFoundPage file meta here.before k) kept n (λ k is. inl is) here.next.leaf
+
+    not_shared : (mark : ℕ) (found : List ℕ) (n m k : ℕ) → IsFoundHere mark found n → Contains found m → m < n → SpanAt nodes (At_page (root_spot n)) k → SpanAt nodes (At_page (root_spot m)) k → ⊥
+    not_shared mark found n m k here there less left right =
+        let inside = rw here.next.leaf.passes.page at left in
+        here.next.leaf.passes.free k inside (inr (m, (here.within m there less, right)))
+
     pub found_apart : (mark : ℕ) (found : List ℕ) (n m k : ℕ) → FoundBelow file meta kept mark found → Contains found n → Contains found m
         → SpanAt nodes (At_page (root_spot n)) k → SpanAt nodes (At_page (root_spot m)) k → n ≡ m
-    found_apart zero found n m k below a b left right = absurd (contains_none n (subst (λ (xs : List ℕ). Contains xs n) below a))
-    found_apart (suc mark) found n m k (before, below, inr (none, is)) a b left right =
-        found_apart mark before n m k below (subst (λ (xs : List ℕ). Contains xs n) is a) (subst (λ (xs : List ℕ). Contains xs m) is b) left right
-    found_apart (suc mark) found n m k (before, below, inl (next, is)) a b left right =
-        elim (Contains-push_cases before mark n (subst (λ (xs : List ℕ). Contains xs n) is a)) [
-          | inl lower ↦ elim (Contains-push_cases before mark m (subst (λ (xs : List ℕ). Contains xs m) is b)) [
-            | inl low ↦ found_apart mark before n m k below lower low left right
-            | inr same ↦ absurd (shares before mark n k next lower left (subst (λ (x : ℕ). SpanAt nodes (At_page (root_spot x)) k) (sym same) right))
-          ]
-          | inr same ↦ elim (Contains-push_cases before mark m (subst (λ (xs : List ℕ). Contains xs m) is b)) [
-            | inl low ↦ absurd (shares before mark m k next low right (subst (λ (x : ℕ). SpanAt nodes (At_page (root_spot x)) k) (sym same) left))
-            | inr also ↦ sym same ∙ also
-          ]
+    found_apart mark found n m k below a b left right =
+        elim (cases_order n m) [
+          | inl same ↦ same
+          | inr (inl less) ↦ absurd (not_shared mark found m n k (found_here mark found m below b) a less right left)
+          | inr (inr more) ↦ absurd (not_shared mark found n m k (found_here mark found n below a) b more left right)
         ]
-      where
-        shares : (before : List ℕ) (mark n k : ℕ) → IsFoundNext file meta kept before mark → Contains before n
-            → SpanAt nodes (At_page (root_spot n)) k → SpanAt nodes (At_page (root_spot mark)) k → ⊥
-        shares before mark n k next has left right =
-            let inside = rw next.leaf.passes.page at right in
-            next.leaf.passes.free k inside (inr (n, (has, left)))

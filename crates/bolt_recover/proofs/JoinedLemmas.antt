@@ -1,9 +1,12 @@
 -- The joined listing is the recovered one with the bucket of what is found put in.
-use Rattle.std.proofs.Common.{◌≡◌, ◌∙◌, ◌⊎◌, inl, inr, ℕ, Bool, true, false, not, List, [], ◌∷◌, ◌++◌, filter, map, refl, sym, ap, subst}
-use Rattle.bolt_recover.proofs.Words.{append-nil, AreFound, Bucket, cases_Bool, Contains, Contains-append_cases, contains_cases, contains_head, contains_tail, end, Equal, filter-append, filter_all, filter_none, first_cmp, found_tree, further, Greater, is_eq, is_found_path, is_lt, IsJoined, IsRecovered, joined_listing, key_cmp, key_lt, key_total, LacksBucketKey, LeafElement, leaves_of, Less, less_of, listing_below, listing_of, lost_and_found, Member, member_cmp, member_total, Meta, Ordering, page_at, Path, path_cmp, put_bucket, put_members, Rises, Tree, tree_of, Value, with_bucket, with_value}
+use Rattle.std.proofs.Common.{◌≡◌, ◌∙◌, ◌⊎◌, inl, inr, ℕ, Bool, true, false, not, List, [], ◌∷◌, ◌++◌, filter, map, refl, sym, ap, subst, ◌≢◌, Option}
+use Rattle.bolt_recover.proofs.Words.{append-nil, AreFound, Bucket, cases_Bool, Contains, Contains-append_cases, contains_cases, contains_head, contains_tail, end, Equal, filter-append, filter_all, filter_none, first_cmp, found_tree, Greater, is_eq, is_found_path, is_lt, IsJoined, IsRecovered, joined_listing, key_cmp, key_lt, key_total, LacksBucketKey, LeafElement, leaves_of, Less, less_of, listing_below, listing_of, lost_and_found, Member, member_cmp, member_total, Meta, Ordering, page_at, Path, path_cmp, put_bucket, put_members, Rises, Tree, tree_of, Value, with_bucket, with_value, All, All-head, All-tail, AreJoinable, bucket_members, Found, IsFoundView, Kept, kept_left, left_at, numbers_of, pages_of, recovered_of, shown}
 use Rattle.bolt_recover.proofs.{Existing.has_recovered, Existing.one_recovered, Existing.recovers, FoundAll.one_found, FoundExists.has_found}
-use Rattle.bolt_recover.proofs.{CourseExists.course_exists, CourseTrees.course_tree, TreeOrder.Ordered, TreeOrder.ordered_rises, TreeOrder.rises_both, TreeOrder.under}
+use Rattle.bolt_recover.proofs.{CourseTrees.all_tree, TreeOrder.Ordered, TreeOrder.ordered_rises, TreeOrder.rises_both, TreeOrder.under}
 use Rattle.bolt_tree.proofs.ReadBack.{tree_back}
+use Rattle.bolt_recover.specs.{declared.joined_parts.FoundMembers.FoundMembers, declared.joined.Stage.Stage}
+use Rattle.bolt_recover.specs.declared.joined.Stage.TheVariants.{After, Before}
+use Rattle.bolt_tree.specs.declared.entry.Item.{Item as CodeItem}
 
 abbrev pub stays : Member → Bool
 stays m = not (is_found_path m.0)
@@ -96,9 +99,8 @@ module _ (file : List ℕ) (meta : Meta) where
 
   pub tree_recovered : (recovered : List Member) → IsRecovered file meta recovered → (tree : Tree) × (recovered ≡ listing_of tree)
   tree_recovered recovered is =
-      let (visits, members, course) = course_exists file meta further [] in
-      let (tree, same) = course_tree file meta further [] visits members course in
-      (tree, one_recovered file meta recovered members is (recovers file meta visits members course) ∙ same)
+      let (tree, same, own) = all_tree file meta in
+      (tree, one_recovered file meta recovered _ is (recovers file meta) ∙ same)
 
   pub put_recovered : (found : List (ℕ × List LeafElement)) (recovered : List Member) → IsRecovered file meta recovered
       → put_members (put_of (found_tree found)) recovered ≡ listing_of (put_bucket lost_and_found (found_tree found) (tree_of recovered))
@@ -148,3 +150,25 @@ module _ (file : List ℕ) (meta : Meta) where
   pub joined_recovered : (listing recovered : List Member) → IsJoined file meta listing → IsRecovered file meta recovered → LacksBucketKey recovered → filter stays listing ≡ recovered
   joined_recovered listing recovered is back lacks =
       ap (filter stays) (joined_of listing recovered is.found is back is.are_found) ∙ joined_keeps recovered (with_elements is.found) back lacks
+
+  pages_same : (found : List Found) → All (IsFoundView file meta) found → with_elements (numbers_of found) ≡ pages_of found
+  pages_same [] views = refl
+  pages_same (f ∷ found) views =
+      let view = All-head (IsFoundView file meta) f found views in
+      let here : leaves_of (page_at file meta f.number) ≡ (shown f.page.page).leaves = ap leaves_of view.page in
+      ap (λ (own : List LeafElement). (f.number, own) ∷ with_elements (numbers_of found)) here
+      ∙ ap (λ (pages : List (ℕ × List LeafElement)). (f.number, (shown f.page.page).leaves) ∷ pages) (pages_same found (All-tail (IsFoundView file meta) f found views))
+
+  -- the joined listing, if these are the found pages
+  joined_is : (found : List Found) (listing : List Member) → AreJoinable file meta found → IsJoined file meta listing → listing ≡ joined_listing (recovered_of file meta) (pages_of found)
+  joined_is found listing are is =
+      joined_of listing (recovered_of file meta) (numbers_of found) is (recovers file meta) are.are_found ∙ ap (joined_listing (recovered_of file meta)) (pages_same found are.views)
+
+  -- at the beginning, as the found pages are
+  pub begun_left : (stage : Stage) (kept : Kept) (found : List Found) (bucket : FoundMembers) (next_kept : Option CodeItem) → (found ≡ [] → stage ≡ After) → (found ≢ [] → stage ≡ Before)
+      → AreJoinable file meta found → kept_left kept ≡ recovered_of file meta → (listing : List Member) → IsJoined file meta listing → left_at stage kept found bucket next_kept ≡ listing
+  begun_left stage kept [] bucket next_kept none some are fresh listing is = rw (none refl) (fresh ∙ sym (joined_is [] listing are is))
+  begun_left stage kept (f ∷ found) bucket next_kept none some are fresh listing is =
+      let not_none : (f ∷ found) ≢ [] = λ e. cc in
+      rw (some not_none) (ap (put_members (bucket_members (f ∷ found))) fresh ∙ put_recovered (pages_of (f ∷ found)) (recovered_of file meta) (recovers file meta)
+      ∙ sym (joined_is (f ∷ found) listing are is))

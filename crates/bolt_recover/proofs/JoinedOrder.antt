@@ -1,7 +1,7 @@
 -- A joined listing is in the order of paths.
 use Rattle.std.proofs.Common.{◌≡◌, ◌≢◌, ◌∙◌, inl, inr, ℕ, zero, suc, ◌<◌, ◌+◌, ◌*◌, ◌^◌, true, false, List, [], ◌∷◌, Option, Some, None, length, map, refl, sym, ap, subst, arith}
 use Rattle.bolt_recover.proofs.Words.{AreFound, contains_from_has, Each, Entry, finding_of, found_tree, FoundBelow, inside_of, IsJoined, IsKeptPage, IsLoneLeaf, IsRecovered, joined_listing, Key, key_lt, key_rise, keys_of, keys_order_fault, KeysRise, leaf_entry, LeafElement, leaves_of, LeavesRoom, lt_of_mul-lt-mul_right, map_has, Member, member_cmp, Meta, Node, node_at, node_finding, node_within, page_at, page_key, Rises, rises_append, rises_map, RisesBy, root_spot, tree_with}
-use Rattle.bolt_recover.proofs.{FoundAll.lost_or_none, FoundLemmas.found_here, SiteSteps.HasForm, SiteSteps.page_form}
+use Rattle.bolt_recover.proofs.{FoundAll.lost_or_none, FoundLemmas.found_here, FoundLemmas.found_leaf, SiteSteps.HasForm, SiteSteps.page_form}
 use Rattle.bolt_recover.proofs.{JoinedLemmas.joined_between, JoinedLemmas.with_elements, PageNames.digits_rise}
 use Rattle.bolt_recover.proofs.TreeOrder.{HasKey, Ordered, elements_ordered, inside_ordered}
 use Rattle.bolt_check.proofs.Lists.{Has as Among}
@@ -72,8 +72,8 @@ module _ (file : List ℕ) (meta : Meta) where
         let pages : ℕ → Page = λ n. (n, leaves_of (page_at file meta n)) in
         pages_ordered (with_elements file meta found) (rises_map (λ p q. p.0 < q.0) pages found (found_rise kept meta.high_water found below)) (λ p has.
         let (n, there, is) = map_has pages found p has in
-        let here = found_here file meta kept meta.high_water found n below (contains_from_has found n there) in
-        subst (λ (q : Page). (q.0 < 10 ^ 16) × Ordered (tree_with inside_of q.1)) is (number_small kept n small here.leaf, leaf_ordered kept n here.leaf))
+        let here = found_leaf file meta kept meta.high_water found n (found_here file meta kept meta.high_water found n below (contains_from_has found n there)) in
+        subst (λ (q : Page). (q.0 < 10 ^ 16) × Ordered (tree_with inside_of q.1)) is (number_small kept n small here, leaf_ordered kept n here))
   ]
 
   rises_with : (recovered : List Member) (found : List ℕ) → IsRecovered file meta recovered → AreFound file meta found → length file < 10 ^ 16 * meta.page_size → LeavesRoom file meta

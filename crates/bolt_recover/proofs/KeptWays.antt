@@ -1,6 +1,8 @@
--- Ways of a survey that loses none of some ways: those that lead somewhere are kept, and the tests find nothing at them, whatever ways come before.
+-- Ways of a survey that loses none of some ways: those that lead somewhere are kept, and the tests find nothing at them, whatever ways come before. So
+-- trees that lose nothing are sound, sound trees lose nothing, and the first loss is the first finding.
 use Rattle.std.proofs.Common.{◌≡◌, ◌∙◌, ℕ, inl, inr, List, [], ◌∷◌, ◌++◌, Option, Some, None, refl, sym, subst, append_assoc}
-use Rattle.bolt_recover.proofs.Words.{append-nil, Before, Finding, follow, follow_append, Gives, Has, IsClaimedBefore, IsClaimedIn, IsMetaPage, kept, Nodes, Passes, passes_fewer, span_spot, Spot, Surveys, SurveyedWay}
+use Rattle.bolt_recover.proofs.Words.{append-nil, At_page, Before, before_trans, Finding, follow, follow_append, Gives, Has, HasSoundTrees, IsClaimedBefore, IsClaimedIn, IsFirst, IsMetaPage, IsSurvey, kept, LosesNothing, Meta, node_at, Nodes, Passes, passes_fewer, passes_silent, Reach, reached, root_spot, shape_of, shape_passes, span_spot, Spot, Surveys, SurveyedWay, tests_same}
+use Rattle.bolt_recover.proofs.SurveyIsOne.{gives_one}
 use Rattle.bolt_check.proofs.Forest.{follow_some}
 
 module _ (nodes : Nodes) (root : Option Spot) (survey : List SurveyedWay) (surveys : Surveys nodes (follow nodes root) survey) (P : List ℕ → Type 0) (closed : (front rest : List ℕ) → P (front ++ rest) → P front)
@@ -18,20 +20,66 @@ module _ (nodes : Nodes) (root : Option Spot) (survey : List SurveyedWay) (surve
       let p = surveys.all (front ++ i ∷ []) at.0 (inr (front, i, refl, has)) at.1 in
       subst (λ (w : List ℕ). Has survey (kept w)) same (keeps_on (front ++ i ∷ []) rest s (keeps_one (front ++ i ∷ []) p.0 p.1 (closed (front ++ i ∷ []) rest is2)) led2 is2)
 
-  pub kept_way : (way : List ℕ) (s : Spot) → follow nodes root way ≡ Some s → P way → Has survey (kept way)
+  kept_way : (way : List ℕ) (s : Spot) → follow nodes root way ≡ Some s → P way → Has survey (kept way)
   kept_way way s led is =
       let at = follow_some nodes root way s led in
       let p = surveys.all [] at.0 (inl refl) at.1 in
       keeps_on [] way s (keeps_one [] p.0 p.1 (closed [] way is)) led is
 
   module _ (way : List ℕ) (within : (u : List ℕ) → Before u way → P u) where
-    pub claimed_in : (n : ℕ) → IsClaimedBefore nodes (follow nodes root) IsMetaPage way n → IsClaimedIn nodes (follow nodes root) survey way n
+    claimed_in : (n : ℕ) → IsClaimedBefore nodes (follow nodes root) IsMetaPage way n → IsClaimedIn nodes (follow nodes root) survey way n
     claimed_in n (inl is) = inl is
     claimed_in n (inr (u, (lt, span))) = let p = span_spot nodes (follow nodes root u) n span in inr (u, (kept_way u p.0 p.1.0 (within u lt), lt, span))
 
-    pub kept_passes : (s : Spot) → follow nodes root way ≡ Some s → P way → Passes nodes (IsClaimedBefore nodes (follow nodes root) IsMetaPage way) s
+    kept_passes : (s : Spot) → follow nodes root way ≡ Some s → P way → Passes nodes (IsClaimedBefore nodes (follow nodes root) IsMetaPage way) s
     kept_passes s led is =
         let (t, at, gives) = (surveys.only (kept way) (kept_way way s led is)).1 in
         let same : t ≡ s = cc in
         passes_fewer nodes (IsClaimedIn nodes (follow nodes root) survey way) (IsClaimedBefore nodes (follow nodes root) IsMetaPage way) s claimed_in
         (subst (λ (z : Spot). Gives nodes (IsClaimedIn nodes (follow nodes root) survey way) z None) same gives)
+
+claimed_before : (nodes : Nodes) (reach : Reach) (survey : List SurveyedWay) (way : List ℕ) (n : ℕ)
+    → IsClaimedIn nodes reach survey way n → IsClaimedBefore nodes reach IsMetaPage way n
+claimed_before nodes reach survey way n (inl h) = inl h
+claimed_before nodes reach survey way n (inr (v, (has, lt, span))) = inr (v, (lt, span))
+
+pub none_lost : (file : List ℕ) (meta : Meta) (survey : List SurveyedWay) → HasSoundTrees file meta → IsSurvey file meta survey → LosesNothing survey
+none_lost file meta survey trees surveys v has =
+    let nodes = node_at file meta in
+    let reach = reached nodes meta.root in
+    let (s, led, gives) = (surveys.only v has).1 in
+    gives_one nodes (IsClaimedIn nodes reach survey v.way) s v.found None gives
+    (passes_fewer nodes (IsClaimedBefore nodes reach IsMetaPage v.way) (IsClaimedIn nodes reach survey v.way) s (claimed_before nodes reach survey v.way) ((shape_passes nodes meta.root trees).passes v.way s led))
+
+module _ (file : List ℕ) (meta : Meta) (survey : List SurveyedWay) (surveys : IsSurvey file meta survey) (none : LosesNothing survey) where
+  -- each way that leads somewhere is kept
+  pub all_kept : (way : List ℕ) (s : Spot) → reached (node_at file meta) meta.root way ≡ Some s → Has survey (kept way)
+  all_kept way s led = kept_way (node_at file meta) (Some (At_page (root_spot meta.root))) survey surveys (λ w. Unit {0}) (λ front rest is. tt) (λ v has is. none v has) way s led tt
+
+  pub sound : HasSoundTrees file meta
+  sound = shape_of (node_at file meta) meta.root (record {
+    passes = λ way s led. kept_passes (node_at file meta) (Some (At_page (root_spot meta.root))) survey surveys (λ w. Unit {0}) (λ front rest is. tt) (λ v has is. none v has) way (λ u lt. tt) s led tt;
+  })
+
+-- what begins a way before another comes before it too
+begin_before : (front rest way : List ℕ) → Before (front ++ rest) way → Before front way
+begin_before front rest [] h = h
+begin_before [] rest (j ∷ way) h = tt
+begin_before (i ∷ front) rest (j ∷ way) (inl h) = inl h
+begin_before (i ∷ front) rest (j ∷ way) (inr h) = inr (h.0, begin_before front rest way h.1)
+
+module _ (nodes : Nodes) (root : Option Spot) (survey : List SurveyedWay) (surveys : Surveys nodes (follow nodes root) survey) (way : List ℕ)
+    (none : (u : SurveyedWay) → Has survey u → Before u.way way → u.found ≡ None) where
+  pub first_is : (x : Finding) → Has survey (record { way = way; found = Some x }) → IsFirst nodes (follow nodes root) IsMetaPage x
+  first_is x has =
+      let only = (surveys.only (record { way = way; found = Some x }) has).1 in
+      let closed : (front rest : List ℕ) → Before (front ++ rest) way → Before front way = λ front rest. begin_before front rest way in
+      record {
+        way = way;
+        spot = only.0;
+        leads = only.1;
+        reported = tests_same nodes (IsClaimedIn nodes (follow nodes root) survey way) (IsClaimedBefore nodes (follow nodes root) IsMetaPage way) only.0 x
+            (claimed_before nodes (follow nodes root) survey way) (claimed_in nodes root survey surveys (λ u. Before u way) closed none way (λ u h. h)) only.2;
+        none_before = λ u s y lt led test. passes_silent nodes (IsClaimedBefore nodes (follow nodes root) IsMetaPage u) s y
+            (kept_passes nodes root survey surveys (λ v. Before v way) closed none u (λ v h. before_trans v u way h lt) s led lt) test;
+      }

@@ -1,39 +1,30 @@
-mod ContentLemmas
-mod Deciding
+mod Courses
 pub mod Existing
-mod FirstLoss
 mod FoundAll
 mod FoundExists
 mod FoundLemmas
 pub mod MembersInBuckets
-mod JoinSteps
 pub mod JoinedContents
 mod JoinedLemmas
 mod JoinedOrder
 mod KeptWays
 mod Leading
-pub mod LeftMembers
 mod LostWays
-mod NothingLost
 pub mod PageNames
 mod SiteFacts
 mod SiteKeys
 mod SiteSteps
 mod Recovering
 pub mod Refused
-mod CourseExists
-mod CourseForgets
 mod CourseOrder
-mod CoursePaths
-mod CourseSteps
 mod CourseSurveys
 mod CourseTrees
 mod Searched
 mod SoundListing
-mod SoundSurveys
 mod SoundWalks
 mod StepLemmas
 mod SurveyIsOne
 mod TaskLists
+mod Tested
 mod TreeOrder
 mod Words

@@ -1,7 +1,7 @@
 -- Sites along ways: the spot there, the next one, and the elements.
-use Rattle.std.proofs.Common.{◌≡◌, ◌∙◌, inl, inr, ℕ, suc, ◌<◌, ◌≤◌, Bool, List, [], ◌∷◌, ◌++◌, length, Option, Some, None, Result, Ok, Err, slice_get, refl, sym, ap, subst, arith}
-use Rattle.bolt_recover.proofs.Words.{At_inline, At_page, Contains, elements_at, Entry, entry_count, follow, follow_sites, has_at, has_from_contains, leaf_entry, LeafElement, leaves_of, length-map, Meta, next_site, Node, node_at, Nodes, option_map, page_at, PageSpot, Path, Site, site_at, site_on, site_size, reached, root_site, same_Some, slice_get_within, Spot, step, step_at, step_entry, step_from, step_site}
-use Rattle.bolt_recover.proofs.SiteSteps.{page_form}
+use Rattle.std.proofs.Common.{◌≡◌, ◌∙◌, inl, inr, ℕ, suc, ◌<◌, ◌≤◌, Bool, List, [], ◌∷◌, ◌++◌, length, Option, Some, None, Result, Ok, Err, slice_get, refl, sym, ap, arith}
+use Rattle.bolt_recover.proofs.Words.{At_inline, At_page, Contains, Entry, entry_count, follow, follow_sites, has_at, has_from_contains, leaf_entry, LeafElement, leaves_of, length-map, Meta, next_site, Node, node_at, Nodes, option_map, page_at, PageSpot, Passes, Path, Site, site_at, site_on, site_size, reached, root_site, slice_get_within, Spot, step, step_at, step_entry, step_from, step_site}
+use Rattle.bolt_recover.proofs.SiteSteps.{IsTidyAt, page_form}
 
 abbrev spot_in : Option Site → Option Spot
 spot_in o = option_map (λ (p : Site). p.spot) o
@@ -42,28 +42,6 @@ follow_next file meta here (j ∷ way) i = follow_next file meta (next_site file
 pub site_further : (file : List ℕ) (meta : Meta) (way : List ℕ) (i : ℕ) (p : Site) → site_at file meta way ≡ Some p → site_at file meta (way ++ i ∷ []) ≡ step_site file meta p i
 site_further file meta way i p is = follow_next file meta (Some (root_site file meta)) way i ∙ ap (λ (o : Option Site). next_site file meta o i) is
 
--- the elements at a site are those of its spot
-abbrev HasElements : List ℕ → Meta → Site → Type 0
-HasElements file meta p = (value : List ℕ) × (p.elements ≡ elements_at file meta p.spot value)
-
-elements_on : (file : List ℕ) (meta : Meta) (path : Path) (e : Option LeafElement) (s : Option Spot) (p : Site) → site_on file meta path e s ≡ Some p → HasElements file meta p
-elements_on file meta path e None p is = absurd (cc)
-elements_on file meta path None (Some s) p is = subst (HasElements file meta) (same_Some _ p is) ([], refl)
-elements_on file meta path (Some e) (Some s) p is = subst (HasElements file meta) (same_Some _ p is) (e.value, refl)
-
-elements_next : (file : List ℕ) (meta : Meta) (here : Option Site) (i : ℕ) (p : Site) → next_site file meta here i ≡ Some p → HasElements file meta p
-elements_next file meta None i p is = absurd (cc)
-elements_next file meta (Some q) i p is = elements_on file meta q.path (slice_get q.elements i) (step_from (node_at file meta) q.spot i) p is
-
-elements_follow : (file : List ℕ) (meta : Meta) (here : Option Site) (way : List ℕ) (p : Site) → ((q : Site) → here ≡ Some q → HasElements file meta q)
-    → follow_sites file meta here way ≡ Some p → HasElements file meta p
-elements_follow file meta here [] p has is = has p is
-elements_follow file meta here (i ∷ way) p has is = elements_follow file meta (next_site file meta here i) way p (λ q next. elements_next file meta here i q next) is
-
-pub elements_is : (file : List ℕ) (meta : Meta) (way : List ℕ) (p : Site) → site_at file meta way ≡ Some p → HasElements file meta p
-elements_is file meta way p is =
-    elements_follow file meta (Some (root_site file meta)) way p (λ q here. subst (HasElements file meta) (same_Some (root_site file meta) q here) ([], refl)) is
-
 -- a page that is a node shows no more leaf elements than it has entries
 page_leaves : (file : List ℕ) (meta : Meta) (n : ℕ) (node : Node) → node_at file meta n ≡ Ok node → length (leaves_of (page_at file meta n)) ≤ length node.entries
 page_leaves file meta n node is = elim (page_form file meta n node is) [
@@ -71,14 +49,14 @@ page_leaves file meta n node is = elim (page_form file meta n node is) [
   | inr (branch, none) ↦ (let short = ap length none in omega (arith, short))
 ]
 
-pub size_enough : (file : List ℕ) (meta : Meta) (p : Site) (s : PageSpot) (node : Node) → HasElements file meta p → p.spot ≡ At_page s → node_at file meta s.number ≡ Ok node
-    → length p.elements ≤ site_size (node_at file meta) p.spot p.elements
-size_enough file meta p s node (value, has) at page =
-    let long = ap length (has ∙ ap (λ (t : Spot). elements_at file meta t value) at) in
-    let few = page_leaves file meta s.number node page in
-    let size : site_size (node_at file meta) p.spot p.elements ≡ length node.entries =
-    ap (λ (t : Spot). site_size (node_at file meta) t p.elements) at ∙ ap entry_count page in
+pub size_enough : (file : List ℕ) (meta : Meta) (before : ℕ → Type 0) (s : Spot) (elements : List LeafElement) → IsTidyAt file meta elements s → Passes (node_at file meta) before s
+    → length elements ≤ site_size (node_at file meta) s elements
+size_enough file meta before (At_page s) elements tidy passes =
+    let long = ap length tidy in
+    let few = page_leaves file meta s.number passes.node passes.page in
+    let size = ap entry_count passes.page in
     omega (arith, long, few, size)
+size_enough file meta before (At_inline host keys) elements tidy passes = omega arith
 
 -- an entry that leads somewhere is there
 entry_within : (is_leaf : Bool) (s : PageSpot) (entries : List Entry) (i : ℕ) (o next : Option Entry) (t : Spot) → slice_get entries i ≡ o → step_entry is_leaf s o next ≡ Some t → i < length entries

@@ -4,7 +4,7 @@ use Rattle.bolt_recover.proofs.Words.{At_inline, At_page, cases_Bool, child_in, 
 use Rattle.bolt_recover.proofs.SiteFacts.{site_further, slice_of, spot_is}
 use Rattle.bolt_recover.proofs.MembersInBuckets.{path_holds, shows_entry, well_at}
 use Rattle.bolt_recover.proofs.SiteSteps.{IsBranchPage, IsLeafPage, IsTidy, IsTidyAt, bucket_site, on_page}
-use Rattle.bolt_recover.proofs.{NothingLost.all_kept, SoundSurveys.none_lost}
+use Rattle.bolt_recover.proofs.{KeptWays.all_kept, KeptWays.none_lost}
 use Rattle.bolt_tree.proofs.BucketWays.{flat}
 
 module _ (file : List ℕ) (meta : Meta) where

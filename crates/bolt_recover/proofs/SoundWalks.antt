@@ -1,10 +1,10 @@
 -- The walk over sound trees returns what is recovered of them, and nothing of them is lost.
-use Rattle.std.proofs.Common.{◌≡◌, ◌∙◌, ℕ, Err, IfOk, List, Ok, OnErr, Option, Result, [], inl, refl, sym}
-use Rattle.bolt_recover.proofs.Words.{All-nil, AreLosses, At_page, bytes_of, Checked, ForRecovered, Found, GivesNext, HasSoundTrees, IsClaimedBefore, IsFoundView, IsListing, IsMetaPage, IsRecovered, IsSearched, item_view, KeepsRoot, left_of, LossView, Member, Meta, meta_of, node_at, option_map, passes_fewer, props, reached, root_spot, shape_passes, Sound, walk_checked, walk_path, ∥∥₁_elim, ∥∥₁_map}
-use Rattle.bolt_recover.proofs.{FoundAll.are_none, Existing.has_survey, JoinSteps.gives_prop, LostWays.no_losses, SoundListing.sound_listing}
-use Rattle.bolt_recover.proofs.SoundSurveys.{none_lost}
+use Rattle.std.proofs.Common.{◌≡◌, ◌∙◌, ℕ, List, [], inl, refl, sym, Option, Some, None}
+use Rattle.bolt_recover.proofs.Words.{GivesNext, item_view, option_map, Path, All-nil, AreLosses, At_page, bytes_of, Checked, Found, HasSoundTrees, IsClaimedBefore, IsFoundView, IsMetaPage, IsSearched, KeepsRoot, LossView, Member, Meta, meta_of, node_at, passes_fewer, reached, recovered_of, root_spot, shape_passes, Sound, ∥∥₁_elim, ∥∥₁_map, props}
+use Rattle.bolt_recover.proofs.{FoundAll.are_none, Existing.has_survey, Existing.recovers, LostWays.no_losses, SoundListing.sound_listing}
+use Rattle.bolt_recover.proofs.KeptWays.{none_lost}
 use Rattle.bolt_check.proofs.CheckedLemmas.{checked_trees}
-use Rattle.bolt_tree.specs.{FileListings.ForListing, declared.entry.Item.Item, declared.walk.Walk.Walk}
+use Rattle.bolt_tree.specs.{FileListings.ForListing, declared.entry.Item.Item as CodeItem}
 
 pub no_loss : (file : List ℕ) (meta : Meta) (losses : List LossView) → HasSoundTrees file meta → AreLosses file meta losses → losses ≡ []
 no_loss file meta losses trees (survey, is, are) =
@@ -28,20 +28,12 @@ sound_searched file meta checked found same_file same_meta none trees =
       views = rw none (All-nil (IsFoundView file meta));
     }
 
-module _ (checked : Checked) where
-  is_walked : (listing : List Member) → IsRecovered (bytes_of checked) (meta_of checked) listing → ∥ IsListing (bytes_of checked) (meta_of checked) listing ∥₁
-  is_walked listing recovered = ∥∥₁_map (checked_trees checked) (λ trees. sound_listing (bytes_of checked) (meta_of checked) listing trees recovered)
+-- what sound trees list is recovered
+pub walked : {P : List Member → Type 0} (checked : Checked) → ((listing : List Member) → IsProp (P listing)) → ForListing checked P → P (recovered_of (bytes_of checked) (meta_of checked))
+walked checked one holds =
+    let listing = recovered_of (bytes_of checked) (meta_of checked) in
+    ∥∥₁_elim (∥∥₁_map (checked_trees checked) (λ trees. sound_listing (bytes_of checked) (meta_of checked) listing trees (recovers (bytes_of checked) (meta_of checked)))) (one listing) (holds listing)
 
-  pub same_left : (left other : List Member → List Member) → ForListing checked (λ listing. left listing ≡ other listing) → ForRecovered (bytes_of checked) (meta_of checked) (λ listing. left listing ≡ other listing)
-  same_left left other same = λ listing is. ∥∥₁_elim (is_walked listing is) (hlevel props) (same listing)
-
-pub walk_gives : (old new : Walk) {E : Type 0} (result : Result (Option Item) E)
-    → IfOk result (λ given. ForListing (walk_checked old) (λ listing. GivesNext (left_of old listing) (left_of new listing) (walk_path new) (option_map item_view given)))
-    → IfOk result (λ given. ForRecovered (bytes_of (walk_checked old)) (meta_of (walk_checked old)) (λ listing. GivesNext (left_of old listing) (left_of new listing) (walk_path new) (option_map item_view given)))
-walk_gives old new (Ok given) gives = λ listing is. ∥∥₁_elim (is_walked (walk_checked old) listing is) (gives_prop (left_of old listing) (left_of new listing) (walk_path new) given) (gives listing)
-walk_gives old new (Err e) gives = tt
-
-pub walk_same : (old new : Walk) {X E : Type 0} (result : Result X E) → OnErr result (ForListing (walk_checked old) (λ listing. left_of new listing ≡ left_of old listing))
-    → OnErr result (ForRecovered (bytes_of (walk_checked old)) (meta_of (walk_checked old)) (λ listing. left_of new listing ≡ left_of old listing))
-walk_same old new (Ok x) same = tt
-walk_same old new (Err e) same = same_left (walk_checked old) (left_of new) (left_of old) same
+pub gives_prop : (old new : List Member) (path : Path) (given : Option CodeItem) → IsProp (GivesNext old new path (option_map item_view given))
+gives_prop old new path None = hlevel props
+gives_prop old new path (Some item) = hlevel props

@@ -1,17 +1,17 @@
 -- What there is to do at a site, entry by entry.
 use Rattle.std.proofs.Common.{◌≡◌, ◌≤◌, ◌<◌, inl, inr, ℕ, zero, suc, ◌+◌, List, [], ◌∷◌, ◌++◌, Option, Some, None, slice_get, refl, sym, ap, subst, arith}
-use Rattle.bolt_recover.proofs.Words.{cases_lt, entry_tasks, Finding, gives_at, has_left, has_right, has_split, LeafElement, Meta, Path, Site, rises_append, RisesBy, step_site, Task, tasks_after, tasks_from, To_give, To_visit, visits_at}
+use Rattle.bolt_recover.proofs.Words.{cases_lt, entry_tasks, Finding, further, gives_at, has_left, has_right, has_split, LeafElement, Meta, Path, Site, step_site, Task, tasks_after, tasks_from, To_give, To_visit, visits_at, Way}
 use Rattle.bolt_check.proofs.Lists.{Has as Among}
 
-module _ (file : List ℕ) (meta : Meta) {W : Type 0} (further : W → ℕ → W) where
+module _ (file : List ℕ) (meta : Meta) where
   -- this is to be done at entry i of a site
-  abbrev pub IsAt : W → Site → ℕ → Task W → Type 0
+  abbrev pub IsAt : Way → Site → ℕ → Task → Type 0
   IsAt w p i (To_give path e) = (slice_get p.elements i ≡ Some e) × (path ≡ p.path ++ e.key ∷ [])
   IsAt w p i (To_visit v t) = (v ≡ further w i) × (step_site file meta p i ≡ Some t)
 
-  module _ (w : W) (p : Site) where
-    by_entry : (i : ℕ) (o : Option LeafElement) (q : Option Site) (task : Task W) → slice_get p.elements i ≡ o → step_site file meta p i ≡ q
-        → Among (gives_at file meta further p.path o ++ visits_at file meta further (further w i) q) task → IsAt w p i task
+  module _ (w : Way) (p : Site) where
+    by_entry : (i : ℕ) (o : Option LeafElement) (q : Option Site) (task : Task) → slice_get p.elements i ≡ o → step_site file meta p i ≡ q
+        → Among (gives_at file meta p.path o ++ visits_at file meta (further w i) q) task → IsAt w p i task
     by_entry i None None task get next h = absurd h
     by_entry i (Some e) None task get next (inl same) = subst (IsAt w p i) same (get, refl)
     by_entry i (Some e) None task get next (inr h) = absurd h
@@ -21,57 +21,34 @@ module _ (file : List ℕ) (meta : Meta) {W : Type 0} (further : W → ℕ → W
     by_entry i (Some e) (Some t) task get next (inr (inl same)) = subst (IsAt w p i) same (refl, next)
     by_entry i (Some e) (Some t) task get next (inr (inr h)) = absurd h
 
-    entry_at : (i : ℕ) (task : Task W) → Among (entry_tasks file meta further w p i) task → IsAt w p i task
+    pub entry_at : (i : ℕ) (task : Task) → Among (entry_tasks file meta w p i) task → IsAt w p i task
     entry_at i task h = by_entry i (slice_get p.elements i) (step_site file meta p i) task refl refl h
 
-    at_entry : (i : ℕ) (task : Task W) → IsAt w p i task → Among (entry_tasks file meta further w p i) task
+    at_entry : (i : ℕ) (task : Task) → IsAt w p i task → Among (entry_tasks file meta w p i) task
     at_entry i (To_give path e) (get, named) = rw get (inl (ap (λ (q : Path). To_give q e) (sym named)))
     at_entry i (To_visit v t) (is, next) =
-        has_right (gives_at file meta further p.path (slice_get p.elements i)) (visits_at file meta further (further w i) (step_site file meta p i)) (To_visit v t)
-        (rw next (inl (ap (λ (u : W). To_visit u t) (sym is))))
+        has_right (gives_at file meta p.path (slice_get p.elements i)) (visits_at file meta (further w i) (step_site file meta p i)) (To_visit v t)
+        (rw next (inl (ap (λ (u : Way). To_visit u t) (sym is))))
 
-    from_at : (i k : ℕ) (task : Task W) → Among (tasks_from file meta further w p i k) task → (j : ℕ) × (i ≤ j) × IsAt w p j task
+    pub from_at : (i k : ℕ) (task : Task) → Among (tasks_from file meta w p i k) task → (j : ℕ) × (i ≤ j) × IsAt w p j task
     from_at i zero task h = absurd h
     from_at i (suc k) task h =
-        elim (has_split (entry_tasks file meta further w p i) (tasks_from file meta further w p (suc i) k) task h) [
+        elim (has_split (entry_tasks file meta w p i) (tasks_from file meta w p (suc i) k) task h) [
           | inl here ↦ (i, omega arith, entry_at i task here)
           | inr later ↦ let (j, le, at) = from_at (suc i) k task later in (j, omega (arith, le), at)
         ]
 
-    pub at_from : (i k j : ℕ) (task : Task W) → i ≤ j → j < i + k → IsAt w p j task → Among (tasks_from file meta further w p i k) task
+    pub at_from : (i k j : ℕ) (task : Task) → i ≤ j → j < i + k → IsAt w p j task → Among (tasks_from file meta w p i k) task
     at_from i zero j task le lt at = absurd (omega (arith, le, lt))
     at_from i (suc k) j task le lt at =
         elim (cases_lt i j) [
-          | inl more ↦ has_right (entry_tasks file meta further w p i) (tasks_from file meta further w p (suc i) k) task (at_from (suc i) k j task (omega (arith, more)) (omega (arith, lt)) at)
+          | inl more ↦ has_right (entry_tasks file meta w p i) (tasks_from file meta w p (suc i) k) task (at_from (suc i) k j task (omega (arith, more)) (omega (arith, lt)) at)
           | inr here ↦
               let same : j ≡ i = omega (arith, le, here) in
-              has_left (entry_tasks file meta further w p i) (tasks_from file meta further w p (suc i) k) task (at_entry i task (subst (λ (n : ℕ). IsAt w p n task) same at))
+              has_left (entry_tasks file meta w p i) (tasks_from file meta w p (suc i) k) task (at_entry i task (subst (λ (n : ℕ). IsAt w p n task) same at))
         ]
 
     -- after a visit there is something to be done only if the site is kept
-    pub after_at : (found : Option Finding) (task : Task W) → Among (tasks_after file meta further w p found) task → (found ≡ None) × (j : ℕ) × IsAt w p j task
+    pub after_at : (found : Option Finding) (task : Task) → Among (tasks_after file meta w p found) task → (found ≡ None) × (j : ℕ) × IsAt w p j task
     after_at None task h = let (j, le, at) = from_at 0 _ task h in (refl, j, at)
     after_at (Some x) task h = absurd h
-
-    -- entries stand in an order, if each stands before later ones, and each element before what it leads to
-    module _ (R : Task W → Task W → Type 0) (inside : (i : ℕ) (path : Path) (e : LeafElement) (v : W) (t : Site) → IsAt w p i (To_give path e) → IsAt w p i (To_visit v t) → R (To_give path e) (To_visit v t))
-        (across : (i j : ℕ) (a b : Task W) → i < j → IsAt w p i a → IsAt w p j b → R a b) where
-      entry_rises : (i : ℕ) (o : Option LeafElement) (q : Option Site) → slice_get p.elements i ≡ o → step_site file meta p i ≡ q
-          → RisesBy R (gives_at file meta further p.path o ++ visits_at file meta further (further w i) q)
-      entry_rises i None None get next = tt
-      entry_rises i (Some e) None get next = (λ b h. absurd h, tt)
-      entry_rises i None (Some t) get next = (λ b h. absurd h, tt)
-      entry_rises i (Some e) (Some t) get next = (
-        λ b h. elim h [ inl same ↦ subst (R (To_give (p.path ++ e.key ∷ []) e)) same (inside i _ e _ t (get, refl) (refl, next)) | inr none ↦ absurd none ],
-        (λ b h. absurd h, tt),
-      )
-
-      from_rises : (i k : ℕ) → RisesBy R (tasks_from file meta further w p i k)
-      from_rises i zero = tt
-      from_rises i (suc k) =
-          rises_append R (entry_tasks file meta further w p i) (tasks_from file meta further w p (suc i) k) (entry_rises i (slice_get p.elements i) (step_site file meta p i) refl refl) (from_rises (suc i) k)
-          (λ a b ha hb. let (j, le, at) = from_at (suc i) k b hb in across i j a b (omega (arith, le)) (entry_at i a ha) at)
-
-      pub after_rises : (found : Option Finding) → RisesBy R (tasks_after file meta further w p found)
-      after_rises None = from_rises 0 _
-      after_rises (Some x) = tt

@@ -21,7 +21,7 @@ pub use Rattle.bolt_check.specs.{Sound.HasSoundTrees, TreeKinds.tree_kind}
 pub use Rattle.bolt_check.specs.Ways.{At_inline, At_page, Before, PageSpot, Reach, SpanAt, SpanHas, SpanOf, Spot, bucket_spot, bucket_spots, child_spot, follow}
 pub use Rattle.bolt_check.specs.Ways.{reached, root_spot, step, step_at, step_entry, step_from, step_on, upper_from}
 pub use Rattle.bolt_check.specs.declared.checked.Checked.{Checked}
-pub use Rattle.bolt_check.specs.declared.fault.CheckFault.TheVariants.{Accounts, Memory, Open, Structure}
+pub use Rattle.bolt_check.specs.declared.fault.CheckFault.TheVariants.{Structure}
 pub use Rattle.bolt_check.specs.{declared.finding.Finding.Finding, declared.tree_page.TreePage.TreePage}
 pub use Rattle.bolt_format.specs.{ElementPlaces.leaf_view, Elements.LeafElement, Elements.head_root, Elements.head_sequence, Elements.inline_elements}
 pub use Rattle.bolt_format.specs.Headers.{count_field, flags_field, kind_of}
@@ -36,41 +36,43 @@ pub use Rattle.bolt_recover.specs.Losses.{AreLosses, LossView, everything, loss_
 pub use Rattle.bolt_recover.specs.{PageKeys.last_digits, PageKeys.page_key, PageWays.ArePageWays, PageWays.is_at_page, PageWays.page_ways}
 pub use Rattle.bolt_recover.specs.Sites.{Site, elements_at, follow_sites, leaves_of, next_site, site_at, site_on, root_site, step_site}
 pub use Rattle.bolt_recover.specs.Private.FoundLeft.{below_bucket, bucket_members, pages_of}
-pub use Rattle.bolt_recover.specs.Private.Frames.{Advances, AreOpen, ComesTo, Ends, GivesHead, GoesOn, HasOpen, IsAllLeft, IsContent, IsGoodContent, IsGoodPage}
-pub use Rattle.bolt_recover.specs.Private.Frames.{IsLeft, IsOn, IsShallow, NoWay, State, StaysOn, ahead_path_len, ahead_tasks, ahead_weight, claims_nodes}
-pub use Rattle.bolt_recover.specs.Private.Frames.{content_elements, content_site, content_size, content_spot, is_over, left_by, lost_state, open_tasks}
-pub use Rattle.bolt_recover.specs.Private.Frames.{over_by, page_tasks, page_weight, spot_site, state_of, state_tasks, stay, step_path, steps_weight, tally_of}
-pub use Rattle.bolt_recover.specs.Private.Joining.{AreJoinable, HasNextKept, first_cmp, next_kept_members, holds_key, left_at, path_at, put_members, recovered_in}
-pub use Rattle.bolt_recover.specs.Private.KeptMembers.{GivesKept, LeavesKept, kept_file, kept_left, kept_meta, kept_path}
-pub use Rattle.bolt_recover.specs.Private.Courses.{Outcome, Course, WholeCourse, Task, To_give, To_visit, Visited, Way, after_visit, after_visits, claimed_after}
-pub use Rattle.bolt_recover.specs.Private.Courses.{claims_of, entry_count, entry_tasks, further, gives_at, in_span, lost_at, meta_pages, outcome_of, page_visit}
-pub use Rattle.bolt_recover.specs.Private.Courses.{site_size, site_tasks, span_of, tasks_after, tasks_from, visits_at}
-pub use Rattle.bolt_recover.specs.Private.Courses.Course.{done, give, visit}
+pub use Rattle.bolt_recover.specs.Private.Frames.{Advances, AreOpen, Ends, GivesHead, GoesOn, IsAllLeft, IsContent, IsGoodContent, IsGoodPage, IsOn, IsPlaced}
+pub use Rattle.bolt_recover.specs.Private.Frames.{IsShallow, StaysOn, ahead_path_len, ahead_tasks, claims_nodes, claims_with, content_elements, content_site, content_size}
+pub use Rattle.bolt_recover.specs.Private.Frames.{content_spot, members_left, open_tasks, page_tasks, page_weight, spot_site, step_path, steps_left}
+pub use Rattle.bolt_recover.specs.Private.Frames.{steps_path, steps_weight, tally_of, tasks_left, way_of}
+pub use Rattle.bolt_recover.specs.Private.Joining.{AreJoinable, first_cmp, next_kept_members, holds_key, left_at, put_members}
+pub use Rattle.bolt_recover.specs.Private.KeptMembers.{kept_file, kept_left, kept_meta}
+pub use Rattle.bolt_recover.specs.Private.Courses.{Event, Given, Outcome, Task, To_give, To_visit, Visited, Way, after_event, after_events, all_events}
+pub use Rattle.bolt_recover.specs.Private.Courses.{claimed_after, claims_of, entry_count, entry_tasks, further, give_all, gives_at, in_span, lost_at, members_of}
+pub use Rattle.bolt_recover.specs.Private.Courses.{meta_pages, outcome_of, page_visit, root_tasks, run_all, run_on, run_to, site_size, site_tasks, span_of, tasks_after}
+pub use Rattle.bolt_recover.specs.Private.Courses.{recovered_of, tasks_from, visits_at, visits_of}
+unfoldable pub use Rattle.bolt_recover.specs.Private.Courses.{events}
+pub use Rattle.bolt_recover.specs.Private.Tests.{first_claimed, first_or, or_else, test, test_node}
 pub use Rattle.bolt_recover.specs.Private.TreesLeft.{AreTreesOf, IsSearched, lost_of}
 pub use Rattle.bolt_recover.specs.{Recovered.ForRecovered, Recovered.IsRecovered, Recovered.IsRecoveredMember, Recoveries.AreFirst, Recoveries.ForLosses}
-pub use Rattle.bolt_recover.specs.Refusals.{IsRefusedRoot, IsUnrecoverable, KeepsRoot, LosesRoot}
+pub use Rattle.bolt_recover.specs.Refusals.{IsRefusedRoot, KeepsRoot, LosesRoot}
 pub use Rattle.bolt_recover.specs.{ShownFound.IsFoundView, ShownLosses.loss_view}
 pub use Rattle.bolt_recover.specs.Surveys.{Gives, Has, IsClaimedIn, IsOpen, IsSurvey, LosesNothing, Surveys, SurveyedWay, kept, lost}
 pub use Rattle.bolt_recover.specs.{declared.content.Content.Content, declared.content.Content.TheVariants.Page, declared.content.OpenPage.OpenPage}
 pub use Rattle.bolt_recover.specs.{declared.found.Found.Found, declared.joined_parts.Kept.Kept}
 pub use Rattle.bolt_recover.specs.declared.lost_and_found.Trees.TheVariants.{Damaged, Rootless, Sound}
-pub use Rattle.bolt_recover.specs.{declared.recovery.Recovery.Recovery, declared.steps.NextVisit.NextVisit}
-unfoldable pub use Rattle.bolt_recover.specs.JoinedMembers.{joined_file, joined_left, joined_meta, joined_path}
+pub use Rattle.bolt_recover.specs.{declared.steps.NextVisit.NextVisit}
+unfoldable pub use Rattle.bolt_recover.specs.JoinedMembers.{joined_file, joined_left, joined_meta}
 unfoldable pub use Rattle.bolt_recover.specs.LostAndFound.{all_lost}
 unfoldable pub use Rattle.bolt_recover.specs.Recoveries.{recovery_begun, recovery_claimed, recovery_file, recovery_left, recovery_losses, recovery_meta}
 unfoldable pub use Rattle.bolt_recover.specs.Recoveries.{recovery_path, recovery_visited, recovery_work}
-pub use Rattle.bolt_tree.proofs.{EntryOrder.contains_at, Filters.filter_all, Filters.filter_first, Filters.filter_none, Filters.lt_of, Filters.not_lt_of}
+pub use Rattle.bolt_tree.proofs.{EntryOrder.contains_at, Filters.filter_all, Filters.filter_none}
 pub use Rattle.bolt_check.proofs.Lists.{Each, RisesBy, contains_from_has, get_before, has_at, has_from_contains, has_left, has_right, has_split, map_has}
 pub use Rattle.bolt_check.proofs.Lists.{rises_append, rises_map}
-pub use Rattle.bolt_tree.proofs.{Lists.contains_cases, Lists.contains_head, Lists.contains_none, Lists.contains_tail, Lists.rises_once, PartLemmas.filter_rises}
-pub use Rattle.bolt_tree.proofs.PathOrder.{before_longer, flip_less, key_same, key_total, less_lt, path_total, same_front}
+pub use Rattle.bolt_tree.proofs.{Lists.contains_cases, Lists.contains_head, Lists.contains_none, Lists.contains_tail, Lists.rises_once}
+pub use Rattle.bolt_tree.proofs.PathOrder.{before_longer, key_same, key_total, same_front}
 pub use Rattle.bolt_tree.proofs.Single.{lists_once, member_total}
 pub use Rattle.bolt_tree.specs.Entries.{Bucket, Inline_page, IsEntry, Item, Root_page, ShowsEntry, Start, Value, item_of, start_of}
 pub use Rattle.bolt_tree.specs.{Listing.IsListing, Listing.Member, Listing.member_cmp, Order.Rises}
-pub use Rattle.bolt_tree.specs.{Paths.Holds, Paths.Names, Paths.Path, Paths.path_cmp, Paths.path_of, RestAfter.rest_after, ShownEntries.item_view}
+pub use Rattle.bolt_tree.specs.{Paths.Holds, Paths.Names, Paths.Path, Paths.path_cmp, Paths.path_of, ShownEntries.item_view}
 pub use Rattle.bolt_tree.specs.{Tree.Tree, Tree.end, Tree.listing_below, Tree.listing_of, Tree.tree_of, Tree.with_bucket, Tree.with_value, Walks.GivesNext}
 unfoldable pub use Rattle.bolt_tree.specs.Walks.{left_of, walk_checked, walk_path}
-pub use Rattle.std.proofs.Math.Logic.{∥∥₁_elim, ∥∥₁_map, ∥∥₁_prop}
+pub use Rattle.std.proofs.Math.Logic.{∥∥₁_elim, ∥∥₁_map}
 pub use Rattle.std.proofs.Math.Nat.{div-lt_iff_lt-mul, le-div_iff_mul-le, lt_of_mul-lt-mul_right}
 pub use Rattle.std.proofs.Props.{props}
 pub use Rattle.std.proofs.lemmas.Bool.{and_parts, cases_Bool, cases_lt, cases_order, cond_both, eqb-true, false_from_ne_true, false≢true, or_cases, or_left}
@@ -80,14 +82,14 @@ pub use Rattle.std.proofs.lemmas.Cmp.{nat_cmp_total, tied_itself}
 pub use Rattle.std.proofs.lemmas.Grind.{common_steps, merely}
 pub use Rattle.std.proofs.lemmas.List.{append-nil, drop_all, length-append, length-map, length-take-le, map-append, nil_from_length, take-append-drop}
 pub use Rattle.std.proofs.lemmas.List.{take-append-le, take-map, take_all}
-pub use Rattle.std.proofs.lemmas.List.Elements.{All-contains, All-contains_itself, All-filter, All-head, All-nil, All-push, All-tail, Contains-append_cases}
-pub use Rattle.std.proofs.lemmas.List.Elements.{Contains-append_left, Contains-append_right, Contains-push_cases, filter-append, filter_passes}
+pub use Rattle.std.proofs.lemmas.List.Elements.{All-head, All-nil, All-push, All-tail, Contains-append_cases}
+pub use Rattle.std.proofs.lemmas.List.Elements.{Contains-append_left, Contains-append_right, Contains-push_cases, filter-append}
 pub use Rattle.std.proofs.lemmas.List.Sums.{sum_by-append, sum_by-cons}
 pub use Rattle.std.proofs.lemmas.Option.{none-some, same_Some, slice_get-map, slice_get_cases, slice_get_within}
 pub use Rattle.std.specs.Cmp.{both_ways, nat_cmp_is}
 pub use Rattle.std.specs.List.{All, Contains, count_by}
 pub use Rattle.std.specs.Option.{option_map, option_to_list}
 pub use Rattle.std.specs.Ordering.{is_eq, is_lt, nat_cmp, ordering_then}
-pub use Rattle.std.specs.Prelude.{IsTrue, if◌then◌else◌}
+pub use Rattle.std.specs.Prelude.{IsTrue}
 pub use Rattle.std.specs.declared.cmp.Ordering.{Ordering}
 pub use Rattle.std.specs.declared.cmp.Ordering.TheVariants.{Equal, Greater, Less}

@@ -3,7 +3,7 @@ use Rattle.std.specs.Prelude.{◌≡◌, ℕ, List, Option}
 use Rattle.std.specs.Option.{option_map}
 use Rattle.bolt_format.specs.declared.meta.Meta.{Meta}
 use Rattle.bolt_tree.specs.{Listing.Member, Paths.Path, ShownEntries.item_view, Walks.GivesNext, declared.entry.Item.Item}
-use Rattle.bolt_recover.specs.{Joined.IsJoined, Private.Joining.left_at, Private.Joining.path_at, Private.Joining.recovered_in, Private.Joining.work_at}
+use Rattle.bolt_recover.specs.{Joined.IsJoined, Private.Joining.left_at, Private.Joining.path_at, Private.Joining.work_at}
 use Rattle.bolt_recover.specs.{Private.KeptMembers.kept_file, Private.KeptMembers.kept_meta, declared.joined.Joined.Joined}
 
 unfoldable pub joined_file : Joined → List ℕ
@@ -12,9 +12,9 @@ joined_file joined = kept_file joined.kept
 unfoldable pub joined_meta : Joined → Meta
 joined_meta joined = kept_meta joined.kept
 
--- the part of a joined listing that is left
+-- The part of the joined listing that is left. (There is one listing, so it is the same of each.)
 unfoldable pub joined_left : Joined → List Member → List Member
-joined_left joined listing = left_at joined.stage joined.kept joined.found.now joined.bucket joined.next_kept (recovered_in joined.found.now listing)
+joined_left joined listing = left_at joined.stage joined.kept joined.found.now joined.bucket joined.next_kept
 
 -- how much it has to do at most, until it has returned everything
 unfoldable pub joined_work : Joined → ℕ

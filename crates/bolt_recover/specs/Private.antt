@@ -6,4 +6,5 @@ pub mod Joining
 pub mod KeptMembers
 pub mod LeavesLeft
 pub mod Courses
+pub mod Tests
 pub mod TreesLeft

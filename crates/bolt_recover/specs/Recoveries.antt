@@ -1,45 +1,45 @@
 -- What a recovery shows: the file that it reads, the part of the recovered listing that is left, and the losses so far.
-use Rattle.std.specs.Prelude.{◌≡◌, ◌≤◌, ℕ, Bool, List, Option, length, take}
+use Rattle.std.specs.Prelude.{◌≡◌, ◌≤◌, ℕ, Bool, List, Option, length, map, take}
 use Rattle.std.specs.Option.{option_map}
 use Rattle.bolt_format.specs.declared.meta.Meta.{Meta}
-use Rattle.bolt_check.specs.Counts.{counted}
+use Rattle.bolt_check.specs.{Claims.claims_file, Claims.claims_visited, Claims.is_claimed, Counts.counted}
 use Rattle.bolt_tree.specs.{Listing.Member, Paths.Path, ShownEntries.item_view, Walks.GivesNext, declared.entry.Item.Item}
 use Rattle.bolt_recover.specs.{Losses.AreLosses, Losses.LossView, PageWays.ForPageWays}
-use Rattle.bolt_recover.specs.{Private.Frames.left_by, Private.Frames.state_of, Private.Frames.steps_weight, Recovered.ForRecovered}
+use Rattle.bolt_recover.specs.{Private.Frames.members_left, Private.Frames.steps_path, Recovered.ForRecovered, ShownLosses.loss_view}
 use Rattle.bolt_recover.specs.declared.recovery.Recovery.{Recovery}
 
 unfoldable pub recovery_file : Recovery → List ℕ
-recovery_file recovery = (state_of recovery.steps).file
+recovery_file recovery = claims_file recovery.steps.claims
 
 unfoldable pub recovery_meta : Recovery → Meta
 recovery_meta recovery = recovery.meta
 
--- the part of a recovered listing that is left
+-- The part of the recovered listing that is left. (There is one listing, so it is the same of each.)
 unfoldable pub recovery_left : Recovery → List Member → List Member
-recovery_left recovery listing = left_by (state_of recovery.steps) listing
+recovery_left recovery listing = members_left recovery.steps
 
--- how much it has to do at most, until it has returned everything
+-- how many members it has still to return
 unfoldable pub recovery_work : Recovery → ℕ
-recovery_work recovery = steps_weight recovery.steps
+recovery_work recovery = length (members_left recovery.steps)
 
 -- the path of the last item that it returned
 unfoldable pub recovery_path : Recovery → Path
-recovery_path recovery = (state_of recovery.steps).path
+recovery_path recovery = steps_path recovery.steps
 
 -- how many pages it has visited so far, and how many were visited before it began
 unfoldable pub recovery_visited : Recovery → ℕ
-recovery_visited recovery = (state_of recovery.steps).visited
+recovery_visited recovery = claims_visited recovery.steps.claims
 
 unfoldable pub recovery_begun : Recovery → ℕ
 recovery_begun recovery = recovery.begun
 
 -- whether page n is claimed so far
 unfoldable pub recovery_claimed : Recovery → ℕ → Bool
-recovery_claimed recovery = (state_of recovery.steps).claimed
+recovery_claimed recovery = is_claimed recovery.steps.claims
 
 -- the losses that it has reported so far
 unfoldable pub recovery_losses : Recovery → List LossView
-recovery_losses recovery = (state_of recovery.steps).losses
+recovery_losses recovery = map loss_view recovery.steps.losses.items
 
 -- The first member of the recovered listing that was left is given, with its path, and the others are left; or none was left, and none is.
 abbrev pub GivesRecovered : Recovery → Recovery → Option Item → Type 0

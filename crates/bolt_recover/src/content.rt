@@ -1,10 +1,10 @@
 //! A kept page, and how many of its elements are done.
-ghost use Rattle.std.specs.Prelude.{◌≡◌, ◌≤◌, ◌<◌, ◌+◌, ℕ, List, true, IfErr, IfOk, IfSome, OnErr, OnOk, IsTrue, slice_get, None, Some};
+ghost use Rattle.std.specs.Prelude.{◌≡◌, ◌<◌, ℕ, List, true, IfErr, IfOk, IfSome, OnErr, OnOk, IsTrue, slice_get, None, Some};
 ghost use Rattle.std.specs.Option.{option_map};
 ghost use Rattle.bolt_format.specs.{Elements.IsBucketValue, ElementPlaces.leaf_view};
-ghost use Rattle.bolt_check.specs.{Claims.claims_file, Claims.claims_meta, Claims.claims_visited, Claims.is_claimed, Claims.pages_left, Counts.counted};
+ghost use Rattle.bolt_check.specs.{Claims.claims_file, Claims.claims_meta, Claims.claims_visited, Claims.is_claimed, Counts.counted};
 ghost use Rattle.bolt_check.specs.{Findings.Passes, Findings.Tests, ShownSpots.spot_at};
-ghost use Rattle.bolt_recover.specs.Private.Frames.{IsContent, IsShallow, ElementLeads, claims_nodes, claims_with, content_elements, content_size, pages_in};
+ghost use Rattle.bolt_recover.specs.Private.Frames.{IsContent, IsShallow, ElementLeads, claims_nodes, claims_with, content_elements, content_size};
 ghost use Rattle.bolt_recover.specs.Private.Courses.{page_visit};
 ghost use Rattle.bolt_recover.specs.Private.ElementsLeft.{GivesElement, elements_left, elements_of};
 
@@ -38,11 +38,9 @@ impl<'a> Content<'a> {
         ensures visited { claims_visited claims.new ≡ counted (claims_visited claims.old) (page_visit (spot_at spot.entry)) }
         ensures found { IfErr result (Tests (claims_nodes claims.old) (λ n. is_claimed claims.old n ≡ true) (spot_at spot.entry)) }
         ensures same { OnErr result ((n : ℕ) → is_claimed claims.new n ≡ is_claimed claims.old n) }
-        ensures left { OnErr result (pages_left claims.new ≡ pages_left claims.old) }
         ensures passes { OnOk result (Passes (claims_nodes claims.old) (λ n. is_claimed claims.old n ≡ true) (spot_at spot.entry)) }
         ensures content { IfOk result (IsContent (claims_file claims.old) (claims_meta claims.old) spot.entry) }
         ensures claims { OnOk result ((n : ℕ) → is_claimed claims.new n ≡ claims_with claims.old (spot_at spot.entry) n) }
-        ensures fewer { IfOk result (λ content. pages_left claims.new + pages_in content ≤ pages_left claims.old) }
     {
         match spot {
             Spot::Page(spot) => Ok(Content::Page(claims.visit(&spot)?, spot)),

@@ -3,8 +3,8 @@
 ghost use Rattle.std.specs.Prelude.{◌≡◌, ◌≢◌, ◌<◌, ◌*◌, ◌^◌, [], None, IfErr, IfOk, IfSome, OnErr, OnOk, length};
 ghost use Rattle.bolt_check.specs.declared.finding.Finding.{Finding};
 ghost use Rattle.bolt_recover.specs.{Found.numbers_of, Joined.IsJoined, Joined.LacksBucketKey, JoinRefusals.IsJoinRefusal};
-ghost use Rattle.bolt_recover.specs.{Losses.everything, LostAndFound.all_lost, Private.Joining.AreJoinable, Private.Joining.HasNextKept};
-ghost use Rattle.bolt_recover.specs.Private.KeptMembers.{HasSameFile, IsWhole, kept_file, kept_meta};
+ghost use Rattle.bolt_recover.specs.{Losses.everything, LostAndFound.all_lost, Private.Joining.AreJoinable};
+ghost use Rattle.bolt_recover.specs.Private.KeptMembers.{HasSameFile, IsWhole, kept_file, kept_left, kept_meta};
 ghost use Rattle.bolt_recover.specs.Recovered.{ForRecovered};
 ghost use Rattle.bolt_recover.specs.declared.joined.JoinFault.TheVariants as faults;
 ghost use Rattle.bolt_recover.specs.declared.joined.Stage.TheVariants as stages;
@@ -63,7 +63,7 @@ pub struct Joined<'a> {
     /// While the bucket's members are returned, the recovered member that comes after them.
     next_kept: Option<Item<'a>>,
     ghost pages: { ∥ AreJoinable (kept_file kept) (kept_meta kept) found.now ∥₁ },
-    ghost waits: { ∥ HasNextKept stage kept next_kept ∥₁ },
+    ghost waits: { stage ≡ stages.Inside → next_kept ≡ None → kept_left kept ≡ [] },
 }
 
 /// Numbers of sixteen digits name so many pages.
@@ -73,6 +73,7 @@ const NAMES: u64 = 10_000_000_000_000_000;
 fn first_stage(found: &[Found<'_>]) -> Stage
     ensures none { found.now ≡ [] → result ≡ stages.After }
     ensures some { found.now ≢ [] → result ≡ stages.Before }
+    ensures outside { result ≡ stages.Inside → ⊥ }
 {
     if found.is_empty() {
         Stage::After

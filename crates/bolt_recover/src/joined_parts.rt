@@ -7,7 +7,7 @@ ghost use Rattle.bolt_format.specs.{Bytes.IsBytes, ElementPlaces.leaf_view, Elem
 ghost use Rattle.bolt_check.specs.declared.finding.Finding.{Finding};
 ghost use Rattle.bolt_tree.specs.{Paths.path_of, ShownEntries.item_view, Tree.end};
 ghost use Rattle.bolt_recover.specs.Joined.{inside_of, lost_and_found, tree_with};
-ghost use Rattle.bolt_recover.specs.{Private.ElementsLeft.elements_left, Private.ElementsLeft.elements_of, Recovered.ForRecovered, Refusals.LosesRoot};
+ghost use Rattle.bolt_recover.specs.{Private.Courses.recovered_of, Private.ElementsLeft.elements_left, Private.ElementsLeft.elements_of, Refusals.LosesRoot};
 
 use crate::bucket_key::lost_and_found;
 use crate::content::{Content, Elements, next_of};
@@ -38,7 +38,7 @@ pub(crate) enum Kept<'a> {
 
 #[tactic(auto, unfolding(crate::specs::Recoveries::recovery_file, crate::specs::Recoveries::recovery_meta, crate::specs::Recoveries::recovery_losses))]
 impl<'a> Kept<'a> {
-    ghost use Rattle.bolt_recover.specs.Private.KeptMembers.{GivesKept, HasSameFile, LeavesKept, kept_file, kept_left, kept_meta, kept_path, kept_work};
+    ghost use Rattle.bolt_recover.specs.Private.KeptMembers.{GivesKept, HasSameFile, kept_file, kept_left, kept_meta, kept_path, kept_work};
 
     /// Returns the first member that is left, or `None` if nothing is left.
     #[inline(always)]
@@ -46,7 +46,7 @@ impl<'a> Kept<'a> {
         ensures reads { HasSameFile self.old self.new }
         ensures given { IfOk result (GivesKept self.old self.new) }
         ensures fewer { IfOk result (λ given. IfSome given (λ _. kept_work self.new < kept_work self.old)) }
-        ensures same { OnErr result (LeavesKept self.old self.new) }
+        ensures same { OnErr result (kept_left self.new ≡ kept_left self.old) }
         ensures same_path { OnErr result (kept_path self.new ≡ kept_path self.old) }
     {
         match self {
@@ -71,7 +71,7 @@ impl<'a> Kept<'a> {
     /// Begins again before the first member.
     pub fn restart(&mut self, alloc: Global) -> Result<(), NoMemory>
         ensures reads { HasSameFile self.old self.new }
-        ensures all { OnOk result (ForRecovered (kept_file self.old) (kept_meta self.old) (λ listing. kept_left self.new listing ≡ listing)) }
+        ensures all { OnOk result (kept_left self.new ≡ recovered_of (kept_file self.old) (kept_meta self.old)) }
     {
         match self {
             Kept::Recovery(recovery) => recovery.restart(),

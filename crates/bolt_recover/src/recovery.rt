@@ -5,7 +5,7 @@ ghost use Rattle.bolt_check.specs.{Claims.claims_file, Claims.claims_meta, Count
 ghost use Rattle.bolt_check.specs.Sound.{HasSoundTrees};
 ghost use Rattle.bolt_format.specs.Metas.{HasActive, HasNoActive, HasNoneInSlot, IsInSlot};
 ghost use Rattle.bolt_tree.specs.Paths.{path_of};
-ghost use Rattle.bolt_recover.specs.{KeptPages.AreKeptPages, Private.Frames.IsOn, Private.Frames.state_of, Recovered.ForRecovered, Recovered.IsRecovered};
+ghost use Rattle.bolt_recover.specs.{KeptPages.AreKeptPages, Private.Frames.IsOn, Private.Frames.IsPlaced, Recovered.ForRecovered, Recovered.IsRecovered};
 ghost use Rattle.bolt_recover.specs.Refusals.{IsRefusedRoot, IsUnrecoverable, KeepsRoot};
 ghost use Rattle.bolt_recover.specs.ShownLosses.{loss_view};
 
@@ -30,7 +30,8 @@ pub struct Recovery<'a> {
     /// The visits that were made before it began.
     begun: u64,
     ghost sized: { 0 < meta.page_size },
-    ghost on: { ∥ IsOn (state_of steps) meta begun ∥₁ },
+    ghost placed: { ∥ IsPlaced steps ∥₁ },
+    ghost on: { IsOn steps meta begun },
     ghost root: { ∥ KeepsRoot (claims_file steps.claims) meta ∥₁ },
 }
 

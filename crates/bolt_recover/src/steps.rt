@@ -1,12 +1,12 @@
 //! The steps of a recovering walk: one loop over the open pages of the current way.
-ghost use Rattle.std.specs.Prelude.{◌≡◌, ◌≤◌, ◌<◌, ◌↔◌, ℕ, List, [], false, true, None, IfOk, IfErr, IfSome, IsTrue, OnErr, OnOk, length, vec_capacity, vec_len};
+ghost use Rattle.std.specs.Prelude.{◌≡◌, ◌≤◌, ◌<◌, ◌↔◌, ◌∷◌, ◌++◌, ℕ, [], true, None, IfOk, IfErr, IfSome, IsTrue, OnErr, OnOk, length, map, take, vec_capacity, vec_len};
 ghost use Rattle.std.specs.Option.{option_map};
 ghost use Rattle.bolt_check.specs.{Claims.claims_file, Claims.claims_meta, Claims.claims_visited, Claims.is_claimed, Counts.counted, Findings.IsMetaPage};
+ghost use Rattle.bolt_check.specs.ShownSpots.{spot_at};
 ghost use Rattle.bolt_check.specs.declared.spot.Spot.TheVariants as spots;
 ghost use Rattle.bolt_format.specs.Elements.{IsBucketValue};
-ghost use Rattle.bolt_tree.specs.Paths.{path_of};
-ghost use Rattle.bolt_recover.specs.Private.Frames.{Advances, GoesOn, HasOpen, IsAllLeft, Takes, TakesBucket, is_over, lost_state, state_of, steps_weight, taken_weight};
-ghost use Rattle.bolt_recover.specs.Refusals.{IsRefusedRoot, KeepsRoot};
+ghost use Rattle.bolt_recover.specs.Private.Frames.{Advances, GoesOn, IsAllLeft, IsPlaced, Takes, TakesBucket, steps_path};
+ghost use Rattle.bolt_recover.specs.{Losses.loss_on, Refusals.IsRefusedRoot, Refusals.KeepsRoot, ShownLosses.loss_view};
 
 use crate::content::{Content, OpenPage};
 use crate::losses::Loss;
@@ -84,12 +84,11 @@ impl<'a> Steps<'a> {
         ensures file { IfOk result (λ steps. claims_file steps.claims ≡ claims_file claims.entry) }
         ensures meta { IfOk result (λ steps. claims_meta steps.claims ≡ claims_meta claims.entry) }
         ensures visited { IfOk result (λ steps. claims_visited steps.claims ≡ counted (claims_visited claims.entry) 1) }
-        ensures path { IfOk result (λ steps. path_of steps.path.items ≡ []) }
-        ensures placed { IfOk result (λ steps. HasOpen (state_of steps)) }
-        ensures more { IfOk result (λ steps. is_over (state_of steps) ≡ false) }
-        ensures losses { IfOk result (λ steps. (state_of steps).losses ≡ []) }
+        ensures path { IfOk result (λ steps. steps_path steps ≡ []) }
+        ensures placed { IfOk result IsPlaced }
+        ensures losses { IfOk result (λ steps. steps.losses.items ≡ []) }
         ensures root { OnOk result (KeepsRoot (claims_file claims.entry) (claims_meta claims.entry)) }
-        ensures all { IfOk result (λ steps. IsAllLeft (claims_file claims.entry) (claims_meta claims.entry) (claims_visited claims.entry) (state_of steps)) }
+        ensures all { IfOk result (IsAllLeft (claims_file claims.entry) (claims_meta claims.entry) (claims_visited claims.entry)) }
         ensures refused { IfErr result (IsRefusedRoot (claims_file claims.entry) (claims_meta claims.entry)) }
     {
         let root = root_of(&claims.meta());
@@ -123,12 +122,12 @@ impl<'a> Steps<'a> {
         ensures file { claims_file self.new.claims ≡ claims_file self.old.claims }
         ensures meta { claims_meta self.new.claims ≡ claims_meta self.old.claims }
         ensures visited { OnOk result (claims_visited self.new.claims ≡ counted (claims_visited self.old.claims) 1) }
-        ensures path { OnOk result (path_of self.new.path.items ≡ []) }
-        ensures placed { OnOk result (HasOpen (state_of self.new)) }
-        ensures more { OnOk result (is_over (state_of self.new) ≡ false) }
-        ensures losses { OnOk result ((state_of self.new).losses ≡ []) }
-        ensures all { OnOk result (IsAllLeft (claims_file self.old.claims) (claims_meta self.old.claims) (claims_visited self.old.claims) (state_of self.new)) }
-        ensures same { OnErr result (state_of self.new ≡ state_of self.old) }
+        ensures path { OnOk result (steps_path self.new ≡ []) }
+        ensures placed { OnOk result (IsPlaced self.new) }
+        ensures losses { OnOk result (self.new.losses.items ≡ []) }
+        ensures all { OnOk result (IsAllLeft (claims_file self.old.claims) (claims_meta self.old.claims) (claims_visited self.old.claims) self.new) }
+        ensures rest { OnErr result (self.new ≡ record self.old { «open» = self.new.open }) }
+        ensures same { OnErr result (self.new.open.items ≡ self.old.open.items) }
     {
         self.open.reserve(1)?;
         self.claims.restart();
@@ -156,10 +155,9 @@ impl<'a> Steps<'a> {
         requires losses { vec_len self.old.losses < vec_capacity self.old.losses }
         requires empty { vec_len self.old.loss_path ≡ 0 }
         requires room { ahead.now.path_len ≤ vec_capacity self.old.loss_path }
-        ensures claims { self.new.claims ≡ self.old.claims }
-        ensures open { self.new.open.items ≡ self.old.open.items }
-        ensures ahead { self.new.ahead ≡ None }
-        ensures reported { state_of self.new ≡ lost_state (state_of self.old) ahead.now finding }
+        ensures rest { self.new ≡ record self.old { ahead = None; losses = self.new.losses; loss_path = self.new.loss_path } }
+        ensures reported { map loss_view self.new.losses.items
+            ≡ map loss_view self.old.losses.items ++ loss_on (take ahead.now.path_len (steps_path self.old)) (spot_at ahead.now.spot) finding ∷ [] }
     {
         let mut bucket = replace(&mut self.loss_path, Vec::new(self.alloc));
         match bucket.extend_from_slice(&self.path.as_slice()[..ahead.path_len]) {
@@ -174,10 +172,9 @@ impl<'a> Steps<'a> {
     /// Visits what is ahead, if anything. Then a kept page is open, and a lost one is recorded. All
     /// memory is asked for before the visit, so no page is visited twice.
     fn enter(&mut self) -> Result<(), NoMemory>
-        requires { HasOpen (state_of self.old) }
-        ensures on { GoesOn (state_of self.old) (state_of self.new) }
+        requires { IsPlaced self.old }
+        ensures on { GoesOn self.old self.new }
         ensures entered { OnOk result (self.new.ahead ≡ None) }
-        ensures weight { OnOk result (steps_weight self.new ≤ steps_weight self.old) }
     {
         let Some(ahead) = self.ahead else {
             return Ok(());
@@ -205,12 +202,11 @@ impl<'a> Steps<'a> {
 
     /// Goes to the next element of the innermost open page, or closes the page if it has no more.
     fn step(&mut self) -> Result<Taken<'a>, NoMemory>
-        requires placed { HasOpen (state_of self.old) }
+        requires placed { IsPlaced self.old }
         requires ahead { self.old.ahead ≡ None }
-        ensures taken { IfOk result (Takes (state_of self.old) (state_of self.new)) }
+        ensures taken { IfOk result (Takes self.old self.new) }
         ensures bucket { IfOk result TakesBucket }
-        ensures same { OnErr result (GoesOn (state_of self.old) (state_of self.new)) }
-        ensures weight { IfOk result (taken_weight (steps_weight self.old) (steps_weight self.new)) }
+        ensures same { OnErr result (GoesOn self.old self.new) }
     {
         self.path.reserve(1)?;
         let Some(top) = self.open.pop() else {
@@ -237,11 +233,10 @@ impl<'a> Steps<'a> {
 
     /// Goes to the next element that is to be returned.
     pub fn advance(&mut self) -> Result<Option<Leaf<'a>>, NoMemory>
-        requires { HasOpen (state_of self.old) }
-        ensures given { IfOk result (Advances (state_of self.old) (state_of self.new)) }
+        requires { IsPlaced self.old }
+        ensures given { IfOk result (Advances self.old self.new) }
         ensures bucket { IfOk result (λ given. IfSome given (λ leaf. IsTrue leaf.is_bucket → IsBucketValue leaf.value.now)) }
-        ensures weight { IfOk result (λ given. IfSome given (λ _. steps_weight self.new < steps_weight self.old)) }
-        ensures same { OnErr result (GoesOn (state_of self.old) (state_of self.new)) }
+        ensures same { OnErr result (GoesOn self.old self.new) }
     {
         loop {
             self.enter()?;

@@ -1,9 +1,10 @@
--- What is still to be done, and all that comes of it. Tasks know their ways, or anything else that a step takes further, or nothing at all.
-use Rattle.std.specs.Prelude.{◌≡◌, ℕ, zero, suc, ◌+◌, Bool, true, false, ◌||◌, ◌&&◌, List, [], ◌∷◌, ◌++◌, length, Option, Some, None, Result, Ok, Err, nat_le, nat_lt, slice_get}
+-- What is still to be done, and all that comes of it: what is visited, and what is returned.
+use Rattle.std.specs.Prelude.{ℕ, zero, suc, ◌+◌, Bool, false, ◌||◌, ◌&&◌, List, [], ◌∷◌, ◌++◌, length, Option, Some, None, Result, Ok, Err, nat_le, nat_lt, slice_get}
 use Rattle.bolt_format.specs.{Elements.LeafElement, declared.meta.Meta.Meta}
 use Rattle.bolt_check.specs.{Counts.counted, Nodes.Node, Nodes.Nodes, Nodes.node_at, Ways.At_inline, Ways.At_page, Ways.Spot, declared.finding.Finding.Finding}
 use Rattle.bolt_tree.specs.{Entries.item_of, Listing.Member, Paths.Path}
-use Rattle.bolt_recover.specs.{Losses.LossView, Losses.loss_of, Sites.Site, Sites.root_site, Sites.step_site, Surveys.Gives}
+use Rattle.bolt_recover.specs.{Losses.LossView, Losses.loss_of, Private.Tests.test, Sites.Site, Sites.root_site, Sites.step_site}
+use Rattle.bolt_recover.specs.Surveys.{SurveyedWay}
 
 abbrev pub Way : Type 0
 Way = List ℕ
@@ -11,16 +12,15 @@ Way = List ℕ
 abbrev pub further : Way → ℕ → Way
 further way i = way ++ i ∷ []
 
--- a site to be visited, or an element to be returned under its path
-pub data Task (W : Type 0) : Type 0 where
-  To_visit : W → Site → Task W
-  To_give : Path → LeafElement → Task W
+-- the site at a way, to be visited, or an element to be returned under its path
+pub data Task : Type 0 where
+  To_visit : Way → Site → Task
+  To_give : Path → LeafElement → Task
 
--- a site that was visited, and what was found there
-pub record Visited (W : Type 0) : Type 0 where
-  pub way : W
-  pub site : Site
-  pub found : Option Finding
+-- a site that was visited and what was found there, or an element that was returned
+pub data Event : Type 0 where
+  Visited : Way → Site → Option Finding → Event
+  Given : Path → LeafElement → Event
 
 -- how many entries there are at a site
 abbrev pub entry_count : Result Node ℕ → ℕ
@@ -44,10 +44,6 @@ claims_of nodes (At_inline host keys) n = false
 abbrev pub meta_pages : ℕ → Bool
 meta_pages n = nat_lt n 2
 
-abbrev pub lost_at : Site → Option Finding → List LossView
-lost_at p None = []
-lost_at p (Some x) = loss_of p x ∷ []
-
 -- page n lies in the span of a spot that is kept
 abbrev pub span_of : Nodes → Spot → Option Finding → ℕ → Bool
 span_of nodes s None n = claims_of nodes s n
@@ -56,69 +52,110 @@ span_of nodes s (Some x) n = false
 abbrev pub claimed_after : Nodes → (ℕ → Bool) → Spot → Option Finding → ℕ → Bool
 claimed_after nodes claimed s found n = claimed n || span_of nodes s found n
 
--- how many visits are of pages
-abbrev pub page_visit : Spot → ℕ
-page_visit (At_page s) = 1
-page_visit (At_inline host keys) = 0
-
--- what comes of visits: the losses, in order, the number of visits, and the claimed pages
+-- what comes of events: the losses, in order, the number of visits of pages, and the claimed pages
 pub record Outcome : Type 0 where
   pub losses : List LossView
   pub visited : ℕ
   pub claimed : ℕ → Bool
 
-abbrev pub after_visit : {W : Type 0} → Nodes → Outcome → Visited W → Outcome
-after_visit nodes o v = record {
-  losses = o.losses ++ lost_at v.site v.found;
-  visited = counted o.visited (page_visit v.site.spot);
-  claimed = claimed_after nodes o.claimed v.site.spot v.found;
+abbrev pub lost_at : Site → Option Finding → List LossView
+lost_at p None = []
+lost_at p (Some x) = loss_of p x ∷ []
+
+-- how many visits are of pages
+abbrev pub page_visit : Spot → ℕ
+page_visit (At_page s) = 1
+page_visit (At_inline host keys) = 0
+
+abbrev pub after_event : Nodes → Outcome → Event → Outcome
+after_event nodes o (Given path e) = o
+after_event nodes o (Visited way p found) = record {
+  losses = o.losses ++ lost_at p found;
+  visited = counted o.visited (page_visit p.spot);
+  claimed = claimed_after nodes o.claimed p.spot found;
 }
 
-abbrev pub after_visits : {W : Type 0} → Nodes → Outcome → List (Visited W) → Outcome
-after_visits nodes o [] = o
-after_visits nodes o (v ∷ visits) = after_visits nodes (after_visit nodes o v) visits
+abbrev pub after_events : Nodes → Outcome → List Event → Outcome
+after_events nodes o [] = o
+after_events nodes o (event ∷ events) = after_events nodes (after_event nodes o event) events
 
--- of all visits of a file, if so many were made before
-abbrev pub outcome_of : {W : Type 0} → Nodes → ℕ → List (Visited W) → Outcome
-outcome_of nodes begun visits = after_visits nodes (record { losses = []; visited = begun; claimed = meta_pages }) visits
+-- of all events of a file, if so many visits were made before
+abbrev pub outcome_of : Nodes → ℕ → List Event → Outcome
+outcome_of nodes begun events = after_events nodes (record { losses = []; visited = begun; claimed = meta_pages }) events
 
-module _ (file : List ℕ) (meta : Meta) {W : Type 0} (further : W → ℕ → W) where
-  abbrev pub gives_at : Path → Option LeafElement → List (Task W)
+-- the members that are returned
+abbrev pub members_of : List Event → List Member
+members_of [] = []
+members_of (Visited way p found ∷ events) = members_of events
+members_of (Given path e ∷ events) = (path, item_of e) ∷ members_of events
+
+-- the ways that are visited
+abbrev pub visits_of : List Event → List SurveyedWay
+visits_of [] = []
+visits_of (Visited way p found ∷ events) = record { way = way; found = found } ∷ visits_of events
+visits_of (Given path e ∷ events) = visits_of events
+
+-- the elements among tasks are returned, and then comes this
+abbrev pub give_all : List Task → List Event → List Event
+give_all [] later = later
+give_all (To_visit way p ∷ tasks) later = give_all tasks later
+give_all (To_give path e ∷ tasks) later = Given path e ∷ give_all tasks later
+
+module _ (file : List ℕ) (meta : Meta) where
+  abbrev pub gives_at : Path → Option LeafElement → List Task
   gives_at path None = []
   gives_at path (Some e) = To_give (path ++ e.key ∷ []) e ∷ []
 
-  abbrev pub visits_at : W → Option Site → List (Task W)
+  abbrev pub visits_at : Way → Option Site → List Task
   visits_at way None = []
   visits_at way (Some p) = To_visit way p ∷ []
 
   -- what there is to do at one entry of a site: its element is returned, and where it leads is visited
-  abbrev pub entry_tasks : W → Site → ℕ → List (Task W)
+  abbrev pub entry_tasks : Way → Site → ℕ → List Task
   entry_tasks way p i = gives_at p.path (slice_get p.elements i) ++ visits_at (further way i) (step_site file meta p i)
 
   -- what there is to do at `k` entries, from entry i on
-  abbrev pub tasks_from : W → Site → ℕ → ℕ → List (Task W)
+  abbrev pub tasks_from : Way → Site → ℕ → ℕ → List Task
   tasks_from way p i zero = []
   tasks_from way p i (suc k) = entry_tasks way p i ++ tasks_from way p (suc i) k
 
-  abbrev pub site_tasks : W → Site → List (Task W)
+  abbrev pub site_tasks : Way → Site → List Task
   site_tasks way p = tasks_from way p 0 (site_size (node_at file meta) p.spot p.elements)
 
   -- and after a visit
-  abbrev pub tasks_after : W → Site → Option Finding → List (Task W)
+  abbrev pub tasks_after : Way → Site → Option Finding → List Task
   tasks_after way p None = site_tasks way p
   tasks_after way p (Some x) = []
 
-  -- from these claims these tasks come to these visits and these members
-  pub data Course : (ℕ → Bool) → List (Task W) → List (Visited W) → List Member → Type 0 where
-    done : {claimed : ℕ → Bool} → Course claimed [] [] []
-    give : {claimed : ℕ → Bool} {path : Path} {e : LeafElement} {tasks : List (Task W)} {visits : List (Visited W)} {members : List Member}
-        → Course claimed tasks visits members
-        → Course claimed (To_give path e ∷ tasks) visits ((path, item_of e) ∷ members)
-    visit : {claimed : ℕ → Bool} {way : W} {p : Site} {found : Option Finding} {tasks : List (Task W)} {visits : List (Visited W)} {members : List Member}
-        → Gives (node_at file meta) (λ n. claimed n ≡ true) p.spot found
-        → Course (claimed_after (node_at file meta) claimed p.spot found) (tasks_after way p found ++ tasks) visits members
-        → Course claimed (To_visit way p ∷ tasks) (record { way = way; site = p; found = found } ∷ visits) members
+  module _ (deeper : List Task → (ℕ → Bool) → List Event) where
+    -- after a visit; `later` is what comes of the other tasks alone, if no page is claimed
+    abbrev pub run_on : List Event → List Task → (ℕ → Bool) → Way → Site → Option Finding → Spot → List Event
+    run_on later tasks claimed way p (Some x) s = later
+    run_on later tasks claimed way p None (At_inline host keys) = give_all (site_tasks way p) later
+    run_on later tasks claimed way p None (At_page s) = deeper (site_tasks way p ++ tasks) (claimed_after (node_at file meta) claimed (At_page s) None)
 
-  -- the course from the root page on
-  abbrev pub WholeCourse : W → List (Visited W) → List Member → Type 0
-  WholeCourse way visits members = Course meta_pages (To_visit way (root_site file meta) ∷ []) visits members
+    abbrev pub run_all : List Task → (ℕ → Bool) → List Event
+    run_all [] claimed = []
+    run_all (To_give path e ∷ tasks) claimed = Given path e ∷ run_all tasks claimed
+    run_all (To_visit way p ∷ tasks) claimed =
+        Visited way p (test (node_at file meta) claimed p.spot) ∷ run_on (run_all tasks claimed) tasks claimed way p (test (node_at file meta) claimed p.spot) p.spot
+
+  -- where no more than `k` visits claim a page
+  abbrev pub run_to : ℕ → List Task → (ℕ → Bool) → List Event
+  run_to zero tasks claimed = []
+  run_to (suc k) tasks claimed = run_all (run_to k) tasks claimed
+
+  -- All that comes of tasks. Each page that a visit claims lies below the mark.
+  unfoldable pub events : List Task → (ℕ → Bool) → List Event
+  events tasks claimed = run_to (suc meta.high_water) tasks claimed
+
+  -- the tasks at the beginning, and all that comes of a file
+  abbrev pub root_tasks : List Task
+  root_tasks = To_visit [] (root_site file meta) ∷ []
+
+  abbrev pub all_events : List Event
+  all_events = events root_tasks meta_pages
+
+  -- and the members that are returned: the recovered listing of the file
+  abbrev pub recovered_of : List Member
+  recovered_of = members_of all_events

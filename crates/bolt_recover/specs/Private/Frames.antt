@@ -1,27 +1,20 @@
 -- The open pages of the code as what is still to be done.
-use Rattle.std.specs.Prelude.{◌≡◌, ◌≤◌, ◌<◌, IsTrue, ℕ, ◌+◌, ◌-◌, ◌*◌, Bool, true, false, List, [], ◌∷◌, ◌++◌, length, map, take, Option, Some, None, Ok, if◌then◌else◌, slice_get, sum_by}
+use Rattle.std.specs.Prelude.{◌≡◌, ◌≤◌, ◌<◌, IsTrue, ℕ, ◌+◌, ◌-◌, ◌*◌, Bool, List, [], ◌∷◌, ◌++◌, length, map, take, Option, Some, None, Ok, slice_get, sum_by}
 use Rattle.std.specs.Option.{option_map}
 use Rattle.bolt_format.specs.{ElementPlaces.leaf_view, Elements.IsBucketValue, Elements.LeafElement}
 use Rattle.bolt_format.specs.declared.element.Leaf as element
 use Rattle.bolt_format.specs.{Pages.page_at, Shown.shown, ShownInline.shown_inline, declared.meta.Meta.Meta}
-use Rattle.bolt_check.specs.{Claims.claims_file, Claims.claims_meta, Claims.claims_visited, Claims.is_claimed, Claims.pages_left, Nodes.Nodes, Nodes.node_at}
+use Rattle.bolt_check.specs.{Claims.claims_file, Claims.claims_meta, Claims.claims_visited, Claims.is_claimed, Nodes.Nodes, Nodes.node_at}
 use Rattle.bolt_check.specs.{ShownNodes.shown_node, ShownSpots.inline_keys, ShownSpots.page_spot, ShownSpots.spot_at, Ways.At_inline, Ways.At_page, Ways.Spot}
-use Rattle.bolt_check.specs.{declared.claims.Claims.Claims, declared.finding.Finding.Finding, declared.spot.Spot.Spot as CodeSpot}
+use Rattle.bolt_check.specs.{declared.claims.Claims.Claims, declared.spot.Spot.Spot as CodeSpot}
 use Rattle.bolt_check.specs.declared.spot.Spot.TheVariants as spots
-use Rattle.bolt_tree.specs.{Entries.item_of, Listing.Member, Paths.Path, Paths.path_of, RestAfter.rest_after}
-use Rattle.bolt_recover.specs.{Losses.LossView, Losses.loss_of, Sites.Site, Sites.leaves_of, Sites.step_site}
-use Rattle.bolt_recover.specs.Private.Courses.{Outcome, Course, WholeCourse, Task, To_visit, Visited, Way, after_visits, claimed_after, further, outcome_of, tasks_from}
+use Rattle.bolt_tree.specs.{Entries.item_of, Listing.Member, Paths.Path, Paths.path_of}
+use Rattle.bolt_recover.specs.{Sites.Site, Sites.leaves_of, Sites.step_site}
+use Rattle.bolt_recover.specs.Private.Courses.{Event, Outcome, Task, To_visit, Way, after_events, all_events, claimed_after, events, further, members_of, outcome_of, tasks_from}
 use Rattle.bolt_recover.specs.{ShownLosses.loss_view, declared.content.Content.Content}
 use Rattle.bolt_recover.specs.{declared.content.Content.TheVariants.Bucket, declared.content.Content.TheVariants.Page, declared.content.OpenPage.OpenPage}
 use Rattle.bolt_recover.specs.{declared.steps.NextVisit.NextVisit, declared.steps.Steps.Steps, declared.steps.Taken.Taken}
 use Rattle.bolt_recover.specs.declared.steps.Taken.TheVariants.{End, Leaf, Nothing}
-
--- the code keeps no ways
-abbrev pub NoWay : Type 0
-NoWay = Unit {0}
-
-abbrev pub stay : NoWay → ℕ → NoWay
-stay way i = tt
 
 abbrev pub claims_nodes : Claims → Nodes
 claims_nodes claims = node_at (claims_file claims) (claims_meta claims)
@@ -79,33 +72,6 @@ pub record IsContent (file : List ℕ) (meta : Meta) (s : CodeSpot) (content : C
   pub elements : content_elements content ≡ spot_elements file meta s
   pub good : IsGoodContent file meta content
 
--- the steps as data
-pub record State : Type 0 where
-  pub file : List ℕ
-  pub meta : Meta
-  pub claimed : ℕ → Bool
-  pub ahead : Option NextVisit
-  pub pages : List OpenPage
-  pub path : Path
-  pub losses : List LossView
-  pub visited : ℕ
-
-abbrev pub state_of : Steps → State
-state_of steps = record {
-  file = claims_file steps.claims;
-  meta = claims_meta steps.claims;
-  claimed = is_claimed steps.claims;
-  ahead = steps.ahead;
-  pages = steps.open.items;
-  path = path_of steps.path.items;
-  losses = map loss_view steps.losses.items;
-  visited = claims_visited steps.claims;
-}
-
--- what was ahead is lost, with this finding
-abbrev pub lost_state : State → NextVisit → Finding → State
-lost_state s ahead x = record s { ahead = None; losses = s.losses ++ loss_of (spot_site s.file s.meta (take ahead.path_len s.path) ahead.spot) x ∷ [] }
-
 pub record IsGoodPage (file : List ℕ) (meta : Meta) (page : OpenPage) : Type 0 where
   pub content : IsGoodContent file meta page.content
   pub count : page.count ≡ content_size page.content
@@ -121,97 +87,94 @@ abbrev pub ahead_path_len : Option NextVisit → ℕ → ℕ
 ahead_path_len None high = high
 ahead_path_len (Some ahead) high = ahead.path_len
 
-pub record HasOpen (s : State) : Type 0 where
-  pub pages : AreOpen s.file s.meta 0 s.pages (ahead_path_len s.ahead (length s.path))
-  pub within : ahead_path_len s.ahead (length s.path) ≤ length s.path
+-- Good pages, no longer in their buckets' paths than what is ahead, and that no longer than the path.
+pub record HasOpen (file : List ℕ) (meta : Meta) (long : ℕ) (ahead : Option NextVisit) (stack : List OpenPage) : Type 0 where
+  pub pages : AreOpen file meta 0 stack (ahead_path_len ahead long)
+  pub within : ahead_path_len ahead long ≤ long
+
+-- the way to what an element of the last of these pages leads to
+abbrev pub way_of : List OpenPage → Way
+way_of pages = map (λ (page : OpenPage). page.next - 1) pages
 
 -- what is left of an open page, and of all of them, the innermost first
-abbrev pub page_tasks : List ℕ → Meta → Path → OpenPage → List (Task NoWay)
-page_tasks file meta path page = tasks_from file meta stay tt (content_site (take page.path_len path) page.content) page.next (page.count - page.next)
+abbrev pub page_tasks : List ℕ → Meta → Path → Way → OpenPage → List Task
+page_tasks file meta path way page = tasks_from file meta way (content_site (take page.path_len path) page.content) page.next (page.count - page.next)
 
-abbrev pub open_tasks : List ℕ → Meta → Path → List OpenPage → List (Task NoWay) → List (Task NoWay)
-open_tasks file meta path [] rest = rest
-open_tasks file meta path (page ∷ pages) rest = open_tasks file meta path pages (page_tasks file meta path page ++ rest)
+abbrev pub open_tasks : List ℕ → Meta → Path → Way → List OpenPage → List Task → List Task
+open_tasks file meta path way [] rest = rest
+open_tasks file meta path way (page ∷ pages) rest = open_tasks file meta path (further way (page.next - 1)) pages (page_tasks file meta path way page ++ rest)
 
-abbrev pub ahead_tasks : List ℕ → Meta → Path → Option NextVisit → List (Task NoWay) → List (Task NoWay)
-ahead_tasks file meta path None rest = rest
-ahead_tasks file meta path (Some ahead) rest = To_visit tt (spot_site file meta (take ahead.path_len path) ahead.spot) ∷ rest
+abbrev pub ahead_tasks : List ℕ → Meta → Path → Way → Option NextVisit → List Task → List Task
+ahead_tasks file meta path way None rest = rest
+ahead_tasks file meta path way (Some ahead) rest = To_visit way (spot_site file meta (take ahead.path_len path) ahead.spot) ∷ rest
 
-abbrev pub state_tasks : State → List (Task NoWay)
-state_tasks s = ahead_tasks s.file s.meta s.path s.ahead (open_tasks s.file s.meta s.path s.pages [])
+abbrev pub tasks_left : List ℕ → Meta → Path → Option NextVisit → List OpenPage → List Task
+tasks_left file meta path ahead pages = ahead_tasks file meta path (way_of pages) ahead (open_tasks file meta path [] pages [])
 
-abbrev pub tally_of : State → Outcome
-tally_of s = record { losses = s.losses; visited = s.visited; claimed = s.claimed }
+-- what is left of steps: tasks, and all that comes of them
+abbrev pub steps_path : Steps → Path
+steps_path steps = path_of steps.path.items
 
--- these members are left, and what is still to be visited comes to this outcome
-pub record ComesTo (s : State) (members : List Member) (outcome : Outcome) : Type 0 where
-  pub visits : List (Visited NoWay)
-  pub course : Course s.file s.meta stay s.claimed (state_tasks s) visits members
-  pub all : outcome ≡ after_visits (node_at s.file s.meta) (tally_of s) visits
+abbrev pub steps_left : Steps → List Event
+steps_left steps =
+    events (claims_file steps.claims) (claims_meta steps.claims)
+    (tasks_left (claims_file steps.claims) (claims_meta steps.claims) (steps_path steps) steps.ahead steps.open.items) (is_claimed steps.claims)
 
--- Of each course over a file this part of the members is left, if so many visits were made before.
-abbrev pub IsLeft : List ℕ → Meta → ℕ → (List Member → List Member) → State → Type 0
-IsLeft file meta begun left s = (visits : List (Visited Way)) (members : List Member) → WholeCourse file meta further [] visits members
-    → ComesTo s (left members) (outcome_of (node_at file meta) begun visits)
+abbrev pub members_left : Steps → List Member
+members_left steps = members_of (steps_left steps)
 
-abbrev pub IsAllLeft : List ℕ → Meta → ℕ → State → Type 0
-IsAllLeft file meta begun s = IsLeft file meta begun (λ members. members) s
+-- what came of them so far, and what will have come of them at the end
+abbrev pub tally_of : Steps → Outcome
+tally_of steps = record { losses = map loss_view steps.losses.items; visited = claims_visited steps.claims; claimed = is_claimed steps.claims }
 
--- nothing is left to be done
-abbrev pub over_by : Option NextVisit → List OpenPage → Bool
-over_by None [] = true
-over_by None (page ∷ pages) = false
-over_by (Some ahead) pages = false
+abbrev pub outcome_left : Steps → Outcome
+outcome_left steps = after_events (claims_nodes steps.claims) (tally_of steps) (steps_left steps)
 
-abbrev pub is_over : State → Bool
-is_over s = over_by s.ahead s.pages
+abbrev pub IsPlaced : Steps → Type 0
+IsPlaced steps = HasOpen (claims_file steps.claims) (claims_meta steps.claims) (length (steps_path steps)) steps.ahead steps.open.items
 
--- the same file and meta, with good open pages
-pub record StaysOn (old new : State) : Type 0 where
-  pub file : new.file ≡ old.file
-  pub meta : new.meta ≡ old.meta
-  pub placed : HasOpen new
+-- the whole file is left, but that the root page is visited, if so many visits were made before
+pub record IsAllLeft (file : List ℕ) (meta : Meta) (begun : ℕ) (steps : Steps) : Type 0 where
+  pub members : members_left steps ≡ members_of (all_events file meta)
+  pub outcome : outcome_left steps ≡ outcome_of (node_at file meta) begun (all_events file meta)
+
+-- How much there is to do at most: a page holds fewer than 65536 elements.
+abbrev pub page_weight : OpenPage → ℕ
+page_weight page = 1 + (page.count - page.next)
+
+abbrev pub steps_weight : Steps → ℕ
+steps_weight steps = length (steps_left steps) * 65537 + sum_by page_weight steps.open.items
+
+-- the same file and meta, with good open pages, and the same comes of it in the end
+pub record StaysOn (old new : Steps) : Type 0 where
+  pub file : claims_file new.claims ≡ claims_file old.claims
+  pub meta : claims_meta new.claims ≡ claims_meta old.claims
+  pub placed : IsPlaced new
+  pub outcome : outcome_left new ≡ outcome_left old
 
 -- nothing was returned
-pub record GoesOn (old new : State) : Type 0 where
+pub record GoesOn (old new : Steps) : Type 0 where
   pub on : StaysOn old new
-  pub path : new.path ≡ old.path
-  pub over : is_over old ≡ true → is_over new ≡ true
-  pub same : (members : List Member) (outcome : Outcome) → ComesTo old members outcome → ComesTo new members outcome
+  pub path : steps_path new ≡ steps_path old
+  pub members : members_left new ≡ members_left old
+  pub less : steps_weight new ≤ steps_weight old
 
 -- this element was returned
-pub record GivesHead (old new : State) (e : LeafElement) : Type 0 where
+pub record GivesHead (old new : Steps) (e : LeafElement) : Type 0 where
   pub on : StaysOn old new
-  pub more : is_over new ≡ false
-  pub head : (members : List Member) (outcome : Outcome) → ComesTo old members outcome
-      → (rest : List Member) × (members ≡ (new.path, item_of e) ∷ rest) × ComesTo new rest outcome
+  pub head : members_left old ≡ (steps_path new, item_of e) ∷ members_left new
 
 -- nothing was left
-pub record HasEnded (s : State) : Type 0 where
-  pub ahead : s.ahead ≡ None
-  pub pages : s.pages ≡ []
-  pub path : s.path ≡ []
-
-pub record Ends (old new : State) : Type 0 where
+pub record Ends (old new : Steps) : Type 0 where
   pub on : StaysOn old new
-  pub ended : HasEnded new
-  pub none : (members : List Member) (outcome : Outcome) → ComesTo old members outcome → (members ≡ []) × ComesTo new [] outcome
+  pub path : steps_path new ≡ []
+  pub none : members_left old ≡ []
+  pub ended : steps_left new ≡ []
 
-abbrev pub Takes : State → State → Taken → Type 0
+abbrev pub Takes : Steps → Steps → Taken → Type 0
 Takes old new (Leaf leaf) = GivesHead old new (leaf_view leaf)
-Takes old new Nothing = GoesOn old new
+Takes old new Nothing = GoesOn old new × (steps_weight new < steps_weight old)
 Takes old new End = Ends old new
-
--- what of a listing is left: everything after the path of what was returned last
-abbrev pub left_by : State → List Member → List Member
-left_by s listing = if is_over s then [] else rest_after s.path listing
-
--- Good steps over a file under this meta, begun after so many visits: what is left of them is what is left of what a course returns, and they come
--- to what comes of all its visits.
-pub record IsOn (s : State) (under : Meta) (begun : ℕ) : Type 0 where
-  pub meta : s.meta ≡ under
-  pub placed : HasOpen s
-  pub comes : IsLeft s.file under begun (left_by s) s
 
 -- a bucket that is returned has a bucket's value
 abbrev pub TakesBucket : Taken → Type 0
@@ -219,34 +182,11 @@ TakesBucket (Leaf leaf) = IsTrue leaf.is_bucket → IsBucketValue leaf.value.now
 TakesBucket Nothing = Unit {0}
 TakesBucket End = Unit {0}
 
-abbrev pub Advances : State → State → Option element.Leaf → Type 0
+abbrev pub Advances : Steps → Steps → Option element.Leaf → Type 0
 Advances old new (Some leaf) = GivesHead old new (leaf_view leaf)
 Advances old new None = Ends old new
 
--- How much there is to do at most: a page holds fewer than 65536 elements, and a visit of a page claims one.
-abbrev pub element_weight : Content → ℕ → ℕ
-element_weight (Page page s) n = n * 65538
-element_weight (Bucket s) n = n
-
-abbrev pub page_weight : OpenPage → ℕ
-page_weight page = 1 + element_weight page.content (page.count - page.next)
-
-abbrev pub spot_weight : CodeSpot → ℕ
-spot_weight (spots.Page s) = 1
-spot_weight (spots.Bucket s) = 65537
-
-abbrev pub ahead_weight : Option NextVisit → ℕ
-ahead_weight None = 0
-ahead_weight (Some ahead) = spot_weight ahead.spot
-
-abbrev pub pages_in : Content → ℕ
-pages_in (Page page s) = 1
-pages_in (Bucket s) = 0
-
-abbrev pub steps_weight : Steps → ℕ
-steps_weight steps = pages_left steps.claims * 4295163904 + ahead_weight steps.ahead + sum_by page_weight steps.open.items
-
-abbrev pub taken_weight : (old new : ℕ) → Taken → Type 0
-taken_weight old new (Leaf leaf) = new < old
-taken_weight old new Nothing = new < old
-taken_weight old new End = Unit {0}
+-- Steps over a file under this meta, begun after so many visits: in the end, all that comes of the file will have come of them.
+pub record IsOn (steps : Steps) (under : Meta) (begun : ℕ) : Type 0 where
+  pub meta : claims_meta steps.claims ≡ under
+  pub comes : outcome_left steps ≡ outcome_of (node_at (claims_file steps.claims) under) begun (all_events (claims_file steps.claims) under)

@@ -1,5 +1,5 @@
 -- How far the members of the joined listing are returned.
-use Rattle.std.specs.Prelude.{◌≡◌, ◌≢◌, ◌<◌, ◌*◌, ◌^◌, ◌+◌, ℕ, suc, Bool, false, ◌||◌, List, [], ◌∷◌, ◌++◌, Option, Some, None, if◌then◌else◌, filter, length, not}
+use Rattle.std.specs.Prelude.{◌≡◌, ◌≢◌, ◌<◌, ◌*◌, ◌^◌, ◌+◌, ℕ, suc, Bool, false, ◌||◌, List, [], ◌∷◌, ◌++◌, Option, Some, None, if◌then◌else◌, length}
 use Rattle.std.specs.List.{All}
 use Rattle.std.specs.Ordering.{is_lt}
 use Rattle.std.specs.declared.cmp.Ordering.{Ordering}
@@ -10,7 +10,7 @@ use Rattle.bolt_tree.specs.{Listing.Member, Paths.Path, ShownEntries.item_view, 
 use Rattle.bolt_recover.specs.{Found.AreFound, Found.numbers_of, Joined.LacksBucketKey, Joined.is_found_path, Joined.lost_and_found, Recovered.ForRecovered}
 use Rattle.bolt_recover.specs.ShownFound.{IsFoundView}
 use Rattle.bolt_recover.specs.Private.FoundLeft.{below_bucket, bucket_left, bucket_members, bucket_path}
-use Rattle.bolt_recover.specs.Private.KeptMembers.{kept_file, kept_left, kept_meta, kept_path, kept_work}
+use Rattle.bolt_recover.specs.Private.KeptMembers.{kept_left, kept_path, kept_work}
 use Rattle.bolt_recover.specs.{declared.found.Found.Found, declared.joined.Stage.Stage, declared.joined_parts.FoundMembers.FoundMembers}
 use Rattle.bolt_recover.specs.declared.joined.Stage.TheVariants.{After, Before, Inside}
 use Rattle.bolt_recover.specs.declared.joined_parts.Kept.{Kept}
@@ -29,11 +29,11 @@ abbrev pub next_kept_members : Path → Option Item → List Member
 next_kept_members path None = []
 next_kept_members path (Some item) = (path, item_view item) ∷ []
 
--- what is left of the joined listing, if this is the recovered one
-abbrev pub left_at : Stage → Kept → List Found → FoundMembers → Option Item → List Member → List Member
-left_at Before kept found bucket next_kept recovered = put_members (bucket_members found) (kept_left kept recovered)
-left_at Inside kept found bucket next_kept recovered = bucket_left bucket ++ (next_kept_members (kept_path kept) next_kept ++ kept_left kept recovered)
-left_at After kept found bucket next_kept recovered = kept_left kept recovered
+-- what is left of the joined listing
+abbrev pub left_at : Stage → Kept → List Found → FoundMembers → Option Item → List Member
+left_at Before kept found bucket next_kept = put_members (bucket_members found) (kept_left kept)
+left_at Inside kept found bucket next_kept = bucket_left bucket ++ (next_kept_members (kept_path kept) next_kept ++ kept_left kept)
+left_at After kept found bucket next_kept = kept_left kept
 
 abbrev pub next_kept_work : Kept → Option Item → ℕ
 next_kept_work kept None = 0
@@ -64,15 +64,3 @@ pub record AreJoinable (file : List ℕ) (meta : Meta) (found : List Found) : Ty
   pub are_found : AreFound file meta (numbers_of found)
   pub views : All (IsFoundView file meta) found
   pub apart : found ≢ [] → ForRecovered file meta LacksBucketKey
-
--- if no recovered member comes after those of the bucket, none is left
-abbrev pub HasNextKept : Stage → Kept → Option Item → Type 0
-HasNextKept Inside kept None = ForRecovered (kept_file kept) (kept_meta kept) (λ listing. kept_left kept listing ≡ [])
-HasNextKept Inside kept (Some item) = Unit {0}
-HasNextKept Before kept next_kept = Unit {0}
-HasNextKept After kept next_kept = Unit {0}
-
--- the recovered listing in the joined one
-abbrev pub recovered_in : List Found → List Member → List Member
-recovered_in [] listing = listing
-recovered_in (f ∷ found) listing = filter (λ (m : Member). not (is_found_path m.0)) listing

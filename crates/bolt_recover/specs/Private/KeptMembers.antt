@@ -5,8 +5,8 @@ use Rattle.bolt_format.specs.declared.meta.Meta.{Meta}
 use Rattle.bolt_check.specs.CheckedFiles.{bytes_of, meta_of}
 use Rattle.bolt_tree.specs.{Listing.Member, Paths.Path, ShownEntries.item_view, Walks.GivesNext, Walks.left_of, Walks.walk_checked, Walks.walk_path}
 use Rattle.bolt_tree.specs.{declared.entry.Item.Item, WalksLeft.left_number}
-use Rattle.bolt_recover.specs.Recovered.{ForRecovered}
-use Rattle.bolt_recover.specs.Recoveries.{recovery_file, recovery_left, recovery_meta, recovery_path, recovery_work}
+use Rattle.bolt_recover.specs.{Private.Courses.recovered_of, Private.Frames.members_left}
+use Rattle.bolt_recover.specs.Recoveries.{recovery_file, recovery_meta, recovery_path, recovery_work}
 use Rattle.bolt_recover.specs.declared.joined_parts.Kept.{Kept}
 use Rattle.bolt_recover.specs.declared.joined_parts.Kept.TheVariants.{Nothing, Recovery, Sound}
 
@@ -20,10 +20,11 @@ kept_meta (Recovery recovery) = recovery_meta recovery
 kept_meta (Sound walk) = meta_of (walk_checked walk)
 kept_meta (Nothing root) = root.meta
 
-abbrev pub kept_left : Kept → List Member → List Member
-kept_left (Recovery recovery) listing = recovery_left recovery listing
-kept_left (Sound walk) listing = left_of walk listing
-kept_left (Nothing root) listing = []
+-- What is left of the recovered listing. A walk speaks of any listing of its file, and there is one.
+abbrev pub kept_left : Kept → List Member
+kept_left (Recovery recovery) = members_left recovery.steps
+kept_left (Sound walk) = left_of walk (recovered_of (bytes_of (walk_checked walk)) (meta_of (walk_checked walk)))
+kept_left (Nothing root) = []
 
 abbrev pub kept_work : Kept → ℕ
 kept_work (Recovery recovery) = recovery_work recovery
@@ -39,7 +40,7 @@ kept_path (Nothing root) = []
 pub record IsWhole (file : List ℕ) (meta : Meta) (kept : Kept) : Type 0 where
   pub reads : kept_file kept ≡ file
   pub under : kept_meta kept ≡ meta
-  pub all : ForRecovered file meta (λ listing. kept_left kept listing ≡ listing)
+  pub all : kept_left kept ≡ recovered_of file meta
   pub path : kept_path kept ≡ []
 
 -- it reads the same file, under the same meta
@@ -47,11 +48,6 @@ pub record HasSameFile (old new : Kept) : Type 0 where
   pub file : kept_file new ≡ kept_file old
   pub meta : kept_meta new ≡ kept_meta old
 
--- The first member of the recovered listing that was left is given, with its path, and the others are left; or none was left, and none is.
+-- The first member that was left is given, with its path, and the others are left; or none was left, and none is.
 abbrev pub GivesKept : Kept → Kept → Option Item → Type 0
-GivesKept old new given =
-    ForRecovered (kept_file old) (kept_meta old) (λ listing. GivesNext (kept_left old listing) (kept_left new listing) (kept_path new) (option_map item_view given))
-
--- the same of it is left
-abbrev pub LeavesKept : Kept → Kept → Type 0
-LeavesKept old new = ForRecovered (kept_file old) (kept_meta old) (λ listing. kept_left new listing ≡ kept_left old listing)
+GivesKept old new given = GivesNext (kept_left old) (kept_left new) (kept_path new) (option_map item_view given)

@@ -1,22 +1,26 @@
 -- By what is left of the trees.
-use Rattle.std.proofs.Common.{◌≡◌, ◌∙◌, [], List, arith, ap, length, refl, rules, subst₂, sym, ℕ}
-use Rattle.bolt_recover.proofs.Words.{common_steps, ForRecovered, Found, left_of, length-map, lost_of, Member, Meta, numbers_of, ∥∥₁_map}
+use Rattle.std.proofs.Common.{◌≡◌, ◌∙◌, [], List, arith, ap, length, refl, rules, sym, ℕ}
+use Rattle.bolt_recover.proofs.Words.{common_steps, Found, left_of, length-map, lost_of, numbers_of, props, recovered_of, recovery_file, recovery_left, recovery_meta, recovery_path, ∥∥₁_map}
 use Rattle.bolt_recover.proofs.Searched.{has_key, lacks_all, lacks_key, none_recovered, not_everything, of_sound, root_lost}
-use Rattle.bolt_recover.proofs.SoundWalks.{same_left}
+use Rattle.bolt_recover.proofs.{Existing.recovers, SoundWalks.walked}
 use Rattle.bolt_recover.proofs.joined.kept_of.Goals as goal
 use Rattle.bolt_recover.proofs.joined.kept_of.Goals.{else-some-via-else-some, else-some-via-then-some+else-damage}
 
 pub returns-in-Sound-clause-whole : goal.returns-in-Sound-clause-whole
 returns-in-Sound-clause-whole c =
     let (file, meta, none) = of_sound c.args.both.now c.in-Sound.checked c.in-Sound.is in
-    let walk = c.new.result in
     record {
       reads = rw c.new.ensures.checked file;
       under = rw c.new.ensures.checked meta;
-      all = subst₂ (λ (f : List ℕ) (m : Meta). ForRecovered f m (λ listing. left_of walk listing ≡ listing)) file meta
-          (same_left c.in-Sound.checked (left_of walk) (λ (listing : List Member). listing) c.new.ensures.all);
+      all = rw c.new.ensures.checked (walked {P = λ listing. left_of c.new.result listing ≡ listing} c.in-Sound.checked (λ listing. hlevel props) c.new.ensures.all ∙ (λ i. recovered_of (file i) (meta i)));
       path = search rules;
     }
+
+pub returns-in-Ok-clause-whole : goal.returns-in-Ok-clause-whole
+unfolding recovery_file recovery_left recovery_meta recovery_path
+returns-in-Ok-clause-whole c =
+    let made = c.in-Ok.ensures in
+    record { reads = made.file; under = made.meta; all = made.all _ (recovers _ _); path = made.path }
 
 pub returns-in-Sound-clause-apart : goal.returns-in-Sound-clause-apart
 returns-in-Sound-clause-apart c = λ some. absurd (some (of_sound c.args.both.now c.in-Sound.checked c.in-Sound.is).2)
@@ -53,7 +57,7 @@ pub returns-clause-whole : goal.returns-clause-whole
 returns-clause-whole c = record {
   reads = refl;
   under = refl;
-  all = λ listing recovers. sym (none_recovered c.args.both.now c.in-Rootless.finding c.in-Rootless.is listing recovers);
+  all = sym (none_recovered c.args.both.now c.in-Rootless.finding c.in-Rootless.is _ (recovers _ _));
   path = refl;
 }
 

@@ -1,5 +1,5 @@
 use Rattle.std.proofs.Common.{Some}
-use Rattle.bolt_recover.proofs.{Words.At_page, Words.node_at, Words.root_spot, FirstLoss.first_is}
+use Rattle.bolt_recover.proofs.{Words.At_page, Words.node_at, Words.root_spot, KeptWays.first_is}
 use Rattle.bolt_recover.proofs.laws.first_loss_is_the_first_finding.Goals as goal
 
 pub returns : goal.returns

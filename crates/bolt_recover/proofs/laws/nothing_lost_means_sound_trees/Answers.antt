@@ -1,5 +1,5 @@
 use Rattle.std.proofs.Common.{sym}
-use Rattle.bolt_recover.proofs.{LostWays.nothing_lost, NothingLost.sound}
+use Rattle.bolt_recover.proofs.{LostWays.nothing_lost, KeptWays.sound}
 use Rattle.bolt_recover.proofs.laws.nothing_lost_means_sound_trees.Goals as goal
 
 pub returns-clause-ways : goal.returns-clause-ways

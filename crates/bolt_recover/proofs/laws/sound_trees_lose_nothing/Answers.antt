@@ -1,4 +1,4 @@
-use Rattle.bolt_recover.proofs.SoundSurveys.{none_lost}
+use Rattle.bolt_recover.proofs.KeptWays.{none_lost}
 use Rattle.bolt_recover.proofs.laws.sound_trees_lose_nothing.Goals as goal
 
 pub returns : goal.returns

@@ -1,5 +1,4 @@
-use Rattle.std.proofs.Common.{inl, inr, refl}
-use Rattle.bolt_recover.proofs.Words.{cases_Bool, counted_none, is_claimed, passed_on}
+use Rattle.bolt_recover.proofs.Words.{counted_none, passed_on}
 use Rattle.bolt_recover.proofs.content.Content.visit.Goals as goal
 
 pub returns-in_err-visit-in-Page-clause-found : goal.returns-in_err-visit-in-Page-clause-found
@@ -10,6 +9,3 @@ returns-in_err-test-in-Bucket-clause-visited c = rw c.in-Bucket.is (counted_none
 
 pub returns-in_ok-test-in-Bucket-clause-visited : goal.returns-in_ok-test-in-Bucket-clause-visited
 returns-in_ok-test-in-Bucket-clause-visited c = rw c.in-Bucket.is (counted_none c.args.claims.now)
-
-pub returns-in_ok-test-in-Bucket-clause-claims : goal.returns-in_ok-test-in-Bucket-clause-claims
-returns-in_ok-test-in-Bucket-clause-claims c = λ n. rw c.in-Bucket.is (elim (cases_Bool (is_claimed c.args.claims.now n)) [ inl is ↦ rw is refl | inr not ↦ rw not refl ])

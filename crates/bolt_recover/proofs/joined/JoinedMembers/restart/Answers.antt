@@ -1,19 +1,13 @@
 -- Begun again, over the same pages.
 use Rattle.bolt_recover.proofs.Words.{joined_file, joined_left, joined_meta, kept_file, kept_meta, props, ∥∥₁_elim}
-use Rattle.bolt_recover.proofs.JoinSteps.{begun_left, when_ok}
+use Rattle.std.proofs.lemmas.Result.{on_ok_weaker}
+use Rattle.bolt_recover.proofs.JoinedLemmas.{begun_left}
 use Rattle.bolt_recover.proofs.joined.JoinedMembers.restart.Goals as goal
 
 pub returns-clause-all : goal.returns-clause-all
 unfolding joined_file joined_left joined_meta
 returns-clause-all c =
     let self = c.args.self.now in
-    when_ok c.restart.result (λ all listing is. ∥∥₁_elim self.pages (hlevel props) (λ are.
-    begun_left c.first_stage-self.result c.restart.new.self (kept_file self.kept) (kept_meta self.kept) self.found.now self.bucket self.next_kept
-    (c.first_stage-self.ensures.none, c.first_stage-self.ensures.some) are all listing is)) c.restart.ensures.all
-
-pub returns-clause-listing : goal.returns-clause-listing
-unfolding joined_file joined_meta
-returns-clause-listing c = λ listing. rw (c.restart.ensures.reads.file, c.restart.ensures.reads.meta) (λ is. is, λ is. is)
-
-pub invariant_of-self-clause-pages : goal.invariant_of-self-clause-pages
-invariant_of-self-clause-pages c = rw (c.restart.ensures.reads.file, c.restart.ensures.reads.meta) c.args.self.now.pages
+    on_ok_weaker c.restart.result (λ all listing is. ∥∥₁_elim self.pages (hlevel props) (λ are.
+    begun_left (kept_file self.kept) (kept_meta self.kept) c.first_stage-self.result c.restart.new.self self.found.now self.bucket self.next_kept
+    c.first_stage-self.ensures.none c.first_stage-self.ensures.some are all listing is)) c.restart.ensures.all

@@ -11,17 +11,6 @@ invariant_of-result-clause-searched c =
     let part = c.in_ok-damage-in-Ok in
     merely (subst₂ (λ (f : List ℕ) (m : Meta). IsSearched f m (Damaged part.damage) part.found.items) c.in-Ok.ensures.file c.in-Ok.ensures.meta part.ensures)
 
-pub returns-in-Ok-clause-searched : goal.returns-in-Ok-clause-searched
-returns-in-Ok-clause-searched c =
-    let part = c.in_ok-damage-in-Ok in
-    subst₂ (λ (f : List ℕ) (m : Meta). IsSearched f m (Damaged part.damage) part.found.items) c.in-Ok.ensures.file c.in-Ok.ensures.meta part.ensures
-
-pub found-requires-clause-fresh : goal.found-requires-clause-fresh
-found-requires-clause-fresh c = rw (c.in-Ok.ensures.file, c.in-Ok.ensures.meta) c.in-Ok.ensures.all
-
-pub found-requires-clause-root : goal.found-requires-clause-root
-found-requires-clause-root c = rw (c.in-Ok.ensures.file, c.in-Ok.ensures.meta) c.in-Ok.ensures.root
-
 pub found_without_root-requires-clause-lost : goal.found_without_root-requires-clause-lost
 found_without_root-requires-clause-lost c = (c.in-Err-Structure.finding, rw c.in-Err-Structure.field-0-is at c.in-Err-Structure.ensures.refused)
 

@@ -1,5 +1,5 @@
 -- Sound trees lose nothing. The others are searched.
-use Rattle.bolt_recover.proofs.{Words.all_lost, Words.merely, Words.sound_reports_nothing, FoundAll.if_ok, SoundWalks.sound_searched}
+use Rattle.bolt_recover.proofs.{Words.all_lost, Words.merely, Words.sound_reports_nothing, SoundWalks.sound_searched}
 use Rattle.bolt_recover.proofs.lost_and_found.LostAndFound.under.Goals as goal
 
 pub invariant_of-result-clause-bytes : goal.invariant_of-result-clause-bytes
@@ -24,13 +24,3 @@ returns-in-Ok-clause-found c =
 pub of_damaged-requires-clause-damaged : goal.of_damaged-requires-clause-damaged
 of_damaged-requires-clause-damaged c = λ trees.
     sound_reports_nothing c.args.file.now c.args.meta c.in-Err-Structure.field-0-0 trees (rw c.in-Err-Structure.field-0-is at c.in-Err-Structure.ensures.refused)
-
-pub returns-in-Err-Structure-clause-lost : goal.returns-in-Err-Structure-clause-lost
-unfolding all_lost
-returns-in-Err-Structure-clause-lost c = if_ok c.of_damaged.result (λ both searched. searched.lost) c.of_damaged.ensures.searched
-
-pub returns-in-Err-Structure-clause-found : goal.returns-in-Err-Structure-clause-found
-returns-in-Err-Structure-clause-found c = if_ok c.of_damaged.result (λ both searched. searched.are_found) c.of_damaged.ensures.searched
-
-pub returns-in-Err-Structure-clause-views : goal.returns-in-Err-Structure-clause-views
-returns-in-Err-Structure-clause-views c = if_ok c.of_damaged.result (λ both searched. searched.views) c.of_damaged.ensures.searched

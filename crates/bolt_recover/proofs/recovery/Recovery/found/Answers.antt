@@ -1,6 +1,5 @@
 -- Something is lost, since the trees aren't sound.
 use Rattle.std.proofs.Common.{◌≡◌, ◌∙◌, List, true, subst₂, ℕ}
-use Rattle.std.proofs.lemmas.Result.{IfOk-from_err}
 use Rattle.bolt_recover.proofs.Words.{All, FoundBelow, is_taken, IsFoundView, Meta, numbers_of, recovery_claimed, recovery_file, recovery_losses, recovery_meta}
 use Rattle.bolt_recover.proofs.FoundAll.{found_damaged}
 use Rattle.bolt_recover.proofs.recovery.Recovery.found.Goals as goal
@@ -24,9 +23,3 @@ returns c =
           (subst₂ (λ (f : List ℕ) (m : Meta). FoundBelow f m (λ n. is_taken rest n ≡ true) m.high_water (numbers_of items)) same_file same_meta c.in_ok-found.ensures.found);
       views = subst₂ (λ (f : List ℕ) (m : Meta). All (IsFoundView f m) items) same_file same_meta c.in_ok-found.ensures.views;
     }
-
-pub returns-in_err-has_bucket_key : goal.returns-in_err-has_bucket_key
-returns-in_err-has_bucket_key c = IfOk-from_err c.from_residual.result _ c.from_residual.ensures.0
-
-pub find_leaves-requires : goal.find_leaves-requires
-find_leaves-requires c = rw (c.new.ensures.file, c.new.ensures.meta) c.new.ensures.listed

@@ -1,31 +1,35 @@
 -- The root page was kept before.
 use Rattle.std.proofs.Common.{◌∙◌, List, subst, sym, ℕ}
-use Rattle.bolt_recover.proofs.Words.{claims_file, claims_visited, IsAllLeft, IsOn, KeepsRoot, Meta, recovery_file, recovery_left, recovery_meta, state_of, ∥∥₁_elim, ∥∥₁_map, ∥∥₁_prop}
-use Rattle.bolt_recover.proofs.Recovering.{begun, left_all}
+use Rattle.bolt_recover.proofs.Words.{claims_file, claims_visited, IsAllLeft, IsOn, IsPlaced, KeepsRoot, merely, Meta, recovery_file, recovery_left, recovery_meta, ∥∥₁_map}
+use Rattle.bolt_recover.proofs.Recovering.{left_all, on_begun, on_reserved}
+use Rattle.bolt_recover.specs.declared.steps.Steps.{Steps}
 use Rattle.bolt_recover.proofs.recovery.Recovery.restart.Goals as goal
 
-pub restart-requires : goal.restart-requires
-restart-requires c =
-    let claims = c.args.self.now.steps.claims in
-    ∥∥₁_elim c.args.self.now.on ∥∥₁_prop (λ on. ∥∥₁_map c.args.self.now.root (λ keeps. subst (KeepsRoot (claims_file claims)) (sym on.meta) keeps))
+pub invariant_of-self : goal.invariant_of-self
+invariant_of-self c =
+    let self = c.args.self.now in
+    let failed = c.in_err-restart.ensures in
+    record {
+      sized = self.sized;
+      placed = subst (λ (s : Steps). ∥ IsPlaced s ∥₁) (sym failed.rest) (rw failed.same self.placed);
+      on = subst (λ (s : Steps). IsOn s self.meta self.begun) (sym failed.rest) (on_reserved self.steps self.meta self.begun c.restart.new.self.open failed.same self.on);
+      root = ∥∥₁_map self.root (λ keeps. subst (λ (f : List ℕ). KeepsRoot f self.meta) (sym failed.file) keeps);
+    }
 
 pub invariant_of-self-2 : goal.invariant_of-self-2
 invariant_of-self-2 c =
-    let claims = c.args.self.now.steps.claims in
-    let file = claims_file claims in
-    let meta = c.args.self.now.meta in
-    let steps = c.restart.new.self in
+    let self = c.args.self.now in
+    let claims = self.steps.claims in
     let new = c.in_ok-restart.ensures in
     record {
-      sized = c.args.self.now.sized;
-      root = ∥∥₁_map c.args.self.now.root (λ keeps. subst (λ (f : List ℕ). KeepsRoot f meta) (sym new.file) keeps);
-      on = ∥∥₁_map c.args.self.now.on (λ on. subst (IsOn (state_of steps) meta) (sym c.visited-begun.ensures)
-          (begun (state_of steps) file meta (claims_visited claims) new.file (new.meta ∙ on.meta) new.placed new.more new.path
-          (subst (λ (m : Meta). IsAllLeft file m (claims_visited claims) (state_of steps)) on.meta new.all)));
+      sized = self.sized;
+      placed = merely new.placed;
+      on = subst (IsOn c.restart.new.self self.meta) (sym c.visited-begun.ensures)
+          (on_begun (claims_file claims) self.meta (claims_visited claims) c.restart.new.self new.file (new.meta ∙ self.on.meta)
+          (subst (λ (m : Meta). IsAllLeft (claims_file claims) m (claims_visited claims) c.restart.new.self) self.on.meta new.all));
+      root = ∥∥₁_map self.root (λ keeps. subst (λ (f : List ℕ). KeepsRoot f self.meta) (sym new.file) keeps);
     }
 
 pub returns-clause-all : goal.returns-clause-all
 unfolding recovery_file recovery_left recovery_meta
-returns-clause-all c = λ listing recovered.
-    let new = c.in_ok-restart.ensures in
-    left_all (state_of c.restart.new.self) _ _ listing new.more new.path recovered
+returns-clause-all c = λ listing recovered. left_all _ _ _ c.restart.new.self listing c.in_ok-restart.ensures.all (rw (← c.args.self.now.on.meta) at recovered)

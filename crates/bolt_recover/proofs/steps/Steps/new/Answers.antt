@@ -1,6 +1,6 @@
-use Rattle.std.proofs.Common.{arith, ◌∙◌, List, [], ◌∷◌, ◌++◌, None, Some, map, ap, refl, sym}
-use Rattle.bolt_recover.proofs.Words.{claims_file, claims_meta, claims_visited, is_claimed, IsAllLeft, IsRefusedRoot, loss_view, OpenPage, passed_on, path_of, Structure}
-use Rattle.bolt_recover.proofs.StepLemmas.{as_state, begins, of_metas, root_gives}
+use Rattle.std.proofs.Common.{arith, ◌∙◌, List, [], ◌∷◌, ◌++◌, None, Some, ap, refl}
+use Rattle.bolt_recover.proofs.Words.{claims_file, claims_meta, IsRefusedRoot, OpenPage, passed_on, Structure}
+use Rattle.bolt_recover.proofs.StepLemmas.{begins, root_gives, root_visit}
 use Rattle.bolt_recover.proofs.steps.Steps.new.Goals as goal
 
 pub returns-in_err-content-clause-refused : goal.returns-in_err-content-clause-refused
@@ -10,24 +10,14 @@ returns-in_err-content-clause-refused c =
 
 pub returns-clause-all : goal.returns-clause-all
 returns-clause-all c =
-    let claimed = is_claimed c.visit.new.claims in
-    let before = is_claimed c.args.claims in
-    let file = claims_file c.args.claims in
-    let meta = claims_meta c.args.claims in
-    let begun = claims_visited c.args.claims in
-    let visited = claims_visited c.visit.new.claims in
     let page : OpenPage = record { content = c.in_ok-content.content; path_len = 0; count = c.count.result; next = 0 } in
     let visit = rw (c.root_of-root.ensures, c.meta.ensures) at c.in_ok-content.ensures in
-    as_state (IsAllLeft file meta begun)
-    (record { file = file; meta = meta; claimed = claimed; ahead = None; pages = page ∷ []; path = []; losses = []; visited = visited })
-    (claims_file c.visit.new.claims) (claims_meta c.visit.new.claims) None c.push_reserved.new.self.items (path_of c.new.result.items) (map loss_view c.new-2.result.items)
-    (sym visit.file) (sym visit.meta) refl
-    (sym (c.push_reserved.ensures.items ∙ ap (λ (ps : List OpenPage). ps ++ page ∷ []) (c.reserve.ensures.items ∙ c.new-open.ensures.items)))
-    (sym (ap path_of c.new.ensures.items)) (sym (ap (map loss_view) c.new-2.ensures.items))
-    (begins file meta before claimed begun visited c.in_ok-content.content c.count.result (of_metas before c.requires) visit.passes visit.content visit.claims visit.visited c.count.ensures (omega arith))
+    let empty = c.reserve.ensures.items ∙ c.new-open.ensures.items in
+    begins
+    (record { alloc = c.args.alloc; claims = c.args.claims; ahead = Some (root_visit (claims_meta c.args.claims)); «open» = c.reserve.new.self; path = c.new.result; losses = c.new-2.result; loss_path = c.new-3.result })
+    c.visit.new.claims c.push_reserved.new.self c.new-3.result c.in_ok-content.content c.count.result
+    refl empty c.new-2.ensures.items c.requires visit.file visit.meta visit.visited visit.passes visit.content visit.claims c.count.ensures (omega arith)
+    (c.push_reserved.ensures.items ∙ ap (λ (ps : List OpenPage). ps ++ page ∷ []) empty)
 
 pub returns-clause-root : goal.returns-clause-root
 returns-clause-root c = root_gives c.args.claims None c.requires (rw (c.root_of-root.ensures, c.meta.ensures) at c.in_ok-content.ensures.passes)
-
-pub returns-clause-more : goal.returns-clause-more
-returns-clause-more c = rw (c.push_reserved.ensures.items, c.reserve.ensures.items, c.new-open.ensures.items) refl
